@@ -49,7 +49,8 @@ fn given_value(
 ) -> u64
     requires { length insn.now.bits ≤ 64 }
     ensures { result
-        ≡ given_value_of table.now labels.now place insn.now.bits insn.now.args operands.now letter }
+        ≡ given_value_of table.now labels.now place insn.now.bits insn.now.args operands.now
+        letter }
 {
     match operands {
         Operands::Few(few) => letter_value(

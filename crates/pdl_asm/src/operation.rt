@@ -11,7 +11,8 @@ use std::alloc::Global;
 
 // The instruction of a name with the operands of a text, if they are operands.
 fn read_insn(alloc: Global, name: &[u8], after: &[u8]) -> Result<Option<Operation>, NoMemory>
-    ensures { IfOk result (λ o. o ≡ option_map (Operation.Insn name.now) (operands_given after.now)) }
+    ensures { IfOk result (λ o. o
+        ≡ option_map (Operation.Insn name.now) (operands_given after.now)) }
 {
     match read_operands(alloc, after)? {
         Some(operands) => Ok(Some(Operation::Insn(Name::copy_of(alloc, name)?, operands))),

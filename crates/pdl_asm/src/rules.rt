@@ -82,7 +82,8 @@ fn given_rule(
     operands: &Operands,
 ) -> Option<Rule>
     requires { length insn.now.bits ≤ 64 }
-    ensures { result ≡ given_rule_of table.now labels.now place insn.now.bits insn.now.args operands.now }
+    ensures { result
+        ≡ given_rule_of table.now labels.now place insn.now.bits insn.now.args operands.now }
 {
     match operands {
         Operands::Few(few) => operands_rule(
@@ -195,7 +196,8 @@ pub fn line_rule(
     place: i128,
     line: &Option<AssemblyLine>,
 ) -> Option<Rule>
-    ensures { result ≡ line_rule_of table.now labels.now (take before labels.now) taken place line.now }
+    ensures { result
+        ≡ line_rule_of table.now labels.now (take before labels.now) taken place line.now }
 {
     match line {
         Some(line) => lower(

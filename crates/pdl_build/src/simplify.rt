@@ -51,7 +51,8 @@ impl Builder {
         requires a_there { IsThere self.now a }
         requires b_there { IsThere self.now b }
         requires widths { (signal self.now a).width ≡ (signal self.now b).width }
-        ensures { StandsFor self.now (bin_signal op (signal self.now a) (signal self.now b)) result }
+        ensures { StandsFor self.now
+            (bin_signal op (signal self.now a) (signal self.now b)) result }
     {
         let width = bin_width(op, self.width(a));
         match self.rule(op, a, b) {

@@ -15,7 +15,7 @@ use Rattle.pdl_lockapi.specs.SlotLaws.{SlotsLaw}
 use Rattle.pdl_lock_ring.specs.declared.layout.RingLayout.{RingLayout}
 use Rattle.pdl_lock_ring.specs.Slots.{IsSized, Stands, HasEntries, content_signal}
 use Rattle.pdl_lock_ring.specs.Looks.{youngest_look, youngest_ready, youngest_value}
-use Rattle.pdl_lock_ring.proofs.Seeking.{Seeks, seeks_covered, seeks_late}
+use Rattle.pdl_lock_ring.proofs.LookMeanings.{Seeks, seeks_covered, seeks_late}
 use Rattle.pdl_lock_ring.proofs.LookValues.{youngest_looked, value_looked, all_older, same_signal}
 use Rattle.pdl_bypass.specs.Bypasses.{word_signal}
 

@@ -1,3 +1,3 @@
 pub mod Numerals
-pub mod Parsing
+pub mod ParseResults
 pub mod Examples

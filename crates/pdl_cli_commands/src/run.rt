@@ -172,7 +172,8 @@ pub fn run_source<F: Files, O: Sink>(
     requires image { IsTrue (F.may files.old image.now) }
     requires delays { AllowsFile (F.may files.old) (text_of delays) }
     requires few { cycles ≤ 1000000 }
-    ensures explained { Explains (Some (command.run source.now image.now cycles (text_of delays.entry)))
+    ensures explained { Explains
+        (Some (command.run source.now image.now cycles (text_of delays.entry)))
         (seen_of (F.holds files.old) (F.faults files.old) (F.faults files.new)
         (O.written out.old) (O.written out.new) (O.faults out.old) (O.faults out.new)) result }
     ensures held { F.holds files.new ≡ F.holds files.old }

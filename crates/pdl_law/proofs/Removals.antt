@@ -22,7 +22,7 @@ use Rattle.pdl_law_parts.specs.Stands.{IsSeen}
 use Rattle.pdl_law_parts.proofs.Signals.{mux_at, if_on_at, one_is, zero_is}
 use Rattle.pdl_law_parts.proofs.Moves.{ready_of}
 use Rattle.pdl_machine_inflight.specs.InFlight.{InFlight}
-use Rattle.pdl_machine_inflight.proofs.Squashing.{stood_in, failing, no_squasher, none_fails, v_low, some_squash, fails_high, fails_low, removed_low, kept_high, clear_high, clear_where, not_clear}
+use Rattle.pdl_machine_inflight.proofs.Squashes.{stood_in, failing, no_squasher, none_fails, v_low, some_squash, fails_high, fails_low, removed_low, kept_high, clear_high, clear_where, not_clear}
 use Rattle.pdl_law_sides.specs.Sides.{Sides, unsquashed, barrier_open}
 use Rattle.pdl_law_sides.specs.HasSides.{HasRemovals, squash_of}
 

@@ -25,7 +25,7 @@ use Rattle.pdl_law_parts.specs.Compiled.{IsLaid}
 use Rattle.pdl_law_parts.specs.Stands.{StandsLock, IsSeen, IsSquashed}
 use Rattle.pdl_law_parts.proofs.AnsweredThreads.{stood}
 use Rattle.pdl_machine_inflight.specs.InFlight.{InFlight}
-use Rattle.pdl_machine_inflight.proofs.Squashing.{stood_in, no_squasher}
+use Rattle.pdl_machine_inflight.proofs.Squashes.{stood_in, no_squasher}
 use Rattle.pdl_law_sides.specs.Sides.{Sides}
 use Rattle.pdl_law_sides.specs.HasSides.{HasSides}
 use Rattle.pdl_law.proofs.Removals.{squash_is, kill_here}

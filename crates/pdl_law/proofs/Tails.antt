@@ -39,7 +39,7 @@ use Rattle.pdl_law_parts.proofs.LockPorts.{both_is, moves_or_not}
 use Rattle.pdl_law_parts.proofs.Comers.{first_come, brought, picked_is}
 use Rattle.pdl_law_parts.proofs.NextState.{lock_there}
 use Rattle.pdl_machine_inflight.specs.InFlight.{InFlight}
-use Rattle.pdl_machine_inflight.proofs.Squashing.{stood_in, squasher_in}
+use Rattle.pdl_machine_inflight.proofs.Squashes.{stood_in, squasher_in}
 use Rattle.pdl_machine_inflight.proofs.Comings.{stage_low}
 use Rattle.pdl_law_sides.specs.Sides.{Sides, with_tickets}
 use Rattle.pdl_law_sides.specs.HasSides.{HasTails}

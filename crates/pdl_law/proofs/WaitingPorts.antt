@@ -16,7 +16,7 @@ use Rattle.pdl_machine_inflight.specs.Readings.{Reading, reading, places, place_
 use Rattle.pdl_machine_inflight.specs.InFlight.{Some-of, Awaits, IsAwaited, InFlight}
 use Rattle.pdl_machine_inflight.proofs.ReadingFacts.{place_leads}
 use Rattle.pdl_machine_inflight.proofs.LaterActs.{none_later, some_later}
-use Rattle.pdl_machine_inflight.proofs.Squashing.{stood_in}
+use Rattle.pdl_machine_inflight.proofs.Squashes.{stood_in}
 use Rattle.pdl_machine_inflight.proofs.Answers.{word_asked, all_in, bound}
 use Rattle.pdl_word.specs.Each.{Each}
 use Rattle.pdl_semantics.proofs.Facts.{kept_append, kept_long}

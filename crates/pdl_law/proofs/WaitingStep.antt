@@ -19,7 +19,7 @@ use Rattle.pdl_machine_inflight.specs.Readings.{Reading, reading, places, place_
 use Rattle.pdl_machine_inflight.specs.InFlight.{Awaits, InFlight}
 use Rattle.pdl_machine_inflight.proofs.ReadingFacts.{goes_to_place}
 use Rattle.pdl_machine_inflight.proofs.DeedsIn.{AsksIn, asks_in}
-use Rattle.pdl_machine_inflight.proofs.Squashing.{stood_in}
+use Rattle.pdl_machine_inflight.proofs.Squashes.{stood_in}
 use Rattle.pdl_machine_inflight.proofs.Comings.{CameFrom, born, moved, stayed, came_from}
 use Rattle.pdl_machine_inflight.proofs.Answers.{word_asked, still_awaited}
 use Rattle.pdl_law.proofs.WaitingPorts.{StandsAt, SameRequest, SamePort, reply_bit, asks_of, asked_at, port_act, owner_here, free_is}

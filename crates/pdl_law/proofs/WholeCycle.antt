@@ -24,7 +24,7 @@ use Rattle.pdl_law_parts.proofs.AnsweredThreads.{stood}
 use Rattle.pdl_law_parts.proofs.Moves.{all_seen, lives_fork}
 use Rattle.pdl_law_parts.proofs.NextState.{stands_after}
 use Rattle.pdl_machine_inflight.specs.Readings.{Reading, reading}
-use Rattle.pdl_machine_inflight.proofs.Squashing.{stood_in}
+use Rattle.pdl_machine_inflight.proofs.Squashes.{stood_in}
 use Rattle.pdl_law_sides.specs.Sides.{Sides, answers_of, all_answered, unsquashed, ports_open, barrier_open, turn}
 use Rattle.pdl_law_sides.specs.HasSides.{HasSides}
 use Rattle.pdl_law.specs.StandingStates.{IsLawful, IsKnown}

@@ -1,3 +1,3 @@
-pub mod Left
+pub mod RemainingWrites
 pub mod LockRuns
 pub mod LockCycles

@@ -44,7 +44,7 @@ use Rattle.pdl_law_follows.specs.Refined.{machine_after}
 use Rattle.pdl_law_follows.proofs.FollowsMade.{follows}
 use Rattle.pdl_law_follows.proofs.HasMems.{has_mems}
 use Rattle.pdl_law_lockruns.specs.Used.{IsUsedLock, IsStageAs}
-use Rattle.pdl_law_lockruns.proofs.Left.{left}
+use Rattle.pdl_law_lockruns.proofs.RemainingWrites.{left}
 
 -- ---- a cycle
 

@@ -13,7 +13,7 @@ use Rattle.pdl_lock_ring.specs.declared.layout.RingLayout.{RingLayout}
 use Rattle.pdl_lock_ring.specs.Slots.{IsSized, HasEntries, Holds, reg_of, addr_at, has_at}
 use Rattle.pdl_lock_ring.specs.Looks.{slot_of, tail_signal, second_ticket}
 use Rattle.pdl_lock_ring.specs.Steps.{push_signal, push2_signal, last_addr, before_addr, pushes, pushes2, first_addr, second_addr, first_slot, second_slot, written_slot, fills_slot, filled_bit, filled_value, slot_addr, slot_bit}
-use Rattle.pdl_lock_ring.proofs.Nums.{slot_held, half_mod, sum_held}
+use Rattle.pdl_lock_ring.proofs.SlotNumbers.{slot_held, half_mod, sum_held}
 use Rattle.pdl_lock_ring.proofs.RingValues.{if_one, if_other, mux_one, mux_zero, eq_none, AreGiven, holds_same, append_holds, put_holds, written-push, length-written}
 
 -- 1 where there is an element, and where there are two; the last one, and the one before it

@@ -1,4 +1,4 @@
-pub mod Nums
+pub mod SlotNumbers
 pub mod RingValues
 pub mod Sizes
 pub mod RingGrowth
@@ -9,7 +9,7 @@ pub mod Fills
 pub mod Ends
 pub mod Rows
 pub mod FilledSlots
-pub mod Seeking
+pub mod LookMeanings
 pub mod LookValues
 pub mod StepLaw
 pub mod Still

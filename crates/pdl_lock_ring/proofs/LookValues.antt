@@ -16,10 +16,10 @@ use Rattle.pdl_lock_ring.specs.declared.layout.RingLayout.{RingLayout}
 use Rattle.pdl_lock_ring.specs.Slots.{IsSized, HasEntries, reg_of, has_at}
 use Rattle.pdl_lock_ring.specs.Looks.{older_count, last_older, order_at, back_at, same_at, hit_at, hit_signal, ready_signal, key_at, is_found, youngest_ready, youngest_value, GivesWord}
 use Rattle.pdl_lock_ring.specs.Choices.{least_key, least_of, some_signal}
-use Rattle.pdl_lock_ring.proofs.Nums.{back_older, back_younger}
+use Rattle.pdl_lock_ring.proofs.SlotNumbers.{back_older, back_younger}
 use Rattle.pdl_lock_ring.proofs.RingValues.{if_one, if_other, mux_one, mux_zero, eq_one, eq_none}
 use Rattle.pdl_lock_ring.proofs.Trees.{some_one, some_zero, less_one, less_none, IsLeast, least_is, least_from}
-use Rattle.pdl_lock_ring.proofs.Seeking.{Seeks, IsSlotOf, slot_has, same_value, order_value, back_value, IsYoungest, HasNone, youngest_of}
+use Rattle.pdl_lock_ring.proofs.LookMeanings.{Seeks, IsSlotOf, slot_has, same_value, order_value, back_value, IsYoungest, HasNone, youngest_of}
 
 mux_both : (c x : ℕ) → words.mux c x x ≡ x
 unfolding words.mux

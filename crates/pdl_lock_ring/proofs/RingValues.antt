@@ -8,7 +8,7 @@ use Rattle.pdl_word.specs.Words as words
 use Rattle.pdl_word.specs.Words.{bit}
 use Rattle.pdl_lockapi.specs.Lock.{Entry, WriteAct, entry_at, no_entry, fresh, with_entry_value, with_reserves, with_write, with_writes}
 use Rattle.pdl_lock_ring.specs.Slots.{Holds}
-use Rattle.pdl_lock_ring.proofs.Nums.{apart}
+use Rattle.pdl_lock_ring.proofs.SlotNumbers.{apart}
 
 -- a choice by a number that is 1 gives the first
 pub if_one : {A : Type 0} (c : ℕ) (x y : A) → c ≡ 1 → (if c == 1 then x else y) ≡ x

@@ -17,7 +17,7 @@ use Rattle.pdl_lock_ring.specs.declared.layout.Content.TheVariants.{Value}
 use Rattle.pdl_lock_ring.specs.Slots.{IsSized, HasEntries, Holds, Stands, content_signal, reg_of, addr_at, has_at, value_at}
 use Rattle.pdl_lock_ring.specs.Looks.{head_signal, tail_signal, second_ticket}
 use Rattle.pdl_lock_ring.specs.Steps.{pushes, pushes2, next_head, head_after, tail_after, slot_addr, slot_bit, slot_value, filled_value, at_ticket, oldest_addr, oldest_value, next_addr, next_value, two_writes, WritesArray, NextAddrs, NextBits, NextContents, NextEnds, NextValues, own_all}
-use Rattle.pdl_lock_ring.proofs.Nums.{sum_held, half_mod}
+use Rattle.pdl_lock_ring.proofs.SlotNumbers.{sum_held, half_mod}
 use Rattle.pdl_lock_ring.proofs.RingValues.{test_bit, if_true, if_false, mux_one, mux_zero, holds_same, values_same, drop_holds, take_holds}
 use Rattle.pdl_lock_ring.proofs.Trees.{selected_value}
 use Rattle.pdl_lock_ring.proofs.Fills.{content_value}

@@ -2,4 +2,4 @@ pub mod StagewiseActs
 pub mod StagewisePorts
 pub mod Stagewise
 pub mod Requests
-pub mod UsingTurn
+pub mod StatementUses

@@ -4,6 +4,6 @@ pub mod ForkLists
 pub mod Flights
 pub mod DeedsIn
 pub mod LaterActs
-pub mod Squashing
+pub mod Squashes
 pub mod Comings
 pub mod Answers

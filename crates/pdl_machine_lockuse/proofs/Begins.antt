@@ -27,7 +27,7 @@ use Rattle.pdl_theory_simulation.proofs.Stretches.{Keeps, start_deeds, fixed_her
 use Rattle.pdl_theory_simulation.proofs.Seats.{Live, seat, threads_of, dacts, now_of, befores_are}
 use Rattle.pdl_theory_simulation.proofs.Choices.{Known, keeps_now, fit_all}
 use Rattle.pdl_machine_facts.specs.Use.{before_stage, AreFine}
-use Rattle.pdl_machine_facts.proofs.UsingTurn.{IsAlong}
+use Rattle.pdl_machine_facts.proofs.StatementUses.{IsAlong}
 use Rattle.pdl_theory_states.specs.Strict.{Strict}
 use Rattle.pdl_theory_states.proofs.PastStatements.{AllOps, onto, Done as DoneOp, BlockOk, is_released}
 use Rattle.pdl_theory_states.proofs.Trails.{AllStmts, stmts_ops, ops_stmts}

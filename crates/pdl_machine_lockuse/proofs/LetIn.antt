@@ -14,7 +14,7 @@ use Rattle.pdl_theory_derived.proofs.Writes.{and_left, and_right}
 use Rattle.pdl_theory_turns.proofs.Surroundings.{Right, AllIn, right_set}
 use Rattle.pdl_machine_facts.specs.Slots.{locks_ready}
 use Rattle.pdl_machine_facts.specs.Use.{in_time, is_early}
-use Rattle.pdl_machine_facts.proofs.UsingTurn.{IsAlong}
+use Rattle.pdl_machine_facts.proofs.StatementUses.{IsAlong}
 use Rattle.pdl_theory_states.specs.Strict.{bound_by, uses_own, is_mentioned, is_new, all_new}
 use Rattle.pdl_theory_states.proofs.PastStatements.{AllOps, BlockOk, is_released}
 use Rattle.pdl_semantics.proofs.Readiness.{read_write}

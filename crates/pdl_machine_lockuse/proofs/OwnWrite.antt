@@ -24,7 +24,7 @@ use Rattle.pdl_theory_simulation.proofs.Stretches.{Keeps, keeps_next}
 use Rattle.pdl_theory_simulation.proofs.Seats.{Live, dacts, now_of, work_of_live, deeds_of}
 use Rattle.pdl_theory_simulation.proofs.Choices.{Known, keeps_now, fit_all, told_here}
 use Rattle.pdl_machine_facts.specs.Use.{in_time, is_early}
-use Rattle.pdl_machine_facts.proofs.UsingTurn.{IsAlong, writes_to}
+use Rattle.pdl_machine_facts.proofs.StatementUses.{IsAlong, writes_to}
 use Rattle.pdl_theory_states.specs.Strict.{Strict}
 use Rattle.pdl_machine_lockuse.specs.Use.{written_in, is_open}
 use Rattle.pdl_machine_lockuse.proofs.Paths.{path, mine, passed, mine_uses, mine_early}

@@ -18,7 +18,7 @@ use Rattle.pdl_theory_simulation.proofs.ThreadFacts.{Pair, pairs, EachPair, pair
 use Rattle.pdl_theory_simulation.proofs.Choices.{AllKnown, Seated, worked_here, late_here}
 use Rattle.pdl_theory_simulation.proofs.LockLists.{part, two, release_here, next_up}
 use Rattle.pdl_lockapi.specs.Forget.{has_thread}
-use Rattle.pdl_machine_facts.proofs.UsingTurn.{writes_to}
+use Rattle.pdl_machine_facts.proofs.StatementUses.{writes_to}
 use Rattle.pdl_theory_states.proofs.LockCycle.{appended_more}
 use Rattle.pdl_machine_lockuse.specs.Use.{Own, is_open}
 use Rattle.pdl_machine_lockuse.proofs.OwnWrite.{used_here}

@@ -29,7 +29,7 @@ use Rattle.pdl_theory_states.proofs.Trails.{AllStmts, stage_stmts}
 use Rattle.pdl_theory_states.proofs.Stage.{way_looked}
 use Rattle.pdl_machine_lockuse.specs.Careful.{Careful, reserves_at, keeps_kind, all_keep_kind, is_let_in, all_let_in}
 use Rattle.pdl_theory_states.proofs.StillLooks.{let_go_behind}
-use Rattle.pdl_theory_turns.proofs.Roams.{looked_append}
+use Rattle.pdl_theory_turns.proofs.StrayPaths.{looked_append}
 use Rattle.pdl_theory_turns.proofs.Guesses.{makings_first, makings_second}
 use Rattle.pdl_theory_turns.proofs.OwnEntries.{none_first}
 use Rattle.pdl_theory_turns.proofs.UndoneWrites.{phase_append}

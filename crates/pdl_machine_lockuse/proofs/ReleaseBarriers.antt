@@ -13,7 +13,7 @@ use Rattle.pdl_theory_facts.specs.Facts.{Sound, trunk_only, looked_all, at_once}
 use Rattle.pdl_theory_facts.specs.Accepted.{along}
 use Rattle.pdl_theory_derived.proofs.Writes.{and_left, and_right}
 use Rattle.pdl_theory_turns.proofs.CertaintyScans.{sure_first}
-use Rattle.pdl_theory_turns.proofs.Roams.{verify_looked}
+use Rattle.pdl_theory_turns.proofs.StrayPaths.{verify_looked}
 use Rattle.pdl_theory_turns.proofs.TurnPath
 use Rattle.pdl_theory_simulation.proofs.FlowFacts.{next_of}
 use Rattle.pdl_theory_simulation.proofs.AcceptedFacts.{sound_flows, phases_looked}

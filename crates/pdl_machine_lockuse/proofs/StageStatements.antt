@@ -16,7 +16,7 @@ use Rattle.pdl_theory_turns.proofs.Surroundings.{Right, AllIn, right_set}
 use Rattle.pdl_theory_simulation.proofs.FlowFacts.{use_ok, uses_ok}
 use Rattle.pdl_machine_facts.specs.Slots.{locks_ready}
 use Rattle.pdl_machine_facts.specs.Use.{is_early, IsOpFine, AreFine}
-use Rattle.pdl_machine_facts.proofs.UsingTurn.{IsAlong}
+use Rattle.pdl_machine_facts.proofs.StatementUses.{IsAlong}
 use Rattle.pdl_machine_lockuse.specs.Careful.{passes_on}
 use Rattle.pdl_machine_lockuse.proofs.HeldLocations.{right_at, Covers, covers_op, held_does, IsOnce, released_here, once_op}
 

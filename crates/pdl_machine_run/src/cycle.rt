@@ -43,7 +43,8 @@ fn step_beside(
         length (order_after (form pipe.now).pipe (acts_of 0 stages.now) (is_some squasher) f
         (slice_index_or beside.old.orders.items f d).branches.items)
         ≤ vec_capacity (slice_index_or beside.old.orders.items f d).branches }
-    requires room { vec_len shown.old + 5 * length beside.old.memories.items ≤ vec_capacity shown.old }
+    requires room { vec_len shown.old + 5 * length beside.old.memories.items
+        ≤ vec_capacity shown.old }
     ensures memories { beside.new.memories.items
         ≡ memories_after 0 (acts_of 0 stages.now) squasher beside.old.memories.items }
     ensures orders { order_views beside.new.orders.items

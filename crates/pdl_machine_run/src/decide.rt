@@ -264,7 +264,8 @@ fn locks_in(memories: &[Memory], thread: u64, deeds: &Deeds) -> bool
 fn locks_ready(pipe: &FlatPipe, beside: &Beside, thread: u64, deeds: &Deeds) -> bool
     requires memories { AreMemories (form pipe.now).pipe beside.now.memories.items }
     ensures { result
-        ≡ (moves.blocks_ready (form pipe.now).pipe (outside beside.now) thread (deeds_view deeds.now)
+        ≡ (moves.blocks_ready (form pipe.now).pipe (outside beside.now) thread
+        (deeds_view deeds.now)
         && moves.have_room (form pipe.now).pipe (outside beside.now) (deeds_view deeds.now)) }
 {
     locks_in(beside.memories.as_slice(), thread, deeds)
@@ -298,7 +299,10 @@ fn may_follow(
     k: usize,
 ) -> bool
     requires { k < length stages.now }
-    ensures { (d : r_stage.Stage) → result ≡ passes_later (form pipe.now).pipe (outside beside.now) replies.now (all_of (k + 1) (drop (k + 1) stages.now)) k
+    ensures { (d : r_stage.Stage) →
+        result
+        ≡ passes_later (form pipe.now).pipe (outside beside.now) replies.now
+        (all_of (k + 1) (drop (k + 1) stages.now)) k
         (deeds_view (slice_index_or stages.now k d).deeds) }
 {
     let deeds = &stages[k].deeds;
@@ -329,8 +333,10 @@ fn may_move(pipe: &FlatPipe, beside: &Beside, replies: &[bool], stages: &[Stage]
 pub fn decide(pipe: &FlatPipe, beside: &Beside, replies: &[bool], stages: &mut [Stage])
     requires memories { AreMemories (form pipe.now).pipe beside.now.memories.items }
     ensures decided { AreDecided (form pipe.now).pipe beside.now replies.now 0 stages.new }
-    ensures slots { map (λ (x : r_stage.Stage). x.slot) stages.new ≡ map (λ (x : r_stage.Stage). x.slot) stages.old }
-    ensures deeds { map (λ (x : r_stage.Stage). x.deeds) stages.new ≡ map (λ (x : r_stage.Stage). x.deeds) stages.old }
+    ensures slots { map (λ (x : r_stage.Stage). x.slot) stages.new
+        ≡ map (λ (x : r_stage.Stage). x.slot) stages.old }
+    ensures deeds { map (λ (x : r_stage.Stage). x.deeds) stages.new
+        ≡ map (λ (x : r_stage.Stage). x.deeds) stages.old }
 {
     let mut k = stages.len();
     while k > 0 {

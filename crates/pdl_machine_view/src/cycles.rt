@@ -84,7 +84,8 @@ pub fn view<S: Sink>(
     requires few { cycles ≤ 1000000 }
     ensures text { Streams (S.written sink.old) (S.written sink.new)
         (S.faults sink.old) (S.faults sink.new)
-        (view_text (pipe_view accepted.now.typed.pipe) image.now (schedule delays.now cycles)) result }
+        (view_text (pipe_view accepted.now.typed.pipe) image.now
+        (schedule delays.now cycles)) result }
     ensures later { S.faults sink.old ≤ S.faults sink.new }
 {
     let mut machine = Machine::new(alloc, accepted, image)?;

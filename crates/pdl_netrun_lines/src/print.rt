@@ -170,7 +170,8 @@ fn count_cycles(sim: &mut Sim, outputs: usize, schedule: &Schedule<'_>) -> RunCo
     requires outputs { outputs ≡ output_count sim.old.netlist }
     requires two { 2 ≤ outputs }
     requires few { schedule.now.cycles ≤ 1000000 }
-    ensures { result ≡ counts_of (cycles_from sim.old.netlist sim.old.held (replies_of schedule.now)) }
+    ensures { result
+        ≡ counts_of (cycles_from sim.old.netlist sim.old.held (replies_of schedule.now)) }
 {
     let mut counts = RunCounts {
         ended: 0,

@@ -7,5 +7,5 @@ mod EachPath
 mod Walks
 mod Numbers
 mod Parts
-mod Masked
+mod MaskedPlaces
 mod Nth

@@ -14,7 +14,7 @@ use Rattle.pdl_lockapi.specs.Second.{LateLookLaw}
 use Rattle.pdl_lock_ring.specs.declared.layout.RingLayout.{RingLayout}
 use Rattle.pdl_lock_ring.specs.Slots.{IsSized, Stands, content_signal}
 use Rattle.pdl_lock_ring.specs.Looks.{ready_signal, GivesWord}
-use Rattle.pdl_lock_ring.proofs.Seeking.{seeks_covered, seeks_late}
+use Rattle.pdl_lock_ring.proofs.LookMeanings.{seeks_covered, seeks_late}
 use Rattle.pdl_lock_ring.proofs.LookValues.{free_looked, free_youngest, all_older, word_given}
 
 -- a look of a queue keeps its law, where its value is the array's word at the address

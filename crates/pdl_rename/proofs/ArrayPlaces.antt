@@ -7,7 +7,7 @@ use Rattle.pdl_word.specs.Words.{bit}
 use Rattle.pdl_net.specs.Circuit.{State}
 use Rattle.pdl_net.specs.Meaning.{WriteSignal}
 use Rattle.pdl_lockapi.specs.Laws.{after_writes}
-use Rattle.pdl_lock_ring.proofs.Nums.{apart}
+use Rattle.pdl_lock_ring.proofs.SlotNumbers.{apart}
 use Rattle.pdl_lock_ring.proofs.RingValues.{if_one, if_other, eq_one, eq_none}
 use Rattle.pdl_rename.specs.Places.{AreApart}
 

@@ -14,7 +14,7 @@ use Rattle.pdl_lock_ring.specs.Slots.{content_signal, value_at}
 use Rattle.pdl_lock_ring.specs.Looks.{head_signal, slot_of}
 use Rattle.pdl_lock_ring.specs.Steps as ring
 use Rattle.pdl_lock_ring.specs.Steps.{written_slot, next_head, oldest_addr, next_addr, filled_value, slot_addr}
-use Rattle.pdl_lock_ring.proofs.Nums.{apart}
+use Rattle.pdl_lock_ring.proofs.SlotNumbers.{apart}
 use Rattle.pdl_lock_ring.proofs.RingValues.{if_one, if_other, if_true, if_false, test_bit, mux_one, mux_zero, eq_one, eq_none}
 use Rattle.pdl_lock_ring.proofs.Fills.{content_place}
 use Rattle.pdl_lock_ring.proofs.FilledSlots.{TicketsFit, Cycle, all_filled, length_filled, written_value, unwritten_value}

@@ -14,7 +14,7 @@ use Rattle.pdl_lockapi.specs.Second.{LateLookLaw}
 use Rattle.pdl_lock_ring.specs.Slots.{HasEntries, content_signal}
 use Rattle.pdl_lock_ring.specs.Looks.{is_found, key_at, last_older, youngest_look, youngest_ready, youngest_value}
 use Rattle.pdl_lock_ring.specs.Choices.{least_of}
-use Rattle.pdl_lock_ring.proofs.Seeking.{Seeks, seeks_covered, seeks_late}
+use Rattle.pdl_lock_ring.proofs.LookMeanings.{Seeks, seeks_covered, seeks_late}
 use Rattle.pdl_lock_ring.proofs.LookValues.{youngest_looked, value_looked, all_older, same_signal}
 use Rattle.pdl_rename.specs.declared.layout.Layout.{Layout}
 use Rattle.pdl_rename.specs.Places.{IsRenaming, Stands, store_of, placed_signal}

@@ -3,6 +3,6 @@ pub mod Firsts
 pub mod SingleDefinitions
 pub mod GivenNames
 pub mod LastSeparator
-pub mod Ungiven
+pub mod MissingDefinitions
 pub mod Needs
-pub mod Inside
+pub mod OuterBranches

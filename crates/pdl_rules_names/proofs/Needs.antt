@@ -10,7 +10,7 @@ use Rattle.pdl_rules_names.specs.First.{first_where, comes_before}
 use Rattle.pdl_rules_names.specs.Early.{early_at}
 use Rattle.pdl_rules_names.proofs.Comparisons.{not_less}
 use Rattle.pdl_rules_names.proofs.Firsts.{any_before, before_step, none_before}
-use Rattle.pdl_rules_names.proofs.Ungiven.{ungiven}
+use Rattle.pdl_rules_names.proofs.MissingDefinitions.{ungiven}
 
 among_params : (v : List ℕ) (ps : List Param) (rest : List Place)
     → list_any (λ (a : Param). bytes_eq v a.name.name) ps

@@ -14,7 +14,7 @@ use Rattle.pdl_theory_facts.specs.Scans.{is_dead, is_fixed}
 use Rattle.pdl_theory_facts.specs.Graphs.{Graph, next_of}
 use Rattle.pdl_theory_facts.specs.Facts.{binds_guard, FetchIf, AllFetches, looked_all, at_once, Sound}
 use Rattle.pdl_theory_facts.proofs.Passes
-use Rattle.pdl_theory_turns.proofs.Roams.{fixed_looked}
+use Rattle.pdl_theory_turns.proofs.StrayPaths.{fixed_looked}
 use Rattle.pdl_source_stages.specs.StageFacts.{FoundIf, AllFound, StageFacts}
 use Rattle.pdl_source_stages.proofs.Facts.{stage_facts}
 use Rattle.pdl_source_stages.proofs.SiteFacts.{each_in_stage}

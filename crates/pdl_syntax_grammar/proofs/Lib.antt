@@ -1,4 +1,4 @@
-mod Inside
+mod DepthLevels
 mod Rows
 mod Top
 mod Automaton

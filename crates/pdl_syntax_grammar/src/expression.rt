@@ -108,7 +108,7 @@ fn sized_expr(alloc: Global, tokens: &mut Cursor<'_>, room: usize) -> Result<Siz
 
 // An expression that stands inside another.
 #[cycle(expr)]
-#[tactic(auto, using(crate::proofs::Inside::inside_more, crate::proofs::Inside::inside_none))]
+#[tactic(auto, using(crate::proofs::DepthLevels::inside_more, crate::proofs::DepthLevels::inside_none))]
 fn inside(alloc: Global, tokens: &mut Cursor<'_>, room: usize) -> Result<Boxed<Expr>, Stop>
     ensures { Reads expr_view ((spec.inside room).full tokens.old) result tokens.new }
 {
@@ -120,7 +120,7 @@ fn inside(alloc: Global, tokens: &mut Cursor<'_>, room: usize) -> Result<Boxed<E
 
 // An operand that stands inside another.
 #[cycle(expr)]
-#[tactic(auto, using(crate::proofs::Inside::operand_more, crate::proofs::Inside::operand_none))]
+#[tactic(auto, using(crate::proofs::DepthLevels::operand_more, crate::proofs::DepthLevels::operand_none))]
 fn operand_inside(alloc: Global, tokens: &mut Cursor<'_>, room: usize) -> Result<Boxed<Expr>, Stop>
     ensures { Reads expr_view ((spec.inside room).operand tokens.old) result tokens.new }
 {
@@ -297,7 +297,7 @@ fn chain(
 // Operands, and the operators that bind tighter than looseness n, which group to the left. It goes from the tightest operators to the loosest without a call for each in the other, so that brackets in one another take little stack.
 #[cycle(expr)]
 #[inline(never)]
-#[tactic(auto, using(crate::proofs::Inside::level_first, crate::proofs::Inside::level_next, crate::proofs::Inside::level_fails_first, crate::proofs::Inside::level_fails_later))]
+#[tactic(auto, using(crate::proofs::DepthLevels::level_first, crate::proofs::DepthLevels::level_next, crate::proofs::DepthLevels::level_fails_first, crate::proofs::DepthLevels::level_fails_later))]
 fn level(alloc: Global, tokens: &mut Cursor<'_>, room: usize, n: u32) -> Result<Boxed<Expr>, Stop>
     requires { n ≤ levels }
     ensures { Reads expr_view (spec.level (spec.operand (spec.inside room)) room n tokens.old)

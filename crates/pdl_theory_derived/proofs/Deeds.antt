@@ -169,7 +169,8 @@ module _ (o : Around) (read : ℕ → ℕ → ℕ) (block : Blocked → Bool) (r
       record {
         held = h;
         is =
-            λ i. record (work_of d es cs) { ready = clear_swap ((list_all block d.blocks && list_all room d.reserves) && list_all free d.asks) d.barrier o.clear i };
+            λ i. record (work_of d es cs)
+            { ready = clear_swap ((list_all block d.blocks && list_all room d.reserves) && list_all free d.asks) d.barrier o.clear i };
       }
 
   -- the work and the deeds stay those of the same statements over one more statement that is carried out or passed over

@@ -1,5 +1,5 @@
 pub mod Spots
-pub mod Wander
+pub mod StrayCommits
 pub mod Cycles
 pub mod ThreadCycle
 pub mod Follows

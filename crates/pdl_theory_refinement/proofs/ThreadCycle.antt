@@ -20,7 +20,7 @@ use Rattle.pdl_theory_refinement.proofs.Cycle.{words_step, Now, now_moved, now_s
 use Rattle.pdl_theory_turns.proofs.Courses.{Course}
 use Rattle.pdl_theory_turns.proofs.ThreadOrder.{AllUnder, fresh_under}
 use Rattle.pdl_theory_refinement.proofs.Spots.{Spot, seat, seats, shown, is_nil, now_spot, now_seat, Here, Standing, Behind, Strays, Last, Tail}
-use Rattle.pdl_theory_refinement.proofs.Wander.{StraysAfter, strays_cycle}
+use Rattle.pdl_theory_refinement.proofs.StrayCommits.{StraysAfter, strays_cycle}
 use Rattle.pdl_theory_refinement.proofs.Cycles.{past_last, NowAsks, moved_spot, start_spot, under_start, asks_moved, asks_stays, born_standing, born_seat, shown_one, exit_last, moved_thread, rows_next, none_past, low_here, head_stands, work_same, commits_quiet, head_moves, behind_moved, behind_stands}
 use Rattle.pdl_word.proofs.Bools.{by_bool}
 

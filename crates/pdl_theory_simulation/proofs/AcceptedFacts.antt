@@ -13,7 +13,7 @@ use Rattle.pdl_theory_simulation.proofs.FlowFacts.{Ways, Flows, FlowRules, Leads
 use Rattle.pdl_theory_derived.proofs.Writes.{and_left, and_right}
 use Rattle.pdl_theory_turns.proofs.Paths.{dead_none}
 use Rattle.pdl_theory_turns.proofs.Looks.{path_looked}
-use Rattle.pdl_theory_turns.proofs.Roams.{fixed_looked}
+use Rattle.pdl_theory_turns.proofs.StrayPaths.{fixed_looked}
 use Rattle.pdl_theory_turns.proofs.CourseOf.{all_at_looked}
 use Rattle.pdl_theory_simulation.proofs.FlowScans.{uses_of, calls_of}
 use Rattle.pdl_theory_simulation.proofs.RuleFacts.{all_map, before_path, from_path, flows_of_rules}

@@ -15,7 +15,7 @@ use Rattle.pdl_theory_derived.proofs.Writes.{and_left, and_right}
 use Rattle.pdl_theory_simulation.proofs.FlowFacts.{call_ok, calls_ok, next_of, stage_or}
 use Rattle.pdl_theory_simulation.proofs.AcceptedFacts.{sound_flows}
 use Rattle.pdl_theory_turns.proofs.Looks.{path_looked}
-use Rattle.pdl_theory_turns.proofs.Roams.{making_looked}
+use Rattle.pdl_theory_turns.proofs.StrayPaths.{making_looked}
 use Rattle.pdl_theory_simulation.proofs.Shapes.{called_append}
 use Rattle.pdl_theory_simulation.proofs.Stretches.{on_way, has_made, way_next, fixed_here, start_of}
 use Rattle.pdl_theory_simulation.proofs.Seats.{Live, threads_of, Ordered, dacts, lacts, did, now_of, work_of_live}

@@ -20,7 +20,7 @@ use Rattle.pdl_theory_derived.proofs.Entries.{entries_of}
 use Rattle.pdl_theory_turns.proofs.Phases.{Tied}
 use Rattle.pdl_theory_derived.proofs.Deeds.{places}
 use Rattle.pdl_theory_turns.proofs.CertaintyScans.{some_barrier, sure_first}
-use Rattle.pdl_theory_turns.proofs.Roams.{verify_looked}
+use Rattle.pdl_theory_turns.proofs.StrayPaths.{verify_looked}
 use Rattle.pdl_theory_simulation.proofs.Shapes.{Shape, uses_front, none_till}
 use Rattle.pdl_theory_simulation.proofs.Stretches.{on_way}
 use Rattle.pdl_theory_simulation.proofs.Seats.{Live}

@@ -20,7 +20,7 @@ use Rattle.pdl_theory_derived.proofs.Stages.{step}
 use Rattle.pdl_theory_turns.proofs.Paths.{Fixed, all_stays}
 use Rattle.pdl_theory_derived.proofs.DelayedReads.{AllAsks, all_more}
 use Rattle.pdl_theory_turns.proofs.StageFacts.{asks_each, not_fetched}
-use Rattle.pdl_theory_turns.proofs.Roams.{none_stage_from, fetch_binds}
+use Rattle.pdl_theory_turns.proofs.StrayPaths.{none_stage_from, fetch_binds}
 use Rattle.pdl_theory_simulation.proofs.Shapes.{calls_front, calls_back}
 use Rattle.pdl_theory_simulation.proofs.Stretches.{Keeps, on_way, start_of, fixed_here, way_next}
 use Rattle.pdl_theory_states.specs.Strict.{Strict, all_new}

@@ -29,7 +29,7 @@ use Rattle.pdl_theory_turns.proofs.StageFacts
 use Rattle.pdl_theory_turns.proofs.Turns
 use Rattle.pdl_theory_turns.proofs.TurnPath
 use Rattle.pdl_theory_states.proofs.Stage.{before_stages, way_looked}
-use Rattle.pdl_theory_turns.proofs.Roams.{verify_same}
+use Rattle.pdl_theory_turns.proofs.StrayPaths.{verify_same}
 
 -- PATHS
 

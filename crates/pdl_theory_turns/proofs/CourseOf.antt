@@ -22,7 +22,7 @@ use Rattle.pdl_theory_turns.proofs.TurnFacts.{next_at, right_guess, stage_work}
 use Rattle.pdl_theory_derived.proofs.DelayedReads.{AllAsks, all_more, all_snoc, Apart, apart_snoc}
 use Rattle.pdl_theory_turns.proofs.Courses.{Course, AskOk, Strayed}
 use Rattle.pdl_theory_turns.proofs.StageFacts.{EachFetch, asks_each, fetch_each, alive}
-use Rattle.pdl_theory_turns.proofs.Roams.{verify_looked, before_none, Barred}
+use Rattle.pdl_theory_turns.proofs.StrayPaths.{verify_looked, before_none, Barred}
 use Rattle.pdl_theory_turns.proofs.RoamingThreads.{Roams, has_made, roams_answered, fresh_roams, roam_step}
 use Rattle.pdl_theory_turns.proofs.StageFacts
 use Rattle.pdl_theory_turns.proofs.Turns

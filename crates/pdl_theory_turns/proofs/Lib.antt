@@ -19,7 +19,7 @@ pub mod Courses
 pub mod Looks
 pub mod StageRequests
 pub mod StageFacts
-pub mod Roams
+pub mod StrayPaths
 pub mod RoamingThreads
 pub mod CourseOf
 pub mod Steps

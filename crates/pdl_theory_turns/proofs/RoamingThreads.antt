@@ -24,7 +24,7 @@ use Rattle.pdl_theory_turns.proofs.Looks.{before_looked, stage_looked, path_look
 use Rattle.pdl_theory_turns.proofs.StageFacts.{EachFetch, asks_each, not_fetched}
 use Rattle.pdl_theory_turns.proofs.Makes
 use Rattle.pdl_theory_turns.proofs.TurnPath
-use Rattle.pdl_theory_turns.proofs.Roams.{clash, making_looked, ok_looked, opens_looked, barred_looked, sure_looked, fixed_looked, looked_append, looked_before, verify_looked, Barred, roam_all, steers_by, steers, side_same, Aside, AllAside, visits_answers, still_aside, aside_asks, none_stage_from, fetch_binds, before_none}
+use Rattle.pdl_theory_turns.proofs.StrayPaths.{clash, making_looked, ok_looked, opens_looked, barred_looked, sure_looked, fixed_looked, looked_append, looked_before, verify_looked, Barred, roam_all, steers_by, steers, side_same, Aside, AllAside, visits_answers, still_aside, aside_asks, none_stage_from, fetch_binds, before_none}
 use Rattle.pdl_semantics.specs.Sound.{stages_from}
 
 -- ROAMING THREADS

@@ -18,7 +18,8 @@ ghost use Rattle.pdl_netrun_wave.specs.Dumped.{CanBeDumped, wave_ports, rows_of,
 pub fn sources_dumped()
     ensures dumpable { (source : List ℕ) (p : Pipe) (n : Netlist) → IsText source p → KeepsRules p
         → Follows p n → CanBeDumped n }
-    ensures says { (source : List ℕ) (p : Pipe) (n : Netlist) (image : List (List ℕ)) (schedule : List ℕ)
+    ensures says { (source : List ℕ) (p : Pipe) (n : Netlist) (image : List (List ℕ))
+        (schedule : List ℕ)
         → IsText source p → KeepsRules p → Follows p n → IsImage n.mems image
         → length schedule ≤ 1000000
         → IsWaveOf (run_dump n image schedule) n.name (wave_ports n)

@@ -1,6 +1,6 @@
 use Rattle.std.proofs.Common.{sym, ◌∙◌, map, string_bytes}
 use Rattle.clap.specs.Words.{app_of}
-use Rattle.pdl_cli_args.proofs.Parsing.{err_line, ok_line}
+use Rattle.pdl_cli_args.proofs.ParseResults.{err_line, ok_line}
 use Rattle.pdl_cli_args.proofs.line.read_line.Goals as goal
 
 pub returns-in-Some-clause-ok : goal.returns-in-Some-clause-ok

@@ -8,7 +8,7 @@ use Rattle.pdl_lock_ring.specs.declared.layout.RingLayout.{RingLayout}
 use Rattle.pdl_lock_ring.specs.Slots.{AreReset, ArePlaced, Stands, content_signal, layout_of, ticket_bits, IsMemArray}
 use Rattle.pdl_lock_ring.specs.Looks.{tail_signal, second_ticket, room_signal, room2_signal}
 use Rattle.pdl_lock_ring.proofs.RingGrowth.{slots_kept, reset_kept}
-use Rattle.pdl_lock_ring.proofs.Seeking.{room_law, room2_law, ticket_law, ticket2_law}
+use Rattle.pdl_lock_ring.proofs.LookMeanings.{room_law, room2_law, ticket_law, ticket2_law}
 use Rattle.pdl_lock_ring.proofs.Module.{layout_is, are_placed, is_fragment, start_law, slots_law}
 use Rattle.pdl_lock_ring.proofs.state.emit_state.Goals as goal
 

@@ -7,7 +7,7 @@ use Rattle.pdl_lock_ring.specs.Slots.{AreReset, ticket_bits}
 use Rattle.pdl_lock_ring.specs.Looks.{tail_signal, second_ticket, room_signal, room2_signal}
 use Rattle.pdl_lock_ring.proofs.RingGrowth.{slots_kept}
 use Rattle.pdl_lock_ring.proofs.RingGrowth as slots
-use Rattle.pdl_lock_ring.proofs.Seeking.{room_law, room2_law, ticket_law, ticket2_law}
+use Rattle.pdl_lock_ring.proofs.LookMeanings.{room_law, room2_law, ticket_law, ticket2_law}
 use Rattle.pdl_rename.specs.declared.layout.Layout.{Layout}
 use Rattle.pdl_rename.specs.Places.{IsMapReset, Stands, placed_signal, layout_of}
 use Rattle.pdl_rename.proofs.MadeRegisters.{map_kept, store_kept, reset_kept}

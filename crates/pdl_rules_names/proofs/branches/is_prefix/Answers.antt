@@ -1,5 +1,5 @@
 use Rattle.std.proofs.Common.{refl, arith}
-use Rattle.pdl_rules_names.proofs.Inside.{one_branch, all_branches}
+use Rattle.pdl_rules_names.proofs.OuterBranches.{one_branch, all_branches}
 use Rattle.pdl_rules_names.proofs.branches.is_prefix.Goals as goal
 
 pub loop-i-init : goal.loop-i-init

@@ -3,7 +3,7 @@ use Rattle.std.proofs.Common.{rules, ◌≡◌, ◌≢◌, ◌+◌, ◌-◌, ari
 use Rattle.pdl_syntax_tokens.specs.Cursor.{next, first_kind}
 use Rattle.pdl_syntax_grammar.specs.Reading as spec
 use Rattle.pdl_syntax_tree.specs.View.{op_view, expr_view}
-use Rattle.pdl_syntax_grammar.proofs.Inside.{level_fails_first, level_goes_on}
+use Rattle.pdl_syntax_grammar.proofs.DepthLevels.{level_fails_first, level_goes_on}
 use Rattle.pdl_syntax_grammar.proofs.expression.+expr.Goals as goal
 
 pub chain-loop-turn-preserved : goal.chain-loop-turn-preserved

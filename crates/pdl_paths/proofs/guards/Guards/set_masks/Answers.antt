@@ -3,7 +3,7 @@ use Rattle.std.proofs.Math.Seq.{map-set_same}
 use Rattle.std.proofs.lemmas.List.{length-map}
 use Rattle.pdl_paths.specs.Actions.{place_view}
 use Rattle.pdl_paths.specs.Masks.{mask_of}
-use Rattle.pdl_paths.proofs.Masked.{one_masked}
+use Rattle.pdl_paths.proofs.MaskedPlaces.{one_masked}
 use Rattle.pdl_paths.proofs.guards.Guards.set_masks.Goals as goal
 
 pub loop-place-preserved : goal.loop-place-preserved

@@ -4,7 +4,7 @@ use Rattle.pdl_rules.specs.Places.{places, guards, on_path}
 use Rattle.pdl_paths.specs.Actions.{place_view}
 use Rattle.pdl_paths.specs.Masks.{path_of}
 use Rattle.pdl_rules_names.specs.Ready.{given_on}
-use Rattle.pdl_rules_names.proofs.Ungiven.{ungiven, late, missing_on, missing_nowhere, inside, same_item}
+use Rattle.pdl_rules_names.proofs.MissingDefinitions.{ungiven, late, missing_on, missing_nowhere, inside, same_item}
 use Rattle.pdl_rules_names.proofs.early.Early.is_ungiven.Goals as goal
 use Rattle.pdl_rules_on_paths.proofs.Nth.{nth}
 use Rattle.pdl_rules_on_paths.proofs.Steps.{one_place}

@@ -18,7 +18,7 @@ use Rattle.pdl_lock_ring.specs.declared.layout.RingLayout.{RingLayout}
 use Rattle.pdl_lock_ring.specs.Slots.{IsSized, HasEntries, reg_of, addr_at, has_at}
 use Rattle.pdl_lock_ring.specs.Looks.{head_signal, tail_signal, second_ticket, count_signal, room_signal, room2_signal, slot_of, ahead, is_late, older_count, last_older, order_at, back_at, same_at, hit_at, hit_signal, ready_signal, key_at, is_found, youngest_ready, youngest_value, GivesWord}
 use Rattle.pdl_lock_ring.specs.Choices.{least_key, least_of, some_signal}
-use Rattle.pdl_lock_ring.proofs.Nums.{sub_held, pred_held, sum_held, slot_held, half_mod, order_mod, index_of, back_older, back_younger, apart}
+use Rattle.pdl_lock_ring.proofs.SlotNumbers.{sub_held, pred_held, sum_held, slot_held, half_mod, order_mod, index_of, back_older, back_younger, apart}
 use Rattle.pdl_lock_ring.proofs.RingValues.{mux_one, mux_zero, eq_one, eq_none}
 use Rattle.pdl_lock_ring.proofs.Trees.{some_one, some_zero, less_one, less_none, IsLeast, least_is, least_from}
 use Rattle.pdl_word.proofs.Bools.{if_false}
