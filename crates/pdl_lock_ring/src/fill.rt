@@ -1,7 +1,8 @@
 //! What reservations and writes put into a slot.
 ghost use Rattle.std.specs.Prelude.{◌≡◌, ℕ, ◌+◌, ◌-◌, ◌*◌, ◌^◌, ◌<◌, ◌≤◌, length, IfOk, slice_index_or};
 ghost use Rattle.pdl_net.specs.Signal.{const_signal, mux_signal};
-ghost use Rattle.pdl_net.specs.Meaning.{IsThere, Means, signal};
+ghost use Rattle.pdl_net.specs.Meaning.{Means, signal};
+ghost use Rattle.pdl_net.specs.HasWidth.{HasWidth};
 ghost use Rattle.pdl_net.specs.Growth.{Extends};
 ghost use Rattle.pdl_lockapi.specs.Laws.{step_signals, ticket_at};
 ghost use Rattle.pdl_lock_ring.specs.Ready.{HasPorts, IsReady};
@@ -161,8 +162,7 @@ fn emit_put(
     requires given { HasPorts b.old l p.now }
     requires slot_in { k < l.size }
     requires within { j < length p.now.writes }
-    requires value_there { IsThere b.old value }
-    requires value_width { (signal b.old value).width ≡ l.width }
+    requires value { HasWidth b.old value l.width }
     ensures value { IfOk result (λ x.
         Means b.new x (mux_signal (fills_slot l (step_signals b.old p.now) k j)
         (ticket_at (step_signals b.old p.now).writes j).value (signal b.old value))) }
@@ -185,8 +185,7 @@ fn emit_value(
 ) -> Result<Net, NoMemory>
     requires given { HasPorts b.old l p.now }
     requires slot_in { k < l.size }
-    requires before_there { IsThere b.old before }
-    requires before_width { (signal b.old before).width ≡ l.width }
+    requires before { HasWidth b.old before l.width }
     ensures value { IfOk result (λ x.
         Means b.new x (filled_value l (step_signals b.old p.now) (signal b.old before) k
         (length p.now.writes))) }

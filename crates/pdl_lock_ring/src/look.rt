@@ -1,6 +1,7 @@
 //! Looks: which pending writes are older, whether one of them has the address, and the word of the array.
 ghost use Rattle.std.specs.Prelude.{◌≡◌, ℕ, ◌+◌, ◌-◌, ◌*◌, ◌^◌, ◌<◌, ◌≤◌, IfOk};
-ghost use Rattle.pdl_net.specs.Meaning.{IsThere, Means, signal};
+ghost use Rattle.pdl_net.specs.Meaning.{Means, signal};
+ghost use Rattle.pdl_net.specs.HasWidth.{HasWidth};
 ghost use Rattle.pdl_net.specs.Growth.{Extends};
 ghost use Rattle.pdl_lock_ring.specs.Slots.{IsSized, HasSlots};
 ghost use Rattle.pdl_lock_ring.specs.Choices.{some_signal};
@@ -26,8 +27,7 @@ pub struct Sought {
 #[tactic(auto)]
 pub fn emit_slot_of(b: &mut Builder, l: RingLayout, ticket: Net) -> Result<Net, NoMemory>
     requires sized { IsSized l }
-    requires ticket_there { IsThere b.old ticket }
-    requires ticket_width { (signal b.old ticket).width ≡ l.ticket }
+    requires ticket { HasWidth b.old ticket l.ticket }
     ensures means { IfOk result (λ x. Means b.new x (slot_of l (signal b.old ticket))) }
     ensures extends { Extends b.old b.new }
 {
@@ -45,10 +45,8 @@ pub fn emit_sought(
 ) -> Result<Sought, NoMemory>
     requires sized { IsSized l }
     requires slots { HasSlots b.old l }
-    requires addr_there { IsThere b.old addr }
-    requires addr_width { (signal b.old addr).width ≡ l.bits }
-    requires ticket_there { IsThere b.old ticket }
-    requires ticket_width { (signal b.old ticket).width ≡ l.ticket }
+    requires addr { HasWidth b.old addr l.bits }
+    requires ticket { HasWidth b.old ticket l.ticket }
     ensures sought { IfOk result (λ s.
         IsSought b.new l (signal b.old addr) (signal b.old ticket) s) }
     ensures extends { Extends b.old b.new }
@@ -85,8 +83,7 @@ pub fn emit_same(b: &mut Builder, l: RingLayout, addr: Net, k: usize) -> Result<
     requires sized { IsSized l }
     requires slots { HasSlots b.old l }
     requires within { k < l.size }
-    requires addr_there { IsThere b.old addr }
-    requires addr_width { (signal b.old addr).width ≡ l.bits }
+    requires addr { HasWidth b.old addr l.bits }
     ensures means { IfOk result (λ x. Means b.new x (same_at l (signal b.old addr) k)) }
     ensures extends { Extends b.old b.new }
 {
@@ -105,10 +102,8 @@ fn emit_hit_slot(
     requires sized { IsSized l }
     requires slots { HasSlots b.old l }
     requires within { k < l.size }
-    requires addr_there { IsThere b.old addr }
-    requires addr_width { (signal b.old addr).width ≡ l.bits }
-    requires older_there { IsThere b.old older }
-    requires older_width { (signal b.old older).width ≡ l.ticket }
+    requires addr { HasWidth b.old addr l.bits }
+    requires older { HasWidth b.old older l.ticket }
     ensures means { IfOk result (λ x.
         Means b.new x (hit_at l (signal b.old addr) (signal b.old older) k)) }
     ensures extends { Extends b.old b.new }
@@ -132,10 +127,8 @@ fn emit_hits(
 ) -> Result<Net, NoMemory>
     requires sized { IsSized l }
     requires slots { HasSlots b.old l }
-    requires addr_there { IsThere b.old addr }
-    requires addr_width { (signal b.old addr).width ≡ l.bits }
-    requires older_there { IsThere b.old older }
-    requires older_width { (signal b.old older).width ≡ l.ticket }
+    requires addr { HasWidth b.old addr l.bits }
+    requires older { HasWidth b.old older l.ticket }
     requires bits { bits ≤ 16 }
     requires within { from + 2 ^ bits ≤ l.size }
     ensures means { IfOk result (λ x.
@@ -160,10 +153,8 @@ fn emit_hits(
 pub fn emit_hit(b: &mut Builder, l: RingLayout, addr: Net, older: Net) -> Result<Net, NoMemory>
     requires sized { IsSized l }
     requires slots { HasSlots b.old l }
-    requires addr_there { IsThere b.old addr }
-    requires addr_width { (signal b.old addr).width ≡ l.bits }
-    requires older_there { IsThere b.old older }
-    requires older_width { (signal b.old older).width ≡ l.ticket }
+    requires addr { HasWidth b.old addr l.bits }
+    requires older { HasWidth b.old older l.ticket }
     ensures means { IfOk result (λ x.
         Means b.new x (hit_signal l (signal b.old addr) (signal b.old older))) }
     ensures wide { IfOk result (λ x. (signal b.new x).width ≡ 1) }
@@ -175,8 +166,7 @@ pub fn emit_hit(b: &mut Builder, l: RingLayout, addr: Net, older: Net) -> Result
 /// The word of the array at an address; a delayed memory has none.
 pub fn emit_read(b: &mut Builder, l: RingLayout, addr: Net) -> Result<Option<Net>, NoMemory>
     requires slots { HasSlots b.old l }
-    requires addr_there { IsThere b.old addr }
-    requires addr_width { (signal b.old addr).width ≡ l.bits }
+    requires addr { HasWidth b.old addr l.bits }
     ensures word { IfOk result (λ v. GivesWord b.new l (signal b.old addr) v) }
     ensures extends { Extends b.old b.new }
 {

@@ -2,6 +2,7 @@
 ghost use Rattle.std.specs.Prelude.{◌≡◌, ℕ, ◌+◌, ◌-◌, ◌*◌, ◌^◌, ◌<◌, ◌≤◌, IfOk};
 ghost use Rattle.pdl_net.specs.Signal.{Signal};
 ghost use Rattle.pdl_net.specs.Meaning.{IsThere, Means, signal};
+ghost use Rattle.pdl_net.specs.HasWidth.{HasWidth};
 ghost use Rattle.pdl_net.specs.Growth.{Extends};
 ghost use Rattle.pdl_lock_ring.specs.Slots.{IsSized, HasSlots, content_signal};
 ghost use Rattle.pdl_lock_ring.specs.Looks.{key_at, youngest_ready, youngest_value};
@@ -28,10 +29,8 @@ fn emit_key(b: &mut Builder, l: RingLayout, addr: Net, last: Net, k: usize) -> R
     requires sized { IsSized l }
     requires slots { HasSlots b.old l }
     requires within { k < l.size }
-    requires addr_there { IsThere b.old addr }
-    requires addr_width { (signal b.old addr).width ≡ l.bits }
-    requires last_there { IsThere b.old last }
-    requires last_width { (signal b.old last).width ≡ l.ticket }
+    requires addr { HasWidth b.old addr l.bits }
+    requires last { HasWidth b.old last l.ticket }
     ensures means { IfOk result (λ x.
         Means b.new x (key_at l (signal b.old addr) (signal b.old last) k)) }
     ensures wide { IfOk result (λ x. (signal b.new x).width ≡ l.ticket) }
@@ -57,10 +56,8 @@ fn emit_leaf(
     requires sized { IsSized l }
     requires slots { HasSlots b.old l }
     requires within { k < l.size }
-    requires addr_there { IsThere b.old addr }
-    requires addr_width { (signal b.old addr).width ≡ l.bits }
-    requires last_there { IsThere b.old last }
-    requires last_width { (signal b.old last).width ≡ l.ticket }
+    requires addr { HasWidth b.old addr l.bits }
+    requires last { HasWidth b.old last l.ticket }
     ensures nearest { IfOk result (λ x.
         IsNearest b.new l (key_at l (signal b.old addr) (signal b.old last)) 0 k x) }
     ensures extends { Extends b.old b.new }
@@ -107,10 +104,8 @@ fn emit_nearest(
 ) -> Result<Nearest, NoMemory>
     requires sized { IsSized l }
     requires slots { HasSlots b.old l }
-    requires addr_there { IsThere b.old addr }
-    requires addr_width { (signal b.old addr).width ≡ l.bits }
-    requires last_there { IsThere b.old last }
-    requires last_width { (signal b.old last).width ≡ l.ticket }
+    requires addr { HasWidth b.old addr l.bits }
+    requires last { HasWidth b.old last l.ticket }
     requires bits { bits ≤ 16 }
     requires within { from + 2 ^ bits ≤ l.size }
     ensures nearest { IfOk result (λ x.
@@ -139,12 +134,9 @@ pub fn emit_youngest(
 ) -> Result<(Net, Net), NoMemory>
     requires sized { IsSized l }
     requires slots { HasSlots b.old l }
-    requires addr_there { IsThere b.old addr }
-    requires addr_width { (signal b.old addr).width ≡ l.bits }
-    requires ticket_there { IsThere b.old ticket }
-    requires ticket_width { (signal b.old ticket).width ≡ l.ticket }
-    requires other_there { IsThere b.old other }
-    requires other_width { (signal b.old other).width ≡ l.kept }
+    requires addr { HasWidth b.old addr l.bits }
+    requires ticket { HasWidth b.old ticket l.ticket }
+    requires other { HasWidth b.old other l.kept }
     ensures ready { IfOk result (λ x.
         Means b.new x.0 (youngest_ready l (signal b.old addr) (signal b.old ticket))) }
     ensures value { IfOk result (λ x.

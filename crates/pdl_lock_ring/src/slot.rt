@@ -1,6 +1,7 @@
 //! What the slots take next, and the slot of a ticket after a cycle's reservations and writes.
 ghost use Rattle.std.specs.Prelude.{◌≡◌, ℕ, ◌+◌, ◌-◌, ◌*◌, ◌^◌, ◌<◌, ◌≤◌, length, IfOk, OnOk};
 ghost use Rattle.pdl_net.specs.Meaning.{IsThere, Means, signal, next_signal};
+ghost use Rattle.pdl_net.specs.HasWidth.{HasWidth};
 ghost use Rattle.pdl_net.specs.Growth.{Extends, ExtendsBut};
 ghost use Rattle.pdl_lockapi.specs.Laws.{step_signals};
 ghost use Rattle.pdl_lock_ring.specs.Slots.{addr_at, has_at, value_at};
@@ -97,8 +98,7 @@ pub fn emit_at(
     ticket: Net,
 ) -> Result<Slot, NoMemory>
     requires ready { IsReady b.old l p.now t }
-    requires ticket_there { IsThere b.old ticket }
-    requires ticket_width { (signal b.old ticket).width ≡ l.ticket }
+    requires ticket { HasWidth b.old ticket l.ticket }
     ensures addr { IfOk result (λ s.
         Means b.new s.addr (at_ticket l (slot_addr l (step_signals b.old p.now))
         (signal b.old ticket))) }

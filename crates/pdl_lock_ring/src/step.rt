@@ -3,6 +3,7 @@ ghost use Rattle.std.specs.Prelude.{◌≡◌, ℕ, [], ◌+◌, ◌-◌, ◌*�
 ghost use Rattle.pdl_net.specs.Circuit.{State};
 ghost use Rattle.pdl_net.specs.Signal.{const_signal, mux_signal};
 ghost use Rattle.pdl_net.specs.Meaning.{IsThere, Means, signal, next_signal};
+ghost use Rattle.pdl_net.specs.HasWidth.{HasWidth};
 ghost use Rattle.pdl_net.specs.Growth.{Extends, ExtendsBut};
 ghost use Rattle.pdl_lockapi.specs.Laws.{PortsThere, PortsFit, HasNoPorts, HasCommitNets, StepLaw, own, step_signals};
 ghost use Rattle.pdl_lockapi.specs.Second.{Commit2Law};
@@ -70,12 +71,9 @@ pub fn emit_commit(
     value: Net,
 ) -> Result<(Net, Net), NoMemory>
     requires sized { IsSized l }
-    requires commit { IsThere b.old commit }
-    requires commit_one { (signal b.old commit).width ≡ 1 }
-    requires addr { IsThere b.old addr }
-    requires addr_width { (signal b.old addr).width ≡ l.bits }
-    requires value { IsThere b.old value }
-    requires value_width { (signal b.old value).width ≡ l.width }
+    requires commit { HasWidth b.old commit 1 }
+    requires addr { HasWidth b.old addr l.bits }
+    requires value { HasWidth b.old value l.width }
     ensures addr { IfOk result (λ x. Means b.new x.0
         (mux_signal (signal b.old commit) (signal b.old addr) (const_signal l.bits 0))) }
     ensures value { IfOk result (λ x. Means b.new x.1

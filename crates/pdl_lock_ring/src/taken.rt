@@ -1,7 +1,8 @@
 //! The reservations of a cycle: their addresses, and the slots that they are given.
 ghost use Rattle.std.specs.Prelude.{◌≡◌, ℕ, ◌+◌, ◌-◌, ◌*◌, ◌^◌, ◌<◌, ◌≤◌, length, IfOk, slice_index_or};
 ghost use Rattle.pdl_net.specs.Signal.{const_signal, mux_signal};
-ghost use Rattle.pdl_net.specs.Meaning.{IsThere, Means, signal};
+ghost use Rattle.pdl_net.specs.Meaning.{Means, signal};
+ghost use Rattle.pdl_net.specs.HasWidth.{HasWidth};
 ghost use Rattle.pdl_net.specs.Growth.{Extends};
 ghost use Rattle.pdl_lockapi.specs.Laws.{step_signals, reserve_at};
 ghost use Rattle.pdl_lock_ring.specs.Looks.{slot_of};
@@ -103,10 +104,8 @@ fn emit_asked(b: &mut Builder, l: RingLayout, p: &LockPorts) -> Result<Asked, No
 #[tactic(auto)]
 pub fn emit_gate(b: &mut Builder, l: RingLayout, on: Net, ticket: Net) -> Result<Net, NoMemory>
     requires sized { IsSized l }
-    requires on { IsThere b.old on }
-    requires on_one { (signal b.old on).width ≡ 1 }
-    requires ticket { IsThere b.old ticket }
-    requires ticket_width { (signal b.old ticket).width ≡ l.ticket }
+    requires on { HasWidth b.old on 1 }
+    requires ticket { HasWidth b.old ticket l.ticket }
     ensures means { IfOk result (λ x.
         Means b.new x (mux_signal (signal b.old on) (slot_of l (signal b.old ticket))
         (const_signal l.ticket l.size))) }

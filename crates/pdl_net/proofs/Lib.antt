@@ -11,3 +11,4 @@ pub mod Equal
 pub mod Holds
 pub mod StartState
 pub mod CommitWidths
+pub mod KeptWidths

@@ -1,6 +1,7 @@
 pub mod Circuit
 pub mod Signal
 pub mod Meaning
+pub mod HasWidth
 pub mod Well
 pub mod Growth
 pub mod Cycle

@@ -1,10 +1,10 @@
 -- An order stays in a circuit when more is added.
-use Rattle.std.proofs.Common.{refl, ap, ◌∙◌, arith}
+use Rattle.std.proofs.Common.{refl, ◌∙◌, arith}
 use Rattle.pdl_net.specs.declared.Net.TheVariants.{Reg}
 use Rattle.pdl_net.specs.Circuit.{Circuit}
-use Rattle.pdl_net.specs.Signal.{Signal}
 use Rattle.pdl_net.specs.Growth.{Keeps, Extends}
 use Rattle.pdl_net.proofs.Keeps.{extends_keeps}
+use Rattle.pdl_net.proofs.KeptWidths.{width_keeps}
 use Rattle.pdl_lockapi.specs.Laws.{OwnKept}
 use Rattle.pdl_order.specs.declared.OrderRegs.{OrderRegs}
 use Rattle.pdl_order.specs.declared.OrderPorts.{OrderPorts}
@@ -38,14 +38,10 @@ order_keeps a b r k x = record { count = x.count; words = words_keep a b (layout
 -- so do the nets of a step
 pub ports_keep : (a b : Circuit) (p : OrderPorts) → HasPorts a p → Keeps a b → HasPorts b p
 ports_keep a b p x k = record {
-  first_there = k.there p.entered_first x.first_there;
-  first_one = ap (λ (f : Signal). f.width) (k.kept p.entered_first x.first_there) ∙ x.first_one;
-  second_there = k.there p.entered_second x.second_there;
-  second_one = ap (λ (f : Signal). f.width) (k.kept p.entered_second x.second_there) ∙ x.second_one;
-  left_there = k.there p.left x.left_there;
-  left_one = ap (λ (f : Signal). f.width) (k.kept p.left x.left_there) ∙ x.left_one;
-  emptied_there = k.there p.emptied x.emptied_there;
-  emptied_one = ap (λ (f : Signal). f.width) (k.kept p.emptied x.emptied_there) ∙ x.emptied_one;
+  entered_first = width_keeps a b p.entered_first 1 k x.entered_first;
+  entered_second = width_keeps a b p.entered_second 1 k x.entered_second;
+  left = width_keeps a b p.left 1 k x.left;
+  emptied = width_keeps a b p.emptied 1 k x.emptied;
 }
 
 -- an order's registers keep what they take next

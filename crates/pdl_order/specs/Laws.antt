@@ -4,6 +4,7 @@ use Rattle.pdl_word.specs.Words.{bit}
 use Rattle.pdl_net.specs.Circuit.{Circuit, State, HasReg}
 use Rattle.pdl_net.specs.Signal.{Signal}
 use Rattle.pdl_net.specs.Meaning.{IsThere, signal}
+use Rattle.pdl_net.specs.HasWidth.{HasWidth}
 use Rattle.pdl_net.specs.Growth.{Own}
 use Rattle.pdl_lockapi.specs.Laws.{IsReset, IsNext}
 use Rattle.pdl_order.specs.declared.OrderRegs.{OrderRegs}
@@ -63,14 +64,10 @@ step_signals c p = record {
 
 -- the nets of a step are there, each of 1 bit
 pub record HasPorts (c : Circuit) (p : OrderPorts) : Type 0 where
-  pub first_there : IsThere c p.entered_first
-  pub first_one : (signal c p.entered_first).width ≡ 1
-  pub second_there : IsThere c p.entered_second
-  pub second_one : (signal c p.entered_second).width ≡ 1
-  pub left_there : IsThere c p.left
-  pub left_one : (signal c p.left).width ≡ 1
-  pub emptied_there : IsThere c p.emptied
-  pub emptied_one : (signal c p.emptied).width ≡ 1
+  pub entered_first : HasWidth c p.entered_first 1
+  pub entered_second : HasWidth c p.entered_second 1
+  pub left : HasWidth c p.left 1
+  pub emptied : HasWidth c p.emptied 1
 
 -- in this state the nets of a step do this to an order
 pub record Drives (f : StepSignals) (s : State) (a : OrderAct) : Type 0 where

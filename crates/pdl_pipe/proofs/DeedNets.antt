@@ -51,8 +51,7 @@ deeds_there l c x xs ds line locked next told =
         let move = some_of x.moves.now k (omega (arith, low, n, m)) in
         let bit = subst (IsBit c) (sym (told.moves k move.0 d low move.1 is)) (at_bit c x.moves.now k move.0 (omega (arith, low, n, m)) move.1 line.moves) in
         record {
-          moves = bit.0;
-          one = bit.1;
+          moves = bit;
           walk = subst (IsWalk c (line_pipe x) (line_form x).widths) (sym (told.ended k s d low some.1 is)) now.walk;
           tickets =
               subst (AreTickets l c xs) (sym (told.tickets k s d low some.1 is))
@@ -78,8 +77,6 @@ ends_there c x es line told = record { count = told.count ∙ line.count; each =
         let gone = subst (IsBit c) (sym (told.killed k kill.0 e low kill.1 is)) (at_bit c x.kills.now k kill.0 (omega (arith, low, n, i)) kill.1 line.kills) in
         record {
           walk = subst (IsWalk c (line_pipe x) (line_form x).widths) (sym (told.ended k s e low some.1 is)) now.walk;
-          moves = bit.0;
-          moves_one = bit.1;
-          killed = gone.0;
-          killed_one = gone.1;
+          moves = bit;
+          killed = gone;
         }

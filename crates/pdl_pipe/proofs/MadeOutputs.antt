@@ -81,8 +81,8 @@ module _ {T : Type 0} (l : Members T) (n : Nets T) (em : Emission l n) where
       by m low (Some x) e (Some y) g =
           let it = (em.stepped.each m low).lock y x g e in
           ap₂ (λ (q : Signal) (r : Signal × Signal). (let z : Commit = record { enable = q; addr = r.0; value = r.1 } in z))
-          (em.keeps.kept x.commit it.commit_there)
-          (ap₂ (λ (q r : Signal). (q, r)) (em.keeps.kept x.addr it.addr_there) (em.keeps.kept x.value it.value_there))
+          (em.keeps.kept x.commit it.commit.there)
+          (ap₂ (λ (q r : Signal). (q, r)) (em.keeps.kept x.addr it.addr_there) (em.keeps.kept x.value it.value.there))
 
       at : (m : ℕ) → (m < length p.mems) ⊎ (length p.mems ≤ m) → commits_in em.d n.commits m ≡ commits_in em.i n.commits m
       at m (inl low) = by m low (some_at n.commits m) refl (some_at n.locks m) refl
@@ -101,7 +101,7 @@ module _ {T : Type 0} (l : Members T) (n : Nets T) (em : Emission l n) where
           let after = keeps_ci in
           let later = keeps_cd l n em in
           ap₂ (λ (q r : Signal). (let z : Request = record { enable = q; addr = r } in z))
-          (later.kept x.enable it.enable_there ∙ sym (after.kept x.enable it.enable_there))
+          (later.kept x.enable it.enable_bit.there ∙ sym (after.kept x.enable it.enable_bit.there))
           (later.kept x.addr it.addr_there ∙ sym (after.kept x.addr it.addr_there))
 
       at : (m : ℕ) → (m < length p.mems) ⊎ (length p.mems ≤ m) → asks_in em.d n.requests m ≡ asks_in em.i n.requests m
@@ -143,7 +143,7 @@ module _ {T : Type 0} (l : Members T) (n : Nets T) (em : Emission l n) where
     are_of = record {
       valid = valid_same;
       moves = moves_same;
-      squash = sym ((keeps_trans em.b em.c em.i (keeps_bc l n em) keeps_ci).kept n.moves.squash em.moved.squash.0);
+      squash = sym ((keeps_trans em.b em.c em.i (keeps_bc l n em) keeps_ci).kept n.moves.squash em.moved.squash.there);
       names = λ m low. refl;
     }
 

@@ -10,6 +10,7 @@ use Rattle.pdl_net.specs.Circuit.{Circuit}
 use Rattle.pdl_net.specs.Signal.{Signal}
 use Rattle.pdl_net.specs.Meaning.{signal}
 use Rattle.pdl_net.specs.Growth.{Keeps}
+use Rattle.pdl_net.proofs.KeptWidths.{width_keeps}
 use Rattle.pdl_pipe_exprs.specs.Nets.{signals_in, signal_at}
 use Rattle.pdl_machine_inflight.specs.Readings.{reading}
 use Rattle.pdl_law_parts.specs.Walk.{zero_bit, is_locked}
@@ -42,11 +43,10 @@ use Rattle.pdl_pipe_emitted.proofs.SidesRemoved.{views_first}
 request_kept : (a b c : Circuit) (p : Pipe) (es : List StageEnd) (m : ℕ) (x : RequestNets) → Keeps b c
     → IsRequest a b p es m x → IsRequest a c p es m x
 request_kept a b c p es m x k h =
-    let e = k.kept x.enable h.enable_there in
+    let e = k.kept x.enable h.enable_bit.there in
     let g = k.kept x.addr h.addr_there in
     record {
-      enable_there = k.there x.enable h.enable_there;
-      enable_one = ap (λ (z : Signal). z.width) e ∙ h.enable_one;
+      enable_bit = width_keeps b c x.enable 1 k h.enable_bit;
       enable = e ∙ h.enable;
       addr_there = k.there x.addr h.addr_there;
       addr = λ s. ap (λ (z : Signal). z.value s) g ∙ h.addr s;
@@ -127,7 +127,7 @@ module _ {T : Type 0} (l : Members T) (n : Nets T) (em : Emission l n) where
 
     -- by a bit
     pub request_one : (asks_in em.d n.requests m).enable.width ≡ 1
-    request_one = subst (λ (o : Option RequestNets). (ask_of em.d o).enable.width ≡ 1) (sym here.1) now.enable_one
+    request_one = subst (λ (o : Option RequestNets). (ask_of em.d o).enable.width ≡ 1) (sym here.1) now.enable_bit.width
 
     -- with a net for the address, and commits a net of its width
     pub fits_outside : Stays l → FitsOutside p em.d (asks_in em.d n.requests m) (commits_in em.d n.commits m) m

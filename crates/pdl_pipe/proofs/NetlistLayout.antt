@@ -1,5 +1,5 @@
 -- Memories, ports, orders and stages, laid out one after the other.
-use Rattle.std.proofs.Common.{◌≡◌, ◌<◌, ◌≤◌, ℕ, sym, ap, ◌∙◌, subst, length, map, List, arith}
+use Rattle.std.proofs.Common.{◌≡◌, ◌<◌, ◌≤◌, ℕ, refl, sym, ap, ◌∙◌, subst, length, map, List, arith}
 use Rattle.std.proofs.lemmas.List.{length-map}
 use Rattle.std.specs.Prelude.{Option, Some}
 use Rattle.pdl_word.specs.Each.{Each}
@@ -10,6 +10,7 @@ use Rattle.pdl_net.specs.Signal.{Signal}
 use Rattle.pdl_net.specs.Meaning.{signal, Means}
 use Rattle.pdl_net.specs.Growth.{Extends, Keeps}
 use Rattle.pdl_net.proofs.Keeps.{extends_keeps, extends_trans, keeps_refl, regs_grow}
+use Rattle.pdl_net.proofs.KeptWidths.{width_meant}
 use Rattle.pdl_order.specs.declared.OrderRegs.{OrderRegs}
 use Rattle.pdl_order.specs.Laws.{own as order_own}
 use Rattle.pdl_port.specs.Laws.{AnswerSignals}
@@ -172,7 +173,7 @@ module _ {T : Type 0} (l : Members T) (stays : Stays l) (a b s c : Circuit) (x :
   none_moves : Each (IsBit c) nets
   none_moves =
       let zero = zero_now l stays a b s c x xs rs low mid bits ab bs sc mem same_bits next_is zeros_there zeros in
-      filled_bits c bits.zero nets (zero.there, ap (λ (f : Signal). f.width) zero.same) blank
+      filled_bits c bits.zero nets (width_meant c bits.zero _ 1 zero refl) blank
 
   -- with its orders as they are told
   pub laid_out : (forks : List (Option OrderRegs)) → forks ≡ rs → IsLaidOut l c x xs forks

@@ -41,7 +41,7 @@ shown_there c x ss line told = stages_from c ss each
         let some = some_of x.stages.now k there in
         let move = some_of x.moves.now k (omega (arith, low, n, m)) in (
           subst (IsThere c) (sym (told.valid k some.0 y low some.1 is)) (line.stages k some.0 there some.1).registers.valid.there,
-          subst (IsThere c) (sym (told.moves k move.0 y low move.1 is)) (at_bit c x.moves.now k move.0 (omega (arith, low, n, m)) move.1 line.moves).0,
+          subst (IsThere c) (sym (told.moves k move.0 y low move.1 is)) (at_bit c x.moves.now k move.0 (omega (arith, low, n, m)) move.1 line.moves).there,
         )
 
 -- what memories with a lock commit
@@ -57,7 +57,7 @@ commits_there {T} l a c p f xs ns locked stepped = record {
     there : (m : ℕ) → m < length p.mems → (n : Option LockNets) → some_at ns m ≡ n → (y : Option (MemLock T)) → some_at xs m ≡ y → IsThereCommit c n
     there m low None e y g = tt
     there m low (Some n) e None g = absurd (false≢true (ap is_some (sym g) ∙ sym (stepped.each m low).has ∙ ap is_some e))
-    there m low (Some n) e (Some y) g = let it = (stepped.each m low).lock y n g e in (it.commit_there, it.addr_there, it.value_there)
+    there m low (Some n) e (Some y) g = let it = (stepped.each m low).lock y n g e in (it.commit.there, it.addr_there, it.value.there)
 
 -- what is asked of delayed memories stays there
 pub asked_kept : (a b : Circuit) (p : Pipe) (rs : List (Option RequestNets)) → Keeps a b → AreAsked a p rs → AreAsked b p rs

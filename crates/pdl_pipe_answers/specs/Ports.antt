@@ -4,8 +4,9 @@ use Rattle.pdl_semantics.specs.Flat.{Pipe}
 use Rattle.pdl_semantics.specs.Stages.{mem_at}
 use Rattle.pdl_net.specs.declared.Net.{Net}
 use Rattle.pdl_net.specs.Circuit.{Circuit, State}
-use Rattle.pdl_net.specs.Meaning.{signal, IsThere}
+use Rattle.pdl_net.specs.Meaning.{signal}
 use Rattle.pdl_net.specs.Signal.{Signal, no_signal, mux_signal}
+use Rattle.pdl_net.specs.HasWidth.{HasWidth}
 use Rattle.pdl_port.specs.declared.PortRegs.{PortRegs}
 use Rattle.pdl_port.specs.Laws.{AnswerSignals, HasAnswerNets, answer_signals, places as port_places}
 use Rattle.pdl_law_parts.specs.Walk.{both, is_on}
@@ -48,12 +49,11 @@ BindsWide p x w m = (r : Reading) → reading p m ≡ Some r → r.var ≡ x →
 
 -- a net of 1 bit, and one that is 1 where this signal is
 abbrev pub IsBit : Circuit → Net → Type 0
-IsBit c x = IsThere c x × ((signal c x).width ≡ 1)
+IsBit c x = HasWidth c x 1
 
 -- a net that is there with 1 bit, and is 1 just where this signal is
 pub record IsBitFor (c : Circuit) (x : Net) (f : Signal) : Type 0 where
-  pub there : IsThere c x
-  pub one : (signal c x).width ≡ 1
+  pub bit : HasWidth c x 1
   pub on : IsOnAs (signal c x) f
 
 -- where this is true both are 1, else the rest

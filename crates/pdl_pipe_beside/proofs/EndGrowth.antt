@@ -15,6 +15,7 @@ use Rattle.pdl_net.specs.Signal.{Signal, no_signal}
 use Rattle.pdl_net.specs.Meaning.{IsThere, signal}
 use Rattle.pdl_net.specs.Growth.{Keeps, Extends}
 use Rattle.pdl_net.proofs.Keeps.{extends_keeps}
+use Rattle.pdl_net.proofs.KeptWidths.{width_keeps}
 use Rattle.pdl_port.specs.Laws.{net_at, signal_at}
 use Rattle.pdl_port.proofs.PortGrowth.{bits_kept}
 use Rattle.pdl_pipe_walk.specs.declared.nets.AskNet.{AskNet}
@@ -51,7 +52,7 @@ module _ (c : Circuit) (es : List StageEnd) (k : ℕ) (e : StageEnd) (low : k < 
 asks_are : (c : Circuit) (p : Pipe) (qs : List AskNet) → Each (λ (q : AskNet). IsThere c q.on × IsThere c q.addr) qs
     → Each (IsSizedAsk p) (map (ask_in c) qs) → Each (IsAskNet c) qs
 asks_are c p [] t s = tt
-asks_are c p (q ∷ qs) t s = ((t.0.0, s.0.1), asks_are c p qs t.1 s.1)
+asks_are c p (q ∷ qs) t s = (record { there = t.0.0; width = s.0.1 }, asks_are c p qs t.1 s.1)
 
 -- the conditions of all requests of a stage are there, with 1 bit
 pub end_asks : (c : Circuit) (f : Form) (e : StageEnd) → IsEnd c f e → Each (IsAskNet c) e.ended.now.asks
@@ -69,10 +70,8 @@ module _ (a b : Circuit) (k : Keeps a b) (f : Form) where
   end_keeps : (e : StageEnd) → IsEnd a f e → IsEnd b f e
   end_keeps e h = record {
     walk = walk_keep a b k f.pipe f.widths e.ended.now h.walk;
-    moves = k.there e.moves h.moves;
-    moves_one = ap (λ (g : Signal). g.width) (k.kept e.moves h.moves) ∙ h.moves_one;
-    killed = k.there e.killed h.killed;
-    killed_one = ap (λ (g : Signal). g.width) (k.kept e.killed h.killed) ∙ h.killed_one;
+    moves = width_keeps a b e.moves 1 k h.moves;
+    killed = width_keeps a b e.killed 1 k h.killed;
   }
 
   -- the nets of all stages after their statements are there in a circuit that keeps what stands in theirs
@@ -86,11 +85,11 @@ module _ (a b : Circuit) (k : Keeps a b) (f : Form) where
 
   -- whether their threads move is told by the signals that told it
   pub moves_same : (es : List StageEnd) → AreEnds a f es → map (move_in b) es ≡ map (move_in a) es
-  moves_same es h = map_each (move_in b) (move_in a) (IsEnd a f) (λ e x. k.kept e.moves x.moves) es h.each
+  moves_same es h = map_each (move_in b) (move_in a) (IsEnd a f) (λ e x. k.kept e.moves x.moves.there) es h.each
 
   -- whether their threads are removed is told by the signals that told it
   pub kills_same : (es : List StageEnd) → AreEnds a f es → map (kill_in b) es ≡ map (kill_in a) es
-  kills_same es h = map_each (kill_in b) (kill_in a) (IsEnd a f) (λ e x. k.kept e.killed x.killed) es h.each
+  kills_same es h = map_each (kill_in b) (kill_in a) (IsEnd a f) (λ e x. k.kept e.killed x.killed.there) es h.each
 
 -- the nets of all stages after their statements stay while the circuit grows
 pub ends_kept : (f : Form) (es : List StageEnd) (a b : Circuit) → AreEnds a f es → Extends a b → AreEnds b f es

@@ -8,6 +8,7 @@ use Rattle.pdl_net.specs.Circuit.{Circuit, State, HasReg}
 use Rattle.pdl_net.specs.Signal.{Signal}
 use Rattle.pdl_net.specs.Meaning.{IsThere, signal}
 use Rattle.pdl_net.specs.Growth.{Own, Keeps}
+use Rattle.pdl_net.proofs.KeptWidths.{width_keeps}
 use Rattle.pdl_port.specs.declared.PortRegs.{PortRegs}
 use Rattle.pdl_port.specs.Laws.{Replies, HasAnswerNets, IsFragment, StartLaw, AnswerLaw, first_reg, end_reg, own, answer_at, answer_signals, places as port_places}
 use Rattle.pdl_port.specs.Places.{ArePlaced, stands}
@@ -92,10 +93,8 @@ module _ (a b : Circuit) (k : Keeps a b) where
   -- the inputs of a delayed memory stay, with their widths
   pub input_keeps : (w : ℕ) (i : PortInput) → IsInput a w i → IsInput b w i
   input_keeps w i x = record {
-    reply_there = k.there i.reply x.reply_there;
-    reply_one = ap (λ (f : Signal). f.width) (k.kept i.reply x.reply_there) ∙ x.reply_one;
-    word_there = k.there i.word x.word_there;
-    word_wide = ap (λ (f : Signal). f.width) (k.kept i.word x.word_there) ∙ x.word_wide;
+    reply = width_keeps a b i.reply 1 k x.reply;
+    word = width_keeps a b i.word w k x.word;
   }
 
   -- the inputs of all memories that are read delayed stay

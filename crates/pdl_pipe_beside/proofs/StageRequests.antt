@@ -13,6 +13,7 @@ use Rattle.pdl_net.specs.Circuit.{Circuit, State}
 use Rattle.pdl_net.specs.Signal.{Signal, const_signal, mux_signal, mux_value, const_value}
 use Rattle.pdl_net.specs.Meaning.{IsThere, Means, signal}
 use Rattle.pdl_net.specs.Growth.{Keeps}
+use Rattle.pdl_net.proofs.KeptWidths.{width_keeps}
 use Rattle.pdl_machine_inflight.specs.Readings.{Reading, reading}
 use Rattle.pdl_law_parts.specs.Walk.{Ask, both}
 use Rattle.pdl_law_parts.specs.Views.{View}
@@ -62,8 +63,7 @@ addresses_are : (c : Circuit) (p : Pipe) (m w : ℕ)
 addresses_are c p m w e [] t s = tt
 addresses_are c p m w e (q ∷ qs) t s =
     let here : IsAddressNet c m w q = record {
-      on_there = t.0.0;
-      on_one = s.0.1;
+      on = record { there = t.0.0; width = s.0.1 };
       addr_there = t.0.1;
       addr_wide = λ same. power_one (signal c q.addr).width w (s.0.2 ∙ ap (λ i. (mem_at p i).depth) same ∙ sym e);
     } in
@@ -79,7 +79,7 @@ pub asks_same : (a b : Circuit) (m w : ℕ) (qs : List AskNet) → Keeps a b →
     → map (ask_in b) qs ≡ map (ask_in a) qs
 asks_same a b m w qs k h =
     map_each (ask_in b) (ask_in a) (IsAddressNet a m w)
-    (λ q x. ap₂ (λ f g. record { mem = q.mem; var = q.var; on = f; addr = g }) (k.kept q.on x.on_there) (k.kept q.addr x.addr_there)) qs h
+    (λ q x. ap₂ (λ f g. record { mem = q.mem; var = q.var; on = f; addr = g }) (k.kept q.on x.on.there) (k.kept q.addr x.addr_there)) qs h
 
 -- ---- one request
 
@@ -105,8 +105,7 @@ module _ (a c : Circuit) (p : Pipe) (es : List StageEnd) (m w : ℕ) (r : Readin
       ∙ address_value m w (signal a e.moves) (map (ask_in a) e.ended.now.asks) s
       ∙ ap₂ (λ (g : Signal) (v : View). (asked_address m g v.ended.asks).value s) moves_is view_is in
       record {
-        enable_there = enable.there;
-        enable_one = enable_one;
+        enable_bit = record { there = enable.there; width = enable_one };
         enable = subst P (sym is) (enable.same ∙ ap₂ (λ (g : Signal) (v : View). asks_memory m g v.ended.asks) moves_is view_is);
         addr_there = addr.there;
         addr = subst Q (sym is) value;
@@ -118,11 +117,10 @@ module _ (a c : Circuit) (p : Pipe) (es : List StageEnd) (m w : ℕ) (r : Readin
 request_kept : (a b c : Circuit) (p : Pipe) (es : List StageEnd) (m : ℕ) (x : RequestNets) → Keeps b c
     → IsRequest a b p es m x → IsRequest a c p es m x
 request_kept a b c p es m x k h =
-    let e = k.kept x.enable h.enable_there in
+    let e = k.kept x.enable h.enable_bit.there in
     let g = k.kept x.addr h.addr_there in
     record {
-      enable_there = k.there x.enable h.enable_there;
-      enable_one = ap (λ (z : Signal). z.width) e ∙ h.enable_one;
+      enable_bit = width_keeps b c x.enable 1 k h.enable_bit;
       enable = e ∙ h.enable;
       addr_there = k.there x.addr h.addr_there;
       addr = λ s. ap (λ (z : Signal). z.value s) g ∙ h.addr s;
@@ -138,8 +136,7 @@ request_as a b c f es m x k ends h =
     ap₂ (λ vs ms. request_of (λ j. slice_index_or vs j no_view) (λ j. signal_at ms j) m (reading p m))
     (views_same a b k f es ends) (moves_same a b k f es ends) in
     record {
-      enable_there = h.enable_there;
-      enable_one = h.enable_one;
+      enable_bit = h.enable_bit;
       enable = h.enable ∙ ap (λ q. q.enable) same;
       addr_there = h.addr_there;
       addr = λ s. h.addr s ∙ ap (λ q. q.addr.value s) same;

@@ -3,7 +3,8 @@ use Rattle.std.specs.Prelude.{◌≡◌, ℕ, List, [], map, length, slice_index
 use Rattle.pdl_form.specs.Form.{Form}
 use Rattle.pdl_net.specs.Circuit.{Circuit}
 use Rattle.pdl_net.specs.Signal.{Signal, no_signal}
-use Rattle.pdl_net.specs.Meaning.{signal, IsThere}
+use Rattle.pdl_net.specs.Meaning.{signal}
+use Rattle.pdl_net.specs.HasWidth.{HasWidth}
 use Rattle.pdl_pipe_exprs.specs.Nets.{signal_at}
 use Rattle.pdl_law_parts.specs.Walk.{Walk, one, zero_bit}
 use Rattle.pdl_law_parts.specs.Views.{View}
@@ -62,10 +63,8 @@ kills_in c es k = signal_at (map (kill_in c) es) k
 -- a stage's nets are there, with their widths
 pub record IsEnd (c : Circuit) (f : Form) (e : StageEnd) : Type 0 where
   pub walk : IsWalk c f.pipe f.widths e.ended.now
-  pub moves : IsThere c e.moves
-  pub moves_one : (signal c e.moves).width ≡ 1
-  pub killed : IsThere c e.killed
-  pub killed_one : (signal c e.killed).width ≡ 1
+  pub moves : HasWidth c e.moves 1
+  pub killed : HasWidth c e.killed 1
 
 -- those of all stages
 pub record AreEnds (c : Circuit) (f : Form) (es : List StageEnd) : Type 0 where

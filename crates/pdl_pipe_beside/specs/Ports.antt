@@ -4,6 +4,7 @@ use Rattle.pdl_semantics.specs.Flat.{Pipe}
 use Rattle.pdl_semantics.specs.Stages.{mem_at}
 use Rattle.pdl_net.specs.Circuit.{Circuit}
 use Rattle.pdl_net.specs.Meaning.{IsThere, signal}
+use Rattle.pdl_net.specs.HasWidth.{HasWidth}
 use Rattle.pdl_port.specs.declared.PortRegs.{PortRegs}
 use Rattle.pdl_port.specs.Laws.{HasAnswerNets, StartLaw, AnswerLaw, own, answer_signals, places as port_places}
 use Rattle.pdl_port.specs.Places.{ArePlaced, stands}
@@ -23,10 +24,8 @@ pub record ReadsLeadOn (p : Pipe) : Type 0 where
 
 -- a reply of 1 bit, and a word as wide as the memory's
 pub record IsInput (c : Circuit) (width : ℕ) (i : PortInput) : Type 0 where
-  pub reply_there : IsThere c i.reply
-  pub reply_one : (signal c i.reply).width ≡ 1
-  pub word_there : IsThere c i.word
-  pub word_wide : (signal c i.word).width ≡ width
+  pub reply : HasWidth c i.reply 1
+  pub word : HasWidth c i.word width
 
 -- the inputs of memory m, where it has some
 abbrev pub input_at : List (Option PortInput) → ℕ → Option PortInput

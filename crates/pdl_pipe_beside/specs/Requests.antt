@@ -5,6 +5,7 @@ use Rattle.pdl_semantics.specs.Stages.{mem_at}
 use Rattle.pdl_net.specs.Circuit.{Circuit, State}
 use Rattle.pdl_net.specs.Signal.{Signal, mux_signal}
 use Rattle.pdl_net.specs.Meaning.{signal, IsThere}
+use Rattle.pdl_net.specs.HasWidth.{HasWidth}
 use Rattle.pdl_machine_inflight.specs.Readings.{reading}
 use Rattle.pdl_law_parts.specs.Walk.{Ask, both}
 use Rattle.pdl_law_sides.specs.WholeNetlist.{request_of}
@@ -25,15 +26,13 @@ address_from m moves none (q ∷ qs) = address_or m moves q (address_from m move
 
 -- a request's nets are there; its condition has 1 bit, and its address, where it is of this memory, so many
 pub record IsAddressNet (c : Circuit) (m width : ℕ) (q : AskNet) : Type 0 where
-  pub on_there : IsThere c q.on
-  pub on_one : (signal c q.on).width ≡ 1
+  pub on : HasWidth c q.on 1
   pub addr_there : IsThere c q.addr
   pub addr_wide : q.mem ≡ m → (signal c q.addr).width ≡ width
 
 -- these nets have the values of what the stages ask of a memory, and the address reaches each of its words and no more
 pub record IsRequest (a c : Circuit) (p : Pipe) (es : List StageEnd) (m : ℕ) (x : RequestNets) : Type 0 where
-  pub enable_there : IsThere c x.enable
-  pub enable_one : (signal c x.enable).width ≡ 1
+  pub enable_bit : HasWidth c x.enable 1
   pub enable : signal c x.enable ≡ (request_of (ends_in a es) (moves_in a es) m (reading p m)).enable
   pub addr_there : IsThere c x.addr
   pub addr : (s : State) → (signal c x.addr).value s ≡ (request_of (ends_in a es) (moves_in a es) m (reading p m)).addr.value s

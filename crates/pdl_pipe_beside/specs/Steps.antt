@@ -5,7 +5,8 @@ use Rattle.pdl_semantics.specs.Stages.{stage_at, is_inside}
 use Rattle.pdl_net.specs.declared.Net.{Net}
 use Rattle.pdl_net.specs.Circuit.{Circuit}
 use Rattle.pdl_net.specs.Signal.{Signal, no_signal, mux_signal}
-use Rattle.pdl_net.specs.Meaning.{signal, IsThere}
+use Rattle.pdl_net.specs.Meaning.{signal}
+use Rattle.pdl_net.specs.HasWidth.{HasWidth}
 use Rattle.pdl_port.specs.declared.PortRegs.{PortRegs}
 use Rattle.pdl_port.specs.Laws.{HasBits, StepLaw, StepSignals, own, signal_at}
 use Rattle.pdl_port.specs.Places.{stands}
@@ -27,7 +28,7 @@ ask_or m moves q rest = if q.mem == m then mux_signal (both moves q.on) one rest
 
 -- a request's condition is there, with 1 bit
 abbrev pub IsAskNet : Circuit → AskNet → Type 0
-IsAskNet c q = IsThere c q.on × ((signal c q.on).width ≡ 1)
+IsAskNet c q = HasWidth c q.on 1
 
 -- these are the nets of n bits
 pub record AreNetsOf (c : Circuit) (nets : List Net) (n : ℕ) (f : ℕ → Signal) : Type 0 where

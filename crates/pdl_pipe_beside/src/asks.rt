@@ -2,7 +2,8 @@
 ghost use Rattle.std.specs.Prelude.{◌≡◌, ◌<◌, IfOk, map, length, slice_index_or};
 ghost use Rattle.pdl_form.specs.View.{next_view};
 ghost use Rattle.pdl_form_types.specs.Stmts.{IsFork};
-ghost use Rattle.pdl_net.specs.Meaning.{IsThere, Means, signal};
+ghost use Rattle.pdl_net.specs.Meaning.{Means, signal};
+ghost use Rattle.pdl_net.specs.HasWidth.{HasWidth};
 ghost use Rattle.pdl_net.specs.Growth.{Extends};
 ghost use Rattle.pdl_pipe_exprs.specs.Conditions.{AreBits};
 ghost use Rattle.pdl_pipe_exprs.specs.Nets.{signals_in, widths_of};
@@ -37,11 +38,9 @@ fn ask_or(
     rest: Net,
 ) -> Result<Net, NoMemory>
     requires bits { AreBits b.old bits }
-    requires moves { IsThere b.old moves }
-    requires moves_one { (signal b.old moves).width ≡ 1 }
+    requires moves { HasWidth b.old moves 1 }
     requires ask { IsAskNet b.old ask }
-    requires rest { IsThere b.old rest }
-    requires rest_one { (signal b.old rest).width ≡ 1 }
+    requires rest { HasWidth b.old rest 1 }
     ensures means { IfOk result (λ y.
         Means b.new y (ask_signal m (signal b.old moves) (ask_in b.old ask) (signal b.old rest))) }
     ensures one { IfOk result (λ y. (signal b.new y).width ≡ 1) }
@@ -65,8 +64,7 @@ pub(crate) fn asks_memory(
 ) -> Result<Net, NoMemory>
     requires bits { AreBits b.old bits }
     requires asks { Each (IsAskNet b.old) asks.now }
-    requires moves { IsThere b.old moves }
-    requires moves_one { (signal b.old moves).width ≡ 1 }
+    requires moves { HasWidth b.old moves 1 }
     ensures means { IfOk result (λ y.
         Means b.new y (memory_asked m (signal b.old moves) (map (ask_in b.old) asks.now))) }
     ensures one { IfOk result (λ y. (signal b.new y).width ≡ 1) }

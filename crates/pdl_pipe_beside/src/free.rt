@@ -3,7 +3,8 @@ ghost use Rattle.std.specs.Prelude.{◌≡◌, ◌<◌, ℕ, IfOk, length, slice
 ghost use Rattle.pdl_semantics.specs.Stages.{stage_at};
 ghost use Rattle.pdl_form.specs.FormView.{form};
 ghost use Rattle.pdl_form.specs.View.{next_view};
-ghost use Rattle.pdl_net.specs.Meaning.{IsThere, signal};
+ghost use Rattle.pdl_net.specs.Meaning.{signal};
+ghost use Rattle.pdl_net.specs.HasWidth.{HasWidth};
 ghost use Rattle.pdl_net.specs.Growth.{Extends};
 ghost use Rattle.pdl_port.specs.Laws.{HasBits, FreeLaw, net_at, signal_at, places as port_places};
 ghost use Rattle.pdl_port.specs.Places.{ArePlaced, stands};
@@ -59,8 +60,7 @@ pub fn port_free(
     requires to { (i : ℕ) → i < length (places_of (stage_at (form pipe.now).pipe stage).next) →
         slice_index (places_of (stage_at (form pipe.now).pipe stage).next) i < length moves.now }
     requires moves { HasBits b.old moves.now (length moves.now) }
-    ensures there { IfOk result (λ x. IsThere b.new x) }
-    ensures one { IfOk result (λ x. (signal b.new x).width ≡ 1) }
+    ensures bit { IfOk result (λ x. HasWidth b.new x 1) }
     ensures law { IfOk result (λ x.
         FreeLaw (stands port.now) (port_places port.now) (signal b.old port.now.reply)
         (λ i. signal_at b.old moves.now

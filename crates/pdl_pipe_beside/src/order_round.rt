@@ -6,7 +6,8 @@ ghost use Rattle.pdl_form.specs.FormView.{form};
 ghost use Rattle.pdl_form.specs.View.{stages_view};
 ghost use Rattle.pdl_form_types.specs.Stmts.{AreForks};
 ghost use Rattle.pdl_net.specs.Signal.{mux_signal};
-ghost use Rattle.pdl_net.specs.Meaning.{IsThere, Means, signal};
+ghost use Rattle.pdl_net.specs.Meaning.{Means, signal};
+ghost use Rattle.pdl_net.specs.HasWidth.{HasWidth};
 ghost use Rattle.pdl_net.specs.Growth.{Extends, ExtendsBut};
 ghost use Rattle.pdl_semantics.specs.Stages.{stage_at};
 ghost use Rattle.pdl_pipe_exprs.specs.Conditions.{AreBits};
@@ -71,10 +72,8 @@ fn by_variable(
     requires stage { k < length (form round.now.pipe.now).pipe.stages }
     requires var { x < length (form round.now.pipe.now).widths }
     requires wide { slice_index (form round.now.pipe.now).widths x ≡ 1 }
-    requires yes { IsThere b.old yes }
-    requires yes_one { (signal b.old yes).width ≡ 1 }
-    requires no { IsThere b.old no }
-    requires no_one { (signal b.old no).width ≡ 1 }
+    requires yes { HasWidth b.old yes 1 }
+    requires no { HasWidth b.old no 1 }
     ensures means { IfOk result (λ y.
         Means b.new y (mux_signal ((ends_in b.old round.now.ends.now k).ended.vars x)
         (signal b.old yes) (signal b.old no))) }
@@ -169,8 +168,7 @@ fn leave_or(
     requires forks { AreForks (form round.now.pipe.now).widths (form round.now.pipe.now).pipe.stages }
     requires ends { AreEnds b.old (form round.now.pipe.now) round.now.ends.now }
     requires stage { k < length (form round.now.pipe.now).pipe.stages }
-    requires rest { IsThere b.old rest }
-    requires rest_one { (signal b.old rest).width ≡ 1 }
+    requires rest { HasWidth b.old rest 1 }
     ensures means { IfOk result (λ y.
         Means b.new y (leave_signal (form round.now.pipe.now).pipe (ends_in b.old round.now.ends.now)
         (moves_in b.old round.now.ends.now) fork k (signal b.old rest))) }
@@ -245,8 +243,7 @@ fn enters(
     requires bits { AreBits b.old round.now.bits }
     requires ends { AreEnds b.old (form round.now.pipe.now) round.now.ends.now }
     requires stage { fork < length (form round.now.pipe.now).pipe.stages }
-    requires goes { IsThere b.old goes }
-    requires goes_one { (signal b.old goes).width ≡ 1 }
+    requires goes { HasWidth b.old goes 1 }
     ensures means { IfOk result (λ y.
         Means b.new y (both (moves_in b.old round.now.ends.now fork) (signal b.old goes))) }
     ensures one { IfOk result (λ y. (signal b.new y).width ≡ 1) }
@@ -266,8 +263,7 @@ fn order_ports(
     requires bits { AreBits b.old round.now.bits }
     requires forks { AreForks (form round.now.pipe.now).widths (form round.now.pipe.now).pipe.stages }
     requires ends { AreEnds b.old (form round.now.pipe.now) round.now.ends.now }
-    requires squash { IsThere b.old squash }
-    requires squash_one { (signal b.old squash).width ≡ 1 }
+    requires squash { HasWidth b.old squash 1 }
     requires stage { fork < length (form round.now.pipe.now).pipe.stages }
     ensures ports { IfOk result (λ x. HasPorts b.new x) }
     ensures same { IfOk result (λ x. step_signals b.new x
@@ -311,8 +307,7 @@ fn fork_step(
     requires bits { AreBits b.old round.now.bits }
     requires forks { AreForks (form round.now.pipe.now).widths (form round.now.pipe.now).pipe.stages }
     requires ends { AreEnds b.old (form round.now.pipe.now) round.now.ends.now }
-    requires squash { IsThere b.old squash }
-    requires squash_one { (signal b.old squash).width ≡ 1 }
+    requires squash { HasWidth b.old squash 1 }
     requires stage { fork < length (form round.now.pipe.now).pipe.stages }
     requires orders { StandOrders b.old (form round.now.pipe.now).pipe orders.now }
     ensures stepped { OnOk result (IsOrderStepped b.old b.new (form round.now.pipe.now).pipe
@@ -339,8 +334,7 @@ pub fn order_steps(
     requires bits { AreBits b.old round.now.bits }
     requires forks { AreForks (form round.now.pipe.now).widths (form round.now.pipe.now).pipe.stages }
     requires ends { AreEnds b.old (form round.now.pipe.now) round.now.ends.now }
-    requires squash { IsThere b.old squash }
-    requires squash_one { (signal b.old squash).width ≡ 1 }
+    requires squash { HasWidth b.old squash 1 }
     requires orders { StandOrders b.old (form round.now.pipe.now).pipe orders.now }
     ensures stepped { OnOk result ((f : ℕ) → f < length (form round.now.pipe.now).pipe.stages →
         IsOrderStepped b.old b.new (form round.now.pipe.now).pipe

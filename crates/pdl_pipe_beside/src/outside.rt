@@ -5,6 +5,7 @@ ghost use Rattle.pdl_form.specs.View.{mem_view};
 ghost use Rattle.pdl_form_types.specs.Stmts.{IsTypedMem, AreTypedMems};
 ghost use Rattle.pdl_net.specs.Signal.{const_signal};
 ghost use Rattle.pdl_net.specs.Meaning.{IsThere, Means, signal};
+ghost use Rattle.pdl_net.specs.HasWidth.{HasWidth};
 ghost use Rattle.pdl_net.specs.Growth.{Extends};
 ghost use Rattle.pdl_pipe_exprs.specs.Conditions.{AreBits};
 ghost use Rattle.pdl_law_sides.specs.Sides.{asks_memory as memory_asked};
@@ -53,8 +54,7 @@ fn address_or(
     rest: Net,
 ) -> Result<Net, NoMemory>
     requires bits { AreBits b.old bits }
-    requires moves { IsThere b.old moves }
-    requires moves_one { (signal b.old moves).width ≡ 1 }
+    requires moves { HasWidth b.old moves 1 }
     requires ask { IsAddressNet b.old m (signal b.old rest).width ask }
     requires rest { IsThere b.old rest }
     ensures means { IfOk result (λ y.
@@ -82,8 +82,7 @@ fn asked_address(
     requires low { 1 ≤ width }
     requires high { width ≤ 64 }
     requires asks { Each (IsAddressNet b.old m width) asks.now }
-    requires moves { IsThere b.old moves }
-    requires moves_one { (signal b.old moves).width ≡ 1 }
+    requires moves { HasWidth b.old moves 1 }
     ensures means { IfOk result (λ y.
         Means b.new y (address_from m (signal b.old moves) (const_signal width 0)
         (map (ask_in b.old) asks.now))) }
@@ -111,8 +110,7 @@ fn stage_request(
     requires low { 1 ≤ width }
     requires high { width ≤ 64 }
     requires asks { Each (IsAddressNet b.old m width) asks.now }
-    requires moves { IsThere b.old moves }
-    requires moves_one { (signal b.old moves).width ≡ 1 }
+    requires moves { HasWidth b.old moves 1 }
     ensures enable { IfOk result (λ x. Means b.new x.enable (memory_asked m (signal b.old moves)
         (map (ask_in b.old) asks.now))) }
     ensures addr { IfOk result (λ x. Means b.new x.addr (address_from m (signal b.old moves)

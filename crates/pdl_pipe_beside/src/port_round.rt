@@ -3,7 +3,8 @@ ghost use Rattle.std.specs.Prelude.{◌≡◌, ◌<◌, ℕ, Some, true, IfOk, O
 ghost use Rattle.pdl_form.specs.FormView.{form};
 ghost use Rattle.pdl_form.specs.View.{next_view};
 ghost use Rattle.pdl_form_types.specs.Stmts.{AreForks};
-ghost use Rattle.pdl_net.specs.Meaning.{IsThere, Means, signal};
+ghost use Rattle.pdl_net.specs.Meaning.{Means, signal};
+ghost use Rattle.pdl_net.specs.HasWidth.{HasWidth};
 ghost use Rattle.pdl_semantics.specs.Stages.{stage_at};
 ghost use Rattle.pdl_law_parts.specs.Walk.{both};
 ghost use Rattle.pdl_law_sides.specs.Sides.{asks_memory as memory_asked, goes_to_place as goes_to_signal, asked_into};
@@ -53,8 +54,7 @@ fn asks_into(
     requires forks { AreForks (form round.now.pipe.now).widths (form round.now.pipe.now).pipe.stages }
     requires ends { AreEnds b.old (form round.now.pipe.now) round.now.ends.now }
     requires stage { stage < length (form round.now.pipe.now).pipe.stages }
-    requires asks { IsThere b.old asks }
-    requires asks_one { (signal b.old asks).width ≡ 1 }
+    requires asks { HasWidth b.old asks 1 }
     ensures means { IfOk result (λ y.
         Means b.new y (both (signal b.old asks) (goes_to_signal
         (stage_at (form round.now.pipe.now).pipe stage).next i

@@ -78,7 +78,7 @@ module _ {T : Type 0} (l : Members T) (n : Nets T) (em : Emission l n) where
   -- and the squash and its tails are those of the gates
   pub are_gates : AreGatesOf em.h (line_pipe n.line) n.moves.squash n.tails.cut (gates_of l n em)
   are_gates = record {
-    squash = sym ((keeps_bh l n em).kept n.moves.squash em.moved.squash.0);
+    squash = sym ((keeps_bh l n em).kept n.moves.squash em.moved.squash.there);
     tail = λ m low. ap (λ (fs : List Signal). signal_at fs m) (sym (signals_keep em.f em.h n.tails.cut (keeps_fh l n em) em.row.there));
   }
 

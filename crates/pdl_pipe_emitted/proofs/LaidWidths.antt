@@ -19,5 +19,5 @@ module _ {T : Type 0} (l : Members T) (n : Nets T) (em : Emission l n) where
       valid_one k (let count = em.line.count in omega (arith, low, count)),
       bit_one em.c n.line.moves.now k (let count = em.line.count in let moves = em.line.moves_count in omega (arith, low, count, moves)) em.line.moves,
     );
-    squash = em.moved.squash.1;
+    squash = em.moved.squash.width;
   }

@@ -100,7 +100,7 @@ module _ {T : Type 0} (l : Members T) (n : Nets T) (em : Emission l n) (well : I
           let m = some_of n.line.moves.now k low in
           let bit = each_at (IsBit em.d) n.line.moves.now k m.0 low m.1 (line_keep em.c em.d n.line (keeps_cd l n em) em.line).moves in
           subst (λ (f : Signal). f.value s < 2) (at_signal em.d n.line.moves.now k m.0 low m.1)
-          (below_two s (signal em.d m.0) bit.1 (bounded em.d s well suits m.0 bit.0))
+          (below_two s (signal em.d m.0) bit.width (bounded em.d s well suits m.0 bit.there))
       at (inr high) =
           let count = length_signals em.d n.line.moves.now in
           subst (λ (f : Signal). f.value s < 2) (sym (get_or_past (signals_in em.d n.line.moves.now) k no_signal (omega (arith, count, high)))) (omega arith)

@@ -98,7 +98,7 @@ module _ {T : Type 0} (l : Members T) (n : Nets T) (em : Emission l n) where
       × TicketLaw (of_lock (λ x. l.stands x.lock x.regs) (λ s y. Unit {0}) o) (of_lock (λ x. l.tickets x.lock) 1 o)
       (of_lock (λ x. signal em.a x.regs.ticket) zero_bit o)
   ticket_law m None at low e = absurd (false≢true e)
-  ticket_law m (Some x) at low e = ((em.layout.locked.locks m x low at).ticket_wide, (em.layout.lawful.laws m x low at).ticket)
+  ticket_law m (Some x) at low e = ((em.layout.locked.locks m x low at).ticket.width, (em.layout.lawful.laws m x low at).ticket)
 
   next_of : (m : ℕ) → is_locked p m ≡ true → IsNextOf em.e n.line ls m
   next_of m locked =

@@ -91,5 +91,5 @@ module _ {T : Type 0} (l : Members T) (n : Nets T) (em : Emission l n) where
     ends = λ k low. ended_is y keeps k low;
     move = λ k low. move_is y keeps k low;
     kills = λ k low. kill_is y keeps k low;
-    squashes = sym ((keeps_trans em.b em.c y (keeps_bc l n em) keeps).kept n.moves.squash em.moved.squash.0);
+    squashes = sym ((keeps_trans em.b em.c y (keeps_bc l n em) keeps).kept n.moves.squash em.moved.squash.there);
   }

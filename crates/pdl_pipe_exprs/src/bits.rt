@@ -1,7 +1,8 @@
 // Nets that never change, and what they decide.
 ghost use Rattle.std.specs.Prelude.{◌≡◌, IsTrue, IfOk};
 ghost use Rattle.pdl_net.specs.Signal.{mux_signal};
-ghost use Rattle.pdl_net.specs.Meaning.{IsThere, Means, signal};
+ghost use Rattle.pdl_net.specs.Meaning.{Means, signal};
+ghost use Rattle.pdl_net.specs.HasWidth.{HasWidth};
 ghost use Rattle.pdl_net.specs.Growth.{Extends};
 ghost use Rattle.pdl_pipe_exprs.specs.Conditions.{both, AreBits};
 
@@ -43,10 +44,8 @@ impl Bits {
     /// A net that is 1 where both of two nets of 1 bit are.
     pub fn both(self, b: &mut Builder, x: Net, y: Net) -> Result<Net, NoMemory>
         requires bits { AreBits b.old self }
-        requires x_there { IsThere b.old x }
-        requires x_one { (signal b.old x).width ≡ 1 }
-        requires y_there { IsThere b.old y }
-        requires y_one { (signal b.old y).width ≡ 1 }
+        requires x { HasWidth b.old x 1 }
+        requires y { HasWidth b.old y 1 }
         ensures means { IfOk result (λ z. Means b.new z (both (signal b.old x) (signal b.old y))) }
         ensures extends { Extends b.old b.new }
         ensures regs { b.new.regs ≡ b.old.regs }

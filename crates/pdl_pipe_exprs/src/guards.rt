@@ -2,6 +2,7 @@
 ghost use Rattle.std.specs.Prelude.{◌≡◌, ◌<◌, ℕ, IfOk, length, get_or};
 ghost use Rattle.pdl_form.specs.View.{guard_view, guards_view};
 ghost use Rattle.pdl_net.specs.Meaning.{IsThere, Means, signal};
+ghost use Rattle.pdl_net.specs.HasWidth.{HasWidth};
 ghost use Rattle.pdl_net.specs.Growth.{Extends};
 ghost use Rattle.pdl_pipe_exprs.specs.Nets.{NetsThere, signals_in, signal_at, widths_of};
 ghost use Rattle.pdl_pipe_exprs.specs.Conditions.{both, literal as literal_signal, taken_signal, AreBits};
@@ -35,8 +36,7 @@ fn and_taken(
 ) -> Result<Net, NoMemory>
     requires bits { AreBits b.old bits }
     requires there { NetsThere b.old vars.now }
-    requires on { IsThere b.old on }
-    requires on_one { (signal b.old on).width ≡ 1 }
+    requires on { HasWidth b.old on 1 }
     requires low { g.now.var < length vars.now }
     requires one { (signal_at (signals_in b.old vars.now) g.now.var).width ≡ 1 }
     ensures means { IfOk result (λ y.

@@ -34,17 +34,17 @@ reserves_given : (c : Circuit) (p : Pipe) (rs : List ReserveNet)
     → Each (λ (r : ReserveNet). IsThere c r.on × IsThere c r.addr) rs
     → Each (IsSizedReserve p) (map (reservation_in c) rs) → Each (IsGivenReserve c) rs
 reserves_given c p [] t s = tt
-reserves_given c p (r ∷ rs) t s = (record { on = t.0.0; one = s.0.1; addr = t.0.1 }, reserves_given c p rs t.1 s.1)
+reserves_given c p (r ∷ rs) t s = (record { on = record { there = t.0.0; width = s.0.1 }; addr = t.0.1 }, reserves_given c p rs t.1 s.1)
 
 puts_given : (c : Circuit) (p : Pipe) (xs : List PutNet) → Each (λ (x : PutNet). IsThere c x.on × IsThere c x.value) xs
     → Each (IsSizedPut p) (map (put_in c) xs) → Each (IsGivenPut c) xs
 puts_given c p [] t s = tt
-puts_given c p (x ∷ xs) t s = (record { on = t.0.0; one = s.0.1; value = t.0.1 }, puts_given c p xs t.1 s.1)
+puts_given c p (x ∷ xs) t s = (record { on = record { there = t.0.0; width = s.0.1 }; value = t.0.1 }, puts_given c p xs t.1 s.1)
 
 lettings_given : (c : Circuit) (xs : List LettingNet) → Each (λ (x : LettingNet). IsThere c x.on) xs
     → Each (λ (x : Letting). x.on.width ≡ 1) (map (letting_in c) xs) → Each (IsGivenLetting c) xs
 lettings_given c [] t s = tt
-lettings_given c (x ∷ xs) t s = (record { on = t.0; one = s.0 }, lettings_given c xs t.1 s.1)
+lettings_given c (x ∷ xs) t s = (record { on = record { there = t.0; width = s.0 } }, lettings_given c xs t.1 s.1)
 
 -- ---- their widths
 
@@ -96,7 +96,6 @@ module _ {T : Type 0} (l : Members T) (c : Circuit) (p : Pipe) (ws : List ℕ) (
   pub given_of : (m : ℕ) (d : StageDeeds) → m < length xs → IsDeed l c p ws xs d → IsGiven c m d
   given_of m d low h = record {
     moves = h.moves;
-    one = h.one;
     reserves = reserves_given c p d.ended.now.reserves h.walk.there.reserves h.walk.sized.reserves;
     puts = puts_given c p d.ended.now.puts h.walk.there.puts h.walk.sized.puts;
     lettings = lettings_given c d.ended.now.lettings h.walk.there.lettings h.walk.sized.lettings;
@@ -141,6 +140,6 @@ module _ {T : Type 0} (l : Members T) (c : Circuit) (p : Pipe) (ws : List ℕ) (
         (views_put m x (moves_in c ds j) ds low e h)));
     release = released_one m (views_in c ds) (moves_in c ds) (length ds) 0;
     release2 = refl;
-    squash = s.one;
+    squash = s.squash.width;
     tail = s.tails.wide m x low e;
   }

@@ -74,9 +74,9 @@ module _ {T : Type 0} (l : Members T) (stays : Stays l) (p : Pipe) (xs : List (O
       let bits : l.tickets x.lock ≡ ls.bits m = ap (of_lock (λ (y : MemLock T). l.tickets y.lock) 1) (sym e) in
       let kind : l.kind x.lock ≡ ls.kind m = ap (kind_in l) (sym e) in
       let room : signal c x.regs.room ≡ ls.room m =
-      whole.kept x.regs.room (locked.locks m x low e).room_there ∙ ap (of_lock (λ (y : MemLock T). signal a y.regs.room) zero_bit) (sym e) in
+      whole.kept x.regs.room (locked.locks m x low e).room.there ∙ ap (of_lock (λ (y : MemLock T). signal a y.regs.room) zero_bit) (sym e) in
       let ticket : signal c x.regs.ticket ≡ ls.ticket m =
-      whole.kept x.regs.ticket (locked.locks m x low e).ticket_there ∙ ap (of_lock (λ (y : MemLock T). signal a y.regs.ticket) zero_bit) (sym e) in
+      whole.kept x.regs.ticket (locked.locks m x low e).ticket.there ∙ ap (of_lock (λ (y : MemLock T). signal a y.regs.ticket) zero_bit) (sym e) in
       let commit : commit_of c (Some n) ≡ commits_in c ns m = ap (commit_of c) (sym q) in
       let f = steps_in s p ds squash tails m in
       let same : f ≡ step_of p vs gates goes m = step_is s p ds squash tails vs gates goes m count low of beside in
@@ -160,9 +160,9 @@ module _ {T : Type 0} (l : Members T) (stays : Stays l) (p : Pipe) (xs : List (O
   fits_of x n e q =
       let it = (stepped.each m low).lock x n e q in
       let P : Commit → Type 0 = λ y. (y.enable.width ≡ 1) × (2 ^ y.addr.width ≡ (mem_at p m).depth) × (y.value.width ≡ (mem_at p m).width) in
-      let one = ap (λ (f : Signal). f.width) (after.kept n.commit it.commit_there) ∙ it.commit_one in
+      let one = ap (λ (f : Signal). f.width) (after.kept n.commit it.commit.there) ∙ it.commit.width in
       let reach = ap (λ (f : Signal). 2 ^ f.width) (after.kept n.addr it.addr_there) ∙ it.addr_reach in
-      let wide = ap (λ (f : Signal). f.width) (after.kept n.value it.value_there) ∙ it.value_wide in
+      let wide = ap (λ (f : Signal). f.width) (after.kept n.value it.value.there) ∙ it.value.width in
       let here : P (commit_of c (Some n)) = (one, reach, wide) in
       subst P (ap (commit_of c) (sym q)) here
 
@@ -180,7 +180,7 @@ module _ {T : Type 0} (l : Members T) (stays : Stays l) (p : Pipe) (xs : List (O
   commit_word h =
       let (x, e) = some_of (some_at xs m) (locked.locked m low ∙ h) in
       let (n, q) = some_of (some_at ns m) ((stepped.each m low).has ∙ locked.locked m low ∙ h) in
-      (n.value, after.there n.value ((stepped.each m low).lock x n e q).value_there, ap (λ (o : Option LockNets). (commit_of c o).value) (sym q))
+      (n.value, after.there n.value ((stepped.each m low).lock x n e q).value.there, ap (λ (o : Option LockNets). (commit_of c o).value) (sym q))
 
 -- ---- what the steps leave as it was
 

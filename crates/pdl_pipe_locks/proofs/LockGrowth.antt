@@ -9,6 +9,7 @@ use Rattle.pdl_net.specs.Circuit.{Circuit, State, HasReg}
 use Rattle.pdl_net.specs.Signal.{Signal, no_signal}
 use Rattle.pdl_net.specs.Meaning.{signal, IsThere}
 use Rattle.pdl_net.specs.Growth.{Keeps}
+use Rattle.pdl_net.proofs.KeptWidths.{width_keeps}
 use Rattle.pdl_lockapi.specs.declared.LockRegs.{LockRegs}
 use Rattle.pdl_lockapi.specs.Lock.{LockState}
 use Rattle.pdl_lockapi.specs.Laws.{first_reg, end_reg, RoomLaw, TicketLaw, StepSignals}
@@ -39,10 +40,8 @@ pub lock_kept : {T : Type 0} (l : Members T) (a b : Circuit) (place : ℕ) (mem 
     → Stays l → IsLockIn l a place mem x → IsLockIn l b place mem x
 lock_kept l a b place mem x k stays i = record {
   is_placed = stays x.lock a b x.regs k i.is_placed;
-  room_there = k.there x.regs.room i.room_there;
-  room_one = ap (λ (f : Signal). f.width) (k.kept x.regs.room i.room_there) ∙ i.room_one;
-  ticket_there = k.there x.regs.ticket i.ticket_there;
-  ticket_wide = ap (λ (f : Signal). f.width) (k.kept x.regs.ticket i.ticket_there) ∙ i.ticket_wide;
+  room = width_keeps a b x.regs.room 1 k i.room;
+  ticket = width_keeps a b x.regs.ticket (l.tickets x.lock) k i.ticket;
   wide = i.wide;
   bits = i.bits;
   array = i.array;
@@ -92,7 +91,7 @@ pub laws_kept : {T : Type 0} (l : Members T) (a b : Circuit) (p : Pipe) (xs : Li
 laws_kept l a b p xs k h x = record {
   laws =
       λ m y low e. lawful_kept (l.stands y.lock y.regs) (l.kind y.lock) (l.size y.lock)
-      (l.tickets y.lock) a b y.regs k (h.locks m y low e).room_there (h.locks m y low e).ticket_there (x.laws m y low e);
+      (l.tickets y.lock) a b y.regs k (h.locks m y low e).room.there (h.locks m y low e).ticket.there (x.laws m y low e);
   kinds = x.kinds;
   deep = λ m y low once e. k.depth (comb_place p m) (h.has_array m low once) ∙ x.deep m y low once e;
   apart = x.apart;
@@ -111,8 +110,7 @@ tickets_kept l a b xs ts k h = record {
 deed_kept : {T : Type 0} (l : Members T) (a b : Circuit) (p : Pipe) (ws : List ℕ) (xs : List (Option (MemLock T))) (d : StageDeeds)
     → Keeps a b → IsDeed l a p ws xs d → IsDeed l b p ws xs d
 deed_kept l a b p ws xs d k h = record {
-  moves = k.there d.moves h.moves;
-  one = ap (λ (f : Signal). f.width) (k.kept d.moves h.moves) ∙ h.one;
+  moves = width_keeps a b d.moves 1 k h.moves;
   walk = walk_keep a b k p ws d.ended.now h.walk;
   tickets = tickets_kept l a b xs d.tickets.now k h.tickets;
 }
@@ -146,14 +144,13 @@ move_in c d = signal c d.moves
 moves_kept : {T : Type 0} (l : Members T) (a b : Circuit) (p : Pipe) (ws : List ℕ) (xs : List (Option (MemLock T))) (ds : List StageDeeds)
     → Keeps a b → Each (IsDeed l a p ws xs) ds → map (move_in b) ds ≡ map (move_in a) ds
 moves_kept l a b p ws xs [] k h = refl
-moves_kept l a b p ws xs (d ∷ ds) k h = ap₂ (λ (f : Signal) (fs : List Signal). f ∷ fs) (k.kept d.moves h.0.moves) (moves_kept l a b p ws xs ds k h.1)
+moves_kept l a b p ws xs (d ∷ ds) k h = ap₂ (λ (f : Signal) (fs : List Signal). f ∷ fs) (k.kept d.moves h.0.moves.there) (moves_kept l a b p ws xs ds k h.1)
 
 -- the nets of a squash
 pub squash_kept : {T : Type 0} (l : Members T) (a b : Circuit) (xs : List (Option (MemLock T))) (x : Net) (ts : List Net)
     → Keeps a b → AreSquashNets l a xs x ts → AreSquashNets l b xs x ts
 squash_kept l a b xs x ts k h = record {
-  there = k.there x h.there;
-  one = ap (λ (f : Signal). f.width) (k.kept x h.there) ∙ h.one;
+  squash = width_keeps a b x 1 k h.squash;
   tails = tickets_kept l a b xs ts k h.tails;
 }
 
@@ -178,7 +175,7 @@ step_same l a b p ws xs ds x ts m k d s =
     let vs = views_kept l a b p ws xs ds k d.each in
     let fs = moves_kept l a b p ws xs ds k d.each in
     ap₂ (λ us gs. step_by n m us gs (signal b x) (signals_in b ts)) vs fs
-    ∙ ap₂ (step_by n m (map (view_in a) ds) (map (move_in a) ds)) (k.kept x s.there) (signals_keep a b ts k s.tails.there)
+    ∙ ap₂ (step_by n m (map (view_in a) ds) (map (move_in a) ds)) (k.kept x s.squash.there) (signals_keep a b ts k s.tails.there)
 
 -- and those of a lock's ports
 pub signals_are : {T : Type 0} (l : Members T) (c : Circuit) (p : Pipe) (ws : List ℕ) (xs : List (Option (MemLock T)))

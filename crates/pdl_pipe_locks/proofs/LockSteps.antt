@@ -10,6 +10,7 @@ use Rattle.pdl_net.specs.Signal.{Signal}
 use Rattle.pdl_net.specs.Meaning.{signal, write_signals}
 use Rattle.pdl_net.specs.Growth.{Own, Outside, Keeps, ExtendsBut}
 use Rattle.pdl_net.proofs.Keeps.{but_keeps, keeps_refl, keeps_trans}
+use Rattle.pdl_net.proofs.KeptWidths.{width_keeps}
 use Rattle.pdl_lockapi.specs.declared.LockNets.{LockNets}
 use Rattle.pdl_lockapi.specs.Lock.{LockState}
 use Rattle.pdl_lockapi.specs.Laws.{first_reg, end_reg, own, OwnKept, HasCommitNets, HidesLaw, StepLaw, StepSignals}
@@ -32,12 +33,10 @@ pub is_stepped : {T : Type 0} (l : Members T) (a c : Circuit) (place : ℕ) (mem
 is_stepped l a c place mem f x n i h law hides = record {
   law = law;
   hides = hides;
-  commit_there = h.commit_there;
-  commit_one = h.commit_one;
+  commit = record { there = h.commit_there; width = h.commit_one };
   addr_there = h.addr_there;
   addr_reach = ap (λ k. 2 ^ k) h.addr_width ∙ i.bits;
-  value_there = h.value_there;
-  value_wide = h.value_width ∙ i.wide;
+  value = record { there = h.value_there; width = h.value_width ∙ i.wide };
 }
 
 -- the step of a memory that has a lock is that of the lock
@@ -82,20 +81,18 @@ law_kept stands size tickets o a b f commit addr value commit' addr' value' k e 
 pub stepped_kept : {T : Type 0} (l : Members T) (a b : Circuit) (mem : Mem) (f : StepSignals) (y : MemLock T) (n : LockNets)
     → Keeps a b → OwnKept (own y.regs) a b → IsStepped l a mem f y n → IsStepped l b mem f y n
 stepped_kept l a b mem f y n k w x =
-    let e = k.kept n.commit x.commit_there in
+    let e = k.kept n.commit x.commit.there in
     let g = k.kept n.addr x.addr_there in
-    let h = k.kept n.value x.value_there in
+    let h = k.kept n.value x.value.there in
     record {
       law =
           law_kept (l.stands y.lock y.regs) (l.size y.lock) (l.tickets y.lock) (own y.regs) a b f (signal a n.commit)
           (signal a n.addr) (signal a n.value) (signal b n.commit) (signal b n.addr) (signal b n.value) w e g h x.law;
       hides = hides_kept (l.kind y.lock) (own y.regs) a b f w x.hides;
-      commit_there = k.there n.commit x.commit_there;
-      commit_one = ap (λ (q : Signal). q.width) e ∙ x.commit_one;
+      commit = width_keeps a b n.commit 1 k x.commit;
       addr_there = k.there n.addr x.addr_there;
       addr_reach = ap (λ (q : Signal). 2 ^ q.width) g ∙ x.addr_reach;
-      value_there = k.there n.value x.value_there;
-      value_wide = ap (λ (q : Signal). q.width) h ∙ x.value_wide;
+      value = width_keeps a b n.value mem.width k x.value;
     }
 
 -- ---- all locks

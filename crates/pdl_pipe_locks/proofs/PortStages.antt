@@ -6,6 +6,7 @@ use Rattle.pdl_net.specs.Circuit.{Circuit}
 use Rattle.pdl_net.specs.Signal.{Signal, no_signal}
 use Rattle.pdl_net.specs.Meaning.{signal, IsThere}
 use Rattle.pdl_net.specs.Growth.{Keeps}
+use Rattle.pdl_net.proofs.KeptWidths.{width_keeps}
 use Rattle.pdl_lockapi.specs.declared.ReservePort.{ReservePort}
 use Rattle.pdl_lockapi.specs.declared.TicketWrite.{TicketWrite}
 use Rattle.pdl_lockapi.specs.Laws.{ReserveSignal, TicketSignal}
@@ -43,8 +44,7 @@ moves_is c ds k d l e = get_or-map (λ (x : StageDeeds). signal c x.moves) ds k 
 -- what a stage brings for a memory's lock stays there
 pub given_kept : (a b : Circuit) (k : Keeps a b) (m : ℕ) (d : StageDeeds) → IsGiven a m d → IsGiven b m d
 given_kept a b k m d g = record {
-  moves = k.there d.moves g.moves;
-  one = ap (λ (f : Signal). f.width) (k.kept d.moves g.moves) ∙ g.one;
+  moves = width_keeps a b d.moves 1 k g.moves;
   reserves = given_reserves a b k d.ended.now.reserves g.reserves;
   puts = given_puts a b k d.ended.now.puts g.puts;
   lettings = given_lettings a b k d.ended.now.lettings g.lettings;
@@ -76,7 +76,7 @@ reserves_more a b c m ds i d ps qs k l e g h x =
     let low : j < n = omega (arith, l) in
     let given = each_at (IsGiven a m) ds j d low e g in
     let front = all_reserves m (views_in a ds) (moves_in a ds) i (n - i) in
-    let moves : signal b d.moves ≡ moves_in a ds j = k.kept d.moves given.moves ∙ sym (moves_is a ds j d low e) in
+    let moves : signal b d.moves ≡ moves_in a ds j = k.kept d.moves given.moves.there ∙ sym (moves_is a ds j d low e) in
     let reserves : map (reservation_in b) d.ended.now.reserves ≡ (views_in a ds j).ended.reserves =
     reservations_same a b k d.ended.now.reserves given.reserves ∙ sym (ap (λ (v : View). v.ended.reserves) (view_is a ds j d low e)) in
     record {
@@ -109,7 +109,7 @@ writes_more a b c m ds i d t ps qs k l e u g h x =
     let low : j < n = omega (arith, l) in
     let given = each_at (IsGiven a m) ds j d low e g in
     let view = view_is a ds j d low e in
-    let moves : signal b d.moves ≡ moves_in a ds j = k.kept d.moves given.moves ∙ sym (moves_is a ds j d low e) in
+    let moves : signal b d.moves ≡ moves_in a ds j = k.kept d.moves given.moves.there ∙ sym (moves_is a ds j d low e) in
     let ticket : signal b t ≡ (views_in a ds j).tickets m =
     k.kept t (ticket_there a m d t u given) ∙ ap (signal a) u ∙ signal_of a d.tickets.now m t given.low ∙ sym (ap (λ (v : View). v.tickets m) view) in
     let puts : map (put_in b) d.ended.now.puts ≡ (views_in a ds j).ended.puts =
@@ -165,7 +165,7 @@ module _ (a b : Circuit) (k : Keeps a b) (m : ℕ) where
   -- whether the thread of stage j moves is told by the same signal
   pub kept_moves : (ds : List StageDeeds) (j : ℕ) → Each (IsGiven a m) ds → moves_in b ds j ≡ moves_in a ds j
   kept_moves [] j g = refl
-  kept_moves (d ∷ ds) zero g = k.kept d.moves g.0.moves
+  kept_moves (d ∷ ds) zero g = k.kept d.moves g.0.moves.there
   kept_moves (d ∷ ds) (suc j) g = kept_moves ds j g.1
 
   kept_tickets : (ds : List StageDeeds) (j : ℕ) → Each (IsGiven a m) ds → (views_in b ds j).tickets m ≡ (views_in a ds j).tickets m

@@ -79,7 +79,7 @@ lets_more a b c m f g xs i x net y rest k l e given q h z =
     let one_more : release_moves m f (letting_in a x ∷ map (letting_in a) (drop (j + 1) xs)) rest ≡ release_moves m f (map (letting_in a) (drop j xs)) rest =
     ap (λ (w : LettingNet). release_moves m f (letting_in a w ∷ map (letting_in a) (drop (j + 1) xs)) rest) e
     ∙ sym (ap (λ (ys : List LettingNet). release_moves m f (map (letting_in a) ys) rest) (drop_more xs j x low)) in
-    let letting : letting_in b x ≡ letting_in a x = ap (λ (u : Signal). record { mem = x.mem; on = u }) (k.kept x.on it.on) in
+    let letting : letting_in b x ≡ letting_in a x = ap (λ (u : Signal). record { mem = x.mem; on = u }) (k.kept x.on it.on.there) in
     let after : signal b net ≡ back = h.same ∙ ap (λ i. release_moves m f (map (letting_in a) (drop i xs)) rest) before in
     let F = λ (u : Signal) (w : Letting) (v : Signal). release_moves m u (w ∷ []) v in
     let same : F g (letting_in b x) (signal b net) ≡ F f (letting_in a x) back = cc (q, letting, after) in
@@ -109,7 +109,7 @@ released_more a b c m ds i d net y k l e g h z =
     let j = n - 1 - i in
     let low : j < n = omega (arith, l) in
     let given = each_at (IsGiven a m) ds j d low e g in
-    let moves : signal b d.moves ≡ moves_in a ds j = k.kept d.moves given.moves ∙ sym (moves_is a ds j d low e) in
+    let moves : signal b d.moves ≡ moves_in a ds j = k.kept d.moves given.moves.there ∙ sym (moves_is a ds j d low e) in
     let lettings : map (letting_in b) d.ended.now.lettings ≡ (views_in a ds j).ended.lettings =
     lettings_same a b k d.ended.now.lettings given.lettings ∙ sym (ap (λ (v : View). v.ended.lettings) (view_is a ds j d low e)) in
     let F = λ (u : Signal) (ws : List Letting) (v : Signal). release_moves m u ws v in

@@ -4,7 +4,8 @@ use Rattle.pdl_semantics.specs.Flat.{Pipe}
 use Rattle.pdl_net.specs.declared.Net.{Net}
 use Rattle.pdl_net.specs.Circuit.{Circuit}
 use Rattle.pdl_net.specs.Signal.{Signal, no_signal}
-use Rattle.pdl_net.specs.Meaning.{signal, IsThere}
+use Rattle.pdl_net.specs.Meaning.{signal}
+use Rattle.pdl_net.specs.HasWidth.{HasWidth}
 use Rattle.pdl_lockapi.specs.Laws.{StepSignals}
 use Rattle.pdl_pipe_exprs.specs.Nets.{signal_at}
 use Rattle.pdl_law_parts.specs.Walk.{Walk, one, zero_bit}
@@ -60,8 +61,7 @@ steps_in c p ds squash tails = step_of p (views_in c ds) (gates_in c squash tail
 
 -- these nets are there, with 1 bit and with the bits of the locks' tickets
 pub record AreSquashNets {T : Type 0} (l : Members T) (c : Circuit) (xs : List (Option (MemLock T))) (x : Net) (ts : List Net) : Type 0 where
-  pub there : IsThere c x
-  pub one : (signal c x).width ≡ 1
+  pub squash : HasWidth c x 1
   pub tails : AreTickets l c xs ts
 
 -- they are those of what stands beside the stages of a netlist
@@ -71,8 +71,7 @@ pub record AreGatesOf (c : Circuit) (p : Pipe) (x : Net) (ts : List Net) (gates 
 
 -- a stage's nets are there, with their widths
 pub record IsDeed {T : Type 0} (l : Members T) (c : Circuit) (p : Pipe) (ws : List ℕ) (xs : List (Option (MemLock T))) (d : StageDeeds) : Type 0 where
-  pub moves : IsThere c d.moves
-  pub one : (signal c d.moves).width ≡ 1
+  pub moves : HasWidth c d.moves 1
   pub walk : IsWalk c p ws d.ended.now
   pub tickets : AreTickets l c xs d.tickets.now
 

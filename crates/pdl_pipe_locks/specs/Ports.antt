@@ -2,7 +2,8 @@
 use Rattle.std.specs.Prelude.{◌≡◌, ℕ, ◌<◌, List, ◌++◌, map, length}
 use Rattle.pdl_net.specs.Circuit.{Circuit}
 use Rattle.pdl_net.specs.Signal.{Signal}
-use Rattle.pdl_net.specs.Meaning.{signal, IsThere, Means}
+use Rattle.pdl_net.specs.Meaning.{IsThere, Means}
+use Rattle.pdl_net.specs.HasWidth.{HasWidth}
 use Rattle.pdl_lockapi.specs.declared.Kind.TheVariants.{W}
 use Rattle.pdl_lockapi.specs.declared.ReservePort.{ReservePort}
 use Rattle.pdl_lockapi.specs.declared.TicketWrite.{TicketWrite}
@@ -22,25 +23,21 @@ use Rattle.pdl_word.specs.Each.{Each}
 
 -- a reservation that a stage makes: its nets are there, and its condition has 1 bit
 pub record IsGivenReserve (c : Circuit) (r : ReserveNet) : Type 0 where
-  pub on : IsThere c r.on
-  pub one : (signal c r.on).width ≡ 1
+  pub on : HasWidth c r.on 1
   pub addr : IsThere c r.addr
 
 -- a write that a stage makes: its nets are there, and its condition has 1 bit
 pub record IsGivenPut (c : Circuit) (x : PutNet) : Type 0 where
-  pub on : IsThere c x.on
-  pub one : (signal c x.on).width ≡ 1
+  pub on : HasWidth c x.on 1
   pub value : IsThere c x.value
 
 -- a release that a stage makes: its condition is there, with 1 bit
 pub record IsGivenLetting (c : Circuit) (x : LettingNet) : Type 0 where
-  pub on : IsThere c x.on
-  pub one : (signal c x.on).width ≡ 1
+  pub on : HasWidth c x.on 1
 
 -- its nets are there, conditions with 1 bit, and it has a ticket of memory m
 pub record IsGiven (c : Circuit) (m : ℕ) (d : StageDeeds) : Type 0 where
-  pub moves : IsThere c d.moves
-  pub one : (signal c d.moves).width ≡ 1
+  pub moves : HasWidth c d.moves 1
   pub reserves : Each (IsGivenReserve c) d.ended.now.reserves
   pub puts : Each (IsGivenPut c) d.ended.now.puts
   pub lettings : Each (IsGivenLetting c) d.ended.now.lettings

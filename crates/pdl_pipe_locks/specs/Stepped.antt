@@ -4,6 +4,7 @@ use Rattle.pdl_semantics.specs.Flat.{Mem, Pipe}
 use Rattle.pdl_semantics.specs.Stages.{mem_at}
 use Rattle.pdl_net.specs.Circuit.{Circuit, HasReg, HasArray, shapes_of}
 use Rattle.pdl_net.specs.Meaning.{IsThere, signal, next_signal, write_signals}
+use Rattle.pdl_net.specs.HasWidth.{HasWidth}
 use Rattle.pdl_net.specs.Growth.{Own, Outside, Keeps}
 use Rattle.pdl_lockapi.specs.declared.LockNets.{LockNets}
 use Rattle.pdl_lockapi.specs.Laws.{own, HidesLaw, StepLaw, StepSignals}
@@ -16,12 +17,10 @@ use Rattle.pdl_pipe_walk.specs.Locked.{Members, some_at}
 pub record IsStepped {T : Type 0} (l : Members T) (c : Circuit) (mem : Mem) (f : StepSignals) (x : MemLock T) (n : LockNets) : Type 0 where
   pub law : StepLaw (l.stands x.lock x.regs) (l.size x.lock) (l.tickets x.lock) (own x.regs) c f (signal c n.commit) (signal c n.addr) (signal c n.value)
   pub hides : HidesLaw (l.kind x.lock) c (own x.regs) f
-  pub commit_there : IsThere c n.commit
-  pub commit_one : (signal c n.commit).width ≡ 1
+  pub commit : HasWidth c n.commit 1
   pub addr_there : IsThere c n.addr
   pub addr_reach : 2 ^ (signal c n.addr).width ≡ mem.depth
-  pub value_there : IsThere c n.value
-  pub value_wide : (signal c n.value).width ≡ mem.width
+  pub value : HasWidth c n.value mem.width
 
 -- one memory: it has commit nets where it has a lock
 pub record IsSteppedMemory {T : Type 0} (l : Members T) (c : Circuit) (mem : Mem) (f : StepSignals)

@@ -1,6 +1,7 @@
 // The ports of a memory's lock: what the stages reserve, write and release, the last stage first.
 ghost use Rattle.std.specs.Prelude.{◌≡◌, ◌<◌, ◌∷◌, [], IfOk, OnOk, map, length, slice_index_or};
 ghost use Rattle.pdl_net.specs.Meaning.{IsThere, Means, signal};
+ghost use Rattle.pdl_net.specs.HasWidth.{HasWidth};
 ghost use Rattle.pdl_net.specs.Growth.{Extends};
 ghost use Rattle.pdl_pipe_exprs.specs.Conditions.{AreBits};
 ghost use Rattle.pdl_law_parts.specs.Ports.{reserves_to, all_reserves, puts_to, all_puts, release_moves, release_signal};
@@ -54,8 +55,7 @@ fn push_reserve(
     requires bits { AreBits b.old bits }
     requires ports { Each (IsThereReserve b.old) ports.old }
     requires given { IsGivenReserve b.old r.now }
-    requires moves { IsThere b.old moves }
-    requires one { (signal b.old moves).width ≡ 1 }
+    requires moves { HasWidth b.old moves 1 }
     ensures adds { OnOk result (AddsReserves b.old b.new ports.old ports.new
         (reserves_to m (signal b.old moves) (reservation_in b.old r.now ∷ []))) }
     ensures extends { Extends b.old b.new }
@@ -84,8 +84,7 @@ fn push_reserves(
     requires bits { AreBits b.old bits }
     requires ports { Each (IsThereReserve b.old) ports.old }
     requires given { Each (IsGivenReserve b.old) reserves.now }
-    requires moves { IsThere b.old moves }
-    requires one { (signal b.old moves).width ≡ 1 }
+    requires moves { HasWidth b.old moves 1 }
     ensures adds { OnOk result (AddsReserves b.old b.new ports.old ports.new
         (reserves_to m (signal b.old moves) (map (reservation_in b.old) reserves.now))) }
     ensures extends { Extends b.old b.new }
@@ -140,8 +139,7 @@ fn push_write(
     requires bits { AreBits b.old bits }
     requires ports { Each (IsThereWrite b.old) ports.old }
     requires given { IsGivenPut b.old x.now }
-    requires moves { IsThere b.old moves }
-    requires one { (signal b.old moves).width ≡ 1 }
+    requires moves { HasWidth b.old moves 1 }
     requires ticket { IsThere b.old ticket }
     ensures adds { OnOk result (AddsWrites b.old b.new ports.old ports.new
         (puts_to m (signal b.old moves) (signal b.old ticket) (put_in b.old x.now ∷ []))) }
@@ -172,8 +170,7 @@ fn push_writes(
     requires bits { AreBits b.old bits }
     requires ports { Each (IsThereWrite b.old) ports.old }
     requires given { Each (IsGivenPut b.old) puts.now }
-    requires moves { IsThere b.old moves }
-    requires one { (signal b.old moves).width ≡ 1 }
+    requires moves { HasWidth b.old moves 1 }
     requires ticket { IsThere b.old ticket }
     ensures adds { OnOk result (AddsWrites b.old b.new ports.old ports.new
         (puts_to m (signal b.old moves) (signal b.old ticket) (map (put_in b.old) puts.now))) }
@@ -229,10 +226,8 @@ fn release_or(
 ) -> Result<Net, NoMemory>
     requires bits { AreBits b.old bits }
     requires given { IsGivenLetting b.old x.now }
-    requires moves { IsThere b.old moves }
-    requires one { (signal b.old moves).width ≡ 1 }
-    requires rest { IsThere b.old rest }
-    requires rest_one { (signal b.old rest).width ≡ 1 }
+    requires moves { HasWidth b.old moves 1 }
+    requires rest { HasWidth b.old rest 1 }
     ensures means { IfOk result (λ y.
         Means b.new y (release_moves m (signal b.old moves) (letting_in b.old x.now ∷ [])
         (signal b.old rest))) }
@@ -256,10 +251,8 @@ fn releases_or(
 ) -> Result<Net, NoMemory>
     requires bits { AreBits b.old bits }
     requires given { Each (IsGivenLetting b.old) lettings.now }
-    requires moves { IsThere b.old moves }
-    requires one { (signal b.old moves).width ≡ 1 }
-    requires rest { IsThere b.old rest }
-    requires rest_one { (signal b.old rest).width ≡ 1 }
+    requires moves { HasWidth b.old moves 1 }
+    requires rest { HasWidth b.old rest 1 }
     ensures means { IfOk result (λ y.
         Means b.new y (release_moves m (signal b.old moves) (map (letting_in b.old) lettings.now)
         (signal b.old rest))) }

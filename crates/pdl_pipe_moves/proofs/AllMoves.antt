@@ -15,6 +15,7 @@ use Rattle.pdl_net.specs.Signal.{Signal, mux_signal}
 use Rattle.pdl_net.specs.Meaning.{signal, IsThere}
 use Rattle.pdl_net.specs.Growth.{Keeps}
 use Rattle.pdl_net.proofs.Keeps.{keeps_trans}
+use Rattle.pdl_net.proofs.KeptWidths.{width_meant}
 use Rattle.pdl_squash.specs.Laws.{net_at, Drives, SquashLaw, AreBits as AreSquashBits, signal_at as squash_net}
 use Rattle.pdl_order.specs.declared.OrderRegs.{OrderRegs}
 use Rattle.pdl_port.specs.Laws.{AnswerSignals}
@@ -191,7 +192,7 @@ filled_bits c z (x ∷ xs) b h = (subst (IsBit c) (sym h.0) b, filled_bits c z x
 
 -- the net that is always 0 has 1 bit
 pub zero_bits : (c : Circuit) (y : Bits) → AreBits c y → IsBit c y.zero
-zero_bits c y h = (h.zero.there, ap (λ (f : Signal). f.width) h.zero.same)
+zero_bits c y h = width_meant c y.zero _ 1 h.zero refl
 
 -- nets of 1 bit that were filled up by a net of 1 bit are nets of 1 bit
 pub padded_bits : (c : Circuit) (nets : List Net) (fill : Net) (n m : ℕ) (xs : List Net) → AreSquashBits c nets m
@@ -199,7 +200,8 @@ pub padded_bits : (c : Circuit) (nets : List Net) (fill : Net) (n m : ℕ) (xs :
 padded_bits c nets fill n m xs bits none h = each_by (IsBit c) xs (Input 0) (λ i l. at i (let e = h.count_is in omega (arith, l, e)) (cases_lt i (length nets)))
   where
     at : (i : ℕ) → i < n → (i < length nets) ⊎ (length nets ≤ i) → IsBit c (net_at xs i)
-    at i l (inl q) = let e = bits.count in subst (IsBit c) (sym (h.front i q l)) (bits.there i (omega (arith, q, e)), bits.one i (omega (arith, q, e)))
+    at i l (inl q) = let e = bits.count in
+        subst (IsBit c) (sym (h.front i q l)) (record { there = bits.there i (omega (arith, q, e)); width = bits.one i (omega (arith, q, e)) })
     at i l (inr q) = subst (IsBit c) (sym (h.rest i q l)) none
 
 -- what was kept, and what fills up

@@ -9,7 +9,7 @@ use Rattle.pdl_semantics.specs.Stages.{stage_at}
 use Rattle.pdl_net.specs.declared.Net.{Net}
 use Rattle.pdl_net.specs.Circuit.{Circuit}
 use Rattle.pdl_net.specs.Signal.{Signal}
-use Rattle.pdl_net.specs.Meaning.{signal, IsThere}
+use Rattle.pdl_net.specs.Meaning.{signal}
 use Rattle.pdl_net.specs.Growth.{Keeps}
 use Rattle.pdl_port.specs.declared.PortRegs.{PortRegs}
 use Rattle.pdl_port.specs.Laws as port_laws
@@ -53,14 +53,13 @@ module _ (a b : Circuit) (e : Keeps a b) (x : StageLine) (line : IsLineIn a x) (
     (stand : StandPorts a (line_pipe x) x.shared.now.ports.now) (k : ℕ) (low : k < length (line_pipe x).stages) where
   -- a net that keeps the law of a free port, by the moves of the stage's places, tells whether the port is free for stage k
   pub made_free : (m : ℕ) (port : PortRegs) (net : Net) → some_at x.shared.now.ports.now m ≡ Some port
-      → port_laws.places port ≡ length (places_of (stage_at (line_pipe x) k).next) → IsThere b net
-      → (signal b net).width ≡ 1
+      → port_laws.places port ≡ length (places_of (stage_at (line_pipe x) k).next) → IsBit b net
       → FreeLaw (stands port) (port_laws.places port) (signal a port.reply)
       (λ i. port_laws.signal_at a x.moves.now (slice_index (places_of (stage_at (line_pipe x) k).next) i))
       (signal b net)
       → HasFree b x k m net
-  made_free m port net some count there one law = record {
-    bit = (there, one);
+  made_free m port net some count bit law = record {
+    bit = bit;
     free = λ r q is at found.
         let same : (Some port) ≡ (Some q) = sym some ∙ found in
         let y : port ≡ q = cc same in
@@ -103,7 +102,7 @@ module _ (a b : Circuit) (e : Keeps a b) (x : StageLine) (line : IsLineIn a x) (
     where
       keeps : (xs : List Net) → Each (IsBit a) xs → signals_in b xs ≡ signals_in a xs
       keeps [] t = refl
-      keeps (y ∷ ys) t = ap₂ (λ f fs. f ∷ fs) (e.kept y t.0.0) (keeps ys t.1)
+      keeps (y ∷ ys) t = ap₂ (λ f fs. f ∷ fs) (e.kept y t.0.there) (keeps ys t.1)
 
 -- one memory more
 pub free_more : (c : Circuit) (x : StageLine) (k : ℕ) (nets : List Net) (n : ℕ) (net : Net) → HaveFree c x k nets n

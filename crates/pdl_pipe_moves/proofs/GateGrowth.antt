@@ -40,5 +40,5 @@ module _ (a b : Circuit) (e : Keeps a b) (x : StageLine) (y : Controls) (line : 
       ∙ gate_parts (line_pipe x)
       (line_views a x k) k frees _ _ _ _ _ _ _ _
       (answered_same a b e (line_pipe x) x.shared.now.ports.now k (length (line_pipe x).mems) 0 line.shared.ports)
-      (e.kept y.squash h.squash.0) (clear_same k)
+      (e.kept y.squash h.squash.there) (clear_same k)
       (turns_way a b e (line_pipe x) y.orders.now k (line_views a x k).ended inside low h.turns)

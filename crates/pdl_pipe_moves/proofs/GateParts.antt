@@ -10,6 +10,7 @@ use Rattle.pdl_net.specs.Circuit.{Circuit}
 use Rattle.pdl_net.specs.Signal.{Signal, mux_signal}
 use Rattle.pdl_net.specs.Meaning.{signal, IsThere}
 use Rattle.pdl_net.specs.Growth.{Keeps}
+use Rattle.pdl_net.proofs.KeptWidths.{width_keeps}
 use Rattle.pdl_order.specs.declared.OrderRegs.{OrderRegs}
 use Rattle.pdl_port.specs.declared.PortRegs.{PortRegs}
 use Rattle.pdl_law_parts.specs.Walk.{Walk, both, is_on}
@@ -29,11 +30,11 @@ use Rattle.pdl_pipe_moves.proofs.TurnGrowth.{turn_same}
 
 -- a net that is 1 where a signal is has 1 bit
 pub bit_of : (c : Circuit) (x : Net) (f : Signal) → IsBitFor c x f → IsBit c x
-bit_of c x f h = (h.there, h.one)
+bit_of c x f h = h.bit
 
 -- a net of 1 bit is one as well in a circuit that keeps what stands in its own
 pub bit_keep : (a b : Circuit) (x : Net) → Keeps a b → IsBit a x → IsBit b x
-bit_keep a b x e h = (e.there x h.0, ap (λ (f : Signal). f.width) (e.kept x h.0) ∙ h.1)
+bit_keep a b x e h = width_keeps a b x 1 e h
 
 -- nets of 1 bit are such as well in a circuit that keeps what stands in theirs
 pub bits_keep : (a b : Circuit) (xs : List Net) → Keeps a b → Each (IsBit a) xs → Each (IsBit b) xs
@@ -43,18 +44,16 @@ bits_keep a b (x ∷ xs) e h = (bit_keep a b x e h.0, bits_keep a b xs e h.1)
 both_for : (a b c : Circuit) (x y z : Net) (f g : Signal) → Keeps a b → IsBitFor a x f → IsBitFor b y g
     → IsBitFor c z (both (signal b x) (signal b y)) → IsBitFor c z (both f g)
 both_for a b c x y z f g e h k r = record {
-  there = r.there;
-  one = r.one;
-  on = λ s. r.on s ∙ both_as (signal b x) (signal b y) f g (λ t. ap (λ (i : Signal). is_on i t) (e.kept x h.there) ∙ h.on t) k.on s;
+  bit = r.bit;
+  on = λ s. r.on s ∙ both_as (signal b x) (signal b y) f g (λ t. ap (λ (i : Signal). is_on i t) (e.kept x h.bit.there) ∙ h.on t) k.on s;
 }
 
 -- and of which the first is
 pub both_after : (a b c : Circuit) (x y z : Net) (f g : Signal) → Keeps a b → IsBitFor b x f → IsBitFor a y g
     → IsBitFor c z (both (signal b x) (signal b y)) → IsBitFor c z (both f g)
 both_after a b c x y z f g e h k r = record {
-  there = r.there;
-  one = r.one;
-  on = λ s. r.on s ∙ both_as (signal b x) (signal b y) f g h.on (λ t. ap (λ (i : Signal). is_on i t) (e.kept y k.there) ∙ k.on t) s;
+  bit = r.bit;
+  on = λ s. r.on s ∙ both_as (signal b x) (signal b y) f g h.on (λ t. ap (λ (i : Signal). is_on i t) (e.kept y k.bit.there) ∙ k.on t) s;
 }
 
 -- ---- while the circuit grows
@@ -92,4 +91,5 @@ pub are_asked : (c : Circuit) (p : Pipe) (frees : List Net) (qs : List AskNet)
     → length frees ≡ length p.mems → Each (λ (x : AskNet). IsThere c x.on × IsThere c x.addr) qs
     → Each (IsSizedAsk p) (map (ask_in c) qs) → Each (IsAsked c frees) qs
 are_asked c p frees [] e h s = tt
-are_asked c p frees (q ∷ qs) e h s = (record { on = (h.0.0, s.0.1); mem = (let l = s.0.0 in omega (arith, l, e)) }, are_asked c p frees qs e h.1 s.1)
+are_asked c p frees (q ∷ qs) e h s =
+    (record { on = record { there = h.0.0; width = s.0.1 }; mem = (let l = s.0.0 in omega (arith, l, e)) }, are_asked c p frees qs e h.1 s.1)

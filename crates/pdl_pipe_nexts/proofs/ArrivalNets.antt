@@ -9,6 +9,7 @@ use Rattle.pdl_net.specs.declared.Net.{Net}
 use Rattle.pdl_net.specs.Circuit.{Circuit, State}
 use Rattle.pdl_net.specs.Signal.{Signal}
 use Rattle.pdl_net.specs.Growth.{Keeps}
+use Rattle.pdl_net.proofs.KeptWidths.{width_keeps}
 use Rattle.pdl_law_parts.specs.Walk.{Walk, one, zero_bit, both, is_on}
 use Rattle.pdl_law_parts.specs.Views.{View, out_of, branch}
 use Rattle.pdl_law_parts.proofs.Signals.{mux_by, one_is, zero_is}
@@ -66,9 +67,8 @@ module _ (p : Pipe) (vs : ℕ → View) (moves : ℕ → Signal) (q j : ℕ) whe
 comes_keep : (a c : Circuit) (p : Pipe) (vs : ℕ → View) (moves : ℕ → Signal) (q j : ℕ) (x : Net) → Keeps a c
     → Comes a p vs moves q j x → Comes c p vs moves q j x
 comes_keep a c p vs moves q j x e h = record {
-  there = e.there x h.there;
-  one = ap (λ (f : Signal). f.width) (e.kept x h.there) ∙ h.one;
-  on = λ s. ap (λ (f : Signal). is_on f s) (e.kept x h.there) ∙ h.on s;
+  bit = width_keeps a c x 1 e h.bit;
+  on = λ s. ap (λ (f : Signal). is_on f s) (e.kept x h.bit.there) ∙ h.on s;
 }
 
 -- threads that may come into a stage stay so in a circuit that keeps their nets
@@ -94,7 +94,6 @@ arrivals_push c p vs moves q (i ∷ is) (y ∷ ys) j x h new = (h.0, arrivals_pu
 pub comes_as : (c : Circuit) (p : Pipe) (vs us : ℕ → View) (f g : ℕ → Signal) (q j : ℕ) (x : Net)
     → (vs j).ended ≡ (us j).ended → f j ≡ g j → Comes c p vs f q j x → Comes c p us g q j x
 comes_as c p vs us f g q j x v m h = record {
-  there = h.there;
-  one = h.one;
+  bit = h.bit;
   on = λ s. h.on s ∙ ap₂ (λ (w : Walk) (t : Signal). is_on (both t (branch (stage_at p j).next q w)) s) v m;
 }

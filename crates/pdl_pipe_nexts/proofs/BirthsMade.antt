@@ -10,6 +10,7 @@ use Rattle.pdl_net.specs.Signal.{Signal, mux_signal}
 use Rattle.pdl_net.specs.Meaning.{signal, IsThere, Means}
 use Rattle.pdl_net.specs.Growth.{Keeps, Extends}
 use Rattle.pdl_net.proofs.Keeps.{extends_keeps}
+use Rattle.pdl_net.proofs.KeptWidths.{width_keeps}
 use Rattle.pdl_pipe_exprs.specs.Nets.{NetsThere, signals_in, widths_of}
 use Rattle.pdl_pipe_exprs.proofs.NetLists.{there_keeps, signals_keep}
 use Rattle.pdl_law_parts.specs.Walk.{Birth, both}
@@ -34,8 +35,7 @@ brings_is p (Some (Guess k)) moves b h = absurd h
 -- the nets of a call stay in a circuit that keeps what stands in theirs
 pub birth_keep : (a b : Circuit) (f : Form) (x : BirthNet) → Keeps a b → IsBirth a f x → IsBirth b f x
 birth_keep a b f x e h = record {
-  on = e.there x.on h.on;
-  on_one = ap (λ (g : Signal). g.width) (e.kept x.on h.on) ∙ h.on_one;
+  on = width_keeps a b x.on 1 e h.on;
   args = there_keeps a b x.args e h.args;
   wide = ap widths_of (signals_keep a b x.args e h.args) ∙ h.wide;
 }
@@ -104,4 +104,4 @@ pub births_of : (c : Circuit) (f : Form) (xs : List BirthNet)
     → Each (λ (x : BirthNet). IsThere c x.on × NetsThere c x.args) xs
     → Each (IsSizedBirth f.pipe f.widths) (map (birth_in c) xs) → Each (IsBirth c f) xs
 births_of c f [] h k = tt
-births_of c f (x ∷ xs) h k = (record { on = h.0.0; on_one = k.0.0; args = h.0.1; wide = k.0.1 }, births_of c f xs h.1 k.1)
+births_of c f (x ∷ xs) h k = (record { on = record { there = h.0.0; width = k.0.0 }; args = h.0.1; wide = k.0.1 }, births_of c f xs h.1 k.1)

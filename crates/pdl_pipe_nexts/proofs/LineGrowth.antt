@@ -7,6 +7,7 @@ use Rattle.pdl_net.specs.declared.Net.{Net}
 use Rattle.pdl_net.specs.Circuit.{Circuit}
 use Rattle.pdl_net.specs.Signal.{Signal, mux_signal, reg_signal}
 use Rattle.pdl_net.specs.Growth.{Keeps}
+use Rattle.pdl_net.proofs.KeptWidths.{width_keeps}
 use Rattle.pdl_pipe_exprs.specs.Nets.{NetsThere, signals_in, signal_at}
 use Rattle.pdl_pipe_exprs.proofs.NetLists.{signals_keep}
 use Rattle.pdl_law_parts.specs.Walk.{zero_bit}
@@ -32,17 +33,17 @@ use Rattle.pdl_word.specs.Each.{Each}
 -- nets of 1 bit each are there
 pub bits_there : (c : Circuit) (xs : List Net) → Each (IsBit c) xs → NetsThere c xs
 bits_there c [] h = tt
-bits_there c (x ∷ xs) h = (h.0.0, bits_there c xs h.1)
+bits_there c (x ∷ xs) h = (h.0.there, bits_there c xs h.1)
 
 -- the k-th of some nets of 1 bit has 1 bit
 pub bit_one : (c : Circuit) (xs : List Net) (k : ℕ) → k < length xs → Each (IsBit c) xs → (signal_at (signals_in c xs) k).width ≡ 1
 bit_one c [] k l h = absurd (omega (arith, l))
-bit_one c (x ∷ xs) zero l h = h.0.1
+bit_one c (x ∷ xs) zero l h = h.0.width
 bit_one c (x ∷ xs) (suc k) l h = bit_one c xs k (omega (arith, l)) h.1
 
 bits_keep : (a b : Circuit) (e : Keeps a b) (xs : List Net) → Each (IsBit a) xs → Each (IsBit b) xs
 bits_keep a b e [] h = tt
-bits_keep a b e (x ∷ xs) h = ((e.there x h.0.0, ap (λ (f : Signal). f.width) (e.kept x h.0.0) ∙ h.0.1), bits_keep a b e xs h.1)
+bits_keep a b e (x ∷ xs) h = (width_keeps a b x 1 e h.0, bits_keep a b e xs h.1)
 
 -- ---- stages
 

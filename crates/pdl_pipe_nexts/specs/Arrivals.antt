@@ -4,15 +4,15 @@ use Rattle.pdl_semantics.specs.Flat.{Pipe}
 use Rattle.pdl_net.specs.declared.Net.{Net}
 use Rattle.pdl_net.specs.Circuit.{Circuit, State}
 use Rattle.pdl_net.specs.Signal.{Signal}
-use Rattle.pdl_net.specs.Meaning.{signal, IsThere}
+use Rattle.pdl_net.specs.Meaning.{signal}
+use Rattle.pdl_net.specs.HasWidth.{HasWidth}
 use Rattle.pdl_law_parts.specs.Walk.{is_on}
 use Rattle.pdl_law_parts.specs.Views.{View, out_of}
 use Rattle.pdl_pipe_nexts.specs.declared.arrivals.Arrival.{Arrival}
 
 -- a net tells whether the thread of stage j moves into stage q
 pub record Comes (c : Circuit) (p : Pipe) (vs : ℕ → View) (moves : ℕ → Signal) (q j : ℕ) (x : Net) : Type 0 where
-  pub there : IsThere c x
-  pub one : (signal c x).width ≡ 1
+  pub bit : HasWidth c x 1
   pub on : (s : State) → is_on (signal c x) s ≡ is_on (out_of p vs moves q j).comes s
 
 -- a thread that may come out of stage j

@@ -5,7 +5,7 @@ use Rattle.pdl_form.specs.Form.{Form}
 use Rattle.pdl_form_types.specs.Stmts.{param_widths}
 use Rattle.pdl_net.specs.Circuit.{Circuit}
 use Rattle.pdl_net.specs.Signal.{Signal, no_signal}
-use Rattle.pdl_net.specs.Meaning.{signal, IsThere}
+use Rattle.pdl_net.specs.HasWidth.{HasWidth}
 use Rattle.pdl_pipe_exprs.specs.Nets.{NetsThere, signals_in, signal_at, widths_of}
 use Rattle.pdl_law_parts.specs.Walk.{one}
 use Rattle.pdl_law_parts.specs.Views.{View, Comer, new_from}
@@ -63,8 +63,7 @@ IsArgument p (Some i) = IsArgumentItem p i
 
 -- a call's nets are there: its condition, and an argument for each parameter
 pub record IsBirth (c : Circuit) (f : Form) (b : BirthNet) : Type 0 where
-  pub on : IsThere c b.on
-  pub on_one : (signal c b.on).width ≡ 1
+  pub on : HasWidth c b.on 1
   pub args : NetsThere c b.args
   pub wide : widths_of (signals_in c b.args) ≡ param_widths f
 

@@ -8,7 +8,7 @@ use Rattle.pdl_form_types.specs.Stmts.{AreForks}
 use Rattle.pdl_net.specs.declared.Net.{Net}
 use Rattle.pdl_net.specs.Circuit.{Circuit, State}
 use Rattle.pdl_net.specs.Signal.{Signal}
-use Rattle.pdl_net.specs.Meaning.{signal, IsThere}
+use Rattle.pdl_net.specs.HasWidth.{HasWidth}
 use Rattle.pdl_pipe_exprs.specs.Nets.{signals_in, signal_at}
 use Rattle.pdl_law_parts.specs.Walk.{one, zero_bit}
 use Rattle.pdl_law_parts.specs.Views.{View}
@@ -28,7 +28,7 @@ ValueAs f g = (s : State) → f.value s ≡ g.value s
 
 -- a net is there, with 1 bit
 abbrev pub IsBit : Circuit → Net → Type 0
-IsBit c x = IsThere c x × ((signal c x).width ≡ 1)
+IsBit c x = HasWidth c x 1
 
 -- the form of its pipe, the views of its stages, and the nets of its moves and removals
 abbrev pub line_form : StageLine → Form

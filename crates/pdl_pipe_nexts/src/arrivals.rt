@@ -2,7 +2,8 @@
 ghost use Rattle.std.specs.Prelude.{◌≡◌, ◌<◌, ◌≤◌, IfOk, OnOk, length};
 ghost use Rattle.pdl_machine_facts.specs.Slots.{ways};
 ghost use Rattle.pdl_net.specs.Signal.{mux_signal};
-ghost use Rattle.pdl_net.specs.Meaning.{IsThere, Means, signal};
+ghost use Rattle.pdl_net.specs.Meaning.{Means, signal};
+ghost use Rattle.pdl_net.specs.HasWidth.{HasWidth};
 ghost use Rattle.pdl_net.specs.Growth.{Extends};
 ghost use Rattle.pdl_pipe_exprs.specs.Conditions.{AreBits};
 ghost use Rattle.pdl_pipe_nexts.specs.Lines.{bit_signal, line_pipe, line_views, line_moves, IsLineIn};
@@ -38,8 +39,7 @@ fn bit(b: &Builder, bits: Bits, on: bool) -> Net
 // Whether the thread of a stage that forks goes to stage q, by the net of its condition.
 fn way(b: &mut Builder, bits: Bits, choice: Net, first: bool, second: bool) -> Result<Net, NoMemory>
     requires bits { AreBits b.old bits }
-    requires there { IsThere b.old choice }
-    requires one { (signal b.old choice).width ≡ 1 }
+    requires choice { HasWidth b.old choice 1 }
     ensures means { IfOk result (λ y.
         Means b.new y (mux_signal (signal b.old choice) (bit_signal first) (bit_signal second))) }
     ensures one { IfOk result (λ y. (signal b.new y).width ≡ 1) }

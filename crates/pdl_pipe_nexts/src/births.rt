@@ -1,6 +1,7 @@
 // What the calls of all stages bring into the first one.
 ghost use Rattle.std.specs.Prelude.{◌≡◌, ◌<◌, ◌≤◌, [], IfOk, length, map};
-ghost use Rattle.pdl_net.specs.Meaning.{IsThere, Means, signal};
+ghost use Rattle.pdl_net.specs.Meaning.{Means, signal};
+ghost use Rattle.pdl_net.specs.HasWidth.{HasWidth};
 ghost use Rattle.pdl_net.specs.Growth.{Extends};
 ghost use Rattle.pdl_pipe_exprs.specs.Nets.{signals_in};
 ghost use Rattle.pdl_pipe_exprs.specs.Conditions.{AreBits};
@@ -52,10 +53,8 @@ fn picked_of(
     requires births { Each (IsBirth b.old (form pipe.now)) births.now }
     requires what { IsArgument (form pipe.now).pipe what }
     requires params { length (form pipe.now).pipe.start ≤ length (form pipe.now).widths }
-    requires moves { IsThere b.old moves }
-    requires moves_one { (signal b.old moves).width ≡ 1 }
-    requires rest { IsThere b.old rest }
-    requires wide { (signal b.old rest).width ≡ brought_width (form pipe.now) [] what }
+    requires moves { HasWidth b.old moves 1 }
+    requires rest { HasWidth b.old rest (brought_width (form pipe.now) [] what) }
     ensures means { IfOk result (λ x.
         Means b.new x (first_coming (brought_signal what)
         (map (new_by (signal b.old moves)) (map (birth_in b.old) births.now))
@@ -83,8 +82,7 @@ pub(crate) fn new_coming(
 ) -> Result<Net, NoMemory>
     requires line { IsLineIn b.old line.now }
     requires what { IsArgument (line_pipe line.now) what }
-    requires rest { IsThere b.old rest }
-    requires wide { (signal b.old rest).width ≡ brought_width (line_form line.now) [] what }
+    requires rest { HasWidth b.old rest (brought_width (line_form line.now) [] what) }
     ensures means { IfOk result (λ x. Means b.new x (first_coming (brought_signal what)
         (new_in b.old line.now) (signal b.old rest))) }
     ensures wide { IfOk result (λ x. (signal b.new x).width ≡ (signal b.old rest).width) }

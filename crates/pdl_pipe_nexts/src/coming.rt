@@ -1,7 +1,8 @@
 // What the threads that come into a stage bring.
 ghost use Rattle.std.specs.Prelude.{◌≡◌, ◌<◌, IfOk, length, slice_index_or};
 ghost use Rattle.pdl_machine_facts.specs.Slots.{ways};
-ghost use Rattle.pdl_net.specs.Meaning.{IsThere, Means, signal};
+ghost use Rattle.pdl_net.specs.Meaning.{Means, signal};
+ghost use Rattle.pdl_net.specs.HasWidth.{HasWidth};
 ghost use Rattle.pdl_net.specs.Growth.{Extends};
 ghost use Rattle.pdl_pipe_exprs.specs.Nets.{signals_in};
 ghost use Rattle.pdl_law_parts.specs.Views.{comers, first_coming};
@@ -55,14 +56,12 @@ pub(crate) fn coming(
     requires low { q < length (line_pipe line.now).stages }
     requires what { IsBrought (line_form line.now) what }
     requires new { q ≡ 0 → IsArgument (line_pipe line.now) what }
-    requires rest { IsThere b.old rest }
-    requires wide { (signal b.old rest).width
-        ≡ brought_width (line_form line.now) (signals_in b.old line.now.shared.now.next) what }
-    ensures there { IfOk result (λ x. IsThere b.new x) }
+    requires rest { HasWidth b.old rest
+        (brought_width (line_form line.now) (signals_in b.old line.now.shared.now.next) what) }
     ensures value { IfOk result (λ x. ValueAs (signal b.new x) (first_coming (brought_signal what)
         (comers (line_pipe line.now) (line_views b.old line.now) (line_moves b.old line.now) q)
         (signal b.old rest))) }
-    ensures wide { IfOk result (λ x. (signal b.new x).width ≡ (signal b.old rest).width) }
+    ensures wide { IfOk result (λ x. HasWidth b.new x (signal b.old rest).width) }
     ensures extends { Extends b.old b.new }
     ensures regs { b.new.regs ≡ b.old.regs }
 {

@@ -31,7 +31,7 @@ are_asked a c p es rs h = record {
   where
     at : (m : ℕ) (o : Option RequestNets) → ((x : RequestNets) → o ≡ Some x → IsRequest a c p es m x) → IsThereRequest c o
     at m None f = tt
-    at m (Some x) f = let r = f x refl in (r.enable_there, r.addr_there)
+    at m (Some x) f = let r = f x refl in (r.enable_bit.there, r.addr_there)
 
 -- ports that were made of what comes from the memories that are read take it as the law says
 module _ (a c : Circuit) (p : Pipe) (ins xs : List (Option PortInput)) (qs : List (Option PortRegs)) (low high : ℕ)

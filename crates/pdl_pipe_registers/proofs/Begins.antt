@@ -124,7 +124,7 @@ settled_as p us vs (suc k) i g same h = record {
 pub may_as : (c : Circuit) (r t : StageRegs) (i : Item) (w v : ℕ) (net : Net) (S Settled : Signal → Type 0)
     → ((g : Signal) → S g → Settled g) → MayAdd c r t i w v net S → MayAdd c r t i w v net Settled
 may_as c r t i w v net S Settled k (inl m) = inl record { regs = m.regs; net_is = m.net_is; register = m.register }
-may_as c r t i w v net S Settled k (inr m) = inr record { regs = m.regs; there = m.there; wide = m.wide; settled = k (signal c net) m.settled }
+may_as c r t i w v net S Settled k (inr m) = inr record { regs = m.regs; wide = m.wide; settled = k (signal c net) m.settled }
 
 -- an item begins with a register or none, with a weaker demand on its signal where it has none
 pub begin_as : (c : Circuit) (f : Form) (nexts : List Signal) (k : ℕ) (needed : Bool) (r t : StageRegs) (i : Item)

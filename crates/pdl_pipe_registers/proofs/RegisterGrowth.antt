@@ -155,10 +155,10 @@ module _ (f : Form) (nexts : List Signal) where
 pub may_there : (c : Circuit) (r t : StageRegs) (i : Item) (w v : ℕ) (net : Net) (S : Signal → Type 0)
     → MayAdd c r t i w v net S → IsThere c net
 may_there c r t i w v net S (inl m) = subst (IsThere c) (sym m.net_is) m.register.there
-may_there c r t i w v net S (inr m) = m.there
+may_there c r t i w v net S (inr m) = m.wide.there
 
 -- the net of an item has its width, whether a register was added for it or not
 pub may_wide : (c : Circuit) (r t : StageRegs) (i : Item) (w v : ℕ) (net : Net) (S : Signal → Type 0)
     → MayAdd c r t i w v net S → (signal c net).width ≡ w
 may_wide c r t i w v net S (inl m) = ap (λ (x : Net). (signal c x).width) m.net_is ∙ ap (λ (g : Signal). g.width) m.register.same
-may_wide c r t i w v net S (inr m) = m.wide
+may_wide c r t i w v net S (inr m) = m.wide.width

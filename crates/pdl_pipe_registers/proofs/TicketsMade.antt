@@ -31,7 +31,7 @@ module _ {T : Type 0} (l : Members T) (b : Circuit) (p : Pipe) (none : Net) (zer
 
   -- the nets of the locks' next tickets are there
   pub next_there : (xs : List (Option (MemLock T))) → AreLocked l b p xs → NetsThere b (map (ticket_net none) xs)
-  next_there xs h = there_from xs (λ m x q e. (h.locks m x (let n = h.count in omega (arith, q, n)) e).ticket_there)
+  next_there xs h = there_from xs (λ m x q e. (h.locks m x (let n = h.count in omega (arith, q, n)) e).ticket.there)
 
   -- the nets mean the locks' next tickets, and 0 where a memory has no lock
   pub next_are : (xs : List (Option (MemLock T))) → signals_in b (map (ticket_net none) xs) ≡ next_signals b xs
@@ -52,7 +52,7 @@ tickets_fit l a b p xs ts h there wide = record {
       ∙ width_at (next_signals a xs) m
       ∙ ap (λ (f : Signal). f.width)
       (get_or-map (of_lock (λ y. signal a y.regs.ticket) zero_bit) xs m None no_signal low ∙ ap (of_lock (λ y. signal a y.regs.ticket) zero_bit) e)
-      ∙ (h.locks m x (let n = h.count in omega (arith, low, n)) e).ticket_wide;
+      ∙ (h.locks m x (let n = h.count in omega (arith, low, n)) e).ticket.width;
 }
 
 -- they stay while the circuit grows
@@ -67,7 +67,7 @@ module _ {T : Type 0} (l : Members T) (a b : Circuit) (e : Keeps a b) where
 
   -- the next tickets of the locks are the same signals
   pub next_same : (p : Pipe) (xs : List (Option (MemLock T))) → AreLocked l a p xs → next_signals b xs ≡ next_signals a xs
-  next_same p xs h = same_from xs (λ m x q s. (h.locks m x (let n = h.count in omega (arith, q, n)) s).ticket_there)
+  next_same p xs h = same_from xs (λ m x q s. (h.locks m x (let n = h.count in omega (arith, q, n)) s).ticket.there)
 
 -- the next ticket of a lock is that of the locks
 pub next_at : {T : Type 0} (l : Members T) (a : Circuit) (p : Pipe) (xs : List (Option (MemLock T)))

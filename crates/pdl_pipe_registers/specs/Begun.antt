@@ -9,6 +9,7 @@ use Rattle.pdl_net.specs.declared.Net.TheVariants.{Reg as RegNet}
 use Rattle.pdl_net.specs.Circuit.{Circuit}
 use Rattle.pdl_net.specs.Signal.{Signal}
 use Rattle.pdl_net.specs.Meaning.{signal, IsThere}
+use Rattle.pdl_net.specs.HasWidth.{HasWidth}
 use Rattle.pdl_pipe_exprs.specs.Nets.{NetsThere, signals_in, signal_at, widths_of}
 use Rattle.pdl_pipe_exprs.specs.declared.bits.Bits.{Bits}
 use Rattle.pdl_pipe_exprs.specs.Conditions.{AreBits}
@@ -105,8 +106,7 @@ pub record Adds (c : Circuit) (r r' : StageRegs) (i : Item) (w v : ℕ) (net : N
 -- none, and the signal is so
 pub record Leaves (c : Circuit) (r r' : StageRegs) (w : ℕ) (net : Net) (Settled : Signal → Type 0) : Type 0 where
   pub regs : r' ≡ r
-  pub there : IsThere c net
-  pub wide : (signal c net).width ≡ w
+  pub wide : HasWidth c net w
   pub settled : Settled (signal c net)
 
 -- a register was added, or none and the signal is so

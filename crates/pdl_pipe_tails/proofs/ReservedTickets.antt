@@ -13,6 +13,7 @@ use Rattle.pdl_net.specs.Circuit.{Circuit, State}
 use Rattle.pdl_net.specs.Signal.{Signal, const_signal, bin_signal, bin_value, const_value}
 use Rattle.pdl_net.specs.Meaning.{signal, IsThere}
 use Rattle.pdl_net.specs.Growth.{Keeps}
+use Rattle.pdl_net.proofs.KeptWidths.{width_keeps}
 use Rattle.pdl_lockapi.specs.Laws.{ReserveSignal, asked_addresses}
 use Rattle.pdl_law_parts.specs.Walk.{Reservation, both}
 use Rattle.pdl_law_parts.specs.Views.{View}
@@ -115,18 +116,17 @@ after_other m moves f r ne =
 pub reserves_keep : (a b : Circuit) (rs : List ReserveNet) → Keeps a b → Each (IsReserve a) rs → Each (IsReserve b) rs
 reserves_keep a b [] e h = tt
 reserves_keep a b (r ∷ rs) e h =
-    let on = h.0.0 in
-    (((e.there r.on on.0, ap (λ (f : Signal). f.width) (e.kept r.on on.0) ∙ on.1), e.there r.addr h.0.1), reserves_keep a b rs e h.1)
+    ((width_keeps a b r.on 1 e h.0.0, e.there r.addr h.0.1), reserves_keep a b rs e h.1)
 
 -- the nets of sized reservations are there, their conditions with 1 bit
 pub reserves_of : (c : Circuit) (p : Pipe) (rs : List ReserveNet)
     → Each (λ (r : ReserveNet). IsThere c r.on × IsThere c r.addr) rs
     → Each (IsSizedReserve p) (map (reservation_in c) rs) → Each (IsReserve c) rs
 reserves_of c p [] h k = tt
-reserves_of c p (r ∷ rs) h k = (((h.0.0, k.0.1), h.0.1), reserves_of c p rs h.1 k.1)
+reserves_of c p (r ∷ rs) h k = ((record { there = h.0.0; width = k.0.1 }, h.0.1), reserves_of c p rs h.1 k.1)
 
 reservation_keep : (a b : Circuit) (r : ReserveNet) → Keeps a b → IsReserve a r → reservation_in b r ≡ reservation_in a r
-reservation_keep a b r e h = ap₂ (λ f g. record { mem = r.mem; on = f; addr = g }) (e.kept r.on h.0.0) (e.kept r.addr h.1)
+reservation_keep a b r e h = ap₂ (λ f g. record { mem = r.mem; on = f; addr = g }) (e.kept r.on h.0.there) (e.kept r.addr h.1)
 
 -- one more of them
 pub stage_more : (a b d : Circuit) (m : ℕ) (moves : Net) (f g h : Signal) (rs : List ReserveNet) (i : ℕ) (r : ReserveNet)

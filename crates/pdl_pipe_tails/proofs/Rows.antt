@@ -72,7 +72,7 @@ arrivals_coming c p vs moves q n [] [] low h = tt
 arrivals_coming c p vs moves q n [] (y ∷ ys) low h = absurd h
 arrivals_coming c p vs moves q n (j ∷ js) [] low h = absurd h
 arrivals_coming c p vs moves q n (j ∷ js) (y ∷ ys) low h =
-    (((h.0.comes.there, h.0.comes.one), subst (λ i. i < n) (sym h.0.from) low.0), arrivals_coming c p vs moves q n js ys low.1 h.1)
+    ((h.0.comes.bit, subst (λ i. i < n) (sym h.0.from) low.0), arrivals_coming c p vs moves q n js ys low.1 h.1)
 
 -- what they bring is what the threads bring that come
 brought_is : (c : Circuit) (p : Pipe) (vs : ℕ → View) (moves : ℕ → Signal) (q : ℕ) (tails : ℕ → ℕ → Signal)

@@ -8,6 +8,7 @@ use Rattle.pdl_net.specs.Circuit.{Circuit, State, HasReg}
 use Rattle.pdl_net.specs.Signal.{Signal, mux_signal}
 use Rattle.pdl_net.specs.Meaning.{signal}
 use Rattle.pdl_net.specs.Growth.{Keeps, Extends, ExtendsBut}
+use Rattle.pdl_net.proofs.KeptWidths.{width_keeps}
 use Rattle.pdl_build.specs.Change.{one_reg}
 use Rattle.pdl_pipe_exprs.specs.Nets.{signal_at}
 use Rattle.pdl_pipe_exprs.proofs.NetLists.{there_keeps, signals_keep}
@@ -21,8 +22,7 @@ use Rattle.pdl_pipe_tails.specs.Carried.{tail_in, brought_tail, HaveTails, AreCo
 pub coming_keep : (a b : Circuit) (n : ℕ) (ys : List Arrival) → Keeps a b → AreComing a n ys → AreComing b n ys
 coming_keep a b n [] e h = tt
 coming_keep a b n (y ∷ ys) e h =
-    let on = h.0.0 in
-    (((e.there y.comes on.0, ap (λ (f : Signal). f.width) (e.kept y.comes on.0) ∙ on.1), h.0.1), coming_keep a b n ys e h.1)
+    ((width_keeps a b y.comes 1 e h.0.0, h.0.1), coming_keep a b n ys e h.1)
 
 -- the i-th thread that may come has a net of 1 bit, and comes out of one of the first n stages
 pub coming_nth : (c : Circuit) (n : ℕ) (ys : List Arrival) (i : ℕ) (y : Arrival)
@@ -57,7 +57,7 @@ pub brought_keep : (a b : Circuit) (m w : ℕ) (rows : List (Seq Net)) (ys : Lis
     → brought_tail b rows m ys rest ≡ brought_tail a rows m ys rest
 brought_keep a b m w rows [] rest e h t = refl
 brought_keep a b m w rows (y ∷ ys) rest e h t =
-    ap₂ (λ f g. mux_signal f g (brought_tail b rows m ys rest)) (e.kept y.comes h.0.0.0) (tail_keep a b m w rows y.from e h.0.1 t)
+    ap₂ (λ f g. mux_signal f g (brought_tail b rows m ys rest)) (e.kept y.comes h.0.0.there) (tail_keep a b m w rows y.from e h.0.1 t)
     ∙ ap (mux_signal (signal a y.comes) (tail_in a rows [] y.from m)) (brought_keep a b m w rows ys rest e h.1 t)
 
 -- ---- a register more

@@ -2,6 +2,7 @@
 ghost use Rattle.std.specs.Prelude.{◌≡◌, ℕ, ◌<◌, ◌≤◌, [], IfOk, length, slice_index_or};
 ghost use Rattle.pdl_form.specs.FormView.{form};
 ghost use Rattle.pdl_net.specs.Meaning.{IsThere, Means, signal};
+ghost use Rattle.pdl_net.specs.HasWidth.{HasWidth};
 ghost use Rattle.pdl_net.specs.Growth.{Extends};
 ghost use Rattle.pdl_net.specs.Signal.{Signal};
 ghost use Rattle.pdl_pipe_exprs.specs.Nets.{NetsThere, signals_in, signal_at};
@@ -75,8 +76,7 @@ fn carried(
     requires high { width ≤ 64 }
     requires arrivals { AreComing b.old (length before.now) arrivals.now }
     requires before { HaveTails b.old mem width before.now }
-    ensures there { IfOk result (λ x. IsThere b.new x) }
-    ensures wide { IfOk result (λ x. (signal b.new x).width ≡ width) }
+    ensures wide { IfOk result (λ x. HasWidth b.new x width) }
     ensures carried { IfOk result (λ x. IsCarried b.new (length b.old.regs) (signal b.new x)
         (brought_tail b.old before.now mem arrivals.now (signal b.new x))) }
     ensures extends { Extends b.old b.new }

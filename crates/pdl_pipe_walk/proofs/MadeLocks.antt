@@ -9,7 +9,9 @@ use Rattle.pdl_net.specs.declared.Net.{Net}
 use Rattle.pdl_net.specs.Circuit.{Circuit, State}
 use Rattle.pdl_net.specs.Signal.{Signal, mux_signal, read_signal}
 use Rattle.pdl_net.specs.Meaning.{signal, IsThere, Means}
+use Rattle.pdl_net.specs.HasWidth.{HasWidth}
 use Rattle.pdl_net.specs.Growth.{Keeps, Extends}
+use Rattle.pdl_net.proofs.KeptWidths.{width_keeps}
 use Rattle.pdl_lockapi.specs.declared.Kind.TheVariants as look_kind
 use Rattle.pdl_lockapi.specs.declared.LockRegs.{LockRegs}
 use Rattle.pdl_lockapi.specs.Laws.{LookLaw}
@@ -39,10 +41,8 @@ module _ {T : Type 0} (l : Members T) (a b : Circuit) (e : Keeps a b)
   lock_keep : (i : ℕ) (mem : Mem) (x : MemLock T) → IsLockIn l a i mem x → IsLockIn l b i mem x
   lock_keep i mem x k = record {
     is_placed = stays x.lock a b x.regs e k.is_placed;
-    room_there = e.there x.regs.room k.room_there;
-    room_one = ap (λ (f : Signal). f.width) (e.kept x.regs.room k.room_there) ∙ k.room_one;
-    ticket_there = e.there x.regs.ticket k.ticket_there;
-    ticket_wide = ap (λ (f : Signal). f.width) (e.kept x.regs.ticket k.ticket_there) ∙ k.ticket_wide;
+    room = width_keeps a b x.regs.room 1 e k.room;
+    ticket = width_keeps a b x.regs.ticket (l.tickets x.lock) e k.ticket;
     wide = k.wide;
     bits = k.bits;
     array = k.array;
@@ -70,8 +70,8 @@ module _ {T : Type 0} (l : Members T) (a b : Circuit) (e : Keeps a b)
   pub locks_same : locks_in l p b xs ≡ locks_in l p a xs
   locks_same =
       ap₂ (λ (r t : ℕ → Signal). record (locks_in l p a xs) { room = r; ticket = t })
-      (fun_ext (λ m. same_net (λ x. x.regs.room) (λ m x low s. (h.locks m x low s).room_there) m (some_at xs m) refl))
-      (fun_ext (λ m. same_net (λ x. x.regs.ticket) (λ m x low s. (h.locks m x low s).ticket_there) m (some_at xs m) refl))
+      (fun_ext (λ m. same_net (λ x. x.regs.room) (λ m x low s. (h.locks m x low s).room.there) m (some_at xs m) refl))
+      (fun_ext (λ m. same_net (λ x. x.regs.ticket) (λ m x low s. (h.locks m x low s).ticket.there) m (some_at xs m) refl))
 
   -- the tickets still are there with the bits of their locks' tickets
   pub tickets_keep : (ts : List Net) → AreTickets l a xs ts → AreTickets l b xs ts
@@ -165,9 +165,9 @@ module _ {T : Type 0} (l : Members T) (c : Circuit) (p : Pipe) (xs : List (Optio
       by (Some x) e = refl
 
   -- the net of its room is there, with 1 bit
-  pub room_there : IsThere c (room_net (some_at xs m)) × ((signal c (room_net (some_at xs m))).width ≡ 1)
+  pub room_there : HasWidth c (room_net (some_at xs m)) 1
   room_there = by (some_at xs m) refl
     where
-      by : (o : Option (MemLock T)) → some_at xs m ≡ o → IsThere c (room_net o) × ((signal c (room_net o)).width ≡ 1)
+      by : (o : Option (MemLock T)) → some_at xs m ≡ o → HasWidth c (room_net o) 1
       by None e = absurd (false≢true (sym (ap is_some e) ∙ h.locked m low ∙ locked))
-      by (Some x) e = ((h.locks m x low e).room_there, (h.locks m x low e).room_one)
+      by (Some x) e = (h.locks m x low e).room

@@ -7,7 +7,8 @@ use Rattle.pdl_net.specs.declared.Net.{Net}
 use Rattle.pdl_net.specs.declared.Net.TheVariants.{Input}
 use Rattle.pdl_net.specs.Circuit.{Circuit, State, HasArray, array_width, array_depth}
 use Rattle.pdl_net.specs.Signal.{Signal}
-use Rattle.pdl_net.specs.Meaning.{IsThere, signal}
+use Rattle.pdl_net.specs.Meaning.{signal}
+use Rattle.pdl_net.specs.HasWidth.{HasWidth}
 use Rattle.pdl_lockapi.specs.declared.LockModule.{Ghosts}
 use Rattle.pdl_lockapi.specs.declared.LockRegs.{LockRegs}
 use Rattle.pdl_lockapi.specs.Lock.{LockState}
@@ -66,10 +67,8 @@ array_of mem i = if mem.delayed then None else Some i
 -- a memory's lock that is in a circuit, and its array
 pub record IsLockIn {T : Type 0} (l : Members T) (c : Circuit) (i : ℕ) (mem : Mem) (x : MemLock T) : Type 0 where
   pub is_placed : l.placed x.lock c x.regs
-  pub room_there : IsThere c x.regs.room
-  pub room_one : (signal c x.regs.room).width ≡ 1
-  pub ticket_there : IsThere c x.regs.ticket
-  pub ticket_wide : (signal c x.regs.ticket).width ≡ l.tickets x.lock
+  pub room : HasWidth c x.regs.room 1
+  pub ticket : HasWidth c x.regs.ticket (l.tickets x.lock)
   pub wide : x.regs.width ≡ mem.width
   pub bits : 2 ^ x.regs.bits ≡ mem.depth
   pub array : x.regs.array ≡ array_of mem i

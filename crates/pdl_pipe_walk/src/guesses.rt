@@ -5,6 +5,7 @@ ghost use Rattle.pdl_form.specs.View.{guards_view, exprs_view};
 ghost use Rattle.pdl_form_types.specs.Stmts.{AreGuards, AreArguments, param_widths};
 ghost use Rattle.pdl_net.specs.Signal.{mux_signal};
 ghost use Rattle.pdl_net.specs.Meaning.{IsThere, Means, signal};
+ghost use Rattle.pdl_net.specs.HasWidth.{HasWidth};
 ghost use Rattle.pdl_net.specs.Growth.{Extends};
 ghost use Rattle.pdl_pipe_exprs.specs.Nets.{NetsThere, signals_in, signal_at, widths_of};
 ghost use Rattle.pdl_pipe_exprs.specs.Conditions.{AreBits};
@@ -31,8 +32,7 @@ fn choose(
     xs: &[Net],
     ys: &[Net],
 ) -> Result<Seq<Net>, NoMemory>
-    requires on { IsThere b.old on }
-    requires on_one { (signal b.old on).width ≡ 1 }
+    requires on { HasWidth b.old on 1 }
     requires xs { NetsThere b.old xs.now }
     requires ys { NetsThere b.old ys.now }
     requires widths { widths_of (signals_in b.old xs.now) ≡ widths_of (signals_in b.old ys.now) }
@@ -55,8 +55,7 @@ fn choose(
 // Whether `found` is 1 or two nets differ.
 fn find_different(b: &mut Builder, bits: Bits, found: Net, x: Net, y: Net) -> Result<Net, NoMemory>
     requires bits { AreBits b.old bits }
-    requires found { IsThere b.old found }
-    requires one { (signal b.old found).width ≡ 1 }
+    requires found { HasWidth b.old found 1 }
     requires x { IsThere b.old x }
     requires y { IsThere b.old y }
     requires widths { (signal b.old x).width ≡ (signal b.old y).width }
@@ -107,10 +106,8 @@ impl WalkNets {
     ) -> Result<Net, NoMemory>
         requires walk { IsWalkOf (form pipe.now) b.old self.old }
         requires bits { AreBits b.old bits }
-        requires on { IsThere b.old on }
-        requires on_one { (signal b.old on).width ≡ 1 }
-        requires wrong { IsThere b.old wrong }
-        requires one { (signal b.old wrong).width ≡ 1 }
+        requires on { HasWidth b.old on 1 }
+        requires wrong { HasWidth b.old wrong 1 }
         ensures means { IfOk result (λ x.
             Means b.new x (both (signal b.old on) (signal b.old wrong))) }
         ensures walk { OnOk result (IsWalkOf (form pipe.now) b.new self.new) }

@@ -3,6 +3,7 @@ ghost use Rattle.std.specs.Prelude.{◌≡◌, ◌^◌, ◌<◌, ◌≤◌, true
 ghost use Rattle.pdl_form.specs.FormView.{form};
 ghost use Rattle.pdl_semantics.specs.Stages.{mem_at};
 ghost use Rattle.pdl_net.specs.Meaning.{IsThere, Means, signal};
+ghost use Rattle.pdl_net.specs.HasWidth.{HasWidth};
 ghost use Rattle.pdl_net.specs.Growth.{Extends};
 ghost use Rattle.pdl_lockapi.specs.declared.Kind.TheVariants as look_kind;
 ghost use Rattle.pdl_lockapi.specs.Laws.{HasValueNet};
@@ -98,11 +99,9 @@ pub(crate) fn look<L: LockModule>(
     requires addr_there { IsThere b.old addr }
     requires addr_reach { 2 ^ (signal b.old addr).width
         ≡ (mem_at (form setting.now.pipe.now).pipe m).depth }
-    requires ticket_there { IsThere b.old ticket }
-    requires ticket_wide { (signal b.old ticket).width
-        ≡ (set_locks (members L.LockModule) b.old setting.now).bits m }
-    ensures ready_there { IfOk result (λ l. IsThere b.new l.ready) }
-    ensures ready_one { IfOk result (λ l. (signal b.new l.ready).width ≡ 1) }
+    requires ticket { HasWidth b.old ticket
+        ((set_locks (members L.LockModule) b.old setting.now).bits m) }
+    ensures ready { IfOk result (λ l. HasWidth b.new l.ready 1) }
     ensures has_value { IfOk result (λ l.
         is_some l.value ≡ not (mem_at (form setting.now.pipe.now).pipe m).delayed) }
     ensures value { IfOk result (λ l.
@@ -133,9 +132,8 @@ pub(crate) fn word<L: LockModule>(
     requires ticket_there { IsThere b.old ticket }
     requires ticket_wide { is_locked (form setting.now.pipe.now).pipe m ≡ true →
         (signal b.old ticket).width ≡ (set_locks (members L.LockModule) b.old setting.now).bits m }
-    ensures there { IfOk result (λ x. IsThere b.new x) }
     ensures wide { IfOk result (λ x.
-        (signal b.new x).width ≡ (mem_at (form setting.now.pipe.now).pipe m).width) }
+        HasWidth b.new x (mem_at (form setting.now.pipe.now).pipe m).width) }
     ensures word { IfOk result (λ x.
         IsWordSignal (form setting.now.pipe.now).pipe
         (set_locks (members L.LockModule) b.old setting.now) m (signal b.old addr)
@@ -173,16 +171,13 @@ pub(crate) fn look_held<L: LockModule>(
     requires low { m < length (form setting.now.pipe.now).pipe.mems }
     requires locked { is_locked (form setting.now.pipe.now).pipe m ≡ true }
     requires bits { AreBits b.old setting.now.bits }
-    requires held_there { IsThere b.old held }
-    requires held_one { (signal b.old held).width ≡ 1 }
+    requires held { HasWidth b.old held 1 }
     requires addr_there { IsThere b.old addr }
     requires addr_reach { 2 ^ (signal b.old addr).width
         ≡ (mem_at (form setting.now.pipe.now).pipe m).depth }
-    requires ticket_there { IsThere b.old ticket }
-    requires ticket_wide { (signal b.old ticket).width
-        ≡ (set_locks (members L.LockModule) b.old setting.now).bits m }
-    ensures there { IfOk result (λ x. IsThere b.new x) }
-    ensures one { IfOk result (λ x. (signal b.new x).width ≡ 1) }
+    requires ticket { HasWidth b.old ticket
+        ((set_locks (members L.LockModule) b.old setting.now).bits m) }
+    ensures bit { IfOk result (λ x. HasWidth b.new x 1) }
     ensures looked { IfOk result (λ x.
         IsLooked (set_locks (members L.LockModule) b.old setting.now) m (signal b.old held)
         (signal b.old addr) (signal b.old ticket) (signal b.new x)) }

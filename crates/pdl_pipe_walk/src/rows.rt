@@ -4,7 +4,8 @@ ghost use Rattle.pdl_semantics.specs.Stages.{mem_at, in_stage};
 ghost use Rattle.pdl_form.specs.FormView.{form};
 ghost use Rattle.pdl_form.specs.Form.{stmt_at};
 ghost use Rattle.pdl_form.specs.View.{guards_view, stmt_view, stmts_view, expr_view, exprs_view};
-ghost use Rattle.pdl_net.specs.Meaning.{IsThere, signal};
+ghost use Rattle.pdl_net.specs.Meaning.{signal};
+ghost use Rattle.pdl_net.specs.HasWidth.{HasWidth};
 ghost use Rattle.pdl_net.specs.Growth.{Extends};
 ghost use Rattle.pdl_pipe_exprs.specs.Nets.{signals_in, signal_at};
 ghost use Rattle.pdl_pipe_exprs.specs.Conditions.{AreBits};
@@ -209,8 +210,7 @@ impl WalkNets {
         requires at { IsLocation (form setting.now.pipe.now).pipe
             (form setting.now.pipe.now).widths m a }
         requires locked { is_locked (form setting.now.pipe.now).pipe m ≡ true }
-        ensures there { IfOk result (λ x. IsThere b.new x) }
-        ensures one { IfOk result (λ x. (signal b.new x).width ≡ 1) }
+        ensures bit { IfOk result (λ x. HasWidth b.new x 1) }
         ensures looked { IfOk result (λ x.
             IsLooked (set_locks (members L.LockModule) b.old setting.now) m
             (held_of (parts_in b.old self.now).held m a)

@@ -1,7 +1,8 @@
 // What the statements of a stage change of its nets.
 ghost use Rattle.std.specs.Prelude.{◌≡◌, ◌==◌, ◌<◌, ◌^◌, ◌++◌, ◌∷◌, [], OnOk, length, slice_index, slice_set};
 ghost use Rattle.pdl_form.specs.FormView.{form};
-ghost use Rattle.pdl_net.specs.Meaning.{IsThere, Means, signal};
+ghost use Rattle.pdl_net.specs.Meaning.{Means, signal};
+ghost use Rattle.pdl_net.specs.HasWidth.{HasWidth};
 ghost use Rattle.pdl_net.specs.Growth.{Extends};
 ghost use Rattle.pdl_pipe_exprs.specs.Conditions.{AreBits};
 ghost use Rattle.pdl_law_parts.specs.Walk.{one, both, if_on};
@@ -75,11 +76,9 @@ impl WalkNets {
     ) -> Result<(), NoMemory>
         requires walk { IsWalkOf (form pipe.now) b.old self.old }
         requires bits { AreBits b.old bits }
-        requires on { IsThere b.old on }
-        requires on_one { (signal b.old on).width ≡ 1 }
+        requires on { HasWidth b.old on 1 }
         requires low { x < length (form pipe.now).widths }
-        requires there { IsThere b.old net }
-        requires wide { (signal b.old net).width ≡ slice_index (form pipe.now).widths x }
+        requires net { HasWidth b.old net (slice_index (form pipe.now).widths x) }
         ensures walk { OnOk result (IsWalkOf (form pipe.now) b.new self.new) }
         ensures parts { OnOk result (parts_in b.new self.new
             ≡ with_var x (signal b.old on) (signal b.old net) (parts_in b.old self.old)) }
@@ -102,10 +101,8 @@ impl WalkNets {
     ) -> Result<(), NoMemory>
         requires walk { IsWalkOf (form pipe.now) b.old self.old }
         requires bits { AreBits b.old bits }
-        requires on { IsThere b.old on }
-        requires on_one { (signal b.old on).width ≡ 1 }
-        requires there { IsThere b.old held.net }
-        requires one { (signal b.old held.net).width ≡ 1 }
+        requires on { HasWidth b.old on 1 }
+        requires net { HasWidth b.old held.net 1 }
         ensures walk { OnOk result (IsWalkOf (form pipe.now) b.new self.new) }
         ensures parts { OnOk result (parts_in b.new self.new
             ≡ with_held held.mem held.var (signal b.old on) (signal b.old held.net)
@@ -128,10 +125,8 @@ impl WalkNets {
     ) -> Result<(), NoMemory>
         requires walk { IsWalkOf (form pipe.now) b.old self.old }
         requires bits { AreBits b.old bits }
-        requires on { IsThere b.old on }
-        requires on_one { (signal b.old on).width ≡ 1 }
-        requires there { IsThere b.old net }
-        requires one { (signal b.old net).width ≡ 1 }
+        requires on { HasWidth b.old on 1 }
+        requires net { HasWidth b.old net 1 }
         ensures walk { OnOk result (IsWalkOf (form pipe.now) b.new self.new) }
         ensures parts { OnOk result (parts_in b.new self.new
             ≡ record (parts_in b.old self.old) {

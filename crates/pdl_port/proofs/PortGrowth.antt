@@ -6,6 +6,7 @@ use Rattle.pdl_net.specs.Circuit.{Circuit}
 use Rattle.pdl_net.specs.Signal.{Signal}
 use Rattle.pdl_net.specs.Growth.{Keeps, Extends, ExtendsBut, Own, Outside}
 use Rattle.pdl_net.proofs.Keeps.{extends_keeps, but_keeps}
+use Rattle.pdl_net.proofs.KeptWidths.{width_keeps}
 use Rattle.pdl_lockapi.specs.Laws.{OwnKept}
 use Rattle.pdl_port.specs.declared.PortRegs.{PortRegs}
 use Rattle.pdl_port.specs.declared.PortStep.{PortStep}
@@ -73,17 +74,13 @@ own_here a b r f = record {
 
 step_keeps : (a b : Circuit) (n : ℕ) (r : PortRegs) (p : PortStep) → HasStep a n r p → Keeps a b → HasStep b n r p
 step_keeps a b n r p x k = record {
-  reply_there = k.there r.reply x.reply_there;
-  reply_one = ap (λ (f : Signal). f.width) (k.kept r.reply x.reply_there) ∙ x.reply_one;
+  reply = width_keeps a b r.reply 1 k x.reply;
   asked_count = x.asked_count;
-  asked_there = λ j h. k.there (net_at p.asked j) (x.asked_there j h);
-  asked_one = λ j h. ap (λ (f : Signal). f.width) (k.kept (net_at p.asked j) (x.asked_there j h)) ∙ x.asked_one j h;
+  asked = λ j h. width_keeps a b (net_at p.asked j) 1 k (x.asked j h);
   moves_count = x.moves_count;
-  moves_there = λ j h. k.there (net_at p.moves j) (x.moves_there j h);
-  moves_one = λ j h. ap (λ (f : Signal). f.width) (k.kept (net_at p.moves j) (x.moves_there j h)) ∙ x.moves_one j h;
+  moves = λ j h. width_keeps a b (net_at p.moves j) 1 k (x.moves j h);
   removed_count = x.removed_count;
-  removed_there = λ j h. k.there (net_at p.removed j) (x.removed_there j h);
-  removed_one = λ j h. ap (λ (f : Signal). f.width) (k.kept (net_at p.removed j) (x.removed_there j h)) ∙ x.removed_one j h;
+  removed = λ j h. width_keeps a b (net_at p.removed j) 1 k (x.removed j h);
 }
 
 -- the nets of a port's step stay while the circuit grows

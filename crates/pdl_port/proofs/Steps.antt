@@ -56,10 +56,10 @@ pub record SameStep (n : ℕ) (f g : StepSignals) : Type 0 where
 pub same_step : (a b : Circuit) (n : ℕ) (r : PortRegs) (p : PortStep) → HasStep a n r p → Keeps a b
     → SameStep n (step_signals b r p) (step_signals a r p)
 same_step a b n r p x k = record {
-  reply = k.kept r.reply x.reply_there;
-  moves = λ j h. k.kept (net_at p.moves j) (x.moves_there j h);
-  removed = λ j h. k.kept (net_at p.removed j) (x.removed_there j h);
-  asked = λ j h. k.kept (net_at p.asked j) (x.asked_there j h);
+  reply = k.kept r.reply x.reply.there;
+  moves = λ j h. k.kept (net_at p.moves j) (x.moves j h).there;
+  removed = λ j h. k.kept (net_at p.removed j) (x.removed j h).there;
+  asked = λ j h. k.kept (net_at p.asked j) (x.asked j h).there;
 }
 
 -- what the register of a place takes next is the same by nets that mean the same
@@ -95,7 +95,7 @@ pub orphan_net : (a b m n d : Circuit) (l : PortLayout) (r : PortRegs) (p : Port
     → Means d next (mux_signal (signal n removed) (signal n left) (signal n orphan))
     → Means d next (orphan_signal l (step_signals a r p) (k + 1))
 orphan_net a b m n d l r p k one nought orphan open_net left removed next h g i x y z u v w e o q t =
-    let reply = x.kept r.reply g.reply_there in
+    let reply = x.kept r.reply g.reply.there in
     let none = v.same in
     let owns = x.kept (Reg (owns_at l k)) (h.owns_there k i) ∙ h.owner k i in
     let opened = o.same in
@@ -104,9 +104,9 @@ orphan_net a b m n d l r p k one nought orphan open_net left removed next h g i 
     let made = q.same in
     let orphan_n = z.kept orphan (y.there orphan w.there) ∙ orphan_m in
     let gone =
-    z.kept (net_at p.removed k) (y.there _ (x.there _ (g.removed_there k i)))
-    ∙ y.kept (net_at p.removed k) (x.there _ (g.removed_there k i))
-    ∙ x.kept (net_at p.removed k) (g.removed_there k i) in
+    z.kept (net_at p.removed k) (y.there _ (x.there _ (g.removed k i).there))
+    ∙ y.kept (net_at p.removed k) (x.there _ (g.removed k i).there)
+    ∙ x.kept (net_at p.removed k) (g.removed k i).there in
     let named = ap (signal n) e in
     let more = orphan_more l (step_signals a r p) k in
     let last = t.same in

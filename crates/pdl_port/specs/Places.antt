@@ -5,6 +5,7 @@ use Rattle.pdl_net.specs.declared.Net.TheVariants.{Reg}
 use Rattle.pdl_net.specs.Circuit.{Circuit, State, HasReg, reg_width, reg_reset}
 use Rattle.pdl_net.specs.Signal.{reg_signal}
 use Rattle.pdl_net.specs.Meaning.{IsThere, signal}
+use Rattle.pdl_net.specs.HasWidth.{HasWidth}
 use Rattle.pdl_port.specs.declared.PortRegs.{PortRegs}
 use Rattle.pdl_port.specs.declared.PortStep.{PortStep}
 use Rattle.pdl_port.specs.declared.layout.PortLayout.{PortLayout}
@@ -45,17 +46,13 @@ pub record ArePlaced (c : Circuit) (r : PortRegs) : Type 0 where
 
 -- the nets of a step are there: the reply, and three of each of n places
 pub record HasStep (c : Circuit) (n : ℕ) (r : PortRegs) (p : PortStep) : Type 0 where
-  pub reply_there : IsThere c r.reply
-  pub reply_one : (signal c r.reply).width ≡ 1
+  pub reply : HasWidth c r.reply 1
   pub asked_count : length p.asked ≡ n
-  pub asked_there : (k : ℕ) → k < n → IsThere c (net_at p.asked k)
-  pub asked_one : (k : ℕ) → k < n → (signal c (net_at p.asked k)).width ≡ 1
+  pub asked : (k : ℕ) → k < n → HasWidth c (net_at p.asked k) 1
   pub moves_count : length p.moves ≡ n
-  pub moves_there : (k : ℕ) → k < n → IsThere c (net_at p.moves k)
-  pub moves_one : (k : ℕ) → k < n → (signal c (net_at p.moves k)).width ≡ 1
+  pub moves : (k : ℕ) → k < n → HasWidth c (net_at p.moves k) 1
   pub removed_count : length p.removed ≡ n
-  pub removed_there : (k : ℕ) → k < n → IsThere c (net_at p.removed k)
-  pub removed_one : (k : ℕ) → k < n → (signal c (net_at p.removed k)).width ≡ 1
+  pub removed : (k : ℕ) → k < n → HasWidth c (net_at p.removed k) 1
 
 -- an orphan is outstanding
 abbrev pub is_orphan : PortState → Bool

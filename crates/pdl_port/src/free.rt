@@ -1,6 +1,7 @@
 //! Whether a port is free.
 ghost use Rattle.std.specs.Prelude.{◌≡◌, ◌+◌, ◌^◌, ◌<◌, length, IfOk};
-ghost use Rattle.pdl_net.specs.Meaning.{IsThere, Means, signal};
+ghost use Rattle.pdl_net.specs.Meaning.{Means, signal};
+ghost use Rattle.pdl_net.specs.HasWidth.{HasWidth};
 ghost use Rattle.pdl_net.specs.Growth.{Extends};
 ghost use Rattle.pdl_port.specs.Laws.{places, net_at, signal_at, HasBits, FreeLaw};
 ghost use Rattle.pdl_port.specs.Places.{HasPlaces, ArePlaced, stands};
@@ -25,8 +26,7 @@ pub fn net(nets: &Seq<Net>, k: usize) -> Net
 fn emit_free(b: &mut Builder, l: PortLayout, reply: Net, moves: &Seq<Net>) -> Result<Net, NoMemory>
     requires small { l.from + l.places + 1 < 2 ^ 64 }
     requires places { HasPlaces b.old l l.places }
-    requires reply_there { IsThere b.old reply }
-    requires reply_one { (signal b.old reply).width ≡ 1 }
+    requires reply { HasWidth b.old reply 1 }
     requires moves { HasBits b.old moves.now l.places }
     ensures means { IfOk result (λ x.
         Means b.new x (free_signal l (signal b.old reply) (signal_at b.old moves.now) l.places)) }
@@ -47,8 +47,7 @@ fn emit_free(b: &mut Builder, l: PortLayout, reply: Net, moves: &Seq<Net>) -> Re
 pub fn emit_port_free(b: &mut Builder, r: &PortRegs, moves: &Seq<Net>) -> Result<Net, NoMemory>
     requires placed { ArePlaced b.old r.now }
     requires moves { HasBits b.old moves.now (places r.now) }
-    ensures there { IfOk result (λ x. IsThere b.new x) }
-    ensures one { IfOk result (λ x. (signal b.new x).width ≡ 1) }
+    ensures bit { IfOk result (λ x. HasWidth b.new x 1) }
     ensures law { IfOk result (λ x.
         FreeLaw (stands r.now) (places r.now) (signal b.old r.now.reply)
         (signal_at b.old moves.now) (signal b.new x)) }

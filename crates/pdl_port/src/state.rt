@@ -1,6 +1,7 @@
 //! The registers of a port, and the nets that tell of each place whether its thread has its answer.
 ghost use Rattle.std.specs.Prelude.{◌≡◌, ℕ, ◌+◌, ◌^◌, ◌<◌, ◌≤◌, length, slice_index, IfOk, OnOk};
 ghost use Rattle.pdl_net.specs.Meaning.{IsThere, Means, signal};
+ghost use Rattle.pdl_net.specs.HasWidth.{HasWidth};
 ghost use Rattle.pdl_net.specs.Growth.{Extends};
 ghost use Rattle.pdl_port.specs.Laws.{places, own, IsFragment, HasAnswerNets, StartLaw, AnswerLaw, answer_signals};
 ghost use Rattle.pdl_port.specs.Places.{HasPlaces, AreReset, ArePlaced, stands};
@@ -55,8 +56,7 @@ fn emit_answer(
     requires small { l.from + l.places + 1 < 2 ^ 64 }
     requires places { HasPlaces b.old l l.places }
     requires within { k < l.places }
-    requires reply_there { IsThere b.old reply }
-    requires reply_one { (signal b.old reply).width ≡ 1 }
+    requires reply { HasWidth b.old reply 1 }
     requires word_there { IsThere b.old word }
     ensures answered { IfOk result (λ x.
         Means b.new x.answered (answered_signal l (signal b.old reply) k)) }
@@ -88,8 +88,7 @@ fn emit_answers(
 ) -> Result<Seq<Answer>, NoMemory>
     requires small { l.from + l.places + 1 < 2 ^ 64 }
     requires places { HasPlaces b.old l l.places }
-    requires reply_there { IsThere b.old reply }
-    requires reply_one { (signal b.old reply).width ≡ 1 }
+    requires reply { HasWidth b.old reply 1 }
     requires word_there { IsThere b.old word }
     ensures answers { IfOk result (λ xs.
         AreAnswers b.new l (signal b.old reply) (signal b.old word) xs l.places) }
@@ -111,10 +110,8 @@ pub fn emit_port_state(
     word: Net,
     next_stages: u8,
 ) -> Result<PortRegs, NoMemory>
-    requires reply_there { IsThere b.old reply }
-    requires reply_one { (signal b.old reply).width ≡ 1 }
-    requires word_there { IsThere b.old word }
-    requires word_width { (signal b.old word).width ≡ mem.now.width }
+    requires reply { HasWidth b.old reply 1 }
+    requires word { HasWidth b.old word mem.now.width }
     requires some { 1 ≤ next_stages }
     requires few { next_stages ≤ 2 }
     ensures reply { IfOk result (λ r. r.reply ≡ reply) }

@@ -1,6 +1,7 @@
 //! Looks: the place of the youngest older pending write of the address or of the word, and what the array has there.
 ghost use Rattle.std.specs.Prelude.{◌≡◌, ℕ, ◌+◌, ◌*◌, ◌^◌, ◌<◌, ◌≤◌, IfOk};
-ghost use Rattle.pdl_net.specs.Meaning.{IsThere, Means, signal};
+ghost use Rattle.pdl_net.specs.Meaning.{Means, signal};
+ghost use Rattle.pdl_net.specs.HasWidth.{HasWidth};
 ghost use Rattle.pdl_net.specs.Growth.{Extends};
 ghost use Rattle.pdl_lock_ring.specs.Slots.{HasSlots};
 ghost use Rattle.pdl_lock_ring.specs.Looks.{youngest_look, youngest_ready};
@@ -44,8 +45,7 @@ pub fn place_registers(l: Layout) -> Registers
 pub fn emit_mapped(b: &mut Builder, l: Layout, addr: Net) -> Result<Net, NoMemory>
     requires renaming { IsRenaming l }
     requires map { HasMap b.old l l.depth }
-    requires addr_there { IsThere b.old addr }
-    requires addr_width { (signal b.old addr).width ≡ l.slots.bits }
+    requires addr { HasWidth b.old addr l.slots.bits }
     ensures means { IfOk result (λ x. Means b.new x (mapped_place l (signal b.old addr))) }
     ensures extends { Extends b.old b.new }
 {
@@ -66,10 +66,8 @@ pub fn emit_look(
     requires slots { HasSlots b.old l.slots }
     requires map { HasMap b.old l l.depth }
     requires store { HasStore b.old l }
-    requires addr_there { IsThere b.old addr }
-    requires addr_width { (signal b.old addr).width ≡ l.slots.bits }
-    requires ticket_there { IsThere b.old ticket }
-    requires ticket_width { (signal b.old ticket).width ≡ l.slots.ticket }
+    requires addr { HasWidth b.old addr l.slots.bits }
+    requires ticket { HasWidth b.old ticket l.slots.ticket }
     ensures ready { IfOk result (λ x.
         Means b.new x.0 (youngest_look kind
         (youngest_ready l.slots (signal b.old addr) (signal b.old ticket)))) }

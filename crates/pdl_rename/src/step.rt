@@ -1,7 +1,8 @@
 //! The step of a renaming lock: the commit ports, and what head, tail, slots, places, map and array take next.
 ghost use Rattle.std.specs.Prelude.{◌≡◌, ℕ, [], ◌∷◌, ◌++◌, ◌+◌, ◌-◌, ◌*◌, ◌^◌, ◌<◌, ◌≤◌, length, IfOk, OnOk};
 ghost use Rattle.pdl_net.specs.Signal.{mux_signal};
-ghost use Rattle.pdl_net.specs.Meaning.{IsThere, Means, signal, write_signals};
+ghost use Rattle.pdl_net.specs.Meaning.{Means, signal, write_signals};
+ghost use Rattle.pdl_net.specs.HasWidth.{HasWidth};
 ghost use Rattle.pdl_net.specs.Growth.{Extends, ExtendsBut};
 ghost use Rattle.pdl_lockapi.specs.Laws.{step_signals, ticket_at};
 ghost use Rattle.pdl_lock_ring.specs.Looks.{slot_of, head_signal};
@@ -39,11 +40,9 @@ fn emit_put_word(
 ) -> Result<Net, NoMemory>
     requires renaming { IsRenaming l }
     requires given { HasPorts b.old l.slots p.now }
-    requires slot { IsThere b.old slot }
-    requires slot_width { (signal b.old slot).width ≡ l.slots.ticket }
+    requires slot { HasWidth b.old slot l.slots.ticket }
     requires within { j < length p.now.writes }
-    requires before { IsThere b.old before }
-    requires before_width { (signal b.old before).width ≡ l.slots.width }
+    requires before { HasWidth b.old before l.slots.width }
     ensures means { IfOk result (λ x.
         Means b.new x (put_signal l (step_signals b.old p.now) (signal b.old slot) j
         (signal b.old before))) }
@@ -69,10 +68,8 @@ fn emit_stored(
     requires renaming { IsRenaming l }
     requires given { HasPorts b.old l.slots p.now }
     requires store { HasStore b.old l }
-    requires slot { IsThere b.old slot }
-    requires slot_width { (signal b.old slot).width ≡ l.slots.ticket }
-    requires place { IsThere b.old place }
-    requires place_width { (signal b.old place).width ≡ l.slots.kept }
+    requires slot { HasWidth b.old slot l.slots.ticket }
+    requires place { HasWidth b.old place l.slots.kept }
     ensures means { IfOk result (λ x.
         Means b.new x (stored_signal l (step_signals b.old p.now) (signal b.old slot)
         (signal b.old place) (length p.now.writes))) }

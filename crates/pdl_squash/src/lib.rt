@@ -4,7 +4,8 @@
 #![tactic(auto)]
 
 ghost use Rattle.std.specs.Prelude.{◌≡◌, ◌<◌, length, IfOk};
-ghost use Rattle.pdl_net.specs.Meaning.{IsThere, Means, signal};
+ghost use Rattle.pdl_net.specs.Meaning.{Means, signal};
+ghost use Rattle.pdl_net.specs.HasWidth.{HasWidth};
 ghost use Rattle.pdl_net.specs.Growth.{Extends};
 ghost use Rattle.pdl_squash.specs.Laws.{net_at, signal_at, AreBits, squash_signals, SquashLaw};
 ghost use Rattle.pdl_squash.specs.Nets.{squash_signal, removed_signal, clear_signal, MeanFrom};
@@ -55,8 +56,7 @@ fn emit_removed(
 ) -> Result<Seq<Net>, NoMemory>
     requires stage { p.now.stage < length p.now.valid }
     requires valid { AreBits b.old p.now.valid (length p.now.valid) }
-    requires squash_there { IsThere b.old squash }
-    requires squash_one { (signal b.old squash).width ≡ 1 }
+    requires squash_bit { HasWidth b.old squash 1 }
     requires squash { signal b.old squash ≡ squash_signal (squash_signals b.old p.now) }
     ensures means { IfOk result (λ xs. MeanFrom b.new xs 0 p.now.stage
         (removed_signal (squash_signals b.old p.now))) }
@@ -94,12 +94,9 @@ fn emit_clear(alloc: Global, b: &mut Builder, p: &SquashPorts) -> Result<Seq<Net
 pub fn emit_squash(alloc: Global, b: &mut Builder, p: &SquashPorts) -> Result<SquashNets, NoMemory>
     requires stage { p.now.stage < length p.now.valid }
     requires valid { AreBits b.old p.now.valid (length p.now.valid) }
-    requires moves_there { IsThere b.old p.now.moves }
-    requires moves_one { (signal b.old p.now.moves).width ≡ 1 }
-    requires fails_there { IsThere b.old p.now.fails }
-    requires fails_one { (signal b.old p.now.fails).width ≡ 1 }
-    ensures squash_there { IfOk result (λ n. IsThere b.new n.squash) }
-    ensures squash_one { IfOk result (λ n. (signal b.new n.squash).width ≡ 1) }
+    requires moves { HasWidth b.old p.now.moves 1 }
+    requires fails { HasWidth b.old p.now.fails 1 }
+    ensures squash { IfOk result (λ n. HasWidth b.new n.squash 1) }
     ensures removed { IfOk result (λ n. AreBits b.new n.removed p.now.stage) }
     ensures clear { IfOk result (λ n. AreBits b.new n.clear p.now.stage) }
     ensures law { IfOk result (λ n. SquashLaw (squash_signals b.old p.now)

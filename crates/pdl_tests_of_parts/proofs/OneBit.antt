@@ -6,6 +6,7 @@ use Rattle.pdl_net.specs.declared.Net.{Net}
 use Rattle.pdl_net.specs.declared.Net.TheVariants.{Input}
 use Rattle.pdl_net.specs.Circuit.{Circuit}
 use Rattle.pdl_net.specs.Meaning.{IsThere, signal}
+use Rattle.pdl_net.specs.HasWidth.{HasWidth}
 use Rattle.pdl_net.specs.Growth.{Extends}
 use Rattle.pdl_port.specs.Laws.{HasBits, net_at}
 use Rattle.pdl_net.proofs.Keeps.{extends_keeps}
@@ -30,16 +31,16 @@ upto P nets x n e last rest k l =
     (cases_lt k n)
 
 -- one net more
-pub bits_more : (a b : Circuit) (nets : List Net) (x : Net) (n : ℕ) → HasBits a nets n → Extends a b → IsThere b x
-    → (signal b x).width ≡ 1 → HasBits b (nets ++ x ∷ []) (n + 1)
-bits_more a b nets x n h e t w =
+pub bits_more : (a b : Circuit) (nets : List Net) (x : Net) (n : ℕ) → HasBits a nets n → Extends a b → HasWidth b x 1
+    → HasBits b (nets ++ x ∷ []) (n + 1)
+bits_more a b nets x n h e w =
     let g = bits_kept a b nets n h e in
     let There : Net → Type 0 = λ y. IsThere b y in
     let One : Net → Type 0 = λ y. (signal b y).width ≡ 1 in
     record {
       count = length-append nets (x ∷ []) ∙ omega (arith, h.count);
-      there = upto There nets x n h.count t g.there;
-      one = upto One nets x n h.count w g.one;
+      there = upto There nets x n h.count w.there g.there;
+      one = upto One nets x n h.count w.width g.one;
     }
 
 -- the nets of a squash

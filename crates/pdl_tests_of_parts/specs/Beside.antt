@@ -1,7 +1,7 @@
 -- Nets that drive the circuits beside the stages.
-use Rattle.std.specs.Prelude.{◌≡◌, ℕ, ◌<◌, length}
+use Rattle.std.specs.Prelude.{ℕ, ◌<◌, length}
 use Rattle.pdl_net.specs.Circuit.{Circuit}
-use Rattle.pdl_net.specs.Meaning.{IsThere, signal}
+use Rattle.pdl_net.specs.HasWidth.{HasWidth}
 use Rattle.pdl_port.specs.declared.PortStep.{PortStep}
 use Rattle.pdl_port.specs.Laws.{HasBits}
 use Rattle.pdl_squash.specs.declared.SquashPorts.{SquashPorts}
@@ -17,7 +17,5 @@ pub record IsStep (c : Circuit) (p : PortStep) (n : ℕ) : Type 0 where
 pub record IsSquash (c : Circuit) (p : SquashPorts) : Type 0 where
   pub stage : p.stage < length p.valid
   pub valid : AreBits c p.valid (length p.valid)
-  pub moves_there : IsThere c p.moves
-  pub moves_one : (signal c p.moves).width ≡ 1
-  pub fails_there : IsThere c p.fails
-  pub fails_one : (signal c p.fails).width ≡ 1
+  pub moves : HasWidth c p.moves 1
+  pub fails : HasWidth c p.fails 1

@@ -1,6 +1,5 @@
 // Calls of a builder, and the nets that they give; `n` is an input of 8 bits.
-ghost use Rattle.std.specs.Prelude.{◌≡◌};
-ghost use Rattle.pdl_net.specs.Meaning.{IsThere, signal};
+ghost use Rattle.pdl_net.specs.HasWidth.{HasWidth};
 ghost use Rattle.pdl_net.specs.Growth.{Extends};
 
 use pdl_build::Builder;
@@ -11,8 +10,7 @@ use std::mem::drop;
 
 /// Of equal cells there is one.
 fn equal_cells(b: &mut Builder, n: Net) -> Result<[Net; 4], NoMemory>
-    requires there { IsThere b.old n }
-    requires width { (signal b.old n).width ≡ 8 }
+    requires input { HasWidth b.old n 8 }
     ensures { Extends b.old b.new }
 {
     let x = b.constant(8, 5)?;
@@ -35,8 +33,7 @@ fn known_choice(b: &mut Builder) -> Result<[Net; 4], NoMemory>
 
 /// A part of a net, and a choice by it.
 fn choice_by_part(b: &mut Builder, n: Net) -> Result<[Net; 3], NoMemory>
-    requires there { IsThere b.old n }
-    requires width { (signal b.old n).width ≡ 8 }
+    requires input { HasWidth b.old n 8 }
     ensures { Extends b.old b.new }
 {
     let x = b.constant(8, 5)?;
@@ -49,8 +46,7 @@ fn choice_by_part(b: &mut Builder, n: Net) -> Result<[Net; 3], NoMemory>
 
 /// The widths of nets in a row, and of a part.
 fn row_widths(b: &mut Builder, n: Net) -> Result<[u8; 3], NoMemory>
-    requires there { IsThere b.old n }
-    requires width { (signal b.old n).width ≡ 8 }
+    requires input { HasWidth b.old n 8 }
     ensures { Extends b.old b.new }
 {
     let low = b.slice(n, 0, 0)?;
@@ -61,8 +57,7 @@ fn row_widths(b: &mut Builder, n: Net) -> Result<[u8; 3], NoMemory>
 
 /// Extensions; a net that is wide enough is its own.
 fn extensions(b: &mut Builder, n: Net) -> Result<(Net, u8), NoMemory>
-    requires there { IsThere b.old n }
-    requires width { (signal b.old n).width ≡ 8 }
+    requires input { HasWidth b.old n 8 }
     ensures { Extends b.old b.new }
 {
     let wide = b.sign_extend(n, 12)?;
@@ -72,8 +67,7 @@ fn extensions(b: &mut Builder, n: Net) -> Result<(Net, u8), NoMemory>
 
 /// Signed order, as an output; a register.
 fn ports(b: &mut Builder, name: &Name, n: Net) -> Result<usize, NoMemory>
-    requires there { IsThere b.old n }
-    requires width { (signal b.old n).width ≡ 8 }
+    requires input { HasWidth b.old n 8 }
 {
     let reg = b.reg(8, 3)?;
     b.next(reg, Net::Reg(reg));
@@ -93,8 +87,7 @@ fn arrays(b: &mut Builder, name: &Name) -> Result<(usize, Net), NoMemory> {
 
 /// Operators on a net and 0, and on one net twice.
 fn laws(b: &mut Builder, n: Net) -> Result<[Net; 5], NoMemory>
-    requires there { IsThere b.old n }
-    requires width { (signal b.old n).width ≡ 8 }
+    requires input { HasWidth b.old n 8 }
     ensures { Extends b.old b.new }
 {
     let zero = b.constant(8, 0)?;
@@ -107,8 +100,7 @@ fn laws(b: &mut Builder, n: Net) -> Result<[Net; 5], NoMemory>
 
 /// A shift by more than the width, a part of a part, and a complement twice.
 fn more_laws(b: &mut Builder, n: Net) -> Result<[Net; 4], NoMemory>
-    requires there { IsThere b.old n }
-    requires width { (signal b.old n).width ≡ 8 }
+    requires input { HasWidth b.old n 8 }
     ensures { Extends b.old b.new }
 {
     let nine = b.constant(8, 9)?;
@@ -123,8 +115,7 @@ fn more_laws(b: &mut Builder, n: Net) -> Result<[Net; 4], NoMemory>
 
 /// Which of these calls, one after the other, give what they should.
 fn given(b: &mut Builder, name: &Name, n: Net) -> [bool; 10]
-    requires there { IsThere b.old n }
-    requires width { (signal b.old n).width ≡ 8 }
+    requires input { HasWidth b.old n 8 }
 {
     let [five, sum, not] = [Net::Cell(0), Net::Cell(1), Net::Cell(2)];
     let [one, six, low, picked] = [Net::Cell(3), Net::Cell(4), Net::Cell(5), Net::Cell(6)];
@@ -163,8 +154,7 @@ fn nets(rt: HostRuntime) -> Result<(), NoMemory> {
 
 /// A word and 1, above itself.
 fn doubled(b: &mut Builder, n: Net) -> Result<usize, NoMemory>
-    requires there { IsThere b.old n }
-    requires width { (signal b.old n).width ≡ 8 }
+    requires input { HasWidth b.old n 8 }
     ensures { Extends b.old b.new }
 {
     let one = b.constant(8, 1)?;
@@ -177,8 +167,7 @@ fn doubled(b: &mut Builder, n: Net) -> Result<usize, NoMemory>
 
 /// A word and the sum of 2 and 3.
 fn added(b: &mut Builder, n: Net) -> Result<usize, NoMemory>
-    requires there { IsThere b.old n }
-    requires width { (signal b.old n).width ≡ 8 }
+    requires input { HasWidth b.old n 8 }
     ensures { Extends b.old b.new }
 {
     let two = b.constant(8, 2)?;

@@ -24,7 +24,7 @@ pub is_width_parts : (w : ℕ) → is_width w ≡ true → (1 ≤ w) × (w ≤ 6
 is_width_parts w h = let p = and_parts (leb 1 w) (leb w 64) h in (leb-true 1 w p.0, leb-true w 64 p.1)
 
 -- a cell fits, and its signal has this width
-record HasWidth (c : Circuit) (There : Net → Type 0) (at : Net → Signal) (g : Cell) (w : ℕ) : Type 0 where
+record FitsWidth (c : Circuit) (There : Net → Type 0) (at : Net → Signal) (g : Cell) (w : ℕ) : Type 0 where
   fit : FitsIn c There at g
   width : (cell_signal c at g).width ≡ w
 
@@ -33,7 +33,7 @@ module _ (c : Circuit) (f : File) (h : Has c f) (There : Net → Type 0) (at : N
   abbrev declared_width : Net → ℕ
   declared_width x = net_width (widths_of f) x
 
-  cell_fits : (g : Cell) (w : ℕ) → NetsThere c There g → 1 ≤ w → w ≤ 64 → fits_cell (widths_of f) g w ≡ true → HasWidth c There at g w
+  cell_fits : (g : Cell) (w : ℕ) → NetsThere c There g → 1 ≤ w → w ≤ 64 → fits_cell (widths_of f) g w ≡ true → FitsWidth c There at g w
   cell_fits (made.Const own v) w n l m e =
       let p = and_parts (eqb own w) (fits v own) e in
       let q = and_parts (is_width own) (ltb v (2 ^ own)) p.1 in

@@ -24,11 +24,11 @@ returns-clause-law c =
     let removed : MeanFrom d c.in_ok-removed.removed 0 p.stage (removed_signal (squash_signals b p)) =
     mean_kept r d _ 0 p.stage _ c.in_ok-removed.ensures.means c.in_ok-clear.ensures.extends in
     let clear = c.in_ok-clear.ensures.means in
-    let early = signals_alike a b p q.stage q.valid q.moves_there q.fails_there x in
-    let late = signals_alike a r p q.stage q.valid q.moves_there q.fails_there y in
+    let early = signals_alike a b p q.stage q.valid q.moves.there q.fails.there x in
+    let late = signals_alike a r p q.stage q.valid q.moves.there q.fails.there y in
     let o = c.in_ok-squash.ensures.means in
     squash_law (squash_signals a p) _ _ _
     (z.kept _ o.there ∙ o.same
-    ∙ squash_is a c.constant.new.self p c.in_ok-zero.zero q.moves_there q.fails_there c.in_ok-zero.ensures.extends c.in_ok-zero.ensures.means)
+    ∙ squash_is a c.constant.new.self p c.in_ok-zero.zero q.moves.there q.fails.there c.in_ok-zero.ensures.extends c.in_ok-zero.ensures.means)
     (λ k lo hi. removed.same k lo hi ∙ removed_alike _ _ k early hi)
     (λ k lo hi. clear.same k lo hi ∙ clear_alike _ _ k late hi)

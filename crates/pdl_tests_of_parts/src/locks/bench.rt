@@ -1,6 +1,6 @@
 // A circuit round a lock: registers that a test sets drive two looks and two ports of each kind.
 ghost use Rattle.std.specs.Prelude.{◌≡◌, ◌≤◌, ◌∷◌, [], IfOk, OnOk};
-ghost use Rattle.pdl_net.specs.Meaning.{IsThere, signal};
+ghost use Rattle.pdl_net.specs.HasWidth.{HasWidth};
 ghost use Rattle.pdl_net.specs.Growth.{Extends};
 ghost use Rattle.pdl_lockapi.specs.Laws.{HasNoPorts};
 ghost use Rattle.pdl_tests_of_parts.specs.Driven.{IsLook, IsReserve, IsWrite, IsEnd, AreDrivers, reserve_of, write_of};
@@ -36,8 +36,7 @@ pub struct Bench {
 fn emit_driver(b: &mut Builder, width: u8) -> Result<usize, NoMemory>
     requires low { 1 ≤ width }
     requires high { width ≤ 64 }
-    ensures there { IfOk result (λ r. IsThere b.new (Net.Reg r)) }
-    ensures wide { IfOk result (λ r. (signal b.new (Net.Reg r)).width ≡ width) }
+    ensures driver { IfOk result (λ r. HasWidth b.new (Net.Reg r) width) }
     ensures extends { Extends b.old b.new }
 {
     b.reg(width, 0)

@@ -1,6 +1,6 @@
 // Registers of 1 bit that a test sets.
-ghost use Rattle.std.specs.Prelude.{◌≡◌, IfOk};
-ghost use Rattle.pdl_net.specs.Meaning.{IsThere, signal};
+ghost use Rattle.std.specs.Prelude.{IfOk};
+ghost use Rattle.pdl_net.specs.HasWidth.{HasWidth};
 ghost use Rattle.pdl_net.specs.Growth.{Extends};
 ghost use Rattle.pdl_port.specs.Laws.{HasBits};
 
@@ -12,8 +12,7 @@ use std::alloc::Global;
 
 /// One of them.
 pub fn emit_bit(b: &mut Builder) -> Result<Net, NoMemory>
-    ensures there { IfOk result (λ x. IsThere b.new x) }
-    ensures one { IfOk result (λ x. (signal b.new x).width ≡ 1) }
+    ensures bit { IfOk result (λ x. HasWidth b.new x 1) }
     ensures extends { Extends b.old b.new }
 {
     let reg = b.reg(1, 0)?;

@@ -1,6 +1,6 @@
 // The port of a delayed memory in a netlist, and by hand.
-ghost use Rattle.std.specs.Prelude.{◌≡◌, ◌≤◌, IfOk};
-ghost use Rattle.pdl_net.specs.Meaning.{IsThere, signal};
+ghost use Rattle.std.specs.Prelude.{◌≤◌, IfOk};
+ghost use Rattle.pdl_net.specs.HasWidth.{HasWidth};
 ghost use Rattle.pdl_net.specs.Growth.{Extends};
 ghost use Rattle.pdl_tests_of_parts.specs.Beside.{IsStep};
 
@@ -39,10 +39,8 @@ struct Reply {
 fn emit_reply(b: &mut Builder, width: u8) -> Result<Reply, NoMemory>
     requires low { 1 ≤ width }
     requires high { width ≤ 64 }
-    ensures bit_there { IfOk result (λ r. IsThere b.new r.bit) }
-    ensures bit_one { IfOk result (λ r. (signal b.new r.bit).width ≡ 1) }
-    ensures word_there { IfOk result (λ r. IsThere b.new r.word) }
-    ensures word_width { IfOk result (λ r. (signal b.new r.word).width ≡ width) }
+    ensures bit { IfOk result (λ r. HasWidth b.new r.bit 1) }
+    ensures word { IfOk result (λ r. HasWidth b.new r.word width) }
 {
     let bit = emit_bit(b)?;
     let word = b.reg(width, 0)?;

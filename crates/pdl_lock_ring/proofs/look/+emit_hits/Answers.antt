@@ -3,6 +3,7 @@ use Rattle.pdl_net.specs.Signal.{Signal, const_signal}
 use Rattle.pdl_net.specs.Growth.{Extends}
 use Rattle.pdl_net.specs.Meaning.{signal}
 use Rattle.pdl_net.proofs.Keeps.{extends_trans}
+use Rattle.pdl_net.proofs.KeptWidths.{width_kept}
 use Rattle.pdl_lock_ring.specs.Choices.{some_signal}
 use Rattle.pdl_lock_ring.specs.Looks.{hit_at}
 use Rattle.pdl_lock_ring.proofs.RingGrowth.{slots_kept, means_as, same_mux}
@@ -13,16 +14,7 @@ pub emit_hits-requires : goal.emit_hits-requires
 emit_hits-requires t c =
     let h = halved c.args.bits c.if-bits-eq0.false in (
       search rules,
-      (
-        c.requires.sized,
-        (
-          c.requires.slots,
-          (
-            c.requires.addr_there,
-            (c.requires.addr_width, (c.requires.older_there, (c.requires.older_width, (omega (arith, c.requires.bits), omega (arith, c.requires.within, h))))),
-          ),
-        ),
-      ),
+      (c.requires.sized, (c.requires.slots, (c.requires.addr, (c.requires.older, (omega (arith, c.requires.bits), omega (arith, c.requires.within, h)))))),
     )
 
 pub emit_hits-requires-2 : goal.emit_hits-requires-2
@@ -38,16 +30,10 @@ emit_hits-requires-2 t c =
         (
           slots_kept a b l c.requires.slots x,
           (
-            x.there c.args.addr c.requires.addr_there,
+            width_kept a b c.args.addr l.bits x c.requires.addr,
             (
-              ap (λ (g : Signal). g.width) (x.kept c.args.addr c.requires.addr_there) ∙ c.requires.addr_width,
-              (
-                x.there c.args.older c.requires.older_there,
-                (
-                  ap (λ (g : Signal). g.width) (x.kept c.args.older c.requires.older_there) ∙ c.requires.older_width,
-                  (omega (arith, c.requires.bits), omega (arith, c.requires.within, h, c.power-half.ensures)),
-                ),
-              ),
+              width_kept a b c.args.older l.ticket x c.requires.older,
+              (omega (arith, c.requires.bits), omega (arith, c.requires.within, h, c.power-half.ensures)),
             ),
           ),
         ),
@@ -69,7 +55,7 @@ returns-clause-means t c =
     let x3 = c.in_ok-one.ensures.extends in
     let x23 : Extends b1 b3 = extends_trans b1 b2 b3 x2 x3 in
     let same : hit_at l (signal b1 c.args.addr) (signal b1 c.args.older) ≡ f =
-    ap₂ F (x1.kept c.args.addr c.requires.addr_there) (x1.kept c.args.older c.requires.older_there) in
+    ap₂ F (x1.kept c.args.addr c.requires.addr.there) (x1.kept c.args.older c.requires.older.there) in
     let low : signal b3 c.in_ok-low.low ≡ some_signal f top c.args.from = x23.kept _ c.in_ok-low.ensures.means.there ∙ c.in_ok-low.ensures.means.same in
     let high : signal b3 c.in_ok-high.high ≡ some_signal f top (c.args.from + 2 ^ top) =
     x3.kept _ c.in_ok-high.ensures.means.there ∙ c.in_ok-high.ensures.means.same

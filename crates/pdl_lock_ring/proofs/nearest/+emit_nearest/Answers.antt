@@ -1,8 +1,9 @@
-use Rattle.std.proofs.Common.{rules, ◌≡◌, ◌+◌, ◌-◌, ◌^◌, ◌≤◌, ◌<◌, sym, ap, ap₂, ◌∙◌, subst, arith}
+use Rattle.std.proofs.Common.{rules, ◌≡◌, ◌+◌, ◌-◌, ◌^◌, ◌≤◌, ◌<◌, sym, ap₂, ◌∙◌, subst, arith}
 use Rattle.pdl_net.specs.Signal.{Signal}
 use Rattle.pdl_net.specs.Growth.{Extends}
 use Rattle.pdl_net.specs.Meaning.{signal}
 use Rattle.pdl_net.proofs.Keeps.{extends_keeps}
+use Rattle.pdl_net.proofs.KeptWidths.{width_kept}
 use Rattle.pdl_lock_ring.specs.Looks.{key_at}
 use Rattle.pdl_lock_ring.specs.Seeks.{IsNearest}
 use Rattle.pdl_lock_ring.proofs.RingGrowth.{slots_kept}
@@ -14,16 +15,7 @@ pub emit_nearest-requires : goal.emit_nearest-requires
 emit_nearest-requires t c =
     let h = halved c.args.bits c.if-bits-eq0.false in (
       search rules,
-      (
-        c.requires.sized,
-        (
-          c.requires.slots,
-          (
-            c.requires.addr_there,
-            (c.requires.addr_width, (c.requires.last_there, (c.requires.last_width, (omega (arith, c.requires.bits), omega (arith, c.requires.within, h))))),
-          ),
-        ),
-      ),
+      (c.requires.sized, (c.requires.slots, (c.requires.addr, (c.requires.last, (omega (arith, c.requires.bits), omega (arith, c.requires.within, h)))))),
     )
 
 pub emit_nearest-requires-2 : goal.emit_nearest-requires-2
@@ -39,17 +31,8 @@ emit_nearest-requires-2 t c =
         (
           slots_kept a b l c.requires.slots x,
           (
-            x.there c.args.addr c.requires.addr_there,
-            (
-              ap (λ (g : Signal). g.width) (x.kept c.args.addr c.requires.addr_there) ∙ c.requires.addr_width,
-              (
-                x.there c.args.last c.requires.last_there,
-                (
-                  ap (λ (g : Signal). g.width) (x.kept c.args.last c.requires.last_there) ∙ c.requires.last_width,
-                  (omega (arith, c.requires.bits), omega (arith, c.requires.within, h, c.power-half.ensures)),
-                ),
-              ),
-            ),
+            width_kept a b c.args.addr l.bits x c.requires.addr,
+            (width_kept a b c.args.last l.ticket x c.requires.last, (omega (arith, c.requires.bits), omega (arith, c.requires.within, h, c.power-half.ensures))),
           ),
         ),
       ),
@@ -87,7 +70,7 @@ returns-clause-nearest t c =
     let top = c.args.bits - 1 in
     let x1 = c.in_ok-low.ensures.extends in
     let same : key_at l (signal b1 c.args.addr) (signal b1 c.args.last) ≡ f =
-    ap₂ F (x1.kept c.args.addr c.requires.addr_there) (x1.kept c.args.last c.requires.last_there) in
+    ap₂ F (x1.kept c.args.addr c.requires.addr.there) (x1.kept c.args.last c.requires.last.there) in
     let low = nearest_keep b1 b2 l f top c.args.from c.in_ok-low.low c.in_ok-low.ensures.nearest (extends_keeps b1 b2 c.in_ok-high.ensures.extends) in
     let high =
     subst (λ m. IsNearest b2 l f top (c.args.from + m) c.in_ok-high.high) c.power-half.ensures

@@ -5,6 +5,7 @@ use Rattle.pdl_net.specs.Signal.{Signal, const_signal, mux_signal}
 use Rattle.pdl_net.specs.Meaning.{Means, signal}
 use Rattle.pdl_net.specs.Growth.{Extends}
 use Rattle.pdl_net.proofs.Keeps.{extends_trans, extends_keeps}
+use Rattle.pdl_net.proofs.KeptWidths.{width_kept, width_meant}
 use Rattle.pdl_lockapi.specs.Laws.{StepSignals, step_signals}
 use Rattle.pdl_lockapi.proofs.LockGrowth.{same_signals}
 use Rattle.pdl_lock_ring.specs.Looks.{slot_of, tail_signal, second_ticket}
@@ -18,17 +19,17 @@ mux-requires-clause-one c =
     let f = step_signals c.args.b.now c.args.p.now in
     ap (λ (g : Signal). g.width) c.in_ok-asked.ensures.asked.two.same ∙ push2_width f _
 
-pub emit_gate-requires-clause-on_one : goal.emit_gate-requires-clause-on_one
-emit_gate-requires-clause-on_one c =
+pub emit_gate-requires-clause-on : goal.emit_gate-requires-clause-on
+emit_gate-requires-clause-on c =
     let b1 = c.emit_asked.new.b in
     let b2 = c.mux.new.self in
     let b3 = c.emit_ticket2.new.b in
     let f = step_signals c.args.b.now c.args.p.now in
     let x : Extends b1 b3 = extends_trans b1 b2 b3 c.in_ok-first.ensures.extends c.in_ok-ticket2.ensures.extends in
-    ap (λ (g : Signal). g.width) (later_is b1 b3 _ _ x c.in_ok-asked.ensures.asked.one) ∙ push_width f _
+    width_kept b1 b3 _ 1 x (width_meant b1 _ _ 1 c.in_ok-asked.ensures.asked.one (push_width f _))
 
-pub emit_gate-requires-2-clause-on_one : goal.emit_gate-requires-2-clause-on_one
-emit_gate-requires-2-clause-on_one c =
+pub emit_gate-requires-2-clause-on : goal.emit_gate-requires-2-clause-on
+emit_gate-requires-2-clause-on c =
     let b1 = c.emit_asked.new.b in
     let b2 = c.mux.new.self in
     let b3 = c.emit_ticket2.new.b in
@@ -36,7 +37,7 @@ emit_gate-requires-2-clause-on_one c =
     let f = step_signals c.args.b.now c.args.p.now in
     let x : Extends b1 b3 = extends_trans b1 b2 b3 c.in_ok-first.ensures.extends c.in_ok-ticket2.ensures.extends in
     let y : Extends b1 b4 = extends_trans b1 b3 b4 x c.in_ok-first_slot.ensures.extends in
-    ap (λ (g : Signal). g.width) (later_is b1 b4 _ _ y c.in_ok-asked.ensures.asked.two) ∙ push2_width f _
+    width_kept b1 b4 _ 1 y (width_meant b1 _ _ 1 c.in_ok-asked.ensures.asked.two (push2_width f _))
 
 pub returns-clause-ready : goal.returns-clause-ready
 returns-clause-ready c =

@@ -240,7 +240,7 @@ show-requires g c =
       stages = shown_there i x c.as_slice-3.result.now line shown;
       commits = subst (AreCommits i (line_pipe x)) (sym c.as_slice-4.ensures.value) commits;
       asks = subst (AreAsked i (line_pipe x)) (sym c.as_slice-5.ensures.value) asked;
-      squash = (bit_keep b i y.squash bi moved.moved.squash).0;
+      squash = (bit_keep b i y.squash bi moved.moved.squash).there;
     } in
     record { there = subst (OutsThere i) (sym c.as_slice-6.ensures) (c.in_ok-outs.ensures.there i told) }
 
@@ -280,7 +280,7 @@ returns g c =
       stages = shown_there i x c.as_slice-3.result.now line shown;
       commits = subst (AreCommits i (line_pipe x)) (sym c.as_slice-4.ensures.value) commits;
       asks = subst (AreAsked i (line_pipe x)) (sym c.as_slice-5.ensures.value) asked;
-      squash = (bit_keep b i y.squash bi moved.moved.squash).0;
+      squash = (bit_keep b i y.squash bi moved.moved.squash).there;
     } in
     let d = c.show.new.b in
     let es = c.in_ok-ends.ends.items in

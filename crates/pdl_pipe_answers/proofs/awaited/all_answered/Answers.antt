@@ -31,12 +31,11 @@ loop-i-preserved c =
     let m = length c.mems-count.result.now - 1 - i in
     let done = c.in_ok-done.ensures.on in
     let net = c.in_ok-net.ensures.on in
-    let old = c.memory_done.ensures.extends.kept c.loop-i.net c.loop-i.invariant.2.there in (
+    let old = c.memory_done.ensures.extends.kept c.loop-i.net c.loop-i.invariant.2.bit.there in (
       extends_trans a b d c.loop-i.invariant.0 (extends_trans b m0 d c.memory_done.ensures.extends c.both_bits.ensures.extends),
       c.both_bits.ensures.regs ∙ c.memory_done.ensures.regs ∙ c.loop-i.invariant.1,
       record {
-        there = net.there;
-        one = net.one;
+        bit = net.bit;
         on = λ s.
             net.on s
             ∙ both_as (signal m0 c.in_ok-done.done) (signal m0 c.loop-i.net) (memory_answered p f k m (reading p m)) (all_answered p f k i (n - i))

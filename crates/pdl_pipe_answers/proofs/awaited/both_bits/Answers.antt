@@ -9,18 +9,10 @@ pub returns-then-are_same-clause-on : goal.returns-then-are_same-clause-on
 returns-then-are_same-clause-on c =
     let b = c.args.b.now in
     let is = ap (signal b) (c.if-are_same.ensures refl) ∙ c.requires.bits.one.same in
-    record {
-      there = c.requires.x.0;
-      one = c.requires.x.1;
-      on = λ s. both_one (signal b c.args.x) s ∙ ap (λ (f : Signal). is_on (both (signal b c.args.x) f) s) (sym is);
-    }
+    record { bit = c.requires.x; on = λ s. both_one (signal b c.args.x) s ∙ ap (λ (f : Signal). is_on (both (signal b c.args.x) f) s) (sym is) }
 
 pub returns-then-are_same-2-clause-on : goal.returns-then-are_same-2-clause-on
 returns-then-are_same-2-clause-on c =
     let b = c.args.b.now in
     let is = ap (signal b) (c.if-are_same-2.ensures refl) ∙ c.requires.bits.one.same in
-    record {
-      there = c.requires.y.0;
-      one = c.requires.y.1;
-      on = λ s. one_both (signal b c.args.y) s ∙ ap (λ (f : Signal). is_on (both f (signal b c.args.y)) s) (sym is);
-    }
+    record { bit = c.requires.y; on = λ s. one_both (signal b c.args.y) s ∙ ap (λ (f : Signal). is_on (both f (signal b c.args.y)) s) (sym is) }

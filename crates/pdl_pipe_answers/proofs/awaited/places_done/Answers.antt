@@ -28,8 +28,7 @@ returns-in_ok-done-in-Forks-clause-on c =
     let done = c.in_ok-done-in-Forks.ensures.on in
     let rest = answered_where (second == k) (answer_signals a r 1) one in
     record {
-      there = done.there;
-      one = done.one;
+      bit = done.bit;
       on = λ s.
           done.on s
           ∙ ap (λ (y : AnswerSignals). is_on (answered_where (first == k) y (signal b c.in_ok-later-in-Forks.later)) s) place

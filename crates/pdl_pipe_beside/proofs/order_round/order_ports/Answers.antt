@@ -72,7 +72,7 @@ returns-then-is_emptied-clause-same c =
     ∙ ap₂ both (move_same a b3 f es k (extends_keeps a b3 to3) c.requires.ends)
     (second.means.same ∙ ap (λ (v : View). into_second p k n v.ended) (view_same a b2 f es k (extends_keeps a b2 to2) c.requires.ends)))
     (left.means.same ∙ leaves_same a b4 f es k (extends_keeps a b4 to4) c.requires.ends)
-    (to_end.kept c.args.squash c.requires.squash
+    (to_end.kept c.args.squash c.requires.squash.there
     ∙ sym (ap (λ b. if b then signal a c.args.squash else zero_bit) (sym c.is_emptied.ensures ∙ c.if-is_emptied.true)))
 
 pub returns-else-is_emptied-clause-same : goal.returns-else-is_emptied-clause-same

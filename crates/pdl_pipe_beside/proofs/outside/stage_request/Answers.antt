@@ -17,6 +17,6 @@ returns-clause-addr c =
       same =
           addr.same
           ∙ ap₂ (λ (f : Signal) (qs : List Ask). address_from c.args.m f (const_signal c.args.width 0) qs)
-          (e.kept c.args.moves c.requires.moves)
+          (e.kept c.args.moves c.requires.moves.there)
           (asks_same a b c.args.m c.args.width c.args.asks.now (extends_keeps a b e) c.requires.asks);
     }

@@ -8,6 +8,7 @@ use Rattle.pdl_net.specs.declared.Net.{Net}
 use Rattle.pdl_net.specs.Signal.{Signal}
 use Rattle.pdl_net.specs.Meaning.{signal}
 use Rattle.pdl_net.proofs.Keeps.{extends_keeps, extends_trans}
+use Rattle.pdl_net.proofs.KeptWidths.{width_keeps}
 use Rattle.pdl_machine_inflight.specs.Readings.{places, places_of, place_at}
 use Rattle.pdl_pipe_answers.specs.Readings.{reading_view}
 use Rattle.pdl_law_parts.specs.Walk.{both}
@@ -58,16 +59,16 @@ loop-i-preserved c =
     into.means.same
     ∙ ap₂ (λ (g : Signal) (vs : List View). both g (goes_to_place (stage_at p r.stage).next i (slice_index_or vs r.stage no_view).ended))
     (v.extends.kept asks first.means.there ∙ first.means.same) views in
-    let moves_are = to_d.kept e.moves is.moves ∙ move_at a es c.place.result e within c.end_at-end.ensures ∙ ap (moves_in a es) place_is in
-    let kills_are = to_d.kept e.killed is.killed ∙ kill_at a es c.place.result e within c.end_at-end.ensures ∙ ap (kills_in a es) place_is in
+    let moves = width_keeps a d e.moves 1 (extends_keeps a d to_d) is.moves in
+    let killed = width_keeps a d e.killed 1 (extends_keeps a d to_d) is.killed in
+    let moves_are = to_d.kept e.moves is.moves.there ∙ move_at a es c.place.result e within c.end_at-end.ensures ∙ ap (moves_in a es) place_is in
+    let kills_are = to_d.kept e.killed is.killed.there ∙ kill_at a es c.place.result e within c.end_at-end.ensures ∙ ap (kills_in a es) place_is in
     record {
       asked = subst (λ (xs : List Net). AreNetsOf d xs (i + 1) (asked_into p (ends_in a es) (moves_in a es) c.args.m r)) (sym c.in_ok-push.ensures.ok)
           (nets_more b d c.loop-i.asked i (asked_into p (ends_in a es) (moves_in a es) c.args.m r) x v.asked into.extends into.means.there into.one asked_is);
       moves = subst (λ (xs : List Net). AreNetsOf d xs (i + 1) (λ j. moves_in a es (place_at p r j))) (sym c.in_ok-push-2.ensures.ok)
-          (nets_more b d c.loop-i.moves i (λ j. moves_in a es (place_at p r j)) e.moves v.moves into.extends (to_d.there e.moves is.moves)
-          (ap (λ (g : Signal). g.width) (to_d.kept e.moves is.moves) ∙ is.moves_one) moves_are);
+          (nets_more b d c.loop-i.moves i (λ j. moves_in a es (place_at p r j)) e.moves v.moves into.extends moves.there moves.width moves_are);
       removed = subst (λ (xs : List Net). AreNetsOf d xs (i + 1) (λ j. kills_in a es (place_at p r j))) (sym c.in_ok-push-3.ensures.ok)
-          (nets_more b d c.loop-i.removed i (λ j. kills_in a es (place_at p r j)) e.killed v.removed into.extends (to_d.there e.killed is.killed)
-          (ap (λ (g : Signal). g.width) (to_d.kept e.killed is.killed) ∙ is.killed_one) kills_are);
+          (nets_more b d c.loop-i.removed i (λ j. kills_in a es (place_at p r j)) e.killed v.removed into.extends killed.there killed.width kills_are);
       extends = extends_trans o b d v.extends into.extends;
     }

@@ -20,4 +20,4 @@ returns-clause-port c r at =
     is_port d p c.args.m c.args.stage c.in_ok-info.info.width c.place_count-count.result i q
     (c.in_ok-info.ensures ∙ ap (λ (x : Mem). x.width) c.memory.ensures)
     (c.place_count-count.ensures.count ∙ ap (λ (n : Next). length (places_of n)) c.next_of.ensures)
-    (s.extends.there i.word c.requires.input.word_there) s.reply s.word s.count s.nets s.placed (own_there a d q s.fragment) s.start s.answers r at
+    (s.extends.there i.word c.requires.input.word.there) s.reply s.word s.count s.nets s.placed (own_there a d q s.fragment) s.start s.answers r at

@@ -1,7 +1,7 @@
-use Rattle.std.proofs.Common.{get_or, refl, ap, ◌∙◌}
+use Rattle.std.proofs.Common.{get_or, refl}
 use Rattle.pdl_net.specs.declared.Net.TheVariants.{Input}
-use Rattle.pdl_net.specs.Signal.{Signal}
 use Rattle.pdl_net.proofs.Keeps.{extends_keeps, extends_trans}
+use Rattle.pdl_net.proofs.KeptWidths.{width_kept}
 use Rattle.pdl_pipe_exprs.proofs.NetLists.{bits_kept}
 use Rattle.pdl_pipe_walk.specs.declared.nets.ReserveNet.{ReserveNet}
 use Rattle.pdl_pipe_locks.specs.Ports.{IsGivenReserve}
@@ -21,8 +21,8 @@ push_reserve-requires-clause-given c =
     each_get (IsGivenReserve c.loop-r.b) c.args.reserves.now c.loop-r.r-index no_reserve c.loop-r-test.true
     (given_reserves c.args.b.now c.loop-r.b k c.args.reserves.now c.requires.given)
 
-pub push_reserve-requires-clause-one : goal.push_reserve-requires-clause-one
-push_reserve-requires-clause-one c = ap (λ (f : Signal). f.width) (c.loop-r.invariant.extends.kept c.args.moves c.requires.moves) ∙ c.requires.one
+pub push_reserve-requires-clause-moves : goal.push_reserve-requires-clause-moves
+push_reserve-requires-clause-moves c = width_kept c.args.b.now c.loop-r.b c.args.moves 1 c.loop-r.invariant.extends c.requires.moves
 
 pub loop-r-preserved : goal.loop-r-preserved
 loop-r-preserved c =
@@ -36,7 +36,7 @@ loop-r-preserved c =
     record {
       extends = extends_trans a b d v.extends c.in_ok-push_reserve.ensures.extends;
       adds = reserves_step a b d c.args.ports.now c.loop-r.ports c.push_reserve.new.ports c.args.m c.args.moves rs i no_reserve (get_or rs i no_reserve)
-          (extends_keeps a b v.extends) c.requires.moves c.loop-r-test.true refl given v.adds c.in_ok-push_reserve.ensures.adds;
+          (extends_keeps a b v.extends) c.requires.moves.there c.loop-r-test.true refl given v.adds c.in_ok-push_reserve.ensures.adds;
     }
 
 pub returns-clause-adds : goal.returns-clause-adds

@@ -1,7 +1,7 @@
-use Rattle.std.proofs.Common.{get_or, refl, ap, ◌∙◌}
+use Rattle.std.proofs.Common.{get_or, refl}
 use Rattle.pdl_net.specs.declared.Net.TheVariants.{Input}
-use Rattle.pdl_net.specs.Signal.{Signal}
 use Rattle.pdl_net.proofs.Keeps.{extends_keeps, extends_trans}
+use Rattle.pdl_net.proofs.KeptWidths.{width_kept}
 use Rattle.pdl_pipe_exprs.proofs.NetLists.{bits_kept}
 use Rattle.pdl_pipe_walk.specs.declared.nets.PutNet.{PutNet}
 use Rattle.pdl_pipe_locks.specs.Ports.{IsGivenPut}
@@ -21,8 +21,8 @@ push_write-requires-clause-given c =
     each_get (IsGivenPut c.loop-x.b) c.args.puts.now c.loop-x.x-index no_put c.loop-x-test.true
     (given_puts c.args.b.now c.loop-x.b k c.args.puts.now c.requires.given)
 
-pub push_write-requires-clause-one : goal.push_write-requires-clause-one
-push_write-requires-clause-one c = ap (λ (f : Signal). f.width) (c.loop-x.invariant.extends.kept c.args.moves c.requires.moves) ∙ c.requires.one
+pub push_write-requires-clause-moves : goal.push_write-requires-clause-moves
+push_write-requires-clause-moves c = width_kept c.args.b.now c.loop-x.b c.args.moves 1 c.loop-x.invariant.extends c.requires.moves
 
 pub loop-x-preserved : goal.loop-x-preserved
 loop-x-preserved c =
@@ -36,7 +36,7 @@ loop-x-preserved c =
     record {
       extends = extends_trans a b d v.extends c.in_ok-push_write.ensures.extends;
       adds = writes_step a b d c.args.ports.now c.loop-x.ports c.push_write.new.ports c.args.m c.args.moves c.args.ticket rs i no_put (get_or rs i no_put)
-          (extends_keeps a b v.extends) c.requires.moves c.requires.ticket c.loop-x-test.true refl given v.adds c.in_ok-push_write.ensures.adds;
+          (extends_keeps a b v.extends) c.requires.moves.there c.requires.ticket c.loop-x-test.true refl given v.adds c.in_ok-push_write.ensures.adds;
     }
 
 pub returns-clause-adds : goal.returns-clause-adds

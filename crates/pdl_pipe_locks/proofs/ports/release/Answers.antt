@@ -1,7 +1,7 @@
-use Rattle.std.proofs.Common.{◌-◌, List, length, map, sym, ap, ◌∙◌, subst, arith}
+use Rattle.std.proofs.Common.{◌-◌, List, length, map, sym, subst, arith}
 use Rattle.pdl_net.specs.Meaning.{signal, Means}
-use Rattle.pdl_net.specs.Signal.{Signal}
 use Rattle.pdl_net.proofs.Keeps.{extends_keeps, extends_trans}
+use Rattle.pdl_net.proofs.KeptWidths.{width_meant}
 use Rattle.pdl_pipe_exprs.proofs.NetLists.{bits_kept}
 use Rattle.pdl_law_parts.specs.Ports.{release_moves}
 use Rattle.pdl_pipe_walk.specs.declared.nets.LettingNet.{LettingNet}
@@ -33,25 +33,13 @@ releases_or-requires-clause-moves c =
     let d = c.deed_at-deed.result in
     let given =
     each_at (IsGiven c.args.b.now c.args.m) ds (length ds - 1 - c.loop-i.i) d (omega (arith, c.loop-i-test.true)) c.deed_at-deed.ensures c.requires.given in
-    k.there d.moves given.moves
-
-pub releases_or-requires-clause-one : goal.releases_or-requires-clause-one
-releases_or-requires-clause-one c =
-    let k = extends_keeps c.args.b.now c.loop-i.b c.loop-i.invariant.extends in
-    let ds = c.args.deeds.now in
-    let d = c.deed_at-deed.result in
-    let given =
-    each_at (IsGiven c.args.b.now c.args.m) ds (length ds - 1 - c.loop-i.i) d (omega (arith, c.loop-i-test.true)) c.deed_at-deed.ensures c.requires.given in
-    (given_kept c.args.b.now c.loop-i.b k c.args.m d given).one
+    (given_kept c.args.b.now c.loop-i.b k c.args.m d given).moves
 
 pub releases_or-requires-clause-rest : goal.releases_or-requires-clause-rest
-releases_or-requires-clause-rest c = c.loop-i.invariant.means.there
-
-pub releases_or-requires-clause-rest_one : goal.releases_or-requires-clause-rest_one
-releases_or-requires-clause-rest_one c =
+releases_or-requires-clause-rest c =
     let a = c.args.b.now in
     let ds = c.args.deeds.now in
-    ap (λ (f : Signal). f.width) c.loop-i.invariant.means.same ∙ released_one c.args.m (views_in a ds) (moves_in a ds) c.loop-i.i (length ds - c.loop-i.i)
+    width_meant c.loop-i.b c.loop-i.net _ 1 c.loop-i.invariant.means (released_one c.args.m (views_in a ds) (moves_in a ds) c.loop-i.i (length ds - c.loop-i.i))
 
 pub loop-i-preserved : goal.loop-i-preserved
 loop-i-preserved c =

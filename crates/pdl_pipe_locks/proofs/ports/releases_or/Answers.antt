@@ -1,7 +1,7 @@
-use Rattle.std.proofs.Common.{◌-◌, length, map, drop, ap, ◌∙◌, arith}
+use Rattle.std.proofs.Common.{◌-◌, length, map, drop, arith}
 use Rattle.pdl_net.specs.Meaning.{signal}
-use Rattle.pdl_net.specs.Signal.{Signal}
 use Rattle.pdl_net.proofs.Keeps.{extends_keeps, extends_refl, extends_trans}
+use Rattle.pdl_net.proofs.KeptWidths.{width_kept, width_meant}
 use Rattle.pdl_pipe_exprs.proofs.NetLists.{bits_kept}
 use Rattle.pdl_pipe_walk.specs.Parts.{letting_in}
 use Rattle.pdl_pipe_locks.specs.Ports.{IsGivenLetting}
@@ -13,7 +13,7 @@ use Rattle.pdl_pipe_locks.proofs.ports.releases_or.Goals as goal
 pub loop-i-init : goal.loop-i-init
 loop-i-init c =
     let a = c.args.b.now in
-    record { extends = extends_refl a; means = lets_begin a c.args.m (signal a c.args.moves) c.args.lettings.now c.args.rest c.requires.rest }
+    record { extends = extends_refl a; means = lets_begin a c.args.m (signal a c.args.moves) c.args.lettings.now c.args.rest c.requires.rest.there }
 
 pub release_or-requires-clause-bits : goal.release_or-requires-clause-bits
 release_or-requires-clause-bits c = bits_kept c.args.b.now c.loop-i.b c.args.bits c.loop-i.invariant.extends c.requires.bits
@@ -27,20 +27,14 @@ release_or-requires-clause-given c =
     (given_lettings c.args.b.now c.loop-i.b k xs c.requires.given)
 
 pub release_or-requires-clause-moves : goal.release_or-requires-clause-moves
-release_or-requires-clause-moves c = c.loop-i.invariant.extends.there c.args.moves c.requires.moves
-
-pub release_or-requires-clause-one : goal.release_or-requires-clause-one
-release_or-requires-clause-one c = ap (λ (f : Signal). f.width) (c.loop-i.invariant.extends.kept c.args.moves c.requires.moves) ∙ c.requires.one
+release_or-requires-clause-moves c = width_kept c.args.b.now c.loop-i.b c.args.moves 1 c.loop-i.invariant.extends c.requires.moves
 
 pub release_or-requires-clause-rest : goal.release_or-requires-clause-rest
-release_or-requires-clause-rest c = c.loop-i.invariant.means.there
-
-pub release_or-requires-clause-rest_one : goal.release_or-requires-clause-rest_one
-release_or-requires-clause-rest_one c =
+release_or-requires-clause-rest c =
     let a = c.args.b.now in
     let xs = c.args.lettings.now in
-    ap (λ (f : Signal). f.width) c.loop-i.invariant.means.same
-    ∙ lets_one c.args.m (signal a c.args.moves) (map (letting_in a) (drop (length xs - c.loop-i.i) xs)) (signal a c.args.rest) c.requires.rest_one
+    width_meant c.loop-i.b c.loop-i.net _ 1 c.loop-i.invariant.means
+    (lets_one c.args.m (signal a c.args.moves) (map (letting_in a) (drop (length xs - c.loop-i.i) xs)) (signal a c.args.rest) c.requires.rest.width)
 
 pub loop-i-preserved : goal.loop-i-preserved
 loop-i-preserved c =
@@ -55,7 +49,7 @@ loop-i-preserved c =
           lets_more a b d c.args.m (signal a c.args.moves)
           (signal b c.args.moves) c.args.lettings.now c.loop-i.i c.letting_at-x.result c.loop-i.net c.in_ok-net.net
           (signal a c.args.rest) k c.loop-i-test.true c.letting_at-x.ensures c.requires.given
-          (k.kept c.args.moves c.requires.moves) v.means c.in_ok-net.ensures.means;
+          (k.kept c.args.moves c.requires.moves.there) v.means c.in_ok-net.ensures.means;
     }
 
 pub returns-clause-means : goal.returns-clause-means

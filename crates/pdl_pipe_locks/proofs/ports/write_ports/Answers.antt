@@ -29,16 +29,7 @@ push_writes-requires-clause-moves c =
     let d = c.deed_at-deed.result in
     let given =
     each_at (IsGiven c.args.b.now c.args.m) ds (length ds - 1 - c.loop-i.i) d (omega (arith, c.loop-i-test.true)) c.deed_at-deed.ensures c.requires.given in
-    k.there d.moves given.moves
-
-pub push_writes-requires-clause-one : goal.push_writes-requires-clause-one
-push_writes-requires-clause-one c =
-    let k = extends_keeps c.args.b.now c.loop-i.b c.loop-i.invariant.extends in
-    let ds = c.args.deeds.now in
-    let d = c.deed_at-deed.result in
-    let given =
-    each_at (IsGiven c.args.b.now c.args.m) ds (length ds - 1 - c.loop-i.i) d (omega (arith, c.loop-i-test.true)) c.deed_at-deed.ensures c.requires.given in
-    (given_kept c.args.b.now c.loop-i.b k c.args.m d given).one
+    (given_kept c.args.b.now c.loop-i.b k c.args.m d given).moves
 
 pub push_writes-requires-clause-ticket : goal.push_writes-requires-clause-ticket
 push_writes-requires-clause-ticket c =

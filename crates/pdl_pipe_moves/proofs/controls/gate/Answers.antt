@@ -32,7 +32,7 @@ returns-clause-on c =
     (extends_trans a b1 b3 c.path_open.ensures.extends (extends_trans b1 b2 b3 c.unsquashed.ensures.extends c.both_bits.ensures.extends)) in
     let lets : IsBitFor b2 c.in_ok-unsquashed.unsquashed g =
     subst (IsBitFor b2 c.in_ok-unsquashed.unsquashed)
-    (ap (λ (f : Signal). unsquashed (verify_stage p.stmts) k f) (e1.kept y.squash c.requires.controls.squash.0)) c.in_ok-unsquashed.ensures.on in
+    (ap (λ (f : Signal). unsquashed (verify_stage p.stmts) k f) (e1.kept y.squash c.requires.controls.squash.there)) c.in_ok-unsquashed.ensures.on in
     let passes : IsBitFor b3 c.in_ok-passes.passes (both g path) =
     both_after b1 b2 b3 c.in_ok-unsquashed.unsquashed c.in_ok-path.path c.in_ok-passes.passes g path
     (extends_keeps b1 b2 c.unsquashed.ensures.extends) lets c.in_ok-path.ensures.on c.in_ok-passes.ensures.on in

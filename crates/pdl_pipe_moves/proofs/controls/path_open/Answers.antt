@@ -1,6 +1,7 @@
 use Rattle.std.proofs.Common.{◌<◌, length, sym, ap, ap₂, ◌∙◌, subst, map, arith}
 use Rattle.pdl_net.specs.Signal.{Signal}
 use Rattle.pdl_net.proofs.Keeps.{extends_keeps, extends_trans}
+use Rattle.pdl_net.proofs.KeptWidths.{width_meant}
 use Rattle.pdl_pipe_exprs.specs.Nets.{signals_in, signal_at}
 use Rattle.pdl_pipe_exprs.proofs.NetLists.{signals_keep}
 use Rattle.pdl_semantics.specs.Stages.{stage_at, verify_stage}
@@ -31,11 +32,9 @@ barrier_open-requires-clause-clear c =
     let e = extends_keeps a b c.way_turn.ensures.extends in
     let n = c.requires.controls.clear_count in
     let l = c.requires.low in
-    let means = c.variable-clear.ensures in (
-      means.there,
-      ap (λ (f : Signal). f.width) means.same
-          ∙ bit_one b c.args.controls.now.clear.now c.args.k (omega (arith, n, l)) (bits_keep a b c.args.controls.now.clear.now e c.requires.controls.clear),
-    )
+    let means = c.variable-clear.ensures in
+    width_meant b _ _ 1 means
+    (bit_one b c.args.controls.now.clear.now c.args.k (omega (arith, n, l)) (bits_keep a b c.args.controls.now.clear.now e c.requires.controls.clear))
 
 pub ports_open-requires-clause-asks : goal.ports_open-requires-clause-asks
 ports_open-requires-clause-asks c =

@@ -3,6 +3,7 @@ use Rattle.std.proofs.lemmas.List.{drop_more}
 use Rattle.pdl_net.specs.Signal.{Signal, mux_signal}
 use Rattle.pdl_net.specs.Meaning.{signal}
 use Rattle.pdl_net.proofs.Keeps.{extends_keeps, extends_trans}
+use Rattle.pdl_net.proofs.KeptWidths.{width_meant}
 use Rattle.pdl_pipe_exprs.specs.Nets.{signals_in, signal_at}
 use Rattle.pdl_pipe_exprs.proofs.NetLists.{there_keeps, signals_keep}
 use Rattle.pdl_law_parts.specs.Walk.{both, if_on, is_on}
@@ -33,7 +34,7 @@ mux-requires-clause-choice_there c =
     let h =
     each_at (IsAsked c.args.b.now c.args.frees.now) xs (length xs - 1 - c.loop-i.i) c.ask_at-ask.result (omega (arith, t))
     (sym c.ask_at-ask.ensures) c.requires.asks in
-    c.loop-i.invariant.0.there c.ask_at-ask.result.on h.on.0
+    c.loop-i.invariant.0.there c.ask_at-ask.result.on h.on.there
 
 pub mux-requires-clause-one : goal.mux-requires-clause-one
 mux-requires-clause-one c =
@@ -42,7 +43,7 @@ mux-requires-clause-one c =
     let h =
     each_at (IsAsked c.args.b.now c.args.frees.now) xs (length xs - 1 - c.loop-i.i) c.ask_at-ask.result (omega (arith, t))
     (sym c.ask_at-ask.ensures) c.requires.asks in
-    ap (λ (f : Signal). f.width) (c.loop-i.invariant.0.kept c.ask_at-ask.result.on h.on.0) ∙ h.on.1
+    ap (λ (f : Signal). f.width) (c.loop-i.invariant.0.kept c.ask_at-ask.result.on h.on.there) ∙ h.on.width
 
 pub mux-requires-clause-widths : goal.mux-requires-clause-widths
 mux-requires-clause-widths c =
@@ -69,11 +70,8 @@ both_bits-requires-clause-x c =
     let h = each_at (IsAsked a frees) xs (length xs - 1 - c.loop-i.i) c.ask_at-ask.result (omega (arith, t)) (sym c.ask_at-ask.ensures) c.requires.asks in
     let free =
     c.variable-free.ensures.same ∙ ap (λ fs. signal_at fs c.ask_at-ask.result.mem) (signals_keep a b frees e (bits_there a frees c.requires.frees)) in
-    let means = c.in_ok-passes.ensures.means in (
-      means.there,
-      ap (λ (f : Signal). f.width) (means.same ∙ ap (λ (g : Signal). mux_signal (signal b c.ask_at-ask.result.on) g (signal b c.args.bits.one)) free)
-          ∙ bit_one a frees c.ask_at-ask.result.mem h.mem c.requires.frees,
-    )
+    let means = c.in_ok-passes.ensures.means in
+    width_meant c.mux.new.self _ _ 1 means (ap (λ (f : Signal). f.width) free ∙ bit_one a frees c.ask_at-ask.result.mem h.mem c.requires.frees)
 
 pub loop-i-preserved : goal.loop-i-preserved
 loop-i-preserved c =
@@ -94,14 +92,14 @@ loop-i-preserved c =
     let e = extends_keeps a b c.loop-i.invariant.0 in
     let h = each_at (IsAsked a frees) xs k ask low (sym is) c.requires.asks in
     let free = c.variable-free.ensures.same ∙ ap (λ fs. signal_at fs ask.mem) (signals_keep a b frees e (bits_there a frees c.requires.frees)) in
-    let on = e.kept ask.on h.on.0 in
+    let on = e.kept ask.on h.on.there in
     let f = signal_at (signals_in a frees) in
     let first : signal m c.in_ok-passes.passes ≡ if_on (signal a ask.on) (f ask.mem) =
     c.in_ok-passes.ensures.means.same
     ∙ ap₂ (λ (g j : Signal). mux_signal g j (signal b c.args.bits.one)) on free
     ∙ ap (λ (j : Signal). mux_signal (signal a ask.on) (f ask.mem) j) (e.kept c.args.bits.one c.requires.bits.one.there ∙ c.requires.bits.one.same) in
     let rest = opens_by f (map (ask_in a) (drop (k + 1) xs)) in
-    let old = c.mux.ensures.extends.kept c.loop-i.net c.loop-i.invariant.2.there in
+    let old = c.mux.ensures.extends.kept c.loop-i.net c.loop-i.invariant.2.bit.there in
     let net = c.in_ok-net.ensures.on in
     let more : both (if_on (signal a ask.on) (f ask.mem)) rest ≡ opens_by f (map (ask_in a) (drop k xs)) =
     sym
@@ -110,8 +108,7 @@ loop-i-preserved c =
       extends_trans a b d c.loop-i.invariant.0 (extends_trans b m d c.mux.ensures.extends c.both_bits.ensures.extends),
       c.both_bits.ensures.regs ∙ c.mux.ensures.regs ∙ c.loop-i.invariant.1,
       record {
-        there = net.there;
-        one = net.one;
+        bit = net.bit;
         on = λ s.
             net.on s
             ∙ both_as (signal m c.in_ok-passes.passes) (signal m c.loop-i.net)

@@ -31,7 +31,7 @@ returns-clause-moves c =
     let a2 = extends_trans a d1 d2 a1 c.both_bits-2.ensures.extends in
     let valid = a2.kept (RegNet s.regs.valid) now.registers.valid.there ∙ now.registers.valid.same ∙ sym (ap (λ (v : View). v.valid) view) in
     let ready = a1.kept s.end.ready now.walk.there.ready ∙ sym (ap (λ (v : View). v.ended.ready) view) in
-    let gate = ab.kept c.args.gate c.requires.gate.0 in
+    let gate = ab.kept c.args.gate c.requires.gate.there in
     let way = way_on (stage_at p k).next (free (line_views a x) (line_moves a x)) (line_views a x k).ended in
     let g = signal a c.args.gate in
     let v = line_views a x k in
@@ -40,8 +40,7 @@ returns-clause-moves c =
     let moves = c.in_ok-moves.ensures.on in
     let later1 = c.both_bits-2.ensures.extends in
     record {
-      there = moves.there;
-      one = moves.one;
+      bit = moves.bit;
       on = λ z.
           moves.on z
           ∙ both_as (signal d2 (RegNet s.regs.valid))

@@ -23,4 +23,4 @@ returns-in_ok-free-in-Some-clause-free c =
     let e : c.in-Some.r.stage ≡ c.args.k = omega (arith, t) in
     let count = h.count ∙ ap (λ j. length (places_of (stage_at (line_pipe c.args.line.now) j).next)) e in
     made_free a b
-    (extends_keeps a b it.extends) c.args.line.now c.requires.line c.requires.inside c.requires.stand c.args.k c.requires.low c.args.m port c.in_ok-free-in-Some.free c.port_of-port.ensures count it.there it.one it.law
+    (extends_keeps a b it.extends) c.args.line.now c.requires.line c.requires.inside c.requires.stand c.args.k c.requires.low c.args.m port c.in_ok-free-in-Some.free c.port_of-port.ensures count it.bit it.law

@@ -46,7 +46,7 @@ returns-clause-passage c =
     (λ fs. IsBitFor b2 c.in_ok-gate.gate
     (gate_by (line_pipe x) (line_views b1 x) (signs_by b1 x y) (signal_at (signals_in b1 fs)) c.args.k)) c.as_slice.ensures c.in_ok-gate.ensures.on in
     record {
-      bit = (moves.there, moves.one);
+      bit = moves.bit;
       frees =
           have_keep b1 d e4 x line c.requires.inside
           (ports_stand a b1 (line_pipe x) x.shared.now.ports.now e c.requires.stand) c.args.k c.requires.low c.in_ok-frees.frees _ free;

@@ -3,6 +3,7 @@ use Rattle.pdl_semantics.specs.Flat.{Next}
 use Rattle.pdl_net.specs.Signal.{Signal}
 use Rattle.pdl_net.specs.Meaning.{signal}
 use Rattle.pdl_net.proofs.Keeps.{extends_keeps}
+use Rattle.pdl_net.proofs.KeptWidths.{width_meant, width_kept}
 use Rattle.pdl_pipe_exprs.specs.Nets.{signals_in, signal_at}
 use Rattle.pdl_pipe_exprs.proofs.NetLists.{length_signals}
 use Rattle.pdl_law_parts.specs.Walk.{is_on}
@@ -97,15 +98,11 @@ returns-in_ok-net-in-Forks-clause-on c =
     let means = c.in_ok-net-in-Forks.ensures.means in
     let var_a = (line_views a x c.args.k).ended.vars c.in-Forks.x in
     record {
-      there = means.there;
-      one =
-          ap (λ (g : Signal). g.width) means.same
-          ∙ ap (λ (g : Signal). g.width) (c.turn-in-Forks-2.ensures.extends.kept c.in_ok-yes-in-Forks.yes yes.there)
-          ∙ yes.one;
+      bit = width_meant _ _ _ 1 means (width_kept b d c.in_ok-yes-in-Forks.yes 1 c.turn-in-Forks-2.ensures.extends yes.bit).width;
       on = λ z.
           ap (λ (g : Signal). is_on g z) means.same
           ∙ mux_as (signal d choice) var_a (signal d c.in_ok-yes-in-Forks.yes) (signal d c.in_ok-no-in-Forks.no) (f c.in-Forks.first) (f c.in-Forks.second) var
-          (λ y. ap (λ (g : Signal). is_on g y) (c.turn-in-Forks-2.ensures.extends.kept c.in_ok-yes-in-Forks.yes yes.there) ∙ yes.on y)
+          (λ y. ap (λ (g : Signal). is_on g y) (c.turn-in-Forks-2.ensures.extends.kept c.in_ok-yes-in-Forks.yes yes.bit.there) ∙ yes.on y)
           (λ y. no.on y ∙ ap (λ (g : Signal). is_on g y) (turn_same a b e p c.args.orders.now c.args.k c.in-Forks.second under c.requires.turns)) z
           ∙ ap (λ (m : Next). is_on (way_on m f (line_views a x c.args.k).ended) z) c.in-Forks.ensures;
     }

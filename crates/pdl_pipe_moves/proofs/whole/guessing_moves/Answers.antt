@@ -133,7 +133,7 @@ returns-clause-moved c =
     let m1 = passed1.moves_count in
     let m2 = passed2.moves_count in
     let own : c.net_of-own.result ≡ net_at moves1 v = c.net_of-own.ensures ∙ ap (λ ns. net_at ns v) c.as_slice.ensures.value in
-    let there = (net_bit b1 moves1 v (omega (arith, low, m1)) passed1.moves).0 in
+    let there = (net_bit b1 moves1 v (omega (arith, low, m1)) passed1.moves).there in
     let same = c.in_ok-pass_down-2.ensures.later v (omega arith) in
     let moved : signal b1 c.net_of-own.result ≡ signal_at (signals_in d moves2) v =
     ap (signal b1) own ∙ sym (e1d.kept (net_at moves1 v) there) ∙ ap (signal d) (sym same) ∙ net_signal d moves2 v (omega (arith, low, m2)) in
@@ -145,7 +145,7 @@ returns-clause-moved c =
     (squash_net b2 nets.removed) (signal_at (signals_in d kills)) (squash_net b2 nets.clear)
     (signal_at (signals_in d clear))
     (λ k l. ap (λ (vs : ℕ → View). (vs k).valid) (sym views)) moved (ap (λ (vs : ℕ → View). (vs v).ended.fails) (sym views))
-    (sym (e2d.kept nets.squash c.in_ok-nets.ensures.squash.0))
+    (sym (e2d.kept nets.squash c.in_ok-nets.ensures.squash.there))
     (λ k l. sym (e2d.kept (net_at nets.removed k) (removed.there k l))
     ∙ padded_front d nets.removed zero (length x.stages.now) kills k (omega (arith, l, rn)) (omega (arith, l, low, n)) hk)
     (λ k l. sym (e2d.kept (net_at nets.clear k) (clears.there k l))

@@ -1,5 +1,6 @@
-use Rattle.std.proofs.Common.{sym, ap, ◌∙◌, length, arith, eq-eqb, ne_eqb}
+use Rattle.std.proofs.Common.{refl, sym, ap, ◌∙◌, length, arith, eq-eqb, ne_eqb}
 use Rattle.pdl_net.specs.Signal.{Signal}
+use Rattle.pdl_net.proofs.KeptWidths.{width_kept, width_meant}
 use Rattle.pdl_law_parts.specs.Walk.{is_on}
 use Rattle.pdl_pipe_exprs.specs.Nets.{signals_in, signal_at}
 use Rattle.pdl_pipe_exprs.proofs.NetLists.{length_signals}
@@ -29,8 +30,8 @@ variable-choice-requires-clause-low c =
     let same = ap length c.as_slice.ensures.value in
     omega (arith, low, count, long, same)
 
-pub way-requires-clause-one : goal.way-requires-clause-one
-way-requires-clause-one c =
+pub way-requires-clause-choice : goal.way-requires-clause-choice
+way-requires-clause-choice c =
     let x = c.args.line.now in
     let f = line_form x in
     let s = c.stage_of-s.result.now in
@@ -41,17 +42,18 @@ way-requires-clause-one c =
     (fork_at f.widths f.pipe.stages c.args.j c.in-Forks.x c.in-Forks.first c.in-Forks.second c.requires.low c.requires.line.forks
     (sym c.in-Forks.ensures)).1 in
     let at = ap (λ xs. signal_at (signals_in c.args.b.now xs) c.in-Forks.x) c.as_slice.ensures.value in
-    ap (λ (g : Signal). g.width) (c.variable-choice.ensures.same ∙ at)
-    ∙ var_width f.pipe f.widths (parts_in c.args.b.now s.end) c.in-Forks.x now.walk.sized ∙ one
+    width_meant c.args.b.now _ _ 1 c.variable-choice.ensures
+    (ap (λ (g : Signal). g.width) at ∙ var_width f.pipe f.widths (parts_in c.args.b.now s.end) c.in-Forks.x now.walk.sized ∙ one)
 
-pub both-requires-clause-x_one : goal.both-requires-clause-x_one
-both-requires-clause-x_one c =
+pub both-requires-clause-x : goal.both-requires-clause-x
+both-requires-clause-x c =
     let x = c.args.line.now in
     let n = c.requires.line.count in
     let m = c.requires.line.moves_count in
     let l = c.requires.low in
-    let kept = c.way.ensures.extends.kept c.variable-own.result c.variable-own.ensures.there in
-    ap (λ (g : Signal). g.width) (kept ∙ c.variable-own.ensures.same) ∙ bit_one c.args.b.now x.moves.now c.args.j (omega (arith, n, m, l)) c.requires.line.moves
+    let own =
+    width_meant c.args.b.now _ _ 1 c.variable-own.ensures (bit_one c.args.b.now x.moves.now c.args.j (omega (arith, n, m, l)) c.requires.line.moves) in
+    width_kept c.args.b.now c.way.new.b _ 1 c.way.ensures.extends own
 
 pub returns-in-Goes-clause-arrives : goal.returns-in-Goes-clause-arrives
 returns-in-Goes-clause-arrives c =
@@ -61,8 +63,7 @@ returns-in-Goes-clause-arrives c =
     let m = c.requires.line.moves_count in
     let l = c.requires.low in
     record {
-      there = c.variable-own.ensures.there;
-      one = ap (λ (g : Signal). g.width) c.variable-own.ensures.same ∙ bit_one a x.moves.now c.args.j (omega (arith, n, m, l)) c.requires.line.moves;
+      bit = width_meant a _ _ 1 c.variable-own.ensures (bit_one a x.moves.now c.args.j (omega (arith, n, m, l)) c.requires.line.moves);
       on =
           λ s. ap (λ (g : Signal). is_on g s) c.variable-own.ensures.same
           ∙ straight (line_pipe x) (line_views a x)
@@ -76,8 +77,7 @@ returns-in-Ends-clause-arrives c =
     let a = c.args.b.now in
     let zero = c.requires.line.shared.bits.zero in
     record {
-      there = zero.there;
-      one = ap (λ (g : Signal). g.width) zero.same;
+      bit = width_meant a _ _ 1 zero refl;
       on =
           λ s. ap (λ (g : Signal). is_on g s) zero.same
           ∙ elsewhere (line_pipe x) (line_views a x)
@@ -91,7 +91,6 @@ returns-in-Ends-2-clause-arrives c =
     let a = c.args.b.now in
     let zero = c.requires.line.shared.bits.zero in
     record {
-      there = zero.there;
-      one = ap (λ (g : Signal). g.width) zero.same;
+      bit = width_meant a _ _ 1 zero refl;
       on = λ s. ap (λ (g : Signal). is_on g s) zero.same ∙ nowhere (line_pipe x) (line_views a x) (line_moves a x) c.args.q c.args.j (sym c.in-Ends.ensures) s;
     }

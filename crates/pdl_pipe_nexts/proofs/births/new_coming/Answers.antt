@@ -1,7 +1,7 @@
 use Rattle.std.proofs.Common.{◌≡◌, ◌+◌, ◌-◌, ◌<◌, List, map, length, get_or, refl, sym, ap, ◌∙◌, subst, arith}
-use Rattle.pdl_net.specs.Signal.{Signal}
 use Rattle.pdl_net.specs.Meaning.{signal}
 use Rattle.pdl_net.proofs.Keeps.{extends_keeps, extends_trans}
+use Rattle.pdl_net.proofs.KeptWidths.{width_meant}
 use Rattle.pdl_law_parts.specs.Walk.{Birth}
 use Rattle.pdl_law_parts.specs.Views.{View, new_by, first_coming}
 use Rattle.pdl_pipe_walk.specs.declared.nets.BirthNet.{BirthNet}
@@ -37,14 +37,14 @@ picked_of-requires-clause-births c =
     let now = line.stages (length x.stages.now - 1 - c.loop-i.i) s (omega (arith, t)) (sym c.stage_of-s.ensures) in
     subst (Each (IsBirth b f)) (sym c.as_slice.ensures.value) (births_of b f s.end.births.items now.walk.there.births now.walk.sized.births)
 
-pub picked_of-requires-clause-moves_one : goal.picked_of-requires-clause-moves_one
-picked_of-requires-clause-moves_one c =
+pub picked_of-requires-clause-moves : goal.picked_of-requires-clause-moves
+picked_of-requires-clause-moves c =
     let x = c.args.line.now in
     let t = c.loop-i-test.true in
     let m = c.requires.line.moves_count in
     let line = line_keep c.args.b.now c.loop-i.b x (extends_keeps c.args.b.now c.loop-i.b c.loop-i.invariant.extends) c.requires.line in
-    ap (λ (g : Signal). g.width) c.variable-moves.ensures.same
-    ∙ bit_one c.loop-i.b x.moves.now (length x.stages.now - 1 - c.loop-i.i) (omega (arith, t, m)) line.moves
+    width_meant c.loop-i.b _ _ 1 c.variable-moves.ensures
+    (bit_one c.loop-i.b x.moves.now (length x.stages.now - 1 - c.loop-i.i) (omega (arith, t, m)) line.moves)
 
 pub loop-i-preserved : goal.loop-i-preserved
 loop-i-preserved c =

@@ -41,9 +41,9 @@ loop-i-preserved c =
           (length xs - c.loop-i.i) x (signal a c.args.rest)
           c.requires.what (omega (arith, t))
           (omega (arith, t)) is
-          (extends_keeps a b c.loop-i.invariant.extends) c.both.ensures.extends c.mux.ensures.extends c.requires.moves refl birth.on birth.args c.loop-i.invariant.means.there
+          (extends_keeps a b c.loop-i.invariant.extends) c.both.ensures.extends c.mux.ensures.extends c.requires.moves.there refl birth.on.there birth.args c.loop-i.invariant.means.there
           c.in_ok-comes.ensures.means c.brought-value.ensures.means c.in_ok-net.ensures.means c.loop-i.invariant.means.same;
-      wide = ap (λ (g : Signal). g.width) c.in_ok-net.ensures.means.same ∙ c.brought-value.ensures.wide ∙ sym c.requires.wide;
+      wide = ap (λ (g : Signal). g.width) c.in_ok-net.ensures.means.same ∙ c.brought-value.ensures.wide ∙ sym c.requires.rest.width;
       extends = extends_trans a e d more c.mux.ensures.extends;
       regs = c.mux.ensures.regs ∙ c.both.ensures.regs ∙ c.loop-i.invariant.regs;
     }

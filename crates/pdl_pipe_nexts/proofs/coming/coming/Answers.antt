@@ -22,7 +22,7 @@ loop-i-init c =
     let js = ways p c.args.q in
     let n = arrivals_count a p (line_views a x) (line_moves a x) c.args.q js c.args.arrivals.now c.requires.arrivals in
     record {
-      there = c.requires.rest;
+      there = c.requires.rest.there;
       value =
           λ s. sym
           (ap
@@ -71,7 +71,7 @@ mux-requires-clause-choice_there c =
     arrival_nth a p (line_views a x)
     (line_moves a x) q (ways p q) xs (length xs - 1 - c.loop-i.i) c.arrival_at-arrival.result
     (omega (arith, t)) c.arrival_at-arrival.ensures c.requires.arrivals in
-    c.loop-i.invariant.extends.there c.arrival_at-arrival.result.comes is.comes.there
+    c.loop-i.invariant.extends.there c.arrival_at-arrival.result.comes is.comes.bit.there
 
 pub mux-requires-clause-one : goal.mux-requires-clause-one
 mux-requires-clause-one c =
@@ -85,7 +85,7 @@ mux-requires-clause-one c =
     arrival_nth a p (line_views a x)
     (line_moves a x) q (ways p q) xs (length xs - 1 - c.loop-i.i) c.arrival_at-arrival.result
     (omega (arith, t)) c.arrival_at-arrival.ensures c.requires.arrivals in
-    ap (λ (g : Signal). g.width) (c.loop-i.invariant.extends.kept c.arrival_at-arrival.result.comes is.comes.there) ∙ is.comes.one
+    ap (λ (g : Signal). g.width) (c.loop-i.invariant.extends.kept c.arrival_at-arrival.result.comes is.comes.bit.there) ∙ is.comes.bit.width
 
 pub mux-requires-clause-widths : goal.mux-requires-clause-widths
 mux-requires-clause-widths c =
@@ -94,7 +94,7 @@ mux-requires-clause-widths c =
     let b = c.loop-i.b in
     let f = line_form x in
     let same = next_keep a b f x.shared.now (extends_keeps a b c.loop-i.invariant.extends) c.requires.line.shared in
-    c.brings-value.ensures.wide ∙ ap (λ fs. brought_width f fs c.args.what) same ∙ sym c.requires.wide ∙ sym c.loop-i.invariant.wide
+    c.brings-value.ensures.wide ∙ ap (λ fs. brought_width f fs c.args.what) same ∙ sym c.requires.rest.width ∙ sym c.loop-i.invariant.wide
 
 pub loop-i-preserved : goal.loop-i-preserved
 loop-i-preserved c =
@@ -132,14 +132,14 @@ loop-i-preserved c =
       value =
           way_more p vs moves q js what k (signal b y.comes) (signal b c.brings-value.result) (signal b c.loop-i.net)
           (signal d c.in_ok-net.net) rest (omega (arith, t, n)) c.in_ok-net.ensures.means.same
-          (λ s. ap (λ (f : Signal). Rattle.pdl_law_parts.specs.Walk.is_on f s) (e.kept y.comes is.comes.there) ∙ is.comes.on s) value
+          (λ s. ap (λ (f : Signal). Rattle.pdl_law_parts.specs.Walk.is_on f s) (e.kept y.comes is.comes.bit.there) ∙ is.comes.on s) value
           (subst
           (λ i. Rattle.pdl_pipe_nexts.specs.Lines.ValueAs (signal b c.loop-i.net)
           (Rattle.pdl_pipe_nexts.proofs.BroughtItems.from_way p vs moves q js what i rest)) later c.loop-i.invariant.value);
       wide =
           ap (λ (f : Signal). f.width) c.in_ok-net.ensures.means.same ∙ c.brings-value.ensures.wide
           ∙ ap (λ fs. brought_width (line_form x) fs what) (next_keep a b (line_form x) x.shared.now e c.requires.line.shared)
-          ∙ sym c.requires.wide;
+          ∙ sym c.requires.rest.width;
       extends = extends_trans a b d c.loop-i.invariant.extends c.mux.ensures.extends;
       regs = c.mux.ensures.regs ∙ c.loop-i.invariant.regs;
     }

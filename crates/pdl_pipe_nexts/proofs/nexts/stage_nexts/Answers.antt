@@ -1,9 +1,9 @@
 use Rattle.std.proofs.Common.{◌≡◌, ◌+◌, ◌<◌, ◌++◌, ◌∷◌, [], length, sym, ap, ◌∙◌, subst, arith}
 use Rattle.std.specs.Prelude.{Some}
 use Rattle.pdl_machine_facts.specs.Slots.{ways}
-use Rattle.pdl_net.specs.Signal.{Signal}
 use Rattle.pdl_net.specs.Meaning.{signal}
 use Rattle.pdl_net.proofs.Keeps.{extends_keeps, extends_trans, keeps_trans}
+use Rattle.pdl_net.proofs.KeptWidths.{width_meant}
 use Rattle.pdl_pipe_exprs.specs.Nets.{signals_in}
 use Rattle.pdl_pipe_registers.specs.Items.{item_at}
 use Rattle.pdl_pipe_nexts.specs.Lines.{ValueAs, line_form, line_pipe, line_views, line_moves}
@@ -65,8 +65,8 @@ loop-i-init c =
     let db = extends_keeps b d c.staying.ensures.extends in
     let rest : signal d stays ≡ staying d x k s = means.same ∙ sym (staying_same b d x db line_b k s) in
     let first =
-    nexts_first a d z x k s stays valid (extends_keeps a d ad) c.requires.line c.in_ok-valid.ensures.there
-    (c.in_ok-valid.ensures.wide ∙ c.in_ok-stays.ensures.wide) rest c.in_ok-valid.ensures.value in (
+    nexts_first a d z x k s stays valid (extends_keeps a d ad) c.requires.line c.in_ok-valid.ensures.wide.there
+    (c.in_ok-valid.ensures.wide.width ∙ c.in_ok-stays.ensures.wide) rest c.in_ok-valid.ensures.value in (
       extends_trans a d z ad c.coming.ensures.extends,
       c.coming.ensures.regs ∙ c.staying.ensures.regs ∙ c.threads_into.ensures.regs,
       subst (λ xs. AreArrivals z p (line_views a x) (line_moves a x) k (ways p k) xs) (sym c.as_slice-arrivals.ensures) list,
@@ -162,8 +162,8 @@ coming-requires-in-loop-i-clause-new c = λ e.
     (c.requires.line.stages c.args.k s (omega (arith, l, n)) (sym c.stage_of-s.ensures)) c.loop-i.i
     (omega (arith, t, m)) e)
 
-pub coming-requires-in-loop-i-clause-wide : goal.coming-requires-in-loop-i-clause-wide
-coming-requires-in-loop-i-clause-wide c =
+pub coming-requires-in-loop-i-clause-rest : goal.coming-requires-in-loop-i-clause-rest
+coming-requires-in-loop-i-clause-rest c =
     let a = c.args.b.now in
     let b = c.loop-i.b in
     let x = c.args.line.now in
@@ -175,11 +175,11 @@ coming-requires-in-loop-i-clause-wide c =
     let t = c.loop-i-test.true in
     let m = c.len-i-end.ensures in
     let is = c.item_of.ensures ∙ ap (λ ys. item_at ys c.loop-i.i) c.as_slice.ensures in
-    ap (λ (g : Signal). g.width) c.kept-rest.ensures.same
-    ∙ kept_wide b f (signals_in b x.shared.now.next) c.args.k s
+    width_meant b _ _ _ c.kept-rest.ensures
+    (kept_wide b f (signals_in b x.shared.now.next) c.args.k s
     (line.stages c.args.k s (omega (arith, l, n)) (sym c.stage_of-s.ensures)) c.loop-i.i
     (omega (arith, t, m)) line.params
-    ∙ ap (λ j. brought_width f (signals_in b x.shared.now.next) (Some j)) (sym is)
+    ∙ ap (λ j. brought_width f (signals_in b x.shared.now.next) (Some j)) (sym is))
 
 pub loop-i-preserved : goal.loop-i-preserved
 loop-i-preserved c =
@@ -202,7 +202,7 @@ loop-i-preserved c =
     let is = c.item_of.ensures ∙ ap (λ ys. item_at ys c.loop-i.i) c.as_slice.ensures in
     let value = subst (λ j. ValueAs (signal d c.in_ok-net.net) (arriving b x k (Some j) (signal b c.kept-rest.result))) is c.in_ok-net.ensures.value in
     let more =
-    nexts_more a b d x k s c.loop-i.nets c.loop-i.i c.kept-rest.result c.in_ok-net.net e bd c.requires.line now low c.kept-rest.ensures.same c.in_ok-net.ensures.there c.in_ok-net.ensures.wide value c.loop-i.invariant.3 in (
+    nexts_more a b d x k s c.loop-i.nets c.loop-i.i c.kept-rest.result c.in_ok-net.net e bd c.requires.line now low c.kept-rest.ensures.same c.in_ok-net.ensures.wide.there c.in_ok-net.ensures.wide.width value c.loop-i.invariant.3 in (
       extends_trans a b d c.loop-i.invariant.0 c.coming-in-loop-i.ensures.extends,
       c.coming-in-loop-i.ensures.regs ∙ c.loop-i.invariant.1,
       arrivals_keep b d p (line_views a x) (line_moves a x) k (ways p k) c.as_slice-arrivals.result.now bd c.loop-i.invariant.2,

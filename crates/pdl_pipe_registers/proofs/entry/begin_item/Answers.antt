@@ -14,8 +14,11 @@ returns-in-Some-clause-may c =
     let common = c.in-Some.ensures in
     inr record {
       regs = refl;
-      there = common.there;
-      wide = common_width b f (signals_in b c.args.shared.now.next) x c.args.item c.in-Some.net c.requires.earlier c.requires.item common ∙ sym c.requires.wide;
+      wide = record {
+        there = common.there;
+        width =
+            common_width b f (signals_in b c.args.shared.now.next) x c.args.item c.in-Some.net c.requires.earlier c.requires.item common ∙ sym c.requires.wide;
+      };
       settled =
           common_settled b f.pipe (earlier_views b x)
           (earlier_count x) x.ways.now c.args.item c.in-Some.net c.requires.after c.requires.earlier.ways

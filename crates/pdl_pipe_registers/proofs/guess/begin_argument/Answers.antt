@@ -3,7 +3,7 @@ use Rattle.std.proofs.lemmas.List.{length-take}
 use Rattle.std.specs.Prelude.{slice_index}
 use Rattle.pdl_form.specs.FormView.{form}
 use Rattle.pdl_form_types.specs.Stmts.{param_widths}
-use Rattle.pdl_net.specs.Signal.{Signal}
+use Rattle.pdl_net.proofs.KeptWidths.{width_meant}
 use Rattle.pdl_pipe_exprs.specs.Nets.{signals_in}
 use Rattle.pdl_pipe_exprs.proofs.NetLists.{width_at}
 use Rattle.pdl_pipe_registers.proofs.SettledItems.{twin_width}
@@ -38,11 +38,10 @@ returns-in-Some-clause-begins c =
     record {
       may = inr record {
         regs = refl;
-        there = means.there;
         wide =
-            ap (λ (g : Signal). g.width) means.same ∙ sym (width_at vars x)
-            ∙ ap (λ ws. slice_index ws x) c.requires.wide
-            ∙ twin_width b f nexts e i x c.requires.earlier guess c.in-Some.ensures.low twin;
+            width_meant b _ _ _ means
+            (sym (width_at vars x) ∙ ap (λ ws. slice_index ws x) c.requires.wide
+            ∙ twin_width b f nexts e i x c.requires.earlier guess c.in-Some.ensures.low twin);
         settled = λ need. inr record { x = x; twin = twin; is = means.same };
       };
       own = inl refl;

@@ -101,7 +101,7 @@ loop-i-preserved c =
       means = record {
         there = c.in_ok-net.ensures.means.there;
         same = c.in_ok-net.ensures.means.same
-            ∙ ap₂ (λ f g. mux_signal f g (signal b c.loop-i.net)) (e.kept y.comes from.0.0) tail
+            ∙ ap₂ (λ f g. mux_signal f g (signal b c.loop-i.net)) (e.kept y.comes from.0.there) tail
             ∙ ap (mux_signal (signal a y.comes) (tail_in a rows [] y.from m)) (v.means.same ∙ ap (λ i. brought_tail a rows m (drop i ys) rest) later)
             ∙ sym (brought_more a rows m ys k y rest low is);
       };

@@ -1,8 +1,8 @@
 use Rattle.std.proofs.Common.{◌≡◌, ◌∙◌, List, map, sym, ap, subst, arith}
 use Rattle.pdl_word.specs.Each.{Each}
-use Rattle.pdl_net.specs.Signal.{Signal}
 use Rattle.pdl_net.specs.Meaning.{signal}
 use Rattle.pdl_net.proofs.Keeps.{extends_keeps, extends_trans}
+use Rattle.pdl_net.proofs.KeptWidths.{width_meant}
 use Rattle.pdl_pipe_exprs.specs.Nets.{signals_in, signal_at}
 use Rattle.pdl_law_parts.specs.Walk.{Walk, Reservation}
 use Rattle.pdl_law_parts.specs.Views.{View}
@@ -38,10 +38,8 @@ after_stage-requires-clause-moves c =
     let x = c.args.line.now in
     let t = c.loop-k-test.true in
     let m = c.requires.line.moves_count in
-    let line = line_keep a b x (extends_keeps a b c.loop-k.invariant.extends) c.requires.line in (
-      c.variable-moves.ensures.there,
-      ap (λ (g : Signal). g.width) c.variable-moves.ensures.same ∙ bit_one b x.moves.now c.loop-k.k (omega (arith, t, m)) line.moves,
-    )
+    let line = line_keep a b x (extends_keeps a b c.loop-k.invariant.extends) c.requires.line in
+    width_meant b _ _ 1 c.variable-moves.ensures (bit_one b x.moves.now c.loop-k.k (omega (arith, t, m)) line.moves)
 
 pub loop-k-preserved : goal.loop-k-preserved
 loop-k-preserved c =

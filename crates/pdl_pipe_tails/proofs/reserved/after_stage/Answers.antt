@@ -1,10 +1,10 @@
-use Rattle.std.proofs.Common.{◌+◌, ◌∙◌, map, refl, ap, subst, arith}
+use Rattle.std.proofs.Common.{◌+◌, ◌∙◌, map, refl, subst, arith}
 use Rattle.std.proofs.lemmas.List.{take_all}
 use Rattle.pdl_word.proofs.Each.{each_get}
 use Rattle.pdl_net.specs.declared.Net.TheVariants.{Input}
-use Rattle.pdl_net.specs.Signal.{Signal}
 use Rattle.pdl_net.specs.Meaning.{signal}
 use Rattle.pdl_net.proofs.Keeps.{extends_keeps, extends_refl, extends_trans}
+use Rattle.pdl_net.proofs.KeptWidths.{width_kept}
 use Rattle.pdl_pipe_exprs.proofs.NetLists.{bits_kept}
 use Rattle.pdl_law_parts.specs.Ports.{reserves_to}
 use Rattle.pdl_pipe_walk.specs.declared.nets.ReserveNet.{ReserveNet}
@@ -31,7 +31,7 @@ after_reserve-requires-clause-reserve c =
 pub after_reserve-requires-clause-moves : goal.after_reserve-requires-clause-moves
 after_reserve-requires-clause-moves c =
     let e = c.loop-r.invariant.extends in
-    (e.there c.args.moves c.requires.moves.0, ap (λ (f : Signal). f.width) (e.kept c.args.moves c.requires.moves.0) ∙ c.requires.moves.1)
+    width_kept c.args.b.now c.loop-r.b c.args.moves 1 e c.requires.moves
 
 pub loop-r-preserved : goal.loop-r-preserved
 loop-r-preserved c =
@@ -44,7 +44,7 @@ loop-r-preserved c =
       after =
           stage_more a b d c.args.mem c.args.moves (signal a c.args.ticket) (signal b c.loop-r.net)
           (signal d c.in_ok-net.net) c.args.reserves.now c.loop-r.r-index no_reserve
-          (extends_keeps a b v.extends) c.requires.moves.0 c.requires.reserves c.loop-r-test.true v.after c.in_ok-net.ensures.after;
+          (extends_keeps a b v.extends) c.requires.moves.there c.requires.reserves c.loop-r-test.true v.after c.in_ok-net.ensures.after;
       extends = extends_trans a b d v.extends c.after_reserve.ensures.extends;
       regs = c.after_reserve.ensures.regs ∙ v.regs;
     }

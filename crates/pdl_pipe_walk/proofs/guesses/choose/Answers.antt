@@ -45,7 +45,7 @@ loop-i-preserved c =
     let y_is = c.variable-y.ensures.same ∙ ap (λ hs. signal_at hs i) (nets_kept a b ys e c.requires.ys) in
     let z_is : signal d z ≡ mux_signal (signal a c.args.on) (signal_at fs i) (signal_at gs i) =
     means.same
-    ∙ ap (λ o. mux_signal o (signal b c.variable-x.result) (signal b c.variable-y.result)) (e.kept c.args.on c.requires.on)
+    ∙ ap (λ o. mux_signal o (signal b c.variable-x.result) (signal b c.variable-y.result)) (e.kept c.args.on c.requires.on.there)
     ∙ ap₂ (mux_signal (signal a c.args.on)) x_is y_is in
     let low = c.loop-i-test.true in
     let n = length_signals a xs in

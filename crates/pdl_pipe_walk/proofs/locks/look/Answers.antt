@@ -9,10 +9,10 @@ use Rattle.pdl_pipe_walk.proofs.Arrays.{some_array}
 use Rattle.pdl_pipe_walk.proofs.locks.look.Goals as goal
 use Rattle.pdl_law_parts.proofs.WellFormedMems.{power_one}
 
-pub emit_look-requires-clause-addr_width : goal.emit_look-requires-clause-addr_width
-emit_look-requires-clause-addr_width g c =
+pub emit_look-requires-clause-addr : goal.emit_look-requires-clause-addr
+emit_look-requires-clause-addr g c =
     let x = c.requires.locks.locks c.args.m c.lock_of-x.result.now c.requires.low c.lock_of-x.ensures in
-    power_one _ _ (c.requires.addr_reach ∙ sym x.bits)
+    record { there = c.requires.addr_there; width = power_one _ _ (c.requires.addr_reach ∙ sym x.bits) }
 
 pub returns-clause-has_value : goal.returns-clause-has_value
 returns-clause-has_value g c =

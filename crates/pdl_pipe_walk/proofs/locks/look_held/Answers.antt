@@ -39,5 +39,5 @@ returns-clause-looked g c =
     (λ x m. looked_join
     (locks_in (members g.L.LockModule)
     (form c.args.setting.now.pipe.now).pipe a c.args.setting.now.locks.now) c.args.m a c.look-2.new.b c.look-3.new.b c.mux.new.self c.args.held c.args.addr c.args.ticket c.in_ok-write-2.write.ready c.in_ok-read.read.ready x _ _
-    c.look-2.ensures.extends c.look-3.ensures.extends c.requires.held_there c.requires.addr_there c.requires.ticket_there c.in_ok-read.ensures.ready_there c.in_ok-read.ensures.law c.in_ok-write-2.ensures.law m)
+    c.look-2.ensures.extends c.look-3.ensures.extends c.requires.held.there c.requires.addr_there c.requires.ticket.there c.in_ok-read.ensures.ready.there c.in_ok-read.ensures.law c.in_ok-write-2.ensures.law m)
     c.mux.ensures.means

@@ -25,7 +25,7 @@ returns-clause-placed c =
     let y = c.in_ok-answers.ensures.extends in
     let x : Extends a d = extends_trans a b d c.in_ok-emit_registers.ensures.extends y in
     are_placed d l r listed c.in_ok-emit_registers.ensures.small (places_kept b d l l.places c.in_ok-emit_registers.ensures.places y)
-    (x.there r.reply q.reply_there) (ap (λ (f : Signal). f.width) (x.kept r.reply q.reply_there) ∙ q.reply_one)
+    (x.there r.reply q.reply.there) (ap (λ (f : Signal). f.width) (x.kept r.reply q.reply.there) ∙ q.reply.width)
 
 pub returns-clause-fragment : goal.returns-clause-fragment
 returns-clause-fragment c =
@@ -52,4 +52,4 @@ returns-clause-answers c =
     let y = c.in_ok-answers.ensures.extends in
     let P : PortLayout → Type 0 = λ g. AnswerLaw (Stands g) c.args.next_stages (signal d r.reply) (signal d r.word) (answer_signals d r) in
     subst P (sym (layout_is l r listed)) (answer_law l (signal d r.reply) (signal d r.word) (answer_signals d r)
-    (answers_are b d l r c.in_ok-answers.ensures.answers (y.kept r.reply (x.there r.reply q.reply_there)) (y.kept r.word (x.there r.word q.word_there))))
+    (answers_are b d l r c.in_ok-answers.ensures.answers (y.kept r.reply (x.there r.reply q.reply.there)) (y.kept r.word (x.there r.word q.word.there))))

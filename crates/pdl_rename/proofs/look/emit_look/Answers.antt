@@ -31,8 +31,8 @@ returns-clause-ready c =
     let x14 : Extends b1 b4 = extends_trans b1 b2 b4 x2 x24 in
     let found = youngest_ready l (signal a addr) (signal a ticket) in
     let now : youngest_ready l (signal b2 addr) (signal b2 ticket) ≡ found =
-    ap (λ (g : Signal). youngest_ready l g (signal b2 ticket)) (x02.kept addr c.requires.addr_there)
-    ∙ ap (youngest_ready l (signal a addr)) (x02.kept ticket c.requires.ticket_there) in
+    ap (λ (g : Signal). youngest_ready l g (signal b2 ticket)) (x02.kept addr c.requires.addr.there)
+    ∙ ap (youngest_ready l (signal a addr)) (x02.kept ticket c.requires.ticket.there) in
     let is : Means b4 ready found = means_as b4 ready _ found (means_kept b3 b4 ready _ x4 c.in_ok-ready.ensures.ready) now in
     let picked = picked_means b4 k ready one is.there (means_kept b1 b4 one _ x14 c.in_ok-one.ensures.means) in
     subst (λ (n : Net). Means b4 n (youngest_look k found)) (sym c.by_kind-picked.ensures) (means_as b4 _ _ _ picked (ap (youngest_look k) is.same))

@@ -18,6 +18,6 @@ returns-clause-means c =
     let t : ticket_at (step_signals a p).writes j ≡ ticket_signal a q = ticket_is a p j q c.requires.within at in
     let x1 = c.in_ok-written.ensures.extends in
     let x12 : Extends a b2 = extends_trans a b1 b2 x1 c.in_ok-fills.ensures.extends in
-    let fills = c.in_ok-fills.ensures.means.same ∙ same_bin _ _ _ _ _ c.in_ok-written.ensures.means.same (x1.kept c.args.slot c.requires.slot) in
+    let fills = c.in_ok-fills.ensures.means.same ∙ same_bin _ _ _ _ _ c.in_ok-written.ensures.means.same (x1.kept c.args.slot c.requires.slot.there) in
     let value = x12.kept q.value (c.requires.given.ports.value j q c.requires.within at) ∙ sym (ap (λ (g : TicketSignal). g.value) t) in
-    means_as c.mux.new.self _ _ _ c.in_ok-word.ensures.means (same_mux _ _ _ _ _ _ fills value (x12.kept c.args.before c.requires.before))
+    means_as c.mux.new.self _ _ _ c.in_ok-word.ensures.means (same_mux _ _ _ _ _ _ fills value (x12.kept c.args.before c.requires.before.there))

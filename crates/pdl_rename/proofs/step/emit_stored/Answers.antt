@@ -32,6 +32,6 @@ loop-j-preserved c =
       word =
           means_as d _ _ _ n.means
           (ap (λ (g : StepSignals). put_signal l g (signal b c.args.slot) j (signal b c.loop-j.word)) s
-          ∙ ap (λ (g : Signal). put_signal l f g j (signal b c.loop-j.word)) (x.kept c.args.slot c.requires.slot)
+          ∙ ap (λ (g : Signal). put_signal l f g j (signal b c.loop-j.word)) (x.kept c.args.slot c.requires.slot.there)
           ∙ ap (put_signal l f slot j) c.loop-j.invariant.word.same ∙ sym (stored_more l f slot place j));
     }

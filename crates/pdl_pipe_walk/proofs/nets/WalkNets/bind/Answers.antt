@@ -23,8 +23,8 @@ set-requires-clause-walk c =
     walk_more c.args.b.now c.value.new.b (extends_trans c.args.b.now c.all_taken.new.b c.value.new.b c.all_taken.ensures.extends c.value.ensures.extends)
     (form c.args.pipe.now).pipe (form c.args.pipe.now).widths c.args.self.now c.requires.walk
 
-pub set-requires-clause-wide : goal.set-requires-clause-wide
-set-requires-clause-wide c = c.in_ok-net.ensures.wide ∙ c.requires.wide
+pub set-requires-clause-net : goal.set-requires-clause-net
+set-requires-clause-net c = record { there = c.in_ok-net.ensures.means.there; width = c.in_ok-net.ensures.wide ∙ c.requires.wide }
 
 pub returns-clause-parts : goal.returns-clause-parts
 returns-clause-parts c =

@@ -10,7 +10,7 @@ use Rattle.pdl_pipe_walk.proofs.nets.WalkNets.hold.Goals as goal
 
 pub mux-requires-clause-widths : goal.mux-requires-clause-widths
 mux-requires-clause-widths c =
-    c.requires.one
+    c.requires.net.width
     ∙ sym
     (ap (λ (f : Signal). f.width) c.is_held-old.ensures.same
     ∙ held_width (parts_in c.args.b.now c.args.self.now).held c.args.held.mem c.args.held.var c.requires.walk.sized.held)
@@ -38,5 +38,5 @@ returns-clause-walk c =
     (signal a c.args.on)
     (signal a c.args.held.net)
     (set_means a c.mux.new.self c.in_ok-net.net (signal a c.args.on)
-    (signal a c.args.held.net) _ _ c.is_held-old.ensures.same c.in_ok-net.ensures.means) q e.vars e.births e.rest c.requires.one)
+    (signal a c.args.held.net) _ _ c.is_held-old.ensures.same c.in_ok-net.ensures.means) q e.vars e.births e.rest c.requires.net.width)
     e.held

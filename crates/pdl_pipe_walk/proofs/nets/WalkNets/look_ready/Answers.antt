@@ -1,7 +1,6 @@
-use Rattle.std.proofs.Common.{◌∙◌, ap}
 use Rattle.std.proofs.lemmas.Result.{IfOk-weaker}
-use Rattle.pdl_net.specs.Signal.{Signal}
 use Rattle.pdl_net.specs.Meaning.{signal}
+use Rattle.pdl_net.proofs.KeptWidths.{width_meant}
 use Rattle.pdl_form.specs.FormView.{form}
 use Rattle.pdl_pipe_exprs.specs.Nets.{signals_in, signal_at}
 use Rattle.pdl_pipe_walk.specs.Parts.{parts_in, held_of}
@@ -10,16 +9,15 @@ use Rattle.pdl_pipe_walk.proofs.NetGrowth.{held_width}
 use Rattle.pdl_pipe_walk.proofs.MadeLocks.{looked_as, ticket_bits}
 use Rattle.pdl_pipe_walk.proofs.nets.WalkNets.look_ready.Goals as goal
 
-pub look_held-requires-clause-held_one : goal.look_held-requires-clause-held_one
-look_held-requires-clause-held_one g c =
-    ap (λ (f : Signal). f.width) c.is_held-held.ensures.same
-    ∙ held_width (parts_in c.args.b.now c.args.self.now).held c.args.m c.args.a c.requires.walk.sized.held
+pub look_held-requires-clause-held : goal.look_held-requires-clause-held
+look_held-requires-clause-held g c =
+    width_meant c.args.b.now _ _ 1 c.is_held-held.ensures (held_width (parts_in c.args.b.now c.args.self.now).held c.args.m c.args.a c.requires.walk.sized.held)
 
-pub look_held-requires-clause-ticket_wide : goal.look_held-requires-clause-ticket_wide
-look_held-requires-clause-ticket_wide g c =
-    ap (λ (f : Signal). f.width) c.variable-ticket.ensures.same
-    ∙ ticket_bits (members g.L.LockModule) c.args.b.now
-    (form c.args.setting.now.pipe.now).pipe c.args.setting.now.locks.now c.requires.locks c.args.m c.requires.at.memory c.requires.locked c.args.setting.now.tickets.now c.requires.tickets
+pub look_held-requires-clause-ticket : goal.look_held-requires-clause-ticket
+look_held-requires-clause-ticket g c =
+    width_meant c.args.b.now _ _ _ c.variable-ticket.ensures
+    (ticket_bits (members g.L.LockModule) c.args.b.now
+    (form c.args.setting.now.pipe.now).pipe c.args.setting.now.locks.now c.requires.locks c.args.m c.requires.at.memory c.requires.locked c.args.setting.now.tickets.now c.requires.tickets)
 
 pub returns-clause-looked : goal.returns-clause-looked
 returns-clause-looked g c =

@@ -1,6 +1,7 @@
 use Rattle.std.proofs.Common.{◌≡◌, ◌∙◌, ◌++◌, [], ◌∷◌, sym, ap, ap₂, subst}
 use Rattle.pdl_net.specs.Signal.{Signal}
 use Rattle.pdl_net.specs.Meaning.{signal}
+use Rattle.pdl_net.proofs.KeptWidths.{width_meant}
 use Rattle.pdl_net.proofs.Keeps.{extends_trans}
 use Rattle.pdl_form.specs.FormView.{form}
 use Rattle.pdl_form.specs.View.{guards_view}
@@ -22,12 +23,12 @@ is_held-held-requires-clause-there c =
     there_more c.args.b.now c.all_taken.new.b c.all_taken.ensures.extends (form c.args.pipe.now).pipe
     (form c.args.pipe.now).widths c.args.self.now c.requires.walk
 
-pub both-requires-clause-y_one : goal.both-requires-clause-y_one
-both-requires-clause-y_one c =
+pub both-requires-clause-y : goal.both-requires-clause-y
+both-requires-clause-y c =
     let here =
     walk_more c.args.b.now c.all_taken.new.b c.all_taken.ensures.extends (form c.args.pipe.now).pipe
     (form c.args.pipe.now).widths c.args.self.now c.requires.walk in
-    ap (λ (f : Signal). f.width) c.is_held-held.ensures.same ∙ held_width (parts_in c.all_taken.new.b c.args.self.now).held c.args.m c.args.a here.sized.held
+    width_meant c.all_taken.new.b _ _ 1 c.is_held-held.ensures (held_width (parts_in c.all_taken.new.b c.args.self.now).held c.args.m c.args.a here.sized.held)
 
 pub hold-requires-clause-walk : goal.hold-requires-clause-walk
 hold-requires-clause-walk c =

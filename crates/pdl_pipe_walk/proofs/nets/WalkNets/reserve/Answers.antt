@@ -1,7 +1,10 @@
 use Rattle.std.proofs.Common.{◌∙◌, List, sym, ap, subst}
+use Rattle.pdl_net.specs.declared.Net.{Net}
 use Rattle.pdl_net.specs.Signal.{Signal}
 use Rattle.pdl_net.specs.Meaning.{signal, IsThere}
+use Rattle.pdl_net.specs.HasWidth.{HasWidth}
 use Rattle.pdl_net.proofs.Keeps.{extends_trans}
+use Rattle.pdl_net.proofs.KeptWidths.{width_kept}
 use Rattle.pdl_form.specs.FormView.{form}
 use Rattle.pdl_form.specs.View.{guards_view}
 use Rattle.pdl_pipe_exprs.specs.Nets.{signals_in, signal_at}
@@ -30,8 +33,8 @@ hold-requires-clause-walk g c =
 pub returns-in_err-hold-clause-extends : goal.returns-in_err-hold-clause-extends
 returns-in_err-hold-clause-extends g c = extends_trans c.args.b.now c.all_taken.new.b c.hold.new.b c.all_taken.ensures.extends c.hold.ensures.extends
 
-pub wait-requires-clause-there : goal.wait-requires-clause-there
-wait-requires-clause-there g c =
+pub wait-requires-clause-net : goal.wait-requires-clause-net
+wait-requires-clause-net g c =
     let a = c.args.b.now in
     let first_b = c.all_taken.new.b in
     let two = c.hold.new.b in
@@ -42,21 +45,7 @@ wait-requires-clause-there g c =
     let room =
     room_there (members g.L.LockModule) a
     (form c.args.setting.now.pipe.now).pipe c.args.setting.now.locks.now c.requires.locks c.args.m c.requires.at.memory c.requires.locked in
-    far.there c.room.result (subst (IsThere a) (sym c.room.ensures) room.0)
-
-pub wait-requires-clause-one : goal.wait-requires-clause-one
-wait-requires-clause-one g c =
-    let a = c.args.b.now in
-    let first_b = c.all_taken.new.b in
-    let two = c.hold.new.b in
-    let w = c.args.self.now in
-    let first = c.all_taken.ensures.extends in
-    let after = c.hold.ensures.extends in
-    let far = extends_trans a first_b two first after in
-    let room =
-    room_there (members g.L.LockModule) a
-    (form c.args.setting.now.pipe.now).pipe c.args.setting.now.locks.now c.requires.locks c.args.m c.requires.at.memory c.requires.locked in
-    ap (λ (f : Signal). f.width) (far.kept c.room.result (subst (IsThere a) (sym c.room.ensures) room.0) ∙ ap (signal a) c.room.ensures) ∙ room.1
+    width_kept a two c.room.result 1 far (subst (λ (x : Net). HasWidth a x 1) (sym c.room.ensures) room)
 
 pub returns-in_err-wait-clause-extends : goal.returns-in_err-wait-clause-extends
 returns-in_err-wait-clause-extends g c =
@@ -121,7 +110,7 @@ returns-clause-parts g c =
     let addr_there = c.variable-addr.ensures.there in
     let fs = signals_in a w.vars.items in
     let on = taken_signal fs (guards_view c.args.guards.now) in
-    let room_here = subst (IsThere a) (sym c.room.ensures) room.0 in
+    let room_here = subst (IsThere a) (sym c.room.ensures) room.there in
     on_ok c.push_reserve.result
     (λ q. ap (parts_in three) q ∙ reserve_parts three s (record { mem = c.args.m; on = c.in_ok-on.on; addr = c.variable-addr.result })
     ∙ reserve_made c.args.m c.args.a (parts_in three s) (parts_in two c.hold.new.self) (parts_in first_b w)

@@ -23,4 +23,4 @@ returns-clause-walk c =
     (signal a c.args.net) c.in_ok-ready.ensures.means.there
     (wait_signal a c.mux.new.self c.both.new.b c.args.self.now.ready c.in_ok-asked.asked c.in_ok-ready.ready c.args.bits.one (signal a c.args.on)
     (signal a c.args.net) c.mux.ensures.extends c.requires.walk.there.ready c.requires.bits.one.same c.in_ok-asked.ensures.means c.in_ok-ready.ensures.means)
-    c.requires.one
+    c.requires.net.width

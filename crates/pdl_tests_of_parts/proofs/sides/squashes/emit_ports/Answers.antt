@@ -1,7 +1,7 @@
-use Rattle.std.proofs.Common.{ap, ◌∙◌, arith}
-use Rattle.pdl_net.specs.Signal.{Signal}
+use Rattle.std.proofs.Common.{arith}
 use Rattle.pdl_net.specs.Growth.{Extends}
 use Rattle.pdl_net.proofs.Keeps.{extends_trans}
+use Rattle.pdl_net.proofs.KeptWidths.{width_kept}
 use Rattle.pdl_tests_of_parts.proofs.OneBit.{squash_bits}
 use Rattle.pdl_tests_of_parts.proofs.sides.squashes.emit_ports.Goals as goal
 
@@ -16,8 +16,6 @@ returns c =
     record {
       stage = omega (arith, v.count, c.requires);
       valid = squash_bits d _ _ v;
-      moves_there = x.there _ c.in_ok-moves.ensures.there;
-      moves_one = ap (λ (g : Signal). g.width) (x.kept _ c.in_ok-moves.ensures.there) ∙ c.in_ok-moves.ensures.one;
-      fails_there = y.there _ c.in_ok-fails.ensures.there;
-      fails_one = ap (λ (g : Signal). g.width) (y.kept _ c.in_ok-fails.ensures.there) ∙ c.in_ok-fails.ensures.one;
+      moves = width_kept b d _ 1 x c.in_ok-moves.ensures.bit;
+      fails = width_kept m d _ 1 y c.in_ok-fails.ensures.bit;
     }
