@@ -6,6 +6,7 @@ ghost use Rattle.pdl_syntax_grammar.specs.Text.{IsText, IsOutOfPlace};
 ghost use Rattle.pdl_syntax_tree.specs.View.{pipe_view};
 ghost use Rattle.pdl_rules.specs.Places.{places};
 ghost use Rattle.pdl_rules.specs.Refusal.{refusal, first_broken, limits, after_limits};
+ghost use Rattle.pdl_rules.specs.Widths.{variables as spec_variables};
 ghost use Rattle.pdl_rules_stages.specs.Stages.{stages_in};
 ghost use Rattle.pdl_rules_judge.specs.Known.{AreFindings};
 ghost use Rattle.pdl_source_paths.specs.Source.{is_source, is_named};
@@ -19,6 +20,7 @@ use pdl_form::FlatPipe;
 use pdl_form_lower::lower;
 use pdl_kit::{MemInfo, NoMemory, Refusal, Seq};
 use pdl_rules_judge::{Findings, judge as ask_rules};
+use pdl_rules_widths::Variables;
 use pdl_stages::{StageGraph, stage_graph};
 use pdl_syntax_tree::Pipe;
 use pdl_types::TypedPipe;
@@ -88,7 +90,7 @@ fn accept(alloc: Global, pipe: Pipe, found: Findings) -> Result<Accepted, NoMemo
         stages,
         plans,
     } = found;
-    let made = make(alloc, &pipe, stages)?;
+    let made = make(alloc, &pipe, &variables, stages)?;
     let typed = TypedPipe::new(pipe, variables);
     Ok(Accepted {
         typed,
@@ -100,14 +102,20 @@ fn accept(alloc: Global, pipe: Pipe, found: Findings) -> Result<Accepted, NoMemo
     })
 }
 
-// What is made of a pipe that breaks no rule, and whose places stand in these stages.
-fn make(alloc: Global, pipe: &Pipe, stages: Vec<usize>) -> Result<Made, NoMemory>
+// What is made of a pipe that breaks no rule, which has these variables, and whose places stand in these stages.
+fn make(
+    alloc: Global,
+    pipe: &Pipe,
+    variables: &Variables,
+    stages: Vec<usize>,
+) -> Result<Made, NoMemory>
     requires kept { first_broken (limits ++ after_limits) (pipe_view pipe.now) ≡ None }
+    requires variables { variables.now ≡ spec_variables (pipe_view pipe.now) }
     requires stages { stages.items ≡ stages_in (places (pipe_view pipe.now)) }
     ensures { IfOk result (IsMadeOf (pipe_view pipe.now)) }
 {
     let mems = infos_of(alloc, pipe.mems.as_slice())?;
-    let flat = lower(alloc, pipe)?;
+    let flat = lower(alloc, pipe, variables)?;
     let graph = stage_graph(alloc, &flat, stages)?;
     Ok(Made { mems, flat, graph })
 }

@@ -1,13 +1,13 @@
--- Variables, and the entries of a map that tell their numbers.
-use Rattle.std.proofs.Common.{◌≡◌, ℕ, suc, ◌≤◌, ◌<◌, Bool, true, false, if◌then◌else◌, List, [], ◌∷◌, ◌++◌, length, map, get_or, Option, Some, None, unwrap_or, is_some, refl, ap, sym, ◌∙◌, subst, arith, bytes_eq, nat_eq}
-use Rattle.std.specs.Option.{option_map}
-use Rattle.std.specs.Cmp.Lexicographic.{pointwise}
-use Rattle.std.specs.Map.{lookup}
-use Rattle.indexmap.specs.IndexMap.{insert_entry}
+-- Variables, and the numbers that the table of all variables has of them.
+use Rattle.std.proofs.Common.{◌≡◌, ◌≢◌, ℕ, zero, suc, ◌≤◌, ◌<◌, Bool, true, false, if◌then◌else◌, ◌||◌, List, [], ◌∷◌, ◌++◌, length, map, get_or, set, replicate, slice_get, Option, Some, None, unwrap_or, is_some, refl, ap, sym, ◌∙◌, subst, arith, bytes_eq, option_map}
+use Rattle.std.specs.Prelude.{IsTrue}
+use Rattle.std.proofs.lemmas.Option.{get_or_from_slice_get, slice_get_within}
 use Rattle.pdl_semantics.specs.Flatten.{Var, var_of, var_width}
-use Rattle.pdl_form_lower.specs.declared.vars.Variable.{Variable}
-use Rattle.pdl_form_lower.specs.Variables.{vars_of, var_view, number_in, AreNumbered}
-use Rattle.pdl_word.proofs.Bytes.{bytes_same, bytes_swap}
+use Rattle.pdl_rules.specs.Typed.{is_named}
+use Rattle.pdl_rules_widths.specs.Variables.{number_among}
+use Rattle.pdl_form_lower.specs.declared.vars.NumberedVariable.{NumberedVariable}
+use Rattle.pdl_form_lower.specs.Variables.{Scope, name_in, name_at, vars_of, var_view, number_or, with_number, AreNumbered}
+use Rattle.pdl_word.proofs.Bytes.{bytes_same, bytes_refl}
 
 -- ONE LOOK-UP
 
@@ -17,9 +17,10 @@ number_step true o n k h = refl
 number_step false None n k h = ap suc h
 number_step false (Some m) n k h = ap suc h
 
-number_found : (vs : List Var) (x : List ℕ) → unwrap_or (number_in vs x) (length vs) ≡ var_of vs x
+-- the number of a name is that of the first variable that has it, or their count
+pub number_found : (vs : List Var) (x : List ℕ) → unwrap_or (number_among vs x) (length vs) ≡ var_of vs x
 number_found [] x = refl
-number_found (v ∷ vs) x = number_step (bytes_eq v.name x) (number_in vs x) (length vs) (var_of vs x) (number_found vs x)
+number_found (v ∷ vs) x = number_step (bytes_eq v.name x) (number_among vs x) (length vs) (var_of vs x) (number_found vs x)
 
 below_step : (b : Bool) (o : Option ℕ) (n l : ℕ)
     → ((m : ℕ) → o ≡ Some m → m < l) → (if b then Some 0 else option_map suc o) ≡ Some n → n < suc l
@@ -28,11 +29,43 @@ below_step false None n l ih h = cc
 below_step false (Some m) n l ih h = let e : suc m ≡ n = cc in omega (arith, ih m refl)
 
 -- the number of a variable's name is below the count of variables
-pub number_below : (vs : List Variable) (x : List ℕ) (n : ℕ) → number_in (vars_of vs) x ≡ Some n → n < length vs
+number_below : (vs : List Var) (x : List ℕ) (n : ℕ) → number_among vs x ≡ Some n → n < length vs
 number_below [] x n h = cc
-number_below (v ∷ vs) x n h = below_step (bytes_eq v.name x) (number_in (vars_of vs) x) n (length vs) (λ m e. number_below vs x m e) h
+number_below (v ∷ vs) x n h = below_step (bytes_eq v.name x) (number_among vs x) n (length vs) (λ m e. number_below vs x m e) h
 
-width_step : (b : Bool) (o : Option ℕ) (n w : ℕ) (v : Variable) (vs : List Variable) (d : Variable)
+name_step : (b : Bool) (o : Option ℕ) (k : ℕ) (u : Var) (us : List Var) (x : List ℕ) → (b ≡ true → u.name ≡ x)
+    → ((m : ℕ) → o ≡ Some m → name_in us m ≡ x) → (if b then Some 0 else option_map suc o) ≡ Some k → name_in (u ∷ us) k ≡ x
+name_step true o k u us x here ih h = let e : 0 ≡ k = cc in subst (λ m. name_in (u ∷ us) m ≡ x) e (here refl)
+name_step false None k u us x here ih h = cc
+name_step false (Some m) k u us x here ih h = let e : suc m ≡ k = cc in subst (λ m. name_in (u ∷ us) m ≡ x) e (ih m refl)
+
+-- the variable at the place of a name has it
+name_found : (us : List Var) (x : List ℕ) (k : ℕ) → number_among us x ≡ Some k → name_in us k ≡ x
+name_found [] x k h = cc
+name_found (u ∷ us) x k h = name_step (bytes_eq u.name x) (number_among us x) k u us x (bytes_same u.name x) (λ m e. name_found us x m e) h
+
+missing_step : (b c : Bool) (o : Option ℕ) → (o ≡ None → c ≡ false) → (if b then Some 0 else option_map suc o) ≡ None → (b || c) ≡ false
+missing_step true c o ih h = cc
+missing_step false c None ih h = ih refl
+missing_step false c (Some m) ih h = cc
+
+-- a name that has no place is that of no variable
+pub name_missing : (us : List Var) (x : List ℕ) → number_among us x ≡ None → is_named us x ≡ false
+name_missing [] x h = refl
+name_missing (u ∷ us) x h = missing_step (bytes_eq u.name x) (is_named us x) (number_among us x) (λ e. name_missing us x e) h
+
+-- a name that a variable has has a place
+pub some_place : (us : List Var) (x : List ℕ) → IsTrue (is_named us x) → number_among us x ≢ None
+some_place us x t e = let f : is_named us x ≡ false = name_missing us x e in cc
+
+-- there is a number at that place
+pub place_within : (us : List Var) (ns : List (Option ℕ)) (vs : List Var) (x : List ℕ) (k : ℕ) → AreNumbered us ns vs
+    → number_among us x ≡ Some k → k < length ns
+place_within us ns vs x k a h = slice_get_within ns k (number_among vs x) (a.numbers x k h)
+
+-- WIDTHS
+
+width_step : (b : Bool) (o : Option ℕ) (n w : ℕ) (v : NumberedVariable) (vs : List NumberedVariable) (d : NumberedVariable)
     → ((m : ℕ) → o ≡ Some m → (get_or vs m d).width ≡ w) → (if b then Some 0 else option_map suc o) ≡ Some n
     → (get_or (v ∷ vs) n d).width ≡ (if b then v.width else w)
 width_step true o n w v vs d ih h = let e : 0 ≡ n = cc in subst (λ k. (get_or (v ∷ vs) k d).width ≡ v.width) e refl
@@ -40,16 +73,12 @@ width_step false None n w v vs d ih h = cc
 width_step false (Some m) n w v vs d ih h = let e : suc m ≡ n = cc in subst (λ k. (get_or (v ∷ vs) k d).width ≡ w) e (ih m refl)
 
 -- the variable of a name's number has the width that the name has
-pub width_found : (vs : List Variable) (x : List ℕ) (n : ℕ) (d : Variable)
-    → number_in (vars_of vs) x ≡ Some n → (get_or vs n d).width ≡ var_width (vars_of vs) x
-width_found [] x n d h = cc
-width_found (v ∷ vs) x n d h =
-    width_step (bytes_eq v.name x) (number_in (vars_of vs) x) n (var_width (vars_of vs) x) v vs d (λ m e. width_found vs x m d e) h
-
--- a number that a look-up gives
-pub number_seen : (es : List (List ℕ × ℕ)) (vs us : List Var) (x : List ℕ) (o : Option ℕ) → AreNumbered es vs
-    → o ≡ lookup (pointwise nat_eq x) es → vs ≡ us → unwrap_or o (length vs) ≡ var_of us x
-number_seen es vs us x o a h e = ap (λ p. unwrap_or p (length vs)) (h ∙ a.numbers x) ∙ number_found vs x ∙ ap (λ ws. var_of ws x) e
+pub width_found : (us : List Var) (vs : List NumberedVariable) (x : List ℕ) (n : ℕ) (d : NumberedVariable)
+    → number_among (vars_of us vs) x ≡ Some n → (get_or vs n d).width ≡ var_width (vars_of us vs) x
+width_found us [] x n d h = cc
+width_found us (v ∷ vs) x n d h =
+    width_step (bytes_eq (name_at us v.place) x) (number_among (vars_of us vs) x) n (var_width (vars_of us vs) x) v vs d
+    (λ m e. width_found us vs x m d e) h
 
 none_step : (b : Bool) (o : Option ℕ) (v w : ℕ)
     → (o ≡ None → w ≡ 0) → (if b then Some 0 else option_map suc o) ≡ None → (if b then v else w) ≡ 0
@@ -58,16 +87,76 @@ none_step false None v w ih h = ih refl
 none_step false (Some m) v w ih h = cc
 
 -- a name that no variable has has the width 0
-pub width_missing : (vs : List Var) (x : List ℕ) → number_in vs x ≡ None → var_width vs x ≡ 0
+pub width_missing : (vs : List Var) (x : List ℕ) → number_among vs x ≡ None → var_width vs x ≡ 0
 width_missing [] x h = refl
-width_missing (v ∷ vs) x h = none_step (bytes_eq v.name x) (number_in vs x) v.width (var_width vs x) (λ e. width_missing vs x e) h
+width_missing (v ∷ vs) x h = none_step (bytes_eq v.name x) (number_among vs x) v.width (var_width vs x) (λ e. width_missing vs x e) h
 
 -- the variables of the program have the widths of those that they stand for
-pub widths_seen : (vs : List Variable) → map (λ (v : Variable). v.width) vs ≡ map (λ (v : Var). v.width) (vars_of vs)
-widths_seen [] = refl
-widths_seen (v ∷ vs) = ap (λ ws. v.width ∷ ws) (widths_seen vs)
+pub widths_seen : (us : List Var) (vs : List NumberedVariable)
+    → map (λ (v : NumberedVariable). v.width) vs ≡ map (λ (v : Var). v.width) (vars_of us vs)
+widths_seen us [] = refl
+widths_seen us (v ∷ vs) = ap (λ ws. v.width ∷ ws) (widths_seen us vs)
 
--- ONE MORE
+-- the program has as many variables as they stand for
+pub length_vars : (us : List Var) (vs : List NumberedVariable) → length (vars_of us vs) ≡ length vs
+length_vars us [] = refl
+length_vars us (v ∷ vs) = ap suc (length_vars us vs)
+
+-- the number of a name is below the count of the program's variables
+pub number_within : (us : List Var) (vs : List NumberedVariable) (x : List ℕ) (n : ℕ) → number_among (vars_of us vs) x ≡ Some n → n < length vs
+number_within us vs x n h = omega (arith, number_below (vars_of us vs) x n h, length_vars us vs)
+
+-- the number that the table has of a name
+pub number_read : (us : List Var) (ns : List (Option ℕ)) (vs ws : List Var) (x : List ℕ) (k : ℕ) (r : Option ℕ) → AreNumbered us ns vs
+    → number_among us x ≡ Some k → r ≡ get_or ns k r → vs ≡ ws → r ≡ number_among ws x
+number_read us ns vs ws x k r a h e g = e ∙ get_or_from_slice_get ns k (number_among vs x) r (a.numbers x k h) ∙ ap (λ us. number_among us x) g
+
+-- THE FIRST NUMBERS
+
+get_replicate : (us : List Var) (k : ℕ) → k < length us → let ns : List (Option ℕ) = replicate (length us) None in slice_get ns k ≡ Some None
+get_replicate [] k h = absurd (omega (arith, h))
+get_replicate (u ∷ us) zero h = refl
+get_replicate (u ∷ us) (suc k) h = get_replicate us k (omega (arith, h))
+
+-- where no variable is defined, none has a number
+pub none_numbered : (us : List Var) (ns : List (Option ℕ)) (vs : List NumberedVariable) (count : ℕ)
+    → ns ≡ replicate count None → count ≡ length us → vs ≡ [] → AreNumbered us ns (vars_of us vs)
+none_numbered us ns vs count e long none =
+    subst (λ ws. AreNumbered us ns (vars_of us ws)) (sym none)
+    (record {
+      numbers = λ x k h. ap (λ os. slice_get os k) (e ∙ ap (λ n. replicate n None) long) ∙ get_replicate us k (number_below us x k h);
+      small = λ x. omega arith;
+    })
+
+-- ONE NUMBER MORE
+
+-- the number of a variable that has none yet
+pub number_set : (ns : List (Option ℕ)) (k n : ℕ) (d : Option ℕ) → k < length ns → is_some (get_or ns k d) ≡ false → set ns k (Some n) ≡ with_number ns k n
+number_set [] k n d h e = absurd (omega (arith, h))
+number_set (None ∷ ns) zero n d h e = refl
+number_set (Some m ∷ ns) zero n d h e = cc
+number_set (o ∷ ns) (suc k) n d h e = ap (λ os. o ∷ os) (number_set ns k n d (omega (arith, h)) e)
+
+-- and of one that has one
+pub number_kept : (ns : List (Option ℕ)) (k n : ℕ) (d : Option ℕ) → k < length ns → is_some (get_or ns k d) ≡ true → ns ≡ with_number ns k n
+number_kept [] k n d h e = absurd (omega (arith, h))
+number_kept (None ∷ ns) zero n d h e = cc
+number_kept (Some m ∷ ns) zero n d h e = refl
+number_kept (o ∷ ns) (suc k) n d h e = ap (λ os. o ∷ os) (number_kept ns k n d (omega (arith, h)) e)
+
+number_here : (ns : List (Option ℕ)) (k n : ℕ) (o : Option ℕ) → slice_get ns k ≡ Some o → slice_get (with_number ns k n) k ≡ Some (number_or o n)
+number_here [] k n o h = cc
+number_here (m ∷ ns) zero n o h = let e : m ≡ o = cc in ap (λ p. Some (number_or p n)) e
+number_here (m ∷ ns) (suc k) n o h = number_here ns k n o h
+
+number_there : (ns : List (Option ℕ)) (k j n : ℕ) → j ≢ k → slice_get (with_number ns k n) j ≡ slice_get ns j
+number_there [] k j n d = refl
+number_there (o ∷ ns) zero zero n d = absurd (d refl)
+number_there (o ∷ ns) zero (suc j) n d = refl
+number_there (o ∷ ns) (suc k) zero n d = refl
+number_there (o ∷ ns) (suc k) (suc j) n d = number_there ns k j n (λ e. d (ap suc e))
+
+-- ONE VARIABLE MORE
 
 small_step : (b : Bool) (w a c : ℕ) → (a ≤ 64 → c ≤ 64) → (if b then w else a) ≤ 64 → (if b then w else c) ≤ 64
 small_step true w a c ih h = h
@@ -81,122 +170,110 @@ small_push : (vs : List Var) (v : Var) (x : List ℕ) → v.width ≤ 64 → var
 small_push [] v x w h = small_end (bytes_eq v.name x) v.width w
 small_push (u ∷ vs) v x w h = small_step (bytes_eq u.name x) u.width (var_width vs x) (var_width (vs ++ v ∷ []) x) (λ k. small_push vs v x w k) h
 
--- the first of two numbers
-abbrev first_of : Option ℕ → Option ℕ → Option ℕ
-first_of None p = p
-first_of (Some n) p = Some n
+new_step : (b : Bool) (o p : Option ℕ) (n : ℕ) → p ≡ number_or o n
+    → (if b then Some 0 else option_map suc p) ≡ number_or (if b then Some 0 else option_map suc o) (suc n)
+new_step true o p n h = refl
+new_step false None p n h = ap (option_map suc) h
+new_step false (Some m) p n h = ap (option_map suc) h
 
-push_step : (b : Bool) (o p q : Option ℕ) → q ≡ first_of o p → (if b then Some 0 else option_map suc q) ≡ first_of (if b then Some 0 else option_map suc o)
-    (option_map suc p)
-push_step true o p q h = refl
-push_step false None p q h = ap (option_map suc) h
-push_step false (Some n) p q h = ap (option_map suc) h
+-- with a variable more, its name has the number that it had, or the last
+number_new : (vs : List Var) (v : Var) → number_among (vs ++ v ∷ []) v.name ≡ number_or (number_among vs v.name) (length vs)
+number_new [] v = ap (λ b. if b then Some 0 else None) (bytes_refl v.name)
+number_new (u ∷ vs) v = new_step (bytes_eq u.name v.name) (number_among vs v.name) (number_among (vs ++ v ∷ []) v.name) (length vs) (number_new vs v)
 
-last_step : (b : Bool) (n : ℕ) → option_map suc (if b then Some n else None) ≡ (if b then Some (suc n) else None)
-last_step true n = refl
-last_step false n = refl
+-- and another name the number that it had
+number_old : (vs : List Var) (v : Var) (x : List ℕ) → bytes_eq v.name x ≡ false → number_among (vs ++ v ∷ []) x ≡ number_among vs x
+number_old [] v x h = ap (λ b. if b then Some 0 else None) h
+number_old (u ∷ vs) v x h = ap (λ o. if bytes_eq u.name x then Some 0 else option_map suc o) (number_old vs v x h)
 
-number_push : (vs : List Var) (v : Var) (x : List ℕ)
-    → number_in (vs ++ v ∷ []) x ≡ first_of (number_in vs x) (if bytes_eq v.name x then Some (length vs) else None)
-number_push [] v x = refl
-number_push (u ∷ vs) v x =
-    push_step (bytes_eq u.name x) (number_in vs x) (if bytes_eq v.name x then Some (length vs) else None) (number_in (vs ++ v ∷ []) x) (number_push vs v x)
-    ∙ ap (first_of (if bytes_eq u.name x then Some 0 else option_map suc (number_in vs x))) (last_step (bytes_eq v.name x) (length vs))
+-- two names have two places
+places_differ : (us : List Var) (x y : List ℕ) (j k : ℕ)
+    → bytes_eq x y ≡ false → number_among us x ≡ Some k → number_among us y ≡ Some j → j ≢ k
+places_differ us x y j k d h i e =
+    let same : x ≡ y = sym (name_found us x k h) ∙ ap (name_in us) (sym e) ∙ name_found us y j i in
+    let b : bytes_eq x y ≡ true = subst (λ z. bytes_eq x z ≡ true) same (bytes_refl x) in
+    cc
 
-lookup_step : (c : Bool) (e : ℕ) (o p q : Option ℕ) → q ≡ first_of o p → (if c then Some e else q) ≡ first_of (if c then Some e else o) p
-lookup_step true e o p q h = refl
-lookup_step false e o p q h = h
-
-lookup_push : (es : List (List ℕ × ℕ)) (k : List ℕ) (n : ℕ) (x : List ℕ)
-    → lookup (pointwise nat_eq x) (es ++ (k, n) ∷ []) ≡ first_of (lookup (pointwise nat_eq x) es) (if bytes_eq x k then Some n else None)
-lookup_push [] k n x = refl
-lookup_push (e ∷ es) k n x = lookup_step (bytes_eq x e.0) e.1 (lookup (pointwise nat_eq x) es) (if bytes_eq x k then Some n else None)
-    (lookup (pointwise nat_eq x) (es ++ (k, n) ∷ [])) (lookup_push es k n x)
-
--- a name that is new
-numbered_new : (es : List (List ℕ × ℕ)) (vs : List Var) (k : List ℕ) (w : ℕ) → AreNumbered es vs → w ≤ 64
-    → AreNumbered (es ++ (k, length vs) ∷ []) (vs ++ record { name = k; width = w } ∷ [])
-numbered_new es vs k w h small =
+-- with a variable of the table more, its place has its number
+numbered_known : (us : List Var) (ns : List (Option ℕ)) (vs : List Var) (v : Var) (k : ℕ) → AreNumbered us ns vs → v.width ≤ 64
+    → number_among us v.name ≡ Some k → AreNumbered us (with_number ns k (length vs)) (vs ++ v ∷ [])
+numbered_known us ns vs v k h small at' =
     record {
-      numbers = λ x.
-          lookup_push es k (length vs) x
-          ∙ ap (λ o. first_of o (if bytes_eq x k then Some (length vs) else None)) (h.numbers x)
-          ∙ ap (λ b. first_of (number_in vs x) (if b then Some (length vs) else None)) (bytes_swap x k)
-          ∙ sym (number_push vs (record { name = k; width = w }) x);
-      small = λ x. small_push vs (record { name = k; width = w }) x small (h.small x);
+      numbers = λ x j i. by x j i (bytes_eq v.name x) refl;
+      small = λ x. small_push vs v x small (h.small x);
     }
+  where
+    by : (x : List ℕ) (j : ℕ) → number_among us x ≡ Some j → (b : Bool) → bytes_eq v.name x ≡ b
+        → slice_get (with_number ns k (length vs)) j ≡ Some (number_among (vs ++ v ∷ []) x)
+    by x j i true e =
+        let same = bytes_same v.name x e in
+        let here = number_here ns k (length vs) (number_among vs v.name) (h.numbers v.name k at') in
+        let new = number_new vs v in
+        cc
+    by x j i false e =
+        number_there ns k j (length vs) (places_differ us v.name x j k e at' i)
+        ∙ h.numbers x j i
+        ∙ ap Some (sym (number_old vs v x e))
 
-there_step : (o p : Option ℕ) → is_some o ≡ true → first_of o p ≡ o
-there_step None p h = cc
-there_step (Some n) p h = refl
-
--- a variable of this name is there already
-same_number : (b : Bool) (o : Option ℕ) (n : ℕ) → (b ≡ true → is_some o ≡ true) → o ≡ first_of o (if b then Some n else None)
-same_number true o n h = sym (there_step o (Some n) (h refl))
-same_number false None n h = refl
-same_number false (Some m) n h = refl
-
-numbered_there : (es : List (List ℕ × ℕ)) (vs : List Var) (k : List ℕ) (w : ℕ) → AreNumbered es vs → w ≤ 64
-    → is_some (lookup (pointwise nat_eq k) es) ≡ true → AreNumbered es (vs ++ record { name = k; width = w } ∷ [])
-numbered_there es vs k w h small there =
+-- and with one that isn't in the table, no number is new
+numbered_unknown : (us : List Var) (ns : List (Option ℕ)) (vs : List Var) (v : Var) → AreNumbered us ns vs → v.width ≤ 64
+    → number_among us v.name ≡ None → AreNumbered us ns (vs ++ v ∷ [])
+numbered_unknown us ns vs v h small at' =
     record {
-      numbers = λ x.
-          h.numbers x
-          ∙ same_number (bytes_eq k x) (number_in vs x) (length vs) (λ e. ap is_some (ap (number_in vs) (sym (bytes_same k x e)))
-          ∙ ap is_some (sym (h.numbers k)) ∙ there)
-          ∙ sym (number_push vs (record { name = k; width = w }) x);
-      small = λ x. small_push vs (record { name = k; width = w }) x small (h.small x);
+      numbers = λ x j i. by x j i (bytes_eq v.name x) refl;
+      small = λ x. small_push vs v x small (h.small x);
     }
+  where
+    by : (x : List ℕ) (j : ℕ) → number_among us x ≡ Some j → (b : Bool) → bytes_eq v.name x ≡ b
+        → slice_get ns j ≡ Some (number_among (vs ++ v ∷ []) x)
+    by x j i true e = let same : v.name ≡ x = bytes_same v.name x e in cc
+    by x j i false e = h.numbers x j i ∙ ap Some (sym (number_old vs v x e))
 
-vars_push : (vs : List Variable) (v : Variable) → vars_of (vs ++ v ∷ []) ≡ vars_of vs ++ var_view v ∷ []
-vars_push [] v = refl
-vars_push (u ∷ vs) v = ap (λ ws. var_view u ∷ ws) (vars_push vs v)
+vars_push : (us : List Var) (vs : List NumberedVariable) (v : NumberedVariable) → vars_of us (vs ++ v ∷ []) ≡ vars_of us vs ++ var_view us v ∷ []
+vars_push us [] v = refl
+vars_push us (u ∷ vs) v = ap (λ ws. var_view us u ∷ ws) (vars_push us vs v)
 
--- what a look-up has found out
-found_some : (o p : Option ℕ) → o ≡ p → is_some o ≡ true → is_some p ≡ true
-found_some o p e h = ap is_some (sym e) ∙ h
+unnamed_step : (b c : Bool) → IsTrue (b || c) → c ≡ false → b ≡ true
+unnamed_step true c h e = refl
+unnamed_step false c h e = let t : c ≡ true = h in cc
 
-found_none : (o p : Option ℕ) → o ≡ p → is_some o ≡ false → p ≡ None
-found_none None p e h = sym e
-found_none (Some n) p e h = cc
+-- the place of a variable of the table, or of one without name, tells its name
+name_placed : (us vs : List Var) (s : Scope) (x : List ℕ) (o : Option ℕ) → record { table = us; vars = vs } ≡ s → o ≡ number_among us x
+    → IsTrue (bytes_eq x [] || is_named s.table x) → name_at us o ≡ x
+name_placed us vs s x None v e h =
+    let known : IsTrue (bytes_eq x [] || is_named us x) = subst (λ (z : Scope). IsTrue (bytes_eq x [] || is_named z.table x)) (sym v) h in
+    sym (bytes_same x [] (unnamed_step (bytes_eq x []) (is_named us x) known (name_missing us x (sym e))))
+name_placed us vs s x (Some k) v e h = name_found us x k (sym e)
 
-insert_step : (b : Bool) (e : List ℕ × ℕ) (es fs : List (List ℕ × ℕ)) (k : List ℕ) (n : ℕ) (o : Option ℕ)
-    → (if b then Some e.1 else o) ≡ None → (o ≡ None → fs ≡ es ++ (k, n) ∷ [])
-    → (if b then (e.0, n) ∷ es else e ∷ fs) ≡ e ∷ (es ++ (k, n) ∷ [])
-insert_step true e es fs k n o h ih = cc
-insert_step false e es fs k n o h ih = ap (λ gs. e ∷ gs) (ih h)
+more : (us : List Var) (vs ws : List NumberedVariable) (s : Scope) (x : List ℕ) (w : ℕ) (o : Option ℕ)
+    → record { table = us; vars = vars_of us vs } ≡ s → o ≡ number_among us x → IsTrue (bytes_eq x [] || is_named s.table x) → ws ≡ vs ++ record { place = o; width = w } ∷ []
+    → vars_of us ws ≡ vars_of us vs ++ record { name = x; width = w } ∷ []
+more us vs ws s x w o v e h g =
+    ap (vars_of us) g ∙ vars_push us vs (record { place = o; width = w })
+    ∙ ap (λ n. vars_of us vs ++ record { name = n; width = w } ∷ []) (name_placed us (vars_of us vs) s x o v e h)
 
-insert_new : (es : List (List ℕ × ℕ)) (k : List ℕ) (n : ℕ)
-    → lookup (pointwise nat_eq k) es ≡ None → insert_entry (pointwise nat_eq) es k n ≡ es ++ (k, n) ∷ []
-insert_new [] k n h = refl
-insert_new (e ∷ es) k n h = insert_step (bytes_eq k e.0) e es (insert_entry (pointwise nat_eq) es k n) k n (lookup (pointwise nat_eq k) es) h
-    (λ g. insert_new es k n g)
+-- the variables with one more
+pub vars_more : (us : List Var) (vs ws : List NumberedVariable) (s : Scope) (x : List ℕ) (w : ℕ) (o : Option ℕ)
+    → record { table = us; vars = vars_of us vs } ≡ s → o ≡ number_among us x → IsTrue (bytes_eq x [] || is_named s.table x) → ws ≡ vs ++ record { place = o; width = w } ∷ []
+    → vars_of us ws ≡ s.vars ++ record { name = x; width = w } ∷ []
+vars_more us vs ws s x w o v e h g = more us vs ws s x w o v e h g ∙ ap (λ (z : Scope). z.vars ++ record { name = x; width = w } ∷ []) v
 
--- ONE VARIABLE MORE
+-- their numbers, where the table has the new one
+pub more_known : (us : List Var) (ns os : List (Option ℕ)) (vs ws : List NumberedVariable) (s : Scope) (x : List ℕ) (w k n : ℕ) (o : Option ℕ)
+    → record { table = us; vars = vars_of us vs } ≡ s → o ≡ number_among us x → IsTrue (bytes_eq x [] || is_named s.table x)
+    → ws ≡ vs ++ record { place = o; width = w } ∷ [] → AreNumbered us ns (vars_of us vs) → w ≤ 64
+    → o ≡ Some k → n ≡ length vs → os ≡ with_number ns k n → AreNumbered us os (vars_of us ws)
+more_known us ns os vs ws s x w k n o v e h g a small at' long i =
+    subst (AreNumbered us os) (sym (more us vs ws s x w o v e h g))
+    (subst (λ ms. AreNumbered us ms (vars_of us vs ++ record { name = x; width = w } ∷ []))
+    (sym (i ∙ ap (with_number ns k) (long ∙ sym (length_vars us vs))))
+    (numbered_known us ns (vars_of us vs) (record { name = x; width = w }) k a small (sym e ∙ at')))
 
--- with a variable more whose name is there already, the same entries tell all numbers
-pub pushed_there : (es : List (List ℕ × ℕ)) (vs ws : List Variable) (own k : List ℕ) (w : ℕ) (o : Option ℕ)
-    → AreNumbered es (vars_of vs) → w ≤ 64 → own ≡ k → o ≡ lookup (pointwise nat_eq k) es → is_some o ≡ true
-    → ws ≡ vs ++ record { name = own; width = w } ∷ [] → AreNumbered es (vars_of ws)
-pushed_there es vs ws own k w o a small e h s g =
-    subst (AreNumbered es)
-    (sym (ap vars_of g ∙ vars_push vs (record { name = own; width = w }) ∙ ap (λ n. vars_of vs ++ record { name = n; width = w } ∷ []) e))
-    (numbered_there es (vars_of vs) k w a small (found_some o _ h s))
-
--- the program has as many variables as they stand for
-pub length_vars : (vs : List Variable) → length (vars_of vs) ≡ length vs
-length_vars [] = refl
-length_vars (v ∷ vs) = ap suc (length_vars vs)
-
--- with a variable more whose name is new, the entries with its number tell all numbers
-pub pushed_new : (es fs : List (List ℕ × ℕ)) (vs ws : List Variable) (own key k : List ℕ) (w n : ℕ) (o : Option ℕ)
-    → AreNumbered es (vars_of vs) → w ≤ 64 → own ≡ k → key ≡ k → n ≡ length vs → o ≡ lookup (pointwise nat_eq k) es
-    → is_some o ≡ false → fs ≡ insert_entry (pointwise nat_eq) es key n
-    → ws ≡ vs ++ record { name = own; width = w } ∷ [] → AreNumbered fs (vars_of ws)
-pushed_new es fs vs ws own key k w n o a small e f long h s i g =
-    subst (AreNumbered fs)
-    (sym (ap vars_of g ∙ vars_push vs (record { name = own; width = w }) ∙ ap (λ m. vars_of vs ++ record { name = m; width = w } ∷ []) e))
-    (subst (λ gs. AreNumbered gs (vars_of vs ++ record { name = k; width = w } ∷ []))
-    (sym (i ∙ ap (λ m. insert_entry (pointwise nat_eq) es m n) f ∙ insert_new es k n (found_none o _ h s)
-    ∙ ap (λ m. es ++ (k, m) ∷ []) (long ∙ sym (length_vars vs))))
-    (numbered_new es (vars_of vs) k w a small))
+-- and where it hasn't
+pub more_unknown : (us : List Var) (ns : List (Option ℕ)) (vs ws : List NumberedVariable) (s : Scope) (x : List ℕ) (w : ℕ) (o : Option ℕ)
+    → record { table = us; vars = vars_of us vs } ≡ s → o ≡ number_among us x → IsTrue (bytes_eq x [] || is_named s.table x)
+    → ws ≡ vs ++ record { place = o; width = w } ∷ [] → AreNumbered us ns (vars_of us vs) → w ≤ 64
+    → o ≡ None → AreNumbered us ns (vars_of us ws)
+more_unknown us ns vs ws s x w o v e h g a small at' =
+    subst (AreNumbered us ns) (sym (more us vs ws s x w o v e h g))
+    (numbered_unknown us ns (vars_of us vs) (record { name = x; width = w }) a small (sym e ∙ at'))

@@ -1,25 +1,28 @@
--- What the rules give a pipe that is to be lowered: its widths and sizes are in bounds, and it has few separators.
-use Rattle.std.proofs.Common.{◌≡◌, ◌≢◌, refl, sym, ap₂, ◌∙◌, subst, subst₂, ℕ, ◌+◌, ◌≤◌, Bool, true, false, not, ◌||◌, ◌&&◌, ◌==◌, nat_le, List, [], ◌∷◌, ◌++◌, map, count_by, Option, Some, None, ⊎_elim, arith, append_assoc, append-nil, leb-true}
+-- What the rules give a pipe that is to be lowered: its variables are those of the rules, its widths and sizes are in bounds, and it has few separators.
+use Rattle.std.proofs.Common.{◌≡◌, ◌≢◌, refl, sym, ap, ap₂, ◌∙◌, subst, subst₂, ℕ, ◌+◌, ◌≤◌, Bool, true, false, not, ◌&&◌, ◌==◌, nat_le, bytes_eq, List, [], ◌∷◌, ◌++◌, map, count_by, Option, Some, None, ⊎_elim, arith, append_assoc, append-nil, leb-true}
 use Rattle.std.specs.Prelude.{IsTrue}
-use Rattle.std.proofs.lemmas.Bool.{or_parts, and_parts, and_cases, not-false, eqb-false}
+use Rattle.std.proofs.lemmas.Bool.{or_parts, or_left, or_right, and_parts, and_cases, not-false, eqb-false}
 use Rattle.std.proofs.lemmas.List.Sums.{sum_by-append}
 use Rattle.std.specs.List.{list_any}
 use Rattle.pdl_kit.specs.declared.rule.Rule.TheVariants.{Z3, Z7, N2, N3, W1, W2, W3}
-use Rattle.pdl_semantics.specs.Tree.{Expr, Stmt, Separator, CombRead, Bind, SpecCall, DelayedRead, Write, Reserve, Block, Release, If, Call, Verify, SpecCheck, SpecBarrier, Stmts, Nil, Cons, Param, LockDecl, Mem, Pipe}
+use Rattle.pdl_semantics.specs.Tree.{Expr, Location, Stmt, Separator, CombRead, Bind, SpecCall, DelayedRead, Write, Reserve, Block, Release, If, Call, Verify, SpecCheck, SpecBarrier, Stmts, Nil, Cons, Param, LockDecl, Mem, Pipe}
 use Rattle.pdl_semantics.specs.Flatten.{Var, width_of, mem_width, params_of, separators, separators_in}
 use Rattle.pdl_rules.specs.Places.{Place, Parameter, Memory, Statement, End, StartClause, Branch, guard_of, with_inner, statements, places, on_some_path}
-use Rattle.pdl_rules.specs.Parts.{some_part, some_expr_of, of_constant, is_some_and}
+use Rattle.pdl_rules.specs.Parts.{some_part, some_expr_of, location_of, of_constant, is_some_and}
 use Rattle.pdl_rules.specs.Limits.{is_separator, depths, is_depth, is_size, is_width, allows_lock, is_wrong_lock, is_wrong_literal, breaks_z7}
-use Rattle.pdl_rules.specs.Names.{Use, OfVariable, reads_some, is_undefined, is_parameter, is_given, is_too_early}
+use Rattle.pdl_rules.specs.Names.{Use, OfVariable, OfMemory, bound_by, variable_at, in_location, reads_some, is_undefined, is_parameter, is_given, is_too_early}
 use Rattle.pdl_rules.specs.Widths.{variables, is_unequal, is_too_large, is_out_of_range, is_wide_choice}
 use Rattle.pdl_rules.specs.Typed.{is_named}
 use Rattle.pdl_rules.specs.Refusal.{KeepsRules}
 use Rattle.pdl_rules.proofs.Counts.{weight, count_push, count_cons}
 use Rattle.pdl_rules.proofs.TypedExpressions.{Fits, of_one, typed, width_is}
-use Rattle.pdl_rules.proofs.KnownVariables.{Stays, stays_more, AreKnown, none_known, known_same, known_more, known_stay, known_mems, params_named}
-use Rattle.pdl_form_lower.specs.Sized.{IsSized, AreSized, IsSizedStmt, AreSizedStmts, IsSizedLock, IsSizedMem, AreSizedMems, AreSizedParams, IsSizedPipe}
-use Rattle.pdl_form_lower.proofs.Widths.{Small, sized_typed, small_more, small_mem}
+use Rattle.pdl_rules.proofs.KnownVariables.{Stays, stays_more, defines_variable, AreKnown, none_known, known_same, known_more, known_stay, known_mems, params_named}
+use Rattle.pdl_form_lower.specs.Sized.{IsSizedLock, IsSizedMem, AreSizedMems}
+use Rattle.pdl_form_lower.specs.Lowerable.{IsKnown, IsLowerable, AreLowerable, IsLowerableStmt, AreLowerableStmts, AreLowerableParams, IsLowerablePipe}
+use Rattle.pdl_form_lower.proofs.Widths.{Small, lowerable_typed, small_more, small_mem}
 use Rattle.pdl_rules.proofs.Memories.{of_each}
+use Rattle.pdl_rules.proofs.SingleWrites.{any_last}
+use Rattle.pdl_word.proofs.Bytes.{bytes_refl}
 
 -- MEMORIES AND PARAMETERS
 
@@ -83,41 +86,50 @@ record Ready (all vs : List Var) (early : Use → Bool) : Type 0 where
   knows : (x : List ℕ) → early (OfVariable x) ≡ false → IsTrue (is_named vs x)
   stays : Stays vs all
 
-sized_one : (all vs : List Var) (early : Use → Bool) → Ready all vs early → (e : Expr) → Fits early all (of_one e)
-    → IsSized e × (width_of vs e ≤ 64)
-sized_one all vs early r e f = sized_typed vs r.small e (typed vs all early r.knows (λ x t. (r.stays x t).1) e f).0
+lowerable_one : (all vs : List Var) (early : Use → Bool) → Ready all vs early → (e : Expr) → Fits early all (of_one e)
+    → IsLowerable all e × (width_of vs e ≤ 64)
+lowerable_one all vs early r e f = lowerable_typed all vs r.stays r.small e (typed vs all early r.knows (λ x t. (r.stays x t).1) e f).0
 
-sized_all : (all vs : List Var) (early : Use → Bool) → Ready all vs early → (es : List Expr)
-    → Fits early all (λ test. list_any test es) → AreSized es
-sized_all all vs early r [] f = tt
-sized_all all vs early r (e ∷ es) f = ((sized_one all vs early r e (fits_first early all e es f)).0, sized_all all vs early r es (fits_rest early all e es f))
+lowerable_all : (all vs : List Var) (early : Use → Bool) → Ready all vs early → (es : List Expr)
+    → Fits early all (λ test. list_any test es) → AreLowerable all es
+lowerable_all all vs early r [] f = tt
+lowerable_all all vs early r (e ∷ es) f = (
+  (lowerable_one all vs early r e (fits_first early all e es f)).0,
+  lowerable_all all vs early r es (fits_rest early all e es f),
+)
 
--- the expressions of a place itself, without what stands inside it
-abbrev SizedHere : Place → Type 0
-SizedHere (Statement (If _ c _ _) _) = IsSized c
-SizedHere (Statement s _) = IsSizedStmt s
-SizedHere _ = Unit {0}
+-- the address of a location whose use isn't too early
+known_address : (all vs : List Var) (early : Use → Bool) → Ready all vs early → (at : Location) → in_location early at ≡ false → IsKnown all at.address
+known_address all vs early r at h =
+    (r.stays at.address.name (r.knows at.address.name (or_parts (early (OfMemory at.mem.name)) (early (OfVariable at.address.name)) h).1)).0
 
-abbrev AllSized : List Place → Type 0
-AllSized [] = Unit {0}
-AllSized (x ∷ xs) = SizedHere x × AllSized xs
+-- what a place itself has can be lowered, without what stands inside it
+abbrev IsLowerableHere : List Var → Place → Type 0
+IsLowerableHere us (Statement (If _ c _ _) _) = IsLowerable us c
+IsLowerableHere us (Statement s _) = IsLowerableStmt us s
+IsLowerableHere us _ = Unit {0}
 
-sized_here : (all vs : List Var) (early : Use → Bool) → Ready all vs early → (s : Stmt) (bs : List Branch)
-    → Fits early all (λ test. some_expr_of test s) → SizedHere (Statement s bs)
-sized_here all vs early r (Separator _) bs f = tt
-sized_here all vs early r (CombRead _ x at) bs f = tt
-sized_here all vs early r (Bind _ x e) bs f = (sized_one all vs early r e f).0
-sized_here all vs early r (SpecCall _ g es) bs f = sized_all all vs early r es f
-sized_here all vs early r (DelayedRead _ x at) bs f = tt
-sized_here all vs early r (Write _ at e) bs f = (sized_one all vs early r e f).0
-sized_here all vs early r (Reserve _ at k) bs f = tt
-sized_here all vs early r (Block _ at) bs f = tt
-sized_here all vs early r (Release _ at) bs f = tt
-sized_here all vs early r (If _ c when otherwise) bs f = (sized_one all vs early r c f).0
-sized_here all vs early r (Call _ es) bs f = sized_all all vs early r es f
-sized_here all vs early r (Verify _ g es) bs f = sized_all all vs early r es f
-sized_here all vs early r (SpecCheck _) bs f = tt
-sized_here all vs early r (SpecBarrier _) bs f = tt
+abbrev AllLowerable : List Var → List Place → Type 0
+AllLowerable us [] = Unit {0}
+AllLowerable us (x ∷ xs) = IsLowerableHere us x × AllLowerable us xs
+
+lowerable_here : (all vs : List Var) (early : Use → Bool) → Ready all vs early → (s : Stmt) (bs : List Branch)
+    → ((x : List ℕ) → bound_by s ≡ Some x → IsTrue (is_named all x)) → is_some_and (in_location early) (location_of s) ≡ false
+    → Fits early all (λ test. some_expr_of test s) → IsLowerableHere all (Statement s bs)
+lowerable_here all vs early r (Separator _) bs d h f = tt
+lowerable_here all vs early r (CombRead _ x at) bs d h f = (d x.name refl, known_address all vs early r at h)
+lowerable_here all vs early r (Bind _ x e) bs d h f = (d x.name refl, (lowerable_one all vs early r e f).0)
+lowerable_here all vs early r (SpecCall _ g es) bs d h f = lowerable_all all vs early r es f
+lowerable_here all vs early r (DelayedRead _ x at) bs d h f = (d x.name refl, known_address all vs early r at h)
+lowerable_here all vs early r (Write _ at e) bs d h f = (known_address all vs early r at h, (lowerable_one all vs early r e f).0)
+lowerable_here all vs early r (Reserve _ at k) bs d h f = known_address all vs early r at h
+lowerable_here all vs early r (Block _ at) bs d h f = known_address all vs early r at h
+lowerable_here all vs early r (Release _ at) bs d h f = known_address all vs early r at h
+lowerable_here all vs early r (If _ c when otherwise) bs d h f = (lowerable_one all vs early r c f).0
+lowerable_here all vs early r (Call _ es) bs d h f = lowerable_all all vs early r es f
+lowerable_here all vs early r (Verify _ g es) bs d h f = lowerable_all all vs early r es f
+lowerable_here all vs early r (SpecCheck _) bs d h f = tt
+lowerable_here all vs early r (SpecBarrier _) bs d h f = tt
 
 -- THE VARIABLES SO FAR
 
@@ -149,10 +161,17 @@ same : (p : Pipe) (vs : List Var) (before : List Place) (d : Place) → AreKnown
     → After p vs before → After p vs (before ++ d ∷ [])
 same p vs before d known b = record { known = known; small = b.small; params = b.params }
 
+-- the variable that a place defines is one of the pipe
+defined_here : (p : Pipe) (us : List Var) (before : List Place) (d : Place) (later : List Place) → places p ≡ before ++ d ∷ later
+    → After p us (before ++ d ∷ []) → (x : List ℕ) → variable_at d ≡ Some x → IsTrue (is_named (variables p) x)
+defined_here p us before d later e a x h =
+    let stays = known_stay p us (before ++ d ∷ []) later (e ∙ sym (append_assoc before (d ∷ []) later)) a.known in
+    (stays x (a.known.named x (any_last (defines_variable x) before d (ap (is_some_and (bytes_eq x)) h ∙ bytes_refl x)))).0
+
 module _ (p : Pipe) (rules : KeepsRules p) where
-  -- a place's expressions are sized, and what stands after it is as before
+  -- what a place has can be lowered, and what stands after it is as before
   next : AreSizedMems p.mems → (vs : List Var) (before : List Place) (x : Place) (later : List Place) → places p ≡ before ++ x ∷ later → After p vs before
-      → SizedHere x × ((us : List Var) × After p us (before ++ x ∷ []))
+      → IsLowerableHere (variables p) x × ((us : List Var) × After p us (before ++ x ∷ []))
   next ms vs before (Parameter a) later e b = (
     tt,
     (
@@ -164,11 +183,13 @@ module _ (p : Pipe) (rules : KeepsRules p) where
   next ms vs before (Memory m) later e b = (tt, (vs, same p vs before (Memory m) (known_same p vs before (Memory m) refl refl b.known) b))
   next ms vs before (End s) later e b = (tt, (vs, same p vs before (End s) (known_same p vs before (End s) refl refl b.known) b))
   next ms vs before (StartClause s) later e b = (tt, (vs, same p vs before (StartClause s) (known_same p vs before (StartClause s) refl refl b.known) b))
-  next ms vs before (Statement s bs) later e b = (
-    sized_here (variables p) vs (is_too_early p before (Statement s bs)) (ready p vs before (Statement s bs) later e b) s bs
-        (fits_here p rules before s bs later e),
-    after s e,
-  )
+  next ms vs before (Statement s bs) later e b =
+      let rest = after s e in (
+        lowerable_here (variables p) vs (is_too_early p before (Statement s bs)) (ready p vs before (Statement s bs) later e b) s bs
+            (λ x h. defined_here p rest.0 before (Statement s bs) later e rest.1 x h)
+            (or_parts _ _ (rules N3 before (Statement s bs) later e)).0 (fits_here p rules before s bs later e),
+        rest,
+      )
     where
       after : (s : Stmt) → places p ≡ before ++ Statement s bs ∷ later → (us : List Var) × After p us (before ++ Statement s bs ∷ [])
       after (CombRead sp x at) e = (
@@ -182,7 +203,7 @@ module _ (p : Pipe) (rules : KeepsRules p) where
             (rules N2 before _ later e) b.known) (small_mem p.mems at.mem.name ms) b,
       )
       after (Bind sp x v) e =
-          let wide = sized_one (variables p) vs (is_too_early p before (Statement (Bind sp x v) bs))
+          let wide = lowerable_one (variables p) vs (is_too_early p before (Statement (Bind sp x v) bs))
           (ready p vs before (Statement (Bind sp x v) bs) later e b) v (fits_here p rules before (Bind sp x v) bs later e) in (
             vs ++ record { name = x.name; width = width_of vs v } ∷ [],
             more p vs before _ _ (known_more p vs before (Statement (Bind sp x v) bs) x.name (width_of vs v) refl refl refl
@@ -201,7 +222,8 @@ module _ (p : Pipe) (rules : KeepsRules p) where
       after (SpecBarrier sp) e = (vs, same p vs before _ (known_same p vs before (Statement (SpecBarrier sp) bs) refl refl b.known) b)
 
   -- each of these places
-  all_next : AreSizedMems p.mems → (vs : List Var) (before xs later : List Place) → places p ≡ before ++ (xs ++ later) → After p vs before → AllSized xs
+  all_next : AreSizedMems p.mems → (vs : List Var) (before xs later : List Place) → places p ≡ before ++ (xs ++ later) → After p vs before
+      → AllLowerable (variables p) xs
   all_next ms vs before [] later e b = tt
   all_next ms vs before (x ∷ xs) later e b =
       let here = next ms vs before x (xs ++ later) e b in
@@ -227,12 +249,15 @@ module _ (p : Pipe) (rules : KeepsRules p) where
         subst Small (append_assoc vs (v ∷ []) (params_of ps)) rest.1,
       )
 
-  params_sized : (ps : List Param) (before later : List Place) → places p ≡ before ++ (map Parameter ps ++ later) → AreSizedParams ps
-  params_sized [] before later e = tt
-  params_sized (a ∷ ps) before later e = (
+  params_lowerable : (ps : List Param) (before later : List Place) → places p ≡ before ++ (map Parameter ps ++ later)
+      → ((x : List ℕ) → IsTrue (is_named (params_of ps) x) → IsTrue (is_named (variables p) x)) → AreLowerableParams (variables p) ps
+  params_lowerable [] before later e known = tt
+  params_lowerable (a ∷ ps) before later e known = (
+    known a.name.name (or_left _ (is_named (params_of ps) a.name.name) (bytes_refl a.name.name)),
     (width_is a.width.value (rules Z7 before (Parameter a) _ e)).1,
-    params_sized ps (before ++ Parameter a ∷ []) later
-        (e ∙ sym (append_assoc before (Parameter a ∷ []) (map Parameter ps ++ later))),
+    params_lowerable ps (before ++ Parameter a ∷ []) later
+        (e ∙ sym (append_assoc before (Parameter a ∷ []) (map Parameter ps ++ later)))
+        (λ x t. known x (or_right (bytes_eq a.name.name x) _ t)),
   )
 
   mems_sized : (ms : List Mem) (before later : List Place) → places p ≡ before ++ (map Memory ms ++ later) → AreSizedMems ms
@@ -267,41 +292,46 @@ module _ (p : Pipe) (rules : KeepsRules p) where
       let both = params_known p.params [] [] (map Memory p.mems ++ (statements [] p.body ++ closing)) by_params (none_known p) tt in
       record { known = known_mems p p.mems (params_of p.params) (map Parameter p.params) both.0; small = both.1; params = params_named p.params }
 
-  all_body : AllSized (statements [] p.body)
+  all_params : AreLowerableParams (variables p) p.params
+  all_params =
+      let stays = known_stay p (params_of p.params) (map Parameter p.params ++ map Memory p.mems) (statements [] p.body ++ closing) by_body at_body.known in
+      params_lowerable p.params [] _ by_params (λ x t. (stays x t).0)
+
+  all_body : AllLowerable (variables p) (statements [] p.body)
   all_body = all_next all_mems (params_of p.params) (map Parameter p.params ++ map Memory p.mems) (statements [] p.body) closing by_body at_body
 
 -- BACK TO THE TREE
 
-split_sized : (xs ys : List Place) → AllSized (xs ++ ys) → AllSized xs × AllSized ys
-split_sized [] ys a = (tt, a)
-split_sized (x ∷ xs) ys a =
-    let rest = split_sized xs ys a.1 in
+split_lowerable : (us : List Var) (xs ys : List Place) → AllLowerable us (xs ++ ys) → AllLowerable us xs × AllLowerable us ys
+split_lowerable us [] ys a = (tt, a)
+split_lowerable us (x ∷ xs) ys a =
+    let rest = split_lowerable us xs ys a.1 in
     ((a.0, rest.0), rest.1)
 
 mutual
-  tree_stmt : (bs : List Branch) (s : Stmt) → AllSized (with_inner bs s) → IsSizedStmt s
-  tree_stmt bs (Separator _) a = a.0
-  tree_stmt bs (CombRead _ x at) a = a.0
-  tree_stmt bs (Bind _ x e) a = a.0
-  tree_stmt bs (SpecCall _ g es) a = a.0
-  tree_stmt bs (DelayedRead _ x at) a = a.0
-  tree_stmt bs (Write _ at e) a = a.0
-  tree_stmt bs (Reserve _ at k) a = a.0
-  tree_stmt bs (Block _ at) a = a.0
-  tree_stmt bs (Release _ at) a = a.0
-  tree_stmt bs (If s c when otherwise) a =
-      let inner = split_sized (statements (bs ++ record { guard = guard_of s c; truth = true; inside = when } ∷ []) when) _ a.1 in
-      (a.0, (tree_stmts _ when inner.0, tree_stmts _ otherwise inner.1))
-  tree_stmt bs (Call _ es) a = a.0
-  tree_stmt bs (Verify _ g es) a = a.0
-  tree_stmt bs (SpecCheck _) a = a.0
-  tree_stmt bs (SpecBarrier _) a = a.0
+  tree_stmt : (us : List Var) (bs : List Branch) (s : Stmt) → AllLowerable us (with_inner bs s) → IsLowerableStmt us s
+  tree_stmt us bs (Separator _) a = a.0
+  tree_stmt us bs (CombRead _ x at) a = a.0
+  tree_stmt us bs (Bind _ x e) a = a.0
+  tree_stmt us bs (SpecCall _ g es) a = a.0
+  tree_stmt us bs (DelayedRead _ x at) a = a.0
+  tree_stmt us bs (Write _ at e) a = a.0
+  tree_stmt us bs (Reserve _ at k) a = a.0
+  tree_stmt us bs (Block _ at) a = a.0
+  tree_stmt us bs (Release _ at) a = a.0
+  tree_stmt us bs (If s c when otherwise) a =
+      let inner = split_lowerable us (statements (bs ++ record { guard = guard_of s c; truth = true; inside = when } ∷ []) when) _ a.1 in
+      (a.0, (tree_stmts us _ when inner.0, tree_stmts us _ otherwise inner.1))
+  tree_stmt us bs (Call _ es) a = a.0
+  tree_stmt us bs (Verify _ g es) a = a.0
+  tree_stmt us bs (SpecCheck _) a = a.0
+  tree_stmt us bs (SpecBarrier _) a = a.0
 
-  tree_stmts : (bs : List Branch) (ss : Stmts) → AllSized (statements bs ss) → AreSizedStmts ss
-  tree_stmts bs Nil a = tt
-  tree_stmts bs (Cons s ss) a =
-      let parts = split_sized (with_inner bs s) (statements bs ss) a in
-      (tree_stmt bs s parts.0, tree_stmts bs ss parts.1)
+  tree_stmts : (us : List Var) (bs : List Branch) (ss : Stmts) → AllLowerable us (statements bs ss) → AreLowerableStmts us ss
+  tree_stmts us bs Nil a = tt
+  tree_stmts us bs (Cons s ss) a =
+      let parts = split_lowerable us (with_inner bs s) (statements bs ss) a in
+      (tree_stmt us bs s parts.0, tree_stmts us bs ss parts.1)
 
 -- SEPARATORS
 
@@ -349,8 +379,8 @@ few_separators p rules =
 -- THE WHOLE
 
 -- a pipe that keeps the rules can be lowered
-pub keeps_lowered : (p : Pipe) → KeepsRules p → IsSizedPipe p × (separators p.body ≤ 63)
+pub keeps_lowered : (p : Pipe) → KeepsRules p → IsLowerablePipe (variables p) p × (separators p.body ≤ 63)
 keeps_lowered p rules = (
-  record { params = params_sized p rules p.params [] _ (by_params p rules); mems = all_mems p rules; body = tree_stmts [] p.body (all_body p rules) },
+  record { params = all_params p rules; mems = all_mems p rules; body = tree_stmts (variables p) [] p.body (all_body p rules) },
   few_separators p rules,
 )

@@ -1,5 +1,5 @@
 -- Lists of stages of which one leads elsewhere.
-use Rattle.std.proofs.Common.{◌≡◌, ℕ, zero, suc, ◌≤◌, ◌<◌, false, List, [], ◌∷◌, ◌++◌, length, get_or, set, Option, Some, None, refl, ap, sym, ◌∙◌, arith, append_assoc}
+use Rattle.std.proofs.Common.{◌≡◌, ℕ, zero, suc, ◌<◌, false, List, [], ◌∷◌, ◌++◌, length, get_or, set, Option, Some, None, refl, ap, sym, ◌∙◌, arith, append_assoc}
 use Rattle.pdl_semantics.specs.Flat.{Next, Ends, Goes, Stage, Branch}
 use Rattle.pdl_semantics.specs.Flatten.{Graph, with_merge}
 use Rattle.pdl_form.specs.declared.form.FlatStage as r_stage

@@ -3,7 +3,9 @@ use Rattle.std.proofs.Common.{ℕ, ◌+◌, ◌-◌, ◌≤◌, ◌<◌, Bool, t
 use Rattle.pdl_semantics.specs.Tree.{Expr, Constant, Variable, Slice, Not, Binary, Cat, LessSigned, ZeroExtend, SignExtend, Choose, Mem}
 use Rattle.pdl_semantics.specs.Flatten.{Var, widest, var_width, mem_width, width_of}
 use Rattle.pdl_rules.specs.Typed.{IsTyped}
-use Rattle.pdl_form_lower.specs.Sized.{IsSized, AreSizedMems}
+use Rattle.pdl_rules.proofs.KnownVariables.{Stays}
+use Rattle.pdl_form_lower.specs.Sized.{AreSizedMems}
+use Rattle.pdl_form_lower.specs.Lowerable.{IsLowerable}
 use Rattle.pdl_semantics.proofs.Facts.{op_narrow}
 
 -- EXPRESSIONS
@@ -25,29 +27,32 @@ small_if : (b : Bool) (n : ℕ) → n ≤ 64 → (if b then 1 else n) ≤ 64
 small_if true n h = omega arith
 small_if false n h = h
 
--- a typed expression tells no width over 64 and has at most 64 bits, where no variable is wider
-pub sized_typed : (vs : List Var) → Small vs → (e : Expr) → IsTyped vs e → IsSized e × (width_of vs e ≤ 64)
-sized_typed vs small (Constant l) t = (t.1, t.1)
-sized_typed vs small (Variable x) t = (tt, small_width vs small x.name)
-sized_typed vs small (Slice x high low) t =
+-- a typed expression can be lowered and has at most 64 bits, where no variable is wider and the table has them all
+pub lowerable_typed : (us vs : List Var) → Stays vs us → Small vs → (e : Expr) → IsTyped vs e → IsLowerable us e × (width_of vs e ≤ 64)
+lowerable_typed us vs stays small (Constant l) t = (t.1, t.1)
+lowerable_typed us vs stays small (Variable x) t = ((stays x.name t).0, small_width vs small x.name)
+lowerable_typed us vs stays small (Slice x high low) t =
     let wide : var_width vs x.name ≤ 64 = small_width vs small x.name in
     let order : low.value ≤ high.value = t.1 in
     let below : high.value < var_width vs x.name = t.2 in
-    ((omega arith, omega arith), small_if (nat_lt high.value low.value) (high.value + 1 - low.value) (omega arith))
-sized_typed vs small (Not a) t = sized_typed vs small a t
-sized_typed vs small (Binary op a b) t =
-    let left = sized_typed vs small a t.0 in
-    ((left.0, (sized_typed vs small b t.1).0), op_narrow op (width_of vs a) left.1)
-sized_typed vs small (Cat a b) t = (
-  ((sized_typed vs small a t.0).0, (sized_typed vs small b t.1).0),
+    (((stays x.name t.0).0, omega arith, omega arith), small_if (nat_lt high.value low.value) (high.value + 1 - low.value) (omega arith))
+lowerable_typed us vs stays small (Not a) t = lowerable_typed us vs stays small a t
+lowerable_typed us vs stays small (Binary op a b) t =
+    let left = lowerable_typed us vs stays small a t.0 in
+    ((left.0, (lowerable_typed us vs stays small b t.1).0), op_narrow op (width_of vs a) left.1)
+lowerable_typed us vs stays small (Cat a b) t = (
+  ((lowerable_typed us vs stays small a t.0).0, (lowerable_typed us vs stays small b t.1).0),
   small_if (nat_lt widest (width_of vs a + width_of vs b)) (width_of vs a + width_of vs b) t.2,
 )
-sized_typed vs small (LessSigned a b) t = (((sized_typed vs small a t.0).0, (sized_typed vs small b t.1).0), omega arith)
-sized_typed vs small (ZeroExtend a n) t = ((t.2, (sized_typed vs small a t.0).0), t.2)
-sized_typed vs small (SignExtend a n) t = ((t.2, (sized_typed vs small a t.0).0), t.2)
-sized_typed vs small (Choose c a b) t =
-    let first = sized_typed vs small a t.1 in
-    (((sized_typed vs small c t.0).0, (first.0, (sized_typed vs small b t.2).0)), first.1)
+lowerable_typed us vs stays small (LessSigned a b) t = (
+  ((lowerable_typed us vs stays small a t.0).0, (lowerable_typed us vs stays small b t.1).0),
+  omega arith,
+)
+lowerable_typed us vs stays small (ZeroExtend a n) t = ((t.2, (lowerable_typed us vs stays small a t.0).0), t.2)
+lowerable_typed us vs stays small (SignExtend a n) t = ((t.2, (lowerable_typed us vs stays small a t.0).0), t.2)
+lowerable_typed us vs stays small (Choose c a b) t =
+    let first = lowerable_typed us vs stays small a t.1 in
+    (((lowerable_typed us vs stays small c t.0).0, (first.0, (lowerable_typed us vs stays small b t.2).0)), first.1)
 
 -- VARIABLES
 

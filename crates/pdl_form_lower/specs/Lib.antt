@@ -1,3 +1,4 @@
 pub mod Variables
 pub mod Sized
+pub mod Lowerable
 pub mod Walking

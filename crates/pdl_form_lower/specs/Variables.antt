@@ -1,25 +1,45 @@
--- Variables by number, and a map from names to their numbers.
-use Rattle.std.specs.Prelude.{◌≡◌, ℕ, suc, ◌≤◌, nat_eq, bytes_eq, if◌then◌else◌, List, [], ◌∷◌, map, Option, Some, None, length}
-use Rattle.std.specs.Map.{lookup}
-use Rattle.std.specs.Cmp.Lexicographic.{pointwise}
-use Rattle.std.specs.Option.{option_map}
+-- The variables of a walk by number, with the table of all variables of the pipe.
+use Rattle.std.specs.Prelude.{◌≡◌, ℕ, zero, suc, ◌≤◌, List, [], ◌∷◌, map, Option, Some, None, slice_get}
 use Rattle.pdl_semantics.specs.Flatten.{Var, var_width}
-use Rattle.pdl_form_lower.specs.declared.vars.Variable.{Variable}
+use Rattle.pdl_rules_widths.specs.Variables.{number_among}
+use Rattle.pdl_form_lower.specs.declared.vars.NumberedVariable.{NumberedVariable}
+
+-- the variables of a pipe, and those that a walk has defined so far
+pub record Scope : Type 0 where
+  pub table : List Var
+  pub vars : List Var
+
+-- the name of the variable at a place of the table
+abbrev pub name_in : List Var → ℕ → List ℕ
+name_in [] k = []
+name_in (u ∷ us) zero = u.name
+name_in (u ∷ us) (suc k) = name_in us k
+
+-- the name of a variable that has this place in the table; a guard has none
+abbrev pub name_at : List Var → Option ℕ → List ℕ
+name_at us None = []
+name_at us (Some k) = name_in us k
 
 -- the variable that a variable of the program stands for
-abbrev pub var_view : Variable → Var
-var_view v = record { name = v.name; width = v.width }
+abbrev pub var_view : List Var → NumberedVariable → Var
+var_view us v = record { name = name_at us v.place; width = v.width }
 
 -- the variables that variables of the program stand for
-abbrev pub vars_of : List Variable → List Var
-vars_of vs = map var_view vs
+abbrev pub vars_of : List Var → List NumberedVariable → List Var
+vars_of us vs = map (var_view us) vs
 
--- the number of the first variable of this name, where there is one
-abbrev pub number_in : List Var → List ℕ → Option ℕ
-number_in [] x = None
-number_in (v ∷ vs) x = if bytes_eq v.name x then Some 0 else option_map suc (number_in vs x)
+-- a number, or this one where there is none
+abbrev pub number_or : Option ℕ → ℕ → Option ℕ
+number_or None n = Some n
+number_or (Some m) n = Some m
 
--- the entries tell the number of each name, and no width is over 64
-pub record AreNumbered (entries : List (List ℕ × ℕ)) (vs : List Var) : Type 0 where
-  pub numbers : (x : List ℕ) → lookup (pointwise nat_eq x) entries ≡ number_in vs x
+-- the numbers, where the one at a place is this one unless there is one already
+abbrev pub with_number : List (Option ℕ) → ℕ → ℕ → List (Option ℕ)
+with_number [] k n = []
+with_number (o ∷ os) zero n = number_or o n ∷ os
+with_number (o ∷ os) (suc k) n = o ∷ with_number os k n
+
+-- each variable of the table has the number of its name, and no width is over 64
+pub record AreNumbered (us : List Var) (ns : List (Option ℕ)) (vs : List Var) : Type 0 where
+  pub numbers : (x : List ℕ) (k : ℕ) → number_among us x ≡ Some k → slice_get ns k ≡ Some (number_among vs x)
   pub small : (x : List ℕ) → var_width vs x ≤ 64

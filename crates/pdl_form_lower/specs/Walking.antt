@@ -9,7 +9,7 @@ use Rattle.pdl_form_lower.specs.declared.walk.Walk.{Walk}
 
 -- where a walk is
 abbrev pub place_of : Walk → Position
-place_of w = record { vars = w.vars; stage = w.stage; begun = w.begun }
+place_of w = record { vars = w.vars.vars; stage = w.stage; begun = w.begun }
 
 -- each stage that has begun stands in its list, and the walk is in one of them
 pub record IsWhole (w : Walk) : Type 0 where

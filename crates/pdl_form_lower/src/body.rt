@@ -4,7 +4,8 @@ ghost use Rattle.pdl_semantics.specs.Flat as flat;
 ghost use Rattle.pdl_semantics.specs.Flatten as spec;
 ghost use Rattle.pdl_syntax_tree.specs.View as tree;
 ghost use Rattle.pdl_form.specs.View.{guards_view, stmts_view, stages_view, next_view, branch_view};
-ghost use Rattle.pdl_form_lower.specs.Sized.{IsSized, IsSizedStmt, AreSizedStmts, AreSizedMems};
+ghost use Rattle.pdl_form_lower.specs.Sized.{AreSizedMems};
+ghost use Rattle.pdl_form_lower.specs.Lowerable.{IsLowerable, IsLowerableStmt, AreLowerableStmts};
 ghost use Rattle.pdl_form_lower.specs.Walking.{place_of, IsWhole, closed_stages, next_at, settled_stages};
 
 use crate::count::separators;
@@ -12,19 +13,25 @@ use crate::expr::flat_expr;
 use crate::row::{add, row};
 use crate::walk::{StmtContext, Walk, begin, lead, mark};
 use pdl_form::{FlatBranch, FlatGuard, FlatStage, Next, Op};
-use pdl_kit::{Name, NoMemory, Seq};
+use pdl_kit::{NoMemory, Seq};
 use pdl_syntax_tree::{Expr, Mem, Stmt};
 use std::alloc::Global;
 
 // The variable of a condition's truth value: the plain variable itself, else one of its own, which is bound here.
-fn guard(alloc: Global, walk: &mut Walk, guards: &[FlatGuard], c: &Expr) -> Result<usize, NoMemory>
-    requires { IsSized (tree.expr_view c.now) }
-    ensures var { IfOk result (λ x. x ≡ spec.guard_of walk.old.vars (tree.expr_view c.now)) }
+fn guard(
+    alloc: Global,
+    walk: &mut Walk<'_>,
+    guards: &[FlatGuard],
+    c: &Expr,
+) -> Result<usize, NoMemory>
+    requires { IsLowerable walk.old.vars.table (tree.expr_view c.now) }
+    ensures var { IfOk result (λ x. x ≡ spec.guard_of walk.old.vars.vars (tree.expr_view c.now)) }
     ensures stmts { OnOk result (stmts_view walk.new.stmts.items
         ≡ stmts_view walk.old.stmts.items ++ spec.binds_guard (guards_view guards.now)
         (place_of walk.old) (tree.expr_view c.now)) }
     ensures place { OnOk result (place_of walk.new
         ≡ spec.with_guard (tree.expr_view c.now) (place_of walk.old)) }
+    ensures table { OnOk result (walk.new.vars.table ≡ walk.old.vars.table) }
     ensures stages { OnOk result (walk.new.stages.items ≡ walk.old.stages.items) }
 {
     if let Expr::Variable(x) = c {
@@ -33,8 +40,7 @@ fn guard(alloc: Global, walk: &mut Walk, guards: &[FlatGuard], c: &Expr) -> Resu
     let value = flat_expr(alloc, &walk.vars, c)?;
     let x = walk.vars.len();
     add(alloc, walk, guards, Op::Bind { x, e: value.e })?;
-    let unnamed = Name::copy_of(alloc, b"")?;
-    walk.vars.define(&unnamed, 1)?;
+    walk.vars.define_guard(alloc)?;
     Ok(x)
 }
 
@@ -59,21 +65,23 @@ fn way_on(stages: &[FlatStage], k: usize) -> Next
 // Enters an `if` in which this many stages begin.
 fn enter(
     alloc: Global,
-    walk: &mut Walk,
+    walk: &mut Walk<'_>,
     guards: &[FlatGuard],
     c: &Expr,
     more: usize,
 ) -> Result<Choice, NoMemory>
     requires whole { IsWhole walk.old }
     requires few { walk.old.begun + more ≤ 63 }
-    requires sized { IsSized (tree.expr_view c.now) }
+    requires lowerable { IsLowerable walk.old.vars.table (tree.expr_view c.now) }
     ensures stmts { OnOk result (stmts_view walk.new.stmts.items
         ≡ stmts_view walk.old.stmts.items ++ spec.binds_guard (guards_view guards.now)
         (place_of walk.old) (tree.expr_view c.now)) }
     ensures place { OnOk result (place_of walk.new
         ≡ spec.with_guard (tree.expr_view c.now) (place_of walk.old)) }
+    ensures table { OnOk result (walk.new.vars.table ≡ walk.old.vars.table) }
     ensures stages { OnOk result (walk.new.stages.items ≡ walk.old.stages.items) }
-    ensures var { IfOk result (λ x. x.var ≡ spec.guard_of walk.old.vars (tree.expr_view c.now)) }
+    ensures var { IfOk result (λ x.
+        x.var ≡ spec.guard_of walk.old.vars.vars (tree.expr_view c.now)) }
     ensures stage { IfOk result (λ x. x.stage ≡ walk.old.stage) }
     ensures before { IfOk result (λ x.
         next_view x.before ≡ next_at walk.old.stage (stages_view walk.old.stages.items)) }
@@ -131,11 +139,12 @@ fn entry(stages: &[FlatStage], k: usize) -> usize
 }
 
 // Ends an `if` whose branches enter these stages first, and answers whether a fork now stands in its stage.
-fn leave(walk: &mut Walk, choice: Choice, first: usize, second: usize, forked: bool) -> bool
+fn leave(walk: &mut Walk<'_>, choice: Choice, first: usize, second: usize, forked: bool) -> bool
     requires whole { IsWhole walk.old }
     requires stage { choice.stage ≤ walk.old.begun }
     requires begun { choice.begun ≤ walk.old.begun }
     ensures place { place_of walk.new ≡ place_of walk.old }
+    ensures table { walk.new.vars.table ≡ walk.old.vars.table }
     ensures stmts { walk.new.stmts.items ≡ walk.old.stmts.items }
     ensures stages { stages_view walk.new.stages.items
         ≡ settled_stages (walk.old.begun == choice.begun) forked choice.stage choice.begun
@@ -163,7 +172,7 @@ fn leave(walk: &mut Walk, choice: Choice, first: usize, second: usize, forked: b
 #[cycle(walk)]
 fn branch(
     alloc: Global,
-    walk: &mut Walk,
+    walk: &mut Walk<'_>,
     mems: &[Mem],
     guards: &[FlatGuard],
     choice: Choice,
@@ -173,7 +182,7 @@ fn branch(
     requires whole { IsWhole walk.old }
     requires stage { walk.old.stage ≡ choice.stage }
     requires few { walk.old.begun + spec.separators (tree.stmts_view ss.now) ≤ 63 }
-    requires sized { AreSizedStmts (tree.stmts_view ss.now) }
+    requires lowerable { AreLowerableStmts walk.old.vars.table (tree.stmts_view ss.now) }
     requires mems { AreSizedMems (map tree.mem_view mems.now) }
     ensures place { OnOk result (place_of walk.new
         ≡ spec.back_in choice.stage
@@ -189,6 +198,7 @@ fn branch(
     ensures entry { IfOk result (λ k.
         k ≡ spec.entry (spec.graph (map tree.mem_view mems.now) (spec.side choice.stage first)
         (flat.Goes choice.merge) (tree.stmts_view ss.now) (place_of walk.old)).next) }
+    ensures table { OnOk result (walk.new.vars.table ≡ walk.old.vars.table) }
     ensures whole { OnOk result (IsWhole walk.new) }
     ensures count { OnOk result (walk.new.begun
         ≡ walk.old.begun + spec.separators (tree.stmts_view ss.now)) }
@@ -203,7 +213,7 @@ fn branch(
 #[cycle(walk)]
 pub fn statement(
     alloc: Global,
-    walk: &mut Walk,
+    walk: &mut Walk<'_>,
     mems: &[Mem],
     round: &StmtContext,
     forked: bool,
@@ -211,7 +221,7 @@ pub fn statement(
 ) -> Result<bool, NoMemory>
     requires whole { IsWhole walk.old }
     requires few { walk.old.begun + spec.separators_in (tree.stmt_view s.now) ≤ 63 }
-    requires sized { IsSizedStmt (tree.stmt_view s.now) }
+    requires lowerable { IsLowerableStmt walk.old.vars.table (tree.stmt_view s.now) }
     requires mems { AreSizedMems (map tree.mem_view mems.now) }
     ensures place { OnOk result (place_of walk.new
         ≡ spec.past (map tree.mem_view mems.now) (tree.stmt_view s.now) (place_of walk.old)) }
@@ -223,6 +233,7 @@ pub fn statement(
         ≡ closed_stages walk.old.stage forked (stages_view walk.old.stages.items)
         (spec.graph_before (map tree.mem_view mems.now) (branch_view round.now.branch)
         (tree.stmt_view s.now) (place_of walk.old) rest)) }
+    ensures table { OnOk result (walk.new.vars.table ≡ walk.old.vars.table) }
     ensures whole { OnOk result (IsWhole walk.new) }
     ensures count { OnOk result (walk.new.begun
         ≡ walk.old.begun + spec.separators_in (tree.stmt_view s.now)) }
@@ -258,14 +269,14 @@ pub fn statement(
 #[cycle(walk)]
 pub fn statements(
     alloc: Global,
-    walk: &mut Walk,
+    walk: &mut Walk<'_>,
     mems: &[Mem],
     round: &StmtContext,
     ss: &[Stmt],
 ) -> Result<(), NoMemory>
     requires whole { IsWhole walk.old }
     requires few { walk.old.begun + spec.separators (tree.stmts_view ss.now) ≤ 63 }
-    requires sized { AreSizedStmts (tree.stmts_view ss.now) }
+    requires lowerable { AreLowerableStmts walk.old.vars.table (tree.stmts_view ss.now) }
     requires mems { AreSizedMems (map tree.mem_view mems.now) }
     ensures place { OnOk result (place_of walk.new
         ≡ spec.past_all (map tree.mem_view mems.now) (tree.stmts_view ss.now) (place_of walk.old)) }
@@ -276,6 +287,7 @@ pub fn statements(
         ≡ closed_stages walk.old.stage false (stages_view walk.old.stages.items)
         (spec.graph (map tree.mem_view mems.now) (branch_view round.now.branch)
         (next_view round.now.exit) (tree.stmts_view ss.now) (place_of walk.old))) }
+    ensures table { OnOk result (walk.new.vars.table ≡ walk.old.vars.table) }
     ensures whole { OnOk result (IsWhole walk.new) }
     ensures count { OnOk result (walk.new.begun
         ≡ walk.old.begun + spec.separators (tree.stmts_view ss.now)) }

@@ -1,10 +1,11 @@
 // Expressions over numbered variables.
-ghost use Rattle.std.specs.Prelude.{◌≡◌, ℕ, ◌+◌, ◌-◌, ◌≤◌, if◌then◌else◌, nat_lt, unwrap_or, map, IfOk, Ok};
+ghost use Rattle.std.specs.Prelude.{◌≡◌, ℕ, ◌+◌, ◌-◌, ◌≤◌, if◌then◌else◌, nat_lt, unwrap_or, map, IfOk, IsTrue, Ok};
 ghost use Rattle.pdl_semantics.specs.Flat as flat;
 ghost use Rattle.pdl_semantics.specs.Flatten as spec;
 ghost use Rattle.pdl_syntax_tree.specs.View.{expr_view as tree_view, exprs_view as trees_view, op_view};
+ghost use Rattle.pdl_rules.specs.Typed.{is_named};
 ghost use Rattle.pdl_form.specs.View.{expr_view};
-ghost use Rattle.pdl_form_lower.specs.Sized.{IsSized, AreSized};
+ghost use Rattle.pdl_form_lower.specs.Lowerable.{IsLowerable, AreLowerable};
 
 use crate::both::both;
 use crate::vars::Vars;
@@ -36,9 +37,10 @@ fn constant(l: &Literal) -> Wide
     }
 }
 
-fn variable(vars: &Vars, name: &Name) -> Wide
-    ensures form { expr_view result.e ≡ flat.Variable (spec.var_of vars.now name.now) }
-    ensures width { result.width ≡ spec.var_width vars.now name.now }
+fn variable(vars: &Vars<'_>, name: &Name) -> Wide
+    requires { IsTrue (is_named vars.now.table name.now) }
+    ensures form { expr_view result.e ≡ flat.Variable (spec.var_of vars.now.vars name.now) }
+    ensures width { result.width ≡ spec.var_width vars.now.vars name.now }
     ensures small { result.width ≤ 64 }
 {
     Wide {
@@ -56,10 +58,11 @@ fn slice_width(high: u8, low: u8) -> u8
     if high < low { 1 } else { high + 1 - low }
 }
 
-fn slice(vars: &Vars, name: &Name, high: u64, low: u64) -> Wide
+fn slice(vars: &Vars<'_>, name: &Name, high: u64, low: u64) -> Wide
+    requires known { IsTrue (is_named vars.now.table name.now) }
     requires high { high ≤ 63 }
     requires low { low ≤ 63 }
-    ensures form { expr_view result.e ≡ flat.Slice (spec.var_of vars.now name.now) high low }
+    ensures form { expr_view result.e ≡ flat.Slice (spec.var_of vars.now.vars name.now) high low }
     ensures width { result.width ≡ (if nat_lt high low then 1 else high + 1 - low) }
     ensures small { result.width ≤ 64 }
 {
@@ -272,10 +275,11 @@ fn choose(
 // An expression as an operand in a place of its own, which takes less of the stack than the expression.
 #[cycle(flat)]
 #[inline(never)]
-fn flat_operand(alloc: Global, vars: &Vars, e: &Tree) -> Result<LoweredOperand, NoMemory>
-    requires e { IsSized (tree_view e.now) }
-    ensures form { IfOk result (λ r. expr_view r.e ≡ spec.flat_expr vars.now (tree_view e.now)) }
-    ensures width { IfOk result (λ r. r.width ≡ spec.width_of vars.now (tree_view e.now)) }
+fn flat_operand(alloc: Global, vars: &Vars<'_>, e: &Tree) -> Result<LoweredOperand, NoMemory>
+    requires e { IsLowerable vars.now.table (tree_view e.now) }
+    ensures form { IfOk result (λ r.
+        expr_view r.e ≡ spec.flat_expr vars.now.vars (tree_view e.now)) }
+    ensures width { IfOk result (λ r. r.width ≡ spec.width_of vars.now.vars (tree_view e.now)) }
     ensures small { IfOk result (λ r. r.width ≤ 64) }
 {
     boxed(alloc, flat_expr(alloc, vars, e))
@@ -284,11 +288,12 @@ fn flat_operand(alloc: Global, vars: &Vars, e: &Tree) -> Result<LoweredOperand, 
 // An inverted expression.
 #[cycle(flat)]
 #[inline(never)]
-fn flat_not(alloc: Global, vars: &Vars, a: &Tree) -> Result<Wide, NoMemory>
-    requires a { IsSized (tree_view a.now) }
+fn flat_not(alloc: Global, vars: &Vars<'_>, a: &Tree) -> Result<Wide, NoMemory>
+    requires a { IsLowerable vars.now.table (tree_view a.now) }
     ensures form { IfOk result (λ r. expr_view r.e
-        ≡ flat.Not (spec.width_of vars.now (tree_view a.now)) (spec.flat_expr vars.now (tree_view a.now))) }
-    ensures width { IfOk result (λ r. r.width ≡ (spec.width_of vars.now (tree_view a.now))) }
+        ≡ flat.Not (spec.width_of vars.now.vars (tree_view a.now))
+        (spec.flat_expr vars.now.vars (tree_view a.now))) }
+    ensures width { IfOk result (λ r. r.width ≡ spec.width_of vars.now.vars (tree_view a.now)) }
     ensures small { IfOk result (λ r. r.width ≤ 64) }
 {
     not(alloc, flat_operand(alloc, vars, a))
@@ -297,11 +302,11 @@ fn flat_not(alloc: Global, vars: &Vars, a: &Tree) -> Result<Wide, NoMemory>
 // An extension by zeros.
 #[cycle(flat)]
 #[inline(never)]
-fn flat_zero_extend(alloc: Global, vars: &Vars, wide: u64, a: &Tree) -> Result<Wide, NoMemory>
-    requires a { IsSized (tree_view a.now) }
+fn flat_zero_extend(alloc: Global, vars: &Vars<'_>, wide: u64, a: &Tree) -> Result<Wide, NoMemory>
+    requires a { IsLowerable vars.now.table (tree_view a.now) }
     requires wide { wide ≤ 64 }
     ensures form { IfOk result (λ r. expr_view r.e
-        ≡ flat.ZeroExtend wide (spec.flat_expr vars.now (tree_view a.now))) }
+        ≡ flat.ZeroExtend wide (spec.flat_expr vars.now.vars (tree_view a.now))) }
     ensures width { IfOk result (λ r. r.width ≡ wide) }
     ensures small { IfOk result (λ r. r.width ≤ 64) }
 {
@@ -311,12 +316,12 @@ fn flat_zero_extend(alloc: Global, vars: &Vars, wide: u64, a: &Tree) -> Result<W
 // An extension by the sign.
 #[cycle(flat)]
 #[inline(never)]
-fn flat_sign_extend(alloc: Global, vars: &Vars, wide: u64, a: &Tree) -> Result<Wide, NoMemory>
-    requires a { IsSized (tree_view a.now) }
+fn flat_sign_extend(alloc: Global, vars: &Vars<'_>, wide: u64, a: &Tree) -> Result<Wide, NoMemory>
+    requires a { IsLowerable vars.now.table (tree_view a.now) }
     requires wide { wide ≤ 64 }
     ensures form { IfOk result (λ r. expr_view r.e
-        ≡ flat.SignExtend (spec.width_of vars.now (tree_view a.now)) wide
-        (spec.flat_expr vars.now (tree_view a.now))) }
+        ≡ flat.SignExtend (spec.width_of vars.now.vars (tree_view a.now)) wide
+        (spec.flat_expr vars.now.vars (tree_view a.now))) }
     ensures width { IfOk result (λ r. r.width ≡ wide) }
     ensures small { IfOk result (λ r. r.width ≤ 64) }
 {
@@ -328,16 +333,16 @@ fn flat_sign_extend(alloc: Global, vars: &Vars, wide: u64, a: &Tree) -> Result<W
 #[inline(never)]
 fn binary_with(
     alloc: Global,
-    vars: &Vars,
+    vars: &Vars<'_>,
     op: BinaryOp,
     a: Result<LoweredOperand, NoMemory>,
     b: &Tree,
 ) -> Result<Wide, NoMemory>
-    requires b { IsSized (tree_view b.now) }
+    requires b { IsLowerable vars.now.table (tree_view b.now) }
     requires a_small { IfOk a (λ a. a.width ≤ 64) }
     ensures form { (x : flat.Expr) (w : ℕ) → IfOk a (λ a. expr_view a.e ≡ x) →
         IfOk a (λ a. a.width ≡ w) → IfOk result (λ r.
-        expr_view r.e ≡ flat.Binary (op_view op) w x (spec.flat_expr vars.now (tree_view b.now))) }
+        expr_view r.e ≡ flat.Binary (op_view op) w x (spec.flat_expr vars.now.vars (tree_view b.now))) }
     ensures width { (w : ℕ) → IfOk a (λ a. a.width ≡ w) →
         IfOk result (λ r. r.width ≡ spec.op_width (op_view op) w) }
     ensures small { IfOk result (λ r. r.width ≤ 64) }
@@ -351,16 +356,18 @@ fn binary_with(
 #[inline(never)]
 fn cat_with(
     alloc: Global,
-    vars: &Vars,
+    vars: &Vars<'_>,
     a: Result<LoweredOperand, NoMemory>,
     b: &Tree,
 ) -> Result<Wide, NoMemory>
-    requires b { IsSized (tree_view b.now) }
+    requires b { IsLowerable vars.now.table (tree_view b.now) }
     requires a_small { IfOk a (λ a. a.width ≤ 64) }
     ensures form { (x : flat.Expr) → IfOk a (λ a. expr_view a.e ≡ x) → IfOk result (λ r.
-        expr_view r.e ≡ flat.Cat x (spec.width_of vars.now (tree_view b.now)) (spec.flat_expr vars.now (tree_view b.now))) }
+        expr_view r.e ≡ flat.Cat x (spec.width_of vars.now.vars (tree_view b.now))
+        (spec.flat_expr vars.now.vars (tree_view b.now))) }
     ensures width { (v : ℕ) → IfOk a (λ a. a.width ≡ v) → IfOk result (λ r. r.width ≡
-        (if nat_lt 64 (v + (spec.width_of vars.now (tree_view b.now))) then 1 else v + (spec.width_of vars.now (tree_view b.now)))) }
+        (if nat_lt 64 (v + spec.width_of vars.now.vars (tree_view b.now)) then 1
+        else v + spec.width_of vars.now.vars (tree_view b.now))) }
     ensures small { IfOk result (λ r. r.width ≤ 64) }
 {
     let b = flat_operand(alloc, vars, b);
@@ -372,14 +379,14 @@ fn cat_with(
 #[inline(never)]
 fn less_with(
     alloc: Global,
-    vars: &Vars,
+    vars: &Vars<'_>,
     a: Result<LoweredOperand, NoMemory>,
     b: &Tree,
 ) -> Result<Wide, NoMemory>
-    requires b { IsSized (tree_view b.now) }
+    requires b { IsLowerable vars.now.table (tree_view b.now) }
     ensures form { (x : flat.Expr) (w : ℕ) → IfOk a (λ a. expr_view a.e ≡ x) →
         IfOk a (λ a. a.width ≡ w) → IfOk result (λ r.
-        expr_view r.e ≡ flat.LessSigned w x (spec.flat_expr vars.now (tree_view b.now))) }
+        expr_view r.e ≡ flat.LessSigned w x (spec.flat_expr vars.now.vars (tree_view b.now))) }
     ensures width { IfOk result (λ r. r.width ≡ 1) }
     ensures small { IfOk result (λ r. r.width ≤ 64) }
 {
@@ -392,15 +399,15 @@ fn less_with(
 #[inline(never)]
 fn choice_with(
     alloc: Global,
-    vars: &Vars,
+    vars: &Vars<'_>,
     c: Result<LoweredOperand, NoMemory>,
     a: Result<LoweredOperand, NoMemory>,
     b: &Tree,
 ) -> Result<Wide, NoMemory>
-    requires b { IsSized (tree_view b.now) }
+    requires b { IsLowerable vars.now.table (tree_view b.now) }
     ensures form { (z x : flat.Expr) → IfOk c (λ c. expr_view c.e ≡ z) →
         IfOk a (λ a. expr_view a.e ≡ x) → IfOk result (λ r.
-        expr_view r.e ≡ flat.Choose z x (spec.flat_expr vars.now (tree_view b.now))) }
+        expr_view r.e ≡ flat.Choose z x (spec.flat_expr vars.now.vars (tree_view b.now))) }
     ensures width { (w : ℕ) → IfOk a (λ a. a.width ≡ w) → IfOk result (λ r. r.width ≡ w) }
     ensures small { IfOk a (λ a. a.width ≤ 64) → IfOk result (λ r. r.width ≤ 64) }
 {
@@ -411,10 +418,11 @@ fn choice_with(
 /// An expression over the variables' numbers, with its width. What comes after a first operand has a function of its own, so that expressions in one another take little stack.
 #[cycle(flat)]
 #[inline(never)]
-pub fn flat_expr(alloc: Global, vars: &Vars, e: &Tree) -> Result<Wide, NoMemory>
-    requires { IsSized (tree_view e.now) }
-    ensures form { IfOk result (λ r. expr_view r.e ≡ spec.flat_expr vars.now (tree_view e.now)) }
-    ensures width { IfOk result (λ r. r.width ≡ spec.width_of vars.now (tree_view e.now)) }
+pub fn flat_expr(alloc: Global, vars: &Vars<'_>, e: &Tree) -> Result<Wide, NoMemory>
+    requires { IsLowerable vars.now.table (tree_view e.now) }
+    ensures form { IfOk result (λ r.
+        expr_view r.e ≡ spec.flat_expr vars.now.vars (tree_view e.now)) }
+    ensures width { IfOk result (λ r. r.width ≡ spec.width_of vars.now.vars (tree_view e.now)) }
     ensures small { IfOk result (λ r. r.width ≤ 64) }
 {
     match e {
@@ -445,9 +453,9 @@ pub fn flat_expr(alloc: Global, vars: &Vars, e: &Tree) -> Result<Wide, NoMemory>
 }
 
 /// Arguments over the variables' numbers.
-pub fn flat_exprs(alloc: Global, vars: &Vars, es: &[Tree]) -> Result<Seq<FlatExpr>, NoMemory>
-    requires { AreSized (trees_view es.now) }
-    ensures { IfOk result (λ r. map expr_view r ≡ spec.flat_exprs vars.now (trees_view es.now)) }
+pub fn flat_exprs(alloc: Global, vars: &Vars<'_>, es: &[Tree]) -> Result<Seq<FlatExpr>, NoMemory>
+    requires { AreLowerable vars.now.table (trees_view es.now) }
+    ensures { IfOk result (λ r. map expr_view r ≡ spec.flat_exprs vars.now.vars (trees_view es.now)) }
 {
     let mut args = Seq::new(alloc);
     for e in es {

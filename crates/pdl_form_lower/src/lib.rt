@@ -1,4 +1,4 @@
-//! The flat form of a pipe, made from its tree: names become numbers, each statement gets its stage and its guards, and the separators give the stages.
+//! The flat form of a pipe, made from its tree and the table of its variables: names become numbers, each statement gets its stage and its guards, and the separators give the stages.
 //!
 //! The layers above may use `lower`, and the lemma that a pipe which keeps the rules can be lowered.
 #![tactic(auto)]

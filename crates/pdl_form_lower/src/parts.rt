@@ -4,20 +4,27 @@ ghost use Rattle.pdl_semantics.specs.Flatten as spec;
 ghost use Rattle.pdl_syntax_tree.specs.View as tree;
 ghost use Rattle.pdl_form.specs.View.{mem_view, mems_view, lock_view, mem_names};
 ghost use Rattle.pdl_form.specs.Form.{names_of};
-ghost use Rattle.pdl_form_lower.specs.Sized.{IsSizedLock, IsSizedMem, AreSizedMems, AreSizedParams};
+ghost use Rattle.pdl_form_lower.specs.Sized.{IsSizedLock, IsSizedMem, AreSizedMems};
+ghost use Rattle.pdl_form_lower.specs.Lowerable.{AreLowerableParams};
 
 use crate::vars::Vars;
 use pdl_form::{FlatMem, Lock};
 use pdl_kit::NoMemory;
+use pdl_rules_widths::Variables;
 use pdl_syntax_tree::{Literal, LockDecl, LockKind, Mem as Tree, Param};
 use std::alloc::Global;
 
-/// The parameters as variables.
-pub fn params(alloc: Global, params: &[Param]) -> Result<Vars, NoMemory>
-    requires { AreSizedParams (map tree.param_view params.now) }
-    ensures { IfOk result (λ vs. vs ≡ spec.params_of (map tree.param_view params.now)) }
+/// The parameters as variables of this table.
+pub fn params<'v>(
+    alloc: Global,
+    table: &'v Variables,
+    params: &[Param],
+) -> Result<Vars<'v>, NoMemory>
+    requires { AreLowerableParams table.now (map tree.param_view params.now) }
+    ensures vars { IfOk result (λ vs. vs.vars ≡ spec.params_of (map tree.param_view params.now)) }
+    ensures table { IfOk result (λ vs. vs.table ≡ table.now) }
 {
-    let mut vars = Vars::new(alloc);
+    let mut vars = Vars::new(alloc, table)?;
     for param in params {
         vars.define(&param.name.name, param.width.value as u8)?;
     }

@@ -3,8 +3,10 @@ ghost use Rattle.std.specs.Prelude.{◌≡◌, ◌∷◌, [], ◌++◌, IsTrue, 
 ghost use Rattle.pdl_semantics.specs.Flat as flat;
 ghost use Rattle.pdl_semantics.specs.Flatten as spec;
 ghost use Rattle.pdl_syntax_tree.specs.View as tree;
+ghost use Rattle.pdl_rules.specs.Typed.{is_named};
 ghost use Rattle.pdl_form.specs.View.{guards_view, stmts_view, act_view, expr_view};
-ghost use Rattle.pdl_form_lower.specs.Sized.{IsSized, IsSizedStmt, AreSizedMems};
+ghost use Rattle.pdl_form_lower.specs.Sized.{AreSizedMems};
+ghost use Rattle.pdl_form_lower.specs.Lowerable.{IsLowerable, IsLowerableStmt};
 ghost use Rattle.pdl_form_lower.specs.Walking.{place_of, is_plain, is_act, read_op};
 
 use crate::append::append;
@@ -24,9 +26,10 @@ struct Spot {
     a: usize,
 }
 
-fn spot_of(vars: &Vars, mems: &[Mem], at: &Location) -> Spot
+fn spot_of(vars: &Vars<'_>, mems: &[Mem], at: &Location) -> Spot
+    requires { IsTrue (is_named vars.now.table at.now.address.name) }
     ensures m { result.m ≡ spec.mem_of (map tree.mem_view mems.now) at.now.mem.name }
-    ensures a { result.a ≡ spec.var_of vars.now at.now.address.name }
+    ensures a { result.a ≡ spec.var_of vars.now.vars at.now.address.name }
 {
     Spot {
         m: mem_of(mems, &at.mem.name),
@@ -35,11 +38,12 @@ fn spot_of(vars: &Vars, mems: &[Mem], at: &Location) -> Spot
 }
 
 /// Adds a statement that stands where the walk is.
-pub fn add(alloc: Global, walk: &mut Walk, guards: &[FlatGuard], op: Op) -> Result<(), NoMemory>
+pub fn add(alloc: Global, walk: &mut Walk<'_>, guards: &[FlatGuard], op: Op) -> Result<(), NoMemory>
     ensures stmts { OnOk result (stmts_view walk.new.stmts.items
         ≡ stmts_view walk.old.stmts.items ++ spec.at_position (guards_view guards.now)
         (place_of walk.old) (act_view op)) }
     ensures place { OnOk result (place_of walk.new ≡ place_of walk.old) }
+    ensures table { OnOk result (walk.new.vars.table ≡ walk.old.vars.table) }
     ensures stages { OnOk result (walk.new.stages.items ≡ walk.old.stages.items) }
 {
     push(alloc, &mut walk.stmts, walk.stage, guards, op)
@@ -66,19 +70,21 @@ fn push(
 // Adds a binding.
 fn bind(
     alloc: Global,
-    walk: &mut Walk,
+    walk: &mut Walk<'_>,
     guards: &[FlatGuard],
     x: &Ident,
     e: &Expr,
 ) -> Result<(), NoMemory>
-    requires { IsSized (tree.expr_view e.now) }
+    requires known { IsTrue (is_named walk.old.vars.table x.now.name) }
+    requires value { IsLowerable walk.old.vars.table (tree.expr_view e.now) }
     ensures stmts { OnOk result (stmts_view walk.new.stmts.items
         ≡ stmts_view walk.old.stmts.items ++ spec.at_position (guards_view guards.now)
-        (place_of walk.old) (flat.Bind (length walk.old.vars)
-        (spec.flat_expr walk.old.vars (tree.expr_view e.now)))) }
+        (place_of walk.old) (flat.Bind (length walk.old.vars.vars)
+        (spec.flat_expr walk.old.vars.vars (tree.expr_view e.now)))) }
     ensures place { OnOk result (place_of walk.new
-        ≡ spec.with_var x.now.name (spec.width_of walk.old.vars (tree.expr_view e.now))
+        ≡ spec.with_var x.now.name (spec.width_of walk.old.vars.vars (tree.expr_view e.now))
         (place_of walk.old)) }
+    ensures table { OnOk result (walk.new.vars.table ≡ walk.old.vars.table) }
     ensures stages { OnOk result (walk.new.stages.items ≡ walk.old.stages.items) }
 {
     let value = flat_expr(alloc, &walk.vars, e)?;
@@ -93,22 +99,25 @@ fn bind(
 // Adds a read.
 fn read_row(
     alloc: Global,
-    walk: &mut Walk,
+    walk: &mut Walk<'_>,
     mems: &[Mem],
     guards: &[FlatGuard],
     x: &Ident,
     from: &Location,
     delayed: bool,
 ) -> Result<(), NoMemory>
-    requires { AreSizedMems (map tree.mem_view mems.now) }
+    requires known { IsTrue (is_named walk.old.vars.table x.now.name) }
+    requires address { IsTrue (is_named walk.old.vars.table from.now.address.name) }
+    requires mems { AreSizedMems (map tree.mem_view mems.now) }
     ensures stmts { OnOk result (stmts_view walk.new.stmts.items
         ≡ stmts_view walk.old.stmts.items ++ spec.at_position (guards_view guards.now)
-        (place_of walk.old) (read_op delayed (length walk.old.vars)
+        (place_of walk.old) (read_op delayed (length walk.old.vars.vars)
         (spec.mem_of (map tree.mem_view mems.now) from.now.mem.name)
-        (spec.var_of walk.old.vars from.now.address.name))) }
+        (spec.var_of walk.old.vars.vars from.now.address.name))) }
     ensures place { OnOk result (place_of walk.new
         ≡ spec.with_var x.now.name (spec.mem_width (map tree.mem_view mems.now) from.now.mem.name)
         (place_of walk.old)) }
+    ensures table { OnOk result (walk.new.vars.table ≡ walk.old.vars.table) }
     ensures stages { OnOk result (walk.new.stages.items ≡ walk.old.stages.items) }
 {
     let Spot { m, a } = spot_of(&walk.vars, mems, from);
@@ -138,12 +147,12 @@ fn reserve(kind: AccessKind, m: usize, a: usize) -> Op
 }
 
 // What a statement does that binds nothing.
-fn act_of(alloc: Global, vars: &Vars, mems: &[Mem], s: &Tree) -> Result<Op, NoMemory>
+fn act_of(alloc: Global, vars: &Vars<'_>, mems: &[Mem], s: &Tree) -> Result<Op, NoMemory>
     requires act { IsTrue (is_act (tree.stmt_view s.now)) }
-    requires sized { IsSizedStmt (tree.stmt_view s.now) }
+    requires lowerable { IsLowerableStmt vars.now.table (tree.stmt_view s.now) }
     ensures { IfOk result (λ op. (gs : List flat.Guard) (stage begun : ℕ) →
         spec.flat_stmt (map tree.mem_view mems.now) gs (tree.stmt_view s.now)
-        (record { vars = vars.now; stage = stage; begun = begun })
+        (record { vars = vars.now.vars; stage = stage; begun = begun })
         ≡ record { stage = stage; guards = gs; op = act_view op } ∷ []) }
 {
     match s {
@@ -179,19 +188,20 @@ fn act_of(alloc: Global, vars: &Vars, mems: &[Mem], s: &Tree) -> Result<Op, NoMe
 /// Adds what a statement does that is neither a separator nor an `if`.
 pub fn row(
     alloc: Global,
-    walk: &mut Walk,
+    walk: &mut Walk<'_>,
     mems: &[Mem],
     guards: &[FlatGuard],
     s: &Tree,
 ) -> Result<(), NoMemory>
     requires plain { IsTrue (is_plain (tree.stmt_view s.now)) }
-    requires sized { IsSizedStmt (tree.stmt_view s.now) }
+    requires lowerable { IsLowerableStmt walk.old.vars.table (tree.stmt_view s.now) }
     requires mems { AreSizedMems (map tree.mem_view mems.now) }
     ensures stmts { OnOk result (stmts_view walk.new.stmts.items
         ≡ stmts_view walk.old.stmts.items ++ spec.flat_stmt (map tree.mem_view mems.now)
         (guards_view guards.now) (tree.stmt_view s.now) (place_of walk.old)) }
     ensures place { OnOk result (place_of walk.new
         ≡ spec.past (map tree.mem_view mems.now) (tree.stmt_view s.now) (place_of walk.old)) }
+    ensures table { OnOk result (walk.new.vars.table ≡ walk.old.vars.table) }
     ensures stages { OnOk result (walk.new.stages.items ≡ walk.old.stages.items) }
 {
     match s {

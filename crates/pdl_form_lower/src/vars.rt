@@ -1,147 +1,170 @@
 // Variables by number.
-ghost use Rattle.std.specs.Prelude.{◌≡◌, ◌<◌, ◌≤◌, [], ◌∷◌, ◌++◌, map, nat_eq, IfOk, OnOk, OnErr, length, slice_index_or};
-ghost use Rattle.std.specs.Cmp.Lexicographic.{pointwise};
-ghost use Rattle.indexmap.specs.IndexMap.{insert_entry};
+ghost use Rattle.std.specs.Prelude.{◌≡◌, ◌<◌, ◌≤◌, ◌||◌, [], ◌∷◌, ◌++◌, map, bytes_eq, IfOk, OnOk, OnErr, IsTrue, None, length, replicate, slice_index_or};
 ghost use Rattle.pdl_semantics.specs.Flatten.{Var, var_of, var_width};
-ghost use Rattle.pdl_form_lower.specs.declared.vars.Variable.{Variable};
+ghost use Rattle.pdl_rules.specs.Typed.{is_named};
+ghost use Rattle.pdl_rules_widths.specs.Variables.{number_among};
+ghost use Rattle.pdl_form_lower.specs.Variables.{with_number};
+ghost use Rattle.pdl_form_lower.specs.declared.vars.NumberedVariable.{NumberedVariable};
 
 use crate::append::append;
-use indexmap::IndexMap;
 use pdl_kit::{Name, NoMemory};
+use pdl_rules_widths::Variables;
 use std::alloc::{AllocError, Global};
 use std::marker::Model;
 
-/// A variable with its width in bits; the guard of an `if` on an expression has no name.
-#[derive(Drop)]
-pub struct Variable {
-    pub name: Name,
+/// A variable with its width in bits, and the place of its name in the table; the guard of an `if` on an expression has no name.
+#[derive(Clone, Copy)]
+pub struct NumberedVariable {
+    pub place: Option<usize>,
     pub width: u8,
 }
 
-/// Variables in the order of their definitions; of a name that is defined twice the first definition holds.
-pub struct Vars {
-    // The number of each name.
-    numbers: IndexMap<Name, usize>,
-    vars: Vec<Variable>,
+/// The variables that a walk over a pipe has defined, in their order; of a name that is defined twice the first definition holds.
+#[derive(Drop)]
+pub struct Vars<'v> {
+    // All variables of the pipe, by which names are resolved.
+    table: &'v Variables,
+    // The number of each of them, once the walk has defined it.
+    numbers: Vec<Option<usize>>,
+    vars: Vec<NumberedVariable>,
 }
 
-// As the derive would, but by a call of its owners: docs/DECISIONS.md says why.
-impl Drop for Vars {
-    fn drop(self) {
-        let Vars {
-            numbers: _,
-            vars: _,
-        } = self;
-    }
+impl<'v> Model for Vars<'v> {
+    ghost use Rattle.pdl_form_lower.specs.Variables.{Scope, vars_of, AreNumbered};
+
+    ghost Value = { Scope };
+
+    ghost view = { λ s. record { table = s.table.now; vars = vars_of s.table.now s.vars.items } };
+
+    ghost invariant = { λ s. AreNumbered s.table.now s.numbers.items (vars_of s.table.now s.vars.items) };
 }
 
-impl Model for Vars {
-    ghost use Rattle.std.specs.Prelude.{List};
-    ghost use Rattle.pdl_semantics.specs.Flatten.{Var};
-    ghost use Rattle.pdl_form_lower.specs.Variables.{vars_of, AreNumbered};
-
-    ghost Value = { List Var };
-
-    ghost view = { λ s. vars_of s.vars.items };
-
-    ghost invariant = { λ s. AreNumbered s.numbers.entries (vars_of s.vars.items) };
-}
-
-impl Vars {
-    /// No variables yet.
-    pub fn new(alloc: Global) -> Vars
-        ensures { result ≡ [] }
+impl<'v> Vars<'v> {
+    /// No variables yet, in a pipe that has those of the table.
+    pub fn new(alloc: Global, table: &'v Variables) -> Result<Vars<'v>, NoMemory>
+        ensures { IfOk result (λ vs. vs ≡ record { table = table.now; vars = [] }) }
     {
-        Vars {
-            numbers: IndexMap::new(alloc),
+        Ok(Vars {
+            table,
+            numbers: no_numbers(alloc, table.len())?,
             vars: Vec::new(alloc),
-        }
+        })
     }
 
     /// How many there are.
     pub fn len(&self) -> usize
-        ensures { result ≡ length self.now }
+        ensures { result ≡ length self.now.vars }
     {
         self.vars.len()
     }
 
-    /// Adds a variable.
+    /// Adds a variable of the table.
     pub fn define(&mut self, name: &Name, width: u8) -> Result<(), NoMemory>
-        requires { width ≤ 64 }
-        ensures ok { OnOk result (self.new
-            ≡ self.old ++ record { name = name.now; width = width } ∷ []) }
+        requires known { IsTrue (is_named self.old.table name.now) }
+        requires small { width ≤ 64 }
+        ensures vars { OnOk result (self.new.vars
+            ≡ self.old.vars ++ record { name = name.now; width = width } ∷ []) }
+        ensures table { OnOk result (self.new.table ≡ self.old.table) }
     {
-        if self.numbers.get(name).is_some() {
-            let again = named(name, width)?;
-            append(&mut self.vars, again)?;
-            return Ok(());
-        }
+        self.add(name, width)
+    }
+
+    /// Adds the guard of an `if` on an expression, which has 1 bit and no name.
+    pub fn define_guard(&mut self, alloc: Global) -> Result<(), NoMemory>
+        ensures vars { OnOk result (self.new.vars
+            ≡ self.old.vars ++ record { name = []; width = 1 } ∷ []) }
+        ensures table { OnOk result (self.new.table ≡ self.old.table) }
+    {
+        let unnamed = Name::copy_of(alloc, b"")?;
+        self.add(&unnamed, 1)
+    }
+
+    // Adds a variable of the table, or one with the empty name, which no variable of a source has.
+    fn add(&mut self, name: &Name, width: u8) -> Result<(), NoMemory>
+        requires known { IsTrue (bytes_eq name.now [] || is_named self.old.table name.now) }
+        requires small { width ≤ 64 }
+        ensures vars { OnOk result (self.new.vars
+            ≡ self.old.vars ++ record { name = name.now; width = width } ∷ []) }
+        ensures table { OnOk result (self.new.table ≡ self.old.table) }
+    {
+        let place = self.table.position(name);
         let number = self.vars.len();
-        self.vars.reserve(1)?;
-        let variable = named(name, width)?;
-        enter(&mut self.numbers, name, number)?;
-        append(&mut self.vars, variable)?;
+        append(&mut self.vars, NumberedVariable { place, width })?;
+        if let Some(place) = place {
+            enter(&mut self.numbers, place, number);
+        }
         Ok(())
     }
 
-    /// The number of a variable, or how many there are where none has the name.
+    /// The number of a variable of the table, or how many there are where it isn't defined yet.
     pub fn number(&self, name: &Name) -> usize
-        ensures { result ≡ var_of self.now name.now }
+        requires { IsTrue (is_named self.now.table name.now) }
+        ensures { result ≡ var_of self.now.vars name.now }
     {
-        match self.numbers.get(name) {
-            Some(number) => *number,
+        match self.find(name) {
+            Some(number) => number,
             None => self.vars.len(),
         }
     }
 
-    /// The width of a variable, 0 where none has the name.
+    /// The width of a variable of the table, 0 where it isn't defined yet.
     pub fn width(&self, name: &Name) -> u8
-        ensures value { result ≡ var_width self.now name.now }
+        requires { IsTrue (is_named self.now.table name.now) }
+        ensures value { result ≡ var_width self.now.vars name.now }
         ensures small { result ≤ 64 }
     {
-        match self.numbers.get(name) {
-            Some(number) => width_at(self.vars.as_slice(), *number),
+        match self.find(name) {
+            Some(number) => width_at(self.vars.as_slice(), number),
             None => 0,
+        }
+    }
+
+    // The number of a variable of the table, once it is defined.
+    fn find(&self, name: &Name) -> Option<usize>
+        requires { IsTrue (is_named self.now.table name.now) }
+        ensures { result ≡ number_among self.now.vars name.now }
+    {
+        match self.table.position(name) {
+            Some(place) => self.numbers[place],
+            None => unreachable!(),
         }
     }
 
     /// The widths of all variables in their order.
     pub fn widths(&self, alloc: Global) -> Result<Vec<u8>, NoMemory>
-        ensures { IfOk result (λ ws. ws.items ≡ map (λ (v : Var). v.width) self.now) }
+        ensures { IfOk result (λ ws. ws.items ≡ map (λ (v : Var). v.width) self.now.vars) }
     {
         Ok(widths_of(alloc, self.vars.as_slice())?)
     }
 }
 
-// A variable of this name and width.
-fn named(name: &Name, width: u8) -> Result<Variable, NoMemory>
-    ensures { IfOk result (λ v. v ≡ record { name = name.now; width = width }) }
+// No number for any of this many variables.
+fn no_numbers(alloc: Global, count: usize) -> Result<Vec<Option<usize>>, NoMemory>
+    ensures { IfOk result (λ ns. ns.items ≡ replicate count None) }
 {
-    Ok(Variable {
-        name: name.clone()?,
-        width,
-    })
+    let mut numbers = Vec::new(alloc);
+    numbers.resize(count, None)?;
+    Ok(numbers)
 }
 
-// Gives a name its number.
-fn enter(numbers: &mut IndexMap<Name, usize>, name: &Name, number: usize) -> Result<(), NoMemory>
-    ensures ok { OnOk result (numbers.new.entries
-        ≡ insert_entry (pointwise nat_eq) numbers.old.entries name.now number) }
-    ensures err { OnErr result (numbers.new.entries ≡ numbers.old.entries) }
+// Gives the variable at a place its number, unless it has one.
+fn enter(numbers: &mut Vec<Option<usize>>, place: usize, number: usize)
+    requires { place < length numbers.old.items }
+    ensures { numbers.new.items ≡ with_number numbers.old.items place number }
 {
-    let key = name.clone()?;
-    numbers.insert(key, number)?;
-    Ok(())
+    if numbers[place].is_none() {
+        numbers[place] = Some(number);
+    }
 }
 
-fn width_at(vars: &[Variable], number: usize) -> u8
+fn width_at(vars: &[NumberedVariable], number: usize) -> u8
     requires { number < length vars.now }
-    ensures { (d : Variable) → result ≡ (slice_index_or vars.now number d).width }
+    ensures { (d : NumberedVariable) → result ≡ (slice_index_or vars.now number d).width }
 {
     vars[number].width
 }
 
-fn widths_of(alloc: Global, vars: &[Variable]) -> Result<Vec<u8>, AllocError>
+fn widths_of(alloc: Global, vars: &[NumberedVariable]) -> Result<Vec<u8>, AllocError>
     ensures { IfOk result (λ ws. ws.items ≡ map (λ v. v.width) vars.now) }
 {
     vars.iter().map(|v| v.width).collect(alloc)

@@ -10,8 +10,8 @@ use pdl_kit::{NoMemory, Seq};
 
 /// What a walk has made: the variables, statements and stages so far. It stands in `stage`, and `begun` is the last stage that has begun.
 #[derive(Drop)]
-pub struct Walk {
-    pub vars: Vars,
+pub struct Walk<'v> {
+    pub vars: Vars<'v>,
     pub stmts: Vec<FlatStmt>,
     pub stages: Vec<FlatStage>,
     pub stage: usize,
@@ -51,9 +51,10 @@ pub fn mark(stages: &mut Vec<FlatStage>, k: usize, fork: usize)
 }
 
 // Begins a stage after the one in which the walk stands.
-fn begin_after(walk: &mut Walk, branch: Option<FlatBranch>) -> Result<(), NoMemory>
+fn begin_after(walk: &mut Walk<'_>, branch: Option<FlatBranch>) -> Result<(), NoMemory>
     requires { IsWhole walk.old }
     ensures place { OnOk result (place_of walk.new ≡ spec.next_position (place_of walk.old)) }
+    ensures table { OnOk result (walk.new.vars.table ≡ walk.old.vars.table) }
     ensures stmts { OnOk result (walk.new.stmts.items ≡ walk.old.stmts.items) }
     ensures graph { OnOk result ((rest : spec.Graph) →
         closed_stages walk.new.stage false (stages_view walk.new.stages.items) rest
@@ -75,9 +76,10 @@ fn begin_after(walk: &mut Walk, branch: Option<FlatBranch>) -> Result<(), NoMemo
 }
 
 // Begins the stage after the fork in the one in which the walk stands.
-fn begin_merge(walk: &mut Walk, branch: Option<FlatBranch>) -> Result<(), NoMemory>
+fn begin_merge(walk: &mut Walk<'_>, branch: Option<FlatBranch>) -> Result<(), NoMemory>
     requires { IsWhole walk.old }
     ensures place { OnOk result (place_of walk.new ≡ spec.next_position (place_of walk.old)) }
+    ensures table { OnOk result (walk.new.vars.table ≡ walk.old.vars.table) }
     ensures stmts { OnOk result (walk.new.stmts.items ≡ walk.old.stmts.items) }
     ensures graph { OnOk result ((rest : spec.Graph) →
         closed_stages walk.new.stage false (stages_view walk.new.stages.items) rest
@@ -98,9 +100,10 @@ fn begin_merge(walk: &mut Walk, branch: Option<FlatBranch>) -> Result<(), NoMemo
 }
 
 /// Begins a stage after the one in which the walk stands, or after the fork in it.
-pub fn begin(walk: &mut Walk, branch: Option<FlatBranch>, forked: bool) -> Result<(), NoMemory>
+pub fn begin(walk: &mut Walk<'_>, branch: Option<FlatBranch>, forked: bool) -> Result<(), NoMemory>
     requires { IsWhole walk.old }
     ensures place { OnOk result (place_of walk.new ≡ spec.next_position (place_of walk.old)) }
+    ensures table { OnOk result (walk.new.vars.table ≡ walk.old.vars.table) }
     ensures stmts { OnOk result (walk.new.stmts.items ≡ walk.old.stmts.items) }
     ensures graph { OnOk result ((rest : spec.Graph) →
         closed_stages walk.new.stage false (stages_view walk.new.stages.items) rest

@@ -1,15 +1,16 @@
 -- The entries of a map as variables.
-use Rattle.std.proofs.Common.{◌≡◌, ℕ, ◌+◌, Bool, true, false, cond, List, [], ◌∷◌, ◌++◌, refl, ap, sym, ◌∙◌, Option, unwrap_or, is_some, bytes_eq, nat_eq, ◌||◌, if◌then◌else◌, Some, fold, take, slice_get}
-use Rattle.std.specs.List.{list_any}
+use Rattle.std.proofs.Common.{◌≡◌, ℕ, suc, ◌+◌, Bool, true, false, cond, List, [], ◌∷◌, ◌++◌, refl, ap, sym, ◌∙◌, Option, unwrap_or, is_some, bytes_eq, nat_eq, ◌||◌, if◌then◌else◌, Some, option_map, arith, fold, take, slice_get}
+use Rattle.std.specs.List.{list_any, position, position_from}
 use Rattle.std.specs.Cmp.Lexicographic.{pointwise}
-use Rattle.std.specs.Map.{lookup}
+use Rattle.std.specs.Map.{lookup, keys_of}
+use Rattle.std.proofs.lemmas.Iterator.Adapters.{position_from-zero}
 use Rattle.std.proofs.lemmas.List.Sums.{fold_push}
 use Rattle.indexmap.specs.IndexMap.{insert_entry}
 use Rattle.pdl_semantics.specs.Flatten.{Var, var_width}
 use Rattle.pdl_semantics.specs.Tree.{Mem}
 use Rattle.pdl_rules.specs.Places.{Place}
 use Rattle.pdl_rules.specs.Widths.{with_variable, after_place}
-use Rattle.pdl_rules_widths.specs.Variables.{var_of, vars_of, width_among}
+use Rattle.pdl_rules_widths.specs.Variables.{var_of, vars_of, width_among, number_among}
 use Rattle.pdl_word.proofs.Bytes.{bytes_swap}
 use Rattle.pdl_rules_on_paths.proofs.Nth.{take_next}
 
@@ -87,3 +88,30 @@ among-lookup (e ∷ es) x = among_step (bytes_eq x e.0) (bytes_eq e.0 x) e.1 _ _
 pub found_among : (es : List (List ℕ × ℕ)) (vs : List Var) (x : List ℕ) (o : Option ℕ)
     → o ≡ lookup (pointwise nat_eq x) es → vars_of es ≡ vs → o ≡ width_among vs x
 found_among es vs x o h k = h ∙ among-lookup es x ∙ ap (λ us. width_among us x) k
+
+next_step : (b : Bool) (i : ℕ) (o p : Option ℕ) → o ≡ option_map suc p → cond b (Some (suc i)) o ≡ option_map suc (cond b (Some i) p)
+next_step true i o p h = refl
+next_step false i o p h = h
+
+from_next : (test : List ℕ → Bool) (i : ℕ) (ks : List (List ℕ)) → position_from test (suc i) ks ≡ option_map suc (position_from test i ks)
+from_next test i [] = refl
+from_next test i (k ∷ ks) =
+    let next : suc i + 1 ≡ suc (i + 1) = omega arith in
+    next_step (test k) i _ _ (ap (λ n. position_from test n ks) next ∙ from_next test (i + 1) ks)
+
+number_step : (a b : Bool) (o p : Option ℕ) → a ≡ b → o ≡ option_map suc p → cond a (Some 0) o ≡ if b then Some 0 else option_map suc p
+number_step true true o p h k = refl
+number_step false false o p h k = k
+number_step true false o p h k = cc
+number_step false true o p h k = cc
+
+number-position : (es : List (List ℕ × ℕ)) (x : List ℕ) → position_from (bytes_eq x) 0 (keys_of es) ≡ number_among (vars_of es) x
+number-position [] x = refl
+number-position (e ∷ es) x =
+    number_step (bytes_eq x e.0) (bytes_eq e.0 x) _ _ (bytes_swap x e.0) (from_next (bytes_eq x) 0 (keys_of es) ∙ ap (option_map suc) (number-position es x))
+
+-- the place that a look-up gives
+pub number_found : (es : List (List ℕ × ℕ)) (vs : List Var) (x : List ℕ) (o : Option ℕ)
+    → o ≡ position (pointwise nat_eq x) (keys_of es) → vars_of es ≡ vs → o ≡ number_among vs x
+number_found es vs x o h k =
+    h ∙ position_from-zero (bytes_eq x) (keys_of es) ∙ number-position es x ∙ ap (λ us. number_among us x) k

@@ -1,10 +1,10 @@
 // The variables of a pipe.
-ghost use Rattle.std.specs.Prelude.{◌≡◌, List, [], OnOk, IfOk, map, fold};
+ghost use Rattle.std.specs.Prelude.{◌≡◌, List, [], OnOk, IfOk, map, fold, length};
 ghost use Rattle.pdl_semantics.specs.Flatten.{Var, var_width};
 ghost use Rattle.pdl_syntax_tree.specs.View.{mem_view};
 ghost use Rattle.pdl_rules.specs.Widths.{with_variable, after_place};
 ghost use Rattle.pdl_paths.specs.Actions.{place_view};
-ghost use Rattle.pdl_rules_widths.specs.Variables.{vars_of, width_among};
+ghost use Rattle.pdl_rules_widths.specs.Variables.{vars_of, width_among, number_among};
 
 use crate::memories::mem_width;
 use crate::width::width_of;
@@ -110,5 +110,19 @@ impl Variables {
             Some(width) => Some(*width),
             None => None,
         }
+    }
+
+    /// How many there are.
+    pub fn len(&self) -> usize
+        ensures { result ≡ length self.now }
+    {
+        self.widths.len()
+    }
+
+    /// The place of a variable among them, none where there is none of that name.
+    pub fn position(&self, name: &Name) -> Option<usize>
+        ensures { result ≡ number_among self.now name.now }
+    {
+        self.widths.get_index_of(name)
     }
 }

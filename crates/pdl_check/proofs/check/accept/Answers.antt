@@ -23,7 +23,7 @@ use Rattle.pdl_check.proofs.check.accept.Goals as goal
 use Rattle.pdl_rules.specs.Memories.{infos_of}
 
 pub make-requires : goal.make-requires
-make-requires c = record { kept = c.requires.kept; stages = c.requires.found.stages }
+make-requires c = record { kept = c.requires.kept; variables = c.requires.found.variables; stages = c.requires.found.stages }
 
 pub new-typed-requires : goal.new-typed-requires
 new-typed-requires c =

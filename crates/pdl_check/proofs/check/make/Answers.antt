@@ -4,6 +4,7 @@ use Rattle.pdl_syntax_tree.specs.View.{pipe_view, mem_view}
 use Rattle.pdl_rules.specs.Memories.{infos_of}
 use Rattle.pdl_rules.proofs.Unbroken.{keeps_unbroken}
 use Rattle.pdl_form_lower.specs.Sized.{AreSizedMems}
+use Rattle.pdl_form_lower.specs.Lowerable.{IsLowerablePipe}
 use Rattle.pdl_form_lower.proofs.PipeSizes.{keeps_lowered}
 use Rattle.pdl_form.specs.Form.{Form}
 use Rattle.pdl_stages.specs.Graph.{graph_with}
@@ -18,7 +19,7 @@ pub lower-requires : goal.lower-requires
 lower-requires c =
     let low = keeps_lowered (pipe_view c.args.pipe.now) (keeps_unbroken (pipe_view c.args.pipe.now) c.requires.kept) in
     record {
-      sized = low.0;
+      lowerable = subst (λ us. IsLowerablePipe us (pipe_view c.args.pipe.now)) (sym c.requires.variables) low.0;
       few = low.1;
     }
 

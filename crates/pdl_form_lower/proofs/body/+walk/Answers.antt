@@ -1,4 +1,4 @@
-use Rattle.std.proofs.Common.{◌≡◌, ◌<◌, ◌+◌, ◌==◌, ◌++◌, suc, true, false, if◌then◌else◌, map, sym, ap, ap₂, ◌∙◌, arith}
+use Rattle.std.proofs.Common.{◌≡◌, ◌+◌, ◌==◌, suc, true, false, if◌then◌else◌, map, sym, ap, ap₂, ◌∙◌, arith}
 use Rattle.pdl_syntax_tree.specs.declared.tree.Stmt as r_stmt
 use Rattle.pdl_syntax_tree.specs.declared.tree.Stmt.TheVariants as r_stmts
 use Rattle.pdl_syntax_tree.specs.declared.tree.Stmt.TheOpen.{Stmt-F}
@@ -55,7 +55,8 @@ statement-returns-in_ok-second-in-If-clause-graph t c = λ rest.
     c.in_ok-first-in-If.first c.in_ok-second-in-If.second c.branch-alloc-in-If.new.walk.begun
     (stages_view c.args.walk.now.stages.items) (stages_view c.branch-alloc.new.walk.stages.items) (stages_view c.branch-alloc-in-If.new.walk.stages.items)
     (next_view c.in_ok-choice-in-If.choice.before) (place_of c.enter.new.walk) (place_of c.branch-alloc.new.walk)
-    c.in_ok-choice-in-If.ensures.stage c.in_ok-choice-in-If.ensures.begun em c.in_ok-choice-in-If.ensures.var c.in_ok-choice-in-If.ensures.before c.in_ok-choice-in-If.ensures.place second_at
+    c.in_ok-choice-in-If.ensures.stage c.in_ok-choice-in-If.ensures.begun em c.in_ok-choice-in-If.ensures.var
+    c.in_ok-choice-in-If.ensures.before c.in_ok-choice-in-If.ensures.place second_at
     (omega (arith, c.requires.whole.begun, length_stages c.args.walk.now.stages.items)) c.requires.whole.stage
     (c.in_ok-first-in-If.ensures.graph ∙ ap (λ xs. closed_stages k false (stages_view xs)
     (spec.graph ms (spec.side k true) (Goes c.in_ok-choice-in-If.choice.merge) when (place_of c.enter.new.walk))) c.in_ok-choice-in-If.ensures.stages)

@@ -1,8 +1,8 @@
-use Rattle.std.proofs.Common.{◌≡◌, ◌+◌, ◌≤◌, ◌++◌, map, drop, false}
+use Rattle.std.proofs.Common.{◌≡◌, ◌+◌, ◌++◌, map, drop, false}
 use Rattle.pdl_semantics.specs.Flatten as spec
 use Rattle.pdl_syntax_tree.specs.View as tree
 use Rattle.pdl_form.specs.View.{guards_view, stmts_view, stages_view, next_view, branch_view}
-use Rattle.pdl_form_lower.specs.Sized.{AreSizedStmts}
+use Rattle.pdl_form_lower.specs.Lowerable.{AreLowerableStmts}
 use Rattle.pdl_form_lower.specs.Walking.{place_of, IsWhole, closed_stages}
 use Rattle.pdl_form_lower.proofs.body.+walk.Given as goal
 
@@ -24,5 +24,6 @@ invariant-statements-loop-s l =
           (spec.graph ms (branch_view l.round.branch) (next_view l.round.exit) (tree.stmts_view l.ss) begin);
       whole : IsWhole l.walk;
       count : l.walk.begun + spec.separators rest ≡ l.fn.walk.begun + spec.separators (tree.stmts_view l.ss);
-      sized : AreSizedStmts rest;
+      table : l.walk.vars.table ≡ l.fn.walk.vars.table;
+      lowerable : AreLowerableStmts l.walk.vars.table rest;
     }

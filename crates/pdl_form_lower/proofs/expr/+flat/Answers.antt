@@ -35,35 +35,35 @@ choice_with-returns-clause-form t c = λ z x p q. c.choose.ensures.form z x _ p 
 
 pub flat_expr-returns-in-Binary-clause-form : goal.flat_expr-returns-in-Binary-clause-form
 flat_expr-returns-in-Binary-clause-form t c =
-    subst (λ x. IfOk c.binary_with.result (λ r. expr_view r.e ≡ spec.flat_expr c.args.vars.now x))
+    subst (λ x. IfOk c.binary_with.result (λ r. expr_view r.e ≡ spec.flat_expr c.args.vars.now.vars x))
     (sym (ap tree_view c.in-Binary.is ∙ seen_binary c.in-Binary.op c.in-Binary.a c.in-Binary.b
     ∙ ap₂ (λ x y. Tree.Binary (op_view c.in-Binary.op) (tree_view x) (tree_view y)) (sym c.get-in-Binary.ensures) (sym c.get-in-Binary-2.ensures)))
     (c.binary_with.ensures.form _ _ c.flat_operand-a.ensures.form c.flat_operand-a.ensures.width)
 
 pub flat_expr-returns-in-Binary-clause-width : goal.flat_expr-returns-in-Binary-clause-width
 flat_expr-returns-in-Binary-clause-width t c =
-    subst (λ x. IfOk c.binary_with.result (λ r. r.width ≡ spec.width_of c.args.vars.now x))
+    subst (λ x. IfOk c.binary_with.result (λ r. r.width ≡ spec.width_of c.args.vars.now.vars x))
     (sym (ap tree_view c.in-Binary.is ∙ seen_binary c.in-Binary.op c.in-Binary.a c.in-Binary.b
     ∙ ap (λ x. Tree.Binary (op_view c.in-Binary.op) (tree_view x) (tree_view c.in-Binary.b)) (sym c.get-in-Binary.ensures)))
     (c.binary_with.ensures.width _ c.flat_operand-a.ensures.width)
 
 pub flat_expr-returns-in-Cat-clause-form : goal.flat_expr-returns-in-Cat-clause-form
 flat_expr-returns-in-Cat-clause-form t c =
-    subst (λ x. IfOk c.cat_with.result (λ r. expr_view r.e ≡ spec.flat_expr c.args.vars.now x))
+    subst (λ x. IfOk c.cat_with.result (λ r. expr_view r.e ≡ spec.flat_expr c.args.vars.now.vars x))
     (sym (ap tree_view c.in-Cat.is ∙ seen_cat c.in-Cat.a c.in-Cat.b
     ∙ ap₂ (λ x y. Tree.Cat (tree_view x) (tree_view y)) (sym c.get-in-Cat.ensures) (sym c.get-in-Cat-2.ensures)))
     (c.cat_with.ensures.form _ c.flat_operand-a-in-Cat.ensures.form)
 
 pub flat_expr-returns-in-LessSigned-clause-form : goal.flat_expr-returns-in-LessSigned-clause-form
 flat_expr-returns-in-LessSigned-clause-form t c =
-    subst (λ x. IfOk c.less_with.result (λ r. expr_view r.e ≡ spec.flat_expr c.args.vars.now x))
+    subst (λ x. IfOk c.less_with.result (λ r. expr_view r.e ≡ spec.flat_expr c.args.vars.now.vars x))
     (sym (ap tree_view c.in-LessSigned.is ∙ seen_less c.in-LessSigned.a c.in-LessSigned.b
     ∙ ap₂ (λ x y. Tree.LessSigned (tree_view x) (tree_view y)) (sym c.get-in-LessSigned.ensures) (sym c.get-in-LessSigned-2.ensures)))
     (c.less_with.ensures.form _ _ c.flat_operand-a-in-LessSigned.ensures.form c.flat_operand-a-in-LessSigned.ensures.width)
 
 pub flat_expr-returns-in-Choose-clause-form : goal.flat_expr-returns-in-Choose-clause-form
 flat_expr-returns-in-Choose-clause-form t c =
-    subst (λ x. IfOk c.choice_with.result (λ r. expr_view r.e ≡ spec.flat_expr c.args.vars.now x))
+    subst (λ x. IfOk c.choice_with.result (λ r. expr_view r.e ≡ spec.flat_expr c.args.vars.now.vars x))
     (sym (ap tree_view c.in-Choose.is ∙ seen_choose c.in-Choose.c c.in-Choose.a c.in-Choose.b
     ∙ ap (λ x. Tree.Choose (tree_view x) (tree_view c.in-Choose.a) (tree_view c.in-Choose.b)) (sym c.get-in-Choose.ensures)
     ∙ ap₂ (λ x y. Tree.Choose (tree_view c.get-in-Choose.result.now) (tree_view x) (tree_view y))

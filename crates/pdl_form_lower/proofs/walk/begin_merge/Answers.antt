@@ -1,4 +1,4 @@
-use Rattle.std.proofs.Common.{◌≡◌, ◌<◌, ◌++◌, length, ap, ◌∙◌, arith}
+use Rattle.std.proofs.Common.{◌≡◌, ◌++◌, length, ap, ◌∙◌, arith}
 use Rattle.pdl_form.specs.View.{stages_view, branch_view}
 use Rattle.pdl_form_lower.specs.Walking.{leading}
 use Rattle.pdl_form_lower.proofs.StageWays.{begun_merge, stages_push}
