@@ -246,7 +246,8 @@ name_placed us vs s x None v e h =
 name_placed us vs s x (Some k) v e h = name_found us x k (sym e)
 
 more : (us : List Var) (vs ws : List NumberedVariable) (s : Scope) (x : List ℕ) (w : ℕ) (o : Option ℕ)
-    → record { table = us; vars = vars_of us vs } ≡ s → o ≡ number_among us x → IsTrue (bytes_eq x [] || is_named s.table x) → ws ≡ vs ++ record { place = o; width = w } ∷ []
+    → record { table = us; vars = vars_of us vs } ≡ s → o ≡ number_among us x
+    → IsTrue (bytes_eq x [] || is_named s.table x) → ws ≡ vs ++ record { place = o; width = w } ∷ []
     → vars_of us ws ≡ vars_of us vs ++ record { name = x; width = w } ∷ []
 more us vs ws s x w o v e h g =
     ap (vars_of us) g ∙ vars_push us vs (record { place = o; width = w })
@@ -254,7 +255,8 @@ more us vs ws s x w o v e h g =
 
 -- the variables with one more
 pub vars_more : (us : List Var) (vs ws : List NumberedVariable) (s : Scope) (x : List ℕ) (w : ℕ) (o : Option ℕ)
-    → record { table = us; vars = vars_of us vs } ≡ s → o ≡ number_among us x → IsTrue (bytes_eq x [] || is_named s.table x) → ws ≡ vs ++ record { place = o; width = w } ∷ []
+    → record { table = us; vars = vars_of us vs } ≡ s → o ≡ number_among us x
+    → IsTrue (bytes_eq x [] || is_named s.table x) → ws ≡ vs ++ record { place = o; width = w } ∷ []
     → vars_of us ws ≡ s.vars ++ record { name = x; width = w } ∷ []
 vars_more us vs ws s x w o v e h g = more us vs ws s x w o v e h g ∙ ap (λ (z : Scope). z.vars ++ record { name = x; width = w } ∷ []) v
 

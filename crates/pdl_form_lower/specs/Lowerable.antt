@@ -45,6 +45,7 @@ abbrev mutual
   IsLowerableStmt us (SpecCheck _) = Unit {0}
   IsLowerableStmt us (SpecBarrier _) = Unit {0}
 
+  -- so can these statements
   pub AreLowerableStmts : List Var → Stmts → Type 0
   AreLowerableStmts us Nil = Unit {0}
   AreLowerableStmts us (Cons s ss) = IsLowerableStmt us s × AreLowerableStmts us ss

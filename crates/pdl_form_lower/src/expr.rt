@@ -342,7 +342,8 @@ fn binary_with(
     requires a_small { IfOk a (λ a. a.width ≤ 64) }
     ensures form { (x : flat.Expr) (w : ℕ) → IfOk a (λ a. expr_view a.e ≡ x) →
         IfOk a (λ a. a.width ≡ w) → IfOk result (λ r.
-        expr_view r.e ≡ flat.Binary (op_view op) w x (spec.flat_expr vars.now.vars (tree_view b.now))) }
+        expr_view r.e
+        ≡ flat.Binary (op_view op) w x (spec.flat_expr vars.now.vars (tree_view b.now))) }
     ensures width { (w : ℕ) → IfOk a (λ a. a.width ≡ w) →
         IfOk result (λ r. r.width ≡ spec.op_width (op_view op) w) }
     ensures small { IfOk result (λ r. r.width ≤ 64) }
@@ -455,7 +456,8 @@ pub fn flat_expr(alloc: Global, vars: &Vars<'_>, e: &Tree) -> Result<Wide, NoMem
 /// Arguments over the variables' numbers.
 pub fn flat_exprs(alloc: Global, vars: &Vars<'_>, es: &[Tree]) -> Result<Seq<FlatExpr>, NoMemory>
     requires { AreLowerable vars.now.table (trees_view es.now) }
-    ensures { IfOk result (λ r. map expr_view r ≡ spec.flat_exprs vars.now.vars (trees_view es.now)) }
+    ensures { IfOk result (λ r. map expr_view r
+        ≡ spec.flat_exprs vars.now.vars (trees_view es.now)) }
 {
     let mut args = Seq::new(alloc);
     for e in es {

@@ -134,7 +134,8 @@ fn emit_stages<L: LockModule>(
     ports: &[Option<PortRegs>],
 ) -> Result<(), NoMemory>
     requires can { CanEmit (form pipe.now) }
-    requires memories { HasMemoriesIn (members L.LockModule) b.old (form pipe.now) bits locks.now ports.now }
+    requires memories { HasMemoriesIn (members L.LockModule) b.old
+        (form pipe.now) bits locks.now ports.now }
     ensures { OnOk result (IsEmitted (members L.LockModule) b.new (form pipe.now)) }
 {
     let orders = order_states(alloc, b, pipe)?;

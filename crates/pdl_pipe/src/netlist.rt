@@ -37,7 +37,8 @@ fn add_infos(infos: &mut Seq<MemInfo>, mems: &[MemInfo], delayed: bool) -> Resul
 
 // The memories as a netlist has them, the delayed ones first.
 fn infos_of(alloc: Global, mems: &[MemInfo]) -> Result<Seq<MemInfo>, NoMemory>
-    ensures { IfOk result (λ ms. ms ≡ filter (is_told true) mems.now ++ filter (is_told false) mems.now) }
+    ensures { IfOk result (λ ms. ms
+        ≡ filter (is_told true) mems.now ++ filter (is_told false) mems.now) }
 {
     let mut infos = Seq::new(alloc);
     add_infos(&mut infos, mems, true)?;

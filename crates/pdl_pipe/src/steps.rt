@@ -49,10 +49,13 @@ fn lock_steps<L: LockModule>(
     cut: &[Net],
 ) -> Result<Vec<Option<LockNets>>, NoMemory>
     requires line { IsLineIn b.old all.now.line.now }
-    requires locked { AreLocked (members L.LockModule) b.old (line_pipe all.now.line.now) all.now.locks.now }
-    requires lawful { AreLawful (members L.LockModule) b.old (line_pipe all.now.line.now) all.now.locks.now }
+    requires locked { AreLocked (members L.LockModule) b.old
+        (line_pipe all.now.line.now) all.now.locks.now }
+    requires lawful { AreLawful (members L.LockModule) b.old
+        (line_pipe all.now.line.now) all.now.locks.now }
     requires unwritten { AreUnwritten b.old (line_pipe all.now.line.now) }
-    requires next { signals_in b.old all.now.line.now.shared.now.next ≡ next_signals b.old all.now.locks.now }
+    requires next { signals_in b.old all.now.line.now.shared.now.next
+        ≡ next_signals b.old all.now.locks.now }
     requires squash { IsBit b.old all.now.squash }
     requires cut { AreTickets (members L.LockModule) b.old all.now.locks.now cut.now }
     ensures { IfOk result (λ ns. HasLockSteps (members L.LockModule) b.old b.new
@@ -82,12 +85,16 @@ pub fn set_registers<L: LockModule>(
     requires line { IsLineIn b.old all.now.line.now }
     requires apart { AreApart 0 (length b.old.regs) all.now.line.now.stages.now }
     requires ends { AreEnds b.old (line_form all.now.line.now) ends.now }
-    requires ports { StandPorts b.old (line_pipe all.now.line.now) all.now.line.now.shared.now.ports.now }
+    requires ports { StandPorts b.old
+        (line_pipe all.now.line.now) all.now.line.now.shared.now.ports.now }
     requires orders { StandOrders b.old (line_pipe all.now.line.now) all.now.orders.now }
-    requires locked { AreLocked (members L.LockModule) b.old (line_pipe all.now.line.now) all.now.locks.now }
-    requires lawful { AreLawful (members L.LockModule) b.old (line_pipe all.now.line.now) all.now.locks.now }
+    requires locked { AreLocked (members L.LockModule) b.old
+        (line_pipe all.now.line.now) all.now.locks.now }
+    requires lawful { AreLawful (members L.LockModule) b.old
+        (line_pipe all.now.line.now) all.now.locks.now }
     requires unwritten { AreUnwritten b.old (line_pipe all.now.line.now) }
-    requires next { signals_in b.old all.now.line.now.shared.now.next ≡ next_signals b.old all.now.locks.now }
+    requires next { signals_in b.old all.now.line.now.shared.now.next
+        ≡ next_signals b.old all.now.locks.now }
     requires squash { IsBit b.old all.now.squash }
     ensures { IfOk result (λ y. HasSteps (members L.LockModule) b.old b.new all.now.line.now
         all.now.locks.now all.now.orders.now ends.now all.now.squash y.tails y.commits.items) }

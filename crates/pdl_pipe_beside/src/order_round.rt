@@ -88,7 +88,8 @@ fn by_variable(
 // Whether the thread of a stage that forks goes into the first branch.
 fn into_first(b: &mut Builder, round: &BesideRound<'_, '_>, fork: usize) -> Result<Net, NoMemory>
     requires bits { AreBits b.old round.now.bits }
-    requires forks { AreForks (form round.now.pipe.now).widths (form round.now.pipe.now).pipe.stages }
+    requires forks { AreForks (form round.now.pipe.now).widths
+        (form round.now.pipe.now).pipe.stages }
     requires ends { AreEnds b.old (form round.now.pipe.now) round.now.ends.now }
     requires stage { fork < length (form round.now.pipe.now).pipe.stages }
     ensures means { IfOk result (λ y.
@@ -109,7 +110,8 @@ fn into_first(b: &mut Builder, round: &BesideRound<'_, '_>, fork: usize) -> Resu
 // Whether it goes into the second branch.
 fn into_second(b: &mut Builder, round: &BesideRound<'_, '_>, fork: usize) -> Result<Net, NoMemory>
     requires bits { AreBits b.old round.now.bits }
-    requires forks { AreForks (form round.now.pipe.now).widths (form round.now.pipe.now).pipe.stages }
+    requires forks { AreForks (form round.now.pipe.now).widths
+        (form round.now.pipe.now).pipe.stages }
     requires ends { AreEnds b.old (form round.now.pipe.now) round.now.ends.now }
     requires stage { fork < length (form round.now.pipe.now).pipe.stages }
     ensures means { IfOk result (λ y.
@@ -135,7 +137,8 @@ fn into_merge(
     k: usize,
 ) -> Result<Net, NoMemory>
     requires bits { AreBits b.old round.now.bits }
-    requires forks { AreForks (form round.now.pipe.now).widths (form round.now.pipe.now).pipe.stages }
+    requires forks { AreForks (form round.now.pipe.now).widths
+        (form round.now.pipe.now).pipe.stages }
     requires ends { AreEnds b.old (form round.now.pipe.now) round.now.ends.now }
     requires stage { k < length (form round.now.pipe.now).pipe.stages }
     ensures means { IfOk result (λ y.
@@ -165,12 +168,14 @@ fn leave_or(
     rest: Net,
 ) -> Result<Net, NoMemory>
     requires bits { AreBits b.old round.now.bits }
-    requires forks { AreForks (form round.now.pipe.now).widths (form round.now.pipe.now).pipe.stages }
+    requires forks { AreForks (form round.now.pipe.now).widths
+        (form round.now.pipe.now).pipe.stages }
     requires ends { AreEnds b.old (form round.now.pipe.now) round.now.ends.now }
     requires stage { k < length (form round.now.pipe.now).pipe.stages }
     requires rest { HasWidth b.old rest 1 }
     ensures means { IfOk result (λ y.
-        Means b.new y (leave_signal (form round.now.pipe.now).pipe (ends_in b.old round.now.ends.now)
+        Means b.new y
+        (leave_signal (form round.now.pipe.now).pipe (ends_in b.old round.now.ends.now)
         (moves_in b.old round.now.ends.now) fork k (signal b.old rest))) }
     ensures one { IfOk result (λ y. (signal b.new y).width ≡ 1) }
     ensures extends { Extends b.old b.new }
@@ -187,10 +192,12 @@ fn leave_or(
 // Whether a thread leaves the branches of a fork.
 fn leaves_fork(b: &mut Builder, round: &BesideRound<'_, '_>, fork: usize) -> Result<Net, NoMemory>
     requires bits { AreBits b.old round.now.bits }
-    requires forks { AreForks (form round.now.pipe.now).widths (form round.now.pipe.now).pipe.stages }
+    requires forks { AreForks (form round.now.pipe.now).widths
+        (form round.now.pipe.now).pipe.stages }
     requires ends { AreEnds b.old (form round.now.pipe.now) round.now.ends.now }
     ensures means { IfOk result (λ y.
-        Means b.new y (leaves_signal (form round.now.pipe.now).pipe (ends_in b.old round.now.ends.now)
+        Means b.new y
+        (leaves_signal (form round.now.pipe.now).pipe (ends_in b.old round.now.ends.now)
         (moves_in b.old round.now.ends.now) fork
         (length (form round.now.pipe.now).pipe.stages) 0)) }
     ensures one { IfOk result (λ y. (signal b.new y).width ≡ 1) }
@@ -225,7 +232,8 @@ fn is_merged_by(stages: &[FlatStage], fork: usize, last: usize) -> bool
 
 // Whether a squash empties the order of a fork.
 fn is_emptied(pipe: &FlatPipe, fork: usize) -> bool
-    ensures { result ≡ merges_by (form pipe.now).pipe fork (verify_stage (form pipe.now).pipe.stmts) }
+    ensures { result
+        ≡ merges_by (form pipe.now).pipe fork (verify_stage (form pipe.now).pipe.stmts) }
 {
     match pipe.verify_stage() {
         None => false,
@@ -261,7 +269,8 @@ fn order_ports(
     fork: usize,
 ) -> Result<OrderPorts, NoMemory>
     requires bits { AreBits b.old round.now.bits }
-    requires forks { AreForks (form round.now.pipe.now).widths (form round.now.pipe.now).pipe.stages }
+    requires forks { AreForks (form round.now.pipe.now).widths
+        (form round.now.pipe.now).pipe.stages }
     requires ends { AreEnds b.old (form round.now.pipe.now) round.now.ends.now }
     requires squash { HasWidth b.old squash 1 }
     requires stage { fork < length (form round.now.pipe.now).pipe.stages }
@@ -305,7 +314,8 @@ fn fork_step(
     fork: usize,
 ) -> Result<(), NoMemory>
     requires bits { AreBits b.old round.now.bits }
-    requires forks { AreForks (form round.now.pipe.now).widths (form round.now.pipe.now).pipe.stages }
+    requires forks { AreForks (form round.now.pipe.now).widths
+        (form round.now.pipe.now).pipe.stages }
     requires ends { AreEnds b.old (form round.now.pipe.now) round.now.ends.now }
     requires squash { HasWidth b.old squash 1 }
     requires stage { fork < length (form round.now.pipe.now).pipe.stages }
@@ -332,7 +342,8 @@ pub fn order_steps(
     orders: &[Option<OrderRegs>],
 ) -> Result<(), NoMemory>
     requires bits { AreBits b.old round.now.bits }
-    requires forks { AreForks (form round.now.pipe.now).widths (form round.now.pipe.now).pipe.stages }
+    requires forks { AreForks (form round.now.pipe.now).widths
+        (form round.now.pipe.now).pipe.stages }
     requires ends { AreEnds b.old (form round.now.pipe.now) round.now.ends.now }
     requires squash { HasWidth b.old squash 1 }
     requires orders { StandOrders b.old (form round.now.pipe.now).pipe orders.now }

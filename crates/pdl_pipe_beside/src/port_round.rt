@@ -51,7 +51,8 @@ fn asks_into(
     i: usize,
 ) -> Result<Net, NoMemory>
     requires bits { AreBits b.old round.now.bits }
-    requires forks { AreForks (form round.now.pipe.now).widths (form round.now.pipe.now).pipe.stages }
+    requires forks { AreForks (form round.now.pipe.now).widths
+        (form round.now.pipe.now).pipe.stages }
     requires ends { AreEnds b.old (form round.now.pipe.now) round.now.ends.now }
     requires stage { stage < length (form round.now.pipe.now).pipe.stages }
     requires asks { HasWidth b.old asks 1 }
@@ -97,7 +98,8 @@ fn step_nets(
     r: Reading,
 ) -> Result<PortStep, NoMemory>
     requires bits { AreBits b.old round.now.bits }
-    requires forks { AreForks (form round.now.pipe.now).widths (form round.now.pipe.now).pipe.stages }
+    requires forks { AreForks (form round.now.pipe.now).widths
+        (form round.now.pipe.now).pipe.stages }
     requires ends { AreEnds b.old (form round.now.pipe.now) round.now.ends.now }
     requires stage { r.stage < length (form round.now.pipe.now).pipe.stages }
     requires to { (i : ℕ) → i < length (places (form round.now.pipe.now).pipe (reading_view r)) →
@@ -156,7 +158,8 @@ fn memory_step(
     m: usize,
 ) -> Result<(), NoMemory>
     requires bits { AreBits b.old round.now.bits }
-    requires forks { AreForks (form round.now.pipe.now).widths (form round.now.pipe.now).pipe.stages }
+    requires forks { AreForks (form round.now.pipe.now).widths
+        (form round.now.pipe.now).pipe.stages }
     requires leads { ReadsLeadOn (form round.now.pipe.now).pipe }
     requires ends { AreEnds b.old (form round.now.pipe.now) round.now.ends.now }
     requires ports { StandPorts b.old (form round.now.pipe.now).pipe ports.now }
@@ -182,7 +185,8 @@ pub fn port_steps(
     ports: &[Option<PortRegs>],
 ) -> Result<(), NoMemory>
     requires bits { AreBits b.old round.now.bits }
-    requires forks { AreForks (form round.now.pipe.now).widths (form round.now.pipe.now).pipe.stages }
+    requires forks { AreForks (form round.now.pipe.now).widths
+        (form round.now.pipe.now).pipe.stages }
     requires leads { ReadsLeadOn (form round.now.pipe.now).pipe }
     requires ends { AreEnds b.old (form round.now.pipe.now) round.now.ends.now }
     requires ports { StandPorts b.old (form round.now.pipe.now).pipe ports.now }

@@ -38,7 +38,8 @@ fn way_on(b: &mut Builder, line: &StageLine<'_>, k: usize) -> Result<Net, NoMemo
     requires line { IsLineIn b.old line.now }
     requires inside { LeadsInside (line_pipe line.now) }
     requires low { k < length (line_pipe line.now).stages }
-    ensures means { IfOk result (λ y. Means b.new y (way_signal (stage_at (line_pipe line.now) k).next
+    ensures means { IfOk result
+        (λ y. Means b.new y (way_signal (stage_at (line_pipe line.now) k).next
         (free_signal (line_views b.old line.now) (line_moves b.old line.now))
         (line_views b.old line.now k).ended)) }
     ensures one { IfOk result (λ y. (signal b.new y).width ≡ 1) }

@@ -30,7 +30,8 @@ pub fn way_turn(
     requires inside { LeadsInside (line_pipe line.now) }
     requires turns { HasTurns b.old (line_pipe line.now) orders.now }
     requires low { k < length (line_pipe line.now).stages }
-    ensures on { IfOk result (λ y. IsBitFor b.new y (way_signal (stage_at (line_pipe line.now) k).next
+    ensures on { IfOk result
+        (λ y. IsBitFor b.new y (way_signal (stage_at (line_pipe line.now) k).next
         (turn_in b.old (line_pipe line.now) orders.now k) (line_views b.old line.now k).ended)) }
     ensures extends { Extends b.old b.new }
     ensures regs { b.new.regs ≡ b.old.regs }

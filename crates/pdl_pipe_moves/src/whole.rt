@@ -88,7 +88,8 @@ fn squash_by(
     requires low { v < length (line_pipe line.now).stages }
     requires moves { IsBit b.old moves }
     ensures law { IfOk result (λ n. SquashLaw
-        (squash_signals_by b.old line.now v (signal b.old moves)) (signal b.new n.squash) (squash_net b.new n.removed) (squash_net b.new n.clear)) }
+        (squash_signals_by b.old line.now v (signal b.old moves)) (signal b.new n.squash)
+        (squash_net b.new n.removed) (squash_net b.new n.clear)) }
     ensures squash { IfOk result (λ n. IsBit b.new n.squash) }
     ensures removed { IfOk result (λ n. AreSquashBits b.new n.removed v) }
     ensures clear { IfOk result (λ n. AreSquashBits b.new n.clear v) }
@@ -132,7 +133,8 @@ fn guessing_moves(
     requires turns { HasTurns b.old (line_pipe line.now) orders.now }
     requires stage { verify_stage (line_pipe line.now).stmts ≡ Some v }
     requires low { v < length (line_pipe line.now).stages }
-    requires blank { AreFilled line.now.shared.now.bits.zero (length (line_pipe line.now).stages) blank.now }
+    requires blank { AreFilled line.now.shared.now.bits.zero
+        (length (line_pipe line.now).stages) blank.now }
     ensures moved { IfOk result (λ z. AreMoved b.new line.now orders.now z) }
     ensures extends { Extends b.old b.new }
 {
@@ -177,7 +179,8 @@ fn certain_moves(
     requires stand { StandPorts b.old (line_pipe line.now) line.now.shared.now.ports.now }
     requires turns { HasTurns b.old (line_pipe line.now) orders.now }
     requires none { verify_stage (line_pipe line.now).stmts ≡ None }
-    requires blank { AreFilled line.now.shared.now.bits.zero (length (line_pipe line.now).stages) blank.now }
+    requires blank { AreFilled line.now.shared.now.bits.zero
+        (length (line_pipe line.now).stages) blank.now }
     ensures moved { IfOk result (λ z. AreMoved b.new line.now orders.now z) }
     ensures extends { Extends b.old b.new }
 {
@@ -212,7 +215,8 @@ pub fn all_moves(
     requires inside { LeadsInside (line_pipe line.now) }
     requires stand { StandPorts b.old (line_pipe line.now) line.now.shared.now.ports.now }
     requires turns { HasTurns b.old (line_pipe line.now) orders.now }
-    requires verify { (v : ℕ) → verify_stage (line_pipe line.now).stmts ≡ Some v → v < length (line_pipe line.now).stages }
+    requires verify { (v : ℕ) → verify_stage (line_pipe line.now).stmts ≡ Some v →
+        v < length (line_pipe line.now).stages }
     ensures moved { IfOk result (λ z. AreMoved b.new line.now orders.now z) }
     ensures extends { Extends b.old b.new }
 {

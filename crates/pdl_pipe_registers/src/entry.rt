@@ -127,7 +127,8 @@ fn begin_var(
     requires low { x < length (form pipe.now).widths }
     requires last { end_of regs.old ≡ length b.old.regs }
     ensures begins { IfOk result (λ net.
-        MayBegin b.new (form pipe.now) (signals_in b.old shared.now.next) (earlier_count earlier.now)
+        MayBegin b.new (form pipe.now) (signals_in b.old shared.now.next)
+        (earlier_count earlier.now)
         (is_live (form pipe.now).pipe (earlier_count earlier.now) x) regs.old regs.new (Var x) net
         (IsSettledAfter b.old (form pipe.now) earlier.now (Var x))) }
     ensures last { OnOk result (end_of regs.new ≡ length b.new.regs) }

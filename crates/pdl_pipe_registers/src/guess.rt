@@ -103,7 +103,8 @@ fn begin_argument(
     requires low { i < length (form pipe.now).pipe.start }
     requires last { end_of regs.old ≡ length b.old.regs }
     ensures begins { IfOk result (λ net.
-        MayBegin b.new (form pipe.now) (signals_in b.old shared.now.next) (earlier_count earlier.now)
+        MayBegin b.new (form pipe.now) (signals_in b.old shared.now.next)
+        (earlier_count earlier.now)
         (is_verified (form pipe.now).pipe (earlier_count earlier.now))
         regs.old regs.new (Guess i) net
         (IsSparedAfter b.old (form pipe.now) earlier.now vars.now (Guess i))) }

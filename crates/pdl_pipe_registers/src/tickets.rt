@@ -92,7 +92,8 @@ pub(crate) fn begin_tickets(
     requires shared { IsShared b.old (form pipe.now) shared.now }
     requires reserves { length (form pipe.now).pipe.reserves_at ≡ length (form pipe.now).pipe.mems }
     requires releases { length (form pipe.now).pipe.releases_at ≡ length (form pipe.now).pipe.mems }
-    requires frame { IsFrame b.old (form pipe.now) (signals_in b.old shared.now.next) stage regs.old }
+    requires frame { IsFrame b.old (form pipe.now)
+        (signals_in b.old shared.now.next) stage regs.old }
     requires own { AreOwn (form pipe.now) stage regs.old }
     ensures frame { OnOk result (IsFrame b.new (form pipe.now)
         (signals_in b.old shared.now.next) stage regs.new) }

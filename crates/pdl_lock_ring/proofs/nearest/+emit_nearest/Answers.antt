@@ -32,7 +32,10 @@ emit_nearest-requires-2 t c =
           slots_kept a b l c.requires.slots x,
           (
             width_kept a b c.args.addr l.bits x c.requires.addr,
-            (width_kept a b c.args.last l.ticket x c.requires.last, (omega (arith, c.requires.bits), omega (arith, c.requires.within, h, c.power-half.ensures))),
+            (
+              width_kept a b c.args.last l.ticket x c.requires.last,
+              (omega (arith, c.requires.bits), omega (arith, c.requires.within, h, c.power-half.ensures)),
+            ),
           ),
         ),
       ),
