@@ -16,7 +16,8 @@ use Rattle.pdl_theory_simulation.proofs.Choices.{AllOwned, Matched, Seated}
 use Rattle.pdl_theory_simulation.proofs.Choices
 use Rattle.pdl_theory_simulation.proofs.SimulatedStates.{Sim}
 use Rattle.pdl_theory_states.specs.Strict.{Strict}
-use Rattle.pdl_theory_states.proofs.PastStatements.{AnyOp, onto, AskedBy}
+use Rattle.pdl_theory_states.proofs.PastStatements.{AskedBy}
+use Rattle.pdl_theory_states.proofs.UnusedValues.{AnyOp, onto}
 use Rattle.pdl_theory_states.proofs.ThreadHistory.{AnyAsk, past_of, any_of}
 use Rattle.pdl_theory_states.proofs.ThreadFacts.{Owns, Lasting, Along}
 use Rattle.pdl_theory_states.proofs.ReachedStates.{Whole, reached}

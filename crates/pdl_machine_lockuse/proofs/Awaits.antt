@@ -13,7 +13,8 @@ use Rattle.pdl_theory_simulation.proofs.FlowFacts.{Leads}
 use Rattle.pdl_theory_simulation.proofs.Stretches.{Fetched, AllFetched}
 use Rattle.pdl_theory_simulation.proofs.Seats.{Live}
 use Rattle.pdl_theory_simulation.proofs.Choices.{Seated}
-use Rattle.pdl_theory_states.proofs.PastStatements.{AllOps, AnyOp, any_both, AskedBy}
+use Rattle.pdl_theory_states.proofs.PastStatements.{AskedBy}
+use Rattle.pdl_theory_states.proofs.UnusedValues.{AllOps, AnyOp, any_both}
 use Rattle.pdl_theory_states.proofs.Trails.{AllStmts, ops_stmts}
 use Rattle.pdl_theory_states.proofs.ThreadHistory.{past_of, any_of}
 use Rattle.pdl_theory_states.proofs.ThreadFacts.{Lasting, Owns}

@@ -29,7 +29,8 @@ use Rattle.pdl_theory_simulation.proofs.Choices.{Known, keeps_now, fit_all}
 use Rattle.pdl_machine_facts.specs.Use.{before_stage, AreFine}
 use Rattle.pdl_machine_facts.proofs.StatementUses.{IsAlong}
 use Rattle.pdl_theory_states.specs.Strict.{Strict}
-use Rattle.pdl_theory_states.proofs.PastStatements.{AllOps, onto, Done as DoneOp, BlockOk, is_released}
+use Rattle.pdl_theory_states.proofs.PastStatements.{BlockOk, is_released}
+use Rattle.pdl_theory_states.proofs.UnusedValues.{AllOps, onto, Done as DoneOp}
 use Rattle.pdl_theory_states.proofs.Trails.{AllStmts, stmts_ops, ops_stmts}
 use Rattle.pdl_theory_states.proofs.ThreadHistory.{Local, past_of, local_answered, kept_unused}
 use Rattle.pdl_semantics.proofs.Readiness.{read_write}

@@ -20,7 +20,7 @@ use Rattle.pdl_source_paths.proofs.PathStatements.{ops_of, seen_ops, seen}
 use Rattle.pdl_source_paths.proofs.Growth.{Grown, Grows, grown_more, past_grown, vars_past}
 use Rattle.pdl_source_paths.proofs.ReadsKept.{held_more}
 use Rattle.pdl_source_paths.proofs.Variables.{IsNamed}
-use Rattle.pdl_theory_states.proofs.PastStatements.{onto}
+use Rattle.pdl_theory_states.proofs.UnusedValues.{onto}
 use Rattle.pdl_machine_lockuse.specs.Careful.{is_block_at, was_blocked, is_let_in, all_let_in}
 use Rattle.pdl_word.proofs.Bytes.{bytes_same}
 

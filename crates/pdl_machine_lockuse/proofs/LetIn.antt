@@ -16,7 +16,8 @@ use Rattle.pdl_machine_facts.specs.Slots.{locks_ready}
 use Rattle.pdl_machine_facts.specs.Use.{in_time, is_early}
 use Rattle.pdl_machine_facts.proofs.StatementUses.{IsAlong}
 use Rattle.pdl_theory_states.specs.Strict.{bound_by, uses_own, is_mentioned, is_new, all_new}
-use Rattle.pdl_theory_states.proofs.PastStatements.{AllOps, BlockOk, is_released}
+use Rattle.pdl_theory_states.proofs.PastStatements.{BlockOk, is_released}
+use Rattle.pdl_theory_states.proofs.UnusedValues.{AllOps}
 use Rattle.pdl_semantics.proofs.Readiness.{read_write}
 use Rattle.pdl_theory_states.proofs.Stage.{LowBlock}
 use Rattle.pdl_machine_lockuse.specs.Careful.{is_block_at, was_blocked, is_let_in, all_let_in}

@@ -29,7 +29,7 @@ use Rattle.pdl_theory_states.specs.Strict.{Strict}
 use Rattle.pdl_machine_lockuse.specs.Use.{written_in, is_open}
 use Rattle.pdl_machine_lockuse.proofs.Paths.{path, mine, passed, mine_uses, mine_early}
 use Rattle.pdl_machine_lockuse.proofs.Begins.{begun, begun_is, along_here}
-use Rattle.pdl_theory_states.proofs.ThreadHistory.{any_front}
+use Rattle.pdl_theory_states.proofs.FetchCounts.{any_front}
 
 -- LISTS
 

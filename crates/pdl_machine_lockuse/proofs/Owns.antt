@@ -22,7 +22,7 @@ use Rattle.pdl_machine_facts.proofs.StatementUses.{writes_to}
 use Rattle.pdl_theory_states.proofs.LockCycle.{appended_more}
 use Rattle.pdl_machine_lockuse.specs.Use.{Own, is_open}
 use Rattle.pdl_machine_lockuse.proofs.OwnWrite.{used_here}
-use Rattle.pdl_theory_states.proofs.ThreadHistory.{any_append, any_front}
+use Rattle.pdl_theory_states.proofs.FetchCounts.{any_append, any_front}
 use Rattle.pdl_word.specs.Each.{Each}
 
 -- a write among others

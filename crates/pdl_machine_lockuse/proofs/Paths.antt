@@ -24,7 +24,7 @@ use Rattle.pdl_theory_simulation.proofs.Choices.{Known, keeps_now}
 use Rattle.pdl_theory_simulation.proofs.LockLists.{next_up}
 use Rattle.pdl_machine_facts.specs.Use.{in_time, is_early}
 use Rattle.pdl_theory_states.specs.Strict.{Strict, all_new, lets_go, all_let_go}
-use Rattle.pdl_theory_states.proofs.PastStatements.{onto, all_new_append, all_new_front}
+use Rattle.pdl_theory_states.proofs.UnusedValues.{onto, all_new_append, all_new_front}
 use Rattle.pdl_theory_states.proofs.Trails.{AllStmts, stage_stmts}
 use Rattle.pdl_theory_states.proofs.Stage.{way_looked}
 use Rattle.pdl_machine_lockuse.specs.Careful.{Careful, reserves_at, keeps_kind, all_keep_kind, is_let_in, all_let_in}

@@ -6,21 +6,20 @@ use Rattle.std.proofs.lemmas.Nat.{mod_below}
 use Rattle.pdl_word.specs.Words as words
 use Rattle.pdl_word.specs.Words.{bit}
 use Rattle.pdl_net.specs.Circuit.{Circuit, State}
-use Rattle.pdl_net.specs.Signal.{Signal, const_signal, mux_signal, reg_value, const_value, bin_value, mux_value, read_value}
-use Rattle.pdl_lockapi.specs.Lock.{Entry, LockState, LockAct, act_at, entry_at, or_zero, filled_entries, next_base, committed, committed_words, step, Proper}
-use Rattle.pdl_lockapi.specs.Laws.{StepSignals, Drives, IsNext, StepLaw, after_writes, ticket_at, reserve_at}
-use Rattle.pdl_lockapi.specs.Second.{Commit2Law}
+use Rattle.pdl_net.specs.Signal.{Signal, reg_value, const_value, bin_value, mux_value, read_value}
+use Rattle.pdl_lockapi.specs.Lock.{Entry, LockState, LockAct, act_at, entry_at, or_zero, filled_entries, next_base, committed, committed_words, step}
+use Rattle.pdl_lockapi.specs.Laws.{StepSignals, IsNext, after_writes, ticket_at, reserve_at}
 use Rattle.pdl_lock_ring.specs.Slots.{content_signal, value_at}
 use Rattle.pdl_lock_ring.specs.Looks.{head_signal, slot_of}
 use Rattle.pdl_lock_ring.specs.Steps as ring
-use Rattle.pdl_lock_ring.specs.Steps.{written_slot, next_head, oldest_addr, next_addr, filled_value, slot_addr}
+use Rattle.pdl_lock_ring.specs.Steps.{written_slot, next_head, oldest_addr, next_addr, filled_value}
 use Rattle.pdl_lock_ring.proofs.SlotNumbers.{apart}
 use Rattle.pdl_lock_ring.proofs.RingValues.{if_one, if_other, if_true, if_false, test_bit, mux_one, mux_zero, eq_one, eq_none}
 use Rattle.pdl_lock_ring.proofs.Fills.{content_place}
-use Rattle.pdl_lock_ring.proofs.FilledSlots.{TicketsFit, Cycle, all_filled, length_filled, written_value, unwritten_value}
+use Rattle.pdl_lock_ring.proofs.FilledSlots.{Cycle, length_filled, written_value, unwritten_value}
 use Rattle.pdl_lock_ring.proofs.FilledSlots as filled
 use Rattle.pdl_lock_ring.proofs.StepLaw as ended
-use Rattle.pdl_lock_ring.proofs.StepLaw.{after_fill, ticket_value, oldest_addr_is, next_addr_is, oldest_value_is, next_value_is, by_release, by_release2, left, left_long, ValuesStay, entries_next}
+use Rattle.pdl_lock_ring.proofs.StepLaw.{after_fill, ticket_value, oldest_addr_is, next_addr_is, oldest_value_is, next_value_is, left, left_long, ValuesStay, entries_next}
 use Rattle.pdl_rename.specs.declared.layout.Layout.{Layout}
 use Rattle.pdl_rename.specs.Places.{IsRenaming, Stands, AreApart, AreBelow, map_at, store_of, word_place, slot_place, placed_signal}
 use Rattle.pdl_rename.specs.Nets.{mapped_place, place_of, place_writes, one_put, stored_signal, oldest_place, next_place_of, oldest_value, next_value, freed_slot, freed2_slot, freed_place, freed2_place, NextRename, own_rename}
@@ -61,9 +60,7 @@ module _ (l : Layout) (s : State) (x : LockState) (f : StepSignals) (a : LockAct
   on_is j lt e = bit_one (act_at a.writes j).on (sym (c.cycle.drives.on j lt) ∙ e)
 
   off_is : (j : ℕ) → j < length a.writes → (ticket_at f.writes j).enable.value s ≢ 1 → (act_at a.writes j).on ≡ false
-  off_is j lt e =
-      ⊎_elim (λ (o : (act_at a.writes j).on ≡ true). absurd (e (c.cycle.drives.on j lt ∙ ap bit o)))
-      (λ (o : (act_at a.writes j).on ≡ false). o) (cases_Bool (act_at a.writes j).on)
+  off_is j lt e = ⊎_elim (λ (o : (act_at a.writes j).on ≡ true). absurd (e (c.cycle.drives.on j lt ∙ ap bit o))) (λ (o : (act_at a.writes j).on ≡ false). o) (cases_Bool (act_at a.writes j).on)
 
   -- the slot of a write
   abbrev at : ℕ → ℕ
@@ -74,9 +71,7 @@ module _ (l : Layout) (s : State) (x : LockState) (f : StepSignals) (a : LockAct
 
   place_is : (j : ℕ) → j < length a.writes → (ticket_at f.writes j).enable.value s ≡ 1 → (place_of l f j).value s ≡ P (at j)
   unfolding reg_value
-  place_is j lt e =
-      ticket_value l.slots c.cycle.sized (content_signal l.slots)
-      (ticket_at f.writes j).ticket s (act_at a.writes j).ticket (c.cycle.drives.ticket j lt (on_is j lt e))
+  place_is j lt e = ticket_value l.slots c.cycle.sized (content_signal l.slots) (ticket_at f.writes j).ticket s (act_at a.writes j).ticket (c.cycle.drives.ticket j lt (on_is j lt e))
 
   -- the array after the first j write ports
   abbrev stored : ℕ → List ℕ
@@ -109,8 +104,7 @@ module _ (l : Layout) (s : State) (x : LockState) (f : StepSignals) (a : LockAct
       let e = written_value l.slots V s x f a c.cycle j lt (on_is j lt o) in
       ap (λ ws. slice_index ws (P k)) (stored_on j o)
       ∙ ⊎_elim
-      (λ (q : at j ≡ k). written_here (stored j) _ (P k) v (pl ∙ ap P q)
-      (let r = length-writes s (place_writes l f j) (store_of l s) in omega (arith, r, c.stands.store, p.slots_in k h))
+      (λ (q : at j ≡ k). written_here (stored j) _ (P k) v (pl ∙ ap P q) (let r = length-writes s (place_writes l f j) (store_of l s) in omega (arith, r, c.stands.store, p.slots_in k h))
       ∙ sym (mux_one (words.equal w k) v rest (eq_one w k (e ∙ q))))
       (λ (q : at j ≢ k). written_there (stored j) _ (P k) v (λ r. q (sym (p.slots_apart k (at j) h (at_below j) (r ∙ pl)))) ∙ ih
       ∙ sym (mux_zero (words.equal w k) v rest (eq_none w k (λ r. q (sym e ∙ r)))))
@@ -181,38 +175,30 @@ module _ (l : Layout) (s : State) (x : LockState) (f : StepSignals) (a : LockAct
   two_slots o = let q = ended.there_second xs (c.cycle.proper.done2 o) in let r = length_filled x a in omega (arith, q, r, c.cycle.proper.room)
 
   k1_other : a.release2 ≡ true → k1 ≢ k0
-  k1_other o e = let q =
-      apart n x.base 1 0 (let w = two_slots o in omega (arith, w)) (omega (arith, c.cycle.sized.some))
-      (e ∙ ap (λ m. m % n) (let z : x.base ≡ x.base + 0 = omega arith in z)) in
-      omega (arith, q)
+  k1_other o e = let q = apart n x.base 1 0 (let w = two_slots o in omega (arith, w)) (omega (arith, c.cycle.sized.some)) (e ∙ ap (λ m. m % n) (let z : x.base ≡ x.base + 0 = omega arith in z)) in omega (arith, q)
 
   -- their places
   slot_same : (k : ℕ) → (ring.slot_value l.slots f k).value s ≡ P k
   slot_same k = ap (λ (g : Signal). g.value s) (content_place l.slots f k c.renaming.place)
 
   place0 : (oldest_place l f).value s ≡ P k0
-  place0 =
-      ticket_value l.slots c.cycle.sized (ring.slot_value l.slots f) (head_signal l.slots) s x.base (ended.head_value l.slots V s x f a c.cycle) ∙ slot_same k0
+  place0 = ticket_value l.slots c.cycle.sized (ring.slot_value l.slots f) (head_signal l.slots) s x.base (ended.head_value l.slots V s x f a c.cycle) ∙ slot_same k0
 
   place1 : (next_place_of l f).value s ≡ P k1
-  place1 =
-      ticket_value l.slots c.cycle.sized (ring.slot_value l.slots f) (next_head l.slots) s (x.base + 1) (ended.next_head_value l.slots V s x f a c.cycle)
-      ∙ slot_same k1
+  place1 = ticket_value l.slots c.cycle.sized (ring.slot_value l.slots f) (next_head l.slots) s (x.base + 1) (ended.next_head_value l.slots V s x f a c.cycle) ∙ slot_same k1
 
   -- the slots that are released
   released0 : (freed_slot l f).value s ≡ (if a.release then k0 else n)
   unfolding mux_value const_value words.mux
   released0 =
       ap (λ t. if t then (slot_of l.slots (head_signal l.slots)).value s else n) (test_bit (f.release.value s) a.release c.cycle.drives.release)
-      ∙ ap (λ m. if a.release then m else n)
-      (filled.slot_value l.slots c.cycle.sized (head_signal l.slots) s x.base (ended.head_value l.slots V s x f a c.cycle))
+      ∙ ap (λ m. if a.release then m else n) (filled.slot_value l.slots c.cycle.sized (head_signal l.slots) s x.base (ended.head_value l.slots V s x f a c.cycle))
 
   released1 : (freed2_slot l f).value s ≡ (if a.release2 then k1 else n)
   unfolding mux_value const_value words.mux
   released1 =
       ap (λ t. if t then (slot_of l.slots (next_head l.slots)).value s else n) (test_bit (f.release2.value s) a.release2 c.cycle.drives.release2)
-      ∙ ap (λ m. if a.release2 then m else n)
-      (filled.slot_value l.slots c.cycle.sized (next_head l.slots) s (x.base + 1) (ended.next_head_value l.slots V s x f a c.cycle))
+      ∙ ap (λ m. if a.release2 then m else n) (filled.slot_value l.slots c.cycle.sized (next_head l.slots) s (x.base + 1) (ended.next_head_value l.slots V s x f a c.cycle))
 
   -- the places that become free
   freed0 : a.release ≡ true → (freed_place l f).value s ≡ M e0.addr
@@ -259,11 +245,9 @@ module _ (l : Layout) (s : State) (x : LockState) (f : StepSignals) (a : LockAct
       let r = c.cycle.proper.both o in
       let q0 = addr0 r in
       let q1 = addr1 o in
-      let m1 : (mapped_place l (next_addr l.slots f)).value s ≡ M e1.addr =
-      mapped_is l c.renaming (next_addr l.slots f) s (let b = below1 o in omega (arith, q1, b)) ∙ ap M q1 in
+      let m1 : (mapped_place l (next_addr l.slots f)).value s ≡ M e1.addr = mapped_is l c.renaming (next_addr l.slots f) s (let b = below1 o in omega (arith, q1, b)) ∙ ap M q1 in
       let p0 = place0 in
-      ap (λ m. words.mux m ((oldest_place l f).value s) ((mapped_place l (next_addr l.slots f)).value s))
-      (both_equal ((next_addr l.slots f).value s) e1.addr ((oldest_addr l.slots f).value s) e0.addr q1 q0)
+      ap (λ m. words.mux m ((oldest_place l f).value s) ((mapped_place l (next_addr l.slots f)).value s)) (both_equal ((next_addr l.slots f).value s) e1.addr ((oldest_addr l.slots f).value s) e0.addr q1 q0)
       ∙ ap (λ m. words.mux (words.equal e0.addr e1.addr) m ((mapped_place l (next_addr l.slots f)).value s)) p0
       ∙ ap (λ m. words.mux (words.equal e0.addr e1.addr) (P k0) m) m1
 
@@ -280,9 +264,7 @@ module _ (l : Layout) (s : State) (x : LockState) (f : StepSignals) (a : LockAct
     where
       by : (t u : Bool) → a.release ≡ t → a.release2 ≡ u
           → AreApart l.depth n (λ b. if u then M2 b else if t then M1 b else M b) (λ k. if u then P2 k else if t then P1 k else P k)
-      by t true p q =
-          exchanged_apart l.depth n e1.addr k1 M1 P1 M2 P2 k1_below (below1 q) (exchange2 q)
-          (exchanged_apart l.depth n e0.addr k0 M P M1 P1 k0_below (below0 (c.cycle.proper.both q)) exchange1 c.stands.places)
+      by t true p q = exchanged_apart l.depth n e1.addr k1 M1 P1 M2 P2 k1_below (below1 q) (exchange2 q) (exchanged_apart l.depth n e0.addr k0 M P M1 P1 k0_below (below0 (c.cycle.proper.both q)) exchange1 c.stands.places)
       by true false p q = exchanged_apart l.depth n e0.addr k0 M P M1 P1 k0_below (below0 p) exchange1 c.stands.places
       by false false p q = c.stands.places
 
@@ -292,10 +274,8 @@ module _ (l : Layout) (s : State) (x : LockState) (f : StepSignals) (a : LockAct
       let low = ended.base_low a.release a.release2 x.base in
       let long = left_long l.slots V s x f a c.cycle in
       ⊎_elim
-      (λ (e : a.squash ≡ true). let q = long ∙ if_true a.squash a.tail (x.base + length x.entries + length a.reserves) e in
-      omega (arith, q, low, c.cycle.proper.tail_to e, c.cycle.proper.room))
-      (λ (e : a.squash ≡ false). let q = long ∙ if_false a.squash a.tail (x.base + length x.entries + length a.reserves) e in
-      omega (arith, q, low, c.cycle.proper.room))
+      (λ (e : a.squash ≡ true). let q = long ∙ if_true a.squash a.tail (x.base + length x.entries + length a.reserves) e in omega (arith, q, low, c.cycle.proper.tail_to e, c.cycle.proper.room))
+      (λ (e : a.squash ≡ false). let q = long ∙ if_false a.squash a.tail (x.base + length x.entries + length a.reserves) e in omega (arith, q, low, c.cycle.proper.room))
       (cases_Bool a.squash)
 
   k0_is : k0 ≡ (x.base + 0) % n
@@ -373,19 +353,13 @@ module _ (l : Layout) (s : State) (x : LockState) (f : StepSignals) (a : LockAct
             let w0 = released0 ∙ if_true a.release k0 n e in
             let v0 = freed0 e in
             none ((freed2_slot l f).value s) _ _ (released1 ∙ if_false a.release2 k1 n u) ∙ cc (w0, v0)
-        by false false e u =
-            none ((freed2_slot l f).value s) _ _ (released1 ∙ if_false a.release2 k1 n u)
-            ∙ none ((freed_slot l f).value s) _ _ (released0 ∙ if_false a.release k0 n e)
+        by false false e u = none ((freed2_slot l f).value s) _ _ (released1 ∙ if_false a.release2 k1 n u) ∙ none ((freed_slot l f).value s) _ _ (released0 ∙ if_false a.release k0 n e)
 
     word_next : (k : ℕ) → k < l.depth → word_place l t k
-        ≡ (if f.release2.value s == 1
-        then words.mux (words.equal ((next_addr l.slots f).value s) k) ((next_place_of l f).value s)
-        (if f.release.value s == 1 then words.mux (words.equal ((oldest_addr l.slots f).value s) k) ((oldest_place l f).value s) (M k) else M k)
+        ≡ (if f.release2.value s == 1 then words.mux (words.equal ((next_addr l.slots f).value s) k) ((next_place_of l f).value s) (if f.release.value s == 1 then words.mux (words.equal ((oldest_addr l.slots f).value s) k) ((oldest_place l f).value s) (M k) else M k)
         else (if f.release.value s == 1 then words.mux (words.equal ((oldest_addr l.slots f).value s) k) ((oldest_place l f).value s) (M k) else M k))
     unfolding mux_value bin_value const_value reg_value words.mux
-    word_next k h =
-        i.regs (map_at l k) (let z = c.renaming.map in omega (arith, z)) (let z = c.renaming.map in omega (arith, z, h))
-        ∙ ap (λ (g : Signal). g.value s) (next.map.map k h)
+    word_next k h = i.regs (map_at l k) (let z = c.renaming.map in omega (arith, z)) (let z = c.renaming.map in omega (arith, z, h)) ∙ ap (λ (g : Signal). g.value s) (next.map.map k h)
 
     -- and so is the place of each word
     words_are : (k : ℕ) → k < l.depth → word_place l t k ≡ map_left k
@@ -395,8 +369,7 @@ module _ (l : Layout) (s : State) (x : LockState) (f : StepSignals) (a : LockAct
             → (if f.release2.value s == 1
             then words.mux (words.equal ((next_addr l.slots f).value s) k) ((next_place_of l f).value s)
             (if f.release.value s == 1 then words.mux (words.equal ((oldest_addr l.slots f).value s) k) ((oldest_place l f).value s) (M k) else M k)
-            else (if f.release.value s == 1 then words.mux (words.equal ((oldest_addr l.slots f).value s) k) ((oldest_place l f).value s) (M k) else M k))
-            ≡ (if q then M2 k else if r then M1 k else M k)
+            else (if f.release.value s == 1 then words.mux (words.equal ((oldest_addr l.slots f).value s) k) ((oldest_place l f).value s) (M k) else M k)) ≡ (if q then M2 k else if r then M1 k else M k)
         by r true e u =
             let both = c.cycle.proper.both u in
             let t1 = c.cycle.drives.release2 ∙ ap bit u in
@@ -405,9 +378,7 @@ module _ (l : Layout) (s : State) (x : LockState) (f : StepSignals) (a : LockAct
             let q0 = addr0 both in
             let p1 = place1 in
             let p0 = place0 in
-            if_one (f.release2.value s) _ _ t1
-            ∙ ap (λ m. words.mux (words.equal ((next_addr l.slots f).value s) k) ((next_place_of l f).value s) m) (if_one (f.release.value s) _ _ t0)
-            ∙ cc (q1, q0, p1, p0)
+            if_one (f.release2.value s) _ _ t1 ∙ ap (λ m. words.mux (words.equal ((next_addr l.slots f).value s) k) ((next_place_of l f).value s) m) (if_one (f.release.value s) _ _ t0) ∙ cc (q1, q0, p1, p0)
         by true false e u =
             let t1 = c.cycle.drives.release2 ∙ ap bit u in
             let t0 = c.cycle.drives.release ∙ ap bit e in
@@ -424,9 +395,7 @@ module _ (l : Layout) (s : State) (x : LockState) (f : StepSignals) (a : LockAct
     store_next = i.arrays l.array (omega arith) (omega arith) ∙ ap (λ ps. after_writes s ps (store_of l s)) next.store ∙ ap stored (sym c.cycle.drives.count)
 
     filled_at : (k : ℕ) → k < n → slice_index (store_of l t) (P k) ≡ (after_fill l.slots f V k).value s
-    filled_at k h =
-        ap (λ ws. slice_index ws (P k)) store_next ∙ slot_word k h (length a.writes) (omega arith)
-        ∙ ap (λ m. (filled_value l.slots f (V k) k m).value s) c.cycle.drives.count
+    filled_at k h = ap (λ ws. slice_index ws (P k)) store_next ∙ slot_word k h (length a.writes) (omega arith) ∙ ap (λ m. (filled_value l.slots f (V k) k m).value s) c.cycle.drives.count
 
     unchanged_at : (k : ℕ) → k < l.depth → slice_index (store_of l t) (M k) ≡ slice_index x.words k
     unchanged_at k h = ap (λ ws. slice_index ws (M k)) store_next ∙ other_word k h (length a.writes) (omega arith) ∙ c.stands.words k h
@@ -442,16 +411,10 @@ module _ (l : Layout) (s : State) (x : LockState) (f : StepSignals) (a : LockAct
 
     -- the values of the two oldest pending writes are in their places
     value0 : a.release ≡ true → slice_index (store_of l t) (P k0) ≡ or_zero e0.value
-    value0 o =
-        filled_at k0 k0_below
-        ∙ sym (ticket_value l.slots c.cycle.sized (after_fill l.slots f V) (head_signal l.slots) s x.base (ended.head_value l.slots V s x f a c.cycle))
-        ∙ oldest_value_is l.slots V s x f a c.cycle o
+    value0 o = filled_at k0 k0_below ∙ sym (ticket_value l.slots c.cycle.sized (after_fill l.slots f V) (head_signal l.slots) s x.base (ended.head_value l.slots V s x f a c.cycle)) ∙ oldest_value_is l.slots V s x f a c.cycle o
 
     value1 : a.release2 ≡ true → slice_index (store_of l t) (P k1) ≡ or_zero e1.value
-    value1 o =
-        filled_at k1 k1_below
-        ∙ sym (ticket_value l.slots c.cycle.sized (after_fill l.slots f V) (next_head l.slots) s (x.base + 1) (ended.next_head_value l.slots V s x f a c.cycle))
-        ∙ next_value_is l.slots V s x f a c.cycle o
+    value1 o = filled_at k1 k1_below ∙ sym (ticket_value l.slots c.cycle.sized (after_fill l.slots f V) (next_head l.slots) s (x.base + 1) (ended.next_head_value l.slots V s x f a c.cycle)) ∙ next_value_is l.slots V s x f a c.cycle o
 
     -- the words after the first release
     words_one : a.release ≡ true → (k : ℕ) → k < l.depth → slice_index (store_of l t) (M1 k) ≡ slice_index (committed xs 0 x.words) k
@@ -468,9 +431,7 @@ module _ (l : Layout) (s : State) (x : LockState) (f : StepSignals) (a : LockAct
     words_two o k h = ⊎_elim
         (λ (e : e1.addr ≡ k).
         ap (slice_index (store_of l t)) (mux_one (words.equal e1.addr k) (P k1) (M1 k) (eq_one e1.addr k e)) ∙ value1 o
-        ∙ sym
-        (written_here (committed xs 0 x.words) e1.addr k (or_zero e1.value) e
-        (let w = c.stands.whole in let q = length-set x.words e0.addr (or_zero e0.value) in omega (arith, w, q, h))))
+        ∙ sym (written_here (committed xs 0 x.words) e1.addr k (or_zero e1.value) e (let w = c.stands.whole in let q = length-set x.words e0.addr (or_zero e0.value) in omega (arith, w, q, h))))
         (λ (e : e1.addr ≢ k).
         ap (slice_index (store_of l t)) (mux_zero (words.equal e1.addr k) (P k1) (M1 k) (eq_none e1.addr k e)) ∙ words_one (c.cycle.proper.both o) k h
         ∙ sym (written_there (committed xs 0 x.words) e1.addr k (or_zero e1.value) (λ r. e (sym r))))
@@ -497,9 +458,7 @@ module _ (l : Layout) (s : State) (x : LockState) (f : StepSignals) (a : LockAct
     -- in the next state the registers and the array stand for the pending writes and the words of the step
     pub stands_next : Stands l t (step x a)
     stands_next = record {
-      entries =
-          entries_next l.slots V s x f a b (own_rename l) t c.cycle
-          (record { from = omega arith; to = omega arith; addrs = next.addrs; bits = next.bits; ends = next.ends }) i values_stay;
+      entries = entries_next l.slots V s x f a b (own_rename l) t c.cycle (record { from = omega arith; to = omega arith; addrs = next.addrs; bits = next.bits; ends = next.ends }) i values_stay;
       below = step_below l.depth x a all_below;
       whole = length_committed ∙ c.stands.whole;
       store = ap length store_next ∙ length-writes s (place_writes l f (length a.writes)) (store_of l s) ∙ c.stands.store;
@@ -516,61 +475,17 @@ module _ (l : Layout) (s : State) (x : LockState) (f : StepSignals) (a : LockAct
   stored_is slot place k e p zero = ap (slice_index (store_of l s)) p
   stored_is slot place k e p (suc j) =
       let rest = stored_is slot place k e p j in
-      ap
-      (λ m. words.mux (words.equal ((written_slot l.slots f j).value s) m) ((ticket_at f.writes j).value.value s)
-      ((stored_signal l f slot place j).value s)) e
+      ap (λ m. words.mux (words.equal ((written_slot l.slots f j).value s) m) ((ticket_at f.writes j).value.value s) ((stored_signal l f slot place j).value s)) e
       ∙ ap (λ m. words.mux (words.equal ((written_slot l.slots f j).value s) k) ((ticket_at f.writes j).value.value s) m) rest
 
   -- where a write is released, the net of its value has the oldest pending write's value
   pub commit0 : a.release ≡ true → (oldest_value l f).value s ≡ or_zero e0.value
   commit0 o =
-      stored_is (slot_of l.slots (head_signal l.slots))
-      (oldest_place l f) k0
-      (filled.slot_value l.slots c.cycle.sized (head_signal l.slots) s x.base (ended.head_value l.slots V s x f a c.cycle)) place0
-      (length f.writes)
-      ∙ sym (ticket_value l.slots c.cycle.sized (after_fill l.slots f V) (head_signal l.slots) s x.base (ended.head_value l.slots V s x f a c.cycle))
-      ∙ oldest_value_is l.slots V s x f a c.cycle o
+      stored_is (slot_of l.slots (head_signal l.slots)) (oldest_place l f) k0 (filled.slot_value l.slots c.cycle.sized (head_signal l.slots) s x.base (ended.head_value l.slots V s x f a c.cycle)) place0 (length f.writes)
+      ∙ sym (ticket_value l.slots c.cycle.sized (after_fill l.slots f V) (head_signal l.slots) s x.base (ended.head_value l.slots V s x f a c.cycle)) ∙ oldest_value_is l.slots V s x f a c.cycle o
 
   -- where a second write is released, the net of its value has the second oldest pending write's value
   pub commit1 : a.release2 ≡ true → (next_value l f).value s ≡ or_zero e1.value
   commit1 o =
-      stored_is (slot_of l.slots (next_head l.slots))
-      (next_place_of l f) k1
-      (filled.slot_value l.slots c.cycle.sized (next_head l.slots) s (x.base + 1) (ended.next_head_value l.slots V s x f a c.cycle)) place1
-      (length f.writes)
-      ∙ sym (ticket_value l.slots c.cycle.sized (after_fill l.slots f V) (next_head l.slots) s (x.base + 1) (ended.next_head_value l.slots V s x f a c.cycle))
-      ∙ next_value_is l.slots V s x f a c.cycle o
-
-module _ (b : Circuit) (l : Layout) (f : StepSignals) (z : IsRenaming l) (w : TicketsFit l.slots.ticket f) (v : AddressesFit l.slots.bits f) where
-  turn : (s : State) (x : LockState) (a : LockAct) → Stands l s x → Drives l.slots.ticket f s a → Proper l.slots.size x a → Turn l s x f a
-  turn s x a h d p = record { renaming = z; stands = h; cycle = record { sized = z.sized; stands = h.entries; fit = w; drives = d; proper = p }; addresses = v }
-
-  -- the renaming lock keeps the law of the step, where its registers and array take next what they have to
-  pub step_law : NextRename b l f
-      → StepLaw (Stands l) l.slots.size l.slots.ticket (own_rename l) b f f.release (mux_signal f.release (oldest_addr l.slots f) (const_signal l.slots.bits 0))
-      (mux_signal f.release (oldest_value l f) (const_signal l.slots.width 0))
-  unfolding mux_value const_value
-  step_law n = record {
-    commits = λ s x a h d p. d.release;
-    commits_addr = λ s x a h d p. let c = turn s x a h d p in
-        by_release l.slots (placed_signal l) s x f a c.cycle ((oldest_addr l.slots f).value s)
-        (entry_at (filled_entries x a) 0).addr (oldest_addr_is l.slots (placed_signal l) s x f a c.cycle);
-    commits_value = λ s x a h d p. let c = turn s x a h d p in
-        by_release l.slots (placed_signal l) s x f a c.cycle ((oldest_value l f).value s)
-        (or_zero (entry_at (filled_entries x a) 0).value) (commit0 l s x f a c);
-    next = λ s u x a h d p o. stands_next l s x f a (turn s x a h d p) b u n o;
-  }
-
-  -- the renaming lock keeps the law of the second commit
-  pub commit2_law : Commit2Law (Stands l) l.slots.size l.slots.ticket f f.release2 (mux_signal f.release2 (next_addr l.slots f) (const_signal l.slots.bits 0))
-      (mux_signal f.release2 (next_value l f) (const_signal l.slots.width 0))
-  unfolding mux_value const_value
-  commit2_law = record {
-    commits = λ s x a h d p. d.release2;
-    commits_addr = λ s x a h d p. let c = turn s x a h d p in
-        by_release2 l.slots (placed_signal l) s x f a c.cycle ((next_addr l.slots f).value s)
-        (entry_at (filled_entries x a) 1).addr (next_addr_is l.slots (placed_signal l) s x f a c.cycle);
-    commits_value = λ s x a h d p. let c = turn s x a h d p in
-        by_release2 l.slots (placed_signal l) s x f a c.cycle ((next_value l f).value s)
-        (or_zero (entry_at (filled_entries x a) 1).value) (commit1 l s x f a c);
-  }
+      stored_is (slot_of l.slots (next_head l.slots)) (next_place_of l f) k1 (filled.slot_value l.slots c.cycle.sized (next_head l.slots) s (x.base + 1) (ended.next_head_value l.slots V s x f a c.cycle)) place1 (length f.writes)
+      ∙ sym (ticket_value l.slots c.cycle.sized (after_fill l.slots f V) (next_head l.slots) s (x.base + 1) (ended.next_head_value l.slots V s x f a c.cycle)) ∙ next_value_is l.slots V s x f a c.cycle o

@@ -12,7 +12,7 @@ use Rattle.pdl_theory_turns.proofs.CourseOf.{course}
 use Rattle.pdl_theory_refinement.proofs.Follows
 use Rattle.pdl_theory_simulation.proofs.AcceptedFacts.{sound_flows}
 use Rattle.pdl_theory_progress.proofs.Rates
-use Rattle.pdl_theory_simulation.proofs.WholeSimulation.{same_turns}
+use Rattle.pdl_theory_simulation.proofs.SimulatedRuns.{same_turns}
 
 module _ (p : Pipe) (sound : Sound p) where
   -- in each cycle of a run both machines have the same ports and waits

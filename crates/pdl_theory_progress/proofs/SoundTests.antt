@@ -42,13 +42,9 @@ next_in : (p : Pipe) (test : ℕ → Bool) (s : ℕ) (env : List ℕ) → list_a
 next_in p test s env h = at (stage_at p s).next refl
   where
     at : (n : Next) → (stage_at p s).next ≡ n → test (next_of p s env) ≡ true
-    at Ends e =
-        ap (λ n. test (stage_or (length p.stages) (goes_to n env))) e ∙ and_left _ _ (subst (λ n. list_all test (nexts_of (length p.stages) n) ≡ true) e h)
-    at (Goes to) e =
-        ap (λ n. test (stage_or (length p.stages) (goes_to n env))) e ∙ and_left _ _ (subst (λ n. list_all test (nexts_of (length p.stages) n) ≡ true) e h)
-    at (Forks x a b) e =
-        ap (λ n. test (stage_or (length p.stages) (goes_to n env))) e
-        ∙ pick (slice_index env x == 1) (subst (λ n. list_all test (nexts_of (length p.stages) n) ≡ true) e h)
+    at Ends e = ap (λ n. test (stage_or (length p.stages) (goes_to n env))) e ∙ and_left _ _ (subst (λ n. list_all test (nexts_of (length p.stages) n) ≡ true) e h)
+    at (Goes to) e = ap (λ n. test (stage_or (length p.stages) (goes_to n env))) e ∙ and_left _ _ (subst (λ n. list_all test (nexts_of (length p.stages) n) ≡ true) e h)
+    at (Forks x a b) e = ap (λ n. test (stage_or (length p.stages) (goes_to n env))) e ∙ pick (slice_index env x == 1) (subst (λ n. list_all test (nexts_of (length p.stages) n) ≡ true) e h)
       where
         pick : (c : Bool) → list_all test (a ∷ b ∷ []) ≡ true → test (if c then a else b) ≡ true
         pick true k = and_left (test a) _ k
@@ -56,8 +52,7 @@ next_in p test s env h = at (stage_at p s).next refl
 
 same_is : (o : Option Branch) (c : Branch) → same_branch o c ≡ true → o ≡ Some c
 same_is None c h = absurd (cc h)
-same_is (Some b) c h =
-    λ i. Some (record { fork = eqb-true b.fork c.fork (and_left (b.fork == c.fork) _ h) i; first = alike b.first c.first (and_right (b.fork == c.fork) _ h) i })
+same_is (Some b) c h = λ i. Some (record { fork = eqb-true b.fork c.fork (and_left (b.fork == c.fork) _ h) i; first = alike b.first c.first (and_right (b.fork == c.fork) _ h) i })
   where
     alike : (x y : Bool) → (if x then y else not y) ≡ true → x ≡ y
     alike true y k = sym k
@@ -110,9 +105,7 @@ module _ (p : Pipe) (h : passes_tests p ≡ true) where
   trunk_past r low = ap (λ (x : Stage). x.branch) (past_stage p r low)
 
   next_ok : (s : ℕ) (env : List ℕ) → s < length p.stages → next_passes p s (next_of p s env) ≡ true
-  next_ok s env low =
-      next_in p (next_passes p s) s env
-      (and_left (list_all (next_passes p s) (nexts p s)) _ (and_right (leads_in (length p.stages) (stage_at p s).next) _ (stage_ok s low)))
+  next_ok s env low = next_in p (next_passes p s) s env (and_left (list_all (next_passes p s) (nexts p s)) _ (and_right (leads_in (length p.stages) (stage_at p s).next) _ (stage_ok s low)))
 
   up : (s : ℕ) (env : List ℕ) → s < length p.stages → s < next_of p s env
   up s env low = ltb-true _ _ (and_left (nat_lt s (next_of p s env)) _ (next_ok s env low))
@@ -121,8 +114,7 @@ module _ (p : Pipe) (h : passes_tests p ≡ true) where
       → (nat_le (next_of p s env) (length p.stages)
       && (all_below (λ r. not (is_trunk p r) || not (nat_lt s r && nat_lt r (next_of p s env))) (length p.stages)
       && ((not (next_of p s env == length p.stages) || (is_trunk p s && (suc s == length p.stages)))
-      && ((not (is_trunk p (next_of p s env) && nat_lt (next_of p s env) (length p.stages))
-      || all_below (λ b. is_passed p s b || is_in_merge p (stage_at p (next_of p s env)).merges b) (next_of p s env))
+      && ((not (is_trunk p (next_of p s env) && nat_lt (next_of p s env) (length p.stages)) || all_below (λ b. is_passed p s b || is_in_merge p (stage_at p (next_of p s env)).merges b) (next_of p s env))
       && is_entered p s (next_of p s env) (stage_at p (next_of p s env)).branch)))) ≡ true
   after_up s env low = and_right (nat_lt s (next_of p s env)) _ (next_ok s env low)
 
@@ -132,40 +124,29 @@ module _ (p : Pipe) (h : passes_tests p ≡ true) where
   after_inside : (s : ℕ) (env : List ℕ) → s < length p.stages
       → (all_below (λ r. not (is_trunk p r) || not (nat_lt s r && nat_lt r (next_of p s env))) (length p.stages)
       && ((not (next_of p s env == length p.stages) || (is_trunk p s && (suc s == length p.stages)))
-      && ((not (is_trunk p (next_of p s env) && nat_lt (next_of p s env) (length p.stages))
-      || all_below (λ b. is_passed p s b || is_in_merge p (stage_at p (next_of p s env)).merges b) (next_of p s env))
+      && ((not (is_trunk p (next_of p s env) && nat_lt (next_of p s env) (length p.stages)) || all_below (λ b. is_passed p s b || is_in_merge p (stage_at p (next_of p s env)).merges b) (next_of p s env))
       && is_entered p s (next_of p s env) (stage_at p (next_of p s env)).branch))) ≡ true
   after_inside s env low = and_right (nat_le (next_of p s env) (length p.stages)) _ (after_up s env low)
 
   jump : (s : ℕ) (env : List ℕ) (r : ℕ) → s < length p.stages → Trunk p r → s < r → r ≤ next_of p s env → r ≡ next_of p s env
-  jump s env r low t i j =
-      by_bool (nat_lt r (next_of p s env)) (r ≡ next_of p s env) (λ k. absurd (passed k)) (λ k. let x : next_of p s env ≤ r = ltb-false _ _ k in omega arith)
+  jump s env r low t i j = by_bool (nat_lt r (next_of p s env)) (r ≡ next_of p s env) (λ k. absurd (passed k)) (λ k. let x : next_of p s env ≤ r = ltb-false _ _ k in omega arith)
     where
       passed : nat_lt r (next_of p s env) ≡ true → ⊥
       passed k =
           let x : r < next_of p s env = ltb-true _ _ k in
           let y : next_of p s env ≤ length p.stages = inside s env low in
-          let z =
-          below_at (λ r. not (is_trunk p r) || not (nat_lt s r && nat_lt r (next_of p s env)))
-          (length p.stages) r
-          (and_left (all_below (λ r. not (is_trunk p r) || not (nat_lt s r && nat_lt r (next_of p s env))) (length p.stages)) _ (after_inside s env low))
-          (omega arith) in
+          let z = below_at (λ r. not (is_trunk p r) || not (nat_lt s r && nat_lt r (next_of p s env))) (length p.stages) r (and_left (all_below (λ r. not (is_trunk p r) || not (nat_lt s r && nat_lt r (next_of p s env))) (length p.stages)) _ (after_inside s env low)) (omega arith) in
           clash (sym (ap₂ (λ a b. not a || not (b && nat_lt r (next_of p s env))) (is_trunk_of p r t) (lt-ltb _ _ i) ∙ ap not k) ∙ z)
 
   after_jump : (s : ℕ) (env : List ℕ) → s < length p.stages
       → ((not (next_of p s env == length p.stages) || (is_trunk p s && (suc s == length p.stages)))
-      && ((not (is_trunk p (next_of p s env) && nat_lt (next_of p s env) (length p.stages))
-      || all_below (λ b. is_passed p s b || is_in_merge p (stage_at p (next_of p s env)).merges b) (next_of p s env))
+      && ((not (is_trunk p (next_of p s env) && nat_lt (next_of p s env) (length p.stages)) || all_below (λ b. is_passed p s b || is_in_merge p (stage_at p (next_of p s env)).merges b) (next_of p s env))
       && is_entered p s (next_of p s env) (stage_at p (next_of p s env)).branch)) ≡ true
-  after_jump s env low =
-      and_right (all_below (λ r. not (is_trunk p r) || not (nat_lt s r && nat_lt r (next_of p s env))) (length p.stages)) _ (after_inside s env low)
+  after_jump s env low = and_right (all_below (λ r. not (is_trunk p r) || not (nat_lt s r && nat_lt r (next_of p s env))) (length p.stages)) _ (after_inside s env low)
 
   last : (s : ℕ) (env : List ℕ) → s < length p.stages → next_of p s env ≡ length p.stages → Trunk p s × (suc s ≡ length p.stages)
   last s env low e =
-      let k =
-      where_true (next_of p s env == length p.stages) _
-      (and_left (not (next_of p s env == length p.stages) || (is_trunk p s && (suc s == length p.stages))) _ (after_jump s env low))
-      (eq-eqb _ _ e) in
+      let k = where_true (next_of p s env == length p.stages) _ (and_left (not (next_of p s env == length p.stages) || (is_trunk p s && (suc s == length p.stages))) _ (after_jump s env low)) (eq-eqb _ _ e) in
       (trunk_is p s (and_left (is_trunk p s) _ k), eqb-true _ _ (and_right (is_trunk p s) _ k))
 
   after_last : (s : ℕ) (env : List ℕ) → s < length p.stages
@@ -178,19 +159,9 @@ module _ (p : Pipe) (h : passes_tests p ≡ true) where
       → next_of p s env < length p.stages → Below p b s → b < next_of p s env
       → (f : ℕ) × ((stage_at p (next_of p s env)).merges ≡ Some f) × (is_inside p f b ≡ true)
   between s env b low t i bel j =
-      let k =
-      where_true (is_trunk p (next_of p s env) && nat_lt (next_of p s env) (length p.stages)) _
-      (and_left
-      (not (is_trunk p (next_of p s env) && nat_lt (next_of p s env) (length p.stages))
-      || all_below (λ b. is_passed p s b || is_in_merge p (stage_at p (next_of p s env)).merges b) (next_of p s env)) _
-      (after_last s env low))
-      (ap₂ (λ a c. a && c) (is_trunk_of p (next_of p s env) t) (lt-ltb _ _ i)) in
+      let k = where_true (is_trunk p (next_of p s env) && nat_lt (next_of p s env) (length p.stages)) _ (and_left (not (is_trunk p (next_of p s env) && nat_lt (next_of p s env) (length p.stages)) || all_below (λ b. is_passed p s b || is_in_merge p (stage_at p (next_of p s env)).merges b) (next_of p s env)) _ (after_last s env low)) (ap₂ (λ a c. a && c) (is_trunk_of p (next_of p s env) t) (lt-ltb _ _ i)) in
       by_or (is_passed p s b) _ _ (below_at (λ b. is_passed p s b || is_in_merge p (stage_at p (next_of p s env)).merges b) (next_of p s env) b k j)
-      (λ q. absurd
-      (any_at (λ r. is_trunk p r && nat_le b r)
-      (suc s) ⊥ q
-      (λ r r_low both. let x : b ≤ r = leb-true _ _ (and_right (is_trunk p r) _ both) in
-      let y : r < b = bel r (trunk_is p r (and_left (is_trunk p r) _ both)) (omega arith) in omega arith)))
+      (λ q. absurd (any_at (λ r. is_trunk p r && nat_le b r) (suc s) ⊥ q (λ r r_low both. let x : b ≤ r = leb-true _ _ (and_right (is_trunk p r) _ both) in let y : r < b = bel r (trunk_is p r (and_left (is_trunk p r) _ both)) (omega arith) in omega arith)))
       (λ q. merged (stage_at p (next_of p s env)).merges refl q)
     where
       merged : (o : Option ℕ) → (stage_at p (next_of p s env)).merges ≡ o → is_in_merge p o b ≡ true
@@ -213,20 +184,13 @@ module _ (p : Pipe) (h : passes_tests p ≡ true) where
 
       at : (n : Next) → (stage_at p s).next ≡ n → leads_in (length p.stages) (stage_at p s).next ≡ true
           → goes_to (stage_at p s).next env ≡ (if nat_lt (next_of p s env) (length p.stages) then Some (next_of p s env) else None)
-      at Ends e i =
-          ap (λ n. goes_to n env) e
-          ∙ sym
-          (ap (λ b. if b then Some (next_of p s env) else None)
-          (not-true (nat_lt (next_of p s env) (length p.stages)) (not_low (nat_lt (next_of p s env) (length p.stages)) refl)))
+      at Ends e i = ap (λ n. goes_to n env) e ∙ sym (ap (λ b. if b then Some (next_of p s env) else None) (not-true (nat_lt (next_of p s env) (length p.stages)) (not_low (nat_lt (next_of p s env) (length p.stages)) refl)))
         where
           not_low : (b : Bool) → nat_lt (next_of p s env) (length p.stages) ≡ b → not (nat_lt (next_of p s env) (length p.stages)) ≡ true
-          not_low true k =
-              absurd (let x : next_of p s env < length p.stages = ltb-true _ _ k in let y : next_of p s env ≡ length p.stages = same Ends e in omega arith)
+          not_low true k = absurd (let x : next_of p s env < length p.stages = ltb-true _ _ k in let y : next_of p s env ≡ length p.stages = same Ends e in omega arith)
           not_low false k = ap not k
       at (Goes to) e i = some (Goes to) to e refl (ltb-true _ _ (subst (λ n. leads_in (length p.stages) n ≡ true) e i))
-      at (Forks x a b) e i =
-          some (Forks x a b)
-          (if slice_index env x == 1 then a else b) e refl (pick (slice_index env x == 1) (subst (λ n. leads_in (length p.stages) n ≡ true) e i))
+      at (Forks x a b) e i = some (Forks x a b) (if slice_index env x == 1 then a else b) e refl (pick (slice_index env x == 1) (subst (λ n. leads_in (length p.stages) n ≡ true) e i))
         where
           pick : (c : Bool) → (nat_lt a (length p.stages) && nat_lt b (length p.stages)) ≡ true → (if c then a else b) < length p.stages
           pick true k = ltb-true _ _ (and_left (nat_lt a (length p.stages)) _ k)
@@ -236,10 +200,8 @@ module _ (p : Pipe) (h : passes_tests p ≡ true) where
   trunk_lock m =
       by_bool (nat_lt m (length p.mems)) _
       (λ e.
-      let k = below_at (λ m. is_trunk p (reserve_stage p m) && is_trunk p (commit_stage p m)) (length p.mems) m all.1.1.1.0 (ltb-true _ _ e) in (
-        trunk_is p (reserve_stage p m) (and_left (is_trunk p (reserve_stage p m)) _ k),
-        trunk_is p (commit_stage p m) (and_right (is_trunk p (reserve_stage p m)) _ k),
-      ))
+      let k = below_at (λ m. is_trunk p (reserve_stage p m) && is_trunk p (commit_stage p m)) (length p.mems) m all.1.1.1.0 (ltb-true _ _ e) in
+      (trunk_is p (reserve_stage p m) (and_left (is_trunk p (reserve_stage p m)) _ k), trunk_is p (commit_stage p m) (and_right (is_trunk p (reserve_stage p m)) _ k)))
       (λ e. (
         subst (λ n. Trunk p n) (sym (reserve_past (at_once p) (parts_paths (at_once p) all.0) m (ltb-false _ _ e))) (trunk_is p 0 all.1.0),
         subst (λ n. Trunk p n) (sym (commit_past (at_once p) (parts_paths (at_once p) all.0) m (ltb-false _ _ e))) (trunk_past (length p.stages) (le_refl _)),
@@ -262,56 +224,30 @@ module _ (p : Pipe) (h : passes_tests p ≡ true) where
       }
 
   in_low : (c : Branch) (s : ℕ) → In p c s → s < length p.stages
-  in_low c s i =
-      by_bool (nat_lt s (length p.stages)) (s < length p.stages) (λ e. ltb-true _ _ e) (λ e. absurd (in_not_trunk p s c i (trunk_past s (ltb-false _ _ e))))
+  in_low c s i = by_bool (nat_lt s (length p.stages)) (s < length p.stages) (λ e. ltb-true _ _ e) (λ e. absurd (in_not_trunk p s c i (trunk_past s (ltb-false _ _ e))))
 
   fork_trunk : (c : Branch) (s : ℕ) → In p c s → Trunk p c.fork × (c.fork < s)
   fork_trunk c s i =
-      let k : branch_passes p s (Some c) ≡ true =
-      subst (λ o. branch_passes p s o ≡ true) i
-      (and_left (branch_passes p s (stage_at p s).branch) _
-      (and_right (list_all (next_passes p s) (nexts p s)) _ (and_right (leads_in (length p.stages) (stage_at p s).next) _ (stage_ok s (in_low c s i))))) in
+      let k : branch_passes p s (Some c) ≡ true = subst (λ o. branch_passes p s o ≡ true) i (and_left (branch_passes p s (stage_at p s).branch) _ (and_right (list_all (next_passes p s) (nexts p s)) _ (and_right (leads_in (length p.stages) (stage_at p s).next) _ (stage_ok s (in_low c s i))))) in
       (trunk_is p c.fork (and_left (is_trunk p c.fork) _ k), ltb-true _ _ (and_right (is_trunk p c.fork) _ k))
 
   entered : (c : Branch) (s : ℕ) (env : List ℕ) → s < length p.stages → In p c (next_of p s env) → is_entered p s (next_of p s env) (Some c) ≡ true
-  entered c s env low i =
-      subst (λ o. is_entered p s (next_of p s env) o ≡ true) i
-      (and_right
-      (not (is_trunk p (next_of p s env) && nat_lt (next_of p s env) (length p.stages))
-      || all_below (λ b. is_passed p s b || is_in_merge p (stage_at p (next_of p s env)).merges b) (next_of p s env)) _
-      (after_last s env low))
+  entered c s env low i = subst (λ o. is_entered p s (next_of p s env) o ≡ true) i (and_right (not (is_trunk p (next_of p s env) && nat_lt (next_of p s env) (length p.stages)) || all_below (λ b. is_passed p s b || is_in_merge p (stage_at p (next_of p s env)).merges b) (next_of p s env)) _ (after_last s env low))
 
   stays_in : (c : Branch) (s : ℕ) (env : List ℕ) → s < length p.stages → In p c (next_of p s env) → (s ≡ c.fork) ⊎ (In p c s × (next_of p s env ≡ suc s))
   stays_in c s env low i =
-      by_or
-      ((s == c.fork) && all_below (λ r. not (same_branch (stage_at p r).branch c) || nat_le (next_of p s env) r) (length p.stages)) _ _
-      (entered c s env low i)
+      by_or ((s == c.fork) && all_below (λ r. not (same_branch (stage_at p r).branch c) || nat_le (next_of p s env) r) (length p.stages)) _ _ (entered c s env low i)
       (λ k. inl (eqb-true _ _ (and_left (s == c.fork) _ k)))
-      (λ k. inr (
-        same_is (stage_at p s).branch c (and_left (same_branch (stage_at p s).branch c) _ k),
-        eqb-true _ _ (and_right (same_branch (stage_at p s).branch c) _ k),
-      ))
+      (λ k. inr (same_is (stage_at p s).branch c (and_left (same_branch (stage_at p s).branch c) _ k), eqb-true _ _ (and_right (same_branch (stage_at p s).branch c) _ k)))
 
   entry : (c : Branch) (env : List ℕ) (r : ℕ) → c.fork < length p.stages → In p c (next_of p c.fork env) → In p c r → next_of p c.fork env ≤ r
   entry c env r low i j =
-      by_or
-      ((c.fork == c.fork) && all_below (λ r. not (same_branch (stage_at p r).branch c) || nat_le (next_of p c.fork env) r) (length p.stages)) _ _
-      (entered c c.fork env low i)
-      (λ k. leb-true _ _
-      (where_true (same_branch (stage_at p r).branch c) _
-      (below_at (λ r. not (same_branch (stage_at p r).branch c) || nat_le (next_of p c.fork env) r)
-      (length p.stages) r (and_right (c.fork == c.fork) _ k) (in_low c r j))
-      (is_same (stage_at p r).branch c j)))
-      (λ k. absurd
-      (in_not_trunk p c.fork c (same_is (stage_at p c.fork).branch c (and_left (same_branch (stage_at p c.fork).branch c) _ k))
-      (fork_trunk c (next_of p c.fork env) i).0))
+      by_or ((c.fork == c.fork) && all_below (λ r. not (same_branch (stage_at p r).branch c) || nat_le (next_of p c.fork env) r) (length p.stages)) _ _ (entered c c.fork env low i)
+      (λ k. leb-true _ _ (where_true (same_branch (stage_at p r).branch c) _ (below_at (λ r. not (same_branch (stage_at p r).branch c) || nat_le (next_of p c.fork env) r) (length p.stages) r (and_right (c.fork == c.fork) _ k) (in_low c r j)) (is_same (stage_at p r).branch c j)))
+      (λ k. absurd (in_not_trunk p c.fork c (same_is (stage_at p c.fork).branch c (and_left (same_branch (stage_at p c.fork).branch c) _ k)) (fork_trunk c (next_of p c.fork env) i).0))
 
   side : (c : Branch) (env : List ℕ) → c.fork < length p.stages → In p c (next_of p c.fork env) → goes_by p c env ≡ true
-  side c env low i =
-      at (stage_at p c.fork).next refl
-      (and_right (branch_passes p c.fork (stage_at p c.fork).branch) _
-      (and_right (list_all (next_passes p c.fork) (nexts p c.fork)) _
-      (and_right (leads_in (length p.stages) (stage_at p c.fork).next) _ (stage_ok c.fork low))))
+  side c env low i = at (stage_at p c.fork).next refl (and_right (branch_passes p c.fork (stage_at p c.fork).branch) _ (and_right (list_all (next_passes p c.fork) (nexts p c.fork)) _ (and_right (leads_in (length p.stages) (stage_at p c.fork).next) _ (stage_ok c.fork low))))
     where
       there : (n : Next) → (stage_at p c.fork).next ≡ n → In p c (stage_or (length p.stages) (goes_to n env))
       there n e = subst (λ n. In p c (stage_or (length p.stages) (goes_to n env))) e i
@@ -330,31 +266,25 @@ module _ (p : Pipe) (h : passes_tests p ≡ true) where
         where
           never : not (c.fork == c.fork) ≡ true → ⊥
           never l = clash (sym (ap not (eq-eqb c.fork c.fork refl)) ∙ l)
-      at (Forks x a b) e k =
-          ap (λ n. on_side n c.first env) e ∙ pick (slice_index env x == 1) refl (there (Forks x a b) e) (subst (λ n. side_passes p c.fork n ≡ true) e k)
+      at (Forks x a b) e k = ap (λ n. on_side n c.first env) e ∙ pick (slice_index env x == 1) refl (there (Forks x a b) e) (subst (λ n. side_passes p c.fork n ≡ true) e k)
         where
           pick : (t : Bool) → (slice_index env x == 1) ≡ t → In p c (if slice_index env x == 1 then a else b)
               → (side_is c.fork true (stage_at p a).branch && side_is c.fork false (stage_at p b).branch) ≡ true
               → (if c.first then slice_index env x == 1 else not (slice_index env x == 1)) ≡ true
           pick true f j l =
-              ap₂ (λ u v. if u then v else not v)
-              (side_of true a (subst (λ t. In p c (if t then a else b)) f j) (and_left (side_is c.fork true (stage_at p a).branch) _ l)) f
+              ap₂ (λ u v. if u then v else not v) (side_of true a (subst (λ t. In p c (if t then a else b)) f j) (and_left (side_is c.fork true (stage_at p a).branch) _ l)) f
           pick false f j l =
-              ap₂ (λ u v. if u then v else not v)
-              (side_of false b (subst (λ t. In p c (if t then a else b)) f j) (and_right (side_is c.fork true (stage_at p a).branch) _ l)) f
+              ap₂ (λ u v. if u then v else not v) (side_of false b (subst (λ t. In p c (if t then a else b)) f j) (and_right (side_is c.fork true (stage_at p a).branch) _ l)) f
 
   merge : (s : ℕ) (env : List ℕ) (f : ℕ) → s < length p.stages → (stage_at p (next_of p s env)).merges ≡ Some f
       → Trunk p (next_of p s env) × (((s ≡ f) × Trunk p s) ⊎ ((c : Branch) × In p c s × (c.fork ≡ f) × ((b : ℕ) → In p c b → b ≤ s)))
   merge s env f low e =
       let k : merge_sound p s (Some f) (next_of p s env) ≡ true =
-      subst (λ o. merge_sound p s o (next_of p s env) ≡ true) e
-      (next_in p (λ n. merge_sound p s (stage_at p n).merges n) s env
-      (below_at (λ s. list_all (λ n. merge_sound p s (stage_at p n).merges n) (nexts p s)) (length p.stages) s all.1.1.1.1.1.1.1.1.1.1.1.1.0 low)) in (
+      subst (λ o. merge_sound p s o (next_of p s env) ≡ true) e (next_in p (λ n. merge_sound p s (stage_at p n).merges n) s env (below_at (λ s. list_all (λ n. merge_sound p s (stage_at p n).merges n) (nexts p s)) (length p.stages) s all.1.1.1.1.1.1.1.1.1.1.1.1.0 low)) in (
         trunk_is p (next_of p s env) (and_left (is_trunk p (next_of p s env)) _ k),
         by_or ((s == f) && is_trunk p s) (is_last_of p s f (stage_at p s).branch) _ (and_right (is_trunk p (next_of p s env)) _ k)
             (λ t. inl (eqb-true _ _ (and_left (s == f) _ t), trunk_is p s (and_right (s == f) _ t)))
-            (λ t. by_branch (stage_at p s).branch _ (λ i. absurd (clash (subst (λ o. is_last_of p s f o ≡ true) i t)))
-            (λ c i. inr (last_of c i (subst (λ o. is_last_of p s f o ≡ true) i t)))),
+            (λ t. by_branch (stage_at p s).branch _ (λ i. absurd (clash (subst (λ o. is_last_of p s f o ≡ true) i t))) (λ c i. inr (last_of c i (subst (λ o. is_last_of p s f o ≡ true) i t)))),
       )
     where
       last_of : (c : Branch) → In p c s → is_last_of p s f (Some c) ≡ true → (c : Branch) × In p c s × (c.fork ≡ f) × ((b : ℕ) → In p c b → b ≤ s)
@@ -362,10 +292,7 @@ module _ (p : Pipe) (h : passes_tests p ≡ true) where
         c,
         i,
         eqb-true _ _ (and_left (c.fork == f) _ t),
-        λ b j. leb-true _ _
-            (where_true (same_branch (stage_at p b).branch c) _
-            (below_at (λ b. not (same_branch (stage_at p b).branch c) || nat_le b s) (length p.stages) b (and_right (c.fork == f) _ t) (in_low c b j))
-            (is_same (stage_at p b).branch c j)),
+        λ b j. leb-true _ _ (where_true (same_branch (stage_at p b).branch c) _ (below_at (λ b. not (same_branch (stage_at p b).branch c) || nat_le b s) (length p.stages) b (and_right (c.fork == f) _ t) (in_low c b j)) (is_same (stage_at p b).branch c j)),
       )
 
   branches : Branches p
@@ -385,17 +312,13 @@ module _ (p : Pipe) (h : passes_tests p ≡ true) where
 
   trunk_holds : (s : ℕ) (c : Branch) → In p c s → none_of trunk_only (in_stage s p.stmts) ≡ true
   trunk_holds s c i =
-      by_or (is_trunk p s)
-      (none_of trunk_only (in_stage s p.stmts)) _
-      (below_at (λ s. is_trunk p s || none_of trunk_only (in_stage s p.stmts)) (length p.stages) s all.1.1.1.1.0 (in_low c s i))
+      by_or (is_trunk p s) (none_of trunk_only (in_stage s p.stmts)) _ (below_at (λ s. is_trunk p s || none_of trunk_only (in_stage s p.stmts)) (length p.stages) s all.1.1.1.1.0 (in_low c s i))
       (λ t. absurd (in_not_trunk p s c i (trunk_is p s t))) (λ k. k)
 
   -- a fork before or behind the verifies' stage
   whole_at : (v b : ℕ) (c : Branch) → verify_stage p.stmts ≡ Some v → In p c b → branch_whole p v b (Some c) ≡ true
   whole_at v b c e j =
-      subst (λ o. branch_whole p v b o ≡ true) j
-      (below_at (λ b. branch_whole p v b (stage_at p b).branch)
-      (length p.stages) b (subst (λ o. forks_whole p o ≡ true) e all.1.1.1.1.1.1.1.1.1.1.1.1.1.0) (in_low c b j))
+      subst (λ o. branch_whole p v b o ≡ true) j (below_at (λ b. branch_whole p v b (stage_at p b).branch) (length p.stages) b (subst (λ o. forks_whole p o ≡ true) e all.1.1.1.1.1.1.1.1.1.1.1.1.1.0) (in_low c b j))
 
   of_fork : {R : Type 0} → (f b : ℕ) → is_inside p f b ≡ true → ((c : Branch) → In p c b → c.fork ≡ f → R) → R
   of_fork f b i go =
@@ -404,14 +327,11 @@ module _ (p : Pipe) (h : passes_tests p ≡ true) where
 
   merged : (v f b : ℕ) → verify_stage p.stmts ≡ Some v → is_inside p f b ≡ true → merges_by p f (Some v) ≡ true → b < v
   merged v f b e i m =
-      of_fork f b i
-      (λ c j k. ltb-true b v (sym (ap (λ t. if t then nat_lt b v else nat_le v c.fork) (ap (λ g. merges_by p g (Some v)) k ∙ m)) ∙ whole_at v b c e j))
+      of_fork f b i (λ c j k. ltb-true b v (sym (ap (λ t. if t then nat_lt b v else nat_le v c.fork) (ap (λ g. merges_by p g (Some v)) k ∙ m)) ∙ whole_at v b c e j))
 
   unmerged : (v f b : ℕ) → verify_stage p.stmts ≡ Some v → is_inside p f b ≡ true → merges_by p f (Some v) ≡ false → v ≤ f
   unmerged v f b e i m =
-      of_fork f b i
-      (λ c j k. subst (λ g. v ≤ g) k
-      (leb-true v c.fork (sym (ap (λ t. if t then nat_lt b v else nat_le v c.fork) (ap (λ g. merges_by p g (Some v)) k ∙ m)) ∙ whole_at v b c e j)))
+      of_fork f b i (λ c j k. subst (λ g. v ≤ g) k (leb-true v c.fork (sym (ap (λ t. if t then nat_lt b v else nat_le v c.fork) (ap (λ g. merges_by p g (Some v)) k ∙ m)) ∙ whole_at v b c e j)))
 
   zeros : (n : ℕ) → length {A = ℕ} (replicate n 0) ≡ n
   zeros zero = refl
@@ -421,8 +341,7 @@ module _ (p : Pipe) (h : passes_tests p ≡ true) where
   start_long = zeros (p.vars - 0) ∙ (let e : p.vars - 0 ≡ p.vars = omega arith in e)
 
   agrees : (path : List ℕ) → Agree (all_guards p) (picks path (all_guards p) (start_env p [])) path
-  agrees path =
-      agree_picks path (all_guards p) (start_env p []) (subst (λ n. list_all (λ g. nat_lt g n) (all_guards p) ≡ true) (sym start_long) all.1.1.1.1.1.1.0)
+  agrees path = agree_picks path (all_guards p) (start_env p []) (subst (λ n. list_all (λ g. nat_lt g n) (all_guards p) ≡ true) (sym start_long) all.1.1.1.1.1.1.0)
 
   fork_guard : (s x a b : ℕ) → (stage_at p s).next ≡ Forks x a b → among x (all_guards p) ≡ true
   fork_guard s x a b e = among_append x (guard_vars p.stmts) (fork_guards p.stages) ∙ or_more (among x (guard_vars p.stmts)) (fork_among p.stages s x a b e)
@@ -433,10 +352,7 @@ module _ (p : Pipe) (h : passes_tests p ≡ true) where
       at : (n : Next) → (stage_at p s).next ≡ n → goes_to (stage_at p s).next (picks path (all_guards p) (start_env p [])) ≡ goes_to (stage_at p s).next path
       at Ends e = ap (λ n. goes_to n (picks path (all_guards p) (start_env p []))) e ∙ sym (ap (λ n. goes_to n path) e)
       at (Goes to) e = ap (λ n. goes_to n (picks path (all_guards p) (start_env p []))) e ∙ sym (ap (λ n. goes_to n path) e)
-      at (Forks x a b) e =
-          ap (λ n. goes_to n (picks path (all_guards p) (start_env p []))) e
-          ∙ ap (λ t. Some (if t then a else b)) (agrees path x (fork_guard s x a b e))
-          ∙ sym (ap (λ n. goes_to n path) e)
+      at (Forks x a b) e = ap (λ n. goes_to n (picks path (all_guards p) (start_env p []))) e ∙ ap (λ t. Some (if t then a else b)) (agrees path x (fork_guard s x a b e)) ∙ sym (ap (λ n. goes_to n path) e)
 
   visits_same : (path : List ℕ) (s : ℕ) → visits_stage p (picks path (all_guards p) (start_env p [])) s ≡ visits_stage p path s
   visits_same path s = at (stage_at p s).branch
@@ -445,19 +361,14 @@ module _ (p : Pipe) (h : passes_tests p ≡ true) where
           → on_side (stage_at p c.fork).next c.first (picks path (all_guards p) (start_env p [])) ≡ on_side (stage_at p c.fork).next c.first path
       on c Ends e = ap (λ n. on_side n c.first (picks path (all_guards p) (start_env p []))) e ∙ sym (ap (λ n. on_side n c.first path) e)
       on c (Goes to) e = ap (λ n. on_side n c.first (picks path (all_guards p) (start_env p []))) e ∙ sym (ap (λ n. on_side n c.first path) e)
-      on c (Forks x a b) e =
-          ap (λ n. on_side n c.first (picks path (all_guards p) (start_env p []))) e
-          ∙ ap (λ t. if c.first then t else not t) (agrees path x (fork_guard c.fork x a b e))
-          ∙ sym (ap (λ n. on_side n c.first path) e)
+      on c (Forks x a b) e = ap (λ n. on_side n c.first (picks path (all_guards p) (start_env p []))) e ∙ ap (λ t. if c.first then t else not t) (agrees path x (fork_guard c.fork x a b e)) ∙ sym (ap (λ n. on_side n c.first path) e)
 
       at : (o : Option Branch) → comes_by p (picks path (all_guards p) (start_env p [])) o ≡ comes_by p path o
       at None = refl
       at (Some c) = on c (stage_at p c.fork).next refl
 
   path_same : (path : List ℕ) → onpath (picks path (all_guards p) (start_env p [])) p.stmts ≡ onpath path p.stmts
-  path_same path =
-      path_agree (all_guards p) (picks path (all_guards p) (start_env p [])) path p.stmts (agrees path)
-      (λ g k. among_append g (guard_vars p.stmts) (fork_guards p.stages) ∙ ap (λ b. b || among g (fork_guards p.stages)) k)
+  path_same path = path_agree (all_guards p) (picks path (all_guards p) (start_env p [])) path p.stmts (agrees path) (λ g k. among_append g (guard_vars p.stmts) (fork_guards p.stages) ∙ ap (λ b. b || among g (fork_guards p.stages)) k)
 
   skips : (path : List ℕ) (s : ℕ) → s < length p.stages → visits_stage p path s ≡ true
       → before (next_of p s path) (onpath path p.stmts) ≡ before (suc s) (onpath path p.stmts)
@@ -465,12 +376,7 @@ module _ (p : Pipe) (h : passes_tests p ≡ true) where
       let t = all_picks (skip_passes p) path (all_guards p) (start_env p []) all.1.1.1.1.1.1.1.0 in
       let k : none_between (suc s) (next_of p s path) (onpath path p.stmts) ≡ true =
       (λ i. none_between (suc s) (sym (next_same path s) i) (sym (path_same path) i))
-      ∙ where_true (visits_stage p (picks path (all_guards p) (start_env p [])) s) _
-      (below_at
-      (λ s. not (visits_stage p (picks path (all_guards p) (start_env p [])) s)
-      || none_between (suc s) (next_of p s (picks path (all_guards p) (start_env p []))) (onpath (picks path (all_guards p) (start_env p [])) p.stmts))
-      (length p.stages) s t low)
-      (visits_same path s ∙ on) in
+      ∙ where_true (visits_stage p (picks path (all_guards p) (start_env p [])) s) _ (below_at (λ s. not (visits_stage p (picks path (all_guards p) (start_env p [])) s) || none_between (suc s) (next_of p s (picks path (all_guards p) (start_env p []))) (onpath (picks path (all_guards p) (start_env p [])) p.stmts)) (length p.stages) s t low) (visits_same path s ∙ on) in
       between_none (suc s) (next_of p s path) (onpath path p.stmts) (up s path low) k
 
   -- DELAYED READS
@@ -480,8 +386,7 @@ module _ (p : Pipe) (h : passes_tests p ≡ true) where
   none_past s [] low k = refl
   none_past s (x ∷ xs) low k =
       let i : x.stage < length p.stages = ltb-true _ _ (and_left (nat_lt x.stage (length p.stages)) _ k) in
-      ap (λ b. cond b (x ∷ in_stage s xs) (in_stage s xs)) (ne_eqb x.stage s (λ e. absurd (omega arith)))
-      ∙ none_past s xs low (and_right (nat_lt x.stage (length p.stages)) _ k)
+      ap (λ b. cond b (x ∷ in_stage s xs) (in_stage s xs)) (ne_eqb x.stage s (λ e. absurd (omega arith))) ∙ none_past s xs low (and_right (nat_lt x.stage (length p.stages)) _ k)
 
   fetch_blind : (s : ℕ) (env env' : List ℕ) → DifferIn (in_stage s p.stmts) env env'
       → onpath env' (before (next_of p s env) p.stmts) ≡ onpath env (before (next_of p s env) p.stmts)
@@ -490,16 +395,11 @@ module _ (p : Pipe) (h : passes_tests p ≡ true) where
       (λ i.
       let k : none_hangs (picks env (all_guards p) (start_env p [])) (in_stage s p.stmts) (before (next_of p s env) p.stmts) ≡ true =
       subst (λ n. none_hangs (picks env (all_guards p) (start_env p [])) (in_stage s p.stmts) (before n p.stmts) ≡ true) (next_same env s)
-      (below_at
-      (λ s. none_hangs (picks env (all_guards p) (start_env p [])) (in_stage s p.stmts)
-      (before (next_of p s (picks env (all_guards p) (start_env p []))) p.stmts))
-      (length p.stages) s
+      (below_at (λ s. none_hangs (picks env (all_guards p) (start_env p [])) (in_stage s p.stmts) (before (next_of p s (picks env (all_guards p) (start_env p []))) p.stmts)) (length p.stages) s
       (all_picks (blind_passes p) env (all_guards p) (start_env p []) all.1.1.1.1.1.1.1.1.1.1.1.1.1.1.1.1.1.0) (ltb-true _ _ i)) in
       hangs_none (all_guards p) (picks env (all_guards p) (start_env p [])) env env' (in_stage s p.stmts) (before (next_of p s env) p.stmts) (agrees env)
-      (λ g j. among_append g (guard_vars p.stmts) (fork_guards p.stages)
-      ∙ ap (λ b. b || among g (fork_guards p.stages)) (before_among (next_of p s env) g p.stmts j)) d k)
-      (λ i. all_same env env' (before (next_of p s env) p.stmts)
-      (λ x. d x (ap (none_of (is_fetch_of x)) (none_past s p.stmts (ltb-false _ _ i) all.1.1.1.1.1.1.1.1.1.0))))
+      (λ g j. among_append g (guard_vars p.stmts) (fork_guards p.stages) ∙ ap (λ b. b || among g (fork_guards p.stages)) (before_among (next_of p s env) g p.stmts j)) d k)
+      (λ i. all_same env env' (before (next_of p s env) p.stmts) (λ x. d x (ap (none_of (is_fetch_of x)) (none_past s p.stmts (ltb-false _ _ i) all.1.1.1.1.1.1.1.1.1.0))))
 
   fetch_here : (s : ℕ) (gs : List Guard) (op : Op) → fetch_sound p s gs op ≡ true → FetchIf p (λ m. fetch_stage m p.stmts) s gs op
   fetch_here s gs (DelayedRead x m a) k =
@@ -532,11 +432,7 @@ module _ (p : Pipe) (h : passes_tests p ≡ true) where
     where
       at : (b : Bool) → (x.stage == s) ≡ b → AllFetches p (λ m. fetch_stage m p.stmts) s (in_stage s xs)
           → AllFetches p (λ m. fetch_stage m p.stmts) s (cond b (x ∷ in_stage s xs) (in_stage s xs))
-      at true e r = (
-        fetch_here s x.guards x.op
-            (subst (λ n. fetch_sound p n x.guards x.op ≡ true) (eqb-true x.stage s e) (and_left (fetch_sound p x.stage x.guards x.op) _ k)),
-        r,
-      )
+      at true e r = (fetch_here s x.guards x.op (subst (λ n. fetch_sound p n x.guards x.op ≡ true) (eqb-true x.stage s e) (and_left (fetch_sound p x.stage x.guards x.op) _ k)), r)
       at false e r = r
 
   in_each : (test : List Stmt → Bool) → test [] ≡ true
@@ -559,9 +455,7 @@ module _ (p : Pipe) (h : passes_tests p ≡ true) where
         inside = all.1.1.1.1.1.1.1.1.1.0;
         reserves = λ m. sym (all_looked (is_reserve m) (reserve_looked m) (reserve_stage p m) p.stmts) ∙ reserves (at_once p) (parts_paths (at_once p) all.0) m;
         verifies = λ v e. subst (λ o. verifies_at p o ≡ true) e all.1.1.1.1.1.1.1.1.1.1.1.1.1.1.0;
-        unreserved =
-            λ m past. sym (none_looked (is_reserve m) (reserve_looked m) p.stmts)
-            ∙ no_reserve m _ (looked_all p.stmts) (known (at_once p) (parts_paths (at_once p) all.0)) past;
+        unreserved = λ m past. sym (none_looked (is_reserve m) (reserve_looked m) p.stmts) ∙ no_reserve m _ (looked_all p.stmts) (known (at_once p) (parts_paths (at_once p) all.0)) past;
         unreleased = λ m past. let e : commit_stage p m ≡ length p.stages = commit_past (at_once p) (parts_paths (at_once p) all.0) m past in omega arith;
         guards_late = all.1.1.1.1.1.1.1.1.1.1.1.1.1.1.1.0;
         skips = skips;
@@ -573,9 +467,5 @@ module _ (p : Pipe) (h : passes_tests p ≡ true) where
         fetch_blind = fetch_blind;
         fetch_unseen = in_each is_unseen refl all.1.1.1.1.1.1.1.1.1.1.0;
         fetch_alone = in_each fetch_apart refl all.1.1.1.1.1.1.1.1.1.1.1.0;
-        fetch_inside =
-            λ s e. where_true (suc s == length p.stages) _
-            (below_at (λ s. not (suc s == length p.stages) || none_of is_fetch (in_stage s p.stmts))
-            (length p.stages) s all.1.1.1.1.1.1.1.1.1.1.1.1.1.1.1.1.0 (omega arith))
-            (eq-eqb _ _ e);
+        fetch_inside = λ s e. where_true (suc s == length p.stages) _ (below_at (λ s. not (suc s == length p.stages) || none_of is_fetch (in_stage s p.stmts)) (length p.stages) s all.1.1.1.1.1.1.1.1.1.1.1.1.1.1.1.1.0 (omega arith)) (eq-eqb _ _ e);
       }

@@ -28,8 +28,8 @@ clash : false ≡ true → ⊥
 clash k = cc
 
 -- the live threads after a cycle
-pub record Turned (p : Pipe) (acc : Course p) (asked' : List (Option ℕ)) (past' w : Writes) (v' : Marks)
-    (arrays : Arrays) (args : List ℕ) (ahead ahead' : List ℕ) (these : List Act) : Type 0 where
+pub record Turned (p : Pipe) (acc : Course p) (asked' : List (Option ℕ)) (past' w : Writes) (v' : Marks) (arrays : Arrays) (args : List ℕ)
+    (ahead ahead' : List ℕ) (these : List Act) : Type 0 where
   pub spots : List Spot
   pub strays : List Thread
   pub threads : survivors p these ≡ shown p arrays args spots ++ strays
@@ -41,17 +41,16 @@ pub record Turned (p : Pipe) (acc : Course p) (asked' : List (Option ℕ)) (past
 
 module _ (p : Pipe) (acc : Course p) where
   -- the threads that a stage's work leaves: itself in the next stage, and what it made
-  after_move : (arrays : Arrays) (args : List ℕ) (s : ℕ) (a : Act) (rest : List Act) → acc.on arrays args s
-      → s < length p.stages → a.moves ≡ true → a.now.stage ≡ s
-      → a.work ≡ stage_work p arrays args s → (c : Option (List ℕ)) → (stage_work p arrays args s).child ≡ c
-      → (f : Bool) → (stage_work p arrays args s).fails ≡ f
+  after_move : (arrays : Arrays) (args : List ℕ) (s : ℕ) (a : Act) (rest : List Act) → acc.on arrays args s → s < length p.stages → a.moves ≡ true
+      → a.now.stage ≡ s
+      → a.work ≡ stage_work p arrays args s → (c : Option (List ℕ)) → (stage_work p arrays args s).child ≡ c → (f : Bool)
+      → (stage_work p arrays args s).fails ≡ f
       → survivors p (a ∷ rest)
       ≡ (cond (nat_lt (next_at p arrays args s) (length p.stages)) (seat p arrays args (moved_spot p arrays args s) ∷ []) [])
       ++ (born_threads p c ++ cond f [] (survivors p rest))
   after_move arrays args s a rest on low goes is same c child f fails =
       ap
-      (λ b. cond b (moved_to (exit_of p a) a.work ++ (born_threads p a.work.child ++ (if a.work.fails then [] else survivors p rest)))
-      (a.now ∷ survivors p rest)) goes
+      (λ b. cond b (moved_to (exit_of p a) a.work ++ (born_threads p a.work.child ++ (if a.work.fails then [] else survivors p rest))) (a.now ∷ survivors p rest)) goes
       ∙ ap
       (λ n. moved_to (goes_to (stage_at p n).next a.work.env) a.work ++ (born_threads p a.work.child ++ (if a.work.fails then [] else survivors p rest))) is
       ∙ ap (λ l. l ++ (born_threads p a.work.child ++ (if a.work.fails then [] else survivors p rest))) (moved_thread p acc arrays args s a.work on low same)
@@ -74,8 +73,8 @@ module _ (p : Pipe) (acc : Course p) where
       ∙ sym (append-nil (shown p arrays args (sp ∷ start_spot p (thread p arrays args).next ∷ [])))
 
   -- the threads behind the last one on its turn
-  stray_rest : (st : State) (bits : List Bool) (arrays : Arrays) (args : List ℕ) (older : List Act) (s s' : ℕ) (a : Act)
-      (strays : List Thread) (c : Option (List ℕ))
+  stray_rest : (st : State) (bits : List Bool) (arrays : Arrays) (args : List ℕ) (older : List Act) (s s' : ℕ) (a : Act) (strays : List Thread)
+      (c : Option (List ℕ))
       → (so_far p arrays args s).child ≡ c
       → right_guess c (thread p arrays args).next ≡ false → Last p acc.stray acc.made s c strays → s ≤ s' → a.before.stage ≡ s → (a.moves ≡ true → s < s')
       → StraysAfter p acc.stray acc.made s' (nobody strays) (acts p st bits (a ∷ older) strays)
@@ -90,8 +89,8 @@ module _ (p : Pipe) (acc : Course p) where
         enter = enter_next p older a s s' is moved;
         grows = up;
         unclear =
-            λ r k _. ap₂ (λ x y. (x || y) && barrier_clear (Some acc.v) r (befores older))
-            (ap (λ n. nat_le n r) is ∙ above s r k) (ap (nat_lt acc.v) is ∙ below s acc.v w.0);
+            λ r k _. ap₂ (λ x y. (x || y) && barrier_clear (Some acc.v) r (befores older)) (ap (λ n. nat_le n r) is ∙ above s r k)
+            (ap (nat_lt acc.v) is ∙ below s acc.v w.0);
       }) l
     where
       above : (n r : ℕ) → r < n → nat_le n r ≡ false
@@ -114,18 +113,16 @@ module _ (p : Pipe) (acc : Course p) where
   commit_ahead m ahead s u f e = f (subst (λ n. AllUnder p ahead n) e u)
 
   -- commits of m by a thread and by those behind it
-  quiet_more : (m : ℕ) (a : Act) (rest : List Act) (ahead : List ℕ) (s : ℕ) → AllUnder p ahead s
-      → (s ≢ commit_stage p m → of_mem m a.work.commits ≡ []) → (AllUnder p ahead (commit_stage p m) → ⊥)
-      → of_mem m (commits_of rest) ≡ [] → of_mem m (commits_of (a ∷ rest)) ≡ []
+  quiet_more : (m : ℕ) (a : Act) (rest : List Act) (ahead : List ℕ) (s : ℕ) → AllUnder p ahead s → (s ≢ commit_stage p m → of_mem m a.work.commits ≡ [])
+      → (AllUnder p ahead (commit_stage p m) → ⊥) → of_mem m (commits_of rest) ≡ [] → of_mem m (commits_of (a ∷ rest)) ≡ []
   quiet_more m a rest ahead s u f g k = moved_quiet m a.moves a.work.commits (commits_of rest) (f (commit_ahead m ahead s u g)) k
 
   -- who stands no later than the releases of m keeps those behind it from them
   not_behind : (m s : ℕ) (ahead : List ℕ) → s ≤ commit_stage p m → AllUnder p (s ∷ ahead) (commit_stage p m) → ⊥
   not_behind m s ahead c u = let i : commit_stage p m < s = u.0.below (commit_stage p m) (acc.graph.trunk_commit m) (le_refl _) in omega arith
 
-  ended_moves : (arrays : Arrays) (args : List ℕ) (s : ℕ) (a : Act) (rest : List Act) (sps : List Spot)
-      → s < length p.stages → a.moves ≡ true → a.now.stage ≡ s → a.work ≡ stage_work p arrays args s
-      → ends_one p rest ≡ false
+  ended_moves : (arrays : Arrays) (args : List ℕ) (s : ℕ) (a : Act) (rest : List Act) (sps : List Spot) → s < length p.stages → a.moves ≡ true
+      → a.now.stage ≡ s → a.work ≡ stage_work p arrays args s → ends_one p rest ≡ false
       → ends_one p (a ∷ rest) ≡ past_last p (moved_spot p arrays args s ∷ sps)
   ended_moves arrays args s a rest sps low goes is same e =
       ap (λ c. (c && is_none (exit_of p a)) || ends_one p rest) goes
@@ -135,22 +132,21 @@ module _ (p : Pipe) (acc : Course p) where
       ∙ or-false (not (nat_lt (next_at p arrays args s) (length p.stages)))
 
   -- what is known where the last thread on its turn moves
-  pub record Moving (asked' : List (Option ℕ)) (past' w : Writes) (v' : Marks) (arrays : Arrays) (args : List ℕ)
-      (ahead ahead' : List ℕ) (s : ℕ) (strays : List Thread) (a : Act) (rest : List Act) : Type 0 where
+  pub record Moving (asked' : List (Option ℕ)) (past' w : Writes) (v' : Marks) (arrays : Arrays) (args : List ℕ) (ahead ahead' : List ℕ) (s : ℕ)
+      (strays : List Thread) (a : Act) (rest : List Act) : Type 0 where
     pub low : s < length p.stages
     pub on : acc.on arrays args s
     pub goes : a.moves ≡ true
     pub is : a.now.stage ≡ s
     pub same : a.work ≡ stage_work p arrays args s
-    pub head : (last' : Bool)
-        → right_guess (so_far p arrays args (next_at p arrays args s)).child (thread p arrays args).next ≡ not last'
+    pub head : (last' : Bool) → right_guess (so_far p arrays args (next_at p arrays args s)).child (thread p arrays args).next ≡ not last'
         → Here p acc asked' past' w v' arrays args ahead' (moved_spot p arrays args s) last'
     pub total : (m : ℕ) → w m ++ of_mem m (thread p arrays args).writes ≡ past' m ++ strips m (v' m ++ marks p arrays args (next_at p arrays args s) m)
     pub after : StraysAfter p acc.stray acc.made (next_at p arrays args s) (nobody strays) rest
     pub quiet : (m : ℕ) → (AllUnder p ahead (commit_stage p m) → ⊥) → of_mem m (commits_of (a ∷ rest)) ≡ []
 
-  module _ (asked' : List (Option ℕ)) (past' w : Writes) (v' : Marks) (arrays : Arrays) (args : List ℕ)
-      (ahead ahead' : List ℕ) (s : ℕ) (strays : List Thread) (a : Act) (rest : List Act)
+  module _ (asked' : List (Option ℕ)) (past' w : Writes) (v' : Marks) (arrays : Arrays) (args : List ℕ) (ahead ahead' : List ℕ) (s : ℕ) (strays : List Thread)
+      (a : Act) (rest : List Act)
       (k : Moving asked' past' w v' arrays args ahead ahead' s strays a rest) where
     -- one thread is left on its turn, and these behind it
     one_left : (strays' : List Thread) → right_guess (so_far p arrays args (next_at p arrays args s)).child (thread p arrays args).next ≡ false
@@ -174,8 +170,7 @@ module _ (p : Pipe) (acc : Course p) where
         }
 
     -- the next turn begins behind it
-    two_left : (x : List ℕ)
-        → right_guess (so_far p arrays args (next_at p arrays args s)).child (thread p arrays args).next ≡ true
+    two_left : (x : List ℕ) → right_guess (so_far p arrays args (next_at p arrays args s)).child (thread p arrays args).next ≡ true
         → x ≡ (thread p arrays args).next
         → survivors p (a ∷ rest)
         ≡ (cond (nat_lt (next_at p arrays args s) (length p.stages)) (seat p arrays args (moved_spot p arrays args s) ∷ []) []) ++ (fresh p x ∷ [])
@@ -205,8 +200,8 @@ module _ (p : Pipe) (acc : Course p) where
         le_of_zero n = omega arith
 
     -- the last thread on its turn, where it moves; c is what it had made, n what it makes
-    last_moves : (strays ≡ [] → rest ≡ []) → (c : Option (List ℕ)) → (so_far p arrays args s).child ≡ c
-        → right_guess c (thread p arrays args).next ≡ false → Last p acc.stray acc.made s c strays
+    last_moves : (strays ≡ [] → rest ≡ []) → (c : Option (List ℕ)) → (so_far p arrays args s).child ≡ c → right_guess c (thread p arrays args).next ≡ false
+        → Last p acc.stray acc.made s c strays
         → (n : Option (List ℕ)) → (stage_work p arrays args s).child ≡ n → Turned p acc asked' past' w v' arrays args ahead ahead' (a ∷ rest)
     last_moves none None e g l None i =
         one_left [] (ap (λ c. right_guess c (thread p arrays args).next) made)
@@ -261,15 +256,14 @@ module _ (p : Pipe) (acc : Course p) where
         exact i j = omega arith
 
 -- all live threads from one on
-module _ (p : Pipe) (acc : Course p) (image : Arrays) (st : State) (bits : List Bool) (past past' : Writes)
-    (all : List Ask) (rows : RowsAt image past st.arrays) (known : length st.asked ≡ length p.mems) where
+module _ (p : Pipe) (acc : Course p) (image : Arrays) (st : State) (bits : List Bool) (past past' : Writes) (all : List Ask)
+    (rows : RowsAt image past st.arrays) (known : length st.asked ≡ length p.mems) where
   module _ (older : List Act) (v v' : Marks) (d w : Writes) (asks : ℕ → Option ℕ) (arrays : Arrays) (args : List ℕ) (ahead ahead' : List ℕ) (sp : Spot)
       (rows' : RowsAt image w arrays) (b : Behind p acc older v v' d asks ahead ahead') where
     -- the last thread on its turn, where it stands
     last_stands : (strays : List Thread) (h : Here p acc st.asked past w v arrays args ahead sp true)
         → ((m : ℕ) → w m ++ of_mem m (thread p arrays args).writes ≡ past m ++ strips m (v m ++ marks p arrays args sp.stage m))
-        → Now past past' d (acts p st bits older (seat p arrays args sp ∷ strays))
-        → NowAsks all asks (acts p st bits older (seat p arrays args sp ∷ strays))
+        → Now past past' d (acts p st bits older (seat p arrays args sp ∷ strays)) → NowAsks all asks (acts p st bits older (seat p arrays args sp ∷ strays))
         → Last p acc.stray acc.made sp.stage (so_far p arrays args sp.stage).child strays
         → (act p st bits older (seat p arrays args sp)).moves ≡ false
         → Turned p acc (next_asks p bits all 0 st.asked) past' w v' arrays args ahead ahead' (acts p st bits older (seat p arrays args sp ∷ strays))
@@ -277,9 +271,8 @@ module _ (p : Pipe) (acc : Course p) (image : Arrays) (st : State) (bits : List 
         let a : Act = act p st bits older (seat p arrays args sp) in
         let rest : List Act = acts p st bits (act p st bits older (seat p arrays args sp) ∷ older) strays in
         let after : StraysAfter p acc.stray acc.made sp.stage (nobody strays) (acts p st bits (act p st bits older (seat p arrays args sp) ∷ older) strays) =
-        stray_rest p acc st bits arrays args older sp.stage sp.stage
-        (act p st bits older (seat p arrays args sp)) strays _ refl h.linked l (le_refl sp.stage) refl
-        (λ k. absurd (clash (sym stays ∙ k))) in
+        stray_rest p acc st bits arrays args older sp.stage sp.stage (act p st bits older (seat p arrays args sp)) strays _ refl h.linked l
+        (le_refl sp.stage) refl (λ k. absurd (clash (sym stays ∙ k))) in
         let quiet : (m : ℕ) → of_mem m (commits_of (acts p st bits (act p st bits older (seat p arrays args sp) ∷ older) strays)) ≡ [] =
         λ m. ap (of_mem m) after.commits in
         let low : sp.stage < length p.stages =
@@ -289,8 +282,7 @@ module _ (p : Pipe) (acc : Course p) (image : Arrays) (st : State) (bits : List 
           strays = survivors p (acts p st bits (act p st bits older (seat p arrays args sp) ∷ older) strays);
           threads =
               ap
-              (λ c. cond c (moved_to (exit_of p a) a.work ++ (born_threads p a.work.child ++ (if a.work.fails then [] else survivors p rest)))
-              (a.now ∷ survivors p rest)) stays
+              (λ c. cond c (moved_to (exit_of p a) a.work ++ (born_threads p a.work.child ++ (if a.work.fails then [] else survivors p rest))) (a.now ∷ survivors p rest)) stays
               ∙ ap (λ t. t ∷ survivors p rest) (now_seat p st bits arrays args sp)
               ∙ ap (λ c. (cond c (seat p arrays args (now_spot p st bits sp) ∷ []) [] ++ []) ++ survivors p rest) (sym (lt-ltb sp.stage (length p.stages) low));
           standing = (
@@ -299,8 +291,7 @@ module _ (p : Pipe) (acc : Course p) (image : Arrays) (st : State) (bits : List 
             λ m. words_step _ (past m) (past' m) (strips m (v m ++ marks p arrays args sp.stage m)) (d m ++ [])
                 (strips m (v' m ++ marks p arrays args sp.stage m)) (of_mem m (commits_of rest)) (total m)
                 (later_strips m _ (d m ++ []) _
-                (later_more m (v m) (d m) (v' m) (marks p arrays args sp.stage m) []
-                (marks p arrays args sp.stage m) (b.split m)
+                (later_more m (v m) (d m) (v' m) (marks p arrays args sp.stage m) [] (marks p arrays args sp.stage m) (b.split m)
                 (record {
                   front = [];
                   rest = marks p arrays args sp.stage m;
@@ -325,12 +316,10 @@ module _ (p : Pipe) (acc : Course p) (image : Arrays) (st : State) (bits : List 
 
     -- where a thread stands and others on their turns are behind it
     more_stands : (ts : List Thread) (h : Here p acc st.asked past w v arrays args ahead sp false)
-        → Now past past' d (acts p st bits older (seat p arrays args sp ∷ ts))
-        → NowAsks all asks (acts p st bits older (seat p arrays args sp ∷ ts))
+        → Now past past' d (acts p st bits older (seat p arrays args sp ∷ ts)) → NowAsks all asks (acts p st bits older (seat p arrays args sp ∷ ts))
         → (act p st bits older (seat p arrays args sp)).moves ≡ false
         → Turned p acc (next_asks p bits all 0 st.asked) past' (λ m. w m ++ of_mem m (thread p arrays args).writes)
-        (λ m. v' m ++ marks p arrays args sp.stage m)
-        (thread p arrays args).arrays (thread p arrays args).next (sp.stage ∷ ahead) (sp.stage ∷ ahead')
+        (λ m. v' m ++ marks p arrays args sp.stage m) (thread p arrays args).arrays (thread p arrays args).next (sp.stage ∷ ahead) (sp.stage ∷ ahead')
         (acts p st bits (act p st bits older (seat p arrays args sp) ∷ older) ts)
         → Turned p acc (next_asks p bits all 0 st.asked) past' w v' arrays args ahead ahead' (acts p st bits older (seat p arrays args sp ∷ ts))
     more_stands ts h now nowa stays t =
@@ -343,8 +332,7 @@ module _ (p : Pipe) (acc : Course p) (image : Arrays) (st : State) (bits : List 
           strays = t.strays;
           threads =
               ap
-              (λ c. cond c (moved_to (exit_of p a) a.work ++ (born_threads p a.work.child ++ (if a.work.fails then [] else survivors p rest)))
-              (a.now ∷ survivors p rest)) stays
+              (λ c. cond c (moved_to (exit_of p a) a.work ++ (born_threads p a.work.child ++ (if a.work.fails then [] else survivors p rest))) (a.now ∷ survivors p rest)) stays
               ∙ ap₂ (λ x xs. x ∷ xs) (now_seat p st bits arrays args sp) t.threads
               ∙ ap
               (λ c.
@@ -361,19 +349,16 @@ module _ (p : Pipe) (acc : Course p) (image : Arrays) (st : State) (bits : List 
           some = refl;
           ended =
               ap (λ c. (c && is_none (exit_of p a)) || ends_one p rest) stays ∙ t.ended
-              ∙ none_past p acc _ past' _ _ _ _ sp.stage ahead' t.spots (le_of_lt low) t.standing
-              ∙ ap not (sym (lt-ltb sp.stage (length p.stages) low));
+              ∙ none_past p acc _ past' _ _ _ _ sp.stage ahead' t.spots (le_of_lt low) t.standing ∙ ap not (sym (lt-ltb sp.stage (length p.stages) low));
           quiet = λ m c. ap (λ t. of_mem m (cond t (a.work.commits ++ commits_of rest) (commits_of rest))) stays ∙ t.quiet m (λ u. c u.1);
         }
 
     -- and where it moves
     more_moves : (ts : List Thread) (h : Here p acc st.asked past w v arrays args ahead sp false)
-        → Now past past' d (acts p st bits older (seat p arrays args sp ∷ ts))
-        → NowAsks all asks (acts p st bits older (seat p arrays args sp ∷ ts))
+        → Now past past' d (acts p st bits older (seat p arrays args sp ∷ ts)) → NowAsks all asks (acts p st bits older (seat p arrays args sp ∷ ts))
         → (act p st bits older (seat p arrays args sp)).moves ≡ true
         → Turned p acc (next_asks p bits all 0 st.asked) past' (λ m. w m ++ of_mem m (thread p arrays args).writes)
-        (λ m. v' m ++ marks p arrays args (next_at p arrays args sp.stage) m)
-        (thread p arrays args).arrays (thread p arrays args).next (sp.stage ∷ ahead)
+        (λ m. v' m ++ marks p arrays args (next_at p arrays args sp.stage) m) (thread p arrays args).arrays (thread p arrays args).next (sp.stage ∷ ahead)
         (next_at p arrays args sp.stage ∷ ahead')
         (acts p st bits (act p st bits older (seat p arrays args sp) ∷ older) ts)
         → Turned p acc (next_asks p bits all 0 st.asked) past' w v' arrays args ahead ahead' (acts p st bits older (seat p arrays args sp ∷ ts))
@@ -421,8 +406,7 @@ module _ (p : Pipe) (acc : Course p) (image : Arrays) (st : State) (bits : List 
     -- the last one, where it moves
     last_goes : (strays : List Thread) (h : Here p acc st.asked past w v arrays args ahead sp true)
         → ((m : ℕ) → w m ++ of_mem m (thread p arrays args).writes ≡ past m ++ strips m (v m ++ marks p arrays args sp.stage m))
-        → Now past past' d (acts p st bits older (seat p arrays args sp ∷ strays))
-        → NowAsks all asks (acts p st bits older (seat p arrays args sp ∷ strays))
+        → Now past past' d (acts p st bits older (seat p arrays args sp ∷ strays)) → NowAsks all asks (acts p st bits older (seat p arrays args sp ∷ strays))
         → Last p acc.stray acc.made sp.stage (so_far p arrays args sp.stage).child strays
         → (act p st bits older (seat p arrays args sp)).moves ≡ true
         → Turned p acc (next_asks p bits all 0 st.asked) past' w v' arrays args ahead ahead' (acts p st bits older (seat p arrays args sp ∷ strays))
@@ -457,8 +441,7 @@ module _ (p : Pipe) (acc : Course p) (image : Arrays) (st : State) (bits : List 
           after = after;
           quiet =
               λ m c. quiet_more p acc m a rest ahead sp.stage h.under
-              (commits_quiet p acc image st bits past past' all rows known older v v' d w asks arrays args ahead ahead' sp true rows' b h goes m) c
-              (quiet m);
+              (commits_quiet p acc image st bits past past' all rows known older v v' d w asks arrays args ahead ahead' sp true rows' b h goes m) c (quiet m);
         })
         (λ k. ap (λ ts. acts p st bits (act p st bits older (seat p arrays args sp) ∷ older) ts) k)
         (so_far p arrays args sp.stage).child refl h.linked l (stage_work p arrays args sp.stage).child refl
@@ -486,8 +469,7 @@ module _ (p : Pipe) (acc : Course p) (image : Arrays) (st : State) (bits : List 
       let step = behind_moved p acc image st bits past past' all rows known older v v' d w asks arrays args ahead ahead' sp false rows' b h.0 e in
       more_moves older v v' d w asks arrays args ahead ahead' sp rows' b
       (seats p (thread p arrays args).arrays (thread p arrays args).next (r ∷ sps) ++ strays) h.0 now nowa e
-      (turned (act p st bits older (seat p arrays args sp) ∷ older) _ _ _
-      (λ m. w m ++ of_mem m (thread p arrays args).writes) _ (thread p arrays args).arrays
+      (turned (act p st bits older (seat p arrays args sp) ∷ older) _ _ _ (λ m. w m ++ of_mem m (thread p arrays args).writes) _ (thread p arrays args).arrays
       (thread p arrays args).next (sp.stage ∷ ahead)
       (next_at p arrays args sp.stage ∷ ahead') (r ∷ sps) strays
       (rows_next p acc image w arrays args rows') step.1 h.1 l refl
@@ -500,8 +482,7 @@ module _ (p : Pipe) (acc : Course p) (image : Arrays) (st : State) (bits : List 
       (λ e.
       more_stands older v v' d w asks arrays args ahead ahead' sp rows' b
       (seats p (thread p arrays args).arrays (thread p arrays args).next (r ∷ sps) ++ strays) h.0 now nowa e
-      (turned (act p st bits older (seat p arrays args sp) ∷ older) _ _ _
-      (λ m. w m ++ of_mem m (thread p arrays args).writes) _ (thread p arrays args).arrays
+      (turned (act p st bits older (seat p arrays args sp) ∷ older) _ _ _ (λ m. w m ++ of_mem m (thread p arrays args).writes) _ (thread p arrays args).arrays
       (thread p arrays args).next (sp.stage ∷ ahead)
       (sp.stage ∷ ahead') (r ∷ sps) strays
       (rows_next p acc image w arrays args rows')

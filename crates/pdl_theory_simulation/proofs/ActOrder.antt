@@ -1,20 +1,19 @@
 -- A cycle does the same whether the acts are listed by stages or by age: two threads whose order differs stand in two branches, where nothing depends on it.
-use Rattle.std.proofs.Common.{◌≡◌, refl, sym, ap, ap₂, ◌∙◌, subst, ℕ, suc, ◌≤◌, ◌<◌, ◌⊎◌, inl, inr, Bool, true, false, ◌&&◌, ◌||◌, not, List, [], ◌∷◌, ◌++◌, length, Option, Some, None, is_some, is_none, ◌==◌, nat_lt, cond, if◌then◌else◌, arith, ltb-false, le_refl}
+-- WHAT ORDER DOESN'T MATTER
+use Rattle.std.proofs.Common.{◌≡◌, refl, sym, ap, ap₂, ◌∙◌, subst, ℕ, suc, ◌≤◌, ◌<◌, ◌⊎◌, inl, inr, Bool, true, false, ◌&&◌, ◌||◌, List, [], ◌∷◌, ◌++◌, length, Option, Some, None, is_some, is_none, ◌==◌, nat_lt, cond, if◌then◌else◌, arith, ltb-false, le_refl}
 use Rattle.std.proofs.lemmas.Bool.{eqb-true, eqb-false}
-use Rattle.pdl_semantics.specs.Flat.{Arrays, Pipe, Branch, Mem, Op, ReserveWrite, Call, SpecCall, Verify, Stmt, all_hold}
+use Rattle.pdl_semantics.specs.Flat.{Arrays, Pipe, Branch, Mem}
 use Rattle.pdl_semantics.specs.Stages.{list_any, in_stage, stage_at, goes_to, is_branch_of}
-use Rattle.pdl_semantics.specs.Machine.{Ask, is_answered, Request, NoRequest, State, Pending, Deeds, lock_of, fork_of, request_of, with_answers, deeds_after_all, word_for}
+use Rattle.pdl_semantics.specs.Machine.{is_answered, Request, NoRequest, State, Pending, lock_of, fork_of, request_of, with_answers, word_for}
 use Rattle.pdl_semantics.specs.Moves.{movers, next_stage}
-use Rattle.pdl_semantics.specs.Cycle.{new_entries, with_reserves, with_value_of, with_writes_of, with_all_writes, has_release, child_of, squasher, asked_by, asked_of, asked_in, address_of, next_thread, coming_thread, or_then, entered_branches, goes_into, goes_out, for_mems, for_stages, taken_out, list_two, with_commit, with_commits}
+use Rattle.pdl_semantics.specs.Cycle.{new_entries, with_reserves, with_writes_of, with_all_writes, has_release, child_of, squasher, asked_by, asked_of, asked_in, address_of, next_thread, coming_thread, or_then, entered_branches, goes_into, goes_out, for_mems, for_stages, taken_out, list_two, with_commit, with_commits}
 use Rattle.pdl_semantics.specs.Sound.{side_in, is_delayed_read}
 use Rattle.pdl_semantics.specs.Cycle
 use Rattle.pdl_semantics.specs.Machine
 use Rattle.pdl_semantics.specs.Moves
 use Rattle.pdl_theory_derived.specs.Derived.{Work, find_ask}
 use Rattle.pdl_theory_derived.specs.Derived
-use Rattle.pdl_theory_facts.specs.Scans.{none_of}
-use Rattle.pdl_theory_simulation.proofs.FlowFacts.{Flows, Leads, trunk_only}
-use Rattle.pdl_theory_derived.proofs.Writes.{and_left, and_right}
+use Rattle.pdl_theory_simulation.proofs.FlowFacts.{Flows, Leads}
 use Rattle.pdl_theory_simulation.proofs.Stretches.{Behind}
 use Rattle.pdl_theory_simulation.proofs.Seats.{Live, seat, find, Ordered, Falls, falls_each, dacts, lacts, lact, did, deeds_of, work_of_live}
 use Rattle.pdl_theory_simulation.proofs.Choices.{Known, AllKnown, one_stage, told_here}
@@ -25,147 +24,7 @@ use Rattle.pdl_theory_simulation.proofs.LiveThreads.{comes_is}
 use Rattle.pdl_theory_simulation.proofs.ThreadPlaces.{become_stay, become_move, enters_here, leads_of}
 use Rattle.pdl_theory_simulation.proofs.Requests.{asks_at, asks_are}
 use Rattle.pdl_word.specs.Each.{Each}
-
--- WHAT ORDER DOESN'T MATTER
-
-or_swap : (a b c : Bool) → (a || (b || c)) ≡ (b || (a || c))
-or_swap true true c = refl
-or_swap true false c = refl
-or_swap false true c = refl
-or_swap false false c = refl
-
--- writes into two threads' entries
-put_swap : (n v k w : ℕ) (xs : List Pending)
-    → (n ≡ k → ⊥) → with_value_of n v (with_value_of k w xs) ≡ with_value_of k w (with_value_of n v xs)
-put_swap n v k w [] h = refl
-put_swap n v k w (e ∷ es) h = ap₂ (λ a l. a ∷ l) (at (e.thread == n) refl (e.thread == k) refl) (put_swap n v k w es h)
-  where
-    at : (b : Bool) → (e.thread == n) ≡ b → (c : Bool) → (e.thread == k) ≡ c
-        → (if (if e.thread == k then record e { value = Some w } else e).thread == n
-        then record (if e.thread == k then record e { value = Some w } else e) { value = Some v }
-        else (if e.thread == k then record e { value = Some w } else e))
-        ≡ (if (if e.thread == n then record e { value = Some v } else e).thread == k
-        then record (if e.thread == n then record e { value = Some v } else e) { value = Some w }
-        else (if e.thread == n then record e { value = Some v } else e))
-    at true i true j = absurd (h (sym (eqb-true _ _ i) ∙ eqb-true _ _ j))
-    at true i false j =
-        (λ u. if (cond (j u) (record e { value = Some w }) e).thread == n
-        then record (cond (j u) (record e { value = Some w }) e) { value = Some v }
-        else (cond (j u) (record e { value = Some w }) e))
-        ∙ ap (λ b. cond b (record e { value = Some v }) e) i
-        ∙ sym
-        ((λ u. if (cond (i u) (record e { value = Some v }) e).thread == k
-        then record (cond (i u) (record e { value = Some v }) e) { value = Some w }
-        else (cond (i u) (record e { value = Some v }) e))
-        ∙ ap (λ b. cond b (record e { value = Some w }) (record e { value = Some v })) j)
-    at false i true j =
-        (λ u. if (cond (j u) (record e { value = Some w }) e).thread == n
-        then record (cond (j u) (record e { value = Some w }) e) { value = Some v }
-        else (cond (j u) (record e { value = Some w }) e))
-        ∙ ap (λ b. cond b (record e { value = Some v }) (record e { value = Some w })) i
-        ∙ sym
-        ((λ u. if (cond (i u) (record e { value = Some v }) e).thread == k
-        then record (cond (i u) (record e { value = Some v }) e) { value = Some w }
-        else (cond (i u) (record e { value = Some v }) e))
-        ∙ ap (λ b. cond b (record e { value = Some w }) e) j)
-    at false i false j =
-        (λ u. if (cond (j u) (record e { value = Some w }) e).thread == n
-        then record (cond (j u) (record e { value = Some w }) e) { value = Some v }
-        else (cond (j u) (record e { value = Some w }) e))
-        ∙ ap (λ b. cond b (record e { value = Some v }) e) i
-        ∙ sym
-        ((λ u. if (cond (i u) (record e { value = Some v }) e).thread == k
-        then record (cond (i u) (record e { value = Some v }) e) { value = Some w }
-        else (cond (i u) (record e { value = Some v }) e))
-        ∙ ap (λ b. cond b (record e { value = Some w }) e) j)
-
-put_all_put : (m n k w : ℕ) (ws : List Machine.Written) (xs : List Pending)
-    → (n ≡ k → ⊥) → with_writes_of m n ws (with_value_of k w xs) ≡ with_value_of k w (with_writes_of m n ws xs)
-put_all_put m n k w [] xs h = refl
-put_all_put m n k w (x ∷ ws) xs h = at (x.mem == m) (λ ys. put_all_put m n k w ws ys h)
-  where
-    at : (b : Bool)
-        → ((ys : List Pending) → with_writes_of m n ws (with_value_of k w ys) ≡ with_value_of k w (with_writes_of m n ws ys))
-        → with_writes_of m n ws (cond b (with_value_of n x.value (with_value_of k w xs)) (with_value_of k w xs))
-        ≡ with_value_of k w (with_writes_of m n ws (cond b (with_value_of n x.value xs) xs))
-    at true f = ap (with_writes_of m n ws) (put_swap n x.value k w xs h) ∙ f (with_value_of n x.value xs)
-    at false f = f xs
-
-put_all_swap : (m n k : ℕ) (ws vs : List Machine.Written) (xs : List Pending)
-    → (n ≡ k → ⊥) → with_writes_of m n ws (with_writes_of m k vs xs) ≡ with_writes_of m k vs (with_writes_of m n ws xs)
-put_all_swap m n k ws [] xs h = refl
-put_all_swap m n k ws (v ∷ vs) xs h = at (v.mem == m) (λ ys. put_all_swap m n k ws vs ys h)
-  where
-    at : (b : Bool)
-        → ((ys : List Pending) → with_writes_of m n ws (with_writes_of m k vs ys) ≡ with_writes_of m k vs (with_writes_of m n ws ys))
-        → with_writes_of m n ws (with_writes_of m k vs (cond b (with_value_of k v.value xs) xs))
-        ≡ with_writes_of m k vs (cond b (with_value_of k v.value (with_writes_of m n ws xs)) (with_writes_of m n ws xs))
-    at true f = f (with_value_of k v.value xs) ∙ ap (with_writes_of m k vs) (put_all_put m n k v.value ws xs h)
-    at false f = f xs
-
--- who doesn't ask
-asked_none : (m n : ℕ) (qs : List Ask) (old : Request) → find_ask qs m ≡ None → asked_of m n qs old ≡ old
-asked_none m n [] old h = refl
-asked_none m n (q ∷ qs) old h = at (q.mem == m) h (asked_none m n qs old)
-  where
-    clash : Some q.address ≡ None → ⊥
-    clash i = cc
-
-    at : (b : Bool) → (if b then Some q.address else find_ask qs m) ≡ None
-        → (find_ask qs m ≡ None → asked_of m n qs old ≡ old)
-        → (if b then Machine.Owned n q.address else asked_of m n qs old) ≡ old
-    at true i f = absurd (clash i)
-    at false i f = f i
-
-address_none : (m : ℕ) (qs : List Ask) (rest : Option ℕ) → find_ask qs m ≡ None → address_of m qs rest ≡ rest
-address_none m [] rest h = refl
-address_none m (q ∷ qs) rest h = at (q.mem == m) h (address_none m qs rest)
-  where
-    clash : Some q.address ≡ None → ⊥
-    clash i = cc
-
-    at : (b : Bool) → (if b then Some q.address else find_ask qs m) ≡ None
-        → (find_ask qs m ≡ None → address_of m qs rest ≡ rest)
-        → (if b then Some q.address else address_of m qs rest) ≡ rest
-    at true i f = absurd (clash i)
-    at false i f = f i
-
-or_then_swap : (a b c : Option Machine.Thread) → (a ≡ None) ⊎ (b ≡ None) → or_then a (or_then b c) ≡ or_then b (or_then a c)
-or_then_swap a b c (inl e) = ap (λ x. or_then x (or_then b c)) e ∙ sym (ap (λ x. or_then b (or_then x c)) e)
-or_then_swap a b c (inr e) = ap (λ x. or_then a (or_then x c)) e ∙ sym (ap (λ x. or_then x (or_then a c)) e)
-
--- a branch's stage reserves nothing and makes no thread
-plain_op : (read : ℕ → ℕ → ℕ) (op : Op) (d : Deeds)
-    → not (trunk_only op) ≡ true
-    → ((Machine.deeds_after read op d).reserves ≡ d.reserves) × ((Machine.deeds_after read op d).child ≡ d.child)
-    × ((Machine.deeds_after read op d).fails ≡ d.fails)
-plain_op read (ReserveWrite m a) d h = absurd (cc h)
-plain_op read (Call args) d h = absurd (cc h)
-plain_op read (SpecCall args) d h = absurd (cc h)
-plain_op read (Verify args) d h = absurd (cc h)
-plain_op read _ d h = (refl, refl, refl)
-
-plain_all : (read : ℕ → ℕ → ℕ) (xs : List Stmt) (d : Deeds)
-    → none_of trunk_only xs ≡ true
-    → ((deeds_after_all read xs d).reserves ≡ d.reserves) × ((deeds_after_all read xs d).child ≡ d.child)
-    × ((deeds_after_all read xs d).fails ≡ d.fails)
-plain_all read [] d h = (refl, refl, refl)
-plain_all read (x ∷ xs) d h =
-    let r = plain_all read xs (if all_hold x.guards d.env then Machine.deeds_after read x.op d else d) (and_right _ _ h) in
-    let o = plain_op read x.op d (and_left _ _ h) in
-    (r.0 ∙ one (all_hold x.guards d.env) o.0, r.1 ∙ two (all_hold x.guards d.env) o.1, r.2 ∙ three (all_hold x.guards d.env) o.2)
-  where
-    one : (b : Bool) → (Machine.deeds_after read x.op d).reserves ≡ d.reserves → (cond b (Machine.deeds_after read x.op d) d).reserves ≡ d.reserves
-    one true e = e
-    one false e = refl
-
-    two : (b : Bool) → (Machine.deeds_after read x.op d).child ≡ d.child → (cond b (Machine.deeds_after read x.op d) d).child ≡ d.child
-    two true e = e
-    two false e = refl
-
-    three : (b : Bool) → (Machine.deeds_after read x.op d).fails ≡ d.fails → (cond b (Machine.deeds_after read x.op d) d).fails ≡ d.fails
-    three true e = e
-    three false e = refl
+use Rattle.pdl_theory_simulation.proofs.ActSwaps.{or_swap, put_all_swap, asked_none, address_none, or_then_swap, plain_all}
 
 module _ (p : Pipe) (flows : Flows p) (st : State) (d : Derived.State) (bits : List Bool) (arrays : st.arrays ≡ d.arrays) where
   -- the stated act of a thread with these older ones, as the derived machine decides it

@@ -20,7 +20,8 @@ use Rattle.pdl_theory_simulation.proofs.Seats.{Live, Falls, dacts, lacts, lact}
 use Rattle.pdl_theory_simulation.proofs.ThreadFacts.{sorted}
 use Rattle.pdl_theory_simulation.proofs.Orders.{acts_of}
 use Rattle.pdl_theory_simulation.proofs.ActOrder.{swaps_all, same_fold}
-use Rattle.pdl_theory_simulation.proofs.WholeSimulation.{known, acts_are, derived_acts_are, first_live, first_sim, runs_same, turn_same}
+use Rattle.pdl_theory_simulation.proofs.WholeSimulation.{known, acts_are, derived_acts_are, turn_same}
+use Rattle.pdl_theory_simulation.proofs.SimulatedRuns.{first_live, first_sim, runs_same}
 use Rattle.pdl_theory_simulation.proofs.SimulatedStates.{Sim}
 
 -- WHAT THE TURNS TELL

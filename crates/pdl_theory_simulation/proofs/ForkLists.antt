@@ -1,7 +1,7 @@
 -- After a cycle a fork's list holds the branches of just the threads inside it, oldest first.
-use Rattle.std.proofs.Common.{◌≡◌, refl, sym, ap, ap₂, ◌∙◌, subst, ℕ, ◌≤◌, ◌<◌, ◌⊎◌, inl, inr, Bool, true, false, ◌&&◌, ◌||◌, not, List, [], ◌∷◌, ◌++◌, Option, Some, None, is_some, ◌==◌, cond, if◌then◌else◌, arith, append-nil, append_assoc, eq-eqb, le_refl}
+use Rattle.std.proofs.Common.{◌≡◌, refl, sym, ap, ap₂, ◌∙◌, subst, ℕ, ◌≤◌, ◌<◌, ◌⊎◌, inl, inr, Bool, true, false, ◌&&◌, ◌||◌, not, List, [], ◌∷◌, ◌++◌, Option, Some, None, is_some, ◌==◌, cond, if◌then◌else◌, arith, append-nil, eq-eqb, le_refl}
 use Rattle.std.proofs.lemmas.Bool.{eqb-true, eqb-false, ne_eqb}
-use Rattle.pdl_semantics.specs.Flat.{Pipe, Branch, Op, Verify, Stmt, list_all}
+use Rattle.pdl_semantics.specs.Flat.{Pipe, Branch, list_all}
 use Rattle.pdl_semantics.specs.Stages.{in_stage, stage_at, goes_to, is_branch_of, is_inside, merges_fork, verify_stage, is_verify}
 use Rattle.pdl_semantics.specs.Machine.{State}
 use Rattle.pdl_semantics.specs.Moves.{movers, next_stage, is_nobody}
@@ -12,8 +12,8 @@ use Rattle.pdl_semantics.specs.Moves
 use Rattle.pdl_theory_derived.specs.Derived.{Work, around}
 use Rattle.pdl_theory_derived.specs.Derived
 use Rattle.pdl_theory_facts.specs.Scans.{none_of}
-use Rattle.pdl_theory_simulation.proofs.FlowFacts.{Flows, Leads, trunk_only}
-use Rattle.pdl_theory_derived.proofs.Writes.{and_left, and_right}
+use Rattle.pdl_theory_simulation.proofs.FlowFacts.{Flows, Leads}
+use Rattle.pdl_theory_derived.proofs.Writes.{and_right}
 use Rattle.pdl_theory_turns.proofs.Turn.{none_in_stage}
 use Rattle.pdl_theory_simulation.proofs.Stretches.{Behind, start_of}
 use Rattle.pdl_theory_simulation.proofs.Seats.{Live, each_map, Ordered, dacts, lacts, lact, did, now_of, deeds_of, work_of_live}
@@ -27,61 +27,7 @@ use Rattle.pdl_theory_turns.proofs.Guesses.{unfailed}
 use Rattle.pdl_theory_turns.proofs.OfStage.{none_stage}
 use Rattle.pdl_word.specs.Each.{Each}
 use Rattle.pdl_word.proofs.Each.{each_append}
-
-no_verifies : (xs : List Stmt) → verify_stage xs ≡ None → none_of is_verify xs ≡ true
-no_verifies [] h = refl
-no_verifies (x ∷ xs) h = at (is_verify x.op) h (no_verifies xs)
-  where
-    clash : Some x.stage ≡ None → ⊥
-    clash e = cc
-
-    at : (b : Bool) → (if b then Some x.stage else verify_stage xs) ≡ None
-        → (verify_stage xs ≡ None → none_of is_verify xs ≡ true) → (not b && none_of is_verify xs) ≡ true
-    at true e f = absurd (clash e)
-    at false e f = f e
-
--- a verify stands in no branch
-verify_trunk : (xs : List Stmt) → none_of trunk_only xs ≡ true → none_of is_verify xs ≡ true
-verify_trunk [] h = refl
-verify_trunk (x ∷ xs) h = ap₂ (λ a b. a && b) (off x.op (and_left _ _ h)) (verify_trunk xs (and_right _ _ h))
-  where
-    off : (op : Op) → not (trunk_only op) ≡ true → not (is_verify op) ≡ true
-    off (Verify args) h = absurd (cc h)
-    off _ h = refl
-
-but_append : (xs : List Bool) (c : Bool) → is_nobody xs ≡ false → but_first (xs ++ c ∷ []) ≡ but_first xs ++ c ∷ []
-but_append [] c h = absurd (cc h)
-but_append (x ∷ xs) c h = refl
-
--- THE LIST OF FORK f, AS ONE MORE THREAD COMES BEHIND
-
--- a thread that isn't inside, and enters perhaps
-list_neutral : (l : Bool) (f e n b a x : List Bool)
-    → (if l then but_first f else f) ++ e ≡ n → b ≡ [] → x ≡ a
-    → (if l then but_first (f ++ b) else (f ++ b)) ++ (e ++ x) ≡ n ++ a
-list_neutral l f e n b a x h i j =
-    ap₂ (λ u v. (if l then but_first (f ++ u) else (f ++ u)) ++ (e ++ v)) i j
-    ∙ ap (λ u. (if l then but_first u else u) ++ (e ++ a)) (append-nil f)
-    ∙ sym (append_assoc (if l then but_first f else f) e a) ∙ ap (λ u. u ++ a) h
-
--- one that is inside and stays so
-list_inside : (l : Bool) (f e n : List Bool) (c : Bool)
-    → (if l then but_first f else f) ++ e ≡ n → e ≡ [] → (l ≡ true → is_nobody f ≡ false)
-    → (if l then but_first (f ++ c ∷ []) else (f ++ c ∷ [])) ++ (e ++ []) ≡ n ++ c ∷ []
-list_inside true f e n c h i j =
-    ap (λ u. but_first (f ++ c ∷ []) ++ (u ++ [])) i ∙ append-nil _ ∙ but_append f c (j refl)
-    ∙ ap (λ u. u ++ c ∷ []) (sym (append-nil (but_first f)) ∙ ap (λ u. but_first f ++ u) (sym i) ∙ h)
-list_inside false f e n c h i j =
-    ap (λ u. (f ++ c ∷ []) ++ (u ++ [])) i ∙ append-nil _
-    ∙ ap (λ u. u ++ c ∷ []) (sym (append-nil f) ∙ ap (λ u. f ++ u) (sym i) ∙ h)
-
--- one that leaves, the first
-list_leaves : (l : Bool) (f e n : List Bool) (c : Bool)
-    → (if l then but_first f else f) ++ e ≡ n → f ≡ [] → e ≡ [] → l ≡ false
-    → but_first (f ++ c ∷ []) ++ (e ++ []) ≡ n ++ []
-list_leaves l f e n c h i j k =
-    ap₂ (λ u v. but_first (u ++ c ∷ []) ++ (v ++ [])) i j
-    ∙ sym (ap (λ u. u ++ []) (sym h ∙ (λ t. (if k t then but_first (i t) else (i t)) ++ j t)))
+use Rattle.pdl_theory_simulation.proofs.ForkListSteps.{no_verifies, verify_trunk, list_neutral, list_inside, list_leaves}
 
 module _ (p : Pipe) (flows : Flows p) (st : State) (d : Derived.State) (bits : List Bool) (arrays : st.arrays ≡ d.arrays) where
   -- the live threads after the cycle, if no squash removes any
@@ -117,9 +63,7 @@ module _ (p : Pipe) (flows : Flows p) (st : State) (d : Derived.State) (bits : L
 
     left_none : (ls : List Live) → is_nobody (sides p f ls) ≡ true → has_left p f (ms ls) ≡ false
     left_none [] h = refl
-    left_none (l ∷ ls) h =
-        at (did p d bits ls l).moves (left_none ls (front (sides p f ls) (side_in f (stage_at p l.thread.stage).branch) h))
-        (outside (stage_at p l.thread.stage).branch refl)
+    left_none (l ∷ ls) h = at (did p d bits ls l).moves (left_none ls (front (sides p f ls) (side_in f (stage_at p l.thread.stage).branch) h)) (outside (stage_at p l.thread.stage).branch refl)
       where
         front : (xs ys : List Bool) → is_nobody (xs ++ ys) ≡ true → is_nobody xs ≡ true
         front [] ys e = refl
@@ -134,11 +78,7 @@ module _ (p : Pipe) (flows : Flows p) (st : State) (d : Derived.State) (bits : L
         outside (Some x) e = by (x.fork == f) refl
           where
             by : (t : Bool) → (x.fork == f) ≡ t → is_branch_of (stage_at p l.thread.stage).branch f ≡ false
-            by true i =
-                absurd
-                (cc
-                (sym (behind (sides p f ls) (side_in f (stage_at p l.thread.stage).branch) h)
-                ∙ ap (λ c. is_nobody (side_in f c)) e ∙ ap (λ t. is_nobody (if t then x.first ∷ [] else [])) i))
+            by true i = absurd (cc (sym (behind (sides p f ls) (side_in f (stage_at p l.thread.stage).branch) h) ∙ ap (λ c. is_nobody (side_in f c)) e ∙ ap (λ t. is_nobody (if t then x.first ∷ [] else [])) i))
             by false i = ap (λ c. is_branch_of c f) e ∙ i
 
         at : (b : Bool) → has_left p f (ms ls) ≡ false → is_branch_of (stage_at p l.thread.stage).branch f ≡ false
@@ -159,9 +99,7 @@ module _ (p : Pipe) (flows : Flows p) (st : State) (d : Derived.State) (bits : L
     past_fork l x ls e i b = each_map (λ k h j. late k h j) ls b
       where
         late : (k : Live) → Behind p l.thread.stage k.thread.stage → k.thread.stage ≡ f → ⊥
-        late k h j = let below = flows.graph.fork_below l.thread.stage x e in
-            let less : x.fork < k.thread.stage = h.trunk x.fork below.1 (let u = below.0 in omega arith) in
-            absurd (omega arith)
+        late k h j = let below = flows.graph.fork_below l.thread.stage x e in let less : x.fork < k.thread.stage = h.trunk x.fork below.1 (let u = below.0 in omega arith) in absurd (omega arith)
 
     nobody_nil : (xs : List Bool) → is_nobody xs ≡ true → xs ≡ []
     nobody_nil [] h = refl
@@ -188,14 +126,7 @@ module _ (p : Pipe) (flows : Flows p) (st : State) (d : Derived.State) (bits : L
             ++ entered_branches p f (ms ls)
             ≡ sides p f (all_on ls) ++ side_in f (stage_at p l.thread.stage).branch
         stands b e h =
-            sym
-            (ap
-            (λ u.
-            (if has_left p f (ms ls)
-            then but_first (sides p f ls ++ side_in f (stage_at p l.thread.stage).branch)
-            else (sides p f ls ++ side_in f (stage_at p l.thread.stage).branch))
-            ++ u)
-            (append-nil _))
+            sym (ap (λ u. (if has_left p f (ms ls) then but_first (sides p f ls ++ side_in f (stage_at p l.thread.stage).branch) else (sides p f ls ++ side_in f (stage_at p l.thread.stage).branch)) ++ u) (append-nil _))
             ∙ by b e
           where
             by : (b : Option Branch) → (stage_at p l.thread.stage).branch ≡ b
@@ -204,10 +135,7 @@ module _ (p : Pipe) (flows : Flows p) (st : State) (d : Derived.State) (bits : L
                 else (sides p f ls ++ side_in f (stage_at p l.thread.stage).branch))
                 ++ (entered_branches p f (ms ls) ++ [])
                 ≡ sides p f (all_on ls) ++ side_in f (stage_at p l.thread.stage).branch
-            by None e =
-                list_neutral (has_left p f (ms ls)) (sides p f ls) (entered_branches p f (ms ls))
-                (sides p f (all_on ls)) (side_in f (stage_at p l.thread.stage).branch)
-                (side_in f (stage_at p l.thread.stage).branch) [] h (ap (side_in f) e) (sym (ap (side_in f) e))
+            by None e = list_neutral (has_left p f (ms ls)) (sides p f ls) (entered_branches p f (ms ls)) (sides p f (all_on ls)) (side_in f (stage_at p l.thread.stage).branch) (side_in f (stage_at p l.thread.stage).branch) [] h (ap (side_in f) e) (sym (ap (side_in f) e))
             by (Some x) e = which (x.fork == f) refl
               where
                 which : (t : Bool) → (x.fork == f) ≡ t
@@ -217,22 +145,15 @@ module _ (p : Pipe) (flows : Flows p) (st : State) (d : Derived.State) (bits : L
                     ++ (entered_branches p f (ms ls) ++ [])
                     ≡ sides p f (all_on ls) ++ side_in f (stage_at p l.thread.stage).branch
                 which true i =
-                    subst
-                    (λ s. (if has_left p f (ms ls) then but_first (sides p f ls ++ s) else (sides p f ls ++ s)) ++ (entered_branches p f (ms ls) ++ [])
-                    ≡ sides p f (all_on ls) ++ s)
-                    (sym (inside_x x e (eqb-true _ _ i)))
-                    (list_inside (has_left p f (ms ls)) (sides p f ls) (entered_branches p f (ms ls))
-                    (sides p f (all_on ls)) x.first h (entered_none ls (past_fork l x ls e (eqb-true _ _ i) o.0))
-                    (some_left ls))
+                    subst (λ s. (if has_left p f (ms ls) then but_first (sides p f ls ++ s) else (sides p f ls ++ s)) ++ (entered_branches p f (ms ls) ++ []) ≡ sides p f (all_on ls) ++ s) (sym (inside_x x e (eqb-true _ _ i)))
+                    (list_inside (has_left p f (ms ls)) (sides p f ls) (entered_branches p f (ms ls)) (sides p f (all_on ls)) x.first h (entered_none ls (past_fork l x ls e (eqb-true _ _ i) o.0)) (some_left ls))
                 which false i =
                     let none : side_in f (stage_at p l.thread.stage).branch ≡ [] = ap (side_in f) e ∙ ap (λ t. if t then x.first ∷ [] else []) i in
-                    list_neutral (has_left p f (ms ls)) (sides p f ls) (entered_branches p f (ms ls))
-                    (sides p f (all_on ls)) (side_in f (stage_at p l.thread.stage).branch)
-                    (side_in f (stage_at p l.thread.stage).branch) [] h none (sym none)
+                    list_neutral (has_left p f (ms ls)) (sides p f ls) (entered_branches p f (ms ls)) (sides p f (all_on ls)) (side_in f (stage_at p l.thread.stage).branch) (side_in f (stage_at p l.thread.stage).branch) [] h none (sym none)
 
         -- it moves to stage q, or out
-        outside_moves : is_branch_of (stage_at p l.thread.stage).branch f ≡ false → (after : List Bool)
-            → enters l ≡ after → side_in f (stage_at p l.thread.stage).branch ≡ []
+        outside_moves : is_branch_of (stage_at p l.thread.stage).branch f ≡ false → (after : List Bool) → enters l ≡ after
+            → side_in f (stage_at p l.thread.stage).branch ≡ []
             → (if has_left p f (ms ls) then but_first (sides p f ls) else sides p f ls) ++ entered_branches p f (ms ls) ≡ sides p f (all_on ls)
             → (if leaves l
             || has_left p f (ms ls) then but_first (sides p f ls ++ side_in f (stage_at p l.thread.stage).branch)
@@ -240,19 +161,12 @@ module _ (p : Pipe) (flows : Flows p) (st : State) (d : Derived.State) (bits : L
             ++ (entered_branches p f (ms ls) ++ enters l)
             ≡ sides p f (all_on ls) ++ after
         outside_moves off after e none h =
-            ap
-            (λ b.
-            (if (b && goes_out p f (next_stage p l.thread.stage (deeds_of p st bits l))) || has_left p f (ms ls)
-            then but_first (sides p f ls ++ side_in f (stage_at p l.thread.stage).branch)
-            else (sides p f ls ++ side_in f (stage_at p l.thread.stage).branch))
-            ++ (entered_branches p f (ms ls) ++ enters l)) off
-            ∙ list_neutral (has_left p f (ms ls)) (sides p f ls) (entered_branches p f (ms ls)) (sides p f (all_on ls))
-            (side_in f (stage_at p l.thread.stage).branch) after (enters l) h none e
+            ap (λ b. (if (b && goes_out p f (next_stage p l.thread.stage (deeds_of p st bits l))) || has_left p f (ms ls) then but_first (sides p f ls ++ side_in f (stage_at p l.thread.stage).branch) else (sides p f ls ++ side_in f (stage_at p l.thread.stage).branch)) ++ (entered_branches p f (ms ls) ++ enters l)) off
+            ∙ list_neutral (has_left p f (ms ls)) (sides p f ls) (entered_branches p f (ms ls)) (sides p f (all_on ls)) (side_in f (stage_at p l.thread.stage).branch) after (enters l) h none e
 
         -- from the fork it enters a branch
         enters_side : (q : ℕ) → next_stage p l.thread.stage (deeds_of p st bits l) ≡ Some q
-            → ((z : Branch) → (stage_at p q).branch ≡ Some z → z.fork ≡ f → l.thread.stage ≡ f)
-            → enters l ≡ side_in f (stage_at p q).branch
+            → ((z : Branch) → (stage_at p q).branch ≡ Some z → z.fork ≡ f → l.thread.stage ≡ f) → enters l ≡ side_in f (stage_at p q).branch
         enters_side q i only = by (l.thread.stage == f) refl
           where
             none : (l.thread.stage ≡ f → ⊥) → (c : Option Branch) → (stage_at p q).branch ≡ c → [] ≡ side_in f (stage_at p q).branch
@@ -272,8 +186,8 @@ module _ (p : Pipe) (flows : Flows p) (st : State) (d : Derived.State) (bits : L
         leads q i = ((deeds_of p st bits l).env, i, k.0.seated.keeps_on.inside)
 
         -- inside, it moves on in its branch
-        moves_inside : (q : ℕ) → next_stage p l.thread.stage (deeds_of p st bits l) ≡ Some q → (x : Branch)
-            → (stage_at p l.thread.stage).branch ≡ Some x → x.fork ≡ f → (stage_at p q).branch ≡ Some x
+        moves_inside : (q : ℕ) → next_stage p l.thread.stage (deeds_of p st bits l) ≡ Some q → (x : Branch) → (stage_at p l.thread.stage).branch ≡ Some x
+            → x.fork ≡ f → (stage_at p q).branch ≡ Some x
             → (if has_left p f (ms ls) then but_first (sides p f ls) else sides p f ls) ++ entered_branches p f (ms ls) ≡ sides p f (all_on ls)
             → (if leaves l
             || has_left p f (ms ls) then but_first (sides p f ls ++ side_in f (stage_at p l.thread.stage).branch)
@@ -281,37 +195,29 @@ module _ (p : Pipe) (flows : Flows p) (st : State) (d : Derived.State) (bits : L
             ++ (entered_branches p f (ms ls) ++ enters l)
             ≡ sides p f (all_on ls) ++ side_in f (stage_at p q).branch
         moves_inside q i x e j b h =
-            (λ t. (if stays_in t || has_left p f (ms ls) then but_first (sides p f ls ++ inside_x x e j t) else (sides p f ls ++ inside_x x e j t))
-            ++ (entered_branches p f (ms ls) ++ no_fork t))
-            ∙ list_inside (has_left p f (ms ls)) (sides p f ls) (entered_branches p f (ms ls))
-            (sides p f (all_on ls)) x.first h (entered_none ls (past_fork l x ls e j o.0)) (some_left ls)
+            (λ t. (if stays_in t || has_left p f (ms ls) then but_first (sides p f ls ++ inside_x x e j t) else (sides p f ls ++ inside_x x e j t)) ++ (entered_branches p f (ms ls) ++ no_fork t))
+            ∙ list_inside (has_left p f (ms ls)) (sides p f ls) (entered_branches p f (ms ls)) (sides p f (all_on ls)) x.first h (entered_none ls (past_fork l x ls e j o.0)) (some_left ls)
             ∙ ap (λ u. sides p f (all_on ls) ++ u) (sym (ap (side_in f) b ∙ ap (λ t. if t then x.first ∷ [] else []) (eq-eqb _ _ j)))
           where
             below : x.fork < l.thread.stage
             below = (flows.graph.fork_below l.thread.stage x e).0
 
             no_fork : enters l ≡ []
-            no_fork =
-                ap (λ t. if t then goes_into p f (next_stage p l.thread.stage (deeds_of p st bits l)) else [])
-                (ne_eqb l.thread.stage f (λ u. absurd (let v = below in omega arith)))
+            no_fork = ap (λ t. if t then goes_into p f (next_stage p l.thread.stage (deeds_of p st bits l)) else []) (ne_eqb l.thread.stage f (λ u. absurd (let v = below in omega arith)))
 
             no_merge : (r : Option ℕ) → (stage_at p q).merges ≡ r → merges_fork (stage_at p q).merges f ≡ false
             no_merge None u = ap (λ r. merges_fork r f) u
             no_merge (Some g) u = absurd (cc (sym b ∙ (flows.graph.merge l.thread.stage q g (leads q i) u).0))
 
             stays_in : leaves l ≡ false
-            stays_in =
-                ap (λ r. is_branch_of (stage_at p l.thread.stage).branch f && goes_out p f r) i
-                ∙ ap (λ t. is_branch_of (stage_at p l.thread.stage).branch f && t) (no_merge (stage_at p q).merges refl)
-                ∙ off (is_branch_of (stage_at p l.thread.stage).branch f)
+            stays_in = ap (λ r. is_branch_of (stage_at p l.thread.stage).branch f && goes_out p f r) i ∙ ap (λ t. is_branch_of (stage_at p l.thread.stage).branch f && t) (no_merge (stage_at p q).merges refl) ∙ off (is_branch_of (stage_at p l.thread.stage).branch f)
               where
                 off : (t : Bool) → (t && false) ≡ false
                 off true = refl
                 off false = refl
 
         -- it leaves into the merge, the oldest inside
-        moves_out : (did p d bits ls l).moves ≡ true → (q : ℕ)
-            → next_stage p l.thread.stage (deeds_of p st bits l) ≡ Some q → (x : Branch)
+        moves_out : (did p d bits ls l).moves ≡ true → (q : ℕ) → next_stage p l.thread.stage (deeds_of p st bits l) ≡ Some q → (x : Branch)
             → (stage_at p l.thread.stage).branch ≡ Some x → x.fork ≡ f → (stage_at p q).merges ≡ Some x.fork
             → (if has_left p f (ms ls) then but_first (sides p f ls) else sides p f ls) ++ entered_branches p f (ms ls) ≡ sides p f (all_on ls)
             → (if leaves l
@@ -320,20 +226,15 @@ module _ (p : Pipe) (flows : Flows p) (st : State) (d : Derived.State) (bits : L
             ++ (entered_branches p f (ms ls) ++ enters l)
             ≡ sides p f (all_on ls) ++ side_in f (stage_at p q).branch
         moves_out go q i x e j m h =
-            (λ t. (if goes t || has_left p f (ms ls) then but_first (sides p f ls ++ inside_x x e j t) else (sides p f ls ++ inside_x x e j t))
-            ++ (entered_branches p f (ms ls) ++ no_fork t))
-            ∙ list_leaves (has_left p f (ms ls)) (sides p f ls) (entered_branches p f (ms ls))
-            (sides p f (all_on ls)) x.first h (nobody_nil (sides p f ls) nobody)
-            (entered_none ls (past_fork l x ls e j o.0)) (left_none ls nobody)
+            (λ t. (if goes t || has_left p f (ms ls) then but_first (sides p f ls ++ inside_x x e j t) else (sides p f ls ++ inside_x x e j t)) ++ (entered_branches p f (ms ls) ++ no_fork t))
+            ∙ list_leaves (has_left p f (ms ls)) (sides p f ls) (entered_branches p f (ms ls)) (sides p f (all_on ls)) x.first h (nobody_nil (sides p f ls) nobody) (entered_none ls (past_fork l x ls e j o.0)) (left_none ls nobody)
             ∙ ap (λ u. sides p f (all_on ls) ++ u) (sym (ap (side_in f) (flows.graph.merge l.thread.stage q x.fork (leads q i) m).0))
           where
             below : x.fork < l.thread.stage
             below = (flows.graph.fork_below l.thread.stage x e).0
 
             no_fork : enters l ≡ []
-            no_fork =
-                ap (λ t. if t then goes_into p f (next_stage p l.thread.stage (deeds_of p st bits l)) else [])
-                (ne_eqb l.thread.stage f (λ u. absurd (let v = below in omega arith)))
+            no_fork = ap (λ t. if t then goes_into p f (next_stage p l.thread.stage (deeds_of p st bits l)) else []) (ne_eqb l.thread.stage f (λ u. absurd (let v = below in omega arith)))
 
             goes : leaves l ≡ true
             goes =
@@ -344,9 +245,7 @@ module _ (p : Pipe) (flows : Flows p) (st : State) (d : Derived.State) (bits : L
             can = subst (λ r. Derived.can_enter p (dacts p d bits ls) r ≡ true) (sym (next_is ls l k.0) ∙ i) (enters_here p flows st d bits arrays ls l go)
 
             clear : Derived.fork_clear p (dacts p d bits ls) (stage_at p q).merges ≡ true
-            clear =
-                and_right (list_all (λ (o : Derived.Act). not (o.before.stage == q) || o.moves) (dacts p d bits ls))
-                (Derived.fork_clear p (dacts p d bits ls) (stage_at p q).merges) can
+            clear = and_right (list_all (λ (o : Derived.Act). not (o.before.stage == q) || o.moves) (dacts p d bits ls)) (Derived.fork_clear p (dacts p d bits ls) (stage_at p q).merges) can
 
             nobody : is_nobody (sides p f ls) ≡ true
             nobody = sides_nobody p d bits f ls ∙ subst (λ r. Derived.fork_clear p (dacts p d bits ls) r ≡ true) (m ∙ ap Some j) clear
@@ -355,8 +254,7 @@ module _ (p : Pipe) (flows : Flows p) (st : State) (d : Derived.State) (bits : L
         no_side None e i = ap (side_in f) e
         no_side (Some x) e i = ap (side_in f) e ∙ ap (λ t. if t then x.first ∷ [] else []) i
 
-        moved : (did p d bits ls l).moves ≡ true → (r : Option ℕ)
-            → next_stage p l.thread.stage (deeds_of p st bits l) ≡ r
+        moved : (did p d bits ls l).moves ≡ true → (r : Option ℕ) → next_stage p l.thread.stage (deeds_of p st bits l) ≡ r
             → (if has_left p f (ms ls) then but_first (sides p f ls) else sides p f ls) ++ entered_branches p f (ms ls) ≡ sides p f (all_on ls)
             → (if leaves l
             || has_left p f (ms ls) then but_first (sides p f ls ++ side_in f (stage_at p l.thread.stage).branch)
@@ -376,8 +274,7 @@ module _ (p : Pipe) (flows : Flows p) (st : State) (d : Derived.State) (bits : L
           where
             by : (c : Option Branch) → (stage_at p l.thread.stage).branch ≡ c
                 → (if leaves l
-                || has_left p f (ms ls)
-                then but_first (sides p f ls ++ side_in f (stage_at p l.thread.stage).branch)
+                || has_left p f (ms ls) then but_first (sides p f ls ++ side_in f (stage_at p l.thread.stage).branch)
                 else (sides p f ls ++ side_in f (stage_at p l.thread.stage).branch))
                 ++ (entered_branches p f (ms ls) ++ enters l)
                 ≡ sides p f (all_on ls) ++ side_in f (stage_at p q).branch
@@ -405,19 +302,16 @@ module _ (p : Pipe) (flows : Flows p) (st : State) (d : Derived.State) (bits : L
 
                 which : (t : Bool) → (x.fork == f) ≡ t
                     → (if leaves l
-                    || has_left p f (ms ls)
-                    then but_first (sides p f ls ++ side_in f (stage_at p l.thread.stage).branch)
+                    || has_left p f (ms ls) then but_first (sides p f ls ++ side_in f (stage_at p l.thread.stage).branch)
                     else (sides p f ls ++ side_in f (stage_at p l.thread.stage).branch))
                     ++ (entered_branches p f (ms ls) ++ enters l)
                     ≡ sides p f (all_on ls) ++ side_in f (stage_at p q).branch
-                which false j =
-                    outside_moves (ap (λ c. is_branch_of c f) e ∙ j) (side_in f (stage_at p q).branch) (enters_side q i (only j)) (no_side (Some x) e j) h
+                which false j = outside_moves (ap (λ c. is_branch_of c f) e ∙ j) (side_in f (stage_at p q).branch) (enters_side q i (only j)) (no_side (Some x) e j) h
                 which true j = way (flows.graph.out_of l.thread.stage q x (leads q i) e)
                   where
                     way : ((stage_at p q).branch ≡ Some x) ⊎ ((stage_at p q).merges ≡ Some x.fork)
                         → (if leaves l
-                        || has_left p f (ms ls)
-                        then but_first (sides p f ls ++ side_in f (stage_at p l.thread.stage).branch)
+                        || has_left p f (ms ls) then but_first (sides p f ls ++ side_in f (stage_at p l.thread.stage).branch)
                         else (sides p f ls ++ side_in f (stage_at p l.thread.stage).branch))
                         ++ (entered_branches p f (ms ls) ++ enters l)
                         ≡ sides p f (all_on ls) ++ side_in f (stage_at p q).branch
@@ -428,14 +322,9 @@ module _ (p : Pipe) (flows : Flows p) (st : State) (d : Derived.State) (bits : L
             → (if has_left p f (ms ls) then but_first (sides p f ls) else sides p f ls) ++ entered_branches p f (ms ls) ≡ sides p f (all_on ls)
             → (if has_left p f (cond b (lact p st d bits ls l ∷ ms ls) (ms ls)) then but_first (sides p f (l ∷ ls)) else sides p f (l ∷ ls))
             ++ entered_branches p f (cond b (lact p st d bits ls l ∷ ms ls) (ms ls))
-            ≡ sides p f
-            (cond b (moved_live (goes_to (stage_at p l.thread.stage).next (work_of_live p d bits ls l).env) l (work_of_live p d bits ls l))
-            (stood p st d bits l ∷ [])
-            ++ all_on ls)
+            ≡ sides p f (cond b (moved_live (goes_to (stage_at p l.thread.stage).next (work_of_live p d bits ls l).env) l (work_of_live p d bits ls l)) (stood p st d bits l ∷ []) ++ all_on ls)
         at false e h = stands (stage_at p l.thread.stage).branch refl h ∙ sym (behind_next (stood p st d bits l ∷ []))
-        at true e h =
-            moved e (next_stage p l.thread.stage (deeds_of p st bits l)) refl h
-            ∙ ap (λ r. sides p f (moved_live r l (work_of_live p d bits ls l) ++ all_on ls)) (next_is ls l k.0)
+        at true e h = moved e (next_stage p l.thread.stage (deeds_of p st bits l)) refl h ∙ ap (λ r. sides p f (moved_live r l (work_of_live p d bits ls l) ++ all_on ls)) (next_is ls l k.0)
 
     -- SQUASHES
 
@@ -495,8 +384,8 @@ module _ (p : Pipe) (flows : Flows p) (st : State) (d : Derived.State) (bits : L
     one_side x h = sides_none p f (x ∷ []) (h, tt)
 
     -- a squash leaves the lists of later forks alone
-    pub unmerged_on : merges_by p f (verify_stage p.stmts) ≡ false → (ls : List Live)
-        → AllKnown p flows st d bits arrays ls → Ordered p ls → sides p f (go_on p st d bits ls) ≡ sides p f (all_on ls)
+    pub unmerged_on : merges_by p f (verify_stage p.stmts) ≡ false → (ls : List Live) → AllKnown p flows st d bits arrays ls → Ordered p ls
+        → sides p f (go_on p st d bits ls) ≡ sides p f (all_on ls)
     unmerged_on u [] k o = refl
     unmerged_on u (l ∷ ls) k o = at (fell p d bits ls) refl (unmerged_on u ls k.1 o.1)
       where
@@ -511,27 +400,16 @@ module _ (p : Pipe) (flows : Flows p) (st : State) (d : Derived.State) (bits : L
             absurd (omega arith))
 
         stood_side : fell p d bits ls ≡ true → sides p f (next_live p st d bits ls l) ≡ []
-        stood_side e =
-            ap
-            (λ b. sides p f
-            (cond b (moved_live (goes_to (stage_at p l.thread.stage).next (work_of_live p d bits ls l).env) l (work_of_live p d bits ls l))
-            (stood p st d bits l ∷ [])))
-            (stuck_here p flows st d bits arrays ls l e)
-            ∙ one_side (stood p st d bits l) (removed e)
+        stood_side e = ap (λ b. sides p f (cond b (moved_live (goes_to (stage_at p l.thread.stage).next (work_of_live p d bits ls l).env) l (work_of_live p d bits ls l)) (stood p st d bits l ∷ []))) (stuck_here p flows st d bits arrays ls l e) ∙ one_side (stood p st d bits l) (removed e)
 
         at : (g : Bool) → fell p d bits ls ≡ g → sides p f (go_on p st d bits ls) ≡ sides p f (all_on ls)
             → sides p f ((if g then [] else next_live p st d bits ls l) ++ go_on p st d bits ls) ≡ sides p f (next_live p st d bits ls l ++ all_on ls)
-        at true e r =
-            r ∙ sym (append-nil _) ∙ ap (λ x. sides p f (all_on ls) ++ x) (sym (stood_side e)) ∙ sym (sides_append p f (next_live p st d bits ls l) (all_on ls))
-        at false e r =
-            sides_append p f (next_live p st d bits ls l) (go_on p st d bits ls)
-            ∙ ap (λ x. x ++ sides p f (next_live p st d bits ls l)) r
-            ∙ sym (sides_append p f (next_live p st d bits ls l) (all_on ls))
+        at true e r = r ∙ sym (append-nil _) ∙ ap (λ x. sides p f (all_on ls) ++ x) (sym (stood_side e)) ∙ sym (sides_append p f (next_live p st d bits ls l) (all_on ls))
+        at false e r = sides_append p f (next_live p st d bits ls l) (go_on p st d bits ls) ∙ ap (λ x. x ++ sides p f (next_live p st d bits ls l)) r ∙ sym (sides_append p f (next_live p st d bits ls l) (all_on ls))
 
     -- and empties those of forks before the verifies
-    pub merged_on : merges_by p f (verify_stage p.stmts) ≡ true → (ls : List Live)
-        → AllKnown p flows st d bits arrays ls → Ordered p ls → fell p d bits ls ≡ true
-        → sides p f (go_on p st d bits ls) ≡ []
+    pub merged_on : merges_by p f (verify_stage p.stmts) ≡ true → (ls : List Live) → AllKnown p flows st d bits arrays ls → Ordered p ls
+        → fell p d bits ls ≡ true → sides p f (go_on p st d bits ls) ≡ []
     merged_on u [] k o e = refl
     merged_on u (l ∷ ls) k o e = at (fell p d bits ls) refl (λ i. merged_on u ls k.1 o.1 i)
       where
@@ -547,10 +425,8 @@ module _ (p : Pipe) (flows : Flows p) (st : State) (d : Derived.State) (bits : L
         all_out g =
             sides_none p f (next_live p st d bits ls l ++ go_on p st d bits ls)
             (each_append (λ k. is_inside p f k.thread.stage ≡ false) (next_live p st d bits ls l) (go_on p st d bits ls)
-            (each_next p flows st d bits arrays (λ k. is_inside p f k.thread.stage ≡ false) ls l k.0 (λ i. outside l.thread.stage (le_refl _))
-            (λ i q j. outside q (let w = (flows.graph.up l.thread.stage q (leads_of p flows st d bits arrays ls l k.0 q j)).0 in omega arith)))
-            (each_map (λ k h. outside k.thread.stage (let w : l.thread.stage < k.thread.stage = h.trunk l.thread.stage trunk (le_refl _) in omega arith))
-            (go_on p st d bits ls) (behind_stay p flows st d bits arrays l.thread.stage ls k.1 o.0)))
+            (each_next p flows st d bits arrays (λ k. is_inside p f k.thread.stage ≡ false) ls l k.0 (λ i. outside l.thread.stage (le_refl _)) (λ i q j. outside q (let w = (flows.graph.up l.thread.stage q (leads_of p flows st d bits arrays ls l k.0 q j)).0 in omega arith)))
+            (each_map (λ k h. outside k.thread.stage (let w : l.thread.stage < k.thread.stage = h.trunk l.thread.stage trunk (le_refl _) in omega arith)) (go_on p st d bits ls) (behind_stay p flows st d bits arrays l.thread.stage ls k.1 o.0)))
           where
             v : (v : ℕ) × (verify_stage p.stmts ≡ Some v) × (l.thread.stage ≡ v) × ((stage_at p v).branch ≡ None)
             v = fails_at ls l (and_right (did p d bits ls l).moves (work_of_live p d bits ls l).fails (here g))
@@ -559,10 +435,7 @@ module _ (p : Pipe) (flows : Flows p) (st : State) (d : Derived.State) (bits : L
             trunk = ap (λ n. (stage_at p n).branch) v.2 ∙ v.3
 
             outside : (b : ℕ) → l.thread.stage ≤ b → is_inside p f b ≡ false
-            outside b h =
-                not_inside b
-                (λ i. let less : b < v.0 = flows.graph.merged v.0 f b v.1 i (subst (λ r. merges_by p f r ≡ true) v.1 u) in
-                let same = v.2 in absurd (omega arith))
+            outside b h = not_inside b (λ i. let less : b < v.0 = flows.graph.merged v.0 f b v.1 i (subst (λ r. merges_by p f r ≡ true) v.1 u) in let same = v.2 in absurd (omega arith))
 
         at : (g : Bool) → fell p d bits ls ≡ g → (fell p d bits ls ≡ true → sides p f (go_on p st d bits ls) ≡ [])
             → sides p f ((if g then [] else next_live p st d bits ls l) ++ go_on p st d bits ls) ≡ []
@@ -574,9 +447,7 @@ module _ (p : Pipe) (flows : Flows p) (st : State) (d : Derived.State) (bits : L
     calm_on (l ∷ ls) e =
         let rest = second ((did p d bits ls l).moves && (work_of_live p d bits ls l).fails) e in
         ap (λ g. sides p f ((if g then [] else next_live p st d bits ls l) ++ go_on p st d bits ls)) rest
-        ∙ sides_append p f (next_live p st d bits ls l) (go_on p st d bits ls)
-        ∙ ap (λ x. x ++ sides p f (next_live p st d bits ls l)) (calm_on ls rest)
-        ∙ sym (sides_append p f (next_live p st d bits ls l) (all_on ls))
+        ∙ sides_append p f (next_live p st d bits ls l) (go_on p st d bits ls) ∙ ap (λ x. x ++ sides p f (next_live p st d bits ls l)) (calm_on ls rest) ∙ sym (sides_append p f (next_live p st d bits ls l) (all_on ls))
       where
         second : (b : Bool) → (b || fell p d bits ls) ≡ false → fell p d bits ls ≡ false
         second true g = absurd (cc g)
@@ -587,8 +458,8 @@ module _ (p : Pipe) (flows : Flows p) (st : State) (d : Derived.State) (bits : L
     born_side n (Some x) xs = ap (λ b. sides p f xs ++ side_in f b) flows.graph.trunk_start ∙ append-nil _
 
     -- the list of fork f after the cycle
-    pub fork_next : (n : ℕ) (c : Option (List ℕ)) (sq : Option ℕ) (ls : List Live)
-        → AllKnown p flows st d bits arrays ls → Ordered p ls → is_some sq ≡ fell p d bits ls
+    pub fork_next : (n : ℕ) (c : Option (List ℕ)) (sq : Option ℕ) (ls : List Live) → AllKnown p flows st d bits arrays ls → Ordered p ls
+        → is_some sq ≡ fell p d bits ls
         → Cycle.branches_left p sq f ((if has_left p f (ms ls) then but_first (sides p f ls) else sides p f ls) ++ entered_branches p f (ms ls))
         ≡ sides p f (born_live p n c ++ go_on p st d bits ls)
     fork_next n c sq ls k o h =

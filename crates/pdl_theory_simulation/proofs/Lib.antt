@@ -1,6 +1,7 @@
 pub mod FlowFacts
 pub mod Shapes
 pub mod Stretches
+pub mod StretchSteps
 pub mod Seats
 pub mod Choices
 pub mod ThreadFacts
@@ -13,8 +14,11 @@ pub mod Requests
 pub mod PerMemory
 pub mod SimulatedStates
 pub mod WholeSimulation
+pub mod SimulatedRuns
 pub mod ActOrder
+pub mod ActSwaps
 pub mod ForkLists
+pub mod ForkListSteps
 pub mod FlowScans
 pub mod CarriedTheorems
 pub mod RuleFacts

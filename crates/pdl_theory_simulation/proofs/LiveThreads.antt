@@ -11,7 +11,8 @@ use Rattle.pdl_theory_derived.specs.Derived
 use Rattle.pdl_theory_simulation.proofs.FlowFacts.{Flows, next_of}
 use Rattle.pdl_theory_derived.proofs.Writes.{and_left}
 use Rattle.pdl_theory_derived.proofs.Slots.{rev}
-use Rattle.pdl_theory_simulation.proofs.Stretches.{Childed, has_made, stage_child}
+use Rattle.pdl_theory_simulation.proofs.Stretches.{has_made, stage_child}
+use Rattle.pdl_theory_simulation.proofs.StretchSteps.{Childed}
 use Rattle.pdl_theory_simulation.proofs.Seats.{Live, seat, find, threads_of, each_map, Falls, falls_each, dacts, lacts, lact, did, now_of, work_of_live, deeds_of}
 use Rattle.pdl_theory_simulation.proofs.Choices.{Known, AllKnown, told_here, keeps_now}
 use Rattle.pdl_theory_simulation.proofs.LockLists.{fell, moved_live, stood, next_live, go_on, Agrees}

@@ -1,12 +1,13 @@
 -- An entry for each memory, and the arrays after the commits of all memories.
 use Rattle.std.proofs.Common.{◌≡◌, refl, sym, ap, ap₂, ◌∙◌, ℕ, zero, suc, ◌+◌, ◌≤◌, ◌<◌, Bool, true, false, List, [], ◌∷◌, length, Option, Some, None, ◌==◌, cond, arith, slice_index_or, add-zero, add-suc, suc-add, eq-eqb}
 use Rattle.std.proofs.lemmas.Bool.{eqb-true, eqb-false, ne_eqb}
-use Rattle.pdl_semantics.specs.Flat.{Arrays, Array, Mem, with_value}
+use Rattle.pdl_semantics.specs.Flat.{Arrays, Array, Pipe, Mem, with_value}
 use Rattle.pdl_semantics.specs.Locks.{commit_value}
-use Rattle.pdl_semantics.specs.Machine.{State, Pending}
+use Rattle.pdl_semantics.specs.Machine.{Ask, State, Pending, is_answered}
 use Rattle.pdl_semantics.specs.Moves.{Act}
 use Rattle.pdl_semantics.specs.Cycle.{for_mems, taken_out, with_commit, with_commits}
 use Rattle.pdl_semantics.specs.Promises.{wrote}
+use Rattle.pdl_theory_derived.specs.Derived.{next_ask, next_asks, find_ask}
 use Rattle.pdl_theory_turns.proofs.EntryCommits.{released}
 
 -- in a list with an entry for each memory the i-th one is that of the i-th memory
@@ -75,3 +76,15 @@ past_commits st ms k n [] arrays h = refl
 past_commits st ms k n (x ∷ xs) arrays h =
     past_commits st ms (suc k) n xs (with_commit arrays k (taken_out st ms k)) (omega arith)
     ∙ other_commit k n (taken_out st ms k) arrays (ne_eqb n k (λ e. absurd (omega arith)))
+
+-- entries of memories are the same where they are at each memory
+pub mems_range : {X : Type 0} → (f g : ℕ → X) (k : ℕ) (xs : List Mem)
+    → ((m : ℕ) → k ≤ m → m < k + length xs → f m ≡ g m) → for_mems f k xs ≡ for_mems g k xs
+mems_range f g k [] h = refl
+mems_range f g k (x ∷ xs) h = ap₂ (λ a l. a ∷ l) (h k (omega arith) (omega arith)) (mems_range f g (suc k) xs (λ m i j. h m (omega arith) (omega arith)))
+
+-- what each memory is asked next, as an entry for each memory
+pub asks_mems : (p : Pipe) (bits : List Bool) (qs : List Ask) (f : ℕ → Option ℕ) (k : ℕ) (xs : List Mem)
+    → next_asks p bits qs k (for_mems f k xs) ≡ for_mems (λ m. next_ask (find_ask qs m) (is_answered p bits m) (f m)) k xs
+asks_mems p bits qs f k [] = refl
+asks_mems p bits qs f k (x ∷ xs) = ap (λ l. next_ask (find_ask qs k) (is_answered p bits k) (f k) ∷ l) (asks_mems p bits qs f (suc k) xs)

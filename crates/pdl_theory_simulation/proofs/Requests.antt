@@ -13,7 +13,8 @@ use Rattle.pdl_theory_facts.specs.Scans.{none_of}
 use Rattle.pdl_theory_simulation.proofs.FlowFacts.{Flows}
 use Rattle.pdl_theory_derived.proofs.Writes.{and_left, and_right}
 use Rattle.pdl_theory_derived.proofs.Slots.{rev}
-use Rattle.pdl_theory_simulation.proofs.Stretches.{Behind, AsksFrom}
+use Rattle.pdl_theory_simulation.proofs.Stretches.{Behind}
+use Rattle.pdl_theory_simulation.proofs.StretchSteps.{AsksFrom}
 use Rattle.pdl_theory_simulation.proofs.Seats.{Live, Ordered, dacts, lacts, lact, did, work_of_live, deeds_of}
 use Rattle.pdl_theory_simulation.proofs.Choices.{has_owner, Matched, one_stage, Known, AllKnown, told_here, asks_here}
 use Rattle.pdl_theory_simulation.proofs.ThreadFacts.{someone, behind_someone}

@@ -25,10 +25,7 @@ use Rattle.pdl_word.proofs.Each.{each_append}
 -- nobody stands in stage q where all stand before it
 none_found : (p : Pipe) (q : ℕ) (ls : List Live) → Each (λ k. Behind p q k.thread.stage) ls → find q ls ≡ None
 none_found p q [] h = refl
-none_found p q (l ∷ ls) h =
-    ap (λ b. cond b (Some (seat l)) (find q ls))
-    (ne_eqb l.thread.stage q (λ e. absurd (let i : q < l.thread.stage = h.0.branch (ap (λ n. (stage_at p n).branch) (sym e)) in omega arith)))
-    ∙ none_found p q ls h.1
+none_found p q (l ∷ ls) h = ap (λ b. cond b (Some (seat l)) (find q ls)) (ne_eqb l.thread.stage q (λ e. absurd (let i : q < l.thread.stage = h.0.branch (ap (λ n. (stage_at p n).branch) (sym e)) in omega arith))) ∙ none_found p q ls h.1
 
 -- ORDER, AS THREADS MOVE
 
@@ -42,9 +39,7 @@ module _ (p : Pipe) (g : Ways p) where
 
       from_branch : (x : Branch) → (stage_at p s).branch ≡ Some x → ((stage_at p b).branch ≡ Some x) ⊎ ((b ≡ x.fork) × ((stage_at p b).branch ≡ None)) → s < b'
       from_branch x e (inl i) = let j : s < b = h.branch (e ∙ sym i) in let u = up in omega arith
-      from_branch x e (inr i) =
-          absurd
-          (let below : x.fork < s = (g.fork_below s x e).0 in let same = i.0 in let less : b < b = h.trunk b i.1 (let k = below in omega arith) in omega arith)
+      from_branch x e (inr i) = absurd (let below : x.fork < s = (g.fork_below s x e).0 in let same = i.0 in let less : b < b = h.trunk b i.1 (let k = below in omega arith) in omega arith)
 
       at : (c : Option Branch) → (stage_at p s).branch ≡ c → (stage_at p s).branch ≡ (stage_at p b').branch → s < b'
       at None e i = let j : s < b = h.trunk s e (le_refl s) in let u = up in omega arith
@@ -108,8 +103,7 @@ module _ (p : Pipe) (g : Ways p) where
       inside x e f (inr i) = absurd (from (g.into s s' x l e))
         where
           from : ((stage_at p s).branch ≡ Some x) ⊎ ((s ≡ x.fork) × ((stage_at p s).branch ≡ None)) → ⊥
-          from (inl j) = let below : x.fork < s = (g.fork_below s x j).0 in let same = i.0 in
-              let less : b < b = h.trunk b i.1 (omega arith) in absurd (omega arith)
+          from (inl j) = let below : x.fork < s = (g.fork_below s x j).0 in let same = i.0 in let less : b < b = h.trunk b i.1 (omega arith) in absurd (omega arith)
           from (inr j) = let same = i.0 in let also = j.0 in let less : s < b = h.trunk s j.1 (le_refl s) in absurd (omega arith)
 
       at : (c : Option Branch) → (stage_at p s').branch ≡ c → (stage_at p s').branch ≡ (stage_at p b').branch → s' < b'
@@ -196,24 +190,17 @@ module _ (p : Pipe) (flows : Flows p) where
         fork_part = fork_of_enter (did p d bits ls l ∷ dacts p d bits ls) e
           where
             fork_of_enter : (os : List Derived.Act) → Derived.can_enter p os (Some s') ≡ true → Derived.fork_clear p os (stage_at p s').merges ≡ true
-            fork_of_enter os f =
-                and_right (list_all (λ (o : Derived.Act). not (o.before.stage == s') || o.moves) os) (Derived.fork_clear p os (stage_at p s').merges) f
+            fork_of_enter os f = and_right (list_all (λ (o : Derived.Act). not (o.before.stage == s') || o.moves) os) (Derived.fork_clear p os (stage_at p s').merges) f
 
         clear : (f : ℕ) → (stage_at p s').merges ≡ Some f → is_inside p f l.thread.stage ≡ false
-        clear f i =
-            off (is_inside p f l.thread.stage) (and_left _ _ (subst (λ r. Derived.fork_clear p (did p d bits ls l ∷ dacts p d bits ls) r ≡ true) i fork_part))
+        clear f i = off (is_inside p f l.thread.stage) (and_left _ _ (subst (λ r. Derived.fork_clear p (did p d bits ls l ∷ dacts p d bits ls) r ≡ true) i fork_part))
           where
             off : (b : Bool) → not b ≡ true → b ≡ false
             off true u = absurd (cc u)
             off false u = refl
 
         rest : Derived.can_enter p (dacts p d bits ls) (Some s') ≡ true
-        rest =
-            ap₂ (λ a b. a && b)
-            (and_right (not (l.thread.stage == s') || (did p d bits ls l).moves)
-            (list_all (λ (o : Derived.Act). not (o.before.stage == s') || o.moves) (dacts p d bits ls))
-            (and_left _ _ e))
-            (tail (stage_at p s').merges fork_part)
+        rest = ap₂ (λ a b. a && b) (and_right (not (l.thread.stage == s') || (did p d bits ls l).moves) (list_all (λ (o : Derived.Act). not (o.before.stage == s') || o.moves) (dacts p d bits ls)) (and_left _ _ e)) (tail (stage_at p s').merges fork_part)
           where
             tail : (r : Option ℕ) → Derived.fork_clear p (did p d bits ls l ∷ dacts p d bits ls) r ≡ true → Derived.fork_clear p (dacts p d bits ls) r ≡ true
             tail None f = refl
@@ -239,11 +226,7 @@ module _ (p : Pipe) (flows : Flows p) where
             → Ordered p (go_on p st d bits ls)
             → Ordered p (moved_live r l (work_of_live p d bits ls l) ++ go_on p st d bits ls)
         out e None i r = r
-        out e (Some q) i r = (
-          behind_move l.thread.stage q (leads_of ls l k.0 q i) ls k.1 o.0
-              (subst (λ r. Derived.can_enter p (dacts p d bits ls) r ≡ true) i (enters_here ls l e)),
-          r,
-        )
+        out e (Some q) i r = (behind_move l.thread.stage q (leads_of ls l k.0 q i) ls k.1 o.0 (subst (λ r. Derived.can_enter p (dacts p d bits ls) r ≡ true) i (enters_here ls l e)), r)
 
         at : (f b : Bool) → (did p d bits ls l).moves ≡ b → Ordered p (go_on p st d bits ls)
             → Ordered p
@@ -272,16 +255,7 @@ module _ (p : Pipe) (flows : Flows p) where
         at true g = deep
         at false g =
             each_append (λ k. 0 < k.thread.stage) (next_live p st d bits ls l) (go_on p st d bits ls)
-            (each_next (λ k. 0 < k.thread.stage) ls l k.0
-            (λ i. absurd
-            (clash
-            (sym none
-            ∙ sym
-            (ap
-            (λ b. if b
-            then (if is_some (work_of_live p d bits ls l).child then (work_of_live p d bits ls l).child else made p flows st d bits arrays ls)
-            else made p flows st d bits arrays ls) i)
-            ∙ e)))
+            (each_next (λ k. 0 < k.thread.stage) ls l k.0 (λ i. absurd (clash (sym none ∙ sym (ap (λ b. if b then (if is_some (work_of_live p d bits ls l).child then (work_of_live p d bits ls l).child else made p flows st d bits arrays ls) else made p flows st d bits arrays ls) i) ∙ e)))
             (λ i q j. let u = (flows.graph.up l.thread.stage q (leads_of ls l k.0 q j)).0 in omega arith)) deep
           where
             none : made p flows st d bits arrays ls ≡ None
@@ -340,8 +314,7 @@ module _ (p : Pipe) (flows : Flows p) where
     made_on [] k m = tt
     made_on (l ∷ ls) k m =
         each_on (λ l. has_made p l.env l.thread.stage ≡ true) (fell p d bits ls) (next_live p st d bits ls l) (go_on p st d bits ls)
-        (each_next (λ l. has_made p l.env l.thread.stage ≡ true) ls l k.0 (λ e. m.0)
-        (λ e q i. has_next ls l k.0 q i ((childed_here p flows st d bits arrays ls l k.0).since m.0)))
+        (each_next (λ l. has_made p l.env l.thread.stage ≡ true) ls l k.0 (λ e. m.0) (λ e q i. has_next ls l k.0 q i ((childed_here p flows st d bits arrays ls l k.0).since m.0)))
         (made_on ls k.1 m.1)
 
     -- the one with the new thread has made it
@@ -363,23 +336,9 @@ module _ (p : Pipe) (flows : Flows p) where
         at false g =
             each_append (λ l. has_made p l.env l.thread.stage ≡ true) (next_live p st d bits ls l) (go_on p st d bits ls)
             (each_next (λ l. has_made p l.env l.thread.stage ≡ true) ls l k.0
-            (λ i. absurd
-            (clash
-            (sym none
-            ∙ sym
-            (ap
-            (λ b. if b
-            then (if is_some (work_of_live p d bits ls l).child then (work_of_live p d bits ls l).child else made p flows st d bits arrays ls)
-            else made p flows st d bits arrays ls) i)
-            ∙ e)))
+            (λ i. absurd (clash (sym none ∙ sym (ap (λ b. if b then (if is_some (work_of_live p d bits ls l).child then (work_of_live p d bits ls l).child else made p flows st d bits arrays ls) else made p flows st d bits arrays ls) i) ∙ e)))
             (λ i q j. has_next ls l k.0 q j ((childed_here p flows st d bits arrays ls l k.0).called_it
-            (is_it (work_of_live p d bits ls l).child (made p flows st d bits arrays ls) none
-            (sym
-            (ap
-            (λ b. if b
-            then (if is_some (work_of_live p d bits ls l).child then (work_of_live p d bits ls l).child else made p flows st d bits arrays ls)
-            else made p flows st d bits arrays ls) i)
-            ∙ e)))))
+            (is_it (work_of_live p d bits ls l).child (made p flows st d bits arrays ls) none (sym (ap (λ b. if b then (if is_some (work_of_live p d bits ls l).child then (work_of_live p d bits ls l).child else made p flows st d bits arrays ls) else made p flows st d bits arrays ls) i) ∙ e)))))
             (made_on ls k.1 m)
           where
             none : made p flows st d bits arrays ls ≡ None
@@ -437,12 +396,8 @@ module _ (p : Pipe) (flows : Flows p) where
         keeps_moved : (q : ℕ) → goes_to (stage_at p l.thread.stage).next (work_of_live p d bits ls l).env ≡ Some q
             → Keeps p (work_of_live p d bits ls l).env (moved_one q l (work_of_live p d bits ls l)).thread
         keeps_moved q i =
-            keeps_next p flows l.env (now_of p d bits l) (keeps_now p flows st d bits arrays l k.0.seated)
-            (around p d bits (dacts p d bits ls) l.thread.stage) (Machine.word_for st l.number)
-            (λ b. block_ready p st l.number b)
-            (λ r. has_room (mem_at p r.mem).lock (length (Machine.lock_of st r.mem)))
-            (λ q. Derived.port_free p d bits (dacts p d bits ls) q.mem)
-            (fit_all p flows st d bits arrays ls l k.0) q i
+            keeps_next p flows l.env (now_of p d bits l) (keeps_now p flows st d bits arrays l k.0.seated) (around p d bits (dacts p d bits ls) l.thread.stage) (Machine.word_for st l.number) (λ b. block_ready p st l.number b)
+            (λ r. has_room (mem_at p r.mem).lock (length (Machine.lock_of st r.mem))) (λ q. Derived.port_free p d bits (dacts p d bits ls) q.mem) (fit_all p flows st d bits arrays ls l k.0) q i
 
     -- after a cycle all live threads keep to their ways, the new one too
     pub ways_next : (ls : List Live) → AllKnown p flows st d bits arrays ls → Each OnWay (lives_next p flows st d bits arrays ls)
@@ -486,11 +441,7 @@ module _ (p : Pipe) (flows : Flows p) where
             by : (b : Bool) → (l.thread.stage == q) ≡ b
                 → if_kept sq (or_then (cond b (Some (seat (stood p st d bits l))) None) (next_thread p q (lacts p st d bits ls)))
                 ≡ find q (go_on p st d bits ls)
-            by true e =
-                ap (λ b. if b then Some (seat (stood p st d bits l)) else None) h
-                ∙ sym
-                (none_found p q (go_on p st d bits ls)
-                (subst (λ n. Each (λ k. Behind p n k.thread.stage) (go_on p st d bits ls)) (eqb-true _ _ e) (behind_stay l.thread.stage ls k.1 o.0)))
+            by true e = ap (λ b. if b then Some (seat (stood p st d bits l)) else None) h ∙ sym (none_found p q (go_on p st d bits ls) (subst (λ n. Each (λ k. Behind p n k.thread.stage) (go_on p st d bits ls)) (eqb-true _ _ e) (behind_stay l.thread.stage ls k.1 o.0)))
             by false e = r
 
         out : (r : Option ℕ) → is_kept sq l.number ≡ true → if_kept sq (next_thread p q (lacts p st d bits ls)) ≡ find q (go_on p st d bits ls)
@@ -507,11 +458,7 @@ module _ (p : Pipe) (flows : Flows p) where
             (cond b (moved_live (goes_to (stage_at p l.thread.stage).next (work_of_live p d bits ls l).env) l (work_of_live p d bits ls l))
             (stood p st d bits l ∷ [])))
             (next_thread p q (lacts p st d bits ls)))
-            ≡ find q
-            ((if f then []
-            else cond b (moved_live (goes_to (stage_at p l.thread.stage).next (work_of_live p d bits ls l).env) l (work_of_live p d bits ls l))
-            (stood p st d bits l ∷ []))
-            ++ go_on p st d bits ls)
+            ≡ find q ((if f then [] else cond b (moved_live (goes_to (stage_at p l.thread.stage).next (work_of_live p d bits ls l).env) l (work_of_live p d bits ls l)) (stood p st d bits l ∷ [])) ++ go_on p st d bits ls)
         at true e true i r = absurd (cc (sym i ∙ stuck_here p flows st d bits arrays ls l e))
         at true e false i r = removed (g.0 ∙ ap not e) r
         at false e true i r = out (goes_to (stage_at p l.thread.stage).next (work_of_live p d bits ls l).env) (g.0 ∙ ap not e) r

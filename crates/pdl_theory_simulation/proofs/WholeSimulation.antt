@@ -1,10 +1,10 @@
 -- What ties a state of the stated machine to one of the derived machine, one cycle of both, and whole runs.
 use Rattle.std.proofs.Common.{◌≡◌, refl, sym, ap, ap₂, ◌∙◌, subst, ℕ, zero, suc, ◌+◌, ◌≤◌, ◌<◌, Bool, true, false, ◌&&◌, ◌||◌, not, List, [], ◌∷◌, ◌++◌, length, Option, Some, None, is_some, is_none, ◌==◌, nat_lt, cond, if◌then◌else◌, arith, append-nil, slice_index_or, ltb-true, ltb-false, zero-add, add-zero, add-suc, suc-add, eq-eqb}
-use Rattle.std.proofs.lemmas.Bool.{eqb-true, eqb-false}
+use Rattle.std.proofs.lemmas.Bool.{eqb-true}
 use Rattle.pdl_semantics.specs.Flat.{Arrays, Pipe, Branch, Mem, Stage, of_mem, after_commits}
 use Rattle.pdl_semantics.specs.Stages.{list_any, stage_at, goes_to, in_stage, is_inside, is_branch_of}
-use Rattle.pdl_semantics.specs.Sound.{side_in, is_delayed_read}
-use Rattle.pdl_semantics.specs.Machine.{Ask, Awaited, Request, NoRequest, Owned, Orphan, is_answered, State, Pending, lock_of, fork_of, request_of, with_kept}
+use Rattle.pdl_semantics.specs.Sound.{is_delayed_read}
+use Rattle.pdl_semantics.specs.Machine.{Ask, Awaited, Request, NoRequest, Owned, Orphan, is_answered, State, lock_of, fork_of, request_of, with_kept}
 use Rattle.pdl_semantics.specs.Cycle.{awaited_of, for_mems, for_stages, has_release, oldest, but_oldest, list_two, list_three, taken_out, with_commits, entries_left, request_left, request_next, commit_shown, port_write, is_kept, squasher}
 use Rattle.pdl_theory_turns.proofs.EntryCommits.{released}
 use Rattle.pdl_semantics.specs.Moves.{movers, next_stage}
@@ -17,14 +17,15 @@ use Rattle.pdl_theory_derived.specs.Derived.{Work, commits_of, asks_of, asked_at
 use Rattle.pdl_theory_derived.specs.Derived
 use Rattle.pdl_theory_facts.specs.Scans.{none_of}
 use Rattle.pdl_theory_simulation.proofs.FlowFacts.{Flows}
-use Rattle.pdl_theory_derived.specs.Simulation.{SameTurn, SameTurns}
+use Rattle.pdl_theory_derived.specs.Simulation.{SameTurn}
 use Rattle.pdl_theory_derived.proofs.Writes.{row_committed}
 use Rattle.pdl_theory_derived.proofs.Slots.{rev, stages_same}
-use Rattle.pdl_theory_simulation.proofs.PerMemory.{at_mem, past_mems, mems_same, row_commits, past_commits}
+use Rattle.pdl_theory_simulation.proofs.PerMemory.{at_mem, past_mems, mems_same, row_commits, past_commits, mems_range, asks_mems}
 use Rattle.pdl_theory_simulation.proofs.LockRemovals.{Out}
 use Rattle.pdl_theory_derived.proofs.Lists.{pend}
 use Rattle.pdl_theory_turns.proofs.OwnEntries.{pend_own}
-use Rattle.pdl_theory_simulation.proofs.Stretches.{Keeps, AsksFrom, Fetched, AllFetched, unknown, keeps_fresh}
+use Rattle.pdl_theory_simulation.proofs.Stretches.{Keeps, Fetched, AllFetched, unknown}
+use Rattle.pdl_theory_simulation.proofs.StretchSteps.{AsksFrom}
 use Rattle.pdl_theory_simulation.proofs.Seats.{Live, each_map, Ordered, Rises, Falls, dacts, lacts, lact, did, work_of_live, acts_slots, acts_back, pends, pends_append}
 use Rattle.pdl_theory_simulation.proofs.Choices.{Matched, OwnedBy, AllOwned, Seated, Known, AllKnown, told_here, asks_here}
 use Rattle.pdl_theory_simulation.proofs.ThreadFacts.{sides, sorted, lives_of, find_sorted, rises_sorted}
@@ -40,16 +41,6 @@ use Rattle.pdl_word.specs.Each.{Each}
 use Rattle.pdl_word.proofs.Each.{each_append}
 use Rattle.pdl_theory_simulation.proofs.SimulatedStates.{Sim}
 
-mems_range : {X : Type 0} → (f g : ℕ → X) (k : ℕ) (xs : List Mem)
-    → ((m : ℕ) → k ≤ m → m < k + length xs → f m ≡ g m) → for_mems f k xs ≡ for_mems g k xs
-mems_range f g k [] h = refl
-mems_range f g k (x ∷ xs) h = ap₂ (λ a l. a ∷ l) (h k (omega arith) (omega arith)) (mems_range f g (suc k) xs (λ m i j. h m (omega arith) (omega arith)))
-
-asks_mems : (p : Pipe) (bits : List Bool) (qs : List Ask) (f : ℕ → Option ℕ) (k : ℕ) (xs : List Mem)
-    → next_asks p bits qs k (for_mems f k xs) ≡ for_mems (λ m. next_ask (find_ask qs m) (is_answered p bits m) (f m)) k xs
-asks_mems p bits qs f k [] = refl
-asks_mems p bits qs f k (x ∷ xs) = ap (λ l. next_ask (find_ask qs k) (is_answered p bits k) (f k) ∷ l) (asks_mems p bits qs f (suc k) xs)
-
 module _ (p : Pipe) (flows : Flows p) where
   -- only memories that are there are read
   pub fetch_low : (m s : ℕ) → none_of (is_delayed_read m) (in_stage s p.stmts) ≡ false → m < length p.mems
@@ -62,10 +53,7 @@ module _ (p : Pipe) (flows : Flows p) where
   module _ (st : State) (d : Derived.State) (bits : List Bool) (ls : List Live) (sim : Sim p st d ls) where
     -- in states that belong together, what is needed at the start of a cycle is known of each live thread
     pub known : AllKnown p flows st d bits sim.arrays ls
-    known =
-        known_all p flows st d bits sim.arrays ls sim.matched st.next ls sim.seated sim.ordered sim.falls
-        (λ m a k i. ap (λ q. Machine.youngest q k a Locks.Nothing) (sim.locks m))
-        (λ m i. sim.locks m)
+    known = known_all p flows st d bits sim.arrays ls sim.matched st.next ls sim.seated sim.ordered sim.falls (λ m a k i. ap (λ q. Machine.youngest q k a Locks.Nothing) (sim.locks m)) (λ m i. sim.locks m)
 
     inside_all : (ks : List Live) → Each (Seated p st) ks → Each (λ k. k.thread.stage < length p.stages) ks
     inside_all ks s = each_map (λ k h. h.keeps_on.inside) ks s
@@ -74,24 +62,17 @@ module _ (p : Pipe) (flows : Flows p) where
     pub acts_are : Moves.all_acts p st bits ≡ acts_of p flows st d bits sim.arrays (sorted ls)
     acts_are =
         ap (Moves.acts p st bits 0) (sim.stages ∙ stages_same _ _ 0 p.stages (λ q i. sym (find_sorted p q ls sim.ordered)))
-        ∙ acts_slots p st bits p.stages 0 (lives_of (sorted ls))
-        (subst (λ h. Rises 0 h (lives_of (sorted ls))) (sym (zero-add (length p.stages)))
-        (rises_sorted p (length p.stages) ls (inside_all ls sim.seated) sim.ordered))
-        ∙ acts_sorted p flows st d bits sim.arrays ls sim.matched st.next sim.seated sim.ordered sim.falls known sim.forks (length p.stages)
-        (inside_all ls sim.seated)
+        ∙ acts_slots p st bits p.stages 0 (lives_of (sorted ls)) (subst (λ h. Rises 0 h (lives_of (sorted ls))) (sym (zero-add (length p.stages))) (rises_sorted p (length p.stages) ls (inside_all ls sim.seated) sim.ordered))
+        ∙ acts_sorted p flows st d bits sim.arrays ls sim.matched st.next sim.seated sim.ordered sim.falls known sim.forks (length p.stages) (inside_all ls sim.seated)
 
     -- the stated state after a cycle is that after the same acts by age
     pub after_is : Cycle.cycle p st bits
         ≡ Cycle.after_these p st bits (lacts p st d bits ls) (movers (lacts p st d bits ls)) (squasher (movers (lacts p st d bits ls)))
-    after_is =
-        ap (Cycle.after_acts p st bits) acts_are
-        ∙ same_after p flows st d bits sim.arrays ls (swaps_all p flows st d bits sim.arrays st.next ls known sim.ordered sim.falls)
+    after_is = ap (Cycle.after_acts p st bits) acts_are ∙ same_after p flows st d bits sim.arrays ls (swaps_all p flows st d bits sim.arrays st.next ls known sim.ordered sim.falls)
 
     -- the stated ports of a cycle are those of the same acts by age
     pub ports_are : Cycle.ports p st (Moves.all_acts p st bits) ≡ Cycle.ports p st (lacts p st d bits ls)
-    ports_are =
-        ap (Cycle.ports p st) acts_are
-        ∙ same_ports p flows st d bits sim.arrays ls (swaps_all p flows st d bits sim.arrays st.next ls known sim.ordered sim.falls)
+    ports_are = ap (Cycle.ports p st) acts_are ∙ same_ports p flows st d bits sim.arrays ls (swaps_all p flows st d bits sim.arrays st.next ls known sim.ordered sim.falls)
 
     -- the derived machine's acts are those of the live threads, the oldest first
     pub derived_acts_are : Derived.all_acts p d bits ≡ rev (dacts p d bits ls)
@@ -104,13 +85,11 @@ module _ (p : Pipe) (flows : Flows p) where
     -- THE LOCKS
 
     list_is : (m : ℕ) → list_two st (movers (lacts p st d bits ls)) m ≡ two p flows st d bits sim.arrays m ls
-    list_is m =
-        ap (λ l. Cycle.with_all_writes m (movers (lacts p st d bits ls)) (Cycle.with_reserves m (movers (lacts p st d bits ls)) l)) (sim.locks m)
-        ∙ two_is p flows st d bits sim.arrays m st.next ls sim.seated sim.ordered sim.falls
+    list_is m = ap (λ l. Cycle.with_all_writes m (movers (lacts p st d bits ls)) (Cycle.with_reserves m (movers (lacts p st d bits ls)) l)) (sim.locks m) ∙ two_is p flows st d bits sim.arrays m st.next ls sim.seated sim.ordered sim.falls
 
     out : (m : ℕ)
-        → Out m (has_release m (movers (lacts p st d bits ls))) (two p flows st d bits sim.arrays m ls)
-        (three p flows st d bits sim.arrays m ls) (commits_here p flows st d bits sim.arrays m ls)
+        → Out m (has_release m (movers (lacts p st d bits ls))) (two p flows st d bits sim.arrays m ls) (three p flows st d bits sim.arrays m ls)
+        (commits_here p flows st d bits sim.arrays m ls)
     out m = three_is p flows st d bits sim.arrays m ls known sim.ordered
 
     list_next : (m : ℕ) → list_three st (movers (lacts p st d bits ls)) m ≡ three p flows st d bits sim.arrays m ls
@@ -122,9 +101,7 @@ module _ (p : Pipe) (flows : Flows p) where
 
     -- nothing is taken out of the lock of a memory that the pipe doesn't have
     pub never : (m : ℕ) → length p.mems ≤ m → taken_out st (movers (lacts p st d bits ls)) m ≡ None
-    never m i =
-        ap (λ b. cond b (oldest (list_two st (movers (lacts p st d bits ls)) m)) None)
-        (unreleased p flows st d bits sim.arrays m ls known (flows.unreleased m i))
+    never m i = ap (λ b. cond b (oldest (list_two st (movers (lacts p st d bits ls)) m)) None) (unreleased p flows st d bits sim.arrays m ls known (flows.unreleased m i))
 
     arrays_next : with_commits st (movers (lacts p st d bits ls)) 0 p.mems st.arrays ≡ after_commits d.arrays (commits_of (rev (dacts p d bits ls)))
     arrays_next = λ i n. each n i
@@ -145,11 +122,10 @@ module _ (p : Pipe) (flows : Flows p) where
 
     -- THE NEXT STATES
 
-    no_entries : (m : ℕ) → length p.mems ≤ m → (ks : List Live)
-        → Each (λ k. Keeps p k.env k.thread × (with_kept k.kept k.env ≡ k.thread.env)) ks → pends m ks ≡ []
+    no_entries : (m : ℕ) → length p.mems ≤ m → (ks : List Live) → Each (λ k. Keeps p k.env k.thread × (with_kept k.kept k.env ≡ k.thread.env)) ks
+        → pends m ks ≡ []
     no_entries m i [] o = refl
-    no_entries m i (k ∷ ks) o =
-        ap₂ (λ x y. x ++ y) (no_entries m i ks o.1) (pend_own m k.number k.thread.entries ∙ ap (pend m k.number) (unknown p flows k.env k.thread o.0.0 m i))
+    no_entries m i (k ∷ ks) o = ap₂ (λ x y. x ++ y) (no_entries m i ks o.1) (pend_own m k.number k.thread.entries ∙ ap (pend m k.number) (unknown p flows k.env k.thread o.0.0 m i))
 
     pends_born : (m : ℕ) (c : Option (List ℕ)) → pends m (born_live p st.next c) ≡ []
     pends_born m None = refl
@@ -164,25 +140,20 @@ module _ (p : Pipe) (flows : Flows p) where
             → lock_of (Cycle.after_these p st bits (lacts p st d bits ls) (movers (lacts p st d bits ls)) (squasher (movers (lacts p st d bits ls)))) m
             ≡ pends m (lives_next p flows st d bits sim.arrays ls)
         at true e =
-            at_mem (λ j. entries_left (squasher (movers (lacts p st d bits ls))) (list_three st (movers (lacts p st d bits ls)) j)) 0 p.mems m []
-            (ltb-true _ _ e)
+            at_mem (λ j. entries_left (squasher (movers (lacts p st d bits ls))) (list_three st (movers (lacts p st d bits ls)) j)) 0 p.mems m [] (ltb-true _ _ e)
             ∙ ap (λ j. entries_left (squasher (movers (lacts p st d bits ls))) (list_three st (movers (lacts p st d bits ls)) j)) (zero-add m)
             ∙ ap (entries_left (squasher (movers (lacts p st d bits ls)))) (list_next m)
             ∙ pends_on p flows st d bits sim.arrays m (squasher (movers (lacts p st d bits ls))) ls known fit
             ∙ sym (append-nil _) ∙ ap (λ x. pends m (go_on p st d bits ls) ++ x) (sym (pends_born m (made p flows st d bits sim.arrays ls)))
             ∙ sym (pends_append m (born_live p st.next (made p flows st d bits sim.arrays ls)) (go_on p st d bits ls))
-        at false e =
-            past_mems _ 0 p.mems m [] (ltb-false _ _ e)
-            ∙ sym (no_entries m (ltb-false _ _ e) (lives_next p flows st d bits sim.arrays ls) (ways_next p flows st d bits sim.arrays ls known))
+        at false e = past_mems _ 0 p.mems m [] (ltb-false _ _ e) ∙ sym (no_entries m (ltb-false _ _ e) (lives_next p flows st d bits sim.arrays ls) (ways_next p flows st d bits sim.arrays ls known))
 
     -- THE REQUESTS
 
     request_is : (m : ℕ)
         → request_left (squasher (movers (lacts p st d bits ls))) (request_next p st bits (movers (lacts p st d bits ls)) m)
         ≡ request_now p flows st d bits sim.arrays (squasher (movers (lacts p st d bits ls))) ls m
-    request_is m =
-        ap (request_left (squasher (movers (lacts p st d bits ls))))
-        (asked_is p flows st d bits sim.arrays m (if is_answered p bits m then NoRequest else request_of st m) ls known)
+    request_is m = ap (request_left (squasher (movers (lacts p st d bits ls)))) (asked_is p flows st d bits sim.arrays m (if is_answered p bits m then NoRequest else request_of st m) ls known)
 
     requests_are : (Cycle.after_these p st bits (lacts p st d bits ls) (movers (lacts p st d bits ls)) (squasher (movers (lacts p st d bits ls)))).requests
         ≡ for_mems (request_now p flows st d bits sim.arrays (squasher (movers (lacts p st d bits ls))) ls) 0 p.mems
@@ -191,16 +162,13 @@ module _ (p : Pipe) (flows : Flows p) where
     asked_are : (Derived.after_acts p d bits (rev (dacts p d bits ls))).asked ≡ for_mems (asked_now p flows st d bits sim.arrays ls) 0 p.mems
     asked_are =
         ap (next_asks p bits (asks_of (rev (dacts p d bits ls))) 0) sim.asked ∙ asks_mems p bits (asks_of (rev (dacts p d bits ls))) (asked_at d) 0 p.mems
-        ∙ mems_same _ _ 0 p.mems
-        (λ m. ap (λ q. next_ask q (is_answered p bits m) (asked_at d m)) (finds_is p flows st d bits sim.arrays m ls known sim.ordered))
+        ∙ mems_same _ _ 0 p.mems (λ m. ap (λ q. next_ask q (is_answered p bits m) (asked_at d m)) (finds_is p flows st d bits sim.arrays m ls known sim.ordered))
 
     -- the stated request of a memory after a cycle is the new one, or what is left of the old one
     pub request_at : (m : ℕ) → m < length p.mems
         → request_of (Cycle.after_these p st bits (lacts p st d bits ls) (movers (lacts p st d bits ls)) (squasher (movers (lacts p st d bits ls)))) m
         ≡ request_now p flows st d bits sim.arrays (squasher (movers (lacts p st d bits ls))) ls m
-    request_at m h =
-        ap (λ l. slice_index_or l m NoRequest) requests_are ∙ at_mem _ 0 p.mems m NoRequest h
-        ∙ ap (request_now p flows st d bits sim.arrays (squasher (movers (lacts p st d bits ls))) ls) (zero-add m)
+    request_at m h = ap (λ l. slice_index_or l m NoRequest) requests_are ∙ at_mem _ 0 p.mems m NoRequest h ∙ ap (request_now p flows st d bits sim.arrays (squasher (movers (lacts p st d bits ls))) ls) (zero-add m)
 
     -- the address that is outstanding for a memory in the derived machine after a cycle is the new one, or the old one that is left
     pub asked_next : (m : ℕ) → m < length p.mems
@@ -217,42 +185,31 @@ module _ (p : Pipe) (flows : Flows p) where
             (request_of (Cycle.after_these p st bits (lacts p st d bits ls) (movers (lacts p st d bits ls)) (squasher (movers (lacts p st d bits ls)))) m)
             (asked_at (Derived.after_acts p d bits (rev (dacts p d bits ls))) m) m (lives_next p flows st d bits sim.arrays ls)
         at true e =
-            subst (λ q. Matched q (asked_at (Derived.after_acts p d bits (rev (dacts p d bits ls))) m) m (lives_next p flows st d bits sim.arrays ls))
-            (sym (request_at m (ltb-true _ _ e)))
-            (subst
-            (λ o. Matched
-            (request_now p flows st d bits sim.arrays (squasher (movers (lacts p st d bits ls))) ls m) o m
-            (lives_next p flows st d bits sim.arrays ls))
-            (sym (asked_next m (ltb-true _ _ e)))
-            (matched_next p flows st d bits sim.arrays m st.next (made p flows st d bits sim.arrays ls)
-            (squasher (movers (lacts p st d bits ls))) ls known fit (sim.matched m)))
+            subst (λ q. Matched q (asked_at (Derived.after_acts p d bits (rev (dacts p d bits ls))) m) m (lives_next p flows st d bits sim.arrays ls)) (sym (request_at m (ltb-true _ _ e)))
+            (subst (λ o. Matched (request_now p flows st d bits sim.arrays (squasher (movers (lacts p st d bits ls))) ls m) o m (lives_next p flows st d bits sim.arrays ls)) (sym (asked_next m (ltb-true _ _ e)))
+            (matched_next p flows st d bits sim.arrays m st.next (made p flows st d bits sim.arrays ls) (squasher (movers (lacts p st d bits ls))) ls known fit (sim.matched m)))
         at false e =
-            subst (λ q. Matched q (asked_at (Derived.after_acts p d bits (rev (dacts p d bits ls))) m) m (lives_next p flows st d bits sim.arrays ls))
-            (sym (past_mems _ 0 p.mems m NoRequest (ltb-false _ _ e)))
+            subst (λ q. Matched q (asked_at (Derived.after_acts p d bits (rev (dacts p d bits ls))) m) m (lives_next p flows st d bits sim.arrays ls)) (sym (past_mems _ 0 p.mems m NoRequest (ltb-false _ _ e)))
             (ap (λ l. slice_index_or l m None) asked_are ∙ past_mems _ 0 p.mems m None (ltb-false _ _ e))
 
     nobody_asks : (l : Live) (m : ℕ) → OwnedBy st l.number m → is_answered p bits m ≡ false → (x : Option Asker)
         → asking p flows st d bits sim.arrays ls m ≡ x → asking p flows st d bits sim.arrays ls m ≡ None
     nobody_asks l m o i None e = e
-    nobody_asks l m o i (Some a) e =
-        absurd (cc (sym i ∙ port_was_free p flows st d bits sim.arrays m o.0 a ls known e (subst (λ q. Matched q (asked_at d m) m ls) o.1 (sim.matched m)).0))
+    nobody_asks l m o i (Some a) e = absurd (cc (sym i ∙ port_was_free p flows st d bits sim.arrays m o.0 a ls known e (subst (λ q. Matched q (asked_at d m) m ls) o.1 (sim.matched m)).0))
 
     -- a request that is not answered stays its owner's
-    pub request_stays : (l : Live) → is_kept (squasher (movers (lacts p st d bits ls))) l.number ≡ true
-        → (m : ℕ) (o : OwnedBy st l.number m) → Fetched p l.thread.stage m → is_answered p bits m ≡ false
+    pub request_stays : (l : Live) → is_kept (squasher (movers (lacts p st d bits ls))) l.number ≡ true → (m : ℕ) (o : OwnedBy st l.number m)
+        → Fetched p l.thread.stage m → is_answered p bits m ≡ false
         → request_of (Cycle.after_these p st bits (lacts p st d bits ls) (movers (lacts p st d bits ls)) (squasher (movers (lacts p st d bits ls)))) m
         ≡ Owned l.number o.0
     request_stays l s m o f e =
         request_at m (fetch_low m f.0 f.2)
-        ∙ ap₂ (λ k b. request_left (squasher (movers (lacts p st d bits ls))) (owned_by k (if b then NoRequest else request_of st m)))
-        (nobody_asks l m o e (asking p flows st d bits sim.arrays ls m) refl) e
+        ∙ ap₂ (λ k b. request_left (squasher (movers (lacts p st d bits ls))) (owned_by k (if b then NoRequest else request_of st m))) (nobody_asks l m o e (asking p flows st d bits sim.arrays ls m) refl) e
         ∙ ap (request_left (squasher (movers (lacts p st d bits ls)))) o.1
         ∙ ap (λ b. if b then Owned l.number o.0 else Orphan o.0) s
 
     -- and one that is made is its maker's
-    pub request_made : (l : Live) → is_kept (squasher (movers (lacts p st d bits ls))) l.number ≡ true → (m a : ℕ)
-        → m < length p.mems
-        → asking p flows st d bits sim.arrays ls m ≡ Some (record { number = l.number; address = a })
+    pub request_made : (l : Live) → is_kept (squasher (movers (lacts p st d bits ls))) l.number ≡ true → (m a : ℕ) → m < length p.mems → asking p flows st d bits sim.arrays ls m ≡ Some (record { number = l.number; address = a })
         → request_of (Cycle.after_these p st bits (lacts p st d bits ls) (movers (lacts p st d bits ls)) (squasher (movers (lacts p st d bits ls)))) m
         ≡ Owned l.number a
     request_made l s m a low e =
@@ -261,23 +218,17 @@ module _ (p : Pipe) (flows : Flows p) where
         ∙ ap (λ b. if b then Owned l.number a else Orphan a) s
 
     -- an awaited read has its own request
-    owned_stood : (l : Live) → is_kept (squasher (movers (lacts p st d bits ls))) l.number ≡ true → (rs : List Awaited)
-        → AllOwned st l.number rs → AllFetched p l.thread.stage rs
-        → AllOwned
-        (Cycle.after_these p st bits (lacts p st d bits ls) (movers (lacts p st d bits ls)) (squasher (movers (lacts p st d bits ls)))) l.number
+    owned_stood : (l : Live) → is_kept (squasher (movers (lacts p st d bits ls))) l.number ≡ true → (rs : List Awaited) → AllOwned st l.number rs
+        → AllFetched p l.thread.stage rs
+        → AllOwned (Cycle.after_these p st bits (lacts p st d bits ls) (movers (lacts p st d bits ls)) (squasher (movers (lacts p st d bits ls)))) l.number
         (still p bits rs)
     owned_stood l s [] o f = tt
     owned_stood l s (r ∷ rs) o f = at (is_answered p bits r.mem) refl (owned_stood l s rs o.1 f.1)
       where
-        nobody : (x : Option Asker) → asking p flows st d bits sim.arrays ls r.mem ≡ x
-            → is_answered p bits r.mem ≡ false → asking p flows st d bits sim.arrays ls r.mem ≡ None
+        nobody : (x : Option Asker) → asking p flows st d bits sim.arrays ls r.mem ≡ x → is_answered p bits r.mem ≡ false
+            → asking p flows st d bits sim.arrays ls r.mem ≡ None
         nobody None e i = e
-        nobody (Some a) e i =
-            absurd
-            (cc
-            (sym i
-            ∙ port_was_free p flows st d bits sim.arrays r.mem o.0.0 a ls known e
-            (subst (λ q. Matched q (asked_at d r.mem) r.mem ls) o.0.1 (sim.matched r.mem)).0))
+        nobody (Some a) e i = absurd (cc (sym i ∙ port_was_free p flows st d bits sim.arrays r.mem o.0.0 a ls known e (subst (λ q. Matched q (asked_at d r.mem) r.mem ls) o.0.1 (sim.matched r.mem)).0))
 
         at : (b : Bool) → is_answered p bits r.mem ≡ b
             → AllOwned
@@ -291,8 +242,7 @@ module _ (p : Pipe) (flows : Flows p) where
           (
             o.0.0,
             request_at r.mem (fetch_low r.mem f.0.0 f.0.2)
-                ∙ ap₂ (λ k b. request_left (squasher (movers (lacts p st d bits ls))) (owned_by k (if b then NoRequest else request_of st r.mem)))
-                (nobody (asking p flows st d bits sim.arrays ls r.mem) refl e) e
+                ∙ ap₂ (λ k b. request_left (squasher (movers (lacts p st d bits ls))) (owned_by k (if b then NoRequest else request_of st r.mem))) (nobody (asking p flows st d bits sim.arrays ls r.mem) refl e) e
                 ∙ ap (request_left (squasher (movers (lacts p st d bits ls)))) o.0.1
                 ∙ ap (λ b. if b then Owned l.number o.0.0 else Orphan o.0.0) s,
           ),
@@ -300,11 +250,9 @@ module _ (p : Pipe) (flows : Flows p) where
         )
 
     -- an ask has its own request
-    owned_moved : (l : Live) → is_kept (squasher (movers (lacts p st d bits ls))) l.number ≡ true → (all : List Ask)
-        → ((m a : ℕ) → find_ask all m ≡ Some a → asking p flows st d bits sim.arrays ls m ≡ Some (record { number = l.number; address = a }))
+    owned_moved : (l : Live) → is_kept (squasher (movers (lacts p st d bits ls))) l.number ≡ true → (all : List Ask) → ((m a : ℕ) → find_ask all m ≡ Some a → asking p flows st d bits sim.arrays ls m ≡ Some (record { number = l.number; address = a }))
         → (qs : List Ask) → AsksFrom (in_stage l.thread.stage p.stmts) qs → ((m : ℕ) → is_some (find_ask qs m) ≡ true → is_some (find_ask all m) ≡ true)
-        → AllOwned
-        (Cycle.after_these p st bits (lacts p st d bits ls) (movers (lacts p st d bits ls)) (squasher (movers (lacts p st d bits ls)))) l.number
+        → AllOwned (Cycle.after_these p st bits (lacts p st d bits ls) (movers (lacts p st d bits ls)) (squasher (movers (lacts p st d bits ls)))) l.number
         (awaited_of qs)
     owned_moved l s all g [] f i = tt
     owned_moved l s all g (q ∷ qs) f i = (own (find_ask all q.mem) refl (i q.mem here), owned_moved l s all g qs f.1 (λ m h. i m (more m (q.mem == m) h)))
@@ -323,10 +271,7 @@ module _ (p : Pipe) (flows : Flows p) where
         own (Some a) e h = (
           a,
           request_at q.mem (fetch_low q.mem l.thread.stage f.0)
-              ∙ ap
-              (λ k. request_left (squasher (movers (lacts p st d bits ls)))
-              (owned_by k (if is_answered p bits q.mem then NoRequest else request_of st q.mem)))
-              (g q.mem a e)
+              ∙ ap (λ k. request_left (squasher (movers (lacts p st d bits ls))) (owned_by k (if is_answered p bits q.mem then NoRequest else request_of st q.mem))) (g q.mem a e)
               ∙ ap (λ b. if b then Owned l.number a else Orphan a) s,
         )
 
@@ -348,14 +293,11 @@ module _ (p : Pipe) (flows : Flows p) where
         older m a e true = ap (λ x. first_of x l.number (asking p flows st d bits sim.arrays ks m)) (one_asks p flows st d bits sim.arrays m a l ks k o e) ∙ e
         older m a e false = e
 
-        mine : (did p d bits ks l).moves ≡ true → (m a : ℕ) → find_ask (work_of_live p d bits ks l).asks m ≡ Some a
-            → asking p flows st d bits sim.arrays (l ∷ ks) m ≡ Some (record { number = l.number; address = a })
+        mine : (did p d bits ks l).moves ≡ true → (m a : ℕ) → find_ask (work_of_live p d bits ks l).asks m ≡ Some a → asking p flows st d bits sim.arrays (l ∷ ks) m ≡ Some (record { number = l.number; address = a })
         mine i m a e = ap₂ (λ b x. cond b (first_of x l.number (asking p flows st d bits sim.arrays ks m)) (asking p flows st d bits sim.arrays ks m)) i e
 
         from_stage : AsksFrom (in_stage l.thread.stage p.stmts) (work_of_live p d bits ks l).asks
-        from_stage =
-            subst (λ (w : Work). AsksFrom (in_stage l.thread.stage p.stmts) w.asks)
-            (sym (told_here p flows st d bits sim.arrays ks l k.0).is) (asks_here p flows st d bits sim.arrays ks l k.0)
+        from_stage = subst (λ (w : Work). AsksFrom (in_stage l.thread.stage p.stmts) w.asks) (sym (told_here p flows st d bits sim.arrays ks l k.0).is) (asks_here p flows st d bits sim.arrays ks l k.0)
 
         at : (f : Bool) → fell p d bits ks ≡ f
             → Each
@@ -370,25 +312,16 @@ module _ (p : Pipe) (flows : Flows p) where
             ((if f then [] else next_live p st d bits ks l) ++ go_on p st d bits ks)
         at true e r = r
         at false e r =
-            each_append
-            (λ k. AllOwned
-            (Cycle.after_these p st bits (lacts p st d bits ls) (movers (lacts p st d bits ls))
-            (squasher (movers (lacts p st d bits ls)))) k.number k.thread.awaits)
-            (next_live p st d bits ks l) (go_on p st d bits ks)
-            (each_next p flows st d bits sim.arrays
-            (λ k. AllOwned
-            (Cycle.after_these p st bits (lacts p st d bits ls) (movers (lacts p st d bits ls))
-            (squasher (movers (lacts p st d bits ls)))) k.number k.thread.awaits) ks l k.0
+            each_append (λ k. AllOwned (Cycle.after_these p st bits (lacts p st d bits ls) (movers (lacts p st d bits ls)) (squasher (movers (lacts p st d bits ls)))) k.number k.thread.awaits) (next_live p st d bits ks l) (go_on p st d bits ks)
+            (each_next p flows st d bits sim.arrays (λ k. AllOwned (Cycle.after_these p st bits (lacts p st d bits ls) (movers (lacts p st d bits ls)) (squasher (movers (lacts p st d bits ls)))) k.number k.thread.awaits) ks l k.0
             (λ i. owned_stood l (g.0 ∙ ap not e) l.thread.awaits k.0.seated.owned k.0.seated.keeps_on.fetched)
-            (λ i q j. owned_moved l (g.0 ∙ ap not e) (work_of_live p d bits ks l).asks (λ m a u. h m _ (mine i m a u))
-            (work_of_live p d bits ks l).asks from_stage (λ m u. u)))
+            (λ i q j. owned_moved l (g.0 ∙ ap not e) (work_of_live p d bits ks l).asks (λ m a u. h m _ (mine i m a u)) (work_of_live p d bits ks l).asks from_stage (λ m u. u)))
             r
 
     seated_next : Each
         (Seated p (Cycle.after_these p st bits (lacts p st d bits ls) (movers (lacts p st d bits ls)) (squasher (movers (lacts p st d bits ls)))))
         (lives_next p flows st d bits sim.arrays ls)
-    seated_next =
-        both (lives_next p flows st d bits sim.arrays ls) (ways_next p flows st d bits sim.arrays ls known) (owned (made p flows st d bits sim.arrays ls))
+    seated_next = both (lives_next p flows st d bits sim.arrays ls) (ways_next p flows st d bits sim.arrays ls known) (owned (made p flows st d bits sim.arrays ls))
       where
         owned : (c : Option (List ℕ))
             → Each
@@ -419,8 +352,8 @@ module _ (p : Pipe) (flows : Flows p) where
     past_stages g k (x ∷ xs) zero none h = absurd (omega arith)
     past_stages g k (x ∷ xs) (suc i) none h = past_stages g (suc k) xs i none (omega arith)
 
-    none_inside : (f : ℕ) → length p.stages ≤ f → (ks : List Live)
-        → Each (λ k. Keeps p k.env k.thread × (with_kept k.kept k.env ≡ k.thread.env)) ks → sides p f ks ≡ []
+    none_inside : (f : ℕ) → length p.stages ≤ f → (ks : List Live) → Each (λ k. Keeps p k.env k.thread × (with_kept k.kept k.env ≡ k.thread.env)) ks
+        → sides p f ks ≡ []
     none_inside f h ks o = sides_none p f ks (each_map (λ k w. outside k.thread.stage (w.0.inside)) ks o)
       where
         outside : (s : ℕ) → s < length p.stages → is_inside p f s ≡ false
@@ -443,21 +376,11 @@ module _ (p : Pipe) (flows : Flows p) where
             → fork_of (Cycle.after_these p st bits (lacts p st d bits ls) (movers (lacts p st d bits ls)) (squasher (movers (lacts p st d bits ls)))) f
             ≡ sides p f (lives_next p flows st d bits sim.arrays ls)
         at true e =
-            at_stage
-            (λ j. Cycle.branches_left p (squasher (movers (lacts p st d bits ls))) j
-            (Cycle.fork_next p st (movers (lacts p st d bits ls)) j)) 0 p.stages f []
-            (ltb-true _ _ e)
+            at_stage (λ j. Cycle.branches_left p (squasher (movers (lacts p st d bits ls))) j (Cycle.fork_next p st (movers (lacts p st d bits ls)) j)) 0 p.stages f [] (ltb-true _ _ e)
             ∙ ap (λ j. Cycle.branches_left p (squasher (movers (lacts p st d bits ls))) j (Cycle.fork_next p st (movers (lacts p st d bits ls)) j)) (zero-add f)
-            ∙ ap
-            (λ l. Cycle.branches_left p (squasher (movers (lacts p st d bits ls))) f
-            ((if Cycle.has_left p f (movers (lacts p st d bits ls)) then Cycle.but_first l else l)
-            ++ Cycle.entered_branches p f (movers (lacts p st d bits ls))))
-            (sim.forks f)
-            ∙ fork_next p flows st d bits sim.arrays f st.next (made p flows st d bits sim.arrays ls)
-            (squasher (movers (lacts p st d bits ls))) ls known sim.ordered (squashes p flows st d bits sim.arrays st.next ls known sim.falls)
-        at false e =
-            past_stages _ 0 p.stages f [] (ltb-false _ _ e)
-            ∙ sym (none_inside f (ltb-false _ _ e) (lives_next p flows st d bits sim.arrays ls) (ways_next p flows st d bits sim.arrays ls known))
+            ∙ ap (λ l. Cycle.branches_left p (squasher (movers (lacts p st d bits ls))) f ((if Cycle.has_left p f (movers (lacts p st d bits ls)) then Cycle.but_first l else l) ++ Cycle.entered_branches p f (movers (lacts p st d bits ls)))) (sim.forks f)
+            ∙ fork_next p flows st d bits sim.arrays f st.next (made p flows st d bits sim.arrays ls) (squasher (movers (lacts p st d bits ls))) ls known sim.ordered (squashes p flows st d bits sim.arrays st.next ls known sim.falls)
+        at false e = past_stages _ 0 p.stages f [] (ltb-false _ _ e) ∙ sym (none_inside f (ltb-false _ _ e) (lives_next p flows st d bits sim.arrays ls) (ways_next p flows st d bits sim.arrays ls known))
 
     -- the next states belong together
     next_sim : Sim p (Cycle.after_these p st bits (lacts p st d bits ls) (movers (lacts p st d bits ls)) (squasher (movers (lacts p st d bits ls))))
@@ -466,18 +389,10 @@ module _ (p : Pipe) (flows : Flows p) where
         record {
           arrays = arrays_next;
           threads = survive p flows st d bits sim.arrays ls known sim.have_made;
-          stages =
-              stages_same _ _ 0 p.stages
-              (λ q i. ap
-              (λ c. Cycle.or_then (if q == 0 then Cycle.born_thread p st.next c else None)
-              (Cycle.if_kept (squasher (movers (lacts p st d bits ls))) (Cycle.next_thread p q (lacts p st d bits ls))))
-              (child_is p flows st d bits sim.arrays ls known)
+          stages = stages_same _ _ 0 p.stages (λ q i. ap (λ c. Cycle.or_then (if q == 0 then Cycle.born_thread p st.next c else None) (Cycle.if_kept (squasher (movers (lacts p st d bits ls))) (Cycle.next_thread p q (lacts p st d bits ls)))) (child_is p flows st d bits sim.arrays ls known)
               ∙ stage_is p flows st d bits sim.arrays (squasher (movers (lacts p st d bits ls))) q ls known sim.ordered fit);
           locks = locks_next;
-          falls =
-              subst (λ c. Falls (if is_some c then suc st.next else st.next) (lives_next p flows st d bits sim.arrays ls))
-              (sym (child_is p flows st d bits sim.arrays ls known))
-              (falls_next p flows st d bits sim.arrays ls sim.falls);
+          falls = subst (λ c. Falls (if is_some c then suc st.next else st.next) (lives_next p flows st d bits sim.arrays ls)) (sym (child_is p flows st d bits sim.arrays ls known)) (falls_next p flows st d bits sim.arrays ls sim.falls);
           ordered = ordered_next p flows st d bits sim.arrays ls known sim.ordered sim.have_made;
           seated = seated_next;
           have_made = made_next p flows st d bits sim.arrays ls known sim.have_made;
@@ -491,10 +406,7 @@ module _ (p : Pipe) (flows : Flows p) where
     pub cycle_sim : Sim p (Cycle.cycle p st bits) (Derived.cycle p d bits) (lives_next p flows st d bits sim.arrays ls)
     cycle_sim =
         subst (λ s. Sim p s (Derived.cycle p d bits) (lives_next p flows st d bits sim.arrays ls)) (sym after_is)
-        (subst
-        (λ these. Sim p (Cycle.after_these p st bits (lacts p st d bits ls) (movers (lacts p st d bits ls)) (squasher (movers (lacts p st d bits ls))))
-        (Derived.after_acts p d bits these) (lives_next p flows st d bits sim.arrays ls))
-        (sym derived_acts_are) next_sim)
+        (subst (λ these. Sim p (Cycle.after_these p st bits (lacts p st d bits ls) (movers (lacts p st d bits ls)) (squasher (movers (lacts p st d bits ls)))) (Derived.after_acts p d bits these) (lives_next p flows st d bits sim.arrays ls)) (sym derived_acts_are) next_sim)
 
     -- THE PORTS
 
@@ -514,8 +426,7 @@ module _ (p : Pipe) (flows : Flows p) where
     any_pair one other (l ∷ ks) k f = ap₂ (λ a b. a || b) (f ks l k.0) (any_pair one other ks k.1 f)
 
     flags : (f : ℕ → Bool) (these : List Derived.Act) (test : Derived.Act → Bool) (s : ℕ) (xs : List Stage)
-        → ((q : ℕ) → f q ≡ list_any (λ a. (a.before.stage == q) && test a) these)
-        → for_stages f s xs ≡ stage_flags these test s xs
+        → ((q : ℕ) → f q ≡ list_any (λ a. (a.before.stage == q) && test a) these) → for_stages f s xs ≡ stage_flags these test s xs
     flags f these test s [] h = refl
     flags f these test s (x ∷ xs) h = ap₂ (λ a l. a ∷ l) (h s) (flags f these test (suc s) xs h)
 
@@ -529,8 +440,7 @@ module _ (p : Pipe) (flows : Flows p) where
     and_comm false false = refl
 
     -- both waits ask the same of each memory
-    waits_are : (f : ℕ → Request) (g : ℕ → Option ℕ) → ((m : ℕ) → Cycle.is_outstanding (f m) ≡ is_some (g m))
-        → (k : ℕ) (xs : List Mem)
+    waits_are : (f : ℕ → Request) (g : ℕ → Option ℕ) → ((m : ℕ) → Cycle.is_outstanding (f m) ≡ is_some (g m)) → (k : ℕ) (xs : List Mem)
         → Cycle.waits_from p bits k (for_mems f k xs) ≡ Derived.waits_from p bits k (for_mems g k xs)
     waits_are f g h k [] = refl
     waits_are f g h k (x ∷ xs) = at (g k) (ap₂ (λ a b. (a && not (is_answered p bits k)) || b) (h k) (waits_are f g h (suc k) xs))
@@ -555,38 +465,18 @@ module _ (p : Pipe) (flows : Flows p) where
     pub turn_same : SameTurn p (record { ports = Cycle.ports p st (Moves.all_acts p st bits); wait = Cycle.is_wait p st bits })
         (record { ports = Derived.ports_of p (Derived.all_acts p d bits); wait = Derived.is_wait p d bits })
     turn_same =
-        subst
-        (λ ports. SameTurn p (record { ports = ports; wait = Cycle.is_wait p st bits })
-        (record { ports = Derived.ports_of p (Derived.all_acts p d bits); wait = Derived.is_wait p d bits }))
-        (sym ports_are)
-        (subst
-        (λ bs. SameTurn p (record { ports = Cycle.ports p st (lacts p st d bits ls); wait = Cycle.is_wait p st bits })
-        (record { ports = Derived.ports_of p bs; wait = Derived.is_wait p d bits }))
-        (sym derived_acts_are)
+        subst (λ ports. SameTurn p (record { ports = ports; wait = Cycle.is_wait p st bits }) (record { ports = Derived.ports_of p (Derived.all_acts p d bits); wait = Derived.is_wait p d bits })) (sym ports_are)
+        (subst (λ bs. SameTurn p (record { ports = Cycle.ports p st (lacts p st d bits ls); wait = Cycle.is_wait p st bits }) (record { ports = Derived.ports_of p bs; wait = Derived.is_wait p d bits })) (sym derived_acts_are)
         (record {
-          valid =
-              flags _ (rev (dacts p d bits ls)) _ 0 p.stages
-              (λ q. any_pair (λ a. a.stage == q) (λ a. (a.before.stage == q) && true) ls known (λ ks l k. and_true (l.thread.stage == q))
-              ∙ sym (any_rev _ (dacts p d bits ls)));
-          moves =
-              flags _ (rev (dacts p d bits ls)) _ 0 p.stages
-              (λ q. any_movers (λ a. a.stage == q) (lacts p st d bits ls)
-              ∙ any_pair (λ a. a.moves && (a.stage == q)) (λ a. (a.before.stage == q) && a.moves) ls known (λ ks l k. and_comm _ (l.thread.stage == q))
-              ∙ sym (any_rev _ (dacts p d bits ls)));
+          valid = flags _ (rev (dacts p d bits ls)) _ 0 p.stages (λ q. any_pair (λ a. a.stage == q) (λ a. (a.before.stage == q) && true) ls known (λ ks l k. and_true (l.thread.stage == q)) ∙ sym (any_rev _ (dacts p d bits ls)));
+          moves = flags _ (rev (dacts p d bits ls)) _ 0 p.stages (λ q. any_movers (λ a. a.stage == q) (lacts p st d bits ls) ∙ any_pair (λ a. a.moves && (a.stage == q)) (λ a. (a.before.stage == q) && a.moves) ls known (λ ks l k. and_comm _ (l.thread.stage == q)) ∙ sym (any_rev _ (dacts p d bits ls)));
           commits = commits_shown;
-          requests =
-              mems_same _ _ 0 p.mems
-              (λ m. shown_is p flows st d bits sim.arrays m ls known ∙ sym (finds_is p flows st d bits sim.arrays m ls known sim.ordered));
+          requests = mems_same _ _ 0 p.mems (λ m. shown_is p flows st d bits sim.arrays m ls known ∙ sym (finds_is p flows st d bits sim.arrays m ls known sim.ordered));
           ended = any_movers (λ a. is_none (next_stage p a.stage a.does)) (lacts p st d bits ls)
-              ∙ any_pair (λ a. a.moves && is_none (next_stage p a.stage a.does))
-              (λ a. a.moves && is_none (Derived.exit_of p a)) ls known
-              (λ ks l k. ap (λ (w : Work). (did p d bits ks l).moves && is_none (goes_to (stage_at p l.thread.stage).next w.env))
-              (sym (told_here p flows st d bits sim.arrays ks l k).is))
+              ∙ any_pair (λ a. a.moves && is_none (next_stage p a.stage a.does)) (λ a. a.moves && is_none (Derived.exit_of p a)) ls known (λ ks l k. ap (λ (w : Work). (did p d bits ks l).moves && is_none (goes_to (stage_at p l.thread.stage).next w.env)) (sym (told_here p flows st d bits sim.arrays ks l k).is))
               ∙ sym (any_rev _ (dacts p d bits ls));
           squash = squashes p flows st d bits sim.arrays st.next ls known sim.falls ∙ sym (any_rev _ (dacts p d bits ls));
-          wait =
-              ap (Cycle.waits_from p bits 0) sim.requests ∙ waits_are (request_of st) (asked_at d) outstanding 0 p.mems
-              ∙ ap (Derived.waits_from p bits 0) (sym sim.asked);
+          wait = ap (Cycle.waits_from p bits 0) sim.requests ∙ waits_are (request_of st) (asked_at d) outstanding 0 p.mems ∙ ap (Derived.waits_from p bits 0) (sym sim.asked);
         }))
       where
         commits_shown : (m : ℕ)
@@ -598,83 +488,8 @@ module _ (p : Pipe) (flows : Flows p) where
                 → commit_shown m (slice_index_or (for_mems (λ j. port_write (taken_out st (movers (lacts p st d bits ls)) j)) 0 p.mems) m None)
                 ≡ of_mem m (commits_of (rev (dacts p d bits ls)))
             at true e =
-                ap (commit_shown m)
-                (at_mem (λ j. port_write (taken_out st (movers (lacts p st d bits ls)) j)) 0 p.mems m None (ltb-true _ _ e)
-                ∙ ap (λ j. port_write (taken_out st (movers (lacts p st d bits ls)) j)) (zero-add m))
+                ap (commit_shown m) (at_mem (λ j. port_write (taken_out st (movers (lacts p st d bits ls)) j)) 0 p.mems m None (ltb-true _ _ e) ∙ ap (λ j. port_write (taken_out st (movers (lacts p st d bits ls)) j)) (zero-add m))
                 ∙ sym (commits_are m)
             at false e =
-                ap (commit_shown m)
-                (past_mems (λ j. port_write (taken_out st (movers (lacts p st d bits ls)) j)) 0 p.mems m None (ltb-false _ _ e)
-                ∙ ap port_write (sym (never m (ltb-false _ _ e))))
+                ap (commit_shown m) (past_mems (λ j. port_write (taken_out st (movers (lacts p st d bits ls)) j)) 0 p.mems m None (ltb-false _ _ e) ∙ ap port_write (sym (never m (ltb-false _ _ e))))
                 ∙ sym (commits_are m)
-
-  -- RUNS
-
-  no_lists : (k m : ℕ) (xs : List Mem) → slice_index_or (for_mems {X = List Pending} (λ m. []) k xs) m [] ≡ []
-  no_lists k m [] = refl
-  no_lists k zero (x ∷ xs) = refl
-  no_lists k (suc m) (x ∷ xs) = no_lists (suc k) m xs
-
-  no_branches : (k f : ℕ) (xs : List Stage) → slice_index_or (for_stages {X = List Bool} (λ f. []) k xs) f [] ≡ []
-  no_branches k f [] = refl
-  no_branches k zero (x ∷ xs) = refl
-  no_branches k (suc f) (x ∷ xs) = no_branches (suc k) f xs
-
-  no_request : (k m : ℕ) (xs : List Mem) → slice_index_or (for_mems (λ m. NoRequest) k xs) m NoRequest ≡ NoRequest
-  no_request k m [] = refl
-  no_request k zero (x ∷ xs) = refl
-  no_request k (suc m) (x ∷ xs) = no_request (suc k) m xs
-
-  nothing_is : (k : ℕ) (xs : List Mem) → Derived.nothing_asked xs ≡ for_mems (λ m. None) k xs
-  nothing_is k [] = refl
-  nothing_is k (x ∷ xs) = ap (λ l. None ∷ l) (nothing_is (suc k) xs)
-
-  nothing_at : (m : ℕ) (xs : List Mem) → slice_index_or (Derived.nothing_asked xs) m None ≡ None
-  nothing_at m [] = refl
-  nothing_at zero (x ∷ xs) = refl
-  nothing_at (suc m) (x ∷ xs) = nothing_at m xs
-
-  same_numbers : (a b : ℕ) → (a == b) ≡ (b == a)
-  same_numbers a b = at (a == b) refl (b == a) refl
-    where
-      at : (x : Bool) → (a == b) ≡ x → (y : Bool) → (b == a) ≡ y → x ≡ y
-      at true e true f = refl
-      at true e false f = absurd (eqb-false b a f (sym (eqb-true a b e)))
-      at false e true f = absurd (eqb-false a b e (sym (eqb-true b a f)))
-      at false e false f = refl
-
-  -- thread 1 in stage 0 with the start arguments
-  abbrev pub first_live : Live
-  first_live = record { number = 1; thread = Derived.fresh p p.start; env = (Derived.fresh p p.start).env; kept = [] }
-
-  -- both machines start alike
-  pub first_sim : (image : Arrays) → Sim p (Cycle.first p image) (Derived.first p image) (first_live ∷ [])
-  first_sim image =
-      record {
-        arrays = refl;
-        threads = refl;
-        stages = stages_same _ _ 0 p.stages (λ q i. ap (λ b. cond b (Cycle.born_thread p 1 (Some p.start)) None) (same_numbers q 0));
-        locks = λ m. no_lists 0 m p.mems;
-        falls = (omega arith, tt);
-        ordered = (tt, tt);
-        seated = (record { keeps_on = keeps_fresh p flows p.start; kept_in = refl; owned = tt }, tt);
-        have_made = tt;
-        forks = λ f. no_branches 0 f p.stages ∙ sym (ap (λ b. [] ++ side_in f b) flows.graph.trunk_start);
-        requests = mems_same _ _ 0 p.mems (λ m. sym (no_request 0 m p.mems));
-        asked = nothing_is 0 p.mems ∙ mems_same _ _ 0 p.mems (λ m. sym (nothing_at m p.mems));
-        matched = λ m. subst (λ q. Matched q (asked_at (Derived.first p image) m) m (first_live ∷ [])) (sym (no_request 0 m p.mems)) (nothing_at m p.mems);
-      }
-
-  -- a run of both, and the live threads at its end
-  pub runs_same : (st : State) (d : Derived.State) (schedule : List (List Bool)) (ls : List Live) → Sim p st d ls
-      → SameTurns p (Cycle.turns_from p st schedule) (Derived.turns_from p d schedule)
-      × ((ks : List Live) × Sim p (Cycle.state_after p st schedule) (Derived.state_after p d schedule) ks)
-  runs_same st d [] ls sim = (tt, (ls, sim))
-  runs_same st d (bits ∷ schedule) ls sim =
-      let rest =
-      runs_same (Cycle.cycle p st bits) (Derived.cycle p d bits) schedule (lives_next p flows st d bits sim.arrays ls) (cycle_sim st d bits ls sim) in
-      ((turn_same st d bits ls sim, rest.0), rest.1)
-
-  -- the simulation
-  pub same_turns : (image : Arrays) (schedule : List (List Bool)) → SameTurns p (Cycle.turns p image schedule) (Derived.turns p image schedule)
-  same_turns image schedule = (runs_same (Cycle.first p image) (Derived.first p image) schedule (first_live ∷ []) (first_sim image)).0

@@ -23,7 +23,7 @@ use Rattle.pdl_theory_states.proofs.ThreadFacts.{Lasting, Along}
 use Rattle.pdl_theory_states.proofs.ReachedStates.{Whole, Youngest}
 use Rattle.pdl_theory_states.proofs.Order.{behind_is, sides_are, sides_same, from_all}
 use Rattle.pdl_theory_states.proofs.Points.{chain, asks_point, owner_any, blocks_point, path_point, any_onto, both_true}
-use Rattle.pdl_theory_states.proofs.ThreadHistory.{any_append, any_front}
+use Rattle.pdl_theory_states.proofs.FetchCounts.{any_append, any_front}
 use Rattle.pdl_word.specs.Each.{Each}
 use Rattle.pdl_theory_simulation.proofs.SimulatedStates.{HaveMade, Sim}
 

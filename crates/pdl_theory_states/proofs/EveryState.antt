@@ -21,7 +21,7 @@ use Rattle.pdl_semantics.specs.Flat.{of_mem, Commit}
 use Rattle.pdl_theory_derived.proofs.Writes.{row_committed}
 use Rattle.pdl_theory_simulation.proofs.AcceptedFacts.{sound_flows}
 use Rattle.pdl_theory_simulation.proofs.CarriedTheorems.{ended_same}
-use Rattle.pdl_theory_simulation.proofs.WholeSimulation.{same_turns}
+use Rattle.pdl_theory_simulation.proofs.SimulatedRuns.{same_turns}
 use Rattle.pdl_theory_turns.proofs.Lives.{RowsAt}
 use Rattle.pdl_theory_simulation.proofs.Choices.{Seated}
 use Rattle.pdl_semantics.specs.Promises.{row, wrote}

@@ -36,11 +36,13 @@ use Rattle.pdl_theory_simulation.proofs.AcceptedFacts.{sound_flows}
 use Rattle.pdl_theory_derived.proofs.Entries.{entries_of}
 use Rattle.pdl_theory_derived.proofs.Lists.{own, pend}
 use Rattle.pdl_theory_turns.proofs.OwnEntries.{pend_own}
-use Rattle.pdl_theory_simulation.proofs.Stretches.{on_way, awaits_var, early}
+use Rattle.pdl_theory_simulation.proofs.Stretches.{on_way, early}
+use Rattle.pdl_theory_simulation.proofs.StretchSteps.{awaits_var}
 use Rattle.pdl_theory_simulation.proofs.Seats.{Live, seat, threads_of}
 use Rattle.pdl_theory_simulation.proofs.Choices.{Seated, Matched, OwnedBy, AllOwned}
 use Rattle.pdl_theory_states.proofs.OldestFirst.{told, oldest_first}
-use Rattle.pdl_theory_states.proofs.PastStatements.{AllOps, AnyOp, ops_both, any_both, onto, touches, AskedBy}
+use Rattle.pdl_theory_states.proofs.PastStatements.{AskedBy}
+use Rattle.pdl_theory_states.proofs.UnusedValues.{AllOps, AnyOp, ops_both, any_both, onto, touches}
 use Rattle.pdl_theory_states.proofs.ThreadHistory.{AnyAsk, AllKept, AllAwaited, any_of, past_of, kept_other, kept_map}
 use Rattle.pdl_theory_states.proofs.ThreadFacts.{awaited_map, any_ask_map}
 use Rattle.pdl_theory_states.proofs.Points.{onto_any}

@@ -1,8 +1,10 @@
 mod Examples
 pub mod OldestFirst
 pub mod PastStatements
+pub mod UnusedValues
 pub mod Trails
 pub mod ThreadHistory
+pub mod FetchCounts
 pub mod OlderWrites
 pub mod Stage
 pub mod ThreadFacts

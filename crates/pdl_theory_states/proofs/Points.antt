@@ -20,9 +20,11 @@ use Rattle.pdl_theory_simulation.proofs.Seats.{Live, threads_of, each_map}
 use Rattle.pdl_theory_simulation.proofs.Choices.{Seated}
 use Rattle.pdl_theory_simulation.proofs.Choices
 use Rattle.pdl_theory_states.proofs.OldestFirst.{told, oldest_first, AllLive, live_each}
-use Rattle.pdl_theory_states.proofs.PastStatements.{AllOps, onto, BlockOk, Done, AllPlaced, is_released}
+use Rattle.pdl_theory_states.proofs.PastStatements.{BlockOk, AllPlaced, is_released}
+use Rattle.pdl_theory_states.proofs.UnusedValues.{AllOps, onto, Done}
 use Rattle.pdl_theory_states.proofs.Trails.{AllStmts, stmts_map, stmts_ops, trail_comes}
-use Rattle.pdl_theory_states.proofs.ThreadHistory.{Local, HeldOp, here, past_of, count_is, any_append, any_front}
+use Rattle.pdl_theory_states.proofs.ThreadHistory.{Local, here, past_of}
+use Rattle.pdl_theory_states.proofs.FetchCounts.{HeldOp, count_is, any_append, any_front}
 use Rattle.pdl_theory_states.proofs.Stage.{look_at}
 use Rattle.pdl_theory_simulation.proofs.SimulatedStates.{HaveMade}
 

@@ -23,9 +23,11 @@ use Rattle.pdl_theory_simulation.proofs.Choices.{Known, AllKnown, keeps_now}
 use Rattle.pdl_theory_simulation.proofs.LockLists.{fell, moved_live, stood, go_on, Agrees}
 use Rattle.pdl_theory_simulation.proofs.LiveThreads.{made, childed_here, born_live, lives_next}
 use Rattle.pdl_theory_simulation.proofs.Requests.{Asker, asking, one_asks, first_of}
-use Rattle.pdl_theory_simulation.proofs.WholeSimulation.{known, fit, after_is, cycle_sim, first_sim, first_live}
+use Rattle.pdl_theory_simulation.proofs.WholeSimulation.{known, fit, after_is, cycle_sim}
+use Rattle.pdl_theory_simulation.proofs.SimulatedRuns.{first_sim, first_live}
 use Rattle.pdl_theory_states.specs.Strict.{Strict}
-use Rattle.pdl_theory_states.proofs.PastStatements.{AllOps, onto, BlockOk}
+use Rattle.pdl_theory_states.proofs.PastStatements.{BlockOk}
+use Rattle.pdl_theory_states.proofs.UnusedValues.{AllOps, onto}
 use Rattle.pdl_theory_states.proofs.ThreadHistory.{local_fresh}
 use Rattle.pdl_theory_states.proofs.Stage.{barred, look_at, childless}
 use Rattle.pdl_theory_states.proofs.ThreadFacts.{Lasting, Along, lasting_stood, lasting_moved}

@@ -17,7 +17,8 @@ use Rattle.pdl_theory_derived.proofs.Stages.{step, was_ready}
 use Rattle.pdl_theory_turns.proofs.Paths.{Fixed, before_path}
 use Rattle.pdl_theory_turns.proofs.Looks.{look, path_looked, before_looked}
 use Rattle.pdl_theory_simulation.proofs.Stretches.{on_way}
-use Rattle.pdl_theory_states.proofs.PastStatements.{AllOps, ops_both, touches, onto, BlockOk, block_set}
+use Rattle.pdl_theory_states.proofs.PastStatements.{BlockOk, block_set}
+use Rattle.pdl_theory_states.proofs.UnusedValues.{AllOps, ops_both, touches, onto}
 use Rattle.pdl_theory_states.proofs.Trails.{AllStmts}
 use Rattle.pdl_theory_states.proofs.ThreadHistory.{AllKept}
 

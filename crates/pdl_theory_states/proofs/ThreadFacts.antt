@@ -18,7 +18,8 @@ use Rattle.pdl_theory_simulation.proofs.FlowFacts.{Flows}
 use Rattle.pdl_theory_simulation.proofs.AcceptedFacts.{sound_flows}
 use Rattle.pdl_theory_derived.proofs.DelayedReads.{AllAsks, found}
 use Rattle.pdl_theory_turns.proofs.CourseOf.{apart_asks}
-use Rattle.pdl_theory_simulation.proofs.Stretches.{Behind, AsksFrom, AllFetched, fixed_here, start_of, on_way, Keeps}
+use Rattle.pdl_theory_simulation.proofs.Stretches.{Behind, AllFetched, fixed_here, start_of, on_way, Keeps}
+use Rattle.pdl_theory_simulation.proofs.StretchSteps.{AsksFrom}
 use Rattle.pdl_theory_simulation.proofs.Seats.{Live, threads_of, each_map, Ordered, dacts, lacts, did, now_of, work_of_live, befores_are}
 use Rattle.pdl_theory_simulation.proofs.Choices.{Known, AllKnown, keeps_now, told_here, asks_here}
 use Rattle.pdl_theory_simulation.proofs.LockLists.{fell, moved_one, stood, next_live, go_on}
@@ -26,7 +27,8 @@ use Rattle.pdl_theory_simulation.proofs.ThreadPlaces.{each_next, leads_of}
 use Rattle.pdl_theory_simulation.proofs.Requests.{asking}
 use Rattle.pdl_theory_simulation.proofs.WholeSimulation.{fetch_low, request_stays, request_made}
 use Rattle.pdl_theory_states.specs.Strict.{Strict}
-use Rattle.pdl_theory_states.proofs.PastStatements.{AllOps, ops_map, ops_both, onto, BlockOk, Past, Kind}
+use Rattle.pdl_theory_states.proofs.PastStatements.{BlockOk, Past, Kind}
+use Rattle.pdl_theory_states.proofs.UnusedValues.{AllOps, ops_map, ops_both, onto}
 use Rattle.pdl_theory_states.proofs.Trails.{AllStmts, stmts_map, stmts_both, ops_stmts, Among, among_low}
 use Rattle.pdl_theory_states.proofs.ThreadHistory.{Local, AnyAsk, AllAwaited, past_of, local_answered, answered_asks, local_moved, moved_asks, moved_trail, past_end, past_q, kept_unused}
 use Rattle.pdl_theory_states.proofs.OlderWrites.{calm_next}

@@ -5,7 +5,7 @@ use Rattle.pdl_semantics.specs.Flat.{Op, Stmt, Pipe, Next, Ends, Goes, Forks, al
 use Rattle.pdl_semantics.specs.Stages.{onpath, in_stage, stage_at, goes_to}
 use Rattle.pdl_semantics.specs.Sound.{one_of, comes_to}
 use Rattle.pdl_theory_simulation.proofs.FlowFacts.{Ways}
-use Rattle.pdl_theory_states.proofs.PastStatements.{AllOps, onto}
+use Rattle.pdl_theory_states.proofs.UnusedValues.{AllOps, onto}
 
 -- STATEMENTS
 

@@ -1,0 +1,65 @@
+-- The list of a fork as one more thread comes behind: one that enters, one that stays, and one that leaves.
+use Rattle.std.proofs.Common.{◌≡◌, refl, sym, ap, ap₂, ◌∙◌, Bool, true, false, ◌&&◌, not, List, [], ◌∷◌, ◌++◌, Some, None, if◌then◌else◌, append-nil, append_assoc}
+use Rattle.pdl_semantics.specs.Flat.{Op, Verify, Stmt}
+use Rattle.pdl_semantics.specs.Stages.{verify_stage, is_verify}
+use Rattle.pdl_semantics.specs.Moves.{is_nobody}
+use Rattle.pdl_semantics.specs.Cycle.{but_first}
+use Rattle.pdl_theory_facts.specs.Scans.{none_of}
+use Rattle.pdl_theory_simulation.proofs.FlowFacts.{trunk_only}
+use Rattle.pdl_theory_derived.proofs.Writes.{and_left, and_right}
+
+-- statements of which none verifies have no stage of verifies
+pub no_verifies : (xs : List Stmt) → verify_stage xs ≡ None → none_of is_verify xs ≡ true
+no_verifies [] h = refl
+no_verifies (x ∷ xs) h = at (is_verify x.op) h (no_verifies xs)
+  where
+    clash : Some x.stage ≡ None → ⊥
+    clash e = cc
+
+    at : (b : Bool) → (if b then Some x.stage else verify_stage xs) ≡ None → (verify_stage xs ≡ None → none_of is_verify xs ≡ true)
+        → (not b && none_of is_verify xs) ≡ true
+    at true e f = absurd (clash e)
+    at false e f = f e
+
+-- a verify stands in no branch
+pub verify_trunk : (xs : List Stmt) → none_of trunk_only xs ≡ true → none_of is_verify xs ≡ true
+verify_trunk [] h = refl
+verify_trunk (x ∷ xs) h = ap₂ (λ a b. a && b) (off x.op (and_left _ _ h)) (verify_trunk xs (and_right _ _ h))
+  where
+    off : (op : Op) → not (trunk_only op) ≡ true → not (is_verify op) ≡ true
+    off (Verify args) h = absurd (cc h)
+    off _ h = refl
+
+but_append : (xs : List Bool) (c : Bool) → is_nobody xs ≡ false → but_first (xs ++ c ∷ []) ≡ but_first xs ++ c ∷ []
+but_append [] c h = absurd (cc h)
+but_append (x ∷ xs) c h = refl
+
+-- THE LIST OF FORK f, AS ONE MORE THREAD COMES BEHIND
+
+-- a thread that isn't inside, and enters perhaps
+pub list_neutral : (l : Bool) (f e n b a x : List Bool)
+    → (if l then but_first f else f) ++ e ≡ n → b ≡ [] → x ≡ a
+    → (if l then but_first (f ++ b) else (f ++ b)) ++ (e ++ x) ≡ n ++ a
+list_neutral l f e n b a x h i j =
+    ap₂ (λ u v. (if l then but_first (f ++ u) else (f ++ u)) ++ (e ++ v)) i j
+    ∙ ap (λ u. (if l then but_first u else u) ++ (e ++ a)) (append-nil f)
+    ∙ sym (append_assoc (if l then but_first f else f) e a) ∙ ap (λ u. u ++ a) h
+
+-- one that is inside and stays so
+pub list_inside : (l : Bool) (f e n : List Bool) (c : Bool)
+    → (if l then but_first f else f) ++ e ≡ n → e ≡ [] → (l ≡ true → is_nobody f ≡ false)
+    → (if l then but_first (f ++ c ∷ []) else (f ++ c ∷ [])) ++ (e ++ []) ≡ n ++ c ∷ []
+list_inside true f e n c h i j =
+    ap (λ u. but_first (f ++ c ∷ []) ++ (u ++ [])) i ∙ append-nil _ ∙ but_append f c (j refl)
+    ∙ ap (λ u. u ++ c ∷ []) (sym (append-nil (but_first f)) ∙ ap (λ u. but_first f ++ u) (sym i) ∙ h)
+list_inside false f e n c h i j =
+    ap (λ u. (f ++ c ∷ []) ++ (u ++ [])) i ∙ append-nil _
+    ∙ ap (λ u. u ++ c ∷ []) (sym (append-nil f) ∙ ap (λ u. f ++ u) (sym i) ∙ h)
+
+-- one that leaves, the first
+pub list_leaves : (l : Bool) (f e n : List Bool) (c : Bool)
+    → (if l then but_first f else f) ++ e ≡ n → f ≡ [] → e ≡ [] → l ≡ false
+    → but_first (f ++ c ∷ []) ++ (e ++ []) ≡ n ++ []
+list_leaves l f e n c h i j k =
+    ap₂ (λ u v. but_first (u ++ c ∷ []) ++ (v ++ [])) i j
+    ∙ sym (ap (λ u. u ++ []) (sym h ∙ (λ t. (if k t then but_first (i t) else (i t)) ++ j t)))

@@ -1,0 +1,91 @@
+-- Whole runs of the stated and of the derived machine: they begin alike, and show the same.
+use Rattle.std.proofs.Common.{◌≡◌, refl, sym, ap, ◌∙◌, subst, ℕ, zero, suc, Bool, true, false, List, [], ◌∷◌, ◌++◌, Some, None, ◌==◌, cond, arith, slice_index_or}
+use Rattle.std.proofs.lemmas.Bool.{eqb-true, eqb-false}
+use Rattle.pdl_semantics.specs.Flat.{Arrays, Pipe, Mem, Stage}
+use Rattle.pdl_semantics.specs.Sound.{side_in}
+use Rattle.pdl_semantics.specs.Machine.{NoRequest, State, Pending}
+use Rattle.pdl_semantics.specs.Cycle.{for_mems, for_stages}
+use Rattle.pdl_semantics.specs.Cycle
+use Rattle.pdl_theory_derived.specs.Derived.{asked_at}
+use Rattle.pdl_theory_derived.specs.Derived
+use Rattle.pdl_theory_simulation.proofs.FlowFacts.{Flows}
+use Rattle.pdl_theory_derived.specs.Simulation.{SameTurns}
+use Rattle.pdl_theory_derived.proofs.Slots.{stages_same}
+use Rattle.pdl_theory_simulation.proofs.PerMemory.{mems_same}
+use Rattle.pdl_theory_simulation.proofs.Stretches.{keeps_fresh}
+use Rattle.pdl_theory_simulation.proofs.Seats.{Live}
+use Rattle.pdl_theory_simulation.proofs.Choices.{Matched}
+use Rattle.pdl_theory_simulation.proofs.LiveThreads.{lives_next}
+use Rattle.pdl_theory_simulation.proofs.SimulatedStates.{Sim}
+use Rattle.pdl_theory_simulation.proofs.WholeSimulation.{turn_same, cycle_sim}
+
+module _ (p : Pipe) (flows : Flows p) where
+  -- RUNS
+
+  no_lists : (k m : ℕ) (xs : List Mem) → slice_index_or (for_mems {X = List Pending} (λ m. []) k xs) m [] ≡ []
+  no_lists k m [] = refl
+  no_lists k zero (x ∷ xs) = refl
+  no_lists k (suc m) (x ∷ xs) = no_lists (suc k) m xs
+
+  no_branches : (k f : ℕ) (xs : List Stage) → slice_index_or (for_stages {X = List Bool} (λ f. []) k xs) f [] ≡ []
+  no_branches k f [] = refl
+  no_branches k zero (x ∷ xs) = refl
+  no_branches k (suc f) (x ∷ xs) = no_branches (suc k) f xs
+
+  no_request : (k m : ℕ) (xs : List Mem) → slice_index_or (for_mems (λ m. NoRequest) k xs) m NoRequest ≡ NoRequest
+  no_request k m [] = refl
+  no_request k zero (x ∷ xs) = refl
+  no_request k (suc m) (x ∷ xs) = no_request (suc k) m xs
+
+  nothing_is : (k : ℕ) (xs : List Mem) → Derived.nothing_asked xs ≡ for_mems (λ m. None) k xs
+  nothing_is k [] = refl
+  nothing_is k (x ∷ xs) = ap (λ l. None ∷ l) (nothing_is (suc k) xs)
+
+  nothing_at : (m : ℕ) (xs : List Mem) → slice_index_or (Derived.nothing_asked xs) m None ≡ None
+  nothing_at m [] = refl
+  nothing_at zero (x ∷ xs) = refl
+  nothing_at (suc m) (x ∷ xs) = nothing_at m xs
+
+  same_numbers : (a b : ℕ) → (a == b) ≡ (b == a)
+  same_numbers a b = at (a == b) refl (b == a) refl
+    where
+      at : (x : Bool) → (a == b) ≡ x → (y : Bool) → (b == a) ≡ y → x ≡ y
+      at true e true f = refl
+      at true e false f = absurd (eqb-false b a f (sym (eqb-true a b e)))
+      at false e true f = absurd (eqb-false a b e (sym (eqb-true b a f)))
+      at false e false f = refl
+
+  -- thread 1 in stage 0 with the start arguments
+  abbrev pub first_live : Live
+  first_live = record { number = 1; thread = Derived.fresh p p.start; env = (Derived.fresh p p.start).env; kept = [] }
+
+  -- both machines start alike
+  pub first_sim : (image : Arrays) → Sim p (Cycle.first p image) (Derived.first p image) (first_live ∷ [])
+  first_sim image =
+      record {
+        arrays = refl;
+        threads = refl;
+        stages = stages_same _ _ 0 p.stages (λ q i. ap (λ b. cond b (Cycle.born_thread p 1 (Some p.start)) None) (same_numbers q 0));
+        locks = λ m. no_lists 0 m p.mems;
+        falls = (omega arith, tt);
+        ordered = (tt, tt);
+        seated = (record { keeps_on = keeps_fresh p flows p.start; kept_in = refl; owned = tt }, tt);
+        have_made = tt;
+        forks = λ f. no_branches 0 f p.stages ∙ sym (ap (λ b. [] ++ side_in f b) flows.graph.trunk_start);
+        requests = mems_same _ _ 0 p.mems (λ m. sym (no_request 0 m p.mems));
+        asked = nothing_is 0 p.mems ∙ mems_same _ _ 0 p.mems (λ m. sym (nothing_at m p.mems));
+        matched = λ m. subst (λ q. Matched q (asked_at (Derived.first p image) m) m (first_live ∷ [])) (sym (no_request 0 m p.mems)) (nothing_at m p.mems);
+      }
+
+  -- a run of both, and the live threads at its end
+  pub runs_same : (st : State) (d : Derived.State) (schedule : List (List Bool)) (ls : List Live) → Sim p st d ls
+      → SameTurns p (Cycle.turns_from p st schedule) (Derived.turns_from p d schedule)
+      × ((ks : List Live) × Sim p (Cycle.state_after p st schedule) (Derived.state_after p d schedule) ks)
+  runs_same st d [] ls sim = (tt, (ls, sim))
+  runs_same st d (bits ∷ schedule) ls sim =
+      let rest = runs_same (Cycle.cycle p st bits) (Derived.cycle p d bits) schedule (lives_next p flows st d bits sim.arrays ls) (cycle_sim p flows st d bits ls sim) in
+      ((turn_same p flows st d bits ls sim, rest.0), rest.1)
+
+  -- the simulation
+  pub same_turns : (image : Arrays) (schedule : List (List Bool)) → SameTurns p (Cycle.turns p image schedule) (Derived.turns p image schedule)
+  same_turns image schedule = (runs_same (Cycle.first p image) (Derived.first p image) schedule (first_live ∷ []) (first_sim image)).0
