@@ -43,7 +43,10 @@ def measure(program, stages, folder):
 
 
 def main():
-    if len(sys.argv) != 2 or "--help" in sys.argv:
+    if "--help" in sys.argv:
+        print(__doc__.strip())
+        return
+    if len(sys.argv) != 2:
         sys.exit(__doc__)
     program = str(pathlib.Path(sys.argv[1]).resolve())
     with tempfile.TemporaryDirectory() as path:

@@ -138,6 +138,9 @@ def main(program, mebibytes=256, *kinds):
 
 
 if __name__ == "__main__":
-    if len(sys.argv) < 2 or "--help" in sys.argv:
+    if "--help" in sys.argv:
+        print(__doc__.strip())
+    elif len(sys.argv) < 2:
         sys.exit(__doc__)
-    main(*sys.argv[1:])
+    else:
+        main(*sys.argv[1:])

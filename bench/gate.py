@@ -117,8 +117,8 @@ def main():
         write_table({})
         return 0
     if sys.argv[1:]:
-        print(__doc__)
-        return 1
+        print(__doc__.strip())
+        return 0 if sys.argv[1:] == ["--help"] else 1
     status, minutes, seconds = run_gate()
     if status == 0:
         write_table(seconds)

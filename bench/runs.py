@@ -53,7 +53,10 @@ def measure(program, cycles, folder):
 
 
 def main():
-    if len(sys.argv) not in (2, 3) or "--help" in sys.argv:
+    if "--help" in sys.argv:
+        print(__doc__.strip())
+        return
+    if len(sys.argv) not in (2, 3):
         sys.exit(__doc__)
     program = str(pathlib.Path(sys.argv[1]).resolve())
     cycles = sys.argv[2] if len(sys.argv) == 3 else "1000000"

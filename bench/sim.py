@@ -182,7 +182,10 @@ def measure(name, program, source, image, cycles):
 
 
 def main():
-    if len(sys.argv) < 2 or "--help" in sys.argv:
+    if "--help" in sys.argv:
+        print(__doc__.strip())
+        return
+    if len(sys.argv) < 2:
         sys.exit(__doc__)
     program = str(pathlib.Path(sys.argv[1]).resolve())
     cycles = int(sys.argv[2]) if len(sys.argv) > 2 else 100000

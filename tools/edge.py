@@ -193,6 +193,8 @@ class Edge:
 
 def main():
     program = usage.words(__doc__, 1, 1)[0]
+    # ignored here, so that a program that is started without a change of its signals begins with it ignored
+    signal.signal(signal.SIGPIPE, signal.SIG_IGN)
     with tempfile.TemporaryDirectory() as folder:
         edge = Edge(program, pathlib.Path(folder))
         edge.outputs(), edge.stack(), edge.memory(), edge.sources()

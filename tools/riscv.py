@@ -150,6 +150,9 @@ def by_verilator(pdl, folder):
 
 
 def main(words):
+    if "--help" in words:
+        print(__doc__.strip())
+        return 0
     with tempfile.TemporaryDirectory() as folder:
         pdl = os.path.abspath(words[1]) if len(words) > 1 else None
         if words[:1] == ["make"] and len(words) == 1:

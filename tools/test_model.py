@@ -3,6 +3,7 @@
 
 import sys
 
+import usage
 from pdl_model import dump, files, rules
 from pdl_model.syntax import Refused
 
@@ -255,6 +256,7 @@ def rows():
 
 
 def main():
+    usage.words(__doc__, 0, 0)
     failed = [(name, came, due) for name, came, due in rows() if came != due]
     for name, came, due in failed:
         print(f"{name}: came {came}; due {due}")
