@@ -16,7 +16,8 @@ import tomllib
 DOCS = pathlib.Path(__file__).resolve().parent.parent / "docs"
 
 # Pages with a section for each rule, and pages with a table of rules.
-SECTIONS = ["rules.md", "assembler.md"]
+RULES = ["rules.md", "rules_of_locks.md"]
+SECTIONS = [*RULES, "assembler.md"]
 TABLES = ["verilog.md", "images.md"]
 
 # Which word of a command names the file that rules with this letter refuse; all others refuse its first file.
@@ -40,7 +41,7 @@ def told(rule):
     page, paragraphs = section(rule)
     if page:
         says = [it for it in paragraphs if not it.startswith("`refused ")]
-        return page, says[0], says[-1] if len(says) > 1 and page == "rules.md" else ""
+        return page, says[0], says[-1] if len(says) > 1 and page in RULES else ""
     for page in TABLES:
         found = re.search(rf"^\| {rule} \| (.*) \|$", (DOCS / page).read_text(), re.M)
         if found:

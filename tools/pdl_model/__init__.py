@@ -1,7 +1,7 @@
 """PDL in plain Python: what a pipe means, as a sequence of threads and as a pipeline, cycle by cycle.
 
-It is written from the description of the language (docs/language.md, docs/rules.md, docs/machine.md), and shares nothing
-with `pdl`. Read it in this order:
+It is written from the description of the language (docs/language.md, docs/rules.md, docs/rules_of_locks.md,
+docs/machine.md), and shares nothing with `pdl`. Read it in this order:
 
     words       numbers of a given width, and the operations on them
     tree        what a source text consists of

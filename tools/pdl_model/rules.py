@@ -1,4 +1,4 @@
-"""Which pipes are refused: the rules of docs/rules.md, each by its name.
+"""Which pipes are refused: the rules of docs/rules.md and docs/rules_of_locks.md, each by its name.
 
 A rule's breaks are places, and `checked` reports the lowest broken rule at its lowest place. The rules of one letter are
 asked only where no earlier letter's is broken. Places are pairs that stand in text order: parameters, memories,
