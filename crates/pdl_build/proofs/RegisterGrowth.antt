@@ -12,6 +12,7 @@ use Rattle.pdl_net.specs.declared.WritePort.{WritePort}
 use Rattle.pdl_net.specs.Circuit.{Circuit, Shape, reg_at, array_at, no_reg, no_array, shape_of, shapes_of, HasReg, reg_width, reg_reset, HasArray, array_width, array_depth}
 use Rattle.pdl_net.specs.declared.Cell.TheVariants.{Read}
 use Rattle.pdl_net.specs.Signal.{reg_signal, read_signal}
+use Rattle.pdl_net.specs.HasWidth.{HasWidth}
 use Rattle.pdl_net.specs.Meaning.{signal, cell_signal, IsThere, Means, next_signal, write_signal, write_signals}
 use Rattle.pdl_net.specs.Well.{Fits, IsWell, IsWellReg, IsWellArray, IsWellWrite, IsDepth}
 use Rattle.pdl_net.specs.Growth.{Grows, KeepsNets, Extends, ExtendsBut, ExtendsArrays}
@@ -159,16 +160,17 @@ unfolding HasReg next_signal
 next_set c r x h t w = ap (λ (g : Reg). signal (with_next c r x) g.next) (next_here c r x h) ∙ ((next_keeps c r x h w).nets x t).same
 
 -- a net that is there, told to a register as wide as what it takes next, leaves a circuit well formed
-pub well_next : (c : Circuit) (r : ℕ) (x : Net) → HasReg c r → IsThere c x
-    → (signal c x).width ≡ reg_width c r → IsWell c → IsWell (with_next c r x)
+pub well_next : (c : Circuit) (r : ℕ) (x : Net) → HasReg c r → HasWidth c x (reg_width c r)
+    → IsWell c → IsWell (with_next c r x)
 unfolding HasReg reg_width
-well_next c r x h t e w =
+well_next c r x h v w =
     let d = with_next c r x in
     let k = next_keeps c r x h w in
     let W : Reg → Type 0 = λ q. IsWellReg d q in
     let old = w.regs r h in
+    let n = k.nets x v.there in
     let here : IsWellReg d (next_reg c r x) =
-    record { low = old.low; high = old.high; reset = old.reset; next = (k.nets x t).there; width = ap (λ f. f.width) ((k.nets x t).same) ∙ e } in
+    record { low = old.low; high = old.high; reset = old.reset; next = n.there; width = ap (λ f. f.width) n.same ∙ v.width } in
     record {
       ports = λ i p y. port_stays c d k p (w.ports i p y);
       cells = all_fit_still c d (next_grows c r x h) w refl;
@@ -385,11 +387,11 @@ unfolding HasArray
 has_array_below c m h = h
 
 -- a write port fits its array where its nets are there, with their right widths
-pub well_port_write : (c : Circuit) (m : ℕ) (p : WritePort) → IsThere c p.enable → IsThere c p.addr → IsThere c p.value
-    → (signal c p.enable).width ≡ 1 → 2 ^ (signal c p.addr).width ≡ array_depth c m
-    → (signal c p.value).width ≡ array_width c m → IsWellWrite c (array_at c m) p
+pub well_port_write : (c : Circuit) (m : ℕ) (p : WritePort) → HasWidth c p.enable 1 → IsThere c p.addr
+    → 2 ^ (signal c p.addr).width ≡ array_depth c m → HasWidth c p.value (array_width c m)
+    → IsWellWrite c (array_at c m) p
 unfolding array_depth array_width
-well_port_write c m p e a v o r w = record { enable = e; addr = a; value = v; one = o; reach = r; width = w }
+well_port_write c m p e a r v = record { enable = e.there; addr = a; value = v.there; one = e.width; reach = r; width = v.width }
 
 -- a read
 

@@ -2,6 +2,7 @@
 ghost use Rattle.std.specs.Prelude.{◌≡◌, ◌≢◌, ℕ, ◌+◌, ◌*◌, ◌^◌, ◌<◌, ◌≤◌, false, length, slice_get, Some, IfOk, IfSome, IfNone, OnOk, OnErr};
 ghost use Rattle.pdl_net.specs.Circuit.{HasArray, array_width, array_depth};
 ghost use Rattle.pdl_net.specs.Signal.{const_signal, not_signal, bin_signal, mux_signal, slice_signal, cat_signal, rep_signal, read_signal};
+ghost use Rattle.pdl_net.specs.HasWidth.{HasWidth};
 ghost use Rattle.pdl_net.specs.Meaning.{IsThere, Means, signal, cell_signal};
 ghost use Rattle.pdl_net.specs.Well.{Fits};
 ghost use Rattle.pdl_net.specs.Growth.{Extends};
@@ -120,10 +121,9 @@ impl Builder {
 
     /// The net `a` where `choice`, of 1 bit, is 1, else `b`.
     pub fn mux(&mut self, choice: Net, a: Net, b: Net) -> Result<Net, NoMemory>
-        requires choice_there { IsThere self.old choice }
+        requires choice { HasWidth self.old choice 1 }
         requires a_there { IsThere self.old a }
         requires b_there { IsThere self.old b }
-        requires one { (signal self.old choice).width ≡ 1 }
         requires widths { (signal self.old a).width ≡ (signal self.old b).width }
         ensures means { IfOk result (λ x.
             Means self.new x (mux_signal (signal self.old choice) (signal self.old a)

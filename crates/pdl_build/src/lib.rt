@@ -14,6 +14,7 @@ mod simplify;
 ghost use Rattle.std.specs.Prelude.{◌≡◌, ◌≢◌, ℕ, ◌+◌, ◌*◌, ◌^◌, ◌<◌, ◌≤◌, [], ◌∷◌, ◌++◌, length, AllPairs, IfOk, OnOk, OnErr};
 ghost use Rattle.pdl_net.specs.Circuit.{circuit_of, inputs_of, outputs_of, array_at, HasReg, reg_width, HasArray, array_width, array_depth};
 ghost use Rattle.pdl_net.specs.Signal.{input_signal, bin_width as op_width};
+ghost use Rattle.pdl_net.specs.HasWidth.{HasWidth};
 ghost use Rattle.pdl_net.specs.Meaning.{IsThere, Means, signal, cell_signal, next_signal, write_signal, write_signals};
 ghost use Rattle.pdl_net.specs.Well.{Fits, IsWell, IsDepth};
 ghost use Rattle.pdl_net.specs.Growth.{Extends, ExtendsBut, ExtendsPorts, ExtendsArrays};
@@ -192,8 +193,7 @@ impl Builder {
     /// Sets what a register takes next.
     pub fn next(&mut self, reg: usize, net: Net)
         requires has { HasReg self.old reg }
-        requires there { IsThere self.old net }
-        requires width { (signal self.old net).width ≡ reg_width self.old reg }
+        requires net { HasWidth self.old net (reg_width self.old reg) }
         ensures exact { self.new ≡ with_next self.old reg net }
         ensures set { next_signal self.new reg ≡ signal self.old net }
         ensures extends { ExtendsBut (one_reg reg) self.old self.new }
@@ -234,12 +234,10 @@ impl Builder {
         value: Net,
     ) -> Result<usize, NoMemory>
         requires has { HasArray self.old array }
-        requires enable_there { IsThere self.old enable }
+        requires enable { HasWidth self.old enable 1 }
         requires addr_there { IsThere self.old addr }
-        requires value_there { IsThere self.old value }
-        requires enable_one { (signal self.old enable).width ≡ 1 }
         requires addr_reach { 2 ^ (signal self.old addr).width ≡ array_depth self.old array }
-        requires value_width { (signal self.old value).width ≡ array_width self.old array }
+        requires value { HasWidth self.old value (array_width self.old array) }
         ensures exact { OnOk result (self.new
             ≡ with_write self.old array (write_port enable addr value)) }
         ensures place { IfOk result (λ k. k ≡ length (array_at self.old array).writes) }

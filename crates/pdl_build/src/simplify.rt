@@ -2,6 +2,7 @@
 ghost use Rattle.std.specs.Prelude.{◌≡◌, ℕ, ◌<◌, ◌≤◌, ◌^◌, false, IsTrue, IfSome, IfNone};
 ghost use Rattle.pdl_net.specs.Circuit.{State};
 ghost use Rattle.pdl_net.specs.Signal.{const_value, not_signal, bin_signal, mux_signal, slice_signal};
+ghost use Rattle.pdl_net.specs.HasWidth.{HasWidth};
 ghost use Rattle.pdl_net.specs.Meaning.{IsThere, Means, signal, cell_signal};
 ghost use Rattle.pdl_net.specs.Well.{Fits};
 ghost use Rattle.pdl_build.specs.FoldedCells.{is_const, is_constant};
@@ -86,10 +87,9 @@ impl Builder {
 
     /// A choice; of a complement the choice of what is below, with the arms exchanged.
     fn simple_mux(&self, choice: Net, a: Net, b: Net) -> Simple
-        requires choice_there { IsThere self.now choice }
+        requires choice { HasWidth self.now choice 1 }
         requires a_there { IsThere self.now a }
         requires b_there { IsThere self.now b }
-        requires one { (signal self.now choice).width ≡ 1 }
         requires widths { (signal self.now a).width ≡ (signal self.now b).width }
         ensures { StandsFor self.now
             (mux_signal (signal self.now choice) (signal self.now a) (signal self.now b)) result }
@@ -102,10 +102,9 @@ impl Builder {
 
     /// A choice; none where the arms are one net or the choice is known, and of 1 by 1 the choice itself or its complement.
     fn simple_choice(&self, choice: Net, a: Net, b: Net) -> Simple
-        requires choice_there { IsThere self.now choice }
+        requires choice { HasWidth self.now choice 1 }
         requires a_there { IsThere self.now a }
         requires b_there { IsThere self.now b }
-        requires one { (signal self.now choice).width ≡ 1 }
         requires widths { (signal self.now a).width ≡ (signal self.now b).width }
         ensures { StandsFor self.now
             (mux_signal (signal self.now choice) (signal self.now a) (signal self.now b)) result }

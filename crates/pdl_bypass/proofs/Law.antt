@@ -8,7 +8,7 @@ use Rattle.pdl_net.specs.Signal.{Signal, const_value, read_value}
 use Rattle.pdl_lockapi.specs.declared.Kind.{Kind}
 use Rattle.pdl_lockapi.specs.declared.Kind.TheVariants.{R, W}
 use Rattle.pdl_lockapi.specs.declared.LockRegs.{LockRegs}
-use Rattle.pdl_lockapi.specs.Lock.{LockState, Entry, look_ready, or_zero, youngest, older, next_ticket, Covered}
+use Rattle.pdl_lockapi.specs.Lock.{LockState, Entry, look_ready, or_zero, youngest, older, next_ticket}
 use Rattle.pdl_lockapi.specs.Laws.{HasWords, StartLaw, LookLaw, first_array}
 use Rattle.pdl_lockapi.specs.Second.{LateLookLaw}
 use Rattle.pdl_lockapi.specs.SlotLaws.{SlotsLaw}

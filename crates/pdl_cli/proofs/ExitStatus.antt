@@ -1,13 +1,12 @@
 -- Where the files are told, a command that writes its text has no wrong file; so what is seen decides the status, but for want of memory.
-use Rattle.std.proofs.Common.{◌≡◌, ℕ, List, Option, Some, None, Result, Ok, Err, length, inl, inr, refl, sym, ap, subst, ◌∙◌}
+use Rattle.std.proofs.Common.{◌≡◌, ℕ, List, Option, Some, None, Result, Ok, Err, length, inl, inr, refl, sym, subst, ◌∙◌}
 use Rattle.pdl_kit.specs.declared.rule.Rule.{Rule}
-use Rattle.pdl_kit.specs.declared.rule.Rule.TheVariants.{G1}
 use Rattle.pdl_kit.specs.Files.{Held, Gives}
 use Rattle.pdl_semantics.specs.Tree.{Pipe}
 use Rattle.pdl_semantics.specs.Flatten.{flat}
 use Rattle.pdl_syntax_grammar.specs.Text.{IsText}
 use Rattle.pdl_syntax_grammar.proofs.Places.{one_tree}
-use Rattle.pdl_rules.specs.Refusal.{refused_at, refusal}
+use Rattle.pdl_rules.specs.Refusal.{refusal}
 use Rattle.pdl_net.specs.declared.Netlist.{Netlist}
 use Rattle.pdl_net.specs.Run.{delayed_mems}
 use Rattle.pdl_law_parts.specs.Places.{delayed_count}

@@ -1,5 +1,5 @@
--- Why a run is not prepared: its image fails, once its source is accepted, or a generated source fails.
-use Rattle.std.proofs.Common.{◌≡◌, ℕ, ◌≤◌, List, Option, inr, subst, sym, arith}
+-- Why a run is not prepared: its image fails, once its source is accepted.
+use Rattle.std.proofs.Common.{◌≡◌, ℕ, ◌≤◌, List, Option, inr, subst, arith}
 use Rattle.pdl_kit.specs.declared.rule.Rule.{Rule}
 use Rattle.pdl_kit.specs.Counts.{Rose}
 use Rattle.pdl_kit.specs.Files.{Held, Gives}
@@ -8,9 +8,8 @@ use Rattle.pdl_cli_failure.specs.declared.failure.Position.{Position}
 use Rattle.pdl_cli_failure.specs.declared.failure.Position.TheVariants.{Line, Insn}
 use Rattle.pdl_cli_failure.specs.declared.failure.Failure.{Failure}
 use Rattle.pdl_cli_failure.specs.declared.failure.Failure.TheVariants.{Usage, Refused, ReadFault, WriteFault, NoMemory}
-use Rattle.pdl_gen.specs.Generated.{source}
-use Rattle.pdl_cli_args.specs.Line.{Command, gen}
-use Rattle.pdl_cli_commands.specs.Commands.{AtLine, IsAccepted, IsTaken, IsLoaded, IsWrong, IsWrongFor, ImageFails, TextFails, Fails}
+use Rattle.pdl_cli_args.specs.Line.{Command}
+use Rattle.pdl_cli_commands.specs.Commands.{AtLine, IsAccepted, IsTaken, IsLoaded, IsWrong, IsWrongFor, ImageFails, Fails}
 use Rattle.pdl_rules.specs.Memories.{infos_of}
 
 -- a count that rose since some moment rose since an earlier one, where it had not fallen between
@@ -40,15 +39,6 @@ image_fails holds after before mid now source image' text command p e h given a 
 image_fails holds after before mid now source image' text command p e h given a wrong WriteFault w = w
 image_fails holds after before mid now source image' text command p e h given a wrong NoMemory w = tt
 
--- a generated source that fails is that of a command without files
-text_fails : (holds : Option Held) (before now number : ℕ) (f : Failure) → TextFails (source number) f
-    → Fails holds before now (gen number) f
-text_fails holds before now number Usage w = w
-text_fails holds before now number (Refused rule position) w = w
-text_fails holds before now number ReadFault w = absurd w
-text_fails holds before now number WriteFault w = w
-text_fails holds before now number NoMemory w = tt
-
 -- the image is that of the files as they were before the source was read
 pub is_loaded : (holds after : Option Held) (source image' text image_text : List ℕ) (p : Pipe) (words : List (List ℕ))
     → after ≡ holds → Gives holds source text → IsAccepted text p → Gives after image' image_text
@@ -62,9 +52,3 @@ is_loaded holds after source image' text image_text p words e given a held taken
       image_given = subst (λ (o : Option Held). Gives o image' image_text) e held;
       taken = taken;
     }
-
--- what holds of the files after the source was read, by its text, holds of them as they were before
-as_before : (P : Option Held → Type 0) (holds after : Option Held) (source text : List ℕ) (p : Pipe)
-    → after ≡ holds → Gives holds source text → IsAccepted text p
-    → ((b : List ℕ) → Gives after source b → IsAccepted b p → P after) → P holds
-as_before P holds after source text p e given a f = subst P e (f text (subst (λ (o : Option Held). Gives o source text) (sym e) given) a)

@@ -28,7 +28,7 @@ use Rattle.pdl_pipe.specs.Locks.{HasLocksOf, any_lock}
 use Rattle.pdl_image.specs.Images.{IsImage, image}
 use Rattle.pdl_image.specs.declared.file_error.FileError.TheVariants as file
 use Rattle.pdl_vlog.specs.Layout.{verilog}
-use Rattle.pdl_vread.specs.Reads.{Reads, Breaks}
+use Rattle.pdl_vread.specs.Reads.{Reads}
 use Rattle.pdl_gen.specs.Generated as generated
 use Rattle.pdl_cli_args.specs.Line.{Command, check, run, seq, asm, gen, build, sim, wave, view}
 use Rattle.pdl_cli_failure.specs.declared.failure.Position.{Position}
@@ -112,14 +112,6 @@ StartFails holds before now image' delays mems count f =
     ImageFails holds before now image' mems f
     ⊎ ((text : List ℕ) × (words : List (List ℕ)) × Gives holds image' text × (image mems text ≡ Ok words)
     × DelaysFails holds before now delays count f)
-
--- why a text gives no netlist to run
-abbrev pub NetlistTextFails : List ℕ → Failure → Type 0
-NetlistTextFails text failure.Usage = ⊥
-NetlistTextFails text (failure.Refused rule position) = AtLine (Breaks text rule) position
-NetlistTextFails text failure.ReadFault = ⊥
-NetlistTextFails text failure.WriteFault = ⊥
-NetlistTextFails text failure.NoMemory = Unit {0}
 
 -- THE FILES OF A COMMAND, where files are told
 

@@ -1,5 +1,5 @@
 -- A fork's list over a cycle is its order's step, properly used.
-use Rattle.std.proofs.Common.{◌≡◌, refl, sym, ap, ap₂, ◌∙◌, subst, ℕ, zero, suc, ◌+◌, ◌≤◌, ◌<◌, ◌⊎◌, inl, inr, Bool, true, false, ◌&&◌, ◌||◌, not, List, [], ◌∷◌, ◌++◌, length, drop, Option, Some, None, is_some, arith, ◌==◌, cond, append-nil, nat_lt, lt-ltb}
+use Rattle.std.proofs.Common.{◌≡◌, refl, sym, ap, ap₂, ◌∙◌, subst, ℕ, zero, suc, ◌+◌, ◌≤◌, ◌<◌, Bool, true, false, ◌&&◌, ◌||◌, not, List, [], ◌∷◌, ◌++◌, length, drop, Option, Some, None, is_some, arith, ◌==◌, append-nil}
 use Rattle.std.specs.Prelude.{if◌then◌else◌, slice_index}
 use Rattle.std.proofs.lemmas.Bool.{eqb-true, eqb-false, and_parts}
 use Rattle.pdl_semantics.specs.Flat.{Next, Ends, Goes, Forks, Branch, Pipe}
@@ -8,7 +8,7 @@ use Rattle.pdl_semantics.specs.Machine.{Thread, State, Deeds, fork_of, deeds}
 use Rattle.pdl_semantics.specs.Moves.{Act, next_stage, no_failure, ports_free, barrier_clear, merges_well, may_merge, is_first, is_empty}
 use Rattle.pdl_semantics.specs.Cycle.{cycle, squasher, goes_into, entered_branches, goes_out, has_left, but_first, fork_next, merges_by, branches_left}
 use Rattle.pdl_theory_facts.specs.Facts.{Sound}
-use Rattle.pdl_theory_facts.specs.Graphs.{next_of, In, goes_by}
+use Rattle.pdl_theory_facts.specs.Graphs.{next_of, goes_by}
 use Rattle.pdl_machine_facts.specs.Slots.{LeadsOn, here, later_acts, locks_ready, may_pass, stage_moves, mover, movers_from, moving}
 use Rattle.pdl_machine_facts.specs.Cycle.{IsByStages}
 use Rattle.pdl_machine_facts.proofs.Stagewise.{next_is}

@@ -29,7 +29,7 @@ use Rattle.pdl_machine_inflight.specs.Readings.{Reading, reading, places_of, pla
 use Rattle.pdl_machine_inflight.specs.InFlight.{InFlight}
 use Rattle.pdl_law_sides.specs.Sides.{Sides, asks_memory, asked_address, goes_to_place, asked_into, port_step}
 use Rattle.pdl_law_sides.specs.HasSides.{HasOwn, HasPort}
-use Rattle.pdl_law.proofs.WaitingPorts.{SameRequest, SamePort, asks_of, asked_at, port_act}
+use Rattle.pdl_law.proofs.WaitingPorts.{SameRequest, asks_of, asked_at, port_act}
 use Rattle.pdl_law.proofs.WaitingStep.{proper_port, same_next}
 use Rattle.pdl_law.proofs.PortSides.{PortStands, IsGiven}
 

@@ -5,7 +5,7 @@ use Rattle.std.proofs.lemmas.Bool.{eqb-true}
 use Rattle.pdl_semantics.specs.Flat.{Pipe}
 use Rattle.pdl_semantics.specs.Stages.{stage_at, list_any}
 use Rattle.pdl_semantics.specs.Machine as machine
-use Rattle.pdl_semantics.specs.Machine.{Ask, Awaited, Thread, NoRequest, Owned, Orphan, State, request_of, is_answered, unanswered_reads, answered_reads, with_answers, with_kept, deeds}
+use Rattle.pdl_semantics.specs.Machine.{Ask, Awaited, Thread, NoRequest, Owned, Orphan, State, request_of, is_answered, answered_reads, with_answers, with_kept, deeds}
 use Rattle.pdl_semantics.specs.Moves.{Act, is_free, is_empty}
 use Rattle.pdl_semantics.specs.Cycle.{is_outstanding}
 use Rattle.pdl_machine_facts.specs.Slots.{LeadsOn, slot, with_now, here, later_acts, stage_moves}

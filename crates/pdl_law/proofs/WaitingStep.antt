@@ -6,7 +6,7 @@ use Rattle.std.proofs.lemmas.List.{get_or_past}
 use Rattle.pdl_semantics.specs.Flat.{Pipe, list_all}
 use Rattle.pdl_semantics.specs.Stages.{stage_at, goes_to}
 use Rattle.pdl_semantics.specs.Machine as machine
-use Rattle.pdl_semantics.specs.Machine.{Ask, Awaited, Thread, NoRequest, Owned, Orphan, State, request_of, is_answered, with_answers, with_kept, deeds}
+use Rattle.pdl_semantics.specs.Machine.{Ask, Thread, NoRequest, Owned, Orphan, State, request_of, is_answered, with_answers, deeds}
 use Rattle.pdl_semantics.specs.Moves.{Act, next_stage, is_free, is_empty, ports_free, no_failure}
 use Rattle.pdl_semantics.specs.Cycle.{cycle, squasher, is_kept, is_outstanding, asked_of, asked_by, request_next, request_left}
 use Rattle.pdl_theory_simulation.proofs.PerMemory.{at_mem}
@@ -21,7 +21,6 @@ use Rattle.pdl_machine_inflight.proofs.ReadingFacts.{goes_to_place}
 use Rattle.pdl_machine_inflight.proofs.DeedsIn.{AsksIn, asks_in}
 use Rattle.pdl_machine_inflight.proofs.Squashes.{stood_in}
 use Rattle.pdl_machine_inflight.proofs.Comings.{CameFrom, born, moved, stayed, came_from}
-use Rattle.pdl_machine_inflight.proofs.Answers.{word_asked, still_awaited}
 use Rattle.pdl_law.proofs.WaitingPorts.{StandsAt, SameRequest, SamePort, reply_bit, asks_of, asked_at, port_act, owner_here, free_is}
 use Rattle.pdl_word.specs.Each.{Each}
 

@@ -5,7 +5,7 @@ use Rattle.pdl_word.specs.Words.{bit}
 use Rattle.pdl_semantics.specs.Flat.{Arrays, Pipe}
 use Rattle.pdl_semantics.specs.Stages.{stage_at, verify_stage}
 use Rattle.pdl_semantics.specs.Machine as machine
-use Rattle.pdl_semantics.specs.Machine.{Thread, Deeds, deeds, fork_of, with_answers, with_kept}
+use Rattle.pdl_semantics.specs.Machine.{Thread, deeds, fork_of, with_kept}
 use Rattle.pdl_semantics.specs.Moves.{is_empty, no_failure, ports_free, barrier_clear, merges_well, next_stage}
 use Rattle.pdl_semantics.specs.Cycle.{first, cycle, squasher}
 use Rattle.pdl_net.specs.declared.Reg.{Reg}

@@ -1,5 +1,5 @@
 -- The netlist of a whole pipe shows in each cycle what the machine shows, with its delayed memories outside.
-use Rattle.std.proofs.Common.{◌≡◌, refl, sym, ap, ap₂, ◌∙◌, subst, ℕ, zero, suc, ◌+◌, ◌*◌, ◌^◌, ◌<◌, ◌≤◌, Bool, true, false, ◌&&◌, List, [], ◌∷◌, ◌++◌, length, map, take, Option, Some, None, codes, arith, ◌==◌}
+use Rattle.std.proofs.Common.{◌≡◌, refl, sym, ap, ap₂, ◌∙◌, subst, ℕ, suc, ◌+◌, ◌^◌, ◌<◌, Bool, true, false, List, [], ◌∷◌, ◌++◌, length, map, take, Option, Some, None, codes, arith}
 use Rattle.std.specs.Prelude.{if◌then◌else◌, slice_index, slice_index_or, filter_map}
 use Rattle.std.proofs.lemmas.List.Elements.{filter_map-append}
 use Rattle.pdl_semantics.specs.Flat.{Arrays, Mem, Pipe, Lock, arrays_of, has_lock}

@@ -1,9 +1,8 @@
 -- The first cycle: registers at reset, and an image in the arrays and in the delayed memories outside, stand for the machine's first state.
-use Rattle.std.proofs.Common.{◌≡◌, refl, sym, ap, ap₂, ◌∙◌, subst, ℕ, zero, suc, ◌+◌, ◌-◌, ◌*◌, ◌^◌, ◌<◌, ◌≤◌, ◌⊎◌, ⊎_elim, Bool, true, false, List, [], ◌∷◌, ◌++◌, length, map, take, drop, filter, find, All, Option, Some, None, cond, bytes_eq, arith, length-append}
-use Rattle.std.specs.Prelude.{slice_index, slice_index_or, count_by, ⊤}
+use Rattle.std.proofs.Common.{◌≡◌, refl, sym, ap, ap₂, ◌∙◌, subst, ℕ, suc, ◌+◌, ◌-◌, ◌^◌, ◌<◌, ◌≤◌, Bool, true, false, List, [], ◌∷◌, ◌++◌, length, map, take, drop, filter, find, Option, Some, None, bytes_eq, arith, length-append}
+use Rattle.std.specs.Prelude.{slice_index, slice_index_or, count_by}
 use Rattle.std.proofs.lemmas.List.{get_or-map, get_or-take, get_or-drop, length-map, length-take, length-drop, get_or-append_right}
 use Rattle.std.proofs.lemmas.List.Elements.{filter-append}
-use Rattle.std.proofs.lemmas.Slice.Eq.{bytes_eq-Decides}
 use Rattle.pdl_kit.specs.declared.mem_info.MemInfo.{MemInfo}
 use Rattle.pdl_semantics.specs.Flat as model
 use Rattle.pdl_semantics.specs.Flat.{Mem, Pipe}

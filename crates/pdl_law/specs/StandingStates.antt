@@ -2,7 +2,7 @@
 use Rattle.std.specs.Prelude.{◌≡◌, ℕ, ◌<◌, ◌≤◌, Bool, true, List, [], Some, length}
 use Rattle.pdl_semantics.specs.Flat.{Pipe}
 use Rattle.pdl_semantics.specs.Machine as machine
-use Rattle.pdl_semantics.specs.Machine.{Thread, fork_of, request_of}
+use Rattle.pdl_semantics.specs.Machine.{Thread}
 use Rattle.pdl_semantics.specs.Cycle.{cycle, squasher, is_kept}
 use Rattle.pdl_theory_facts.specs.Facts.{Sound}
 use Rattle.pdl_machine_facts.specs.Slots.{LeadsOn, here, stage_moves, moving}

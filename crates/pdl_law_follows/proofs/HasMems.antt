@@ -1,5 +1,5 @@
 -- A netlist that is made of a pipe has the pipe's memories, each at its place.
-use Rattle.std.proofs.Common.{◌≡◌, ℕ, zero, suc, ◌+◌, ◌<◌, ◌≤◌, Bool, true, false, List, [], ◌∷◌, ◌++◌, length, get_or, map, refl, sym, ap, ◌∙◌, subst, arith}
+use Rattle.std.proofs.Common.{◌≡◌, ℕ, suc, ◌+◌, ◌<◌, Bool, true, false, List, [], ◌∷◌, ◌++◌, length, map, refl, sym, ap, ◌∙◌, arith}
 use Rattle.std.specs.Prelude.{slice_index_or, take, count_by, filter, if◌then◌else◌}
 use Rattle.std.proofs.lemmas.List.{length-map, length-append, get_or_append_left}
 use Rattle.std.proofs.lemmas.List.Elements.{filter-append}

@@ -3,7 +3,7 @@ use Rattle.std.proofs.Common.{◌≡◌, inl, inr, ℕ, zero, suc, ◌+◌, ◌<
 use Rattle.std.specs.Prelude.{if◌then◌else◌, slice_index_or}
 use Rattle.std.proofs.lemmas.List.{length-map, length-append}
 use Rattle.std.proofs.lemmas.Slice.Eq.{bytes_eq-Decides}
-use Rattle.pdl_word.proofs.Bytes.{bytes_refl, bytes_swap}
+use Rattle.pdl_word.proofs.Bytes.{bytes_swap}
 use Rattle.pdl_kit.specs.declared.mem_info.MemInfo.{MemInfo}
 use Rattle.pdl_semantics.specs.Tree as tree
 use Rattle.pdl_semantics.specs.Tree.{Mem}
@@ -20,7 +20,7 @@ use Rattle.pdl_image.specs.Images as images
 use Rattle.pdl_image.specs.declared.file_error.FileError.{FileError}
 use Rattle.pdl_law_parts.specs.Places.{net_place}
 use Rattle.pdl_law_parts.specs.Runs.{commit_mem}
-use Rattle.pdl_law_parts.proofs.WellFormedNames.{Among, name_turned}
+use Rattle.pdl_law_parts.proofs.WellFormedNames.{Among}
 use Rattle.pdl_law_parts.proofs.LinesColumns.{declared_found}
 use Rattle.pdl_law_sides.specs.WholeNetlist.{in_order}
 use Rattle.pdl_law.proofs.Places.{place_low}

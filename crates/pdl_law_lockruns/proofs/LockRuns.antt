@@ -36,7 +36,7 @@ use Rattle.pdl_law.specs.StandingStates.{IsLawful, IsKnown}
 use Rattle.pdl_law.specs.MadeNetlist.{IsMadeWhole}
 use Rattle.pdl_law.proofs.OutputNames.{Apart}
 use Rattle.pdl_law.proofs.WholeRuns as runs
-use Rattle.pdl_law.proofs.WholeRuns.{IsStanding, stands_next}
+use Rattle.pdl_law.proofs.WholeRuns.{stands_next}
 use Rattle.pdl_law.proofs.ShowsSource.{IsStandingFor, lawful, apart, known_source, stands_source}
 use Rattle.pdl_law_follows.specs.Follows.{IsMade}
 use Rattle.pdl_law_follows.specs.Memories.{replies_in}

@@ -1,6 +1,6 @@
 -- How the parts of a compiled netlist are established: registers, constants, conditions, values, looks.
-use Rattle.std.proofs.Common.{◌≡◌, refl, sym, ap, ap₂, ◌∙◌, subst, ℕ, ◌<◌, Bool, true, false, ◌&&◌, ◌||◌, List, [], ◌∷◌, ◌++◌, ◌==◌}
-use Rattle.std.specs.Prelude.{Option, Some, if◌then◌else◌, slice_index, slice_index_or, ◌^◌, ◌≤◌}
+use Rattle.std.proofs.Common.{◌≡◌, refl, sym, ap, ap₂, ◌∙◌, subst, ℕ, ◌<◌, Bool, true, false, ◌||◌, List, [], ◌∷◌}
+use Rattle.std.specs.Prelude.{Option, Some, if◌then◌else◌, slice_index, slice_index_or, ◌^◌}
 use Rattle.std.proofs.lemmas.List.{get_or-map}
 use Rattle.std.proofs.lemmas.Bool.{false≢true, or_left, or_right}
 use Rattle.pdl_word.specs.Words as words
@@ -16,7 +16,7 @@ use Rattle.pdl_lockapi.specs.declared.Kind.TheVariants as look_kind
 use Rattle.pdl_lockapi.specs.Lock.{look_ready}
 use Rattle.pdl_lockapi.specs.Laws.{FitsIn, LookLaw}
 use Rattle.pdl_law_parts.specs.Lives.{uses_var}
-use Rattle.pdl_law_parts.specs.Walk.{Locks, is_locked, one, is_on, look_of, ThroughLock, IsWord}
+use Rattle.pdl_law_parts.specs.Walk.{Locks, is_locked, is_on, look_of, ThroughLock, IsWord}
 use Rattle.pdl_law_parts.specs.Views.{Comer, first_coming}
 use Rattle.pdl_law_parts.specs.Compiled.{Becomes, StartsAs}
 use Rattle.pdl_law_parts.proofs.Signals.{mux_by}

@@ -1,11 +1,11 @@
 -- The ports of the machine: how many, and that a memory without lock commits nothing.
-use Rattle.std.proofs.Common.{◌≡◌, refl, sym, ap, ◌∙◌, subst, ℕ, suc, ◌+◌, Bool, false, List, [], ◌∷◌, ◌++◌, length, Option, None, if◌then◌else◌, arith}
+use Rattle.std.proofs.Common.{◌≡◌, refl, sym, ap, ◌∙◌, subst, ℕ, suc, ◌+◌, Bool, false, List, [], ◌∷◌, length, Option, None, if◌then◌else◌, arith}
 use Rattle.std.specs.Prelude.{⊤, slice_index_or}
 use Rattle.pdl_semantics.specs.Flat
 use Rattle.pdl_semantics.specs.Flat.{has_lock}
 use Rattle.pdl_semantics.specs.Stages.{mem_at, plain_mem}
 use Rattle.pdl_semantics.specs.Machine.{State}
-use Rattle.pdl_semantics.specs.Cycle.{PortWrite, oldest, list_two, taken_out, port_write, for_mems, for_stages, Ports, cycle}
+use Rattle.pdl_semantics.specs.Cycle.{PortWrite, oldest, list_two, taken_out, port_write, for_mems, for_stages, Ports}
 use Rattle.pdl_machine_facts.specs.Slots.{moving}
 use Rattle.pdl_machine_facts.specs.Cycle.{ports_of, IsByStages}
 use Rattle.pdl_machine_facts.specs.Use.{IsInUse}

@@ -1,5 +1,5 @@
 -- The names of the outputs of a compiled pipe.
-use Rattle.std.proofs.Common.{◌≡◌, ℕ, zero, suc, ◌+◌, ◌-◌, ◌<◌, ◌≤◌, if◌then◌else◌, List, ◌∷◌, ◌++◌, length, ◌∙◌, arith}
+use Rattle.std.proofs.Common.{ℕ, zero, suc, ◌≤◌, List, length, arith}
 use Rattle.pdl_net.specs.Circuit.{Output}
 use Rattle.pdl_law_parts.proofs.WellFormedPorts.{stage_names}
 

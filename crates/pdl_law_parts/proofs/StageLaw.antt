@@ -1,12 +1,12 @@
 -- The signals of a stage say what the stage's thread does, as long as the locks let it move.
 use Rattle.std.proofs.Common.{◌≡◌, ℕ, Bool, true, false, ◌&&◌, List, [], ◌∷◌, length, refl, sym, ap, ap₂, ◌∙◌, subst, arith, cond, ◌+◌, le-leb}
-use Rattle.std.specs.Prelude.{Some, ◌==◌, nat_le, if◌then◌else◌, slice_set}
+use Rattle.std.specs.Prelude.{Some, ◌==◌, nat_le, if◌then◌else◌}
 use Rattle.std.proofs.lemmas.Bool.{or_left, or_right, eqb-true}
 use Rattle.std.proofs.Common.{[]}
 use Rattle.pdl_semantics.specs.Flat.{Stmt, Pipe, all_hold}
 use Rattle.pdl_semantics.specs.Stages.{in_stage, mem_at, list_any, is_verify}
 use Rattle.pdl_semantics.specs.Machine as machine
-use Rattle.pdl_semantics.specs.Machine.{Kept, Thread, Deeds, deeds_after, deeds_after_all, word_for, with_kept, deeds, held_before}
+use Rattle.pdl_semantics.specs.Machine.{Thread, Deeds, deeds_after, deeds_after_all, word_for, with_kept, deeds, held_before}
 use Rattle.pdl_net.specs.Circuit.{Circuit, State}
 use Rattle.pdl_net.specs.Signal.{Signal}
 use Rattle.pdl_net.specs.Well.{Suits}
@@ -14,7 +14,6 @@ use Rattle.pdl_lockapi.specs.Laws.{RoomLaw, holds_ticket}
 use Rattle.pdl_lockapi.specs.Forget.{as_lock}
 use Rattle.pdl_machine_facts.specs.Slots.{here}
 use Rattle.pdl_machine_facts.specs.Use.{before_stage, AreFine, IsInUse}
-use Rattle.std.proofs.lemmas.List.{length-set}
 use Rattle.pdl_law_parts.proofs.AnsweredThreads.{stood}
 use Rattle.pdl_law_parts.specs.Lives.{row_uses, asks_held, lives_from, held_from, verifies_from}
 use Rattle.pdl_law_parts.specs.Walk.{Locks, Put, Birth, Walk, is_locked, IsFresh, walk_after, AreRows}

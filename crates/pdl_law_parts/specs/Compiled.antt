@@ -1,5 +1,5 @@
 -- The netlist of a pipe, in signals.
-use Rattle.std.specs.Prelude.{◌≡◌, ℕ, ◌+◌, ◌==◌, ◌<◌, ◌≤◌, true, false, [], map, length, slice_index, slice_index_or, if◌then◌else◌}
+use Rattle.std.specs.Prelude.{◌≡◌, ℕ, ◌==◌, ◌<◌, ◌≤◌, true, false, [], map, length, slice_index, slice_index_or, if◌then◌else◌}
 use Rattle.pdl_semantics.specs.Flat.{Pipe, start_env}
 use Rattle.pdl_semantics.specs.Stages.{in_stage, mem_at, reserve_stage, commit_stage}
 use Rattle.pdl_net.specs.declared.Dir.TheVariants.{Out}

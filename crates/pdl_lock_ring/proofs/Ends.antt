@@ -1,8 +1,8 @@
 -- What head and tail take next.
-use Rattle.std.proofs.Common.{◌≡◌, ℕ, refl}
+use Rattle.std.proofs.Common.{◌≡◌, refl}
 use Rattle.pdl_net.specs.declared.BinOp.TheVariants.{Add}
 use Rattle.pdl_net.specs.Circuit.{Circuit}
-use Rattle.pdl_net.specs.Signal.{Signal, const_signal, bin_signal, mux_signal}
+use Rattle.pdl_net.specs.Signal.{const_signal, bin_signal, mux_signal}
 use Rattle.pdl_net.specs.Meaning.{signal}
 use Rattle.pdl_lockapi.specs.declared.LockPorts.{LockPorts}
 use Rattle.pdl_lockapi.specs.Laws.{StepSignals, step_signals}

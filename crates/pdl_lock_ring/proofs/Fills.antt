@@ -1,19 +1,16 @@
 -- What the loops that fill the slots add in each turn.
-use Rattle.std.proofs.Common.{◌≡◌, ℕ, zero, suc, ◌+◌, ◌<◌, refl, ap, sym, ◌∙◌, add-one, length}
+use Rattle.std.proofs.Common.{◌≡◌, ℕ, zero, suc, ◌+◌, ◌<◌, refl, ap, ◌∙◌, add-one, length}
 use Rattle.std.specs.Prelude.{slice_index_or}
 use Rattle.std.proofs.lemmas.List.{get_or-map, length-map}
-use Rattle.pdl_net.specs.declared.BinOp.TheVariants.{Eq}
 use Rattle.pdl_net.specs.Circuit.{Circuit}
-use Rattle.pdl_net.specs.Signal.{Signal, reg_signal, const_signal, bin_signal, mux_signal}
-use Rattle.pdl_net.specs.Meaning.{signal}
+use Rattle.pdl_net.specs.Signal.{Signal, reg_signal, const_signal, mux_signal}
 use Rattle.pdl_lockapi.specs.declared.LockPorts.{LockPorts}
 use Rattle.pdl_lockapi.specs.declared.TicketWrite.{TicketWrite}
 use Rattle.pdl_lockapi.specs.Laws.{StepSignals, step_signals, ticket_at, ticket_signal, no_ticket}
 use Rattle.pdl_lock_ring.specs.declared.layout.RingLayout.{RingLayout}
 use Rattle.pdl_lock_ring.specs.declared.layout.Content.TheVariants.{Value, Place}
 use Rattle.pdl_lock_ring.specs.Slots.{addr_at, has_at, value_at, content_signal}
-use Rattle.pdl_lock_ring.specs.Steps.{first_addr, second_addr, first_slot, second_slot, takes_first, takes_second, content_after, slot_value, fills_slot, filled_bit, filled_value, slot_addr}
-use Rattle.pdl_lock_ring.proofs.Reserves.{second_addr_is}
+use Rattle.pdl_lock_ring.specs.Steps.{first_addr, second_addr, takes_first, takes_second, content_after, slot_value, fills_slot, filled_bit, filled_value, slot_addr}
 
 -- a write of a step has the signals of its write port's nets
 pub ticket_is : (c : Circuit) (p : LockPorts) (k : ℕ) (q : TicketWrite)

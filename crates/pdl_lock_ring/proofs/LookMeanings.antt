@@ -1,26 +1,21 @@
 -- What the nets of looks say of the pending writes.
-use Rattle.std.proofs.Common.{◌≡◌, ◌≢◌, ℕ, zero, suc, ◌+◌, ◌-◌, ◌*◌, ◌%◌, ◌^◌, ◌<◌, ◌≤◌, ◌⊎◌, inl, inr, List, [], ◌∷◌, length, take, refl, sym, ap, ◌∙◌, subst, arith, ⊎_elim, length-take, lt-ltb, le-ltb, eq-eqb, ne_eqb}
-use Rattle.std.specs.Prelude.{◌==◌, if◌then◌else◌, Bool, true, false, Option, Some, None, is_some, option_map, slice_index, slice_index_or}
+use Rattle.std.proofs.Common.{◌≡◌, ◌≢◌, ℕ, zero, suc, ◌+◌, ◌-◌, ◌*◌, ◌%◌, ◌^◌, ◌<◌, ◌≤◌, ◌⊎◌, inl, inr, List, [], ◌∷◌, length, refl, sym, ap, ◌∙◌, arith, ⊎_elim, lt-ltb, le-ltb, eq-eqb, ne_eqb}
+use Rattle.std.specs.Prelude.{◌==◌, if◌then◌else◌, Bool, true, false, Option}
 use Rattle.std.proofs.lemmas.Bool.{cases_lt, cases_eq}
-use Rattle.std.proofs.lemmas.List.{get_or-take, take_all}
-use Rattle.std.proofs.Math.Nat.{mod-eq_of_lt}
 use Rattle.std.proofs.lemmas.Nat.{mod_below}
 use Rattle.pdl_word.specs.Words as words
 use Rattle.pdl_word.specs.Words.{bit}
-use Rattle.pdl_net.specs.declared.Net.{Net}
-use Rattle.pdl_net.specs.Circuit.{Circuit, State}
-use Rattle.pdl_net.specs.Meaning.{IsThere, Means, signal}
-use Rattle.pdl_net.specs.Signal.{Signal, reg_signal, reg_value, const_value, bin_value, mux_value, read_value}
-use Rattle.pdl_lockapi.specs.Lock.{Entry, LockState, entry_at, no_entry, or_zero, is_free, youngest, older, look_value, Covered, has_room, has_room2, next_ticket}
-use Rattle.pdl_lockapi.specs.Laws.{HasWords, HasValueNet, RoomLaw, TicketLaw, holds_ticket}
+use Rattle.pdl_net.specs.Circuit.{State}
+use Rattle.pdl_net.specs.Signal.{Signal, reg_value, const_value, bin_value, mux_value}
+use Rattle.pdl_lockapi.specs.Lock.{Entry, LockState, entry_at, is_free, youngest, older, Covered, next_ticket}
+use Rattle.pdl_lockapi.specs.Laws.{RoomLaw, TicketLaw}
 use Rattle.pdl_lockapi.specs.Second.{Room2Law, Ticket2Law}
 use Rattle.pdl_lock_ring.specs.declared.layout.RingLayout.{RingLayout}
-use Rattle.pdl_lock_ring.specs.Slots.{IsSized, HasEntries, reg_of, addr_at, has_at}
-use Rattle.pdl_lock_ring.specs.Looks.{head_signal, tail_signal, second_ticket, count_signal, room_signal, room2_signal, slot_of, ahead, is_late, older_count, last_older, order_at, back_at, same_at, hit_at, hit_signal, ready_signal, key_at, is_found, youngest_ready, youngest_value, GivesWord}
-use Rattle.pdl_lock_ring.specs.Choices.{least_key, least_of, some_signal}
-use Rattle.pdl_lock_ring.proofs.SlotNumbers.{sub_held, pred_held, sum_held, slot_held, half_mod, order_mod, index_of, back_older, back_younger, apart}
-use Rattle.pdl_lock_ring.proofs.RingValues.{mux_one, mux_zero, eq_one, eq_none}
-use Rattle.pdl_lock_ring.proofs.Trees.{some_one, some_zero, less_one, less_none, IsLeast, least_is, least_from}
+use Rattle.pdl_lock_ring.specs.Slots.{IsSized, HasEntries, reg_of, addr_at}
+use Rattle.pdl_lock_ring.specs.Looks.{tail_signal, second_ticket, count_signal, room_signal, room2_signal, ahead, older_count, last_older, order_at, back_at, same_at}
+use Rattle.pdl_lock_ring.proofs.SlotNumbers.{sub_held, pred_held, sum_held, slot_held, half_mod, order_mod, index_of}
+use Rattle.pdl_lock_ring.proofs.RingValues.{mux_one, mux_zero}
+use Rattle.pdl_lock_ring.proofs.Trees.{less_one, less_none}
 use Rattle.pdl_word.proofs.Bools.{if_false}
 
 -- how many writes are pending

@@ -1,6 +1,6 @@
 -- What looks show: of a queue, and of the youngest older pending write.
 use Rattle.std.proofs.Common.{◌≡◌, ◌≢◌, ℕ, ◌+◌, ◌-◌, ◌*◌, ◌%◌, ◌^◌, ◌<◌, ◌≤◌, ◌⊎◌, inl, inr, List, length, take, refl, sym, ap, ◌∙◌, subst, arith, ⊎_elim, length-take, get_or-take}
-use Rattle.std.specs.Prelude.{Bool, true, false, Option, Some, None, is_some, option_map, slice_index, slice_index_or, []}
+use Rattle.std.specs.Prelude.{true, false, Option, Some, None, is_some, option_map, slice_index, slice_index_or, []}
 use Rattle.std.proofs.lemmas.Bool.{cases_lt, cases_eq, false≢true}
 use Rattle.std.proofs.lemmas.List.{take_all}
 use Rattle.std.proofs.lemmas.Nat.{mod_below}
@@ -8,14 +8,16 @@ use Rattle.pdl_word.specs.Words as words
 use Rattle.pdl_word.specs.Words.{bit}
 use Rattle.pdl_net.specs.declared.Net.{Net}
 use Rattle.pdl_net.specs.Circuit.{Circuit, State}
-use Rattle.pdl_net.specs.Meaning.{IsThere, Means, signal}
+use Rattle.pdl_net.specs.Meaning.{Means, signal}
 use Rattle.pdl_net.specs.Signal.{Signal, reg_signal, reg_value, const_value, bin_value, mux_value, read_value}
-use Rattle.pdl_lockapi.specs.Lock.{Entry, LockState, entry_at, no_entry, or_zero, is_free, youngest, older, look_value, Covered, next_ticket}
+use Rattle.pdl_net.specs.HasWidth.{HasWidth}
+use Rattle.pdl_net.proofs.KeptWidths.{width_meant}
+use Rattle.pdl_lockapi.specs.Lock.{Entry, LockState, entry_at, no_entry, or_zero, is_free, youngest, older, next_ticket}
 use Rattle.pdl_lockapi.specs.Laws.{HasWords, HasValueNet}
 use Rattle.pdl_lock_ring.specs.declared.layout.RingLayout.{RingLayout}
-use Rattle.pdl_lock_ring.specs.Slots.{IsSized, HasEntries, reg_of, has_at}
+use Rattle.pdl_lock_ring.specs.Slots.{IsSized, HasEntries, has_at}
 use Rattle.pdl_lock_ring.specs.Looks.{older_count, last_older, order_at, back_at, same_at, hit_at, hit_signal, ready_signal, key_at, is_found, youngest_ready, youngest_value, GivesWord}
-use Rattle.pdl_lock_ring.specs.Choices.{least_key, least_of, some_signal}
+use Rattle.pdl_lock_ring.specs.Choices.{least_key, least_of}
 use Rattle.pdl_lock_ring.proofs.SlotNumbers.{back_older, back_younger}
 use Rattle.pdl_lock_ring.proofs.RingValues.{if_one, if_other, mux_one, mux_zero, eq_one, eq_none}
 use Rattle.pdl_lock_ring.proofs.Trees.{some_one, some_zero, less_one, less_none, IsLeast, least_is, least_from}
@@ -260,8 +262,7 @@ same_signal f g e = cc e
 -- the net of a look's value
 pub look_value_net : (c : Circuit) (width : ℕ) (x : Net) (f : Signal) → Means c x f → f.width ≡ width → HasValueNet c width (Some x)
 look_value_net c width x f m w = record {
-  there = λ y e. let q : x ≡ y = cc e in subst (IsThere c) q m.there;
-  wide = λ y e. let q : x ≡ y = cc e in ap (λ n. (signal c n).width) (sym q) ∙ ap (λ (g : Signal). g.width) m.same ∙ w;
+  net = λ y e. let q : x ≡ y = cc e in subst (λ n. HasWidth c n width) q (width_meant c x f width m w);
 }
 
 is_some_same : (v : Option Net) (x : Net) → v ≡ Some x → is_some v ≡ true
@@ -270,6 +271,6 @@ is_some_same v x e = rw e refl
 -- the net of a look's word, where there is one, is there and has the width of a word
 pub value_net : (c : Circuit) (l : RingLayout) (a : Signal) (v : Option Net) → GivesWord c l a v → HasValueNet c l.width v
 value_net c l a v g = record {
-  there = g.there;
-  wide = λ x e. let m = some_number l.array (sym g.some ∙ is_some_same v x e) in ap (λ (f : Signal). f.width) (g.same m.0 x m.1 e);
+  net = λ x e. let m = some_number l.array (sym g.some ∙ is_some_same v x e) in
+      record { there = g.there x e; width = ap (λ (f : Signal). f.width) (g.same m.0 x m.1 e) };
 }

@@ -1,26 +1,24 @@
 -- What the calls of the module answer, for the layout of the registers that they are given.
-use Rattle.std.proofs.Common.{◌≡◌, ℕ, zero, suc, ◌+◌, ◌-◌, ◌*◌, ◌%◌, ◌<◌, ◌≤◌, ◌++◌, List, [], ◌∷◌, length, get_or, refl, sym, ap, ◌∙◌, subst, arith}
-use Rattle.std.specs.Prelude.{Option, Some, None, is_some, slice_index, slice_index_or, replicate}
+use Rattle.std.proofs.Common.{◌≡◌, ℕ, ◌+◌, ◌-◌, ◌*◌, ◌%◌, ◌<◌, ◌≤◌, ◌++◌, List, [], ◌∷◌, length, get_or, refl, sym, ap, ◌∙◌, subst, arith}
+use Rattle.std.specs.Prelude.{Option, slice_index, replicate}
 use Rattle.std.proofs.lemmas.List.{append-nil}
 use Rattle.std.proofs.lemmas.Nat.{mod_below}
 use Rattle.pdl_semantics.specs.Tree.{Queue}
 use Rattle.pdl_kit.specs.declared.mem_info.MemInfo.{MemInfo}
 use Rattle.pdl_net.specs.Run.{filled_words}
-use Rattle.pdl_net.specs.declared.Net.{Net}
 use Rattle.pdl_net.specs.Circuit.{Circuit, State, HasReg}
 use Rattle.pdl_net.specs.Signal.{Signal, reg_value}
-use Rattle.pdl_net.specs.Meaning.{IsThere, Means, signal}
 use Rattle.pdl_net.specs.Growth.{Own, Extends}
+use Rattle.pdl_net.proofs.KeptWidths.{width_meant}
 use Rattle.pdl_lockapi.specs.declared.LockRegs.{LockRegs}
 use Rattle.pdl_lockapi.specs.declared.LockPorts.{LockPorts}
 use Rattle.pdl_lockapi.specs.declared.LockNets.{LockNets}
-use Rattle.pdl_lockapi.specs.Lock.{LockState, entry_at}
-use Rattle.pdl_lockapi.specs.Laws.{own, first_reg, end_reg, first_array, end_array, IsFragment, HasCommitNets, HasImage, HasWords, StartLaw, StepSignals, step_signals, PortsFit}
-use Rattle.pdl_lockapi.specs.SlotLaws.{slot_regs, slot_reg, HasSlotRegs, HoldsAddresses, HoldsValues, SlotsLaw}
+use Rattle.pdl_lockapi.specs.Laws.{own, first_reg, end_reg, first_array, end_array, IsFragment, HasCommitNets, HasImage, HasWords, StartLaw, step_signals, PortsFit}
+use Rattle.pdl_lockapi.specs.SlotLaws.{slot_regs, SlotsLaw}
 use Rattle.pdl_lock_ring.specs.declared.layout.Content.{Content}
 use Rattle.pdl_lock_ring.specs.declared.layout.Content.TheVariants.{Value}
 use Rattle.pdl_lock_ring.specs.declared.layout.RingLayout.{RingLayout}
-use Rattle.pdl_lock_ring.specs.Slots.{IsSized, Holds, HasEntries, reg_of, content_signal, addr_at, has_at, value_at, HasSlots, ArePlaced, AreReset, Stands, IsLayout, IsMemArray, layout_of, ticket_bits, numbers_from, slots_of}
+use Rattle.pdl_lock_ring.specs.Slots.{IsSized, Holds, reg_of, content_signal, addr_at, has_at, value_at, HasSlots, ArePlaced, AreReset, Stands, IsLayout, IsMemArray, layout_of, ticket_bits, numbers_from, slots_of}
 use Rattle.pdl_lock_ring.specs.Oldest.{AreCommits}
 use Rattle.pdl_lock_ring.specs.Steps.{own_all}
 use Rattle.pdl_lock_ring.proofs.Ends.{release_is, release2_is}
@@ -158,21 +156,14 @@ slots_law q c r i =
 
 -- ---- the commit nets
 
--- a net that means a signal of 1 bit is 1 bit wide
-pub wide_of : (c : Circuit) (x : Net) (f : Signal) → Means c x f → f.width ≡ 1 → (signal c x).width ≡ 1
-wide_of c x f m e = ap (λ (g : Signal). g.width) m.same ∙ e
-
 -- the nets of the first commit are there with their widths, where the step's ports fit
 pub commit_nets : (a b : Circuit) (l : RingLayout) (w : ℕ) (p : LockPorts) (n : LockNets)
     → PortsFit a l.bits l.width w p → AreCommits b l (step_signals a p) n
     → HasCommitNets b l.bits l.width n.commit n.addr n.value
 commit_nets a b l w p n fit c = record {
-  commit_there = c.commit.there;
-  commit_one = wide_of b n.commit (step_signals a p).release c.commit (ap (λ (f : Signal). f.width) (release_is a p) ∙ fit.release_one);
-  addr_there = c.addr.there;
-  addr_width = c.addr_wide;
-  value_there = c.value.there;
-  value_width = c.value_wide;
+  commit = width_meant b n.commit (step_signals a p).release 1 c.commit (ap (λ (f : Signal). f.width) (release_is a p) ∙ fit.release_one);
+  addr = record { there = c.addr.there; width = c.addr_wide };
+  value = record { there = c.value.there; width = c.value_wide };
 }
 
 -- the nets of the second commit are there with their widths, where the step's ports fit
@@ -180,10 +171,7 @@ pub commit2_nets : (a b : Circuit) (l : RingLayout) (w : ℕ) (p : LockPorts) (n
     → PortsFit a l.bits l.width w p → AreCommits b l (step_signals a p) n
     → HasCommitNets b l.bits l.width n.commit2 n.addr2 n.value2
 commit2_nets a b l w p n fit c = record {
-  commit_there = c.commit2.there;
-  commit_one = wide_of b n.commit2 (step_signals a p).release2 c.commit2 (ap (λ (f : Signal). f.width) (release2_is a p) ∙ fit.release2_one);
-  addr_there = c.addr2.there;
-  addr_width = c.addr2_wide;
-  value_there = c.value2.there;
-  value_width = c.value2_wide;
+  commit = width_meant b n.commit2 (step_signals a p).release2 1 c.commit2 (ap (λ (f : Signal). f.width) (release2_is a p) ∙ fit.release2_one);
+  addr = record { there = c.addr2.there; width = c.addr2_wide };
+  value = record { there = c.value2.there; width = c.value2_wide };
 }

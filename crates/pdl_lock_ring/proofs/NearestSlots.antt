@@ -1,9 +1,8 @@
 -- The nearest slots of two halves, and the nearer one of them.
-use Rattle.std.proofs.Common.{◌≡◌, ◌≢◌, ℕ, ◌+◌, ◌-◌, ◌^◌, refl, sym, ap, ◌∙◌}
+use Rattle.std.proofs.Common.{◌≡◌, ◌≢◌, ℕ, ◌+◌, ◌-◌, ◌^◌, sym, ap, ◌∙◌}
 use Rattle.pdl_net.specs.declared.BinOp.TheVariants.{Lt}
 use Rattle.pdl_net.specs.Circuit.{Circuit}
 use Rattle.pdl_net.specs.Signal.{Signal, reg_signal, bin_signal, mux_signal}
-use Rattle.pdl_net.specs.Meaning.{Means, signal}
 use Rattle.pdl_net.specs.Growth.{Keeps}
 use Rattle.pdl_net.proofs.Keeps.{means_keeps}
 use Rattle.pdl_lock_ring.specs.declared.layout.RingLayout.{RingLayout}
@@ -12,7 +11,7 @@ use Rattle.pdl_lock_ring.specs.Slots.{has_at, content_signal}
 use Rattle.pdl_lock_ring.specs.Choices.{least_key, least_of}
 use Rattle.pdl_lock_ring.specs.Seeks.{IsNearest, IsNearer}
 use Rattle.pdl_lock_ring.proofs.RingGrowth.{means_as, wide_later}
-use Rattle.pdl_lock_ring.proofs.Trees.{least_more, least_of_more, least_none, least_of_none, least_width, key_width}
+use Rattle.pdl_lock_ring.proofs.Trees.{least_more, least_of_more}
 
 -- the nets of the slot with the least key stay in a circuit that keeps what it had
 pub nearest_keep : (a b : Circuit) (l : RingLayout) (key : ℕ → Signal) (n from : ℕ) (x : Nearest)

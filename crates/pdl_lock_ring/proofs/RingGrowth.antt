@@ -1,5 +1,5 @@
 -- The ring stays in a circuit when more is added, and so do the nets of a step.
-use Rattle.std.proofs.Common.{◌≡◌, ℕ, ◌+◌, ◌<◌, ap, sym, subst, ◌∙◌}
+use Rattle.std.proofs.Common.{◌≡◌, ℕ, ◌+◌, ap, sym, subst, ◌∙◌}
 use Rattle.std.specs.Prelude.{Option, List}
 use Rattle.pdl_kit.specs.declared.mem_info.MemInfo.{MemInfo}
 use Rattle.pdl_net.specs.declared.Net.{Net}
@@ -17,7 +17,7 @@ use Rattle.pdl_lock_ring.specs.declared.choice.Registers.{Registers}
 use Rattle.pdl_lock_ring.specs.declared.layout.RingLayout.{RingLayout}
 use Rattle.pdl_lock_ring.specs.declared.taken.Taken.{Taken}
 use Rattle.pdl_lock_ring.specs.declared.step.Oldest.{Oldest}
-use Rattle.pdl_lock_ring.specs.Slots.{HasSlots, IsMemArray, AreFirst, AreReset, value_at}
+use Rattle.pdl_lock_ring.specs.Slots.{HasSlots, IsMemArray, AreReset, value_at}
 use Rattle.pdl_lock_ring.specs.Registers.{HasRow, IsRowReset}
 use Rattle.pdl_lock_ring.specs.SlotGrowth.{slots_keep}
 use Rattle.pdl_lock_ring.specs.Ready.{HasPorts, IsReady}

@@ -1,16 +1,15 @@
 -- Rows of registers as they are made, and the ring of them.
-use Rattle.std.proofs.Common.{◌≡◌, refl, ℕ, ◌+◌, ◌*◌, ◌-◌, ◌^◌, ◌<◌, ◌≤◌, sym, subst, ap, ◌∙◌, arith, ⊎_elim}
+use Rattle.std.proofs.Common.{◌≡◌, ℕ, ◌+◌, ◌*◌, ◌^◌, ◌<◌, ◌≤◌, sym, ap, ◌∙◌, arith, ⊎_elim}
 use Rattle.std.proofs.lemmas.Bool.{cases_lt}
 use Rattle.pdl_net.specs.declared.Net.TheVariants.{Reg}
 use Rattle.pdl_net.specs.Circuit.{Circuit, HasReg, reg_width, reg_reset}
-use Rattle.pdl_net.specs.Signal.{reg_signal}
 use Rattle.pdl_net.specs.Meaning.{IsThere, signal}
 use Rattle.pdl_net.specs.Growth.{Extends}
 use Rattle.pdl_build.specs.Change.{IsNewReg}
 use Rattle.pdl_lock_ring.specs.declared.choice.Registers.{Registers}
 use Rattle.pdl_lock_ring.specs.declared.layout.RingLayout.{RingLayout}
 use Rattle.pdl_lock_ring.specs.declared.layout.Content.TheVariants.{Value, Place}
-use Rattle.pdl_lock_ring.specs.Slots.{HasOwnArray, HasSlots, AreFirst, AreReset, first_content_of, addr_at, has_at, value_at}
+use Rattle.pdl_lock_ring.specs.Slots.{HasOwnArray, HasSlots, AreFirst, AreReset, first_content_of}
 use Rattle.pdl_lock_ring.specs.Registers.{HasRow, IsRowReset, register_of, row_of}
 use Rattle.pdl_lock_ring.proofs.RingGrowth.{row_kept}
 use Rattle.pdl_word.proofs.Numbers.{upto}

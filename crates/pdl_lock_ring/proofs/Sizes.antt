@@ -5,10 +5,9 @@ use Rattle.std.proofs.Math.Pow.{pow_mono}
 use Rattle.std.proofs.lemmas.Bool.{cases_lt}
 use Rattle.std.proofs.lemmas.Bool.Decides.{eqb_tells}
 use Rattle.std.proofs.lemmas.List.{get_or_append_left, get_or_push}
-use Rattle.std.proofs.lemmas.Nat.{pow_pos, pow-add}
+use Rattle.std.proofs.lemmas.Nat.{pow-add}
 use Rattle.pdl_lock_ring.specs.declared.layout.RingLayout.{RingLayout}
 use Rattle.pdl_lock_ring.specs.Slots.{IsSize, IsSized, ticket_bits, numbers_from, slot_numbers, slots_of}
-use Rattle.pdl_word.proofs.Numbers.{less_power}
 
 -- a power of two that is not below another, and below twice the other
 double : (r : ℕ) → 2 * 2 ^ r ≡ 2 ^ (r + 1)

@@ -1,22 +1,17 @@
 -- The calls of a step in turn, and what they leave.
-use Rattle.std.proofs.Common.{List, [], ◌∷◌, ◌++◌, ◌≡◌, ℕ, ◌+◌, ◌*◌, ◌<◌, ◌≤◌, ap, ◌∙◌, sym, subst, refl, arith, inl, inr, ⊎_elim, length}
+use Rattle.std.proofs.Common.{List, [], ◌∷◌, ◌++◌, ◌≡◌, ℕ, ◌+◌, ◌*◌, ◌<◌, ◌≤◌, ap, ◌∙◌, sym, refl, arith, inl, inr, ⊎_elim}
 use Rattle.std.specs.Prelude.{Option, Some, None}
-use Rattle.pdl_net.specs.declared.Net.{Net}
 use Rattle.pdl_net.specs.Circuit.{Circuit, State, HasArray}
-use Rattle.pdl_net.specs.Signal.{Signal, const_signal}
-use Rattle.pdl_net.specs.Meaning.{IsThere, Means, signal, next_signal, WriteSignal, write_signals}
+use Rattle.pdl_net.specs.Signal.{Signal}
+use Rattle.pdl_net.specs.Meaning.{next_signal, WriteSignal, write_signals}
 use Rattle.pdl_net.specs.Growth.{Own, Outside, Keeps, Extends, ExtendsBut}
 use Rattle.pdl_net.proofs.Keeps.{means_keeps, but_trans, but_extends}
-use Rattle.pdl_lockapi.specs.declared.LockPorts.{LockPorts}
 use Rattle.pdl_lockapi.specs.declared.LockNets.{LockNets}
-use Rattle.pdl_lockapi.specs.Laws.{StepSignals, step_signals, HasNoPorts, after_writes}
-use Rattle.pdl_lockapi.proofs.LockGrowth.{same_signals}
+use Rattle.pdl_lockapi.specs.Laws.{StepSignals, HasNoPorts, after_writes}
 use Rattle.pdl_lock_ring.specs.declared.layout.RingLayout.{RingLayout}
-use Rattle.pdl_lock_ring.specs.Slots.{HasSlots, IsSized, addr_at, has_at, value_at}
-use Rattle.pdl_lock_ring.specs.SlotGrowth.{slots_keep}
+use Rattle.pdl_lock_ring.specs.Slots.{HasSlots, addr_at, has_at, value_at}
 use Rattle.pdl_lock_ring.specs.Oldest.{AreCommits}
-use Rattle.pdl_lock_ring.specs.Steps.{slot_addr, slot_bit, slot_value, NextAddrs, NextBits, NextContents, NextEnds, own_reg, own_row, own_addrs, own_bits, own_slots, own_contents, own_ends, own_array, own_all, WritesArray, two_writes}
-use Rattle.std.proofs.lemmas.Bool.{cases_lt}
+use Rattle.pdl_lock_ring.specs.Steps.{slot_addr, slot_bit, slot_value, NextAddrs, NextBits, NextContents, NextEnds, own_reg, own_row, own_slots, own_contents, own_ends, own_array, own_all, WritesArray, two_writes}
 use Rattle.pdl_lock_ring.proofs.RingGrowth.{but_wider, wide_later}
 use Rattle.pdl_lock_ring.proofs.RingValues.{if_zero}
 use Rattle.pdl_word.proofs.Numbers.{upto}

@@ -1,28 +1,26 @@
 -- A step's law: what it commits, and what the next state stands for.
-use Rattle.std.proofs.Common.{◌≡◌, ◌≢◌, ℕ, ◌+◌, ◌-◌, ◌*◌, ◌%◌, ◌^◌, ◌<◌, ◌≤◌, List, [], ◌∷◌, length, take, drop, refl, sym, ap, ◌∙◌, subst, arith, ⊎_elim, length-take, length-drop}
+use Rattle.std.proofs.Common.{◌≡◌, ℕ, ◌+◌, ◌-◌, ◌*◌, ◌%◌, ◌^◌, ◌<◌, ◌≤◌, List, [], ◌∷◌, length, take, drop, refl, sym, ap, ◌∙◌, arith, length-take, length-drop}
 use Rattle.std.specs.Prelude.{◌==◌, if◌then◌else◌, Bool, true, false, Option, Some, None, is_some, slice_set, slice_index_or}
-use Rattle.std.proofs.lemmas.Bool.{cases_eq, cases_Bool, false≢true}
 use Rattle.std.proofs.lemmas.Nat.{mod_below}
 use Rattle.pdl_word.specs.Words as words
 use Rattle.pdl_word.specs.Words.{bit}
 use Rattle.pdl_net.specs.Circuit.{Circuit, State}
-use Rattle.pdl_net.specs.Meaning.{next_signal}
 use Rattle.pdl_net.specs.Growth.{Own}
 use Rattle.pdl_net.specs.Signal.{Signal, reg_value, const_value, bin_value, mux_value, mux_signal, const_signal}
-use Rattle.pdl_lockapi.specs.Lock.{Entry, LockState, LockAct, Proper, entry_at, or_zero, filled_entries, next_base, after_release, after_squash, committed, committed_words, step, commit_addr, commit_value, commit2_addr, commit2_value}
+use Rattle.pdl_lockapi.specs.Lock.{Entry, LockState, LockAct, Proper, entry_at, or_zero, filled_entries, next_base, after_release, after_squash, committed, committed_words, step}
 use Rattle.pdl_lockapi.specs.Laws.{StepSignals, Drives, HasWords, IsNext, StepLaw, after_writes, first_array, end_array}
 use Rattle.pdl_lockapi.specs.Second.{Commit2Law}
 use Rattle.pdl_lock_ring.specs.declared.layout.RingLayout.{RingLayout}
 use Rattle.pdl_lock_ring.specs.declared.layout.Content.TheVariants.{Value}
 use Rattle.pdl_lock_ring.specs.Slots.{IsSized, HasEntries, Holds, Stands, content_signal, reg_of, addr_at, has_at, value_at}
-use Rattle.pdl_lock_ring.specs.Looks.{head_signal, tail_signal, second_ticket}
-use Rattle.pdl_lock_ring.specs.Steps.{pushes, pushes2, next_head, head_after, tail_after, slot_addr, slot_bit, slot_value, filled_value, at_ticket, oldest_addr, oldest_value, next_addr, next_value, two_writes, WritesArray, NextAddrs, NextBits, NextContents, NextEnds, NextValues, own_all}
+use Rattle.pdl_lock_ring.specs.Looks.{head_signal}
+use Rattle.pdl_lock_ring.specs.Steps.{pushes, pushes2, next_head, head_after, tail_after, slot_addr, slot_bit, slot_value, filled_value, at_ticket, oldest_addr, oldest_value, next_addr, next_value, two_writes, NextAddrs, NextBits, NextEnds, NextValues, own_all}
 use Rattle.pdl_lock_ring.proofs.SlotNumbers.{sum_held, half_mod}
-use Rattle.pdl_lock_ring.proofs.RingValues.{test_bit, if_true, if_false, mux_one, mux_zero, holds_same, values_same, drop_holds, take_holds}
+use Rattle.pdl_lock_ring.proofs.RingValues.{test_bit, mux_one, mux_zero, holds_same, values_same, drop_holds, take_holds}
 use Rattle.pdl_lock_ring.proofs.Trees.{selected_value}
 use Rattle.pdl_lock_ring.proofs.Fills.{content_value}
 use Rattle.pdl_lock_ring.proofs.LookValues.{some_of}
-use Rattle.pdl_lock_ring.proofs.FilledSlots.{TicketsFit, Cycle, some, two, all_filled, length_filled, pushes_value, pushes2_value, second_value}
+use Rattle.pdl_lock_ring.proofs.FilledSlots.{TicketsFit, Cycle, some, two, all_filled, length_filled, pushes_value, pushes2_value}
 
 -- slot k's value after the writes, from what is given as the value before them
 abbrev pub after_fill : RingLayout → StepSignals → (ℕ → Signal) → ℕ → Signal

@@ -1,20 +1,19 @@
 -- A slot that no reservation and no write of a cycle is of stays as it is.
-use Rattle.std.proofs.Common.{◌≡◌, ◌≢◌, ℕ, zero, suc, ◌+◌, ◌*◌, ◌%◌, ◌<◌, ◌≤◌, List, [], ◌∷◌, length, refl, sym, ap, ◌∙◌, subst, arith, ⊎_elim}
+use Rattle.std.proofs.Common.{◌≡◌, ◌≢◌, ℕ, zero, suc, ◌+◌, ◌%◌, ◌<◌, ◌≤◌, List, [], ◌∷◌, length, refl, sym, ap, ◌∙◌, subst, arith, ⊎_elim}
 use Rattle.std.specs.Prelude.{true, false, slice_index, slice_index_or}
 use Rattle.std.proofs.lemmas.Bool.{cases_Bool}
 use Rattle.pdl_word.specs.Words as words
 use Rattle.pdl_net.specs.Circuit.{Circuit, State}
-use Rattle.pdl_net.specs.Growth.{Own}
 use Rattle.pdl_net.specs.Signal.{Signal, reg_value, const_value, bin_value, mux_value}
 use Rattle.pdl_lockapi.specs.declared.LockRegs.{LockRegs}
-use Rattle.pdl_lockapi.specs.Lock.{LockState, LockAct, act_at, Proper}
-use Rattle.pdl_lockapi.specs.Laws.{StepSignals, Drives, IsNext, ticket_at}
-use Rattle.pdl_lockapi.specs.SlotLaws.{slot_regs, slot_reg, IsSpared, StillLaw}
+use Rattle.pdl_lockapi.specs.Lock.{LockState, LockAct, act_at}
+use Rattle.pdl_lockapi.specs.Laws.{StepSignals}
+use Rattle.pdl_lockapi.specs.SlotLaws.{slot_regs, IsSpared, StillLaw}
 use Rattle.pdl_lock_ring.specs.declared.layout.RingLayout.{RingLayout}
 use Rattle.pdl_lock_ring.specs.declared.layout.Content.TheVariants.{Value}
 use Rattle.pdl_lock_ring.specs.Slots.{IsSized, Stands, content_signal, reg_of, addr_at, has_at, value_at, slot_numbers, slots_of}
-use Rattle.pdl_lock_ring.specs.Steps.{first_addr, second_addr, first_slot, second_slot, takes_first, takes_second, fills_slot, filled_bit, filled_value, slot_addr, slot_bit, slot_value, NextValues, own_all}
-use Rattle.pdl_lock_ring.proofs.RingValues.{mux_one, mux_zero, eq_none, AreGiven}
+use Rattle.pdl_lock_ring.specs.Steps.{first_addr, second_addr, first_slot, second_slot, takes_first, takes_second, fills_slot, filled_bit, filled_value, slot_addr, slot_bit, NextValues, own_all}
+use Rattle.pdl_lock_ring.proofs.RingValues.{mux_zero, eq_none, AreGiven}
 use Rattle.pdl_lock_ring.proofs.Fills.{content_value}
 use Rattle.pdl_lock_ring.proofs.FilledSlots.{TicketsFit, Cycle, are_given, fills_one, fills_none}
 use Rattle.pdl_lock_ring.proofs.Sizes.{slots_at}

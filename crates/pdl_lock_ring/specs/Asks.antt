@@ -1,5 +1,5 @@
 -- What the reserve ports ask, as nets.
-use Rattle.std.specs.Prelude.{◌≡◌, ℕ, ◌+◌}
+use Rattle.std.specs.Prelude.{◌≡◌, ℕ}
 use Rattle.pdl_net.specs.Circuit.{Circuit}
 use Rattle.pdl_net.specs.Signal.{const_signal, mux_signal}
 use Rattle.pdl_net.specs.Meaning.{Means, signal}

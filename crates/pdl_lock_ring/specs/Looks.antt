@@ -1,5 +1,5 @@
 -- The signals of looks, of room and of the tickets.
-use Rattle.std.specs.Prelude.{◌≡◌, ℕ, ◌+◌, ◌-◌, ◌*◌, Option, Some, is_some}
+use Rattle.std.specs.Prelude.{◌≡◌, ℕ, ◌+◌, ◌-◌, Option, Some, is_some}
 use Rattle.pdl_net.specs.declared.Net.{Net}
 use Rattle.pdl_net.specs.declared.BinOp.TheVariants.{Add, Sub, And, Eq, Lt}
 use Rattle.pdl_net.specs.Circuit.{Circuit}

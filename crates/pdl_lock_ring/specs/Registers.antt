@@ -1,5 +1,5 @@
 -- Registers of one width whose numbers follow one another.
-use Rattle.std.specs.Prelude.{◌≡◌, ℕ, ◌+◌, ◌*◌, ◌^◌, ◌<◌}
+use Rattle.std.specs.Prelude.{◌≡◌, ℕ, ◌+◌, ◌*◌, ◌<◌}
 use Rattle.pdl_net.specs.declared.Net.TheVariants.{Reg}
 use Rattle.pdl_net.specs.Circuit.{Circuit, HasReg, reg_width, reg_reset}
 use Rattle.pdl_net.specs.Signal.{Signal, reg_signal}

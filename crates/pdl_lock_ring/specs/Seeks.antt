@@ -1,15 +1,15 @@
 -- What a look asks for, as nets.
-use Rattle.std.specs.Prelude.{◌≡◌, ℕ, ◌-◌}
+use Rattle.std.specs.Prelude.{◌≡◌, ℕ}
 use Rattle.pdl_net.specs.Circuit.{Circuit}
 use Rattle.pdl_net.specs.declared.BinOp.TheVariants.{Lt}
 use Rattle.pdl_net.specs.Signal.{Signal, reg_signal, bin_signal, mux_signal}
-use Rattle.pdl_net.specs.Meaning.{Means, IsThere, signal}
+use Rattle.pdl_net.specs.Meaning.{Means, signal}
 use Rattle.pdl_lock_ring.specs.declared.layout.RingLayout.{RingLayout}
 use Rattle.pdl_lock_ring.specs.declared.look.Sought.{Sought}
 use Rattle.pdl_lock_ring.specs.declared.nearest.Nearest.{Nearest}
 use Rattle.pdl_lock_ring.specs.Slots.{has_at, content_signal}
 use Rattle.pdl_lock_ring.specs.Choices.{least_key, least_of}
-use Rattle.pdl_lock_ring.specs.Looks.{older_count, last_older, key_at}
+use Rattle.pdl_lock_ring.specs.Looks.{older_count, last_older}
 
 -- a look at an address with a ticket
 pub record IsSought (c : Circuit) (l : RingLayout) (a t : Signal) (s : Sought) : Type 0 where

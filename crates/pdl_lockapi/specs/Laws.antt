@@ -6,6 +6,7 @@ use Rattle.pdl_semantics.specs.Tree.{LockKind, Queue, Bypass, Rename}
 use Rattle.pdl_net.specs.declared.Net.{Net}
 use Rattle.pdl_net.specs.Circuit.{Circuit, State, Shape, HasReg, reg_reset, HasArray}
 use Rattle.pdl_net.specs.Signal.{Signal, const_signal}
+use Rattle.pdl_net.specs.HasWidth.{HasWidth}
 use Rattle.pdl_net.specs.Meaning.{IsThere, signal, next_signal, WriteSignal, write_signals}
 use Rattle.pdl_net.specs.Growth.{Own}
 use Rattle.pdl_net.specs.Run.{filled_words}
@@ -88,10 +89,8 @@ pub record IsFragment (old new : Circuit) (r : LockRegs) : Type 0 where
 
 -- the nets of room, of 1 bit, and of the next ticket
 pub record HasRegNets (w : ℕ) (c : Circuit) (r : LockRegs) : Type 0 where
-  pub room_there : IsThere c r.room
-  pub room_one : (signal c r.room).width ≡ 1
-  pub ticket_there : IsThere c r.ticket
-  pub ticket_width : (signal c r.ticket).width ≡ w
+  pub room : HasWidth c r.room 1
+  pub ticket : HasWidth c r.ticket w
 
 -- registers at reset, and an array that holds a whole image, stand for the lock at its start
 pub record StartLaw (stands : State → LockState → Type 0) (k : LockKind) (c : Circuit) (r : LockRegs) : Type 0 where
@@ -143,8 +142,7 @@ pub record LookLaw (stands : State → LockState → Type 0) (k : LockKind) (w :
 
 -- the net of a look's value, where there is one
 pub record HasValueNet (c : Circuit) (width : ℕ) (value : Option Net) : Type 0 where
-  pub there : (x : Net) → value ≡ Some x → IsThere c x
-  pub wide : (x : Net) → value ≡ Some x → (signal c x).width ≡ width
+  pub net : (x : Net) → value ≡ Some x → HasWidth c x width
 
 -- what the nets of a step's ports mean
 pub record ReserveSignal : Type 0 where
@@ -255,13 +253,10 @@ HidesLaw Bypass c o f = Unit {0}
 HidesLaw Rename c o f = HidesValues c o f
 
 -- the nets of a commit: 1 bit, an address, a value
-pub record HasCommitNets (c : Circuit) (bits width : ℕ) (commit addr value : Net) : Type 0 where
-  pub commit_there : IsThere c commit
-  pub commit_one : (signal c commit).width ≡ 1
-  pub addr_there : IsThere c addr
-  pub addr_width : (signal c addr).width ≡ bits
-  pub value_there : IsThere c value
-  pub value_width : (signal c value).width ≡ width
+pub record HasCommitNets (c : Circuit) (bits width : ℕ) (commit_net addr_net value_net : Net) : Type 0 where
+  pub commit : HasWidth c commit_net 1
+  pub addr : HasWidth c addr_net bits
+  pub value : HasWidth c value_net width
 
 -- the nets of a step's ports are there
 pub record PortsThere (c : Circuit) (p : LockPorts) : Type 0 where

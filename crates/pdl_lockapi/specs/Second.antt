@@ -4,7 +4,7 @@ use Rattle.pdl_word.specs.Words.{bit}
 use Rattle.pdl_semantics.specs.Tree.{LockKind}
 use Rattle.pdl_net.specs.Circuit.{Circuit, State}
 use Rattle.pdl_net.specs.Signal.{Signal}
-use Rattle.pdl_net.specs.Meaning.{IsThere, signal}
+use Rattle.pdl_net.specs.HasWidth.{HasWidth}
 use Rattle.pdl_lockapi.specs.declared.Kind.{Kind}
 use Rattle.pdl_lockapi.specs.declared.Kind.TheVariants.{R}
 use Rattle.pdl_lockapi.specs.declared.LockRegs.{LockRegs}
@@ -13,10 +13,8 @@ use Rattle.pdl_lockapi.specs.Laws.{StepSignals, Drives, FitsIn, holds_ticket}
 
 -- the nets of room for two, of 1 bit, and of the ticket after the next one
 pub record HasSecondNets (w : ℕ) (c : Circuit) (r : LockRegs) : Type 0 where
-  pub room2_there : IsThere c r.room2
-  pub room2_one : (signal c r.room2).width ≡ 1
-  pub ticket2_there : IsThere c r.ticket2
-  pub ticket2_width : (signal c r.ticket2).width ≡ w
+  pub room2 : HasWidth c r.room2 1
+  pub ticket2 : HasWidth c r.ticket2 w
 
 -- the net of room for two says whether there is room for two reservations
 pub record Room2Law (stands : State → LockState → Type 0) (n : ℕ) (room2 : Signal) : Type 0 where

@@ -4,7 +4,7 @@ use Rattle.std.specs.Prelude.{if◌then◌else◌, slice_index, slice_set}
 use Rattle.std.proofs.lemmas.Bool.{eqb-true, eqb-false, false≢true}
 use Rattle.std.proofs.lemmas.List.{get_or-set_same, get_or-set_other, length-set}
 use Rattle.pdl_semantics.specs.Flat.{Pipe, word_at}
-use Rattle.pdl_semantics.specs.Machine.{Awaited, Kept, State, request_of, is_answered, answer_to, answer_for, kept_answer, unanswered_reads, answered_reads, with_kept}
+use Rattle.pdl_semantics.specs.Machine.{Awaited, State, request_of, is_answered, answer_to, answer_for, kept_answer, unanswered_reads, answered_reads, with_kept}
 use Rattle.pdl_semantics.specs.Moves.{is_empty}
 use Rattle.pdl_semantics.specs.Sound.{request_address}
 use Rattle.pdl_machine_inflight.specs.InFlight.{Some-of, IsAwaited}

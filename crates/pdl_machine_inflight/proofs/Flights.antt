@@ -12,7 +12,7 @@ use Rattle.pdl_theory_derived.specs.Derived
 use Rattle.pdl_theory_derived.specs.Derived.{awaits_mem, asked_at}
 use Rattle.pdl_theory_simulation.proofs.Stretches.{AllFetched, on_way}
 use Rattle.pdl_theory_simulation.proofs.Seats.{Live, seat}
-use Rattle.pdl_theory_simulation.proofs.Choices.{AllOwned, Matched, Seated}
+use Rattle.pdl_theory_simulation.proofs.Choices.{AllOwned, Matched}
 use Rattle.pdl_theory_simulation.proofs.Choices
 use Rattle.pdl_theory_simulation.proofs.SimulatedStates.{Sim}
 use Rattle.pdl_theory_states.specs.Strict.{Strict}

@@ -1,9 +1,8 @@
 -- Lists of acts, and what depends on one of them.
 use Rattle.std.proofs.Common.{◌≡◌, refl, sym, ap, ap₂, ◌∙◌, ℕ, zero, suc, ◌+◌, ◌<◌, Bool, true, false, if◌then◌else◌, ◌==◌, List, [], ◌∷◌, ◌++◌, map, Option, Some, None, length, get_or, arith, append-nil, ne_eqb}
 use Rattle.pdl_semantics.specs.Flat.{Pipe}
-use Rattle.pdl_semantics.specs.Machine.{Pending}
 use Rattle.pdl_semantics.specs.Moves.{Act, is_empty}
-use Rattle.pdl_semantics.specs.Cycle.{squasher, entries_left, entered_branches, address_of, asked_in}
+use Rattle.pdl_semantics.specs.Cycle.{squasher, entered_branches, address_of, asked_in}
 use Rattle.pdl_machine_run.specs.declared.stage.Awaited as r_awaited
 use Rattle.pdl_machine_run.specs.declared.stage.Stage as r_stage
 use Rattle.pdl_machine_run.specs.View.{awaited_view}

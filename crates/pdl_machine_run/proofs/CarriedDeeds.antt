@@ -2,7 +2,7 @@
 use Rattle.std.proofs.Common.{◌≡◌, refl, sym, ap, ap₂, ◌∙◌, subst, ℕ, zero, suc, ◌+◌, ◌^◌, ◌<◌, ◌≤◌, Bool, true, false, ◌&&◌, ◌==◌, if◌then◌else◌, List, [], ◌∷◌, ◌++◌, Option, Some, None, length, length-append, map, slice_index, slice_index_or, ◌⊎◌, inl, inr, arith, is_some}
 use mathlib.Core.Path.{fun_ext}
 use Rattle.std.proofs.lemmas.Nat.{pow_pos}
-use Rattle.pdl_semantics.specs.Flat.{Stmt, Pipe, word_at}
+use Rattle.pdl_semantics.specs.Flat.{Pipe, word_at}
 use Rattle.pdl_semantics.specs.Stages.{in_stage, mem_at}
 use Rattle.pdl_semantics.specs.Locks.{Nothing, value_or}
 use Rattle.pdl_semantics.specs.Machine.{Awaited, Kept, Thread, Request, NoRequest, Owned, Orphan, Pending, Deeds, youngest, answer_to, answer_for, kept_answer, unanswered_reads, answered_reads, with_answers, with_kept, request_of, is_answered, word_for, deeds, deeds_after_all}
@@ -16,7 +16,7 @@ use Rattle.pdl_machine_run.specs.Outside.{outside, arrays_in}
 use Rattle.pdl_machine_run.specs.StageDeeds.{memory_at, word_of}
 use Rattle.pdl_machine_run.specs.Room.{HasRoomFor}
 use Rattle.pdl_machine_run.specs.Typed.{IsReadInto, AreAwaited, AreAnswers, IsFine, AreFit, AreMemories}
-use Rattle.pdl_machine_run.proofs.DeedWidths.{fit_set, stage_if}
+use Rattle.pdl_machine_run.proofs.DeedWidths.{fit_set}
 
 -- WORDS
 

@@ -4,9 +4,9 @@ use Rattle.std.proofs.lemmas.List.{length-map}
 use Rattle.pdl_word.specs.Words.{bit}
 use Rattle.pdl_semantics.specs.Flat.{Mem, Stage, Pipe}
 use Rattle.pdl_semantics.specs.Stages.{plain_mem, list_any}
-use Rattle.pdl_semantics.specs.Machine.{Thread, Request, NoRequest, State, Pending, lock_of}
+use Rattle.pdl_semantics.specs.Machine.{Thread, Request, NoRequest, State, lock_of}
 use Rattle.pdl_semantics.specs.Moves.{Act, all_acts, movers}
-use Rattle.pdl_semantics.specs.Cycle.{for_mems, for_stages, or_then, if_kept, born_thread, child_of, squasher, next_thread, stage_next, with_commits, entries_left, list_three, taken_out, port_write, fork_next, branches_left, request_next, request_left, after_these, after_acts, cycle, Ports, ports_these, asked_in}
+use Rattle.pdl_semantics.specs.Cycle.{for_mems, for_stages, or_then, if_kept, born_thread, child_of, squasher, next_thread, stage_next, with_commits, entries_left, list_three, taken_out, port_write, fork_next, branches_left, request_next, request_left, after_these, after_acts, cycle, ports_these, asked_in}
 use Rattle.pdl_semantics.specs.Cycle as stated
 use Rattle.pdl_machine_facts.specs.Ports.{stage_values, all_commit_values, request_values, all_request_values, whole_values}
 use Rattle.pdl_form.specs.Form.{Form}

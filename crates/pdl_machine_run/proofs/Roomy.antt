@@ -5,7 +5,7 @@ use Rattle.pdl_semantics.specs.Flat.{Lock, Plain, Pipe}
 use Rattle.pdl_semantics.specs.Stages.{mem_at}
 use Rattle.pdl_semantics.specs.Machine.{Pending, State, lock_of, fork_of}
 use Rattle.pdl_semantics.specs.Moves.{Act}
-use Rattle.pdl_semantics.specs.Cycle.{has_release, oldest, entries_left, list_three, cycle, first, state_after, squasher, branches_left, fork_next}
+use Rattle.pdl_semantics.specs.Cycle.{has_release, oldest, entries_left, list_three, cycle, first, squasher, branches_left, fork_next}
 use Rattle.pdl_lockapi.specs.Forget.{addresses}
 use Rattle.pdl_machine_facts.specs.Slots.{moving}
 use Rattle.pdl_machine_facts.specs.Cycle.{IsByStages}

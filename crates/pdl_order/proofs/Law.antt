@@ -4,10 +4,10 @@ use Rattle.std.specs.Prelude.{if◌then◌else◌, drop}
 use Rattle.std.proofs.Math.Pow.{pow_mono}
 use Rattle.std.proofs.lemmas.Nat.{pow_pos}
 use Rattle.pdl_word.specs.Words as words
-use Rattle.pdl_word.specs.Words.{bit, mux}
+use Rattle.pdl_word.specs.Words.{bit}
 use Rattle.pdl_net.specs.declared.BinOp.TheVariants.{Shr}
 use Rattle.pdl_net.specs.Circuit.{Circuit, State, reg_reset}
-use Rattle.pdl_net.specs.Signal.{Signal, const_signal, bin_signal, mux_signal, mux_value, const_value, reg_value, bin_value, slice_value}
+use Rattle.pdl_net.specs.Signal.{Signal, const_signal, bin_signal, mux_signal, const_value, reg_value, bin_value, slice_value}
 use Rattle.pdl_order.specs.declared.layout.OrderLayout.{OrderLayout}
 use Rattle.pdl_order.specs.Order.{OrderAct, Proper, step, after_left, after_entered}
 use Rattle.pdl_order.specs.Laws.{StepSignals, Drives, StartLaw, FirstLaw, StepLaw}
@@ -15,7 +15,6 @@ use Rattle.pdl_order.specs.Words.{sides_at, word_of, Stands}
 use Rattle.pdl_order.specs.Nets.{used_signal, sides_signal, empty_signal, first_signal, used_left, sides_left, place_signal, more_signal, used_entered, sides_entered, next_used, next_sides, NextWords, own_words}
 use Rattle.pdl_order.proofs.Lists.{word_below, word_more, half, used_half, sides_half, sum_is, used_none, lowest}
 use Rattle.pdl_word.proofs.Numbers.{twice_power}
-use Rattle.pdl_word.proofs.Laws.{mux_bit}
 use Rattle.pdl_net.proofs.Signals.{mux_at}
 
 -- registers at reset stand for no thread inside

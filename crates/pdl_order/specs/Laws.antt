@@ -3,7 +3,7 @@ use Rattle.std.specs.Prelude.{◌≡◌, ℕ, ◌+◌, ◌<◌, ◌≤◌, Bool,
 use Rattle.pdl_word.specs.Words.{bit}
 use Rattle.pdl_net.specs.Circuit.{Circuit, State, HasReg}
 use Rattle.pdl_net.specs.Signal.{Signal}
-use Rattle.pdl_net.specs.Meaning.{IsThere, signal}
+use Rattle.pdl_net.specs.Meaning.{signal}
 use Rattle.pdl_net.specs.HasWidth.{HasWidth}
 use Rattle.pdl_net.specs.Growth.{Own}
 use Rattle.pdl_lockapi.specs.Laws.{IsReset, IsNext}
@@ -32,10 +32,8 @@ pub record IsFragment (old new : Circuit) (r : OrderRegs) : Type 0 where
 
 -- the nets of the first entry and of emptiness are there, with 1 bit
 pub record HasOrderNets (c : Circuit) (r : OrderRegs) : Type 0 where
-  pub first_there : IsThere c r.first
-  pub first_one : (signal c r.first).width ≡ 1
-  pub empty_there : IsThere c r.empty
-  pub empty_one : (signal c r.empty).width ≡ 1
+  pub first : HasWidth c r.first 1
+  pub empty : HasWidth c r.empty 1
 
 -- registers at reset stand for no thread inside
 pub record StartLaw (stands : State → List Bool → Type 0) (c : Circuit) (o : Own) : Type 0 where

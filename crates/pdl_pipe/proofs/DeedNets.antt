@@ -4,11 +4,8 @@ use Rattle.std.specs.Prelude.{Option, slice_index_or}
 use Rattle.pdl_word.specs.Each.{Each}
 use Rattle.pdl_net.specs.declared.Net.{Net}
 use Rattle.pdl_net.specs.Circuit.{Circuit}
-use Rattle.pdl_net.specs.Signal.{Signal}
-use Rattle.pdl_net.specs.Meaning.{signal}
 use Rattle.pdl_pipe_exprs.specs.Nets.{signals_in, widths_of}
 use Rattle.pdl_pipe_walk.specs.declared.locks.MemLock.{MemLock}
-use Rattle.pdl_pipe_walk.specs.declared.nets.WalkNets.{WalkNets}
 use Rattle.pdl_pipe_walk.specs.Locked.{Members, AreLocked, AreTickets}
 use Rattle.pdl_pipe_walk.specs.Sized.{IsWalk}
 use Rattle.pdl_pipe_registers.specs.Staged.{next_signals}

@@ -5,7 +5,6 @@ use Rattle.std.proofs.lemmas.Bool.{false≢true}
 use Rattle.pdl_word.specs.Each.{Each}
 use Rattle.pdl_semantics.specs.Flat.{Pipe}
 use Rattle.pdl_semantics.specs.Stages.{stage_at}
-use Rattle.pdl_net.specs.declared.Net.{Net}
 use Rattle.pdl_net.specs.Circuit.{Circuit}
 use Rattle.pdl_order.specs.declared.OrderRegs.{OrderRegs}
 use Rattle.pdl_pipe_walk.specs.declared.locks.MemLock.{MemLock}
@@ -14,7 +13,7 @@ use Rattle.pdl_pipe_answers.specs.Ports.{IsBit}
 use Rattle.pdl_pipe_beside.specs.Orders.{StandOrders}
 use Rattle.pdl_pipe_beside.proofs.OrderParts.{is_merged_by}
 use Rattle.pdl_pipe_nexts.specs.declared.line.StageLine.{StageLine}
-use Rattle.pdl_pipe_nexts.specs.Lines.{line_pipe, IsLineIn}
+use Rattle.pdl_pipe_nexts.specs.Lines.{IsLineIn}
 use Rattle.pdl_pipe_moves.specs.declared.whole.MoveNets.{MoveNets}
 use Rattle.pdl_pipe_moves.specs.Gates.{HasTurns, IsOrderThere}
 use Rattle.pdl_pipe_moves.specs.Passed.{AreMoved}

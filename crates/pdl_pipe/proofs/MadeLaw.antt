@@ -13,7 +13,7 @@ use Rattle.pdl_law_parts.specs.Walk.{Locks, is_locked}
 use Rattle.pdl_law_parts.specs.Views.{View, Gates}
 use Rattle.pdl_law_parts.specs.Ports.{step_of}
 use Rattle.pdl_law_parts.specs.Places.{comb_place}
-use Rattle.pdl_law_parts.specs.Compiled.{port_in, IsLaid}
+use Rattle.pdl_law_parts.specs.Compiled.{port_in}
 use Rattle.pdl_law_parts.specs.Declared.{AreBitsWide}
 use Rattle.pdl_law_sides.specs.Sides.{Sides}
 use Rattle.pdl_law_sides.specs.WholeNetlist.{IsWhole}

@@ -1,12 +1,11 @@
 -- The outputs of a netlist that is emitted: they show in it what they were told.
 use Rattle.std.proofs.Common.{◌≡◌, refl, sym, ap, ap₂, ◌∙◌, ℕ, ◌<◌, ◌≤◌, ◌⊎◌, inl, inr, List, [], ◌∷◌, ◌++◌, map, length, arith}
 use mathlib.Core.Path.{fun_ext}
-use Rattle.std.specs.Prelude.{Option, Some, None, is_some, slice_index_or}
+use Rattle.std.specs.Prelude.{Option, Some, None, is_some}
 use Rattle.std.proofs.lemmas.Bool.{cases_lt, false≢true}
 use Rattle.std.proofs.lemmas.List.{get_or_past, get_or-map}
 use Rattle.pdl_semantics.specs.Flat.{Pipe}
 use Rattle.pdl_form.specs.Form.{Form}
-use Rattle.pdl_net.specs.declared.Net.{Net}
 use Rattle.pdl_net.specs.declared.Net.TheVariants.{Reg as RegNet}
 use Rattle.pdl_net.specs.declared.Dir.TheVariants.{Out}
 use Rattle.pdl_net.specs.declared.Port.{Port}
@@ -23,7 +22,6 @@ use Rattle.pdl_law_sides.specs.WholeNetlist.{Request, reply_ports, whole_shown}
 use Rattle.pdl_pipe_walk.specs.declared.locks.MemLock.{MemLock}
 use Rattle.pdl_pipe_walk.specs.Locked.{Members, some_at}
 use Rattle.pdl_pipe_beside.specs.declared.outside.RequestNets.{RequestNets}
-use Rattle.pdl_pipe_registers.specs.Stages.{view_in}
 use Rattle.pdl_pipe_registers.proofs.Lists.{view_at, some_stage}
 use Rattle.pdl_pipe_nexts.specs.Lines.{line_form, line_pipe}
 use Rattle.pdl_pipe_nexts.proofs.LineGrowth as lines

@@ -1,6 +1,5 @@
 -- What an emitted netlist asks of the delayed memories, as the law of a netlist asks for it.
 use Rattle.std.proofs.Common.{◌≡◌, refl, sym, ap, ◌∙◌, subst, ℕ, ◌^◌, ◌<◌, true, List, length, arith}
-use mathlib.Core.Path.{fun_ext}
 use Rattle.std.specs.Prelude.{Option, Some, None, is_some}
 use Rattle.std.proofs.lemmas.Bool.{false≢true}
 use Rattle.pdl_semantics.specs.Flat.{Pipe}
@@ -13,7 +12,7 @@ use Rattle.pdl_net.specs.Growth.{Keeps}
 use Rattle.pdl_net.proofs.KeptWidths.{width_keeps}
 use Rattle.pdl_pipe_exprs.specs.Nets.{signals_in, signal_at}
 use Rattle.pdl_machine_inflight.specs.Readings.{reading}
-use Rattle.pdl_law_parts.specs.Walk.{zero_bit, is_locked}
+use Rattle.pdl_law_parts.specs.Walk.{zero_bit}
 use Rattle.pdl_law_parts.specs.Views.{View, Gates}
 use Rattle.pdl_law_sides.specs.Sides.{Sides}
 use Rattle.pdl_law_sides.specs.WholeNetlist.{IsOutside, FitsOutside}

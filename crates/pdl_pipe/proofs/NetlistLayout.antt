@@ -1,24 +1,21 @@
 -- Memories, ports, orders and stages, laid out one after the other.
-use Rattle.std.proofs.Common.{◌≡◌, ◌<◌, ◌≤◌, ℕ, refl, sym, ap, ◌∙◌, subst, length, map, List, arith}
+use Rattle.std.proofs.Common.{◌≡◌, ℕ, refl, sym, ap, ◌∙◌, subst, length, map, List, arith}
 use Rattle.std.proofs.lemmas.List.{length-map}
-use Rattle.std.specs.Prelude.{Option, Some}
+use Rattle.std.specs.Prelude.{Option}
 use Rattle.pdl_word.specs.Each.{Each}
-use Rattle.pdl_semantics.specs.Flat.{Pipe}
 use Rattle.pdl_net.specs.declared.Net.{Net}
 use Rattle.pdl_net.specs.Circuit.{Circuit}
 use Rattle.pdl_net.specs.Signal.{Signal}
-use Rattle.pdl_net.specs.Meaning.{signal, Means}
+use Rattle.pdl_net.specs.Meaning.{Means}
 use Rattle.pdl_net.specs.Growth.{Extends, Keeps}
 use Rattle.pdl_net.proofs.Keeps.{extends_keeps, extends_trans, keeps_refl, regs_grow}
 use Rattle.pdl_net.proofs.KeptWidths.{width_meant}
 use Rattle.pdl_order.specs.declared.OrderRegs.{OrderRegs}
 use Rattle.pdl_order.specs.Laws.{own as order_own}
-use Rattle.pdl_port.specs.Laws.{AnswerSignals}
 use Rattle.pdl_pipe_exprs.specs.Nets.{NetsThere, signals_in, signal_at}
 use Rattle.pdl_pipe_exprs.specs.Conditions.{AreBits}
 use Rattle.pdl_pipe_exprs.specs.declared.bits.Bits.{Bits}
 use Rattle.pdl_law_parts.specs.Walk.{Locks, zero_bit}
-use Rattle.pdl_form.specs.Form.{Form}
 use Rattle.pdl_pipe_walk.specs.declared.locks.MemLock.{MemLock}
 use Rattle.pdl_pipe_walk.specs.Locked.{Members, locks_in, AreLocked}
 use Rattle.pdl_pipe_walk.proofs.NetGrowth.{bits_keep}
@@ -32,8 +29,8 @@ use Rattle.pdl_pipe_beside.proofs.PortSteps.{ports_stand}
 use Rattle.pdl_pipe_beside.proofs.OrderSteps.{orders_stand}
 use Rattle.pdl_pipe_registers.specs.declared.nets.StageNets.{StageNets}
 use Rattle.pdl_pipe_registers.specs.Begun.{IsShared, ticket_net}
-use Rattle.pdl_pipe_registers.specs.Stages.{IsAt, zero_signal}
-use Rattle.pdl_pipe_registers.specs.Staged.{IsStaged, AreStaged, AreApart, next_signals}
+use Rattle.pdl_pipe_registers.specs.Stages.{zero_signal}
+use Rattle.pdl_pipe_registers.specs.Staged.{AreStaged, AreApart, next_signals}
 use Rattle.pdl_pipe_registers.proofs.TicketsMade.{next_are, next_there, next_same}
 use Rattle.pdl_pipe_nexts.specs.declared.line.StageLine.{StageLine}
 use Rattle.pdl_pipe_nexts.specs.Lines.{line_form, line_pipe, IsLineIn}

@@ -1,9 +1,7 @@
 -- What stands in a netlist before its stages: inputs, memories with their locks, and ports.
-use Rattle.std.proofs.Common.{◌≡◌, ◌<◌, ◌≤◌, ℕ, suc, refl, sym, ap, ◌∙◌, subst, length, map, List, [], ◌∷◌, ◌++◌, arith}
-use Rattle.std.specs.Prelude.{Option, Some}
-use Rattle.pdl_semantics.specs.Flat.{Pipe}
+use Rattle.std.proofs.Common.{◌≡◌, suc, refl, ap, ◌∙◌, length, map, List, [], ◌∷◌, ◌++◌, arith}
+use Rattle.std.specs.Prelude.{Option}
 use Rattle.pdl_form.specs.Form.{Form}
-use Rattle.pdl_net.specs.declared.Net.{Net}
 use Rattle.pdl_build.specs.Change.{empty_circuit}
 use Rattle.pdl_net.specs.declared.Array.{Array}
 use Rattle.pdl_net.specs.Circuit.{Circuit, shape_of, shapes_of}

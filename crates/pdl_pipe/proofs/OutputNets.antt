@@ -1,10 +1,8 @@
 -- What the outputs are told is there.
-use Rattle.std.proofs.Common.{◌≡◌, ◌<◌, ℕ, zero, suc, Bool, true, false, refl, sym, ap, ◌∙◌, subst, length, List, [], ◌∷◌, arith}
+use Rattle.std.proofs.Common.{◌≡◌, ◌<◌, ℕ, suc, true, false, refl, sym, ap, ◌∙◌, subst, length, List, [], ◌∷◌, arith}
 use Rattle.std.specs.Prelude.{Option, Some, None, is_some, slice_index_or}
 use Rattle.std.proofs.lemmas.Bool.{false≢true}
 use Rattle.pdl_semantics.specs.Flat.{Pipe}
-use Rattle.pdl_semantics.specs.Stages.{mem_at}
-use Rattle.pdl_net.specs.declared.Net.{Net}
 use Rattle.pdl_net.specs.Circuit.{Circuit}
 use Rattle.pdl_net.specs.Meaning.{IsThere}
 use Rattle.pdl_net.specs.Growth.{Keeps}
@@ -14,8 +12,7 @@ use Rattle.pdl_pipe_walk.specs.declared.locks.MemLock.{MemLock}
 use Rattle.pdl_pipe_walk.specs.Locked.{Members, some_at, AreLocked}
 use Rattle.pdl_pipe_beside.specs.declared.outside.RequestNets.{RequestNets}
 use Rattle.pdl_pipe_nexts.specs.declared.line.StageLine.{StageLine}
-use Rattle.pdl_pipe_nexts.specs.Lines.{line_pipe, IsLineIn}
-use Rattle.pdl_pipe_nexts.proofs.LineGrowth.{bits_there}
+use Rattle.pdl_pipe_nexts.specs.Lines.{IsLineIn}
 use Rattle.pdl_pipe_locks.specs.Stepped.{AreStepped}
 use Rattle.pdl_pipe_outputs.specs.declared.outputs.ShownNets.{ShownNets}
 use Rattle.pdl_pipe_outputs.specs.ToldOutputs.{AreThereStages, AreCommits, AreAsked, IsThereCommit, IsThereRequest}

@@ -1,13 +1,10 @@
 -- The parts of a netlist of a pipe, from its inputs to its outputs.
-use Rattle.std.specs.Prelude.{◌≡◌, ℕ, ◌<◌, ◌≤◌, List, [], length, map, Option, Some, slice_index_or}
-use Rattle.pdl_word.specs.Each.{Each}
-use Rattle.pdl_semantics.specs.Flat.{Pipe}
-use Rattle.pdl_semantics.specs.Stages.{mem_at, verify_stage}
+use Rattle.std.specs.Prelude.{◌≡◌, ℕ, ◌<◌, ◌≤◌, List, length, map, Option, Some, slice_index_or}
+use Rattle.pdl_semantics.specs.Stages.{verify_stage}
 use Rattle.pdl_form.specs.Form.{Form}
 use Rattle.pdl_net.specs.declared.Net.{Net}
 use Rattle.pdl_net.specs.declared.Net.TheVariants.{Reg as RegNet}
 use Rattle.pdl_net.specs.Circuit.{Circuit, shapes_of}
-use Rattle.pdl_net.specs.Signal.{Signal}
 use Rattle.pdl_net.specs.Growth.{Extends, ExtendsBut, ExtendsPorts, Keeps}
 use Rattle.pdl_lockapi.specs.declared.LockNets.{LockNets}
 use Rattle.pdl_port.specs.declared.PortRegs.{PortRegs}
@@ -22,7 +19,6 @@ use Rattle.pdl_pipe_walk.specs.declared.locks.MemLock.{MemLock}
 use Rattle.pdl_pipe_walk.specs.Locked.{Members, some_at, AreLocked}
 use Rattle.pdl_pipe_answers.specs.Ports.{HasAnswers}
 use Rattle.pdl_pipe_beside.specs.declared.ends.StageEnd.{StageEnd}
-use Rattle.pdl_pipe_beside.specs.declared.outside.RequestNets.{RequestNets}
 use Rattle.pdl_pipe_beside.specs.Ports.{StandPorts}
 use Rattle.pdl_pipe_beside.specs.Parts.{own_at, ExtendsParts}
 use Rattle.pdl_pipe_beside.specs.Beside.{AreTaken}

@@ -9,12 +9,13 @@ use Rattle.pdl_machine_facts.specs.Slots.{leads_to}
 use Rattle.pdl_net.specs.Circuit.{Circuit}
 use Rattle.pdl_net.specs.Signal.{Signal, mux_signal}
 use Rattle.pdl_net.specs.Growth.{Keeps}
+use Rattle.pdl_net.proofs.KeptWidths.{width_keeps}
 use Rattle.pdl_port.specs.declared.PortRegs.{PortRegs}
 use Rattle.pdl_port.specs.Laws.{AnswerSignals, HasAnswerNets, answer_at, answer_signals, places as port_places}
 use Rattle.pdl_machine_inflight.specs.Readings.{Reading, reading, places, places_of}
 use Rattle.pdl_law_sides.specs.Sides.{place_answer, memory_answer, some_answer, with_answer}
 use Rattle.pdl_pipe_answers.specs.Readings.{gets_one, gets_some, gets_answer}
-use Rattle.pdl_pipe_answers.specs.Ports.{port_at, answers_in, IsPortFor, HasAnswers, BindsWide}
+use Rattle.pdl_pipe_answers.specs.Ports.{port_at, answers_in, IsPortFor, HasAnswers}
 
 -- ---- one memory more
 
@@ -85,12 +86,9 @@ answer_none p f k x kept e = some_none p f k x (length p.mems) 0 kept e
 module _ (a b : Circuit) (e : Keeps a b) where
   nets_keep : (w : ℕ) (r : PortRegs) → HasAnswerNets a w r → HasAnswerNets b w r
   nets_keep w r h = record {
-    answered_there = λ k l. e.there (answer_at r k).answered (h.answered_there k l);
-    answered_one = λ k l. ap (λ (g : Signal). g.width) (e.kept (answer_at r k).answered (h.answered_there k l)) ∙ h.answered_one k l;
-    given_there = λ k l. e.there (answer_at r k).given (h.given_there k l);
-    given_one = λ k l. ap (λ (g : Signal). g.width) (e.kept (answer_at r k).given (h.given_there k l)) ∙ h.given_one k l;
-    value_there = λ k l. e.there (answer_at r k).value (h.value_there k l);
-    value_width = λ k l. ap (λ (g : Signal). g.width) (e.kept (answer_at r k).value (h.value_there k l)) ∙ h.value_width k l;
+    answered = λ k l. width_keeps a b (answer_at r k).answered 1 e (h.answered k l);
+    given = λ k l. width_keeps a b (answer_at r k).given 1 e (h.given k l);
+    value = λ k l. width_keeps a b (answer_at r k).value w e (h.value k l);
   }
 
   port_keep : (p : Pipe) (m : ℕ) (r : Reading) (o : Option PortRegs) → IsPortFor a p m r o → IsPortFor b p m r o
@@ -104,8 +102,8 @@ module _ (a b : Circuit) (e : Keeps a b) where
   pub at_place : (w : ℕ) (r : PortRegs) (i : ℕ) → i < port_places r → HasAnswerNets a w r → answer_signals b r i ≡ answer_signals a r i
   at_place w r i l h =
       ap₂ (λ (f : Signal) (g : Signal × Signal). (let z : AnswerSignals = record { answered = f; given = g.0; value = g.1 } in z))
-      (e.kept (answer_at r i).answered (h.answered_there i l))
-      (ap₂ (λ (f g : Signal). (f, g)) (e.kept (answer_at r i).given (h.given_there i l)) (e.kept (answer_at r i).value (h.value_there i l)))
+      (e.kept (answer_at r i).answered (h.answered i l).there)
+      (ap₂ (λ (f g : Signal). (f, g)) (e.kept (answer_at r i).given (h.given i l).there) (e.kept (answer_at r i).value (h.value i l).there))
 
   pub place_same : (w : ℕ) (r : PortRegs) (k : ℕ) (next : Next) (rest : Signal)
       → port_places r ≡ length (places_of next) → HasAnswerNets a w r

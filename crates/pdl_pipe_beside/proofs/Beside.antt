@@ -1,7 +1,6 @@
 -- Ports and orders as the law of a netlist takes them.
 use Rattle.std.proofs.Common.{◌≡◌, ℕ, zero, suc, ◌+◌, ◌*◌, ◌<◌, ◌∙◌, Bool, true, false, List, length, refl, sym, ap, ap₂, subst, arith}
 use Rattle.std.specs.Prelude.{Option, Some, None, is_some, if◌then◌else◌}
-use Rattle.std.proofs.lemmas.Bool.{false≢true}
 use Rattle.pdl_semantics.specs.Flat.{Pipe}
 use Rattle.pdl_semantics.specs.Stages.{stage_at, mem_at, is_inside, verify_stage, reply_place}
 use Rattle.pdl_semantics.specs.Cycle.{merges_by}
@@ -98,7 +97,7 @@ module _ (a c : Circuit) (p : Pipe) (es : List StageEnd) (squash : Net) (vs : �
         → port_laws.StepLaw (port_places.stands q) (length (places p r)) (port_laws.own q) c (step_by m r)
     step_law m r q is e =
         port_steps.law_as (port_places.stands q) (length (places p r)) (port_laws.own q) c _ (step_by m r)
-        (sym (keeps.kept q.reply (stand.each m r q is e).placed.reply_there) ∙ taken.reply m q e)
+        (sym (keeps.kept q.reply (stand.each m r q is e).placed.reply.there) ∙ taken.reply m q e)
         (λ k l. sym (stages.move (place_at p r k) (leads.to m r is k l)))
         (λ k l. sym (stages.kills (place_at p r k) (leads.to m r is k l)))
         (λ k l. asked_same m r k (leads.stage m r is))

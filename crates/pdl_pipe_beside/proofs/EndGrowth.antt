@@ -14,6 +14,7 @@ use Rattle.pdl_net.specs.Circuit.{Circuit}
 use Rattle.pdl_net.specs.Signal.{Signal, no_signal}
 use Rattle.pdl_net.specs.Meaning.{IsThere, signal}
 use Rattle.pdl_net.specs.Growth.{Keeps, Extends}
+use Rattle.pdl_net.specs.HasWidth.{HasWidth}
 use Rattle.pdl_net.proofs.Keeps.{extends_keeps}
 use Rattle.pdl_net.proofs.KeptWidths.{width_keeps}
 use Rattle.pdl_port.specs.Laws.{net_at, signal_at}
@@ -104,22 +105,19 @@ fork_var ws n x first second e h = subst (IsFork ws) e h
 
 -- after the nets of n bits stands a net for the next one
 pub nets_more : (a b : Circuit) (nets : List Net) (n : ℕ) (f : ℕ → Signal) (x : Net) → AreNetsOf a nets n f
-    → Extends a b → IsThere b x → (signal b x).width ≡ 1 → signal b x ≡ f n → AreNetsOf b (nets ++ x ∷ []) (n + 1) f
-nets_more a b nets n f x h e there one same =
+    → Extends a b → HasWidth b x 1 → signal b x ≡ f n → AreNetsOf b (nets ++ x ∷ []) (n + 1) f
+nets_more a b nets n f x h e bit same =
     let g = bits_kept a b nets n h.bits e in
     let old : (k : ℕ) → k < n → net_at (nets ++ x ∷ []) k ≡ net_at nets k = λ k l. get_or_append_left nets (x ∷ []) (Input 0) k (omega (arith, l, g.count)) in
     let last : net_at (nets ++ x ∷ []) n ≡ x = get_or_push nets x (Input 0) n g.count in
     record {
       bits = record {
         count = length-append nets (x ∷ []) ∙ ap (λ k. k + 1) g.count;
-        there =
-            below_more (λ k. IsThere b (net_at (nets ++ x ∷ []) k)) n (λ k l. subst (IsThere b) (sym (old k l)) (g.there k l))
-            (subst (IsThere b) (sym last) there);
-        one =
-            below_more (λ k. (signal_at b (nets ++ x ∷ []) k).width ≡ 1) n (λ k l. ap (λ y. (signal b y).width) (old k l) ∙ g.one k l)
-            (ap (λ y. (signal b y).width) last ∙ one);
+        each =
+            below_more (λ k. HasWidth b (net_at (nets ++ x ∷ []) k) 1) n (λ k l. subst (λ y. HasWidth b y 1) (sym (old k l)) (g.each k l))
+            (subst (λ y. HasWidth b y 1) (sym last) bit);
       };
       same = below_more (λ k. signal_at b (nets ++ x ∷ []) k ≡ f k) n
-          (λ k l. ap (signal b) (old k l) ∙ e.kept (net_at nets k) (h.bits.there k l) ∙ h.same k l)
+          (λ k l. ap (signal b) (old k l) ∙ e.kept (net_at nets k) (h.bits.each k l).there ∙ h.same k l)
           (ap (signal b) last ∙ same);
     }

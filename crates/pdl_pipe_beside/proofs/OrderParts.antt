@@ -1,6 +1,6 @@
 -- The orders of forks, as they are made and while the circuit grows.
-use Rattle.std.proofs.Common.{◌≡◌, ℕ, zero, suc, ◌+◌, ◌-◌, ◌≤◌, ◌∙◌, Bool, true, false, ◌||◌, List, [], ◌∷◌, length, refl, sym, ap, subst, arith, eqb-true}
-use Rattle.std.specs.Prelude.{Option, Some, None, slice_index_or}
+use Rattle.std.proofs.Common.{◌≡◌, ℕ, zero, suc, ◌+◌, ◌-◌, ◌≤◌, ◌∙◌, Bool, true, false, ◌||◌, List, [], ◌∷◌, length, refl, sym, ap, subst, arith}
+use Rattle.std.specs.Prelude.{Option, Some, slice_index_or}
 use Rattle.std.proofs.lemmas.List.Sums.{count_by-le-length}
 use Rattle.std.proofs.lemmas.Bool.{false≢true}
 use Rattle.pdl_word.proofs.Numbers.{eqb_self}
@@ -10,6 +10,7 @@ use Rattle.pdl_net.specs.Circuit.{Circuit, HasReg}
 use Rattle.pdl_net.specs.Signal.{Signal}
 use Rattle.pdl_net.specs.Meaning.{signal}
 use Rattle.pdl_net.specs.Growth.{Keeps}
+use Rattle.pdl_net.proofs.KeptWidths.{width_keeps}
 use Rattle.pdl_order.specs.declared.OrderRegs.{OrderRegs}
 use Rattle.pdl_order.specs.Laws.{HasOrderNets, IsFragment, StartLaw, FirstLaw, first_reg, end_reg, own}
 use Rattle.pdl_order.specs.Words.{ArePlaced, stands}
@@ -102,15 +103,13 @@ module _ (a b : Circuit) (k : Keeps a b) where
   -- a fork's order stays, with its laws
   pub order_stays : (p : Pipe) (f : ℕ) (r : OrderRegs) → IsOrder a p f r → IsOrder b p f r
   order_stays p f r x =
-      let e = k.kept r.first x.nets.first_there in
-      let g = k.kept r.empty x.nets.empty_there in
+      let e = k.kept r.first x.nets.first.there in
+      let g = k.kept r.empty x.nets.empty.there in
       record {
         stages = x.stages;
         nets = record {
-          first_there = k.there r.first x.nets.first_there;
-          first_one = ap (λ (h : Signal). h.width) e ∙ x.nets.first_one;
-          empty_there = k.there r.empty x.nets.empty_there;
-          empty_one = ap (λ (h : Signal). h.width) g ∙ x.nets.empty_one;
+          first = width_keeps a b r.first 1 k x.nets.first;
+          empty = width_keeps a b r.empty 1 k x.nets.empty;
         };
         placed = order_keeps a b r k x.placed;
         owned = record { regs = λ i lo hi. k.has_reg i (x.owned.regs i lo hi); none = x.owned.none };

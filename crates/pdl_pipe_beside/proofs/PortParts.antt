@@ -103,12 +103,9 @@ module _ (a b : Circuit) (k : Keeps a b) where
 
   nets_keep : (w : ℕ) (q : PortRegs) → HasAnswerNets a w q → HasAnswerNets b w q
   nets_keep w q h = record {
-    answered_there = λ j l. k.there (answer_at q j).answered (h.answered_there j l);
-    answered_one = λ j l. ap (λ (g : Signal). g.width) (k.kept (answer_at q j).answered (h.answered_there j l)) ∙ h.answered_one j l;
-    given_there = λ j l. k.there (answer_at q j).given (h.given_there j l);
-    given_one = λ j l. ap (λ (g : Signal). g.width) (k.kept (answer_at q j).given (h.given_there j l)) ∙ h.given_one j l;
-    value_there = λ j l. k.there (answer_at q j).value (h.value_there j l);
-    value_width = λ j l. ap (λ (g : Signal). g.width) (k.kept (answer_at q j).value (h.value_there j l)) ∙ h.value_width j l;
+    answered = λ j l. width_keeps a b (answer_at q j).answered 1 k (h.answered j l);
+    given = λ j l. width_keeps a b (answer_at q j).given 1 k (h.given j l);
+    value = λ j l. width_keeps a b (answer_at q j).value w k (h.value j l);
   }
 
   own_keeps : (o : Own) → HasOwn a o → HasOwn b o
@@ -128,17 +125,17 @@ module _ (a b : Circuit) (k : Keeps a b) where
   laws_keep : (p : Pipe) (m : ℕ) (r : Reading) (q : PortRegs) → IsPort a p m r q
       → AnswerLaw (stands q) (length (places p r)) (signal b q.reply) (signal b q.word) (answer_signals b q)
   laws_keep p m r q x =
-      let e = k.kept q.reply x.placed.reply_there in
+      let e = k.kept q.reply x.placed.reply.there in
       let f = k.kept q.word x.word_there in
       record {
         answered = λ s y g w st rep j l.
-            ap (λ (z : Signal). z.value s) (k.kept (answer_at q j).answered (x.nets.answered_there j (omega (arith, l, x.count))))
+            ap (λ (z : Signal). z.value s) (k.kept (answer_at q j).answered (x.nets.answered j (omega (arith, l, x.count))).there)
             ∙ x.answers.answered s y g w st (replies_back q s g w e f rep) j l;
         given = λ s y g w st rep j l.
-            ap (λ (z : Signal). z.value s) (k.kept (answer_at q j).given (x.nets.given_there j (omega (arith, l, x.count))))
+            ap (λ (z : Signal). z.value s) (k.kept (answer_at q j).given (x.nets.given j (omega (arith, l, x.count))).there)
             ∙ x.answers.given s y g w st (replies_back q s g w e f rep) j l;
         value = λ s y g w st rep j l on.
-            ap (λ (z : Signal). z.value s) (k.kept (answer_at q j).value (x.nets.value_there j (omega (arith, l, x.count))))
+            ap (λ (z : Signal). z.value s) (k.kept (answer_at q j).value (x.nets.value j (omega (arith, l, x.count))).there)
             ∙ x.answers.value s y g w st (replies_back q s g w e f rep) j l on;
       }
 

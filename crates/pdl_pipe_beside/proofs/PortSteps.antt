@@ -63,7 +63,7 @@ module _ (a b c : Circuit) (p : Pipe) (es : List StageEnd) (qs : List (Option Po
   here : StepLaw (stands q) (length (places p r)) (own q) c (port_signals a p es m r q)
   here =
       law_as (stands q) (length (places p r)) (own q) c (step_signals b q x) (port_signals a p es m r q)
-      (grows.kept q.reply port.placed.reply_there) moves.same removed.same asked.same
+      (grows.kept q.reply port.placed.reply.there) moves.same removed.same asked.same
       (subst (λ n. StepLaw (stands q) n (own q) c (step_signals b q x)) port.count law)
 
   -- the port keeps the law of its step by what the stages do, where the nets of the step mean that
@@ -94,7 +94,7 @@ signals_same : (a b : Circuit) (f : Form) (es : List StageEnd) (m : ℕ) (r : Re
     → AreEnds a f es → IsPort a f.pipe m r q → port_signals b f.pipe es m r q ≡ port_signals a f.pipe es m r q
 signals_same a b f es m r q k h x =
     ap₂ (λ vs ms. step_by f.pipe m r vs ms (map (kill_in b) es) (signal b q.reply)) (views_same a b k f es h) (moves_same a b k f es h)
-    ∙ ap₂ (step_by f.pipe m r (map (view_in a) es) (map (move_in a) es)) (kills_same a b k f es h) (k.kept q.reply x.placed.reply_there)
+    ∙ ap₂ (step_by f.pipe m r (map (view_in a) es) (map (move_in a) es)) (kills_same a b k f es h) (k.kept q.reply x.placed.reply.there)
 
 module _ (a : Circuit) (f : Form) (es : List StageEnd) (qs : List (Option PortRegs)) (stand : StandPorts a f.pipe qs) (ends : AreEnds a f es) where
   -- a step is that by the signals at first

@@ -1,9 +1,7 @@
 -- What the stages ask of delayed memories, as nets.
-use Rattle.std.proofs.Common.{◌≡◌, ℕ, zero, suc, ◌+◌, ◌*◌, ◌-◌, ◌^◌, ◌<◌, ◌≤◌, ◌==◌, ◌∙◌, Bool, true, false, List, [], ◌∷◌, ◌++◌, length, length-append, map, refl, sym, ap, ap₂, subst, arith, ⊎_elim}
+use Rattle.std.proofs.Common.{◌≡◌, ℕ, zero, suc, ◌+◌, ◌-◌, ◌^◌, ◌<◌, ◌==◌, ◌∙◌, Bool, true, false, List, [], ◌∷◌, ◌++◌, length, length-append, map, refl, sym, ap, ap₂, subst, arith}
 use borrow.Author.Count.{below_more}
 use Rattle.std.specs.Prelude.{Option, Some, if◌then◌else◌, slice_index_or}
-use Rattle.std.proofs.lemmas.Bool.{cases_lt}
-use Rattle.std.proofs.lemmas.Nat.{pow_pos, pow-add}
 use Rattle.pdl_word.specs.Words as words
 use Rattle.pdl_semantics.specs.Flat.{Mem, Pipe}
 use Rattle.pdl_semantics.specs.Stages.{mem_at, plain_mem}
@@ -32,7 +30,6 @@ use Rattle.pdl_pipe_beside.specs.Ends.{no_view, view_in, ends_in, moves_in, IsEn
 use Rattle.pdl_pipe_beside.specs.Requests.{address_from, IsAddressNet, IsRequest, HasRequest, AreRequests}
 use Rattle.pdl_pipe_beside.proofs.EndGrowth.{view_at, move_at, views_same, moves_same}
 use Rattle.pdl_law_parts.proofs.WellFormedMems.{power_one}
-use Rattle.pdl_word.proofs.Numbers.{less_power}
 
 -- ---- powers of two
 

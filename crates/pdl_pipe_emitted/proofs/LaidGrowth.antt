@@ -3,7 +3,7 @@ use Rattle.std.proofs.Common.{◌≡◌, refl, sym, subst, ℕ, ◌<◌, ◌≤�
 use Rattle.std.specs.Prelude.{Option, Some, None}
 use Rattle.pdl_semantics.specs.Flat.{Pipe}
 use Rattle.pdl_semantics.specs.Stages.{mem_at}
-use Rattle.pdl_net.specs.Circuit.{Circuit, HasReg, HasArray}
+use Rattle.pdl_net.specs.Circuit.{HasArray}
 use Rattle.pdl_net.specs.Meaning.{next_signal, write_signals}
 use Rattle.pdl_net.specs.Growth.{Outside, Keeps}
 use Rattle.pdl_net.proofs.Keeps.{keeps_trans, extends_keeps, but_keeps}

@@ -92,7 +92,7 @@ module _ {T : Type 0} (l : Members T) (n : Nets T) (em : Emission l n) where
       by (Some q) at e =
           let there = port_there m r q is at in
           ap₂ (λ (f g : Signal). (let i : Inputs = record { reply = f; word = g } in i))
-          ((keeps_ad l n em).kept q.reply there.placed.reply_there ∙ em.layout.reply m q at)
+          ((keeps_ad l n em).kept q.reply there.placed.reply.there ∙ em.layout.reply m q at)
           ((keeps_ad l n em).kept q.word there.word_there ∙ em.layout.word m q at)
 
   -- each port is free where its net says so
@@ -101,7 +101,7 @@ module _ {T : Type 0} (l : Members T) (n : Nets T) (em : Emission l n) where
       let k = length (places p r) in
       let moved = em.moved.passed.each r.stage (omega arith) (em.can.onward.stage m r is) in
       let first = signal_at (signals_in em.b n.moves.moves.items) in
-      let there = (keeps_ab l n em).there q.reply (port_there m r q is at).placed.reply_there in
+      let there = (keeps_ab l n em).there q.reply (port_there m r q is at).placed.reply.there in
       let F : Signal → Signal → Type 0 = λ reply free. FreeLaw (port_places.stands q) k reply (λ i. moves (place_at p r i)) free in
       subst (λ o. F (signal em.d q.reply) (free_of l n em o m)) (sym is)
       (subst (λ f. F f (free_of l n em (Some r) m)) (sym ((keeps_bd l n em).kept q.reply there))

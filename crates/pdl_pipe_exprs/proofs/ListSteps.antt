@@ -1,5 +1,5 @@
 -- The guards that are left, and expressions that are left, on the way through a list.
-use Rattle.std.proofs.Common.{◌≡◌, ℕ, ◌+◌, ◌<◌, List, [], ◌∷◌, ◌++◌, map, length, drop, get_or, refl, sym, ap, ap₂, ◌∙◌, subst}
+use Rattle.std.proofs.Common.{◌≡◌, ℕ, ◌+◌, ◌<◌, List, [], ◌∷◌, ◌++◌, length, drop, get_or, sym, ap, ap₂, ◌∙◌, subst}
 use Rattle.std.proofs.lemmas.List.{map-append, drop_more}
 use Rattle.pdl_semantics.specs.Flat.{Guard, Expr}
 use Rattle.pdl_form.specs.declared.form.FlatGuard as r_guard

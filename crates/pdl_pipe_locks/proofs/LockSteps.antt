@@ -1,7 +1,6 @@
 -- The steps of the locks, one after the other.
 use Rattle.std.proofs.Common.{◌≡◌, ℕ, ◌+◌, ◌^◌, ◌<◌, ◌≤◌, ◌∙◌, false, List, [], ◌∷◌, ◌++◌, length, length-append, refl, sym, ap, subst, arith, inl, inr}
 use borrow.Author.Count.{below_more}
-use Rattle.std.proofs.lemmas.List.{get_or_append_left, get_or_push}
 use Rattle.std.specs.Prelude.{Option, Some, None, is_some}
 use Rattle.pdl_semantics.specs.Flat.{Mem, Pipe}
 use Rattle.pdl_semantics.specs.Stages.{mem_at}
@@ -33,10 +32,10 @@ pub is_stepped : {T : Type 0} (l : Members T) (a c : Circuit) (place : ℕ) (mem
 is_stepped l a c place mem f x n i h law hides = record {
   law = law;
   hides = hides;
-  commit = record { there = h.commit_there; width = h.commit_one };
-  addr_there = h.addr_there;
-  addr_reach = ap (λ k. 2 ^ k) h.addr_width ∙ i.bits;
-  value = record { there = h.value_there; width = h.value_width ∙ i.wide };
+  commit = h.commit;
+  addr_there = h.addr.there;
+  addr_reach = ap (λ k. 2 ^ k) h.addr.width ∙ i.bits;
+  value = record { there = h.value.there; width = h.value.width ∙ i.wide };
 }
 
 -- the step of a memory that has a lock is that of the lock

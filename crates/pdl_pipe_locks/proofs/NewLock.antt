@@ -109,8 +109,8 @@ pub new_lock : {T : Type 0} (l : Members T) (old new : Circuit) (name : List ℕ
 new_lock l old new name mem x kind grows w d a placed f nets start places room ticket = record {
   is_in = record {
     is_placed = placed;
-    room = record { there = nets.room_there; width = nets.room_one };
-    ticket = record { there = nets.ticket_there; width = nets.ticket_width };
+    room = nets.room;
+    ticket = nets.ticket;
     wide = w;
     bits = d;
     array = new_array old new name mem x.regs a grows f;

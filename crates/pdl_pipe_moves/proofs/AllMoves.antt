@@ -15,7 +15,7 @@ use Rattle.pdl_net.specs.Signal.{Signal, mux_signal}
 use Rattle.pdl_net.specs.Meaning.{signal, IsThere}
 use Rattle.pdl_net.specs.Growth.{Keeps}
 use Rattle.pdl_net.proofs.Keeps.{keeps_trans}
-use Rattle.pdl_net.proofs.KeptWidths.{width_meant}
+use Rattle.pdl_net.proofs.KeptWidths.{width_meant, width_keeps}
 use Rattle.pdl_squash.specs.Laws.{net_at, Drives, SquashLaw, AreBits as AreSquashBits, signal_at as squash_net}
 use Rattle.pdl_order.specs.declared.OrderRegs.{OrderRegs}
 use Rattle.pdl_port.specs.Laws.{AnswerSignals}
@@ -201,7 +201,7 @@ padded_bits c nets fill n m xs bits none h = each_by (IsBit c) xs (Input 0) (λ 
   where
     at : (i : ℕ) → i < n → (i < length nets) ⊎ (length nets ≤ i) → IsBit c (net_at xs i)
     at i l (inl q) = let e = bits.count in
-        subst (IsBit c) (sym (h.front i q l)) (record { there = bits.there i (omega (arith, q, e)); width = bits.one i (omega (arith, q, e)) })
+        subst (IsBit c) (sym (h.front i q l)) (bits.each i (omega (arith, q, e)))
     at i l (inr q) = subst (IsBit c) (sym (h.rest i q l)) none
 
 -- what was kept, and what fills up
@@ -254,12 +254,15 @@ valid_net c x xs line h k l =
 pub valid_bits : (c : Circuit) (x : StageLine) (xs : List Net) → IsLineIn c x → HasValids x xs → AreSquashBits c xs (length xs)
 valid_bits c x xs line h = record {
   count = refl;
-  there = λ k l. (valid_net c x xs line h k l).0;
-  one = λ k l.
+  each = λ k l.
       let n = h.count in
       let low : k < length x.stages.now = omega (arith, l, n) in
       let some = some_stage x.stages.now k low in
-      ap (λ (f : Signal). f.width) ((valid_net c x xs line h k l).1 ∙ ap (λ (v : View). v.valid) (view_at c x.stages.now k some.0 low some.1));
+      let net = valid_net c x xs line h k l in
+      record {
+        there = net.0;
+        width = ap (λ (f : Signal). f.width) (net.1 ∙ ap (λ (v : View). v.valid) (view_at c x.stages.now k some.0 low some.1));
+      };
 }
 
 -- the k-th of the nets that tell whether stages hold threads tells it of stage k
@@ -362,8 +365,7 @@ passed_certain b x orders f c d nets opens low e it = record {
 pub squash_bits_keep : (a b : Circuit) (xs : List Net) (n : ℕ) → Keeps a b → AreSquashBits a xs n → AreSquashBits b xs n
 squash_bits_keep a b xs n e h = record {
   count = h.count;
-  there = λ k l. e.there (net_at xs k) (h.there k l);
-  one = λ k l. ap (λ (f : Signal). f.width) (e.kept (net_at xs k) (h.there k l)) ∙ h.one k l;
+  each = λ k l. width_keeps a b (net_at xs k) 1 e (h.each k l);
 }
 
 -- the k-th of some nets of 1 bit has 1 bit

@@ -63,7 +63,7 @@ module _ (a b : Circuit) (e : Keeps a b) (x : StageLine) (line : IsLineIn a x) (
     free = λ r q is at found.
         let same : (Some port) ≡ (Some q) = sym some ∙ found in
         let y : port ≡ q = cc same in
-        let reply = sym (e.kept port.reply (stand.each m r port is some).placed.reply_there) in
+        let reply = sym (e.kept port.reply (stand.each m r port is some).placed.reply.there) in
         let n : port_laws.places port ≡ length (places (line_pipe x) r) = count ∙ ap (λ j. length (places_of (stage_at (line_pipe x) j).next)) (sym at) in
         let moves : (i : ℕ) → i < length (places (line_pipe x) r)
         → port_laws.signal_at a x.moves.now (slice_index (places_of (stage_at (line_pipe x) k).next) i) ≡ line_moves b x (place_at (line_pipe x) r i) =

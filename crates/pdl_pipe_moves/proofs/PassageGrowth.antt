@@ -180,7 +180,7 @@ module _ (a b : Circuit) (e : Keeps a b) (x : StageLine) (line : IsLineIn a x) w
       → IsFreeBy a x moves k m f → IsFreeBy b x moves k m f
   free_keep stand moves k m f h r q is at some =
       subst (λ (g : Signal). FreeLaw (stands q) (length (places (line_pipe x) r)) g (λ i. moves (place_at (line_pipe x) r i)) f)
-      (sym (e.kept q.reply (stand.each m r q is some).placed.reply_there)) (h r q is at some)
+      (sym (e.kept q.reply (stand.each m r q is some).placed.reply.there)) (h r q is at some)
 
   -- a signal that tells whether the thread of stage k moves tells it in the circuit that grew, where the gate is the same
   pub moved_keep : (g h : Signs) (frees moves : ℕ → Signal) (k : ℕ) (f : Signal)

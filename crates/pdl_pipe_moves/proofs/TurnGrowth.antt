@@ -6,6 +6,7 @@ use Rattle.pdl_semantics.specs.Stages.{stage_at}
 use Rattle.pdl_net.specs.Circuit.{Circuit, State}
 use Rattle.pdl_net.specs.Signal.{Signal, mux_signal}
 use Rattle.pdl_net.specs.Growth.{Keeps}
+use Rattle.pdl_net.proofs.KeptWidths.{width_keeps}
 use Rattle.pdl_order.specs.declared.OrderRegs.{OrderRegs}
 use Rattle.pdl_law_parts.specs.Walk.{is_on}
 use Rattle.pdl_law_parts.proofs.Signals.{mux_by}
@@ -19,10 +20,8 @@ module _ (a b : Circuit) (e : Keeps a b) where
   there_keep : (o : Option OrderRegs) → IsOrderThere a o → IsOrderThere b o
   there_keep None h = h
   there_keep (Some r) h = record {
-    first_there = e.there r.first h.first_there;
-    first_one = ap (λ (f : Signal). f.width) (e.kept r.first h.first_there) ∙ h.first_one;
-    empty_there = e.there r.empty h.empty_there;
-    empty_one = ap (λ (f : Signal). f.width) (e.kept r.empty h.empty_there) ∙ h.empty_one;
+    first = width_keeps a b r.first 1 e h.first;
+    empty = width_keeps a b r.empty 1 e h.empty;
   }
 
   -- each fork that is merged still has its order
@@ -32,7 +31,7 @@ module _ (a b : Circuit) (e : Keeps a b) where
   by_same : (o : Option OrderRegs) (from : Option Branch) → IsOrderThere a o
       → turn_by (order_first b o) (order_empty b o) from ≡ turn_by (order_first a o) (order_empty a o) from
   by_same None from h = refl
-  by_same (Some r) from h = ap₂ (λ f g. turn_by f g from) (e.kept r.first h.first_there) (e.kept r.empty h.empty_there)
+  by_same (Some r) from h = ap₂ (λ f g. turn_by f g from) (e.kept r.first h.first.there) (e.kept r.empty h.empty.there)
 
   -- whether it is the turn of stage k's thread to go into stage q is told by the same signal
   pub turn_same : (p : Pipe) (rs : List (Option OrderRegs)) (k q : ℕ) → q < length p.stages → HasTurns a p rs → turn_in b p rs k q ≡ turn_in a p rs k q

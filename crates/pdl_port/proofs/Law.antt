@@ -1,9 +1,9 @@
 -- The laws of a port, from what its nets mean and its registers take next.
 use Rattle.std.proofs.Common.{◌≡◌, ℕ, zero, suc, ◌+◌, ◌<◌, ◌≤◌, Bool, true, false, refl, ap, ◌∙◌, arith}
 use Rattle.std.specs.Prelude.{◌&&◌, if◌then◌else◌, slice_index}
-use Rattle.pdl_word.specs.Words.{bit, mux}
+use Rattle.pdl_word.specs.Words.{bit}
 use Rattle.pdl_net.specs.Circuit.{Circuit, State}
-use Rattle.pdl_net.specs.Signal.{Signal, reg_signal, const_signal, mux_signal, mux_value, const_value, reg_value}
+use Rattle.pdl_net.specs.Signal.{Signal, reg_signal, const_signal, mux_signal, const_value, reg_value}
 use Rattle.pdl_net.specs.Meaning.{next_signal}
 use Rattle.pdl_lockapi.specs.Laws.{IsNext}
 use Rattle.pdl_port.specs.declared.layout.PortLayout.{PortLayout}
@@ -12,7 +12,6 @@ use Rattle.pdl_port.specs.Laws.{AnswerSignals, StepSignals, AreBits, Drives, Sta
 use Rattle.pdl_port.specs.Places.{AreReset, Stands, is_orphan, owns_at}
 use Rattle.pdl_port.specs.Nets.{owns_signal, place_signals, free_signal, open_signal, next_owns, orphan_signal, NextPort, own_all}
 use Rattle.pdl_port.proofs.Bits.{still, owns_after, lost, orphan_after, below_after, frees, frees_is}
-use Rattle.pdl_word.proofs.Laws.{mux_bit}
 use Rattle.pdl_net.proofs.Signals.{mux_at}
 
 bit_if : (t x y : Bool) → (if t then bit x else bit y) ≡ bit (if t then x else y)

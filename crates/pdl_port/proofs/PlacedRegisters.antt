@@ -2,8 +2,9 @@
 use Rattle.std.proofs.Common.{◌≡◌, ℕ, ◌+◌, ◌^◌, ◌<◌, length, sym, ap, ◌∙◌, subst, arith}
 use Rattle.std.specs.Prelude.{slice_index}
 use Rattle.pdl_net.specs.Circuit.{Circuit, HasReg}
-use Rattle.pdl_net.specs.Meaning.{IsThere, signal}
+use Rattle.pdl_net.specs.Meaning.{signal}
 use Rattle.pdl_net.specs.Growth.{Extends}
+use Rattle.pdl_net.specs.HasWidth.{HasWidth}
 use Rattle.pdl_port.specs.declared.PortRegs.{PortRegs}
 use Rattle.pdl_port.specs.declared.layout.PortLayout.{PortLayout}
 use Rattle.pdl_port.specs.Laws.{places, first_reg, own, IsFragment, answer_signals}
@@ -32,17 +33,15 @@ own_is r e = ap (λ (n : ℕ). record { from = first_reg r; to = first_reg r + n
 
 -- the registers of a port are in a circuit as they are listed, with the net of its reply
 pub are_placed : (c : Circuit) (l : PortLayout) (r : PortRegs) → AreListed l r
-    → l.from + l.places + 1 < 2 ^ 64 → HasPlaces c l l.places → IsThere c r.reply → (signal c r.reply).width ≡ 1
-    → ArePlaced c r
-are_placed c l r a small h p q =
+    → l.from + l.places + 1 < 2 ^ 64 → HasPlaces c l l.places → HasWidth c r.reply 1 → ArePlaced c r
+are_placed c l r a small h p =
     let P : PortLayout → Type 0 = λ y. HasPlaces c y y.places in
     let e = first_is l r a in
     let n = a.answers in
     record {
       count = a.count ∙ ap (λ m. m + 1) (sym n);
       small = omega (arith, e, n, small);
-      reply_there = p;
-      reply_one = q;
+      reply = p;
       regs = subst P (sym (layout_is l r a)) h;
     }
 

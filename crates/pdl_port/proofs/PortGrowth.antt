@@ -1,9 +1,8 @@
 -- A port stays in a circuit when more is added.
-use Rattle.std.proofs.Common.{ℕ, List, refl, ap, ◌∙◌, arith}
+use Rattle.std.proofs.Common.{ℕ, List, refl, ◌∙◌, arith}
 use Rattle.pdl_net.specs.declared.Net.{Net}
 use Rattle.pdl_net.specs.declared.Net.TheVariants.{Reg}
 use Rattle.pdl_net.specs.Circuit.{Circuit}
-use Rattle.pdl_net.specs.Signal.{Signal}
 use Rattle.pdl_net.specs.Growth.{Keeps, Extends, ExtendsBut, Own, Outside}
 use Rattle.pdl_net.proofs.Keeps.{extends_keeps, but_keeps}
 use Rattle.pdl_net.proofs.KeptWidths.{width_keeps}
@@ -46,8 +45,7 @@ pub port_keeps : (a b : Circuit) (r : PortRegs) → Keeps a b → ArePlaced a r 
 port_keeps a b r k x = record {
   count = x.count;
   small = x.small;
-  reply_there = k.there r.reply x.reply_there;
-  reply_one = ap (λ (f : Signal). f.width) (k.kept r.reply x.reply_there) ∙ x.reply_one;
+  reply = width_keeps a b r.reply 1 k x.reply;
   regs = places_keep a b (layout_of r) (places r) x.regs k;
 }
 
@@ -55,8 +53,7 @@ port_keeps a b r k x = record {
 pub bits_keep : (a b : Circuit) (nets : List Net) (n : ℕ) → HasBits a nets n → Keeps a b → HasBits b nets n
 bits_keep a b nets n h e = record {
   count = h.count;
-  there = λ k l. e.there (net_at nets k) (h.there k l);
-  one = λ k l. ap (λ (f : Signal). f.width) (e.kept (net_at nets k) (h.there k l)) ∙ h.one k l;
+  each = λ k l. width_keeps a b (net_at nets k) 1 e (h.each k l);
 }
 
 -- nets of 1 bit stay while the circuit grows

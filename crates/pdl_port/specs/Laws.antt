@@ -5,8 +5,9 @@ use Rattle.pdl_net.specs.declared.Net.{Net}
 use Rattle.pdl_net.specs.declared.Net.TheVariants.{Input}
 use Rattle.pdl_net.specs.Circuit.{Circuit, State, HasReg}
 use Rattle.pdl_net.specs.Signal.{Signal}
-use Rattle.pdl_net.specs.Meaning.{IsThere, signal}
+use Rattle.pdl_net.specs.Meaning.{signal}
 use Rattle.pdl_net.specs.Growth.{Own}
+use Rattle.pdl_net.specs.HasWidth.{HasWidth}
 use Rattle.pdl_lockapi.specs.Laws.{IsReset, IsNext}
 use Rattle.pdl_port.specs.declared.Answer.{Answer}
 use Rattle.pdl_port.specs.declared.PortRegs.{PortRegs}
@@ -50,12 +51,9 @@ answer_at r k = answer_in r.answers k
 
 -- the nets of the answers are there: 1 bit, 1 bit, and a word
 pub record HasAnswerNets (c : Circuit) (width : ℕ) (r : PortRegs) : Type 0 where
-  pub answered_there : (k : ℕ) → k < places r → IsThere c (answer_at r k).answered
-  pub answered_one : (k : ℕ) → k < places r → (signal c (answer_at r k).answered).width ≡ 1
-  pub given_there : (k : ℕ) → k < places r → IsThere c (answer_at r k).given
-  pub given_one : (k : ℕ) → k < places r → (signal c (answer_at r k).given).width ≡ 1
-  pub value_there : (k : ℕ) → k < places r → IsThere c (answer_at r k).value
-  pub value_width : (k : ℕ) → k < places r → (signal c (answer_at r k).value).width ≡ width
+  pub answered : (k : ℕ) → k < places r → HasWidth c (answer_at r k).answered 1
+  pub given : (k : ℕ) → k < places r → HasWidth c (answer_at r k).given 1
+  pub value : (k : ℕ) → k < places r → HasWidth c (answer_at r k).value width
 
 -- registers at reset stand for a port without request
 pub record StartLaw (stands : State → PortState → Type 0) (c : Circuit) (o : Own) : Type 0 where
@@ -96,8 +94,7 @@ signal_at c nets k = signal c (net_at nets k)
 -- these are n nets that are there, each of 1 bit
 pub record HasBits (c : Circuit) (nets : List Net) (n : ℕ) : Type 0 where
   pub count : length nets ≡ n
-  pub there : (k : ℕ) → k < n → IsThere c (net_at nets k)
-  pub one : (k : ℕ) → k < n → (signal_at c nets k).width ≡ 1
+  pub each : (k : ℕ) → k < n → HasWidth c (net_at nets k) 1
 
 -- in this state the nets of n places are these bits
 abbrev pub AreBits : ℕ → State → (ℕ → Signal) → (ℕ → Bool) → Type 0

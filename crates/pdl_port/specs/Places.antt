@@ -40,8 +40,7 @@ pub record AreReset (c : Circuit) (l : PortLayout) (n : ℕ) : Type 0 where
 pub record ArePlaced (c : Circuit) (r : PortRegs) : Type 0 where
   pub count : length r.regs ≡ places r + 1
   pub small : first_reg r + places r + 1 < 2 ^ 64
-  pub reply_there : IsThere c r.reply
-  pub reply_one : (signal c r.reply).width ≡ 1
+  pub reply : HasWidth c r.reply 1
   pub regs : HasPlaces c (layout_of r) (places r)
 
 -- the nets of a step are there: the reply, and three of each of n places

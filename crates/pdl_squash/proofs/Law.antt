@@ -1,12 +1,11 @@
 -- What the signals of a squash say where its ports are driven.
 use Rattle.std.proofs.Common.{◌≡◌, ℕ, zero, suc, ◌+◌, ◌-◌, ◌<◌, ◌≤◌, Bool, true, false, refl, ap, ◌∙◌, arith}
 use Rattle.std.specs.Prelude.{◌&&◌, if◌then◌else◌}
-use Rattle.pdl_word.specs.Words.{bit, mux}
+use Rattle.pdl_word.specs.Words.{bit}
 use Rattle.pdl_net.specs.Circuit.{State}
-use Rattle.pdl_net.specs.Signal.{Signal, const_signal, mux_signal, mux_value, const_value}
+use Rattle.pdl_net.specs.Signal.{Signal, const_signal, const_value}
 use Rattle.pdl_squash.specs.Laws.{SquashSignals, Drives, none_held, SquashLaw}
 use Rattle.pdl_squash.specs.Nets.{squash_signal, removed_signal, none_signal, clear_signal}
-use Rattle.pdl_word.proofs.Laws.{mux_bit}
 use Rattle.pdl_net.proofs.Signals.{mux_at}
 
 squashes : (f : SquashSignals) (s : State) (held : ℕ → Bool) (moves fails : Bool) → Drives f s held moves fails

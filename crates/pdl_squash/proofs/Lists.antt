@@ -9,6 +9,7 @@ use Rattle.pdl_net.specs.Circuit.{Circuit}
 use Rattle.pdl_net.specs.Signal.{Signal, const_signal, mux_signal}
 use Rattle.pdl_net.specs.Meaning.{IsThere, signal, Means}
 use Rattle.pdl_net.specs.Growth.{Extends}
+use Rattle.pdl_net.proofs.KeptWidths.{width_kept}
 use Rattle.pdl_squash.specs.declared.SquashPorts.{SquashPorts}
 use Rattle.pdl_squash.specs.Laws.{SquashSignals, squash_signals, AreBits, net_at, signal_at}
 use Rattle.pdl_squash.specs.Nets.{MeanFrom, squash_signal, removed_signal, none_signal, clear_signal}
@@ -17,8 +18,7 @@ use Rattle.pdl_squash.specs.Nets.{MeanFrom, squash_signal, removed_signal, none_
 pub bits_kept : (a b : Circuit) (nets : List Net) (n : ℕ) → AreBits a nets n → Extends a b → AreBits b nets n
 bits_kept a b nets n h e = record {
   count = h.count;
-  there = λ k l. e.there (net_at nets k) (h.there k l);
-  one = λ k l. ap (λ (f : Signal). f.width) (e.kept (net_at nets k) (h.there k l)) ∙ h.one k l;
+  each = λ k l. width_kept a b (net_at nets k) 1 e (h.each k l);
 }
 
 -- a list with one net more
@@ -124,8 +124,10 @@ pub mean_bits : (c : Circuit) (nets : List Net) (n : ℕ) (f : ℕ → Signal) �
     → ((k : ℕ) → k < n → (f k).width ≡ 1) → AreBits c nets n
 mean_bits c nets n f h w = record {
   count = h.count;
-  there = λ k l. h.there k (omega arith) l;
-  one = λ k l. ap (λ (g : Signal). g.width) (h.same k (omega arith) l) ∙ w k l;
+  each = λ k l. record {
+    there = h.there k (omega arith) l;
+    width = ap (λ (g : Signal). g.width) (h.same k (omega arith) l) ∙ w k l;
+  };
 }
 
 -- nets go on meaning their signals in a circuit to which more is added
@@ -159,7 +161,7 @@ pub signals_alike : (a b : Circuit) (p : SquashPorts)
     → Extends a b → Alike (squash_signals b p) (squash_signals a p)
 signals_alike a b p h v m f e = record {
   stage = refl;
-  valid = λ k l. e.kept (net_at p.valid k) (v.there k (omega (arith, h, l)));
+  valid = λ k l. e.kept (net_at p.valid k) (v.each k (omega (arith, h, l))).there;
   moves = e.kept p.moves m;
   fails = e.kept p.fails f;
 }

@@ -5,7 +5,8 @@ use Rattle.pdl_net.specs.declared.Net.{Net}
 use Rattle.pdl_net.specs.declared.Net.TheVariants.{Input}
 use Rattle.pdl_net.specs.Circuit.{Circuit, State}
 use Rattle.pdl_net.specs.Signal.{Signal}
-use Rattle.pdl_net.specs.Meaning.{IsThere, signal}
+use Rattle.pdl_net.specs.Meaning.{signal}
+use Rattle.pdl_net.specs.HasWidth.{HasWidth}
 use Rattle.pdl_squash.specs.declared.SquashPorts.{SquashPorts}
 
 -- the k-th of some nets, and its signal
@@ -19,8 +20,7 @@ signal_at c nets k = signal c (net_at nets k)
 -- these are n nets that are there, each of 1 bit
 pub record AreBits (c : Circuit) (nets : List Net) (n : ℕ) : Type 0 where
   pub count : length nets ≡ n
-  pub there : (k : ℕ) → k < n → IsThere c (net_at nets k)
-  pub one : (k : ℕ) → k < n → (signal_at c nets k).width ≡ 1
+  pub each : (k : ℕ) → k < n → HasWidth c (net_at nets k) 1
 
 -- what a squash goes by: whether each stage holds a thread, which stage squashes, whether its thread moves, and whether its guess fails
 pub record SquashSignals : Type 0 where

@@ -5,7 +5,6 @@ use Rattle.std.proofs.lemmas.List.{get_or_push, get_or_append_left}
 use Rattle.pdl_net.specs.declared.Net.{Net}
 use Rattle.pdl_net.specs.declared.Net.TheVariants.{Input}
 use Rattle.pdl_net.specs.Circuit.{Circuit}
-use Rattle.pdl_net.specs.Meaning.{IsThere, signal}
 use Rattle.pdl_net.specs.HasWidth.{HasWidth}
 use Rattle.pdl_net.specs.Growth.{Extends}
 use Rattle.pdl_port.specs.Laws.{HasBits, net_at}
@@ -17,7 +16,7 @@ use Rattle.pdl_squash.specs.Laws.{AreBits}
 
 -- no nets yet
 pub bits_none : (c : Circuit) → HasBits c [] 0
-bits_none c = record { count = refl; there = λ k h. absurd (omega arith); one = λ k h. absurd (omega arith) }
+bits_none c = record { count = refl; each = λ k h. absurd (omega arith) }
 
 -- what holds of each net of a list and of one more
 upto : (P : Net → Type 0) (nets : List Net) (x : Net) (n : ℕ)
@@ -35,20 +34,16 @@ pub bits_more : (a b : Circuit) (nets : List Net) (x : Net) (n : ℕ) → HasBit
     → HasBits b (nets ++ x ∷ []) (n + 1)
 bits_more a b nets x n h e w =
     let g = bits_kept a b nets n h e in
-    let There : Net → Type 0 = λ y. IsThere b y in
-    let One : Net → Type 0 = λ y. (signal b y).width ≡ 1 in
     record {
       count = length-append nets (x ∷ []) ∙ omega (arith, h.count);
-      there = upto There nets x n h.count w.there g.there;
-      one = upto One nets x n h.count w.width g.one;
+      each = upto (λ y. HasWidth b y 1) nets x n h.count w g.each;
     }
 
 -- the nets of a squash
 pub squash_bits : (c : Circuit) (nets : List Net) (n : ℕ) → HasBits c nets n → AreBits c nets (length nets)
 squash_bits c nets n h = record {
   count = refl;
-  there = λ k l. h.there k (omega (arith, h.count, l));
-  one = λ k l. h.one k (omega (arith, h.count, l));
+  each = λ k l. h.each k (omega (arith, h.count, l));
 }
 
 -- as many nets by another name

@@ -40,7 +40,7 @@ loop-n-preserved c =
     let e = c.in_ok-none-2.ensures.extends in
     let valid : signal b c.net-valid.result ≡ f.valid (p.stage - n) =
     ap (signal b) c.net-valid.ensures
-    ∙ i.extends.kept (net_at p.valid (p.stage - n)) (c.requires.valid.there (p.stage - n) (omega (arith, c.requires.stage))) in
+    ∙ i.extends.kept (net_at p.valid (p.stage - n)) (c.requires.valid.each (p.stage - n) (omega (arith, c.requires.stage))).there in
     let m = none_net b d f n c.net-valid.result c.in_ok-zero.zero c.loop-n.none x c.loop-n-test.true valid i.zero i.none c.in_ok-none-2.ensures.means in
     let j : p.stage - n ≡ p.stage - (n + 1) + 1 = omega arith in
     let P : ℕ → Type 0 = λ q. Means d x (none_signal f (n + 1) q) in

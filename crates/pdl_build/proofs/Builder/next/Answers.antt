@@ -1,5 +1,6 @@
-use Rattle.std.proofs.Common.{◌≡◌, sym, subst, ap, ◌∙◌}
+use Rattle.std.proofs.Common.{sym, subst, ap, ◌∙◌}
 use Rattle.pdl_net.specs.Circuit.{Circuit, HasReg, reg_width}
+use Rattle.pdl_net.specs.HasWidth.{HasWidth}
 use Rattle.pdl_net.specs.Meaning.{IsThere, signal, next_signal}
 use Rattle.pdl_net.specs.Well.{IsWell}
 use Rattle.pdl_net.specs.Growth.{ExtendsBut}
@@ -20,13 +21,12 @@ invariant_of-self c =
     let w = c.self.invariant.well in
     let e = sym c.self.view_is in
     let H : Circuit → Type 0 = λ v. HasReg v c.args.reg in
-    let T : Circuit → Type 0 = λ v. IsThere v c.args.net in
-    let W : Circuit → Type 0 = λ v. (signal v c.args.net).width ≡ reg_width v c.args.reg in
+    let W : Circuit → Type 0 = λ v. HasWidth v c.args.net (reg_width v c.args.reg) in
     let D : Circuit → Type 0 = λ v. HaveExtents v b.input_widths.items b.extents.items in
     let h = subst H e c.requires.has in
     let same = sym (next_same k c.args.reg c.args.net c.index_mut.result.now h c.index_mut.ensures.value) in
     record {
-      well = subst IsWell same (well_next k c.args.reg c.args.net h (subst T e c.requires.there) (subst W e c.requires.width) w);
+      well = subst IsWell same (well_next k c.args.reg c.args.net h (subst W e c.requires.net) w);
       extents = subst D same (extents_next k c.args.reg c.args.net b.input_widths.items b.extents.items h w c.self.invariant.extents);
       folded = c.self.invariant.folded;
     }
@@ -39,7 +39,7 @@ returns-clause-set c =
     let e = sym c.self.view_is in
     let h = subst H e c.requires.has in
     ap (λ v. next_signal v c.args.reg) (next_same k c.args.reg c.args.net c.index_mut.result.now h c.index_mut.ensures.value)
-    ∙ next_set k c.args.reg c.args.net h (subst T e c.requires.there) c.self.invariant.well
+    ∙ next_set k c.args.reg c.args.net h (subst T e c.requires.net.there) c.self.invariant.well
     ∙ ap (λ v. signal v c.args.net) c.self.view_is
 
 pub returns-clause-extends : goal.returns-clause-extends

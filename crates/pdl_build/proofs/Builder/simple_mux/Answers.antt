@@ -12,4 +12,4 @@ returns-in-Some-Not c =
     let S : Signal → Type 0 = λ f. StandsFor v f c.simple_choice.result in
     subst S
     (choice_turned (signal v c.args.choice) (signal v c.in-Some-Not.x) (signal v c.args.a)
-    (signal v c.args.b) e c.requires.one (c.is_below.ensures c.if-is_below.true) c.requires.widths) c.simple_choice.ensures
+    (signal v c.args.b) e c.requires.choice.width (c.is_below.ensures c.if-is_below.true) c.requires.widths) c.simple_choice.ensures

@@ -26,7 +26,7 @@ invariant_of-self-2 c =
     let h = subst H e c.requires.has in
     let f =
     subst F e
-    (well_port_write c.args.self.now c.args.array p c.requires.enable_there c.requires.addr_there c.requires.value_there c.requires.enable_one c.requires.addr_reach c.requires.value_width) in
+    (well_port_write c.args.self.now c.args.array p c.requires.enable c.requires.addr_there c.requires.addr_reach c.requires.value) in
     let same = write_same k c.args.array p c.index_mut-written.result.now h c.index_mut-written.ensures.value in
     let D : Circuit → Type 0 = λ v. HaveExtents v b.input_widths.items b.extents.items in
     record {
@@ -57,7 +57,7 @@ returns-clause-writes c =
     let h = subst H e c.requires.has in
     let f =
     subst F e
-    (well_port_write c.args.self.now c.args.array p c.requires.enable_there c.requires.addr_there c.requires.value_there c.requires.enable_one c.requires.addr_reach c.requires.value_width) in
+    (well_port_write c.args.self.now c.args.array p c.requires.enable c.requires.addr_there c.requires.addr_reach c.requires.value) in
     let same = write_same k c.args.array p c.index_mut-written.result.now h c.index_mut-written.ensures.value in
     rw c.in_ok-push.ensures.ok
     (ap (λ v. write_signals v c.args.array) same ∙ writes_more k c.args.array p h f c.self.invariant.well

@@ -1,8 +1,8 @@
-use Rattle.std.proofs.Common.{◌≡◌, ◌+◌, ◌*◌, ◌<◌, ℕ, inl, inr, subst, arith}
+use Rattle.std.proofs.Common.{◌≡◌, ◌+◌, ◌*◌, inl, subst, arith}
 use Rattle.pdl_net.proofs.Keeps.{but_keeps, but_trans}
 use Rattle.pdl_lockapi.specs.Laws.{step_signals}
 use Rattle.pdl_lockapi.proofs.LockGrowth.{same_signals}
-use Rattle.pdl_lock_ring.specs.Steps.{NextAddrs, NextBits, own_addrs, own_bits, own_slots}
+use Rattle.pdl_lock_ring.specs.Steps.{NextBits, own_addrs, own_bits, own_slots}
 use Rattle.pdl_lock_ring.proofs.RingGrowth.{slots_kept_but, ready_kept_but}
 use Rattle.pdl_lock_ring.proofs.StepCalls.{row_in_row, addrs_kept}
 use Rattle.pdl_lock_ring.proofs.slot.emit_slots.Goals as goal

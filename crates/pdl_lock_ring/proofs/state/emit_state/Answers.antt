@@ -1,11 +1,11 @@
-use Rattle.std.proofs.Common.{◌≡◌, ◌+◌, ◌*◌, sym, subst, ap, ◌∙◌, refl, arith}
+use Rattle.std.proofs.Common.{◌+◌, ◌*◌, sym, subst, ap, ◌∙◌, refl, arith}
 use Rattle.pdl_net.specs.Signal.{Signal}
 use Rattle.pdl_net.specs.Meaning.{IsThere, signal}
-use Rattle.pdl_lockapi.specs.declared.LockRegs.{LockRegs}
-use Rattle.pdl_lockapi.specs.Laws.{IsFragment, RoomLaw, TicketLaw}
+use Rattle.pdl_net.proofs.KeptWidths.{width_meant}
+use Rattle.pdl_lockapi.specs.Laws.{RoomLaw, TicketLaw}
 use Rattle.pdl_lockapi.specs.Second.{Room2Law, Ticket2Law}
 use Rattle.pdl_lock_ring.specs.declared.layout.RingLayout.{RingLayout}
-use Rattle.pdl_lock_ring.specs.Slots.{AreReset, ArePlaced, Stands, content_signal, layout_of, ticket_bits, IsMemArray}
+use Rattle.pdl_lock_ring.specs.Slots.{AreReset, Stands, content_signal, layout_of, ticket_bits, IsMemArray}
 use Rattle.pdl_lock_ring.specs.Looks.{tail_signal, second_ticket, room_signal, room2_signal}
 use Rattle.pdl_lock_ring.proofs.RingGrowth.{slots_kept, reset_kept}
 use Rattle.pdl_lock_ring.proofs.LookMeanings.{room_law, room2_law, ticket_law, ticket2_law}
@@ -43,10 +43,11 @@ returns-clause-nets c =
     let g = c.in_ok-r.ensures in
     let h = slots_kept c.emit_layout.new.b d l e.slots g.extends in
     record {
-      room_there = g.room.there;
-      room_one = ap (λ (f : Signal). f.width) g.room.same;
-      ticket_there = subst (IsThere d) (sym g.ticket) h.tail_there;
-      ticket_width = ap (λ n. (signal d n).width) g.ticket ∙ ap (λ (f : Signal). f.width) h.tail ∙ e.layout.ticket;
+      room = width_meant d _ _ 1 g.room refl;
+      ticket = record {
+        there = subst (IsThere d) (sym g.ticket) h.tail_there;
+        width = ap (λ n. (signal d n).width) g.ticket ∙ ap (λ (f : Signal). f.width) h.tail ∙ e.layout.ticket;
+      };
     }
 
 pub returns-clause-second : goal.returns-clause-second
@@ -54,10 +55,8 @@ returns-clause-second c =
     let e = c.in_ok-l.ensures in
     let g = c.in_ok-r.ensures in
     record {
-      room2_there = g.room2.there;
-      room2_one = ap (λ (f : Signal). f.width) g.room2.same;
-      ticket2_there = g.ticket2.there;
-      ticket2_width = ap (λ (f : Signal). f.width) g.ticket2.same ∙ e.layout.ticket;
+      room2 = width_meant _ _ _ 1 g.room2 refl;
+      ticket2 = width_meant _ _ _ _ g.ticket2 e.layout.ticket;
     }
 
 pub returns-clause-start : goal.returns-clause-start

@@ -1,13 +1,12 @@
-use Rattle.std.proofs.Common.{◌≡◌, ◌+◌, ◌*◌, ◌≤◌, ◌<◌, ap, ◌∙◌, refl, sym, subst, inl, inr, arith}
-use Rattle.pdl_net.specs.Growth.{Extends, ExtendsBut, Keeps}
-use Rattle.pdl_net.specs.Meaning.{signal}
-use Rattle.pdl_net.proofs.Keeps.{keeps_trans, extends_keeps, extends_trans, but_keeps, but_extends, but_trans}
+use Rattle.std.proofs.Common.{◌≡◌, ap, refl, sym, subst, inl, inr, arith}
+use Rattle.pdl_net.specs.Growth.{Extends, Keeps}
+use Rattle.pdl_net.proofs.Keeps.{keeps_trans, extends_keeps, extends_trans, but_keeps, but_trans}
 use Rattle.pdl_lockapi.specs.Laws.{step_signals, StepSignals}
 use Rattle.pdl_lockapi.proofs.LockGrowth.{same_signals}
 use Rattle.pdl_lock_ring.specs.Oldest.{AreOldest, AreCommits}
 use Rattle.pdl_lock_ring.specs.Steps.{oldest_addr, oldest_value, next_addr, next_value, NextAddrs, NextBits, NextContents, NextEnds, WritesArray, own_slots, own_contents, own_ends, own_array, own_all}
-use Rattle.pdl_lock_ring.proofs.RingGrowth.{slots_kept, slots_kept_but, ports_kept, ports_kept_but, ready_kept, ready_kept_but, oldest_keep, oldest_later}
-use Rattle.pdl_lock_ring.proofs.StepCalls.{slots_in_all, ends_in_all, no_ports_kept, no_ports_extended, row_in_all, array_in_all, addrs_kept, bits_kept, contents_kept, ends_kept, commits_keep, same_two}
+use Rattle.pdl_lock_ring.proofs.RingGrowth.{ports_kept, ports_kept_but, ready_kept, ready_kept_but, oldest_later}
+use Rattle.pdl_lock_ring.proofs.StepCalls.{slots_in_all, ends_in_all, no_ports_kept, no_ports_extended, array_in_all, addrs_kept, bits_kept, contents_kept, ends_kept, commits_keep, same_two}
 use Rattle.pdl_lock_ring.proofs.step.emit_all.Goals as goal
 
 pub emit_commits-requires-clause-given : goal.emit_commits-requires-clause-given

@@ -1,10 +1,9 @@
-use Rattle.std.proofs.Common.{◌≡◌, ◌+◌, ◌<◌, ◌≤◌, ap, sym, inl, inr, ◌∙◌, arith}
-use Rattle.pdl_net.specs.Meaning.{signal}
-use Rattle.pdl_net.specs.Growth.{Extends, ExtendsBut}
+use Rattle.std.proofs.Common.{◌≡◌, ap, inl, ◌∙◌, arith}
+use Rattle.pdl_net.specs.Growth.{Extends}
 use Rattle.pdl_net.proofs.Keeps.{extends_trans, extends_keeps}
 use Rattle.pdl_lockapi.specs.Laws.{StepSignals, step_signals}
 use Rattle.pdl_lockapi.proofs.LockGrowth.{same_signals}
-use Rattle.pdl_lock_ring.specs.Steps.{head_after, tail_after}
+use Rattle.pdl_lock_ring.specs.Steps.{tail_after}
 use Rattle.pdl_lock_ring.proofs.RingGrowth.{later_is, slots_kept}
 use Rattle.pdl_lock_ring.proofs.step.emit_ends.Goals as goal
 

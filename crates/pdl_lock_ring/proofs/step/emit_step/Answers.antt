@@ -1,6 +1,6 @@
-use Rattle.std.proofs.Common.{◌≡◌, ◌+◌, ◌*◌, ◌<◌, refl, sym, subst, ap, ◌∙◌, length, arith}
+use Rattle.std.proofs.Common.{◌≡◌, refl, sym, subst}
 use Rattle.pdl_net.specs.Signal.{Signal, mux_signal, const_signal}
-use Rattle.pdl_net.specs.Growth.{Own, ExtendsBut}
+use Rattle.pdl_net.specs.Growth.{Own}
 use Rattle.pdl_net.specs.Meaning.{signal}
 use Rattle.pdl_lockapi.specs.Laws.{step_signals, StepLaw, own, HasNoPorts}
 use Rattle.pdl_lockapi.specs.Second.{Commit2Law}
@@ -9,7 +9,7 @@ use Rattle.pdl_lock_ring.specs.declared.layout.RingLayout.{RingLayout}
 use Rattle.pdl_lock_ring.specs.Slots.{layout_of, ticket_bits, Stands}
 use Rattle.pdl_lock_ring.specs.Ready.{HasPorts}
 use Rattle.pdl_lock_ring.specs.Oldest.{AreCommits}
-use Rattle.pdl_lock_ring.specs.Steps.{NextValues, oldest_addr, oldest_value, next_addr, next_value, own_all}
+use Rattle.pdl_lock_ring.specs.Steps.{NextValues, oldest_addr, oldest_value, next_addr, next_value}
 use Rattle.pdl_lock_ring.proofs.StepLaw.{step_law, commit2_law}
 use Rattle.pdl_lock_ring.proofs.Still.{still_law}
 use Rattle.pdl_lock_ring.proofs.TicketWidths.{tickets_fit}

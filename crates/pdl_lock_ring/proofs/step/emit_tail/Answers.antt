@@ -1,17 +1,17 @@
-use Rattle.std.proofs.Common.{◌≡◌, ◌+◌, length, ap, sym, ◌∙◌}
+use Rattle.std.proofs.Common.{◌≡◌, ◌+◌, length, sym, ◌∙◌}
 use Rattle.pdl_net.specs.declared.Net.TheVariants.{Reg}
-use Rattle.pdl_net.specs.Signal.{Signal}
 use Rattle.pdl_net.specs.Meaning.{signal}
 use Rattle.pdl_net.specs.Growth.{Extends}
 use Rattle.pdl_net.proofs.Keeps.{extends_trans}
+use Rattle.pdl_net.proofs.KeptWidths.{width_kept, width_meant}
 use Rattle.pdl_lockapi.specs.Laws.{step_signals}
 use Rattle.pdl_lock_ring.proofs.RingGrowth.{means_as, same_mux, same_bin, later_is}
 use Rattle.pdl_lock_ring.proofs.Reserves.{push_width, push2_width}
 use Rattle.pdl_lock_ring.proofs.Ends.{squash_is, tail_is, tail_after_is}
 use Rattle.pdl_lock_ring.proofs.step.emit_tail.Goals as goal
 
-pub mux-requires-clause-one : goal.mux-requires-clause-one
-mux-requires-clause-one c =
+pub mux-requires-clause-choice : goal.mux-requires-clause-choice
+mux-requires-clause-choice c =
     let a = c.args.b.now in
     let b1 = c.emit_ticket2.new.b in
     let b2 = c.constant.new.self in
@@ -19,10 +19,10 @@ mux-requires-clause-one c =
     let f = step_signals a c.args.p.now in
     let x : Extends a b3 =
     extends_trans a b1 b3 c.in_ok-next.ensures.extends (extends_trans b1 b2 b3 c.in_ok-one.ensures.extends c.in_ok-after.ensures.extends) in
-    ap (λ (g : Signal). g.width) (later_is a b3 _ _ x c.requires.ready.one) ∙ push_width f (length f.reserves)
+    width_kept a b3 _ 1 x (width_meant a _ _ 1 c.requires.ready.one (push_width f (length f.reserves)))
 
-pub mux-requires-2-clause-one : goal.mux-requires-2-clause-one
-mux-requires-2-clause-one c =
+pub mux-requires-2-clause-choice : goal.mux-requires-2-clause-choice
+mux-requires-2-clause-choice c =
     let a = c.args.b.now in
     let b1 = c.emit_ticket2.new.b in
     let b2 = c.constant.new.self in
@@ -32,7 +32,7 @@ mux-requires-2-clause-one c =
     let x3 : Extends a b3 =
     extends_trans a b1 b3 c.in_ok-next.ensures.extends (extends_trans b1 b2 b3 c.in_ok-one.ensures.extends c.in_ok-after.ensures.extends) in
     let x : Extends a b4 = extends_trans a b3 b4 x3 c.in_ok-kept.ensures.extends in
-    ap (λ (g : Signal). g.width) (later_is a b4 _ _ x c.requires.ready.two) ∙ push2_width f (length f.reserves)
+    width_kept a b4 _ 1 x (width_meant a _ _ 1 c.requires.ready.two (push2_width f (length f.reserves)))
 
 pub returns-clause-means : goal.returns-clause-means
 returns-clause-means c =

@@ -1,5 +1,4 @@
-use Rattle.std.proofs.Common.{◌≡◌, List, [], ◌∷◌, ◌++◌, ap, ◌∙◌}
-use Rattle.pdl_net.specs.Signal.{Signal}
+use Rattle.std.proofs.Common.{[], ◌∷◌, ◌++◌, ap, ◌∙◌}
 use Rattle.pdl_net.specs.Meaning.{signal, WriteSignal, write_signals}
 use Rattle.pdl_lockapi.specs.Laws.{step_signals}
 use Rattle.pdl_lock_ring.proofs.StepCalls.{writes_one, writes_two, same_write}

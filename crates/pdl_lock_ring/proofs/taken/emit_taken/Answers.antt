@@ -1,23 +1,22 @@
 use Rattle.std.proofs.Common.{◌≡◌, ◌+◌, length, refl, ap, sym, subst, ◌∙◌}
-use Rattle.pdl_net.specs.declared.Net.{Net}
 use Rattle.pdl_net.specs.declared.Net.TheVariants.{Reg}
-use Rattle.pdl_net.specs.Signal.{Signal, const_signal, mux_signal}
+use Rattle.pdl_net.specs.Signal.{Signal, const_signal}
 use Rattle.pdl_net.specs.Meaning.{Means, signal}
 use Rattle.pdl_net.specs.Growth.{Extends}
 use Rattle.pdl_net.proofs.Keeps.{extends_trans, extends_keeps}
 use Rattle.pdl_net.proofs.KeptWidths.{width_kept, width_meant}
-use Rattle.pdl_lockapi.specs.Laws.{StepSignals, step_signals}
+use Rattle.pdl_lockapi.specs.Laws.{step_signals}
 use Rattle.pdl_lockapi.proofs.LockGrowth.{same_signals}
 use Rattle.pdl_lock_ring.specs.Looks.{slot_of, tail_signal, second_ticket}
 use Rattle.pdl_lock_ring.specs.Steps.{push_signal, push2_signal, last_addr, before_addr, pushes, pushes2, first_addr, second_addr, first_slot, second_slot}
-use Rattle.pdl_lock_ring.proofs.RingGrowth.{means_as, same_mux, later_is, ports_kept}
+use Rattle.pdl_lock_ring.proofs.RingGrowth.{same_mux, later_is, ports_kept}
 use Rattle.pdl_lock_ring.proofs.Reserves.{push_width, push2_width, reserves_count, first_addr_is, second_addr_is, first_slot_is, second_slot_is}
 use Rattle.pdl_lock_ring.proofs.taken.emit_taken.Goals as goal
 
-pub mux-requires-clause-one : goal.mux-requires-clause-one
-mux-requires-clause-one c =
+pub mux-requires-clause-choice : goal.mux-requires-clause-choice
+mux-requires-clause-choice c =
     let f = step_signals c.args.b.now c.args.p.now in
-    ap (λ (g : Signal). g.width) c.in_ok-asked.ensures.asked.two.same ∙ push2_width f _
+    width_meant c.emit_asked.new.b _ _ 1 c.in_ok-asked.ensures.asked.two (push2_width f _)
 
 pub emit_gate-requires-clause-on : goal.emit_gate-requires-clause-on
 emit_gate-requires-clause-on c =

@@ -7,6 +7,7 @@ use Rattle.pdl_net.specs.Signal.{Signal, input_signal}
 use Rattle.pdl_net.specs.Growth.{Extends, ExtendsBut, ExtendsPorts}
 use Rattle.pdl_net.specs.Meaning.{signal}
 use Rattle.pdl_net.proofs.Keeps.{keeps_trans, extends_trans, extends_keeps, but_keeps, ports_keeps, means_keeps}
+use Rattle.pdl_net.proofs.KeptWidths.{width_keeps, width_meant}
 use Rattle.pdl_build.specs.Change.{input_port, output_port}
 use Rattle.pdl_lockapi.specs.declared.Kind.TheVariants.{R}
 use Rattle.pdl_lockapi.specs.Laws.{StepSignals, step_signals, StepLaw, LookLaw, OwnKept, IsFragment, own}
@@ -125,12 +126,9 @@ emit_step-requires-clause-ports g c =
       tail = q.tail;
       one_means = means_keeps b4 b6 c.in_ok-one.one _ k46 c.in_ok-one.ensures.means;
       off_means = means_keeps b5 b6 c.in_ok-zero.zero _ k56 c.in_ok-zero.ensures.means;
-      addr_there = k26.there c.in_ok-addr.addr am.there;
-      addr_width = ap (λ (f : Signal). f.width) (k26.kept c.in_ok-addr.addr am.there ∙ am.same);
-      value_there = k36.there c.in_ok-value.value vm.there;
-      value_width = ap (λ (f : Signal). f.width) (k36.kept c.in_ok-value.value vm.there ∙ vm.same);
-      ticket_there = k16.there r.ticket s.nets.ticket_there;
-      ticket_width = ap (λ (f : Signal). f.width) (k16.kept r.ticket s.nets.ticket_there) ∙ s.nets.ticket_width;
+      addr = width_keeps b2 b6 _ _ k26 (width_meant b2 _ _ _ am refl);
+      value = width_keeps b3 b6 _ _ k36 (width_meant b3 _ _ _ vm refl);
+      ticket = width_keeps b1 b6 r.ticket (L.tickets l) k16 s.nets.ticket;
     } in
     driver_there b6 c.in_ok-ports.ports r.bits r.width (L.tickets l) c.in_ok-one.one c.in_ok-zero.zero c.in_ok-addr.addr c.in_ok-value.value r.ticket driver
 
@@ -173,12 +171,9 @@ emit_step-requires-clause-fit g c =
       tail = q.tail;
       one_means = means_keeps b4 b6 c.in_ok-one.one _ k46 c.in_ok-one.ensures.means;
       off_means = means_keeps b5 b6 c.in_ok-zero.zero _ k56 c.in_ok-zero.ensures.means;
-      addr_there = k26.there c.in_ok-addr.addr am.there;
-      addr_width = ap (λ (f : Signal). f.width) (k26.kept c.in_ok-addr.addr am.there ∙ am.same);
-      value_there = k36.there c.in_ok-value.value vm.there;
-      value_width = ap (λ (f : Signal). f.width) (k36.kept c.in_ok-value.value vm.there ∙ vm.same);
-      ticket_there = k16.there r.ticket s.nets.ticket_there;
-      ticket_width = ap (λ (f : Signal). f.width) (k16.kept r.ticket s.nets.ticket_there) ∙ s.nets.ticket_width;
+      addr = width_keeps b2 b6 _ _ k26 (width_meant b2 _ _ _ am refl);
+      value = width_keeps b3 b6 _ _ k36 (width_meant b3 _ _ _ vm refl);
+      ticket = width_keeps b1 b6 r.ticket (L.tickets l) k16 s.nets.ticket;
     } in
     driver_fits b6 c.in_ok-ports.ports r.bits r.width (L.tickets l) c.in_ok-one.one c.in_ok-zero.zero c.in_ok-addr.addr c.in_ok-value.value r.ticket driver
 
@@ -221,12 +216,9 @@ returns g c =
       tail = q.tail;
       one_means = means_keeps b4 b6 c.in_ok-one.one _ k46 c.in_ok-one.ensures.means;
       off_means = means_keeps b5 b6 c.in_ok-zero.zero _ k56 c.in_ok-zero.ensures.means;
-      addr_there = k26.there c.in_ok-addr.addr am.there;
-      addr_width = ap (λ (f : Signal). f.width) (k26.kept c.in_ok-addr.addr am.there ∙ am.same);
-      value_there = k36.there c.in_ok-value.value vm.there;
-      value_width = ap (λ (f : Signal). f.width) (k36.kept c.in_ok-value.value vm.there ∙ vm.same);
-      ticket_there = k16.there r.ticket s.nets.ticket_there;
-      ticket_width = ap (λ (f : Signal). f.width) (k16.kept r.ticket s.nets.ticket_there) ∙ s.nets.ticket_width;
+      addr = width_keeps b2 b6 _ _ k26 (width_meant b2 _ _ _ am refl);
+      value = width_keeps b3 b6 _ _ k36 (width_meant b3 _ _ _ vm refl);
+      ticket = width_keeps b1 b6 r.ticket (L.tickets l) k16 s.nets.ticket;
     } in
     let stands = L.stands l r in
     let b0 = c.args.b.now in
@@ -250,13 +242,13 @@ returns g c =
     (keeps_trans b2 b3 b5 (ports_keeps b2 b3 p3 x3) (extends_keeps b3 b5 x5)).kept c.in_ok-addr.addr am.there ∙ am.same ∙ ap (input_signal r.bits) n1 in
     let a6 : signal b6 c.in_ok-addr.addr ≡ input_signal r.bits 0 = k26.kept c.in_ok-addr.addr am.there ∙ am.same ∙ ap (input_signal r.bits) n1 in
     let v6 : signal b6 c.in_ok-value.value ≡ input_signal r.width 1 = k36.kept c.in_ok-value.value vm.there ∙ vm.same ∙ ap (input_signal r.width) n2 in
-    let t6 : signal b6 r.ticket ≡ signal b1 r.ticket = k16.kept r.ticket s.nets.ticket_there in
-    let t5 : signal b5 r.ticket ≡ signal b1 r.ticket = k15.kept r.ticket s.nets.ticket_there in
+    let t6 : signal b6 r.ticket ≡ signal b1 r.ticket = k16.kept r.ticket s.nets.ticket.there in
+    let t5 : signal b5 r.ticket ≡ signal b1 r.ticket = k15.kept r.ticket s.nets.ticket.there in
     let f6 : step_signals b6 p ≡ driven (input_signal r.bits 0) (input_signal r.width 1) (signal b1 r.ticket) =
     driven_is b6 p c.in_ok-one.one c.in_ok-zero.zero c.in_ok-addr.addr c.in_ok-value.value r.ticket q.reserves q.writes q.release q.release2 q.squash q.tail driver.one_means.same driver.off_means.same
     ∙ cc (a6, v6, t6) in
     let is_word : look.value ≡ Some word = c.unwrap-word.ensures in
-    let there6 = c.in_ok-look.ensures.value.there word is_word in
+    let there6 = (c.in_ok-look.ensures.value.net word is_word).there in
     let frag7 : IsFragment b0 b7 r = fragment_kept b0 b1 b7 r s.fragment (keeps_trans b1 b6 b7 k16 (but_keeps (own r) b6 b7 x67)) in
     let kept : OwnKept (own r) b7 b8 = own_kept_ports (own r) b7 b7 b8 (output_port b7 c.args.mem.now.name word ∷ []) (own_here b0 b7 r frag7) x78 in
     let G : StepSignals → Type 0 = λ f. StepLaw stands (L.size l) (L.tickets l) (own r) b7 f (signal b7 n.commit) (signal b7 n.addr) (signal b7 n.value) in

@@ -1,8 +1,8 @@
-use Rattle.std.proofs.Common.{◌≡◌, sym, ap, ◌∙◌, subst, length, []}
+use Rattle.std.proofs.Common.{sym, ◌∙◌, subst, length, []}
 use Rattle.pdl_net.proofs.Keeps.{extends_refl}
 use Rattle.pdl_form.specs.FormView.{form}
 use Rattle.pdl_pipe_walk.specs.Locked.{members}
-use Rattle.pdl_pipe_outputs.specs.Inputs.{AreReplies, AreWhereRead}
+use Rattle.pdl_pipe_outputs.specs.Inputs.{AreReplies}
 use Rattle.pdl_pipe_beside.specs.Ports.{AreInputs, has_port}
 use Rattle.pdl_pipe_beside.specs.Parts.{AreParts}
 use Rattle.pdl_port.specs.Laws.{own as port_own}

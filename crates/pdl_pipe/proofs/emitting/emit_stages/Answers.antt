@@ -1,10 +1,8 @@
-use Rattle.std.proofs.Common.{◌≡◌, sym, ap, ◌∙◌, subst, length, refl}
-use Rattle.pdl_word.specs.Each.{Each}
+use Rattle.std.proofs.Common.{sym, ap, ◌∙◌, length, refl}
 use Rattle.pdl_form.specs.FormView.{form}
-use Rattle.pdl_net.proofs.Keeps.{extends_keeps, extends_trans}
-use Rattle.pdl_pipe_answers.specs.Ports.{IsBit}
+use Rattle.pdl_net.proofs.Keeps.{extends_keeps}
 use Rattle.pdl_pipe_answers.proofs.PortAnswers.{answers_keep}
-use Rattle.pdl_pipe_walk.specs.Locked.{members, AreLocked}
+use Rattle.pdl_pipe_walk.specs.Locked.{members}
 use Rattle.pdl_pipe_locks.proofs.LockGrowth.{locked_kept}
 use Rattle.pdl_pipe.proofs.NetlistLayout.{laid_out, line_in}
 use Rattle.pdl_pipe.proofs.emitting.emit_stages.Goals as goal

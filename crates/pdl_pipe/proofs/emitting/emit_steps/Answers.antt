@@ -1,18 +1,13 @@
-use Rattle.std.proofs.Common.{◌≡◌, ◌≤◌, ℕ, refl, sym, ap, ◌∙◌, subst, length, map, arith}
-use Rattle.std.specs.Prelude.{slice_index_or}
-use Rattle.pdl_word.specs.Each.{Each}
-use Rattle.pdl_net.specs.Circuit.{Circuit}
-use Rattle.pdl_net.specs.Growth.{Keeps, ExtendsPorts}
+use Rattle.std.proofs.Common.{refl, sym, ◌∙◌, subst, length, map, arith}
+use Rattle.pdl_net.specs.Growth.{ExtendsPorts}
 use Rattle.pdl_net.proofs.Keeps.{extends_keeps, keeps_trans, ports_keeps, regs_grow}
 use Rattle.pdl_pipe_walk.specs.Locked.{members}
 use Rattle.pdl_pipe_locks.proofs.LockGrowth.{locked_kept, laws_kept}
-use Rattle.pdl_pipe_locks.specs.Stepped.{ExtendsLocks}
 use Rattle.pdl_law_parts.specs.Compiled.{port_in}
 use Rattle.pdl_pipe_beside.specs.Ends.{AreEnds}
 use Rattle.pdl_pipe_beside.proofs.EndGrowth.{ends_keep}
 use Rattle.pdl_pipe_beside.proofs.PortSteps.{ports_stand}
 use Rattle.pdl_pipe_beside.proofs.OrderSteps.{orders_stand}
-use Rattle.pdl_pipe_registers.specs.Staged.{AreApart}
 use Rattle.pdl_pipe_nexts.specs.Lines.{line_form, line_pipe}
 use Rattle.pdl_pipe_nexts.proofs.LineGrowth.{line_keep}
 use Rattle.pdl_pipe_moves.proofs.GateParts.{bit_keep}

@@ -1,6 +1,5 @@
-use Rattle.std.proofs.Common.{◌≡◌, sym, ap, ◌∙◌, subst, length, inr, arith}
+use Rattle.std.proofs.Common.{sym, ◌∙◌, subst, length, inr, arith}
 use Rattle.pdl_net.proofs.Keeps.{but_keeps, extends_keeps, keeps_trans}
-use Rattle.pdl_pipe_exprs.specs.Nets.{signals_in}
 use Rattle.pdl_pipe_exprs.proofs.NetLists.{there_keeps, signals_keep}
 use Rattle.pdl_pipe_walk.specs.Locked.{members, AreTickets}
 use Rattle.pdl_pipe_locks.proofs.LockGrowth.{locked_kept, laws_kept}

@@ -65,10 +65,10 @@ loop-i-preserved c =
     let kills_are = to_d.kept e.killed is.killed.there ∙ kill_at a es c.place.result e within c.end_at-end.ensures ∙ ap (kills_in a es) place_is in
     record {
       asked = subst (λ (xs : List Net). AreNetsOf d xs (i + 1) (asked_into p (ends_in a es) (moves_in a es) c.args.m r)) (sym c.in_ok-push.ensures.ok)
-          (nets_more b d c.loop-i.asked i (asked_into p (ends_in a es) (moves_in a es) c.args.m r) x v.asked into.extends into.means.there into.one asked_is);
+          (nets_more b d c.loop-i.asked i (asked_into p (ends_in a es) (moves_in a es) c.args.m r) x v.asked into.extends (record { there = into.means.there; width = into.one }) asked_is);
       moves = subst (λ (xs : List Net). AreNetsOf d xs (i + 1) (λ j. moves_in a es (place_at p r j))) (sym c.in_ok-push-2.ensures.ok)
-          (nets_more b d c.loop-i.moves i (λ j. moves_in a es (place_at p r j)) e.moves v.moves into.extends moves.there moves.width moves_are);
+          (nets_more b d c.loop-i.moves i (λ j. moves_in a es (place_at p r j)) e.moves v.moves into.extends moves moves_are);
       removed = subst (λ (xs : List Net). AreNetsOf d xs (i + 1) (λ j. kills_in a es (place_at p r j))) (sym c.in_ok-push-3.ensures.ok)
-          (nets_more b d c.loop-i.removed i (λ j. kills_in a es (place_at p r j)) e.killed v.removed into.extends killed.there killed.width kills_are);
+          (nets_more b d c.loop-i.removed i (λ j. kills_in a es (place_at p r j)) e.killed v.removed into.extends killed kills_are);
       extends = extends_trans o b d v.extends into.extends;
     }

@@ -240,8 +240,8 @@ expr_net-requires-in-Choose-3 t c =
       next_typed old c.expr_net-in-Choose-2.new.b vs (expr_view c.get-in-Choose-3.result.now) far c.requires.there (rw c.get-in-Choose-3.ensures typed.2),
     )
 
-pub mux-requires-clause-one : goal.mux-requires-clause-one
-mux-requires-clause-one t c =
+pub mux-requires-clause-choice : goal.mux-requires-clause-choice
+mux-requires-clause-choice t c =
     let old = c.args.b.now in
     let vs = c.args.vars.now in
     let ns = signals_in old vs in
@@ -251,20 +251,15 @@ mux-requires-clause-one t c =
     let two = c.expr_net-in-Choose-2.new.b in
     let new = c.expr_net-in-Choose-3.new.b in
     let later = c.expr_net-in-Choose-3.ensures.extends in
-    let far = extends_trans old one two c.expr_net-in-Choose.ensures.extends c.expr_net-in-Choose-2.ensures.extends in
+    let later_two = extends_trans one two new c.expr_net-in-Choose-2.ensures.extends later in
     let w =
     first old one new vs (expr_view c.in-Choose.c)
     (expr_view c.get-in-Choose.result.now) c.in_ok-c-in-Choose.c (ap expr_view c.get-in-Choose.ensures)
-    (extends_trans one two new c.expr_net-in-Choose-2.ensures.extends later) c.in_ok-c-in-Choose.ensures.means in
-    let x =
-    between old one two new vs (expr_view c.in-Choose.a)
-    (expr_view c.get-in-Choose-2.result.now) c.in_ok-a-in-Choose.a
-    (ap expr_view c.get-in-Choose-2.ensures) c.expr_net-in-Choose.ensures.extends later c.requires.there c.in_ok-a-in-Choose.ensures.means in
-    let y =
-    last old two new vs (expr_view c.in-Choose.d)
-    (expr_view c.get-in-Choose-3.result.now) c.in_ok-d-in-Choose.d
-    (ap expr_view c.get-in-Choose-3.ensures) far c.requires.there c.in_ok-d-in-Choose.ensures.means in
-    made_width new c.in_ok-c-in-Choose.c ns (expr_view c.in-Choose.c) w typed.0 ∙ typed.3
+    later_two c.in_ok-c-in-Choose.ensures.means in
+    record {
+      there = later_two.there c.in_ok-c-in-Choose.c c.in_ok-c-in-Choose.ensures.means.there;
+      width = made_width new c.in_ok-c-in-Choose.c ns (expr_view c.in-Choose.c) w typed.0 ∙ typed.3;
+    }
 
 pub mux-requires-clause-widths : goal.mux-requires-clause-widths
 mux-requires-clause-widths t c =

@@ -3,7 +3,7 @@ use Rattle.std.proofs.lemmas.List.{drop_more}
 use Rattle.pdl_net.specs.Signal.{Signal, mux_signal}
 use Rattle.pdl_net.specs.Meaning.{signal}
 use Rattle.pdl_net.proofs.Keeps.{extends_keeps, extends_trans}
-use Rattle.pdl_net.proofs.KeptWidths.{width_meant}
+use Rattle.pdl_net.proofs.KeptWidths.{width_kept, width_meant}
 use Rattle.pdl_pipe_exprs.specs.Nets.{signals_in, signal_at}
 use Rattle.pdl_pipe_exprs.proofs.NetLists.{there_keeps, signals_keep}
 use Rattle.pdl_law_parts.specs.Walk.{both, if_on, is_on}
@@ -27,23 +27,14 @@ variable-free-requires-clause-low c =
     (each_at (IsAsked c.args.b.now c.args.frees.now) xs (length xs - 1 - c.loop-i.i) c.ask_at-ask.result (omega (arith, t))
     (sym c.ask_at-ask.ensures) c.requires.asks).mem
 
-pub mux-requires-clause-choice_there : goal.mux-requires-clause-choice_there
-mux-requires-clause-choice_there c =
+pub mux-requires-clause-choice : goal.mux-requires-clause-choice
+mux-requires-clause-choice c =
     let xs = c.args.asks.now in
     let t = c.loop-i-test.true in
     let h =
     each_at (IsAsked c.args.b.now c.args.frees.now) xs (length xs - 1 - c.loop-i.i) c.ask_at-ask.result (omega (arith, t))
     (sym c.ask_at-ask.ensures) c.requires.asks in
-    c.loop-i.invariant.0.there c.ask_at-ask.result.on h.on.there
-
-pub mux-requires-clause-one : goal.mux-requires-clause-one
-mux-requires-clause-one c =
-    let xs = c.args.asks.now in
-    let t = c.loop-i-test.true in
-    let h =
-    each_at (IsAsked c.args.b.now c.args.frees.now) xs (length xs - 1 - c.loop-i.i) c.ask_at-ask.result (omega (arith, t))
-    (sym c.ask_at-ask.ensures) c.requires.asks in
-    ap (λ (f : Signal). f.width) (c.loop-i.invariant.0.kept c.ask_at-ask.result.on h.on.there) ∙ h.on.width
+    width_kept c.args.b.now c.loop-i.b c.ask_at-ask.result.on 1 c.loop-i.invariant.0 h.on
 
 pub mux-requires-clause-widths : goal.mux-requires-clause-widths
 mux-requires-clause-widths c =

@@ -49,8 +49,8 @@ variable-choice-requires-clause-low c =
     let same = ap length c.as_slice.ensures.value in
     omega (arith, low, count, long, same)
 
-pub mux-requires-clause-one : goal.mux-requires-clause-one
-mux-requires-clause-one c =
+pub mux-requires-clause-choice : goal.mux-requires-clause-choice
+mux-requires-clause-choice c =
     let a = c.args.b.now in
     let b = c.turn-in-Forks.new.b in
     let d = c.turn-in-Forks-2.new.b in
@@ -63,12 +63,11 @@ mux-requires-clause-one c =
     (fork_at f.widths f.pipe.stages c.args.k c.in-Forks.x c.in-Forks.first c.in-Forks.second c.requires.low c.requires.line.forks
     (sym c.in-Forks.ensures)).1 in
     let choice = c.variable-choice.result in
-    let there = c.variable-choice.ensures.there in
-    let kept =
-    c.turn-in-Forks-2.ensures.extends.kept choice (c.turn-in-Forks.ensures.extends.there choice there)
-    ∙ c.turn-in-Forks.ensures.extends.kept choice there in
     let at = ap (λ xs. signal_at (signals_in a xs) c.in-Forks.x) c.as_slice.ensures.value in
-    ap (λ (g : Signal). g.width) (kept ∙ c.variable-choice.ensures.same ∙ at) ∙ var_width f.pipe f.widths (parts_in a s.end) c.in-Forks.x now.walk.sized ∙ one
+    width_kept b d choice 1 c.turn-in-Forks-2.ensures.extends
+    (width_kept a b choice 1 c.turn-in-Forks.ensures.extends
+    (width_meant a choice _ 1 c.variable-choice.ensures
+    (ap (λ (g : Signal). g.width) at ∙ var_width f.pipe f.widths (parts_in a s.end) c.in-Forks.x now.walk.sized ∙ one)))
 
 pub returns-in_ok-net-in-Forks-clause-on : goal.returns-in_ok-net-in-Forks-clause-on
 returns-in_ok-net-in-Forks-clause-on c =

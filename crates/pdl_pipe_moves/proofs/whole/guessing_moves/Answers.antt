@@ -146,9 +146,9 @@ returns-clause-moved c =
     (signal_at (signals_in d clear))
     (λ k l. ap (λ (vs : ℕ → View). (vs k).valid) (sym views)) moved (ap (λ (vs : ℕ → View). (vs v).ended.fails) (sym views))
     (sym (e2d.kept nets.squash c.in_ok-nets.ensures.squash.there))
-    (λ k l. sym (e2d.kept (net_at nets.removed k) (removed.there k l))
+    (λ k l. sym (e2d.kept (net_at nets.removed k) (removed.each k l).there)
     ∙ padded_front d nets.removed zero (length x.stages.now) kills k (omega (arith, l, rn)) (omega (arith, l, low, n)) hk)
-    (λ k l. sym (e2d.kept (net_at nets.clear k) (clears.there k l))
+    (λ k l. sym (e2d.kept (net_at nets.clear k) (clears.each k l).there)
     ∙ padded_front d nets.clear zero (length x.stages.now) clear k (omega (arith, l, cn)) (omega (arith, l, low, n)) hc) c.in_ok-nets.ensures.law in
     record {
       passed =

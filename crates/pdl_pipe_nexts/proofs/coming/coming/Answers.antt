@@ -1,10 +1,11 @@
-use Rattle.std.proofs.Common.{◌≡◌, ◌+◌, ◌-◌, ◌<◌, ◌≤◌, length, drop, get_or, refl, rules, sym, ap, ◌∙◌, subst, arith}
+use Rattle.std.proofs.Common.{◌≡◌, ◌+◌, ◌-◌, ◌<◌, length, get_or, refl, rules, sym, ap, ◌∙◌, subst, arith}
 use Rattle.std.proofs.lemmas.List.{drop_all}
 use Rattle.std.specs.Prelude.{slice_index}
 use Rattle.pdl_machine_facts.specs.Slots.{ways}
 use Rattle.pdl_net.specs.Signal.{Signal}
 use Rattle.pdl_net.specs.Meaning.{signal}
 use Rattle.pdl_net.proofs.Keeps.{extends_keeps, extends_trans}
+use Rattle.pdl_net.proofs.KeptWidths.{width_kept}
 use Rattle.pdl_law_parts.specs.Views.{first_coming}
 use Rattle.pdl_pipe_registers.proofs.Begins.{each_way, next_keep}
 use Rattle.pdl_pipe_walk.proofs.Lists.{each_at as each_in}
@@ -59,8 +60,8 @@ brings-value-requires-clause-low c =
     let same = is.from in
     omega (arith, from, same, low, count)
 
-pub mux-requires-clause-choice_there : goal.mux-requires-clause-choice_there
-mux-requires-clause-choice_there c =
+pub mux-requires-clause-choice : goal.mux-requires-clause-choice
+mux-requires-clause-choice c =
     let x = c.args.line.now in
     let p = line_pipe x in
     let a = c.args.b.now in
@@ -71,21 +72,7 @@ mux-requires-clause-choice_there c =
     arrival_nth a p (line_views a x)
     (line_moves a x) q (ways p q) xs (length xs - 1 - c.loop-i.i) c.arrival_at-arrival.result
     (omega (arith, t)) c.arrival_at-arrival.ensures c.requires.arrivals in
-    c.loop-i.invariant.extends.there c.arrival_at-arrival.result.comes is.comes.bit.there
-
-pub mux-requires-clause-one : goal.mux-requires-clause-one
-mux-requires-clause-one c =
-    let x = c.args.line.now in
-    let p = line_pipe x in
-    let a = c.args.b.now in
-    let q = c.args.q in
-    let xs = c.args.arrivals.now in
-    let t = c.loop-i-test.true in
-    let is =
-    arrival_nth a p (line_views a x)
-    (line_moves a x) q (ways p q) xs (length xs - 1 - c.loop-i.i) c.arrival_at-arrival.result
-    (omega (arith, t)) c.arrival_at-arrival.ensures c.requires.arrivals in
-    ap (λ (g : Signal). g.width) (c.loop-i.invariant.extends.kept c.arrival_at-arrival.result.comes is.comes.bit.there) ∙ is.comes.bit.width
+    width_kept a c.loop-i.b c.arrival_at-arrival.result.comes 1 c.loop-i.invariant.extends is.comes.bit
 
 pub mux-requires-clause-widths : goal.mux-requires-clause-widths
 mux-requires-clause-widths c =

@@ -17,16 +17,8 @@ next-requires-clause-has c =
     let r = s.regs.valid + c.loop-i.i in
     e.has_reg r (has_low a r (c.requires.fits c.loop-i.i c.loop-i-test.true).0)
 
-pub next-requires-clause-there : goal.next-requires-clause-there
-next-requires-clause-there c =
-    let a = c.args.b.now in
-    let b = c.loop-i.b in
-    let s = c.args.s.now in
-    let e = but_keeps (regs_of s.regs.valid (end_of s.regs)) a b c.loop-i.invariant.extends in
-    net_there b c.args.nets.now c.loop-i.i c.net_at.result c.loop-i-test.true c.net_at.ensures (there_keeps a b c.args.nets.now e c.requires.there)
-
-pub next-requires-clause-width : goal.next-requires-clause-width
-next-requires-clause-width c =
+pub next-requires-clause-net : goal.next-requires-clause-net
+next-requires-clause-net c =
     let a = c.args.b.now in
     let b = c.loop-i.b in
     let s = c.args.s.now in
@@ -35,9 +27,13 @@ next-requires-clause-width c =
     let r = s.regs.valid + i in
     let e = but_keeps (regs_of s.regs.valid (end_of s.regs)) a b c.loop-i.invariant.extends in
     let fit = c.requires.fits i c.loop-i-test.true in
-    ap (λ (g : Signal). g.width)
-    (net_is b nets i c.net_at.result c.loop-i-test.true c.net_at.ensures ∙ ap (λ fs. signal_at fs i) (signals_keep a b nets e c.requires.there))
-    ∙ fit.1 ∙ sym (e.width r (has_low a r fit.0))
+    record {
+      there = net_there b nets i c.net_at.result c.loop-i-test.true c.net_at.ensures (there_keeps a b nets e c.requires.there);
+      width =
+          ap (λ (g : Signal). g.width)
+          (net_is b nets i c.net_at.result c.loop-i-test.true c.net_at.ensures ∙ ap (λ fs. signal_at fs i) (signals_keep a b nets e c.requires.there))
+          ∙ fit.1 ∙ sym (e.width r (has_low a r fit.0));
+    }
 
 pub loop-i-preserved : goal.loop-i-preserved
 loop-i-preserved c =

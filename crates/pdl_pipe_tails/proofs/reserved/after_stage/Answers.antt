@@ -1,4 +1,4 @@
-use Rattle.std.proofs.Common.{◌+◌, ◌∙◌, map, refl, subst, arith}
+use Rattle.std.proofs.Common.{◌∙◌, map, refl, subst}
 use Rattle.std.proofs.lemmas.List.{take_all}
 use Rattle.pdl_word.proofs.Each.{each_get}
 use Rattle.pdl_net.specs.declared.Net.TheVariants.{Input}

@@ -1,8 +1,8 @@
-use Rattle.std.proofs.Common.{sym, ap, ◌∙◌, subst}
-use Rattle.pdl_net.specs.Signal.{Signal}
+use Rattle.std.proofs.Common.{sym, subst}
 use Rattle.pdl_net.specs.Growth.{Extends}
 use Rattle.pdl_net.specs.Meaning.{signal}
 use Rattle.pdl_net.proofs.Keeps.{extends_trans}
+use Rattle.pdl_net.proofs.KeptWidths.{width_kept}
 use Rattle.pdl_port.specs.declared.PortRegs.{PortRegs}
 use Rattle.pdl_port.specs.declared.layout.PortLayout.{PortLayout}
 use Rattle.pdl_port.specs.Laws.{AnswerLaw, answer_signals}
@@ -25,7 +25,7 @@ returns-clause-placed c =
     let y = c.in_ok-answers.ensures.extends in
     let x : Extends a d = extends_trans a b d c.in_ok-emit_registers.ensures.extends y in
     are_placed d l r listed c.in_ok-emit_registers.ensures.small (places_kept b d l l.places c.in_ok-emit_registers.ensures.places y)
-    (x.there r.reply q.reply.there) (ap (λ (f : Signal). f.width) (x.kept r.reply q.reply.there) ∙ q.reply.width)
+    (width_kept a d r.reply 1 x q.reply)
 
 pub returns-clause-fragment : goal.returns-clause-fragment
 returns-clause-fragment c =

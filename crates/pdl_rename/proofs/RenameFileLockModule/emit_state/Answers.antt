@@ -1,6 +1,7 @@
-use Rattle.std.proofs.Common.{length, sym, subst, ap, ◌∙◌}
+use Rattle.std.proofs.Common.{refl, length, sym, subst, ap, ◌∙◌}
 use Rattle.pdl_net.specs.Signal.{Signal}
 use Rattle.pdl_net.specs.Meaning.{IsThere, signal}
+use Rattle.pdl_net.proofs.KeptWidths.{width_meant}
 use Rattle.pdl_lockapi.specs.Laws.{HasNoPorts, RoomLaw, TicketLaw}
 use Rattle.pdl_lockapi.specs.Second.{Room2Law, Ticket2Law}
 use Rattle.pdl_lock_ring.specs.Slots.{AreReset, ticket_bits}
@@ -63,10 +64,11 @@ returns-clause-nets c =
     let i : IsAnswered l r = record { regs = g.regs; slots = g.slots; width = g.width; bits = g.bits; array = g.array } in
     let h = slots_kept b d l.slots e.slots g.extends in
     record {
-      room_there = g.room.there;
-      room_one = ap (λ (f : Signal). f.width) g.room.same;
-      ticket_there = subst (IsThere d) (sym g.ticket) h.tail_there;
-      ticket_width = ap (λ n. (signal d n).width) g.ticket ∙ ap (λ (f : Signal). f.width) h.tail ∙ e.layout.ticket;
+      room = width_meant d _ _ 1 g.room refl;
+      ticket = record {
+        there = subst (IsThere d) (sym g.ticket) h.tail_there;
+        width = ap (λ n. (signal d n).width) g.ticket ∙ ap (λ (f : Signal). f.width) h.tail ∙ e.layout.ticket;
+      };
     }
 
 pub returns-clause-second : goal.returns-clause-second
@@ -80,10 +82,8 @@ returns-clause-second c =
     let g = c.in_ok-regs.ensures in
     let i : IsAnswered l r = record { regs = g.regs; slots = g.slots; width = g.width; bits = g.bits; array = g.array } in
     record {
-      room2_there = g.room2.there;
-      room2_one = ap (λ (f : Signal). f.width) g.room2.same;
-      ticket2_there = g.ticket2.there;
-      ticket2_width = ap (λ (f : Signal). f.width) g.ticket2.same ∙ e.layout.ticket;
+      room2 = width_meant _ _ _ 1 g.room2 refl;
+      ticket2 = width_meant _ _ _ _ g.ticket2 e.layout.ticket;
     }
 
 pub returns-clause-start : goal.returns-clause-start
