@@ -295,7 +295,7 @@ text_same t labels ps slots e =
     let P : ℕ → Type 0 = λ m. word_line t.mem t.word m (get_or slots m None) ≡ word_line t.mem t.word m (written_word t labels ps m) in
     subst P (sym (zero-add k)) (ap (word_line t.mem t.word k) (ap (λ s. get_or s k None) e ∙ row_at t labels ps k h))))
 
--- what a text is, where no line is wrong, and where one is
+-- where no line is wrong, a text gives the image that its slots give
 pub image_is : (t : TableValue) (text : List ℕ) (labels : Labels) (slots : List (Option ℕ)) (bytes : List ℕ)
     → labels ≡ labels_of (lines_from t (pos 0) (lines text))
     → first_wrong t labels [] 1 (lines_from t (pos 0) (lines text)) ≡ None
@@ -308,7 +308,7 @@ image_is t text labels slots bytes e f g h =
     let same : slots ≡ slots_of t (labels_of ps) ps = g ∙ ap (λ ls. slots_of t ls ps) e in
     ap (λ o. image_unless o (image_text t (written_word t (labels_of ps) ps))) free ∙ ap Ok (sym (h ∙ text_same t (labels_of ps) ps slots same))
 
--- no lines are left
+-- where no lines are left, no placed lines are left
 pub none_left_of : (t : TableValue) (place : ℤ) (rest : List ℕ) → length rest ≡ 0 → lines_from t place (lines rest) ≡ []
 unfolding lines
 none_left_of t place [] h = refl

@@ -8,7 +8,7 @@ use Rattle.pdl_asm.specs.Lines.{counted, operand_of, operands_given, operands_in
 use Rattle.pdl_asm.specs.declared.line.Operand.{Operand}
 use Rattle.pdl_asm.specs.declared.line.Operands.TheVariants.{Few, TooMany}
 
--- those read so far, and those to come, if all are
+-- the operands read so far and those to come, if all are read
 abbrev pub joined : List Operand → Option (List Operand) → Option (List Operand)
 joined xs (Some ys) = Some (xs ++ ys)
 joined xs None = None
@@ -17,7 +17,7 @@ joined-cons : (xs : List Operand) (x : Operand) (o : Option (List Operand)) → 
 joined-cons xs x (Some ys) = ap (λ zs. Some zs) (append_assoc xs (x ∷ []) ys)
 joined-cons xs x None = refl
 
--- one operand more
+-- with one operand read more, the operands read and those to come are the same as before
 pub next : (ops more : List Operand) (x : Operand) (part : List ℕ) (ps rest : List (List ℕ)) (whole : Option (List Operand))
     → more ≡ ops ++ x ∷ [] → operand_of (without_blanks part) ≡ Some x → rest ≡ part ∷ ps
     → joined ops (operands_in rest) ≡ whole → joined more (operands_in ps) ≡ whole
@@ -62,7 +62,7 @@ pub started : (text : List ℕ) → false ≡ (length text == 0) → Read [] (op
 started [] e = cc
 started (c ∷ cs) e = none_read (operands_in (slice_split (λ d. d == 44) (c ∷ cs)))
 
--- one operand more
+-- with one operand read more, of which one too many is kept, what was read and what is to come are all
 pub read_more : (ops more : List Operand) (x : Operand) (part : List ℕ) (ps rest : List (List ℕ)) (whole : Option (List Operand))
     → more ≡ take 65 (ops ++ x ∷ []) → operand_of (without_blanks part) ≡ Some x → rest ≡ part ∷ ps
     → Read ops (operands_in rest) whole → Read more (operands_in ps) whole
@@ -84,7 +84,7 @@ counted_kept kept read e = elim (cases_lt 64 (length read)) [
   | inr h ↦ ap counted (e ∙ take_all 65 read (omega (arith, h)))
 ]
 
--- all is read
+-- where nothing is to come, the kept operands are counted as the text gives them
 pub all_read : (kept : List Operand) (text : List ℕ) → Read kept (Some []) (operands_of text) → Some (counted kept) ≡ operands_given text
 all_read kept text h =
     let whole : Some h.read ≡ operands_of text = ap (λ zs. Some zs) (sym (append-nil h.read)) ∙ h.whole in

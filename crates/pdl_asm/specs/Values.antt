@@ -74,7 +74,7 @@ argument_value t labels place bits a o = operand_value t labels place (field_bit
 
 -- ---- the lowest rule
 
--- the order of rules
+-- the number of a rule, by which the lowest is found
 abbrev pub rank : Option Rule → ℕ
 rank (Some A2) = 2
 rank (Some A3) = 3

@@ -20,7 +20,7 @@ use Rattle.pdl_build.specs.Change.{with_cell, with_port, input_port, output_port
 use Rattle.pdl_build.specs.declared.Extent.{Extent}
 use Rattle.pdl_build.specs.Parts.{IsExtent, HaveExtents, no_cell, extent_in}
 
--- growth that adds no cell
+-- all cells still fit in a circuit that has grown but by no cell
 pub all_fit_still : (old new : Circuit) → Grows old new → IsWell old → new.cells ≡ old.cells → AllFit new new.cells []
 all_fit_still old new g w e =
     let P : List Cell → Type 0 = λ gs. AllFit new gs [] in

@@ -35,11 +35,11 @@ last_at : {X : Type 0} (xs : List X) (x : X) → slice_get (xs ++ x ∷ []) (len
 last_at [] x = refl
 last_at (z ∷ xs) x = last_at xs x
 
--- what is pushed and popped again
+-- a list is as before after an element is pushed and popped again
 pub popped : {X : Type 0} (xs ys zs : List X) (x : X) (n : ℕ) → ys ≡ xs ++ x ∷ [] → zs ≡ take n ys → n ≡ length xs → zs ≡ xs
 popped xs ys zs x n e f l = f ∙ ap (λ i. take i ys) l ∙ ap (take (length xs)) e ∙ take-append_seam xs (x ∷ [])
 
--- the same cells and entries
+-- the map still tells the place of each cell where cells and entries are the same
 pub found_still : (a b : Inside) → b.cells.items ≡ a.cells.items → b.places.entries ≡ a.places.entries → AreFound same a → AreFound same b
 found_still a b c p h = record {
   found = λ k g e. ap (λ es. lookup (same g) es) p ∙ h.found k g (ap (λ xs. slice_get xs k) (sym c) ∙ e);

@@ -18,7 +18,7 @@ use Rattle.pdl_build.specs.Rules.{Gives, IsBelow}
 
 -- OPERATORS
 
--- the rule for a constant, at a signal that is the constant
+-- where the second operand's signal is a constant, the rule for that constant gives the answer in each state
 pub on_constant_at : (r : OperatorRule) (op : BinOp) (w v : ℕ) (t : Bool) (a b : Signal)
     → w ≡ a.width → b.value ≡ const_value v → ((x : ℕ) → (IsTrue t → x < 2 ^ w) → Gives r op w x v)
     → (IsTrue t → IsBelow a) → (s : State) → Gives r op a.width (a.value s) (b.value s)
@@ -29,7 +29,7 @@ on_constant_at r op w v t a b e f g h s =
     let y : b.value s ≡ v = ap (λ (z : Value). z s) f in
     subst P e (subst Q (sym y) (g (a.value s) (λ i. as_wide (a.value s) a.width w (sym e) (h i s))))
 
--- likewise, where the first operand is the constant
+-- where the first operand's signal is a constant, the rule for that constant gives the answer in each state
 pub after_constant_at : (r : OperatorRule) (op : BinOp) (w v : ℕ) (t : Bool) (a b : Signal)
     → w ≡ a.width → a.width ≡ b.width → a.value ≡ const_value v → ((y : ℕ) → (IsTrue t → y < 2 ^ w) → Gives r op w v y)
     → (IsTrue t → IsBelow b) → (s : State) → Gives r op a.width (a.value s) (b.value s)

@@ -73,7 +73,7 @@ with_write c m p = record c { arrays = slice_set c.arrays m (written_array c m p
 abbrev pub write_port : Net → Net → Net → WritePort
 write_port e a v = record { enable = e; addr = a; value = v }
 
--- one register, and one array, of a fragment
+-- a fragment's one register, without arrays
 abbrev pub one_reg : ℕ → Own
 one_reg r = record { from = r; to = r + 1; first = 0; last = 0 }
 

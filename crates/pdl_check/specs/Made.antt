@@ -9,7 +9,7 @@ use Rattle.pdl_form.specs.FormView.{form}
 use Rattle.pdl_stages.specs.Graph.{graph_of}
 use Rattle.pdl_check.specs.declared.check.Made.{Made}
 
--- its memories as they are told, its flat form, and the graph of its stages
+-- what was made of a pipe: its memories as they are told, its flat form, and the graph of its stages
 pub record IsMadeOf (p : Pipe) (made : Made) : Type 0 where
   pub told : made.mems ≡ infos_of p.mems
   pub lowered : form made.flat ≡ form_of p

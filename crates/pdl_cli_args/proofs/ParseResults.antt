@@ -32,7 +32,7 @@ err_line a ws e is h n =
     ap (λ (x : App). where_taken (fault_of x ws) (subcommand_of pdl_app ws)) (sym is)
     ∙ refused (fault_of a ws) e (subcommand_of pdl_app ws) (h (ap is_simple_and_free is ∙ is_free)) n
 
--- matches
+-- where the words match the command line of pdl, they are read as the command that the matches give
 pub ok_line : (a : App) (ws : List Text) (m : ArgMatches)
     → a ≡ pdl_app → (is_simple_and_free a ≡ true → fault_of a ws ≡ []) → HasMatchesOf a ws m
     → line ws ≡ option_and_then command_of (subcommand_rows_of m)

@@ -62,7 +62,7 @@ view_app =
 abbrev pub bare_app : App
 bare_app = on_top (λ s. record s { no_binary_name = true }) (new_app (codes "pdl"))
 
--- the command
+-- the whole command `pdl`, with its subcommands
 abbrev pub pdl_app : App
 pdl_app =
     with_subcommand (with_subcommand (with_subcommand (with_subcommand (with_subcommand

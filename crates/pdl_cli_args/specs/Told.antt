@@ -9,6 +9,6 @@ use Rattle.clap.specs.declared.builder.command.Command.TheViews.{out-Command}
 abbrev pub IsTold : {E : Type 0} → App → Result Command E → Type 0
 IsTold app r = IfOk r (λ c. app_of c ≡ app)
 
--- and none of its arguments is for its subcommands too
+-- a command of these words, none of whose arguments is for its subcommands too, unless memory ran out
 abbrev pub IsToldAlone : {E : Type 0} → App → Result Command E → Type 0
 IsToldAlone app r = IfOk r (λ c. (app_of c ≡ app) × ((out-Command c).has_globals ≡ false))

@@ -89,6 +89,7 @@ module _ (holds : Option Held) (source b : List ℕ) (p : Pipe) (n : Netlist) (g
     (accepted : IsAccepted b p) (follows : Follows p n) where
   -- what the netlist's run starts from is what the source's does
   module _ (image' : List ℕ) (words : List (List ℕ)) (file : List ℕ) (file_given : Gives holds image' file) (taken : image n.mems file ≡ Ok words) where
+    -- the netlist's words of an image file, in the order of the pipe's memories, are loaded for the source
     pub loaded : IsLoaded holds source image' p (in_order (flat p) words)
     loaded = record {
       source_text = b;
@@ -124,7 +125,7 @@ module _ (holds : Option Held) (source b : List ℕ) (p : Pipe) (n : Netlist) (g
           promised = promise;
         }
 
-    -- and its dump is the source's
+    -- the dump of the netlist is the source's
     pub is_dumped : HasLocksOf any_lock p n → cycles ≤ 1000000 → IsDumped holds source image' cycles delays (run_dump n words (schedule rows cycles))
     is_dumped locks few = record {
       pipe = p;
@@ -144,7 +145,7 @@ module _ (holds : Option Held) (source b : List ℕ) (p : Pipe) (n : Netlist) (g
           (let k = schedule_length rows 1 cycles in omega (arith, k, few));
     }
 
-  -- its text is what is built of the source
+  -- the netlist's text is what is built of the source
   pub is_built : (text : List ℕ) → HasLocksOf any_lock p n → text ≡ verilog n → Reads text n → IsBuilt holds source text
   is_built text locks written read = record {
     pipe = p;

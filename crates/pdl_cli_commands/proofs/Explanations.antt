@@ -43,7 +43,7 @@ streamed IsText text old new before now r o e is w = subst (Streamed IsText old 
     go (Err error.NoMemory) w = w
     go (Err error.WriteFailed) w = (w.0, text, is, w.1)
 
--- and one that is written once its memory is there
+-- a text that is written once its memory is there is one of its kind
 pub written_streamed : (IsText : List ℕ → Type 0) (text : List ℕ) (old new : Option (List ℕ)) (before now : ℕ)
     (r : Result (Unit {0}) WriteFailed) (o : Result (Unit {0}) Failure)
     → MatchResult r (λ x. o ≡ Ok x) (λ e. o ≡ Err WriteFault) → IsText text → WritesText old new r text
@@ -64,7 +64,7 @@ streamed_explains command s (Err NoMemory) IsText is w = w
 
 -- ---- failures before anything is written
 
--- out has what it had
+-- a command that fails before anything is written leaves out as it was
 pub silent : (command : Command) (s : Seen) (f : Failure) → Fails s.holds s.reads s.reads_now command f
     → s.written_now ≡ s.written → FailsAs (Some command) s f
 silent command s Usage w e = w
@@ -73,7 +73,7 @@ silent command s ReadFault w e = (w, e)
 silent command s WriteFault w e = absurd w
 silent command s NoMemory w e = e
 
--- the source fails
+-- where the source fails, a command on it fails in the same way
 pub source_fails : (holds : Option Held) (before now : ℕ) (source : List ℕ) (command : Command)
     → ((rule : Rule) (line : ℕ) → IsWrongSource holds source rule line → IsWrongFor holds command rule (Line line))
     → (f : Failure) → SourceFails holds before now source f → Fails holds before now command f
@@ -84,7 +84,7 @@ source_fails holds before now source command wrong ReadFault w = w
 source_fails holds before now source command wrong WriteFault w = w
 source_fails holds before now source command wrong NoMemory w = w
 
--- the netlist fails
+-- where the netlist fails, its simulation fails in the same way
 pub netlist_fails : (holds : Option Held) (before now : ℕ) (v image' : List ℕ) (cycles : ℕ) (delays : Option (List ℕ)) (f : Failure)
     → NetlistFails holds before now v f → Fails holds before now (sim v image' cycles delays) f
 netlist_fails holds before now v image' cycles delays Usage w = w
@@ -94,7 +94,7 @@ netlist_fails holds before now v image' cycles delays ReadFault w = w
 netlist_fails holds before now v image' cycles delays WriteFault w = w
 netlist_fails holds before now v image' cycles delays NoMemory w = w
 
--- its image fails, or its delay file does
+-- where the image or the delay file fails for a netlist, its simulation fails in the same way
 pub start_fails : (holds : Option Held) (before now : ℕ) (v image' : List ℕ) (cycles : ℕ) (delays : Option (List ℕ)) (n : Netlist)
     → HoldsNetlist holds v n → (f : Failure)
     → StartFails holds before now image' delays n.mems (length (delayed_mems n)) f
@@ -176,7 +176,7 @@ module _ (holds : Option Held) (before now : ℕ) (source b image' : List ℕ) (
 
 -- ---- what is seen from a later moment on
 
--- what is seen from after a file was read, and so from before it was
+-- what explains a command seen from after a file was read explains it seen from before
 pub explained_before : {T : Type 0} (holds after : Option Held) (before mid now : ℕ) (old new : Option (List ℕ))
     (writes writes_now : ℕ) (command : Command) (r : Result T Failure)
     → after ≡ holds → before ≤ mid → Explains (Some command) (seen_of after mid now old new writes writes_now) r
@@ -196,7 +196,7 @@ explained_before holds after before mid now old new writes writes_now command r 
 
 -- ---- texts that are made whole
 
--- one that is there is written, and where it isn't nothing is
+-- a text that is made whole is written where it is there, else nothing is
 pub text_explains : {T : Type 0} (command : Command) (s : Seen) (text : Result (Vec ℕ Global) Failure) (r : Result T Failure)
     → IfOk text (λ t. Writes s.holds command t.items) → IfErr text (Fails s.holds s.reads s.reads_now command)
     → IfOk text (λ t. Streamed (λ bytes. bytes ≡ t.items) s.written s.written_now s.writes s.writes_now r)

@@ -143,7 +143,7 @@ told_short : (locked : List PortMem) (xs : List Array)
 told_short locked [] h = tt
 told_short locked (a ∷ xs) h = (subst (λ x. length x ≤ 32) (sym (told_name a (find (λ m. bytes_eq m.name a.name) locked))) h.0, told_short locked xs h.1)
 
--- so are the names of the memories of a netlist that is read
+-- the names of the memories of a netlist that is read are short
 pub mems_short : (bytes : List ℕ) (n : Netlist) → Reads bytes n → All (λ m. length m.name ≤ 32) n.mems
 unfolding built
 mems_short bytes n r =

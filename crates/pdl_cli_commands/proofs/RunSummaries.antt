@@ -35,7 +35,7 @@ use Rattle.pdl_cli_commands.proofs.AcceptedNetlists.{none_given, keeps_rules}
 
 -- ---- its image
 
--- one word more of a memory
+-- with one word more, cut to the width, the first k + 1 words of a memory are there
 pub one_word_more : (ws : List ℕ) (width k word : ℕ) (old new : List ℕ)
     → word ≡ slice_index ws k % 2 ^ width → new ≡ old ++ word ∷ []
     → old ≡ map (λ address. slice_index ws address % 2 ^ width) (range_with_len 0 k)

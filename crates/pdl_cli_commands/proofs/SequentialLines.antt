@@ -75,7 +75,7 @@ module _ (o a b : Option (List ℕ)) (held middle piece front next : List ℕ) (
   pub thread_on : (after : List ℕ) → HasPassed a b (middle ++ piece) after → HasPassed o b (held ++ next) after
   thread_on after more = subst (λ l. HasPassed o b l after) joined (passed_more o a b (held ++ front) middle piece so_far after more)
 
-  -- or fail on their way
+  -- where the lines of a thread more fail on their way, a prefix of all lines was passed on
   pub thread_off : TakesPrefix a b (middle ++ piece) → TakesPrefix o b (held ++ next)
   thread_off t = subst (TakesPrefix o b) joined (prefix_on o a b (held ++ front) middle piece so_far t)
 

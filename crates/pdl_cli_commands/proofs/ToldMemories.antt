@@ -78,7 +78,7 @@ short_one [] h m a = absurd a
 short_one (x ∷ ms) h m (inl e) = subst (λ (y : Mem). length y.name.name ≤ 32) e h.0
 short_one (x ∷ ms) h m (inr a) = short_one ms h.1 m a
 
--- their names are short
+-- the names of the memories of a pipe that keeps the rules are short
 pub names_short : (b : List ℕ) (p : Pipe) (ms : List MemInfo) → IsText b p → ms ≡ infos_of p.mems → All (λ m. length m.name ≤ 32) ms
 names_short b p ms t e =
     subst (All (λ (m : MemInfo). length m.name ≤ 32)) (sym e) (told_all (λ m. length m.name ≤ 32) p.mems (short_one p.mems (short_names b p t)))
@@ -97,7 +97,7 @@ delayed_told ms =
     ∙ append-nil (filter told_delayed (map info_of (delayed_of ms)))
     ∙ all_told ms
 
--- as many of its memories are delayed as of the pipe's
+-- as many memories of a netlist that follows a pipe are delayed as of the pipe's
 pub delayed_as_many : (p : Pipe) (n : Netlist) → Follows p n → length (delayed_mems n) ≡ delayed_count (flat p)
 delayed_as_many p n f =
     ap (λ l. length (filter told_delayed l)) f.mems
@@ -117,7 +117,7 @@ counted (m ∷ ms) =
     (record { width = m.width.value; depth = m.depth.value; delayed = m.delayed; lock = flat_lock m.lock })
     (mems_of ms))
 
--- as many of the memories that are told as of the pipe's
+-- as many of the told memories are delayed as of the flat pipe's
 pub told_count : (p : Pipe) → count_by (λ (i : MemInfo). i.delayed) (infos_of p.mems) ≡ delayed_count (flat p)
 told_count p = counted p.mems
 

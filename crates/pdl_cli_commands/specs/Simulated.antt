@@ -16,7 +16,7 @@ pub record HoldsNetlist (holds : Option Held) (v : List ℕ) (n : Netlist) : Typ
   pub netlist_given : Gives holds v netlist_text
   pub read : Reads netlist_text n
 
--- and another has these words for its memories
+-- a file is the text of a netlist, and another one has these words for its memories
 pub record IsStarted (holds : Option Held) (v image' : List ℕ) (n : Netlist) (words : List (List ℕ))
     : Type 0 where
   pub held : HoldsNetlist holds v n

@@ -14,7 +14,7 @@ words_in ws m = map (λ address. slice_index ws address % 2 ^ m.width) (range_wi
 abbrev pub image_of : List ℕ → List MemInfo → List (List ℕ)
 image_of ws ms = map (words_in ws) ms
 
--- the end line of so many cycles with these counts, and that of these cycles
+-- the end line of so many cycles with these counts
 abbrev pub line_of : ℕ → RunCounts → List ℕ
 line_of cycles n = end_line cycles n.ended n.waits n.squashes
 

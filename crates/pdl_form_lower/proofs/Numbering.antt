@@ -54,11 +54,11 @@ pub name_missing : (us : List Var) (x : List ℕ) → number_among us x ≡ None
 name_missing [] x h = refl
 name_missing (u ∷ us) x h = missing_step (bytes_eq u.name x) (is_named us x) (number_among us x) (λ e. name_missing us x e) h
 
--- a name that a variable has has a place
+-- the name of a variable of the table has a place
 pub some_place : (us : List Var) (x : List ℕ) → IsTrue (is_named us x) → number_among us x ≢ None
 some_place us x t e = let f : is_named us x ≡ false = name_missing us x e in cc
 
--- there is a number at that place
+-- the place of a name is one of those that have numbers, or none yet
 pub place_within : (us : List Var) (ns : List (Option ℕ)) (vs : List Var) (x : List ℕ) (k : ℕ) → AreNumbered us ns vs
     → number_among us x ≡ Some k → k < length ns
 place_within us ns vs x k a h = slice_get_within ns k (number_among vs x) (a.numbers x k h)
@@ -106,7 +106,7 @@ length_vars us (v ∷ vs) = ap suc (length_vars us vs)
 pub number_within : (us : List Var) (vs : List NumberedVariable) (x : List ℕ) (n : ℕ) → number_among (vars_of us vs) x ≡ Some n → n < length vs
 number_within us vs x n h = omega (arith, number_below (vars_of us vs) x n h, length_vars us vs)
 
--- the number that the table has of a name
+-- what stands at the place of a name is its number
 pub number_read : (us : List Var) (ns : List (Option ℕ)) (vs ws : List Var) (x : List ℕ) (k : ℕ) (r : Option ℕ) → AreNumbered us ns vs
     → number_among us x ≡ Some k → r ≡ get_or ns k r → vs ≡ ws → r ≡ number_among ws x
 number_read us ns vs ws x k r a h e g = e ∙ get_or_from_slice_get ns k (number_among vs x) r (a.numbers x k h) ∙ ap (λ us. number_among us x) g
@@ -130,14 +130,14 @@ none_numbered us ns vs count e long none =
 
 -- ONE NUMBER MORE
 
--- the number of a variable that has none yet
+-- a place without number gets this one
 pub number_set : (ns : List (Option ℕ)) (k n : ℕ) (d : Option ℕ) → k < length ns → is_some (get_or ns k d) ≡ false → set ns k (Some n) ≡ with_number ns k n
 number_set [] k n d h e = absurd (omega (arith, h))
 number_set (None ∷ ns) zero n d h e = refl
 number_set (Some m ∷ ns) zero n d h e = cc
 number_set (o ∷ ns) (suc k) n d h e = ap (λ os. o ∷ os) (number_set ns k n d (omega (arith, h)) e)
 
--- and of one that has one
+-- a place with a number keeps it
 pub number_kept : (ns : List (Option ℕ)) (k n : ℕ) (d : Option ℕ) → k < length ns → is_some (get_or ns k d) ≡ true → ns ≡ with_number ns k n
 number_kept [] k n d h e = absurd (omega (arith, h))
 number_kept (None ∷ ns) zero n d h e = cc
@@ -181,12 +181,12 @@ number_new : (vs : List Var) (v : Var) → number_among (vs ++ v ∷ []) v.name 
 number_new [] v = ap (λ b. if b then Some 0 else None) (bytes_refl v.name)
 number_new (u ∷ vs) v = new_step (bytes_eq u.name v.name) (number_among vs v.name) (number_among (vs ++ v ∷ []) v.name) (length vs) (number_new vs v)
 
--- and another name the number that it had
+-- with a variable more, another name has the number that it had
 number_old : (vs : List Var) (v : Var) (x : List ℕ) → bytes_eq v.name x ≡ false → number_among (vs ++ v ∷ []) x ≡ number_among vs x
 number_old [] v x h = ap (λ b. if b then Some 0 else None) h
 number_old (u ∷ vs) v x h = ap (λ o. if bytes_eq u.name x then Some 0 else option_map suc o) (number_old vs v x h)
 
--- two names have two places
+-- two different names have different places
 places_differ : (us : List Var) (x y : List ℕ) (j k : ℕ)
     → bytes_eq x y ≡ false → number_among us x ≡ Some k → number_among us y ≡ Some j → j ≢ k
 places_differ us x y j k d h i e =
@@ -215,7 +215,7 @@ numbered_known us ns vs v k h small at' =
         ∙ h.numbers x j i
         ∙ ap Some (sym (number_old vs v x e))
 
--- and with one that isn't in the table, no number is new
+-- with a variable more that isn't in the table, the numbers stay right
 numbered_unknown : (us : List Var) (ns : List (Option ℕ)) (vs : List Var) (v : Var) → AreNumbered us ns vs → v.width ≤ 64
     → number_among us v.name ≡ None → AreNumbered us ns (vs ++ v ∷ [])
 numbered_unknown us ns vs v h small at' =
@@ -253,14 +253,14 @@ more us vs ws s x w o v e h g =
     ap (vars_of us) g ∙ vars_push us vs (record { place = o; width = w })
     ∙ ap (λ n. vars_of us vs ++ record { name = n; width = w } ∷ []) (name_placed us (vars_of us vs) s x o v e h)
 
--- the variables with one more
+-- with a variable more, the variables stand for those before and it
 pub vars_more : (us : List Var) (vs ws : List NumberedVariable) (s : Scope) (x : List ℕ) (w : ℕ) (o : Option ℕ)
     → record { table = us; vars = vars_of us vs } ≡ s → o ≡ number_among us x
     → IsTrue (bytes_eq x [] || is_named s.table x) → ws ≡ vs ++ record { place = o; width = w } ∷ []
     → vars_of us ws ≡ s.vars ++ record { name = x; width = w } ∷ []
 vars_more us vs ws s x w o v e h g = more us vs ws s x w o v e h g ∙ ap (λ (z : Scope). z.vars ++ record { name = x; width = w } ∷ []) v
 
--- their numbers, where the table has the new one
+-- with a variable of the table more, the numbers are right
 pub more_known : (us : List Var) (ns os : List (Option ℕ)) (vs ws : List NumberedVariable) (s : Scope) (x : List ℕ) (w k n : ℕ) (o : Option ℕ)
     → record { table = us; vars = vars_of us vs } ≡ s → o ≡ number_among us x → IsTrue (bytes_eq x [] || is_named s.table x)
     → ws ≡ vs ++ record { place = o; width = w } ∷ [] → AreNumbered us ns (vars_of us vs) → w ≤ 64
@@ -271,7 +271,7 @@ more_known us ns os vs ws s x w k n o v e h g a small at' long i =
     (sym (i ∙ ap (with_number ns k) (long ∙ sym (length_vars us vs))))
     (numbered_known us ns (vars_of us vs) (record { name = x; width = w }) k a small (sym e ∙ at')))
 
--- and where it hasn't
+-- with a guard more, the numbers stay right
 pub more_unknown : (us : List Var) (ns : List (Option ℕ)) (vs ws : List NumberedVariable) (s : Scope) (x : List ℕ) (w : ℕ) (o : Option ℕ)
     → record { table = us; vars = vars_of us vs } ≡ s → o ≡ number_among us x → IsTrue (bytes_eq x [] || is_named s.table x)
     → ws ≡ vs ++ record { place = o; width = w } ∷ [] → AreNumbered us ns (vars_of us vs) → w ≤ 64

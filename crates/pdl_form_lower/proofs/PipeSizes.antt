@@ -98,7 +98,7 @@ lowerable_all all vs early r (e ∷ es) f = (
   lowerable_all all vs early r es (fits_rest early all e es f),
 )
 
--- the address of a location whose use isn't too early
+-- the table has the address of a location whose use isn't too early
 known_address : (all vs : List Var) (early : Use → Bool) → Ready all vs early → (at : Location) → in_location early at ≡ false → IsKnown all at.address
 known_address all vs early r at h =
     (r.stays at.address.name (r.knows at.address.name (or_parts (early (OfMemory at.mem.name)) (early (OfVariable at.address.name)) h).1)).0
@@ -156,7 +156,7 @@ more : (p : Pipe) (vs : List Var) (before : List Place) (d : Place) (v : Var) �
     → After p vs before → After p (vs ++ v ∷ []) (before ++ d ∷ [])
 more p vs before d v known h b = record { known = known; small = small_more vs v b.small h; params = λ x e. (stays_more vs (v ∷ []) x (b.params x e)).0 }
 
--- and none
+-- what is known of the variables stays so after a place that defines none
 same : (p : Pipe) (vs : List Var) (before : List Place) (d : Place) → AreKnown p vs (before ++ d ∷ [])
     → After p vs before → After p vs (before ++ d ∷ [])
 same p vs before d known b = record { known = known; small = b.small; params = b.params }

@@ -85,7 +85,7 @@ leading-last : (xs : List Stage) (x : Stage) (n : Next) → leading (length xs) 
 leading-last [] x n = refl
 leading-last (y ∷ xs) x n = ap (λ zs. y ∷ zs) (leading-last xs x n)
 
--- after stage k
+-- a stage that begins after stage k is the one to which that leads, and goes on as the rest does
 pub begun_after : (k m n : ℕ) (b : Option Branch) (xs : List Stage) (rest : Graph) → m ≡ length xs → n ≡ m → k < length xs
     → closed_stages m false (leading k (Goes m) (xs ++ record { next = Ends; branch = b; merges = None } ∷ [])) rest
     ≡ leading k (Goes n) xs ++ record { next = rest.next; branch = b; merges = None } ∷ rest.later
@@ -98,7 +98,7 @@ begun_after k m n b xs rest e f h =
     ∙ append_assoc (leading k (Goes m) xs) (record x { next = rest.next } ∷ []) rest.later
     ∙ ap (λ j. leading k (Goes j) xs ++ record { next = rest.next; branch = b; merges = None } ∷ rest.later) (sym f)
 
--- after the fork in stage k
+-- a stage that begins after the fork in stage k merges it, and goes on as the rest does
 pub begun_merge : (k m : ℕ) (b : Option Branch) (xs : List Stage) (rest : Graph) → m ≡ length xs
     → closed_stages m false (xs ++ record { next = Ends; branch = b; merges = Some k } ∷ []) rest
     ≡ xs ++ record { next = rest.next; branch = b; merges = Some k } ∷ rest.later

@@ -27,8 +27,8 @@ abbrev pub AreLowerable : List Var → List Expr → Type 0
 AreLowerable us [] = Unit {0}
 AreLowerable us (e ∷ es) = IsLowerable us e × AreLowerable us es
 
--- the table has the variables of a statement, and no literal, slice or extension in it is wider than 64 bits
 abbrev mutual
+  -- the table has the variables of a statement, and no literal, slice or extension in it is wider than 64 bits
   pub IsLowerableStmt : List Var → Stmt → Type 0
   IsLowerableStmt us (Separator _) = Unit {0}
   IsLowerableStmt us (CombRead _ x from) = IsKnown us x × IsKnown us from.address
@@ -45,7 +45,7 @@ abbrev mutual
   IsLowerableStmt us (SpecCheck _) = Unit {0}
   IsLowerableStmt us (SpecBarrier _) = Unit {0}
 
-  -- so can these statements
+  -- the same of statements
   pub AreLowerableStmts : List Var → Stmts → Type 0
   AreLowerableStmts us Nil = Unit {0}
   AreLowerableStmts us (Cons s ss) = IsLowerableStmt us s × AreLowerableStmts us ss

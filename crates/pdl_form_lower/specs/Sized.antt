@@ -2,12 +2,12 @@
 use Rattle.std.specs.Prelude.{◌≤◌, List, [], ◌∷◌, Option, Some, None}
 use Rattle.pdl_semantics.specs.Tree.{LockDecl, Mem}
 
--- a memory's words have at most 64 bits, it has at most 65,536 of them, and at most 16 writes may be pending
+-- at most 16 writes of a lock may be pending
 abbrev pub IsSizedLock : Option LockDecl → Type 0
 IsSizedLock None = Unit {0}
 IsSizedLock (Some l) = l.size.value ≤ 16
 
--- the width, the depth and the lock of a memory are in these bounds
+-- a memory's words have at most 64 bits, it has at most 65,536 of them, and its lock is in bounds
 pub record IsSizedMem (m : Mem) : Type 0 where
   pub width : m.width.value ≤ 64
   pub depth : m.depth.value ≤ 65536

@@ -124,7 +124,7 @@ module _ (p : Pipe) (rules : KeepsRules p) (before : List Place) (bs : List Bran
   single (SpecCheck sp) i e begins gs g = ((g, tt), tt)
   single (SpecBarrier sp) i e begins gs g = ((g, tt), tt)
 
-  -- WHAT STANDS BEHIND IT
+  -- WHAT STANDS AFTER IT
 
   module _ (named : is_undefined (places p) (OfVariable []) ≡ true) (mems : AreTypedMems (mems_of p.mems)) where
     -- the variables after a statement other than an `if` are still known to the rules, with allowed widths

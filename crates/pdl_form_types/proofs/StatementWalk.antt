@@ -43,7 +43,7 @@ merging_forks : (ws : List ℕ) (f : ℕ) (xs : List flat.Stage) → AreForks ws
 merging_forks ws f [] h = h
 merging_forks ws f (x ∷ xs) h = h
 
--- the forks of a graph
+-- where a graph goes and its later stages fork only on variables of 1 bit
 abbrev pub IsForked : List ℕ → Graph → Type 0
 IsForked ws g = IsFork ws g.next × AreForks ws g.later
 
@@ -74,7 +74,7 @@ module _ (p : Pipe) (w : Flatten.Position) where
 
 -- THE WALK
 
--- what comes of a statement, and of some, that stand after these places
+-- what comes of a statement that stands after these places
 pub record Walked (p : Pipe) (before : List Place) (bs : List Branch) (gs : List flat.Guard) (s : Stmt) (w : Flatten.Position) : Type 0 where
   pub after : After p (before ++ with_inner bs s) (past p.mems s w).vars
   pub typed : AreTypedStmts (form_of p) (flat_stmt p.mems gs s w)

@@ -55,7 +55,7 @@ module _ (p : Pipe) (before : List Place) (vs : List Var) where
     wide = b.wide;
   }
 
-  -- with a guard of its own
+  -- the variables stay known to the rules with a guard more, which has no name
   pub after_guard : After p before vs → After p before (vs ++ record { name = []; width = 1 } ∷ [])
   after_guard b = record {
     us = b.us;
@@ -131,7 +131,7 @@ module _ (p : Pipe) (rules : KeepsRules p) where
       let width = width_is a.width.value (rules Z7 before (Parameter a) _ e) in
       (width.0, width.1, params_wide ps (before ++ Parameter a ∷ []) later (e ∙ sym (append_assoc before (Parameter a ∷ []) (map Parameter ps ++ later))))
 
-  -- the places, cut after the parameters, after the memories, and after the statements
+  -- the places are those of the parameters, then of the memories, then of the statements, then the closing ones
   pub by_params : places p ≡ map Parameter p.params ++ (map Memory p.mems ++ (statements [] p.body ++ closing p))
   by_params =
       append_assoc (map Parameter p.params ++ map Memory p.mems) (statements [] p.body) (closing p)

@@ -51,7 +51,7 @@ number_more : (vs more : List Var) (x : List ℕ) → IsTrue (is_named vs x) →
 number_more [] more x h = absurd (false≢true h)
 number_more (v ∷ vs) more x h = same_step (bytes_eq v.name x) _ _ (λ e. number_more vs more x (rest_named _ _ h e))
 
--- the last one of some
+-- the last of some variables has a number for which there is a width, with more after it
 pub last_low : (vs more : List Var) (v : Var) → length vs < length (widths_of ((vs ++ v ∷ []) ++ more))
 last_low [] more v = let n : length (widths_of (v ∷ more)) ≡ suc (length (widths_of more)) = refl in omega arith
 last_low (u ∷ vs) more v = let h = last_low vs more v in omega arith
@@ -120,7 +120,7 @@ new_width [] v x new e = end_width (bytes_eq v.name x) v.width e
 new_width (u ∷ vs) v x new e =
     new_step (bytes_eq u.name x) (is_named vs x) u.width (var_width (vs ++ v ∷ []) x) v.width new (λ f. new_width vs v x f e)
 
--- the same one after both, of a name that neither has
+-- variables stay in a longer list with a variable more in both, of a name that neither has
 pub stays_both : (us vs : List Var) (v : Var)
     → is_named us v.name ≡ false → is_named vs v.name ≡ false → Stays us vs → Stays (us ++ v ∷ []) (vs ++ v ∷ [])
 stays_both us vs v fresh new h x e = at (is_named us x) refl

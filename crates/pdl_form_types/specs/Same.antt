@@ -4,7 +4,7 @@ use Rattle.pdl_semantics.specs.Tree.{BinaryOp, Add, Sub, Mul, And, Or, Xor, Equa
 use Rattle.pdl_semantics.specs.Flat.{Expr, Constant, Variable, Slice, Not, Binary, Cat, LessSigned, ZeroExtend, SignExtend, Choose, Op, Bind, CombRead, DelayedRead, Write, ReserveRead, ReserveWrite, Block, Release, Call, SpecCall, Verify, SpecCheck, SpecBarrier, Guard, Stmt, Lock, Plain, Queue, Bypass, Rename, Mem, Next, Ends, Goes, Forks, Branch, Stage, Pipe}
 use Rattle.pdl_form.specs.Form.{Form}
 
--- element by element
+-- whether two lists are the same, element by element
 abbrev pub same_list : {X : Type 0} → (X → X → Bool) → List X → List X → Bool
 same_list same [] [] = true
 same_list same (x ∷ xs) (y ∷ ys) = same x y && same_list same xs ys

@@ -100,7 +100,7 @@ abbrev pub AreForks : List ℕ → List Stage → Type 0
 AreForks ws [] = ⊤
 AreForks ws (x ∷ xs) = IsFork ws x.next × AreForks ws xs
 
--- the whole
+-- a flat form is typed: its variables, start, memories, statements and forks are
 pub record IsTypedForm (f : Form) : Type 0 where
   pub vars : f.pipe.vars ≡ length f.widths
   pub params : length f.pipe.start ≤ length f.widths

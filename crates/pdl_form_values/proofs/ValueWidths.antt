@@ -73,7 +73,7 @@ module _ (ws env : List ℕ) (some : AreWidths ws) (f : Fit ws env) where
       (omega arith, t.3)
   has_width (Choose c a b) t = has_width a t.1
 
-  -- and a value of that width
+  -- a typed expression has a value of its width
   pub fits : (e : Expr) → IsTyped ws e → value_of e env < 2 ^ width_in ws e
   fits (Constant w v) t = t.2
   fits (Variable x) t = f.below x

@@ -6,7 +6,7 @@ use Rattle.pdl_semantics.specs.Flat.{Expr, Constant, Variable, Slice, Not, Binar
 abbrev pub IsWidth : ℕ → Type 0
 IsWidth w = (1 ≤ w) × (w ≤ 64)
 
--- where the variables have these values
+-- in an expression every operator finds operands of its width, where the variables have these values
 abbrev pub IsSafe : Expr → List ℕ → Type 0
 IsSafe (Constant w v) env = ⊤
 IsSafe (Variable x) env = ⊤

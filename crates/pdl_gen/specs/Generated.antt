@@ -14,7 +14,7 @@ unfoldable pub number : ℕ → ℕ → ℕ
 number n zero = n
 number n (suc i) = next (number n i)
 
--- its bits 16 to 23, as a byte
+-- bits 16 to 23 of the i-th number after n, as a byte
 abbrev pub byte : ℕ → ℕ → ℕ
 byte n i = number n i / 65536 % 256
 
@@ -50,7 +50,7 @@ kind_name Queue = codes "queue"
 kind_name Bypass = codes "bypass"
 kind_name Rename = codes "rename"
 
--- so many lines `---`
+-- as many lines `---` as asked for
 abbrev pub separators : ℕ → List ℕ
 separators zero = []
 separators (suc k) = separators k ++ codes "---\n"

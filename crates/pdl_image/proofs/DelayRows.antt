@@ -26,7 +26,7 @@ row_word_below (c ∷ cs) (suc n) h = rw (two-pow-succ n) (bit_below (c == 49) (
 pub row_word_fits : (row : List ℕ) (left : ℕ) → 0 < left → length row ≤ 16 → row_word (drop left row) < 32768
 row_word_fits row left h few = row_word_below (drop left row) 15 (rw (length-drop left row) (omega (arith, h, few)))
 
--- after the last character
+-- what is left of a row after its last character has the word 0
 pub row_word_end : (row : List ℕ) → 0 ≡ row_word (drop (length row) row)
 unfolding row_word
 row_word_end row = ap row_word (sym (drop-length row))

@@ -92,7 +92,7 @@ lines_none_left : lines [] ≡ []
 unfolding lines
 lines_none_left = refl
 
--- the same, of slices as code makes them
+-- at the first line feed of a text ends its first line, and the other lines are those of the slice after it
 pub split_at : (xs : List ℕ) (i : ℕ)
     → position (λ c. eqb c 10) xs ≡ Some i → lines xs ≡ take i xs ∷ lines (take (length xs - (i + 1)) (drop (i + 1) xs))
 split_at xs i e = rw take_rest (lines_at xs i e)

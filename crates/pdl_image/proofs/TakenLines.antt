@@ -72,7 +72,7 @@ none_wrong : (mems : List MemInfo) (before : List (List ℕ)) (number : ℕ) →
 unfolding first_wrong
 none_wrong mems before number = refl
 
--- where no text is left
+-- an empty text has no lines
 pub lines_of_none : (text : List ℕ) → length text ≡ 0 → lines text ≡ []
 unfolding lines
 lines_of_none [] h = refl

@@ -80,7 +80,7 @@ broken_in before w (Some m) =
     else if is_some (given_value before w.name w.address) then Some I6
     else None
 
--- the same of a line that isn't empty and no comment: I2 asks its form, I3 that there is the memory
+-- the lowest rule that a line breaks which has to give a word: I2 asks its form, I3 that there is the memory
 abbrev pub broken_by : List MemInfo → List (List ℕ) → Option Word → Option Rule
 broken_by mems before None = Some I2
 broken_by mems before (Some w) = broken_in before w (mem_of mems w.name)
@@ -114,7 +114,7 @@ abbrev pub contents : List MemInfo → List (List ℕ) → Option FileError → 
 contents mems rest None = Ok (map (words_of rest) mems)
 contents mems rest (Some refusal) = Err refusal
 
--- the same, where I1 asks that there is the first line
+-- what the lines after the first one give, unless one breaks a rule; I1 asks that there is the first line
 abbrev pub image_after : List MemInfo → Option (List (List ℕ)) → Result (List (List ℕ)) FileError
 image_after mems None = Err (Refused I1 1)
 image_after mems (Some rest) = contents mems rest (first_wrong mems [] 2 rest)

@@ -11,7 +11,7 @@ use Rattle.pdl_image.specs.declared.file_error.FileError.{FileError}
 unfoldable pub slots_of : List (List ℕ) → MemInfo → List (Option ℕ)
 slots_of before m = map (λ address. given_value before m.name address) (range_with_len 0 m.depth)
 
--- the same of each memory
+-- the values that lines give to each memory's addresses
 unfoldable pub all_slots : List MemInfo → List (List ℕ) → List (List (Option ℕ))
 all_slots mems before = map (slots_of before) mems
 

@@ -16,7 +16,7 @@ abbrev pub RisesIn : ℕ → ℕ → List Stmt → Type 0
 RisesIn lo hi [] = lo ≤ hi
 RisesIn lo hi (x ∷ xs) = on_delayed_read (λ y m a. (lo ≤ y) × RisesIn (suc y) hi xs) (RisesIn lo hi xs) x.op
 
--- and so from a lower one
+-- variables that rise from a number on rise from a lower one on
 pub rises_from : (lo low hi : ℕ) (xs : List Stmt) → lo ≤ low → RisesIn low hi xs → RisesIn lo hi xs
 rises_from lo low hi [] l h = omega (arith, l, h)
 rises_from lo low hi (x ∷ xs) l h = at x.op h (λ i. rises_from lo low hi xs l i)
@@ -47,7 +47,7 @@ reading_has P (x ∷ xs) h m r e = at x.op h.0 e (reading_has P xs h.1 m r)
         by false g j = go j
     at _ i f go = go f
 
--- each variable is in the range
+-- each variable that a delayed read binds is in the range
 pub risen : (lo hi : ℕ) (xs : List Stmt) → RisesIn lo hi xs
     → Each (λ (x : Stmt). on_delayed_read (λ y m a. (lo ≤ y) × (y < hi)) ⊤ x.op) xs × (lo ≤ hi)
 risen lo hi [] h = (tt, h)
@@ -73,7 +73,7 @@ risen lo hi (x ∷ xs) h = at x.op h (λ low i. risen low hi xs i)
         (((l, omega (arith, k)), weaker (suc y) (omega (arith, l)) xs r.0), omega (arith, l, k))
     at _ i go = let r = go lo i in ((tt, r.0), r.1)
 
--- two that bind one variable are of one memory
+-- two delayed reads that bind one variable are of one memory
 pub reads_apart : (lo hi : ℕ) (xs : List Stmt) → RisesIn lo hi xs → (m n : ℕ) (r q : Reading)
     → reading_in m xs ≡ Some r → reading_in n xs ≡ Some q → r.var ≡ q.var → m ≡ n
 reads_apart lo hi [] h m n r q e f g = absurd (cc e)
@@ -186,7 +186,7 @@ firsts : (xs : List Stmt) → ReadOnce xs → Each (IsFirst xs) xs
 firsts [] h = tt
 firsts (x ∷ xs) h = at x.op h.0 (firsts xs h.1)
   where
-    -- behind a read of memory n
+    -- after a read of memory n, statements that read other memories delayed are still the first ones of these
     behind : (w n : ℕ) (zs : List Stmt) → Unread n zs → Each (IsFirst xs) zs
         → Each
         (λ (z : Stmt). on_delayed_read

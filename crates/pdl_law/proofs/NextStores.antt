@@ -172,7 +172,7 @@ module _ (p : Pipe) (lawful : IsLawful p) (st : machine.State) (bits : List Bool
                 get_or-set_other y.words e.address a (commit_value e.value) 0 (eqb-false a e.address g) ∙ h.same a i
                 ∙ ap (λ b. if b then commit_value e.value else st.arrays m a) (sym g)
 
-    -- its words with what it commits, and its request with what it is asked, stand for the machine's next state
+    -- a delayed memory's words with its commit, and its request with what it is asked, stand for the machine's next state
     pub store_next : IsStore (cycle p st bits) m (mem_at p m)
         (record {
           words = committed_words y.words (write_of (port_write (taken_out st (moving p st bits) m)));

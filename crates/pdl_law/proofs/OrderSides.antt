@@ -38,7 +38,7 @@ use Rattle.pdl_law.proofs.OrderSteps.{goes_first, goes_second, if_moves, order_a
 abbrev pub Agrees : State → Walk → Next → List ℕ → Type 0
 Agrees s w n env = (x : ℕ) → forks_by n x ≡ true → slice_index env x ≡ (w.vars x).value s
 
--- a choice by a fork's variable
+-- a choice by a fork's variable has the value of the arm that the thread's value takes
 pub fork_at : (s : State) (w : Walk) (x a b : ℕ) (env : List ℕ) → Agrees s w (Forks x a b) env → (f g : Signal)
     → (mux_signal (w.vars x) f g).value s ≡ (if slice_index env x == 1 then f.value s else g.value s)
 fork_at s w x a b env h f g = mux_by s (w.vars x) f g ∙ ap (λ n. if n == 1 then f.value s else g.value s) (sym (h x (eq-eqb x x refl)))

@@ -85,7 +85,7 @@ pick_not test value names n m (x ∷ xs) i rest e a l h =
         ap (λ c. if c then value m else pick test value names (suc m) xs (names i) rest)
         (a m i (omega (arith, e)) l (λ z. false≢true (sym (h 0 (omega (arith, z))) ∙ f)))
 
--- whether a memory commits, where, and what
+-- the port `c_` of a name shows whether the first memory with a lock and this name commits
 pub commit_flag : (s : State) (names : ℕ → List ℕ) (commits : ℕ → Commit) (m : ℕ) (xs : List Mem) (y : List ℕ) (rest : List Shown)
     → look s (commits_shown names commits m xs ++ rest) (codes "c_" ++ y)
     ≡ pick (λ (x : Mem). has_lock x.lock) (λ i. (commits i).enable.value s) names m xs y (look s rest (codes "c_" ++ y))
@@ -139,7 +139,7 @@ commit_word s names commits m (x ∷ xs) y rest = at (has_lock x.lock) (commit_w
     at false go = go
     at true go = ap (λ n. if bytes_eq (names m) y then (commits m).value.value s else n) go
 
--- whether a memory is asked, and where
+-- the port `q_` of a name shows whether the first delayed memory of this name is asked
 pub request_flag : (s : State) (names : ℕ → List ℕ) (asks : ℕ → Request) (m : ℕ) (xs : List Mem) (y : List ℕ) (rest : List Shown)
     → look s (requests_shown names asks m xs ++ rest) (codes "q_" ++ y)
     ≡ pick (λ (x : Mem). x.delayed) (λ i. (asks i).enable.value s) names m xs y (look s rest (codes "q_" ++ y))

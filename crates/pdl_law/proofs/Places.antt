@@ -98,7 +98,7 @@ named_count names m (x ∷ xs) = at x.delayed refl (named_count names (suc m) xs
     at true f h = ap suc h ∙ sym (count_yes is_delayed x xs f)
     at false f h = h ∙ sym (count_no is_delayed x xs f)
 
--- it has as many delayed memories as the pipe
+-- the netlist has as many delayed memories as the pipe
 pub delayed_as_many : (p : Pipe) (names : ℕ → List ℕ) (ls : Locks) (n : Netlist) → HasWholeMems p names ls n
     → length (delayed_mems n) ≡ delayed_count p
 delayed_as_many p names ls n mems = sym (length-map (delayed_mems n) (λ (i : MemInfo). i.name)) ∙ ap length mems.named ∙ named_count names 0 p.mems

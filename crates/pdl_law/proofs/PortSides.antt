@@ -35,7 +35,7 @@ pub record PortStands (p : Pipe) (sides : Sides) (s : State) (st : MachineState)
   pub stands : (sides.port m).stands s state
   pub same : SamePort p st m r state
 
--- and each gets the machine's reply
+-- each port gets the machine's reply
 abbrev pub IsGiven : Pipe → Sides → State → MachineState → List Bool → Type 0
 IsGiven p sides s st bits =
     (m : ℕ) (r : Reading) → reading p m ≡ Some r → Replies (sides.port m).reply (sides.port m).word s (reply_bit p st bits m) (word_asked st m)

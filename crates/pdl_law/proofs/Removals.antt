@@ -131,7 +131,7 @@ module _ (p : Pipe) (sound : Sound p) (c : Circuit) (vs : ℕ → View) (gates :
           side false f = one_is s ∙ all d.barrier (none_up_to (Some v) (later_acts p st bits k)) (clear_high p sound st bits flight v e k (ltb-false k v f))
 
   module _ (seen : (j : ℕ) → j < length p.stages → IsSeen p vs moves s st bits j) where
-    -- whether there is a squash
+    -- the signal of a squash tells whether the machine has one
     pub squash_is : gates.squash.value s ≡ bit (is_some (squasher (moving p st bits)))
     squash_is = at (verify_stage p.stmts) refl
       where
@@ -185,7 +185,7 @@ module _ (p : Pipe) (sound : Sound p) (c : Circuit) (vs : ℕ → View) (gates :
                 ∙ zero_is s
                 ∙ spared (slot st k) refl (λ t g. kept_high p sound st bits flight v e k t (ltb-false k v f) g)
 
-    -- and of a thread with this cycle's answers
+    -- the kill of a stage tells whether the squash removes the thread that stands there with this cycle's answers
     pub kill_here : (k : ℕ) (t : Thread) → k < length p.stages → here p st bits k ≡ Some t
         → (gates.kill k).value s ≡ bit (not (is_kept (squasher (moving p st bits)) t.number))
     kill_here k t l h =

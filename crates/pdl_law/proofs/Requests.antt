@@ -94,7 +94,7 @@ left_address sq (Owned n a) = at (is_kept sq n)
     at true = refl
     at false = refl
 
--- after a cycle of these movers
+-- after a cycle of these movers the outstanding address is the one that they ask, else the old one
 pub address_next : (m : ℕ) (sq : Option ℕ) (ms : List Act) (old : machine.Request)
     → address_asked (request_left sq (asked_by m ms old)) ≡ or_old (asked_in ms m) (address_asked old)
 address_next m sq ms old = left_address sq (asked_by m ms old) ∙ asked_all m ms old
@@ -206,6 +206,6 @@ module _ (p : Pipe) (reads : Reads p) (st : MachineState) (bits : List Bool) (m 
               address_value s m (moves r.stage) true ((seen r.stage low).leaves ∙ ap bit f.2) (vs r.stage).ended.asks ∙ ap address_or (sym mine),
             )
 
-    -- its signals show whether the machine asks the memory, and at which address, 0 where it doesn't
+    -- the signals of a memory's request show whether the machine asks it, and at which address, 0 where it doesn't
     pub request_shown : (ask.enable.value s ≡ bit (is_some (asked_in (moving p st bits) m))) × (ask.addr.value s ≡ address_or (asked_in (moving p st bits) m))
     request_shown = let x = shown (reading p m) refl in (outside.enable s suits ∙ x.0, outside.addr s suits ∙ x.1)

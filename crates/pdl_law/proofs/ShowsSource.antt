@@ -77,7 +77,7 @@ module _ (p : tree.Pipe) (rules : KeepsRules p) (source : is_source p ≡ true) 
   pub lawful : IsLawful (flat p)
   lawful = lawful_source p rules source named
 
-  -- the names of its memories differ
+  -- the names of the pipe's memories differ
   pub apart : Apart (mem_names p.mems) (length (flat p).mems)
   apart = subst (Apart (mem_names p.mems)) (sym (same_count p.mems)) (names_apart p.mems (distinct p rules p.mems (map Parameter p.params) (all_after p)))
 

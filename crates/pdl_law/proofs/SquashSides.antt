@@ -55,7 +55,7 @@ module _ (p : Pipe) (sound : Sound p) (leads : LeadsOn p) (ls : Locks) (c : Circ
       none_some : None ≡ Some t → ⊥
       none_some i = cc i
 
-  -- what the squash does
+  -- squash, removals and cuts are as the machine's
   pub squashed_is : IsSquashed p ls vs gates s st bits
   squashed_is = record {
     kill =

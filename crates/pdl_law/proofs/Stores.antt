@@ -118,7 +118,7 @@ inputs_read st m (x ∷ xs) ys b h i l d = at x.delayed refl ys h i l d (λ zs k
               ∙ pair_after y.words y.request (reply b) (answers ys (b / 2)) (2 * j + 1) ∙ rest.word k;
         }))
 
--- their widths
+-- the widths of the inputs of the delayed memories
 abbrev pub input_widths : List Mem → List ℕ
 input_widths [] = []
 input_widths (x ∷ xs) = (if x.delayed then 1 ∷ x.width ∷ [] else []) ++ input_widths xs
@@ -154,7 +154,7 @@ pair_bound x st m y h b rest ws f l = at y.request b
         each (suc zero) k = some x.width
         each (suc (suc i)) k = f i (omega (arith, k))
 
--- and they fit
+-- what the delayed memories answer has the widths of their inputs
 pub inputs_fit : (st : State) (m : ℕ) (xs : List Mem) (ys : List Store) (b : ℕ) → AreStores st m xs ys
     → (length (answers ys b) ≡ length (input_widths xs))
     × ((i : ℕ) → i < length (input_widths xs) → slice_index (answers ys b) i < 2 ^ slice_index (input_widths xs) i)

@@ -147,7 +147,7 @@ module _ (p : Pipe) (sound : Sound p) (leads : LeadsOn p) (ls : Locks) (c : Circ
         → stand.base + released + count_older (suc t.number) (list_three st (moving p st bits) m) ≡ stand.base + count_older (suc t.number) pending
     shifts k t e high = let h = cut.shifts k t m v e is high in omega (arith, h)
 
-    -- that of V's thread is where its squash cuts the lock
+    -- the tail of V's thread is where its squash cuts the lock
     pub tail_is : (n : ℕ) → squasher (moving p st bits) ≡ Some n
         → holds_ticket (ls.bits m) (gates.tail m) s (stand.base + released + count_older (suc n) (list_three st (moving p st bits) m))
     tail_is n e =

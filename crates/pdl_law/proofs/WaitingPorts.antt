@@ -98,7 +98,7 @@ module _ (p : Pipe) (reads : Reads p) (leads : LeadsOn p) (st : State) (bits : L
   pub owned_by : (number a i : ℕ) → request_of st m ≡ Owned number a → x ≡ port.Owned i → StandsAt p st r number i
   owned_by number a i e f = subst (λ q. SameRequest p st r (Owned number a) q) f (subst (λ q. SameRequest p st r q x) e same)
 
-  -- and so the request of a place's owner
+  -- where a place owns the port, the thread that stands there owns the machine's request
   pub owner_of : (i : ℕ) → x ≡ port.Owned i → (number : ℕ) × (a : ℕ) × (request_of st m ≡ Owned number a) × StandsAt p st r number i
   owner_of i f = at (request_of st m) refl (subst (λ q. SameRequest p st r (request_of st m) q) f same)
     where
@@ -203,7 +203,7 @@ module _ (p : Pipe) (reads : Reads p) (leads : LeadsOn p) (st : State) (bits : L
         some_is z = cc z
     with_var (q ∷ rs) h (inr e) = inr (with_var rs h.1 e)
 
-    -- an answer that comes now
+    -- where the answer that a thread awaits comes now, its variable has the word that was asked for
     pub comes_now : Awaits u m → is_answered p bits m ≡ true → slice_index (with_kept (with_answers p st bits u).kept u.env) r.var ≡ word_asked st m
     comes_now w a =
         let each = flight.awaited k u f in
@@ -219,7 +219,7 @@ module _ (p : Pipe) (reads : Reads p) (leads : LeadsOn p) (st : State) (bits : L
         at false h j = absurd (cc j)
         at true h j = let z = owner_here k i u e f (owns_is x i h) in comes_now z.0 (sym (owned_reply z.1.0 z.1.1 z.1.2) ∙ j)
 
-  -- and it gives what comes
+  -- where a reply comes to a thread that awaits the memory, the port gives it at the place of its stage
   pub given_comes : (k : ℕ) (u : Thread) → slot st k ≡ Some u → Awaits u m → is_answered p bits m ≡ true
       → (i : ℕ) × (i < length (places p r)) × (place_at p r i ≡ k) × (port.is_given x (reply_bit p st bits m) i ≡ true)
   given_comes k u f w a =

@@ -97,16 +97,16 @@ module _ (p : Pipe) (lawful : IsLawful p) (ls : Locks) (vs : ℕ → View) (gate
         (λ g. merges_is p lawful.sound c vs gates moves sides beside.order_owns beside.orders s st whole.orders k w d l
         (λ x i. so.env x (lives_fork p k x l i))))))
 
-    -- so each stage is as the machine's
+    -- each stage is as the machine's
     pub seen_whole : (j : ℕ) → j < length p.stages → IsSeen p vs moves s st bits j
     seen_whole = all_seen p ls vs gates moves c laid lawful.at_once lawful.leads s st bits suits whole.stands known.used known.by answers tells
 
-    -- and squashes are
+    -- the squash is as the machine's
     pub squashed_whole : IsSquashed p ls vs gates s st bits
     squashed_whole =
         squashed_is p lawful.sound lawful.leads ls c vs gates moves laid sides beside s st bits suits known.flight known.by known.used known.cut seen_whole whole.tails
 
-    -- and the next state stands for the machine's
+    -- the next state of the circuit stands for the machine's next state
     pub whole_next : (t : State) → Suits c t → t.regs ≡ next_regs c s → t.arrays ≡ next_arrays c s → WholeStands p ls vs sides t (cycle p st bits)
     whole_next t suits' regs arrays = record {
       stands =

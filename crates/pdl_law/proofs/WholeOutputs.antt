@@ -202,7 +202,7 @@ module _ (p : Pipe) (names : ℕ → List ℕ) (apart : Apart names (length p.me
         (λ i. (made.laid.commits i).enable.value s) names (length p.mems) 0 p.mems m 0 (omega arith) apart l
         (λ j f. ap (λ i. has_lock (slice_index_or p.mems i plain_mem).lock) (let z : j ≡ m = omega (arith, f) in z) ∙ e))
 
-    -- and what it is asked
+    -- the request that is found by a delayed memory's name is what the machine asks it
     pub request_named : (m : ℕ) → m < length p.mems → (mem_at p m).delayed ≡ true → request_of c (output_values c s) (names m) ≡ asked_in (moving p st bits) m
     request_named m l d =
         let value : (g : Request → Signal)

@@ -86,8 +86,9 @@ module _ (p : Pipe) (names : ℕ → List ℕ) (apart : Apart names (length p.me
       ap (λ j. is_answered p (replies_of (delayed_count p) b) j) (let z : 0 + i ≡ i = omega arith in z)
       ∙ ap₂ (λ k j. slice_index_or (replies_of k b) j false) (sym (counted p.mems)) (sym (counted (take i p.mems)))
 
-  -- what a netlist holds that stands for a state to which the machine comes from this image, whatever is replied next
+  -- what holds of a netlist and of the machine on the way from this image
   module _ (image : Arrays) where
+    -- what the netlist holds stands for a state to which the machine comes from this image, whatever is replied next
     pub record IsStanding (h : Held) (st : machine.State) : Type 0 where
       pub before : List (List Bool)
       pub reached : st ≡ state_after p (first p image) before
@@ -103,7 +104,7 @@ module _ (p : Pipe) (names : ℕ → List ℕ) (apart : Apart names (length p.me
       abbrev bits : List Bool
       bits = replies_of (delayed_count p) b
 
-      -- what is known of this cycle, and how its stages and squashes are seen
+      -- the state of this cycle suits the circuit
       pub suits : Suits (circuit_of n) (state_in h b)
       suits =
           let f = inputs_fit st 0 p.mems h.stores b x.stores in
@@ -169,7 +170,7 @@ module _ (p : Pipe) (names : ℕ → List ℕ) (apart : Apart names (length p.me
               at None e = e
               at (Some r) e = absurd (cc (sym d ∙ (lawful.reads.known i r e).1))
 
-      -- and its ports are the machine's
+      -- the ports of the netlist show in the cycle what the machine's do
       pub shows_here : seen_of (net_run.shown_ports n h b)
           ≡ whole_had p
           (record { ports = stated.ports p st (all_acts p st (replies_of (delayed_count p) b)); wait = is_wait p st (replies_of (delayed_count p) b) })

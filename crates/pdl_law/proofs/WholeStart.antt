@@ -277,6 +277,6 @@ module _ (n : Netlist) (formed : IsWellFormed n) (image : List (List ℕ)) (is_i
             (subst (λ w. slice_index (slice_index_or image (length (delayed_mems n) + m) []) k < 2 ^ w) (sym ((held_at m l).width)) f));
       }
 
-  -- the start's registers and arrays fit
+  -- the registers and arrays that the netlist holds at the start fit
   pub holds_whole : Holds (circuit_of n) (net_run.start n image).regs (net_run.start n image).arrays
   holds_whole = holds_start n others (net_run.start n image).regs (net_run.start n image).arrays formed.well fits refl refl

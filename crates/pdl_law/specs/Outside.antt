@@ -24,7 +24,7 @@ StoreThen rest false st m x ys = rest ys
 StoreThen rest true st m x [] = ⊥
 StoreThen rest true st m x (y ∷ ys) = IsStore st m x y × rest ys
 
--- of each delayed memory, of which the first memory has the number m
+-- the stores are those of the delayed memories among these, of which the first has the number m
 abbrev pub AreStores : State → ℕ → List Mem → List Store → Type 0
 AreStores st m [] [] = ⊤
 AreStores st m [] (y ∷ ys) = ⊥

@@ -42,7 +42,7 @@ some_among test (x ∷ xs) m a t = at (test x) refl a (λ i. some_among test xs 
     at false e (inl s) rest = absurd (let y = subst (λ (y : Mem). test y ≡ false) s e in cc (y, t))
     at false e (inr i) rest = rest i
 
--- none of them has a name that none has
+-- a name that no memory has, none that passes the test has
 pub none_named : (test : Mem → Bool) (ms : List Mem) (x : List ℕ) → is_memory ms x ≡ false → is_memory (filter test ms) x ≡ false
 none_named test [] x e = refl
 none_named test (m ∷ ms) x e = at (test m) (none_named test ms x (or_parts _ (is_memory ms x) e).1)
@@ -60,7 +60,7 @@ distinct_some test (m ∷ ms) h = at (test m) (distinct_some test ms h.1)
     at true d = (none_named test ms m.name.name h.0, d)
     at false d = d
 
--- each memory is among one of both
+-- a memory that answers at once is not delayed
 pub comb_delayed : (m : Mem) → is_comb m ≡ true → m.delayed ≡ false
 comb_delayed m e = at m.delayed e
   where
@@ -123,6 +123,7 @@ comb_at (x ∷ xs) k l = at x.delayed refl k l (comb_at xs)
 
 -- memories of two forms that pass a test
 module _ (test : Mem → Bool) (other : flat.Mem → Bool) (same : (m : Mem) → other (flat_mem m) ≡ test m) where
+  -- as many memories pass the test in one form as in the other
   pub some_count : (ms : List Mem) → length (filter test ms) ≡ count_by other (mems_of ms)
   some_count [] = refl
   some_count (m ∷ ms) = at (test m) refl (some_count ms)
@@ -184,7 +185,7 @@ none_told (m ∷ ms) = at m.delayed refl (none_told ms)
     at true e h = h
     at false e h = ap (λ b. if b then info_of m ∷ filter told_delayed (map info_of (comb_of ms)) else filter told_delayed (map info_of (comb_of ms))) e ∙ h
 
--- the names of the delayed ones
+-- the names of the delayed memories are those that they are told with
 pub names_told : (names : ℕ → List ℕ) (k : ℕ) (ms : List Mem)
     → ((i : ℕ) → i < length ms → names (k + i) ≡ mem_names ms i)
     → map (λ (i : MemInfo). i.name) (map info_of (delayed_of ms)) ≡ names_delayed names k (mems_of ms)

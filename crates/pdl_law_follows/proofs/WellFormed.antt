@@ -56,7 +56,7 @@ module _ (p : Pipe) (ms : List Mem) (declared : AreDeclared ms) (same : p.mems â
   size : (m : Mem) â†’ Among m ms â†’ IsAddressed m
   size m h = addressed m (reach m h) (sized_among ms declared.sized m h)
 
-  -- its ports are those of a pipe with these stages, delayed memories and locked memories
+  -- the ports of the netlist are those of a pipe with these stages, delayed memories and locked memories
   pub ports : map head_of n.ports â‰¡ pipe_ports (length p.stages) (map port_mem (delayed_of ms)) (locked_of ms)
   ports =
       ap (map head_of) made.ports
@@ -124,7 +124,7 @@ module _ (p : Pipe) (ms : List Mem) (declared : AreDeclared ms) (same : p.mems â
         omega (arith, few, all, delayed, comb, both);
   }
 
-  -- it breaks none of the rules of netlists
+  -- the netlist breaks none of the rules of netlists
   pub well_formed : IsWellFormed n
   well_formed = record {
     well = well;

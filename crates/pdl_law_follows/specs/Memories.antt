@@ -12,7 +12,7 @@ use Rattle.pdl_law_sides.specs.WholeNetlist.{in_order, replies_of}
 abbrev pub is_delayed : Mem → Bool
 is_delayed m = m.delayed
 
--- the memories in the environment, and those with an array
+-- the delayed memories, which stand in the environment
 abbrev pub delayed_of : List Mem → List Mem
 delayed_of ms = filter is_delayed ms
 

@@ -30,7 +30,7 @@ abbrev pub commits_in : ℕ → List Cycle → List Commit
 commits_in m [] = []
 commits_in m (c ∷ cs) = writes_to m (slice_index_or c.puts m []) ++ commits_in m cs
 
--- in how many of them a thread ended, and how many left a request unanswered
+-- in how many cycles a thread ended
 abbrev pub ended_in : List Cycle → ℕ
 ended_in cs = count_by (λ c. c.ended) cs
 
@@ -49,7 +49,7 @@ pub record AreSequential (p : Pipe) (image : Arrays) (schedule : List (List Bool
   pub unlocked : (m : ℕ) → (mem_at p m).lock ≡ Plain → commits_in m cs ≡ []
   pub end : (m : ℕ) → row (state_after p (first p image) schedule).arrays m ≡ wrote (row image m) (commits_in m cs)
 
--- from each image, with each schedule of replies
+-- from each image, with each schedule of replies, the memories receive the sequential writes
 abbrev pub RefinesThreads : tree.Pipe → Netlist → Type 0
 RefinesThreads p n =
     (image : List (List ℕ)) (schedule : List ℕ) → IsImage n.mems image
@@ -69,7 +69,7 @@ MovesOldest p n =
     (image : List (List ℕ)) (schedule : List ℕ) (bits : ℕ) → IsImage n.mems image → waits_after n image schedule bits ≡ false
     → IsTrue (it_moves (oldest_act (all_acts (flat p) (machine_after (flat p) image schedule) (replies_of (delayed_count (flat p)) bits))))
 
--- and so in each run as many threads end as its cycles that are no waits, divided by the depth
+-- in each run at least as many threads end as its cycles that are no waits, divided by the depth
 abbrev pub EndsThreads : tree.Pipe → Netlist → Type 0
 EndsThreads p n =
     (image : List (List ℕ)) (schedule : List ℕ) → IsImage n.mems image

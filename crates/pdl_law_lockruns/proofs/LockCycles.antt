@@ -27,6 +27,7 @@ use Rattle.pdl_pipe_walk.specs.Locked.{Members, some_at, of_lock, locks_in}
 use Rattle.pdl_law_lockruns.specs.Used.{IsUsedAs, IsUsedLock, IsUsed}
 use Rattle.pdl_law_lockruns.proofs.LockRuns.{used_made}
 
+-- the lock of a memory, used where it is known by the memory's number, is used as a lock of its lock module
 pub used_lock : {T : Type 0} (l : Members T) (p : Pipe) (c : Circuit) (xs : List (Option (MemLock T))) (vs : ℕ → View)
     (gates : Gates) (moves : ℕ → Signal) (m : ℕ) (y : MemLock T) (s : State) (st : machine.State) (replies : List Bool)
     → some_at xs m ≡ Some y → IsUsedLock p (locks_in l p c xs) vs gates moves s st replies m

@@ -69,6 +69,7 @@ module _ (p : Pipe) (ls : Locks) (vs : ℕ → View) (gates : Gates) (moves : �
       (λ n e. (ap (tail_with p ls vs moves s st bits known.by known.used seen (stood p st bits) m locked stand gates squashed) e, known.cut.cuts m n e))
       ∙ ap forgotten_entries (sym (known.by.locks m (lock_there p m locked)))
 
+  -- the lock of a memory that declares its kind and size is used in this cycle as the machine's threads use it
   pub used_here : (mem_at p m).lock ≡ as_lock (ls.kind m) (ls.size m) → IsUsedLock p ls vs gates moves s st bits m
   used_here kind = record {
     base = stand.base;
@@ -175,7 +176,7 @@ module _ (p : tree.Pipe) (rules : KeepsRules p) (source : is_source p ≡ true) 
         stands_from whole image schedule (start n image) (first (flat p) (arrays_of (in_order (flat p) image)))
         (stands_source p rules source named ls vs gates moves sides n whole image is_image)
 
-    -- from each image, after each schedule, whatever is replied next
+    -- from each image, after each schedule, whatever is replied next, a memory's lock is used as the machine's threads use it
     pub used_made : (image : List (List ℕ)) (schedule : List ℕ) (bits m : ℕ) → IsImage n.mems image → is_locked (flat p) m ≡ true
         → IsUsedLock (flat p) ls vs gates moves (state_in (held_after n (start n image) schedule) bits)
         (machine_after (flat p) image schedule) (replies_of (delayed_count (flat p)) bits) m

@@ -90,14 +90,14 @@ verifies_down p j q h e =
     any_more (λ (r : Stmt). nat_le q r.stage && is_verify r.op)
     (λ (r : Stmt). nat_le j r.stage && is_verify r.op) p.stmts (λ r i. lower j q r.stage (is_verify r.op) h i) e
 
--- one of the values of signals
+-- the i-th of the values of signals is the value of the i-th signal
 pub signal_at : (s : State) (fs : List Signal) (i : ℕ)
     → i < length fs → slice_index (values_at s fs) i ≡ (slice_index_or fs i no_signal).value s
 signal_at s [] i l = absurd (omega (arith, l))
 signal_at s (f ∷ fs) zero l = refl
 signal_at s (f ∷ fs) (suc i) l = signal_at s fs i (omega (arith, l))
 
--- and all
+-- values that are those of the signals one by one are the values of these signals
 pub signals_are : (s : State) (fs : List Signal) (vals : List ℕ)
     → length vals ≡ length fs → ((i : ℕ) → i < length fs → slice_index vals i ≡ (slice_index_or fs i no_signal).value s)
     → vals ≡ values_at s fs

@@ -28,7 +28,7 @@ pub becomes_reg : (c : Circuit) (w r : ℕ) (f : Signal) → HasReg c r → next
 unfolding reg_value
 becomes_reg c w r f h e s t suits regs = ap (λ l. slice_index l r) regs ∙ next_reg c s r h ∙ ap (λ (g : Signal). g.value s) e
 
--- and starts as its reset value
+-- a register starts as its reset value
 pub starts_reg : (c : Circuit) (w r : ℕ) → HasReg c r → StartsAs c (reg_signal w r) (reg_reset c r)
 unfolding HasReg reg_reset reg_value
 starts_reg c w r h s regs = ap (λ l. slice_index l r) regs ∙ get_or-map (λ (g : Reg). g.reset) c.regs r no_reg 0 h
@@ -96,7 +96,7 @@ pub block_one : (ls : Locks) (m : ℕ) (addr ticket f held : Signal) (value : Op
 block_one ls m addr ticket f held value u s law e x t stands covered holds =
     law.answers s x t stands covered holds ∙ ap (λ b. bit (look_ready (ls.kind m) (look_of b) x t (addr.value s))) (sym e)
 
--- and one whose kind depends on the path two
+-- a block whose kind depends on the path takes two looks
 pub block_two : (ls : Locks) (m : ℕ) (addr ticket f g held : Signal) (v u : Option Signal) (s : State)
     → LookLaw (ls.stands m) (ls.kind m) (ls.bits m) look_kind.W addr ticket f v
     → LookLaw (ls.stands m) (ls.kind m) (ls.bits m) look_kind.R addr ticket g u
@@ -117,7 +117,7 @@ word_locked p ls m addr ticket ready f s e law deep fits = record {
   locked = λ g x t stands covered holds looked. law.gives f refl s x t stands covered holds fits looked;
 }
 
--- and of a memory without lock its array gives it
+-- a read of a memory without lock gives the word of its array
 pub word_plain : (p : Pipe) (ls : Locks) (m : ℕ) (addr ticket f : Signal) (s : State)
     → is_locked p m ≡ false → f.value s ≡ slice_index (slice_index_or s.arrays (ls.array m) []) (addr.value s)
     → 2 ^ addr.width ≡ (mem_at p m).depth → FitsIn addr s → IsWord p ls m addr ticket f s

@@ -49,7 +49,7 @@ other_port : (infos : List MemInfo) (port : List ℕ)
 other_port [] port h = refl
 other_port (m ∷ ms) port h = ap (λ b. if b then Some m else commit_mem ms port) (h m.name) ∙ other_port ms port h
 
--- those among these names
+-- the memories whose commit port has one of these names
 abbrev pub with_port : List MemInfo → List (List ℕ) → List MemInfo
 with_port infos names = filter_map (commit_mem infos) names
 

@@ -20,7 +20,7 @@ pub bit_one : (b : Bool) → (bit b == 1) ≡ b
 bit_one true = refl
 bit_one false = refl
 
--- of a list that ends in two numbers the last but one, and the last
+-- a list that ends in two numbers has them as the last but one and the last
 pub last_two : (xs : List ℕ) (a b n : ℕ)
     → length (xs ++ a ∷ b ∷ []) ≡ n
     → (slice_index (xs ++ a ∷ b ∷ []) (n - 2) ≡ a) × (slice_index (xs ++ a ∷ b ∷ []) (n - 1) ≡ b)

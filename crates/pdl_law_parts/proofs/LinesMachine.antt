@@ -36,7 +36,7 @@ commits_from f k (m ∷ ms) h = (
   commits_from f (suc k) ms (λ i e. let next : suc k + i ≡ k + suc i = omega arith in ap f next ∙ h (suc i) e),
 )
 
--- a cycle has such ports
+-- the ports of a cycle are as many as stages, and a memory without lock commits nothing
 pub shaped : (q : Flat.Pipe) (st : State) (bits : List Bool) → IsByStages q st bits → IsInUse q st bits → IsShaped q (ports_of q st bits)
 shaped q st bits by used = record {
   valid = stages_long _ 0 q.stages;

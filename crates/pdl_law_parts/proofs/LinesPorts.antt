@@ -169,7 +169,7 @@ found_first m ms e es d h =
     ap (λ t. if t && is_some m.lock then e else found ms es m.name.name) (bytes_refl m.name.name)
     ∙ found_if m.lock e (found ms es m.name.name) h (found_none ms es m.name.name d)
 
--- and memory by memory
+-- what is found by the names of memories, which differ, is what they commit, memory by memory
 pub each_found : (f : List ℕ → Option PortWrite) (ms : List Mem) (es : List (Option PortWrite)) → AreDistinct ms
     → AreCommits (mems_of ms) es → ((m : Mem) → Among m ms → f m.name.name ≡ found ms es m.name.name)
     → map (λ (i : MemInfo). put_of (f i.name)) (map info_of ms) ≡ puts_in es

@@ -40,7 +40,7 @@ module _ (p : Pipe) (ls : Locks) (vs : ℕ → View) (moves : ℕ → Signal) (s
     (bits : List Bool) (by : IsByStages p st bits) (used : IsInUse p st bits)
     (seen : (j : ℕ) → j < length p.stages → IsSeen p vs moves s st bits j)
     (stood : (k : ℕ) (t : Thread) → here p st bits k ≡ Some t → Stood st k t) (m : ℕ) where
-  -- what a thread that moves does
+  -- a stage's signals tell what its thread does, where that moves
   pub so_at : (k : ℕ) (t : Thread) → k < length p.stages → here p st bits k ≡ Some t → stage_moves p st bits k ≡ true → IsSo p k s (vs k).ended (deeds p st k t)
   so_at k t l h g = ((seen k l).follows t h).so (ready_of p st bits k t by l h g)
 
@@ -349,7 +349,7 @@ module _ (p : Pipe) (ls : Locks) (vs : ℕ → View) (moves : ℕ → Signal) (s
         let few = ticket_covered (suc n) (list_three st (moving p st bits) m) in
         omega (arith, two, three, few)
 
-    -- this act is proper use of the lock, where the memory declares this kind and size
+    -- what the cycle does to the lock is proper use, where the memory declares its kind and size
     pub proper : (mem_at p m).lock ≡ as_lock (ls.kind m) (ls.size m) → Proper (ls.size m) before act_of
     proper kind =
         let es = machine.lock_of st m in

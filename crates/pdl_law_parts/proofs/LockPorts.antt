@@ -110,7 +110,7 @@ fitting_stage s m moves g e (r ∷ rs) h = at (fitting_stage s m moves g e rs (�
     at i true = (made, i)
     at i false = i
 
--- whether a stage lets go
+-- whether a stage releases the memory, else what the rest tells
 pub lets_stage : (s : State) (m : ℕ) (moves : Signal) (g : Bool)
     → moves.value s ≡ bit g → (ls : List Letting) (rest : Signal) (b : Bool) → rest.value s ≡ bit b
     → (release_moves m moves ls rest).value s ≡ bit ((g && list_any (λ n. n == m) (let_in s ls)) || b)

@@ -110,7 +110,7 @@ abbrev pub writes_to : ℕ → List Written → Bool
 writes_to m [] = false
 writes_to m (x ∷ xs) = if x.mem == m then true else writes_to m xs
 
--- a write among others
+-- where one of a thread's writes is to the memory, it is among them with some value
 pub write_among : (m : ℕ) (xs : List Written) → writes_to m xs ≡ true → (v : ℕ) × Contains xs (record { mem = m; value = v })
 write_among m [] w = absurd (false≢true w)
 write_among m (x ∷ xs) w = at (λ g. write_among m xs g) (x.mem == m) refl w

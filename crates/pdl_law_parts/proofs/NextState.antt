@@ -399,7 +399,7 @@ module _ (p : Pipe) (ls : Locks) (vs : ℕ → View) (gates : Gates) (moves : �
         ∙ stands.words m e comb a low
         ∙ sym (ap (λ ws. slice_index ws a) (kept ∙ ap (λ ws. after_writes s ws (slice_index_or s.arrays (ls.array m) [])) (made.unwritten m l e comb)))
 
-    -- so the state after the cycle stands for the machine's next state
+    -- the state after the cycle stands for the machine's next state
     pub stands_after : StandsFor p ls vs t next
     stands_after = record {
       valid = valid_next;

@@ -53,8 +53,9 @@ module _ (p : Pipe) (vs : ℕ → View) (moves : ℕ → Signal) (s : State) (st
       ap₂ (λ a l. a ∷ l) (seen k (omega (arith, e))).valid
       (ap₂ (λ a l. a ∷ l) (seen k (omega (arith, e))).leaves (stages_are n (suc k) xs (omega (arith, e)) (omega (arith, f))))
 
--- of each memory with a lock
+-- what memories with locks commit
 module _ (names : ℕ → List ℕ) (s : State) (st : machine.State) where
+  -- the values of the signals of a memory's commit: whether there is one, its address and its value
   abbrev pub commit_words : Commit → List ℕ
   commit_words x = x.enable.value s ∷ x.addr.value s ∷ x.value.value s ∷ []
 
@@ -89,7 +90,7 @@ module _ (names : ℕ → List ℕ) (s : State) (st : machine.State) where
       later i e = let z : m + suc i ≡ suc m + i = omega arith in
           subst (λ j. commit_words (commits j) ≡ commit_values (slice_index_or xs i plain_mem).lock (port_write (taken_out st ms j))) z e
 
--- what a lock commits
+-- the signals of a lock's commit have the values of what the machine commits
 pub commit_laid : (p : Pipe) (names : ℕ → List ℕ) (ls : Locks) (vs : ℕ → View) (gates : Gates) (moves : ℕ → Signal)
     (c : Circuit) (laid : IsLaid p ls vs gates moves c) (s : State) (st : machine.State) (bits : List Bool)
     → StandsFor p ls vs s st → IsInUse p st bits → IsByStages p st bits

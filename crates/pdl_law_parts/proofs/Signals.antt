@@ -56,7 +56,7 @@ on_is s f b e = ap (λ n. n == 1) e ∙ at b
     at true = refl
     at false = refl
 
--- one more after
+-- with a reservation more, what is reserved is that of the others, and its own where its condition is 1
 pub reserved_more : (s : State) (rs : List Reservation) (r : Reservation)
     → reserved_in s (rs ++ r ∷ []) ≡ reserved_in s rs
     ++ (if is_on r.on s then record { mem = r.mem; address = r.addr.value s } ∷ [] else [])

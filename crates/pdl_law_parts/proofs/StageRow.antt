@@ -81,7 +81,7 @@ module _ (c : Circuit) (p : Pipe) (ls : Locks) (vs : ℕ → View) (s : State) (
     pub guards_same : IsSo p k s w d → all_hold gs d.env ≡ taken_in gs w s
     guards_same h = taken_same gs w s d.env (λ y u. h.env y (glive y u))
 
-    -- where the row is on the path, and where it isn't
+    -- where the guards hold for the thread's values, they are taken by the signals
     pub is_taken : IsSo p k s w d → all_hold gs d.env ≡ true → taken_in gs w s ≡ true
     is_taken h e = sym (guards_same h) ∙ e
 
@@ -154,7 +154,7 @@ module _ (c : Circuit) (p : Pipe) (ls : Locks) (vs : ℕ → View) (s : State) (
             ∙ ap₂ (λ i j. bit (is_held new i j)) (eqb-true m n i.0) (eqb-true a b i.1)
         at false g = h n b live ∙ ap bit (sym (other n b g))
 
-    -- a memory's word
+    -- a memory's word that a row reads is the word that the thread finds
     pub word_at : (m a : ℕ) → (mem_at p m).delayed ≡ false → IsWord p ls m (w.vars a) ((vs k).tickets m) r.value s
         → k ≤ commit_stage p m → IsTrue (read_ready (mem_at p m).lock (older_write st thread m ((w.vars a).value s)))
         → r.value.value s ≡ word_for st thread m ((w.vars a).value s)

@@ -35,7 +35,7 @@ few_from (m ∷ ms) before k e l each =
     let rest : k + 1 + length ms ≤ 16 = few_from ms (before ++ Memory m ∷ []) (k + 1) more (omega (arith, not_yet)) each.1 in
     omega arith
 
--- at most 16 memories
+-- a pipe that keeps the rules has at most 16 memories
 pub few_mems : (p : Pipe) → KeepsRules p → length p.mems ≤ 16
 few_mems p rules =
     let all = each_from IsFew (places p) [] (λ front x later e. rules Z4 front x later e) in
@@ -62,7 +62,7 @@ reaches_all [] e m a = absurd a
 reaches_all (x ∷ xs) e m (inl s) = subst Reaches s (reaches_one x (and_parts (has_depth x) (list_all has_depth xs) e).0)
 reaches_all (x ∷ xs) e m (inr a) = reaches_all xs (and_parts (has_depth x) (list_all has_depth xs) e).1 m a
 
--- each memory has allowed sizes
+-- each memory among sized ones has allowed sizes
 pub sized_among : (ms : List Mem) → AreSized ms → (m : Mem) → Among m ms → IsSized m
 sized_among [] h m a = absurd a
 sized_among (x ∷ xs) h m (inl s) = subst IsSized s h.0
@@ -84,7 +84,7 @@ pub record IsAddressed (m : Mem) : Type 0 where
   pub high : address_bits m.depth.value ≤ 16
   pub shallow : m.depth.value ≤ 65536
 
--- each sized memory of an allowed depth has such addresses
+-- each sized memory of an allowed depth has addresses of 1 to 16 bits
 pub addressed : (m : Mem) → Reaches m → IsSized m → IsAddressed m
 addressed m r s =
     let e = power_one (address_bits m.depth.value) s.bits (r ∙ s.power) in

@@ -56,7 +56,7 @@ abbrev pub AllDiffer : List (List ℕ) → Type 0
 AllDiffer [] = ⊤
 AllDiffer (x ∷ xs) = IsNone x xs × AllDiffer xs
 
--- the same, by a place in the list
+-- a name that is none of a list is at no place of the list
 pub none_at : (x : List ℕ) (ys : List (List ℕ)) → IsNone x ys → (j : ℕ) (d : List ℕ) → j < length ys → x ≢ get_or ys j d
 none_at x [] h j d l = absurd (omega arith)
 none_at x (y ∷ ys) h zero d l = h.0

@@ -4,7 +4,7 @@ use Rattle.pdl_semantics.specs.Flat.{Expr, Op, Bind, CombRead, DelayedRead, Writ
 use Rattle.pdl_semantics.specs.Stages.{list_any, is_verify}
 use Rattle.pdl_theory_facts.specs.Facts.{uses_in, uses_any}
 
--- whether an expression uses a variable, and whether one of some does
+-- whether an expression uses a variable
 abbrev pub uses_var : Expr → ℕ → Bool
 uses_var e x = uses_in x e
 

@@ -20,6 +20,6 @@ IsAtOnce p (Verify args) = ⊤
 IsAtOnce p SpecCheck = ⊤
 IsAtOnce p SpecBarrier = ⊤
 
--- and so each of a pipe
+-- each statement of a pipe that reads at once reads a memory that answers at once
 abbrev pub AreAtOnce : Pipe → Type 0
 AreAtOnce p = Each (λ (x : Stmt). IsAtOnce p x.op) p.stmts

@@ -7,7 +7,7 @@ use Rattle.pdl_net.specs.declared.Netlist.{Netlist}
 use Rattle.pdl_net.specs.Circuit.{Output, circuit_of, outputs_of}
 use Rattle.pdl_net.specs.Run.{Shown, nports, commit_of}
 
--- what is seen of a cycle, and what the machine has
+-- what is seen of a cycle: the values of the ports, and whether it is a wait
 pub record Seen : Type 0 where
   pub ports : List ℕ
   pub wait : Bool

@@ -21,7 +21,7 @@ pub record Gates : Type 0 where
   pub squash : Signal
   pub tail : ℕ → Signal
 
--- where nothing does
+-- nothing stands beside the stages: each gate is open, none is removed, and nothing is squashed
 abbrev pub no_gates : Locks → Gates
 no_gates ls = record { gate = λ k. one; kill = λ k. zero_bit; squash = zero_bit; tail = λ m. ls.ticket m }
 
@@ -58,7 +58,7 @@ branch Ends q w = zero_bit
 branch (Goes to) q w = if to == q then one else zero_bit
 branch (Forks x first second) q w = mux_signal (w.vars x) (if first == q then one else zero_bit) (if second == q then one else zero_bit)
 
--- out of stage j
+-- who comes out of stage j into stage q
 abbrev pub out_of : Pipe → (ℕ → View) → (ℕ → Signal) → ℕ → ℕ → Comer
 out_of p vs moves q j = record {
   comes = both (moves j) (branch (stage_at p j).next q (vs j).ended);
@@ -78,7 +78,7 @@ new_by moves b = record {
   guess = λ i. no_signal;
 }
 
--- of the calls of n stages, of which the first is k
+-- who comes of the calls of n stages, of which the first is k
 abbrev pub new_from : (ℕ → View) → (ℕ → Signal) → ℕ → ℕ → List Comer
 new_from vs moves zero k = []
 new_from vs moves (suc n) k = map (new_by (moves k)) (vs k).ended.births ++ new_from vs moves n (suc k)

@@ -28,7 +28,7 @@ pub record Locks : Type 1 where
 abbrev pub is_locked : Pipe → ℕ → Bool
 is_locked p m = has_lock (mem_at p m).lock
 
--- one bit that is always 1, one that is always 0, and whether both of two bits are 1
+-- one bit that is always 1
 abbrev pub one : Signal
 one = const_signal 1 1
 
@@ -44,7 +44,7 @@ both a b = mux_signal a b zero_bit
 abbrev pub is_on : Signal → State → Bool
 is_on f s = f.value s == 1
 
--- a reservation for writing, a write, a release of a write reservation, a call, and a request of a delayed memory, each where its condition is 1
+-- a reservation for writing: its condition and its address
 pub record Reservation : Type 0 where
   pub mem : ℕ
   pub on : Signal
@@ -116,7 +116,7 @@ abbrev pub taken_in : List Guard → Walk → State → Bool
 taken_in [] w s = true
 taken_in (g ∷ gs) w s = takes_branch g.first ((w.vars g.var).value s) && taken_in gs w s
 
--- in each state in which they are taken
+-- in each state in which the guards are taken
 abbrev pub WhereTaken : Circuit → List Guard → Walk → (State → Type 0) → Type 0
 WhereTaken c gs w P = (s : State) → Suits c s → taken_in gs w s ≡ true → P s
 

@@ -33,13 +33,13 @@ pub record Request : Type 0 where
   pub enable : Signal
   pub addr : Signal
 
--- what a memory without delayed read asks, and one with
+-- what is asked of a memory: nothing without a delayed read, else what its reading stage asks
 abbrev pub request_of : (ℕ → View) → (ℕ → Signal) → ℕ → Option Reading → Request
 request_of vs moves m None = record { enable = zero_bit; addr = zero_bit }
 request_of vs moves m (Some r) =
     record { enable = asks_memory m (moves r.stage) (vs r.stage).ended.asks; addr = asked_address m (moves r.stage) (vs r.stage).ended.asks }
 
--- its request has these values, and the port of its reads takes its two inputs
+-- the request of a memory has the values of what is asked, and the port of its reads takes its two inputs
 pub record IsOutside (p : Pipe) (c : Circuit) (vs : ℕ → View) (moves : ℕ → Signal) (sides : Sides) (ask : Request) (m : ℕ) : Type 0 where
   pub enable : Same c ask.enable (request_of vs moves m (reading p m)).enable
   pub addr : Same c ask.addr (request_of vs moves m (reading p m)).addr
@@ -63,7 +63,7 @@ pub record FitsOutside (p : Pipe) (c : Circuit) (ask : Request) (commit : Commit
 abbrev pub request_shown : List ℕ → Request → List Shown
 request_shown name q = shown_signal (codes "q_" ++ name) q.enable ∷ shown_signal (codes "qa_" ++ name) q.addr ∷ []
 
--- of each delayed memory, of which the first has the number m
+-- the outputs of what is asked of each delayed memory; the first memory has the number m
 abbrev pub requests_shown : (ℕ → List ℕ) → (ℕ → Request) → ℕ → List Mem → List Shown
 requests_shown names asks m [] = []
 requests_shown names asks m (x ∷ xs) = (if x.delayed then request_shown (names m) (asks m) else []) ++ requests_shown names asks (suc m) xs

@@ -16,7 +16,7 @@ use Rattle.pdl_lock_ring.specs.Steps.{push_signal, push2_signal, last_addr, befo
 use Rattle.pdl_lock_ring.proofs.SlotNumbers.{slot_held, half_mod, sum_held}
 use Rattle.pdl_lock_ring.proofs.RingValues.{if_one, if_other, mux_one, mux_zero, eq_none, AreGiven, holds_same, append_holds, put_holds, written-push, length-written}
 
--- 1 where there is an element, and where there are two; the last one, and the one before it
+-- 1 where there is an element, else 0
 abbrev pub some : List ℕ → ℕ
 some [] = 0
 some (y ∷ ys) = 1
@@ -155,7 +155,7 @@ pub record Cycle (l : RingLayout) (g : ℕ → Signal) (s : State) (x : LockStat
   pub drives : Drives l.ticket f s a
   pub proper : Proper l.size x a
 
--- a slot's number
+-- the slot of a ticket is that of its number modulo the size
 pub slot_value : (l : RingLayout) → IsSized l → (t : Signal) (s : State) (n : ℕ)
     → t.value s ≡ n % 2 ^ l.ticket → (slot_of l t).value s ≡ n % l.size
 unfolding bin_value const_value
@@ -253,7 +253,7 @@ module _ (l : RingLayout) (v : ℕ → Signal) (s : State) (x : LockState) (f : 
       ((first_addr l f).value s) ((second_addr l f).value s)
       c.sized.some c.proper.two c.proper.room (are_given c) c.stands.slots
 
-  -- the slot of a write
+  -- a write port that is enabled writes into the slot of its ticket
   pub written_value : Cycle l v s x f a → (j : ℕ) → j < length a.writes → (act_at a.writes j).on ≡ true
       → (written_slot l f j).value s ≡ (act_at a.writes j).ticket % l.size
   unfolding mux_value const_value
@@ -315,7 +315,7 @@ module _ (l : RingLayout) (v : ℕ → Signal) (s : State) (x : LockState) (f : 
       length_appended : (ys : List ℕ) (xs : List Entry) → length (with_reserves ys xs) ≡ length xs + length ys
       length_appended ys xs = length-append xs (map fresh ys) ∙ ap (λ n. length xs + n) (length-map ys fresh)
 
-  -- after all write ports
+  -- after all write ports the slots hold the pending writes with the cycle's reservations and values
   pub all_filled : Cycle l v s x f a
       → Holds l.size x.base (λ k. (slot_addr l f k).value s) (λ k. (slot_bit l f k).value s)
       (λ k. (filled_value l f (v k) k (length f.writes)).value s) (filled_entries x a)

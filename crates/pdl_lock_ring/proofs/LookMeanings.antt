@@ -185,7 +185,7 @@ pub record IsYoungest (xs : List Entry) (a i : ℕ) : Type 0 where
   pub same : (entry_at xs i).addr ≡ a
   pub last : (j : ℕ) → i < j → j < length xs → (entry_at xs j).addr ≢ a
 
--- none has it
+-- none of these pending writes has the address
 abbrev pub HasNone : List Entry → ℕ → Type 0
 HasNone xs a = (j : ℕ) → j < length xs → (entry_at xs j).addr ≢ a
 

@@ -186,7 +186,7 @@ module _ (l : RingLayout) (g : ℕ → Signal) (s : State) (x : LockState) (a t 
       (λ u. omega arith) (λ u. u)) in
       less_none ((least_key keys (l.ticket - 1) 0).value s) ((older_count l t).value s) (let q = k.older in omega (arith, key, q))
 
-  -- whether it has its value, or there is none
+  -- a look is ready just where the youngest pending write of the address has its value, or there is none
   pub youngest_looked : (youngest_ready l a t).value s ≡ bit (is_some (youngest ys (a.value s) (Some 0)))
   unfolding mux_value const_value reg_value
   youngest_looked = elim (youngest_of ys (a.value s)) [
@@ -201,7 +201,7 @@ module _ (l : RingLayout) (g : ℕ → Signal) (s : State) (x : LockState) (a t 
         ∙ ap (λ v. bit (is_some v)) (sym (n.1 (Some 0)))
   ]
 
-  -- and what is given then, where what is given else is the word
+  -- a ready look gives the value of the youngest pending write of the address, or the word where there is none
   pub value_looked : (o : Signal) → o.value s ≡ slice_index x.words (a.value s)
       → is_some (youngest ys (a.value s) (Some 0)) ≡ true
       → (youngest_value l g o a t).value s ≡ or_zero (youngest ys (a.value s) (Some (slice_index x.words (a.value s))))
@@ -222,7 +222,7 @@ module _ (l : RingLayout) (g : ℕ → Signal) (s : State) (x : LockState) (a t 
         ∙ p ∙ ap or_zero (sym (n.1 (Some (slice_index x.words (a.value s)))))
   ]
 
--- where none has the address
+-- where no pending write has the address, the youngest value is the one that is given else
 pub free_youngest : (xs : List Entry) (a : ℕ) (v : Option ℕ) → is_free xs a ≡ true → youngest xs a v ≡ v
 free_youngest xs a v h = elim (youngest_of xs a) [
   | inl y ↦ absurd (false≢true (sym y.3 ∙ h))
@@ -255,7 +255,7 @@ word_given c l a (Some x) f s ws g e h =
     ap (λ (n : Signal). n.value s) (sym q ∙ g.same m.0 x m.1 refl)
     ∙ ap (λ us. slice_index us (a.value s)) (words_at l.array m.0 s ws m.1 h)
 
--- a value that is there
+-- two signals of which both are there are the same where they are so as optional ones
 pub same_signal : (f g : Signal) → Some f ≡ Some g → f ≡ g
 same_signal f g e = cc e
 

@@ -29,7 +29,7 @@ same_nearer : (p q x y p' q' x' y' : Signal)
     → p ≡ p' → q ≡ q' → x ≡ x' → y ≡ y' → mux_signal (bin_signal Lt p q) x y ≡ mux_signal (bin_signal Lt p' q') x' y'
 same_nearer p q x y p' q' x' y' a b c d = cc
 
--- of two halves
+-- the nearer of the nearest slots of two halves is the nearest of both
 pub nearest_more : (a c : Circuit) (l : RingLayout) (key : ℕ → Signal) (b from : ℕ) (low high z : Nearest) → b ≢ 0
     → IsNearest a l key (b - 1) from low → IsNearest a l key (b - 1) (from + 2 ^ (b - 1)) high → IsNearer a c low high z
     → IsNearest c l key b from z

@@ -25,7 +25,7 @@ pub picked_width : (u : Kind) (f : Signal) → f.width ≡ 1 → (youngest_look 
 picked_width R f h = h
 picked_width W f h = refl
 
--- a write waits for nothing
+-- whether a look is ready goes by its kind: a write waits for nothing
 pub picked_means : (c : Circuit) (u : Kind) (ready one : Net) → IsThere c ready → Means c one (const_signal 1 1)
     → Means c (net_by_kind u ready one) (youngest_look u (signal c ready))
 picked_means c R ready one h i = record { there = h; same = refl }
@@ -48,7 +48,7 @@ enabled_one : (k : Kind) (f : Signal) → f.width ≡ 1 → (enabled_reserve k f
 enabled_one R f h = refl
 enabled_one W f h = h
 
--- its nets have the widths that they are to have
+-- the signal that enables a reserve port has 1 bit
 pub reserve_width : (c : Circuit) (bits width w : ℕ) (p : LockPorts) (k : ℕ) (q : ReservePort)
     → PortsFit c bits width w p → k < length p.reserves → slice_index_or p.reserves k q ≡ q
     → (enabled_reserve q.kind (signal c q.enable)).width ≡ 1
@@ -108,7 +108,7 @@ asked_none c l f nought none m n = record {
 same_choice : (c x y x' y' : Signal) → x ≡ x' → y ≡ y' → mux_signal c x y ≡ mux_signal c x' y'
 same_choice c x y x' y' e f = cc
 
--- one port more
+-- what was asked by the first k ports, and by one port more, is what was asked by k + 1 ports
 pub asked_more : (a c : Circuit) (l : RingLayout) (f : StepSignals) (k : ℕ) (y x : Asked) → IsAsked a l f k y
     → IsAskedNext a c l f k y x → IsAsked c l f (k + 1) x
 asked_more a c l f k y x i n =

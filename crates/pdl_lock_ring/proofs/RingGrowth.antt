@@ -111,7 +111,7 @@ same_mux c x y c' x' y' p q r = cc
 pub same_bin : (o : BinOp) (x y x' y' : Signal) → x ≡ x' → y ≡ y' → bin_signal o x y ≡ bin_signal o x' y'
 same_bin o x y x' y' p q = cc
 
--- what a net means later
+-- a net that means a signal has that signal in a circuit that is extended
 pub later_is : (a b : Circuit) (x : Net) (f : Signal) → Extends a b → Means a x f → signal b x ≡ f
 later_is a b x f y m = y.kept x m.there ∙ m.same
 

@@ -55,7 +55,7 @@ pub eq_none : (i k : ℕ) → i ≢ k → words.equal i k ≡ 0
 unfolding words.equal
 eq_none i k n = ap (λ (t : Bool). if t then 1 else 0) (ne_eqb _ _ n)
 
--- the same slots by other functions
+-- slots hold the same pending writes by other functions that agree on the slots
 pub holds_same : (n base : ℕ) (A H X A' H' X' : ℕ → ℕ) (xs : List Entry)
     → 1 ≤ n → ((k : ℕ) → k < n → A' k ≡ A k) → ((k : ℕ) → k < n → H' k ≡ H k) → ((k : ℕ) → k < n → X' k ≡ X k)
     → Holds n base A H X xs → Holds n base A' H' X' xs

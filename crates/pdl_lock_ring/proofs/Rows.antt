@@ -78,7 +78,7 @@ own_array_kept a b l x y = record {
   array_depth = λ m e. y.depth m (x.has_array m e) ∙ x.array_depth m e;
 }
 
--- the ring of its rows
+-- a circuit with head, tail, the rows of addresses, value bits and contents, and the array, has the slots of the ring
 pub slots_made : (c : Circuit) (l : RingLayout) → IsNewReg c l.from l.ticket 0 → IsNewReg c (l.from + 1) l.ticket 0
     → HasRow c (row_of l (l.from + 2) l.bits) l.size → HasRow c (row_of l (l.from + 2 + l.size) 1) l.size
     → HasRow c (row_of l (l.from + 2 + 2 * l.size) l.kept) l.size → HasOwnArray c l → HasSlots c l

@@ -99,7 +99,7 @@ pub slots_length : (l : RingLayout) (n : ℕ) → length (slots_of l n) ≡ n
 slots_length l zero = refl
 slots_length l (suc n) = length-append (slots_of l n) (slot_numbers l.content l n ∷ []) ∙ ap (λ k. k + 1) (slots_length l n) ∙ add-one n
 
--- those of slot k
+-- the k-th of the lists of registers is that of slot k
 pub slots_at : (l : RingLayout) (n k : ℕ) → k < n → get_or (slots_of l n) k [] ≡ slot_numbers l.content l k
 slots_at l zero k h = absurd (omega arith)
 slots_at l (suc n) k h = ⊎_elim

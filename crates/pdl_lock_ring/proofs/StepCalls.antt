@@ -128,7 +128,7 @@ bits_none c l f = record { bit = λ k h. absurd (omega arith) }
 pub contents_none : (c : Circuit) (l : RingLayout) (f : StepSignals) → NextContents c l f 0
 contents_none c l f = record { value = λ k h. absurd (omega arith) }
 
--- the nets of commits stay
+-- the nets of commits stay what they are in a circuit that keeps the old one
 pub commits_keep : (a b : Circuit) (l : RingLayout) (f : StepSignals) (n : LockNets) → AreCommits a l f n → Keeps a b → AreCommits b l f n
 commits_keep a b l f n x y = record {
   commit = means_keeps a b n.commit _ y x.commit;

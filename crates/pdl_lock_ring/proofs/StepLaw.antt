@@ -170,7 +170,7 @@ module _ (l : RingLayout) (v : ℕ → Signal) (s : State) (x : LockState) (f : 
       ticket_value l c.sized (after_fill l f v) (next_head l) s (x.base + 1) (next_head_value c)
       ∙ h.has_value 1 (or_zero (entry_at xs 1).value) (there_second xs (c.proper.done2 o)) (some_of (entry_at xs 1).value (c.proper.done2 o))
 
-  -- a choice by a release
+  -- a choice between a value and 0 by the net of a release is one by whether the cycle makes one
   pub by_release : Cycle l v s x f a → (m n : ℕ) → (a.release ≡ true → m ≡ n) → words.mux (f.release.value s) m 0 ≡ (if a.release then n else 0)
   unfolding words.mux
   by_release c m n h = ap (λ t. if t then m else 0) (test_bit (f.release.value s) a.release c.drives.release) ∙ same_choice a.release m n 0 h

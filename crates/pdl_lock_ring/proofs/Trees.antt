@@ -38,7 +38,7 @@ unfolding selected_signal
 selected_width f d w e zero from = e from
 selected_width f d w e (suc b) from = selected_width f d w e b (from + 2 ^ b)
 
--- it gives the signal of the number in the lowest bits
+-- a choice by bits gives the signal of the number in the lowest bits
 pub selected_value : (f : ℕ → Signal) (d : Signal) (s : State) (b from : ℕ)
     → (selected_signal f d b from).value s ≡ (f (from + d.value s % 2 ^ b)).value s
 unfolding selected_signal mux_value slice_value words.slice
@@ -65,7 +65,7 @@ pub ruleset selecting = (selected_none, selected_more)
 
 -- ---- whether one is 1
 
--- whether one of a single signal is 1 is that signal
+-- of a single signal, whether one is 1 is told by itself
 pub some_none : (f : ℕ → Signal) (b from : ℕ) → b ≡ 0 → some_signal f b from ≡ f from
 unfolding some_signal
 some_none f b from e = ap (λ n. some_signal f n from) e

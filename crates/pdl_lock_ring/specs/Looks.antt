@@ -27,11 +27,11 @@ second_ticket l = bin_signal Add (tail_signal l) (const_signal l.ticket 1)
 abbrev pub count_signal : RingLayout → Signal
 count_signal l = bin_signal Sub (tail_signal l) (head_signal l)
 
--- room for one reservation, and for two
+-- whether there is room for one reservation
 abbrev pub room_signal : RingLayout → Signal
 room_signal l = bin_signal Lt (count_signal l) (const_signal l.ticket l.size)
 
--- room for two reservations
+-- whether there is room for two reservations
 abbrev pub room2_signal : RingLayout → Signal
 room2_signal l = bin_signal Lt (count_signal l) (const_signal l.ticket (l.size - 1))
 

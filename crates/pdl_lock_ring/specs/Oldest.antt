@@ -9,7 +9,7 @@ use Rattle.pdl_lock_ring.specs.declared.layout.RingLayout.{RingLayout}
 use Rattle.pdl_lock_ring.specs.declared.step.Oldest.{Oldest}
 use Rattle.pdl_lock_ring.specs.Steps.{oldest_addr, oldest_value, next_addr, next_value}
 
--- after a cycle's reservations and writes
+-- these nets mean the oldest pending writes after a cycle's reservations and writes
 pub record AreOldest (c : Circuit) (l : RingLayout) (f : StepSignals) (o : Oldest) : Type 0 where
   pub addr : Means c o.first.addr (oldest_addr l f)
   pub content : Means c o.first.content (oldest_value l f)

@@ -16,7 +16,7 @@ pub record HasPorts (c : Circuit) (l : RingLayout) (p : LockPorts) : Type 0 wher
   pub ports : PortsThere c p
   pub fit : PortsFit c l.bits l.width l.ticket p
 
--- and the nets of a cycle's reservations too
+-- the ring is in a circuit, and so are the nets of a step's ports and those of a cycle's reservations
 pub record IsReady (c : Circuit) (l : RingLayout) (p : LockPorts) (t : Taken) : Type 0 where
   pub given : HasPorts c l p
   pub one : Means c t.one (pushes (step_signals c p))

@@ -70,7 +70,7 @@ pub record IsSized (l : RingLayout) : Type 0 where
   pub bits_high : l.bits ≤ 64
   pub small : l.from + 2 + 3 * l.size < 2 ^ 64
 
--- so many numbers from this one on
+-- n numbers that count up from this one
 abbrev pub numbers_from : ℕ → ℕ → List ℕ
 numbers_from a zero = []
 numbers_from a (suc n) = a ∷ numbers_from (a + 1) n
@@ -133,12 +133,12 @@ abbrev pub slot_numbers : Content → RingLayout → ℕ → List ℕ
 slot_numbers Value l k = addr_at l k ∷ value_at l k ∷ has_at l k ∷ []
 slot_numbers Place l k = addr_at l k ∷ has_at l k ∷ []
 
--- those of the first n slots
+-- the registers of each of the first n slots that only its own reservations and writes change
 abbrev pub slots_of : RingLayout → ℕ → List (List ℕ)
 slots_of l zero = []
 slots_of l (suc n) = slots_of l n ++ slot_numbers l.content l n ∷ []
 
--- so many slots that keep values are in a circuit
+-- slots that keep values, as many as the size, are in a circuit, by what was answered of them
 pub record ArePlaced (size : ℕ) (c : Circuit) (r : LockRegs) : Type 0 where
   pub count : length r.regs ≡ 2 + 3 * size
   pub listed : r.slots ≡ slots_of (layout_of size r) size
@@ -150,11 +150,11 @@ abbrev pub first_content_of : Content → ℕ → ℕ → ℕ
 first_content_of Value place k = 0
 first_content_of Place place k = place + k
 
--- what the slots hold in the first cycle
+-- the slots hold in the first cycle what they hold first: 0, or places that count up from one
 pub record AreFirst (c : Circuit) (l : RingLayout) (place : ℕ) : Type 0 where
   pub content : (k : ℕ) → k < l.size → reg_reset c (value_at l k) ≡ first_content_of l.content place k
 
--- and head and tail are 0
+-- in the first cycle head and tail are 0, and the slots hold what they hold first
 pub record AreReset (c : Circuit) (l : RingLayout) (place : ℕ) : Type 0 where
   pub head : reg_reset c l.from ≡ 0
   pub tail : reg_reset c (l.from + 1) ≡ 0

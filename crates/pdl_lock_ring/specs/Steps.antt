@@ -33,7 +33,7 @@ unfoldable pub before_addr : ℕ → StepSignals → ℕ → Signal
 before_addr bits f zero = const_signal bits 0
 before_addr bits f (suc k) = mux_signal (reserve_at f.reserves k).enable (last_addr bits f k) (before_addr bits f k)
 
--- of all reserve ports
+-- whether one of all reserve ports asks for an entry
 abbrev pub pushes : StepSignals → Signal
 pushes f = push_signal f (length f.reserves)
 
@@ -77,7 +77,7 @@ fills_slot l f k j = bin_signal Eq (written_slot l f j) (const_signal l.ticket k
 unfoldable pub slot_addr : RingLayout → StepSignals → ℕ → Signal
 slot_addr l f k = mux_signal (takes_second l f k) (second_addr l f) (mux_signal (takes_first l f k) (first_addr l f) (reg_signal l.bits (addr_at l k)))
 
--- its value bit, and its value from this one on, after the reservations and the first j write ports
+-- slot k's value bit after the reservations and the first j write ports
 unfoldable pub filled_bit : RingLayout → StepSignals → ℕ → ℕ → Signal
 filled_bit l f k zero = mux_signal (takes_second l f k) (const_signal 1 0) (mux_signal (takes_first l f k) (const_signal 1 0) (reg_signal 1 (has_at l k)))
 filled_bit l f k (suc j) = mux_signal (fills_slot l f k j) (const_signal 1 1) (filled_bit l f k j)
@@ -91,7 +91,7 @@ filled_value l f value k (suc j) = mux_signal (fills_slot l f k j) (ticket_at f.
 abbrev pub slot_bit : RingLayout → StepSignals → ℕ → Signal
 slot_bit l f k = filled_bit l f k (length f.writes)
 
--- writes change a value, and no place
+-- slot k's content after the write ports, which change a value but no place
 abbrev pub content_after : Content → RingLayout → StepSignals → ℕ → Signal
 content_after Value l f k = filled_value l f (content_signal l k) k (length f.writes)
 content_after Place l f k = content_signal l k
@@ -134,7 +134,7 @@ next_addr l f = at_ticket l (slot_addr l f) (next_head l)
 abbrev pub next_value : RingLayout → StepSignals → Signal
 next_value l f = at_ticket l (slot_value l f) (next_head l)
 
--- what addresses and value bits take next, and values where the slots keep them
+-- the addresses of the first n slots take what the cycle makes of them
 pub record NextAddrs (c : Circuit) (l : RingLayout) (f : StepSignals) (n : ℕ) : Type 0 where
   pub addr : (k : ℕ) → k < n → next_signal c (addr_at l k) ≡ slot_addr l f k
 
@@ -167,15 +167,15 @@ pub record NextValues (c : Circuit) (l : RingLayout) (f : StepSignals) : Type 0 
   pub ends : NextEnds c l f
   pub array : WritesArray c l (two_writes f.release (oldest_addr l f) (oldest_value l f) f.release2 (next_addr l f) (next_value l f))
 
--- one register, and so many from this one on
+-- this one register, and no array
 abbrev pub own_reg : ℕ → Own
 own_reg r = record { from = r; to = r + 1; first = 0; last = 0 }
 
--- so many registers from this one on, and no array
+-- n registers from this one on, and no array
 abbrev pub own_row : ℕ → ℕ → Own
 own_row r n = record { from = r; to = r + n; first = 0; last = 0 }
 
--- the registers of head and tail, those of addresses, of value bits, of both and of contents, and the array
+-- the registers of head and tail
 abbrev pub own_ends : RingLayout → Own
 own_ends l = own_row l.from 2
 
@@ -199,6 +199,6 @@ own_contents l = own_row (l.from + 2 + 2 * l.size) l.size
 abbrev pub own_array : RingLayout → Own
 own_array l = record { from = 0; to = 0; first = first_array l.array; last = end_array l.array }
 
--- all
+-- all registers of the lock, and the array, where there is one
 abbrev pub own_all : RingLayout → Own
 own_all l = record { from = l.from; to = l.from + (2 + 3 * l.size); first = first_array l.array; last = end_array l.array }

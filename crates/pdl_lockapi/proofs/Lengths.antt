@@ -27,12 +27,12 @@ appended_long m (a ∷ ms) es =
     let many = new_long m a.thread.number a.does.reserves in
     omega arith
 
--- writes keep their number
+-- writes change no number of pending writes
 pub filled_long : (m : ℕ) (ms : List Act) (es : List Pending) → length (with_all_writes m ms es) ≡ length es
 filled_long m [] es = refl
 filled_long m (a ∷ ms) es = put_all_length m a.thread.number a.does.writes (with_all_writes m ms es) ∙ filled_long m ms es
 
--- a release leaves no more
+-- a release leaves no more pending writes than there were
 pub left_long : (b : Bool) (es : List Pending) → length (if b then but_oldest es else es) ≤ length es
 left_long true [] = omega arith
 left_long true (e ∷ es) = omega arith

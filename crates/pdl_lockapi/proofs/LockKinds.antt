@@ -84,7 +84,7 @@ next_kept o a b s t k n = record {
   arrays = λ m lo hi. n.arrays m lo hi ∙ ap (λ ps. after_writes s ps (slice_index_or s.arrays m [])) (k.writes m lo hi);
 }
 
--- and so it hides written values there too
+-- a fragment that hides written values hides them in a circuit that keeps what it takes next
 pub hides_kept : (k : LockKind) (o : Own) (a b : Circuit) (f : StepSignals) → OwnKept o a b → HidesLaw k a o f → HidesLaw k b o f
 hides_kept Queue o a b f k x = tt
 hides_kept Bypass o a b f k x = tt

@@ -144,7 +144,7 @@ pub record LookLaw (stands : State → LockState → Type 0) (k : LockKind) (w :
 pub record HasValueNet (c : Circuit) (width : ℕ) (value : Option Net) : Type 0 where
   pub net : (x : Net) → value ≡ Some x → HasWidth c x width
 
--- what the nets of a step's ports mean
+-- what the nets of a reserve port mean: whether it reserves, and which address
 pub record ReserveSignal : Type 0 where
   pub enable : Signal
   pub addr : Signal
@@ -241,7 +241,7 @@ pub record SameButValues (o : Own) (f : StepSignals) (s t : State) : Type 0 wher
   pub squash : f.squash.value s ≡ f.squash.value t
   pub tail : f.tail.value s ≡ f.tail.value t
 
--- in the next states the registers are the same again
+-- where two states differ in written values alone, the fragment's registers are the same again in their next states
 pub record HidesValues (c : Circuit) (o : Own) (f : StepSignals) : Type 0 where
   pub same : (s t u v : State) → SameButValues o f s t → IsNext c o s u → IsNext c o t v → (k : ℕ) → o.from ≤ k
       → k < o.to → slice_index u.regs k ≡ slice_index v.regs k
@@ -270,7 +270,7 @@ pub record PortsThere (c : Circuit) (p : LockPorts) : Type 0 where
   pub squash : IsThere c p.squash
   pub tail : IsThere c p.tail
 
--- their widths: 1 bit, those of an address, a word and a ticket
+-- the nets of a step's ports have their widths: 1 bit, and those of an address, a word and a ticket
 pub record PortsFit (c : Circuit) (bits width w : ℕ) (p : LockPorts) : Type 0 where
   pub ask_one : (k : ℕ) (q : ReservePort) → k < length p.reserves → slice_index_or p.reserves k q ≡ q → (signal c q.enable).width ≡ 1
   pub addr_width : (k : ℕ) (q : ReservePort) → k < length p.reserves → slice_index_or p.reserves k q ≡ q → (signal c q.addr).width ≡ bits

@@ -28,11 +28,11 @@ pub record ProperSingle (n : ℕ) (x : LockState) (a : LockAct) : Type 0 where
   pub tail_from : a.squash ≡ true → base_single x a ≤ a.tail
   pub tail_to : a.squash ≡ true → a.tail ≤ x.base + length x.entries + length a.reserves
 
--- without a second release a cycle does what such a cycle does
+-- without a second release a cycle does what a cycle with at most one release does
 abbrev pub StepsSingle : Type 0
 StepsSingle = (x : LockState) (a : LockAct) → a.release2 ≡ false → step x a ≡ step_single x a
 
--- and its proper use is that of such a cycle, where it makes at most one reservation
+-- proper use is that of a cycle with at most one release, where there is no second release and at most one reservation
 abbrev pub ProperIsSingle : Type 0
 ProperIsSingle = (n : ℕ) (x : LockState) (a : LockAct) → a.release2 ≡ false → length a.reserves ≤ 1 → Proper n x a → ProperSingle n x a
 

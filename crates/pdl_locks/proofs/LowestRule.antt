@@ -9,7 +9,7 @@ use Rattle.pdl_rules.specs.Places.{places}
 use Rattle.pdl_rules.specs.Refusal.{broken_line, refused_at, first_broken}
 use Rattle.pdl_locks.specs.Plan.{Tells, IsRefused}
 
--- it is the first of them
+-- a refusal by the first of the rules, at the line where the pipe breaks it, tells the lowest of them
 pub told : (rule : Rule) (rest : List Rule) (p : Pipe) (e : Refusal) (line : Option ℕ) → IsRefused rule line e
     → line ≡ broken_line rule p [] (places p) → Tells (rule ∷ rest) p e
 told rule rest p e None h i = absurd h
@@ -32,7 +32,7 @@ pub none_more : (rule : Rule) (rest : List Rule) (p : Pipe) (line : Option ℕ)
     → first_broken (rule ∷ rest) p ≡ None
 none_more rule rest p line h i t = kept rule rest p line h i ∙ t
 
--- the rules after each
+-- the rules on locks after L7
 abbrev pub after_l7 : List Rule
 after_l7 = L8 ∷ []
 

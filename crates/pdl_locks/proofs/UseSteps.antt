@@ -93,7 +93,7 @@ unchanged keys Is laws before later earlier x n uses number h past =
         let same : length uses ≡ length (before ++ x ∷ later) = h.one_each in
         absurd (omega (arith, here, inside, same, past))
 
--- and on a path
+-- the uses stay right with a place on the path, where the use of its location takes the step
 pub stepped : {T : Type 0} (keys : Keys) (Is : T → Location → List Place → Type 0) (laws : HasLaws keys Is)
     (places : List r_place.Place) (first : List ℕ) (path : List Guard)
     (before later : List Place) (x : Place) (k n : ℕ) (uses : List T) (new old : T)

@@ -18,7 +18,7 @@ abbrev pub last_for : Pipe → Option Location → Option ℕ
 last_for p (Some l) = last_of p l.mem.name
 last_for p None = None
 
--- of the memory at a place
+-- the stage of the releases of the memory at a place, if there is a location
 abbrev pub last_at : Pipe → Place → Option ℕ
 last_at p x = last_for p (location_at x)
 

@@ -6,7 +6,7 @@ use Rattle.pdl_rules_on_paths.specs.Earlier.{earlier_same}
 use Rattle.pdl_locks.specs.declared.numbers.Keys.{Keys}
 use Rattle.pdl_locks.specs.Uses.{AreKept}
 
--- nothing changes there
+-- the uses stay right with a place that isn't on the path
 pub passed_by : {T : Type 0} (keys : Keys) (Is : T → Location → List Place → Type 0) (all : List Place)
     (path : List Guard) (before : List Place) (x : Place) (uses : List T)
     → on_path path x ≡ false → AreKept keys Is all (filter (on_path path) before) uses

@@ -10,7 +10,7 @@ use Rattle.pdl_rules.specs.Stages.{first_stage, reserves_memory, releases_memory
 use Rattle.pdl_rules.specs.Refusal as rules
 use Rattle.pdl_locks.specs.declared.plan.MemStages.{MemStages}
 
--- of one memory, and of all
+-- the stages of the reserves and of the releases of one memory
 abbrev pub stages_of : Pipe → Mem → MemStages
 stages_of p m =
     record { reserved = first_stage (reserves_memory m.name.name) [] (places p); released = first_stage (releases_memory m.name.name) [] (places p) }
@@ -38,7 +38,7 @@ abbrev pub Tells : List Rule → Pipe → Refusal → Type 0
 Tells rs p (Refused rule line) = rules.first_broken rs p ≡ Some (record { rule = rule; line = line })
 Tells rs p NoMemory = ⊤
 
--- it is the one by this rule in a line
+-- the refusal is that by this rule in a line that is there
 abbrev pub IsRefused : Rule → Option ℕ → Refusal → Type 0
 IsRefused rule None e = ⊥
 IsRefused rule (Some line) e = e ≡ Refused rule line

@@ -12,13 +12,13 @@ use Rattle.pdl_locks.specs.declared.uses.MemoryUse as memory
 use Rattle.pdl_locks.specs.Numbers.{first_place}
 use Rattle.pdl_locks.specs.Holds.{hold_view}
 
--- these places did so at the location; writes count up to two
+-- what is kept of a location tells its uses on the path so far; writes count up to two
 pub record IsUsed (used : location.LocationUse) (l : Location) (earlier : List Place) : Type 0 where
   pub hold : hold_view used.hold ≡ spec.hold_after l earlier
   pub reserved : used.reserved ≡ list_any (spec.reserves_location l) earlier
   pub writes : used.writes ≡ min 2 (count_by (spec.writes_location l) earlier)
 
--- and so with its memory; read reservations count up to four
+-- what is kept of a memory tells its uses on the path so far; read reservations count up to four
 pub record IsUsedMemory (used : memory.MemoryUse) (l : Location) (earlier : List Place) : Type 0 where
   pub reads : used.reads ≡ min 4 (count_by (spec.is_reserve_of R l.mem.name) earlier)
   pub reserved : used.reserved ≡ list_any (spec.is_reserve_of W l.mem.name) earlier

@@ -18,7 +18,7 @@ use Rattle.pdl_locks.specs.RuleQuestions.{breaks_at_location, breaks_at_memory}
 use Rattle.pdl_locks.specs.Uses.{AreKept, IsUsed, IsUsedMemory}
 use Rattle.pdl_locks.specs.PassedPlaces.{passed_by}
 
--- what a rule asks on a path
+-- what a rule on locations asks of a place on a path
 abbrev pub at_location : Pipe → LocationRule → List Guard → List Place → Place → Bool
 at_location p rule path before x = breaks_at_location rule p (filter (on_path path) before) x
 
@@ -26,7 +26,7 @@ at_location p rule path before x = breaks_at_location rule p (filter (on_path pa
 abbrev pub of_memory : MemoryRule → List Guard → List Place → Place → Bool
 of_memory rule path before x = breaks_at_memory rule (filter (on_path path) before) x
 
--- each on its way, with these uses or these bits, and its lowest place
+-- a rule on locations after k places of a path, with the uses of its locations, and its lowest place so far
 abbrev pub StandsAt : Pipe → List r_place.Place → LocationRule → List Guard → List Place → ℕ → ℕ → List location.LocationUse → ℕ → Type 0
 StandsAt p rows rule gs xs bits k uses lowest =
     IsOnPath (at_location p rule) (λ path before. AreKept Locations IsUsed (map place_view rows) (filter (on_path path) before) uses) gs xs bits k lowest

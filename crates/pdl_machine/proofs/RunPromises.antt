@@ -17,7 +17,7 @@ use Rattle.pdl_source_paths.proofs.PipeFacts.{of_source}
 use Rattle.pdl_source_strict.proofs.Paths.{paths_strict}
 use Rattle.pdl_theory_states.proofs.EveryState
 
--- one cycle more
+-- the state after a schedule with one cycle more is the state after that cycle
 pub run_on : (p : Flat.Pipe) (st : State) (schedule : List (List Bool)) (bits : List Bool)
     → stated.state_after p st (schedule ++ bits ∷ []) ≡ stated.cycle p (stated.state_after p st schedule) bits
 run_on p st [] bits = refl

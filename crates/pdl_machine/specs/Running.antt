@@ -26,7 +26,7 @@ pub record Running : Type 0 where
 abbrev pub flat_of : Running → flat.Pipe
 flat_of r = flatten.flat (pipe_view r.pipe)
 
--- its state
+-- the state of a running machine
 abbrev pub state_of : Running → State
 state_of r =
     record {
@@ -42,6 +42,6 @@ state_of r =
 abbrev pub replies_to : Running → ℕ → List Bool
 replies_to r bits = replies_of (delayed_count (flat_of r)) bits
 
--- its state is the one to which the stated machine comes from this image with these replies
+-- the state of a running machine is the one to which the stated machine comes from this image with these replies
 abbrev pub HasRun : Running → List (List ℕ) → List (List Bool) → Type 0
 HasRun r image schedule = state_of r ≡ stated.state_after (flat_of r) (stated.first (flat_of r) (arrays_of image)) schedule

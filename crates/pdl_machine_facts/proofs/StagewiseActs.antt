@@ -64,7 +64,7 @@ module _ (p : Pipe) (st : State) (bits : List Bool) where
           ap₂ (λ l later. act_of p st bits l k u (deeds p st k u) ∷ later) (sym b) rest
           ∙ ap (λ x. seen (slot_moves p st bits k x) k x ++ line_acts n (suc k)) (sym h)
 
-  -- all acts, and those after a stage
+  -- all acts are those of the stages from the first on
   pub all_are : all_acts p st bits ≡ line_acts (length st.stages) 0
   all_are = acts_are st.stages 0 refl
 

@@ -11,7 +11,7 @@ use Rattle.pdl_machine_facts.specs.Slots.{LeadsOn, slot, here, stage_moves, act_
 use Rattle.pdl_machine_facts.proofs.StagewiseActs.{seen, line_acts, some_here, someone}
 use Rattle.pdl_word.proofs.Numbers.{eqb_self}
 
--- an entry for each stage
+-- the entries for each stage are the same by functions that agree on these stages
 pub stages_below : {X : Type 0} → (f g : ℕ → X) (s : ℕ) (xs : List Stage)
     → ((q : ℕ) → s ≤ q → q < s + length xs → f q ≡ g q) → for_stages f s xs ≡ for_stages g s xs
 stages_below f g s [] h = refl

@@ -158,7 +158,7 @@ module _ (p : Pipe) (reads : Reads p) (st : State) (d : Derived.State) (ls : Lis
     forked = list_few p st d ls sim;
   }
 
--- in each state of a run
+-- in each state of a run all holds that holds of threads in flight
 pub flights : (p : Pipe) → Sound p → Strict p → Reads p → (image : Arrays) (before : List (List Bool))
     → InFlight p (state_after p (first p image) before)
 flights p sound strict reads image before =

@@ -78,7 +78,7 @@ module _ (p : Pipe) (st : State) (bits : List Bool) where
         at false g (Some u) i r = yes (test (act_in k u)) _ (r (let d = eqb-false k j g in omega (arith, low, d)))
 
     module _ (count : length st.stages ≡ length p.stages) (k : ℕ) where
-      -- of all stages after k
+      -- where the act of each thread in a later stage passes a test, all acts after stage k do
       pub all_later : ((j : ℕ) (t : Thread) → k < j → j < length p.stages → here p st bits j ≡ Some t → test (act_in j t) ≡ true)
           → list_all test (later_acts p st bits k) ≡ true
       all_later h =

@@ -77,7 +77,7 @@ module _ (p : Pipe) (st : State) (d : Derived.State) (ls : List Live) (sim : Sim
       ap (λ (xs : List (Option Thread)). slice_index_or xs k None) sim.stages
       ∙ at_stage (λ q. find q ls) 0 p.stages k None l ∙ ap (λ n. find n ls) (let z : 0 + k ≡ k = omega arith in z)
 
-  -- who stands in a stage
+  -- the thread that stands in a stage is a live one
   pub seated_in : (k : ℕ) (t : Thread) → slot st k ≡ Some t → (l : Live) × Among l ls × (l.thread.stage ≡ k) × (seat l ≡ t)
   seated_in k t e = ⊎_elim
       (λ (l : k < length p.stages). found k t ls (sym (slot_low k l) ∙ e))
@@ -88,7 +88,7 @@ module _ (p : Pipe) (st : State) (d : Derived.State) (ls : List Live) (sim : Sim
       none_some : None ≡ Some t → ⊥
       none_some h = cc h
 
-  -- and the stage in which one stands
+  -- each live thread stands in its stage
   pub seat_of : (l : Live) → Among l ls → slot st l.thread.stage ≡ Some (seat l)
   seat_of l i = slot_low l.thread.stage ((each_among _ l ls sim.seated i).keeps_on.inside) ∙ stands_alone p l ls sim.ordered i
 

@@ -29,7 +29,7 @@ squasher_at p st v false o = None
 squasher_at p st v true None = None
 squasher_at p st v true (Some t) = if (deeds p st v t).fails then Some t.number else None
 
--- whether it squashes
+-- whether the thread of a stage fails a verify
 abbrev pub failing : Pipe → State → ℕ → Option Thread → Bool
 failing p st v None = false
 failing p st v (Some t) = (deeds p st v t).fails
@@ -228,7 +228,7 @@ module _ (p : Pipe) (sound : Sound p) (st : State) (bits : List Bool) (flight : 
               (λ (ge : n ≤ t.number). let h = flight.same k v t u.0 e u.1 (let z = u.2 in omega (arith, ge, le, z)) in omega (arith, h, low))
               (cases_lt t.number n))
 
-  -- and no other one
+  -- a squash removes no thread in V or in a later stage
   pub kept_high : (k : ℕ) (t : Thread) → v ≤ k → slot st k ≡ Some t → is_kept (squasher (moving p st bits)) t.number ≡ true
   kept_high k t high e = at (squasher (moving p st bits)) refl
     where

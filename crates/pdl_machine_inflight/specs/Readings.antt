@@ -10,7 +10,7 @@ pub record Reading : Type 0 where
   pub stage : ℕ
   pub var : ℕ
 
--- the first delayed read of a memory among statements, and that of a pipe
+-- the first delayed read of a memory among statements
 abbrev pub reading_in : ℕ → List Stmt → Option Reading
 reading_in m [] = None
 reading_in m (x ∷ xs) = on_delayed_read (λ y n a. if n == m then Some (record { stage = x.stage; var = y }) else reading_in m xs) (reading_in m xs) x.op
@@ -25,7 +25,7 @@ places_of Ends = []
 places_of (Goes to) = to ∷ []
 places_of (Forks x first second) = first ∷ second ∷ []
 
--- those of a delayed read, of which the thread that reads comes into one
+-- the places of a delayed read: the stages into one of which the thread that reads comes
 abbrev pub places : Pipe → Reading → List ℕ
 places p r = places_of (stage_at p r.stage).next
 

@@ -51,7 +51,7 @@ module _ (p : Pipe) (st : State) (bits : List Bool) (P : Act → Type 0) where
           (subst (λ v. P (act p st bits (later_acts p st bits k) k v)) is
           (subst (λ n. P (act p st bits (acts p st bits (suc n) (drop (suc k) st.stages)) n (with_answers p st bits u))) zero_k a))
 
-  -- and of the thread that stood there
+  -- what holds of each act of a cycle holds of the act of the thread that stood in a stage, with this cycle's answers
   pub at_slot : AllActs P (all_acts p st bits) → (k : ℕ) (t : Thread) → slot st k ≡ Some t → P (act_here k (with_answers p st bits t))
   at_slot h k t e = at_here h k (with_answers p st bits t) (ap (with_now p st bits) e)
 

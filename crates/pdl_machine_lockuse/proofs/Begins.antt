@@ -192,6 +192,7 @@ reads_same p zs c (x ∷ xs) = ap₂ (λ a b. (no_guards x.guards && a) && b) (o
 
 -- a stage's statements are carried out as the path at their end tells
 module _ (o : Around) (read : ℕ → ℕ → ℕ) (block : Blocked → Bool) (room : Reserved → Bool) (free : Ask → Bool) where
+  -- where the work on fitting statements takes each just where a path does, so do the deeds of these statements
   pub along_of : (path : List ℕ) (xs : List Stmt) (d : Deeds) (es : List Entry) (cs : List Commit) → places es ≡ d.held → AllFit o read block room free xs
       → Fixed path o xs (work_of o read block room free d es cs) → IsAlong path read xs d
   along_of path [] d es cs h f q = tt

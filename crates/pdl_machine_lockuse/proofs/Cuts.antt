@@ -54,7 +54,7 @@ tail_left sq n (e ∷ es) h = at (is_kept sq e.thread) refl (tail_left sq n es h
     at true i r = ap (λ k. if nat_lt e.thread (suc n) then suc k else k) r
     at false i r = r ∙ ap (λ b. cond b (suc (count_older (suc n) es)) (count_older (suc n) es)) (sym (beyond sq h i))
 
--- behind a younger thread nothing is left
+-- where all pending writes are of younger threads than the squasher, none is left
 none_left : (t : ℕ) (from : ℕ) (es : List Pending)
     → t < from → AreOrdered from es → (entries_left (Some t) es ≡ []) × (count_older (suc t) es ≡ 0)
 none_left t from [] h o = (refl, refl)
@@ -72,7 +72,7 @@ take_nil : (k : ℕ) → take {A = Pending} k [] ≡ []
 take_nil zero = refl
 take_nil (suc k) = refl
 
--- a squash leaves a front
+-- a squash leaves a front of pending writes in order, those of the squasher and of older threads
 pub front_left : (t from : ℕ) (es : List Pending) → AreOrdered from es → entries_left (Some t) es ≡ take (count_older (suc t) es) es
 front_left t from [] o = sym (take_nil (count_older (suc t) []))
 front_left t from (e ∷ es) o = at (nat_le e.thread t) refl (front_left t (e.thread + 1) es o.1)

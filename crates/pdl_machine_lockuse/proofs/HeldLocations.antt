@@ -13,7 +13,7 @@ use Rattle.pdl_word.proofs.Bools.{or_map}
 
 -- BLOCKED FOR READING
 
--- a location among them is clean
+-- a location among the blocked ones is clean up to the stage of its releases
 pub right_at : (p : Pipe) (s : ℕ) (clean : ℕ → ℕ → Type 0) (ls : List Location) (env : List ℕ) (m a : ℕ)
     → has_location ls m a ≡ true → s ≤ commit_stage p m → Right p s clean ls env → clean m (slice_index env a)
 right_at p s clean [] env m a h c r = absurd (cc h)

@@ -61,7 +61,7 @@ module _ (p : Pipe) (st : State) (n : ℕ) where
   abbrev pub Let : ℕ → ℕ → Type 0
   Let m a = write_ready (mem_at p m).lock (older_write st n m a) ≡ true
 
-  -- before a statement of stage s, behind these
+  -- where the locks let the thread move, the locations that these statements before one of stage s blocked let a write in
   abbrev LetIf : ℕ → List Op → Deeds → Type 0
   LetIf s past d = locks_ready p st n d ≡ true → Right p s Let (blocks_of past) d.env
 

@@ -214,6 +214,7 @@ module _ (o : Around) (read : ℕ → ℕ → ℕ) (block : Blocked → Bool) (r
       by (inl q) = record { once = h.once; gives = λ e. absurd (false≢true (sym q.2 ∙ e)); done = λ e. refl }
       by (inr q) = record { once = h.once; gives = λ e. (q.0, q.1, q.3); done = λ e. refl }
 
+  -- statements that write and release a memory in order on a path use it as they should, up to the phase after all of them
   pub used_all : (path : List ℕ) (xs : List Stmt) (ph : Phase) (d : Deeds) (es : List Entry) (cs : List Commit)
       → places es ≡ d.held → AllFit o read block room free xs → IsAlong path read xs d
       → uses_ok m ph (onpath path xs) ≡ true → At ph d (W d es cs) → Wrote ph d
@@ -311,6 +312,7 @@ module _ (p : Pipe) (sound : Sound p) (st : State) (d : Derived.State) (bits : L
   did_is : deeds_of p st bits l ≡ deeds_after_all (word_for st l.number) (in_stage l.thread.stage p.stmts) (begun p sound st d bits arrays older l k)
   did_is = ap (deeds_after_all (word_for st l.number) (in_stage l.thread.stage p.stmts)) (begun_is p sound st d bits arrays older l k)
 
+  -- the statements of a thread's stage use each memory as they should, up to the phase after all of them
   pub used_here : (m : ℕ)
       → Used m l.number (pend m l.number l.thread.entries) (deeds_of p st bits l)
       (phase_all m (phase_all m Fresh (passed p sound st d bits arrays older l k)) (mine p sound st d bits arrays older l k))

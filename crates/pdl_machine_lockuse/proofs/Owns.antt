@@ -25,7 +25,7 @@ use Rattle.pdl_machine_lockuse.proofs.OwnWrite.{used_here}
 use Rattle.pdl_theory_states.proofs.FetchCounts.{any_append, any_front}
 use Rattle.pdl_word.specs.Each.{Each}
 
--- a write among others
+-- a memory is written to where one of the writes is to it
 pub contains_write : (m : ℕ) (ws : List Written) (w : Written) → w.mem ≡ m → Contains ws w → writes_to m ws ≡ true
 contains_write m ws w e c = at ws c.0 c.1 c.2
   where
@@ -43,7 +43,7 @@ any_appended : (test : Pending → Bool) (m : ℕ) (ms : List Act) (xs : List Pe
 any_appended test m [] xs h = h
 any_appended test m (a ∷ ms) xs h = any_front test (with_reserves m ms xs) (new_entries m a.thread.number a.does.reserves) (any_appended test m ms xs h)
 
--- the oldest of a list
+-- a list with an oldest pending write begins with it
 pub first_is : (xs : List Pending) (e : Pending) → oldest xs ≡ Some e → xs ≡ e ∷ but_oldest xs
 first_is [] e h = absurd (none h)
   where

@@ -1,4 +1,4 @@
--- What the facts of an accepted pipe say of the statements that a thread has behind it, and of those of its stage, on the path that it takes.
+-- What the facts of an accepted pipe say of the statements that a thread has passed, and of those of its stage, on the path that it takes.
 use Rattle.std.proofs.Common.{◌≡◌, refl, sym, ap, ap₂, ◌∙◌, subst, ℕ, ◌<◌, Bool, true, false, ◌&&◌, ◌||◌, not, List, [], ◌∷◌, ◌++◌, length, ◌==◌, nat_lt, nat_le, cond, arith, append_assoc, eq-eqb, leb-false, le-leb}
 use Rattle.std.proofs.lemmas.Bool.{false≢true}
 use Rattle.pdl_semantics.specs.Flat.{Pipe, Op, CombRead, DelayedRead, Write, Block, Release, Stmt, Expr, list_all, all_hold}
@@ -169,7 +169,7 @@ module _ (p : Pipe) (sound : Sound p) (st : State) (d : Derived.State) (bits : L
   looked_whole =
       path_looked path p.stmts ∙ ap looked_all whole ∙ looked_append passed (mine ++ rest) ∙ ap (λ xs. looked_all passed ++ xs) (looked_append mine rest)
 
-  -- behind those that it has passed, the statements of its stage pass the scan of reads
+  -- after those that it has passed, the statements of its stage pass the scan of reads
   pub mine_reads : reads_ok (along path (at_once p)) (scan_after_all (looked_all passed) no_scan) (looked_all mine) ≡ true
   mine_reads =
       reads_back (along path (at_once p)) no_scan (looked_all passed) (looked_all mine)
@@ -177,13 +177,13 @@ module _ (p : Pipe) (sound : Sound p) (st : State) (d : Derived.State) (bits : L
       (way_looked p path next ∙ ap looked_all way_is ∙ looked_append passed mine)
       ((sound.pathwise.paths path).reads next))
 
-  -- behind those that it has passed, the statements of its stage write and release each memory in order
+  -- after those that it has passed, the statements of its stage write and release each memory in order
   pub mine_uses : (m : ℕ) → uses_ok m (phase_all m Fresh passed) mine ≡ true
   mine_uses m =
       uses_front m mine rest (phase_all m Fresh passed)
       (uses_back m passed (mine ++ rest) Fresh (subst (λ xs. uses_ok m Fresh xs ≡ true) whole ((sound_flows p sound).uses path m)))
 
-  -- behind those that it has passed, the statements of its stage make the next thread in order
+  -- after those that it has passed, the statements of its stage make the next thread in order
   pub mine_makings : makings_ok (verify_stage (looked_all p.stmts)) (making_all Unmade (looked_all passed)) (looked_all mine) ≡ true
   mine_makings =
       makings_first (verify_stage (looked_all p.stmts)) (making_all Unmade (looked_all passed)) (looked_all mine) (looked_all rest)
@@ -194,7 +194,7 @@ module _ (p : Pipe) (sound : Sound p) (st : State) (d : Derived.State) (bits : L
   pub passed_kinds : Careful p → all_keep_kind passed ≡ true
   passed_kinds careful = kinds_front passed (mine ++ rest) (subst (λ xs. all_keep_kind xs ≡ true) whole (careful.kinds path))
 
-  -- of the statements of the stage behind those before it
+  -- after those that it has passed, the statements of its stage bind only variables that are new
   pub mine_new : Strict p → all_new p.vars (onto passed []) mine ≡ true
   mine_new strict =
       all_new_front p.vars mine rest (onto passed [])
@@ -205,7 +205,7 @@ module _ (p : Pipe) (sound : Sound p) (st : State) (d : Derived.State) (bits : L
   mine_let_in careful =
       let_in_front mine rest (onto passed []) (let_in_back passed (mine ++ rest) [] (subst (λ xs. all_let_in [] xs ≡ true) whole (careful.writes path)))
 
-  -- no release of a memory behind the stage of its releases
+  -- past the stage of a memory's releases its thread releases the memory no more
   released_before : (m : ℕ) → commit_stage p m < l.thread.stage → none_of (is_release m) (mine ++ rest) ≡ true
   released_before m h =
       let up : l.thread.stage < next = next_up p (sound_flows p sound) st d bits arrays l.thread.stage path k.seated.keeps_on.inside in

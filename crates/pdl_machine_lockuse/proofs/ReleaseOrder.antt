@@ -50,7 +50,7 @@ none_before s (x ∷ xs) h =
       ap₂ (λ b l. cond b (x ∷ l) l) (le-leb s x.stage h.0) r.1,
     )
 
--- the statements behind each stand no earlier
+-- the statements after each stand no earlier
 abbrev Rising : List Stmt → Type 0
 Rising [] = Unit {0}
 Rising (x ∷ xs) = AllStmts (λ z. x.stage ≤ z.stage) xs × Rising xs
@@ -116,7 +116,7 @@ rising_looked (x ∷ xs) h = (each x.stage xs h.0, rising_looked xs h.1)
     each s [] k = tt
     each s (y ∷ ys) k = (k.0, each s ys k.1)
 
--- no release behind a later stage
+-- statements of stages past that of a memory's releases release it nowhere
 none_late : (m c s : ℕ) (xs : List Stmt)
     → all_at (is_release m) c xs ≡ true → c < s → AllStmts (λ z. s ≤ z.stage) xs → none_of (is_release m) xs ≡ true
 none_late m c s [] h low k = refl
@@ -211,6 +211,7 @@ to_come p m s (x ∷ xs) t h = at (nat_le s x.stage) refl (uses_mem m x.op) refl
     at true e false f i go = go (sym (ap₂ (λ a b. (a && b) || list_any (λ (x : Stmt). nat_le s x.stage && uses_mem m x.op) xs) e f) ∙ i)
     at false e c f i go = go (sym (ap (λ a. (a && uses_mem m x.op) || list_any (λ (x : Stmt). nat_le s x.stage && uses_mem m x.op) xs) e) ∙ i)
 
+-- what is released is no younger than a thread that may still use the memory, where that is so up to the stage of its releases
 pub uses_older : (p : Pipe) → Sound p → Strict p → (st : State) (bits : List Bool) (m : ℕ) (these : List Act)
     → AllActs (ReleasesOlder p st bits m) these → AllActs (UsesOlder p st bits m) these
 uses_older p sound strict st bits m [] h = tt

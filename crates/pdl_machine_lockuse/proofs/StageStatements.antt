@@ -28,7 +28,7 @@ all_last test (y ∷ xs) x h =
     let r = all_last test xs x (and_right (test y) _ h) in
     (ap₂ (λ a b. a && b) (and_left (test y) (list_all test (xs ++ x ∷ [])) h) r.0, r.1)
 
--- as many values as arguments
+-- there are as many values as arguments
 pub values_long : (es : List Expr) (env : List ℕ) → length (values_of es env) ≡ length es
 values_long [] env = refl
 values_long (e ∷ es) env = ap suc (values_long es env)
@@ -38,7 +38,7 @@ module _ (p : Pipe) (st : State) (n : ℕ) where
   abbrev pub Clean : ℕ → ℕ → Type 0
   Clean m a = read_ready (mem_at p m).lock (older_write st n m a) ≡ true
 
-  -- before a statement of stage s
+  -- before a statement of stage s the blocked locations are clean, where the locks let the thread move
   abbrev pub RightIf : ℕ → Scan → Deeds → Type 0
   RightIf s c d = locks_ready p st n d ≡ true → Right p s Clean c.blocked d.env
 

@@ -67,7 +67,7 @@ module _ (p : Pipe) (sound : Sound p) (st : State) (d : Derived.State) (bits : L
   Bars P [] = Unit {0}
   Bars P (l ∷ ls) = ((did p d bits ls l).moves ≡ true → lets l ≡ true → EachPair (λ x. P x → ⊥) (pairs ls)) × Bars P ls
 
-  -- then what is released is no younger than such a thread
+  -- where who releases has no older thread of a kind, what is released is no younger than a thread of that kind
   pub up_released : (P : Pair → Type 0) (n : ℕ) (ls : List Live) → Bars P ls → Each (Seated p st) ls → AllKnown p (sound_flows p sound) st d bits arrays ls
       → Ordered p ls → Falls n ls → has_release m (movers (lacts p st d bits ls)) ≡ true
       → EachPair
@@ -131,7 +131,7 @@ module _ (p : Pipe) (sound : Sound p) (st : State) (d : Derived.State) (bits : L
     bars_commit ls k.1 o.1,
   )
 
-  -- and none up to V
+  -- no older thread stands up to V
   pub bars_verify : (v : ℕ) → verify_stage p.stmts ≡ Some v → (ls : List Live) → AllKnown p (sound_flows p sound) st d bits arrays ls → Ordered p ls
       → Along (Lasting p st) ls → Bars (λ x. x.live.thread.stage ≤ v) ls
   bars_verify v e [] k o a = tt
@@ -177,7 +177,7 @@ module _ (p : Pipe) (sound : Sound p) (st : State) (d : Derived.State) (bits : L
               omega (arith, u, h))
           low false e = leb-false _ _ e
 
-  -- behind it nothing up to its own is appended
+  -- threads past the stage of the reserves append nothing of older threads
   past_older : (t : ℕ) (ls : List Live) → Each (λ k. reserve_stage p m < k.thread.stage) ls → NoOlder t m (lacts p st d bits ls)
   past_older t [] h = tt
   past_older t (l ∷ ls) h = (inl (past_new p (sound_flows p sound) st d bits arrays m l h.0), past_older t ls h.1)

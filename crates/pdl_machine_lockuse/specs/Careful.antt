@@ -109,7 +109,7 @@ pub record Careful (p : Pipe) : Type 0 where
   -- W5
   pub args : list_all (λ x. passes_on (length p.start) x.op) p.stmts ≡ true
 
--- the same, computed, where the guards are variables
+-- whether a pipe is careful, computed over all its paths, where its guards are variables
 abbrev pub is_careful : Pipe → Bool
 is_careful p =
     list_all (λ g. nat_lt g (length (start_env p []))) (all_guards p)

@@ -34,7 +34,7 @@ ShiftsUpTo p st bits m a =
     count_older (suc a.thread.number) (with_release p st bits m) + bit (has_release m (moving p st bits))
     ≡ count_older (suc a.thread.number) (with_new p st bits m)
 
--- up to the stage of the releases, where a block or a read of the memory may still be made
+-- up to the stage of the memory's releases, where a block or a read of it may still be made, what is released is no younger
 abbrev pub ReleasesOlder : Pipe → State → List Bool → ℕ → Act → Type 0
 ReleasesOlder p st bits m a = a.stage ≤ commit_stage p m → ShiftsUpTo p st bits m a
 
@@ -67,7 +67,7 @@ AreLetIn p st thread (x ∷ xs) d =
 abbrev pub IsLet : Pipe → State → Act → Type 0
 IsLet p st a = AreLetIn p st a.thread.number (in_stage a.stage p.stmts) (before_stage p a.stage a.thread)
 
--- how many values a thread writes to a memory, and whether it has a pending write without value
+-- how many values a thread writes to a memory
 abbrev pub written_in : ℕ → List Written → ℕ
 written_in m [] = 0
 written_in m (w ∷ ws) = if w.mem == m then suc (written_in m ws) else written_in m ws
@@ -99,27 +99,27 @@ uses_mem m (Verify _) = false
 uses_mem m SpecCheck = false
 uses_mem m SpecBarrier = false
 
--- as long as such a statement may be to come, on whatever path, what is released is no younger
+-- as long as a statement that uses the memory may be to come, on whatever path, what is released is no younger
 abbrev pub UsesOlder : Pipe → State → List Bool → ℕ → Act → Type 0
 UsesOlder p st bits m a =
     (path : List ℕ) → list_any (λ (x : Stmt). nat_le a.stage x.stage && uses_mem m x.op) (onpath path p.stmts) ≡ true → ShiftsUpTo p st bits m a
 
--- and as long as a read of the memory awaits its answer
+-- as long as a read of the memory awaits its answer, what is released is no younger
 abbrev pub AwaitsOlder : Pipe → State → List Bool → ℕ → Act → Type 0
 AwaitsOlder p st bits m a = list_any (λ (r : Awaited). r.mem == m) a.thread.awaits ≡ true → ShiftsUpTo p st bits m a
 
 -- WHERE A SQUASH CUTS
 
--- up to the stage of the reserves all pending writes are its own or older, those of this cycle included
+-- up to the stage of the reserves all pending writes are a thread's own or older, those of this cycle included
 abbrev pub FindsAll : Pipe → State → List Bool → ℕ → Act → Type 0
 FindsAll p st bits m a = a.stage ≤ reserve_stage p m → count_older (suc a.thread.number) (with_new p st bits m) ≡ length (with_new p st bits m)
 
--- after it their number is kept by what is reserved
+-- past the stage of the reserves what a cycle reserves leaves a thread as many own and older pending writes
 abbrev pub KeepsTail : Pipe → State → List Bool → ℕ → Act → Type 0
 KeepsTail p st bits m a =
     reserve_stage p m < a.stage → count_older (suc a.thread.number) (with_new p st bits m) ≡ count_older (suc a.thread.number) (lock_of st m)
 
--- a squash that leaves a thread leaves all of them, and one by the thread leaves nothing else
+-- a squash that leaves a thread leaves its own and all older pending writes
 abbrev pub LeavesTail : Pipe → State → List Bool → ℕ → Act → Type 0
 LeavesTail p st bits m a =
     is_kept (squasher (moving p st bits)) a.thread.number ≡ true

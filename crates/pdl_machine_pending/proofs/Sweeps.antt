@@ -12,7 +12,7 @@ module _ {X Y : Type 0} (view : X → Y) (now all : List X) (i : ℕ) (x d : X) 
   same : get_or now i d ∷ drop (i + 1) now ≡ get_or all i d ∷ drop (i + 1) all
   same = sym (drop_more now i d h) ∙ left ∙ drop_more all i d within
 
-  -- after the element at i was set, those behind it are the old ones
+  -- after the element at i was set, those after it are the old ones
   pub swept_left : drop (i + 1) (set now i x) ≡ drop (i + 1) all
   swept_left = drop-set-lt (i + 1) now i x (omega arith) ∙ tail_same same
 

@@ -48,7 +48,7 @@ module _ (p : Pipe) (f : ℕ) where
       entered_more k (mover_of z) z (acts_of (suc k) zs)
       ∙ ap₂ (λ (a b : List Bool). a ++ b) (entered_none (suc k) zs (omega arith)) (entered_apart k (mover_of z) z apart)
 
-  -- it is who moves out of the stage of the fork
+  -- who goes into a fork's branches is who moves out of the stage of the fork
   pub entered_at : (i k : ℕ) (zs : List r_stage.Stage) (d : r_stage.Stage) → k + i ≡ f → i < length zs
       → entered_branches p f (acts_of k zs) ≡ entered_branches p f (act_of f (mover_of (get_or zs i d)) (get_or zs i d))
   entered_at i k [] d e h = absurd (omega arith)

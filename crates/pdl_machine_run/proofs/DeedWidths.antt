@@ -166,7 +166,7 @@ module _ (f : Form) (wide : AreWidths f.widths) (xs : List Memory) (ms : AreMemo
   fit_if thread true op d t k = fit_does thread op d t k
   fit_if thread false op d t k = k
 
-  -- one statement more
+  -- the deeds after one typed statement more have their widths, where those before it have
   pub fit_more : (thread : ℕ) (x : Stmt) (old new : Deeds) → new ≡ deeds_after_all (word_of xs thread) (x ∷ []) old
       → IsTypedOp f x.op → AreFit f old → AreFit f new
   fit_more thread x old new e t k = subst (AreFit f) (sym e) (fit_if thread (all_hold x.guards old.env) x.op old t k)
@@ -198,7 +198,7 @@ module _ (f : Form) (wide : AreWidths f.widths) (xs : List Memory) (ms : AreMemo
   safe_op SpecCheck d c n t k h = tt
   safe_op SpecBarrier d c n t k h = tt
 
--- a statement of a typed pipe
+-- each statement of a typed pipe is typed
 pub typed_at : (f : Form) (ss : List Stmt) (i : ℕ) → AreTypedStmts f ss → i < length ss → IsTypedOp f (stmt_at ss i).op
 typed_at f [] i t h = absurd (omega arith)
 typed_at f (x ∷ ss) zero t h = t.0.1

@@ -104,7 +104,7 @@ module _ (f : Form) (b : r_beside.Beside) (bits : List Bool) (os : List (Option 
       (λ i e less. let same : k + suc i ≡ suc k + i = omega arith in
       subst (λ j. IsCarried f b bits j (thread_in (get_or ys i e).slot) (get_or zs i e)) same (c (suc i) e (omega (arith, less)))) d.1)
 
--- those of them who move
+-- those who move among the acts of the stages from k on are the movers of these stages
 pub movers_are : (k : ℕ) (zs : List r_stage.Stage) → movers (all_of k zs) ≡ acts_of k zs
 movers_are k [] = refl
 movers_are k (z ∷ zs) = at z.moves z.slot.number ∙ ap (λ (ms : List Act). act_of k (mover_of z) z ++ ms) (movers_are (suc k) zs)

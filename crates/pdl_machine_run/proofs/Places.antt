@@ -38,6 +38,7 @@ place_nowhere (l ∷ ls) m a h = here ((l.mem == m) && (l.var == a)) h (λ less.
 
 -- as the program holds them
 module _ (xs : List r_place.LocationNumbers) (m a i : ℕ) (same : i ≡ place_index (map place_view xs) m a) where
+  -- a list without the location at its place is the list after the location is let go
   pub gone : i < length xs → map place_view (take i xs ++ drop (i + 1) xs) ≡ machine.let_go (map place_view xs) m a
   gone h =
       let counted : length (map place_view xs) ≡ length xs = length-map _ _ in

@@ -44,6 +44,7 @@ module _ (f : Form) (run : IsRunnable f) (st : State) (bits : List Bool) (r : Is
   pub by_run : IsByStages f.pipe st bits
   by_run = subst (λ (s : State). IsByStages f.pipe s bits) (sym r.2) (run.by r.0 r.1 bits)
 
+  -- in a state of a run the threads use the locks as the rules have it
   pub used_run : IsInUse f.pipe st bits
   used_run = subst (λ (s : State). IsInUse f.pipe s bits) (sym r.2) (run.used r.0 r.1 bits)
 

@@ -9,7 +9,7 @@ use Rattle.pdl_form.specs.Form.{Form, stmt_at}
 use Rattle.pdl_form_types.specs.Stmts.{IsTypedOp, AreTypedStmts}
 use Rattle.pdl_machine_run.proofs.DeedWidths.{typed_at}
 
--- an element, as it is seen
+-- the i-th element as it is seen is the i-th of the elements that are seen
 pub seen_at : {X Y : Type 0} (view : X → Y) (xs : List X) (i : ℕ) (x : X) (d : Y)
     → i < length xs → x ≡ get_or xs i x → view x ≡ get_or (map view xs) i d
 seen_at view xs i x d h e =

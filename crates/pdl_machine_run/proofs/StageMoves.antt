@@ -128,7 +128,7 @@ module _ (p : Pipe) where
             ap₂ (λ (c : Bool) (o : Option Thread). or_then (if c then Some (thread_of m z.slot) else None) o)
             (ne_eqb k q (λ e. absurd (omega (arith, e, low)))) h
 
-    -- who stays in a stage
+    -- no later thread comes into stage k: who stands there after all moves is who stays
     pub next_here : (k : ℕ) (x : r_stage.Stage) (zs : List r_stage.Stage) → suc k + length zs ≤ length p.stages
         → next_thread p k (act_here k x.slot.number x ++ all_of (suc k) zs) ≡ stays x
     next_here k x zs n = at x.slot.number x.moves (none_back k (suc k) zs (omega arith) n)

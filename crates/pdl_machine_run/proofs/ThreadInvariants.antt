@@ -36,9 +36,11 @@ args_first (w ∷ ws) (a ∷ args) (suc n) k h e zero = h 0
 args_first (w ∷ ws) (a ∷ args) (suc n) k h e (suc x) = args_first ws args n k (λ i. h (suc i)) (omega arith) x
 
 module _ (f : Form) (vars : f.pipe.vars ≡ length f.widths) where
+  -- arguments of the parameters' widths are no more than there are variables
   pub args_few : (args : List ℕ) → Fit (param_widths f) args → length args ≤ length f.widths
   args_few args h = let same = h.count in let few = take_few (length f.pipe.start) f.widths in omega arith
 
+  -- the values of a new thread, with arguments of the parameters' widths, have the widths of their variables
   pub start_fits : (args : List ℕ) → Fit (param_widths f) args → Fit f.widths (start_env f.pipe args)
   start_fits args h =
       let few = args_few args h in
@@ -50,10 +52,12 @@ module _ (f : Form) (vars : f.pipe.vars ≡ length f.widths) where
         below = args_first f.widths args (length f.pipe.start) (f.pipe.vars - length args) h.below h.count;
       }
 
+  -- a new thread with arguments of the parameters' widths is fine
   pub born_fine : (n : ℕ) (c : Option (List ℕ)) → IfSome c (λ args. Fit (param_widths f) args) → IfSome (born_thread f.pipe n c) (IsFine f)
   born_fine n None h = tt
   born_fine n (Some args) h = record { env = start_fits args h; guess = omega arith; awaits = tt; kept = tt; few = omega arith }
 
+  -- the arguments of a new thread, of the parameters' widths, are no more than there are variables
   pub args_room : (c : Option (List ℕ)) (n : ℕ) → length f.widths ≡ n → IfSome c (λ args. Fit (param_widths f) args) → IfSome c (λ args. length args ≤ n)
   args_room None n e h = tt
   args_room (Some args) n e h = let few = args_few args h in omega (arith, few, e)
@@ -72,6 +76,7 @@ module _ (f : Form) where
   child_one k z None true more done h = h
   child_one k z (Some n) true more done h = child_here (deeds_view z.deeds).child (child_of more) done.1.child h
 
+  -- where the threads in the stages fit, and so does what they do, the new thread's arguments have the parameters' widths
   pub child_fits : (k : ℕ) (zs : List r_stage.Stage) → AllActed f zs → IfSome (child_of (acts_of k zs)) (λ args. Fit (param_widths f) args)
   child_fits k [] done = tt
   child_fits k (z ∷ zs) done = child_one k z z.slot.number z.moves (acts_of (suc k) zs) done.0 (child_fits (suc k) zs done.1)
@@ -112,6 +117,7 @@ module _ (f : Form) where
       at true = if_fine (is_stage q (next_stage f.pipe a.stage a.does)) (thread_after a) (after_fine a g few)
       at false = if_fine (a.stage == q) a.thread h
 
+  -- where the threads in the stages fit, and so does what they do, the thread that stands in a stage after all moves is fine
   pub next_fine : (q k : ℕ) (zs : List r_stage.Stage) → AllActed f zs → Fine (next_thread f.pipe q (all_of k zs))
   next_fine q k [] h = tt
   next_fine q k (z ∷ zs) h = at z.slot.number h.0 (next_fine q (suc k) zs h.1)
@@ -150,6 +156,7 @@ module _ (f : Form) where
       let mapped = length-map z.deeds.asks.items ask_view in
       omega (arith, few, room, long, mapped)
 
+  -- a stage that is wide enough has room for what the thread that moves out of it asks for
   pub awaits_room : (zs : List r_stage.Stage) (k : ℕ) (d : r_stage.Stage) → AllActed f zs → k < length zs
       → IsStage f (get_or zs k d) → HasAwaits (get_or zs k d)
   awaits_room zs k d h less w = awaits_if (get_or zs k d) (get_or zs k d).moves (get_or zs k d).slot.number (acted_at f zs k d h less) w

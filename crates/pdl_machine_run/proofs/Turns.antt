@@ -178,6 +178,6 @@ module _ (f : Form) (b : r_beside.Beside) (bits : List Bool) (next : ℕ) (ys zs
             long = long;
           }
 
--- values one after the other
+-- four lists of values one after the other are one list, however they are joined
 pub shown_all : (a b c d : List ℕ) (all : List ℕ) → all ≡ (a ++ (b ++ c)) ++ d → all ≡ a ++ (b ++ (c ++ d))
 shown_all a b c d all e = e ∙ append_assoc a (b ++ c) d ∙ ap (λ (l : List ℕ). a ++ l) (append_assoc b c d)

@@ -32,7 +32,7 @@ all_of k (x ∷ xs) = act_here k x.slot.number x ++ all_of (suc k) xs
 abbrev pub mover_of : r_stage.Stage → Option ℕ
 mover_of x = if x.moves then x.slot.number else None
 
--- the act of who moves out of stage k, and of those who move out of these stages
+-- the act of who moves out of stage k
 abbrev pub act_of : ℕ → Option ℕ → r_stage.Stage → List Act
 act_of k None x = []
 act_of k (Some number) x = record { stage = k; thread = thread_of number x.slot; does = deeds_view x.deeds; moves = true } ∷ []
@@ -63,7 +63,7 @@ IsCarried f b bits k (Some t) x =
 
 -- WHO MOVES
 
--- whether a thread's block is ready, and whether a memory has room
+-- whether a thread's block is ready
 abbrev pub block_in : List Memory → ℕ → Blocked → Bool
 block_in xs thread b =
     if b.writes
@@ -78,7 +78,7 @@ is_roomy xs m = has_room (memory_at xs m).lock (length (memory_at xs m).pending)
 abbrev pub is_mover : ℕ → List Act → Bool
 is_mover thread acts = list_any (λ (o : Act). (o.thread.number == thread) && o.moves) acts
 
--- whether what stands beside the stages lets the thread in stage k move, and whether those in later stages do
+-- whether a thread's blocks are ready, its reservations have room, it awaits nothing, and it is its turn at a merge
 abbrev pub passes_beside : Pipe → State → ℕ → Thread → Deeds → Bool
 passes_beside p st k t d =
     (blocks_ready p st t.number d && have_room p st d) && (is_empty t.awaits && merges_well p st k (next_stage p k d))

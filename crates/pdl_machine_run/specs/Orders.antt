@@ -19,11 +19,11 @@ into f (Some b) = if b.fork == f then b.first ∷ [] else []
 abbrev pub order_passed : Pipe → List Act → ℕ → List Bool → List Bool
 order_passed p ms f list = (if has_left p f ms then but_first list else list) ++ entered_branches p f ms
 
--- after a cycle of these, with a squash or without
+-- the order of fork f after a cycle in which these move, with a squash or without
 abbrev pub order_after : Pipe → List Act → Bool → ℕ → List Bool → List Bool
 order_after p ms squashed f list = if squashed && merges_by p f (verify_stage p.stmts) then [] else order_passed p ms f list
 
--- those of these stages, of which the first is f
+-- the orders of forks after a cycle, of which the first is f
 abbrev pub orders_after : Pipe → List Act → Bool → ℕ → List (List Bool) → List (List Bool)
 orders_after p ms squashed f [] = []
 orders_after p ms squashed f (list ∷ lists) = order_after p ms squashed f list ∷ orders_after p ms squashed (suc f) lists

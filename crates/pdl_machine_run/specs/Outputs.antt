@@ -11,6 +11,6 @@ abbrev pub all_memory_count : List Mem → ℕ
 all_memory_count [] = 0
 all_memory_count (m ∷ ms) = memory_count m + all_memory_count ms
 
--- two for each stage, those of the memories, `ended` and `squash`
+-- how many outputs a pipe has: two for each stage, those of the memories, `ended` and `squash`
 abbrev pub output_count : Pipe → ℕ
 output_count p = 2 * length p.stages + all_memory_count p.mems + 2

@@ -10,7 +10,7 @@ use Rattle.pdl_machine_facts.specs.Ports.{request_values}
 abbrev pub request_after : ℕ → List Act → Option ℕ → Bool → Request → Request
 request_after m ms sq answered old = request_left sq (asked_by m ms (if answered then NoRequest else old))
 
--- those of these memories, of which the first is m
+-- the requests of memories after a cycle, of which the first is m
 abbrev pub requests_after : Pipe → List Bool → List Act → Option ℕ → ℕ → List Request → List Request
 requests_after p bits ms sq m [] = []
 requests_after p bits ms sq m (r ∷ rs) = request_after m ms sq (is_answered p bits m) r ∷ requests_after p bits ms sq (suc m) rs

@@ -13,7 +13,7 @@ use Rattle.pdl_machine_run.specs.Outputs.{output_count}
 abbrev pub state_in : Run → State
 state_in r = state_of (seats r.stages.items) r.beside r.next
 
--- its state is one that a run comes to, and it has room for a cycle
+-- a run whose state is one that a run comes to, and that has room for a cycle
 pub record IsRunning (f : Form) (r : Run) : Type 0 where
   pub ready : AreReady f r.stages.items
   pub ahead : IsWide f r.way

@@ -65,7 +65,7 @@ abbrev pub thread_of : ℕ → r_slot.ThreadSlot → Thread
 thread_of number s =
     record { number = number; env = s.values.items; guess = s.guess.items; awaits = map awaited_view s.awaits.items; kept = map kept_view s.kept.items }
 
--- if there is one
+-- the thread that stands there, if there is one
 abbrev pub thread_if : Option ℕ → r_slot.ThreadSlot → Option Thread
 thread_if None s = None
 thread_if (Some number) s = Some (thread_of number s)

@@ -25,7 +25,7 @@ by_values f g k (x ∷ xs) rest shown s h =
     (λ i. let e : 2 * (s + 1) + i ≡ 2 * s + suc (suc i) = omega arith in ap (slice_index shown) e ∙ h (suc (suc i))) in
     ap₂ (λ c cs. c ∷ cs) (ap₂ (λ v m. letter (v == 1) (m == 1)) holds moves ∙ ap₂ letter (bit_one (f k)) (bit_one (g k))) later
 
--- those of all stages are the letters of the machine's cycle
+-- the letters of all stages, by the values of the ports, are those of the machine's cycle
 pub letters_shown : (p : Pipe) (st : State) (these : List Act)
     → letters_from (whole_values p (ports p st these)) 0 (length p.stages) ≡ letters (ports p st these).valid (ports p st these).moves
 letters_shown p st these =
@@ -44,7 +44,7 @@ pub has_stages : (p : Pipe) (st : State) (these : List Act) → 2 * length p.sta
 has_stages p st these =
     two_each (λ s. list_any (λ (a : Act). a.stage == s) these) (λ s. list_any (λ (a : Act). a.stage == s) (movers these)) 0 p.stages _
 
--- one stage more
+-- the letters from a stage on are that of this stage and those of the later ones
 pub letters_step : (shown : List ℕ) (stage stages : ℕ)
     → stage < stages
     → letters_from shown stage (stages - stage) ≡ letter_at shown stage ∷ letters_from shown (stage + 1) (stages - (stage + 1))

@@ -71,7 +71,7 @@ module _ (p : Pipe) (st next : State) (bits : ℕ) (shown : List ℕ) (state : n
 module _ (old new : Running) (bits : ℕ) (state : state_of new ≡ stated.cycle (flat_of old) (state_of old) (replies_to old bits))
     (seen : new.shown ≡ whole_values (flat_of old) (ports (flat_of old) (state_of old) (all_acts (flat_of old) (state_of old) (replies_to old bits))))
     (pipe : new.pipe ≡ old.pipe) where
-  -- two values are shown of each stage
+  -- at least two values are shown for each stage
   pub stages_there : 2 * length (flat_of old).stages ≤ length new.shown
   stages_there = stages_in (flat_of old) (state_of old) (state_of new) bits new.shown state seen
 
@@ -87,7 +87,7 @@ module _ (old new : Running) (bits : ℕ) (state : state_of new ≡ stated.cycle
 pub left_none : (p : Pipe) (st : State) (delays : List ℕ) (done cycles : ℕ) → cycles ≤ done → left p st delays done cycles ≡ []
 left_none p st delays done cycles l = let none : cycles - done ≡ 0 = omega arith in rw none refl
 
--- as many stages as before
+-- a machine with the same pipe has as many stages
 pub same_stages : (new old : Running) → new.pipe ≡ old.pipe → length (flat_of new).stages ≡ length (flat_of old).stages
 same_stages new old pipe = ap (λ q. length (flat (pipe_view q)).stages) pipe
 

@@ -59,7 +59,7 @@ fixed_at c w k h =
     let P : ℕ → Type 0 = λ i. IsFixed c (signals_from c c.cells []) i (cell_at c k) in
     subst P n (fixed c c.cells [] w k h)
 
--- what a cell means
+-- the net of a cell means the signal that the cell makes
 pub signal_cell : (c : Circuit) → CellsFit c → (k : ℕ) → k < length c.cells → signal c (CellNet k) ≡ cell_signal c (signal c) (cell_at c k)
 unfolding signal signals
 signal_cell c w k h = (fixed_at c w k h).value

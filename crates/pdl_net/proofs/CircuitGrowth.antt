@@ -50,7 +50,7 @@ all_fit_append : (c : Circuit) (xs ys : List Cell) (done : List Signal) → AllF
 all_fit_append c [] ys done f g = g
 all_fit_append c (x ∷ xs) ys done f g = (f.0, all_fit_append c xs ys (done ++ cell_signal c (look c done) x ∷ []) f.1 g)
 
--- one more cell fits
+-- with one more cell that fits, all cells fit
 pub all_fit_added : (old new : Circuit) (g : Cell) → Grows old new → AllFit old old.cells [] → Fits old g
     → new.cells ≡ old.cells ++ g ∷ [] → AllFit new new.cells []
 unfolding signal signals IsThere

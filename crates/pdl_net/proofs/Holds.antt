@@ -12,7 +12,7 @@ use Rattle.pdl_net.specs.declared.Array.{Array}
 use Rattle.pdl_net.proofs.Bounds.{bounded}
 use Rattle.pdl_net.specs.Holds.{Holds}
 
--- all arrays after their writes
+-- the j-th of the arrays from k on has its words after the writes of its ports
 pub arrays_at : (c : Circuit) (s : State) (ms : List Array) (k j : ℕ)
     → j < length ms
     → get_or (arrays_from c s ms k) j [] ≡ after_writes c s (get_or ms j no_array).writes (get_or s.arrays (k + j) [])

@@ -36,7 +36,7 @@ pub signal_read : (c : Circuit) (xs : List Cell) (k : ℕ) → IsWell c
     → k < length c.cells → xs ≡ c.cells → signal c (CellNet k) ≡ cell_signal c (signal c) (get_or xs k no_cell)
 signal_read c xs k w h e = signal_cell c w.cells k h ∙ ap (λ l. cell_signal c (signal c) (get_or l k no_cell)) (sym e)
 
--- one width more
+-- an empty list has the widths of no cells
 pub widths_none : (c : Circuit) (ws : List ℕ) → ws ≡ [] → HasWidths c ws
 widths_none c ws e = let n = ap length e in record { each = λ j h. absurd (omega (arith, n)) }
 

@@ -22,7 +22,7 @@ before c k (Input i) l h = record { there = h; before = omega arith }
 before c k (RegNet r) l h = record { there = h; before = omega arith }
 before c k (CellNet j) l h = record { there = omega arith; before = omega arith }
 
--- the k-th cell
+-- the net of the k-th cell is as wide as the signal that the cell makes
 pub width_is : (c : Circuit) → CellsWell c → (k : ℕ)
     → k < length c.cells → (signal c (CellNet k)).width ≡ (cell_signal c (signal c) (cell_at c k)).width
 width_is c w k h = ap (λ f. f.width) (signal_cell c w.fit k h)

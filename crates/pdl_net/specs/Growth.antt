@@ -17,7 +17,7 @@ pub record Keeps (old new : Circuit) : Type 0 where
   pub word : (m : ℕ) → HasArray old m → array_width new m ≡ array_width old m
   pub depth : (m : ℕ) → HasArray old m → array_depth new m ≡ array_depth old m
 
--- it also has no more ports and arrays, and what the old registers and arrays take next is as it was
+-- the new circuit keeps the old one, has the same ports and arrays, and what the old registers and arrays take next is as it was
 pub record Extends (old new : Circuit) : Type 0 where
   pub there : (x : Net) → IsThere old x → IsThere new x
   pub kept : (x : Net) → IsThere old x → signal new x ≡ signal old x
@@ -43,7 +43,7 @@ pub record Own : Type 0 where
 abbrev pub Outside : ℕ → ℕ → ℕ → Type 0
 Outside from to r = (r < from) ⊎ (to ≤ r)
 
--- the same, but for what a fragment's registers and arrays take next
+-- the same as `Extends`, but for what a fragment's registers and arrays take next
 pub record ExtendsBut (o : Own) (old new : Circuit) : Type 0 where
   pub there : (x : Net) → IsThere old x → IsThere new x
   pub kept : (x : Net) → IsThere old x → signal new x ≡ signal old x

@@ -39,11 +39,11 @@ pub record PortMem : Type 0 where
   pub width : ℕ
   pub bits : ℕ
 
--- of a delayed memory: whether it answers, and the word
+-- the inputs by which a delayed memory answers: whether it does, and the word
 abbrev pub reply_ports : PortMem → List Head
 reply_ports m = input (codes "p_" ++ m.name) 1 ∷ input (codes "pd_" ++ m.name) m.width ∷ []
 
--- the widths of these
+-- the widths of the inputs by which a delayed memory answers
 abbrev pub reply_widths : PortMem → List ℕ
 reply_widths m = 1 ∷ m.width ∷ []
 

@@ -208,7 +208,7 @@ within_at f ps i p a b xs l e h w =
     each_within_stays a b xs (f p) h
     (subst (λ q. Each (IsWithin a.kept) (f q)) (sym e) (each_get (λ q. Each (IsWithin a.kept) (f q)) ps i p l (each_unflat (IsWithin a.kept) f ps w)))
 
--- of a copied element
+-- the nets of the first i elements and then those of the element read at i are added as those of the first i + 1
 pub adds_read : {X : Type 0} (f : X → List Net) (ps : List X) (i : ℕ) (d : X) (a b c : Work)
     → i < length ps → Adds a b (flat_map f (take i ps)) → Adds b c (f (get_or ps i d))
     → Adds a c (flat_map f (take (i + 1) ps))

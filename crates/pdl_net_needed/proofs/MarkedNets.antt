@@ -244,7 +244,7 @@ sources_there c f (Input i) h = tt
 sources_there c f (RegNet r) h = ((f.regs r h).next, tt)
 sources_there c f (CellNet j) h = cell_there c f j h
 
--- its sources have marks
+-- the sources of a net that was still to be looked at have marks
 pub taken_within : (c : Circuit) (u v : Work) (x : Net) → IsWell c → IsMarking c u
     → u.waiting ≡ v.waiting ++ x ∷ [] → v.kept ≡ u.kept → Each (IsWithin v.kept) (sources c x)
 taken_within c u v x f h e k =

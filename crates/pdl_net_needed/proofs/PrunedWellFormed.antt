@@ -91,7 +91,7 @@ array_well k n h f m l =
           (write_well k n h f a r.old (write_kept (circuit_of n) k h m o i r.old r.here) (w.writes i r.old r.here));
     })
 
--- a netlist pruned by a closed choice is well formed where the whole is
+-- the circuit of a netlist pruned by a closed choice is well formed where that of the whole is
 pub well : (k : Choice) (n : Netlist) → IsClosed (circuit_of n) k → IsWell (circuit_of n) → IsWell (after k n)
 well k n h f = record {
   ports = port_well k n h f;

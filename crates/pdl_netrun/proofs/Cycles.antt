@@ -110,7 +110,7 @@ stores_now a bits r ps vs old new e f g h =
     h ∙ ap (λ l. stores_after (map (slice_index vs) ps) l bits) g
     ∙ ap (λ l. stores_after l a.outside.items bits) (ap (map (slice_index vs)) e ∙ outs_now a bits r vs f)
 
--- they go on standing outside the netlist
+-- the delayed memories go on standing outside the netlist
 pub outside_now : (a : Inside) (bits : ℕ) → IsReady a → (new : List Outside)
     → stores_of new ≡ stores_after (output_values (circuit_of a.net.now) (state_now a bits)) a.outside.items bits
     → map (λ (m : Outside). m.commits) new ≡ map (λ (m : Outside). m.commits) a.outside.items

@@ -235,7 +235,7 @@ commit_below : (b : Bool) (x v n : ℕ) → v < n → (a w : ℕ) → if◌then�
 commit_below true x v n h a w e = let k : v ≡ w = ap value_in e in omega (arith, k, h)
 commit_below false x v n h a w e = absurd cc
 
--- the words go on fitting
+-- the words of delayed memories go on fitting their inputs after a cycle
 pub words_kept : (c : Circuit) (s : State) (ws : List ℕ) (infos : List MemInfo) (ms : List Store) (bits : ℕ) → Suits c s
     → CommitsFit c ws infos → WordsFit ws ms → WordsFit ws (next_stores c (output_values c s) infos ms bits)
 words_kept c s [] [] [] bits t k f = tt
@@ -272,7 +272,7 @@ commits_first : (c : Circuit) (ds : List PortMem)
 commits_first c [] f = tt
 commits_first c (d ∷ ds) f = (f zero d (omega arith), commits_first c ds (λ k x l. f (suc k) x (omega (arith, l))))
 
--- there are no more of them than memories, and these are few
+-- there are no more delayed memories than memories, and at most 16
 pub few_delayed : (n : Netlist) (p : IsPipe n) → (length (delayed_mems n) ≤ length n.mems) × (length (delayed_mems n) ≤ 16)
 few_delayed n p =
     let all : length n.mems ≡ length (map delayed_info p.delayed) + _ = ap length p.mems ∙ length-append (map delayed_info p.delayed) _ in
@@ -320,7 +320,7 @@ fit_at_start n image w i =
           (subst (λ (ws : List ℕ). CommitsFit c ws (map delayed_info ds)) (sym (inputs_told n p)) (commits_first c ds values));
     }
 
--- those of a well formed netlist stand outside it
+-- the delayed memories of a well formed netlist, as they are at the start, stand outside it
 pub stand_outside : (n : Netlist) (image : List (List ℕ)) (ms : List Outside) → IsWellFormed n → IsImage n.mems image
     → stores_of ms ≡ first_stores (take (length (delayed_mems n)) image)
     → map (λ (m : Outside). m.commits) ms ≡ map (λ (i : MemInfo). places_of (circuit_of n) i.name) (delayed_mems n)

@@ -53,7 +53,7 @@ ordered_fits c order ps xs j k w o h e f =
     let P : List Cell → Type 0 = λ l. FitsIn c (IsThereAt c (length c.cells)) (signal c) (get_or l k (cell.Const 0 0)) in
     subst P (sym f) (fits_whole c w k (subst (λ i. i < length c.cells) (sym e) ((o.turns j h).there)))
 
--- the runs at the end
+-- where a last run ends the order, the steps of all runs are those of the whole order
 pub runs_end : (rs all : List CellRun) (r : CellRun) (order : List ℕ) (f : ℕ → Step) (j : ℕ)
     → all ≡ rs ++ r ∷ [] → steps_of rs ++ steps_with r.kind r.operands.items ≡ map f (take j order) → length order ≤ j
     → steps_of all ≡ map f order

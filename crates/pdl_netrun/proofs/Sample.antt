@@ -144,7 +144,7 @@ sample_well = record {
   pipe = pipe_well;
 }
 
--- what is equal to it
+-- a netlist equal to that of the tests is well formed
 pub well_of : (n : Netlist) → n ≡ sample → IsWellFormed n
 well_of n e = subst IsWellFormed (sym e) sample_well
 

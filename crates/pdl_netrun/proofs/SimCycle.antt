@@ -208,7 +208,7 @@ module _ (c : Circuit) (w : IsWell c) (ps : List ℕ) (n : ℕ) (all : AllEarly 
       let l : k < length c.regs = omega (arith, h, simp length-map at h) in
       subst (λ m. m < n) (sym (get_or-map (λ (r : Reg). place c ps r.next) c.regs k no_reg d l)) (below (reg_at c k).next ((w.regs k l).next))
 
-  -- so are the places that the registers' next values are read from
+  -- the places that the registers' next values are read from are below those of a list that has all nets
   pub nexts_below : (places : List ℕ) → places ≡ map (λ r. place c ps r.next) c.regs → AreBelow n places
   nexts_below places e = subst (AreBelow n) (sym e) next_below
 

@@ -22,7 +22,7 @@ cells_more kind os first k o vs ws h e =
     ∙ ap (λ y. after_steps (steps_with kind (drop (k + 1) os)) (suc (first + k)) (after_kind kind y (first + k) vs ws) ws) e
     ∙ sym (ap (λ l. after_steps (steps_with kind l) (first + k) vs ws) (drop_more os k o h))
 
--- it fits, and so do those after it
+-- a cell whose turn it is fits, and so do those after it
 pub cells_fit : (kind : CellKind) (os : List CellOperands) (first k : ℕ) (o : CellOperands) (vs : List ℕ) (ws : List (List ℕ))
     → k < length os → o ≡ get_or os k o → StepsFit (steps_with kind (drop k os)) (first + k) vs ws
     → KindFits kind o vs ws × StepsFit (steps_with kind (drop (k + 1) os)) (first + (k + 1)) (after_kind kind o (first + k) vs ws) ws
@@ -58,7 +58,7 @@ fit_append (x ∷ xs) ys at vs ws f =
     let r = fit_append xs ys (suc at) (after_step x at vs ws) ws f.1 in
     ((f.0, r.0), subst (λ n. StepsFit ys n (after_steps xs (suc at) (after_step x at vs ws) ws) ws) e r.1)
 
--- constants change nothing
+-- the steps of constants change no value
 pub constants_stand : (os : List CellOperands) (at : ℕ) (vs : List ℕ) (ws : List (List ℕ))
     → after_steps (steps_with kinds.Constant os) at vs ws ≡ vs
 constants_stand [] at vs ws = refl
@@ -90,7 +90,7 @@ run_fits rs k n at r vs ws h e m f =
           (with_length r.kind r.operands.items ∙ sym m) g.1,
     )
 
--- and after it those are left
+-- after the run at k and then those after it the values are as after all runs from k on
 pub run_rest : (rs : List CellRun) (k n at : ℕ) (r : CellRun) (vs : List ℕ) (ws : List (List ℕ))
     → k < length rs → r ≡ get_or rs k r → n ≡ length r.operands.items
     → after_steps (steps_of (drop (k + 1) rs)) (at + n) (after_steps (steps_with r.kind r.operands.items) at vs ws) ws
@@ -146,7 +146,7 @@ mapped_all f xs ys k e l m = sym (take_all k ys m) ∙ e ∙ ap (map f) (take_al
 
 pub ruleset reads = (mapped_more, mapped_all)
 
--- one write more
+-- after the write at k and then those after it the arrays are as after all writes from k on
 pub writes_more : (ps : List PlannedWrite) (k : ℕ) (p : PlannedWrite) (vs : List ℕ) (ws : List (List ℕ))
     → k < length ps → p ≡ get_or ps k p
     → after_all (drop (k + 1) ps) vs (after_write p vs ws) ≡ after_all (drop k ps) vs ws

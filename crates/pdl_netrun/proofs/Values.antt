@@ -136,7 +136,7 @@ module _ (c : Circuit) (s : State) (w : IsWell c) (t : Suits c s) (ps vs : List 
       let r = h.2 in
       record { there = here a h.1; array = omega (arith, t.array_count, h.0); within = omega (arith, e, f, r) }
 
-  -- it gives its place the signal's value; a constant's has it
+  -- the step of a cell that fits gives its place the signal's value, which a constant's place has already
   pub after_planned : (g : Cell) (at : ℕ) → FitsIn c (IsPlaced c ps n) (signal c) g → at < length vs
       → IsHeld g (slice_index vs at)
       → slice_index (after_step (step_of_cell c ps g) at vs s.arrays) at ≡ (cell_signal c (signal c) g).value s
@@ -297,7 +297,7 @@ walked_from c s w t order ps o (suc n) j e vs m v f =
       count = r.count ∙ k;
     })
 
--- all steps
+-- the steps of all cells in their order walk the values from the first place on
 pub walked : (c : Circuit) (s : State) → IsWell c → Suits c s → (order ps : List ℕ) → IsOrder c order ps → (vs : List ℕ)
     → length vs ≡ first_place c + length order → HasValues c ps s vs (first_place c) → HasConstants c ps (length vs) vs
     → IsWalked c ps s vs (order_steps c ps order) (first_place c)

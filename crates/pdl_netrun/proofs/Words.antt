@@ -4,7 +4,7 @@ use Rattle.std.proofs.lemmas.List.{get_or-map, length-map, map-set}
 use Rattle.pdl_netrun.specs.Steps.{array_words}
 use Rattle.pdl_word.proofs.Lists.{items_written}
 
--- an array of the list
+-- the words of the m-th array are the items of its list
 pub word_list : (arrays : List (Vec ℕ Global)) (m : ℕ) (v : Vec ℕ Global)
     → m < length arrays → v ≡ get_or arrays m v → get_or (array_words arrays) m [] ≡ v.items
 word_list arrays m v h e = get_or-map (λ (w : Vec ℕ Global). w.items) arrays m v [] h ∙ ap (λ (w : Vec ℕ Global). w.items) (sym e)

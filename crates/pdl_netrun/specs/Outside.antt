@@ -26,7 +26,7 @@ stores_of ms = map store_of ms
 abbrev pub commit_at : List ℕ → CommitPlaces → Option (ℕ × ℕ)
 commit_at ports p = if value_at ports p.commit == 1 then Some (value_at ports p.addr, value_at ports p.value) else None
 
--- the same of a request
+-- the address of the request that the ports at these places show, where the request port is 1
 abbrev pub request_at : List ℕ → RequestPlaces → Option ℕ
 request_at ports p = if value_at ports p.request == 1 then Some (value_at ports p.addr) else None
 
@@ -37,7 +37,7 @@ store_after ports answered m = record {
   request = outstanding m.request answered (request_at ports m.requests);
 }
 
--- all of them, by the reply bits of the cycle
+-- all delayed memories after a cycle that shows these ports, by the reply bits of the cycle
 abbrev pub stores_after : List ℕ → List Outside → ℕ → List Store
 stores_after ports [] bits = []
 stores_after ports (m ∷ ms) bits = store_after ports (reply bits) m ∷ stores_after ports ms (bits / 2)
@@ -63,11 +63,11 @@ pub record AreOutside (c : Circuit) (infos : List MemInfo) (ms : List Outside) :
   pub fit : WordsFit (inputs_of c) (stores_of ms)
   pub wide : CommitsFit c (inputs_of c) infos
 
--- before the first cycle a delayed memory has its part of the image, and no request is outstanding
+-- the delayed memories before the first cycle: each has its part of the image, and no request is outstanding
 abbrev pub first_stores : List (List ℕ) → List Store
 first_stores image = map (λ words. record { words = words; request = None }) image
 
--- the same of one, with its ports by its name
+-- a delayed memory before the first cycle, with these words, no outstanding request, and the ports of its name
 pub record IsOutsideOf (c : Circuit) (name words : List ℕ) (m : Outside) : Type 0 where
   pub store : store_of m ≡ record { words = words; request = None }
   pub commits : m.commits ≡ places_of c name

@@ -48,7 +48,7 @@ held_at_start _ = 0
 abbrev pub planned_write : Circuit → List ℕ → ℕ → WritePort → PlannedWrite
 planned_write c ps m p = record { array = m; enable = place c ps p.enable; addr = place c ps p.addr; value = place c ps p.value }
 
--- those of arrays of which the first has the number m
+-- the write ports of arrays of which the first has the number m, with the places of their nets
 abbrev pub writes_from : Circuit → List ℕ → ℕ → List Array → List PlannedWrite
 writes_from c ps m [] = []
 writes_from c ps m (a ∷ rest) = map (planned_write c ps m) a.writes ++ writes_from c ps (suc m) rest

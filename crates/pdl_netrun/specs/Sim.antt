@@ -10,18 +10,18 @@ pub record Run : Type 0 where
   pub held : Held
   pub last : Shown
 
--- before the first cycle all ports are 0 and nothing waits
+-- what is shown before the first cycle: all ports are 0 and nothing waits
 abbrev pub nothing : Netlist → Shown
 nothing n = record { ports = replicate (length (outputs_of (circuit_of n))) 0; waited = false }
 
--- before the first cycle, where registers, arrays and delayed memories hold this
+-- a run before the first cycle, where registers, arrays and delayed memories hold this
 abbrev pub run_at : Netlist → List ℕ → List (List ℕ) → List Store → Run
 run_at n regs arrays stores = record { netlist = n; held = record { regs = regs; arrays = arrays; stores = stores }; last = nothing n }
 
--- at the start of the first cycle
+-- a run at the start of the first cycle
 abbrev pub run_at_start : Netlist → List (List ℕ) → Run
 run_at_start n image = record { netlist = n; held = start n image; last = nothing n }
 
--- after a cycle with these reply bits
+-- a run after a cycle with these reply bits
 abbrev pub run_after : Run → ℕ → Run
 run_after r bits = record { netlist = r.netlist; held = next r.netlist r.held bits; last = shown_ports r.netlist r.held bits }

@@ -22,7 +22,7 @@ AreBelow n places = All (λ p. p < n) places
 abbrev pub reading_at : ℕ → ℕ → CellOperands
 reading_at a b = record { places = a ∷ b ∷ []; selector = 0; width = 0; high = 0; low = 0; count = 0 }
 
--- the places of the two words
+-- the place of the first word
 abbrev pub first_of : CellOperands → ℕ
 first_of o = slice_index o.places 0
 
@@ -30,7 +30,7 @@ first_of o = slice_index o.places 0
 abbrev pub second_of : CellOperands → ℕ
 second_of o = slice_index o.places 1
 
--- the words there
+-- the word at the first place
 abbrev pub first : CellOperands → List ℕ → ℕ
 first o vs = slice_index vs (first_of o)
 
@@ -71,7 +71,7 @@ pub record AreThere (o : CellOperands) (vs : List ℕ) : Type 0 where
   pub first : first_of o < length vs
   pub second : second_of o < length vs
 
--- they hold words of w bits
+-- both places are there and hold words of w bits
 pub record AreWords (w : ℕ) (o : CellOperands) (vs : List ℕ) : Type 0 where
   pub there : first_of o < length vs
   pub second_there : second_of o < length vs
@@ -179,7 +179,7 @@ after_write p vs ws =
     then slice_set ws p.array (slice_set (slice_index_or ws p.array []) (slice_index vs p.addr) (slice_index vs p.value))
     else ws
 
--- and after some, the later last
+-- the arrays after these writes, done one after the other
 abbrev pub after_all : List PlannedWrite → List ℕ → List (List ℕ) → List (List ℕ)
 after_all [] vs ws = ws
 after_all (p ∷ ps) vs ws = after_all ps vs (after_write p vs ws)

@@ -70,7 +70,7 @@ next_port : (n : Netlist) (ports : List Port) (k : ℕ) (p : Port)
     → k < length ports → p ≡ get_or ports k p → by_ports n (drop k ports) ≡ by_ports n (p ∷ drop (k + 1) ports)
 next_port n ports k p l e = ap (by_ports n) (drop_more ports k p l ∙ ap (λ q. q ∷ drop (k + 1) ports) (sym e))
 
--- one by which a memory commits
+-- with an output by which a memory commits, the order so far has that memory too
 pub one_more : (n : Netlist) (ports : List Port) (k : ℕ) (p : Port) (x : Net) (i : ℕ) (old new : List ℕ)
     → k < length ports → p ≡ get_or ports k p → p.dir ≡ Out x → Some i ≡ number_by n p → i < length n.mems
     → new ≡ old ++ i ∷ [] → AreSoFar n old (drop k ports) → AreSoFar n new (drop (k + 1) ports)
@@ -88,7 +88,7 @@ one_more n ports k p x i old new l e out h low more so_far =
           ∙ so_far.mems;
     }
 
--- one by which none does
+-- an output that begins no commit of a memory changes nothing in the order so far
 pub none_more : (n : Netlist) (ports : List Port) (k : ℕ) (p : Port) (x : Net) (order : List ℕ)
     → k < length ports → p ≡ get_or ports k p → p.dir ≡ Out x → None ≡ number_by n p → AreSoFar n order (drop k ports)
     → AreSoFar n order (drop (k + 1) ports)
@@ -97,7 +97,7 @@ none_more n ports k p x order l e out h so_far = record {
   mems = ap (λ l. map (mem_at n) order ++ l) (sym (next_port n ports k p l e ∙ by_output n p x (drop (k + 1) ports) None out h)) ∙ so_far.mems;
 }
 
--- an input
+-- an input changes nothing in the order so far
 pub input_more : (n : Netlist) (ports : List Port) (k : ℕ) (p : Port) (order : List ℕ)
     → k < length ports → p ≡ get_or ports k p → p.dir ≡ In → AreSoFar n order (drop k ports)
     → AreSoFar n order (drop (k + 1) ports)

@@ -9,7 +9,7 @@ use Rattle.pdl_law_parts.specs.Runs.{column_of, puts_of}
 abbrev pub lines_of : ℕ → (MemInfo → Option (ℕ × ℕ)) → List MemInfo → List ℕ
 lines_of n f ms = cycle_lines n (map column_of ms) (map (λ (m : MemInfo). puts_of (f m)) ms)
 
--- the lines of the next memory, and of those after it
+-- the lines of the memories from the i-th on are those of the i-th memory and those of the memories after it
 pub lines_next : (n : ℕ) (f : MemInfo → Option (ℕ × ℕ)) (at : ℕ → MemInfo) (order : List ℕ) (i : ℕ) (m : MemInfo) (r : Option (ℕ × ℕ))
     → i < length order → m ≡ at (get_or order i 0) → r ≡ f (at (get_or order i 0))
     → lines_of n f (map at (drop i order)) ≡ mem_lines n (column_of m) (puts_of r) ++ lines_of n f (map at (drop (i + 1) order))

@@ -32,7 +32,7 @@ left_step n h rows done cycles lt =
     let e : cycles - done ≡ suc (cycles - (done + 1)) = omega arith in
     rw e refl
 
--- the lines of the next cycle, and of those after it
+-- the lines of cycles are those of the first cycle and those of the cycles after it
 pub lines_step : (number : ℕ) (ms : List Column) (c : Cycle) (cs rest : List Cycle)
     → cs ≡ c ∷ rest → lines_from number ms cs ≡ cycle_lines number ms c.puts ++ lines_from (number + 1) ms rest
 lines_step number ms c cs rest e =
@@ -67,7 +67,7 @@ pub record Counted (n : RunCounts) (rest all : List Cycle) (done : ℕ) : Type 0
   pub few_waits : n.waits ≤ done
   pub few_squashes : n.squashes ≤ done
 
--- one cycle more
+-- with one cycle more tallied, the counts are those of one cycle more
 pub counted_more : (old new : RunCounts) (c : Cycle) (cs rest all : List Cycle) (done : ℕ) → cs ≡ c ∷ rest → new ≡ tallied_of old c
     → Counted old cs all done → Counted new rest all (done + 1)
 counted_more old new c cs rest all done more e h =
@@ -91,10 +91,10 @@ shown_length n h (b ∷ bits) = ap suc (shown_length n (next n h b) bits)
 pub schedule_length : (rows : List ℕ) (first cycles : ℕ) → length (replies_from rows first cycles) ≡ cycles
 schedule_length rows first cycles = length-map (range_with_len first cycles) (bits_in rows) ∙ length-range_with_len first cycles
 
--- as many cycles as reply bits
+-- a run has as many cycles as reply bits
 pub left_length : (n : Netlist) (h : Held) (bits : List ℕ) → length (cycles_from n h bits) ≡ length bits
 left_length n h bits = length-map (nports_from n h bits) (cycle_of n) ∙ shown_length n h bits
 
--- and so as many as were asked for
+-- a run has as many cycles as were asked for
 pub run_length : (n : Netlist) (h : Held) (rows : List ℕ) (cycles : ℕ) → length (cycles_from n h (schedule rows cycles)) ≡ cycles
 run_length n h rows cycles = left_length n h (schedule rows cycles) ∙ schedule_length rows 1 cycles

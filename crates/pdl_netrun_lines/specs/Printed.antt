@@ -29,6 +29,6 @@ replies_from rows first cycles = map (bits_in rows) (range_with_len first cycles
 abbrev pub schedule : List ℕ → ℕ → List ℕ
 schedule rows cycles = replies_from rows 1 cycles
 
--- those of a run that is asked for
+-- the reply bits of the run that is asked for
 abbrev pub replies_of : Schedule → List ℕ
 replies_of s = schedule s.delays.now s.cycles

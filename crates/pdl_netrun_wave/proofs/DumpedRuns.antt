@@ -27,19 +27,19 @@ pub rows_length : (n : Netlist) (h : Held) (bits : List ℕ) → length (rows_of
 rows_length n h [] = refl
 rows_length n h (b ∷ bits) = ap suc (rows_length n (next n h b) bits)
 
--- as many as cycles
+-- as many rows of values are shown as there are cycles
 pub left_length : (n : Netlist) (h : Held) (delays : List ℕ) (cycles : ℕ)
     → length (rows_of (nports_from n h (schedule delays cycles))) ≡ cycles
 left_length n h delays cycles = rows_length n h (schedule delays cycles) ∙ schedule_length delays 1 cycles
 
 module _ (old new : Run) (bits : ℕ) (e : new ≡ run_after old bits) where
-  -- what a cycle shows fits
+  -- what a run shows after a cycle fits the ports of its netlist
   pub shown : (ports : List WavePort) → ports ≡ wave_ports old.netlist → IsFit old.netlist old.held → IsShownBy ports new
   shown ports own fit =
       let P : List WavePort → Type 0 = λ ps. IsShownBy ps (run_after old bits) in
       subst (IsShownBy ports) (sym e) (subst P (sym own) (record { own = refl; row = fit_row old.netlist old.held bits fit }))
 
-  -- and the next state does
+  -- after a cycle the run still fits its netlist
   pub fit_after : IsFit old.netlist old.held → IsFit new.netlist new.held
   fit_after fit = subst (λ (r : Run). IsFit r.netlist r.held) (sym e) (fit_next old.netlist old.held bits fit)
 
@@ -55,7 +55,7 @@ module _ (old new : Run) (bits : ℕ) (e : new ≡ run_after old bits) where
       ≡ r.last.ports ∷ left r delays (done + 1) cycles)
       (sym e) refl
 
-  -- one cycle further
+  -- the text of the cycles that are left is that of the next one and that of those after it
   pub cycle_step : (ports : List WavePort) (delays : List ℕ) (done cycles : ℕ) (before : List ℕ) → bits ≡ bits_in delays (done + 1) → done < cycles →
       cycles_text ports (done + 1) before (left old delays done cycles)
       ≡ cycle_text ports (done + 1) before new.last.ports ++ cycles_text ports (done + 1 + 1) new.last.ports (left new delays (done + 1) cycles)
@@ -64,7 +64,7 @@ module _ (old new : Run) (bits : ℕ) (e : new ≡ run_after old bits) where
       ap (cycles_text ports (done + 1) before) (left_step delays done cycles is l)
       ∙ ap (λ k. cycle_text ports (done + 1) before new.last.ports ++ cycles_text ports k new.last.ports (left new delays (done + 1) cycles)) number
 
--- the last piece
+-- where the last piece is passed on, all bytes have been passed on, but for those that are held
 pub finish_on : (o a b : Option (List ℕ)) (all rest held piece : List ℕ)
     → rest ≡ piece → IsUnderWay o a all rest held → {X Y : Type 0} (r : Result X Y) (held' : List ℕ)
     → Passes a b r (held ++ piece) held' → Passes o b r all held'

@@ -121,7 +121,7 @@ next_port : (ports : List Port) (k : ℕ) (p : Port)
     → filter_map wave_port (drop k ports) ≡ cons_option (wave_port p) (filter_map wave_port (drop (k + 1) ports))
 next_port ports k p l e = ap (filter_map wave_port) (drop_more ports k p l ∙ ap (λ q. q ∷ drop (k + 1) ports) (sym e))
 
--- an output more
+-- with an output taken as a port of the dump, those taken and those of the later ports are still all
 pub output_more : (ports : List Port) (k : ℕ) (p : Port) (x : Net) (old new all : List WavePort) → k < length ports → p ≡ get_or ports k p → p.dir ≡ Out x →
     new ≡ old ++ record { name = p.name; width = p.width } ∷ [] → old ++ filter_map wave_port (drop k ports) ≡ all
     → new ++ filter_map wave_port (drop (k + 1) ports) ≡ all
@@ -132,7 +132,7 @@ output_more ports k p x old new all l e out more so_far =
     ∙ ap (λ ps. old ++ ps) (sym (next_port ports k p l e ∙ ap (λ d. cons_option (wave_with d p.name p.width) rest) out))
     ∙ so_far
 
--- an input more
+-- past an input, the ports of the dump that were taken and those of the later ports are still all
 pub input_more : (ports : List Port) (k : ℕ) (p : Port) (old all : List WavePort) → k < length ports → p ≡ get_or ports k p → p.dir ≡ In →
     old ++ filter_map wave_port (drop k ports) ≡ all → old ++ filter_map wave_port (drop (k + 1) ports) ≡ all
 input_more ports k p old all l e input so_far =

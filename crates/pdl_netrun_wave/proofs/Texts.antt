@@ -59,7 +59,7 @@ dump_text name ports rows before =
 
 -- ---- lines
 
--- one line further
+-- the text of the lines from k on is line k and then the text of the later lines
 pub next_line : (lines : List (List ℕ)) (k : ℕ)
     → k < length lines
     → flat_map ended (drop k lines) ≡ ended (get_or lines k []) ++ flat_map ended (drop (k + 1) lines)
@@ -77,7 +77,7 @@ told_or : (ports : List WavePort) (b : Bool) (i v : ℕ) (more : List Change) �
 told_or ports true i v more = refl
 told_or ports false i v more = refl
 
--- one port further
+-- the text of the changes from the i-th port on is that of the i-th port, if it changed, and that of the later ones
 pub next_port : (ports : List WavePort) (before row : List ℕ) (i : ℕ) → i < length row →
     changes_text ports (changes i before (drop i row))
     ≡ port_text ports (differs (slice_get before i) (get_or row i 0)) i (get_or row i 0) ++ changes_text ports (changes (i + 1) before (drop (i + 1) row))
@@ -121,7 +121,7 @@ empty : (xs : List Change) → is_none xs ≡ true → xs ≡ []
 empty [] e = refl
 empty (x ∷ xs) e = absurd (cc e)
 
--- and then the values are those before
+-- after a later cycle without changes the values are those before it
 pub quiet_same : (first : Bool) (before row : List ℕ)
     → length before ≡ length row → (not first && is_none (changes 0 before row)) ≡ true → before ≡ row
 quiet_same first before row n both =
@@ -150,7 +150,7 @@ next_change before row i l m =
     (if b then record { port = i; value = get_or row i 0 } ∷ changes (suc i) before (drop (i + 1) row) else changes (suc i) before (drop (i + 1) row)))
     (changed_as false before i (get_or row i 0) m)
 
--- one more
+-- where the i-th port keeps its value, there are no changes from i on just where there are none after i
 pub still_quiet : (before row : List ℕ) (i : ℕ)
     → i < length row → i < length before → get_or before i 0 ≡ get_or row i 0
     → is_none (changes i before (drop i row)) ≡ is_none (changes (i + 1) before (drop (i + 1) row))
@@ -163,7 +163,7 @@ still_quiet before row i l m e =
     (eq-eqb (get_or before i 0) (get_or row i 0) e)
     ∙ ap (λ j. is_none (changes j before (drop (i + 1) row))) next
 
--- one that does
+-- where the i-th port changes its value, there are changes from i on
 pub not_quiet : (before row : List ℕ) (i : ℕ)
     → i < length row → i < length before → (get_or before i 0 ≡ get_or row i 0 → ⊥)
     → is_none (changes i before (drop i row)) ≡ false

@@ -21,7 +21,7 @@ abbrev pub cycle_moments : Bool → ℕ → List ℕ → List ℕ → List Momen
 cycle_moments true cycle before now = record { time = cycle; changes = changes 0 [] now } ∷ []
 cycle_moments false cycle before now = with_moment cycle (changes 0 before now) []
 
--- the text of changes, and of moments
+-- the text of changes, line by line
 abbrev pub changes_text : List WavePort → List Change → List ℕ
 changes_text ports xs = flat_map ended (map (change_line ports) xs)
 

@@ -16,7 +16,7 @@ word_below [] = omega arith
 word_below (true ∷ xs) = omega (arith, word_below xs, pow-succ' 2 (length xs))
 word_below (false ∷ xs) = omega (arith, word_below xs, pow-succ' 2 (length xs))
 
--- an entry at the end
+-- the word of a list with an entry more at the end has the bit of that entry above it
 pub word_more : (xs : List Bool) (x : Bool) → word_of (xs ++ x ∷ []) ≡ word_of xs + bit x * 2 ^ length xs
 word_more [] true = omega arith
 word_more [] false = omega arith
@@ -49,7 +49,7 @@ pub sum_is : (n a b : ℕ) → a + b < 2 ^ n → words.add n a b ≡ a + b
 unfolding words.add
 sum_is n a b h = mod-eq_of_lt h
 
--- no entry, and the oldest one
+-- the word with a one for each entry is 0 just where there is no entry
 pub used_none : (u : ℕ) (xs : List Bool) → u + 1 ≡ 2 ^ length xs → words.equal u 0 ≡ bit (nat_eq (length xs) 0)
 unfolding words.equal
 used_none u [] e = let z : u ≡ 0 = omega (arith, e) in ap bit (eq-eqb u 0 z)

@@ -35,7 +35,7 @@ words_kept a b l x y = words_keep a b l x (extends_keeps a b y)
 pub order_keeps : (a b : Circuit) (r : OrderRegs) → Keeps a b → ArePlaced a r → ArePlaced b r
 order_keeps a b r k x = record { count = x.count; words = words_keep a b (layout_of r) x.words k }
 
--- so do the nets of a step
+-- the nets of an order's step stay there in a circuit that keeps what they were made in
 pub ports_keep : (a b : Circuit) (p : OrderPorts) → HasPorts a p → Keeps a b → HasPorts b p
 ports_keep a b p x k = record {
   entered_first = width_keeps a b p.entered_first 1 k x.entered_first;

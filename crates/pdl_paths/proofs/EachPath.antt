@@ -21,7 +21,7 @@ below test (suc n) b l e = at (eq-or-lt_of_le (less b n l)) (λ m. below test n 
     at (inr m) go = or_right _ _ (go m)
     at (inl i) go = or_left _ _ (sym (ap test i) ∙ e)
 
--- a path among them passes
+-- some path passes the test
 pub record HasPath (test : ℕ → Bool) : Type 0 where
   pub bits : ℕ
   pub passes : test bits ≡ true

@@ -43,7 +43,7 @@ in_second gs x xs ys n left further r e f t =
     here_later (mask_in gs x ∷ []) (map (mask_in gs) (xs ++ ys)) n left r e
     (subst (λ ms. Tells ms left r) (sym (map-append (mask_in gs) xs ys)) (here_later (map (mask_in gs) xs) (map (mask_in gs) ys) left further r f t))
 
--- and in one of the statements of a row, or in those after it
+-- the mask of the n-th place stays its mask with more places after it
 pub in_one : (gs : List Guard) (xs ys : List Place) (n : ℕ) (m : Mask) → Tells (map (mask_in gs) xs) n (Here m)
     → Tells (map (mask_in gs) (xs ++ ys)) n (Here m)
 in_one gs xs ys n m t = subst (λ ms. Tells ms n (Here m)) (sym (map-append (mask_in gs) xs ys)) (here_first (map (mask_in gs) xs) (map (mask_in gs) ys) n m t)

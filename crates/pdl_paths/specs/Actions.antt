@@ -10,7 +10,7 @@ use Rattle.pdl_paths.specs.declared.place.Place as r_place
 use Rattle.pdl_paths.specs.declared.action.Action.{Action}
 use Rattle.pdl_paths.specs.declared.action.Action.TheVariants as actions
 
--- with its span and in these branches
+-- the place that an action makes, with its span and in these branches
 abbrev pub place_at : Span → List Branch → Action → Place
 place_at s bs (actions.Parameter a) = Parameter (param_view a.now)
 place_at s bs (actions.Memory m) = Memory (mem_view m.now)

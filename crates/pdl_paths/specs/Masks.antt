@@ -38,7 +38,7 @@ with_number n truth m = if nat_lt n 16 then with_bit n truth m else m
 abbrev pub allows_path : Mask → ℕ → Bool
 allows_path m bits = (bit_and bits m.on == m.on) && (bit_and bits m.off == 0)
 
--- the mask of what stands in these branches, and of a place
+-- a mask with one more branch
 abbrev pub with_branch : List Guard → Mask → Branch → Mask
 with_branch gs m b = with_number (number_of b.guard gs) b.truth m
 

@@ -5,7 +5,7 @@ use Rattle.pdl_paths.specs.declared.numbered.Found.{Found}
 use Rattle.pdl_paths.specs.declared.numbered.Found.TheVariants.{Here, After}
 use Rattle.pdl_paths.specs.Masks.{everywhere}
 
--- it is the one of this number, or all stand before it and it has the other number after them
+-- the mask that was found is the n-th one, or all masks stand before the n-th and this many numbers are left after them
 abbrev pub Tells : List Mask → ℕ → Found → Type 0
 Tells masks n (Here mask) = (n < length masks) × (mask ≡ slice_index_or masks n everywhere)
 Tells masks n (After left) = n ≡ length masks + left

@@ -25,7 +25,7 @@ same_words : (l : Option LockDecl) (d : ℕ) → words_in (flat_lock l) d ≡ ar
 same_words None d = refl
 same_words (Some l) d = ap (λ x. words_in x d) (lock_is l) ∙ words_are l.kind l.size.value d
 
--- those of the memories that answer at once
+-- the shapes of the arrays are those of the memories that answer at once
 pub same_shapes : (ms : List Mem) → shapes_in (names_of ms) (mems_of ms) ≡ map shape_of_mem (comb_of ms)
 same_shapes [] = refl
 same_shapes (m ∷ ms) = at m.delayed (same_shapes ms)

@@ -145,7 +145,7 @@ module _ {T : Type 0} (l : Members T) (n : Nets T) (em : Emission l n) where
       names = λ m low. refl;
     }
 
-    -- they show the whole
+    -- the outputs show the whole netlist, as its law asks
     pub shown_made : (outs : List OutNet) → OutsThere em.i outs → ShowAll em.i f stages n.moves.squash n.commits n.requests outs
         → shown_by em.d outs ≡ whole_shown p (name_in f) (commits_in em.d n.commits) (asks_in em.d n.requests) vs gates moves
     shown_made outs there shown =
@@ -155,7 +155,7 @@ module _ {T : Type 0} (l : Members T) (n : Nets T) (em : Emission l n) where
 
   -- ---- ports and arrays
 
-  -- the inputs come first
+  -- the ports are the inputs first, then the outputs
   pub ports_made : (outs : List OutNet) → OutsThere em.i outs → ExtendsPorts em.i em.d (map (port_in em.i) (map output_of outs))
       → em.d.ports ≡ reply_ports (name_in f) 0 p.mems ++ map (port_in em.d) (map output_of outs)
   ports_made outs there added =

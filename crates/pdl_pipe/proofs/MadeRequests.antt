@@ -116,7 +116,7 @@ module _ {T : Type 0} (l : Members T) (n : Nets T) (em : Emission l n) where
     now : IsRequest em.b em.d p n.ends m here.0
     now = request_kept em.b em.c em.d p n.ends m here.0 (keeps_cd l n em) ((em.asked.each m low).asks here.0 here.1)
 
-    -- is asked as the law says
+    -- a delayed memory is asked as the law says
     pub outside : IsOutside p em.d vs moves sides (asks_in em.d n.requests m) m
     outside =
         subst (λ (o : Option RequestNets). IsOutside p em.d vs moves sides (ask_of em.d o) m) (sym here.1)
@@ -124,11 +124,11 @@ module _ {T : Type 0} (l : Members T) (n : Nets T) (em : Emission l n) where
         n.line.shared.now.ports.now (inputs_of p) (λ j. free_of l n em (reading p j) j) n.orders (clear_of l n em) (tails_in em.f n.tails)
         (keeps_bd l n em) stages_first em.can.onward m here.0 now refl refl)
 
-    -- by a bit
+    -- whether a delayed memory is asked is told by 1 bit
     pub request_one : (asks_in em.d n.requests m).enable.width ≡ 1
     request_one = subst (λ (o : Option RequestNets). (ask_of em.d o).enable.width ≡ 1) (sym here.1) now.enable_bit.width
 
-    -- with a net for the address, and commits a net of its width
+    -- a delayed memory is asked with a net for the address, and commits a net of its width
     pub fits_outside : Stays l → FitsOutside p em.d (asks_in em.d n.requests m) (commits_in em.d n.commits m) m
     fits_outside stays =
         subst (λ (o : Option RequestNets). FitsOutside p em.d (ask_of em.d o) (commits_in em.d n.commits m) m) (sym here.1)

@@ -15,11 +15,11 @@ arrays_same : (n q : Netlist) → HasSameFrame n q → map shape_of q.arrays ≡
 unfolding shapes_of
 arrays_same n q f = f.arrays
 
--- one shows in each cycle what the other shows
+-- one netlist shows in each cycle what the other shows
 abbrev pub ShowsSame : Netlist → Netlist → Type 0
 ShowsSame n q = (image : List (List ℕ)) (schedule : List ℕ) → nports q image schedule ≡ nports n image schedule
 
--- where there is memory for it
+-- the needed part of a netlist follows the pipe, where there is memory for it
 pub needed_follows : {E : Type 0} (p : tree.Pipe) (n : Netlist) (r : Result Netlist E) → Follows p n
     → IfOk r (λ q. IsWellFormed q) → IfOk r (ShowsSame n) → IfOk r (HasSameFrame n) → IfOk r (Follows p)
 needed_follows p n (Ok q) h well shows frame =

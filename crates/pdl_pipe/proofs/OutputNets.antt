@@ -41,7 +41,7 @@ shown_there c x ss line told = stages_from c ss each
           subst (IsThere c) (sym (told.moves k move.0 y low move.1 is)) (at_bit c x.moves.now k move.0 (omega (arith, low, n, m)) move.1 line.moves).there,
         )
 
--- what memories with a lock commit
+-- the nets of what memories with a lock commit are there
 pub commits_there : {T : Type 0} (l : Members T) (a c : Circuit) (p : Pipe) (f : ℕ → StepSignals)
     (xs : List (Option (MemLock T))) (ns : List (Option LockNets))
     → AreLocked l a p xs → AreStepped l c p f xs ns (length p.mems) → AreCommits c p ns

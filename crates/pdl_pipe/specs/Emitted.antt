@@ -69,7 +69,7 @@ pub record HasMemories {T : Type 0} (l : Members T) (c : Circuit) (f : Form) (bi
   pub inputs : c.ports ≡ reply_ports (name_in f) 0 f.pipe.mems
   pub shapes : shapes_of c ≡ shapes_in f.names f.pipe.mems
 
--- some registers stand so
+-- inputs, memories with their locks, and ports stand in a circuit, with some bounds between their registers
 abbrev pub HasMemoriesIn : {T : Type 0} → Members T → Circuit → Form → Bits → List (Option (MemLock T)) → List (Option PortRegs) → Type 0
 HasMemoriesIn l c f bits locks ports = (low : ℕ) × (mid : ℕ) × HasMemories l c f bits locks ports low mid
 

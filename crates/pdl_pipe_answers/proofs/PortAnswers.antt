@@ -76,7 +76,7 @@ some_none p f k x (suc n) m rest e = at (gets_one p k x (reading p m)) (gets_som
     at false true g h z later = absurd (false≢true (sym z))
     at false false g h z later = memory_none p f k x m (reading p m) (some_answer p f k x n (suc m) rest) g ∙ later h
 
--- is what it was kept as
+-- a variable for which no answer comes is what it was kept as
 pub answer_none : (p : Pipe) (f : ℕ → ℕ → AnswerSignals) (k x : ℕ) (kept : Signal)
     → gets_answer p k x ≡ false → with_answer p f k x kept ≡ kept
 answer_none p f k x kept e = some_none p f k x (length p.mems) 0 kept e
@@ -95,6 +95,7 @@ module _ (a b : Circuit) (e : Keeps a b) where
   port_keep p m r None h = h
   port_keep p m r (Some q) h = (h.0, nets_keep (mem_at p m).width q h.1)
 
+  -- each memory that is read delayed still has a port for its read
   pub answers_keep : (p : Pipe) (ports : List (Option PortRegs)) → HasAnswers a p ports → HasAnswers b p ports
   answers_keep p ports h = record { count = h.count; each = λ m r is. port_keep p m r (port_at ports m) (h.each m r is) }
 
@@ -105,6 +106,7 @@ module _ (a b : Circuit) (e : Keeps a b) where
       (e.kept (answer_at r i).answered (h.answered i l).there)
       (ap₂ (λ (f g : Signal). (f, g)) (e.kept (answer_at r i).given (h.given i l).there) (e.kept (answer_at r i).value (h.value i l).there))
 
+  -- the answer that comes into stage k through the places after the reading stage is the same signal in both circuits
   pub place_same : (w : ℕ) (r : PortRegs) (k : ℕ) (next : Next) (rest : Signal)
       → port_places r ≡ length (places_of next) → HasAnswerNets a w r
       → place_answer (answer_signals b r) k (places_of next) 0 rest ≡ place_answer (answer_signals a r) k (places_of next) 0 rest
@@ -118,6 +120,7 @@ module _ (a b : Circuit) (e : Keeps a b) where
       else (if second == k then mux_signal z.given z.value rest else rest))
       (at_place w r 0 (omega (arith, n)) h) (at_place w r 1 (omega (arith, n)) h)
 
+  -- the answer of memory m for a variable in stage k is the same signal in both circuits
   pub memory_same : (p : Pipe) (ports : List (Option PortRegs)) (k x m : ℕ) (rest : Signal) → HasAnswers a p ports
       → memory_answer p (answers_in b ports) k x m (reading p m) rest ≡ memory_answer p (answers_in a ports) k x m (reading p m) rest
   memory_same p ports k x m rest h = at (reading p m) refl
@@ -139,7 +142,7 @@ module _ (a b : Circuit) (e : Keeps a b) where
       memory_same p ports k x m (some_answer p (answers_in b ports) k x n (suc m) rest) h
       ∙ ap (memory_answer p (answers_in a ports) k x m (reading p m)) (some_same p ports k x n (suc m) rest h)
 
-  -- a variable has the same answers
+  -- a variable with this cycle's answers is the same signal in both circuits
   pub answer_same : (p : Pipe) (ports : List (Option PortRegs)) (k x : ℕ) (kept : Signal) → HasAnswers a p ports
       → with_answer p (answers_in b ports) k x kept ≡ with_answer p (answers_in a ports) k x kept
   answer_same p ports k x kept h = some_same p ports k x (length p.mems) 0 kept h

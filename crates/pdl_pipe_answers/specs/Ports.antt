@@ -34,7 +34,7 @@ abbrev pub IsPortFor : Circuit → Pipe → ℕ → Reading → Option PortRegs 
 IsPortFor c p m r None = ⊥
 IsPortFor c p m r (Some q) = (port_places q ≡ length (places p r)) × HasAnswerNets c (mem_at p m).width q
 
--- each memory that is read delayed has one
+-- each memory that is read delayed has a port for its read
 pub record HasAnswers (c : Circuit) (p : Pipe) (ports : List (Option PortRegs)) : Type 0 where
   pub count : length ports ≡ length p.mems
   pub each : (m : ℕ) (r : Reading) → reading p m ≡ Some r → IsPortFor c p m r (port_at ports m)
@@ -47,7 +47,7 @@ answer_where here a rest = if here then mux_signal a.given a.value rest else res
 abbrev pub BindsWide : Pipe → ℕ → ℕ → ℕ → Type 0
 BindsWide p x w m = (r : Reading) → reading p m ≡ Some r → r.var ≡ x → (mem_at p m).width ≡ w
 
--- a net of 1 bit, and one that is 1 where this signal is
+-- a net that is there with 1 bit
 abbrev pub IsBit : Circuit → Net → Type 0
 IsBit c x = HasWidth c x 1
 

@@ -20,11 +20,11 @@ abbrev pub gets_one : Pipe → ℕ → ℕ → Option Reading → Bool
 gets_one p k x None = false
 gets_one p k x (Some r) = (r.var == x) && leads_to (stage_at p r.stage).next k
 
--- of one of n memories, of which the first is m
+-- whether the answer of one of n memories, of which the first is m, may come for variable x in stage k
 abbrev pub gets_some : Pipe → ℕ → ℕ → ℕ → ℕ → Bool
 gets_some p k x zero m = false
 gets_some p k x (suc n) m = gets_one p k x (reading p m) || gets_some p k x n (suc m)
 
--- of any
+-- whether the answer of some delayed memory may come for variable x in stage k
 abbrev pub gets_answer : Pipe → ℕ → ℕ → Bool
 gets_answer p k x = gets_some p k x (length p.mems) 0

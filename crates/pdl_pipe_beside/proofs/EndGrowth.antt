@@ -84,11 +84,11 @@ module _ (a b : Circuit) (k : Keeps a b) (f : Form) where
   views_same es h =
       map_each (view_in b) (view_in a) (IsEnd a f) (λ e x. ap (λ (w : Parts). view_of (walk_of w)) (parts_keep a b k e.ended.now x.walk.there)) es h.each
 
-  -- whether their threads move is told by the signals that told it
+  -- whether the threads of all stages move is told by the signals that told it
   pub moves_same : (es : List StageEnd) → AreEnds a f es → map (move_in b) es ≡ map (move_in a) es
   moves_same es h = map_each (move_in b) (move_in a) (IsEnd a f) (λ e x. k.kept e.moves x.moves.there) es h.each
 
-  -- whether their threads are removed is told by the signals that told it
+  -- whether the threads of all stages are removed is told by the signals that told it
   pub kills_same : (es : List StageEnd) → AreEnds a f es → map (kill_in b) es ≡ map (kill_in a) es
   kills_same es h = map_each (kill_in b) (kill_in a) (IsEnd a f) (λ e x. k.kept e.killed x.killed.there) es h.each
 
@@ -96,7 +96,7 @@ module _ (a b : Circuit) (k : Keeps a b) (f : Form) where
 pub ends_kept : (f : Form) (es : List StageEnd) (a b : Circuit) → AreEnds a f es → Extends a b → AreEnds b f es
 ends_kept f es a b h e = ends_keep a b (extends_keeps a b e) f es h
 
--- where a stage forks, by a variable of 1 bit
+-- a stage that forks does so by a variable of 1 bit
 pub fork_var : (ws : List ℕ) (n : Next) (x first second : ℕ)
     → n ≡ flat.Forks x first second → IsFork ws n → (x < length ws) × (slice_index ws x ≡ 1)
 fork_var ws n x first second e h = subst (IsFork ws) e h

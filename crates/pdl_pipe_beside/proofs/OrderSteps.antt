@@ -70,7 +70,7 @@ ports_same a c p es squash k x first second left emptied =
 
 -- ---- the law of a step
 
--- by other signals that are the same
+-- the law of an order's step holds by other signals that are the same
 pub law_as : (r : OrderRegs) (n : ℕ) (c : Circuit) (f g : StepSignals)
     → f.entered_first ≡ g.entered_first → f.entered_second ≡ g.entered_second → f.left ≡ g.left → f.emptied ≡ g.emptied
     → StepLaw (stands r) n (own r) c f → StepLaw (stands r) n (own r) c g
@@ -135,7 +135,7 @@ module _ (a : Circuit) (f : Form) (es : List StageEnd) (squash : Net) (rs : List
   stepped_as : (b c : Circuit) (k : ℕ) → Keeps a b → IsOrderStepped b c f.pipe es squash rs k → IsOrderStepped a c f.pipe es squash rs k
   stepped_as b c k e x r g = subst (StepLaw (stands r) (branch_stages f.pipe k) (own r) c) (signals_same a b f es squash k e ends there) (x r g)
 
-  -- and stays while a later order makes its own
+  -- an order keeps the law of its step while a later order makes its own
   stepped_kept : (b c : Circuit) (j k : ℕ) → j < k → k < length f.pipe.stages → Keeps a b
       → ExtendsBut (own_at own rs k) b c → IsOrderStepped a b f.pipe es squash rs j
       → IsOrderStepped a c f.pipe es squash rs j

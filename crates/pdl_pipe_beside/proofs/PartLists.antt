@@ -51,7 +51,7 @@ extends_more owns n a b c none x y = record {
   shapes = y.shapes ∙ x.shapes;
 }
 
--- those of more parts may have changed
+-- where at most the first i parts have changed, at most the first n have, for a greater n
 pub parts_wider : (owns : ℕ → Own) (i n : ℕ) (a b : Circuit) → i ≤ n → ExtendsParts owns i a b → ExtendsParts owns n a b
 parts_wider owns i n a b h x = record {
   keeps = x.keeps;

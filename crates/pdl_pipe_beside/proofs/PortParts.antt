@@ -47,7 +47,7 @@ new_part a b q f = record {
 pub own_there : (a b : Circuit) (q : PortRegs) → IsFragment a b q → HasOwn b (own q)
 own_there a b q f = record { regs = f.has_reg; none = omega arith }
 
--- its laws as those of a stage's read
+-- a port of a stage's places, with the laws of its registers, is the port of that stage's delayed read
 pub is_port : (c : Circuit) (p : Pipe) (m stage w n : ℕ) (i : PortInput) (q : PortRegs)
     → w ≡ (mem_at p m).width → n ≡ length (places_of (stage_at p stage).next) → IsThere c i.word → q.reply ≡ i.reply
     → q.word ≡ i.word → port_places q ≡ n → HasAnswerNets c w q → ArePlaced c q → HasOwn c (own q)

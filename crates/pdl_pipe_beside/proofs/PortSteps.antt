@@ -31,7 +31,7 @@ use Rattle.pdl_pipe_beside.proofs.PortParts.{port_stays}
 
 -- ---- the law of a step
 
--- by other signals that are the same for each place
+-- the law of a port's step holds by other signals that are the same for each place
 pub law_as : (stands : State → PortState → Type 0) (n : ℕ) (o : Own) (c : Circuit) (f g : StepSignals)
     → f.reply ≡ g.reply → ((k : ℕ) → k < n → f.moves k ≡ g.moves k) → ((k : ℕ) → k < n → f.removed k ≡ g.removed k)
     → ((k : ℕ) → k < n → f.asked k ≡ g.asked k) → StepLaw stands n o c f → StepLaw stands n o c g
@@ -46,7 +46,7 @@ law_as stands n o c f g reply moves removed asked x = record {
       pr nx;
 }
 
--- in a circuit that keeps what its registers take next
+-- the law of a port's step holds on in a circuit that keeps what its registers take next
 pub law_kept : (stands : State → PortState → Type 0) (n : ℕ) (o : Own) (a b : Circuit) (f : StepSignals) → OwnKept o a b
     → StepLaw stands n o a f → StepLaw stands n o b f
 law_kept stands n o a b f k x = record { next = λ s t y d st dr pr nx. x.next s t y d st dr pr (next_kept o a b s t k nx) }
@@ -102,7 +102,7 @@ module _ (a : Circuit) (f : Form) (es : List StageEnd) (qs : List (Option PortRe
   stepped_as b c m k x r q e g =
       subst (StepLaw (stands q) (length (places f.pipe r)) (own q) c) (signals_same a b f es m r q k ends (stand.each m r q e g)) (x r q e g)
 
-  -- and stays while a later port makes its own
+  -- a port keeps the law of its step while a later port makes its own
   pub stepped_kept : (b c : Circuit) (j m : ℕ) → j < m → m < length f.pipe.mems → Keeps a b
       → ExtendsBut (own_at own qs m) b c → IsPortStepped a b f.pipe es qs j → IsPortStepped a c f.pipe es qs j
   stepped_kept b c j m l low k d x r q e g =

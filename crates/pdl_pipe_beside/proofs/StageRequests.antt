@@ -71,7 +71,7 @@ pub end_addresses : (c : Circuit) (f : Form) (e : StageEnd) (m w : ℕ)
     → 2 ^ w ≡ (mem_at f.pipe m).depth → IsEnd c f e → Each (IsAddressNet c m w) e.ended.now.asks
 end_addresses c f e m w depth h = addresses_are c f.pipe m w depth e.ended.now.asks h.walk.there.asks h.walk.sized.asks
 
--- requests stay
+-- the requests of a stage are the same signals while the circuit grows
 pub asks_same : (a b : Circuit) (m w : ℕ) (qs : List AskNet) → Keeps a b → Each (IsAddressNet a m w) qs
     → map (ask_in b) qs ≡ map (ask_in a) qs
 asks_same a b m w qs k h =

@@ -34,7 +34,7 @@ abbrev pub port_stands : Option PortRegs → State → PortState → Type 0
 port_stands None s x = Unit {0}
 port_stands (Some q) s x = port_places.stands q s x
 
--- what those of the order of a fork stand for, its first entry, and whether it is empty
+-- what the registers of a fork's order stand for; of a fork without order nothing is known
 abbrev pub order_stands : Option OrderRegs → State → List Bool → Type 0
 order_stands None s xs = Unit {0}
 order_stands (Some r) s xs = order_words.stands r s xs

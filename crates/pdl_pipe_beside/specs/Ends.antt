@@ -17,7 +17,7 @@ use Rattle.pdl_pipe_beside.specs.declared.ends.StageEnd.{StageEnd}
 abbrev pub view_of : Walk → View
 view_of w = record { valid = zero_bit; kept = λ x. no_signal; tickets = λ m. no_signal; begun = w; ended = w }
 
--- one that does nothing
+-- a stage that does nothing
 abbrev pub no_view : View
 no_view =
     view_of
@@ -52,7 +52,7 @@ move_in c e = signal c e.moves
 abbrev pub kill_in : Circuit → StageEnd → Signal
 kill_in c e = signal c e.killed
 
--- whether their threads move, and whether they are removed
+-- whether the thread of stage k moves
 abbrev pub moves_in : Circuit → List StageEnd → ℕ → Signal
 moves_in c es k = signal_at (map (move_in c) es) k
 
@@ -66,7 +66,7 @@ pub record IsEnd (c : Circuit) (f : Form) (e : StageEnd) : Type 0 where
   pub moves : HasWidth c e.moves 1
   pub killed : HasWidth c e.killed 1
 
--- those of all stages
+-- the nets of all stages are there, with their widths
 pub record AreEnds (c : Circuit) (f : Form) (es : List StageEnd) : Type 0 where
   pub count : length es ≡ length f.pipe.stages
   pub each : Each (IsEnd c f) es

@@ -20,7 +20,7 @@ pub record IsNewPart {T : Type 0} (own : T → Own) (old new : Circuit) (o : Opt
 
 -- ---- what changes
 
--- the registers of a part, and of the one of a number
+-- the registers of a part, where there is one
 abbrev pub own_of : {T : Type 0} → (T → Own) → Option T → Own
 own_of own None = record { from = 0; to = 0; first = 0; last = 0 }
 own_of own (Some x) = own x

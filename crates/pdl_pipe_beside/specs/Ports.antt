@@ -56,7 +56,7 @@ pub record HasPortOf (c : Circuit) (p : Pipe) (m : ℕ) (input : Option PortInpu
   pub reply : (i : PortInput) (q : PortRegs) → input ≡ Some i → o ≡ Some q → q.reply ≡ i.reply
   pub word : (i : PortInput) (q : PortRegs) → input ≡ Some i → o ≡ Some q → q.word ≡ i.word
 
--- that of each memory
+-- memory m has a port where it is read delayed, of its inputs among these
 abbrev pub has_port : Circuit → Pipe → List (Option PortInput) → ℕ → Option PortRegs → Type 0
 has_port c p inputs m o = HasPortOf c p m (input_at inputs m) o
 

@@ -19,7 +19,7 @@ use Rattle.pdl_pipe_beside.specs.Ends.{ends_in, moves_in}
 abbrev pub address_or : ℕ → Signal → Ask → Signal → Signal
 address_or m moves q rest = if q.mem == m then mux_signal (both moves q.on) q.addr rest else rest
 
--- that of one of these requests, or else this one
+-- the address of one of these requests of a memory, where a thread moves that makes it, or else this one
 abbrev pub address_from : ℕ → Signal → Signal → List Ask → Signal
 address_from m moves none [] = none
 address_from m moves none (q ∷ qs) = address_or m moves q (address_from m moves none qs)
@@ -43,7 +43,7 @@ pub record HasRequest (a c : Circuit) (p : Pipe) (es : List StageEnd) (m : ℕ) 
   pub some : is_some o ≡ (mem_at p m).delayed
   pub asks : (x : RequestNets) → o ≡ Some x → IsRequest a c p es m x
 
--- the first n memories
+-- of the first n memories the delayed ones have the nets of what is asked of them
 pub record AreRequests (a c : Circuit) (p : Pipe) (es : List StageEnd) (xs : List (Option RequestNets)) (n : ℕ) : Type 0 where
   pub count : length xs ≡ n
   pub each : (m : ℕ) → m < n → HasRequest a c p es m (some_at xs m)

@@ -75,7 +75,7 @@ module _ {T : Type 0} (l : Members T) (n : Nets T) (em : Emission l n) where
     tickets = λ k m low. ap (λ (f : ℕ → Signal). f m) (same_tickets k low);
   }
 
-  -- and the squash and its tails are those of the gates
+  -- the squash and its tails are those of the gates
   pub are_gates : AreGatesOf em.h (line_pipe n.line) n.moves.squash n.tails.cut (gates_of l n em)
   are_gates = record {
     squash = sym ((keeps_bh l n em).kept n.moves.squash em.moved.squash.there);

@@ -173,7 +173,7 @@ module _ {T : Type 0} (l : Members T) (n : Nets T) (em : Emission l n) where
 
   -- ---- registers and arrays of the locks
 
-  -- they take next what they took once the locks had their steps
+  -- registers and arrays of the locks take next what they took once the locks had their steps
   pub lock_kept : (m : ℕ) → m < length p.mems → OwnKept (own_of (some_at n.locks m)) em.i em.d
   lock_kept m low = at (some_at n.locks m) refl
     where

@@ -80,7 +80,7 @@ module _ {T : Type 0} (l : Members T) (stays : Stays l) (n : Nets T) (em : Emiss
         em.layout.locked em.layout.lawful (deeds_count l n em) (are_of l n em)
         (are_gates l n em) em.stepped (keeps_ad l n em) em.keeps m low (lock_kept l n em m low) h
 
-    -- and starts with its image
+    -- a lock starts with its memory's image
     pub starts_lock : StartsLock p ls em.d (owned m).from (owned m).to m
     starts_lock = record {
       deep =
@@ -93,14 +93,14 @@ module _ {T : Type 0} (l : Members T) (stays : Stays l) (n : Nets T) (em : Emiss
           (are_gates l n em) em.stepped (keeps_ad l n em) em.keeps m low (lock_kept l n em m low) h;
     }
 
-    -- what its memory commits has the memory's widths
+    -- what a memory with a lock commits has the memory's widths
     pub fits_at : ((commits m).enable.width ≡ 1) × (2 ^ (commits m).addr.width ≡ (mem_at p m).depth) × ((commits m).value.width ≡ (mem_at p m).width)
     fits_at =
         law.commit_fits l stays p n.locks n.deeds n.moves.squash n.tails.cut n.commits vs gates goes em.a em.h em.i em.d
         em.layout.locked em.layout.lawful (deeds_count l n em) (are_of l n em)
         (are_gates l n em) em.stepped (keeps_ad l n em) em.keeps m low (lock_kept l n em m low) h
 
-    -- and its word is a net
+    -- the word that a memory with a lock commits is a net
     pub word_at : IsNet em.d (commits m).value
     word_at =
         law.commit_word l stays p n.locks n.deeds n.moves.squash n.tails.cut n.commits vs gates goes em.a em.h em.i em.d

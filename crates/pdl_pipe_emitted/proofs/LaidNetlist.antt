@@ -16,7 +16,7 @@ use Rattle.pdl_pipe_emitted.proofs.LaidLocks.{goes_on}
 module _ {T : Type 0} (l : Members T) (stays : Stays l) (n : Nets T) (em : Emission l n) (well : IsWell em.d)
     (leaves : (k : ℕ) → k < length (line_pipe n.line).stages
     → Same em.d (moves_of l n em k) (moves_where (line_pipe n.line) (views_of l n em) (gates_of l n em).gate (moves_of l n em) k)) where
-  -- it names the registers of each lock, and what each memory commits
+  -- an emission is laid out, with the registers of each lock and what each memory commits
   abbrev pub laid : IsLaid (line_pipe n.line) (locks_of l n em) (views_of l n em) (gates_of l n em) (moves_of l n em) em.d
   laid = record {
     stages = λ k low. stage_made l n em well k low (leaves k low);

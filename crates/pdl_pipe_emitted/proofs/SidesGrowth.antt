@@ -128,17 +128,17 @@ module _ {T : Type 0} (l : Members T) (n : Nets T) (em : Emission l n) where
       em.nexts r (em.to_locks.keeps.has_reg r has)
       ∙ em.to_locks.nexts r has (λ m k. let e = em.layout.locks_to m k in inr (omega (arith, e, low)))
 
-  -- the registers of the ports, once these have their steps
+  -- the registers of the ports take next what they took once the ports had their steps
   pub ports_alone : (r : ℕ) → em.low ≤ r → r < em.mid → HasReg em.g r → next_signal em.d r ≡ next_signal em.g r
   ports_alone r low high has =
       after_orders r low (keeps_gh.has_reg r has)
       ∙ em.to_orders.nexts r has (λ i k. part_above order_laws.own (some_at n.orders i) em.mid r (λ x e. em.layout.orders_from i x k e) high)
 
-  -- those of the orders
+  -- the registers of the orders and later ones take next what they took once the orders had their steps
   pub orders_alone : (r : ℕ) → em.mid ≤ r → HasReg em.h r → next_signal em.d r ≡ next_signal em.h r
   orders_alone r low has = let order = em.layout.order.0 in after_orders r (omega (arith, order, low)) has
 
-  -- and all later ones, once the tails have theirs
+  -- the registers after those of the orders take next what they took once the tails had theirs
   pub later_alone : (r : ℕ) → em.high ≤ r → HasReg em.f r → next_signal em.d r ≡ next_signal em.f r
   later_alone r low has =
       let order = em.layout.order in
@@ -150,7 +150,7 @@ module _ {T : Type 0} (l : Members T) (n : Nets T) (em : Emission l n) where
       ∙ em.to_ports.nexts r has
       (λ m k. part_below port_laws.own (some_at n.line.shared.now.ports.now m) em.mid r (λ x e. em.layout.ports_to m x k e) (omega (arith, second, low)))
 
-  -- registers of tails are later ones
+  -- the registers of the tails take next what they took once the tails had theirs
   pub tails_alone : GoOn em.e em.f em.d
   tails_alone r low has =
       let grown = regs_grow em.a em.e keeps_ae in

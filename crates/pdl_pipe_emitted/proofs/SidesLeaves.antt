@@ -118,7 +118,7 @@ module _ {T : Type 0} (l : Members T) (n : Nets T) (em : Emission l n) (well : I
       (subst (λ (vs : ℕ → View). is_on (first k) s ≡ is_on (where_by vs first) s) (views_first l n em) (moved s))
       ∙ ap (λ (g : Signal). is_on (moves_where p vs (λ j. g) moves k) s) (gate_is l n em well k low)
 
-  -- and has its value in each state of the circuit
+  -- the net of a move has the value by the law in each state of the circuit
   pub leaves : (k : ℕ) → k < length p.stages → Same em.d (moves k) (allowed k)
   leaves k low s suits =
       let bits = moves_low s suits in

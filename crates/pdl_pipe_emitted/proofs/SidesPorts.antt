@@ -143,7 +143,7 @@ module _ {T : Type 0} (l : Members T) (n : Nets T) (em : Emission l n) where
       order_stays_stepped em.g em.h em.d p n.ends n.moves.squash n.orders f
       (λ r e. order_kept l n em f r low e (em.layout.stand_orders.each f r low e).owned) (em.orders_stepped f low)
 
-  -- and so have the orders
+  -- the orders of merged forks have their laws
   pub orders_are : (f q : ℕ) → f < length p.stages → (stage_at p q).merges ≡ Some f → HasOrder p em.d vs gates moves sides (own_at order_laws.own n.orders f) f
   orders_are f q low merges =
       let stand = order_steps.orders_stand em.a em.g p n.orders (keeps_ag l n em) em.layout.stand_orders in

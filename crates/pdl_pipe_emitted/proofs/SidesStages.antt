@@ -85,7 +85,7 @@ module _ {T : Type 0} (l : Members T) (n : Nets T) (em : Emission l n) where
         ∙ ap (signal y) (sym (em.ends.killed k m.0 e.0 in_ends m.1 e.1))
         ∙ ends_kept.kill_at y n.ends k e.0 in_ends (sym e.1)
 
-  -- in each circuit after all nets they are those of the law
+  -- in each circuit after all nets the stages are those of the law
   pub are_stages : (y : Circuit) → Keeps em.c y → AreStagesOf y p n.ends n.moves.squash (views_of l n em) (gates_of l n em) (moves_of l n em)
   are_stages y keeps = record {
     ends = λ k low. ended_is y keeps k low;

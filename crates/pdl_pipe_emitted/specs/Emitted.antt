@@ -118,7 +118,7 @@ pub record Nets (T : Type 0) : Type 0 where
   pub deeds : List StageDeeds
   pub commits : List (Option LockNets)
 
--- each stage ends so
+-- the ends of the stages of a line, with their moves and removals
 pub record AreEndsOf (x : StageLine) (es : List StageEnd) : Type 0 where
   pub count : length es ≡ length x.stages.now
   pub ended : (k : ℕ) (s : StageNets) (e : StageEnd) → k < length es → IsAt x.stages.now k s → slice_index_or es k e ≡ e → e.ended.now ≡ s.end

@@ -18,7 +18,7 @@ use Rattle.pdl_form_types.specs.Exprs.{AreTyped}
 use Rattle.pdl_pipe_exprs.proofs.NetLists.{nets_kept}
 
 module _ (gs : List r_guard.FlatGuard) (i : ℕ) (d : r_guard.FlatGuard) (l : i < length gs) where
-  -- the guards from i on, and the next one
+  -- the guards from i on are the next one and those after it
   pub guards_split : guards_view (drop i gs) ≡ guard_view (get_or gs i d) ∷ guards_view (drop (i + 1) gs)
   guards_split = ap guards_view (drop_more gs i d l)
 

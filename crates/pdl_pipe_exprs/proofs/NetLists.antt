@@ -35,7 +35,7 @@ pub net_more : (c : Circuit) (xs : List Net) (x : Net) → NetsThere c xs → Is
 net_more c [] x t h = (h, tt)
 net_more c (y ∷ ys) x t h = (t.0, net_more c ys x t.1 h)
 
--- the net of a number
+-- the net of each number of nets that are there is there
 pub there_at : (c : Circuit) (xs : List Net) (i : ℕ) (d : Net) → i < length xs → NetsThere c xs → IsThere c (slice_index_or xs i d)
 there_at c [] i d l t = absurd (omega (arith, l))
 there_at c (x ∷ xs) zero d l t = t.0
@@ -48,7 +48,7 @@ signal_of c [] i d l = absurd (omega (arith, l))
 signal_of c (x ∷ xs) zero d l = refl
 signal_of c (x ∷ xs) (suc i) d l = signal_of c xs i d (omega (arith, l))
 
--- widths by numbers
+-- the i-th of the widths is that of the i-th signal
 pub width_at : (fs : List Signal) (i : ℕ) → slice_index (widths_of fs) i ≡ (signal_at fs i).width
 width_at [] i = refl
 width_at (f ∷ fs) zero = refl

@@ -33,24 +33,24 @@ typed_kept : (old new : Circuit) (vs : List Net) (e : Expr) → Extends old new 
     → IsTyped (widths_of (signals_in old vs)) e → IsTyped (widths_of (signals_in new vs)) e
 typed_kept old new vs e x t h = subst (λ (fs : List Signal). IsTyped (widths_of fs) e) (sym (nets_kept old new vs x t)) h
 
--- the operand that comes next
+-- the operand that comes next is typed as well in the circuit that grew
 pub next_typed : (old new : Circuit) (vs : List Net) (e : Expr) → Extends old new → NetsThere old vs
     → IsTyped (widths_of (signals_in old vs)) e → NetsThere new vs × IsTyped (widths_of (signals_in new vs)) e
 next_typed old new vs e x t h = (nets_there old new vs x t, typed_kept old new vs e x t h)
 
--- the net of the first one: the circuit was `old` as it began, `now` as it was made, and is `new`
+-- the net of the first operand: the circuit was `old` as it began, `now` as it was made, and is `new`
 pub first : (old now new : Circuit) (vs : List Net) (e f : Expr) (a : Net)
     → f ≡ e → Extends now new → Means now a (value_signal (signals_in old vs) f)
     → signal new a ≡ value_signal (signals_in old vs) e
 first old now new vs e f a q y m = y.kept a m.there ∙ m.same ∙ ap (value_signal (signals_in old vs)) q
 
--- that of the last one: the circuit was `mid` as it began
+-- the net of the last operand: the circuit was `mid` as it began
 pub last : (old mid new : Circuit) (vs : List Net) (e f : Expr) (a : Net)
     → f ≡ e → Extends old mid → NetsThere old vs → Means new a (value_signal (signals_in mid vs) f)
     → signal new a ≡ value_signal (signals_in old vs) e
 last old mid new vs e f a q x t m = m.same ∙ ap₂ value_signal (nets_kept old mid vs x t) q
 
--- that of one between
+-- the net of an operand between: the circuit was `mid` as it began, `now` as it was made, and is `new`
 pub between : (old mid now new : Circuit) (vs : List Net) (e f : Expr) (a : Net)
     → f ≡ e → Extends old mid → Extends now new → NetsThere old vs → Means now a (value_signal (signals_in mid vs) f)
     → signal new a ≡ value_signal (signals_in old vs) e

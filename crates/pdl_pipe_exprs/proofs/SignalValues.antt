@@ -106,7 +106,7 @@ signal_value s fs h (SignExtend width wide a) t =
     sext_value wide (value_signal fs a) s p.low fit p.fits ∙ ap₂ (λ m v. words.sext m wide v) w (signal_value s fs h a t.0)
 signal_value s fs h (Choose c a b) t = rw (signal_value s fs h c t.0, signal_value s fs h a t.1, signal_value s fs h b t.2) refl
 
--- so has a net that means it
+-- a net that means the signal of a typed expression has its value
 pub net_value : (c : Circuit) (x : Net) (fs : List Signal) (e : Expr) → IsTyped (widths_of fs) e
     → Means c x (value_signal fs e) → IsValue fs e (signal c x)
 net_value c x fs e t m s h = ap (λ (f : Signal). f.value s) m.same ∙ signal_value s fs h e t

@@ -10,7 +10,7 @@ abbrev pub NetsThere : Circuit → List Net → Type 0
 NetsThere c [] = ⊤
 NetsThere c (x ∷ xs) = IsThere c x × NetsThere c xs
 
--- what they mean
+-- the signals of nets in a circuit
 abbrev pub signals_in : Circuit → List Net → List Signal
 signals_in c xs = map (signal c) xs
 

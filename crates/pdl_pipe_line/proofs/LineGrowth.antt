@@ -46,14 +46,14 @@ module _ (f : Form) (nexts : List Signal) (answers : ℕ → ℕ → AnswerSigna
   are_ended a all = each_stage (IsEnded a f nexts) ss (λ k s l is. stage_now a f nexts k s (stage_is a k s (all k s l is)))
 
   module _ (a b : Circuit) (e : Keeps a b) (all : AreStaged a f nexts answers ls ss) where
-    -- stages that were made look as they did
+    -- stages that were made have the views that they had
     pub made_views_same : views_in b ss ≡ views_in a ss
     made_views_same =
         ap (λ vs k. get_or vs k no_view)
         (map_each (view_in b) (view_in a) (λ s. view_in b s ≡ view_in a s)
         (λ s h. h) ss (each_stage (λ s. view_in b s ≡ view_in a s) ss (λ k s l is. view_same a b f nexts k s e (stage_is a k s (all k s l is)))))
 
-    -- and are as they were made
+    -- stages that were made are as they were made
     pub made_keep : AreStaged b f nexts answers ls ss
     made_keep = λ k s l is. staged_keep a b e f nexts answers ls ss k s (are_ended a all) (omega (arith, l)) (all k s l is)
 
@@ -83,7 +83,7 @@ all_kills_same a b x e h = fun_ext (kills_same a b x e h)
 
 -- ---- next tickets
 
--- those of the locks are where they are made so
+-- the next tickets of the locks are those of the memories with locks
 pub locks_next : {T : Type 0} (l : Members T) (a : Circuit) (p : Pipe) (xs : List (Option (MemLock T))) → AreLocked l a p xs
     → AreNextTickets p (locks_in l p a xs) (next_signals a xs)
 locks_next l a p xs h = λ m e. (lock_there p m e, next_at l a p xs h m (lock_there p m e))

@@ -39,7 +39,7 @@ use Rattle.pdl_pipe_line.proofs.SettledItems.{AreShort, calls_short, held_item, 
 becomes_next : (c : Circuit) (w r : ℕ) (f : Signal) → HasReg c r → ValueAs (next_signal c r) f → Becomes c (reg_signal w r) f
 becomes_next c w r f has e s t suits regs = becomes_reg c w r (next_signal c r) has refl s t suits regs ∙ e s
 
--- and starts as it was told in an earlier circuit
+-- a register starts as it was told in an earlier circuit
 pub starts_at : (c d : Circuit) → Keeps c d → (w r n : ℕ) → IsRegister c r w n → StartsAs d (reg_signal w r) n
 starts_at c d e w r n h = subst (StartsAs d (reg_signal w r)) (e.reset r h.has ∙ h.reset) (starts_reg d w r (e.has_reg r h.has))
 

@@ -135,13 +135,13 @@ module _ {T : Type 0} (l : Members T) (stays : Stays l) (p : Pipe) (xs : List (O
       → ((mem_at p m).delayed ≡ false → HasImage ((locks_in l p a xs).kind m) (Some (comb_place p m)) t image) → (locks_in l p a xs).stands m t (start image)
   starts h = let (x, e) = some_of (some_at xs m) (locked.locked m low ∙ h) in starts_of x e
 
-  -- its array has the words that it keeps
+  -- the array of a locked memory that answers at once has as many words as its lock keeps
   pub deep : is_locked p m ≡ true → (mem_at p m).delayed ≡ false → array_depth c (comb_place p m) ≡ words_of ((locks_in l p a xs).kind m) (mem_at p m).depth
   deep h once =
       let (x, e) = some_of (some_at xs m) (locked.locked m low ∙ h) in
       (laws_kept l a c p xs whole locked lawful).deep m x low once e ∙ ap (λ k. words_of k (mem_at p m).depth) (ap (kind_in l) (sym e))
 
-  -- its step in the whole netlist, by what the netlist's stages do
+  -- the lock of a memory makes its step in the whole netlist, by what the netlist's stages do
   pub stepped_here : IsSteppedMemory l c (mem_at p m) (step_of p vs gates goes m) (some_at xs m) (some_at ns m)
   stepped_here =
       let own_kept : (x : MemLock T) → some_at xs m ≡ Some x → OwnKept (own x.regs) b c = λ x e. subst (λ (o : Own). OwnKept o b c) (ap own_of e) kept in
@@ -175,7 +175,7 @@ module _ {T : Type 0} (l : Members T) (stays : Stays l) (p : Pipe) (xs : List (O
       let (n, q) = some_of (some_at ns m) ((stepped.each m low).has ∙ locked.locked m low ∙ h) in
       fits_of x n e q
 
-  -- and the word is that of a net
+  -- the word of a memory's commit is that of a net
   pub commit_word : is_locked p m ≡ true → (w : Net) × IsThere c w × (signal c w ≡ (commits_in c ns m).value)
   commit_word h =
       let (x, e) = some_of (some_at xs m) (locked.locked m low ∙ h) in

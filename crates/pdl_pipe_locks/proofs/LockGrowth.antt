@@ -61,7 +61,7 @@ lawful_kept stands kind size tickets a b r k room ticket x = record {
   ticket = subst (λ f. TicketLaw stands tickets f) (sym (k.kept r.ticket ticket)) x.ticket;
 }
 
--- its registers end where those of its circuit end, at the latest
+-- the registers of a lock end where those of its circuit end, at the latest
 pub regs_end : (stands : State → LockState → Type 0) (kind : LockKind) (size tickets : ℕ) (c : Circuit) (r : LockRegs)
     → IsLawful stands kind size tickets c r → end_reg r ≤ length c.regs
 unfolding HasReg
@@ -146,7 +146,7 @@ moves_kept : {T : Type 0} (l : Members T) (a b : Circuit) (p : Pipe) (ws : List 
 moves_kept l a b p ws xs [] k h = refl
 moves_kept l a b p ws xs (d ∷ ds) k h = ap₂ (λ (f : Signal) (fs : List Signal). f ∷ fs) (k.kept d.moves h.0.moves.there) (moves_kept l a b p ws xs ds k h.1)
 
--- the nets of a squash
+-- the nets of a squash and its tails stay there, with their widths
 pub squash_kept : {T : Type 0} (l : Members T) (a b : Circuit) (xs : List (Option (MemLock T))) (x : Net) (ts : List Net)
     → Keeps a b → AreSquashNets l a xs x ts → AreSquashNets l b xs x ts
 squash_kept l a b xs x ts k h = record {
@@ -166,7 +166,7 @@ step_by n m vs fs squash tails =
       tail = signal_at tails m;
     }
 
--- they are the same in a circuit that grew
+-- the signals of a lock's step are the same in a circuit that grew
 pub step_same : {T : Type 0} (l : Members T) (a b : Circuit) (p : Pipe) (ws : List ℕ) (xs : List (Option (MemLock T)))
     (ds : List StageDeeds) (x : Net) (ts : List Net) (m : ℕ)
     → Keeps a b → AreDeeds l a p ws xs ds → AreSquashNets l a xs x ts → steps_in b p ds x ts m ≡ steps_in a p ds x ts m
@@ -177,7 +177,7 @@ step_same l a b p ws xs ds x ts m k d s =
     ap₂ (λ us gs. step_by n m us gs (signal b x) (signals_in b ts)) vs fs
     ∙ ap₂ (step_by n m (map (view_in a) ds) (map (move_in a) ds)) (k.kept x s.squash.there) (signals_keep a b ts k s.tails.there)
 
--- and those of a lock's ports
+-- the signals of a lock's ports are those of its step by what the stages do
 pub signals_are : {T : Type 0} (l : Members T) (c : Circuit) (p : Pipe) (ws : List ℕ) (xs : List (Option (MemLock T)))
     (ds : List StageDeeds) (x : Net) (ts : List Net) (m : ℕ)
     → AreDeeds l c p ws xs ds → signals_of c ds m (signal c x) (tickets_in c ts m) ≡ steps_in c p ds x ts m

@@ -96,11 +96,11 @@ stepped_kept l a b mem f y n k w x =
 
 -- ---- all locks
 
--- of no locks nothing has changed
+-- a circuit is its own growth by the steps of no locks
 pub locks_none : {T : Type 0} (xs : List (Option (MemLock T))) (c : Circuit) → ExtendsLocks xs 0 c c
 locks_none xs c = record { keeps = keeps_refl c; nexts = λ k h o. refl; writes = λ n h o. refl; ports = refl; shapes = refl }
 
--- of one lock more the registers and the array may have changed what they take next
+-- with the step of one lock more, at most the first m + 1 locks have changed what they take next
 pub locks_more : {T : Type 0} (xs : List (Option (MemLock T))) (m : ℕ) (a b c : Circuit) → ExtendsLocks xs m a b
     → ExtendsBut (own_of (some_at xs m)) b c → ExtendsLocks xs (m + 1) a c
 locks_more xs m a b c x y = record {
@@ -111,7 +111,7 @@ locks_more xs m a b c x y = record {
   shapes = y.shapes ∙ x.shapes;
 }
 
--- those of more locks may have changed
+-- where at most the first m locks have changed what they take next, at most the first n have, for a greater n
 pub locks_wider : {T : Type 0} (xs : List (Option (MemLock T))) (m n : ℕ) (a b : Circuit)
     → m ≤ n → ExtendsLocks xs m a b → ExtendsLocks xs n a b
 locks_wider xs m n a b h x = record {

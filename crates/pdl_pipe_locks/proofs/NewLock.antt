@@ -120,7 +120,7 @@ new_lock l old new name mem x kind grows w d a placed f nets start places room t
   above = f.above;
 }
 
--- nothing writes its array
+-- nothing writes the array of a new lock
 pub new_unwritten : (old new : Circuit) (name : List ℕ) (mem : Mem) (r : LockRegs)
     → mem.delayed ≡ false → ExtendsArrays old new (arrays_in name mem) → is_some r.array ≡ not mem.delayed
     → IsFragment old new r → HasNoPorts r.array new → write_signals new (length old.arrays) ≡ []

@@ -58,7 +58,7 @@ module _ (mem : Mem) (i : ℕ) (o : Option ℕ) (is : o ≡ array_of mem i) wher
   pub some_place : mem.delayed ≡ false → o ≡ Some i
   some_place e = by_delay false e
 
-  -- its number
+  -- an array that is the lock's is that of the memory's place, and the memory answers at once
   pub own_place : (n : ℕ) → first_array o ≤ n → n < end_array o → (mem.delayed ≡ false) × (n ≡ i)
   own_place n lo hi = by mem.delayed refl
     where

@@ -67,11 +67,11 @@ module _ (a b : Circuit) (k : Keeps a b) where
   given_reserve : (r : ReserveNet) → IsGivenReserve a r → IsGivenReserve b r
   given_reserve r g = record { on = width_keeps a b r.on 1 k g.on; addr = k.there r.addr g.addr }
 
-  -- its reservations stay there, with conditions of 1 bit
+  -- the reservations of a stage stay there, with conditions of 1 bit
   pub given_reserves : (rs : List ReserveNet) → Each (IsGivenReserve a) rs → Each (IsGivenReserve b) rs
   given_reserves rs g = each_weaker (IsGivenReserve a) (IsGivenReserve b) given_reserve rs g
 
-  -- its reservations mean what they meant
+  -- the reservations of a stage mean what they meant
   pub reservations_same : (rs : List ReserveNet) → Each (IsGivenReserve a) rs → map (reservation_in b) rs ≡ map (reservation_in a) rs
   reservations_same rs g =
       map_each (reservation_in b) (reservation_in a) (IsGivenReserve a)
@@ -80,11 +80,11 @@ module _ (a b : Circuit) (k : Keeps a b) where
   given_put : (x : PutNet) → IsGivenPut a x → IsGivenPut b x
   given_put x g = record { on = width_keeps a b x.on 1 k g.on; value = k.there x.value g.value }
 
-  -- its writes stay there, with conditions of 1 bit
+  -- the writes of a stage stay there, with conditions of 1 bit
   pub given_puts : (xs : List PutNet) → Each (IsGivenPut a) xs → Each (IsGivenPut b) xs
   given_puts xs g = each_weaker (IsGivenPut a) (IsGivenPut b) given_put xs g
 
-  -- its writes mean what they meant
+  -- the writes of a stage mean what they meant
   pub puts_same : (xs : List PutNet) → Each (IsGivenPut a) xs → map (put_in b) xs ≡ map (put_in a) xs
   puts_same xs g =
       map_each (put_in b) (put_in a) (IsGivenPut a)
@@ -93,11 +93,11 @@ module _ (a b : Circuit) (k : Keeps a b) where
   given_letting : (x : LettingNet) → IsGivenLetting a x → IsGivenLetting b x
   given_letting x g = record { on = width_keeps a b x.on 1 k g.on }
 
-  -- its releases stay there, with conditions of 1 bit
+  -- the releases of a stage stay there, with conditions of 1 bit
   pub given_lettings : (xs : List LettingNet) → Each (IsGivenLetting a) xs → Each (IsGivenLetting b) xs
   given_lettings xs g = each_weaker (IsGivenLetting a) (IsGivenLetting b) given_letting xs g
 
-  -- its releases mean what they meant
+  -- the releases of a stage mean what they meant
   pub lettings_same : (xs : List LettingNet) → Each (IsGivenLetting a) xs → map (letting_in b) xs ≡ map (letting_in a) xs
   lettings_same xs g = map_each (letting_in b) (letting_in a) (IsGivenLetting a) (λ x t. ap (λ f. record { mem = x.mem; on = f }) (k.kept x.on t.on.there)) xs g
 

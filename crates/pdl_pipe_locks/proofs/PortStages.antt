@@ -93,7 +93,7 @@ puts_next : (m : ℕ) (vs : ℕ → View) (moves : ℕ → Signal) (n i k : ℕ)
 puts_next m vs moves n i k l e = let f = one_further (all_puts m vs moves) n i k l e in
     f.0 ∙ ap (λ xs. xs ++ puts_to m (moves k) ((vs k).tickets m) (vs k).ended.puts) f.1
 
--- the net of a ticket
+-- the net of a stage's ticket of memory m is there
 pub ticket_there : (c : Circuit) (m : ℕ) (d : StageDeeds) (t : Net) → t ≡ get_or d.tickets.now m t → IsGiven c m d → IsThere c t
 ticket_there c m d t e g = subst (IsThere c) (sym e) (there_at c d.tickets.now m t g.low g.tickets)
 

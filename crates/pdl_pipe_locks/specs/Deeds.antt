@@ -47,7 +47,7 @@ view_in c d = view_with (tickets_in c d.tickets.now) (walk_in c d.ended.now)
 abbrev pub views_in : Circuit → List StageDeeds → ℕ → View
 views_in c ds k = slice_index_or (map (view_in c) ds) k (view_with (λ m. no_signal) (walk_of no_parts))
 
--- and whether their threads move
+-- whether the threads of the stages move, by their numbers
 abbrev pub moves_in : Circuit → List StageDeeds → ℕ → Signal
 moves_in c ds k = signal_at (map (λ (d : StageDeeds). signal c d.moves) ds) k
 
@@ -59,12 +59,12 @@ gates_in c squash tails = record { gate = λ k. one; kill = λ k. zero_bit; squa
 abbrev pub steps_in : Circuit → Pipe → List StageDeeds → Net → List Net → ℕ → StepSignals
 steps_in c p ds squash tails = step_of p (views_in c ds) (gates_in c squash tails) (moves_in c ds)
 
--- these nets are there, with 1 bit and with the bits of the locks' tickets
+-- the nets of a squash and its tails are there, with 1 bit and with the bits of the locks' tickets
 pub record AreSquashNets {T : Type 0} (l : Members T) (c : Circuit) (xs : List (Option (MemLock T))) (x : Net) (ts : List Net) : Type 0 where
   pub squash : HasWidth c x 1
   pub tails : AreTickets l c xs ts
 
--- they are those of what stands beside the stages of a netlist
+-- the nets of a squash and its tails are those of what stands beside the stages of a netlist
 pub record AreGatesOf (c : Circuit) (p : Pipe) (x : Net) (ts : List Net) (gates : Gates) : Type 0 where
   pub squash : gates.squash ≡ signal c x
   pub tail : (m : ℕ) → m < length p.mems → gates.tail m ≡ tickets_in c ts m
@@ -75,7 +75,7 @@ pub record IsDeed {T : Type 0} (l : Members T) (c : Circuit) (p : Pipe) (ws : Li
   pub walk : IsWalk c p ws d.ended.now
   pub tickets : AreTickets l c xs d.tickets.now
 
--- one for each stage
+-- the nets of all stages are there, with their widths
 pub record AreDeeds {T : Type 0} (l : Members T) (c : Circuit) (p : Pipe) (ws : List ℕ) (xs : List (Option (MemLock T))) (ds : List StageDeeds) : Type 0 where
   pub count : length ds ≡ length p.stages
   pub each : Each (IsDeed l c p ws xs) ds

@@ -27,7 +27,7 @@ pub record IsNewLock {T : Type 0} (l : Members T) (old new : Circuit) (mem : Mem
   pub kind : mem.lock ≡ as_lock (l.kind x.lock) (l.size x.lock)
   pub above : length old.regs ≤ first_reg x.regs
 
--- it is there where the memory should have one
+-- a memory has a new lock where it should have one
 pub record IsNewMemory {T : Type 0} (l : Members T) (old new : Circuit) (mem : Mem) (x : Option (MemLock T)) : Type 0 where
   pub locked : is_some x ≡ has_lock mem.lock
   pub lock : (y : MemLock T) → x ≡ Some y → IsNewLock l old new mem y

@@ -35,7 +35,7 @@ pub record IsGivenPut (c : Circuit) (x : PutNet) : Type 0 where
 pub record IsGivenLetting (c : Circuit) (x : LettingNet) : Type 0 where
   pub on : HasWidth c x.on 1
 
--- its nets are there, conditions with 1 bit, and it has a ticket of memory m
+-- what a stage does is there, conditions with 1 bit, and it has a ticket of memory m
 pub record IsGiven (c : Circuit) (m : ℕ) (d : StageDeeds) : Type 0 where
   pub moves : HasWidth c d.moves 1
   pub reserves : Each (IsGivenReserve c) d.ended.now.reserves
@@ -46,7 +46,7 @@ pub record IsGiven (c : Circuit) (m : ℕ) (d : StageDeeds) : Type 0 where
 
 -- ---- ports
 
--- a reservation for writing
+-- the nets of a port that reserves for writing are there
 pub record IsThereReserve (c : Circuit) (q : ReservePort) : Type 0 where
   pub kind : q.kind ≡ W
   pub enable : IsThere c q.enable

@@ -9,15 +9,15 @@ use Rattle.pdl_pipe_locks.specs.declared.steps.Round.{Round}
 use Rattle.pdl_pipe_locks.specs.Ports.{signals_of}
 use Rattle.pdl_pipe_locks.specs.Deeds.{steps_in, AreDeeds, AreSquashNets}
 
--- its memories have their arrays and locks in a circuit
+-- the memories of a round have their arrays and locks in a circuit
 abbrev pub HasRoundLocks : {T : Type 0} → Members T → Circuit → Round T → Type 0
 HasRoundLocks l c r = AreLocked l c (form r.pipe.now).pipe r.locks.now
 
--- its stages' deeds are there, one for each stage
+-- the deeds of a round are there, one for each stage
 abbrev pub HasRoundDeeds : {T : Type 0} → Members T → Circuit → Round T → Type 0
 HasRoundDeeds l c r = AreDeeds l c (form r.pipe.now).pipe (form r.pipe.now).widths r.locks.now r.deeds.now
 
--- its nets of a squash are there
+-- a round's nets of a squash are there
 abbrev pub HasRoundSquash : {T : Type 0} → Members T → Circuit → Round T → Type 0
 HasRoundSquash l c r = AreSquashNets l c r.locks.now r.squash r.tails.now
 
@@ -25,6 +25,6 @@ HasRoundSquash l c r = AreSquashNets l c r.locks.now r.squash r.tails.now
 abbrev pub round_signals : {T : Type 0} → Circuit → Round T → ℕ → StepSignals
 round_signals c r m = signals_of c r.deeds.now m (signal c r.squash) (tickets_in c r.tails.now m)
 
--- what they do to the lock of each memory
+-- what the stages do to the lock of each memory, by their deeds
 abbrev pub round_steps : {T : Type 0} → Circuit → Round T → ℕ → StepSignals
 round_steps c r = steps_in c (form r.pipe.now).pipe r.deeds.now r.squash r.tails.now

@@ -28,7 +28,7 @@ pub record IsSteppedMemory {T : Type 0} (l : Members T) (c : Circuit) (mem : Mem
   pub has : is_some n ≡ is_some x
   pub lock : (y : MemLock T) (z : LockNets) → x ≡ Some y → n ≡ Some z → IsStepped l c mem f y z
 
--- the first i memories
+-- the locks of the first i memories have made their steps
 pub record AreStepped {T : Type 0} (l : Members T) (c : Circuit) (p : Pipe) (f : ℕ → StepSignals)
     (xs : List (Option (MemLock T))) (ns : List (Option LockNets)) (i : ℕ) : Type 0 where
   pub count : length ns ≡ i

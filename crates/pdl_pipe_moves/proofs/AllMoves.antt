@@ -45,7 +45,7 @@ use Rattle.pdl_pipe_moves.proofs.FreePorts.{net_signal}
 use Rattle.pdl_pipe_moves.proofs.GateGrowth.{gate_same}
 use Rattle.pdl_pipe_moves.proofs.PassageGrowth.{each_set, gate_as, passed_keep, passed_set, passed_new}
 
--- a net more
+-- with a net more after them, the nets before stay at their numbers
 pub at_first : (xs : List Net) (y : Net) (k : ℕ) → k < length xs → net_at (xs ++ y ∷ []) k ≡ net_at xs k
 at_first [] y k l = absurd (omega (arith, l))
 at_first (x ∷ xs) y zero l = refl
@@ -85,7 +85,7 @@ controls_keep a b p y e h = record {
 
 module _ (a b : Circuit) (e : Keeps a b) (x : StageLine) (y : Controls) (line : IsLineIn a x)
     (inside : LeadsInside (line_pipe x)) (h : IsControlled a (line_pipe x) y) where
-  -- by a gate that was made, and moves as they were then
+  -- the thread of stage k moves by a gate that was made, and by moves as they were then
   pub moved_so : (c : Circuit) (f : Keeps b c) (frees : List Net) (gate moves : Net) (k : ℕ) → k < length (line_pipe x).stages → Each (IsBit a) frees
       → IsBitFor b gate (gate_by (line_pipe x) (line_views a x) (signs_by a x y) (signal_at (signals_in a frees)) k)
       → IsBitFor c moves (moves_where (line_pipe x) (line_views b x) (λ j. signal b gate) (line_moves b x) k)
@@ -204,7 +204,7 @@ padded_bits c nets fill n m xs bits none h = each_by (IsBit c) xs (Input 0) (λ 
         subst (IsBit c) (sym (h.front i q l)) (bits.each i (omega (arith, q, e)))
     at i l (inr q) = subst (IsBit c) (sym (h.rest i q l)) none
 
--- what was kept, and what fills up
+-- among nets that were filled up, each that was there before has its signal at its number
 pub padded_front : (c : Circuit) (nets : List Net) (fill : Net) (n : ℕ) (xs : List Net) (k : ℕ)
     → k < length nets → k < n → ArePadded nets fill n xs → squash_net c nets k ≡ signal_at (signals_in c xs) k
 padded_front c nets fill n xs k l m h = ap (signal c) (sym (h.front k l m)) ∙ net_signal c xs k (let e = h.count_is in omega (arith, m, e))

@@ -88,7 +88,7 @@ module _ (a b : Circuit) (e : Keeps a b) (x : StageLine) (line : IsLineIn a x) (
         (λ i. line_moves b x (place_at (line_pipe x) r i)) (signal b net)) y mine;
   }
 
-  -- what is free stays so
+  -- the nets of free ports of a stage stay so in the circuit that grew
   pub have_keep : (nets : List Net) (n : ℕ) → HaveFree a x k nets n → HaveFree b x k nets n
   have_keep nets n h = record {
     count = h.count;
@@ -104,7 +104,7 @@ module _ (a b : Circuit) (e : Keeps a b) (x : StageLine) (line : IsLineIn a x) (
       keeps [] t = refl
       keeps (y ∷ ys) t = ap₂ (λ f fs. f ∷ fs) (e.kept y t.0.there) (keeps ys t.1)
 
--- one memory more
+-- with the net of one memory more, the first n + 1 memories have theirs
 pub free_more : (c : Circuit) (x : StageLine) (k : ℕ) (nets : List Net) (n : ℕ) (net : Net) → HaveFree c x k nets n
     → HasFree c x k n net → HaveFree c x k (nets ++ net ∷ []) (n + 1)
 free_more c x k nets n net h new = record {

@@ -48,7 +48,7 @@ both_for a b c x y z f g e h k r = record {
   on = λ s. r.on s ∙ both_as (signal b x) (signal b y) f g (λ t. ap (λ (i : Signal). is_on i t) (e.kept x h.bit.there) ∙ h.on t) k.on s;
 }
 
--- and of which the first is
+-- a net that is 1 where two nets are, of which the second is from an earlier circuit, is 1 where both signals are
 pub both_after : (a b c : Circuit) (x y z : Net) (f g : Signal) → Keeps a b → IsBitFor b x f → IsBitFor a y g
     → IsBitFor c z (both (signal b x) (signal b y)) → IsBitFor c z (both f g)
 both_after a b c x y z f g e h k r = record {

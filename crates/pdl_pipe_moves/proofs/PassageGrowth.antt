@@ -55,7 +55,7 @@ moves_as p vs gate moves others k h =
     ap (λ f. both (vs k).valid (both (vs k).ended.ready (both (gate k) f)))
     (way_as (stage_at p k).next (free vs moves) (free vs others) (vs k).ended (λ q l. ap (λ f. mux_signal (vs q).valid f one) (h q l)))
 
--- and a port is free by those of its places
+-- a port is free by the moves of its places
 pub free_as : (stands : State → PortState → Type 0) (n : ℕ) (reply : Signal) (moves others : ℕ → Signal) (free : Signal)
     → ((i : ℕ) → i < n → moves i ≡ others i) → FreeLaw stands n reply moves free → FreeLaw stands n reply others free
 free_as stands n reply moves others free h law =
@@ -158,7 +158,7 @@ module _ (x : StageLine) (inside : LeadsInside (line_pipe x)) (k : ℕ) (low : k
             (signal_at (signals_in c (slice_set moves j net))) i (signal_at (signals_in c frees) i) later (h.free i q);
       }
 
-  -- what is found of it now
+  -- of a stage that is asked it is known whether its thread moves, by the net that is set for it
   pub passed_new : (c : Circuit) (g : Signs) (moves frees : List Net) (net : Net) → k < length moves
       → HaveFree c x k frees (length (line_pipe x).mems)
       → ((q : ℕ) → line_moves c x q ≡ signal_at (signals_in c moves) q)

@@ -37,12 +37,12 @@ IsFreeBy c x moves k m free =
     (r : Reading) (q : PortRegs) → reading (line_pipe x) m ≡ Some r → r.stage ≡ k → some_at x.shared.now.ports.now m ≡ Some q
     → FreeLaw (stands q) (length (places (line_pipe x) r)) (signal c q.reply) (λ i. moves (place_at (line_pipe x) r i)) free
 
--- a net tells it
+-- a net tells whether the port of memory m is free for stage k
 pub record HasFree (c : Circuit) (x : StageLine) (k m : ℕ) (net : Net) : Type 0 where
   pub bit : IsBit c net
   pub free : IsFreeBy c x (line_moves c x) k m (signal c net)
 
--- of the first n memories
+-- nets tell of the first n memories whether their ports are free for stage k
 pub record HaveFree (c : Circuit) (x : StageLine) (k : ℕ) (nets : List Net) (n : ℕ) : Type 0 where
   pub count : length nets ≡ n
   pub bits : Each (IsBit c) nets
@@ -69,7 +69,7 @@ pub record IsPassed (c : Circuit) (x : StageLine) (g : Signs) (nets opens : List
 abbrev pub frees_at : List (Seq Net) → ℕ → List Net
 frees_at xs k = slice_index_or xs k []
 
--- each stage from this one on
+-- of each stage from this one on it is known whether its thread moves
 pub record ArePassed (c : Circuit) (x : StageLine) (g : Signs) (nets : List Net) (opens : List (Seq Net)) (low : ℕ) : Type 0 where
   pub moves_count : length nets ≡ length (line_pipe x).stages
   pub moves : Each (IsBit c) nets
@@ -79,7 +79,7 @@ pub record ArePassed (c : Circuit) (x : StageLine) (g : Signs) (nets : List Net)
 
 -- ---- lists of nets
 
--- so many times one net
+-- a list of nets that has one net so many times
 pub record AreFilled (net : Net) (count : ℕ) (xs : List Net) : Type 0 where
   pub count_is : length xs ≡ count
   pub each : Each (λ (x : Net). x ≡ net) xs

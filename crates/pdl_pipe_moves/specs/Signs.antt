@@ -32,11 +32,11 @@ path_by p vs g frees k =
     both (opens_by frees (vs k).ended.asks)
     (both (barrier_open (verify_stage p.stmts) k (vs k).ended.barrier (g.clear k)) (way_on (stage_at p k).next (g.turns k) (vs k).ended))
 
--- and it awaits no answer, and no squash keeps it
+-- a stage's gate: its thread awaits no answer, no squash keeps it, and its path is open
 abbrev pub gate_by : Pipe → (ℕ → View) → Signs → (ℕ → Signal) → ℕ → Signal
 gate_by p vs g frees k = both (all_answered p g.answers k (length p.mems) 0) (both (unsquashed (verify_stage p.stmts) k g.squash) (path_by p vs g frees k))
 
--- those of a line, by nets: the orders of the forks, whether a squash happens, and which stages are clear
+-- what the gates of a line go by, by nets: the orders of the forks, whether a squash happens, and which stages are clear
 abbrev pub signs_in : Circuit → StageLine → List (Option OrderRegs) → Net → List Net → Signs
 signs_in c x orders squash clear = record {
   answers = answers_in c x.shared.now.ports.now;
@@ -49,7 +49,7 @@ signs_in c x orders squash clear = record {
 abbrev pub signs_by : Circuit → StageLine → Controls → Signs
 signs_by c x y = signs_in c x y.orders.now y.squash y.clear.now
 
--- these nets are there
+-- the nets of these controls are there
 pub record IsControlled (c : Circuit) (p : Pipe) (y : Controls) : Type 0 where
   pub turns : HasTurns c p y.orders.now
   pub squash : IsBit c y.squash

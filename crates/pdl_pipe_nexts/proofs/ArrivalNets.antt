@@ -50,7 +50,7 @@ module _ (p : Pipe) (vs : ℕ → View) (moves : ℕ → Signal) (q j : ℕ) whe
       ∙ sym
       (ap (λ (f : Signal). is_on (both (moves j) f) s) (ap (λ (n : Next). branch n q (vs j).ended) e ∙ ap (λ (b : Bool). if b then one else zero_bit) here))
 
-  -- out of another one none does
+  -- out of a stage which leads to another one alone no thread comes here
   pub elsewhere : (to : ℕ) → (stage_at p j).next ≡ flat.Goes to → (to == q) ≡ false → (s : State) → is_on zero_bit s ≡ is_on (out_of p vs moves q j).comes s
   elsewhere to e there s =
       both_zero (moves j) s

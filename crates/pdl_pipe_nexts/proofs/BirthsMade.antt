@@ -53,7 +53,7 @@ from_more p a m what xs k x rest arg l e =
     ∙ ap (λ (y : BirthNet). first_coming (brought_signal what) (map (new_by m) (map (birth_in a) (y ∷ drop (k + 1) xs))) rest) (sym e)
     ∙ ap (λ f. mux_signal (both m (signal a x.on)) f (from_call a m what xs (k + 1) rest)) (brings_is p what m (birth_in a x) arg)
 
--- one more net
+-- with a choice for one call more, the net tells of the calls from this one on
 pub call_made : (p : Pipe) (a b c d : Circuit) (m : Signal) (moves comes value net y : Net) (what : Option Item)
     (xs : List BirthNet) (k j : ℕ) (x : BirthNet) (rest : Signal)
     → IsArgument p what → k < length xs → j ≡ k + 1 → x ≡ get_or xs k x → Keeps a b → Extends b c → Extends c d

@@ -65,7 +65,7 @@ brought_is p vs moves q k (Some i) = comer_out p vs moves q k i
 
 -- ---- one more
 
--- out of the stages from the k-th of these on
+-- what the first thread that comes out of these stages, from the k-th on, brings, else the rest
 abbrev pub from_way : Pipe → (ℕ → View) → (ℕ → Signal) → ℕ → List ℕ → Option Item → ℕ → Signal → Signal
 from_way p vs moves q js what k rest = first_coming (brought_signal what) (map (out_of p vs moves q) (drop k js)) rest
 

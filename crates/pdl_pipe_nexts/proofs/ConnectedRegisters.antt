@@ -138,7 +138,7 @@ fits_regs a b x k s nets nexts e now h (suc i) l =
     (let z : reg_of s.regs i ≡ s.regs.valid + suc i = omega arith in z)
     (q.has, h.kept_wide i low ∙ ap (λ fs. Rattle.pdl_pipe_registers.specs.Items.item_width (line_form x) fs (item_at s.regs.items i)) (sym e) ∙ sym q.width)
 
--- so they take what they should
+-- the registers of a stage take what they should, where they are set to its nets
 pub takes_now : (a b d : Circuit) (x : StageLine) (k : ℕ) (s : StageNets) (nets : List Net) → AreNexts a b x k s nets
     → AreSet b d s nets → TakesNext a d x k s
 takes_now a b d x k s nets h set =

@@ -77,7 +77,7 @@ line_keep a b x e h = record {
 }
 
 module _ (a b : Circuit) (x : StageLine) (e : Keeps a b) (h : IsLineIn a x) where
-  -- a stage ends as it did
+  -- stage j ends with the same signals
   pub ended_same : (j : ℕ) → j < length x.stages.now → (line_views b x j).ended ≡ (line_views a x j).ended
   ended_same j l =
       let some = some_stage x.stages.now j l in
@@ -87,7 +87,7 @@ module _ (a b : Circuit) (x : StageLine) (e : Keeps a b) (h : IsLineIn a x) wher
       ∙ ap walk_of (parts_keep a b e s.end now.walk.there)
       ∙ sym (ap (λ (v : View). v.ended) (view_at a x.stages.now j s l some.1))
 
-  -- and keeps its tickets
+  -- stage j keeps its tickets
   pub tickets_same : (j : ℕ) → j < length x.stages.now → (line_views b x j).tickets ≡ (line_views a x j).tickets
   tickets_same j l =
       let some = some_stage x.stages.now j l in
@@ -97,11 +97,11 @@ module _ (a b : Circuit) (x : StageLine) (e : Keeps a b) (h : IsLineIn a x) wher
       ∙ ap (λ fs m. signal_at fs m) (signals_keep a b s.tickets e now.nets.tickets)
       ∙ sym (ap (λ (v : View). v.tickets) (view_at a x.stages.now j s l some.1))
 
-  -- whether its thread moves is told by the same signal
+  -- whether the thread of stage j moves is told by the same signal
   pub moves_same : (j : ℕ) → line_moves b x j ≡ line_moves a x j
   moves_same j = ap (λ fs. signal_at fs j) (signals_keep a b x.moves.now e (bits_there a x.moves.now h.moves))
 
-  -- whether its thread is removed is told by the same signal
+  -- whether the thread of stage j is removed is told by the same signal
   pub kills_same : (j : ℕ) → line_kills b x j ≡ line_kills a x j
   kills_same j = ap (λ fs. signal_at fs j) (signals_keep a b x.kills.now e (bits_there a x.kills.now h.kills))
 
@@ -136,7 +136,7 @@ module _ (a b : Circuit) (x : StageLine) (e : Keeps a b) (h : IsLineIn a x) wher
   pub all_moves_same : line_moves b x ≡ line_moves a x
   all_moves_same = ap (λ fs k. signal_at fs k) (signals_keep a b x.moves.now e (bits_there a x.moves.now h.moves))
 
-  -- so what arrives is what did
+  -- what arrives in stage k is the same signal
   pub arriving_same : (k : ℕ) (what : Option Item) (rest : Signal) → arriving b x k what rest ≡ arriving a x k what rest
   arriving_same k what rest =
       ap₂ (λ (vs : ℕ → View) (ms : ℕ → Signal). first_coming (brought_signal what) (comers (line_pipe x) vs ms k) rest) views_same all_moves_same

@@ -69,7 +69,7 @@ module _ (c : Circuit) (f : Form) (nexts : List Signal) (k : ℕ) (s : StageNets
       at (Ticket m) l = (h.registers.kept i low).there
       at (Guess j) l = (h.registers.kept i low).there
 
-  -- and is as wide as its register
+  -- the signal that keeps the i-th item is as wide as its register
   pub kept_wide : length f.pipe.start ≤ length f.widths → (kept_signal c s i (item_at s.regs.items i)).width ≡ item_width f nexts (item_at s.regs.items i)
   kept_wide p = at (item_at s.regs.items i) (ap (λ (g : Signal). g.width) (h.registers.kept i low).same)
     where
@@ -100,7 +100,7 @@ pub record NextsSoFar (a c : Circuit) (x : StageLine) (k : ℕ) (s : StageNets) 
   pub kept : (j : ℕ) → j < i
       → ValueAs (signal_at (signals_in c nets) (suc j)) (arriving a x k (Some (item_at s.regs.items j)) (kept_signal a s j (item_at s.regs.items j)))
 
--- whether it holds a thread
+-- at first there is the net for whether stage k holds a thread next, and none of an item
 pub nexts_first : (a b c : Circuit) (x : StageLine) (k : ℕ) (s : StageNets) (stays valid : Net) → Keeps a b
     → IsLineIn a x → IsThere c valid → (signal c valid).width ≡ 1 → signal b stays ≡ staying b x k s
     → ValueAs (signal c valid) (arriving b x k None (signal b stays)) → NextsSoFar a c x k s (valid ∷ []) 0
@@ -115,7 +115,7 @@ nexts_first a b c x k s stays valid e line there wide rest h = record {
   kept = λ j l. absurd (omega (arith, l));
 }
 
--- one item more
+-- with the net of one item more, the first i + 1 items have theirs
 pub nexts_more : (a b c : Circuit) (x : StageLine) (k : ℕ) (s : StageNets) (nets : List Net) (i : ℕ) (rest net : Net)
     → Keeps a b → Keeps b c → IsLineIn a x → IsStageNow a (line_form x) (signals_in a x.shared.now.next) k s
     → i < length s.regs.items → signal b rest ≡ kept_signal b s i (item_at s.regs.items i) → IsThere c net
@@ -149,7 +149,7 @@ nexts_more a b c x k s nets i rest net ab bc line now low is there wide h so =
           ∙ ap (λ (g : Signal). g.value z) (arriving_same a b x ab line k (Some item) (signal b rest) ∙ ap (arriving a x k (Some item)) kept));
     }
 
--- all of them
+-- with the nets of all items, a stage has what its registers take next
 pub nexts_all : (a c : Circuit) (x : StageLine) (k : ℕ) (s : StageNets) (nets : List Net) (i : ℕ)
     → i ≡ length s.regs.items → NextsSoFar a c x k s nets i → AreNexts a c x k s nets
 nexts_all a c x k s nets i e h = record {

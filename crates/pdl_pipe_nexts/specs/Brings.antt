@@ -17,7 +17,7 @@ use Rattle.pdl_pipe_registers.specs.Begun.{IsItem}
 use Rattle.pdl_pipe_nexts.specs.declared.line.StageLine.{StageLine}
 use Rattle.pdl_pipe_nexts.specs.Lines.{line_views, line_moves}
 
--- of one that may come, of one out of a stage with this view, and of a call with these arguments
+-- what one that may come brings: that it is there, or the signal of this item
 abbrev pub brought_signal : Option Item → Comer → Signal
 brought_signal None o = one
 brought_signal (Some i) o = comer_item i o
@@ -39,12 +39,12 @@ abbrev pub brought_new : Option Item → List Signal → Signal
 brought_new None args = one
 brought_new (Some i) args = argument_signal i args
 
--- how wide it is
+-- how wide the signal is that a thread brings
 abbrev pub brought_width : Form → List Signal → Option Item → ℕ
 brought_width f nexts None = 1
 brought_width f nexts (Some i) = item_width f nexts i
 
--- an item of the form, and an argument of new threads
+-- what a thread can bring: that it is there, or an item of the form
 abbrev pub IsBrought : Form → Option Item → Type 0
 IsBrought f None = ⊤
 IsBrought f (Some i) = IsItem f i

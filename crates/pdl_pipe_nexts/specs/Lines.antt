@@ -30,7 +30,7 @@ ValueAs f g = (s : State) → f.value s ≡ g.value s
 abbrev pub IsBit : Circuit → Net → Type 0
 IsBit c x = HasWidth c x 1
 
--- the form of its pipe, the views of its stages, and the nets of its moves and removals
+-- the form of a line's pipe
 abbrev pub line_form : StageLine → Form
 line_form x = form x.pipe.now
 

@@ -55,18 +55,18 @@ pub record TakesNext (a c : Circuit) (x : StageLine) (k : ℕ) (s : StageNets) :
   pub kept : (i : ℕ) → i < length s.regs.items
       → ValueAs (next_signal c (reg_of s.regs i)) (arriving a x k (Some (item_at s.regs.items i)) (kept_signal a s i (item_at s.regs.items i)))
 
--- the i-th item of a stage has its register, or is a variable of it
+-- this item, the i-th one with a register, has that register, or is a variable of the stage
 abbrev pub IsKeptNow : Circuit → StageNets → ℕ → Item → Type 0
 IsKeptNow c s i (Var x) = x < length s.begun
 IsKeptNow c s i (Held m a) = IsThere c (RegNet (reg_of s.regs i))
 IsKeptNow c s i (Ticket m) = IsThere c (RegNet (reg_of s.regs i))
 IsKeptNow c s i (Guess k) = IsThere c (RegNet (reg_of s.regs i))
 
--- the same of the i-th of the items that have registers in a stage
+-- the i-th of the items that have registers in a stage has its register, or is a variable of the stage
 abbrev pub IsKeptItem : Circuit → StageNets → ℕ → Type 0
 IsKeptItem c s i = IsKeptNow c s i (item_at s.regs.items i)
 
--- those of all stages
+-- the nets of what the registers of all stages take next
 pub record AllNexts (a c : Circuit) (x : StageLine) (nexts : List (Seq Net)) : Type 0 where
   pub count : length nexts ≡ length x.stages.now
   pub each : (k : ℕ) (s : StageNets) (nets : Seq Net) → k < length nexts → IsAt x.stages.now k s → slice_index_or nexts k nets ≡ nets → AreNexts a c x k s nets

@@ -79,7 +79,7 @@ mems_more ms i d h =
     ap (flat_map mem_ports) (take_more ms i d h) ∙ flat_map-append mem_ports (take i ms) (get_or ms i d ∷ [])
     ∙ ap (λ ps. flat_map mem_ports (take i ms) ++ ps) (append-nil (mem_ports (get_or ms i d)))
 
--- those of the memories are the ports that the law of a netlist asks for
+-- the inputs of memories are the ports that the law of a netlist asks for
 ports_as : (k : ℕ) (ms : List r_mem.FlatMem) (names : ℕ → List ℕ)
     → ((i j : ℕ) → j ≡ k + i → i < length ms → names j ≡ get_or (mem_names ms) i [])
     → flat_map mem_ports ms ≡ reply_ports names k (mems_view ms)
@@ -90,7 +90,7 @@ ports_as k (m ∷ ms) names h =
     (ap (λ (x : List ℕ). if m.delayed then input_port (codes "p_" ++ x) 1 ∷ input_port (codes "pd_" ++ x) m.width ∷ [] else []) e)
     (ports_as (suc k) ms names (λ i j u l. h (suc i) j (omega (arith, u)) (omega (arith, l))))
 
--- all of them, with the names of the memories
+-- the inputs of all memories, with their names, are the ports that the law of a netlist asks for
 pub ports_all : (f : Form) (ms : List r_mem.FlatMem) (i : ℕ) (names : ℕ → List ℕ)
     → mems_view ms ≡ f.pipe.mems → mem_names ms ≡ f.names → length ms ≤ i → AreNames f.names names
     → flat_map mem_ports (take i ms) ≡ reply_ports names 0 f.pipe.mems
@@ -117,7 +117,7 @@ place_more p i l = by (mem_at p i).delayed refl
     by true e = count_by_more_yes (λ (x : Mem). x.delayed) p.mems i plain_mem l e
     by false e = count_by_more_no (λ (x : Mem). x.delayed) p.mems i plain_mem l e ∙ (omega arith)
 
--- two inputs more for a delayed memory
+-- with one memory more there are two inputs for each delayed memory so far
 pub inputs_place : (p : Pipe) (a b : Circuit) (m : r_mem.FlatMem) (i : ℕ)
     → i < length p.mems → mem_view m ≡ mem_at p i → b.ports ≡ a.ports ++ mem_ports m
     → length (inputs_of a) ≡ 2 * reply_place p i → length (inputs_of b) ≡ 2 * reply_place p (i + 1)
@@ -139,7 +139,7 @@ reply_kept a b x place o k h = record {
   word = λ i e. means_keeps a b i.word _ k (h.word i e);
 }
 
--- they stay in a circuit that grew
+-- the inputs of the delayed memories stay in a circuit that grew
 pub replies_kept : (a b : Circuit) (p : Pipe) (xs : List (Option PortInput)) (n : ℕ) → Keeps a b → AreReplies a p xs n → AreReplies b p xs n
 replies_kept a b p xs n k h = record {
   count = h.count;

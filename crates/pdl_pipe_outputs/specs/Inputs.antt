@@ -31,7 +31,7 @@ pub record IsReplyOf (c : Circuit) (mem : Mem) (place : ℕ) (o : Option PortInp
   pub reply : (i : PortInput) → o ≡ Some i → Means c i.reply (input_signal 1 place)
   pub word : (i : PortInput) → o ≡ Some i → Means c i.word (input_signal mem.width (place + 1))
 
--- the first n memories
+-- what comes from the first n memories, where they are delayed
 pub record AreReplies (c : Circuit) (p : Pipe) (xs : List (Option PortInput)) (n : ℕ) : Type 0 where
   pub count : length xs ≡ n
   pub each : (m : ℕ) → m < n → IsReplyOf c (mem_at p m) (2 * reply_place p m) (some_at xs m)

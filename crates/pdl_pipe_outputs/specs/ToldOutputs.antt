@@ -41,7 +41,7 @@ abbrev pub IsThereRequest : Circuit → Option RequestNets → Type 0
 IsThereRequest c None = ⊤
 IsThereRequest c (Some r) = IsThere c r.enable × IsThere c r.addr
 
--- the delayed memories have such nets
+-- the delayed memories have the nets of what is asked of them
 pub record AreAsked (c : Circuit) (p : Pipe) (rs : List (Option RequestNets)) : Type 0 where
   pub count : length rs ≡ length p.mems
   pub delayed : (m : ℕ) → m < length p.mems → is_some (slice_index_or rs m None) ≡ (mem_at p m).delayed

@@ -58,7 +58,7 @@ none_const = refl
 past_all : (fs : List Signal) (ws : List ℕ) (x : ℕ) → widths_of fs ≡ ws → length ws ≤ x → signal_at fs x ≡ no_signal
 past_all fs ws x e l = get_or_past fs x no_signal (let n = length_widths fs in let m = ap length e in omega (arith, l, n, m))
 
--- a stage ends with none there
+-- a stage ends with no signal for a variable past the last
 pub past_ended : (c : Circuit) (f : Form) (nexts : List Signal) (e : Earlier) (x j : ℕ)
     → length f.widths ≤ x → IsEarlier c f nexts e → j < earlier_count e
     → ended_item (earlier_views c e j) (Var x) ≡ no_signal
@@ -132,7 +132,7 @@ module _ (a : Circuit) (f : Form) (x : Earlier) (s : Shared) (shared : IsShared 
       (λ y. IsSettledAfter a f x (Var y)) ws xs
       (λ y g z. settled_as f.pipe (earlier_views b x) (earlier_views a x) (earlier_count x) (Var y) g (ends (Var y)) z) h
 
-  -- where the variables have the same signals in another circuit
+  -- the guess of a stage in the later circuit is such by the nets of the earlier one, where the variables have the same signals
   pub guess_from : (c d : Circuit) (r : StageRegs) (needed : ℕ → Bool) (ws : List ℕ) (vars xs : List Net)
       → signals_in d vars ≡ signals_in b vars
       → AreBegun c f (signals_in b s.next) r Guess needed (λ i. IsSparedAfter b f x vars (Guess i)) ws xs
@@ -203,7 +203,7 @@ module _ (c : Circuit) (f : Form) (nexts : List Signal) (answers : ℕ → ℕ �
       let e11 : signal c s.end.barrier ≡ zero_bit = ap (signal c) fresh.barrier ∙ h.bits_are.zero.same in
       cc (e1, e2, e3, e4, e5, e6, e7, e8, e9, e10, e11)
 
-  -- the nets of its fresh walk are there, with their widths
+  -- the nets of the stage's fresh walk are there, with their widths
   pub walk_is : IsWalk c f.pipe f.widths s.end
   walk_is = record {
     there = record {

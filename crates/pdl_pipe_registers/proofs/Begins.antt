@@ -99,7 +99,7 @@ ways_low p q (suc n) j P h = at (leads_to (stage_at p j).next q) (ways_low p q n
     at true r = (h j (omega arith), r)
     at false r = r
 
--- all of them are lower
+-- what holds of all stages before q holds of those that may lead to q
 pub each_way : (p : Pipe) (q : ℕ) (P : ℕ → Type 0) → ((i : ℕ) → i < q → P i) → Each P (ways p q)
 each_way p q P h = ways_low p q q 0 P (λ i l. h i (omega (arith, l)))
 
@@ -231,7 +231,7 @@ module _ (b c : Circuit) (e : Keeps b c) (ws : List ℕ) (i : ℕ) (xs : List Ne
 -- ---- items of a kind
 
 module _ (f : Form) (nexts : List Signal) (item : ℕ → Item) (needed : ℕ → Bool) (S : ℕ → Signal → Type 0) (ws : List ℕ) where
-  -- they stay
+  -- the nets with which a stage begins stay as they are in a circuit that grew, with more registers
   pub begun_keep : (b c : Circuit) (r t : StageRegs) (xs : List Net) → Keeps b c → IsLonger r t
       → AreBegun b f nexts r item needed S ws xs → AreBegun c f nexts t item needed S ws xs
   begun_keep b c r t xs e l h =
@@ -248,7 +248,7 @@ module _ (f : Form) (nexts : List Signal) (k : ℕ) (item : ℕ → Item) (neede
   pub begun_none : (c : Circuit) (r : StageRegs) → AreBegun c f nexts r item needed S (take 0 ws) []
   begun_none c r = record { there = tt; wide = refl; begun = λ i low. absurd (omega (arith, low)) }
 
-  -- one more
+  -- with the net of one item more, the first i + 1 items have their nets
   pub begun_more : (b c : Circuit) (r t : StageRegs) (i : ℕ) (xs : List Net) (net : Net) → i < length ws → Extends b c
       → MayBegin c f nexts k (needed i) r t (item i) net (S i) → item_width f nexts (item i) ≡ slice_index ws i
       → AreBegun b f nexts r item needed S (take i ws) xs → AreBegun c f nexts t item needed S (take (i + 1) ws) (xs ++ net ∷ [])

@@ -110,7 +110,7 @@ helds_keep f nexts us k b c r t hs e l h = record {
       (subst (λ g. IsBegunBy f nexts r (Held m v) g (IsSettled f.pipe us k (Held m v))) (sym (held_now f nexts us k b c e hs h.there m v)) (h.begun m v q));
 }
 
--- by other views that end alike
+-- a location is added as well by other views that end alike
 pub adds_as : (c : Circuit) (f : Form) (nexts : List Signal) (us vs : ℕ → View) (k m v : ℕ) (r t : StageRegs) (hs xs : List HeldNet)
     → ((j : ℕ) → j < k → ended_item (vs j) (Held m v) ≡ ended_item (us j) (Held m v))
     → AddsHeld c f nexts us k m v r hs t xs → AddsHeld c f nexts vs k m v r hs t xs
@@ -126,7 +126,7 @@ adds_as c f nexts us vs k m v r t hs xs same (inr q) =
 
 -- ---- one more
 
--- locations with their registers, and what they were
+-- the held locations so far, with their registers, and those among them that were listed before
 pub record HeldsSoFar (a c : Circuit) (f : Form) (nexts : List Signal) (us : ℕ → View) (k : ℕ) (r0 : StageRegs)
     (hs0 : List HeldNet) (r : StageRegs) (hs : List HeldNet) : Type 0 where
   pub extends : Extends a c
@@ -210,7 +210,7 @@ module _ (a b c : Circuit) (f : Form) (nexts : List Signal) (us : ℕ → View) 
             → MayAdd c r t (Held m0 v0) 1 0 net (IsSettled f.pipe us k (Held m0 v0))
         may_zero n l q = q
 
-  -- either way
+  -- with a location more, or none where it needs no more, the held locations so far have their registers
   pub helds_more : AddsHeld c f nexts us k m0 v0 r hs t xs → HeldsSoFar a c f nexts us k r0 hs0 t xs
   helds_more (inl q) = same_case q
   helds_more (inr q) = subst (HeldsSoFar a c f nexts us k r0 hs0 t) (sym q.2) (more_case q.0 q.1 q.3)
@@ -224,7 +224,7 @@ module _ (a b c : Circuit) (f : Form) (nexts : List Signal) (us : ℕ → View) 
       ∙ or_right (is_listed hs m0 v0) ((m0 == m0) && (v0 == v0))
       (Rattle.std.proofs.Common.ap₂ (λ x z. x && z) (Rattle.std.proofs.Common.eq-eqb m0 m0 refl) (Rattle.std.proofs.Common.eq-eqb v0 v0 refl)))
 
-  -- and what was listed still is
+  -- what was listed still is
   pub helds_still : AddsHeld c f nexts us k m0 v0 r hs t xs → AreStillListed hs xs
   helds_still (inl q) m v h = subst (λ l. is_listed l m v ≡ true) (sym q.1) h
   helds_still (inr q) m v h =
@@ -269,7 +269,7 @@ all_held_more p k u hs xs still h m v need un = h m v need (at (is_listed hs m v
     at true q = absurd (false≢true (sym un ∙ still m v q))
     at false q = q
 
--- by other views that end alike
+-- the held locations with which a stage begins are such by other views that end alike
 pub helds_as : (c : Circuit) (f : Form) (nexts : List Signal) (us vs : ℕ → View) (k : ℕ) (r : StageRegs) (hs : List HeldNet)
     → ((m v j : ℕ) → j < k → ended_item (vs j) (Held m v) ≡ ended_item (us j) (Held m v))
     → AreHeldBegun c f nexts us k r hs → AreHeldBegun c f nexts vs k r hs

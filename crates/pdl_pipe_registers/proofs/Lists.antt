@@ -23,7 +23,7 @@ pub view_at : (c : Circuit) (ss : List StageNets) (k : ℕ) (s : StageNets)
     → k < length ss → get_or ss k s ≡ s → views_in c ss k ≡ view_in c s
 view_at c ss k s l e = get_or-map (view_in c) ss k s no_view l ∙ ap (view_in c) e
 
--- below or at it
+-- the number after one below n is below n or is n
 pub below_or : (k n : ℕ) → k < n → (suc k < n) ⊎ (suc k ≡ n)
 below_or k n l = at (leb_tells (suc (suc k)) n)
   where

@@ -76,7 +76,7 @@ module _ (f : Form) (nexts : List Signal) (k : ℕ) where
       all : (j : ℕ) → j < length r.items + 1 → IsKeptIn f nexts k b r (r.items ++ i ∷ []) j
       all = up_to (IsKeptIn f nexts k b r (r.items ++ i ∷ [])) (length r.items) old here
 
-  -- whether one is added or none
+  -- with one register more for an item, or none, a stage's registers are still the last ones
   pub frame_may : (a b : Circuit) (r t : StageRegs) (i : Item) (net : Net) (Settled : Signal → Type 0) → Extends a b
       → MayAdd b r t i (item_width f nexts i) (first_value f.pipe k i) net Settled → end_of t ≡ length b.regs
       → IsFrame a f nexts k r → IsFrame b f nexts k t
@@ -137,7 +137,7 @@ module _ (f : Form) (nexts : List Signal) where
         q.3 ∙ ap (λ n. reg_signal (item_width f nexts i) (suc (n + j))) (sym h.valid),
       )
 
-  -- and the one that was added, or not, is so
+  -- an item begins with the register that was added for it, or with the settled signal of its net
   pub by_new : (c : Circuit) (r t : StageRegs) (i : Item) (v : ℕ) (net : Net) (Settled : Signal → Type 0)
       → MayAdd c r t i (item_width f nexts i) v net Settled → IsBegunBy f nexts t i (signal c net) Settled
   by_new c r t i v net Settled (inr m) = inr m.settled

@@ -135,7 +135,7 @@ module _ (a c d : Circuit) (ad : Keeps a d) (e : Keeps c d) (f : Form) (nexts : 
   kept_at (Ticket m) = ap (λ fs. signal_at fs m) (signals_keep c d s.tickets e h.nets.tickets)
   kept_at (Guess i) = ap (λ fs. signal_at fs i) (signals_keep c d s.guess e h.nets.guess)
 
-  -- with its rows
+  -- a begun stage that the steps of its rows lead to another end stands with its rows
   pub staged_made : IsWalk d f.pipe f.widths t.end
       → AreSteps d f.pipe ls (tickets_in c s.tickets) (in_stage k f.pipe.stmts) (walk_in c s.end) (walk_in d t.end)
       → IsStaged d f nexts answers ls ss k t

@@ -37,7 +37,7 @@ apart_more low mid high ss t l place last h = record {
       (λ i r below here. let to = h.to i r below (sym (get_or_append_left ss (t ∷ []) r i below) ∙ here) in omega (arith, to, place)) k u m is j s q at;
 }
 
--- the first i stages
+-- the first i stages stand with their rows
 pub record StagesSoFar (a c : Circuit) (f : Form) (nexts : List Signal) (answers : ℕ → ℕ → AnswerSignals) (ls : Locks)
     (x : Shared) (ss : List StageNets) (i : ℕ) : Type 0 where
   pub extends : Extends a c

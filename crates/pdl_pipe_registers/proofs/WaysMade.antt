@@ -6,7 +6,7 @@ use Rattle.pdl_semantics.specs.Flat.{Pipe}
 use Rattle.pdl_semantics.specs.Stages.{stage_at}
 use Rattle.pdl_machine_facts.specs.Slots.{leads_to, ways_from}
 
--- those from j on
+-- the stages from j on that may lead to q
 abbrev pub ways_left : Pipe → ℕ → ℕ → List ℕ
 ways_left p q j = ways_from p q (q - j) j
 
@@ -27,6 +27,6 @@ module _ (p : Pipe) (q j : ℕ) (low : j < q) where
   pub none_leads : leads_to (stage_at p j).next q ≡ false → ways_left p q (j + 1) ≡ ways_left p q j
   none_leads h = sym (next_left ∙ ap (λ b. if b then j ∷ ways_left p q (j + 1) else ways_left p q (j + 1)) h)
 
--- none is left
+-- from stage q on no stage is left that leads to q
 pub none_left : (p : Pipe) (q j : ℕ) → q ≤ j → ways_left p q j ≡ []
 none_left p q j l = let n : q - j ≡ 0 = omega (arith, l) in ap (λ k. ways_from p q k j) n

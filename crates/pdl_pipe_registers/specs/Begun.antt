@@ -103,7 +103,7 @@ pub record Adds (c : Circuit) (r r' : StageRegs) (i : Item) (w v : ℕ) (net : N
   pub net_is : net ≡ RegNet (end_of r)
   pub register : IsRegister c (end_of r) w v
 
--- none, and the signal is so
+-- no register is added, and the signal of the net is so
 pub record Leaves (c : Circuit) (r r' : StageRegs) (w : ℕ) (net : Net) (Settled : Signal → Type 0) : Type 0 where
   pub regs : r' ≡ r
   pub wide : HasWidth c net w
@@ -132,7 +132,7 @@ pub record IsLonger (r r' : StageRegs) : Type 0 where
 abbrev pub IsSettledAfter : Circuit → Form → Earlier → Item → Signal → Type 0
 IsSettledAfter c f x i g = IsSettled f.pipe (earlier_views c x) (earlier_count x) i g
 
--- and what needs no register after them, where the variables have these nets
+-- an item needs no register after these stages, where the variables have these nets
 abbrev pub IsSparedAfter : Circuit → Form → Earlier → List Net → Item → Signal → Type 0
 IsSparedAfter c f x vars i g = IsSpared f.pipe (earlier_views c x) (earlier_count x) (signals_in c vars) i g
 

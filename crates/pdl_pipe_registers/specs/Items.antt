@@ -16,14 +16,14 @@ use Rattle.pdl_pipe_registers.specs.declared.nets.Item.TheVariants.{Var, Held, T
 abbrev pub item_at : List Item → ℕ → Item
 item_at xs i = slice_index_or xs i (Var 0)
 
--- whether a thread needs it in stage k
+-- whether a thread needs an item in stage k
 abbrev pub is_needed : Pipe → ℕ → Item → Bool
 is_needed p k (Var x) = lives_from p k x
 is_needed p k (Held m a) = held_from p k m a
 is_needed p k (Ticket m) = goes_with p k m
 is_needed p k (Guess i) = verifies_from p k && nat_lt i (length p.start)
 
--- as a stage keeps it, after its rows, and of a thread that comes
+-- an item as a stage keeps it
 abbrev pub kept_item : View → Item → Signal
 kept_item v (Var x) = v.kept x
 kept_item v (Held m a) = v.begun.held m a

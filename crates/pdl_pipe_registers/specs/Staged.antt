@@ -27,7 +27,7 @@ pub record IsStaged (c : Circuit) (f : Form) (nexts : List Signal) (answers : �
   pub rows : AreSteps c f.pipe ls (tickets_in c s.tickets) (in_stage k f.pipe.stmts) (view_in c s).begun (walk_in c s.end)
   pub walk : IsWalk c f.pipe f.widths s.end
 
--- all stages, each so
+-- all stages stand with their rows
 abbrev pub AreStaged : Circuit → Form → List Signal → (ℕ → ℕ → AnswerSignals) → Locks → List StageNets → Type 0
 AreStaged c f nexts answers ls ss = (k : ℕ) (s : StageNets) → k < length ss → IsAt ss k s → IsStaged c f nexts answers ls ss k s
 

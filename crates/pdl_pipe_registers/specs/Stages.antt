@@ -80,7 +80,7 @@ no_walk =
 abbrev pub no_view : View
 no_view = record { valid = zero_bit; kept = λ x. no_signal; tickets = λ m. no_signal; begun = no_walk; ended = no_walk }
 
--- all stages by their numbers
+-- the views of all stages by their numbers
 abbrev pub views_in : Circuit → List StageNets → ℕ → View
 views_in c ss k = slice_index_or (map (view_in c) ss) k no_view
 
@@ -111,12 +111,12 @@ pub record HasRegisters (c : Circuit) (f : Form) (nexts : List Signal) (k : ℕ)
   pub valid : IsRegister c r.valid 1 (if k == 0 then 1 else 0)
   pub kept : (i : ℕ) → i < length r.items → IsRegister c (reg_of r i) (item_width f nexts (item_at r.items i)) (first_value f.pipe k (item_at r.items i))
 
--- and they are the last ones
+-- the registers of stage k, which are the last ones
 pub record IsFrame (c : Circuit) (f : Form) (nexts : List Signal) (k : ℕ) (r : StageRegs) : Type 0 where
   pub last : end_of r ≡ length c.regs
   pub registers : HasRegisters c f nexts k r
 
--- each of them keeps what it may
+-- each register of stage k keeps an item that it may
 abbrev pub AreOwn : Form → ℕ → StageRegs → Type 0
 AreOwn f k r = (i : ℕ) → i < length r.items → IsOwn f k (item_at r.items i)
 
@@ -127,7 +127,7 @@ abbrev pub IsBegunBy : Form → List Signal → StageRegs → Item → Signal �
 IsBegunBy f nexts r i g Settled =
     ((j : ℕ) × (j < length r.items) × (item_at r.items j ≡ i) × (g ≡ reg_signal (item_width f nexts i) (reg_of r j))) ⊎ Settled g
 
--- the nets are there, with their widths
+-- the nets with which a stage begins are there, with their widths
 pub record IsThereBegun (c : Circuit) (f : Form) (nexts : List Signal) (s : StageNets) : Type 0 where
   pub vars : NetsThere c s.vars
   pub vars_wide : widths_of (signals_in c s.vars) ≡ f.widths
@@ -150,7 +150,7 @@ pub record IsCommon (p : Pipe) (us : ℕ → View) (k : ℕ) (i : Item) (g : Sig
   pub same : Each (λ j. ended_item (us j) i ≡ g) (ways p k)
   pub unanswered : is_answered p k i ≡ false
 
--- in the first stage a zero, in another so
+-- an item of stage k has this signal whoever comes: in the first stage a zero, in another one the constant of all that lead here
 abbrev pub IsSettled : Pipe → (ℕ → View) → ℕ → Item → Signal → Type 0
 IsSettled p us zero i g = IsZero p i g
 IsSettled p us (suc k) i g = IsCommon p us (suc k) i g
@@ -169,7 +169,7 @@ pub record IsAsVariable (p : Pipe) (us : ℕ → View) (k : ℕ) (vars : List Si
   pub twin : IsTwin p us k i x
   pub is : g ≡ signal_at vars x
 
--- without a register of its own, where the variables have these signals
+-- an item of stage k needs no register of its own, where the variables have these signals
 abbrev pub IsSpared : Pipe → (ℕ → View) → ℕ → List Signal → Item → Signal → Type 0
 IsSpared p us k vars (Var x) g = IsSettled p us k (Var x) g
 IsSpared p us k vars (Held m a) g = IsSettled p us k (Held m a) g

@@ -19,11 +19,11 @@ use Rattle.pdl_pipe_tails.specs.Carried.{tail_in, HaveTails}
 use Rattle.pdl_pipe_tails.specs.Tails.{AreStageTails, AreTails, IsRow}
 use Rattle.pdl_pipe_tails.proofs.Rows.{stage_keep, stage_as}
 
--- the first n stages
+-- the first n stages have their tails
 abbrev pub FirstRows : Circuit → Circuit → StageLine → List (Seq Net) → ℕ → Type 0
 FirstRows a c x rows n = (j : ℕ) → j < n → AreStageTails a c x (tail_in c rows []) j (get_or rows j [])
 
--- each of them has a tail of each memory
+-- each of the first n stages has a tail of each memory
 pub have_rows : (a c : Circuit) (x : StageLine) (fresh : List Net) (rows : List (Seq Net)) (n m : ℕ)
     → length rows ≡ n → Keeps a c → IsLineIn a x → AreAfterAll c c x fresh → m < length fresh → FirstRows a c x rows n
     → HaveTails c m (signal_at (signals_in c fresh) m).width rows
@@ -73,7 +73,7 @@ pub same_before : (rows : List (Seq Net)) (last : List Net) (n : ℕ)
     → length rows ≡ n → (j : ℕ) → j < n → get_or rows j last ≡ get_or rows j []
 same_before rows last n count j l = get_or_default rows j last [] (omega (arith, l, count))
 
--- one stage more
+-- with the tails of one stage more, the first n + 1 stages have theirs
 pub rows_more : (a c d : Circuit) (x : StageLine) (rows : List (Seq Net)) (new : Seq Net) (n : ℕ)
     → length rows ≡ n → Extends c d → FirstRows a c x rows n
     → AreStageTails a d x (tail_in d (rows ++ new ∷ []) []) n new → FirstRows a d x (rows ++ new ∷ []) (n + 1)
@@ -82,7 +82,7 @@ rows_more a c d x rows new n count e h here =
     (row_later a c d x rows (rows ++ new ∷ []) [] n e h (same_front rows new n count))
     (subst (AreStageTails a d x (tail_in d (rows ++ new ∷ []) []) n) (sym (get_or_push rows new [] n count)) here)
 
--- and the last one
+-- with the tails of stage V, all stages up to it have theirs
 pub rows_all : (a c d : Circuit) (x : StageLine) (t : TailNets) (v : ℕ)
     → length t.before.items ≡ v → Extends c d → FirstRows a c x t.before.items v
     → AreStageTails a d x (tail_in d t.before.items t.cut) v t.cut → AreTails a d x t v

@@ -210,7 +210,7 @@ stage_as a c x tails others k nets same h = record {
       };
 }
 
--- as the circuit was before
+-- the tails of a stage are so by the circuit as it was before
 pub stage_from : (a b c : Circuit) (x : StageLine) (tails : ℕ → ℕ → Signal) (k : ℕ) (nets : List Net) → Keeps a b
     → IsLineIn a x → AreStageTails b c x tails k nets → AreStageTails a c x tails k nets
 stage_from a b c x tails k nets e line h = record {

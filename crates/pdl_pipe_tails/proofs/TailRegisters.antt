@@ -43,7 +43,7 @@ tails_keep a b m w rows e h = λ k l.
 
 -- ---- what they bring
 
--- the threads from the i-th on
+-- the threads from the i-th on bring the tail of the i-th where it comes, else what the later ones bring
 pub brought_more : (c : Circuit) (rows : List (Seq Net)) (m : ℕ) (ys : List Arrival) (i : ℕ) (y : Arrival) (rest : Signal)
     → i < length ys → y ≡ get_or ys i y
     → brought_tail c rows m (drop i ys) rest
@@ -80,7 +80,7 @@ extends_new a b c r l x y = record {
   shapes = y.shapes ∙ x.shapes;
 }
 
--- a register goes on as it was told
+-- a register carries on what it takes next while the circuit grows
 pub carried_keep : (b c : Circuit) (low : ℕ) (g taken : Signal) → Extends b c → IsCarried b low g taken → IsCarried c low g taken
 carried_keep b c low g taken e h = record {
   reg = h.reg;
@@ -90,7 +90,7 @@ carried_keep b c low g taken e h = record {
   takes = λ s. ap (λ (f : Signal). f.value s) (e.nexts h.reg h.has) ∙ h.takes s;
 }
 
--- by a lower number, and by what has the same values
+-- a register carries a ticket as well from a lower number on, and by what has the same values
 pub carried_as : (c : Circuit) (low from : ℕ) (g taken brought : Signal)
     → low ≤ from → ((s : State) → taken.value s ≡ brought.value s) → IsCarried c from g taken
     → IsCarried c low g brought

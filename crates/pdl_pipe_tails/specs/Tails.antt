@@ -22,7 +22,7 @@ pub record IsTail (a c : Circuit) (p : Pipe) (fresh : List Net) (before : List (
   pub first : carries_tail p k m ≡ false → g ≡ signal_at (signals_in a fresh) m
   pub carried : carries_tail p k m ≡ true → IsCarried c (length a.regs) g (brought_tail a before m arrivals g)
 
--- and by signals, where the threads of a line have these tails
+-- a memory's tail in stage k, by signals, where the threads of a line have these tails
 pub record IsStageTail (a c : Circuit) (x : StageLine) (tails : ℕ → ℕ → Signal) (k m : ℕ) (g : Signal) : Type 0 where
   pub wide : g.width ≡ (signal_at (signals_in a x.shared.now.next) m).width
   pub first : carries_tail (line_pipe x) k m ≡ false → IsAfterAll a x m g
@@ -38,7 +38,7 @@ pub record AreStageTails (a c : Circuit) (x : StageLine) (tails : ℕ → ℕ �
 abbrev pub tails_in : Circuit → TailNets → ℕ → ℕ → Signal
 tails_in c t = tail_in c t.before.items t.cut
 
--- those of all stages up to V
+-- the tails of the threads in all stages up to V
 pub record AreTails (a c : Circuit) (x : StageLine) (t : TailNets) (v : ℕ) : Type 0 where
   pub count : length t.before.items ≡ v
   pub each : (k : ℕ) → k ≤ v → AreStageTails a c x (tails_in c t) k (slice_index_or t.before.items k t.cut)

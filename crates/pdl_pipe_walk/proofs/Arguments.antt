@@ -26,6 +26,6 @@ arguments_wide fs [] (e ∷ es) h = absurd h
 arguments_wide fs (n ∷ ns) [] h = absurd h
 arguments_wide fs (n ∷ ns) (e ∷ es) h = ap₂ (λ m ms. m ∷ ms) (value_width fs e h.0 ∙ h.1) (arguments_wide fs ns es h.2)
 
--- no more arguments than variables
+-- arguments with the widths of the first variables are no more than the variables
 pub arguments_few : (ws : List ℕ) (n : ℕ) (es : List Expr) → AreArguments ws (take n ws) es → length es ≤ length ws
 arguments_few ws n es h = omega (arith, args_count ws (take n ws) es h, take_few n ws)

@@ -22,7 +22,7 @@ use Rattle.pdl_pipe_walk.specs.Locked.{Members, AreLocked, AreTickets}
 use Rattle.pdl_pipe_walk.specs.Sized.{IsSizedReserve, IsSizedPut, IsSizedBirth, IsSizedAsk, IsWalk, AreWalked}
 use Rattle.pdl_word.specs.Each.{Each}
 
--- a call without arguments
+-- nets can be made of a call without arguments
 pub call_walked : (f : Form) (k : ℕ) (xs : List Stmt)
     → xs ≡ record { stage = k; guards = []; op = Call [] } ∷ [] → f.pipe.start ≡ [] → AreWalked f xs
 call_walked f k xs e s =
@@ -41,7 +41,7 @@ guess_walked f xs e s =
     subst (λ (l : List ℕ). AreArguments f.widths (take (length l) f.widths) []) (sym s) tt in
     subst (AreWalked f) (sym e) (((tt, none), tt), (((tt, none), tt), (((tt, tt), tt), tt)))
 
--- no memories
+-- a pipe without memories has its locks in each circuit
 pub no_locks : {T : Type 0} (l : Members T) (c : Circuit) (p : Pipe) (xs : List (Option (MemLock T)))
     → xs ≡ [] → p.mems ≡ [] → AreLocked l c p xs
 no_locks l c p xs e n = record {
@@ -66,7 +66,7 @@ take_none : (n : ℕ) → take {A = ℕ} n [] ≡ []
 take_none zero = refl
 take_none (suc n) = refl
 
--- no variables, and nothing done yet
+-- the nets of a walk without variables that has done nothing are there
 pub bare_walk : (c : Circuit) (p : Pipe) (ws : List ℕ) (w : WalkNets)
     → ws ≡ [] → w.vars.items ≡ [] → w.held.items ≡ [] → IsThere c w.ready → (signal c w.ready).width ≡ 1
     → w.reserves ≡ [] → w.puts ≡ [] → w.lettings ≡ [] → w.births.items ≡ [] → w.asks ≡ [] → w.guess ≡ []

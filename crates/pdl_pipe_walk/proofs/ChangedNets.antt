@@ -56,6 +56,7 @@ module _ (a b : Circuit) (e : Extends a b) (p : Pipe) (ws : List ℕ) (w : WalkN
 
   -- another ready net
   module _ (n : Net) (on f : Signal) (t : IsThere b n) (s : signal b n ≡ both (parts_in a w).ready (if_on on f)) where
+    -- the walk's signals are those before, and where the condition is 1 the thread waits for one bit more
     pub wait_parts : parts_in b (record w { ready = n }) ≡ record (parts_in a w) { ready = both (parts_in a w).ready (if_on on f) }
     wait_parts = ready_parts a b (extends_keeps a b e) w h.there n (both (parts_in a w).ready (if_on on f)) s
 
@@ -83,6 +84,7 @@ module _ (a b : Circuit) (e : Extends a b) (p : Pipe) (ws : List ℕ) (w : WalkN
 
   -- another net of whether a verify fails, or of a barrier, and other nets of the guess
   module _ (n : Net) (f : Signal) (t : IsThere b n) (s : signal b n ≡ f) (k : f.width ≡ 1) where
+    -- the nets of the walk with another net of whether a verify fails are there, with their widths
     pub fails_walk : IsWalk b p ws (record w { fails = n })
     fails_walk = record {
       there =
@@ -169,6 +171,7 @@ module _ (a b : Circuit) (e : Extends a b) (p : Pipe) (ws : List ℕ) (w : WalkN
 
 -- one more of each kind, in the same circuit
 module _ (b : Circuit) (p : Pipe) (ws : List ℕ) (w : WalkNets) (h : IsWalk b p ws w) where
+  -- the nets of the walk with one more write are there, with their widths
   pub put_walk : (m : ℕ) (on value : Net) → IsThere b on → IsThere b value → m < length p.mems → (signal b on).width ≡ 1
       → (signal b value).width ≡ (mem_at p m).width
       → IsWalk b p ws (record w { puts = w.puts ++ record { mem = m; on = on; value = value } ∷ [] })
@@ -282,7 +285,7 @@ pub set_means : (a b : Circuit) (n : Net) (on f old known : Signal)
     → old ≡ known → Means b n (mux_signal on f old) → Means b n (mux_signal on f known)
 set_means a b n on f old known e m = record { there = m.there; same = m.same ∙ ap (mux_signal on f) e }
 
--- the ready net after a wait
+-- the ready net after a wait tells that the one before is 1, and the bit is where the condition is 1
 pub wait_signal : (a b1 b2 : Circuit) (ready asked r bit : Net) (on f : Signal) → Extends a b1 → IsThere a ready
     → signal a bit ≡ one → Means b1 asked (mux_signal on f (signal a bit))
     → Means b2 r (both (signal b1 ready) (signal b1 asked)) → signal b2 r ≡ both (signal a ready) (if_on on f)

@@ -44,7 +44,7 @@ choice_at on (f ∷ fs) [] i l e = absurd (omega (arith, e))
 choice_at on (f ∷ fs) (g ∷ gs) zero l e = refl
 choice_at on (f ∷ fs) (g ∷ gs) (suc i) l e = choice_at on fs gs i (omega (arith, l)) (omega (arith, e))
 
--- one more of them
+-- the first i choices and that of the next two signals are the first i + 1
 pub choices_more : (on : Signal) (fs gs : List Signal) (i : ℕ) (done : List Signal) (f : Signal)
     → i < length fs → length fs ≡ length gs → done ≡ take i (choices on fs gs)
     → f ≡ mux_signal on (signal_at fs i) (signal_at gs i) → done ++ f ∷ [] ≡ take (i + 1) (choices on fs gs)
@@ -53,7 +53,7 @@ choices_more on fs gs i done f l e h k =
     ∙ sym (take_more (choices on fs gs) i no_signal (let n = choices_length on fs gs e in omega (arith, l, e, n)))
 
 module _ (s : State) (on : Signal) where
-  -- where the condition is 1 the first ones, else the second ones
+  -- where the condition is 1 the choices have the values of the first signals
   pub choices_on : (fs gs : List Signal) → length fs ≡ length gs → on.value s ≡ bit true → values_at s (choices on fs gs) ≡ values_at s fs
   choices_on [] gs e h = refl
   choices_on (f ∷ fs) [] e h = absurd (omega (arith, e))
@@ -68,7 +68,7 @@ module _ (s : State) (on : Signal) where
 
 -- ---- differences
 
--- one more of them
+-- with the next two signals compared, those after them are left, and the whole is the same
 pub differ_more : (fs gs : List Signal) (i : ℕ) (d d' whole : Signal)
     → i < length fs → length fs ≡ length gs → d' ≡ or_differ d (signal_at fs i) (signal_at gs i)
     → differ_from d (drop i fs) (drop i gs) ≡ whole → differ_from d' (drop (i + 1) fs) (drop (i + 1) gs) ≡ whole
@@ -76,7 +76,7 @@ differ_more fs gs i d d' whole l e h k =
     ap (λ x. differ_from x (drop (i + 1) fs) (drop (i + 1) gs)) h
     ∙ sym (ap₂ (differ_from d) (drop_more fs i no_signal l) (drop_more gs i no_signal (omega (arith, l, e)))) ∙ k
 
--- after all of them
+-- after all signals are compared, the signal is the whole
 pub differ_all : (fs gs : List Signal) (i : ℕ) (d whole : Signal)
     → length fs ≤ i → differ_from d (drop i fs) (drop i gs) ≡ whole → d ≡ whole
 differ_all [] gs zero d whole l h = h
@@ -116,7 +116,7 @@ differ_value s (f ∷ fs) (g ∷ gs) d b e h =
     by false true y = refl
     by false false y = refl
 
--- whether the arguments aren't the same
+-- the signal of a difference tells whether the values of two lists aren't the same
 pub wrong_value : (s : State) (fs gs : List Signal)
     → length fs ≡ length gs → (differ_signal fs gs).value s ≡ bit (not (same_args (values_at s fs) (values_at s gs)))
 wrong_value s fs gs e = differ_value s fs gs zero_bit false e (zero_is s)

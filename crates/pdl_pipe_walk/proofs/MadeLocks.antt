@@ -102,7 +102,7 @@ module _ (ls : Locks) (m : ℕ) (addr ticket : Signal) where
       → IsLooked ls m (signal c y) addr ticket f
   looked_on c x y b e f v law s = block_one ls m addr ticket f (signal c y) v true s law (held_on c x y b e s)
 
-  -- a choice between a look for writing where the location is held, else one for reading, tells whether it is ready
+  -- a look for writing where the location is held, else one for reading, tells whether it is ready
   pub looked_either : (held f g : Signal) (v u : Option Signal)
       → LookLaw (ls.stands m) (ls.kind m) (ls.bits m) look_kind.W addr ticket f v
       → LookLaw (ls.stands m) (ls.kind m) (ls.bits m) look_kind.R addr ticket g u
@@ -156,7 +156,7 @@ module _ {T : Type 0} (l : Members T) (c : Circuit) (p : Pipe) (xs : List (Optio
       by None e = absurd (false≢true (sym (ap is_some e) ∙ h.locked m low ∙ locked))
       by (Some x) e = t.wide m x (omega (arith, low, h.count)) e
 
-  -- the net of its room
+  -- the net of a locked memory's room means what its lock tells of room
   pub room_signal : signal c (room_net (some_at xs m)) ≡ (locks_in l p c xs).room m
   room_signal = by (some_at xs m) refl
     where
@@ -164,7 +164,7 @@ module _ {T : Type 0} (l : Members T) (c : Circuit) (p : Pipe) (xs : List (Optio
       by None e = absurd (false≢true (sym (ap is_some e) ∙ h.locked m low ∙ locked))
       by (Some x) e = refl
 
-  -- the net of its room is there, with 1 bit
+  -- the net of a locked memory's room is there, with 1 bit
   pub room_there : HasWidth c (room_net (some_at xs m)) 1
   room_there = by (some_at xs m) refl
     where

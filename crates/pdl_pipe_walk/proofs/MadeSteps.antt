@@ -67,7 +67,7 @@ module _ (c : Circuit) (p : Pipe) (ws : List ℕ) (ls : Locks) (tickets : ℕ �
   guarded : AreGuards (widths_of w.vars) gs
   guarded = subst (λ l. AreGuards l gs) (sym sized.vars) guards
 
-  -- the condition
+  -- the condition is 1 just where the guards are taken
   pub is_on : Later c (λ d. (s : State) → Suits d s → (taken_signal w.vars gs).value s ≡ bit (taken_in gs (walk_of w) s))
   is_on d k well s suits = taken_value s w.vars (walk_of w) (λ x. refl) (bounded_in d k well s suits) gs guarded
 
@@ -110,7 +110,7 @@ module _ (c : Circuit) (p : Pipe) (ws : List ℕ) (ls : Locks) (tickets : ℕ �
             ∙ ap (λ v. record (walk_of w) { vars = v }) (set_walk x (mux_signal on f (signal_at w.vars x)) w (omega (arith, l, var_count p ws w sized)));
       }
 
-  -- a write adds one with the value of the expression
+  -- a write adds a write with the value of the expression
   pub write_step : (m a : ℕ) (e : Expr) (w' : Parts) → IsTyped ws e
       → w' ≡ with_put m (taken_signal w.vars gs) (value_signal w.vars e) w
       → IsStep c p ls tickets gs (flat.Write m a e) (walk_of w) (walk_of w')
@@ -123,7 +123,7 @@ module _ (c : Circuit) (p : Pipe) (ws : List ℕ) (ls : Locks) (tickets : ℕ �
         next = ap walk_of h;
       }
 
-  -- a call adds one with the values of its arguments
+  -- a call adds a birth with the values of its arguments
   pub call_step : (es : List Expr) (w' : Parts) → length es ≤ length ws → AreTyped ws es
       → w' ≡ with_call (taken_signal w.vars gs) (value_signals w.vars es) w
       → IsStep c p ls tickets gs (flat.Call es) (walk_of w) (walk_of w')

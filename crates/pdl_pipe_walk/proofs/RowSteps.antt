@@ -54,7 +54,7 @@ module _ (rows : List ℕ) (i : ℕ) (l : i < length rows) (f : Form) (xs : List
   pub rows_more : map (stmt_at xs) (take (i + 1) rows) ≡ map (stmt_at xs) (take i rows) ++ stmt_at xs (get_or rows i 0) ∷ []
   rows_more = ap (map (stmt_at xs)) (take_more rows i 0 l) ∙ map-append (stmt_at xs) (take i rows) _
 
--- the statements of these numbers
+-- nets can be made of the statements of these numbers, where they can be of all statements
 pub rows_walked : (f : Form) (xs : List Stmt) (rows : List ℕ) → AreWalked f xs
     → ((j : ℕ) → j < length rows → slice_index rows j < length xs) → AreWalkedRows f xs rows
 rows_walked f xs rows h low =

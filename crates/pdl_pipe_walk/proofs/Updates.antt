@@ -49,7 +49,7 @@ same_rest b w new vars held births e1 e2 e3 r =
       ap (signal b) r.barrier,
     )
 
--- its nets are there
+-- the nets of a walk that has the rest of another one are there
 pub there_rest : (b : Circuit) (w new : WalkNets) → IsThereWalk b w → SameRest w new → NetsThere b new.vars.items
     → Each (λ (y : HeldNet). IsThere b y.net) new.held.items
     → Each (λ (y : BirthNet). IsThere b y.on × NetsThere b y.args) new.births.items → IsThereWalk b new
@@ -112,6 +112,7 @@ module _ (a b : Circuit) (e : Keeps a b) (w : WalkNets) (t : IsThereWalk a w) wh
 
 -- in the same circuit, with one more of each kind
 module _ (b : Circuit) (w : WalkNets) where
+  -- with one reservation more, it comes after the reservations and nothing else changes
   pub reserve_parts : (n : ReserveNet)
       → parts_in b (record w { reserves = w.reserves ++ n ∷ [] }) ≡ record (parts_in b w) { reserves = (parts_in b w).reserves ++ reservation_in b n ∷ [] }
   reserve_parts n = ap (λ l. record (parts_in b w) { reserves = l }) (map-append (reservation_in b) w.reserves (n ∷ []))

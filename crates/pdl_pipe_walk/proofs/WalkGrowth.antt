@@ -47,17 +47,18 @@ module _ (a b : Circuit) (e : Extends a b) (p : Pipe) (ws : List ℕ) (w : WalkN
 
 -- the slice of a walk's variables
 module _ (c : Circuit) (p : Pipe) (ws : List ℕ) (w : WalkNets) (h : IsWalk c p ws w) (vs : List Net) (e : vs ≡ w.vars.items) where
+  -- the nets of the slice are there
   pub slice_there : NetsThere c vs
   slice_there = subst (NetsThere c) (sym e) h.there.vars
 
-  -- its nets mean what those of the variables mean
+  -- the nets of the slice mean what those of the variables mean
   pub slice_same : signals_in c vs ≡ signals_in c w.vars.items
   slice_same = ap (signals_in c) e
 
   slice_widths : widths_of (signals_in c vs) ≡ ws
   slice_widths = ap widths_of slice_same ∙ h.sized.vars
 
-  -- it has a net for each variable
+  -- the slice has a net for each variable
   pub slice_low : (x : ℕ) → x < length ws → x < length vs
   slice_low x l = omega (arith, l, ap length e, var_count p ws (parts_in c w) h.sized, length_signals c w.vars.items)
 

@@ -13,7 +13,7 @@ choices on _ _ = []
 abbrev pub or_differ : Signal → Signal → Signal → Signal
 or_differ d f g = mux_signal (bin_signal Ne f g) one d
 
--- or any of the first signals from the second one at its place
+-- whether a bit is 1 or any of the first signals differs from the second one at its place
 abbrev pub differ_from : Signal → List Signal → List Signal → Signal
 differ_from d (f ∷ fs) (g ∷ gs) = differ_from (or_differ d f g) fs gs
 differ_from d _ _ = d

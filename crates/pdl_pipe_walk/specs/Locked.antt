@@ -25,7 +25,7 @@ pub record Members (T : Type 0) : Type 1 where
   pub size : T → ℕ
   pub tickets : T → ℕ
 
--- those of a trait's
+-- what is needed of a lock module, by the ghosts of its trait
 abbrev pub members : {T : Type 0} → Ghosts T → Members T
 members g = record { placed = g.placed; stands = g.stands; kind = g.kind_of; size = g.size; tickets = g.tickets }
 

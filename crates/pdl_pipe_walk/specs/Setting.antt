@@ -10,19 +10,19 @@ use Rattle.pdl_pipe_walk.specs.declared.nets.WalkNets.{WalkNets}
 use Rattle.pdl_pipe_walk.specs.Locked.{Members, AreLocked, AreTickets, locks_in, tickets_in}
 use Rattle.pdl_pipe_walk.specs.Steps.{AreNetSteps}
 
--- its memories have their arrays and locks in a circuit
+-- the memories of a setting have their arrays and locks in a circuit
 abbrev pub HasLocks : {T : Type 0} → Members T → Circuit → Setting T → Type 0
 HasLocks l c s = AreLocked l c (form s.pipe.now).pipe s.locks.now
 
--- it has a ticket for each memory
+-- a setting has a ticket for each memory
 abbrev pub HasTickets : {T : Type 0} → Members T → Circuit → Setting T → Type 0
 HasTickets l c s = AreTickets l c s.locks.now s.tickets.now
 
--- its locks as a circuit has them
+-- the locks of a setting as a circuit has them
 abbrev pub set_locks : {T : Type 0} → Members T → Circuit → Setting T → Locks
 set_locks l c s = locks_in l (form s.pipe.now).pipe c s.locks.now
 
--- its tickets as a circuit has them
+-- the tickets of a setting as a circuit has them
 abbrev pub set_tickets : {T : Type 0} → Circuit → Setting T → ℕ → Signal
 set_tickets c s = tickets_in c s.tickets.now
 

@@ -12,7 +12,7 @@ use Rattle.pdl_pipe_walk.specs.declared.nets.WalkNets.{WalkNets}
 use Rattle.pdl_pipe_walk.specs.Parts.{Held, Parts, parts_in, IsThereWalk}
 use Rattle.pdl_word.specs.Each.{Each}
 
--- conditions have 1 bit, an address reaches each word of its memory and no more, a value has its memory's width
+-- a reservation's condition has 1 bit, and its address reaches each word of its memory and no more
 abbrev pub IsSizedReserve : Pipe → Reservation → Type 0
 IsSizedReserve p r = (r.mem < length p.mems) × (r.on.width ≡ 1) × (2 ^ r.addr.width ≡ (mem_at p r.mem).depth)
 
@@ -47,7 +47,7 @@ pub record IsWalk (c : Circuit) (p : Pipe) (ws : List ℕ) (w : WalkNets) : Type
   pub there : IsThereWalk c w
   pub sized : IsSized p ws (parts_in c w)
 
--- those of a stage of a flat form
+-- the nets of a stage of a flat form are there, with their widths
 abbrev pub IsWalkOf : Form → Circuit → WalkNets → Type 0
 IsWalkOf f c w = IsWalk c f.pipe f.widths w
 

@@ -75,7 +75,7 @@ pub record IsStep (c : Circuit) (p : Pipe) (ls : Locks) (tickets : ℕ → Signa
   pub does : Later c (λ d. IsOp d p ls tickets gs op w row)
   pub next : w' ≡ walk_after op row ls w
 
--- and so do rows one after another
+-- rows one after another lead from one walk to another
 abbrev pub AreSteps : Circuit → Pipe → Locks → (ℕ → Signal) → List Stmt → Walk → Walk → Type 0
 AreSteps c p ls tickets xs w w' = Later c (λ d. AreRows d p ls tickets xs w w')
 

@@ -19,7 +19,7 @@ use Rattle.pdl_pipe_walk.specs.Steps.{with_var}
 abbrev pub IsLookOf : Locks → ℕ → LookKind → Signal → Signal → Signal → Option Signal → Type 0
 IsLookOf ls m kind addr ticket ready value = LookLaw (ls.stands m) (ls.kind m) (ls.bits m) kind addr ticket ready value
 
--- of a memory without lock its array's word, of another what a look for reading gives
+-- the word that is read: of a memory without lock its array's word, of another what a look for reading gives
 pub record IsWordSignal (p : Pipe) (ls : Locks) (m : ℕ) (addr ticket f : Signal) : Type 0 where
   pub plain : is_locked p m ≡ false → f ≡ read_signal (mem_at p m).width (comb_place p m) addr
   pub ready : Signal

@@ -51,7 +51,7 @@ start_law c l r = record {
   };
 }
 
--- the nets of the answers
+-- the nets of the answers keep the law of a port's answers
 pub answer_law : (l : PortLayout) (reply word : Signal) (f : ℕ → AnswerSignals)
     → ((k : ℕ) → k < l.places → f k ≡ place_signals l reply word k) → AnswerLaw (Stands l) l.places reply word f
 answer_law l reply word f same = record {

@@ -16,7 +16,7 @@ use Rattle.pdl_port.specs.Nets.{AreAnswers, answered_signal, given_signal}
 use Rattle.pdl_port.proofs.PortGrowth.{places_kept, reset_kept}
 use Rattle.pdl_word.proofs.Numbers.{upto}
 
--- one number more
+-- with one number more, the first n + 1 numbers follow one another
 pub numbers_more : (xs : List ℕ) (from n : ℕ)
     → length xs ≡ n → ((k : ℕ) → k < n → get_or xs k 0 ≡ from + k) → (k : ℕ) → k < n + 1
     → get_or (xs ++ (from + n) ∷ []) k 0 ≡ from + k
@@ -67,7 +67,7 @@ reset_more c d l k h a e o =
       owns = upto (λ j. reg_reset d (owns_at l j) ≡ 0) k o.reset g.owns;
     }
 
--- the answers of one more place
+-- before the first place there are no answers
 pub answers_none : (c : Circuit) (l : PortLayout) (reply word : Signal) → AreAnswers c l reply word [] 0
 answers_none c l reply word = record {
   count = refl;

@@ -49,7 +49,7 @@ port_keeps a b r k x = record {
   regs = places_keep a b (layout_of r) (places r) x.regs k;
 }
 
--- so do nets of 1 bit
+-- nets of 1 bit stay there in a circuit that keeps what they were made in
 pub bits_keep : (a b : Circuit) (nets : List Net) (n : ℕ) → HasBits a nets n → Keeps a b → HasBits b nets n
 bits_keep a b nets n h e = record {
   count = h.count;

@@ -83,7 +83,7 @@ pub record AnswerLaw (stands : State → PortState → Type 0) (n : ℕ) (reply 
   pub value : (s : State) (x : PortState) (r : Bool) (w : ℕ) → stands s x → Replies reply word s r w → (k : ℕ) → k < n
       → is_given x r k ≡ true → (f k).value.value s ≡ w
 
--- the k-th of some nets, and its signal
+-- the k-th of some nets
 abbrev pub net_at : List Net → ℕ → Net
 net_at nets k = slice_index_or nets k (Input 0)
 

@@ -59,7 +59,7 @@ pub record NextPort (c : Circuit) (l : PortLayout) (f : StepSignals) : Type 0 wh
   pub places : NextPlaces c l f l.places
   pub orphan : next_signal c l.from ≡ orphan_signal l f l.places
 
--- the registers of a port, and those of its places
+-- the registers of a port
 abbrev pub own_all : PortLayout → Own
 own_all l = record { from = l.from; to = l.from + (l.places + 1); first = 0; last = 0 }
 

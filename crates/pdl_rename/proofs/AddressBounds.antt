@@ -14,7 +14,7 @@ abbrev pub AllBelow : ℕ → List ℕ → Type 0
 AllBelow d [] = Unit {0}
 AllBelow d (y ∷ ys) = (y < d) × AllBelow d ys
 
--- those of enabled reservations
+-- the addresses of enabled reservations are below a number, where each enabled port has one below it
 pub asked_below : (s : State) (d : ℕ) (fs : List ReserveSignal)
     → ((k : ℕ) → k < length fs → (reserve_at fs k).enable.value s ≡ 1 → (reserve_at fs k).addr.value s < d)
     → AllBelow d (asked_addresses s fs)

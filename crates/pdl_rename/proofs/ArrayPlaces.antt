@@ -11,7 +11,7 @@ use Rattle.pdl_lock_ring.proofs.SlotNumbers.{apart}
 use Rattle.pdl_lock_ring.proofs.RingValues.{if_one, if_other, eq_one, eq_none}
 use Rattle.pdl_rename.specs.Places.{AreApart}
 
--- one write more
+-- after one write more an array has its value at its address, where the write is enabled
 pub writes-push : (s : State) (ps : List WriteSignal) (p : WriteSignal) (xs : List ℕ)
     → after_writes s (ps ++ p ∷ []) xs
     ≡ (if p.enable.value s == 1 then set (after_writes s ps xs) (p.addr.value s) (p.value.value s) else after_writes s ps xs)
@@ -89,7 +89,7 @@ exchanged_apart d n at k word slot word' slot' some lt w p =
           (cases_eq a at);
     }
 
--- the same places by other functions
+-- places are apart by other functions that agree on the words and slots
 pub apart_same : (d n : ℕ) (word slot word' slot' : ℕ → ℕ)
     → ((a : ℕ) → a < d → word' a ≡ word a) → ((k : ℕ) → k < n → slot' k ≡ slot k) → AreApart d n word slot
     → AreApart d n word' slot'

@@ -26,7 +26,7 @@ row_in_rename l from n a b lo hi x = but_wider (own_row from n) (own_rename l) a
 pub store_in_rename : (l : Layout) (a b : Circuit) → ExtendsBut (own_store l) a b → ExtendsBut (own_rename l) a b
 store_in_rename l a b x = but_wider (own_store l) (own_rename l) a b (λ r o. inr (omega arith)) (λ m o. o) x
 
--- the parts in turn
+-- a circuit that extends one but for the slots' registers extends it but for those of the renaming lock
 pub slots_in_rename : (l : Layout) (a b : Circuit) → ExtendsBut (own_slots l.slots) a b → ExtendsBut (own_rename l) a b
 slots_in_rename l a b x = row_in_rename l (l.slots.from + 2) (2 * l.slots.size) a b (omega arith) (omega arith) x
 

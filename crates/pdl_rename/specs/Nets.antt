@@ -17,7 +17,7 @@ use Rattle.pdl_lock_ring.specs.Steps.{written_slot, next_head, oldest_addr, next
 use Rattle.pdl_rename.specs.declared.layout.Layout.{Layout}
 use Rattle.pdl_rename.specs.Places.{map_at, map_signal}
 
--- the registers of the map, and those of the slots' places
+-- the registers of the map
 abbrev pub registers_of_map : Layout → Registers
 registers_of_map l = record { first = l.map; count = l.depth; width = l.slots.kept }
 
@@ -101,7 +101,7 @@ next_place l f k =
     mux_signal (bin_signal Eq (freed2_slot l f) (const_signal l.slots.ticket k)) (freed2_place l f)
     (mux_signal (bin_signal Eq (freed_slot l f) (const_signal l.slots.ticket k)) (freed_place l f) (content_signal l.slots k))
 
--- the place of an address's word after the first release, and after the second
+-- the place of an address's word after the first release
 abbrev pub first_map : Layout → StepSignals → ℕ → Signal
 first_map l f a =
     mux_signal f.release (mux_signal (bin_signal Eq (oldest_addr l.slots f) (const_signal l.slots.bits a)) (oldest_place l f) (map_signal l a)) (map_signal l a)
@@ -112,7 +112,7 @@ next_map l f a =
     mux_signal f.release2 (mux_signal (bin_signal Eq (next_addr l.slots f) (const_signal l.slots.bits a)) (next_place_of l f) (first_map l f a))
     (first_map l f a)
 
--- what the first n registers of the map take next, and the places of the first n slots
+-- what the first n registers of the map take next
 pub record NextMap (c : Circuit) (l : Layout) (f : StepSignals) (n : ℕ) : Type 0 where
   pub map : (a : ℕ) → a < n → next_signal c (map_at l a) ≡ next_map l f a
 
@@ -142,7 +142,7 @@ pub record AreRenamed (c : Circuit) (l : Layout) (f : StepSignals) (n : LockNets
   pub addr2_wide : (signal c n.addr2).width ≡ l.slots.bits
   pub value2_wide : (signal c n.value2).width ≡ l.slots.width
 
--- the whole map, the array, and all
+-- the registers of the map, and no array
 abbrev pub own_map : Layout → Own
 own_map l = own_row l.map l.depth
 

@@ -33,7 +33,7 @@ any_weaker f g h [] e = e
 any_weaker f g h (x ∷ xs) e =
     ⊎_elim (λ a. or_left (g x) (list_any g xs) (h x a)) (λ a. or_right (g x) (list_any g xs) (any_weaker f g h xs a)) (or_cases (f x) (list_any f xs) e)
 
--- one more place, at the end
+-- where an item of a list passes a test, one does with an item more at the end
 pub any_front : {X : Type 0} (f : X → Bool) (xs : List X) (x : X) → list_any f xs ≡ true → list_any f (xs ++ x ∷ []) ≡ true
 any_front f xs x e = list_any-append f xs (x ∷ []) ∙ or_left (list_any f xs) (list_any f (x ∷ [])) e
 
@@ -57,7 +57,7 @@ location_sym a b e =
     let parts = and_parts (bytes_eq a.mem.name b.mem.name) _ e in
     and_from _ _ (bytes_sym a.mem.name b.mem.name parts.0) (bytes_sym a.address.name b.address.name parts.1)
 
--- the same location on the right, and on the left
+-- a location is the same as the one just where it is the same as the other of two that are the same
 pub same_right : (x a b : Location) → same_location a b ≡ true → same_location x a ≡ same_location x b
 same_right x a b e =
     let parts = and_parts (bytes_eq a.mem.name b.mem.name) _ e in

@@ -21,7 +21,7 @@ each_unbroken r p (x ∷ xs) before e =
     let parts = none_given (breaks_rule r p before x) (line_of x) (broken_line r p (before ++ x ∷ []) xs) e in
     (parts.0, each_unbroken r p xs (before ++ x ∷ []) parts.1)
 
--- nor is the k-th of some rules, if none of them is broken first; a number past their end stands for a rule that no tree breaks
+-- no place breaks the k-th of some rules, if none of them is broken first; a number past their end stands for a rule that no tree breaks
 unbroken : (p : Pipe) (rs : List Rule) (k : ℕ)
     → first_broken rs p ≡ None → (before : List Place) (x : Place) (later : List Place) → places p ≡ before ++ x ∷ later
     → breaks_rule (get_or rs k G1) p before x ≡ false

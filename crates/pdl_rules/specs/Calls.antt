@@ -25,7 +25,7 @@ calls (SpecBarrier _) = false
 abbrev pub is_call : Place → Bool
 is_call x = at_statement false (λ s bs. calls s) x
 
--- S1: a second call, speculative or not, or at the end none
+-- whether a statement is a second call, speculative or not
 abbrev pub calls_again : List Place → Stmt → Bool
 calls_again earlier (Separator _) = false
 calls_again earlier (CombRead _ _ _) = false

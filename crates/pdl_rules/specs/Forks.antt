@@ -13,7 +13,7 @@ use Rattle.pdl_rules.specs.Stages.{stage_after, stage_in}
 abbrev pub holds_separator : Stmts → Bool
 holds_separator ss = not (separators ss == 0)
 
--- F1: a statement of locks, calls or guesses inside a branch that holds a separator
+-- whether a statement is a reserve, a release, or a call or guess statement
 abbrev pub is_trunk_only : Stmt → Bool
 is_trunk_only (Separator _) = false
 is_trunk_only (CombRead _ _ _) = false
@@ -34,7 +34,7 @@ is_trunk_only (SpecBarrier _) = true
 abbrev pub breaks_f1 : Place → Bool
 breaks_f1 x = at_statement false (λ s bs. is_trunk_only s && list_any (λ (b : Branch). holds_separator b.inside) bs) x
 
--- F2: a fork inside a branch, or one that isn't directly followed by a separator
+-- whether a statement is a fork: one of its branches holds a separator
 abbrev pub is_fork : Stmt → Bool
 is_fork s = list_any holds_separator (parts_of s).branches
 
@@ -53,7 +53,7 @@ abbrev pub is_in_branch : List Branch → Bool
 is_in_branch [] = false
 is_in_branch (b ∷ bs) = true
 
--- in these branches, with these places after it
+-- whether a statement in these branches, with these places after it, is a fork in a branch, or one that no separator follows directly
 abbrev pub is_wrong_fork : List Place → Stmt → List Branch → Bool
 is_wrong_fork later s bs =
     is_fork s && (is_in_branch bs || not (starts_with_separator (drop (places_in (parts_of s).branches) later)))
@@ -62,11 +62,11 @@ is_wrong_fork later s bs =
 abbrev pub breaks_f2 : Pipe → List Place → Place → Bool
 breaks_f2 p before x = at_statement false (λ s bs. is_wrong_fork (places_after p before) s bs) x
 
--- F3: a delayed read in the last stage, or one of a memory of which a delayed read stands before
+-- whether a place is a delayed read of this memory
 abbrev pub breaks_fetch_order : List ℕ → Place → Bool
 breaks_fetch_order m x = at_statement false (λ s bs. fetches (λ at. bytes_eq at.mem.name m) s) x
 
--- F3: a delayed read that stands in the last stage, or whose memory a delayed read before it reads
+-- whether a delayed read of this location, in stage k, is in the last stage or not the first of its memory
 abbrev pub is_wrong_fetch : Pipe → List Place → ℕ → Location → Bool
 is_wrong_fetch p before k at = (k == stage_after (places p)) || list_any (breaks_fetch_order at.mem.name) before
 
@@ -74,7 +74,7 @@ is_wrong_fetch p before k at = (k == stage_after (places p)) || list_any (breaks
 abbrev pub breaks_f3 : Pipe → List Place → Place → Bool
 breaks_f3 p before x = at_statement false (λ s bs. fetches (is_wrong_fetch p before (stage_in before bs)) s) x
 
--- F4: a comb read of a delayed memory, or a delayed read of a comb one
+-- whether the memory of this name is delayed
 abbrev pub is_delayed_memory : List Mem → List ℕ → Bool
 is_delayed_memory [] m = false
 is_delayed_memory (x ∷ xs) m = if bytes_eq x.name.name m then x.delayed else is_delayed_memory xs m

@@ -104,7 +104,7 @@ releases test (Verify _ _ _) = false
 releases test (SpecCheck _) = false
 releases test (SpecBarrier _) = false
 
--- a call on a guess, and what verifies one
+-- whether a statement is a call on a guess whose name passes the test
 abbrev pub guesses : (Ident → Bool) → Stmt → Bool
 guesses test (Separator _) = false
 guesses test (CombRead _ _ _) = false

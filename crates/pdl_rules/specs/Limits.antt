@@ -7,11 +7,11 @@ use Rattle.pdl_rules.specs.Places.{Guard, Place, Parameter, Memory, Statement, E
 use Rattle.pdl_rules.specs.Forms.{of_if, separates}
 use Rattle.pdl_rules.specs.Parts.{parts_of, some_literal, is_some_and}
 
--- Z1: the bytes of a source
+-- Z1: a source of more than 1,048,576 bytes
 abbrev pub is_too_long : List ℕ → Bool
 is_too_long source = nat_lt 1048576 (length source)
 
--- Z2: statements
+-- whether a place is a statement
 abbrev pub is_statement : Place → Bool
 is_statement x = at_statement false (λ s bs. true) x
 
@@ -19,7 +19,7 @@ is_statement x = at_statement false (λ s bs. true) x
 abbrev pub breaks_z2 : List Place → Place → Bool
 breaks_z2 before x = is_statement x && (count_by is_statement before == 1024)
 
--- Z3: separators
+-- whether a place is a separator
 abbrev pub is_separator : Place → Bool
 is_separator x = at_statement false (λ s bs. separates s) x
 
@@ -27,7 +27,7 @@ is_separator x = at_statement false (λ s bs. separates s) x
 abbrev pub breaks_z3 : List Place → Place → Bool
 breaks_z3 before x = is_separator x && (count_by is_separator before == 63)
 
--- Z4: memories
+-- whether a place is a memory
 abbrev pub is_memory : Place → Bool
 is_memory (Parameter _) = false
 is_memory (Memory _) = true
@@ -39,7 +39,7 @@ is_memory (StartClause _) = false
 abbrev pub breaks_z4 : List Place → Place → Bool
 breaks_z4 before x = is_memory x && (count_by is_memory before == 16)
 
--- Z5: parameters, bound names and guesses
+-- whether a statement binds a variable or makes a guess
 abbrev pub binds_name : Stmt → Bool
 binds_name s = is_some (parts_of s).variable || is_some (parts_of s).guess
 
@@ -55,7 +55,7 @@ is_binding (StartClause _) = false
 abbrev pub breaks_z5 : List Place → Place → Bool
 breaks_z5 before x = is_binding x && (count_by is_binding before == 512)
 
--- Z6: guards
+-- whether a guard is not one of the ten before it
 abbrev pub adds_guard : List Place → Guard → Bool
 adds_guard before g = not (is_among g (guards before)) && (length (guards before) == 10)
 
@@ -63,7 +63,7 @@ adds_guard before g = not (is_among g (guards before)) && (length (guards before
 abbrev pub breaks_z6 : List Place → Place → Bool
 breaks_z6 before x = at_statement false (λ s bs. of_if false (λ from c. adds_guard before (guard_of from c)) s) x
 
--- Z7: widths, depths, and locks with their sizes
+-- whether a number is an allowed width, from 1 to 64
 abbrev pub is_width : ℕ → Bool
 is_width w = nat_le 1 w && nat_le w 64
 
@@ -75,7 +75,7 @@ depths = 2 ∷ 4 ∷ 8 ∷ 16 ∷ 32 ∷ 64 ∷ 128 ∷ 256 ∷ 512 ∷ 1024 ∷
 abbrev pub is_depth : ℕ → Bool
 is_depth d = list_any (λ n. n == d) depths
 
--- how many writes may be pending
+-- whether a number is an allowed size of a lock: how many writes may be pending
 abbrev pub is_size : ℕ → Bool
 is_size s = list_any (λ n. n == s) (1 ∷ 2 ∷ 4 ∷ 8 ∷ 16 ∷ [])
 

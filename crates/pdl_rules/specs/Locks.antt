@@ -11,7 +11,7 @@ abbrev pub is_locked : List Mem → List ℕ → Bool
 is_locked [] m = false
 is_locked (x ∷ xs) m = if bytes_eq x.name.name m then is_some x.lock else is_locked xs m
 
--- F5: reserve, block, write or release of a memory without lock
+-- whether a statement reserves, blocks, writes or releases a memory without lock
 abbrev pub lacks_lock : List Mem → Stmt → Bool
 lacks_lock ms (Separator _) = false
 lacks_lock ms (CombRead _ _ _) = false
@@ -112,7 +112,7 @@ is_held_for k (Reserved j) = same_kind k j
 is_held_for k (Blocked j) = same_kind k j
 is_held_for k Released = false
 
--- L1: a statement without the hold that it needs; a read of a memory without lock needs none
+-- whether a statement lacks the hold that it needs; a read of a memory without lock needs none
 abbrev pub acts_unheld : List Mem → List Place → Stmt → Bool
 acts_unheld ms earlier (Separator _) = false
 acts_unheld ms earlier (CombRead _ _ at) = is_locked ms at.mem.name && not (is_blocked_for R (hold_after at earlier))
@@ -139,7 +139,7 @@ breaks_l1 p before x = on_some_path (λ earlier. lacks_hold p earlier x) p befor
 
 -- RESERVATIONS AND WRITES
 
--- whether a place reserves the memory for this kind, and whether it writes the memory
+-- whether a place reserves the memory for this kind
 abbrev pub is_reserve_of : Kind → List ℕ → Place → Bool
 is_reserve_of k m x = at_statement false (λ s bs. reserves (λ at j. same_kind k j && bytes_eq at.mem.name m) s) x
 
@@ -147,7 +147,7 @@ is_reserve_of k m x = at_statement false (λ s bs. reserves (λ at j. same_kind 
 abbrev pub is_write_of : List ℕ → Place → Bool
 is_write_of m x = at_statement false (λ s bs. writes (λ at e. bytes_eq at.mem.name m) s) x
 
--- L3: a read reservation after the memory's write reservation, or a read after a write
+-- whether a statement reserves a memory to be read after its write reservation, or reads it after a write
 abbrev pub reads_late : List Place → Stmt → Bool
 reads_late earlier (Separator _) = false
 reads_late earlier (CombRead _ _ at) = list_any (is_write_of at.mem.name) earlier
@@ -173,7 +173,7 @@ is_late_read earlier x = at_statement false (λ s bs. reads_late earlier s) x
 abbrev pub breaks_l3 : Pipe → List Place → Place → Bool
 breaks_l3 p before x = on_some_path (λ earlier. is_late_read earlier x) p before x
 
--- L4: a second write reservation or a fifth read reservation of a memory
+-- how many reservations of a memory for this kind there may be on a path
 abbrev pub most_reservations : Kind → ℕ
 most_reservations R = 4
 most_reservations W = 1
@@ -187,7 +187,7 @@ is_one_too_many earlier x =
 abbrev pub breaks_l4 : Pipe → List Place → Place → Bool
 breaks_l4 p before x = on_some_path (λ earlier. is_one_too_many earlier x) p before x
 
--- L5: a location that is reserved again
+-- whether a place reserves this location
 abbrev pub reserves_location : Location → Place → Bool
 reserves_location l x = at_statement false (λ s bs. reserves (λ at k. same_location at l) s) x
 
@@ -199,7 +199,7 @@ is_reserved_again earlier x = at_statement false (λ s bs. reserves (λ at k. li
 abbrev pub breaks_l5 : Pipe → List Place → Place → Bool
 breaks_l5 p before x = on_some_path (λ earlier. is_reserved_again earlier x) p before x
 
--- L6: the release of a write reservation through which there was no write, or more than one
+-- whether a place writes this location
 abbrev pub writes_location : Location → Place → Bool
 writes_location l x = at_statement false (λ s bs. writes (λ at e. same_location at l) s) x
 
@@ -215,7 +215,7 @@ is_not_written_once earlier x = at_statement false (λ s bs. releases (is_not_wr
 abbrev pub breaks_l6 : Pipe → List Place → Place → Bool
 breaks_l6 p before x = on_some_path (λ earlier. is_not_written_once earlier x) p before x
 
--- L7: at the end, a location that is reserved and not released
+-- whether a location in this hold is reserved and not released
 abbrev pub is_unreleased : Hold → Bool
 is_unreleased Nothing = false
 is_unreleased (Reserved _) = true

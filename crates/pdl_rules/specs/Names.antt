@@ -96,7 +96,7 @@ uses_some test s =
 abbrev pub some_use : (Use → Bool) → Place → Bool
 some_use test x = at_statement false (λ s bs. uses_some test s) x
 
--- N1: a name that names nothing of the kind that stands there, anywhere in the text; the start clause has to name the pipe
+-- whether a place is a start clause that names another pipe
 abbrev pub names_another_pipe : Pipe → Place → Bool
 names_another_pipe p (Parameter _) = false
 names_another_pipe p (Memory _) = false
@@ -112,7 +112,7 @@ is_undefined ds u = not (list_any (defines_use u) ds)
 abbrev pub breaks_n1 : Pipe → Place → Bool
 breaks_n1 p x = names_another_pipe p x || some_use (is_undefined (places p)) x
 
--- N2: the name of the pipe, or one that a place before defines
+-- whether a name is that of the pipe, or one that a place before defines
 abbrev pub is_taken_name : Pipe → List Place → List ℕ → Bool
 is_taken_name p before x = bytes_eq x p.name.name || list_any (λ d. is_some_and (bytes_eq x) (name_at d)) before
 
@@ -121,6 +121,7 @@ abbrev pub breaks_n2 : Pipe → List Place → Place → Bool
 breaks_n2 p before x = is_some_and (is_taken_name p before) (name_at x)
 
 -- N3: a variable that is no parameter, or a guess, with no definition before it in the text, or none before it on some path, where that of a delayed read has a separator after it
+-- whether a name is that of a parameter
 abbrev pub is_parameter : Pipe → List ℕ → Bool
 is_parameter p x = list_any (λ (a : Param). bytes_eq x a.name.name) p.params
 

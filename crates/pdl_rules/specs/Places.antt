@@ -59,8 +59,8 @@ at_statement other told (Statement s bs) = told s bs
 at_statement other told (End _) = other
 at_statement other told (StartClause _) = other
 
--- a statement, and what stands inside it after it
 abbrev mutual
+  -- the place of a statement in these branches, and after it those of what stands inside it
   pub with_inner : List Branch → Stmt → List Place
   with_inner bs (Separator s) = Statement (Separator s) bs ∷ []
   with_inner bs (CombRead s x at) = Statement (CombRead s x at) bs ∷ []

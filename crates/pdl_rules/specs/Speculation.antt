@@ -20,7 +20,7 @@ verify_stage p = first_stage is_verify [] (places p)
 abbrev pub is_before_verify : Pipe → ℕ → Bool
 is_before_verify p s = is_some_and (λ v. nat_lt s v) (verify_stage p)
 
--- S2: on some path a guess that isn't verified exactly once, or not in a later stage
+-- whether a place is the `verify` of this guess
 abbrev pub is_verify_of : List ℕ → Place → Bool
 is_verify_of guess x = at_statement false (λ s bs. verifies (λ g. bytes_eq g.name guess) s) x
 
@@ -46,7 +46,7 @@ breaks_s2 p before x = list_any (λ path. on_path path x && is_unverified p path
 abbrev pub breaks_s3 : List Place → Place → Bool
 breaks_s3 before x = is_verify x && is_elsewhere is_verify before (stage_of before x)
 
--- S4: on some path the release of a write reservation in a stage before V with no `spec_barrier` before it on the path
+-- whether a place is a `spec_barrier`
 abbrev pub is_barrier : Place → Bool
 is_barrier x = at_statement false (λ s bs. bars s) x
 
@@ -59,7 +59,7 @@ releases_unsure earlier x =
 abbrev pub breaks_s4 : Pipe → List Place → Place → Bool
 breaks_s4 p before x = is_before_verify p (stage_of before x) && on_some_path (λ earlier. releases_unsure earlier x) p before x
 
--- S5: on some path a reserve or a `spec_call` in a stage before V with no `spec_check` or `spec_barrier` before it in that stage
+-- whether a statement is a reserve or a `spec_call`
 abbrev pub acts_unsure : Stmt → Bool
 acts_unsure (Separator _) = false
 acts_unsure (CombRead _ _ _) = false

@@ -47,7 +47,7 @@ abbrev pub first_stage : (Place → Bool) → List Place → List Place → Opti
 first_stage test before [] = None
 first_stage test before (x ∷ xs) = if test x then Some (stage_of before x) else first_stage test (before ++ x ∷ []) xs
 
--- and the stages of all that pass it
+-- the stages of all places that pass the test
 abbrev pub stages_that : (Place → Bool) → List Place → List Place → List ℕ
 stages_that test before [] = []
 stages_that test before (x ∷ xs) =
@@ -65,7 +65,7 @@ reserves_memory m x = at_statement false (λ s bs. reserves (λ at k. bytes_eq a
 abbrev pub releases_memory : List ℕ → Place → Bool
 releases_memory m x = at_statement false (λ s bs. releases (λ at. bytes_eq at.mem.name m) s) x
 
--- L2: a reserve of a memory in another stage than its first reserve, or a release in another one than its first release
+-- whether a statement in stage k reserves a memory in another stage than its first reserve, or releases it in another than its first release
 abbrev pub moves_stage : List Place → ℕ → Stmt → Bool
 moves_stage before k (Separator _) = false
 moves_stage before k (CombRead _ _ _) = false
@@ -92,11 +92,11 @@ next_on path begun [] = 0
 next_on path begun (x ∷ xs) =
     if is_separator x then (if on_path path x then suc begun else next_on path (suc begun) xs) else next_on path begun xs
 
--- L8: on some path a read of a locked memory that is bound after the stage of its releases; a comb read is bound in its stage, a delayed one in the next on the path
+-- whether a read of memory m that is bound in stage s is bound after the stage of m's releases, where m has a lock
 abbrev pub is_bound_late : Pipe → List ℕ → ℕ → Bool
 is_bound_late p m s = is_locked p.mems m && is_some_and (λ c. nat_lt c s) (first_stage (releases_memory m) [] (places p))
 
--- where its own stage is k, and the next on the path is l
+-- whether a read is bound too late: a comb read is bound in its stage, k, a delayed one in the next on the path, l
 abbrev pub binds_late : Pipe → ℕ → ℕ → Stmt → Bool
 binds_late p k l (Separator _) = false
 binds_late p k l (CombRead _ _ at) = is_bound_late p at.mem.name k

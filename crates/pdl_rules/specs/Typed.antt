@@ -44,7 +44,7 @@ AreArguments vs [] [] = ⊤
 AreArguments vs (a ∷ as') (e ∷ es) = IsTyped vs e × (width_of vs e ≡ a.width.value) × AreArguments vs as' es
 AreArguments vs _ _ = ⊥
 
--- and as many literals
+-- there are as many start arguments as parameters, and each has the width of its parameter and a value of that width
 abbrev pub AreStarts : List Param → List Literal → Type 0
 AreStarts [] [] = ⊤
 AreStarts (a ∷ as') (l ∷ ls) = (l.width ≡ a.width.value) × Holds l.value l.width × AreStarts as' ls

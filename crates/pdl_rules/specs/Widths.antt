@@ -32,7 +32,7 @@ after_statement ms vs (Verify _ _ _) = vs
 after_statement ms vs (SpecCheck _) = vs
 after_statement ms vs (SpecBarrier _) = vs
 
--- and after a place
+-- the variables after a place
 abbrev pub after_place : List Mem → List Var → Place → List Var
 after_place ms vs (Parameter a) = with_variable vs a.name.name a.width.value
 after_place ms vs (Memory _) = vs
@@ -46,7 +46,7 @@ variables p = fold (after_place p.mems) [] (places p)
 
 -- EXPRESSIONS
 
--- W1: operands, or the arms of a choice, of two widths
+-- whether an expression has operands, or arms of a choice, of two widths
 abbrev pub is_unequal : List Var → Expr → Bool
 is_unequal vs (Constant _) = false
 is_unequal vs (Variable _) = false
@@ -63,7 +63,7 @@ is_unequal vs (Choose _ a b) = not (width_of vs a == width_of vs b)
 abbrev pub breaks_w1 : Pipe → Place → Bool
 breaks_w1 p x = some_expr (some_part (is_unequal (variables p))) x
 
--- W2: a literal that is too large for its width; a slice that isn't there; an extension to less, or to more than 64 bits; more than 64 bits side by side
+-- whether a literal is too large for its width
 abbrev pub is_too_large : Literal → Bool
 is_too_large l = too_large l.value
   where
@@ -92,7 +92,7 @@ is_out_of_range vs (Choose _ _ _) = false
 abbrev pub breaks_w2 : Pipe → Place → Bool
 breaks_w2 p x = some_literal is_too_large x || some_expr (some_part (is_out_of_range (variables p))) x
 
--- W3: a condition that isn't one bit
+-- whether an expression is a choice on a condition that isn't one bit
 abbrev pub is_wide_choice : List Var → Expr → Bool
 is_wide_choice vs (Constant _) = false
 is_wide_choice vs (Variable _) = false
@@ -124,7 +124,7 @@ mem_depth (x ∷ xs) m = if bytes_eq x.name.name m then x.depth.value else mem_d
 abbrev pub address_bits : ℕ → ℕ
 address_bits d = count_by (λ n. nat_le n d) depths
 
--- W4: an address that hasn't its memory's address bits
+-- whether the address of a location hasn't its memory's address bits
 abbrev pub is_wrong_address : Pipe → Location → Bool
 is_wrong_address p at = not (var_width (variables p) at.address.name == address_bits (mem_depth p.mems at.mem.name))
 
@@ -132,7 +132,7 @@ is_wrong_address p at = not (var_width (variables p) at.address.name == address_
 abbrev pub breaks_w4 : Pipe → Place → Bool
 breaks_w4 p x = some_location (is_wrong_address p) x
 
--- W5: arguments that aren't as many as the parameters, or have other widths
+-- whether these widths aren't those of the parameters, one for each
 abbrev pub are_no_arguments : Pipe → List ℕ → Bool
 are_no_arguments p ws = not (pointwise nat_eq ws (map (λ (a : Param). a.width.value) p.params))
 
@@ -150,7 +150,7 @@ breaks_w5 p (Statement s _) = has_wrong_arguments p (parts_of s).expressions
 breaks_w5 p (End _) = false
 breaks_w5 p (StartClause s) = are_no_arguments p (map (λ (l : Literal). l.width) s.args)
 
--- W6: a written value that hasn't its memory's width
+-- W6 at a place: a write of a value that hasn't its memory's width
 abbrev pub breaks_w6 : Pipe → Place → Bool
 breaks_w6 p x =
     at_statement false (λ s bs. writes (λ at e. not (width_of (variables p) e == mem_width p.mems at.mem.name)) s) x

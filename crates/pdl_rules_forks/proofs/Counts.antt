@@ -18,7 +18,7 @@ mutual
       ∙ sym (length-append (statements (cs ++ record { guard = guard_of sp c; truth = true; inside = when } ∷ []) when) _))
   long_in bs cs _ = refl
 
-  -- some statements have as many places in whichever branches they stand
+  -- statements have as many places, whichever branches they stand in
   pub long_all : (bs cs : List Branch) (ss : Stmts) → length (statements bs ss) ≡ length (statements cs ss)
   long_all bs cs Nil = refl
   long_all bs cs (Cons s ss) =
@@ -37,7 +37,7 @@ left_if sp c when otherwise left =
     let b = long_all (record { guard = guard_of sp c; truth = false; inside = otherwise } ∷ []) [] otherwise in
     omega arith
 
--- THE PLACE BEHIND
+-- THE PLACE AFTER
 
 -- the n-th place is the first of those after
 first_after : {A : Type 0} (f : A → Place) (xs : List A) (n : ℕ) (x : A) → n < length xs → x ≡ get_or xs n x

@@ -29,7 +29,7 @@ unfolding order.broken_line
 rules_same [] p = refl
 rules_same (r ∷ rs) p = ap₂ (λ o later. refused_at (order.rule_of r) o later) (lines r p [] (places p)) (rules_same rs p)
 
--- THE PLACES BEHIND ONE
+-- THE PLACES AFTER ONE
 
 drop_map : {A B : Type 0} (f : A → B) (n : ℕ) (xs : List A) → drop n (map f xs) ≡ map f (drop n xs)
 drop_map f zero xs = refl

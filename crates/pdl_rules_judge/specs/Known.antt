@@ -22,7 +22,7 @@ pub record IsKnown (p : Pipe) (known : Known) : Type 0 where
   pub facts : AreFacts p known.places.now known.facts.now
   pub verified : known.verified ≡ verify_stage p
 
--- and so are the findings
+-- the guards, the variables, the stages, the plan of the locks and the stage of the verifies that were found are those of the pipe
 pub record AreFindings (p : Pipe) (found : Findings) : Type 0 where
   pub guards : found.guards ≡ guards (places p)
   pub variables : found.variables ≡ variables p

@@ -23,7 +23,7 @@ count_next p xs k y old new b got e made h =
     ∙ sym (count_more p (take k xs) y)
     ∙ ap (count_by p) (take_next xs k y got)
 
--- they are at most as many as the places
+-- as many places as pass a test before the k-th are fewer than all places
 pub count_below : {X : Type 0} (p : X → Bool) (xs : List X) (k end old : ℕ) (y : X)
     → slice_get xs k ≡ Some y → k < end → old ≡ count_by p (take k xs) → old < end
 count_below p xs k end old y got l h =

@@ -10,7 +10,7 @@ use Rattle.pdl_rules_on_texts.specs.NotedLine.{noted_line}
 use Rattle.pdl_rules_limits.specs.Over.{adds_guard}
 use Rattle.pdl_rules_on_paths.proofs.Nth.{take_next}
 
--- Z6 by its parts
+-- a place breaks Z6 just where it adds a guard and there are ten before it
 pub z6_parts : (before : List Place) (y : Place) → (adds_guard (guards before) y && (length (guards before) == 10)) ≡ breaks_z6 before y
 z6_parts before (Statement (If s c a b) bs) = refl
 z6_parts before _ = refl

@@ -186,7 +186,7 @@ get_taken (y ∷ ys) d zero x e l = absurd (omega (arith, l))
 get_taken (y ∷ ys) zero (suc k) x e l = e
 get_taken (y ∷ ys) (suc d) (suc k) x e l = get_taken ys d k x e (omega (arith, l))
 
--- what isn't found
+-- whether nothing was found tells whether no place passes the test
 pub missing : (test : Place → Bool) (xs : List Place) (o : Option ℕ) (b : Bool)
     → is_some o ≡ not b → o ≡ first_where test xs → b ≡ not (list_any test xs)
 missing test xs o b e f = flip (is_some o) b e ∙ ap not (ap is_some f ∙ sym (any_found test xs))

@@ -65,7 +65,7 @@ given_by u path (y ∷ ys) (suc d) x f g n =
     at true h e = ap₂ (λ a c. (a && (not (is_delayed y) || list_any is_separator (filter (on_path path) ys))) || c) h e
     at false h e = e
 
--- by parts
+-- a definition that isn't on the path gives nothing there
 pub given_off : (path : List Guard) (before : List Place) (d : ℕ) (y : Place) → on_path path y ≡ false → false ≡ given_on path before d y
 given_off path before d y e = sym (ap (λ b. b && (not (is_delayed y) || list_any (is_separator_on path) (drop (suc d) before))) e)
 
@@ -80,7 +80,7 @@ pub given_later : (path : List Guard) (before : List Place) (d : ℕ) (y : Place
     → a ≡ given_on path before d y
 given_later path before d y a e f g = g ∙ sym (ap₂ (λ b c. b && (not c || list_any (is_separator_on path) (drop (suc d) before))) e f)
 
--- what is missing on a path
+-- nothing is missing at a place that isn't on the path
 pub missing_off : (on given : Bool) → on ≡ false → false ≡ (on && not given)
 missing_off on given e = sym (ap (λ b. b && not given) e)
 

@@ -64,7 +64,7 @@ last_marked path before y m k n e i j h =
     subst (IsLast path (before ++ y ∷ [])) (sym (j ∙ ap (λ l. if on_path path y then l else m) i))
     (subst (λ b. IsLast path (before ++ y ∷ []) (if b && on_path path y then length before else m)) e (last_passed path before y m h))
 
--- on all paths
+-- a place that is no separator leaves the last separator of each path as it is
 pub all_kept : (gs : List Guard) (before : List Place) (y : Place) (last : List ℕ)
     → is_separator y ≡ false → AreLast gs before last → AreLast gs (before ++ y ∷ []) last
 all_kept gs before y last e h = record { count = h.count; each = λ b l. last_kept (path_of gs b) before y (get_or last b 0) e (h.each b l) }
@@ -75,7 +75,7 @@ pub all_marked : (gs : List Guard) (before : List Place) (y : Place) (last new :
 all_marked gs before y last new k e i made h =
     record { count = made.count; each = λ b l. last_marked (path_of gs b) before y (get_or last b 0) k (get_or new b 0) e i (made.each b l) (h.each b l) }
 
--- before the first place
+-- before the first place no path has a last separator
 pub none_last : (gs : List Guard) (last : List ℕ) → length last ≡ 2 ^ length gs → ((b : ℕ) → get_or last b 0 ≡ 0) → AreLast gs [] last
 none_last gs last e zeros = record { count = e; each = λ b l d. ap (nat_lt d) (zeros b) ∙ sym (none_less d) }
 
@@ -98,7 +98,7 @@ zeros_more [] h (suc b) = h b
 zeros_more (x ∷ xs) h zero = h 0
 zeros_more (x ∷ xs) h (suc b) = zeros_more xs (λ j. h (suc j)) b
 
--- a number more of a path
+-- what is true of the numbers of the first n paths is true with the number of one path more
 pub marks_more : (P : ℕ → ℕ → Type 0) (xs : List ℕ) (v n : ℕ)
     → length xs ≡ n → ((j : ℕ) → j < n → P j (get_or xs j 0)) → P n v → (j : ℕ) → j < n + 1
     → P j (get_or (xs ++ v ∷ []) j 0)

@@ -22,7 +22,7 @@ pub record Known (p : Pipe) (xs : List Place) (k d : ℕ) (u : Use) (x y : Place
   pub first : first_where (defines_use u) xs ≡ Some d
   pub once : broken_line N2 p [] (places p) ≡ None
 
--- what is asked of it
+-- whether a use at the k-th place has no definition before it in the text, or none on some path
 abbrev pub ungiven : Pipe → List Place → ℕ → Use → Place → Bool
 ungiven p xs k u x = is_undefined (take k xs) u || on_some_path (λ earlier. not (is_given earlier u)) p (take k xs) x
 

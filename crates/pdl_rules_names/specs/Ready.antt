@@ -41,7 +41,7 @@ pub record Suits (p : r_pipe.Pipe) (index : Index) (xs : List r_place.Place) : T
   pub all : map place_view xs ≡ places (pipe_view p)
   pub first : IsIndex index (map place_view xs)
 
--- with masks of its guards, at most ten, and no name is defined twice
+-- the places are the pipe's, with masks of its guards, at most ten, and no name is defined twice
 pub record SuitsPaths (p : r_pipe.Pipe) (index : Index) (xs : List r_place.Place) : Type 0 where
   pub names : Suits p index xs
   pub few : length (guards (places (pipe_view p))) ≤ 10

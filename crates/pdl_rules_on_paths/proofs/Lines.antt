@@ -14,7 +14,7 @@ pub rule_lines : (r : Rule) (p : Pipe) (before xs : List Place) → line_where (
 rule_lines r p before [] = refl
 rule_lines r p before (x ∷ xs) = ap (λ later. if breaks_rule r p before x then Some (line_of x) else later) (rule_lines r p (before ++ x ∷ []) xs)
 
--- and of a test that agrees with another
+-- two tests that agree at every place have the same first line
 pub same_lines : (f g : List Place → Place → Bool)
     → ((before : List Place) (x : Place) → f before x ≡ g before x) → (before xs : List Place)
     → line_where f before xs ≡ line_where g before xs

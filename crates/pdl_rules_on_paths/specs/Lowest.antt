@@ -9,7 +9,7 @@ abbrev pub line_where : (List Place → Place → Bool) → List Place → List 
 line_where test before [] = None
 line_where test before (x ∷ xs) = if test before x then Some (line_of x) else line_where test (before ++ x ∷ []) xs
 
--- whether a place breaks a rule on one path, and on some path of these guards; the rule is asked of the path, the places before it and of it
+-- whether a place breaks a rule on this path; the rule is asked of the path, the places before it and of it
 abbrev pub on_this : (List Guard → List Place → Place → Bool) → List Guard → List Place → Place → Bool
 on_this breaks path before x = on_path path x && breaks path before x
 
@@ -21,7 +21,7 @@ on_some breaks gs before x = list_any (λ path. on_path path x && breaks path be
 abbrev pub breaks_at : (List Place → Place → Bool) → List Place → ℕ → Bool
 breaks_at test xs k = is_some_and (test (take k xs)) (slice_get xs k)
 
--- and its line
+-- the line of the k-th place, if there is one
 abbrev pub nth_line : List Place → ℕ → Option ℕ
 nth_line xs k = option_map line_of (slice_get xs k)
 

@@ -20,7 +20,7 @@ line_more test before (x ∷ xs) y = at (test before x) (line_more test (before 
         e
         ∙ ap (λ b. noted_line (line_where test (before ++ x ∷ []) xs) (test b y) (line_of y)) (append_assoc before (x ∷ []) xs)
 
--- one of a list of places
+-- with one place more, the line that is noted is the first one where the test passes
 pub line_next : (test : List Place → Place → Bool) (xs : List Place) (k : ℕ) (y : Place) (first new : Option ℕ) (b : Bool) (line : ℕ)
     → slice_get xs k ≡ Some y → b ≡ test (take k xs) y → line ≡ line_of y → new ≡ noted_line first b line
     → first ≡ line_where test [] (take k xs) → new ≡ line_where test [] (take (k + 1) xs)
@@ -31,7 +31,7 @@ line_next test xs k y first new b line got e l made h =
     ∙ sym (line_more test [] (take k xs) y)
     ∙ ap (line_where test []) (take_next xs k y got)
 
--- what the k-th place breaks
+-- the k-th place breaks the rule just where the test passes of it and the places before it
 pub breaks_kth : (test : List Place → Place → Bool) (xs : List Place) (k : ℕ) (y : Place) (b : Bool)
     → slice_get xs k ≡ Some y → b ≡ test (take k xs) y → b ≡ breaks_at test xs k
 breaks_kth test xs k y b got e = e ∙ sym (ap (is_some_and (test (take k xs))) got)

@@ -8,7 +8,7 @@ all_taken view [] (suc k) l = refl
 all_taken view (q ∷ ps) zero l = absurd (omega arith)
 all_taken view (q ∷ ps) (suc k) l = ap (λ xs. view q ∷ xs) (all_taken view ps k (omega arith))
 
--- a place below the end
+-- a list has a k-th item
 pub record Kth {Q : Type 0} (xs : List Q) (k : ℕ) : Type 0 where
   pub item : Q
   pub is : slice_get xs k ≡ Some item

@@ -2,7 +2,7 @@
 use Rattle.std.proofs.Common.{◌≡◌, refl, sym, ap, ◌∙◌, ℕ, zero, suc, ◌+◌, ◌<◌, ◌≤◌, List, [], ◌∷◌, ◌++◌, map, take, drop, length, get_or, slice_get, Some, arith}
 use Rattle.std.proofs.lemmas.Option.{same_Some}
 
--- what stands from it on
+-- what stands in a list from its k-th item on is that item and what stands after it
 pub dropped : {Q : Type 0} (xs : List Q) (k : ℕ) (x : Q) → slice_get xs k ≡ Some x → drop k xs ≡ x ∷ drop (k + 1) xs
 dropped xs k x e =
     let one : suc k ≡ k + 1 = omega arith in
@@ -13,7 +13,7 @@ dropped xs k x e =
     at (y ∷ ys) zero i = ap (λ z. z ∷ ys) (same_Some y x i)
     at (y ∷ ys) (suc n) i = at ys n i
 
--- and up to it
+-- what stands in a list up to its k-th item is what stands before it and that item
 pub taken : {Q : Type 0} (xs : List Q) (k : ℕ) (x : Q) → slice_get xs k ≡ Some x → take (k + 1) xs ≡ take k xs ++ x ∷ []
 taken xs k x e =
     let one : k + 1 ≡ suc k = omega arith in

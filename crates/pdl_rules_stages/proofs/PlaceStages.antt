@@ -69,7 +69,7 @@ next_other path begun x rest e =
 
 -- THE STAGES OF PLACES
 
--- those of some places and of others after them
+-- the stages of the places that pass a test are those of the first places and then of the others after them
 pub that_append : (test : Place → Bool) (before xs ys : List Place)
     → stages_that test before (xs ++ ys) ≡ stages_that test before xs ++ stages_that test (before ++ xs) ys
 that_append test before [] ys = ap (λ b. stages_that test b ys) (sym (append-nil before))

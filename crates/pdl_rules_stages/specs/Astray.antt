@@ -17,7 +17,7 @@ is_astray Verifies before x = breaks_s3 before x
 abbrev pub IsUnasked : Kinds → Place → Type 0
 IsUnasked kinds x = (before : List Place) → is_astray kinds before x ≡ false
 
--- and one that is of this kind, and breaks it where it stands elsewhere than the first of the kind
+-- a place is of this kind, and breaks the rule where it stands elsewhere than the first of the kind
 pub record IsAsked (kinds : Kinds) (sought : SoughtPlace) (x : Place) : Type 0 where
   pub is_one : is_sought sought x ≡ true
   pub where_astray : (before : List Place) → is_astray kinds before x ≡ is_elsewhere (is_sought sought) before (stage_of before x)

@@ -10,7 +10,7 @@ use Rattle.pdl_rules_on_paths.specs.Lowest.{on_this, on_some, breaks_at, IsLowes
 use Rattle.pdl_rules_on_paths.proofs.Steps.{up_to}
 use Rattle.pdl_rules_walk.specs.Course.{by_bits, IsLowestSoFar, IsUnderWay}
 
--- before the first path
+-- before the first path no place was found
 pub none_yet : (test : ℕ → ℕ → Bool) (end k : ℕ) → k ≡ end → IsLowestSoFar test 0 end k
 none_yet test end k e = record { within = omega (arith, e); bits = 0; found = λ l. absurd (omega (arith, l, e)); others = λ b j l m. absurd (omega (arith, l)) }
 
@@ -19,7 +19,7 @@ pub begun : (test : ℕ → ℕ → Bool) (S : Type 0) (path end lowest : ℕ) �
     → IsUnderWay test S path 0 end lowest
 begun test S path end lowest h s = record { earlier = h; passed = λ j l m. absurd (omega (arith, l)); state = λ l. s }
 
--- a place past the lowest
+-- a place that isn't below the lowest so far leaves that as it is
 pub past : (test : ℕ → ℕ → Bool) (S T : Type 0) (path k end lowest : ℕ)
     → lowest ≤ k → IsUnderWay test S path k end lowest → IsUnderWay test T path (k + 1) end lowest
 past test S T path k end lowest low h =
@@ -41,7 +41,7 @@ broken test S T path k end lowest low e h =
       state = λ l. absurd (omega (arith, l));
     }
 
--- after the last place
+-- after the last place of a path the lowest place found is that of the paths so far and this one
 pub walked : (test : ℕ → ℕ → Bool) (S : Type 0) (path end lowest : ℕ) → IsUnderWay test S path end end lowest
     → IsLowestSoFar test (path + 1) end lowest
 walked test S path end lowest h =
@@ -66,7 +66,7 @@ one_of_them : (breaks : List Guard → List Place → Place → Bool) (gs : List
 one_of_them breaks gs before None b e = e
 one_of_them breaks gs before (Some x) b e = some_path (λ path. on_path path x && breaks path before x) gs b e
 
--- all paths
+-- after all paths the lowest place found is the lowest that breaks the rule on some path
 pub every_path : (breaks : List Guard → List Place → Place → Bool) (gs : List Guard) (xs : List Place) (c end k : ℕ) → c ≡ 2 ^ length gs
     → IsLowestSoFar (by_bits breaks gs xs) c end k → IsLowest (breaks_at (on_some breaks gs) xs) end k
 every_path breaks gs xs c end k e h =
@@ -76,7 +76,7 @@ every_path breaks gs xs c end k e h =
       others = λ j l. all_paths breaks gs (take j xs) (slice_get xs j) (λ b m. h.others b j (subst (λ n. b < n) (sym e) m) l);
     }
 
--- a place on the path
+-- a place on the path breaks the rule just where the test passes of it and the places before it
 pub on : (breaks : List Guard → List Place → Place → Bool) (path : List Guard) (xs : List Place) (k : ℕ) (x : Place) (b : Bool)
     → slice_get xs k ≡ Some x → on_path path x ≡ true → b ≡ breaks path (take k xs) x
     → breaks_at (on_this breaks path) xs k ≡ b

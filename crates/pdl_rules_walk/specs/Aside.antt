@@ -9,7 +9,7 @@ use Rattle.pdl_rules_on_paths.proofs.Nth.{take_next}
 use Rattle.pdl_rules_on_paths.proofs.Steps.{up_to}
 use Rattle.pdl_rules_walk.specs.Course.{by_bits, IsUnderWay, IsOnPath}
 
--- it breaks nothing there
+-- a place that isn't on the path breaks nothing there
 pub off : (breaks : List Guard → List Place → Place → Bool) (path : List Guard) (xs : List Place) (k : ℕ) (x : Place)
     → slice_get xs k ≡ Some x → on_path path x ≡ false → breaks_at (on_this breaks path) xs k ≡ false
 off breaks path xs k x got not_on = ap (is_some_and (on_this breaks path (take k xs))) got ∙ ap (λ o. o && breaks path (take k xs) x) not_on
@@ -27,7 +27,7 @@ one_more test S T path k end lowest h e step = record {
     at j m (inl i) = ap (test path) i ∙ e
     at j m (inr l) = h.passed j l m
 
--- a rule passes it
+-- a place that isn't on the path is passed, where what stands before it stands after it
 pub aside : (breaks : List Guard → List Place → Place → Bool) (Stands : List Guard → List Place → Type 0)
     (gs : List Guard) (xs : List Place) (bits k lowest : ℕ) (x : Place)
     → ((path : List Guard) (before : List Place) → on_path path x ≡ false → Stands path before → Stands path (before ++ x ∷ []))

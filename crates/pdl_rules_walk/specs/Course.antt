@@ -19,7 +19,7 @@ pub record IsLowestSoFar (test : ℕ → ℕ → Bool) (paths end lowest : ℕ) 
   pub found : lowest < end → test bits lowest ≡ true
   pub others : (b j : ℕ) → b < paths → j < lowest → test b j ≡ false
 
--- of a rule
+-- the lowest place at which one of the paths with fewer bits breaks this rule; the end, where none does
 abbrev pub IsFound : (List Guard → List Place → Place → Bool) → List Guard → List Place → ℕ → ℕ → Type 0
 IsFound breaks gs xs paths lowest = IsLowestSoFar (by_bits breaks gs xs) paths (length xs) lowest
 
@@ -29,7 +29,7 @@ pub record IsUnderWay (test : ℕ → ℕ → Bool) (Stands : Type 0) (path k en
   pub passed : (j : ℕ) → j < k → j < lowest → test path j ≡ false
   pub state : k ≤ lowest → Stands
 
--- of a rule, with what is to stand after some places of a path
+-- a rule under way on a path after k places, with what is to stand after these
 abbrev pub IsOnPath : (List Guard → List Place → Place → Bool) → (List Guard → List Place → Type 0) → List Guard
     → List Place → ℕ → ℕ → ℕ → Type 0
 IsOnPath breaks Stands gs xs bits k lowest =

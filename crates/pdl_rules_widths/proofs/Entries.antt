@@ -57,7 +57,7 @@ with_variable-there es vs x w o h k s =
     let known = ap (λ us. list_any (λ (v : Var). bytes_eq x v.name) us) (sym k) ∙ any-lookup es x ∙ ap is_some (sym h) ∙ s in
     sym (ap (λ b. if b then vs else vs ++ record { name = x; width = w } ∷ []) known)
 
--- a new one
+-- a new entry stands for a new variable
 pub with_variable-new : (es fs : List (List ℕ × ℕ)) (vs : List Var) (x : List ℕ) (w : ℕ) (o : Option ℕ)
     → o ≡ lookup (pointwise nat_eq x) es → vars_of es ≡ vs → is_some o ≡ false
     → fs ≡ insert_entry (pointwise nat_eq) es x w → vars_of fs ≡ with_variable vs x w
@@ -84,7 +84,7 @@ among-lookup : (es : List (List ℕ × ℕ)) (x : List ℕ) → lookup (pointwis
 among-lookup [] x = refl
 among-lookup (e ∷ es) x = among_step (bytes_eq x e.0) (bytes_eq e.0 x) e.1 _ _ (bytes_swap x e.0) (among-lookup es x)
 
--- what a look-up gives
+-- the width that a look-up gives is that of the first variable of the name
 pub found_among : (es : List (List ℕ × ℕ)) (vs : List Var) (x : List ℕ) (o : Option ℕ)
     → o ≡ lookup (pointwise nat_eq x) es → vars_of es ≡ vs → o ≡ width_among vs x
 found_among es vs x o h k = h ∙ among-lookup es x ∙ ap (λ us. width_among us x) k
@@ -110,7 +110,7 @@ number-position [] x = refl
 number-position (e ∷ es) x =
     number_step (bytes_eq x e.0) (bytes_eq e.0 x) _ _ (bytes_swap x e.0) (from_next (bytes_eq x) 0 (keys_of es) ∙ ap (option_map suc) (number-position es x))
 
--- the place that a look-up gives
+-- the position of a name among the keys of the entries is the number of the first variable of that name
 pub number_found : (es : List (List ℕ × ℕ)) (vs : List Var) (x : List ℕ) (o : Option ℕ)
     → o ≡ position (pointwise nat_eq x) (keys_of es) → vars_of es ≡ vs → o ≡ number_among vs x
 number_found es vs x o h k =

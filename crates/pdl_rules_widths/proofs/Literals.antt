@@ -26,7 +26,7 @@ above_all v w h k = let p = pow_mono {i = 64} {j = w} h in grind (arith, leb_tel
 large_is : (l : Literal) (v : ℕ) → l.value ≡ Some v → is_too_large l ≡ nat_le (2 ^ l.width) v
 large_is l v e = let P : Option ℕ → Type 0 = λ o. is_too_large (record l { value = o }) ≡ nat_le (2 ^ l.width) v in subst P (sym e) refl
 
--- a width below 64
+-- a literal is too large just where its value, shifted down by its width, isn't 0
 pub large_shifted : (l : Literal) (v : ℕ) → l.value ≡ Some v → not (nat_eq (v / 2 ^ l.width) 0) ≡ is_too_large l
 large_shifted l v e = quotient v l.width ∙ sym (large_is l v e)
 

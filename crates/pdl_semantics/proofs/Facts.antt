@@ -87,7 +87,7 @@ turn_front p (suc k) arrays args =
 abbrev pub all_vars : tree.Pipe → List Var
 all_vars p = (past_all p.mems p.body (at_start p)).vars
 
--- whom no squash removes
+-- where nothing squashes, a lock's list stays as it is
 pub none_leaves : (es : List Pending) → entries_left None es ≡ es
 none_leaves [] = refl
 none_leaves (e ∷ es) = ap (λ (xs : List Pending). e ∷ xs) (none_leaves es)

@@ -226,7 +226,7 @@ squash_empties_lists_threads : seq_lines squash_empties_lists (words 1) 5 ≡
 unfolding digits add slice zext
 squash_empties_lists_threads = refl
 
--- and keeps that of a fork after V
+-- a squash keeps the list of a fork after V
 squash_keeps_later_lists_commits : run_lines squash_keeps_later_lists (words 1) (idle 18) ≡
     codes "6 m 0 00\n9 m 3 03\n10 m 2 02\n13 m 1 01\n14 m 0 00\n17 m 3 03\n18 m 2 02\n"
     ++ codes "end cycles 18 ended 7 waits 0 squashes 9\n"

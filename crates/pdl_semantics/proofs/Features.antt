@@ -82,7 +82,7 @@ squash_empties_lists =
     ∷ verify "s" (plus (variable "n") (constant 2 2)) ∷ reserve "m" "n" W ∷ block "m" "n"
     ∷ write "m" "n" (constant 8 9) ∷ release "m" "n" ∷ [])
 
--- and keeps that of a fork after V
+-- a squash keeps the list of a fork after V
 abbrev pub squash_keeps_later_lists : Pipe
 squash_keeps_later_lists =
     pipe 2 (comb "m" 4 (lock Queue 4) ∷ [])

@@ -141,7 +141,7 @@ without_barrier =
     ∷ write "m" "n" (constant 8 7) ∷ release "m" "n" ∷ separator ∷ separator ∷ separator
     ∷ verify "s" (plus (variable "n") (constant 2 2)) ∷ [])
 
--- all at once: a guess, a fork with a delayed read in its first branch, and behind the merge a verify, a reserve and a release
+-- all at once: a guess, a fork with a delayed read in its first branch, and after the merge a verify, a reserve and a release
 abbrev pub everything : Pipe
 everything =
     pipe 2 (slow "d" 4 None ∷ comb "m" 4 (lock Bypass 4) ∷ [])
@@ -150,7 +150,7 @@ everything =
     ∷ separator ∷ verify "s" (plus (variable "n") (constant 2 2))
     ∷ reserve "m" "n" W ∷ block "m" "n" ∷ write "m" "n" (constant 8 7) ∷ release "m" "n" ∷ [])
 
--- a delayed read on no path, behind the stage of the releases
+-- a delayed read on no path, after the stage of the releases
 abbrev pub dead_read : Pipe
 dead_read =
     pipe 2 (slow "m" 4 (lock Queue 1) ∷ [])

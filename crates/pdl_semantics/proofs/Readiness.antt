@@ -37,7 +37,7 @@ read_free (Queue n) = refl
 read_free (Bypass n) = refl
 read_free (Rename n) = refl
 
--- and never without a lock
+-- a read of a memory without lock is always ready
 pub plain_ready : (k : Lock) (l : Latest) → is_plain k ≡ true → read_ready k l ≡ true
 plain_ready Plain l h = refl
 plain_ready (Queue n) l h = absurd (cc h)

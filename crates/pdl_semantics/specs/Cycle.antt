@@ -47,7 +47,7 @@ abbrev pub but_oldest : List Pending → List Pending
 but_oldest [] = []
 but_oldest (e ∷ es) = es
 
--- a lock's list after steps 1 and 2, and after step 3, and the entry that step 3 takes out
+-- a lock's list after steps 1 and 2
 abbrev pub list_two : State → List Act → ℕ → List Pending
 list_two st ms m = with_all_writes m ms (with_reserves m ms (lock_of st m))
 
@@ -59,7 +59,7 @@ list_three st ms m = if has_release m ms then but_oldest (list_two st ms m) else
 abbrev pub taken_out : State → List Act → ℕ → Option Pending
 taken_out st ms m = if has_release m ms then oldest (list_two st ms m) else None
 
--- and puts its value into the array
+-- the arrays, with the value of the write that is taken out of the lock of m, if one is
 abbrev pub with_commit : Arrays → ℕ → Option Pending → Arrays
 with_commit arrays m None = arrays
 with_commit arrays m (Some e) = with_word arrays m e.address (commit_value e.value)
@@ -152,7 +152,7 @@ abbrev pub squasher : List Act → Option ℕ
 squasher [] = None
 squasher (a ∷ ms) = if a.does.fails then Some a.thread.number else squasher ms
 
--- it removes every younger thread
+-- whether a squash keeps a thread: it removes every younger one
 abbrev pub is_kept : Option ℕ → ℕ → Bool
 is_kept None thread = true
 is_kept (Some squasher) thread = nat_le thread squasher
@@ -162,7 +162,7 @@ abbrev pub if_kept : Option ℕ → Option Thread → Option Thread
 if_kept sq None = None
 if_kept sq (Some t) = if is_kept sq t.number then Some t else None
 
--- and drops their entries
+-- a lock's list without the entries of the threads that a squash removes
 abbrev pub entries_left : Option ℕ → List Pending → List Pending
 entries_left sq [] = []
 entries_left sq (e ∷ es) = if is_kept sq e.thread then e ∷ entries_left sq es else entries_left sq es

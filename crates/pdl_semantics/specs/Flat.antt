@@ -133,7 +133,7 @@ abbrev pub list_all : {X : Type 0} → (X → Bool) → List X → Bool
 list_all test [] = true
 list_all test (x ∷ xs) = test x && list_all test xs
 
--- whether a branch is taken where its truth value is v, and whether all are
+-- whether a branch is taken where its truth value is v
 abbrev pub takes_branch : Bool → ℕ → Bool
 takes_branch first v = if first then v == 1 else not (v == 1)
 
@@ -146,7 +146,7 @@ all_hold (g ∷ gs) env = takes_branch g.first (slice_index env g.var) && all_ho
 abbrev pub start_env : Pipe → List ℕ → List ℕ
 start_env p args = args ++ replicate (p.vars - length args) 0
 
--- the words of a memory by their addresses, and of each memory
+-- the words of a memory by their addresses
 abbrev pub Array : Type 0
 Array = ℕ → ℕ
 
@@ -162,7 +162,7 @@ arrays_of image m a = slice_index (slice_index_or image m []) a
 abbrev pub word_at : Arrays → ℕ → ℕ → ℕ
 word_at arrays m a = arrays m a
 
--- the words, and the arrays, after a word is written
+-- the words of a memory after one is written
 abbrev pub with_value : Array → ℕ → ℕ → Array
 with_value words a v b = if b == a then v else words b
 

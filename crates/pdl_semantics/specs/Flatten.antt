@@ -13,7 +13,7 @@ pub record Var : Type 0 where
   pub name : List ℕ
   pub width : ℕ
 
--- the number of a variable, and its width
+-- the number of the first variable of this name, how many there are where there is none
 abbrev pub var_of : List Var → List ℕ → ℕ
 var_of [] x = 0
 var_of (v ∷ vs) x = if bytes_eq v.name x then 0 else suc (var_of vs x)
@@ -23,7 +23,7 @@ abbrev pub var_width : List Var → List ℕ → ℕ
 var_width [] x = 0
 var_width (v ∷ vs) x = if bytes_eq v.name x then v.width else var_width vs x
 
--- the number of a memory, and the width of its words
+-- the number of the first memory of this name, how many there are where there is none
 abbrev pub mem_of : List Mem → List ℕ → ℕ
 mem_of [] m = 0
 mem_of (x ∷ xs) m = if bytes_eq x.name.name m then 0 else suc (mem_of xs m)
@@ -88,19 +88,19 @@ pub record Position : Type 0 where
   pub stage : ℕ
   pub begun : ℕ
 
--- one more variable, and a new stage
+-- the position with one more variable
 abbrev pub with_var : List ℕ → ℕ → Position → Position
 with_var x width at' = record at' { vars = at'.vars ++ record { name = x; width = width } ∷ [] }
 
--- in the stage that begins next
+-- the position in the stage that begins next
 abbrev pub next_position : Position → Position
 next_position at' = record at' { stage = suc at'.begun; begun = suc at'.begun }
 
--- back in the stage of an `if`
+-- the position back in the stage of an `if`
 abbrev pub back_in : ℕ → Position → Position
 back_in s at' = record at' { stage = s }
 
--- of the name of a plain variable; of any other expression the rest
+-- what f makes of the name, where the expression is a plain variable, else the rest
 abbrev pub on_variable : {X : Type 0} → (List ℕ → X) → X → Expr → X
 on_variable f rest (Constant l) = rest
 on_variable f rest (Variable x) = f x.name
@@ -117,12 +117,12 @@ on_variable f rest (Choose c a b) = rest
 abbrev pub guard_of : List Var → Expr → ℕ
 guard_of vs e = on_variable (var_of vs) (length vs) e
 
--- the place after a condition: one that is no plain variable has a variable of 1 bit of its own
+-- the position after a condition: one that is no plain variable has a variable of 1 bit of its own
 abbrev pub with_guard : Expr → Position → Position
 with_guard e at' = on_variable (λ x. at') (with_var [] 1 at') e
 
--- the place after a statement, and after some; a branch begins in the stage of its `if`
 abbrev mutual
+  -- the position after a statement; a branch begins in the stage of its `if`
   pub past : List Mem → Stmt → Position → Position
   past ms (Separator _) at' = next_position at'
   past ms (CombRead _ x from) at' = with_var x.name (mem_width ms from.mem.name) at'
@@ -140,7 +140,7 @@ abbrev mutual
   past ms (SpecCheck _) at' = at'
   past ms (SpecBarrier _) at' = at'
 
-  -- the place after some statements
+  -- the position after some statements, one after another
   pub past_all : List Mem → Stmts → Position → Position
   past_all ms Nil at' = at'
   past_all ms (Cons s ss) at' = past_all ms ss (past ms s at')
@@ -159,7 +159,7 @@ at_position gs at' op = record { stage = at'.stage; guards = gs; op = op } ∷ [
 abbrev pub binds_guard : List Flat.Guard → Position → Expr → List Flat.Stmt
 binds_guard gs at' e = on_variable (λ x. []) (at_position gs at' (Flat.Bind (length at'.vars) (flat_expr at'.vars e))) e
 
--- under one branch more
+-- the guards with one branch more
 abbrev pub under : List Flat.Guard → List Var → Expr → Bool → List Flat.Guard
 under gs vs c first = gs ++ record { var = guard_of vs c; first = first } ∷ []
 
@@ -200,8 +200,8 @@ abbrev mutual
 
 -- THE STAGE GRAPH
 
--- how many stages begin in some statements
 abbrev mutual
+  -- how many stages begin in a statement
   pub separators_in : Stmt → ℕ
   separators_in (Separator _) = 1
   separators_in (If _ c when otherwise) = separators when + separators otherwise
@@ -243,7 +243,7 @@ with_merge f (x ∷ xs) = record x { merges = Some f } ∷ xs
 abbrev pub side : ℕ → Bool → Option Flat.Branch
 side f first = Some (record { fork = f; first = first })
 
--- a new stage
+-- a new stage before the rest of the graph
 abbrev pub graph_with_stage : Option Flat.Branch → Position → Graph → Graph
 graph_with_stage branch at' rest =
     record {
@@ -256,8 +256,8 @@ abbrev pub graph_with_fork : ℕ → ℕ → Graph → Graph → Graph → Graph
 graph_with_fork f x first second rest =
     record { next = Flat.Forks x (entry first.next) (entry second.next); later = first.later ++ second.later ++ with_merge f rest.later }
 
--- the graph of statements in this branch that lead to `exit`; a branch of a fork leads to the stage that begins after both, the merge
 abbrev mutual
+  -- the graph of a statement in this branch with the graph after it; the branches of a fork lead to the stage that begins after both, the merge
   pub graph_before : List Mem → Option Flat.Branch → Stmt → Position → Graph → Graph
   graph_before ms branch (Separator _) at' rest = graph_with_stage branch at' rest
   graph_before ms branch (If _ c when otherwise) at' rest =
@@ -329,7 +329,7 @@ abbrev pub first_stage : (Flat.Op → Bool) → List Flat.Stmt → Option ℕ
 first_stage test [] = None
 first_stage test (x ∷ xs) = if test x.op then Some x.stage else first_stage test xs
 
--- that of each memory, of which the first has the number m
+-- for each memory, of which the first has the number m, the stage of the first statement of this kind, where there is one
 abbrev pub first_stages : (ℕ → Flat.Op → Bool) → List Flat.Stmt → ℕ → List Mem → List (Option ℕ)
 first_stages test xs m [] = []
 first_stages test xs m (x ∷ ms) = first_stage (test m) xs ∷ first_stages test xs (suc m) ms

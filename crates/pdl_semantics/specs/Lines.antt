@@ -34,7 +34,7 @@ abbrev pub put_line : ℕ → Column → Put → List ℕ
 put_line n m w =
     decimal n ++ codes " " ++ m.name ++ codes " " ++ decimal w.address ++ codes " " ++ hex (hex_digits m.width) w.value ++ codes "\n"
 
--- the lines of one memory, and of each memory in order
+-- the lines of one memory in a cycle
 abbrev pub mem_lines : ℕ → Column → List Put → List ℕ
 mem_lines n m ws = flat_map (put_line n m) ws
 

@@ -76,7 +76,7 @@ pub record HeldLocation : Type 0 where
   pub mem : ℕ
   pub var : ℕ
 
--- the locations that are reserved for writing and not yet released, after a statement
+-- whether this location is one of these
 abbrev pub is_held : List HeldLocation → ℕ → ℕ → Bool
 is_held [] m a = false
 is_held (l ∷ ls) m a = ((l.mem == m) && (l.var == a)) || is_held ls m a
@@ -102,7 +102,7 @@ held_after (Verify args) ls = ls
 held_after SpecCheck ls = ls
 held_after SpecBarrier ls = ls
 
--- after the statements of the path in the stages before s
+-- the locations that are held for writing after the statements of the path in the stages before s
 abbrev pub held_before : ℕ → List ℕ → List Stmt → List HeldLocation → List HeldLocation
 held_before s path [] ls = ls
 held_before s path (x ∷ xs) ls =
@@ -114,7 +114,7 @@ pub record Blocked : Type 0 where
   pub address : ℕ
   pub writes : Bool
 
--- a write reservation, and a value written through it
+-- a write reservation: its memory and its address
 pub record Reserved : Type 0 where
   pub mem : ℕ
   pub address : ℕ
@@ -206,7 +206,7 @@ abbrev pub kept_answer : ℕ → Option ℕ → List Kept
 kept_answer x None = []
 kept_answer x (Some word) = record { var = x; word = word } ∷ []
 
--- the reads that are awaited beyond this cycle, and its answers
+-- the reads that a thread awaits beyond this cycle
 abbrev pub unanswered_reads : Pipe → State → List Bool → ℕ → List Awaited → List Awaited
 unanswered_reads p st bits thread [] = []
 unanswered_reads p st bits thread (r ∷ rs) =

@@ -117,7 +117,7 @@ acts p st bits s (Some t ∷ stages) =
 abbrev pub all_acts : Pipe → State → List Bool → List Act
 all_acts p st bits = acts p st bits 0 st.stages
 
--- those that move
+-- the acts of the threads that move
 abbrev pub movers : List Act → List Act
 movers [] = []
 movers (a ∷ these) = if a.moves then a ∷ movers these else movers these

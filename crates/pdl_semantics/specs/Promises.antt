@@ -6,7 +6,7 @@ use Rattle.pdl_semantics.specs.Sequential.{seqwrites}
 use Rattle.pdl_semantics.specs.Moves.{Act, all_acts}
 use Rattle.pdl_semantics.specs.Cycle.{first, turns, state_after, ended_in, waits_in, is_wait, commits}
 
--- a memory's words, and these after some writes to it
+-- a memory's words
 abbrev pub row : Arrays → ℕ → Array
 row arrays m = arrays m
 

@@ -34,7 +34,7 @@ abbrev pub run_all : List Stmt → Run → Run
 run_all [] r = r
 run_all (x ∷ xs) r = run_all xs (if all_hold x.guards r.env then run_after x.op r else r)
 
--- a whole thread
+-- a whole thread, from its arguments
 abbrev pub thread : Pipe → Arrays → List ℕ → Run
 thread p arrays args = run_all p.stmts (record { arrays = arrays; env = start_env p args; writes = []; next = [] })
 
@@ -56,7 +56,7 @@ writes_from p (suc k) arrays args = let r = thread p arrays args in r.writes ++ 
 abbrev pub seqwrites : Pipe → Arrays → ℕ → ℕ → List Commit
 seqwrites p image m k = of_mem m (writes_from p k image p.start)
 
--- the arrays and the next arguments after k threads from these, and after the first k threads
+-- the arrays and the next arguments after k threads from these
 abbrev pub turn_at : Pipe → Arrays → List ℕ → ℕ → Run
 turn_at p arrays args zero = record { arrays = arrays; env = []; writes = []; next = args }
 turn_at p arrays args (suc k) = thread p (turn_at p arrays args k).arrays (turn_at p arrays args k).next

@@ -24,7 +24,7 @@ abbrev pub put_in : Live → List Live → List Live
 put_in l [] = l ∷ []
 put_in l (k ∷ ks) = if nat_lt l.thread.number k.thread.number then l ∷ k ∷ ks else k ∷ put_in l ks
 
--- the threads of these stages, of which the first is s, and all of a state, oldest first
+-- the threads of these stages, of which the first is s, oldest first
 abbrev pub live_from : ℕ → List (Option Thread) → List Live
 live_from s [] = []
 live_from s (None ∷ xs) = live_from (suc s) xs
@@ -39,17 +39,17 @@ abbrev pub all_pairs : {X : Type 0} → (X → X → Bool) → List X → Bool
 all_pairs test [] = true
 all_pairs test (x ∷ xs) = list_all (test x) xs && all_pairs test xs
 
--- whether it holds of each number from m on, one for each element
+-- whether the test passes of each number from m on, one for each element
 abbrev pub all_from : {X : Type 0} → (ℕ → Bool) → ℕ → List X → Bool
 all_from test m [] = true
 all_from test m (x ∷ xs) = test m && all_from test (suc m) xs
 
--- and of each number below
+-- whether the test passes of each number below this one
 abbrev pub all_below : (ℕ → Bool) → ℕ → Bool
 all_below test zero = true
 all_below test (suc n) = all_below test n && test n
 
--- the statements in stages before s, and from s on
+-- the statements in stages before s
 abbrev pub stages_before : ℕ → List Stmt → List Stmt
 stages_before s [] = []
 stages_before s (x ∷ xs) = if nat_lt x.stage s then x ∷ stages_before s xs else stages_before s xs
@@ -71,7 +71,7 @@ has_done test p l = list_any (λ x. test x.op) (past_stmts p l)
 abbrev pub held_places : Pipe → Live → List HeldLocation
 held_places p l = held_before l.stage l.thread.env p.stmts []
 
--- it holds a location of this memory for writing
+-- whether a thread holds a location of this memory for writing
 abbrev pub holds_mem : ℕ → Pipe → Live → Bool
 holds_mem m p l = list_any (λ h. h.mem == m) (held_places p l)
 
@@ -93,7 +93,7 @@ is_call (Verify args) = false
 is_call SpecCheck = false
 is_call SpecBarrier = false
 
--- a call on a guess
+-- whether a statement is a call on a guess
 abbrev pub is_spec_call : Op → Bool
 is_spec_call (SpecCall args) = true
 is_spec_call (Bind x e) = false
@@ -109,7 +109,7 @@ is_spec_call (Verify args) = false
 is_spec_call SpecCheck = false
 is_spec_call SpecBarrier = false
 
--- a `spec_barrier`
+-- whether a statement is a `spec_barrier`
 abbrev pub is_barrier : Op → Bool
 is_barrier SpecBarrier = true
 is_barrier (Bind x e) = false
@@ -125,7 +125,7 @@ is_barrier (SpecCall args) = false
 is_barrier (Verify args) = false
 is_barrier SpecCheck = false
 
--- a write of memory m
+-- whether a statement is a write of memory m
 abbrev pub is_write : ℕ → Op → Bool
 is_write m (Write n a e) = n == m
 is_write m (Bind x e) = false
@@ -189,7 +189,7 @@ pub record Follower : Type 0 where
   pub arrays : Arrays
   pub args : List ℕ
 
--- it has guessed other arguments than its turn passes on, and hasn't verified them
+-- whether a thread has guessed other arguments than its turn passes on, and hasn't verified them
 abbrev pub guessed_wrong : Pipe → List ℕ → Live → Bool
 guessed_wrong p next l = has_done is_spec_call p l && not (has_done is_verify p l) && not (same_args l.thread.guess next)
 
@@ -200,13 +200,13 @@ followers_of p arrays args (l ∷ ls) =
     record { live = l; arrays = arrays; args = args }
     ∷ (if guessed_wrong p (thread p arrays args).next l then [] else followers_of p (thread p arrays args).arrays (thread p arrays args).next ls)
 
--- those after
+-- the live threads after the first with a wrong guess
 abbrev pub strays_of : Pipe → Arrays → List ℕ → List Live → List Live
 strays_of p arrays args [] = []
 strays_of p arrays args (l ∷ ls) =
     if guessed_wrong p (thread p arrays args).next l then ls else strays_of p (thread p arrays args).arrays (thread p arrays args).next ls
 
--- of a state in which n threads have ended
+-- the followers of a state in which n threads have ended
 abbrev pub followers : Pipe → Arrays → ℕ → State → List Follower
 followers p image n st = followers_of p (after_turns p image n).arrays (after_turns p image n).next (live st)
 
@@ -214,7 +214,7 @@ followers p image n st = followers_of p (after_turns p image n).arrays (after_tu
 abbrev pub strays : Pipe → Arrays → ℕ → State → List Live
 strays p image n st = strays_of p (after_turns p image n).arrays (after_turns p image n).next (live st)
 
--- the whole turn, its writes to m, and the turn before the follower's stage
+-- the whole turn of a follower
 abbrev pub turn_of : Pipe → Follower → Run
 turn_of p f = thread p f.arrays f.args
 
@@ -397,7 +397,7 @@ asks_right p st l =
     && list_all (λ r. is_owner l.thread.number (request_of st r.mem)) l.thread.awaits
     && (length l.thread.awaits + length l.thread.kept == count_by (λ (x : Stmt). is_here p l x && is_fetch x.op) (past_stmts p l))
 
--- and each outstanding request that is no orphan is awaited by its owner
+-- whether an outstanding request of m, if it is no orphan, is awaited by its owner
 abbrev pub has_owner : State → ℕ → Request → Bool
 has_owner st m NoRequest = true
 has_owner st m (Owned owner a) = list_any (λ l. (l.thread.number == owner) && list_any (λ r. r.mem == m) l.thread.awaits) (live st)

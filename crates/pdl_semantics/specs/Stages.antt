@@ -18,7 +18,7 @@ abbrev pub in_stage : ℕ → List Stmt → List Stmt
 in_stage s [] = []
 in_stage s (x ∷ xs) = if x.stage == s then x ∷ in_stage s xs else in_stage s xs
 
--- the memory, and the stage, of this number
+-- a memory without words and without lock, for a number past those of the memories
 abbrev pub plain_mem : Mem
 plain_mem = record { width = 0; depth = 0; delayed = false; lock = Plain }
 
@@ -58,7 +58,7 @@ merges_fork (Some g) f = g == f
 abbrev pub reply_place : Pipe → ℕ → ℕ
 reply_place p m = count_by (λ x. x.delayed) (take m p.mems)
 
--- R(m), the stage of m's reserves, 0 where it has none; and C(m), that of its releases, the number of stages where it has none
+-- R(m), the stage of m's reserves, 0 where it has none
 abbrev pub reserve_stage : Pipe → ℕ → ℕ
 reserve_stage p m = unwrap_or (slice_index_or p.reserves_at m None) 0
 
@@ -119,7 +119,7 @@ abbrev pub stages_on : Pipe → List ℕ → ℕ → ℕ → ℕ
 stages_on p path zero s = 0
 stages_on p path (suc limit) s = suc (onward (stages_on p path limit) (goes_to (stage_at p s).next path))
 
--- the guards of forks
+-- the variable on which a stage forks, if it does
 abbrev pub guard_of_fork : Next → List ℕ
 guard_of_fork Ends = []
 guard_of_fork (Goes to) = []

@@ -45,7 +45,7 @@ none_told p ws e =
     let P = λ (w : r_write.Write). IsWord p w.mem w.addr w.value in
     All-same P ws [] e (All-nil P)
 
--- and those of a run that forgets what it told, where it streams
+-- where all told writes are to words that are there, those are that are left after a run that streams forgets them
 pub told_less : (p : Pipe) (streams : Bool) (ws left : List r_write.Write)
     → left ≡ (if streams then [] else ws) → AreWrites p ws → AreWrites p left
 told_less p true ws left e told = none_told p left e

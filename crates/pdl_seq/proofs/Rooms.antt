@@ -2,14 +2,14 @@
 use Rattle.std.proofs.Common.{◌≡◌, ℕ, suc, ◌+◌, ◌-◌, ◌*◌, ◌≤◌, Bool, true, false, if◌then◌else◌, arith}
 use Rattle.pdl_seq.specs.Inside.{HasRoom}
 
--- at first
+-- at first there is room for the writes of all threads, or of one where the run streams
 pub room_first : (streams : Bool) (threads told asked room : ℕ)
     → asked ≡ (if streams then 16 else 16 * threads) → told ≡ 0 → asked ≤ room → HasRoom streams told (threads - 0) room
 room_first true threads told asked room e none h = omega arith
 room_first false threads told asked room e none h = omega arith
 
 module _ (streams : Bool) (told begun left rest room n : ℕ) where
-  -- for those of the next thread
+  -- there is room for the writes of the next thread
   pub room_next : HasRoom streams told left room → left ≡ suc rest → begun ≡ (if streams then 0 else told) → n ≤ 16 → begun + n ≤ room
   room_next = at streams
     where
@@ -17,7 +17,7 @@ module _ (streams : Bool) (told begun left rest room n : ℕ) where
       at true h e none few = omega arith
       at false h e same few = omega arith
 
-  -- and for those after it
+  -- after the writes of the next thread there is room for those of the threads after it
   pub room_left : HasRoom streams told left room → left ≡ suc rest → begun ≡ (if streams then 0 else told) → n ≤ 16 → HasRoom streams (begun + n) rest room
   room_left = at streams
     where
@@ -25,7 +25,7 @@ module _ (streams : Bool) (told begun left rest room n : ℕ) where
       at true h e none few = h
       at false h e same few = omega arith
 
--- where as many are told, and there is as much room
+-- there is room where as many writes are told and there is as much room
 pub room_same : (streams : Bool) (told told' left room room' : ℕ) → HasRoom streams told' left room'
     → told ≡ told' → room ≡ room' → HasRoom streams told left room
 room_same true told told' left room room' h e f = omega arith

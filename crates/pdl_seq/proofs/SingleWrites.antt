@@ -76,7 +76,7 @@ step m ph (Verify args) r h = omega arith
 step m ph SpecCheck r h = omega arith
 step m ph SpecBarrier r h = omega arith
 
--- all of them
+-- statements in order write a memory at most as often as the phase before them leaves
 pub at_most : (m : ℕ) (xs : List Stmt) (ph : Phase) (r : Run) → phases_ok m ph xs ≡ true → count m (run_all xs r) ≤ count m r + left ph
 at_most m [] ph r h = omega arith
 at_most m (x ∷ xs) ph r h =

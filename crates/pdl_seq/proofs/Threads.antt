@@ -89,7 +89,7 @@ module _ (p : Pipe) (image : Arrays) (k n : ℕ) (is_next : n ≡ suc k) (arrays
       ∙ sym (one_more p image k)
       ∙ ap (λ i. numbered_writes 1 (threads p image i)) (sym is_next)
 
-  -- likewise where it may stream
+  -- the told writes so far, with those of the thread, are those that are told after n threads, where the run may stream
   pub told_next : (streams : Bool) (ws more : List r_write.Write) → ws ≡ told_writes streams p image k
       → more ≡ (if streams then [] else ws) ++ map (numbered_write n) r.writes → more ≡ told_writes streams p image n
   told_next false ws more told_so_far told_more = writes_next ws more told_so_far told_more

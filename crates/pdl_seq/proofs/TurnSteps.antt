@@ -51,7 +51,7 @@ typed_at f [] i x t h = absurd (omega arith)
 typed_at f (y ∷ items) zero x t h = t.0
 typed_at f (y ∷ items) (suc i) x t h = typed_at f items i x t.1 (omega arith)
 
--- and it is typed
+-- the statement at a number of a typed pipe is typed
 pub typed_next : (f : Form) (items : List r_stmt.FlatStmt) (i : ℕ) (x : r_stmt.FlatStmt)
     → stmts_view items ≡ f.pipe.stmts → AreTypedStmts f f.pipe.stmts → i < length items → x ≡ get_or items i x
     → IsTypedStmt f (stmt_view x)

@@ -65,7 +65,7 @@ few_counted (suc n) cs h =
     let one = h n in
     omega arith
 
--- at most one to each of n memories are at most n
+-- writes to n memories, at most one to each, are at most n
 pub few_writes : (n : ℕ) (cs : List Commit) → AreKnown n cs → ((m : ℕ) → length (of_mem m cs) ≤ 1) → length cs ≤ n
 few_writes n cs k h =
     let all = all_counted n cs k in

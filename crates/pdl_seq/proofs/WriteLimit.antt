@@ -73,7 +73,7 @@ module _ (f : Form) where
         let mems = run.few in
         omega arith
 
-    -- and so many are lent of it
+    -- of what a thread writes at most 16 writes are lent
     pub few_lent : (r : Run) (cs lent : List r_commit.Commit) → r ≡ thread f.pipe arrays args → commits_view cs ≡ r.writes → lent ≡ cs → length lent ≤ 16
     few_lent r cs lent ran seen is =
         let same : length (commits_view cs) ≡ length cs = length-map _ _ in

@@ -46,7 +46,7 @@ pub record AreFitting (f : Form) (r : Run) : Type 0 where
   pub next_args : AreArgs f r.next
   pub commits : AreCommits f.pipe r.writes
 
--- both
+-- words, values, arguments and writes of a turn have their numbers and their widths
 pub record IsFit (f : Form) (t : r_turn.Turn) : Type 0 where
   pub shaped : IsShaped f.pipe t.memories.items
   pub fitting : AreFitting f (run_view t)

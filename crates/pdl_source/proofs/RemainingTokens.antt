@@ -34,6 +34,6 @@ after_listed : {A : Type 0} {Rule : A → Row → Row → Type 0} {close : Mark}
 after_listed f xs a r (last x) n h = later 1 (f _ _ _ x n h)
 after_listed f xs a r (further x l) n h = after_listed f _ _ _ l n (later 1 (f _ _ _ x n h))
 
--- the arguments of a call
+-- where the arguments of a call and what comes after them stand from a byte on, so does what comes after them alone
 pub after_args : (close : Mark) (es : List Expr) (a r : Row) → Listed Full close es a r → Leaves a r
 after_args close es a r l = after_listed after_full es a r l

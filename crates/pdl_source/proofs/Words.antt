@@ -26,7 +26,7 @@ none_stand n = record { tokens = tt }
 also_stand : (n : ℕ) (t : Token) (ts : Row) → n ≤ t.span.start → HasLetters t → Stand (suc t.span.start) ts → Stand n (t ∷ ts)
 also_stand n t ts le l h = record { tokens = (le, l, h.tokens) }
 
--- what the first token tells
+-- the first token begins at byte n or later
 pub from : {n : ℕ} {t : Token} {ts : Row} → Stand n (t ∷ ts) → n ≤ t.span.start
 from h = h.tokens.0
 

@@ -166,7 +166,7 @@ module _ (ms : List Mem) (v : Option ℕ) (before : List Place) (bs : List Branc
   if_next k t (Variable y) c w i = still k t c w i
   if_next k t _ c w i = still k t c w i
 
-  -- what is asked of a statement
+  -- what the rules of calls ask of a statement after these places
   abbrev pub Asked : Stmt → Type 0
   Asked (Call sp args) = list_any is_call before ≡ false
   Asked (SpecCall sp g args) = (list_any is_call before ≡ false) × (stands_before v s ≡ true)
@@ -176,7 +176,7 @@ module _ (ms : List Mem) (v : Option ℕ) (before : List Place) (bs : List Branc
       × (list_any (is_verify_of g.name) before ≡ false) × (stands_at v s ≡ true)
   Asked _ = Unit {0}
 
-  -- a statement of which this holds makes the next thread in order, and with it the places before are as far as its operations say
+  -- a statement that keeps the rules of calls makes the next thread in order, and with it the places are as far as its operations say
   pub stood_by : (k : Making) (t : Stmt) → Asked t → Stood k before → Goes k t (ops_of ms vs t)
   stood_by k (Call sp args) a i = calls k sp args i a
   stood_by k (SpecCall sp g args) a i = guesses k sp g args i a.0 a.1

@@ -21,7 +21,7 @@ Came c def given y k earlier =
     (list_any def earlier ≡ true → (y.walk.stage ≤ k) × (on_path c (place_of y) ≡ true))
     × (given earlier ≡ true → is_delayed (place_of y) ≡ true → y.walk.stage < k)
 
--- what gives it after one place more
+-- what is given with one place more was given before, or is cut off by a separator after a place that defines it, or is defined without delay
 abbrev pub Gives : (Place → Bool) → (List Place → Bool) → Type 0
 Gives def given =
     (earlier : List Place) (x : Place) → given (earlier ++ x ∷ []) ≡ true

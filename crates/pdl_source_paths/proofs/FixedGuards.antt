@@ -15,7 +15,7 @@ use Rattle.pdl_word.proofs.Each.{each_append}
 -- PARTS OF A TEXT
 
 module _ (P Q : Stmt → Type 0) (s : ℕ) where
-  -- the statements before stage s have what follows of each of them, with its delayed read answered at once
+  -- what follows of each statement before stage s, with its delayed read answered at once, holds of all of them
   pub each_before : ((y : Stmt) → Q y → y.stage < s → P (record y { op = answered_op y.op })) → (xs : List Stmt) → Each Q xs → Each P (before s xs)
   each_before f [] h = tt
   each_before f (x ∷ xs) h = at (nat_lt x.stage s) refl (each_before f xs h.1)
@@ -24,7 +24,7 @@ module _ (P Q : Stmt → Type 0) (s : ℕ) where
       at true e k = (f x h.0 (ltb-true x.stage s e), k)
       at false e k = k
 
-  -- the statements from stage s on have what follows of each that stands there
+  -- what follows of each statement from stage s on holds of all of them
   pub each_from : ((y : Stmt) → Q y → s ≤ y.stage → P y) → (xs : List Stmt) → Each Q xs → Each P (stages_from s xs)
   each_from f [] h = tt
   each_from f (x ∷ xs) h = at (nat_le s x.stage) refl (each_from f xs h.1)
@@ -33,7 +33,7 @@ module _ (P Q : Stmt → Type 0) (s : ℕ) where
       at true e k = (f x h.0 (leb-true s x.stage e), k)
       at false e k = k
 
-  -- the statements of stage s have what follows of each that stands in it
+  -- what follows of each statement of stage s holds of all of them
   pub each_stage : ((y : Stmt) → Q y → y.stage ≡ s → P y) → (xs : List Stmt) → Each Q xs → Each P (in_stage s xs)
   each_stage f [] h = tt
   each_stage f (x ∷ xs) h = at (x.stage == s) refl (each_stage f xs h.1)

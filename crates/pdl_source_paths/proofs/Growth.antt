@@ -22,7 +22,7 @@ vars_past ms vs (DelayedRead _ x from) = vs ++ record { name = x.name; width = m
 vars_past ms vs (If _ c _ _) = if_past vs c
 vars_past ms vs _ = vs
 
--- more variables
+-- the variables are these and more
 abbrev pub Grown : List Var → List Var → Type 0
 Grown vs us = (more : List Var) × (us ≡ vs ++ more)
 
@@ -96,7 +96,7 @@ mutual
 pub grows_all : (p : Pipe) → Grows p.mems (params_of p.params) (sites_of p) (all_vars p)
 grows_all p = grows p.mems (front_of p) (at_start p) [] [] p.body
 
--- along a path
+-- where the variables grow along sites, they grow along those on a path
 pub grows_on : (ms : List Mem) (c : List Guard) (vs us : List Var) (ts : List Site) → Grows ms vs ts us → Grows ms vs (on_sites c ts) us
 grows_on ms c vs us [] h = h
 grows_on ms c vs us (t ∷ ts) h = at (on_path c (place_of t)) (grows_on ms c (vars_past ms t.walk.vars t.stmt) us ts h.1)

@@ -26,7 +26,7 @@ use Rattle.pdl_semantics.specs.Sound.{is_fetch}
 use Rattle.pdl_word.specs.Each.{Each}
 use Rattle.pdl_word.proofs.Each.{each_weaker}
 
--- all that is known of a site
+-- all that is known of a site: its place in the text, what settles the names that it uses, and its guards
 pub record Told (p : Pipe) (t : Site) : Type 0 where
   pub known : Known p t
   pub settled : Settled p t
@@ -93,7 +93,7 @@ none_later ms i vs us (t ∷ ts) h low =
         by false f = refl
 
 module _ (p : Pipe) (rules : KeepsRules p) (apart : are_apart (places p) ≡ true) (named : list_any (defines_use (OfVariable [])) (places p) ≡ false) where
-  -- all that is known of a site is so of each site of the source
+  -- each site of the source is known, has its names settled and its guards bound
   pub all_told : All (Told p) (sites_of p)
   all_told =
       all_both (Known p) (λ t. Settled p t × AllGuards (Guarded p t) t.gs) (Told p)

@@ -80,6 +80,6 @@ taken_for n (g ∷ gs) low h =
     (get_or-set_same (values_for n gs) g.var (truth_of g.first) 0 (omega arith)))
     (still_taken g gs (values_for n gs) (omega arith) parts.0 (taken_for n gs (omega arith) parts.1))
 
--- so they are taken on some path
+-- guards none of which is against another are taken on some path
 pub some_path : (gs : List Guard) → is_dead gs ≡ false → (env : List ℕ) × (all_hold gs env ≡ true)
 some_path gs h = (values_for (above gs) gs, taken_for (above gs) gs (let i : above gs ≤ above gs = omega arith in i) h)

@@ -6,7 +6,7 @@ use Rattle.pdl_rules.specs.Places.{Place}
 use Rattle.pdl_source_paths.specs.Source.{begins_at, own_start, is_new, are_apart}
 use Rattle.pdl_source_paths.proofs.FlatPaths.{starts_there}
 
--- from byte n on
+-- a place that has a byte has one from byte n on, and what comes after it begins later
 abbrev pub Next : ℕ → Option ℕ → (ℕ → Type 0) → Type 0
 Next n None R = R n
 Next n (Some k) R = (n ≤ k) × R (suc k)

@@ -111,12 +111,12 @@ inside_along p q (t ∷ ts) h =
 abbrev Since : Pipe → Flat.Pipe → ℕ → List Place → Type 0
 Since p q k before = (m : List ℕ) → is_memory p.mems m ≡ true → list_any (reserves_memory m) before ≡ true → reserve_stage q (mem_of p.mems m) ≤ k
 
--- what the rules of calls and guesses ask of each
+-- each of these sites keeps what the rules of calls and guesses ask of it after the places before it
 abbrev pub AllAsked : Pipe → Option ℕ → List Place → List Site → Type 0
 AllAsked p v before [] = Unit {0}
 AllAsked p v before (t ∷ ts) = Asked p.mems v before t.branches t.walk.vars t.walk.stage t.stmt × AllAsked p v (before ++ place_of t ∷ []) ts
 
--- and what the rule of releases asks
+-- each of these sites keeps what the rule of releases asks of it after the places before it
 abbrev pub AllSure : Option ℕ → List Place → List Site → Type 0
 AllSure v before [] = Unit {0}
 AllSure v before (t ∷ ts) = (stands_before v t.walk.stage ≡ true → releases_unsure before (place_of t) ≡ false) × AllSure v (before ++ place_of t ∷ []) ts

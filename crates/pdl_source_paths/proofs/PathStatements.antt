@@ -103,7 +103,7 @@ one_path path k gs false e (op ∷ os) =
     (onpath path (looked_all (stmts_at k gs os)))) e
     ∙ one_path path k gs false e os
 
--- what stands on a path
+-- the statements on a path are those of the sites that the path of the rules leads through
 pub path_is : (ms : List Mem) (path : List ℕ) (c : List Guard) (ts : List Site) → All (Alike path c) ts
     → onpath path (looked_all (owns ms ts)) ≡ seen ms (on_sites c ts)
 path_is ms path c [] h = refl

@@ -118,6 +118,6 @@ module _ (p : Pipe) (rules : KeepsRules p) (apart : are_apart (places p) ≡ tru
     fetch_inside = facts.fetch_inside;
   }
 
--- of a source
+-- the flat form of an accepted source has all facts of a pipe, where no variable has an empty name
 pub of_source : (p : Pipe) → KeepsRules p → is_source p ≡ true → is_named p ≡ true → Sound (flat p)
 of_source p rules source names = sound p rules source (not-true (list_any (defines_use (OfVariable [])) (places p)) names)

@@ -46,7 +46,7 @@ module _ (p : Pipe) (l : Location) where
       by false f = inl e
   still_open h _ bs e = inl e
 
-  -- its memory's releases stand no earlier
+  -- where a location isn't released yet on a path, the releases of its memory stand no earlier than the stage that the path is in
   pub released_after : (commit k end : ℕ) (before : List Place) (ts : List Site) → Rises k ts end
       → Each (KeepsLocks p) before (map place_of ts ++ closing p) → is_unreleased (hold_after l before) ≡ true
       → All (λ t. releases_memory l.mem.name (place_of t) ≡ true → t.walk.stage ≡ commit) ts → k ≤ commit

@@ -368,7 +368,7 @@ module _ (p : Pipe) (vs : List Var) (before : List Place) (c : Scan) (s : Span) 
 
 -- ALL STATEMENTS
 
--- more variables change nothing
+-- a scan of reads that is right with some variables is right with more
 pub scanned_grown : (p : Pipe) (vs us : List Var) (before : List Place) (c : Scan) → Grown vs us → Scanned p vs before c
     → Scanned p us before c
 scanned_grown p vs us before c g k = subst (λ ws. Scanned p ws before c) (sym g.1) (record {
@@ -388,7 +388,7 @@ scanned_grown p vs us before c g k = subst (λ ws. Scanned p ws before c) (sym g
     longer : (y : ℕ) → length (vs ++ g.0) ≤ y → length vs ≤ y
     longer y h = let e = length-append vs g.0 in omega arith
 
--- what a list of statements of one stage leaves of a scan, and whether it passes
+-- what operations of one stage leave of a scan
 abbrev pub opens_ops : List Flat.Op → Scan → Scan
 opens_ops [] c = c
 opens_ops (op ∷ os) c = opens_ops os (scan_after (answered_op op) c)

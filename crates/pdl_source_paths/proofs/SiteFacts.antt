@@ -82,6 +82,7 @@ given_more u (d ∷ ds) ys e =
     (λ t. or_right (defines_use u d && (not (is_delayed d) || list_any is_separator (ds ++ ys))) _ (given_more u ds ys t))
     (or_cases (defines_use u d && (not (is_delayed d) || list_any is_separator ds)) (is_given ds u) e)
 
+-- `is_given` tells with one place more what was given before, what a separator now follows, or what the place defines without delay
 pub use_gives : (u : Use) → Gives (defines_use u) (λ l. is_given l u)
 use_gives u [] x e =
     let some = ⊎_elim (λ t. t) (λ t. absurd (false≢true t)) (or_cases (defines_use u x && (not (is_delayed x) || false)) false e) in
@@ -141,7 +142,7 @@ bound_name ms vs _ i e = absurd (false≢true e)
 abbrev pub Bounds : List ℕ → Site → Site → Type 0
 Bounds env y t = (y.walk.stage ≤ t.walk.stage) × (all_hold y.gs env ≡ true) × (is_delayed (place_of y) ≡ true → y.walk.stage < t.walk.stage)
 
--- a site that binds this name; one that is an `if` on an expression which begins here
+-- the values of a path, and a site that binds this name
 pub record Defined (p : Pipe) : Type 0 where
   pub env : List ℕ
   pub name : List ℕ

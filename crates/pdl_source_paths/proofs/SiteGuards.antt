@@ -100,7 +100,7 @@ module _ (p : Pipe) (rules : KeepsRules p) (named : list_any (defines_use (OfVar
       ∙ given_more (OfVariable n) (filter (on_path (way p env)) front) (filter (on_path (way p env)) more)
       (given_at env front later x n early (no_parameter p rules n y k it) on))
 
-  -- of the site itself
+  -- what binds a variable that the site itself uses is bound on each path through the site, early enough
   pub used_here : (t y : Site) → Known p t → Settled p t → Known p y → (n : List ℕ) → is_too_early p t.front (place_of t) (OfVariable n) ≡ false
       → (env : List ℕ) → is_separator (place_of t) ≡ false → all_hold t.gs env ≡ true
       → from_op (binds_var (var_of t.walk.vars n)) (op_of p.mems y.walk.vars y.stmt) ≡ true → Bounds env y t

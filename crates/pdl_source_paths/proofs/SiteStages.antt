@@ -56,7 +56,7 @@ first_not : (test : Place → Bool) (before xs : List Place) (x : Place)
     → test x ≡ false → first_stage test before (x ∷ xs) ≡ first_stage test (before ++ x ∷ []) xs
 first_not test before xs x e = ap (λ b. if b then Some (stage_of before x) else first_stage test (before ++ x ∷ []) xs) e
 
--- what passes none is skipped
+-- the first place that passes a test is looked for after places that fail it
 pub first_skip : (test : Place → Bool) (before xs ys : List Place)
     → list_any test xs ≡ false → first_stage test before (xs ++ ys) ≡ first_stage test (before ++ xs) ys
 first_skip test before [] ys e = ap (λ l. first_stage test l ys) (sym (append-nil before))

@@ -48,7 +48,7 @@ pub verify_looked : (xs : List Flat.Stmt) → verify_stage (looked_all xs) ≡ v
 verify_looked [] = refl
 verify_looked (x ∷ xs) = ap₂ (λ a b. if a then Some x.stage else b) (verify_blind x.op) (verify_looked xs)
 
--- where delayed reads are answered at once there are none
+-- no statement is a delayed read where delayed reads are answered at once
 pub unfetched : (xs : List Flat.Stmt) → none_of is_fetch (looked_all xs) ≡ true
 unfetched [] = refl
 unfetched (x ∷ xs) = and_from _ _ (here x.op) (unfetched xs)

@@ -73,7 +73,7 @@ in_exprs vs x (e ∷ es) h =
     (λ t. let r = in_exprs vs x es t in (r.0, r.1, λ test k. or_right (some_part (reads_some test) e) (list_any (some_part (reads_some test)) es) (r.2 test k)))
     (or_cases (uses_in x (flat_expr vs e)) (uses_any x (flat_exprs vs es)) h)
 
--- so at a statement: it binds the variable, or uses its name
+-- a statement binds the variable of this number, or uses the name that has this number
 abbrev pub AtStmt : List Var → ℕ → Stmt → Type 0
 AtStmt vs x s =
     (length vs ≡ x)

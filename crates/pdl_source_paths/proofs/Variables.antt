@@ -63,7 +63,7 @@ param_in x [] e = absurd (false≢true e)
 param_in x (a ∷ ps) e =
     ⊎_elim (λ t. or_left _ _ (bytes_sym x a.name.name t)) (λ t. or_right (bytes_eq a.name.name x) _ (param_in x ps t)) (or_cases (bytes_eq x a.name.name) _ e)
 
--- BEHIND THE MEMORIES
+-- AFTER THE MEMORIES
 
 -- these places begin with the parameters and memories of the source
 abbrev pub After : Pipe → List Place → Type 0
@@ -159,7 +159,7 @@ all_here p = go (sites_of p) (all_stand p) (all_at p) (all_after p)
     go [] a b c = tt
     go (t ∷ ts) a b c = (record { later = a.0.0; whole = a.0.1; at = b.0; after = c.0 }, go ts a.1 b.1 c.1)
 
--- its location is there
+-- the memory and the address of a site's location are there
 pub located : (p : Pipe) → KeepsRules p → (t : Site) → Here p t → (at : Location)
     → location_of t.stmt ≡ Some at → IsNamed p.mems t.walk.vars at
 located p rules t h at e = (

@@ -67,7 +67,7 @@ all_in_text p = in_text p.mems (front_of p) (at_start p) [] [] p.body
 
 -- ON A PATH
 
--- and these places are those before it on the path
+-- these sites stand on a path one after the other, and what the path has before each are these places and the sites before it
 abbrev pub OnPath : List Guard → List Place → List Site → Type 0
 OnPath c earlier [] = Unit {0}
 OnPath c earlier (t ∷ ts) = (filter (on_path c) t.front ≡ earlier) × (on_path c (place_of t) ≡ true) × OnPath c (earlier ++ place_of t ∷ []) ts
@@ -146,12 +146,12 @@ module _ (p : Pipe) (rules : KeepsRules p) (v : Guard → Bool) where
     l7 = unbroken_on (λ earlier. ends_open earlier x) p v before x (rules L7 before x later e) on;
   }
 
-  -- calls
+  -- no place on a path is a wrong call after the places before it on the path
   pub calls_right : (before later : List Place) (x : Place) → places p ≡ before ++ x ∷ later → on_path c x ≡ true
       → is_wrong_call (filter (on_path c) before) x ≡ false
   calls_right before later x e on = unbroken_on (λ earlier. is_wrong_call earlier x) p v before x (rules S1 before x later e) on
 
-  -- of each site on the path, and after the last one
+  -- each place of the sites on a path keeps the rules of locks with those before it, where what comes after the last one does
   pub each_keeps : (earlier : List Place) (ts : List Site) → OnPath c earlier ts → All (Here p) ts
       → Each (KeepsLocks p) (earlier ++ map place_of ts) (closing p)
       → Each (KeepsLocks p) earlier (map place_of ts ++ closing p)

@@ -298,7 +298,7 @@ module _ (p : Pipe) (vs : List Var) (before : List Place) (m : List ℕ) (there 
 
 -- ALL STATEMENTS
 
--- more variables change nothing
+-- a write to m that stands so with some variables stands so with more
 pub stands_grown : (vs us : List Var) (before : List Place) (m : List ℕ) (ph : Phase) → Grown vs us
     → Stands vs before m ph → Stands us before m ph
 stands_grown vs us before m ph g s = subst (λ ws. Stands ws before m ph) (sym g.1) (by ph s)
@@ -319,7 +319,7 @@ stands_grown vs us before m ph g s = subst (λ ws. Stands ws before m ph) (sym g
     by (Written x) t = (more x t.0, t.1, t.2)
     by Done t = t
 
--- the phase after a list of statements, and whether they pass
+-- the phase after these operations
 abbrev pub phase_ops : ℕ → Phase → List Flat.Op → Phase
 phase_ops m ph [] = ph
 phase_ops m ph (op ∷ os) = phase_ops m (next_phase m ph (answered_op op)) os

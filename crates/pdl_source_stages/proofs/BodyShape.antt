@@ -32,7 +32,7 @@ mutual
       length-append (with_inner bs s) (statements bs ss) ∙ ap₂ (λ a b. a + b) (long_in bs cs s) (long_all bs cs ss)
       ∙ sym (length-append (with_inner cs s) (statements cs ss))
 
--- what lies after a place
+-- the places after those before a place and it are the later ones
 pub after_is : (p : Pipe) (before : List Place) (x : Place) (later : List Place)
     → places p ≡ before ++ x ∷ later → places_after p before ≡ later
 after_is p before x later e =
@@ -143,7 +143,7 @@ module _ (p : Pipe) (rules : KeepsRules p) where
   forked_body (Cons s ss) front e =
       forked_body ss (front ++ Statement s [] ∷ []) (e ∙ sym (append_assoc front (Statement s [] ∷ []) (statements [] ss ++ closing p)))
 
-  -- F2
+  -- F2: each fork in the body of a source that breaks no rule is in form
   pub body_forked : is_forked p.body ≡ true
   body_forked = forked_body p.body (front_of p) (append_assoc (front_of p) (statements [] p.body) (closing p))
 

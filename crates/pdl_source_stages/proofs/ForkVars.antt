@@ -151,7 +151,7 @@ pub empty_path : (test : List Guard → Bool) (gs : List Guard) → list_any tes
 empty_path test [] e = (or_parts (test []) false e).0
 empty_path test (g ∷ gs) e = empty_path test gs (or_parts (list_any test (choices gs)) _ (sym (list_any-append test (choices gs) _) ∙ e)).0
 
--- what a place gives, and none of these defines
+-- places none of which defines something give it on no path
 none_given : (u : Use) (test : Place → Bool) (xs : List Place) → list_any (defines_use u) xs ≡ false → is_given (filter test xs) u ≡ false
 none_given u test [] e = refl
 none_given u test (x ∷ xs) e = at (test x) (none_given u test xs parts.1)
@@ -163,7 +163,7 @@ none_given u test (x ∷ xs) e = at (test x) (none_given u test xs parts.1)
     at true k = ap (λ d. (d && (not (is_delayed x) || list_any is_separator (filter test xs))) || is_given (filter test xs) u) parts.0 ∙ k
     at false k = k
 
--- so a delayed read that alone gives it has a separator after it
+-- where a delayed read is the only place that defines something which is given, a separator stands after it
 pub given_after : (u : Use) (test : Place → Bool) (xs : List Place) (d : Place) (m : List Place)
     → is_delayed d ≡ true → list_any (defines_use u) xs ≡ false → list_any (defines_use u) m ≡ false
     → is_given (filter test (xs ++ d ∷ m)) u ≡ true → list_any is_separator m ≡ true
@@ -215,6 +215,7 @@ variable_name x (StartClause s) e = absurd (false≢true e)
 
 -- N2: once a place has a name, no place after it defines it, nor does one before
 module _ (p : Pipe) (rules : KeepsRules p) (x : List ℕ) where
+  -- no place before one that has the name has it
   pub once_before : (before : List Place) (d : Place) (later : List Place) → places p ≡ before ++ d ∷ later
       → name_at d ≡ Some x → list_any (λ y. is_some_and (bytes_eq x) (name_at y)) before ≡ false
   once_before before d later e f =
@@ -236,7 +237,7 @@ module _ (p : Pipe) (rules : KeepsRules p) (x : List ℕ) where
       at true g k = absurd (false≢true (sym (once_before before d (m ++ later) e (variable_name x d g)) ∙ f))
       at false g k = k
 
-  -- what defines has the name
+  -- places of which none has a name define no variable of that name
   pub no_name : (ds : List Place) → list_any (λ y. is_some_and (bytes_eq x) (name_at y)) ds ≡ false
       → (text : bytes_eq x x ≡ true) → list_any (defines_use (OfVariable x)) ds ≡ false
   no_name [] e t = refl

@@ -207,7 +207,7 @@ module _ (p : Pipe) (rules : KeepsRules p) where
   mems_long [] = refl
   mems_long (m ∷ ms) = ap suc (mems_long ms)
 
-  -- N1
+  -- N1: a number that no memory has is reserved by no statement
   pub unreserved : (m : ℕ) → length (flat p).mems ≤ m → none_of (is_reserve m) (flat p).stmts ≡ true
   unreserved m l =
       none_each (is_reserve m) (flat p).stmts
@@ -263,7 +263,7 @@ module _ (p : Pipe) (rules : KeepsRules p) where
       (sites_of p) (all_fine p rules)
       (one_stage p rules is_verify Speculation.is_verify (λ a. refl) (λ m. refl) verify_alike verify_elsewhere))
 
-  -- all verifies stand in V
+  -- all verifies of a source that breaks no rule stand in V
   pub verifies_in : (v : ℕ) → verify_stage (flat p).stmts ≡ Some v → all_at is_verify v (flat p).stmts ≡ true
   verifies_in v e =
       all_at_each is_verify v (flat p).stmts

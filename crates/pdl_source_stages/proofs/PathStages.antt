@@ -205,7 +205,7 @@ visits_from p env ms k merges w (Cons (If sp c when otherwise) ss) i h g fuel l 
     ∙ ap (λ r. k ∷ (r ++ begun_by env ms ss (past ms (If sp c when otherwise) w))) (sym (none_begun_in env ms (If sp c when otherwise) w none))
 visits_from p env ms k merges w (Cons s ss) i h g fuel l = visits_from p env ms k merges (past ms s w) ss i h g fuel (omega arith)
 
--- of a whole source
+-- a path visits stage 0 and then the stages that the separators on it begin
 pub visits_all : (p : Pipe) → KeepsRules p → (env : List ℕ)
     → visited_stages (flat p) env (length (flat p).stages) 0 ≡ 0 ∷ begun_by env p.mems p.body (at_start p)
 visits_all p rules env =

@@ -9,7 +9,7 @@ use Rattle.pdl_source_stages.proofs.Walks.{past_begun, past_all_begun, guard_beg
 
 -- BODIES
 
--- whether some statements begin no stage
+-- whether two lists of statements begin no stage
 abbrev pub is_whole : Stmts → Stmts → Bool
 is_whole when otherwise = separators when + separators otherwise == 0
 

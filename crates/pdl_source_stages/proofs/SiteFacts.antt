@@ -63,7 +63,7 @@ stage_count p h = let e = stages_from (flat p) p.mems 0 None (at_start p) p.body
 
 -- AT EACH SITE
 
--- a site stands in the text after its front, what holds at each site holds there, and its stage is one of the pipe's
+-- a site stands in the text after its front, which tells its stages, variables and guards, and its stage is one of the pipe's
 pub record Fine (p : Pipe) (t : Site) : Type 0 where
   pub later : List Place
   pub whole : places p ≡ t.front ++ place_of t ∷ later
@@ -129,11 +129,11 @@ abbrev pub from_op : (Flat.Op → Bool) → Option Flat.Op → Bool
 from_op test None = false
 from_op test (Some op) = test op
 
--- the flat statement of a site that does this
+-- the flat statement that has this operation at a site
 abbrev pub row_at : Site → Flat.Op → Flat.Stmt
 row_at t op = record { stage = t.walk.stage; guards = t.gs; op = op }
 
--- it holds of each where it holds of each site's
+-- a property holds of the flat statement of a site, if the site has one
 abbrev pub AtSite : (Flat.Stmt → Type 0) → List Mem → Site → Type 0
 AtSite P ms t = (op : Flat.Op) → op_of ms t.walk.vars t.stmt ≡ Some op → P (row_at t op)
 
@@ -153,7 +153,7 @@ each_owns P ms (t ∷ ts) h =
 pub each_stmt : (p : Pipe) (P : Flat.Stmt → Type 0) → All (AtSite P p.mems) (sites_of p) → Each P (flat p).stmts
 each_stmt p P h = subst (Each P) (sym (stmts_are p)) (each_owns P p.mems (sites_of p) h)
 
--- and of each site that breaks no rule
+-- what holds of the flat statement of each site of a source that breaks no rule holds of each flat statement of the source
 pub each_fine : (p : Pipe) → KeepsRules p → (P : Flat.Stmt → Type 0) → ((t : Site) → Fine p t → AtSite P p.mems t) → Each P (flat p).stmts
 each_fine p rules P f = each_stmt p P (all_map (Fine p) (AtSite P p.mems) f (sites_of p) (all_fine p rules))
 
@@ -169,12 +169,12 @@ all_at_each test s (y ∷ ys) h = and_from (not (test y.op) || (y.stage == s)) (
     at true e = eq-eqb y.stage s (h.0 e)
     at false e = refl
 
--- no statement passes the test
+-- where each statement fails the test, none passes it
 pub none_each : (test : Flat.Op → Bool) (ys : List Flat.Stmt) → Each (λ y. test y.op ≡ false) ys → none_of test ys ≡ true
 none_each test [] h = refl
 none_each test (y ∷ ys) h = and_from (not (test y.op)) (none_of test ys) (ap not h.0) (none_each test ys h.1)
 
--- the statements of a stage
+-- what holds of each statement that stands in stage s holds of each statement of that stage
 pub each_in_stage : (P : Flat.Stmt → Type 0) (s : ℕ) (ys : List Flat.Stmt) → Each (λ y. y.stage ≡ s → P y) ys → Each P (in_stage s ys)
 each_in_stage P s [] h = tt
 each_in_stage P s (y ∷ ys) h = at (y.stage == s) refl (each_in_stage P s ys h.1)

@@ -20,6 +20,7 @@ use Rattle.pdl_source_stages.proofs.BodyShape.{body_groups}
 
 -- what holds of the stage where some statements begin, and of those that begin in them, holds of each site's stage
 mutual
+  -- a property of the stage where a statement begins, and of those that begin in it, holds of the stage of each of its sites
   pub stages_in : (Good : ℕ → Type 0) (ms : List Mem) (front : List Place) (w : Flatten.Position) (gs : List Flat.Guard) (bs : List Branch) (s : Stmt)
       → Good w.stage → ((n : ℕ) → w.begun < n → n ≤ w.begun + separators_in s → Good n) → All (λ t. Good t.walk.stage) (sites_in ms front w gs bs s)
   stages_in Good ms front w gs bs (If sp c when otherwise) here more =
@@ -247,6 +248,6 @@ stands p ms k merges front w (Cons s ss) e i h g = (
   stands p ms k merges (front ++ with_inner [] s) (past ms s w) ss e i h g,
 )
 
--- each site of a source
+-- each site of a source stands in a trunk stage, or in a branch under its guard
 pub all_standing : (p : Pipe) → is_forked p.body ≡ true → All (Standing (flat p)) (sites_of p)
 all_standing p h = stands (flat p) p.mems 0 None (front_of p) (at_start p) p.body refl refl h (body_groups p h)

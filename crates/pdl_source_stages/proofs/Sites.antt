@@ -23,8 +23,9 @@ branch sp c truth inside = record { guard = guard_of sp c; truth = truth; inside
 abbrev pub site : List Place → Flatten.Position → List Flat.Guard → List Branch → Stmt → Site
 site front w gs bs s = record { front = front; walk = w; gs = gs; branches = bs; stmt = s }
 
--- the sites of a statement, and of some
+-- the sites of statements, in text order
 abbrev mutual
+  -- the sites of a statement and of what stands inside it
   pub sites_in : List Mem → List Place → Flatten.Position → List Flat.Guard → List Branch → Stmt → List Site
   sites_in ms front w gs bs (If sp c when otherwise) =
       site front w gs bs (If sp c when otherwise)
@@ -33,12 +34,12 @@ abbrev mutual
       (at_otherwise ms c when w) (under gs w.vars c false) (bs ++ branch sp c false otherwise ∷ []) otherwise)
   sites_in ms front w gs bs s = site front w gs bs s ∷ []
 
-  -- the sites of statements one after the other, each behind the places of those before it
+  -- the sites of statements one after the other, each after the places of those before it
   pub sites : List Mem → List Place → Flatten.Position → List Flat.Guard → List Branch → Stmts → List Site
   sites ms front w gs bs Nil = []
   sites ms front w gs bs (Cons s ss) = sites_in ms front w gs bs s ++ sites ms (front ++ with_inner bs s) (past ms s w) gs bs ss
 
--- the places before the statements of a source, and its sites
+-- the places before the statements of a source
 abbrev pub front_of : Pipe → List Place
 front_of p = map Parameter p.params ++ map Memory p.mems
 
@@ -58,6 +59,7 @@ map_append f (x ∷ xs) ys = ap (λ l. f x ∷ l) (map_append f xs ys)
 
 -- the sites are the statements' places, in text order
 mutual
+  -- the places of the sites of a statement are its place and those of what stands inside it
   pub places_in : (ms : List Mem) (front : List Place) (w : Flatten.Position) (gs : List Flat.Guard) (bs : List Branch) (s : Stmt)
       → map place_of (sites_in ms front w gs bs s) ≡ with_inner bs s
   places_in ms front w gs bs (If sp c when otherwise) =
@@ -185,6 +187,6 @@ mutual
 pub all_stand : (p : Pipe) → All (Stands (places p)) (sites_of p)
 all_stand p = stands_all (places p) p.mems (front_of p) (at_start p) [] [] p.body (closing p) (append_assoc (front_of p) (statements [] p.body) (closing p))
 
--- and the flat statements are those of the sites
+-- the flat statements of a source are those of its sites
 pub stmts_are : (p : Pipe) → (Flatten.flat p).stmts ≡ owns p.mems (sites_of p)
 stmts_are p = sym (owns_all p.mems (front_of p) (at_start p) [] [] p.body)

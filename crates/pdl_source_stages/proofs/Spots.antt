@@ -262,7 +262,7 @@ inside_of p spots c s h = at (cases_lt s (length p.stages))
     at (inl l) = by (spots s l)
     at (inr l) = absurd (not_trunk p c s (ap (λ (y : Flat.Stage). y.branch) (past_trunk p s l)) h)
 
--- a fork has one form
+-- the branches of a fork have one length each, however the fork is described
 pub fork_same : (p : Flat.Pipe) (f x a b y c d : ℕ) → Forked p f x a b → Forked p f y c d → (a ≡ c) × (b ≡ d)
 fork_same p f x a b y c d k l =
     let one = no_less p f x a b y c d k l in

@@ -72,7 +72,7 @@ from_none begun found bs (x ∷ xs) e = at (is_separator x) refl (from_none begu
     at true f k = absurd (let g = cut_append (x ∷ []) xs in let h : cut (x ∷ []) ≡ 1 = ap (λ b. 0 + cond b 1 0) f in omega arith)
     at false f k = k (let g = cut_append (x ∷ []) xs in omega arith)
 
--- nor where all separators stand in other branches
+-- where all separators stand in other branches nothing new is found
 mutual
   skip_in : (begun found : ℕ) (cs : List Branch) (b : Branch) (bs : List Branch) (s : Stmt)
       → ((xs : List Branch) → are_outer (b ∷ xs) cs ≡ false) → stage_from begun found cs (with_inner (b ∷ bs) s) ≡ found
@@ -259,6 +259,6 @@ body_staged ms front w (Cons s ss) h b r = (
   body_staged ms (front ++ with_inner [] s) (past ms s w) ss h (begun_passes ms front w [] s b) (reads_none front (with_inner [] s) [] w.stage refl r),
 )
 
--- each site of a source
+-- each site of a source stands in the stage that the text before it tells
 pub all_staged : (p : Pipe) → is_forked p.body ≡ true → All Staged (sites_of p)
 all_staged p h = body_staged p.mems (front_of p) (at_start p) p.body h (at_front p).begun (λ cs. from_none 0 0 cs (front_of p) (sym (at_front p).begun))

@@ -342,7 +342,7 @@ under_push front gs bs x u k e = record {
 
 -- ALL TOGETHER
 
--- what holds at each site
+-- what holds at each site: the places before it tell how many stages have begun, which variables there are, and which guards
 pub record At (front : List Place) (w : Flatten.Position) (gs : List Flat.Guard) (bs : List Branch) : Type 0 where
   pub begun : Begun front w
   pub named : Named front w

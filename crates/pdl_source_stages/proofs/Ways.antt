@@ -59,7 +59,7 @@ way p s env (Line n t u m l) = Steps t u m l (ap (λ n. goes_to n env) n)
 way p s env (AtFork x a b k) = fork_way p s env x a b k
 way p s env (Inner f x a b first d j k e i) = inner_way p s env f x a b first d j k e i
 
--- where branches lie
+-- a branch begins no earlier than its fork
 pub start_low : (f a : ℕ) (first : Bool) → f ≤ start f a first
 start_low f a true = omega arith
 start_low f a false = omega arith
@@ -85,7 +85,7 @@ module _ (p : Flat.Pipe) (spots : (s : ℕ) → s < length p.stages → Spot p s
   no_trunk : (f x a b r : ℕ) → Forked p f x a b → f < r → r < merge_at f a b → Trunk p r → ⊥
   no_trunk f x a b r k low high t = let h = between_in p f x a b r k low high in not_trunk p _ r t h.5
 
-  -- where a thread goes
+  -- a thread goes to a later stage, or leaves the last one
   pub up_inside : (s : ℕ) (env : List ℕ) → s < length p.stages → (s < next_of p s env) × (next_of p s env ≤ length p.stages)
   up_inside s env low = at (go s env low)
     where

@@ -17,6 +17,7 @@ visited_stages p env (suc limit) s = s ∷ onward (visited_stages p env limit) (
 
 -- the stages that the separators of a path begin, in text order: the k-th separator of the text begins stage k
 abbrev mutual
+  -- the stages that the separators of a path begin in a statement, in text order
   pub begun_in : List ℕ → List Mem → Stmt → Position → List ℕ
   begun_in env ms (Separator _) w = suc w.begun ∷ []
   begun_in env ms (CombRead _ _ _) w = []

@@ -6,11 +6,11 @@ use Rattle.pdl_rules_walk.specs.declared.both.Both.{Both}
 use Rattle.pdl_locks.specs.Facts.{IsLine}
 use Rattle.pdl_spec.specs.declared.lines.SpecLines.{SpecLines}
 
--- those of S1 and S2, S4 and S5
+-- the lines of S1 and S2, and those of S4 and S5
 abbrev pub Lines : Type 0
 Lines = Both (Both (Option ℕ) (Option ℕ)) (Both (Option ℕ) (Option ℕ))
 
--- each by its name
+-- the lines of the four rules, each by its name
 abbrev pub named_lines : Lines → SpecLines
 named_lines lines = record {
   one_call = lines.first.first;
@@ -19,7 +19,7 @@ named_lines lines = record {
   checked_first = lines.second.second;
 }
 
--- they are those at which the pipe breaks the rules
+-- the lines of the four rules are those at which the pipe breaks them
 pub record AreLines (p : Pipe) (lines : SpecLines) : Type 0 where
   pub one_call : IsLine p S1 lines.one_call
   pub verified_once : IsLine p S2 lines.verified_once

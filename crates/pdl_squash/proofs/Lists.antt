@@ -14,7 +14,7 @@ use Rattle.pdl_squash.specs.declared.SquashPorts.{SquashPorts}
 use Rattle.pdl_squash.specs.Laws.{SquashSignals, squash_signals, AreBits, net_at, signal_at}
 use Rattle.pdl_squash.specs.Nets.{MeanFrom, squash_signal, removed_signal, none_signal, clear_signal}
 
--- nets stay there, and bits
+-- n nets of 1 bit stay there while the circuit grows
 pub bits_kept : (a b : Circuit) (nets : List Net) (n : ℕ) → AreBits a nets n → Extends a b → AreBits b nets n
 bits_kept a b nets n h e = record {
   count = h.count;
@@ -155,7 +155,7 @@ pub record Alike (f g : SquashSignals) : Type 0 where
   pub moves : f.moves ≡ g.moves
   pub fails : f.fails ≡ g.fails
 
--- it is where more is added
+-- what a squash goes by is the same in a circuit to which more is added
 pub signals_alike : (a b : Circuit) (p : SquashPorts)
     → p.stage < length p.valid → AreBits a p.valid (length p.valid) → IsThere a p.moves → IsThere a p.fails
     → Extends a b → Alike (squash_signals b p) (squash_signals a p)

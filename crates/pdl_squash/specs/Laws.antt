@@ -9,7 +9,7 @@ use Rattle.pdl_net.specs.Meaning.{signal}
 use Rattle.pdl_net.specs.HasWidth.{HasWidth}
 use Rattle.pdl_squash.specs.declared.SquashPorts.{SquashPorts}
 
--- the k-th of some nets, and its signal
+-- the k-th of some nets
 abbrev pub net_at : List Net → ℕ → Net
 net_at nets k = slice_index_or nets k (Input 0)
 

@@ -45,7 +45,7 @@ pub longest_same : (p : Pipe) (path : List ℕ) (xs : List ℕ) → longest (of_
 longest_same p path [] = stages_same p path (length p.stages) 0
 longest_same p path (x ∷ xs) = ap₂ max (longest_same p (set path x 0) xs) (longest_same p (set path x 1) xs)
 
--- one stage more
+-- with this stage counted, as many are counted in all from the next stage on
 pub stage_passed : (p : Pipe) (path : List ℕ) (count limit stage next whole : ℕ)
     → count < limit → goes_to (stage_at p stage).next path ≡ Some next
     → count + stages_on p path (limit - count) stage ≡ whole

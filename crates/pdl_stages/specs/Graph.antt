@@ -38,7 +38,7 @@ pub record Graph : Type 0 where
 abbrev pub of_stages : List Stage → Flat.Pipe
 of_stages ss = record { vars = 0; mems = []; stmts = []; stages = ss; start = []; reserves_at = []; releases_at = [] }
 
--- the graph of a pipe whose places stand in these stages, and of one with these places
+-- the graph of a pipe whose places stand in these stages
 abbrev pub graph_with : Flat.Pipe → List ℕ → Graph
 graph_with p places =
     record {

@@ -13,7 +13,7 @@ use Rattle.pdl_syntax_cursor.specs.Looks.{is_place, begins_place}
 pub within_parts : (c : LimitCounts) → is_within c ≡ true → (c.brackets ≤ 64) × (c.operators ≤ 256)
 within_parts c e = grind (arith, nat_tests)
 
--- a token that isn't counted
+-- a token that isn't counted leaves the counts as they are
 pub kept : (c : LimitCounts) → c ≡ cond (is_within c) c c
 kept c = go (is_within c)
   where
@@ -46,7 +46,7 @@ pub some_head : (c : LimitCounts) (ts : Row) (t : Token) → Some t ≡ first ts
 some_head c [] t e = cc
 some_head c (u ∷ ts) t e = let k : t ≡ u = cc in rw k refl
 
--- where there are none
+-- where there is no token, the row is empty
 pub none_head : (c : LimitCounts) (ts : Row) → None ≡ first ts → headed_row c ts ≡ []
 none_head c [] e = refl
 none_head c (u ∷ ts) e = cc

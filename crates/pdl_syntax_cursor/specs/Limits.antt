@@ -28,11 +28,11 @@ is_operator mark.ZeroExtend = true
 is_operator mark.SignExtend = true
 is_operator _ = false
 
--- one more open bracket
+-- the counts with one more open bracket
 abbrev pub after_open : LimitCounts → LimitCounts
 after_open c = record { brackets = c.brackets + 1; in_body = c.in_body; operators = c.operators }
 
--- one less
+-- the counts with one open bracket less
 abbrev pub after_close : LimitCounts → LimitCounts
 after_close c = record { brackets = c.brackets - 1; in_body = c.in_body; operators = c.operators }
 

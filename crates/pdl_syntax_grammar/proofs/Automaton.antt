@@ -119,7 +119,7 @@ one_more t ts s above below left e h = record {
   stuck = λ u more is others. rw e (h.stuck u more is others);
 }
 
--- it stops at the first token
+-- a run stops at the first token where nothing that is expected begins with it
 at_once : (t : Token) (ts : Row) (s : Sym) (below : Stack) → act s t.kind ≡ None → Stops (t ∷ ts) (s ∷ below) (t ∷ ts)
 at_once t ts s below is = record {
   front = [];

@@ -39,7 +39,7 @@ then {before = b} {middle = m} more f (reads {v = v} {r = r} {ts = ts} p le e) h
     beyond le (λ below. rw append_assoc (e (more ++ below) ∙ ap (run r) (sym (append_assoc m more below)))) (h v r p le)
 then {before = b} more f (stops e) h = stops (λ below. rw append_assoc (e (more ++ below)))
 
--- with more expected after it
+-- what a reader answers stays right with more expected after it
 pub under : {A : Type 0} {P : A → Row → Type 0} {before after : Stack} {o : Outcome A} {ts : Row} (more : Stack)
     → Good P before after o ts → Good P (before ++ more) (after ++ more) o ts
 under {before = b} {after = m} more (reads {r = r} p le e) =
@@ -81,7 +81,7 @@ pub is_that : (m : Mark) (k : TokenKind) → is_mark m (Some k) ≡ true → k �
 is_that m (kind.Mark k) e = ap (λ x. kind.Mark x) (same_marks m k e)
 is_that m _ e = cc
 
--- this mark stands at the front
+-- the tokens begin with this mark
 pub record Begins_with (m : Mark) (ts : Row) : Type 0 where
   pub w : Word
   pub more : Row

@@ -31,7 +31,7 @@ tells o ts (stops e) = record { ok = λ p is. cc; err = λ left is. e [] ∙ ap 
 told : (room : ℕ) (ts : Row) → length ts < room → Tells (pipe room ts) ts
 told room ts le = tells _ ts (pipe_good room ts le)
 
--- what is read is derived
+-- a tree that is read is derived from the tokens by the grammar
 pub found : (room : ℕ) (ts : Row) (p : Pipe) → length ts < room → parse room ts ≡ Ok p → Text p ts []
 unfolding parse
 found room ts p le is = ((told room ts le).ok p is).0

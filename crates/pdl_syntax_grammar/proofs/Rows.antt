@@ -26,14 +26,14 @@ pub after_no_stmts : (o : Outcome Stmts) → after_stmts [] o ≡ o
 after_no_stmts (Ok p) = refl
 after_no_stmts (Err n) = refl
 
--- at the closing brace
+-- at the closing brace the items before it are all of them
 pub items_end : (room n : ℕ) (ss : List Stmt) (ts : Row) → n ≢ 0
     → is_mark mark.CloseBrace (first_kind ts) ≡ true → after_stmts ss (items room n ts) ≡ Ok (stmts_of ss, ts)
 unfolding items
 items_end room zero ss ts h e = absurd (h refl)
 items_end room (suc n) ss ts h e = rw e (ap (λ x. Ok (x, ts)) (prepend_nil ss))
 
--- one more item
+-- an item that is read comes after those before it, and the items go on after it
 pub items_item : (room n m : ℕ) (ss s : List Stmt) (ts r : Row) → n ≡ m + 1
     → is_mark mark.CloseBrace (first_kind ts) ≡ false → item room (items room m) ts ≡ Ok (s, r) →
     after_stmts ss (items room n ts) ≡ after_stmts (ss ++ s) (items room m r)
@@ -48,7 +48,7 @@ items_item room (suc n) m ss s ts r c h e =
     go (Ok p) = ap (λ x. Ok (x, p.1)) (sym (prepend_all ss s p.0))
     go (Err n) = refl
 
--- an item that is refused
+-- where an item is refused, the items are refused at the same tokens
 pub items_fails : (room n m : ℕ) (ss : List Stmt) (ts left : Row) → n ≡ m + 1
     → is_mark mark.CloseBrace (first_kind ts) ≡ false → item room (items room m) ts ≡ Err left →
     after_stmts ss (items room n ts) ≡ Err left
@@ -72,7 +72,7 @@ unfolding list_of
 listed_of p close zero m xs x ts r c e = absurd (omega arith)
 listed_of p close (suc n) m xs x ts r c e = let is : m ≡ n = omega arith in rw is (rw e refl)
 
--- a value that a comma follows comes after those before it, and the list goes on behind the comma
+-- a value that a comma follows comes after those before it, and the list goes on after the comma
 pub listed_more : {A : Type 0} (p : Parser A) (close : Mark) (n m : ℕ) (xs : List A) (x : A) (ts r : Row) → n ≡ m + 1
     → p ts ≡ Ok (x, r) → goes_on close (first_kind r) ≡ Some true →
     after xs (list_of p close n ts) ≡ after (xs ++ x ∷ []) (list_of p close m (next r))
@@ -110,7 +110,7 @@ module _ {A B : Type 0} (view : B → A) (p : Parser A) (close : Mark) where
   one_more : (done now : List B) (x : B) → now ≡ done ++ x ∷ [] → map view now ≡ map view done ++ view x ∷ []
   one_more done now x e = rw e (map-append view done (x ∷ []))
 
-  -- where a comma follows x, the list goes on behind the comma with x among what was read
+  -- where a comma follows x, the list goes on after the comma with x among what was read
   pub value_more : (n m : ℕ) (done now : List B) (x : B) (ts r left : Row) → n ≡ m + 1 → p ts ≡ Ok (view x, r)
       → goes_on close (first_kind r) ≡ Some true → now ≡ done ++ x ∷ [] → left ≡ next r →
       after (map view done) (list_of p close n ts) ≡ after (map view now) (list_of p close m left)
@@ -122,7 +122,7 @@ module _ {A B : Type 0} (view : B → A) (p : Parser A) (close : Mark) where
       after (map view done) (list_of p close n ts) ≡ Ok (map view now, left)
   value_last n done now x ts r left c e k i j = rw (one_more done now x i, j) (listed_last p close n (n - 1) (map view done) (view x) ts r (omega arith) e k)
 
-  -- where neither a comma nor the closer follows x, the tokens behind x are refused
+  -- where neither a comma nor the closer follows x, the tokens after x are refused
   pub value_stuck : (n : ℕ) (done : List B) (x : B) (ts r : Row) → 1 ≤ n → p ts ≡ Ok (view x, r)
       → goes_on close (first_kind r) ≡ None → after (map view done) (list_of p close n ts) ≡ Err r
   value_stuck n done x ts r c e k = listed_stuck p close n (n - 1) (map view done) (view x) ts r (omega arith) e k

@@ -85,7 +85,7 @@ record After (n : ℕ) (r : Row) : Type 0 where
   ends : (j : ℕ) → j < n → op_in j (first_kind r) ≡ None
   square : is_mark mark.OpenSquare (first_kind r) ≡ false
 
--- nor a choice
+-- after these tokens no operator and no choice goes on
 record Closed (r : Row) : Type 0 where
   after : After levels r
   question : is_mark mark.Question (first_kind r) ≡ false
@@ -238,7 +238,7 @@ no_place_full : {e : Expr} {ts r : Row} → Full e ts r → is_mark mark.OpenSqu
 no_place_full (whole h) f = no_place h f
 no_place_full (chosen h i j) f = no_place h refl
 
--- nor as a guess
+-- an expression does not begin as a guess
 no_guess : {n : ℕ} {e : Expr} {ts r : Row} → Level n e ts r → is_mark mark.SpecCall (first_kind ts) ≡ false
 no_guess (tighter h) = no_guess h
 no_guess (joined e h i) = no_guess h

@@ -196,7 +196,7 @@ pub data Lock : Option LockDecl → Row → Row → Type 0 where
   locked : {l q o s c : Word} {how : LockKind} {n : ℕ} {r : Row} → Lock (Some (record { kind = how; size = number s n }))
       (at l mark.Lock ∷ at q (lock_mark how) ∷ at o mark.OpenRound ∷ on s (kind.Number n) ∷ at c mark.CloseRound ∷ r) r
 
--- the mark of a memory that answers in a later cycle, and of one that answers in the same
+-- the mark of a memory by whether it answers in a later cycle
 abbrev pub pace_mark : Bool → Mark
 pace_mark true = mark.Delayed
 pace_mark false = mark.Comb

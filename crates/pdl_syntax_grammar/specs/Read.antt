@@ -89,12 +89,12 @@ abbrev pub ReadsWhole : {A B : Type 0} → (A → B) → Result B Row → Result
 ReadsWhole view outcome (Ok a) left = outcome ≡ Ok (view a)
 ReadsWhole view outcome (Err e) left = e ≢ no_memory → outcome ≡ Err left
 
--- with values read before
+-- the values that were read before, and those of this outcome after them
 abbrev pub after : {A : Type 0} → List A → Outcome (List A) → Outcome (List A)
 after xs (Ok p) = Ok (xs ++ p.0, p.1)
 after xs (Err ts) = Err ts
 
--- with statements read before
+-- the statements that were read before, and those of this outcome after them
 abbrev pub after_stmts : List Stmt → Outcome Stmts → Outcome Stmts
 after_stmts ss (Ok p) = Ok (prepend ss p.0, p.1)
 after_stmts ss (Err ts) = Err ts

@@ -7,7 +7,7 @@ use Rattle.pdl_bypass.specs.Bypasses.{BypassSuits}
 use Rattle.pdl_rename.specs.declared.RenameFile.{RenameFile}
 use Rattle.pdl_rename.specs.Places.{RenameSuits}
 
--- it has 16 words of 8 bits
+-- a memory of 16 words of 8 bits
 pub record IsMemory (m : MemInfo) : Type 0 where
   pub width : m.width ≡ 8
   pub depth : m.depth ≡ 16

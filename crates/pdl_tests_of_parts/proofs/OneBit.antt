@@ -14,7 +14,7 @@ use Rattle.pdl_port.specs.Places.{ArePlaced}
 use Rattle.pdl_port.proofs.PortGrowth.{bits_kept, port_keeps}
 use Rattle.pdl_squash.specs.Laws.{AreBits}
 
--- no nets yet
+-- no nets are 0 nets of 1 bit
 pub bits_none : (c : Circuit) → HasBits c [] 0
 bits_none c = record { count = refl; each = λ k h. absurd (omega arith) }
 
@@ -29,7 +29,7 @@ upto P nets x n e last rest k l =
     subst Q j (subst P (sym (get_or_push nets x (Input 0) n e)) last))
     (cases_lt k n)
 
--- one net more
+-- with one net of 1 bit more, n nets are n + 1
 pub bits_more : (a b : Circuit) (nets : List Net) (x : Net) (n : ℕ) → HasBits a nets n → Extends a b → HasWidth b x 1
     → HasBits b (nets ++ x ∷ []) (n + 1)
 bits_more a b nets x n h e w =
@@ -39,14 +39,14 @@ bits_more a b nets x n h e w =
       each = upto (λ y. HasWidth b y 1) nets x n h.count w g.each;
     }
 
--- the nets of a squash
+-- n nets of 1 bit are as many such nets as a squash goes by
 pub squash_bits : (c : Circuit) (nets : List Net) (n : ℕ) → HasBits c nets n → AreBits c nets (length nets)
 squash_bits c nets n h = record {
   count = refl;
   each = λ k l. h.each k (omega (arith, h.count, l));
 }
 
--- as many nets by another name
+-- n nets of 1 bit are m such nets where m is n
 pub bits_as : (c : Circuit) (nets : List Net) (m n : ℕ) → HasBits c nets n → m ≡ n → HasBits c nets m
 bits_as c nets m n h e = let P : ℕ → Type 0 = λ k. HasBits c nets k in subst P (sym e) h
 

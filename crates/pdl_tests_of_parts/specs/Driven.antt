@@ -43,7 +43,7 @@ pub record AreDrivers (c : Circuit) (bits width tickets : ℕ) (d : PortDrive) :
   pub write2 : IsWrite c tickets width d.write2
   pub end : IsEnd c tickets d.end
 
--- the ports that they drive
+-- the reserve port that these registers drive
 abbrev pub reserve_of : ReserveDrive → ReservePort
 reserve_of d = record { enable = Reg d.enable; kind = W; addr = Reg d.addr }
 

@@ -240,7 +240,7 @@ module _ (p : Pipe) (sound : Sound p) (single : length p.stages ≡ 1) where
           let most = short path (lead p sound st.threads) in
           absurd (omega (arith, some, less, most))
 
-  -- and its commits are the writes of its turn
+  -- the commits of a cycle in which a thread ends are the writes of its turn
   commits_now : (image : Arrays) (n : ℕ) (past : List Commit) (st : State) (bits : List Bool)
       → Runs p (course p sound) image n past st → ends_one p (all_acts p st bits) ≡ true → (m : ℕ)
       → of_mem m (commits_of (all_acts p st bits)) ≡ of_mem m (thread p (after_turns p image n).arrays (after_turns p image n).next).writes

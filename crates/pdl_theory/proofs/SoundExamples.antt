@@ -42,7 +42,7 @@ count_slow_sounds = refl
 two_branches_sound : passes_tests (flat two_branches) ≡ true
 two_branches_sound = refl
 
--- a second branch with statements in the fork's stage, which stand in the text behind later stages
+-- a second branch with statements in the fork's stage, which stand in the text after later stages
 fork_text_sounds : passes_tests (flat (forked (separator ∷ separator ∷ []) (bind "w" (variable "n") ∷ separator ∷ []))) ≡ true
 fork_text_sounds = refl
 
@@ -77,7 +77,7 @@ early_guard_fails = refl
 branch_barrier_fails : passes_tests (flat (forked (separator ∷ spec_barrier ∷ separator ∷ []) [])) ≡ false
 branch_barrier_fails = refl
 
--- so both theorems hold of them with no premise left
+-- a pipe that passes the tests of the whole language has the facts that the theorems take
 abbrev whole : (p : Pipe) → passes_tests p ≡ true → Course p
 whole p h = course p (sounded p h)
 
@@ -93,7 +93,7 @@ slow_advances = advances (flat count_slow) (whole (flat count_slow) count_slow_s
 branches_keep_pace : (image : Arrays) (schedule : List (List Bool)) → KeepsPace (flat one_branch) image schedule
 branches_keep_pace = keeps_pace (flat one_branch) (sounded (flat one_branch) one_branch_sounds)
 
--- and of the stated machine
+-- every run of the stated machine on the pipe with guesses refines the sequential run
 stated_guesses_refine : (image : Arrays) (schedule : List (List Bool)) → Promises.Refines (flat copy_guessed) image schedule
 stated_guesses_refine = whole_refines (flat copy_guessed) (sounded (flat copy_guessed) copy_guessed_sounds)
 

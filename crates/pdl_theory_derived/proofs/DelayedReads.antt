@@ -16,7 +16,7 @@ abbrev pub caught : Arrays → List Ask → List ℕ → List ℕ
 caught arrays [] env = env
 caught arrays (q ∷ qs) env = caught arrays qs (slice_set env q.var (word_at arrays q.mem q.address))
 
--- those that this cycle doesn't answer
+-- the requests that this cycle doesn't answer
 abbrev pub still_asks : Pipe → List Bool → List Ask → List Ask
 still_asks p bits [] = []
 still_asks p bits (q ∷ qs) = if is_answered p bits q.mem then still_asks p bits qs else q ∷ still_asks p bits qs
@@ -192,14 +192,14 @@ stays_out p bits all olds q h e f =
     request_at p bits all 0 olds q.mem (there olds q.mem q.address h)
     ∙ ap₂ (λ a b. next_ask a b (slice_index_or olds q.mem None)) (ap (find_ask all) (zero-add q.mem) ∙ f) (ap (is_answered p bits) (zero-add q.mem) ∙ e) ∙ h
 
--- and a new one is outstanding
+-- a new request is outstanding after the cycle
 pub new_out : (p : Pipe) (bits : List Bool) (all : List Ask) (olds : List (Option ℕ)) (q : Ask)
     → q.mem < length olds → find_ask all q.mem ≡ Some q.address → Out (next_asks p bits all 0 olds) q
 new_out p bits all olds q low f =
     request_at p bits all 0 olds q.mem low
     ∙ ap (λ a. next_ask a (is_answered p bits (0 + q.mem)) (slice_index_or olds q.mem None)) (ap (find_ask all) (zero-add q.mem) ∙ f)
 
--- those that a cycle doesn't answer
+-- outstanding requests that a cycle doesn't answer stay outstanding, where it asks nothing new of their memories
 pub all_out : (p : Pipe) (bits : List Bool) (all : List Ask) (olds : List (Option ℕ)) (qs : List Ask)
     → AllAsks (Out olds) qs → AllAsks (λ q. is_answered p bits q.mem ≡ false → find_ask all q.mem ≡ None) qs
     → AllAsks (Out (next_asks p bits all 0 olds)) (still_asks p bits qs)

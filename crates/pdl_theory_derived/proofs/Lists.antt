@@ -45,7 +45,7 @@ youngest_other m k n a (e ∷ es) f h = youngest_append (pend m k es) _ n a f �
     at true = ap (λ c. cond (c && (e.address == a)) (as_latest e.value) (youngest (pend m k es) n a f)) h
     at false = refl
 
--- how many are pending
+-- a thread has as many pending writes of m as entries of m
 pub length_pend : (m n : ℕ) (es : List Entry) → length (pend m n es) ≡ count_in es m
 length_pend m n [] = refl
 length_pend m n (e ∷ es) = length-append (pend m n es) _ ∙ at (e.mem == m) ∙ ap (λ k. cond (e.mem == m) (1 + k) k) (length_pend m n es)
@@ -54,7 +54,7 @@ length_pend m n (e ∷ es) = length-append (pend m n es) _ ∙ at (e.mem == m) �
     at true = omega arith
     at false = omega arith
 
--- no entry is this thread's
+-- none of the pending writes is of thread n
 abbrev pub Foreign : ℕ → List Pending → Type 0
 Foreign n [] = Unit {0}
 Foreign n (x ∷ xs) = ((x.thread == n) ≡ false) × Foreign n xs
@@ -63,7 +63,7 @@ put_foreign : (n v : ℕ) (xs : List Pending) → Foreign n xs → with_value_of
 put_foreign n v [] h = refl
 put_foreign n v (x ∷ xs) h = ap₂ (λ b l. (cond b (record x { value = Some v }) x) ∷ l) h.0 (put_foreign n v xs h.1)
 
--- writes leave others' entries in front, and behind, alone
+-- a thread's writes leave the entries of others before its own alone
 put_all_front : (m n : ℕ) (ws : List Machine.Written) (xs ys : List Pending) → Foreign n xs
     → with_writes_of m n ws (xs ++ ys) ≡ xs ++ with_writes_of m n ws ys
 put_all_front m n [] xs ys h = refl

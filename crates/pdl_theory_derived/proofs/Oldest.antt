@@ -101,7 +101,7 @@ enter_alone : (p : Pipe) (q : Option ℕ) → can_enter p [] q ≡ true
 enter_alone p None = refl
 enter_alone p (Some q) = fork_alone p (stage_at p q).merges
 
--- the oldest thread moves
+-- the oldest thread moves in a cycle that is no wait, where locks have room and its awaited reads are outstanding
 pub oldest : (p : Pipe) (st : State) (bits : List Bool) (t : Thread) → HasRoom p → Asked st.asked t.awaits
     → is_wait p st bits ≡ false → (act p st bits [] t).moves ≡ true
 oldest p st bits t room a h =

@@ -9,7 +9,7 @@ pub stages_same : {X : Type 0} → (f g : ℕ → X) (s : ℕ) (xs : List Stage)
 stages_same f g s [] h = refl
 stages_same f g s (x ∷ xs) h = ap₂ (λ a l. a ∷ l) (h s (omega arith)) (stages_same f g (suc s) xs (λ q k. h q (omega arith)))
 
--- oldest first
+-- the items of a list, from the last one to the first
 abbrev pub rev : {X : Type 0} → List X → List X
 rev [] = []
 rev (x ∷ xs) = rev xs ++ x ∷ []

@@ -13,7 +13,7 @@ abbrev pub or_else : Option (List ℕ) → Option (List ℕ) → Option (List �
 or_else None k = k
 or_else (Some x) k = Some x
 
--- the work v behind the work w of earlier stages
+-- the work v after the work w of earlier stages
 abbrev pub joined : Work → Work → Work
 joined w v =
     record {
@@ -32,7 +32,7 @@ abbrev pub reset : Work → Work
 reset w =
     record { env = w.env; entries = w.entries; guess = w.guess; asks = []; commits = []; child = None; fails = false; ready = true }
 
--- a work stays the same with what the next stage begins with behind it
+-- a work stays the same with what the next stage begins with after it
 pub rejoined : (w : Work) → w ≡ joined w (reset w)
 rejoined w = λ i. record {
   env = w.env;
@@ -66,7 +66,7 @@ does_joined o (Verify args) w v = verified_joined (same_args (values_of args v.e
 does_joined o SpecBarrier w v = λ i. record (joined w (work_after o SpecBarrier v)) { ready = and_assoc w.ready v.ready o.clear i }
 does_joined o _ w v = refl
 
--- one statement
+-- the work after one statement, which is carried out where its guards hold
 abbrev pub step : Around → Stmt → Work → Work
 step o x w = if all_hold x.guards w.env then work_after o x.op w else w
 
@@ -76,7 +76,7 @@ pub step_joined : (b : Bool) (o : Around) (op : Op) (w v : Work)
 step_joined true o op w v = does_joined o op w v
 step_joined false o op w v = refl
 
--- statements do the same behind the work of earlier stages
+-- statements do the same after the work of earlier stages
 pub do_all_joined : (o : Around) (xs : List Stmt) (w v : Work) → do_all o xs (joined w v) ≡ joined w (do_all o xs v)
 do_all_joined o [] w v = refl
 do_all_joined o (x ∷ xs) w v = ap (do_all o xs) (step_joined (all_hold x.guards v.env) o x.op w v) ∙ do_all_joined o xs w (step o x v)
@@ -86,7 +86,7 @@ pub do_all_append : (o : Around) (xs ys : List Stmt) (w : Work) → do_all o (xs
 do_all_append o [] ys w = refl
 do_all_append o (x ∷ xs) ys w = do_all_append o xs ys (step o x w)
 
--- a stage's work behind that of the stages before it
+-- what is done by the following stage is what was done before this one, with this stage's work after it
 pub next_piece : (p : Pipe) (arrays : Arrays) (args : List ℕ) (s : ℕ)
     → before (suc s) p.stmts ≡ before s p.stmts ++ in_stage s p.stmts
     → so_far p arrays args (suc s) ≡ joined (so_far p arrays args s) (work_of_stage p (alone arrays) (thread_at p arrays args s))

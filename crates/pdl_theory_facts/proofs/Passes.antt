@@ -103,7 +103,7 @@ module _ (p : Pipe) (h : Parts p) where
       (λ low. eqb-true _ _ (and_right (reserve_stage p m == 0) _ (plain_at m low e)))
       (λ past. commit_past m past)
 
-  -- STATEMENTS
+  -- each statement names only memories that the pipe has
   pub known : list_all (λ x. knows_memory (length p.mems) x.op) p.stmts ≡ true
   known = h.known
 
@@ -253,7 +253,7 @@ module _ (p : Pipe) (h : Parts p) where
   pub verify_low : (v : ℕ) → verify_stage p.stmts ≡ Some v → v < length p.stages
   verify_low v e = ltb-true _ _ (subst (λ o. is_below (length p.stages) o ≡ true) e h.below)
 
-  -- the facts of paths
+  -- a pipe that passes its tests has the facts of its text and of each of its paths, where its statements don't bind guards again
   pub pathwise : is_fixed p.stmts ≡ true → ((s : ℕ) → is_fixed (before s p.stmts ++ (in_stage s p.stmts ++ stages_from (suc s) p.stmts)) ≡ true) → Pathwise p
   pathwise guards by =
       record {

@@ -29,7 +29,7 @@ knows_memory n (Verify args) = true
 knows_memory n SpecCheck = true
 knows_memory n SpecBarrier = true
 
--- a guess, and its verify
+-- whether a statement makes a guess or verifies it
 abbrev pub is_guess : Op → Bool
 is_guess op = is_spec_call op || is_verify op
 
@@ -69,7 +69,7 @@ abbrev pub guard_vars : List Stmt → List ℕ
 guard_vars [] = []
 guard_vars (x ∷ xs) = vars_of x.guards ++ guard_vars xs
 
--- what is asked of a path's statements, and of these for each memory
+-- whether the statements of a path pass the tests of memory m
 abbrev pub mem_passes : Pipe → List Stmt → ℕ → Bool
 mem_passes p xs m =
     phases_ok m Fresh xs
@@ -107,7 +107,7 @@ abbrev pub locks_pass : Pipe → Bool
 locks_pass p =
     nat_le (length p.reserves_at) (length p.mems) && (nat_le (length p.releases_at) (length p.mems) && all_below (lock_passes p) (length p.mems))
 
--- of the text, which with forks need not stand in the order of stages
+-- whether the text passes its tests; with forks it need not stand in the order of stages
 abbrev pub text_passes : Pipe → Bool
 text_passes p =
     list_all (λ x. knows_memory (length p.mems) x.op) p.stmts

@@ -5,7 +5,7 @@ use Rattle.pdl_semantics.specs.Forms.{on_release}
 pub use Rattle.pdl_semantics.specs.Sound.{is_barrier}
 use Rattle.pdl_theory_facts.specs.Scans.{has_location, scan_after, Scan}
 
--- whether a stage is V, and whether it stands before V
+-- whether a stage is V
 abbrev pub stands_at : Option ℕ → ℕ → Bool
 stands_at None s = false
 stands_at (Some v) s = s == v
@@ -44,12 +44,12 @@ abbrev pub making_all : Making → List Stmt → Making
 making_all k [] = k
 making_all k (x ∷ xs) = making_all (next_making k x.op) xs
 
--- nothing is made yet
+-- whether nothing is made yet
 abbrev pub is_unmade : Making → Bool
 is_unmade Unmade = true
 is_unmade _ = false
 
--- a guess is made, and not verified yet
+-- whether a guess is made, and not verified yet
 abbrev pub is_guessed : Making → Bool
 is_guessed Guessed = true
 is_guessed _ = false

@@ -7,12 +7,12 @@ pub use Rattle.pdl_semantics.specs.Locks.{is_plain}
 use Rattle.pdl_theory_derived.specs.Alone.{Location}
 use Rattle.pdl_semantics.specs.Sound.{is_call}
 
--- there is no guard
+-- whether there is no guard
 abbrev pub no_guards : List Guard → Bool
 no_guards [] = true
 no_guards (g ∷ gs) = false
 
--- whether a variable is the address of one of these locations, and whether this location is among them
+-- whether a variable is the address of one of these locations
 abbrev pub is_address : List Location → ℕ → Bool
 is_address [] x = false
 is_address (l ∷ ls) x = (l.var == x) || is_address ls x

@@ -172,7 +172,7 @@ module _ (p : Pipe) (acc : Sound p) where
       at true e go = go (ltb-true _ _ e) (let i = up in omega arith) (let i = up in omega arith)
       at false e go = refl
 
-  -- one less in the next stage
+  -- from the next stage on one stage less is left than from this one
   pub left_next : (path : List ℕ) (s : ℕ) → s < length p.stages → next_of p s path < length p.stages → suc (left path (next_of p s path)) ≡ left path s
   left_next path s low inside = at (length p.stages) refl
     where

@@ -315,7 +315,7 @@ module _ (p : Pipe) (h : passes_tests p ≡ true) where
       by_or (is_trunk p s) (none_of trunk_only (in_stage s p.stmts)) _ (below_at (λ s. is_trunk p s || none_of trunk_only (in_stage s p.stmts)) (length p.stages) s all.1.1.1.1.0 (in_low c s i))
       (λ t. absurd (in_not_trunk p s c i (trunk_is p s t))) (λ k. k)
 
-  -- a fork before or behind the verifies' stage
+  -- a stage of a branch is before the verifies where its fork merges up to their stage, else the fork is in that stage or later
   whole_at : (v b : ℕ) (c : Branch) → verify_stage p.stmts ≡ Some v → In p c b → branch_whole p v b (Some c) ≡ true
   whole_at v b c e j =
       subst (λ o. branch_whole p v b o ≡ true) j (below_at (λ b. branch_whole p v b (stage_at p b).branch) (length p.stages) b (subst (λ o. forks_whole p o ≡ true) e all.1.1.1.1.1.1.1.1.1.1.1.1.1.0) (in_low c b j))

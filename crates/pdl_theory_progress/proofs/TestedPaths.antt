@@ -73,7 +73,7 @@ between_none a b (x ∷ xs) low h =
         le-leb' : (m n : ℕ) → m ≤ n → nat_le m n ≡ true
         le-leb' m n k = by_bool (nat_le m n) (nat_le m n ≡ true) (λ i. i) (λ i. absurd (let j : n < m = leb-false _ _ i in omega arith))
 
--- each test of several
+-- each of several tests passes
 abbrev pub AllTrue : List Bool → Type 0
 AllTrue [] = Unit {0}
 AllTrue (b ∷ bs) = (b ≡ true) × AllTrue bs

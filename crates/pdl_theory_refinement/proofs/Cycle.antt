@@ -26,7 +26,7 @@ pub moved_quiet : (m : ℕ) (b : Bool) (xs ys : List Commit) → of_mem m xs ≡
 moved_quiet m true xs ys h k = of_mem_append m xs ys ∙ ap₂ (λ a b. a ++ b) h k
 moved_quiet m false xs ys h k = k
 
--- whether a thread ended
+-- whether one of these threads ends in the cycle
 abbrev pub ends_one : Pipe → List Act → Bool
 ends_one p these = list_any (λ a. a.moves && is_none (exit_of p a)) these
 

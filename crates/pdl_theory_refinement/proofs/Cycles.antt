@@ -50,12 +50,12 @@ moves_answered p st bits older t e = and_right _ _ (and_left _ _ e)
 abbrev pub moved_spot : Pipe → Arrays → List ℕ → ℕ → Spot
 moved_spot p arrays args s = record { stage = next_at p arrays args s; env = (stage_work p arrays args s).env; asks = (stage_work p arrays args s).asks }
 
--- where it begins
+-- the spot where a turn begins
 abbrev pub start_spot : Pipe → List ℕ → Spot
 start_spot p args = record { stage = 0; env = start_env p args; asks = [] }
 
 module _ (p : Pipe) (acc : Course p) where
-  -- no stage stands behind itself
+  -- no thread stands behind one in its own stage
   pub not_self : (s : ℕ) → Under p s s → ⊥
   not_self s u = at (stage_at p s).branch refl
     where
@@ -107,7 +107,7 @@ module _ (p : Pipe) (acc : Course p) where
           at None f g = subst (λ n. Under p n r) (mine m g) k.0
           at (Some x) f g = b.asked m r k.1 (ap is_some f)
 
-  -- the next threads' asks
+  -- where the first thread moves, the cycle's requests are those of the older threads, its own, and those of the ones behind it
   pub asks_moved : (all : List Ask) (asks : ℕ → Option ℕ) (a : Act) (rest : List Act) → a.moves ≡ true
       → NowAsks all asks (a ∷ rest) → NowAsks all (λ m. or_ask (asks m) (find_ask a.work.asks m)) rest
   asks_moved all asks a rest h now m =
@@ -293,6 +293,7 @@ module _ (p : Pipe) (acc : Course p) (image : Arrays) (st : State) (bits : List 
 
     -- where it moves
     module _ (e : (act p st bits older (seat p arrays args sp)).moves ≡ true) where
+      -- where it moves, the thread with its answered words is that of its turn in this stage
       pub now_placed : answered_thread p st bits (seat p arrays args sp) ≡ thread_at p arrays args sp.stage
       now_placed =
           whole_now p acc image st past rows bits older v v' d w asks arrays args ahead ahead' sp last rows' b h
@@ -308,15 +309,15 @@ module _ (p : Pipe) (acc : Course p) (image : Arrays) (st : State) (bits : List 
           (subst (λ t. (work_of_stage p (around p st bits older sp.stage) t).ready ≡ true) now_placed
           (moves_ready p st bits older (seat p arrays args sp) e)) h.clean
 
-      -- it does the work that its turn's stage does alone
+      -- where it moves, the thread does the work that its turn's stage does alone
       pub work_same : (act p st bits older (seat p arrays args sp)).work ≡ stage_work p arrays args sp.stage
       work_same = ap (work_of_stage p (around p st bits older sp.stage)) now_placed ∙ alike_here.0
 
-      -- it commits nothing to m where it isn't in the stage of m's releases
+      -- where it moves, the thread commits nothing to m unless it is in the stage of m's releases
       pub commits_quiet : (m : ℕ) → sp.stage ≢ commit_stage p m → of_mem m (act p st bits older (seat p arrays args sp)).work.commits ≡ []
       commits_quiet = acc.quiet_at (around p st bits older sp.stage) (answered_thread p st bits (seat p arrays args sp))
 
-      -- it asks for m only in the stage of m's delayed reads
+      -- where it moves, the thread asks for m only in the stage of m's delayed reads
       pub asks_here : (m : ℕ) → is_some (find_ask (act p st bits older (seat p arrays args sp)).work.asks m) ≡ true → sp.stage ≡ acc.fetch m
       asks_here = acc.asks_at (around p st bits older sp.stage) (answered_thread p st bits (seat p arrays args sp))
 
@@ -326,7 +327,7 @@ module _ (p : Pipe) (acc : Course p) (image : Arrays) (st : State) (bits : List 
       more : sp.stage < next_at p arrays args sp.stage
       more = acc.graph.up sp.stage (stage_work p arrays args sp.stage).env low_here
 
-      -- after a cycle in which it moves it is on its turn in the next stage, behind the older threads as they stand then
+      -- after a cycle in which the thread moves it is on its turn in the next stage, behind the older threads as they stand then
       pub head_moves : (ts : List Thread) (last' : Bool)
           → Now past past' d (act p st bits older (seat p arrays args sp) ∷ acts p st bits (act p st bits older (seat p arrays args sp) ∷ older) ts)
           → NowAsks all asks (act p st bits older (seat p arrays args sp) ∷ acts p st bits (act p st bits older (seat p arrays args sp) ∷ older) ts)
@@ -411,7 +412,7 @@ module _ (p : Pipe) (acc : Course p) (image : Arrays) (st : State) (bits : List 
               no_older None f = f
               no_older (Some x) f = absurd (not_self p acc sp.stage (subst (λ n. Under p n sp.stage) k.1.here (b.asked q.mem sp.stage h.under (ap is_some f))))
 
-      -- what moves in a cycle behind it
+      -- where the thread moves, it commits the first of its undone writes, and the next younger one knows it among its older ones
       pub behind_moved :
           ((m : ℕ)
           → Later m (marks p arrays args sp.stage m)
@@ -440,7 +441,7 @@ module _ (p : Pipe) (acc : Course p) (image : Arrays) (st : State) (bits : List 
               subst (λ (k : Work). Later m (marks p arrays args sp.stage m) (of_mem m k.commits) (marks p arrays args (next_at p arrays args sp.stage) m))
               (sym work_same) (acc.marks_step arrays args sp.stage m h.on low_here)
 
-    -- and behind one that stands
+    -- where the thread stands, the next younger one knows it among its older ones, with its undone writes as they were
     pub behind_stands : (act p st bits older (seat p arrays args sp)).moves ≡ false
         → Behind p acc (act p st bits older (seat p arrays args sp) ∷ older)
         (λ m. v m ++ marks p arrays args sp.stage m) (λ m. v' m ++ marks p arrays args sp.stage m) (λ m. d m ++ [])

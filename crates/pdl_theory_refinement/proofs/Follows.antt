@@ -225,7 +225,7 @@ module _ (p : Pipe) (acc : Course p) where
               exact : length p.stages ≤ sp.stage → sp.stage < suc (length p.stages) → sp.stage ≡ length p.stages
               exact u v = omega arith
 
-  -- a cycle
+  -- a state of a run is one of a run after a cycle more, with the thread that ended in it and its commits
   pub runs_cycle : (image : Arrays) (n : ℕ) (past : List Commit) (st : State) (bits : List Bool) → Runs p acc image n past st
       → Runs p acc image (if ends_one p (all_acts p st bits) then suc n else n)
       (past ++ commits_of (all_acts p st bits)) (after_acts p st bits (all_acts p st bits))
@@ -248,7 +248,7 @@ module _ (p : Pipe) (acc : Course p) where
       (suc (length p.stages) ∷ []) r.spots r.strays
       (rows_at image n) behind_none r.standing r.tail r.live (λ m. of_mem_append m past _) (λ m. refl)))
 
-  -- a run
+  -- a state of a run is one of a run after a schedule more, with the threads that ended in it and its commits
   pub runs_run : (image : Arrays) (n : ℕ) (past : List Commit) (st : State) (schedule : List (List Bool)) → Runs p acc image n past st
       → Runs p acc image (n + ended_in (turns_from p st schedule)) (past ++ all_commits (turns_from p st schedule)) (state_after p st schedule)
   runs_run image n past st [] r =

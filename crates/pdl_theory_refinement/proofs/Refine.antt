@@ -5,7 +5,7 @@ use Rattle.pdl_semantics.specs.Sequential.{thread, writes_from, turn_at}
 use Rattle.pdl_theory_derived.proofs.Writes.{of_mem_append}
 use Rattle.pdl_semantics.proofs.Facts.{turn_front}
 
--- one more turn's writes
+-- the writes of one turn more are those of the turns before it and then its own
 pub writes_more : (p : Pipe) (k : ℕ) (arrays : Arrays) (args : List ℕ)
     → writes_from p (suc k) arrays args ≡ writes_from p k arrays args
     ++ (thread p (turn_at p arrays args k).arrays (turn_at p arrays args k).next).writes

@@ -52,12 +52,12 @@ shown p arrays args (sp ∷ sps) =
     (if nat_lt sp.stage (length p.stages) then seat p arrays args sp ∷ [] else [])
     ++ shown p (thread p arrays args).arrays (thread p arrays args).next sps
 
--- there is no spot
+-- whether there is no spot
 abbrev pub is_nil : List Spot → Bool
 is_nil [] = true
 is_nil (sp ∷ sps) = false
 
--- with this cycle's answers
+-- a spot with the answers of this cycle
 abbrev pub now_spot : Pipe → State → List Bool → Spot → Spot
 now_spot p st bits sp = record { stage = sp.stage; env = with_answers p st bits (awaited_of sp.asks) sp.env; asks = still_asks p bits sp.asks }
 
@@ -162,7 +162,7 @@ module _ (p : Pipe) (acc : Course p) (image : Arrays) (st : State) (past : Write
           ap (λ l. value_or l (word_at st.arrays m a)) (b.fits m a sp.stage h.under f)
           ∙ found_right older v v' d w asks arrays args ahead ahead' sp last rows' b h m a c k
 
-  -- and so are its answers
+  -- the words that answer the requests of a thread on its turn are right
   pub words_right : (older : List Act) (v v' : Marks) (d w : Writes) (asks : ℕ → Option ℕ) (arrays : Arrays)
       (args : List ℕ) (ahead ahead' : List ℕ) (sp : Spot) (last : Bool)
       → RowsAt image w arrays → Behind p acc older v v' d asks ahead ahead'

@@ -353,7 +353,7 @@ module _ (p : Pipe) (acc : Course p) (image : Arrays) (st : State) (bits : List 
           quiet = λ m c. ap (λ t. of_mem m (cond t (a.work.commits ++ commits_of rest) (commits_of rest))) stays ∙ t.quiet m (λ u. c u.1);
         }
 
-    -- and where it moves
+    -- after a cycle in which the first thread moves, and others stand behind it, the threads from it on are again on their turns
     more_moves : (ts : List Thread) (h : Here p acc st.asked past w v arrays args ahead sp false)
         → Now past past' d (acts p st bits older (seat p arrays args sp ∷ ts)) → NowAsks all asks (acts p st bits older (seat p arrays args sp ∷ ts))
         → (act p st bits older (seat p arrays args sp)).moves ≡ true

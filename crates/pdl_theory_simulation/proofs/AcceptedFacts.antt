@@ -428,7 +428,7 @@ module _ (p : Pipe) (acc : Sound p) where
       (λ s. both_of (λ y f e. λ m i. subst (λ r. (acc.fetch m ≡ r) × (m < length p.mems)) (sym e) (f m i))
       (in_stage s p.stmts) (fetch_ok_at s (in_stage s p.stmts) (acc.fetch_ok s)) (in_same s p.stmts))
 
-  -- the facts of the simulation
+  -- a sound pipe has the facts that the simulation takes, in the form in which the rules give them
   pub flow_rules : FlowRules p
   flow_rules =
       record {

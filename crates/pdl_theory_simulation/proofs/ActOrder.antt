@@ -1,5 +1,4 @@
 -- A cycle does the same whether the acts are listed by stages or by age: two threads whose order differs stand in two branches, where nothing depends on it.
--- WHAT ORDER DOESN'T MATTER
 use Rattle.std.proofs.Common.{◌≡◌, refl, sym, ap, ap₂, ◌∙◌, subst, ℕ, suc, ◌≤◌, ◌<◌, ◌⊎◌, inl, inr, Bool, true, false, ◌&&◌, ◌||◌, List, [], ◌∷◌, ◌++◌, length, Option, Some, None, is_some, is_none, ◌==◌, nat_lt, cond, if◌then◌else◌, arith, ltb-false, le_refl}
 use Rattle.std.proofs.lemmas.Bool.{eqb-true, eqb-false}
 use Rattle.pdl_semantics.specs.Flat.{Arrays, Pipe, Branch, Mem}
@@ -25,6 +24,8 @@ use Rattle.pdl_theory_simulation.proofs.ThreadPlaces.{become_stay, become_move, 
 use Rattle.pdl_theory_simulation.proofs.Requests.{asks_at, asks_are}
 use Rattle.pdl_word.specs.Each.{Each}
 use Rattle.pdl_theory_simulation.proofs.ActSwaps.{or_swap, put_all_swap, asked_none, address_none, or_then_swap, plain_all}
+
+-- WHAT ORDER DOESN'T MATTER
 
 module _ (p : Pipe) (flows : Flows p) (st : State) (d : Derived.State) (bits : List Bool) (arrays : st.arrays ≡ d.arrays) where
   -- the stated act of a thread with these older ones, as the derived machine decides it
@@ -73,7 +74,7 @@ module _ (p : Pipe) (flows : Flows p) (st : State) (d : Derived.State) (bits : L
     fails = false;
   }) (flows.branches l.thread.stage b e)
 
-  -- a step over the acts
+  -- a step over the acts gives the same in either order of two threads that may change places
   abbrev pub Commutes : (Z : Type 0) → (Moves.Act → Z → Z) → Type 0
   Commutes Z step = (x y : Pair) → Swap x y → (z : Z) → step (act_of y) (step (act_of x) z) ≡ step (act_of x) (step (act_of y) z)
 
@@ -109,7 +110,7 @@ module _ (p : Pipe) (flows : Flows p) (st : State) (d : Derived.State) (bits : L
       (sorted_each (λ y. y.live.thread.stage ≤ l.thread.stage → Swap (record { live = l; older = ls }) y) ls s.0)
       ∙ ap (step (lact p st d bits ls l)) (same_fold Z f step more commutes ls s.1) ∙ sym (more (lact p st d bits ls l) (lacts p st d bits ls))
 
-  -- a step over those that move
+  -- a step over an act that moves, and none over one that stands
   abbrev pub if_moves : (Z : Type 0) → (Moves.Act → Z → Z) → Moves.Act → Z → Z
   if_moves Z step a z = if a.moves then step a z else z
 
@@ -283,7 +284,7 @@ module _ (p : Pipe) (flows : Flows p) (st : State) (d : Derived.State) (bits : L
       (ap₂ (λ a b. (z ++ b) ++ a) (not_entering f x.live bx.0 bx.1 s.known_x.seated.keeps_on.inside)
       (not_entering f y.live by.0 by.1 s.known_y.seated.keeps_on.inside)))
 
-  -- what is taken out of a lock, and the list that stays
+  -- the list of a lock after steps 1 and 2 is the same by stages and by age
   same_two : (m : ℕ) (ls : List Live) → Swaps ls
       → list_two st (movers (acts_of p flows st d bits arrays (sorted ls))) m ≡ list_two st (movers (lacts p st d bits ls)) m
   same_two m ls s =

@@ -17,7 +17,7 @@ or_swap true false c = refl
 or_swap false true c = refl
 or_swap false false c = refl
 
--- writes into two threads' entries
+-- writes into the entries of two threads change places
 put_swap : (n v k w : ℕ) (xs : List Pending)
     → (n ≡ k → ⊥) → with_value_of n v (with_value_of k w xs) ≡ with_value_of k w (with_value_of n v xs)
 put_swap n v k w [] h = refl
@@ -87,7 +87,7 @@ put_all_swap m n k ws (v ∷ vs) xs h = at (v.mem == m) (λ ys. put_all_swap m n
     at true f = f (with_value_of k v.value xs) ∙ ap (with_writes_of m k vs) (put_all_put m n k v.value ws xs h)
     at false f = f xs
 
--- who doesn't ask
+-- a thread that asks nothing of m leaves its request as it was
 pub asked_none : (m n : ℕ) (qs : List Ask) (old : Request) → find_ask qs m ≡ None → asked_of m n qs old ≡ old
 asked_none m n [] old h = refl
 asked_none m n (q ∷ qs) old h = at (q.mem == m) h (asked_none m n qs old)
@@ -120,7 +120,7 @@ pub or_then_swap : (a b c : Option Machine.Thread) → (a ≡ None) ⊎ (b ≡ N
 or_then_swap a b c (inl e) = ap (λ x. or_then x (or_then b c)) e ∙ sym (ap (λ x. or_then b (or_then x c)) e)
 or_then_swap a b c (inr e) = ap (λ x. or_then a (or_then x c)) e ∙ sym (ap (λ x. or_then x (or_then a c)) e)
 
--- a branch's stage reserves nothing and makes no thread
+-- a statement that may stand in a branch reserves nothing for writing, makes no thread and fails no verify
 plain_op : (read : ℕ → ℕ → ℕ) (op : Op) (d : Deeds)
     → not (trunk_only op) ≡ true
     → ((Machine.deeds_after read op d).reserves ≡ d.reserves) × ((Machine.deeds_after read op d).child ≡ d.child)
@@ -131,7 +131,7 @@ plain_op read (SpecCall args) d h = absurd (cc h)
 plain_op read (Verify args) d h = absurd (cc h)
 plain_op read _ d h = (refl, refl, refl)
 
--- statements that may stand in a branch reserve nothing and make no thread
+-- statements that may stand in a branch reserve nothing for writing, make no thread and fail no verify
 pub plain_all : (read : ℕ → ℕ → ℕ) (xs : List Stmt) (d : Deeds)
     → none_of trunk_only xs ≡ true
     → ((deeds_after_all read xs d).reserves ≡ d.reserves) × ((deeds_after_all read xs d).child ≡ d.child)

@@ -146,7 +146,7 @@ module _ (p : Pipe) (flows : Flows p) where
             ∙ ap (wrote (row image m)) (sym (commits_same p m _ _ both.0));
       }
 
-  -- Progress
+  -- where the oldest thread of the derived machine advances, that of the stated one does
   pub carries_advances : (image : Arrays) (schedule : List (List Bool)) (bits : List Bool)
       → Alone.Advances p image schedule bits → Promises.Advances p image schedule bits
   carries_advances image schedule bits advances k =
@@ -155,7 +155,7 @@ module _ (p : Pipe) (flows : Flows p) where
       let d : Derived.State = Derived.state_after p (Derived.first p image) schedule in
       oldest_same st d bits both.1.0 both.1.1 ∙ advances (sym (turn_same p flows st d bits both.1.0 both.1.1).wait ∙ k)
 
-  -- and its bound
+  -- where enough threads end in a run of the derived machine for its cycles, they do in that of the stated one
   pub carries_pace : (image : Arrays) (schedule : List (List Bool))
       → (length schedule - Derived.waits_in (Derived.turns p image schedule)) / depth p ≤ Derived.ended_in (Derived.turns p image schedule)
       → KeepsPace p image schedule

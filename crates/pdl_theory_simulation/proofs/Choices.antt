@@ -329,7 +329,7 @@ module _ (p : Pipe) (flows : Flows p) (st : State) (d : Derived.State) (bits : L
   pub fit_all : (ls : List Live) (l : Live) → Known ls l → FitsAll ls l (in_stage l.thread.stage p.stmts)
   fit_all ls l k = fit_from ls l k p.stmts flows.reserves
 
-  -- it keeps to its way with the answers
+  -- a live thread keeps to its way with this cycle's answers
   pub keeps_now : (l : Live) → Seated p st l → Keeps p l.env (now_of p d bits l)
   keeps_now l s = keeps_answered p d bits l.env l.thread s.keeps_on
 

@@ -14,6 +14,7 @@ use_of m ph (ReserveWrite n a) h = h
 use_of m ph (Release n a) h = h
 use_of m ph _ h = refl
 
+-- statements that are in order in their phases of m's write are in order in their phases of its lock
 pub uses_of : (m : ℕ) (ph : Phase) (xs : List Stmt) → phases_ok m ph xs ≡ true → uses_ok m ph xs ≡ true
 uses_of m ph [] h = refl
 uses_of m ph (x ∷ xs) h = ap₂ (λ a b. a && b) (use_of m ph x.op (and_right _ _ (and_left _ _ h))) (uses_of m (next_phase m ph x.op) xs (and_right _ _ h))

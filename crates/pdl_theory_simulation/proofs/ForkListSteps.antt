@@ -8,7 +8,7 @@ use Rattle.pdl_theory_facts.specs.Scans.{none_of}
 use Rattle.pdl_theory_simulation.proofs.FlowFacts.{trunk_only}
 use Rattle.pdl_theory_derived.proofs.Writes.{and_left, and_right}
 
--- statements of which none verifies have no stage of verifies
+-- statements without a stage of verifies have no verify among them
 pub no_verifies : (xs : List Stmt) → verify_stage xs ≡ None → none_of is_verify xs ≡ true
 no_verifies [] h = refl
 no_verifies (x ∷ xs) h = at (is_verify x.op) h (no_verifies xs)
@@ -21,7 +21,7 @@ no_verifies (x ∷ xs) h = at (is_verify x.op) h (no_verifies xs)
     at true e f = absurd (clash e)
     at false e f = f e
 
--- a verify stands in no branch
+-- statements that may stand in a branch have no verify among them
 pub verify_trunk : (xs : List Stmt) → none_of trunk_only xs ≡ true → none_of is_verify xs ≡ true
 verify_trunk [] h = refl
 verify_trunk (x ∷ xs) h = ap₂ (λ a b. a && b) (off x.op (and_left _ _ h)) (verify_trunk xs (and_right _ _ h))
@@ -36,7 +36,7 @@ but_append (x ∷ xs) c h = refl
 
 -- THE LIST OF FORK f, AS ONE MORE THREAD COMES BEHIND
 
--- a thread that isn't inside, and enters perhaps
+-- behind the others, a thread that isn't inside the fork leaves of its list what they leave, and adds the branch that it enters, if it enters one
 pub list_neutral : (l : Bool) (f e n b a x : List Bool)
     → (if l then but_first f else f) ++ e ≡ n → b ≡ [] → x ≡ a
     → (if l then but_first (f ++ b) else (f ++ b)) ++ (e ++ x) ≡ n ++ a
@@ -45,7 +45,7 @@ list_neutral l f e n b a x h i j =
     ∙ ap (λ u. (if l then but_first u else u) ++ (e ++ a)) (append-nil f)
     ∙ sym (append_assoc (if l then but_first f else f) e a) ∙ ap (λ u. u ++ a) h
 
--- one that is inside and stays so
+-- behind the others, a thread that is inside the fork and stays so has its branch last in the list that they leave
 pub list_inside : (l : Bool) (f e n : List Bool) (c : Bool)
     → (if l then but_first f else f) ++ e ≡ n → e ≡ [] → (l ≡ true → is_nobody f ≡ false)
     → (if l then but_first (f ++ c ∷ []) else (f ++ c ∷ [])) ++ (e ++ []) ≡ n ++ c ∷ []
@@ -56,7 +56,7 @@ list_inside false f e n c h i j =
     ap (λ u. (f ++ c ∷ []) ++ (u ++ [])) i ∙ append-nil _
     ∙ ap (λ u. u ++ c ∷ []) (sym (append-nil f) ∙ ap (λ u. f ++ u) (sym i) ∙ h)
 
--- one that leaves, the first
+-- a thread that is first inside the fork and leaves it takes its branch out of the list
 pub list_leaves : (l : Bool) (f e n : List Bool) (c : Bool)
     → (if l then but_first f else f) ++ e ≡ n → f ≡ [] → e ≡ [] → l ≡ false
     → but_first (f ++ c ∷ []) ++ (e ++ []) ≡ n ++ []

@@ -117,7 +117,7 @@ module _ (p : Pipe) (flows : Flows p) (st : State) (d : Derived.State) (bits : L
         inside_x : (x : Branch) → (stage_at p l.thread.stage).branch ≡ Some x → x.fork ≡ f → side_in f (stage_at p l.thread.stage).branch ≡ x.first ∷ []
         inside_x x e i = ap (side_in f) e ∙ ap (λ t. if t then x.first ∷ [] else []) (eq-eqb _ _ i)
 
-        -- it stays where it is
+        -- the list of the fork with a thread behind the others that stays where it is
         stands : (b : Option Branch) → (stage_at p l.thread.stage).branch ≡ b
             → (if has_left p f (ms ls) then but_first (sides p f ls) else sides p f ls) ++ entered_branches p f (ms ls) ≡ sides p f (all_on ls)
             → (if has_left p f (ms ls)
@@ -151,7 +151,7 @@ module _ (p : Pipe) (flows : Flows p) (st : State) (d : Derived.State) (bits : L
                     let none : side_in f (stage_at p l.thread.stage).branch ≡ [] = ap (side_in f) e ∙ ap (λ t. if t then x.first ∷ [] else []) i in
                     list_neutral (has_left p f (ms ls)) (sides p f ls) (entered_branches p f (ms ls)) (sides p f (all_on ls)) (side_in f (stage_at p l.thread.stage).branch) (side_in f (stage_at p l.thread.stage).branch) [] h none (sym none)
 
-        -- it moves to stage q, or out
+        -- the list of the fork with a thread behind the others that is outside it and moves
         outside_moves : is_branch_of (stage_at p l.thread.stage).branch f ≡ false → (after : List Bool) → enters l ≡ after
             → side_in f (stage_at p l.thread.stage).branch ≡ []
             → (if has_left p f (ms ls) then but_first (sides p f ls) else sides p f ls) ++ entered_branches p f (ms ls) ≡ sides p f (all_on ls)
@@ -216,7 +216,7 @@ module _ (p : Pipe) (flows : Flows p) (st : State) (d : Derived.State) (bits : L
                 off true = refl
                 off false = refl
 
-        -- it leaves into the merge, the oldest inside
+        -- the list of the fork with a thread that leaves into the merge, the oldest inside
         moves_out : (did p d bits ls l).moves ≡ true → (q : ℕ) → next_stage p l.thread.stage (deeds_of p st bits l) ≡ Some q → (x : Branch)
             → (stage_at p l.thread.stage).branch ≡ Some x → x.fork ≡ f → (stage_at p q).merges ≡ Some x.fork
             → (if has_left p f (ms ls) then but_first (sides p f ls) else sides p f ls) ++ entered_branches p f (ms ls) ≡ sides p f (all_on ls)
@@ -407,13 +407,13 @@ module _ (p : Pipe) (flows : Flows p) (st : State) (d : Derived.State) (bits : L
         at true e r = r ∙ sym (append-nil _) ∙ ap (λ x. sides p f (all_on ls) ++ x) (sym (stood_side e)) ∙ sym (sides_append p f (next_live p st d bits ls l) (all_on ls))
         at false e r = sides_append p f (next_live p st d bits ls l) (go_on p st d bits ls) ∙ ap (λ x. x ++ sides p f (next_live p st d bits ls l)) r ∙ sym (sides_append p f (next_live p st d bits ls l) (all_on ls))
 
-    -- and empties those of forks before the verifies
+    -- after a squash the list of a fork that merges up to the stage of the verifies is empty
     pub merged_on : merges_by p f (verify_stage p.stmts) ≡ true → (ls : List Live) → AllKnown p flows st d bits arrays ls → Ordered p ls
         → fell p d bits ls ≡ true → sides p f (go_on p st d bits ls) ≡ []
     merged_on u [] k o e = refl
     merged_on u (l ∷ ls) k o e = at (fell p d bits ls) refl (λ i. merged_on u ls k.1 o.1 i)
       where
-        -- it is the one that fails
+        -- where no older thread fails a verify, the first one does
         here : fell p d bits ls ≡ false → ((did p d bits ls l).moves && (work_of_live p d bits ls l).fails) ≡ true
         here g = front ((did p d bits ls l).moves && (work_of_live p d bits ls l).fails) e
           where

@@ -88,7 +88,7 @@ survivors_more p (a ∷ xs) b = at a.moves a.work.fails (survivors_more p xs b)
         ∙ sym (append_assoc (moved_to (exit_of p a) a.work) (born_threads p a.work.child ++ survivors p xs) _)
     at false f g = ap (λ l. a.now ∷ l) g
 
--- a new thread
+-- the new live thread, if one is made
 abbrev pub born_live : Pipe → ℕ → Option (List ℕ) → List Live
 born_live p n None = []
 born_live p n (Some args) = record { number = n; thread = fresh p args; env = (fresh p args).env; kept = [] } ∷ []
@@ -104,7 +104,7 @@ module _ (p : Pipe) (flows : Flows p) (st : State) (d : Derived.State) (bits : L
 
   -- THE NEW THREAD
 
-  -- what a thread's stage makes
+  -- a live thread's stage makes no second successor but by a failing verify, and one that it makes was called
   pub childed_here : (ls : List Live) (l : Live) → Known p flows st d bits arrays ls l
       → Childed (has_made p l.env l.thread.stage)
       (has_made p (work_of_live p d bits ls l).env (next_of p l.thread.stage (work_of_live p d bits ls l).env))
@@ -112,7 +112,7 @@ module _ (p : Pipe) (flows : Flows p) (st : State) (d : Derived.State) (bits : L
   childed_here ls l k =
       stage_child p flows l.env (now_of p d bits l) (keeps_now p flows st d bits arrays l k.seated) (around p d bits (dacts p d bits ls) l.thread.stage)
 
-  -- each has made its successor
+  -- each live thread has made its successor
   abbrev pub Made : List Live → Type 0
   Made ls = Each (λ l. has_made p l.env l.thread.stage ≡ true) ls
 
@@ -285,7 +285,7 @@ module _ (p : Pipe) (flows : Flows p) (st : State) (d : Derived.State) (bits : L
       at true = ap (λ f. if f then Some l.number else squasher (movers (lacts p st d bits ls))) (fails_is ls l h)
       at false = refl
 
-  -- its number, if there is one
+  -- where a verify fails, a thread squashes, and its number is below n
   squash_low : (n : ℕ) (ls : List Live) → AllKnown p flows st d bits arrays ls → Falls n ls → fell p d bits ls ≡ true
       → (k : ℕ) × (squasher (movers (lacts p st d bits ls)) ≡ Some k) × (k < n)
   squash_low n [] k f h = absurd (cc h)
@@ -387,7 +387,7 @@ module _ (p : Pipe) (flows : Flows p) (st : State) (d : Derived.State) (bits : L
 
   -- THE STAGES
 
-  -- where one thread comes
+  -- the thread that a live thread's act brings into a stage is what becomes of it, where that stands there
   pub comes_is : (ls : List Live) (l : Live) (q : ℕ) → Known p flows st d bits arrays ls l
       → coming_thread p q (lact p st d bits ls l) ≡ find q (next_live p st d bits ls l)
   comes_is ls l q k = at (did p d bits ls l).moves

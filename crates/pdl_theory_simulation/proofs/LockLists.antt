@@ -90,7 +90,7 @@ left_pend sq m n (e ∷ es) = left_append sq (pend m n es) _ ∙ at (is_kept sq 
     at false g true h = ap₂ (λ x y. x ++ y) h (ap (λ b. cond b (own n e ∷ []) []) g)
     at false g false h = ap (λ x. x ++ []) h
 
--- stages beyond r
+-- each of these threads is past stage r
 abbrev pub Past : ℕ → List Live → Type 0
 Past r ls = Each (λ k. r < k.thread.stage) ls
 
@@ -99,7 +99,7 @@ module _ (p : Pipe) (flows : Flows p) (st : State) (d : Derived.State) (bits : L
   abbrev pub ms : List Live → List Moves.Act
   ms ls = movers (lacts p st d bits ls)
 
-  -- a thread's entries after steps 1 and 2, and all of them after these steps and after step 3
+  -- a thread's entries of m after steps 1 and 2
   abbrev pub part : ℕ → Live → List Pending
   part m l =
       with_writes_of m l.number (deeds_of p st bits l).writes (pend m l.number l.thread.entries ++ new_entries m l.number (deeds_of p st bits l).reserves)
@@ -119,7 +119,7 @@ module _ (p : Pipe) (flows : Flows p) (st : State) (d : Derived.State) (bits : L
       → Each (λ k. Behind p l.thread.stage k.thread.stage) ls → r ≤ l.thread.stage → Past r ls
   past_of r l ls t b h = each_map (λ k i. i.trunk r t h) ls b
 
-  -- a thread moves on
+  -- the next stage of a thread is later than the one where it stands
   pub next_up : (s : ℕ) (env : List ℕ) → s < length p.stages → s < next_of p s env
   next_up s env low = at (goes_to (stage_at p s).next env) refl
     where
@@ -185,7 +185,7 @@ module _ (p : Pipe) (flows : Flows p) (st : State) (d : Derived.State) (bits : L
       at true g i = (g, i)
       at false g i = i
 
-  -- steps 1 and 2
+  -- a lock's list after steps 1 and 2 is the live threads' entries of m after these steps
   pub two_is : (m n : ℕ) (ls : List Live) → Each (Seated p st) ls → Ordered p ls → Falls n ls
       → with_all_writes m (ms ls) (with_reserves m (ms ls) (pends m ls)) ≡ two m ls
   two_is m n [] s o f = refl
@@ -269,7 +269,7 @@ module _ (p : Pipe) (flows : Flows p) (st : State) (d : Derived.State) (bits : L
       )
       at false e s = (s.0, ap₂ (λ x y. x ++ y) s.1 none, ap₂ (λ x y. x ++ y) s.2 none, e ∙ append-nil _ ∙ s.3)
 
-  -- step 3
+  -- what step 3 takes out of the lock of m is what the derived machine commits, and it leaves the live threads' entries after it
   pub three_is : (m : ℕ) (ls : List Live) → AllKnown p flows st d bits arrays ls → Ordered p ls
       → Out m (has_release m (ms ls)) (two m ls) (three m ls) (commits_here m ls)
   three_is m [] k o = record { left = refl; full = λ i. absurd (cc i); shows = refl }

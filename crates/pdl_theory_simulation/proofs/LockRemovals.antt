@@ -75,7 +75,7 @@ pub record Out (m : ℕ) (some : Bool) (two three : List Pending) (commits : Lis
 abbrev pub Still : Bool → List Pending → List Pending → List Commit → Type 0
 Still some two three commits = (some ≡ false) × (two ≡ []) × (three ≡ []) × (commits ≡ [])
 
--- one more thread behind
+-- with one more thread behind the others, what is taken out of a lock is what is committed, and the rest is left
 pub out_more : (m : ℕ) (some rel : Bool) (two three mine mine' : List Pending) (cs c : List Commit)
     → Out m some two three cs → mine' ≡ (if rel then but_oldest mine else mine)
     → (rel ≡ true → (x : Pending) × (mine ≡ x ∷ [])) → c ≡ released m (if rel then oldest mine else None)

@@ -83,7 +83,7 @@ pub mems_range : {X : Type 0} → (f g : ℕ → X) (k : ℕ) (xs : List Mem)
 mems_range f g k [] h = refl
 mems_range f g k (x ∷ xs) h = ap₂ (λ a l. a ∷ l) (h k (omega arith) (omega arith)) (mems_range f g (suc k) xs (λ m i j. h m (omega arith) (omega arith)))
 
--- what each memory is asked next, as an entry for each memory
+-- the next requests of the memories, where each has an entry, are the next request of each
 pub asks_mems : (p : Pipe) (bits : List Bool) (qs : List Ask) (f : ℕ → Option ℕ) (k : ℕ) (xs : List Mem)
     → next_asks p bits qs k (for_mems f k xs) ≡ for_mems (λ m. next_ask (find_ask qs m) (is_answered p bits m) (f m)) k xs
 asks_mems p bits qs f k [] = refl

@@ -275,7 +275,7 @@ module _ (p : Pipe) (flows : Flows p) (st : State) (d : Derived.State) (bits : L
       ap (λ (w : Work). w.ready) (sym (told_here p flows st d bits arrays ls l k).is) ∙ ready in
       and_right _ _ (and_left _ _ all)
 
-  -- whose port is free
+  -- where a thread asks m anew, a request of m that was outstanding is answered in this cycle
   pub port_was_free : (m a : ℕ) (k : Asker) (ls : List Live) → AllKnown p flows st d bits arrays ls
       → asking ls m ≡ Some k → asked_at d m ≡ Some a → is_answered p bits m ≡ true
   port_was_free m a k [] h e g = absurd (clash e)
@@ -303,7 +303,7 @@ module _ (p : Pipe) (flows : Flows p) (st : State) (d : Derived.State) (bits : L
       at true i None f j r = r j
       at false i o f j r = r j
 
-  -- who lives on and awaits m
+  -- a thread that asks m anew is kept by a squash, lives on after the cycle and awaits m
   pub asker_lives : (m : ℕ) (a : Asker) (sq : Option ℕ) (ls : List Live) → AllKnown p flows st d bits arrays ls
       → Agrees p d bits sq ls → asking ls m ≡ Some a
       → (is_kept sq a.number ≡ true) × (has_owner a.number m (go_on p st d bits ls) ≡ true)

@@ -317,7 +317,7 @@ module _ (p : Pipe) (rules : FlowRules p) where
       up None e = subst (λ n. s < n) (sym (ap (stage_or (length p.stages)) e)) low
       up (Some q) e = subst (λ n. s < n) (sym (ap (stage_or (length p.stages)) e)) (rules.graph.up s q (path, e, low)).0
 
-  -- the facts of the simulation
+  -- the facts in the form in which the rules give them are those that the simulation takes
   pub flows_of_rules : Flows p
   flows_of_rules =
       record {

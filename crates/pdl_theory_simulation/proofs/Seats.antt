@@ -25,7 +25,7 @@ pub record Live : Type 0 where
 abbrev pub seat : Live → Machine.Thread
 seat l = record { number = l.number; env = l.env; guess = l.thread.guess; awaits = l.thread.awaits; kept = l.kept }
 
--- who stands in a stage
+-- the thread that stands in a stage, none where nobody stands there
 abbrev pub find : ℕ → List Live → Option Machine.Thread
 find q [] = None
 find q (l ∷ ls) = if l.thread.stage == q then Some (seat l) else find q ls

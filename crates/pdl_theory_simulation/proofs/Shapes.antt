@@ -34,7 +34,7 @@ shape_over m (Held x) es h s = absurd (cc h)
 shape_over m (Written x) es h s = absurd (cc h)
 shape_over m Done es h s = s
 
--- at the start of a stage
+-- at the start of a stage, where nothing is done yet, a thread's entries of m fit its phase and its pending writes in the lock
 pub shape_start : (m n : ℕ) (ph : Phase) (es : List Entry) → Shape m ph (entries_of m es)
     → Staged m n ph (entries_of m es) [] (pend m n es ++ []) [] false
 shape_start m n Fresh es t = (t, refl, append-nil _ ∙ pend_own m n es ∙ ap (pend m n) t, (λ l. refl), refl)
@@ -42,7 +42,7 @@ shape_start m n (Held x) es t = (t.0, t.1, refl, append-nil _ ∙ pend_own m n e
 shape_start m n (Written x) es t = (t.0, t.1, t.2, refl, append-nil _ ∙ pend_own m n es ∙ ap (pend m n) t.2 ∙ pend_one m n x t.0 (Some t.1), refl)
 shape_start m n Done es t = (t, inl (refl, append-nil _ ∙ pend_own m n es ∙ ap (pend m n) t, refl))
 
--- and at its end
+-- a thread's entries of m have the shape of its phase at the end of a stage
 pub shape_end : (m n : ℕ) (ph : Phase) (es : List Entry) (cs : List Commit) (new : List Pending) (ws : List Machine.Written) (rel : Bool)
     → Staged m n ph es cs new ws rel → Shape m ph es
 shape_end m n Fresh es cs new ws rel g = g.0
@@ -52,10 +52,12 @@ shape_end m n Done es cs new ws rel g = g.0
 
 -- LISTS OF STATEMENTS
 
+-- the uses of a lock are in order in a first part of statements where they are in all of them
 pub uses_front : (m : ℕ) (xs ys : List Stmt) (ph : Phase) → uses_ok m ph (xs ++ ys) ≡ true → uses_ok m ph xs ≡ true
 uses_front m [] ys ph h = refl
 uses_front m (x ∷ xs) ys ph h = ap₂ (λ a b. a && b) (and_left _ _ h) (uses_front m xs ys (next_phase m ph x.op) (and_right _ _ h))
 
+-- the uses of a lock are in order in a second part of statements, after the first, where they are in all of them
 pub uses_back : (m : ℕ) (xs ys : List Stmt) (ph : Phase) → uses_ok m ph (xs ++ ys) ≡ true → uses_ok m (phase_all m ph xs) ys ≡ true
 uses_back m [] ys ph h = h
 uses_back m (x ∷ xs) ys ph h = uses_back m xs ys (next_phase m ph x.op) (and_right _ _ h)

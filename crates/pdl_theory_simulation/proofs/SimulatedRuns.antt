@@ -59,7 +59,7 @@ module _ (p : Pipe) (flows : Flows p) where
   abbrev pub first_live : Live
   first_live = record { number = 1; thread = Derived.fresh p p.start; env = (Derived.fresh p p.start).env; kept = [] }
 
-  -- both machines start alike
+  -- the first states of both machines belong together, with thread 1 as the one live thread
   pub first_sim : (image : Arrays) → Sim p (Cycle.first p image) (Derived.first p image) (first_live ∷ [])
   first_sim image =
       record {
@@ -77,7 +77,7 @@ module _ (p : Pipe) (flows : Flows p) where
         matched = λ m. subst (λ q. Matched q (asked_at (Derived.first p image) m) m (first_live ∷ [])) (sym (no_request 0 m p.mems)) (nothing_at m p.mems);
       }
 
-  -- a run of both, and the live threads at its end
+  -- from states that belong together both machines have the same ports and waits in a run, and come to states that belong together
   pub runs_same : (st : State) (d : Derived.State) (schedule : List (List Bool)) (ls : List Live) → Sim p st d ls
       → SameTurns p (Cycle.turns_from p st schedule) (Derived.turns_from p d schedule)
       × ((ks : List Live) × Sim p (Cycle.state_after p st schedule) (Derived.state_after p d schedule) ks)
@@ -86,6 +86,6 @@ module _ (p : Pipe) (flows : Flows p) where
       let rest = runs_same (Cycle.cycle p st bits) (Derived.cycle p d bits) schedule (lives_next p flows st d bits sim.arrays ls) (cycle_sim p flows st d bits ls sim) in
       ((turn_same p flows st d bits ls sim, rest.0), rest.1)
 
-  -- the simulation
+  -- in each run both machines have the same ports and waits in every cycle
   pub same_turns : (image : Arrays) (schedule : List (List Bool)) → SameTurns p (Cycle.turns p image schedule) (Derived.turns p image schedule)
   same_turns image schedule = (runs_same (Cycle.first p image) (Derived.first p image) schedule (first_live ∷ []) (first_sim image)).0

@@ -17,7 +17,7 @@ use Rattle.pdl_theory_turns.proofs.Paths.{Fixed}
 use Rattle.pdl_theory_derived.proofs.Deeds.{places, places_has, work_of, AllFit, told_step}
 use Rattle.pdl_theory_turns.proofs.Steps.{Here, step_write, step_reserve, step_release}
 
--- to the pending writes of m
+-- what statements do to the pending writes of m
 module _ (o : Around) (read : ℕ → ℕ → ℕ) (block : Blocked → Bool) (room : Reserved → Bool) (free : Ask → Bool) (m n : ℕ) (start : List Pending) where
   step_op : (op : Op) (ph : Phase) (d : Deeds) (es : List Entry) (cs : List Commit) → places es ≡ d.held → use_ok m ph op ≡ true
       → Here o read block room free m n start ph d (work_of o read block room free d es cs)
@@ -44,7 +44,7 @@ module _ (o : Around) (read : ℕ → ℕ → ℕ) (block : Blocked → Bool) (r
   step_if true op ph d es cs h k g = step_op op ph d es cs h (k refl) g
   step_if false op ph d es cs h k g = g
 
-  -- the statements of a stage
+  -- the statements of a stage, each in order in its phase of m's lock, leave m as the phase after them says
   pub steps_all : (path : List ℕ) (xs : List Stmt) (ph : Phase) (d : Deeds) (es : List Entry) (cs : List Commit)
       → places es ≡ d.held → AllFit o read block room free xs
       → Fixed path o xs (work_of o read block room free d es cs) → uses_ok m ph (onpath path xs) ≡ true
@@ -83,7 +83,7 @@ module _ (o : Around) (read : ℕ → ℕ → ℕ) (block : Blocked → Bool) (r
       allowed false true e k = absurd (cc e)
       allowed false false e k = ((λ i. absurd (cc i)), k, refl)
 
--- to the values
+-- a variable keeps its value where another gets one
 pub set_stays : (env : List ℕ) (x g v : ℕ) → not (x == g) ≡ true → slice_index env g ≡ slice_index (slice_set env x v) g
 set_stays env x g v h = sym (get_or-set_other env x g v 0 apart)
   where
@@ -100,7 +100,7 @@ op_sets g o (Verify args) w h = at (same_args (values_of args w.env) w.guess)
     at false = refl
 op_sets g o _ w h = refl
 
--- only what a path's statements bind at once changes
+-- the statements of a path change only the variables that they bind at once
 pub only_sets : (path : List ℕ) (o : Around) (xs : List Stmt) (w : Work) → Fixed path o xs w
     → SameBut sets (onpath path xs) w.env (do_all o xs w).env
 only_sets path o [] w f g h = refl
@@ -120,7 +120,7 @@ abbrev pub awaits_var : List Awaited → ℕ → Bool
 awaits_var [] g = false
 awaits_var (r ∷ rs) g = (r.var == g) || awaits_var rs g
 
--- only what a path's statements ask for is awaited
+-- a statement that is no delayed read into a variable leaves it awaited or not, as it was
 op_asks : (g : ℕ) (o : Around) (op : Op) (w : Work)
     → not (is_fetch_of g op) ≡ true
     → awaits_var (awaited_of (work_after o op w).asks) g ≡ awaits_var (awaited_of w.asks) g
@@ -199,7 +199,7 @@ asks_from all o (x ∷ xs) w f h = asks_from all o xs (step o x w) (λ m k. f m 
     at true = op_from all o x.op w (λ m k. f m (first (not (is_delayed_read m x.op)) (none_of (is_delayed_read m) xs) k)) h
     at false = h
 
--- to the successor: no second one is made but by a failing verify, and one that is made was called
+-- what is known of the successor: no second one is made but by a failing verify, and one that is made was called
 pub record Childed (been : Bool) (c : Bool) (w : Work) : Type 0 where
   pub since : been ≡ true → c ≡ true
   pub called_it : is_some w.child ≡ true → c ≡ true

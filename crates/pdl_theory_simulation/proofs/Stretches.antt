@@ -1,5 +1,4 @@
 -- What a stage does to a thread: to its pending writes, its values and its successor.
--- WHAT A STAGE DOES
 use Rattle.std.proofs.Common.{◌≡◌, refl, sym, ap, ap₂, ◌∙◌, subst, ℕ, ◌≤◌, ◌<◌, ◌⊎◌, inl, inr, Bool, true, false, ◌||◌, not, List, [], ◌∷◌, ◌++◌, length, Option, Some, None, ◌==◌, cond, if◌then◌else◌, arith, slice_index, slice_set, le_refl}
 use Rattle.pdl_semantics.specs.Flat.{Stmt, Branch, Pipe}
 use Rattle.pdl_semantics.specs.Stages.{onpath, in_stage, stage_at, goes_to, is_reserve, is_release, reserve_stage, commit_stage}
@@ -32,12 +31,12 @@ on_way p path s = onpath path (stages_before s p.stmts)
 abbrev pub Unlike : List Awaited → List ℕ → List ℕ → Type 0
 Unlike rs env env' = (g : ℕ) → awaits_var rs g ≡ false → slice_index env g ≡ slice_index env' g
 
--- stage s stands after stage b: each trunk stage that was reached from s on was left from b on, and in one branch s is the smaller
+-- a thread in stage s is behind one in stage b: each trunk stage up to s comes before b, and in one branch s is the smaller
 pub record Behind (p : Pipe) (s b : ℕ) : Type 0 where
   pub trunk : (r : ℕ) → (stage_at p r).branch ≡ None → r ≤ s → r < b
   pub branch : (stage_at p s).branch ≡ (stage_at p b).branch → s < b
 
--- a stage does not stand after one that leads to it
+-- a thread is not behind one in a stage that leads to its own
 pub not_behind : (p : Pipe) → Ways p → (k s : ℕ) → Leads p k s → Behind p s k → ⊥
 not_behind p g k s l h = at (stage_at p s).branch refl
   where
@@ -138,7 +137,7 @@ start_of t =
     record { env = t.env; entries = t.entries; guess = t.guess; asks = []; commits = []; child = None; fails = false; ready = true }
 
 module _ (p : Pipe) (flows : Flows p) (env : List ℕ) (t : Derived.Thread) (k : Keeps p env t) where
-  -- the deeds with which its stage begins
+  -- the deeds with which the stage of the thread begins
   abbrev pub start_deeds : Deeds
   start_deeds = record {
     env = t.env;
@@ -157,7 +156,7 @@ module _ (p : Pipe) (flows : Flows p) (env : List ℕ) (t : Derived.Thread) (k :
   way : (on_way p t.env t.stage ≡ on_way p env t.stage) × (visits_stage p t.env t.stage ≡ visits_stage p env t.stage)
   way = k.path t.env (λ g h. refl)
 
-  -- the guards of its stage's statements hold, when they are met, just where they hold with its values at the end of the stage
+  -- the guards of the stage's statements hold, when they are met, just where they hold with the thread's values at the end of the stage
   pub fixed_here : (o : Around) → Fixed (work_of_stage p o t).env o (in_stage t.stage p.stmts) (start_of t)
   fixed_here o = fixed_to (work_of_stage p o t).env o (in_stage t.stage p.stmts) (start_of t) (fixed_stage t.stage p.stmts flows.fixed_guards) refl
 
@@ -168,14 +167,14 @@ module _ (p : Pipe) (flows : Flows p) (env : List ℕ) (t : Derived.Thread) (k :
       flows.steady t.stage t.env (work_of_stage p o t).env (way.1 ∙ k.reached)
       (only_sets (work_of_stage p o t).env o (in_stage t.stage p.stmts) (start_of t) (fixed_here o))
 
-  -- its way so far is that of its values at the end of the stage
+  -- the thread's way so far is that of its values at the end of the stage
   pub way_on : (o : Around) → on_way p (work_of_stage p o t).env t.stage ≡ on_way p env t.stage
   way_on o = sym (steady_here o).0 ∙ way.0
 
   reached_on : (o : Around) → visits_stage p (work_of_stage p o t).env t.stage ≡ true
   reached_on o = sym (steady_here o).1 ∙ way.1 ∙ k.reached
 
-  -- its way by its next stage is its way so far with the statements of this stage that it takes
+  -- the thread's way by its next stage is its way so far with the statements of this stage that it takes
   pub way_next : (o : Around)
       → on_way p (work_of_stage p o t).env (next_of p t.stage (work_of_stage p o t).env)
       ≡ on_way p env t.stage ++ onpath (work_of_stage p o t).env (in_stage t.stage p.stmts)
@@ -203,17 +202,17 @@ module _ (p : Pipe) (flows : Flows p) (env : List ℕ) (t : Derived.Thread) (k :
   no_entry : (m : ℕ) → none_of (is_reserve m) (on_way p env t.stage) ≡ true → entries_of m t.entries ≡ []
   no_entry m h = subst (λ q. Shape m q (entries_of m t.entries)) (stays_fresh m (on_way p env t.stage) (uses_way env t.stage m) h) (k.shape m)
 
-  -- it has no entry of m before the stage of the reserves and after that of the releases
+  -- a thread up to the stage of m's reserves has no entry of m
   pub early : (m : ℕ) → t.stage ≤ reserve_stage p m → entries_of m t.entries ≡ []
   early m h =
       no_entry m
       (none_onpath (is_reserve m) env (stages_before t.stage p.stmts) (none_till (is_reserve m) (reserve_stage p m) t.stage p.stmts (flows.reserves m) h))
 
-  -- it has no entry of a memory that the pipe doesn't have
+  -- a thread has no entry of a memory that the pipe doesn't have
   pub unknown : (m : ℕ) → length p.mems ≤ m → entries_of m t.entries ≡ []
   unknown m h = no_entry m (none_onpath (is_reserve m) env (stages_before t.stage p.stmts) (none_before (is_reserve m) t.stage p.stmts (flows.unreserved m h)))
 
-  -- it has no entry of m past the stage of m's releases
+  -- a thread past the stage of m's releases has no entry of m
   pub late : (m : ℕ) → commit_stage p m < t.stage → entries_of m t.entries ≡ []
   late m h = shape_over m _ _ (over_at env t.stage m h) (k.shape m)
 
@@ -233,7 +232,7 @@ module _ (p : Pipe) (flows : Flows p) (env : List ℕ) (t : Derived.Thread) (k :
         (subst (λ l. uses_ok m Fresh l ≡ true) (way_next o) (uses_way (work_of_stage p o t).env (next_of p t.stage (work_of_stage p o t).env) m)))
         (shape_start m n _ t.entries (k.shape m)))
 
-    -- its stage does to its entries of m what the stated machine's deeds do
+    -- a thread's stage does to its entries of m what the stated machine's deeds do
     pub stage_worked : Worked m n (pend m n t.entries) (deeds_after_all read (in_stage t.stage p.stmts) start_deeds) (work_of_stage p o t)
     stage_worked = worked m n _ _ _ _ here
 
@@ -241,15 +240,15 @@ module _ (p : Pipe) (flows : Flows p) (env : List ℕ) (t : Derived.Thread) (k :
         (entries_of m (work_of_stage p o t).entries)
     stage_shape = shape_end m n _ _ _ _ _ _ here
 
-    -- where it goes out of the pipe it has no entry of m left
+    -- a thread that goes out of the pipe has no entry of m left
     pub ends_empty : next_of p t.stage (work_of_stage p o t).env ≡ length p.stages → entries_of m (work_of_stage p o t).entries ≡ []
     ends_empty e = shape_over m _ _ (over_end _ _ m e) stage_shape
 
-    -- where it goes past the stage of m's releases it has no entry of m left
+    -- a thread that goes past the stage of m's releases has no entry of m left
     pub late_empty : commit_stage p m < next_of p t.stage (work_of_stage p o t).env → entries_of m (work_of_stage p o t).entries ≡ []
     late_empty e = shape_over m _ _ (over_at _ _ m e) stage_shape
 
-  -- its successor
+  -- a thread's stage makes no second successor but by a failing verify, and one that it makes was called
   pub stage_child : (o : Around)
       → Childed (has_made p env t.stage) (has_made p (work_of_stage p o t).env (next_of p t.stage (work_of_stage p o t).env)) (work_of_stage p o t)
   stage_child o =
@@ -270,7 +269,7 @@ module _ (p : Pipe) (flows : Flows p) (env : List ℕ) (t : Derived.Thread) (k :
   fetched_asks s q l [] h = tt
   fetched_asks s q l (x ∷ qs) h = ((s, l, h.0), fetched_asks s q l qs h.1)
 
-  -- it keeps to its way in the next stage
+  -- a thread that moves keeps to its way in its next stage
   pub keeps_next : (o : Around) (read : ℕ → ℕ → ℕ) (block : Blocked → Bool) (room : Reserved → Bool) (free : Ask → Bool)
       → AllFit o read block room free (in_stage t.stage p.stmts) → (q : ℕ)
       → goes_to (stage_at p t.stage).next (work_of_stage p o t).env ≡ Some q
@@ -319,7 +318,7 @@ module _ (p : Pipe) (flows : Flows p) (env : List ℕ) (t : Derived.Thread) (k :
       leads : Leads p t.stage q
       leads = ((work_of_stage p o t).env, goes, k.inside)
 
--- a new thread
+-- a new thread keeps to its way
 pub keeps_fresh : (p : Pipe) → Flows p → (args : List ℕ) → Keeps p (Derived.fresh p args).env (Derived.fresh p args)
 keeps_fresh p flows args =
     record {

@@ -66,7 +66,7 @@ abbrev pub place : Pair → List Pair → List Pair
 place x [] = x ∷ []
 place x (y ∷ ys) = if nat_lt x.live.thread.stage y.live.thread.stage then x ∷ y ∷ ys else y ∷ place x ys
 
--- in rising stages
+-- the live threads, each with its older ones, in rising stages
 abbrev pub sorted : List Live → List Pair
 sorted [] = []
 sorted (l ∷ ls) = place (record { live = l; older = ls }) (sorted ls)
@@ -117,7 +117,7 @@ pub each_sorted : (A : Pair → Type 0) (ls : List Live) → EachPair A (sorted 
 each_sorted A [] h = tt
 each_sorted A (l ∷ ls) h = let r = place_each A (record { live = l; older = ls }) (sorted ls) h in (r.0, each_sorted A ls r.1)
 
--- of each live thread, and of each pair
+-- what holds of each live thread holds of the thread in each pair
 pub pairs_each : (A : Live → Type 0) (ls : List Live) → Each A ls → EachPair (λ x. A x.live) (pairs ls)
 pairs_each A [] h = tt
 pairs_each A (l ∷ ls) h = (h.0, pairs_each A ls h.1)
@@ -207,7 +207,7 @@ fails_none read (x ∷ xs) d h =
     by' true e = e
     by' false e = refl
 
--- a test of each pair
+-- whether each pair passes the test
 abbrev pub all_pairs : (Pair → Bool) → List Pair → Bool
 all_pairs h [] = true
 all_pairs h (x ∷ xs) = h x && all_pairs h xs
@@ -249,7 +249,7 @@ rises_each lo hi (x ∷ xs) r = (
       (rises_each (suc x.live.thread.stage) hi xs r.2),
 )
 
--- the same test of the threads in later stages and of the older ones: a younger one in a later stage, and an older one in an earlier stage, pass it
+-- a test passes of all pairs in later stages just where it does of all older ones, where it passes of those in the one group alone
 pub later_older : (p : Pipe) (h : Pair → Bool) (all ys : List Live) (l : Live) (older : List Live) (later : List Pair) (hi : ℕ)
     → all ≡ ys ++ l ∷ older → Ordered p all → Rises (suc l.thread.stage) hi (lives_of later)
     → ((A : Pair → Type 0) → EachPair A (pairs all) → EachPair A later)

@@ -30,7 +30,7 @@ none_found p q (l ∷ ls) h = ap (λ b. cond b (Some (seat l)) (find q ls)) (ne_
 -- ORDER, AS THREADS MOVE
 
 module _ (p : Pipe) (g : Ways p) where
-  -- the older one moves on
+  -- a thread stays behind an older one that moves on
   pub behind_later : (s b b' : ℕ) → Leads p b b' → Behind p s b → Behind p s b'
   behind_later s b b' l h = record { trunk = λ r t i. let j = h.trunk r t i in let u = up in omega arith; branch = λ e. at (stage_at p s).branch refl e }
     where
@@ -83,7 +83,7 @@ module _ (p : Pipe) (g : Ways p) where
       at None e i = strict (behind_trunk s s' b l h clear e)
       at (Some x) e i = strict (behind_branch s s' b x l h e (sym i ∙ e))
 
-  -- both move on
+  -- a thread that moves on stays behind an older one that moves on too, where it doesn't enter the merge of a fork with that inside
   pub behind_both : (s s' b b' : ℕ) → Leads p s s' → Leads p b b' → Behind p s b
       → ((f : ℕ) → (stage_at p s').merges ≡ Some f → is_inside p f b ≡ false) → Behind p s' b'
   behind_both s s' b b' l m h clear = record { trunk = λ r t i. low r t (nat_le r s) refl i; branch = λ e. at (stage_at p s').branch refl e }
@@ -134,7 +134,7 @@ module _ (p : Pipe) (flows : Flows p) where
         at true e = out e (goes_to (stage_at p l.thread.stage).next (work_of_live p d bits ls l).env) refl
         at false e = (f e, tt)
 
-    -- and of all of them
+    -- what holds of each of two lists of live threads holds of both joined, the first of them left out where a thread fell
     pub each_on : (A : Live → Type 0) (f : Bool) (xs ys : List Live) → Each A xs → Each A ys → Each A ((if f then [] else xs) ++ ys)
     each_on A true xs ys h k = k
     each_on A false xs ys h k = each_append A xs ys h k
@@ -146,7 +146,7 @@ module _ (p : Pipe) (flows : Flows p) where
         → goes_to (stage_at p l.thread.stage).next (work_of_live p d bits ls l).env ≡ Some q → Leads p l.thread.stage q
     leads_of ls l k q i = ((work_of_live p d bits ls l).env, i, k.seated.keeps_on.inside)
 
-    -- what each thread becomes
+    -- what each of these threads becomes in the cycle has a property
     abbrev pub Becomes : (Live → Type 0) → List Live → Type 0
     Becomes A ls = EachPair (λ y. Each A (next_live p st d bits y.older y.live)) (pairs ls)
 
@@ -154,7 +154,7 @@ module _ (p : Pipe) (flows : Flows p) where
     becomes_on A [] h = tt
     becomes_on A (l ∷ ls) h = each_on A (fell p d bits ls) (next_live p st d bits ls l) (go_on p st d bits ls) h.0 (becomes_on A ls h.1)
 
-    -- behind one that stays
+    -- a thread that stays in stage s, behind all these threads, is behind whatever becomes of each of them
     pub become_stay : (s : ℕ) (ls : List Live) → AllKnown p flows st d bits arrays ls
         → Each (λ k. Behind p s k.thread.stage) ls → Becomes (λ k. Behind p s k.thread.stage) ls
     become_stay s [] k h = tt
@@ -163,12 +163,12 @@ module _ (p : Pipe) (flows : Flows p) where
       become_stay s ls k.1 h.1,
     )
 
-    -- a stage that is behind those of all these threads is behind those of the ones that live on after the cycle
+    -- a thread in stage s that is behind all these threads is behind those of them that live on after the cycle
     pub behind_stay : (s : ℕ) (ls : List Live) → AllKnown p flows st d bits arrays ls
         → Each (λ k. Behind p s k.thread.stage) ls → Each (λ k. Behind p s k.thread.stage) (go_on p st d bits ls)
     behind_stay s ls k h = becomes_on (λ k. Behind p s k.thread.stage) ls (become_stay s ls k h)
 
-    -- behind one that moves
+    -- a thread that moves from behind all these threads into a stage that it can enter is behind whatever becomes of each of them
     pub become_move : (s s' : ℕ) → Leads p s s' → (ls : List Live) → AllKnown p flows st d bits arrays ls
         → Each (λ k. Behind p s k.thread.stage) ls → Derived.can_enter p (dacts p d bits ls) (Some s') ≡ true
         → Becomes (λ k. Behind p s' k.thread.stage) ls
@@ -481,7 +481,7 @@ module _ (p : Pipe) (flows : Flows p) where
             at false e true f = absurd (eqb-false a b e (sym (eqb-true b a f)))
             at false e false f = refl
 
-    -- a stage after the cycle
+    -- who stands in a stage after the cycle is the live thread that is found there then
     pub stage_is : (sq : Option ℕ) (q : ℕ) (ls : List Live) → AllKnown p flows st d bits arrays ls → Ordered p ls → Agrees p d bits sq ls
         → or_then (if q == 0 then Cycle.born_thread p st.next (made p flows st d bits arrays ls) else None)
         (if_kept sq (next_thread p q (lacts p st d bits ls)))

@@ -208,7 +208,7 @@ module _ (p : Pipe) (flows : Flows p) where
         ∙ ap (request_left (squasher (movers (lacts p st d bits ls)))) o.1
         ∙ ap (λ b. if b then Owned l.number o.0 else Orphan o.0) s
 
-    -- and one that is made is its maker's
+    -- a request that is made in the cycle is owned by the thread that made it, where that is kept
     pub request_made : (l : Live) → is_kept (squasher (movers (lacts p st d bits ls))) l.number ≡ true → (m a : ℕ) → m < length p.mems → asking p flows st d bits sim.arrays ls m ≡ Some (record { number = l.number; address = a })
         → request_of (Cycle.after_these p st bits (lacts p st d bits ls) (movers (lacts p st d bits ls)) (squasher (movers (lacts p st d bits ls)))) m
         ≡ Owned l.number a

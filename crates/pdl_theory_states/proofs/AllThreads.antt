@@ -56,7 +56,7 @@ module _ (p : Pipe) (sound : Sound p) (st : State) (d : Derived.State) (ls : Lis
       ∙ pairs_all _ ls (order_pairs ls st.next sim.ordered sim.falls whole.along))
       (from_all _ 0 p.stages (λ f. ap₂ Sound.same_sides (sim.forks f) (ap (Sound.sides_in p f) live_here ∙ sides_are p f ls) ∙ sides_same (sides p f ls)))
 
-  -- 2.
+  -- each live thread but the youngest has made its successor
   pub chain_point : (ls ≡ [] → ⊥) → are_linked p (live st) ≡ true
   chain_point some = ap (are_linked p) live_here ∙ at ls sim.have_made whole.youngest some
     where
@@ -141,7 +141,7 @@ module _ (p : Pipe) (sound : Sound p) (st : State) (d : Derived.State) (ls : Lis
       ap (list_all (λ l. list_all (λ (x : Stmt). stays_ready p st l x.op) (past_stmts p l))) live_here
       ∙ all_each _ ls (each_block ls (known p (sound_flows p sound) st d [] ls sim) whole.along)
 
-  -- and the path
+  -- each live thread stands on its path
   each_path : (ks : List Live) → Each (Seated p st) ks → Along (Lasting p st) ks → Each (λ k. k.number < st.next) ks
       → ((m : ℕ) (test : Pending → Bool) → list_any test (pends m ks) ≡ true → list_any test (lock_of st m) ≡ true)
       → Each (λ l. on_path p st (told l) ≡ true) ks

@@ -176,7 +176,7 @@ module _ (p : Pipe) (sound : Sound p) (strict : Strict p) (image : Arrays) (sche
       (λ m. of_mem m (Derived.all_commits (Derived.turns p image schedule))) rows_now
       (reached p sound strict image schedule).0 sim_here.matched test g _ all_good
 
-  -- 3.
+  -- in every state that a run comes to, each follower has the values of its turn, and awaits its addresses
   pub values : IsTrue
       (list_all (follows_values p (state_after p (first p image) schedule))
       (followers p image (Cycle.ended_in (Cycle.turns p image schedule)) (state_after p (first p image) schedule)))
@@ -191,7 +191,7 @@ module _ (p : Pipe) (sound : Sound p) (strict : Strict p) (image : Arrays) (sche
       (λ m. of_mem m (Derived.all_commits (Derived.turns p image schedule))) rows_now
       (reached p sound strict image schedule).0 sim_here.matched f g)))
 
-  -- 4.
+  -- in every state that a run comes to, a lock's list has an entry for each location held, and those of followers are right
   pub entries : IsTrue (all_from (pending_right p image (Cycle.ended_in (Cycle.turns p image schedule)) (state_after p (first p image) schedule)) 0 p.mems)
   entries = true_is _ (from_all _ 0 p.mems (λ m. ap₂ (λ a b. a && b) (holders_same p sound _ _ _ sim_here whole_here m)
       (all_follow (right_entries p (state_after p (first p image) schedule) m)
@@ -263,7 +263,7 @@ module _ (p : Pipe) (sound : Sound p) (strict : Strict p) (image : Arrays) (sche
   pub arrays : IsTrue (arrays_right p image (Cycle.ended_in (Cycle.turns p image schedule)) (state_after p (first p image) schedule) 0 p.mems)
   arrays = true_is _ (arrays_from 0 p.mems)
 
-  -- 8.
+  -- in every state that a run comes to, nobody behind a follower that still looks at a memory has released a write of it
   pub looks : IsTrue
       (all_from
       (λ m. all_pairs (λ older younger. not (still_looks m p older && has_released m p younger.live))

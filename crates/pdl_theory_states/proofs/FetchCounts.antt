@@ -12,7 +12,7 @@ use Rattle.pdl_theory_derived.proofs.Stages.{step}
 use Rattle.pdl_theory_turns.proofs.Paths.{Fixed}
 use Rattle.pdl_theory_states.proofs.Trails.{AllStmts, stmts_map}
 
--- the reads that these statements ask for
+-- the read that a statement asks for, none where it is no delayed read
 abbrev pub fetch_of : Op → List Awaited
 fetch_of op = on_delayed_read (λ x m a. record { mem = m; var = x } ∷ []) [] op
 
@@ -44,7 +44,7 @@ asks_op o (SpecCall args) w = sym (append-nil _)
 asks_op o SpecCheck w = sym (append-nil _)
 asks_op o SpecBarrier w = sym (append-nil _)
 
--- what a stage asks for
+-- the statements of a path ask for their delayed reads, after what was asked for before
 pub asks_are : (path : List ℕ) (o : Around) (xs : List Stmt) (w : Work) → Fixed path o xs w
     → awaited_of (do_all o xs w).asks ≡ awaited_of w.asks ++ fetches_of (onpath path xs)
 asks_are path o [] w f = sym (append-nil _)
@@ -99,7 +99,7 @@ any_front test (x ∷ xs) ys h = at (test x) h (λ k. any_front test xs ys k)
     at true k f = refl
     at false k f = f k
 
--- each delayed read is among them
+-- each delayed read among statements is one of their awaited reads
 pub fetches_in : (xs : List Stmt) → AllStmts (λ z. HeldOp [] (fetches_of xs) z.op) xs
 fetches_in [] = tt
 fetches_in (y ∷ ys) = (
@@ -120,7 +120,7 @@ count test (x ∷ xs) = cond (test x) (1 + count test xs) (count test xs)
 pub count_is : (test : Stmt → Bool) (xs : List Stmt) → count test xs ≡ count_by test xs
 count_is test xs = is_count_by (count test) test refl (λ x xs. refl) xs
 
--- as many of two lists pass a test as of the one and of the other
+-- in two lists joined as many statements pass a test as in the first and in the second together
 pub count_append : (test : Stmt → Bool) (xs ys : List Stmt) → count test (xs ++ ys) ≡ count test xs + count test ys
 count_append test [] ys = omega arith
 count_append test (x ∷ xs) ys = at (test x) (count_append test xs ys)
@@ -130,17 +130,17 @@ count_append test (x ∷ xs) ys = at (test x) (count_append test xs ys)
     at true h = omega arith
     at false h = h
 
--- none passes a test that fails at each
+-- no statement passes a test that fails at each
 pub count_none : (test : Stmt → Bool) (xs : List Stmt) → AllStmts (λ x. test x ≡ false) xs → count test xs ≡ 0
 count_none test [] h = refl
 count_none test (x ∷ xs) h = ap₂ (λ b n. cond b (1 + n) n) h.0 (count_none test xs h.1)
 
--- as many pass two tests that agree at each
+-- as many statements pass the one as the other of two tests that agree at each
 pub count_same : (test test' : Stmt → Bool) (xs : List Stmt) → AllStmts (λ x. test x ≡ test' x) xs → count test xs ≡ count test' xs
 count_same test test' [] h = refl
 count_same test test' (x ∷ xs) h = ap₂ (λ b n. cond b (1 + n) n) h.0 (count_same test test' xs h.1)
 
--- as many awaited reads as delayed reads
+-- statements have as many awaited reads as there are delayed reads among them
 pub count_fetch : (xs : List Stmt) → length (fetches_of xs) ≡ count (λ (x : Stmt). is_fetch x.op) xs
 count_fetch [] = refl
 count_fetch (x ∷ xs) = length-append (fetch_of x.op) (fetches_of xs) ∙ ap₂ (λ a b. a + b) (fetch_one x.op) (count_fetch xs) ∙ at (is_fetch x.op)

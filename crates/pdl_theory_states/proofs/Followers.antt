@@ -199,7 +199,7 @@ no_lives [] h = refl
 no_lives (o ∷ os) h = absurd (cc h)
 
 module _ (p : Pipe) (sound : Sound p) (st : State) where
-  -- its way is its turn's
+  -- the way of a thread on its turn is that of its turn
   pub way_of : (arrays : Arrays) (args : List ℕ) (l : Live) (sp : Spot) → l.thread ≡ Spots.seat p arrays args sp
       → Seated p st l → caught arrays sp.asks sp.env ≡ (so_far p arrays args sp.stage).env
       → on_way p l.env l.thread.stage ≡ on_way p (thread (at_once p) arrays args).env l.thread.stage
@@ -227,7 +227,7 @@ module _ (p : Pipe) (sound : Sound p) (st : State) where
 module _ (p : Pipe) (sound : Sound p) (image : Arrays) (st : State) (d : Derived.State)
     (arrays_same : st.arrays ≡ d.arrays) (past : Writes) (rows : RowsAt image past d.arrays) (all : List Live)
     (matched : (m : ℕ) → Matched (request_of st m) (asked_at d m) m all) where
-  -- a thread on its turn
+  -- a follower is a live thread on its turn
   pub record Good (f : Follower) : Type 0 where
     pub l : Live
     pub is : f.live ≡ told l
@@ -248,7 +248,7 @@ module _ (p : Pipe) (sound : Sound p) (image : Arrays) (st : State) (d : Derived
   AllGood [] = Unit {0}
   AllGood (f ∷ fs) = Good f × AllGood fs
 
-  -- all of them
+  -- the followers among the live threads are all threads on their turns
   pub walk : (w : Writes) (v : Marks) (arrays : Arrays) (args : List ℕ) (ahead : List ℕ) (os : List Live) (sps : List Spot) (strays : List Derived.Thread)
       → RowsAt image w arrays → ((m : ℕ) → is_plain (mem_at p m).lock ≡ true → v m ≡ [])
       → Standing p (course p sound) d.asked past w v arrays args ahead sps
@@ -372,7 +372,7 @@ module _ (p : Pipe) (sound : Sound p) (image : Arrays) (st : State) (d : Derived
   pub values_good : (f : Follower) → Good f → same_args (once_answered st f.live.thread) (turn_so_far p f).env ≡ true
   values_good f g = ap (λ l. same_args l (turn_so_far p f).env) (values_are f g) ∙ same_args_refl (turn_so_far p f).env
 
-  -- and the addresses that it awaits
+  -- the addresses that a thread on its turn awaits are those of its turn
   pub asks_good : (f : Follower) → Good f
       → list_all (λ r. has_done (has_asked (turn_so_far p f).env r.var r.mem (request_address (request_of st r.mem))) p f.live) f.live.thread.awaits ≡ true
   asks_good f g =

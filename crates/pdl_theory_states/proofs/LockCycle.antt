@@ -136,7 +136,7 @@ module _ (p : Pipe) (flows : Flows p) (st : State) (d : Derived.State) (bits : L
       at true k = (past_new l h.0, k)
       at false k = k
 
-  -- the list stays in order
+  -- with a cycle's reservations a lock's list stays in thread order
   pub within_new : (n : ℕ) (ls : List Live) → AllKnown p flows st d bits arrays ls → Ordered p ls → Falls n ls
       → Within 0 n (with_reserves m (movers (lacts p st d bits ls)) (pends m ls))
   within_new n [] k o f = omega arith

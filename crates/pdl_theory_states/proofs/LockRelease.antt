@@ -92,7 +92,7 @@ module _ (p : Pipe) (flows : Flows p) (st : State) (d : Derived.State) (bits : L
           ∙ two_is p flows st d bits arrays m n ls s o f ∙ full.2))
       at (x ∷ xs) e = (x, xs, e)
 
-  -- and it is older than each thread that is not past the releases and doesn't release
+  -- a thread is not past the stage of m's releases, and doesn't move out of it in this cycle
   abbrev pub Stays : Pair → Type 0
   Stays x = (x.live.thread.stage ≤ commit_stage p m) × (x.live.thread.stage ≡ commit_stage p m → (did p d bits x.older x.live).moves ≡ false)
 

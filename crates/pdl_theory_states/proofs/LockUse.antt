@@ -82,7 +82,7 @@ module _ (p : Pipe) (sound : Sound p) (st : State) (d : Derived.State) (bits : L
       (pair_map (λ x h i. ap (count_older x.live.number) with_new_is ∙ h i ∙ ap (count_older x.live.number) (sym (sim.locks m))) (pairs ls)
       (places_kept p (sound_flows p sound) st d bits sim.arrays m st.next ls (pends m ls) sim.ordered sim.falls))
 
-  -- places shift
+  -- a write of m is released in the cycle just where one is by age
   pub releases_are : has_release m (moving p st bits) ≡ has_release m (movers (lacts p st d bits ls))
   releases_are =
       ap (λ these. has_release m (movers these)) (acts_are p (sound_flows p sound) st d bits ls sim)

@@ -203,7 +203,7 @@ none_latest m a (k ∷ ks) h =
     latest_own k.thread.entries m a (latest (threads_of ks) m a) ∙ ap (λ l. latest_in l m a (latest (threads_of ks) m a)) h.0 ∙ none_latest m a ks h.1
 
 module _ (p : Pipe) (flows : Flows p) (st : State) (d : Derived.State) (bits : List Bool) (arrays : st.arrays ≡ d.arrays) where
-  -- behind those that are past the releases nothing is pending
+  -- a thread past the releases of m, behind all these, finds no write of theirs pending after the cycle
   late_next : (m a s : ℕ) (ks : List Live) → AllKnown p flows st d bits arrays ks
       → Each (λ k. Behind p s k.thread.stage) ks → commit_stage p m ≤ s
       → latest (threads_of (go_on p st d bits ks)) m a ≡ Nothing
@@ -216,7 +216,7 @@ module _ (p : Pipe) (flows : Flows p) (st : State) (d : Derived.State) (bits : L
       both [] w i = tt
       both (l ∷ ls) w i = (late p flows l.env l.thread w.0.0 m (i.0.trunk (commit_stage p m) (flows.trunk_commit m) low), both ls w.1 i.1)
 
-  -- as the older threads go on
+  -- what the older threads' writes say of an address stays calm as they go on, past the stage of m's reserves
   pub calm_next : (m a : ℕ) (ks : List Live) → AllKnown p flows st d bits arrays ks → Ordered p ks
       → Each (λ k. reserve_stage p m < k.thread.stage) ks → fell p d bits ks ≡ false
       → Calm (latest (threads_of ks) m a) (latest (threads_of (go_on p st d bits ks)) m a)

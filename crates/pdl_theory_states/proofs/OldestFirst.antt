@@ -159,7 +159,7 @@ pub all_snoc : {X : Type 0} → (test : X → Bool) (xs : List X) (x : X)
 all_snoc test [] x h k = ap (λ b. b && true) k
 all_snoc test (y ∷ xs) x h k = ap₂ (λ a b. a && b) (and_left _ _ h) (all_snoc test xs x (and_right (test y) _ h) k)
 
--- each one passes
+-- a test that passes of each live thread passes of all of them, oldest first
 pub all_each : (test : Sound.Live → Bool) (ls : List Live) → Each (λ l. test (told l) ≡ true) ls → list_all test (oldest_first ls) ≡ true
 all_each test [] h = refl
 all_each test (l ∷ ls) h = all_snoc test (oldest_first ls) (told l) (all_each test ls h.1) h.0

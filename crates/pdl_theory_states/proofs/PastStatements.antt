@@ -1,5 +1,4 @@
 -- What is still true of the statements that a thread has carried out: its values are what they gave, its pending writes stand at the addresses of their locations, its blocks are ready.
--- LISTS OF STATEMENTS
 use Rattle.std.proofs.Common.{◌≡◌, refl, sym, ap, ap₂, ◌∙◌, subst, ℕ, ◌≤◌, ◌<◌, ◌⊎◌, inl, inr, Bool, true, false, ◌&&◌, ◌||◌, not, List, [], ◌∷◌, ◌++◌, length, Some, None, ◌==◌, nat_lt, cond, arith, slice_index, slice_set, eq-eqb, ltb-true}
 use Rattle.std.proofs.lemmas.List.{get_or-set_other, get_or-set_same, length-set}
 use Rattle.std.proofs.lemmas.Bool.{eqb-true, not-true, or_parts, or_right, or_left}
@@ -20,6 +19,8 @@ use Rattle.pdl_theory_states.specs.Strict.{bound_by, uses_own, is_mentioned, is_
 use Rattle.pdl_theory_turns.proofs.Surroundings.{has_filled}
 use Rattle.pdl_word.proofs.Bools.{untrue}
 use Rattle.pdl_theory_states.proofs.UnusedValues.{AllOps, AnyOp, ops_map, ops_both, any_both, onto, touches, value_agree, Done, done_agrees, done_guess, mention_touch, untouched, set_agrees}
+
+-- LISTS OF STATEMENTS
 
 -- THREADS
 
@@ -92,7 +93,7 @@ block_set o x v env es past (Verify args) t h = tt
 block_set o x v env es past SpecCheck t h = tt
 block_set o x v env es past SpecBarrier t h = tt
 
--- the same with more pending writes, or fewer, where each location that is none any more is released
+-- a block stays true with more pending writes, or fewer, where each location that is none any more is released
 pub block_more : (o : Around) (env : List ℕ) (es es' : List Entry) (past past' : List Op) (op : Op)
     → ((m a : ℕ) → is_released m a past ≡ true → is_released m a past' ≡ true)
     → ((m a : ℕ)
@@ -274,7 +275,7 @@ module _ (o : Around) (vars : ℕ) (kind : Kind o) where
         blocks = subst (λ l. AllOps (BlockOk o v.env l past) past) s (subst (λ l. AllOps (BlockOk o l w.entries past) past) e h.blocks);
       }
 
-  -- this stays true with one more statement of a ready thread, which binds a new variable and mentions none that is asked for
+  -- what is true of the past statements stays so with one more of a ready thread that binds a new variable and mentions none that is asked for
   pub past_step : (op : Op) (past : List Op) (w : Work) → is_new vars past (bound_by op) ≡ true
       → not (uses_own op) ≡ true → AllAsks (λ q. mentions_var q.var op ≡ false) w.asks
       → (is_call op ≡ true → AllOps (λ op. is_call op ≡ false) past) → (work_after o op w).ready ≡ true
@@ -380,7 +381,7 @@ module _ (o : Around) (vars : ℕ) (kind : Kind o) where
   call_flag true op past k u i = untrue (sym (ap (λ b. not (true && b)) i) ∙ and_left (not (true && is_call op)) _ k)
   call_flag false op past k u i = u refl
 
-  -- this stays true with the statements of a path in a ready stage, which bind new variables and mention none that is asked for
+  -- what is true of the past statements stays so with those of a path in a ready stage that bind new variables and mention none asked for
   pub past_all : (path : List ℕ) (c : Bool) (xs : List Stmt) (past : List Op) (w : Work) → Fixed path o xs w
       → all_new vars past (onpath path xs) ≡ true → calls_ok c (onpath path xs) ≡ true → Uncalled c past
       → is_unseen xs ≡ true → AllAsks (λ q. silent_on q.var xs ≡ true) w.asks → (do_all o xs w).ready ≡ true

@@ -8,7 +8,7 @@ use Rattle.pdl_theory_derived.proofs.Lists.{own, pend}
 use Rattle.pdl_semantics.specs.PendingLists.{AreOrdered, count_older}
 use Rattle.pdl_semantics.proofs.Facts.{put_older}
 
--- how many are older
+-- in two lists joined as many entries are older as in the first and in the second together
 pub count_append : (t : ℕ) (xs ys : List Pending) → count_older t (xs ++ ys) ≡ count_older t xs + count_older t ys
 count_append t [] ys = omega arith
 count_append t (x ∷ xs) ys = at (nat_lt x.thread t) (count_append t xs ys)

@@ -204,7 +204,7 @@ module _ (p : Pipe) (sound : Sound p) (st : State) (l : Live) (seated : Seated p
       reserved true e = e
       reserved false e = absurd (cc (sym h ∙ ap is_done (unused_all m (on_way p l.env l.thread.stage) uses e)))
 
-  -- only past the releases
+  -- a thread that has released a write of m is past the stage of m's releases
   pub released_late : has_released m p (told l) ≡ true → commit_stage p m < l.thread.stage
   released_late h = at (nat_lt (commit_stage p m) l.thread.stage) refl
     where

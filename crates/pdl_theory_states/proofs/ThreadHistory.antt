@@ -1,5 +1,4 @@
 -- What a live thread keeps to on its own: it came through the stages of its path, has done just their statements, and awaits or keeps just what the last of them asked for.
--- DELAYED READS OF A STAGE
 use Rattle.std.proofs.Common.{◌≡◌, ◌≢◌, refl, sym, ap, ap₂, ◌∙◌, subst, ℕ, suc, ◌+◌, ◌≤◌, ◌<◌, ◌⊎◌, inl, inr, Bool, true, false, ◌&&◌, ◌||◌, not, List, [], ◌∷◌, ◌++◌, length, Option, Some, None, is_some, ◌==◌, if◌then◌else◌, arith, slice_index, slice_set, eq-eqb, length-append, add-zero, zero-add, length-set}
 use Rattle.std.proofs.lemmas.List.{get_or-set_other, length-replicate}
 use Rattle.std.proofs.lemmas.Bool.{ne_eqb}
@@ -26,6 +25,8 @@ use Rattle.pdl_theory_states.proofs.PastStatements.{none_touched, AskedBy, AllPl
 use Rattle.pdl_theory_states.proofs.UnusedValues.{AllOps, ops_both, onto, onto_append, all_new_append, all_new_front, touches, Done, done_agrees, set_agrees}
 use Rattle.pdl_theory_states.proofs.Trails.{AllStmts, stmts_append, stmts_map, stage_stmts, Trail, Among, Steady, trail_same, among_low, among_next}
 use Rattle.pdl_theory_states.proofs.FetchCounts.{fetches_of, asks_are, held_in, HeldOp, fetches_in, count, count_append, count_none, count_same, count_fetch}
+
+-- DELAYED READS OF A STAGE
 
 -- A LIVE THREAD
 
@@ -164,7 +165,7 @@ module _ (p : Pipe) (st : State) (bits : List Bool) (n : ℕ) where
       at true i f = refl
       at false i f = f i
 
-  -- as answers come
+  -- a thread keeps to its path as answers come, which are then kept for it
   pub local_answered : (env : List ℕ) (kept : List Kept) (t : Derived.Thread) (values : List ℕ) (rs : List Awaited)
       → unanswered_reads p st bits n t.awaits ≡ rs → (loc : Local p env kept t)
       → AllAwaited (λ r. AnyAsk (λ q. q.var ≡ r.var) loc.asks) t.awaits
@@ -298,11 +299,11 @@ kept_steady p env kept t loc =
 module _ (p : Pipe) (flows : Flows p) (sound : Sound p) (strict : Strict p) (o : Around) (kind : Kind o) (env : List ℕ)
     (kept : List Kept) (t : Derived.Thread) (kept_answer : Keeps p env t) (values : with_kept kept env ≡ t.env)
     (loc : Local p env kept t) (ready : (work_of_stage p o t).ready ≡ true) where
-  -- the statements of its stage that are on its path
+  -- the statements of the thread's stage that are on its path
   abbrev pub mine : List Stmt
   mine = onpath (work_of_stage p o t).env (in_stage t.stage p.stmts)
 
-  -- at the start of the stage
+  -- at the start of a stage what is true of the past statements is true with the work that begins there
   pub past_start : AllOps (BlockOk o t.env t.entries (past_of p env t.stage)) (past_of p env t.stage) → Past o p.vars (past_of p env t.stage) (start_of t)
   past_start blocks =
       record {
@@ -326,7 +327,7 @@ module _ (p : Pipe) (flows : Flows p) (sound : Sound p) (strict : Strict p) (o :
       ∙ ap (λ l. l ++ onpath (work_of_stage p o t).env (stages_from (next_of p t.stage (work_of_stage p o t).env) p.stmts))
       (way_next p flows env t kept_answer o)
 
-  -- and at its end
+  -- at the end of a stage what is true of the past statements is true with those of the stage that are on the path
   pub past_end : AllOps (BlockOk o t.env t.entries (past_of p env t.stage)) (past_of p env t.stage)
       → Past o p.vars (onto (onpath (work_of_stage p o t).env (in_stage t.stage p.stmts)) (past_of p env t.stage)) (work_of_stage p o t)
   past_end blocks =
@@ -381,18 +382,18 @@ module _ (p : Pipe) (flows : Flows p) (sound : Sound p) (strict : Strict p) (o :
     is_next : next_of p t.stage (work_of_stage p o t).env ≡ q
     is_next = ap (stage_or (length p.stages)) goes
 
-    -- its way by its next stage is its way so far with the statements of this stage that it takes
+    -- the thread's way by its next stage is its way so far with the statements of this stage that it takes
     pub way_q : on_way p (work_of_stage p o t).env q ≡ on_way p env t.stage ++ onpath (work_of_stage p o t).env (in_stage t.stage p.stmts)
     way_q = ap (on_way p (work_of_stage p o t).env) (sym is_next) ∙ way_next p flows env t kept_answer o
 
-    -- what it has carried out by its next stage is what it had carried out before, and then these statements
+    -- what the thread has carried out by its next stage is what it had carried out before, and then these statements
     pub past_q : past_of p (work_of_stage p o t).env q ≡ onto (onpath (work_of_stage p o t).env (in_stage t.stage p.stmts)) (past_of p env t.stage)
     past_q = ap (λ l. onto l []) way_q ∙ onto_append (on_way p env t.stage) (onpath (work_of_stage p o t).env (in_stage t.stage p.stmts)) []
 
     up : t.stage < q
     up = (flows.graph.up t.stage q ((work_of_stage p o t).env, goes, kept_answer.inside)).0
 
-    -- into its next stage it came from this one, and through the same stages before
+    -- into its next stage the thread came from this one, and through the same stages before
     pub new_trail : Trail p (work_of_stage p o t).env q (t.stage ∷ loc.trail)
     new_trail = (goes, kept_answer.inside, trail_same p env (work_of_stage p o t).env t.stage loc.trail steady_values loc.walked)
 
@@ -409,7 +410,7 @@ module _ (p : Pipe) (flows : Flows p) (sound : Sound p) (strict : Strict p) (o :
         → HeldOp [] (awaited_of (work_of_stage p o t).asks) z
     held_awaited z h x m a e = ap (λ l. held_in [] l x m) asks_here ∙ h x m a e
 
-    -- in its next stage it keeps to its path, and awaits just what it asked for in this one
+    -- in its next stage the thread keeps to its path, and awaits just what it asked for in this one
     pub local_moved : AllOps (BlockOk o t.env t.entries (past_of p env t.stage)) (past_of p env t.stage)
         → Local p (work_of_stage p o t).env []
         (record {
@@ -461,13 +462,13 @@ module _ (p : Pipe) (flows : Flows p) (sound : Sound p) (strict : Strict p) (o :
               ∙ zero-add (count (λ (x : Stmt). is_fetch x.op) (onpath (work_of_stage p o t).env (in_stage t.stage p.stmts))));
         }
 
-    -- in its next stage its last requests are those of this stage
+    -- in its next stage the thread's last requests are those of this stage
     pub moved_asks : (blocks : AllOps (BlockOk o t.env t.entries (past_of p env t.stage)) (past_of p env t.stage))
         → (local_moved blocks).asks ≡ (work_of_stage p o t).asks
     unfolding local_moved
     moved_asks blocks = refl
 
-    -- in its next stage it has come through this stage and those before
+    -- in its next stage the thread has come through this stage and those before
     pub moved_trail : (blocks : AllOps (BlockOk o t.env t.entries (past_of p env t.stage)) (past_of p env t.stage))
         → (local_moved blocks).trail ≡ t.stage ∷ loc.trail
     unfolding local_moved

@@ -39,7 +39,7 @@ pub ops_stmts : (P : Op → Type 0) (xs : List Stmt) (past : List Op) → AllStm
 ops_stmts P [] past h k = k
 ops_stmts P (x ∷ xs) past h k = ops_stmts P xs (x.op ∷ past) h.1 (h.0, k)
 
--- of a stage
+-- the statements of a stage that are on a path stand in that stage
 pub stage_stmts : (path : List ℕ) (s : ℕ) (xs : List Stmt) → AllStmts (λ x. x.stage ≡ s) (onpath path (in_stage s xs))
 stage_stmts path s [] = tt
 stage_stmts path s (x ∷ xs) = at (x.stage == s) refl (all_hold x.guards path) (stage_stmts path s xs)
@@ -75,7 +75,7 @@ goes_same Ends env env' f = refl
 goes_same (Goes to) env env' f = refl
 goes_same (Forks z a b) env env' f = ap (λ k. Some (if k == 1 then a else b)) (f z a b refl)
 
--- the same trail with other values, where the forks' variables keep theirs
+-- a trail stays one with other values, where the forks' variables keep theirs
 pub trail_same : (p : Pipe) (env env' : List ℕ) (s : ℕ) (trail : List ℕ)
     → ((r : ℕ) → Among r trail → (z a b : ℕ) → (stage_at p r).next ≡ Forks z a b → slice_index env z ≡ slice_index env' z)
     → Trail p env s trail → Trail p env' s trail
@@ -87,13 +87,13 @@ module _ (p : Pipe) (g : Ways p) where
   trail_up : (env : List ℕ) (s r : ℕ) → goes_to (stage_at p r).next env ≡ Some s → r < length p.stages → r < s
   trail_up env s r e low = (g.up r s (env, e, low)).0
 
-  -- all of them stand before it
+  -- all stages of a trail come before the one where it ends
   pub among_low : (env : List ℕ) (s : ℕ) (trail : List ℕ) → Trail p env s trail → (q : ℕ) → Among q trail → q < s
   among_low env s [] h q i = absurd i
   among_low env s (r ∷ rs) h q (inl i) = let u = trail_up env s r h.0 h.1 in omega arith
   among_low env s (r ∷ rs) h q (inr i) = let u = trail_up env s r h.0 h.1 in let v = among_low env r rs h.2 q i in omega arith
 
-  -- and lead no further
+  -- a stage of a trail leads to one that is no later than where the trail ends
   pub among_next : (env : List ℕ) (s : ℕ) (trail : List ℕ) → Trail p env s trail → (q : ℕ) → Among q trail
       → (n : ℕ) × (goes_to (stage_at p q).next env ≡ Some n) × (n ≤ s)
   among_next env s [] h q i = absurd i
@@ -122,7 +122,7 @@ module _ (p : Pipe) (g : Ways p) where
       at true = refl
       at false = ap (one_of (comes_to p env end k)) e ∙ h
 
-  -- a trail leads from stage 0
+  -- stage 0 comes to each stage that the end of a trail comes to
   pub trail_comes : (env : List ℕ) (end s n k : ℕ) (trail : List ℕ) → Trail p env s trail
       → comes_to p env end k s ≡ true → s + k ≤ n → comes_to p env end n 0 ≡ true
   trail_comes env end s n k [] h c low = comes_more env end k n 0 (omega arith) (subst (λ q. comes_to p env end k q ≡ true) h c)

@@ -309,7 +309,7 @@ module _ (p : Pipe) (sound : Sound p) (arrays : Arrays) (args : List ℕ) where
   pub whole : thread p arrays args ≡ thread (along (thread (at_once p) arrays args).env (at_once p)) arrays args
   whole = sym (StageFacts.same_thread p sound arrays args) ∙ Turns.thread_path (at_once p) sound.pathwise arrays args
 
-  -- its way
+  -- the way of a turn up to a stage is that of its path
   pub turn_way : (s : ℕ) → on_way p (so_far p arrays args s).env s ≡ on_way p (thread (at_once p) arrays args).env s
   turn_way s =
       way_same (so_far p arrays args s).env (thread (at_once p) arrays args).env (stages_before s p.stmts)
@@ -320,7 +320,7 @@ module _ (p : Pipe) (sound : Sound p) (arrays : Arrays) (args : List ℕ) where
       (ap (λ (w : Work). slice_index w.env g) (so s)
       ∙ Turns.value_kept (at_once p) sound.pathwise arrays args s g (Turns.none_parts (binds_var g) s (looked_all p.stmts) k)))
 
-  -- its values
+  -- the values of a turn before a stage are those of the sequential run after the statements of earlier stages
   pub turn_env : (s : ℕ) → (so_far p arrays args s).env ≡ (run_all (stages_before s p.stmts) (TurnPath.start_run p arrays args)).env
   turn_env s =
       follow (thread (at_once p) arrays args).env arrays (before s p.stmts) (λ m. Fresh) (start_work p args) (TurnPath.start_run p arrays args)
@@ -333,7 +333,7 @@ module _ (p : Pipe) (sound : Sound p) (arrays : Arrays) (args : List ℕ) where
       ∙ ap (λ l. (run_all l (TurnPath.start_run p arrays args)).env) (before_stages s p.stmts)
       ∙ ap (λ (r : Run). r.env) (run_looked (stages_before s p.stmts) (TurnPath.start_run p arrays args))
 
-  -- its pending writes
+  -- past the stage of m's reserves the pending writes of a turn have the address of its write of m and, once written, its value
   pub turn_entries : (s m n : ℕ) → reserve_stage p m < s
       → AllEntries
       (λ e. is_right_entry (list_any (λ (x : Stmt). is_write m x.op) (on_way p (thread (at_once p) arrays args).env s))
@@ -372,7 +372,7 @@ module _ (p : Pipe) (sound : Sound p) (arrays : Arrays) (args : List ℕ) where
           ∙ ap (list_any (λ (x : Stmt). is_write m x.op)) (way_looked p (thread (at_once p) arrays args).env s)
           ∙ any_looked (is_write m) (write_looked m) (on_way p (thread (at_once p) arrays args).env s)
 
-  -- its guess
+  -- a turn has an open guess before a stage just where its way has a speculative call and no verify
   pub turn_guess : (s : ℕ)
       → is_guessed (making_all Unmade (before s (onpath (thread (at_once p) arrays args).env (looked_all p.stmts))))
       ≡ (list_any (λ (x : Stmt). is_spec_call x.op) (on_way p (thread (at_once p) arrays args).env s)
@@ -385,7 +385,7 @@ module _ (p : Pipe) (sound : Sound p) (arrays : Arrays) (args : List ℕ) where
       ∙ ap₂ (λ a b. a && not b) (any_looked is_spec_call spec_looked (on_way p (thread (at_once p) arrays args).env s))
       (any_looked is_verify verify_same (on_way p (thread (at_once p) arrays args).env s))
 
-  -- it is wrong where a thread was made with other arguments
+  -- an open guess is wrong just where a thread was made with other arguments
   pub turn_wrong : (s : ℕ) (b : Bool) → (right_guess (so_far p arrays args s).child (thread p arrays args).next ≡ not b)
       → is_some (so_far p arrays args s).child ≡ true
       → (is_guessed (making_all Unmade (before s (onpath (thread (at_once p) arrays args).env (looked_all p.stmts))))

@@ -92,7 +92,7 @@ values_agree [] env env' f = refl
 values_agree (e ∷ es) env env' f =
     ap₂ (λ a l. a ∷ l) (value_agree e env env' (λ g h. f g (or_left _ _ h))) (values_agree es env env' (λ g h. f g (or_right (uses_in g e) _ h)))
 
--- what a statement gave
+-- what a statement gave is still so: the value of the variable that it binds, or the guess that it makes
 abbrev pub Done : List ℕ → List ℕ → Op → Type 0
 Done env guess (Bind x e) = slice_index env x ≡ value_of e env
 Done env guess (SpecCall args) = guess ≡ values_of args env
@@ -108,7 +108,7 @@ Done env guess (Verify args) = Unit {0}
 Done env guess SpecCheck = Unit {0}
 Done env guess SpecBarrier = Unit {0}
 
--- values agree on what a statement hangs on
+-- two lists of values agree on the variables that a statement hangs on
 abbrev pub Agrees : Op → List ℕ → List ℕ → Type 0
 Agrees op env env' = (g : ℕ) → touches g op ≡ true → slice_index env g ≡ slice_index env' g
 
@@ -144,7 +144,7 @@ done_guess env guess guess' (Verify args) k h = tt
 done_guess env guess guess' SpecCheck k h = tt
 done_guess env guess guess' SpecBarrier k h = tt
 
--- what no statement has to do with, none hangs on
+-- a statement that has nothing to do with a variable doesn't hang on its value
 pub mention_touch : (x : ℕ) (op : Op) → mentions_var x op ≡ false → touches x op ≡ false
 mention_touch x (DelayedRead y m a) h = (or_parts (y == x) (a == x) h).1
 mention_touch x (Bind y e) h = h

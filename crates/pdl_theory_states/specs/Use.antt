@@ -26,7 +26,7 @@ FindsOlder st m r a = a.stage ≤ r → count_older a.thread.number (lock_of st 
 abbrev pub moving : Pipe → State → List Bool → List Act
 moving p st bits = movers (all_acts p st bits)
 
--- a lock's list with what the cycle appends, with what it writes, and after its release
+-- a lock's list with what the cycle appends
 abbrev pub with_new : Pipe → State → List Bool → ℕ → List Pending
 with_new p st bits m = with_reserves m (moving p st bits) (lock_of st m)
 

@@ -147,7 +147,7 @@ abbrev pub Reached : Pipe → List ℕ → ℕ → Type 0
 Reached p path s = (k : ℕ) × (s ≡ walk p path k)
 
 module _ (p : Pipe) (acc : Sound p) where
-  -- V, or 0 where there is none
+  -- the stage of the verifies, or 0 where there is none
   abbrev pub v_of : Option ℕ → ℕ
   v_of None = 0
   v_of (Some v) = v

@@ -153,7 +153,7 @@ settled o v k (x ∷ xs) w u h n =
     let one = kept_step (all_hold x.guards w.env) (work_after o x.op w) w here.0 in
     ((rest.0.0 ∙ one.0, rest.0.1 ∙ one.1, rest.0.2 ∙ one.2), ap (λ j. making_all j xs) here.1 ∙ rest.1)
 
--- nor is the next arguments' value changed
+-- a statement after the guess or the call, other than a verify, leaves the next thread's arguments as they are
 run_op_settled : (v : Option ℕ) (k : Making) (s : ℕ) (op : Op) (r : Run)
     → is_unmade k ≡ false → making_ok v k s op ≡ true → not (is_verify op) ≡ true → (run_after op r).next ≡ r.next
 run_op_settled v k s (Call args) r u h n = absurd (clash (sym u ∙ h))

@@ -7,7 +7,7 @@ use Rattle.pdl_semantics.specs.Promises.{wrote, row}
 use Rattle.pdl_theory_derived.specs.Derived.{Thread}
 use Rattle.pdl_theory_turns.proofs.Marks.{Mark, seen}
 
--- writes of each memory
+-- the writes of each memory
 abbrev pub Writes : Type 0
 Writes = ℕ → List Commit
 

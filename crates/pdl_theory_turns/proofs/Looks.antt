@@ -286,7 +286,7 @@ fixed_env : (path : List ℕ) (o : Around) (ys : List Stmt) (w v : Work) → w.e
 fixed_env path o [] w v h f = tt
 fixed_env path o (y ∷ ys) w v h f = (ap (all_hold y.guards) (sym h) ∙ f.0, fixed_env path o ys (step o y w) (step o y v) (env_step o y w v h) f.1)
 
--- they are the same for another value of a variable that nothing has to do with
+-- the guards hold as on the path with another value of a variable that no statement has to do with
 fixed_set : (path : List ℕ) (arrays : Arrays) (x v : ℕ) (ys : List Stmt) (w : Work)
     → silent_on x ys ≡ true → Fixed path (alone arrays) (looked_all ys) (with_set w x v)
     → Fixed path (alone arrays) (looked_all ys) w

@@ -120,7 +120,7 @@ module _ (p : Pipe) (acc : Pathwise p) (path : List ℕ) (arrays : Arrays) (args
   pub child_in_end : (so_far (along path p) arrays args (length p.stages)).child ≡ Some (thread (along path p) arrays args).next
   child_in_end = made_child (length p.stages) (ap (making_all Unmade) (acc.paths path).whole ∙ made_is _ (acc.made path))
 
-  -- a guess is not left behind V
+  -- where a guess is open before a stage, the verifies stand in that stage or a later one
   pub guess_inside : (s : ℕ) → making_all Unmade (before s (onpath path p.stmts)) ≡ Guessed → (v : ℕ) × (verify_stage p.stmts ≡ Some v) × (s ≤ v)
   guess_inside s e = at (verify_stage p.stmts) refl
     where
@@ -171,7 +171,7 @@ module _ (p : Pipe) (acc : Pathwise p) (path : List ℕ) (arrays : Arrays) (args
           (unverified (verify_stage p.stmts) k s (in_stage s (onpath path p.stmts)) (in_stage_all s (onpath path p.stmts)) ok (λ _. e)) in
           (s'.0.0, s'.0.1)
 
-  -- nor does one that has made the next thread for certain
+  -- where the next thread is made for certain before a stage, the stage makes none and fails no verify
   pub made_stays : (o : Around) (s : ℕ) → making_all Unmade (before s (onpath path p.stmts)) ≡ Made
       → ((work_of_stage (along path p) o (thread_at (along path p) arrays args s)).child ≡ None)
       × ((work_of_stage (along path p) o (thread_at (along path p) arrays args s)).fails ≡ false)
@@ -231,7 +231,7 @@ module _ (p : Pipe) (acc : Pathwise p) (path : List ℕ) (arrays : Arrays) (args
           (in_stage s (onpath path p.stmts)) Fresh
           (subst (λ l. phases_ok m Fresh l ≡ true) ((acc.paths path).pieces s) (ok_before (along path p) (acc.paths path) arrays args (suc s) m))
 
-  -- a right guess stays
+  -- where a thread was made with the right arguments before a stage, the stage makes none and fails no verify
   pub right_stays : (s : ℕ) → right_guess (so_far (along path p) arrays args s).child (thread (along path p) arrays args).next ≡ true
       → ((work_of_stage (along path p) (alone arrays) (thread_at (along path p) arrays args s)).child ≡ None)
       × ((work_of_stage (along path p) (alone arrays) (thread_at (along path p) arrays args s)).fails ≡ false)
@@ -276,7 +276,7 @@ module _ (p : Pipe) (acc : Pathwise p) (path : List ℕ) (arrays : Arrays) (args
       (sym h ∙ ap (λ y. same_args y (thread (along path p) arrays args).next) (same_some (sym e ∙ made_child s k))
       ∙ same_args_refl (thread (along path p) arrays args).next)))
 
-  -- and fails in V
+  -- in the stage of the verifies a wrong guess fails, and the thread with the right arguments is made
   pub wrong_at : (s : ℕ) (x : List ℕ) → (so_far (along path p) arrays args s).child ≡ Some x
       → same_args x (thread (along path p) arrays args).next ≡ false → verify_stage p.stmts ≡ Some s
       → ((work_of_stage (along path p) (alone arrays) (thread_at (along path p) arrays args s)).child ≡ Some (thread (along path p) arrays args).next)

@@ -157,7 +157,7 @@ step_path path o x xs w e = at (all_hold x.guards w.env) (all_hold x.guards path
     at false true i = absurd (cc i)
     at false false i = refl
 
--- the same of statements with others after them, which don't bind the guards
+-- the guards of statements hold as on the path, where after them its values agree on all guards that no later statement binds
 pub fixed_path_to : (path : List ℕ) (o : Around) (xs ys : List Stmt) (w : Work)
     → is_fixed (xs ++ ys) ≡ true
     → ((g : ℕ) → none_of (binds_var g) ys ≡ true → slice_index (do_all o (onpath path xs) w).env g ≡ slice_index path g)

@@ -33,7 +33,7 @@ tied_set m (Held y) env es cs ws x v h t =
 tied_set m (Written y) env es cs ws x v h t = t
 tied_set m Done env es cs ws x v h t = t
 
--- a reservation of m
+-- with a reservation of m, where none was made, the write of m is tied to the sequential run as a held one
 pub tied_reserve : (m a : ℕ) (ph : Phase) (env : List ℕ) (es : List Entry) (cs ws : List Commit)
     → is_fresh ph ≡ true → Tied m ph env es cs ws → Tied m (Held a) env (entry m a (slice_index env a) None ∷ es) cs ws
 tied_reserve m a Fresh env es cs ws h t = (ap (λ l. entry m a (slice_index env a) None ∷ l) t.0, t.1, t.2)
@@ -54,7 +54,7 @@ tied_write m a v (Held x) env es cs ws h t =
 tied_write m a v (Written x) env es cs ws h t = cc
 tied_write m a v Done env es cs ws h t = cc
 
--- a release
+-- with a release of m the write of m stays tied to the sequential run, in the phase after the release
 pub tied_release : (m a : ℕ) (ph : Phase) (env : List ℕ) (es : List Entry) (cs ws : List Commit)
     → not (holds_location ph a) ≡ true → Tied m ph env es cs ws
     → Tied m (after_release ph a) env (without es m a) (cs ++ released_commits es m a) ws

@@ -122,7 +122,7 @@ module _ (p : Pipe) (acc : Sound p) where
         (sym (append_assoc (before t.stage (looked_all p.stmts)) (in_stage t.stage (looked_all p.stmts)) (stages_from (suc t.stage) (looked_all p.stmts))))
         (acc.pathwise.fixed_by t.stage))
 
-    -- its stage's statements are those of the path that it is seen to take when the stage is done
+    -- a thread's stage does the statements of the path that the thread is seen to take when the stage is done
     along_path : work_of_stage p o t
         ≡ do_all o (onpath (work_of_stage p o t).env (in_stage t.stage p.stmts))
         (record { env = t.env; entries = t.entries; guess = t.guess; asks = []; commits = []; child = None; fails = false; ready = true })
@@ -134,7 +134,7 @@ module _ (p : Pipe) (acc : Sound p) where
         (fixed_second (before t.stage p.stmts) (in_stage t.stage p.stmts) fixed_both))
         (λ g k. refl))
 
-    -- and what it did before is on that path
+    -- what the thread did before its stage is on the path that it is seen to take when the stage is done
     same_before : onpath (work_of_stage p o t).env (before t.stage p.stmts) ≡ onpath t.env (before t.stage p.stmts)
     same_before = same_path (before t.stage p.stmts) (in_stage t.stage p.stmts) fixed_both (λ g k. all_stays g o (in_stage t.stage p.stmts) _ k)
       where
@@ -162,7 +162,7 @@ module _ (p : Pipe) (acc : Sound p) where
         ≡ onpath (work_of_stage p o t).env (before t.stage p.stmts) ++ looked_all (onpath (work_of_stage p o t).env (in_stage t.stage p.stmts))
     piece_on = sym (before_on (suc t.stage)) ∙ (acc.pathwise.paths (work_of_stage p o t).env).pieces t.stage ∙ ap₂ (λ k l. k ++ l) (before_on t.stage) stage_on
 
-    -- its stage in the scans of the path
+    -- the stage of the verifies is the same with delayed reads answered at once
     vis : verify_stage (looked_all p.stmts) ≡ verify_stage p.stmts
     vis = verify_looked p.stmts
 
@@ -283,7 +283,7 @@ module _ (p : Pipe) (acc : Sound p) where
             (none_stage_from (binds_var z) (suc c.fork) t.stage p.stmts (acc.branches.fork_trunk c t.stage e).1 (acc.fork_bound c.fork z a b f)))
             ∙ ap (comes_by p t.env) (sym e) ∙ h
 
-    -- its next stage is on its path
+    -- the next stage of the thread is on its path
     on_then : visits_stage p (work_of_stage p o t).env t.stage ≡ true → t.stage < length p.stages
         → visits_stage p (work_of_stage p o t).env (next_of p t.stage (work_of_stage p o t).env) ≡ true
     on_then h low = at (stage_at p (next_of p t.stage (work_of_stage p o t).env)).branch refl

@@ -31,7 +31,7 @@ use Rattle.pdl_theory_turns.proofs.Turns
 use Rattle.pdl_theory_turns.proofs.Turns.{none_from_path}
 use Rattle.pdl_semantics.specs.Sound.{stages_from}
 
--- scans over reads at once
+-- where answering a delayed read changes nothing for a test, no statement passes it with all answered just where none did before
 pub none_looked : (test : Op → Bool)
     → ((op : Op) → test (answered_op op) ≡ test op) → (xs : List Stmt) → none_of test (looked_all xs) ≡ none_of test xs
 none_looked test f [] = refl
@@ -113,7 +113,7 @@ caught_other arrays x (q ∷ qs) env h = caught_other arrays x qs _ h.1 ∙ get_
         at false i j = eqb-false x x i refl
 
 module _ (p : Pipe) (acc : Sound p) (arrays : Arrays) (args : List ℕ) where
-  -- the path of a turn
+  -- the values with which the turn ends, with delayed reads answered at once, which tell its path
   abbrev pub path : List ℕ
   path = (thread (at_once p) arrays args).env
 
@@ -159,7 +159,7 @@ module _ (p : Pipe) (acc : Sound p) (arrays : Arrays) (args : List ℕ) where
           (ap (none_of (binds_var x)) (from_looked (suc s) p.stmts)
           ∙ none_looked (binds_var x) (binds_looked x) (stages_from (suc s) p.stmts) ∙ acc.fork_bound s x a b e)
 
-  -- so it goes on as its path tells
+  -- a turn goes on to the next stage as its path tells
   pub path_next : (s : ℕ) → next_at p arrays args s ≡ next_of p s (thread (at_once p) arrays args).env
   path_next s = ap (stage_or (length p.stages)) (at (stage_at p s).next refl)
     where
@@ -212,7 +212,7 @@ module _ (p : Pipe) (acc : Sound p) (arrays : Arrays) (args : List ℕ) where
       → so_far p arrays args (next_at p arrays args s) ≡ so_far p arrays args (suc s)
   so_next s on low = so_on (next_at p arrays args s) ∙ ap (λ l. do_all (alone arrays) l (start_work p args)) (path_skips s on low) ∙ sym (so_on (suc s))
 
-  -- its stage's work goes into what it did
+  -- what a stage leaves, with the answers to its requests, is what the turn has before its next stage
   pub next_values : (s : ℕ) → visits_stage p (thread (at_once p) arrays args).env s ≡ true → s < length p.stages
       → (caught arrays (stage_work p arrays args s).asks (stage_work p arrays args s).env ≡ (so_far p arrays args (next_at p arrays args s)).env)
       × ((stage_work p arrays args s).entries ≡ (so_far p arrays args (next_at p arrays args s)).entries)
@@ -388,7 +388,7 @@ module _ (p : Pipe) (acc : Sound p) (arrays : Arrays) (args : List ℕ) where
   pub marks_plain : (s m : ℕ) → is_plain (mem_at p m).lock ≡ true → marks p arrays args s m ≡ []
   marks_plain s m h = sym (same_marks s m) ∙ Turns.marks_plain (at_once p) acc.pathwise arrays args s m h
 
-  -- past the stage of its releases a turn has no undone writes of m
+  -- past the stage of m's releases a turn has no undone writes of m
   pub marks_late : (s m : ℕ) → commit_stage p m < s → marks p arrays args s m ≡ []
   marks_late s m h = sym (same_marks s m) ∙ Turns.marks_late (at_once p) acc.pathwise arrays args s m h
 

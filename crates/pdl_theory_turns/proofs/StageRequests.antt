@@ -72,7 +72,7 @@ asks_same o (Verify args) w h = at (same_args (values_of args w.env) w.guess)
     at false = refl
 asks_same o _ w h = refl
 
--- one statement of a path
+-- what one statement of a path does in right surroundings: the same as alone, with what is known of its locations and requests after it
 pub record One (p : Pipe) (o : Around) (arrays : Arrays) (s : ℕ) (clean : ℕ → ℕ → Type 0) (c : Scan) (op : Op) (ys : List Stmt) (w : Work) : Type 0 where
   pub same : work_after o op w ≡ work_after (alone arrays) op w
   pub covers : Covers (scan_after (answered_op op) c).held (work_after o op w).entries

@@ -87,7 +87,7 @@ without_none (e ∷ es) m a h = at ((e.mem == m) && (e.var == a)) refl h (λ k. 
 apart_false : (x a m : ℕ) (v : Option ℕ) (y : ℕ) → (x == a) ≡ false → has_entry (entry m x y v ∷ []) m a ≡ false
 apart_false x a m v y h = ap₂ (λ b c. (b && c) || false) (eq-eqb m m refl) h
 
--- a write
+-- a write leaves a thread's entries and pending writes of memory m of the phase after it
 pub step_write : (m n k a v : ℕ) (ph : Phase) (es : List Entry) (cs : List Commit) (new : List Pending)
     (ws : List Machine.Written) (rel : Bool) (b : Bool)
     → (k == m) ≡ b → (not b || holds_location ph a) ≡ true → Staged m n ph (entries_of m es) cs new ws rel
@@ -113,7 +113,7 @@ step_write m n k a v (Held x) es cs new ws rel true e h g = (
 step_write m n k a v (Written x) es cs new ws rel true e h g = absurd (cc h)
 step_write m n k a v Done es cs new ws rel true e h g = absurd (cc h)
 
--- a reservation for writing
+-- a reservation for writing leaves a thread's entries and pending writes of memory m of the phase after it
 pub step_reserve : (m n k a y : ℕ) (ph : Phase) (es : List Entry) (cs : List Commit) (start : List Pending)
     (rs : List Reserved) (ws : List Machine.Written) (rel : Bool) (b : Bool)
     → (k == m) ≡ b → (not b || is_fresh ph) ≡ true
@@ -212,5 +212,6 @@ step_release m n k a ph es cs new ws rs held i true e h g = at ph h g
 
 -- one statement
 module _ (o : Around) (read : ℕ → ℕ → ℕ) (block : Blocked → Bool) (room : Reserved → Bool) (free : Ask → Bool) (m n : ℕ) (start : List Pending) where
+  -- what the thread has done with m in its stage so far is what this phase says
   abbrev pub Here : Phase → Deeds → Work → Type 0
   Here ph d w = Staged m n ph (entries_of m w.entries) (of_mem m w.commits) (start ++ new_entries m n d.reserves) d.writes (list_any (λ j. j == m) d.releases)

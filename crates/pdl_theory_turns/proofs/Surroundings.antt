@@ -153,7 +153,7 @@ right_after p o arrays s clean c (Verify args) w f g h k r = at (same_args (valu
     at false = r
 right_after p o arrays s clean c _ w f g h k r = r
 
--- statements of one stage
+-- each of these statements stands in stage s
 abbrev pub AllIn : ℕ → List Stmt → Type 0
 AllIn s [] = Unit {0}
 AllIn s (x ∷ xs) = (x.stage ≡ s) × AllIn s xs

@@ -14,7 +14,7 @@ pub record Under (p : Pipe) (b s : ℕ) : Type 0 where
   pub below : Below p b s
   pub branch : (c : Branch) → In p c b → In p c s → s < b
 
--- behind all older ones
+-- a thread in stage s stands behind older ones in all these stages
 abbrev pub AllUnder : Pipe → List ℕ → ℕ → Type 0
 AllUnder p [] s = Unit {0}
 AllUnder p (b ∷ bs) s = Under p b s × AllUnder p bs s
@@ -153,7 +153,7 @@ module _ (p : Pipe) (g : Graph p) (br : Branches p) where
   all_grow (o ∷ os) (b ∷ bs) [] s m u = absurd m
   all_grow (o ∷ os) (b ∷ bs) (b' ∷ bs') s m u = (grows_one o.moves b b' s m.1 u.0, all_grow os bs bs' s m.2 u.1)
 
-  -- such a thread is in the pipe
+  -- a thread behind all older ones is in one of the pipe's stages
   pub all_low : (os : List Act) (bs bs' : List ℕ) (s : ℕ) → Moves p os bs bs' → AllUnder p bs s → s < length p.stages
   all_low [] [] bs' s m u = absurd m
   all_low [] (b ∷ []) [] s m u = absurd m
@@ -186,7 +186,7 @@ module _ (p : Pipe) (g : Graph p) (br : Branches p) where
       clash e = cc
   moved_on o b b' (inr k) h = subst (λ n. b < n) (sym k.2) (g.up b k.0 k.3)
 
-  -- and where it moves
+  -- a thread behind all older ones that can enter its next stage is there behind all of them as they stand after the cycle
   pub all_step : (os : List Act) (bs bs' : List ℕ) (s : ℕ) (env : List ℕ) → Moves p os bs bs' → AllUnder p bs s
       → s < length p.stages → can_enter p os (goes_to (stage_at p s).next env) ≡ true → AllUnder p bs' (next_of p s env)
   all_step [] [] bs' s env m u low h = absurd m

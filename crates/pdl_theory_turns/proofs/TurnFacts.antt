@@ -13,7 +13,7 @@ pub use Rattle.pdl_theory_facts.specs.Graphs.{Trunk, stage_or, next_of, Below, G
 abbrev pub blocked_at : Pipe → Arrays → List ℕ → ℕ → List Location
 blocked_at p arrays args s = (scan_after_all (before s (onpath (thread p arrays args).env p.stmts)) no_scan).blocked
 
--- a turn's stage, alone
+-- the work that a turn's stage does alone
 abbrev pub stage_work : Pipe → Arrays → List ℕ → ℕ → Work
 stage_work p arrays args s = work_of_stage p (alone arrays) (thread_at p arrays args s)
 

@@ -132,14 +132,14 @@ module _ (p : Pipe) (acc : Pathwise p) (arrays : Arrays) (args : List ℕ) where
       ap₂ (λ (w : Work) (r : Run). cond (nat_lt (commit_stage p m) s) [] (marked (has_value (entries_of m w.entries)) (of_mem m r.writes)))
       (so_path s) thread_path
 
-  -- past the reserves of m its pending writes say of an address what its undone writes say
+  -- past the reserves of m the turn's pending writes say of an address what its undone writes say
   pub marks_seen : (s m a : ℕ) (rest : Latest) → reserve_stage p m < s
       → latest_in (so_far p arrays args s).entries m a rest ≡ seen a (marks p arrays args s m) rest
   marks_seen s m a rest h =
       ap (λ (w : Work). latest_in w.entries m a rest) (so_path s)
       ∙ UndoneWrites.marks_seen _ accq arrays args s m a rest h ∙ ap (λ l. seen a l rest) (sym (marks_path s m))
 
-  -- a stage commits the first of its undone writes of m, and leaves the others with more of their values known
+  -- a stage commits the first of the turn's undone writes of m, and leaves the others with more of their values known
   pub marks_step : (s m : ℕ)
       → Later m (marks p arrays args s m) (of_mem m (work_of_stage p (alone arrays) (thread_at p arrays args s)).commits) (marks p arrays args (suc s) m)
   marks_step s m =
@@ -154,15 +154,15 @@ module _ (p : Pipe) (acc : Pathwise p) (arrays : Arrays) (args : List ℕ) where
       (sym (marks_path (suc s) m))
       (UndoneWrites.marks_step (along (thread p arrays args).env p) accq arrays args s m)))
 
-  -- it has no undone writes of a memory without lock
+  -- a turn has no undone writes of a memory without lock
   pub marks_plain : (s m : ℕ) → is_plain (mem_at p m).lock ≡ true → marks p arrays args s m ≡ []
   marks_plain s m h = marks_path s m ∙ UndoneWrites.marks_plain _ accq arrays args s m h
 
-  -- past the stage of m's releases it has no undone writes of m
+  -- past the stage of m's releases a turn has no undone writes of m
   pub marks_late : (s m : ℕ) → commit_stage p m < s → marks p arrays args s m ≡ []
   marks_late s m h = marks_path s m ∙ UndoneWrites.marks_late _ accq arrays args s m h
 
-  -- at the end of the pipe it has no undone writes
+  -- at the end of the pipe a turn has no undone writes
   pub marks_end : (m : ℕ) → marks p arrays args (length p.stages) m ≡ []
   marks_end m = marks_path (length p.stages) m ∙ UndoneWrites.marks_end _ accq arrays args m
 
@@ -178,7 +178,7 @@ module _ (p : Pipe) (acc : Pathwise p) (arrays : Arrays) (args : List ℕ) where
       ap (λ (r : Run). row r.arrays m) thread_path ∙ TurnPath.row_after _ accq arrays args m
       ∙ ap (λ (r : Run). wrote (row arrays m) (of_mem m r.writes)) (sym thread_path)
 
-  -- its stage's work is a piece of the whole thread's
+  -- what is done by the following stage is what was done before this one, with this stage's work
   pub piece : (s : ℕ) → so_far p arrays args (suc s) ≡ joined (so_far p arrays args s) (work_of_stage p (alone arrays) (thread_at p arrays args s))
   piece s = so_path (suc s) ∙ next_piece (along (thread p arrays args).env p) arrays args s (accq.pieces s) ∙ ap₂ joined (sym (so_path s)) (sym (works_path s))
 
@@ -189,7 +189,7 @@ module _ (p : Pipe) (acc : Pathwise p) (arrays : Arrays) (args : List ℕ) where
       record { stage = suc s; env = w.env; entries = w.entries; guess = w.guess; awaits = [] })
   placed_next s = ap (λ (w : Work). record { stage = suc s; env = w.env; entries = w.entries; guess = w.guess; awaits = [] }) (piece s)
 
-  -- the successor that it has by the following stage is the one that this stage makes, else the one that it had
+  -- the successor that a turn has by the following stage is the one that this stage makes, else the one that it had
   pub child_next : (s : ℕ)
       → (so_far p arrays args (suc s)).child ≡ or_else (work_of_stage p (alone arrays) (thread_at p arrays args s)).child (so_far p arrays args s).child
   child_next s = ap (λ (w : Work). w.child) (piece s)

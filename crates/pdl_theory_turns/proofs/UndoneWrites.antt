@@ -242,7 +242,7 @@ module _ (p : Pipe) (acc : Accepted p) (arrays : Arrays) (args : List ℕ) where
           (commits_early p acc arrays args (suc s) m h)
           (λ e. now.1 (sym (settled_whole s m now.0) ∙ settled_whole (suc s) m then_settled ∙ e))
 
-  -- a memory without lock has no marks, and neither has one past its releases
+  -- a memory without lock has no marks
   pub marks_plain : (s m : ℕ) → is_plain (mem_at p m).lock ≡ true → marks p arrays args s m ≡ []
   marks_plain s m h =
       ap (λ l. cond (nat_lt (commit_stage p m) s) [] (marked (has_value (entries_of m (so_far p arrays args s).entries)) l))

@@ -52,7 +52,7 @@ module _ (o a b : Option (List ℕ)) (bytes held line : List ℕ) (so_far : HasP
         taken = more.taken ∙ ap (with_bytes more.passed) so_far.taken ∙ with_more o so_far.passed more.passed;
       }
 
-  -- a prefix of the piece, and so of all
+  -- where a prefix of the piece has been written, so has one of all bytes
   pub prefix_on : TakesPrefix a b (held ++ line) → TakesPrefix o b (bytes ++ line)
   prefix_on t =
       let n = length so_far.passed + t.0 in
@@ -80,7 +80,7 @@ prefix_off o a b bytes held so_far t =
     subst (TakesPrefix o b) (append-nil bytes)
     (prefix_on o a b bytes held [] so_far (subst (TakesPrefix a b) (sym (append-nil held)) t))
 
--- the rest is handed on
+-- where the bytes that are held are handed on as a text, all bytes have been written
 pub whole_on : (o a b : Option (List ℕ)) (bytes held : List ℕ) → HasPassed o a bytes held
     → {X Y : Type 0} (r : Result X Y) → WritesText a b r held → WritesText o b r bytes
 whole_on o a b bytes held so_far (Ok x) w = w ∙ ap (with_bytes held) so_far.taken ∙ with_more o so_far.passed held ∙ ap (λ l. with_bytes l o) (sym so_far.whole)
@@ -91,12 +91,12 @@ pub faulted : {X Y : Type 0} (r : Result X Y) (old new : Option (List ℕ)) (byt
     → TakesPrefix old new bytes → Passes old new r bytes held
 faulted r old new bytes held is t = MatchResult-from_err r (λ x. HasPassed old new bytes held) (λ e. TakesPrefix old new bytes) is (λ e. t)
 
--- and likewise on the way of a whole text
+-- where a whole text was to be written, a fault has left a prefix of it, whichever error tells of it
 pub text_faulted : {X Y : Type 0} (r : Result X Y) (old new : Option (List ℕ)) (text : List ℕ) → IsErr r
     → TakesPrefix old new text → WritesText old new r text
 text_faulted r old new text is t = MatchResult-from_err r (λ x. new ≡ with_bytes text old) (λ e. TakesPrefix old new text) is (λ e. t)
 
--- nothing more to pass on
+-- where there is nothing more to pass on, the held bytes are still held
 pub nothing_more : (o : Option (List ℕ)) (held : List ℕ) → HasPassed o o (held ++ []) held
 nothing_more o held = record { passed = []; whole = append-nil held; taken = with_none o }
 
@@ -108,11 +108,11 @@ pub record IsUnderWay (old new : Option (List ℕ)) (all rest held : List ℕ) :
   pub whole : done ++ rest ≡ all
   pub passed : HasPassed old new done held
 
--- at first
+-- at first the held bytes are held, and the text is still to come
 pub at_first : (o : Option (List ℕ)) (held text : List ℕ) → IsUnderWay o o (held ++ text) text held
 at_first o held text = record { done = held; whole = refl; passed = record { passed = []; whole = refl; taken = with_none o } }
 
--- at the end
+-- at the end all bytes have been passed on, but for those that are held
 pub at_last : (o a : Option (List ℕ)) (all rest held : List ℕ) → rest ≡ [] → IsUnderWay o a all rest held → HasPassed o a all held
 at_last o a all rest held none w = subst (λ l. HasPassed o a l held) (sym (append-nil w.done) ∙ ap (λ l. w.done ++ l) (sym none) ∙ w.whole) w.passed
 
@@ -120,10 +120,10 @@ module _ (o a b : Option (List ℕ)) (all rest held piece after : List ℕ) (e :
   split : (w.done ++ piece) ++ after ≡ all
   split = append_assoc w.done piece after ∙ ap (λ l. w.done ++ l) (sym e) ∙ w.whole
 
-  -- a piece further
+  -- where a piece has been passed on, the way goes on with what comes after it
   pub step_on : (held' : List ℕ) → HasPassed a b (held ++ piece) held' → IsUnderWay o b all after held'
   step_on held' more = record { done = w.done ++ piece; whole = split; passed = passed_more o a b w.done held piece w.passed held' more }
 
-  -- a fault on the way
+  -- where a piece was passed on in part, a prefix of the whole has been written
   pub step_off : TakesPrefix a b (held ++ piece) → TakesPrefix o b all
   step_off t = subst (TakesPrefix o b) split (prefix_more o b (w.done ++ piece) after (prefix_on o a b w.done held piece w.passed t))

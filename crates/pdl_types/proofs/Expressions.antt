@@ -46,7 +46,7 @@ in_choice test c a b h =
 -- what is asked of an expression: no use fails, all slices and extensions are in range, and all literals have widths
 module _ (vs all : List Var) (early : Use → Bool) (knows : (x : List ℕ) → early (OfVariable x) ≡ false → IsTrue (is_named vs x))
     (stays : (x : List ℕ) → IsTrue (is_named vs x) → var_width all x ≡ var_width vs x) (narrow : (x : List ℕ) → var_width vs x ≤ 64) where
-  -- such an expression is at most 64 bits wide, where each variable so far is
+  -- an expression whose uses, slices, extensions and literals break no rule is at most 64 bits wide, where each variable so far is
   pub expr_narrow : (e : Expr) → some_part (reads_some early) e ≡ false → some_part (is_out_of_range all) e ≡ false
       → some_part (of_constant is_wrong_literal) e ≡ false → width_of vs e ≤ 64
   expr_narrow (Constant l) u r w = (width_is l.width w).1

@@ -96,7 +96,7 @@ abbrev pub array_block_decls : List (List ℕ) → List ℕ → ℕ → List Wri
 array_block_decls inputs name line [] = []
 array_block_decls inputs name line (p ∷ ps) = record { line = line; writes = write_decls inputs name (line + 1) (p ∷ ps) } ∷ []
 
--- the line after it
+-- the line after the block of an array, where there is one
 abbrev pub array_block_end : ℕ → List WritePort → ℕ
 array_block_end line [] = line
 array_block_end line (p ∷ ps) = writes_end (line + 1) (p ∷ ps) + 1
@@ -178,7 +178,7 @@ all_blocks inputs (a ∷ xs) p line before f e b h same =
         (b line (flat_map (write inputs a.name) (x ∷ ws) ++ (codes "end\n" ++ rest)) before f
         (block_inside inputs a.name x ws line rest before f h.0.named w after))
 
--- the same where registers may still be driven
+-- the text of all blocks of arrays completes the file, where blocks of registers may still stand
 pub all_blocks_at : (inputs : List (List ℕ)) (xs : List Array) (p : Part) (line : ℕ) (before f : File) → MayBlock p
     → AreBlockTexts inputs xs → f ≡ add_array_blocks before (array_blocks_decls inputs line xs)
     → CompletesFile p line (flat_map (block_of inputs) xs ++ codes "endmodule\n") before f

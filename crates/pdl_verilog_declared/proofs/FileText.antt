@@ -135,7 +135,7 @@ module _ (n : Netlist) where
   abbrev inputs : List (List ℕ)
   inputs = input_names n.ports
 
-  -- the lines on which the registers, the arrays, the cells, the outputs, the blocks of registers and those of arrays begin
+  -- the line on which the registers begin
   abbrev pub regs_at : ℕ
   regs_at = 1 + 1
 

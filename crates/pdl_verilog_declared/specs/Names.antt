@@ -9,7 +9,7 @@ pub record HasNames (n : Netlist) : Type 0 where
   pub netlist : is_name n.name ≡ true
   pub mems : All (λ (m : MemInfo). is_name m.name ≡ true) n.mems
 
--- its registers and cells can be counted in 64 bits, so that their numbers have different digits
+-- the registers and cells of a netlist can be counted in 64 bits, so that their numbers have different digits
 pub record IsCounted (n : Netlist) : Type 0 where
   pub regs : length n.regs < 2 ^ 64
   pub cells : length n.cells < 2 ^ 64

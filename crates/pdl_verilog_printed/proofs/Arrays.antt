@@ -122,7 +122,7 @@ module _ (line : ℕ) (a : Array) (rest : List ℕ) (before f : File) (h : IsArr
   unfolding chosen
   named_chosen = cond-true _ _ _ h.named
 
-  -- the first array, after the registers
+  -- the line of the first array, after the registers, completes the file, where what follows completes it with that array
   pub first_array : CompletesFile part.Arrays (line + 1) rest (add_array before (array_decl line a)) f
       → CompletesFile part.Regs line (array_line a ++ rest) before f
   first_array k = subst (λ z. CompletesFile part.Regs line z before f) (sym text_is) (λ d e v.
@@ -130,7 +130,7 @@ module _ (line : ℕ) (a : Array) (rest : List ℕ) (before f : File) (h : IsArr
       (one_rule part.Declared rule.ArrayDeclared line (line + 1) middle rest (token name line) row
       (ranged d) f declared_chosen name_fits name_lexed (k _ (added d e) v)))
 
-  -- an array after another
+  -- the line of an array after another completes the file, where what follows completes it with that array
   pub later_array : CompletesFile part.Arrays (line + 1) rest (add_array before (array_decl line a)) f
       → CompletesFile part.Arrays line (array_line a ++ rest) before f
   later_array k = subst (λ z. CompletesFile part.Arrays line z before f) (sym text_is) (λ d e v.

@@ -113,7 +113,7 @@ reg_line p line r x rest before f c l w k d same writes =
     (token (codes ";") line ∷ []) one f (reg_chosen (decimal r) (decimals_are r l)) named (reg_named r line rest l)
     (k two file writes))
 
--- those from the r-th on
+-- what the lines of the registers from the r-th on declare
 abbrev pub reg_decls : ℕ → ℕ → List Reg → List RegDecl
 reg_decls line r [] = []
 reg_decls line r (x ∷ xs) = reg_decl line r x ∷ reg_decls (line + 1) (suc r) xs
@@ -131,7 +131,7 @@ reg_first : chosen part.Regs (codes "reg") ≡ Some rule.RegRange
 unfolding chosen
 reg_first = refl
 
--- the lines of registers
+-- the lines of registers complete the file, where what follows completes it with these registers
 pub reg_lines : (line r : ℕ) (xs : List Reg) (rest : List ℕ) (before f : File)
     → r + length xs < 2 ^ 64 → HaveWidths xs
     → CompletesFile part.Regs (line + length xs) rest (add_regs before (reg_decls line r xs)) f

@@ -66,17 +66,17 @@ module _ (line : ℕ) (rest : List ℕ) (before f : File) where
   abbrev pub reg_block : ℕ → ℕ → ℕ → List ℕ → RegBlock
   reg_block r w v a = record { line = line; reg = codes "r" ++ decimal r; width = w; reset = v; source = a }
 
-  -- `always @(posedge clk)`
+  -- the tokens of `always @(posedge clk)` after its first word
   abbrev pub always_row : Row
   always_row = token (codes "@") line ∷ token (codes "(") line ∷ token (codes "posedge") line ∷ token (codes "clk") line ∷ token (codes ")") line ∷ []
 
-  -- `always @(posedge clk)` and a space give these tokens
+  -- the tokens of a text that begins with `always @(posedge clk)` and a space are those of that head and those of the rest
   pub always_tokens : (x : List ℕ)
       → tokens_from 0 line (always ++ (codes " " ++ x)) ≡ token (codes "always") line ∷ always_row ++ tokens_from 0 line (codes " " ++ x)
   unfolding piece_at always
   always_tokens x = refl
 
-  -- these tokens are what the rule of a block's head asks
+  -- the tokens of `always @(posedge clk)` fit the fields of the rule of a block's head
   pub always_fits : AllFit (fields rule.BlockHead) (token (codes "always") line ∷ always_row)
   always_fits = more refl (more refl (more refl (more refl (more refl (more refl none)))))
 

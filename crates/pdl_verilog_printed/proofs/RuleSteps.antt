@@ -14,7 +14,7 @@ pub record Completes (part : Part) (line : ℕ) (text : List ℕ) (d : Draft) (f
   pub derives : Derives part (tokens_from 0 line text) rules
   pub same : (all_taken d rules).file ≡ f
 
--- the same of each draft with this file and no writes
+-- the text completes each draft that has this file and no writes
 abbrev pub CompletesFile : Part → ℕ → List ℕ → File → File → Type 0
 CompletesFile part line text before f = (d : Draft) → d.file ≡ before → d.writes ≡ [] → Completes part line text d f
 

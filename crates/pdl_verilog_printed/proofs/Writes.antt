@@ -126,7 +126,7 @@ module _ (line : ℕ) (rest : List ℕ) (before f : File) where
   unfolding piece_at always
   head_tokens x = refl
 
-  -- `always @(posedge clk) begin`, the first of the blocks of arrays
+  -- the text of the first block of an array completes the file, where what follows its first line completes the block
   pub first_block : (p : Part) → chosen p (codes "always") ≡ Some rule.BlockHead
       → CompletesBlock part.FirstWrite (line + 1) rest before [] line f
       → CompletesFile p line (always ++ (codes " begin\n" ++ rest)) before f
@@ -151,7 +151,7 @@ module _ (line : ℕ) (rest : List ℕ) (before f : File) where
   unfolding piece_at always
   later_tokens = refl
 
-  -- the same after another block of an array
+  -- the text of a later block of an array completes the file, where what follows its first line completes the block
   pub later_block : CompletesBlock part.FirstWrite (line + 1) rest before [] line f
       → CompletesFile part.ArrayBlocks line (always ++ (codes " begin\n" ++ rest)) before f
   later_block k d file writes =

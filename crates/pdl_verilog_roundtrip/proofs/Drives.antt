@@ -57,7 +57,7 @@ ports_at k (suc j) i (p ∷ ps) z e l = go p.dir (ports_at (suc k) j i ps z (ome
         let rest = of_port i (output_drives (suc k) ps) in
         cond-false (eqb k i) (record { port = k; net = x } ∷ rest) rest (ne_eqb k i (λ q. omega arith)) ∙ h
 
--- an output is driven once
+-- a port that is an output is driven once, where its drives are its own one alone
 pub driven_once : (i : ℕ) (d : Dir) (drives : List OutputDrive)
     → of_port i drives ≡ onto_output i d [] → (is_input d || eqb (count_by (λ o. eqb o.port i) drives) 1) ≡ true
 driven_once i In drives h = refl

@@ -37,7 +37,7 @@ pub three_found : {A B C D : Type 0} (make : A → B → C → D) (o : Option A)
     → o ≡ Some a → p ≡ Some b → q ≡ Some d → with_three make o p q ≡ Some (make a b d)
 three_found make o p q a b d e g i = ap (λ z. with_three make z p q) e ∙ two_found (make a) p q b d g i
 
--- no width is cut
+-- a width of at most 64 bits is not cut
 pub small_same : (w : ℕ) → w ≤ 64 → small w ≡ w
 small_same w l = let b : w < 255 = omega arith in ap (λ t. cond t w 255) (lt-ltb w 255 b)
 

@@ -30,7 +30,7 @@ use Rattle.pdl_verilog_roundtrip.proofs.Questions.{each_got, each_so}
 use Rattle.pdl_word.specs.Each.{Each}
 use Rattle.pdl_word.proofs.Each.{each_from_get}
 
--- a range tells its bits
+-- the range of a width tells that width
 pub bits_back : (w : ℕ) → IsWidth w → bits (w - 1) ≡ w
 bits_back w h =
     let l : 1 ≤ w = h.low in
@@ -38,7 +38,7 @@ bits_back w h =
     let e : w - 1 + 1 ≡ w = omega arith in
     cond-true (ltb (w - 1) 254) (w - 1 + 1) 255 (lt-ltb (w - 1) 254 (omega arith)) ∙ e
 
--- and a last address its words
+-- a last address tells how many words there are
 pub depth_back : (d : ℕ) → IsDepth d → d - 1 + 1 ≡ d
 depth_back d h =
     let b = h.bits in

@@ -141,7 +141,7 @@ head name ports = opening name ++ flat_map port ports ++ codes ");\n"
 abbrev pub reg : ℕ → Reg → List ℕ
 reg r x = codes "reg " ++ range x.width ++ codes " r" ++ decimal r ++ codes ";\n"
 
--- those from the r-th on
+-- the declarations of the registers from the r-th on
 abbrev pub regs : ℕ → List Reg → List ℕ
 regs r [] = []
 regs r (x ∷ xs) = reg r x ++ regs (suc r) xs
@@ -188,7 +188,7 @@ takes inputs x = constant x.width x.reset ++ codes " : " ++ net inputs x.next ++
 abbrev pub block : List (List ℕ) → ℕ → Reg → List ℕ
 block inputs r x = always ++ codes " r" ++ decimal r ++ codes " <= rst ? " ++ takes inputs x
 
--- those from the r-th on
+-- the blocks of the registers from the r-th on
 abbrev pub blocks : List (List ℕ) → ℕ → List Reg → List ℕ
 blocks inputs r [] = []
 blocks inputs r (x ∷ xs) = block inputs r x ++ blocks inputs (suc r) xs

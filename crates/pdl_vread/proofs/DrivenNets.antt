@@ -63,7 +63,7 @@ drivers_same n i ds d h k =
 
 pub ruleset driving = (length_drivers, no_drives, drivers_more, drivers_same)
 
--- one port more is built
+-- with the i-th port built, those that are built and those of the later declarations are still the whole list
 pub port_push : (drives : List OutputDrive) (decls : List PortDecl) (nets : List Net) (i j : ℕ) (d : PortDecl) (x : Net)
     (p : Port) (done now whole : List Port)
     → nets ≡ drivers (length decls) drives → i < length decls → d ≡ get_or decls i d → x ≡ get_or nets i x → j ≡ i + 1

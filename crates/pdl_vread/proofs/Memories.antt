@@ -131,7 +131,7 @@ module _ (n : Netlist) (h : IsWellFormed n) where
       (h.pipe.arrays j no_array b).inside i mem a
       (sym (get_mapped (λ (m : PortMem). m.name) delayed i d mem a) ∙ (q ∙ get_mapped (λ (a : Array). a.name) n.arrays j e no_array b))
 
-  -- their names differ
+  -- the names of the netlist's memories differ
   pub mems_differ : AllPairs (λ a b. a.name ≢ b.name) n.mems
   mems_differ =
       let front = delayed_names delayed later (subst (NamesDiffer (λ (p : Head). p.name)) ports_split ports_differ) in
@@ -147,7 +147,7 @@ module _ (n : Netlist) (h : IsWellFormed n) where
       ∙ (delayed_front delayed (map (told locked) n.arrays) ∙ ap (λ z. map (λ (m : PortMem). m.name) delayed ++ z) (told_names locked n.arrays)) in
       names_differ (λ (m : MemInfo). m.name) n.mems (subst (AllPairs (λ (a b : List ℕ). a ≢ b)) (sym e) apart)
 
-  -- and their words have 1 to 64 bits
+  -- the words of the netlist's memories have 1 to 64 bits
   pub mems_wide : All (λ (m : MemInfo). IsWide m.width) n.mems
   mems_wide =
       let front = delayed_wide delayed later (subst (All (λ (p : Head). IsWide p.width)) ports_split ports_wide) in

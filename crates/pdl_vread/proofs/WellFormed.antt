@@ -131,6 +131,7 @@ cells_counted f k (d ∷ ds) gs e =
 
 -- ---- all that a file's rules say
 
+-- a file and what its rules found keep all rules of netlists
 record KeepsRules (f : File) (w : Wiring) : Type 0 where
   wired : WiringParts f w
   widths : WidthParts f w
@@ -153,6 +154,7 @@ module _ (f : File) (w : Wiring) (k : KeepsRules f w) where
 
   -- ---- outputs
 
+  -- what an output shows is there, with the width of its port
   record GoodOutput (o : OutputDrive) : Type 0 where
     there : IsThere c o.net
     width : (signal c o.net).width ≡ get_or (widths_of f).ports o.port 0
@@ -237,6 +239,7 @@ module _ (f : File) (w : Wiring) (k : KeepsRules f w) where
 
   -- ---- registers
 
+  -- what a register takes next is there, with its width, and its reset value fits that
   record GoodReg (b : RegDrive) : Type 0 where
     there : IsThere c b.net
     net : (signal c b.net).width ≡ b.width
@@ -311,6 +314,7 @@ module _ (f : File) (w : Wiring) (k : KeepsRules f w) where
 
   -- ---- arrays
 
+  -- the nets of a write port are there, with 1 bit, the bits of an address of its array, and the width of its words
   record GoodWrite (b : ArrayWrite) : Type 0 where
     enable : IsThere c b.port.enable
     addr : IsThere c b.port.addr

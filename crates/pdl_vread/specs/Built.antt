@@ -25,7 +25,7 @@ abbrev pub driver : ℕ → Net → List OutputDrive → Net
 driver i net [] = net
 driver i net (o ∷ os) = driver i (cond (o.port == i) o.net net) os
 
--- those of n ports
+-- the nets that the last `assign`s give n ports
 abbrev pub drivers : ℕ → List OutputDrive → List Net
 drivers n drives = map (λ i. driver i (Input 0) drives) (range_with_len 0 n)
 

@@ -72,7 +72,7 @@ pub ruleset named = (named_some, named_none)
 
 -- ---- ports
 
--- where ports begin with an expected one, the others that are expected are looked for behind it
+-- where ports begin with an expected one, the others that are expected are looked for after it
 pub after_cons : (e : Head) (es hs ls : List Head) → Some ls ≡ after (e ∷ []) hs → after es ls ≡ after (e ∷ es) hs
 after_cons e es [] ls h = cc
 after_cons e es (x ∷ xs) ls h = go (same e x) h
@@ -117,7 +117,7 @@ module _ {A : Type 0} (f : A → List Head) where
   one_more : (xs : List A) (i : ℕ) (d : A) → i < length xs → flat_map f (drop i xs) ≡ f (get_or xs i d) ++ flat_map f (drop (i + 1) xs)
   one_more xs i d l = ap (flat_map f) (drop_more xs i d l)
 
-  -- where ports begin with those of the i-th element, those of the later elements are looked for behind them
+  -- where ports begin with those of the i-th element, those of the later elements are looked for after them
   pub flat_more : (xs : List A) (i : ℕ) (d : A) (hs ls : List Head) (whole : Option (List Head)) → i < length xs
       → Some ls ≡ after (f (get_or xs i d)) hs → after (flat_map f (drop i xs)) hs ≡ whole
       → after (flat_map f (drop (i + 1) xs)) ls ≡ whole

@@ -65,7 +65,7 @@ same_mem m d = bytes_eq d.name m.name && same_sizes d m
 abbrev pub is_kept : List PortMem → List Array → PortMem → Bool
 is_kept delayed arrays m = list_any (same_mem m) delayed || list_any (λ a. bytes_eq a.name m.name) arrays
 
--- nothing is left
+-- no ports are left
 abbrev pub is_over : Option (List Head) → Bool
 is_over (Some []) = true
 is_over (Some (h ∷ hs)) = false

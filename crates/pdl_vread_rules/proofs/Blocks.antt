@@ -10,7 +10,7 @@ use Rattle.pdl_vread_rules.specs.RuleQuestions.{Asked, first_wrong, both, Tells}
 use Rattle.pdl_vread_rules.specs.Widths.{asked_write, asked_writes}
 use Rattle.pdl_vread_rules.proofs.Passes.{front_tells}
 
--- where the first are right
+-- where nothing of the first list is wrong, the first wrong of both is that of the second
 pub rest_first : (xs ys : List Asked) → first_wrong xs ≡ None → first_wrong (xs ++ ys) ≡ first_wrong ys
 rest_first [] ys h = refl
 rest_first (a ∷ xs) ys h = go a.right (rest_first xs ys) h
@@ -53,7 +53,7 @@ module _ (t : Widths) where
       subst (λ z. Tells z (Err e)) (sym (ap first_wrong (one_block bs more i b ws h k)) ∙ w)
       (front_tells (block (get_or bs i b) (get_or more i ws)) (asked_writes t (drop (i + 1) bs) (drop (i + 1) more)) e r)
 
-  -- so does an answer that tells a line, where that is the line of the first wrong write of the i-th block
+  -- an answer that tells the line of the first wrong write of the i-th block tells the first wrong of all
   pub block_stop_at : (bs : List ArrayBlock) (more : List (List ArrayWrite)) (i : ℕ) (b : ArrayBlock) (ws : List ArrayWrite) (whole : Option ℕ) (e : PassStop)
       → i < length bs → i < length more
       → (told : Option ℕ) → told ≡ first_wrong (block (get_or bs i b) (get_or more i ws)) → Tells told (Err e)

@@ -39,7 +39,7 @@ is_second before ws m b e t h = go (has_owner before ws) (sym t ∙ (h ∙ ap (�
     go true k = refl
     go false k = cc
 
--- its array goes last
+-- the array of a block that is the first of it goes last, after those of the blocks before
 pub added : (before after : List ℕ) (ws : List ArrayWrite) (m : ℕ)
     → m ≡ owner ws → has_owner before ws ≡ false
     → after ≡ cond (list_any (λ k. m == k) before) before (before ++ m ∷ []) → after ≡ before ++ owner ws ∷ []

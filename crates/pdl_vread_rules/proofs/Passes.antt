@@ -29,7 +29,7 @@ front_line (a ∷ xs) ys line h = go a.right (front_line xs ys line) h
     go true i k = i k
     go false i k = k
 
--- where one of the first is wrong it is the first wrong of all
+-- where an element of the first list is wrong, the first such is the first wrong of both
 pub front_tells : (xs ys : List Asked) (e : PassStop) → Tells (first_wrong xs) (Err e) → Tells (first_wrong (xs ++ ys)) (Err e)
 front_tells xs ys (stop.Broken line) h = front_line xs ys line h
 front_tells xs ys stop.NoMemory h = tt

@@ -63,7 +63,7 @@ is_statement_keyword t =
     || bytes_eq t (codes "block") || bytes_eq t (codes "release") || bytes_eq t (codes "cat")
     || bytes_eq t (codes "zext") || bytes_eq t (codes "sext") || bytes_eq t (codes "lts")
 
--- of these the words for branches, calls and speculation
+-- the keywords for branches, calls and speculation
 abbrev pub is_flow_keyword : List ℕ → Bool
 is_flow_keyword t =
     bytes_eq t (codes "if") || bytes_eq t (codes "else") || bytes_eq t (codes "call") || bytes_eq t (codes "spec_call") || bytes_eq t (codes "verify")

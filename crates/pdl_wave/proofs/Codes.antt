@@ -68,7 +68,7 @@ found ports i l =
     let e : 0 + i ≡ i = omega arith in
     ap (λ k. port_with 0 ports (code k)) (sym e) ∙ found_from 0 ports i l ∙ ap (λ k. Some (k, width_of ports i)) e
 
--- and its change is read as it is
+-- the change of the i-th port, written by its code and with its width, is read as it is
 pub change_read : (ports : List WavePort) (i v : ℕ) → i < length ports → v < 2 ^ width_of ports i →
     change_with (binary (width_of ports i) v) (port_with 0 ports (code i)) ≡ Some (record { port = i; value = v })
 change_read ports i v l h =

@@ -51,7 +51,7 @@ pub binary_length : (n v : ℕ) → length (binary n v) ≡ n
 binary_length zero v = refl
 binary_length (suc n) v = length-append (binary n (v / 2)) ((48 + v % 2) ∷ []) ∙ omega (arith, binary_length n (v / 2))
 
--- they are read as the number, where it fits
+-- binary digits that are written are read as the number, where it fits
 pub binary_value : (n v : ℕ) → v < 2 ^ n → digits_value 2 (binary n v) ≡ v
 binary_value zero v l = omega (arith, l)
 binary_value (suc n) v l =

@@ -109,7 +109,7 @@ moments_lines ports (m ∷ ms) h =
 
 -- ---- what is told
 
--- the ports that are declared
+-- from lines that declare ports these ports are read, and the lines after the header are left
 pub declared_back : (i : ℕ) (ports : List WavePort) (rest : List DumpLine) → Each IsPort ports →
     declared i (read_ports i ports ++ Upscope ∷ EndDefinitions ∷ rest) ≡ Some (record { ports = ports; rest = rest })
 declared_back i [] rest h = refl

@@ -30,7 +30,7 @@ scope name = codes "$scope module pdl_" ++ name ++ codes " $end"
 abbrev pub declaration : ℕ → WavePort → List ℕ
 declaration i p = codes "$var wire " ++ decimal p.width ++ codes " " ++ code i ++ codes " " ++ p.name ++ codes " $end"
 
--- those of the ports from the i-th on
+-- the lines that declare the ports from the i-th on
 abbrev pub declarations : ℕ → List WavePort → List (List ℕ)
 declarations i [] = []
 declarations i (p ∷ ps) = declaration i p ∷ declarations (suc i) ps

@@ -45,7 +45,7 @@ name_word t h =
     (and_parts (has_name_form t) (not (is_statement_keyword t))
     (and_parts (has_name_form t && not (is_statement_keyword t)) (not (is_declaration_keyword t)) h).0).0
 
--- a word after another
+-- a short word after another is a short word
 pub prefixed : (m k : ℕ) (a b : List ℕ) → IsShortWord m a → IsShortWord k b → IsShortWord (m + k) (a ++ b)
 prefixed m k a b h i =
     let n = length-append a b in

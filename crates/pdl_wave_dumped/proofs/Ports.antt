@@ -102,7 +102,7 @@ both_named (m ∷ ms) h k = at m.delayed (λ a b. both_named ms a b) h k
     at true rest h k = (h.0, rest h.1 k)
     at false rest h k = (k.0, rest h k.1)
 
--- the names of the delayed memories, and of all
+-- where the told memories of a netlist have names, the delayed memories have, and all memories have
 pub named_by : (ms : List Mem) (infos : List MemInfo)
     → infos ≡ net_infos ms → All (λ (m : MemInfo). is_name m.name ≡ true) infos
     → Each (λ (m : Mem). is_name m.name.name ≡ true) (delayed_of ms) × Each (λ (m : Mem). is_name m.name.name ≡ true) ms
@@ -187,7 +187,7 @@ pipe_words stages ms few named =
     (requests_words (delayed_of ms) named.0))
     (ended_word, (squash_word, tt))
 
--- and how many they are
+-- a pipe of at most 64 stages and 16 memories has at most 242 ports
 pub pipe_count : (stages : ℕ) (ms : List Mem)
     → stages ≤ 64 → length ms ≤ 16 → length (pipe_ports stages (map port_mem (delayed_of ms)) (locked_of ms)) ≤ 242
 pipe_count stages ms few mems =
@@ -207,7 +207,7 @@ pipe_count stages ms few mems =
     let many = as_many ms in
     omega (arith, a, b, c, d, s, k, x, y, many, few, mems)
 
--- of a netlist with these ports
+-- the dumped ports of a netlist with these heads have short names, where the heads have
 pub wave_words : (ps : List Port) (heads : List Head)
     → map head_of ps ≡ heads → Each HasWord heads
     → Each (λ (p : WavePort). IsShortWord 64 p.name) (filter_map wave_port ps)

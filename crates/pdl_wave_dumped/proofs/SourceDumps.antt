@@ -49,7 +49,7 @@ module _ (source : List ℕ) (p : Pipe) (n : Netlist) (t : IsText source p) (kep
   few_ports : length (wave_ports n) ≤ 242
   few_ports = let a = wave_count n.ports _ f.ports in let b = pipe_count (length (flat p).stages) p.mems few mems in omega (arith, a, b)
 
-  -- its names are short, and its ports few
+  -- the netlist can be dumped: its names are short, and its ports few
   pub dumpable : CanBeDumped n
   dumpable = record {
     name = let s = own_name.short in omega (arith, s);

@@ -131,7 +131,7 @@ one_more_fits u k n x a e l m h f =
     let s : k * u + u ≤ n * u = omega (arith, mul-le-mul_right u m, suc-mul k u) in
     rw e (fits_above (k * u) u (rep u k a) (omega (arith, s)) (rep_below u k a f))
 
--- and a copy is then narrower than 64 bits
+-- of two or more copies of a word that fit in 64 bits together each is narrower than 64 bits
 pub copy_narrow : (u k n : ℕ) → 1 ≤ u → 1 ≤ k → k < n → n * u ≤ 64 → u < 64
 copy_narrow u k n o l m h =
     let s : 2 * u ≤ n * u = mul-le-mul_right u (omega arith) in

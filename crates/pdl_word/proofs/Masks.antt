@@ -4,6 +4,7 @@ use Rattle.std.proofs.Math.Pow.{mod-mod-pow}
 use Rattle.std.proofs.lemmas.Nat.{and_mask, one_shl}
 use Rattle.pdl_word.specs.Words.{mask}
 
+-- a number's lowest 64 bits have the same remainder by 2 ^ w as the number, where w is at most 64
 pub mod_of_64 : (n w : ℕ) → w ≤ 64 → n % 2 ^ 64 % 2 ^ w ≡ n % 2 ^ w
 mod_of_64 n w h =
     let e : 64 - w + w ≡ 64 = omega arith in

@@ -12,7 +12,7 @@ eqb_self k = eq-eqb k k refl
 pub as_wide : (v m n : ℕ) → m ≡ n → v < 2 ^ m → v < 2 ^ n
 as_wide v m n e h = let P : ℕ → Type 0 = λ w. v < 2 ^ w in subst P e h
 
--- one digit more
+-- a number below base ^ i with one digit more is below base ^ (i + 1)
 pub next_below : (base i v d : ℕ) → v < base ^ i → d < base → v * base + d < base ^ (i + 1)
 next_below base i v d h k =
     let p : (v + 1) * base ≤ base ^ i * base = mul-le-mul_right base (omega arith) in

@@ -26,7 +26,7 @@ use Rattle.pdl_kit.specs.contracts.boxed.Boxed.TheInside as I
 abbrev pub the_former : Former {0} → Former {0}
 the_former g = g
 
--- a box is larger than what it holds
+-- a box weighs what it holds
 abbrev pub the_weighed : {g : Former {0}} → Weighed g → Weighed (the_former g)
 the_weighed w = w
 
