@@ -1,17 +1,21 @@
 #!/usr/bin/env python3
-"""Says more of a refusal of `pdl`: the line that was refused, and the rule that it breaks.
+"""Says more of why `pdl` did nothing: of a refusal the line that was refused, and the rule that it breaks.
 
     explain.py WORDS.. < REFUSAL
 
 WORDS are the words after `pdl`, and REFUSAL is what it printed on the error output, as `refused L2 line 15`. It prints the
-line with its neighbours, what the rule says and how to mend the source, as the pages of docs/ have it. Where the input is
-no refusal it prints nothing.
+line with its neighbours, what of a source breaks the rule (`tools/why.py`), what the rule says and how to mend the source,
+as the pages of docs/ have it. Of `usage` it prints the commands, and of `read fault` which file can't be read. Where the
+input is nothing of these it prints nothing.
 """
 
+import os
 import pathlib
 import re
 import sys
 import tomllib
+
+import why
 
 DOCS = pathlib.Path(__file__).resolve().parent.parent / "docs"
 
@@ -22,6 +26,10 @@ TABLES = ["verilog.md", "images.md"]
 
 # Which word of a command names the file that rules with this letter refuse; all others refuse its first file.
 SECOND_FILE = "AI"
+
+# Which letters have the rules of sources, and up to how many characters a source is asked what of it breaks one.
+SOURCE_RULES = "GZNWFLS"
+LONGEST = 100_000
 
 WIDEST = 120
 
@@ -101,8 +109,47 @@ def instruction(text, number):
     return [f"> instruction {number}: {plain(str(listed[number - 1]))}"]
 
 
+def commands(words):
+    """The commands, as README has them: that of the first word, or all of them where it is none."""
+    text = (DOCS.parent / "README.md").read_text()
+    listed = re.search(r"^## The commands\n\n((?:    [^\n]*\n)+)(.*?)^## ", text, re.M | re.S)
+    if not listed:
+        return []
+    lines = [it.strip() for it in listed[1].splitlines()]
+    meant = [it for it in lines if words and it.split()[1] == words[0]]
+    limits = re.search(r"^CYCLES and THREADS.*$", listed[2], re.M)
+    return [f"  {it}" for it in meant or lines] + ([limits[0]] if limits else []) + ["(README.md)"]
+
+
+def unread(words):
+    """Which of the files that a command names can't be read, and why, as far as can be seen now."""
+    files, delays = files_of(words)
+    for file in [*files[:2], *([delays] if delays else [])]:
+        path = pathlib.Path(file)
+        if not path.exists():
+            yield f"there is no file {file}"
+        elif path.is_dir():
+            yield f"{file} is a folder"
+        elif not os.access(path, os.R_OK):
+            yield f"{file} may not be read"
+        elif path.stat().st_size > 268_435_456:
+            yield f"{file} has more than 268,435,456 bytes"
+
+
+def of_this_source(text, rule, number):
+    """What of a source breaks the rule; nothing of a long one, nor where the model can't tell, whatever the reason."""
+    try:
+        return why.details(text, rule, number) if len(text) <= LONGEST else []
+    except (Exception, RecursionError):
+        return []
+
+
 def explained(refusal, words):
-    """The lines that say more of a refusal."""
+    """The lines that say more of why nothing was done."""
+    if refusal.strip() == "usage":
+        return commands(words)
+    if refusal.strip() == "read fault":
+        return list(unread(words))[:1]
     found = re.fullmatch(r"refused ([A-Z]\d) (line|insn) (\d+)\s*", refusal)
     if not found or not words:
         return []
@@ -114,6 +161,8 @@ def explained(refusal, words):
         text = pathlib.Path(file).read_bytes().decode("utf-8", "replace")
         lines.append(f"{file}:")
         lines += around(text, number) if kind == "line" else instruction(text, number)
+        if rule[0] in SOURCE_RULES:
+            lines += [f"  {it}" for it in of_this_source(text, rule, number)]
     page, says, mending = told(rule)
     if page:
         lines.append(f"{rule}: {says}")

@@ -1,0 +1,469 @@
+"""What of a source breaks the rule by which `pdl` refused it, in words of that source: the token, the name with the line of
+its definition, the widths of both sides, or the path with what it did at the location before.
+
+It asks the rules of tools/pdl_model again, so it says nothing where these find another place than `pdl` named, and what it
+says is no part of what is proved. `tools/explain.py` prints it below a refusal.
+"""
+
+import difflib
+
+from pdl_model import rule_guesses, rule_locks, rule_names, rules, syntax, tree
+from pdl_model.layout import Layout, variable_widths
+
+# The most that a path names of its guards, and a list of what may stand at a token.
+MOST_GUARDS = 4
+MOST_WORDS = 8
+
+
+# Tokens out of place
+
+
+class Reader(syntax.Parser):
+    """Reads as the model does, and keeps for each token what would have been taken in its place."""
+
+    def __init__(self, text):
+        super().__init__(text)
+        self.wanted = {}
+
+    def want(self, what):
+        self.wanted.setdefault(self.at, []).append(what)
+
+    def sees(self, text):
+        self.want(f"`{text}`")
+        return super().sees(text)
+
+    def of_kind(self, kind):
+        self.want({"name": "a name", "number": "a number", "literal": "a literal as `1'd0`"}[kind])
+        return super().of_kind(kind)
+
+    def item(self):
+        self.want("a name")
+        return super().item()
+
+    def primary(self):
+        self.want("a value")
+        return super().primary()
+
+
+# Tokens that stand for something else in other languages, with what is written here.
+FOREIGN = {
+    ">": "there is no `>`: write `b < a`",
+    "=": "there is no `<=` and no `>=`: write `~(b < a)`",
+    "!": "`~` is not, `!=` is unequal",
+    "&": "`&` is the one for truth values too",
+    "|": "`|` is the one for truth values too",
+    "if": "an `if` after `else` stands in braces: `else { if (..) { .. } }`",
+    "/": "`//` begins a comment; there is no division",
+}
+VALUES = {"`cat`", "`lts`", "`zext`", "`sext`", "`(`", "`~`"}
+OPERATORS = {f"`{it}`" for level in syntax.LEVELS for it in level} | {"`?`"}
+
+
+def may_stand(wanted):
+    """What would have been taken, in few words."""
+    found = dict.fromkeys(wanted)
+    if "a value" in found:
+        found = [it for it in found if it not in VALUES]
+    if OPERATORS & set(found):
+        found = [it for it in found if it not in OPERATORS] + ["an operator"]
+    return ", ".join(list(found)[:MOST_WORDS])
+
+
+def hint(tokens, at, wanted):
+    """What may have been meant by the token of this number."""
+    token = tokens[at]
+    before = tokens[at - 1].text if at else ""
+    following = tokens[at + 1].text if at + 1 < len(tokens) else ""
+    if token.kind == "number" and following == "'" or at and tokens[at - 1].kind == "literal" and token.kind in ("bad", "name"):
+        return "a literal is a width, `'`, and `d` with decimal or `h` with lower case hexadecimal digits, as `8'hc8`"
+    if token.kind == "number" and "a value" in wanted:
+        return f"a number alone has no width: write it with one, as `8'd{token.text}`"
+    if token.kind in ("number", "literal") and wanted[-1] == "a name" and before == "[":
+        return "an address is a name: bind it before, as `a = 1'd0;`"
+    if token.text == "[" and before == ")":
+        return "only a name has bits: bind the expression to one first"
+    if token.kind == "name" and before == "[" and "a number" in wanted:
+        return "bits are told by two numbers, as `x[3:0]`; a memory is read by a statement of its own, as `x = m[a];`"
+    if token.text == "]" and "`:`" in wanted:
+        return "one bit is a slice of two numbers too, as `x[3:3]`"
+    if token.text == "," and before and "`)`" in wanted and "cat" in [it.text for it in tokens[max(0, at - 12):at]]:
+        return "`cat` and `lts` take two: `cat(a, cat(b, c))`"
+    if token.kind == "keyword" and "a name" in wanted and (wanted[-1] == "a name" or following == "="):
+        return f"`{token.text}` is a keyword, and no name"
+    if token.text == "[" and "`]`" in wanted:
+        return "an address is a name: bind the expression to one first"
+    if before == "]" and set(wanted) == {"`;`"}:
+        return "a read stands alone: bind it to a name, and use the name in an expression"
+    if token.text == ";" and before == "}":
+        return "no `;` stands after `}`"
+    if token.text == ":" and "`=`" in wanted:
+        return "`=` binds a name, and `<-` writes or asks a memory"
+    if token.kind == "bad" and token.text.isalpha():
+        return "a name begins with a lower case letter, goes on with these, digits and `_`, and has at most 32 characters"
+    if "`;`" in wanted and tokens[at].line > tokens[at - 1].line:
+        return f"a `;` may be missing in line {tokens[at - 1].line}"
+    if before in ("&", "|") and token.text == before:
+        return FOREIGN[before]
+    return FOREIGN.get(token.text, "") if token.text in (">", "!", "/") or before in ("<", ">", "else") else ""
+
+
+def out_of_place(text):
+    """Of a text that is no pipe: its first token out of place, what may stand there, and what may have been meant."""
+    reader = Reader(text)
+    try:
+        reader.pipe()
+        return []
+    except syntax.Refused:
+        token = reader.tokens[reader.at]
+    wanted = reader.wanted.get(reader.at, [])
+    here = "the end of the text" if token.kind == "end" else f"`{token.text}`"
+    said = [f"{here} is out of place"]
+    if token.text in ("(", "[", "{") and reader.open == syntax.MOST_BRACKETS:
+        return [f"{here} opens bracket {syntax.MOST_BRACKETS + 1}"]
+    if reader.operators > syntax.MOST_OPERATORS:
+        return [f"{here} is operator {syntax.MOST_OPERATORS + 1} of its statement"]
+    if wanted:
+        said[0] += f"; in its place may stand {may_stand(wanted)}"
+    meant = hint(reader.tokens, reader.at, wanted)
+    return said + ([meant] if meant else [])
+
+
+# Texts of expressions and statements
+
+
+def shown(it):
+    """An expression as it may be written."""
+    match it:
+        case tree.Literal(number, bits):
+            return f"{bits}'d{number}"
+        case tree.Variable(name):
+            return name
+        case tree.Slice(name, high, low):
+            return f"{name}[{high}:{low}]"
+        case tree.Inverse(operand):
+            return f"~{shown(operand)}"
+        case tree.Binary(("cat" | "lts") as word, left, right):
+            return f"{word}({shown(left)}, {shown(right)})"
+        case tree.Binary(operator, left, right):
+            return f"({shown(left)} {operator} {shown(right)})"
+        case tree.Extension(operand, bits, keeps_sign):
+            return f"{'sext' if keeps_sign else 'zext'}({shown(operand)}, {bits})"
+        case tree.Choice(condition, first, second):
+            return f"({shown(condition)} ? {shown(first)} : {shown(second)})"
+    return "?"
+
+
+def short(it):
+    text = shown(it).removeprefix("(").removesuffix(")") if isinstance(it, (tree.Binary, tree.Choice)) else shown(it)
+    return f"`{text if len(text) <= 50 else text[:47] + '...'}`"
+
+
+def bits(count):
+    return f"{count} bit" if count == 1 else f"{count} bits"
+
+
+# Paths
+
+
+def path_said(layout, breaks):
+    """A path for which `breaks` holds, by the guards that it hangs on, and its truth values; None where there is none."""
+    found = next((path for path in layout.paths() if breaks(path)), None)
+    if found is None:
+        return None, ""
+    needed = []
+    for guard, condition in enumerate(layout.conditions):
+        other = (*found[:guard], not found[guard], *found[guard + 1:])
+        if not breaks(other):
+            needed.append(f"{short(condition)} is {int(found[guard])}")
+    return found, f" where {' and '.join(needed[:MOST_GUARDS])}" if needed else ""
+
+
+def at_line(layout, place):
+    return f"line {rules.line_of(layout, place)}"
+
+
+def history(layout, path, place, memory, address):
+    """What a path does at a location up to a place: the last statements there with their lines."""
+    done = []
+    for it in layout.on_path(path):
+        statement = it.statement
+        if place[0] == 2 and it.place >= place[1]:
+            break
+        if getattr(statement, "memory", None) == memory and getattr(statement, "address", None) == address:
+            kind = f" for {statement.kind}" if isinstance(statement, tree.Reserve) else ""
+            done.append(f"{NAMED[type(statement)]}{kind} in {at_line(layout, (2, it.place))}")
+    return done
+
+
+NAMED = {tree.Reserve: "reserved", tree.Block: "blocked", tree.Read: "read", tree.Ask: "read", tree.Write: "written",
+         tree.Release: "released"}
+NEEDED = {tree.Block: "a `block` needs it reserved", tree.Read: "a read needs it blocked for R", tree.Ask:
+          "a read needs it blocked for R", tree.Write: "a write needs it blocked for W", tree.Release:
+          "a `release` needs it blocked"}
+
+
+# The rules
+
+
+def names(layout, rule, place):
+    """N1 to N3."""
+    pipe = layout.pipe
+    if place[0] != 2:
+        return ["`start` has to name the pipe"] if rule == "N1" else twice(layout, place)
+    statement = layout.statements[place[1]].statement
+    if rule == "N2":
+        return twice(layout, place)
+    used = rule_names.variables_of(statement)
+    defined = dict(rule_names.defined_places(layout))
+    if rule == "N1":
+        guesses = [it.statement.name for it in layout.statements if isinstance(it.statement, tree.SpecCall)]
+        memories = [it.name for it in pipe.memories]
+        variables = [it for it in defined if it not in guesses + memories + [pipe.name]]
+        unknown = [(it, variables) for it in sorted(used) if it not in variables]
+        if isinstance(statement, rule_names.AT_MEMORY) and statement.memory not in memories:
+            unknown.append((statement.memory, memories))
+        if isinstance(statement, tree.Verify) and statement.guess not in guesses:
+            unknown.append((statement.guess, guesses))
+        return [f"`{it}` is no name of that kind" + near(it, known) for it, known in unknown]
+    used |= {statement.guess} if isinstance(statement, tree.Verify) else set()
+    for name in sorted(used):
+        where = defined.get(name)
+        if where is None or where[0] != 2:
+            continue
+        if where[1] >= place[1]:
+            return [f"`{name}` is defined in {at_line(layout, where)}, not before"]
+        by = layout.statements[where[1]].statement
+        path, said = path_said(layout, lambda p: lacks(layout, p, place, name))
+        if path is not None:
+            late = isinstance(by, tree.Ask) and layout.statements[where[1]].is_on(path)
+            return [f"`{name}` is {'answered' if late else 'defined'} in {at_line(layout, where)}, "
+                    f"{'so it is there from the next stage on' if late else 'but not on each path: not' + said}"]
+    return []
+
+
+def lacks(layout, path, place, name):
+    parameters = {it.name for it in layout.pipe.parameters}
+    statements = [it for it in layout.on_path(path) if it.place <= place[1]]
+    if not statements or statements[-1].place != place[1]:
+        return False
+    there, to_come = set(parameters), set()
+    for it in statements[:-1]:
+        if isinstance(it.statement, tree.Separator):
+            there |= to_come
+        elif isinstance(it.statement, tree.Ask):
+            to_come.add(it.statement.name)
+        elif isinstance(it.statement, rule_names.DEFINING):
+            there.add(it.statement.name)
+    return name not in there
+
+
+def twice(layout, place):
+    defined = rule_names.defined_places(layout)
+    name = next((it for it, where in defined if where == place), None)
+    first = next((where for it, where in defined if it == name), None)
+    if name is None or first == place:
+        return []
+    if first[0] < 0:
+        return [f"`{name}` is the name of the pipe"]
+    said = [f"`{name}` was defined in {at_line(layout, first)}"]
+    if place[0] == first[0] == 2 and layout.statements[first[1]].branches:
+        said.append("what differs by the branch is chosen by `?:`, or bound to a name for each branch")
+    return said
+
+
+def near(name, known):
+    found = difflib.get_close_matches(name, known, 1)
+    return f"; `{found[0]}` is one" if found else ""
+
+
+def widths(layout, rule, place):
+    """W1 to W6."""
+    pipe = layout.pipe
+    known = variable_widths(pipe)
+    statement = layout.statements[place[1]].statement if place[0] == 2 else None
+    expressions = rule_names.expressions_of(statement) if statement else pipe.start
+    for it in rule_names.nodes(expressions):
+        if rule in ("W1", "W2", "W3") and rule in set(rule_names.node_rules(it, known)):
+            return [node_said(it, rule, known)]
+    match statement:
+        case tree.If(condition=condition) if rule == "W3":
+            return [f"{short(condition)} has {bits(condition.width(known))}"]
+        case tree.Write(value=value, memory=memory) if rule == "W6":
+            return [f"{short(value)} has {bits(value.width(known))}, a word of `{memory}` {bits(pipe.memory(memory).width)}"]
+    if rule == "W4":
+        memory = pipe.memory(statement.memory)
+        return [f"`{statement.address}` has {bits(known[statement.address])}, an address of `{memory.name}`, "
+                f"which has {memory.depth} words, {bits(memory.address_bits())}"]
+    if rule == "W5":
+        given = statement.arguments if statement else pipe.start
+        if len(given) != len(pipe.parameters):
+            return [f"{len(given)} arguments for {len(pipe.parameters)} parameters"]
+        return [f"{short(it)} has {bits(it.width(known))}, the parameter `{to.name}` {bits(to.width)}"
+                for it, to in zip(given, pipe.parameters) if it.width(known) != to.width][:1]
+    return []
+
+
+def node_said(it, rule, known):
+    """Which widths of an expression don't fit."""
+    match it:
+        case tree.Choice(condition=condition) if rule == "W3":
+            return f"{short(condition)} has {bits(condition.width(known))}"
+        case tree.Choice(_, left, right) | tree.Binary("lts", left, right):
+            return f"{short(left)} has {bits(left.width(known))}, {short(right)} {bits(right.width(known))}"
+        case tree.Binary("cat", left, right):
+            return f"{short(it)} has {bits(left.width(known) + right.width(known))}"
+        case tree.Binary(operator, left, right):
+            amount = "; the amount of a shift has the width of what is shifted" if operator in ("<<", ">>") else ""
+            return f"{short(left)} has {bits(left.width(known))}, {short(right)} {bits(right.width(known))}{amount}"
+        case tree.Slice(name, _, _):
+            return f"`{name}` has {bits(known[name])}"
+        case tree.Extension(operand, _, _):
+            return f"{short(operand)} has {bits(operand.width(known))}"
+    return f"{short(it)} doesn't fit its width"
+
+
+def limits(layout, rule, place):
+    """Z7."""
+    if rule != "Z7":
+        return []
+    if place[0] == 0:
+        return [f"{bits(layout.pipe.parameters[place[1]].width)}: a width is 1 to 64"]
+    if place[0] != 1:
+        expressions = rule_names.expressions_of(layout.statements[place[1]].statement) if place[0] == 2 else layout.pipe.start
+        return [f"a literal of {bits(it.bits)}: a width is 1 to 64" for it in rule_names.nodes(expressions)
+                if isinstance(it, tree.Literal) and not 1 <= it.bits <= 64][:1]
+    it = layout.pipe.memories[place[1]]
+    most = 6 if it.lock == "rename" else 16
+    said = [(not 1 <= it.width <= 64, f"a word of {bits(it.width)}"),
+            (it.depth not in {1 << k for k in range(1, most + 1)}, f"{it.depth} words: a power of two from 2 to {1 << most}"),
+            (it.lock and it.size not in (1, 2, 4, 8, 16), f"a lock of size {it.size}: 1, 2, 4, 8 or 16"),
+            (it.delayed and it.lock not in (None, "queue"), f"a delayed memory takes `queue`, not `{it.lock}`"),
+            (it.lock == "rename" and it.size > it.depth, f"`rename({it.size})` of {it.depth} words: not more than these")]
+    return [text for is_broken, text in said if is_broken][:1]
+
+
+def stages(layout, rule, place):
+    """F1 to F5."""
+    it = layout.statements[place[1]]
+    statement = it.statement
+    if rule == "F3" and it.stage != layout.count - 1:
+        first = next(x for x in layout.statements if isinstance(x.statement, tree.Ask) and x.statement.memory == statement.memory)
+        return [f"`{statement.memory}` is read in {at_line(layout, (2, first.place))}"]
+    if rule == "F3":
+        return ["no stage comes after this one"]
+    if rule == "F1":
+        branch = next(x for x in layout.statements if isinstance(x.statement, tree.Separator)
+                      and x.branches and set(x.branches) & set(it.branches))
+        return [f"its branch has a `---` in line {branch.statement.line}"]
+    if rule == "F2":
+        return ["it stands in a branch" if it.branches else "no `---` stands right behind its `}`"]
+    if rule in ("F4", "F5"):
+        memory = layout.pipe.memory(statement.memory)
+        return [f"`{memory.name}` is {'delayed' if memory.delayed else 'comb'}" if rule == "F4" else f"`{memory.name}` has no lock"]
+    return []
+
+
+def on_path(layout, rule, place):
+    """L1 to L8 and S1 to S5: a path on which the rule is broken at the place, and what it did before."""
+    verifies = layout.verify_stage()
+
+    def breaks(path):
+        statements = layout.on_path(path)
+        found = {
+            "L1": lambda: [p for r, p in rule_locks.states(layout.pipe, statements) if r == "L1"],
+            "L7": lambda: [p for r, p in rule_locks.states(layout.pipe, statements) if r == "L7"],
+            "L3": lambda: [(2, p) for p in rule_locks.reads_after_writes(statements)],
+            "L4": lambda: [p for r, p in rule_locks.reservations(statements) if r == "L4"],
+            "L5": lambda: [p for r, p in rule_locks.reservations(statements) if r == "L5"],
+            "L6": lambda: [(2, p) for p in rule_locks.unwritten_releases(statements)],
+            "L8": lambda: [(2, p) for p in rule_locks.late_reads(layout, statements, path)],
+            "S1": lambda: [p for _, p in rule_guesses.successors(statements)],
+            "S2": lambda: [(2, p) for p in rule_guesses.unverified(statements)],
+            "S4": lambda: [(2, p) for p in rule_guesses.uncertain_releases(statements, verifies)],
+            "S5": lambda: [(2, p) for p in rule_guesses.unchecked(statements, verifies)],
+        }[rule]()
+        return place in found
+
+    if rule == "L2":
+        it = layout.statements[place[1]]
+        kind, memory = type(it.statement), it.statement.memory
+        first = next(x for x in layout.statements if isinstance(x.statement, kind) and x.statement.memory == memory)
+        return [f"this is stage {it.stage}; the first of `{memory}` is in stage {first.stage}, "
+                f"{at_line(layout, (2, first.place))}"]
+    if rule == "S3":
+        first = next(x for x in layout.statements if isinstance(x.statement, tree.Verify))
+        return [f"this is stage {layout.statements[place[1]].stage}; the first is in stage {first.stage}, "
+                f"{at_line(layout, (2, first.place))}"]
+    path, said = path_said(layout, breaks)
+    if path is None:
+        return []
+    where = f"on the path{said}: " if said else ""
+    return [where + it for it in happened(layout, rule, place, path)] or ([f"on the path{said}"] if said else [])
+
+
+def happened(layout, rule, place, path):
+    """What a path did before it broke a rule at a place."""
+    statements = layout.on_path(path)
+    if rule == "L7":
+        taken = [it.statement for it in statements if isinstance(it.statement, tree.Reserve)]
+        released = {(it.statement.memory, it.statement.address) for it in statements if isinstance(it.statement, tree.Release)}
+        return [f"`{it.memory}[{it.address}]`, reserved in line {it.line}, is not released"
+                for it in taken if (it.memory, it.address) not in released][:1]
+    if rule == "S1":
+        calls = [it for it in statements if isinstance(it.statement, (tree.Call, tree.SpecCall))]
+        return [f"one was made in line {calls[0].statement.line}"] if calls else ["no `call` and no `spec_call`"]
+    statement = layout.statements[place[1]].statement
+    if rule == "S2":
+        again = [it for it in statements if isinstance(it.statement, tree.Verify) and it.statement.guess == statement.name]
+        return [f"it is verified in {' and '.join(f'line {it.statement.line}' for it in again)}" if again else
+                f"no `verify` of `{statement.name}`"]
+    stage = layout.statements[place[1]].stage
+    if rule in ("S4", "S5"):
+        first = next(it for it in layout.statements if isinstance(it.statement, tree.Verify))
+        wants = "`spec_barrier` before it" if rule == "S4" else f"`spec_check` before it in stage {stage}"
+        return [f"this is stage {stage}, the `verify` of line {first.statement.line} is in stage {first.stage}, "
+                f"and there is no {wants}"]
+    if rule == "L8":
+        last = next(it for it in layout.statements if isinstance(it.statement, tree.Release)
+                    and it.statement.memory == statement.memory)
+        bound = layout.next_stage(stage, path) if isinstance(statement, tree.Ask) else stage
+        return [f"it is bound in stage {bound}, and `{statement.memory}` is released in stage {last.stage}, "
+                f"line {last.statement.line}"]
+    if rule in ("L3", "L4"):
+        others = [it for it in statements if it.place < place[1] and isinstance(it.statement, (tree.Reserve, tree.Write))
+                  and it.statement.memory == statement.memory
+                  and (isinstance(it.statement, tree.Write) == isinstance(statement, (tree.Read, tree.Ask)))
+                  and getattr(it.statement, "kind", "W") == ("W" if rule == "L3" else statement.kind)]
+        return [f"`{statement.memory}` was {NAMED[type(it.statement)]} in line {it.statement.line}" for it in others[-1:]]
+    done = history(layout, path, place, statement.memory, statement.address)
+    name = f"`{statement.memory}[{statement.address}]`"
+    found = [f"{name} was {', '.join(done)}" if done else f"{name} was not reserved"]
+    if rule == "L1":
+        found = [f"{found[0]}; {NEEDED[type(statement)]}"]
+        kinds = {it.split(" in ")[0] for it in done if it.startswith("reserved")}
+        if len(kinds) == 2:
+            found.append("one variable is one location: reserve for R and for W by two variables, as `b = a;`")
+        elif not done and said_with(layout, statement):
+            found.append(f"line {said_with(layout, statement)} reserves it on other paths: a path chooses for each condition by "
+                         "itself, so both have to stand under one")
+    return found
+
+
+def said_with(layout, statement):
+    """The line in which another path reserves this location; None where none does."""
+    return next((it.statement.line for it in layout.statements if isinstance(it.statement, tree.Reserve)
+                 and (it.statement.memory, it.statement.address) == (statement.memory, statement.address)), None)
+
+
+def details(text, rule, line):
+    """What of a source text breaks the rule at the line; nothing where the model finds nothing there."""
+    if rule == "G1":
+        return out_of_place(text)
+    layout = Layout(syntax.parse(text))
+    asked = {"Z": rules.limits, "N": rule_names.names, "W": rule_names.widths, "F": rules.forks, "L": rule_locks.locks,
+             "S": rule_guesses.guesses}.get(rule[0])
+    said = {"Z": limits, "N": names, "W": widths, "F": stages, "L": on_path, "S": on_path}.get(rule[0])
+    found = sorted(place for broken, place in asked(layout) if broken == rule) if asked else []
+    if not found or rules.line_of(layout, found[0]) != line:
+        return []
+    return said(layout, rule, found[0])
