@@ -1,12 +1,16 @@
 #!/usr/bin/env python3
 """Draws the run of a pipe as books on processors do: a row for each thread, a column for each cycle.
 
-    pipeline.py PDL SOURCE IMAGE CYCLES [--delays FILE] [--konata FILE]
+    pipeline.py PDL SOURCE IMAGE CYCLES [--delays FILE] [--konata FILE] [--show NAME ..] [--table TABLE]
 
 PDL is the program. Which stages hold a thread in each cycle, and which of these threads move, are what `pdl view` prints;
 in which cycles younger threads are squashed is the port `squash` of `pdl wave`. A cell has the number of the stage in which
 the thread stands, with `*` where it doesn't move and `x` where it is squashed in that cycle. With --konata the same goes
 into a file that the viewer Konata opens.
+
+With --show each row begins with the values of these variables of its thread, `pc` and `word` for one. They are those of the
+model in tools/pdl_model, which has to stand where the program says, cycle by cycle. With --table a word of the table's
+memory is shown as the instruction that it is with the table of `pdl asm`.
 """
 
 import argparse
@@ -15,8 +19,10 @@ import signal
 import subprocess
 import sys
 
-from pdl_model import rules
+import listing
+from pdl_model import files, rules
 from pdl_model.dump import Wave
+from pdl_model.machine import Machine
 
 
 class Thread:
@@ -28,6 +34,7 @@ class Thread:
         self.stages = []
         self.moves = []
         self.is_squashed = False
+        self.label = ""
 
     def stands(self, stage, moves):
         self.stages.append(stage)
@@ -95,10 +102,11 @@ def followed(layout, rows, squashes):
 def chart(threads, cycles):
     """The lines of the drawing."""
     width = max([len(str(cycles)), *(len(cell) for it in threads for cell in it.cells())]) + 1
-    first = max(len("thread"), len(str(len(threads))))
+    names = [f"{it.number} {it.label}".rstrip() for it in threads]
+    first = max(len("thread"), *(len(it) for it in names)) if names else len("thread")
     lines = [f"{'thread':<{first}}" + "".join(f"{cycle:>{width}}" for cycle in range(1, cycles + 1))]
-    for it in threads:
-        lines.append(f"{it.number:<{first}}" + "".join(f"{cell:>{width}}" for cell in it.cells()))
+    for it, name in zip(threads, names):
+        lines.append(f"{name:<{first}}" + "".join(f"{cell:>{width}}" for cell in it.cells()))
     return lines
 
 
@@ -108,7 +116,7 @@ def konata(threads, cycles):
     retired = 0
     for it in threads:
         name = it.number - 1
-        at[it.begun] += [f"I\t{name}\t{name}\t0", f"L\t{name}\t0\tthread {it.number}"]
+        at[it.begun] += [f"I\t{name}\t{name}\t0", f"L\t{name}\t0\t{it.label or f'thread {it.number}'}"]
         last = it.begun + len(it.stages)
         for cycle, stage in enumerate(it.stages, it.begun):
             before = it.stages[cycle - it.begun - 1] if cycle > it.begun else None
@@ -122,6 +130,23 @@ def konata(threads, cycles):
         lines += at[cycle]
         lines.append("C\t1")
     return lines
+
+
+def values_of(layout, image, rows, replies):
+    """What the model binds in each thread, in the order in which threads begin; the threads have to stand as in the rows."""
+    machine, found = Machine(layout, image), {}
+    for cycle, row in enumerate(rows):
+        stages = machine.state.stages
+        if [thread is not None for thread in stages] != [letter != "." for letter in row]:
+            raise SystemExit(f"pipeline.py: in cycle {cycle + 1} the model stands otherwise than `pdl view` says")
+        for thread in stages:
+            if thread:
+                found.setdefault(thread.number, {}).update(thread.values)
+        machine.cycle(files.replies_of(layout.pipe, replies, cycle + 1))
+        for thread in machine.state.stages:
+            if thread:
+                found.setdefault(thread.number, {}).update(thread.values)
+    return [found[number] for number in sorted(found)]
 
 
 def said(words):
@@ -150,6 +175,8 @@ def main():
     asked.add_argument("cycles", type=int)
     asked.add_argument("--delays")
     asked.add_argument("--konata")
+    asked.add_argument("--show", nargs="+", default=[])
+    asked.add_argument("--table")
     it = asked.parse_args()
     # a reader that stops before the end, as `head` does, ends this program without a word
     signal.signal(signal.SIGPIPE, signal.SIG_DFL)
@@ -157,6 +184,13 @@ def main():
     rows = [line.split(" ")[1] for line in said([it.program, "view", *words]).splitlines()]
     layout = rules.checked(pathlib.Path(it.source).read_bytes().decode("latin-1"))
     threads = followed(layout, rows, squashes_of(it.program, layout, words, it.cycles))
+    if it.show:
+        text = pathlib.Path(it.delays).read_text() if it.delays else ""
+        image = files.read_image(layout.pipe, pathlib.Path(it.image).read_text())
+        values = values_of(layout, image, rows, files.read_delays(layout.pipe, text) if it.delays else [])
+        table = listing.Table(pathlib.Path(it.table).read_text()) if it.table else None
+        for thread, bound in zip(threads, values):
+            thread.label = listing.label(it.show, bound, table)
     print("\n".join(chart(threads, it.cycles)))
     if it.konata:
         pathlib.Path(it.konata).write_text("\n".join(konata(threads, it.cycles)) + "\n")
