@@ -1,0 +1,99 @@
+#!/usr/bin/env python3
+"""Writes a test bench for the netlist of a source, as docs/using.md has one: testbench.py PDL SOURCE IMAGE CYCLES FOLDER
+
+PDL is the program. Into FOLDER go `core.v`, the text of `pdl build`; a `.hex` file for each memory, with the words of IMAGE;
+`ram.v`, the memory of docs/using.md, where a memory is delayed; and `bench.v`, which resets the module, puts the words in,
+prints the commits of CYCLES cycles as `pdl run` does, and dumps every net and register into `bench.vcd`. It prints the two
+commands that run it by Icarus Verilog.
+"""
+
+import pathlib
+import re
+import subprocess
+import sys
+
+import usage
+from real_tools import Module, words_of
+
+PAGE = pathlib.Path(__file__).resolve().parent.parent / "docs" / "using.md"
+
+
+def sized(width):
+    return f"[{width - 1}:0] " if width > 1 else ""
+
+
+def memories(module):
+    """The memories with their arrays, widths and numbers of words: those inside the module, and the delayed ones."""
+    inside = [(name, f"core.a_{name}", width, depth) for name, (width, depth) in module.arrays.items()]
+    outside = [(name, f"ram_{name}.words", width, 1 << address) for name, width, address in module.delayed()]
+    return inside + outside
+
+
+def ram(module, name, width, address):
+    """A delayed memory beside the module, with what it is written where it has a lock."""
+    written = f".c(c_{name}), .ca(ca_{name}), .cd(cd_{name})" if name in module.memories() else f".c(1'b0), .ca({address}'d0), .cd({width}'d0)"
+    return [
+        f"  ram #(.WIDTH({width}), .ADDRESS({address})) ram_{name}(.clk(clk), .rst(rst), .q(q_{name}), .qa(qa_{name}),",
+        f"    .p(p_{name}), .pd(pd_{name}), {written});",
+    ]
+
+
+def bench(module, cycles):
+    """The text of the bench."""
+    wires = [f"  wire {sized(width)}{name};" for name, width in module.outputs]
+    wires += [f"  wire p_{name};\n  wire {sized(width)}pd_{name};" for name, width, _ in module.delayed()]
+    names = [name for name, _ in module.outputs] + [f"{port}_{name}" for name in module.words for port in ("p", "pd")]
+    ports = "".join(f",\n    .{name}({name})" for name in names)
+    return "\n".join([
+        "module bench;",
+        "  reg clk = 0;",
+        "  reg rst = 1;",
+        "  integer cycle;",
+        *wires,
+        f"  {module.name} core(.clk(clk), .rst(rst){ports});",
+        *[line for it in module.delayed() for line in ram(module, *it)],
+        "  initial begin",
+        '    $dumpfile("bench.vcd");',
+        "    $dumpvars(0, bench);",
+        "    #1 clk = 1;                               // the one edge of the reset",
+        "    #1 clk = 0;",
+        "    rst = 0;",
+        *[f'    $readmemh("{name}.hex", {array});' for name, array, _, _ in memories(module)],
+        f"    for (cycle = 1; cycle <= {cycles}; cycle = cycle + 1) begin",
+        "      #1;",
+        *[f'      if (c_{name}) $display("%0d {name} %0d %h", cycle, ca_{name}, cd_{name});' for name in module.memories()],
+        "      clk = 1;",
+        "      #1 clk = 0;",
+        "    end",
+        "    $finish;",
+        "  end",
+        "endmodule",
+        "",
+    ])
+
+
+def main():
+    program, source, image, cycles, folder = usage.words(__doc__, 5, 5)
+    folder = pathlib.Path(folder)
+    folder.mkdir(parents=True, exist_ok=True)
+    built = subprocess.run([program, "build", source], capture_output=True, text=True)
+    if built.returncode:
+        sys.stderr.write(built.stderr)
+        return built.returncode
+    module = Module(built.stdout)
+    given = {(name, address): value for name, address, value in words_of(pathlib.Path(image).read_text())}
+    for name, _, _, depth in memories(module):
+        (folder / f"{name}.hex").write_text("".join(f"{given.get((name, at), 0):x}\n" for at in range(depth)))
+    (folder / "core.v").write_text(built.stdout)
+    (folder / "bench.v").write_text(bench(module, int(cycles)))
+    files = ["bench.v", "core.v"]
+    if module.delayed():
+        page = re.search(r"^```verilog\n(module ram .*?^endmodule\n)```$", PAGE.read_text(), re.M | re.S)
+        (folder / "ram.v").write_text(page[1])
+        files.append("ram.v")
+    print(f"cd {folder} && iverilog -g2005 -o bench.vvp {' '.join(files)} && vvp -n bench.vvp")
+    return 0
+
+
+if __name__ == "__main__":
+    sys.exit(main())
