@@ -1,7 +1,7 @@
 #!/usr/bin/env python3
 """Draws the run of a pipe as books on processors do: a row for each thread, a column for each cycle.
 
-    pipeline.py PDL SOURCE IMAGE CYCLES [--delays FILE] [--konata FILE] [--show NAME ..] [--table TABLE]
+    pipeline.py PDL SOURCE IMAGE CYCLES [--delays FILE] [--konata FILE] [--show NAME ..] [--table TABLE] [--why]
 
 PDL is the program. Which stages hold a thread in each cycle, and which of these threads move, are what `pdl view` prints;
 in which cycles younger threads are squashed is the port `squash` of `pdl wave`. A cell has the number of the stage in which
@@ -10,10 +10,13 @@ into a file that the viewer Konata opens.
 
 With --show each row begins with the values of these variables of its thread, `pc` and `word` for one. They are those of the
 model in tools/pdl_model, which has to stand where the program says, cycle by cycle. With --table a word of the table's
-memory is shown as the instruction that it is with the table of `pdl asm`.
+memory is shown as the instruction that it is with the table of `pdl asm`. With --why a letter stands in the place of `*`, by
+the model likewise: the first of the conditions of docs/machine.md that keeps the thread where it is. Below the drawing stand
+how often each did so in each stage.
 """
 
 import argparse
+import collections
 import pathlib
 import signal
 import subprocess
@@ -22,7 +25,15 @@ import sys
 import listing
 from pdl_model import files, rules
 from pdl_model.dump import Wave
+from pdl_model import moves as conditions
+from pdl_model.deeds import carry_out
 from pdl_model.machine import Machine
+
+# Why a thread doesn't move, in the order in which it is asked.
+REASONS = {
+    "a": "awaits an answer", "l": "a lock isn't ready", "q": "a later stage squashes", "r": "a lock has no room",
+    "p": "the port of a delayed memory isn't free", "b": "a barrier waits", "n": "the next stage is taken",
+    "o": "an older thread is in the other branch"}
 
 
 class Thread:
@@ -35,6 +46,7 @@ class Thread:
         self.moves = []
         self.is_squashed = False
         self.label = ""
+        self.reasons = {}
 
     def stands(self, stage, moves):
         self.stages.append(stage)
@@ -42,7 +54,8 @@ class Thread:
 
     def cells(self):
         """What is shown of each cycle from the first one on."""
-        shown = [f"{stage}{'' if moves else '*'}" for stage, moves in zip(self.stages, self.moves)]
+        shown = [f"{stage}{'' if moves else self.reasons.get(self.begun + k, '*')}"
+                 for k, (stage, moves) in enumerate(zip(self.stages, self.moves))]
         if self.is_squashed:
             shown[-1] = f"{self.stages[-1]}x"
         return [""] * (self.begun - 1) + shown
@@ -132,9 +145,35 @@ def konata(threads, cycles):
     return lines
 
 
-def values_of(layout, image, rows, replies):
-    """What the model binds in each thread, in the order in which threads begin; the threads have to stand as in the rows."""
-    machine, found = Machine(layout, image), {}
+def reason(layout, state, answers, deeds, moves, stage):
+    """The letter of the first condition that keeps the thread of a stage where it is."""
+    own = deeds[stage]
+    if own is None:
+        return "a" if set(state.stages[stage].awaited()) - set(answers) else "l"
+    return next(letter for letter, holds in {
+        "q": not conditions.fails_later(deeds, moves, stage),
+        "r": conditions.have_room(layout, state, own),
+        "p": conditions.ports_free(state, answers, moves, own),
+        "b": conditions.barrier_clear(layout, state, own, stage),
+        "n": conditions.can_enter(layout, state, own, moves, stage),
+        "o": conditions.merges_well(layout, state, own, stage)}.items() if not holds)
+
+
+def reasons(layout, state, replies):
+    """For each thread that stands in this cycle, by its number, the letter of why."""
+    answers = {name: state.arrays[name][it.address] for name, it in state.requests.items() if it and name in replies}
+    deeds = [carry_out(layout, state, stage, answers) if thread else None for stage, thread in enumerate(state.stages)]
+    moves = conditions.moving(layout, state, deeds, answers)
+    return {thread.number: reason(layout, state, answers, deeds, moves, stage)
+            for stage, thread in enumerate(state.stages) if thread and not moves[stage]}
+
+
+def modelled(layout, image, rows, replies):
+    """By the model, for each thread in the order in which they begin: what it binds, and why it stands in which cycle.
+
+    The threads have to stand as in the rows.
+    """
+    machine, found, why = Machine(layout, image), {}, {}
     for cycle, row in enumerate(rows):
         stages = machine.state.stages
         if [thread is not None for thread in stages] != [letter != "." for letter in row]:
@@ -142,11 +181,22 @@ def values_of(layout, image, rows, replies):
         for thread in stages:
             if thread:
                 found.setdefault(thread.number, {}).update(thread.values)
-        machine.cycle(files.replies_of(layout.pipe, replies, cycle + 1))
+        bits = files.replies_of(layout.pipe, replies, cycle + 1)
+        for number, letter in reasons(layout, machine.state, bits).items():
+            why.setdefault(number, {})[cycle + 1] = letter
+        machine.cycle(bits)
         for thread in machine.state.stages:
             if thread:
                 found.setdefault(thread.number, {}).update(thread.values)
-    return [found[number] for number in sorted(found)]
+    return [(found[number], why.get(number, {})) for number in sorted(found)]
+
+
+def counted(threads):
+    """How often threads stood in each stage, by the reason, the most first."""
+    found = collections.Counter(
+        (it.reasons[it.begun + k], stage) for it in threads for k, (stage, moves) in enumerate(zip(it.stages, it.moves))
+        if not moves)
+    return [f"{letter}  stage {stage}: {count} times, {REASONS[letter]}" for (letter, stage), count in found.most_common()]
 
 
 def said(words):
@@ -177,6 +227,7 @@ def main():
     asked.add_argument("--konata")
     asked.add_argument("--show", nargs="+", default=[])
     asked.add_argument("--table")
+    asked.add_argument("--why", action="store_true")
     it = asked.parse_args()
     # a reader that stops before the end, as `head` does, ends this program without a word
     signal.signal(signal.SIGPIPE, signal.SIG_DFL)
@@ -184,14 +235,17 @@ def main():
     rows = [line.split(" ")[1] for line in said([it.program, "view", *words]).splitlines()]
     layout = rules.checked(pathlib.Path(it.source).read_bytes().decode("latin-1"))
     threads = followed(layout, rows, squashes_of(it.program, layout, words, it.cycles))
-    if it.show:
+    if it.show or it.why:
         text = pathlib.Path(it.delays).read_text() if it.delays else ""
         image = files.read_image(layout.pipe, pathlib.Path(it.image).read_text())
-        values = values_of(layout, image, rows, files.read_delays(layout.pipe, text) if it.delays else [])
+        found = modelled(layout, image, rows, files.read_delays(layout.pipe, text) if it.delays else [])
         table = listing.Table(pathlib.Path(it.table).read_text()) if it.table else None
-        for thread, bound in zip(threads, values):
+        for thread, (bound, why) in zip(threads, found):
             thread.label = listing.label(it.show, bound, table)
+            thread.reasons = why if it.why else {}
     print("\n".join(chart(threads, it.cycles)))
+    if it.why:
+        print("\n".join(["", *counted(threads)]))
     if it.konata:
         pathlib.Path(it.konata).write_text("\n".join(konata(threads, it.cycles)) + "\n")
 
