@@ -51,7 +51,7 @@ use Rattle.pdl_machine_lockuse.proofs.Owns.{contains_write, first_is, own_two, h
 use Rattle.pdl_machine_lockuse.proofs.Awaits.{still_early}
 use Rattle.pdl_machine_lockuse.proofs.Tails.{Bars, up_released, bars_commit, bars_verify, all_own, tail_kept}
 use Rattle.pdl_machine_lockuse.proofs.Cuts.{order_filled, order_behind, tail_left, front_left}
-use Rattle.pdl_theory_turns.proofs.UndoneWrites.{phase_append}
+use Rattle.pdl_theory_turns.proofs.TurnPath.{phase_append}
 use Rattle.pdl_semantics.specs.PendingLists.{AreOrdered, count_older}
 use Rattle.pdl_word.specs.Each.{Each}
 use Rattle.pdl_theory_simulation.proofs.SimulatedStates.{Sim}

@@ -32,7 +32,7 @@ use Rattle.pdl_theory_states.proofs.StillLooks.{let_go_behind}
 use Rattle.pdl_theory_turns.proofs.StrayPaths.{looked_append}
 use Rattle.pdl_theory_turns.proofs.Guesses.{makings_first, makings_second}
 use Rattle.pdl_theory_turns.proofs.OwnEntries.{none_first}
-use Rattle.pdl_theory_turns.proofs.UndoneWrites.{phase_append}
+use Rattle.pdl_theory_turns.proofs.TurnPath.{phase_append}
 use Rattle.pdl_theory_turns.proofs.Paths.{none_onpath}
 
 -- PARTS OF A LIST OF STATEMENTS

@@ -28,7 +28,7 @@ use Rattle.pdl_theory_states.proofs.ThreadFacts.{Lasting}
 use Rattle.pdl_theory_states.proofs.Releases.{is_done, sure_done, low_stages, stages_looked, unbarred}
 use Rattle.pdl_machine_lockuse.proofs.Paths.{path, mine, passed, way_is}
 use Rattle.pdl_machine_lockuse.proofs.OwnWrite.{used_here}
-use Rattle.pdl_theory_turns.proofs.UndoneWrites.{phase_append}
+use Rattle.pdl_theory_turns.proofs.TurnPath.{phase_append}
 use Rattle.pdl_semantics.specs.Sound.{stages_from}
 use Rattle.pdl_word.specs.Each.{Each}
 

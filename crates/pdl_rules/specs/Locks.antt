@@ -1,10 +1,11 @@
 -- Locks: rules F5, L1 and L3 to L7. The rules L are asked on each path, of the places before on that path, the earlier ones.
-use Rattle.std.specs.Prelude.{ℕ, Bool, true, false, not, ◌&&◌, ◌==◌, nat_le, List, [], ◌∷◌, fold, count_by, if◌then◌else◌, bytes_eq}
+use Rattle.std.specs.Prelude.{ℕ, Bool, true, false, not, ◌&&◌, ◌==◌, nat_le, List, [], ◌∷◌, Option, Some, None, fold, count_by, if◌then◌else◌, bytes_eq}
 use Rattle.std.specs.List.{list_any}
 use Rattle.std.specs.Option.{is_some}
-use Rattle.pdl_semantics.specs.Tree.{Location, Kind, R, W, Stmt, Separator, CombRead, Bind, SpecCall, DelayedRead, Write, Reserve, Block, Release, If, Call, Verify, SpecCheck, SpecBarrier, Mem, Pipe}
+use Rattle.pdl_semantics.specs.Tree.{Location, Kind, R, W, Stmt, Separator, CombRead, Bind, SpecCall, DelayedRead, Write, Reserve, Block, Release, LockDecl, If, Call, Verify, SpecCheck, SpecBarrier, Mem, Pipe}
 use Rattle.pdl_rules.specs.Places.{Place, Parameter, Memory, Statement, End, StartClause, at_statement, on_some_path}
-use Rattle.pdl_rules.specs.Forms.{writes, reserves, releases}
+use Rattle.pdl_rules.specs.Forms.{writes, reserves}
+use Rattle.pdl_rules.specs.Parts.{parts_of}
 
 -- whether a memory has a lock, by its name
 abbrev pub is_locked : List Mem → List ℕ → Bool
@@ -173,19 +174,30 @@ is_late_read earlier x = at_statement false (λ s bs. reads_late earlier s) x
 abbrev pub breaks_l3 : Pipe → List Place → Place → Bool
 breaks_l3 p before x = on_some_path (λ earlier. is_late_read earlier x) p before x
 
--- how many reservations of a memory for this kind there may be on a path
-abbrev pub most_reservations : Kind → ℕ
-most_reservations R = 4
-most_reservations W = 1
+-- the size that a lock is declared with, 0 without lock
+abbrev pub declared_size : Option LockDecl → ℕ
+declared_size None = 0
+declared_size (Some l) = l.size.value
+
+-- the size of a memory's lock, by its name
+abbrev pub lock_size : List Mem → List ℕ → ℕ
+lock_size [] m = 0
+lock_size (x ∷ xs) m = if bytes_eq x.name.name m then declared_size x.lock else lock_size xs m
+
+-- how many reservations of a memory for this kind there may be on a path; one for writing where its lock has room for one
+abbrev pub most_reservations : List Mem → Kind → List ℕ → ℕ
+most_reservations ms R m = 4
+most_reservations ms W m = if lock_size ms m == 1 then 1 else 2
 
 -- whether a place makes one reservation of its memory more than there may be of this kind
-abbrev pub is_one_too_many : List Place → Place → Bool
-is_one_too_many earlier x =
-    at_statement false (λ s bs. reserves (λ at k. nat_le (most_reservations k) (count_by (is_reserve_of k at.mem.name) earlier)) s) x
+abbrev pub is_one_too_many : Pipe → List Place → Place → Bool
+is_one_too_many p earlier x =
+    at_statement false
+    (λ s bs. reserves (λ at k. nat_le (most_reservations p.mems k at.mem.name) (count_by (is_reserve_of k at.mem.name) earlier)) s) x
 
 -- L4 at a place: on some path one reservation too many of a memory
 abbrev pub breaks_l4 : Pipe → List Place → Place → Bool
-breaks_l4 p before x = on_some_path (λ earlier. is_one_too_many earlier x) p before x
+breaks_l4 p before x = on_some_path (λ earlier. is_one_too_many p earlier x) p before x
 
 -- whether a place reserves this location
 abbrev pub reserves_location : Location → Place → Bool
@@ -207,11 +219,39 @@ writes_location l x = at_statement false (λ s bs. writes (λ at e. same_locatio
 abbrev pub is_not_written : List Place → Location → Bool
 is_not_written earlier at = is_held_for W (hold_after at earlier) && not (count_by (writes_location at) earlier == 1)
 
--- whether a place releases a write reservation through which there was not exactly one write
-abbrev pub is_not_written_once : List Place → Place → Bool
-is_not_written_once earlier x = at_statement false (λ s bs. releases (is_not_written earlier) s) x
+-- the location of a memory that is reserved first for writing
+abbrev pub first_reserved : List ℕ → List Place → Option Location
+first_reserved m [] = None
+first_reserved m (x ∷ xs) = if is_reserve_of W m x then at_statement None (λ s bs. (parts_of s).location) x else first_reserved m xs
 
--- L6 at a place: on some path it releases a write reservation without exactly one write
+-- whether a location is another one than that which is reserved first, and this isn't written yet
+abbrev pub is_out_of_turn : Location → List Place → Option Location → Bool
+is_out_of_turn at earlier None = false
+is_out_of_turn at earlier (Some first) = not (same_location first at) && not (list_any (writes_location first) earlier)
+
+-- whether a statement releases a write reservation through which there was not exactly one write, or writes through the second
+-- one of a memory before the first
+abbrev pub writes_wrongly : List Place → Stmt → Bool
+writes_wrongly earlier (Separator _) = false
+writes_wrongly earlier (CombRead _ _ _) = false
+writes_wrongly earlier (Bind _ _ _) = false
+writes_wrongly earlier (SpecCall _ _ _) = false
+writes_wrongly earlier (DelayedRead _ _ _) = false
+writes_wrongly earlier (Write _ at _) = is_out_of_turn at earlier (first_reserved at.mem.name earlier)
+writes_wrongly earlier (Reserve _ _ _) = false
+writes_wrongly earlier (Block _ _) = false
+writes_wrongly earlier (Release _ at) = is_not_written earlier at
+writes_wrongly earlier (If _ _ _ _) = false
+writes_wrongly earlier (Call _ _) = false
+writes_wrongly earlier (Verify _ _ _) = false
+writes_wrongly earlier (SpecCheck _) = false
+writes_wrongly earlier (SpecBarrier _) = false
+
+-- whether a place releases a write reservation without exactly one write, or writes out of the order of the reservations
+abbrev pub is_not_written_once : List Place → Place → Bool
+is_not_written_once earlier x = at_statement false (λ s bs. writes_wrongly earlier s) x
+
+-- L6 at a place: on some path it releases a write reservation without exactly one write, or writes out of turn
 abbrev pub breaks_l6 : Pipe → List Place → Place → Bool
 breaks_l6 p before x = on_some_path (λ earlier. is_not_written_once earlier x) p before x
 

@@ -2,7 +2,7 @@
 use Rattle.std.proofs.Common.{◌≡◌, refl, Bool, true, false, List, [], ◌∷◌, None}
 use Rattle.pdl_semantics.specs.Tree
 use Rattle.pdl_semantics.specs.Flatten.{flat}
-use Rattle.pdl_semantics.proofs.Pipes.{one_stage, shared_guard, count_queue, guess, far_barrier, copy, copy_guessed, count_slow, two_branches, one_branch, forked, everything, dead_read}
+use Rattle.pdl_semantics.proofs.Pipes.{two_writes, two_writes_apart, one_stage, shared_guard, count_queue, guess, far_barrier, copy, copy_guessed, count_slow, two_branches, one_branch, forked, everything, dead_read}
 use Rattle.pdl_semantics.proofs.Texts.{number, constant, variable, slice, plus, separator, bind, delayed_read, call, spec_barrier, if_else, slow, pipe}
 use Rattle.pdl_semantics.specs.Flat.{Arrays, Pipe}
 use Rattle.pdl_theory_derived.specs.Alone.{Refines, Advances, KeepsPace}
@@ -48,6 +48,20 @@ fork_text_sounds = refl
 
 one_branch_sounds : passes_tests (flat one_branch) ≡ true
 one_branch_sounds = refl
+
+-- two writes of one memory in one thread, in one stage or apart, whose releases stand in the other order
+two_words_sound : passes_tests (flat (two_writes (plus (variable "n") (constant 2 1)))) ≡ true
+two_words_sound = refl
+
+one_word_sounds : passes_tests (flat (two_writes (variable "n"))) ≡ true
+one_word_sounds = refl
+
+writes_apart_sound : passes_tests (flat (two_writes_apart Bypass 4)) ≡ true
+writes_apart_sound = refl
+
+-- one entry is too little room for both
+short_room_fails : passes_tests (flat (two_writes_apart Queue 1)) ≡ false
+short_room_fails = refl
 
 everything_sounds : passes_tests (flat everything) ≡ true
 everything_sounds = refl

@@ -291,18 +291,24 @@ module _ (p : Pipe) (flows : Flows p) (st : State) (d : Derived.State) (bits : L
       same_filled m (with_reserves m (movers (acts_of p flows st d bits arrays (sorted ls))) (lock_of st m)) ls s
       ∙ ap (with_all_writes m (movers (lacts p st d bits ls))) (same_appended m (lock_of st m) ls s)
 
+  pub
+
   same_releases : (m : ℕ) (ls : List Live) → Swaps ls
-      → has_release m (movers (acts_of p flows st d bits arrays (sorted ls))) ≡ has_release m (movers (lacts p st d bits ls))
-  same_releases m = same_any (λ a. list_any (λ n. n == m) a.does.releases)
+      → all_releases m (movers (acts_of p flows st d bits arrays (sorted ls))) ≡ all_releases m (movers (lacts p st d bits ls))
+  same_releases m = same_movers ℕ (all_releases m) (λ a z. z + releases_of m a.does.releases) (λ a rest. refl)
+      (λ x y s z. swapped z (releases_of m (deeds_of p st bits x.live).releases) (releases_of m (deeds_of p st bits y.live).releases))
+    where
+      swapped : (a b c : ℕ) → (a + b) + c ≡ (a + c) + b
+      swapped a b c = omega arith
 
   -- the entry that is taken out of a lock is the same by stages and by age
   pub same_taken : (m : ℕ) (ls : List Live) → Swaps ls
       → taken_out st (movers (acts_of p flows st d bits arrays (sorted ls))) m ≡ taken_out st (movers (lacts p st d bits ls)) m
-  same_taken m ls s = ap₂ (λ b l. if b then Cycle.oldest l else None) (same_releases m ls s) (same_two m ls s)
+  same_taken m ls s = ap₂ take (same_releases m ls s) (same_two m ls s)
 
   same_three : (m : ℕ) (ls : List Live) → Swaps ls
       → Cycle.list_three st (movers (acts_of p flows st d bits arrays (sorted ls))) m ≡ Cycle.list_three st (movers (lacts p st d bits ls)) m
-  same_three m ls s = ap₂ (λ b l. if b then Cycle.but_oldest l else l) (same_releases m ls s) (same_two m ls s)
+  same_three m ls s = ap₂ drop (same_releases m ls s) (same_two m ls s)
 
   same_commits : (ms ns : List Moves.Act) → ((m : ℕ) → taken_out st ms m ≡ taken_out st ns m)
       → (k : ℕ) (xs : List Mem) (arrays : Arrays) → with_commits st ms k xs arrays ≡ with_commits st ns k xs arrays
@@ -340,7 +346,7 @@ module _ (p : Pipe) (flows : Flows p) (st : State) (d : Derived.State) (bits : L
   same_ports ls s = λ i. record {
     valid = for_stages (λ q. same_any_all (λ a. a.stage == q) ls s i) 0 p.stages;
     moves = for_stages (λ q. same_any (λ a. a.stage == q) ls s i) 0 p.stages;
-    commits = for_mems (λ m. Cycle.port_write (same_taken m ls s i)) 0 p.mems;
+    commits = for_mems (λ m. Cycle.port_writes (same_taken m ls s i)) 0 p.mems;
     requests = for_mems (λ m. same_shown m ls s i) 0 p.mems;
     ended = same_any (λ a. is_none (next_stage p a.stage a.does)) ls s i;
     squash = is_some (same_squasher ls s i);

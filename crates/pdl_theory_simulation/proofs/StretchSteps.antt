@@ -1,11 +1,12 @@
 -- What the statements of a path do to values, to awaited variables, to requests and to the successor.
-use Rattle.std.proofs.Common.{◌≡◌, refl, sym, ap, ◌∙◌, subst, ℕ, Bool, true, false, ◌&&◌, ◌||◌, not, List, [], ◌∷◌, ◌++◌, Some, None, is_some, ◌==◌, cond, if◌then◌else◌, arith, slice_index, slice_set}
+use Rattle.std.proofs.Common.{◌≡◌, refl, sym, ap, ◌∙◌, subst, ℕ, Bool, true, false, ◌&&◌, ◌||◌, not, List, [], ◌∷◌, ◌++◌, Some, None, is_some, ◌==◌, cond, if◌then◌else◌, arith, slice_index, slice_set, eq-eqb}
 use Rattle.std.proofs.lemmas.List.{get_or-set_other}
+use Rattle.std.proofs.lemmas.Bool.{eqb-true, eqb-false}
 use Rattle.std.proofs.lemmas.Bool.Decides.{eqb_tells}
 use Rattle.pdl_semantics.specs.Flat.{Commit, of_mem, Op, Bind, CombRead, DelayedRead, Write, ReserveWrite, Release, Call, SpecCall, Verify, Stmt, value_of, values_of, all_hold}
 use Rattle.pdl_semantics.specs.Stages.{onpath}
 use Rattle.pdl_semantics.specs.Machine.{Ask, Awaited, same_args, Pending, Blocked, Reserved, Deeds, deeds_after_all, is_held}
-use Rattle.pdl_semantics.specs.Cycle.{awaited_of}
+use Rattle.pdl_semantics.specs.Cycle.{awaited_of, releases_of}
 use Rattle.pdl_semantics.specs.Sound.{is_call, is_delayed_read}
 use Rattle.pdl_semantics.specs.Machine
 use Rattle.pdl_theory_derived.specs.Derived.{Entry, Work, Around, work_after, do_all}
@@ -18,10 +19,10 @@ use Rattle.pdl_theory_derived.proofs.Deeds.{places, places_has, work_of, AllFit,
 use Rattle.pdl_theory_turns.proofs.Steps.{Here, step_write, step_reserve, step_release}
 
 -- what statements do to the pending writes of m
-module _ (o : Around) (read : ℕ → ℕ → ℕ) (block : Blocked → Bool) (room : Reserved → Bool) (free : Ask → Bool) (m n : ℕ) (start : List Pending) where
+module _ (o : Around) (read : ℕ → ℕ → ℕ) (block : Blocked → Bool) (free : Ask → Bool) (m n : ℕ) (start : List Pending) where
   step_op : (op : Op) (ph : Phase) (d : Deeds) (es : List Entry) (cs : List Commit) → places es ≡ d.held → use_ok m ph op ≡ true
-      → Here o read block room free m n start ph d (work_of o read block room free d es cs)
-      → Here o read block room free m n start (next_phase m ph op) (Machine.deeds_after read op d) (work_after o op (work_of o read block room free d es cs))
+      → Here o read block free m n start ph d (work_of o read block free d es cs)
+      → Here o read block free m n start (next_phase m ph op) (Machine.deeds_after read op d) (work_after o op (work_of o read block free d es cs))
   step_op (Write j a e) ph d es cs h k g = step_write m n j a (value_of e d.env) ph es (of_mem m cs) _ d.writes _ (j == m) refl k g
   step_op (ReserveWrite j a) ph d es cs h k g = step_reserve m n j a (slice_index d.env a) ph es (of_mem m cs) start d.reserves d.writes _ (j == m) refl k g
   step_op (Release j a) ph d es cs h k g =
@@ -29,46 +30,46 @@ module _ (o : Around) (read : ℕ → ℕ → ℕ) (block : Blocked → Bool) (r
   step_op (Verify args) ph d es cs h k g = at (same_args (values_of args d.env) d.guess)
     where
       at : (b : Bool)
-          → Here o read block room free m n start ph (cond b d (record d { child = Some (values_of args d.env); fails = true }))
-          (cond b (work_of o read block room free d es cs)
-          (record (work_of o read block room free d es cs) { child = Some (values_of args d.env); fails = true }))
+          → Here o read block free m n start ph (cond b d (record d { child = Some (values_of args d.env); fails = true }))
+          (cond b (work_of o read block free d es cs)
+          (record (work_of o read block free d es cs) { child = Some (values_of args d.env); fails = true }))
       at true = g
       at false = g
   step_op _ ph d es cs h k g = g
 
   step_if : (b : Bool) (op : Op) (ph : Phase) (d : Deeds) (es : List Entry) (cs : List Commit) → places es ≡ d.held → (b ≡ true → use_ok m ph op ≡ true)
-      → Here o read block room free m n start ph d (work_of o read block room free d es cs)
-      → Here o read block room free m n start (cond b (next_phase m ph op) ph)
+      → Here o read block free m n start ph d (work_of o read block free d es cs)
+      → Here o read block free m n start (cond b (next_phase m ph op) ph)
       (cond b (Machine.deeds_after read op d) d)
-      (cond b (work_after o op (work_of o read block room free d es cs)) (work_of o read block room free d es cs))
+      (cond b (work_after o op (work_of o read block free d es cs)) (work_of o read block free d es cs))
   step_if true op ph d es cs h k g = step_op op ph d es cs h (k refl) g
   step_if false op ph d es cs h k g = g
 
   -- the statements of a stage, each in order in its phase of m's lock, leave m as the phase after them says
   pub steps_all : (path : List ℕ) (xs : List Stmt) (ph : Phase) (d : Deeds) (es : List Entry) (cs : List Commit)
-      → places es ≡ d.held → AllFit o read block room free xs
-      → Fixed path o xs (work_of o read block room free d es cs) → uses_ok m ph (onpath path xs) ≡ true
-      → Here o read block room free m n start ph d (work_of o read block room free d es cs)
-      → Here o read block room free m n start (phase_all m ph (onpath path xs)) (deeds_after_all read xs d)
-      (do_all o xs (work_of o read block room free d es cs))
+      → places es ≡ d.held → AllFit o read block free xs
+      → Fixed path o xs (work_of o read block free d es cs) → uses_ok m ph (onpath path xs) ≡ true
+      → Here o read block free m n start ph d (work_of o read block free d es cs)
+      → Here o read block free m n start (phase_all m ph (onpath path xs)) (deeds_after_all read xs d)
+      (do_all o xs (work_of o read block free d es cs))
   steps_all path [] ph d es cs h f q k g = g
   steps_all path (x ∷ xs) ph d es cs h f q k g =
-      let t = told_step o read block room free (all_hold x.guards d.env) x.op d es cs h f.0 in
-      let w' : Work = cond (all_hold x.guards d.env) (work_after o x.op (work_of o read block room free d es cs)) (work_of o read block room free d es cs) in
+      let t = told_step o read block free (all_hold x.guards d.env) x.op d es cs h f.0 in
+      let w' : Work = cond (all_hold x.guards d.env) (work_after o x.op (work_of o read block free d es cs)) (work_of o read block free d es cs) in
       let ok = allowed (all_hold x.guards d.env) (all_hold x.guards path) q.0 k in
       let r =
       steps_all path xs (cond (all_hold x.guards d.env) (next_phase m ph x.op) ph)
       (if all_hold x.guards d.env then Machine.deeds_after read x.op d else d) w'.entries w'.commits t.held f.1
       (subst (λ w. Fixed path o xs w) t.is q.1) ok.1
       (subst
-      (λ w. Here o read block room free m n start (cond (all_hold x.guards d.env) (next_phase m ph x.op) ph)
+      (λ w. Here o read block free m n start (cond (all_hold x.guards d.env) (next_phase m ph x.op) ph)
       (if all_hold x.guards d.env then Machine.deeds_after read x.op d else d) w) t.is
       (step_if (all_hold x.guards d.env) x.op ph d es cs h ok.0 g)) in
       subst
-      (λ u. Here o read block room free m n start u (deeds_after_all read xs (if all_hold x.guards d.env then Machine.deeds_after read x.op d else d))
+      (λ u. Here o read block free m n start u (deeds_after_all read xs (if all_hold x.guards d.env then Machine.deeds_after read x.op d else d))
       (do_all o xs w')) ok.2
       (subst
-      (λ w. Here o read block room free m n start (phase_all m (cond (all_hold x.guards d.env) (next_phase m ph x.op) ph) (onpath path xs))
+      (λ w. Here o read block free m n start (phase_all m (cond (all_hold x.guards d.env) (next_phase m ph x.op) ph) (onpath path xs))
       (deeds_after_all read xs (if all_hold x.guards d.env then Machine.deeds_after read x.op d else d))
       (do_all o xs w))
       (sym t.is) r)
@@ -156,6 +157,41 @@ only_asks path o (x ∷ xs) w f g h = at (all_hold x.guards w.env) (all_hold x.g
     at true false e k r = absurd (cc e)
     at false true e k r = absurd (cc e)
     at false false e k r = r k
+
+-- a memory that is reserved for writing is one that a statement of the stage reserves
+abbrev pub ReservesFrom : List Stmt → List Reserved → Type 0
+ReservesFrom all [] = Unit {0}
+ReservesFrom all (r ∷ rs) = (none_of (is_reserve r.mem) all ≡ false) × ReservesFrom all rs
+
+reserved_op : (all : List Stmt) (read : ℕ → ℕ → ℕ) (op : Op) (d : Deeds) → ((m : ℕ) → not (is_reserve m op) ≡ false → none_of (is_reserve m) all ≡ false) → ReservesFrom all d.reserves → ReservesFrom all (Machine.deeds_after read op d).reserves
+reserved_op all read (ReserveWrite m a) d f h = more d.reserves h
+  where
+    more : (rs : List Reserved) → ReservesFrom all rs → ReservesFrom all (rs ++ record { mem = m; var = a; address = slice_index d.env a } ∷ [])
+    more [] g = (f m (ap not (eq-eqb m m refl)), tt)
+    more (r ∷ rs) g = (g.0, more rs g.1)
+reserved_op all read (Verify args) d f h = at (same_args (values_of args d.env) d.guess)
+  where
+    at : (b : Bool) → ReservesFrom all (cond b d (record d { child = Some (values_of args d.env); fails = true })).reserves
+    at true = h
+    at false = h
+reserved_op all read _ d f h = h
+
+pub reserves_from : (all : List Stmt) (read : ℕ → ℕ → ℕ) (xs : List Stmt) (d : Deeds) → ((m : ℕ) → none_of (is_reserve m) xs ≡ false → none_of (is_reserve m) all ≡ false) → ReservesFrom all d.reserves → ReservesFrom all (deeds_after_all read xs d).reserves
+reserves_from all read [] d f h = h
+reserves_from all read (x ∷ xs) d f h =
+    reserves_from all read xs (if all_hold x.guards d.env then Machine.deeds_after read x.op d else d) (λ m k. f m (behind (not (is_reserve m x.op)) _ k)) (at (all_hold x.guards d.env))
+  where
+    behind : (b c : Bool) → c ≡ false → (b && c) ≡ false
+    behind true c k = k
+    behind false c k = refl
+
+    front : (b c : Bool) → b ≡ false → (b && c) ≡ false
+    front true c k = absurd (cc k)
+    front false c k = refl
+
+    at : (b : Bool) → ReservesFrom all (cond b (Machine.deeds_after read x.op d) d).reserves
+    at true = reserved_op all read x.op d (λ m k. f m (front (not (is_reserve m x.op)) _ k)) h
+    at false = h
 
 -- a memory that is asked for is one that a statement of the stage reads
 abbrev pub AsksFrom : List Stmt → List Ask → Type 0
@@ -266,3 +302,4 @@ made_all been c path o (x ∷ xs) w f h k =
     at true false e i r g = absurd (cc e)
     at false true e i r g = absurd (cc e)
     at false false e i r g = r c w g i k
+

@@ -134,7 +134,7 @@ keeps_answered p d bits env t k =
 -- the work with which a thread's stage begins
 abbrev pub start_of : Derived.Thread → Work
 start_of t =
-    record { env = t.env; entries = t.entries; guess = t.guess; asks = []; commits = []; child = None; fails = false; ready = true }
+    record { env = t.env; entries = t.entries; guess = t.guess; asks = []; reserves = []; commits = []; child = None; fails = false; ready = true }
 
 module _ (p : Pipe) (flows : Flows p) (env : List ℕ) (t : Derived.Thread) (k : Keeps p env t) where
   -- the deeds with which the stage of the thread begins
@@ -199,8 +199,18 @@ module _ (p : Pipe) (flows : Flows p) (env : List ℕ) (t : Derived.Thread) (k :
   over_end : (path : List ℕ) (s m : ℕ) → s ≡ length p.stages → is_over (phase_all m Fresh (on_way p path s)) ≡ true
   over_end path s m e = subst (λ q. is_over q ≡ true) (ap (phase_all m Fresh) (sym (ap (on_way p path) e ∙ flows.whole path))) (flows.over path m)
 
+  -- it goes on to a greater stage
+  pub stage_up : (path : List ℕ) → t.stage < next_of p t.stage path
+  stage_up path = at (goes_to (stage_at p t.stage).next path) refl
+    where
+      at : (r : Option ℕ) → goes_to (stage_at p t.stage).next path ≡ r → t.stage < stage_or (length p.stages) r
+      at None e = k.inside
+      at (Some q) e = (flows.graph.up t.stage q (path, e, k.inside)).0
+
   no_entry : (m : ℕ) → none_of (is_reserve m) (on_way p env t.stage) ≡ true → entries_of m t.entries ≡ []
-  no_entry m h = subst (λ q. Shape m q (entries_of m t.entries)) (stays_fresh m (on_way p env t.stage) (uses_way env t.stage m) h) (k.shape m)
+  no_entry m h = shape_none m _ (subst (λ q. Shape m q (entries_of m t.entries)) (stays_fresh m (on_way p env t.stage) (uses_way env t.stage m) h) (k.shape m))
+
+  -- it has no entry of m before the stage of the reserves and after that of the releases
 
   -- a thread up to the stage of m's reserves has no entry of m
   pub early : (m : ℕ) → t.stage ≤ reserve_stage p m → entries_of m t.entries ≡ []
@@ -217,15 +227,15 @@ module _ (p : Pipe) (flows : Flows p) (env : List ℕ) (t : Derived.Thread) (k :
   late m h = shape_over m _ _ (over_at env t.stage m h) (k.shape m)
 
   -- its work on the entries of m
-  module _ (o : Around) (read : ℕ → ℕ → ℕ) (block : Blocked → Bool) (room : Reserved → Bool) (free : Ask → Bool)
-      (fit : AllFit o read block room free (in_stage t.stage p.stmts)) (m n : ℕ) where
-    here : Here o read block room free m n (pend m n t.entries)
+  module _ (o : Around) (read : ℕ → ℕ → ℕ) (block : Blocked → Bool) (free : Ask → Bool)
+      (fit : AllFit o read block free (in_stage t.stage p.stmts)) (m n : ℕ) where
+    here : Here o read block free m n (pend m n t.entries)
         (phase_all m Fresh (on_way p (work_of_stage p o t).env (next_of p t.stage (work_of_stage p o t).env)))
         (deeds_after_all read (in_stage t.stage p.stmts) start_deeds) (work_of_stage p o t)
     here =
-        subst (λ q. Here o read block room free m n (pend m n t.entries) q (deeds_after_all read (in_stage t.stage p.stmts) start_deeds) (work_of_stage p o t))
+        subst (λ q. Here o read block free m n (pend m n t.entries) q (deeds_after_all read (in_stage t.stage p.stmts) start_deeds) (work_of_stage p o t))
         (sym (ap (phase_all m Fresh) (way_next o) ∙ phase_append m (on_way p env t.stage) _ Fresh))
-        (steps_all o read block room free m n (pend m n t.entries) (work_of_stage p o t).env (in_stage t.stage p.stmts)
+        (steps_all o read block free m n (pend m n t.entries) (work_of_stage p o t).env (in_stage t.stage p.stmts)
         (phase_all m Fresh (on_way p env t.stage)) start_deeds t.entries [] k.held fit (fixed_here o)
         (uses_back m (on_way p env t.stage)
         (onpath (work_of_stage p o t).env (in_stage t.stage p.stmts)) Fresh
@@ -234,7 +244,12 @@ module _ (p : Pipe) (flows : Flows p) (env : List ℕ) (t : Derived.Thread) (k :
 
     -- a thread's stage does to its entries of m what the stated machine's deeds do
     pub stage_worked : Worked m n (pend m n t.entries) (deeds_after_all read (in_stage t.stage p.stmts) start_deeds) (work_of_stage p o t)
-    stage_worked = worked m n _ _ _ _ here
+    stage_worked = worked m n _ _ _ _ here (by (t.stage == commit_stage p m) refl)
+      where
+        by : (b : Bool) → (t.stage == commit_stage p m) ≡ b
+            → (releases_of m (deeds_after_all read (in_stage t.stage p.stmts) start_deeds).releases ≡ 0) ⊎ (is_over (phase_all m Fresh (on_way p (work_of_stage p o t).env (next_of p t.stage (work_of_stage p o t).env))) ≡ true)
+        by true e = inr (over_at _ _ m (subst (λ s. s < next_of p t.stage (work_of_stage p o t).env) (eqb-true _ _ e) (stage_up (work_of_stage p o t).env)))
+        by false e = inl (quiet_releases m read (in_stage t.stage p.stmts) start_deeds (none_in_stage (is_release m) (commit_stage p m) t.stage p.stmts (flows.releases m) (eqb-false _ _ e)) refl)
 
     stage_shape : Shape m (phase_all m Fresh (on_way p (work_of_stage p o t).env (next_of p t.stage (work_of_stage p o t).env)))
         (entries_of m (work_of_stage p o t).entries)
@@ -270,8 +285,8 @@ module _ (p : Pipe) (flows : Flows p) (env : List ℕ) (t : Derived.Thread) (k :
   fetched_asks s q l (x ∷ qs) h = ((s, l, h.0), fetched_asks s q l qs h.1)
 
   -- a thread that moves keeps to its way in its next stage
-  pub keeps_next : (o : Around) (read : ℕ → ℕ → ℕ) (block : Blocked → Bool) (room : Reserved → Bool) (free : Ask → Bool)
-      → AllFit o read block room free (in_stage t.stage p.stmts) → (q : ℕ)
+  pub keeps_next : (o : Around) (read : ℕ → ℕ → ℕ) (block : Blocked → Bool) (free : Ask → Bool)
+      → AllFit o read block free (in_stage t.stage p.stmts) → (q : ℕ)
       → goes_to (stage_at p t.stage).next (work_of_stage p o t).env ≡ Some q
       → Keeps p (work_of_stage p o t).env
       (record {
@@ -281,7 +296,7 @@ module _ (p : Pipe) (flows : Flows p) (env : List ℕ) (t : Derived.Thread) (k :
         guess = (work_of_stage p o t).guess;
         awaits = awaited_of (work_of_stage p o t).asks;
       })
-  keeps_next o read block room free fit q goes =
+  keeps_next o read block free fit q goes =
       subst
       (λ n. Keeps p (work_of_stage p o t).env
       (record {
@@ -299,7 +314,7 @@ module _ (p : Pipe) (flows : Flows p) (env : List ℕ) (t : Derived.Thread) (k :
             ∙ sym
             (held_path (next_of p t.stage (work_of_stage p o t).env) (work_of_stage p o t).env p.stmts []
             ∙ ap (λ l. held_ops l []) (way_next o) ∙ held_append (on_way p env t.stage) _ []);
-        shape = λ m. stage_shape o read block room free fit m 0;
+        shape = λ m. stage_shape o read block free fit m 0;
         reached =
             subst (λ n. visits_stage p (work_of_stage p o t).env n ≡ true) (sym is)
             (flows.arrives (work_of_stage p o t).env t.stage q k.inside goes (reached_on o));
@@ -324,7 +339,7 @@ keeps_fresh p flows args =
     record {
       inside = flows.graph.some_stage;
       held = sym (held_path 0 _ p.stmts [] ∙ ap (λ l. held_ops l []) (flows.first_piece _));
-      shape = λ m. subst (λ l. Shape m (phase_all m Fresh l) []) (sym (flows.first_piece (Derived.fresh p args).env)) refl;
+      shape = λ m. subst (λ l. Shape m (phase_all m Fresh l) []) (sym (flows.first_piece (Derived.fresh p args).env)) (shape_fresh m);
       reached = trunk (Derived.fresh p args).env;
       path = λ env' u. (flows.first_piece env' ∙ sym (flows.first_piece _), trunk env' ∙ sym (trunk _));
       fetched = tt;

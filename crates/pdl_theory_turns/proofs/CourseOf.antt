@@ -20,6 +20,7 @@ use Rattle.pdl_theory_turns.proofs.Turn.{quiet, none_in_stage, release_looked}
 use Rattle.pdl_theory_turns.proofs.Guesses.{same_args_refl}
 use Rattle.pdl_theory_turns.proofs.TurnFacts.{next_at, right_guess, stage_work}
 use Rattle.pdl_theory_derived.proofs.DelayedReads.{AllAsks, all_more, all_snoc, Apart, apart_snoc}
+use Rattle.pdl_theory_turns.proofs.Rooms
 use Rattle.pdl_theory_turns.proofs.Courses.{Course, AskOk, Strayed}
 use Rattle.pdl_theory_turns.proofs.StageFacts.{EachFetch, asks_each, fetch_each, alive}
 use Rattle.pdl_theory_turns.proofs.StrayPaths.{verify_looked, before_none, Barred}
@@ -282,7 +283,7 @@ module _ (p : Pipe) (acc : Sound p) where
       record {
         graph = acc.graph;
         branches = acc.branches;
-        locks = (acc.pathwise.paths []).locks;
+        rooms = Rooms.rooms p acc;
         plain_from = (acc.pathwise.paths []).plain_from;
         plain_to = (acc.pathwise.paths []).plain_to;
         on = λ arrays args s. (visits_stage p (thread (at_once p) arrays args).env s ≡ true) × Reached p (thread (at_once p) arrays args).env s;

@@ -170,7 +170,7 @@ run_settled v k [] r u h n = refl
 run_settled v k (x ∷ xs) r u h n =
     let here =
     settled_op (alone r.arrays) v k x.stage x.op
-    (record { env = []; entries = []; guess = []; asks = []; commits = []; child = None; fails = false; ready = true }) u
+    (record { env = []; entries = []; guess = []; asks = []; reserves = []; commits = []; child = None; fails = false; ready = true }) u
     (and_left _ _ h)
     (and_left _ _ n) in
     run_settled v k xs (if all_hold x.guards r.env then run_after x.op r else r) u

@@ -96,7 +96,7 @@ does_set arrays x v (DelayedRead y m a) w h =
 does_set arrays x v (Write m a e) w h = let n = not_or (a == x) (uses_in x e) h in
     ap (λ k. record (with_set w x v) { entries = with_entry_value w.entries m a k }) (value_unused x v e w.env n.1)
 does_set arrays x v (ReserveWrite m a) w h =
-    ap (λ k. record (with_set w x v) { entries = record { mem = m; var = a; address = k; value = None } ∷ w.entries; ready = w.ready && true })
+    ap (λ k. record (with_set w x v) { entries = record { mem = m; var = a; address = k; value = None } ∷ w.entries; reserves = w.reserves ++ record { mem = m; var = a; address = k } ∷ [] })
     (other w.env x v a h)
 does_set arrays x v (Block m a) w h = refl
 does_set arrays x v (Call args) w h = ap (λ k. record (with_set w x v) { child = Some k }) (values_unused x v args w.env h)
@@ -157,7 +157,7 @@ or_none None = refl
 or_none (Some x) = refl
 
 abbrev asking : List Ask → Work
-asking qs = record { env = []; entries = []; guess = []; asks = qs; commits = []; child = None; fails = false; ready = true }
+asking qs = record { env = []; entries = []; guess = []; asks = qs; reserves = []; commits = []; child = None; fails = false; ready = true }
 
 joined_asks : (qs : List Ask) (v : Work) → joined (asking qs) v ≡ record v { asks = qs ++ v.asks }
 joined_asks qs v = λ i. record v { asks = qs ++ v.asks; child = or_none v.child i; fails = or-false v.fails i }

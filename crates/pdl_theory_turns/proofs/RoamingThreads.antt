@@ -125,7 +125,7 @@ module _ (p : Pipe) (acc : Sound p) where
     -- a thread's stage does the statements of the path that the thread is seen to take when the stage is done
     along_path : work_of_stage p o t
         ≡ do_all o (onpath (work_of_stage p o t).env (in_stage t.stage p.stmts))
-        (record { env = t.env; entries = t.entries; guess = t.guess; asks = []; commits = []; child = None; fails = false; ready = true })
+        (record { env = t.env; entries = t.entries; guess = t.guess; asks = []; reserves = []; commits = []; child = None; fails = false; ready = true })
     along_path =
         fixed_all (work_of_stage p o t).env o (in_stage t.stage p.stmts) _
         (fixed_to (work_of_stage p o t).env o (in_stage t.stage p.stmts)
@@ -241,7 +241,7 @@ module _ (p : Pipe) (acc : Sound p) where
         later k i u =
             let s =
             settled o (verify_stage p.stmts) k (onpath (work_of_stage p o t).env (in_stage t.stage p.stmts))
-            (record { env = t.env; entries = t.entries; guess = t.guess; asks = []; commits = []; child = None; fails = false; ready = true }) u
+            (record { env = t.env; entries = t.entries; guess = t.guess; asks = []; reserves = []; commits = []; child = None; fails = false; ready = true }) u
             (subst (λ j. makings_ok (verify_stage p.stmts) j (onpath (work_of_stage p o t).env (in_stage t.stage p.stmts)) ≡ true) i ok_here) none in (
               fails,
               (λ _. ap (λ (w : Work). w.child) along_path ∙ s.0.0),
@@ -262,7 +262,7 @@ module _ (p : Pipe) (acc : Sound p) where
           ap (λ j. not (is_unmade (making_all j (onpath (work_of_stage p o t).env (in_stage t.stage p.stmts))))) i
               ∙ flip _ _
               (begins o (verify_stage p.stmts) (onpath (work_of_stage p o t).env (in_stage t.stage p.stmts))
-              (record { env = t.env; entries = t.entries; guess = t.guess; asks = []; commits = []; child = None; fails = false; ready = true }) refl
+              (record { env = t.env; entries = t.entries; guess = t.guess; asks = []; reserves = []; commits = []; child = None; fails = false; ready = true }) refl
               (subst
               (λ j. makings_ok (verify_stage p.stmts) j (onpath (work_of_stage p o t).env (in_stage t.stage p.stmts)) ≡ true) i ok_here) none free_stage)
               ∙ ap (λ (w : Work). is_some w.child) (sym along_path) ∙ ap (λ b. b || is_some (work_of_stage p o t).child) (sym (had Unmade i)),
@@ -377,7 +377,7 @@ module _ (p : Pipe) (acc : Sound p) where
           env = t.env;
           entries = t.entries;
           guess = t.guess;
-          asks = [];
+          asks = []; reserves = [];
           commits = [];
           child = None;
           fails = false;

@@ -15,7 +15,7 @@ use Rattle.pdl_theory_turns.proofs.Paths.{Fixed, run_path, fixed_path_to, fixed_
 use Rattle.pdl_theory_derived.proofs.Writes.{and_left, and_right}
 use Rattle.std.proofs.lemmas.Bool.{eqb-true, eqb-false}
 use Rattle.pdl_theory_turns.proofs.Marks.{seen, strips, Later, marked}
-use Rattle.pdl_theory_turns.proofs.UndoneWrites.{marks, has_value}
+use Rattle.pdl_theory_turns.proofs.UndoneWrites.{marks, known_count}
 use Rattle.pdl_theory_turns.proofs.UndoneWrites
 use Rattle.pdl_theory_turns.proofs.TurnPath
 use Rattle.pdl_theory_turns.proofs.OwnEntries.{fixed_second}
@@ -129,7 +129,7 @@ module _ (p : Pipe) (acc : Pathwise p) (arrays : Arrays) (args : List ℕ) where
 
   marks_path : (s m : ℕ) → marks p arrays args s m ≡ marks (along (thread p arrays args).env p) arrays args s m
   marks_path s m =
-      ap₂ (λ (w : Work) (r : Run). cond (nat_lt (commit_stage p m) s) [] (marked (has_value (entries_of m w.entries)) (of_mem m r.writes)))
+      ap₂ (λ (w : Work) (r : Run). cond (nat_lt (commit_stage p m) s) [] (marked (known_count (entries_of m w.entries)) (of_mem m r.writes)))
       (so_path s) thread_path
 
   -- past the reserves of m the turn's pending writes say of an address what its undone writes say
