@@ -198,8 +198,7 @@ module _ (o : Around) (read : ℕ → ℕ → ℕ) (block : Blocked → Bool) (f
   along_of path [] d es cs h f q = tt
   along_of path (x ∷ xs) d es cs h f q =
       let t = told_step o read block free (all_hold x.guards d.env) x.op d es cs h f.0 in
-      let w : Work =
-      cond (all_hold x.guards d.env) (Derived.work_after o x.op (work_of o read block free d es cs)) (work_of o read block free d es cs) in (
+      let w : Work = cond (all_hold x.guards d.env) (Derived.work_after o x.op (work_of o read block free d es cs)) (work_of o read block free d es cs) in (
         q.0,
         along_of path xs
             (if all_hold x.guards d.env then deeds_after read x.op d else d) w.entries w.commits t.held f.1

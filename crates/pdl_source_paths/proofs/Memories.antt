@@ -134,12 +134,10 @@ rooms p rules (x ∷ ms) before m b k low = at (bytes_eq x.name.name m) low (roo
   where
     known : (d : LockDecl) → x.lock ≡ Some d → is_size d.size.value ≡ true
     known d e =
-        let wrong =
-        (or_parts (not (is_width x.width.value && is_depth x.depth.value))
+        let wrong = (or_parts (not (is_width x.width.value && is_depth x.depth.value))
         (Parts.is_some_and (Limits.is_wrong_lock x) x.lock)
         (rules Z7 before (Memory x) (map Memory ms ++ b.0) b.1)).1 in
-        let h : not (is_size d.size.value && allows_lock x.depth.value x.delayed d.kind d.size.value) ≡ false =
-        sym (ap (Parts.is_some_and (Limits.is_wrong_lock x)) e) ∙ wrong in
+        let h : not (is_size d.size.value && allows_lock x.depth.value x.delayed d.kind d.size.value) ≡ false = sym (ap (Parts.is_some_and (Limits.is_wrong_lock x)) e) ∙ wrong in
         (and_parts (is_size d.size.value) _ (not-false _ h)).0
 
     at : (c : Bool) → k ≤ most (cond c (size_of x.lock) (lock_size ms m)) → (k ≤ most (lock_size ms m) → has_room (slice_index_or (mems_of ms) (mem_of ms m) plain_mem).lock k 0 ≡ true)

@@ -209,17 +209,13 @@ moved p vs us before m ph x nor now keep still s =
     record {
       unset = λ n t. let u = s.unset n t in record {
         place = place_front vs us before m n x u.place;
-        unset =
-  none_more (writes_location u.place.at) before x u.unset (quiet u.place.at u.place.mem);
-        held =
-  ap (is_held_for W) (held_more u.place.at before x) ∙ keep u.place.at u.place.mem u.place.reserved (hold_after u.place.at before) u.held;
+        unset = none_more (writes_location u.place.at) before x u.unset (quiet u.place.at u.place.mem);
+        held = ap (is_held_for W) (held_more u.place.at before x) ∙ keep u.place.at u.place.mem u.place.reserved (hold_after u.place.at before) u.held;
       };
       set = λ n t. let u = s.set n t in record {
         place = place_front vs us before m n x u.place;
-        set =
-  any_front (writes_location u.place.at) before x u.set;
-        held =
-  held_more u.place.at before x ∙ ap (λ h. after_place u.place.at h x) u.held ∙ still u.place.at u.place.mem u.place.reserved;
+        set = any_front (writes_location u.place.at) before x u.set;
+        held = held_more u.place.at before x ∙ ap (λ h. after_place u.place.at h x) u.held ∙ still u.place.at u.place.mem u.place.reserved;
       };
       out = λ n t. let u = s.out n t in record { place = place_front vs us before m n x u.place; set = any_front (writes_location u.place.at) before x u.set };
       count = counted_more m before x nor ∙ s.count;
@@ -315,8 +311,7 @@ module _ (p : Pipe) (vs : List Var) (before : List Place) (m : List ℕ) (there 
       unwritten = false_from_ne_true _ (λ t. both_ways _ keeps.l5 (any_weaker _ _ (reserves_some at) before (written_reserved before at backed t)))
 
       place : Open vs (before ++ x ∷ []) m a
-      place =
-      record {
+      place = record {
         at = at;
         mem = same;
         named = n.1;
@@ -391,8 +386,7 @@ module _ (p : Pipe) (vs : List Var) (before : List Place) (m : List ℕ) (there 
             (λ f. subst (IsUnset vs (before ++ x ∷ []) m) f (record {
               place = place;
               unset = none_more (writes_location at) before x unwritten refl;
-              held =
-      ap (is_held_for W) (held_more at before x ∙ ap (λ b. if b then Reserved W else hold_after at before) (location_refl at));
+              held = ap (is_held_for W) (held_more at before x ∙ ap (λ b. if b then Reserved W else hold_after at before) (location_refl at));
             }
     )
   ) (λ f. let u = s.unset y f in record {
@@ -512,8 +506,7 @@ module _ (p : Pipe) (vs : List Var) (before : List Place) (m : List ℕ) (there 
       oldest : is_oldest a ph.unwritten ≡ true
       oldest = by ph.unwritten refl among
         where
-          by :
-        (xs : List ℕ) → ph.unwritten ≡ xs → is_among a xs ≡ true → is_oldest a xs ≡ true
+          by : (xs : List ℕ) → ph.unwritten ≡ xs → is_among a xs ≡ true → is_oldest a xs ≡ true
           by [] u t = absurd (false≢true t)
           by (y ∷ []) u t = ⊎_elim (λ f. eq-eqb y a f) (λ f. absurd (false≢true f)) (among_here a y [] t)
           by (y ∷ z ∷ []) u t = second y z u (⊎_elim (λ f. inl f) (λ f. ⊎_elim (λ g. inr g) (λ g. absurd (false≢true g)) (among_here a z [] f)) (among_here a y (z ∷ []) t))
@@ -531,18 +524,15 @@ module _ (p : Pipe) (vs : List Var) (before : List Place) (m : List ℕ) (there 
         };
         set = λ y t. ⊎_elim
             (λ f. subst (IsSet vs (before ++ x ∷ []) m) f (record {
-              place =
-          record {
+              place = record {
             at = at;
             mem = same;
             named = n.1;
             number = refl;
             reserved = any_front (reserves_to_write at) before x reserved;
           };
-              set =
-          any_last (writes_location at) before x (location_refl at);
-              held =
-          held_more at before x ∙ is;
+              set = any_last (writes_location at) before x (location_refl at);
+              held = held_more at before x ∙ is;
             }
         )
       ) (λ f. let u = s.set y f in record { place = front y u.place; set = any_front (writes_location u.place.at) before x u.set; held = held_more u.place.at before x ∙ u.held })
@@ -612,8 +602,7 @@ module _ (p : Pipe) (vs : List Var) (before : List Place) (m : List ℕ) (there 
               let c : not (count_by (writes_location at) before == 1) ≡ false =
               ap (λ b. b && not (count_by (writes_location at) before == 1)) (sym h) ∙ keeps.l6 in
               let k : count_by (writes_location at) before ≡ 1 = eqb-true _ 1 (not-false _ c) in
-              let z : count_by (writes_location at) before ≡ 0 =
-              count_none (writes_location at) before (ap (λ g. list_any g before) (fun_ext (writes_alike at o.place.at j)) ∙ o.unset) in
+              let z : count_by (writes_location at) before ≡ 0 = count_none (writes_location at) before (ap (λ g. list_any g before) (fun_ext (writes_alike at o.place.at j)) ∙ o.unset) in
               absurd (omega arith))
 
           front : (y : ℕ) → Open vs before m y

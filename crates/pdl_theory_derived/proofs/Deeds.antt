@@ -98,6 +98,7 @@ module _ (o : Around) (read : ℕ → ℕ → ℕ) (block : Blocked → Bool) (f
   Fits (Bind x e) = Unit {0}
   Fits (Write m a e) = Unit {0}
   Fits (ReserveRead m a) = Unit {0}
+  Fits (ReserveWrite m a) = Unit {0}
   Fits (Release m a) = Unit {0}
   Fits (Call args) = Unit {0}
   Fits (SpecCall args) = Unit {0}
@@ -138,7 +139,8 @@ module _ (o : Around) (read : ℕ → ℕ → ℕ) (block : Blocked → Bool) (f
   told_op (ReserveRead m a) d es cs h f = told _ es cs h
   told_op (ReserveWrite m a) d es cs h f = record {
     held = ap (λ l. record { mem = m; var = a } ∷ l) h;
-    is = refl }
+    is = refl;
+  }
   told_op (Block m a) d es cs h f = record { held = h; is = λ i. record (work_of d es cs) { ready = ready i } }
     where
       kind : has_entry es m a ≡ is_held d.held m a

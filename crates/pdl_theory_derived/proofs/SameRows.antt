@@ -3,6 +3,7 @@ use Rattle.std.proofs.Common.{◌≡◌, refl, ℕ, suc, Bool, true, false, ◌&
 use Rattle.std.specs.Fmt.{digits}
 use Rattle.pdl_word.specs.Words.{add, slice, zext, complement}
 use Rattle.pdl_semantics.specs.Tree
+use Rattle.pdl_semantics.specs.Tree.{Queue, Bypass}
 use Rattle.pdl_semantics.specs.Flat.{Commit, of_mem, arrays_of}
 use Rattle.pdl_semantics.specs.Flatten.{flat}
 use Rattle.pdl_semantics.specs.Lines.{Column, columns, lines, by_mem, run_lines}

@@ -1,5 +1,5 @@
 -- A thread that runs alone in the machine that the proofs use, and what that machine's runs are shown to do.
-use Rattle.std.specs.Prelude.{◌≡◌, ℕ, ◌+◌, ◌-◌, ◌/◌, ◌≤◌, Bool, true, false, ◌||◌, not, List, [], ◌∷◌, None, if◌then◌else◌, nat_lt, IsTrue, IsFalse, length}
+use Rattle.std.specs.Prelude.{◌≡◌, ℕ, ◌+◌, ◌-◌, ◌/◌, ◌≤◌, Bool, true, false, ◌||◌, not, List, [], ◌∷◌, None, if◌then◌else◌, nat_lt, IsTrue, IsFalse, length, ◌==◌, ◌&&◌}
 use Rattle.pdl_semantics.specs.Flat.{Arrays, Op, CombRead, Stmt, Pipe, start_env, word_at, Commit, of_mem, after_commits}
 use Rattle.pdl_semantics.specs.Forms.{on_delayed_read}
 use Rattle.pdl_semantics.specs.Stages.{commit_stage, depth}
@@ -58,25 +58,29 @@ undone p arrays args s m = if nat_lt (commit_stage p m) s then [] else of_mem m 
 
 -- LISTS OF VARIABLES, the youngest first
 
+-- whether there is none
 abbrev pub is_nil : List ℕ → Bool
 is_nil [] = true
 is_nil (x ∷ xs) = false
 
+-- all but the oldest
 abbrev pub but_last : {X : Type 0} → List X → List X
 but_last [] = []
 but_last (x ∷ []) = []
 but_last (x ∷ y ∷ ys) = x ∷ but_last (y ∷ ys)
 
+-- whether x is one of them
 abbrev pub is_among : ℕ → List ℕ → Bool
 is_among x [] = false
 is_among x (y ∷ ys) = (y == x) || is_among x ys
 
--- x is the oldest, and no other one
+-- whether x is the oldest, and no other one
 abbrev pub is_oldest : ℕ → List ℕ → Bool
 is_oldest x [] = false
 is_oldest x (y ∷ []) = y == x
 is_oldest x (y ∷ z ∷ zs) = not (y == x) && is_oldest x (z ∷ zs)
 
+-- all but x
 abbrev pub drop_var : ℕ → List ℕ → List ℕ
 drop_var x [] = []
 drop_var x (y ∷ ys) = if y == x then ys else y ∷ drop_var x ys

@@ -1,9 +1,9 @@
 -- The locations of a phase without a value are others than those with one and than those that are released.
 use Rattle.std.proofs.Common.{◌≡◌, refl, sym, ap, ap₂, ◌∙◌, ℕ, suc, ◌+◌, length, arith, Bool, true, false, ◌&&◌, ◌||◌, not, List, [], ◌∷◌, ◌==◌, cond, if◌then◌else◌}
 use Rattle.std.proofs.lemmas.Bool.{eqb-true}
-use Rattle.pdl_derived.specs.Alone.{is_among, is_oldest, drop_var, but_last}
-use Rattle.pdl_derived.proofs.Writes.{and_left, and_right}
-use Rattle.pdl_facts.specs.Scans.{Phase, Fresh, after_write, after_reserve, after_release, may_write, is_new, next_phase, phase_ok, phases_ok, phase_all, no_guards, write_reserves}
+use Rattle.pdl_theory_derived.specs.Alone.{is_among, is_oldest, drop_var, but_last}
+use Rattle.pdl_theory_derived.proofs.Writes.{and_left, and_right}
+use Rattle.pdl_theory_facts.specs.Scans.{Phase, Fresh, after_write, after_reserve, after_release, may_write, is_new, next_phase, phase_ok, phases_ok, phase_all, no_guards, write_reserves}
 use Rattle.pdl_semantics.specs.Flat.{Op, Write, ReserveWrite, Release, Stmt}
 use Rattle.pdl_semantics.specs.Sound.{is_write_reserve}
 

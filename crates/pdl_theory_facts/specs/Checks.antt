@@ -90,9 +90,10 @@ path_passes p xs =
 
 -- THE TEXT
 
--- the lock of m has room, and the reserves of m stand in one stage, and so do its releases
+-- the reserves of m stand in one stage, and so do its releases
 abbrev pub lock_passes : Pipe → ℕ → Bool
-lock_passes p m = all_at (is_reserve m) (reserve_stage p m) p.stmts
+lock_passes p m =
+    all_at (is_reserve m) (reserve_stage p m) p.stmts
     && (all_at (is_release m) (commit_stage p m) p.stmts
     && (not (is_plain (mem_at p m).lock) || ((reserve_stage p m == 0) && (commit_stage p m == length p.stages))))
 

@@ -88,16 +88,17 @@ abbrev pub none_of : (Op → Bool) → List Stmt → Bool
 none_of test [] = true
 none_of test (x ∷ xs) = not (test x.op) && none_of test xs
 
--- how far a thread is with its writes to a memory: the variables of the locations that it reserved for writing, the youngest first: those without a value, those with one, and those that it released
+-- how far a thread is with its writes to a memory: the variables of the locations that it reserved for writing, the youngest first
 pub record Phase : Type 0 where
-  pub unwritten : List ℕ
-  pub full : List ℕ
-  pub gone : List ℕ
+  pub unwritten : List ℕ  -- those without a value
+  pub full : List ℕ  -- those with one
+  pub gone : List ℕ  -- those that it released
 
-abbrev pub
-  Fresh : Phase
+-- before the first reservation
+abbrev pub Fresh : Phase
 Fresh = record { unwritten = []; full = []; gone = [] }
 
+-- the phase after a write through the location of variable a, which is the oldest one without a value
 abbrev pub after_write : Phase → ℕ → Phase
 after_write ph a = record { unwritten = but_last ph.unwritten; full = a ∷ ph.full; gone = ph.gone }
 
@@ -105,6 +106,7 @@ after_write ph a = record { unwritten = but_last ph.unwritten; full = a ∷ ph.f
 abbrev pub after_release : Phase → ℕ → Phase
 after_release ph a = if is_among a ph.full then record { unwritten = ph.unwritten; full = drop_var a ph.full; gone = a ∷ ph.gone } else ph
 
+-- the phase after the location of variable a is reserved for writing
 abbrev pub after_reserve : Phase → ℕ → Phase
 after_reserve ph a = record { unwritten = a ∷ ph.unwritten; full = ph.full; gone = ph.gone }
 
@@ -124,17 +126,15 @@ next_phase m ph (Verify args) = ph
 next_phase m ph SpecCheck = ph
 next_phase m ph SpecBarrier = ph
 
--- whether the location of variable x is held and not written yet
+-- whether m may be read: no location of it is written yet
 abbrev pub may_read : Phase → Bool
 may_read ph = is_nil ph.full && is_nil ph.gone
 
--- writes come in the order of their reservations
+-- whether the location of variable a may be written: writes come in the order of their reservations
 abbrev pub may_write : Phase → ℕ → Bool
 may_write ph a = is_oldest a ph.unwritten
 
--- a location is reserved once
-
--- whether m may be read: it isn't written yet
+-- whether the location of variable a isn't reserved yet
 abbrev pub is_new : Phase → ℕ → Bool
 is_new ph a = not (is_among a ph.unwritten) && (not (is_among a ph.full) && not (is_among a ph.gone))
 
@@ -164,7 +164,7 @@ abbrev pub phase_all : ℕ → Phase → List Stmt → Phase
 phase_all m ph [] = ph
 phase_all m ph (x ∷ xs) = phase_all m (next_phase m ph x.op) xs
 
--- whether m's write isn't begun, or is done
+-- whether each location that is reserved for writing is released
 abbrev pub is_over : Phase → Bool
 is_over ph = is_nil ph.unwritten && is_nil ph.full
 

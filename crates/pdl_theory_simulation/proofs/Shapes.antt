@@ -32,8 +32,7 @@ pub record Shape (m : ℕ) (ph : Phase) (es : List Entry) : Type 0 where
   pub at_full : full_vars fulls ≡ ph.full
   pub apart : Apart ph
 
-pub shape_fresh : (m : ℕ) →
-Shape m Fresh []
+pub shape_fresh : (m : ℕ) → Shape m Fresh []
 shape_fresh m = record { opens = []; fulls = []; entries = refl; at_open = refl; at_full = refl; apart = apart_fresh }
 
 no_opens : (os : List Open) → open_vars os ≡ [] → os ≡ []
@@ -47,8 +46,7 @@ shape_over m ph es h s =
     ∙ ap₂ (λ l k. waiting m l ++ known m k) (no_opens s.opens (s.at_open ∙ nil_of ph.unwritten (and_left _ _ h))) (no_fulls s.fulls (s.at_full ∙ nil_of ph.full (and_right (is_nil ph.unwritten) _ h)))
 
 pub shape_none : (m : ℕ) (es : List Entry) → Shape m Fresh es → es ≡ []
-shape_none m es s =
-shape_over m Fresh es refl s
+shape_none m es s = shape_over m Fresh es refl s
 
 -- entries with a value, as pending writes
 pend_known : (m n : ℕ) (fs : List Full) → unnamed (pend m n (known m fs)) ≡ pendings n (told m fs)
@@ -86,6 +84,7 @@ shape_start m n ph es t =
       at_full = t.at_full;
       two = append-nil _ ∙ pend_own m n es ∙ ap (pend m n) t.entries ∙ pend_append m n (waiting m t.opens) (known m t.fulls);
       outs = refl;
+      given = tt;
       commits = refl;
       same = pend_known m n t.fulls;
       exact = λ k. refl;

@@ -69,8 +69,7 @@ count_dropped zero t xs h = omega arith
 count_dropped (suc k) t [] h = absurd h
 count_dropped (suc k) t (x ∷ xs) h =
     let i = count_dropped k t xs h.1 in
-    let j : cond (nat_lt x.thread t) (suc (count_older t xs)) (count_older t xs) ≡ suc (count_older t xs) =
-    ap (λ b. cond b (suc (count_older t xs)) (count_older t xs)) (lt-ltb x.thread t h.0) in omega arith
+    let j : cond (nat_lt x.thread t) (suc (count_older t xs)) (count_older t xs) ≡ suc (count_older t xs) = ap (λ b. cond b (suc (count_older t xs)) (count_older t xs)) (lt-ltb x.thread t h.0) in omega arith
 
 pub count_released : (k t m : ℕ) (ms : List Act) (xs : List Pending) → LowFirst k t xs → count_older t (drop k (with_all_writes m ms xs)) + k ≡ count_older t xs
 count_released k t m ms xs h = count_dropped k t (with_all_writes m ms xs) (low_filled k t m ms xs h) ∙ count_filled t m ms xs

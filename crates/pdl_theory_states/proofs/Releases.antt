@@ -84,8 +84,7 @@ used_op m ph (Write n a e) h = at (n == m)
     at true = and_none (is_nil (but_last ph.unwritten))
     at false = h
 used_op m ph (Release n a) h = at (n == m) (is_among a ph.full)
-      where
-
+  where
     at : (b c : Bool) → is_fresh (cond b (cond c (record { unwritten = ph.unwritten; full = drop_var a ph.full; gone = a ∷ ph.gone }) ph) ph) ≡ false
     at true true = ap (λ b. is_nil ph.unwritten && b) (and_none (is_nil (drop_var a ph.full))) ∙ and_none (is_nil ph.unwritten)
     at true false = h

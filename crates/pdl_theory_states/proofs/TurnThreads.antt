@@ -378,8 +378,7 @@ module _ (p : Pipe) (sound : Sound p) (arrays : Arrays) (args : List ℕ) where
           let more = writes_first q acc arrays args s m in
           let unset : List ℕ = (phase_all m Fresh xs).unwritten in
           let all : of_mem m (thread q arrays args).writes ≡ told m t.fulls ++ more.0 = more.1 ∙ ap (λ l. l ++ more.0) ws in
-          let rest : places more.0 ≡ rev (addresses_at (so_far q arrays args s).env unset) =
-          same_rest (places (told m t.fulls)) (places more.0) (rev (addresses_at (so_far q arrays args s).env unset))
+          let rest : places more.0 ≡ rev (addresses_at (so_far q arrays args s).env unset) = same_rest (places (told m t.fulls)) (places more.0) (rev (addresses_at (so_far q arrays args s).env unset))
           (sym (places_append (told m t.fulls) more.0) ∙ ap places (sym all) ∙ sym (TurnPath.all_places q acc arrays args s m h) ∙ ap (λ l. places l ++ rev (addresses_at (so_far q arrays args s).env unset)) ws) in
           ap₂ (λ xs es. are_right made xs es) all (ap (pend m n) t.entries ∙ pend_append m n (waiting m (opened (so_far q arrays args s).env unset)) (known m t.fulls))
           ∙ ap (λ k. are_right k (told m t.fulls ++ more.0) (pend m n (known m t.fulls) ++ pend m n (waiting m (opened (so_far q arrays args s).env unset)))) (sym counts ∙ ap length ws ∙ sym (none_first (length (told m t.fulls))))

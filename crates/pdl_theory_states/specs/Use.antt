@@ -38,11 +38,7 @@ with_values p st bits m = list_two st (moving p st bits) m
 abbrev pub with_release : Pipe → State → List Bool → ℕ → List Pending
 with_release p st bits m = list_three st (moving p st bits) m
 
--- a truth value as 1 or 0
-
--- how many threads reserve writes of a memory
-
--- how many writes of a memory these threads reserve together
+-- how many of these threads reserve writes of a memory
 abbrev pub reserved_count : ℕ → List Act → ℕ
 reserved_count m [] = 0
 reserved_count m (a ∷ ms) = reserved_count m ms + (if reserves_of m a.does.reserves == 0 then 0 else 1)
@@ -56,14 +52,13 @@ pub record Reserves (p : Pipe) (st : State) (bits : List Bool) (m : ℕ) : Type 
 abbrev pub KeepsPlace : Pipe → State → List Bool → ℕ → Act → Type 0
 KeepsPlace p st bits m a = reserve_stage p m ≤ a.stage → count_older a.thread.number (with_new p st bits m) ≡ count_older a.thread.number (lock_of st m)
 
--- pending writes that are released, the oldest ones, have their values, which may come in this cycle
-abbrev
-pub Released : ℕ → List Pending → Type 0
+-- each of the oldest k pending writes has its value, which may come in this cycle
+abbrev pub Released : ℕ → List Pending → Type 0
 Released zero es = Unit {0}
 Released (suc k) [] = ⊥
 Released (suc k) (e ∷ es) = (v : ℕ) × (e.value ≡ Some v) × Released k es
 
--- where a write of memory m is released in a cycle, the oldest pending one has its value
+-- where writes of memory m are released in a cycle, as many of the oldest pending ones have their values
 abbrev pub ReleasesWritten : Pipe → State → List Bool → ℕ → Type 0
 ReleasesWritten p st bits m = Released (all_releases m (moving p st bits)) (with_values p st bits m)
 

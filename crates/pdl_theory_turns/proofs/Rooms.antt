@@ -6,16 +6,16 @@ use Rattle.pdl_semantics.specs.Stages.{onpath, in_stage, mem_at}
 use Rattle.pdl_semantics.specs.Locks.{has_room}
 use Rattle.pdl_semantics.specs.Machine.{Reserved, reserves_of, same_args}
 use Rattle.pdl_semantics.specs.Sound.{is_write_reserve}
-use Rattle.pdl_derived.specs.Derived.{Work, Around, Thread, work_after, do_all, work_of_stage, have_room}
-use Rattle.pdl_derived.specs.Alone.{answered_op}
-use Rattle.pdl_derived.proofs.Stages.{step}
-use Rattle.pdl_facts.specs.Scans.{is_fixed, write_reserves}
-use Rattle.pdl_facts.specs.Facts.{Sound, looked_all}
-use Rattle.pdl_turns.proofs.Paths.{Fixed}
-use Rattle.pdl_turns.proofs.Own.{fixed_to}
-use Rattle.pdl_turns.proofs.OfStage.{fixed_stage}
-use Rattle.pdl_turns.proofs.Looks.{path_looked}
-use Rattle.pdl_turns.proofs.Roams.{fixed_looked}
+use Rattle.pdl_theory_derived.specs.Derived.{Work, Around, Thread, work_after, do_all, work_of_stage, have_room}
+use Rattle.pdl_theory_derived.specs.Alone.{answered_op}
+use Rattle.pdl_theory_derived.proofs.Stages.{step}
+use Rattle.pdl_theory_facts.specs.Scans.{is_fixed, write_reserves}
+use Rattle.pdl_theory_facts.specs.Facts.{Sound, looked_all}
+use Rattle.pdl_theory_turns.proofs.Paths.{Fixed}
+use Rattle.pdl_theory_turns.proofs.OwnEntries.{fixed_to}
+use Rattle.pdl_theory_turns.proofs.OfStage.{fixed_stage}
+use Rattle.pdl_theory_turns.proofs.Looks.{path_looked}
+use Rattle.pdl_theory_turns.proofs.StrayPaths.{fixed_looked}
 
 -- room for more is room for fewer
 room_fewer : (k : Lock) (i j : ℕ) → j ≤ i → has_room k i 0 ≡ true → has_room k j 0 ≡ true

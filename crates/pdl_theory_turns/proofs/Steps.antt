@@ -108,8 +108,7 @@ puts_new ph m n a y (w ∷ ws) h u = ap (with_writes_of m n ws) (at (w.mem == m)
     e : Pending
     e = record { thread = n; var = a; address = y; value = None }
 
-    at :
-    (b : Bool) → (w.mem == m) ≡ b → (c : Bool) → (a == w.var) ≡ c → cond b ((cond ((n == n) && c) (record e { value = Some w.value }) e) ∷ []) (e ∷ []) ≡ e ∷ []
+    at : (b : Bool) → (w.mem == m) ≡ b → (c : Bool) → (a == w.var) ≡ c → cond b ((cond ((n == n) && c) (record e { value = Some w.value }) e) ∷ []) (e ∷ []) ≡ e ∷ []
     at true k true l = absurd (clash (sym (u.0 k) ∙ ap (is_used ph) (sym (eqb-true a w.var l)) ∙ h))
       where
         clash : true ≡ false → ⊥
@@ -183,6 +182,15 @@ filled_pend m n a v (o ∷ q ∷ os) h =
         off false = refl
     last false k c l = refl
 
+-- pending writes of one thread, each with its value
+abbrev pub AreGiven : ℕ → List Pending → Type 0
+AreGiven n [] = Unit {0}
+AreGiven n (e ∷ es) = (e.thread ≡ n) × (v : ℕ) × (e.value ≡ Some v) × AreGiven n es
+
+given_more : (n v : ℕ) (xs : List Pending) (e : Pending) → AreGiven n xs → e.thread ≡ n → e.value ≡ Some v → AreGiven n (xs ++ e ∷ [])
+given_more n v [] e g h k = (h, v, k, tt)
+given_more n v (x ∷ xs) e g h k = (g.0, g.1, g.2, given_more n v xs e g.3 h k)
+
 -- A STAGE
 
 -- a thread's entries and commits of m in a phase, and what the stage's reservations, writes and releases make of its entries at the start: some are taken out, some have a value, and some have none
@@ -196,6 +204,7 @@ pub record Staged (m n : ℕ) (ph : Phase) (es : List Entry) (cs : List Commit) 
   pub at_full : full_vars fulls ≡ ph.full
   pub two : with_writes_of m n ws new ≡ out ++ (rest ++ pend m n (waiting m opens))
   pub outs : length out ≡ rel
+  pub given : AreGiven n out
   pub commits : cs ≡ released m out
   pub same : unnamed rest ≡ pendings n (told m fulls)
   pub exact : rel ≡ 0 → rest ≡ pend m n (known m fulls)
@@ -216,6 +225,7 @@ staged_moved m n ph es es' cs cs' new new' ws ws' rel rel' p q r s u t g =
       at_full = g.at_full;
       two = s new' ∙ ap (with_writes_of m n ws) r ∙ g.two;
       outs = g.outs ∙ sym t;
+      given = g.given;
       commits = q ∙ g.commits;
       same = g.same;
       exact = λ k. g.exact (sym t ∙ k);
@@ -242,27 +252,24 @@ step_write m n k a v ph es cs new ws rel false e h g =
 step_write m n k a v ph es cs new ws rel true e h g =
     record {
       opens = but_last g.opens;
-      fulls = record { var = a; address = last_address g.opens; value =
-  v } ∷ g.fulls;
+      fulls = record { var = a; address = last_address g.opens; value = v } ∷ g.fulls;
       out = g.out;
       rest = g.rest ++ filled ∷ [];
-      entries =
-  ap (λ j. entries_of m (Derived.with_entry_value es j a v)) (eqb-true k m e) ∙ entries_of-filled es m a v
+      entries = ap (λ j. entries_of m (Derived.with_entry_value es j a v)) (eqb-true k m e) ∙ entries_of-filled es m a v
       ∙ ap (λ l. Derived.with_entry_value l m a v) g.entries ∙ filled_last m a v g.opens (known m g.fulls) oldest;
       at_open = vars_front g.opens ∙ ap but_last g.at_open;
       at_full = ap (λ l. a ∷ l) g.at_full;
-      two =
-  put_all_more m n ws (record { mem = k; var = a; value = v }) new
+      two = put_all_more m n ws (record { mem = k; var = a; value = v }) new
       ∙ ap (λ c. cond c (with_value_of n a v (with_writes_of m n ws new)) (with_writes_of m n ws new)) e
       ∙ ap (with_value_of n a v) g.two
       ∙ put_append n a v g.out _ ∙ ap₂ (λ l j. l ++ j) (put_used ph n a v g.out unused (used_first ph g.out g.rest g.used)) (put_append n a v g.rest _
           ∙ ap₂ (λ l j. l ++ j) (put_used ph n a v g.rest unused (used_second ph g.out g.rest g.used)) (filled_pend m n a v g.opens oldest)
           ∙ sym (append_assoc g.rest (filled ∷ []) (pend m n (waiting m (but_last g.opens)))));
       outs = g.outs;
+      given = g.given;
       commits = g.commits;
       same = unnamed_append g.rest (filled ∷ []) ∙ ap (λ l. l ++ record filled { var = 0 } ∷ []) g.same ∙ sym (pendings_append n (told m g.fulls) (write_of m (last_address g.opens) v ∷ []));
-      exact = λ i. ap (λ l. l ++ filled ∷ []) (g.exact i) ∙ sym (ap (λ b. pend m n (known m g.fulls) ++ cond b (filled ∷ []) []) (eq-eqb m m refl)
-);
+      exact = λ i. ap (λ l. l ++ filled ∷ []) (g.exact i) ∙ sym (ap (λ b. pend m n (known m g.fulls) ++ cond b (filled ∷ []) []) (eq-eqb m m refl));
       used = subst (AllUsed (after_write ph a)) (append_assoc g.out g.rest (filled ∷ [])) (used_append (after_write ph a) (g.out ++ g.rest) (filled ∷ []) (used_kept ph (after_write ph a) (g.out ++ g.rest) more g.used) (now, tt));
       written = writes_append m (after_write ph a) ws _ (writes_kept m ph (after_write ph a) ws more g.written) ((λ f. now), tt);
       apart = apart_write ph a h g.apart;
@@ -316,23 +323,21 @@ step_reserve m n k a y ph es cs start rs ws rel false e h g =
     (λ l. refl) g.written refl g
 step_reserve m n k a y ph es cs start rs ws rel true e h g =
     record {
-      opens = record { var = a; address =
-  y } ∷ g.opens;
+      opens = record { var = a; address = y } ∷ g.opens;
       fulls = g.fulls;
       out = g.out;
       rest = g.rest;
-      entries =
-  ap (λ c. cond c (entry k a y None ∷ entries_of m es) (entries_of m es)) e ∙ ap₂ (λ j l. entry j a y None ∷ l) (eqb-true k m e) g.entries;
+      entries = ap (λ c. cond c (entry k a y None ∷ entries_of m es) (entries_of m es)) e ∙ ap₂ (λ j l. entry j a y None ∷ l) (eqb-true k m e) g.entries;
       at_open = ap (λ l. a ∷ l) g.at_open;
       at_full = g.at_full;
-      two =
-  ap (λ l. with_writes_of m n ws (start ++ l))
+      two = ap (λ l. with_writes_of m n ws (start ++ l))
       (new_more m n rs _ ∙ ap (λ c. new_entries m n rs ++ cond c (last ∷ []) []) e)
       ∙ ap (with_writes_of m n ws) (sym (append_assoc start (new_entries m n rs) (last ∷ [])))
           ∙ puts_append m n ws (start ++ new_entries m n rs) (last ∷ [])
           ∙ ap₂ (λ l j. l ++ j) g.two (puts_new ph m n a y ws unused g.written)
           ∙ append_assoc g.out (g.rest ++ pend m n (waiting m g.opens)) (last ∷ []) ∙ ap (λ l. g.out ++ l) (append_assoc g.rest (pend m n (waiting m g.opens)) (last ∷ []) ∙ ap (λ c. g.rest ++ (pend m n (waiting m g.opens) ++ cond c (last ∷ []) [])) (sym (eq-eqb m m refl)));
       outs = g.outs;
+      given = g.given;
       commits = g.commits;
       same = g.same;
       exact = g.exact;
@@ -347,8 +352,7 @@ step_reserve m n k a y ph es cs start rs ws rel true e h g =
     unused : is_used ph a ≡ false
     unused =
         let r = and_right (not (is_among a ph.unwritten)) _ h in
-        ap₂ (λ c d. c || d
-) (not_false _ (and_left (not (is_among a ph.full)) _ r)) (not_false _ (and_right (not (is_among a ph.full)) _ r))
+        ap₂ (λ c d. c || d) (not_false _ (and_left (not (is_among a ph.full)) _ r)) (not_false _ (and_right (not (is_among a ph.full)) _ r))
 
 -- a release that takes nothing of m out
 step_none : (m n k a : ℕ) (ph : Phase) (es : List Entry) (cs : List Commit) (new : List Pending)
@@ -412,11 +416,11 @@ step_release m n k a ph es cs new ws rs held i true e h g = at (is_among a ph.fu
 
         more : Keeps ph qh
         more x j = by (a == x) refl (is_among x ph.full) refl j
-      where
+          where
             still : (xs : List ℕ) → (a == x) ≡ false → is_among x xs ≡ true → is_among x (drop_var a xs) ≡ true
             still [] u t = absurd (cc t)
             still (y ∷ ys) u t = go (y == a) refl (y == x) refl t (λ s. still ys u s)
-      where
+              where
                 go : (c : Bool) → (y == a) ≡ c → (d : Bool) → (y == x) ≡ d → (d || is_among x ys) ≡ true → (is_among x ys ≡ true → is_among x (drop_var a ys) ≡ true) → is_among x (cond c ys (y ∷ drop_var a ys)) ≡ true
                 go true l true q s on = absurd (eqb-false a x u (sym (eqb-true y a l) ∙ eqb-true y x q))
                 go true l false q s on = s
@@ -446,12 +450,12 @@ step_release m n k a ph es cs new ws rs held i true e h g = at (is_among a ph.fu
               fulls = let_out g.fulls a;
               out = g.out ++ x ∷ [];
               rest = xs;
-              entries =
-            ap (λ j. entries_of m (without es j a)) same ∙ without_own es m a ∙ ap (λ l. without l m a) g.entries ∙ behind.0 ∙ ap (λ l. waiting m g.opens ++ l) r.rest;
+              entries = ap (λ j. entries_of m (without es j a)) same ∙ without_own es m a ∙ ap (λ l. without l m a) g.entries ∙ behind.0 ∙ ap (λ l. waiting m g.opens ++ l) r.rest;
               at_open = g.at_open;
               at_full = let_out_vars g.fulls a ∙ ap (drop_var a) g.at_full;
               two = t ∙ sym (append_assoc g.out (x ∷ []) (xs ++ pend m n (waiting m g.opens)));
               outs = length-append g.out (x ∷ []) ∙ ap (λ l. l + 1) g.outs ∙ sym counted;
+              given = given_more n r.out.value g.out x g.given (ap (λ (z : Pending). z.thread) (first u)) (ap (λ (z : Pending). z.value) (first u));
               commits =
                 of_mem_append m cs _
                     ∙ ap₂ (λ c d. c ++ d) g.commits

@@ -189,7 +189,7 @@ module _ (p : Pipe) (acc : Accepted p) (arrays : Arrays) (args : List ℕ) where
       none_open =
           nil_of _ (and_left (is_nil (phase_all m (phase_all m Fresh (before s p.stmts)) (stages_from s p.stmts)).unwritten) _
           (subst (λ ph. is_over ph ≡ true) (ap (phase_all m Fresh) (acc.ordered s)
-      ∙ phase_append m (before s p.stmts) (stages_from s p.stmts) Fresh) (acc.over m)))
+          ∙ phase_append m (before s p.stmts) (stages_from s p.stmts) Fresh) (acc.over m)))
 
   -- the array of m after the turn
   pub row_after : (m : ℕ) → row (thread p arrays args).arrays m ≡ wrote (row arrays m) (of_mem m (thread p arrays args).writes)

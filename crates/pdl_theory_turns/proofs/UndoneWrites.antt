@@ -157,10 +157,8 @@ module _ (p : Pipe) (acc : Accepted p) (arrays : Arrays) (args : List ℕ) where
       total : length (told m (tied_at s m).fulls) + length (rev (addresses_at (so_far p arrays args s).env (phase_all m Fresh (before s p.stmts)).unwritten)) ≡ 0
       total =
           let all = all_places p acc arrays args s m r in
-          let ls : length (places (of_mem m (run_at p arrays args s).writes)) + length (rev (addresses_at (so_far p arrays args s).env (phase_all m Fresh (before s p.stmts)).unwritten)) ≡ length (places cs) =
-          sym (length-append (places (of_mem m (run_at p arrays args s).writes)) _) ∙ ap length all ∙ ap (λ l. length (places l)) (sym (commits_late p acc arrays args s m h)) in
-          let ws : length (places (of_mem m (run_at p arrays args s).writes)) ≡ length (places cs) + length (told m (tied_at s m).fulls) =
-          ap (λ l. length (places l)) (tied_at s m).written ∙ ap length (places_append cs (told m (tied_at s m).fulls)) ∙ length-append (places cs) _ ∙ ap (λ n. length (places cs) + n) (length_places (told m (tied_at s m).fulls)) in
+          let ls : length (places (of_mem m (run_at p arrays args s).writes)) + length (rev (addresses_at (so_far p arrays args s).env (phase_all m Fresh (before s p.stmts)).unwritten)) ≡ length (places cs) = sym (length-append (places (of_mem m (run_at p arrays args s).writes)) _) ∙ ap length all ∙ ap (λ l. length (places l)) (sym (commits_late p acc arrays args s m h)) in
+          let ws : length (places (of_mem m (run_at p arrays args s).writes)) ≡ length (places cs) + length (told m (tied_at s m).fulls) = ap (λ l. length (places l)) (tied_at s m).written ∙ ap length (places_append cs (told m (tied_at s m).fulls)) ∙ length-append (places cs) _ ∙ ap (λ n. length (places cs) + n) (length_places (told m (tied_at s m).fulls)) in
           omega arith
 
       nothing : (xs : List ℕ) (fs : List Full) → length (told m fs) + length (rev (addresses_at (so_far p arrays args s).env xs)) ≡ 0 → (xs ≡ []) × (fs ≡ [])
@@ -231,8 +229,7 @@ module _ (p : Pipe) (acc : Accepted p) (arrays : Arrays) (args : List ℕ) where
           let now = early_count s m (omega arith) in
           let next = early_count (suc s) m h in
           let r = runs_more m (in_stage s p.stmts) (run_at p arrays args s) in
-          let grown : length (of_mem m (run_at p arrays args (suc s)).writes) ≡ length (of_mem m (run_at p arrays args s).writes) + length r.0 =
-          ap (λ l. length (of_mem m (run_all l (start_run p arrays args)).writes)) (acc.pieces s) ∙ ap (λ (q : Run). length (of_mem m q.writes)) (run_append (before s p.stmts) (in_stage s p.stmts) (start_run p arrays args))
+          let grown : length (of_mem m (run_at p arrays args (suc s)).writes) ≡ length (of_mem m (run_at p arrays args s).writes) + length r.0 = ap (λ l. length (of_mem m (run_all l (start_run p arrays args)).writes)) (acc.pieces s) ∙ ap (λ (q : Run). length (of_mem m q.writes)) (run_append (before s p.stmts) (in_stage s p.stmts) (start_run p arrays args))
           ∙ ap length r.1 ∙ length-append (of_mem m (run_at p arrays args s).writes) r.0 in
           omega arith
 
