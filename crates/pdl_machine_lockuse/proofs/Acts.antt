@@ -6,7 +6,7 @@ use Rattle.pdl_semantics.specs.Machine.{State, Thread, Pending, Reserved, with_a
 use Rattle.pdl_semantics.specs.Moves.{Act, act, acts, all_acts}
 use Rattle.pdl_lockapi.specs.Forget as forget
 use Rattle.pdl_machine_facts.specs.Slots.{slot, with_now, here, stage_moves, slot_moves, later_acts}
-use Rattle.pdl_theory_states.specs.Use.{AllActs, bit, reserved_in, reserved_count}
+use Rattle.pdl_theory_states.specs.Use.{AllActs, reserved_count}
 use Rattle.pdl_semantics.specs.PendingLists.{AreOrdered, count_older}
 
 -- EACH STAGE
@@ -67,22 +67,57 @@ pub same_count : (t : ℕ) (es : List Pending) → count_older t es ≡ count_ol
 same_count t [] = refl
 same_count t (e ∷ es) = ap (λ n. if nat_lt e.thread t then suc n else n) (same_count t es)
 
--- the bit of a truth value is that of words
-pub same_bit : (b : Bool) → bit b ≡ Words.bit b
-same_bit true = refl
-same_bit false = refl
-
-as_many : (m : ℕ) (rs : List Reserved) → reserved_in m rs ≡ length (forget.addresses_of m rs)
+as_many : (m : ℕ) (rs : List Reserved) → reserves_of m rs ≡ length (forget.addresses_of m rs)
 as_many m [] = refl
 as_many m (r ∷ rs) = at (r.mem == m) (as_many m rs)
   where
-    at : (b : Bool) → reserved_in m rs ≡ length (forget.addresses_of m rs)
-        → cond b (suc (reserved_in m rs)) (reserved_in m rs) ≡ length (cond b (r.address ∷ []) [] ++ forget.addresses_of m rs)
+    at : (b : Bool) → reserves_of m rs ≡ length (forget.addresses_of m rs)
+        → cond b (suc (reserves_of m rs)) (reserves_of m rs) ≡ length (cond b (r.address ∷ []) [] ++ forget.addresses_of m rs)
     at true h = ap suc h
     at false h = h
 
--- the addresses that acts reserve of a memory are as many as their reservations of it
-pub same_reserved : (m : ℕ) (ms : List Act) → reserved_count m ms ≡ length (forget.addresses m ms)
-same_reserved m [] = refl
-same_reserved m (a ∷ ms) =
-    ap₂ (λ x y. x + y) (same_reserved m ms) (as_many m a.does.reserves) ∙ sym (length-append (forget.addresses m ms) (forget.addresses_of m a.does.reserves))
+none_counted : (m : ℕ) (ms : List Act) → reserved_count m ms ≡ 0 → length (forget.addresses m ms) ≡ 0
+none_counted m [] h = refl
+none_counted m (a ∷ ms) h =
+    let n = none_counted m ms (first (reserved_count m ms) _ h) in
+    let k = as_many m a.does.reserves in
+    let z = quiet (reserves_of m a.does.reserves) (second (reserved_count m ms) _ h) in
+    let l = length-append (forget.addresses m ms) (forget.addresses_of m a.does.reserves) in
+    omega (arith, n, k, z, l)
+  where
+    first : (i j : ℕ) → i + j ≡ 0 → i ≡ 0
+    first i j e = omega (arith, e)
+
+    second : (i j : ℕ) → i + j ≡ 0 → j ≡ 0
+    second i j e = omega (arith, e)
+
+    quiet : (n : ℕ) → (if n == 0 then 0 else 1) ≡ 0 → n ≡ 0
+    quiet zero e = refl
+    quiet (suc n) e = absurd (cc e)
+
+-- where at most one thread reserves, and each no more than two, at most two addresses are reserved
+pub few_reserved : (m : ℕ) (ms : List Act) → reserved_count m ms ≤ 1 → Each (λ a. reserves_of m a.does.reserves ≤ 2) ms
+    → length (forget.addresses m ms) ≤ 2
+few_reserved m [] h f = omega arith
+few_reserved m (a ∷ ms) h f = at (reserves_of m a.does.reserves) refl
+  where
+    l : length (forget.addresses m ms ++ forget.addresses_of m a.does.reserves)
+        ≡ length (forget.addresses m ms) + length (forget.addresses_of m a.does.reserves)
+    l = length-append (forget.addresses m ms) (forget.addresses_of m a.does.reserves)
+
+    at : (n : ℕ) → reserves_of m a.does.reserves ≡ n → length (forget.addresses m (a ∷ ms)) ≤ 2
+    at zero e =
+        let k = as_many m a.does.reserves in
+        let r = few_reserved m ms (low (reserved_count m ms) _ h) f.1 in
+        omega (arith, l, k, e, r)
+      where
+        low : (i j : ℕ) → i + j ≤ 1 → i ≤ 1
+        low i j g = omega (arith, g)
+    at (suc n) e =
+        let k = as_many m a.does.reserves in
+        let g = f.0 in
+        let z = none_counted m ms (none (reserved_count m ms) (ap (λ j. if j == 0 then 0 else 1) e) h) in
+        omega (arith, l, k, g, z)
+      where
+        none : (i : ℕ) {j : ℕ} → j ≡ 1 → i + j ≤ 1 → i ≡ 0
+        none i q g = omega (arith, q, g)

@@ -1,5 +1,5 @@
 -- Behind each block of a path of an accepted source its location is not reserved again; and guesses and verifies pass as many arguments as the start.
-use Rattle.std.proofs.Common.{◌≡◌, refl, sym, ap, ap₂, ◌∙◌, subst, ℕ, suc, Bool, true, false, ◌&&◌, not, List, [], ◌∷◌, ◌++◌, length, map, Some, ◌==◌, eq-eqb, append_assoc}
+use Rattle.std.proofs.Common.{◌≡◌, refl, sym, ap, ap₂, ◌∙◌, subst, ℕ, suc, ◌≤◌, ◌<◌, if◌then◌else◌, Bool, true, false, ◌&&◌, not, List, [], ◌∷◌, ◌++◌, length, map, Some, ◌==◌, eq-eqb, append_assoc}
 use Rattle.std.proofs.lemmas.Bool.{false≢true, and_parts, and_from, both_ways, not-false, eqb-true}
 use Rattle.std.specs.List.{list_any}
 use Rattle.std.specs.Cmp.Lexicographic.{pointwise}
@@ -20,7 +20,10 @@ use Rattle.pdl_rules.proofs.EachPlace.{Each, closing}
 use Rattle.pdl_rules.proofs.SingleWrites.{KeepsLocks, any_weaker, any_front, reserves_alike}
 use Rattle.pdl_theory_derived.specs.Alone.{answered_op}
 use Rattle.pdl_theory_derived.proofs.Writes.{and_left, and_right}
-use Rattle.pdl_theory_facts.specs.Scans.{none_of}
+use Rattle.pdl_semantics.specs.Sound.{is_write_reserve}
+use Rattle.pdl_theory_facts.specs.Scans.{none_of, write_reserves}
+use Rattle.pdl_source_paths.proofs.Memories.{mems_length}
+use Rattle.pdl_source_paths.proofs.PathTests.{few_ok}
 use Rattle.pdl_theory_facts.specs.Facts.{looked_all}
 use Rattle.pdl_theory_turns.proofs.Looks.{path_looked}
 use Rattle.pdl_source_stages.proofs.Sites.{Site, sites_of, front_of, place_of, own, owns, All, stmts_are}
@@ -269,11 +272,25 @@ module _ (p : Pipe) (rules : KeepsRules p) where
         (grows_on p.mems (path_of p (value p path)) (params_of p.params) (all_vars p) (sites_of p) (grows_all p)) (keeps_all p rules (value p path)) locations
         (λ l h. absurd (false≢true (sym (none_blocked p (on_path (path_of p (value p path))) l) ∙ h)))
 
+    reserve_looked : (m : ℕ) (op : Flat.Op) → is_write_reserve m (answered_op op) ≡ is_write_reserve m op
+    reserve_looked m (Flat.DelayedRead x n b) = refl
+    reserve_looked m _ = refl
+
+    few_looked : (m : ℕ) (xs : List Flat.Stmt) → write_reserves m (looked_all xs) ≡ write_reserves m xs
+    few_looked m [] = refl
+    few_looked m (x ∷ xs) = ap₂ (λ b n. if b then suc n else n) (reserve_looked m x.op) (few_looked m xs)
+
+    few : (m : ℕ) → m < length (flat p).mems → write_reserves m (onpath path (flat p).stmts) ≤ 2
+    few m low =
+        subst (λ n. n ≤ 2) (ap (write_reserves m) (path_looked path (flat p).stmts) ∙ few_looked m (onpath path (flat p).stmts))
+        (few_ok p rules source path m (subst (λ n. m < n) (mems_length p.mems) low))
+
   -- the flat form of an accepted source is careful with its blocks, its writes and the arguments of its guesses
   pub careful_source : is_source p ≡ true → Careful (flat p)
   careful_source source =
       record {
         kinds = kinds source;
         writes = writes source;
+        few = few source;
         args = ap (Flat.list_all (λ (x : Flat.Stmt). passes_on (length (flat p).start) x.op)) (stmts_are p) ∙ sites_pass (sites_of p) (all_here p);
       }

@@ -1,5 +1,6 @@
 pub mod Acts
 pub mod Paths
+pub mod Reservations
 pub mod HeldLocations
 pub mod StageStatements
 pub mod LetIn

@@ -148,7 +148,8 @@ module _ (p : Pipe) (sound : Sound p) (st : State) (d : Derived.State) (bits : L
   abbrev next : ℕ
   next = next_of p l.thread.stage path
 
-  abbrev rest : List Stmt
+  -- what is still to come on its path
+  abbrev pub rest : List Stmt
   rest = onpath path (stages_from next p.stmts)
 
   keeps : Keeps p l.env (now_of p d bits l)
@@ -176,6 +177,10 @@ module _ (p : Pipe) (sound : Sound p) (st : State) (d : Derived.State) (bits : L
       (subst (λ xs. reads_ok (along path (at_once p)) no_scan xs ≡ true)
       (way_looked p path next ∙ ap looked_all way_is ∙ looked_append passed mine)
       ((sound.pathwise.paths path).reads next))
+
+  -- the statements that it has passed use each memory in order
+  pub passed_uses : (m : ℕ) → uses_ok m Fresh passed ≡ true
+  passed_uses m = uses_front m passed (mine ++ rest) Fresh (subst (λ xs. uses_ok m Fresh xs ≡ true) whole ((sound_flows p sound).uses path m))
 
   -- after those that it has passed, the statements of its stage write and release each memory in order
   pub mine_uses : (m : ℕ) → uses_ok m (phase_all m Fresh passed) mine ≡ true

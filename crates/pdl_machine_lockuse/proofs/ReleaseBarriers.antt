@@ -148,7 +148,7 @@ module _ (p : Pipe) (sound : Sound p) (st : State) (d : Derived.State) (bits : L
 
   -- so who releases before V has only older threads that stand after V
   pub certain_here : Lasting p st l older → Each (λ j. Behind p l.thread.stage j.thread.stage) older → (did p d bits older l).moves ≡ true → (m v : ℕ)
-      → verify_stage p.stmts ≡ Some v → l.thread.stage < v → list_any (λ j. j == m) (deeds_of p st bits l).releases ≡ true
+      → verify_stage p.stmts ≡ Some v → l.thread.stage < v → releases_of m (deeds_of p st bits l).releases ≢ 0
       → Each (λ j. v < j.thread.stage) older
   certain_here lasting behind moves m v e low h =
       at (list_any (λ (x : Stmt). Sound.is_barrier x.op) gone) refl

@@ -3,7 +3,7 @@ use Rattle.std.proofs.Common.{◌≡◌, sym, ap, ap₂, ◌∙◌, ℕ, suc, �
 use Rattle.pdl_word.specs.Words
 use Rattle.pdl_semantics.specs.Flat.{Arrays, Pipe}
 use Rattle.pdl_semantics.specs.Machine.{State, lock_of}
-use Rattle.pdl_semantics.specs.Cycle.{with_reserves, has_release, list_three, entries_left, squasher, first, state_after}
+use Rattle.pdl_semantics.specs.Cycle.{with_reserves, all_releases, list_three, entries_left, squasher, first, state_after}
 use Rattle.pdl_theory_facts.specs.Facts.{Sound}
 use Rattle.pdl_lockapi.specs.Forget as forget
 use Rattle.pdl_machine_facts.specs.Slots
@@ -46,7 +46,7 @@ module _ (p : Pipe) (sound : Sound p) (strict : Strict p) (image : Arrays) (befo
         ∙ same_count (suc t.number) (lock_of now m);
     shifts = λ k t m v h e low.
         ap₂ (λ x y. x + y) (count_three (suc t.number) m)
-        (ap (λ ms. Words.bit (has_release m ms)) (sym movers) ∙ sym (same_bit (has_release m (moving p now bits))))
+        (ap (all_releases m) (sym movers))
         ∙ at_slot p now bits (ShiftsTail p now bits m) (tails_here p sound strict image before bits m) k t h v e low ∙ sym (count_new (suc t.number) m);
     left = λ m n h.
         let sq = squasher (Slots.moving p now bits) in

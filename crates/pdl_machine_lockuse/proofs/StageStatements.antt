@@ -18,7 +18,7 @@ use Rattle.pdl_machine_facts.specs.Slots.{locks_ready}
 use Rattle.pdl_machine_facts.specs.Use.{is_early, IsOpFine, AreFine}
 use Rattle.pdl_machine_facts.proofs.StatementUses.{IsAlong}
 use Rattle.pdl_machine_lockuse.specs.Careful.{passes_on}
-use Rattle.pdl_machine_lockuse.proofs.HeldLocations.{right_at, Covers, covers_op, held_does, IsOnce, released_here, once_op}
+use Rattle.pdl_machine_lockuse.proofs.HeldLocations.{right_at, Covers, covers_op, held_does, HeldOnce, held_once, released_here, once_op}
 
 -- where all of a list and one more pass, all of the list pass, and that one
 pub all_last : {X : Type 0} → (test : X → Bool) (xs : List X) (x : X)
@@ -95,10 +95,10 @@ module _ (p : Pipe) (st : State) (n : ℕ) where
   guess_next size g _ d h f i = f i
 
   op_fine : (size s : ℕ) (v : Option ℕ) (c : Scan) (ph : ℕ → Phase) (g : Making) (op : Op) (d : Deeds) → op_ok p s c (answered_op op) ≡ true
-      → ((m : ℕ) → IsOnce m (ph m) d.held) → making_ok v g s (answered_op op) ≡ true → passes_on size op ≡ true
+      → ((m : ℕ) → HeldOnce m (ph m) d.held) → making_ok v g s (answered_op op) ≡ true → passes_on size op ≡ true
       → (is_guessed g ≡ true → length d.guess ≡ size) → RightIf s c d → locks_ready p st n d ≡ true → IsOpFine p st n op d
   op_fine size s v c ph g (CombRead x m a) d h o q y f r k = read_here s c x m a d h r k
-  op_fine size s v c ph g (Release m a) d h o q y f r k = released_here m a d.held (o m).one
+  op_fine size s v c ph g (Release m a) d h o q y f r k = released_here m a d.held (held_once m (ph m) d.held (o m) a)
   op_fine size s v c ph g (Verify args) d h o q y f r k = f (and_left (is_guessed g) (stands_at v s) q) ∙ sym (eqb-true (length args) size y)
   op_fine size s v c ph g (DelayedRead x m a) d h o q y f r k = tt
   op_fine size s v c ph g _ d h o q y f r k = tt
@@ -108,7 +108,7 @@ module _ (p : Pipe) (st : State) (n : ℕ) where
       → IsAlong path (word_for st n) xs d → reads_ok p c (looked_all (onpath path xs)) ≡ true → ((m : ℕ) → uses_ok m (ph m) (onpath path xs) ≡ true)
       → makings_ok v g (looked_all (onpath path xs)) ≡ true → list_all (λ (x : Stmt). passes_on size x.op) (onpath path xs) ≡ true
       → list_all (is_early p) (onpath path xs) ≡ true
-      → ((m : ℕ) → IsOnce m (ph m) d.held) → Covers c.held d.held → (is_guessed g ≡ true → length d.guess ≡ size) → RightIf s c d → AreFine p st n xs d
+      → ((m : ℕ) → HeldOnce m (ph m) d.held) → Covers c.held d.held → (is_guessed g ≡ true → length d.guess ≡ size) → RightIf s c d → AreFine p st n xs d
   fine_all size s v c path ph g [] d i q h k w y e o f u r = tt
   fine_all size s v c path ph g (x ∷ xs) d i q h k w y e o f u r =
       at (all_hold x.guards d.env) (all_hold x.guards path) q.0 q.1 h k w y e
@@ -130,7 +130,7 @@ module _ (p : Pipe) (st : State) (n : ℕ) where
           → reads_ok p c (looked_all (onpath path xs)) ≡ true → ((m : ℕ) → uses_ok m (ph m) (onpath path xs) ≡ true)
           → makings_ok v g (looked_all (onpath path xs)) ≡ true → list_all (λ (x : Stmt). passes_on size x.op) (onpath path xs) ≡ true
           → list_all (is_early p) (onpath path xs) ≡ true
-          → ((m : ℕ) → IsOnce m (ph m) d.held) → Covers c.held d.held → (is_guessed g ≡ true → length d.guess ≡ size) → RightIf s c d → AreFine p st n xs d)
+          → ((m : ℕ) → HeldOnce m (ph m) d.held) → Covers c.held d.held → (is_guessed g ≡ true → length d.guess ≡ size) → RightIf s c d → AreFine p st n xs d)
           → Fine b
       at true false z q h k w y e go = absurd (cc z)
       at false true z q h k w y e go = absurd (cc z)
@@ -144,7 +144,7 @@ module _ (p : Pipe) (st : State) (n : ℕ) where
             go (scan_after (answered_op x.op) c) (λ m. next_phase m (ph m) x.op) (next_making g (answered_op x.op)) (deeds_after (word_for st n) x.op d) q
                 (and_right (no_guards [] && op_ok p x.stage c (answered_op x.op)) _ h) (λ m. and_right (use_ok m (ph m) x.op) _ (k m))
                 (and_right (making_ok v g x.stage (answered_op x.op)) _ w) (and_right (passes_on size x.op) _ y) (and_right (is_early p x) _ e)
-                (λ m. subst (IsOnce m (next_phase m (ph m) x.op)) (sym held) (once_op m (ph m) x.op d.held (and_left _ _ (k m)) (o m)))
+                (λ m. subst (HeldOnce m (next_phase m (ph m) x.op)) (sym held) (once_op m (ph m) x.op d.held (and_left _ _ (k m)) (o m)))
                 (subst (Covers (scan_after (answered_op x.op) c).held) (sym held) (covers_op c x.op d.held f)) (guess_next size g x.op d (and_left _ _ y) u)
                 (right_next s c x.op d ok f r),
           )

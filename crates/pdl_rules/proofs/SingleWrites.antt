@@ -207,6 +207,7 @@ written_among before a (x ∷ xs) e w =
     (λ t. written_among before a xs parts.1 t)
     (or_cases (writes_location a x) (list_any (writes_location a) xs) w)
 
+-- what is written was reserved
 pub written_reserved : (before : List Place) (a : Location) → AreBacked before → list_any (writes_location a) before ≡ true → list_any (reserves_to_write a) before ≡ true
 written_reserved before a b w = written_among before a before b.backed w
 

@@ -13,7 +13,7 @@ use Rattle.pdl_rules.specs.Places.{Place, Parameter, Memory, statements, places}
 use Rattle.pdl_rules.specs.Parts
 use Rattle.pdl_rules.specs.Limits
 use Rattle.pdl_rules.specs.Limits.{is_size, is_width, is_depth, allows_lock}
-use Rattle.pdl_rules.specs.Locks.{is_locked, size_of, lock_size, most_reservations}
+use Rattle.pdl_rules.specs.Locks.{is_locked, declared_size, lock_size, most_reservations}
 use Rattle.pdl_rules.specs.Refusal.{KeepsRules}
 use Rattle.pdl_rules.specs.Typed.{is_memory, AreDistinct}
 use Rattle.pdl_rules.proofs.SingleWrites.{any_front, any_last}
@@ -117,7 +117,7 @@ room_size n k h low = at (n == 1) refl low
     at true e l = le-leb (k + 0) n (let i = eqb-true n 1 e in omega arith)
     at false e l = le-leb (k + 0) n (let i = eqb-false n 1 e in let j = ltb-true 0 n h in omega arith)
 
-room_lock : (l : Option LockDecl) → ((d : LockDecl) → l ≡ Some d → is_size d.size.value ≡ true) → (k : ℕ) → k ≤ most (size_of l) → has_room (flat_lock l) k 0 ≡ true
+room_lock : (l : Option LockDecl) → ((d : LockDecl) → l ≡ Some d → is_size d.size.value ≡ true) → (k : ℕ) → k ≤ most (declared_size l) → has_room (flat_lock l) k 0 ≡ true
 room_lock None f k low = refl
 room_lock (Some l) f k low = at l.kind (room_size l.size.value k (sized l.size.value (f l refl)) low)
   where
@@ -140,7 +140,7 @@ rooms p rules (x ∷ ms) before m b k low = at (bytes_eq x.name.name m) low (roo
         let h : not (is_size d.size.value && allows_lock x.depth.value x.delayed d.kind d.size.value) ≡ false = sym (ap (Parts.is_some_and (Limits.is_wrong_lock x)) e) ∙ wrong in
         (and_parts (is_size d.size.value) _ (not-false _ h)).0
 
-    at : (c : Bool) → k ≤ most (cond c (size_of x.lock) (lock_size ms m)) → (k ≤ most (lock_size ms m) → has_room (slice_index_or (mems_of ms) (mem_of ms m) plain_mem).lock k 0 ≡ true)
+    at : (c : Bool) → k ≤ most (cond c (declared_size x.lock) (lock_size ms m)) → (k ≤ most (lock_size ms m) → has_room (slice_index_or (mems_of ms) (mem_of ms m) plain_mem).lock k 0 ≡ true)
         → has_room (slice_index_or (mems_of (x ∷ ms)) (cond c 0 (suc (mem_of ms m))) plain_mem).lock k 0 ≡ true
     at true l f = room_lock x.lock known k l
     at false l f = f l

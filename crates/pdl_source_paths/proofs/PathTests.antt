@@ -11,8 +11,8 @@ use Rattle.pdl_semantics.specs.Sound.{all_below}
 use Rattle.pdl_kit.specs.declared.rule.Rule.TheVariants.{F5}
 use Rattle.pdl_rules.specs.Places.{Place, Parameter, Memory, Statement, End, StartClause, Guard, statements, places, on_path}
 use Rattle.pdl_rules.specs.Locks
-use Rattle.pdl_rules.specs.Locks.{is_locked, most_reservations, reserves_location}
-use Rattle.pdl_theory_facts.proofs.Apart.{total_all}
+use Rattle.pdl_rules.specs.Locks.{is_locked, lock_size, most_reservations, reserves_location}
+use Rattle.pdl_theory_facts.proofs.Apart.{total, total_all}
 use Rattle.pdl_source_paths.proofs.WritesKept.{stands_first}
 use Rattle.pdl_semantics.specs.Locks.{has_room}
 use Rattle.pdl_rules.specs.Stages.{reserves_memory, releases_memory}
@@ -269,21 +269,44 @@ module _ (p : Pipe) (rules : KeepsRules p) where
         (all_rise p c (body_forked p rules)) each
         (λ m there e. absurd (both_ways _ (none_front p (reserves_memory m) (λ a. refl) (λ m. refl)) e)) scanned
 
-    writes_pass : (i : ℕ) → i < length p.mems → (phases_ok i Fresh (seen p.mems ts) ≡ true) × (is_over (phase_all i Fresh (seen p.mems ts)) ≡ true) × (has_room (mem_at q i).lock (write_reserves i (seen p.mems ts)) 0 ≡ true)
+    writes_pass : (i : ℕ) → i < length p.mems
+        → (phases_ok i Fresh (seen p.mems ts) ≡ true) × (is_over (phase_all i Fresh (seen p.mems ts)) ≡ true)
+        × (has_room (mem_at q i).lock (write_reserves i (seen p.mems ts)) 0 ≡ true) × (write_reserves i (seen p.mems ts) ≤ 2)
     writes_pass i low =
         let n = at_number p.mems i (distinct p rules p.mems (map Parameter p.params) (all_after p)) low in
-        subst (λ k. (phases_ok k Fresh (seen p.mems ts) ≡ true) × (is_over (phase_all k Fresh (seen p.mems ts)) ≡ true) × (has_room (mem_at q k).lock (write_reserves k (seen p.mems ts)) 0 ≡ true)) n.2
+        subst
+        (λ k. (phases_ok k Fresh (seen p.mems ts) ≡ true) × (is_over (phase_all k Fresh (seen p.mems ts)) ≡ true)
+        × (has_room (mem_at q k).lock (write_reserves k (seen p.mems ts)) 0 ≡ true) × (write_reserves k (seen p.mems ts) ≤ 2)) n.2
         (let w = writes_along p q lock_is n.0 n.1 (params_of p.params) _ (front_of p) Fresh ts known
         (grows_on p.mems c (params_of p.params) _ (sites_of p) (grows_all p)) each backed
         (stands_first p (params_of p.params) (front_of p) n.0 (λ f g h. none_front p f g h)) in (
           w.0,
           w.1,
           rooms p rules p.mems (map Parameter p.params) n.0 (all_after p) (write_reserves (mem_of p.mems n.0) (seen p.mems ts))
-              (subst (λ k. k ≤ most_reservations p.mems W n.0) (total_all (mem_of p.mems n.0) Fresh (seen p.mems ts) w.0 ∙ none_more (write_reserves (mem_of p.mems n.0) (seen p.mems ts))) w.2),
+              (many n.0 w.0 w.2),
+          at_most_two n.0 (many n.0 w.0 w.2),
         ))
       where
         none_more : (n : ℕ) → 0 + n ≡ n
         none_more n = omega arith
+
+        many : (n : List ℕ) → phases_ok (mem_of p.mems n) Fresh (seen p.mems ts) ≡ true
+            → total (phase_all (mem_of p.mems n) Fresh (seen p.mems ts)) ≤ most_reservations p.mems W n
+            → write_reserves (mem_of p.mems n) (seen p.mems ts) ≤ most_reservations p.mems W n
+        many n ok w =
+            subst (λ k. k ≤ most_reservations p.mems W n)
+            (total_all (mem_of p.mems n) Fresh (seen p.mems ts) ok ∙ none_more (write_reserves (mem_of p.mems n) (seen p.mems ts))) w
+
+        at_most_two : (n : List ℕ) {k : ℕ} → k ≤ most_reservations p.mems W n → k ≤ 2
+        at_most_two n = by (lock_size p.mems n == 1)
+          where
+            by : {k : ℕ} (b : Bool) → k ≤ (if b then 1 else 2) → k ≤ 2
+            by true h = omega (arith, h)
+            by false h = h
+
+    -- a path reserves each memory for writing at most twice
+    pub few_ok : (i : ℕ) → i < length p.mems → write_reserves i (onpath path q.stmts) ≤ 2
+    few_ok i low = subst (λ xs. write_reserves i xs ≤ 2) (sym xs_are) (writes_pass i low).3
 
     plain_or : (m : ℕ) (b : Bool) → (is_plain (mem_at q m).lock ≡ true → b ≡ true) → (not (is_plain (mem_at q m).lock) || b) ≡ true
     plain_or m b f =
@@ -294,8 +317,7 @@ module _ (p : Pipe) (rules : KeepsRules p) where
     mem_pass i low =
         and_from _ _ (writes_pass i low).0
         (and_from _ _ (writes_pass i low).1
-        (and_from _ _
-        (writes_pass i low).2
+        (and_from _ _ (writes_pass i low).2
         (and_from _ _ (StatementTests.at_seen (is_reserve i) (StatementTests.reserve_blind i)
         (reserve_stage q i) p.mems ts
         (all_on (λ t. some_op (is_reserve i) (ops p.mems t) ≡ true → t.walk.stage ≡ reserve_stage q i) c (sites_of p) (reserve_home i)))

@@ -61,15 +61,17 @@ pub record IsFirst (vs : List Var) (before : List Place) (m : List ℕ) (x : ℕ
   pub named : is_named vs at.address.name ≡ true
   pub number : var_of vs at.address.name ≡ x
 
--- lists of numbers
+-- whether a phase has a variable
 abbrev pub is_in : Phase → ℕ → Bool
 is_in ph x = is_among x ph.unwritten || (is_among x ph.full || is_among x ph.gone)
 
+-- whether a number is the last of these
 abbrev pub is_last : ℕ → List ℕ → Bool
 is_last x [] = false
 is_last x (y ∷ []) = y == x
 is_last x (y ∷ z ∷ zs) = is_last x (z ∷ zs)
 
+-- whether no number stands there twice
 abbrev pub is_distinct : List ℕ → Bool
 is_distinct [] = true
 is_distinct (x ∷ xs) = not (is_among x xs) && is_distinct xs

@@ -1,6 +1,7 @@
 -- Written pipes pass the tests of the whole language.
 use Rattle.std.proofs.Common.{◌≡◌, refl, Bool, true, false, List, [], ◌∷◌, None}
 use Rattle.pdl_semantics.specs.Tree
+use Rattle.pdl_semantics.specs.Tree.{Queue, Bypass}
 use Rattle.pdl_semantics.specs.Flatten.{flat}
 use Rattle.pdl_semantics.proofs.Pipes.{two_writes, two_writes_apart, one_stage, shared_guard, count_queue, guess, far_barrier, copy, copy_guessed, count_slow, two_branches, one_branch, forked, everything, dead_read}
 use Rattle.pdl_semantics.proofs.Texts.{number, constant, variable, slice, plus, separator, bind, delayed_read, call, spec_barrier, if_else, slow, pipe}

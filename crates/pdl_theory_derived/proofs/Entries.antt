@@ -134,23 +134,28 @@ pub record Open : Type 0 where
   pub var : ℕ
   pub address : ℕ
 
+-- a location with a value: its variable, its address and the value
 pub record Full : Type 0 where
   pub var : ℕ
   pub address : ℕ
   pub value : ℕ
 
+-- the entries of locations of m without a value
 abbrev pub waiting : ℕ → List Open → List Entry
 waiting m [] = []
 waiting m (o ∷ os) = entry m o.var o.address None ∷ waiting m os
 
+-- the entries of locations of m with a value
 abbrev pub known : ℕ → List Full → List Entry
 known m [] = []
 known m (f ∷ fs) = entry m f.var f.address (Some f.value) ∷ known m fs
 
+-- the variables of locations without a value
 abbrev pub open_vars : List Open → List ℕ
 open_vars [] = []
 open_vars (o ∷ os) = o.var ∷ open_vars os
 
+-- the variables of locations with a value
 abbrev pub full_vars : List Full → List ℕ
 full_vars [] = []
 full_vars (f ∷ fs) = f.var ∷ full_vars fs
@@ -160,24 +165,25 @@ abbrev pub told : ℕ → List Full → List Commit
 told m [] = []
 told m (f ∷ fs) = told m fs ++ write_of m f.address f.value ∷ []
 
+-- those without a value in front of others are all of m
 pub waiting_own : (m : ℕ) (os : List Open) (es : List Entry) → entries_of m (waiting m os ++ es) ≡ waiting m os ++ entries_of m es
 waiting_own m [] es = refl
 waiting_own m (o ∷ os) es = ap (λ b. cond b (entry m o.var o.address None ∷ entries_of m (waiting m os ++ es)) (entries_of m (waiting m os ++ es))) (eq-eqb m m refl) ∙ ap (λ l. entry m o.var o.address None ∷ l) (waiting_own m os es)
 
--- a write through the oldest location without a value
+-- the last of a list, where it has one
 abbrev pub last_or : {X : Type 0} → X → List X → X
 last_or x [] = x
 last_or x (y ∷ ys) = last_or y ys
 
+-- the address of the oldest location without a value
 abbrev pub last_address : List Open → ℕ
 last_address [] = 0
 last_address (o ∷ []) = o.address
 last_address (o ∷ q ∷ os) = last_address (q ∷ os)
 
+-- a write through the oldest location without a value gives it that value
 pub filled_last : (m a v : ℕ) (os : List Open) (es : List Entry) → is_oldest a (open_vars os) ≡ true → with_entry_value (waiting m os ++ es) m a v ≡ waiting m (but_last os) ++ entry m a (last_address os) (Some v) ∷ es
 filled_last m a v [] es h = absurd (cc h)
-
--- a release of the location of the only pending write commits it, with its value
 filled_last m a v (o ∷ []) es h =
     ap₂ (λ b c. cond (b && c) (entry m o.var o.address (Some v) ∷ es) (entry m o.var o.address None ∷ with_entry_value es m a v)) (eq-eqb m m refl) h
     ∙ ap (λ x. entry m x o.address (Some v) ∷ es) (eqb-true o.var a h)
@@ -200,6 +206,7 @@ abbrev pub pushed : Full → List Full → List Full
 pushed f [] = []
 pushed f (g ∷ gs) = record g { address = f.address; value = f.value } ∷ pushed g gs
 
+-- the locations with a value, after the release of one: each takes over what the next younger one had
 abbrev pub let_out : List Full → ℕ → List Full
 let_out [] a = []
 let_out (f ∷ fs) a = if f.var == a then pushed f fs else f ∷ let_out fs a
@@ -208,6 +215,7 @@ pushed_vars : (f : Full) (fs : List Full) → full_vars (pushed f fs) ≡ full_v
 pushed_vars f [] = refl
 pushed_vars f (g ∷ gs) = ap (λ l. g.var ∷ l) (pushed_vars g gs)
 
+-- without the variable that is released
 pub let_out_vars : (fs : List Full) (a : ℕ) → full_vars (let_out fs a) ≡ drop_var a (full_vars fs)
 let_out_vars [] a = refl
 let_out_vars (f ∷ fs) a = at (f.var == a) (let_out_vars fs a)
@@ -216,6 +224,7 @@ let_out_vars (f ∷ fs) a = at (f.var == a) (let_out_vars fs a)
     at true on = pushed_vars f fs
     at false on = ap (λ l. f.var ∷ l) on
 
+-- what the release of a location commits
 abbrev pub commit_of : ℕ → Full → Commit
 commit_of m f = write_of m f.address f.value
 
@@ -244,6 +253,7 @@ pub record Released (m a : ℕ) (fs : List Full) : Type 0 where
   pub commits : released_commits (known m fs) m a ≡ commit_of m out ∷ []
   pub there : has_entry (known m fs) m a ≡ true
 
+-- a release of a location with a value takes the oldest value out
 pub released_full : (m a : ℕ) (fs : List Full) → is_among a (full_vars fs) ≡ true → Released m a fs
 released_full m a [] h = absurd (cc h)
 released_full m a (f ∷ fs) h = at (f.var == a) refl (λ k. released_full m a fs k)
@@ -314,6 +324,7 @@ without_none (e ∷ es) m a h = at ((e.mem == m) && (e.var == a)) h (λ k. witho
     at true h k = absurd (cc h)
     at false h k = (ap (λ l. e ∷ l) (k h).0, (k h).1)
 
+-- a location that has no value isn't among those with one
 pub no_known : (m a : ℕ) (fs : List Full) → is_among a (full_vars fs) ≡ false → has_entry (known m fs) m a ≡ false
 no_known m a [] h = refl
 no_known m a (f ∷ fs) h = at (f.var == a) refl (λ k. no_known m a fs k)
@@ -336,6 +347,7 @@ abbrev pub places : List Commit → List ℕ
 places [] = []
 places (c ∷ cs) = c.address ∷ places cs
 
+-- there are as many places as commits
 pub length_places : (cs : List Commit) → length (places cs) ≡ length cs
 length_places [] = refl
 length_places (c ∷ cs) = ap suc (length_places cs)

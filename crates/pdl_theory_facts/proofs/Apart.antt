@@ -7,9 +7,11 @@ use Rattle.pdl_theory_facts.specs.Scans.{Phase, Fresh, after_write, after_reserv
 use Rattle.pdl_semantics.specs.Flat.{Op, Write, ReserveWrite, Release, Stmt}
 use Rattle.pdl_semantics.specs.Sound.{is_write_reserve}
 
+-- a location without a value is neither one with a value nor a released one
 abbrev pub Apart : Phase → Type 0
 Apart ph = (x : ℕ) → is_among x ph.unwritten ≡ true → (is_among x ph.full ≡ false) × (is_among x ph.gone ≡ false)
 
+-- so it is before the first reservation
 pub apart_fresh : Apart Fresh
 apart_fresh x h = absurd (cc h)
 
@@ -17,6 +19,7 @@ no_not : (b : Bool) → not b ≡ true → b ≡ false
 no_not true h = absurd (cc h)
 no_not false h = refl
 
+-- after a reservation
 pub apart_reserve : (ph : Phase) (a : ℕ) → is_new ph a ≡ true → Apart ph → Apart (after_reserve ph a)
 apart_reserve ph a h f x k = at (a == x) refl k
   where
@@ -39,6 +42,7 @@ oldest_once a (x ∷ y ∷ ys) h = at (x == a) h (oldest_once a (y ∷ ys))
     at true k g = absurd (cc k)
     at false k g = g k
 
+-- what is among all but the oldest is among all
 pub front_among : (x : ℕ) (xs : List ℕ) → is_among x (but_last xs) ≡ true → is_among x xs ≡ true
 front_among x [] h = absurd (cc h)
 front_among x (y ∷ []) h = absurd (cc h)
@@ -48,6 +52,7 @@ front_among x (y ∷ z ∷ zs) h = at (y == x) h (front_among x (z ∷ zs))
     at true k g = refl
     at false k g = g k
 
+-- after a write
 pub apart_write : (ph : Phase) (a : ℕ) → may_write ph a ≡ true → Apart ph → Apart (after_write ph a)
 apart_write ph a h f x k = at (a == x) refl
   where
@@ -75,6 +80,7 @@ among_drop x a (y ∷ ys) h = at (y == a) (y == x) h (among_drop x a ys)
         keep true e = absurd (cc (sym h ∙ ap (λ t. t || is_among x ys) e))
         keep false e = g k
 
+-- and after a release
 pub apart_release : (ph : Phase) (a : ℕ) → Apart ph → Apart (after_release ph a)
 apart_release ph a f = at (is_among a ph.full) refl
   where
@@ -95,11 +101,13 @@ apart_release ph a f = at (is_among a ph.full) refl
 abbrev pub total : Phase → ℕ
 total ph = length ph.unwritten + (length ph.full + length ph.gone)
 
+-- without the oldest there is one fewer
 pub oldest_length : (a : ℕ) (xs : List ℕ) → is_oldest a xs ≡ true → length (but_last xs) + 1 ≡ length xs
 oldest_length a [] h = absurd (cc h)
 oldest_length a (x ∷ []) h = refl
 oldest_length a (x ∷ y ∷ ys) h = let e = oldest_length a (y ∷ ys) (and_right (not (x == a)) _ h) in omega arith
 
+-- without one of them there is one fewer
 pub drop_length : (a : ℕ) (xs : List ℕ) → is_among a xs ≡ true → length (drop_var a xs) + 1 ≡ length xs
 drop_length a [] h = absurd (cc h)
 drop_length a (x ∷ xs) h = at (x == a) h (drop_length a xs)
@@ -130,6 +138,7 @@ total_op m ph (Release n a) h = at (n == m) (is_among a ph.full) refl
     at false c e = plus_none _
 total_op m ph _ h = plus_none _
 
+-- as many locations are reserved as there are reservations
 pub total_all : (m : ℕ) (ph : Phase) (xs : List Stmt) → phases_ok m ph xs ≡ true → total (phase_all m ph xs) ≡ total ph + write_reserves m xs
 total_all m ph [] h = plus_none _
 total_all m ph (x ∷ xs) h = total_all m (next_phase m ph x.op) xs (and_right (no_guards x.guards && phase_ok m ph x.op) _ h) ∙ at (is_write_reserve m x.op) (total_op m ph x.op (and_right (no_guards x.guards) _ (and_left (no_guards x.guards && phase_ok m ph x.op) _ h)))

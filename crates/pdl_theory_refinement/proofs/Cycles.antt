@@ -42,8 +42,6 @@ moves_ready : (p : Pipe) (st : State) (bits : List Bool) (older : List Act) (t :
     → (work_of_stage p (around p st bits older t.stage) (answered_thread p st bits t)).ready ≡ true
 moves_ready p st bits older t e = and_right _ _ (and_left _ _ (and_left _ _ (and_left _ _ e)))
 
-pub
-
 moves_answered : (p : Pipe) (st : State) (bits : List Bool) (older : List Act) (t : Thread)
     → (act p st bits older t).moves ≡ true → is_empty (answered_thread p st bits t).awaits ≡ true
 moves_answered p st bits older t e = and_right _ _ (and_left _ _ e)

@@ -1,11 +1,11 @@
 -- A cycle does the same whether the acts are listed by stages or by age: two threads whose order differs stand in two branches, where nothing depends on it.
-use Rattle.std.proofs.Common.{◌≡◌, refl, sym, ap, ap₂, ◌∙◌, subst, ℕ, suc, ◌≤◌, ◌<◌, ◌⊎◌, inl, inr, Bool, true, false, ◌&&◌, ◌||◌, List, [], ◌∷◌, ◌++◌, length, Option, Some, None, is_some, is_none, ◌==◌, nat_lt, cond, if◌then◌else◌, arith, ltb-false, le_refl}
+use Rattle.std.proofs.Common.{◌≡◌, refl, sym, ap, ap₂, ◌∙◌, subst, ℕ, suc, ◌≤◌, ◌<◌, ◌⊎◌, inl, inr, Bool, true, false, ◌&&◌, ◌||◌, List, [], ◌∷◌, ◌++◌, length, Option, Some, None, is_some, is_none, ◌==◌, nat_lt, cond, if◌then◌else◌, arith, ltb-false, le_refl, drop, take, ◌+◌}
 use Rattle.std.proofs.lemmas.Bool.{eqb-true, eqb-false}
 use Rattle.pdl_semantics.specs.Flat.{Arrays, Pipe, Branch, Mem}
 use Rattle.pdl_semantics.specs.Stages.{list_any, in_stage, stage_at, goes_to, is_branch_of}
 use Rattle.pdl_semantics.specs.Machine.{is_answered, Request, NoRequest, State, Pending, lock_of, fork_of, request_of, with_answers, word_for}
 use Rattle.pdl_semantics.specs.Moves.{movers, next_stage}
-use Rattle.pdl_semantics.specs.Cycle.{new_entries, with_reserves, with_writes_of, with_all_writes, has_release, child_of, squasher, asked_by, asked_of, asked_in, address_of, next_thread, coming_thread, or_then, entered_branches, goes_into, goes_out, for_mems, for_stages, taken_out, list_two, with_commit, with_commits}
+use Rattle.pdl_semantics.specs.Cycle.{new_entries, with_reserves, with_writes_of, with_all_writes, child_of, squasher, asked_by, asked_of, asked_in, address_of, next_thread, coming_thread, or_then, entered_branches, goes_into, goes_out, for_mems, for_stages, taken_out, list_two, with_commit, with_commits, releases_of, all_releases}
 use Rattle.pdl_semantics.specs.Sound.{side_in, is_delayed_read}
 use Rattle.pdl_semantics.specs.Cycle
 use Rattle.pdl_semantics.specs.Machine
@@ -291,9 +291,7 @@ module _ (p : Pipe) (flows : Flows p) (st : State) (d : Derived.State) (bits : L
       same_filled m (with_reserves m (movers (acts_of p flows st d bits arrays (sorted ls))) (lock_of st m)) ls s
       ∙ ap (with_all_writes m (movers (lacts p st d bits ls))) (same_appended m (lock_of st m) ls s)
 
-  pub
-
-  same_releases : (m : ℕ) (ls : List Live) → Swaps ls
+  pub same_releases : (m : ℕ) (ls : List Live) → Swaps ls
       → all_releases m (movers (acts_of p flows st d bits arrays (sorted ls))) ≡ all_releases m (movers (lacts p st d bits ls))
   same_releases m = same_movers ℕ (all_releases m) (λ a z. z + releases_of m a.does.releases) (λ a rest. refl)
       (λ x y s z. swapped z (releases_of m (deeds_of p st bits x.live).releases) (releases_of m (deeds_of p st bits y.live).releases))

@@ -1,5 +1,5 @@
 -- What of two threads' acts can change places: their writes, what they ask for, and the thread that they make.
-use Rattle.std.proofs.Common.{◌+◌, drop, take, ◌≡◌, refl, sym, ap, ap₂, ◌∙◌, ℕ, ◌⊎◌, inl, inr, Bool, true, false, ◌||◌, not, List, [], ◌∷◌, Option, Some, None, ◌==◌, cond, if◌then◌else◌}
+use Rattle.std.proofs.Common.{◌+◌, drop, take, ◌≡◌, refl, sym, ap, ap₂, ◌∙◌, ℕ, ◌⊎◌, inl, inr, Bool, true, false, ◌||◌, not, List, [], ◌∷◌, Option, Some, None, ◌==◌, cond, if◌then◌else◌, ◌&&◌}
 use Rattle.std.proofs.lemmas.Bool.{eqb-true}
 use Rattle.pdl_semantics.specs.Flat.{Op, ReserveWrite, Call, SpecCall, Verify, Stmt, all_hold}
 use Rattle.pdl_semantics.specs.Machine.{Ask, Request, Pending, Deeds, deeds_after_all}
@@ -17,9 +17,11 @@ or_swap true false c = refl
 or_swap false true c = refl
 or_swap false false c = refl
 
--- writes into the entries of two threads change places
+-- an entry, with this value where it is of this thread and variable
 abbrev put_one : ℕ → ℕ → ℕ → Pending → Pending
 put_one n y v e = if (e.thread == n) && (e.var == y) then record e { value = Some v } else e
+
+-- writes into the entries of two threads change places
 put_swap : (n y v k z w : ℕ) (xs : List Pending)
     → (n ≡ k → ⊥) → with_value_of n y v (with_value_of k z w xs) ≡ with_value_of k z w (with_value_of n y v xs)
 put_swap n y v k z w [] h = refl
@@ -30,27 +32,22 @@ put_swap n y v k z w (e ∷ es) h = ap₂ (λ a l. a ∷ l) (at ((e.thread == n)
 
     second : ((e.thread == k) && (e.var == z)) ≡ false → put_one k z w e ≡ e
     second j = ap (λ b. cond b (record e { value = Some w }) e) j
+
     at : (b : Bool) → ((e.thread == n) && (e.var == y)) ≡ b → (c : Bool) → ((e.thread == k) && (e.var == z)) ≡ c
-        → put_one n y v (put_one k z w e)
-        ≡ put_one k z w (put_one n y v e)
+        → put_one n y v (put_one k z w e) ≡ put_one k z w (put_one n y v e)
     at true i true j = absurd (h (sym (eqb-true e.thread n (and_left _ _ i)) ∙ eqb-true e.thread k (and_left _ _ j)))
-    at b i false j = ap
-        (put_one n y v) (second j)
-        ∙ put_after b i
+    at b i false j = ap (put_one n y v) (second j) ∙ put_after b i
       where
         put_after : (b : Bool) → ((e.thread == n) && (e.var == y)) ≡ b → put_one n y v e ≡ put_one k z w (put_one n y v e)
-        put_after true l = ap (λ b. cond b (record e { value = Some v }) e) l
-        ∙ sym
-        (ap (put_one k z w) (ap (λ b. cond b (record e { value = Some v }) e) l)
-        ∙ ap (λ b. cond b (record e { value = Some w }) (record e { value = Some v })) j)
+        put_after true l =
+            ap (λ b. cond b (record e { value = Some v }) e) l
+            ∙ sym (ap (put_one k z w) (ap (λ b. cond b (record e { value = Some v }) e) l)
+            ∙ ap (λ b. cond b (record e { value = Some w }) (record e { value = Some v })) j)
         put_after false l = first l ∙ sym (ap (put_one k z w) (first l) ∙ second j)
     at false i true j =
-        ap (put_one n y v) (ap
-        (λ b. cond b (record e { value = Some w }) e) j)
+        ap (put_one n y v) (ap (λ b. cond b (record e { value = Some w }) e) j)
         ∙ ap (λ b. cond b (record e { value = Some v }) (record e { value = Some w })) i
-        ∙ sym
-        (ap (put_one k z w) (first i)
-        ∙ ap (λ b. cond b (record e { value = Some w }) e) j)
+        ∙ sym (ap (put_one k z w) (first i) ∙ ap (λ b. cond b (record e { value = Some w }) e) j)
 
 put_all_put : (m n k z w : ℕ) (ws : List Machine.Written) (xs : List Pending)
     → (n ≡ k → ⊥) → with_writes_of m n ws (with_value_of k z w xs) ≡ with_value_of k z w (with_writes_of m n ws xs)

@@ -18,8 +18,8 @@ use Rattle.pdl_theory_derived.proofs.Entries.{entries_of}
 use Rattle.pdl_theory_derived.proofs.Deeds.{Told, Fits, AllFit, told_all}
 use Rattle.pdl_theory_derived.proofs.Lists.{pend}
 use Rattle.pdl_theory_turns.proofs.OwnEntries.{Worked}
-use Rattle.pdl_theory_simulation.proofs.Stretches.{Keeps, Fetched, AllFetched, ReservesFrom, reserves_from, start_deeds, start_of, keeps_answered, stage_worked, ends_empty, late_empty}
-use Rattle.pdl_theory_simulation.proofs.StretchSteps.{AsksFrom, asks_from}
+use Rattle.pdl_theory_simulation.proofs.Stretches.{Keeps, Fetched, AllFetched, start_deeds, start_of, keeps_answered, stage_worked, ends_empty, late_empty}
+use Rattle.pdl_theory_simulation.proofs.StretchSteps.{AsksFrom, asks_from, ReservesFrom, reserves_from}
 use Rattle.pdl_theory_simulation.proofs.Seats.{Live, seat, Falls, dacts, lacts, lact, did, now_of, work_of_live, deeds_of}
 use Rattle.pdl_theory_turns.proofs.OfStage.{none_stage}
 use Rattle.pdl_theory_turns.proofs.Turn.{none_in_stage}

@@ -221,7 +221,7 @@ module _ (p : Pipe) (flows : Flows p) (st : State) (d : Derived.State) (bits : L
   commits_next m ls l = ap (of_mem m) (commits_more (rev (dacts p d bits ls)) (did p d bits ls l)) ∙ of_mem_append m (commits_of (rev (dacts p d bits ls))) _
 
   -- past the stage of its releases nobody has an entry of m
-  gone : (m : ℕ) (ls : List Live) → AllKnown p flows st d bits arrays ls → Past (commit_stage p m) ls
+  pub gone : (m : ℕ) (ls : List Live) → AllKnown p flows st d bits arrays ls → Past (commit_stage p m) ls
       → Still (all_releases m (ms ls)) (two m ls) (three m ls) (commits_here m ls)
   gone m [] k c = (refl, refl, refl, refl)
   gone m (l ∷ ls) k c = at (did p d bits ls l).moves (commits_next m ls l) (gone m ls k.1 c.1)

@@ -1,5 +1,5 @@
 -- An entry for each memory, and the arrays after the commits of all memories.
-use Rattle.std.proofs.Common.{◌≡◌, refl, sym, ap, ap₂, ◌∙◌, ℕ, zero, suc, ◌+◌, ◌≤◌, ◌<◌, Bool, true, false, List, [], ◌∷◌, length, ◌==◌, cond, arith, slice_index_or, add-zero, add-suc, suc-add, eq-eqb}
+use Rattle.std.proofs.Common.{◌≡◌, refl, sym, ap, ap₂, ◌∙◌, ℕ, zero, suc, ◌+◌, ◌≤◌, ◌<◌, Bool, true, false, List, [], ◌∷◌, length, ◌==◌, cond, arith, slice_index_or, add-zero, add-suc, suc-add, eq-eqb, Option}
 use Rattle.std.proofs.lemmas.Bool.{eqb-true, eqb-false, ne_eqb}
 use Rattle.pdl_semantics.specs.Flat.{Arrays, Array, Pipe, Mem, with_value, with_word}
 use Rattle.pdl_semantics.specs.Locks.{commit_value}

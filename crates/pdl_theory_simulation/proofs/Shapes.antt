@@ -32,6 +32,7 @@ pub record Shape (m : ℕ) (ph : Phase) (es : List Entry) : Type 0 where
   pub at_full : full_vars fulls ≡ ph.full
   pub apart : Apart ph
 
+-- before the first reservation there are none
 pub shape_fresh : (m : ℕ) → Shape m Fresh []
 shape_fresh m = record { opens = []; fulls = []; entries = refl; at_open = refl; at_full = refl; apart = apart_fresh }
 
@@ -45,6 +46,7 @@ shape_over m ph es h s =
     s.entries
     ∙ ap₂ (λ l k. waiting m l ++ known m k) (no_opens s.opens (s.at_open ∙ nil_of ph.unwritten (and_left _ _ h))) (no_fulls s.fulls (s.at_full ∙ nil_of ph.full (and_right (is_nil ph.unwritten) _ h)))
 
+-- so there are none then
 pub shape_none : (m : ℕ) (es : List Entry) → Shape m Fresh es → es ≡ []
 shape_none m es s = shape_over m Fresh es refl s
 
@@ -85,6 +87,7 @@ shape_start m n ph es t =
       two = append-nil _ ∙ pend_own m n es ∙ ap (pend m n) t.entries ∙ pend_append m n (waiting m t.opens) (known m t.fulls);
       outs = refl;
       given = tt;
+      let_go = omega arith;
       commits = refl;
       same = pend_known m n t.fulls;
       exact = λ k. refl;

@@ -4,7 +4,7 @@ use Rattle.std.proofs.lemmas.List.{get_or-set_other}
 use Rattle.std.proofs.lemmas.Bool.{eqb-true, eqb-false}
 use Rattle.std.proofs.lemmas.Bool.Decides.{eqb_tells}
 use Rattle.pdl_semantics.specs.Flat.{Commit, of_mem, Op, Bind, CombRead, DelayedRead, Write, ReserveWrite, Release, Call, SpecCall, Verify, Stmt, value_of, values_of, all_hold}
-use Rattle.pdl_semantics.specs.Stages.{onpath}
+use Rattle.pdl_semantics.specs.Stages.{onpath, is_reserve}
 use Rattle.pdl_semantics.specs.Machine.{Ask, Awaited, same_args, Pending, Blocked, Reserved, Deeds, deeds_after_all, is_held}
 use Rattle.pdl_semantics.specs.Cycle.{awaited_of, releases_of}
 use Rattle.pdl_semantics.specs.Sound.{is_call, is_delayed_read}
@@ -176,6 +176,7 @@ reserved_op all read (Verify args) d f h = at (same_args (values_of args d.env) 
     at false = h
 reserved_op all read _ d f h = h
 
+-- what a stage reserves are memories that its statements reserve
 pub reserves_from : (all : List Stmt) (read : ℕ → ℕ → ℕ) (xs : List Stmt) (d : Deeds) → ((m : ℕ) → none_of (is_reserve m) xs ≡ false → none_of (is_reserve m) all ≡ false) → ReservesFrom all d.reserves → ReservesFrom all (deeds_after_all read xs d).reserves
 reserves_from all read [] d f h = h
 reserves_from all read (x ∷ xs) d f h =

@@ -1,9 +1,10 @@
 -- What a stage does to a thread: to its pending writes, its values and its successor.
 use Rattle.std.proofs.Common.{◌≡◌, refl, sym, ap, ap₂, ◌∙◌, subst, ℕ, ◌≤◌, ◌<◌, ◌⊎◌, inl, inr, Bool, true, false, ◌||◌, not, List, [], ◌∷◌, ◌++◌, length, Option, Some, None, ◌==◌, cond, if◌then◌else◌, arith, slice_index, slice_set, le_refl}
+use Rattle.std.proofs.lemmas.Bool.{eqb-true, eqb-false}
 use Rattle.pdl_semantics.specs.Flat.{Stmt, Branch, Pipe}
 use Rattle.pdl_semantics.specs.Stages.{onpath, in_stage, stage_at, goes_to, is_reserve, is_release, reserve_stage, commit_stage}
 use Rattle.pdl_semantics.specs.Machine.{Ask, Awaited, is_answered, Blocked, Reserved, Deeds, held_before, deeds_after_all}
-use Rattle.pdl_semantics.specs.Cycle.{awaited_of}
+use Rattle.pdl_semantics.specs.Cycle.{awaited_of, releases_of}
 use Rattle.pdl_semantics.specs.Sound.{stages_before, stages_from, is_delayed_read}
 use Rattle.pdl_theory_derived.specs.Derived.{Work, Around, work_of_stage, still, with_answers, answered_thread}
 use Rattle.pdl_theory_derived.specs.Derived
@@ -14,11 +15,11 @@ use Rattle.pdl_theory_turns.proofs.Paths.{Fixed, none_onpath}
 use Rattle.pdl_theory_derived.proofs.Deeds.{places, AllFit}
 use Rattle.pdl_theory_derived.proofs.Lists.{pend}
 use Rattle.pdl_theory_turns.proofs.Steps.{Here}
-use Rattle.pdl_theory_turns.proofs.OwnEntries.{Worked, worked}
-use Rattle.pdl_theory_simulation.proofs.Shapes.{Shape, shape_over, shape_start, shape_end, uses_front, uses_back, called_append, calls_front, calls_back, none_before, none_till, fixed_to, stays_fresh, over_early, held_ops, held_append, held_path, held_work}
-use Rattle.pdl_theory_turns.proofs.UndoneWrites.{phase_append}
+use Rattle.pdl_theory_turns.proofs.OwnEntries.{Worked, worked, quiet_releases}
+use Rattle.pdl_theory_simulation.proofs.Shapes.{Shape, shape_over, shape_start, shape_end, uses_front, uses_back, called_append, calls_front, calls_back, none_before, none_till, fixed_to, stays_fresh, over_early, held_ops, held_append, held_path, held_work, shape_fresh, shape_none}
+use Rattle.pdl_theory_turns.proofs.TurnPath.{phase_append}
 use Rattle.pdl_theory_turns.proofs.OfStage.{fixed_stage}
-use Rattle.pdl_theory_turns.proofs.Turn.{none_from}
+use Rattle.pdl_theory_turns.proofs.Turn.{none_from, none_in_stage}
 use Rattle.pdl_theory_simulation.proofs.StretchSteps.{steps_all, set_stays, only_sets, awaits_var, only_asks, AsksFrom, asks_from, Childed, made_all}
 
 -- THREADS

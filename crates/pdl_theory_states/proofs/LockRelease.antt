@@ -20,19 +20,19 @@ use Rattle.pdl_semantics.specs.PendingLists.{count_older}
 use Rattle.pdl_word.specs.Each.{Each}
 
 -- the first k pending writes are of threads older than this one
-abbrev
-pub LowFirst : ℕ
-    → ℕ → List Pending → Type 0
+abbrev pub LowFirst : ℕ → ℕ → List Pending → Type 0
 LowFirst zero t xs = Unit {0}
 LowFirst (suc k) t [] = ⊥
 LowFirst (suc k) t (x ∷ xs) = (x.thread < t) × LowFirst k t xs
 
-low_append : (k t : ℕ) (xs ys : List Pending) → LowFirst k t xs → LowFirst k t (xs ++ ys)
+-- what the first ones are is so in a longer list
+pub low_append : (k t : ℕ) (xs ys : List Pending) → LowFirst k t xs → LowFirst k t (xs ++ ys)
 low_append zero t xs ys h = tt
 low_append (suc k) t [] ys h = absurd h
 low_append (suc k) t (x ∷ xs) ys h = (h.0, low_append k t xs ys h.1)
 
-low_within : (k a t : ℕ) (xs : List Pending) → Within a t xs → k ≤ length xs → LowFirst k t xs
+-- the first of a list whose threads are all below a number are of threads below it
+pub low_within : (k a t : ℕ) (xs : List Pending) → Within a t xs → k ≤ length xs → LowFirst k t xs
 low_within zero a t xs w h = tt
 low_within (suc k) a t [] w h = absurd (omega arith)
 low_within (suc k) a t (x ∷ xs) w h = (w.1, low_within k x.thread t xs w.2 (omega arith))
@@ -71,6 +71,7 @@ count_dropped (suc k) t (x ∷ xs) h =
     let i = count_dropped k t xs h.1 in
     let j : cond (nat_lt x.thread t) (suc (count_older t xs)) (count_older t xs) ≡ suc (count_older t xs) = ap (λ b. cond b (suc (count_older t xs)) (count_older t xs)) (lt-ltb x.thread t h.0) in omega arith
 
+-- where the first k are older than a thread, its place shifts by k as they are taken out, after all writes
 pub count_released : (k t m : ℕ) (ms : List Act) (xs : List Pending) → LowFirst k t xs → count_older t (drop k (with_all_writes m ms xs)) + k ≡ count_older t xs
 count_released k t m ms xs h = count_dropped k t (with_all_writes m ms xs) (low_filled k t m ms xs h) ∙ count_filled t m ms xs
 
@@ -82,18 +83,16 @@ module _ (p : Pipe) (flows : Flows p) (st : State) (d : Derived.State) (bits : L
   gone ls = all_releases m (movers (lacts p st d bits ls))
 
   -- as many as are released are pending
-  enough : (n : ℕ) (ls : List Live) → Each (Seated p st) ls → AllKnown p flows st d bits arrays ls
+  pub enough : (n : ℕ) (ls : List Live) → Each (Seated p st) ls → AllKnown p flows st d bits arrays ls
       → Ordered p ls → Falls n ls → gone ls ≤ length (new ls)
   enough n ls s k o f =
       subst (λ j. gone ls ≤ j) (ap length (sym (two_is p flows st d bits arrays m n ls s o f)) ∙ filled_length m (movers (lacts p st d bits ls)) (new ls)) (three_is p flows st d bits arrays m ls k o).enough
-
-  -- and they are older than each thread that is not past the releases and doesn't release
 
   -- a thread is not past the stage of m's releases, and doesn't move out of it in this cycle
   abbrev pub Stays : Pair → Type 0
   Stays x = (x.live.thread.stage ≤ commit_stage p m) × (x.live.thread.stage ≡ commit_stage p m → (did p d bits x.older x.live).moves ≡ false)
 
-  -- the first entry of a list whose threads are all below a number is of a thread below it
+  -- what is released is older than each thread that stays up to the releases
   pub older_released : (n : ℕ) (ls : List Live) → Each (Seated p st) ls → AllKnown p flows st d bits arrays ls
       → Ordered p ls → Falls n ls → EachPair (λ x. Stays x → LowFirst (all_releases m (movers (lacts p st d bits ls))) x.live.number (with_reserves m (movers (lacts p st d bits ls)) (pends m ls)))
       (pairs ls)

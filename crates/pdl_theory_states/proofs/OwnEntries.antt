@@ -17,7 +17,8 @@ pub record Mine (p : Pipe) (st : State) (l : Live) : Type 0 where
   pub owns : Owns st l.number local.asks l.thread.awaits
   pub listed : (m : ℕ) → entries_by l.number (lock_of st m) ≡ pend m l.number l.thread.entries
 
-by_append : (n : ℕ) (xs ys : List Pending) → entries_by n (xs ++ ys) ≡ entries_by n xs ++ entries_by n ys
+-- a thread's entries of two lists joined are those of the first and then those of the second
+pub by_append : (n : ℕ) (xs ys : List Pending) → entries_by n (xs ++ ys) ≡ entries_by n xs ++ entries_by n ys
 by_append n [] ys = refl
 by_append n (x ∷ xs) ys = at (x.thread == n) (by_append n xs ys)
   where

@@ -70,11 +70,12 @@ within_low : (a b c : ℕ) (xs : List Pending) → a ≤ b → Within b c xs →
 within_low a b c [] h w = omega arith
 within_low a b c (x ∷ xs) h w = (let i = w.0 in omega arith, w.1, w.2)
 
--- pending writes in order from a to b, and others from b to c, are together in order from a to c
+-- where pending writes are in order from a to b, a is no greater than b
 pub within_order : (a b : ℕ) (xs : List Pending) → Within a b xs → a ≤ b
 within_order a b [] w = w
 within_order a b (x ∷ xs) w = let h = w.0 in let i = w.1 in omega arith
 
+-- pending writes in order from a to b, and others from b to c, are together in order from a to c
 pub within_append : (a b c : ℕ) (xs ys : List Pending) → Within a b xs → Within b c ys → Within a c (xs ++ ys)
 within_append a b c [] ys v w = within_low a b c ys v w
 within_append a b c (x ∷ xs) ys v w = (v.0, let h = v.1 in let i = within_order b c ys w in omega arith, within_append x.thread b c xs ys v.2 w)

@@ -61,9 +61,8 @@ done_op m ph (Release n a) r h = at (n == m) r
     at false k = h
 done_op m ph _ r h = h
 
-pub
-
-never_done : (m : ℕ) (ph : Phase) (xs : List Stmt)
+-- without a release nothing is released
+pub never_done : (m : ℕ) (ph : Phase) (xs : List Stmt)
     → none_of (is_release m) xs ≡ true → is_done ph ≡ false → is_done (phase_all m ph xs) ≡ false
 never_done m ph [] r h = h
 never_done m ph (x ∷ xs) r h = never_done m (next_phase m ph x.op) xs (and_right (not (is_release m x.op)) _ r) (done_op m ph x.op (and_left _ _ r) h)

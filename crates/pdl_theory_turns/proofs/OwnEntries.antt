@@ -37,6 +37,8 @@ drop_whole (x ∷ xs) = drop_whole xs
 take_whole : {X : Type 0} → (xs : List X) → take (length xs) xs ≡ xs
 take_whole [] = refl
 take_whole (x ∷ xs) = ap (λ l. x ∷ l) (take_whole xs)
+
+-- the pending writes of a thread's entries are those of its entries of the memory
 pub pend_own : (m n : ℕ) (es : List Entry) → pend m n es ≡ pend m n (entries_of m es)
 pend_own m n [] = refl
 pend_own m n (e ∷ es) = at (e.mem == m) refl (pend_own m n es)
@@ -154,6 +156,7 @@ quiet_release m read (Verify args) d h k = at (same_args (values_of args d.env) 
     at false = k
 quiet_release m read _ d h k = k
 
+-- statements that release nothing of m release no write of it
 pub quiet_releases : (m : ℕ) (read : ℕ → ℕ → ℕ) (xs : List Stmt) (d : Deeds) → none_of (is_release m) xs ≡ true → releases_of m d.releases ≡ 0 → releases_of m (deeds_after_all read xs d).releases ≡ 0
 quiet_releases m read [] d h k = k
 quiet_releases m read (x ∷ xs) d h k = quiet_releases m read xs (if all_hold x.guards d.env then Machine.deeds_after read x.op d else d) (and_right _ _ h) (at (all_hold x.guards d.env))

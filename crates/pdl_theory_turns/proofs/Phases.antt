@@ -15,10 +15,12 @@ abbrev pub opened : List ℕ → List ℕ → List Open
 opened env [] = []
 opened env (x ∷ xs) = record { var = x; address = slice_index env x } ∷ opened env xs
 
+-- their variables are these
 pub opened_vars : (env xs : List ℕ) → open_vars (opened env xs) ≡ xs
 opened_vars env [] = refl
 opened_vars env (x ∷ xs) = ap (λ l. x ∷ l) (opened_vars env xs)
 
+-- without the oldest
 pub opened_front : (env xs : List ℕ) → but_last (opened env xs) ≡ opened env (but_last xs)
 opened_front env [] = refl
 opened_front env (x ∷ []) = refl
@@ -28,11 +30,13 @@ second_of : (b c : Bool) → (not b && c) ≡ true → c ≡ true
 second_of true c h = absurd (cc h)
 second_of false c h = h
 
+-- the oldest one has the address that its variable tells
 pub opened_last : (env xs : List ℕ) (a : ℕ) → is_oldest a xs ≡ true → last_address (opened env xs) ≡ slice_index env a
 opened_last env [] a h = absurd (cc h)
 opened_last env (x ∷ []) a h = ap (slice_index env) (eqb-true x a h)
 opened_last env (x ∷ y ∷ ys) a h = opened_last env (y ∷ ys) a (second_of (x == a) _ h)
 
+-- a variable that is the address of none of them may get another value
 pub opened_set : (env xs : List ℕ) (x v : ℕ) → is_among x xs ≡ false → opened (slice_set env x v) xs ≡ opened env xs
 opened_set env [] x v h = refl
 opened_set env (y ∷ ys) x v h =
@@ -63,6 +67,7 @@ pub tied_moved : (m : ℕ) (ph : Phase) (env : List ℕ) (es es' : List Entry) (
 tied_moved m ph env es es' cs cs' ws ws' p q r t =
     record { fulls = t.fulls; entries = p ∙ t.entries; vars = t.vars; written = r ∙ t.written ∙ ap (λ l. l ++ told m t.fulls) (sym q); calm = λ h. q ∙ t.calm h }
 
+-- what is not true is false
 pub not_false : (b : Bool) → not b ≡ true → b ≡ false
 not_false true h = absurd (cc h)
 not_false false h = refl
@@ -136,10 +141,12 @@ pub nil_of : (xs : List ℕ) → is_nil xs ≡ true → xs ≡ []
 nil_of [] h = refl
 nil_of (x ∷ xs) h = absurd (cc h)
 
+-- locations without variables are none
 pub no_fulls : (fs : List Full) → full_vars fs ≡ [] → fs ≡ []
 no_fulls [] h = refl
 no_fulls (f ∷ fs) h = absurd (cc h)
 
+-- where the phase is over, no entry is left, and the commits are the sequential writes
 pub finished : (m : ℕ) (ph : Phase) → is_over ph ≡ true → (env : List ℕ) (es : List Entry) (cs ws : List Commit) → Tied m ph env es cs ws → (es ≡ []) × (cs ≡ ws)
 finished m ph h env es cs ws t =
     let f : t.fulls ≡ [] = no_fulls t.fulls

@@ -118,5 +118,6 @@ all_rooms : (p : Pipe) (w : Work) (rs : List Reserved) → ((m : ℕ) → has_ro
 all_rooms p w [] h = refl
 all_rooms p w (r ∷ rs) h = and_from _ _ (h r.mem) (all_rooms p w rs h)
 
+-- a thread that is alone has room for what its stage reserves, where each memory has
 pub room_alone : (p : Pipe) (w : Work) → ((m : ℕ) → has_room (mem_at p m).lock (reserves_of m w.reserves) 0 ≡ true) → have_room p [] w ≡ true
 room_alone p w h = all_rooms p w w.reserves h

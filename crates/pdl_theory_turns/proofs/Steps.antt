@@ -1,5 +1,5 @@
 -- What a stage's deeds do to a thread's entries of one memory is what the derived work does at once.
-use Rattle.std.proofs.Common.{◌≡◌, refl, sym, ap, ap₂, ◌∙◌, subst, ℕ, suc, ◌+◌, Bool, true, false, ◌&&◌, ◌||◌, not, List, [], ◌∷◌, ◌++◌, Option, Some, None, ◌==◌, cond, if◌then◌else◌, arith, eq-eqb, append-nil, append_assoc, length, length-append}
+use Rattle.std.proofs.Common.{◌≡◌, ◌≤◌, refl, sym, ap, ap₂, ◌∙◌, subst, ℕ, suc, ◌+◌, Bool, true, false, ◌&&◌, ◌||◌, not, List, [], ◌∷◌, ◌++◌, Option, Some, None, ◌==◌, cond, if◌then◌else◌, arith, eq-eqb, append-nil, append_assoc, length, length-append}
 use Rattle.std.proofs.lemmas.Bool.{eqb-true, eqb-false, ne_eqb}
 use Rattle.std.proofs.lemmas.Bool.Decides.{eqb_tells}
 use Rattle.pdl_semantics.specs.Flat.{Commit, of_mem}
@@ -25,22 +25,28 @@ use Rattle.pdl_theory_turns.proofs.EntryCommits.{released}
 abbrev pub unnamed : List Pending → List Pending
 unnamed [] = []
 unnamed (e ∷ es) = record e { var = 0 } ∷ unnamed es
+
+-- commits as pending writes with their values
 abbrev pub pendings : ℕ → List Commit → List Pending
 pendings n [] = []
 pendings n (c ∷ cs) = record { thread = n; var = 0; address = c.address; value = Some c.value } ∷ pendings n cs
 
+-- of two lists joined
 pub unnamed_append : (xs ys : List Pending) → unnamed (xs ++ ys) ≡ unnamed xs ++ unnamed ys
 unnamed_append [] ys = refl
 unnamed_append (x ∷ xs) ys = ap (λ l. record x { var = 0 } ∷ l) (unnamed_append xs ys)
 
+-- of two lists of commits joined
 pub pendings_append : (n : ℕ) (xs ys : List Commit) → pendings n (xs ++ ys) ≡ pendings n xs ++ pendings n ys
 pendings_append n [] ys = refl
 pendings_append n (x ∷ xs) ys = ap (λ l. record { thread = n; var = 0; address = x.address; value = Some x.value } ∷ l) (pendings_append n xs ys)
 
+-- what joined pending writes commit
 pub released_append : (m : ℕ) (xs ys : List Pending) → released m (xs ++ ys) ≡ released m xs ++ released m ys
 released_append m [] ys = refl
 released_append m (x ∷ xs) ys = ap (λ l. record { mem = m; address = x.address; value = commit_value x.value } ∷ l) (released_append m xs ys)
 
+-- the pending writes of joined entries, the older ones first
 pub pend_append : (m n : ℕ) (es ks : List Entry) → pend m n (es ++ ks) ≡ pend m n ks ++ pend m n es
 pend_append m n [] ks = sym (append-nil _)
 pend_append m n (e ∷ es) ks = ap (λ l. l ++ (if e.mem == m then own n e ∷ [] else [])) (pend_append m n es ks) ∙ append_assoc (pend m n ks) (pend m n es) _
@@ -49,11 +55,13 @@ pend_append m n (e ∷ es) ks = ap (λ l. l ++ (if e.mem == m then own n e ∷ [
 abbrev pub is_used : Phase → ℕ → Bool
 is_used ph x = is_among x ph.full || is_among x ph.gone
 
+-- all pending writes are of used variables
 abbrev pub AllUsed : Phase → List Pending → Type 0
 AllUsed ph [] = Unit {0}
 AllUsed ph (e ∷ es) =
     (is_used ph e.var ≡ true) × AllUsed ph es
 
+-- all writes to m are of used variables
 abbrev pub WritesUsed : ℕ → Phase → List Machine.Written → Type 0
 WritesUsed m ph [] = Unit {0}
 WritesUsed m ph (w ∷ ws) = ((w.mem == m) ≡ true → is_used ph w.var ≡ true) × WritesUsed m ph ws
@@ -143,6 +151,7 @@ new_more m n (x ∷ rs) r =
     ap (λ l. (if x.mem == m then record { thread = n; var = x.var; address = x.address; value = None } ∷ [] else []) ++ l) (new_more m n rs r)
     ∙ sym (append_assoc (if x.mem == m then record { thread = n; var = x.var; address = x.address; value = None } ∷ [] else []) _ _)
 
+-- how many releases of m joined lists have
 pub releases_more : (m : ℕ) (rs ns : List ℕ) → releases_of m (rs ++ ns) ≡ releases_of m rs + releases_of m ns
 releases_more m [] ns = omega arith
 releases_more m (r ∷ rs) ns = at (r == m) (releases_more m rs ns)
@@ -205,6 +214,7 @@ pub record Staged (m n : ℕ) (ph : Phase) (es : List Entry) (cs : List Commit) 
   pub two : with_writes_of m n ws new ≡ out ++ (rest ++ pend m n (waiting m opens))
   pub outs : length out ≡ rel
   pub given : AreGiven n out
+  pub let_go : length out ≤ length ph.gone
   pub commits : cs ≡ released m out
   pub same : unnamed rest ≡ pendings n (told m fulls)
   pub exact : rel ≡ 0 → rest ≡ pend m n (known m fulls)
@@ -226,6 +236,7 @@ staged_moved m n ph es es' cs cs' new new' ws ws' rel rel' p q r s u t g =
       two = s new' ∙ ap (with_writes_of m n ws) r ∙ g.two;
       outs = g.outs ∙ sym t;
       given = g.given;
+      let_go = g.let_go;
       commits = q ∙ g.commits;
       same = g.same;
       exact = λ k. g.exact (sym t ∙ k);
@@ -267,6 +278,7 @@ step_write m n k a v ph es cs new ws rel true e h g =
           ∙ sym (append_assoc g.rest (filled ∷ []) (pend m n (waiting m (but_last g.opens)))));
       outs = g.outs;
       given = g.given;
+      let_go = g.let_go;
       commits = g.commits;
       same = unnamed_append g.rest (filled ∷ []) ∙ ap (λ l. l ++ record filled { var = 0 } ∷ []) g.same ∙ sym (pendings_append n (told m g.fulls) (write_of m (last_address g.opens) v ∷ []));
       exact = λ i. ap (λ l. l ++ filled ∷ []) (g.exact i) ∙ sym (ap (λ b. pend m n (known m g.fulls) ++ cond b (filled ∷ []) []) (eq-eqb m m refl));
@@ -338,6 +350,7 @@ step_reserve m n k a y ph es cs start rs ws rel true e h g =
           ∙ append_assoc g.out (g.rest ++ pend m n (waiting m g.opens)) (last ∷ []) ∙ ap (λ l. g.out ++ l) (append_assoc g.rest (pend m n (waiting m g.opens)) (last ∷ []) ∙ ap (λ c. g.rest ++ (pend m n (waiting m g.opens) ++ cond c (last ∷ []) [])) (sym (eq-eqb m m refl)));
       outs = g.outs;
       given = g.given;
+      let_go = g.let_go;
       commits = g.commits;
       same = g.same;
       exact = g.exact;
@@ -455,6 +468,7 @@ step_release m n k a ph es cs new ws rs held i true e h g = at (is_among a ph.fu
               at_full = let_out_vars g.fulls a ∙ ap (drop_var a) g.at_full;
               two = t ∙ sym (append_assoc g.out (x ∷ []) (xs ++ pend m n (waiting m g.opens)));
               outs = length-append g.out (x ∷ []) ∙ ap (λ l. l + 1) g.outs ∙ sym counted;
+              let_go = (let e = length-append g.out (x ∷ []) in let i = g.let_go in omega arith);
               given = given_more n r.out.value g.out x g.given (ap (λ (z : Pending). z.thread) (first u)) (ap (λ (z : Pending). z.value) (first u));
               commits =
                 of_mem_append m cs _

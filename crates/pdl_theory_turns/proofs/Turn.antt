@@ -95,6 +95,8 @@ none_from test c s (x ∷ xs) h k = at (nat_le s x.stage) refl (test x.op) refl 
 abbrev pub addresses_at : List ℕ → List ℕ → List ℕ
 addresses_at env [] = []
 addresses_at env (x ∷ xs) = slice_index env x ∷ addresses_at env xs
+
+-- the addresses of a thread's commits and of its locations without a value
 abbrev pub spots : Phase → List ℕ → List Commit → List ℕ
 spots ph env ws = places ws ++ rev (addresses_at env ph.unwritten)
 
@@ -120,6 +122,7 @@ oldest_first env (x ∷ y ∷ ys) a h = ap (λ l. l ++ slice_index env x ∷ [])
     second true k = absurd (cc k)
     second false k = k
 
+-- the addresses of joined commits
 pub places_append : (xs ys : List Commit) → places (xs ++ ys) ≡ places xs ++ places ys
 places_append [] ys = refl
 places_append (x ∷ xs) ys = ap (λ l. x.address ∷ l) (places_append xs ys)

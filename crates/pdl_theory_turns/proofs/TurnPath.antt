@@ -59,6 +59,7 @@ pub phases_second : (m : ℕ) (xs ys : List Stmt) (ph : Phase) → phases_ok m p
 phases_second m [] ys ph h = h
 phases_second m (x ∷ xs) ys ph h = phases_second m xs ys (next_phase m ph x.op) (and_right _ _ h)
 
+-- the phase after joined statements
 pub phase_append : (m : ℕ) (xs ys : List Stmt) (ph : Phase) → phase_all m ph (xs ++ ys) ≡ phase_all m (phase_all m ph xs) ys
 phase_append m [] ys ph = refl
 phase_append m (x ∷ xs) ys ph = phase_append m xs ys (next_phase m ph x.op)
