@@ -1,13 +1,13 @@
 -- From what holds of each act of a cycle to the thread in each stage, and what two layers count alike.
 use Rattle.std.proofs.Common.{◌≡◌, refl, sym, subst, ap, ap₂, ◌∙◌, ℕ, zero, suc, ◌+◌, Bool, true, false, List, [], ◌∷◌, ◌++◌, length, drop, Option, Some, None, ◌==◌, cond, if◌then◌else◌, arith, nat_lt, length-append, slice_index_or}
-use Rattle.pdl_word.specs.Words
 use Rattle.pdl_semantics.specs.Flat.{Pipe}
-use Rattle.pdl_semantics.specs.Machine.{State, Thread, Pending, Reserved, with_answers, deeds}
+use Rattle.pdl_semantics.specs.Machine.{State, Thread, Pending, Reserved, reserves_of, with_answers, deeds}
 use Rattle.pdl_semantics.specs.Moves.{Act, act, acts, all_acts}
 use Rattle.pdl_lockapi.specs.Forget as forget
 use Rattle.pdl_machine_facts.specs.Slots.{slot, with_now, here, stage_moves, slot_moves, later_acts}
 use Rattle.pdl_theory_states.specs.Use.{AllActs, reserved_count}
 use Rattle.pdl_semantics.specs.PendingLists.{AreOrdered, count_older}
+use Rattle.pdl_word.specs.Each.{Each}
 
 -- EACH STAGE
 
@@ -60,7 +60,7 @@ module _ (p : Pipe) (st : State) (bits : List Bool) (P : Act → Type 0) where
 -- pending writes that stand in the order of their threads stand in it
 pub same_order : (t : ℕ) (es : List Pending) → AreOrdered t es → AreOrdered t es
 same_order t [] h = tt
-same_order t (e ∷ es) h = (h.0, same_order (e.thread + 1) es h.1)
+same_order t (e ∷ es) h = (h.0, same_order e.thread es h.1)
 
 -- the pending writes that are older than a thread are as many on both sides
 pub same_count : (t : ℕ) (es : List Pending) → count_older t es ≡ count_older t es

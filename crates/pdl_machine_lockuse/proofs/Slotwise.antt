@@ -1,6 +1,5 @@
 -- Where a squash cuts a lock's list, stage by stage.
 use Rattle.std.proofs.Common.{◌≡◌, sym, ap, ap₂, ◌∙◌, ℕ, suc, ◌+◌, Bool, List, length, take, Some}
-use Rattle.pdl_word.specs.Words
 use Rattle.pdl_semantics.specs.Flat.{Arrays, Pipe}
 use Rattle.pdl_semantics.specs.Machine.{State, lock_of}
 use Rattle.pdl_semantics.specs.Cycle.{with_reserves, all_releases, list_three, entries_left, squasher, first, state_after}
@@ -11,7 +10,7 @@ use Rattle.pdl_theory_states.specs.Strict.{Strict}
 use Rattle.pdl_theory_states.specs.Use.{moving, with_new, with_release, ShiftsTail}
 use Rattle.pdl_machine_lockuse.specs.Use.{FindsAll, KeepsTail}
 use Rattle.pdl_machine_lockuse.specs.Cut.{IsCut}
-use Rattle.pdl_machine_lockuse.proofs.Acts.{at_slot, same_count, same_bit}
+use Rattle.pdl_machine_lockuse.proofs.Acts.{at_slot, same_count}
 use Rattle.pdl_machine_lockuse.proofs.Cuts.{tail_left}
 use Rattle.pdl_machine_lockuse.proofs.InRuns.{stages_here, all_here, kept_here, tails_here, cuts_here}
 use Rattle.pdl_semantics.specs.PendingLists.{count_older}

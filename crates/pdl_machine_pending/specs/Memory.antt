@@ -1,5 +1,5 @@
 -- Memories as they run.
-use Rattle.std.specs.Prelude.{ℕ, List, Option, Some, None, slice_set}
+use Rattle.std.specs.Prelude.{ℕ, List, [], ◌∷◌, Option, Some, None, slice_set}
 use Rattle.pdl_semantics.specs.Flat.{Lock}
 use Rattle.pdl_semantics.specs.Locks.{commit_value}
 use Rattle.pdl_semantics.specs.Machine.{Pending}
@@ -10,6 +10,11 @@ pub record Memory : Type 0 where
   pub lock : Lock
   pub pending : List Pending
   pub capacity : ℕ
+
+-- the oldest of these pending writes, where there is one
+abbrev pub oldest : List Pending → Option Pending
+oldest [] = None
+oldest (e ∷ es) = Some e
 
 -- the words after a pending write has reached them
 abbrev pub committed_to : List ℕ → Option Pending → List ℕ

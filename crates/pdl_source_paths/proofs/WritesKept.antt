@@ -9,7 +9,7 @@ use Rattle.pdl_semantics.specs.Flat
 use Rattle.pdl_semantics.specs.Flatten.{Var, var_of, mem_of}
 use Rattle.pdl_rules.specs.Places.{Place, Parameter, Memory, Statement, End, StartClause, Branch}
 use Rattle.pdl_rules.specs.Parts.{location_of}
-use Rattle.pdl_rules.specs.Locks.{same_location, Hold, Nothing, Reserved, Blocked, Released, after_block, after_place, hold_after, is_held_for, is_unreleased, is_reserve_of, is_write_of, reserves_location, writes_location, leaves_open, most_reservations, lock_size, first_reserved, is_too_early}
+use Rattle.pdl_rules.specs.Locks.{same_location, Hold, Nothing, Reserved, Blocked, Released, after_block, after_place, hold_after, is_held_for, is_unreleased, is_reserve_of, is_write_of, reserves_location, writes_location, leaves_open, most_reservations, lock_size, first_reserved, is_out_of_turn}
 use Rattle.pdl_rules.specs.Typed.{is_named, is_memory}
 use Rattle.pdl_rules.proofs.EachPlace.{Each, closing}
 use Rattle.pdl_rules.proofs.SingleWrites.{KeepsLocks, AreBacked, any_weaker, any_front, any_last, location_refl, location_sym, held_alike, writes_alike, reserves_alike, reserves_to_write, reserves_some, reserves_mem, held_if_blocked, reserved_if_blocked, written_reserved, weight, count_push, count_cons, count_none, written_once}
@@ -491,7 +491,7 @@ module _ (p : Pipe) (vs : List Var) (before : List Place) (m : List ℕ) (there 
 
           here : same_location f.at at ≡ true
           here = at_first (same_location f.at at) (list_any (writes_location f.at) before) first_unset
-              (sym (ap (λ (o : Option Location). is_too_early at before o) (ap (λ k. first_reserved k before) same ∙ f.first)) ∙ keeps.l6)
+              (sym (ap (λ (o : Option Location). is_out_of_turn at before o) (ap (λ k. first_reserved k before) same ∙ f.first)) ∙ keeps.l6)
             where
               at_first : (b c : Bool) → c ≡ false → (not b && not c) ≡ false → b ≡ true
               at_first true c h k = refl

@@ -43,13 +43,14 @@ use Rattle.pdl_theory_simulation.proofs.Choices.{Seated, Matched, OwnedBy, AllOw
 use Rattle.pdl_theory_states.proofs.OldestFirst.{told, oldest_first}
 use Rattle.pdl_theory_states.proofs.PastStatements.{AskedBy}
 use Rattle.pdl_theory_states.proofs.UnusedValues.{AllOps, AnyOp, ops_both, any_both, onto, touches}
-use Rattle.pdl_theory_states.proofs.ThreadHistory.{AnyAsk, AllKept, AllAwaited, any_of, past_of, kept_other, kept_map, count, count_is}
+use Rattle.pdl_theory_states.proofs.ThreadHistory.{AnyAsk, AllKept, AllAwaited, any_of, past_of, kept_other, kept_map}
 use Rattle.pdl_theory_states.proofs.ThreadFacts.{awaited_map, any_ask_map}
 use Rattle.pdl_theory_states.proofs.Points.{onto_any}
 use Rattle.pdl_theory_states.proofs.OwnEntries.{Mine}
 use Rattle.pdl_theory_states.proofs.TurnThreads.{right_list, turn_way, turn_env, turn_entries, turn_guess, turn_wrong}
 use Rattle.pdl_word.specs.Each.{Each}
 use Rattle.pdl_word.proofs.Each.{each_push}
+use Rattle.pdl_theory_states.proofs.FetchCounts.{count, count_is}
 
 -- these live threads as the tests of Sound state see them
 abbrev pub tells : List Live → List Sound.Live

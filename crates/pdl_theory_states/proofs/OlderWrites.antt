@@ -149,7 +149,7 @@ module _ (p : Pipe) (flows : Flows p) (st : State) (d : Derived.State) (bits : L
       -- where it releases nothing is left, else more has a value
       own : Calm (latest (threads_of ks) m a) (latest (threads_of (go_on p st d bits ks)) m a) → Calm (latest_in l.thread.entries m a (latest (threads_of ks) m a)) (latest_in (work_of_live p d bits ks l).entries m a (latest (threads_of (go_on p st d bits ks)) m a))
       own c = by_memory l.thread.stage (commit_stage p m) (Calm (latest_in l.thread.entries m a (latest (threads_of ks) m a)) (latest_in (work_of_live p d bits ks l).entries m a (latest (threads_of (go_on p st d bits ks)) m a)))
-          (λ i. calm_any _ _ (latest_own (work_of_live p d bits ks l).entries m a _
+          (λ i. calm_nothing _ _ (latest_own (work_of_live p d bits ks l).entries m a _
           ∙ ap (λ es. latest_in es m a (latest (threads_of (go_on p st d bits ks)) m a)) (late_here p flows st d bits arrays ks l k.0 m (let j = i in let u = stage_up p flows l.env l.thread k.0.seated.keeps_on (work_of_live p d bits ks l).env in omega arith))
           ∙ late_next m a l.thread.stage ks k.1 o.0 (let j = i in omega arith)))
           (λ i.
