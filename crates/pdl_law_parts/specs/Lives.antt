@@ -24,7 +24,7 @@ op_uses (Block m a) x = a == x
 op_uses (Release _ _) x = false
 op_uses (Call args) x = are_using args x
 op_uses (SpecCall args) x = are_using args x
-op_uses (Verify args) x = are_using args x
+op_uses (Verify last args) x = are_using args x
 op_uses SpecCheck x = false
 op_uses SpecBarrier x = false
 

@@ -12,7 +12,7 @@ use Rattle.pdl_theory_facts.specs.Facts.{Sound}
 use Rattle.pdl_theory_derived.proofs.Lists.{pend}
 use Rattle.pdl_theory_turns.proofs.OwnEntries.{Worked, pend_own}
 use Rattle.pdl_theory_simulation.proofs.AcceptedFacts.{sound_flows}
-use Rattle.pdl_theory_simulation.proofs.Stretches.{late}
+use Rattle.pdl_theory_simulation.proofs.Stretches.{late, left_trunk}
 use Rattle.pdl_theory_simulation.proofs.Seats.{Live, each_map, Ordered, pends, lact, lacts, did, deeds_of, work_of_live}
 use Rattle.pdl_theory_simulation.proofs.ThreadFacts.{Pair, pairs, EachPair, pair_map}
 use Rattle.pdl_theory_simulation.proofs.Choices.{AllKnown, Seated, worked_here, late_here}
@@ -108,7 +108,7 @@ module _ (p : Pipe) (sound : Sound p) (st : State) (d : Derived.State) (bits : L
       mine i j =
           let u = (used_here p sound st d bits arrays ls l k.0 m).gives j in
           let here = release_here p (sound_flows p sound) st d bits arrays ls l k.0 m j in
-          let past = each_map (λ k b. b.trunk (commit_stage p m) ((sound_flows p sound).trunk_commit m) (let h = here in omega (arith, h))) ls o.0 in
+          let past = each_map (λ k b. left_trunk p _ _ b (commit_stage p m) ((sound_flows p sound).trunk_commit m) (let h = here in omega (arith, h))) ls o.0 in
           record {
             address = u.0;
             value = u.1;

@@ -96,7 +96,7 @@ passes_on n (Block _ _) = true
 passes_on n (Release _ _) = true
 passes_on n (Call _) = true
 passes_on n (SpecCall args) = length args == n
-passes_on n (Verify args) = length args == n
+passes_on n (Verify last args) = length args == n
 passes_on n SpecCheck = true
 passes_on n SpecBarrier = true
 

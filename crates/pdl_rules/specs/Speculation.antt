@@ -1,7 +1,7 @@
--- Guesses: rules S2 to S5. V is the stage of the first `verify` in the text.
-use Rattle.std.specs.Prelude.{ℕ, Bool, true, false, not, ◌&&◌, ◌==◌, nat_lt, List, [], ◌∷◌, bytes_eq, Option}
+-- Guesses: rules S2 to S7. V is the stage of the first `verify` in the text.
+use Rattle.std.specs.Prelude.{ℕ, Bool, true, false, not, ◌&&◌, ◌||◌, ◌==◌, nat_lt, List, [], ◌∷◌, bytes_eq, Option}
 use Rattle.std.specs.List.{list_any}
-use Rattle.pdl_semantics.specs.Tree.{W, Stmt, Separator, CombRead, Bind, SpecCall, DelayedRead, Write, Reserve, Block, Release, If, Call, Verify, SpecCheck, SpecBarrier, Pipe}
+use Rattle.pdl_semantics.specs.Tree.{W, Stmt, Separator, CombRead, Bind, SpecCall, DelayedRead, Write, Reserve, Block, Release, If, Call, Verify, Update, SpecCheck, SpecBarrier, Pipe}
 use Rattle.pdl_rules.specs.Places.{Place, Guard, at_statement, on_path, paths, on_some_path, places}
 use Rattle.pdl_rules.specs.Forms.{releases, guesses, verifies, bars}
 use Rattle.pdl_rules.specs.Parts.{is_some_and}
@@ -110,3 +110,26 @@ abbrev pub breaks_s5 : Pipe → List Place → Place → Bool
 breaks_s5 p before x =
     needs_check x && is_before_verify p (stage_of before x)
     && list_any (λ path. on_path path x && not (is_checked path before (stage_of before x))) (paths p)
+
+-- S6: an `update` that on some path isn't in a later stage than its guess's `spec_call`, isn't in a stage before V, or is the path's second `update`
+abbrev pub is_update : Place → Bool
+is_update (Statement (Update _ _ _) _) = true
+is_update _ = false
+
+abbrev pub is_guess_of : List ℕ → Place → Bool
+is_guess_of guess (Statement (SpecCall _ g _) _) = bytes_eq g.name guess
+is_guess_of guess _ = false
+
+abbrev pub updates_amiss : Pipe → List Guard → List Place → Place → Bool
+updates_amiss p path before (Statement (Update _ g _) bs) =
+    list_any (λ k. not (nat_lt k (stage_in before bs))) (stages_that (λ y. on_path path y && is_guess_of g.name y) [] before)
+    || is_some_and (λ v. not (nat_lt (stage_in before bs) v)) (verify_stage p)
+    || list_any (λ y. on_path path y && is_update y) before
+updates_amiss p path before _ = false
+
+abbrev pub breaks_s6 : Pipe → List Place → Place → Bool
+breaks_s6 p before x = list_any (λ path. on_path path x && updates_amiss p path before x) (paths p)
+
+-- S7: an `update` in another stage than the first one
+abbrev pub breaks_s7 : List Place → Place → Bool
+breaks_s7 before x = is_update x && is_elsewhere is_update before (stage_of before x)

@@ -146,7 +146,7 @@ release_trunk m (Flat.Release n a) h = refl
 release_trunk m _ h = absurd (false≢true h)
 
 verify_trunk : (op : Flat.Op) → is_verify op ≡ true → trunk_only op ≡ true
-verify_trunk (Flat.Verify args) h = refl
+verify_trunk (Flat.Verify last args) h = refl
 verify_trunk _ h = absurd (false≢true h)
 
 -- GUARDS

@@ -5,7 +5,7 @@ use Rattle.pdl_semantics.specs.Stages.{is_inside, is_reserve, is_release, is_ver
 use Rattle.pdl_semantics.specs.Cycle.{merges_by}
 use Rattle.pdl_theory_derived.specs.Alone.{before}
 use Rattle.pdl_theory_facts.specs.Scans.{none_of, all_at, binds_var}
-use Rattle.pdl_theory_facts.specs.Graphs.{next_of, Graph, In, Branches}
+use Rattle.pdl_theory_facts.specs.Graphs.{next_of, Graph, Home, Branches}
 use Rattle.pdl_theory_facts.specs.Facts.{trunk_only, is_fetch_of, visits_stage, Found}
 use Rattle.pdl_semantics.specs.Sound.{stages_from, is_fetch}
 
@@ -36,7 +36,7 @@ pub record StageFacts (p : Pipe) : Type 0 where
   pub graph : Graph p
   pub branches : Branches p
   -- F1: a branch holds no reserve, release, call or statement of guesses
-  pub trunk_holds : (s : ℕ) (c : Branch) → In p c s → none_of trunk_only (in_stage s p.stmts) ≡ true
+  pub trunk_holds : (x : Branch) (c : List Branch) (s : ℕ) → Home p (x ∷ c) s → none_of trunk_only (in_stage s p.stmts) ≡ true
   -- F1: a fork whose merge is no later than the verifies' stage is wholly before it, any other is not before it
   pub merged : (v f b : ℕ) → verify_stage p.stmts ≡ Some v → is_inside p f b ≡ true → merges_by p f (Some v) ≡ true → b < v
   pub unmerged : (v f b : ℕ) → verify_stage p.stmts ≡ Some v → is_inside p f b ≡ true → merges_by p f (Some v) ≡ false → v ≤ f

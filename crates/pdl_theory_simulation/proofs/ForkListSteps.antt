@@ -27,7 +27,7 @@ verify_trunk [] h = refl
 verify_trunk (x ∷ xs) h = ap₂ (λ a b. a && b) (off x.op (and_left _ _ h)) (verify_trunk xs (and_right _ _ h))
   where
     off : (op : Op) → not (trunk_only op) ≡ true → not (is_verify op) ≡ true
-    off (Verify args) h = absurd (cc h)
+    off (Verify last args) h = absurd (cc h)
     off _ h = refl
 
 but_append : (xs : List Bool) (c : Bool) → is_nobody xs ≡ false → but_first (xs ++ c ∷ []) ≡ but_first xs ++ c ∷ []

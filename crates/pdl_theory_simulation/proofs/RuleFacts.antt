@@ -5,7 +5,8 @@ use Rattle.pdl_semantics.specs.Flat.{Pipe, Branch, Next, Ends, Goes, Forks, Op, 
 use Rattle.pdl_semantics.specs.Stages.{onpath, in_stage, stage_at, goes_to}
 use Rattle.pdl_semantics.specs.Sound.{stages_before, stages_from, is_fetch}
 use Rattle.pdl_theory_facts.specs.Scans.{none_of, binds_var}
-use Rattle.pdl_theory_simulation.proofs.FlowFacts.{Flows, FlowRules, AllOf, DefinedBy, SameBut, binds_guard, visits_stage, comes_by, on_side, next_of, stage_or, sets, is_fetch_of}
+use Rattle.pdl_theory_facts.proofs.Nested.{came_from_way, visits_same}
+use Rattle.pdl_theory_simulation.proofs.FlowFacts.{Within, Flows, FlowRules, AllOf, DefinedBy, SameBut, binds_guard, visits_stage, comes_by, on_side, next_of, stage_or, sets, is_fetch_of}
 use Rattle.pdl_theory_turns.proofs.Paths.{stage_path, none_onpath}
 
 -- LISTS
@@ -189,7 +190,7 @@ module _ (p : Pipe) (rules : FlowRules p) where
         (λ z f g. λ low. same_bools (all_hold z.guards env) (all_hold z.guards env') (λ e. agree z low (f e)) (λ e. agree z low (g e))) p.stmts
         (rules.guards_late env)
         (rules.guards_late env')),
-    branch_same (stage_at p s).branch refl,
+    visits_same p s env env' (λ x c i. fork_same x (rules.graph.fork_below x c s i).1 (stage_at p x.fork).next refl),
   )
     where
       keeps : (g : ℕ) → AllOf (λ y. binds_var g y.op ≡ true → y.stage ≡ s → ⊥) p.stmts → slice_index env g ≡ slice_index env' g
@@ -201,19 +202,15 @@ module _ (p : Pipe) (rules : FlowRules p) where
       agree z low k = taken_agree env env' z.guards (λ g i. keeps g (all_map (λ y f. λ e j. let d = (f (i y.op e)).0 in absurd (omega arith)) p.stmts k))
 
       -- the fork around it stands before it
-      fork_same : (x : Branch) → (stage_at p s).branch ≡ Some x → (n : Next) → (stage_at p x.fork).next ≡ n → on_side n x.first env ≡ on_side n x.first env'
+      fork_same : (x : Branch) → x.fork < s → (n : Next) → (stage_at p x.fork).next ≡ n → on_side n x.first env ≡ on_side n x.first env'
       fork_same x e Ends f = refl
       fork_same x e (Goes to) f = refl
       fork_same x e (Forks v a c) f =
           ap (takes_branch x.first)
           (keeps v
           (all_map
-          (λ y g. λ i j. let d = (g i).0 in let u = (rules.graph.fork_below s x e).0 in absurd (omega arith)) p.stmts
+          (λ y g. λ i j. let d = (g i).0 in absurd (omega arith)) p.stmts
           (rules.forks_late x.fork v a c f)))
-
-      branch_same : (c : Option Branch) → (stage_at p s).branch ≡ c → visits_stage p env s ≡ visits_stage p env' s
-      branch_same None e = ap (λ c. comes_by p env c) e ∙ sym (ap (λ c. comes_by p env' c) e)
-      branch_same (Some x) e = ap (λ c. comes_by p env c) e ∙ fork_same x e (stage_at p x.fork).next refl ∙ sym (ap (λ c. comes_by p env' c) e)
 
   settled_rule : (s : ℕ) (env env' : List ℕ) → s < length p.stages → visits_stage p env' s ≡ true
       → SameBut is_fetch_of (onpath env' (in_stage s p.stmts)) env env'
@@ -249,18 +246,11 @@ module _ (p : Pipe) (rules : FlowRules p) where
       fork_same f first i (Goes to) e = refl
       fork_same f first i (Forks v a c) e = ap (takes_branch first) (guard_same f v a c i e)
 
-      branch_some : (q : ℕ) (x : Branch) → (stage_at p q).branch ≡ Some x → x.fork ≤ s → visits_stage p env q ≡ visits_stage p env' q
-      branch_some q x e i = ap (λ c. comes_by p env c) e ∙ fork_same x.fork x.first i (stage_at p x.fork).next refl ∙ sym (ap (λ c. comes_by p env' c) e)
-
-      branch_none : (q : ℕ) → (stage_at p q).branch ≡ None → visits_stage p env q ≡ visits_stage p env' q
-      branch_none q e = ap (λ c. comes_by p env c) e ∙ sym (ap (λ c. comes_by p env' c) e)
+      branches_at : (q : ℕ) → ((x : Branch) (c : List Branch)→ Within p ( x ∷ c) q → x.fork ≤ s) → visits_stage p env q ≡ visits_stage p env' q
+      branches_at q low_forks = visits_same p q env env' (λ x ci. fork_same x.fork x.first (low_forks x c i) (stage_at p x.fork).next refl)
 
       branch_at : (q : ℕ) → q ≤ s → visits_stage p env q ≡ visits_stage p env' q
-      branch_at q i = by (stage_at p q).branch refl
-        where
-          by : (c : Option Branch) → (stage_at p q).branch ≡ c → visits_stage p env q ≡ visits_stage p env' q
-          by None e = branch_none q e
-          by (Some x) e = branch_some q x e (let u = (rules.graph.fork_below q x e).0 in omega arith)
+      branch_at q i = branches_at q (λ xc h.let u = (rules.graph.fork_below x c q h).1 in omega arith)
 
       next_same : (n : Next) → (stage_at p s).next ≡ n → next_of p s env ≡ next_of p s env'
       next_same Ends e = ap (λ m. stage_or (length p.stages) (goes_to m env)) e ∙ sym (ap (λ m. stage_or (length p.stages) (goes_to m env')) e)
@@ -280,23 +270,13 @@ module _ (p : Pipe) (rules : FlowRules p) where
 
       next_branch : (r : Option ℕ) → goes_to (stage_at p s).next env' ≡ r → visits_stage p env (next_of p s env') ≡ visits_stage p env' (next_of p s env')
       next_branch None e =
-          subst (λ n. visits_stage p env n ≡ visits_stage p env' n) (sym (ap (stage_or (length p.stages)) e)) (past (stage_at p (length p.stages)).branch refl)
-        where
-          past : (c : Option Branch) → (stage_at p (length p.stages)).branch ≡ c → visits_stage p env (length p.stages) ≡ visits_stage p env' (length p.stages)
-          past None i = branch_none (length p.stages) i
-          past (Some x) i =
-              branch_some (length p.stages) x i
-              (let u = (rules.graph.fork_below (length p.stages) x i).0 in let v = (rules.graph.last s env' low e).0 in omega arith)
+          subst (λ n. visits_stage p env n ≡ visits_stage p env' n) (sym (ap (stage_or (length p.stages)) e)) (branches_at (length p.stages) (λ xc i.let u = (rules.graph.fork_below x c (length p.stages) i).1 in let v = (rules.graph.last s env' low e).0 in omega arith))
       next_branch (Some q) e =
-          subst (λ n. visits_stage p env n ≡ visits_stage p env' n) (sym (ap (stage_or (length p.stages)) e)) (by (stage_at p q).branch refl)
-        where
-          by : (c : Option Branch) → (stage_at p q).branch ≡ c → visits_stage p env q ≡ visits_stage p env' q
-          by None i = branch_none q i
-          by (Some x) i = branch_some q x i (from (rules.graph.into s q x (env', e, low) i))
+          subst (λ n. visits_stage p env n ≡ visits_stage p env' n) (sym (ap (stage_or (length p.stages)) e)) (branches_at q (λ xc i.from x c (came_from_way p x c s q (rules.graph.way s q (env', e, low)) i)))
             where
-              from : ((stage_at p s).branch ≡ Some x) ⊎ ((s ≡ x.fork) × ((stage_at p s).branch ≡ None)) → x.fork ≤ s
-              from (inl j) = let u = (rules.graph.fork_below s x j).0 in omega arith
-              from (inr j) = let u = j.0 in omega arith
+              from : ( x : Branch) (c : List Branch) → (x.fork ≡ s) ⊎ Within p (x ∷ c)s → x.fork ≤ s
+              from x c (inl j) = omega arith
+              from x c (inr j) = let u = (rules.graph.fork_below x c s j).1 in omega arith
 
   -- the statements up to the next stage
   next_rule : (path : List ℕ) (s : ℕ) → s < length p.stages → visits_stage p path s ≡ true

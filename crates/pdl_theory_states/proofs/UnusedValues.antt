@@ -104,7 +104,7 @@ Done env guess (ReserveWrite m a) = Unit {0}
 Done env guess (Block m a) = Unit {0}
 Done env guess (Release m a) = Unit {0}
 Done env guess (Call args) = Unit {0}
-Done env guess (Verify args) = Unit {0}
+Done env guess (Verify last args) = Unit {0}
 Done env guess SpecCheck = Unit {0}
 Done env guess SpecBarrier = Unit {0}
 
@@ -124,7 +124,7 @@ done_agrees env env' guess (ReserveWrite m a) f h = tt
 done_agrees env env' guess (Block m a) f h = tt
 done_agrees env env' guess (Release m a) f h = tt
 done_agrees env env' guess (Call args) f h = tt
-done_agrees env env' guess (Verify args) f h = tt
+done_agrees env env' guess (Verify last args) f h = tt
 done_agrees env env' guess SpecCheck f h = tt
 done_agrees env env' guess SpecBarrier f h = tt
 
@@ -140,7 +140,7 @@ done_guess env guess guess' (ReserveWrite m a) k h = tt
 done_guess env guess guess' (Block m a) k h = tt
 done_guess env guess guess' (Release m a) k h = tt
 done_guess env guess guess' (Call args) k h = tt
-done_guess env guess guess' (Verify args) k h = tt
+done_guess env guess guess' (Verify last args) k h = tt
 done_guess env guess guess' SpecCheck k h = tt
 done_guess env guess guess' SpecBarrier k h = tt
 
@@ -156,7 +156,7 @@ mention_touch x (Block m a) h = h
 mention_touch x (Release m a) h = h
 mention_touch x (Call args) h = h
 mention_touch x (SpecCall args) h = h
-mention_touch x (Verify args) h = h
+mention_touch x (Verify last args) h = h
 mention_touch x SpecCheck h = h
 mention_touch x SpecBarrier h = h
 

@@ -21,7 +21,7 @@ use Rattle.pdl_theory_turns.proofs.Surroundings.{Surrounds, Right, in_stage_all,
 use Rattle.pdl_theory_turns.proofs.Paths.{Fixed, all_stays, stage_path, dead_none}
 use Rattle.pdl_theory_turns.proofs.Marks.{seen, strips, Later, marked}
 use Rattle.pdl_theory_turns.proofs.UndoneWrites.{marks, has_value}
-use Rattle.pdl_theory_turns.proofs.ThreadOrder.{In}
+use Rattle.pdl_theory_facts.proofs.Nested.{within_all, arrives}
 use Rattle.pdl_theory_turns.proofs.TurnFacts.{next_at, blocked_at, stage_work}
 use Rattle.pdl_theory_derived.proofs.DelayedReads.{caught, AllAsks, all_more, all_snoc}
 use Rattle.pdl_theory_turns.proofs.Looks.{look, answered_now, raw_looked, fixed_raw, before_looked, stage_looked, path_looked, run_looked}
@@ -56,9 +56,9 @@ asks_op : (P : Ask → Type 0) (o : Around) (op : Op) (w : Work)
     → ((x m a : ℕ) → op ≡ DelayedRead x m a → P (record { mem = m; var = x; address = slice_index w.env a }))
     → AllAsks P w.asks → AllAsks P (work_after o op w).asks
 asks_op P o (DelayedRead x m a) w f h = all_snoc P w.asks _ h (f x m a refl)
-asks_op P o (Verify args) w f h = at (same_args (values_of args w.env) w.guess)
+asks_op P o (Verify last args) w f h = at (same_args (values_of args w.env) w.guess)
   where
-    at : (b : Bool) → AllAsks P (cond b w (record w { child = Some (values_of args w.env); fails = true })).asks
+    at : (b : Bool) → AllAsks P (cond b w (record w { child = Some (values_of args w.env); guess = (values_of args w.env); fails = true })).asks
     at true = h
     at false = h
 asks_op P o _ w f h = h
@@ -180,18 +180,7 @@ module _ (p : Pipe) (acc : Sound p) (arrays : Arrays) (args : List ℕ) where
   pub on_next : (s : ℕ) → visits_stage p (thread (at_once p) arrays args).env s ≡ true → s < length p.stages
       → visits_stage p (thread (at_once p) arrays args).env (next_at p arrays args s) ≡ true
   on_next s on low =
-      ap (visits_stage p (thread (at_once p) arrays args).env) (path_next s) ∙ at (stage_at p (next_of p s (thread (at_once p) arrays args).env)).branch refl
-    where
-      at : (o : Option Branch) → (stage_at p (next_of p s (thread (at_once p) arrays args).env)).branch ≡ o
-          → comes_by p (thread (at_once p) arrays args).env (stage_at p (next_of p s (thread (at_once p) arrays args).env)).branch ≡ true
-      at None e = ap (comes_by p (thread (at_once p) arrays args).env) e
-      at (Some c) e = ap (comes_by p (thread (at_once p) arrays args).env) e ∙ by (acc.branches.stays_in c s (thread (at_once p) arrays args).env low e)
-        where
-          by : (s ≡ c.fork) ⊎ (In p c s × (next_of p s (thread (at_once p) arrays args).env ≡ suc s)) → goes_by p c (thread (at_once p) arrays args).env ≡ true
-          by (inl f) =
-              acc.branches.side c (thread (at_once p) arrays args).env (subst (λ n. n < length p.stages) f low)
-              (subst (λ n. In p c (next_of p n (thread (at_once p) arrays args).env)) f e)
-          by (inr f) = ap (comes_by p (thread (at_once p) arrays args).env) (sym f.0) ∙ on
+      ap (visits_stage p (thread (at_once p) arrays args).env) (path_next s) ∙ arrives p acc.branches s (thread (at_once p) arrays args).env low on
 
   -- nothing of its path stands in the stages that it passes over
   path_skips : (s : ℕ) → visits_stage p (thread (at_once p) arrays args).env s ≡ true → s < length p.stages
@@ -352,7 +341,7 @@ module _ (p : Pipe) (acc : Sound p) (arrays : Arrays) (args : List ℕ) where
       at false e true f =
           absurd
           (jumped
-          (acc.graph.jump s (stage_work p arrays args s).env (commit_stage p m) low (acc.graph.trunk_commit m) (ltb-false _ _ e) (below (ltb-true _ _ f)))
+          (acc.graph.jump [] s (stage_work p arrays args s).env (commit_stage p m) low (within_all p s) (acc.graph.trunk_commit m) (ltb-false _ _ e) (below (ltb-true _ _ f)))
           (ltb-true _ _ f))
         where
           below : commit_stage p m < next_at p arrays args s → commit_stage p m ≤ next_at p arrays args s

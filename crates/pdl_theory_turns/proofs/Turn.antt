@@ -25,9 +25,9 @@ quiet_op m o (Release n a) w h =
   where
     apart : n ≢ m
     apart e = grind (arith, eqb_tells)
-quiet_op m o (Verify args) w h = at (same_args (values_of args w.env) w.guess)
+quiet_op m o (Verify last args) w h = at (same_args (values_of args w.env) w.guess)
   where
-    at : (b : Bool) → of_mem m (cond b w (record w { child = Some (values_of args w.env); fails = true })).commits ≡ of_mem m w.commits
+    at : (b : Bool) → of_mem m (cond b w (record w { child = Some (values_of args w.env); guess = (values_of args w.env); fails = true })).commits ≡ of_mem m w.commits
     at true = refl
     at false = refl
 quiet_op m o _ w h = refl
@@ -161,11 +161,11 @@ spots_op arrays m ph (Release n a) w r h ok rel = at (n == m) refl
         (of_mem_append m w.commits _
         ∙ ap (λ l. of_mem m w.commits ++ l) (released_other w.entries m n a (eqb-false n m f))
         ∙ append-nil (of_mem m w.commits))
-spots_op arrays m ph (Verify args) w r h ok rel = at (same_args (values_of args w.env) w.guess)
+spots_op arrays m ph (Verify last args) w r h ok rel = at (same_args (values_of args w.env) w.guess)
   where
     at : (b : Bool)
-        → spots (entries_of m (cond b w (record w { child = Some (values_of args w.env); fails = true })).entries)
-        (of_mem m (cond b w (record w { child = Some (values_of args w.env); fails = true })).commits)
+        → spots (entries_of m (cond b w (record w { child = Some (values_of args w.env); guess = (values_of args w.env); fails = true })).entries)
+        (of_mem m (cond b w (record w { child = Some (values_of args w.env); guess = (values_of args w.env); fails = true })).commits)
         ≡ spots (entries_of m w.entries) (of_mem m w.commits)
     at true = refl
     at false = refl

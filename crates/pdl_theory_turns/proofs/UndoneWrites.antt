@@ -1,7 +1,7 @@
 -- A turn's undone writes with what is known of them, by stages.
 use Rattle.std.proofs.Common.{◌≡◌, ◌≢◌, refl, sym, ap, ap₂, ◌∙◌, subst, ℕ, suc, ◌≤◌, ◌<◌, Bool, true, false, ◌&&◌, ◌||◌, not, List, [], ◌∷◌, ◌++◌, length, Some, None, is_some, ◌==◌, nat_lt, cond, if◌then◌else◌, arith, eq-eqb, slice_index, append-nil}
 use Rattle.std.proofs.Common.{ltb-true, ltb-false, lt-ltb}
-use Rattle.pdl_semantics.specs.Flat.{Arrays, Op, Write, ReserveWrite, Release, Stmt, Pipe, value_of, all_hold, Commit, of_mem}
+use Rattle.pdl_semantics.specs.Flat.{Arrays, Op, Verify, Write, ReserveWrite, Release, Stmt, Pipe, value_of, all_hold, Commit, of_mem}
 use Rattle.pdl_semantics.specs.Stages.{in_stage, mem_at, commit_stage, reserve_stage}
 use Rattle.pdl_semantics.specs.Locks.{Latest, Coming, Known}
 use Rattle.pdl_semantics.specs.Sequential.{Run, run_after, run_all, thread}
@@ -70,6 +70,8 @@ settled_op m ph (Release n a) r h k = at (n == m)
     at : (b : Bool) → Settled m (cond b (after_release ph a) ph) r r
     at true = (settled_release ph a k, refl)
     at false = (k, refl)
+settled_op m ph (Verify true args) r h k = (k, refl)
+settled_op m ph (Verify false args) r h k = (k, refl)
 settled_op m ph _ r h k = (k, refl)
 
 -- after a write of m that is made, statements that use m's write in order write nothing more to m
