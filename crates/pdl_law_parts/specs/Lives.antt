@@ -59,7 +59,7 @@ asks_held (Block n b) m a = (n == m) && (b == a)
 asks_held (Release n b) m a = (n == m) && (b == a)
 asks_held (Call _) m a = false
 asks_held (SpecCall _) m a = false
-asks_held (Verify _) m a = false
+asks_held (Verify _ _) m a = false
 asks_held SpecCheck m a = false
 asks_held SpecBarrier m a = false
 

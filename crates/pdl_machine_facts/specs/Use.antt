@@ -40,7 +40,7 @@ in_time p k (Block m a) = nat_le k (commit_stage p m)
 in_time p k (Release _ _) = true
 in_time p k (Call _) = true
 in_time p k (SpecCall _) = true
-in_time p k (Verify _) = true
+in_time p k (Verify _ _) = true
 in_time p k SpecCheck = true
 in_time p k SpecBarrier = true
 

@@ -18,6 +18,7 @@ calls (Release _ _) = false
 calls (If _ _ _ _) = false
 calls (Call _ _) = true
 calls (Verify _ _ _) = false
+calls (Update _ _ _) = false
 calls (SpecCheck _) = false
 calls (SpecBarrier _) = false
 
@@ -39,6 +40,7 @@ calls_again earlier (Release _ _) = false
 calls_again earlier (If _ _ _ _) = false
 calls_again earlier (Call _ _) = list_any is_call earlier
 calls_again earlier (Verify _ _ _) = false
+calls_again earlier (Update _ _ _) = false
 calls_again earlier (SpecCheck _) = false
 calls_again earlier (SpecBarrier _) = false
 

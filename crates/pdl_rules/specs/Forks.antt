@@ -94,6 +94,7 @@ is_wrong_read ms (Release _ _) = false
 is_wrong_read ms (If _ _ _ _) = false
 is_wrong_read ms (Call _ _) = false
 is_wrong_read ms (Verify _ _ _) = false
+is_wrong_read ms (Update _ _ _) = false
 is_wrong_read ms (SpecCheck _) = false
 is_wrong_read ms (SpecBarrier _) = false
 

@@ -25,6 +25,7 @@ lacks_lock ms (Release _ at) = not (is_locked ms at.mem.name)
 lacks_lock ms (If _ _ _ _) = false
 lacks_lock ms (Call _ _) = false
 lacks_lock ms (Verify _ _ _) = false
+lacks_lock ms (Update _ _ _) = false
 lacks_lock ms (SpecCheck _) = false
 lacks_lock ms (SpecBarrier _) = false
 
@@ -73,6 +74,7 @@ after_statement at h (Release _ l) = if same_location l at then Released else h
 after_statement at h (If _ _ _ _) = h
 after_statement at h (Call _ _) = h
 after_statement at h (Verify _ _ _) = h
+after_statement at h (Update _ _ _) = h
 after_statement at h (SpecCheck _) = h
 after_statement at h (SpecBarrier _) = h
 
@@ -126,6 +128,7 @@ acts_unheld ms earlier (Release _ at) = not (is_blocked (hold_after at earlier))
 acts_unheld ms earlier (If _ _ _ _) = false
 acts_unheld ms earlier (Call _ _) = false
 acts_unheld ms earlier (Verify _ _ _) = false
+acts_unheld ms earlier (Update _ _ _) = false
 acts_unheld ms earlier (SpecCheck _) = false
 acts_unheld ms earlier (SpecBarrier _) = false
 
@@ -162,6 +165,7 @@ reads_late earlier (Release _ _) = false
 reads_late earlier (If _ _ _ _) = false
 reads_late earlier (Call _ _) = false
 reads_late earlier (Verify _ _ _) = false
+reads_late earlier (Update _ _ _) = false
 reads_late earlier (SpecCheck _) = false
 reads_late earlier (SpecBarrier _) = false
 

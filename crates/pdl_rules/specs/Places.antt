@@ -77,6 +77,7 @@ abbrev mutual
       ++ statements (bs ++ record { guard = guard_of s c; truth = false; inside = otherwise } ∷ []) otherwise)
   with_inner bs (Call s args) = Statement (Call s args) bs ∷ []
   with_inner bs (Verify s g args) = Statement (Verify s g args) bs ∷ []
+  with_inner bs (Update s g args) = Statement (Update s g args) bs ∷ []
   with_inner bs (SpecCheck s) = Statement (SpecCheck s) bs ∷ []
   with_inner bs (SpecBarrier s) = Statement (SpecBarrier s) bs ∷ []
 

@@ -132,6 +132,7 @@ is_straight (Release _ _) = true
 is_straight (If _ _ _ _) = false
 is_straight (Call _ _) = true
 is_straight (Verify _ _ _) = false
+is_straight (Update _ _ _) = false
 is_straight (SpecCheck _) = false
 is_straight (SpecBarrier _) = false
 

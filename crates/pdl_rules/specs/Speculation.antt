@@ -73,6 +73,7 @@ acts_unsure (Release _ _) = false
 acts_unsure (If _ _ _ _) = false
 acts_unsure (Call _ _) = false
 acts_unsure (Verify _ _ _) = false
+acts_unsure (Update _ _ _) = false
 acts_unsure (SpecCheck _) = false
 acts_unsure (SpecBarrier _) = false
 
@@ -94,6 +95,7 @@ checks (Release _ _) = false
 checks (If _ _ _ _) = false
 checks (Call _ _) = false
 checks (Verify _ _ _) = false
+checks (Update _ _ _) = false
 checks (SpecCheck _) = true
 checks (SpecBarrier _) = true
 

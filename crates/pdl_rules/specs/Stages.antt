@@ -79,6 +79,7 @@ moves_stage before k (Release _ at) = is_elsewhere (releases_memory at.mem.name)
 moves_stage before k (If _ _ _ _) = false
 moves_stage before k (Call _ _) = false
 moves_stage before k (Verify _ _ _) = false
+moves_stage before k (Update _ _ _) = false
 moves_stage before k (SpecCheck _) = false
 moves_stage before k (SpecBarrier _) = false
 
@@ -110,6 +111,7 @@ binds_late p k l (Release _ _) = false
 binds_late p k l (If _ _ _ _) = false
 binds_late p k l (Call _ _) = false
 binds_late p k l (Verify _ _ _) = false
+binds_late p k l (Update _ _ _) = false
 binds_late p k l (SpecCheck _) = false
 binds_late p k l (SpecBarrier _) = false
 

@@ -29,6 +29,7 @@ after_statement ms vs (Release _ _) = vs
 after_statement ms vs (If _ _ _ _) = vs
 after_statement ms vs (Call _ _) = vs
 after_statement ms vs (Verify _ _ _) = vs
+after_statement ms vs (Update _ _ _) = vs
 after_statement ms vs (SpecCheck _) = vs
 after_statement ms vs (SpecBarrier _) = vs
 

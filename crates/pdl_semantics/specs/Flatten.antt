@@ -137,6 +137,7 @@ abbrev mutual
   past ms (Release _ at) at' = at'
   past ms (Call _ args) at' = at'
   past ms (Verify _ guess args) at' = at'
+  past ms (Update _ guess args) at' = at'
   past ms (SpecCheck _) at' = at'
   past ms (SpecBarrier _) at' = at'
 
@@ -216,6 +217,7 @@ abbrev mutual
   separators_in (Release _ at) = 0
   separators_in (Call _ args) = 0
   separators_in (Verify _ guess args) = 0
+  separators_in (Update _ guess args) = 0
   separators_in (SpecCheck _) = 0
   separators_in (SpecBarrier _) = 0
 
@@ -242,7 +244,7 @@ with_merge f (x ∷ xs) = record x { merges = Some f } ∷ xs
 
 -- a branch of fork f, the first one or the second
 abbrev pub side : ℕ → Bool → Flat.Branch
-side f first =record { fork = f; first = first }
+side f first = record { fork = f; first = first }
 
 -- a new stage before the rest of the graph
 abbrev pub graph_with_stage : List Flat.Branch → Position → Graph → Graph
@@ -271,17 +273,18 @@ abbrev mutual
       (graph ms (side at'.stage false ∷ branches) merge otherwise (at_otherwise ms c when at'))
       rest)
   graph_before ms branches (CombRead _ x from) at' rest = rest
-  graph_before ms branch (Bind _ x e) at' rest = rest
-  graph_before ms branch (SpecCall _ guess args) at' rest = rest
-  graph_before ms branch (DelayedRead _ x from) at' rest = rest
-  graph_before ms branch (Write _ to e) at' rest = rest
-  graph_before ms branch (Reserve _ at kind) at' rest = rest
-  graph_before ms branch (Block _ at) at' rest = rest
-  graph_before ms branch (Release _ at) at' rest = rest
-  graph_before ms branch (Call _ args) at' rest = rest
-  graph_before ms branch (Verify _ guess args) at' rest = rest
-  graph_before ms branch (SpecCheck _) at' rest = rest
-  graph_before ms branch (SpecBarrier _) at' rest = rest
+  graph_before ms branches (Bind _ x e) at' rest = rest
+  graph_before ms branches (SpecCall _ guess args) at' rest = rest
+  graph_before ms branches (DelayedRead _ x from) at' rest = rest
+  graph_before ms branches (Write _ to e) at' rest = rest
+  graph_before ms branches (Reserve _ at kind) at' rest = rest
+  graph_before ms branches (Block _ at) at' rest = rest
+  graph_before ms branches (Release _ at) at' rest = rest
+  graph_before ms branches (Call _ args) at' rest = rest
+  graph_before ms branches (Verify _ guess args) at' rest = rest
+  graph_before ms branches (Update _ guess args) at' rest = rest
+  graph_before ms branches (SpecCheck _) at' rest = rest
+  graph_before ms branches (SpecBarrier _) at' rest = rest
 
   -- the graph of some statements, one after another
   pub graph : List Mem → List Flat.Branch → Flat.Next → Stmts → Position → Graph

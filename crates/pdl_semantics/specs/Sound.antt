@@ -427,20 +427,10 @@ abbrev pub comes_to : Pipe → List ℕ → ℕ → ℕ → ℕ → Bool
 comes_to p path q zero s = false
 comes_to p path q (suc limit) s = (s == q) || one_of (comes_to p path q limit) (goes_to (stage_at p s).next path)
 
--- what a binding or a call on a guess says is so in the thread's values; any other statement passes
+-- what a binding says is so in the thread's values; any other statement passes
 abbrev pub is_done : State → Live → Op → Bool
 is_done st l (Bind x e) = slice_index l.thread.env x == value_of e l.thread.env
-is_done st l _ = true
-
--- the present guess is that of the last statement that gave one
-abbrev pub guess_after : Op → List ℕ → List ℕ → List ℕ
-guess_after (SpecCall args) env guess =values_of args env
-guess_after (Verify last args) env guess = values_of args env
-guess_after _ env guess = guess
-
-abbrev pub guess_of : List Stmt → List ℕ → List ℕ → List ℕ
-guess_of [] env guess = guess
-guess_of (x ∷ xs) env guess = guess_of xs env (guess_after x.op env guess)
+is_done st l (CombRead x m a) = true
 is_done st l (DelayedRead x m a) = true
 is_done st l (Write m a e) = true
 is_done st l (ReserveRead m a) = true
@@ -448,9 +438,31 @@ is_done st l (ReserveWrite m a) = true
 is_done st l (Block m a) = true
 is_done st l (Release m a) = true
 is_done st l (Call args) = true
+is_done st l (SpecCall args) = true
 is_done st l (Verify last args) = true
 is_done st l SpecCheck = true
 is_done st l SpecBarrier = true
+
+-- the present guess is that of the last statement that gave one
+abbrev pub guess_after : Op → List ℕ → List ℕ → List ℕ
+guess_after (SpecCall args) env guess = values_of args env
+guess_after (Verify last args) env guess = values_of args env
+guess_after (Bind x e) env guess = guess
+guess_after (CombRead x m a) env guess = guess
+guess_after (DelayedRead x m a) env guess = guess
+guess_after (Write m a e) env guess = guess
+guess_after (ReserveRead m a) env guess = guess
+guess_after (ReserveWrite m a) env guess = guess
+guess_after (Block m a) env guess = guess
+guess_after (Release m a) env guess = guess
+guess_after (Call args) env guess = guess
+guess_after SpecCheck env guess = guess
+guess_after SpecBarrier env guess = guess
+
+-- the present guess after these statements
+abbrev pub guess_of : List Stmt → List ℕ → List ℕ → List ℕ
+guess_of [] env guess = guess
+guess_of (x ∷ xs) env guess = guess_of xs env (guess_after x.op env guess)
 
 -- the memory of a location that a thread holds has a pending write of the thread at its address
 abbrev pub right_place : State → Live → HeldLocation → Bool

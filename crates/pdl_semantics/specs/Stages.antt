@@ -40,13 +40,11 @@ goes_to Ends env = None
 goes_to (Goes to) env = Some to
 goes_to (Forks x first second) env = Some (if slice_index env x == 1 then first else second)
 
--- whether a stage stands in a branch of this fork, perhaps in a fork
-inside it; and in which: of these branches those of the fork, at most one
-
--- whether stage s of the pipe stands in a branch of fork f
+-- whether stage s of the pipe stands in a branch of fork f, perhaps in a fork inside it
 abbrev pub is_inside : Pipe → ℕ → ℕ → Bool
 is_inside p f s = list_any (λ b. b.fork == f) (stage_at p s).branches
 
+-- of these branches those of fork f, at most one: whether it is the first one
 abbrev pub sides_of : ℕ → List Branch → List Bool
 sides_of f [] = []
 sides_of f (b ∷ bs) = (if b.fork == f then b.first ∷ [] else []) ++ sides_of f bs

@@ -21,7 +21,7 @@ FoundIf p fetch s (Block _ _) = Unit {0}
 FoundIf p fetch s (Release _ _) = Unit {0}
 FoundIf p fetch s (Call _) = Unit {0}
 FoundIf p fetch s (SpecCall _) = Unit {0}
-FoundIf p fetch s (Verify _) = Unit {0}
+FoundIf p fetch s (Verify _ _) = Unit {0}
 FoundIf p fetch s SpecCheck = Unit {0}
 FoundIf p fetch s SpecBarrier = Unit {0}
 
