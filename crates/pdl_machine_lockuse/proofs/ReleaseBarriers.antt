@@ -143,7 +143,7 @@ module _ (p : Pipe) (sound : Sound p) (st : State) (d : Derived.State) (bits : L
 
       at : (c : List Branch) → (stage_at p l.thread.stage).branches ≡ c → Each (λ j. v < j.thread.stage) older
       at [] i = each older (each_map (λ j g. left_trunk p _ _ g l.thread.stage i (le_refl l.thread.stage)) older behind) clear
-      at ( x ∷ c) i =
+      at (x ∷ c) i =
           absurd (not_barred (in_stage l.thread.stage p.stmts) (work_of_live p d bits older l).env ((sound_flows p sound).branches x c l.thread.stage i) b)
 
   -- so who releases before V has only older threads that stand after V

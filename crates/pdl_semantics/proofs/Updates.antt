@@ -52,8 +52,7 @@ more_from p m zero b arrays args = subst (λ n. IsPrefix [] (of_mem m (writes_fr
 more_from p m (suc a) b arrays args =
     let r = thread p arrays args in
     let k = more_from p m a b r.arrays r.next in
-    subst (λ n. IsPrefix (of_mem m (writes_from p (suc a) arrays args)) (of_mem m (writes_from p n arrays args))) (let e : suc (a + b) ≡ suc a + b = omega arith in e)
-    (
+    subst (λ n. IsPrefix (of_mem m (writes_from p (suc a) arrays args)) (of_mem m (writes_from p n arrays args))) (let e : suc (a + b) ≡ suc a + b = omega arith in e) (
       k.0,
       ap (λ l. l ++ k.0) (of_both m r.writes (writes_from p a r.arrays r.next)) ∙ append_assoc (of_mem m r.writes) _ k.0 ∙ ap (λ l. of_mem m r.writes ++ l) k.1
           ∙ sym (of_both m r.writes (writes_from p (a + b) r.arrays r.next)),

@@ -233,6 +233,7 @@ turn_so_far p f =
 -- the branches that two stages stand in are the two of one fork
 abbrev pub other_branch : Branch → Branch → Bool
 other_branch a b = (a.fork == b.fork) && (if a.first then not b.first else b.first)
+
 abbrev pub are_apart : List Branch → List Branch → Bool
 are_apart older younger = list_any (λ a. list_any (other_branch a) younger) older
 

@@ -165,7 +165,7 @@ at_once p = record p { stmts = looked_all p.stmts }
 -- whether a path comes to a stage: at each fork around it it takes this branch
 abbrev pub comes_by : Pipe → List ℕ → List Branch → Bool
 comes_by p path [] = true
-comes_by p path ( c ∷ cs) = goes_by p c path && comes_by p path cs
+comes_by p path (c ∷ cs) = goes_by p c path && comes_by p path cs
 
 -- whether a path comes to stage s, by the branches that this stands in
 abbrev pub visits_stage : Pipe → List ℕ → ℕ → Bool

@@ -23,8 +23,6 @@ nexts_of k (Forks x a b) = a ∷ b ∷ []
 abbrev pub nexts : Pipe → ℕ → List ℕ
 nexts p s = nexts_of (length p.stages) (stage_at p s).next
 
--- whether stage s stands in no branch
-abbrev pub
 -- whether two branches are the same
 abbrev pub same_branch : Branch → Branch → Bool
 same_branch b c = (b.fork == c.fork) && (if b.first then c.first else not c.first)
@@ -45,6 +43,7 @@ has_outer (b ∷ bs) c = same_branches (b ∷ bs) c || has_outer bs c
 abbrev pub is_within : Pipe → List Branch → ℕ → Bool
 is_within p c s = has_outer (stage_at p s).branches c
 
+-- whether stage s stands in no branch
 abbrev pub is_trunk : Pipe → ℕ → Bool
 is_trunk p s = is_home p [] s
 
@@ -75,10 +74,11 @@ is_in_merge p (Some f) b = is_inside p f b
 -- a way stays in its branches, enters one more from its fork in its first stage, or leaves the innermost one into the merge
 abbrev pub stays : Pipe → ℕ → ℕ → Bool
 stays p s n = same_branches (stage_at p n).branches (stage_at p s).branches
+
 abbrev pub is_entered : Pipe → ℕ → ℕ → List Branch → Bool
 is_entered p s n [] = false
 is_entered p s n (x ∷ c) =
-    same_branches c (stage_at ps).branches
+    same_branches c (stage_at p s).branches
     && ((x.fork == s) && all_below (λ r. not (is_within p (x ∷ c) r) || nat_le n r) (length p.stages))
 
 abbrev pub merges_it : Option ℕ → ℕ → Bool
@@ -90,23 +90,22 @@ is_left p n [] = false
 is_left p n (x ∷ c) = same_branches c (stage_at p n).branches && merges_it (stage_at p n).merges x.fork
 
 abbrev pub is_way : Pipe → ℕ → ℕ → Bool
-is_way p s n = stays p s n
-    || (is_entered p s n (stage_at p n).branches || is_left p n (stage_at p s).branches)
+is_way p s n = stays p s n || (is_entered p s n (stage_at p n).branches || is_left p n (stage_at p s).branches)
 
 -- n may come after stage s: no trunk stage lies between, and the branch or the merge in n is rightly entered
 abbrev pub next_passes : Pipe → ℕ → ℕ → Bool
 next_passes p s n =
     nat_lt s n
     && (nat_le n (length p.stages)
-    && (all_outer (λ c.all_below (λ r. not (is_home p c r) || not (nat_lt s r && nat_lt r n)) (length p.stages)) (stage_at p s).branches
+    && (all_outer (λ c. all_below (λ r. not (is_home p c r) || not (nat_lt s r && nat_lt r n)) (length p.stages)) (stage_at p s).branches
     && ((not (n == length p.stages) || (is_trunk p s && (suc s == length p.stages)))
-    && ( all_below (λ b. not (is_within p (stage_at p n).branches b) || ( is_passed p (stage_at p n).branches s b || is_in_merge p (stage_at p n).merges b)) n
+    && (all_below (λ b. not (is_within p (stage_at p n).branches b) || (is_passed p (stage_at p n).branches s b || is_in_merge p (stage_at p n).merges b)) n
     && is_way p s n))))
 
 -- a branch's fork stands before it, in the branches around it
 abbrev pub branch_passes : Pipe → ℕ → List Branch → Bool
 branch_passes p s [] = true
-branch_passes p s (x ∷ c) = is_home p c x.fork && ( nat_lt x.fork s && branch_passes p s c)
+branch_passes p s (x ∷ c) = is_home p c x.fork && (nat_lt x.fork s && branch_passes p s c)
 
 -- a way stages_from a fork leads into a branch of its own side
 abbrev pub side_is : ℕ → Bool → List Branch → Bool
@@ -153,7 +152,7 @@ merge_sound p s (Some f) n = ((s == f) && stays p s n) || is_last_of p s f n (st
 -- each branch is wholly before a trunk stage v, or its fork is not before v
 abbrev pub branch_whole : Pipe → ℕ → ℕ → List Branch → Bool
 branch_whole p v b [] = true
-branch_whole p v b (x ∷ c) = ( if merges_by p x.fork (Some v) then nat_lt b v else nat_le v x.fork) && branch_whole p v b c
+branch_whole p v b (x ∷ c) = (if merges_by p x.fork (Some v) then nat_lt b v else nat_le v x.fork) && branch_whole p v b c
 
 -- each branch is wholly before the verifies' stage, or its fork is not before it, where there is one
 abbrev pub forks_whole : Pipe → ℕ → Bool
@@ -231,7 +230,7 @@ tests p =
     ∷ all_below (λ s. is_unseen (in_stage s p.stmts)) (length p.stages)
     ∷ all_below (λ s. fetch_apart (in_stage s p.stmts)) (length p.stages)
     ∷ all_below (λ s. list_all (λ n. merge_sound p s (stage_at p n).merges n) (nexts p s)) (length p.stages)
-    ∷ all_below ( forks_whole p) (length p.stages)
+    ∷ all_below (forks_whole p) (length p.stages)
     ∷ verifies_at p (verify_stage p.stmts)
     ∷ list_all (λ z. is_dead z.guards || late_for z p.stmts) p.stmts
     ∷ all_below (λ s. not (suc s == length p.stages) || none_of is_fetch (in_stage s p.stmts)) (length p.stages)

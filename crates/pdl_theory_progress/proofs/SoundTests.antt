@@ -86,9 +86,9 @@ module _ (p : Pipe) (h : passes_tests p ≡ true) where
 
   after_up : (s : ℕ) (env : List ℕ) → s < length p.stages
       → (nat_le (next_of p s env) (length p.stages)
-      && (all_outer (λ c.all_below (λ r. not (is_home p c r) || not (nat_lt s r && nat_lt r (next_of p s env))) (length p.stages)) (stage_at p s).branches
+      && (all_outer (λ c. all_below (λ r. not (is_home p c r) || not (nat_lt s r && nat_lt r (next_of p s env))) (length p.stages)) (stage_at p s).branches
       && ((not (next_of p s env == length p.stages) || (is_trunk p s && (suc s == length p.stages)))
-      && ( all_below (λ b. not (is_within p (stage_at p (next_of p s env)).branches b) || ( is_passed p (stage_at p (next_of p s env)).branches s b || is_in_merge p (stage_at p (next_of p s env)).merges b)) (next_of p s env)
+      && (all_below (λ b. not (is_within p (stage_at p (next_of p s env)).branches b) || (is_passed p (stage_at p (next_of p s env)).branches s b || is_in_merge p (stage_at p (next_of p s env)).merges b)) (next_of p s env)
       && is_way p s (next_of p s env))))) ≡ true
   after_up s env low = and_right (nat_lt s (next_of p s env)) _ (next_ok s env low)
 
@@ -96,9 +96,9 @@ module _ (p : Pipe) (h : passes_tests p ≡ true) where
   inside s env low = leb-true _ _ (and_left (nat_le (next_of p s env) (length p.stages)) _ (after_up s env low))
 
   after_inside : (s : ℕ) (env : List ℕ) → s < length p.stages
-      → (all_outer (λ c.all_below (λ r. not (is_home p c r) || not (nat_lt s r && nat_lt r (next_of p s env))) (length p.stages)) (stage_at p s).branches
+      → (all_outer (λ c. all_below (λ r. not (is_home p c r) || not (nat_lt s r && nat_lt r (next_of p s env))) (length p.stages)) (stage_at p s).branches
       && ((not (next_of p s env == length p.stages) || (is_trunk p s && (suc s == length p.stages)))
-      && ( all_below (λ b. not (is_within p (stage_at p (next_of p s env)).branches b) || ( is_passed p (stage_at p (next_of p s env)).branches s b || is_in_merge p (stage_at p (next_of p s env)).merges b)) (next_of p s env)
+      && (all_below (λ b. not (is_within p (stage_at p (next_of p s env)).branches b) || (is_passed p (stage_at p (next_of p s env)).branches s b || is_in_merge p (stage_at p (next_of p s env)).merges b)) (next_of p s env)
       && is_way p s (next_of p s env)))) ≡ true
   after_inside s env low = and_right (nat_le (next_of p s env) (length p.stages)) _ (after_up s env low)
 
@@ -115,9 +115,9 @@ module _ (p : Pipe) (h : passes_tests p ≡ true) where
 
   after_jump : (s : ℕ) (env : List ℕ) → s < length p.stages
       → ((not (next_of p s env == length p.stages) || (is_trunk p s && (suc s == length p.stages)))
-      && ( all_below (λ b. not (is_within p (stage_at p (next_of p s env)).branches b) || ( is_passed p (stage_at p (next_of p s env)).branches s b || is_in_merge p (stage_at p (next_of p s env)).merges b)) (next_of p s env)
+      && (all_below (λ b. not (is_within p (stage_at p (next_of p s env)).branches b) || (is_passed p (stage_at p (next_of p s env)).branches s b || is_in_merge p (stage_at p (next_of p s env)).merges b)) (next_of p s env)
       && is_way p s (next_of p s env))) ≡ true
-  after_jump s env low = and_right (all_outer (λ c.all_below (λ r. not (is_home p c r) || not (nat_lt s r && nat_lt r (next_of p s env))) (length p.stages)) (stage_at p s).branches) _ (after_inside s env low)
+  after_jump s env low = and_right (all_outer (λ c. all_below (λ r. not (is_home p c r) || not (nat_lt s r && nat_lt r (next_of p s env))) (length p.stages)) (stage_at p s).branches) _ (after_inside s env low)
 
   last : (s : ℕ) (env : List ℕ) → s < length p.stages → next_of p s env ≡ length p.stages → Trunk p s × (suc s ≡ length p.stages)
   last s env low e =
@@ -125,7 +125,7 @@ module _ (p : Pipe) (h : passes_tests p ≡ true) where
       (trunk_is p s (and_left (is_trunk p s) _ k), eqb-true _ _ (and_right (is_trunk p s) _ k))
 
   after_last : (s : ℕ) (env : List ℕ) → s < length p.stages
-      → ( all_below (λ b. not (is_within p (stage_at p (next_of p s env)).branches b) || ( is_passed p (stage_at p (next_of p s env)).branches s b || is_in_merge p (stage_at p (next_of p s env)).merges b)) (next_of p s env)
+      → (all_below (λ b. not (is_within p (stage_at p (next_of p s env)).branches b) || (is_passed p (stage_at p (next_of p s env)).branches s b || is_in_merge p (stage_at p (next_of p s env)).merges b)) (next_of p s env)
       && is_way p s (next_of p s env)) ≡ true
   after_last s env low = and_right (not (next_of p s env == length p.stages) || (is_trunk p s && (suc s == length p.stages))) _ (after_jump s env low)
 
@@ -133,10 +133,14 @@ module _ (p : Pipe) (h : passes_tests p ≡ true) where
       → next_of p s env < length p.stages → Below p c b s → Within p c b → b < next_of p s env
       → (f : ℕ) × ((stage_at p (next_of p s env)).merges ≡ Some f) × (is_inside p f b ≡ true)
   between c s env b low here t i bel there j =
-      let k = where_true (is_within p (stage_at p (next_of p s env)).branches b) _ (below_at (λ b. not (is_within p (stage_at p (next_of p s env)).branches b) || ( is_passed p (stage_at p (next_of p s env)).branches s b || is_in_merge p (stage_at p (next_of p s env)).merges b)) (next_of p s env) b
+      let k = where_true (is_within p (stage_at p (next_of p s env)).branches b) _ (below_at (λ b. not (is_within p (stage_at p (next_of p s env)).branches b) || (is_passed p (stage_at p (next_of p s env)).branches s b || is_in_merge p (stage_at p (next_of p s env)).merges b)) (next_of p s env) b
       (and_left (all_below (λ b. not (is_within p (stage_at p (next_of p s env)).branches b) || (is_passed p (stage_at p (next_of p s env)).branches s b || is_in_merge p (stage_at p (next_of p s env)).merges b)) (next_of p s env)) _ (after_last s env low)) j) (is_within_of p (stage_at p (next_of p s env)).branches b (subst (λ l. Within p l b) (sym t) there)) in
       by_or (is_passed p (stage_at p (next_of p s env)).branches s b) _ _ k
-      (λ q. absurd (any_at (λ r. is_home p (stage_at p (next_of p s env)).branches r && nat_le b r) (suc s) ⊥ q (λ r r_low both. let x : b ≤ r = leb-true _ _ (and_right (is_home p (stage_at p (next_of p s env)).branches r) _ both) in let y : r < b = bel r (home_is p (stage_at p (next_of p s env)).branches r (and_left (is_home p (stage_at p (next_of p s env)).branches r) _ both) ∙ t) (omega arith) in omega arith)))
+      (λ q. absurd (any_at (λ r. is_home p (stage_at p (next_of p s env)).branches r && nat_le b r) (suc s) ⊥ q
+      (λ r r_low both.
+      let x : b ≤ r = leb-true _ _ (and_right (is_home p (stage_at p (next_of p s env)).branches r) _ both) in
+      let y : r < b = bel r (home_is p (stage_at p (next_of p s env)).branches r (and_left (is_home p (stage_at p (next_of p s env)).branches r) _ both) ∙ t) (omega arith) in
+      omega arith)))
       (λ q. merged (stage_at p (next_of p s env)).merges refl q)
     where
       merged : (o : Option ℕ) → (stage_at p (next_of p s env)).merges ≡ o → is_in_merge p o b ≡ true
@@ -203,26 +207,26 @@ module _ (p : Pipe) (h : passes_tests p ≡ true) where
 
   fork_before : (x : Branch) (c : List Branch) (s : ℕ) → Within p (x ∷ c) s → Home p c x.fork × (x.fork < s)
   fork_before x c s i =
-      at i.0 ( subst (λ o. branch_passes p s o ≡ true) i.1 (and_left (branch_passes p s (stage_at p s).branches) _ (and_right (list_all (next_passes p s) (nexts p s)) _ (and_right (leads_in (length p.stages) (stage_at p s).next) _ (stage_ok s (in_low x c s i))))))
+      at i.0 (subst (λ o. branch_passes p s o ≡ true) i.1 (and_left (branch_passes p s (stage_at p s).branches) _ (and_right (list_all (next_passes p s) (nexts p s)) _ (and_right (leads_in (length p.stages) (stage_at p s).next) _ (stage_ok s (in_low x c s i))))))
     where
-      at :
-      (inner : List Branch) → branch_passes p s (inner ++ x ∷ c) ≡ true → Home p c x.fork × (x.fork < s)
+      at : (inner : List Branch) → branch_passes p s (inner ++ x ∷ c) ≡ true → Home p c x.fork × (x.fork < s)
       at [] k = (home_is p c x.fork (and_left (is_home p c x.fork) _ k), ltb-true _ _ (and_left (nat_lt x.fork s) _ (and_right (is_home p c x.fork) _ k)))
       at (y ∷ ys) k = at ys (and_right (nat_lt y.fork s) _ (and_right (is_home p (ys ++ x ∷ c) y.fork) _ k))
 
   way_ok : (s : ℕ) (env : List ℕ) → s < length p.stages → is_way p s (next_of p s env) ≡ true
-  way_ok s env low =and_right ( all_below (λ b. not (is_within p (stage_at p (next_of p s env)).branches b) || ( is_passed p (stage_at p (next_of p s env)).branches s b || is_in_merge p (stage_at p (next_of p s env)).merges b)) (next_of p s env)) _ (after_last s env low)
+  way_ok s env low = and_right (all_below (λ b. not (is_within p (stage_at p (next_of p s env)).branches b) || (is_passed p (stage_at p (next_of p s env)).branches s b || is_in_merge p (stage_at p (next_of p s env)).merges b)) (next_of p s env)) _ (after_last s env low)
 
-  way : (s : ℕ) (env : List ℕ) → s < length p.stages → Way p s (next_of p s env) way s env low =
-      by_or (stays p s (next_of p s env)) _ _ (way_ok s env low)
-      (λ k. inl (branches_are _ _ k))
+  way : (s : ℕ) (env : List ℕ) → s < length p.stages → Way p s (next_of p s env)
+  way s env low =
+      by_or (stays p s (next_of p s env)) _ _ (way_ok s env low) (λ k. inl (branches_are _ _ k))
       (λ k. by_or (is_entered p s (next_of p s env) (stage_at p (next_of p s env)).branches) _ _ k (λ j. inr (inl (enters (stage_at p (next_of p s env)).branches refl j))) (λ j. inr (inr (leaves_it (stage_at p s).branches refl j))))
     where
       enters : (l : List Branch) → (stage_at p (next_of p s env)).branches ≡ l → is_entered p s (next_of p s env) l ≡ true → (x : Branch) × ((stage_at p (next_of p s env)).branches ≡ x ∷ (stage_at p s).branches) × (x.fork ≡ s)
       enters [] e k = absurd (cc k)
       enters (x ∷ c) e k = (
         x,
-        e ∙ ap (λ l. x ∷ l) (branches_are c (stage_at p s).branches (and_left (same_branches c (stage_at p s).branches) _ k)), eqb-true _ _ (and_left (x.fork == s) _ (and_right (same_branches c (stage_at p s).branches) _ k)),
+        e ∙ ap (λ l. x ∷ l) (branches_are c (stage_at p s).branches (and_left (same_branches c (stage_at p s).branches) _ k)),
+        eqb-true _ _ (and_left (x.fork == s) _ (and_right (same_branches c (stage_at p s).branches) _ k)),
       )
 
       it_merges : (o : Option ℕ) (f : ℕ) → merges_it o f ≡ true → o ≡ Some f
@@ -238,7 +242,6 @@ module _ (p : Pipe) (h : passes_tests p ≡ true) where
       )
 
   -- who comes into a branch from its fork comes into its first stage
-
   entry : (x : Branch) (c : List Branch) (env : List ℕ) (r : ℕ) → x.fork < length p.stages → Home p (x ∷ c) (next_of p x.fork env) → Within p (x ∷ c) r → next_of p x.fork env ≤ r
   entry x c env r low i j =
       by_or (stays p x.fork (next_of p x.fork env)) _ _ (way_ok x.fork env low)
@@ -249,22 +252,24 @@ module _ (p : Pipe) (h : passes_tests p ≡ true) where
       longer e = let k : length c ≡ suc (length c) = ap length e in omega arith
 
       first_of : is_entered p x.fork (next_of p x.fork env) (x ∷ c) ≡ true → next_of p x.fork env ≤ r
-      first_of k = leb-true _ _ (where_true (is_within p (x ∷ c) r) _ (below_at (λ r. not (is_within p (x ∷ c) r) || nat_le (next_of p x.fork env) r) (length p.stages) r (and_right (x.fork == x.fork) _ (and_right (same_branches c (stage_at p x.fork).branches) _ k)) (in_low x c r j)) (is_within_of p (x ∷ c) r j))
+      first_of k =
+          leb-true _ _ (where_true (is_within p (x ∷ c) r) _
+          (below_at (λ r. not (is_within p (x ∷ c) r) || nat_le (next_of p x.fork env) r) (length p.stages) r (and_right (x.fork == x.fork) _ (and_right (same_branches c (stage_at p x.fork).branches) _ k)) (in_low x c r j)) (is_within_of p (x ∷ c) r j))
 
       not_left : (l : List Branch) → (stage_at p x.fork).branches ≡ l → is_left p (next_of p x.fork env) l ≡ true → ⊥
       not_left [] e k = cc k
       not_left (y ∷ d) e k =
           let same : d ≡ x ∷ c = branches_are d _ (and_left (same_branches d (stage_at p (next_of p x.fork env)).branches) _ k) ∙ i in
-          let n : length c ≡ suc (suc (length c)) = ap length (sym (fork_before x c r j).0∙ e ∙ ap (λ l. y ∷ l) same) in
+          let n : length c ≡ suc (suc (length c)) = ap length (sym (fork_before x c r j).0 ∙ e ∙ ap (λ l. y ∷ l) same) in
           omega arith
 
-  side : (c : Branch) (cs : List Branch) (env : List ℕ) → c.fork < length p.stages → Home p ( c ∷ cs) (next_of p c.fork env) → goes_by p c env ≡ true
+  side : (c : Branch) (cs : List Branch) (env : List ℕ) → c.fork < length p.stages → Home p (c ∷ cs) (next_of p c.fork env) → goes_by p c env ≡ true
   side c cs env low i = at (stage_at p c.fork).next refl (and_right (branch_passes p c.fork (stage_at p c.fork).branches) _ (and_right (list_all (next_passes p c.fork) (nexts p c.fork)) _ (and_right (leads_in (length p.stages) (stage_at p c.fork).next) _ (stage_ok c.fork low))))
     where
-      there : (n : Next) → (stage_at p c.fork).next ≡ n → Home p ( c ∷ cs) (stage_or (length p.stages) (goes_to n env))
-      there n e = subst (λ n. Home p ( c ∷ cs) (stage_or (length p.stages) (goes_to n env))) e i
+      there : (n : Next) → (stage_at p c.fork).next ≡ n → Home p (c ∷ cs) (stage_or (length p.stages) (goes_to n env))
+      there n e = subst (λ n. Home p (c ∷ cs) (stage_or (length p.stages) (goes_to n env))) e i
 
-      side_of : (first : Bool) (q : ℕ) → Home p ( c ∷ cs) q → side_is c.fork first (stage_at p q).branches ≡ true → c.first ≡ first
+      side_of : (first : Bool) (q : ℕ) → Home p (c ∷ cs) q → side_is c.fork first (stage_at p q).branches ≡ true → c.first ≡ first
       side_of first q j k = same c.first first (where_true (c.fork == c.fork) _ (subst (λ o. side_is c.fork first o ≡ true) j k) (eq-eqb _ _ refl))
         where
           same : (x y : Bool) → (if x then y else not y) ≡ true → x ≡ y
@@ -280,35 +285,35 @@ module _ (p : Pipe) (h : passes_tests p ≡ true) where
           never l = clash (sym (ap not (eq-eqb c.fork c.fork refl)) ∙ l)
       at (Forks x a b) e k = ap (λ n. on_side n c.first env) e ∙ pick (slice_index env x == 1) refl (there (Forks x a b) e) (subst (λ n. side_passes p c.fork n ≡ true) e k)
         where
-          pick : (t : Bool) → (slice_index env x == 1) ≡ t → Home p ( c ∷ cs) (if slice_index env x == 1 then a else b)
+          pick : (t : Bool) → (slice_index env x == 1) ≡ t → Home p (c ∷ cs) (if slice_index env x == 1 then a else b)
               → (side_is c.fork true (stage_at p a).branches && side_is c.fork false (stage_at p b).branches) ≡ true
               → (if c.first then slice_index env x == 1 else not (slice_index env x == 1)) ≡ true
           pick true f j l =
-              ap₂ (λ u v. if u then v else not v) (side_of true a (subst (λ t. Home p ( c ∷ cs) (if t then a else b)) f j) (and_left (side_is c.fork true (stage_at p a).branches) _ l)) f
+              ap₂ (λ u v. if u then v else not v) (side_of true a (subst (λ t. Home p (c ∷ cs) (if t then a else b)) f j) (and_left (side_is c.fork true (stage_at p a).branches) _ l)) f
           pick false f j l =
-              ap₂ (λ u v. if u then v else not v) (side_of false b (subst (λ t. Home p ( c ∷ cs) (if t then a else b)) f j) (and_right (side_is c.fork true (stage_at p a).branches) _ l)) f
+              ap₂ (λ u v. if u then v else not v) (side_of false b (subst (λ t. Home p (c ∷ cs) (if t then a else b)) f j) (and_right (side_is c.fork true (stage_at p a).branches) _ l)) f
 
   merge : (s : ℕ) (env : List ℕ) (f : ℕ) → s < length p.stages → (stage_at p (next_of p s env)).merges ≡ Some f
-      → ((s ≡ f) × ((stage_at p (next_of p s env)).branches ≡ (stage_at p s).branches)) ⊎ ((x : Branch) × ((stage_at p s).branches ≡ x ∷ (stage_at p (next_of p s env)).branches) × (x.fork ≡ f) × ((b : ℕ) → Within p (x ∷ (stage_at p (next_of p s env)).branches) b → b ≤ s))
+      → ((s ≡ f) × ((stage_at p (next_of p s env)).branches ≡ (stage_at p s).branches))
+      ⊎ ((x : Branch) × ((stage_at p s).branches ≡ x ∷ (stage_at p (next_of p s env)).branches) × (x.fork ≡ f) × ((b : ℕ) → Within p (x ∷ (stage_at p (next_of p s env)).branches) b → b ≤ s))
   merge s env f low e =
       by_or ((s == f) && stays p s (next_of p s env)) (is_last_of p s f (next_of p s env) (stage_at p s).branches) _
-      (
-      subst (λ o. merge_sound p s o (next_of p s env) ≡ true) e (next_in p (λ n. merge_sound p s (stage_at p n).merges n) s env (below_at (λ s. list_all (λ n. merge_sound p s (stage_at p n).merges n) (nexts p s)) (length p.stages) s all.1.1.1.1.1.1.1.1.1.1.1.1.0 low)))
-            (λ t. inl (eqb-true _ _ (and_left (s == f) _ t), branches_are _ _ (and_right (s == f) _ t)))
-            (λ t. inr (last_of (stage_at p s).branches refl t))
+      (subst (λ o. merge_sound p s o (next_of p s env) ≡ true) e (next_in p (λ n. merge_sound p s (stage_at p n).merges n) s env (below_at (λ s. list_all (λ n. merge_sound p s (stage_at p n).merges n) (nexts p s)) (length p.stages) s all.1.1.1.1.1.1.1.1.1.1.1.1.0 low)))
+      (λ t. inl (eqb-true _ _ (and_left (s == f) _ t), branches_are _ _ (and_right (s == f) _ t))) (λ t. inr (last_of (stage_at p s).branches refl t))
     where
-      last_of : (l : List Branch) → (stage_at p s).branches ≡ l → is_last_of p s f (next_of p s env) l ≡ true → (x : Branch) × ((stage_at p s).branches ≡ x ∷ (stage_at p (next_of p s env)).branches) × (x.fork ≡ f) × ((b : ℕ) → Within p (x ∷ (stage_at p (next_of p s env)).branches) b → b ≤ s)
-      last_of [] i t = absurd (
-        cc t)
+      last_of : (l : List Branch) → (stage_at p s).branches ≡ l → is_last_of p s f (next_of p s env) l ≡ true
+          → (x : Branch) × ((stage_at p s).branches ≡ x ∷ (stage_at p (next_of p s env)).branches) × (x.fork ≡ f) × ((b : ℕ) → Within p (x ∷ (stage_at p (next_of p s env)).branches) b → b ≤ s)
+      last_of [] i t = absurd (cc t)
       last_of (x ∷ c) i t =
           let same : c ≡ (stage_at p (next_of p s env)).branches = branches_are c (stage_at p (next_of p s env)).branches (and_left (same_branches c (stage_at p (next_of p s env)).branches) _ t) in
           let k = and_right (same_branches c (stage_at p (next_of p s env)).branches) _ t in (
             x,
             i ∙ ap (λ l. x ∷ l) same,
-        eqb-true _ _ (and_left (x.fork == f) _ k),
-        λ b j.
-                let here : Within p (x ∷ c) b = subst (λ l. Within p (x ∷ l) b) (sym same) j in leb-true _ _ (where_true (is_within p (x ∷ c) b) _ (below_at (λ b. not (is_within p (x ∷ c) b) || nat_le b s) (length p.stages) b (and_right (x.fork == f) _ k) (in_low x c b here)) (is_within_of p (x ∷ c ) b here)),
-      )
+            eqb-true _ _ (and_left (x.fork == f) _ k),
+            λ b j.
+                let here : Within p (x ∷ c) b = subst (λ l. Within p (x ∷ l) b) (sym same) j in
+                leb-true _ _ (where_true (is_within p (x ∷ c) b) _ (below_at (λ b. not (is_within p (x ∷ c) b) || nat_le b s) (length p.stages) b (and_right (x.fork == f) _ k) (in_low x c b here)) (is_within_of p (x ∷ c) b here)),
+          )
 
   branches : Branches p
   branches = record { fork = fork_before; way = way; side = side; entry = entry; merge = merge }
@@ -332,26 +337,28 @@ module _ (p : Pipe) (h : passes_tests p ≡ true) where
 
   -- a stage of a branch is before the verifies where its fork merges up to their stage, else the fork is in that stage or later
   whole_at : (v b : ℕ) → v < length p.stages → Trunk p v → b < length p.stages → branch_whole p v b (stage_at p b).branches ≡ true
-  whole_at v b i t low =below_at (λ b. branch_whole p v b (stage_at p b).branches) (length p.stages) b (where_true (is_trunk p v) (all_below (λ b. branch_whole p v b (stage_at p b).branches) (length p.stages)) (below_at ( forks_whole p) (length p.stages) v all.1.1.1.1.1.1.1.1.1.1.1.1.1.0 i) (is_home_of p [] v t)) low
+  whole_at v b i t low =
+      below_at (λ b. branch_whole p v b (stage_at p b).branches) (length p.stages) b
+      (where_true (is_trunk p v) (all_below (λ b. branch_whole p v b (stage_at p b).branches) (length p.stages)) (below_at (forks_whole p) (length p.stages) v all.1.1.1.1.1.1.1.1.1.1.1.1.1.0 i) (is_home_of p [] v t)) low
 
   -- of a fork around a stage
-
-  of_fork : (vf b : ℕ) → v < length p.stages → Trunk p v → is_inside p f b ≡ true → (if merges_by p f (Some v) then nat_lt b v else nat_le v f) ≡ true
+  of_fork : (v f b : ℕ) → v < length p.stages → Trunk p v → is_inside p f b ≡ true → (if merges_by p f (Some v) then nat_lt b v else nat_le v f) ≡ true
   of_fork v f b u t i =
-      by_bool (nat_lt b (length p.stages)) _ (λ low. at (stage_at p b).branches i (whole_at v b u t (ltb-true _ _ low))) (λ high. absurd (clash (ap (λ l. list_any (λ (x : Branch). x.fork == f) l) (sym (trunk_past b (ltb-false _ _ high))) ∙ i)))
+      by_bool (nat_lt b (length p.stages)) _ (λ low. at (stage_at p b).branches i (whole_at v b u t (ltb-true _ _ low)))
+      (λ high. absurd (clash (ap (λ l. list_any (λ (x : Branch). x.fork == f) l) (sym (trunk_past b (ltb-false _ _ high))) ∙ i)))
     where
-      at : (l : List Branch) → list_any
-      (λ x. x.fork == f) l ≡ true → branch_whole p v b l ≡ true → (if merges_by p f (Some v) then nat_lt b v else nat_le v f) ≡ true
+      at : (l : List Branch) → list_any (λ x. x.fork == f) l ≡ true → branch_whole p v b l ≡ true → (if merges_by p f (Some v) then nat_lt b v else nat_le v f) ≡ true
       at [] j k = absurd (cc j)
       at (x ∷ c) j k =
           by_or (x.fork == f) (list_any (λ y. y.fork == f) c) _ j
-          (λ l. subst (λ g. (if merges_by p g (Some v) then nat_lt b v else nat_le v g) ≡ true) (eqb-true _ _ l) (and_left (if merges_by p x.fork (Some v) then nat_lt b v else nat_le v x.fork) _ k)) (λ l. at c l (and_right (if merges_by p x.fork (Some v) then nat_lt b v else nat_le v x.fork) _ k))
+          (λ l. subst (λ g. (if merges_by p g (Some v) then nat_lt b v else nat_le v g) ≡ true) (eqb-true _ _ l) (and_left (if merges_by p x.fork (Some v) then nat_lt b v else nat_le v x.fork) _ k))
+          (λ l. at c l (and_right (if merges_by p x.fork (Some v) then nat_lt b v else nat_le v x.fork) _ k))
 
   merged : (v f b : ℕ) → v < length p.stages → Trunk p v → is_inside p f b ≡ true → merges_by p f (Some v) ≡ true → b < v
   merged v f b u n i m = ltb-true b v (sym (ap (λ t. if t then nat_lt b v else nat_le v f) m) ∙ of_fork v f b u n i)
 
   unmerged : (v f b : ℕ) → v < length p.stages → Trunk p v → is_inside p f b ≡ true → merges_by p f (Some v) ≡ false → v ≤ f
-  unmerged v f b u n i m =leb-true v f (sym (ap (λ t. if t then nat_lt b v else nat_le v f) m) ∙ of_fork v f b u n i)
+  unmerged v f b u n i m = leb-true v f (sym (ap (λ t. if t then nat_lt b v else nat_le v f) m) ∙ of_fork v f b u n i)
 
   zeros : (n : ℕ) → length {A = ℕ} (replicate n 0) ≡ n
   zeros zero = refl
@@ -385,7 +392,7 @@ module _ (p : Pipe) (h : passes_tests p ≡ true) where
 
       at : (l : List Branch) → comes_by p (picks path (all_guards p) (start_env p [])) l ≡ comes_by p path l
       at [] = refl
-      at ( c ∷ cs) = ap₂ (λ a b. a && b) ( on c (stage_at p c.fork).next refl) (at cs)
+      at (c ∷ cs) = ap₂ (λ a b. a && b) (on c (stage_at p c.fork).next refl) (at cs)
 
   path_same : (path : List ℕ) → onpath (picks path (all_guards p) (start_env p [])) p.stmts ≡ onpath path p.stmts
   path_same path = path_agree (all_guards p) (picks path (all_guards p) (start_env p [])) path p.stmts (agrees path) (λ g k. among_append g (guard_vars p.stmts) (fork_guards p.stages) ∙ ap (λ b. b || among g (fork_guards p.stages)) k)

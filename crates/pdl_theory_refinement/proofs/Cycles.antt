@@ -64,7 +64,7 @@ start_spot p args = record { stage = 0; env = start_env p args; asks = [] }
 module _ (p : Pipe) (acc : Course p) where
   -- no thread stands behind one in its own stage
   pub not_self : (s : ℕ) → Under p s s → ⊥
-  not_self s u = let i : s < s = u (stage_at p s ).branches (within_home p _ s refl) (within_home p _ s refl) s refl (le_refl s) in omega arith
+  not_self s u = let i : s < s = u (stage_at p s).branches (within_home p _ s refl) (within_home p _ s refl) s refl (le_refl s) in omega arith
 
   -- a new thread stands behind all that an older one stands behind
   pub under_start : (bs : List ℕ) (s : ℕ) → AllUnder p bs s → AllUnder p bs 0
@@ -241,7 +241,7 @@ module _ (p : Pipe) (acc : Course p) (image : Arrays) (st : State) (bits : List 
     pub head_stands : (ts : List Thread) → (act p st bits older (seat p arrays args sp)).moves ≡ false
         → Now past past' d (act p st bits older (seat p arrays args sp) ∷ acts p st bits (act p st bits older (seat p arrays args sp) ∷ older) ts)
         → NowAsks all asks (act p st bits older (seat p arrays args sp) ∷ acts p st bits (act p st bits older (seat p arrays args sp) ∷ older) ts)
-        → ((m : ℕ) → ( sp.stage ≤ commit_stage p m) ⊎ Unsure p acc.v ahead → of_mem m (commits_of (acts p st bits (act p st bits older (seat p arrays args sp) ∷ older) ts)) ≡ [])
+        → ((m : ℕ) → (sp.stage ≤ commit_stage p m) ⊎ Unsure p acc.v ahead → of_mem m (commits_of (acts p st bits (act p st bits older (seat p arrays args sp) ∷ older) ts)) ≡ [])
         → Here p acc (next_asks p bits all 0 st.asked) past' w v' arrays args ahead' (now_spot p st bits sp) last
     head_stands ts stays now nowa quiet =
         record {
@@ -352,7 +352,7 @@ module _ (p : Pipe) (acc : Course p) (image : Arrays) (st : State) (bits : List 
       pub head_moves : (ts : List Thread) (last' : Bool)
           → Now past past' d (act p st bits older (seat p arrays args sp) ∷ acts p st bits (act p st bits older (seat p arrays args sp) ∷ older) ts)
           → NowAsks all asks (act p st bits older (seat p arrays args sp) ∷ acts p st bits (act p st bits older (seat p arrays args sp) ∷ older) ts)
-          → ((m : ℕ) → ( sp.stage ≤ commit_stage p m) ⊎ Unsure p acc.v ahead → of_mem m (commits_of (acts p st bits (act p st bits older (seat p arrays args sp) ∷ older) ts)) ≡ [])
+          → ((m : ℕ) → (sp.stage ≤ commit_stage p m) ⊎ Unsure p acc.v ahead → of_mem m (commits_of (acts p st bits (act p st bits older (seat p arrays args sp) ∷ older) ts)) ≡ [])
           → right_guess (so_far p arrays args (next_at p arrays args sp.stage)).child (thread p arrays args).next ≡ not last'
           → Here p acc (next_asks p bits all 0 st.asked) past' w v' arrays args ahead' (moved_spot p arrays args sp.stage) last'
       head_moves ts last' now nowa quiet linked =
@@ -398,8 +398,8 @@ module _ (p : Pipe) (acc : Course p) (image : Arrays) (st : State) (bits : List 
           rest : List Act
           rest = acts p st bits (act p st bits older (seat p arrays args sp) ∷ older) ts
 
-          earlier : (m : ℕ) → ( next_at p arrays args sp.stage ≤ commit_stage p m) ⊎ Unsure p acc.v ahead' → ( sp.stage ≤ commit_stage p m) ⊎ Unsure p acc.v ahead
-          earlier m (inl i) = inl ( le_of_lt (lt_of_lt_of_le more i))
+          earlier : (m : ℕ) → (next_at p arrays args sp.stage ≤ commit_stage p m) ⊎ Unsure p acc.v ahead' → (sp.stage ≤ commit_stage p m) ⊎ Unsure p acc.v ahead
+          earlier m (inl i) = inl (le_of_lt (lt_of_lt_of_le more i))
           earlier m (inr u) = inr (unsure_before p acc older ahead ahead' b.moves u)
 
           apart : (m : ℕ) → next_at p arrays args sp.stage ≤ commit_stage p m → sp.stage ≢ commit_stage p m

@@ -54,8 +54,7 @@ module _ (p : Pipe) (acc : Course p) where
 
   -- threads behind all of some stages are behind others
   weaker : (asked : List (Option ℕ)) (past w : Writes) (v : Marks) (arrays : Arrays) (args : List ℕ) (ahead ahead2 : List ℕ) (sps : List Spot)
-      → ((s : ℕ) → AllUnder p ahead s → AllUnder p ahead2 s)
-      → (Unsure p acc.v ahead2 → Unsure p acc.v ahead)
+      → ((s : ℕ) → AllUnder p ahead s → AllUnder p ahead2 s) → (Unsure p acc.v ahead2 → Unsure p acc.v ahead)
       → Standing p acc asked past w v arrays args ahead sps → Standing p acc asked past w v arrays args ahead2 sps
   weaker asked past w v arrays args ahead ahead2 [] f g h = h
   weaker asked past w v arrays args ahead ahead2 (sp ∷ sps) f g h = (

@@ -95,7 +95,7 @@ pub record Here (p : Pipe) (acc : Course p) (asked : List (Option ℕ)) (past w 
     (args : List ℕ) (ahead : List ℕ) (sp : Spot) (last : Bool) : Type 0 where
   pub under : AllUnder p ahead sp.stage
   pub on : acc.on arrays args sp.stage
-  pub words : (m : ℕ) → ( sp.stage ≤ commit_stage p m) ⊎ Unsure p acc.v ahead → w m ≡ past m ++ strips m (v m)
+  pub words : (m : ℕ) → (sp.stage ≤ commit_stage p m) ⊎ Unsure p acc.v ahead → w m ≡ past m ++ strips m (v m)
   pub clean : Right p sp.stage (Clean p v) (blocked_at p arrays args sp.stage) (so_far p arrays args sp.stage).env
   pub linked : right_guess (so_far p arrays args sp.stage).child (thread p arrays args).next ≡ not last
   pub waits : Waits p acc asked v arrays args sp

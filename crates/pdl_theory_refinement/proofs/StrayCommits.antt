@@ -80,6 +80,7 @@ stray_moves p f t a rest bound' n none goes h out is more low made r =
     -- those behind it that are left
     left : List Thread
     left = if a.work.fails then [] else survivors p rest
+
     survive : survivors p (a ∷ rest) ≡ onward n a.work ∷ (born_threads p a.work.child ++ left)
     survive =
         ap
@@ -94,17 +95,16 @@ stray_moves p f t a rest bound' n none goes h out is more low made r =
     nothing_left g = same_none a.work.fails (survivors p rest) (empty (survivors p rest) (r.same ∙ g))
 
     -- it makes one, which is alone behind it
-
     alone' : (x : List ℕ) → a.work.child ≡ Some x → left ≡ []
     alone' x e = at none refl
       where
         at : (b : Bool) → none ≡ b → left ≡ []
         at true g = nothing_left g
-    at false g = changed (h.once (made ∙ ap not g))
+        at false g = changed (h.once (made ∙ ap not g))
           where
             changed : Changed a.work → left ≡ []
             changed (inl k) = absurd (not_some (sym k.0 ∙ e))
-      changed (inr k) = ap (λ b. cond b [] (survivors p rest)) k.2
+            changed (inr k) = ap (λ b. cond b [] (survivors p rest)) k.2
 
     -- it makes none, and all stay
     kept : a.work.child ≡ None → left ≡ survivors p rest
@@ -133,13 +133,14 @@ stray_moves p f t a rest bound' n none goes h out is more low made r =
         or_some false = refl
 
     behind : (c : Option (List ℕ)) → a.work.child ≡ c → Strays p f.stray f.made n (born_threads p a.work.child ++ left)
-    behind None e = subst (λ c. Strays p f.stray f.made n (born_threads p c ++ left)) (sym e) (subst (λ l. Strays p f.stray f.made n l) (sym (kept e)) r.strays)
+    behind None e =
+        subst (λ c. Strays p f.stray f.made n (born_threads p c ++ left)) (sym e) (subst (λ l. Strays p f.stray f.made n l) (sym (kept e)) r.strays)
     behind (Some x) e =
         subst (λ c. Strays p f.stray f.made n (born_threads p c ++ left)) (sym e) (
           (h.born x e).0,
           begins,
-          (h.born x e).1 ∙ ap (λ l. not (nobody l)) (sym ( alone' x e)),
-          subst (λ l. Strays p f.stray f.made 0 l) (sym ( alone' x e )) tt,
+          (h.born x e).1 ∙ ap (λ l. not (nobody l)) (sym (alone' x e)),
+          subst (λ l. Strays p f.stray f.made 0 l) (sym (alone' x e)) tt,
         )
 
 -- a cycle of the threads after a wrong guess

@@ -128,19 +128,17 @@ module _ (p : Pipe) (acc : Course p) where
       → (Unsure p acc.v ahead → a.work.commits ≡ [])
       → (AllUnder p ahead (commit_stage p m) → ⊥) ⊎ Unsure p acc.v ahead → of_mem m (commits_of rest) ≡ [] → of_mem m (commits_of (a ∷ rest)) ≡ []
   quiet_more m a rest ahead s u f c (inl g) k = moved_quiet m a.moves a.work.commits (commits_of rest) (f (commit_ahead m ahead s u g)) k
-
   quiet_more m a rest ahead s u f c (inr g) k = moved_quiet m a.moves a.work.commits (commits_of rest) (ap (of_mem m) (c g)) k
 
   -- what keeps those behind from their releases
-  quiet_behind : (older : List Act) (m s : ℕ) (ahead ahead' : List ℕ) → Moves p older ahead ahead' → AllUnder p ahead s → (AllUnder p ahead ( commit_stage p m) → ⊥) ⊎ Unsure p acc.v ahead
-      → ( AllUnder p (s ∷ ahead) (commit_stage p m) → ⊥) ⊎ Unsure p acc.v (s ∷ ahead)
+  quiet_behind : (older : List Act) (m s : ℕ) (ahead ahead' : List ℕ) → Moves p older ahead ahead' → AllUnder p ahead s → (AllUnder p ahead (commit_stage p m) → ⊥) ⊎ Unsure p acc.v ahead
+      → (AllUnder p (s ∷ ahead) (commit_stage p m) → ⊥) ⊎ Unsure p acc.v (s ∷ ahead)
   quiet_behind older m s ahead ahead' b u (inl c) = inl (λ k. c k.1)
   quiet_behind older m s ahead ahead' b u (inr c) = inr (unsure_more p acc older ahead ahead' s b u c)
 
   quiet_before : (older : List Act) (m s : ℕ) (ahead ahead' : List ℕ) → Moves p older ahead ahead' → AllUnder p ahead s → (s ≤ commit_stage p m) ⊎ Unsure p acc.v ahead
       → (AllUnder p (s ∷ ahead) (commit_stage p m) → ⊥) ⊎ Unsure p acc.v (s ∷ ahead)
-  quiet_before older m s ahead ahead' b u (inl c) = inl (
-  not_behind m s ahead c )
+  quiet_before older m s ahead ahead' b u (inl c) = inl (not_behind m s ahead c)
   quiet_before older m s ahead ahead' b u (inr c) = inr (unsure_more p acc older ahead ahead' s b u c)
 
   ended_moves : (arrays : Arrays) (args : List ℕ) (s : ℕ) (a : Act) (rest : List Act) (sps : List Spot) → s < length p.stages → a.moves ≡ true
@@ -220,10 +218,10 @@ module _ (p : Pipe) (acc : Course p) where
         le_of_zero : (n : ℕ) → 0 ≤ n
         le_of_zero n = omega arith
 
-    -- it makes
-    one, which is alone behind it
-    made_one : (x :List ℕ) → (stage_work p arrays args s).child ≡ Some x → survivors p (a ∷ rest)
-    ≡ (cond (nat_lt (next_at p arrays args s) (length p.stages)) (seat p arrays args (moved_spot p arrays args s) ∷ []) []) ++ (fresh p x ∷ []) → Turned p acc asked' past' w v' arrays args ahead ahead' (a ∷ rest)
+    -- it makes one, which is alone behind it
+    made_one : (x : List ℕ) → (stage_work p arrays args s).child ≡ Some x
+        → survivors p (a ∷ rest) ≡ (cond (nat_lt (next_at p arrays args s) (length p.stages)) (seat p arrays args (moved_spot p arrays args s) ∷ []) []) ++ (fresh p x ∷ [])
+        → Turned p acc asked' past' w v' arrays args ahead ahead' (a ∷ rest)
     made_one x i left =
         by_bool (same_args x (thread p arrays args).next) (Turned p acc asked' past' w v' arrays args ahead ahead' (a ∷ rest))
         (λ right. two_left x (ap (λ c. right_guess c (thread p arrays args).next) made ∙ right) (same_args_eq x _ right) left)
@@ -254,29 +252,26 @@ module _ (p : Pipe) (acc : Course p) where
         one_left [] (ap (λ c. right_guess c (thread p arrays args).next) made)
         (after_move arrays args s a rest k.on k.low k.goes k.is k.same None i (stage_work p arrays args s).fails refl
         ∙ ap (λ r. (cond (nat_lt (next_at p arrays args s) (length p.stages)) (seat p arrays args (moved_spot p arrays args s) ∷ []) []) ++ r) (same_none (stage_work p arrays args s).fails (survivors p rest) (ap (survivors p) (none l))))
-        (subst (λ c. Last p acc.stray acc.made (next_at p arrays args s) c [])
-        (sym made) refl)
+        (subst (λ c. Last p acc.stray acc.made (next_at p arrays args s) c []) (sym made) refl)
       where
         made : (so_far p arrays args (next_at p arrays args s)).child ≡ None
         made = acc.child_next arrays args s k.on k.low ∙ ap₂ or_else i e
     last_moves strays none after None e g l (Some x) i =
         made_one x i
-        (
-            after_move arrays args s a rest k.on k.low k.goes k.is k.same (Some x) i (stage_work p arrays args s).fails refl
-            ∙ ap
+        (after_move arrays args s a rest k.on k.low k.goes k.is k.same (Some x) i (stage_work p arrays args s).fails refl
+        ∙ ap
             (λ r. (cond (nat_lt (next_at p arrays args s) (length p.stages)) (seat p arrays args (moved_spot p arrays args s) ∷ []) [])
             ++ (fresh p x ∷ r))
             (same_none (stage_work p arrays args s).fails (survivors p rest) (ap (survivors p) (none l))))
-    last_moves strays none after (Some x) e g l n i =
-        changed (acc.made_changes arrays args s x k.on e)
+    last_moves strays none after (Some x) e g l n i = changed (acc.made_changes arrays args s x k.on e)
       where
-        changed : Changed (stage_work p arrays args s) →Turned p acc asked' past' w v' arrays args ahead ahead' (a ∷ rest) changed (inl t) =
-        let made : (so_far p arrays args (next_at p arrays args s)).child ≡ Some x = acc.child_next arrays args s k.on k.low ∙ ap₂ or_else t.0 e in
-        one_left (survivors p rest) (ap (λ c. right_guess c (thread p arrays args).next) made ∙ g)
-        (after_move arrays args s a rest k.on k.low k.goes k.is k.same None t.0 false t.1)
-        (subst (λ c. Last p acc.stray acc.made (next_at p arrays args s) c (survivors p rest)) (sym made) after.strays)
-        changed
-        (inr t) = replaced t.0 t.1t.2
+        changed : Changed (stage_work p arrays args s) → Turned p acc asked' past' w v' arrays args ahead ahead' (a ∷ rest)
+        changed (inl t) =
+            let made : (so_far p arrays args (next_at p arrays args s)).child ≡ Some x = acc.child_next arrays args s k.on k.low ∙ ap₂ or_else t.0 e in
+            one_left (survivors p rest) (ap (λ c. right_guess c (thread p arrays args).next) made ∙ g)
+            (after_move arrays args s a rest k.on k.low k.goes k.is k.same None t.0 false t.1)
+            (subst (λ c. Last p acc.stray acc.made (next_at p arrays args s) c (survivors p rest)) (sym made) after.strays)
+        changed (inr t) = replaced t.0 t.1 t.2
 
 -- all live threads from one on
 module _ (p : Pipe) (acc : Course p) (image : Arrays) (st : State) (bits : List Bool) (past past' : Writes) (all : List Ask)
@@ -379,8 +374,7 @@ module _ (p : Pipe) (acc : Course p) (image : Arrays) (st : State) (bits : List 
     -- after a cycle in which the first thread moves, and others stand behind it, the threads from it on are again on their turns
     more_moves : (ts : List Thread) (h : Here p acc st.asked past w v arrays args ahead sp false)
         → Now past past' d (acts p st bits older (seat p arrays args sp ∷ ts)) → NowAsks all asks (acts p st bits older (seat p arrays args sp ∷ ts))
-        → (act p st bits older (seat p arrays args sp)).moves ≡ true
-        → ((stage_work p arrays args sp.stage).child ≡ None) × ((stage_work p arrays args sp.stage).fails ≡ false)
+        → (act p st bits older (seat p arrays args sp)).moves ≡ true → ((stage_work p arrays args sp.stage).child ≡ None) × ((stage_work p arrays args sp.stage).fails ≡ false)
         → Turned p acc (next_asks p bits all 0 st.asked) past' (λ m. w m ++ of_mem m (thread p arrays args).writes)
         (λ m. v' m ++ marks p arrays args (next_at p arrays args sp.stage) m) (thread p arrays args).arrays (thread p arrays args).next (sp.stage ∷ ahead)
         (next_at p arrays args sp.stage ∷ ahead')
@@ -490,9 +484,9 @@ module _ (p : Pipe) (acc : Course p) (image : Arrays) (st : State) (bits : List 
         (acts p st bits (act p st bits older (seat p arrays args sp) ∷ older) strays) =
         stray_rest p acc st bits arrays args older sp.stage (next_at p arrays args sp.stage)
         (act p st bits older (seat p arrays args sp)) strays _ refl h.linked l (le_of_lt up) refl (λ _. up) in
-        last_moves p acc (next_asks p bits all 0 st.asked) past' w v' arrays args ahead ahead' sp.stage (act p st bits older (seat p arrays args sp)) (acts p st bits (act p st bits older (seat p arrays args sp) ∷ older) strays) (moving strays true h total now nowa goes after.commits after.ended)
-        strays
-        (λ k. ap (λ ts. acts p st bits (act p st bits older (seat p arrays args sp) ∷ older) ts) k) after
+        last_moves p acc (next_asks p bits all 0 st.asked) past' w v' arrays args ahead ahead' sp.stage (act p st bits older (seat p arrays args sp)) (acts p st bits (act p st bits older (seat p arrays args sp) ∷ older) strays)
+        (moving strays true h total now nowa goes after.commits after.ended)
+        strays (λ k. ap (λ ts. acts p st bits (act p st bits older (seat p arrays args sp) ∷ older) ts) k) after
         (so_far p arrays args sp.stage).child refl h.linked l (stage_work p arrays args sp.stage).child refl
 
   -- after a cycle the live threads from one on are again threads on their turns, with those after a wrong guess behind them

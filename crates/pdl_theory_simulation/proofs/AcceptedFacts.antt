@@ -318,7 +318,7 @@ module _ (p : Pipe) (acc : Sound p) where
         merge = λ s q f l e.
             let n = led s q l.0 l.2 l.1 in
             subst (λ m. ((s ≡ f) × ((stage_at p m).branches ≡ (stage_at p s).branches)) ⊎ ((x : Branch) × ((stage_at p s).branches ≡ x ∷ (stage_at p m).branches) × (x.fork ≡ f) × ((b : ℕ) → Within p (x ∷ (stage_at p m).branches) b → b ≤ s))) n.0
-            ( acc.branches.merge s l.0 f l.2 (subst (λ m. (stage_at p m).merges ≡ Some f) (sym n.0) e));
+            (acc.branches.merge s l.0 f l.2 (subst (λ m. (stage_at p m).merges ≡ Some f) (sym n.0) e));
         merged = acc.merged;
         unmerged = acc.unmerged;
       }

@@ -41,19 +41,19 @@ module _ (p : Pipe) (flows : Flows p) (st : State) (d : Derived.State) (bits : L
     pub low : y.live.thread.stage ≤ x.live.thread.stage
     pub apart : (q : ℕ) → (coming_thread p q (lact p st d bits x.older x.live) ≡ None) ⊎ (coming_thread p q (lact p st d bits y.older y.live) ≡ None)
 
-  in_branch : (s : ℕ) → (Trunk p s → ⊥) → (b : Branch) × (c : List Branch) × Home p ( b ∷ c) s
+  in_branch : (s : ℕ) → (Trunk p s → ⊥) → (b : Branch) × (c : List Branch) × Home p (b ∷ c) s
   in_branch s n = at (stage_at p s).branches refl
     where
-      at : (b : List Branch) → (stage_at p s).branches ≡ b → (b : Branch) × (c : List Branch)× Home p (b ∷ c) s
+      at : (b : List Branch) → (stage_at p s).branches ≡ b → (b : Branch) × (c : List Branch) × Home p (b ∷ c) s
       at [] e = absurd (n e)
-      at ( x ∷ c) e = (x, c, e)
+      at (x ∷ c) e = (x, c, e)
 
-  younger_branch : (x y : Pair) → Swap x y → (b : Branch) × (c : List Branch) × Home p ( b ∷ c) x.live.thread.stage
+  younger_branch : (x y : Pair) → Swap x y → (b : Branch) × (c : List Branch) × Home p (b ∷ c) x.live.thread.stage
   younger_branch x y s =
       in_branch x.live.thread.stage
       (λ e. let i : x.live.thread.stage < y.live.thread.stage = left_trunk p _ _ s.behind x.live.thread.stage e (le_refl _) in let j = s.low in absurd (omega arith))
 
-  older_branch : (x y : Pair) → Swap x y → (b : Branch) × (c : List Branch) × Home p ( b ∷ c) y.live.thread.stage
+  older_branch : (x y : Pair) → Swap x y → (b : Branch) × (c : List Branch) × Home p (b ∷ c) y.live.thread.stage
   older_branch x y s =
       in_branch y.live.thread.stage
       (λ e. let i : y.live.thread.stage < y.live.thread.stage = left_trunk p _ _ s.behind y.live.thread.stage e s.low in absurd (omega arith))
@@ -62,7 +62,7 @@ module _ (p : Pipe) (flows : Flows p) (st : State) (d : Derived.State) (bits : L
   two_stages : (x y : Pair) → Swap x y → x.live.thread.stage ≡ y.live.thread.stage → ⊥
   two_stages x y s e = let i : x.live.thread.stage < y.live.thread.stage = less_home p _ _ s.behind (ap (λ n. (stage_at p n).branches) e) in omega arith
 
-  plain_here : (l : Live) (b : Branch) (c : List Branch)→ Home p ( b ∷ c) l.thread.stage
+  plain_here : (l : Live) (b : Branch) (c : List Branch) → Home p (b ∷ c) l.thread.stage
       → ((deeds_of p st bits l).reserves ≡ []) × ((deeds_of p st bits l).child ≡ None) × ((deeds_of p st bits l).fails ≡ false)
   plain_here l b c e = plain_all (word_for st l.number) (in_stage l.thread.stage p.stmts) (record {
     env = Machine.with_kept (with_answers p st bits (seat l)).kept l.env;
@@ -144,7 +144,7 @@ module _ (p : Pipe) (flows : Flows p) (st : State) (d : Derived.State) (bits : L
 
   -- THE STEPS OF A CYCLE
 
-  none_new : (m n : ℕ) (l : Live) (b : Branch) (c : List Branch)→ Home p ( b ∷ c) l.thread.stage → new_entries m n (deeds_of p st bits l).reserves ≡ []
+  none_new : (m n : ℕ) (l : Live) (b : Branch) (c : List Branch) → Home p (b ∷ c) l.thread.stage → new_entries m n (deeds_of p st bits l).reserves ≡ []
   none_new m n l b c e = ap (new_entries m n) (plain_here l b c e).0
 
   same_appended : (m : ℕ) (list : List Pending) (ls : List Live) → Swaps ls
@@ -255,14 +255,20 @@ module _ (p : Pipe) (flows : Flows p) (st : State) (d : Derived.State) (bits : L
       turn (inl a) = inr a
       turn (inr b) = inl b
 
-  -- at most one of two enters a fork abbrev entry_of : ℕ → Pair
+  -- at most one of two enters a fork
+  abbrev entry_of : ℕ → Pair
       → List Bool
-  entry_of f x =if x.live.thread.stage == f then goes_into p f (next_stage p x.live.thread.stage (deeds_of p st bits x.live)) else []no_entry : (f : ℕ) (x : Pair) → (x.live.thread.stage == f) ≡ false → entry_of f x ≡ []
+  entry_of f x = if x.live.thread.stage == f then goes_into p f (next_stage p x.live.thread.stage (deeds_of p st bits x.live)) else []
+
+  no_entry : (f : ℕ) (x : Pair) → (x.live.thread.stage == f) ≡ false → entry_of f x ≡ []
   no_entry f x e = ap (λ t. if t then goes_into p f (next_stage p x.live.thread.stage (deeds_of p st bits x.live)) else []) e
 
   one_enters : (f : ℕ) (x y : Pair) → Swap x y → (z : List Bool) → (t : Bool) → (x.live.thread.stage == f) ≡ t → (z ++ entry_of f x) ++ entry_of f y ≡ (z ++ entry_of f y) ++ entry_of f x
-  one_enters f x y s z true e = let none = no_entry f y (ne_eqb y.live.thread.stage f (λ i. absurd (two_stages x y s (eqb-true _ _ e ∙ sym i )))) in ap (λ u. (z ++ entry_of f x) ++ u) none ∙ append-nil _ ∙ sym (ap (λ u. (z ++ u) ++ entry_of f x) none ∙ ap (λ u. u ++ entry_of f x) (append-nil z))
-          one_enters fx y s z false e = ap (λ u. (z ++ u)++ entry_of f y) (no_entry f x e) ∙ ap (λ u. u ++ entry_of f y) (append-nil z)
+  one_enters f x y s z true e =
+      let none = no_entry f y (ne_eqb y.live.thread.stage f (λ i. absurd (two_stages x y s (eqb-true _ _ e ∙ sym i)))) in
+      ap (λ u. (z ++ entry_of f x) ++ u) none ∙ append-nil _ ∙ sym (ap (λ u. (z ++ u) ++ entry_of f x) none ∙ ap (λ u. u ++ entry_of f x) (append-nil z))
+  one_enters f x y s z false e =
+      ap (λ u. (z ++ u) ++ entry_of f y) (no_entry f x e) ∙ ap (λ u. u ++ entry_of f y) (append-nil z)
       ∙ sym (ap (λ u. (z ++ entry_of f y) ++ u) (no_entry f x e) ∙ append-nil _)
 
   -- the branches into which threads go from a fork are the same by stages and by age
@@ -270,8 +276,7 @@ module _ (p : Pipe) (flows : Flows p) (st : State) (d : Derived.State) (bits : L
       → entered_branches p f (movers (acts_of p flows st d bits arrays (sorted ls))) ≡ entered_branches p f (movers (lacts p st d bits ls))
   same_entered f =
       same_movers (List Bool) (entered_branches p f) (λ a z. z ++ (if a.stage == f then goes_into p f (next_stage p a.stage a.does) else [])) (λ a rest. refl)
-      (λ x y s z.
-      one_enters f x y sz (x.live.thread.stage == f)
+      (λ x y s z. one_enters f x y s z (x.live.thread.stage == f)
       refl)
 
   -- the list of a lock after steps 1 and 2 is the same by stages and by age

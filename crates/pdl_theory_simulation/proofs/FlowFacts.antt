@@ -82,8 +82,8 @@ pub record Ways (p : Pipe) : Type 0 where
   pub between : (c : List Branch) (s q b : ℕ) → Leads p s q → Within p c s → Home p c q → Below p c b s → Within p c b → b < q
       → (f : ℕ) × ((stage_at p q).merges ≡ Some f) × (is_inside p f b ≡ true)
   -- a way stays in its branches, enters one more from its fork, or leaves the innermost one into the merge
-  pub way : (s q : ℕ) → Leads p s q → Way p sq
-  pub entry : ( x : Branch) (c : List Branch) (q r : ℕ) → Leads p x.fork q → Home p (x ∷ c) q → Within p (x ∷ c) r → q ≤ r
+  pub way : (s q : ℕ) → Leads p s q → Way p s q
+  pub entry : (x : Branch) (c : List Branch) (q r : ℕ) → Leads p x.fork q → Home p (x ∷ c) q → Within p (x ∷ c) r → q ≤ r
   -- a branch's stages stand after its fork, which stands in the branches around it
   pub fork_below : (x : Branch) (c : List Branch) (s : ℕ) → Within p (x ∷ c) s → Home p c x.fork × (x.fork < s)
   -- into a merge a thread comes straight from the fork or from the last stage of a branch
@@ -98,7 +98,7 @@ pub record Ways (p : Pipe) : Type 0 where
 pub record Flows (p : Pipe) : Type 0 where
   pub graph : Ways p
   -- F1: a branch holds no reserve, release, call or statement of guesses
-  pub branches : (x : Branch) (c : List Branch)(s : ℕ) → Home p ( x ∷ c) s → none_of trunk_only (in_stage s p.stmts) ≡ true
+  pub branches : (x : Branch) (c : List Branch) (s : ℕ) → Home p (x ∷ c) s → none_of trunk_only (in_stage s p.stmts) ≡ true
   -- L2, F1: a memory's reserves stand in one trunk stage, and so do its releases; S3: the verifies stand in one stage
   pub reserves : (m : ℕ) → all_at (is_reserve m) (reserve_stage p m) p.stmts ≡ true
   pub releases : (m : ℕ) → all_at (is_release m) (commit_stage p m) p.stmts ≡ true
@@ -153,7 +153,7 @@ DefinedBy s op r = (s ≤ r) × (is_fetch op ≡ true → s < r)
 pub record FlowRules (p : Pipe) : Type 0 where
   pub graph : Ways p
   -- F1
-  pub branches : (x : Branch) (c : List Branch)(s : ℕ) → Home p ( x ∷ c) s → none_of trunk_only (in_stage s p.stmts) ≡ true
+  pub branches : (x : Branch) (c : List Branch) (s : ℕ) → Home p (x ∷ c) s → none_of trunk_only (in_stage s p.stmts) ≡ true
   -- L2, F1, S3
   pub reserves : (m : ℕ) → all_at (is_reserve m) (reserve_stage p m) p.stmts ≡ true
   pub releases : (m : ℕ) → all_at (is_release m) (commit_stage p m) p.stmts ≡ true

@@ -74,7 +74,8 @@ module _ (p : Pipe) (flows : Flows p) (st : State) (d : Derived.State) (bits : L
         outside : (b : Bool) → is_inside p f l.thread.stage ≡ b → is_inside p f l.thread.stage ≡ false
         outside false e = e
         outside true e =
-            inside_at p f l.thread.stage e (λ xc i j. absurd (cc (sym (behind (sides p f ls) (sides_of f (stage_at p l.thread.stage).branches) h) ∙ ap is_nobody (sides_inside p flows.graph.fork_below f x cl.thread.stage i j))))
+            inside_at p f l.thread.stage e
+            (λ x c i j. absurd (cc (sym (behind (sides p f ls) (sides_of f (stage_at p l.thread.stage).branches) h) ∙ ap is_nobody (sides_inside p flows.graph.fork_below f x c l.thread.stage i j))))
 
         at : (b : Bool) → has_left p f (ms ls) ≡ false → is_inside p f l.thread.stage ≡ false
             → has_left p f (cond b (lact p st d bits ls l ∷ ms ls) (ms ls)) ≡ false
@@ -89,12 +90,15 @@ module _ (p : Pipe) (flows : Flows p) (st : State) (d : Derived.State) (bits : L
         at false e = e
 
     -- older threads than one inside are past the fork stage
-    past_fork : (l : Live) (x : Branch) (c : List Branch) (ls : List Live) → Within p ( x ∷ c) l.thread.stage → x.fork ≡ f
+    past_fork : (l : Live) (x : Branch) (c : List Branch) (ls : List Live) → Within p (x ∷ c) l.thread.stage → x.fork ≡ f
         → Each (λ k. Behind p l.thread.stage k.thread.stage) ls → Each (λ k. k.thread.stage ≡ f → ⊥) ls
     past_fork l x c ls e i b = each_map (λ k h j. late k h j) ls b
       where
         late : (k : Live) → Behind p l.thread.stage k.thread.stage → k.thread.stage ≡ f → ⊥
-        late k h j = let home : Home p c x.fork = ( flows.graph.fork_below x c l.thread.stage e).0 in let less : x.fork < k.thread.stage = fork_left p flows.graph x c l.thread.stage k.thread.stage h e (within_home p c _ (subst (λ n. Home p c n) (i ∙ sym j) home)) in absurd (omega arith)
+        late k h j =
+            let home : Home p c x.fork = (flows.graph.fork_below x c l.thread.stage e).0 in
+            let less : x.fork < k.thread.stage = fork_left p flows.graph x c l.thread.stage k.thread.stage h e (within_home p c _ (subst (λ n. Home p c n) (i ∙ sym j) home)) in
+            absurd (omega arith)
 
     nobody_nil : (xs : List Bool) → is_nobody xs ≡ true → xs ≡ []
     nobody_nil [] h = refl
@@ -120,17 +124,19 @@ module _ (p : Pipe) (flows : Flows p) (st : State) (d : Derived.State) (bits : L
             sym (ap (λ u. (if has_left p f (ms ls) then but_first (sides p f ls ++ sides_of f (stage_at p l.thread.stage).branches) else (sides p f ls ++ sides_of f (stage_at p l.thread.stage).branches)) ++ u) (append-nil _))
             ∙ by (is_inside p f l.thread.stage) refl
           where
-            by : (b : Bool) → is_inside p f l.thread.stage ≡ b
-                → (if has_left p f (ms ls)
+            by : (b : Bool) → is_inside p f l.thread.stage ≡ b → (if has_left p f (ms ls)
                 then but_first (sides p f ls ++ sides_of f (stage_at p l.thread.stage).branches)
                 else (sides p f ls ++ sides_of f (stage_at p l.thread.stage).branches))
                 ++ (entered_branches p f (ms ls) ++ [])
                 ≡ sides p f (all_on ls) ++ sides_of f (stage_at p l.thread.stage).branches
             by false e =
-                let none : sides_of f (stage_at p l.thread.stage).branches ≡ [] = sides_outside f _ e in list_neutral (has_left p f (ms ls)) (sides p f ls) (entered_branches p f (ms ls)) (sides p f (all_on ls)) (sides_of f (stage_at p l.thread.stage).branches) (sides_of f (stage_at p l.thread.stage).branches) [] h none (sym none)
-            by true e = inside_at p f l.thread.stagee (λ x c i j.
-                    subst (λ s. (if has_left p f (ms ls) then but_first (sides p f ls ++ s) else (sides p f ls ++ s)) ++ (entered_branches p f (ms ls) ++ []) ≡ sides p f (all_on ls) ++ s) (sym (sides_inside p flows.graph.fork_below f x c l.thread.stage ij))
-                    (list_inside (has_left p f (ms ls)) (sides p f ls) (entered_branches p f (ms ls)) (sides p f (all_on ls)) x.first h (entered_none ls (past_fork l x c ls ij o.0)) (some_left ls)))
+                let none : sides_of f (stage_at p l.thread.stage).branches ≡ [] = sides_outside f _ e in
+                list_neutral (has_left p f (ms ls)) (sides p f ls) (entered_branches p f (ms ls)) (sides p f (all_on ls)) (sides_of f (stage_at p l.thread.stage).branches) (sides_of f (stage_at p l.thread.stage).branches) [] h none (sym none)
+            by true e =
+                inside_at p f l.thread.stage e
+                (λ x c i j.
+                subst (λ s. (if has_left p f (ms ls) then but_first (sides p f ls ++ s) else (sides p f ls ++ s)) ++ (entered_branches p f (ms ls) ++ []) ≡ sides p f (all_on ls) ++ s) (sym (sides_inside p flows.graph.fork_below f x c l.thread.stage i j))
+                (list_inside (has_left p f (ms ls)) (sides p f ls) (entered_branches p f (ms ls)) (sides p f (all_on ls)) x.first h (entered_none ls (past_fork l x c ls i j o.0)) (some_left ls)))
 
         -- the list of the fork with a thread behind the others that is outside it and enters it, perhaps
         outside_moves : is_inside p f l.thread.stage ≡ false → (after : List Bool) → enters l ≡ after
@@ -161,8 +167,7 @@ module _ (p : Pipe) (flows : Flows p) (st : State) (d : Derived.State) (bits : L
             by false e = sym (sides_outside f (stage_at p q).branches (not_inside p f q (λ x c w j. came x c j (eqb-false _ _ e) (came_from_way p x c l.thread.stage q (flows.graph.way l.thread.stage q (leads q i)) w))))
 
         -- inside, it enters nothing of this fork, and stays inside or leaves
-        inside_moves : (x : Branch) (c : List Branch) → Within p (x ∷ c) l.thread.stage → x.fork ≡ f → (did p d bits ls l).moves ≡ true → (q : ℕ) → next_stage p l.thread.stage (deeds_of p st bits l) ≡ Some q
-            → (if has_left p f (ms ls) then but_first (sides p f ls) else sides p f ls) ++ entered_branches p f (ms ls) ≡ sides p f (all_on ls)
+        inside_moves : (x : Branch) (c : List Branch) → Within p (x ∷ c) l.thread.stage → x.fork ≡ f → (did p d bits ls l).moves ≡ true → (q : ℕ) → next_stage p l.thread.stage (deeds_of p st bits l) ≡ Some q → (if has_left p f (ms ls) then but_first (sides p f ls) else sides p f ls) ++ entered_branches p f (ms ls) ≡ sides p f (all_on ls)
             → (if leaves l
             || has_left p f (ms ls) then but_first (sides p f ls ++ sides_of f (stage_at p l.thread.stage).branches)
             else (sides p f ls ++ sides_of f (stage_at p l.thread.stage).branches))
@@ -185,10 +190,10 @@ module _ (p : Pipe) (flows : Flows p) (st : State) (d : Derived.State) (bits : L
             -- it stays inside
             moves_inside : (q : ℕ) → next_stage p l.thread.stage (deeds_of p st bits l) ≡ Some q → sides_of f (stage_at p q).branches ≡ sides_of f (stage_at p l.thread.stage).branches → merges_fork (stage_at p q).merges f ≡ false → (if has_left p f (ms ls) then but_first (sides p f ls) else sides p f ls) ++ entered_branches p f (ms ls) ≡ sides p f (all_on ls)
                 → (if leaves l || has_left p f (ms ls) then but_first (sides p f ls ++ sides_of f (stage_at p l.thread.stage).branches) else (sides p f ls ++ sides_of f (stage_at p l.thread.stage).branches)) ++ (entered_branches p f (ms ls) ++ enters l) ≡ sides p f (all_on ls) ++ sides_of f (stage_at p q).branches
-        moves_inside q i same no_merge h =
-            (λ t. (if stays t || has_left p f (ms ls) then but_first (sides p f ls ++ mine t) else (sides p f ls ++ mine t)) ++ (entered_branches p f (ms ls) ++ no_entry t))
-            ∙ list_inside (has_left p f (ms ls)) (sides p f ls) (entered_branches p f (ms ls)) (sides p f (all_on ls)) x.first h (entered_none ls (past_fork l x c ls here its o.0)) (some_left ls)
-            ∙ ap (λ u. sides p f (all_on ls) ++ u) (sym (same ∙ mine))
+            moves_inside q i same no_merge h =
+                (λ t. (if stays t || has_left p f (ms ls) then but_first (sides p f ls ++ mine t) else (sides p f ls ++ mine t)) ++ (entered_branches p f (ms ls) ++ no_entry t))
+                ∙ list_inside (has_left p f (ms ls)) (sides p f ls) (entered_branches p f (ms ls)) (sides p f (all_on ls)) x.first h (entered_none ls (past_fork l x c ls here its o.0)) (some_left ls)
+                ∙ ap (λ u. sides p f (all_on ls) ++ u) (sym (same ∙ mine))
               where
                 off : (t : Bool) → (t && false) ≡ false
                 off true = refl
@@ -197,35 +202,33 @@ module _ (p : Pipe) (flows : Flows p) (st : State) (d : Derived.State) (bits : L
                 stays : leaves l ≡ false
                 stays = ap (λ r. is_inside p f l.thread.stage && goes_out p f r) i ∙ ap (λ t. is_inside p f l.thread.stage && t) no_merge ∙ off (is_inside p f l.thread.stage)
 
-        -- the list of the fork with a thread that leaves into the merge, the oldest inside
-        moves_out : (did p d bits ls l).moves ≡ true → (q : ℕ) → next_stage p l.thread.stage (deeds_of p st bits l) ≡ Some q → sides_of f (stage_at p q).branches ≡ [] → (stage_at p q).merges ≡ Some f
-            → (if has_left p f (ms ls) then but_first (sides p f ls) else sides p f ls) ++ entered_branches p f (ms ls) ≡ sides p f (all_on ls)
-            → (if leaves l
+            -- the list of the fork with a thread that leaves into the merge, the oldest inside
+            moves_out : (did p d bits ls l).moves ≡ true → (q : ℕ) → next_stage p l.thread.stage (deeds_of p st bits l) ≡ Some q → sides_of f (stage_at p q).branches ≡ [] → (stage_at p q).merges ≡ Some f → (if has_left p f (ms ls) then but_first (sides p f ls) else sides p f ls) ++ entered_branches p f (ms ls) ≡ sides p f (all_on ls)
+                → (if leaves l
             || has_left p f (ms ls) then but_first (sides p f ls ++ sides_of f (stage_at p l.thread.stage).branches)
             else (sides p f ls ++ sides_of f (stage_at p l.thread.stage).branches))
             ++ (entered_branches p f (ms ls) ++ enters l)
             ≡ sides p f (all_on ls) ++ sides_of f (stage_at p q).branches
-        moves_out go q i out m h =
-            (λ t. (if goes t || has_left p f (ms ls) then but_first (sides p f ls ++ mine t) else (sides p f ls ++ mine t)) ++ (entered_branches p f (ms ls) ++ no_entry t))
-            ∙ list_leaves (has_left p f (ms ls)) (sides p f ls) (entered_branches p f (ms ls)) (sides p f (all_on ls)) x.first h (nobody_nil (sides p f ls) nobody) (entered_none ls (past_fork l x c ls here its o.0)) (left_none ls nobody)
-            ∙ ap (λ u. sides p f (all_on ls) ++ u) (sym out)
-          where
+            moves_out go q i out m h =
+                (λ t. (if goes t || has_left p f (ms ls) then but_first (sides p f ls ++ mine t) else (sides p f ls ++ mine t)) ++ (entered_branches p f (ms ls) ++ no_entry t))
+                ∙ list_leaves (has_left p f (ms ls)) (sides p f ls) (entered_branches p f (ms ls)) (sides p f (all_on ls)) x.first h (nobody_nil (sides p f ls) nobody) (entered_none ls (past_fork l x c ls here its o.0)) (left_none ls nobody)
+                ∙ ap (λ u. sides p f (all_on ls) ++ u) (sym out)
+              where
+                goes : leaves l ≡ true
+                goes =
+                    ap (λ r. is_inside p f l.thread.stage && goes_out p f r) i
+                    ∙ ap₂ (λ b r. b && merges_fork r f) (inside_of p f l.thread.stage x c here its) m ∙ eq-eqb f f refl
 
-            goes : leaves l ≡ true
-            goes =
-                ap (λ r. is_inside p f l.thread.stage && goes_out p f r) i
-                ∙ ap₂ (λ b r. b && merges_fork r f) (inside_of p f l.thread.stage x c here its) m ∙eq-eqb f f refl
+                can : Derived.can_enter p (dacts p d bits ls) (Some q) ≡ true
+                can = subst (λ r. Derived.can_enter p (dacts p d bits ls) r ≡ true) (sym (next_is ls l k.0) ∙ i) (enters_here p flows st d bits arrays ls l go)
 
-            can : Derived.can_enter p (dacts p d bits ls) (Some q) ≡ true
-            can = subst (λ r. Derived.can_enter p (dacts p d bits ls) r ≡ true) (sym (next_is ls l k.0) ∙ i) (enters_here p flows st d bits arrays ls l go)
+                clear : Derived.fork_clear p (dacts p d bits ls) (stage_at p q).merges ≡ true
+                clear = and_right (list_all (λ (o : Derived.Act). not (o.before.stage == q) || o.moves) (dacts p d bits ls)) (Derived.fork_clear p (dacts p d bits ls) (stage_at p q).merges) can
 
-            clear : Derived.fork_clear p (dacts p d bits ls) (stage_at p q).merges ≡ true
-            clear = and_right (list_all (λ (o : Derived.Act). not (o.before.stage == q) || o.moves) (dacts p d bits ls)) (Derived.fork_clear p (dacts p d bits ls) (stage_at p q).merges) can
+                nobody : is_nobody (sides p f ls) ≡ true
+                nobody = sides_nobody p d bits f ls ∙ subst (λ r. Derived.fork_clear p (dacts p d bits ls) r ≡ true) m clear
 
-            nobody : is_nobody (sides p f ls) ≡ true
-            nobody = sides_nobody p d bits f ls ∙ subst (λ r. Derived.fork_clear p (dacts p d bits ls) r ≡ true)m clear
-
-        -- who stays in the branches where it is, or enters more, does not come to the merge
+            -- who stays in the branches where it is, or enters more, does not come to the merge
             longer : (a b : ℕ) → a ≡ b → b ≡ suc a → ⊥
             longer a b e g = omega arith
 
@@ -249,9 +252,9 @@ module _ (p : Pipe) (flows : Flows p) (st : State) (d : Derived.State) (bits : L
                     by false j = j
 
             at : Way p l.thread.stage q → (if leaves l || has_left p f (ms ls) then but_first (sides p f ls ++ sides_of f (stage_at p l.thread.stage).branches) else (sides p f ls ++ sides_of f (stage_at p l.thread.stage).branches)) ++ (entered_branches p f (ms ls) ++ enters l) ≡ sides p f (all_on ls) ++ sides_of f (stage_at p q).branches
-            at (inl e ) = moves_inside q i ( ap (sides_of f) e) (no_merge_at q (leads q i) (λ y j u. longer (length (stage_at p q).branches) (length (stage_at p l.thread.stage).branches) (ap length e) (ap length j))) h
+            at (inl e) = moves_inside q i (ap (sides_of f) e) (no_merge_at q (leads q i) (λ y j u. longer (length (stage_at p q).branches) (length (stage_at p l.thread.stage).branches) (ap length e) (ap length j))) h
             at (inr (inl e)) =
-                moves_inside q i ( ap (sides_of f) e.1 ∙ sides_other f e.0 (stage_at p l.thread.stage).branches (λ j. not_f (sym e.2 ∙ j)))
+                moves_inside q i (ap (sides_of f) e.1 ∙ sides_other f e.0 (stage_at p l.thread.stage).branches (λ j. not_f (sym e.2 ∙ j)))
                 (no_merge_at q (leads q i) (λ y j u. twice_longer (length (stage_at p q).branches) (length (stage_at p l.thread.stage).branches) (ap length e.1) (ap length j))) h
             at (inr (inr e)) = which (e.0.fork == f) refl
               where
@@ -263,7 +266,7 @@ module _ (p : Pipe) (flows : Flows p) (st : State) (d : Derived.State) (bits : L
                     ∙ subst (λ n. is_inside p f n ≡ false) (sym (eqb-true _ _ j)) (outside_self p flows.graph.fork_below f)))
                     (e.2 ∙ ap Some (eqb-true _ _ j)) h
                 which false j =
-                    moves_inside q i (sym (ap (sides_of f) e.1 ∙ sides_other f e.0 (stage_at p q).branches (eqb-false _ _ j))) ( ap (λ r. merges_fork r f) e.2 ∙ j) h
+                    moves_inside q i (sym (ap (sides_of f) e.1 ∙ sides_other f e.0 (stage_at p q).branches (eqb-false _ _ j))) (ap (λ r. merges_fork r f) e.2 ∙ j) h
 
         moved : (did p d bits ls l).moves ≡ true → (r : Option ℕ) → next_stage p l.thread.stage (deeds_of p st bits l) ≡ r
             → (if has_left p f (ms ls) then but_first (sides p f ls) else sides p f ls) ++ entered_branches p f (ms ls) ≡ sides p f (all_on ls)
@@ -283,14 +286,13 @@ module _ (p : Pipe) (flows : Flows p) (st : State) (d : Derived.State) (bits : L
             none false = refl
         moved go (Some q) i h = by (is_inside p f l.thread.stage) refl
           where
-            by : (t : Bool) → is_inside p fl.thread.stage ≡ t
-                    → (if leaves l
+            by : (t : Bool) → is_inside p f l.thread.stage ≡ t → (if leaves l
                     || has_left p f (ms ls) then but_first (sides p f ls ++ sides_of f (stage_at p l.thread.stage).branches)
                     else (sides p f ls ++ sides_of f (stage_at p l.thread.stage).branches))
                     ++ (entered_branches p f (ms ls) ++ enters l)
                     ≡ sides p f (all_on ls) ++ sides_of f (stage_at p q).branches
             by false e = outside_moves e (sides_of f (stage_at p q).branches) (enters_side q i e) h
-                by true e = inside_at p f l.thread.stage e (λ x c w j. inside_moves x c w j go q i h)
+            by true e = inside_at p f l.thread.stage e (λ x c w j. inside_moves x c w j go q i h)
 
         at : (b : Bool) → (did p d bits ls l).moves ≡ b
             → (if has_left p f (ms ls) then but_first (sides p f ls) else sides p f ls) ++ entered_branches p f (ms ls) ≡ sides p f (all_on ls)
@@ -312,11 +314,11 @@ module _ (p : Pipe) (flows : Flows p) (st : State) (d : Derived.State) (bits : L
 
         trunk : (b : List Branch) → (stage_at p l.thread.stage).branches ≡ b → Trunk p l.thread.stage
         trunk [] e = e
-        trunk ( x ∷ c) e = absurd (cc (sym g ∙ quiet (unchecked_trunk (in_stage l.thread.stage p.stmts) (flows.branches x c l.thread.stage e))))
+        trunk (x ∷ c) e = absurd (cc (sym g ∙ quiet (unchecked_trunk (in_stage l.thread.stage p.stmts) (flows.branches x c l.thread.stage e))))
 
     fell_at : (ls : List Live) → AllKnown p flows st d bits arrays ls → fell p d bits ls ≡ true → (v : ℕ) × (squash_stage (ms ls) ≡ Some v) × (someone v ls ≡ true) × Trunk p v × (v < length p.stages)
     fell_at [] k h = absurd (cc h)
-    fell_at (l ∷ ls) k h = at ((did p d bits ls l).moves && (work_of_live p d bits ls l).fails) refl h (λ i.fell_at ls k.1 i)
+    fell_at (l ∷ ls) k h = at ((did p d bits ls l).moves && (work_of_live p d bits ls l).fails) refl h (λ i. fell_at ls k.1 i)
       where
         or_true : (b : Bool) → (b || true) ≡ true
         or_true true = refl
@@ -330,14 +332,13 @@ module _ (p : Pipe) (flows : Flows p) (st : State) (d : Derived.State) (bits : L
             → (v : ℕ) × (squash_stage (ms (l ∷ ls)) ≡ Some v) × (someone v (l ∷ ls) ≡ true) × Trunk p v × (v < length p.stages)
         at true e g r = (
           l.thread.stage,
-          is ∙ ap (λ b. if b then Some l.thread.stage else squash_stage (ms ls )) e, ap (λ b. b || someone l.thread.stage ls) (eq-eqb l.thread.stage l.thread.stage refl),
+          is ∙ ap (λ b. if b then Some l.thread.stage else squash_stage (ms ls)) e,
+          ap (λ b. b || someone l.thread.stage ls) (eq-eqb l.thread.stage l.thread.stage refl),
           fails_at ls l (and_right (did p d bits ls l).moves _ e),
           k.0.seated.keeps_on.inside,
         )
         at false e g r =
-            let m = r g
-
-    in (
+            let m = r g in (
               m.0,
               is ∙ ap (λ b. if b then Some l.thread.stage else squash_stage (ms ls)) e ∙ m.1,
               ap (λ b. (l.thread.stage == m.0) || b) m.2 ∙ or_true (l.thread.stage == m.0),
@@ -359,8 +360,8 @@ module _ (p : Pipe) (flows : Flows p) (st : State) (d : Derived.State) (bits : L
         at false e = e
 
     -- the fork around a stage that is inside it stands before it
-    fork_before : (b : ℕ) → is_inside p f b ≡ true →f < b
-    fork_before b h = inside_at p f b h (λ xc i e. subst (λ n.n < b) e (flows.graph.fork_below x c b i).1)
+    fork_before : (b : ℕ) → is_inside p f b ≡ true → f < b
+    fork_before b h = inside_at p f b h (λ x c i e. subst (λ n. n < b) e (flows.graph.fork_below x c b i).1)
 
     one_side : (x : Live) → is_inside p f x.thread.stage ≡ false → sides p f (x ∷ []) ≡ []
     one_side x h = sides_none p f (x ∷ []) (h, tt)
@@ -378,6 +379,7 @@ module _ (p : Pipe) (flows : Flows p) (st : State) (d : Derived.State) (bits : L
 
         stage : fell p d bits ls ≡ true → squash_stage (ms ls) ≡ r
         stage e = sym (same_squash ls l k.0 e) ∙ is (ap (λ b. ((did p d bits ls l).moves && (work_of_live p d bits ls l).fails) || b) e ∙ or_true ((did p d bits ls l).moves && (work_of_live p d bits ls l).fails))
+
         removed : fell p d bits ls ≡ true → is_inside p f l.thread.stage ≡ false
         removed e =
             not_here l.thread.stage (λ i.
@@ -457,6 +459,6 @@ module _ (p : Pipe) (flows : Flows p) (st : State) (d : Derived.State) (bits : L
         at : (g : Bool) → fell p d bits ls ≡ g → (b : Bool) → merges_by p f (squash_stage (ms ls)) ≡ b
             → (if b then [] else sides p f (all_on ls)) ≡ sides p f (go_on p st d bits ls)
         at true e true i = sym (merged_on (squash_stage (ms ls)) i ls k o e refl)
-        at true e false i = sym (unmerged_on (squash_stage (ms ls)) i ls k o(λ _. refl))
+        at true e false i = sym (unmerged_on (squash_stage (ms ls)) i ls k o (λ _. refl))
         at false e true i = absurd (cc (sym i ∙ ap (merges_by p f) (no_squash_stage p flows st d bits arrays ls k e)))
         at false e false i = sym (calm_on ls e)

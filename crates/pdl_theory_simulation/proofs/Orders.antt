@@ -61,9 +61,9 @@ nobody_append (x ∷ xs) ys = refl
 
 nobody_side : (f : ℕ) (bs : List Branch) → is_nobody (sides_of f bs) ≡ not (list_any (λ b. b.fork == f) bs)
 nobody_side f [] = refl
-nobody_side f ( x ∷ bs) = at (x.fork == f) (nobody_side f bs)
+nobody_side f (x ∷ bs) = at (x.fork == f) (nobody_side f bs)
   where
-    at : (c : Bool) → is_nobody (sides_of f bs) ≡ not (list_any (λ b. b.fork == f) bs) → is_nobody ((if c then x.first ∷ [] else []) ++ sides_of f bs) ≡ not ( c || list_any (λ b. b.fork == f) bs)
+    at : (c : Bool) → is_nobody (sides_of f bs) ≡ not (list_any (λ b. b.fork == f) bs) → is_nobody ((if c then x.first ∷ [] else []) ++ sides_of f bs) ≡ not (c || list_any (λ b. b.fork == f) bs)
     at true h = refl
     at false h = h
 
@@ -117,7 +117,7 @@ module _ (p : Pipe) (flows : Flows p) (st : State) (d : Derived.State) (bits : L
   all_acts_of test (x ∷ xs) = ap (λ b. test (lact p st d bits x.older x.live) && b) (all_acts_of test xs)
 
   -- a branch's stage fails no verify and has no barrier
-  pub plain_branch : (l : Live) (x : Branch) (c : List Branch)→ Home p ( x ∷ c) l.thread.stage
+  pub plain_branch : (l : Live) (x : Branch) (c : List Branch) → Home p (x ∷ c) l.thread.stage
       → ((deeds_of p st bits l).fails ≡ false) × ((deeds_of p st bits l).barrier ≡ false)
   plain_branch l x c e = fails_none (Machine.word_for st l.number) (in_stage l.thread.stage p.stmts) (record {
     env = Machine.with_kept (with_answers p st bits (seat l)).kept l.env;
@@ -250,12 +250,12 @@ module _ (p : Pipe) (flows : Flows p) (st : State) (d : Derived.State) (bits : L
             ∙ sym (all_acts_of test (pairs older)) ∙ ap (list_all test) (acts_pairs older)
 
         -- a thread in another order by stage than by age stands in a branch
-        branch_if : (A : Type 0) (s : ℕ) → (Trunk p s → ⊥) → ((x : Branch) (c : List Branch)→ Home p ( x ∷ c) s → A) → A
+        branch_if : (A : Type 0) (s : ℕ) → (Trunk p s → ⊥) → ((x : Branch) (c : List Branch) → Home p (x ∷ c) s → A) → A
         branch_if A s none some = at (stage_at p s).branches refl
           where
             at : (b : List Branch) → (stage_at p s).branches ≡ b → A
             at [] e = absurd (none e)
-            at ( x ∷ c) e = some x c e
+            at (x ∷ c) e = some x c e
 
         fails_same : Moves.no_failure (acts_of later) ≡ list_all (λ (o : Derived.Act). not (o.moves && o.work.fails)) (dacts p d bits older)
         fails_same = tested (λ o. not (o.moves && o.does.fails)) (pair_map (λ y k. ((λ b i. branch_if _ y.live.thread.stage (λ e. clash (left_trunk p _ _ b y.live.thread.stage e (le_refl _)) i) (λ x c e. calm (did p d bits y.older y.live).moves (plain_branch y.live x c e).0)), (λ b i. branch_if _ y.live.thread.stage (λ e. irreflexive (left_trunk p _ _ b y.live.thread.stage e i)) (λ x c e. calm (did p d bits y.older y.live).moves (plain_branch y.live x c e).0)))) (pairs all) (known_pairs all known))
@@ -344,7 +344,7 @@ module _ (p : Pipe) (flows : Flows p) (st : State) (d : Derived.State) (bits : L
                 → Moves.barrier_clear p (acts_of later) (deeds_of p st bits l)
                 ≡ (not (deeds_of p st bits l).barrier || Derived.barrier_clear (verify_stage p.stmts) l.thread.stage (befores (dacts p d bits older)))
             at [] e = ap (λ x. not (deeds_of p st bits l).barrier || x) (trunk (verify_stage p.stmts) e)
-            at ( x ∷ c) e =
+            at (x ∷ c) e =
                 ap (λ b. not b || Moves.none_up_to (verify_stage p.stmts) (acts_of later)) (plain_branch l x c e).1
                 ∙ sym (ap (λ b. not b || Derived.barrier_clear (verify_stage p.stmts) l.thread.stage (befores (dacts p d bits older))) (plain_branch l x c e).1)
 
@@ -381,13 +381,18 @@ module _ (p : Pipe) (flows : Flows p) (st : State) (d : Derived.State) (bits : L
                   where
                     none : sides_of f (stage_at p l.thread.stage).branches ≡ []
                     none = ap (λ n. sides_of f (stage_at p n).branches) i ∙ sides_outside f (stage_at p f).branches (outside_self p flows.graph.fork_below f)
-                    outside : (y : Live) → Behind p y.thread.stage l.thread.stage → is_inside p f y.thread.stage ≡ false
-                    outside y b = not_inside p f y.thread.stage (λ xc h j.let home : Home p c x.fork = (flows.graph.fork_below x c y.thread.stage h).0 in
-                                let less : x.fork < l.thread.stage = fork_left p flows.graph x c y.thread.stage l.thread.stage b h (within_home p c _ (subst (λ n. Home p c n) (j ∙ sym i) home)) in
-                        let same = i in omega arith)
 
-                through : (x : Branch) (c : List Branch)→ Home p ( x ∷ c) l.thread.stage → x.fork ≡ f
-                    → ((b : ℕ) → Within p ( x ∷ c) b → b ≤ l.thread.stage)
+                    outside : (y : Live) → Behind p y.thread.stage l.thread.stage → is_inside p f y.thread.stage ≡ false
+                    outside y b =
+                        not_inside p f y.thread.stage
+                        (λ x c h j.
+                        let home : Home p c x.fork = (flows.graph.fork_below x c y.thread.stage h).0 in
+                        let less : x.fork < l.thread.stage = fork_left p flows.graph x c y.thread.stage l.thread.stage b h (within_home p c _ (subst (λ n. Home p c n) (j ∙ sym i) home)) in
+                        let same = i in
+                        omega arith)
+
+                through : (x : Branch) (c : List Branch) → Home p (x ∷ c) l.thread.stage → x.fork ≡ f
+                    → ((b : ℕ) → Within p (x ∷ c) b → b ≤ l.thread.stage)
                     → Moves.may_merge st (Some f) (stage_at p l.thread.stage).branches ≡ Derived.fork_clear p (dacts p d bits older) (Some f)
                 through x c j i top =
                     ap (λ s. is_its_turn s (fork_of st f)) mine_side
@@ -397,6 +402,7 @@ module _ (p : Pipe) (flows : Flows p) (st : State) (d : Derived.State) (bits : L
                   where
                     mine_side : sides_of f (stage_at p l.thread.stage).branches ≡ x.first ∷ []
                     mine_side = sides_inside p flows.graph.fork_below f x c l.thread.stage (within_home p _ _ j) i
+
                     flip : (a b : Bool) → (a ≡ b → ⊥) → a ≡ not b
                     flip true true n = absurd (n refl)
                     flip true false n = refl
@@ -413,9 +419,9 @@ module _ (p : Pipe) (flows : Flows p) (st : State) (d : Derived.State) (bits : L
                         let less : l.thread.stage < k.thread.stage = b (x ∷ c) (within_home p _ _ j) here l.thread.stage j (le_refl _) in
                         omega arith
 
-                    side : (k : Live) → Behind p l.thread.stage k.thread.stage → (t : Bool) → is_inside p fk.thread.stage ≡ t → AllAre (not x.first) (sides_of f (stage_at p k.thread.stage) .branches)
-                        side k b false g = subst (λ s. AllAre (not x.first) s) (sym (sides_outside f (stage_at p k.thread.stage).branches g)) tt
-                        side k b true g =
+                    side : (k : Live) → Behind p l.thread.stage k.thread.stage → (t : Bool) → is_inside p f k.thread.stage ≡ t → AllAre (not x.first) (sides_of f (stage_at p k.thread.stage).branches)
+                    side k b false g = subst (λ s. AllAre (not x.first) s) (sym (sides_outside f (stage_at p k.thread.stage).branches g)) tt
+                    side k b true g =
                         inside_at p f k.thread.stage g
                         (λ z e h n. subst (λ s. AllAre (not x.first) s) (sym (sides_inside p flows.graph.fork_below f z e k.thread.stage h n)) (flip z.first x.first (λ same. twice k b z e h n same), tt))
 

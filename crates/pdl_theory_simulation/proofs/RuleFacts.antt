@@ -246,11 +246,11 @@ module _ (p : Pipe) (rules : FlowRules p) where
       fork_same f first i (Goes to) e = refl
       fork_same f first i (Forks v a c) e = ap (takes_branch first) (guard_same f v a c i e)
 
-      branches_at : (q : ℕ) → ((x : Branch) (c : List Branch)→ Within p ( x ∷ c) q → x.fork ≤ s) → visits_stage p env q ≡ visits_stage p env' q
-      branches_at q low_forks = visits_same p q env env' (λ x ci. fork_same x.fork x.first (low_forks x c i) (stage_at p x.fork).next refl)
+      branches_at : (q : ℕ) → ((x : Branch) (c : List Branch) → Within p (x ∷ c) q → x.fork ≤ s) → visits_stage p env q ≡ visits_stage p env' q
+      branches_at q low_forks = visits_same p q env env' (λ x c i. fork_same x.fork x.first (low_forks x c i) (stage_at p x.fork).next refl)
 
       branch_at : (q : ℕ) → q ≤ s → visits_stage p env q ≡ visits_stage p env' q
-      branch_at q i = branches_at q (λ xc h.let u = (rules.graph.fork_below x c q h).1 in omega arith)
+      branch_at q i = branches_at q (λ x c h. let u = (rules.graph.fork_below x c q h).1 in omega arith)
 
       next_same : (n : Next) → (stage_at p s).next ≡ n → next_of p s env ≡ next_of p s env'
       next_same Ends e = ap (λ m. stage_or (length p.stages) (goes_to m env)) e ∙ sym (ap (λ m. stage_or (length p.stages) (goes_to m env')) e)
@@ -270,13 +270,14 @@ module _ (p : Pipe) (rules : FlowRules p) where
 
       next_branch : (r : Option ℕ) → goes_to (stage_at p s).next env' ≡ r → visits_stage p env (next_of p s env') ≡ visits_stage p env' (next_of p s env')
       next_branch None e =
-          subst (λ n. visits_stage p env n ≡ visits_stage p env' n) (sym (ap (stage_or (length p.stages)) e)) (branches_at (length p.stages) (λ xc i.let u = (rules.graph.fork_below x c (length p.stages) i).1 in let v = (rules.graph.last s env' low e).0 in omega arith))
+          subst (λ n. visits_stage p env n ≡ visits_stage p env' n) (sym (ap (stage_or (length p.stages)) e))
+          (branches_at (length p.stages) (λ x c i. let u = (rules.graph.fork_below x c (length p.stages) i).1 in let v = (rules.graph.last s env' low e).0 in omega arith))
       next_branch (Some q) e =
-          subst (λ n. visits_stage p env n ≡ visits_stage p env' n) (sym (ap (stage_or (length p.stages)) e)) (branches_at q (λ xc i.from x c (came_from_way p x c s q (rules.graph.way s q (env', e, low)) i)))
-            where
-              from : ( x : Branch) (c : List Branch) → (x.fork ≡ s) ⊎ Within p (x ∷ c)s → x.fork ≤ s
-              from x c (inl j) = omega arith
-              from x c (inr j) = let u = (rules.graph.fork_below x c s j).1 in omega arith
+          subst (λ n. visits_stage p env n ≡ visits_stage p env' n) (sym (ap (stage_or (length p.stages)) e)) (branches_at q (λ x c i. from x c (came_from_way p x c s q (rules.graph.way s q (env', e, low)) i)))
+        where
+          from : (x : Branch) (c : List Branch) → (x.fork ≡ s) ⊎ Within p (x ∷ c) s → x.fork ≤ s
+          from x c (inl j) = omega arith
+          from x c (inr j) = let u = (rules.graph.fork_below x c s j).1 in omega arith
 
   -- the statements up to the next stage
   next_rule : (path : List ℕ) (s : ℕ) → s < length p.stages → visits_stage p path s ≡ true

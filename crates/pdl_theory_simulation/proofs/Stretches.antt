@@ -32,13 +32,13 @@ on_way p path s = onpath path (stages_before s p.stmts)
 abbrev pub Unlike : List Awaited → List ℕ → List ℕ → Type 0
 Unlike rs env env' = (g : ℕ) → awaits_var rs g ≡ false → slice_index env g ≡ slice_index env' g
 
--- a thread in stage s is behind one in stage b: in whatever branches both stand, each stage that was reached from s of just these on was left from b on
-pub Behind : Pipe → ℕ → ℕ → Type 0
+-- a thread in stage s is behind one in stage b: in whatever branches both stand, each stage that was reached from s of just these on was left from b on pub Behind : Pipe → ℕ → ℕ → Type 0
 Behind p s b = (c : List Branch) → Within p c s → Within p c b → Below p c b s
 
 pub left_trunk : (p : Pipe) (s b : ℕ) → Behind p s b → (r : ℕ) → Trunk p r → r ≤ s → r < b
 left_trunk p s b h r t i = h [] (within_all p s) (within_all p b) r t i
-  pub less_home : (p : Pipe) (s b : ℕ) → Behind p s b → (stage_at p s).branches ≡ (stage_at p b).branches → s < b
+
+pub less_home : (p : Pipe) (s b : ℕ) → Behind p s b → (stage_at p s).branches ≡ (stage_at p b).branches → s < b
 less_home p s b h e = h (stage_at p s).branches (within_home p _ s refl) (within_home p _ b (sym e)) s refl (le_refl s)
 
 -- who is behind a thread that stands where a fork stands is inside the fork only if the other one is past it
@@ -53,12 +53,13 @@ not_behind p g k s l h = at (g.way k s l)
     up = (g.up k s l).0
 
     at : Way p k s → ⊥
-    at (inl e) =let j : s < k = less_home p s k h e in let u = up in omega arith
+    at (inl e) = let j : s < k = less_home p s k h e in let u = up in omega arith
     at (inr (inl e)) =
         let j : e.0.fork < k = fork_left p g e.0 (stage_at p k).branches s k h (within_home p _ s e.1) (within_home p _ k refl) in
         let same = e.2 in omega arith
     at (inr (inr e)) =
-        let j : s < k = h (stage_at p s).branches (within_home p _ s refl) (e.0 ∷ [], e.1) s refl (le_refl s) in let u = up in omega arith
+        let j : s < k = h (stage_at p s).branches (within_home p _ s refl) (e.0 ∷ [], e.1) s refl (le_refl s) in
+        let u = up in omega arith
 
 -- each awaited memory is read in the stage before
 abbrev pub Fetched : Pipe → ℕ → ℕ → Type 0

@@ -46,25 +46,25 @@ module _ (p : Pipe) (g : Ways p) where
   -- a thread stays behind an
  older one that moves on
   pub behind_later : (s b b' : ℕ) → Leads p b b' → Behind p s b → Behind p s b'
-  behind_later s b b' l h c i j r t k = let
-      up : b < b' = (g.up b b' l).0 in let less : r < b = hc i (was_there c s b b' l h i j) r t k in
+  behind_later s b b' l h c i j r t k =
+      let up : b < b' = (g.up b b' l).0 in
+      let less : r < b = h c i (was_there c s b b' l h i j) r t k in
       omega arith
 
   -- the younger one moves on: not past one inside the fork that it merges
   moved_on : (c : List Branch) (s s' b : ℕ) → Leads p s s' → Behind p s b
       → ((f : ℕ) → (stage_at p s').merges ≡ Some f → is_inside p f b ≡ false) → Within p c s' → Within p c b
-      → (r : ℕ) → Home p c r → r ≤ s' → (r < b) ⊎ ((r ≡ s')× ( s' ≤ b
-  ))
+      → (r : ℕ) → Home p c r → r ≤ s' → (r < b) ⊎ ((r ≡ s') × (s' ≤ b))
   moved_on c s s' b l h clear i j r t k = at (came_way p c s s' (g.way s s' l) i)
     where
       passes : Within p c s → Home p c s' → s' ≤ b
       passes w home = by (nat_lt b s') refl
-    where
-      by : (d : Bool) → nat_lt b s' ≡ d → s' ≤ b
-      by true e = let u = g.between c s s' b l w home (h c w j) j (ltb-true _ _ e) in absurd (cc (sym u.2 ∙ clear u.0 u.1))
-      by false e = ltb-false _ _ e
+        where
+          by : (d : Bool) → nat_lt b s' ≡ d → s' ≤ b
+          by true e = let u = g.between c s s' b l w home (h c w j) j (ltb-true _ _ e) in absurd (cc (sym u.2 ∙ clear u.0 u.1))
+          by false e = ltb-false _ _ e
 
-  at : Came p c s s' → (r < b) ⊎ ((r ≡ s') × (s' ≤ b))
+      at : Came p c s s' → (r < b) ⊎ ((r ≡ s') × (s' ≤ b))
       at (inl w) = by (nat_le r s) refl
         where
           by : (d : Bool) → nat_le r s ≡ d → (r < b) ⊎ ((r ≡ s') × (s' ≤ b))
@@ -73,7 +73,7 @@ module _ (p : Pipe) (g : Ways p) where
       at (inr w) = inr (exact (entered r (within_home p c r t)), entered b j)
         where
           entered : (q : ℕ) → Within p c q → s' ≤ q
-          entered q z = g.entry w.0 (stage_at p s).branches s' q (subst (λ n. Leads p n s') ( sym w.2) l) (subst (λ d. Home p d s') w.1 w.3) (subst (λ d. Within p d q) w.1 z)
+          entered q z = g.entry w.0 (stage_at p s).branches s' q (subst (λ n. Leads p n s') (sym w.2) l) (subst (λ d. Home p d s') w.1 w.3) (subst (λ d. Within p d q) w.1 z)
 
           exact : s' ≤ r → r ≡ s'
           exact z = omega arith
@@ -85,7 +85,7 @@ module _ (p : Pipe) (g : Ways p) where
       → ((f : ℕ) → (stage_at p s').merges ≡ Some f → is_inside p f b ≡ false) → (s' ≡ b → ⊥) → Behind p s' b
   behind_moved s s' b l h clear other c i j r t k = at (moved_on c s s' b l h clear i j r t k)
     where
-      at : (r < b) ⊎ ((r ≡ s')× ( s' ≤ b)) → r < b
+      at : (r < b) ⊎ ((r ≡ s') × (s' ≤ b)) → r < b
       at (inl e) = e
       at (inr e) = by (s' == b) refl
         where
@@ -101,17 +101,26 @@ module _ (p : Pipe) (g : Ways p) where
       up : b < b'
       up = (g.up b b' m).0
 
-      at : Came pc b b' → r < b'
-      at (inl w) = by (moved_on c s s' b l h clear i w r t k) where
-          by : (r < b) ⊎ ((r ≡ s') × ( s' ≤ b )) → r < b'
-          by (inl e ) = let u = up in omega arith
-      by (inr e) = let u = up in let v = e.0 in let z = e.1 in omega arith
-      at (inr w) = absurd (from (came_way p c s s' (g.way s s' l ) i))
+      at : Came p c b b' → r < b'
+      at (inl w) = by (moved_on c s s' b l h clear i w r t k)
         where
-          from : Came p c ss' → ⊥
-          from (inl z) = let less : w.0.fork < b = fork_left p g w.0 (stage_at p b).branches s b h (subst (λ d. Within p d s) w.1 z) (within_home p _ b refl) in let same = w.2 inomega arith
-          from (inr z) = let e : (stage_at p s).branches ≡ (stage_at p b).branches = same_tail z.0 w.0 _ _ (sym z.1 ∙ w.1) in let less : s < b = less_home p s b h e in let same : z.0.fork ≡ w.0.fork = ap (λ (y : Branch) . y.fork) (same_head z.0 w.0 _ _ (sym z.1 ∙ w.1)) in let u = z.2 in
-              let v = w.2 in omega arith
+          by : (r < b) ⊎ ((r ≡ s') × (s' ≤ b)) → r < b'
+          by (inl e) = let u = up in omega arith
+          by (inr e) = let u = up in let v = e.0 in let z = e.1 in omega arith
+      at (inr w) = absurd (from (came_way p c s s' (g.way s s' l) i))
+        where
+          from : Came p c s s' → ⊥
+          from (inl z) =
+              let less : w.0.fork < b = fork_left p g w.0 (stage_at p b).branches s b h (subst (λ d. Within p d s) w.1 z) (within_home p _ b refl) in
+              let same = w.2 in
+              omega arith
+          from (inr z) =
+              let e : (stage_at p s).branches ≡ (stage_at p b).branches = same_tail z.0 w.0 _ _ (sym z.1 ∙ w.1) in
+              let less : s < b = less_home p s b h e in
+              let same : z.0.fork ≡ w.0.fork = ap (λ (y : Branch). y.fork) (same_head z.0 w.0 _ _ (sym z.1 ∙ w.1)) in
+              let u = z.2 in
+              let v = w.2 in
+              omega arith
 
 module _ (p : Pipe) (flows : Flows p) where
   module _ (st : State) (d : Derived.State) (bits : List Bool) (arrays : st.arrays ≡ d.arrays) where

@@ -30,20 +30,18 @@ any_of test [] z c h = ap (λ b. b || list_any test c) h
 any_of test (y ∷ ys) z c h = or_right (test y) _ (any_of test ys z c h)
 
 module _ (p : Pipe) (g : Ways p) where
-  -- between a fork and a stage in one of its branches stands no stage
-  of the branches around the fork
+  -- between a fork and a stage in one of its branches stands no stage of the branches around the fork
   none_between : (env : List ℕ) (s : ℕ) (trail : List ℕ) (x : Branch) (c : List Branch) (r : ℕ) → Trail p env s trail
-      → Within p ( x ∷ c)s → Home p c r → x.fork < r → r ≤ s → ⊥
-  none_between env s [] x c r h b t low up = trunk_within p x c s (subst (λ n. Trunk p n) (sym h) g.trunk_start)
-  b
+      → Within p (x ∷ c) s → Home p c r → x.fork < r → r ≤ s → ⊥
+  none_between env s [] x c r h b t low up = trunk_within p x c s (subst (λ n. Trunk p n) (sym h) g.trunk_start) b
   none_between env s (q ∷ qs) x c r h b t low up = at (nat_lt q r) refl (came_from_way p x c q s (g.way q s (env, h.0, h.1)) b) (λ e i. none_between env q qs x c r h.2 e t low i)
     where
-      around : (x.fork ≡ q) ⊎ Within p ( x ∷ c) q → Within p c q
+      around : (x.fork ≡ q) ⊎ Within p (x ∷ c) q → Within p c q
       around (inl i) = within_home p c q (subst (λ n. Home p c n) i (g.fork_below x c s b).0)
       around (inr i) = within_more p x c q i
 
       at : (d : Bool) → nat_lt q r ≡ d
-          → (x.fork ≡ q) ⊎ Within p ( x ∷ c) q → (Within p (x ∷ c) q → r ≤ q → ⊥) → ⊥
+          → (x.fork ≡ q) ⊎ Within p (x ∷ c) q → (Within p (x ∷ c) q → r ≤ q → ⊥) → ⊥
       at true e i f = no_cycle x c b.0 (sym (ap (λ n. (stage_at p n).branches) (sym (g.jump c q s r (env, h.0, h.1) (around i) t (ltb-true _ _ e) up)) ∙ t) ∙ b.1)
       at false e (inl i) f = absurd (let k = ltb-false _ _ e in omega arith)
       at false e (inr i) f = f i (ltb-false _ _ e)
@@ -54,7 +52,6 @@ module _ (p : Pipe) (g : Ways p) where
       → Sound.is_behind p older younger ≡ true
   behind_is older younger env env' trail trail' t t' h = from (suc (length (stage_at p younger.stage).branches)) [] (stage_at p younger.stage).branches (stage_at p older.stage).branches (sym (append-nil _)) (sym (append-nil _)) (omega arith)
     where
-
       less : younger.stage < older.stage
           → Sound.is_behind p older younger ≡ true
       less i = or_left (nat_lt younger.stage older.stage) _ (lt-ltb _ _ i)
@@ -76,7 +73,7 @@ module _ (p : Pipe) (g : Ways p) where
       alike false false = inl refl
 
       -- in branches of two forks that stand in the branches c
-      apart : (c : List Branch) (x y : Branch) → Within p ( x ∷ c)younger.stage → Within p ( y ∷ c) older.stage
+      apart : (c : List Branch) (x y : Branch) → Within p (x ∷ c) younger.stage → Within p (y ∷ c) older.stage
           → x.fork ≢ y.fork → older.stage ≤ younger.stage → ⊥
       apart c x y e f n low = by (nat_lt x.fork y.fork) refl
         where
@@ -100,9 +97,7 @@ module _ (p : Pipe) (g : Ways p) where
                   go true w = absurd (u (sym (eqb-true _ _ w)))
                   go false w = let z = eqb-false _ _ w in omega arith
 
-      -- from the branches c, in which
-
-      both stand, inwards
+      -- from the branches c, in which both stand, inwards
       from : (n : ℕ) (c mine its : List Branch) → (stage_at p younger.stage).branches ≡ mine ++ c → (stage_at p older.stage).branches ≡ its ++ c
           → length mine < n → Sound.is_behind p older younger ≡ true
       from zero c mine its e f low = absurd (omega arith)
@@ -111,7 +106,8 @@ module _ (p : Pipe) (g : Ways p) where
         where
           inner : (init : List Branch) × (z : Branch) × (m ∷ ms ≡ init ++ z ∷ []) → Sound.is_behind p older younger ≡ true
           inner r =
-              let here : Within p (r.1 ∷ c) younger.stage = (r.0, e ∙ ap (λ l. l ++ c) r.2 ∙ append_assoc r.0 (r.1 ∷ []) c) in less (unless (λ i. none_between env' younger.stage trail' r.1 c older.stage t' here f (fork_left p g r.1 c younger.stage older.stage h here ([], f)) i))
+              let here : Within p (r.1 ∷ c) younger.stage = (r.0, e ∙ ap (λ l. l ++ c) r.2 ∙ append_assoc r.0 (r.1 ∷ []) c) in
+              less (unless (λ i. none_between env' younger.stage trail' r.1 c older.stage t' here f (fork_left p g r.1 c younger.stage older.stage h here ([], f)) i))
       from (suc n) c (m ∷ ms) (o ∷ os) e f low = inner (last_of m ms) (last_of o os) (λ d a b i j k. from n d a b i j k)
         where
           inner : (init : List Branch) × (z : Branch) × (m ∷ ms ≡ init ++ z ∷ []) → (init : List Branch) × (z : Branch) × (o ∷ os ≡ init ++ z ∷ [])
@@ -120,7 +116,7 @@ module _ (p : Pipe) (g : Ways p) where
           inner r s further = at (r.1.fork == s.1.fork) refl
             where
               here : Within p (r.1 ∷ c) younger.stage
-              here = (r.0,e ∙ ap (λ l. l ++ c) r.2 ∙ append_assoc r.0 (r.1 ∷ []) c)
+              here = (r.0, e ∙ ap (λ l. l ++ c) r.2 ∙ append_assoc r.0 (r.1 ∷ []) c)
 
               there : Within p (s.1 ∷ c) older.stage
               there = (s.0, f ∙ ap (λ l. l ++ c) s.2 ∙ append_assoc s.0 (s.1 ∷ []) c)
@@ -130,7 +126,8 @@ module _ (p : Pipe) (g : Ways p) where
 
               others : (if s.1.first then not r.1.first else r.1.first) ≡ true → (s.1.fork == r.1.fork) ≡ true → Sound.is_behind p older younger ≡ true
               others i j =
-              or_right (nat_lt younger.stage older.stage) _ (ap₂ are_apart there.1 here.1 ∙ any_of (λ a. list_any (other_branch a) (r.0 ++ r.1 ∷ c)) s.0 s.1 c (any_of (other_branch s.1) r.0 r.1 c ( ap₂ (λ a b. a && b) j i)))
+              or_right (nat_lt younger.stage older.stage) _
+                  (ap₂ are_apart there.1 here.1 ∙ any_of (λ a. list_any (other_branch a) (r.0 ++ r.1 ∷ c)) s.0 s.1 c (any_of (other_branch s.1) r.0 r.1 c (ap₂ (λ a b. a && b) j i)))
 
               at : (b : Bool) → (r.1.fork == s.1.fork) ≡ b → Sound.is_behind p older younger ≡ true
               at false i = less (unless (apart c r.1 s.1 here there (eqb-false _ _ i)))

@@ -266,7 +266,7 @@ module _ (o : Around) (vars : ℕ) (kind : Kind o) where
         asked = all_more (AskedBy w.env past) (AskedBy w.env (op ∷ past)) w.asks (λ q k. inr k) h.asked;
         unused =
             all_more (λ q. (mentions_var q.var op ≡ false) × AllOps (λ o'. touches q.var o' ≡ false) past)
-            (λ q. AllOps (λ o'. touches q.var o' ≡ false) (op ∷ past)) w.asks (λ q k. (apart qk.0, k.1))
+            (λ q. AllOps (λ o'. touches q.var o' ≡ false) (op ∷ past)) w.asks (λ q k. (apart q k.0, k.1))
             (all_both (λ q. mentions_var q.var op ≡ false) (λ q. AllOps (λ o'. touches q.var o' ≡ false) past) w.asks silent h.unused);
         blocks =
             (block, ops_map (λ o' b. block_more o w.env w.entries w.entries past (op ∷ past) o' (λ m a i. or_right (is_release_at m a op) _ i) (λ m a. inr (λ i. i)) b) past h.blocks);

@@ -255,8 +255,7 @@ module _ (p : Pipe) (sound : Sound p) where
       → ((m : ℕ) (test : Pending → Bool) → list_any test (pend m l.number l.thread.entries) ≡ true → list_any test (lock_of st m) ≡ true)
       → on_path p st (told l) ≡ true
   path_point st l seated loc low locks =
-      both_true (both_true (both_true
-      (both_true
+      both_true (both_true (both_true (both_true
       (trail_comes p (sound_flows p sound).graph l.env l.thread.stage l.thread.stage
       (length p.stages) 1 loc.trail loc.walked (or_left (l.thread.stage == l.thread.stage) _ (eq-eqb _ _ refl))
       (let i = seated.keeps_on.inside in omega arith))

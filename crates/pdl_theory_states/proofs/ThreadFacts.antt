@@ -308,7 +308,7 @@ module _ (p : Pipe) (sound : Sound p) (strict : Strict p) where
 
             at : (c : List Branch) → (stage_at p l.thread.stage).branches ≡ c → Each (λ j. v < j.thread.stage) ks
             at [] i = each ks (each_map (λ j g. left_trunk p _ _ g l.thread.stage i (le_refl l.thread.stage)) ks behind) clear
-            at ( x ∷ c) i =
+            at (x ∷ c) i =
                 absurd (not_barred (in_stage l.thread.stage p.stmts) (work_of_live p d bits ks l).env ((sound_flows p sound).branches x c l.thread.stage i) b)
 
         abbrev moved_local : (q : ℕ)

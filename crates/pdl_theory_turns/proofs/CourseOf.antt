@@ -202,32 +202,33 @@ module _ (p : Pipe) (acc : Sound p) where
     changed_here s (inl h) = inl (child_here s ∙ h.0, fails_here s ∙ h.1)
     changed_here s (inr h) = inr (h.0, child_here s ∙ h.1, fails_here s ∙ h.2)
 
-    made_changes : (s : ℕ) (x : List ℕ) → (so_far p arrays args s).child ≡ Some x → Changed (stage_work p arrays args s)made_changes s x e =
+    made_changes : (s : ℕ) (x : List ℕ) → (so_far p arrays args s).child ≡ Some x → Changed (stage_work p arrays args s)
+    made_changes s x e =
         changed_here s
         (Makes.made_changes (at_once p) acc.pathwise (thread (at_once p) arrays args).env arrays args (alone arrays) s x (ap (λ (w : Work). w.child) (sym (so s)) ∙ e))
 
     -- along the path: a guess that isn't verified yet
-    inside : (s : ℕ) → ((v : ℕ) × (verify_stage (looked_all p.stmts) ≡ Some v)
-    × ( s ≤ v)) → (s ≤ v_of (verify_stage p.stmts)) × (verify_stage p.stmts ≡ Some (v_of (verify_stage p.stmts)))
+    inside : (s : ℕ) → ((v : ℕ) × (verify_stage (looked_all p.stmts) ≡ Some v) × (s ≤ v)) → (s ≤ v_of (verify_stage p.stmts)) × (verify_stage p.stmts ≡ Some (v_of (verify_stage p.stmts)))
     inside s i =
         let there : verify_stage p.stmts ≡ Some i.0 = sym
-        (verify_looked p.stmts) ∙ i.1 in (subst (λ o. s ≤ v_of o) (sym there) i.2, there ∙ ap (λ o. Some (v_of o)) (sym there))
+        (verify_looked p.stmts) ∙ i.1 in
+        (subst (λ o. s ≤ v_of o) (sym there) i.2, there ∙ ap (λ o. Some (v_of o)) (sym there))
 
     -- a thread that has made one
     module _ (s : ℕ) (x : List ℕ) (e : (so_far p arrays args s).child ≡ Some x) where
       made_here : (so_far (along (thread (at_once p) arrays args).env (at_once p)) arrays args s).child ≡ Some x
       made_here = ap (λ (w : Work). w.child) (sym (so s)) ∙ e
 
-      wrong_made : same_args x (thread p arrays args).next ≡ false
-      → (s ≤ v_of (verify_stage p.stmts)) × (verify_stage p.stmts ≡ Some (v_of (verify_stage p.stmts)))
+      wrong_made : same_args x (thread p arrays args).next ≡ false → (s ≤ v_of (verify_stage p.stmts)) × (verify_stage p.stmts ≡ Some (v_of (verify_stage p.stmts)))
       wrong_made h =
           inside s (
           Makes.guess_inside (at_once p) acc.pathwise (thread (at_once p) arrays args).env arrays args s
           (Makes.wrong_made (at_once p) acc.pathwise (thread (at_once p) arrays args).env arrays args s x made_here (ap (λ (r : Run). same_args x r.next) (sym whole) ∙ h)))
 
       changes_early : (stage_work p arrays args s).fails ≡ true → (s ≤ v_of (verify_stage p.stmts)) × (verify_stage p.stmts ≡ Some (v_of (verify_stage p.stmts)))
-      changes_early h = inside s (Makes.guess_inside (at_once p) acc.pathwise (thread (at_once p) arrays args).env arrays args s (Makes.change_guessed (at_once p) acc.pathwise (thread (at_once p) arrays args).env arrays args (alone arrays) s x made_here
-          (sym (fails_here s) ∙ h)))
+      changes_early h =
+          inside s (Makes.guess_inside (at_once p) acc.pathwise (thread (at_once p) arrays args).env arrays args s
+          (Makes.change_guessed (at_once p) acc.pathwise (thread (at_once p) arrays args).env arrays args (alone arrays) s x made_here (sym (fails_here s) ∙ h)))
 
     fetched : (o : Around) (t : Thread) → AllAsks (λ q. FetchOk p acc.fetch t.stage q.var q.mem) (work_of_stage p o t).asks
     fetched o t =

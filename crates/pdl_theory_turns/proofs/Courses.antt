@@ -91,8 +91,7 @@ pub record Course (p : Pipe) : Type 1 where
   pub child_end : (arrays : Arrays) (args : List ℕ) → right_guess (so_far p arrays args (length p.stages)).child (thread p arrays args).next ≡ true
   -- once it has made one, a stage makes nothing or replaces it, which is no later than v
   pub made_changes : (arrays : Arrays) (args : List ℕ) (s : ℕ) (x : List ℕ) → on arrays args s → (so_far p arrays args s).child ≡ Some x → Changed (stage_work p arrays args s)
-  pub changes_early : (arrays : Arrays) (args : List ℕ) (s : ℕ) (x : List ℕ) → on arrays args s → (so_far p arrays args s).child ≡ Some x → (stage_work p arrays args s).fails ≡ true
-      → ( s≤ v) × (verify_stage p.stmts ≡ Some v)
+  pub changes_early : (arrays : Arrays) (args : List ℕ) (s : ℕ) (x : List ℕ) → on arrays args s → (so_far p arrays args s).child ≡ Some x → (stage_work p arrays args s).fails ≡ true → (s ≤ v) × (verify_stage p.stmts ≡ Some v)
   pub wrong_made : (arrays : Arrays) (args : List ℕ) (s : ℕ) (x : List ℕ) → (so_far p arrays args s).child ≡ Some x
       → same_args x (thread p arrays args).next ≡ false → (s ≤ v) × (verify_stage p.stmts ≡ Some v)
   -- a thread after a wrong guess, which has passed no barrier

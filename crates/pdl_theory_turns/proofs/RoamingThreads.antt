@@ -218,7 +218,6 @@ module _ (p : Pipe) (acc : Sound p) where
         ≡ (has_made p t || is_some (work_of_stage p o t).child))
     makes_one = by (making_all Unmade (onpath (work_of_stage p o t).env (before t.stage p.stmts))) refl
       where
-
         had : (k : Making) → making_all Unmade (onpath (work_of_stage p o t).env (before t.stage p.stmts)) ≡ k → has_made p t ≡ not (is_unmade k)
         had k i = ap (λ l. not (is_unmade (making_all Unmade l))) (sym same_before) ∙ ap (λ j. not (is_unmade j)) i
 
@@ -238,7 +237,7 @@ module _ (p : Pipe) (acc : Sound p) where
             changed_all o (verify_stage p.stmts) k (onpath (work_of_stage p o t).env (in_stage t.stage p.stmts))
             (record { env = t.env; entries = t.entries; guess = t.guess; asks = []; commits = []; child = None; fails = false; ready = true }) u
             (subst (λ j. makings_ok (verify_stage p.stmts) j (onpath (work_of_stage p o t).env (in_stage t.stage p.stmts)) ≡ true) i ok_here) (inl (refl, refl)) in (
-              (λ _. subst (λ (w : Work). Changed w) (sym along_path ) s.0),
+              (λ _. subst (λ (w : Work). Changed w) (sym along_path) s.0),
               ap (λ j. not (is_unmade j)) (ap (λ j. making_all j (onpath (work_of_stage p o t).env (in_stage t.stage p.stmts))) i)
                   ∙ ap not s.1 ∙ sym (ap (λ b. b || is_some (work_of_stage p o t).child) (had k i ∙ ap not u)),
             )
@@ -265,9 +264,12 @@ module _ (p : Pipe) (acc : Sound p) where
 
     -- the side of its branch stays
     on_now : visits_stage p t.env t.stage ≡ true → visits_stage p (work_of_stage p o t).env t.stage ≡ true
-    on_now h = visits_same p t.stage (work_of_stage p o t).env t.env (λ x ci. side_same (stage_at p x.fork).next x.first (work_of_stage p o t).env t.env
+    on_now h =
+        visits_same p t.stage (work_of_stage p o t).env t.env
+        (λ x c i. side_same (stage_at p x.fork).next x.first (work_of_stage p o t).env t.env
             (λ z a b f. all_stays z o (in_stage t.stage p.stmts) _
-            (none_stage_from (binds_var z) (suc x.fork) t.stage p.stmts (acc.branches.fork x c t.stage i).1 (acc.fork_bound x.fork z a b f)))) ∙ h
+            (none_stage_from (binds_var z) (suc x.fork) t.stage p.stmts (acc.branches.fork x c t.stage i).1 (acc.fork_bound x.fork z a b f))))
+        ∙ h
 
     -- the next stage of the thread is on its path
     on_then : visits_stage p (work_of_stage p o t).env t.stage ≡ true → t.stage < length p.stages
@@ -281,7 +283,7 @@ module _ (p : Pipe) (acc : Sound p) where
         (λ y c e. asks_each (λ x m. steers p y x ≡ false) o (in_stage t.stage p.stmts) _ (none_steers y c e (stage_at p y.fork).next refl) tt)
       where
         flip : (qs : List Ask)
-            → ((y : Branch) ( c : List Branch) → Within p (y ∷ c) (next_of p t.stage (work_of_stage p o t).env) → AllAsks (λ q. steers p y q.var ≡ false) qs)
+            → ((y : Branch) (c : List Branch) → Within p (y ∷ c) (next_of p t.stage (work_of_stage p o t).env) → AllAsks (λ q. steers p y q.var ≡ false) qs)
             → AllAsks (λ q. Aside p (next_of p t.stage (work_of_stage p o t).env) q.var) qs
         flip [] h = tt
         flip (q ∷ qs) h = ((λ y c e. (h y c e).0), flip qs (λ y c e. (h y c e).1))
@@ -315,7 +317,7 @@ module _ (p : Pipe) (acc : Sound p) where
         each P [] f = tt
         each P (y ∷ ys) f = ((λ d x m a e. f x m), each P ys f)
 
-        none_steers : (y : Branch) ( c : List Branch) → Within p (y ∷ c) (next_of p t.stage (work_of_stage p o t).env) → (n : Next)
+        none_steers : (y : Branch) (c : List Branch) → Within p (y ∷ c) (next_of p t.stage (work_of_stage p o t).env) → (n : Next)
             → (stage_at p y.fork).next ≡ n → EachFetch (λ x m. steers p y x ≡ false) (in_stage t.stage p.stmts)
         none_steers y c e Ends f = each (λ x m. steers p y x ≡ false) (in_stage t.stage p.stmts) (λ x m. ap (λ n. steers_by n x) f)
         none_steers y c e (Goes to) f = each (λ x m. steers p y x ≡ false) (in_stage t.stage p.stmts) (λ x m. ap (λ n. steers_by n x) f)

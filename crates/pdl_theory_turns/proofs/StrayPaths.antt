@@ -206,7 +206,7 @@ side_same (Forks z a b) first env env' h = ap (λ k. if first then k == 1 else n
 
 -- no side that leads to this stage hangs on it
 abbrev pub Aside : Pipe → ℕ → ℕ → Type 0
-Aside p s x = (b : Branch) ( c : List Branch) → Within p (b ∷ c) s → steers p b x ≡ false
+Aside p s x = (b : Branch) (c : List Branch) → Within p (b ∷ c) s → steers p b x ≡ false
 
 -- no side that leads to stage s hangs on the variable of an awaited read
 abbrev pub AllAside : Pipe → ℕ → List Awaited → Type 0
@@ -214,7 +214,7 @@ AllAside p s [] = Unit {0}
 AllAside p s (r ∷ rs) = Aside p s r.var × AllAside p s rs
 
 visits_set : (p : Pipe) (s x v : ℕ) (env : List ℕ) → Aside p s x → visits_stage p (slice_set env x v) s ≡ visits_stage p env s
-visits_set p s x v env h = visits_same p s (slice_set env x v) env (λ b ci. side_set (stage_at p b.fork).next b.first x v env (h b c i))
+visits_set p s x v env h = visits_same p s (slice_set env x v) env (λ b c i. side_set (stage_at p b.fork).next b.first x v env (h b c i))
 
 -- answers for variables on which no side hangs leave the stages that the values come to as they are
 pub visits_answers : (p : Pipe) (st : State) (bits : List Bool) (s : ℕ) (rs : List Awaited) (env : List ℕ)

@@ -72,6 +72,7 @@ step_below p g older c bound bound' s env there here grows fits top enter b low 
               where
                 none : [] ≡ c
                 none = sym (g.trunk_past (next_of p s env) (ltb-false _ _ i)) ∙ t
+
                 whole : s < bound → suc s ≡ length p.stages → next_of p s env ≤ length p.stages → next_of p s env < bound'
                 whole x y z = let k : bound < bound' = top (omega arith) in omega arith
         by_end true i = compare (nat_le bound (next_of p s env)) refl

@@ -12,9 +12,8 @@ use Rattle.pdl_theory_facts.specs.Graphs.{Way}
 pub use Rattle.pdl_theory_facts.specs.Graphs.{Branches}
 
 -- a thread in stage s stands behind an older one in stage b: in whatever branches both stand, each stage of just these that it has reached is one that the older one has left
-abbrev
-pub Under : Pipe→ ℕ→ ℕ → Type 0 Under p b s
-  = (c : List Branch) → Within p c b → Within p c s → Below p c b s
+abbrev pub Under : Pipe → ℕ → ℕ → Type 0
+Under p b s = (c : List Branch) → Within p c b → Within p c s → Below p c b s
 
 -- a thread in stage s stands behind older ones in all these stages
 abbrev pub AllUnder : Pipe → List ℕ → ℕ → Type 0
@@ -57,13 +56,14 @@ module _ (p : Pipe) (g : Graph p) (br : Branches p) where
   grows_one : (moves : Bool) (b b' s : ℕ) → Stepped p moves b b' → Under p b s → Under p b' s
   grows_one moves b b' s (inl h) u c i j r home k = subst (λ n. Under p n s) (sym h.2) u c i j r home k
   grows_one moves b b' s (inr h) u c i j r home k =
-      let up : b < b' = subst (λ n. b < n) (sym h.2) (g.up b h.0 h.3) in let low : r < b = u c (was_there c b s h.0 h.3 u (subst (λ n. Within p c n) h.2 i) j) j r home k in omega arith
+      let up : b < b' = subst (λ n. b < n) (sym h.2) (g.up b h.0 h.3) in
+      let low : r < b = u c (was_there c b s h.0 h.3 u (subst (λ n. Within p c n) h.2 i) j) j r home k in
+      omega arith
 
   step_one : (older : List Act) (moves : Bool) (b b' s : ℕ) (env : List ℕ) → Stepped p moves b b'
       → ((q : ℕ) → can_enter p older (Some q) ≡ true → (b ≡ q → b < b') × ((f : ℕ) → (stage_at p q).merges ≡ Some f → is_inside p f b ≡ false))
       → Under p b s → s < length p.stages → can_enter p older (goes_to (stage_at p s).next env) ≡ true → Under p b' (next_of p s env)
-  step_one older moves b b' s env h enter u low can c i j =
-      by (came p br c s env low j)
+  step_one older moves b b' s env h enter u low can c i j = by (came p br c s env low j)
     where
       grows : Stepped p moves b b' → b ≤ b'
       grows (inl k) = let e = k.2 in omega arith
@@ -101,39 +101,36 @@ module _ (p : Pipe) (g : Graph p) (br : Branches p) where
               (br.entry x (stage_at p s).branches env b (subst (λ n. n < length p.stages) (sym from) low) (subst (λ n. Home p (x ∷ (stage_at p s).branches) (next_of p n env)) (sym from) (subst (λ l. Home p l (next_of p s env)) is home)) (subst (λ l. Within p l b) is k))
 
           in_pipe : next_of p s env < length p.stages
-      in_pipe = at (nat_lt (next_of p s env) (length p.stages)) refl
-        where
-          at : (t : Bool) → nat_lt (next_of p s env) (length p.stages) ≡ t → next_of p s env < length p.stages
-          at true e = ltb-true _ _ e
-          at false e = absurd (trunk_within p x (stage_at p s).branches (next_of p s env) (g.trunk_past (next_of p s env) (ltb-false _ _ e)) (subst (λ l. Within p l ( next_of p s env )) is j))
+          in_pipe = at (nat_lt (next_of p s env) (length p.stages)) refl
+            where
+              at : (t : Bool) → nat_lt (next_of p s env) (length p.stages) ≡ t → next_of p s env < length p.stages
+              at true e = ltb-true _ _ e
+              at false e = absurd (trunk_within p x (stage_at p s).branches (next_of p s env) (g.trunk_past (next_of p s env) (ltb-false _ _ e)) (subst (λ l. Within p l (next_of p s env)) is j))
 
           entered : can_enter p older (Some (next_of p s env)) ≡ true
-      entered = subst (λ o. can_enter p older o ≡ true) (g.leaves s env low ∙ ap (λ t. cond t (Some (next_of p s env)) None) (lt-ltb _ _ in_pipe)) can
+          entered = subst (λ o. can_enter p older o ≡ true) (g.leaves s env low ∙ ap (λ t. cond t (Some (next_of p s env)) None) (lt-ltb _ _ in_pipe)) can
 
-      -- and a standing thread is not entered upon
-      ahead : Within p c b → next_of p s env < b'
-      ahead k = at (b == next_of p s env) refl
-        where
-          at : (t : Bool) → (b == next_of p s env) ≡ t → next_of p s env < b'
-          at true e = subst (λ n. n < b') (eqb-true _ _ e) ((enter (next_of p s env)entered ).0 (eqb-true _ _ e))
-          at false e = let y = eqb-false _ _ e in let z = first_here k in let w = grows h in omega arith
+          -- and a standing thread is not entered upon
+          ahead : Within p c b → next_of p s env < b'
+          ahead k = at (b == next_of p s env) refl
+            where
+              at : (t : Bool) → (b == next_of p s env) ≡ t → next_of p s env < b'
+              at true e = subst (λ n. n < b') (eqb-true _ _ e) ((enter (next_of p s env) entered).0 (eqb-true _ _ e))
+              at false e = let y = eqb-false _ _ e in let z = first_here k in let w = grows h in omega arith
 
-      behind : Stepped p moves b b' → next_of p s env < b'
-      behind (inl k) =
-          ahead (subst (λ n. Within p c n) k.2 i)
-      behind (inr k) = at (came p br c b k.0 k.3 (subst (λ n. Within p c n) k.2 i))
-        where
-
-          at : Within p c b ⊎ ((y : Branch) × (c ≡ y ∷ (stage_at p b).branches) × (y.fork ≡ b) × Home p c (next_of p b k.0)) → next_of p s env < b'
-          at (inl l) = ahead l
+          behind : Stepped p moves b b' → next_of p s env < b'
+          behind (inl k) = ahead (subst (λ n. Within p c n) k.2 i)
+          behind (inr k) = at (came p br c b k.0 k.3 (subst (λ n. Within p c n) k.2 i))
+            where
+              at : Within p c b ⊎ ((y : Branch) × (c ≡ y ∷ (stage_at p b).branches) × (y.fork ≡ b) × Home p c (next_of p b k.0)) → next_of p s env < b'
+              at (inl l) = ahead l
               at (inr l) =
-              let same : b ≡ s = sym l.2 ∙ ap (λ (y : Branch). y.fork) (same_head l.0 x _ _ (sym l.1 ∙ is)) ∙ from in
-                  let e : (stage_at p b).branches ≡ (stage_at p s) .branches = same_tail l.0 x _ _ (sym l.1 ∙ is) in
-              absurd (irrefl s b ( sym same) (left (within_home p _ b e)))
-          by : Within p c s ⊎ ((x : Branch) × (c ≡ x ∷ (stage_at p s).branches) × (x.fork ≡ s) × Home p c ( next_of p s env )) → Below p c b'
-          (next_of p s env)
-      by (inl k) = let t = there k h in step_below p g older c b b' s env t k (grows h) (inside h) (λ e. absurd (never h e)) enter ( u c t k)
-          low can
+                  let same : b ≡ s = sym l.2 ∙ ap (λ (y : Branch). y.fork) (same_head l.0 x _ _ (sym l.1 ∙ is)) ∙ from in
+                  let e : (stage_at p b).branches ≡ (stage_at p s).branches = same_tail l.0 x _ _ (sym l.1 ∙ is) in
+                  absurd (irrefl s b (sym same) (left (within_home p _ b e)))
+
+      by : Within p c s ⊎ ((x : Branch) × (c ≡ x ∷ (stage_at p s).branches) × (x.fork ≡ s) × Home p c (next_of p s env)) → Below p c b' (next_of p s env)
+      by (inl k) = let t = there k h in step_below p g older c b b' s env t k (grows h) (inside h) (λ e. absurd (never h e)) enter (u c t k) low can
       by (inr k) = enters k.0 k.1 k.2 k.3
 
   -- the end of the pipe
@@ -206,7 +203,7 @@ module _ (p : Pipe) (g : Graph p) (br : Branches p) where
 
   -- nobody stands under a stage and next to it
   pub not_next : (b : ℕ) (env : List ℕ) → b < length p.stages → Under p b (next_of p b env) → ⊥
-  not_next b env low u = at (br.way b envlow)
+  not_next b env low u = at (br.way b env low)
     where
       up : b < next_of p b env
       up = g.up b env low
@@ -214,11 +211,12 @@ module _ (p : Pipe) (g : Graph p) (br : Branches p) where
       -- the next stage stands in just these branches
       here : (c : List Branch) → Within p c b → Home p c (next_of p b env) → ⊥
       here c i j = let k : next_of p b env < b = u c i (within_home p c _ j) (next_of p b env) j (le_refl _) in omega arith
-      at : Way p b (next_of p b env ) → ⊥
-          at (inl e) = here (stage_at p b).branches (within_home p _ b refl) e
+
+      at : Way p b (next_of p b env) → ⊥
+      at (inl e) = here (stage_at p b).branches (within_home p _ b refl) e
       at (inr (inl e)) = not_fork b (next_of p b env) e.0 u (within_home p _ _ e.1) e.2
-      at (inr (inr e)) = here (stage_at p ( next_of p b env )).branches (e.0 ∷ [], e.1) refl
+      at (inr (inr e)) = here (stage_at p (next_of p b env)).branches (e.0 ∷ [], e.1) refl
 
   -- a new thread stands behind all
   pub fresh_under : (b : ℕ) → 0 < b → Under p b 0
-  fresh_under b h c i jr home k = omega arith
+  fresh_under b h c i j r home k = omega arith
