@@ -228,7 +228,7 @@ module _ (c : Circuit) (p : Pipe) (ls : Locks) (vs : ℕ → View) (s : State) (
       glive z u = live.vars z (or_left (guards_use gs z) (are_using args z) u)
 
       failed : Deeds
-      failed = record d { child = Some (values_of args d.env); fails = true }
+      failed = record d { child = Some (values_of args d.env); guess = values_of args d.env; fails = true }
 
       same : (b : Bool) → locks_ready p st thread (done st thread b (Verify last args) d) ≡ locks_ready p st thread d
       same true = at (same_args (values_of args d.env) d.guess)

@@ -27,7 +27,7 @@ asks_op : (p : Pipe) (k s : ℕ) (read : ℕ → ℕ → ℕ) (x : Stmt) → IsT
 asks_op p k s read x h e d r = by x.op h
   where
     verified : (args : List Rattle.pdl_semantics.specs.Flat.Expr) (b : Bool)
-        → Each (AsksIn p k) (cond b d (record d { child = Some (values_of args d.env); fails = true })).asks
+        → Each (AsksIn p k) (cond b d (record d { child = Some (values_of args d.env); guess = values_of args d.env; fails = true })).asks
     verified args true = r
     verified args false = r
 

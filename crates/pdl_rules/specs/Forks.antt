@@ -35,7 +35,7 @@ is_trunk_only (SpecBarrier _) = true
 abbrev pub breaks_f1 : Place → Bool
 breaks_f1 x = at_statement false (λ s bs. is_trunk_only s && list_any (λ (b : Branch). holds_separator b.inside) bs) x
 
--- whether a fork of its branches holds a separator, one of the fifth level, or one in a branch of another before that branch's first separator, and so in the stage of the other one
+-- whether a statement is a fork: one of its branches holds a separator
 abbrev pub is_fork : Stmt → Bool
 is_fork s = list_any holds_separator (parts_of s).branches
 
@@ -54,14 +54,14 @@ abbrev pub is_in_outer_stage : List Place → List Branch → Bool
 is_in_outer_stage before [] = false
 is_in_outer_stage before (b ∷ bs) = stage_in before (b ∷ bs) == stage_in before (take (length bs) (b ∷ bs))
 
--- whether a statement in these branches, with these places after it, is a fork in a branch, or one that no separator follows directly
-abbrev pub is_wrong_fork : List Place → Stmt → List Branch → Bool
-is_wrong_fork later s bs =
+-- whether a statement in these branches, with these places before and after it, is a fork of the fifth level, one in a branch of another before that branch's first separator, and so in the stage of the other one, or one that no separator follows directly
+abbrev pub is_wrong_fork : List Place → List Place → Stmt → List Branch → Bool
+is_wrong_fork before later s bs =
     is_fork s && (length bs == 4 || is_in_outer_stage before bs || not (starts_with_separator bs (drop (places_in (parts_of s).branches) later)))
 
--- F2 at a place: a fork in a branch, or one that no separator follows directly
+-- F2 at a place: a fork of the fifth level, one in the stage of the fork around it, or one that no separator follows directly
 abbrev pub breaks_f2 : Pipe → List Place → Place → Bool
-breaks_f2 p before x = at_statement false (λ s bs. is_wrong_fork (places_after p before) s bs) x
+breaks_f2 p before x = at_statement false (λ s bs. is_wrong_fork before (places_after p before) s bs) x
 
 -- whether a place is a delayed read of this memory
 abbrev pub breaks_fetch_order : List ℕ → Place → Bool

@@ -1,6 +1,6 @@
 -- Statements of one form, asked by a test of what stands there. Each form is named: a new one has to be spoken of here.
 use Rattle.std.specs.Prelude.{Bool, true, false}
-use Rattle.pdl_semantics.specs.Tree.{Span, Ident, Expr, Location, Kind, Stmt, Separator, CombRead, Bind, SpecCall, DelayedRead, Write, Reserve, Block, Release, If, Call, Verify, SpecCheck, SpecBarrier}
+use Rattle.pdl_semantics.specs.Tree.{Span, Ident, Expr, Location, Kind, Stmt, Separator, CombRead, Bind, SpecCall, DelayedRead, Write, Reserve, Block, Release, If, Call, Verify, Update, SpecCheck, SpecBarrier}
 
 -- what is told of an `if`, by its span and its condition; of any other statement the same
 abbrev pub of_if : {T : Type 0} → T → (Span → Expr → T) → Stmt → T
@@ -142,9 +142,27 @@ verifies test (Release _ _) = false
 verifies test (If _ _ _ _) = false
 verifies test (Call _ _) = false
 verifies test (Verify _ g _) = test g
-verifies test (Update _ g _) = test g
+verifies test (Update _ _ _) = false
 verifies test (SpecCheck _) = false
 verifies test (SpecBarrier _) = false
+
+-- whether a statement is the `update` of a guess whose name passes the test
+abbrev pub updates : (Ident → Bool) → Stmt → Bool
+updates test (Separator _) = false
+updates test (CombRead _ _ _) = false
+updates test (Bind _ _ _) = false
+updates test (SpecCall _ _ _) = false
+updates test (DelayedRead _ _ _) = false
+updates test (Write _ _ _) = false
+updates test (Reserve _ _ _) = false
+updates test (Block _ _) = false
+updates test (Release _ _) = false
+updates test (If _ _ _ _) = false
+updates test (Call _ _) = false
+updates test (Verify _ _ _) = false
+updates test (Update _ g _) = test g
+updates test (SpecCheck _) = false
+updates test (SpecBarrier _) = false
 
 -- what waits until the thread is known to be wanted
 abbrev pub bars : Stmt → Bool

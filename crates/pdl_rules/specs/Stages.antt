@@ -1,7 +1,7 @@
 -- Stages: rules L2 and L8. The stage of a place goes by the text: the k-th separator begins stage k.
 use Rattle.std.specs.Prelude.{ℕ, suc, Bool, true, false, not, ◌&&◌, ◌==◌, nat_lt, List, [], ◌∷◌, ◌++◌, count_by, if◌then◌else◌, bytes_eq, Option, Some, None}
 use Rattle.std.specs.List.{list_any}
-use Rattle.pdl_semantics.specs.Tree.{Stmt, Separator, CombRead, Bind, SpecCall, DelayedRead, Write, Reserve, Block, Release, If, Call, Verify, SpecCheck, SpecBarrier, Pipe}
+use Rattle.pdl_semantics.specs.Tree.{Stmt, Separator, CombRead, Bind, SpecCall, DelayedRead, Write, Reserve, Block, Release, If, Call, Verify, Update, SpecCheck, SpecBarrier, Pipe}
 use Rattle.pdl_rules.specs.Places.{Place, Guard, Branch, at_statement, same_guard, same_truth, on_path, paths, places, places_after}
 use Rattle.pdl_rules.specs.Forms.{reserves, releases}
 use Rattle.pdl_rules.specs.Parts.{is_some_and}

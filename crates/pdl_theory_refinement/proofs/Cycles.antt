@@ -136,11 +136,12 @@ module _ (p : Pipe) (acc : Course p) where
   start_waits : (asked : List (Option ℕ)) (v : Marks) (arrays : Arrays) (args : List ℕ) → Waits p acc asked v arrays args (start_spot p args)
   start_waits asked v arrays args = record { gets = ap (λ (w : Work). w.env) (sym (acc.start_so arrays args)); apart = tt; out = tt; sure = tt }
 
-  -- the thread that begins a turn stands on it, where the writes before the turn are the commits and the undone ones
+  -- a new thread is the thread of its turn on the start spot
   pub born_seat : (arrays : Arrays) (args : List ℕ) → fresh p args ≡ seat p arrays args (start_spot p args)
   born_seat arrays args =
       ap (λ (w : Work). record { stage = 0; env = start_env p args; entries = w.entries; guess = w.guess; awaits = [] }) (sym (acc.start_so arrays args))
 
+  -- the thread that begins a turn stands on it, where the writes before the turn are the commits and the undone ones
   pub born_standing : (asked : List (Option ℕ)) (past w : Writes) (v : Marks) (arrays : Arrays) (args : List ℕ) (ahead : List ℕ) → AllUnder p ahead 0
       → ((m : ℕ) → w m ≡ past m ++ strips m (v m)) → Standing p acc asked past w v arrays args ahead (start_spot p args ∷ [])
   born_standing asked past w v arrays args ahead under h = (
@@ -157,8 +158,6 @@ module _ (p : Pipe) (acc : Course p) where
         ∙ ap (λ l. past m ++ l) (sym (strips_append m (v m) (marks p arrays args 0 m))),
   )
 
-  -- a new thread is the thread of its turn on the start spot
-  pub
   -- a thread in one of the pipe's stages isn't dropped where those past the last stage are
   pub shown_one : (t : Thread) (ts : List Thread) (s : ℕ) → s < length p.stages → t ∷ ts ≡ cond (nat_lt s (length p.stages)) (t ∷ []) [] ++ ts
   shown_one t ts s h = ap (λ b. cond b (t ∷ []) [] ++ ts) (sym (lt-ltb _ _ h))

@@ -25,7 +25,8 @@ use Rattle.pdl_theory_simulation.proofs.ThreadPlaces.{behind_stay, leads_of, ent
 use Rattle.pdl_theory_turns.proofs.Guesses.{unfailed}
 use Rattle.pdl_semantics.specs.Stages.{is_check}
 use Rattle.pdl_word.specs.Each.{Each}
-use Rattle.pdl_word.proofs.Each.{each_append} Rattle.pdl_theory_simulation.proofs.ForkListSteps.{unchecked_trunk, list_neutral, list_inside, list_leaves}
+use Rattle.pdl_word.proofs.Each.{each_append}
+use Rattle.pdl_theory_simulation.proofs.ForkListSteps.{unchecked_trunk, list_neutral, list_inside, list_leaves}
 
 module _ (p : Pipe) (flows : Flows p) (st : State) (d : Derived.State) (bits : List Bool) (arrays : st.arrays ≡ d.arrays) where
   -- the live threads after the cycle, if no squash removes any
@@ -204,11 +205,11 @@ module _ (p : Pipe) (flows : Flows p) (st : State) (d : Derived.State) (bits : L
 
             -- the list of the fork with a thread that leaves into the merge, the oldest inside
             moves_out : (did p d bits ls l).moves ≡ true → (q : ℕ) → next_stage p l.thread.stage (deeds_of p st bits l) ≡ Some q → sides_of f (stage_at p q).branches ≡ [] → (stage_at p q).merges ≡ Some f → (if has_left p f (ms ls) then but_first (sides p f ls) else sides p f ls) ++ entered_branches p f (ms ls) ≡ sides p f (all_on ls)
-                → (if leaves l
-            || has_left p f (ms ls) then but_first (sides p f ls ++ sides_of f (stage_at p l.thread.stage).branches)
-            else (sides p f ls ++ sides_of f (stage_at p l.thread.stage).branches))
-            ++ (entered_branches p f (ms ls) ++ enters l)
-            ≡ sides p f (all_on ls) ++ sides_of f (stage_at p q).branches
+                → (if leaves l || has_left p f (ms ls)
+                then but_first (sides p f ls ++ sides_of f (stage_at p l.thread.stage).branches)
+                else (sides p f ls ++ sides_of f (stage_at p l.thread.stage).branches))
+                ++ (entered_branches p f (ms ls) ++ enters l)
+                ≡ sides p f (all_on ls) ++ sides_of f (stage_at p q).branches
             moves_out go q i out m h =
                 (λ t. (if goes t || has_left p f (ms ls) then but_first (sides p f ls ++ mine t) else (sides p f ls ++ mine t)) ++ (entered_branches p f (ms ls) ++ no_entry t))
                 ∙ list_leaves (has_left p f (ms ls)) (sides p f ls) (entered_branches p f (ms ls)) (sides p f (all_on ls)) x.first h (nobody_nil (sides p f ls) nobody) (entered_none ls (past_fork l x c ls here its o.0)) (left_none ls nobody)

@@ -32,12 +32,15 @@ on_way p path s = onpath path (stages_before s p.stmts)
 abbrev pub Unlike : List Awaited → List ℕ → List ℕ → Type 0
 Unlike rs env env' = (g : ℕ) → awaits_var rs g ≡ false → slice_index env g ≡ slice_index env' g
 
--- a thread in stage s is behind one in stage b: in whatever branches both stand, each stage that was reached from s of just these on was left from b on pub Behind : Pipe → ℕ → ℕ → Type 0
+-- a thread in stage s is behind one in stage b: in whatever branches both stand, each stage of just these that was reached from s on was left from b on
+abbrev pub Behind : Pipe → ℕ → ℕ → Type 0
 Behind p s b = (c : List Branch) → Within p c s → Within p c b → Below p c b s
 
+-- a thread behind one in stage b has reached only trunk stages before b
 pub left_trunk : (p : Pipe) (s b : ℕ) → Behind p s b → (r : ℕ) → Trunk p r → r ≤ s → r < b
 left_trunk p s b h r t i = h [] (within_all p s) (within_all p b) r t i
 
+-- where one thread stands behind another in the same branches its stage is the smaller
 pub less_home : (p : Pipe) (s b : ℕ) → Behind p s b → (stage_at p s).branches ≡ (stage_at p b).branches → s < b
 less_home p s b h e = h (stage_at p s).branches (within_home p _ s refl) (within_home p _ b (sym e)) s refl (le_refl s)
 

@@ -31,7 +31,6 @@ none_found p q (l ∷ ls) h = ap (λ b. cond b (Some (seat l)) (find q ls)) (ne_
 -- ORDER, AS THREADS MOVE
 
 module _ (p : Pipe) (g : Ways p) where
-  --
   -- within the branches of one behind it, the older one was there before it moved
   was_there : (c : List Branch) (s b b' : ℕ) → Leads p b b' → Behind p s b → Within p c s → Within p c b' → Within p c b
   was_there c s b b' l h i j = at (came_way p c b b' (g.way b b' l) j)
@@ -43,8 +42,7 @@ module _ (p : Pipe) (g : Ways p) where
           let same = k.2 in
           absurd (omega arith)
 
-  -- a thread stays behind an
- older one that moves on
+  -- a thread stays behind an older one that moves on
   pub behind_later : (s b b' : ℕ) → Leads p b b' → Behind p s b → Behind p s b'
   behind_later s b b' l h c i j r t k =
       let up : b < b' = (g.up b b' l).0 in

@@ -29,7 +29,7 @@ asks_op : (o : Around) (op : Op) (w : Work) → awaited_of (work_after o op w).a
 asks_op o (DelayedRead x m a) w = awaited_snoc w.asks _
 asks_op o (Verify last args) w = at (same_args (values_of args w.env) w.guess)
   where
-    at : (b : Bool) → awaited_of (cond b w (record w { child = Some (values_of args w.env); fails = true })).asks ≡ awaited_of w.asks ++ []
+    at : (b : Bool) → awaited_of (cond b w (record w { child = Some (values_of args w.env); guess = values_of args w.env; fails = true })).asks ≡ awaited_of w.asks ++ []
     at true = sym (append-nil _)
     at false = sym (append-nil _)
 asks_op o (Bind x e) w = sym (append-nil _)

@@ -6,7 +6,7 @@ use Rattle.pdl_semantics.specs.Flat.{Op, Bind, CombRead, DelayedRead, Write, Res
 use Rattle.pdl_semantics.specs.Forms.{on_block}
 use Rattle.pdl_semantics.specs.Stages.{onpath}
 use Rattle.pdl_semantics.specs.Machine.{Ask, same_args}
-use Rattle.pdl_semantics.specs.Sound.{is_release_at, is_call, guess_after, guess_of}
+use Rattle.pdl_semantics.specs.Sound.{is_release_at, is_call, guess_after}
 use Rattle.pdl_theory_derived.specs.Derived.{Entry, Work, Around, work_after, do_all, without, with_entry_value, has_entry}
 use Rattle.pdl_theory_facts.specs.Facts.{uses_in, mentions_var, asks_for, silent_on, unseen_op, is_unseen}
 use Rattle.pdl_theory_facts.specs.Scans.{is_dead}
@@ -19,14 +19,17 @@ use Rattle.pdl_theory_states.specs.Strict.{bound_by, uses_own, is_mentioned, is_
 use Rattle.pdl_theory_turns.proofs.Surroundings.{has_filled}
 use Rattle.pdl_theory_turns.proofs.Guesses.{same_args_eq}
 use Rattle.pdl_word.proofs.Bools.{untrue}
-use Rattle.pdl_theory_states.proofs.UnusedValues.{AllOps, AnyOp, ops_map, ops_both, any_both, onto, touches, value_agree, Done, done_agrees, done_guess, mention_touch, untouched, set_agrees}
+use Rattle.pdl_theory_states.proofs.UnusedValues.{AllOps, AnyOp, ops_map, ops_both, any_both, onto, touches, value_agree, Done, done_agrees, done_guess, guess_past, guess_agrees, mention_touch, untouched, set_agrees}
 
 -- LISTS OF STATEMENTS
 
--- a variable with which no statement has to do
-pub guess_set : (x v : ℕ) (env : List ℕ) (past : List Op) → AllOps (λ op. touches x op ≡ false) past → guess_past past env ≡ guess_past past (slice_set env x v)
+-- the guess stays where a variable is set that no statement hangs on
+pub guess_set : (x v : ℕ) (env : List ℕ) (past : List Op) → AllOps (λ op. touches x op ≡ false) past
+    → guess_past past env ≡ guess_past past (slice_set env x v)
 guess_set x v env [] t = refl
-guess_set x v env (op ∷ past) t = guess_agrees op env (slice_set env x v) (guess_past past env) (guess_past past (slice_set env x v)) (set_agrees x v op env t.0) (guess_set x v env past t.1)
+guess_set x v env (op ∷ past) t =
+    guess_agrees op env (slice_set env x v) (guess_past past env) (guess_past past (slice_set env x v))
+    (set_agrees x v op env t.0) (guess_set x v env past t.1)
 
 -- THREADS
 

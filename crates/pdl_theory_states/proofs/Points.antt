@@ -20,8 +20,8 @@ use Rattle.pdl_theory_simulation.proofs.Seats.{Live, threads_of, each_map}
 use Rattle.pdl_theory_simulation.proofs.Choices.{Seated}
 use Rattle.pdl_theory_simulation.proofs.Choices
 use Rattle.pdl_theory_states.proofs.OldestFirst.{told, oldest_first, AllLive, live_each}
-use Rattle.pdl_theory_states.proofs.PastStatements.{guess_onto, BlockOk, AllPlaced, is_released}
-use Rattle.pdl_theory_states.proofs.UnusedValues.{AllOps, onto, Done}
+use Rattle.pdl_theory_states.proofs.PastStatements.{BlockOk, AllPlaced, is_released}
+use Rattle.pdl_theory_states.proofs.UnusedValues.{AllOps, onto, Done, guess_onto}
 use Rattle.pdl_theory_states.proofs.Trails.{AllStmts, stmts_map, stmts_ops, trail_comes}
 use Rattle.pdl_theory_states.proofs.ThreadHistory.{Local, here, past_of}
 use Rattle.pdl_theory_states.proofs.FetchCounts.{HeldOp, count_is, any_append, any_front}

@@ -21,8 +21,8 @@ use Rattle.pdl_theory_turns.proofs.StrayPaths.{none_stage_from, fetch_binds}
 use Rattle.pdl_theory_simulation.proofs.Shapes.{calls_front, calls_back}
 use Rattle.pdl_theory_simulation.proofs.Stretches.{Keeps, on_way, start_of, fixed_here, way_next}
 use Rattle.pdl_theory_states.specs.Strict.{Strict, all_new}
-use Rattle.pdl_theory_states.proofs.PastStatements.{none_touched, guess_past, guess_set, AskedBy, AllPlaced, placed_set, BlockOk, Past, Kind, past_all}
-use Rattle.pdl_theory_states.proofs.UnusedValues.{AllOps, ops_both, onto, onto_append, all_new_append, all_new_front, touches, Done, done_agrees, set_agrees}
+use Rattle.pdl_theory_states.proofs.PastStatements.{none_touched, guess_set, AskedBy, AllPlaced, placed_set, BlockOk, Past, Kind, past_all}
+use Rattle.pdl_theory_states.proofs.UnusedValues.{AllOps, ops_both, onto, onto_append, all_new_append, all_new_front, touches, Done, done_agrees, set_agrees, guess_past}
 use Rattle.pdl_theory_states.proofs.Trails.{AllStmts, stmts_append, stmts_map, stage_stmts, Trail, Among, Steady, trail_same, among_low, among_next}
 use Rattle.pdl_theory_states.proofs.FetchCounts.{fetches_of, asks_are, held_in, HeldOp, fetches_in, count, count_append, count_none, count_same, count_fetch}
 
