@@ -158,8 +158,7 @@ module _ (p : Pipe) (flows : Flows p) (st : State) (d : Derived.State) (bits : L
         enters_side : (q : ℕ) → next_stage p l.thread.stage (deeds_of p st bits l) ≡ Some q → is_inside p f l.thread.stage ≡ false → enters l ≡ sides_of f (stage_at p q).branches
         enters_side q i off = by (l.thread.stage == f) refl
           where
-            came : (x : Branch) (c : List Branch)
-            → x.fork ≡ f → (l.thread.stage ≡ f → ⊥) → (x.fork ≡ l.thread.stage) ⊎ Within p (x ∷ c) l.thread.stage → ⊥
+            came : (x : Branch) (c : List Branch) → x.fork ≡ f → (l.thread.stage ≡ f → ⊥) → (x.fork ≡ l.thread.stage) ⊎ Within p (x ∷ c) l.thread.stage → ⊥
             came x c e n (inl j) = n (sym j ∙ e)
             came x c e n (inr j) = cc (sym off ∙ inside_of p f l.thread.stage x c j e)
 
