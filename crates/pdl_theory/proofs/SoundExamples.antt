@@ -1,9 +1,10 @@
 -- Written pipes pass the tests of the whole language.
 use Rattle.std.proofs.Common.{◌≡◌, refl, Bool, true, false, List, [], ◌∷◌, None}
+use Rattle.pdl_semantics.specs.Tree.{W, Queue}
 use Rattle.pdl_semantics.specs.Tree
 use Rattle.pdl_semantics.specs.Flatten.{flat}
 use Rattle.pdl_semantics.proofs.Pipes.{one_stage, shared_guard, count_queue, guess, far_barrier, copy, copy_guessed, count_slow, two_branches, one_branch, nested, nested_straight, four_levels, nested_guess, updated, forked, everything, dead_read}
-use Rattle.pdl_semantics.proofs.Texts.{number, constant, variable, slice, plus, separator, bind, delayed_read, call, spec_call, verify, update, spec_check, spec_barrier, if_else, slow, pipe}
+use Rattle.pdl_semantics.proofs.Texts.{number, constant, variable, slice, plus, separator, bind, delayed_read, write, reserve, block, release, call, spec_call, verify, update, spec_check, spec_barrier, if_else, lock, comb, slow, pipe}
 use Rattle.pdl_semantics.specs.Flat.{Arrays, Pipe}
 use Rattle.pdl_theory_derived.specs.Alone.{Refines, Advances, KeepsPace}
 use Rattle.pdl_theory_facts.specs.SoundChecks.{passes_tests}

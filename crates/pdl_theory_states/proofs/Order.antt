@@ -126,7 +126,7 @@ module _ (p : Pipe) (g : Ways p) where
 
               others : (if s.1.first then not r.1.first else r.1.first) ≡ true → (s.1.fork == r.1.fork) ≡ true → Sound.is_behind p older younger ≡ true
               others i j =
-              or_right (nat_lt younger.stage older.stage) _
+                  or_right (nat_lt younger.stage older.stage) _
                   (ap₂ are_apart there.1 here.1 ∙ any_of (λ a. list_any (other_branch a) (r.0 ++ r.1 ∷ c)) s.0 s.1 c (any_of (other_branch s.1) r.0 r.1 c (ap₂ (λ a b. a && b) j i)))
 
               at : (b : Bool) → (r.1.fork == s.1.fork) ≡ b → Sound.is_behind p older younger ≡ true
