@@ -1,13 +1,10 @@
 -- Guesses: pipes that are accepted, and for each rule some that break it; computed.
-use Rattle.std.specs.Prelude.{◌≡◌, ℕ, Bool, if◌then◌else◌, List, [], ◌∷◌, ◌++◌, Option, Some, None, refl}
+use Rattle.std.specs.Prelude.{◌≡◌, ℕ, List, [], ◌∷◌, ◌++◌, Option, Some, None, refl}
 use Rattle.pdl_kit.specs.declared.rule.Rule.{Rule}
-use Rattle.pdl_kit.specs.declared.rule.Rule.TheVariants.{N1, N3, S1, S2, S3, S4, S5}
+use Rattle.pdl_kit.specs.declared.rule.Rule.TheVariants.{N1, N3, S1, S2, S3, S4, S5, S6, S7}
 use Rattle.pdl_semantics.specs.Tree.{ZeroExtend, R, W}
 use Rattle.pdl_rules.specs.Refusal.{Refused, refusal}
 use Rattle.pdl_rules.proofs.Texts.{number, constant, variable, slice, plus, Line, separator, choice, bind, write, reserve, block, release, call, spec_call, verify, update, spec_check, spec_barrier, pipe}
-use Rattle.pdl_semantics.specs.Tree
-use Rattle.pdl_rules.specs.Places.{Place, places, line_of}
-use Rattle.pdl_rules.specs.Speculation.{breaks_s6, breaks_s7}
 
 -- the refusal of a short source with this body, which begins on line 3
 abbrev of_body : List Line → Option Refused
@@ -113,40 +110,30 @@ checked_after = refl
 
 -- UPDATES
 
--- the line of the first place that breaks this rule, which has no name yet
-abbrev line_by : (List Place → Place → Bool) → List Place → List Place → Option ℕ
-line_by test before [] = None
-line_by test before (x ∷ xs) = if test before x then Some (line_of x) else line_by test (before ++ x ∷ []) xs
-
-abbrev s6_of : List Line → Option ℕ
-s6_of body = line_by (breaks_s6 (pipe body)) [] (places (pipe body))
-
-abbrev s7_of : List Line → Option ℕ
-s7_of body = line_by breaks_s7 [] (places (pipe body))
-
 abbrev again : Line
 again = update "s" (plus (variable "n") (constant 4 2) ∷ [])
 
 updated : of_body (spec_check ∷ guess ∷ separator ∷ again ∷ separator ∷ verified ∷ []) ≡ None
 updated = refl
 
-updated_later : s6_of (spec_check ∷ guess ∷ separator ∷ again ∷ separator ∷ verified ∷ []) ≡ None
-updated_later = refl
-
 updated_nothing : of_body (spec_check ∷ again ∷ guess ∷ separator ∷ verified ∷ []) ≡ at_line N3 4
 updated_nothing = refl
 
-updated_at_once : s6_of (spec_check ∷ guess ∷ again ∷ separator ∷ verified ∷ []) ≡ Some 5
+-- an update in the stage of its guess, and one in the stage of the verify
+updated_at_once : of_body (spec_check ∷ guess ∷ again ∷ separator ∷ verified ∷ []) ≡ at_line S6 5
 updated_at_once = refl
 
-updated_with_verify : s6_of (spec_check ∷ guess ∷ separator ∷ again ∷ verified ∷ []) ≡ Some 6
+updated_with_verify : of_body (spec_check ∷ guess ∷ separator ∷ again ∷ verified ∷ []) ≡ at_line S6 6
 updated_with_verify = refl
 
-updated_twice : s6_of (spec_check ∷ guess ∷ separator ∷ again ∷ again ∷ separator ∷ verified ∷ []) ≡ Some 7
+updated_twice : of_body (spec_check ∷ guess ∷ separator ∷ again ∷ again ∷ separator ∷ verified ∷ []) ≡ at_line S6 7
 updated_twice = refl
 
-updated_on_each_path : s6_of (g ∷ spec_check ∷ guess ∷ separator ∷ choice "g" (again ∷ []) (again ∷ []) ∷ separator ∷ verified ∷ []) ≡ None
+updated_on_each_path : of_body (g ∷ spec_check ∷ guess ∷ separator ∷ choice "g" (again ∷ []) (again ∷ []) ∷ separator ∷ verified ∷ []) ≡ None
 updated_on_each_path = refl
 
-updated_in_two_stages : s7_of (g ∷ spec_check ∷ guess ∷ separator ∷ choice "g" (again ∷ []) [] ∷ separator ∷ again ∷ separator ∷ verified ∷ []) ≡ Some 9
+-- updates of two paths in two stages
+updated_in_two_stages :
+    of_body (g ∷ spec_check ∷ guess ∷ separator ∷ choice "g" (again ∷ []) [] ∷ separator ∷ choice "g" [] (again ∷ []) ∷ separator ∷ verified ∷ [])
+    ≡ at_line S7 10
 updated_in_two_stages = refl

@@ -91,6 +91,18 @@ comes_same p s env env' f (x ∷ c) h = ap₂ (λ a b. a && b) (f x c h) (comes_
 pub visits_same : (p : Pipe) (s : ℕ) (env env' : List ℕ) → ((x : Branch) (c : List Branch) → Within p (x ∷ c) s → goes_by p x env ≡ goes_by p x env') → visits_stage p env s ≡ visits_stage p env' s
 visits_same p s env env' f = comes_same p s env env' f (stage_at p s).branches (within_home p _ s refl)
 
+-- a path that comes by some branches comes by those around them
+comes_outer : (p : Pipe) (path : List ℕ) (inner c : List Branch) → comes_by p path (inner ++ c) ≡ true → comes_by p path c ≡ true
+comes_outer p path [] c h = h
+comes_outer p path (y ∷ ys) c h = comes_outer p path ys c (and_right (goes_by p y path) _ h)
+
+-- a path that comes to a stage inside a fork comes to the fork
+pub visits_fork : (p : Pipe) (path : List ℕ) (x : Branch) (c : List Branch) (s : ℕ) → Within p (x ∷ c) s → Home p c x.fork
+    → visits_stage p path s ≡ true → visits_stage p path x.fork ≡ true
+visits_fork p path x c s i h on =
+    ap (comes_by p path) h
+    ∙ comes_outer p path (i.0 ++ x ∷ []) c (ap (comes_by p path) (append_assoc i.0 (x ∷ []) c ∙ sym i.1) ∙ on)
+
 -- FORKS AROUND A STAGE
 
 -- the branch of a fork that a stage is inside

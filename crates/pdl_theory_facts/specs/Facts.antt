@@ -196,10 +196,11 @@ pub record Sound (p : Pipe) : Type 0 where
   -- part C: a path has no statement in the stages that it passes over
   pub skips : (path : List ℕ) (s : ℕ) → s < length p.stages → visits_stage p path s ≡ true
       → before (next_of p s path) (onpath path p.stmts) ≡ before (suc s) (onpath path p.stmts)
-  -- N2, N3: a fork's variable is bound before its stage ends, and read at once
+  -- N2, N3: a fork's variable is bound before its stage ends, and read at once where some path comes to the fork
   pub fork_bound : (s x a b : ℕ) → (stage_at p s).next ≡ Forks x a b → none_of (binds_var x) (stages_from (suc s) p.stmts) ≡ true
   pub fork_known : (s x a b : ℕ) → (stage_at p s).next ≡ Forks x a b → x < p.vars
-  pub fork_seen : (s x a b : ℕ) → (stage_at p s).next ≡ Forks x a b → none_of (is_fetch_of x) (in_stage s p.stmts) ≡ true
+  pub fork_seen : (path : List ℕ) (s x a b : ℕ) → visits_stage p path s ≡ true → (stage_at p s).next ≡ Forks x a b
+      → none_of (is_fetch_of x) (in_stage s p.stmts) ≡ true
   -- delayed reads
   pub fetch : ℕ → ℕ
   pub fetch_ok : (s : ℕ) → AllFetches p fetch s (in_stage s p.stmts)

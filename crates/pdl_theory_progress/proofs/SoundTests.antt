@@ -488,7 +488,7 @@ module _ (p : Pipe) (h : passes_tests p ≡ true) where
         skips = skips;
         fork_bound = λ s x a b e. and_left (none_of (binds_var x) (stages_from (suc s) p.stmts)) _ (and_right (nat_lt x p.vars) _ (fork_ok s x a b e));
         fork_known = λ s x a b e. ltb-true _ _ (and_left (nat_lt x p.vars) _ (fork_ok s x a b e));
-        fork_seen = λ s x a b e. and_right (none_of (binds_var x) (stages_from (suc s) p.stmts)) _ (and_right (nat_lt x p.vars) _ (fork_ok s x a b e));
+        fork_seen = λ path s x a b on e. and_right (none_of (binds_var x) (stages_from (suc s) p.stmts)) _ (and_right (nat_lt x p.vars) _ (fork_ok s x a b e));
         fetch = λ m. fetch_stage m p.stmts;
         fetch_ok = λ s. fetch_all s p.stmts all.1.1.1.1.1.1.1.1.0;
         fetch_blind = fetch_blind;

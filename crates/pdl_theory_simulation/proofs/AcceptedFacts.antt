@@ -391,7 +391,7 @@ module _ (p : Pipe) (acc : Sound p) where
         on_stages = stages_on;
         arrives = arrives_at;
         guards_late = late_on;
-        forks_late = λ s x a b e. fork_each x s p.stmts (acc.fork_bound s x a b e) (acc.fork_seen s x a b e);
+        forks_late = λ path s x a b on e. fork_each x s p.stmts (acc.fork_bound s x a b e) (acc.fork_seen path s x a b on e);
         uses =
             λ path m. sym (uses_looked m Fresh (onpath path p.stmts))
             ∙ uses_of m Fresh (looked_all (onpath path p.stmts))

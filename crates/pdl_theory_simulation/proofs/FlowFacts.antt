@@ -173,8 +173,9 @@ pub record FlowRules (p : Pipe) : Type 0 where
   -- N2, N3: the definition of a guard's variable stands before each use of a path, a delayed read's before the separator before it
   pub guards_late : (path : List ℕ)
       → AllOf (λ z. all_hold z.guards path ≡ true → AllOf (λ y. binds_guard y.op z.guards ≡ true → DefinedBy y.stage y.op z.stage) p.stmts) p.stmts
-  -- and that of a fork's guard before the fork
-  pub forks_late : (s x a b : ℕ) → (stage_at p s).next ≡ Forks x a b → AllOf (λ y. binds_var x y.op ≡ true → DefinedBy y.stage y.op s) p.stmts
+  -- and that of a fork's guard before the fork, where some path comes to it
+  pub forks_late : (path : List ℕ) (s x a b : ℕ) → visits_stage p path s ≡ true → (stage_at p s).next ≡ Forks x a b
+      → AllOf (λ y. binds_var x y.op ≡ true → DefinedBy y.stage y.op s) p.stmts
   -- L1, L4 to L7
   pub uses : (path : List ℕ) (m : ℕ) → uses_ok m Fresh (onpath path p.stmts) ≡ true
   pub over : (path : List ℕ) (m : ℕ) → is_over (phase_all m Fresh (onpath path p.stmts)) ≡ true

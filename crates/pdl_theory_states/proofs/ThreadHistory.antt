@@ -377,7 +377,7 @@ module _ (p : Pipe) (flows : Flows p) (sound : Sound p) (strict : Strict p) (o :
 
       unfetched : (r : ℕ) → Among r (t.stage ∷ loc.trail) → (z a b : ℕ) → (stage_at p r).next ≡ Forks z a b
           → none_of (is_fetch_of z) (in_stage t.stage p.stmts) ≡ true
-      unfetched r (inl i) z a b e = sound.fork_seen t.stage z a b (ap (λ n. (stage_at p n).next) (sym i) ∙ e)
+      unfetched r (inl i) z a b e = sound.fork_seen env t.stage z a b kept_answer.reached (ap (λ n. (stage_at p n).next) (sym i) ∙ e)
       unfetched r (inr i) z a b e =
           fetch_binds z (in_stage t.stage p.stmts)
           (none_stage_from (binds_var z) (suc r) t.stage p.stmts (among_low p flows.graph env t.stage loc.trail loc.walked r i) (sound.fork_bound r z a b e))

@@ -275,7 +275,7 @@ module _ (p : Pipe) (acc : Sound p) where
         on_next =
             λ arrays args s on low. (
               StageFacts.on_next p acc arrays args s on.0 low,
-              (suc on.1.0, StageFacts.path_next p acc arrays args s ∙ ap (λ n. next_of p n (thread (at_once p) arrays args).env) on.1.1),
+              (suc on.1.0, StageFacts.path_next p acc arrays args s on.0 ∙ ap (λ n. next_of p n (thread (at_once p) arrays args).env) on.1.1),
             );
         start_so = λ arrays args. ap (λ l. do_all (alone arrays) l (start_work p args)) no_start;
         start_blocked =

@@ -277,8 +277,8 @@ module _ (p : Pipe) (acc : Sound p) where
     on_then h low = arrives p acc.branches t.stage (work_of_stage p o t).env low h
 
     -- what it awaits there is no fork's variable
-    aside_then : t.stage < length p.stages → AllAsks (λ q. Aside p (next_of p t.stage (work_of_stage p o t).env) q.var) (work_of_stage p o t).asks
-    aside_then low =
+    aside_then : visits_stage p (work_of_stage p o t).env t.stage ≡ true → t.stage < length p.stages → AllAsks (λ q. Aside p (next_of p t.stage (work_of_stage p o t).env) q.var) (work_of_stage p o t).asks
+    aside_then on low =
         flip (work_of_stage p o t).asks
         (λ y c e. asks_each (λ x m. steers p y x ≡ false) o (in_stage t.stage p.stmts) _ (none_steers y c e (stage_at p y.fork).next refl) tt)
       where
@@ -308,7 +308,7 @@ module _ (p : Pipe) (acc : Sound p) where
           where
             by : (y.fork ≡ t.stage) ⊎ Within p (y ∷ c) t.stage
                 → none_of (is_fetch_of z) (in_stage t.stage p.stmts) ≡ true
-            by (inl g) = subst (λ n. none_of (is_fetch_of z) (in_stage n p.stmts) ≡ true) g (acc.fork_seen y.fork z a b f)
+            by (inl g) = subst (λ n. none_of (is_fetch_of z) (in_stage n p.stmts) ≡ true) g (acc.fork_seen (work_of_stage p o t).env y.fork z a b (subst (λ n. visits_stage p (work_of_stage p o t).env n ≡ true) (sym g) on) f)
             by (inr g) =
                 fetch_binds z (in_stage t.stage p.stmts)
                 (none_stage_from (binds_var z) (suc y.fork) t.stage p.stmts (acc.branches.fork y c t.stage g).1 (acc.fork_bound y.fork z a b f))
@@ -392,7 +392,7 @@ module _ (p : Pipe) (acc : Sound p) where
                 (not_asked x (work_of_stage p o t).asks
                 (asks_each (λ y m. not (y == x) ≡ true) o (in_stage t.stage p.stmts) _ (not_fetched x (in_stage t.stage p.stmts) h) tt)));
             on = on_then on_path inside;
-            aside = aside_asks p (next_of p t.stage (work_of_stage p o t).env) (work_of_stage p o t).asks (aside_then inside);
+            aside = aside_asks p (next_of p t.stage (work_of_stage p o t).env) (work_of_stage p o t).asks (aside_then on_path inside);
           },
           m.0,
           ap (λ l. not (is_unmade (making_all Unmade l))) piece
