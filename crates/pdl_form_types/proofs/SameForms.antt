@@ -244,7 +244,7 @@ op_tells (Block _ _) _ e0 = absurd (false≢true e0)
 op_tells (Release _ _) _ e0 = absurd (false≢true e0)
 op_tells (Call _) _ e0 = absurd (false≢true e0)
 op_tells (SpecCall _) _ e0 = absurd (false≢true e0)
-op_tells (Verify _) _ e0 = absurd (false≢true e0)
+op_tells (Verify _ _) _ e0 = absurd (false≢true e0)
 op_tells SpecCheck _ e0 = absurd (false≢true e0)
 op_tells SpecBarrier _ e0 = absurd (false≢true e0)
 

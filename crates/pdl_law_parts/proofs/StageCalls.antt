@@ -220,17 +220,17 @@ module _ (c : Circuit) (p : Pipe) (ls : Locks) (vs : ℕ → View) (s : State) (
           }
 
   -- a row that verifies: the guess fails where the arguments differ from it, and then a new thread has them
-  pub follows_verify : (args : List Expr) → FollowsOp c p ls vs s st k thread around (Verify args)
+  pub follows_verify : (args : List Expr) → FollowsOp c p ls vs s st k thread around (Verify last args)
   follows_verify args j gs r w d live on row here fine q =
-      quiet c p ls vs s st k thread around gs r w d glive on q (Verify args) (walk_after (Verify args) r ls w) refl (λ b. same b) (λ h z b f. so h z b f)
+      quiet c p ls vs s st k thread around gs r w d glive on q (Verify last args) (walk_after (Verify last args) r ls w) refl (λ b. same b) (λ h z b f. so h z b f)
     where
       glive : (z : ℕ) → guards_use gs z ≡ true → lives_from p k z ≡ true
       glive z u = live.vars z (or_left (guards_use gs z) (are_using args z) u)
 
       failed : Deeds
-      failed = record d { child = Some (values_of args d.env); fails = true }
+      failed = record d { child = Some (values_of args d.env); guess = values_of args d.env; fails = true }
 
-      same : (b : Bool) → locks_ready p st thread (done st thread b (Verify args) d) ≡ locks_ready p st thread d
+      same : (b : Bool) → locks_ready p st thread (done st thread b (Verify last args) d) ≡ locks_ready p st thread d
       same true = at (same_args (values_of args d.env) d.guess)
         where
           at : (b : Bool) → locks_ready p st thread (if b then d else failed) ≡ locks_ready p st thread d
@@ -242,7 +242,7 @@ module _ (c : Circuit) (p : Pipe) (ls : Locks) (vs : ℕ → View) (s : State) (
       wrong = both r.on r.value
 
       new : Walk
-      new = walk_after (Verify args) r ls w
+      new = walk_after (Verify last args) r ls w
 
       -- after a verify of which this says whether it fails
       after : IsSo p k s w d → (b : Bool) → wrong.value s ≡ bit b
@@ -283,7 +283,7 @@ module _ (c : Circuit) (p : Pipe) (ls : Locks) (vs : ℕ → View) (s : State) (
         barrier = h.barrier;
       }
 
-      so : IsSo p k s w d → locks_ready p st thread d ≡ true → (b : Bool) → all_hold gs d.env ≡ b → IsSo p k s new (done st thread b (Verify args) d)
+      so : IsSo p k s w d → locks_ready p st thread d ≡ true → (b : Bool) → all_hold gs d.env ≡ b → IsSo p k s new (done st thread b (Verify last args) d)
       so h z false f =
           after h false (both_at s r.on r.value false true (on_at c p ls vs s st k thread around gs r w d glive on q h ∙ ap bit f) (λ e. absurd (cc e)))
           (λ e. absurd (cc e))

@@ -39,7 +39,7 @@ in_time p k (Block m a) = nat_le k (commit_stage p m)
 in_time p k (Release _ _) = true
 in_time p k (Call _) = true
 in_time p k (SpecCall _) = true
-in_time p k (Verify _) = true
+in_time p k (Verify _ _) = true
 in_time p k SpecCheck = true
 in_time p k SpecBarrier = true
 
@@ -59,7 +59,7 @@ IsOpFine p st thread (Block _ _) d = ⊤
 IsOpFine p st thread (Release m a) d = is_held (let_go d.held m a) m a ≡ false
 IsOpFine p st thread (Call _) d = ⊤
 IsOpFine p st thread (SpecCall _) d = ⊤
-IsOpFine p st thread (Verify args) d = length d.guess ≡ length args
+IsOpFine p st thread (Verify last args) d = length d.guess ≡ length args
 IsOpFine p st thread SpecCheck d = ⊤
 IsOpFine p st thread SpecBarrier d = ⊤
 

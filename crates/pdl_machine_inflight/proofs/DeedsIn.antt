@@ -27,13 +27,13 @@ asks_op : (p : Pipe) (k s : ℕ) (read : ℕ → ℕ → ℕ) (x : Stmt) → IsT
 asks_op p k s read x h e d r = by x.op h
   where
     verified : (args : List Rattle.pdl_semantics.specs.Flat.Expr) (b : Bool)
-        → Each (AsksIn p k) (cond b d (record d { child = Some (values_of args d.env); fails = true })).asks
+        → Each (AsksIn p k) (cond b d (record d { child = Some (values_of args d.env); guess = values_of args d.env; fails = true })).asks
     verified args true = r
     verified args false = r
 
     by : (op : Op) → IsTheReading p (record x { op = op }) → Each (AsksIn p k) (deeds_after read op d).asks
     by (DelayedRead y m a) g = each_push (AsksIn p k) d.asks _ r (g ∙ ap (λ j. Some (record { stage = j; var = y })) e)
-    by (Verify args) g = verified args (same_args (values_of args d.env) d.guess)
+    by (Verify last args) g = verified args (same_args (values_of args d.env) d.guess)
     by (Bind y a) g = r
     by (CombRead y m a) g = r
     by (Write m a b) g = r
@@ -63,7 +63,7 @@ asks_in p reads st k t = asks_all p k (word_for st t.number) (in_stage k p.stmts
 -- FAILURES
 
 fails_op : (read : ℕ → ℕ → ℕ) (o : Op) (d : Deeds) → is_verify o ≡ false → (deeds_after read o d).fails ≡ d.fails
-fails_op read (Verify args) d h = absurd (cc h)
+fails_op read (Verify last args) d h = absurd (cc h)
 fails_op read (Bind x e) d h = refl
 fails_op read (CombRead x m a) d h = refl
 fails_op read (DelayedRead x m a) d h = refl

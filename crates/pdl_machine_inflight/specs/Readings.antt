@@ -55,7 +55,7 @@ ReadsAtOnce p (Block m a) = ⊤
 ReadsAtOnce p (Release m a) = ⊤
 ReadsAtOnce p (Call args) = ⊤
 ReadsAtOnce p (SpecCall args) = ⊤
-ReadsAtOnce p (Verify args) = ⊤
+ReadsAtOnce p (Verify last args) = ⊤
 ReadsAtOnce p SpecCheck = ⊤
 ReadsAtOnce p SpecBarrier = ⊤
 

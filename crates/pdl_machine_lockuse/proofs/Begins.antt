@@ -181,7 +181,7 @@ guess_op : (size : ℕ) (env guess : List ℕ) (g : Making) (op : Op) → DoneOp
     → (is_guessed g ≡ true → length guess ≡ size) → is_guessed (next_making g (answered_op op)) ≡ true → length guess ≡ size
 guess_op size env guess g (SpecCall args) h y f i = ap length h ∙ values_long args env ∙ eqb-true (length args) size y
 guess_op size env guess g (Call args) h y f i = absurd (false≢true i)
-guess_op size env guess g (Verify args) h y f i = absurd (false≢true i)
+guess_op size env guess g (Verify last args) h y f i = absurd (false≢true i)
 guess_op size env guess g (DelayedRead x m a) h y f i = f i
 guess_op size env guess g _ h y f i = f i
 
@@ -206,7 +206,7 @@ op_same p zs s c (Block m a) = refl
 op_same p zs s c (Release m a) = refl
 op_same p zs s c (Call args) = refl
 op_same p zs s c (SpecCall args) = refl
-op_same p zs s c (Verify args) = refl
+op_same p zs s c (Verify last args) = refl
 op_same p zs s c SpecCheck = refl
 op_same p zs s c SpecBarrier = refl
 

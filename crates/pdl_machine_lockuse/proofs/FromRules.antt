@@ -64,7 +64,7 @@ keeps_looked (Flat.ReserveWrite m a) xs = refl
 keeps_looked (Flat.Release m a) xs = refl
 keeps_looked (Flat.Call args) xs = refl
 keeps_looked (Flat.SpecCall args) xs = refl
-keeps_looked (Flat.Verify args) xs = refl
+keeps_looked (Flat.Verify last args) xs = refl
 keeps_looked Flat.SpecCheck xs = refl
 keeps_looked Flat.SpecBarrier xs = refl
 

@@ -60,9 +60,9 @@ covers_op c _ hs f = f
 
 -- the deeds after a statement hold what the statement leaves held
 pub held_does : (read : ℕ → ℕ → ℕ) (op : Op) (d : Deeds) → (deeds_after read op d).held ≡ held_after op d.held
-held_does read (Verify args) d = at (same_args (values_of args d.env) d.guess)
+held_does read (Verify last args) d = at (same_args (values_of args d.env) d.guess)
   where
-    at : (b : Bool) → (cond b d (record d { child = Some (values_of args d.env); fails = true })).held ≡ d.held
+    at : (b : Bool) → (cond b d (record d { child = Some (values_of args d.env); guess = (values_of args d.env); fails = true })).held ≡ d.held
     at true = refl
     at false = refl
 held_does read _ d = refl

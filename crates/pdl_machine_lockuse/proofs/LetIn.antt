@@ -77,9 +77,9 @@ module _ (p : Pipe) (st : State) (n : ℕ) where
   let_next vars s past (Bind x e) d h low r = λ k. right_set p s Let (blocks_of past) d.env x (value_of e d.env) (fresh vars x past h) (r k)
   let_next vars s past (CombRead x m a) d h low r =
       λ k. right_set p s Let (blocks_of past) d.env x (word_for st n m (slice_index d.env a)) (fresh vars x past h) (r k)
-  let_next vars s past (Verify args) d h low r = at (same_args (values_of args d.env) d.guess)
+  let_next vars s past (Verify last args) d h low r = at (same_args (values_of args d.env) d.guess)
     where
-      at : (b : Bool) → LetIf s past (cond b d (record d { child = Some (values_of args d.env); fails = true }))
+      at : (b : Bool) → LetIf s past (cond b d (record d { child = Some (values_of args d.env); guess = (values_of args d.env); fails = true }))
       at true = r
       at false = r
   let_next vars s past (ReserveWrite m a) d h low r =

@@ -273,11 +273,11 @@ module _ (o : Around) (read : ℕ → ℕ → ℕ) (block : Blocked → Bool) (f
   step_op (ReserveWrite j a) ph d es cs h k g = step_reserve m n j a (slice_index d.env a) ph es (of_mem m cs) start d.reserves d.writes _ (j == m) refl k g
   step_op (Release j a) ph d es cs h k g =
       step_release m n j a ph es cs _ d.writes d.releases (is_held d.held j a) (ap (λ l. is_held l j a) (sym h) ∙ places_has es j a) (j == m) refl k g
-  step_op (Verify args) ph d es cs h k g = at (same_args (values_of args d.env) d.guess)
+  step_op (Verify last args) ph d es cs h k g = at (same_args (values_of args d.env) d.guess)
     where
       at : (b : Bool)
-          → At ph (cond b d (record d { child = Some (values_of args d.env); fails = true }))
-          (cond b (W d es cs) (record (W d es cs) { child = Some (values_of args d.env); fails = true }))
+          → At ph (cond b d (record d { child = Some (values_of args d.env); guess = (values_of args d.env); fails = true }))
+          (cond b (W d es cs) (record (W d es cs) { child = Some (values_of args d.env); guess = (values_of args d.env); fails = true }))
       at true = g
       at false = g
   step_op _ ph d es cs h k g = g
@@ -443,9 +443,9 @@ module _ (o : Around) (read : ℕ → ℕ → ℕ) (block : Blocked → Bool) (f
         turns = w.turns;
       }
       at false = record { single = w.single; named = w.named; made = w.made; turns = w.turns }
-  wrote_next (Verify args) ph d es cs k g w = at (same_args (values_of args d.env) d.guess)
+  wrote_next (Verify last args) ph d es cs k g w = at (same_args (values_of args d.env) d.guess)
     where
-      at : (b : Bool) → Wrote ph (cond b d (record d { child = Some (values_of args d.env); fails = true }))
+      at : (b : Bool) → Wrote ph (cond b d (record d { child = Some (values_of args d.env); guess = (values_of args d.env); fails = true }))
       at true = w
       at false = record { single = w.single; named = w.named; made = w.made; turns = w.turns }
   wrote_next _ ph d es cs k g w = record { single = w.single; named = w.named; made = w.made; turns = w.turns }
@@ -511,9 +511,9 @@ module _ (p : Pipe) (k : ℕ) (read : ℕ → ℕ → ℕ) (path : List ℕ) whe
 
   one : (op : Op) (d : Deeds) → in_time p k op ≡ true → list_all is_timely d.writes ≡ true → list_all is_timely (deeds_after read op d).writes ≡ true
   one (Write m a e) d g h = all_last d.writes _ h g
-  one (Verify args) d g h = at (same_args (values_of args d.env) d.guess)
+  one (Verify last args) d g h = at (same_args (values_of args d.env) d.guess)
     where
-      at : (b : Bool) → list_all is_timely (cond b d (record d { child = Some (values_of args d.env); fails = true })).writes ≡ true
+      at : (b : Bool) → list_all is_timely (cond b d (record d { child = Some (values_of args d.env); guess = (values_of args d.env); fails = true })).writes ≡ true
       at true = h
       at false = h
   one _ d g h = h

@@ -17,6 +17,7 @@ use Rattle.pdl_theory_simulation.proofs.Choices.{AllKnown}
 use Rattle.pdl_theory_simulation.proofs.LockLists.{part, two, release_here, three_is, gone}
 use Rattle.pdl_theory_derived.proofs.Lists.{pend}
 use Rattle.pdl_lockapi.specs.Forget.{has_place}
+use Rattle.pdl_theory_simulation.proofs.Stretches.{left_trunk}
 use Rattle.pdl_machine_facts.proofs.StatementUses.{writes_to}
 use Rattle.pdl_theory_states.specs.Use.{Released}
 use Rattle.pdl_theory_states.proofs.PendingLists.{AllOf, of_new}

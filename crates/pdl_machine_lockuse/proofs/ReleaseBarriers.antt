@@ -17,7 +17,7 @@ use Rattle.pdl_theory_turns.proofs.StrayPaths.{verify_looked}
 use Rattle.pdl_theory_turns.proofs.TurnPath
 use Rattle.pdl_theory_simulation.proofs.FlowFacts.{next_of}
 use Rattle.pdl_theory_simulation.proofs.AcceptedFacts.{sound_flows, phases_looked}
-use Rattle.pdl_theory_simulation.proofs.Stretches.{Behind, Keeps, start_of, fixed_here}
+use Rattle.pdl_theory_simulation.proofs.Stretches.{Behind, Keeps, start_of, fixed_here, left_trunk}
 use Rattle.pdl_theory_simulation.proofs.Seats.{Live, each_map, threads_of, dacts, did, now_of, work_of_live, deeds_of, befores_are}
 use Rattle.pdl_theory_simulation.proofs.Choices.{Known, keeps_now}
 use Rattle.pdl_theory_states.proofs.Trails.{stmts_append, stmts_map, stage_stmts}
@@ -116,7 +116,7 @@ module _ (p : Pipe) (sound : Sound p) (st : State) (d : Derived.State) (bits : L
   barrier_here : (v : ℕ) → verify_stage p.stmts ≡ Some v → Each (λ j. Behind p l.thread.stage j.thread.stage) older
       → (work_of_live p d bits older l).ready ≡ true → stage.some_barrier own ≡ true
       → Each (λ j. v < j.thread.stage) older
-  barrier_here v e behind ready b = at (stage_at p l.thread.stage).branch refl
+  barrier_here v e behind ready b = at (stage_at p l.thread.stage).branches refl
     where
       o : Around
       o = around p d bits (dacts p d bits older) l.thread.stage
@@ -141,10 +141,10 @@ module _ (p : Pipe) (sound : Sound p) (st : State) (d : Derived.State) (bits : L
           one true i u = absurd (let w = leb-true _ _ i in let y = s.0 in omega (arith, w, y))
           one false i u = ltb-true _ _ u
 
-      at : (c : Option Branch) → (stage_at p l.thread.stage).branch ≡ c → Each (λ j. v < j.thread.stage) older
-      at None i = each older (each_map (λ j g. g.trunk l.thread.stage i (le_refl l.thread.stage)) older behind) clear
-      at (Some x) i =
-          absurd (not_barred (in_stage l.thread.stage p.stmts) (work_of_live p d bits older l).env ((sound_flows p sound).branches l.thread.stage x i) b)
+      at : (c : List Branch) → (stage_at p l.thread.stage).branches ≡ c → Each (λ j. v < j.thread.stage) older
+      at [] i = each older (each_map (λ j g. left_trunk p _ _ g l.thread.stage i (le_refl l.thread.stage)) older behind) clear
+      at (x ∷ c) i =
+          absurd (not_barred (in_stage l.thread.stage p.stmts) (work_of_live p d bits older l).env ((sound_flows p sound).branches x c l.thread.stage i) b)
 
   -- so who releases before V has only older threads that stand after V
   pub certain_here : Lasting p st l older → Each (λ j. Behind p l.thread.stage j.thread.stage) older → (did p d bits older l).moves ≡ true → (m v : ℕ)

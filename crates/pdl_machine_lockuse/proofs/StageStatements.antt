@@ -62,9 +62,9 @@ module _ (p : Pipe) (st : State) (n : ℕ) where
   right_next s c (CombRead x m a) d h f r =
       λ k. right_set p s Clean c.blocked d.env x (word_for st n m (slice_index d.env a)) (and_left (not (is_address c.blocked x)) _ h) (r k)
   right_next s c (DelayedRead x m a) d h f r = r
-  right_next s c (Verify args) d h f r = at (same_args (values_of args d.env) d.guess)
+  right_next s c (Verify last args) d h f r = at (same_args (values_of args d.env) d.guess)
     where
-      at : (b : Bool) → RightIf s c (cond b d (record d { child = Some (values_of args d.env); fails = true }))
+      at : (b : Bool) → RightIf s c (cond b d (record d { child = Some (values_of args d.env); guess = (values_of args d.env); fails = true }))
       at true = r
       at false = r
   right_next s c (ReserveWrite m a) d h f r =
@@ -90,7 +90,7 @@ module _ (p : Pipe) (st : State) (n : ℕ) where
       → is_guessed (next_making g (answered_op op)) ≡ true → length (deeds_after (word_for st n) op d).guess ≡ size
   guess_next size g (Call args) d h f i = absurd (false≢true i)
   guess_next size g (SpecCall args) d h f i = values_long args d.env ∙ eqb-true (length args) size h
-  guess_next size g (Verify args) d h f i = absurd (false≢true i)
+  guess_next size g (Verify last args) d h f i = absurd (false≢true i)
   guess_next size g (DelayedRead x m a) d h f i = f i
   guess_next size g _ d h f i = f i
 
@@ -99,7 +99,7 @@ module _ (p : Pipe) (st : State) (n : ℕ) where
       → (is_guessed g ≡ true → length d.guess ≡ size) → RightIf s c d → locks_ready p st n d ≡ true → IsOpFine p st n op d
   op_fine size s v c ph g (CombRead x m a) d h o q y f r k = read_here s c x m a d h r k
   op_fine size s v c ph g (Release m a) d h o q y f r k = released_here m a d.held (held_once m (ph m) d.held (o m) a)
-  op_fine size s v c ph g (Verify args) d h o q y f r k = f (and_left (is_guessed g) (stands_at v s) q) ∙ sym (eqb-true (length args) size y)
+  op_fine size s v c ph g (Verify last args) d h o q y f r k = f (and_left (is_guessed g) (stands_at v s) q) ∙ sym (eqb-true (length args) size y)
   op_fine size s v c ph g (DelayedRead x m a) d h o q y f r k = tt
   op_fine size s v c ph g _ d h o q y f r k = tt
 

@@ -9,8 +9,9 @@ use Rattle.pdl_theory_derived.specs.Derived
 use Rattle.pdl_theory_facts.specs.Facts.{Sound}
 use Rattle.pdl_theory_turns.proofs.CourseOf
 use Rattle.pdl_theory_derived.proofs.Lists.{pend}
+use Rattle.pdl_theory_facts.specs.Graphs.{Trunk}
 use Rattle.pdl_theory_simulation.proofs.AcceptedFacts.{sound_flows}
-use Rattle.pdl_theory_simulation.proofs.Stretches.{Behind}
+use Rattle.pdl_theory_simulation.proofs.Stretches.{Behind, left_trunk}
 use Rattle.pdl_theory_simulation.proofs.Seats.{Live, Falls, falls_each, Ordered, pends, lact, lacts, did, deeds_of}
 use Rattle.pdl_theory_simulation.proofs.ThreadFacts.{Pair, pairs, EachPair, pair_map, pair_both, pairs_each}
 use Rattle.pdl_theory_simulation.proofs.Choices.{Seated, AllKnown}
@@ -25,8 +26,8 @@ use Rattle.pdl_semantics.specs.PendingLists.{count_older}
 use Rattle.pdl_word.specs.Each.{Each}
 
 -- V is a trunk stage
-verify_trunk : (p : Pipe) → Sound p → (v : ℕ) → verify_stage p.stmts ≡ Some v → (stage_at p v).branch ≡ None
-verify_trunk p sound v e = subst (λ n. (stage_at p n).branch ≡ None) (v_is (verify_stage p.stmts) e) (CourseOf.v_trunk p sound (verify_stage p.stmts) refl)
+verify_trunk : (p : Pipe) → Sound p → (v : ℕ) → verify_stage p.stmts ≡ Some v → Trunk p v
+verify_trunk p sound v e = subst (λ n. Trunk p n) (v_is (verify_stage p.stmts) e) (CourseOf.v_trunk p sound (verify_stage p.stmts) refl)
   where
     v_is : (o : Option ℕ) → o ≡ Some v → CourseOf.v_of p sound o ≡ v
     v_is None i = absurd (cc i)
@@ -116,7 +117,7 @@ module _ (p : Pipe) (sound : Sound p) (st : State) (d : Derived.State) (bits : L
     (λ i j. pair_map
         (λ x b g. absurd
         (let here = release_here p (sound_flows p sound) st d bits arrays ls l k.0 m j in
-        let u : commit_stage p m < x.live.thread.stage = b.trunk (commit_stage p m) ((sound_flows p sound).trunk_commit m) (let v = here in omega arith) in
+        let u : commit_stage p m < x.live.thread.stage = left_trunk p _ _ b (commit_stage p m) ((sound_flows p sound).trunk_commit m) (let v = here in omega arith) in
         let v = g in omega arith))
         (pairs ls) (pairs_each (λ k. Behind p l.thread.stage k.thread.stage) ls o.0)),
     bars_commit ls k.1 o.1,
@@ -128,12 +129,12 @@ module _ (p : Pipe) (sound : Sound p) (st : State) (d : Derived.State) (bits : L
   bars_verify v e [] k o a = tt
   bars_verify v e (l ∷ ls) k o a = ((λ i j. at (nat_le v l.thread.stage) refl i j), bars_verify v e ls k.1 o.1 a.1)
     where
-      trunk : (stage_at p v).branch ≡ None
+      trunk : Trunk p v
       trunk = verify_trunk p sound v e
 
       at : (b : Bool) → nat_le v l.thread.stage ≡ b → (did p d bits ls l).moves ≡ true → takes l ≢ 0 → EachPair (λ x. x.live.thread.stage ≤ v → ⊥) (pairs ls)
       at true f i j =
-          pair_map (λ x b g. let u : v < x.live.thread.stage = b.trunk v trunk (leb-true _ _ f) in absurd (let w = g in omega (arith, u, w))) (pairs ls)
+          pair_map (λ x b g. let u : v < x.live.thread.stage = left_trunk p _ _ b v trunk (leb-true _ _ f) in absurd (let w = g in omega (arith, u, w))) (pairs ls)
           (pairs_each (λ k. Behind p l.thread.stage k.thread.stage) ls o.0)
       at false f i j =
           pair_map (λ x b g. absurd (let u = b in let w = g in omega (arith, u, w))) (pairs ls)
@@ -164,7 +165,7 @@ module _ (p : Pipe) (sound : Sound p) (st : State) (d : Derived.State) (bits : L
           low : (c : Bool) → nat_le (reserve_stage p m) l.thread.stage ≡ c → l.thread.stage < reserve_stage p m
           low true e =
               absurd
-              (let u : reserve_stage p m < x.live.thread.stage = b.trunk (reserve_stage p m) ((sound_flows p sound).trunk_reserve m) (leb-true _ _ e) in
+              (let u : reserve_stage p m < x.live.thread.stage = left_trunk p _ _ b (reserve_stage p m) ((sound_flows p sound).trunk_reserve m) (leb-true _ _ e) in
               omega (arith, u, h))
           low false e = leb-false _ _ e
 

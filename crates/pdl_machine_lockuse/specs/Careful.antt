@@ -18,7 +18,7 @@ reserves_at m a (Block _ _) = false
 reserves_at m a (Release _ _) = false
 reserves_at m a (Call _) = false
 reserves_at m a (SpecCall _) = false
-reserves_at m a (Verify _) = false
+reserves_at m a (Verify _ _) = false
 reserves_at m a SpecCheck = false
 reserves_at m a SpecBarrier = false
 
@@ -34,7 +34,7 @@ keeps_kind (Block m a) ys = none_of (reserves_at m a) ys
 keeps_kind (Release _ _) ys = true
 keeps_kind (Call _) ys = true
 keeps_kind (SpecCall _) ys = true
-keeps_kind (Verify _) ys = true
+keeps_kind (Verify _ _) ys = true
 keeps_kind SpecCheck ys = true
 keeps_kind SpecBarrier ys = true
 
@@ -55,7 +55,7 @@ is_block_at m a (Block n b) = (n == m) && (b == a)
 is_block_at m a (Release _ _) = false
 is_block_at m a (Call _) = false
 is_block_at m a (SpecCall _) = false
-is_block_at m a (Verify _) = false
+is_block_at m a (Verify _ _) = false
 is_block_at m a SpecCheck = false
 is_block_at m a SpecBarrier = false
 
@@ -76,7 +76,7 @@ is_let_in (Block _ _) past = true
 is_let_in (Release _ _) past = true
 is_let_in (Call _) past = true
 is_let_in (SpecCall _) past = true
-is_let_in (Verify _) past = true
+is_let_in (Verify _ _) past = true
 is_let_in SpecCheck past = true
 is_let_in SpecBarrier past = true
 
@@ -97,7 +97,7 @@ passes_on n (Block _ _) = true
 passes_on n (Release _ _) = true
 passes_on n (Call _) = true
 passes_on n (SpecCall args) = length args == n
-passes_on n (Verify args) = length args == n
+passes_on n (Verify last args) = length args == n
 passes_on n SpecCheck = true
 passes_on n SpecBarrier = true
 

@@ -53,7 +53,7 @@ IsLetIn p st thread (Block _ _) d = ⊤
 IsLetIn p st thread (Release _ _) d = ⊤
 IsLetIn p st thread (Call _) d = ⊤
 IsLetIn p st thread (SpecCall _) d = ⊤
-IsLetIn p st thread (Verify _) d = ⊤
+IsLetIn p st thread (Verify _ _) d = ⊤
 IsLetIn p st thread SpecCheck d = ⊤
 IsLetIn p st thread SpecBarrier d = ⊤
 
@@ -109,7 +109,7 @@ uses_mem m (Block n a) = n == m
 uses_mem m (Release _ _) = false
 uses_mem m (Call _) = false
 uses_mem m (SpecCall _) = false
-uses_mem m (Verify _) = false
+uses_mem m (Verify _ _) = false
 uses_mem m SpecCheck = false
 uses_mem m SpecBarrier = false
 

@@ -45,7 +45,7 @@ asked_op read (Block m a) d = omega arith
 asked_op read (Release m a) d = omega arith
 asked_op read (Call args) d = omega arith
 asked_op read (SpecCall args) d = omega arith
-asked_op read (Verify args) d = let same = asked_verify (same_args (values_of args d.env) d.guess) (values_of args d.env) d in omega (arith, same)
+asked_op read (Verify last args) d = let same = asked_verify (same_args (values_of args d.env) d.guess) (values_of args d.env) d in omega (arith, same)
 asked_op read SpecCheck d = omega arith
 asked_op read SpecBarrier d = omega arith
 

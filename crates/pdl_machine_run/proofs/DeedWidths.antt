@@ -157,7 +157,7 @@ module _ (f : Form) (wide : AreWidths f.widths) (xs : List Memory) (ms : AreMemo
         asks = k.asks;
         child = args_fit f.widths d.env wide k.env (param_widths f) args t;
       }
-  fit_does thread (Verify args) d t k =
+  fit_does thread (Verify last args) d t k =
       fit_verify (same_args (values_of args d.env) d.guess) (values_of args d.env) d (args_fit f.widths d.env wide k.env (param_widths f) args t) k
   fit_does thread SpecCheck d t k = k
   fit_does thread SpecBarrier d t k = record { env = k.env; guess = k.guess; reserves = k.reserves; writes = k.writes; asks = k.asks; child = k.child }
@@ -190,7 +190,7 @@ module _ (f : Form) (wide : AreWidths f.widths) (xs : List Memory) (ms : AreMemo
       let room = h.args in
       let kept = h.guess in
       (all_safe f.widths d.env wide k.env (param_widths f) args t, omega arith, omega arith)
-  safe_op (Verify args) d c n t k h =
+  safe_op (Verify last args) d c n t k h =
       let few = few_args args t in
       let room = h.args in
       let kept = h.verified in

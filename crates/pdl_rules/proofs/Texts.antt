@@ -1,7 +1,7 @@
 -- Short words to write out a tree with its lines.
 use Prim.Native.String.{String}
 use Rattle.std.specs.Prelude.{ℕ, ◌+◌, true, false, List, [], ◌∷◌, Option, Some, None, codes, length}
-use Rattle.pdl_semantics.specs.Tree.{Span, Ident, Number, Literal, Add, Expr, Constant, Variable, Slice, Binary, Location, Kind, Stmt, Separator, CombRead, Bind, SpecCall, DelayedRead, Write, Reserve, Block, Release, If, Call, Verify, SpecCheck, SpecBarrier, stmts_of, Queue, LockDecl, Param, Mem, Pipe}
+use Rattle.pdl_semantics.specs.Tree.{Span, Ident, Number, Literal, Add, Expr, Constant, Variable, Slice, Binary, Location, Kind, Stmt, Separator, CombRead, Bind, SpecCall, DelayedRead, Write, Reserve, Block, Release, If, Call, Verify, Update, SpecCheck, SpecBarrier, stmts_of, Queue, LockDecl, Param, Mem, Pipe}
 
 -- the byte 0 of a line
 abbrev on_line : ℕ → Span
@@ -90,6 +90,9 @@ abbrev pub verify : String → List Expr → Line
 verify s args k = Verify (on_line k) (ident k s) args
 
 -- a `spec_check`
+abbrev pub update : String → List Expr → Line
+update s args k = Update (on_line k) (ident k s) args
+
 abbrev pub spec_check : Line
 spec_check k = SpecCheck (on_line k)
 

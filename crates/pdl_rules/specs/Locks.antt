@@ -2,7 +2,7 @@
 use Rattle.std.specs.Prelude.{ℕ, Bool, true, false, not, ◌&&◌, ◌==◌, nat_le, List, [], ◌∷◌, Option, Some, None, fold, count_by, if◌then◌else◌, bytes_eq}
 use Rattle.std.specs.List.{list_any}
 use Rattle.std.specs.Option.{is_some}
-use Rattle.pdl_semantics.specs.Tree.{Location, Kind, R, W, Stmt, Separator, CombRead, Bind, SpecCall, DelayedRead, Write, Reserve, Block, Release, LockDecl, If, Call, Verify, SpecCheck, SpecBarrier, Mem, Pipe}
+use Rattle.pdl_semantics.specs.Tree.{Location, Kind, R, W, Stmt, Separator, CombRead, Bind, SpecCall, DelayedRead, Write, Reserve, Block, Release, LockDecl, If, Call, Verify, SpecCheck, SpecBarrier, Mem, Pipe, Update}
 use Rattle.pdl_rules.specs.Places.{Place, Parameter, Memory, Statement, End, StartClause, at_statement, on_some_path}
 use Rattle.pdl_rules.specs.Forms.{writes, reserves}
 use Rattle.pdl_rules.specs.Parts.{parts_of}
@@ -26,6 +26,7 @@ lacks_lock ms (Release _ at) = not (is_locked ms at.mem.name)
 lacks_lock ms (If _ _ _ _) = false
 lacks_lock ms (Call _ _) = false
 lacks_lock ms (Verify _ _ _) = false
+lacks_lock ms (Update _ _ _) = false
 lacks_lock ms (SpecCheck _) = false
 lacks_lock ms (SpecBarrier _) = false
 
@@ -74,6 +75,7 @@ after_statement at h (Release _ l) = if same_location l at then Released else h
 after_statement at h (If _ _ _ _) = h
 after_statement at h (Call _ _) = h
 after_statement at h (Verify _ _ _) = h
+after_statement at h (Update _ _ _) = h
 after_statement at h (SpecCheck _) = h
 after_statement at h (SpecBarrier _) = h
 
@@ -127,6 +129,7 @@ acts_unheld ms earlier (Release _ at) = not (is_blocked (hold_after at earlier))
 acts_unheld ms earlier (If _ _ _ _) = false
 acts_unheld ms earlier (Call _ _) = false
 acts_unheld ms earlier (Verify _ _ _) = false
+acts_unheld ms earlier (Update _ _ _) = false
 acts_unheld ms earlier (SpecCheck _) = false
 acts_unheld ms earlier (SpecBarrier _) = false
 
@@ -163,6 +166,7 @@ reads_late earlier (Release _ _) = false
 reads_late earlier (If _ _ _ _) = false
 reads_late earlier (Call _ _) = false
 reads_late earlier (Verify _ _ _) = false
+reads_late earlier (Update _ _ _) = false
 reads_late earlier (SpecCheck _) = false
 reads_late earlier (SpecBarrier _) = false
 

@@ -8,3 +8,4 @@ pub mod FeatureRows
 mod SoundRows
 pub mod Readiness
 pub mod Facts
+pub mod Updates

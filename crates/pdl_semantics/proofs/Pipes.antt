@@ -1,7 +1,7 @@
 -- Pipes on which the definitions are computed, as trees.
 use Rattle.std.specs.Prelude.{ℕ, List, [], ◌∷◌, ◌++◌, None}
 use Rattle.pdl_semantics.specs.Tree.{Not, ZeroExtend, R, W, LockKind, Queue, Bypass, Rename, Expr, Stmt, Pipe}
-use Rattle.pdl_semantics.proofs.Texts.{number, constant, variable, slice, plus, separator, bind, comb_read, delayed_read, write, reserve, block, release, call, spec_call, verify, spec_check, spec_barrier, if_else, lock, comb, slow, pipe}
+use Rattle.pdl_semantics.proofs.Texts.{number, constant, variable, slice, plus, separator, bind, comb_read, delayed_read, write, reserve, block, release, call, spec_call, verify, spec_check, spec_barrier, if_else, lock, comb, slow, pipe, update}
 
 -- one stage: each thread writes its argument
 abbrev pub one_stage : Pipe
@@ -95,6 +95,18 @@ guess_reserved k =
     ∷ bind "t" (plus (variable "n") (constant 8 k)) ∷ separator ∷ verify "s" (variable "t") ∷ block "m" "a"
     ∷ write "m" "a" (variable "n") ∷ release "m" "a" ∷ [])
 
+-- two stages after the first the guess is verified; before, this may replace it
+abbrev pub guess_again : List Stmt → Pipe
+guess_again second =
+    pipe 8 (comb "m" 4 (lock Queue 1) ∷ [])
+    (spec_check ∷ spec_call "s" (plus (variable "n") (constant 8 1)) ∷ separator ∷ bind "u" (plus (variable "n") (constant 8 2))
+    ∷ (second ++ separator ∷ separator ∷ verify "s" (variable "u") ∷ bind "a" (slice "n" 1 0) ∷ reserve "m" "a" W ∷ block "m" "a"
+    ∷ write "m" "a" (variable "n") ∷ release "m" "a" ∷ []))
+
+-- by a guess that is j more
+abbrev pub updated : ℕ → Pipe
+updated j = guess_again (update "s" (plus (variable "n") (constant 8 j)) ∷ [])
+
 -- a delayed memory is copied
 abbrev pub copy : Pipe
 copy =
@@ -125,6 +137,43 @@ two_branches = forked (separator ∷ []) (separator ∷ separator ∷ separator 
 -- a way straight to the merge, and a long branch
 abbrev pub one_branch : Pipe
 one_branch = forked [] (separator ∷ separator ∷ separator ∷ [])
+
+-- a fork on h with these branches, in the second branch of one on g
+abbrev pub forked_twice : List Stmt → List Stmt → Pipe
+forked_twice first second =
+    pipe 2 (comb "m" 4 (lock Bypass 8) ∷ [])
+    (bind "g" (slice "n" 0 0) ∷ bind "h" (slice "n" 1 1) ∷ bind "z" (ZeroExtend (variable "n") (number 8)) ∷ reserve "m" "n" W
+    ∷ call (plus (variable "n") (constant 2 1))
+    ∷ if_else (variable "g") (separator ∷ []) (separator ∷ if_else (variable "h") first second ∷ separator ∷ []) ∷ separator
+    ∷ block "m" "n" ∷ write "m" "n" (variable "z") ∷ release "m" "n" ∷ [])
+
+-- both have stages
+abbrev pub nested : Pipe
+nested = forked_twice (separator ∷ []) (separator ∷ separator ∷ [])
+
+-- a way straight to the inner merge
+abbrev pub nested_straight : Pipe
+nested_straight = forked_twice [] (separator ∷ separator ∷ separator ∷ [])
+
+-- forks of four levels, each in the first branch of the one around it
+abbrev around_fork : List Stmt → List Stmt
+around_fork inner = if_else (variable "g") (separator ∷ inner) (separator ∷ separator ∷ []) ∷ separator ∷ []
+
+abbrev pub four_levels : Pipe
+four_levels =
+    pipe 2 (comb "m" 4 (lock Bypass 8) ∷ [])
+    (bind "g" (slice "n" 0 0) ∷ bind "z" (ZeroExtend (variable "n") (number 8)) ∷ reserve "m" "n" W
+    ∷ call (plus (variable "n") (constant 2 1)) ∷ (around_fork (around_fork (around_fork (around_fork [])))
+    ++ block "m" "n" ∷ write "m" "n" (variable "z") ∷ release "m" "n" ∷ []))
+
+-- guesses, all wrong, over a fork inside another
+abbrev pub nested_guess : Pipe
+nested_guess =
+    pipe 2 (comb "m" 4 (lock Queue 4) ∷ [])
+    (spec_check ∷ bind "g" (slice "n" 0 0) ∷ bind "h" (slice "n" 1 1) ∷ spec_call "s" (plus (variable "n") (constant 2 1))
+    ∷ if_else (variable "g") (separator ∷ []) (separator ∷ if_else (variable "h") (separator ∷ []) [] ∷ separator ∷ separator ∷ []) ∷ separator
+    ∷ verify "s" (plus (variable "n") (constant 2 2)) ∷ reserve "m" "n" W ∷ block "m" "n"
+    ∷ write "m" "n" (constant 8 9) ∷ release "m" "n" ∷ [])
 
 -- a delayed memory with a lock
 abbrev pub count_slow : Pipe

@@ -1,7 +1,7 @@
 -- Short words to write a tree out; nothing stands anywhere in particular.
 use Prim.Native.String.{String}
 use Rattle.std.specs.Prelude.{ℕ, true, false, List, [], ◌∷◌, Option, Some, codes}
-use Rattle.pdl_semantics.specs.Tree.{Span, Ident, Number, Literal, Add, Expr, Constant, Variable, Slice, Binary, Location, Kind, Stmt, Separator, CombRead, Bind, SpecCall, DelayedRead, Write, Reserve, Block, Release, If, Call, Verify, SpecCheck, SpecBarrier, stmts_of, LockKind, LockDecl, Mem, Pipe}
+use Rattle.pdl_semantics.specs.Tree.{Span, Ident, Number, Literal, Add, Expr, Constant, Variable, Slice, Binary, Location, Kind, Stmt, Separator, CombRead, Bind, SpecCall, DelayedRead, Write, Reserve, Block, Release, If, Call, Verify, Update, SpecCheck, SpecBarrier, stmts_of, LockKind, LockDecl, Mem, Pipe}
 
 -- the span of everything that is written out here
 abbrev pub nowhere : Span
@@ -84,6 +84,9 @@ abbrev pub verify : String → Expr → Stmt
 verify s e = Verify nowhere (ident s) (e ∷ [])
 
 -- a `spec_check`
+abbrev pub update : String → Expr → Stmt
+update g e = Update nowhere (ident g) (e ∷ [])
+
 abbrev pub spec_check : Stmt
 spec_check = SpecCheck nowhere
 

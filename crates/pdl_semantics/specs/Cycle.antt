@@ -1,7 +1,7 @@
 -- What a cycle does, its ports, and whole runs. `these` are the acts of all threads, `ms` those of the threads that move.
 use Rattle.std.specs.Prelude.{ℕ, suc, Bool, true, false, ◌&&◌, ◌||◌, not, List, [], ◌∷◌, ◌++◌, Option, Some, None, is_some, is_none, if◌then◌else◌, nat_le, ◌==◌, ◌+◌, slice_index_or, take, drop}
-use Rattle.pdl_semantics.specs.Flat.{Arrays, Mem, Branch, Stage, Pipe, start_env, with_word, Commit}
-use Rattle.pdl_semantics.specs.Stages.{list_any, stage_at, is_branch_of, merges_fork, verify_stage}
+use Rattle.pdl_semantics.specs.Flat.{Arrays, Mem, Stage, Pipe, start_env, with_word, Commit}
+use Rattle.pdl_semantics.specs.Stages.{list_any, stage_at, merges_fork, is_inside, sides_of}
 use Rattle.pdl_semantics.specs.Locks.{commit_value}
 use Rattle.pdl_semantics.specs.Machine.{Ask, Awaited, Thread, Pending, Request, NoRequest, Owned, Orphan, State, lock_of, fork_of, request_of, Reserved, Written, is_answered}
 use Rattle.pdl_semantics.specs.Moves.{Act, next_stage, all_acts, movers}
@@ -69,11 +69,7 @@ with_commits st ms m (x ∷ xs) arrays = with_commits st ms (suc m) xs (with_com
 -- 4. who moves from a fork into a branch appends it to the fork's list; who moves from a branch into the merge takes the first out
 abbrev pub goes_into : Pipe → ℕ → Option ℕ → List Bool
 goes_into p f None = []
-goes_into p f (Some q) = into (stage_at p q).branch
-  where
-    into : Option Branch → List Bool
-    into None = []
-    into (Some b) = if b.fork == f then b.first ∷ [] else []
+goes_into p f (Some q) = sides_of f (stage_at p q).branches
 
 -- the branches of fork f that are entered by the threads which move from it
 abbrev pub entered_branches : Pipe → ℕ → List Act → List Bool
@@ -87,7 +83,7 @@ goes_out p f (Some q) = merges_fork (stage_at p q).merges f
 
 -- whether a thread moves from a branch of fork f into the merge
 abbrev pub has_left : Pipe → ℕ → List Act → Bool
-has_left p f ms = list_any (λ a. is_branch_of (stage_at p a.stage).branch f && goes_out p f (next_stage p a.stage a.does)) ms
+has_left p f ms = list_any (λ a. is_inside p f a.stage && goes_out p f (next_stage p a.stage a.does)) ms
 
 -- a fork's list without its first branch
 abbrev pub but_first : List Bool → List Bool
@@ -144,10 +140,14 @@ asked_by m (a ∷ ms) old = asked_of m a.thread.number a.does.asks (asked_by m m
 abbrev pub request_next : Pipe → State → List Bool → List Act → ℕ → Request
 request_next p st bits ms m = asked_by m ms (if is_answered p bits m then NoRequest else request_of st m)
 
--- 6. a squash: the number of the thread that moves with a failing verify
+-- 6. a squash: the number of the thread that moves with a failing verify or a changing update, and its stage
 abbrev pub squasher : List Act → Option ℕ
 squasher [] = None
 squasher (a ∷ ms) = if a.does.fails then Some a.thread.number else squasher ms
+
+abbrev pub squash_stage : List Act → Option ℕ
+squash_stage [] = None
+squash_stage (a ∷ ms) = if a.does.fails then Some a.stage else squash_stage ms
 
 -- whether a squash keeps a thread: it removes every younger one
 abbrev pub is_kept : Option ℕ → ℕ → Bool
@@ -164,14 +164,14 @@ abbrev pub entries_left : Option ℕ → List Pending → List Pending
 entries_left sq [] = []
 entries_left sq (e ∷ es) = if is_kept sq e.thread then e ∷ entries_left sq es else entries_left sq es
 
--- the lists of forks whose merge stage is V or before V become empty
+-- the lists of forks whose merge is its stage or before it become empty
 abbrev pub merges_by : Pipe → ℕ → Option ℕ → Bool
 merges_by p f None = false
 merges_by p f (Some v) = list_any (λ x. merges_fork x.merges f) (take (suc v) p.stages)
 
 -- what a squash leaves of the list of fork f
 abbrev pub branches_left : Pipe → Option ℕ → ℕ → List Bool → List Bool
-branches_left p sq f list = if is_some sq && merges_by p f (verify_stage p.stmts) then [] else list
+branches_left p at f list = if merges_by p f at then [] else list
 
 -- an unanswered request of a removed thread becomes an orphan
 abbrev pub request_left : Option ℕ → Request → Request
@@ -211,7 +211,7 @@ after_these p st bits these ms sq =
       stages = for_stages (λ q. stage_next p st these sq q) 0 p.stages;
       arrays = with_commits st ms 0 p.mems st.arrays;
       locks = for_mems (λ m. entries_left sq (list_three st ms m)) 0 p.mems;
-      forks = for_stages (λ f. branches_left p sq f (fork_next p st ms f)) 0 p.stages;
+      forks = for_stages (λ f. branches_left p (squash_stage ms) f (fork_next p st ms f)) 0 p.stages;
       requests = for_mems (λ m. request_left sq (request_next p st bits ms m)) 0 p.mems;
       next = if is_some (child_of ms) then suc st.next else st.next;
     }
@@ -255,7 +255,7 @@ pub record Ports : Type 0 where
   pub commits : List (List PortWrite)  -- for each memory the writes that are released, the oldest first: at most two
   pub requests : List (Option ℕ)  -- for each memory: the address of the request
   pub ended : Bool  -- a thread moved out of the last stage
-  pub squash : Bool  -- a failing verify moved
+  pub squash : Bool  -- a failing verify or a changing update moved
 
 -- the address of the first of these requests that is of memory m, else what the rest gives
 abbrev pub address_of : ℕ → List Ask → Option ℕ → Option ℕ

@@ -48,7 +48,7 @@ abbrev pub values_of : List Expr → List ℕ → List ℕ
 values_of [] env = []
 values_of (e ∷ es) env = value_of e env ∷ values_of es env
 
--- what a statement does, with the variable x that it binds, its memory m and the variable a of its address; an `if` on an expression binds its guard
+-- what a statement does, with the variable x that it binds, its memory m and the variable a of its address; an `if` on an expression binds its guard, and an update is a verify that isn't the last
 pub data Op : Type 0 where
   Bind : (x : ℕ) (e : Expr) → Op
   CombRead : (x m a : ℕ) → Op
@@ -60,7 +60,7 @@ pub data Op : Type 0 where
   Release : (m a : ℕ) → Op
   Call : (args : List Expr) → Op
   SpecCall : (args : List Expr) → Op
-  Verify : (args : List Expr) → Op
+  Verify : (last : Bool) (args : List Expr) → Op
   SpecCheck : Op
   SpecBarrier : Op
 
@@ -107,10 +107,10 @@ pub record Branch : Type 0 where
   pub fork : ℕ
   pub first : Bool
 
--- a stage: where it leads, the branch that it stands in, and the fork stage whose branches meet in it
+-- a stage: where it leads, the branches that it stands in, the innermost first, and the fork stage whose branches meet in it
 pub record Stage : Type 0 where
   pub next : Next
-  pub branch : Option Branch
+  pub branches : List Branch
   pub merges : Option ℕ
 
 -- a pipe in flat form

@@ -1,6 +1,6 @@
 -- The flat form of a tree: names become numbers, each statement gets its stage and its guards, and the separators give the stage graph. Total; a tree that breaks a rule of the language gets a flat form that nobody uses.
 use Rattle.std.specs.Prelude.{ℕ, suc, ◌+◌, ◌-◌, Bool, true, false, List, [], ◌∷◌, ◌++◌, Option, Some, None, unwrap_or, if◌then◌else◌, ◌==◌, nat_lt, bytes_eq, length}
-use Rattle.pdl_semantics.specs.Tree.{Literal, BinaryOp, Add, Sub, Mul, And, Or, Xor, Equal, Differ, Less, ShiftLeft, ShiftRight, Expr, Constant, Variable, Slice, Not, Binary, Cat, LessSigned, ZeroExtend, SignExtend, Choose, Kind, R, W, Stmt, Separator, CombRead, Bind, SpecCall, DelayedRead, Write, Reserve, Block, Release, If, Call, Verify, SpecCheck, SpecBarrier, Stmts, Nil, Cons, Param, LockKind, Queue, Bypass, Rename, LockDecl, Mem, Pipe}
+use Rattle.pdl_semantics.specs.Tree.{Literal, BinaryOp, Add, Sub, Mul, And, Or, Xor, Equal, Differ, Less, ShiftLeft, ShiftRight, Expr, Constant, Variable, Slice, Not, Binary, Cat, LessSigned, ZeroExtend, SignExtend, Choose, Kind, R, W, Stmt, Separator, CombRead, Bind, SpecCall, DelayedRead, Write, Reserve, Block, Release, If, Call, Verify, Update, SpecCheck, SpecBarrier, Stmts, Nil, Cons, Param, LockKind, Queue, Bypass, Rename, LockDecl, Mem, Pipe}
 use Rattle.pdl_semantics.specs.Flat
 use Rattle.pdl_semantics.specs.Stages.{is_reserve, is_release}
 
@@ -137,6 +137,7 @@ abbrev mutual
   past ms (Release _ at) at' = at'
   past ms (Call _ args) at' = at'
   past ms (Verify _ guess args) at' = at'
+  past ms (Update _ guess args) at' = at'
   past ms (SpecCheck _) at' = at'
   past ms (SpecBarrier _) at' = at'
 
@@ -189,7 +190,8 @@ abbrev mutual
       ++ flat_stmts ms (under gs at'.vars c true) when (with_guard c at')
       ++ flat_stmts ms (under gs at'.vars c false) otherwise (at_otherwise ms c when at')
   flat_stmt ms gs (Call _ args) at' = at_position gs at' (Flat.Call (flat_exprs at'.vars args))
-  flat_stmt ms gs (Verify _ guess args) at' = at_position gs at' (Flat.Verify (flat_exprs at'.vars args))
+  flat_stmt ms gs (Verify _ guess args) at' = at_position gs at' (Flat.Verify true (flat_exprs at'.vars args))
+  flat_stmt ms gs (Update _ guess args) at' = at_position gs at' (Flat.Verify false (flat_exprs at'.vars args))
   flat_stmt ms gs (SpecCheck _) at' = at_position gs at' Flat.SpecCheck
   flat_stmt ms gs (SpecBarrier _) at' = at_position gs at' Flat.SpecBarrier
 
@@ -215,6 +217,7 @@ abbrev mutual
   separators_in (Release _ at) = 0
   separators_in (Call _ args) = 0
   separators_in (Verify _ guess args) = 0
+  separators_in (Update _ guess args) = 0
   separators_in (SpecCheck _) = 0
   separators_in (SpecBarrier _) = 0
 
@@ -240,15 +243,15 @@ with_merge f [] = []
 with_merge f (x ∷ xs) = record x { merges = Some f } ∷ xs
 
 -- a branch of fork f, the first one or the second
-abbrev pub side : ℕ → Bool → Option Flat.Branch
-side f first = Some (record { fork = f; first = first })
+abbrev pub side : ℕ → Bool → Flat.Branch
+side f first = record { fork = f; first = first }
 
 -- a new stage before the rest of the graph
-abbrev pub graph_with_stage : Option Flat.Branch → Position → Graph → Graph
-graph_with_stage branch at' rest =
+abbrev pub graph_with_stage : List Flat.Branch → Position → Graph → Graph
+graph_with_stage branches at' rest =
     record {
       next = Flat.Goes (suc at'.begun);
-      later = record { next = rest.next; branch = branch; merges = None } ∷ rest.later;
+      later = record { next = rest.next; branches = branches; merges = None } ∷ rest.later;
     }
 
 -- a fork on the variable x with these branches
@@ -257,35 +260,36 @@ graph_with_fork f x first second rest =
     record { next = Flat.Forks x (entry first.next) (entry second.next); later = first.later ++ second.later ++ with_merge f rest.later }
 
 abbrev mutual
-  -- the graph of a statement in this branch with the graph after it; the branches of a fork lead to the stage that begins after both, the merge
-  pub graph_before : List Mem → Option Flat.Branch → Stmt → Position → Graph → Graph
-  graph_before ms branch (Separator _) at' rest = graph_with_stage branch at' rest
-  graph_before ms branch (If _ c when otherwise) at' rest =
+  -- the graph of a statement in these branches with the graph after it; the branches of a fork lead to the stage that begins after both, the merge
+  pub graph_before : List Mem → List Flat.Branch → Stmt → Position → Graph → Graph
+  graph_before ms branches (Separator _) at' rest = graph_with_stage branches at' rest
+  graph_before ms branches (If _ c when otherwise) at' rest =
       if separators when + separators otherwise == 0
       then rest
       else
       (let merge = Flat.Goes (suc (at'.begun + separators when + separators otherwise)) in
       graph_with_fork at'.stage (guard_of at'.vars c)
-      (graph ms (side at'.stage true) merge when (with_guard c at'))
-      (graph ms (side at'.stage false) merge otherwise (at_otherwise ms c when at'))
+      (graph ms (side at'.stage true ∷ branches) merge when (with_guard c at'))
+      (graph ms (side at'.stage false ∷ branches) merge otherwise (at_otherwise ms c when at'))
       rest)
-  graph_before ms branch (CombRead _ x from) at' rest = rest
-  graph_before ms branch (Bind _ x e) at' rest = rest
-  graph_before ms branch (SpecCall _ guess args) at' rest = rest
-  graph_before ms branch (DelayedRead _ x from) at' rest = rest
-  graph_before ms branch (Write _ to e) at' rest = rest
-  graph_before ms branch (Reserve _ at kind) at' rest = rest
-  graph_before ms branch (Block _ at) at' rest = rest
-  graph_before ms branch (Release _ at) at' rest = rest
-  graph_before ms branch (Call _ args) at' rest = rest
-  graph_before ms branch (Verify _ guess args) at' rest = rest
-  graph_before ms branch (SpecCheck _) at' rest = rest
-  graph_before ms branch (SpecBarrier _) at' rest = rest
+  graph_before ms branches (CombRead _ x from) at' rest = rest
+  graph_before ms branches (Bind _ x e) at' rest = rest
+  graph_before ms branches (SpecCall _ guess args) at' rest = rest
+  graph_before ms branches (DelayedRead _ x from) at' rest = rest
+  graph_before ms branches (Write _ to e) at' rest = rest
+  graph_before ms branches (Reserve _ at kind) at' rest = rest
+  graph_before ms branches (Block _ at) at' rest = rest
+  graph_before ms branches (Release _ at) at' rest = rest
+  graph_before ms branches (Call _ args) at' rest = rest
+  graph_before ms branches (Verify _ guess args) at' rest = rest
+  graph_before ms branches (Update _ guess args) at' rest = rest
+  graph_before ms branches (SpecCheck _) at' rest = rest
+  graph_before ms branches (SpecBarrier _) at' rest = rest
 
   -- the graph of some statements, one after another
-  pub graph : List Mem → Option Flat.Branch → Flat.Next → Stmts → Position → Graph
-  graph ms branch exit Nil at' = record { next = exit; later = [] }
-  graph ms branch exit (Cons s ss) at' = graph_before ms branch s at' (graph ms branch exit ss (past ms s at'))
+  pub graph : List Mem → List Flat.Branch → Flat.Next → Stmts → Position → Graph
+  graph ms branches exit Nil at' = record { next = exit; later = [] }
+  graph ms branches exit (Cons s ss) at' = graph_before ms branches s at' (graph ms branches exit ss (past ms s at'))
 
 -- THE WHOLE
 
@@ -321,8 +325,8 @@ at_start p = record { vars = params_of p.params; stage = 0; begun = 0 }
 -- the stages of a pipe: stage 0, and those that its separators begin
 abbrev pub stages_of : Pipe → List Flat.Stage
 stages_of p =
-    let g = graph p.mems None Flat.Ends p.body (at_start p) in
-    record { next = g.next; branch = None; merges = None } ∷ g.later
+    let g = graph p.mems [] Flat.Ends p.body (at_start p) in
+    record { next = g.next; branches = []; merges = None } ∷ g.later
 
 -- the stage of the first statement of this kind, where there is one
 abbrev pub first_stage : (Flat.Op → Bool) → List Flat.Stmt → Option ℕ

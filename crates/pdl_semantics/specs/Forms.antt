@@ -14,7 +14,7 @@ on_binding f rest (Block m a) = rest
 on_binding f rest (Release m a) = rest
 on_binding f rest (Call args) = rest
 on_binding f rest (SpecCall args) = rest
-on_binding f rest (Verify args) = rest
+on_binding f rest (Verify last args) = rest
 on_binding f rest SpecCheck = rest
 on_binding f rest SpecBarrier = rest
 
@@ -30,7 +30,7 @@ on_delayed_read f rest (Block m a) = rest
 on_delayed_read f rest (Release m a) = rest
 on_delayed_read f rest (Call args) = rest
 on_delayed_read f rest (SpecCall args) = rest
-on_delayed_read f rest (Verify args) = rest
+on_delayed_read f rest (Verify last args) = rest
 on_delayed_read f rest SpecCheck = rest
 on_delayed_read f rest SpecBarrier = rest
 
@@ -46,7 +46,7 @@ on_block f rest (Block m a) = f m a
 on_block f rest (Release m a) = rest
 on_block f rest (Call args) = rest
 on_block f rest (SpecCall args) = rest
-on_block f rest (Verify args) = rest
+on_block f rest (Verify last args) = rest
 on_block f rest SpecCheck = rest
 on_block f rest SpecBarrier = rest
 
@@ -62,6 +62,6 @@ on_release f rest (Block m a) = rest
 on_release f rest (Release m a) = f m a
 on_release f rest (Call args) = rest
 on_release f rest (SpecCall args) = rest
-on_release f rest (Verify args) = rest
+on_release f rest (Verify last args) = rest
 on_release f rest SpecCheck = rest
 on_release f rest SpecBarrier = rest

@@ -16,7 +16,7 @@ pub record Kept : Type 0 where
   pub var : ℕ
   pub word : ℕ
 
--- a thread: its number, its values (arguments, bound variables and truth values of guards), the arguments of its guess, the reads that it still awaits, and its kept answers
+-- a thread: its number, its values (arguments, bound variables and truth values of guards), the arguments of its present guess, the reads that it still awaits, and its kept answers
 pub record Thread : Type 0 where
   pub number : ℕ
   pub env : List ℕ
@@ -99,7 +99,7 @@ held_after (ReserveRead m a) ls = ls
 held_after (Block m a) ls = ls
 held_after (Call args) ls = ls
 held_after (SpecCall args) ls = ls
-held_after (Verify args) ls = ls
+held_after (Verify last args) ls = ls
 held_after SpecCheck ls = ls
 held_after SpecBarrier ls = ls
 
@@ -144,11 +144,11 @@ pub record Deeds : Type 0 where
   pub asks : List Ask  -- the delayed reads
   pub barrier : Bool  -- whether there is a spec_barrier
   pub child : Option (List ℕ)  -- the new thread's arguments
-  pub fails : Bool  -- whether a verify fails
+  pub fails : Bool  -- whether a verify fails or an update changes the guess: a squash
 
--- what a `verify` does: other arguments than the guess's make a new thread and fail
+-- a verify or an update of these arguments: where the present guess is another, they replace it, and a thread with them the younger ones
 abbrev pub after_verify : List ℕ → Deeds → Deeds
-after_verify args d = if same_args args d.guess then d else record d { child = Some args; fails = true }
+after_verify args d = if same_args args d.guess then d else record d { child = Some args; guess = args; fails = true }
 
 -- one statement, where `read` gives the words that reads find
 abbrev pub deeds_after : (ℕ → ℕ → ℕ) → Op → Deeds → Deeds
@@ -171,7 +171,7 @@ deeds_after read (Release m a) d =
     }
 deeds_after read (Call args) d = record d { child = Some (values_of args d.env) }
 deeds_after read (SpecCall args) d = record d { child = Some (values_of args d.env); guess = values_of args d.env }
-deeds_after read (Verify args) d = after_verify (values_of args d.env) d
+deeds_after read (Verify last args) d = after_verify (values_of args d.env) d
 deeds_after read SpecCheck d = d
 deeds_after read SpecBarrier d = record d { barrier = true }
 

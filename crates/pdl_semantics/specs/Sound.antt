@@ -2,7 +2,7 @@
 use Rattle.std.specs.Prelude.{IsTrue, ℕ, zero, suc, ◌+◌, ◌-◌, count_by, Bool, true, false, ◌&&◌, ◌||◌, not, List, [], ◌∷◌, ◌++◌, Option, Some, None, is_none, if◌then◌else◌, nat_lt, nat_le, ◌==◌, slice_index, length}
 use Rattle.pdl_semantics.specs.Flat.{Arrays, list_all, Op, Bind, CombRead, DelayedRead, Write, ReserveRead, ReserveWrite, Block, Release, Call, SpecCall, Verify, SpecCheck, SpecBarrier, Stmt, Mem, Branch, Pipe, value_of, values_of, start_env, word_at, Commit, of_mem}
 use Rattle.pdl_semantics.specs.Forms.{on_delayed_read, on_block, on_release}
-use Rattle.pdl_semantics.specs.Stages.{list_any, onpath, stage_at, goes_to, is_verify, verify_stage}
+use Rattle.pdl_semantics.specs.Stages.{list_any, onpath, stage_at, sides_of, goes_to, is_verify, verify_stage}
 use Rattle.pdl_semantics.specs.Sequential.{Run, run_all, thread, seqwrites, after_turns}
 use Rattle.pdl_semantics.specs.Machine.{Awaited, Kept, Thread, Pending, Request, NoRequest, Owned, Orphan, State, lock_of, fork_of, request_of, HeldLocation, is_held, held_before, same_args, with_kept}
 use Rattle.pdl_semantics.specs.Moves.{block_ready}
@@ -89,7 +89,7 @@ is_call (ReserveRead m a) = false
 is_call (ReserveWrite m a) = false
 is_call (Block m a) = false
 is_call (Release m a) = false
-is_call (Verify args) = false
+is_call (Verify last args) = false
 is_call SpecCheck = false
 is_call SpecBarrier = false
 
@@ -105,7 +105,7 @@ is_spec_call (ReserveWrite m a) = false
 is_spec_call (Block m a) = false
 is_spec_call (Release m a) = false
 is_spec_call (Call args) = false
-is_spec_call (Verify args) = false
+is_spec_call (Verify last args) = false
 is_spec_call SpecCheck = false
 is_spec_call SpecBarrier = false
 
@@ -122,7 +122,7 @@ is_barrier (Block m a) = false
 is_barrier (Release m a) = false
 is_barrier (Call args) = false
 is_barrier (SpecCall args) = false
-is_barrier (Verify args) = false
+is_barrier (Verify last args) = false
 is_barrier SpecCheck = false
 
 -- whether a statement is a write of memory m
@@ -137,7 +137,7 @@ is_write m (Block n a) = false
 is_write m (Release n a) = false
 is_write m (Call args) = false
 is_write m (SpecCall args) = false
-is_write m (Verify args) = false
+is_write m (Verify last args) = false
 is_write m SpecCheck = false
 is_write m SpecBarrier = false
 
@@ -153,7 +153,7 @@ is_write_reserve m (Block n a) = false
 is_write_reserve m (Release n a) = false
 is_write_reserve m (Call args) = false
 is_write_reserve m (SpecCall args) = false
-is_write_reserve m (Verify args) = false
+is_write_reserve m (Verify last args) = false
 is_write_reserve m SpecCheck = false
 is_write_reserve m SpecBarrier = false
 
@@ -173,7 +173,7 @@ looks_at m (ReserveWrite n a) = false
 looks_at m (Release n a) = false
 looks_at m (Call args) = false
 looks_at m (SpecCall args) = false
-looks_at m (Verify args) = false
+looks_at m (Verify last args) = false
 looks_at m SpecCheck = false
 looks_at m SpecBarrier = false
 
@@ -189,7 +189,7 @@ pub record Follower : Type 0 where
   pub arrays : Arrays
   pub args : List ℕ
 
--- whether a thread has guessed other arguments than its turn passes on, and hasn't verified them
+-- its present guess is other arguments than its turn passes on, and it hasn't verified them
 abbrev pub guessed_wrong : Pipe → List ℕ → Live → Bool
 guessed_wrong p next l = has_done is_spec_call p l && not (has_done is_verify p l) && not (same_args l.thread.guess next)
 
@@ -228,27 +228,24 @@ turn_so_far p f =
     run_all (stages_before f.live.stage p.stmts)
     (record { arrays = f.arrays; env = start_env p f.args; writes = []; next = [] })
 
--- 1. ORDER. Of two live threads the older stands in the greater stage, or they stand in the two branches of one fork
+-- 1. ORDER. Of two live threads the older stands in the greater stage, or they stand in the two branches of some fork
 
 -- the branches that two stages stand in are the two of one fork
-abbrev pub other_branch : Option Branch → Option Branch → Bool
-other_branch (Some a) (Some b) = (a.fork == b.fork) && (if a.first then not b.first else b.first)
-other_branch _ _ = false
+abbrev pub other_branch : Branch → Branch → Bool
+other_branch a b = (a.fork == b.fork) && (if a.first then not b.first else b.first)
+
+abbrev pub are_apart : List Branch → List Branch → Bool
+are_apart older younger = list_any (λ a. list_any (other_branch a) younger) older
 
 -- the younger thread stands in an earlier stage, or in the other branch of a fork
 abbrev pub is_behind : Pipe → Live → Live → Bool
 is_behind p older younger =
-    nat_lt younger.stage older.stage || other_branch (stage_at p older.stage).branch (stage_at p younger.stage).branch
+    nat_lt younger.stage older.stage || are_apart (stage_at p older.stage).branches (stage_at p younger.stage).branches
 
 -- a fork's list holds the branches of just the threads inside, oldest first
-abbrev pub side_in : ℕ → Option Branch → List Bool
-side_in f None = []
-side_in f (Some b) = if b.fork == f then b.first ∷ [] else []
-
--- the branches of fork f that these threads stand in
 abbrev pub sides_in : Pipe → ℕ → List Live → List Bool
 sides_in p f [] = []
-sides_in p f (l ∷ ls) = side_in f (stage_at p l.stage).branch ++ sides_in p f ls
+sides_in p f (l ∷ ls) = sides_of f (stage_at p l.stage).branches ++ sides_in p f ls
 
 -- two lists of branches are the same
 abbrev pub same_sides : List Bool → List Bool → Bool
@@ -446,10 +443,9 @@ abbrev pub comes_to : Pipe → List ℕ → ℕ → ℕ → ℕ → Bool
 comes_to p path q zero s = false
 comes_to p path q (suc limit) s = (s == q) || one_of (comes_to p path q limit) (goes_to (stage_at p s).next path)
 
--- what a binding or a call on a guess says is so in the thread's values; any other statement passes
+-- what a binding says is so in the thread's values; any other statement passes
 abbrev pub is_done : State → Live → Op → Bool
 is_done st l (Bind x e) = slice_index l.thread.env x == value_of e l.thread.env
-is_done st l (SpecCall args) = same_args l.thread.guess (values_of args l.thread.env)
 is_done st l (CombRead x m a) = true
 is_done st l (DelayedRead x m a) = true
 is_done st l (Write m a e) = true
@@ -458,9 +454,31 @@ is_done st l (ReserveWrite m a) = true
 is_done st l (Block m a) = true
 is_done st l (Release m a) = true
 is_done st l (Call args) = true
-is_done st l (Verify args) = true
+is_done st l (SpecCall args) = true
+is_done st l (Verify last args) = true
 is_done st l SpecCheck = true
 is_done st l SpecBarrier = true
+
+-- the present guess is that of the last statement that gave one
+abbrev pub guess_after : Op → List ℕ → List ℕ → List ℕ
+guess_after (SpecCall args) env guess = values_of args env
+guess_after (Verify last args) env guess = values_of args env
+guess_after (Bind x e) env guess = guess
+guess_after (CombRead x m a) env guess = guess
+guess_after (DelayedRead x m a) env guess = guess
+guess_after (Write m a e) env guess = guess
+guess_after (ReserveRead m a) env guess = guess
+guess_after (ReserveWrite m a) env guess = guess
+guess_after (Block m a) env guess = guess
+guess_after (Release m a) env guess = guess
+guess_after (Call args) env guess = guess
+guess_after SpecCheck env guess = guess
+guess_after SpecBarrier env guess = guess
+
+-- the present guess after these statements
+abbrev pub guess_of : List Stmt → List ℕ → List ℕ → List ℕ
+guess_of [] env guess = guess
+guess_of (x ∷ xs) env guess = guess_of xs env (guess_after x.op env guess)
 
 -- the memory of a location that a thread holds has a pending write of the thread at its address
 abbrev pub right_place : State → Live → HeldLocation → Bool
@@ -470,6 +488,7 @@ right_place st l h = list_any (λ e. (e.thread == l.thread.number) && ((e.var ==
 abbrev pub on_path : Pipe → State → Live → Bool
 on_path p st l =
     comes_to p l.thread.env l.stage (length p.stages) 0 && list_all (λ x. is_done st l x.op) (past_stmts p l)
+    && same_args l.thread.guess (guess_of (past_stmts p l) l.thread.env [])
     && list_all (right_place st l) (held_places p l) && nat_lt l.thread.number st.next
 
 -- THE WHOLE, of a state that a run from this image comes to, in which n threads have ended

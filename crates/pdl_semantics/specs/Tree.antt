@@ -64,6 +64,7 @@ mutual
     If : (span : Span) (condition : Expr) (yes otherwise : Stmts) → Stmt
     Call : (span : Span) (args : List Expr) → Stmt
     Verify : (span : Span) (guess : Ident) (args : List Expr) → Stmt
+    Update : (span : Span) (guess : Ident) (args : List Expr) → Stmt
     SpecCheck : (span : Span) → Stmt
     SpecBarrier : (span : Span) → Stmt
 

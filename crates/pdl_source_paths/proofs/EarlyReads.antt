@@ -22,10 +22,11 @@ use Rattle.pdl_rules.specs.Refusal.{KeepsRules}
 use Rattle.pdl_theory_facts.specs.Scans.{none_of, is_dead}
 use Rattle.pdl_source_stages.proofs.Sites.{Site, sites_of, front_of, place_of, All, stmts_are}
 use Rattle.pdl_source_stages.proofs.Walks.{cut, cut_append, cut_in, at_front}
-use Rattle.pdl_source_stages.proofs.Shapes.{is_whole, is_forked, fork_fits, begins_stage}
+use Rattle.pdl_source_stages.proofs.Shapes.{is_whole, is_forked, is_late, begins_stage}
 use Rattle.pdl_source_stages.proofs.SiteStages.{all_map, none_of_whole}
 use Rattle.pdl_source_stages.proofs.BodyShape.{body_forked}
-use Rattle.pdl_source_stages.proofs.StatementStages.{from_append, from_none, all_staged}
+use Rattle.pdl_source_stages.proofs.StatementStages.{all_staged}
+use Rattle.pdl_source_stages.proofs.TextStages.{from_append, from_none}
 use Rattle.pdl_source_stages.proofs.Firsts.{any_params, any_mems}
 use Rattle.pdl_source_stages.proofs.SiteFacts.{each_stmt, AtSite, op_of, from_op}
 use Rattle.pdl_source_paths.specs.Source.{are_apart}
@@ -74,11 +75,11 @@ full_body front (Cons (Separator sp) ss) h r =
     (full_body (front ++ Statement (Separator sp) [] ∷ []) ss h (inl (full_cut front sp)))
 full_body front (Cons (If sp c when otherwise) ss) h (inr e) = absurd (false≢true e)
 full_body front (Cons (If sp c when otherwise) ss) h (inl f) =
-    let parts = and_parts (fork_fits (is_whole when otherwise) when otherwise ss) (is_forked ss) h in
+    let parts = and_parts (is_whole when otherwise || (begins_stage ss && (is_late when && is_late otherwise))) (is_forked ss) h in
     subst Full (append_assoc front (with_inner [] (If sp c when otherwise)) (statements [] ss))
     (full_body (front ++ with_inner [] (If sp c when otherwise)) ss parts.1 (by (is_whole when otherwise) refl parts.0))
   where
-    by : (b : Bool) → is_whole when otherwise ≡ b → fork_fits b when otherwise ss ≡ true
+    by : (b : Bool) → is_whole when otherwise ≡ b → (b || (begins_stage ss && (is_late when && is_late otherwise))) ≡ true
         → Full (front ++ with_inner [] (If sp c when otherwise)) ⊎ (begins_stage ss ≡ true)
     by true e g = inl (full_none front (with_inner [] (If sp c when otherwise)) (cut_in [] (If sp c when otherwise) ∙ none_of_whole when otherwise e) f)
     by false e g = inr (and_parts (begins_stage ss) _ g).0

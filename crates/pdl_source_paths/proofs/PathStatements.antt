@@ -1,6 +1,6 @@
 -- The sites on a path, and the flat statements there: guards are gone, and delayed reads are reads.
 use Rattle.std.proofs.Common.{◌≡◌, refl, ap, ap₂, ◌∙◌, ℕ, Bool, true, false, List, [], ◌∷◌, ◌++◌, length, if◌then◌else◌, cond}
-use Rattle.pdl_semantics.specs.Tree.{Expr, Variable, Stmt, Separator, CombRead, Bind, SpecCall, DelayedRead, Write, Reserve, Block, Release, If, Call, Verify, SpecCheck, SpecBarrier, Mem}
+use Rattle.pdl_semantics.specs.Tree.{Expr, Variable, Stmt, Separator, CombRead, Bind, SpecCall, DelayedRead, Write, Reserve, Block, Release, If, Call, Verify, Update, SpecCheck, SpecBarrier, Mem}
 use Rattle.pdl_semantics.specs.Flat
 use Rattle.pdl_semantics.specs.Flat.{all_hold}
 use Rattle.pdl_semantics.specs.Flatten.{Var, var_of, mem_of, flat_expr, flat_exprs, reserve_op}
@@ -31,7 +31,8 @@ ops_of ms vs (Block _ at) = Flat.Block (mem_of ms at.mem.name) (var_of vs at.add
 ops_of ms vs (Release _ at) = Flat.Release (mem_of ms at.mem.name) (var_of vs at.address.name) ∷ []
 ops_of ms vs (If _ c _ _) = if_ops vs c
 ops_of ms vs (Call _ args) = Flat.Call (flat_exprs vs args) ∷ []
-ops_of ms vs (Verify _ guess args) = Flat.Verify (flat_exprs vs args) ∷ []
+ops_of ms vs (Verify _ guess args) = Flat.Verify true (flat_exprs vs args) ∷ []
+ops_of ms vs (Update _ guess args) = Flat.Verify false (flat_exprs vs args) ∷ []
 ops_of ms vs (SpecCheck _) = Flat.SpecCheck ∷ []
 ops_of ms vs (SpecBarrier _) = Flat.SpecBarrier ∷ []
 

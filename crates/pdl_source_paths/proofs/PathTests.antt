@@ -259,6 +259,7 @@ module _ (p : Pipe) (rules : KeepsRules p) where
     called = record {
       few = let z = count_none is_call (front_of p) (none_front p is_call (λ a. refl) (λ m. refl)) in omega arith;
       once = λ g e. absurd (both_ways _ (none_front p (defines_use (OfGuess g)) (λ a. refl) (λ m. refl)) e);
+      some = λ g e. absurd (both_ways _ (none_front p (defines_use (OfGuess g)) (λ a. refl) (λ m. refl)) e);
     }
 
     -- THE SCANS
@@ -341,7 +342,8 @@ module _ (p : Pipe) (rules : KeepsRules p) where
     )
       where
         asked : PathScans.AllAsked p o (front_of p) ts × Guesses.Called p rules v staged verify_home (front_of p ++ map place_of ts)
-        asked = all_asked p rules v staged verify_home (front_of p) ts on told called
+        asked = all_asked p rules v staged verify_home 0 _ (front_of p) ts (all_rise p c (body_forked p rules)) on told
+            (λ V i e. absurd (both_ways _ (none_front p Speculation.is_verify (λ a. refl) (λ m. refl)) e)) called
 
         makes : (makings_ok o Unmade (seen p.mems ts) ≡ true) × (j : GuessScans.Making)
             × (making_all Unmade (seen p.mems ts) ≡ j) × Stood j (front_of p ++ map place_of ts)

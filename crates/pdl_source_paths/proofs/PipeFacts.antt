@@ -17,6 +17,7 @@ use Rattle.pdl_theory_facts.proofs.Passes
 use Rattle.pdl_theory_turns.proofs.StrayPaths.{fixed_looked}
 use Rattle.pdl_source_stages.specs.StageFacts.{FoundIf, AllFound, StageFacts}
 use Rattle.pdl_source_stages.proofs.Facts.{stage_facts}
+use Rattle.pdl_source_paths.proofs.SiteFacts.{fork_seen}
 use Rattle.pdl_source_stages.proofs.SiteFacts.{each_in_stage}
 use Rattle.pdl_source_paths.specs.Source.{are_apart, is_source, is_named}
 use Rattle.pdl_source_paths.proofs.PathTests.{parts}
@@ -105,7 +106,7 @@ module _ (p : Pipe) (rules : KeepsRules p) (apart : are_apart (places p) ≡ tru
     skips = facts.skips;
     fork_bound = facts.fork_bound;
     fork_known = facts.fork_known;
-    fork_seen = facts.fork_seen;
+    fork_seen = fork_seen p rules apart;
     fetch = facts.fetch;
     fetch_ok = λ s.
         fetches_all (flat p) facts.graph facts.fetch s (in_stage s (flat p).stmts) (facts.found s)

@@ -5,7 +5,7 @@ use Rattle.std.proofs.lemmas.List.Folds.{list_any-append}
 use Rattle.std.specs.List.{list_any}
 use Rattle.std.proofs.lemmas.List.Sums.{fold_push}
 use mathlib.Core.Path.{fun_ext}
-use Rattle.pdl_semantics.specs.Tree.{Span, Expr, Variable, Location, Kind, R, W, Stmt, Separator, CombRead, Bind, SpecCall, DelayedRead, Write, Reserve, Block, Release, If, Call, Verify, SpecCheck, SpecBarrier, Mem, Pipe}
+use Rattle.pdl_semantics.specs.Tree.{Span, Expr, Variable, Location, Kind, R, W, Stmt, Separator, CombRead, Bind, SpecCall, DelayedRead, Write, Reserve, Block, Release, If, Call, Verify, Update, SpecCheck, SpecBarrier, Mem, Pipe}
 use Rattle.pdl_semantics.specs.Flat
 use Rattle.pdl_semantics.specs.Flatten.{Var, var_of, mem_of}
 use Rattle.pdl_semantics.specs.Stages.{mem_at, reserve_stage, commit_stage}
@@ -438,6 +438,7 @@ module _ (p : Pipe) (q : Flat.Pipe) (lock_is : (m : List ℕ) → is_plain (mem_
   scanned_next (If sp e when otherwise) k there = scanned_if e (Statement (If sp e when otherwise) bs) (λ l h. refl) (λ l. refl) (λ l. refl) sp
   scanned_next (Call sp args) k there = same_next p vs before (Statement (Call sp args) bs) c (λ l h. refl) (λ l. refl) (λ l. refl) i
   scanned_next (Verify sp g args) k there = same_next p vs before (Statement (Verify sp g args) bs) c (λ l h. refl) (λ l. refl) (λ l. refl) i
+  scanned_next (Update sp g args) k there = same_next p vs before (Statement (Update sp g args) bs) c (λ l h. refl) (λ l. refl) (λ l. refl) i
   scanned_next (SpecCheck sp) k there = same_next p vs before (Statement (SpecCheck sp) bs) c (λ l h. refl) (λ l. refl) (λ l. refl) i
   scanned_next (SpecBarrier sp) k there = same_next p vs before (Statement (SpecBarrier sp) bs) c (λ l h. refl) (λ l. refl) (λ l. refl) i
 

@@ -3,7 +3,7 @@ use Rattle.std.proofs.Common.{◌≡◌, refl, sym, ap, ap₂, ◌∙◌, ℕ, B
 use Rattle.std.proofs.lemmas.Bool.{false≢true, and_parts, and_from, both_ways, not-false}
 use Rattle.std.proofs.lemmas.List.Folds.{list_any-append}
 use Rattle.std.specs.List.{list_any}
-use Rattle.pdl_semantics.specs.Tree.{Span, Expr, Variable, Location, R, W, Stmt, Separator, CombRead, Bind, SpecCall, DelayedRead, Write, Reserve, Block, Release, If, Call, Verify, SpecCheck, SpecBarrier, Pipe}
+use Rattle.pdl_semantics.specs.Tree.{Span, Expr, Variable, Location, R, W, Stmt, Separator, CombRead, Bind, SpecCall, DelayedRead, Write, Reserve, Block, Release, If, Call, Verify, Update, SpecCheck, SpecBarrier, Pipe}
 use Rattle.pdl_semantics.specs.Flat
 use Rattle.pdl_semantics.specs.Flatten.{Var, var_of, mem_of}
 use Rattle.pdl_rules.specs.Places.{Place, Statement, Branch}
@@ -101,5 +101,6 @@ module _ (p : Pipe) (v : Option ℕ) (vs : List Var) (before : List Place) (c : 
   sure_by (If sp e when otherwise) k h a = if_next (If sp e when otherwise) e refl
   sure_by (Call sp args) k h a = (refl, still_bind (Statement (Call sp args) bs) refl)
   sure_by (Verify sp g args) k h a = (refl, still_bind (Statement (Verify sp g args) bs) refl)
+  sure_by (Update sp g args) k h a = (refl, still_bind (Statement (Update sp g args) bs) refl)
   sure_by (SpecCheck sp) k h a = (refl, still_bind (Statement (SpecCheck sp) bs) refl)
   sure_by (SpecBarrier sp) k h a = (refl, list_any-append Speculation.is_barrier before (Statement (SpecBarrier sp) bs ∷ []) ∙ ap (λ x. x || true) barred)

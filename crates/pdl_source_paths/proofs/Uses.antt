@@ -2,7 +2,7 @@
 use Rattle.std.proofs.Common.{◌≡◌, ℕ, ◌⊎◌, inl, inr, Bool, true, false, ◌||◌, List, [], ◌∷◌, length, ◌==◌, ⊎_elim}
 use Rattle.std.proofs.lemmas.Bool.{false≢true, or_cases, or_left, or_right, eqb-true}
 use Rattle.std.specs.List.{list_any}
-use Rattle.pdl_semantics.specs.Tree.{R, W, Expr, Constant, Variable, Slice, Not, Binary, Cat, LessSigned, ZeroExtend, SignExtend, Choose, Location, Stmt, Separator, CombRead, Bind, SpecCall, DelayedRead, Write, Reserve, Block, Release, If, Call, Verify, SpecCheck, SpecBarrier, Mem}
+use Rattle.pdl_semantics.specs.Tree.{R, W, Expr, Constant, Variable, Slice, Not, Binary, Cat, LessSigned, ZeroExtend, SignExtend, Choose, Location, Stmt, Separator, CombRead, Bind, SpecCall, DelayedRead, Write, Reserve, Block, Release, If, Call, Verify, Update, SpecCheck, SpecBarrier, Mem}
 use Rattle.pdl_semantics.specs.Flatten.{Var, var_of, flat_expr, flat_exprs}
 use Rattle.pdl_rules.specs.Places.{Statement, Branch}
 use Rattle.pdl_rules.specs.Parts.{some_part}
@@ -115,6 +115,8 @@ mention ms vs (If sp c when otherwise) x h =
     bound_or vs x (If sp c when otherwise) (uses_in x (flat_expr vs c)) h (λ t. let r = in_expr vs x c t in inr (r.0, r.1, λ test bs e. r.2 test e))
 mention ms vs (Call sp args) x h = let r = in_exprs vs x args h in inr (r.0, r.1, λ test bs e. r.2 test e)
 mention ms vs (Verify sp g args) x h = let r = in_exprs vs x args h in
+    inr (r.0, r.1, λ test bs e. or_right (test (OfGuess g.name)) (list_any (some_part (reads_some test)) args) (r.2 test e))
+mention ms vs (Update sp g args) x h = let r = in_exprs vs x args h in
     inr (r.0, r.1, λ test bs e. or_right (test (OfGuess g.name)) (list_any (some_part (reads_some test)) args) (r.2 test e))
 mention ms vs (SpecCheck sp) x h = absurd (false≢true h)
 mention ms vs (SpecBarrier sp) x h = absurd (false≢true h)

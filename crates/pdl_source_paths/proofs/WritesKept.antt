@@ -4,7 +4,7 @@ use Rattle.std.proofs.lemmas.Bool.{false≢true, and_parts, and_from, or_left, o
 use Rattle.std.proofs.lemmas.List.Folds.{list_any-append}
 use Rattle.std.specs.List.{list_any}
 use mathlib.Core.Path.{fun_ext}
-use Rattle.pdl_semantics.specs.Tree.{Span, Location, R, W, Expr, Variable, Stmt, Separator, CombRead, Bind, SpecCall, DelayedRead, Write, Reserve, Block, Release, If, Call, Verify, SpecCheck, SpecBarrier, Param, Mem, Pipe}
+use Rattle.pdl_semantics.specs.Tree.{Span, Location, R, W, Expr, Variable, Stmt, Separator, CombRead, Bind, SpecCall, DelayedRead, Write, Reserve, Block, Release, If, Call, Verify, SpecCheck, SpecBarrier, Param, Mem, Pipe, Update}
 use Rattle.pdl_semantics.specs.Flat
 use Rattle.pdl_semantics.specs.Flatten.{Var, var_of, mem_of}
 use Rattle.pdl_rules.specs.Places.{Place, Parameter, Memory, Statement, End, StartClause, Branch}
@@ -853,6 +853,7 @@ module _ (p : Pipe) (m : List ℕ) (there : is_memory p.mems m ≡ true) (bs : L
       (let step = release_step p vs before m there bs sp at ph named each.0 i (bytes_eq at.mem.name m) refl in (and_true _ step.0, step.1))
   stands_next vs before xs ph (Call sp args) h b each i = (refl, kept_next vs before ph (Statement (Call sp args) bs) (λ l h. refl) refl refl i)
   stands_next vs before xs ph (Verify sp g args) h b each i = (refl, kept_next vs before ph (Statement (Verify sp g args) bs) (λ l h. refl) refl refl i)
+  stands_next vs before xs ph (Update sp g args) h b each i = (refl, kept_next vs before ph (Statement (Update sp g args) bs) (λ l h. refl) refl refl i)
   stands_next vs before xs ph (SpecCheck sp) h b each i = (refl, kept_next vs before ph (Statement (SpecCheck sp) bs) (λ l h. refl) refl refl i)
   stands_next vs before xs ph (SpecBarrier sp) h b each i = (refl, kept_next vs before ph (Statement (SpecBarrier sp) bs) (λ l h. refl) refl refl i)
 

@@ -8,7 +8,7 @@ use Rattle.pdl_semantics.specs.Tree.{R, W, Variable, Stmt, Separator, CombRead, 
 use Rattle.pdl_semantics.specs.Flat
 use Rattle.pdl_semantics.specs.Flatten.{Var, var_of, with_guard, past, at_otherwise, at_start}
 use Rattle.pdl_semantics.specs.Flatten
-use Rattle.pdl_rules.specs.Places.{Place, Parameter, Memory, Statement, End, StartClause, Guard, with_inner, statements, places, choices}
+use Rattle.pdl_rules.specs.Places.{Place, Parameter, Memory, Statement, End, StartClause, with_inner, statements, places}
 use Rattle.pdl_rules.specs.Parts.{is_some_and}
 use Rattle.pdl_rules.specs.Limits.{is_separator}
 use Rattle.pdl_rules.specs.Names.{Use, OfVariable, defines_use, name_at, is_taken_name, is_delayed, is_given}
@@ -145,11 +145,6 @@ none_from test s (y ∷ ys) h = at (nat_le s y.stage) refl (none_from test s ys 
     at false e k = k
 
 -- PATHS AND DEFINITIONS
-
--- the path on which no guard is true is one of all
-pub empty_path : (test : List Guard → Bool) (gs : List Guard) → list_any test (choices gs) ≡ false → test [] ≡ false
-empty_path test [] e = (or_parts (test []) false e).0
-empty_path test (g ∷ gs) e = empty_path test gs (or_parts (list_any test (choices gs)) _ (sym (list_any-append test (choices gs) _) ∙ e)).0
 
 -- places none of which defines something give it on no path
 none_given : (u : Use) (test : Place → Bool) (xs : List Place) → list_any (defines_use u) xs ≡ false → is_given (filter test xs) u ≡ false

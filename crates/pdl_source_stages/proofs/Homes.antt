@@ -19,9 +19,9 @@ use Rattle.pdl_theory_facts.specs.Scans.{none_of, all_at}
 use Rattle.pdl_theory_facts.specs.Facts.{is_exact}
 use Rattle.pdl_source_stages.proofs.Sites.{Site, sites_of, place_of, All, front_of}
 use Rattle.pdl_source_stages.proofs.Walks.{cut, cut_append, cut_all, at_front}
-use Rattle.pdl_source_stages.proofs.BodyShape.{body_forked}
+use Rattle.pdl_source_stages.proofs.BodyShape.{body_forked, stage_count}
 use Rattle.pdl_source_stages.proofs.SiteStages.{all_both}
-use Rattle.pdl_source_stages.proofs.SiteFacts.{Fine, all_fine, AtSite, each_stmt, each_fine, each_in_stage, all_at_each, none_each, op_of, from_op, stage_count}
+use Rattle.pdl_source_stages.proofs.SiteFacts.{Fine, all_fine, AtSite, each_stmt, each_fine, each_in_stage, all_at_each, none_each, op_of, from_op}
 use Rattle.pdl_source_stages.proofs.Trunks.{first_index, first_past, verify_first}
 use Rattle.pdl_source_stages.proofs.Firsts.{Alike, one_stage, none_elsewhere, is_known, known_low, known_one, located}
 use Rattle.pdl_word.proofs.Bytes.{bytes_same, bytes_refl}

@@ -1,7 +1,7 @@
 -- What holds at each site of a source that breaks no rule, and how facts of sites become facts of the flat statements.
 use Rattle.std.proofs.Common.{◌≡◌, refl, sym, ap, ◌∙◌, subst, ℕ, suc, ◌+◌, ◌<◌, Bool, true, false, ◌||◌, not, List, [], ◌∷◌, ◌++◌, length, Option, Some, None, arith, if◌then◌else◌, ◌==◌, eq-eqb, eqb-true}
 use Rattle.std.proofs.lemmas.Bool.{false≢true, and_parts, and_from}
-use Rattle.pdl_semantics.specs.Tree.{Variable, Stmt, Separator, CombRead, Bind, SpecCall, DelayedRead, Write, Reserve, Block, Release, If, Call, Verify, SpecCheck, SpecBarrier, Stmts, Nil, Cons, Mem, Pipe}
+use Rattle.pdl_semantics.specs.Tree.{Variable, Stmt, Separator, CombRead, Bind, SpecCall, DelayedRead, Write, Reserve, Block, Release, If, Call, Verify, Update, SpecCheck, SpecBarrier, Stmts, Nil, Cons, Mem, Pipe}
 use Rattle.pdl_semantics.specs.Flat
 use Rattle.pdl_semantics.specs.Flatten.{Var, var_of, mem_of, flat_expr, flat_exprs, reserve_op, at_position, past, separators, at_start, flat}
 use Rattle.pdl_semantics.specs.Flatten
@@ -14,52 +14,12 @@ use Rattle.pdl_semantics.specs.Stages.{in_stage}
 use Rattle.pdl_source_stages.proofs.Sites.{Site, sites_of, front_of, place_of, own_of, own, owns, All, Stands, all_stand, stmts_are}
 use Rattle.pdl_source_stages.proofs.Walks.{At, past_begun}
 use Rattle.pdl_source_stages.proofs.Walks
-use Rattle.pdl_source_stages.proofs.Shapes.{is_whole, is_forked, fork_fits, shape}
-use Rattle.pdl_source_stages.proofs.Spots.{Groups, merge_at}
-use Rattle.pdl_source_stages.proofs.BodyShape.{body_forked, body_groups}
-use Rattle.pdl_source_stages.proofs.SiteStages.{Standing, all_standing, all_both, all_map, stages_all, none_of_whole, fitting, rest_shape, either_shape}
+use Rattle.pdl_source_stages.proofs.Shapes.{is_forked}
+use Rattle.pdl_source_stages.proofs.BodyShape.{body_forked, stage_count}
+use Rattle.pdl_source_stages.proofs.SiteStages.{Standing, all_standing, all_both, all_map, stages_all}
 use Rattle.pdl_source_stages.proofs.StatementStages.{Staged, all_staged}
 use Rattle.pdl_word.specs.Each.{Each}
 use Rattle.pdl_word.proofs.Each.{each_append}
-
--- HOW MANY STAGES
-
-stages_from : (p : Flat.Pipe) (ms : List Mem) (k : ℕ) (merges : Option ℕ) (w : Flatten.Position) (ss : Stmts)
-    → w.begun ≡ k → is_forked ss ≡ true → Groups p k merges (shape ms ss w) → suc (k + separators ss) ≡ length p.stages
-stages_from p ms k merges w Nil i h g = let e = g.1 in omega arith
-stages_from p ms k merges w (Cons (Separator sp) ss) i h g = let f = stages_from p ms (suc k) None (past ms (Separator sp) w) ss (ap suc i) h g.1 in omega arith
-stages_from p ms k merges w (Cons (If sp c when otherwise) (Cons (Separator sq) ss)) i h g =
-    at (is_whole when otherwise) refl g
-    (λ j merge e. stages_from p ms j merge (past ms (Separator sq) (past ms (If sp c when otherwise) w)) ss e
-    (and_parts (fork_fits (is_whole when otherwise) when otherwise (Cons (Separator sq) ss)) (is_forked ss) h).1)
-  where
-    begun : (past ms (If sp c when otherwise) w).begun ≡ w.begun + (separators when + separators otherwise)
-    begun = past_begun ms (If sp c when otherwise) w
-
-    at : (b : Bool) → is_whole when otherwise ≡ b → Groups p k merges (either_shape ms sp c when otherwise sq ss w b)
-        → ((j : ℕ) (merge : Option ℕ) → suc (past ms (If sp c when otherwise) w).begun ≡ j
-        → Groups p j merge (rest_shape ms sp c when otherwise sq ss w) → suc (j + separators ss) ≡ length p.stages)
-        → suc (k + separators (Cons (If sp c when otherwise) (Cons (Separator sq) ss))) ≡ length p.stages
-    at true whole g more =
-        let none = none_of_whole when otherwise whole in
-        let f = begun in
-        let r = more (suc k) None (omega arith) g.1 in
-        omega arith
-    at false some g more =
-        let f = begun in
-        let r = more (merge_at k (separators when) (separators otherwise)) (Some k) (omega arith) g.4 in
-        omega arith
-stages_from p ms k merges w (Cons (If sp c when otherwise) ss) i h g =
-    let parts = and_parts (fork_fits (is_whole when otherwise) when otherwise ss) (is_forked ss) h in
-    let none = none_of_whole when otherwise (fitting when otherwise ss refl (is_whole when otherwise) parts.0) in
-    let f = past_begun ms (If sp c when otherwise) w in
-    let r = stages_from p ms k merges (past ms (If sp c when otherwise) w) ss (omega arith) parts.1 g in
-    omega arith
-stages_from p ms k merges w (Cons s ss) i h g = let r = stages_from p ms k merges (past ms s w) ss i h g in omega arith
-
--- there is one stage more than there are separators
-pub stage_count : (p : Pipe) → is_forked p.body ≡ true → length (flat p).stages ≡ suc (separators p.body)
-stage_count p h = let e = stages_from (flat p) p.mems 0 None (at_start p) p.body refl h (body_groups p h) in omega arith
 
 -- AT EACH SITE
 
@@ -109,7 +69,8 @@ op_of ms vs (Release _ at) = Some (Flat.Release (mem_of ms at.mem.name) (var_of 
 op_of ms vs (If _ (Variable x) when otherwise) = None
 op_of ms vs (If _ c when otherwise) = Some (Flat.Bind (length vs) (flat_expr vs c))
 op_of ms vs (Call _ args) = Some (Flat.Call (flat_exprs vs args))
-op_of ms vs (Verify _ guess args) = Some (Flat.Verify (flat_exprs vs args))
+op_of ms vs (Verify _ guess args) = Some (Flat.Verify true (flat_exprs vs args))
+op_of ms vs (Update _ guess args) = Some (Flat.Verify false (flat_exprs vs args))
 op_of ms vs (SpecCheck _) = Some Flat.SpecCheck
 op_of ms vs (SpecBarrier _) = Some Flat.SpecBarrier
 

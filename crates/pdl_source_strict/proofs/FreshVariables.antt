@@ -2,7 +2,7 @@
 use Rattle.std.proofs.Common.{◌≡◌, refl, ap, ◌∙◌, subst, ℕ, ◌+◌, ◌≤◌, ◌<◌, ◌⊎◌, inl, inr, Bool, true, false, ◌||◌, not, List, [], ◌∷◌, ◌++◌, length, Some, None, ◌==◌, arith, length-append, lt-ltb}
 use Rattle.std.proofs.lemmas.Bool.{false≢true, and_from, or_parts, or_cases, eqb-true, ne_eqb}
 use Rattle.std.specs.List.{list_any}
-use Rattle.pdl_semantics.specs.Tree.{Expr, Constant, Variable, Slice, Not, Binary, Cat, LessSigned, ZeroExtend, SignExtend, Choose, Location, R, W, Stmt, Separator, CombRead, Bind, SpecCall, DelayedRead, Write, Reserve, Block, Release, If, Call, Verify, SpecCheck, SpecBarrier, Mem}
+use Rattle.pdl_semantics.specs.Tree.{Expr, Constant, Variable, Slice, Not, Binary, Cat, LessSigned, ZeroExtend, SignExtend, Choose, Location, R, W, Stmt, Separator, CombRead, Bind, SpecCall, DelayedRead, Write, Reserve, Block, Release, If, Call, Verify, Update, SpecCheck, SpecBarrier, Mem}
 use Rattle.pdl_semantics.specs.Flat
 use Rattle.pdl_semantics.specs.Flatten.{Var, var_of, mem_of, mem_width, width_of, flat_expr, flat_exprs}
 use Rattle.pdl_rules.specs.Parts.{some_part, some_expr_of, location_of}
@@ -183,7 +183,9 @@ module _ (vars k : ℕ) (ms : List Mem) (vs : List Var) (rest : List Flat.Stmt) 
   site_new (Call sp args) u room go =
       uses_old vars (length vs) k (Flat.Call (flat_exprs vs args)) rest refl refl (exprs_low vs u.test u.named args u.expressions) go
   site_new (Verify sp g args) u room go =
-      uses_old vars (length vs) k (Flat.Verify (flat_exprs vs args)) rest refl refl (exprs_low vs u.test u.named args u.expressions) go
+      uses_old vars (length vs) k (Flat.Verify true (flat_exprs vs args)) rest refl refl (exprs_low vs u.test u.named args u.expressions) go
+  site_new (Update sp g args) u room go =
+      uses_old vars (length vs) k (Flat.Verify false (flat_exprs vs args)) rest refl refl (exprs_low vs u.test u.named args u.expressions) go
   site_new (SpecCheck sp) u room go = uses_old vars (length vs) k (Flat.SpecCheck) rest refl refl (λ y h. absurd (false≢true h)) go
   site_new (SpecBarrier sp) u room go = uses_old vars (length vs) k (Flat.SpecBarrier) rest refl refl (λ y h. absurd (false≢true h)) go
 

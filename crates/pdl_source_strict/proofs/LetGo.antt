@@ -1,7 +1,7 @@
 -- After each block of a path stands a release of its location.
 use Rattle.std.proofs.Common.{◌≡◌, refl, sym, ap, ◌∙◌, subst, ℕ, ◌⊎◌, inl, inr, Bool, true, false, List, [], ◌∷◌, ◌++◌, map, if◌then◌else◌, Some, bytes_eq, eq-eqb}
 use Rattle.std.proofs.lemmas.Bool.{false≢true, and_parts, and_from, or_left, or_right, both_ways, not-false}
-use Rattle.pdl_semantics.specs.Tree.{Span, Location, R, W, Stmt, Separator, CombRead, Bind, SpecCall, DelayedRead, Write, Reserve, Block, Release, If, Call, Verify, SpecCheck, SpecBarrier, Variable, Mem, Pipe}
+use Rattle.pdl_semantics.specs.Tree.{Span, Location, R, W, Stmt, Separator, CombRead, Bind, SpecCall, DelayedRead, Write, Reserve, Block, Release, If, Call, Verify, Update, SpecCheck, SpecBarrier, Variable, Mem, Pipe}
 use Rattle.pdl_semantics.specs.Flat
 use Rattle.pdl_semantics.specs.Flatten.{Var, var_of, mem_of}
 use Rattle.pdl_semantics.specs.Stages.{list_any}
@@ -150,5 +150,6 @@ sites_let_go p ms vs us before (t ∷ ts) g each named =
     here (If sp c when otherwise) e rest = rest
     here (Call sp args) e rest = rest
     here (Verify sp x args) e rest = rest
+    here (Update sp x args) e rest = rest
     here (SpecCheck sp) e rest = rest
     here (SpecBarrier sp) e rest = rest

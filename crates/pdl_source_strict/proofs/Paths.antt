@@ -83,7 +83,7 @@ lets_looked (Flat.ReserveWrite m a) xs = refl
 lets_looked (Flat.Release m a) xs = refl
 lets_looked (Flat.Call args) xs = refl
 lets_looked (Flat.SpecCall args) xs = refl
-lets_looked (Flat.Verify args) xs = refl
+lets_looked (Flat.Verify last args) xs = refl
 lets_looked Flat.SpecCheck xs = refl
 lets_looked Flat.SpecBarrier xs = refl
 

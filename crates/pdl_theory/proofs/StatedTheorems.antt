@@ -1,8 +1,10 @@
--- Both theorems of the stated machine, in the whole language: what is proved of the derived machine, carried to it by the simulation.
+-- The theorems of the stated machine, in the whole language: what is proved of the derived machine, carried to it by the simulation.
 use Rattle.std.proofs.Common.{ap, Bool, List}
 use Rattle.pdl_semantics.specs.Flat.{Arrays, Pipe}
 use Rattle.pdl_semantics.specs.Cycle
 use Rattle.pdl_semantics.specs.Promises.{Refines, Advances, KeepsPace}
+use Rattle.pdl_semantics.specs.Updates.{not_updated, CommitsAlike}
+use Rattle.pdl_semantics.proofs.Updates.{commits_alike}
 use Rattle.pdl_theory_derived.specs.Derived
 use Rattle.pdl_theory_facts.specs.Facts.{Sound}
 use Rattle.pdl_theory_facts.specs.Scans.{is_plain}
@@ -32,3 +34,7 @@ module _ (p : Pipe) (sound : Sound p) where
   -- at least as many threads end in a run of the stated machine as its cycles that are no waits, divided by the depth
   pub whole_paces : (image : Arrays) (schedule : List (List Bool)) → KeepsPace p image schedule
   whole_paces image schedule = carries_pace p (sound_flows p sound) image schedule (Rates.keeps_pace p sound image schedule)
+
+-- with its updates or without them a pipe commits the same, only sooner or later
+pub updates_alike : (p : Pipe) → Sound p → Sound (not_updated p) → (image : Arrays) (schedule schedule' : List (List Bool)) → CommitsAlike p image schedule schedule'
+updates_alike p sound plain image schedule schedule' = commits_alike p image schedule schedule' (whole_refines p sound image schedule) (whole_refines (not_updated p) plain image schedule')

@@ -102,7 +102,7 @@ module _ (o : Around) (read : ℕ → ℕ → ℕ) (block : Blocked → Bool) (f
   Fits (Release m a) = Unit {0}
   Fits (Call args) = Unit {0}
   Fits (SpecCall args) = Unit {0}
-  Fits (Verify args) = Unit {0}
+  Fits (Verify last args) = Unit {0}
   Fits SpecCheck = Unit {0}
   Fits SpecBarrier = Unit {0}
 
@@ -157,11 +157,11 @@ module _ (o : Around) (read : ℕ → ℕ → ℕ) (block : Blocked → Bool) (f
   told_op (Release m a) d es cs h f = record { held = places_without es m a ∙ ap (λ l. let_go l m a) h; is = refl }
   told_op (Call args) d es cs h f = told _ es cs h
   told_op (SpecCall args) d es cs h f = told _ es cs h
-  told_op (Verify args) d es cs h f = at (same_args (values_of args d.env) d.guess)
+  told_op (Verify last args) d es cs h f = at (same_args (values_of args d.env) d.guess)
     where
       at : (b : Bool)
-          → Told (cond b d (record d { child = Some (values_of args d.env); fails = true }))
-          (cond b (work_of d es cs) (record (work_of d es cs) { child = Some (values_of args d.env); fails = true }))
+          → Told (cond b d (record d { child = Some (values_of args d.env); guess = (values_of args d.env); fails = true }))
+          (cond b (work_of d es cs) (record (work_of d es cs) { child = Some (values_of args d.env); guess = (values_of args d.env); fails = true }))
       at true = told d es cs h
       at false = told _ es cs h
   told_op SpecCheck d es cs h f = told _ es cs h

@@ -259,9 +259,9 @@ unasked_op o (DelayedRead x n a) w m h r = at (n == m) refl
         find_append w.asks (record { mem = n; var = x; address = slice_index w.env a } ∷ []) m
         ∙ ap (λ b. or_ask (find_ask w.asks m) (cond b (Some (slice_index w.env a)) None)) e
         ∙ no_more (find_ask w.asks m)
-unasked_op o (Verify args) w m h r = at (same_args (values_of args w.env) w.guess)
+unasked_op o (Verify last args) w m h r = at (same_args (values_of args w.env) w.guess)
   where
-    at : (b : Bool) → find_ask (cond b w (record w { child = Some (values_of args w.env); fails = true })).asks m ≡ find_ask w.asks m
+    at : (b : Bool) → find_ask (cond b w (record w { child = Some (values_of args w.env); guess = (values_of args w.env); fails = true })).asks m ≡ find_ask w.asks m
     at true = refl
     at false = refl
 unasked_op o _ w m h r = refl

@@ -25,9 +25,9 @@ ready_op : (o : Around) (op : Op) (w : Work) → AllTrue o → w.ready ≡ true 
 ready_op o (DelayedRead x m a) w f h = and_from w.ready (o.free m) h (f.free m)
 ready_op o (Block m a) w f h =
     and_from w.ready _ h (pick (has_entry w.entries m a) _ _ (f.can_write m (slice_index w.env a)) (f.can_read m (slice_index w.env a)))
-ready_op o (Verify args) w f h = at (same_args (values_of args w.env) w.guess)
+ready_op o (Verify last args) w f h = at (same_args (values_of args w.env) w.guess)
   where
-    at : (b : Bool) → (cond b w (record w { child = Some (values_of args w.env); fails = true })).ready ≡ true
+    at : (b : Bool) → (cond b w (record w { child = Some (values_of args w.env); guess = (values_of args w.env); fails = true })).ready ≡ true
     at true = h
     at false = h
 ready_op o SpecBarrier w f h = and_from w.ready o.clear h f.clear

@@ -48,8 +48,8 @@ rejoined w = λ i. record {
 }
 
 verified_joined : (b : Bool) (args : List ℕ) (w v : Work)
-    → cond b (joined w v) (record (joined w v) { child = Some args; fails = true })
-    ≡ joined w (cond b v (record v { child = Some args; fails = true }))
+    → cond b (joined w v) (record (joined w v) { child = Some args; guess = args; fails = true })
+    ≡ joined w (cond b v (record v { child = Some args; guess = args; fails = true }))
 verified_joined true args w v = refl
 verified_joined false args w v = refl
 
@@ -64,7 +64,7 @@ does_joined o (Block m a) w v =
     { ready = and_assoc w.ready v.ready (if has_entry v.entries m a then o.can_write m (slice_index v.env a) else o.can_read m (slice_index v.env a)) i }
 does_joined o (Release m a) w v =
     λ i. record (joined w (work_after o (Release m a) v)) { commits = append_assoc w.commits v.commits (released_commits v.entries m a) i }
-does_joined o (Verify args) w v = verified_joined (same_args (values_of args v.env) v.guess) (values_of args v.env) w v
+does_joined o (Verify last args) w v = verified_joined (same_args (values_of args v.env) v.guess) (values_of args v.env) w v
 does_joined o SpecBarrier w v = λ i. record (joined w (work_after o SpecBarrier v)) { ready = and_assoc w.ready v.ready o.clear i }
 does_joined o _ w v = refl
 
@@ -116,7 +116,7 @@ ReadsRight o arrays (Block m a) env = Unit {0}
 ReadsRight o arrays (Release m a) env = Unit {0}
 ReadsRight o arrays (Call args) env = Unit {0}
 ReadsRight o arrays (SpecCall args) env = Unit {0}
-ReadsRight o arrays (Verify args) env = Unit {0}
+ReadsRight o arrays (Verify last args) env = Unit {0}
 ReadsRight o arrays SpecCheck env = Unit {0}
 ReadsRight o arrays SpecBarrier env = Unit {0}
 

@@ -128,7 +128,7 @@ no_fetch p c (x ∷ xs) h = and_from _ _ (here x.op (and_right _ _ (and_left _ _
     here (Release m a) k = refl
     here (Call args) k = refl
     here (SpecCall args) k = refl
-    here (Verify args) k = refl
+    here (Verify last args) k = refl
     here SpecCheck k = refl
     here SpecBarrier k = refl
 

@@ -25,7 +25,7 @@ knows_memory n (Release m a) = nat_lt m n
 knows_memory n (Bind x e) = true
 knows_memory n (Call args) = true
 knows_memory n (SpecCall args) = true
-knows_memory n (Verify args) = true
+knows_memory n (Verify last args) = true
 knows_memory n SpecCheck = true
 knows_memory n SpecBarrier = true
 

@@ -27,7 +27,8 @@ pub data Making : Type 0 where
 abbrev pub next_making : Making → Op → Making
 next_making k (Call args) = Made
 next_making k (SpecCall args) = Guessed
-next_making k (Verify args) = Made
+next_making k (Verify true args) = Made
+next_making k (Verify false args) = Guessed
 next_making k (Bind x e) = k
 next_making k (CombRead x m a) = k
 next_making k (DelayedRead x m a) = k
@@ -59,11 +60,12 @@ abbrev pub is_made : Making → Bool
 is_made Made = true
 is_made _ = false
 
--- S1, S2, S3: one call or guess, a guess before V, and one verify of it, in V
+-- S1, S2, S3, S6: one call or guess, a guess before V, an update of it before V, and one verify of it, in V
 abbrev pub making_ok : Option ℕ → Making → ℕ → Op → Bool
 making_ok v k s (Call args) = is_unmade k
 making_ok v k s (SpecCall args) = is_unmade k && stands_before v s
-making_ok v k s (Verify args) = is_guessed k && stands_at v s
+making_ok v k s (Verify true args) = is_guessed k && stands_at v s
+making_ok v k s (Verify false args) = is_guessed k && stands_before v s
 making_ok v k s (Bind x e) = true
 making_ok v k s (CombRead x m a) = true
 making_ok v k s (DelayedRead x m a) = true

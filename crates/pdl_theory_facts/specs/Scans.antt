@@ -47,7 +47,7 @@ scan_after (ReserveRead m a) c = c
 scan_after (Release m a) c = c
 scan_after (Call args) c = c
 scan_after (SpecCall args) c = c
-scan_after (Verify args) c = c
+scan_after (Verify last args) c = c
 scan_after SpecCheck c = c
 scan_after SpecBarrier c = c
 
@@ -69,7 +69,7 @@ op_ok p s c (ReserveWrite m a) = true
 op_ok p s c (Release m a) = true
 op_ok p s c (Call args) = true
 op_ok p s c (SpecCall args) = true
-op_ok p s c (Verify args) = true
+op_ok p s c (Verify last args) = true
 op_ok p s c SpecCheck = true
 op_ok p s c SpecBarrier = true
 
@@ -122,7 +122,7 @@ next_phase m ph (ReserveRead n a) = ph
 next_phase m ph (Block n a) = ph
 next_phase m ph (Call args) = ph
 next_phase m ph (SpecCall args) = ph
-next_phase m ph (Verify args) = ph
+next_phase m ph (Verify last args) = ph
 next_phase m ph SpecCheck = ph
 next_phase m ph SpecBarrier = ph
 
@@ -150,7 +150,7 @@ phase_ok m ph (ReserveRead n a) = true
 phase_ok m ph (Block n a) = true
 phase_ok m ph (Call args) = true
 phase_ok m ph (SpecCall args) = true
-phase_ok m ph (Verify args) = true
+phase_ok m ph (Verify last args) = true
 phase_ok m ph SpecCheck = true
 phase_ok m ph SpecBarrier = true
 

@@ -5,7 +5,7 @@ use Rattle.std.proofs.Common.{ltb-false, lt-ltb, le_of_eq, le_refl, le_of_lt, lt
 use Rattle.pdl_semantics.specs.Flat.{Arrays, Pipe, Branch, of_mem, list_all, start_env}
 use Rattle.pdl_semantics.specs.Stages.{stage_at, mem_at, goes_to, commit_stage, reserve_stage}
 use Rattle.pdl_semantics.specs.Locks.{Nothing}
-use Rattle.pdl_semantics.specs.Machine.{Ask, is_answered}
+use Rattle.pdl_semantics.specs.Machine.{Ask, Awaited, is_answered}
 use Rattle.pdl_semantics.specs.Cycle.{awaited_of}
 use Rattle.pdl_semantics.specs.Moves.{is_empty}
 use Rattle.pdl_semantics.specs.Sequential.{thread}
@@ -19,15 +19,22 @@ use Rattle.pdl_theory_turns.proofs.Surroundings.{Right}
 use Rattle.pdl_theory_turns.proofs.TurnFacts.{next_of, next_at, blocked_at, right_guess, stage_work}
 use Rattle.pdl_theory_turns.proofs.Lives.{Writes, Marks, Clean, RowsAt}
 use Rattle.pdl_theory_refinement.proofs.Cycle.{right_weaken, words_step, Now, moved_quiet}
-use Rattle.pdl_theory_turns.proofs.Courses.{Course, AskOk, onward}
+use Rattle.pdl_theory_turns.proofs.Courses.{Course, AskOk, Strayed, onward}
+use Rattle.pdl_theory_facts.proofs.Nested.{within_all, within_home}
 use Rattle.pdl_theory_turns.proofs.ThreadOrder.{Under, AllUnder, Stepped, all_low, all_grow, all_step, not_next, fresh_under}
 use Rattle.pdl_theory_derived.proofs.DelayedReads.{apart_still, AllAsks, all_more, all_both, all_still, Out, new_out, all_out, or_ask, find_append, found, held_port, answers_caught}
-use Rattle.pdl_theory_refinement.proofs.Spots.{Spot, seat, now_spot, Sure, Waits, Here, Standing, Behind, plain_clean, surrounds, words_right, whole_now}
+use Rattle.pdl_theory_refinement.proofs.Unsure.{Unsure, unsure_older, unsure_before}
+use Rattle.pdl_theory_refinement.proofs.Spots.{Spot, seat, now_spot, now_seat, Sure, Waits, Here, Standing, Behind, plain_clean, surrounds, words_right, whole_now}
 
 clash : false ≡ true → ⊥
 clash k = cc
 
+pub none_left : (rs : List Awaited) → is_empty rs ≡ true → rs ≡ []
+none_left [] h = refl
+none_left (r ∷ rs) h = absurd (cc h)
+
 -- whether the first of these spots is past the last stage
+
 abbrev pub past_last : Pipe → List Spot → Bool
 past_last p [] = false
 past_last p (sp ∷ sps) = not (nat_lt sp.stage (length p.stages))
@@ -57,16 +64,12 @@ start_spot p args = record { stage = 0; env = start_env p args; asks = [] }
 module _ (p : Pipe) (acc : Course p) where
   -- no thread stands behind one in its own stage
   pub not_self : (s : ℕ) → Under p s s → ⊥
-  not_self s u = at (stage_at p s).branch refl
-    where
-      at : (o : Option Branch) → (stage_at p s).branch ≡ o → ⊥
-      at None e = let i : s < s = u.below s e (le_refl s) in omega arith
-      at (Some c) e = let i : s < s = u.branch c e e in omega arith
+  not_self s u = let i : s < s = u (stage_at p s).branches (within_home p _ s refl) (within_home p _ s refl) s refl (le_refl s) in omega arith
 
   -- a new thread stands behind all that an older one stands behind
   pub under_start : (bs : List ℕ) (s : ℕ) → AllUnder p bs s → AllUnder p bs 0
   under_start [] s u = tt
-  under_start (b ∷ bs) s u = (fresh_under p acc.graph acc.branches b (u.0.below 0 acc.graph.trunk_start (omega arith)), under_start bs s u.1)
+  under_start (b ∷ bs) s u = (fresh_under p acc.graph acc.branches b (u.0 [] (within_all p _) (within_all p _) 0 acc.graph.trunk_start (omega arith)), under_start bs s u.1)
 
   -- what the next younger thread knows, where this one's stage becomes s'
   behind_next : (older : List Act) (v v' : Marks) (d e : Writes) (asks more : ℕ → Option ℕ) (arrays : Arrays)
@@ -81,7 +84,7 @@ module _ (p : Pipe) (acc : Course p) where
       record {
         fits = fits;
         split = λ m. later_more m (v m) (d m) (v' m) _ (e m) _ (b.split m) (own m) (quiet_or m (s == commit_stage p m) refl);
-        gone = λ m r k h. let low = k.0.below (commit_stage p m) (acc.graph.trunk_commit m) h in
+        gone = λ m r k h. let low = k.0 [] (within_all p _) (within_all p _) (commit_stage p m) (acc.graph.trunk_commit m) h in
             ap₂ (λ x y. x ++ y) (b.gone m s u (le_of_lt low)) (acc.marks_late arrays args s m low);
         plain = λ m h. ap₂ (λ l k. l ++ k) (b.plain m h) (acc.marks_plain arrays args s m h);
         moves = (is, stepped, b.moves);
@@ -90,7 +93,7 @@ module _ (p : Pipe) (acc : Course p) where
     where
       fits : (m x r : ℕ) → AllUnder p (s ∷ ahead) r → reserve_stage p m ≤ r → latest (befores (a ∷ older)) m x ≡ seen x (v m ++ marks p arrays args s m) Nothing
       fits m x r k f =
-          let low = k.0.below (reserve_stage p m) (acc.graph.trunk_reserve m) f in
+          let low = k.0 [] (within_all p _) (within_all p _) (reserve_stage p m) (acc.graph.trunk_reserve m) f in
           ap (λ es. latest_in es m x (latest (befores older) m x)) held
           ∙ acc.marks_seen arrays args s m x (latest (befores older) m x) low
           ∙ ap (seen x (marks p arrays args s m)) (b.fits m x s u (le_of_lt low))
@@ -133,6 +136,11 @@ module _ (p : Pipe) (acc : Course p) where
   start_waits : (asked : List (Option ℕ)) (v : Marks) (arrays : Arrays) (args : List ℕ) → Waits p acc asked v arrays args (start_spot p args)
   start_waits asked v arrays args = record { gets = ap (λ (w : Work). w.env) (sym (acc.start_so arrays args)); apart = tt; out = tt; sure = tt }
 
+  -- a new thread is the thread of its turn on the start spot
+  pub born_seat : (arrays : Arrays) (args : List ℕ) → fresh p args ≡ seat p arrays args (start_spot p args)
+  born_seat arrays args =
+      ap (λ (w : Work). record { stage = 0; env = start_env p args; entries = w.entries; guess = w.guess; awaits = [] }) (sym (acc.start_so arrays args))
+
   -- the thread that begins a turn stands on it, where the writes before the turn are the commits and the undone ones
   pub born_standing : (asked : List (Option ℕ)) (past w : Writes) (v : Marks) (arrays : Arrays) (args : List ℕ) (ahead : List ℕ) → AllUnder p ahead 0
       → ((m : ℕ) → w m ≡ past m ++ strips m (v m)) → Standing p acc asked past w v arrays args ahead (start_spot p args ∷ [])
@@ -141,6 +149,7 @@ module _ (p : Pipe) (acc : Course p) where
       under = under;
       on = acc.on_start arrays args;
       words = λ m c. h m;
+      calm = λ u. subst acc.stray (born_seat arrays args) (acc.stray_fresh args).0;
       clean = subst (λ l. Right p 0 (Clean p v) l (so_far p arrays args 0).env) (sym (acc.start_blocked arrays args)) tt;
       linked = ap (λ (w : Work). right_guess w.child (thread p arrays args).next) (acc.start_so arrays args);
       waits = start_waits asked v arrays args;
@@ -148,11 +157,6 @@ module _ (p : Pipe) (acc : Course p) where
     λ m. ap₂ (λ a b. a ++ b) (h m) (sym (acc.marks_start arrays args m)) ∙ append_assoc (past m) (strips m (v m)) _
         ∙ ap (λ l. past m ++ l) (sym (strips_append m (v m) (marks p arrays args 0 m))),
   )
-
-  -- a new thread is the thread of its turn on the start spot
-  pub born_seat : (arrays : Arrays) (args : List ℕ) → fresh p args ≡ seat p arrays args (start_spot p args)
-  born_seat arrays args =
-      ap (λ (w : Work). record { stage = 0; env = start_env p args; entries = w.entries; guess = w.guess; awaits = [] }) (sym (acc.start_so arrays args))
 
   -- a thread in one of the pipe's stages isn't dropped where those past the last stage are
   pub shown_one : (t : Thread) (ts : List Thread) (s : ℕ) → s < length p.stages → t ∷ ts ≡ cond (nat_lt s (length p.stages)) (t ∷ []) [] ++ ts
@@ -212,7 +216,7 @@ module _ (p : Pipe) (acc : Course p) where
       at true e = ap not e
       at false e =
           absurd
-          (let i : length p.stages < s = k.0.under.0.below (length p.stages) (acc.graph.trunk_past (length p.stages) (le_refl _)) (ltb-false _ _ e) in
+          (let i : length p.stages < s = k.0.under.0 [] (within_all p _) (within_all p _) (length p.stages) (acc.graph.trunk_past (length p.stages) (le_refl _)) (ltb-false _ _ e) in
           omega arith)
 
 -- one thread in a cycle
@@ -236,16 +240,17 @@ module _ (p : Pipe) (acc : Course p) (image : Arrays) (st : State) (bits : List 
     pub head_stands : (ts : List Thread) → (act p st bits older (seat p arrays args sp)).moves ≡ false
         → Now past past' d (act p st bits older (seat p arrays args sp) ∷ acts p st bits (act p st bits older (seat p arrays args sp) ∷ older) ts)
         → NowAsks all asks (act p st bits older (seat p arrays args sp) ∷ acts p st bits (act p st bits older (seat p arrays args sp) ∷ older) ts)
-        → ((m : ℕ) → sp.stage ≤ commit_stage p m → of_mem m (commits_of (acts p st bits (act p st bits older (seat p arrays args sp) ∷ older) ts)) ≡ [])
+        → ((m : ℕ) → (sp.stage ≤ commit_stage p m) ⊎ Unsure p acc.v ahead → of_mem m (commits_of (acts p st bits (act p st bits older (seat p arrays args sp) ∷ older) ts)) ≡ [])
         → Here p acc (next_asks p bits all 0 st.asked) past' w v' arrays args ahead' (now_spot p st bits sp) last
     head_stands ts stays now nowa quiet =
         record {
           under = all_grow p acc.graph acc.branches older ahead ahead' sp.stage b.moves h.under;
           on = h.on;
           words =
-              λ m c. words_step (w m) (past m) (past' m) (strips m (v m)) (d m) (strips m (v' m)) _ (h.words m c)
+              λ m c. words_step (w m) (past m) (past' m) (strips m (v m)) (d m) (strips m (v' m)) _ (h.words m (was_so m c))
               (later_strips m (v m) (d m) (v' m) (b.split m)) (now m)
-              (ap (λ k. of_mem m (cond k ((act p st bits older (seat p arrays args sp)).work.commits ++ commits_of rest) (commits_of rest))) stays ∙ quiet m c);
+              (ap (λ k. of_mem m (cond k ((act p st bits older (seat p arrays args sp)).work.commits ++ commits_of rest) (commits_of rest))) stays ∙ quiet m (was_so m c));
+          calm = λ u. subst acc.stray (now_seat p st bits arrays args sp) (acc.stray_answered st bits (seat p arrays args sp) (h.calm (unsure_before p acc older ahead ahead' b.moves u))).0;
           clean = right_weaken p sp.stage sp.stage v v' _ _ (le_of_eq refl) (λ m x k. clean_later m x k) h.clean;
           linked = h.linked;
           waits =
@@ -268,6 +273,10 @@ module _ (p : Pipe) (acc : Course p) (image : Arrays) (st : State) (bits : List 
       where
         rest : List Act
         rest = acts p st bits (act p st bits older (seat p arrays args sp) ∷ older) ts
+
+        was_so : (m : ℕ) → (sp.stage ≤ commit_stage p m) ⊎ Unsure p acc.v ahead' → (sp.stage ≤ commit_stage p m) ⊎ Unsure p acc.v ahead
+        was_so m (inl i) = inl i
+        was_so m (inr u) = inr (unsure_before p acc older ahead ahead' b.moves u)
 
         sure_later : (q : Ask) → Sure p acc v sp.stage q → Sure p acc v' sp.stage q
         sure_later q k = record { clean = clean_later q.mem q.address k.clean; early = k.early; exact = k.exact; low = k.low; env = k.env; next = k.next }
@@ -317,7 +326,18 @@ module _ (p : Pipe) (acc : Course p) (image : Arrays) (st : State) (bits : List 
       pub commits_quiet : (m : ℕ) → sp.stage ≢ commit_stage p m → of_mem m (act p st bits older (seat p arrays args sp)).work.commits ≡ []
       commits_quiet = acc.quiet_at (around p st bits older sp.stage) (answered_thread p st bits (seat p arrays args sp))
 
+      -- behind a thread that isn't sure it releases nothing, and passes no barrier
+      pub calm_here : Unsure p acc.v ahead
+          → Strayed p acc.stray acc.made (answered_thread p st bits (seat p arrays args sp)) (act p st bits older (seat p arrays args sp)).work
+      calm_here u =
+          let before = unsure_older p acc older ahead ahead' sp.stage b.moves h.under u in
+          acc.stray_step (around p st bits older sp.stage) (answered_thread p st bits (seat p arrays args sp))
+          (acc.stray_answered st bits (seat p arrays args sp) (h.calm u)).0
+          (none_left _ (moves_answered p st bits older (seat p arrays args sp) e)) before.0 before.1
+          (moves_ready p st bits older (seat p arrays args sp) e)
+
       -- where it moves, the thread asks for m only in the stage of m's delayed reads
+
       pub asks_here : (m : ℕ) → is_some (find_ask (act p st bits older (seat p arrays args sp)).work.asks m) ≡ true → sp.stage ≡ acc.fetch m
       asks_here = acc.asks_at (around p st bits older sp.stage) (answered_thread p st bits (seat p arrays args sp))
 
@@ -331,7 +351,7 @@ module _ (p : Pipe) (acc : Course p) (image : Arrays) (st : State) (bits : List 
       pub head_moves : (ts : List Thread) (last' : Bool)
           → Now past past' d (act p st bits older (seat p arrays args sp) ∷ acts p st bits (act p st bits older (seat p arrays args sp) ∷ older) ts)
           → NowAsks all asks (act p st bits older (seat p arrays args sp) ∷ acts p st bits (act p st bits older (seat p arrays args sp) ∷ older) ts)
-          → ((m : ℕ) → sp.stage ≤ commit_stage p m → of_mem m (commits_of (acts p st bits (act p st bits older (seat p arrays args sp) ∷ older) ts)) ≡ [])
+          → ((m : ℕ) → (sp.stage ≤ commit_stage p m) ⊎ Unsure p acc.v ahead → of_mem m (commits_of (acts p st bits (act p st bits older (seat p arrays args sp) ∷ older) ts)) ≡ [])
           → right_guess (so_far p arrays args (next_at p arrays args sp.stage)).child (thread p arrays args).next ≡ not last'
           → Here p acc (next_asks p bits all 0 st.asked) past' w v' arrays args ahead' (moved_spot p arrays args sp.stage) last'
       head_moves ts last' now nowa quiet linked =
@@ -346,7 +366,8 @@ module _ (p : Pipe) (acc : Course p) (image : Arrays) (st : State) (bits : List 
                 (strips m (v' m)) _ (h.words m (earlier m c)) (later_strips m (v m) (d m) (v' m) (b.split m)) (now m)
                 (ap (λ k. of_mem m (cond k ((act p st bits older (seat p arrays args sp)).work.commits ++ commits_of rest) (commits_of rest))) e
                 ∙ moved_quiet m true (act p st bits older (seat p arrays args sp)).work.commits (commits_of rest)
-                (commits_quiet m (apart m c)) (quiet m (earlier m c)));
+                (silent m c) (quiet m (earlier m c)));
+            calm = λ u. subst acc.stray (moved_seat p acc arrays args sp.stage h.on low_here) (subst (λ (k : Work). acc.stray (onward (next_of p sp.stage k.env) k)) work_same (calm_here (unsure_before p acc older ahead ahead' b.moves u)).goes_on);
             clean = right_weaken p sp.stage (next_at p arrays args sp.stage) v v' _ _ (le_of_lt more) (λ m x k. clean_later m x k) alike_here.1;
             linked = linked;
             waits =
@@ -376,11 +397,16 @@ module _ (p : Pipe) (acc : Course p) (image : Arrays) (st : State) (bits : List 
           rest : List Act
           rest = acts p st bits (act p st bits older (seat p arrays args sp) ∷ older) ts
 
-          earlier : (m : ℕ) → next_at p arrays args sp.stage ≤ commit_stage p m → sp.stage ≤ commit_stage p m
-          earlier m i = le_of_lt (lt_of_lt_of_le more i)
+          earlier : (m : ℕ) → (next_at p arrays args sp.stage ≤ commit_stage p m) ⊎ Unsure p acc.v ahead' → (sp.stage ≤ commit_stage p m) ⊎ Unsure p acc.v ahead
+          earlier m (inl i) = inl (le_of_lt (lt_of_lt_of_le more i))
+          earlier m (inr u) = inr (unsure_before p acc older ahead ahead' b.moves u)
 
           apart : (m : ℕ) → next_at p arrays args sp.stage ≤ commit_stage p m → sp.stage ≢ commit_stage p m
           apart m i j = let k : sp.stage < commit_stage p m = lt_of_lt_of_le more i in omega arith
+
+          silent : (m : ℕ) → (next_at p arrays args sp.stage ≤ commit_stage p m) ⊎ Unsure p acc.v ahead' → of_mem m (act p st bits older (seat p arrays args sp)).work.commits ≡ []
+          silent m (inl i) = commits_quiet m (apart m i)
+          silent m (inr u) = ap (of_mem m) (calm_here (unsure_before p acc older ahead ahead' b.moves u)).commits
 
           sure_here : (q : Ask)
               → Clean p v q.mem q.address × AskOk p acc.fetch sp.stage (next_at p arrays args sp.stage) q

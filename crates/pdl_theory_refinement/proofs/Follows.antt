@@ -1,5 +1,5 @@
 -- Every run of the derived machine refines the sequential run, and its oldest thread moves, in the whole language.
-use Rattle.std.proofs.Common.{◌≡◌, refl, sym, ap, ap₂, ◌∙◌, subst, ℕ, zero, suc, ◌+◌, ◌≤◌, ◌<◌, Bool, true, false, ◌||◌, not, List, [], ◌∷◌, ◌++◌, length, Option, Some, None, is_some, nat_lt, cond, if◌then◌else◌, arith, append-nil, append_assoc, add-zero, le_refl, le_of_lt, zero-add, ltb-true, ltb-false, lt-ltb}
+use Rattle.std.proofs.Common.{◌≡◌, refl, sym, ap, ap₂, ◌∙◌, subst, ℕ, zero, suc, ◌+◌, ◌≤◌, ◌<◌, ◌⊎◌, inl, inr, Bool, true, false, ◌||◌, not, List, [], ◌∷◌, ◌++◌, length, Option, Some, None, is_some, nat_lt, cond, if◌then◌else◌, arith, append-nil, append_assoc, add-zero, le_refl, le_of_lt, zero-add, ltb-true, ltb-false, lt-ltb}
 use Rattle.std.specs.List.{AllByRecursion, IsDistinct, list_any}
 use Rattle.std.proofs.lemmas.Map.Steps.{length-le_from_distinct_below}
 use Rattle.std.proofs.lemmas.Bool.{eqb-true, ne_eqb}
@@ -23,8 +23,10 @@ use Rattle.pdl_theory_turns.proofs.Lives.{Writes, Marks, RowsAt}
 use Rattle.pdl_theory_refinement.proofs.Cycle.{ends_one}
 use Rattle.pdl_theory_refinement.proofs.Refine.{writes_more, writes_add, longer}
 use Rattle.pdl_theory_turns.proofs.Courses.{Course}
+use Rattle.pdl_theory_facts.proofs.Nested.{within_all, trunk_within}
 use Rattle.pdl_theory_turns.proofs.ThreadOrder.{Under, AllUnder}
 use Rattle.pdl_theory_derived.proofs.DelayedReads.{AllAsks, Out, requests_length}
+use Rattle.pdl_theory_refinement.proofs.Unsure.{Unsure}
 use Rattle.pdl_theory_refinement.proofs.Spots.{Spot, seat, seats, shown, is_nil, Here, Standing, Behind, Last, Tail}
 use Rattle.pdl_theory_refinement.proofs.Cycles.{start_spot, past_last, rows_next, born_standing, born_seat, not_self}
 use Rattle.pdl_theory_refinement.proofs.ThreadCycle.{Turned, turned}
@@ -44,34 +46,36 @@ pub record Runs (p : Pipe) (acc : Course p) (image : Arrays) (n : ℕ) (past : L
 module _ (p : Pipe) (acc : Course p) where
   -- the end of the pipe is behind whoever is in it
   under_end : (b s : ℕ) → b ≤ length p.stages → Under p b s → Under p (length p.stages) s
-  under_end b s low u = record {
-    below = λ r t k. let i : r < b = u.below r t k in omega arith;
-    branch = λ c i j. absurd (clash (sym (acc.graph.trunk_past (length p.stages) (le_refl _)) ∙ i));
-  }
-    where
-      clash : {c : Branch} → None ≡ Some c → ⊥
-      clash k = cc
+  under_end b s low u [] i j r t k = let l : r < b = u [] (within_all p b) j r t k in omega arith
+  under_end b s low u (x ∷ c) i j r t k = trunk_within p x c _ (acc.graph.trunk_past (length p.stages) (le_refl _)) i
 
   under_low : (s : ℕ) → s < length p.stages → Under p (length p.stages) s
-  under_low s low = record {
-    below = λ r t k. omega arith;
-    branch = λ c i j. absurd (clash (sym (acc.graph.trunk_past (length p.stages) (le_refl _)) ∙ i));
-  }
-    where
-      clash : {c : Branch} → None ≡ Some c → ⊥
-      clash k = cc
+  under_low s low [] i j r t k = omega arith
+  under_low s low (x ∷ c) i j r t k = trunk_within p x c _ (acc.graph.trunk_past (length p.stages) (le_refl _)) i
 
   -- threads behind all of some stages are behind others
   weaker : (asked : List (Option ℕ)) (past w : Writes) (v : Marks) (arrays : Arrays) (args : List ℕ) (ahead ahead2 : List ℕ) (sps : List Spot)
-      → ((s : ℕ) → AllUnder p ahead s → AllUnder p ahead2 s)
+      → ((s : ℕ) → AllUnder p ahead s → AllUnder p ahead2 s) → (Unsure p acc.v ahead2 → Unsure p acc.v ahead)
       → Standing p acc asked past w v arrays args ahead sps → Standing p acc asked past w v arrays args ahead2 sps
-  weaker asked past w v arrays args ahead ahead2 [] f h = h
-  weaker asked past w v arrays args ahead ahead2 (sp ∷ sps) f h = (
-    record { under = f sp.stage h.0.under; on = h.0.on; words = h.0.words; clean = h.0.clean; linked = h.0.linked; waits = h.0.waits },
+  weaker asked past w v arrays args ahead ahead2 [] f g h = h
+  weaker asked past w v arrays args ahead ahead2 (sp ∷ sps) f g h = (
+    record { under = f sp.stage h.0.under; on = h.0.on; words = λ m c. h.0.words m (at m c); clean = h.0.clean; linked = h.0.linked; waits = h.0.waits; calm = λ u. h.0.calm (g u) },
     weaker asked past (λ n. w n ++ of_mem n (thread p arrays args).writes) (λ n. v n ++ marks p arrays args sp.stage n)
         (thread p arrays args).arrays (thread p arrays args).next (sp.stage ∷ ahead)
-        (sp.stage ∷ ahead2) sps (λ s u. (u.0, f s u.1)) h.1,
+        (sp.stage ∷ ahead2) sps (λ s u. (u.0, f s u.1)) (λ u. u) h.1,
   )
+    where
+      at : (m : ℕ) → (sp.stage ≤ commit_stage p m) ⊎ Unsure p acc.v ahead2 → (sp.stage ≤ commit_stage p m) ⊎ Unsure p acc.v ahead
+      at m (inl c) = inl c
+      at m (inr u) = inr (g u)
+
+  -- nobody guesses past the last stage
+  sure_end : Unsure p acc.v (length p.stages ∷ []) → ⊥
+  sure_end u = let i : length p.stages ≤ acc.v = u.1 in let j : acc.v < length p.stages = acc.v_inside in omega arith
+
+  at_end : (sp : Spot) (m : ℕ) → (sp.stage ≤ commit_stage p m) ⊎ Unsure p acc.v (length p.stages ∷ []) → (sp.stage ≤ commit_stage p m) ⊎ Unsure p acc.v (suc (length p.stages) ∷ [])
+  at_end sp m (inl c) = inl c
+  at_end sp m (inr u) = absurd (sure_end u)
 
   shown_seats : (asked : List (Option ℕ)) (past w : Writes) (v : Marks) (arrays : Arrays) (args : List ℕ) (ahead : List ℕ) (sps : List Spot)
       → ((s : ℕ) → AllUnder p ahead s → s < length p.stages)
@@ -91,7 +95,7 @@ module _ (p : Pipe) (acc : Course p) where
       at true e = ltb-true _ _ e
       at false e =
           absurd
-          (let i : length p.stages < length p.stages = u.0.below (length p.stages) (acc.graph.trunk_past (length p.stages) (le_refl _)) (ltb-false _ _ e) in
+          (let i : length p.stages < length p.stages = u.0 [] (within_all p _) (within_all p _) (length p.stages) (acc.graph.trunk_past (length p.stages) (le_refl _)) (ltb-false _ _ e) in
           omega arith)
 
   -- the sequential array at a turn
@@ -119,7 +123,7 @@ module _ (p : Pipe) (acc : Course p) where
       (after_turns p image (suc n)).arrays (after_turns p image (suc n)).next (length p.stages ∷ []) sps)
       (λ i m. (sym (of_mem_append m (writes_from p n image p.start) _) ∙ ap (of_mem m) (sym (writes_more p n image p.start))) i)
       (weaker asked past _ _ (after_turns p image (suc n)).arrays (after_turns p image (suc n)).next (sp.stage ∷ suc (length p.stages) ∷ [])
-      (length p.stages ∷ []) sps (λ s u. (subst (λ b. Under p b s) e u.0, tt)) h.1))
+      (length p.stages ∷ []) sps (λ s u. (subst (λ b. Under p b s) e u.0, tt)) (λ u. absurd (sure_end u)) h.1))
 
   dropped_live : (asked : List (Option ℕ)) (past w : Writes) (v : Marks) (arrays : Arrays) (args : List ℕ) (ahead : List ℕ) (sp : Spot) (sps : List Spot)
       → sp.stage ≡ length p.stages
@@ -176,11 +180,11 @@ module _ (p : Pipe) (acc : Course p) where
               (sp.stage ∷ length p.stages ∷ []) sps =
               weaker st'.asked (λ m. of_mem m (past ++ commits_of these)) _ _ (after_turns p image (suc n)).arrays
               (after_turns p image (suc n)).next (sp.stage ∷ suc (length p.stages) ∷ [])
-              (sp.stage ∷ length p.stages ∷ []) sps (λ s u. (u.0, (under_end sp.stage s (le_of_lt low) u.0, tt))) h.1 in
+              (sp.stage ∷ length p.stages ∷ []) sps (λ s u. (u.0, (under_end sp.stage s (le_of_lt low) u.0, tt))) (λ u. u) h.1 in
               let here : Here p acc st'.asked (λ m. of_mem m (past ++ commits_of these))
               (λ m. of_mem m (writes_from p n image p.start)) (λ m. [])
               (after_turns p image n).arrays (after_turns p image n).next (length p.stages ∷ []) sp (is_nil sps) =
-              record { under = (under_low sp.stage low, tt); on = h.0.on; words = h.0.words; clean = h.0.clean; linked = h.0.linked; waits = h.0.waits } in
+              record { under = (under_low sp.stage low, tt); on = h.0.on; words = λ m c. h.0.words m (at_end sp m c); clean = h.0.clean; linked = h.0.linked; waits = h.0.waits; calm = λ u. absurd (sure_end u) } in
               subst (λ c. Runs p acc image (cond c (suc n) n) (past ++ commits_of these) st') (sym (l ∙ ap not i))
               (record {
                 spots = sp ∷ sps;
@@ -199,7 +203,7 @@ module _ (p : Pipe) (acc : Course p) where
               })
           by_last false i =
               let past_it : sp.stage ≡ length p.stages =
-              exact (ltb-false _ _ i) (h.0.under.0.below sp.stage (acc.graph.trunk_past sp.stage (ltb-false _ _ i)) (le_refl sp.stage)) in
+              exact (ltb-false _ _ i) (h.0.under.0 [] (within_all p _) (within_all p _) sp.stage (acc.graph.trunk_past sp.stage (ltb-false _ _ i)) (le_refl sp.stage)) in
               let h'' = dropped st'.asked (λ m. of_mem m (past ++ commits_of these)) image n sp sps past_it h in
               subst (λ c. Runs p acc image (cond c (suc n) n) (past ++ commits_of these) st') (sym (l ∙ ap not i))
               (record {
@@ -328,7 +332,7 @@ module _ (p : Pipe) (acc : Course p) where
       at true f k =
           let r = k (ap₂ (λ l c. l ++ c) e (acc.marks_late arrays args sp.stage m (ltb-true _ _ f))) in
           (of_mem m (thread p arrays args).writes ++ r.0, sym (append_assoc (w m) (of_mem m (thread p arrays args).writes) r.0) ∙ r.1)
-      at false f k = ([], append-nil (w m) ∙ h.0.words m (ltb-false _ _ f) ∙ ap (λ l. past m ++ strips m l) e ∙ append-nil (past m))
+      at false f k = ([], append-nil (w m) ∙ h.0.words m (inl (ltb-false _ _ f)) ∙ ap (λ l. past m ++ strips m l) e ∙ append-nil (past m))
 
   -- the live threads on their turns stand in different stages
   abbrev pub stages_of : List Spot → List ℕ

@@ -1,5 +1,5 @@
 -- The live threads in the whole language: each on its turn, in a stage of its path, with the answers that it still awaits.
-use Rattle.std.proofs.Common.{◌≡◌, sym, ap, ap₂, ◌∙◌, ℕ, ◌≤◌, ◌<◌, Bool, true, false, not, List, [], ◌∷◌, ◌++◌, length, Option, Some, None, is_some, nat_lt, if◌then◌else◌, arith}
+use Rattle.std.proofs.Common.{◌≡◌, sym, ap, ap₂, ◌∙◌, ℕ, ◌≤◌, ◌<◌, ◌⊎◌, inl, Bool, true, false, not, List, [], ◌∷◌, ◌++◌, length, Option, Some, None, is_some, nat_lt, if◌then◌else◌, arith}
 use Rattle.pdl_semantics.specs.Flat.{Arrays, Array, Pipe, of_mem, word_at}
 use Rattle.pdl_semantics.specs.Stages.{mem_at, commit_stage, reserve_stage}
 use Rattle.pdl_semantics.specs.Locks.{Nothing, value_or, read_ready}
@@ -20,6 +20,7 @@ use Rattle.pdl_theory_turns.proofs.TurnFacts.{Below, blocked_at, right_guess, ne
 use Rattle.pdl_theory_turns.proofs.Lives.{Writes, Marks, Clean, RowsAt, nobody}
 use Rattle.pdl_theory_turns.proofs.Courses.{Course}
 use Rattle.pdl_theory_facts.specs.Facts.{is_exact}
+use Rattle.pdl_theory_refinement.proofs.Unsure.{Unsure}
 use Rattle.pdl_theory_turns.proofs.ThreadOrder.{Under, AllUnder, Moves, all_low}
 use Rattle.pdl_theory_derived.proofs.DelayedReads.{caught, still_asks, still_awaited, none_awaited, Apart, AllAsks, all_more, all_both, Out, RightWord, answers_caught}
 
@@ -89,17 +90,19 @@ pub record Waits (p : Pipe) (acc : Course p) (asked : List (Option ℕ)) (v : Ma
   pub out : AllAsks (Out asked) sp.asks
   pub sure : AllAsks (Sure p acc v sp.stage) sp.asks
 
--- the thread of a turn on a spot, behind older ones in these stages: w has the sequential writes before the turn, past the commits so far, v the older threads' undone writes
+-- the thread of a turn on a spot, behind older ones in these stages, of which it has passed no barrier while the next one isn't sure: w has the sequential writes before the turn, past the commits so far, v the older threads' undone writes
 pub record Here (p : Pipe) (acc : Course p) (asked : List (Option ℕ)) (past w : Writes) (v : Marks) (arrays : Arrays)
     (args : List ℕ) (ahead : List ℕ) (sp : Spot) (last : Bool) : Type 0 where
   pub under : AllUnder p ahead sp.stage
   pub on : acc.on arrays args sp.stage
-  pub words : (m : ℕ) → sp.stage ≤ commit_stage p m → w m ≡ past m ++ strips m (v m)
+  pub words : (m : ℕ) → (sp.stage ≤ commit_stage p m) ⊎ Unsure p acc.v ahead → w m ≡ past m ++ strips m (v m)
   pub clean : Right p sp.stage (Clean p v) (blocked_at p arrays args sp.stage) (so_far p arrays args sp.stage).env
   pub linked : right_guess (so_far p arrays args sp.stage).child (thread p arrays args).next ≡ not last
   pub waits : Waits p acc asked v arrays args sp
+  pub calm : Unsure p acc.v ahead → acc.stray (seat p arrays args sp)
 
 -- each spot is as `Here` says, and the commits with all undone writes are the writes of the turns
+
 abbrev pub Standing : (p : Pipe) → Course p → List (Option ℕ) → Writes → Writes → Marks → Arrays → List ℕ → List ℕ → List Spot → Type 0
 Standing p acc asked past w v arrays args ahead [] = (m : ℕ) → w m ≡ past m ++ strips m (v m)
 Standing p acc asked past w v arrays args ahead (sp ∷ sps) =
@@ -132,7 +135,7 @@ module _ (p : Pipe) (acc : Course p) (image : Arrays) (st : State) (past : Write
       ready_value m a (mem_at p m).lock (v m) (row st.arrays m) (b.plain m) k
       ∙ ap (λ (l : Array). l a)
       (ap (λ l. wrote l (strips m (v m))) (rows m) ∙ sym (wrote_append (past m) (strips m (v m)) (row image m))
-      ∙ ap (wrote (row image m)) (sym (h.words m c)) ∙ sym (rows' m))
+      ∙ ap (wrote (row image m)) (sym (h.words m (inl c))) ∙ sym (rows' m))
 
   -- the surroundings of a thread are right for its turn
   pub surrounds : (bits : List Bool) (older : List Act) (v v' : Marks) (d w : Writes) (asks : ℕ → Option ℕ)
@@ -206,7 +209,7 @@ module _ (p : Pipe) (acc : Course p) (image : Arrays) (st : State) (past : Write
 -- the threads after a wrong guess, behind this stage: each but the youngest has made its successor
 abbrev pub Strays : (p : Pipe) → (Thread → Type 0) → (Thread → Bool) → ℕ → List Thread → Type 0
 Strays p stray made bound [] = Unit {0}
-Strays p stray made bound (t ∷ ts) = stray t × Below p bound t.stage × (made t ≡ not (nobody ts)) × Strays p stray made t.stage ts
+Strays p stray made bound (t ∷ ts) = stray t × Below p [] bound t.stage × (made t ≡ not (nobody ts)) × Strays p stray made t.stage ts
 
 -- the threads behind the last one that is on its turn
 abbrev pub Last : (p : Pipe) → (Thread → Type 0) → (Thread → Bool) → ℕ → Option (List ℕ) → List Thread → Type 0

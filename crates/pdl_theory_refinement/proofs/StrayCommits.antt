@@ -1,16 +1,18 @@
 -- Threads after a wrong guess, in the whole language, commit nothing, and stay behind the thread that guessed.
-use Rattle.std.proofs.Common.{◌≡◌, refl, sym, ap, ap₂, ◌∙◌, subst, ℕ, ◌≤◌, ◌<◌, Bool, true, false, ◌&&◌, ◌||◌, not, List, [], ◌∷◌, ◌++◌, length, Option, Some, None, is_none, is_some, nat_lt, cond, if◌then◌else◌, arith, le_of_lt, le_refl, ltb-true, ltb-false, lt_of_lt_of_le, lt-ltb}
+use Rattle.std.proofs.Common.{◌≡◌, refl, sym, ap, ap₂, ◌∙◌, subst, ℕ, ◌≤◌, ◌<◌, inl, inr, Bool, true, false, ◌&&◌, ◌||◌, not, List, [], ◌∷◌, ◌++◌, length, Option, Some, None, is_none, is_some, nat_lt, cond, if◌then◌else◌, arith, le_of_lt, le_refl, ltb-true, ltb-false, lt_of_lt_of_le, lt-ltb}
 use Rattle.pdl_semantics.specs.Flat.{Pipe}
 use Rattle.pdl_semantics.specs.Stages.{list_any, verify_stage}
-use Rattle.pdl_semantics.specs.Machine.{Awaited}
-use Rattle.pdl_semantics.specs.Moves.{is_empty}
 use Rattle.pdl_theory_derived.specs.Derived.{Thread, State, Act, work_of_stage, around, act, acts, befores, survivors, commits_of, moved_to, born_threads, exit_of, barrier_clear, answered_thread}
 use Rattle.pdl_theory_derived.proofs.Writes.{and_left, and_right}
 use Rattle.pdl_theory_turns.proofs.TurnFacts.{Below, Trunk, next_of}
+use Rattle.pdl_theory_facts.proofs.Nested.{within_all}
 use Rattle.pdl_theory_turns.proofs.Strays.{Ahead, enter_next, step_below}
 use Rattle.pdl_theory_turns.proofs.Lives.{nobody}
 use Rattle.pdl_theory_turns.proofs.Courses.{Course, Strayed, onward}
+use Rattle.pdl_theory_turns.proofs.Guesses.{Changed}
+use Rattle.pdl_theory_refinement.proofs.Unsure.{same_none}
 use Rattle.pdl_theory_refinement.proofs.Spots.{Strays}
+use Rattle.pdl_theory_refinement.proofs.Cycles.{none_left}
 use Rattle.pdl_word.proofs.Bools.{by_bool}
 
 -- what a cycle leaves of the threads after a wrong guess: nothing committed, none ended, all behind the one that guessed
@@ -21,7 +23,7 @@ pub record StraysAfter (p : Pipe) (stray : Thread → Type 0) (made : Thread →
   pub same : nobody (survivors p these) ≡ none
 
 ahead_next : (p : Pipe) (v : ℕ) (older : List Act) (bound bound' s s' : ℕ) (a : Act) → Ahead p v older bound bound'
-    → s ≤ v → Below p bound s → s ≤ s' → a.before.stage ≡ s → (a.moves ≡ true → s < s') → Ahead p v (a ∷ older) s s'
+    → s ≤ v → Below p [] bound s → s ≤ s' → a.before.stage ≡ s → (a.moves ≡ true → s < s') → Ahead p v (a ∷ older) s s'
 ahead_next p v older bound bound' s s' a h low b up is moved =
     record { low = low; enter = enter_next p older a s s' is moved; grows = up; unclear = λ r k t. none _ _ (h.unclear r (b r t (le_of_lt k)) t) }
   where
@@ -31,7 +33,7 @@ ahead_next p v older bound bound' s s' a h low b up is moved =
 
 -- a stray thread that stands
 stray_stands : (p : Pipe) (f : Course p) (a : Act) (rest : List Act) (bound' : ℕ) (none : Bool)
-    → a.moves ≡ false → f.stray a.now → Below p bound' a.now.stage → f.made a.now ≡ not none
+    → a.moves ≡ false → f.stray a.now → Below p [] bound' a.now.stage → f.made a.now ≡ not none
     → StraysAfter p f.stray f.made a.now.stage none rest → StraysAfter p f.stray f.made bound' false (a ∷ rest)
 stray_stands p f a rest bound' none stays s low made r =
     record {
@@ -50,7 +52,7 @@ stray_stands p f a rest bound' none stays s low made r =
 -- one that moves
 stray_moves : (p : Pipe) (f : Course p) (t : Thread) (a : Act) (rest : List Act) (bound' n : ℕ) (none : Bool)
     → a.moves ≡ true → Strayed p f.stray f.made t a.work → exit_of p a ≡ Some n → n ≡ next_of p t.stage a.work.env
-    → 0 < n → Below p bound' n → f.made t ≡ not none → StraysAfter p f.stray f.made n none rest
+    → 0 < n → Below p [] bound' n → f.made t ≡ not none → StraysAfter p f.stray f.made n none rest
     → StraysAfter p f.stray f.made bound' false (a ∷ rest)
 stray_moves p f t a rest bound' n none goes h out is more low made r =
     record {
@@ -58,63 +60,88 @@ stray_moves p f t a rest bound' n none goes h out is more low made r =
       strays = subst (λ l. Strays p f.stray f.made bound' l) (sym survive) (
         subst (λ k. f.stray (onward k a.work)) (sym is) h.goes_on,
         low,
-        subst (λ k. f.made (onward k a.work) ≡ (f.made t || is_some a.work.child)) (sym is) h.made_next ∙ linked a.work.child refl none refl,
-        behind a.work.child refl none refl,
+        subst (λ k. f.made (onward k a.work) ≡ (f.made t || is_some a.work.child)) (sym is) h.made_next ∙ linked a.work.child refl,
+        behind a.work.child refl,
       );
       ended = ap (λ b. (b && is_none (exit_of p a)) || list_any (λ o. o.moves && is_none (exit_of p o)) rest) goes ∙ ap₂ (λ x y. is_none x || y) out r.ended;
       same = ap nobody survive;
     }
   where
-    survive : survivors p (a ∷ rest) ≡ onward n a.work ∷ (born_threads p a.work.child ++ survivors p rest)
+    clash : false ≡ true → ⊥
+    clash k = cc
+
+    not_some : {x : List ℕ} → None ≡ Some x → ⊥
+    not_some k = cc
+
+    empty : (l : List Thread) → nobody l ≡ true → l ≡ []
+    empty [] i = refl
+    empty (y ∷ l) i = absurd (cc i)
+
+    -- those behind it that are left
+    left : List Thread
+    left = if a.work.fails then [] else survivors p rest
+
+    survive : survivors p (a ∷ rest) ≡ onward n a.work ∷ (born_threads p a.work.child ++ left)
     survive =
         ap
         (λ b. cond b (moved_to (exit_of p a) a.work ++ (born_threads p a.work.child ++ (if a.work.fails then [] else survivors p rest)))
         (a.now ∷ survivors p rest)) goes
         ∙ ap (λ x. moved_to x a.work ++ (born_threads p a.work.child ++ (if a.work.fails then [] else survivors p rest))) out
-        ∙ ap (λ b. onward n a.work ∷ (born_threads p a.work.child ++ cond b [] (survivors p rest))) h.fails
 
-    begins : Below p n 0
+    begins : Below p [] n 0
     begins r trunk k = omega arith
 
-    alone' : (x : List ℕ) → a.work.child ≡ Some x → (b : Bool) → none ≡ b → none ≡ true
-    alone' x e true g = g
-    alone' x e false g = absurd (clash (sym (h.once (made ∙ ap not g)) ∙ e))
-      where
-        clash : None ≡ Some x → ⊥
-        clash i = cc
+    nothing_left : none ≡ true → left ≡ []
+    nothing_left g = same_none a.work.fails (survivors p rest) (empty (survivors p rest) (r.same ∙ g))
 
-    linked : (c : Option (List ℕ)) → a.work.child ≡ c → (b : Bool) → none ≡ b
-        → (f.made t || is_some a.work.child) ≡ not (nobody (born_threads p a.work.child ++ survivors p rest))
-    linked None e b g =
+    -- it makes one, which is alone behind it
+    alone' : (x : List ℕ) → a.work.child ≡ Some x → left ≡ []
+    alone' x e = at none refl
+      where
+        at : (b : Bool) → none ≡ b → left ≡ []
+        at true g = nothing_left g
+        at false g = changed (h.once (made ∙ ap not g))
+          where
+            changed : Changed a.work → left ≡ []
+            changed (inl k) = absurd (not_some (sym k.0 ∙ e))
+            changed (inr k) = ap (λ b. cond b [] (survivors p rest)) k.2
+
+    -- it makes none, and all stay
+    kept : a.work.child ≡ None → left ≡ survivors p rest
+    kept e = at none refl
+      where
+        at : (b : Bool) → none ≡ b → left ≡ survivors p rest
+        at true g = nothing_left g ∙ sym (empty (survivors p rest) (r.same ∙ g))
+        at false g = changed (h.once (made ∙ ap not g))
+          where
+            changed : Changed a.work → left ≡ survivors p rest
+            changed (inl k) = ap (λ b. cond b [] (survivors p rest)) k.1
+            changed (inr k) = absurd (not_some (sym e ∙ k.1))
+
+    linked : (c : Option (List ℕ)) → a.work.child ≡ c → (f.made t || is_some a.work.child) ≡ not (nobody (born_threads p a.work.child ++ left))
+    linked None e =
         ap (λ c. f.made t || is_some c) e ∙ or_none (f.made t) ∙ made ∙ ap not (sym r.same)
-        ∙ ap (λ c. not (nobody (born_threads p c ++ survivors p rest))) (sym e)
+        ∙ ap (λ l. not (nobody l)) (sym (kept e)) ∙ ap (λ c. not (nobody (born_threads p c ++ left))) (sym e)
       where
         or_none : (x : Bool) → (x || false) ≡ x
         or_none true = refl
         or_none false = refl
-    linked (Some x) e b g = ap (λ c. f.made t || is_some c) e ∙ or_some (f.made t) ∙ ap (λ c. not (nobody (born_threads p c ++ survivors p rest))) (sym e)
+    linked (Some x) e = ap (λ c. f.made t || is_some c) e ∙ or_some (f.made t) ∙ ap (λ c. not (nobody (born_threads p c ++ left))) (sym e)
       where
         or_some : (y : Bool) → (y || true) ≡ true
         or_some true = refl
         or_some false = refl
 
-    behind : (c : Option (List ℕ)) → a.work.child ≡ c → (b : Bool) → none ≡ b → Strays p f.stray f.made n (born_threads p a.work.child ++ survivors p rest)
-    behind None e b g = subst (λ c. Strays p f.stray f.made n (born_threads p c ++ survivors p rest)) (sym e) r.strays
-    behind (Some x) e b g =
-        subst (λ c. Strays p f.stray f.made n (born_threads p c ++ survivors p rest)) (sym e) (
+    behind : (c : Option (List ℕ)) → a.work.child ≡ c → Strays p f.stray f.made n (born_threads p a.work.child ++ left)
+    behind None e =
+        subst (λ c. Strays p f.stray f.made n (born_threads p c ++ left)) (sym e) (subst (λ l. Strays p f.stray f.made n l) (sym (kept e)) r.strays)
+    behind (Some x) e =
+        subst (λ c. Strays p f.stray f.made n (born_threads p c ++ left)) (sym e) (
           (h.born x e).0,
           begins,
-          (h.born x e).1 ∙ ap not (sym (r.same ∙ alone' x e b g)),
-          subst (λ l. Strays p f.stray f.made 0 l) (sym (empty (survivors p rest) (r.same ∙ alone' x e b g))) tt,
+          (h.born x e).1 ∙ ap (λ l. not (nobody l)) (sym (alone' x e)),
+          subst (λ l. Strays p f.stray f.made 0 l) (sym (alone' x e)) tt,
         )
-      where
-        empty : (l : List Thread) → nobody l ≡ true → l ≡ []
-        empty [] i = refl
-        empty (y ∷ l) i = absurd (cc i)
-
-none_left : (rs : List Awaited) → is_empty rs ≡ true → rs ≡ []
-none_left [] h = refl
-none_left (r ∷ rs) h = absurd (cc h)
 
 -- a cycle of the threads after a wrong guess
 pub strays_cycle : (p : Pipe) (f : Course p)
@@ -139,9 +166,9 @@ strays_cycle p f vis st bits older bound bound' (t ∷ ts) h s =
     f.stray_step (around p st bits older t.stage) (answered_thread p st bits t) now.0 done deep clear ready in
     let up : t.stage < next_of p t.stage (act p st bits older t).work.env = f.graph.up t.stage _ low in
     let in_pipe : next_of p t.stage (act p st bits older t).work.env < length p.stages =
-    inner (f.graph.jump t.stage (act p st bits older t).work.env f.v low f.trunk_v deep) in
-    let below : Below p bound' (next_of p t.stage (act p st bits older t).work.env) =
-    step_below p f.graph older bound bound' t.stage (act p st bits older t).work.env h.grows (omega arith)
+    inner (f.graph.jump [] t.stage (act p st bits older t).work.env f.v low (within_all p t.stage) f.trunk_v deep) in
+    let below : Below p [] bound' (next_of p t.stage (act p st bits older t).work.env) =
+    step_below p f.graph older [] bound bound' t.stage (act p st bits older t).work.env (within_all p bound) (within_all p t.stage) h.grows (omega arith)
     (λ k. absurd (omega arith)) h.enter s.1 low (and_right _ _ e) in
     stray_moves p f (answered_thread p st bits t) (act p st bits older t)
     (acts p st bits (act p st bits older t ∷ older) ts) bound' (next_of p t.stage (act p st bits older t).work.env)

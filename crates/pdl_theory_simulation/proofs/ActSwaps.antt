@@ -115,7 +115,7 @@ plain_op : (read : ℕ → ℕ → ℕ) (op : Op) (d : Deeds)
 plain_op read (ReserveWrite m a) d h = absurd (cc h)
 plain_op read (Call args) d h = absurd (cc h)
 plain_op read (SpecCall args) d h = absurd (cc h)
-plain_op read (Verify args) d h = absurd (cc h)
+plain_op read (Verify last args) d h = absurd (cc h)
 plain_op read _ d h = (refl, refl, refl)
 
 -- statements that may stand in a branch reserve nothing for writing, make no thread and fail no verify

@@ -3,8 +3,9 @@ use Rattle.std.specs.Prelude.{◌≡◌, ◌⊎◌, ℕ, suc, ◌<◌, ◌≤◌
 use Rattle.pdl_semantics.specs.Flat.{Op, Bind, CombRead, DelayedRead, Write, ReserveRead, ReserveWrite, Block, Release, Call, SpecCall, Verify, SpecCheck, SpecBarrier, Stmt, Forks, Branch, Pipe, all_hold}
 use Rattle.pdl_semantics.specs.Stages.{onpath, in_stage, stage_at, is_inside, goes_to, verify_stage, commit_stage, reserve_stage, is_reserve, is_release, is_verify}
 use Rattle.pdl_semantics.specs.Cycle.{merges_by}
+use Rattle.pdl_semantics.specs.Stages.{is_check}
 use Rattle.pdl_semantics.specs.Sound.{stages_before, stages_from, is_fetch, is_call, is_delayed_read}
-pub use Rattle.pdl_theory_facts.specs.Graphs.{stage_or, next_of, on_side}
+pub use Rattle.pdl_theory_facts.specs.Graphs.{Home, Within, Trunk, Below, Way, stage_or, next_of, on_side, goes_by}
 use Rattle.pdl_theory_derived.specs.Alone.{is_among}
 use Rattle.pdl_theory_facts.specs.Scans.{Phase, Fresh, next_phase, may_write, is_new, is_over, phase_all, all_at, none_of, binds_var, is_fixed}
 pub use Rattle.pdl_theory_facts.specs.Facts.{trunk_only, binds_guard, is_fetch_of, comes_by, visits_stage}
@@ -21,7 +22,7 @@ sets x (Block m a) = false
 sets x (Release m a) = false
 sets x (Call args) = false
 sets x (SpecCall args) = false
-sets x (Verify args) = false
+sets x (Verify last args) = false
 sets x SpecCheck = false
 sets x SpecBarrier = false
 
@@ -42,7 +43,7 @@ use_ok m ph (ReserveRead n a) = true
 use_ok m ph (Block n a) = true
 use_ok m ph (Call args) = true
 use_ok m ph (SpecCall args) = true
-use_ok m ph (Verify args) = true
+use_ok m ph (Verify last args) = true
 use_ok m ph SpecCheck = true
 use_ok m ph SpecBarrier = true
 
@@ -53,7 +54,7 @@ uses_ok m ph (x ∷ xs) = use_ok m ph x.op && uses_ok m (next_phase m ph x.op) x
 
 -- whether no second thread is called, and each verify follows the call
 abbrev pub call_ok : Bool → Op → Bool
-call_ok been op = not (been && is_call op) && (been || not (is_verify op))
+call_ok been op = not (been && is_call op) && (been || not (is_check op))
 
 -- these statements call no second thread, and each verify among them follows the call
 abbrev pub calls_ok : Bool → List Stmt → Bool
@@ -68,50 +69,42 @@ SameBut test xs env env' = (g : ℕ) → none_of (test g) xs ≡ true → slice_
 abbrev pub Leads : Pipe → ℕ → ℕ → Type 0
 Leads p s q = (path : List ℕ) × (goes_to (stage_at p s).next path ≡ Some q) × (s < length p.stages)
 
--- each trunk stage up to s is smaller than b
-abbrev pub Below : Pipe → ℕ → ℕ → Type 0
-Below p s b = (r : ℕ) → (stage_at p r).branch ≡ None → r ≤ s → r < b
-
 -- the stage graph, by the ways from a stage to the next one (follows from Graph and Branches of Graphs)
 pub record Ways (p : Pipe) : Type 0 where
   pub some_stage : 0 < length p.stages
-  pub trunk_start : (stage_at p 0).branch ≡ None
+  pub trunk_start : Trunk p 0
   -- a next stage has a greater number, and only the last stage, a trunk stage, has none
   pub up : (s q : ℕ) → Leads p s q → (s < q) × (q < length p.stages)
   pub last : (s : ℕ) (path : List ℕ) → s < length p.stages → goes_to (stage_at p s).next path ≡ None
-      → (suc s ≡ length p.stages) × ((stage_at p s).branch ≡ None)
-  -- no trunk stage is passed over
-  pub jump : (s q r : ℕ) → Leads p s q → (stage_at p r).branch ≡ None → s < r → r ≤ q → r ≡ q
-  -- what stands between the trunk stages that were reached and the next trunk stage q stands inside the fork that q merges
-  pub between : (s q b : ℕ) → Leads p s q → (stage_at p q).branch ≡ None → Below p s b → b < q
+      → (suc s ≡ length p.stages) × Trunk p s
+  -- inside a branch no stage of just this branch is passed over, nor is one of the trunk
+  pub jump : (c : List Branch) (s q r : ℕ) → Leads p s q → Within p c s → Home p c r → s < r → r ≤ q → r ≡ q
+  -- what stands in a branch between its stages that were reached and its next one stands inside the fork that this one merges
+  pub between : (c : List Branch) (s q b : ℕ) → Leads p s q → Within p c s → Home p c q → Below p c b s → Within p c b → b < q
       → (f : ℕ) × ((stage_at p q).merges ≡ Some f) × (is_inside p f b ≡ true)
-  -- into a branch a thread comes from the same branch or from the fork, and passes over no stage of it
-  pub into : (s q : ℕ) (x : Branch) → Leads p s q → (stage_at p q).branch ≡ Some x
-      → ((stage_at p s).branch ≡ Some x) ⊎ ((s ≡ x.fork) × ((stage_at p s).branch ≡ None))
-  pub next_in : (s q b : ℕ) (x : Branch) → Leads p s q → (stage_at p q).branch ≡ Some x → (stage_at p b).branch ≡ Some x → s < b → q ≤ b
-  -- out of a branch it comes into the merge
-  pub out_of : (s q : ℕ) (x : Branch) → Leads p s q → (stage_at p s).branch ≡ Some x → ((stage_at p q).branch ≡ Some x) ⊎ ((stage_at p q).merges ≡ Some x.fork)
-  -- a branch's stages stand after its fork, a trunk stage
-  pub fork_below : (s : ℕ) (x : Branch) → (stage_at p s).branch ≡ Some x → (x.fork < s) × ((stage_at p x.fork).branch ≡ None)
-  -- into a merge, a trunk stage, a thread comes straight from the fork or from the last stage of a branch
+  -- a way stays in its branches, enters one more from its fork, or leaves the innermost one into the merge
+  pub way : (s q : ℕ) → Leads p s q → Way p s q
+  pub entry : (x : Branch) (c : List Branch) (q r : ℕ) → Leads p x.fork q → Home p (x ∷ c) q → Within p (x ∷ c) r → q ≤ r
+  -- a branch's stages stand after its fork, which stands in the branches around it
+  pub fork_below : (x : Branch) (c : List Branch) (s : ℕ) → Within p (x ∷ c) s → Home p c x.fork × (x.fork < s)
+  -- into a merge a thread comes straight from the fork or from the last stage of a branch
   pub merge : (s q f : ℕ) → Leads p s q → (stage_at p q).merges ≡ Some f
-      → ((stage_at p q).branch ≡ None)
-      × (((s ≡ f) × ((stage_at p s).branch ≡ None))
-      ⊎ ((x : Branch) × ((stage_at p s).branch ≡ Some x) × (x.fork ≡ f) × ((b : ℕ) → (stage_at p b).branch ≡ Some x → b ≤ s)))
-  -- a fork whose merge is no later than the verifies' stage v is wholly before v, any other is not before v
-  pub merged : (v f b : ℕ) → verify_stage p.stmts ≡ Some v → is_inside p f b ≡ true → merges_by p f (Some v) ≡ true → b < v
-  pub unmerged : (v f b : ℕ) → verify_stage p.stmts ≡ Some v → is_inside p f b ≡ true → merges_by p f (Some v) ≡ false → v ≤ f
+      → ((s ≡ f) × ((stage_at p q).branches ≡ (stage_at p s).branches))
+      ⊎ ((x : Branch) × ((stage_at p s).branches ≡ x ∷ (stage_at p q).branches) × (x.fork ≡ f) × ((b : ℕ) → Within p (x ∷ (stage_at p q).branches) b → b ≤ s))
+  -- a fork whose merge is no later than a trunk stage v is wholly before v, any other is not before v
+  pub merged : (v f b : ℕ) → v < length p.stages → Trunk p v → is_inside p f b ≡ true → merges_by p f (Some v) ≡ true → b < v
+  pub unmerged : (v f b : ℕ) → v < length p.stages → Trunk p v → is_inside p f b ≡ true → merges_by p f (Some v) ≡ false → v ≤ f
 
 -- the facts. A path is a list of values of all variables, of which those of guards count
 pub record Flows (p : Pipe) : Type 0 where
   pub graph : Ways p
   -- F1: a branch holds no reserve, release, call or statement of guesses
-  pub branches : (s : ℕ) (x : Branch) → (stage_at p s).branch ≡ Some x → none_of trunk_only (in_stage s p.stmts) ≡ true
+  pub branches : (x : Branch) (c : List Branch) (s : ℕ) → Home p (x ∷ c) s → none_of trunk_only (in_stage s p.stmts) ≡ true
   -- L2, F1: a memory's reserves stand in one trunk stage, and so do its releases; S3: the verifies stand in one stage
   pub reserves : (m : ℕ) → all_at (is_reserve m) (reserve_stage p m) p.stmts ≡ true
   pub releases : (m : ℕ) → all_at (is_release m) (commit_stage p m) p.stmts ≡ true
-  pub trunk_reserve : (m : ℕ) → (stage_at p (reserve_stage p m)).branch ≡ None
-  pub trunk_commit : (m : ℕ) → (stage_at p (commit_stage p m)).branch ≡ None
+  pub trunk_reserve : (m : ℕ) → Trunk p (reserve_stage p m)
+  pub trunk_commit : (m : ℕ) → Trunk p (commit_stage p m)
   pub verifies : (v : ℕ) → verify_stage p.stmts ≡ Some v → all_at is_verify v p.stmts ≡ true
   -- N2, N3: each variable has one definition, before each use, so a guard's variable is not bound where it is tested or later in the text
   pub fixed_guards : is_fixed p.stmts ≡ true
@@ -161,12 +154,12 @@ DefinedBy s op r = (s ≤ r) × (is_fetch op ≡ true → s < r)
 pub record FlowRules (p : Pipe) : Type 0 where
   pub graph : Ways p
   -- F1
-  pub branches : (s : ℕ) (x : Branch) → (stage_at p s).branch ≡ Some x → none_of trunk_only (in_stage s p.stmts) ≡ true
+  pub branches : (x : Branch) (c : List Branch) (s : ℕ) → Home p (x ∷ c) s → none_of trunk_only (in_stage s p.stmts) ≡ true
   -- L2, F1, S3
   pub reserves : (m : ℕ) → all_at (is_reserve m) (reserve_stage p m) p.stmts ≡ true
   pub releases : (m : ℕ) → all_at (is_release m) (commit_stage p m) p.stmts ≡ true
-  pub trunk_reserve : (m : ℕ) → (stage_at p (reserve_stage p m)).branch ≡ None
-  pub trunk_commit : (m : ℕ) → (stage_at p (commit_stage p m)).branch ≡ None
+  pub trunk_reserve : (m : ℕ) → Trunk p (reserve_stage p m)
+  pub trunk_commit : (m : ℕ) → Trunk p (commit_stage p m)
   pub verifies : (v : ℕ) → verify_stage p.stmts ≡ Some v → all_at is_verify v p.stmts ≡ true
   -- N2, N3: a guard's variable is bound nowhere but before it in the text
   pub fixed_guards : is_fixed p.stmts ≡ true
@@ -181,8 +174,9 @@ pub record FlowRules (p : Pipe) : Type 0 where
   -- N2, N3: the definition of a guard's variable stands before each use of a path, a delayed read's before the separator before it
   pub guards_late : (path : List ℕ)
       → AllOf (λ z. all_hold z.guards path ≡ true → AllOf (λ y. binds_guard y.op z.guards ≡ true → DefinedBy y.stage y.op z.stage) p.stmts) p.stmts
-  -- and that of a fork's guard before the fork
-  pub forks_late : (s x a b : ℕ) → (stage_at p s).next ≡ Forks x a b → AllOf (λ y. binds_var x y.op ≡ true → DefinedBy y.stage y.op s) p.stmts
+  -- and that of a fork's guard before the fork, where some path comes to it
+  pub forks_late : (path : List ℕ) (s x a b : ℕ) → visits_stage p path s ≡ true → (stage_at p s).next ≡ Forks x a b
+      → AllOf (λ y. binds_var x y.op ≡ true → DefinedBy y.stage y.op s) p.stmts
   -- L1, L4 to L7
   pub uses : (path : List ℕ) (m : ℕ) → uses_ok m Fresh (onpath path p.stmts) ≡ true
   pub over : (path : List ℕ) (m : ℕ) → is_over (phase_all m Fresh (onpath path p.stmts)) ≡ true

@@ -1,5 +1,5 @@
 -- What the scans of locks and calls tell the simulation.
-use Rattle.std.proofs.Common.{◌≡◌, refl, ap, ap₂, ◌∙◌, ℕ, ◌&&◌, ◌||◌, not, List, [], ◌∷◌, Option, true}
+use Rattle.std.proofs.Common.{◌≡◌, refl, ap, ap₂, ◌∙◌, ℕ, ◌&&◌, ◌||◌, not, List, [], ◌∷◌, Option, true, false}
 use Rattle.pdl_semantics.specs.Flat.{Op, Write, ReserveWrite, Release, SpecCall, Verify, Call, Stmt}
 use Rattle.pdl_theory_facts.specs.Scans.{Phase, phase_ok, phases_ok, next_phase}
 use Rattle.pdl_theory_facts.specs.GuessScans.{Making, Unmade, Guessed, Made, next_making, is_unmade, making_ok, makings_ok}
@@ -25,15 +25,18 @@ call_of : (v : Option ℕ) (k : Making) (s : ℕ) (op : Op)
     → (call_ok (not (is_unmade k)) op ≡ true) × ((not (is_unmade k) || is_call op) ≡ not (is_unmade (next_making k op)))
 call_of v Unmade s (Call args) h = (refl, refl)
 call_of v Unmade s (SpecCall args) h = (refl, refl)
-call_of v Unmade s (Verify args) h = absurd (cc h)
+call_of v Unmade s (Verify true args) h = absurd (cc h)
+call_of v Unmade s (Verify false args) h = absurd (cc h)
 call_of v Unmade s _ h = (refl, refl)
 call_of v Guessed s (Call args) h = absurd (cc h)
 call_of v Guessed s (SpecCall args) h = absurd (cc h)
-call_of v Guessed s (Verify args) h = (refl, refl)
+call_of v Guessed s (Verify true args) h = (refl, refl)
+call_of v Guessed s (Verify false args) h = (refl, refl)
 call_of v Guessed s _ h = (refl, refl)
 call_of v Made s (Call args) h = absurd (cc h)
 call_of v Made s (SpecCall args) h = absurd (cc h)
-call_of v Made s (Verify args) h = absurd (cc h)
+call_of v Made s (Verify true args) h = absurd (cc h)
+call_of v Made s (Verify false args) h = absurd (cc h)
 call_of v Made s _ h = (refl, refl)
 
 -- statements that make the next thread in order have their calls in order

@@ -3,7 +3,7 @@ use Rattle.std.proofs.Common.{◌≡◌, refl, sym, ap, ap₂, ◌∙◌, subst,
 use Rattle.pdl_semantics.specs.Flat.{Pipe, list_all}
 use Rattle.pdl_semantics.specs.Stages.{list_any, stage_at, goes_to}
 use Rattle.pdl_semantics.specs.Machine.{State, with_answers}
-use Rattle.pdl_semantics.specs.Cycle.{awaited_of, coming_thread, or_then, squasher, child_of, is_kept}
+use Rattle.pdl_semantics.specs.Cycle.{awaited_of, coming_thread, or_then, squasher, squash_stage, child_of, is_kept}
 use Rattle.pdl_semantics.specs.Moves.{movers, next_stage}
 use Rattle.pdl_semantics.specs.Cycle
 use Rattle.pdl_theory_derived.specs.Derived.{Work, around, survivors, moved_to, born_threads, exit_of, fresh}
@@ -309,6 +309,23 @@ module _ (p : Pipe) (flows : Flows p) (st : State) (d : Derived.State) (bits : L
       at : (b : Bool) → (b || fell p d bits ls) ≡ false
           → (fell p d bits ls ≡ false → squasher (movers (lacts p st d bits ls)) ≡ None)
           → (if b then Some l.number else squasher (movers (lacts p st d bits ls))) ≡ None
+      at true g r = absurd (cc g)
+      at false g r = r g
+
+  -- its stage
+  pub squash_stage_is : (ls : List Live) → (l : Live) → Known p flows st d bits arrays ls l
+      → squash_stage (movers (lacts p st d bits (l ∷ ls))) ≡ (if (did p d bits ls l).moves && (work_of_live p d bits ls l).fails then Some l.thread.stage else squash_stage (movers (lacts p st d bits ls)))
+  squash_stage_is ls l h = at (did p d bits ls l).moves
+    where
+      at : (b : Bool) → squash_stage (cond b (lact p st d bits ls l ∷ movers (lacts p st d bits ls)) (movers (lacts p st d bits ls))) ≡ (if b && (work_of_live p d bits ls l).fails then Some l.thread.stage else squash_stage (movers (lacts p st d bits ls)))
+      at true = ap (λ f. if f then Some l.thread.stage else squash_stage (movers (lacts p st d bits ls))) (fails_is ls l h)
+      at false = refl
+
+  pub no_squash_stage : (ls : List Live) → AllKnown p flows st d bits arrays ls → fell p d bits ls ≡ false → squash_stage (movers (lacts p st d bits ls)) ≡ None
+  no_squash_stage [] k h = refl
+  no_squash_stage (l ∷ ls) k h = squash_stage_is ls l k.0 ∙ at ((did p d bits ls l).moves && (work_of_live p d bits ls l).fails) h (no_squash_stage ls k.1)
+    where
+      at : (b : Bool) → (b || fell p d bits ls) ≡ false → (fell p d bits ls ≡ false → squash_stage (movers (lacts p st d bits ls)) ≡ None) → (if b then Some l.thread.stage else squash_stage (movers (lacts p st d bits ls))) ≡ None
       at true g r = absurd (cc g)
       at false g r = r g
 

@@ -11,7 +11,7 @@ use Rattle.pdl_theory_turns.proofs.EntryCommits.{released}
 use Rattle.pdl_semantics.specs.Moves
 use Rattle.pdl_theory_derived.specs.Derived.{Entry, Work, around, commits_of}
 use Rattle.pdl_theory_derived.specs.Derived
-use Rattle.pdl_theory_simulation.proofs.FlowFacts.{Flows, stage_or, next_of}
+use Rattle.pdl_theory_simulation.proofs.FlowFacts.{Flows, stage_or, next_of, Trunk}
 use Rattle.pdl_theory_derived.proofs.Writes.{of_mem_append}
 use Rattle.pdl_theory_derived.proofs.Entries.{write_of}
 use Rattle.pdl_theory_turns.proofs.Turn.{quiet, none_in_stage}
@@ -19,7 +19,7 @@ use Rattle.pdl_theory_derived.proofs.Slots.{rev}
 use Rattle.pdl_theory_derived.proofs.Lists.{own, pend, Foreign, AllForeign, Reserveless, two_moved, two_stays}
 use Rattle.pdl_theory_turns.proofs.OwnEntries.{Worked, pend_own, quiet_reserves, quiet_releases}
 use Rattle.pdl_theory_simulation.proofs.LockRemovals.{Out, Still, out_more, foreign_append, foreign_pend, foreign_new, foreign_put_all, commits_more}
-use Rattle.pdl_theory_simulation.proofs.Stretches.{Behind, early, late, start_of}
+use Rattle.pdl_theory_simulation.proofs.Stretches.{Behind, left_trunk, early, late, start_of}
 use Rattle.pdl_theory_simulation.proofs.Seats.{Live, seat, each_map, Ordered, Falls, falls_up, dacts, lacts, lact, did, now_of, work_of_live, deeds_of, pends, pends_append}
 use Rattle.pdl_theory_simulation.proofs.Choices.{Known, AllKnown, Seated, worked_here, ends_here, late_here}
 use Rattle.pdl_word.specs.Each.{Each}
@@ -115,9 +115,9 @@ module _ (p : Pipe) (flows : Flows p) (st : State) (d : Derived.State) (bits : L
   three m (l ∷ ls) =
       three m ls ++ (if (did p d bits ls l).moves then pend m l.number (work_of_live p d bits ls l).entries else pend m l.number l.thread.entries)
 
-  past_of : (r : ℕ) (l : Live) (ls : List Live) → (stage_at p r).branch ≡ None
+  past_of : (r : ℕ) (l : Live) (ls : List Live) → Trunk p r
       → Each (λ k. Behind p l.thread.stage k.thread.stage) ls → r ≤ l.thread.stage → Past r ls
-  past_of r l ls t b h = each_map (λ k i. i.trunk r t h) ls b
+  past_of r l ls t b h = each_map (λ k i. left_trunk p _ _ i r t h) ls b
 
   -- the next stage of a thread is later than the one where it stands
   pub next_up : (s : ℕ) (env : List ℕ) → s < length p.stages → s < next_of p s env

@@ -13,7 +13,7 @@ use Rattle.pdl_theory_facts.specs.Scans.{none_of}
 use Rattle.pdl_theory_simulation.proofs.FlowFacts.{Flows}
 use Rattle.pdl_theory_derived.proofs.Writes.{and_left, and_right}
 use Rattle.pdl_theory_derived.proofs.Slots.{rev}
-use Rattle.pdl_theory_simulation.proofs.Stretches.{Behind}
+use Rattle.pdl_theory_simulation.proofs.Stretches.{Behind, less_home}
 use Rattle.pdl_theory_simulation.proofs.StretchSteps.{AsksFrom}
 use Rattle.pdl_theory_simulation.proofs.Seats.{Live, Ordered, dacts, lacts, lact, did, work_of_live, deeds_of}
 use Rattle.pdl_theory_simulation.proofs.Choices.{has_owner, Matched, one_stage, Known, AllKnown, told_here, asks_here}
@@ -236,7 +236,7 @@ module _ (p : Pipe) (flows : Flows p) (st : State) (d : Derived.State) (bits : L
           absurd (let h = asking_at m a ls k.1 e in
           let same : l.thread.stage ≡ h.0 = one_stage (is_delayed_read m) p.stmts l.thread.stage h.0 (flows.one_fetch m) (asks_at ls l k.0 m x g) h.1 in
           let behind : Behind p l.thread.stage h.0 = behind_someone p l.thread.stage h.0 ls o.0 h.2 in
-          let less : l.thread.stage < h.0 = behind.branch (ap (λ n. (stage_at p n).branch) same) in omega arith)
+          let less : l.thread.stage < h.0 = less_home p _ _ behind (ap (λ n. (stage_at p n).branches) same) in omega arith)
 
   -- the address of m that is asked for in the derived machine is that of the thread that asks for m
   pub finds_is : (m : ℕ) (ls : List Live) → AllKnown p flows st d bits arrays ls → Ordered p ls

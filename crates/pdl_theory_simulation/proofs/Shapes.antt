@@ -249,9 +249,9 @@ held_path s path (x ∷ xs) ls = at (nat_lt x.stage s) (all_hold x.guards path) 
 held_op : (o : Around) (op : Op) (w : Work) → places (work_after o op w).entries ≡ held_after op (places w.entries)
 held_op o (Write j a e) w = places_filled w.entries j a _
 held_op o (Release j a) w = places_without w.entries j a
-held_op o (Verify args) w = at (same_args (values_of args w.env) w.guess)
+held_op o (Verify last args) w = at (same_args (values_of args w.env) w.guess)
   where
-    at : (b : Bool) → places (cond b w (record w { child = Some (values_of args w.env); fails = true })).entries ≡ places w.entries
+    at : (b : Bool) → places (cond b w (record w { child = Some (values_of args w.env); guess = (values_of args w.env); fails = true })).entries ≡ places w.entries
     at true = refl
     at false = refl
 held_op o _ w = refl

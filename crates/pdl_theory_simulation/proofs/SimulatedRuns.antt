@@ -2,7 +2,7 @@
 use Rattle.std.proofs.Common.{◌≡◌, refl, sym, ap, ◌∙◌, subst, ℕ, zero, suc, Bool, true, false, List, [], ◌∷◌, ◌++◌, Some, None, ◌==◌, cond, arith, slice_index_or}
 use Rattle.std.proofs.lemmas.Bool.{eqb-true, eqb-false}
 use Rattle.pdl_semantics.specs.Flat.{Arrays, Pipe, Mem, Stage}
-use Rattle.pdl_semantics.specs.Sound.{side_in}
+use Rattle.pdl_semantics.specs.Stages.{sides_of}
 use Rattle.pdl_semantics.specs.Machine.{NoRequest, State, Pending}
 use Rattle.pdl_semantics.specs.Cycle.{for_mems, for_stages}
 use Rattle.pdl_semantics.specs.Cycle
@@ -71,7 +71,7 @@ module _ (p : Pipe) (flows : Flows p) where
         ordered = (tt, tt);
         seated = (record { keeps_on = keeps_fresh p flows p.start; kept_in = refl; owned = tt }, tt);
         have_made = tt;
-        forks = λ f. no_branches 0 f p.stages ∙ sym (ap (λ b. [] ++ side_in f b) flows.graph.trunk_start);
+        forks = λ f. no_branches 0 f p.stages ∙ sym (ap (λ b. [] ++ sides_of f b) flows.graph.trunk_start);
         requests = mems_same _ _ 0 p.mems (λ m. sym (no_request 0 m p.mems));
         asked = nothing_is 0 p.mems ∙ mems_same _ _ 0 p.mems (λ m. sym (nothing_at m p.mems));
         matched = λ m. subst (λ q. Matched q (asked_at (Derived.first p image) m) m (first_live ∷ [])) (sym (no_request 0 m p.mems)) (nothing_at m p.mems);

@@ -27,12 +27,12 @@ module _ (o : Around) (read : ℕ → ℕ → ℕ) (block : Blocked → Bool) (f
   step_op (ReserveWrite j a) ph d es cs h k g = step_reserve m n j a (slice_index d.env a) ph es (of_mem m cs) start d.reserves d.writes _ (j == m) refl k g
   step_op (Release j a) ph d es cs h k g =
       step_release m n j a ph es cs _ d.writes d.releases (is_held d.held j a) (ap (λ l. is_held l j a) (sym h) ∙ places_has es j a) (j == m) refl k g
-  step_op (Verify args) ph d es cs h k g = at (same_args (values_of args d.env) d.guess)
+  step_op (Verify last args) ph d es cs h k g = at (same_args (values_of args d.env) d.guess)
     where
       at : (b : Bool)
-          → Here o read block free m n start ph (cond b d (record d { child = Some (values_of args d.env); fails = true }))
+          → Here o read block free m n start ph (cond b d (record d { child = Some (values_of args d.env); guess = values_of args d.env; fails = true }))
           (cond b (work_of o read block free d es cs)
-          (record (work_of o read block free d es cs) { child = Some (values_of args d.env); fails = true }))
+          (record (work_of o read block free d es cs) { child = Some (values_of args d.env); guess = values_of args d.env; fails = true }))
       at true = g
       at false = g
   step_op _ ph d es cs h k g = g
@@ -94,9 +94,9 @@ set_stays env x g v h = sym (get_or-set_other env x g v 0 apart)
 op_sets : (g : ℕ) (o : Around) (op : Op) (w : Work) → not (sets g op) ≡ true → slice_index w.env g ≡ slice_index (work_after o op w).env g
 op_sets g o (Bind x e) w h = set_stays w.env x g _ h
 op_sets g o (CombRead x m a) w h = set_stays w.env x g _ h
-op_sets g o (Verify args) w h = at (same_args (values_of args w.env) w.guess)
+op_sets g o (Verify last args) w h = at (same_args (values_of args w.env) w.guess)
   where
-    at : (b : Bool) → slice_index w.env g ≡ slice_index (cond b w (record w { child = Some (values_of args w.env); fails = true })).env g
+    at : (b : Bool) → slice_index w.env g ≡ slice_index (cond b w (record w { child = Some (values_of args w.env); guess = values_of args w.env; fails = true })).env g
     at true = refl
     at false = refl
 op_sets g o _ w h = refl
@@ -134,10 +134,10 @@ op_asks g o (DelayedRead x m a) w h = more w.asks
     more : (qs : List Ask) → awaits_var (awaited_of (qs ++ record { mem = m; var = x; address = slice_index w.env a } ∷ [])) g ≡ awaits_var (awaited_of qs) g
     more [] = off (x == g) h
     more (q ∷ qs) = ap (λ b. (q.var == g) || b) (more qs)
-op_asks g o (Verify args) w h = at (same_args (values_of args w.env) w.guess)
+op_asks g o (Verify last args) w h = at (same_args (values_of args w.env) w.guess)
   where
     at : (b : Bool)
-        → awaits_var (awaited_of (cond b w (record w { child = Some (values_of args w.env); fails = true })).asks) g ≡ awaits_var (awaited_of w.asks) g
+        → awaits_var (awaited_of (cond b w (record w { child = Some (values_of args w.env); guess = values_of args w.env; fails = true })).asks) g ≡ awaits_var (awaited_of w.asks) g
     at true = refl
     at false = refl
 op_asks g o _ w h = refl
@@ -210,9 +210,9 @@ op_from all o (DelayedRead x m a) w f h = more w.asks h
     more : (qs : List Ask) → AsksFrom all qs → AsksFrom all (qs ++ record { mem = m; var = x; address = slice_index w.env a } ∷ [])
     more [] k = (f m (ap not same), tt)
     more (q ∷ qs) k = (k.0, more qs k.1)
-op_from all o (Verify args) w f h = at (same_args (values_of args w.env) w.guess)
+op_from all o (Verify last args) w f h = at (same_args (values_of args w.env) w.guess)
   where
-    at : (b : Bool) → AsksFrom all (cond b w (record w { child = Some (values_of args w.env); fails = true })).asks
+    at : (b : Bool) → AsksFrom all (cond b w (record w { child = Some (values_of args w.env); guess = values_of args w.env; fails = true })).asks
     at true = h
     at false = h
 op_from all o _ w f h = h
@@ -272,10 +272,10 @@ made_op been c o (SpecCall args) w h k = fresh_call c (and_left (not (c && true)
       where
         clash : false ≡ true → ⊥
         clash i = cc
-made_op been c o (Verify args) w h k = at c (and_right (not (c && false)) _ h) k (same_args (values_of args w.env) w.guess)
+made_op been c o (Verify last args) w h k = at c (and_right (not (c && false)) _ h) k (same_args (values_of args w.env) w.guess)
   where
     at : (c : Bool) → (c || not true) ≡ true → Childed been c w → (b : Bool)
-        → Childed been (c || false) (cond b w (record w { child = Some (values_of args w.env); fails = true }))
+        → Childed been (c || false) (cond b w (record w { child = Some (values_of args w.env); guess = values_of args w.env; fails = true }))
     at false h k b = absurd (cc h)
     at true h k true = k
     at true h k false = record { since = λ e. refl; called_it = λ e. refl; no_second = λ e f. absurd (clash f); squashes = λ e. refl }

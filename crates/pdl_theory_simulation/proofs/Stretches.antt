@@ -1,5 +1,5 @@
 -- What a stage does to a thread: to its pending writes, its values and its successor.
-use Rattle.std.proofs.Common.{◌≡◌, refl, sym, ap, ap₂, ◌∙◌, subst, ℕ, ◌≤◌, ◌<◌, ◌⊎◌, inl, inr, Bool, true, false, ◌||◌, not, List, [], ◌∷◌, ◌++◌, length, Option, Some, None, ◌==◌, cond, if◌then◌else◌, arith, slice_index, slice_set, le_refl}
+use Rattle.std.proofs.Common.{◌≡◌, refl, sym, ap, ap₂, ◌∙◌, subst, ℕ, ◌≤◌, ◌<◌, ◌⊎◌, inl, inr, Bool, true, false, ◌||◌, not, List, [], ◌∷◌, ◌++◌, length, Option, Some, None, ◌==◌, cond, if◌then◌else◌, arith, slice_index, slice_set, le_refl, le_of_lt}
 use Rattle.std.proofs.lemmas.Bool.{eqb-true, eqb-false}
 use Rattle.pdl_semantics.specs.Flat.{Stmt, Branch, Pipe}
 use Rattle.pdl_semantics.specs.Stages.{onpath, in_stage, stage_at, goes_to, is_reserve, is_release, reserve_stage, commit_stage}
@@ -9,7 +9,8 @@ use Rattle.pdl_semantics.specs.Sound.{stages_before, stages_from, is_delayed_rea
 use Rattle.pdl_theory_derived.specs.Derived.{Work, Around, work_of_stage, still, with_answers, answered_thread}
 use Rattle.pdl_theory_derived.specs.Derived
 use Rattle.pdl_theory_facts.specs.Scans.{Fresh, phase_all, is_over, none_of, called}
-use Rattle.pdl_theory_simulation.proofs.FlowFacts.{Flows, uses_ok, calls_ok, visits_stage, next_of, stage_or, comes_by, Leads, Ways}
+use Rattle.pdl_theory_facts.proofs.Nested.{within_all, within_home, within_more}
+use Rattle.pdl_theory_simulation.proofs.FlowFacts.{Home, Within, Trunk, Below, Way, Flows, uses_ok, calls_ok, visits_stage, next_of, stage_or, comes_by, Leads, Ways}
 use Rattle.pdl_theory_derived.proofs.Entries.{entries_of}
 use Rattle.pdl_theory_turns.proofs.Paths.{Fixed, none_onpath}
 use Rattle.pdl_theory_derived.proofs.Deeds.{places, AllFit}
@@ -32,25 +33,37 @@ on_way p path s = onpath path (stages_before s p.stmts)
 abbrev pub Unlike : List Awaited → List ℕ → List ℕ → Type 0
 Unlike rs env env' = (g : ℕ) → awaits_var rs g ≡ false → slice_index env g ≡ slice_index env' g
 
--- a thread in stage s is behind one in stage b: each trunk stage up to s comes before b, and in one branch s is the smaller
-pub record Behind (p : Pipe) (s b : ℕ) : Type 0 where
-  pub trunk : (r : ℕ) → (stage_at p r).branch ≡ None → r ≤ s → r < b
-  pub branch : (stage_at p s).branch ≡ (stage_at p b).branch → s < b
+-- a thread in stage s is behind one in stage b: in whatever branches both stand, each stage of just these that was reached from s on was left from b on
+abbrev pub Behind : Pipe → ℕ → ℕ → Type 0
+Behind p s b = (c : List Branch) → Within p c s → Within p c b → Below p c b s
+
+-- a thread behind one in stage b has reached only trunk stages before b
+pub left_trunk : (p : Pipe) (s b : ℕ) → Behind p s b → (r : ℕ) → Trunk p r → r ≤ s → r < b
+left_trunk p s b h r t i = h [] (within_all p s) (within_all p b) r t i
+
+-- where one thread stands behind another in the same branches its stage is the smaller
+pub less_home : (p : Pipe) (s b : ℕ) → Behind p s b → (stage_at p s).branches ≡ (stage_at p b).branches → s < b
+less_home p s b h e = h (stage_at p s).branches (within_home p _ s refl) (within_home p _ b (sym e)) s refl (le_refl s)
+
+-- who is behind a thread that stands where a fork stands is inside the fork only if the other one is past it
+pub fork_left : (p : Pipe) → Ways p → (x : Branch) (c : List Branch) (s b : ℕ) → Behind p s b → Within p (x ∷ c) s → Within p c b → x.fork < b
+fork_left p g x c s b h i j = let t = g.fork_below x c s i in h c (within_more p x c s i) j x.fork t.0 (le_of_lt t.1)
 
 -- a thread is not behind one in a stage that leads to its own
 pub not_behind : (p : Pipe) → Ways p → (k s : ℕ) → Leads p k s → Behind p s k → ⊥
-not_behind p g k s l h = at (stage_at p s).branch refl
+not_behind p g k s l h = at (g.way k s l)
   where
     up : k < s
     up = (g.up k s l).0
 
-    at : (b : Option Branch) → (stage_at p s).branch ≡ b → ⊥
-    at None e = absurd (let i : s < k = h.trunk s e (le_refl s) in let u = up in omega arith)
-    at (Some x) e = by (g.into k s x l e)
-      where
-        by : ((stage_at p k).branch ≡ Some x) ⊎ ((k ≡ x.fork) × ((stage_at p k).branch ≡ None)) → ⊥
-        by (inl i) = absurd (let j : s < k = h.branch (e ∙ sym i) in let u = up in omega arith)
-        by (inr i) = absurd (let j : k < k = h.trunk k i.1 (let u = up in omega arith) in omega arith)
+    at : Way p k s → ⊥
+    at (inl e) = let j : s < k = less_home p s k h e in let u = up in omega arith
+    at (inr (inl e)) =
+        let j : e.0.fork < k = fork_left p g e.0 (stage_at p k).branches s k h (within_home p _ s e.1) (within_home p _ k refl) in
+        let same = e.2 in omega arith
+    at (inr (inr e)) =
+        let j : s < k = h (stage_at p s).branches (within_home p _ s refl) (e.0 ∷ [], e.1) s refl (le_refl s) in
+        let u = up in omega arith
 
 -- each awaited memory is read in the stage before
 abbrev pub Fetched : Pipe → ℕ → ℕ → Type 0

@@ -1,5 +1,5 @@
 -- Where the live threads stand after a cycle: in age order, in their stages, each but the youngest with its successor made.
-use Rattle.std.proofs.Common.{◌≡◌, refl, sym, ap, ap₂, ◌∙◌, subst, ℕ, suc, ◌≤◌, ◌<◌, ◌⊎◌, inl, inr, Bool, true, false, ◌&&◌, ◌||◌, not, List, [], ◌∷◌, ◌++◌, length, Option, Some, None, is_some, ◌==◌, nat_lt, nat_le, cond, if◌then◌else◌, arith, ltb-true, ltb-false, leb-true, leb-false, eq-eqb, le_refl}
+use Rattle.std.proofs.Common.{◌≡◌, refl, sym, ap, ap₂, ◌∙◌, subst, ℕ, suc, ◌≤◌, ◌<◌, ◌⊎◌, inl, inr, Bool, true, false, ◌&&◌, ◌||◌, not, List, [], ◌∷◌, ◌++◌, length, Option, Some, None, is_some, ◌==◌, nat_lt, nat_le, cond, if◌then◌else◌, arith, ltb-true, ltb-false, leb-true, leb-false, eq-eqb, le_refl, le_of_lt}
 use Rattle.std.proofs.lemmas.Bool.{eqb-true, eqb-false, ne_eqb}
 use Rattle.pdl_semantics.specs.Flat.{Pipe, Branch, list_all}
 use Rattle.pdl_semantics.specs.Stages.{stage_at, goes_to, is_inside, mem_at}
@@ -11,9 +11,10 @@ use Rattle.pdl_semantics.specs.Cycle
 use Rattle.pdl_semantics.specs.Machine
 use Rattle.pdl_theory_derived.specs.Derived.{around}
 use Rattle.pdl_theory_derived.specs.Derived
-use Rattle.pdl_theory_simulation.proofs.FlowFacts.{Flows, Ways, Leads, stage_or, next_of}
+use Rattle.pdl_theory_simulation.proofs.FlowFacts.{Home, Within, Below, Flows, Ways, Leads, stage_or, next_of}
 use Rattle.pdl_theory_derived.proofs.Writes.{and_left, and_right}
-use Rattle.pdl_theory_simulation.proofs.Stretches.{Behind, Keeps, has_made, keeps_next, keeps_fresh}
+use Rattle.pdl_theory_facts.proofs.Nested.{same_head, same_tail, within_home, Came, came_way}
+use Rattle.pdl_theory_simulation.proofs.Stretches.{Behind, left_trunk, less_home, fork_left, Keeps, has_made, keeps_next, keeps_fresh}
 use Rattle.pdl_theory_simulation.proofs.Seats.{Live, seat, find, each_map, Ordered, Falls, falls_up, dacts, lacts, did, now_of, work_of_live}
 use Rattle.pdl_theory_simulation.proofs.Choices.{Known, AllKnown, keeps_now, fit_all}
 use Rattle.pdl_theory_simulation.proofs.ThreadFacts.{EachPair, pairs}
@@ -25,90 +26,99 @@ use Rattle.pdl_word.proofs.Each.{each_append}
 -- nobody stands in stage q where all stand before it
 none_found : (p : Pipe) (q : ℕ) (ls : List Live) → Each (λ k. Behind p q k.thread.stage) ls → find q ls ≡ None
 none_found p q [] h = refl
-none_found p q (l ∷ ls) h = ap (λ b. cond b (Some (seat l)) (find q ls)) (ne_eqb l.thread.stage q (λ e. absurd (let i : q < l.thread.stage = h.0.branch (ap (λ n. (stage_at p n).branch) (sym e)) in omega arith))) ∙ none_found p q ls h.1
+none_found p q (l ∷ ls) h = ap (λ b. cond b (Some (seat l)) (find q ls)) (ne_eqb l.thread.stage q (λ e. absurd (let i : q < l.thread.stage = less_home p _ _ h.0 (ap (λ n. (stage_at p n).branches) (sym e)) in omega arith))) ∙ none_found p q ls h.1
 
 -- ORDER, AS THREADS MOVE
 
 module _ (p : Pipe) (g : Ways p) where
+  -- within the branches of one behind it, the older one was there before it moved
+  was_there : (c : List Branch) (s b b' : ℕ) → Leads p b b' → Behind p s b → Within p c s → Within p c b' → Within p c b
+  was_there c s b b' l h i j = at (came_way p c b b' (g.way b b' l) j)
+    where
+      at : Came p c b b' → Within p c b
+      at (inl k) = k
+      at (inr k) =
+          let less : k.0.fork < b = fork_left p g k.0 (stage_at p b).branches s b h (subst (λ d. Within p d s) k.1 i) (within_home p _ b refl) in
+          let same = k.2 in
+          absurd (omega arith)
+
   -- a thread stays behind an older one that moves on
   pub behind_later : (s b b' : ℕ) → Leads p b b' → Behind p s b → Behind p s b'
-  behind_later s b b' l h = record { trunk = λ r t i. let j = h.trunk r t i in let u = up in omega arith; branch = λ e. at (stage_at p s).branch refl e }
+  behind_later s b b' l h c i j r t k =
+      let up : b < b' = (g.up b b' l).0 in
+      let less : r < b = h c i (was_there c s b b' l h i j) r t k in
+      omega arith
+
+  -- the younger one moves on: not past one inside the fork that it merges
+  moved_on : (c : List Branch) (s s' b : ℕ) → Leads p s s' → Behind p s b
+      → ((f : ℕ) → (stage_at p s').merges ≡ Some f → is_inside p f b ≡ false) → Within p c s' → Within p c b
+      → (r : ℕ) → Home p c r → r ≤ s' → (r < b) ⊎ ((r ≡ s') × (s' ≤ b))
+  moved_on c s s' b l h clear i j r t k = at (came_way p c s s' (g.way s s' l) i)
     where
-      up : b < b'
-      up = (g.up b b' l).0
+      passes : Within p c s → Home p c s' → s' ≤ b
+      passes w home = by (nat_lt b s') refl
+        where
+          by : (d : Bool) → nat_lt b s' ≡ d → s' ≤ b
+          by true e = let u = g.between c s s' b l w home (h c w j) j (ltb-true _ _ e) in absurd (cc (sym u.2 ∙ clear u.0 u.1))
+          by false e = ltb-false _ _ e
 
-      from_branch : (x : Branch) → (stage_at p s).branch ≡ Some x → ((stage_at p b).branch ≡ Some x) ⊎ ((b ≡ x.fork) × ((stage_at p b).branch ≡ None)) → s < b'
-      from_branch x e (inl i) = let j : s < b = h.branch (e ∙ sym i) in let u = up in omega arith
-      from_branch x e (inr i) = absurd (let below : x.fork < s = (g.fork_below s x e).0 in let same = i.0 in let less : b < b = h.trunk b i.1 (let k = below in omega arith) in omega arith)
+      at : Came p c s s' → (r < b) ⊎ ((r ≡ s') × (s' ≤ b))
+      at (inl w) = by (nat_le r s) refl
+        where
+          by : (d : Bool) → nat_le r s ≡ d → (r < b) ⊎ ((r ≡ s') × (s' ≤ b))
+          by true e = inl (h c w j r t (leb-true _ _ e))
+          by false e = let same : r ≡ s' = g.jump c s s' r l w t (leb-false _ _ e) k in inr (same, passes w (subst (λ n. Home p c n) same t))
+      at (inr w) = inr (exact (entered r (within_home p c r t)), entered b j)
+        where
+          entered : (q : ℕ) → Within p c q → s' ≤ q
+          entered q z = g.entry w.0 (stage_at p s).branches s' q (subst (λ n. Leads p n s') (sym w.2) l) (subst (λ d. Home p d s') w.1 w.3) (subst (λ d. Within p d q) w.1 z)
 
-      at : (c : Option Branch) → (stage_at p s).branch ≡ c → (stage_at p s).branch ≡ (stage_at p b').branch → s < b'
-      at None e i = let j : s < b = h.trunk s e (le_refl s) in let u = up in omega arith
-      at (Some x) e i = from_branch x e (g.into b b' x l (sym i ∙ e))
+          exact : s' ≤ r → r ≡ s'
+          exact z = omega arith
 
-  -- the younger one moves on: not into the stage of an older one that stands, nor past one inside the fork that it merges
-  behind_trunk : (s s' b : ℕ) → Leads p s s' → Behind p s b
-      → ((f : ℕ) → (stage_at p s').merges ≡ Some f → is_inside p f b ≡ false) → (stage_at p s').branch ≡ None → s' ≤ b
-  behind_trunk s s' b l h clear t = at (nat_lt b s') refl
-    where
-      at : (c : Bool) → nat_lt b s' ≡ c → s' ≤ b
-      at true e = let w = g.between s s' b l t h.trunk (ltb-true _ _ e) in absurd (cc (sym w.2 ∙ clear w.0 w.1))
-      at false e = ltb-false _ _ e
-
-  behind_branch : (s s' b : ℕ) (x : Branch) → Leads p s s' → Behind p s b → (stage_at p s').branch ≡ Some x → (stage_at p b).branch ≡ Some x → s' ≤ b
-  behind_branch s s' b x l h e f = g.next_in s s' b x l e f (low (g.into s s' x l e))
-    where
-      low : ((stage_at p s).branch ≡ Some x) ⊎ ((s ≡ x.fork) × ((stage_at p s).branch ≡ None)) → s < b
-      low (inl i) = h.branch (i ∙ sym f)
-      low (inr i) = h.trunk s i.1 (le_refl s)
+  -- nor into the stage of an older one that stands
 
   -- a younger thread that moves on stays behind where it enters neither the older one's stage nor the merge of a fork with that inside
   pub behind_moved : (s s' b : ℕ) → Leads p s s' → Behind p s b
       → ((f : ℕ) → (stage_at p s').merges ≡ Some f → is_inside p f b ≡ false) → (s' ≡ b → ⊥) → Behind p s' b
-  behind_moved s s' b l h clear other = record { trunk = λ r t i. low r t (nat_le r s) refl i; branch = λ e. at (stage_at p s').branch refl e }
+  behind_moved s s' b l h clear other c i j r t k = at (moved_on c s s' b l h clear i j r t k)
     where
-      strict : s' ≤ b → s' < b
-      strict i = by (s' == b) refl
+      at : (r < b) ⊎ ((r ≡ s') × (s' ≤ b)) → r < b
+      at (inl e) = e
+      at (inr e) = by (s' == b) refl
         where
-          by : (c : Bool) → (s' == b) ≡ c → s' < b
-          by true e = absurd (other (eqb-true _ _ e))
-          by false e = let j = eqb-false _ _ e in omega arith
-
-      low : (r : ℕ) → (stage_at p r).branch ≡ None → (c : Bool) → nat_le r s ≡ c → r ≤ s' → r < b
-      low r t true e i = h.trunk r t (leb-true _ _ e)
-      low r t false e i =
-          let same : r ≡ s' = g.jump s s' r l t (leb-false _ _ e) i in
-          let goes : s' < b = strict (behind_trunk s s' b l h clear (subst (λ n. (stage_at p n).branch ≡ None) same t)) in omega arith
-
-      at : (c : Option Branch) → (stage_at p s').branch ≡ c → (stage_at p s').branch ≡ (stage_at p b).branch → s' < b
-      at None e i = strict (behind_trunk s s' b l h clear e)
-      at (Some x) e i = strict (behind_branch s s' b x l h e (sym i ∙ e))
+          by : (d : Bool) → (s' == b) ≡ d → r < b
+          by true u = absurd (other (eqb-true _ _ u))
+          by false u = let v = eqb-false _ _ u in let w = e.0 in let z = e.1 in omega arith
 
   -- a thread that moves on stays behind an older one that moves on too, where it doesn't enter the merge of a fork with that inside
   pub behind_both : (s s' b b' : ℕ) → Leads p s s' → Leads p b b' → Behind p s b
       → ((f : ℕ) → (stage_at p s').merges ≡ Some f → is_inside p f b ≡ false) → Behind p s' b'
-  behind_both s s' b b' l m h clear = record { trunk = λ r t i. low r t (nat_le r s) refl i; branch = λ e. at (stage_at p s').branch refl e }
+  behind_both s s' b b' l m h clear c i j r t k = at (came_way p c b b' (g.way b b' m) j)
     where
       up : b < b'
       up = (g.up b b' m).0
 
-      low : (r : ℕ) → (stage_at p r).branch ≡ None → (c : Bool) → nat_le r s ≡ c → r ≤ s' → r < b'
-      low r t true e i = let j = h.trunk r t (leb-true _ _ e) in let u = up in omega arith
-      low r t false e i =
-          let same : r ≡ s' = g.jump s s' r l t (leb-false _ _ e) i in
-          let goes : s' ≤ b = behind_trunk s s' b l h clear (subst (λ n. (stage_at p n).branch ≡ None) same t) in let u = up in omega arith
-
-      inside : (x : Branch) → (stage_at p s').branch ≡ Some x → (stage_at p b').branch ≡ Some x
-          → ((stage_at p b).branch ≡ Some x) ⊎ ((b ≡ x.fork) × ((stage_at p b).branch ≡ None)) → s' < b'
-      inside x e f (inl i) = let j : s' ≤ b = behind_branch s s' b x l h e i in let u = up in omega arith
-      inside x e f (inr i) = absurd (from (g.into s s' x l e))
+      at : Came p c b b' → r < b'
+      at (inl w) = by (moved_on c s s' b l h clear i w r t k)
         where
-          from : ((stage_at p s).branch ≡ Some x) ⊎ ((s ≡ x.fork) × ((stage_at p s).branch ≡ None)) → ⊥
-          from (inl j) = let below : x.fork < s = (g.fork_below s x j).0 in let same = i.0 in let less : b < b = h.trunk b i.1 (omega arith) in absurd (omega arith)
-          from (inr j) = let same = i.0 in let also = j.0 in let less : s < b = h.trunk s j.1 (le_refl s) in absurd (omega arith)
-
-      at : (c : Option Branch) → (stage_at p s').branch ≡ c → (stage_at p s').branch ≡ (stage_at p b').branch → s' < b'
-      at None e i = let goes : s' ≤ b = behind_trunk s s' b l h clear e in let u = up in omega arith
-      at (Some x) e i = inside x e (sym i ∙ e) (g.into b b' x m (sym i ∙ e))
+          by : (r < b) ⊎ ((r ≡ s') × (s' ≤ b)) → r < b'
+          by (inl e) = let u = up in omega arith
+          by (inr e) = let u = up in let v = e.0 in let z = e.1 in omega arith
+      at (inr w) = absurd (from (came_way p c s s' (g.way s s' l) i))
+        where
+          from : Came p c s s' → ⊥
+          from (inl z) =
+              let less : w.0.fork < b = fork_left p g w.0 (stage_at p b).branches s b h (subst (λ d. Within p d s) w.1 z) (within_home p _ b refl) in
+              let same = w.2 in
+              omega arith
+          from (inr z) =
+              let e : (stage_at p s).branches ≡ (stage_at p b).branches = same_tail z.0 w.0 _ _ (sym z.1 ∙ w.1) in
+              let less : s < b = less_home p s b h e in
+              let same : z.0.fork ≡ w.0.fork = ap (λ (y : Branch). y.fork) (same_head z.0 w.0 _ _ (sym z.1 ∙ w.1)) in
+              let u = z.2 in
+              let v = w.2 in
+              omega arith
 
 module _ (p : Pipe) (flows : Flows p) where
   module _ (st : State) (d : Derived.State) (bits : List Bool) (arrays : st.arrays ≡ d.arrays) where
@@ -249,7 +259,7 @@ module _ (p : Pipe) (flows : Flows p) where
         clash i = cc
 
         deep : Each (λ k. 0 < k.thread.stage) (go_on p st d bits ls)
-        deep = each_map (λ k h. h.trunk 0 flows.graph.trunk_start (omega arith)) (go_on p st d bits ls) (behind_stay l.thread.stage ls k.1 o.0)
+        deep = each_map (λ k h. left_trunk p _ _ h 0 flows.graph.trunk_start (omega arith)) (go_on p st d bits ls) (behind_stay l.thread.stage ls k.1 o.0)
 
         at : (f : Bool) → fell p d bits ls ≡ f → Each (λ k. 0 < k.thread.stage) ((if f then [] else next_live p st d bits ls l) ++ go_on p st d bits ls)
         at true g = deep
@@ -262,7 +272,7 @@ module _ (p : Pipe) (flows : Flows p) where
             none = made_none p flows st d bits arrays ls k.1 m g
 
     behind_zero : (b : ℕ) → 0 < b → Behind p 0 b
-    behind_zero b h = record { trunk = λ r t i. omega arith; branch = λ e. h }
+    behind_zero b h c i j r t k = omega arith
 
     -- after a cycle each live thread stands behind all older ones
     pub ordered_next : (ls : List Live) → AllKnown p flows st d bits arrays ls → Ordered p ls

@@ -2,7 +2,7 @@
 use Rattle.std.proofs.Common.{drop, take, ◌≡◌, refl, sym, ap, ap₂, ◌∙◌, subst, ℕ, zero, suc, ◌+◌, ◌≤◌, ◌<◌, Bool, true, false, ◌&&◌, ◌||◌, not, List, [], ◌∷◌, ◌++◌, length, Option, Some, None, is_some, is_none, ◌==◌, nat_lt, cond, if◌then◌else◌, arith, append-nil, slice_index_or, ltb-true, ltb-false, zero-add, add-zero, add-suc, suc-add, eq-eqb}
 use Rattle.std.proofs.lemmas.Bool.{eqb-true}
 use Rattle.pdl_semantics.specs.Flat.{Arrays, Pipe, Branch, Mem, Stage, of_mem, after_commits}
-use Rattle.pdl_semantics.specs.Stages.{list_any, stage_at, goes_to, in_stage, is_inside, is_branch_of}
+use Rattle.pdl_semantics.specs.Stages.{list_any, stage_at, goes_to, in_stage, is_inside, sides_of}
 use Rattle.pdl_semantics.specs.Sound.{is_delayed_read}
 use Rattle.pdl_semantics.specs.Machine.{Ask, Awaited, Request, NoRequest, Owned, Orphan, is_answered, State, lock_of, fork_of, request_of, with_kept}
 use Rattle.pdl_semantics.specs.Cycle.{awaited_of, for_mems, for_stages, all_releases, list_two, list_three, taken_out, with_commits, entries_left, request_left, request_next, port_writes, is_kept, squasher}
@@ -16,6 +16,7 @@ use Rattle.pdl_semantics.specs.Moves
 use Rattle.pdl_theory_derived.specs.Derived.{Work, commits_of, asks_of, asked_at, next_ask, next_asks, find_ask, stage_flags, still}
 use Rattle.pdl_theory_derived.specs.Derived
 use Rattle.pdl_theory_facts.specs.Scans.{none_of}
+use Rattle.pdl_theory_facts.proofs.Nested.{not_inside}
 use Rattle.pdl_theory_simulation.proofs.FlowFacts.{Flows}
 use Rattle.pdl_theory_derived.specs.Simulation.{SameTurn}
 use Rattle.pdl_theory_derived.proofs.Writes.{row_committed}
@@ -357,15 +358,7 @@ module _ (p : Pipe) (flows : Flows p) where
     none_inside f h ks o = sides_none p f ks (each_map (λ k w. outside k.thread.stage (w.0.inside)) ks o)
       where
         outside : (s : ℕ) → s < length p.stages → is_inside p f s ≡ false
-        outside s low = at (stage_at p s).branch refl
-          where
-            at : (b : Option Branch) → (stage_at p s).branch ≡ b → is_branch_of (stage_at p s).branch f ≡ false
-            at None e = ap (λ c. is_branch_of c f) e
-            at (Some x) e = ap (λ c. is_branch_of c f) e ∙ by (x.fork == f) refl
-              where
-                by : (t : Bool) → (x.fork == f) ≡ t → (x.fork == f) ≡ false
-                by true i = absurd (let same = eqb-true _ _ i in let below : x.fork < s = (flows.graph.fork_below s x e).0 in omega arith)
-                by false i = i
+        outside s low = not_inside p f s (λ x c i e. let below = (flows.graph.fork_below x c s i).1 in omega arith)
 
     forks_next : (f : ℕ)
         → fork_of (Cycle.after_these p st bits (lacts p st d bits ls) (movers (lacts p st d bits ls)) (squasher (movers (lacts p st d bits ls)))) f
@@ -376,10 +369,10 @@ module _ (p : Pipe) (flows : Flows p) where
             → fork_of (Cycle.after_these p st bits (lacts p st d bits ls) (movers (lacts p st d bits ls)) (squasher (movers (lacts p st d bits ls)))) f
             ≡ sides p f (lives_next p flows st d bits sim.arrays ls)
         at true e =
-            at_stage (λ j. Cycle.branches_left p (squasher (movers (lacts p st d bits ls))) j (Cycle.fork_next p st (movers (lacts p st d bits ls)) j)) 0 p.stages f [] (ltb-true _ _ e)
-            ∙ ap (λ j. Cycle.branches_left p (squasher (movers (lacts p st d bits ls))) j (Cycle.fork_next p st (movers (lacts p st d bits ls)) j)) (zero-add f)
-            ∙ ap (λ l. Cycle.branches_left p (squasher (movers (lacts p st d bits ls))) f ((if Cycle.has_left p f (movers (lacts p st d bits ls)) then Cycle.but_first l else l) ++ Cycle.entered_branches p f (movers (lacts p st d bits ls)))) (sim.forks f)
-            ∙ fork_next p flows st d bits sim.arrays f st.next (made p flows st d bits sim.arrays ls) (squasher (movers (lacts p st d bits ls))) ls known sim.ordered (squashes p flows st d bits sim.arrays st.next ls known sim.falls)
+            at_stage (λ j. Cycle.branches_left p (Cycle.squash_stage (movers (lacts p st d bits ls))) j (Cycle.fork_next p st (movers (lacts p st d bits ls)) j)) 0 p.stages f [] (ltb-true _ _ e)
+            ∙ ap (λ j. Cycle.branches_left p (Cycle.squash_stage (movers (lacts p st d bits ls))) j (Cycle.fork_next p st (movers (lacts p st d bits ls)) j)) (zero-add f)
+            ∙ ap (λ l. Cycle.branches_left p (Cycle.squash_stage (movers (lacts p st d bits ls))) f ((if Cycle.has_left p f (movers (lacts p st d bits ls)) then Cycle.but_first l else l) ++ Cycle.entered_branches p f (movers (lacts p st d bits ls)))) (sim.forks f)
+            ∙ fork_next p flows st d bits sim.arrays f st.next (made p flows st d bits sim.arrays ls) ls known sim.ordered
         at false e = past_stages _ 0 p.stages f [] (ltb-false _ _ e) ∙ sym (none_inside f (ltb-false _ _ e) (lives_next p flows st d bits sim.arrays ls) (ways_next p flows st d bits sim.arrays ls known))
 
     -- the next states belong together

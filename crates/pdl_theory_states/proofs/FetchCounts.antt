@@ -27,9 +27,9 @@ awaited_snoc (r ∷ qs) q = ap (λ l. record { mem = r.mem; var = r.var } ∷ l)
 
 asks_op : (o : Around) (op : Op) (w : Work) → awaited_of (work_after o op w).asks ≡ awaited_of w.asks ++ fetch_of op
 asks_op o (DelayedRead x m a) w = awaited_snoc w.asks _
-asks_op o (Verify args) w = at (same_args (values_of args w.env) w.guess)
+asks_op o (Verify last args) w = at (same_args (values_of args w.env) w.guess)
   where
-    at : (b : Bool) → awaited_of (cond b w (record w { child = Some (values_of args w.env); fails = true })).asks ≡ awaited_of w.asks ++ []
+    at : (b : Bool) → awaited_of (cond b w (record w { child = Some (values_of args w.env); guess = values_of args w.env; fails = true })).asks ≡ awaited_of w.asks ++ []
     at true = sym (append-nil _)
     at false = sym (append-nil _)
 asks_op o (Bind x e) w = sym (append-nil _)
@@ -69,7 +69,7 @@ fetch_one (Block m a) = refl
 fetch_one (Release m a) = refl
 fetch_one (Call args) = refl
 fetch_one (SpecCall args) = refl
-fetch_one (Verify args) = refl
+fetch_one (Verify last args) = refl
 fetch_one SpecCheck = refl
 fetch_one SpecBarrier = refl
 

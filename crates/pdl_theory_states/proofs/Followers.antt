@@ -353,7 +353,7 @@ module _ (p : Pipe) (sound : Sound p) (image : Arrays) (st : State) (d : Derived
       ∙ ap (with_kept (awaited_words st g.l.thread.awaits)) g.seated.kept_in
       ∙ ap (λ (t : Derived.Thread). with_kept (awaited_words st t.awaits) t.env) g.thread
       ∙ words_are st f.arrays g.sp.asks g.sp.env
-      (answers_right g.w g.v f.arrays g.rows_now g.plain g.sp.stage g.here.words g.l.number g.sp.asks
+      (answers_right g.w g.v f.arrays g.rows_now g.plain g.sp.stage (λ m c. g.here.words m (inl c)) g.l.number g.sp.asks
       (subst (λ rs. AllOwned st g.l.number rs) (ap (λ (t : Derived.Thread). t.awaits) g.thread) g.seated.owned) g.here.waits.out g.here.waits.sure)
       ∙ g.here.waits.gets ∙ turn_env p sound f.arrays f.args g.sp.stage
       ∙ ap (λ s. (Sequential.run_all (Sound.stages_before s p.stmts) (TurnPath.start_run p f.arrays f.args)).env)

@@ -10,8 +10,8 @@ use Rattle.pdl_theory_derived.specs.Derived
 use Rattle.pdl_theory_simulation.proofs.FlowFacts.{Flows}
 use Rattle.pdl_theory_turns.proofs.Turn.{none_in_stage}
 use Rattle.pdl_theory_derived.proofs.Lists.{pend, Reserveless, appended_back}
-use Rattle.pdl_theory_turns.proofs.OwnEntries.{ quiet_reserves}
-use Rattle.pdl_theory_simulation.proofs.Stretches.{Behind}
+use Rattle.pdl_theory_turns.proofs.OwnEntries.{quiet_reserves}
+use Rattle.pdl_theory_simulation.proofs.Stretches.{Behind, left_trunk}
 use Rattle.pdl_theory_simulation.proofs.Seats.{Live, each_map, Falls, falls_each, Ordered, pends, lact, lacts, did, deeds_of}
 use Rattle.pdl_theory_simulation.proofs.ThreadFacts.{Pair, pairs, EachPair, pair_both, pairs_each, sorted}
 use Rattle.pdl_theory_simulation.proofs.Orders.{acts_of}
@@ -72,7 +72,7 @@ module _ (p : Pipe) (flows : Flows p) (st : State) (d : Derived.State) (bits : L
   -- all threads older than one that has come to the stage of m's reserves are past it
   pub older_past : (l : Live) (ls : List Live) → Each (λ k. Behind p l.thread.stage k.thread.stage) ls
       → reserve_stage p m ≤ l.thread.stage → Each (λ k. reserve_stage p m < k.thread.stage) ls
-  older_past l ls b h = each_map (λ k i. i.trunk (reserve_stage p m) (flows.trunk_reserve m) h) ls b
+  older_past l ls b h = each_map (λ k i. left_trunk p _ _ i (reserve_stage p m) (flows.trunk_reserve m) h) ls b
 
   reserveless : (ls : List Live) → Each (λ k. reserve_stage p m < k.thread.stage) ls → Reserveless m (movers (lacts p st d bits ls))
   reserveless [] h = tt
@@ -212,11 +212,11 @@ module _ (p : Pipe) (flows : Flows p) (st : State) (d : Derived.State) (bits : L
   swapped_new x y s = (
     quiet_new x.live
         (λ e. absurd
-        (let i : reserve_stage p m < y.live.thread.stage = s.behind.trunk (reserve_stage p m) (flows.trunk_reserve m) (let j = e in omega arith) in
+        (let i : reserve_stage p m < y.live.thread.stage = left_trunk p _ _ s.behind (reserve_stage p m) (flows.trunk_reserve m) (let j = e in omega arith) in
         let k = s.low in let j = e in omega arith)),
     quiet_new y.live
         (λ e. absurd
-        (let i : reserve_stage p m < y.live.thread.stage = s.behind.trunk (reserve_stage p m) (flows.trunk_reserve m)
+        (let i : reserve_stage p m < y.live.thread.stage = left_trunk p _ _ s.behind (reserve_stage p m) (flows.trunk_reserve m)
         (let k = s.low in let j = e in omega arith) in
         let j = e in omega arith)),
   )

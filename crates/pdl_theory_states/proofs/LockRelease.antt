@@ -8,7 +8,7 @@ use Rattle.pdl_semantics.specs.Cycle.{with_reserves, with_value_of, with_writes_
 use Rattle.pdl_theory_derived.specs.Derived
 use Rattle.pdl_theory_simulation.proofs.FlowFacts.{Flows}
 use Rattle.pdl_theory_derived.proofs.Lists.{pend}
-use Rattle.pdl_theory_simulation.proofs.Stretches.{Behind}
+use Rattle.pdl_theory_simulation.proofs.Stretches.{Behind, left_trunk}
 use Rattle.pdl_theory_simulation.proofs.Seats.{Live, Falls, Ordered, pends, lact, lacts, did, deeds_of}
 use Rattle.pdl_theory_simulation.proofs.ThreadFacts.{Pair, pairs, EachPair, pair_map, pairs_each}
 use Rattle.pdl_theory_simulation.proofs.Choices.{Seated, AllKnown}
@@ -110,7 +110,7 @@ module _ (p : Pipe) (flows : Flows p) (st : State) (d : Derived.State) (bits : L
         (λ g. absurd (cc (sym i ∙ g.1 here))),
         pair_map
             (λ x b g. absurd
-            (let u : commit_stage p m < x.live.thread.stage = b.trunk (commit_stage p m) (flows.trunk_commit m) (let v = here in omega arith) in
+            (let u : commit_stage p m < x.live.thread.stage = left_trunk p _ _ b (commit_stage p m) (flows.trunk_commit m) (let v = here in omega arith) in
             let v = g.0 in omega arith))
             (pairs ls) (pairs_each (λ k. Behind p l.thread.stage k.thread.stage) ls o.0),
       )

@@ -15,7 +15,7 @@ use Rattle.pdl_theory_derived.proofs.Entries.{entries_of, filled_other, without_
 use Rattle.pdl_theory_turns.proofs.Marks.{latest_own}
 use Rattle.pdl_theory_derived.proofs.Stages.{step}
 use Rattle.pdl_theory_turns.proofs.Turn.{none_in_stage}
-use Rattle.pdl_theory_simulation.proofs.Stretches.{Behind, late, start_of, stage_up}
+use Rattle.pdl_theory_simulation.proofs.Stretches.{Behind, late, start_of, stage_up, left_trunk}
 use Rattle.pdl_theory_simulation.proofs.Seats.{Live, threads_of, Ordered, dacts, did, now_of, work_of_live}
 use Rattle.pdl_theory_simulation.proofs.Choices.{AllKnown, ends_here, late_here}
 use Rattle.pdl_theory_simulation.proofs.LockLists.{fell, moved_live, stood, go_on}
@@ -66,9 +66,9 @@ filled_op m start o (ReserveWrite n a) w r q h = at (n == m) r
         → Filled start (cond b (record { mem = n; var = a; address = slice_index w.env a; value = None } ∷ entries_of m w.entries) (entries_of m w.entries))
     at true i = absurd (cc i)
     at false i = h
-filled_op m start o (Verify args) w r q h = at (same_args (values_of args w.env) w.guess)
+filled_op m start o (Verify last args) w r q h = at (same_args (values_of args w.env) w.guess)
   where
-    at : (b : Bool) → Filled start (entries_of m (cond b w (record w { child = Some (values_of args w.env); fails = true })).entries)
+    at : (b : Bool) → Filled start (entries_of m (cond b w (record w { child = Some (values_of args w.env); guess = values_of args w.env; fails = true })).entries)
     at true = h
     at false = h
 filled_op m start o (Bind x e) w r q h = h
@@ -131,7 +131,7 @@ module _ (p : Pipe) (flows : Flows p) (st : State) (d : Derived.State) (bits : L
       both : (ls : List Live) → Each (ThreadPlaces.OnWay p flows st d bits arrays) ls
           → Each (λ k. Behind p s k.thread.stage) ls → Each (λ k. entries_of m k.thread.entries ≡ []) ls
       both [] w i = tt
-      both (l ∷ ls) w i = (late p flows l.env l.thread w.0.0 m (i.0.trunk (commit_stage p m) (flows.trunk_commit m) low), both ls w.1 i.1)
+      both (l ∷ ls) w i = (late p flows l.env l.thread w.0.0 m (left_trunk p _ _ i.0 (commit_stage p m) (flows.trunk_commit m) low), both ls w.1 i.1)
 
   -- what the older threads' writes say of an address stays calm as they go on, past the stage of m's reserves
   pub calm_next : (m a : ℕ) (ks : List Live) → AllKnown p flows st d bits arrays ks → Ordered p ks

@@ -8,7 +8,7 @@ use Rattle.pdl_theory_simulation.proofs.FlowFacts.{Flows}
 use Rattle.pdl_theory_derived.proofs.Entries.{entries_of}
 use Rattle.pdl_theory_derived.proofs.Lists.{ pend}
 use Rattle.pdl_theory_turns.proofs.OwnEntries.{pend_own}
-use Rattle.pdl_theory_simulation.proofs.Stretches.{Behind, early}
+use Rattle.pdl_theory_simulation.proofs.Stretches.{Behind, early, left_trunk}
 use Rattle.pdl_theory_simulation.proofs.Seats.{Live, Falls, Ordered, pends}
 use Rattle.pdl_theory_simulation.proofs.ThreadFacts.{Pair, pairs, EachPair, pair_both, pairs_each}
 use Rattle.pdl_theory_simulation.proofs.Choices.{Seated}
@@ -49,7 +49,7 @@ module _ (p : Pipe) (flows : Flows p) (st : State) where
           by true e = leb-true _ _ e
           by false e =
               absurd
-              (let i : reserve_stage p m < x.live.thread.stage = b.trunk (reserve_stage p m) (flows.trunk_reserve m) (let j = leb-false _ _ e in omega arith) in
+              (let i : reserve_stage p m < x.live.thread.stage = left_trunk p _ _ b (reserve_stage p m) (flows.trunk_reserve m) (let j = leb-false _ _ e in omega arith) in
               omega arith)
 
       at : (x : Pair) → x.live.thread.stage ≤ reserve_stage p m → pend m l.number l.thread.entries ≡ []

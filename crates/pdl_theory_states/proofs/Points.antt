@@ -6,7 +6,7 @@ use Rattle.pdl_semantics.specs.Stages.{list_any, is_release, commit_stage, mem_a
 use Rattle.pdl_semantics.specs.Locks.{read_ready, write_ready}
 use Rattle.pdl_semantics.specs.Machine.{State, Awaited, Kept, Pending, HeldLocation, lock_of, request_of, same_args, is_held, held_before, older_write}
 use Rattle.pdl_semantics.specs.Moves.{block_ready}
-use Rattle.pdl_semantics.specs.Sound.{stages_before, are_linked, is_kept_or_awaited, asks_right, is_owner, is_release_at, stays_ready, on_path, is_done, right_place, is_fetch, held_places, has_done, is_call}
+use Rattle.pdl_semantics.specs.Sound.{stages_before, are_linked, is_kept_or_awaited, asks_right, is_owner, is_release_at, stays_ready, on_path, is_done, right_place, is_fetch, held_places, has_done, is_call, guess_of}
 use Rattle.pdl_semantics.specs.Sound
 use Rattle.pdl_theory_derived.specs.Derived.{Entry, has_entry, latest, awaits_mem}
 use Rattle.pdl_theory_facts.specs.Scans.{called, none_of}
@@ -24,7 +24,7 @@ use Rattle.pdl_theory_simulation.proofs.Choices.{Seated}
 use Rattle.pdl_theory_simulation.proofs.Choices
 use Rattle.pdl_theory_states.proofs.OldestFirst.{told, oldest_first, AllLive, live_each}
 use Rattle.pdl_theory_states.proofs.PastStatements.{BlockOk, AllPlaced, is_released, AllStand, let_go, standing}
-use Rattle.pdl_theory_states.proofs.UnusedValues.{AllOps, onto, Done}
+use Rattle.pdl_theory_states.proofs.UnusedValues.{AllOps, onto, Done, guess_onto}
 use Rattle.pdl_theory_states.proofs.Trails.{AllStmts, stmts_map, stmts_ops, trail_comes}
 use Rattle.pdl_theory_states.proofs.ThreadHistory.{Local, here, past_of}
 use Rattle.pdl_theory_states.proofs.FetchCounts.{HeldOp, count_is, any_append, any_front}
@@ -205,7 +205,7 @@ module _ (p : Pipe) (st : State) (l : Live) (older : List Live)
   block_op (Release m a) h = refl
   block_op (Call args) h = refl
   block_op (SpecCall args) h = refl
-  block_op (Verify args) h = refl
+  block_op (Verify last args) h = refl
   block_op SpecCheck h = refl
   block_op SpecBarrier h = refl
 
@@ -221,7 +221,7 @@ module _ (p : Pipe) (st : State) (l : Live) (older : List Live)
 
 done_op : (st : State) (l : Live) (op : Op) → Done l.env l.thread.guess op → is_done st (told l) op ≡ true
 done_op st l (Bind x e) h = eq-eqb _ _ h
-done_op st l (SpecCall args) h = ap (λ g. same_args g (values_of args l.env)) h ∙ same_args_refl (values_of args l.env)
+done_op st l (SpecCall args) h = refl
 done_op st l (CombRead x m a) h = refl
 done_op st l (DelayedRead x m a) h = refl
 done_op st l (Write m a e) h = refl
@@ -230,7 +230,7 @@ done_op st l (ReserveWrite m a) h = refl
 done_op st l (Block m a) h = refl
 done_op st l (Release m a) h = refl
 done_op st l (Call args) h = refl
-done_op st l (Verify args) h = refl
+done_op st l (Verify last args) h = refl
 done_op st l SpecCheck h = refl
 done_op st l SpecBarrier h = refl
 
@@ -269,13 +269,14 @@ module _ (p : Pipe) (sound : Sound p) where
       → ((m : ℕ) (test : Pending → Bool) → list_any test (pend m l.number l.thread.entries) ≡ true → list_any test (lock_of st m) ≡ true)
       → on_path p st (told l) ≡ true
   path_point st l seated loc low locks =
-      both_true (both_true (both_true
+      both_true (both_true (both_true (both_true
       (trail_comes p (sound_flows p sound).graph l.env l.thread.stage l.thread.stage
       (length p.stages) 1 loc.trail loc.walked (or_left (l.thread.stage == l.thread.stage) _ (eq-eqb _ _ refl))
       (let i = seated.keeps_on.inside in omega arith))
       (stmts_all _ (on_way p l.env l.thread.stage)
       (stmts_map (λ z d. done_op st l z.op d) (on_way p l.env l.thread.stage)
       (stmts_ops (Done l.env l.thread.guess) (on_way p l.env l.thread.stage) [] loc.done).0)))
+      (ap (λ g. same_args g (guess_of (on_way p l.env l.thread.stage) l.env [])) (loc.guessed ∙ guess_onto (on_way p l.env l.thread.stage) [] l.env) ∙ same_args_refl (guess_of (on_way p l.env l.thread.stage) l.env [])))
       (subst (λ hs. list_all (right_place st (told l)) hs ≡ true) seated.keeps_on.held
       (own_places l.number l.env l.thread.entries stand (right_place st (told l))
       (λ h k. locks h.mem (places_test l.number l.env h) k))))

@@ -48,7 +48,7 @@ pub record Whole (p : Pipe) (st : State) (ls : List Live) : Type 0 where
 unmade_op : (op : Op) → call_ok false op ≡ true → is_call op ≡ false → next_making Unmade op ≡ Unmade
 unmade_op (Call args) h k = absurd (cc k)
 unmade_op (SpecCall args) h k = absurd (cc k)
-unmade_op (Verify args) h k = absurd (cc h)
+unmade_op (Verify last args) h k = absurd (cc h)
 unmade_op _ h k = refl
 
 stays_called : (xs : List Stmt) → called true xs ≡ true

@@ -357,7 +357,7 @@ barrier_looked (Block m a) = refl
 barrier_looked (Release m a) = refl
 barrier_looked (Call args) = refl
 barrier_looked (SpecCall args) = refl
-barrier_looked (Verify args) = refl
+barrier_looked (Verify last args) = refl
 barrier_looked SpecCheck = refl
 
 -- statements without a barrier have none where their delayed reads are answered at once

@@ -57,7 +57,7 @@ clear_op o (Block m a) w h r = absurd (cc h)
 clear_op o (Release m a) w h r = absurd (cc h)
 clear_op o (Call args) w h r = absurd (cc h)
 clear_op o (SpecCall args) w h r = absurd (cc h)
-clear_op o (Verify args) w h r = absurd (cc h)
+clear_op o (Verify last args) w h r = absurd (cc h)
 clear_op o SpecCheck w h r = absurd (cc h)
 
 -- a thread that moves on from a barrier found nobody
@@ -117,7 +117,7 @@ block_like o o' env es past (ReserveWrite m a) f h = tt
 block_like o o' env es past (Release m a) f h = tt
 block_like o o' env es past (Call args) f h = tt
 block_like o o' env es past (SpecCall args) f h = tt
-block_like o o' env es past (Verify args) f h = tt
+block_like o o' env es past (Verify last args) f h = tt
 block_like o o' env es past SpecCheck f h = tt
 block_like o o' env es past SpecBarrier f h = tt
 
@@ -172,9 +172,9 @@ low_blocks p sound path s =
 -- CALLS
 
 child_op : (o : Around) (op : Op) (w : Work) → is_some w.child ≡ true → is_some (work_after o op w).child ≡ true
-child_op o (Verify args) w h = at (same_args (values_of args w.env) w.guess)
+child_op o (Verify last args) w h = at (same_args (values_of args w.env) w.guess)
   where
-    at : (b : Bool) → is_some (cond b w (record w { child = Some (values_of args w.env); fails = true })).child ≡ true
+    at : (b : Bool) → is_some (cond b w (record w { child = Some (values_of args w.env); guess = (values_of args w.env); fails = true })).child ≡ true
     at true = h
     at false = refl
 child_op o (Call args) w h = refl
@@ -209,7 +209,7 @@ call_child o (ReserveRead m a) w h = absurd (cc h)
 call_child o (ReserveWrite m a) w h = absurd (cc h)
 call_child o (Block m a) w h = absurd (cc h)
 call_child o (Release m a) w h = absurd (cc h)
-call_child o (Verify args) w h = absurd (cc h)
+call_child o (Verify last args) w h = absurd (cc h)
 call_child o SpecCheck w h = absurd (cc h)
 call_child o SpecBarrier w h = absurd (cc h)
 

@@ -66,7 +66,7 @@ release_none m a (x ∷ xs) h k = at (is_release_at m a x.op) refl k (λ i. rele
     clash (Block n b) i j = cc j
     clash (Call args) i j = cc j
     clash (SpecCall args) i j = cc j
-    clash (Verify args) i j = cc j
+    clash (Verify last args) i j = cc j
     clash SpecCheck i j = cc j
     clash SpecBarrier i j = cc j
 
@@ -97,7 +97,7 @@ module _ (p q : Pipe) (m s : ℕ) (late : commit_stage q m < s) (locked : is_pla
   no_look r c (Release n a) ys low h g f k = cc k
   no_look r c (Call args) ys low h g f k = cc k
   no_look r c (SpecCall args) ys low h g f k = cc k
-  no_look r c (Verify args) ys low h g f k = cc k
+  no_look r c (Verify last args) ys low h g f k = cc k
   no_look r c SpecCheck ys low h g f k = cc k
   no_look r c SpecBarrier ys low h g f k = cc k
 
@@ -206,7 +206,7 @@ module _ (p : Pipe) (sound : Sound p) where
       one (Release n a) e i j = absurd (cc j)
       one (Call args) e i j = absurd (cc j)
       one (SpecCall args) e i j = absurd (cc j)
-      one (Verify args) e i j = absurd (cc j)
+      one (Verify last args) e i j = absurd (cc j)
       one SpecCheck e i j = absurd (cc j)
       one SpecBarrier e i j = absurd (cc j)
 

@@ -18,7 +18,7 @@ use Rattle.pdl_theory_simulation.proofs.FlowFacts.{Flows}
 use Rattle.pdl_theory_simulation.proofs.AcceptedFacts.{sound_flows}
 use Rattle.pdl_theory_derived.proofs.DelayedReads.{AllAsks, found}
 use Rattle.pdl_theory_turns.proofs.CourseOf.{apart_asks}
-use Rattle.pdl_theory_simulation.proofs.Stretches.{Behind, AllFetched, fixed_here, start_of, on_way, Keeps}
+use Rattle.pdl_theory_simulation.proofs.Stretches.{Behind, AllFetched, fixed_here, start_of, on_way, Keeps, left_trunk}
 use Rattle.pdl_theory_simulation.proofs.StretchSteps.{AsksFrom}
 use Rattle.pdl_theory_simulation.proofs.Seats.{Live, threads_of, each_map, Ordered, dacts, lacts, did, now_of, work_of_live, befores_are}
 use Rattle.pdl_theory_simulation.proofs.Choices.{Known, AllKnown, keeps_now, told_here, asks_here}
@@ -102,7 +102,7 @@ module _ (p : Pipe) (sound : Sound p) (strict : Strict p) where
   -- the older threads are past the reserves
   past_reserve : (s m : ℕ) (ls : List Live) → Each (λ k. Behind p s k.thread.stage) ls → reserve_stage p m ≤ s
       → Each (λ k. reserve_stage p m < k.thread.stage) ls
-  past_reserve s m ls b h = each_map (λ k i. i.trunk (reserve_stage p m) ((sound_flows p sound).trunk_reserve m) h) ls b
+  past_reserve s m ls b h = each_map (λ k i. left_trunk p _ _ i (reserve_stage p m) ((sound_flows p sound).trunk_reserve m) h) ls b
 
   module _ (st : State) (d : Derived.State) (bits : List Bool) (ls : List Live) (sim : Sim p st d ls) where
     -- the stated state after the cycle
@@ -283,7 +283,7 @@ module _ (p : Pipe) (sound : Sound p) (strict : Strict p) where
         past_barrier : (v : ℕ) → verify_stage p.stmts ≡ Some v
             → some_barrier (onpath (work_of_live p d bits ks l).env (in_stage l.thread.stage p.stmts)) ≡ true
             → Each (λ j. v < j.thread.stage) ks
-        past_barrier v e b = at (stage_at p l.thread.stage).branch refl
+        past_barrier v e b = at (stage_at p l.thread.stage).branches refl
           where
             clear : Derived.barrier_clear (Some v) l.thread.stage (threads_of ks) ≡ true
             clear =
@@ -306,10 +306,10 @@ module _ (p : Pipe) (sound : Sound p) (strict : Strict p) where
                 one true i u = absurd (let w = leb-true _ _ i in let y = s.0 in omega arith)
                 one false i u = ltb-true _ _ u
 
-            at : (c : Option Branch) → (stage_at p l.thread.stage).branch ≡ c → Each (λ j. v < j.thread.stage) ks
-            at None i = each ks (each_map (λ j g. g.trunk l.thread.stage i (le_refl l.thread.stage)) ks behind) clear
-            at (Some x) i =
-                absurd (not_barred (in_stage l.thread.stage p.stmts) (work_of_live p d bits ks l).env ((sound_flows p sound).branches l.thread.stage x i) b)
+            at : (c : List Branch) → (stage_at p l.thread.stage).branches ≡ c → Each (λ j. v < j.thread.stage) ks
+            at [] i = each ks (each_map (λ j g. left_trunk p _ _ g l.thread.stage i (le_refl l.thread.stage)) ks behind) clear
+            at (x ∷ c) i =
+                absurd (not_barred (in_stage l.thread.stage p.stmts) (work_of_live p d bits ks l).env ((sound_flows p sound).branches x c l.thread.stage i) b)
 
         abbrev moved_local : (q : ℕ)
             → goes_to (stage_at p l.thread.stage).next (work_of_live p d bits ks l).env ≡ Some q

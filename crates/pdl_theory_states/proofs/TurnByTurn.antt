@@ -1,6 +1,8 @@
 -- The followers are the threads of the turns, one by one: the arrays have what they have released, and who still looks at a memory has nobody behind it who has released a write of it.
-use Rattle.std.proofs.Common.{◌≡◌, refl, sym, ap, ap₂, ◌∙◌, subst, ℕ, ◌≤◌, ◌<◌, Bool, true, false, ◌&&◌, ◌||◌, not, List, [], ◌∷◌, ◌++◌, Option, Some, None, is_some, nat_lt, cond, if◌then◌else◌, arith, append-nil, append_assoc, le_of_lt, ltb-true, ltb-false}
+use Rattle.std.proofs.Common.{◌≡◌, refl, sym, ap, ap₂, ◌∙◌, subst, ℕ, ◌≤◌, ◌<◌, inl, Bool, true, false, ◌&&◌, ◌||◌, not, List, [], ◌∷◌, ◌++◌, Option, Some, None, is_some, nat_lt, cond, if◌then◌else◌, arith, append-nil, append_assoc, le_of_lt, ltb-true, ltb-false}
 use Rattle.std.proofs.lemmas.Bool.{not-true}
+use Rattle.pdl_theory_facts.proofs.Nested.{within_all}
+use Rattle.pdl_theory_facts.specs.Graphs.{Trunk}
 use Rattle.pdl_semantics.specs.Flat.{Arrays, Pipe, Stmt, of_mem, list_all}
 use Rattle.pdl_semantics.specs.Stages.{list_any, onpath, stage_at, commit_stage, verify_stage}
 use Rattle.pdl_semantics.specs.Machine.{State}
@@ -122,7 +124,7 @@ module _ (p : Pipe) (sound : Sound p) (st : State) (asked : List (Option ℕ)) (
           at : (c : Bool) → nat_lt (commit_stage p m) sp.stage ≡ c → sp.stage ≤ commit_stage p m
           at true i =
               absurd
-              (let j : commit_stage p m < b = h.0.under.0.below (commit_stage p m) (sound.graph.trunk_commit m) (le_of_lt (ltb-true _ _ i)) in
+              (let j : commit_stage p m < b = h.0.under.0 [] (within_all p _) (within_all p _) (commit_stage p m) (sound.graph.trunk_commit m) (le_of_lt (ltb-true _ _ i)) in
               let k = low in omega arith)
           at false i = ltb-false _ _ i
 
@@ -192,7 +194,7 @@ module _ (p : Pipe) (sound : Sound p) (st : State) (asked : List (Option ℕ)) (
           (early_none m (λ m. w m ++ of_mem m (thread p arrays args).writes)
           (λ m. v m ++ marks p arrays args sp.stage m)
           (thread p arrays args).arrays (thread p arrays args).next sp.stage ahead os sps ts h.1 (cons_tail e) s.1 (ltb-false _ _ i)))
-          ∙ append-nil (w m) ∙ h.0.words m (ltb-false _ _ i) ∙ ap (λ l. past m ++ strips m l) none ∙ append-nil (past m)
+          ∙ append-nil (w m) ∙ h.0.words m (inl (ltb-false _ _ i)) ∙ ap (λ l. past m ++ strips m l) none ∙ append-nil (past m)
 
   -- 8. who still looks has nobody behind it who has released
   module _ (strict : Strict p) where
@@ -240,7 +242,7 @@ module _ (p : Pipe) (sound : Sound p) (st : State) (asked : List (Option ℕ)) (
             ∙ all_of (λ (f : Follower). true) (lined p (thread p arrays args).arrays (thread p arrays args).next os sps) (λ f. refl)
 
   -- 5. nobody astray has released
-  stray_each : (m v : ℕ) → verify_stage p.stmts ≡ Some v → (stage_at p v).branch ≡ None → (bound : ℕ) → bound ≤ v
+  stray_each : (m v : ℕ) → verify_stage p.stmts ≡ Some v → Trunk p v → (bound : ℕ) → bound ≤ v
       → (ks : List Live) (ts : List Derived.Thread) → threads_of ks ≡ ts → Each (Seated p st) ks
       → Strays p (course p sound).stray (course p sound).made bound ts
       → list_all (λ l. not (has_done is_barrier p l)) (tells ks) ≡ true

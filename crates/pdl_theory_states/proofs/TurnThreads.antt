@@ -220,11 +220,16 @@ guess_op v k s (SpecCall args) h = yes (is_guessed k)
     yes : (b : Bool) → true ≡ ((b || true) && true)
     yes true = refl
     yes false = refl
-guess_op v k s (Verify args) h = no (is_guessed k || false)
+guess_op v k s (Verify true args) h = no (is_guessed k || false)
   where
     no : (b : Bool) → false ≡ (b && false)
     no true = refl
     no false = refl
+guess_op v k s (Verify false args) h = yes (is_guessed k) (and_left (is_guessed k) _ h)
+  where
+    yes : (b : Bool) → b ≡ true → true ≡ ((b || false) && true)
+    yes true i = refl
+    yes false i = absurd (cc i)
 guess_op v k s _ h = same (is_guessed k)
   where
     same : (b : Bool) → b ≡ ((b || false) && true)
@@ -245,7 +250,8 @@ after_check v k (x ∷ xs) h g u =
     at Guessed op g u i f = absurd (cc g)
     at Made (Call args) g u i f = absurd (cc i)
     at Made (SpecCall args) g u i f = absurd (cc i)
-    at Made (Verify args) g u i f = absurd (cc i)
+    at Made (Verify true args) g u i f = absurd (cc i)
+    at Made (Verify false args) g u i f = absurd (cc i)
     at Made _ g u i f = f refl
 
 guess_all : (v : Option ℕ) (k : Making) (xs : List Stmt)
@@ -266,7 +272,8 @@ guess_all v k (x ∷ xs) h =
     clean false false t c = refl
 
     made : (op : Op) → is_verify op ≡ true → next_making k op ≡ Made
-    made (Verify args) e = refl
+    made (Verify true args) e = refl
+    made (Verify false args) e = absurd (cc e)
     made (Bind y e') e = absurd (cc e)
     made (CombRead y m a) e = absurd (cc e)
     made (DelayedRead y m a) e = absurd (cc e)

@@ -5,7 +5,7 @@ use Rattle.std.proofs.lemmas.Bool.{or_parts, or_right, or_left}
 use Rattle.pdl_word.specs.Words
 use Rattle.pdl_semantics.specs.Flat.{Op, Bind, CombRead, DelayedRead, Write, ReserveRead, ReserveWrite, Block, Release, Call, SpecCall, Verify, SpecCheck, SpecBarrier, Expr, Constant, Variable, Slice, Not, Binary, Cat, LessSigned, ZeroExtend, SignExtend, Choose, Stmt, value_of, values_of, operator_value}
 use Rattle.pdl_semantics.specs.Forms.{on_delayed_read}
-use Rattle.pdl_semantics.specs.Sound.{is_call}
+use Rattle.pdl_semantics.specs.Sound.{guess_after, guess_of}
 use Rattle.pdl_theory_facts.specs.Facts.{uses_in, uses_any, mentions_var}
 use Rattle.pdl_theory_derived.proofs.Writes.{and_left, and_right}
 use Rattle.pdl_theory_states.specs.Strict.{bound_by, uses_own, is_mentioned, is_new, all_new}
@@ -92,10 +92,10 @@ values_agree [] env env' f = refl
 values_agree (e ∷ es) env env' f =
     ap₂ (λ a l. a ∷ l) (value_agree e env env' (λ g h. f g (or_left _ _ h))) (values_agree es env env' (λ g h. f g (or_right (uses_in g e) _ h)))
 
--- what a statement gave is still so: the value of the variable that it binds, or the guess that it makes
+-- what a binding gave is still so: the value of its variable; any other statement passes
 abbrev pub Done : List ℕ → List ℕ → Op → Type 0
 Done env guess (Bind x e) = slice_index env x ≡ value_of e env
-Done env guess (SpecCall args) = guess ≡ values_of args env
+Done env guess (SpecCall args) = Unit {0}
 Done env guess (CombRead x m a) = Unit {0}
 Done env guess (DelayedRead x m a) = Unit {0}
 Done env guess (Write m a e) = Unit {0}
@@ -104,7 +104,7 @@ Done env guess (ReserveWrite m a) = Unit {0}
 Done env guess (Block m a) = Unit {0}
 Done env guess (Release m a) = Unit {0}
 Done env guess (Call args) = Unit {0}
-Done env guess (Verify args) = Unit {0}
+Done env guess (Verify last args) = Unit {0}
 Done env guess SpecCheck = Unit {0}
 Done env guess SpecBarrier = Unit {0}
 
@@ -115,7 +115,7 @@ Agrees op env env' = (g : ℕ) → touches g op ≡ true → slice_index env g �
 -- what a statement gave is true of other values too that agree on all variables that it hangs on
 pub done_agrees : (env env' guess : List ℕ) (op : Op) → Agrees op env env' → Done env guess op → Done env' guess op
 done_agrees env env' guess (Bind x e) f h = sym (f x (or_left _ _ (eq-eqb x x refl))) ∙ h ∙ value_agree e env env' (λ g k. f g (or_right (x == g) _ k))
-done_agrees env env' guess (SpecCall args) f h = h ∙ values_agree args env env' f
+done_agrees env env' guess (SpecCall args) f h = tt
 done_agrees env env' guess (CombRead x m a) f h = tt
 done_agrees env env' guess (DelayedRead x m a) f h = tt
 done_agrees env env' guess (Write m a e) f h = tt
@@ -124,25 +124,52 @@ done_agrees env env' guess (ReserveWrite m a) f h = tt
 done_agrees env env' guess (Block m a) f h = tt
 done_agrees env env' guess (Release m a) f h = tt
 done_agrees env env' guess (Call args) f h = tt
-done_agrees env env' guess (Verify args) f h = tt
+done_agrees env env' guess (Verify last args) f h = tt
 done_agrees env env' guess SpecCheck f h = tt
 done_agrees env env' guess SpecBarrier f h = tt
 
--- only a speculative call hangs on the guess
-pub done_guess : (env guess guess' : List ℕ) (op : Op) → is_call op ≡ false → Done env guess op → Done env guess' op
-done_guess env guess guess' (SpecCall args) k h = absurd (cc k)
-done_guess env guess guess' (Bind x e) k h = h
-done_guess env guess guess' (CombRead x m a) k h = tt
-done_guess env guess guess' (DelayedRead x m a) k h = tt
-done_guess env guess guess' (Write m a e) k h = tt
-done_guess env guess guess' (ReserveRead m a) k h = tt
-done_guess env guess guess' (ReserveWrite m a) k h = tt
-done_guess env guess guess' (Block m a) k h = tt
-done_guess env guess guess' (Release m a) k h = tt
-done_guess env guess guess' (Call args) k h = tt
-done_guess env guess guess' (Verify args) k h = tt
-done_guess env guess guess' SpecCheck k h = tt
-done_guess env guess guess' SpecBarrier k h = tt
+-- the guess after these statements, the last one first: what the last statement gave that gives one
+abbrev pub guess_past : List Op → List ℕ → List ℕ
+guess_past [] env = []
+guess_past (op ∷ past) env = guess_after op env (guess_past past env)
+
+-- after a statement the guess is the same by values that agree on all variables that it hangs on
+pub guess_agrees : (op : Op) (env env' guess guess' : List ℕ) → Agrees op env env' → guess ≡ guess'
+    → guess_after op env guess ≡ guess_after op env' guess'
+guess_agrees (SpecCall args) env env' guess guess' f h = values_agree args env env' f
+guess_agrees (Verify last args) env env' guess guess' f h = values_agree args env env' f
+guess_agrees (Bind x e) env env' guess guess' f h = h
+guess_agrees (CombRead x m a) env env' guess guess' f h = h
+guess_agrees (DelayedRead x m a) env env' guess guess' f h = h
+guess_agrees (Write m a e) env env' guess guess' f h = h
+guess_agrees (ReserveRead m a) env env' guess guess' f h = h
+guess_agrees (ReserveWrite m a) env env' guess guess' f h = h
+guess_agrees (Block m a) env env' guess guess' f h = h
+guess_agrees (Release m a) env env' guess guess' f h = h
+guess_agrees (Call args) env env' guess guess' f h = h
+guess_agrees SpecCheck env env' guess guess' f h = h
+guess_agrees SpecBarrier env env' guess guess' f h = h
+
+-- what a statement gave doesn't hang on the guess
+pub done_guess : (env guess guess' : List ℕ) (op : Op) → Done env guess op → Done env guess' op
+done_guess env guess guess' (Bind x e) h = h
+done_guess env guess guess' (CombRead x m a) h = tt
+done_guess env guess guess' (DelayedRead x m a) h = tt
+done_guess env guess guess' (Write m a e) h = tt
+done_guess env guess guess' (ReserveRead m a) h = tt
+done_guess env guess guess' (ReserveWrite m a) h = tt
+done_guess env guess guess' (Block m a) h = tt
+done_guess env guess guess' (Release m a) h = tt
+done_guess env guess guess' (Call args) h = tt
+done_guess env guess guess' (SpecCall args) h = tt
+done_guess env guess guess' (Verify last args) h = tt
+done_guess env guess guess' SpecCheck h = tt
+done_guess env guess guess' SpecBarrier h = tt
+
+-- the guess after statements that were carried out one after another is what these give, in the order of the text
+pub guess_onto : (xs : List Stmt) (past : List Op) (env : List ℕ) → guess_past (onto xs past) env ≡ guess_of xs env (guess_past past env)
+guess_onto [] past env = refl
+guess_onto (x ∷ xs) past env = guess_onto xs (x.op ∷ past) env
 
 -- a statement that has nothing to do with a variable doesn't hang on its value
 pub mention_touch : (x : ℕ) (op : Op) → mentions_var x op ≡ false → touches x op ≡ false
@@ -156,7 +183,7 @@ mention_touch x (Block m a) h = h
 mention_touch x (Release m a) h = h
 mention_touch x (Call args) h = h
 mention_touch x (SpecCall args) h = h
-mention_touch x (Verify args) h = h
+mention_touch x (Verify last args) h = h
 mention_touch x SpecCheck h = h
 mention_touch x SpecBarrier h = h
 

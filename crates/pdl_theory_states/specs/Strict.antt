@@ -23,7 +23,7 @@ uses_own (Block m a) = false
 uses_own (Release m a) = false
 uses_own (Call args) = false
 uses_own (SpecCall args) = false
-uses_own (Verify args) = false
+uses_own (Verify last args) = false
 uses_own SpecCheck = false
 uses_own SpecBarrier = false
 

@@ -17,6 +17,7 @@ use Rattle.pdl_theory_turns.proofs.Marks.{seen, strips, Later}
 use Rattle.pdl_theory_turns.proofs.UndoneWrites.{marks}
 use Rattle.pdl_theory_turns.proofs.TurnFacts.{Graph, Trunk, next_of, next_at, blocked_at, right_guess, stage_work}
 use Rattle.pdl_theory_turns.proofs.ThreadOrder.{Branches}
+use Rattle.pdl_theory_turns.proofs.Guesses.{Changed}
 use Rattle.pdl_theory_derived.proofs.DelayedReads.{caught, Apart, AllAsks}
 
 -- a thread that moved to stage n, with what it awaits there
@@ -25,10 +26,9 @@ onward n w = record { stage = n; env = w.env; entries = w.entries; guess = w.gue
 
 -- a thread after a wrong guess moved in a cycle in which a barrier of its stage is not clear
 pub record Strayed (p : Pipe) (stray : Thread → Type 0) (made : Thread → Bool) (t : Thread) (w : Work) : Type 0 where
-  pub fails : w.fails ≡ false
   pub commits : w.commits ≡ []
   pub goes_on : stray (onward (next_of p t.stage w.env) w)
-  pub once : made t ≡ true → w.child ≡ None
+  pub once : made t ≡ true → Changed w
   pub born : (x : List ℕ) → w.child ≡ Some x → stray (fresh p x) × (made (fresh p x) ≡ false)
   pub made_next : made (onward (next_of p t.stage w.env) w) ≡ (made t || is_some w.child)
 
@@ -89,19 +89,11 @@ pub record Course (p : Pipe) : Type 1 where
   pub child_next : (arrays : Arrays) (args : List ℕ) (s : ℕ) → on arrays args s → s < length p.stages
       → (so_far p arrays args (next_at p arrays args s)).child ≡ or_else (stage_work p arrays args s).child (so_far p arrays args s).child
   pub child_end : (arrays : Arrays) (args : List ℕ) → right_guess (so_far p arrays args (length p.stages)).child (thread p arrays args).next ≡ true
-  pub not_yet : (arrays : Arrays) (args : List ℕ) (s : ℕ) → on arrays args s → s < length p.stages
-      → (so_far p arrays args s).child ≡ None → (stage_work p arrays args s).fails ≡ false
-  pub right_stays : (arrays : Arrays) (args : List ℕ) (s : ℕ) → on arrays args s → s < length p.stages
-      → right_guess (so_far p arrays args s).child (thread p arrays args).next ≡ true
-      → ((stage_work p arrays args s).child ≡ None) × ((stage_work p arrays args s).fails ≡ false)
+  -- once it has made one, a stage makes nothing or replaces it, which is no later than v
+  pub made_changes : (arrays : Arrays) (args : List ℕ) (s : ℕ) (x : List ℕ) → on arrays args s → (so_far p arrays args s).child ≡ Some x → Changed (stage_work p arrays args s)
+  pub changes_early : (arrays : Arrays) (args : List ℕ) (s : ℕ) (x : List ℕ) → on arrays args s → (so_far p arrays args s).child ≡ Some x → (stage_work p arrays args s).fails ≡ true → (s ≤ v) × (verify_stage p.stmts ≡ Some v)
   pub wrong_made : (arrays : Arrays) (args : List ℕ) (s : ℕ) (x : List ℕ) → (so_far p arrays args s).child ≡ Some x
       → same_args x (thread p arrays args).next ≡ false → (s ≤ v) × (verify_stage p.stmts ≡ Some v)
-  pub wrong_before : (arrays : Arrays) (args : List ℕ) (s : ℕ) (x : List ℕ) → on arrays args s
-      → (so_far p arrays args s).child ≡ Some x → same_args x (thread p arrays args).next ≡ false → s < v
-      → ((stage_work p arrays args s).child ≡ None) × ((stage_work p arrays args s).fails ≡ false)
-  pub wrong_at : (arrays : Arrays) (args : List ℕ) (s : ℕ) (x : List ℕ) → on arrays args s
-      → (so_far p arrays args s).child ≡ Some x → same_args x (thread p arrays args).next ≡ false → s ≡ v
-      → ((stage_work p arrays args s).child ≡ Some (thread p arrays args).next) × ((stage_work p arrays args s).fails ≡ true)
   -- a thread after a wrong guess, which has passed no barrier
   pub stray : Thread → Type 0
   pub made : Thread → Bool

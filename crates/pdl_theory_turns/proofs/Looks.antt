@@ -101,13 +101,13 @@ does_set arrays x v (ReserveWrite m a) w h =
 does_set arrays x v (Block m a) w h = refl
 does_set arrays x v (Call args) w h = ap (λ k. record (with_set w x v) { child = Some k }) (values_unused x v args w.env h)
 does_set arrays x v (SpecCall args) w h = ap (λ k. record (with_set w x v) { child = Some k; guess = k }) (values_unused x v args w.env h)
-does_set arrays x v (Verify args) w h =
-    ap (λ k. cond (same_args k w.guess) (with_set w x v) (record (with_set w x v) { child = Some k; fails = true })) (values_unused x v args w.env h)
+does_set arrays x v (Verify last args) w h =
+    ap (λ k. cond (same_args k w.guess) (with_set w x v) (record (with_set w x v) { child = Some k; guess = k; fails = true })) (values_unused x v args w.env h)
     ∙ at (same_args (values_of args w.env) w.guess)
   where
     at : (b : Bool)
-        → cond b (with_set w x v) (record (with_set w x v) { child = Some (values_of args w.env); fails = true })
-        ≡ with_set (cond b w (record w { child = Some (values_of args w.env); fails = true })) x v
+        → cond b (with_set w x v) (record (with_set w x v) { child = Some (values_of args w.env); guess = (values_of args w.env); fails = true })
+        ≡ with_set (cond b w (record w { child = Some (values_of args w.env); guess = (values_of args w.env); fails = true })) x v
     at true = refl
     at false = refl
 does_set arrays x v _ w h = refl
@@ -174,9 +174,9 @@ unasked_op : (x : ℕ) (o : Around) (op : Op) (w : Work)
     → AllAsks (λ q. q.var ≢ x) (work_after o op w).asks
 unasked_op x o (DelayedRead y m a) w h k =
     all_snoc (λ q. q.var ≢ x) w.asks (record { mem = m; var = y; address = slice_index w.env a }) k (λ e. apart x y (not_or (y == x) (a == x) h).0 (sym e))
-unasked_op x o (Verify args) w h k = at (same_args (values_of args w.env) w.guess)
+unasked_op x o (Verify last args) w h k = at (same_args (values_of args w.env) w.guess)
   where
-    at : (b : Bool) → AllAsks (λ q. q.var ≢ x) (cond b w (record w { child = Some (values_of args w.env); fails = true })).asks
+    at : (b : Bool) → AllAsks (λ q. q.var ≢ x) (cond b w (record w { child = Some (values_of args w.env); guess = (values_of args w.env); fails = true })).asks
     at true = k
     at false = k
 unasked_op x o _ w h k = k
@@ -200,11 +200,11 @@ unasked_by x o (y ∷ ys) w h k =
 pub keeps_clear : (o : Around) (op : Op) (w : Work)
     → is_fetch op ≡ false → (answered_op op ≡ op) × (work_after o op (clear w) ≡ clear (work_after o op (clear w)))
 keeps_clear o (DelayedRead x m a) w h = absurd (cc h)
-keeps_clear o (Verify args) w h = (refl, at (same_args (values_of args w.env) w.guess))
+keeps_clear o (Verify last args) w h = (refl, at (same_args (values_of args w.env) w.guess))
   where
     at : (b : Bool)
-        → cond b (clear w) (record (clear w) { child = Some (values_of args w.env); fails = true })
-        ≡ clear (cond b (clear w) (record (clear w) { child = Some (values_of args w.env); fails = true }))
+        → cond b (clear w) (record (clear w) { child = Some (values_of args w.env); guess = (values_of args w.env); fails = true })
+        ≡ clear (cond b (clear w) (record (clear w) { child = Some (values_of args w.env); guess = (values_of args w.env); fails = true }))
     at true = refl
     at false = refl
 keeps_clear o _ w h = (refl, refl)
@@ -239,7 +239,7 @@ raw_step arrays (Block m a) ys w h true f go = absurd (cc f)
 raw_step arrays (Release m a) ys w h true f go = absurd (cc f)
 raw_step arrays (Call args) ys w h true f go = absurd (cc f)
 raw_step arrays (SpecCall args) ys w h true f go = absurd (cc f)
-raw_step arrays (Verify args) ys w h true f go = absurd (cc f)
+raw_step arrays (Verify last args) ys w h true f go = absurd (cc f)
 raw_step arrays SpecCheck ys w h true f go = absurd (cc f)
 raw_step arrays SpecBarrier ys w h true f go = absurd (cc f)
 
@@ -262,13 +262,13 @@ raw_looked arrays (y ∷ ys) w h = at (all_hold y.guards w.env) (λ v. raw_looke
 env_op : (o : Around) (op : Op) (w v : Work) → w.env ≡ v.env → (work_after o op w).env ≡ (work_after o op v).env
 env_op o (Bind x e) w v h = ap (λ l. slice_set l x (value_of e l)) h
 env_op o (CombRead x m a) w v h = ap (λ l. slice_set l x (o.read m (slice_index l a))) h
-env_op o (Verify args) w v h = at (same_args (values_of args w.env) w.guess) ∙ h ∙ sym (by (same_args (values_of args v.env) v.guess))
+env_op o (Verify last args) w v h = at (same_args (values_of args w.env) w.guess) ∙ h ∙ sym (by (same_args (values_of args v.env) v.guess))
   where
-    at : (b : Bool) → (cond b w (record w { child = Some (values_of args w.env); fails = true })).env ≡ w.env
+    at : (b : Bool) → (cond b w (record w { child = Some (values_of args w.env); guess = (values_of args w.env); fails = true })).env ≡ w.env
     at true = refl
     at false = refl
 
-    by : (b : Bool) → (cond b v (record v { child = Some (values_of args v.env); fails = true })).env ≡ v.env
+    by : (b : Bool) → (cond b v (record v { child = Some (values_of args v.env); guess = (values_of args v.env); fails = true })).env ≡ v.env
     by true = refl
     by false = refl
 env_op o _ w v h = h
@@ -321,7 +321,7 @@ fixed_op path arrays (Block m a) ys w h true f g = absurd (cc f)
 fixed_op path arrays (Release m a) ys w h true f g = absurd (cc f)
 fixed_op path arrays (Call args) ys w h true f g = absurd (cc f)
 fixed_op path arrays (SpecCall args) ys w h true f g = absurd (cc f)
-fixed_op path arrays (Verify args) ys w h true f g = absurd (cc f)
+fixed_op path arrays (Verify last args) ys w h true f g = absurd (cc f)
 fixed_op path arrays SpecCheck ys w h true f g = absurd (cc f)
 fixed_op path arrays SpecBarrier ys w h true f g = absurd (cc f)
 

@@ -131,9 +131,9 @@ quiet_op m n read (ReserveWrite j a) d h k =
     off : (b : Bool) → not b ≡ true → b ≡ false
     off true q = absurd (cc q)
     off false q = refl
-quiet_op m n read (Verify args) d h k = at (same_args (values_of args d.env) d.guess)
+quiet_op m n read (Verify last args) d h k = at (same_args (values_of args d.env) d.guess)
   where
-    at : (b : Bool) → new_entries m n (cond b d (record d { child = Some (values_of args d.env); fails = true })).reserves ≡ []
+    at : (b : Bool) → new_entries m n (cond b d (record d { child = Some (values_of args d.env); guess = (values_of args d.env); fails = true })).reserves ≡ []
     at true = k
     at false = k
 quiet_op m n read _ d h k = k

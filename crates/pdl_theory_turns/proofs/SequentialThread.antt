@@ -132,9 +132,14 @@ related_step arrays ph (Call args) w r ok rel =
       arrays_now = rel.arrays_now;
       tied = rel.tied;
     }
-related_step arrays ph (Verify args) w r ok rel = at (same_args (values_of args w.env) w.guess)
+related_step arrays ph (Verify true args) w r ok rel = at (same_args (values_of args w.env) w.guess)
   where
-    at : (b : Bool) → Related arrays ph (cond b w (record w { child = Some (values_of args w.env); fails = true })) (run_after (Verify args) r)
+    at : (b : Bool) → Related arrays ph (cond b w (record w { child = Some (values_of args w.env); guess = (values_of args w.env); fails = true })) (run_after (Verify true args) r)
+    at true = record { env = rel.env; arrays_now = rel.arrays_now; tied = rel.tied }
+    at false = record { env = rel.env; arrays_now = rel.arrays_now; tied = rel.tied }
+related_step arrays ph (Verify false args) w r ok rel = at (same_args (values_of args w.env) w.guess)
+  where
+    at : (b : Bool) → Related arrays ph (cond b w (record w { child = Some (values_of args w.env); guess = (values_of args w.env); fails = true })) (run_after (Verify false args) r)
     at true = record { env = rel.env; arrays_now = rel.arrays_now; tied = rel.tied }
     at false = record { env = rel.env; arrays_now = rel.arrays_now; tied = rel.tied }
 related_step arrays ph _ w r ok rel =

@@ -21,7 +21,7 @@ use Rattle.pdl_theory_turns.proofs.Surroundings.{Surrounds, Right, in_stage_all,
 use Rattle.pdl_theory_turns.proofs.Paths.{Fixed, all_stays, stage_path, dead_none}
 use Rattle.pdl_theory_turns.proofs.Marks.{seen, strips, Later, marked}
 use Rattle.pdl_theory_turns.proofs.UndoneWrites.{marks, known_count}
-use Rattle.pdl_theory_turns.proofs.ThreadOrder.{In}
+use Rattle.pdl_theory_facts.proofs.Nested.{within_all, arrives}
 use Rattle.pdl_theory_turns.proofs.TurnFacts.{next_at, blocked_at, stage_work}
 use Rattle.pdl_theory_derived.proofs.DelayedReads.{caught, AllAsks, all_more, all_snoc}
 use Rattle.pdl_theory_turns.proofs.Looks.{look, answered_now, raw_looked, fixed_raw, before_looked, stage_looked, path_looked, run_looked}
@@ -56,9 +56,9 @@ asks_op : (P : Ask → Type 0) (o : Around) (op : Op) (w : Work)
     → ((x m a : ℕ) → op ≡ DelayedRead x m a → P (record { mem = m; var = x; address = slice_index w.env a }))
     → AllAsks P w.asks → AllAsks P (work_after o op w).asks
 asks_op P o (DelayedRead x m a) w f h = all_snoc P w.asks _ h (f x m a refl)
-asks_op P o (Verify args) w f h = at (same_args (values_of args w.env) w.guess)
+asks_op P o (Verify last args) w f h = at (same_args (values_of args w.env) w.guess)
   where
-    at : (b : Bool) → AllAsks P (cond b w (record w { child = Some (values_of args w.env); fails = true })).asks
+    at : (b : Bool) → AllAsks P (cond b w (record w { child = Some (values_of args w.env); guess = (values_of args w.env); fails = true })).asks
     at true = h
     at false = h
 asks_op P o _ w f h = h
@@ -134,13 +134,13 @@ module _ (p : Pipe) (acc : Sound p) (arrays : Arrays) (args : List ℕ) where
   -- THE WAY OF A TURN
 
   -- a fork's variable has its value of the path
-  fork_value : (s x a b : ℕ) → (stage_at p s).next ≡ Forks x a b
+  fork_value : (s x a b : ℕ) → visits_stage p (thread (at_once p) arrays args).env s ≡ true → (stage_at p s).next ≡ Forks x a b
       → slice_index (stage_work p arrays args s).env x ≡ slice_index (thread (at_once p) arrays args).env x
-  fork_value s x a b e =
+  fork_value s x a b on e =
       sym
       (caught_other arrays x (stage_work p arrays args s).asks (stage_work p arrays args s).env
       (asks_each (λ y m. not (y == x) ≡ true) (alone arrays) (in_stage s p.stmts)
-      (reset (so_far p arrays args s)) (not_fetched x (in_stage s p.stmts) (acc.fork_seen s x a b e)) tt))
+      (reset (so_far p arrays args s)) (not_fetched x (in_stage s p.stmts) (acc.fork_seen (thread (at_once p) arrays args).env s x a b on e)) tt))
       ∙ ap (λ (w : Work). slice_index w.env x) (sym (same_stage s))
       ∙ ap (λ (t : Thread). slice_index t.env x) (sym (Turns.placed_next (at_once p) acc.pathwise arrays args s))
       ∙ ap (λ (w : Work). slice_index w.env x) (Turns.so_path (at_once p) acc.pathwise arrays args (suc s))
@@ -159,9 +159,10 @@ module _ (p : Pipe) (acc : Sound p) (arrays : Arrays) (args : List ℕ) where
           (ap (none_of (binds_var x)) (from_looked (suc s) p.stmts)
           ∙ none_looked (binds_var x) (binds_looked x) (stages_from (suc s) p.stmts) ∙ acc.fork_bound s x a b e)
 
-  -- a turn goes on to the next stage as its path tells
-  pub path_next : (s : ℕ) → next_at p arrays args s ≡ next_of p s (thread (at_once p) arrays args).env
-  path_next s = ap (stage_or (length p.stages)) (at (stage_at p s).next refl)
+  -- from each stage that its path comes to a turn goes on to the next stage as its path tells
+  pub path_next : (s : ℕ) → visits_stage p (thread (at_once p) arrays args).env s ≡ true
+      → next_at p arrays args s ≡ next_of p s (thread (at_once p) arrays args).env
+  path_next s on = ap (stage_or (length p.stages)) (at (stage_at p s).next refl)
     where
       at : (n : Next) → (stage_at p s).next ≡ n
           → goes_to (stage_at p s).next (stage_work p arrays args s).env ≡ goes_to (stage_at p s).next (thread (at_once p) arrays args).env
@@ -169,7 +170,7 @@ module _ (p : Pipe) (acc : Sound p) (arrays : Arrays) (args : List ℕ) where
       at (Goes to) e = ap (λ n. goes_to n (stage_work p arrays args s).env) e ∙ sym (ap (λ n. goes_to n (thread (at_once p) arrays args).env) e)
       at (Forks x a b) e =
           ap (λ n. goes_to n (stage_work p arrays args s).env) e
-          ∙ ap (λ k. Some (if k == 1 then a else b)) (fork_value s x a b e)
+          ∙ ap (λ k. Some (if k == 1 then a else b)) (fork_value s x a b on e)
           ∙ sym (ap (λ n. goes_to n (thread (at_once p) arrays args).env) e)
 
   -- the path of a turn comes to stage 0
@@ -180,25 +181,14 @@ module _ (p : Pipe) (acc : Sound p) (arrays : Arrays) (args : List ℕ) where
   pub on_next : (s : ℕ) → visits_stage p (thread (at_once p) arrays args).env s ≡ true → s < length p.stages
       → visits_stage p (thread (at_once p) arrays args).env (next_at p arrays args s) ≡ true
   on_next s on low =
-      ap (visits_stage p (thread (at_once p) arrays args).env) (path_next s) ∙ at (stage_at p (next_of p s (thread (at_once p) arrays args).env)).branch refl
-    where
-      at : (o : Option Branch) → (stage_at p (next_of p s (thread (at_once p) arrays args).env)).branch ≡ o
-          → comes_by p (thread (at_once p) arrays args).env (stage_at p (next_of p s (thread (at_once p) arrays args).env)).branch ≡ true
-      at None e = ap (comes_by p (thread (at_once p) arrays args).env) e
-      at (Some c) e = ap (comes_by p (thread (at_once p) arrays args).env) e ∙ by (acc.branches.stays_in c s (thread (at_once p) arrays args).env low e)
-        where
-          by : (s ≡ c.fork) ⊎ (In p c s × (next_of p s (thread (at_once p) arrays args).env ≡ suc s)) → goes_by p c (thread (at_once p) arrays args).env ≡ true
-          by (inl f) =
-              acc.branches.side c (thread (at_once p) arrays args).env (subst (λ n. n < length p.stages) f low)
-              (subst (λ n. In p c (next_of p n (thread (at_once p) arrays args).env)) f e)
-          by (inr f) = ap (comes_by p (thread (at_once p) arrays args).env) (sym f.0) ∙ on
+      ap (visits_stage p (thread (at_once p) arrays args).env) (path_next s on) ∙ arrives p acc.branches s (thread (at_once p) arrays args).env low on
 
   -- nothing of its path stands in the stages that it passes over
   path_skips : (s : ℕ) → visits_stage p (thread (at_once p) arrays args).env s ≡ true → s < length p.stages
       → before (next_at p arrays args s) (onpath (thread (at_once p) arrays args).env p.stmts)
       ≡ before (suc s) (onpath (thread (at_once p) arrays args).env p.stmts)
   path_skips s on low =
-      ap (λ n. before n (onpath (thread (at_once p) arrays args).env p.stmts)) (path_next s) ∙ acc.skips (thread (at_once p) arrays args).env s low on
+      ap (λ n. before n (onpath (thread (at_once p) arrays args).env p.stmts)) (path_next s on) ∙ acc.skips (thread (at_once p) arrays args).env s low on
 
   -- what it did by a stage, along its path
   so_on : (s : ℕ) → so_far p arrays args s ≡ do_all (alone arrays) (before s (onpath (thread (at_once p) arrays args).env p.stmts)) (start_work p args)
@@ -352,7 +342,7 @@ module _ (p : Pipe) (acc : Sound p) (arrays : Arrays) (args : List ℕ) where
       at false e true f =
           absurd
           (jumped
-          (acc.graph.jump s (stage_work p arrays args s).env (commit_stage p m) low (acc.graph.trunk_commit m) (ltb-false _ _ e) (below (ltb-true _ _ f)))
+          (acc.graph.jump [] s (stage_work p arrays args s).env (commit_stage p m) low (within_all p s) (acc.graph.trunk_commit m) (ltb-false _ _ e) (below (ltb-true _ _ f)))
           (ltb-true _ _ f))
         where
           below : commit_stage p m < next_at p arrays args s → commit_stage p m ≤ next_at p arrays args s

@@ -43,7 +43,7 @@ opens_unused (ReserveWrite m a) c x h u = u
 opens_unused (Release m a) c x h u = u
 opens_unused (Call args) c x h u = u
 opens_unused (SpecCall args) c x h u = u
-opens_unused (Verify args) c x h u = u
+opens_unused (Verify last args) c x h u = u
 opens_unused SpecCheck c x h u = u
 opens_unused SpecBarrier c x h u = u
 
@@ -65,9 +65,9 @@ silent_rest y ys x h = and_right (is_dead y.guards || (not (asks_for x y.guards)
 -- requests over a statement that makes none
 asks_same : (o : Around) (op : Op) (w : Work) → is_fetch op ≡ false → (work_after o op w).asks ≡ w.asks
 asks_same o (DelayedRead x m a) w h = absurd (cc h)
-asks_same o (Verify args) w h = at (same_args (values_of args w.env) w.guess)
+asks_same o (Verify last args) w h = at (same_args (values_of args w.env) w.guess)
   where
-    at : (b : Bool) → (cond b w (record w { child = Some (values_of args w.env); fails = true })).asks ≡ w.asks
+    at : (b : Bool) → (cond b w (record w { child = Some (values_of args w.env); guess = (values_of args w.env); fails = true })).asks ≡ w.asks
     at true = refl
     at false = refl
 asks_same o _ w h = refl
@@ -148,7 +148,7 @@ module _ (p : Pipe) (o : Around) (arrays : Arrays) (s : ℕ) (clean : ℕ → �
       by (Release m a) true i ok' un' r k = absurd (cc i)
       by (Call args) true i ok' un' r k = absurd (cc i)
       by (SpecCall args) true i ok' un' r k = absurd (cc i)
-      by (Verify args) true i ok' un' r k = absurd (cc i)
+      by (Verify last args) true i ok' un' r k = absurd (cc i)
       by SpecCheck true i ok' un' r k = absurd (cc i)
       by SpecBarrier true i ok' un' r k = absurd (cc i)
 

@@ -118,7 +118,7 @@ covers_block : (b : Bool) (c : Scan) (l : Location) (es : List Entry) → Covers
 covers_block true c l es f = f
 covers_block false c l es f = f
 
-covers_verified : (b : Bool) (x : List ℕ) (w : Work) → (cond b w (record w { child = Some x; fails = true })).entries ≡ w.entries
+covers_verified : (b : Bool) (x : List ℕ) (w : Work) → (cond b w (record w { child = Some x; guess = x; fails = true })).entries ≡ w.entries
 covers_verified true x w = refl
 covers_verified false x w = refl
 
@@ -129,7 +129,7 @@ covers_op o c (Write m a e) w f = λ n b h. f n b (sym (has_filled w.entries m a
 covers_op o c (ReserveWrite m a) w f = λ n b h. or_map ((m == n) && (a == b)) _ _ (f n b) h
 covers_op o c (Block m a) w f = covers_block (has_location c.held m a) c (location m a) w.entries f
 covers_op o c (Release m a) w f = λ n b h. f n b (has_without w.entries m a n b h)
-covers_op o c (Verify args) w f = subst (λ es. Covers c.held es) (sym (covers_verified (same_args (values_of args w.env) w.guess) (values_of args w.env) w)) f
+covers_op o c (Verify last args) w f = subst (λ es. Covers c.held es) (sym (covers_verified (same_args (values_of args w.env) w.guess) (values_of args w.env) w)) f
 covers_op o c _ w f = f
 
 -- a ready block makes its location clean, if it is one for reading
@@ -156,9 +156,9 @@ right_after p o arrays s clean c (CombRead x m a) w f g h k r =
 right_after p o arrays s clean c (DelayedRead x m a) w f g h k r = absurd (cc h)
 right_after p o arrays s clean c (Block m a) w f g h k r =
     block_right p o arrays s clean c m a w f g (leb-true (reserve_stage p m) s h) (and_right w.ready _ k) r
-right_after p o arrays s clean c (Verify args) w f g h k r = at (same_args (values_of args w.env) w.guess)
+right_after p o arrays s clean c (Verify last args) w f g h k r = at (same_args (values_of args w.env) w.guess)
   where
-    at : (b : Bool) → Right p s clean c.blocked (cond b w (record w { child = Some (values_of args w.env); fails = true })).env
+    at : (b : Bool) → Right p s clean c.blocked (cond b w (record w { child = Some (values_of args w.env); guess = (values_of args w.env); fails = true })).env
     at true = r
     at false = r
 right_after p o arrays s clean c _ w f g h k r = r

@@ -27,9 +27,9 @@ quiet_op m o (Release n a) w h =
   where
     apart : n ≢ m
     apart e = grind (arith, eqb_tells)
-quiet_op m o (Verify args) w h = at (same_args (values_of args w.env) w.guess)
+quiet_op m o (Verify last args) w h = at (same_args (values_of args w.env) w.guess)
   where
-    at : (b : Bool) → of_mem m (cond b w (record w { child = Some (values_of args w.env); fails = true })).commits ≡ of_mem m w.commits
+    at : (b : Bool) → of_mem m (cond b w (record w { child = Some (values_of args w.env); guess = (values_of args w.env); fails = true })).commits ≡ of_mem m w.commits
     at true = refl
     at false = refl
 quiet_op m o _ w h = refl
@@ -166,10 +166,10 @@ spots_op arrays m ph (Release n a) w r h ok rel = at (n == m) (is_among a (ph m)
     at true true = refl
     at true false = refl
     at false c = refl
-spots_op arrays m ph (Verify args) w r h ok rel = at (same_args (values_of args w.env) w.guess)
+spots_op arrays m ph (Verify last args) w r h ok rel = at (same_args (values_of args w.env) w.guess)
   where
     at : (b : Bool)
-        → spots (ph m) (cond b w (record w { child = Some (values_of args w.env); fails = true })).env
+        → spots (ph m) (cond b w (record w { child = Some (values_of args w.env); guess = values_of args w.env; fails = true })).env
         (of_mem m r.writes)
         ≡ spots (ph m) w.env (of_mem m r.writes)
     at true = refl

@@ -7,7 +7,7 @@ use Rattle.pdl_semantics.specs.Sequential.{thread}
 use Rattle.pdl_theory_derived.specs.Derived.{Work, work_of_stage}
 use Rattle.pdl_theory_derived.specs.Alone.{alone, before, thread_at, Location}
 use Rattle.pdl_theory_facts.specs.Scans.{no_scan, scan_after_all}
-pub use Rattle.pdl_theory_facts.specs.Graphs.{Trunk, stage_or, next_of, Below, Graph}
+pub use Rattle.pdl_theory_facts.specs.Graphs.{Home, Within, Trunk, stage_or, next_of, Below, Graph}
 
 -- the locations that a turn has blocked for reading before stage s
 abbrev pub blocked_at : Pipe → Arrays → List ℕ → ℕ → List Location
