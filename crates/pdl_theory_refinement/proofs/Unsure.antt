@@ -4,7 +4,7 @@ use Rattle.std.proofs.lemmas.Bool.Decides.{leb_tells}
 use Rattle.pdl_semantics.specs.Flat.{Pipe, list_all}
 use Rattle.pdl_semantics.specs.Stages.{verify_stage}
 use Rattle.pdl_semantics.specs.Moves.{is_empty}
-use Rattle.pdl_theory_derived.specs.Derived.{Thread, State, Act, act, acts, befores, barrier_clear, commits_of, can_enter, exit_of}
+use Rattle.pdl_theory_derived.specs.Derived.{have_room, Thread, State, Act, act, acts, befores, barrier_clear, commits_of, can_enter, exit_of}
 use Rattle.pdl_theory_facts.proofs.Nested.{within_all}
 use Rattle.pdl_theory_turns.proofs.TurnFacts.{Trunk}
 use Rattle.pdl_theory_turns.proofs.Courses.{Course}
@@ -31,7 +31,7 @@ pub held_back : (p : Pipe) (st : State) (bits : List Bool) (older : List Act) (t
 held_back p st bits older [] h = (refl, refl)
 held_back p st bits older (t ∷ ts) h =
     let a : Act = act p st bits older t in
-    let stays : a.moves ≡ false = ap (λ b. b && a.work.ready && is_empty a.now.awaits && can_enter p older (exit_of p a)) h in
+    let stays : a.moves ≡ false = ap (λ b. b && a.work.ready && have_room p (befores older) a.work && is_empty a.now.awaits && can_enter p older (exit_of p a)) h in
     let rest = held_back p st bits (act p st bits older t ∷ older) ts (ap (λ b. not (a.moves && a.work.fails) && b) h ∙ and_false (not (a.moves && a.work.fails))) in
     (ap₂ (λ b l. cond b (a.work.commits ++ l) l) stays rest.0, ap₂ (λ b c. (b && is_none (exit_of p a)) || c) stays rest.1)
 

@@ -169,9 +169,9 @@ reserved_op all read (ReserveWrite m a) d f h = more d.reserves h
     more : (rs : List Reserved) → ReservesFrom all rs → ReservesFrom all (rs ++ record { mem = m; var = a; address = slice_index d.env a } ∷ [])
     more [] g = (f m (ap not (eq-eqb m m refl)), tt)
     more (r ∷ rs) g = (g.0, more rs g.1)
-reserved_op all read (Verify args) d f h = at (same_args (values_of args d.env) d.guess)
+reserved_op all read (Verify last args) d f h = at (same_args (values_of args d.env) d.guess)
   where
-    at : (b : Bool) → ReservesFrom all (cond b d (record d { child = Some (values_of args d.env); fails = true })).reserves
+    at : (b : Bool) → ReservesFrom all (cond b d (record d { child = Some (values_of args d.env); guess = values_of args d.env; fails = true })).reserves
     at true = h
     at false = h
 reserved_op all read _ d f h = h

@@ -149,9 +149,9 @@ quiet_release m read (Release j a) d h k = releases_more m d.releases _ ∙ ap�
         by true i = absurd (cc i)
         by false i = refl
     none false = refl
-quiet_release m read (Verify args) d h k = at (same_args (values_of args d.env) d.guess)
+quiet_release m read (Verify last args) d h k = at (same_args (values_of args d.env) d.guess)
   where
-    at : (b : Bool) → releases_of m (cond b d (record d { child = Some (values_of args d.env); fails = true })).releases ≡ 0
+    at : (b : Bool) → releases_of m (cond b d (record d { child = Some (values_of args d.env); guess = values_of args d.env; fails = true })).releases ≡ 0
     at true = k
     at false = k
 quiet_release m read _ d h k = k

@@ -41,9 +41,9 @@ plus_none n = omega arith
 
 counted_op : (m : ℕ) (o : Around) (op : Op) (w : Work) → reserves_of m (work_after o op w).reserves ≡ reserves_of m w.reserves + cond (is_write_reserve m op) 1 0
 counted_op m o (ReserveWrite n a) w = one_more m w.reserves _
-counted_op m o (Verify args) w = at (same_args (values_of args w.env) w.guess)
+counted_op m o (Verify last args) w = at (same_args (values_of args w.env) w.guess)
   where
-    at : (b : Bool) → reserves_of m (cond b w (record w { child = Some (values_of args w.env); fails = true })).reserves ≡ reserves_of m w.reserves + 0
+    at : (b : Bool) → reserves_of m (cond b w (record w { child = Some (values_of args w.env); guess = values_of args w.env; fails = true })).reserves ≡ reserves_of m w.reserves + 0
     at true = plus_none (reserves_of m w.reserves)
     at false = plus_none (reserves_of m w.reserves)
 counted_op m o _ w = plus_none (reserves_of m w.reserves)

@@ -166,7 +166,15 @@ spots_op arrays m ph (Release n a) w r h ok rel = at (n == m) (is_among a (ph m)
     at true true = refl
     at true false = refl
     at false c = refl
-spots_op arrays m ph (Verify last args) w r h ok rel = at (same_args (values_of args w.env) w.guess)
+spots_op arrays m ph (Verify true args) w r h ok rel = at (same_args (values_of args w.env) w.guess)
+  where
+    at : (b : Bool)
+        → spots (ph m) (cond b w (record w { child = Some (values_of args w.env); guess = values_of args w.env; fails = true })).env
+        (of_mem m r.writes)
+        ≡ spots (ph m) w.env (of_mem m r.writes)
+    at true = refl
+    at false = refl
+spots_op arrays m ph (Verify false args) w r h ok rel = at (same_args (values_of args w.env) w.guess)
   where
     at : (b : Bool)
         → spots (ph m) (cond b w (record w { child = Some (values_of args w.env); guess = values_of args w.env; fails = true })).env

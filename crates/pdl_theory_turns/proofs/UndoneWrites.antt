@@ -78,6 +78,8 @@ seen_split a (x ∷ xs) ys rest =
 -- writes are added behind
 run_more : (m : ℕ) (op : Op) (r : Run) → (more : List Commit) × (of_mem m (run_after op r).writes ≡ of_mem m r.writes ++ more)
 run_more m (Write n a e) r = (of_mem m (write_of n (slice_index r.env a) (value_of e r.env) ∷ []), of_mem_append m r.writes _)
+run_more m (Verify true args) r = ([], sym (append-nil _))
+run_more m (Verify false args) r = ([], sym (append-nil _))
 run_more m _ r = ([], sym (append-nil _))
 
 runs_more : (m : ℕ) (xs : List Stmt) (r : Run) → (more : List Commit) × (of_mem m (run_all xs r).writes ≡ of_mem m r.writes ++ more)
