@@ -3,14 +3,15 @@ use Rattle.std.proofs.Common.{◌≡◌, refl, sym, ap, ◌∙◌, subst, ℕ, z
 use Rattle.std.specs.Prelude.{if◌then◌else◌}
 use Rattle.std.proofs.lemmas.Bool.{eqb-true, eqb-false, cases_lt, le-ltb, and_parts, ltb-true}
 use Rattle.pdl_semantics.specs.Flat.{Stmt, Pipe, list_all}
-use Rattle.pdl_semantics.specs.Stages.{stage_at, is_verify, verify_stage}
+use Rattle.pdl_semantics.specs.Stages.{is_verify, verify_stage}
+use Rattle.pdl_theory_facts.specs.Graphs.{Trunk}
 use Rattle.pdl_semantics.specs.Machine.{Thread, State, deeds, with_answers}
 use Rattle.pdl_semantics.specs.Moves.{Act, no_failure, none_up_to}
 use Rattle.pdl_semantics.specs.Cycle.{squasher, is_kept}
 use Rattle.pdl_theory_facts.specs.Facts.{Sound}
 use Rattle.pdl_theory_turns.proofs.CourseOf
 use Rattle.pdl_machine_facts.specs.Slots.{slot, with_now, here, later_acts, stage_moves, mover, movers_from, moving}
-use Rattle.pdl_machine_inflight.specs.InFlight.{InFlight}
+use Rattle.pdl_machine_inflight.specs.InFlight.{InFlight, ReplacesNone}
 use Rattle.pdl_machine_inflight.proofs.DeedsIn.{fails_not, fails_never}
 use Rattle.pdl_machine_inflight.proofs.LaterActs.{all_later, not_all_later}
 
@@ -57,7 +58,7 @@ some_squasher p st k true (Some t) = at (deeds p st k t).fails
 
 -- WHERE NOTHING IS VERIFIED
 
-module _ (p : Pipe) (none : verify_stage p.stmts ≡ None) (st : State) (bits : List Bool) where
+module _ (p : Pipe) (none : verify_stage p.stmts ≡ None) (still : ReplacesNone p) (st : State) (bits : List Bool) where
   never : (n k : ℕ) → squasher (movers_from p st bits n k) ≡ None
   never zero k = refl
   never (suc n) k =
@@ -65,7 +66,7 @@ module _ (p : Pipe) (none : verify_stage p.stmts ≡ None) (st : State) (bits : 
     where
       at : (o : Option Thread) → failing p st k o ≡ false
       at None = refl
-      at (Some t) = fails_never p none st k t
+      at (Some t) = fails_never p none still st k t
 
   -- where nothing is verified nobody squashes
   pub no_squasher : squasher (moving p st bits) ≡ None
@@ -75,7 +76,7 @@ module _ (p : Pipe) (none : verify_stage p.stmts ≡ None) (st : State) (bits : 
   pub none_fails : length st.stages ≡ length p.stages → (k : ℕ) → no_failure (later_acts p st bits k) ≡ true
   none_fails count k =
       all_later p st bits (λ (o : Act). not (o.moves && o.does.fails)) count k
-      (λ j t low high e. ap (λ b. not (stage_moves p st bits j && b)) (fails_never p none st j t) ∙ no (stage_moves p st bits j))
+      (λ j t low high e. ap (λ b. not (stage_moves p st bits j && b)) (fails_never p none still st j t) ∙ no (stage_moves p st bits j))
     where
       no : (b : Bool) → not (b && false) ≡ true
       no true = refl
@@ -92,21 +93,21 @@ verify_low n v (x ∷ xs) h e = at (is_verify x.op) e (verify_low n v xs (and_pa
     at true f rest = let same : x.stage ≡ v = cc f in subst (λ j. j < n) same (ltb-true x.stage n (and_parts (nat_lt x.stage n) _ h).0)
     at false f rest = rest f
 
-module _ (p : Pipe) (sound : Sound p) (st : State) (bits : List Bool) (flight : InFlight p st) (v : ℕ) (is : verify_stage p.stmts ≡ Some v) where
+module _ (p : Pipe) (sound : Sound p) (still : ReplacesNone p) (st : State) (bits : List Bool) (flight : InFlight p st) (v : ℕ) (is : verify_stage p.stmts ≡ Some v) where
   v_is : (o : Option ℕ) → o ≡ Some v → CourseOf.v_of p sound o ≡ v
   v_is None i = absurd (cc i)
   v_is (Some w) i = cc i
 
   -- V stands in the trunk
-  pub v_trunk : (stage_at p v).branch ≡ None
-  v_trunk = subst (λ n. (stage_at p n).branch ≡ None) (v_is (verify_stage p.stmts) is) (CourseOf.v_trunk p sound (verify_stage p.stmts) refl)
+  pub v_trunk : Trunk p v
+  v_trunk = subst (λ n. Trunk p n) (v_is (verify_stage p.stmts) is) (CourseOf.v_trunk p sound (verify_stage p.stmts) refl)
 
   -- V is one of the pipe's stages
   pub v_low : v < length p.stages
   v_low = verify_low (length p.stages) v p.stmts sound.inside is
 
   fails_apart : (k : ℕ) (t : Thread) → (k ≡ v → ⊥) → (deeds p st k t).fails ≡ false
-  fails_apart k t n = fails_not p v (sound.verifies v is) st k t n
+  fails_apart k t n = fails_not p v (sound.verifies v is) still st k t n
 
   failing_apart : (k : ℕ) (o : Option Thread) → (k ≡ v → ⊥) → failing p st k o ≡ false
   failing_apart k None n = refl
