@@ -122,10 +122,19 @@ pub struct FlatBranch {
     pub first: bool,
 }
 
-/// A stage: where it leads, the branch that it stands in, and the fork stage whose branches meet in it.
+/// The branches that a stage stands in, the innermost first; those that there are come before those that there aren't.
+#[derive(Clone, Copy)]
+pub struct FlatBranches {
+    pub first: Option<FlatBranch>,
+    pub second: Option<FlatBranch>,
+    pub third: Option<FlatBranch>,
+    pub fourth: Option<FlatBranch>,
+}
+
+/// A stage: where it leads, the branches that it stands in, and the fork stage whose branches meet in it.
 #[derive(Clone, Copy)]
 pub struct FlatStage {
     pub next: Next,
-    pub branch: Option<FlatBranch>,
+    pub branches: FlatBranches,
     pub merges: Option<usize>,
 }
