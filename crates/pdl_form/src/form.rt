@@ -131,6 +131,14 @@ pub struct FlatBranches {
     pub fourth: Option<FlatBranch>,
 }
 
+/// The branches of a stage that stands in none.
+pub const NO_BRANCHES: FlatBranches = FlatBranches {
+    first: None,
+    second: None,
+    third: None,
+    fourth: None,
+};
+
 /// A stage: where it leads, the branches that it stands in, and the fork stage whose branches meet in it.
 #[derive(Clone, Copy)]
 pub struct FlatStage {

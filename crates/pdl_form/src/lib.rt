@@ -10,4 +10,7 @@ pub mod rows;
 pub mod stmts;
 
 pub use flat::FlatPipe;
-pub use form::{FlatBranch, FlatBranches, FlatExpr, FlatGuard, FlatMem, FlatStage, FlatStmt, Lock, Next, Op};
+pub use form::{
+    FlatBranch, FlatBranches, FlatExpr, FlatGuard, FlatMem, FlatStage, FlatStmt, Lock, NO_BRANCHES,
+    Next, Op,
+};

@@ -172,17 +172,61 @@ module _ (ms : List Mem) (b : List Branch) (sp : Span) (c : Expr) (when otherwis
       (λ t. some_begun (separators when + separators otherwise) (sym test ∙ t))
       test
 
--- the stage that a branch enters first, as its `if`'s stage shows it
-pub entry_seen : (ms : List Mem) (b bs : List Branch) (n : Next) (first : Bool) (k i merge : ℕ) (ss : Stmts)
+-- NO STAGE BEGINS
+
+none_if : (f x : ℕ) (t : Bool) (a b c d rest : Graph) → t ≡ true → (if t then rest else graph_with_fork f x a b rest) ≡ (if t then rest else graph_with_fork f x c d rest)
+none_if f x true a b c d rest h = refl
+none_if f x false a b c d rest h = cc
+
+mutual
+  flat_in : (ms : List Mem) (b c : List Branch) (s : Stmt) (at' : Position) (rest : Graph) → separators_in s ≡ 0
+      → graph_before ms b s at' rest ≡ graph_before ms c s at' rest
+  flat_in ms b c (Separator _) at' rest h = absurd (omega (arith, h))
+  flat_in ms b c (If sp e when otherwise) at' rest h =
+      none_if at'.stage (guard_of at'.vars e) (separators when + separators otherwise == 0)
+      (graph ms (side at'.stage true ∷ b) (Goes (suc (at'.begun + separators when + separators otherwise))) when (with_guard e at'))
+      (graph ms (side at'.stage false ∷ b) (Goes (suc (at'.begun + separators when + separators otherwise))) otherwise (at_otherwise ms e when at'))
+      (graph ms (side at'.stage true ∷ c) (Goes (suc (at'.begun + separators when + separators otherwise))) when (with_guard e at'))
+      (graph ms (side at'.stage false ∷ c) (Goes (suc (at'.begun + separators when + separators otherwise))) otherwise (at_otherwise ms e when at'))
+      rest (ap (λ n. n == 0) h)
+  flat_in ms b c s at' rest h = refl
+
+  -- where no stage begins the branches around don't matter
+  flat_all : (ms : List Mem) (b c : List Branch) (exit : Next) (ss : Stmts) (at' : Position) → separators ss ≡ 0
+      → graph ms b exit ss at' ≡ graph ms c exit ss at'
+  flat_all ms b c exit Nil at' h = refl
+  flat_all ms b c exit (Cons s ss) at' h =
+      flat_in ms b c s at' (graph ms b exit ss (past ms s at')) (omega (arith, h))
+      ∙ ap (graph_before ms c s at') (flat_all ms b c exit ss (past ms s at') (omega (arith, h)))
+
+-- the graph of a branch, with the branches of the stages that begin in it, if any do
+branch_graph : (ms : List Mem) (b bs : List Branch) (s : Branch) (n : Next) (ss : Stmts) (p : Position)
+    → b ≡ (if separators ss == 0 then bs else s ∷ bs) → graph ms b n ss p ≡ graph ms (s ∷ bs) n ss p
+branch_graph ms b bs s n ss p h = at (separators ss == 0) refl h
+  where
+    at : (t : Bool) → (separators ss == 0) ≡ t → b ≡ (if t then bs else s ∷ bs) → graph ms b n ss p ≡ graph ms (s ∷ bs) n ss p
+    at true e f = flat_all ms b (s ∷ bs) n ss p (eqb-true (separators ss) 0 e)
+    at false e f = ap (λ c. graph ms c n ss p) f
+
+-- the stages after a branch
+pub branch_seen : (ms : List Mem) (b bs : List Branch) (n : Next) (first : Bool) (k i merge : ℕ) (ss : Stmts)
     (p : Position) (s0 s1 : List Stage)
-    → s1 ≡ closed_stages i false s0 (graph ms b n ss p) → b ≡ side k first ∷ bs → n ≡ Goes merge → i ≡ k → i < length s0
+    → s1 ≡ closed_stages i false s0 (graph ms b n ss p) → b ≡ (if separators ss == 0 then bs else side k first ∷ bs) → n ≡ Goes merge → i ≡ k
+    → s1 ≡ closed_stages k false s0 (graph ms (side k first ∷ bs) (Goes merge) ss p)
+branch_seen ms b bs n first k i merge ss p s0 s1 h eb en ei =
+    h
+    ∙ ap (λ j. closed_stages j false s0 (graph ms b n ss p)) ei
+    ∙ ap (λ m. closed_stages k false s0 (graph ms b m ss p)) en
+    ∙ ap (closed_stages k false s0) (branch_graph ms b bs (side k first) (Goes merge) ss p eb)
+
+-- the stage that a branch enters first, as its `if`'s stage shows it
+pub entry_seen : (ms : List Mem) (bs : List Branch) (first : Bool) (k merge : ℕ) (ss : Stmts)
+    (p : Position) (s0 s1 : List Stage)
+    → s1 ≡ closed_stages k false s0 (graph ms (side k first ∷ bs) (Goes merge) ss p) → k < length s0
     → entry (next_at k s1) ≡ entry (graph ms (side k first ∷ bs) (Goes merge) ss p).next
-entry_seen ms b bs n first k i merge ss p s0 s1 h eb en ei low =
+entry_seen ms bs first k merge ss p s0 s1 h low =
     ap (λ ys. entry (next_at k ys)) h
-    ∙ ap (λ j. entry (next_at j (closed_stages i false s0 (graph ms b n ss p)))) (sym ei)
-    ∙ ap entry (next-leading i (graph ms b n ss p).next s0 (graph ms b n ss p).later low)
-    ∙ ap (λ c. entry (graph ms c n ss p).next) eb
-    ∙ ap (λ m. entry (graph ms (side k first ∷ bs) m ss p).next) en
+    ∙ ap entry (next-leading k (graph ms (side k first ∷ bs) (Goes merge) ss p).next s0 (graph ms (side k first ∷ bs) (Goes merge) ss p).later low)
 
 -- the guard of an `if` begins no stage
 pub guard_begun : (c : Expr) (at' : Position) → (with_guard c at').begun ≡ at'.begun

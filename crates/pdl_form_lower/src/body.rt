@@ -101,7 +101,7 @@ fn enter(
     })
 }
 
-// A branch inside of branches: with this one before them. There is room for it, as rule F2 allows no fork of the fifth level.
+// Branches with one more before them. There is room for it, as rule F2 allows no fork of the fifth level.
 fn within(branches: FlatBranches, fork: usize, first: bool) -> Result<FlatBranches, NoMemory>
     ensures { IfOk result (λ r.
         branches_view r ≡ spec.side fork first ∷ branches_view branches) }
@@ -117,12 +117,31 @@ fn within(branches: FlatBranches, fork: usize, first: bool) -> Result<FlatBranch
     })
 }
 
-// What stands round a branch.
+// The branches of the stages that begin in a branch, if any do.
+fn branches_in(
+    branches: FlatBranches,
+    fork: usize,
+    first: bool,
+    ss: &[Stmt],
+) -> Result<FlatBranches, NoMemory>
+    ensures { IfOk result (λ r. branches_view r
+        ≡ (if spec.separators (tree.stmts_view ss.now) == 0 then branches_view branches
+        else spec.side fork first ∷ branches_view branches)) }
+{
+    if separators(ss) == 0 {
+        Ok(branches)
+    } else {
+        within(branches, fork, first)
+    }
+}
+
+// What stands round a branch of these statements.
 fn inside(
     alloc: Global,
     round: &StmtContext,
     choice: Choice,
     first: bool,
+    ss: &[Stmt],
 ) -> Result<StmtContext, NoMemory>
     ensures guards { IfOk result (λ r.
         guards_view r.guards ≡ guards_view round.now.guards ++ record {
@@ -130,13 +149,14 @@ fn inside(
           first = first;
         } ∷ []) }
     ensures branches { IfOk result (λ r. branches_view r.branches
-        ≡ spec.side choice.stage first ∷ branches_view round.now.branches) }
+        ≡ (if spec.separators (tree.stmts_view ss.now) == 0 then branches_view round.now.branches
+        else spec.side choice.stage first ∷ branches_view round.now.branches)) }
     ensures exit { IfOk result (λ r. next_view r.exit ≡ flat.Goes choice.merge) }
 {
     let mut guards = Seq::copy_of(alloc, round.guards.as_slice())?;
     let var = choice.var;
     guards.push(FlatGuard { var, first })?;
-    let branches = within(round.branches, choice.stage, first)?;
+    let branches = branches_in(round.branches, choice.stage, first, ss)?;
     Ok(StmtContext {
         guards,
         branches,
@@ -222,7 +242,7 @@ fn branch(
     ensures count { OnOk result (walk.new.begun
         ≡ walk.old.begun + spec.separators (tree.stmts_view ss.now)) }
 {
-    let round = inside(alloc, around, choice, first)?;
+    let round = inside(alloc, around, choice, first, ss)?;
     statements(alloc, walk, mems, &round, ss)?;
     walk.stage = choice.stage;
     Ok(entry(walk.stages.as_slice(), choice.stage))

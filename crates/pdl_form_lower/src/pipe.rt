@@ -13,7 +13,7 @@ use crate::body::statements;
 use crate::parts::{memories, params, start};
 use crate::vars::Vars;
 use crate::walk::{StmtContext, Walk};
-use pdl_form::{FlatBranches, FlatMem, FlatPipe, FlatStage, Next};
+use pdl_form::{FlatMem, FlatPipe, FlatStage, NO_BRANCHES, Next};
 use pdl_kit::{NoMemory, Seq};
 use pdl_rules_widths::Variables;
 use pdl_syntax_tree::Pipe;
@@ -59,20 +59,14 @@ fn walk_body(alloc: Global, walk: &mut Walk<'_>, pipe: &Pipe) -> Result<(), NoMe
     ensures stages { OnOk result (
         stages_view walk.new.stages.items ≡ spec.stages_of (pipe_view pipe.now)) }
 {
-    let branches = FlatBranches {
-        first: None,
-        second: None,
-        third: None,
-        fourth: None,
-    };
     walk.stages.push(FlatStage {
         next: Next::Ends,
-        branches,
+        branches: NO_BRANCHES,
         merges: None,
     })?;
     let round = StmtContext {
         guards: Seq::new(alloc),
-        branches,
+        branches: NO_BRANCHES,
         exit: Next::Ends,
     };
     statements(

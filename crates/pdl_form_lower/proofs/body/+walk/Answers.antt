@@ -1,4 +1,4 @@
-use Rattle.std.proofs.Common.{◌≡◌, ◌+◌, ◌==◌, suc, true, false, ◌∷◌, if◌then◌else◌, map, sym, ap, ap₂, ◌∙◌, arith}
+use Rattle.std.proofs.Common.{◌≡◌, ◌+◌, ◌<◌, ◌==◌, suc, true, false, ◌∷◌, if◌then◌else◌, map, length, sym, ap, ap₂, ◌∙◌, arith}
 use Rattle.pdl_syntax_tree.specs.declared.tree.Stmt as r_stmt
 use Rattle.pdl_syntax_tree.specs.declared.tree.Stmt.TheVariants as r_stmts
 use Rattle.pdl_syntax_tree.specs.declared.tree.Stmt.TheOpen.{Stmt-F}
@@ -8,19 +8,31 @@ use Rattle.pdl_semantics.specs.Flatten as spec
 use Rattle.pdl_syntax_tree.specs.View as tree
 use Rattle.pdl_form.specs.View.{stages_view, next_view, branches_view}
 use Rattle.pdl_form_lower.specs.Walking.{place_of, next_at, closed_stages}
-use Rattle.pdl_form_lower.proofs.Branches.{if_closed, entry_seen, guard_begun}
+use Rattle.pdl_form_lower.proofs.Branches.{if_closed, branch_seen, entry_seen, guard_begun}
 use Rattle.pdl_form_lower.proofs.body.+walk.Goals as goal
 use Rattle.pdl_form.proofs.StageRows.{length_stages}
 
-pub branch-returns-clause-entry : goal.branch-returns-clause-entry
-branch-returns-clause-entry t c =
-    c.entry.ensures
-    ∙ ap (λ xs. spec.entry (next_at c.args.choice.stage (stages_view xs))) c.as_slice.ensures.value
-    ∙ entry_seen (map tree.mem_view c.args.mems.now) (branches_view c.in_ok-round.round.branches)
-    (branches_view c.args.around.now.branches) (next_view c.in_ok-round.round.exit) c.args.first c.args.choice.stage c.args.walk.now.stage c.args.choice.merge
+pub branch-returns-clause-graph : goal.branch-returns-clause-graph
+branch-returns-clause-graph t c =
+    branch_seen (map tree.mem_view c.args.mems.now) (branches_view c.in_ok-round.round.branches) (branches_view c.args.around.now.branches)
+    (next_view c.in_ok-round.round.exit) c.args.first c.args.choice.stage c.args.walk.now.stage c.args.choice.merge
     (tree.stmts_view c.args.ss.now) (place_of c.args.walk.now) (stages_view c.args.walk.now.stages.items) (stages_view c.statements.new.walk.stages.items)
     c.in_ok-statements.ensures.graph c.in_ok-round.ensures.branches c.in_ok-round.ensures.exit c.requires.stage
-    (omega (arith, c.requires.whole.begun, c.requires.whole.stage, length_stages c.args.walk.now.stages.items))
+
+pub branch-returns-clause-entry : goal.branch-returns-clause-entry
+branch-returns-clause-entry t c =
+    let low : c.args.choice.stage < length (stages_view c.args.walk.now.stages.items) =
+    omega (arith, c.requires.stage, c.requires.whole.begun, c.requires.whole.stage, length_stages c.args.walk.now.stages.items) in
+    c.entry.ensures
+    ∙ ap (λ xs. spec.entry (next_at c.args.choice.stage (stages_view xs))) c.as_slice.ensures.value
+    ∙ entry_seen (map tree.mem_view c.args.mems.now) (branches_view c.args.around.now.branches)
+    c.args.first c.args.choice.stage c.args.choice.merge
+    (tree.stmts_view c.args.ss.now) (place_of c.args.walk.now) (stages_view c.args.walk.now.stages.items) (stages_view c.statements.new.walk.stages.items)
+    (branch_seen (map tree.mem_view c.args.mems.now) (branches_view c.in_ok-round.round.branches) (branches_view c.args.around.now.branches)
+    (next_view c.in_ok-round.round.exit) c.args.first c.args.choice.stage c.args.walk.now.stage c.args.choice.merge
+    (tree.stmts_view c.args.ss.now) (place_of c.args.walk.now) (stages_view c.args.walk.now.stages.items) (stages_view c.statements.new.walk.stages.items)
+    c.in_ok-statements.ensures.graph c.in_ok-round.ensures.branches c.in_ok-round.ensures.exit c.requires.stage)
+    low
 
 pub statement-returns-in_ok-second-in-If-clause-graph : goal.statement-returns-in_ok-second-in-If-clause-graph
 statement-returns-in_ok-second-in-If-clause-graph t c = λ rest.
