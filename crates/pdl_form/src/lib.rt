@@ -7,6 +7,7 @@ pub mod flat;
 pub mod form;
 pub mod pipe;
 pub mod rows;
+pub mod sides;
 pub mod stmts;
 
 pub use flat::FlatPipe;
@@ -14,3 +15,4 @@ pub use form::{
     FlatBranch, FlatBranches, FlatExpr, FlatGuard, FlatMem, FlatStage, FlatStmt, Lock, NO_BRANCHES,
     Next, Op,
 };
+pub use sides::{side_in, side_of};
