@@ -38,7 +38,7 @@ few_inside : (p : Flats.Pipe) → Sound p → Strict p → (image : Arrays) (bef
 few_inside p sound strict image before f =
     let r = reached p sound strict image before in
     let few = list_few p (state_after p (first p image) before) (Derived.state_after p (Derived.first p image) before) r.0 r.1 f in
-    let most = count_by-le-length (λ (x : Flats.Stage). is_branch_of x.branch f) p.stages in
+    let most = count_by-le-length (λ (x : Flats.Stage). list_any (λ b. b.fork == f) x.branches) p.stages in
     omega (arith, few, most)
 
 -- the form of a pipe that keeps the rules, and is as sources are, can run where it is typed

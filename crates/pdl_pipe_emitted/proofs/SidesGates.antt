@@ -68,10 +68,13 @@ module _ {T : Type 0} (l : Members T) (n : Nets T) (em : Emission l n) where
       by (Some r) at e = (em.layout.stand_orders.each f r (em.can.forks q f low merges) at).nets
 
   -- by the orders as what stands beside has them
-  turn_as : (o : Option ℕ) (from : Option Branch) → merge_by em.d n.orders o from ≡ merge_turn sides o from
+  turn_as : (o : Option ℕ) (from : List Branch) → merge_by em.d n.orders o from ≡ merge_turn sides o from
   turn_as None from = refl
-  turn_as (Some f) None = refl
-  turn_as (Some f) (Some b) = refl
+  turn_as (Some f) from = at (sides_of f from)
+    where
+      at : (bs : List Bool) → turn_by (order_first em.d (some_at n.orders f)) (order_empty em.d (some_at n.orders f)) bs ≡ branch_turn (sides.order f) bs
+      at [] = refl
+      at (b ∷ bs) = refl
 
   turn_is : (k q : ℕ) → turn_in em.b p n.orders k q ≡ turn p sides k q
   turn_is k q = at (cases_lt q (length p.stages))
@@ -80,11 +83,11 @@ module _ {T : Type 0} (l : Members T) (n : Nets T) (em : Emission l n) where
       at (inl low) =
           turn_same em.a em.b (keeps_ab l n em) p n.orders k q low orders_there
           ∙ sym (turn_same em.a em.d (keeps_ad l n em) p n.orders k q low orders_there)
-          ∙ turn_as (stage_at p q).merges (stage_at p k).branch
+          ∙ turn_as (stage_at p q).merges (stage_at p k).branches
       at (inr high) =
           let past = get_or_past p.stages q last_stage high in
-          ap (λ (s : Stage). merge_by em.b n.orders s.merges (stage_at p k).branch) past
-          ∙ sym (ap (λ (s : Stage). merge_turn sides s.merges (stage_at p k).branch) past)
+          ap (λ (s : Stage). merge_by em.b n.orders s.merges (stage_at p k).branches) past
+          ∙ sym (ap (λ (s : Stage). merge_turn sides s.merges (stage_at p k).branches) past)
 
   -- ---- ports
 
