@@ -1,12 +1,12 @@
 -- The machine runs each accepted pipe, with each image of it.
-use Rattle.std.proofs.Common.{◌≡◌, refl, sym, ◌∙◌, subst, ℕ, zero, suc, ◌^◌, ◌<◌, ◌≤◌, false, Bool, List, [], ◌∷◌, length, slice_index, slice_index_or, arith}
+use Rattle.std.proofs.Common.{◌≡◌, refl, sym, ◌∙◌, subst, ℕ, zero, suc, ◌^◌, ◌<◌, ◌≤◌, ◌==◌, false, Bool, List, [], ◌∷◌, length, slice_index, slice_index_or, arith}
 use Rattle.std.specs.Prelude.{IsTrue}
 use Rattle.std.proofs.lemmas.List.Sums.{count_by-le-length}
 use Rattle.pdl_semantics.specs.Tree.{Mem, Pipe}
 use Rattle.pdl_semantics.specs.Flat as Flats
 use Rattle.pdl_semantics.specs.Flat.{Arrays}
 use Rattle.pdl_semantics.specs.Flatten.{mems_of, flat}
-use Rattle.pdl_semantics.specs.Stages.{plain_mem, is_branch_of}
+use Rattle.pdl_semantics.specs.Stages.{plain_mem, list_any}
 use Rattle.pdl_semantics.specs.Machine.{fork_of}
 use Rattle.pdl_semantics.specs.Cycle.{first, state_after}
 use Rattle.pdl_theory_derived.specs.Derived

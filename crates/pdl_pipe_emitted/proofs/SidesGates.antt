@@ -1,5 +1,5 @@
 -- The gates of an emission by what stands beside the stages.
-use Rattle.std.proofs.Common.{◌≡◌, refl, sym, ap, ap₂, ◌∙◌, subst, ℕ, zero, suc, ◌<◌, ◌≤◌, ◌⊎◌, inl, inr, List, length, arith}
+use Rattle.std.proofs.Common.{◌≡◌, refl, sym, ap, ap₂, ◌∙◌, subst, ℕ, zero, suc, ◌<◌, ◌≤◌, ◌⊎◌, inl, inr, Bool, List, [], ◌∷◌, length, arith}
 use mathlib.Core.Path.{fun_ext}
 use Rattle.std.specs.Prelude.{Option, Some, None, is_some, true}
 use Rattle.std.proofs.lemmas.Bool.{cases_lt, false≢true}
@@ -7,6 +7,7 @@ use Rattle.std.proofs.lemmas.List.{get_or_past}
 use Rattle.pdl_word.specs.Each.{Each}
 use Rattle.pdl_word.proofs.Each.{each_weaker}
 use Rattle.pdl_semantics.specs.Flat.{Branch, Pipe, Stage}
+use Rattle.pdl_semantics.specs.Stages as stages
 use Rattle.pdl_semantics.specs.Stages.{stage_at, last_stage, verify_stage}
 use Rattle.pdl_net.specs.Circuit.{Circuit}
 use Rattle.pdl_net.specs.Signal.{Signal}
@@ -18,15 +19,16 @@ use Rattle.pdl_order.specs.declared.OrderRegs.{OrderRegs}
 use Rattle.pdl_port.specs.declared.PortRegs.{PortRegs}
 use Rattle.pdl_law_parts.specs.Walk.{Ask, both}
 use Rattle.pdl_law_parts.specs.Views.{View, way_on}
-use Rattle.pdl_law_sides.specs.Sides.{Sides, answers_of, all_answered, unsquashed, barrier_open, ports_open, merge_turn, turn}
+use Rattle.pdl_law_sides.specs.Sides.{Sides, branch_turn, answers_of, all_answered, unsquashed, barrier_open, ports_open, merge_turn, turn}
 use Rattle.pdl_pipe_walk.specs.Locked.{Members, some_at, locks_in}
 use Rattle.pdl_pipe_answers.specs.Ports.{answers_in, HasAnswers}
 use Rattle.pdl_pipe_answers.proofs.PortAnswers.{answers_keep}
 use Rattle.pdl_pipe_answers.proofs.Bits.{memory_answered_same}
+use Rattle.pdl_pipe_beside.specs.Beside.{order_first, order_empty}
 use Rattle.pdl_pipe_beside.proofs.OrderParts.{is_merged_by}
 use Rattle.pdl_pipe_registers.proofs.Lists.{view_at}
 use Rattle.pdl_pipe_nexts.specs.Lines.{line_pipe}
-use Rattle.pdl_pipe_moves.specs.Gates.{opens_by, merge_by, turn_in, HasTurns, IsOrderThere}
+use Rattle.pdl_pipe_moves.specs.Gates.{opens_by, turn_by, merge_by, turn_in, HasTurns, IsOrderThere}
 use Rattle.pdl_pipe_moves.specs.Signs.{signs_in, gate_by}
 use Rattle.pdl_pipe_moves.specs.Passed.{frees_at}
 use Rattle.pdl_pipe_moves.proofs.TurnGrowth.{turn_same}
@@ -70,7 +72,7 @@ module _ {T : Type 0} (l : Members T) (n : Nets T) (em : Emission l n) where
   -- by the orders as what stands beside has them
   turn_as : (o : Option ℕ) (from : List Branch) → merge_by em.d n.orders o from ≡ merge_turn sides o from
   turn_as None from = refl
-  turn_as (Some f) from = at (sides_of f from)
+  turn_as (Some f) from = at (stages.sides_of f from)
     where
       at : (bs : List Bool) → turn_by (order_first em.d (some_at n.orders f)) (order_empty em.d (some_at n.orders f)) bs ≡ branch_turn (sides.order f) bs
       at [] = refl
