@@ -5,7 +5,9 @@ use Rattle.pdl_semantics.specs.Flat.{Op, Bind, CombRead, DelayedRead, Write, Res
 use Rattle.pdl_semantics.specs.Stages.{in_stage, is_verify, verify_stage}
 use Rattle.pdl_semantics.specs.Machine.{State, Thread, Ask, Deeds, same_args, deeds_after, deeds_after_all, deeds, word_for}
 use Rattle.pdl_theory_facts.specs.Scans.{all_at}
+use Rattle.pdl_semantics.specs.Updates.{is_update}
 use Rattle.pdl_machine_inflight.specs.Readings.{reading, IsTheReading, Reads}
+use Rattle.pdl_machine_inflight.specs.InFlight.{ReplacesNone}
 use Rattle.pdl_word.specs.Each.{Each}
 use Rattle.pdl_word.proofs.Each.{each_push}
 
@@ -62,28 +64,30 @@ asks_in p reads st k t = asks_all p k (word_for st t.number) (in_stage k p.stmts
 
 -- FAILURES
 
-fails_op : (read : ℕ → ℕ → ℕ) (o : Op) (d : Deeds) → is_verify o ≡ false → (deeds_after read o d).fails ≡ d.fails
-fails_op read (Verify last args) d h = absurd (cc h)
-fails_op read (Bind x e) d h = refl
-fails_op read (CombRead x m a) d h = refl
-fails_op read (DelayedRead x m a) d h = refl
-fails_op read (Write m a e) d h = refl
-fails_op read (ReserveRead m a) d h = refl
-fails_op read (ReserveWrite m a) d h = refl
-fails_op read (Block m a) d h = refl
-fails_op read (Release m a) d h = refl
-fails_op read (Call args) d h = refl
-fails_op read (SpecCall args) d h = refl
-fails_op read SpecCheck d h = refl
-fails_op read SpecBarrier d h = refl
+fails_op : (read : ℕ → ℕ → ℕ) (o : Op) (d : Deeds) → is_verify o ≡ false → is_update o ≡ false → (deeds_after read o d).fails ≡ d.fails
+fails_op read (Verify true args) d h u = absurd (cc h)
+fails_op read (Verify false args) d h u = absurd (cc u)
+fails_op read (Bind x e) d h u = refl
+fails_op read (CombRead x m a) d h u = refl
+fails_op read (DelayedRead x m a) d h u = refl
+fails_op read (Write m a e) d h u = refl
+fails_op read (ReserveRead m a) d h u = refl
+fails_op read (ReserveWrite m a) d h u = refl
+fails_op read (Block m a) d h u = refl
+fails_op read (Release m a) d h u = refl
+fails_op read (Call args) d h u = refl
+fails_op read (SpecCall args) d h u = refl
+fails_op read SpecCheck d h u = refl
+fails_op read SpecBarrier d h u = refl
 
 fails_all : (read : ℕ → ℕ → ℕ) (xs : List Stmt)
-    → Each (λ (x : Stmt). is_verify x.op ≡ false) xs → (d : Deeds) → (deeds_after_all read xs d).fails ≡ d.fails
-fails_all read [] h d = refl
-fails_all read (x ∷ xs) h d = fails_all read xs h.1 (if all_hold x.guards d.env then deeds_after read x.op d else d) ∙ at (all_hold x.guards d.env)
+    → Each (λ (x : Stmt). is_verify x.op ≡ false) xs → Each (λ (x : Stmt). is_update x.op ≡ false) xs → (d : Deeds)
+    → (deeds_after_all read xs d).fails ≡ d.fails
+fails_all read [] h u d = refl
+fails_all read (x ∷ xs) h u d = fails_all read xs h.1 u.1 (if all_hold x.guards d.env then deeds_after read x.op d else d) ∙ at (all_hold x.guards d.env)
   where
     at : (b : Bool) → (if b then deeds_after read x.op d else d).fails ≡ d.fails
-    at true = fails_op read x.op d h.0
+    at true = fails_op read x.op d h.0 u.0
     at false = refl
 
 -- statements of another stage than that of the verifies verify nothing
@@ -104,11 +108,21 @@ unverified v k (x ∷ xs) h n = at (x.stage == k) refl (unverified v k xs parts.
     at true e r = (none (is_verify x.op) refl (eqb-true x.stage k e), r)
     at false e r = r
 
--- in a stage other than that of the verifies no verify fails
+stage_each_of : (P : Stmt → Type 0) (k : ℕ) (xs : List Stmt) → Each P xs → Each P (in_stage k xs)
+stage_each_of P k [] h = tt
+stage_each_of P k (x ∷ xs) h = at (x.stage == k) (stage_each_of P k xs h.1)
+  where
+    at : (b : Bool) → Each P (in_stage k xs) → Each P (if b then x ∷ in_stage k xs else in_stage k xs)
+    at true r = (h.0, r)
+    at false r = r
+
+-- where no guess is replaced, no verify fails in a stage other than that of the verifies
 pub fails_not : (p : Pipe) (v : ℕ)
-    → all_at is_verify v p.stmts ≡ true → (st : State) (k : ℕ) (t : Thread) → (k ≡ v → ⊥)
+    → all_at is_verify v p.stmts ≡ true → ReplacesNone p → (st : State) (k : ℕ) (t : Thread) → (k ≡ v → ⊥)
     → (deeds p st k t).fails ≡ false
-fails_not p v h st k t n = fails_all (word_for st t.number) (in_stage k p.stmts) (unverified v k p.stmts h n) _
+fails_not p v h u st k t n =
+    fails_all (word_for st t.number) (in_stage k p.stmts) (unverified v k p.stmts h n)
+    (stage_each_of (λ (x : Stmt). is_update x.op ≡ false) k p.stmts u) _
 
 -- and where the pipe verifies nothing nothing fails
 verifies_none : (xs : List Stmt) → verify_stage xs ≡ None → Each (λ (x : Stmt). is_verify x.op ≡ false) xs
@@ -121,15 +135,8 @@ verifies_none (x ∷ xs) h = at (is_verify x.op) refl h (verifies_none xs)
     at true e g rest = absurd (cc g)
     at false e g rest = (e, rest g)
 
-stage_each_of : (P : Stmt → Type 0) (k : ℕ) (xs : List Stmt) → Each P xs → Each P (in_stage k xs)
-stage_each_of P k [] h = tt
-stage_each_of P k (x ∷ xs) h = at (x.stage == k) (stage_each_of P k xs h.1)
-  where
-    at : (b : Bool) → Each P (in_stage k xs) → Each P (if b then x ∷ in_stage k xs else in_stage k xs)
-    at true r = (h.0, r)
-    at false r = r
-
 -- where a pipe has no verify none fails in any stage
-pub fails_never : (p : Pipe) → verify_stage p.stmts ≡ None → (st : State) (k : ℕ) (t : Thread) → (deeds p st k t).fails ≡ false
-fails_never p h st k t =
-    fails_all (word_for st t.number) (in_stage k p.stmts) (stage_each_of (λ (x : Stmt). is_verify x.op ≡ false) k p.stmts (verifies_none p.stmts h)) _
+pub fails_never : (p : Pipe) → verify_stage p.stmts ≡ None → ReplacesNone p → (st : State) (k : ℕ) (t : Thread) → (deeds p st k t).fails ≡ false
+fails_never p h u st k t =
+    fails_all (word_for st t.number) (in_stage k p.stmts) (stage_each_of (λ (x : Stmt). is_verify x.op ≡ false) k p.stmts (verifies_none p.stmts h))
+    (stage_each_of (λ (x : Stmt). is_update x.op ≡ false) k p.stmts u) _

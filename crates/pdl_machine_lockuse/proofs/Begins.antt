@@ -6,7 +6,7 @@ use Rattle.pdl_semantics.specs.Stages.{onpath, in_stage, mem_at, reserve_stage, 
 use Rattle.pdl_semantics.specs.Locks.{read_ready, write_ready}
 use Rattle.pdl_semantics.specs.Machine.{State, HeldLocation, Blocked, Reserved, Ask, Deeds, deeds_after, is_held, let_go, held_after, held_before, word_for, with_answers}
 use Rattle.pdl_semantics.specs.Machine
-use Rattle.pdl_semantics.specs.Sound.{stages_before, is_release_at}
+use Rattle.pdl_semantics.specs.Sound.{stages_before, is_release_at, guess_after, guess_of}
 use Rattle.pdl_semantics.specs.Moves.{block_ready}
 use Rattle.pdl_theory_derived.specs.Derived.{Entry, Work, Around, has_entry, latest, around, port_free}
 use Rattle.pdl_theory_derived.specs.Derived
@@ -29,7 +29,7 @@ use Rattle.pdl_machine_facts.specs.Use.{before_stage, AreFine}
 use Rattle.pdl_machine_facts.proofs.StatementUses.{IsAlong}
 use Rattle.pdl_theory_states.specs.Strict.{Strict}
 use Rattle.pdl_theory_states.proofs.PastStatements.{BlockOk, is_released}
-use Rattle.pdl_theory_states.proofs.UnusedValues.{AllOps, onto, Done as DoneOp}
+use Rattle.pdl_theory_states.proofs.UnusedValues.{AllOps, onto, guess_onto}
 use Rattle.pdl_theory_states.proofs.Trails.{AllStmts, stmts_ops, ops_stmts}
 use Rattle.pdl_theory_states.proofs.ThreadHistory.{Local, past_of, local_answered, kept_unused}
 use Rattle.pdl_semantics.proofs.Readiness.{read_write}
@@ -177,21 +177,21 @@ once_shape m ph es single s = record {
 
 -- THE GUESS
 
-guess_op : (size : ℕ) (env guess : List ℕ) (g : Making) (op : Op) → DoneOp env guess op → passes_on size op ≡ true
-    → (is_guessed g ≡ true → length guess ≡ size) → is_guessed (next_making g (answered_op op)) ≡ true → length guess ≡ size
-guess_op size env guess g (SpecCall args) h y f i = ap length h ∙ values_long args env ∙ eqb-true (length args) size y
-guess_op size env guess g (Call args) h y f i = absurd (false≢true i)
-guess_op size env guess g (Verify last args) h y f i = absurd (false≢true i)
-guess_op size env guess g (DelayedRead x m a) h y f i = f i
-guess_op size env guess g _ h y f i = f i
+guess_op : (size : ℕ) (env guess : List ℕ) (g : Making) (op : Op) → passes_on size op ≡ true → (is_guessed g ≡ true → length guess ≡ size)
+    → is_guessed (next_making g (answered_op op)) ≡ true → length (guess_after op env guess) ≡ size
+guess_op size env guess g (SpecCall args) y f i = values_long args env ∙ eqb-true (length args) size y
+guess_op size env guess g (Call args) y f i = absurd (false≢true i)
+guess_op size env guess g (Verify true args) y f i = absurd (false≢true i)
+guess_op size env guess g (Verify false args) y f i = values_long args env ∙ eqb-true (length args) size y
+guess_op size env guess g (DelayedRead x m a) y f i = f i
+guess_op size env guess g _ y f i = f i
 
-guess_all : (size : ℕ) (env guess : List ℕ) (g : Making) (xs : List Stmt) → AllStmts (λ z. DoneOp env guess z.op) xs
-    → list_all (λ (x : Stmt). passes_on size x.op) xs ≡ true → (is_guessed g ≡ true → length guess ≡ size)
-    → is_guessed (making_all g (looked_all xs)) ≡ true → length guess ≡ size
-guess_all size env guess g [] h y f i = f i
-guess_all size env guess g (x ∷ xs) h y f i =
-    guess_all size env guess (next_making g (answered_op x.op)) xs h.1 (and_right (passes_on size x.op) _ y)
-    (guess_op size env guess g x.op h.0 (and_left _ _ y) f) i
+guess_all : (size : ℕ) (env guess : List ℕ) (g : Making) (xs : List Stmt) → list_all (λ (x : Stmt). passes_on size x.op) xs ≡ true
+    → (is_guessed g ≡ true → length guess ≡ size) → is_guessed (making_all g (looked_all xs)) ≡ true → length (guess_of xs env guess) ≡ size
+guess_all size env guess g [] y f i = f i
+guess_all size env guess g (x ∷ xs) y f i =
+    guess_all size env (guess_after x.op env guess) (next_making g (answered_op x.op)) xs (and_right (passes_on size x.op) _ y)
+    (guess_op size env guess g x.op (and_left _ _ y) f) i
 
 -- READS OF ONE PATH ARE READS OF THE PIPE
 
@@ -343,10 +343,10 @@ module _ (p : Pipe) (sound : Sound p) (st : State) (d : Derived.State) (bits : L
         (k.seated.keeps_on.held ∙ passed_held) tt
 
     guess_start : is_guessed (making_all Unmade (looked_all done)) ≡ true → length l.thread.guess ≡ length p.start
-    guess_start =
-        guess_all (length p.start) l.env l.thread.guess Unmade done
-        (stmts_ops (DoneOp l.env l.thread.guess) done [] lasting.local.done).0
-        (all_way (passes_on (length p.start)) l.env l.thread.stage p.stmts careful.args) (λ e. absurd (false≢true e))
+    guess_start i =
+        ap length (lasting.local.guessed ∙ guess_onto done [] l.env)
+        ∙ guess_all (length p.start) l.env [] Unmade done (all_way (passes_on (length p.start)) l.env l.thread.stage p.stmts careful.args)
+        (λ e. absurd (false≢true e)) i
 
     let_begin : Right p l.thread.stage (Let p st l.number) (blocks_of (past_of p l.env l.thread.stage)) (now_of p d bits l).env
     let_begin =

@@ -6,7 +6,7 @@ use Rattle.std.specs.Cmp.Lexicographic.{pointwise}
 use Rattle.std.proofs.lemmas.List.{length-map}
 use Rattle.std.specs.Prelude.{nat_eq, bytes_eq}
 use Rattle.pdl_kit.specs.declared.rule.Rule.TheVariants.{W5}
-use Rattle.pdl_semantics.specs.Tree.{Span, Location, R, W, Stmt, Separator, CombRead, Bind, SpecCall, DelayedRead, Write, Reserve, Block, Release, If, Call, Verify, SpecCheck, SpecBarrier, Expr, Variable, Literal, Param, Pipe}
+use Rattle.pdl_semantics.specs.Tree.{Span, Location, R, W, Stmt, Separator, CombRead, Bind, SpecCall, DelayedRead, Write, Reserve, Block, Release, If, Call, Verify, Update, SpecCheck, SpecBarrier, Expr, Variable, Literal, Param, Pipe}
 use Rattle.pdl_semantics.specs.Flat
 use Rattle.pdl_semantics.specs.Flatten.{Var, var_of, mem_of, flat, flat_exprs, start_of, params_of, width_of}
 use Rattle.pdl_semantics.specs.Stages.{onpath}
@@ -119,6 +119,7 @@ module _ (p : Pipe) (at : Location) (vs : List Var) (there : IsNamed p.mems vs a
   one_site before k ws (If sp c when otherwise) bs g n r keeps = refl
   one_site before k ws (Call sp args) bs g n r keeps = refl
   one_site before k ws (Verify sp x args) bs g n r keeps = refl
+  one_site before k ws (Update sp x args) bs g n r keeps = refl
   one_site before k ws (SpecCheck sp) bs g n r keeps = refl
   one_site before k ws (SpecBarrier sp) bs g n r keeps = refl
 
@@ -169,6 +170,7 @@ sites_kinds p vs us before (t ∷ ts) g each named =
     here (If sp c when otherwise) e rest = rest
     here (Call sp args) e rest = rest
     here (Verify sp x args) e rest = rest
+    here (Update sp x args) e rest = rest
     here (SpecCheck sp) e rest = rest
     here (SpecBarrier sp) e rest = rest
 
@@ -212,6 +214,7 @@ module _ (p : Pipe) (rules : KeepsRules p) where
       → Flat.list_all (λ (x : Flat.Stmt). passes_on (length (flat p).start) x.op) (stmts_at k gs (ops_of p.mems vs s)) ≡ true
   site_passes k gs vs (SpecCall sp x args) bs h = and_from _ _ (args_right vs args h) refl
   site_passes k gs vs (Verify sp x args) bs h = and_from _ _ (args_right vs args h) refl
+  site_passes k gs vs (Update sp x args) bs h = and_from _ _ (args_right vs args h) refl
   site_passes k gs vs (Separator sp) bs h = refl
   site_passes k gs vs (CombRead sp x l) bs h = refl
   site_passes k gs vs (Bind sp x e) bs h = refl

@@ -11,6 +11,7 @@ use Rattle.pdl_semantics.specs.Cycle.{new_entries, with_reserves, with_all_write
 use Rattle.pdl_theory_derived.specs.Derived
 use Rattle.pdl_theory_facts.specs.Scans.{is_plain, none_of, Fresh, phase_all, is_over}
 use Rattle.pdl_theory_facts.specs.Facts.{Sound, looked_all}
+use Rattle.pdl_theory_facts.proofs.Nested.{within_all}
 use Rattle.pdl_theory_derived.specs.Alone.{answered_op}
 use Rattle.pdl_theory_derived.proofs.Writes.{and_left, and_right}
 use Rattle.pdl_theory_derived.proofs.Entries.{entries_of}
@@ -71,7 +72,7 @@ leads_sound p sound = record { up = λ k q env l e. (sound_flows p sound).graph.
             absurd
             (let i = leb-false _ _ f in
             let j =
-            (sound_flows p sound).graph.jump k q (reserve_stage p m) (env, e, l)
+            (sound_flows p sound).graph.jump [] k q (reserve_stage p m) (env, e, l) (within_all p k)
             ((sound_flows p sound).trunk_reserve m) (omega (arith, i)) (omega (arith, h)) in
             omega (arith, h, j))
 

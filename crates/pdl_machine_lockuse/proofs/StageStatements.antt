@@ -9,7 +9,8 @@ use Rattle.pdl_semantics.specs.Moves.{block_ready, blocks_ready, have_room}
 use Rattle.pdl_semantics.proofs.Readiness.{plain_ready}
 use Rattle.pdl_theory_derived.specs.Alone.{answered_op}
 use Rattle.pdl_theory_facts.specs.Scans.{no_guards, Phase, next_phase, Scan, is_plain, is_address, has_location, scan_after, op_ok, reads_ok, location}
-use Rattle.pdl_theory_facts.specs.GuessScans.{Making, next_making, making_ok, makings_ok, is_guessed, stands_at}
+use Rattle.pdl_theory_facts.specs.GuessScans.{Making, next_making, making_ok, makings_ok, is_guessed, stands_at, stands_before}
+use Rattle.pdl_theory_turns.proofs.Guesses.{same_args_eq}
 use Rattle.pdl_theory_facts.specs.Facts.{looked_all}
 use Rattle.pdl_theory_derived.proofs.Writes.{and_left, and_right}
 use Rattle.pdl_theory_turns.proofs.Surroundings.{Right, AllIn, right_set}
@@ -90,7 +91,13 @@ module _ (p : Pipe) (st : State) (n : ℕ) where
       → is_guessed (next_making g (answered_op op)) ≡ true → length (deeds_after (word_for st n) op d).guess ≡ size
   guess_next size g (Call args) d h f i = absurd (false≢true i)
   guess_next size g (SpecCall args) d h f i = values_long args d.env ∙ eqb-true (length args) size h
-  guess_next size g (Verify last args) d h f i = absurd (false≢true i)
+  guess_next size g (Verify true args) d h f i = absurd (false≢true i)
+  guess_next size g (Verify false args) d h f i = at (same_args (values_of args d.env) d.guess) refl
+    where
+      at : (b : Bool) → same_args (values_of args d.env) d.guess ≡ b
+          → length (cond b d (record d { child = Some (values_of args d.env); guess = (values_of args d.env); fails = true })).guess ≡ size
+      at true e = ap length (sym (same_args_eq (values_of args d.env) d.guess e)) ∙ values_long args d.env ∙ eqb-true (length args) size h
+      at false e = values_long args d.env ∙ eqb-true (length args) size h
   guess_next size g (DelayedRead x m a) d h f i = f i
   guess_next size g _ d h f i = f i
 
@@ -99,7 +106,8 @@ module _ (p : Pipe) (st : State) (n : ℕ) where
       → (is_guessed g ≡ true → length d.guess ≡ size) → RightIf s c d → locks_ready p st n d ≡ true → IsOpFine p st n op d
   op_fine size s v c ph g (CombRead x m a) d h o q y f r k = read_here s c x m a d h r k
   op_fine size s v c ph g (Release m a) d h o q y f r k = released_here m a d.held (held_once m (ph m) d.held (o m) a)
-  op_fine size s v c ph g (Verify last args) d h o q y f r k = f (and_left (is_guessed g) (stands_at v s) q) ∙ sym (eqb-true (length args) size y)
+  op_fine size s v c ph g (Verify true args) d h o q y f r k = f (and_left (is_guessed g) (stands_at v s) q) ∙ sym (eqb-true (length args) size y)
+  op_fine size s v c ph g (Verify false args) d h o q y f r k = f (and_left (is_guessed g) (stands_before v s) q) ∙ sym (eqb-true (length args) size y)
   op_fine size s v c ph g (DelayedRead x m a) d h o q y f r k = tt
   op_fine size s v c ph g _ d h o q y f r k = tt
 

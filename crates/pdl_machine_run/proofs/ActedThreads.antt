@@ -28,7 +28,7 @@ use Rattle.pdl_machine_run.proofs.DeedWidths.{stage_few}
 -- HOW OFTEN A STAGE ASKS
 
 asked_verify : (b : Bool) (args : List ℕ) (d : Deeds)
-    → length (if b then d else record d { child = Some args; fails = true }).asks ≡ length d.asks
+    → length (if b then d else record d { child = Some args; guess = args; fails = true }).asks ≡ length d.asks
 asked_verify true args d = refl
 asked_verify false args d = refl
 

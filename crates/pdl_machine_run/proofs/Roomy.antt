@@ -5,7 +5,7 @@ use Rattle.pdl_semantics.specs.Flat.{Lock, Plain, Pipe}
 use Rattle.pdl_semantics.specs.Stages.{mem_at}
 use Rattle.pdl_semantics.specs.Machine.{Pending, State, lock_of, fork_of}
 use Rattle.pdl_semantics.specs.Moves.{Act}
-use Rattle.pdl_semantics.specs.Cycle.{has_release, oldest, entries_left, list_three, cycle, first, squasher, branches_left, fork_next}
+use Rattle.pdl_semantics.specs.Cycle.{has_release, oldest, entries_left, list_three, cycle, first, squasher, squash_stage, branches_left, fork_next}
 use Rattle.pdl_lockapi.specs.Forget.{addresses}
 use Rattle.pdl_machine_facts.specs.Slots.{moving}
 use Rattle.pdl_machine_facts.specs.Cycle.{IsByStages}
@@ -228,15 +228,14 @@ module _ (f : Form) (run : IsRunnable f) (b : r_beside.Beside) (bits : List Bool
 
     -- a fork's order has room for the branches of the threads that are inside after the cycle
     pub orders_room : (i : ℕ) (d : r_order.Order) → i < length b.orders.items
-        → length (order_after p ms (is_some sq) i (get_or b.orders.items i d).branches.items) ≤ vec_capacity (get_or b.orders.items i d).branches
+        → length (order_after p ms i (get_or b.orders.items i d).branches.items) ≤ vec_capacity (get_or b.orders.items i d).branches
     orders_room i d less =
         let there : i < length p.stages = subst (λ n. i < n) beside.orders less in
-        let now : fork_of (cycle p st bits) i ≡ order_after p ms (is_some sq) i (get_or b.orders.items i d).branches.items =
+        let now : fork_of (cycle p st bits) i ≡ order_after p ms i (get_or b.orders.items i d).branches.items =
         ap (λ (s : State). fork_of s i) (cycle_is f b bits next ys zs beside count long carried decided)
-        ∙ at_stage (λ j. branches_left p (squasher ms) j (fork_next p st ms j)) 0 p.stages i [] there
-        ∙ ap (λ j. branches_left p (squasher ms) j (fork_next p st ms j)) (let same : 0 + i ≡ i = omega arith in same)
-        ∙ ap (λ (q : Option ℕ). branches_left p q i (fork_next p st ms i)) (sym squashed)
-        ∙ ap (order_after p ms (is_some sq) i) (order_at b.orders.items i d less) in
+        ∙ at_stage (λ j. branches_left p (squash_stage ms) j (fork_next p st ms j)) 0 p.stages i [] there
+        ∙ ap (λ j. branches_left p (squash_stage ms) j (fork_next p st ms j)) (let same : 0 + i ≡ i = omega arith in same)
+        ∙ ap (order_after p ms i) (order_at b.orders.items i d less) in
         let few = forked_run f run (cycle p st bits) bits (reached_next p st bits reached) i in
         let room = beside.long i d less in
         let same = ap (λ (l : List Bool). length l) now in

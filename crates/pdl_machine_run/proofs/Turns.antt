@@ -87,9 +87,9 @@ requests_count : (p : Pipe) (bits : List Bool) (ms : List Act) (sq : Option ℕ)
 requests_count p bits ms sq m [] = refl
 requests_count p bits ms sq m (r ∷ rs) = ap suc (requests_count p bits ms sq (suc m) rs)
 
-orders_count : (p : Pipe) (ms : List Act) (b : Bool) (k : ℕ) (ls : List (List Bool)) → length (orders_after p ms b k ls) ≡ length ls
-orders_count p ms b k [] = refl
-orders_count p ms b k (l ∷ ls) = ap suc (orders_count p ms b (suc k) ls)
+orders_count : (p : Pipe) (ms : List Act) (k : ℕ) (ls : List (List Bool)) → length (orders_after p ms k ls) ≡ length ls
+orders_count p ms k [] = refl
+orders_count p ms k (l ∷ ls) = ap suc (orders_count p ms (suc k) ls)
 
 module _ (f : Form) (b : r_beside.Beside) (bits : List Bool) (next : ℕ) (ys zs : List r_stage.Stage) (t : Turn f b bits next ys zs) where
   -- the pipe of the form
@@ -108,7 +108,7 @@ module _ (f : Form) (b : r_beside.Beside) (bits : List Bool) (next : ℕ) (ys zs
 
   -- each fork's order has room for the branches of the threads that are inside after the cycle
   pub turn_orders : (sq : Option ℕ) → sq ≡ squasher ms → (i : ℕ) (d : r_order.Order) → i < length b.orders.items
-      → length (order_after p ms (is_some sq) i (get_or b.orders.items i d).branches.items) ≤ vec_capacity (get_or b.orders.items i d).branches
+      → length (order_after p ms i (get_or b.orders.items i d).branches.items) ≤ vec_capacity (get_or b.orders.items i d).branches
   turn_orders sq e = orders_room f t.run b bits next ys zs t.beside t.count t.long t.carried t.decided t.reached sq e
 
   turn_acted : Rattle.pdl_machine_run.proofs.ActedThreads.AllActed f zs
@@ -149,7 +149,7 @@ module _ (f : Form) (b : r_beside.Beside) (bits : List Bool) (next : ℕ) (ys zs
         }
 
     module _ (c : r_beside.Beside) (memories : c.memories.items ≡ memories_after 0 ms sq b.memories.items)
-        (orders : order_views c.orders.items ≡ orders_after p ms (is_some sq) 0 (order_views b.orders.items))
+        (orders : order_views c.orders.items ≡ orders_after p ms 0 (order_views b.orders.items))
         (requests : map request_view c.requests.items ≡ requests_after p bits ms sq 0 (map request_view b.requests.items)) where
       -- what the program holds after the cycle is the stated state after it
       pub turn_state : (called : Bool) → called ≡ is_some (child_of ms)

@@ -1,5 +1,5 @@
 // A cycle, on what the machine holds.
-ghost use Rattle.std.specs.Prelude.{◌≡◌, ◌≤◌, ◌<◌, ◌+◌, ◌*◌, ◌++◌, ◌==◌, None, ℕ, suc, if◌then◌else◌, is_some, map, length, slice_index_or, vec_len, vec_capacity};
+ghost use Rattle.std.specs.Prelude.{◌≡◌, ◌≤◌, ◌<◌, ◌+◌, ◌*◌, ◌++◌, ◌==◌, None, ℕ, suc, if◌then◌else◌, map, length, slice_index_or, vec_len, vec_capacity};
 ghost use Rattle.pdl_semantics.specs.Moves.{all_acts};
 ghost use Rattle.pdl_semantics.specs.Cycle as stated;
 ghost use Rattle.pdl_machine_facts.specs.Slots.{LeadsOn};
@@ -19,7 +19,7 @@ ghost use Rattle.pdl_machine_run.specs.declared.beside.Order as r_order;
 use crate::beside::Beside;
 use crate::carry::carry_out_all;
 use crate::decide::decide;
-use crate::moves::{call, come_in, move_on, remove_all, squasher};
+use crate::moves::{call, come_in, move_on, remove_all, squash_stage, squasher};
 use crate::orders::step_orders;
 use crate::requests::{show_requests, step_requests};
 use crate::shown::{show_end, show_stages};
@@ -40,7 +40,7 @@ fn step_beside(
     requires count { length beside.old.orders.items ≡ length stages.now }
     requires mems { length beside.old.memories.items ≡ length (form pipe.now).pipe.mems }
     requires orders { (f : ℕ) (d : r_order.Order) → f < length beside.old.orders.items →
-        length (order_after (form pipe.now).pipe (acts_of 0 stages.now) (is_some squasher) f
+        length (order_after (form pipe.now).pipe (acts_of 0 stages.now) f
         (slice_index_or beside.old.orders.items f d).branches.items)
         ≤ vec_capacity (slice_index_or beside.old.orders.items f d).branches }
     requires room { vec_len shown.old + 5 * length beside.old.memories.items
@@ -48,7 +48,7 @@ fn step_beside(
     ensures memories { beside.new.memories.items
         ≡ memories_after 0 (acts_of 0 stages.now) squasher beside.old.memories.items }
     ensures orders { order_views beside.new.orders.items
-        ≡ orders_after (form pipe.now).pipe (acts_of 0 stages.now) (is_some squasher) 0
+        ≡ orders_after (form pipe.now).pipe (acts_of 0 stages.now) 0
         (order_views beside.old.orders.items) }
     ensures requests { map request_view beside.new.requests.items
         ≡ requests_after (form pipe.now).pipe replies.now (acts_of 0 stages.now) squasher 0
@@ -65,7 +65,7 @@ fn step_beside(
     step_orders(
         pipe,
         stages,
-        squasher.is_some(),
+        squash_stage(stages),
         beside.orders.as_mut_slice(),
     );
     step_requests(

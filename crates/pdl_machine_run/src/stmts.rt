@@ -196,11 +196,12 @@ fn same_args(these: &[u64], those: &[u64]) -> bool
     true
 }
 
-// A guess is verified: where it was wrong, a thread is called with the right arguments.
+// A guess is verified: where it was wrong, a thread is called with the right arguments, and they are kept as the guess.
 fn verify(args: &[FlatExpr], deeds: &mut Deeds)
     requires safe { AreSafe (exprs_view args.now) (deeds_view deeds.old).env }
     requires room { length args.now ≤ vec_capacity deeds.old.verified }
     requires args_room { length args.now ≤ vec_capacity deeds.old.args }
+    requires guess_room { length args.now ≤ vec_capacity deeds.old.guess }
     ensures deeds { deeds_view deeds.new
         ≡ after_verify (spec_values_of (exprs_view args.now) (deeds_view deeds.old).env)
         (deeds_view deeds.old) }
@@ -210,6 +211,7 @@ fn verify(args: &[FlatExpr], deeds: &mut Deeds)
     values_of(args, deeds.values.as_slice(), &mut deeds.verified);
     if !same_args(deeds.verified.as_slice(), deeds.guess.as_slice()) {
         copy_words(deeds.verified.as_slice(), &mut deeds.args);
+        copy_words(deeds.verified.as_slice(), &mut deeds.guess);
         deeds.called = true;
         deeds.fails = true;
     }

@@ -135,5 +135,5 @@ updated_on_each_path = refl
 -- updates of two paths in two stages
 updated_in_two_stages :
     of_body (g ∷ spec_check ∷ guess ∷ separator ∷ choice "g" (again ∷ []) [] ∷ separator ∷ choice "g" [] (again ∷ []) ∷ separator ∷ verified ∷ [])
-    ≡ at_line S7 10
+    ≡ at_line S7 29
 updated_in_two_stages = refl

@@ -72,7 +72,8 @@ step m ph (Block n a) r h = omega arith
 step m ph (Release n a) r h = release_step a (count m r) ph (n == m)
 step m ph (Call args) r h = omega arith
 step m ph (SpecCall args) r h = omega arith
-step m ph (Verify last args) r h = omega arith
+step m ph (Verify true args) r h = omega arith
+step m ph (Verify false args) r h = omega arith
 step m ph SpecCheck r h = omega arith
 step m ph SpecBarrier r h = omega arith
 

@@ -34,7 +34,8 @@ module _ (f : Form) where
   known_runs (Release m a) r t k = k
   known_runs (Call args) r t k = k
   known_runs (SpecCall args) r t k = k
-  known_runs (Verify last args) r t k = k
+  known_runs (Verify true args) r t k = k
+  known_runs (Verify false args) r t k = k
   known_runs SpecCheck r t k = k
   known_runs SpecBarrier r t k = k
 

@@ -391,8 +391,12 @@ module _ (p : Pipe) (rules : KeepsRules p) (v : Guard → Bool) (staged : All St
           (rules S6 t.front (place_of t) h.later h.whole) in
           let amiss : updates_amiss p c t.front (stage_in t.front t.branches) g.name ≡ false =
           ap (λ s. is_amiss p c t.front (Statement s t.branches)) (sym e) ∙ ap (λ b. b && is_amiss p c t.front (place_of t)) (sym on) ∙ r in
-          let rest = (or_parts (list_any (λ j. not (nat_lt j (stage_in t.front t.branches))) (guess_stages c t.front g.name)) _ amiss).1 in
-          let low = (or_parts (is_some_and (λ w. not (nat_lt (stage_in t.front t.branches) w)) (Speculation.verify_stage p)) _ rest).0 in
+          let rest =
+          (or_parts
+          (list_any (λ j. not (nat_lt j (stage_in t.front t.branches))) (guess_stages c t.front g.name)
+          || is_some_and (λ w. not (nat_lt (stage_in t.front t.branches) w)) (Speculation.verify_stage p)) _ amiss).0
+          in
+          let low = (or_parts (list_any (λ j. not (nat_lt j (stage_in t.front t.branches))) (guess_stages c t.front g.name)) _ rest).1 in
           ltb-true t.walk.stage V
           (not-false (nat_lt t.walk.stage V)
           (ap (λ k. not (nat_lt k V)) (sym st) ∙ ap (is_some_and (λ w. not (nat_lt (stage_in t.front t.branches) w))) (sym (v_is V i)) ∙ low))

@@ -32,8 +32,8 @@ use Rattle.pdl_theory_facts.proofs.Passes.{Parts}
 use Rattle.pdl_source_stages.proofs.Sites.{Site, sites_of, front_of, place_of, owns, All, stmts_are}
 use Rattle.pdl_source_stages.proofs.StatementStages.{Staged, all_staged}
 use Rattle.pdl_source_stages.proofs.SiteStages.{all_both, all_map}
-use Rattle.pdl_source_stages.proofs.BodyShape.{body_forked}
-use Rattle.pdl_source_stages.proofs.SiteFacts.{Fine, all_fine, stage_count}
+use Rattle.pdl_source_stages.proofs.BodyShape.{body_forked, stage_count}
+use Rattle.pdl_source_stages.proofs.SiteFacts.{Fine, all_fine}
 use Rattle.pdl_source_stages.proofs.Firsts.{none_front}
 use Rattle.pdl_source_stages.proofs.Homes.{reserves_in, releases_in, verifies_in}
 use Rattle.pdl_source_paths.specs.Source.{are_apart}

@@ -12,6 +12,7 @@ use Rattle.pdl_rules.specs.Refusal.{KeepsRules}
 use Rattle.pdl_theory_derived.specs.Alone.{answered_op}
 use Rattle.pdl_theory_facts.specs.Scans.{is_dead, is_fixed}
 use Rattle.pdl_theory_facts.specs.Graphs.{Graph, next_of}
+use Rattle.pdl_theory_facts.proofs.Nested.{within_all}
 use Rattle.pdl_theory_facts.specs.Facts.{binds_guard, FetchIf, AllFetches, looked_all, at_once, Sound}
 use Rattle.pdl_theory_facts.proofs.Passes
 use Rattle.pdl_theory_turns.proofs.StrayPaths.{fixed_looked}
@@ -55,7 +56,7 @@ bound_early p g s m env low early = at (cases_lt (commit_stage p m) (next_of p s
   where
     at : (commit_stage p m < next_of p s env) ⊎ (next_of p s env ≤ commit_stage p m) → next_of p s env ≤ commit_stage p m
     at (inr l) = l
-    at (inl l) = let e = g.jump s env (commit_stage p m) low (g.trunk_commit m) early (omega arith) in omega arith
+    at (inl l) = let e = g.jump [] s env (commit_stage p m) low (within_all p s) (g.trunk_commit m) early (omega arith) in omega arith
 
 fetches_all : (p : Flat.Pipe) → Graph p → (fetch : ℕ → ℕ) (s : ℕ) (ys : List Flat.Stmt) → AllFound p fetch s ys
     → Each (Before p s) ys → AllFetches p fetch s ys

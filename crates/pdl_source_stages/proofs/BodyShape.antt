@@ -131,9 +131,8 @@ module _ (p : Pipe) (rules : KeepsRules p) where
       → (is_in_outer_stage front bs ≡ false) × (starts_with_separator bs (drop (places_in (when ∷ otherwise ∷ [])) later) ≡ true)
   fork_rule sp c when otherwise bs front later e fork =
       let rule = other_false (is_fork (If sp c when otherwise)) _ (rules F2 front (Statement (If sp c when otherwise) bs) later e) fork in
-      let rest = or_parts (length bs == 4) _ rule in
-      let parts = or_parts (is_in_outer_stage front bs) _ rest.1 in (
-        parts.0,
+      let parts = or_parts (length bs == 4 || is_in_outer_stage front bs) _ rule in (
+        (or_parts (length bs == 4) (is_in_outer_stage front bs) parts.0).1,
         ap (λ l. starts_with_separator bs (drop (places_in (when ∷ otherwise ∷ [])) l)) (sym (after_is p front (Statement (If sp c when otherwise) bs) later e))
             ∙ not-false _ parts.1,
       )

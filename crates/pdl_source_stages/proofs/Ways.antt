@@ -54,11 +54,13 @@ same_ends x y c (z ∷ zs) (w ∷ ws) e = same_ends x y c zs ws (same_tail z w _
 not_home : {R : Type 0} → (p : Flat.Pipe) (x : Flat.Branch) (c : List Flat.Branch) (r : ℕ) → Home p c r → Within p (x ∷ c) r → R
 not_home p x c r h w = no_cycle x c w.0 (sym h ∙ w.1)
 
-start_low : (f a : ℕ) (first : Bool) → f ≤ start f a first
+-- a branch begins after its fork or later
+pub start_low : (f a : ℕ) (first : Bool) → f ≤ start f a first
 start_low f a true = omega arith
 start_low f a false = omega arith
 
-start_high : (f a b : ℕ) (first : Bool) → start f a first + many a b first < merge_at f a b
+-- and ends before the merge
+pub start_high : (f a b : ℕ) (first : Bool) → start f a first + many a b first < merge_at f a b
 start_high f a b true = omega arith
 start_high f a b false = omega arith
 

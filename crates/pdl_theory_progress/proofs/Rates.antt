@@ -15,7 +15,7 @@ use Rattle.pdl_theory_refinement.proofs.Spots.{Spot, seat, seats, is_nil, Standi
 use Rattle.pdl_theory_refinement.proofs.Cycles.{work_same}
 use Rattle.pdl_theory_derived.proofs.Writes.{row_committed}
 use Rattle.pdl_theory_refinement.proofs.Follows.{Runs, runs_cycle, runs_first, oldest_of, behind_none, rows_at, low_end}
-use Rattle.pdl_theory_turns.proofs.CourseOf.{course, walk, Reached, on_reached}
+use Rattle.pdl_theory_turns.proofs.CourseOf.{course, walk, Reached, on_reached, on_visited}
 use Rattle.pdl_theory_turns.proofs.StageFacts
 
 -- THE LONGEST PATH
@@ -348,7 +348,8 @@ module _ (p : Pipe) (acc : Sound p) where
                   (after_turns p image n).arrays (after_turns p image n).next (length p.stages ∷ [])
                   (suc (length p.stages) ∷ []) sp (is_nil sps) (rows_at p (course p acc) image n)
                   (behind_none p (course p acc)) h.0 f)
-                  ∙ StageFacts.path_next p acc (after_turns p image n).arrays (after_turns p image n).next sp.stage h.0.on.0
+                  ∙ StageFacts.path_next p acc (after_turns p image n).arrays (after_turns p image n).next sp.stage
+                  (on_visited p acc (after_turns p image n).arrays (after_turns p image n).next sp.stage h.0.on)
 
               leaving : exit_of p (act p st bits [] (seat p (after_turns p image n).arrays (after_turns p image n).next sp))
                   ≡ cond (nat_lt (next_of p sp.stage (turn_path image n)) (length p.stages)) (Some (next_of p sp.stage (turn_path image n))) None

@@ -325,3 +325,8 @@ module _ (p : Pipe) (acc : Sound p) where
   pub on_reached : (arrays : Arrays) (args : List ℕ) (s : ℕ) → course.on arrays args s → Reached p (thread (at_once p) arrays args).env s
   unfolding course
   on_reached arrays args s on = on.1
+
+  -- and its path comes to it
+  pub on_visited : (arrays : Arrays) (args : List ℕ) (s : ℕ) → course.on arrays args s → visits_stage p (thread (at_once p) arrays args).env s ≡ true
+  unfolding course
+  on_visited arrays args s on = on.0
