@@ -1,7 +1,11 @@
 -- From what holds of each act of a cycle to the thread in each stage, and what two layers count alike.
-use Rattle.std.proofs.Common.{◌≡◌, refl, sym, subst, ap, ap₂, ◌∙◌, ℕ, zero, suc, ◌+◌, Bool, true, false, List, [], ◌∷◌, ◌++◌, length, drop, Option, Some, None, ◌==◌, cond, if◌then◌else◌, arith, nat_lt, length-append, slice_index_or}
-use Rattle.pdl_semantics.specs.Flat.{Pipe}
-use Rattle.pdl_semantics.specs.Machine.{State, Thread, Pending, Reserved, reserves_of, with_answers, deeds}
+use Rattle.std.proofs.Common.{◌≡◌, refl, sym, subst, ap, ap₂, ◌∙◌, ℕ, zero, suc, ◌+◌, ◌≤◌, Bool, true, false, List, [], ◌∷◌, ◌++◌, length, drop, Option, Some, None, ◌==◌, cond, if◌then◌else◌, arith, nat_lt, length-append, slice_index_or}
+use Rattle.std.proofs.lemmas.Bool.{eqb-true}
+use Rattle.pdl_semantics.specs.Flat.{Pipe, list_all}
+use Rattle.pdl_semantics.specs.Locks.{has_room}
+use Rattle.pdl_semantics.specs.Stages.{mem_at}
+use Rattle.pdl_semantics.specs.Machine.{State, Thread, Pending, Reserved, reserves_of, lock_of, with_answers, deeds}
+use Rattle.pdl_theory_derived.proofs.Writes.{and_left, and_right}
 use Rattle.pdl_semantics.specs.Moves.{Act, act, acts, all_acts}
 use Rattle.pdl_lockapi.specs.Forget as forget
 use Rattle.pdl_machine_facts.specs.Slots.{slot, with_now, here, stage_moves, slot_moves, later_acts}
@@ -121,3 +125,43 @@ few_reserved m (a ∷ ms) h f = at (reserves_of m a.does.reserves) refl
       where
         none : (i : ℕ) {j : ℕ} → j ≡ 1 → i + j ≤ 1 → i ≡ 0
         none i q g = omega (arith, q, g)
+
+-- what holds of how many each of them reserves that reserves any, holds of how many are reserved, where at most one thread reserves
+pub sole_reserved : (P : ℕ → Type 0) (m : ℕ) (ms : List Act) → reserved_count m ms ≤ 1
+    → Each (λ a. 1 ≤ reserves_of m a.does.reserves → P (reserves_of m a.does.reserves)) ms
+    → 1 ≤ length (forget.addresses m ms) → P (length (forget.addresses m ms))
+sole_reserved P m [] h f some = absurd (omega (arith, some))
+sole_reserved P m (a ∷ ms) h f some = at (reserves_of m a.does.reserves) refl
+  where
+    l : length (forget.addresses m ms ++ forget.addresses_of m a.does.reserves)
+        ≡ length (forget.addresses m ms) + length (forget.addresses_of m a.does.reserves)
+    l = length-append (forget.addresses m ms) (forget.addresses_of m a.does.reserves)
+
+    at : (n : ℕ) → reserves_of m a.does.reserves ≡ n → P (length (forget.addresses m (a ∷ ms)))
+    at zero e =
+        let k = as_many m a.does.reserves in
+        let same : length (forget.addresses m ms) ≡ length (forget.addresses m (a ∷ ms)) = omega (arith, l, k, e) in
+        subst P same (sole_reserved P m ms (low (reserved_count m ms) _ h) f.1 (omega (arith, some, same)))
+      where
+        low : (i j : ℕ) → i + j ≤ 1 → i ≤ 1
+        low i j g = omega (arith, g)
+    at (suc n) e =
+        let k = as_many m a.does.reserves in
+        let z = none_counted m ms (none (reserved_count m ms) (ap (λ j. if j == 0 then 0 else 1) e) h) in
+        let same : reserves_of m a.does.reserves ≡ length (forget.addresses m (a ∷ ms)) = omega (arith, l, k, z) in
+        subst P same (f.0 (omega (arith, e)))
+      where
+        none : (i : ℕ) {j : ℕ} → j ≡ 1 → i + j ≤ 1 → i ≡ 0
+        none i q g = omega (arith, q, g)
+
+-- where there is room for reservations, there is room for those of one memory together
+pub room_together : (p : Pipe) (st : State) (m : ℕ) (all rs : List Reserved)
+    → list_all (λ r. has_room (mem_at p r.mem).lock (reserves_of r.mem all) (length (lock_of st r.mem))) rs ≡ true
+    → 1 ≤ reserves_of m rs → has_room (mem_at p m).lock (reserves_of m all) (length (lock_of st m)) ≡ true
+room_together p st m all [] h some = absurd (omega (arith, some))
+room_together p st m all (r ∷ rs) h some = at (r.mem == m) refl some
+  where
+    at : (b : Bool) → (r.mem == m) ≡ b → 1 ≤ (if b then suc (reserves_of m rs) else reserves_of m rs)
+        → has_room (mem_at p m).lock (reserves_of m all) (length (lock_of st m)) ≡ true
+    at true e some = subst (λ i. has_room (mem_at p i).lock (reserves_of i all) (length (lock_of st i)) ≡ true) (eqb-true r.mem m e) (and_left _ _ h)
+    at false e some = room_together p st m all rs (and_right _ _ h) some
