@@ -91,11 +91,12 @@ pub record IsInUse (p : Pipe) (st : State) (bits : List Bool) : Type 0 where
       → has_room (mem_at p m).lock (length (addresses m (moving p st bits))) (length (lock_of st m)) ≡ true
   -- a thread that has come to no reserve of the memory finds all pending writes older
   pub unreserved : (k : ℕ) (t : Thread) (m : ℕ) → slot st k ≡ Some t → k ≤ reserve_stage p m → count_older t.number (lock_of st m) ≡ length (lock_of st m)
-  -- a thread that writes has one pending write of the location, and what this cycle appends is no older
+  -- a thread that writes has one pending write of the location, with what this cycle appends, of which it finds none older
   pub writer : (k : ℕ) (t : Thread) (m y v : ℕ) → here p st bits k ≡ Some t → stage_moves p st bits k ≡ true
       → Contains (deeds p st k t).writes (record { mem = m; var = y; value = v })
       → (k ≤ commit_stage p m) × (has_place t.number y (with_reserves m (moving p st bits) (lock_of st m)) ≡ true)
       × IsOnce t.number y (with_reserves m (moving p st bits) (lock_of st m))
+      × (count_older t.number (with_reserves m (moving p st bits) (lock_of st m)) ≡ count_older t.number (lock_of st m))
   pub after : (k : ℕ) (t : Thread) (m : ℕ) → slot st k ≡ Some t → reserve_stage p m ≤ k
       → count_older t.number (with_reserves m (moving p st bits) (lock_of st m)) ≡ count_older t.number (lock_of st m)
   -- what is released is pending, and has its value; at most two are released

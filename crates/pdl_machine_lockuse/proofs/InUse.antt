@@ -43,7 +43,7 @@ use Rattle.pdl_theory_states.proofs.LockRelease.{LowFirst, count_released}
 use Rattle.pdl_theory_states.proofs.LockUse.{all_each, with_new_is, releases_are, swaps, list_ordered, finds_older, reserves, places, shifts}
 use Rattle.pdl_machine_lockuse.specs.Careful.{Careful}
 use Rattle.pdl_machine_lockuse.specs.Use.{HasRoom, ReleasesOwn, ShiftsUpTo, ReleasesOlder, FindsAll, KeepsTail, LeavesTail, Cuts, IsSpared, WritesOnce, IsLet, AwaitsOlder}
-use Rattle.pdl_machine_lockuse.proofs.Acts.{at_here, at_slot, same_order, same_count, few_reserved, sole_reserved, room_together}
+use Rattle.pdl_machine_lockuse.proofs.Acts.{at_here, at_slot, same_order, same_count, few_reserved, sole_reserved, room_together, sole_older}
 use Rattle.pdl_machine_lockuse.proofs.Begins.{fine_here, let_here}
 use Rattle.pdl_machine_lockuse.proofs.OwnWrite.{InTurn, names, once_names, used_here, writes_early, held_on, few_reserves, few_releases}
 use Rattle.pdl_machine_lockuse.proofs.Owns.{contains_write, own_same, written_same, names_by, turn_by, turn_of, open_place, own_two, written_two, fewer_taken, few_released, by_new}
@@ -479,7 +479,9 @@ module _ (p : Pipe) (sound : Sound p) (strict : Strict p) (st : State) (d : Deri
           ∙ at_slot p st bits (FindsOlder st m (reserve_stage p m)) (finds_older p sound st d bits ls sim m) k t h low;
       writer = λ k t m y v h g c.
           let w = at_here p st bits (Writes m y v) (writes_all m y v) k t h g c in
-          (w.0, ap (forget.has_place t.number y) (list_is m) ∙ w.1, subst (forget.IsOnce t.number y) (sym (list_is m)) w.2);
+          (w.0, ap (forget.has_place t.number y) (list_is m) ∙ w.1, subst (forget.IsOnce t.number y) (sym (list_is m)) w.2,
+          ap (count_older t.number) (list_is m)
+          ∙ sole_older t.number y m (moving p st bits) (lock_of st m) (reserves p sound st d bits ls sim m).one (reserves p sound st d bits ls sim m).ordered w.1);
       after =
           λ k t m h low. ap (count_older t.number) (list_is m) ∙ sym (same_count t.number (with_new p st bits m))
           ∙ at_slot p st bits (KeepsPlace p st bits m) (places p sound st d bits ls sim m) k t h low ∙ same_count t.number (lock_of st m);
