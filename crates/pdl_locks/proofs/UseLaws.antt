@@ -65,7 +65,8 @@ location_laws = record {
 
 -- WITH A MEMORY
 
-unreserved_memory : (k : Kind) (l : Location) (x : Place) → is_at Memories l x ≡ false → is_reserve_of k l.mem.name x ≡ false
+-- a place with another memory reserves none of it
+pub unreserved_memory : (k : Kind) (l : Location) (x : Place) → is_at Memories l x ≡ false → is_reserve_of k l.mem.name x ≡ false
 unreserved_memory k l (Statement (Reserve s m j) bs) e = and_right (same_kind k j) _ e
 unreserved_memory k l _ e = refl
 

@@ -109,10 +109,15 @@ fn first_after(first: Option<usize>, number: usize, place: &Place<'_>) -> Option
         number ≡ first_place keys.Locations l all → IsFirst all first l earlier →
         IsFirst all result l (earlier ++ place_view place.now ∷ []) }
 {
-    if first.is_none() && is_reserve_for(place, AccessKind::W) {
-        Some(number)
-    } else {
-        first
+    match first {
+        Some(_) => first,
+        None => {
+            if is_reserve_for(place, AccessKind::W) {
+                Some(number)
+            } else {
+                None
+            }
+        }
     }
 }
 

@@ -2,7 +2,7 @@
 use Rattle.std.specs.Prelude.{◌≡◌, ℕ, zero, suc, ◌+◌, ◌≤◌, ◌<◌, Bool, true, false, IsTrue, List, [], ◌∷◌, Some, None, length, slice_index, nat_le, if◌then◌else◌, Contains, ⊤}
 use Rattle.pdl_semantics.specs.Flat.{Op, Bind, CombRead, DelayedRead, Write, ReserveRead, ReserveWrite, Block, Release, Call, SpecCall, Verify, SpecCheck, SpecBarrier, Stmt, Plain, Pipe, all_hold}
 use Rattle.pdl_semantics.specs.Stages.{in_stage, mem_at, reserve_stage, commit_stage}
-use Rattle.pdl_semantics.specs.Locks.{read_ready}
+use Rattle.pdl_semantics.specs.Locks.{read_ready, has_room}
 use Rattle.pdl_semantics.specs.Machine.{Thread, State, Pending, lock_of, Deeds, deeds, deeds_after, held_before, is_held, let_go, with_kept, older_write, word_for}
 use Rattle.pdl_semantics.specs.Moves.{next_stage}
 use Rattle.pdl_semantics.specs.Cycle.{is_stage, with_reserves, all_releases, list_two, list_three}
@@ -86,13 +86,17 @@ pub record IsInUse (p : Pipe) (st : State) (bits : List Bool) : Type 0 where
   pub ordered : (m : ℕ) → AreOrdered 0 (lock_of st m)
   pub ordered_next : (m : ℕ) → AreOrdered 0 (with_reserves m (moving p st bits) (lock_of st m))
   pub two : (m : ℕ) → m < length p.mems → length (addresses m (moving p st bits)) ≤ 2
+  -- a lock has room for what the cycle appends, all of it together
+  pub room : (m : ℕ) → 1 ≤ length (addresses m (moving p st bits))
+      → has_room (mem_at p m).lock (length (addresses m (moving p st bits))) (length (lock_of st m)) ≡ true
   -- a thread that has come to no reserve of the memory finds all pending writes older
   pub unreserved : (k : ℕ) (t : Thread) (m : ℕ) → slot st k ≡ Some t → k ≤ reserve_stage p m → count_older t.number (lock_of st m) ≡ length (lock_of st m)
-  -- a thread that writes has one pending write of the location, and what this cycle appends is no older
+  -- a thread that writes has one pending write of the location, with what this cycle appends, of which it finds none older
   pub writer : (k : ℕ) (t : Thread) (m y v : ℕ) → here p st bits k ≡ Some t → stage_moves p st bits k ≡ true
       → Contains (deeds p st k t).writes (record { mem = m; var = y; value = v })
       → (k ≤ commit_stage p m) × (has_place t.number y (with_reserves m (moving p st bits) (lock_of st m)) ≡ true)
       × IsOnce t.number y (with_reserves m (moving p st bits) (lock_of st m))
+      × (count_older t.number (with_reserves m (moving p st bits) (lock_of st m)) ≡ count_older t.number (lock_of st m))
   pub after : (k : ℕ) (t : Thread) (m : ℕ) → slot st k ≡ Some t → reserve_stage p m ≤ k
       → count_older t.number (with_reserves m (moving p st bits) (lock_of st m)) ≡ count_older t.number (lock_of st m)
   -- what is released is pending, and has its value; at most two are released

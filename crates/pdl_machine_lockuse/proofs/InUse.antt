@@ -5,6 +5,7 @@ use Rattle.std.proofs.lemmas.Bool.{false≢true, ne_eqb}
 use Rattle.pdl_semantics.specs.Flat.{Pipe, Plain, Stmt, list_all}
 use Rattle.pdl_semantics.specs.Stages.{list_any, onpath, in_stage, stage_at, goes_to, mem_at, is_release, reserve_stage, commit_stage, verify_stage}
 use Rattle.pdl_semantics.specs.Machine.{State, Thread, Pending, Deeds, reserves_of, lock_of, deeds, held_before, with_answers}
+use Rattle.pdl_semantics.specs.Locks.{has_room}
 use Rattle.pdl_semantics.specs.Sound.{stages_from}
 use Rattle.pdl_semantics.specs.Moves.{Act, acts, all_acts, movers, may_move, next_stage, no_failure, blocks_ready, have_room}
 use Rattle.pdl_semantics.specs.Cycle.{new_entries, with_reserves, with_all_writes, releases_of, all_releases, list_two, list_three, taken_out, is_kept, is_stage, squasher}
@@ -43,7 +44,7 @@ use Rattle.pdl_theory_states.proofs.LockRelease.{LowFirst, count_released}
 use Rattle.pdl_theory_states.proofs.LockUse.{all_each, with_new_is, releases_are, swaps, list_ordered, finds_older, reserves, places, shifts}
 use Rattle.pdl_machine_lockuse.specs.Careful.{Careful}
 use Rattle.pdl_machine_lockuse.specs.Use.{HasRoom, ReleasesOwn, ShiftsUpTo, ReleasesOlder, FindsAll, KeepsTail, LeavesTail, Cuts, IsSpared, WritesOnce, IsLet, AwaitsOlder}
-use Rattle.pdl_machine_lockuse.proofs.Acts.{at_here, at_slot, same_order, same_count, few_reserved}
+use Rattle.pdl_machine_lockuse.proofs.Acts.{at_here, at_slot, same_order, same_count, few_reserved, sole_reserved, room_together, sole_older}
 use Rattle.pdl_machine_lockuse.proofs.Begins.{fine_here, let_here}
 use Rattle.pdl_machine_lockuse.proofs.OwnWrite.{InTurn, names, once_names, used_here, writes_early, held_on, few_reserves, few_releases}
 use Rattle.pdl_machine_lockuse.proofs.Owns.{contains_write, own_same, written_same, names_by, turn_by, turn_of, open_place, own_two, written_two, fewer_taken, few_released, by_new}
@@ -352,6 +353,26 @@ module _ (p : Pipe) (sound : Sound p) (strict : Strict p) (st : State) (d : Deri
           (h i).once y,
         )) (pairs ls) knowns once_pairs)
 
+    -- what a thread that moves reserves has room
+    each_room : (these : List Act) → AllActs (HasRoom p st) these
+        → Each (λ (a : Act). 1 ≤ reserves_of m a.does.reserves → has_room (mem_at p m).lock (reserves_of m a.does.reserves) (length (lock_of st m)) ≡ true) (movers these)
+    each_room [] h = tt
+    each_room (a ∷ these) h = at a.moves refl (each_room these h.1)
+      where
+        at : (b : Bool) → a.moves ≡ b
+            → Each (λ (a : Act). 1 ≤ reserves_of m a.does.reserves → has_room (mem_at p m).lock (reserves_of m a.does.reserves) (length (lock_of st m)) ≡ true) (movers these)
+            → Each (λ (a : Act). 1 ≤ reserves_of m a.does.reserves → has_room (mem_at p m).lock (reserves_of m a.does.reserves) (length (lock_of st m)) ≡ true)
+            (cond b (a ∷ movers these) (movers these))
+        at true e g = ((λ some. room_together p st m a.does.reserves a.does.reserves (h.0 e) some), g)
+        at false e g = g
+
+    -- a lock has room for all that is reserved in a cycle
+    pub room_reserved : 1 ≤ length (forget.addresses m (moving p st bits))
+        → has_room (mem_at p m).lock (length (forget.addresses m (moving p st bits))) (length (lock_of st m)) ≡ true
+    room_reserved =
+        sole_reserved (λ n. has_room (mem_at p m).lock n (length (lock_of st m)) ≡ true) m (moving p st bits)
+        (reserves p sound st d bits ls sim m).one (each_room (all_acts p st bits) (all_room p st bits))
+
     -- at most two are reserved and released
     module _ (careful : Careful p) (there : m < length p.mems) where
       few_here : EachPair (λ x. reserves_of m (deeds_of p st bits x.live).reserves ≤ 2) (pairs ls)
@@ -451,12 +472,17 @@ module _ (p : Pipe) (sound : Sound p) (strict : Strict p) (st : State) (d : Deri
       ordered = λ m. same_order 0 (lock_of st m) (list_ordered p sound st d bits ls sim m);
       ordered_next = λ m. subst (AreOrdered 0) (sym (list_is m)) (same_order 0 (with_new p st bits m) (reserves p sound st d bits ls sim m).ordered);
       two = λ m low. subst (λ ms. length (forget.addresses m ms) ≤ 2) by.movers (two_reserved m careful low);
+      room = λ m. subst
+          (λ ms. 1 ≤ length (forget.addresses m ms) → has_room (mem_at p m).lock (length (forget.addresses m ms)) (length (lock_of st m)) ≡ true)
+          by.movers (room_reserved m);
       unreserved =
           λ k t m h low. sym (same_count t.number (lock_of st m))
           ∙ at_slot p st bits (FindsOlder st m (reserve_stage p m)) (finds_older p sound st d bits ls sim m) k t h low;
       writer = λ k t m y v h g c.
           let w = at_here p st bits (Writes m y v) (writes_all m y v) k t h g c in
-          (w.0, ap (forget.has_place t.number y) (list_is m) ∙ w.1, subst (forget.IsOnce t.number y) (sym (list_is m)) w.2);
+          (w.0, ap (forget.has_place t.number y) (list_is m) ∙ w.1, subst (forget.IsOnce t.number y) (sym (list_is m)) w.2,
+          ap (count_older t.number) (list_is m)
+          ∙ sole_older t.number y m (moving p st bits) (lock_of st m) (reserves p sound st d bits ls sim m).one (reserves p sound st d bits ls sim m).ordered w.1);
       after =
           λ k t m h low. ap (count_older t.number) (list_is m) ∙ sym (same_count t.number (with_new p st bits m))
           ∙ at_slot p st bits (KeepsPlace p st bits m) (places p sound st d bits ls sim m) k t h low ∙ same_count t.number (lock_of st m);

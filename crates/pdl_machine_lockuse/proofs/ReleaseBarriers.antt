@@ -157,7 +157,7 @@ module _ (p : Pipe) (sound : Sound p) (st : State) (d : Derived.State) (bits : L
       ready : (work_of_live p d bits older l).ready ≡ true
       ready =
           and_right (list_all (λ (o : Derived.Act). not (o.moves && o.work.fails)) (dacts p d bits older)) (work_of_live p d bits older l).ready
-          (and_left _ _ (and_left _ _ moves))
+          (and_left _ _ (and_left _ _ (and_left _ _ moves)))
 
       done : is_done (phase_all m Fresh way) ≡ true
       done =

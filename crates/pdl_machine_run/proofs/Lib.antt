@@ -1,4 +1,5 @@
 mod Places
+pub mod TakenOut
 pub mod MoverDeeds
 pub mod ActLists
 pub mod AnswerLists

@@ -68,23 +68,38 @@ fn blocks_ready(memories: &[Memory], thread: u64, blocks: &[Blocked]) -> bool
     true
 }
 
-// Whether a memory has room for one more pending write.
-fn has_room(memories: &[Memory], m: usize) -> bool
-    ensures { result ≡ is_roomy memories.now m }
+// Whether a memory has room for so many more pending writes.
+fn has_room(memories: &[Memory], m: usize, more: usize) -> bool
+    ensures { result ≡ is_roomy memories.now more m }
 {
     match memories.get(m) {
         None => true,
-        Some(memory) => memory.has_room(),
+        Some(memory) => memory.has_room(more),
     }
 }
 
-// Whether there is room for each of these reservations.
+// How many of these reservations are of memory m.
+fn reserves_of(reserves: &[Reserved], m: usize) -> usize
+    ensures { result ≡ machine.reserves_of m (map reserved_view reserves.now) }
+{
+    let mut count = 0;
+    for reserved in reserves {
+        if reserved.mem == m {
+            count += 1;
+        }
+    }
+    count
+}
+
+// Whether there is room for these reservations, for those of each memory together.
 fn have_room(memories: &[Memory], reserves: &[Reserved]) -> bool
-    ensures { result ≡ list_all (λ r. is_roomy memories.now r.mem)
+    ensures { result ≡ list_all
+        (λ r. is_roomy memories.now (machine.reserves_of r.mem (map reserved_view reserves.now))
+        r.mem)
         (map reserved_view reserves.now) }
 {
     for reserved in reserves {
-        if !has_room(memories, reserved.mem) {
+        if !has_room(memories, reserved.mem, reserves_of(reserves, reserved.mem)) {
             return false;
         }
     }

@@ -48,11 +48,11 @@ fn size(lock: Lock) -> usize
     }
 }
 
-// A memory with these words, and room for what may be pending and one reservation more.
+// A memory with these words, and room for what may be pending and two reservations more.
 fn memory(alloc: Global, words: &[u64], lock: Lock) -> Result<Memory, NoMemory>
     ensures { IfOk result (λ x. IsFirst (lock_view lock) words.now x) }
 {
-    Memory::new(alloc, words, lock, size(lock) + 1)
+    Memory::new(alloc, words, lock, size(lock) + 2)
 }
 
 /// The memories with the words of an image.

@@ -78,6 +78,7 @@ fn reserve(m: usize, a: usize, deeds: &mut Deeds)
           held = record { mem = m; var = a } ∷ (deeds_view deeds.old).held;
           reserves = (deeds_view deeds.old).reserves ++ record {
             mem = m;
+            var = a;
             address = slice_index (deeds_view deeds.old).env a;
           } ∷ [];
         } }
@@ -85,7 +86,11 @@ fn reserve(m: usize, a: usize, deeds: &mut Deeds)
     ensures room { (n : ℕ) → HasRoomFor (suc n) deeds.old → HasRoomFor n deeds.new }
 {
     let address = variable(deeds.values.as_slice(), a);
-    deeds.reserves.push_reserved(Reserved { mem: m, address });
+    deeds.reserves.push_reserved(Reserved {
+        mem: m,
+        var: a,
+        address,
+    });
     hold(&mut deeds.held, m, a);
 }
 
@@ -130,14 +135,15 @@ fn release(m: usize, a: usize, deeds: &mut Deeds)
     let_go(&mut deeds.held, m, a);
 }
 
-// A value is written.
-fn write(m: usize, e: &FlatExpr, deeds: &mut Deeds)
+// A value is written to the location that a variable reserved.
+fn write(m: usize, a: usize, e: &FlatExpr, deeds: &mut Deeds)
     requires safe { IsSafe (expr_view e.now) (deeds_view deeds.old).env }
     requires room { HasRoomFor 1 deeds.old }
     ensures deeds { deeds_view deeds.new
         ≡ record (deeds_view deeds.old) {
           writes = (deeds_view deeds.old).writes ++ record {
             mem = m;
+            var = a;
             value = spec_value_of (expr_view e.now) (deeds_view deeds.old).env;
           } ∷ [];
         } }
@@ -145,7 +151,11 @@ fn write(m: usize, e: &FlatExpr, deeds: &mut Deeds)
     ensures room { (n : ℕ) → HasRoomFor (suc n) deeds.old → HasRoomFor n deeds.new }
 {
     let value = value_of(e, deeds.values.as_slice());
-    deeds.writes.push_reserved(Written { mem: m, value });
+    deeds.writes.push_reserved(Written {
+        mem: m,
+        var: a,
+        value,
+    });
 }
 
 // A thread is called.
@@ -232,7 +242,7 @@ fn act(memories: &[Memory], thread: u64, op: &Op, deeds: &mut Deeds)
             read_word(memories, thread, *x, *m, *a, deeds.values.as_mut_slice());
         }
         Op::DelayedRead { x, m, a } => ask(*x, *m, *a, deeds),
-        Op::Write { m, a: _, e } => write(*m, e, deeds),
+        Op::Write { m, a, e } => write(*m, *a, e, deeds),
         Op::ReserveWrite { m, a } => reserve(*m, *a, deeds),
         Op::Block { m, a } => block(*m, *a, deeds),
         Op::Release { m, a } => release(*m, *a, deeds),

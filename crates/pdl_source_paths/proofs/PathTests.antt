@@ -1,5 +1,5 @@
 -- Each path of a source that breaks no rule passes the tests of paths.
-use Rattle.std.proofs.Common.{◌≡◌, refl, sym, ap, ◌∙◌, subst, ℕ, zero, suc, ◌+◌, ◌≤◌, ◌<◌, Bool, true, false, ◌&&◌, ◌||◌, not, List, [], ◌∷◌, ◌++◌, length, map, filter, ◌==◌, nat_lt, unwrap_or, Option, Some, None, arith, append_assoc, append-nil, eq-eqb, le-leb, ⊎_elim}
+use Rattle.std.proofs.Common.{◌≡◌, refl, sym, ap, ◌∙◌, subst, ℕ, zero, suc, ◌+◌, ◌≤◌, ◌<◌, Bool, true, false, ◌&&◌, ◌||◌, not, List, [], ◌∷◌, ◌++◌, length, map, filter, ◌==◌, nat_lt, unwrap_or, Option, Some, None, arith, append_assoc, append-nil, eq-eqb, le-leb, ⊎_elim, if◌then◌else◌}
 use Rattle.std.proofs.lemmas.Bool.{false≢true, and_parts, and_from, or_left, or_right, both_ways, not-false, cases_Bool, ne_eqb}
 use Rattle.std.specs.List.{list_any}
 use Rattle.pdl_semantics.specs.Tree.{Location, W, Stmt, Reserve, Release, Verify, Param, Mem, Pipe}

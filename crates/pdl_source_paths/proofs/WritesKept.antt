@@ -185,9 +185,12 @@ place_front vs us before m n x o = record {
 
 abbrev first_front : (vs us : List Var) (before : List Place) (m : List ℕ) (n : ℕ) (x : Place) → is_reserve_of W m x ≡ false → IsFirst vs before m n
     → IsFirst (vs ++ us) (before ++ x ∷ []) m n
-first_front vs us before m n x nor f =
-    record { at = f.at;
-  first = first_stays m before x nor ∙ f.first; mem = f.mem; named = list_any-append _ vs us ∙ or_left (is_named vs f.at.address.name) _ f.named; number = var_stays vs us f.at.address.name f.named ∙ f.number;
+first_front vs us before m n x nor f = record {
+  at = f.at;
+  first = first_stays m before x nor ∙ f.first;
+  mem = f.mem;
+  named = list_any-append _ vs us ∙ or_left (is_named vs f.at.address.name) _ f.named;
+  number = var_stays vs us f.at.address.name f.named ∙ f.number;
 }
 
 writes_there : (l : Location) (m : List ℕ) (x : Place) → l.mem.name ≡ m → writes_location l x ≡ true → is_write_of m x ≡ true
@@ -302,7 +305,7 @@ module _ (p : Pipe) (vs : List Var) (before : List Place) (m : List ℕ) (there 
 
       apart_from : (y : ℕ) (o : Open vs before m y) → a ≡ y → ⊥
       apart_from y o f = both_ways _
-    (other o.at o.reserved) (same_place at y o same n.1 (sym f))
+        (other o.at o.reserved) (same_place at y o same n.1 (sym f))
 
       new : is_new ph a ≡ true
       new = and_from _ _ (ap not (false_from_ne_true _ (λ t. apart_from a (s.unset a t).place refl)))
@@ -389,9 +392,8 @@ module _ (p : Pipe) (vs : List Var) (before : List Place) (m : List ℕ) (there 
               place = place;
               unset = none_more (writes_location at) before x unwritten refl;
               held = ap (is_held_for W) (held_more at before x ∙ ap (λ b. if b then Reserved W else hold_after at before) (location_refl at));
-            }
-    )
-  ) (λ f. let u = s.unset y f in record {
+            }))
+            (λ f. let u = s.unset y f in record {
               place = front y u.place;
               unset = none_more (writes_location u.place.at) before x u.unset refl;
               held = ap (is_held_for W) (held_more u.place.at before x) ∙ held (same_location at u.place.at) _ u.held;
@@ -406,8 +408,9 @@ module _ (p : Pipe) (vs : List Var) (before : List Place) (m : List ℕ) (there 
         count = let c = s.count in omega (arith, more);
         few = let c = low in omega (arith, more);
         every = λ l f r. ⊎_elim
-          (λ t. let o = s.every l f t in
-          (o.0, front o.0 o.1, or_shift (a == o.0) (is_among o.0 ph.unwritten) (is_among o.0 ph.full || is_among o.0 ph.gone) o.2, o.3)) (λ t. ⊎_elim (λ u. (a, place, or_left (is_among a (a ∷ ph.unwritten)) _ (among_self a ph.unwritten), u)) (λ u. absurd (false≢true u)) (or_cases (reserves_to_write l x) false t))
+            (λ t. let o = s.every l f t in
+            (o.0, front o.0 o.1, or_shift (a == o.0) (is_among o.0 ph.unwritten) (is_among o.0 ph.full || is_among o.0 ph.gone) o.2, o.3))
+            (λ t. ⊎_elim (λ u. (a, place, or_left (is_among a (a ∷ ph.unwritten)) _ (among_self a ph.unwritten), u)) (λ u. absurd (false≢true u)) (or_cases (reserves_to_write l x) false t))
             (or_cases (list_any (reserves_to_write l) before) _ (sym (list_any-append (reserves_to_write l) before (x ∷ [])) ∙ r));
         first = first ph.unwritten refl;
         one_open = and_from _ _ (and_parts (not (is_among a ph.unwritten)) _ new).0 s.one_open;
@@ -495,15 +498,11 @@ module _ (p : Pipe) (vs : List Var) (before : List Place) (m : List ℕ) (there 
             where
               at_first : (b c : Bool) → c ≡ false → (not b && not c) ≡ false → b ≡ true
               at_first true c h k = refl
-              at_first false true h k = absurd (false≢true
-            (sym h))
+              at_first false true h k = absurd (false≢true (sym h))
               at_first false false h k = absurd (false≢true (sym k))
 
           z_is : z ≡ a
-          z_is = sym f.number
-            ∙ ap (var_of vs)
-            (bytes_same _ _
-            (and_parts (bytes_eq f.at.mem.name at.mem.name) _ here).1)
+          z_is = sym f.number ∙ ap (var_of vs) (bytes_same _ _ (and_parts (bytes_eq f.at.mem.name at.mem.name) _ here).1)
 
       oldest : is_oldest a ph.unwritten ≡ true
       oldest = by ph.unwritten refl among
@@ -526,18 +525,15 @@ module _ (p : Pipe) (vs : List Var) (before : List Place) (m : List ℕ) (there 
         };
         set = λ y t. ⊎_elim
             (λ f. subst (IsSet vs (before ++ x ∷ []) m) f (record {
-              place = record {
-            at = at;
-            mem = same;
-            named = n.1;
-            number = refl;
-            reserved = any_front (reserves_to_write at) before x reserved;
-          };
+              place = record { at = at; mem = same; named = n.1; number = refl; reserved = any_front (reserves_to_write at) before x reserved };
               set = any_last (writes_location at) before x (location_refl at);
               held = held_more at before x ∙ is;
-            }
-        )
-      ) (λ f. let u = s.set y f in record { place = front y u.place; set = any_front (writes_location u.place.at) before x u.set; held = held_more u.place.at before x ∙ u.held })
+            }))
+            (λ f. let u = s.set y f in record {
+              place = front y u.place;
+              set = any_front (writes_location u.place.at) before x u.set;
+              held = held_more u.place.at before x ∙ u.held;
+            })
             (among_here y a ph.full t);
         out = λ y t. let u = s.out y t in record { place = front y u.place; set = any_front (writes_location u.place.at) before x u.set };
         count = counted_more m before x refl ∙ s.count ∙ (let l = oldest_length a ph.unwritten oldest in omega arith);
@@ -667,12 +663,13 @@ module _ (p : Pipe) (vs : List Var) (before : List Place) (m : List ℕ) (there 
           }
             where
               still : (y : ℕ) → is_in ph y ≡ true → (is_among y ph.unwritten || (is_among y (drop_var a ph.full) || is_among y (a ∷ ph.gone))) ≡ true
-              still y u = ⊎_elim (λ f. or_left
-            (is_among y ph.unwritten) _ f) (λ f. or_right (is_among y ph.unwritten) _ (⊎_elim (λ g. ⊎_elim (λ h. or_right (is_among y (drop_var a ph.full)) _ (or_left (a == y) _ (eq-eqb a y h))) (λ h. or_left (is_among y (drop_var a ph.full)) _ h) (still_among y a ph.full g))
+              still y u = ⊎_elim
+                  (λ f. or_left (is_among y ph.unwritten) _ f)
+                  (λ f. or_right (is_among y ph.unwritten) _ (⊎_elim
+                  (λ g. ⊎_elim (λ h. or_right (is_among y (drop_var a ph.full)) _ (or_left (a == y) _ (eq-eqb a y h))) (λ h. or_left (is_among y (drop_var a ph.full)) _ h) (still_among y a ph.full g))
                   (λ g. or_right (is_among y (drop_var a ph.full)) _ (or_right (a == y) _ g))
                   (or_cases (is_among y ph.full) _ f)))
-                  (or_cases (is_among y ph.unwritten) _ u
-          )
+                  (or_cases (is_among y ph.unwritten) _ u)
 
 -- ALL STATEMENTS
 
@@ -871,8 +868,10 @@ module _ (p : Pipe) (m : List ℕ) (there : is_memory p.mems m ≡ true) (bs : L
 
   -- at the end of the body the write to m isn't begun or is done
   pub ends_over : (vs : List Var) (before : List Place) (ph : Phase) → KeepsLocks p before (End p.end) → Stands p vs before m ph → is_over ph ≡ true
-  ends_over vs before ph keeps s = and_from _ _ (nil ph.unwritten (λ x t. let u = s.unset x t in both_ways _ keeps.l7
-      (any_weaker _ _ (left_open before u.place.at (write_open _ u.held)) before (any_weaker _ _ (reserves_some u.place.at) before u.place.reserved)))) (nil ph.full (λ x t. let u = s.set x t in both_ways _ keeps.l7
+  ends_over vs before ph keeps s = and_from _ _
+      (nil ph.unwritten (λ x t. let u = s.unset x t in both_ways _ keeps.l7
+      (any_weaker _ _ (left_open before u.place.at (write_open _ u.held)) before (any_weaker _ _ (reserves_some u.place.at) before u.place.reserved))))
+      (nil ph.full (λ x t. let u = s.set x t in both_ways _ keeps.l7
       (any_weaker _ _ (left_open before u.place.at (ap is_unreleased u.held)) before (any_weaker _ _ (reserves_some u.place.at) before u.place.reserved))))
     where
       nil : (xs : List ℕ) → ((x : ℕ) → is_among x xs ≡ true → ⊥) → is_nil xs ≡ true
