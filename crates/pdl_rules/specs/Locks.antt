@@ -248,6 +248,7 @@ writes_wrongly earlier (Release _ at) = is_not_written earlier at
 writes_wrongly earlier (If _ _ _ _) = false
 writes_wrongly earlier (Call _ _) = false
 writes_wrongly earlier (Verify _ _ _) = false
+writes_wrongly earlier (Update _ _ _) = false
 writes_wrongly earlier (SpecCheck _) = false
 writes_wrongly earlier (SpecBarrier _) = false
 

@@ -161,6 +161,8 @@ more_writes m (Write n a e) r = ap length (of_mem_append m r.writes _) ∙ lengt
     at : (b : Bool) → length (cond b (write_of n (slice_index r.env a) (value_of e r.env) ∷ []) []) ≡ cond b 1 0
     at true = refl
     at false = refl
+more_writes m (Verify true args) r = plus_none (length (of_mem m r.writes))
+more_writes m (Verify false args) r = plus_none (length (of_mem m r.writes))
 more_writes m _ r = plus_none (length (of_mem m r.writes))
 
 none_first : (n : ℕ) → 0 + n ≡ n
