@@ -1,10 +1,12 @@
 -- Counts of separators and of places inside branches.
 use Rattle.std.proofs.Common.{◌≡◌, refl, sym, ap, ap₂, ◌∙◌, ℕ, zero, suc, ◌+◌, ◌-◌, ◌==◌, Bool, true, false, ◌||◌, ◌<◌, List, [], ◌∷◌, ◌++◌, map, take, drop, get_or, length, arith, length-append}
 use Rattle.std.specs.List.{list_any}
+use Rattle.std.proofs.lemmas.Bool.{true≢false}
 use Rattle.std.proofs.lemmas.List.{length-map}
 use Rattle.pdl_semantics.specs.Tree.{Span, Expr, Stmt, If, Stmts, Nil, Cons}
 use Rattle.pdl_rules.specs.Places.{Place, Branch, guard_of, with_inner, statements}
-use Rattle.pdl_rules.specs.Forks.{starts_with_separator}
+use Rattle.pdl_rules.specs.Stages.{stage_in}
+use Rattle.pdl_rules.specs.Forks.{starts_with_separator, is_in_outer_stage}
 use Rattle.pdl_rules_forks.specs.Order.{is_cut_in}
 use Rattle.pdl_word.proofs.Lists.{drop_next}
 
@@ -71,7 +73,15 @@ take_map f (suc n) (x ∷ xs) = ap (λ ys. f x ∷ ys) (take_map f n xs)
 pub all_but_last : {A B : Type 0} (f : A → B) (x : A) (xs : List A) → map f (take (length (x ∷ xs) - 1) (x ∷ xs)) ≡ take (length (map f xs)) (map f (x ∷ xs))
 all_but_last f x xs =
     take_map f (length (x ∷ xs) - 1) (x ∷ xs)
-    ∙ ap (λ n. take n (map f (x ∷ xs))) (let e = length-map f xs in let same : length (x ∷ xs) - 1 ≡ length (map f xs) = omega (arith, e) in same)
+    ∙ ap (λ n. take n (map f (x ∷ xs))) (let e = length-map xs f in let same : length (x ∷ xs) - 1 ≡ length (map f xs) = omega (arith, e) in same)
+
+-- whether what stands in some branches stands in the stage of the fork around it, where it stands in one at least
+pub outer_stage : {A : Type 0} (f : A → Branch) (before : List Place) (xs : List A) (empty : Bool) (m n : ℕ)
+    → empty ≡ (length xs == 0) → empty ≡ false
+    → m ≡ stage_in before (map f xs) → n ≡ stage_in before (map f (take (length xs - 1) xs))
+    → (m == n) ≡ is_in_outer_stage before (map f xs)
+outer_stage f before [] empty m n e g em en = absurd (true≢false (sym e ∙ g))
+outer_stage f before (x ∷ xs) empty m n e g em en = ap₂ (λ i j. i == j) em (en ∙ ap (stage_in before) (all_but_last f x xs))
 
 -- ONE OF SOME
 
