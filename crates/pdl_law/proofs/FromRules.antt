@@ -153,11 +153,12 @@ reads_source p rules sound = record {
 }
 
 -- a source that breaks no rule has what its netlist hangs on
-pub lawful_source : (p : tree.Pipe) → KeepsRules p → is_source p ≡ true → is_named p ≡ true → IsLawful (flat p)
-lawful_source p rules source named =
+pub lawful_source : (p : tree.Pipe) → KeepsRules p → is_source p ≡ true → is_named p ≡ true → ReplacesNone (flat p) → IsLawful (flat p)
+lawful_source p rules source named still =
     let sound = of_source p rules source named in
     record {
       sound = sound;
+      still = still;
       leads = leads_sound (flat p) sound;
       some = (let h = sound.graph.some_stage in omega (arith, h));
       reads = reads_source p rules sound;

@@ -60,7 +60,8 @@ IsOpFine p st thread (Block _ _) d = ⊤
 IsOpFine p st thread (Release m a) d = is_held (let_go d.held m a) m a ≡ false
 IsOpFine p st thread (Call _) d = ⊤
 IsOpFine p st thread (SpecCall _) d = ⊤
-IsOpFine p st thread (Verify last args) d = length d.guess ≡ length args
+IsOpFine p st thread (Verify true args) d = (length d.guess ≡ length args) × (d.fails ≡ false)
+IsOpFine p st thread (Verify false args) d = length d.guess ≡ length args
 IsOpFine p st thread SpecCheck d = ⊤
 IsOpFine p st thread SpecBarrier d = ⊤
 
