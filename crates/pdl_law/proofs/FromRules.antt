@@ -22,6 +22,7 @@ use Rattle.pdl_source_paths.proofs.Growth.{Grows, vars_past, past_grown, grows_a
 use Rattle.pdl_source_paths.proofs.PipeFacts.{of_source}
 use Rattle.pdl_machine_lockuse.proofs.InUse.{leads_sound}
 use Rattle.pdl_law_parts.specs.Reads.{IsAtOnce}
+use Rattle.pdl_machine_inflight.specs.InFlight.{ReplacesNone}
 use Rattle.pdl_machine_inflight.specs.Readings.{ReadsAtOnce, Reads}
 use Rattle.pdl_law.specs.StandingStates.{IsLawful}
 use Rattle.pdl_law.proofs.DelayedReads.{RisesIn, rises_from, reading_has, risen, reads_apart, each_reading}
