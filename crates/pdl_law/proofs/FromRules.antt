@@ -22,7 +22,6 @@ use Rattle.pdl_source_paths.proofs.Growth.{Grows, vars_past, past_grown, grows_a
 use Rattle.pdl_source_paths.proofs.PipeFacts.{of_source}
 use Rattle.pdl_machine_lockuse.proofs.InUse.{leads_sound}
 use Rattle.pdl_law_parts.specs.Reads.{IsAtOnce}
-use Rattle.pdl_machine_inflight.specs.InFlight.{ReplacesNone}
 use Rattle.pdl_machine_inflight.specs.Readings.{ReadsAtOnce, Reads}
 use Rattle.pdl_law.specs.StandingStates.{IsLawful}
 use Rattle.pdl_law.proofs.DelayedReads.{RisesIn, rises_from, reading_has, risen, reads_apart, each_reading}
@@ -154,12 +153,11 @@ reads_source p rules sound = record {
 }
 
 -- a source that breaks no rule has what its netlist hangs on
-pub lawful_source : (p : tree.Pipe) → KeepsRules p → is_source p ≡ true → is_named p ≡ true → ReplacesNone (flat p) → IsLawful (flat p)
-lawful_source p rules source named still =
+pub lawful_source : (p : tree.Pipe) → KeepsRules p → is_source p ≡ true → is_named p ≡ true → IsLawful (flat p)
+lawful_source p rules source named =
     let sound = of_source p rules source named in
     record {
       sound = sound;
-      still = still;
       leads = leads_sound (flat p) sound;
       some = (let h = sound.graph.some_stage in omega (arith, h));
       reads = reads_source p rules sound;

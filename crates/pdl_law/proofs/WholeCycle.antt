@@ -25,7 +25,9 @@ use Rattle.pdl_law_parts.proofs.Moves.{all_seen, lives_fork}
 use Rattle.pdl_law_parts.proofs.NextState.{stands_after}
 use Rattle.pdl_machine_inflight.specs.Readings.{Reading, reading}
 use Rattle.pdl_machine_inflight.proofs.Squashes.{stood_in, none_staged, staged}
+use Rattle.pdl_machine_inflight.specs.InFlight.{ReplacesNone}
 use Rattle.pdl_machine_inflight.proofs.DeedsIn.{fails_before}
+use Rattle.pdl_law.proofs.NoUpdates.{laid_still}
 use Rattle.pdl_law_sides.specs.Sides.{Sides, answers_of, all_answered, unsquashed, ports_open, barrier_open, turn}
 use Rattle.pdl_law_sides.specs.HasSides.{HasSides}
 use Rattle.pdl_law.specs.StandingStates.{IsLawful, IsKnown}
@@ -45,6 +47,10 @@ pub record WholeStands (p : Pipe) (ls : Locks) (vs : ℕ → View) (sides : Side
 module _ (p : Pipe) (lawful : IsLawful p) (ls : Locks) (vs : ℕ → View) (gates : Gates) (moves : ℕ → Signal)
     (sides : Sides) (c : Circuit) (laid : IsLaid p ls vs gates moves c)
     (beside : HasSides p ls c vs gates moves sides) where
+  -- what is laid replaces no guess
+  still : ReplacesNone p
+  still = laid_still p ls vs gates moves c laid lawful.sound.inside
+
   -- THE START
 
   -- with registers at reset, where stages and locks stand for the machine's first state, so do ports, orders and second tickets
@@ -89,12 +95,12 @@ module _ (p : Pipe) (lawful : IsLawful p) (ls : Locks) (vs : ℕ → View) (gate
         ∙ ap (λ (u : Thread). bit (is_empty u.awaits)) y.2)
         (λ a. both_at s (unsquashed v k gates.squash) (both (ports_open sides w.asks) pass) (no_failure acts)
         (ports_free p st bits acts d && (barrier_clear p acts d && merges_well p st k (next_stage p k d)))
-        (unsquashed_is p lawful.sound lawful.still c vs gates moves sides beside.removals s st bits suits known.flight known.by whole.stands.valid k later)
+        (unsquashed_is p lawful.sound still c vs gates moves sides beside.removals s st bits suits known.flight known.by whole.stands.valid k later)
         (λ b. both_at s (ports_open sides w.asks) pass (ports_free p st bits acts d) (barrier_clear p acts d && merges_well p st k (next_stage p k d))
         (ports_told p lawful.reads lawful.leads lawful.inside c vs gates moves sides beside.port_owns beside.ports s st bits known.flight known.by whole.ports given k t w.asks so.asks later)
         (λ e. both_at s (barrier_open v k w.barrier (sides.clear k)) (way_on (stage_at p k).next (turn p sides k) w)
         (barrier_clear p acts d) (merges_well p st k (next_stage p k d))
-        (barrier_is p lawful.sound lawful.still c vs gates moves sides beside.removals s st bits suits known.flight known.by whole.stands.valid k d w.barrier so.barrier later)
+        (barrier_is p lawful.sound still c vs gates moves sides beside.removals s st bits suits known.flight known.by whole.stands.valid k d w.barrier so.barrier later)
         (λ g. merges_is p lawful.sound c vs gates moves sides beside.order_owns beside.orders s st whole.orders k w d l
         (λ x i. so.env x (lives_fork p k x l i))))))
 
@@ -105,7 +111,7 @@ module _ (p : Pipe) (lawful : IsLawful p) (ls : Locks) (vs : ℕ → View) (gate
     -- the squash is as the machine's
     pub squashed_whole : IsSquashed p ls vs gates s st bits
     squashed_whole =
-        squashed_is p lawful.sound lawful.still lawful.leads ls c vs gates moves laid sides beside s st bits suits known.flight known.by known.used known.cut seen_whole whole.tails
+        squashed_is p lawful.sound still lawful.leads ls c vs gates moves laid sides beside s st bits suits known.flight known.by known.used known.cut seen_whole whole.tails
 
     -- a squash is of V
     staged_whole : squash_stage (moving p st bits) ≡ (if is_some (squasher (moving p st bits)) then verify_stage p.stmts else None)
@@ -113,25 +119,25 @@ module _ (p : Pipe) (lawful : IsLawful p) (ls : Locks) (vs : ℕ → View) (gate
       where
         at : (o : Option ℕ) → verify_stage p.stmts ≡ o
             → squash_stage (moving p st bits) ≡ (if is_some (squasher (moving p st bits)) then verify_stage p.stmts else None)
-        at None e = none_staged p e lawful.still st bits
-        at (Some v) e = staged p lawful.sound lawful.still st bits known.flight v e
+        at None e = none_staged p e still st bits
+        at (Some v) e = staged p lawful.sound still st bits known.flight v e
 
     -- the next state of the circuit stands for the machine's next state
     pub whole_next : (t : State) → Suits c t → t.regs ≡ next_regs c s → t.arrays ≡ next_arrays c s → WholeStands p ls vs sides t (cycle p st bits)
     whole_next t suits' regs arrays = record {
       stands =
-          stands_after p ls vs gates moves c laid lawful.leads s st bits suits whole.stands known.used known.by (record { kept = known.spared; calm = λ k t h later. fails_before p lawful.sound.verifies lawful.still st k t later }) seen_whole
+          stands_after p ls vs gates moves c laid lawful.leads s st bits suits whole.stands known.used known.by (record { kept = known.spared; calm = λ k t h later. fails_before p lawful.sound.verifies still st k t later }) seen_whole
           (stood p st bits) squashed_whole answers t suits' regs arrays known.later;
       ports = λ m r is.
           ports_next p lawful.reads lawful.leads lawful.some c vs gates moves sides (beside.port_owns m) m r is (lawful.inside m r is)
           (beside.ports m r is) s st bits known.flight known.next known.by (whole.ports m r is) given seen_whole known.spared
           (λ k. removes (squasher (moving p st bits)) (slot st k))
-          (λ k l. kill_is p lawful.sound lawful.still c vs gates moves sides beside.removals s st bits suits known.flight known.by whole.stands.valid seen_whole k l)
+          (λ k l. kill_is p lawful.sound still c vs gates moves sides beside.removals s st bits suits known.flight known.by whole.stands.valid seen_whole k l)
           (λ k u e. ap (removes (squasher (moving p st bits))) e) t regs arrays;
       orders =
           λ f q low e. order_kept p c vs gates moves sides (beside.order_owns f) f low
           (beside.orders f q low e) s st bits known.by seen_whole squashed_whole.squash lawful.sound lawful.leads known.flight.count known.next staged_whole
           (whole.orders f q low e) t regs arrays;
       tails =
-          tails_next p lawful.sound lawful.still lawful.leads ls c vs gates moves laid sides beside s st bits suits known.flight known.by known.used known.cut seen_whole whole.tails whole.stands.locks t regs arrays;
+          tails_next p lawful.sound still lawful.leads ls c vs gates moves laid sides beside s st bits suits known.flight known.by known.used known.cut seen_whole whole.tails whole.stands.locks t regs arrays;
     }

@@ -11,12 +11,11 @@ use Rattle.pdl_machine_facts.specs.Use.{IsInUse}
 use Rattle.pdl_machine_lockuse.specs.Cut.{IsCut}
 use Rattle.pdl_law_parts.specs.Reads.{AreAtOnce}
 use Rattle.pdl_machine_inflight.specs.Readings.{Reading, reading, Reads}
-use Rattle.pdl_machine_inflight.specs.InFlight.{InFlight, ReplacesNone}
+use Rattle.pdl_machine_inflight.specs.InFlight.{InFlight}
 
 -- what the rules give of a pipe, as far as its netlist hangs on it
 pub record IsLawful (p : Pipe) : Type 0 where
   pub sound : Sound p
-  pub still : ReplacesNone p
   pub leads : LeadsOn p
   pub some : 1 ≤ length p.stages
   pub reads : Reads p
