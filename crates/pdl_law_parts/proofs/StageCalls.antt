@@ -292,7 +292,7 @@ module _ (c : Circuit) (p : Pipe) (ls : Locks) (vs : ℕ → View) (s : State) (
           let v : values_of args d.env ≡ values_at s r.args =
           values_same c p ls vs s st k thread around args r.args w d.env (row.1 s around.suits t)
           (λ e i y u. h.env y (live.vars y (or_right (guards_use gs y) (are_using args y) (i y u)))) in
-          let g : d.guess ≡ values_at s w.guess = h.guess (fine f z).1.1 (live.verify refl) ((fine f z).1.0 ∙ sym row.2 ∙ h.guess_long) in
+          let g : d.guess ≡ values_at s w.guess = h.guess (fine f z).1.calm (live.verify refl) ((fine f z).1.long ∙ sym row.2 ∙ h.guess_long) in
           let e : r.value.value s ≡ bit (not (same_args (values_of args d.env) d.guess)) =
           row.3 s around.suits t ∙ ap₂ (λ x y. bit (not (same_args x y))) (sym v) (sym g) in
           at (same_args (values_of args d.env) d.guess)

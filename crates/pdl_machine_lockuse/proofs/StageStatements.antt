@@ -124,10 +124,10 @@ module _ (p : Pipe) (st : State) (n : ℕ) where
       → (is_guessed g ≡ true → length d.guess ≡ size) → Calm v s g d → RightIf s c d → locks_ready p st n d ≡ true → IsOpFine p st n op d
   op_fine size s v c ph g (CombRead x m a) d h o q y f z r k = read_here s c x m a d h r k
   op_fine size s v c ph g (Release m a) d h o q y f z r k = released_here m a d.held (o m).one
-  op_fine size s v c ph g (Verify true args) d h o q y f z r k = (
-    f (and_left (is_guessed g) (stands_at v s) q) ∙ sym (eqb-true (length args) size y),
-    z (and_right (is_guessed g) (stands_at v s) q) (and_left (is_guessed g) (stands_at v s) q),
-  )
+  op_fine size s v c ph g (Verify true args) d h o q y f z r k = record {
+    long = f (and_left (is_guessed g) (stands_at v s) q) ∙ sym (eqb-true (length args) size y);
+    calm = z (and_right (is_guessed g) (stands_at v s) q) (and_left (is_guessed g) (stands_at v s) q);
+  }
   op_fine size s v c ph g (Verify false args) d h o q y f z r k = f (and_left (is_guessed g) (stands_before v s) q) ∙ sym (eqb-true (length args) size y)
   op_fine size s v c ph g (DelayedRead x m a) d h o q y f z r k = tt
   op_fine size s v c ph g _ d h o q y f z r k = tt
