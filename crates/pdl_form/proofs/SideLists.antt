@@ -31,8 +31,9 @@ first_of_four f a b c d w x y z inner outer whole ew ex ey ez ei eo e =
 -- there is a side just where one of the branches is the fork's
 pub some_side : (f : ℕ) (bs : List Branch) → is_some (first_of (sides_of f bs)) ≡ list_any (λ (b : Branch). b.fork == f) bs
 some_side f [] = refl
-some_side f (b ∷ bs) = at (b.fork == f)
+some_side f (b ∷ bs) = at (b.fork == f) (some_side f bs)
   where
-    at : (t : Bool) → is_some (first_of ((if t then b.first ∷ [] else []) ++ sides_of f bs)) ≡ (t || list_any (λ (b : Branch). b.fork == f) bs)
-    at true = refl
-    at false = some_side f bs
+    at : (t : Bool) → is_some (first_of (sides_of f bs)) ≡ list_any (λ (y : Branch). y.fork == f) bs
+        → is_some (first_of ((if t then b.first ∷ [] else []) ++ sides_of f bs)) ≡ (t || list_any (λ (y : Branch). y.fork == f) bs)
+    at true rest = refl
+    at false rest = rest

@@ -47,6 +47,11 @@ in_time p k SpecBarrier = true
 abbrev pub is_early : Pipe → Stmt → Bool
 is_early p x = in_time p x.stage x.op
 
+-- a guess that is verified with these arguments has as many, and hasn't failed before
+pub record IsGuessFine (args : List Expr) (d : Deeds) : Type 0 where
+  pub long : length d.guess ≡ length args
+  pub calm : d.fails ≡ false
+
 -- a read is ready, what is released is held no more, and a verify has as many arguments as the guess
 abbrev pub IsOpFine : Pipe → State → ℕ → Op → Deeds → Type 0
 IsOpFine p st thread (Bind _ _) d = ⊤
@@ -59,7 +64,8 @@ IsOpFine p st thread (Block _ _) d = ⊤
 IsOpFine p st thread (Release m a) d = is_held (let_go d.held m a) m a ≡ false
 IsOpFine p st thread (Call _) d = ⊤
 IsOpFine p st thread (SpecCall _) d = ⊤
-IsOpFine p st thread (Verify last args) d = length d.guess ≡ length args
+IsOpFine p st thread (Verify true args) d = IsGuessFine args d
+IsOpFine p st thread (Verify false args) d = length d.guess ≡ length args
 IsOpFine p st thread SpecCheck d = ⊤
 IsOpFine p st thread SpecBarrier d = ⊤
 

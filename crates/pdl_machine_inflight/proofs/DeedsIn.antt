@@ -1,8 +1,8 @@
 -- What a stage's statements may do: they ask for the delayed reads of the stage, and only where the verifies stand does one fail.
-use Rattle.std.proofs.Common.{◌≡◌, refl, sym, ap, ◌∙◌, ℕ, Bool, true, false, ◌||◌, not, List, [], ◌∷◌, Some, None, ◌==◌, cond, if◌then◌else◌}
-use Rattle.std.proofs.lemmas.Bool.{and_parts, eqb-true}
+use Rattle.std.proofs.Common.{◌≡◌, refl, sym, ap, ◌∙◌, ℕ, suc, Bool, true, false, ◌&&◌, ◌||◌, not, List, [], ◌∷◌, Option, Some, None, ◌==◌, nat_le, arith, cond, if◌then◌else◌}
+use Rattle.std.proofs.lemmas.Bool.{and_parts, eqb-true, leb-true}
 use Rattle.pdl_semantics.specs.Flat.{Op, Bind, CombRead, DelayedRead, Write, ReserveRead, ReserveWrite, Block, Release, Call, SpecCall, Verify, SpecCheck, SpecBarrier, Stmt, Pipe, values_of, all_hold}
-use Rattle.pdl_semantics.specs.Stages.{in_stage, is_verify, verify_stage}
+use Rattle.pdl_semantics.specs.Stages.{list_any, in_stage, is_verify, verify_stage}
 use Rattle.pdl_semantics.specs.Machine.{State, Thread, Ask, Deeds, same_args, deeds_after, deeds_after_all, deeds, word_for}
 use Rattle.pdl_theory_facts.specs.Scans.{all_at}
 use Rattle.pdl_semantics.specs.Updates.{is_update}
@@ -140,3 +140,31 @@ pub fails_never : (p : Pipe) → verify_stage p.stmts ≡ None → ReplacesNone 
 fails_never p h u st k t =
     fails_all (word_for st t.number) (in_stage k p.stmts) (stage_each_of (λ (x : Stmt). is_verify x.op ≡ false) k p.stmts (verifies_none p.stmts h))
     (stage_each_of (λ (x : Stmt). is_update x.op ≡ false) k p.stmts u) _
+
+apart : (v k : ℕ) (xs : List Stmt) → all_at is_verify v xs ≡ true
+    → list_any (λ (r : Stmt). nat_le (suc k) r.stage && is_verify r.op) xs ≡ true → k ≡ v → ⊥
+apart v k [] h g e = absurd (cc g)
+apart v k (x ∷ xs) h g e = by (nat_le (suc k) x.stage && is_verify x.op) refl g (λ i. apart v k xs parts.1 i e)
+  where
+    parts : ((not (is_verify x.op) || (x.stage == v)) ≡ true) × (all_at is_verify v xs ≡ true)
+    parts = and_parts (not (is_verify x.op) || (x.stage == v)) (all_at is_verify v xs) h
+
+    by : (b : Bool) → (nat_le (suc k) x.stage && is_verify x.op) ≡ b
+        → (b || list_any (λ (r : Stmt). nat_le (suc k) r.stage && is_verify r.op) xs) ≡ true
+        → (list_any (λ (r : Stmt). nat_le (suc k) r.stage && is_verify r.op) xs ≡ true → ⊥) → ⊥
+    by true f g rest =
+        let two = and_parts (nat_le (suc k) x.stage) (is_verify x.op) f in
+        let s = eqb-true x.stage v (ap (λ b. not b || (x.stage == v)) (sym two.1) ∙ parts.0) in
+        let l = leb-true (suc k) x.stage two.0 in
+        omega (arith, s, l, e)
+    by false f g rest = rest g
+
+-- where no guess is replaced, none fails before the stage of the verifies
+pub fails_before : (p : Pipe) → ((v : ℕ) → verify_stage p.stmts ≡ Some v → all_at is_verify v p.stmts ≡ true) → ReplacesNone p
+    → (st : State) (k : ℕ) (t : Thread) → list_any (λ (r : Stmt). nat_le (suc k) r.stage && is_verify r.op) p.stmts ≡ true
+    → (deeds p st k t).fails ≡ false
+fails_before p one still st k t later = at (verify_stage p.stmts) refl
+  where
+    at : (o : Option ℕ) → verify_stage p.stmts ≡ o → (deeds p st k t).fails ≡ false
+    at None e = fails_never p e still st k t
+    at (Some v) e = fails_not p v (one v e) still st k t (apart v k p.stmts (one v e) later)

@@ -382,4 +382,4 @@ module _ (p : Pipe) (sound : Sound p) (st : State) (d : Derived.State) (bits : L
         (mine_early p sound st d bits arrays older l k strict)
         (λ m. subst (HeldOnce m (phase_all m Fresh done)) k.seated.keeps_on.held
         (once_shape m (phase_all m Fresh done) l.thread.entries (single_all m Fresh done (done_uses m) single_fresh) (k.seated.keeps_on.shape m)))
-        covers_start guess_start (λ e. right_start))
+        covers_start guess_start (λ a b. refl) (λ e. right_start))
