@@ -1,6 +1,6 @@
 -- From what holds of each act of a cycle to the thread in each stage, and what two layers count alike.
 use Rattle.std.proofs.Common.{◌≡◌, refl, sym, subst, ap, ap₂, ◌∙◌, ℕ, zero, suc, ◌+◌, ◌≤◌, Bool, true, false, List, [], ◌∷◌, ◌++◌, length, drop, Option, Some, None, ◌==◌, ◌&&◌, cond, if◌then◌else◌, arith, nat_lt, le-ltb, length-append, append-nil, slice_index_or}
-use Rattle.std.proofs.lemmas.Bool.{eqb-true}
+use Rattle.std.proofs.lemmas.Bool.{eqb-true, ne_eqb}
 use Rattle.pdl_semantics.specs.Flat.{Pipe, list_all}
 use Rattle.pdl_semantics.specs.Locks.{has_room}
 use Rattle.pdl_semantics.specs.Stages.{mem_at}
@@ -81,6 +81,9 @@ as_many m (r ∷ rs) = at (r.mem == m) (as_many m rs)
     at true h = ap suc h
     at false h = h
 
+counts_one : (n : ℕ) → ◌≡◌ {A = ℕ} (if suc n == 0 then 0 else 1) 1
+counts_one n = ap (λ b. if b then 0 else 1) (ne_eqb (suc n) 0 (λ f. absurd (omega (arith, f))))
+
 none_counted : (m : ℕ) (ms : List Act) → reserved_count m ms ≡ 0 → length (forget.addresses m ms) ≡ 0
 none_counted m [] h = refl
 none_counted m (a ∷ ms) h =
@@ -96,32 +99,32 @@ none_counted m (a ∷ ms) h =
     second : (i j : ℕ) → i + j ≡ 0 → j ≡ 0
     second i j e = omega (arith, e)
 
-    quiet : (n : ℕ) → (if n == 0 then 0 else 1) ≡ 0 → n ≡ 0
-    quiet zero e = refl
-    quiet (suc n) e = absurd (cc e)
+    quiet : (n : ℕ) → ◌≡◌ {A = ℕ} (if n == 0 then 0 else 1) 0 → n ≡ 0
+    quiet n e = at (n == 0) refl e
+      where
+        at : (b : Bool) → (n == 0) ≡ b → ◌≡◌ {A = ℕ} (if b then 0 else 1) 0 → n ≡ 0
+        at true i k = eqb-true n 0 i
+        at false i k = absurd (omega (arith, k))
 
 -- where at most one thread reserves, and each no more than two, at most two addresses are reserved
 pub few_reserved : (m : ℕ) (ms : List Act) → reserved_count m ms ≤ 1 → Each (λ a. reserves_of m a.does.reserves ≤ 2) ms
     → length (forget.addresses m ms) ≤ 2
 few_reserved m [] h f = omega arith
-few_reserved m (a ∷ ms) h f = at (reserves_of m a.does.reserves) refl
+few_reserved m (a ∷ ms) h f = at (reserves_of m a.does.reserves) refl (few_reserved m ms (low (reserved_count m ms) _ h) f.1)
   where
+    low : (i j : ℕ) → i + j ≤ 1 → i ≤ 1
+    low i j g = omega (arith, g)
+
     l : length (forget.addresses m ms ++ forget.addresses_of m a.does.reserves)
         ≡ length (forget.addresses m ms) + length (forget.addresses_of m a.does.reserves)
     l = length-append (forget.addresses m ms) (forget.addresses_of m a.does.reserves)
 
-    at : (n : ℕ) → reserves_of m a.does.reserves ≡ n → length (forget.addresses m (a ∷ ms)) ≤ 2
-    at zero e =
-        let k = as_many m a.does.reserves in
-        let r = few_reserved m ms (low (reserved_count m ms) _ h) f.1 in
-        omega (arith, l, k, e, r)
-      where
-        low : (i j : ℕ) → i + j ≤ 1 → i ≤ 1
-        low i j g = omega (arith, g)
-    at (suc n) e =
+    at : (n : ℕ) → reserves_of m a.does.reserves ≡ n → length (forget.addresses m ms) ≤ 2 → length (forget.addresses m (a ∷ ms)) ≤ 2
+    at zero e r = let k = as_many m a.does.reserves in omega (arith, l, k, e, r)
+    at (suc n) e r =
         let k = as_many m a.does.reserves in
         let g = f.0 in
-        let z = none_counted m ms (none (reserved_count m ms) (ap (λ j. if j == 0 then 0 else 1) e) h) in
+        let z = none_counted m ms (none (reserved_count m ms) (ap (λ j. if j == 0 then 0 else 1) e ∙ counts_one n) h) in
         omega (arith, l, k, g, z)
       where
         none : (i : ℕ) {j : ℕ} → j ≡ 1 → i + j ≤ 1 → i ≡ 0
@@ -132,23 +135,24 @@ pub sole_reserved : (P : ℕ → Type 0) (m : ℕ) (ms : List Act) → reserved_
     → Each (λ a. 1 ≤ reserves_of m a.does.reserves → P (reserves_of m a.does.reserves)) ms
     → 1 ≤ length (forget.addresses m ms) → P (length (forget.addresses m ms))
 sole_reserved P m [] h f some = absurd (omega (arith, some))
-sole_reserved P m (a ∷ ms) h f some = at (reserves_of m a.does.reserves) refl
+sole_reserved P m (a ∷ ms) h f some = at (reserves_of m a.does.reserves) refl (sole_reserved P m ms (low (reserved_count m ms) _ h) f.1)
   where
+    low : (i j : ℕ) → i + j ≤ 1 → i ≤ 1
+    low i j g = omega (arith, g)
+
     l : length (forget.addresses m ms ++ forget.addresses_of m a.does.reserves)
         ≡ length (forget.addresses m ms) + length (forget.addresses_of m a.does.reserves)
     l = length-append (forget.addresses m ms) (forget.addresses_of m a.does.reserves)
 
-    at : (n : ℕ) → reserves_of m a.does.reserves ≡ n → P (length (forget.addresses m (a ∷ ms)))
-    at zero e =
+    at : (n : ℕ) → reserves_of m a.does.reserves ≡ n → (1 ≤ length (forget.addresses m ms) → P (length (forget.addresses m ms)))
+        → P (length (forget.addresses m (a ∷ ms)))
+    at zero e go =
         let k = as_many m a.does.reserves in
         let same : length (forget.addresses m ms) ≡ length (forget.addresses m (a ∷ ms)) = omega (arith, l, k, e) in
-        subst P same (sole_reserved P m ms (low (reserved_count m ms) _ h) f.1 (omega (arith, some, same)))
-      where
-        low : (i j : ℕ) → i + j ≤ 1 → i ≤ 1
-        low i j g = omega (arith, g)
-    at (suc n) e =
+        subst P same (go (omega (arith, some, same)))
+    at (suc n) e go =
         let k = as_many m a.does.reserves in
-        let z = none_counted m ms (none (reserved_count m ms) (ap (λ j. if j == 0 then 0 else 1) e) h) in
+        let z = none_counted m ms (none (reserved_count m ms) (ap (λ j. if j == 0 then 0 else 1) e ∙ counts_one n) h) in
         let same : reserves_of m a.does.reserves ≡ length (forget.addresses m (a ∷ ms)) = omega (arith, l, k, z) in
         subst P same (f.0 (omega (arith, e)))
       where
@@ -160,12 +164,13 @@ pub room_together : (p : Pipe) (st : State) (m : ℕ) (all rs : List Reserved)
     → list_all (λ r. has_room (mem_at p r.mem).lock (reserves_of r.mem all) (length (lock_of st r.mem))) rs ≡ true
     → 1 ≤ reserves_of m rs → has_room (mem_at p m).lock (reserves_of m all) (length (lock_of st m)) ≡ true
 room_together p st m all [] h some = absurd (omega (arith, some))
-room_together p st m all (r ∷ rs) h some = at (r.mem == m) refl some
+room_together p st m all (r ∷ rs) h some = at (r.mem == m) refl some (room_together p st m all rs (and_right _ _ h))
   where
     at : (b : Bool) → (r.mem == m) ≡ b → 1 ≤ (if b then suc (reserves_of m rs) else reserves_of m rs)
+        → (1 ≤ reserves_of m rs → has_room (mem_at p m).lock (reserves_of m all) (length (lock_of st m)) ≡ true)
         → has_room (mem_at p m).lock (reserves_of m all) (length (lock_of st m)) ≡ true
-    at true e some = subst (λ i. has_room (mem_at p i).lock (reserves_of i all) (length (lock_of st i)) ≡ true) (eqb-true r.mem m e) (and_left _ _ h)
-    at false e some = room_together p st m all rs (and_right _ _ h) some
+    at true e some go = subst (λ i. has_room (mem_at p i).lock (reserves_of i all) (length (lock_of st i)) ≡ true) (eqb-true r.mem m e) (and_left _ _ h)
+    at false e some go = go some
 
 -- OLDER THREADS
 
@@ -178,7 +183,7 @@ counted_append t (e ∷ es) fs = at (nat_lt e.thread t) (counted_append t es fs)
   where
     at : (b : Bool) → count_older t (es ++ fs) ≡ count_older t es + count_older t fs
         → cond b (suc (count_older t (es ++ fs))) (count_older t (es ++ fs)) ≡ cond b (suc (count_older t es)) (count_older t es) + count_older t fs
-    at true h = ap suc h
+    at true h = omega (arith, h)
     at false h = h
 
 -- what a thread reserves is no older than a thread before it
@@ -230,11 +235,12 @@ least_front u (e ∷ es) f fs o = let k = least_front e.thread es f fs o.1 in le
 place_below : (t y u : ℕ) (es : List Pending) (f : Pending) (fs : List Pending)
     → AreOrdered u (es ++ f ∷ fs) → forget.has_place t y es ≡ true → t ≤ f.thread
 place_below t y u [] f fs o h = absurd (cc h)
-place_below t y u (e ∷ es) f fs o h = at (e.thread == t) refl h
+place_below t y u (e ∷ es) f fs o h = at (e.thread == t) refl h (place_below t y e.thread es f fs o.1)
   where
-    at : (b : Bool) → (e.thread == t) ≡ b → cond (b && (e.var == y)) true (forget.has_place t y es) ≡ true → t ≤ f.thread
-    at true i k = let l = least_front e.thread es f fs o.1 in let same = eqb-true e.thread t i in omega (arith, l, same)
-    at false i k = place_below t y e.thread es f fs o.1 k
+    at : (b : Bool) → (e.thread == t) ≡ b → cond (b && (e.var == y)) true (forget.has_place t y es) ≡ true
+        → (forget.has_place t y es ≡ true → t ≤ f.thread) → t ≤ f.thread
+    at true i k go = let l = least_front e.thread es f fs o.1 in let same = eqb-true e.thread t i in omega (arith, l, same)
+    at false i k go = go k
 
 place_either : (t y : ℕ) (es fs : List Pending) → forget.has_place t y fs ≡ false → forget.has_place t y (es ++ fs) ≡ true → forget.has_place t y es ≡ true
 place_either t y [] fs n h = absurd (cc (sym n ∙ h))
@@ -258,30 +264,35 @@ none_appended m (a ∷ ms) es h =
     second : (i j : ℕ) → i + j ≡ 0 → j ≡ 0
     second i j e = omega (arith, e)
 
-    quiet : (n : ℕ) → (if n == 0 then 0 else 1) ≡ 0 → n ≡ 0
-    quiet zero e = refl
-    quiet (suc n) e = absurd (cc e)
+    quiet : (n : ℕ) → ◌≡◌ {A = ℕ} (if n == 0 then 0 else 1) 0 → n ≡ 0
+    quiet n e = at (n == 0) refl e
+      where
+        at : (b : Bool) → (n == 0) ≡ b → ◌≡◌ {A = ℕ} (if b then 0 else 1) 0 → n ≡ 0
+        at true i k = eqb-true n 0 i
+        at false i k = absurd (omega (arith, k))
 
 -- where at most one thread reserves, a thread that has a pending write finds no more of them older with what is appended
 pub sole_older : (t y m : ℕ) (ms : List Act) (es : List Pending) → reserved_count m ms ≤ 1 → AreOrdered 0 (with_reserves m ms es)
     → forget.has_place t y (with_reserves m ms es) ≡ true → count_older t (with_reserves m ms es) ≡ count_older t es
 sole_older t y m [] es h o p = refl
-sole_older t y m (a ∷ ms) es h o p = at (reserves_of m a.does.reserves) refl
+sole_older t y m (a ∷ ms) es h o p = at (reserves_of m a.does.reserves) refl (sole_older t y m ms es (low (reserved_count m ms) _ h))
   where
+    low : (i j : ℕ) → i + j ≤ 1 → i ≤ 1
+    low i j g = omega (arith, g)
+
     new : List Pending
     new = new_entries m a.thread.number a.does.reserves
 
-    at : (n : ℕ) → reserves_of m a.does.reserves ≡ n → count_older t (with_reserves m ms es ++ new) ≡ count_older t es
-    at zero e =
+    at : (n : ℕ) → reserves_of m a.does.reserves ≡ n
+        → (AreOrdered 0 (with_reserves m ms es) → forget.has_place t y (with_reserves m ms es) ≡ true → count_older t (with_reserves m ms es) ≡ count_older t es)
+        → count_older t (with_reserves m ms es ++ new) ≡ count_older t es
+    at zero e go =
         let same : with_reserves m ms es ++ new ≡ with_reserves m ms es =
         ap (λ l. with_reserves m ms es ++ l) (new_none m a.thread.number a.does.reserves e) ∙ append-nil (with_reserves m ms es) in
         ap (count_older t) same
-        ∙ sole_older t y m ms es (low (reserved_count m ms) _ h) (subst (AreOrdered 0) same o) (sym (ap (forget.has_place t y) same) ∙ p)
-      where
-        low : (i j : ℕ) → i + j ≤ 1 → i ≤ 1
-        low i j g = omega (arith, g)
-    at (suc n) e =
-        let same : with_reserves m ms es ≡ es = none_appended m ms es (none (reserved_count m ms) (ap (λ j. if j == 0 then 0 else 1) e) h) in
+        ∙ go (subst (AreOrdered 0) same o) (sym (ap (forget.has_place t y) same) ∙ p)
+    at (suc n) e go =
+        let same : with_reserves m ms es ≡ es = none_appended m ms es (none (reserved_count m ms) (ap (λ j. if j == 0 then 0 else 1) e ∙ counts_one n) h) in
         ap (λ l. count_older t (l ++ new)) same
         ∙ behind (subst (λ l. AreOrdered 0 (l ++ new)) same o) (sym (ap (λ l. forget.has_place t y (l ++ new)) same) ∙ p)
       where

@@ -1,7 +1,9 @@
 -- A pipe that passes the test has the facts.
-use Rattle.std.proofs.Common.{◌≡◌, sym, ap, ◌∙◌, ℕ, Bool, true, ◌&&◌, ◌||◌, List, [], length, nat_lt}
+use Rattle.std.proofs.Common.{◌≡◌, sym, ap, ◌∙◌, ℕ, Bool, true, ◌&&◌, ◌||◌, List, [], length, nat_lt, leb-true, nat_le}
 use Rattle.pdl_semantics.specs.Flat.{Pipe, Stmt, list_all, start_env}
 use Rattle.pdl_semantics.specs.Stages.{onpath, fork_guards}
+use Rattle.pdl_theory_facts.specs.Scans.{write_reserves}
+use Rattle.pdl_theory_facts.proofs.Texts.{below_at}
 use Rattle.pdl_theory_facts.specs.Checks.{guard_vars}
 use Rattle.pdl_theory_facts.specs.SoundChecks.{all_paths, all_guards}
 use Rattle.pdl_theory_derived.proofs.Writes.{and_left, and_right}

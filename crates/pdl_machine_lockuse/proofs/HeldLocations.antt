@@ -1,5 +1,5 @@
 -- Locations that a thread has blocked for reading, and those that it holds for writing, as its statements go by.
-use Rattle.std.proofs.Common.{◌≡◌, ◌≢◌, refl, sym, ap, ◌∙◌, subst, ℕ, suc, ◌≤◌, Bool, true, false, ◌&&◌, ◌||◌, not, List, [], ◌∷◌, Some, ◌==◌, cond, if◌then◌else◌, arith, slice_index}
+use Rattle.std.proofs.Common.{◌≡◌, ◌≢◌, refl, sym, ap, ◌∙◌, subst, ℕ, suc, ◌≤◌, Bool, true, false, ◌&&◌, ◌||◌, not, List, [], ◌∷◌, Some, ◌==◌, cond, if◌then◌else◌, arith, slice_index, ◌+◌}
 use Rattle.std.proofs.lemmas.Bool.{false≢true, or_right, eqb-true}
 use Rattle.pdl_semantics.specs.Flat.{Op, DelayedRead, Write, ReserveWrite, Block, Release, Verify, Pipe, values_of}
 use Rattle.pdl_semantics.specs.Stages.{commit_stage}

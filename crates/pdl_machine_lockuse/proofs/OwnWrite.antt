@@ -122,14 +122,15 @@ put_place n y t a v (e ∷ es) = at ((e.thread == t) && (e.var == a)) (put_place
 puts_place : (m n y t : ℕ) (ws : List Written) (es : List Pending)
     → (has_place n y (with_writes_of m t ws es) ≡ has_place n y es) × (place_of n y (with_writes_of m t ws es) ≡ place_of n y es)
 puts_place m n y t [] es = (refl, refl)
-puts_place m n y t (w ∷ ws) es = at (w.mem == m)
+puts_place m n y t (w ∷ ws) es = at (w.mem == m) (puts_place m n y t ws)
   where
-    at : (b : Bool)
+    at : (b : Bool) → ((fs : List Pending)
+        → (has_place n y (with_writes_of m t ws fs) ≡ has_place n y fs) × (place_of n y (with_writes_of m t ws fs) ≡ place_of n y fs))
         → (has_place n y (with_writes_of m t ws (cond b (with_value_of t w.var w.value es) es)) ≡ has_place n y es)
         × (place_of n y (with_writes_of m t ws (cond b (with_value_of t w.var w.value es) es)) ≡ place_of n y es)
-    at true =
-        let i = puts_place m n y t ws (with_value_of t w.var w.value es) in let j = put_place n y t w.var w.value es in (i.0 ∙ j.0, i.1 ∙ j.1)
-    at false = puts_place m n y t ws es
+    at true go =
+        let i = go (with_value_of t w.var w.value es) in let j = put_place n y t w.var w.value es in (i.0 ∙ j.0, i.1 ∙ j.1)
+    at false go = go es
 
 open_back : (n y t a v : ℕ) (es : List Pending) → is_open n y (with_value_of t a v es) ≡ true → is_open n y es ≡ true
 open_back n y t a v [] h = h
@@ -156,11 +157,12 @@ open_back n y t a v (e ∷ es) h = at ((e.thread == t) && (e.var == a)) h (open_
 
 opens_back : (m n y t : ℕ) (ws : List Written) (es : List Pending) → is_open n y (with_writes_of m t ws es) ≡ true → is_open n y es ≡ true
 opens_back m n y t [] es h = h
-opens_back m n y t (w ∷ ws) es h = at (w.mem == m) h
+opens_back m n y t (w ∷ ws) es h = at (w.mem == m) h (opens_back m n y t ws)
   where
-    at : (b : Bool) → is_open n y (with_writes_of m t ws (cond b (with_value_of t w.var w.value es) es)) ≡ true → is_open n y es ≡ true
-    at true i = open_back n y t w.var w.value es (opens_back m n y t ws (with_value_of t w.var w.value es) i)
-    at false i = opens_back m n y t ws es i
+    at : (b : Bool) → is_open n y (with_writes_of m t ws (cond b (with_value_of t w.var w.value es) es)) ≡ true
+        → ((fs : List Pending) → is_open n y (with_writes_of m t ws fs) ≡ true → is_open n y fs ≡ true) → is_open n y es ≡ true
+    at true i go = open_back n y t w.var w.value es (go (with_value_of t w.var w.value es) i)
+    at false i go = go es i
 
 -- the oldest location without a value is the first of those that are waited for
 oldest_first : (m n a : ℕ) (os : List Open) → is_oldest a (open_vars os) ≡ true
@@ -240,11 +242,11 @@ names_none n y (e ∷ es) h = at ((e.thread == n) && (e.var == y)) h (names_none
 -- where there is at most one, there is at most one in the words of the lock
 pub once_names : (n y : ℕ) (es : List Pending) → names n y es ≤ 1 → IsOnce n y es
 once_names n y [] h = tt
-once_names n y (e ∷ es) h = at ((e.thread == n) && (e.var == y)) h
+once_names n y (e ∷ es) h = at ((e.thread == n) && (e.var == y)) h (once_names n y es)
   where
-    at : (b : Bool) → one_if b + names n y es ≤ 1 → (b ≡ true → has_place n y es ≡ false) × IsOnce n y es
-    at true k = ((λ i. names_none n y es (omega (arith, k))), once_names n y es (omega (arith, k)))
-    at false k = ((λ i. absurd (false≢true i)), once_names n y es (omega (arith, k)))
+    at : (b : Bool) → one_if b + names n y es ≤ 1 → (names n y es ≤ 1 → IsOnce n y es) → (b ≡ true → has_place n y es ≡ false) × IsOnce n y es
+    at true k go = ((λ i. names_none n y es (omega (arith, k))), go (omega (arith, k)))
+    at false k go = ((λ i. absurd (false≢true i)), go (omega (arith, k)))
 
 -- pending writes with their values, of which there are k, are the first k of a list that begins with them
 given_own : (n : ℕ) (out rest : List Pending) → AreGiven n out → AreOwn (length out) n (out ++ rest)
@@ -393,7 +395,7 @@ module _ (o : Around) (read : ℕ → ℕ → ℕ) (block : Blocked → Bool) (f
             (named_more y) (one y) (w.named y));
         made =
             longer (length (all (deeds_after read (ReserveWrite j a) d))) (length (all d)) (length more) (length ph.unwritten) (before + written_in m d.writes)
-            long_more (ap (λ c. length (cond c (record { thread = n; var = a; address = slice_index d.env a; value = None } ∷ []) [])) e) w.made;
+            long_more (ap (λ c. length {A = Pending} (cond c (record { thread = n; var = a; address = slice_index d.env a; value = None } ∷ []) [])) e) w.made;
         turns = turns_more;
       }
         where
@@ -414,7 +416,7 @@ module _ (o : Around) (read : ℕ → ℕ → ℕ) (block : Blocked → Bool) (f
             (ap (λ c. names n y (cond c (record { thread = n; var = a; address = slice_index d.env a; value = None } ∷ []) [])) e) (w.named y);
         made =
             still (length (all (deeds_after read (ReserveWrite j a) d))) (length (all d)) (length more) (length ph.unwritten + (before + written_in m d.writes))
-            long_more (ap (λ c. length (cond c (record { thread = n; var = a; address = slice_index d.env a; value = None } ∷ []) [])) e) w.made;
+            long_more (ap (λ c. length {A = Pending} (cond c (record { thread = n; var = a; address = slice_index d.env a; value = None } ∷ []) [])) e) w.made;
         turns = turns_more;
       }
         where

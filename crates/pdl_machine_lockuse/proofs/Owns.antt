@@ -195,7 +195,7 @@ module _ (p : Pipe) (sound : Sound p) (st : State) (d : Derived.State) (bits : L
       let past = each_map (λ k b. b.trunk (commit_stage p m) ((sound_flows p sound).trunk_commit m) (let h = here in omega (arith, h))) ls o.0 in
       let g = gone p (sound_flows p sound) st d bits arrays m ls k.1 past in (g.0, g.1)
 
-  tail : Live → List Live → List Pending
+  abbrev tail : Live → List Live → List Pending
   tail l ls = if (did p d bits ls l).moves then part p (sound_flows p sound) st d bits arrays m l else pend m l.number l.thread.entries
 
   -- who releases finds its own writes first, with their values
@@ -286,7 +286,7 @@ module _ (p : Pipe) (sound : Sound p) (st : State) (d : Derived.State) (bits : L
   by_new bound list [] f = tt
   by_new bound list (l ∷ ls) f = (
     mine (did p d bits ls l).moves,
-    pair_map (λ x g i. other x.live.number (did p d bits ls l).moves g.0 (g.1 i)) (pairs ls) (both (by_new l.number list ls f.1)),
+    pair_map (λ x g i. other x.live.number (did p d bits ls l).moves g.0 _ (g.1 i)) (pairs ls) (both (by_new l.number list ls f.1)),
   )
     where
       both : EachPair
@@ -307,12 +307,12 @@ module _ (p : Pipe) (sound : Sound p) (st : State) (d : Derived.State) (bits : L
           by_append l.number (with_reserves m (ms ls) list) (new_entries m l.number (deeds_of p st bits l).reserves)
           ∙ ap₂ (λ x y. x ++ y) (by_older l.number list ls f.1) (by_all l.number _ (of_new m l.number (deeds_of p st bits l).reserves))
 
-      other : (n : ℕ) (b : Bool) → n < l.number → {rest : List Pending}
+      other : (n : ℕ) (b : Bool) → n < l.number → (rest : List Pending)
           → entries_by n (with_reserves m (ms ls) list) ≡ entries_by n list ++ rest
           → entries_by n (with_reserves m (cond b (lact p st d bits ls l ∷ ms ls) (ms ls)) list) ≡ entries_by n list ++ rest
-      other n true h e =
+      other n true h rest e =
           by_append n (with_reserves m (ms ls) list) (new_entries m l.number (deeds_of p st bits l).reserves)
           ∙ ap (λ x. entries_by n (with_reserves m (ms ls) list) ++ x)
           (by_none n l.number _ (of_new m l.number (deeds_of p st bits l).reserves) (λ i. absurd (omega (arith, h, i))))
           ∙ append-nil (entries_by n (with_reserves m (ms ls) list)) ∙ e
-      other n false h e = e
+      other n false h rest e = e

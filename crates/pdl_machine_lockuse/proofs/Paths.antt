@@ -7,8 +7,8 @@ use Rattle.pdl_semantics.specs.Machine.{State}
 use Rattle.pdl_semantics.specs.Sound.{stages_before, stages_from, is_release_at}
 use Rattle.pdl_theory_derived.specs.Derived
 use Rattle.pdl_theory_derived.specs.Derived.{Around, around}
-use Rattle.pdl_theory_derived.specs.Alone.{answered_op}
-use Rattle.pdl_theory_facts.specs.Scans.{no_guards, is_plain, Phase, Fresh, Written, next_phase, phase_all, is_over, Scan, no_scan, has_location, is_address, scan_after, scan_after_all, op_ok, reads_ok, none_of}
+use Rattle.pdl_theory_derived.specs.Alone.{but_last, is_nil, answered_op}
+use Rattle.pdl_theory_facts.specs.Scans.{after_write, no_guards, is_plain, Phase, Fresh, next_phase, phase_all, is_over, Scan, no_scan, has_location, is_address, scan_after, scan_after_all, op_ok, reads_ok, none_of}
 use Rattle.pdl_theory_facts.specs.GuessScans.{Unmade, making_all, makings_ok}
 use Rattle.pdl_theory_facts.specs.Facts.{Sound, looked_all, at_once}
 use Rattle.pdl_theory_facts.specs.Accepted.{along}
@@ -34,6 +34,11 @@ use Rattle.pdl_theory_turns.proofs.Guesses.{makings_first, makings_second}
 use Rattle.pdl_theory_turns.proofs.OwnEntries.{none_first}
 use Rattle.pdl_theory_turns.proofs.TurnPath.{phase_append}
 use Rattle.pdl_theory_turns.proofs.Paths.{none_onpath}
+
+-- nothing and false is false
+pub and_false : (b : Bool) → (b && false) ≡ false
+and_false true = refl
+and_false false = refl
 
 -- PARTS OF A LIST OF STATEMENTS
 
@@ -126,7 +131,7 @@ module _ (p q : Pipe) (same : (m : ℕ) → commit_stage q m ≡ commit_stage p 
       (and_right (lets_go x.op (xs ++ rest)) _ go) behind over)
     where
       left_open : (m a : ℕ) (e : Expr) → x.op ≡ Write m a e → false ≡ is_over (next_phase m (ph m) x.op)
-      left_open m a e w = sym (ap (λ o. is_over (next_phase m (ph m) o)) w ∙ ap (λ b. is_over (cond b (Written a) (ph m))) (eq-eqb m m refl))
+      left_open m a e w = sym (ap (λ o. is_over (next_phase m (ph m) o)) w ∙ ap (λ b. is_over (cond b (after_write (ph m) a) (ph m))) (eq-eqb m m refl) ∙ and_false (is_nil (but_last (ph m).unwritten)))
 
 -- A THREAD IN ITS STAGE
 

@@ -1,10 +1,11 @@
 -- A thread that releases a write before V has passed a barrier, so that all older ones stand after V.
-use Rattle.std.proofs.Common.{◌≡◌, refl, sym, ap, ◌∙◌, subst, ℕ, ◌<◌, Bool, true, false, ◌&&◌, ◌||◌, not, List, [], ◌∷◌, ◌++◌, Option, Some, None, ◌==◌, nat_lt, nat_le, cond, arith, le_refl, ltb-true, leb-true, lt-ltb}
+use Rattle.std.proofs.Common.{◌≡◌, refl, sym, ap, ◌∙◌, subst, ℕ, ◌<◌, Bool, true, false, ◌&&◌, ◌||◌, not, List, [], ◌∷◌, ◌++◌, Option, Some, None, ◌==◌, nat_lt, nat_le, cond, arith, le_refl, ltb-true, leb-true, lt-ltb, ◌≢◌}
 use Rattle.std.proofs.lemmas.Bool.{false≢true}
 use Rattle.pdl_semantics.specs.Flat.{list_all, Pipe, Branch, Op, Block, SpecBarrier, Stmt, all_hold}
 use Rattle.pdl_semantics.specs.Stages.{list_any, onpath, in_stage, stage_at, verify_stage}
 use Rattle.pdl_semantics.specs.Machine.{State}
 use Rattle.pdl_semantics.specs.Sound
+use Rattle.pdl_semantics.specs.Cycle.{releases_of}
 use Rattle.pdl_theory_derived.specs.Derived
 use Rattle.pdl_theory_derived.specs.Derived.{Around, around, befores}
 use Rattle.pdl_theory_facts.specs.Scans.{Fresh, phase_all, phases_ok, no_scan, none_of}
@@ -110,7 +111,7 @@ module _ (p : Pipe) (sound : Sound p) (st : State) (d : Derived.State) (bits : L
       (stmts_append (λ x. nat_lt x.stage v ≡ true) gone own
       (stmts_map (λ z i. lt-ltb _ _ (let j = i in omega (arith, j, low))) gone (low_stages l.env l.thread.stage p.stmts))
       (stmts_map (λ z i. lt-ltb _ _ (let j = i in omega (arith, j, low))) own (stage_stmts q l.thread.stage p.stmts))))
-      tt refl
+      (record { unwritten = λ x i. absurd (cc i); full = λ x i. absurd (cc i) }) refl
 
   -- a barrier of the stage found nobody before V
   barrier_here : (v : ℕ) → verify_stage p.stmts ≡ Some v → Each (λ j. Behind p l.thread.stage j.thread.stage) older
@@ -161,8 +162,8 @@ module _ (p : Pipe) (sound : Sound p) (st : State) (d : Derived.State) (bits : L
 
       done : is_done (phase_all m Fresh way) ≡ true
       done =
-          ap is_done
-          (phase_append m gone own Fresh ∙ (used_here p sound st d bits arrays older l k m).done h)
+          ap is_done (phase_append m gone own Fresh)
+          ∙ (used_here p sound st d bits arrays older l k m).done h
 
       at : (b : Bool) → list_any (λ (x : Stmt). Sound.is_barrier x.op) gone ≡ b → (c : Bool)
           → stage.some_barrier own ≡ c → Each (λ j. v < j.thread.stage) older

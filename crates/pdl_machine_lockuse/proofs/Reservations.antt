@@ -131,7 +131,7 @@ single_op m ph (Release j a) h s x = at (j == m)
     at : (b : Bool) → uses (cond b (after_release ph a) ph) x ≤ 1
     at true = subst (λ n. n ≤ 1) (sym (uses_release ph a x)) (s x)
     at false = s x
-single_op m ph _ h s = s
+single_op m ph _ h s x = s x
 
 -- before the first reservation no variable is there
 pub single_fresh : Single Fresh

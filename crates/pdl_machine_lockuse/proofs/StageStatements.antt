@@ -18,6 +18,7 @@ use Rattle.pdl_theory_simulation.proofs.FlowFacts.{use_ok, uses_ok}
 use Rattle.pdl_machine_facts.specs.Slots.{locks_ready}
 use Rattle.pdl_machine_facts.specs.Use.{is_early, IsOpFine, AreFine}
 use Rattle.pdl_machine_facts.proofs.StatementUses.{IsAlong}
+use Rattle.pdl_machine_lockuse.proofs.FewerReserves.{room_before}
 use Rattle.pdl_machine_lockuse.specs.Careful.{passes_on}
 use Rattle.pdl_machine_lockuse.proofs.HeldLocations.{right_at, Covers, covers_op, held_does, HeldOnce, held_once, released_here, once_op}
 
@@ -77,7 +78,8 @@ module _ (p : Pipe) (st : State) (n : ℕ) where
       at true = r
       at false = r
   right_next s c (ReserveWrite m a) d h f r =
-      λ k. r (ap₂ (λ x y. x && y) (and_left (blocks_ready p st n d) _ k) (all_last _ d.reserves _ (and_right (blocks_ready p st n d) _ k)).0)
+      λ k. r (ap₂ (λ x y. x && y) (and_left (blocks_ready p st n d) _ k)
+      (room_before p st d (deeds_after (word_for st n) (ReserveWrite m a) d) _ refl (and_right (blocks_ready p st n d) _ k)))
   right_next s c (Block m a) d h f r = λ k.
       let b : Blocked = record { mem = m; address = slice_index d.env a; writes = is_held d.held m a } in
       let q = all_last (λ b. block_ready p st n b) d.blocks b (and_left (list_all (λ b. block_ready p st n b) (d.blocks ++ b ∷ [])) _ k) in

@@ -14,7 +14,7 @@ pub mod Points
 pub mod AllThreads
 pub mod EveryState
 pub mod TurnThreads
-mod OwnEntries
+pub mod OwnEntries
 pub mod Releases
 pub mod StillLooks
 mod TurnByTurn
