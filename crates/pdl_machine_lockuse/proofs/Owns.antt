@@ -192,7 +192,7 @@ module _ (p : Pipe) (sound : Sound p) (st : State) (d : Derived.State) (bits : L
       → (all_releases m (ms ls) ≡ 0) × (two p (sound_flows p sound) st d bits arrays m ls ≡ [])
   alone l ls k o f =
       let here = release_here p (sound_flows p sound) st d bits arrays ls l k.0 m f in
-      let past = each_map (λ k b. b.trunk (commit_stage p m) ((sound_flows p sound).trunk_commit m) (let h = here in omega (arith, h))) ls o.0 in
+      let past = each_map (λ k b. left_trunk p _ _ b (commit_stage p m) ((sound_flows p sound).trunk_commit m) (let h = here in omega (arith, h))) ls o.0 in
       let g = gone p (sound_flows p sound) st d bits arrays m ls k.1 past in (g.0, g.1)
 
   abbrev tail : Live → List Live → List Pending
