@@ -124,6 +124,7 @@ fn branches_in(
     first: bool,
     ss: &[Stmt],
 ) -> Result<FlatBranches, NoMemory>
+    requires few { spec.separators (tree.stmts_view ss.now) ≤ 63 }
     ensures { IfOk result (λ r. branches_view r
         ≡ (if spec.separators (tree.stmts_view ss.now) == 0 then branches_view branches
         else spec.side fork first ∷ branches_view branches)) }
@@ -143,6 +144,7 @@ fn inside(
     first: bool,
     ss: &[Stmt],
 ) -> Result<StmtContext, NoMemory>
+    requires few { spec.separators (tree.stmts_view ss.now) ≤ 63 }
     ensures guards { IfOk result (λ r.
         guards_view r.guards ≡ guards_view round.now.guards ++ record {
           var = choice.var;
