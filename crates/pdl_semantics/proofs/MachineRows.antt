@@ -3,11 +3,12 @@ use Rattle.std.proofs.Common.{◌≡◌, refl, ℕ, zero, suc, Bool, true, false
 use Rattle.std.specs.Fmt.{digits}
 use Rattle.pdl_word.specs.Words.{add, slice, zext, complement}
 use Rattle.pdl_semantics.specs.Tree.{Queue, Bypass, Rename}
+use Rattle.pdl_semantics.proofs.Texts.{variable, constant, plus}
 use Rattle.pdl_semantics.specs.Lines.{run_lines, view_lines, accepted_line}
 use Rattle.pdl_semantics.specs.Flat.{arrays_of}
 use Rattle.pdl_semantics.specs.Flatten.{flat}
 use Rattle.pdl_semantics.specs.Cycle.{Turn, turns}
-use Rattle.pdl_semantics.proofs.Pipes.{one_stage, two_stages, under_guard, shared_guard, count_late, count_up, guess, guess_reserved, copy, copy_guessed, two_branches, one_branch, count_slow, barrier}
+use Rattle.pdl_semantics.proofs.Pipes.{two_writes, two_writes_apart, one_stage, two_stages, under_guard, shared_guard, count_late, count_up, guess, guess_reserved, copy, copy_guessed, two_branches, one_branch, count_slow, barrier}
 
 abbrev pub zeros : List ℕ
 zeros = 0 ∷ 0 ∷ 0 ∷ 0 ∷ []
@@ -65,6 +66,20 @@ forwards_late = refl
 call_in_second_stage : run_lines two_stages (zeros ∷ []) (idle 3) ≡ codes "1 m 0 00\n3 m 1 01\nend cycles 3 ended 1 waits 0 squashes 0\n"
 unfolding digits add slice zext
 call_in_second_stage = refl
+
+two_words : run_lines (two_writes (plus (variable "n") (constant 2 1))) (zeros ∷ []) (idle 2) ≡ codes "1 m 0 00\n1 m 1 04\n2 m 2 02\n2 m 3 06\nend cycles 2 ended 2 waits 0 squashes 0\n"
+unfolding digits add slice zext
+two_words = refl
+
+-- of two writes of one word the second holds
+one_word_twice : run_lines (two_writes (variable "n")) (zeros ∷ []) (idle 2) ≡ codes "1 m 0 00\n1 m 0 04\n2 m 2 02\n2 m 2 06\nend cycles 2 ended 2 waits 0 squashes 0\n"
+unfolding digits add slice zext
+one_word_twice = refl
+
+-- the releases take the oldest entries, whichever stands first in the text
+releases_exchanged : run_lines (two_writes_apart Bypass 4) (zeros ∷ []) (idle 8) ≡ codes "3 m 0 01\n3 m 1 10\n4 m 0 02\n4 m 2 11\n6 m 0 03\n6 m 3 12\n7 m 0 04\n7 m 0 13\nend cycles 8 ended 4 waits 0 squashes 0\n"
+unfolding digits add slice zext
+releases_exchanged = refl
 
 every_other_writes : run_lines under_guard (zeros ∷ []) (idle 4) ≡ codes "2 m 1 05\n4 m 3 05\nend cycles 4 ended 4 waits 0 squashes 0\n"
 unfolding digits add slice zext

@@ -1,6 +1,6 @@
 -- Pipes on which the definitions are computed, as trees.
 use Rattle.std.specs.Prelude.{ℕ, List, [], ◌∷◌, ◌++◌, None}
-use Rattle.pdl_semantics.specs.Tree.{Not, ZeroExtend, R, W, LockKind, Queue, Bypass, Stmt, Pipe}
+use Rattle.pdl_semantics.specs.Tree.{Not, ZeroExtend, R, W, LockKind, Queue, Bypass, Expr, Stmt, Pipe}
 use Rattle.pdl_semantics.proofs.Texts.{number, constant, variable, slice, plus, separator, bind, comb_read, delayed_read, write, reserve, block, release, call, spec_call, verify, spec_check, spec_barrier, if_else, lock, comb, slow, pipe}
 
 -- one stage: each thread writes its argument
@@ -16,6 +16,23 @@ two_stages =
     pipe 4 (comb "m" 4 (lock Queue 1) ∷ [])
     (bind "a" (slice "n" 1 0) ∷ bind "v" (ZeroExtend (variable "n") (number 8)) ∷ reserve "m" "a" W ∷ block "m" "a"
     ∷ write "m" "a" (variable "v") ∷ release "m" "a" ∷ separator ∷ call (plus (variable "n") (constant 4 1)) ∷ [])
+
+-- one stage: each thread writes two words, whose addresses are its argument and this
+abbrev pub two_writes : Expr → Pipe
+two_writes b =
+    pipe 2 (comb "m" 4 (lock Queue 2) ∷ [])
+    (bind "b" b ∷ bind "z" (ZeroExtend (variable "n") (number 8)) ∷ reserve "m" "n" W ∷ reserve "m" "b" W ∷ block "m" "n"
+    ∷ block "m" "b" ∷ write "m" "n" (variable "z") ∷ write "m" "b" (plus (variable "z") (constant 8 4)) ∷ release "m" "n"
+    ∷ release "m" "b" ∷ call (plus (variable "n") (constant 2 2)) ∷ [])
+
+-- three stages with room for two or three: the second write is released first in the text, and both are waited for
+abbrev pub two_writes_apart : LockKind → ℕ → Pipe
+two_writes_apart kind size =
+    pipe 2 (comb "m" 4 (lock kind size) ∷ [])
+    (bind "a" (constant 2 0) ∷ bind "b" (constant 2 0) ∷ bind "c" (plus (variable "n") (constant 2 1)) ∷ reserve "m" "a" R ∷ reserve "m" "b" W ∷ reserve "m" "c" W
+    ∷ call (plus (variable "n") (constant 2 1)) ∷ separator ∷ block "m" "a" ∷ comb_read "x" "m" "a" ∷ block "m" "b"
+    ∷ write "m" "b" (plus (variable "x") (constant 8 1)) ∷ separator ∷ block "m" "c" ∷ write "m" "c" (plus (variable "x") (constant 8 16))
+    ∷ release "m" "c" ∷ release "m" "a" ∷ release "m" "b" ∷ [])
 
 -- every other thread writes
 abbrev pub under_guard : Pipe

@@ -1,5 +1,5 @@
 -- What a cycle does, its ports, and whole runs. `these` are the acts of all threads, `ms` those of the threads that move.
-use Rattle.std.specs.Prelude.{ℕ, suc, Bool, true, false, ◌&&◌, ◌||◌, not, List, [], ◌∷◌, ◌++◌, Option, Some, None, is_some, is_none, if◌then◌else◌, nat_le, ◌==◌, slice_index_or, take}
+use Rattle.std.specs.Prelude.{ℕ, suc, Bool, true, false, ◌&&◌, ◌||◌, not, List, [], ◌∷◌, ◌++◌, Option, Some, None, is_some, is_none, if◌then◌else◌, nat_le, ◌==◌, ◌+◌, slice_index_or, take, drop}
 use Rattle.pdl_semantics.specs.Flat.{Arrays, Mem, Branch, Stage, Pipe, start_env, with_word, Commit}
 use Rattle.pdl_semantics.specs.Stages.{list_any, stage_at, is_branch_of, merges_fork, verify_stage}
 use Rattle.pdl_semantics.specs.Locks.{commit_value}
@@ -10,52 +10,50 @@ use Rattle.pdl_semantics.specs.Moves.{Act, next_stage, all_acts, movers}
 abbrev pub new_entries : ℕ → ℕ → List Reserved → List Pending
 new_entries m thread [] = []
 new_entries m thread (r ∷ rs) =
-    (if r.mem == m then record { thread = thread; address = r.address; value = None } ∷ [] else [])
+    (if r.mem == m then record { thread = thread; var = r.var; address = r.address; value = None } ∷ [] else [])
     ++ new_entries m thread rs
 
 abbrev pub with_reserves : ℕ → List Act → List Pending → List Pending
 with_reserves m [] list = list
 with_reserves m (a ∷ ms) list = with_reserves m ms list ++ new_entries m a.thread.number a.does.reserves
 
--- 2. writes put their value into their thread's entry
-abbrev pub with_value_of : ℕ → ℕ → List Pending → List Pending
-with_value_of thread v [] = []
-with_value_of thread v (e ∷ es) = (if e.thread == thread then record e { value = Some v } else e) ∷ with_value_of thread v es
+-- 2. each write puts its value into the entry of its own reservation
+abbrev pub with_value_of : ℕ → ℕ → ℕ → List Pending → List Pending
+with_value_of thread x v [] = []
+with_value_of thread x v (e ∷ es) =
+    (if (e.thread == thread) && (e.var == x) then record e { value = Some v } else e) ∷ with_value_of thread x v es
 
 abbrev pub with_writes_of : ℕ → ℕ → List Written → List Pending → List Pending
 with_writes_of m thread [] list = list
-with_writes_of m thread (w ∷ ws) list = with_writes_of m thread ws (if w.mem == m then with_value_of thread w.value list else list)
+with_writes_of m thread (w ∷ ws) list = with_writes_of m thread ws (if w.mem == m then with_value_of thread w.var w.value list else list)
 
 abbrev pub with_all_writes : ℕ → List Act → List Pending → List Pending
 with_all_writes m [] list = list
 with_all_writes m (a ∷ ms) list = with_writes_of m a.thread.number a.does.writes (with_all_writes m ms list)
 
--- 3. a release of a write reservation takes the oldest entry out
-abbrev pub has_release : ℕ → List Act → Bool
-has_release m ms = list_any (λ a. list_any (λ n. n == m) a.does.releases) ms
+-- 3. the releases of write reservations take as many of the oldest entries out
+abbrev pub releases_of : ℕ → List ℕ → ℕ
+releases_of m [] = 0
+releases_of m (n ∷ ns) = if n == m then suc (releases_of m ns) else releases_of m ns
 
-abbrev pub oldest : List Pending → Option Pending
-oldest [] = None
-oldest (e ∷ es) = Some e
+abbrev pub all_releases : ℕ → List Act → ℕ
+all_releases m [] = 0
+all_releases m (a ∷ ms) = all_releases m ms + releases_of m a.does.releases
 
-abbrev pub but_oldest : List Pending → List Pending
-but_oldest [] = []
-but_oldest (e ∷ es) = es
-
--- a lock's list after steps 1 and 2, and after step 3, and the entry that step 3 takes out
+-- a lock's list after steps 1 and 2, and after step 3, and the entries that step 3 takes out, the oldest first
 abbrev pub list_two : State → List Act → ℕ → List Pending
 list_two st ms m = with_all_writes m ms (with_reserves m ms (lock_of st m))
 
 abbrev pub list_three : State → List Act → ℕ → List Pending
-list_three st ms m = if has_release m ms then but_oldest (list_two st ms m) else list_two st ms m
+list_three st ms m = drop (all_releases m ms) (list_two st ms m)
 
-abbrev pub taken_out : State → List Act → ℕ → Option Pending
-taken_out st ms m = if has_release m ms then oldest (list_two st ms m) else None
+abbrev pub taken_out : State → List Act → ℕ → List Pending
+taken_out st ms m = take (all_releases m ms) (list_two st ms m)
 
--- and puts its value into the array
-abbrev pub with_commit : Arrays → ℕ → Option Pending → Arrays
-with_commit arrays m None = arrays
-with_commit arrays m (Some e) = with_word arrays m e.address (commit_value e.value)
+-- and put their values into the array, in that order
+abbrev pub with_commit : Arrays → ℕ → List Pending → Arrays
+with_commit arrays m [] = arrays
+with_commit arrays m (e ∷ es) = with_commit (with_word arrays m e.address (commit_value e.value)) m es
 
 abbrev pub with_commits : State → List Act → ℕ → List Mem → Arrays → Arrays
 with_commits st ms m [] arrays = arrays
@@ -219,14 +217,14 @@ pub record PortWrite : Type 0 where
   pub address : ℕ
   pub value : ℕ
 
-abbrev pub port_write : Option Pending → Option PortWrite
-port_write None = None
-port_write (Some e) = Some (record { address = e.address; value = commit_value e.value })
+abbrev pub port_writes : List Pending → List PortWrite
+port_writes [] = []
+port_writes (e ∷ es) = record { address = e.address; value = commit_value e.value } ∷ port_writes es
 
 pub record Ports : Type 0 where
   pub valid : List Bool  -- for each stage: it holds a thread at the start
   pub moves : List Bool  -- for each stage: its thread moves
-  pub commits : List (Option PortWrite)  -- for each memory: the write that is released
+  pub commits : List (List PortWrite)  -- for each memory the writes that are released, the oldest first: at most two
   pub requests : List (Option ℕ)  -- for each memory: the address of the request
   pub ended : Bool  -- a thread moved out of the last stage
   pub squash : Bool  -- a failing verify moved
@@ -244,7 +242,7 @@ ports_these p st these ms =
     record {
       valid = for_stages (λ s. list_any (λ a. a.stage == s) these) 0 p.stages;
       moves = for_stages (λ s. list_any (λ a. a.stage == s) ms) 0 p.stages;
-      commits = for_mems (λ m. port_write (taken_out st ms m)) 0 p.mems;
+      commits = for_mems (λ m. port_writes (taken_out st ms m)) 0 p.mems;
       requests = for_mems (λ m. asked_in ms m) 0 p.mems;
       ended = list_any (λ a. is_none (next_stage p a.stage a.does)) ms;
       squash = is_some (squasher ms);
@@ -296,13 +294,13 @@ abbrev pub waits_in : List Turn → ℕ
 waits_in ts = count (λ t. t.wait) ts
 
 -- the commits of a memory, in cycle order
-abbrev pub commit_shown : ℕ → Option PortWrite → List Commit
-commit_shown m None = []
-commit_shown m (Some w) = record { mem = m; address = w.address; value = w.value } ∷ []
+abbrev pub commits_shown : ℕ → List PortWrite → List Commit
+commits_shown m [] = []
+commits_shown m (w ∷ ws) = record { mem = m; address = w.address; value = w.value } ∷ commits_shown m ws
 
 abbrev pub commits : ℕ → List Turn → List Commit
 commits m [] = []
-commits m (t ∷ ts) = commit_shown m (slice_index_or t.ports.commits m None) ++ commits m ts
+commits m (t ∷ ts) = commits_shown m (slice_index_or t.ports.commits m []) ++ commits m ts
 
 -- the letters of `view`: no thread, one that moves, one that stands
 abbrev pub letter : Bool → Bool → ℕ

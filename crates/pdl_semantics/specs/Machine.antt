@@ -1,5 +1,5 @@
 -- The state of the pipeline machine, and what a thread's stage does in it: a numbered thread in each stage, the pending writes of each lock, the branches taken in each fork, the requests.
-use Rattle.std.specs.Prelude.{ℕ, Bool, true, false, ◌&&◌, ◌||◌, List, [], ◌∷◌, ◌++◌, Option, Some, None, is_some, if◌then◌else◌, nat_lt, ◌==◌, slice_index, slice_index_or, slice_set}
+use Rattle.std.specs.Prelude.{ℕ, suc, Bool, true, false, ◌&&◌, ◌||◌, List, [], ◌∷◌, ◌++◌, Option, Some, None, is_some, if◌then◌else◌, nat_lt, ◌==◌, slice_index, slice_index_or, slice_set}
 use Rattle.pdl_semantics.specs.Flat.{Arrays, Op, Bind, CombRead, DelayedRead, Write, ReserveRead, ReserveWrite, Block, Release, Call, SpecCall, Verify, SpecCheck, SpecBarrier, Stmt, Pipe, value_of, values_of, all_hold, word_at}
 use Rattle.pdl_semantics.specs.Stages.{in_stage, reply_place}
 use Rattle.pdl_semantics.specs.Locks.{Latest, Nothing, as_latest, value_or}
@@ -24,9 +24,10 @@ pub record Thread : Type 0 where
   pub awaits : List Awaited
   pub kept : List Kept
 
--- a pending write: its thread, its address, and its value or none
+-- a pending write: its thread, the variable by which that reserved it, its address, and its value or none
 pub record Pending : Type 0 where
   pub thread : ℕ
+  pub var : ℕ
   pub address : ℕ
   pub value : Option ℕ
 
@@ -97,14 +98,22 @@ pub record Blocked : Type 0 where
   pub address : ℕ
   pub writes : Bool
 
--- a write reservation, and a value written through it
+-- a write reservation, with how many of its memory the thread made before it in this stage, and a value written through one
 pub record Reserved : Type 0 where
   pub mem : ℕ
+  pub var : ℕ
   pub address : ℕ
+  pub before : ℕ
 
 pub record Written : Type 0 where
   pub mem : ℕ
+  pub var : ℕ
   pub value : ℕ
+
+-- how many of these reservations are of m
+abbrev pub reserves_of : ℕ → List Reserved → ℕ
+reserves_of m [] = 0
+reserves_of m (r ∷ rs) = if r.mem == m then suc (reserves_of m rs) else reserves_of m rs
 
 -- what the statements of a stage on the thread's path do, in text order
 pub record Deeds : Type 0 where
@@ -114,7 +123,7 @@ pub record Deeds : Type 0 where
   pub blocks : List Blocked
   pub reserves : List Reserved
   pub writes : List Written
-  pub releases : List ℕ  -- the memories whose write reservation is released
+  pub releases : List ℕ  -- the memories whose write reservations are released, each as often as one of its own is
   pub asks : List Ask  -- the delayed reads
   pub barrier : Bool  -- whether there is a spec_barrier
   pub child : Option (List ℕ)  -- the new thread's arguments
@@ -128,12 +137,12 @@ abbrev pub deeds_after : (ℕ → ℕ → ℕ) → Op → Deeds → Deeds
 deeds_after read (Bind x e) d = record d { env = slice_set d.env x (value_of e d.env) }
 deeds_after read (CombRead x m a) d = record d { env = slice_set d.env x (read m (slice_index d.env a)) }
 deeds_after read (DelayedRead x m a) d = record d { asks = d.asks ++ record { mem = m; var = x; address = slice_index d.env a } ∷ [] }
-deeds_after read (Write m a e) d = record d { writes = d.writes ++ record { mem = m; value = value_of e d.env } ∷ [] }
+deeds_after read (Write m a e) d = record d { writes = d.writes ++ record { mem = m; var = a; value = value_of e d.env } ∷ [] }
 deeds_after read (ReserveRead m a) d = d
 deeds_after read (ReserveWrite m a) d =
     record d {
       held = held_after (ReserveWrite m a) d.held;
-      reserves = d.reserves ++ record { mem = m; address = slice_index d.env a } ∷ [];
+      reserves = d.reserves ++ record { mem = m; var = a; address = slice_index d.env a; before = reserves_of m d.reserves } ∷ [];
     }
 deeds_after read (Block m a) d =
     record d { blocks = d.blocks ++ record { mem = m; address = slice_index d.env a; writes = is_held d.held m a } ∷ [] }

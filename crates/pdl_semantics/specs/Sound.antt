@@ -1,5 +1,5 @@
 -- Sound state: what holds, between cycles, in every state that a run of an accepted pipe comes to. Each point is a test, so that it computes. A turn is a thread of the sequential run.
-use Rattle.std.specs.Prelude.{IsTrue, ℕ, zero, suc, ◌+◌, count_by, Bool, true, false, ◌&&◌, ◌||◌, not, List, [], ◌∷◌, ◌++◌, Option, Some, None, is_none, if◌then◌else◌, nat_lt, nat_le, ◌==◌, slice_index, length}
+use Rattle.std.specs.Prelude.{IsTrue, ℕ, zero, suc, ◌+◌, ◌-◌, count_by, Bool, true, false, ◌&&◌, ◌||◌, not, List, [], ◌∷◌, ◌++◌, Option, Some, None, is_none, if◌then◌else◌, nat_lt, nat_le, ◌==◌, slice_index, length}
 use Rattle.pdl_semantics.specs.Flat.{Arrays, list_all, Op, Bind, CombRead, DelayedRead, Write, ReserveWrite, Block, Release, Call, SpecCall, SpecBarrier, Stmt, Mem, Branch, Pipe, value_of, values_of, start_env, word_at, Commit, of_mem}
 use Rattle.pdl_semantics.specs.Stages.{list_any, onpath, stage_at, goes_to, is_verify, verify_stage}
 use Rattle.pdl_semantics.specs.Sequential.{Run, run_all, thread, seqwrites, after_turns}
@@ -225,19 +225,33 @@ abbrev pub owners : List Pending → List ℕ
 owners [] = []
 owners (e ∷ es) = e.thread ∷ owners es
 
--- a follower's entries have its turn's address and, once written, its value
+-- a thread's entries, in order
+abbrev pub entries_by : ℕ → List Pending → List Pending
+entries_by thread [] = []
+entries_by thread (e ∷ es) = if e.thread == thread then e ∷ entries_by thread es else entries_by thread es
+
+-- an entry has the address of a write and, once that is made, its value
 abbrev pub has_value : Option ℕ → ℕ → Bool
 has_value None v = false
 has_value (Some w) v = w == v
 
-abbrev pub is_right_entry : Bool → List Commit → Pending → Bool
-is_right_entry written [] e = false
-is_right_entry written (c ∷ cs) e =
-    (e.address == c.address) && (if written then has_value e.value c.value else is_none e.value)
+abbrev pub is_right_entry : Bool → Commit → Pending → Bool
+is_right_entry written c e = (e.address == c.address) && (if written then has_value e.value c.value else is_none e.value)
+
+-- entries are those of these writes, of which the first k are made
+abbrev pub are_right : ℕ → List Commit → List Pending → Bool
+are_right k (c ∷ cs) (e ∷ es) = is_right_entry (nat_lt 0 k) c e && are_right (k - 1) cs es
+are_right k [] [] = true
+are_right k _ _ = false
+
+-- a follower that has entries has those of its turn's writes
+abbrev pub writes_done : ℕ → Pipe → Live → ℕ
+writes_done m p l = count_by (λ (x : Stmt). is_write m x.op) (past_stmts p l)
 
 abbrev pub right_entries : Pipe → State → ℕ → Follower → Bool
 right_entries p st m f =
-    list_all (λ e. not (e.thread == f.live.thread.number) || is_right_entry (has_done (is_write m) p f.live) (turn_writes m p f) e) (lock_of st m)
+    (length (entries_by f.live.thread.number (lock_of st m)) == 0)
+    || are_right (writes_done m p f.live) (turn_writes m p f) (entries_by f.live.thread.number (lock_of st m))
 
 abbrev pub pending_right : Pipe → Arrays → ℕ → State → ℕ → Bool
 pending_right p image n st m =
@@ -330,7 +344,7 @@ is_done st l (SpecCall args) = same_args l.thread.guess (values_of args l.thread
 is_done st l _ = true
 
 abbrev pub right_place : State → Live → HeldLocation → Bool
-right_place st l h = list_any (λ e. (e.thread == l.thread.number) && (e.address == slice_index l.thread.env h.var)) (lock_of st h.mem)
+right_place st l h = list_any (λ e. (e.thread == l.thread.number) && ((e.var == h.var) && (e.address == slice_index l.thread.env h.var))) (lock_of st h.mem)
 
 abbrev pub on_path : Pipe → State → Live → Bool
 on_path p st l =
