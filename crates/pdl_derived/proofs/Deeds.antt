@@ -2,9 +2,9 @@
 use Rattle.std.proofs.Common.{◌≡◌, refl, sym, ap, ◌∙◌, subst, ℕ, Bool, true, false, ◌&&◌, ◌||◌, not, List, [], ◌∷◌, ◌++◌, ◌==◌, cond, if◌then◌else◌, Some, None, slice_index, slice_set}
 use Rattle.std.proofs.Math.Bool.{and_assoc}
 use Rattle.pdl_semantics.specs.Flat.{Commit, list_all, Op, Bind, CombRead, DelayedRead, Write, ReserveRead, ReserveWrite, Block, Release, Call, SpecCall, Verify, SpecCheck, SpecBarrier, Stmt, value_of, values_of, all_hold}
-use Rattle.pdl_semantics.specs.Machine.{Ask, same_args, HeldLocation, Blocked, Reserved, Deeds, is_held, let_go, deeds_after_all}
+use Rattle.pdl_semantics.specs.Machine.{Ask, same_args, HeldLocation, Blocked, Deeds, is_held, let_go, deeds_after_all}
 use Rattle.pdl_semantics.specs.Machine
-use Rattle.pdl_derived.specs.Derived.{Entry, Work, Around, work_after, do_all, has_entry, without, with_entry_value}
+use Rattle.pdl_derived.specs.Derived.{Entry, Work, Around, work_after, do_all, has_entry, moved_up, without, with_entry_value}
 use Rattle.pdl_word.proofs.Bools.{and_swap}
 
 -- the locations of pending writes
@@ -16,12 +16,21 @@ pub places_has : (es : List Entry) (m a : ℕ) → is_held (places es) m a ≡ h
 places_has [] m a = refl
 places_has (e ∷ es) m a = ap (λ b. ((e.mem == m) && (e.var == a)) || b) (places_has es m a)
 
+places_moved : (e : Entry) (es : List Entry) → places (moved_up e es) ≡ places es
+places_moved e [] = refl
+places_moved e (f ∷ es) = at (f.mem == e.mem) (places_moved f es) (places_moved e es)
+  where
+    at : (b : Bool) → places (moved_up f es) ≡ places es → places (moved_up e es) ≡ places es
+        → places (cond b (record f { address = e.address; value = e.value } ∷ moved_up f es) (f ∷ moved_up e es)) ≡ record { mem = f.mem; var = f.var } ∷ places es
+    at true h k = ap (λ l. record { mem = f.mem; var = f.var } ∷ l) h
+    at false h k = ap (λ l. record { mem = f.mem; var = f.var } ∷ l) k
+
 pub places_without : (es : List Entry) (m a : ℕ) → places (without es m a) ≡ let_go (places es) m a
 places_without [] m a = refl
 places_without (e ∷ es) m a = at ((e.mem == m) && (e.var == a)) (places_without es m a)
   where
-    at : (b : Bool) → places (without es m a) ≡ let_go (places es) m a → places (cond b es (e ∷ without es m a)) ≡ cond b (places es) (record { mem = e.mem; var = e.var } ∷ let_go (places es) m a)
-    at true h = refl
+    at : (b : Bool) → places (without es m a) ≡ let_go (places es) m a → places (cond b (moved_up e es) (e ∷ without es m a)) ≡ cond b (places es) (record { mem = e.mem; var = e.var } ∷ let_go (places es) m a)
+    at true h = places_moved e es
     at false h = ap (λ l. record { mem = e.mem; var = e.var } ∷ l) h
 
 pub places_filled : (es : List Entry) (m a v : ℕ) → places (with_entry_value es m a v) ≡ places es
@@ -47,11 +56,8 @@ all_more test (y ∷ xs) x = at (test y) (all_more test xs x)
 for_ask : (a f c x : Bool) → (((a && f) && c) && x) ≡ ((a && (f && x)) && c)
 for_ask a f c x = and_swap (a && f) c x ∙ ap (λ b. b && c) (and_assoc a f x)
 
-for_room : (b r f c x : Bool) → ((((b && r) && f) && c) && x) ≡ (((b && (r && x)) && f) && c)
-for_room b r f c x = and_swap ((b && r) && f) c x ∙ ap (λ y. y && c) (and_swap (b && r) f x ∙ ap (λ y. y && f) (and_assoc b r x))
-
-for_block : (b r f c x : Bool) → ((((b && r) && f) && c) && x) ≡ ((((b && x) && r) && f) && c)
-for_block b r f c x = and_swap ((b && r) && f) c x ∙ ap (λ y. y && c) (and_swap (b && r) f x ∙ ap (λ y. y && f) (and_swap b r x))
+for_block : (b f c x : Bool) → (((b && f) && c) && x) ≡ (((b && x) && f) && c)
+for_block b f c x = and_swap (b && f) c x ∙ ap (λ y. y && c) (and_swap b f x)
 
 -- a barrier, and whether it finds nobody
 clear_swap : (a b c : Bool) → ((a && (not b || c)) && c) ≡ (a && c)
@@ -61,15 +67,15 @@ clear_swap true true false = refl
 clear_swap true false true = refl
 clear_swap true false false = refl
 
-module _ (o : Around) (read : ℕ → ℕ → ℕ) (block : Blocked → Bool) (room : Reserved → Bool) (free : Ask → Bool) where
-  -- what the stage's conditions say of deeds
+module _ (o : Around) (read : ℕ → ℕ → ℕ) (block : Blocked → Bool) (free : Ask → Bool) where
+  -- what the stage's conditions, that of room apart, say of deeds
   abbrev pub all_ready : Deeds → Bool
-  all_ready d = ((list_all block d.blocks && list_all room d.reserves) && list_all free d.asks) && (not d.barrier || o.clear)
+  all_ready d = (list_all block d.blocks && list_all free d.asks) && (not d.barrier || o.clear)
 
   -- the work with these deeds, pending writes and commits
   abbrev pub work_of : Deeds → List Entry → List Commit → Work
   work_of d es cs =
-      record { env = d.env; entries = es; guess = d.guess; asks = d.asks; commits = cs; child = d.child; fails = d.fails; ready = all_ready d }
+      record { env = d.env; entries = es; guess = d.guess; asks = d.asks; reserves = d.reserves; commits = cs; child = d.child; fails = d.fails; ready = all_ready d }
 
   -- the work and the deeds of the same statements
   pub record Told (d : Deeds) (w : Work) : Type 0 where
@@ -80,7 +86,6 @@ module _ (o : Around) (read : ℕ → ℕ → ℕ) (block : Blocked → Bool) (r
   abbrev pub Fits : Op → Type 0
   Fits (CombRead x m a) = (n : ℕ) → o.read m n ≡ read m n
   Fits (DelayedRead x m a) = (n : ℕ) → o.free m ≡ free (record { mem = m; var = x; address = n })
-  Fits (ReserveWrite m a) = (n : ℕ) → o.room m ≡ room (record { mem = m; address = n })
   Fits (Block m a) =
       (n : ℕ) → (o.can_write m n ≡ block (record { mem = m; address = n; writes = true })) × (o.can_read m n ≡ block (record { mem = m; address = n; writes = false }))
   Fits _ = Unit {0}
@@ -107,19 +112,11 @@ module _ (o : Around) (read : ℕ → ℕ → ℕ) (block : Blocked → Bool) (r
     where
       ready : (all_ready d && o.free m) ≡ all_ready (Machine.deeds_after read (DelayedRead x m a) d)
       ready =
-          for_ask (list_all block d.blocks && list_all room d.reserves) (list_all free d.asks) (not d.barrier || o.clear) (o.free m)
-          ∙ ap (λ b. ((list_all block d.blocks && list_all room d.reserves) && b) && (not d.barrier || o.clear)) (ap (λ b. list_all free d.asks && b) (f (slice_index d.env a)) ∙ sym (all_more free d.asks _))
+          for_ask (list_all block d.blocks) (list_all free d.asks) (not d.barrier || o.clear) (o.free m)
+          ∙ ap (λ b. (list_all block d.blocks && b) && (not d.barrier || o.clear)) (ap (λ b. list_all free d.asks && b) (f (slice_index d.env a)) ∙ sym (all_more free d.asks _))
   told_op (Write m a e) d es cs h f = record { held = places_filled es m a (value_of e d.env) ∙ h; is = refl }
   told_op (ReserveRead m a) d es cs h f = told _ es cs h
-  told_op (ReserveWrite m a) d es cs h f = record {
-    held = ap (λ l. record { mem = m; var = a } ∷ l) h;
-    is = λ i. record (work_of d (record { mem = m; var = a; address = slice_index d.env a; value = None } ∷ es) cs) { ready = ready i };
-  }
-    where
-      ready : (all_ready d && o.room m) ≡ all_ready (Machine.deeds_after read (ReserveWrite m a) d)
-      ready =
-          for_room (list_all block d.blocks) (list_all room d.reserves) (list_all free d.asks) (not d.barrier || o.clear) (o.room m)
-          ∙ ap (λ b. ((list_all block d.blocks && b) && list_all free d.asks) && (not d.barrier || o.clear)) (ap (λ b. list_all room d.reserves && b) (f (slice_index d.env a)) ∙ sym (all_more room d.reserves _))
+  told_op (ReserveWrite m a) d es cs h f = record { held = ap (λ l. record { mem = m; var = a } ∷ l) h; is = refl }
   told_op (Block m a) d es cs h f = record { held = h; is = λ i. record (work_of d es cs) { ready = ready i } }
     where
       kind : has_entry es m a ≡ is_held d.held m a
@@ -127,8 +124,8 @@ module _ (o : Around) (read : ℕ → ℕ → ℕ) (block : Blocked → Bool) (r
 
       ready : (all_ready d && cond (has_entry es m a) (o.can_write m (slice_index d.env a)) (o.can_read m (slice_index d.env a))) ≡ all_ready (Machine.deeds_after read (Block m a) d)
       ready =
-          for_block (list_all block d.blocks) (list_all room d.reserves) (list_all free d.asks) (not d.barrier || o.clear) _
-          ∙ ap (λ b. ((b && list_all room d.reserves) && list_all free d.asks) && (not d.barrier || o.clear))
+          for_block (list_all block d.blocks) (list_all free d.asks) (not d.barrier || o.clear) _
+          ∙ ap (λ b. (b && list_all free d.asks) && (not d.barrier || o.clear))
           (ap (λ b. list_all block d.blocks && cond b (o.can_write m (slice_index d.env a)) (o.can_read m (slice_index d.env a))) kind
           ∙ ap (λ b. list_all block d.blocks && b) (block_fits (is_held d.held m a) m (slice_index d.env a) (f (slice_index d.env a)))
           ∙ sym (all_more block d.blocks _))
@@ -141,7 +138,7 @@ module _ (o : Around) (read : ℕ → ℕ → ℕ) (block : Blocked → Bool) (r
       at true = told d es cs h
       at false = told _ es cs h
   told_op SpecCheck d es cs h f = told _ es cs h
-  told_op SpecBarrier d es cs h f = record { held = h; is = λ i. record (work_of d es cs) { ready = clear_swap ((list_all block d.blocks && list_all room d.reserves) && list_all free d.asks) d.barrier o.clear i } }
+  told_op SpecBarrier d es cs h f = record { held = h; is = λ i. record (work_of d es cs) { ready = clear_swap (list_all block d.blocks && list_all free d.asks) d.barrier o.clear i } }
 
   pub told_step : (b : Bool) (op : Op) (d : Deeds) (es : List Entry) (cs : List Commit) → places es ≡ d.held → Fits op → Told (cond b (Machine.deeds_after read op d) d) (cond b (work_after o op (work_of d es cs)) (work_of d es cs))
   told_step true op d es cs h f = told_op op d es cs h f

@@ -9,9 +9,10 @@ use Rattle.pdl_semantics.specs.Flatten.{flat}
 use Rattle.pdl_semantics.specs.Lines.{Column, columns, lines, by_mem, run_lines}
 use Rattle.pdl_semantics.specs.Lines
 use Rattle.pdl_semantics.specs.Machine.{Ask}
-use Rattle.pdl_semantics.specs.Cycle.{PortWrite, commit_shown, turns}
+use Rattle.pdl_semantics.specs.Cycle.{PortWrite, commits_shown, turns}
 use Rattle.pdl_semantics.specs.Cycle
-use Rattle.pdl_semantics.proofs.Pipes.{one_stage, two_stages, under_guard, shared_guard, count_up, count_late, guess, guess_reserved, copy, copy_guessed, two_branches, one_branch, count_slow, barrier, far_barrier}
+use Rattle.pdl_semantics.proofs.Pipes.{two_writes, two_writes_apart, one_stage, two_stages, under_guard, shared_guard, count_up, count_late, guess, guess_reserved, copy, copy_guessed, two_branches, one_branch, count_slow, barrier, far_barrier}
+use Rattle.pdl_semantics.proofs.Texts.{variable}
 use Rattle.pdl_semantics.proofs.MachineRows.{zeros, idle, bits, copied}
 use Rattle.pdl_derived.specs.Derived
 
@@ -31,9 +32,9 @@ same_commits (a ∷ xs) (b ∷ ys) = (a.mem == b.mem) && (a.address == b.address
 same_commits _ _ = false
 
 -- memory by memory
-abbrev each_commits : ℕ → List (Option PortWrite) → List Commit → Bool
+abbrev each_commits : ℕ → List (List PortWrite) → List Commit → Bool
 each_commits m [] cs = true
-each_commits m (x ∷ xs) cs = same_commits (commit_shown m x) (of_mem m cs) && each_commits (suc m) xs cs
+each_commits m (x ∷ xs) cs = same_commits (commits_shown m x) (of_mem m cs) && each_commits (suc m) xs cs
 
 abbrev same_requests : ℕ → List (Option ℕ) → List Ask → Bool
 same_requests m [] [] = true
@@ -64,6 +65,7 @@ all_true (b ∷ bs) = b && all_true bs
 
 trunk_ports : all_true (both_agree one_stage (zeros ∷ []) (idle 6) ∷ both_agree two_stages (zeros ∷ []) (idle 8) ∷ both_agree under_guard (zeros ∷ []) (idle 8)
     ∷ both_agree shared_guard (zeros ∷ []) (idle 8) ∷ both_agree (count_up Queue 1) (zeros ∷ []) (idle 12) ∷ both_agree (count_up Bypass 4) (zeros ∷ []) (idle 12)
+    ∷ both_agree (two_writes (variable "n")) (zeros ∷ []) (idle 4) ∷ both_agree (two_writes_apart Bypass 4) (zeros ∷ []) (idle 12) ∷ both_agree (two_writes_apart Queue 2) (zeros ∷ []) (idle 12)
     ∷ both_agree (count_up Rename 2) (zeros ∷ []) (idle 12) ∷ both_agree count_late (zeros ∷ []) (idle 12) ∷ []) ≡ true
 unfolding add slice zext complement
 trunk_ports = refl

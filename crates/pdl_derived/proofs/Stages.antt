@@ -20,6 +20,7 @@ joined w v =
       entries = v.entries;
       guess = v.guess;
       asks = w.asks ++ v.asks;
+      reserves = w.reserves ++ v.reserves;
       commits = w.commits ++ v.commits;
       child = or_else v.child w.child;
       fails = v.fails || w.fails;
@@ -29,7 +30,7 @@ joined w v =
 -- a work with which the next stage begins
 abbrev pub reset : Work → Work
 reset w =
-    record { env = w.env; entries = w.entries; guess = w.guess; asks = []; commits = []; child = None; fails = false; ready = true }
+    record { env = w.env; entries = w.entries; guess = w.guess; asks = []; reserves = []; commits = []; child = None; fails = false; ready = true }
 
 pub rejoined : (w : Work) → w ≡ joined w (reset w)
 rejoined w = λ i. record {
@@ -37,6 +38,7 @@ rejoined w = λ i. record {
   entries = w.entries;
   guess = w.guess;
   asks = sym (append-nil w.asks) i;
+  reserves = sym (append-nil w.reserves) i;
   commits = sym (append-nil w.commits) i;
   child = w.child;
   fails = w.fails;
@@ -52,7 +54,7 @@ does_joined o (DelayedRead x m a) w v = λ i. record (joined w (work_after o (De
   asks = append_assoc w.asks v.asks (record { mem = m; var = x; address = slice_index v.env a } ∷ []) i;
   ready = and_assoc w.ready v.ready (o.free m) i;
 }
-does_joined o (ReserveWrite m a) w v = λ i. record (joined w (work_after o (ReserveWrite m a) v)) { ready = and_assoc w.ready v.ready (o.room m) i }
+does_joined o (ReserveWrite m a) w v = λ i. record (joined w (work_after o (ReserveWrite m a) v)) { reserves = append_assoc w.reserves v.reserves (record { mem = m; var = a; address = slice_index v.env a } ∷ []) i }
 does_joined o (Block m a) w v = λ i. record (joined w (work_after o (Block m a) v)) { ready = and_assoc w.ready v.ready (if has_entry v.entries m a then o.can_write m (slice_index v.env a) else o.can_read m (slice_index v.env a)) i }
 does_joined o (Release m a) w v = λ i. record (joined w (work_after o (Release m a) v)) { commits = append_assoc w.commits v.commits (released_commits v.entries m a) i }
 does_joined o (Verify args) w v = verified_joined (same_args (values_of args v.env) v.guess) (values_of args v.env) w v
@@ -109,7 +111,6 @@ cond_same false = refl
 pub does_same : (o : Around) (arrays : Arrays) (op : Op) (w : Work) → (work_after o op w).ready ≡ true → ReadsRight o arrays op w.env → work_after o op w ≡ work_after (alone arrays) op w
 does_same o arrays (CombRead x m a) w h r = λ i. record w { env = slice_set w.env x (r i) }
 does_same o arrays (DelayedRead x m a) w h r = absurd r
-does_same o arrays (ReserveWrite m a) w h r = λ i. record (work_after o (ReserveWrite m a) w) { ready = ready_same w.ready (o.room m) true h refl i }
 does_same o arrays (Block m a) w h r =
     λ i. record w {
       ready = ready_same w.ready (if has_entry w.entries m a then o.can_write m (slice_index w.env a) else o.can_read m (slice_index w.env a)) (if has_entry w.entries m a then true else true) h (cond_same (has_entry w.entries m a)) i;

@@ -1,5 +1,5 @@
 -- A thread that runs alone in the machine that the proofs use, and what that machine's runs are shown to do.
-use Rattle.std.specs.Prelude.{◌≡◌, ℕ, ◌+◌, ◌-◌, ◌/◌, ◌≤◌, Bool, true, false, ◌&&◌, List, [], ◌∷◌, None, if◌then◌else◌, nat_lt, ◌==◌, IsTrue, IsFalse, length}
+use Rattle.std.specs.Prelude.{◌≡◌, ℕ, ◌+◌, ◌-◌, ◌/◌, ◌≤◌, Bool, true, false, ◌&&◌, ◌||◌, not, List, [], ◌∷◌, None, if◌then◌else◌, nat_lt, ◌==◌, IsTrue, IsFalse, length}
 use Rattle.pdl_semantics.specs.Flat.{Arrays, Op, CombRead, DelayedRead, Stmt, Pipe, start_env, word_at, Commit, of_mem, after_commits}
 use Rattle.pdl_semantics.specs.Stages.{commit_stage, depth}
 use Rattle.pdl_semantics.specs.Sequential.{thread, seqwrites}
@@ -13,7 +13,6 @@ alone arrays =
       read = word_at arrays;
       can_read = λ m a. true;
       can_write = λ m a. true;
-      room = λ m. true;
       free = λ m. true;
       clear = true;
     }
@@ -35,6 +34,7 @@ start_work p args =
       entries = [];
       guess = [];
       asks = [];
+      reserves = [];
       commits = [];
       child = None;
       fails = false;
@@ -54,6 +54,31 @@ thread_at p arrays args s =
 -- the writes to m of this turn that a thread in stage s has not released
 abbrev pub undone : Pipe → Arrays → List ℕ → ℕ → ℕ → List Commit
 undone p arrays args s m = if nat_lt (commit_stage p m) s then [] else of_mem m (thread p arrays args).writes
+
+-- LISTS OF VARIABLES, the youngest first
+
+abbrev pub is_nil : List ℕ → Bool
+is_nil [] = true
+is_nil (x ∷ xs) = false
+
+abbrev pub but_last : {X : Type 0} → List X → List X
+but_last [] = []
+but_last (x ∷ []) = []
+but_last (x ∷ y ∷ ys) = x ∷ but_last (y ∷ ys)
+
+abbrev pub is_among : ℕ → List ℕ → Bool
+is_among x [] = false
+is_among x (y ∷ ys) = (y == x) || is_among x ys
+
+-- x is the oldest, and no other one
+abbrev pub is_oldest : ℕ → List ℕ → Bool
+is_oldest x [] = false
+is_oldest x (y ∷ []) = y == x
+is_oldest x (y ∷ z ∷ zs) = not (y == x) && is_oldest x (z ∷ zs)
+
+abbrev pub drop_var : ℕ → List ℕ → List ℕ
+drop_var x [] = []
+drop_var x (y ∷ ys) = if y == x then ys else y ∷ drop_var x ys
 
 -- a location: a memory and the variable of its address
 pub record Location : Type 0 where

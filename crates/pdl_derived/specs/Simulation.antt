@@ -1,7 +1,7 @@
 -- What it means that both machines do the same.
-use Rattle.std.specs.Prelude.{◌≡◌, ℕ, List, [], ◌∷◌, None, slice_index_or}
+use Rattle.std.specs.Prelude.{◌≡◌, ℕ, List, [], ◌∷◌, slice_index_or}
 use Rattle.pdl_semantics.specs.Flat.{Pipe, of_mem}
-use Rattle.pdl_semantics.specs.Cycle.{for_mems, commit_shown}
+use Rattle.pdl_semantics.specs.Cycle.{for_mems, commits_shown}
 use Rattle.pdl_semantics.specs.Cycle
 use Rattle.pdl_derived.specs.Derived.{find_ask}
 use Rattle.pdl_derived.specs.Derived
@@ -10,7 +10,7 @@ use Rattle.pdl_derived.specs.Derived
 pub record SameTurn (p : Pipe) (a : Cycle.Turn) (b : Derived.Turn) : Type 0 where
   pub valid : a.ports.valid ≡ b.ports.valid
   pub moves : a.ports.moves ≡ b.ports.moves
-  pub commits : (m : ℕ) → commit_shown m (slice_index_or a.ports.commits m None) ≡ of_mem m b.ports.commits
+  pub commits : (m : ℕ) → commits_shown m (slice_index_or a.ports.commits m []) ≡ of_mem m b.ports.commits
   pub requests : a.ports.requests ≡ for_mems (λ m. find_ask b.ports.requests m) 0 p.mems
   pub ended : a.ports.ended ≡ b.ports.ended
   pub squash : a.ports.squash ≡ b.ports.squash

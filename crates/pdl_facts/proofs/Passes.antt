@@ -6,7 +6,7 @@ use Rattle.pdl_semantics.specs.Stages.{onpath, in_stage, mem_at, plain_mem, comm
 use Rattle.pdl_semantics.specs.Locks.{has_room}
 use Rattle.pdl_semantics.specs.Sound.{all_below, stages_from, is_fetch}
 use Rattle.pdl_derived.specs.Alone.{before}
-use Rattle.pdl_facts.specs.Scans.{is_plain, none_of, all_at, reads_ok, no_scan, phases_ok, phase_all, Fresh, is_over, is_fixed}
+use Rattle.pdl_facts.specs.Scans.{is_plain, none_of, all_at, reads_ok, no_scan, phases_ok, phase_all, Fresh, is_over, write_reserves, is_fixed}
 use Rattle.pdl_facts.specs.Certain.{Unmade, makings_ok, making_all, is_made, all_sure}
 use Rattle.pdl_facts.specs.Checks.{in_text_order, knows_memory, on_paths, guard_vars, mem_passes, path_passes, lock_passes, is_below, locks_pass, text_passes, paths_pass}
 use Rattle.pdl_facts.specs.Accepted.{Accepted, Pathwise, along}
@@ -57,14 +57,8 @@ module _ (p : Pipe) (h : Parts p) where
       ap (λ o. unwrap_or o (length p.stages)) (past_end p.releases_at m None
       (let i : length p.releases_at ≤ length p.mems = leb-true _ _ (and_left (nat_le (length p.releases_at) (length p.mems)) _ (and_right (nat_le (length p.reserves_at) (length p.mems)) _ locks_ok)) in omega arith))
 
-  pub locks : (m : ℕ) → has_room (mem_at p m).lock 0 ≡ true
-  locks m =
-      by_bound (length p.mems) m (has_room (mem_at p m).lock 0 ≡ true) (λ low. and_left (has_room (mem_at p m).lock 0) _ (lock_ok m low))
-      (λ past. ap (λ (x : Mem). has_room x.lock 0) (past_end p.mems m plain_mem past))
-
-  -- the tests of a lock after the first one
   lock_rest : (m : ℕ) → m < length p.mems → (all_at (is_reserve m) (reserve_stage p m) p.stmts && (all_at (is_release m) (commit_stage p m) p.stmts && (not (is_plain (mem_at p m).lock) || ((reserve_stage p m == 0) && (commit_stage p m == length p.stages))))) ≡ true
-  lock_rest m low = and_right (has_room (mem_at p m).lock 0) _ (lock_ok m low)
+  lock_rest m low = lock_ok m low
 
   plain_at : (m : ℕ) → m < length p.mems → is_plain (mem_at p m).lock ≡ true → ((reserve_stage p m == 0) && (commit_stage p m == length p.stages)) ≡ true
   plain_at m low e = where_true (is_plain (mem_at p m).lock) _ (and_right (all_at (is_release m) (commit_stage p m) p.stmts) _ (and_right (all_at (is_reserve m) (reserve_stage p m) p.stmts) _ (lock_rest m low))) e
@@ -148,8 +142,17 @@ module _ (p : Pipe) (h : Parts p) where
         (λ past. ap is_over (stays_fresh p m (length p.mems) no_scan (onpath path p.stmts) path_known path_reads past).1)
 
     -- a memory's tests after the phases
+    after_over : (m : ℕ) → m < length p.mems → (has_room (mem_at p m).lock (write_reserves m xs) 0 && (all_at (is_reserve m) (reserve_stage p m) xs && (all_at (is_release m) (commit_stage p m) xs && (not (is_plain (mem_at p m).lock) || none_of (is_release m) xs)))) ≡ true
+    after_over m low = and_right (is_over (phase_all m Fresh xs)) _ (and_right (phases_ok m Fresh xs) _ (mem_ok m low))
+
+    path_locks : (m : ℕ) → has_room (mem_at p m).lock (write_reserves m (onpath path p.stmts)) 0 ≡ true
+    path_locks m =
+        by_bound (length p.mems) m (has_room (mem_at p m).lock (write_reserves m (onpath path p.stmts)) 0 ≡ true)
+        (λ low. and_left (has_room (mem_at p m).lock (write_reserves m xs) 0) _ (after_over m low))
+        (λ past. ap (λ (x : Mem). has_room x.lock (write_reserves m (onpath path p.stmts)) 0) (past_end p.mems m plain_mem past))
+
     mem_rest : (m : ℕ) → m < length p.mems → (all_at (is_reserve m) (reserve_stage p m) xs && (all_at (is_release m) (commit_stage p m) xs && (not (is_plain (mem_at p m).lock) || none_of (is_release m) xs))) ≡ true
-    mem_rest m low = and_right (is_over (phase_all m Fresh xs)) _ (and_right (phases_ok m Fresh xs) _ (mem_ok m low))
+    mem_rest m low = and_right (has_room (mem_at p m).lock (write_reserves m xs) 0) _ (after_over m low)
 
     path_reserves : (m : ℕ) → all_at (is_reserve m) (reserve_stage p m) (onpath path p.stmts) ≡ true
     path_reserves m =
@@ -189,7 +192,7 @@ module _ (p : Pipe) (h : Parts p) where
           start_first = none_before 0 0 (onpath path p.stmts) path_order (omega arith);
           whole = whole (length p.stages) (onpath path p.stmts) (and_left _ _ after_order) path_unfetched;
           some_stage = some_stage;
-          locks = locks;
+          locks = path_locks;
           plain = path_plain;
           plain_from = plain_from;
           plain_to = plain_to;

@@ -4,7 +4,7 @@ use Rattle.pdl_semantics.specs.Flat.{Pipe}
 use Rattle.pdl_semantics.specs.Stages.{onpath, in_stage, mem_at, verify_stage, commit_stage, reserve_stage, is_reserve, is_release}
 use Rattle.pdl_semantics.specs.Locks.{has_room}
 use Rattle.pdl_derived.specs.Alone.{before}
-use Rattle.pdl_facts.specs.Scans.{is_plain, none_of, reads_ok, no_scan, phases_ok, phase_all, Fresh, is_over, all_at, is_fixed}
+use Rattle.pdl_facts.specs.Scans.{is_plain, none_of, reads_ok, no_scan, phases_ok, phase_all, Fresh, is_over, write_reserves, all_at, is_fixed}
 use Rattle.pdl_facts.specs.Certain.{Unmade, makings_ok, making_all, is_made, all_sure}
 use Rattle.pdl_semantics.specs.Sound.{stages_from}
 
@@ -16,8 +16,8 @@ pub record Accepted (p : Pipe) : Type 0 where
   pub start_first : before 0 p.stmts ≡ []
   pub whole : before (length p.stages) p.stmts ≡ p.stmts
   pub some_stage : 0 < length p.stages
-  -- the locks
-  pub locks : (m : ℕ) → has_room (mem_at p m).lock 0 ≡ true
+  -- L4: each lock has room for the thread's write reservations
+  pub locks : (m : ℕ) → has_room (mem_at p m).lock (write_reserves m p.stmts) 0 ≡ true
   -- F5
   pub plain : (m : ℕ) → is_plain (mem_at p m).lock ≡ true → none_of (is_release m) p.stmts ≡ true
   pub plain_from : (m : ℕ) → is_plain (mem_at p m).lock ≡ true → reserve_stage p m ≡ 0

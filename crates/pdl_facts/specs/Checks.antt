@@ -5,7 +5,7 @@ use Rattle.pdl_derived.specs.Alone.{before}
 use Rattle.pdl_semantics.specs.Stages.{in_stage, mem_at, commit_stage, reserve_stage, is_reserve, is_release, verify_stage}
 use Rattle.pdl_semantics.specs.Locks.{has_room}
 use Rattle.pdl_semantics.specs.Sound.{all_below, stages_from, is_fetch}
-use Rattle.pdl_facts.specs.Scans.{is_plain, none_of, reads_ok, no_scan, phases_ok, phase_all, Fresh, is_over, all_at, is_fixed}
+use Rattle.pdl_facts.specs.Scans.{is_plain, none_of, reads_ok, no_scan, phases_ok, phase_all, Fresh, is_over, write_reserves, all_at, is_fixed}
 use Rattle.pdl_facts.specs.Certain.{Unmade, makings_ok, making_all, is_made, all_sure}
 
 -- statements stand in the order of their stages, the first in stage s or after it
@@ -66,8 +66,9 @@ abbrev pub mem_passes : Pipe → List Stmt → ℕ → Bool
 mem_passes p xs m =
     phases_ok m Fresh xs
     && (is_over (phase_all m Fresh xs)
+    && (has_room (mem_at p m).lock (write_reserves m xs) 0
     && (all_at (is_reserve m) (reserve_stage p m) xs
-    && (all_at (is_release m) (commit_stage p m) xs && (not (is_plain (mem_at p m).lock) || none_of (is_release m) xs))))
+    && (all_at (is_release m) (commit_stage p m) xs && (not (is_plain (mem_at p m).lock) || none_of (is_release m) xs)))))
 
 abbrev pub path_passes : Pipe → List Stmt → Bool
 path_passes p xs =
@@ -80,10 +81,9 @@ path_passes p xs =
 
 abbrev pub lock_passes : Pipe → ℕ → Bool
 lock_passes p m =
-    has_room (mem_at p m).lock 0
-    && (all_at (is_reserve m) (reserve_stage p m) p.stmts
+    all_at (is_reserve m) (reserve_stage p m) p.stmts
     && (all_at (is_release m) (commit_stage p m) p.stmts
-    && (not (is_plain (mem_at p m).lock) || ((reserve_stage p m == 0) && (commit_stage p m == length p.stages)))))
+    && (not (is_plain (mem_at p m).lock) || ((reserve_stage p m == 0) && (commit_stage p m == length p.stages))))
 
 -- a stage, if there is one, is one of k
 abbrev pub is_below : ℕ → Option ℕ → Bool

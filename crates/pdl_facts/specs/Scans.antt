@@ -1,9 +1,9 @@
 -- Scans over the statements of one path, and over a text, that tell whether locks and values are used as the rules of the language say.
-use Rattle.std.specs.Prelude.{ℕ, Bool, true, false, ◌&&◌, ◌||◌, not, List, [], ◌∷◌, if◌then◌else◌, ◌==◌, nat_le}
+use Rattle.std.specs.Prelude.{ℕ, suc, Bool, true, false, ◌&&◌, ◌||◌, not, List, [], ◌∷◌, if◌then◌else◌, ◌==◌, nat_le}
 use Rattle.pdl_semantics.specs.Flat.{Op, Bind, CombRead, DelayedRead, Write, ReserveWrite, Block, Release, Stmt, Guard, Pipe, Lock, Plain}
 use Rattle.pdl_semantics.specs.Stages.{mem_at, commit_stage, reserve_stage}
-use Rattle.pdl_derived.specs.Alone.{Location}
-use Rattle.pdl_semantics.specs.Sound.{is_call}
+use Rattle.pdl_derived.specs.Alone.{Location, is_nil, is_among, is_oldest, drop_var, but_last}
+use Rattle.pdl_semantics.specs.Sound.{is_call, is_write_reserve}
 
 abbrev pub no_guards : List Guard → Bool
 no_guards [] = true
@@ -64,46 +64,50 @@ abbrev pub none_of : (Op → Bool) → List Stmt → Bool
 none_of test [] = true
 none_of test (x ∷ xs) = not (test x.op) && none_of test xs
 
--- how far a thread is with its write to a memory; x is the location's variable
-pub data Phase : Type 0 where
-  Fresh : Phase
-  Held : (x : ℕ) → Phase
-  Written : (x : ℕ) → Phase
-  Done : Phase
+-- how far a thread is with its writes to a memory: the variables of the locations that it reserved for writing, the youngest first: those without a value, those with one, and those that it released
+pub record Phase : Type 0 where
+  pub open : List ℕ
+  pub full : List ℕ
+  pub gone : List ℕ
+
+abbrev pub Fresh : Phase
+Fresh = record { open = []; full = []; gone = [] }
+
+abbrev pub after_write : Phase → ℕ → Phase
+after_write ph a = record { open = but_last ph.open; full = a ∷ ph.full; gone = ph.gone }
 
 abbrev pub after_release : Phase → ℕ → Phase
-after_release Fresh a = Fresh
-after_release (Held x) a = Held x
-after_release (Written x) a = if x == a then Done else Written x
-after_release Done a = Done
+after_release ph a = if is_among a ph.full then record { open = ph.open; full = drop_var a ph.full; gone = a ∷ ph.gone } else ph
+
+abbrev pub after_reserve : Phase → ℕ → Phase
+after_reserve ph a = record { open = a ∷ ph.open; full = ph.full; gone = ph.gone }
 
 abbrev pub next_phase : ℕ → Phase → Op → Phase
-next_phase m ph (ReserveWrite n a) = if n == m then Held a else ph
-next_phase m ph (Write n a e) = if n == m then Written a else ph
+next_phase m ph (ReserveWrite n a) = if n == m then after_reserve ph a else ph
+next_phase m ph (Write n a e) = if n == m then after_write ph a else ph
 next_phase m ph (Release n a) = if n == m then after_release ph a else ph
 next_phase m ph _ = ph
 
-abbrev pub holds_location : Phase → ℕ → Bool
-holds_location (Held y) x = y == x
-holds_location _ x = false
-
+-- nothing is written yet
 abbrev pub may_read : Phase → Bool
-may_read Fresh = true
-may_read (Held x) = true
-may_read _ = false
+may_read ph = is_nil ph.full && is_nil ph.gone
 
-abbrev pub is_fresh : Phase → Bool
-is_fresh Fresh = true
-is_fresh _ = false
+-- writes come in the order of their reservations
+abbrev pub may_write : Phase → ℕ → Bool
+may_write ph a = is_oldest a ph.open
 
--- a statement in this phase of m: a location's variable is not bound again before the write, a read precedes it, at most one reservation, one write through it, and no release before it
+-- a location is reserved once
+abbrev pub is_new : Phase → ℕ → Bool
+is_new ph a = not (is_among a ph.open) && (not (is_among a ph.full) && not (is_among a ph.gone))
+
+-- a statement in this phase of m: a location's variable is not bound again before the write, a read precedes the writes, and a release comes after its write
 abbrev pub phase_ok : ℕ → Phase → Op → Bool
-phase_ok m ph (Bind x e) = not (holds_location ph x)
-phase_ok m ph (CombRead x n a) = not (holds_location ph x) && (not (n == m) || may_read ph)
+phase_ok m ph (Bind x e) = not (is_among x ph.open)
+phase_ok m ph (CombRead x n a) = not (is_among x ph.open) && (not (n == m) || may_read ph)
 phase_ok m ph (DelayedRead x n a) = false
-phase_ok m ph (Write n a e) = not (n == m) || holds_location ph a
-phase_ok m ph (ReserveWrite n a) = not (n == m) || is_fresh ph
-phase_ok m ph (Release n a) = not (n == m) || not (holds_location ph a)
+phase_ok m ph (Write n a e) = not (n == m) || may_write ph a
+phase_ok m ph (ReserveWrite n a) = not (n == m) || is_new ph a
+phase_ok m ph (Release n a) = not (n == m) || not (is_among a ph.open)
 phase_ok m ph _ = true
 
 abbrev pub phases_ok : ℕ → Phase → List Stmt → Bool
@@ -115,9 +119,12 @@ phase_all m ph [] = ph
 phase_all m ph (x ∷ xs) = phase_all m (next_phase m ph x.op) xs
 
 abbrev pub is_over : Phase → Bool
-is_over Fresh = true
-is_over Done = true
-is_over _ = false
+is_over ph = is_nil ph.open && is_nil ph.full
+
+-- how many write reservations of m there are
+abbrev pub write_reserves : ℕ → List Stmt → ℕ
+write_reserves m [] = 0
+write_reserves m (x ∷ xs) = if is_write_reserve m x.op then suc (write_reserves m xs) else write_reserves m xs
 
 abbrev pub called : Bool → List Stmt → Bool
 called c [] = c

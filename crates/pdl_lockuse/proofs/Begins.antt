@@ -186,13 +186,13 @@ reads_same p zs c [] = refl
 reads_same p zs c (x ∷ xs) = ap₂ (λ a b. (no_guards x.guards && a) && b) (op_same p zs x.stage c x.op) (reads_same p zs (scan_after x.op c) xs)
 
 -- a stage's statements are carried out as the path at their end tells
-module _ (o : Around) (read : ℕ → ℕ → ℕ) (block : Blocked → Bool) (room : Reserved → Bool) (free : Ask → Bool) where
-  pub along_of : (path : List ℕ) (xs : List Stmt) (d : Deeds) (es : List Entry) (cs : List Commit) → places es ≡ d.held → AllFit o read block room free xs
-      → Fixed path o xs (work_of o read block room free d es cs) → IsAlong path read xs d
+module _ (o : Around) (read : ℕ → ℕ → ℕ) (block : Blocked → Bool) (free : Ask → Bool) where
+  pub along_of : (path : List ℕ) (xs : List Stmt) (d : Deeds) (es : List Entry) (cs : List Commit) → places es ≡ d.held → AllFit o read block free xs
+      → Fixed path o xs (work_of o read block free d es cs) → IsAlong path read xs d
   along_of path [] d es cs h f q = tt
   along_of path (x ∷ xs) d es cs h f q =
-      let t = told_step o read block room free (all_hold x.guards d.env) x.op d es cs h f.0 in
-      let w : Work = cond (all_hold x.guards d.env) (Derived.work_after o x.op (work_of o read block room free d es cs)) (work_of o read block room free d es cs) in
+      let t = told_step o read block free (all_hold x.guards d.env) x.op d es cs h f.0 in
+      let w : Work = cond (all_hold x.guards d.env) (Derived.work_after o x.op (work_of o read block free d es cs)) (work_of o read block free d es cs) in
       (q.0, along_of path xs (if all_hold x.guards d.env then deeds_after read x.op d else d) w.entries w.commits t.held f.1 (subst (λ v. Fixed path o xs v) t.is q.1))
 
 -- A LIVE THREAD

@@ -91,12 +91,12 @@ pub record Used (m n : ℕ) (start : List Pending) (d : Deeds) (ph : Phase) : Ty
       → (a : ℕ) × (v : ℕ) × (with_writes_of m n d.writes (start ++ new_entries m n d.reserves) ≡ own n (entry m 0 a (Some v)) ∷ [])
   pub done : list_any (λ k. k == m) d.releases ≡ true → ph ≡ Done
 
-module _ (o : Around) (read : ℕ → ℕ → ℕ) (block : Blocked → Bool) (room : Reserved → Bool) (free : Ask → Bool) (m n : ℕ) (start : List Pending) where
+module _ (o : Around) (read : ℕ → ℕ → ℕ) (block : Blocked → Bool) (free : Ask → Bool) (m n : ℕ) (start : List Pending) where
   abbrev W : Deeds → List Entry → List Commit → Work
-  W d es cs = work_of o read block room free d es cs
+  W d es cs = work_of o read block free d es cs
 
   abbrev At : Phase → Deeds → Work → Type 0
-  At ph d w = Here o read block room free m n start ph d w
+  At ph d w = Here o read block free m n start ph d w
 
   step_op : (op : Op) (ph : Phase) (d : Deeds) (es : List Entry) (cs : List Commit) → places es ≡ d.held → use_ok m ph op ≡ true → At ph d (W d es cs)
       → At (next_phase m ph op) (deeds_after read op d) (Derived.work_after o op (W d es cs))
@@ -213,7 +213,7 @@ module _ (o : Around) (read : ℕ → ℕ → ℕ) (block : Blocked → Bool) (r
       by (inl q) = record { once = h.once; gives = λ e. absurd (false≢true (sym q.2 ∙ e)); done = λ e. refl }
       by (inr q) = record { once = h.once; gives = λ e. (q.0, q.1, q.3); done = λ e. refl }
 
-  pub used_all : (path : List ℕ) (xs : List Stmt) (ph : Phase) (d : Deeds) (es : List Entry) (cs : List Commit) → places es ≡ d.held → AllFit o read block room free xs → IsAlong path read xs d → uses_ok m ph (onpath path xs) ≡ true → At ph d (W d es cs) → Wrote ph d
+  pub used_all : (path : List ℕ) (xs : List Stmt) (ph : Phase) (d : Deeds) (es : List Entry) (cs : List Commit) → places es ≡ d.held → AllFit o read block free xs → IsAlong path read xs d → uses_ok m ph (onpath path xs) ≡ true → At ph d (W d es cs) → Wrote ph d
       → Used m n start (deeds_after_all read xs d) (phase_all m ph (onpath path xs))
   used_all path [] ph d es cs h i f k g w = in_end ph d (W d es cs) g w
   used_all path (x ∷ xs) ph d es cs h i f k g w =
@@ -229,7 +229,7 @@ module _ (o : Around) (read : ℕ → ℕ → ℕ) (block : Blocked → Bool) (r
       at false true e f k go = absurd (cc e)
       at false false e f k go = go ph d es cs h f k g w
       at true true e f k go =
-          let t = told_step o read block room free true x.op d es cs h i.0 in
+          let t = told_step o read block free true x.op d es cs h i.0 in
           let ok : use_ok m ph x.op ≡ true = and_left (use_ok m ph x.op) (uses_ok m (next_phase m ph x.op) (onpath path xs)) k in
           let w' : Work = Derived.work_after o x.op (W d es cs) in
           let g' : At (next_phase m ph x.op) (deeds_after read x.op d) (W (deeds_after read x.op d) w'.entries w'.commits) = subst (λ v. At (next_phase m ph x.op) (deeds_after read x.op d) v) t.is (step_op x.op ph d es cs h ok g) in

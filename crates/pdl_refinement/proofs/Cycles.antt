@@ -37,7 +37,7 @@ NowAsks all older these = (m : ℕ) → find_ask all m ≡ or_ask (older m) (fin
 
 -- the end of a chain of the four tests of a thread that moves
 pub moves_ready : (p : Pipe) (st : State) (bits : List Bool) (older : List Act) (t : Thread) → (act p st bits older t).moves ≡ true → (work_of_stage p (around p st bits older t.stage) (answered_thread p st bits t)).ready ≡ true
-moves_ready p st bits older t e = and_right _ _ (and_left _ _ (and_left _ _ e))
+moves_ready p st bits older t e = and_right _ _ (and_left _ _ (and_left _ _ (and_left _ _ e)))
 
 pub moves_answered : (p : Pipe) (st : State) (bits : List Bool) (older : List Act) (t : Thread) → (act p st bits older t).moves ≡ true → is_empty (answered_thread p st bits t).awaits ≡ true
 moves_answered p st bits older t e = and_right _ _ (and_left _ _ e)

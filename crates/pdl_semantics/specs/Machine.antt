@@ -98,12 +98,11 @@ pub record Blocked : Type 0 where
   pub address : ℕ
   pub writes : Bool
 
--- a write reservation, with how many of its memory the thread made before it in this stage, and a value written through one
+-- a write reservation, and a value written through one
 pub record Reserved : Type 0 where
   pub mem : ℕ
   pub var : ℕ
   pub address : ℕ
-  pub before : ℕ
 
 pub record Written : Type 0 where
   pub mem : ℕ
@@ -142,7 +141,7 @@ deeds_after read (ReserveRead m a) d = d
 deeds_after read (ReserveWrite m a) d =
     record d {
       held = held_after (ReserveWrite m a) d.held;
-      reserves = d.reserves ++ record { mem = m; var = a; address = slice_index d.env a; before = reserves_of m d.reserves } ∷ [];
+      reserves = d.reserves ++ record { mem = m; var = a; address = slice_index d.env a } ∷ [];
     }
 deeds_after read (Block m a) d =
     record d { blocks = d.blocks ++ record { mem = m; address = slice_index d.env a; writes = is_held d.held m a } ∷ [] }

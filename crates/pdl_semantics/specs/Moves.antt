@@ -1,9 +1,9 @@
 -- Which threads move in a cycle. It is decided from the stage with the greatest number down to stage 0; `later` are the acts of the threads in later stages.
-use Rattle.std.specs.Prelude.{ℕ, suc, ◌+◌, Bool, true, false, ◌&&◌, ◌||◌, not, List, [], ◌∷◌, Option, Some, None, if◌then◌else◌, nat_lt, ◌==◌, length}
+use Rattle.std.specs.Prelude.{ℕ, suc, Bool, true, false, ◌&&◌, ◌||◌, not, List, [], ◌∷◌, Option, Some, None, if◌then◌else◌, nat_lt, ◌==◌, length}
 use Rattle.pdl_semantics.specs.Flat.{list_all, Branch, Pipe}
 use Rattle.pdl_semantics.specs.Stages.{list_any, mem_at, stage_at, verify_stage, goes_to}
 use Rattle.pdl_semantics.specs.Locks.{read_ready, write_ready, has_room}
-use Rattle.pdl_semantics.specs.Machine.{Awaited, Thread, Request, NoRequest, Owned, Orphan, State, lock_of, fork_of, request_of, Blocked, Deeds, deeds, older_write, with_answers, is_answered}
+use Rattle.pdl_semantics.specs.Machine.{Awaited, Thread, Request, NoRequest, Owned, Orphan, State, lock_of, fork_of, request_of, Blocked, reserves_of, Deeds, deeds, older_write, with_answers, is_answered}
 
 -- a thread in a cycle: its stage, itself with this cycle's answers, what its stage's statements do, and whether it moves
 pub record Act : Type 0 where
@@ -30,9 +30,9 @@ block_ready p st thread b =
 abbrev pub blocks_ready : Pipe → State → ℕ → Deeds → Bool
 blocks_ready p st thread d = list_all (λ b. block_ready p st thread b) d.blocks
 
--- 3. each write reservation has room beside the pending writes and the thread's reservations before it
+-- 3. there is room for the thread's write reservations of each memory, together
 abbrev pub have_room : Pipe → State → Deeds → Bool
-have_room p st d = list_all (λ r. has_room (mem_at p r.mem).lock (length (lock_of st r.mem) + r.before)) d.reserves
+have_room p st d = list_all (λ r. has_room (mem_at p r.mem).lock (reserves_of r.mem d.reserves) (length (lock_of st r.mem))) d.reserves
 
 -- 4. each read that it awaits was answered before or is answered now
 abbrev pub is_empty : List Awaited → Bool

@@ -233,8 +233,8 @@ module _ (p : Pipe) (flows : Flows p) (st : State) (d : Derived.State) (bits : L
 
   ports_were_free : (ls : List Live) (l : Live) → Known p flows st d bits arrays ls l → (did p d bits ls l).moves ≡ true → list_all (λ q. port_free p d bits (dacts p d bits ls) q.mem) (deeds_of p st bits l).asks ≡ true
   ports_were_free ls l k i =
-      let ready : (work_of_live p d bits ls l).ready ≡ true = and_right _ _ (and_left _ _ (and_left _ _ i)) in
-      let all : ((((list_all (λ b. block_ready p st l.number b) (deeds_of p st bits l).blocks && list_all (λ r. has_room (mem_at p r.mem).lock (length (lock_of st r.mem))) (deeds_of p st bits l).reserves)) && list_all (λ q. port_free p d bits (dacts p d bits ls) q.mem) (deeds_of p st bits l).asks) && (not (deeds_of p st bits l).barrier || (around p d bits (dacts p d bits ls) l.thread.stage).clear)) ≡ true =
+      let ready : (work_of_live p d bits ls l).ready ≡ true = and_right _ _ (and_left _ _ (and_left _ _ (and_left _ _ i))) in
+      let all : (((list_all (λ b. block_ready p st l.number b) (deeds_of p st bits l).blocks) && list_all (λ q. port_free p d bits (dacts p d bits ls) q.mem) (deeds_of p st bits l).asks) && (not (deeds_of p st bits l).barrier || (around p d bits (dacts p d bits ls) l.thread.stage).clear)) ≡ true =
       ap (λ (w : Work). w.ready) (sym (told_here p flows st d bits arrays ls l k).is) ∙ ready in
       and_right _ _ (and_left _ _ all)
 

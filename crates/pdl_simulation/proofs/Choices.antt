@@ -4,7 +4,7 @@ use Rattle.std.proofs.lemmas.Bool.{eqb-true, eqb-false, ne_eqb}
 use Rattle.pdl_semantics.specs.Flat.{Pipe, Op, DelayedRead, CombRead, ReserveWrite, Block, Stmt, list_all, word_at}
 use Rattle.pdl_semantics.specs.Stages.{list_any, in_stage, mem_at, stage_at, goes_to, is_reserve, reserve_stage, commit_stage}
 use Rattle.pdl_semantics.specs.Locks.{Latest, has_room}
-use Rattle.pdl_semantics.specs.Machine.{Ask, Awaited, Kept, is_answered, Request, NoRequest, Owned, Orphan, State, Deeds, lock_of, request_of, older_write, word_for, held_before, with_kept, unanswered_reads, answer_to, answer_for, kept_answer, with_answers, deeds_after_all}
+use Rattle.pdl_semantics.specs.Machine.{Ask, Reserved, reserves_of, Awaited, Kept, is_answered, Request, NoRequest, Owned, Orphan, State, Deeds, lock_of, request_of, older_write, word_for, held_before, with_kept, unanswered_reads, answer_to, answer_for, kept_answer, with_answers, deeds_after_all}
 use Rattle.pdl_semantics.specs.Moves.{block_ready, is_free, next_stage}
 use Rattle.pdl_semantics.specs.Locks
 use Rattle.pdl_semantics.specs.Machine
@@ -18,9 +18,10 @@ use Rattle.pdl_derived.proofs.Entries.{entries_of}
 use Rattle.pdl_derived.proofs.Deeds.{Told, Fits, AllFit, told_all}
 use Rattle.pdl_derived.proofs.Lists.{pend}
 use Rattle.pdl_turns.proofs.Own.{Worked}
-use Rattle.pdl_simulation.proofs.Stretches.{Keeps, Fetched, AllFetched, AsksFrom, asks_from, start_deeds, start_of, keeps_answered, stage_worked, ends_empty, late_empty}
+use Rattle.pdl_simulation.proofs.Stretches.{Keeps, Fetched, AllFetched, AsksFrom, asks_from, ReservesFrom, reserves_from, start_deeds, start_of, keeps_answered, stage_worked, ends_empty, late_empty}
 use Rattle.pdl_simulation.proofs.Seats.{Live, seat, Falls, dacts, lacts, lact, did, now_of, work_of_live, deeds_of}
 use Rattle.pdl_turns.proofs.OfStage.{none_stage}
+use Rattle.pdl_turns.proofs.Turn.{none_in_stage}
 use Rattle.pdl_semantics.specs.Sound.{is_delayed_read}
 use Rattle.pdl_word.specs.Each.{Each}
 
@@ -251,19 +252,18 @@ module _ (p : Pipe) (flows : Flows p) (st : State) (d : Derived.State) (bits : L
   abbrev pub Same_deeds : List Live → Live → Deeds → Work → Type 0
   Same_deeds ls l e w =
       Told (around p d bits (dacts p d bits ls) l.thread.stage) (word_for st l.number) (λ b. block_ready p st l.number b)
-      (λ r. has_room (mem_at p r.mem).lock (length (lock_of st r.mem))) (λ q. port_free p d bits (dacts p d bits ls) q.mem) e w
+      (λ q. port_free p d bits (dacts p d bits ls) q.mem) e w
 
   abbrev pub FitsAll : List Live → Live → List Stmt → Type 0
   FitsAll ls l xs =
       AllFit (around p d bits (dacts p d bits ls) l.thread.stage) (word_for st l.number) (λ b. block_ready p st l.number b)
-      (λ r. has_room (mem_at p r.mem).lock (length (lock_of st r.mem))) (λ q. port_free p d bits (dacts p d bits ls) q.mem) xs
+      (λ q. port_free p d bits (dacts p d bits ls) q.mem) xs
 
   fits : (ls : List Live) (l : Live) → Known ls l → (op : Op) → ((m : ℕ) → is_reserve m op ≡ true → l.thread.stage ≡ reserve_stage p m)
       → Fits (around p d bits (dacts p d bits ls) l.thread.stage) (word_for st l.number) (λ b. block_ready p st l.number b)
-      (λ r. has_room (mem_at p r.mem).lock (length (lock_of st r.mem))) (λ q. port_free p d bits (dacts p d bits ls) q.mem) op
+      (λ q. port_free p d bits (dacts p d bits ls) q.mem) op
   fits ls l k (CombRead x m a) f = λ n. ap₂ (λ (o : Latest) (l : ℕ → ℕ → ℕ). Locks.value_or o (l m n)) (sym (k.older m n)) (sym arrays)
   fits ls l k (DelayedRead x m a) f = λ n. refl
-  fits ls l k (ReserveWrite m a) f = λ n. ap (has_room (mem_at p m).lock) (k.room m (f m (eq-eqb m m refl)))
   fits ls l k (Block m a) f = λ n. (ap (Locks.write_ready (mem_at p m).lock) (sym (k.older m n)), ap (Locks.read_ready (mem_at p m).lock) (sym (k.older m n)))
   fits ls l k _ f = tt
 
@@ -301,7 +301,7 @@ module _ (p : Pipe) (flows : Flows p) (st : State) (d : Derived.State) (bits : L
   told_here ls l k =
       subst (λ e. Same_deeds ls l e (work_of_live p d bits ls l)) (sym (deeds_are ls l k))
       (told_all (around p d bits (dacts p d bits ls) l.thread.stage) (word_for st l.number) (λ b. block_ready p st l.number b)
-      (λ r. has_room (mem_at p r.mem).lock (length (lock_of st r.mem))) (λ q. port_free p d bits (dacts p d bits ls) q.mem)
+      (λ q. port_free p d bits (dacts p d bits ls) q.mem)
       (in_stage l.thread.stage p.stmts) (start_deeds p flows l.env (now_of p d bits l) (keeps_now l k.seated)) l.thread.entries [] k.seated.keeps_on.held (fit_all ls l k))
 
   -- what its stage does to its entries of m
@@ -309,17 +309,17 @@ module _ (p : Pipe) (flows : Flows p) (st : State) (d : Derived.State) (bits : L
   worked_here ls l k m =
       subst (λ e. Worked m l.number (pend m l.number l.thread.entries) e (work_of_live p d bits ls l)) (sym (deeds_are ls l k))
       (stage_worked p flows l.env (now_of p d bits l) (keeps_now l k.seated) (around p d bits (dacts p d bits ls) l.thread.stage) (word_for st l.number) (λ b. block_ready p st l.number b)
-      (λ r. has_room (mem_at p r.mem).lock (length (lock_of st r.mem))) (λ q. port_free p d bits (dacts p d bits ls) q.mem) (fit_all ls l k) m l.number)
+      (λ q. port_free p d bits (dacts p d bits ls) q.mem) (fit_all ls l k) m l.number)
 
   pub ends_here : (ls : List Live) (l : Live) (k : Known ls l) (m : ℕ) → next_of p l.thread.stage (work_of_live p d bits ls l).env ≡ length p.stages → entries_of m (work_of_live p d bits ls l).entries ≡ []
   ends_here ls l k m =
       ends_empty p flows l.env (now_of p d bits l) (keeps_now l k.seated) (around p d bits (dacts p d bits ls) l.thread.stage) (word_for st l.number) (λ b. block_ready p st l.number b)
-      (λ r. has_room (mem_at p r.mem).lock (length (lock_of st r.mem))) (λ q. port_free p d bits (dacts p d bits ls) q.mem) (fit_all ls l k) m l.number
+      (λ q. port_free p d bits (dacts p d bits ls) q.mem) (fit_all ls l k) m l.number
 
   pub late_here : (ls : List Live) (l : Live) (k : Known ls l) (m : ℕ) → commit_stage p m < next_of p l.thread.stage (work_of_live p d bits ls l).env → entries_of m (work_of_live p d bits ls l).entries ≡ []
   late_here ls l k m =
       late_empty p flows l.env (now_of p d bits l) (keeps_now l k.seated) (around p d bits (dacts p d bits ls) l.thread.stage) (word_for st l.number) (λ b. block_ready p st l.number b)
-      (λ r. has_room (mem_at p r.mem).lock (length (lock_of st r.mem))) (λ q. port_free p d bits (dacts p d bits ls) q.mem) (fit_all ls l k) m l.number
+      (λ q. port_free p d bits (dacts p d bits ls) q.mem) (fit_all ls l k) m l.number
 
   -- a memory that it asks for is read in its stage
   pub asks_here : (ls : List Live) (l : Live) → Known ls l → AsksFrom (in_stage l.thread.stage p.stmts) (deeds_of p st bits l).asks
@@ -335,10 +335,12 @@ module _ (p : Pipe) (flows : Flows p) (st : State) (d : Derived.State) (bits : L
     pub enters : (Moves.can_enter (next_stage p l.thread.stage (deeds_of p st bits l)) later && Moves.merges_well p st l.thread.stage (next_stage p l.thread.stage (deeds_of p st bits l))) ≡ Derived.can_enter p (dacts p d bits ls) (next_stage p l.thread.stage (deeds_of p st bits l))
 
   -- the eight conditions
-  join : (n b r w f c e g : Bool) → (((((((n && b) && r) && w) && f) && c) && e) && g) ≡ (((n && (((b && r) && f) && c)) && w) && (e && g))
+  join : (n b r w f c e g : Bool) → (((((((n && b) && r) && w) && f) && c) && e) && g) ≡ ((((n && ((b && f) && c)) && r) && w) && (e && g))
   join false b r w f c e g = refl
   join true false r w f c e g = refl
-  join true true false w f c e g = refl
+  join true true false w false c e g = refl
+  join true true false w true false e g = refl
+  join true true false w true true e g = refl
   join true true true false false c e g = refl
   join true true true false true false e g = refl
   join true true true false true true e g = refl
@@ -351,13 +353,34 @@ module _ (p : Pipe) (flows : Flows p) (st : State) (d : Derived.State) (bits : L
   ports_are ls l later t [] h = refl
   ports_are ls l later t (q ∷ qs) h = ap₂ (λ a b. a && b) (t.port q.mem h.0) (ports_are ls l later t qs h.1)
 
+  -- a memory that it reserves is reserved in its stage
+  reserves_here : (ls : List Live) (l : Live) → Known ls l → ReservesFrom (in_stage l.thread.stage p.stmts) (deeds_of p st bits l).reserves
+  reserves_here ls l k =
+      subst (λ e. ReservesFrom (in_stage l.thread.stage p.stmts) e.reserves) (sym (deeds_are ls l k))
+      (reserves_from (in_stage l.thread.stage p.stmts) (word_for st l.number) (in_stage l.thread.stage p.stmts) (start_deeds p flows l.env (now_of p d bits l) (keeps_now l k.seated)) (λ m h. h) tt)
+
+  rooms_are : (ls : List Live) (l : Live) → Known ls l → (rs : List Reserved) → ReservesFrom (in_stage l.thread.stage p.stmts) rs
+      → list_all (λ r. has_room (mem_at p r.mem).lock (reserves_of r.mem (deeds_of p st bits l).reserves) (length (lock_of st r.mem))) rs
+      ≡ list_all (λ r. has_room (mem_at p r.mem).lock (reserves_of r.mem (deeds_of p st bits l).reserves) (pending (befores (dacts p d bits ls)) r.mem)) rs
+  rooms_are ls l k [] h = refl
+  rooms_are ls l k (r ∷ rs) h =
+      ap₂ (λ n b. has_room (mem_at p r.mem).lock (reserves_of r.mem (deeds_of p st bits l).reserves) n && b) (sym (k.room r.mem here)) (rooms_are ls l k rs h.1)
+    where
+      here : l.thread.stage ≡ reserve_stage p r.mem
+      here = by (l.thread.stage == reserve_stage p r.mem) refl
+        where
+          by : (b : Bool) → (l.thread.stage == reserve_stage p r.mem) ≡ b → l.thread.stage ≡ reserve_stage p r.mem
+          by true e = eqb-true _ _ e
+          by false e = absurd (cc (sym (none_in_stage (is_reserve r.mem) (reserve_stage p r.mem) l.thread.stage p.stmts (flows.reserves r.mem) (eqb-false _ _ e)) ∙ h.0))
+
   moves_are : (ls : List Live) (l : Live) (later : List Moves.Act) → Known ls l → Tells ls l later
       → Moves.may_move p st bits later l.thread.stage (with_answers p st bits (seat l)) (deeds_of p st bits l) ≡ (did p d bits ls l).moves
   moves_are ls l later k t =
       (λ i. (((((((t.fails i && Moves.blocks_ready p st l.number (deeds_of p st bits l)) && Moves.have_room p st (deeds_of p st bits l)) && Moves.is_empty (k.waits i)) && ports_are ls l later t (deeds_of p st bits l).asks (asks_here ls l k) i) && t.clear i) && Moves.can_enter (next_stage p l.thread.stage (deeds_of p st bits l)) later) && Moves.merges_well p st l.thread.stage (next_stage p l.thread.stage (deeds_of p st bits l))))
       ∙ join (list_all (λ (o : Derived.Act). not (o.moves && o.work.fails)) (dacts p d bits ls)) (Moves.blocks_ready p st l.number (deeds_of p st bits l)) (Moves.have_room p st (deeds_of p st bits l)) (Moves.is_empty (still p bits l.thread.awaits)) (list_all (λ q. port_free p d bits (dacts p d bits ls) q.mem) (deeds_of p st bits l).asks) (not (deeds_of p st bits l).barrier || (around p d bits (dacts p d bits ls) l.thread.stage).clear) (Moves.can_enter (next_stage p l.thread.stage (deeds_of p st bits l)) later) (Moves.merges_well p st l.thread.stage (next_stage p l.thread.stage (deeds_of p st bits l)))
-      ∙ ap (λ x. ((list_all (λ (o : Derived.Act). not (o.moves && o.work.fails)) (dacts p d bits ls) && (((Moves.blocks_ready p st l.number (deeds_of p st bits l) && Moves.have_room p st (deeds_of p st bits l)) && list_all (λ q. port_free p d bits (dacts p d bits ls) q.mem) (deeds_of p st bits l).asks) && (not (deeds_of p st bits l).barrier || (around p d bits (dacts p d bits ls) l.thread.stage).clear))) && Moves.is_empty (still p bits l.thread.awaits)) && x) t.enters
-      ∙ ap (λ (v : Work). ((list_all (λ (o : Derived.Act). not (o.moves && o.work.fails)) (dacts p d bits ls) && v.ready) && Moves.is_empty (still p bits l.thread.awaits)) && Derived.can_enter p (dacts p d bits ls) (goes_to (stage_at p l.thread.stage).next v.env)) (sym (told_here ls l k).is)
+      ∙ ap₂ (λ r x. (((list_all (λ (o : Derived.Act). not (o.moves && o.work.fails)) (dacts p d bits ls) && ((Moves.blocks_ready p st l.number (deeds_of p st bits l) && list_all (λ q. port_free p d bits (dacts p d bits ls) q.mem) (deeds_of p st bits l).asks) && (not (deeds_of p st bits l).barrier || (around p d bits (dacts p d bits ls) l.thread.stage).clear))) && r) && Moves.is_empty (still p bits l.thread.awaits)) && x)
+      (rooms_are ls l k (deeds_of p st bits l).reserves (reserves_here ls l k)) t.enters
+      ∙ ap (λ (v : Work). (((list_all (λ (o : Derived.Act). not (o.moves && o.work.fails)) (dacts p d bits ls) && v.ready) && Derived.have_room p (befores (dacts p d bits ls)) v) && Moves.is_empty (still p bits l.thread.awaits)) && Derived.can_enter p (dacts p d bits ls) (goes_to (stage_at p l.thread.stage).next v.env)) (sym (told_here ls l k).is)
 
   -- the stated act is the one that the derived machine decides
   pub act_is : (ls : List Live) (l : Live) (later : List Moves.Act) → Known ls l → Tells ls l later → Moves.act p st bits later l.thread.stage (with_answers p st bits (seat l)) ≡ lact p st d bits ls l

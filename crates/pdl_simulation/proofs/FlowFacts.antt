@@ -5,7 +5,8 @@ use Rattle.pdl_semantics.specs.Stages.{onpath, in_stage, stage_at, is_inside, go
 use Rattle.pdl_semantics.specs.Cycle.{merges_by}
 use Rattle.pdl_semantics.specs.Sound.{stages_before, stages_from, is_fetch, is_call, is_delayed_read}
 pub use Rattle.pdl_facts.specs.Graphs.{stage_or, next_of, on_side}
-use Rattle.pdl_facts.specs.Scans.{Phase, Fresh, next_phase, holds_location, is_fresh, is_over, phase_all, all_at, none_of, binds_var, is_fixed}
+use Rattle.pdl_derived.specs.Alone.{is_among}
+use Rattle.pdl_facts.specs.Scans.{Phase, Fresh, next_phase, may_write, is_new, is_over, phase_all, all_at, none_of, binds_var, is_fixed}
 pub use Rattle.pdl_facts.specs.Facts.{trunk_only, binds_guard, is_fetch_of, comes_by, visits_stage}
 
 -- a statement that gives variable x its value in its own stage
@@ -19,11 +20,11 @@ abbrev pub at_most_one : (Op → Bool) → List Stmt → Bool
 at_most_one test [] = true
 at_most_one test (x ∷ xs) = if test x.op then none_of test xs else at_most_one test xs
 
--- a statement in this phase of the lock of m: a write goes through the one reservation that has no value yet, and no release precedes the write
+-- a statement in this phase of the lock of m: a write goes through the oldest reservation that has no value yet, no location is reserved twice, and no release precedes its write
 abbrev pub use_ok : ℕ → Phase → Op → Bool
-use_ok m ph (Write n a e) = not (n == m) || holds_location ph a
-use_ok m ph (ReserveWrite n a) = not (n == m) || is_fresh ph
-use_ok m ph (Release n a) = not (n == m) || not (holds_location ph a)
+use_ok m ph (Write n a e) = not (n == m) || may_write ph a
+use_ok m ph (ReserveWrite n a) = not (n == m) || is_new ph a
+use_ok m ph (Release n a) = not (n == m) || not (is_among a ph.open)
 use_ok m ph _ = true
 
 abbrev pub uses_ok : ℕ → Phase → List Stmt → Bool

@@ -344,7 +344,7 @@ module _ (p : Pipe) (flows : Flows p) where
         keeps_moved : (q : ℕ) → goes_to (stage_at p l.thread.stage).next (work_of_live p d bits ls l).env ≡ Some q → Keeps p (work_of_live p d bits ls l).env (moved_one q l (work_of_live p d bits ls l)).thread
         keeps_moved q i =
             keeps_next p flows l.env (now_of p d bits l) (keeps_now p flows st d bits arrays l k.0.seated) (around p d bits (dacts p d bits ls) l.thread.stage) (Machine.word_for st l.number) (λ b. block_ready p st l.number b)
-            (λ r. has_room (mem_at p r.mem).lock (length (Machine.lock_of st r.mem))) (λ q. Derived.port_free p d bits (dacts p d bits ls) q.mem) (fit_all p flows st d bits arrays ls l k.0) q i
+            (λ q. Derived.port_free p d bits (dacts p d bits ls) q.mem) (fit_all p flows st d bits arrays ls l k.0) q i
 
     pub ways_next : (ls : List Live) → AllKnown p flows st d bits arrays ls → Each OnWay (lives_next p flows st d bits arrays ls)
     ways_next ls k = at (made p flows st d bits arrays ls)

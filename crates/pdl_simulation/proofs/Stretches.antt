@@ -1,11 +1,12 @@
 -- What a stage does to a thread: to its pending writes, its values and its successor.
-use Rattle.std.proofs.Common.{◌≡◌, refl, sym, ap, ap₂, ◌∙◌, subst, ℕ, ◌≤◌, ◌<◌, ◌⊎◌, inl, inr, Bool, true, false, ◌&&◌, ◌||◌, not, List, [], ◌∷◌, ◌++◌, length, Option, Some, None, is_some, ◌==◌, cond, if◌then◌else◌, arith, slice_index, slice_set, le_refl}
+use Rattle.std.proofs.Common.{◌≡◌, refl, sym, ap, ap₂, ◌∙◌, subst, ℕ, ◌≤◌, ◌<◌, ◌⊎◌, inl, inr, Bool, true, false, ◌&&◌, ◌||◌, not, List, [], ◌∷◌, ◌++◌, length, Option, Some, None, is_some, ◌==◌, cond, if◌then◌else◌, arith, slice_index, slice_set, le_refl, eq-eqb}
 use Rattle.std.proofs.lemmas.List.{get_or-set_other}
+use Rattle.std.proofs.lemmas.Bool.{eqb-true, eqb-false}
 use Rattle.std.proofs.lemmas.Bool.Decides.{eqb_tells}
 use Rattle.pdl_semantics.specs.Flat.{Commit, of_mem, Op, Bind, CombRead, DelayedRead, Write, ReserveWrite, Release, Call, SpecCall, Verify, Stmt, Branch, Pipe, value_of, values_of, all_hold}
 use Rattle.pdl_semantics.specs.Stages.{onpath, in_stage, stage_at, goes_to, is_reserve, is_release, reserve_stage, commit_stage}
 use Rattle.pdl_semantics.specs.Machine.{Ask, Awaited, same_args, is_answered, Pending, Blocked, Reserved, Deeds, held_before, deeds_after_all, is_held}
-use Rattle.pdl_semantics.specs.Cycle.{awaited_of}
+use Rattle.pdl_semantics.specs.Cycle.{awaited_of, releases_of}
 use Rattle.pdl_semantics.specs.Sound.{stages_before, stages_from, is_call, is_delayed_read}
 use Rattle.pdl_semantics.specs.Machine
 use Rattle.pdl_derived.specs.Derived.{Entry, Work, Around, work_after, do_all, work_of_stage, still, with_answers, answered_thread}
@@ -19,49 +20,49 @@ use Rattle.pdl_turns.proofs.Paths.{Fixed, none_onpath}
 use Rattle.pdl_derived.proofs.Deeds.{places, places_has, work_of, AllFit, told_step}
 use Rattle.pdl_derived.proofs.Lists.{pend}
 use Rattle.pdl_turns.proofs.Steps.{Here, step_write, step_reserve, step_release}
-use Rattle.pdl_turns.proofs.Own.{Worked, worked}
-use Rattle.pdl_simulation.proofs.Shapes.{Shape, shape_over, shape_start, shape_end, uses_front, uses_back, called_append, calls_front, calls_back, none_before, none_till, fixed_to, stays_fresh, over_early, held_ops, held_append, held_path, held_work}
+use Rattle.pdl_turns.proofs.Own.{Worked, worked, quiet_releases}
+use Rattle.pdl_simulation.proofs.Shapes.{Shape, shape_over, shape_none, shape_fresh, shape_start, shape_end, uses_front, uses_back, called_append, calls_front, calls_back, none_before, none_till, fixed_to, stays_fresh, over_early, held_ops, held_append, held_path, held_work}
 use Rattle.pdl_turns.proofs.Pending.{phase_append}
 use Rattle.pdl_turns.proofs.OfStage.{fixed_stage}
-use Rattle.pdl_turns.proofs.Turn.{none_from}
+use Rattle.pdl_turns.proofs.Turn.{none_from, none_in_stage}
 
 -- WHAT A STAGE DOES
 
 -- to the pending writes of m
-module _ (o : Around) (read : ℕ → ℕ → ℕ) (block : Blocked → Bool) (room : Reserved → Bool) (free : Ask → Bool) (m n : ℕ) (start : List Pending) where
+module _ (o : Around) (read : ℕ → ℕ → ℕ) (block : Blocked → Bool) (free : Ask → Bool) (m n : ℕ) (start : List Pending) where
   step_op : (op : Op) (ph : Phase) (d : Deeds) (es : List Entry) (cs : List Commit) → places es ≡ d.held → use_ok m ph op ≡ true
-      → Here o read block room free m n start ph d (work_of o read block room free d es cs)
-      → Here o read block room free m n start (next_phase m ph op) (Machine.deeds_after read op d) (work_after o op (work_of o read block room free d es cs))
+      → Here o read block free m n start ph d (work_of o read block free d es cs)
+      → Here o read block free m n start (next_phase m ph op) (Machine.deeds_after read op d) (work_after o op (work_of o read block free d es cs))
   step_op (Write j a e) ph d es cs h k g = step_write m n j a (value_of e d.env) ph es (of_mem m cs) _ d.writes _ (j == m) refl k g
   step_op (ReserveWrite j a) ph d es cs h k g = step_reserve m n j a (slice_index d.env a) ph es (of_mem m cs) start d.reserves d.writes _ (j == m) refl k g
   step_op (Release j a) ph d es cs h k g = step_release m n j a ph es cs _ d.writes d.releases (is_held d.held j a) (ap (λ l. is_held l j a) (sym h) ∙ places_has es j a) (j == m) refl k g
   step_op (Verify args) ph d es cs h k g = at (same_args (values_of args d.env) d.guess)
     where
-      at : (b : Bool) → Here o read block room free m n start ph (cond b d (record d { child = Some (values_of args d.env); fails = true })) (cond b (work_of o read block room free d es cs) (record (work_of o read block room free d es cs) { child = Some (values_of args d.env); fails = true }))
+      at : (b : Bool) → Here o read block free m n start ph (cond b d (record d { child = Some (values_of args d.env); fails = true })) (cond b (work_of o read block free d es cs) (record (work_of o read block free d es cs) { child = Some (values_of args d.env); fails = true }))
       at true = g
       at false = g
   step_op _ ph d es cs h k g = g
 
   step_if : (b : Bool) (op : Op) (ph : Phase) (d : Deeds) (es : List Entry) (cs : List Commit) → places es ≡ d.held → (b ≡ true → use_ok m ph op ≡ true)
-      → Here o read block room free m n start ph d (work_of o read block room free d es cs)
-      → Here o read block room free m n start (cond b (next_phase m ph op) ph) (cond b (Machine.deeds_after read op d) d) (cond b (work_after o op (work_of o read block room free d es cs)) (work_of o read block room free d es cs))
+      → Here o read block free m n start ph d (work_of o read block free d es cs)
+      → Here o read block free m n start (cond b (next_phase m ph op) ph) (cond b (Machine.deeds_after read op d) d) (cond b (work_after o op (work_of o read block free d es cs)) (work_of o read block free d es cs))
   step_if true op ph d es cs h k g = step_op op ph d es cs h (k refl) g
   step_if false op ph d es cs h k g = g
 
   -- the statements of a stage
-  steps_all : (path : List ℕ) (xs : List Stmt) (ph : Phase) (d : Deeds) (es : List Entry) (cs : List Commit) → places es ≡ d.held → AllFit o read block room free xs
-      → Fixed path o xs (work_of o read block room free d es cs) → uses_ok m ph (onpath path xs) ≡ true → Here o read block room free m n start ph d (work_of o read block room free d es cs)
-      → Here o read block room free m n start (phase_all m ph (onpath path xs)) (deeds_after_all read xs d) (do_all o xs (work_of o read block room free d es cs))
+  steps_all : (path : List ℕ) (xs : List Stmt) (ph : Phase) (d : Deeds) (es : List Entry) (cs : List Commit) → places es ≡ d.held → AllFit o read block free xs
+      → Fixed path o xs (work_of o read block free d es cs) → uses_ok m ph (onpath path xs) ≡ true → Here o read block free m n start ph d (work_of o read block free d es cs)
+      → Here o read block free m n start (phase_all m ph (onpath path xs)) (deeds_after_all read xs d) (do_all o xs (work_of o read block free d es cs))
   steps_all path [] ph d es cs h f q k g = g
   steps_all path (x ∷ xs) ph d es cs h f q k g =
-      let t = told_step o read block room free (all_hold x.guards d.env) x.op d es cs h f.0 in
-      let w' : Work = cond (all_hold x.guards d.env) (work_after o x.op (work_of o read block room free d es cs)) (work_of o read block room free d es cs) in
+      let t = told_step o read block free (all_hold x.guards d.env) x.op d es cs h f.0 in
+      let w' : Work = cond (all_hold x.guards d.env) (work_after o x.op (work_of o read block free d es cs)) (work_of o read block free d es cs) in
       let ok = allowed (all_hold x.guards d.env) (all_hold x.guards path) q.0 k in
       let r = steps_all path xs (cond (all_hold x.guards d.env) (next_phase m ph x.op) ph) (if all_hold x.guards d.env then Machine.deeds_after read x.op d else d) w'.entries w'.commits t.held f.1
       (subst (λ w. Fixed path o xs w) t.is q.1) ok.1
-      (subst (λ w. Here o read block room free m n start (cond (all_hold x.guards d.env) (next_phase m ph x.op) ph) (if all_hold x.guards d.env then Machine.deeds_after read x.op d else d) w) t.is (step_if (all_hold x.guards d.env) x.op ph d es cs h ok.0 g)) in
-      subst (λ u. Here o read block room free m n start u (deeds_after_all read xs (if all_hold x.guards d.env then Machine.deeds_after read x.op d else d)) (do_all o xs w')) ok.2
-      (subst (λ w. Here o read block room free m n start (phase_all m (cond (all_hold x.guards d.env) (next_phase m ph x.op) ph) (onpath path xs)) (deeds_after_all read xs (if all_hold x.guards d.env then Machine.deeds_after read x.op d else d)) (do_all o xs w)) (sym t.is) r)
+      (subst (λ w. Here o read block free m n start (cond (all_hold x.guards d.env) (next_phase m ph x.op) ph) (if all_hold x.guards d.env then Machine.deeds_after read x.op d else d) w) t.is (step_if (all_hold x.guards d.env) x.op ph d es cs h ok.0 g)) in
+      subst (λ u. Here o read block free m n start u (deeds_after_all read xs (if all_hold x.guards d.env then Machine.deeds_after read x.op d else d)) (do_all o xs w')) ok.2
+      (subst (λ w. Here o read block free m n start (phase_all m (cond (all_hold x.guards d.env) (next_phase m ph x.op) ph) (onpath path xs)) (deeds_after_all read xs (if all_hold x.guards d.env then Machine.deeds_after read x.op d else d)) (do_all o xs w)) (sym t.is) r)
     where
       allowed : (b c : Bool) → b ≡ c → uses_ok m ph (cond c (record x { guards = [] } ∷ onpath path xs) (onpath path xs)) ≡ true
           → (b ≡ true → use_ok m ph x.op ≡ true) × (uses_ok m (cond b (next_phase m ph x.op) ph) (onpath path xs) ≡ true) × (phase_all m (cond b (next_phase m ph x.op) ph) (onpath path xs) ≡ phase_all m ph (cond c (record x { guards = [] } ∷ onpath path xs) (onpath path xs)))
@@ -134,6 +135,41 @@ only_asks path o (x ∷ xs) w f g h = at (all_hold x.guards w.env) (all_hold x.g
     at true false e k r = absurd (cc e)
     at false true e k r = absurd (cc e)
     at false false e k r = r k
+
+-- a memory that is reserved for writing is one that a statement of the stage reserves
+abbrev pub ReservesFrom : List Stmt → List Reserved → Type 0
+ReservesFrom all [] = Unit {0}
+ReservesFrom all (r ∷ rs) = (none_of (is_reserve r.mem) all ≡ false) × ReservesFrom all rs
+
+reserved_op : (all : List Stmt) (read : ℕ → ℕ → ℕ) (op : Op) (d : Deeds) → ((m : ℕ) → not (is_reserve m op) ≡ false → none_of (is_reserve m) all ≡ false) → ReservesFrom all d.reserves → ReservesFrom all (Machine.deeds_after read op d).reserves
+reserved_op all read (ReserveWrite m a) d f h = more d.reserves h
+  where
+    more : (rs : List Reserved) → ReservesFrom all rs → ReservesFrom all (rs ++ record { mem = m; var = a; address = slice_index d.env a } ∷ [])
+    more [] g = (f m (ap not (eq-eqb m m refl)), tt)
+    more (r ∷ rs) g = (g.0, more rs g.1)
+reserved_op all read (Verify args) d f h = at (same_args (values_of args d.env) d.guess)
+  where
+    at : (b : Bool) → ReservesFrom all (cond b d (record d { child = Some (values_of args d.env); fails = true })).reserves
+    at true = h
+    at false = h
+reserved_op all read _ d f h = h
+
+pub reserves_from : (all : List Stmt) (read : ℕ → ℕ → ℕ) (xs : List Stmt) (d : Deeds) → ((m : ℕ) → none_of (is_reserve m) xs ≡ false → none_of (is_reserve m) all ≡ false) → ReservesFrom all d.reserves → ReservesFrom all (deeds_after_all read xs d).reserves
+reserves_from all read [] d f h = h
+reserves_from all read (x ∷ xs) d f h =
+    reserves_from all read xs (if all_hold x.guards d.env then Machine.deeds_after read x.op d else d) (λ m k. f m (behind (not (is_reserve m x.op)) k)) (at (all_hold x.guards d.env))
+  where
+    behind : (b : Bool) {c : Bool} → c ≡ false → (b && c) ≡ false
+    behind true k = k
+    behind false k = refl
+
+    front : (b : Bool) {c : Bool} → b ≡ false → (b && c) ≡ false
+    front true k = absurd (cc k)
+    front false k = refl
+
+    at : (b : Bool) → ReservesFrom all (cond b (Machine.deeds_after read x.op d) d).reserves
+    at true = reserved_op all read x.op d (λ m k. f m (front (not (is_reserve m x.op)) k)) h
+    at false = h
 
 -- a memory that is asked for is one that a statement of the stage reads
 abbrev pub AsksFrom : List Stmt → List Ask → Type 0
@@ -340,7 +376,7 @@ keeps_answered p d bits env t k =
 -- the work with which a thread's stage begins
 abbrev pub start_of : Derived.Thread → Work
 start_of t =
-    record { env = t.env; entries = t.entries; guess = t.guess; asks = []; commits = []; child = None; fails = false; ready = true }
+    record { env = t.env; entries = t.entries; guess = t.guess; asks = []; reserves = []; commits = []; child = None; fails = false; ready = true }
 
 module _ (p : Pipe) (flows : Flows p) (env : List ℕ) (t : Derived.Thread) (k : Keeps p env t) where
   -- the deeds with which its stage begins
@@ -390,8 +426,16 @@ module _ (p : Pipe) (flows : Flows p) (env : List ℕ) (t : Derived.Thread) (k :
   over_end : (path : List ℕ) (s m : ℕ) → s ≡ length p.stages → is_over (phase_all m Fresh (on_way p path s)) ≡ true
   over_end path s m e = subst (λ q. is_over q ≡ true) (ap (phase_all m Fresh) (sym (ap (on_way p path) e ∙ flows.whole path))) (flows.over path m)
 
+  -- it goes on to a greater stage
+  stage_up : (path : List ℕ) → t.stage < next_of p t.stage path
+  stage_up path = at (goes_to (stage_at p t.stage).next path) refl
+    where
+      at : (r : Option ℕ) → goes_to (stage_at p t.stage).next path ≡ r → t.stage < stage_or (length p.stages) r
+      at None e = k.inside
+      at (Some q) e = (flows.graph.up t.stage q (path, e, k.inside)).0
+
   no_entry : (m : ℕ) → none_of (is_reserve m) (on_way p env t.stage) ≡ true → entries_of m t.entries ≡ []
-  no_entry m h = subst (λ q. Shape m q (entries_of m t.entries)) (stays_fresh m (on_way p env t.stage) (uses_way env t.stage m) h) (k.shape m)
+  no_entry m h = shape_none m _ (subst (λ q. Shape m q (entries_of m t.entries)) (stays_fresh m (on_way p env t.stage) (uses_way env t.stage m) h) (k.shape m))
 
   -- it has no entry of m before the stage of the reserves and after that of the releases
   pub early : (m : ℕ) → t.stage ≤ reserve_stage p m → entries_of m t.entries ≡ []
@@ -404,17 +448,22 @@ module _ (p : Pipe) (flows : Flows p) (env : List ℕ) (t : Derived.Thread) (k :
   late m h = shape_over m _ _ (over_at env t.stage m h) (k.shape m)
 
   -- its work on the entries of m
-  module _ (o : Around) (read : ℕ → ℕ → ℕ) (block : Blocked → Bool) (room : Reserved → Bool) (free : Ask → Bool) (fit : AllFit o read block room free (in_stage t.stage p.stmts)) (m n : ℕ) where
-    here : Here o read block room free m n (pend m n t.entries) (phase_all m Fresh (on_way p (work_of_stage p o t).env (next_of p t.stage (work_of_stage p o t).env))) (deeds_after_all read (in_stage t.stage p.stmts) start_deeds) (work_of_stage p o t)
+  module _ (o : Around) (read : ℕ → ℕ → ℕ) (block : Blocked → Bool) (free : Ask → Bool) (fit : AllFit o read block free (in_stage t.stage p.stmts)) (m n : ℕ) where
+    here : Here o read block free m n (pend m n t.entries) (phase_all m Fresh (on_way p (work_of_stage p o t).env (next_of p t.stage (work_of_stage p o t).env))) (deeds_after_all read (in_stage t.stage p.stmts) start_deeds) (work_of_stage p o t)
     here =
-        subst (λ q. Here o read block room free m n (pend m n t.entries) q (deeds_after_all read (in_stage t.stage p.stmts) start_deeds) (work_of_stage p o t))
+        subst (λ q. Here o read block free m n (pend m n t.entries) q (deeds_after_all read (in_stage t.stage p.stmts) start_deeds) (work_of_stage p o t))
         (sym (ap (phase_all m Fresh) (way_next o) ∙ phase_append m (on_way p env t.stage) _ Fresh))
-        (steps_all o read block room free m n (pend m n t.entries) (work_of_stage p o t).env (in_stage t.stage p.stmts) (phase_all m Fresh (on_way p env t.stage)) start_deeds t.entries [] k.held fit (fixed_here o)
+        (steps_all o read block free m n (pend m n t.entries) (work_of_stage p o t).env (in_stage t.stage p.stmts) (phase_all m Fresh (on_way p env t.stage)) start_deeds t.entries [] k.held fit (fixed_here o)
         (uses_back m (on_way p env t.stage) (onpath (work_of_stage p o t).env (in_stage t.stage p.stmts)) Fresh (subst (λ l. uses_ok m Fresh l ≡ true) (way_next o) (uses_way (work_of_stage p o t).env (next_of p t.stage (work_of_stage p o t).env) m)))
         (shape_start m n _ t.entries (k.shape m)))
 
     pub stage_worked : Worked m n (pend m n t.entries) (deeds_after_all read (in_stage t.stage p.stmts) start_deeds) (work_of_stage p o t)
-    stage_worked = worked m n _ _ _ _ here
+    stage_worked = worked m n _ _ _ _ here (by (t.stage == commit_stage p m) refl)
+      where
+        by : (b : Bool) → (t.stage == commit_stage p m) ≡ b
+            → (releases_of m (deeds_after_all read (in_stage t.stage p.stmts) start_deeds).releases ≡ 0) ⊎ (is_over (phase_all m Fresh (on_way p (work_of_stage p o t).env (next_of p t.stage (work_of_stage p o t).env))) ≡ true)
+        by true e = inr (over_at _ _ m (subst (λ s. s < next_of p t.stage (work_of_stage p o t).env) (eqb-true _ _ e) (stage_up (work_of_stage p o t).env)))
+        by false e = inl (quiet_releases m read (in_stage t.stage p.stmts) start_deeds (none_in_stage (is_release m) (commit_stage p m) t.stage p.stmts (flows.releases m) (eqb-false _ _ e)) refl)
 
     stage_shape : Shape m (phase_all m Fresh (on_way p (work_of_stage p o t).env (next_of p t.stage (work_of_stage p o t).env))) (entries_of m (work_of_stage p o t).entries)
     stage_shape = shape_end m n _ _ _ _ _ _ here
@@ -442,9 +491,9 @@ module _ (p : Pipe) (flows : Flows p) (env : List ℕ) (t : Derived.Thread) (k :
   fetched_asks s q l (x ∷ qs) h = ((s, l, h.0), fetched_asks s q l qs h.1)
 
   -- it keeps to its way in the next stage
-  pub keeps_next : (o : Around) (read : ℕ → ℕ → ℕ) (block : Blocked → Bool) (room : Reserved → Bool) (free : Ask → Bool) → AllFit o read block room free (in_stage t.stage p.stmts) → (q : ℕ) → goes_to (stage_at p t.stage).next (work_of_stage p o t).env ≡ Some q
+  pub keeps_next : (o : Around) (read : ℕ → ℕ → ℕ) (block : Blocked → Bool) (free : Ask → Bool) → AllFit o read block free (in_stage t.stage p.stmts) → (q : ℕ) → goes_to (stage_at p t.stage).next (work_of_stage p o t).env ≡ Some q
       → Keeps p (work_of_stage p o t).env (record { stage = q; env = (work_of_stage p o t).env; entries = (work_of_stage p o t).entries; guess = (work_of_stage p o t).guess; awaits = awaited_of (work_of_stage p o t).asks })
-  keeps_next o read block room free fit q goes =
+  keeps_next o read block free fit q goes =
       subst (λ n. Keeps p (work_of_stage p o t).env (record { stage = n; env = (work_of_stage p o t).env; entries = (work_of_stage p o t).entries; guess = (work_of_stage p o t).guess; awaits = awaited_of (work_of_stage p o t).asks })) is
       (record {
         inside = subst (λ n. n < length p.stages) (sym is) (flows.graph.up t.stage q leads).1;
@@ -452,7 +501,7 @@ module _ (p : Pipe) (flows : Flows p) (env : List ℕ) (t : Derived.Thread) (k :
             held_work (work_of_stage p o t).env o (in_stage t.stage p.stmts) (start_of t) (fixed_here o)
             ∙ ap (held_ops (onpath (work_of_stage p o t).env (in_stage t.stage p.stmts))) (k.held ∙ held_path t.stage env p.stmts [])
             ∙ sym (held_path (next_of p t.stage (work_of_stage p o t).env) (work_of_stage p o t).env p.stmts [] ∙ ap (λ l. held_ops l []) (way_next o) ∙ held_append (on_way p env t.stage) _ []);
-        shape = λ m. stage_shape o read block room free fit m 0;
+        shape = λ m. stage_shape o read block free fit m 0;
         reached = subst (λ n. visits_stage p (work_of_stage p o t).env n ≡ true) (sym is) (flows.arrives (work_of_stage p o t).env t.stage q k.inside goes (reached_on o));
         path = λ env' u. flows.settled t.stage env' (work_of_stage p o t).env k.inside (reached_on o) (λ g h. sym (u g (only_asks (work_of_stage p o t).env o (in_stage t.stage p.stmts) (start_of t) (fixed_here o) g h)));
         fetched = fetched_asks t.stage (next_of p t.stage (work_of_stage p o t).env) (subst (λ n. Leads p t.stage n) (sym is) leads) (work_of_stage p o t).asks (asks_from (in_stage t.stage p.stmts) o (in_stage t.stage p.stmts) (start_of t) (λ m h. h) tt);
@@ -470,7 +519,7 @@ keeps_fresh p flows args =
     record {
       inside = flows.graph.some_stage;
       held = sym (held_path 0 _ p.stmts [] ∙ ap (λ l. held_ops l []) (flows.first_piece _));
-      shape = λ m. subst (λ l. Shape m (phase_all m Fresh l) []) (sym (flows.first_piece (Derived.fresh p args).env)) refl;
+      shape = λ m. subst (λ l. Shape m (phase_all m Fresh l) []) (sym (flows.first_piece (Derived.fresh p args).env)) (shape_fresh m);
       reached = trunk (Derived.fresh p args).env;
       path = λ env' u. (flows.first_piece env' ∙ sym (flows.first_piece _), trunk env' ∙ sym (trunk _));
       fetched = tt;

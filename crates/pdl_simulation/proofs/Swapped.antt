@@ -5,7 +5,7 @@ use Rattle.pdl_semantics.specs.Flat.{Arrays, Pipe, Branch, Mem, Op, ReserveWrite
 use Rattle.pdl_semantics.specs.Stages.{list_any, in_stage, stage_at, goes_to, is_branch_of}
 use Rattle.pdl_semantics.specs.Machine.{Ask, is_answered, Request, NoRequest, State, Pending, Deeds, lock_of, fork_of, request_of, with_answers, deeds_after_all, word_for}
 use Rattle.pdl_semantics.specs.Moves.{movers, next_stage}
-use Rattle.pdl_semantics.specs.Cycle.{new_entries, with_reserves, with_value_of, with_writes_of, with_all_writes, has_release, child_of, squasher, asked_by, asked_of, asked_in, address_of, next_thread, coming_thread, or_then, entered_branches, goes_into, goes_out, for_mems, for_stages, taken_out, list_two, with_commit, with_commits}
+use Rattle.pdl_semantics.specs.Cycle.{new_entries, with_reserves, with_value_of, with_writes_of, with_all_writes, releases_of, all_releases, child_of, squasher, asked_by, asked_of, asked_in, address_of, next_thread, coming_thread, or_then, entered_branches, goes_into, goes_out, for_mems, for_stages, taken_out, list_two, with_commit, with_commits}
 use Rattle.pdl_semantics.specs.Sound.{side_in, is_delayed_read}
 use Rattle.pdl_semantics.specs.Cycle
 use Rattle.pdl_semantics.specs.Machine
@@ -35,44 +35,46 @@ or_swap false true c = refl
 or_swap false false c = refl
 
 -- writes into two threads' entries
-put_swap : (n v k w : ℕ) (xs : List Pending) → (n ≡ k → ⊥) → with_value_of n v (with_value_of k w xs) ≡ with_value_of k w (with_value_of n v xs)
-put_swap n v k w [] h = refl
-put_swap n v k w (e ∷ es) h = ap₂ (λ a l. a ∷ l) (at (e.thread == n) refl (e.thread == k) refl) (put_swap n v k w es h)
-  where
-    at : (b : Bool) → (e.thread == n) ≡ b → (c : Bool) → (e.thread == k) ≡ c
-        → (if (if e.thread == k then record e { value = Some w } else e).thread == n then record (if e.thread == k then record e { value = Some w } else e) { value = Some v } else (if e.thread == k then record e { value = Some w } else e))
-        ≡ (if (if e.thread == n then record e { value = Some v } else e).thread == k then record (if e.thread == n then record e { value = Some v } else e) { value = Some w } else (if e.thread == n then record e { value = Some v } else e))
-    at true i true j = absurd (h (sym (eqb-true _ _ i) ∙ eqb-true _ _ j))
-    at true i false j =
-        (λ u. if (cond (j u) (record e { value = Some w }) e).thread == n then record (cond (j u) (record e { value = Some w }) e) { value = Some v } else (cond (j u) (record e { value = Some w }) e))
-        ∙ ap (λ b. cond b (record e { value = Some v }) e) i
-        ∙ sym ((λ u. if (cond (i u) (record e { value = Some v }) e).thread == k then record (cond (i u) (record e { value = Some v }) e) { value = Some w } else (cond (i u) (record e { value = Some v }) e))
-        ∙ ap (λ b. cond b (record e { value = Some w }) (record e { value = Some v })) j)
-    at false i true j =
-        (λ u. if (cond (j u) (record e { value = Some w }) e).thread == n then record (cond (j u) (record e { value = Some w }) e) { value = Some v } else (cond (j u) (record e { value = Some w }) e))
-        ∙ ap (λ b. cond b (record e { value = Some v }) (record e { value = Some w })) i
-        ∙ sym ((λ u. if (cond (i u) (record e { value = Some v }) e).thread == k then record (cond (i u) (record e { value = Some v }) e) { value = Some w } else (cond (i u) (record e { value = Some v }) e))
-        ∙ ap (λ b. cond b (record e { value = Some w }) e) j)
-    at false i false j =
-        (λ u. if (cond (j u) (record e { value = Some w }) e).thread == n then record (cond (j u) (record e { value = Some w }) e) { value = Some v } else (cond (j u) (record e { value = Some w }) e))
-        ∙ ap (λ b. cond b (record e { value = Some v }) e) i
-        ∙ sym ((λ u. if (cond (i u) (record e { value = Some v }) e).thread == k then record (cond (i u) (record e { value = Some v }) e) { value = Some w } else (cond (i u) (record e { value = Some v }) e))
-        ∙ ap (λ b. cond b (record e { value = Some w }) e) j)
+abbrev put_one : ℕ → ℕ → ℕ → Pending → Pending
+put_one n y v e = if (e.thread == n) && (e.var == y) then record e { value = Some v } else e
 
-put_all_put : (m n k w : ℕ) (ws : List Machine.Written) (xs : List Pending) → (n ≡ k → ⊥) → with_writes_of m n ws (with_value_of k w xs) ≡ with_value_of k w (with_writes_of m n ws xs)
-put_all_put m n k w [] xs h = refl
-put_all_put m n k w (x ∷ ws) xs h = at (x.mem == m) (λ ys. put_all_put m n k w ws ys h)
+put_swap : (n y v k z w : ℕ) (xs : List Pending) → (n ≡ k → ⊥) → with_value_of n y v (with_value_of k z w xs) ≡ with_value_of k z w (with_value_of n y v xs)
+put_swap n y v k z w [] h = refl
+put_swap n y v k z w (e ∷ es) h = ap₂ (λ a l. a ∷ l) (at ((e.thread == n) && (e.var == y)) refl ((e.thread == k) && (e.var == z)) refl) (put_swap n y v k z w es h)
   where
-    at : (b : Bool) → ((ys : List Pending) → with_writes_of m n ws (with_value_of k w ys) ≡ with_value_of k w (with_writes_of m n ws ys)) → with_writes_of m n ws (cond b (with_value_of n x.value (with_value_of k w xs)) (with_value_of k w xs)) ≡ with_value_of k w (with_writes_of m n ws (cond b (with_value_of n x.value xs) xs))
-    at true f = ap (with_writes_of m n ws) (put_swap n x.value k w xs h) ∙ f (with_value_of n x.value xs)
+    first : ((e.thread == n) && (e.var == y)) ≡ false → put_one n y v e ≡ e
+    first i = ap (λ b. cond b (record e { value = Some v }) e) i
+
+    second : ((e.thread == k) && (e.var == z)) ≡ false → put_one k z w e ≡ e
+    second j = ap (λ b. cond b (record e { value = Some w }) e) j
+
+    at : (b : Bool) → ((e.thread == n) && (e.var == y)) ≡ b → (c : Bool) → ((e.thread == k) && (e.var == z)) ≡ c → put_one n y v (put_one k z w e) ≡ put_one k z w (put_one n y v e)
+    at true i true j = absurd (h (sym (eqb-true e.thread n (and_left _ _ i)) ∙ eqb-true e.thread k (and_left _ _ j)))
+    at b i false j = ap (put_one n y v) (second j) ∙ put_after b i
+      where
+        put_after : (b : Bool) → ((e.thread == n) && (e.var == y)) ≡ b → put_one n y v e ≡ put_one k z w (put_one n y v e)
+        put_after true l =
+            ap (λ b. cond b (record e { value = Some v }) e) l
+            ∙ sym (ap (put_one k z w) (ap (λ b. cond b (record e { value = Some v }) e) l) ∙ ap (λ b. cond b (record e { value = Some w }) (record e { value = Some v })) j)
+        put_after false l = first l ∙ sym (ap (put_one k z w) (first l) ∙ second j)
+    at false i true j =
+        ap (put_one n y v) (ap (λ b. cond b (record e { value = Some w }) e) j) ∙ ap (λ b. cond b (record e { value = Some v }) (record e { value = Some w })) i
+        ∙ sym (ap (put_one k z w) (first i) ∙ ap (λ b. cond b (record e { value = Some w }) e) j)
+
+put_all_put : (m n k z w : ℕ) (ws : List Machine.Written) (xs : List Pending) → (n ≡ k → ⊥) → with_writes_of m n ws (with_value_of k z w xs) ≡ with_value_of k z w (with_writes_of m n ws xs)
+put_all_put m n k z w [] xs h = refl
+put_all_put m n k z w (x ∷ ws) xs h = at (x.mem == m) (λ ys. put_all_put m n k z w ws ys h)
+  where
+    at : (b : Bool) → ((ys : List Pending) → with_writes_of m n ws (with_value_of k z w ys) ≡ with_value_of k z w (with_writes_of m n ws ys)) → with_writes_of m n ws (cond b (with_value_of n x.var x.value (with_value_of k z w xs)) (with_value_of k z w xs)) ≡ with_value_of k z w (with_writes_of m n ws (cond b (with_value_of n x.var x.value xs) xs))
+    at true f = ap (with_writes_of m n ws) (put_swap n x.var x.value k z w xs h) ∙ f (with_value_of n x.var x.value xs)
     at false f = f xs
 
 put_all_swap : (m n k : ℕ) (ws vs : List Machine.Written) (xs : List Pending) → (n ≡ k → ⊥) → with_writes_of m n ws (with_writes_of m k vs xs) ≡ with_writes_of m k vs (with_writes_of m n ws xs)
 put_all_swap m n k ws [] xs h = refl
 put_all_swap m n k ws (v ∷ vs) xs h = at (v.mem == m) (λ ys. put_all_swap m n k ws vs ys h)
   where
-    at : (b : Bool) → ((ys : List Pending) → with_writes_of m n ws (with_writes_of m k vs ys) ≡ with_writes_of m k vs (with_writes_of m n ws ys)) → with_writes_of m n ws (with_writes_of m k vs (cond b (with_value_of k v.value xs) xs)) ≡ with_writes_of m k vs (cond b (with_value_of k v.value (with_writes_of m n ws xs)) (with_writes_of m n ws xs))
-    at true f = f (with_value_of k v.value xs) ∙ ap (with_writes_of m k vs) (put_all_put m n k v.value ws xs h)
+    at : (b : Bool) → ((ys : List Pending) → with_writes_of m n ws (with_writes_of m k vs ys) ≡ with_writes_of m k vs (with_writes_of m n ws ys)) → with_writes_of m n ws (with_writes_of m k vs (cond b (with_value_of k v.var v.value xs) xs)) ≡ with_writes_of m k vs (cond b (with_value_of k v.var v.value (with_writes_of m n ws xs)) (with_writes_of m n ws xs))
+    at true f = f (with_value_of k v.var v.value xs) ∙ ap (with_writes_of m k vs) (put_all_put m n k v.var v.value ws xs h)
     at false f = f xs
 
 -- who doesn't ask
@@ -332,14 +334,18 @@ module _ (p : Pipe) (flows : Flows p) (st : State) (d : Derived.State) (bits : L
   same_two : (m : ℕ) (ls : List Live) → Swaps ls → list_two st (movers (acts_of p flows st d bits arrays (sorted ls))) m ≡ list_two st (movers (lacts p st d bits ls)) m
   same_two m ls s = same_filled m (with_reserves m (movers (acts_of p flows st d bits arrays (sorted ls))) (lock_of st m)) ls s ∙ ap (with_all_writes m (movers (lacts p st d bits ls))) (same_appended m (lock_of st m) ls s)
 
-  same_releases : (m : ℕ) (ls : List Live) → Swaps ls → has_release m (movers (acts_of p flows st d bits arrays (sorted ls))) ≡ has_release m (movers (lacts p st d bits ls))
-  same_releases m = same_any (λ a. list_any (λ n. n == m) a.does.releases)
+  same_releases : (m : ℕ) (ls : List Live) → Swaps ls → all_releases m (movers (acts_of p flows st d bits arrays (sorted ls))) ≡ all_releases m (movers (lacts p st d bits ls))
+  same_releases m = same_movers ℕ (all_releases m) (λ a z. z + releases_of m a.does.releases) (λ a rest. refl)
+      (λ x y s z. swapped z (releases_of m (deeds_of p st bits x.live).releases) (releases_of m (deeds_of p st bits y.live).releases))
+    where
+      swapped : (a b c : ℕ) → (a + b) + c ≡ (a + c) + b
+      swapped a b c = omega arith
 
   pub same_taken : (m : ℕ) (ls : List Live) → Swaps ls → taken_out st (movers (acts_of p flows st d bits arrays (sorted ls))) m ≡ taken_out st (movers (lacts p st d bits ls)) m
-  same_taken m ls s = ap₂ (λ b l. if b then Cycle.oldest l else None) (same_releases m ls s) (same_two m ls s)
+  same_taken m ls s = ap₂ take (same_releases m ls s) (same_two m ls s)
 
   same_three : (m : ℕ) (ls : List Live) → Swaps ls → Cycle.list_three st (movers (acts_of p flows st d bits arrays (sorted ls))) m ≡ Cycle.list_three st (movers (lacts p st d bits ls)) m
-  same_three m ls s = ap₂ (λ b l. if b then Cycle.but_oldest l else l) (same_releases m ls s) (same_two m ls s)
+  same_three m ls s = ap₂ drop (same_releases m ls s) (same_two m ls s)
 
   same_commits : (ms ns : List Moves.Act) → ((m : ℕ) → taken_out st ms m ≡ taken_out st ns m) → (k : ℕ) (xs : List Mem) (arrays : Arrays) → with_commits st ms k xs arrays ≡ with_commits st ns k xs arrays
   same_commits ms ns h k [] arrays = refl
@@ -363,7 +369,7 @@ module _ (p : Pipe) (flows : Flows p) (st : State) (d : Derived.State) (bits : L
   same_ports ls s = λ i. record {
     valid = for_stages (λ q. same_any_all (λ a. a.stage == q) ls s i) 0 p.stages;
     moves = for_stages (λ q. same_any (λ a. a.stage == q) ls s i) 0 p.stages;
-    commits = for_mems (λ m. Cycle.port_write (same_taken m ls s i)) 0 p.mems;
+    commits = for_mems (λ m. Cycle.port_writes (same_taken m ls s i)) 0 p.mems;
     requests = for_mems (λ m. same_shown m ls s i) 0 p.mems;
     ended = same_any (λ a. is_none (next_stage p a.stage a.does)) ls s i;
     squash = is_some (same_squasher ls s i);

@@ -5,7 +5,7 @@ use Rattle.pdl_semantics.specs.Flat.{Arrays, Pipe, Branch, Mem, Stage, of_mem, a
 use Rattle.pdl_semantics.specs.Stages.{list_any, stage_at, goes_to, in_stage, is_inside, is_branch_of}
 use Rattle.pdl_semantics.specs.Sound.{side_in, is_delayed_read}
 use Rattle.pdl_semantics.specs.Machine.{Ask, Awaited, Request, NoRequest, Owned, Orphan, is_answered, State, Pending, lock_of, fork_of, request_of, with_kept}
-use Rattle.pdl_semantics.specs.Cycle.{awaited_of, for_mems, for_stages, has_release, oldest, but_oldest, list_two, list_three, taken_out, with_commits, entries_left, request_left, request_next, commit_shown, port_write, is_kept, squasher}
+use Rattle.pdl_semantics.specs.Cycle.{awaited_of, for_mems, for_stages, all_releases, list_two, list_three, taken_out, with_commits, entries_left, request_left, request_next, port_writes, is_kept, squasher}
 use Rattle.pdl_turns.proofs.Released.{released}
 use Rattle.pdl_semantics.specs.Moves.{movers, next_stage}
 use Rattle.pdl_semantics.specs.Promises.{row, wrote}
@@ -87,17 +87,17 @@ module _ (p : Pipe) (flows : Flows p) where
     list_is : (m : ℕ) → list_two st (movers (lacts p st d bits ls)) m ≡ two p flows st d bits sim.arrays m ls
     list_is m = ap (λ l. Cycle.with_all_writes m (movers (lacts p st d bits ls)) (Cycle.with_reserves m (movers (lacts p st d bits ls)) l)) (sim.locks m) ∙ two_is p flows st d bits sim.arrays m st.next ls sim.seated sim.ordered sim.falls
 
-    out : (m : ℕ) → Out m (has_release m (movers (lacts p st d bits ls))) (two p flows st d bits sim.arrays m ls) (three p flows st d bits sim.arrays m ls) (commits_here p flows st d bits sim.arrays m ls)
+    out : (m : ℕ) → Out m (all_releases m (movers (lacts p st d bits ls))) (two p flows st d bits sim.arrays m ls) (three p flows st d bits sim.arrays m ls) (commits_here p flows st d bits sim.arrays m ls)
     out m = three_is p flows st d bits sim.arrays m ls known sim.ordered
 
     list_next : (m : ℕ) → list_three st (movers (lacts p st d bits ls)) m ≡ three p flows st d bits sim.arrays m ls
-    list_next m = ap (λ l. cond (has_release m (movers (lacts p st d bits ls))) (but_oldest l) l) (list_is m) ∙ (out m).left
+    list_next m = ap (drop (all_releases m (movers (lacts p st d bits ls)))) (list_is m) ∙ (out m).left
 
     pub commits_are : (m : ℕ) → of_mem m (commits_of (rev (dacts p d bits ls))) ≡ released m (taken_out st (movers (lacts p st d bits ls)) m)
-    commits_are m = (out m).shows ∙ ap (λ l. released m (cond (has_release m (movers (lacts p st d bits ls))) (oldest l) None)) (sym (list_is m))
+    commits_are m = (out m).shows ∙ ap (λ l. released m (take (all_releases m (movers (lacts p st d bits ls))) l)) (sym (list_is m))
 
-    pub never : (m : ℕ) → length p.mems ≤ m → taken_out st (movers (lacts p st d bits ls)) m ≡ None
-    never m i = ap (λ b. cond b (oldest (list_two st (movers (lacts p st d bits ls)) m)) None) (unreleased p flows st d bits sim.arrays m ls known (flows.unreleased m i))
+    pub never : (m : ℕ) → length p.mems ≤ m → taken_out st (movers (lacts p st d bits ls)) m ≡ []
+    never m i = ap (λ b. take b (list_two st (movers (lacts p st d bits ls)) m)) (unreleased p flows st d bits sim.arrays m ls known (flows.unreleased m i))
 
     arrays_next : with_commits st (movers (lacts p st d bits ls)) 0 p.mems st.arrays ≡ after_commits d.arrays (commits_of (rev (dacts p d bits ls)))
     arrays_next = λ i n. each n i
@@ -401,15 +401,15 @@ module _ (p : Pipe) (flows : Flows p) where
           wait = ap (Cycle.waits_from p bits 0) sim.requests ∙ waits_are (request_of st) (asked_at d) outstanding 0 p.mems ∙ ap (Derived.waits_from p bits 0) (sym sim.asked);
         }))
       where
-        commits_shown : (m : ℕ) → commit_shown m (slice_index_or (for_mems (λ j. port_write (taken_out st (movers (lacts p st d bits ls)) j)) 0 p.mems) m None) ≡ of_mem m (commits_of (rev (dacts p d bits ls)))
+        commits_shown : (m : ℕ) → Cycle.commits_shown m (slice_index_or (for_mems (λ j. port_writes (taken_out st (movers (lacts p st d bits ls)) j)) 0 p.mems) m []) ≡ of_mem m (commits_of (rev (dacts p d bits ls)))
         commits_shown m = at (nat_lt m (length p.mems)) refl
           where
-            at : (b : Bool) → nat_lt m (length p.mems) ≡ b → commit_shown m (slice_index_or (for_mems (λ j. port_write (taken_out st (movers (lacts p st d bits ls)) j)) 0 p.mems) m None) ≡ of_mem m (commits_of (rev (dacts p d bits ls)))
+            at : (b : Bool) → nat_lt m (length p.mems) ≡ b → Cycle.commits_shown m (slice_index_or (for_mems (λ j. port_writes (taken_out st (movers (lacts p st d bits ls)) j)) 0 p.mems) m []) ≡ of_mem m (commits_of (rev (dacts p d bits ls)))
             at true e =
-                ap (commit_shown m) (at_mem (λ j. port_write (taken_out st (movers (lacts p st d bits ls)) j)) 0 p.mems m None (ltb-true _ _ e) ∙ ap (λ j. port_write (taken_out st (movers (lacts p st d bits ls)) j)) (zero-add m))
+                ap (Cycle.commits_shown m) (at_mem (λ j. port_writes (taken_out st (movers (lacts p st d bits ls)) j)) 0 p.mems m [] (ltb-true _ _ e) ∙ ap (λ j. port_writes (taken_out st (movers (lacts p st d bits ls)) j)) (zero-add m))
                 ∙ sym (commits_are m)
             at false e =
-                ap (commit_shown m) (past_mems (λ j. port_write (taken_out st (movers (lacts p st d bits ls)) j)) 0 p.mems m None (ltb-false _ _ e) ∙ ap port_write (sym (never m (ltb-false _ _ e))))
+                ap (Cycle.commits_shown m) (past_mems (λ j. port_writes (taken_out st (movers (lacts p st d bits ls)) j)) 0 p.mems m [] (ltb-false _ _ e) ∙ ap port_writes (sym (never m (ltb-false _ _ e))))
                 ∙ sym (commits_are m)
 
   -- RUNS

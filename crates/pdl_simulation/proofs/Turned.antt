@@ -6,7 +6,7 @@ use Rattle.pdl_semantics.specs.Stages.{list_any, in_stage, stage_at, goes_to, is
 use Rattle.pdl_semantics.specs.Locks.{commit_value}
 use Rattle.pdl_semantics.specs.Machine.{State, Pending, word_for, with_answers}
 use Rattle.pdl_semantics.specs.Moves.{movers}
-use Rattle.pdl_semantics.specs.Cycle.{awaited_of, new_entries, with_reserves, with_writes_of, with_all_writes, has_release, oldest, but_oldest, is_kept, entries_left}
+use Rattle.pdl_semantics.specs.Cycle.{awaited_of, new_entries, with_reserves, with_writes_of, with_all_writes, releases_of, all_releases, is_kept, entries_left}
 use Rattle.pdl_turns.proofs.Released.{released}
 use Rattle.pdl_semantics.specs.Moves
 use Rattle.pdl_derived.specs.Derived.{Entry, Work, around, commits_of}
@@ -17,7 +17,7 @@ use Rattle.pdl_derived.proofs.Entries.{write_of}
 use Rattle.pdl_turns.proofs.Turn.{quiet, none_in_stage}
 use Rattle.pdl_derived.proofs.Slots.{rev}
 use Rattle.pdl_derived.proofs.Lists.{own, pend, Foreign, AllForeign, Reserveless, two_moved, two_stays}
-use Rattle.pdl_turns.proofs.Own.{Worked, pend_own, quiet_reserves}
+use Rattle.pdl_turns.proofs.Own.{Worked, pend_own, quiet_reserves, quiet_releases}
 use Rattle.pdl_simulation.proofs.Leaving.{Out, Still, out_more, foreign_append, foreign_pend, foreign_new, foreign_put_all, commits_more}
 use Rattle.pdl_simulation.proofs.Stretches.{Behind, early, late, start_of}
 use Rattle.pdl_simulation.proofs.Seats.{Live, seat, each_map, Ordered, Falls, falls_up, dacts, lacts, lact, did, now_of, work_of_live, deeds_of, pends, pends_append}
@@ -120,21 +120,12 @@ module _ (p : Pipe) (flows : Flows p) (st : State) (d : Derived.State) (bits : L
   quiet_new : (l : Live) (m : ℕ) → l.thread.stage ≢ reserve_stage p m → new_entries m l.number (deeds_of p st bits l).reserves ≡ []
   quiet_new l m h = quiet_reserves m l.number (word_for st l.number) (in_stage l.thread.stage p.stmts) _ (none_in_stage (is_reserve m) (reserve_stage p m) l.thread.stage p.stmts (flows.reserves m) h) refl
 
-  pub release_here : (ls : List Live) (l : Live) (k : Known p flows st d bits arrays ls l) (m : ℕ) → list_any (λ j. j == m) (deeds_of p st bits l).releases ≡ true → l.thread.stage ≡ commit_stage p m
+  pub release_here : (ls : List Live) (l : Live) (k : Known p flows st d bits arrays ls l) (m : ℕ) → releases_of m (deeds_of p st bits l).releases ≢ 0 → l.thread.stage ≡ commit_stage p m
   release_here ls l k m h = at (l.thread.stage == commit_stage p m) refl
     where
-      w : Worked m l.number (pend m l.number l.thread.entries) (deeds_of p st bits l) (work_of_live p d bits ls l)
-      w = worked_here p flows st d bits arrays ls l k m
-
-      clash : (x : Pending) → write_of m x.address (commit_value x.value) ∷ [] ≡ [] → ⊥
-      clash x i = cc
-
       at : (b : Bool) → (l.thread.stage == commit_stage p m) ≡ b → l.thread.stage ≡ commit_stage p m
       at true e = eqb-true _ _ e
-      at false e =
-          let f = w.full h in
-          absurd (clash f.0 (sym (w.commits ∙ ap₂ (λ b l. released m (cond b (oldest l) None)) h f.1)
-          ∙ quiet m (around p d bits (dacts p d bits ls) l.thread.stage) (in_stage l.thread.stage p.stmts) (start_of (now_of p d bits l)) (none_in_stage (is_release m) (commit_stage p m) l.thread.stage p.stmts (flows.releases m) (eqb-false _ _ e))))
+      at false e = absurd (h (quiet_releases m (word_for st l.number) (in_stage l.thread.stage p.stmts) _ (none_in_stage (is_release m) (commit_stage p m) l.thread.stage p.stmts (flows.releases m) (eqb-false _ _ e)) refl))
 
   reserveless : (m : ℕ) (ls : List Live) → Past (reserve_stage p m) ls → Reserveless m (ms ls)
   reserveless m [] r = tt
@@ -193,14 +184,14 @@ module _ (p : Pipe) (flows : Flows p) (st : State) (d : Derived.State) (bits : L
   abbrev pub commits_here : ℕ → List Live → List Commit
   commits_here m ls = of_mem m (commits_of (rev (dacts p d bits ls)))
 
-  abbrev pub takes : ℕ → Live → Bool
-  takes m l = list_any (λ k. k == m) (deeds_of p st bits l).releases
+  abbrev pub takes : ℕ → Live → ℕ
+  takes m l = releases_of m (deeds_of p st bits l).releases
 
   commits_next : (m : ℕ) (ls : List Live) (l : Live) → commits_here m (l ∷ ls) ≡ commits_here m ls ++ of_mem m (if (did p d bits ls l).moves then (work_of_live p d bits ls l).commits else [])
   commits_next m ls l = ap (of_mem m) (commits_more (rev (dacts p d bits ls)) (did p d bits ls l)) ∙ of_mem_append m (commits_of (rev (dacts p d bits ls))) _
 
   -- past the stage of its releases nobody has an entry of m
-  gone : (m : ℕ) (ls : List Live) → AllKnown p flows st d bits arrays ls → Past (commit_stage p m) ls → Still (has_release m (ms ls)) (two m ls) (three m ls) (commits_here m ls)
+  gone : (m : ℕ) (ls : List Live) → AllKnown p flows st d bits arrays ls → Past (commit_stage p m) ls → Still (all_releases m (ms ls)) (two m ls) (three m ls) (commits_here m ls)
   gone m [] k c = (refl, refl, refl, refl)
   gone m (l ∷ ls) k c = at (did p d bits ls l).moves (commits_next m ls l) (gone m ls k.1 c.1)
     where
@@ -210,60 +201,72 @@ module _ (p : Pipe) (flows : Flows p) (st : State) (d : Derived.State) (bits : L
       none : pend m l.number l.thread.entries ≡ []
       none = pend_own m l.number l.thread.entries ∙ ap (pend m l.number) (late p flows l.env l.thread k.0.seated.keeps_on m c.0)
 
-      keeps : takes m l ≡ false
+      keeps : takes m l ≡ 0
       keeps = by (takes m l) refl
         where
-          by : (b : Bool) → takes m l ≡ b → takes m l ≡ false
-          by true e = absurd (let j = release_here ls l k.0 m e in let i = c.0 in omega arith)
-          by false e = e
+          by : (n : ℕ) → takes m l ≡ n → takes m l ≡ 0
+          by zero e = e
+          by (suc n) e = absurd (let j = release_here ls l k.0 m (λ z. cc (sym e ∙ z)) in let i = c.0 in omega arith)
 
       empty : part m l ≡ []
       empty =
-          sym (w.after ∙ ap (λ b. cond b (but_oldest (part m l)) (part m l)) keeps)
+          sym (w.after ∙ ap (λ b. drop b (part m l)) keeps)
           ∙ pend_own m l.number (work_of_live p d bits ls l).entries
           ∙ ap (pend m l.number) (late_here p flows st d bits arrays ls l k.0 m (let i = c.0 in let j = next_up l.thread.stage (work_of_live p d bits ls l).env k.0.seated.keeps_on.inside in omega arith))
 
       at : (b : Bool) → commits_here m (l ∷ ls) ≡ commits_here m ls ++ of_mem m (cond b (work_of_live p d bits ls l).commits [])
-          → Still (has_release m (ms ls)) (two m ls) (three m ls) (commits_here m ls)
-          → Still (has_release m (cond b (lact p st d bits ls l ∷ ms ls) (ms ls))) (two m ls ++ cond b (part m l) (pend m l.number l.thread.entries)) (three m ls ++ cond b (pend m l.number (work_of_live p d bits ls l).entries) (pend m l.number l.thread.entries)) (commits_here m (l ∷ ls))
+          → Still (all_releases m (ms ls)) (two m ls) (three m ls) (commits_here m ls)
+          → Still (all_releases m (cond b (lact p st d bits ls l ∷ ms ls) (ms ls))) (two m ls ++ cond b (part m l) (pend m l.number l.thread.entries)) (three m ls ++ cond b (pend m l.number (work_of_live p d bits ls l).entries) (pend m l.number l.thread.entries)) (commits_here m (l ∷ ls))
       at true e s = (
-        ap₂ (λ x y. x || y) keeps s.0,
+        ap₂ (λ x y. x + y) s.0 keeps,
         ap₂ (λ x y. x ++ y) s.1 empty,
-        ap₂ (λ x y. x ++ y) s.2 (w.after ∙ ap₂ (λ b l. cond b (but_oldest l) l) keeps empty),
-        e ∙ ap₂ (λ x y. x ++ y) s.3 (w.commits ∙ ap (λ b. released m (cond b (oldest (part m l)) None)) keeps),
+        ap₂ (λ x y. x ++ y) s.2 (w.after ∙ ap₂ drop keeps empty),
+        e ∙ ap₂ (λ x y. x ++ y) s.3 (w.commits ∙ ap (λ b. released m (take b (part m l))) keeps),
       )
       at false e s = (s.0, ap₂ (λ x y. x ++ y) s.1 none, ap₂ (λ x y. x ++ y) s.2 none, e ∙ append-nil _ ∙ s.3)
 
   -- step 3
-  pub three_is : (m : ℕ) (ls : List Live) → AllKnown p flows st d bits arrays ls → Ordered p ls → Out m (has_release m (ms ls)) (two m ls) (three m ls) (commits_here m ls)
-  three_is m [] k o = record { left = refl; full = λ i. absurd (cc i); shows = refl }
+  pub three_is : (m : ℕ) (ls : List Live) → AllKnown p flows st d bits arrays ls → Ordered p ls → Out m (all_releases m (ms ls)) (two m ls) (three m ls) (commits_here m ls)
+  three_is m [] k o = record { left = refl; enough = omega arith; shows = refl }
   three_is m (l ∷ ls) k o = at (did p d bits ls l).moves (commits_next m ls l) (three_is m ls k.1 o.1)
     where
       w : Worked m l.number (pend m l.number l.thread.entries) (deeds_of p st bits l) (work_of_live p d bits ls l)
       w = worked_here p flows st d bits arrays ls l k.0 m
 
       at : (b : Bool) → commits_here m (l ∷ ls) ≡ commits_here m ls ++ of_mem m (cond b (work_of_live p d bits ls l).commits [])
-          → Out m (has_release m (ms ls)) (two m ls) (three m ls) (commits_here m ls)
-          → Out m (has_release m (cond b (lact p st d bits ls l ∷ ms ls) (ms ls))) (two m ls ++ cond b (part m l) (pend m l.number l.thread.entries)) (three m ls ++ cond b (pend m l.number (work_of_live p d bits ls l).entries) (pend m l.number l.thread.entries)) (commits_here m (l ∷ ls))
+          → Out m (all_releases m (ms ls)) (two m ls) (three m ls) (commits_here m ls)
+          → Out m (all_releases m (cond b (lact p st d bits ls l ∷ ms ls) (ms ls))) (two m ls ++ cond b (part m l) (pend m l.number l.thread.entries)) (three m ls ++ cond b (pend m l.number (work_of_live p d bits ls l).entries) (pend m l.number l.thread.entries)) (commits_here m (l ∷ ls))
       at true e s =
-          subst (λ c. Out m (takes m l || has_release m (ms ls)) (two m ls ++ part m l) (three m ls ++ pend m l.number (work_of_live p d bits ls l).entries) c) (sym e)
-          (out_more m (has_release m (ms ls)) (takes m l) (two m ls) (three m ls) (part m l) (pend m l.number (work_of_live p d bits ls l).entries) (commits_here m ls) (of_mem m (work_of_live p d bits ls l).commits) s w.after w.full w.commits
-          (λ i. gone m ls k.1 (past_of (commit_stage p m) l ls (flows.trunk_commit m) o.0 (let j = release_here ls l k.0 m i in omega arith))))
+          subst (λ c. Out m (all_releases m (ms ls) + takes m l) (two m ls ++ part m l) (three m ls ++ pend m l.number (work_of_live p d bits ls l).entries) c) (sym e)
+          (out_more m (all_releases m (ms ls)) (takes m l) (two m ls) (three m ls) (part m l) (pend m l.number (work_of_live p d bits ls l).entries) (commits_here m ls) (of_mem m (work_of_live p d bits ls l).commits) s w.after (room w.full) w.commits
+          (by (takes m l) refl))
+        where
+          room : (takes m l ≡ 0) ⊎ (length (part m l) ≡ takes m l) → takes m l ≤ length (part m l)
+          room (inl i) = omega arith
+          room (inr i) = omega arith
+
+          by : (n : ℕ) → takes m l ≡ n → (takes m l ≡ 0) ⊎ Still (all_releases m (ms ls)) (two m ls) (three m ls) (commits_here m ls)
+          by zero i = inl i
+          by (suc n) i = inr (gone m ls k.1 (past_of (commit_stage p m) l ls (flows.trunk_commit m) o.0 (let j = release_here ls l k.0 m (λ z. cc (sym i ∙ z)) in omega arith)))
       at false e s =
-          subst (λ c. Out m (has_release m (ms ls)) (two m ls ++ pend m l.number l.thread.entries) (three m ls ++ pend m l.number l.thread.entries) c) (sym e)
-          (out_more m (has_release m (ms ls)) false (two m ls) (three m ls) (pend m l.number l.thread.entries) (pend m l.number l.thread.entries) (commits_here m ls) [] s refl (λ i. absurd (cc i)) refl (λ i. absurd (cc i)))
+          subst (λ c. Out m (all_releases m (ms ls)) (two m ls ++ pend m l.number l.thread.entries) (three m ls ++ pend m l.number l.thread.entries) c) (sym e)
+          (subst (λ n. Out m n (two m ls ++ pend m l.number l.thread.entries) (three m ls ++ pend m l.number l.thread.entries) (commits_here m ls ++ [])) (plus (all_releases m (ms ls)))
+          (out_more m (all_releases m (ms ls)) 0 (two m ls) (three m ls) (pend m l.number l.thread.entries) (pend m l.number l.thread.entries) (commits_here m ls) [] s refl (omega arith) refl (inl refl)))
+        where
+          plus : (n : ℕ) → n + 0 ≡ n
+          plus n = omega arith
 
   -- no memory that isn't there is released
-  pub unreleased : (m : ℕ) (ls : List Live) → AllKnown p flows st d bits arrays ls → length p.stages ≤ commit_stage p m → has_release m (ms ls) ≡ false
+  pub unreleased : (m : ℕ) (ls : List Live) → AllKnown p flows st d bits arrays ls → length p.stages ≤ commit_stage p m → all_releases m (ms ls) ≡ 0
   unreleased m [] k h = refl
   unreleased m (l ∷ ls) k h = at (did p d bits ls l).moves (unreleased m ls k.1 h) (none (takes m l) refl)
     where
-      none : (b : Bool) → takes m l ≡ b → takes m l ≡ false
-      none true e = absurd (let i = release_here ls l k.0 m e in let j = k.0.seated.keeps_on.inside in omega arith)
-      none false e = e
+      none : (n : ℕ) → takes m l ≡ n → takes m l ≡ 0
+      none zero e = e
+      none (suc n) e = absurd (let i = release_here ls l k.0 m (λ z. cc (sym e ∙ z)) in let j = k.0.seated.keeps_on.inside in omega arith)
 
-      at : (b : Bool) → has_release m (ms ls) ≡ false → takes m l ≡ false → has_release m (cond b (lact p st d bits ls l ∷ ms ls) (ms ls)) ≡ false
-      at true e g = ap₂ (λ x y. x || y) g e
+      at : (b : Bool) → all_releases m (ms ls) ≡ 0 → takes m l ≡ 0 → all_releases m (cond b (lact p st d bits ls l ∷ ms ls) (ms ls)) ≡ 0
+      at true e g = ap₂ (λ x y. x + y) e g
       at false e g = e
 
   -- what step 3 leaves are the entries of the threads that live on

@@ -20,6 +20,7 @@ use Rattle.pdl_turns.proofs.Turn.{quiet, none_in_stage, release_looked}
 use Rattle.pdl_turns.proofs.Guesses.{same_args_refl}
 use Rattle.pdl_turns.proofs.TurnFacts.{next_at, right_guess, stage_work}
 use Rattle.pdl_derived.proofs.Answering.{AllAsks, all_more, all_snoc, Apart, apart_snoc}
+use Rattle.pdl_turns.proofs.Rooms
 use Rattle.pdl_turns.proofs.Courses.{Course, AskOk, Strayed}
 use Rattle.pdl_turns.proofs.Sounds.{EachFetch, asks_each, fetch_each, alive}
 use Rattle.pdl_turns.proofs.Roams.{verify_looked, before_none, Barred}
@@ -227,7 +228,7 @@ module _ (p : Pipe) (acc : Sound p) where
       record {
         graph = acc.graph;
         branches = acc.branches;
-        locks = (acc.pathwise.paths []).locks;
+        rooms = Rooms.rooms p acc;
         plain_from = (acc.pathwise.paths []).plain_from;
         plain_to = (acc.pathwise.paths []).plain_to;
         on = λ arrays args s. (visits_stage p (thread (at_once p) arrays args).env s ≡ true) × Reached p (thread (at_once p) arrays args).env s;

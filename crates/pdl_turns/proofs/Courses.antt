@@ -3,7 +3,7 @@ use Rattle.std.proofs.Common.{◌≡◌, ◌≢◌, ℕ, ◌≤◌, ◌<◌, Boo
 use Rattle.pdl_semantics.specs.Flat.{Arrays, Pipe, of_mem}
 use Rattle.pdl_semantics.specs.Stages.{mem_at, verify_stage, commit_stage, reserve_stage}
 use Rattle.pdl_semantics.specs.Locks.{Latest, has_room}
-use Rattle.pdl_semantics.specs.Machine.{Ask, same_args}
+use Rattle.pdl_semantics.specs.Machine.{Ask, same_args, reserves_of}
 use Rattle.pdl_semantics.specs.Cycle.{awaited_of}
 use Rattle.pdl_semantics.specs.Sequential.{thread}
 use Rattle.pdl_semantics.specs.Promises.{wrote, row}
@@ -43,7 +43,7 @@ pub record Course (p : Pipe) : Type 1 where
   -- the stage graph and the memories
   pub graph : Graph p
   pub branches : Branches p
-  pub locks : (m : ℕ) → has_room (mem_at p m).lock 0 ≡ true
+  pub rooms : (o : Around) (t : Thread) (m : ℕ) → has_room (mem_at p m).lock (reserves_of m (work_of_stage p o t).reserves) 0 ≡ true
   pub plain_from : (m : ℕ) → is_plain (mem_at p m).lock ≡ true → reserve_stage p m ≡ 0
   pub plain_to : (m : ℕ) → is_plain (mem_at p m).lock ≡ true → commit_stage p m ≡ length p.stages
   -- the stages that a turn comes to

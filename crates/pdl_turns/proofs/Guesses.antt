@@ -142,7 +142,7 @@ run_op_settled v k s _ r u h n = refl
 pub run_settled : (v : Option ℕ) (k : Making) (xs : List Stmt) (r : Run) → is_unmade k ≡ false → makings_ok v k xs ≡ true → none_of is_verify xs ≡ true → (run_all xs r).next ≡ r.next
 run_settled v k [] r u h n = refl
 run_settled v k (x ∷ xs) r u h n =
-    let here = settled_op (alone r.arrays) v k x.stage x.op (record { env = []; entries = []; guess = []; asks = []; commits = []; child = None; fails = false; ready = true }) u (and_left _ _ h) (and_left _ _ n) in
+    let here = settled_op (alone r.arrays) v k x.stage x.op (record { env = []; entries = []; guess = []; asks = []; reserves = []; commits = []; child = None; fails = false; ready = true }) u (and_left _ _ h) (and_left _ _ n) in
     run_settled v k xs (if all_hold x.guards r.env then run_after x.op r else r) u (subst (λ j. makings_ok v j xs ≡ true) here.1 (and_right (making_ok v k x.stage x.op) _ h)) (and_right (not (is_verify x.op)) _ n)
     ∙ at (all_hold x.guards r.env)
   where

@@ -133,7 +133,7 @@ or_none None = refl
 or_none (Some x) = refl
 
 abbrev asking : List Ask → Work
-asking qs = record { env = []; entries = []; guess = []; asks = qs; commits = []; child = None; fails = false; ready = true }
+asking qs = record { env = []; entries = []; guess = []; asks = qs; reserves = []; commits = []; child = None; fails = false; ready = true }
 
 joined_asks : (qs : List Ask) (v : Work) → joined (asking qs) v ≡ record v { asks = qs ++ v.asks }
 joined_asks qs v = λ i. record v { asks = qs ++ v.asks; child = or_none v.child i; fails = or-false v.fails i }

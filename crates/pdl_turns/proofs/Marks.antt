@@ -1,5 +1,5 @@
 -- Undone writes, each with whether its value is known already.
-use Rattle.std.proofs.Common.{◌≡◌, refl, sym, ap, ap₂, ◌∙◌, subst, ℕ, Bool, true, false, ◌&&◌, not, List, [], ◌∷◌, ◌++◌, ◌⊎◌, inl, inr, ◌==◌, cond, if◌then◌else◌, append-nil, append_assoc}
+use Rattle.std.proofs.Common.{◌≡◌, refl, sym, ap, ap₂, ◌∙◌, subst, ℕ, ◌-◌, ◌≤◌, ◌<◌, nat_lt, length, arith, lt-ltb, ltb-true, Bool, true, false, ◌&&◌, not, List, [], ◌∷◌, ◌++◌, ◌⊎◌, inl, inr, ◌==◌, cond, if◌then◌else◌, append-nil, append_assoc}
 use Rattle.std.proofs.lemmas.Bool.{eqb-true, eqb-false}
 use Rattle.pdl_semantics.specs.Flat.{Array, with_value, Commit, of_mem, Lock, Plain, Queue, Bypass, Rename}
 use Rattle.pdl_semantics.specs.Locks.{Latest, Nothing, Coming, Known, as_latest, is_nothing, is_coming, value_or, read_ready}
@@ -25,9 +25,14 @@ abbrev pub strips : ℕ → List Mark → List Commit
 strips m [] = []
 strips m (k ∷ ks) = write_of m k.address k.value ∷ strips m ks
 
-abbrev pub marked : Bool → List Commit → List Mark
-marked known [] = []
-marked known (c ∷ cs) = record { address = c.address; value = c.value; known = known } ∷ marked known cs
+-- the marks of writes of which the first k are known
+abbrev pub marked : ℕ → List Commit → List Mark
+marked k [] = []
+marked k (c ∷ cs) = record { address = c.address; value = c.value; known = nat_lt 0 k } ∷ marked (k - 1) cs
+
+pub marked_last : (cs : List Commit) (c : Commit) → marked (length (cs ++ c ∷ [])) (cs ++ c ∷ []) ≡ marked (length cs) cs ++ record { address = c.address; value = c.value; known = true } ∷ []
+marked_last [] c = refl
+marked_last (d ∷ cs) c = ap (λ l. record { address = d.address; value = d.value; known = true } ∷ l) (marked_last cs c)
 
 -- the same marks, with more values known
 abbrev pub Raised : List Mark → List Mark → Type 0
@@ -68,9 +73,12 @@ strips_raised m [] (j ∷ js) r = absurd r
 strips_raised m (k ∷ ks) [] r = absurd r
 strips_raised m (k ∷ ks) (j ∷ js) r = λ i. write_of m (r.0 i) (r.1 i) ∷ strips_raised m ks js r.3 i
 
-pub raised_marked : (b c : Bool) (cs : List Commit) → (b ≡ true → c ≡ true) → Raised (marked b cs) (marked c cs)
+pub raised_marked : (b c : ℕ) (cs : List Commit) → b ≤ c → Raised (marked b cs) (marked c cs)
 raised_marked b c [] h = tt
-raised_marked b c (x ∷ cs) h = (refl, refl, h, raised_marked b c cs h)
+raised_marked b c (x ∷ cs) h = (refl, refl, (λ k. lt-ltb 0 c (more (ltb-true 0 b k))), raised_marked (b - 1) (c - 1) cs (omega arith))
+  where
+    more : 0 < b → 0 < c
+    more k = omega arith
 
 pub later_strips : (m : ℕ) (ks : List Mark) (gone : List Commit) (js : List Mark) → Later m ks gone js → strips m ks ≡ gone ++ strips m js
 later_strips m ks gone js l = ap (strips m) l.whole ∙ strips_append m l.front l.rest ∙ ap₂ (λ a b. a ++ b) l.commits (strips_raised m l.rest js l.raised)
@@ -207,10 +215,10 @@ latest_own (e ∷ es) m a rest = at (e.mem == m) refl (e.address == a) refl (lat
     at false f c g h = h
 
 -- marks of a memory's writes are those writes
-pub strips_marked : (m : ℕ) (b : Bool) (cs : List Commit) → strips m (marked b (of_mem m cs)) ≡ of_mem m cs
+pub strips_marked : (m b : ℕ) (cs : List Commit) → strips m (marked b (of_mem m cs)) ≡ of_mem m cs
 strips_marked m b [] = refl
-strips_marked m b (c ∷ cs) = at (c.mem == m) refl (strips_marked m b cs)
+strips_marked m b (c ∷ cs) = at (c.mem == m) refl
   where
-    at : (t : Bool) → (c.mem == m) ≡ t → strips m (marked b (of_mem m cs)) ≡ of_mem m cs → strips m (marked b (cond t (c ∷ of_mem m cs) (of_mem m cs))) ≡ cond t (c ∷ of_mem m cs) (of_mem m cs)
-    at true e h = λ i. record { mem = sym (eqb-true c.mem m e) i; address = c.address; value = c.value } ∷ h i
-    at false e h = h
+    at : (t : Bool) → (c.mem == m) ≡ t → strips m (marked b (cond t (c ∷ of_mem m cs) (of_mem m cs))) ≡ cond t (c ∷ of_mem m cs) (of_mem m cs)
+    at true e = λ i. record { mem = sym (eqb-true c.mem m e) i; address = c.address; value = c.value } ∷ strips_marked m (b - 1) cs i
+    at false e = strips_marked m b cs

@@ -102,7 +102,7 @@ module _ (p : Pipe) (acc : Sound p) where
         ∙ fixed_front (before t.stage (looked_all p.stmts) ++ in_stage t.stage (looked_all p.stmts)) (stages_from (suc t.stage) (looked_all p.stmts)) (subst (λ l. is_fixed l ≡ true) (sym (append_assoc (before t.stage (looked_all p.stmts)) (in_stage t.stage (looked_all p.stmts)) (stages_from (suc t.stage) (looked_all p.stmts)))) (acc.pathwise.fixed_by t.stage))
 
     -- its stage's statements are those of the path that it is seen to take when the stage is done
-    along_path : work_of_stage p o t ≡ do_all o (onpath (work_of_stage p o t).env (in_stage t.stage p.stmts)) (record { env = t.env; entries = t.entries; guess = t.guess; asks = []; commits = []; child = None; fails = false; ready = true })
+    along_path : work_of_stage p o t ≡ do_all o (onpath (work_of_stage p o t).env (in_stage t.stage p.stmts)) (record { env = t.env; entries = t.entries; guess = t.guess; asks = []; reserves = []; commits = []; child = None; fails = false; ready = true })
     along_path =
         fixed_all (work_of_stage p o t).env o (in_stage t.stage p.stmts) _
         (fixed_to (work_of_stage p o t).env o (in_stage t.stage p.stmts) [] _ (subst (λ l. is_fixed l ≡ true) (sym (append-nil (in_stage t.stage p.stmts))) (fixed_second (before t.stage p.stmts) (in_stage t.stage p.stmts) fixed_both)) (λ g k. refl))
@@ -183,7 +183,7 @@ module _ (p : Pipe) (acc : Sound p) where
             → ((work_of_stage p o t).fails ≡ false) × (has_made p t ≡ true → (work_of_stage p o t).child ≡ None)
             × (not (is_unmade (making_all (making_all Unmade (onpath (work_of_stage p o t).env (before t.stage p.stmts))) (onpath (work_of_stage p o t).env (in_stage t.stage p.stmts)))) ≡ (has_made p t || is_some (work_of_stage p o t).child))
         later k i u =
-            let s = settled o (verify_stage p.stmts) k (onpath (work_of_stage p o t).env (in_stage t.stage p.stmts)) (record { env = t.env; entries = t.entries; guess = t.guess; asks = []; commits = []; child = None; fails = false; ready = true }) u
+            let s = settled o (verify_stage p.stmts) k (onpath (work_of_stage p o t).env (in_stage t.stage p.stmts)) (record { env = t.env; entries = t.entries; guess = t.guess; asks = []; reserves = []; commits = []; child = None; fails = false; ready = true }) u
             (subst (λ j. makings_ok (verify_stage p.stmts) j (onpath (work_of_stage p o t).env (in_stage t.stage p.stmts)) ≡ true) i ok_here) none in (
               fails,
               (λ _. ap (λ (w : Work). w.child) along_path ∙ s.0.0),
@@ -197,7 +197,7 @@ module _ (p : Pipe) (acc : Sound p) where
           fails,
           (λ h. absurd (clash (sym (had Unmade i) ∙ h))),
           ap (λ j. not (is_unmade (making_all j (onpath (work_of_stage p o t).env (in_stage t.stage p.stmts))))) i
-              ∙ flip _ _ (begins o (verify_stage p.stmts) (onpath (work_of_stage p o t).env (in_stage t.stage p.stmts)) (record { env = t.env; entries = t.entries; guess = t.guess; asks = []; commits = []; child = None; fails = false; ready = true }) refl (subst (λ j. makings_ok (verify_stage p.stmts) j (onpath (work_of_stage p o t).env (in_stage t.stage p.stmts)) ≡ true) i ok_here) none free_stage)
+              ∙ flip _ _ (begins o (verify_stage p.stmts) (onpath (work_of_stage p o t).env (in_stage t.stage p.stmts)) (record { env = t.env; entries = t.entries; guess = t.guess; asks = []; reserves = []; commits = []; child = None; fails = false; ready = true }) refl (subst (λ j. makings_ok (verify_stage p.stmts) j (onpath (work_of_stage p o t).env (in_stage t.stage p.stmts)) ≡ true) i ok_here) none free_stage)
               ∙ ap (λ (w : Work). is_some w.child) (sym along_path) ∙ ap (λ b. b || is_some (work_of_stage p o t).child) (sym (had Unmade i)),
         )
         by Guessed i = later Guessed i refl
@@ -276,7 +276,7 @@ module _ (p : Pipe) (acc : Sound p) where
         let unbarred : some_barrier false (onpath (work_of_stage p o t).env (before t.stage p.stmts)) ≡ false = ap (some_barrier false) same_before ∙ st.barred in
         let cover : Covers (scan_after_all (onpath (work_of_stage p o t).env (before t.stage p.stmts)) no_scan).held t.entries = subst (λ l. Covers (scan_after_all l no_scan).held t.entries) (sym same_before) st.covers in
         let h = roam_all (verify_stage p.stmts) o (scan_after_all (onpath (work_of_stage p o t).env (before t.stage p.stmts)) no_scan) t.stage (onpath (work_of_stage p o t).env (in_stage t.stage p.stmts))
-        (record { env = t.env; entries = t.entries; guess = t.guess; asks = []; commits = []; child = None; fails = false; ready = true }) free_stage in_here clear low
+        (record { env = t.env; entries = t.entries; guess = t.guess; asks = []; reserves = []; commits = []; child = None; fails = false; ready = true }) free_stage in_here clear low
         (subst (λ b. all_sure (verify_stage p.stmts) b (scan_after_all (onpath (work_of_stage p o t).env (before t.stage p.stmts)) no_scan) (onpath (work_of_stage p o t).env (in_stage t.stage p.stmts)) ≡ true) unbarred sure_stage) cover (ap (λ (w : Work). w.ready) (sym along_path) ∙ ready) in
         let m = makes_one apart in
         let opened_now : scan_after_all (onpath (work_of_stage p o t).env (before (next_of p t.stage (work_of_stage p o t).env) p.stmts)) no_scan ≡ scan_after_all (onpath (work_of_stage p o t).env (in_stage t.stage p.stmts)) (scan_after_all (onpath (work_of_stage p o t).env (before t.stage p.stmts)) no_scan) =

@@ -20,7 +20,7 @@ use Rattle.pdl_derived.proofs.Stages.{or_else, reset, step}
 use Rattle.pdl_turns.proofs.Alike.{Surrounds, Right, in_stage_all, covers_all}
 use Rattle.pdl_turns.proofs.Paths.{Fixed, all_stays, stage_path, dead_none}
 use Rattle.pdl_turns.proofs.Marks.{seen, strips, Later, marked}
-use Rattle.pdl_turns.proofs.Pending.{marks, has_value}
+use Rattle.pdl_turns.proofs.Pending.{marks, known_count}
 use Rattle.pdl_turns.proofs.Under.{In}
 use Rattle.pdl_turns.proofs.TurnFacts.{next_at, blocked_at, stage_work}
 use Rattle.pdl_derived.proofs.Answering.{caught, AllAsks, all_more, all_snoc}
@@ -240,7 +240,7 @@ module _ (p : Pipe) (acc : Sound p) (arrays : Arrays) (args : List ℕ) where
   -- WRITES
 
   same_marks : (s m : ℕ) → marks (at_once p) arrays args s m ≡ marks p arrays args s m
-  same_marks s m = ap₂ (λ (w : Work) (r : Run). cond (nat_lt (commit_stage p m) s) [] (marked (has_value (entries_of m w.entries)) (of_mem m r.writes))) (same_so s) same_thread
+  same_marks s m = ap₂ (λ (w : Work) (r : Run). cond (nat_lt (commit_stage p m) s) [] (marked (known_count (entries_of m w.entries)) (of_mem m r.writes))) (same_so s) same_thread
 
   late_next : (s m : ℕ) → s < length p.stages → nat_lt (commit_stage p m) (next_at p arrays args s) ≡ nat_lt (commit_stage p m) (suc s)
   late_next s m low = at (nat_lt (commit_stage p m) (suc s)) refl (nat_lt (commit_stage p m) (next_at p arrays args s)) refl
@@ -261,7 +261,7 @@ module _ (p : Pipe) (acc : Sound p) (arrays : Arrays) (args : List ℕ) where
       at false e false f = refl
 
   marks_next : (s m : ℕ) → visits_stage p (thread (at_once p) arrays args).env s ≡ true → s < length p.stages → marks p arrays args (next_at p arrays args s) m ≡ marks p arrays args (suc s) m
-  marks_next s m on low = ap₂ (λ b (w : Work). cond b [] (marked (has_value (entries_of m w.entries)) (of_mem m (thread p arrays args).writes))) (late_next s m low) (so_next s on low)
+  marks_next s m on low = ap₂ (λ b (w : Work). cond b [] (marked (known_count (entries_of m w.entries)) (of_mem m (thread p arrays args).writes))) (late_next s m low) (so_next s on low)
 
   pub marks_step : (s m : ℕ) → visits_stage p (thread (at_once p) arrays args).env s ≡ true → s < length p.stages → Later m (marks p arrays args s m) (of_mem m (stage_work p arrays args s).commits) (marks p arrays args (next_at p arrays args s) m)
   marks_step s m on low =

@@ -15,7 +15,7 @@ use Rattle.pdl_turns.proofs.Paths.{Fixed, run_path, fixed_path_to, fixed_all, al
 use Rattle.pdl_derived.proofs.Writes.{and_left, and_right}
 use Rattle.std.proofs.lemmas.Bool.{eqb-true, eqb-false}
 use Rattle.pdl_turns.proofs.Marks.{seen, strips, Later, marked}
-use Rattle.pdl_turns.proofs.Pending.{marks, has_value}
+use Rattle.pdl_turns.proofs.Pending.{marks, known_count}
 use Rattle.pdl_turns.proofs.Pending
 use Rattle.pdl_turns.proofs.Whole
 use Rattle.pdl_turns.proofs.Own.{fixed_second}
@@ -101,7 +101,7 @@ module _ (p : Pipe) (acc : Pathwise p) (arrays : Arrays) (args : List ℕ) where
       ∙ ap₂ (λ l (w : Work). do_all (alone arrays) l (reset w)) (sym (stage_path (thread p arrays args).env s p.stmts)) (so_path s)
 
   marks_path : (s m : ℕ) → marks p arrays args s m ≡ marks (along (thread p arrays args).env p) arrays args s m
-  marks_path s m = ap₂ (λ (w : Work) (r : Run). cond (nat_lt (commit_stage p m) s) [] (marked (has_value (entries_of m w.entries)) (of_mem m r.writes))) (so_path s) thread_path
+  marks_path s m = ap₂ (λ (w : Work) (r : Run). cond (nat_lt (commit_stage p m) s) [] (marked (known_count (entries_of m w.entries)) (of_mem m r.writes))) (so_path s) thread_path
 
   pub marks_seen : (s m a : ℕ) (rest : Latest) → reserve_stage p m < s → latest_in (so_far p arrays args s).entries m a rest ≡ seen a (marks p arrays args s m) rest
   marks_seen s m a rest h = ap (λ (w : Work). latest_in w.entries m a rest) (so_path s) ∙ Pending.marks_seen _ accq arrays args s m a rest h ∙ ap (λ l. seen a l rest) (sym (marks_path s m))

@@ -6,15 +6,16 @@ use Rattle.pdl_semantics.specs.Stages.{in_stage, mem_at, is_release, is_reserve,
 use Rattle.pdl_semantics.specs.Sequential.{Run, run_after, run_all, thread}
 use Rattle.pdl_semantics.specs.Promises.{wrote, row}
 use Rattle.pdl_derived.specs.Derived.{Entry, Work, Around, Thread, work_after, do_all, work_of_stage}
-use Rattle.pdl_derived.specs.Alone.{alone, before, start_work, so_far, thread_at, undone}
+use Rattle.pdl_derived.specs.Alone.{alone, before, start_work, so_far, thread_at, undone, is_nil}
 use Rattle.pdl_derived.proofs.Writes.{and_left, and_right, of_mem_append, row_committed}
-use Rattle.pdl_derived.proofs.Entries.{entries_of, addresses, places}
-use Rattle.pdl_turns.proofs.Phases.{Tied}
-use Rattle.pdl_facts.specs.Scans.{Phase, Fresh, Held, Written, Done, next_phase, phase_ok, no_guards, phases_ok, phase_all, is_over, none_of, scan_after, reads_ok, scan_after_all, is_plain, Scan, no_scan}
+use Rattle.pdl_derived.proofs.Entries.{entries_of, places}
+use Rattle.pdl_derived.proofs.Slots.{rev}
+use Rattle.pdl_turns.proofs.Phases.{Tied, finished, nil_of}
+use Rattle.pdl_facts.specs.Scans.{Phase, Fresh, next_phase, phase_ok, no_guards, phases_ok, phase_all, is_over, none_of, scan_after, reads_ok, scan_after_all, is_plain, Scan, no_scan}
 use Rattle.pdl_turns.proofs.Related.{Related, related_all, related_step, Ok, next_phases}
 use Rattle.pdl_derived.proofs.Stages.{step, joined, next_piece, do_all_append}
 use Rattle.pdl_facts.specs.Accepted.{Accepted}
-use Rattle.pdl_turns.proofs.Turn.{quiet, none_in_stage, none_before, none_from, release_looked, spots, spots_op}
+use Rattle.pdl_turns.proofs.Turn.{quiet, none_in_stage, none_before, none_from, release_looked, spots, spots_op, addresses_at}
 use Rattle.pdl_turns.proofs.Alike.{taken_none}
 use Rattle.pdl_semantics.specs.Sound.{stages_from}
 
@@ -27,10 +28,10 @@ free_here n ph x xs h = and_left _ _ (and_left _ _ h)
 -- the addresses stay over statements that don't reserve m
 spots_all : (arrays : Arrays) (m : ℕ) (xs : List Stmt) (ph : ℕ → Phase) (w : Work) (r : Run)
     → none_of (is_reserve m) xs ≡ true → ((n : ℕ) → phases_ok n (ph n) xs ≡ true) → Related arrays ph w r
-    → spots (entries_of m (do_all (alone arrays) xs w).entries) (of_mem m (do_all (alone arrays) xs w).commits) ≡ spots (entries_of m w.entries) (of_mem m w.commits)
+    → spots (phase_all m (ph m) xs) (do_all (alone arrays) xs w).env (of_mem m (run_all xs r).writes) ≡ spots (ph m) w.env (of_mem m r.writes)
 spots_all arrays m [] ph w r h ok rel = refl
 spots_all arrays m (x ∷ xs) ph w r h ok rel =
-    ap (λ v. spots (entries_of m (do_all (alone arrays) xs v).entries) (of_mem m (do_all (alone arrays) xs v).commits)) goes
+    ap₂ (λ (v : Work) (s : Run). spots (phase_all m (next_phase m (ph m) x.op) xs) (do_all (alone arrays) xs v).env (of_mem m (run_all xs s).writes)) goes goes'
     ∙ spots_all arrays m xs (next_phases ph x.op) (work_after (alone arrays) x.op w) (run_after x.op r) (and_right _ _ h) (λ n. and_right _ _ (ok n)) (related_step arrays ph x.op w r here rel)
     ∙ spots_op arrays m ph x.op w r (and_left _ _ h) here rel
   where
@@ -39,6 +40,9 @@ spots_all arrays m (x ∷ xs) ph w r h ok rel =
 
     goes : step (alone arrays) x w ≡ work_after (alone arrays) x.op w
     goes = ap (λ b. cond b (work_after (alone arrays) x.op w) w) (taken_none x.guards w.env (free_here 0 (ph 0) x xs (ok 0)))
+
+    goes' : (if all_hold x.guards r.env then run_after x.op r else r) ≡ run_after x.op r
+    goes' = ap (λ b. cond b (run_after x.op r) r) (taken_none x.guards r.env (free_here 0 (ph 0) x xs (ok 0)))
 
 -- the phases of a list in two parts
 pub phases_first : (m : ℕ) (xs ys : List Stmt) (ph : Phase) → phases_ok m ph (xs ++ ys) ≡ true → phases_ok m ph xs ≡ true
@@ -52,18 +56,16 @@ pub phases_second : (m : ℕ) (xs ys : List Stmt) (ph : Phase) → phases_ok m p
 phases_second m [] ys ph h = h
 phases_second m (x ∷ xs) ys ph h = phases_second m xs ys (next_phase m ph x.op) (and_right _ _ h)
 
+pub phase_append : (m : ℕ) (xs ys : List Stmt) (ph : Phase) → phase_all m ph (xs ++ ys) ≡ phase_all m (phase_all m ph xs) ys
+phase_append m [] ys ph = refl
+phase_append m (x ∷ xs) ys ph = phase_append m xs ys (next_phase m ph x.op)
+
 -- the run with which a turn begins, and after the stages before s
 abbrev pub start_run : Pipe → Arrays → List ℕ → Run
 start_run p arrays args = record { arrays = arrays; env = start_env p args; writes = []; next = [] }
 
 abbrev pub run_at : Pipe → Arrays → List ℕ → ℕ → Run
 run_at p arrays args s = run_all (before s p.stmts) (start_run p arrays args)
-
-pub finished : (m : ℕ) (ph : Phase) → is_over ph ≡ true → (env : List ℕ) (es : List Entry) (cs ws : List Commit) → Tied m ph env es cs ws → (es ≡ []) × (cs ≡ ws)
-finished m Fresh h env es cs ws t = (t.0, t.1 ∙ sym t.2)
-finished m (Held x) h env es cs ws t = cc
-finished m (Written x) h env es cs ws t = cc
-finished m Done h env es cs ws t = t
 
 undone_split : (c s : ℕ) (us xs : List Commit) → (s ≢ c → xs ≡ []) → (s ≡ c → xs ≡ us) → cond (nat_lt c s) [] us ≡ xs ++ cond (nat_lt c (suc s)) [] us
 undone_split c s us xs f g = at (nat_lt c s) refl (nat_lt c (suc s)) refl
@@ -83,13 +85,6 @@ undone_split c s us xs f g = at (nat_lt c s) refl (nat_lt c (suc s)) refl
         apart : s ≢ c
         apart q = let i : suc s ≤ c = ltb-false c (suc s) k in omega arith
 
-pub no_more : (es : List Entry) (l : List ℕ) → addresses es ++ l ≡ l → es ≡ []
-no_more [] l h = refl
-no_more (e ∷ es) l h = absurd (longer (ap length h))
-  where
-    longer : suc (length (addresses es ++ l)) ≡ length l → ⊥
-    longer k = let j : length (addresses es ++ l) ≡ length (addresses es) + length l = length-append (addresses es) l in omega arith
-
 reads_first : (p : Pipe) (xs ys : List Stmt) (c : Scan) → reads_ok p c (xs ++ ys) ≡ true → reads_ok p (scan_after_all xs c) ys ≡ true
 reads_first p [] ys c h = h
 reads_first p (x ∷ xs) ys c h = reads_first p xs ys (scan_after x.op c) (and_right _ _ h)
@@ -104,7 +99,7 @@ run_append (x ∷ xs) ys r = run_append xs ys (if all_hold x.guards r.env then r
 
 module _ (p : Pipe) (acc : Accepted p) (arrays : Arrays) (args : List ℕ) where
   pub start_related : Related arrays (λ m. Fresh) (start_work p args) (start_run p arrays args)
-  start_related = record { env = refl; arrays_now = refl; tied = λ m. (refl, refl, refl) }
+  start_related = record { env = refl; arrays_now = refl; tied = λ m. record { fulls = []; entries = refl; vars = refl; written = refl; calm = λ h. refl } }
 
   pub ok_before : (s m : ℕ) → phases_ok m Fresh (before s p.stmts) ≡ true
   ok_before s m = phases_first m (before s p.stmts) (stages_from s p.stmts) Fresh (subst (λ l. phases_ok m Fresh l ≡ true) (acc.ordered s) (acc.phases m))
@@ -152,12 +147,22 @@ module _ (p : Pipe) (acc : Accepted p) (arrays : Arrays) (args : List ℕ) where
           ∙ ap (λ (w : Work). of_mem m w.commits) (sym (piece s))
           ∙ commits_late (suc s) m (le_of_eq (ap suc (sym e)))
 
-  -- past the reserves, the pending addresses are those of the undone writes
-  pub all_places : (s m : ℕ) → reserve_stage p m < s → spots (entries_of m (so_far p arrays args s).entries) (of_mem m (so_far p arrays args s).commits) ≡ places (of_mem m (thread p arrays args).writes)
+  -- the rest of the sequential thread
+  pub run_rest : (s : ℕ) → thread p arrays args ≡ run_all (stages_from s p.stmts) (run_at p arrays args s)
+  run_rest s = ap (λ l. run_all l (start_run p arrays args)) (acc.ordered s) ∙ run_append (before s p.stmts) (stages_from s p.stmts) (start_run p arrays args)
+
+  -- past the reserves, the addresses of the writes made and of those to come are those of the turn's writes
+  pub all_places : (s m : ℕ) → reserve_stage p m < s → spots (phase_all m Fresh (before s p.stmts)) (so_far p arrays args s).env (of_mem m (run_at p arrays args s).writes) ≡ places (of_mem m (thread p arrays args).writes)
   all_places s m h =
       sym (spots_all arrays m (stages_from s p.stmts) (λ n. phase_all n Fresh (before s p.stmts)) (so_far p arrays args s) (run_at p arrays args s) (none_from (is_reserve m) (reserve_stage p m) s p.stmts (acc.reserves m) h) (ok_from s) (related_at s))
-      ∙ ap (λ (w : Work). spots (entries_of m w.entries) (of_mem m w.commits)) (sym (rest_of s))
-      ∙ ap₂ spots (at_end m).0 (at_end m).1
+      ∙ ap (λ xs. places (of_mem m (run_all (stages_from s p.stmts) (run_at p arrays args s)).writes) ++ rev (addresses_at (do_all (alone arrays) (stages_from s p.stmts) (so_far p arrays args s)).env xs)) none_open
+      ∙ append-nil _
+      ∙ ap (λ (r : Run). places (of_mem m r.writes)) (sym (run_rest s))
+    where
+      none_open : (phase_all m (phase_all m Fresh (before s p.stmts)) (stages_from s p.stmts)).open ≡ []
+      none_open =
+          nil_of _ (and_left (is_nil (phase_all m (phase_all m Fresh (before s p.stmts)) (stages_from s p.stmts)).open) _
+          (subst (λ ph. is_over ph ≡ true) (ap (phase_all m Fresh) (acc.ordered s) ∙ phase_append m (before s p.stmts) (stages_from s p.stmts) Fresh) (acc.over m)))
 
   -- the array of m after the turn
   pub row_after : (m : ℕ) → row (thread p arrays args).arrays m ≡ wrote (row arrays m) (of_mem m (thread p arrays args).writes)
