@@ -66,21 +66,21 @@ none_of test (x ∷ xs) = not (test x.op) && none_of test xs
 
 -- how far a thread is with its writes to a memory: the variables of the locations that it reserved for writing, the youngest first: those without a value, those with one, and those that it released
 pub record Phase : Type 0 where
-  pub open : List ℕ
+  pub unwritten : List ℕ
   pub full : List ℕ
   pub gone : List ℕ
 
 abbrev pub Fresh : Phase
-Fresh = record { open = []; full = []; gone = [] }
+Fresh = record { unwritten = []; full = []; gone = [] }
 
 abbrev pub after_write : Phase → ℕ → Phase
-after_write ph a = record { open = but_last ph.open; full = a ∷ ph.full; gone = ph.gone }
+after_write ph a = record { unwritten = but_last ph.unwritten; full = a ∷ ph.full; gone = ph.gone }
 
 abbrev pub after_release : Phase → ℕ → Phase
-after_release ph a = if is_among a ph.full then record { open = ph.open; full = drop_var a ph.full; gone = a ∷ ph.gone } else ph
+after_release ph a = if is_among a ph.full then record { unwritten = ph.unwritten; full = drop_var a ph.full; gone = a ∷ ph.gone } else ph
 
 abbrev pub after_reserve : Phase → ℕ → Phase
-after_reserve ph a = record { open = a ∷ ph.open; full = ph.full; gone = ph.gone }
+after_reserve ph a = record { unwritten = a ∷ ph.unwritten; full = ph.full; gone = ph.gone }
 
 abbrev pub next_phase : ℕ → Phase → Op → Phase
 next_phase m ph (ReserveWrite n a) = if n == m then after_reserve ph a else ph
@@ -94,20 +94,20 @@ may_read ph = is_nil ph.full && is_nil ph.gone
 
 -- writes come in the order of their reservations
 abbrev pub may_write : Phase → ℕ → Bool
-may_write ph a = is_oldest a ph.open
+may_write ph a = is_oldest a ph.unwritten
 
 -- a location is reserved once
 abbrev pub is_new : Phase → ℕ → Bool
-is_new ph a = not (is_among a ph.open) && (not (is_among a ph.full) && not (is_among a ph.gone))
+is_new ph a = not (is_among a ph.unwritten) && (not (is_among a ph.full) && not (is_among a ph.gone))
 
 -- a statement in this phase of m: a location's variable is not bound again before the write, a read precedes the writes, and a release comes after its write
 abbrev pub phase_ok : ℕ → Phase → Op → Bool
-phase_ok m ph (Bind x e) = not (is_among x ph.open)
-phase_ok m ph (CombRead x n a) = not (is_among x ph.open) && (not (n == m) || may_read ph)
+phase_ok m ph (Bind x e) = not (is_among x ph.unwritten)
+phase_ok m ph (CombRead x n a) = not (is_among x ph.unwritten) && (not (n == m) || may_read ph)
 phase_ok m ph (DelayedRead x n a) = false
 phase_ok m ph (Write n a e) = not (n == m) || may_write ph a
 phase_ok m ph (ReserveWrite n a) = not (n == m) || is_new ph a
-phase_ok m ph (Release n a) = not (n == m) || not (is_among a ph.open)
+phase_ok m ph (Release n a) = not (n == m) || not (is_among a ph.unwritten)
 phase_ok m ph _ = true
 
 abbrev pub phases_ok : ℕ → Phase → List Stmt → Bool
@@ -119,7 +119,7 @@ phase_all m ph [] = ph
 phase_all m ph (x ∷ xs) = phase_all m (next_phase m ph x.op) xs
 
 abbrev pub is_over : Phase → Bool
-is_over ph = is_nil ph.open && is_nil ph.full
+is_over ph = is_nil ph.unwritten && is_nil ph.full
 
 -- how many write reservations of m there are
 abbrev pub write_reserves : ℕ → List Stmt → ℕ

@@ -11,7 +11,10 @@ use Rattle.pdl_semantics.specs.Sound.{all_below}
 use Rattle.pdl_kit.specs.declared.rule.Rule.TheVariants.{F5}
 use Rattle.pdl_rules.specs.Places.{Place, Parameter, Memory, Statement, End, StartClause, Guard, statements, places, on_path}
 use Rattle.pdl_rules.specs.Locks
-use Rattle.pdl_rules.specs.Locks.{is_locked, is_reserve_of, is_write_of, reserves_location}
+use Rattle.pdl_rules.specs.Locks.{is_locked, most_reservations, reserves_location}
+use Rattle.pdl_facts.proofs.Apart.{total_all}
+use Rattle.pdl_pathfacts.proofs.WritesKept.{stands_first}
+use Rattle.pdl_semantics.specs.Locks.{has_room}
 use Rattle.pdl_rules.specs.Stages.{reserves_memory, releases_memory}
 use Rattle.pdl_rules.specs.Names.{OfGuess, defines_use}
 use Rattle.pdl_rules.specs.Calls.{is_call, is_wrong_call}
@@ -19,7 +22,7 @@ use Rattle.pdl_rules.specs.Speculation
 use Rattle.pdl_rules.specs.Refusal.{KeepsRules}
 use Rattle.pdl_rules.proofs.EachPlace.{Each, closing}
 use Rattle.pdl_rules.proofs.Once.{KeepsLocks, AreBacked, none_backed, backed_next, reserves_to_write, count_none}
-use Rattle.pdl_facts.specs.Scans.{is_plain, none_of, all_at, reads_ok, no_scan, phases_ok, phase_all, Fresh, is_over}
+use Rattle.pdl_facts.specs.Scans.{is_plain, none_of, all_at, reads_ok, no_scan, phases_ok, phase_all, Fresh, is_over, write_reserves}
 use Rattle.pdl_derived.specs.Alone
 use Rattle.pdl_facts.specs.Certain
 use Rattle.pdl_facts.specs.Certain.{Unmade, makings_ok, making_all, is_made, all_sure}
@@ -233,12 +236,16 @@ module _ (p : Pipe) (rules : KeepsRules p) where
         reads_along p q lock_is 0 _ (params_of p.params) _ (front_of p) no_scan ts known (grows_on p.mems c (params_of p.params) _ (sites_of p) (grows_all p)) (all_rise p c (body_forked p rules)) each
         (λ m there e. absurd (both_ways _ (none_front p (reserves_memory m) (λ a. refl) (λ m. refl)) e)) scanned
 
-    writes_pass : (i : ℕ) → i < length p.mems → (phases_ok i Fresh (seen p.mems ts) ≡ true) × (is_over (phase_all i Fresh (seen p.mems ts)) ≡ true)
+    writes_pass : (i : ℕ) → i < length p.mems → (phases_ok i Fresh (seen p.mems ts) ≡ true) × (is_over (phase_all i Fresh (seen p.mems ts)) ≡ true) × (has_room (mem_at q i).lock (write_reserves i (seen p.mems ts)) 0 ≡ true)
     writes_pass i low =
         let n = at_number p.mems i (distinct p rules p.mems (map Parameter p.params) (all_after p)) low in
-        subst (λ k. (phases_ok k Fresh (seen p.mems ts) ≡ true) × (is_over (phase_all k Fresh (seen p.mems ts)) ≡ true)) n.2
-        (writes_along p q lock_is n.0 n.1 (params_of p.params) _ (front_of p) Fresh ts known (grows_on p.mems c (params_of p.params) _ (sites_of p) (grows_all p)) each backed
-        (none_front p (is_reserve_of W n.0) (λ a. refl) (λ m. refl), none_front p (is_write_of n.0) (λ a. refl) (λ m. refl)))
+        subst (λ k. (phases_ok k Fresh (seen p.mems ts) ≡ true) × (is_over (phase_all k Fresh (seen p.mems ts)) ≡ true) × (has_room (mem_at q k).lock (write_reserves k (seen p.mems ts)) 0 ≡ true)) n.2
+        (let w = writes_along p q lock_is n.0 n.1 (params_of p.params) _ (front_of p) Fresh ts known (grows_on p.mems c (params_of p.params) _ (sites_of p) (grows_all p)) each backed (stands_first p (params_of p.params) (front_of p) n.0 (λ f g h. none_front p f g h)) in (
+          w.0,
+          w.1,
+          rooms p rules p.mems (map Parameter p.params) n.0 (all_after p) (write_reserves (mem_of p.mems n.0) (seen p.mems ts))
+              (subst (λ k. k ≤ most_reservations p.mems W n.0) (total_all (mem_of p.mems n.0) Fresh (seen p.mems ts) w.0) w.2),
+        ))
 
     plain_or : (m : ℕ) (b : Bool) → (is_plain (mem_at q m).lock ≡ true → b ≡ true) → (not (is_plain (mem_at q m).lock) || b) ≡ true
     plain_or m b f = ⊎_elim (λ t. or_right (not (is_plain (mem_at q m).lock)) b (f t)) (λ t. or_left (not (is_plain (mem_at q m).lock)) b (ap not t)) (cases_Bool (is_plain (mem_at q m).lock))
@@ -247,9 +254,10 @@ module _ (p : Pipe) (rules : KeepsRules p) where
     mem_pass i low =
         and_from _ _ (writes_pass i low).0
         (and_from _ _ (writes_pass i low).1
+        (and_from _ _ (writes_pass i low).2
         (and_from _ _ (Seen.at_seen (is_reserve i) (Seen.reserve_blind i) (reserve_stage q i) p.mems ts (all_on (λ t. some_op (is_reserve i) (ops p.mems t) ≡ true → t.walk.stage ≡ reserve_stage q i) c (sites_of p) (reserve_home i)))
         (and_from _ _ (Seen.at_seen (is_release i) (Seen.release_blind i) (commit_stage q i) p.mems ts (all_on (λ t. some_op (is_release i) (ops p.mems t) ≡ true → t.walk.stage ≡ commit_stage q i) c (sites_of p) (release_home i)))
-        (plain_or i _ (λ e. Seen.none_seen (is_release i) (Seen.release_blind i) p.mems ts (all_on (λ t. some_op (is_release i) (ops p.mems t) ≡ false) c (sites_of p) (plain_releases i e)))))))
+        (plain_or i _ (λ e. Seen.none_seen (is_release i) (Seen.release_blind i) p.mems ts (all_on (λ t. some_op (is_release i) (ops p.mems t) ≡ false) c (sites_of p) (plain_releases i e))))))))
 
     abbrev o : Option ℕ
     o = Stages.verify_stage (flat p).stmts
@@ -299,15 +307,14 @@ module _ (p : Pipe) (rules : KeepsRules p) where
 
   lock_ok : (m : ℕ) → m < length p.mems → lock_passes q m ≡ true
   lock_ok m low =
-      and_from _ _ (rooms p rules p.mems (map Parameter p.params) m (all_after p))
-      (and_from _ _ (Seen.all_looked (is_reserve m) (Seen.reserve_blind m) (reserve_stage q m) (flat p).stmts ∙ reserves_in p rules m)
+      and_from _ _ (Seen.all_looked (is_reserve m) (Seen.reserve_blind m) (reserve_stage q m) (flat p).stmts ∙ reserves_in p rules m)
       (and_from _ _ (Seen.all_looked (is_release m) (Seen.release_blind m) (commit_stage q m) (flat p).stmts ∙ releases_in p rules m)
       (⊎_elim
       (λ t. or_right (not (is_plain (mem_at q m).lock)) _ (and_from _ _
       (eq-eqb _ 0 (ap (λ o. unwrap_or o 0) (stage_at is_reserve (flat p).stmts m p.mems low ∙ first_none (is_reserve m) (flat p).stmts (ap (none_of (is_reserve m)) (stmts_are p) ∙ none_sited (is_reserve m) p.mems (sites_of p) (plain_reserves m t)))))
       (eq-eqb _ (length q.stages) (ap (λ o. unwrap_or o (length q.stages)) (stage_at is_release (flat p).stmts m p.mems low ∙ first_none (is_release m) (flat p).stmts (ap (none_of (is_release m)) (stmts_are p) ∙ none_sited (is_release m) p.mems (sites_of p) (plain_releases m t)))))))
       (λ t. or_left (not (is_plain (mem_at q m).lock)) _ (ap not t))
-      (cases_Bool (is_plain (mem_at q m).lock)))))
+      (cases_Bool (is_plain (mem_at q m).lock))))
 
   locks_ok : locks_pass q ≡ true
   locks_ok =

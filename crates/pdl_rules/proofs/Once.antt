@@ -19,7 +19,7 @@ use Rattle.pdl_word.proofs.Lists.{all_weaker}
 pub record KeepsLocks (p : Pipe) (before : List Place) (x : Place) : Type 0 where
   pub l1 : lacks_hold p before x ≡ false
   pub l3 : is_late_read before x ≡ false
-  pub l4 : is_one_too_many before x ≡ false
+  pub l4 : is_one_too_many p before x ≡ false
   pub l5 : is_reserved_again before x ≡ false
   pub l6 : is_not_written_once before x ≡ false
   pub l7 : ends_open before x ≡ false
@@ -129,31 +129,6 @@ reserved_if_held l (x ∷ xs) h f e =
     (λ t. or_right _ _ (reserved_if_held l xs (after_place l h x) (unheld l h x t f) e))
     (cases_Bool (reserves_to_write l x))
 
--- of one write reservation a memory there is one location
-pub unique : (l a : Location) → l.mem.name ≡ a.mem.name → (xs : List Place) → count_by (is_reserve_of W a.mem.name) xs ≤ 1 → list_any (reserves_to_write l) xs ≡ true → list_any (reserves_to_write a) xs ≡ true → same_location l a ≡ true
-unique l a same [] n e f = absurd (false≢true e)
-unique l a same (x ∷ xs) n e f = by_place (or_cases _ _ e) (or_cases _ _ f) (unique l a same xs fewer)
-  where
-    fewer : count_by (is_reserve_of W a.mem.name) xs ≤ 1
-    fewer = let sum = count_cons (is_reserve_of W a.mem.name) x xs in omega arith
-
-    of_l : (y : Place) → reserves_to_write l y ≡ true → is_reserve_of W a.mem.name y ≡ true
-    of_l y t = subst (λ m. is_reserve_of W m y ≡ true) same (reserves_mem l y t)
-
-    more : is_reserve_of W a.mem.name x ≡ true → list_any (is_reserve_of W a.mem.name) xs ≡ true → ⊥
-    more t u =
-        let one : 1 ≤ count_by (is_reserve_of W a.mem.name) xs = counted (is_reserve_of W a.mem.name) xs u in
-        let here : weight (is_reserve_of W a.mem.name x) ≡ 1 = ap weight t in
-        let sum = count_cons (is_reserve_of W a.mem.name) x xs in
-        omega arith
-
-    by_place : (reserves_to_write l x ≡ true) ⊎ (list_any (reserves_to_write l) xs ≡ true) → (reserves_to_write a x ≡ true) ⊎ (list_any (reserves_to_write a) xs ≡ true)
-        → (list_any (reserves_to_write l) xs ≡ true → list_any (reserves_to_write a) xs ≡ true → same_location l a ≡ true) → same_location l a ≡ true
-    by_place (inl t) (inl u) rest = one_place l a x t u
-    by_place (inl t) (inr u) rest = absurd (more (of_l x t) (any_weaker _ _ (reserves_mem a) xs u))
-    by_place (inr t) (inl u) rest = absurd (more (reserves_mem a x u) (any_weaker _ _ of_l xs t))
-    by_place (inr t) (inr u) rest = rest t u
-
 -- THE PLACES SO FAR
 
 -- whether a write goes to a location that one of these places reserves for it
@@ -161,21 +136,12 @@ abbrev is_backed : List Place → Place → Bool
 is_backed before (Statement (Write _ l _) _) = list_any (reserves_to_write l) before
 is_backed before _ = true
 
--- a memory has one write reservation at most, and each write has its location reserved
+-- each write has its location reserved
 pub record AreBacked (before : List Place) : Type 0 where
-  pub single : (m : List ℕ) → count_by (is_reserve_of W m) before ≤ 1
   pub backed : list_all (is_backed before) before ≡ true
 
 pub none_backed : AreBacked []
-none_backed = record { single = λ m. omega arith; backed = refl }
-
-first_reserve : (before : List Place) (x : Place) → is_one_too_many before x ≡ false → (m : List ℕ) → is_reserve_of W m x ≡ true → count_by (is_reserve_of W m) before ≡ 0
-first_reserve before (Statement (Reserve s l W) bs) few m e =
-    let none : count_by (is_reserve_of W l.mem.name) before < 1 = leb-false 1 _ few in
-    let zero_count : count_by (is_reserve_of W l.mem.name) before ≡ 0 = omega arith in
-    subst (λ n. count_by (is_reserve_of W n) before ≡ 0) (bytes_same l.mem.name m e) zero_count
-first_reserve before (Statement (Reserve s l R) bs) few m e = absurd (false≢true e)
-first_reserve before _ few m e = absurd (false≢true e)
+none_backed = record { backed = refl }
 
 backed_more : (before : List Place) (y x : Place) → is_backed before x ≡ true → is_backed (before ++ y ∷ []) x ≡ true
 backed_more before y (Statement (Write s l v) bs) e = any_front (reserves_to_write l) before y e
@@ -197,35 +163,28 @@ backed_here p before _ e = refl
 
 pub backed_next : (p : Pipe) (before : List Place) (x : Place) → KeepsLocks p before x → AreBacked before → AreBacked (before ++ x ∷ [])
 backed_next p before x k b = record {
-  single = λ m. single m (is_reserve_of W m x) refl;
   backed = list_all-append _ before (x ∷ []) ∙ and_from _ _
       (all_weaker _ _ (backed_more before x) before b.backed)
       (and_from _ _ (backed_more before x x (backed_here p before x k.l1)) refl);
 }
-  where
-    single : (m : List ℕ) (c : Bool) → is_reserve_of W m x ≡ c → count_by (is_reserve_of W m) (before ++ x ∷ []) ≤ 1
-    single m true e =
-        let none : count_by (is_reserve_of W m) before ≡ 0 = first_reserve before x k.l4 m e in
-        let here : weight (is_reserve_of W m x) ≡ 1 = ap weight e in
-        omega (arith, count_push (is_reserve_of W m) before x)
-    single m false e =
-        let few : count_by (is_reserve_of W m) before ≤ 1 = b.single m in
-        let here : weight (is_reserve_of W m x) ≡ 0 = ap weight e in
-        omega (arith, count_push (is_reserve_of W m) before x)
 
--- a write of the memory after which another stands to one location, goes to that location too
-written_there : (before : List Place) (a : Location) → AreBacked before → list_any (reserves_to_write a) before ≡ true → (x : Place) → is_backed before x ≡ true → is_write_of a.mem.name x ≡ true → writes_location a x ≡ true
-written_there before a b r (Statement (Write s l v) bs) e w = unique l a (bytes_same _ _ w) before (b.single a.mem.name) e r
-written_there before a b r _ e w = absurd (false≢true w)
+-- what is written is reserved
+reserved_alike : (a b : Location) → same_location a b ≡ true → (x : Place) → reserves_to_write a x ≡ reserves_to_write b x
+reserved_alike a b e (Statement (Reserve s l k) bs) = ap (λ c. same_kind W k && c) (same_right l a b e)
+reserved_alike a b e _ = refl
 
-all_there : (before : List Place) (a : Location) → AreBacked before → list_any (reserves_to_write a) before ≡ true → (xs : List Place) → list_all (is_backed before) xs ≡ true → list_any (is_write_of a.mem.name) xs ≡ true → list_any (writes_location a) xs ≡ true
-all_there before a b r [] e w = absurd (false≢true w)
-all_there before a b r (x ∷ xs) e w =
+written_here : (before : List Place) (a : Location) (x : Place) → is_backed before x ≡ true → writes_location a x ≡ true → list_any (reserves_to_write a) before ≡ true
+written_here before a (Statement (Write s l v) bs) e w = sym (ap (λ f. list_any f before) (fun_ext (reserved_alike l a w))) ∙ e
+written_here before a _ e w = absurd (false≢true w)
+
+written_among : (before : List Place) (a : Location) (xs : List Place) → list_all (is_backed before) xs ≡ true → list_any (writes_location a) xs ≡ true → list_any (reserves_to_write a) before ≡ true
+written_among before a [] e w = absurd (false≢true w)
+written_among before a (x ∷ xs) e w =
     let parts = and_parts (is_backed before x) (list_all (is_backed before) xs) e in
-    ⊎_elim
-    (λ t. or_left _ _ (written_there before a b r x parts.0 t))
-    (λ t. or_right _ _ (all_there before a b r xs parts.1 t))
-    (or_cases (is_write_of a.mem.name x) (list_any (is_write_of a.mem.name) xs) w)
+    ⊎_elim (λ t. written_here before a x parts.0 t) (λ t. written_among before a xs parts.1 t) (or_cases (writes_location a x) (list_any (writes_location a) xs) w)
+
+pub written_reserved : (before : List Place) (a : Location) → AreBacked before → list_any (writes_location a) before ≡ true → list_any (reserves_to_write a) before ≡ true
+written_reserved before a b w = written_among before a before b.backed w
 
 -- WRITTEN TWICE
 
@@ -276,10 +235,10 @@ stuck_at_end : (p : Pipe) (l : Location) (xs later before : List Place) (s : Spa
 stuck_at_end p l [] later before s stuck each = both_ways _ each.0.l7 (any_weaker _ _ (left_open before l stuck.holds) before stuck.reserved)
 stuck_at_end p l (x ∷ xs) later before s stuck each = stuck_at_end p l xs later (before ++ x ∷ []) s (stuck_next p l before x each.0 stuck) each.1
 
--- no write of a memory stands after a write of it
-pub written_once : (p : Pipe) (s : Span) (l : Location) (v : Expr) (bs : List Branch) (before xs later : List Place) (end : Span) → AreBacked before
-    → Each (KeepsLocks p) before (Statement (Write s l v) bs ∷ (xs ++ End end ∷ later)) → list_any (is_write_of l.mem.name) before ≡ false
-written_once p s l v bs before xs later end b each = go (list_any (is_write_of l.mem.name) before) refl
+-- no write through a location stands after a write through it
+pub written_once : (p : Pipe) (s : Span) (l : Location) (v : Expr) (bs : List Branch) (before xs later : List Place) (end : Span)
+    → Each (KeepsLocks p) before (Statement (Write s l v) bs ∷ (xs ++ End end ∷ later)) → list_any (writes_location l) before ≡ false
+written_once p s l v bs before xs later end each = go (list_any (writes_location l) before) refl
   where
     here : hold_after l before ≡ Blocked W
     here = held_if_blocked _ (not-false _ each.0.l1)
@@ -287,16 +246,16 @@ written_once p s l v bs before xs later end b each = go (list_any (is_write_of l
     asked : list_any (reserves_to_write l) before ≡ true
     asked = reserved_if_blocked l before here
 
-    stuck : list_any (is_write_of l.mem.name) before ≡ true → IsStuck l (before ++ Statement (Write s l v) bs ∷ [])
+    stuck : list_any (writes_location l) before ≡ true → IsStuck l (before ++ Statement (Write s l v) bs ∷ [])
     stuck e = record {
       holds = fold_push (after_place l) Nothing before (Statement (Write s l v) bs) ∙ here;
       reserved = any_front (reserves_location l) before _ (any_weaker _ _ (reserves_some l) before asked);
       many =
-          let one : 1 ≤ count_by (writes_location l) before = counted (writes_location l) before (all_there before l b asked before b.backed e) in
+          let one : 1 ≤ count_by (writes_location l) before = counted (writes_location l) before e in
           let this : weight (writes_location l (Statement (Write s l v) bs)) ≡ 1 = ap weight (location_refl l) in
           omega (arith, count_push (writes_location l) before (Statement (Write s l v) bs));
     }
 
-    go : (b : Bool) → list_any (is_write_of l.mem.name) before ≡ b → b ≡ false
+    go : (b : Bool) → list_any (writes_location l) before ≡ b → b ≡ false
     go true e = absurd (stuck_at_end p l xs later _ end (stuck e) each.1)
     go false e = refl

@@ -1,8 +1,8 @@
 -- Locks: rules F5, L1 and L3 to L7. The rules L are asked on each path, of the places before on that path, the earlier ones.
-use Rattle.std.specs.Prelude.{ℕ, Bool, true, false, not, ◌&&◌, ◌==◌, nat_le, List, [], ◌∷◌, fold, count_by, if◌then◌else◌, bytes_eq}
+use Rattle.std.specs.Prelude.{ℕ, Bool, true, false, not, ◌&&◌, ◌==◌, nat_le, List, [], ◌∷◌, Option, Some, None, fold, count_by, if◌then◌else◌, bytes_eq}
 use Rattle.std.specs.List.{list_any}
 use Rattle.std.specs.Option.{is_some}
-use Rattle.pdl_semantics.specs.Tree.{Location, Kind, R, W, CombRead, DelayedRead, Write, Reserve, Block, Release, Mem, Pipe}
+use Rattle.pdl_semantics.specs.Tree.{Location, Kind, R, W, CombRead, DelayedRead, Write, Reserve, Block, Release, LockDecl, Mem, Pipe}
 use Rattle.pdl_rules.specs.Places.{Place, Statement, End, on_some_path}
 
 -- whether a memory has a lock, by its name
@@ -99,17 +99,27 @@ is_late_read earlier _ = false
 abbrev pub breaks_l3 : Pipe → List Place → Place → Bool
 breaks_l3 p before x = on_some_path (λ earlier. is_late_read earlier x) p before x
 
--- L4: a second write reservation or a fifth read reservation of a memory
-abbrev pub most_reservations : Kind → ℕ
-most_reservations R = 4
-most_reservations W = 1
+-- the size of a memory's lock, by its name
+abbrev pub size_of : Option LockDecl → ℕ
+size_of None = 0
+size_of (Some l) = l.size.value
 
-abbrev pub is_one_too_many : List Place → Place → Bool
-is_one_too_many earlier (Statement (Reserve _ at k) _) = nat_le (most_reservations k) (count_by (is_reserve_of k at.mem.name) earlier)
-is_one_too_many earlier _ = false
+abbrev pub lock_size : List Mem → List ℕ → ℕ
+lock_size [] m = 0
+lock_size (x ∷ xs) m = if bytes_eq x.name.name m then size_of x.lock else lock_size xs m
+
+-- L4: a third write reservation of a memory, a second one where its lock has size 1, or a fifth read reservation
+abbrev pub most_reservations : List Mem → Kind → List ℕ → ℕ
+most_reservations ms R m = 4
+most_reservations ms W m = if lock_size ms m == 1 then 1 else 2
+
+abbrev pub is_one_too_many : Pipe → List Place → Place → Bool
+is_one_too_many p earlier (Statement (Reserve _ at k) _) =
+    nat_le (most_reservations p.mems k at.mem.name) (count_by (is_reserve_of k at.mem.name) earlier)
+is_one_too_many p earlier _ = false
 
 abbrev pub breaks_l4 : Pipe → List Place → Place → Bool
-breaks_l4 p before x = on_some_path (λ earlier. is_one_too_many earlier x) p before x
+breaks_l4 p before x = on_some_path (λ earlier. is_one_too_many p earlier x) p before x
 
 -- L5: a location that is reserved again
 abbrev pub reserves_location : Location → Place → Bool
@@ -123,14 +133,28 @@ is_reserved_again earlier _ = false
 abbrev pub breaks_l5 : Pipe → List Place → Place → Bool
 breaks_l5 p before x = on_some_path (λ earlier. is_reserved_again earlier x) p before x
 
--- L6: the release of a write reservation through which there was no write, or more than one
+-- the location of a memory that is reserved first for writing
+abbrev pub first_reserved : List ℕ → List Place → Option Location
+first_reserved m [] = None
+first_reserved m (x ∷ xs) = if is_reserve_of W m x then location_of x else first_reserved m xs
+  where
+    location_of : Place → Option Location
+    location_of (Statement (Reserve _ at _) _) = Some at
+    location_of _ = None
+
+-- L6: the release of a write reservation through which there was no write, or more than one, or a write through the second reservation of a memory with none through the first before it
 abbrev pub writes_location : Location → Place → Bool
 writes_location l (Statement (Write _ at _) _) = same_location at l
 writes_location l _ = false
 
+abbrev pub is_too_early : Location → List Place → Option Location → Bool
+is_too_early at earlier None = false
+is_too_early at earlier (Some first) = not (same_location first at) && not (list_any (writes_location first) earlier)
+
 abbrev pub is_not_written_once : List Place → Place → Bool
 is_not_written_once earlier (Statement (Release _ at) _) =
     is_held_for W (hold_after at earlier) && not (count_by (writes_location at) earlier == 1)
+is_not_written_once earlier (Statement (Write _ at _) _) = is_too_early at earlier (first_reserved at.mem.name earlier)
 is_not_written_once earlier _ = false
 
 abbrev pub breaks_l6 : Pipe → List Place → Place → Bool

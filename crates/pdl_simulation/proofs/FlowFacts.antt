@@ -24,7 +24,7 @@ at_most_one test (x ∷ xs) = if test x.op then none_of test xs else at_most_one
 abbrev pub use_ok : ℕ → Phase → Op → Bool
 use_ok m ph (Write n a e) = not (n == m) || may_write ph a
 use_ok m ph (ReserveWrite n a) = not (n == m) || is_new ph a
-use_ok m ph (Release n a) = not (n == m) || not (is_among a ph.open)
+use_ok m ph (Release n a) = not (n == m) || not (is_among a ph.unwritten)
 use_ok m ph _ = true
 
 abbrev pub uses_ok : ℕ → Phase → List Stmt → Bool

@@ -90,4 +90,3 @@ out_more m k rel two three mine mine' cs c out e f g (inr s) =
       enough = let l = length-append two mine in omega arith;
       shows = ap₂ (λ a b. a ++ b) s.3 g ∙ sym (ap₂ (λ j l. released m (take j (l ++ mine))) z s.1);
     }
-

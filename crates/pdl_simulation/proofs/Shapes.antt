@@ -28,7 +28,7 @@ pub record Shape (m : ℕ) (ph : Phase) (es : List Entry) : Type 0 where
   pub opens : List Open
   pub fulls : List Full
   pub entries : es ≡ waiting m opens ++ known m fulls
-  pub at_open : open_vars opens ≡ ph.open
+  pub at_open : open_vars opens ≡ ph.unwritten
   pub at_full : full_vars fulls ≡ ph.full
   pub apart : Apart ph
 
@@ -42,7 +42,7 @@ no_opens (o ∷ os) h = absurd (cc h)
 pub shape_over : (m : ℕ) (ph : Phase) (es : List Entry) → is_over ph ≡ true → Shape m ph es → es ≡ []
 shape_over m ph es h s =
     s.entries
-    ∙ ap₂ (λ l k. waiting m l ++ known m k) (no_opens s.opens (s.at_open ∙ nil_of ph.open (and_left _ _ h))) (no_fulls s.fulls (s.at_full ∙ nil_of ph.full (and_right (is_nil ph.open) _ h)))
+    ∙ ap₂ (λ l k. waiting m l ++ known m k) (no_opens s.opens (s.at_open ∙ nil_of ph.unwritten (and_left _ _ h))) (no_fulls s.fulls (s.at_full ∙ nil_of ph.full (and_right (is_nil ph.unwritten) _ h)))
 
 pub shape_none : (m : ℕ) (es : List Entry) → Shape m Fresh es → es ≡ []
 shape_none m es s = shape_over m Fresh es refl s
@@ -185,7 +185,7 @@ stuck m (Write k a e) ph h r = at (k == m)
     never false = refl
 
     at : (b : Bool) → is_over (cond b (after_write ph a) ph) ≡ false
-    at true = never (is_nil (but_last ph.open))
+    at true = never (is_nil (but_last ph.unwritten))
     at false = h
 stuck m (Release k a) ph h r = at (k == m) r
   where

@@ -59,18 +59,18 @@ pub worked : (m n : ℕ) (start : List Pending) (d : Deeds) (w : Work) (ph : Pha
 worked m n start d w ph g (inl h) =
     let none : g.out ≡ [] = no_length g.out (g.outs ∙ h) in
     let two : with_writes_of m n d.writes (start ++ new_entries m n d.reserves) ≡ pend m n w.entries =
-        g.two ∙ ap₂ (λ l k. l ++ (k ++ pend m n (waiting m g.opens))) none (g.exact h) ∙ sym (pend_append m n (waiting m g.opens) (known m g.fulls)) ∙ ap (pend m n) (sym g.entries) ∙ sym (pend_own m n w.entries) in
+    g.two ∙ ap₂ (λ l k. l ++ (k ++ pend m n (waiting m g.opens))) none (g.exact h) ∙ sym (pend_append m n (waiting m g.opens) (known m g.fulls)) ∙ ap (pend m n) (sym g.entries) ∙ sym (pend_own m n w.entries) in
     record {
       after = sym two ∙ sym (ap (λ k. drop k (with_writes_of m n d.writes (start ++ new_entries m n d.reserves))) h);
       full = inl h;
       commits = g.commits ∙ ap (released m) none ∙ sym (ap (λ k. released m (take k (with_writes_of m n d.writes (start ++ new_entries m n d.reserves)))) h);
     }
 worked m n start d w ph g (inr h) =
-    let closed : g.opens ≡ [] = no_opens g.opens (g.at_open ∙ nil_of ph.open (and_left _ _ h)) in
-    let empty : g.fulls ≡ [] = no_fulls g.fulls (g.at_full ∙ nil_of ph.full (and_right (is_nil ph.open) _ h)) in
+    let closed : g.opens ≡ [] = no_opens g.opens (g.at_open ∙ nil_of ph.unwritten (and_left _ _ h)) in
+    let empty : g.fulls ≡ [] = no_fulls g.fulls (g.at_full ∙ nil_of ph.full (and_right (is_nil ph.unwritten) _ h)) in
     let rest : g.rest ≡ [] = no_unnamed g.rest (g.same ∙ ap (λ l. pendings n (told m l)) empty) in
     let two : with_writes_of m n d.writes (start ++ new_entries m n d.reserves) ≡ g.out =
-        g.two ∙ ap₂ (λ l k. g.out ++ (l ++ pend m n (waiting m k))) rest closed ∙ append-nil g.out in
+    g.two ∙ ap₂ (λ l k. g.out ++ (l ++ pend m n (waiting m k))) rest closed ∙ append-nil g.out in
     record {
       after = pend_own m n w.entries ∙ ap (pend m n) (g.entries ∙ ap₂ (λ l k. waiting m l ++ known m k) closed empty) ∙ sym (ap₂ drop (sym g.outs) two ∙ drop_whole g.out);
       full = inr (ap length two ∙ g.outs);

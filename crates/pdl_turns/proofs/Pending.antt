@@ -142,13 +142,13 @@ module _ (p : Pipe) (acc : Accepted p) (arrays : Arrays) (args : List ℕ) where
       cs : List Commit
       cs = of_mem m (so_far p arrays args s).commits
 
-      total : length (told m (tied_at s m).fulls) + length (rev (addresses_at (so_far p arrays args s).env (phase_all m Fresh (before s p.stmts)).open)) ≡ 0
+      total : length (told m (tied_at s m).fulls) + length (rev (addresses_at (so_far p arrays args s).env (phase_all m Fresh (before s p.stmts)).unwritten)) ≡ 0
       total =
           let all = all_places p acc arrays args s m r in
-          let ls : length (places (of_mem m (run_at p arrays args s).writes)) + length (rev (addresses_at (so_far p arrays args s).env (phase_all m Fresh (before s p.stmts)).open)) ≡ length (places cs) =
-              sym (length-append (places (of_mem m (run_at p arrays args s).writes)) _) ∙ ap length all ∙ ap (λ l. length (places l)) (sym (commits_late p acc arrays args s m h)) in
+          let ls : length (places (of_mem m (run_at p arrays args s).writes)) + length (rev (addresses_at (so_far p arrays args s).env (phase_all m Fresh (before s p.stmts)).unwritten)) ≡ length (places cs) =
+          sym (length-append (places (of_mem m (run_at p arrays args s).writes)) _) ∙ ap length all ∙ ap (λ l. length (places l)) (sym (commits_late p acc arrays args s m h)) in
           let ws : length (places (of_mem m (run_at p arrays args s).writes)) ≡ length (places cs) + length (told m (tied_at s m).fulls) =
-              ap (λ l. length (places l)) (tied_at s m).written ∙ ap length (places_append cs (told m (tied_at s m).fulls)) ∙ length-append (places cs) _ ∙ ap (λ n. length (places cs) + n) (length_places (told m (tied_at s m).fulls)) in
+          ap (λ l. length (places l)) (tied_at s m).written ∙ ap length (places_append cs (told m (tied_at s m).fulls)) ∙ length-append (places cs) _ ∙ ap (λ n. length (places cs) + n) (length_places (told m (tied_at s m).fulls)) in
           omega arith
 
       nothing : (xs : List ℕ) (fs : List Full) → length (told m fs) + length (rev (addresses_at (so_far p arrays args s).env xs)) ≡ 0 → (xs ≡ []) × (fs ≡ [])
@@ -156,14 +156,14 @@ module _ (p : Pipe) (acc : Accepted p) (arrays : Arrays) (args : List ℕ) where
       nothing [] (f ∷ fs) e = absurd (let l : length (told m fs ++ write_of m f.address f.value ∷ []) ≡ length (told m fs) + 1 = length-append (told m fs) _ in omega arith)
       nothing (x ∷ xs) fs e = absurd (let l : length (rev (addresses_at (so_far p arrays args s).env xs) ++ slice_index (so_far p arrays args s).env x ∷ []) ≡ length (rev (addresses_at (so_far p arrays args s).env xs)) + 1 = length-append (rev (addresses_at (so_far p arrays args s).env xs)) _ in omega arith)
 
-      none : ((phase_all m Fresh (before s p.stmts)).open ≡ []) × ((tied_at s m).fulls ≡ [])
+      none : ((phase_all m Fresh (before s p.stmts)).unwritten ≡ []) × ((tied_at s m).fulls ≡ [])
       none = nothing _ _ total
 
   pub marks_seen : (s m a : ℕ) (rest : Latest) → reserve_stage p m < s → latest_in (so_far p arrays args s).entries m a rest ≡ seen a (marks p arrays args s m) rest
   marks_seen s m a rest h = latest_own (so_far p arrays args s).entries m a rest ∙ at (nat_lt (commit_stage p m) s) refl
     where
       xs : List ℕ
-      xs = (phase_all m Fresh (before s p.stmts)).open
+      xs = (phase_all m Fresh (before s p.stmts)).unwritten
 
       ws : List Commit
       ws = of_mem m (run_at p arrays args s).writes
@@ -205,8 +205,8 @@ module _ (p : Pipe) (acc : Accepted p) (arrays : Arrays) (args : List ℕ) where
           let next = early_count (suc s) m h in
           let r = runs_more m (in_stage s p.stmts) (run_at p arrays args s) in
           let grown : length (of_mem m (run_at p arrays args (suc s)).writes) ≡ length (of_mem m (run_at p arrays args s).writes) + length r.0 =
-              ap (λ l. length (of_mem m (run_all l (start_run p arrays args)).writes)) (acc.pieces s) ∙ ap (λ (q : Run). length (of_mem m q.writes)) (run_append (before s p.stmts) (in_stage s p.stmts) (start_run p arrays args))
-              ∙ ap length r.1 ∙ length-append (of_mem m (run_at p arrays args s).writes) r.0 in
+          ap (λ l. length (of_mem m (run_all l (start_run p arrays args)).writes)) (acc.pieces s) ∙ ap (λ (q : Run). length (of_mem m q.writes)) (run_append (before s p.stmts) (in_stage s p.stmts) (start_run p arrays args))
+          ∙ ap length r.1 ∙ length-append (of_mem m (run_at p arrays args s).writes) r.0 in
           omega arith
 
   -- a memory without lock has no marks, and neither has one past its releases

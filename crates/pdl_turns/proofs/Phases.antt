@@ -52,7 +52,7 @@ opened_set env (y ∷ ys) x v h =
 -- the entries, the commits and the sequential writes of m in a phase
 pub record Tied (m : ℕ) (ph : Phase) (env : List ℕ) (es : List Entry) (cs ws : List Commit) : Type 0 where
   pub fulls : List Full
-  pub entries : es ≡ waiting m (opened env ph.open) ++ known m fulls
+  pub entries : es ≡ waiting m (opened env ph.unwritten) ++ known m fulls
   pub vars : full_vars fulls ≡ ph.full
   pub written : ws ≡ cs ++ told m fulls
   pub calm : ph.gone ≡ [] → cs ≡ []
@@ -67,11 +67,11 @@ not_false true h = absurd (cc h)
 not_false false h = refl
 
 pub tied_set : (m : ℕ) (ph : Phase) (env : List ℕ) (es : List Entry) (cs ws : List Commit) (x v : ℕ)
-    → not (is_among x ph.open) ≡ true → Tied m ph env es cs ws → Tied m ph (slice_set env x v) es cs ws
+    → not (is_among x ph.unwritten) ≡ true → Tied m ph env es cs ws → Tied m ph (slice_set env x v) es cs ws
 tied_set m ph env es cs ws x v h t =
     record {
       fulls = t.fulls;
-      entries = t.entries ∙ ap (λ l. waiting m l ++ known m t.fulls) (sym (opened_set env ph.open x v (not_false _ h)));
+      entries = t.entries ∙ ap (λ l. waiting m l ++ known m t.fulls) (sym (opened_set env ph.unwritten x v (not_false _ h)));
       vars = t.vars;
       written = t.written;
       calm = t.calm;
@@ -90,29 +90,29 @@ tied_write m a v ph env es cs ws h t =
     record {
       fulls = record { var = a; address = slice_index env a; value = v } ∷ t.fulls;
       entries = ap (λ l. with_entry_value l m a v) t.entries
-          ∙ filled_last m a v (opened env ph.open) (known m t.fulls) (ap (is_oldest a) (opened_vars env ph.open) ∙ oldest)
-          ∙ ap₂ (λ l n. waiting m l ++ entry m a n (Some v) ∷ known m t.fulls) (opened_front env ph.open) (opened_last env ph.open a oldest);
+          ∙ filled_last m a v (opened env ph.unwritten) (known m t.fulls) (ap (is_oldest a) (opened_vars env ph.unwritten) ∙ oldest)
+          ∙ ap₂ (λ l n. waiting m l ++ entry m a n (Some v) ∷ known m t.fulls) (opened_front env ph.unwritten) (opened_last env ph.unwritten a oldest);
       vars = ap (λ l. a ∷ l) t.vars;
       written = ap (λ l. l ++ write_of m (slice_index env a) v ∷ []) t.written ∙ append_assoc cs (told m t.fulls) (write_of m (slice_index env a) v ∷ []);
       calm = t.calm;
     }
   where
-    oldest : is_oldest a ph.open ≡ true
+    oldest : is_oldest a ph.unwritten ≡ true
     oldest = h
 
 -- a release
 pub tied_release : (m a : ℕ) (ph : Phase) (env : List ℕ) (es : List Entry) (cs ws : List Commit)
-    → not (is_among a ph.open) ≡ true → Tied m ph env es cs ws → Tied m (after_release ph a) env (without es m a) (cs ++ released_commits es m a) ws
+    → not (is_among a ph.unwritten) ≡ true → Tied m ph env es cs ws → Tied m (after_release ph a) env (without es m a) (cs ++ released_commits es m a) ws
 tied_release m a ph env es cs ws h t = at (is_among a ph.full) refl
   where
     os : List Open
-    os = opened env ph.open
+    os = opened env ph.unwritten
 
     behind : (without (waiting m os ++ known m t.fulls) m a ≡ waiting m os ++ without (known m t.fulls) m a) × (released_commits (waiting m os ++ known m t.fulls) m a ≡ released_commits (known m t.fulls) m a) × _
-    behind = released_behind m a os (known m t.fulls) (ap (is_among a) (opened_vars env ph.open) ∙ not_false _ h)
+    behind = released_behind m a os (known m t.fulls) (ap (is_among a) (opened_vars env ph.unwritten) ∙ not_false _ h)
 
     at : (b : Bool) → is_among a ph.full ≡ b
-        → Tied m (if b then record { open = ph.open; full = drop_var a ph.full; gone = a ∷ ph.gone } else ph) env (without es m a) (cs ++ released_commits es m a) ws
+        → Tied m (if b then record { unwritten = ph.unwritten; full = drop_var a ph.full; gone = a ∷ ph.gone } else ph) env (without es m a) (cs ++ released_commits es m a) ws
     at true e =
         let r : Released m a t.fulls = released_full m a t.fulls (ap (is_among a) t.vars ∙ e) in
         record {
@@ -140,7 +140,7 @@ no_fulls (f ∷ fs) h = absurd (cc h)
 
 pub finished : (m : ℕ) (ph : Phase) → is_over ph ≡ true → (env : List ℕ) (es : List Entry) (cs ws : List Commit) → Tied m ph env es cs ws → (es ≡ []) × (cs ≡ ws)
 finished m ph h env es cs ws t =
-    let f : t.fulls ≡ [] = no_fulls t.fulls (t.vars ∙ nil_of ph.full (and_right (is_nil ph.open) _ h)) in (
-      t.entries ∙ ap₂ (λ l k. waiting m (opened env l) ++ known m k) (nil_of ph.open (and_left _ _ h)) f,
+    let f : t.fulls ≡ [] = no_fulls t.fulls (t.vars ∙ nil_of ph.full (and_right (is_nil ph.unwritten) _ h)) in (
+      t.entries ∙ ap₂ (λ l k. waiting m (opened env l) ++ known m k) (nil_of ph.unwritten (and_left _ _ h)) f,
       sym (append-nil cs) ∙ sym (t.written ∙ ap (λ l. cs ++ told m l) f),
     )

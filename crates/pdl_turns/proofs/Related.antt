@@ -38,7 +38,7 @@ reads_same arrays ph w r x n a rel ok =
     ∙ ap (λ (l : Array). l (slice_index r.env a)) (sym same_row)
   where
     may : may_read (ph n) ≡ true
-    may = let h : (not (n == n) || may_read (ph n)) ≡ true = and_right (not (is_among x (ph n).open)) _ (ok n) in subst (λ b. (not b || may_read (ph n)) ≡ true) (eq-eqb n n refl) h
+    may = let h : (not (n == n) || may_read (ph n)) ≡ true = and_right (not (is_among x (ph n).unwritten)) _ (ok n) in subst (λ b. (not b || may_read (ph n)) ≡ true) (eq-eqb n n refl) h
 
     same_row : row r.arrays n ≡ row arrays n
     same_row = ap (λ l. row l n) rel.arrays_now ∙ row_committed n r.writes arrays ∙ ap (wrote (row arrays n)) (unwritten n (ph n) w.env _ _ _ may (rel.tied n))
@@ -69,7 +69,7 @@ tied_reserve_any m n a ph env es cs ws false e t =
     tied_moved m ph env _ _ _ _ _ _ (ap (λ c. cond c (entry n a (slice_index env a) None ∷ entries_of m es) (entries_of m es)) e) refl refl t
 
 tied_release_any : (m n a : ℕ) (ph : Phase) (env : List ℕ) (es : List Entry) (cs ws : List Commit) (b : Bool) → (n == m) ≡ b
-    → (not b || not (is_among a ph.open)) ≡ true → Tied m ph env (entries_of m es) (of_mem m cs) ws
+    → (not b || not (is_among a ph.unwritten)) ≡ true → Tied m ph env (entries_of m es) (of_mem m cs) ws
     → Tied m (cond b (after_release ph a) ph) env (entries_of m (without es n a)) (of_mem m (cs ++ released_commits es n a)) ws
 tied_release_any m n a ph env es cs ws true e h t =
     tied_moved m (after_release ph a) env _ _ _ _ _ _
@@ -94,7 +94,7 @@ related_step arrays ph (CombRead x n a) w r ok rel =
     record {
       env = ap₂ (λ v k. slice_set v x k) rel.env (reads_same arrays ph w r x n a rel ok);
       arrays_now = rel.arrays_now;
-      tied = λ m. tied_set m (ph m) w.env _ _ _ x (word_at arrays n (slice_index w.env a)) (and_left (not (is_among x (ph m).open)) _ (ok m)) (rel.tied m);
+      tied = λ m. tied_set m (ph m) w.env _ _ _ x (word_at arrays n (slice_index w.env a)) (and_left (not (is_among x (ph m).unwritten)) _ (ok m)) (rel.tied m);
     }
 related_step arrays ph (DelayedRead x n a) w r ok rel = absurd (cc (ok 0))
 related_step arrays ph (Write n a e) w r ok rel =

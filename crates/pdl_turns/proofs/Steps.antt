@@ -187,7 +187,7 @@ pub record Staged (m n : ℕ) (ph : Phase) (es : List Entry) (cs : List Commit) 
   pub out : List Pending
   pub rest : List Pending
   pub entries : es ≡ waiting m opens ++ known m fulls
-  pub at_open : open_vars opens ≡ ph.open
+  pub at_open : open_vars opens ≡ ph.unwritten
   pub at_full : full_vars fulls ≡ ph.full
   pub two : with_writes_of m n ws new ≡ out ++ (rest ++ pend m n (waiting m opens))
   pub outs : length out ≡ rel
@@ -273,7 +273,7 @@ step_write m n k a v ph es cs new ws rel true e h g =
         by false j = among (y ∷ ys) j
 
     unused : is_used ph a ≡ false
-    unused = let i = g.apart a (among ph.open h) in ap₂ (λ c d. c || d) i.0 i.1
+    unused = let i = g.apart a (among ph.unwritten h) in ap₂ (λ c d. c || d) i.0 i.1
 
     now : is_used (after_write ph a) a ≡ true
     now = ap (λ c. (c || is_among a ph.full) || is_among a ph.gone) (eq-eqb a a refl)
@@ -321,7 +321,7 @@ step_reserve m n k a y ph es cs start rs ws rel true e h g =
 
     unused : is_used ph a ≡ false
     unused =
-        let r = and_right (not (is_among a ph.open)) _ h in
+        let r = and_right (not (is_among a ph.unwritten)) _ h in
         ap₂ (λ c d. c || d) (not_false _ (and_left (not (is_among a ph.full)) _ r)) (not_false _ (and_right (not (is_among a ph.full)) _ r))
 
 -- a release that takes nothing of m out
@@ -341,7 +341,7 @@ step_none m n k a ph es cs new ws rs held f h i g =
     none false j = refl
 
 pub step_release : (m n k a : ℕ) (ph : Phase) (es : List Entry) (cs : List Commit) (new : List Pending) (ws : List Machine.Written) (rs : List ℕ) (held : Bool) → held ≡ has_entry es k a → (b : Bool) → (k == m) ≡ b
-    → (not b || not (is_among a ph.open)) ≡ true → Staged m n ph (entries_of m es) (of_mem m cs) new ws (releases_of m rs)
+    → (not b || not (is_among a ph.unwritten)) ≡ true → Staged m n ph (entries_of m es) (of_mem m cs) new ws (releases_of m rs)
     → Staged m n (cond b (after_release ph a) ph) (entries_of m (without es k a)) (of_mem m (cs ++ released_commits es k a)) new ws (releases_of m (rs ++ cond held (k ∷ []) []))
 step_release m n k a ph es cs new ws rs held i false e h g =
     step_none m n k a ph es cs new ws rs held (without_other es m k a (eqb-false k m e)) (released_other es m k a (eqb-false k m e)) (off held (k == m) e) g
@@ -364,7 +364,7 @@ step_release m n k a ph es cs new ws rs held i true e h g = at (is_among a ph.fu
     known_here = ap (λ j. has_entry es j a) same ∙ has_own es m a ∙ ap (λ l. has_entry l m a) g.entries ∙ behind.2
 
     at : (b : Bool) → is_among a ph.full ≡ b
-        → Staged m n (if b then record { open = ph.open; full = drop_var a ph.full; gone = a ∷ ph.gone } else ph) (entries_of m (without es k a)) (of_mem m (cs ++ released_commits es k a)) new ws (releases_of m (rs ++ cond held (k ∷ []) []))
+        → Staged m n (if b then record { unwritten = ph.unwritten; full = drop_var a ph.full; gone = a ∷ ph.gone } else ph) (entries_of m (without es k a)) (of_mem m (cs ++ released_commits es k a)) new ws (releases_of m (rs ++ cond held (k ∷ []) []))
     at false f =
         let z : has_entry es k a ≡ false = known_here ∙ no_known m a g.fulls (ap (is_among a) g.at_full ∙ f) in
         let w = without_none es k a z in
@@ -375,7 +375,7 @@ step_release m n k a ph es cs new ws rs held i true e h g = at (is_among a ph.fu
         r = released_full m a g.fulls (ap (is_among a) g.at_full ∙ f)
 
         qh : Phase
-        qh = record { open = ph.open; full = drop_var a ph.full; gone = a ∷ ph.gone }
+        qh = record { unwritten = ph.unwritten; full = drop_var a ph.full; gone = a ∷ ph.gone }
 
         more : Keeps ph qh
         more x j = by (a == x) refl (is_among x ph.full) refl j

@@ -87,7 +87,7 @@ addresses_at env [] = []
 addresses_at env (x ∷ xs) = slice_index env x ∷ addresses_at env xs
 
 abbrev pub spots : Phase → List ℕ → List Commit → List ℕ
-spots ph env ws = places ws ++ rev (addresses_at env ph.open)
+spots ph env ws = places ws ++ rev (addresses_at env ph.unwritten)
 
 addresses_set : (env xs : List ℕ) (x v : ℕ) → is_among x xs ≡ false → addresses_at (slice_set env x v) xs ≡ addresses_at env xs
 addresses_set env [] x v h = refl
@@ -115,26 +115,26 @@ pub places_append : (xs ys : List Commit) → places (xs ++ ys) ≡ places xs ++
 places_append [] ys = refl
 places_append (x ∷ xs) ys = ap (λ l. x.address ∷ l) (places_append xs ys)
 
-spots_set : (ph : Phase) (env : List ℕ) (ws : List Commit) (x v : ℕ) → not (is_among x ph.open) ≡ true → spots ph (slice_set env x v) ws ≡ spots ph env ws
-spots_set ph env ws x v h = ap (λ l. places ws ++ rev l) (addresses_set env ph.open x v (not_false _ h))
+spots_set : (ph : Phase) (env : List ℕ) (ws : List Commit) (x v : ℕ) → not (is_among x ph.unwritten) ≡ true → spots ph (slice_set env x v) ws ≡ spots ph env ws
+spots_set ph env ws x v h = ap (λ l. places ws ++ rev l) (addresses_set env ph.unwritten x v (not_false _ h))
 
 -- they stay over what doesn't reserve m
 pub spots_op : (arrays : Arrays) (m : ℕ) (ph : ℕ → Phase) (op : Op) (w : Work) (r : Run)
     → not (is_reserve m op) ≡ true → Ok ph op → Related arrays ph w r
     → spots (next_phase m (ph m) op) (work_after (alone arrays) op w).env (of_mem m (run_after op r).writes) ≡ spots (ph m) w.env (of_mem m r.writes)
 spots_op arrays m ph (Bind x e) w r h ok rel = spots_set (ph m) w.env (of_mem m r.writes) x _ (ok m)
-spots_op arrays m ph (CombRead x n a) w r h ok rel = spots_set (ph m) w.env (of_mem m r.writes) x _ (and_left (not (is_among x (ph m).open)) _ (ok m))
+spots_op arrays m ph (CombRead x n a) w r h ok rel = spots_set (ph m) w.env (of_mem m r.writes) x _ (and_left (not (is_among x (ph m).unwritten)) _ (ok m))
 spots_op arrays m ph (DelayedRead x n a) w r h ok rel = absurd (cc (ok 0))
 spots_op arrays m ph (Write n a e) w r h ok rel = at (n == m) refl (ok m)
   where
     at : (b : Bool) → (n == m) ≡ b → (not b || may_write (ph m) a) ≡ true
         → spots (cond b (after_write (ph m) a) (ph m)) w.env (of_mem m (r.writes ++ write_of n (slice_index r.env a) (value_of e r.env) ∷ [])) ≡ spots (ph m) w.env (of_mem m r.writes)
     at true f k =
-        ap (λ l. places l ++ rev (addresses_at w.env (but_last (ph m).open))) (of_mem_append m r.writes _ ∙ ap (λ b. of_mem m r.writes ++ cond b (write_of n (slice_index r.env a) (value_of e r.env) ∷ []) []) f)
-        ∙ ap (λ l. l ++ rev (addresses_at w.env (but_last (ph m).open))) (places_append (of_mem m r.writes) _)
-        ∙ append_assoc (places (of_mem m r.writes)) (slice_index r.env a ∷ []) (rev (addresses_at w.env (but_last (ph m).open)))
-        ∙ ap (λ l. places (of_mem m r.writes) ++ l) (ap (λ v. slice_index v a ∷ rev (addresses_at w.env (but_last (ph m).open))) (sym rel.env) ∙ sym (oldest_first w.env (ph m).open a k))
-    at false f k = ap (λ l. places l ++ rev (addresses_at w.env (ph m).open)) (of_mem_append m r.writes _ ∙ ap (λ b. of_mem m r.writes ++ cond b (write_of n (slice_index r.env a) (value_of e r.env) ∷ []) []) f ∙ append-nil (of_mem m r.writes))
+        ap (λ l. places l ++ rev (addresses_at w.env (but_last (ph m).unwritten))) (of_mem_append m r.writes _ ∙ ap (λ b. of_mem m r.writes ++ cond b (write_of n (slice_index r.env a) (value_of e r.env) ∷ []) []) f)
+        ∙ ap (λ l. l ++ rev (addresses_at w.env (but_last (ph m).unwritten))) (places_append (of_mem m r.writes) _)
+        ∙ append_assoc (places (of_mem m r.writes)) (slice_index r.env a ∷ []) (rev (addresses_at w.env (but_last (ph m).unwritten)))
+        ∙ ap (λ l. places (of_mem m r.writes) ++ l) (ap (λ v. slice_index v a ∷ rev (addresses_at w.env (but_last (ph m).unwritten))) (sym rel.env) ∙ sym (oldest_first w.env (ph m).unwritten a k))
+    at false f k = ap (λ l. places l ++ rev (addresses_at w.env (ph m).unwritten)) (of_mem_append m r.writes _ ∙ ap (λ b. of_mem m r.writes ++ cond b (write_of n (slice_index r.env a) (value_of e r.env) ∷ []) []) f ∙ append-nil (of_mem m r.writes))
 spots_op arrays m ph (ReserveWrite n a) w r h ok rel = at (n == m) h
   where
     at : (b : Bool) → not b ≡ true → spots (cond b (after_reserve (ph m) a) (ph m)) w.env (of_mem m r.writes) ≡ spots (ph m) w.env (of_mem m r.writes)
@@ -142,7 +142,7 @@ spots_op arrays m ph (ReserveWrite n a) w r h ok rel = at (n == m) h
     at false k = refl
 spots_op arrays m ph (Release n a) w r h ok rel = at (n == m) (is_among a (ph m).full)
   where
-    at : (b c : Bool) → spots (cond b (cond c (record { open = (ph m).open; full = drop_var a (ph m).full; gone = a ∷ (ph m).gone }) (ph m)) (ph m)) w.env (of_mem m r.writes) ≡ spots (ph m) w.env (of_mem m r.writes)
+    at : (b c : Bool) → spots (cond b (cond c (record { unwritten = (ph m).unwritten; full = drop_var a (ph m).full; gone = a ∷ (ph m).gone }) (ph m)) (ph m)) w.env (of_mem m r.writes) ≡ spots (ph m) w.env (of_mem m r.writes)
     at true true = refl
     at true false = refl
     at false c = refl

@@ -159,9 +159,9 @@ module _ (p : Pipe) (acc : Accepted p) (arrays : Arrays) (args : List ℕ) where
       ∙ append-nil _
       ∙ ap (λ (r : Run). places (of_mem m r.writes)) (sym (run_rest s))
     where
-      none_open : (phase_all m (phase_all m Fresh (before s p.stmts)) (stages_from s p.stmts)).open ≡ []
+      none_open : (phase_all m (phase_all m Fresh (before s p.stmts)) (stages_from s p.stmts)).unwritten ≡ []
       none_open =
-          nil_of _ (and_left (is_nil (phase_all m (phase_all m Fresh (before s p.stmts)) (stages_from s p.stmts)).open) _
+          nil_of _ (and_left (is_nil (phase_all m (phase_all m Fresh (before s p.stmts)) (stages_from s p.stmts)).unwritten) _
           (subst (λ ph. is_over ph ≡ true) (ap (phase_all m Fresh) (acc.ordered s) ∙ phase_append m (before s p.stmts) (stages_from s p.stmts) Fresh) (acc.over m)))
 
   -- the array of m after the turn
