@@ -26,93 +26,93 @@ refilled f e = record f { address = e.address; value = e.value }
 -- what moves up among all entries of a memory moves up among those of the memory alone
 pub moved_own : (e : Entry) (es : List Entry) (m : ℕ) → e.mem ≡ m → entries_of m (moved_up e es) ≡ moved_up e (entries_of m es)
 moved_own e [] m h = refl
-moved_own e (f ∷ es) m h = at (f.mem == e.mem) refl
+moved_own e (f ∷ es) m h = at (f.mem == e.mem) refl (λ i. moved_own f es m i) (moved_own e es m h)
   where
-    at : (b : Bool) → (f.mem == e.mem) ≡ b → entries_of m (cond b (refilled f e ∷ moved_up f es) (f ∷ moved_up e es)) ≡ moved_up e (cond (f.mem == m) (f ∷ entries_of m es) (entries_of m es))
-    at true k =
+    at : (b : Bool) → (f.mem == e.mem) ≡ b → (f.mem ≡ m → entries_of m (moved_up f es) ≡ moved_up f (entries_of m es)) → entries_of m (moved_up e es) ≡ moved_up e (entries_of m es) → entries_of m (cond b (refilled f e ∷ moved_up f es) (f ∷ moved_up e es)) ≡ moved_up e (cond (f.mem == m) (f ∷ entries_of m es) (entries_of m es))
+    at true k go on =
         let i : f.mem ≡ m = eqb-true f.mem e.mem k ∙ h in
         ap (λ b. cond b (refilled f e ∷ entries_of m (moved_up f es)) (entries_of m (moved_up f es))) (eq-eqb f.mem m i)
-        ∙ ap (λ l. refilled f e ∷ l) (moved_own f es m i)
+        ∙ ap (λ l. refilled f e ∷ l) (go i)
         ∙ sym (ap (λ b. moved_up e (cond b (f ∷ entries_of m es) (entries_of m es))) (eq-eqb f.mem m i) ∙ ap (λ b. cond b (refilled f e ∷ moved_up f (entries_of m es)) (f ∷ moved_up e (entries_of m es))) k)
-    at false k =
+    at false k go on =
         let i : (f.mem == m) ≡ false = ne_eqb f.mem m (λ j. eqb-false f.mem e.mem k (j ∙ sym h)) in
         ap (λ b. cond b (f ∷ entries_of m (moved_up e es)) (entries_of m (moved_up e es))) i
-        ∙ moved_own e es m h
+        ∙ on
         ∙ sym (ap (λ b. moved_up e (cond b (f ∷ entries_of m es) (entries_of m es))) i)
 
 moved_other : (e : Entry) (es : List Entry) (m : ℕ) → e.mem ≢ m → entries_of m (moved_up e es) ≡ entries_of m es
 moved_other e [] m h = refl
-moved_other e (f ∷ es) m h = at (f.mem == e.mem) refl
+moved_other e (f ∷ es) m h = at (f.mem == e.mem) refl (λ j. moved_other f es m j) (moved_other e es m h)
   where
-    at : (b : Bool) → (f.mem == e.mem) ≡ b → entries_of m (cond b (refilled f e ∷ moved_up f es) (f ∷ moved_up e es)) ≡ cond (f.mem == m) (f ∷ entries_of m es) (entries_of m es)
-    at true k =
+    at : (b : Bool) → (f.mem == e.mem) ≡ b → (f.mem ≢ m → entries_of m (moved_up f es) ≡ entries_of m es) → entries_of m (moved_up e es) ≡ entries_of m es → entries_of m (cond b (refilled f e ∷ moved_up f es) (f ∷ moved_up e es)) ≡ cond (f.mem == m) (f ∷ entries_of m es) (entries_of m es)
+    at true k go on =
         let j : f.mem ≢ m = (λ i. h (sym (eqb-true f.mem e.mem k) ∙ i)) in
         ap (λ b. cond b (refilled f e ∷ entries_of m (moved_up f es)) (entries_of m (moved_up f es))) (ne_eqb f.mem m j)
-        ∙ moved_other f es m j
+        ∙ go j
         ∙ sym (ap (λ b. cond b (f ∷ entries_of m es) (entries_of m es)) (ne_eqb f.mem m j))
-    at false k = ap (λ l. cond (f.mem == m) (f ∷ l) l) (moved_other e es m h)
+    at false k go on = ap (λ l. cond (f.mem == m) (f ∷ l) l) on
 
 oldest_own : (e : Entry) (es : List Entry) (m : ℕ) → e.mem ≡ m → oldest_of e es ≡ oldest_of e (entries_of m es)
 oldest_own e [] m h = refl
-oldest_own e (f ∷ es) m h = at (f.mem == e.mem) refl
+oldest_own e (f ∷ es) m h = at (f.mem == e.mem) refl (λ i. oldest_own f es m i) (oldest_own e es m h)
   where
-    at : (b : Bool) → (f.mem == e.mem) ≡ b → cond b (oldest_of f es) (oldest_of e es) ≡ oldest_of e (cond (f.mem == m) (f ∷ entries_of m es) (entries_of m es))
-    at true k =
+    at : (b : Bool) → (f.mem == e.mem) ≡ b → (f.mem ≡ m → oldest_of f es ≡ oldest_of f (entries_of m es)) → oldest_of e es ≡ oldest_of e (entries_of m es) → cond b (oldest_of f es) (oldest_of e es) ≡ oldest_of e (cond (f.mem == m) (f ∷ entries_of m es) (entries_of m es))
+    at true k go on =
         let i : f.mem ≡ m = eqb-true f.mem e.mem k ∙ h in
-        oldest_own f es m i
+        go i
         ∙ sym (ap (λ b. oldest_of e (cond b (f ∷ entries_of m es) (entries_of m es))) (eq-eqb f.mem m i) ∙ ap (λ b. cond b (oldest_of f (entries_of m es)) (oldest_of e (entries_of m es))) k)
-    at false k =
+    at false k go on =
         let i : (f.mem == m) ≡ false = ne_eqb f.mem m (λ j. eqb-false f.mem e.mem k (j ∙ sym h)) in
-        oldest_own e es m h ∙ sym (ap (λ b. oldest_of e (cond b (f ∷ entries_of m es) (entries_of m es))) i)
+        on ∙ sym (ap (λ b. oldest_of e (cond b (f ∷ entries_of m es) (entries_of m es))) i)
 
 pub without_own : (es : List Entry) (m a : ℕ) → entries_of m (without es m a) ≡ without (entries_of m es) m a
 without_own [] m a = refl
-without_own (e ∷ es) m a = at (e.mem == m) refl (e.var == a) refl
+without_own (e ∷ es) m a = at (e.mem == m) refl (e.var == a) refl (without_own es m a)
   where
-    at : (b : Bool) → (e.mem == m) ≡ b → (c : Bool) → (e.var == a) ≡ c → entries_of m (cond (b && c) (moved_up e es) (e ∷ without es m a)) ≡ without (cond b (e ∷ entries_of m es) (entries_of m es)) m a
-    at true h true k = moved_own e es m (eqb-true e.mem m h) ∙ sym (ap₂ (λ b c. cond (b && c) (moved_up e (entries_of m es)) (e ∷ without (entries_of m es) m a)) h k)
-    at true h false k =
-        ap (λ b. cond b (e ∷ entries_of m (without es m a)) (entries_of m (without es m a))) h ∙ ap (λ l. e ∷ l) (without_own es m a)
+    at : (b : Bool) → (e.mem == m) ≡ b → (c : Bool) → (e.var == a) ≡ c → entries_of m (without es m a) ≡ without (entries_of m es) m a → entries_of m (cond (b && c) (moved_up e es) (e ∷ without es m a)) ≡ without (cond b (e ∷ entries_of m es) (entries_of m es)) m a
+    at true h true k on = moved_own e es m (eqb-true e.mem m h) ∙ sym (ap₂ (λ b c. cond (b && c) (moved_up e (entries_of m es)) (e ∷ without (entries_of m es) m a)) h k)
+    at true h false k on =
+        ap (λ b. cond b (e ∷ entries_of m (without es m a)) (entries_of m (without es m a))) h ∙ ap (λ l. e ∷ l) on
         ∙ sym (ap₂ (λ b c. cond (b && c) (moved_up e (entries_of m es)) (e ∷ without (entries_of m es) m a)) h k)
-    at false h c k = ap (λ b. cond b (e ∷ entries_of m (without es m a)) (entries_of m (without es m a))) h ∙ without_own es m a
+    at false h c k on = ap (λ b. cond b (e ∷ entries_of m (without es m a)) (entries_of m (without es m a))) h ∙ on
 
 pub without_other : (es : List Entry) (m n a : ℕ) → n ≢ m → entries_of m (without es n a) ≡ entries_of m es
 without_other [] m n a h = refl
-without_other (e ∷ es) m n a h = at (e.mem == n) refl (e.var == a)
+without_other (e ∷ es) m n a h = at (e.mem == n) refl (e.var == a) (without_other es m n a h)
   where
-    at : (b : Bool) → (e.mem == n) ≡ b → (c : Bool) → entries_of m (cond (b && c) (moved_up e es) (e ∷ without es n a)) ≡ cond (e.mem == m) (e ∷ entries_of m es) (entries_of m es)
-    at true k true =
+    at : (b : Bool) → (e.mem == n) ≡ b → (c : Bool) → entries_of m (without es n a) ≡ entries_of m es → entries_of m (cond (b && c) (moved_up e es) (e ∷ without es n a)) ≡ cond (e.mem == m) (e ∷ entries_of m es) (entries_of m es)
+    at true k true on =
         let j : e.mem ≢ m = (λ i. h (sym (eqb-true e.mem n k) ∙ i)) in
         moved_other e es m j ∙ sym (ap (λ b. cond b (e ∷ entries_of m es) (entries_of m es)) (ne_eqb e.mem m j))
-    at true k false = ap (λ l. cond (e.mem == m) (e ∷ l) l) (without_other es m n a h)
-    at false k c = ap (λ l. cond (e.mem == m) (e ∷ l) l) (without_other es m n a h)
+    at true k false on = ap (λ l. cond (e.mem == m) (e ∷ l) l) on
+    at false k c on = ap (λ l. cond (e.mem == m) (e ∷ l) l) on
 
 pub released_own : (es : List Entry) (m a : ℕ) → of_mem m (released_commits es m a) ≡ released_commits (entries_of m es) m a
 released_own [] m a = refl
-released_own (e ∷ es) m a = at (e.mem == m) refl (e.var == a) refl
+released_own (e ∷ es) m a = at (e.mem == m) refl (e.var == a) refl (released_own es m a)
   where
     out : Entry → Commit
     out o = record { mem = m; address = o.address; value = commit_value o.value }
 
-    at : (b : Bool) → (e.mem == m) ≡ b → (c : Bool) → (e.var == a) ≡ c
+    at : (b : Bool) → (e.mem == m) ≡ b → (c : Bool) → (e.var == a) ≡ c → of_mem m (released_commits es m a) ≡ released_commits (entries_of m es) m a
         → of_mem m (cond (b && c) (out (oldest_of e es) ∷ []) (released_commits es m a)) ≡ released_commits (cond b (e ∷ entries_of m es) (entries_of m es)) m a
-    at true h true k =
+    at true h true k on =
         ap (λ b. cond b (out (oldest_of e es) ∷ []) []) (eq-eqb m m refl)
         ∙ ap (λ o. out o ∷ []) (oldest_own e es m (eqb-true e.mem m h))
         ∙ sym (ap₂ (λ b c. cond (b && c) (out (oldest_of e (entries_of m es)) ∷ []) (released_commits (entries_of m es) m a)) h k)
-    at true h false k = released_own es m a ∙ sym (ap₂ (λ b c. cond (b && c) (out (oldest_of e (entries_of m es)) ∷ []) (released_commits (entries_of m es) m a)) h k)
-    at false h c k = released_own es m a
+    at true h false k on = on ∙ sym (ap₂ (λ b c. cond (b && c) (out (oldest_of e (entries_of m es)) ∷ []) (released_commits (entries_of m es) m a)) h k)
+    at false h c k on = on
 
 pub released_other : (es : List Entry) (m n a : ℕ) → n ≢ m → of_mem m (released_commits es n a) ≡ []
 released_other [] m n a h = refl
-released_other (e ∷ es) m n a h = at ((e.mem == n) && (e.var == a))
+released_other (e ∷ es) m n a h = at ((e.mem == n) && (e.var == a)) (released_other es m n a h)
   where
     out : Commit
     out = record { mem = n; address = (oldest_of e es).address; value = commit_value (oldest_of e es).value }
 
-    at : (b : Bool) → of_mem m (cond b (out ∷ []) (released_commits es n a)) ≡ []
-    at true = ap (λ b. cond b (out ∷ []) []) (ne_eqb n m h)
-    at false = released_other es m n a h
+    at : (b : Bool) → of_mem m (released_commits es n a) ≡ [] → of_mem m (cond b (out ∷ []) (released_commits es n a)) ≡ []
+    at true on = ap (λ b. cond b (out ∷ []) []) (ne_eqb n m h)
+    at false on = on
 
 -- a pending write of a location
 abbrev pub entry : ℕ → ℕ → ℕ → Option ℕ → Entry
@@ -203,11 +203,11 @@ pushed_vars f (g ∷ gs) = ap (λ l. g.var ∷ l) (pushed_vars g gs)
 
 pub let_out_vars : (fs : List Full) (a : ℕ) → full_vars (let_out fs a) ≡ drop_var a (full_vars fs)
 let_out_vars [] a = refl
-let_out_vars (f ∷ fs) a = at (f.var == a)
+let_out_vars (f ∷ fs) a = at (f.var == a) (let_out_vars fs a)
   where
-    at : (b : Bool) → full_vars (cond b (pushed f fs) (f ∷ let_out fs a)) ≡ cond b (full_vars fs) (f.var ∷ drop_var a (full_vars fs))
-    at true = pushed_vars f fs
-    at false = ap (λ l. f.var ∷ l) (let_out_vars fs a)
+    at : (b : Bool) → full_vars (let_out fs a) ≡ drop_var a (full_vars fs) → full_vars (cond b (pushed f fs) (f ∷ let_out fs a)) ≡ cond b (full_vars fs) (f.var ∷ drop_var a (full_vars fs))
+    at true on = pushed_vars f fs
+    at false on = ap (λ l. f.var ∷ l) on
 
 abbrev pub commit_of : ℕ → Full → Commit
 commit_of m f = write_of m f.address f.value
@@ -239,7 +239,7 @@ pub record Released (m a : ℕ) (fs : List Full) : Type 0 where
 
 pub released_full : (m a : ℕ) (fs : List Full) → is_among a (full_vars fs) ≡ true → Released m a fs
 released_full m a [] h = absurd (cc h)
-released_full m a (f ∷ fs) h = at (f.var == a) refl
+released_full m a (f ∷ fs) h = at (f.var == a) refl (λ k. released_full m a fs k)
   where
     e : Entry
     e = entry m f.var f.address (Some f.value)
@@ -263,35 +263,36 @@ released_full m a (f ∷ fs) h = at (f.var == a) refl
       there = ap₂ (λ b c. (b && c) || has_entry (known m fs) m a) (eq-eqb m m refl) k ∙ r.there;
     }
 
-    at : (b : Bool) → (f.var == a) ≡ b → Released m a (f ∷ fs)
-    at true k = here k
-    at false k = behind k (released_full m a fs (ap (λ b. b || is_among a (full_vars fs)) (sym k) ∙ h))
+    at : (b : Bool) → (f.var == a) ≡ b → (is_among a (full_vars fs) ≡ true → Released m a fs) → Released m a (f ∷ fs)
+    at true k on = here k
+    at false k on = behind k (on (ap (λ b. b || is_among a (full_vars fs)) (sym k) ∙ h))
 
 -- locations without a value stay
 pub released_behind : (m a : ℕ) (os : List Open) (es : List Entry) → is_among a (open_vars os) ≡ false
     → (without (waiting m os ++ es) m a ≡ waiting m os ++ without es m a) × (released_commits (waiting m os ++ es) m a ≡ released_commits es m a) × (has_entry (waiting m os ++ es) m a ≡ has_entry es m a)
 released_behind m a [] es h = (refl, refl, refl)
-released_behind m a (o ∷ os) es h = at (o.var == a) refl
+released_behind m a (o ∷ os) es h = at (o.var == a) refl (λ k. released_behind m a os es k)
   where
     e : Entry
     e = entry m o.var o.address None
 
+    off : (b : Bool) → (b && false) ≡ false
+    off true = refl
+    off false = refl
+
     at : (b : Bool) → (o.var == a) ≡ b
+        → (is_among a (open_vars os) ≡ false → (without (waiting m os ++ es) m a ≡ waiting m os ++ without es m a) × (released_commits (waiting m os ++ es) m a ≡ released_commits es m a) × (has_entry (waiting m os ++ es) m a ≡ has_entry es m a))
         → (cond ((m == m) && (o.var == a)) (moved_up e (waiting m os ++ es)) (e ∷ without (waiting m os ++ es) m a) ≡ e ∷ waiting m os ++ without es m a)
         × (cond ((m == m) && (o.var == a)) (record { mem = m; address = (oldest_of e (waiting m os ++ es)).address; value = commit_value (oldest_of e (waiting m os ++ es)).value } ∷ []) (released_commits (waiting m os ++ es) m a) ≡ released_commits es m a)
         × ((((m == m) && (o.var == a)) || has_entry (waiting m os ++ es) m a) ≡ has_entry es m a)
-    at true k = absurd (cc (sym h ∙ ap (λ b. b || is_among a (open_vars os)) k))
-    at false k =
-        let r = released_behind m a os es (ap (λ b. b || is_among a (open_vars os)) (sym k) ∙ h) in (
+    at true k on = absurd (cc (sym h ∙ ap (λ b. b || is_among a (open_vars os)) k))
+    at false k on =
+        let r = on (ap (λ b. b || is_among a (open_vars os)) (sym k) ∙ h) in (
           ap (λ c. cond ((m == m) && c) (moved_up e (waiting m os ++ es)) (e ∷ without (waiting m os ++ es) m a)) k ∙ ap (λ c. cond c (moved_up e (waiting m os ++ es)) (e ∷ without (waiting m os ++ es) m a)) (off (m == m)) ∙ ap (λ l. e ∷ l) r.0,
           ap (λ c. cond ((m == m) && c) (record { mem = m; address = (oldest_of e (waiting m os ++ es)).address; value = commit_value (oldest_of e (waiting m os ++ es)).value } ∷ []) (released_commits (waiting m os ++ es) m a)) k
               ∙ ap (λ c. cond c (record { mem = m; address = (oldest_of e (waiting m os ++ es)).address; value = commit_value (oldest_of e (waiting m os ++ es)).value } ∷ []) (released_commits (waiting m os ++ es) m a)) (off (m == m)) ∙ r.1,
           ap (λ c. ((m == m) && c) || has_entry (waiting m os ++ es) m a) k ∙ ap (λ c. c || has_entry (waiting m os ++ es) m a) (off (m == m)) ∙ r.2,
         )
-
-    off : (b : Bool) → (b && false) ≡ false
-    off true = refl
-    off false = refl
 
 -- what no entry is of isn't let go
 pub without_none : (es : List Entry) (m a : ℕ) → has_entry es m a ≡ false → (without es m a ≡ es) × (released_commits es m a ≡ [])
@@ -308,15 +309,15 @@ without_none (e ∷ es) m a h = at ((e.mem == m) && (e.var == a)) h (λ k. witho
 
 pub no_known : (m a : ℕ) (fs : List Full) → is_among a (full_vars fs) ≡ false → has_entry (known m fs) m a ≡ false
 no_known m a [] h = refl
-no_known m a (f ∷ fs) h = at (f.var == a) refl
+no_known m a (f ∷ fs) h = at (f.var == a) refl (λ k. no_known m a fs k)
   where
     off : (b : Bool) → (b && false) ≡ false
     off true = refl
     off false = refl
 
-    at : (b : Bool) → (f.var == a) ≡ b → (((m == m) && (f.var == a)) || has_entry (known m fs) m a) ≡ false
-    at true k = absurd (cc (sym h ∙ ap (λ b. b || is_among a (full_vars fs)) k))
-    at false k = ap (λ c. ((m == m) && c) || has_entry (known m fs) m a) k ∙ ap (λ c. c || has_entry (known m fs) m a) (off (m == m)) ∙ no_known m a fs (ap (λ b. b || is_among a (full_vars fs)) (sym k) ∙ h)
+    at : (b : Bool) → (f.var == a) ≡ b → (is_among a (full_vars fs) ≡ false → has_entry (known m fs) m a ≡ false) → (((m == m) && (f.var == a)) || has_entry (known m fs) m a) ≡ false
+    at true k on = absurd (cc (sym h ∙ ap (λ b. b || is_among a (full_vars fs)) k))
+    at false k on = ap (λ c. ((m == m) && c) || has_entry (known m fs) m a) k ∙ ap (λ c. c || has_entry (known m fs) m a) (off (m == m)) ∙ on (ap (λ b. b || is_among a (full_vars fs)) (sym k) ∙ h)
 
 -- the addresses of pending writes and of writes
 abbrev pub addresses : List Entry → List ℕ

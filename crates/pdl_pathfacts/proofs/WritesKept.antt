@@ -112,32 +112,32 @@ oldest_or x a (y ∷ z ∷ zs) h k = ⊎_elim
 -- what is left after one is dropped was there, and where numbers differ is another one; what was there is left or is that one
 dropped_among : (x a : ℕ) (xs : List ℕ) → is_among x (drop_var a xs) ≡ true → is_among x xs ≡ true
 dropped_among x a [] h = absurd (false≢true h)
-dropped_among x a (y ∷ ys) h = at (y == a) h
+dropped_among x a (y ∷ ys) h = at (y == a) h (λ e. dropped_among x a ys e)
   where
-    at : (b : Bool) → is_among x (cond b ys (y ∷ drop_var a ys)) ≡ true → is_among x (y ∷ ys) ≡ true
-    at true k = or_right (y == x) _ k
-    at false k = ⊎_elim (λ e. or_left (y == x) _ (eq-eqb y x e)) (λ e. or_right (y == x) _ (dropped_among x a ys e)) (among_here x y (drop_var a ys) k)
+    at : (b : Bool) → is_among x (cond b ys (y ∷ drop_var a ys)) ≡ true → (is_among x (drop_var a ys) ≡ true → is_among x ys ≡ true) → is_among x (y ∷ ys) ≡ true
+    at true k go = or_right (y == x) _ k
+    at false k go = ⊎_elim (λ e. or_left (y == x) _ (eq-eqb y x e)) (λ e. or_right (y == x) _ (go e)) (among_here x y (drop_var a ys) k)
 
 dropped_other : (x a : ℕ) (xs : List ℕ) → is_distinct xs ≡ true → is_among x (drop_var a xs) ≡ true → a ≡ x → ⊥
 dropped_other x a [] d h e = false≢true h
-dropped_other x a (y ∷ ys) d h e = at (y == a) refl h
+dropped_other x a (y ∷ ys) d h e = at (y == a) refl h (λ d f. dropped_other x a ys d f e)
   where
     parts : (not (is_among y ys) ≡ true) × (is_distinct ys ≡ true)
     parts = and_parts (not (is_among y ys)) _ d
 
-    at : (b : Bool) → (y == a) ≡ b → is_among x (cond b ys (y ∷ drop_var a ys)) ≡ true → ⊥
-    at true i k = both_ways _ (not-true _ parts.0) (subst (λ n. is_among n ys ≡ true) (sym (eqb-true y a i ∙ e)) k)
-    at false i k = ⊎_elim (λ f. eqb-false y a i (f ∙ sym e)) (λ f. dropped_other x a ys parts.1 f e) (among_here x y (drop_var a ys) k)
+    at : (b : Bool) → (y == a) ≡ b → is_among x (cond b ys (y ∷ drop_var a ys)) ≡ true → (is_distinct ys ≡ true → is_among x (drop_var a ys) ≡ true → ⊥) → ⊥
+    at true i k go = both_ways _ (not-true _ parts.0) (subst (λ n. is_among n ys ≡ true) (sym (eqb-true y a i ∙ e)) k)
+    at false i k go = ⊎_elim (λ f. eqb-false y a i (f ∙ sym e)) (λ f. go parts.1 f) (among_here x y (drop_var a ys) k)
 
 still_among : (x a : ℕ) (xs : List ℕ) → is_among x xs ≡ true → (a ≡ x) ⊎ (is_among x (drop_var a xs) ≡ true)
 still_among x a [] h = absurd (false≢true h)
-still_among x a (y ∷ ys) h = at (y == a) refl (among_here x y ys h)
+still_among x a (y ∷ ys) h = at (y == a) refl (among_here x y ys h) (λ k. still_among x a ys k)
   where
-    at : (b : Bool) → (y == a) ≡ b → (y ≡ x) ⊎ (is_among x ys ≡ true) → (a ≡ x) ⊎ (is_among x (cond b ys (y ∷ drop_var a ys)) ≡ true)
-    at true i (inl e) = inl (sym (eqb-true y a i) ∙ e)
-    at true i (inr k) = inr k
-    at false i (inl e) = inr (or_left (y == x) _ (eq-eqb y x e))
-    at false i (inr k) = ⊎_elim (λ e. inl e) (λ e. inr (or_right (y == x) _ e)) (still_among x a ys k)
+    at : (b : Bool) → (y == a) ≡ b → (y ≡ x) ⊎ (is_among x ys ≡ true) → (is_among x ys ≡ true → (a ≡ x) ⊎ (is_among x (drop_var a ys) ≡ true)) → (a ≡ x) ⊎ (is_among x (cond b ys (y ∷ drop_var a ys)) ≡ true)
+    at true i (inl e) go = inl (sym (eqb-true y a i) ∙ e)
+    at true i (inr k) go = inr k
+    at false i (inl e) go = inr (or_left (y == x) _ (eq-eqb y x e))
+    at false i (inr k) go = ⊎_elim (λ e. inl e) (λ e. inr (or_right (y == x) _ e)) (go k)
 
 front_distinct : (xs : List ℕ) → is_distinct xs ≡ true → is_distinct (but_last xs) ≡ true
 front_distinct [] h = refl
@@ -148,14 +148,14 @@ front_distinct (x ∷ y ∷ ys) h =
 
 drop_distinct : (a : ℕ) (xs : List ℕ) → is_distinct xs ≡ true → is_distinct (drop_var a xs) ≡ true
 drop_distinct a [] h = refl
-drop_distinct a (x ∷ xs) h = at (x == a)
+drop_distinct a (x ∷ xs) h = at (x == a) (λ d. drop_distinct a xs d)
   where
     parts : (not (is_among x xs) ≡ true) × (is_distinct xs ≡ true)
     parts = and_parts (not (is_among x xs)) _ h
 
-    at : (b : Bool) → is_distinct (cond b xs (x ∷ drop_var a xs)) ≡ true
-    at true = parts.1
-    at false = and_from _ _ (ap not (false_from_ne_true _ (λ t. both_ways _ (not-true _ parts.0) (dropped_among x a xs t)))) (drop_distinct a xs parts.1)
+    at : (b : Bool) → (is_distinct xs ≡ true → is_distinct (drop_var a xs) ≡ true) → is_distinct (cond b xs (x ∷ drop_var a xs)) ≡ true
+    at true go = parts.1
+    at false go = and_from _ _ (ap not (false_from_ne_true _ (λ t. both_ways _ (not-true _ parts.0) (dropped_among x a xs t)))) (go parts.1)
 
 -- PLACES
 

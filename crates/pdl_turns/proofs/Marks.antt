@@ -217,8 +217,8 @@ latest_own (e ∷ es) m a rest = at (e.mem == m) refl (e.address == a) refl (lat
 -- marks of a memory's writes are those writes
 pub strips_marked : (m b : ℕ) (cs : List Commit) → strips m (marked b (of_mem m cs)) ≡ of_mem m cs
 strips_marked m b [] = refl
-strips_marked m b (c ∷ cs) = at (c.mem == m) refl
+strips_marked m b (c ∷ cs) = at (c.mem == m) refl (strips_marked m (b - 1) cs) (strips_marked m b cs)
   where
-    at : (t : Bool) → (c.mem == m) ≡ t → strips m (marked b (cond t (c ∷ of_mem m cs) (of_mem m cs))) ≡ cond t (c ∷ of_mem m cs) (of_mem m cs)
-    at true e = λ i. record { mem = sym (eqb-true c.mem m e) i; address = c.address; value = c.value } ∷ strips_marked m (b - 1) cs i
-    at false e = strips_marked m b cs
+    at : (t : Bool) → (c.mem == m) ≡ t → strips m (marked (b - 1) (of_mem m cs)) ≡ of_mem m cs → strips m (marked b (of_mem m cs)) ≡ of_mem m cs → strips m (marked b (cond t (c ∷ of_mem m cs) (of_mem m cs))) ≡ cond t (c ∷ of_mem m cs) (of_mem m cs)
+    at true e less on = λ i. record { mem = sym (eqb-true c.mem m e) i; address = c.address; value = c.value } ∷ less i
+    at false e less on = on

@@ -80,14 +80,14 @@ run_more m _ r = ([], sym (append-nil _))
 
 runs_more : (m : ℕ) (xs : List Stmt) (r : Run) → (more : List Commit) × (of_mem m (run_all xs r).writes ≡ of_mem m r.writes ++ more)
 runs_more m [] r = ([], sym (append-nil _))
-runs_more m (x ∷ xs) r = at (all_hold x.guards r.env)
+runs_more m (x ∷ xs) r = at (all_hold x.guards r.env) (runs_more m xs (run_after x.op r)) (runs_more m xs r)
   where
-    at : (b : Bool) → (more : List Commit) × (of_mem m (run_all xs (cond b (run_after x.op r) r)).writes ≡ of_mem m r.writes ++ more)
-    at true =
+    at : (b : Bool) → (more : List Commit) × (of_mem m (run_all xs (run_after x.op r)).writes ≡ of_mem m (run_after x.op r).writes ++ more) → (more : List Commit) × (of_mem m (run_all xs r).writes ≡ of_mem m r.writes ++ more)
+        → (more : List Commit) × (of_mem m (run_all xs (cond b (run_after x.op r) r)).writes ≡ of_mem m r.writes ++ more)
+    at true rest on =
         let here = run_more m x.op r in
-        let rest = runs_more m xs (run_after x.op r) in
         (here.0 ++ rest.0, rest.1 ∙ ap (λ l. l ++ rest.0) here.1 ∙ append_assoc (of_mem m r.writes) here.0 rest.0)
-    at false = runs_more m xs r
+    at false rest on = on
 
 -- what is left behind a common beginning
 same_rest : (xs ys zs : List ℕ) → xs ++ ys ≡ xs ++ zs → ys ≡ zs

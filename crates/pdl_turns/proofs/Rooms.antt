@@ -26,11 +26,11 @@ room_fewer (Rename n) i j low h = le-leb (j + 0) n (let e : i + 0 ≤ n = leb-tr
 
 one_more : (m : ℕ) (rs : List Reserved) (r : Reserved) → reserves_of m (rs ++ r ∷ []) ≡ reserves_of m rs + cond (r.mem == m) 1 0
 one_more m [] r = refl
-one_more m (x ∷ rs) r = at (x.mem == m)
+one_more m (x ∷ rs) r = at (x.mem == m) (one_more m rs r)
   where
-    at : (b : Bool) → cond b (suc (reserves_of m (rs ++ r ∷ []))) (reserves_of m (rs ++ r ∷ [])) ≡ cond b (suc (reserves_of m rs)) (reserves_of m rs) + cond (r.mem == m) 1 0
-    at true = let h : reserves_of m (rs ++ r ∷ []) ≡ reserves_of m rs + cond (r.mem == m) 1 0 = one_more m rs r in omega arith
-    at false = one_more m rs r
+    at : (b : Bool) → reserves_of m (rs ++ r ∷ []) ≡ reserves_of m rs + cond (r.mem == m) 1 0 → cond b (suc (reserves_of m (rs ++ r ∷ []))) (reserves_of m (rs ++ r ∷ [])) ≡ cond b (suc (reserves_of m rs)) (reserves_of m rs) + cond (r.mem == m) 1 0
+    at true h = omega arith
+    at false h = h
 
 plus_none : (n : ℕ) → n ≡ n + 0
 plus_none n = omega arith

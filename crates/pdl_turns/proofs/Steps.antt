@@ -122,11 +122,12 @@ puts_new ph m n a y (w ∷ ws) h u = ap (with_writes_of m n ws) (at (w.mem == m)
 
 puts_append : (m n : ℕ) (ws : List Machine.Written) (xs ys : List Pending) → with_writes_of m n ws (xs ++ ys) ≡ with_writes_of m n ws xs ++ with_writes_of m n ws ys
 puts_append m n [] xs ys = refl
-puts_append m n (w ∷ ws) xs ys = at (w.mem == m)
+puts_append m n (w ∷ ws) xs ys = at (w.mem == m) (λ us vs. puts_append m n ws us vs)
   where
-    at : (b : Bool) → with_writes_of m n ws (cond b (with_value_of n w.var w.value (xs ++ ys)) (xs ++ ys)) ≡ with_writes_of m n ws (cond b (with_value_of n w.var w.value xs) xs) ++ with_writes_of m n ws (cond b (with_value_of n w.var w.value ys) ys)
-    at true = ap (with_writes_of m n ws) (put_append n w.var w.value xs ys) ∙ puts_append m n ws (with_value_of n w.var w.value xs) (with_value_of n w.var w.value ys)
-    at false = puts_append m n ws xs ys
+    at : (b : Bool) → ((us vs : List Pending) → with_writes_of m n ws (us ++ vs) ≡ with_writes_of m n ws us ++ with_writes_of m n ws vs)
+        → with_writes_of m n ws (cond b (with_value_of n w.var w.value (xs ++ ys)) (xs ++ ys)) ≡ with_writes_of m n ws (cond b (with_value_of n w.var w.value xs) xs) ++ with_writes_of m n ws (cond b (with_value_of n w.var w.value ys) ys)
+    at true go = ap (with_writes_of m n ws) (put_append n w.var w.value xs ys) ∙ go (with_value_of n w.var w.value xs) (with_value_of n w.var w.value ys)
+    at false go = go xs ys
 
 put_all_more : (m n : ℕ) (ws : List Machine.Written) (w : Machine.Written) (l : List Pending) → with_writes_of m n (ws ++ w ∷ []) l ≡ cond (w.mem == m) (with_value_of n w.var w.value (with_writes_of m n ws l)) (with_writes_of m n ws l)
 put_all_more m n [] w l = refl
@@ -140,11 +141,11 @@ new_more m n (x ∷ rs) r =
 
 pub releases_more : (m : ℕ) (rs ns : List ℕ) → releases_of m (rs ++ ns) ≡ releases_of m rs + releases_of m ns
 releases_more m [] ns = refl
-releases_more m (r ∷ rs) ns = at (r == m)
+releases_more m (r ∷ rs) ns = at (r == m) (releases_more m rs ns)
   where
-    at : (b : Bool) → cond b (suc (releases_of m (rs ++ ns))) (releases_of m (rs ++ ns)) ≡ cond b (suc (releases_of m rs)) (releases_of m rs) + releases_of m ns
-    at true = let h : releases_of m (rs ++ ns) ≡ releases_of m rs + releases_of m ns = releases_more m rs ns in omega arith
-    at false = releases_more m rs ns
+    at : (b : Bool) → releases_of m (rs ++ ns) ≡ releases_of m rs + releases_of m ns → cond b (suc (releases_of m (rs ++ ns))) (releases_of m (rs ++ ns)) ≡ cond b (suc (releases_of m rs)) (releases_of m rs) + releases_of m ns
+    at true h = omega arith
+    at false h = h
 
 has_own : (es : List Entry) (m a : ℕ) → has_entry es m a ≡ has_entry (entries_of m es) m a
 has_own [] m a = refl
@@ -266,11 +267,11 @@ step_write m n k a v ph es cs new ws rel true e h g =
     among : (xs : List ℕ) → is_oldest a xs ≡ true → is_among a xs ≡ true
     among [] i = absurd (cc i)
     among (x ∷ []) i = ap (λ c. c || false) i
-    among (x ∷ y ∷ ys) i = by (x == a) i
+    among (x ∷ y ∷ ys) i = by (x == a) i (λ j. among (y ∷ ys) j)
       where
-        by : (c : Bool) → (not c && is_oldest a (y ∷ ys)) ≡ true → (c || is_among a (y ∷ ys)) ≡ true
-        by true j = refl
-        by false j = among (y ∷ ys) j
+        by : (c : Bool) → (not c && is_oldest a (y ∷ ys)) ≡ true → (is_oldest a (y ∷ ys) ≡ true → is_among a (y ∷ ys) ≡ true) → (c || is_among a (y ∷ ys)) ≡ true
+        by true j go = refl
+        by false j go = go j
 
     unused : is_used ph a ≡ false
     unused = let i = g.apart a (among ph.unwritten h) in ap₂ (λ c d. c || d) i.0 i.1
@@ -382,13 +383,13 @@ step_release m n k a ph es cs new ws rs held i true e h g = at (is_among a ph.fu
           where
             still : (xs : List ℕ) → (a == x) ≡ false → is_among x xs ≡ true → is_among x (drop_var a xs) ≡ true
             still [] u t = absurd (cc t)
-            still (y ∷ ys) u t = go (y == a) refl (y == x) refl t
+            still (y ∷ ys) u t = go (y == a) refl (y == x) refl t (λ s. still ys u s)
               where
-                go : (c : Bool) → (y == a) ≡ c → (d : Bool) → (y == x) ≡ d → (d || is_among x ys) ≡ true → is_among x (cond c ys (y ∷ drop_var a ys)) ≡ true
-                go true l true q s = absurd (eqb-false a x u (sym (eqb-true y a l) ∙ eqb-true y x q))
-                go true l false q s = s
-                go false l true q s = ap (λ t. t || is_among x (drop_var a ys)) q
-                go false l false q s = ap (λ t. t || is_among x (drop_var a ys)) q ∙ still ys u s
+                go : (c : Bool) → (y == a) ≡ c → (d : Bool) → (y == x) ≡ d → (d || is_among x ys) ≡ true → (is_among x ys ≡ true → is_among x (drop_var a ys) ≡ true) → is_among x (cond c ys (y ∷ drop_var a ys)) ≡ true
+                go true l true q s on = absurd (eqb-false a x u (sym (eqb-true y a l) ∙ eqb-true y x q))
+                go true l false q s on = s
+                go false l true q s on = ap (λ t. t || is_among x (drop_var a ys)) q
+                go false l false q s on = ap (λ t. t || is_among x (drop_var a ys)) q ∙ on s
 
             by : (c : Bool) → (a == x) ≡ c → (d : Bool) → is_among x ph.full ≡ d → (d || is_among x ph.gone) ≡ true → (is_among x (drop_var a ph.full) || (c || is_among x ph.gone)) ≡ true
             by true u d t s = always (is_among x (drop_var a ph.full))
