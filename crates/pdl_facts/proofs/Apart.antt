@@ -1,5 +1,5 @@
 -- The locations of a phase without a value are others than those with one and than those that are released.
-use Rattle.std.proofs.Common.{◌≡◌, refl, sym, ap, ap₂, ◌∙◌, ℕ, suc, ◌+◌, length, arith, Bool, true, false, ◌&&◌, ◌||◌, not, List, [], ◌∷◌, ◌==◌, cond}
+use Rattle.std.proofs.Common.{◌≡◌, refl, sym, ap, ap₂, ◌∙◌, ℕ, suc, ◌+◌, length, arith, Bool, true, false, ◌&&◌, ◌||◌, not, List, [], ◌∷◌, ◌==◌, cond, if◌then◌else◌}
 use Rattle.std.proofs.lemmas.Bool.{eqb-true}
 use Rattle.pdl_derived.specs.Alone.{is_among, is_oldest, drop_var, but_last}
 use Rattle.pdl_derived.proofs.Writes.{and_left, and_right}
@@ -30,7 +30,7 @@ apart_reserve ph a h f x k = at (a == x) refl k
     at false e g = f x g
 
 -- the oldest stands once
-oldest_once : (a : ℕ) (xs : List ℕ) → is_oldest a xs ≡ true → is_among a (but_last xs) ≡ false
+pub oldest_once : (a : ℕ) (xs : List ℕ) → is_oldest a xs ≡ true → is_among a (but_last xs) ≡ false
 oldest_once a [] h = refl
 oldest_once a (x ∷ []) h = refl
 oldest_once a (x ∷ y ∷ ys) h = at (x == a) h (oldest_once a (y ∷ ys))
@@ -39,7 +39,7 @@ oldest_once a (x ∷ y ∷ ys) h = at (x == a) h (oldest_once a (y ∷ ys))
     at true k g = absurd (cc k)
     at false k g = g k
 
-front_among : (x : ℕ) (xs : List ℕ) → is_among x (but_last xs) ≡ true → is_among x xs ≡ true
+pub front_among : (x : ℕ) (xs : List ℕ) → is_among x (but_last xs) ≡ true → is_among x xs ≡ true
 front_among x [] h = absurd (cc h)
 front_among x (y ∷ []) h = absurd (cc h)
 front_among x (y ∷ z ∷ zs) h = at (y == x) h (front_among x (z ∷ zs))
@@ -87,7 +87,7 @@ apart_release ph a f = at (is_among a ph.full) refl
             clash : true ≡ false → ⊥
             clash q = cc
         by false i = (f x k).1
-    at false e = f
+    at false e x k = f x k
 
 -- HOW MANY LOCATIONS
 

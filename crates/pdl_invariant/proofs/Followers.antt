@@ -5,14 +5,14 @@ use Rattle.pdl_semantics.specs.Flat.{Arrays, Array, Pipe, Op, DelayedRead, Stmt,
 use Rattle.pdl_semantics.specs.Stages
 use Rattle.pdl_semantics.specs.Stages.{list_any, is_verify, mem_at, reserve_stage}
 use Rattle.pdl_semantics.specs.Locks.{Nothing, value_or}
-use Rattle.pdl_semantics.specs.Machine.{Ask, Awaited, State, Pending, Owned, lock_of, request_of, same_args, with_kept}
+use Rattle.pdl_semantics.specs.Machine.{Ask, Awaited, State, Owned, lock_of, request_of, same_args, with_kept}
 use Rattle.pdl_semantics.specs.Cycle.{awaited_of}
 use Rattle.pdl_semantics.specs.Sequential
 use Rattle.pdl_semantics.specs.Sequential.{thread}
 use Rattle.pdl_semantics.specs.Promises.{wrote, row}
-use Rattle.pdl_semantics.specs.Sound.{Follower, followers_of, guessed_wrong, has_done, is_spec_call, is_write, once_answered, awaited_words, request_address, has_asked, is_right_entry, right_entries, turn_writes, turn_so_far}
+use Rattle.pdl_semantics.specs.Sound.{Follower, followers_of, guessed_wrong, has_done, is_spec_call, is_write, once_answered, awaited_words, request_address, has_asked, entries_by, writes_done, right_entries, turn_writes, turn_so_far}
 use Rattle.pdl_semantics.specs.Sound
-use Rattle.pdl_derived.specs.Derived.{Entry, asked_at}
+use Rattle.pdl_derived.specs.Derived.{asked_at}
 use Rattle.pdl_derived.specs.Derived
 use Rattle.pdl_derived.specs.Alone.{so_far}
 use Rattle.pdl_facts.specs.Scans.{is_plain}
@@ -33,18 +33,18 @@ use Rattle.pdl_refinement.proofs.Cycles.{rows_next}
 use Rattle.pdl_refinement.proofs.Spots.{Spot, seats, Sure, Here, Standing, Tail, Last, exact_none}
 use Rattle.pdl_simulation.proofs.Joined.{sound_flows}
 use Rattle.pdl_derived.proofs.Entries.{entries_of}
-use Rattle.pdl_derived.proofs.Lists.{own, pend}
+use Rattle.pdl_derived.proofs.Lists.{pend}
 use Rattle.pdl_turns.proofs.Own.{pend_own}
 use Rattle.pdl_simulation.proofs.Stretches.{on_way, awaits_var, early}
 use Rattle.pdl_simulation.proofs.Seats.{Live, seat, threads_of}
 use Rattle.pdl_simulation.proofs.Choices.{Seated, Matched, OwnedBy, AllOwned}
 use Rattle.pdl_invariant.proofs.OldestFirst.{told, oldest_first}
 use Rattle.pdl_invariant.proofs.Past.{AllOps, AnyOp, ops_both, any_both, onto, touches, AskedBy}
-use Rattle.pdl_invariant.proofs.Local.{AnyAsk, AllKept, AllAwaited, any_of, past_of, kept_other, kept_map}
+use Rattle.pdl_invariant.proofs.Local.{AnyAsk, AllKept, AllAwaited, any_of, past_of, kept_other, kept_map, count, count_is}
 use Rattle.pdl_invariant.proofs.Lasting.{awaited_map, any_ask_map}
 use Rattle.pdl_invariant.proofs.Points.{onto_any}
-use Rattle.pdl_invariant.proofs.Mine.{Mine, of_thread, all_append}
-use Rattle.pdl_invariant.proofs.OnTurn.{AllEntries, turn_way, turn_env, turn_entries, turn_guess, turn_wrong}
+use Rattle.pdl_invariant.proofs.Mine.{Mine}
+use Rattle.pdl_invariant.proofs.OnTurn.{right_list, turn_way, turn_env, turn_entries, turn_guess, turn_wrong}
 use Rattle.pdl_word.specs.Each.{Each}
 use Rattle.pdl_word.proofs.Each.{each_push}
 
@@ -119,15 +119,6 @@ passed test xs h = at (onto_any test (passes test) (λ op ops. refl) xs [] (some
 awaited_all : (test : Awaited → Bool) (rs : List Awaited) → AllAwaited (λ r. test r ≡ true) rs → list_all test rs ≡ true
 awaited_all test [] h = refl
 awaited_all test (r ∷ rs) h = ap₂ (λ a b. a && b) h.0 (awaited_all test rs h.1)
-
--- a test of a thread's entries in a lock's list
-pend_all : (m n : ℕ) (test : Pending → Bool) (es : List Entry) → AllEntries (λ e. test (own n e) ≡ true) es → list_all test (pend m n es) ≡ true
-pend_all m n test [] h = refl
-pend_all m n test (e ∷ es) h = all_append test (pend m n es) _ (pend_all m n test es h.1) (at (e.mem == m))
-  where
-    at : (b : Bool) → list_all test (cond b (own n e ∷ []) []) ≡ true
-    at true = ap (λ b. b && true) h.0
-    at false = refl
 
 -- values that answers to a thread's requests leave as they are
 module _ (p : Pipe) (st : State) (l : Live) (mine : Mine p st l) where
@@ -282,10 +273,9 @@ module _ (p : Pipe) (sound : Sound p) (image : Arrays) (st : State) (d : Derived
 
   pub right_good : (m : ℕ) (f : Follower) → Good f → right_entries p st m f ≡ true
   right_good m f g =
-      ap (λ (x : Sound.Live). list_all (of_thread x.thread.number (is_right_entry (has_done (is_write m) p x) (turn_writes m p f))) (lock_of st m)) g.is
-      ∙ g.mine.listed m (is_right_entry (has_done (is_write m) p (told g.l)) (turn_writes m p f))
-      (ap (list_all (is_right_entry (has_done (is_write m) p (told g.l)) (turn_writes m p f))) (pend_own m g.l.number g.l.thread.entries)
-      ∙ pend_all m g.l.number (is_right_entry (has_done (is_write m) p (told g.l)) (turn_writes m p f)) (entries_of m g.l.thread.entries) (at (nat_lt (reserve_stage p m) g.sp.stage) refl))
+      ap (λ (x : Sound.Live). right_list (writes_done m p x) (turn_writes m p f) (entries_by x.thread.number (lock_of st m))) g.is
+      ∙ ap₂ (λ k es. right_list k (turn_writes m p f) es) (sym (count_is (λ x. is_write m x.op) (on_way p g.l.env g.l.thread.stage))) (g.mine.listed m ∙ pend_own m g.l.number g.l.thread.entries)
+      ∙ at (nat_lt (reserve_stage p m) g.sp.stage) refl
     where
       here : g.l.thread.stage ≡ g.sp.stage
       here = ap (λ (t : Derived.Thread). t.stage) g.thread
@@ -293,12 +283,11 @@ module _ (p : Pipe) (sound : Sound p) (image : Arrays) (st : State) (d : Derived
       way : on_way p g.l.env g.l.thread.stage ≡ on_way p (thread (at_once p) f.arrays f.args).env g.sp.stage
       way = way_of p sound st f.arrays f.args g.l g.sp g.thread g.seated g.here.waits.gets ∙ ap (on_way p (thread (at_once p) f.arrays f.args).env) here
 
-      at : (b : Bool) → nat_lt (reserve_stage p m) g.sp.stage ≡ b → AllEntries (λ e. is_right_entry (has_done (is_write m) p (told g.l)) (turn_writes m p f) (own g.l.number e) ≡ true) (entries_of m g.l.thread.entries)
+      at : (b : Bool) → nat_lt (reserve_stage p m) g.sp.stage ≡ b → right_list (count (λ x. is_write m x.op) (on_way p g.l.env g.l.thread.stage)) (turn_writes m p f) (pend m g.l.number (entries_of m g.l.thread.entries)) ≡ true
       at true e =
-          subst (λ (t : Derived.Thread). AllEntries (λ e. is_right_entry (has_done (is_write m) p (told g.l)) (turn_writes m p f) (own g.l.number e) ≡ true) (entries_of m t.entries)) (sym g.thread)
-          (subst (λ xs. AllEntries (λ e. is_right_entry (list_any (λ (x : Stmt). is_write m x.op) xs) (turn_writes m p f) (own g.l.number e) ≡ true) (entries_of m (so_far p f.arrays f.args g.sp.stage).entries)) (sym way)
-          (turn_entries p sound f.arrays f.args g.sp.stage m g.l.number (ltb-true _ _ e)))
-      at false e = subst (λ es. AllEntries (λ e. is_right_entry (has_done (is_write m) p (told g.l)) (turn_writes m p f) (own g.l.number e) ≡ true) es) (sym (early p (sound_flows p sound) g.l.env g.l.thread g.seated.keeps_on m (subst (λ s. s ≤ reserve_stage p m) (sym here) (ltb-false _ _ e)))) tt
+          ap₂ (λ xs (t : Derived.Thread). right_list (count (λ x. is_write m x.op) xs) (turn_writes m p f) (pend m g.l.number (entries_of m t.entries))) way g.thread
+          ∙ turn_entries p sound f.arrays f.args g.sp.stage m g.l.number (ltb-true _ _ e)
+      at false e = ap (λ es. right_list (count (λ x. is_write m x.op) (on_way p g.l.env g.l.thread.stage)) (turn_writes m p f) (pend m g.l.number es)) (early p (sound_flows p sound) g.l.env g.l.thread g.seated.keeps_on m (subst (λ s. s ≤ reserve_stage p m) (sym here) (ltb-false _ _ e)))
 
   -- a test that each of them passes
   pub good_all : (test : Follower → Bool) → ((f : Follower) → Good f → test f ≡ true) → (fs : List Follower) → AllGood fs → list_all test fs ≡ true

@@ -1,26 +1,30 @@
 -- A thread of a turn in a stage: its way is the turn's path, its values and pending writes are the turn's, and its guess is wrong just where its successor isn't the next turn.
-use Rattle.std.proofs.Common.{◌≡◌, refl, sym, ap, ap₂, ◌∙◌, subst, ℕ, suc, ◌<◌, Bool, true, false, ◌&&◌, ◌||◌, not, List, [], ◌∷◌, ◌++◌, Option, Some, None, is_some, ◌==◌, cond, slice_index, eq-eqb}
+use Rattle.std.proofs.Common.{◌≡◌, refl, sym, ap, ap₂, ◌∙◌, subst, ℕ, suc, ◌+◌, ◌-◌, ◌<◌, ◌≤◌, length, arith, nat_lt, is_none, append_assoc, length-append, ltb-true, ltb-false, lt-ltb, Bool, true, false, ◌&&◌, ◌||◌, not, List, [], ◌∷◌, ◌++◌, Option, Some, None, is_some, ◌==◌, cond, slice_index, eq-eqb}
 use Rattle.std.proofs.Math.Bool.{and-false}
 use Rattle.pdl_semantics.specs.Flat.{Arrays, Pipe, Op, Bind, CombRead, DelayedRead, Write, ReserveRead, ReserveWrite, Block, Release, Call, SpecCall, Verify, SpecCheck, SpecBarrier, Stmt, all_hold, Commit, of_mem}
-use Rattle.pdl_semantics.specs.Stages.{list_any, onpath, in_stage, is_verify, verify_stage, reserve_stage}
-use Rattle.pdl_semantics.specs.Machine.{same_args}
+use Rattle.pdl_semantics.specs.Stages.{list_any, onpath, in_stage, is_verify, verify_stage, reserve_stage, commit_stage}
+use Rattle.pdl_semantics.specs.Machine.{Pending, same_args}
 use Rattle.pdl_semantics.specs.Sequential.{Run, run_after, run_all, thread}
-use Rattle.pdl_semantics.specs.Sound.{stages_before, is_right_entry, is_write, is_spec_call, stages_from}
-use Rattle.pdl_derived.specs.Derived.{Entry, Work, work_after, do_all}
+use Rattle.pdl_semantics.specs.Sound.{stages_before, is_right_entry, are_right, is_write, is_spec_call, stages_from}
+use Rattle.pdl_derived.specs.Derived.{Work, work_after, do_all}
 use Rattle.pdl_derived.specs.Alone.{alone, before, answered_op, start_work, so_far}
 use Rattle.pdl_facts.specs.Certain.{Making, Unmade, Guessed, Made, next_making, making_all, makings_ok, making_ok, is_guessed, is_unmade}
-use Rattle.pdl_facts.specs.Scans.{Phase, Fresh, Held, Written, Done, next_phase, phase_all, phase_ok, phases_ok, is_fresh, after_release, none_of, binds_var, is_fixed, no_guards}
+use Rattle.pdl_facts.specs.Scans.{Phase, Fresh, next_phase, phase_all, phase_ok, phases_ok, none_of, binds_var, is_fixed, no_guards}
 use Rattle.pdl_facts.specs.Facts.{Sound, looked_all, at_once}
 use Rattle.pdl_facts.specs.Accepted.{Accepted, along}
-use Rattle.pdl_derived.proofs.Writes.{and_left, and_right}
-use Rattle.pdl_derived.proofs.Entries.{entries_of, entry, addresses, places}
-use Rattle.pdl_turns.proofs.Phases.{Tied}
+use Rattle.pdl_derived.proofs.Writes.{and_left, and_right, of_mem_append}
+use Rattle.pdl_derived.proofs.Entries.{entries_of, entry, write_of, places, Open, Full, waiting, known, told}
+use Rattle.pdl_derived.proofs.Slots.{rev}
+use Rattle.pdl_turns.proofs.Phases.{opened}
+use Rattle.pdl_turns.proofs.Turn.{addresses_at, places_append}
+use Rattle.pdl_turns.proofs.Alike.{taken_none}
+use Rattle.pdl_turns.proofs.Steps.{pend_append}
 use Rattle.pdl_turns.proofs.Related.{Related, related_step}
 use Rattle.pdl_turns.proofs.Paths.{Fixed, taken_stays, before_path}
 use Rattle.pdl_turns.proofs.Own.{none_second}
 use Rattle.pdl_turns.proofs.Looks.{before_looked, run_looked}
-use Rattle.pdl_turns.proofs.Pending.{is_settled, settled_whole}
-use Rattle.pdl_derived.proofs.Lists.{own}
+use Rattle.pdl_turns.proofs.Pending.{same_rest, writes_first, tied_at, early_written, late_empty}
+use Rattle.pdl_derived.proofs.Lists.{own, pend}
 use Rattle.pdl_turns.proofs.TurnFacts.{right_guess}
 use Rattle.pdl_turns.proofs.Guesses.{Calls, same_args_refl}
 use Rattle.pdl_simulation.proofs.Stretches.{on_way}
@@ -29,6 +33,7 @@ use Rattle.pdl_turns.proofs.Sounds
 use Rattle.pdl_turns.proofs.Turns
 use Rattle.pdl_turns.proofs.Whole
 use Rattle.pdl_invariant.proofs.Stage.{before_stages, way_looked}
+use Rattle.pdl_invariant.proofs.Local.{count}
 use Rattle.pdl_turns.proofs.Roams.{verify_same}
 
 -- PATHS
@@ -60,106 +65,105 @@ follow path arrays (x ∷ xs) ph w r f ok rel =
 
 -- WRITES
 
-abbrev pub AllEntries : (Entry → Type 0) → List Entry → Type 0
-AllEntries P [] = Unit {0}
-AllEntries P (e ∷ es) = P e × AllEntries P es
+-- a thread's entries of a memory in its lock's list, none or those of these writes of which k are made
+abbrev pub right_list : ℕ → List Commit → List Pending → Bool
+right_list k ds es = (length es == 0) || are_right k ds es
 
-right_one : (m n : ℕ) (ph : Phase) (env : List ℕ) (es : List Entry) (cs ws ds : List Commit) → Tied m ph env es cs ws → addresses es ++ places cs ≡ places ds → (is_settled ph ≡ true → ds ≡ ws) → AllEntries (λ e. is_right_entry (is_settled ph) ds (own n e) ≡ true) es
-right_one m n Fresh env es cs ws ds t f g = subst (λ l. AllEntries (λ e. is_right_entry false ds (own n e) ≡ true) l) (sym t.0) tt
-right_one m n (Held x) env es cs ws ds t f g =
-    subst (λ l. AllEntries (λ e. is_right_entry false ds (own n e) ≡ true) l) (sym t.0) (held ds (sym (ap₂ (λ l k. addresses l ++ places k) t.0 t.1) ∙ f), tt)
+right_some : (k : ℕ) (ds : List Commit) (es : List Pending) → are_right k ds es ≡ true → right_list k ds es ≡ true
+right_some k ds es h = at (length es == 0)
   where
-    held : (ds : List Commit) → slice_index env x ∷ [] ≡ places ds → is_right_entry false ds (own n (entry m x (slice_index env x) None)) ≡ true
-    held [] h = absurd (cc h)
-    held (d ∷ ds) h = ap (λ b. b && true) (eq-eqb (slice_index env x) d.address (first h))
-      where
-        first : {ys : List ℕ} → slice_index env x ∷ [] ≡ d.address ∷ ys → slice_index env x ≡ d.address
-        first i = cc
-right_one m n (Written x) env es cs ws ds t f g =
-    subst (λ l. AllEntries (λ e. is_right_entry true ds (own n e) ≡ true) l) (sym t.2)
-    (subst (λ l. is_right_entry true l (own n (entry m x t.0 (Some t.1))) ≡ true) (sym (g refl ∙ t.4)) (ap₂ (λ a b. a && b) (eq-eqb t.0 t.0 refl) (eq-eqb t.1 t.1 refl)), tt)
-right_one m n Done env es cs ws ds t f g = subst (λ l. AllEntries (λ e. is_right_entry true ds (own n e) ≡ true) l) (sym t.0) tt
+    at : (b : Bool) → (b || are_right k ds es) ≡ true
+    at true = refl
+    at false = h
 
--- a phase is settled just where there was a write
-settled_op : (m : ℕ) (ph : Phase) (op : Op) → phase_ok m ph op ≡ true → is_settled (next_phase m ph op) ≡ (is_settled ph || is_write m op)
-settled_op m ph (Write n a e) h = at (n == m)
+-- entries with a value are those of the first writes
+right_known : (m n k : ℕ) (fs : List Full) (ds : List Commit) (ys : List Pending) → are_right k ds ys ≡ true → are_right (k + length (told m fs)) (told m fs ++ ds) (pend m n (known m fs) ++ ys) ≡ true
+right_known m n k [] ds ys h = subst (λ j. are_right j ds ys ≡ true) (let e : k ≡ k + 0 = omega arith in e) h
+right_known m n k (f ∷ fs) ds ys h =
+    ap (λ b. are_right (k + length (told m (f ∷ fs))) (told m (f ∷ fs) ++ ds) ((pend m n (known m fs) ++ cond b (e ∷ []) []) ++ ys)) (eq-eqb m m refl)
+    ∙ ap₂ (λ xs es. are_right (k + length (told m (f ∷ fs))) xs es) (append_assoc (told m fs) (w ∷ []) ds) (append_assoc (pend m n (known m fs)) (e ∷ []) ys)
+    ∙ ap (λ j. are_right j (told m fs ++ w ∷ ds) (pend m n (known m fs) ++ e ∷ ys)) more
+    ∙ right_known m n (suc k) fs (w ∷ ds) (e ∷ ys) (ap₂ (λ b j. is_right_entry b w e && are_right j ds ys) (lt-ltb 0 (suc k) (omega arith)) (let e : suc k - 1 ≡ k = omega arith in e)
+    ∙ ap₂ (λ a b. a && b) (ap₂ (λ a b. a && b) (eq-eqb f.address f.address refl) (eq-eqb f.value f.value refl)) h)
   where
-    at : (b : Bool) → is_settled (cond b (Written a) ph) ≡ (is_settled ph || b)
-    at true = yes (is_settled ph)
-      where
-        yes : (b : Bool) → true ≡ (b || true)
-        yes true = refl
-        yes false = refl
-    at false = no (is_settled ph)
-      where
-        no : (b : Bool) → b ≡ (b || false)
-        no true = refl
-        no false = refl
-settled_op m ph (ReserveWrite n a) h = at (n == m) h
-  where
-    fresh : (ph : Phase) → is_fresh ph ≡ true → false ≡ (is_settled ph || false)
-    fresh Fresh i = refl
-    fresh (Held x) i = refl
-    fresh (Written x) i = absurd (cc i)
-    fresh Done i = absurd (cc i)
+    w : Commit
+    w = write_of m f.address f.value
 
-    no : (b : Bool) → b ≡ (b || false)
-    no true = refl
-    no false = refl
+    e : Pending
+    e = own n (entry m f.var f.address (Some f.value))
 
-    at : (b : Bool) → (not b || is_fresh ph) ≡ true → is_settled (cond b (Held a) ph) ≡ (is_settled ph || false)
-    at true i = fresh ph i
-    at false i = no (is_settled ph)
-settled_op m ph (Release n a) h = at (n == m)
-  where
-    after : (ph : Phase) → is_settled (after_release ph a) ≡ (is_settled ph || false)
-    after Fresh = refl
-    after (Held x) = refl
-    after (Written x) = by (x == a)
-      where
-        by : (b : Bool) → is_settled (cond b Done (Written x)) ≡ true
-        by true = refl
-        by false = refl
-    after Done = refl
+    more : k + length (told m fs ++ w ∷ []) ≡ suc k + length (told m fs)
+    more = let l : length (told m fs ++ w ∷ []) ≡ length (told m fs) + 1 = length-append (told m fs) (w ∷ []) in omega arith
 
-    no : (b : Bool) → b ≡ (b || false)
-    no true = refl
-    no false = refl
+-- entries without a value have the addresses of the others
+abbrev NoneYet : List Pending → Type 0
+NoneYet [] = Unit {0}
+NoneYet (e ∷ es) = (e.value ≡ None) × NoneYet es
 
-    at : (b : Bool) → is_settled (cond b (after_release ph a) ph) ≡ (is_settled ph || false)
-    at true = after ph
-    at false = no (is_settled ph)
-settled_op m ph (DelayedRead x n a) h = absurd (cc h)
-settled_op m ph (Bind x e) h = or_none (is_settled ph)
-  where
-    or_none : (b : Bool) → b ≡ (b || false)
-    or_none true = refl
-    or_none false = refl
-settled_op m ph (CombRead x n a) h = or_none (is_settled ph)
-  where
-    or_none : (b : Bool) → b ≡ (b || false)
-    or_none true = refl
-    or_none false = refl
-settled_op m ph _ h = or_none (is_settled ph)
-  where
-    or_none : (b : Bool) → b ≡ (b || false)
-    or_none true = refl
-    or_none false = refl
+abbrev spots_of : List Pending → List ℕ
+spots_of [] = []
+spots_of (e ∷ es) = e.address ∷ spots_of es
 
-or_assoc : (a b c : Bool) → ((a || b) || c) ≡ (a || (b || c))
-or_assoc true b c = refl
-or_assoc false b c = refl
+none_append : (xs ys : List Pending) → NoneYet xs → NoneYet ys → NoneYet (xs ++ ys)
+none_append [] ys f g = g
+none_append (x ∷ xs) ys f g = (f.0, none_append xs ys f.1 g)
 
-settled_all : (m : ℕ) (ph : Phase) (xs : List Stmt) → phases_ok m ph xs ≡ true → is_settled (phase_all m ph xs) ≡ (is_settled ph || list_any (λ (x : Stmt). is_write m x.op) xs)
-settled_all m ph [] h = no (is_settled ph)
+spots_append : (xs ys : List Pending) → spots_of (xs ++ ys) ≡ spots_of xs ++ spots_of ys
+spots_append [] ys = refl
+spots_append (x ∷ xs) ys = ap (λ l. x.address ∷ l) (spots_append xs ys)
+
+none_waiting : (m n : ℕ) (os : List Open) → NoneYet (pend m n (waiting m os))
+none_waiting m n [] = tt
+none_waiting m n (o ∷ os) = none_append (pend m n (waiting m os)) _ (none_waiting m n os) (at (m == m))
   where
-    no : (b : Bool) → b ≡ (b || false)
-    no true = refl
-    no false = refl
-settled_all m ph (x ∷ xs) h =
-    settled_all m (next_phase m ph x.op) xs (and_right (no_guards x.guards && phase_ok m ph x.op) _ h)
-    ∙ ap (λ b. b || list_any (λ (x : Stmt). is_write m x.op) xs) (settled_op m ph x.op (and_right _ _ (and_left _ _ h)))
-    ∙ or_assoc (is_settled ph) (is_write m x.op) (list_any (λ (x : Stmt). is_write m x.op) xs)
+    at : (b : Bool) → NoneYet (cond b (own n (entry m o.var o.address None) ∷ []) [])
+    at true = (refl, tt)
+    at false = tt
+
+spots_waiting : (m n : ℕ) (env xs : List ℕ) → spots_of (pend m n (waiting m (opened env xs))) ≡ rev (addresses_at env xs)
+spots_waiting m n env [] = refl
+spots_waiting m n env (x ∷ xs) =
+    spots_append (pend m n (waiting m (opened env xs))) _
+    ∙ ap₂ (λ l b. l ++ spots_of (cond b (own n (entry m x (slice_index env x) None) ∷ []) [])) (spots_waiting m n env xs) (eq-eqb m m refl)
+
+right_none : (ds : List Commit) (es : List Pending) → NoneYet es → places ds ≡ spots_of es → are_right 0 ds es ≡ true
+right_none [] [] f h = refl
+right_none [] (e ∷ es) f h = absurd (cc h)
+right_none (d ∷ ds) [] f h = absurd (cc h)
+right_none (d ∷ ds) (e ∷ es) f h = ap₂ (λ a b. a && b) (ap₂ (λ a b. a && b) (eq-eqb e.address d.address (sym (first h))) (ap is_none f.0)) (right_none ds es f.1 (rest h))
+  where
+    first : d.address ∷ places ds ≡ e.address ∷ spots_of es → d.address ≡ e.address
+    first i = cc
+
+    rest : d.address ∷ places ds ≡ e.address ∷ spots_of es → places ds ≡ spots_of es
+    rest i = cc
+
+-- how many writes a run makes
+plus_none : (n : ℕ) → n ≡ n + 0
+plus_none n = omega arith
+
+more_writes : (m : ℕ) (op : Op) (r : Run) → length (of_mem m (run_after op r).writes) ≡ length (of_mem m r.writes) + cond (is_write m op) 1 0
+more_writes m (Write n a e) r = ap length (of_mem_append m r.writes _) ∙ length-append (of_mem m r.writes) _ ∙ ap (λ k. length (of_mem m r.writes) + k) (at (n == m))
+  where
+    at : (b : Bool) → length (cond b (write_of n (slice_index r.env a) (value_of e r.env) ∷ []) []) ≡ cond b 1 0
+    at true = refl
+    at false = refl
+more_writes m _ r = plus_none (length (of_mem m r.writes))
+
+run_count : (m : ℕ) (ph : Phase) (xs : List Stmt) (r : Run) → phases_ok m ph xs ≡ true → length (of_mem m (run_all xs r).writes) ≡ length (of_mem m r.writes) + count (λ x. is_write m x.op) xs
+run_count m ph [] r h = plus_none (length (of_mem m r.writes))
+run_count m ph (x ∷ xs) r h =
+    ap (λ b. length (of_mem m (run_all xs (cond b (run_after x.op r) r)).writes)) (taken_none x.guards r.env (and_left _ _ (and_left (no_guards x.guards && phase_ok m ph x.op) _ h)))
+    ∙ run_count m (next_phase m ph x.op) xs (run_after x.op r) (and_right (no_guards x.guards && phase_ok m ph x.op) _ h)
+    ∙ ap (λ n. n + count (λ x. is_write m x.op) xs) (more_writes m x.op r) ∙ one (is_write m x.op)
+  where
+    one : (b : Bool) → (length (of_mem m r.writes) + cond b 1 0) + count (λ x. is_write m x.op) xs ≡ length (of_mem m r.writes) + cond b (1 + count (λ x. is_write m x.op) xs) (count (λ x. is_write m x.op) xs)
+    one true = omega arith
+    one false = omega arith
+
+count_looked : (test : Op → Bool) → ((op : Op) → test (answered_op op) ≡ test op) → (xs : List Stmt) → count (λ x. test x.op) (looked_all xs) ≡ count (λ x. test x.op) xs
+count_looked test f [] = refl
+count_looked test f (x ∷ xs) = ap₂ (λ b n. cond b (1 + n) n) (f x.op) (count_looked test f xs)
 
 any_looked : (test : Op → Bool) → ((op : Op) → test (answered_op op) ≡ test op) → (xs : List Stmt) → list_any (λ (x : Stmt). test x.op) (looked_all xs) ≡ list_any (λ (x : Stmt). test x.op) xs
 any_looked test f [] = refl
@@ -291,19 +295,44 @@ module _ (p : Pipe) (sound : Sound p) (arrays : Arrays) (args : List ℕ) where
       ∙ ap (λ l. (run_all l (Whole.start_run p arrays args)).env) (before_stages s p.stmts) ∙ ap (λ (r : Run). r.env) (run_looked (stages_before s p.stmts) (Whole.start_run p arrays args))
 
   -- its pending writes
-  pub turn_entries : (s m n : ℕ) → reserve_stage p m < s → AllEntries (λ e. is_right_entry (list_any (λ (x : Stmt). is_write m x.op) (on_way p (thread (at_once p) arrays args).env s)) (of_mem m (thread p arrays args).writes) (own n e) ≡ true) (entries_of m (so_far p arrays args s).entries)
+  pub turn_entries : (s m n : ℕ) → reserve_stage p m < s → right_list (count (λ x. is_write m x.op) (on_way p (thread (at_once p) arrays args).env s)) (of_mem m (thread p arrays args).writes) (pend m n (entries_of m (so_far p arrays args s).entries)) ≡ true
   turn_entries s m n h =
-      subst (λ b. AllEntries (λ e. is_right_entry b (of_mem m (thread p arrays args).writes) (own n e) ≡ true) (entries_of m (so_far p arrays args s).entries)) written
-      (subst (λ (w : Work). AllEntries (λ e. is_right_entry (is_settled (phase_all m Fresh (before s (onpath (thread (at_once p) arrays args).env (looked_all p.stmts))))) (of_mem m (thread p arrays args).writes) (own n e) ≡ true) (entries_of m w.entries)) (sym (so s))
-      (subst (λ (r : Run). AllEntries (λ e. is_right_entry (is_settled (phase_all m Fresh (before s (onpath (thread (at_once p) arrays args).env (looked_all p.stmts))))) (of_mem m r.writes) (own n e) ≡ true) (entries_of m (so_far (along (thread (at_once p) arrays args).env (at_once p)) arrays args s).entries)) (sym whole)
-      (right_one m n (phase_all m Fresh (before s (onpath (thread (at_once p) arrays args).env (looked_all p.stmts)))) (so_far (along (thread (at_once p) arrays args).env (at_once p)) arrays args s).env _ _ _ _
-      ((Whole.related_at (along (thread (at_once p) arrays args).env (at_once p)) acc arrays args s).tied m) (Whole.all_places (along (thread (at_once p) arrays args).env (at_once p)) acc arrays args s m h) (settled_whole (along (thread (at_once p) arrays args).env (at_once p)) acc arrays args s m))))
+      subst (λ (w : Work). right_list made (of_mem m (thread p arrays args).writes) (pend m n (entries_of m w.entries)) ≡ true) (sym (so s))
+      (subst (λ (r : Run). right_list made (of_mem m r.writes) (pend m n (entries_of m (so_far q arrays args s).entries)) ≡ true) (sym whole) (at (nat_lt (commit_stage p m) s) refl))
     where
-      written : is_settled (phase_all m Fresh (before s (onpath (thread (at_once p) arrays args).env (looked_all p.stmts)))) ≡ list_any (λ (x : Stmt). is_write m x.op) (on_way p (thread (at_once p) arrays args).env s)
-      written =
-          settled_all m Fresh (before s (onpath (thread (at_once p) arrays args).env (looked_all p.stmts))) (Whole.ok_before (along (thread (at_once p) arrays args).env (at_once p)) acc arrays args s m)
-          ∙ ap (list_any (λ (x : Stmt). is_write m x.op)) (way_looked p (thread (at_once p) arrays args).env s)
-          ∙ any_looked (is_write m) (write_looked m) (on_way p (thread (at_once p) arrays args).env s)
+      q : Pipe
+      q = along (thread (at_once p) arrays args).env (at_once p)
+
+      made : ℕ
+      made = count (λ x. is_write m x.op) (on_way p (thread (at_once p) arrays args).env s)
+
+      xs : List Stmt
+      xs = before s (onpath (thread (at_once p) arrays args).env (looked_all p.stmts))
+
+      counts : length (of_mem m (Whole.run_at q arrays args s).writes) ≡ made
+      counts =
+          run_count m Fresh xs (Whole.start_run q arrays args) (Whole.ok_before q acc arrays args s m)
+          ∙ ap (count (λ x. is_write m x.op)) (way_looked p (thread (at_once p) arrays args).env s)
+          ∙ count_looked (is_write m) (write_looked m) (on_way p (thread (at_once p) arrays args).env s)
+
+      early : s ≤ commit_stage p m → are_right made (of_mem m (thread q arrays args).writes) (pend m n (entries_of m (so_far q arrays args s).entries)) ≡ true
+      early low =
+          let t = tied_at q acc arrays args s m in
+          let ws : of_mem m (Whole.run_at q arrays args s).writes ≡ told m t.fulls = early_written q acc arrays args s m low in
+          let more = writes_first q acc arrays args s m in
+          let unset : List ℕ = (phase_all m Fresh xs).unwritten in
+          let all : of_mem m (thread q arrays args).writes ≡ told m t.fulls ++ more.0 = more.1 ∙ ap (λ l. l ++ more.0) ws in
+          let rest : places more.0 ≡ rev (addresses_at (so_far q arrays args s).env unset) =
+          same_rest (places (told m t.fulls)) _ _
+          (sym (places_append (told m t.fulls) more.0) ∙ ap places (sym all) ∙ sym (Whole.all_places q acc arrays args s m h) ∙ ap (λ l. places l ++ rev (addresses_at (so_far q arrays args s).env unset)) ws) in
+          ap₂ (λ xs es. are_right made xs es) all (ap (pend m n) t.entries ∙ pend_append m n (waiting m (opened (so_far q arrays args s).env unset)) (known m t.fulls))
+          ∙ ap (λ k. are_right k (told m t.fulls ++ more.0) (pend m n (known m t.fulls) ++ pend m n (waiting m (opened (so_far q arrays args s).env unset)))) (sym counts ∙ ap length ws)
+          ∙ right_known m n 0 t.fulls more.0 (pend m n (waiting m (opened (so_far q arrays args s).env unset)))
+          (right_none more.0 _ (none_waiting m n (opened (so_far q arrays args s).env unset)) (rest ∙ sym (spots_waiting m n (so_far q arrays args s).env unset)))
+
+      at : (b : Bool) → nat_lt (commit_stage p m) s ≡ b → right_list made (of_mem m (thread q arrays args).writes) (pend m n (entries_of m (so_far q arrays args s).entries)) ≡ true
+      at true e = ap (λ es. right_list made (of_mem m (thread q arrays args).writes) (pend m n es)) (late_empty q acc arrays args s m (ltb-true _ _ e) h)
+      at false e = right_some made _ _ (early (ltb-false _ _ e))
 
   -- its guess
   pub turn_guess : (s : ℕ) → is_guessed (making_all Unmade (before s (onpath (thread (at_once p) arrays args).env (looked_all p.stmts)))) ≡ (list_any (λ (x : Stmt). is_spec_call x.op) (on_way p (thread (at_once p) arrays args).env s) && not (list_any (λ (x : Stmt). is_verify x.op) (on_way p (thread (at_once p) arrays args).env s)))

@@ -28,7 +28,7 @@ use Rattle.pdl_invariant.proofs.Lasting.{Lasting}
 use Rattle.pdl_invariant.proofs.Releases.{is_done, sure_done, low_stages, stages_looked, unbarred}
 use Rattle.pdl_lockuse.proofs.Paths.{path, mine, passed, way_is}
 use Rattle.pdl_lockuse.proofs.OwnWrite.{used_here}
-use Rattle.pdl_turns.proofs.Pending.{phase_append}
+use Rattle.pdl_turns.proofs.Whole.{phase_append}
 use Rattle.pdl_semantics.specs.Sound.{stages_from}
 use Rattle.pdl_word.specs.Each.{Each}
 

@@ -51,7 +51,7 @@ use Rattle.pdl_lockuse.proofs.Owns.{contains_write, first_is, own_two, has_open,
 use Rattle.pdl_lockuse.proofs.Awaits.{still_early}
 use Rattle.pdl_lockuse.proofs.Tails.{Bars, up_released, bars_commit, bars_verify, all_own, tail_kept}
 use Rattle.pdl_lockuse.proofs.Cuts.{order_filled, order_behind, tail_left, front_left}
-use Rattle.pdl_turns.proofs.Pending.{phase_append}
+use Rattle.pdl_turns.proofs.Whole.{phase_append}
 use Rattle.pdl_semantics.specs.PendingLists.{AreOrdered, count_older}
 use Rattle.pdl_word.specs.Each.{Each}
 use Rattle.pdl_simulation.proofs.Simulated.{Sim}

@@ -32,7 +32,7 @@ use Rattle.pdl_invariant.proofs.StillLooks.{let_go_behind}
 use Rattle.pdl_turns.proofs.Roams.{looked_append}
 use Rattle.pdl_turns.proofs.Guesses.{makings_first, makings_second}
 use Rattle.pdl_turns.proofs.Own.{none_first}
-use Rattle.pdl_turns.proofs.Pending.{phase_append}
+use Rattle.pdl_turns.proofs.Whole.{phase_append}
 use Rattle.pdl_turns.proofs.Paths.{none_onpath}
 
 -- PARTS OF A LIST OF STATEMENTS

@@ -10,7 +10,7 @@ use Rattle.pdl_semantics.specs.Cycle.{awaited_of}
 use Rattle.pdl_semantics.specs.Machine.{Ask}
 use Rattle.pdl_semantics.specs.Sequential.{thread, writes_from, seqwrites, after_turns}
 use Rattle.pdl_semantics.specs.Promises.{wrote, row, IsPrefix}
-use Rattle.pdl_derived.specs.Derived.{Work, Thread, State, Act, acts, all_acts, survivors, commits_of, asks_of, next_asks, cycle, after_acts, first, nothing_asked, turns, turns_from, state_after, all_commits, ended_in, is_wait}
+use Rattle.pdl_derived.specs.Derived.{Work, Thread, State, Act, act, around, answered_thread, acts, all_acts, survivors, commits_of, asks_of, next_asks, cycle, after_acts, first, nothing_asked, turns, turns_from, state_after, all_commits, ended_in, is_wait}
 use Rattle.pdl_derived.specs.Alone.{so_far, Refines, Advances, oldest_moves}
 use Rattle.pdl_facts.specs.Scans.{is_plain}
 use Rattle.pdl_turns.proofs.Rooms.{room_alone}
@@ -330,7 +330,7 @@ module _ (p : Pipe) (acc : Course p) where
       at : (sps : List Spot) → Standing p acc st.asked (λ m. of_mem m past) (λ m. of_mem m (writes_from p n image p.start)) (λ m. []) (after_turns p image n).arrays (after_turns p image n).next (length p.stages ∷ []) sps
           → is_nil sps ≡ false → oldest_moves (acts p st bits [] (seats p (after_turns p image n).arrays (after_turns p image n).next sps ++ r.strays)) ≡ true
       at [] h l = absurd (cc l)
-      at (sp ∷ sps) h l = oldest p st bits (seat p (after_turns p image n).arrays (after_turns p image n).next sp) (room_alone p _ (acc.rooms _ _)) (asked_all st.asked sp.asks h.0.waits.out) k
+      at (sp ∷ sps) h l = oldest p st bits (seat p (after_turns p image n).arrays (after_turns p image n).next sp) (room_alone p (act p st bits [] (seat p (after_turns p image n).arrays (after_turns p image n).next sp)).work (acc.rooms (around p st bits [] sp.stage) (answered_thread p st bits (seat p (after_turns p image n).arrays (after_turns p image n).next sp)))) (asked_all st.asked sp.asks h.0.waits.out) k
 
   pub advances : (image : Arrays) (schedule : List (List Bool)) (bits : List Bool) → Advances p image schedule bits
   advances image schedule bits k = oldest_of image _ _ (state_after p (first p image) schedule) bits (run_of image schedule) k

@@ -109,7 +109,7 @@ strays_cycle p f vis st bits older bound bound' (t ∷ ts) h s =
     let low : t.stage < length p.stages = omega arith in
     by_bool (act p st bits older t).moves (StraysAfter p f.stray f.made bound' false (acts p st bits older (t ∷ ts)))
     (λ e.
-    let ready : (work_of_stage p (around p st bits older t.stage) (answered_thread p st bits t)).ready ≡ true = and_right _ _ (and_left _ _ (and_left _ _ e)) in
+    let ready : (work_of_stage p (around p st bits older t.stage) (answered_thread p st bits t)).ready ≡ true = and_right _ _ (and_left _ _ (and_left _ _ (and_left _ _ e))) in
     let done : (answered_thread p st bits t).awaits ≡ [] = none_left _ (and_right _ _ (and_left _ _ e)) in
     let clear : Trunk p t.stage → barrier_clear (verify_stage p.stmts) t.stage (befores older) ≡ false = λ k. subst (λ o. barrier_clear o t.stage (befores older) ≡ false) (sym vis) (h.unclear t.stage (s.1 t.stage k (le_refl t.stage)) k) in
     let strayed : Strayed p f.stray f.made (answered_thread p st bits t) (work_of_stage p (around p st bits older t.stage) (answered_thread p st bits t)) = f.stray_step (around p st bits older t.stage) (answered_thread p st bits t) now.0 done deep clear ready in

@@ -22,7 +22,7 @@ use Rattle.pdl_derived.proofs.Lists.{pend}
 use Rattle.pdl_turns.proofs.Steps.{Here, step_write, step_reserve, step_release}
 use Rattle.pdl_turns.proofs.Own.{Worked, worked, quiet_releases}
 use Rattle.pdl_simulation.proofs.Shapes.{Shape, shape_over, shape_none, shape_fresh, shape_start, shape_end, uses_front, uses_back, called_append, calls_front, calls_back, none_before, none_till, fixed_to, stays_fresh, over_early, held_ops, held_append, held_path, held_work}
-use Rattle.pdl_turns.proofs.Pending.{phase_append}
+use Rattle.pdl_turns.proofs.Whole.{phase_append}
 use Rattle.pdl_turns.proofs.OfStage.{fixed_stage}
 use Rattle.pdl_turns.proofs.Turn.{none_from, none_in_stage}
 

@@ -1,5 +1,5 @@
 -- What ties a state of the stated machine to one of the derived machine, one cycle of both, and whole runs.
-use Rattle.std.proofs.Common.{◌≡◌, refl, sym, ap, ap₂, ◌∙◌, subst, ℕ, zero, suc, ◌+◌, ◌≤◌, ◌<◌, Bool, true, false, ◌&&◌, ◌||◌, not, List, [], ◌∷◌, ◌++◌, length, Option, Some, None, is_some, is_none, ◌==◌, nat_lt, cond, if◌then◌else◌, arith, append-nil, slice_index_or, ltb-true, ltb-false, zero-add, add-zero, add-suc, suc-add, eq-eqb}
+use Rattle.std.proofs.Common.{drop, take, ◌≡◌, refl, sym, ap, ap₂, ◌∙◌, subst, ℕ, zero, suc, ◌+◌, ◌≤◌, ◌<◌, Bool, true, false, ◌&&◌, ◌||◌, not, List, [], ◌∷◌, ◌++◌, length, Option, Some, None, is_some, is_none, ◌==◌, nat_lt, cond, if◌then◌else◌, arith, append-nil, slice_index_or, ltb-true, ltb-false, zero-add, add-zero, add-suc, suc-add, eq-eqb}
 use Rattle.std.proofs.lemmas.Bool.{eqb-true, eqb-false}
 use Rattle.pdl_semantics.specs.Flat.{Arrays, Pipe, Branch, Mem, Stage, of_mem, after_commits}
 use Rattle.pdl_semantics.specs.Stages.{list_any, stage_at, goes_to, in_stage, is_inside, is_branch_of}

@@ -4,10 +4,10 @@ use Rattle.std.proofs.lemmas.Bool.{eqb-false}
 use Rattle.pdl_semantics.specs.Flat.{Arrays, Pipe, Op, DelayedRead, SpecCall, Verify, Call, Stmt, Mem, Commit, list_all, of_mem, arrays_of, all_hold, values_of}
 use Rattle.pdl_semantics.specs.Stages.{list_any, onpath, in_stage, stage_at, goes_to, onward, stages_on, is_verify, verify_stage}
 use Rattle.pdl_semantics.specs.Sequential.{thread, threads, threads_from, writes_from, after_turns}
-use Rattle.pdl_semantics.specs.Cycle.{PortWrite, commit_shown, for_mems}
+use Rattle.pdl_semantics.specs.Cycle.{PortWrite, commits_shown, for_mems}
 use Rattle.pdl_semantics.specs.Machine.{same_args, is_answered}
 use Rattle.pdl_semantics.specs.Machine
-use Rattle.pdl_semantics.specs.Lines.{puts_of, put_of, puts_in, by_mem, columns, lines, turn_cycle, turn_cycles, thread_cycle, thread_cycles, run_lines, sequential_lines}
+use Rattle.pdl_semantics.specs.Lines.{puts_of, puts_for, puts_in, by_mem, columns, lines, turn_cycle, turn_cycles, thread_cycle, thread_cycles, run_lines, sequential_lines}
 use Rattle.pdl_semantics.specs.Flatten.{flat, mems_of}
 use Rattle.pdl_semantics.specs.Tree
 use Rattle.pdl_semantics.specs.Cycle
@@ -258,34 +258,34 @@ module _ (p : Pipe) (sound : Sound p) (single : length p.stages ≡ 1) where
 
 -- LINES
 
-puts_alike : (m : ℕ) (o : Option PortWrite) → puts_of (commit_shown m o) ≡ put_of o
-puts_alike m None = refl
-puts_alike m (Some e) = refl
+puts_alike : (m : ℕ) (es : List PortWrite) → puts_of (commits_shown m es) ≡ puts_for es
+puts_alike m [] = refl
+puts_alike m (e ∷ es) = ap (λ l. record { address = e.address; value = e.value } ∷ l) (puts_alike m es)
 
 -- what each memory of a cycle shows
-puts_same : (f : ℕ → Option PortWrite) (ws : List Commit) (k : ℕ) (ms : List Tree.Mem) → ((j : ℕ) → j < length (mems_of ms) → commit_shown (k + j) (f (k + j)) ≡ of_mem (k + j) ws)
+puts_same : (f : ℕ → List PortWrite) (ws : List Commit) (k : ℕ) (ms : List Tree.Mem) → ((j : ℕ) → j < length (mems_of ms) → commits_shown (k + j) (f (k + j)) ≡ of_mem (k + j) ws)
     → puts_in (for_mems f k (mems_of ms)) ≡ by_mem k (columns ms) ws
 puts_same f ws k [] h = refl
 puts_same f ws k (m ∷ ms) h =
     ap₂ (λ a l. a ∷ l)
-    (sym (puts_alike k (f k)) ∙ ap puts_of (subst (λ i. commit_shown i (f i) ≡ of_mem i ws) (let e : k + 0 ≡ k = omega arith in e) (h 0 (omega arith))))
-    (puts_same f ws (suc k) ms (λ j low. subst (λ i. commit_shown i (f i) ≡ of_mem i ws) (let e : k + suc j ≡ suc k + j = omega arith in e) (h (suc j) (omega arith))))
+    (sym (puts_alike k (f k)) ∙ ap puts_of (subst (λ i. commits_shown i (f i) ≡ of_mem i ws) (let e : k + 0 ≡ k = omega arith in e) (h 0 (omega arith))))
+    (puts_same f ws (suc k) ms (λ j low. subst (λ i. commits_shown i (f i) ≡ of_mem i ws) (let e : k + suc j ≡ suc k + j = omega arith in e) (h (suc j) (omega arith))))
 
 -- a cycle that is a thread
 cycle_same : (p : Tree.Pipe) (st : Machine.State) (bits : List Bool) (ws : List Commit)
     → IsThread (record { ports = Cycle.ports (flat p) st (Moves.all_acts (flat p) st bits); wait = Cycle.is_wait (flat p) st bits }) ws
     → turn_cycle (record { ports = Cycle.ports (flat p) st (Moves.all_acts (flat p) st bits); wait = Cycle.is_wait (flat p) st bits }) ≡ thread_cycle (columns p.mems) ws
 cycle_same p st bits ws h = λ i. record {
-  puts = puts_same (λ m. Cycle.port_write (Cycle.taken_out st (Moves.movers (Moves.all_acts (flat p) st bits)) m)) ws 0 p.mems each i;
+  puts = puts_same (λ m. Cycle.port_writes (Cycle.taken_out st (Moves.movers (Moves.all_acts (flat p) st bits)) m)) ws 0 p.mems each i;
   ended = h.ended i;
   wait = h.wait i;
   squash = h.squash i;
 }
   where
-    each : (j : ℕ) → j < length (mems_of p.mems) → commit_shown (0 + j) (Cycle.port_write (Cycle.taken_out st (Moves.movers (Moves.all_acts (flat p) st bits)) (0 + j))) ≡ of_mem (0 + j) ws
+    each : (j : ℕ) → j < length (mems_of p.mems) → commits_shown (0 + j) (Cycle.port_writes (Cycle.taken_out st (Moves.movers (Moves.all_acts (flat p) st bits)) (0 + j))) ≡ of_mem (0 + j) ws
     each j low =
-        ap (commit_shown (0 + j)) (sym (at_mem (λ m. Cycle.port_write (Cycle.taken_out st (Moves.movers (Moves.all_acts (flat p) st bits)) m)) 0 (mems_of p.mems) j None low))
-        ∙ subst (λ k. commit_shown k (slice_index_or (for_mems (λ m. Cycle.port_write (Cycle.taken_out st (Moves.movers (Moves.all_acts (flat p) st bits)) m)) 0 (mems_of p.mems)) j None) ≡ of_mem k ws) (let e : j ≡ 0 + j = omega arith in e) (h.commits j)
+        ap (commits_shown (0 + j)) (sym (at_mem (λ m. Cycle.port_writes (Cycle.taken_out st (Moves.movers (Moves.all_acts (flat p) st bits)) m)) 0 (mems_of p.mems) j [] low))
+        ∙ subst (λ k. commits_shown k (slice_index_or (for_mems (λ m. Cycle.port_writes (Cycle.taken_out st (Moves.movers (Moves.all_acts (flat p) st bits)) m)) 0 (mems_of p.mems)) j []) ≡ of_mem k ws) (let e : j ≡ 0 + j = omega arith in e) (h.commits j)
 
 cycles_same : (p : Tree.Pipe) (st : Machine.State) (schedule : List (List Bool)) (tss : List (List Commit)) → AreThreads (Cycle.turns_from (flat p) st schedule) tss
     → turn_cycles (Cycle.turns_from (flat p) st schedule) ≡ thread_cycles (columns p.mems) tss

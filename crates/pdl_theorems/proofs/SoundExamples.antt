@@ -3,7 +3,7 @@ use Rattle.std.proofs.Common.{◌≡◌, refl, Bool, true, false, List, [], ◌�
 use Rattle.pdl_semantics.specs.Tree.{R, W, Queue, Bypass}
 use Rattle.pdl_semantics.specs.Tree
 use Rattle.pdl_semantics.specs.Flatten.{flat}
-use Rattle.pdl_semantics.proofs.Pipes.{one_stage, shared_guard, count_up, guess, far_barrier, copy, copy_guessed, count_slow, two_branches, one_branch, forked}
+use Rattle.pdl_semantics.proofs.Pipes.{two_writes, two_writes_apart, one_stage, shared_guard, count_up, guess, far_barrier, copy, copy_guessed, count_slow, two_branches, one_branch, forked}
 use Rattle.pdl_semantics.proofs.Texts.{number, constant, variable, slice, plus, separator, bind, delayed_read, write, reserve, block, release, call, spec_call, verify, spec_check, spec_barrier, if_else, lock, comb, slow, pipe}
 use Rattle.pdl_semantics.specs.Flat.{Arrays, Pipe}
 use Rattle.pdl_derived.specs.Alone.{Refines, Advances, KeepsPace}
@@ -49,6 +49,20 @@ fork_text_sounds = refl
 
 one_branch_sounds : passes_tests (flat one_branch) ≡ true
 one_branch_sounds = refl
+
+-- two writes of one memory in one thread, in one stage or apart, whose releases stand in the other order
+two_words_sound : passes_tests (flat (two_writes (plus (variable "n") (constant 2 1)))) ≡ true
+two_words_sound = refl
+
+one_word_sounds : passes_tests (flat (two_writes (variable "n"))) ≡ true
+one_word_sounds = refl
+
+writes_apart_sound : passes_tests (flat (two_writes_apart Bypass 4)) ≡ true
+writes_apart_sound = refl
+
+-- one entry is too little room for both
+short_room_fails : passes_tests (flat (two_writes_apart Queue 1)) ≡ false
+short_room_fails = refl
 
 -- all at once: a guess, a fork with a delayed read in its first branch, and behind the merge a verify, a reserve and a release
 abbrev everything : Tree.Pipe

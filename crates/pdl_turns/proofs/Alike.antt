@@ -5,7 +5,7 @@ use Rattle.std.proofs.lemmas.Bool.{eqb-true, eqb-false, leb-true, or_right as or
 use Rattle.pdl_semantics.specs.Flat.{Arrays, Op, Bind, CombRead, DelayedRead, Write, ReserveWrite, Block, Release, Verify, Stmt, Guard, Pipe, value_of, values_of, all_hold, word_at}
 use Rattle.pdl_semantics.specs.Stages.{in_stage, mem_at, commit_stage, reserve_stage}
 use Rattle.pdl_semantics.specs.Machine.{same_args}
-use Rattle.pdl_derived.specs.Derived.{Work, Around, Entry, work_after, do_all, has_entry, with_entry_value, without}
+use Rattle.pdl_derived.specs.Derived.{Work, Around, Entry, work_after, do_all, has_entry, with_entry_value, without, moved_up}
 use Rattle.pdl_derived.specs.Alone.{Location}
 use Rattle.pdl_derived.proofs.Writes.{and_left, and_right}
 use Rattle.pdl_derived.proofs.Stages.{ReadsRight}
@@ -91,12 +91,22 @@ has_filled (e ∷ es) n b v m a = at ((e.mem == n) && (e.var == b)) (has_filled 
     at true h = refl
     at false h = ap (λ t. ((e.mem == m) && (e.var == a)) || t) h
 
+-- a location that is let go leaves the others
+has_moved : (e : Entry) (es : List Entry) (m a : ℕ) → has_entry (moved_up e es) m a ≡ has_entry es m a
+has_moved e [] m a = refl
+has_moved e (f ∷ es) m a = at (f.mem == e.mem) (has_moved f es m a) (has_moved e es m a)
+  where
+    at : (t : Bool) → has_entry (moved_up f es) m a ≡ has_entry es m a → has_entry (moved_up e es) m a ≡ has_entry es m a
+        → has_entry (cond t (record f { address = e.address; value = e.value } ∷ moved_up f es) (f ∷ moved_up e es)) m a ≡ (((f.mem == m) && (f.var == a)) || has_entry es m a)
+    at true h g = ap (λ t. ((f.mem == m) && (f.var == a)) || t) h
+    at false h g = ap (λ t. ((f.mem == m) && (f.var == a)) || t) g
+
 has_without : (es : List Entry) (n b m a : ℕ) → has_entry (without es n b) m a ≡ true → has_entry es m a ≡ true
 has_without [] n b m a h = h
 has_without (e ∷ es) n b m a h = at ((e.mem == n) && (e.var == b)) h (has_without es n b m a)
   where
-    at : (t : Bool) → has_entry (cond t es (e ∷ without es n b)) m a ≡ true → (has_entry (without es n b) m a ≡ true → has_entry es m a ≡ true) → (((e.mem == m) && (e.var == a)) || has_entry es m a) ≡ true
-    at true k f = or_more _ _ k
+    at : (t : Bool) → has_entry (cond t (moved_up e es) (e ∷ without es n b)) m a ≡ true → (has_entry (without es n b) m a ≡ true → has_entry es m a ≡ true) → (((e.mem == m) && (e.var == a)) || has_entry es m a) ≡ true
+    at true k f = or_more _ _ (sym (has_moved e es m a) ∙ k)
     at false k f = or_map ((e.mem == m) && (e.var == a)) _ _ f k
 
 covers_block : (b : Bool) (c : Scan) (l : Location) (es : List Entry) → Covers c.held es → Covers (cond b c (record { held = c.held; blocked = l ∷ c.blocked })).held es

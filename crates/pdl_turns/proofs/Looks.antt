@@ -84,7 +84,7 @@ does_set arrays x v (DelayedRead y m a) w h =
     ap (λ l. record w { env = l }) (ap (λ k. slice_set (slice_set w.env x v) y (word_at arrays m k)) (other w.env x v a n.1) ∙ set_comm w.env x y v (word_at arrays m (slice_index w.env a)) (apart x y n.0))
 does_set arrays x v (Write m a e) w h = let n = not_or (a == x) (uses_in x e) h in ap (λ k. record (with_set w x v) { entries = with_entry_value w.entries m a k }) (value_unused x v e w.env n.1)
 does_set arrays x v (ReserveWrite m a) w h =
-    ap (λ k. record (with_set w x v) { entries = record { mem = m; var = a; address = k; value = None } ∷ w.entries; ready = w.ready && true }) (other w.env x v a h)
+    ap (λ k. record (with_set w x v) { entries = record { mem = m; var = a; address = k; value = None } ∷ w.entries; reserves = w.reserves ++ record { mem = m; var = a; address = k } ∷ [] }) (other w.env x v a h)
 does_set arrays x v (Block m a) w h = refl
 does_set arrays x v (Call args) w h = ap (λ k. record (with_set w x v) { child = Some k }) (values_unused x v args w.env h)
 does_set arrays x v (SpecCall args) w h = ap (λ k. record (with_set w x v) { child = Some k; guess = k }) (values_unused x v args w.env h)

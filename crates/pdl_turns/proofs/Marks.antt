@@ -1,5 +1,5 @@
 -- Undone writes, each with whether its value is known already.
-use Rattle.std.proofs.Common.{◌≡◌, refl, sym, ap, ap₂, ◌∙◌, subst, ℕ, ◌-◌, ◌≤◌, ◌<◌, nat_lt, length, arith, lt-ltb, ltb-true, Bool, true, false, ◌&&◌, not, List, [], ◌∷◌, ◌++◌, ◌⊎◌, inl, inr, ◌==◌, cond, if◌then◌else◌, append-nil, append_assoc}
+use Rattle.std.proofs.Common.{◌≡◌, refl, sym, ap, ap₂, ◌∙◌, subst, ℕ, suc, ◌-◌, ◌≤◌, ◌<◌, nat_lt, length, arith, lt-ltb, ltb-true, Bool, true, false, ◌&&◌, not, List, [], ◌∷◌, ◌++◌, ◌⊎◌, inl, inr, ◌==◌, cond, if◌then◌else◌, append-nil, append_assoc}
 use Rattle.std.proofs.lemmas.Bool.{eqb-true, eqb-false}
 use Rattle.pdl_semantics.specs.Flat.{Array, with_value, Commit, of_mem, Lock, Plain, Queue, Bypass, Rename}
 use Rattle.pdl_semantics.specs.Locks.{Latest, Nothing, Coming, Known, as_latest, is_nothing, is_coming, value_or, read_ready}
@@ -30,9 +30,14 @@ abbrev pub marked : ℕ → List Commit → List Mark
 marked k [] = []
 marked k (c ∷ cs) = record { address = c.address; value = c.value; known = nat_lt 0 k } ∷ marked (k - 1) cs
 
+pub marked_more : (n : ℕ) (d : Commit) (cs : List Commit) → marked (suc n) (d ∷ cs) ≡ record { address = d.address; value = d.value; known = true } ∷ marked n cs
+marked_more n d cs = ap₂ (λ b k. record { address = d.address; value = d.value; known = b } ∷ marked k cs) (lt-ltb 0 (suc n) (omega arith)) (let e : suc n - 1 ≡ n = omega arith in e)
+
 pub marked_last : (cs : List Commit) (c : Commit) → marked (length (cs ++ c ∷ [])) (cs ++ c ∷ []) ≡ marked (length cs) cs ++ record { address = c.address; value = c.value; known = true } ∷ []
 marked_last [] c = refl
-marked_last (d ∷ cs) c = ap (λ l. record { address = d.address; value = d.value; known = true } ∷ l) (marked_last cs c)
+marked_last (d ∷ cs) c =
+    marked_more (length (cs ++ c ∷ [])) d (cs ++ c ∷ []) ∙ ap (λ l. record { address = d.address; value = d.value; known = true } ∷ l) (marked_last cs c)
+    ∙ sym (ap (λ l. l ++ record { address = c.address; value = c.value; known = true } ∷ []) (marked_more (length cs) d cs))
 
 -- the same marks, with more values known
 abbrev pub Raised : List Mark → List Mark → Type 0

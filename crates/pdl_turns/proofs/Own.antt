@@ -135,7 +135,7 @@ quiet_release m read (Release j a) d h k = releases_more m d.releases _ ∙ ap�
     none : (b : Bool) → releases_of m (if b then j ∷ [] else []) ≡ 0
     none true = by (j == m) h
       where
-        by : (c : Bool) → not c ≡ true → cond c 1 0 ≡ 0
+        by : (c : Bool) → not c ≡ true → cond {A = ℕ} c 1 0 ≡ 0
         by true i = absurd (cc i)
         by false i = refl
     none false = refl

@@ -14,7 +14,7 @@ use Rattle.pdl_turns.proofs.Turn.{addresses_at, places_append}
 use Rattle.pdl_turns.proofs.Phases.{Tied, opened}
 use Rattle.pdl_facts.specs.Scans.{Fresh, phase_all, is_plain}
 use Rattle.pdl_facts.specs.Accepted.{Accepted}
-use Rattle.pdl_turns.proofs.Marks.{Mark, seen, strips, marked, Later, raised_marked, strips_marked, latest_own, no_strips, marked_last, seen_append}
+use Rattle.pdl_turns.proofs.Marks.{Mark, seen, strips, marked, Later, raised_marked, strips_marked, latest_own, no_strips, marked_more, marked_last, seen_append}
 use Rattle.pdl_turns.proofs.Whole.{run_rest, related_at, commits_early, commits_late, all_places, run_at, start_run, run_append, quiet_at, undone_step, plain_writes, undone_in_end}
 use Rattle.pdl_semantics.specs.Sound.{stages_from}
 
@@ -71,7 +71,9 @@ latest_known m a (f ∷ fs) rest =
 -- some writes with values, and others behind them
 seen_split : (a : ℕ) (xs ys : List Commit) (rest : Latest) → seen a (marked (length xs) (xs ++ ys)) rest ≡ seen a (marked 0 ys) (seen a (marked (length xs) xs) rest)
 seen_split a [] ys rest = refl
-seen_split a (x ∷ xs) ys rest = seen_split a xs ys (if x.address == a then Known x.value else rest)
+seen_split a (x ∷ xs) ys rest =
+    ap (λ l. seen a l rest) (marked_more (length xs) x (xs ++ ys)) ∙ seen_split a xs ys (if x.address == a then Known x.value else rest)
+    ∙ sym (ap (λ l. seen a (marked 0 ys) (seen a l rest)) (marked_more (length xs) x xs))
 
 -- writes are added behind
 run_more : (m : ℕ) (op : Op) (r : Run) → (more : List Commit) × (of_mem m (run_after op r).writes ≡ of_mem m r.writes ++ more)
@@ -90,7 +92,7 @@ runs_more m (x ∷ xs) r = at (all_hold x.guards r.env) (runs_more m xs (run_aft
     at false rest on = on
 
 -- what is left behind a common beginning
-same_rest : (xs ys zs : List ℕ) → xs ++ ys ≡ xs ++ zs → ys ≡ zs
+pub same_rest : (xs ys zs : List ℕ) → xs ++ ys ≡ xs ++ zs → ys ≡ zs
 same_rest [] ys zs h = h
 same_rest (x ∷ xs) ys zs h = same_rest xs ys zs (ap tail h)
   where
@@ -119,24 +121,24 @@ later_split m c s b b' ws xs own e f g = at (nat_lt c s) refl (nat_lt c (suc s))
 
 module _ (p : Pipe) (acc : Accepted p) (arrays : Arrays) (args : List ℕ) where
   -- what stage s has written is written first
-  writes_first : (s m : ℕ) → (more : List Commit) × (of_mem m (thread p arrays args).writes ≡ of_mem m (run_at p arrays args s).writes ++ more)
+  pub writes_first : (s m : ℕ) → (more : List Commit) × (of_mem m (thread p arrays args).writes ≡ of_mem m (run_at p arrays args s).writes ++ more)
   writes_first s m =
       let r = runs_more m (stages_from s p.stmts) (run_at p arrays args s) in
       (r.0, ap (λ (q : Run). of_mem m q.writes) (run_rest p acc arrays args s) ∙ r.1)
 
   -- what stage s finds of m
-  tied_at : (s m : ℕ) → Tied m (phase_all m Fresh (before s p.stmts)) (so_far p arrays args s).env (entries_of m (so_far p arrays args s).entries) (of_mem m (so_far p arrays args s).commits) (of_mem m (run_at p arrays args s).writes)
+  pub tied_at : (s m : ℕ) → Tied m (phase_all m Fresh (before s p.stmts)) (so_far p arrays args s).env (entries_of m (so_far p arrays args s).entries) (of_mem m (so_far p arrays args s).commits) (of_mem m (run_at p arrays args s).writes)
   tied_at s m = (related_at p acc arrays args s).tied m
 
   -- before the releases, all that has a value is written and the other way round
-  early_written : (s m : ℕ) → s ≤ commit_stage p m → of_mem m (run_at p arrays args s).writes ≡ told m (tied_at s m).fulls
+  pub early_written : (s m : ℕ) → s ≤ commit_stage p m → of_mem m (run_at p arrays args s).writes ≡ told m (tied_at s m).fulls
   early_written s m h = (tied_at s m).written ∙ ap (λ l. l ++ told m (tied_at s m).fulls) (commits_early p acc arrays args s m h)
 
   early_count : (s m : ℕ) → s ≤ commit_stage p m → known_count (entries_of m (so_far p arrays args s).entries) ≡ length (of_mem m (run_at p arrays args s).writes)
-  early_count s m h = ap known_count (tied_at s m).entries ∙ count_known m _ (tied_at s m).fulls ∙ ap length (sym (early_written s m h))
+  early_count s m h = ap known_count (tied_at s m).entries ∙ count_known m (opened (so_far p arrays args s).env (phase_all m Fresh (before s p.stmts)).unwritten) (tied_at s m).fulls ∙ ap length (sym (early_written s m h))
 
   -- past the releases nothing is left
-  late_empty : (s m : ℕ) → commit_stage p m < s → reserve_stage p m < s → entries_of m (so_far p arrays args s).entries ≡ []
+  pub late_empty : (s m : ℕ) → commit_stage p m < s → reserve_stage p m < s → entries_of m (so_far p arrays args s).entries ≡ []
   late_empty s m h r = (tied_at s m).entries ∙ ap₂ (λ os fs. waiting m (opened (so_far p arrays args s).env os) ++ known m fs) none.0 none.1
     where
       cs : List Commit

@@ -1,5 +1,5 @@
 -- A thread's stage reserves no more of a memory for writing than its lock has room for.
-use Rattle.std.proofs.Common.{◌≡◌, refl, sym, ap, ap₂, ◌∙◌, subst, ℕ, suc, ◌+◌, ◌≤◌, Bool, true, false, ◌&&◌, List, [], ◌∷◌, ◌++◌, ◌==◌, cond, arith, leb-true, le-leb, append-nil}
+use Rattle.std.proofs.Common.{◌≡◌, refl, sym, ap, ap₂, ◌∙◌, subst, ℕ, suc, ◌+◌, ◌≤◌, Bool, true, false, ◌&&◌, List, [], ◌∷◌, ◌++◌, ◌==◌, cond, Some, arith, leb-true, le-leb, append-nil}
 use Rattle.std.proofs.lemmas.Bool.{and_from}
 use Rattle.pdl_semantics.specs.Flat.{list_all, Op, DelayedRead, ReserveWrite, Verify, Stmt, Pipe, Lock, Plain, Queue, Bypass, Rename, all_hold, values_of}
 use Rattle.pdl_semantics.specs.Stages.{onpath, in_stage, mem_at}
@@ -25,7 +25,11 @@ room_fewer (Bypass n) i j low h = le-leb (j + 0) n (let e : i + 0 ≤ n = leb-tr
 room_fewer (Rename n) i j low h = le-leb (j + 0) n (let e : i + 0 ≤ n = leb-true (i + 0) n h in omega arith)
 
 one_more : (m : ℕ) (rs : List Reserved) (r : Reserved) → reserves_of m (rs ++ r ∷ []) ≡ reserves_of m rs + cond (r.mem == m) 1 0
-one_more m [] r = refl
+one_more m [] r = none (r.mem == m)
+  where
+    none : (b : Bool) → cond {A = ℕ} b 1 0 ≡ 0 + cond b 1 0
+    none true = refl
+    none false = refl
 one_more m (x ∷ rs) r = at (x.mem == m) (one_more m rs r)
   where
     at : (b : Bool) → reserves_of m (rs ++ r ∷ []) ≡ reserves_of m rs + cond (r.mem == m) 1 0 → cond b (suc (reserves_of m (rs ++ r ∷ []))) (reserves_of m (rs ++ r ∷ [])) ≡ cond b (suc (reserves_of m rs)) (reserves_of m rs) + cond (r.mem == m) 1 0
@@ -39,15 +43,15 @@ counted_op : (m : ℕ) (o : Around) (op : Op) (w : Work) → reserves_of m (work
 counted_op m o (ReserveWrite n a) w = one_more m w.reserves _
 counted_op m o (Verify args) w = at (same_args (values_of args w.env) w.guess)
   where
-    at : (b : Bool) → reserves_of m (cond b w (record w { child = _; fails = true })).reserves ≡ reserves_of m w.reserves + 0
-    at true = plus_none _
-    at false = plus_none _
-counted_op m o _ w = plus_none _
+    at : (b : Bool) → reserves_of m (cond b w (record w { child = Some (values_of args w.env); fails = true })).reserves ≡ reserves_of m w.reserves + 0
+    at true = plus_none (reserves_of m w.reserves)
+    at false = plus_none (reserves_of m w.reserves)
+counted_op m o _ w = plus_none (reserves_of m w.reserves)
 
 -- what a stage reserves is what its statements on the path say
 counted : (path : List ℕ) (m : ℕ) (o : Around) (xs : List Stmt) (w : Work) → Fixed path o xs w
     → reserves_of m (do_all o xs w).reserves ≡ reserves_of m w.reserves + write_reserves m (onpath path xs)
-counted path m o [] w f = plus_none _
+counted path m o [] w f = plus_none (reserves_of m w.reserves)
 counted path m o (x ∷ xs) w f = counted path m o xs (step o x w) f.1 ∙ at (all_hold x.guards w.env) (all_hold x.guards path) f.0
   where
     at : (b c : Bool) → b ≡ c → reserves_of m (cond b (work_after o x.op w) w).reserves + write_reserves m (onpath path xs)

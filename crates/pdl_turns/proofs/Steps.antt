@@ -12,7 +12,7 @@ use Rattle.pdl_derived.specs.Derived.{Entry, Work, Around, has_entry, without, r
 use Rattle.pdl_derived.specs.Derived
 use Rattle.pdl_derived.specs.Alone.{is_among, is_oldest, drop_var, but_last}
 use Rattle.pdl_derived.proofs.Writes.{of_mem_append, and_left, and_right}
-use Rattle.pdl_derived.proofs.Entries.{entries_of, entry, write_of, Open, Full, waiting, known, open_vars, full_vars, told, last_address, filled_last, filled_other, entries_of-filled, without_own, without_other, released_own, released_other, released_full, released_behind, without_none, no_known, let_out, let_out_vars, commit_of}
+use Rattle.pdl_derived.proofs.Entries.{entries_of, entry, write_of, Open, Full, waiting, known, open_vars, full_vars, told, last_address, filled_last, filled_other, entries_of-filled, without_own, without_other, released_own, released_other, Released, released_full, released_behind, without_none, no_known, let_out, let_out_vars, commit_of}
 use Rattle.pdl_derived.proofs.Lists.{own, pend}
 use Rattle.pdl_facts.specs.Scans.{Phase, after_write, after_reserve, after_release, may_write, is_new}
 use Rattle.pdl_facts.proofs.Apart.{Apart, apart_reserve, apart_write, apart_release}
@@ -140,7 +140,7 @@ new_more m n (x ∷ rs) r =
     ∙ sym (append_assoc (if x.mem == m then record { thread = n; var = x.var; address = x.address; value = None } ∷ [] else []) _ _)
 
 pub releases_more : (m : ℕ) (rs ns : List ℕ) → releases_of m (rs ++ ns) ≡ releases_of m rs + releases_of m ns
-releases_more m [] ns = refl
+releases_more m [] ns = omega arith
 releases_more m (r ∷ rs) ns = at (r == m) (releases_more m rs ns)
   where
     at : (b : Bool) → releases_of m (rs ++ ns) ≡ releases_of m rs + releases_of m ns → cond b (suc (releases_of m (rs ++ ns))) (releases_of m (rs ++ ns)) ≡ cond b (suc (releases_of m rs)) (releases_of m rs) + releases_of m ns
@@ -372,7 +372,7 @@ step_release m n k a ph es cs new ws rs held i true e h g = at (is_among a ph.fu
         step_none m n k a ph es cs new ws rs held (ap (entries_of m) w.0) (ap (of_mem m) w.1) (ap (λ c. c && (k == m)) (i ∙ z)) g
     at true f = taken g.rest (g.same ∙ ap (pendings n) r.front) g.two g.used
       where
-        r : _
+        r : Released m a g.fulls
         r = released_full m a g.fulls (ap (is_among a) g.at_full ∙ f)
 
         qh : Phase
