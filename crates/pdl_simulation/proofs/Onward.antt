@@ -89,7 +89,7 @@ module _ (p : Pipe) (flows : Flows p) (st : State) (d : Derived.State) (bits : L
   stuck_here ls l f = at (did p d bits ls l).moves refl
     where
       at : (b : Bool) → (did p d bits ls l).moves ≡ b → (did p d bits ls l).moves ≡ false
-      at true e = absurd (cc (sym f ∙ none_fails p (dacts p d bits ls) (and_left _ _ (and_left _ _ (and_left _ _ e)))))
+      at true e = absurd (cc (sym f ∙ none_fails p (dacts p d bits ls) (and_left _ _ (and_left _ _ (and_left _ _ (and_left _ _ e))))))
       at false e = e
 
   -- THE NEW THREAD

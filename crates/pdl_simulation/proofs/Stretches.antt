@@ -157,18 +157,18 @@ reserved_op all read _ d f h = h
 pub reserves_from : (all : List Stmt) (read : ℕ → ℕ → ℕ) (xs : List Stmt) (d : Deeds) → ((m : ℕ) → none_of (is_reserve m) xs ≡ false → none_of (is_reserve m) all ≡ false) → ReservesFrom all d.reserves → ReservesFrom all (deeds_after_all read xs d).reserves
 reserves_from all read [] d f h = h
 reserves_from all read (x ∷ xs) d f h =
-    reserves_from all read xs (if all_hold x.guards d.env then Machine.deeds_after read x.op d else d) (λ m k. f m (behind (not (is_reserve m x.op)) k)) (at (all_hold x.guards d.env))
+    reserves_from all read xs (if all_hold x.guards d.env then Machine.deeds_after read x.op d else d) (λ m k. f m (behind (not (is_reserve m x.op)) _ k)) (at (all_hold x.guards d.env))
   where
-    behind : (b : Bool) {c : Bool} → c ≡ false → (b && c) ≡ false
-    behind true k = k
-    behind false k = refl
+    behind : (b c : Bool) → c ≡ false → (b && c) ≡ false
+    behind true c k = k
+    behind false c k = refl
 
-    front : (b : Bool) {c : Bool} → b ≡ false → (b && c) ≡ false
-    front true k = absurd (cc k)
-    front false k = refl
+    front : (b c : Bool) → b ≡ false → (b && c) ≡ false
+    front true c k = absurd (cc k)
+    front false c k = refl
 
     at : (b : Bool) → ReservesFrom all (cond b (Machine.deeds_after read x.op d) d).reserves
-    at true = reserved_op all read x.op d (λ m k. f m (front (not (is_reserve m x.op)) k)) h
+    at true = reserved_op all read x.op d (λ m k. f m (front (not (is_reserve m x.op)) _ k)) h
     at false = h
 
 -- a memory that is asked for is one that a statement of the stage reads

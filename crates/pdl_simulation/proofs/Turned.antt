@@ -1,5 +1,5 @@
 -- After a cycle each lock's list is the entries of the threads that live on, and what it releases is what the derived machine commits.
-use Rattle.std.proofs.Common.{suc, zero, ◌+◌, take, ◌≡◌, ◌≢◌, refl, sym, ap, ap₂, ◌∙◌, subst, ℕ, ◌≤◌, ◌<◌, ◌⊎◌, inl, inr, Bool, true, false, ◌&&◌, ◌||◌, not, List, [], ◌∷◌, ◌++◌, length, Option, Some, None, ◌==◌, nat_le, cond, if◌then◌else◌, arith, append-nil, leb-true, leb-false}
+use Rattle.std.proofs.Common.{suc, zero, ◌+◌, take, drop, ◌≡◌, ◌≢◌, refl, sym, ap, ap₂, ◌∙◌, subst, ℕ, ◌≤◌, ◌<◌, ◌⊎◌, inl, inr, Bool, true, false, ◌&&◌, ◌||◌, not, List, [], ◌∷◌, ◌++◌, length, Option, Some, None, ◌==◌, nat_le, cond, if◌then◌else◌, arith, append-nil, leb-true, leb-false}
 use Rattle.std.proofs.lemmas.Bool.{eqb-true, eqb-false}
 use Rattle.pdl_semantics.specs.Flat.{Pipe, Commit, of_mem}
 use Rattle.pdl_semantics.specs.Stages.{list_any, in_stage, stage_at, goes_to, is_reserve, is_release, reserve_stage, commit_stage}
