@@ -4,10 +4,10 @@ use Rattle.std.proofs.lemmas.List.{get_or-set_other, get_or-set_same, length-set
 use Rattle.std.proofs.lemmas.Bool.{eqb-true, not-true, or_parts, or_right, or_left}
 use Rattle.pdl_word.specs.Words
 use Rattle.pdl_semantics.specs.Flat.{Op, Bind, CombRead, DelayedRead, Write, ReserveRead, ReserveWrite, Block, Release, Call, SpecCall, Verify, SpecCheck, SpecBarrier, Expr, Constant, Variable, Slice, Not, Binary, Cat, LessSigned, ZeroExtend, SignExtend, Choose, Stmt, value_of, values_of, operator_value, all_hold}
-use Rattle.pdl_semantics.specs.Stages.{onpath}
+use Rattle.pdl_semantics.specs.Stages.{onpath, is_release}
 use Rattle.pdl_semantics.specs.Machine.{Ask, same_args}
 use Rattle.pdl_semantics.specs.Sound.{is_release_at, is_call}
-use Rattle.pdl_derived.specs.Derived.{Entry, Work, Around, work_after, do_all, without, with_entry_value, has_entry}
+use Rattle.pdl_derived.specs.Derived.{Entry, Work, Around, work_after, do_all, moved_up, without, with_entry_value, has_entry}
 use Rattle.pdl_facts.specs.Facts.{uses_in, uses_any, mentions_var, asks_for, silent_on, unseen_op, is_unseen}
 use Rattle.pdl_facts.specs.Scans.{is_dead}
 use Rattle.pdl_derived.proofs.Writes.{and_left, and_right}
@@ -16,7 +16,8 @@ use Rattle.pdl_derived.proofs.Stages.{was_ready}
 use Rattle.pdl_turns.proofs.Paths.{Fixed, dead_none}
 use Rattle.pdl_derived.proofs.Answering.{AllAsks, all_more, all_both, all_snoc}
 use Rattle.pdl_invariant.specs.Strict.{bound_by, uses_own, is_mentioned, is_new, all_new}
-use Rattle.pdl_turns.proofs.Alike.{has_filled}
+use Rattle.pdl_turns.proofs.Alike.{has_filled, has_moved}
+use Rattle.pdl_derived.proofs.Entries.{entries_of}
 use Rattle.pdl_word.proofs.Bools.{untrue}
 
 -- LISTS OF STATEMENTS
@@ -167,10 +168,32 @@ pub none_touched : (x : ℕ) (ops : List Op) → AllOps (λ op. touches x op ≡
 none_touched x [] h = refl
 none_touched x (op ∷ ops) h = ap₂ (λ a b. a || b) h.0 (none_touched x ops h.1)
 
--- each pending write stands at the address of its location
+-- something of a memory is released
+abbrev pub let_go : ℕ → List Op → Bool
+let_go m [] = false
+let_go m (op ∷ ops) = is_release m op || let_go m ops
+
+-- each pending write stands at the address of its location, until the stage in which its memory's are released: there what a location had goes on to others
 abbrev pub AllPlaced : List ℕ → List Op → List Entry → Type 0
 AllPlaced env past [] = Unit {0}
-AllPlaced env past (e ∷ es) = (e.address ≡ slice_index env e.var) × (touched e.var past ≡ true) × AllPlaced env past es
+AllPlaced env past (e ∷ es) = ((let_go e.mem past ≡ true) ⊎ (e.address ≡ slice_index env e.var)) × (touched e.var past ≡ true) × AllPlaced env past es
+
+abbrev pub AllStand : List ℕ → List Entry → Type 0
+AllStand env [] = Unit {0}
+AllStand env (e ∷ es) = (e.address ≡ slice_index env e.var) × AllStand env es
+
+-- where nothing is left of what is released, each stands
+pub standing : (env : List ℕ) (past : List Op) (es : List Entry) → AllPlaced env past es → ((m : ℕ) → let_go m past ≡ true → entries_of m es ≡ []) → AllStand env es
+standing env past [] h g = tt
+standing env past (e ∷ es) h g = (here h.0, standing env past es h.2 (λ m k. rest m (e.mem == m) (g m k)))
+  where
+    rest : (m : ℕ) (b : Bool) → cond b (e ∷ entries_of m es) (entries_of m es) ≡ [] → entries_of m es ≡ []
+    rest m true i = absurd (cc i)
+    rest m false i = i
+
+    here : (let_go e.mem past ≡ true) ⊎ (e.address ≡ slice_index env e.var) → e.address ≡ slice_index env e.var
+    here (inl k) = absurd (cc (sym (ap (λ b. cond b (e ∷ entries_of e.mem es) (entries_of e.mem es)) (eq-eqb e.mem e.mem refl)) ∙ g e.mem k))
+    here (inr k) = k
 
 abbrev pub is_released : ℕ → ℕ → List Op → Bool
 is_released m a [] = false
@@ -192,7 +215,11 @@ pub record Past (o : Around) (vars : ℕ) (past : List Op) (w : Work) : Type 0 w
 -- a variable with which no statement has to do gets a value
 pub placed_set : (x v : ℕ) (env : List ℕ) (past : List Op) (es : List Entry) → touched x past ≡ false → AllPlaced env past es → AllPlaced (slice_set env x v) past es
 placed_set x v env past [] h k = tt
-placed_set x v env past (e ∷ es) h k = (k.0 ∙ sym (get_or-set_other env x e.var v 0 (λ i. untrue (sym h ∙ ap (λ n. touched n past) (sym i) ∙ k.1))), k.1, placed_set x v env past es h k.2)
+placed_set x v env past (e ∷ es) h k = (at k.0, k.1, placed_set x v env past es h k.2)
+  where
+    at : (let_go e.mem past ≡ true) ⊎ (e.address ≡ slice_index env e.var) → (let_go e.mem past ≡ true) ⊎ (e.address ≡ slice_index (slice_set env x v) e.var)
+    at (inl i) = inl i
+    at (inr i) = inr (i ∙ sym (get_or-set_other env x e.var v 0 (λ i. untrue (sym h ∙ ap (λ n. touched n past) (sym i) ∙ k.1))))
 
 asked_set : (x v : ℕ) (env : List ℕ) (past : List Op) (q : Ask) → AllOps (λ op. touches x op ≡ false) past → AskedBy env past q → AskedBy (slice_set env x v) past q
 asked_set x v env past q h k = any_both (λ op t i. (i.0, i.1, sym (set_agrees x v op env t i.0 (ap (touches i.0) i.1 ∙ eq-eqb i.0 i.0 refl)) ∙ i.2)) past h k
@@ -241,7 +268,11 @@ block_more o env es es' past past' SpecBarrier f g h = tt
 -- one more statement was carried out
 placed_more : (env : List ℕ) (past : List Op) (op : Op) (es : List Entry) → AllPlaced env past es → AllPlaced env (op ∷ past) es
 placed_more env past op [] h = tt
-placed_more env past op (e ∷ es) h = (h.0, or_right (touches e.var op) _ h.1, placed_more env past op es h.2)
+placed_more env past op (e ∷ es) h = (at h.0, or_right (touches e.var op) _ h.1, placed_more env past op es h.2)
+  where
+    at : (let_go e.mem past ≡ true) ⊎ (e.address ≡ slice_index env e.var) → (let_go e.mem (op ∷ past) ≡ true) ⊎ (e.address ≡ slice_index env e.var)
+    at (inl i) = inl (or_right (is_release e.mem op) _ i)
+    at (inr i) = inr i
 
 placed_filled : (env : List ℕ) (past : List Op) (es : List Entry) (m a v : ℕ) → AllPlaced env past es → AllPlaced env past (with_entry_value es m a v)
 placed_filled env past [] m a v h = tt
@@ -251,21 +282,32 @@ placed_filled env past (e ∷ es) m a v h = at ((e.mem == m) && (e.var == a)) (p
     at true k = h
     at false k = (h.0, h.1, k)
 
-placed_without : (env : List ℕ) (past : List Op) (es : List Entry) (m a : ℕ) → AllPlaced env past es → AllPlaced env past (without es m a)
-placed_without env past [] m a h = tt
-placed_without env past (e ∷ es) m a h = at ((e.mem == m) && (e.var == a)) (placed_without env past es m a h.2)
+-- what moves up is of the memory of which something is released
+placed_moved : (env : List ℕ) (past : List Op) (e : Entry) (es : List Entry) → let_go e.mem past ≡ true → AllPlaced env past es → AllPlaced env past (moved_up e es)
+placed_moved env past e [] g h = tt
+placed_moved env past e (f ∷ es) g h = at (f.mem == e.mem) refl (λ i. placed_moved env past f es i h.2) (placed_moved env past e es g h.2)
   where
-    at : (b : Bool) → AllPlaced env past (without es m a) → AllPlaced env past (cond b es (e ∷ without es m a))
-    at true k = h.2
-    at false k = (h.0, h.1, k)
+    at : (b : Bool) → (f.mem == e.mem) ≡ b → (let_go f.mem past ≡ true → AllPlaced env past (moved_up f es)) → AllPlaced env past (moved_up e es)
+        → AllPlaced env past (cond b (record f { address = e.address; value = e.value } ∷ moved_up f es) (f ∷ moved_up e es))
+    at true i k n = let j : let_go f.mem past ≡ true = ap (λ m. let_go m past) (eqb-true f.mem e.mem i) ∙ g in (inl j, h.1, k j)
+    at false i k n = (h.0, h.1, n)
+
+placed_without : (env : List ℕ) (past : List Op) (es : List Entry) (m a : ℕ) → let_go m past ≡ true → AllPlaced env past es → AllPlaced env past (without es m a)
+placed_without env past [] m a g h = tt
+placed_without env past (e ∷ es) m a g h = at (e.mem == m) refl (e.var == a) (placed_without env past es m a g h.2)
+  where
+    at : (b : Bool) → (e.mem == m) ≡ b → (c : Bool) → AllPlaced env past (without es m a) → AllPlaced env past (cond (b && c) (moved_up e es) (e ∷ without es m a))
+    at true i true k = placed_moved env past e es (ap (λ n. let_go n past) (eqb-true e.mem m i) ∙ g) h.2
+    at true i false k = (h.0, h.1, k)
+    at false i c k = (h.0, h.1, k)
 
 -- another location's write is still pending
 has_without : (es : List Entry) (n b m a : ℕ) → ((n == m) && (b == a)) ≡ false → has_entry (without es n b) m a ≡ has_entry es m a
 has_without [] n b m a h = refl
 has_without (e ∷ es) n b m a h = at ((e.mem == n) && (e.var == b)) refl (has_without es n b m a h)
   where
-    at : (t : Bool) → ((e.mem == n) && (e.var == b)) ≡ t → has_entry (without es n b) m a ≡ has_entry es m a → has_entry (cond t es (e ∷ without es n b)) m a ≡ (((e.mem == m) && (e.var == a)) || has_entry es m a)
-    at true i k = ap (λ t. t || has_entry es m a) (sym ((λ j. (eqb-true e.mem n (and_left _ _ i) j == m) && (eqb-true e.var b (and_right (e.mem == n) _ i) j == a)) ∙ h))
+    at : (t : Bool) → ((e.mem == n) && (e.var == b)) ≡ t → has_entry (without es n b) m a ≡ has_entry es m a → has_entry (cond t (moved_up e es) (e ∷ without es n b)) m a ≡ (((e.mem == m) && (e.var == a)) || has_entry es m a)
+    at true i k = has_moved e es m a ∙ ap (λ t. t || has_entry es m a) (sym ((λ j. (eqb-true e.mem n (and_left _ _ i) j == m) && (eqb-true e.var b (and_right (e.mem == n) _ i) j == a)) ∙ h))
     at false i k = ap (λ t. ((e.mem == m) && (e.var == a)) || t) k
 
 -- A STATEMENT
@@ -370,7 +412,7 @@ module _ (o : Around) (vars : ℕ) (kind : Kind o) where
   past_step (ReserveWrite m a) past w new own silent calls ready h =
       same_past (ReserveWrite m a ∷ past) (record w { entries = record { mem = m; var = a; address = slice_index w.env a; value = None } ∷ w.entries }) (work_after o (ReserveWrite m a) w) refl refl refl refl
       (pend_step (ReserveWrite m a) past w (record { mem = m; var = a; address = slice_index w.env a; value = None } ∷ w.entries) silent tt
-      (refl, or_left _ _ (eq-eqb a a refl), placed_more w.env past (ReserveWrite m a) w.entries h.placed) tt (λ n b. inr (λ i. more n b ((m == n) && (a == b)) i)) h)
+      (inr refl, or_left _ _ (eq-eqb a a refl), placed_more w.env past (ReserveWrite m a) w.entries h.placed) tt (λ n b. inr (λ i. more n b ((m == n) && (a == b)) i)) h)
     where
       more : (n b : ℕ) (t : Bool) → cond (has_entry w.entries n b) (o.can_write n (slice_index w.env b)) (o.can_read n (slice_index w.env b)) ≡ true → cond (t || has_entry w.entries n b) (o.can_write n (slice_index w.env b)) (o.can_read n (slice_index w.env b)) ≡ true
       more n b false i = i
@@ -383,7 +425,7 @@ module _ (o : Around) (vars : ℕ) (kind : Kind o) where
       same_past (Block m a ∷ past) w (work_after o (Block m a) w) refl refl refl refl (still_step (Block m a) past w silent tt (inr (and_right w.ready _ ready)) h)
   past_step (Release m a) past w new own silent calls ready h =
       same_past (Release m a ∷ past) (record w { entries = without w.entries m a }) (work_after o (Release m a) w) refl refl refl refl
-      (pend_step (Release m a) past w (without w.entries m a) silent tt (placed_more w.env past (Release m a) (without w.entries m a) (placed_without w.env past w.entries m a h.placed)) tt (λ n b. at n b ((m == n) && (a == b)) refl) h)
+      (pend_step (Release m a) past w (without w.entries m a) silent tt (placed_without w.env (Release m a ∷ past) w.entries m a (or_left _ _ (eq-eqb m m refl)) (placed_more w.env past (Release m a) w.entries h.placed)) tt (λ n b. at n b ((m == n) && (a == b)) refl) h)
     where
       at : (n b : ℕ) (t : Bool) → ((m == n) && (a == b)) ≡ t
           → ((((m == n) && (a == b)) || is_released n b past) ≡ true) ⊎ (cond (has_entry w.entries n b) (o.can_write n (slice_index w.env b)) (o.can_read n (slice_index w.env b)) ≡ true → cond (has_entry (without w.entries m a) n b) (o.can_write n (slice_index w.env b)) (o.can_read n (slice_index w.env b)) ≡ true)

@@ -92,7 +92,7 @@ has_filled (e ∷ es) n b v m a = at ((e.mem == n) && (e.var == b)) (has_filled 
     at false h = ap (λ t. ((e.mem == m) && (e.var == a)) || t) h
 
 -- a location that is let go leaves the others
-has_moved : (e : Entry) (es : List Entry) (m a : ℕ) → has_entry (moved_up e es) m a ≡ has_entry es m a
+pub has_moved : (e : Entry) (es : List Entry) (m a : ℕ) → has_entry (moved_up e es) m a ≡ has_entry es m a
 has_moved e [] m a = refl
 has_moved e (f ∷ es) m a = at (f.mem == e.mem) (has_moved f es m a) (has_moved e es m a)
   where
