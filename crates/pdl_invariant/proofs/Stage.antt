@@ -80,7 +80,6 @@ look_at p ts =
       read = λ m a. 0;
       can_read = λ m a. read_ready (mem_at p m).lock (latest ts m a);
       can_write = λ m a. write_ready (mem_at p m).lock (latest ts m a);
-      room = λ m. true;
       free = λ m. true;
       clear = true;
     }

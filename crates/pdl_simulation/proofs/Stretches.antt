@@ -427,7 +427,7 @@ module _ (p : Pipe) (flows : Flows p) (env : List ℕ) (t : Derived.Thread) (k :
   over_end path s m e = subst (λ q. is_over q ≡ true) (ap (phase_all m Fresh) (sym (ap (on_way p path) e ∙ flows.whole path))) (flows.over path m)
 
   -- it goes on to a greater stage
-  stage_up : (path : List ℕ) → t.stage < next_of p t.stage path
+  pub stage_up : (path : List ℕ) → t.stage < next_of p t.stage path
   stage_up path = at (goes_to (stage_at p t.stage).next path) refl
     where
       at : (r : Option ℕ) → goes_to (stage_at p t.stage).next path ≡ r → t.stage < stage_or (length p.stages) r
