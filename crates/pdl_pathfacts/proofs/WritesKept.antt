@@ -162,11 +162,11 @@ drop_distinct a (x ∷ xs) h = at (x == a) (λ d. drop_distinct a xs d)
 -- the first reserved location stays, and is the new one where there was none
 first_stays : (m : List ℕ) (before : List Place) (x : Place) → is_reserve_of W m x ≡ false → first_reserved m (before ++ x ∷ []) ≡ first_reserved m before
 first_stays m [] x h = rw h refl
-first_stays m (y ∷ before) x h = ap (λ o. if is_reserve_of W m y then first_reserved m (y ∷ []) else o) (first_stays m before x h) ∙ at (is_reserve_of W m y) refl
+first_stays m (y ∷ before) x h = at (is_reserve_of W m y) refl (first_stays m before x h)
   where
-    at : (b : Bool) → is_reserve_of W m y ≡ b → cond b (first_reserved m (y ∷ [])) (first_reserved m before) ≡ first_reserved m (y ∷ before)
-    at true e = rw e refl
-    at false e = rw e refl
+    at : (b : Bool) → is_reserve_of W m y ≡ b → first_reserved m (before ++ x ∷ []) ≡ first_reserved m before → first_reserved m (y ∷ before ++ x ∷ []) ≡ first_reserved m (y ∷ before)
+    at true e on = rw e refl
+    at false e on = rw e on
 
 -- one more place
 abbrev place_front : (vs us : List Var) (before : List Place) (m : List ℕ) (n : ℕ) (x : Place) → Open vs before m n → Open (vs ++ us) (before ++ x ∷ []) m n
@@ -322,7 +322,7 @@ module _ (p : Pipe) (vs : List Var) (before : List Place) (m : List ℕ) (there 
 
       first : (xs : List ℕ) → ph.unwritten ≡ xs → ph.full ≡ [] → ph.gone ≡ [] → (y : ℕ) → is_last y (a ∷ xs) ≡ true → IsFirst vs (before ++ x ∷ []) m y
       first [] i f g y t =
-          let none : count_by (is_reserve_of W m) before ≡ 0 = s.count ∙ ap total_of i ∙ ap₂ (λ k l. length k + length l) f g in
+          let none : count_by (is_reserve_of W m) before ≡ 0 = s.count ∙ ap total_of i ∙ ap₂ (λ k l. length {A = ℕ} [] + (length k + length l)) f g in
           record {
             at = at;
             first = first_new before none;
@@ -346,15 +346,21 @@ module _ (p : Pipe) (vs : List Var) (before : List Place) (m : List ℕ) (there 
               none_here false w = refl
       first (z ∷ zs) i f g y t =
           let o = s.first f g y (subst (λ l. is_last y l ≡ true) (sym i) t) in
-          record { at = o.at; first = first_kept before o.first; mem = o.mem; named = o.named; number = o.number }
+          record { at = o.at; first = first_kept before o.at o.first; mem = o.mem; named = o.named; number = o.number }
         where
-          first_kept : (xs : List Place) {l : Location} → first_reserved m xs ≡ Some l → first_reserved m (xs ++ x ∷ []) ≡ Some l
-          first_kept [] k = absurd (cc k)
-          first_kept (w ∷ ws) k = by (is_reserve_of W m w) refl k (first_kept ws)
+          first_kept : (xs : List Place) (l : Location) → first_reserved m xs ≡ Some l → first_reserved m (xs ++ x ∷ []) ≡ Some l
+          first_kept [] l k = absurd (cc k)
+          first_kept (w ∷ ws) l k = by (is_reserve_of W m w) refl k (first_kept ws l)
             where
-              by : (b : Bool) → is_reserve_of W m w ≡ b → {l : Location} → cond b (first_reserved m (w ∷ [])) (first_reserved m ws) ≡ Some l → ({l : Location} → first_reserved m ws ≡ Some l → first_reserved m (ws ++ x ∷ []) ≡ Some l) → first_reserved m (w ∷ (ws ++ x ∷ [])) ≡ Some l
-              by true q k r = rw q k
-              by false q k r = rw q (r k)
+              same : is_reserve_of W m w ≡ true → first_reserved m (w ∷ (ws ++ x ∷ [])) ≡ first_reserved m (w ∷ ws)
+              same q = rw q refl
+
+              skip : (zs : List Place) → is_reserve_of W m w ≡ false → first_reserved m (w ∷ zs) ≡ first_reserved m zs
+              skip zs q = rw q refl
+
+              by : (b : Bool) → is_reserve_of W m w ≡ b → first_reserved m (w ∷ ws) ≡ Some l → (first_reserved m ws ≡ Some l → first_reserved m (ws ++ x ∷ []) ≡ Some l) → first_reserved m (w ∷ (ws ++ x ∷ [])) ≡ Some l
+              by true q k r = same q ∙ k
+              by false q k r = skip (ws ++ x ∷ []) q ∙ r (sym (skip ws q) ∙ k)
 
       stands : Stands p vs (before ++ x ∷ []) m (after_reserve ph a)
       stands = record {
