@@ -87,11 +87,11 @@ mem_append m (x ∷ xs) ys = at (x.mem == m) (mem_append m xs ys)
     at false e = e
 
 more_writes : (p : Pipe) (k j : ℕ) (arrays : Arrays) (args : List ℕ) → (rest : List Commit) × (writes_from p k arrays args ++ rest ≡ writes_from p (k + j) arrays args)
-more_writes p zero j arrays args = (writes_from p j arrays args, refl)
+more_writes p zero j arrays args = (writes_from p j arrays args, ap (λ n. writes_from p n arrays args) (let e : j ≡ 0 + j = omega arith in e))
 more_writes p (suc k) j arrays args =
     let t = thread p arrays args in
     let r = more_writes p k j t.arrays t.next in
-    (r.0, append_assoc t.writes (writes_from p k t.arrays t.next) r.0 ∙ ap (λ l. t.writes ++ l) r.1)
+    (r.0, append_assoc t.writes (writes_from p k t.arrays t.next) r.0 ∙ ap (λ l. t.writes ++ l) r.1 ∙ ap (λ n. writes_from p n arrays args) (let e : suc (k + j) ≡ suc k + j = omega arith in e))
 
 -- more threads write more
 more_seq : (p : Pipe) (image : Arrays) (m k j : ℕ) → IsPrefix (seqwrites p image m k) (seqwrites p image m (k + j))
