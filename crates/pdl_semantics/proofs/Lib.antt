@@ -7,3 +7,4 @@ pub mod WrongMachines
 pub mod FeatureRows
 mod SoundRows
 pub mod Facts
+pub mod Advice

@@ -1,6 +1,6 @@
 -- Pipeline refinement and Progress, as statements about the runs of the machine.
-use Rattle.std.specs.Prelude.{◌≡◌, IsTrue, IsFalse, ℕ, ◌+◌, ◌-◌, ◌/◌, ◌≤◌, Bool, false, List, [], ◌∷◌, ◌++◌, Option, Some, None, if◌then◌else◌, nat_lt, length}
-use Rattle.pdl_semantics.specs.Flat.{Arrays, Array, with_value, Plain, Pipe, Commit}
+use Rattle.std.specs.Prelude.{◌≡◌, ◌⊎◌, not, true, IsTrue, IsFalse, ℕ, ◌+◌, ◌-◌, ◌/◌, ◌≤◌, Bool, false, List, [], ◌∷◌, ◌++◌, Option, Some, None, if◌then◌else◌, nat_lt, length}
+use Rattle.pdl_semantics.specs.Flat.{Arrays, Array, with_value, is_advisory, list_all, Op, CombRead, DelayedRead, Plain, Pipe, Commit}
 use Rattle.pdl_semantics.specs.Stages.{mem_at, depth}
 use Rattle.pdl_semantics.specs.Sequential.{seqwrites}
 use Rattle.pdl_semantics.specs.Moves.{Act, all_acts}
@@ -51,3 +51,24 @@ Advances p image schedule bits =
 abbrev pub KeepsPace : Pipe → Arrays → List (List Bool) → Type 0
 KeepsPace p image schedule =
     (length schedule - waits_in (turns p image schedule)) / depth p ≤ ended_in (turns p image schedule)
+
+-- ADVICE
+
+-- images that differ in advisory memories alone
+abbrev pub DifferInAdvice : Pipe → Arrays → Arrays → Type 0
+DifferInAdvice p image other = (m : ℕ) → is_advisory (mem_at p m).kind ≡ false → image m ≡ other m
+
+-- what advisory memories hold changes no write: the threads write the same, and of two runs, with any replies, one's commits begin with those of the other
+pub record AdviceIsIdle (p : Pipe) (image other : Arrays) (schedule replies : List (List Bool)) : Type 0 where
+  pub same : (m k : ℕ) → seqwrites p image m k ≡ seqwrites p other m k
+  pub prefix : (m : ℕ)
+      → IsPrefix (commits m (turns p image schedule)) (commits m (turns p other replies)) ⊎ IsPrefix (commits m (turns p other replies)) (commits m (turns p image schedule))
+
+-- advisory memories are read as such alone
+abbrev pub reads_plainly : Pipe → Op → Bool
+reads_plainly p (CombRead x m a) = not (is_advisory (mem_at p m).kind)
+reads_plainly p (DelayedRead x m a) = not (is_advisory (mem_at p m).kind)
+reads_plainly p _ = true
+
+abbrev pub KeepsAdvice : Pipe → Type 0
+KeepsAdvice p = list_all (λ x. reads_plainly p x.op) p.stmts ≡ true

@@ -1,6 +1,7 @@
 -- Stages and paths of a pipe in flat form. A path is a truth value for each guard: a list of values of all variables, of which those of guards count.
 use Rattle.std.specs.Prelude.{ℕ, zero, suc, max, Bool, true, false, ◌||◌, List, [], ◌∷◌, ◌++◌, Option, Some, None, if◌then◌else◌, ◌==◌, slice_index, slice_index_or, slice_set, length, take, count_by, unwrap_or}
-use Rattle.pdl_semantics.specs.Flat.{Op, ReserveRead, ReserveWrite, Release, Verify, Stmt, Plain, Mem, Next, Ends, Goes, Forks, Branch, Stage, Pipe, all_hold, start_env}
+use Rattle.pdl_semantics.specs.Tree.{Comb}
+use Rattle.pdl_semantics.specs.Flat.{is_delayed, Op, ReserveRead, ReserveWrite, Release, Verify, Stmt, Plain, Mem, Next, Ends, Goes, Forks, Branch, Stage, Pipe, all_hold, start_env}
 
 -- whether some element passes the test
 abbrev pub list_any : {X : Type 0} → (X → Bool) → List X → Bool
@@ -19,7 +20,7 @@ in_stage s (x ∷ xs) = if x.stage == s then x ∷ in_stage s xs else in_stage s
 
 -- the memory, and the stage, of this number
 abbrev pub plain_mem : Mem
-plain_mem = record { width = 0; depth = 0; delayed = false; lock = Plain }
+plain_mem = record { width = 0; depth = 0; kind = Comb; lock = Plain }
 
 abbrev pub mem_at : Pipe → ℕ → Mem
 mem_at p m = slice_index_or p.mems m plain_mem
@@ -51,7 +52,7 @@ merges_fork (Some g) f = g == f
 
 -- the place of a delayed memory among the delayed ones
 abbrev pub reply_place : Pipe → ℕ → ℕ
-reply_place p m = count_by (λ x. x.delayed) (take m p.mems)
+reply_place p m = count_by (λ x. is_delayed x.kind) (take m p.mems)
 
 -- R(m), the stage of m's reserves, 0 where it has none; and C(m), that of its releases, the number of stages where it has none
 abbrev pub reserve_stage : Pipe → ℕ → ℕ
