@@ -8,3 +8,4 @@ pub mod FeatureRows
 mod SoundRows
 pub mod Facts
 pub mod Advice
+pub mod AdviceApart
