@@ -161,7 +161,7 @@ module _ (p : Pipe) (sound : Sound p) (strict : Strict p) where
 
       module _ (moves : (did p d bits ks l).moves ≡ true) (asked : (m a : ℕ) → find_ask (work_of_live p d bits ks l).asks m ≡ Some a → asking p (sound_flows p sound) st d bits sim.arrays ls m ≡ Some (record { number = l.number; address = a })) where
         ready : (work_of_live p d bits ks l).ready ≡ true
-        ready = and_right _ _ (and_left _ _ (and_left _ _ moves))
+        ready = and_right _ _ (and_left _ _ (and_left _ _ (and_left _ _ moves)))
 
         now_keeps : Keeps p l.env (now_of p d bits l)
         now_keeps = keeps_now p (sound_flows p sound) st d bits sim.arrays l k.seated

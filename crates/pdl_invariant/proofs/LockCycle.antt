@@ -118,10 +118,10 @@ module _ (p : Pipe) (flows : Flows p) (st : State) (d : Derived.State) (bits : L
   none_reserved [] h = refl
   none_reserved (a ∷ ms) h =
       let i = none_reserved ms h.1 in
-      let j : cond (reserves_of m a.does.reserves == 0) 0 1 ≡ 0 = ap (λ b. cond b 0 1) (eq-eqb _ _ (none_new m a.thread.number a.does.reserves h.0)) in
-      omega arith
+      let j : cond {A = ℕ} (reserves_of m a.does.reserves == 0) 0 1 ≡ 0 = ap (λ b. cond {A = ℕ} b 0 1) (eq-eqb _ _ (none_new m a.thread.number a.does.reserves h.0)) in
+      omega (arith, i, j)
 
-  bit : (b : Bool) → cond b 0 1 ≤ 1
+  bit : (b : Bool) → cond {A = ℕ} b 0 1 ≤ 1
   bit true = omega arith
   bit false = omega arith
 
@@ -136,8 +136,8 @@ module _ (p : Pipe) (flows : Flows p) (st : State) (d : Derived.State) (bits : L
           let j = bit (reserves_of m (deeds_of p st bits l).reserves == 0) in
           omega arith
       at true false e h =
-          let i : cond (reserves_of m (deeds_of p st bits l).reserves == 0) 0 1 ≡ 0 = ap (λ b. cond b 0 1) (eq-eqb _ _ (none_new m l.number (deeds_of p st bits l).reserves (quiet_new l (eqb-false _ _ e)))) in
-          omega arith
+          let i : cond {A = ℕ} (reserves_of m (deeds_of p st bits l).reserves == 0) 0 1 ≡ 0 = ap (λ b. cond {A = ℕ} b 0 1) (eq-eqb _ _ (none_new m l.number (deeds_of p st bits l).reserves (quiet_new l (eqb-false _ _ e)))) in
+          omega (arith, h, i)
 
   -- nothing older is appended
   past_older : (t : ℕ) (ls : List Live) → Each (λ k. reserve_stage p m < k.thread.stage) ls → NoOlder t m (lacts p st d bits ls)

@@ -1,7 +1,7 @@
 -- A thread of a turn in a stage: its way is the turn's path, its values and pending writes are the turn's, and its guess is wrong just where its successor isn't the next turn.
 use Rattle.std.proofs.Common.{◌≡◌, refl, sym, ap, ap₂, ◌∙◌, subst, ℕ, suc, ◌+◌, ◌-◌, ◌<◌, ◌≤◌, length, arith, nat_lt, is_none, append_assoc, length-append, ltb-true, ltb-false, lt-ltb, Bool, true, false, ◌&&◌, ◌||◌, not, List, [], ◌∷◌, ◌++◌, Option, Some, None, is_some, ◌==◌, cond, slice_index, eq-eqb}
 use Rattle.std.proofs.Math.Bool.{and-false}
-use Rattle.pdl_semantics.specs.Flat.{Arrays, Pipe, Op, Bind, CombRead, DelayedRead, Write, ReserveRead, ReserveWrite, Block, Release, Call, SpecCall, Verify, SpecCheck, SpecBarrier, Stmt, all_hold, Commit, of_mem}
+use Rattle.pdl_semantics.specs.Flat.{Arrays, Pipe, Op, Bind, CombRead, DelayedRead, Write, ReserveRead, ReserveWrite, Block, Release, Call, SpecCall, Verify, SpecCheck, SpecBarrier, Stmt, value_of, all_hold, Commit, of_mem}
 use Rattle.pdl_semantics.specs.Stages.{list_any, onpath, in_stage, is_verify, verify_stage, reserve_stage, commit_stage}
 use Rattle.pdl_semantics.specs.Machine.{Pending, same_args}
 use Rattle.pdl_semantics.specs.Sequential.{Run, run_after, run_all, thread}
@@ -149,6 +149,9 @@ more_writes m (Write n a e) r = ap length (of_mem_append m r.writes _) ∙ lengt
     at true = refl
     at false = refl
 more_writes m _ r = plus_none (length (of_mem m r.writes))
+
+none_first : (n : ℕ) → 0 + n ≡ n
+none_first n = omega arith
 
 run_count : (m : ℕ) (ph : Phase) (xs : List Stmt) (r : Run) → phases_ok m ph xs ≡ true → length (of_mem m (run_all xs r).writes) ≡ length (of_mem m r.writes) + count (λ x. is_write m x.op) xs
 run_count m ph [] r h = plus_none (length (of_mem m r.writes))
@@ -312,6 +315,7 @@ module _ (p : Pipe) (sound : Sound p) (arrays : Arrays) (args : List ℕ) where
       counts : length (of_mem m (Whole.run_at q arrays args s).writes) ≡ made
       counts =
           run_count m Fresh xs (Whole.start_run q arrays args) (Whole.ok_before q acc arrays args s m)
+          ∙ none_first (count (λ x. is_write m x.op) xs)
           ∙ ap (count (λ x. is_write m x.op)) (way_looked p (thread (at_once p) arrays args).env s)
           ∙ count_looked (is_write m) (write_looked m) (on_way p (thread (at_once p) arrays args).env s)
 
@@ -323,16 +327,16 @@ module _ (p : Pipe) (sound : Sound p) (arrays : Arrays) (args : List ℕ) where
           let unset : List ℕ = (phase_all m Fresh xs).unwritten in
           let all : of_mem m (thread q arrays args).writes ≡ told m t.fulls ++ more.0 = more.1 ∙ ap (λ l. l ++ more.0) ws in
           let rest : places more.0 ≡ rev (addresses_at (so_far q arrays args s).env unset) =
-          same_rest (places (told m t.fulls)) _ _
+          same_rest (places (told m t.fulls)) (places more.0) (rev (addresses_at (so_far q arrays args s).env unset))
           (sym (places_append (told m t.fulls) more.0) ∙ ap places (sym all) ∙ sym (Whole.all_places q acc arrays args s m h) ∙ ap (λ l. places l ++ rev (addresses_at (so_far q arrays args s).env unset)) ws) in
           ap₂ (λ xs es. are_right made xs es) all (ap (pend m n) t.entries ∙ pend_append m n (waiting m (opened (so_far q arrays args s).env unset)) (known m t.fulls))
-          ∙ ap (λ k. are_right k (told m t.fulls ++ more.0) (pend m n (known m t.fulls) ++ pend m n (waiting m (opened (so_far q arrays args s).env unset)))) (sym counts ∙ ap length ws)
+          ∙ ap (λ k. are_right k (told m t.fulls ++ more.0) (pend m n (known m t.fulls) ++ pend m n (waiting m (opened (so_far q arrays args s).env unset)))) (sym counts ∙ ap length ws ∙ sym (none_first (length (told m t.fulls))))
           ∙ right_known m n 0 t.fulls more.0 (pend m n (waiting m (opened (so_far q arrays args s).env unset)))
-          (right_none more.0 _ (none_waiting m n (opened (so_far q arrays args s).env unset)) (rest ∙ sym (spots_waiting m n (so_far q arrays args s).env unset)))
+          (right_none more.0 (pend m n (waiting m (opened (so_far q arrays args s).env unset))) (none_waiting m n (opened (so_far q arrays args s).env unset)) (rest ∙ sym (spots_waiting m n (so_far q arrays args s).env unset)))
 
       at : (b : Bool) → nat_lt (commit_stage p m) s ≡ b → right_list made (of_mem m (thread q arrays args).writes) (pend m n (entries_of m (so_far q arrays args s).entries)) ≡ true
-      at true e = ap (λ es. right_list made (of_mem m (thread q arrays args).writes) (pend m n es)) (late_empty q acc arrays args s m (ltb-true _ _ e) h)
-      at false e = right_some made _ _ (early (ltb-false _ _ e))
+      at true e = ap (λ es. right_list made (of_mem m (thread q arrays args).writes) (pend m n es)) (late_empty q acc arrays args s m (ltb-true (commit_stage p m) s e) h)
+      at false e = right_some made (of_mem m (thread q arrays args).writes) (pend m n (entries_of m (so_far q arrays args s).entries)) (early (ltb-false (commit_stage p m) s e))
 
   -- its guess
   pub turn_guess : (s : ℕ) → is_guessed (making_all Unmade (before s (onpath (thread (at_once p) arrays args).env (looked_all p.stmts)))) ≡ (list_any (λ (x : Stmt). is_spec_call x.op) (on_way p (thread (at_once p) arrays args).env s) && not (list_any (λ (x : Stmt). is_verify x.op) (on_way p (thread (at_once p) arrays args).env s)))

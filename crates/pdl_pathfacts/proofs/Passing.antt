@@ -1,5 +1,5 @@
 -- Each path of a source that breaks no rule passes the tests of paths.
-use Rattle.std.proofs.Common.{◌≡◌, refl, sym, ap, ◌∙◌, subst, ℕ, zero, suc, ◌≤◌, ◌<◌, Bool, true, false, ◌&&◌, ◌||◌, not, List, [], ◌∷◌, ◌++◌, length, map, filter, ◌==◌, nat_lt, unwrap_or, Option, Some, None, arith, append_assoc, append-nil, eq-eqb, le-leb, ⊎_elim}
+use Rattle.std.proofs.Common.{◌≡◌, refl, sym, ap, ◌∙◌, subst, ℕ, zero, suc, ◌+◌, ◌≤◌, ◌<◌, Bool, true, false, ◌&&◌, ◌||◌, not, List, [], ◌∷◌, ◌++◌, length, map, filter, ◌==◌, nat_lt, unwrap_or, Option, Some, None, arith, append_assoc, append-nil, eq-eqb, le-leb, ⊎_elim}
 use Rattle.std.proofs.lemmas.Bool.{false≢true, and_parts, and_from, or_left, or_right, both_ways, not-false, cases_Bool, ne_eqb}
 use Rattle.std.specs.List.{list_any}
 use Rattle.pdl_semantics.specs.Tree.{Location, W, Stmt, Reserve, Release, Verify, Param, Mem, Pipe}
@@ -244,8 +244,11 @@ module _ (p : Pipe) (rules : KeepsRules p) where
           w.0,
           w.1,
           rooms p rules p.mems (map Parameter p.params) n.0 (all_after p) (write_reserves (mem_of p.mems n.0) (seen p.mems ts))
-              (subst (λ k. k ≤ most_reservations p.mems W n.0) (total_all (mem_of p.mems n.0) Fresh (seen p.mems ts) w.0) w.2),
+              (subst (λ k. k ≤ most_reservations p.mems W n.0) (total_all (mem_of p.mems n.0) Fresh (seen p.mems ts) w.0 ∙ none_more (write_reserves (mem_of p.mems n.0) (seen p.mems ts))) w.2),
         ))
+      where
+        none_more : (n : ℕ) → 0 + n ≡ n
+        none_more n = omega arith
 
     plain_or : (m : ℕ) (b : Bool) → (is_plain (mem_at q m).lock ≡ true → b ≡ true) → (not (is_plain (mem_at q m).lock) || b) ≡ true
     plain_or m b f = ⊎_elim (λ t. or_right (not (is_plain (mem_at q m).lock)) b (f t)) (λ t. or_left (not (is_plain (mem_at q m).lock)) b (ap not t)) (cases_Bool (is_plain (mem_at q m).lock))

@@ -362,6 +362,10 @@ module _ (p : Pipe) (vs : List Var) (before : List Place) (m : List ℕ) (there 
               by true q k r = same q ∙ k
               by false q k r = skip (ws ++ x ∷ []) q ∙ r (sym (skip ws q) ∙ k)
 
+      or_shift : (b c d : Bool) → (c || d) ≡ true → ((b || c) || d) ≡ true
+      or_shift true c d h = refl
+      or_shift false c d h = h
+
       stands : Stands p vs (before ++ x ∷ []) m (after_reserve ph a)
       stands = record {
         unset = λ y t. ⊎_elim
@@ -385,7 +389,7 @@ module _ (p : Pipe) (vs : List Var) (before : List Place) (m : List ℕ) (there 
         count = let c = s.count in omega (arith, more);
         few = let c = low in omega (arith, more);
         every = λ l f r. ⊎_elim
-            (λ t. let o = s.every l f t in (o.0, front o.0 o.1, or_right (a == o.0) _ o.2, o.3))
+            (λ t. let o = s.every l f t in (o.0, front o.0 o.1, or_shift (a == o.0) (is_among o.0 ph.unwritten) (is_among o.0 ph.full || is_among o.0 ph.gone) o.2, o.3))
             (λ t. ⊎_elim (λ u. (a, place, or_left (is_among a (a ∷ ph.unwritten)) _ (among_self a ph.unwritten), u)) (λ u. absurd (false≢true u)) (or_cases (reserves_to_write l x) false t))
             (or_cases (list_any (reserves_to_write l) before) _ (sym (list_any-append (reserves_to_write l) before (x ∷ [])) ∙ r));
         first = first ph.unwritten refl;
