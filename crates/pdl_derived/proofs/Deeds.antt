@@ -1,8 +1,8 @@
 -- The deeds of a stage's statements and the derived work of the same statements. Of the whole language.
 use Rattle.std.proofs.Common.{◌≡◌, refl, sym, ap, ◌∙◌, subst, ℕ, Bool, true, false, ◌&&◌, ◌||◌, not, List, [], ◌∷◌, ◌++◌, ◌==◌, cond, if◌then◌else◌, Some, None, slice_index, slice_set}
 use Rattle.std.proofs.Math.Bool.{and_assoc}
-use Rattle.pdl_semantics.specs.Flat.{Commit, list_all, Op, Bind, CombRead, DelayedRead, Write, ReserveRead, ReserveWrite, Block, Release, Call, SpecCall, Verify, SpecCheck, SpecBarrier, Stmt, value_of, values_of, all_hold}
-use Rattle.pdl_semantics.specs.Machine.{Ask, same_args, HeldLocation, Blocked, Deeds, is_held, let_go, deeds_after_all}
+use Rattle.pdl_semantics.specs.Flat.{Commit, list_all, Op, Bind, CombRead, DelayedRead, Write, ReserveRead, ReserveWrite, Block, Release, Call, SpecCall, Verify, SpecCheck, SpecBarrier, AdviceBind, AdviceRead, AdviceWrite, Stmt, value_of, values_of, all_hold}
+use Rattle.pdl_semantics.specs.Machine.{Ask, same_args, all_values, HeldLocation, Blocked, Deeds, is_held, let_go, deeds_after_all}
 use Rattle.pdl_semantics.specs.Machine
 use Rattle.pdl_derived.specs.Derived.{Entry, Work, Around, work_after, do_all, has_entry, moved_up, without, with_entry_value}
 use Rattle.pdl_word.proofs.Bools.{and_swap}
@@ -88,6 +88,7 @@ module _ (o : Around) (read : ℕ → ℕ → ℕ) (block : Blocked → Bool) (f
   Fits (DelayedRead x m a) = (n : ℕ) → o.free m ≡ free (record { mem = m; var = x; address = n })
   Fits (Block m a) =
       (n : ℕ) → (o.can_write m n ≡ block (record { mem = m; address = n; writes = true })) × (o.can_read m n ≡ block (record { mem = m; address = n; writes = false }))
+  Fits (SpecCall args) = (d : Deeds) → values_of args (all_values d) ≡ o.guess
   Fits _ = Unit {0}
 
   abbrev pub AllFit : List Stmt → Type 0
@@ -131,7 +132,11 @@ module _ (o : Around) (read : ℕ → ℕ → ℕ) (block : Blocked → Bool) (f
           ∙ sym (all_more block d.blocks _))
   told_op (Release m a) d es cs h f = record { held = places_without es m a ∙ ap (λ l. let_go l m a) h; is = refl }
   told_op (Call args) d es cs h f = told _ es cs h
-  told_op (SpecCall args) d es cs h f = told _ es cs h
+  told_op (SpecCall args) d es cs h f =
+      subst (λ (g : List ℕ). Told (Machine.deeds_after read (SpecCall args) d) (record (work_of d es cs) { child = Some g; guess = g })) (f d) (told (Machine.deeds_after read (SpecCall args) d) es cs h)
+  told_op (AdviceBind x e) d es cs h f = told _ es cs h
+  told_op (AdviceRead x m a) d es cs h f = told _ es cs h
+  told_op (AdviceWrite m a e) d es cs h f = told _ es cs h
   told_op (Verify args) d es cs h f = at (same_args (values_of args d.env) d.guess)
     where
       at : (b : Bool) → Told (cond b d (record d { child = Some (values_of args d.env); fails = true })) (cond b (work_of d es cs) (record (work_of d es cs) { child = Some (values_of args d.env); fails = true }))

@@ -1,10 +1,22 @@
 -- What it means that both machines do the same.
-use Rattle.std.specs.Prelude.{◌≡◌, ℕ, List, [], ◌∷◌, slice_index_or}
+use Rattle.std.specs.Prelude.{◌≡◌, ℕ, zero, suc, Bool, List, [], ◌∷◌, if◌then◌else◌, ◌==◌, slice_index_or}
 use Rattle.pdl_semantics.specs.Flat.{Pipe, of_mem}
 use Rattle.pdl_semantics.specs.Cycle.{for_mems, commits_shown}
 use Rattle.pdl_semantics.specs.Cycle
+use Rattle.pdl_semantics.specs.Machine.{State}
+use Rattle.pdl_semantics.specs.Moves.{Act, all_acts}
 use Rattle.pdl_derived.specs.Derived.{find_ask}
 use Rattle.pdl_derived.specs.Derived
+
+-- the guesses that the stated machine makes in a run, by cycles and stages
+abbrev pub guess_in : List Act → ℕ → List ℕ
+guess_in [] s = []
+guess_in (a ∷ these) s = if a.stage == s then a.does.guess else guess_in these s
+
+abbrev pub guesses_of : Pipe → State → List (List Bool) → ℕ → ℕ → List ℕ
+guesses_of p st [] n s = []
+guesses_of p st (bits ∷ schedule) zero s = guess_in (all_acts p st bits) s
+guesses_of p st (bits ∷ schedule) (suc n) s = guesses_of p (Cycle.cycle p st bits) schedule n s
 
 -- the ports of a cycle of each machine
 pub record SameTurn (p : Pipe) (a : Cycle.Turn) (b : Derived.Turn) : Type 0 where

@@ -158,7 +158,7 @@ module _ (p : Pipe) (acc : Sound p) where
     ok_here =
         sym (ok_looked (verify_stage p.stmts) _ (onpath (work_of_stage p o t).env (in_stage t.stage p.stmts)))
         ∙ (λ i. makings_ok (sym vis i) (making_all Unmade (sym (before_on t.stage) i)) (sym stage_on i))
-        ∙ Makes.makings_stage (at_once p) acc.pathwise (work_of_stage p o t).env (λ m a. 0) [] t.stage
+        ∙ Makes.makings_stage (at_once p) acc.pathwise (work_of_stage p o t).env (record { words = λ m a. 0; guess = [] }) [] t.stage
 
     -- a stage before V makes at most one thread
     makes_one : stands_at (verify_stage p.stmts) t.stage ≡ false
