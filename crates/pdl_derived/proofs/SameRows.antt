@@ -15,7 +15,7 @@ use Rattle.pdl_semantics.proofs.Pipes.{two_writes, two_writes_apart, one_stage, 
 use Rattle.pdl_semantics.proofs.Texts.{variable}
 use Rattle.pdl_semantics.proofs.MachineRows.{zeros, idle, bits, copied}
 use Rattle.pdl_derived.specs.Derived
-use Rattle.pdl_derived.specs.Simulation.{guesses_of}
+use Rattle.pdl_derived.specs.Simulation.{hints_of}
 
 -- PORTS
 
@@ -53,7 +53,7 @@ agree (a ∷ ts) (b ∷ us) =
 agree _ _ = false
 
 abbrev both_agree : Tree.Pipe → List (List ℕ) → List (List Bool) → Bool
-both_agree p image schedule = agree (turns (flat p) (arrays_of image) schedule) (Derived.turns (flat p) (arrays_of image) (guesses_of (flat p) (Cycle.first (flat p) (arrays_of image)) schedule) schedule)
+both_agree p image schedule = agree (turns (flat p) (arrays_of image) schedule) (Derived.turns (flat p) (arrays_of image) (hints_of (flat p) (Cycle.first (flat p) (arrays_of image)) schedule) schedule)
 
 -- some replies late, some prompt
 abbrev mixed : List (List Bool)
@@ -94,7 +94,7 @@ derived_cycles ms [] = []
 derived_cycles ms (t ∷ ts) = derived_cycle ms t ∷ derived_cycles ms ts
 
 abbrev derived_lines : Tree.Pipe → List (List ℕ) → List (List Bool) → List ℕ
-derived_lines p image schedule = lines (columns p.mems) (derived_cycles (columns p.mems) (Derived.turns (flat p) (arrays_of image) (guesses_of (flat p) (Cycle.first (flat p) (arrays_of image)) schedule) schedule))
+derived_lines p image schedule = lines (columns p.mems) (derived_cycles (columns p.mems) (Derived.turns (flat p) (arrays_of image) (hints_of (flat p) (Cycle.first (flat p) (arrays_of image)) schedule) schedule))
 
 abbrev prints_alike : Tree.Pipe → List (List ℕ) → List (List Bool) → Bool
 prints_alike p image schedule = bytes_eq (derived_lines p image schedule) (run_lines p image schedule)

@@ -55,7 +55,7 @@ so_far p world args s = do_all (alone world) (before s p.stmts) (start_work p ar
 abbrev pub thread_at : Pipe → World → List ℕ → ℕ → Thread
 thread_at p world args s =
     let w = so_far p world args s in
-    record { stage = s; env = w.env; entries = w.entries; guess = w.guess; awaits = [] }
+    record { stage = s; hint = world.guess; env = w.env; entries = w.entries; guess = w.guess; awaits = [] }
 
 -- the writes to m of this turn that a thread in stage s has not released
 abbrev pub undone : Pipe → Arrays → List ℕ → ℕ → ℕ → List Commit
@@ -94,10 +94,10 @@ pub record Location : Type 0 where
 -- Pipeline refinement and Progress of a pipe
 
 -- each memory's commits are a prefix of the sequential writes, and have all writes of the threads that ended
-pub record Refines (p : Pipe) (image : Arrays) (guesses : ℕ → ℕ → List ℕ) (schedule : List (List Bool)) : Type 0 where
-  pub whole : (m : ℕ) → IsPrefix (seqwrites p image m (ended_in (turns p image guesses schedule))) (commits m (turns p image guesses schedule))
-  pub prefix : (m : ℕ) → IsPrefix (commits m (turns p image guesses schedule)) (seqwrites p image m (ended_in (turns p image guesses schedule) + length p.stages))
-  pub end : (state_after p (first p image guesses) schedule).arrays ≡ after_commits image (all_commits (turns p image guesses schedule))
+pub record Refines (p : Pipe) (image : Arrays) (hints : ℕ → List ℕ) (schedule : List (List Bool)) : Type 0 where
+  pub whole : (m : ℕ) → IsPrefix (seqwrites p image m (ended_in (turns p image hints schedule))) (commits m (turns p image hints schedule))
+  pub prefix : (m : ℕ) → IsPrefix (commits m (turns p image hints schedule)) (seqwrites p image m (ended_in (turns p image hints schedule) + length p.stages))
+  pub end : (state_after p (first p image hints) schedule).arrays ≡ after_commits image (all_commits (turns p image hints schedule))
 
 -- whether the oldest live thread moves
 abbrev pub oldest_moves : List Act → Bool
@@ -105,12 +105,12 @@ oldest_moves [] = false
 oldest_moves (a ∷ these) = a.moves
 
 -- after any schedule, the oldest live thread moves in a cycle that isn't a wait
-abbrev pub Advances : Pipe → Arrays → (ℕ → ℕ → List ℕ) → List (List Bool) → List Bool → Type 0
-Advances p image guesses schedule bits =
-    IsFalse (is_wait p (state_after p (first p image guesses) schedule) bits)
-    → IsTrue (oldest_moves (all_acts p (state_after p (first p image guesses) schedule) bits))
+abbrev pub Advances : Pipe → Arrays → (ℕ → List ℕ) → List (List Bool) → List Bool → Type 0
+Advances p image hints schedule bits =
+    IsFalse (is_wait p (state_after p (first p image hints) schedule) bits)
+    → IsTrue (oldest_moves (all_acts p (state_after p (first p image hints) schedule) bits))
 
 -- as many threads end as cycles that are no waits, divided by the depth
-abbrev pub KeepsPace : Pipe → Arrays → (ℕ → ℕ → List ℕ) → List (List Bool) → Type 0
-KeepsPace p image guesses schedule =
-    (length schedule - waits_in (turns p image guesses schedule)) / depth p ≤ ended_in (turns p image guesses schedule)
+abbrev pub KeepsPace : Pipe → Arrays → (ℕ → List ℕ) → List (List Bool) → Type 0
+KeepsPace p image hints schedule =
+    (length schedule - waits_in (turns p image hints schedule)) / depth p ≤ ended_in (turns p image hints schedule)

@@ -221,7 +221,7 @@ module _ (p : Pipe) (acc : Sound p) where
       at (Some v) e =
           let i : t.stage < v = subst (λ o. t.stage < v_of o) e low in
           let h = roam_step p acc o t r (below_last (v_low (verify_stage p.stmts) refl) low) (ap (λ o. stands_before o t.stage) e ∙ lt-ltb _ _ i) (ap (λ o. stands_at o t.stage) e ∙ ne_eqb t.stage v (λ j. absurd (omega arith))) (barred (stage_at p t.stage).branch refl) ready in
-          record { fails = h.2; commits = h.0; goes_on = h.1; once = h.3; born = λ x k. fresh_roams p acc x; made_next = h.4 }
+          record { fails = h.2; commits = h.0; goes_on = h.1; once = h.3; born = λ g x k. fresh_roams p acc g x; made_next = h.4 }
 
   pub course : Course p
   course =

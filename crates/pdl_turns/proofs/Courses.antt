@@ -20,17 +20,17 @@ use Rattle.pdl_turns.proofs.Under.{Branches}
 use Rattle.pdl_derived.proofs.Answering.{caught, Apart, AllAsks}
 
 -- a thread that moved to stage n, with what it awaits there
-abbrev pub onward : ℕ → Work → Thread
-onward n w = record { stage = n; env = w.env; entries = w.entries; guess = w.guess; awaits = awaited_of w.asks }
+abbrev pub onward : ℕ → List ℕ → Work → Thread
+onward n g w = record { stage = n; hint = g; env = w.env; entries = w.entries; guess = w.guess; awaits = awaited_of w.asks }
 
 -- a thread after a wrong guess moved in a cycle in which a barrier of its stage is not clear
 pub record Strayed (p : Pipe) (stray : Thread → Type 0) (made : Thread → Bool) (t : Thread) (w : Work) : Type 0 where
   pub fails : w.fails ≡ false
   pub commits : w.commits ≡ []
-  pub goes_on : stray (onward (next_of p t.stage w.env) w)
+  pub goes_on : stray (onward (next_of p t.stage w.env) t.hint w)
   pub once : made t ≡ true → w.child ≡ None
-  pub born : (x : List ℕ) → w.child ≡ Some x → stray (fresh p x) × (made (fresh p x) ≡ false)
-  pub made_next : made (onward (next_of p t.stage w.env) w) ≡ (made t || is_some w.child)
+  pub born : (g x : List ℕ) → w.child ≡ Some x → stray (fresh p g x) × (made (fresh p g x) ≡ false)
+  pub made_next : made (onward (next_of p t.stage w.env) t.hint w) ≡ (made t || is_some w.child)
 
 -- a delayed read of a turn in stage s
 pub record AskOk (p : Pipe) (fetch : ℕ → ℕ) (s next : ℕ) (q : Ask) : Type 0 where
@@ -93,6 +93,6 @@ pub record Course (p : Pipe) : Type 1 where
   -- a thread after a wrong guess, which has passed no barrier
   pub stray : Thread → Type 0
   pub made : Thread → Bool
-  pub stray_fresh : (args : List ℕ) → stray (fresh p args) × (made (fresh p args) ≡ false)
+  pub stray_fresh : (g args : List ℕ) → stray (fresh p g args) × (made (fresh p g args) ≡ false)
   pub stray_answered : (st : State) (bits : List Bool) (t : Thread) → stray t → stray (answered_thread p st bits t) × (made (answered_thread p st bits t) ≡ made t)
   pub stray_step : (o : Around) (t : Thread) → stray t → t.awaits ≡ [] → t.stage < v → (Trunk p t.stage → o.clear ≡ false) → (work_of_stage p o t).ready ≡ true → Strayed p stray made t (work_of_stage p o t)

@@ -85,10 +85,10 @@ not_asked x [] h = refl
 not_asked x (q ∷ qs) h = ap₂ (λ a b. a || b) (not-true (q.var == x) h.0) (not_asked x qs h.1)
 
 module _ (p : Pipe) (acc : Sound p) where
-  pub fresh_roams : (args : List ℕ) → Roams p (fresh p args) × (has_made p (fresh p args) ≡ false)
-  fresh_roams args = (
-    record { covers = λ m a h. absurd (cc h); barred = ap (λ l. some_barrier false (onpath (fresh p args).env l)) none; blind = λ env' f. ap (onpath env') none ∙ sym (ap (onpath (fresh p args).env) none); on = ap (comes_by p (fresh p args).env) acc.graph.trunk_start; aside = tt },
-    ap (λ l. not (is_unmade (making_all Unmade (onpath (fresh p args).env l)))) none,
+  pub fresh_roams : (g args : List ℕ) → Roams p (fresh p g args) × (has_made p (fresh p g args) ≡ false)
+  fresh_roams g args = (
+    record { covers = λ m a h. absurd (cc h); barred = ap (λ l. some_barrier false (onpath (fresh p g args).env l)) none; blind = λ env' f. ap (onpath env') none ∙ sym (ap (onpath (fresh p g args).env) none); on = ap (comes_by p (fresh p g args).env) acc.graph.trunk_start; aside = tt },
+    ap (λ l. not (is_unmade (making_all Unmade (onpath (fresh p g args).env l)))) none,
   )
     where
       none : before 0 p.stmts ≡ []
@@ -266,8 +266,8 @@ module _ (p : Pipe) (acc : Sound p) where
 
     -- a roaming thread's stage before V, where a barrier would not be clear
     pub roam_step : Roams p t → t.stage < length p.stages → stands_before (verify_stage p.stmts) t.stage ≡ true → stands_at (verify_stage p.stmts) t.stage ≡ false → Barred o (onpath (work_of_stage p o t).env (in_stage t.stage p.stmts)) → (work_of_stage p o t).ready ≡ true
-        → ((work_of_stage p o t).commits ≡ []) × Roams p (onward (next_of p t.stage (work_of_stage p o t).env) (work_of_stage p o t)) × ((work_of_stage p o t).fails ≡ false) × (has_made p t ≡ true → (work_of_stage p o t).child ≡ None)
-        × (has_made p (onward (next_of p t.stage (work_of_stage p o t).env) (work_of_stage p o t)) ≡ (has_made p t || is_some (work_of_stage p o t).child))
+        → ((work_of_stage p o t).commits ≡ []) × Roams p (onward (next_of p t.stage (work_of_stage p o t).env) t.hint (work_of_stage p o t)) × ((work_of_stage p o t).fails ≡ false) × (has_made p t ≡ true → (work_of_stage p o t).child ≡ None)
+        × (has_made p (onward (next_of p t.stage (work_of_stage p o t).env) t.hint (work_of_stage p o t)) ≡ (has_made p t || is_some (work_of_stage p o t).child))
     roam_step st inside low apart clear ready =
         let on_path : visits_stage p (work_of_stage p o t).env t.stage ≡ true = on_now st.on in
         let skip : onpath (work_of_stage p o t).env (before (next_of p t.stage (work_of_stage p o t).env) p.stmts) ≡ onpath (work_of_stage p o t).env (before (suc t.stage) p.stmts) =

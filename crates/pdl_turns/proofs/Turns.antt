@@ -135,8 +135,8 @@ module _ (p : Pipe) (acc : Pathwise p) (world : World) (args : List ℕ) where
   pub piece : (s : ℕ) → so_far p world args (suc s) ≡ joined (so_far p world args s) (work_of_stage p (alone world) (thread_at p world args s))
   piece s = so_path (suc s) ∙ next_piece (along (thread p world.words args).env p) world args s (accq.pieces s) ∙ ap₂ joined (sym (so_path s)) (sym (works_path s))
 
-  pub placed_next : (s : ℕ) → thread_at p world args (suc s) ≡ (let w = work_of_stage p (alone world) (thread_at p world args s) in record { stage = suc s; env = w.env; entries = w.entries; guess = w.guess; awaits = [] })
-  placed_next s = ap (λ (w : Work). record { stage = suc s; env = w.env; entries = w.entries; guess = w.guess; awaits = [] }) (piece s)
+  pub placed_next : (s : ℕ) → thread_at p world args (suc s) ≡ (let w = work_of_stage p (alone world) (thread_at p world args s) in record { stage = suc s; hint = world.guess; env = w.env; entries = w.entries; guess = w.guess; awaits = [] })
+  placed_next s = ap (λ (w : Work). record { stage = suc s; hint = world.guess; env = w.env; entries = w.entries; guess = w.guess; awaits = [] }) (piece s)
 
   pub child_next : (s : ℕ) → (so_far p world args (suc s)).child ≡ or_else (work_of_stage p (alone world) (thread_at p world args s)).child (so_far p world args s).child
   child_next s = ap (λ (w : Work). w.child) (piece s)
