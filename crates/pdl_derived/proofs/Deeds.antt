@@ -88,12 +88,20 @@ module _ (o : Around) (read : ℕ → ℕ → ℕ) (block : Blocked → Bool) (f
   Fits (DelayedRead x m a) = (n : ℕ) → o.free m ≡ free (record { mem = m; var = x; address = n })
   Fits (Block m a) =
       (n : ℕ) → (o.can_write m n ≡ block (record { mem = m; address = n; writes = true })) × (o.can_read m n ≡ block (record { mem = m; address = n; writes = false }))
-  Fits (SpecCall args) = (d : Deeds) → values_of args (all_values d) ≡ o.guess
   Fits _ = Unit {0}
 
   abbrev pub AllFit : List Stmt → Type 0
   AllFit [] = Unit {0}
   AllFit (x ∷ xs) = Fits x.op × AllFit xs
+
+  -- a guess of these deeds is the one that the surroundings give
+  abbrev pub Guesses : Op → Deeds → Type 0
+  Guesses (SpecCall args) d = values_of args (all_values d) ≡ o.guess
+  Guesses _ d = Unit {0}
+
+  abbrev pub AllGuesses : List Stmt → Deeds → Type 0
+  AllGuesses [] d = Unit {0}
+  AllGuesses (x ∷ xs) d = (all_hold x.guards d.env ≡ true → Guesses x.op d) × AllGuesses xs (if all_hold x.guards d.env then Machine.deeds_after read x.op d else d)
 
   told : (d : Deeds) (es : List Entry) (cs : List Commit) → places es ≡ d.held → Told d (work_of d es cs)
   told d es cs h = record { held = h; is = refl }
@@ -103,10 +111,10 @@ module _ (o : Around) (read : ℕ → ℕ → ℕ) (block : Blocked → Bool) (f
   block_fits true m n h = h.0
   block_fits false m n h = h.1
 
-  told_op : (op : Op) (d : Deeds) (es : List Entry) (cs : List Commit) → places es ≡ d.held → Fits op → Told (Machine.deeds_after read op d) (work_after o op (work_of d es cs))
-  told_op (Bind x e) d es cs h f = told _ es cs h
-  told_op (CombRead x m a) d es cs h f = record { held = h; is = ap (λ v. work_of (record d { env = slice_set d.env x v }) es cs) (f (slice_index d.env a)) }
-  told_op (DelayedRead x m a) d es cs h f = record {
+  told_op : (op : Op) (d : Deeds) (es : List Entry) (cs : List Commit) → places es ≡ d.held → Fits op → Guesses op d → Told (Machine.deeds_after read op d) (work_after o op (work_of d es cs))
+  told_op (Bind x e) d es cs h f c = told _ es cs h
+  told_op (CombRead x m a) d es cs h f c = record { held = h; is = ap (λ v. work_of (record d { env = slice_set d.env x v }) es cs) (f (slice_index d.env a)) }
+  told_op (DelayedRead x m a) d es cs h f c = record {
     held = h;
     is = λ i. record (work_of (Machine.deeds_after read (DelayedRead x m a) d) es cs) { ready = ready i };
   }
@@ -115,10 +123,10 @@ module _ (o : Around) (read : ℕ → ℕ → ℕ) (block : Blocked → Bool) (f
       ready =
           for_ask (list_all block d.blocks) (list_all free d.asks) (not d.barrier || o.clear) (o.free m)
           ∙ ap (λ b. (list_all block d.blocks && b) && (not d.barrier || o.clear)) (ap (λ b. list_all free d.asks && b) (f (slice_index d.env a)) ∙ sym (all_more free d.asks _))
-  told_op (Write m a e) d es cs h f = record { held = places_filled es m a (value_of e d.env) ∙ h; is = refl }
-  told_op (ReserveRead m a) d es cs h f = told _ es cs h
-  told_op (ReserveWrite m a) d es cs h f = record { held = ap (λ l. record { mem = m; var = a } ∷ l) h; is = refl }
-  told_op (Block m a) d es cs h f = record { held = h; is = λ i. record (work_of d es cs) { ready = ready i } }
+  told_op (Write m a e) d es cs h f c = record { held = places_filled es m a (value_of e d.env) ∙ h; is = refl }
+  told_op (ReserveRead m a) d es cs h f c = told _ es cs h
+  told_op (ReserveWrite m a) d es cs h f c = record { held = ap (λ l. record { mem = m; var = a } ∷ l) h; is = refl }
+  told_op (Block m a) d es cs h f c = record { held = h; is = λ i. record (work_of d es cs) { ready = ready i } }
     where
       kind : has_entry es m a ≡ is_held d.held m a
       kind = sym (places_has es m a) ∙ ap (λ l. is_held l m a) h
@@ -130,28 +138,28 @@ module _ (o : Around) (read : ℕ → ℕ → ℕ) (block : Blocked → Bool) (f
           (ap (λ b. list_all block d.blocks && cond b (o.can_write m (slice_index d.env a)) (o.can_read m (slice_index d.env a))) kind
           ∙ ap (λ b. list_all block d.blocks && b) (block_fits (is_held d.held m a) m (slice_index d.env a) (f (slice_index d.env a)))
           ∙ sym (all_more block d.blocks _))
-  told_op (Release m a) d es cs h f = record { held = places_without es m a ∙ ap (λ l. let_go l m a) h; is = refl }
-  told_op (Call args) d es cs h f = told _ es cs h
-  told_op (SpecCall args) d es cs h f =
-      subst (λ (g : List ℕ). Told (Machine.deeds_after read (SpecCall args) d) (record (work_of d es cs) { child = Some g; guess = g })) (f d) (told (Machine.deeds_after read (SpecCall args) d) es cs h)
-  told_op (AdviceBind x e) d es cs h f = told _ es cs h
-  told_op (AdviceRead x m a) d es cs h f = told _ es cs h
-  told_op (AdviceWrite m a e) d es cs h f = told _ es cs h
-  told_op (Verify args) d es cs h f = at (same_args (values_of args d.env) d.guess)
+  told_op (Release m a) d es cs h f c = record { held = places_without es m a ∙ ap (λ l. let_go l m a) h; is = refl }
+  told_op (Call args) d es cs h f c = told _ es cs h
+  told_op (SpecCall args) d es cs h f c =
+      subst (λ (g : List ℕ). Told (Machine.deeds_after read (SpecCall args) d) (record (work_of d es cs) { child = Some g; guess = g })) c (told (Machine.deeds_after read (SpecCall args) d) es cs h)
+  told_op (AdviceBind x e) d es cs h f c = told _ es cs h
+  told_op (AdviceRead x m a) d es cs h f c = told _ es cs h
+  told_op (AdviceWrite m a e) d es cs h f c = told _ es cs h
+  told_op (Verify args) d es cs h f c = at (same_args (values_of args d.env) d.guess)
     where
       at : (b : Bool) → Told (cond b d (record d { child = Some (values_of args d.env); fails = true })) (cond b (work_of d es cs) (record (work_of d es cs) { child = Some (values_of args d.env); fails = true }))
       at true = told d es cs h
       at false = told _ es cs h
-  told_op SpecCheck d es cs h f = told _ es cs h
-  told_op SpecBarrier d es cs h f = record { held = h; is = λ i. record (work_of d es cs) { ready = clear_swap (list_all block d.blocks && list_all free d.asks) d.barrier o.clear i } }
+  told_op SpecCheck d es cs h f c = told _ es cs h
+  told_op SpecBarrier d es cs h f c = record { held = h; is = λ i. record (work_of d es cs) { ready = clear_swap (list_all block d.blocks && list_all free d.asks) d.barrier o.clear i } }
 
-  pub told_step : (b : Bool) (op : Op) (d : Deeds) (es : List Entry) (cs : List Commit) → places es ≡ d.held → Fits op → Told (cond b (Machine.deeds_after read op d) d) (cond b (work_after o op (work_of d es cs)) (work_of d es cs))
-  told_step true op d es cs h f = told_op op d es cs h f
-  told_step false op d es cs h f = told d es cs h
+  pub told_step : (b : Bool) (op : Op) (d : Deeds) (es : List Entry) (cs : List Commit) → places es ≡ d.held → Fits op → (b ≡ true → Guesses op d) → Told (cond b (Machine.deeds_after read op d) d) (cond b (work_after o op (work_of d es cs)) (work_of d es cs))
+  told_step true op d es cs h f c = told_op op d es cs h f (c refl)
+  told_step false op d es cs h f c = told d es cs h
 
-  pub told_all : (xs : List Stmt) (d : Deeds) (es : List Entry) (cs : List Commit) → places es ≡ d.held → AllFit xs → Told (deeds_after_all read xs d) (do_all o xs (work_of d es cs))
-  told_all [] d es cs h f = told d es cs h
-  told_all (x ∷ xs) d es cs h f =
-      let t = told_step (all_hold x.guards d.env) x.op d es cs h f.0 in
+  pub told_all : (xs : List Stmt) (d : Deeds) (es : List Entry) (cs : List Commit) → places es ≡ d.held → AllFit xs → AllGuesses xs d → Told (deeds_after_all read xs d) (do_all o xs (work_of d es cs))
+  told_all [] d es cs h f c = told d es cs h
+  told_all (x ∷ xs) d es cs h f c =
+      let t = told_step (all_hold x.guards d.env) x.op d es cs h f.0 c.0 in
       subst (λ w. Told (deeds_after_all read xs (if all_hold x.guards d.env then Machine.deeds_after read x.op d else d)) (do_all o xs w)) (sym t.is)
-      (told_all xs (if all_hold x.guards d.env then Machine.deeds_after read x.op d else d) _ _ t.held f.1)
+      (told_all xs (if all_hold x.guards d.env then Machine.deeds_after read x.op d else d) _ _ t.held f.1 c.1)
