@@ -1,5 +1,5 @@
 -- The deeds of a stage's statements and the derived work of the same statements. Of the whole language.
-use Rattle.std.proofs.Common.{◌≡◌, refl, sym, ap, ◌∙◌, subst, ℕ, Bool, true, false, ◌&&◌, ◌||◌, not, List, [], ◌∷◌, ◌++◌, ◌==◌, cond, if◌then◌else◌, Some, None, slice_index, slice_set}
+use Rattle.std.proofs.Common.{◌≡◌, refl, sym, ap, ◌∙◌, subst, ℕ, Bool, true, false, ◌&&◌, ◌||◌, not, List, [], ◌∷◌, ◌++◌, ◌==◌, cond, if◌then◌else◌, Option, Some, None, slice_index, slice_set}
 use Rattle.std.proofs.Math.Bool.{and_assoc}
 use Rattle.pdl_semantics.specs.Flat.{Commit, list_all, Op, Bind, CombRead, DelayedRead, Write, ReserveRead, ReserveWrite, Block, Release, Call, SpecCall, Verify, SpecCheck, SpecBarrier, AdviceBind, AdviceRead, AdviceWrite, Stmt, value_of, values_of, all_hold}
 use Rattle.pdl_semantics.specs.Machine.{Ask, same_args, all_values, HeldLocation, Blocked, Deeds, is_held, let_go, deeds_after_all}
@@ -152,6 +152,45 @@ module _ (o : Around) (read : ℕ → ℕ → ℕ) (block : Blocked → Bool) (f
       at false = told _ es cs h
   told_op SpecCheck d es cs h f c = told _ es cs h
   told_op SpecBarrier d es cs h f c = record { held = h; is = λ i. record (work_of d es cs) { ready = clear_swap (list_all block d.blocks && list_all free d.asks) d.barrier o.clear i } }
+
+  -- the same but for the guess, the successor and whether a verify fails: a thread that stands guesses anew in each cycle
+  pub record Loosely (d : Deeds) (w : Work) : Type 0 where
+    pub held : places w.entries ≡ d.held
+    pub is : w ≡ work_of (record d { guess = w.guess; child = w.child; fails = w.fails }) w.entries w.commits
+
+  loosen : (e : Deeds) (g : List ℕ) (c : Option (List ℕ)) (f : Bool) (w : Work) → Told (record e { guess = g; child = c; fails = f }) w → Loosely e w
+  loosen e g c f w t = record {
+    held = t.held;
+    is = t.is ∙ (λ i. work_of (record e { guess = (sym t.is i).guess; child = (sym t.is i).child; fails = (sym t.is i).fails }) w.entries w.commits);
+  }
+
+  pub loose_start : (d : Deeds) (es : List Entry) (cs : List Commit) → places es ≡ d.held → Loosely d (work_of d es cs)
+  loose_start d es cs h = record { held = h; is = refl }
+
+  loose_op : (op : Op) (d : Deeds) (es : List Entry) (cs : List Commit) (g : List ℕ) (c : Option (List ℕ)) (f : Bool) → places es ≡ d.held → Fits op
+      → Loosely (Machine.deeds_after read op d) (work_after o op (work_of (record d { guess = g; child = c; fails = f }) es cs))
+  loose_op (Call args) d es cs g c f h k = record { held = h; is = refl }
+  loose_op (SpecCall args) d es cs g c f h k = record { held = h; is = refl }
+  loose_op (Verify args) d es cs g c f h k = at (same_args (values_of args d.env) d.guess) (same_args (values_of args d.env) g)
+    where
+      at : (a b : Bool) → Loosely (cond a d (record d { child = Some (values_of args d.env); fails = true }))
+          (cond b (work_of (record d { guess = g; child = c; fails = f }) es cs) (record (work_of (record d { guess = g; child = c; fails = f }) es cs) { child = Some (values_of args d.env); fails = true }))
+      at true true = record { held = h; is = refl }
+      at true false = record { held = h; is = refl }
+      at false true = record { held = h; is = refl }
+      at false false = record { held = h; is = refl }
+  loose_op op d es cs g c f h k = loosen (Machine.deeds_after read op d) g c f _ (told_op op (record d { guess = g; child = c; fails = f }) es cs h k tt)
+
+  pub loose_step : (b : Bool) (op : Op) (d : Deeds) (w : Work) → Fits op → Loosely d w → Loosely (cond b (Machine.deeds_after read op d) d) (cond b (work_after o op w) w)
+  loose_step true op d w k l =
+      subst (λ v. Loosely (Machine.deeds_after read op d) (work_after o op v)) (sym l.is) (loose_op op d w.entries w.commits w.guess w.child w.fails l.held k)
+  loose_step false op d w k l = l
+
+  pub loose_all : (xs : List Stmt) (d : Deeds) (w : Work) → AllFit xs → Loosely d w → Loosely (deeds_after_all read xs d) (do_all o xs w)
+  loose_all [] d w k l = l
+  loose_all (x ∷ xs) d w k l =
+      loose_all xs (if all_hold x.guards d.env then Machine.deeds_after read x.op d else d) (if all_hold x.guards w.env then work_after o x.op w else w) k.1
+      (subst (λ b. Loosely (if all_hold x.guards d.env then Machine.deeds_after read x.op d else d) (cond b (work_after o x.op w) w)) (ap (λ (v : Work). all_hold x.guards v.env) (sym l.is)) (loose_step (all_hold x.guards d.env) x.op d w k.0 l))
 
   pub told_step : (b : Bool) (op : Op) (d : Deeds) (es : List Entry) (cs : List Commit) → places es ≡ d.held → Fits op → (b ≡ true → Guesses op d) → Told (cond b (Machine.deeds_after read op d) d) (cond b (work_after o op (work_of d es cs)) (work_of d es cs))
   told_step true op d es cs h f c = told_op op d es cs h f (c refl)

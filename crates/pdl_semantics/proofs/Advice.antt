@@ -5,7 +5,7 @@ use Rattle.pdl_semantics.specs.Flat.{Arrays, Array, with_value, with_word, word_
 use Rattle.pdl_semantics.specs.Stages.{mem_at}
 use Rattle.pdl_semantics.specs.Sequential.{Run, run_after, run_all, thread, writes_from, seqwrites}
 use Rattle.pdl_semantics.specs.Cycle.{turns, commits, ended_in}
-use Rattle.pdl_semantics.specs.Promises.{IsPrefix, Refines, DifferInAdvice, AdviceIsIdle, reads_plainly, KeepsAdvice}
+use Rattle.pdl_semantics.specs.Promises.{IsPrefix, Refines, DifferInAdvice, AdviceIsIdle, fits_kind, KeepsAdvice}
 
 and_both : (b c : Bool) → (b && c) ≡ true → (b ≡ true) × (c ≡ true)
 and_both true c h = (refl, h)
@@ -31,7 +31,7 @@ alike_read p x m a r s h f = record {
   next = f.next;
 }
 
-alike_op : (p : Pipe) (op : Op) (r s : Run) → reads_plainly p op ≡ true → Alike p r s → Alike p (run_after op r) (run_after op s)
+alike_op : (p : Pipe) (op : Op) (r s : Run) → fits_kind p op ≡ true → Alike p r s → Alike p (run_after op r) (run_after op s)
 alike_op p (Bind x e) r s h f = record { arrays = f.arrays; env = ap (λ v. slice_set v x (value_of e v)) f.env; writes = f.writes; next = f.next }
 alike_op p (CombRead x m a) r s h f = alike_read p x m a r s h f
 alike_op p (DelayedRead x m a) r s h f = alike_read p x m a r s h f
@@ -50,14 +50,14 @@ alike_op p (Call args) r s h f = record { arrays = f.arrays; env = f.env; writes
 alike_op p (Verify args) r s h f = record { arrays = f.arrays; env = f.env; writes = f.writes; next = ap (values_of args) f.env }
 alike_op p _ r s h f = f
 
-alike_all : (p : Pipe) (xs : List Stmt) (r s : Run) → list_all (λ x. reads_plainly p x.op) xs ≡ true → Alike p r s → Alike p (run_all xs r) (run_all xs s)
+alike_all : (p : Pipe) (xs : List Stmt) (r s : Run) → list_all (λ x. fits_kind p x.op) xs ≡ true → Alike p r s → Alike p (run_all xs r) (run_all xs s)
 alike_all p [] r s h f = f
 alike_all p (x ∷ xs) r s h f =
-    let k = and_both (reads_plainly p x.op) _ h in
+    let k = and_both (fits_kind p x.op) _ h in
     alike_all p xs (if all_hold x.guards r.env then run_after x.op r else r) (if all_hold x.guards s.env then run_after x.op s else s) k.1
     (at (all_hold x.guards r.env) (all_hold x.guards s.env) (ap (all_hold x.guards) f.env) k.0)
   where
-    at : (b c : Bool) → b ≡ c → reads_plainly p x.op ≡ true → Alike p (cond b (run_after x.op r) r) (cond c (run_after x.op s) s)
+    at : (b c : Bool) → b ≡ c → fits_kind p x.op ≡ true → Alike p (cond b (run_after x.op r) r) (cond c (run_after x.op s) s)
     at true true e k = alike_op p x.op r s k f
     at true false e k = absurd (cc e)
     at false true e k = absurd (cc e)

@@ -3,7 +3,7 @@ use Rattle.std.proofs.Common.{◌≡◌, refl, sym, ap, ap₂, ◌∙◌, ℕ, B
 use Rattle.pdl_semantics.specs.Flat.{is_advisory, list_all, Op, Bind, CombRead, DelayedRead, Write, ReserveRead, ReserveWrite, Block, Release, Call, SpecCall, Verify, SpecCheck, SpecBarrier, AdviceBind, AdviceRead, AdviceWrite, Stmt, Pipe, all_hold, value_of, values_of}
 use Rattle.pdl_semantics.specs.Stages.{in_stage, mem_at}
 use Rattle.pdl_semantics.specs.Machine.{Deeds, Thread, deeds_after, deeds_after_all, deeds_with, held_after, held_before, is_held, same_args, with_kept, all_values}
-use Rattle.pdl_semantics.specs.Promises.{reads_plainly}
+use Rattle.pdl_semantics.specs.Promises.{fits_kind}
 
 -- the same but for advice, guesses, advisory writes and the successor
 pub record Alike (d e : Deeds) : Type 0 where
@@ -43,7 +43,7 @@ still d d' e e' h a b c f g i j k a' b' c' f' g' i' j' k' =
       barrier = k ∙ h.barrier ∙ sym k';
     }
 
-alike_op : (p : Pipe) (read other : ℕ → ℕ → ℕ) → SameWords p read other → (op : Op) → reads_plainly p op ≡ true → (d e : Deeds) → Alike d e → Alike (deeds_after read op d) (deeds_after other op e)
+alike_op : (p : Pipe) (read other : ℕ → ℕ → ℕ) → SameWords p read other → (op : Op) → fits_kind p op ≡ true → (d e : Deeds) → Alike d e → Alike (deeds_after read op d) (deeds_after other op e)
 alike_op p read other w (Bind x a) r d e h =
     record { env = ap (λ v. slice_set v x (value_of a v)) h.env; held = h.held; blocks = h.blocks; reserves = h.reserves; writes = h.writes; releases = h.releases; asks = h.asks; barrier = h.barrier }
 alike_op p read other w (CombRead x m a) r d e h =
@@ -128,14 +128,14 @@ alike_op p read other w (AdviceBind x a) r d e h = record { env = h.env; held = 
 alike_op p read other w (AdviceRead x m a) r d e h = record { env = h.env; held = h.held; blocks = h.blocks; reserves = h.reserves; writes = h.writes; releases = h.releases; asks = h.asks; barrier = h.barrier }
 alike_op p read other w (AdviceWrite m a v) r d e h = record { env = h.env; held = h.held; blocks = h.blocks; reserves = h.reserves; writes = h.writes; releases = h.releases; asks = h.asks; barrier = h.barrier }
 
-alike_all : (p : Pipe) (read other : ℕ → ℕ → ℕ) → SameWords p read other → (xs : List Stmt) → list_all (λ (x : Stmt). reads_plainly p x.op) xs ≡ true → (d e : Deeds) → Alike d e → Alike (deeds_after_all read xs d) (deeds_after_all other xs e)
+alike_all : (p : Pipe) (read other : ℕ → ℕ → ℕ) → SameWords p read other → (xs : List Stmt) → list_all (λ (x : Stmt). fits_kind p x.op) xs ≡ true → (d e : Deeds) → Alike d e → Alike (deeds_after_all read xs d) (deeds_after_all other xs e)
 alike_all p read other w [] r d e h = h
 alike_all p read other w (x ∷ xs) r d e h =
     alike_all p read other w xs k.1 (if all_hold x.guards d.env then deeds_after read x.op d else d) (if all_hold x.guards e.env then deeds_after other x.op e else e)
     (at (all_hold x.guards d.env) (all_hold x.guards e.env) (ap (all_hold x.guards) h.env))
   where
-    k : (reads_plainly p x.op ≡ true) × (list_all (λ (x : Stmt). reads_plainly p x.op) xs ≡ true)
-    k = and_both (reads_plainly p x.op) _ r
+    k : (fits_kind p x.op ≡ true) × (list_all (λ (x : Stmt). fits_kind p x.op) xs ≡ true)
+    k = and_both (fits_kind p x.op) _ r
 
     at : (b c : Bool) → b ≡ c → Alike (cond b (deeds_after read x.op d) d) (cond c (deeds_after other x.op e) e)
     at true true i = alike_op p read other w x.op k.0 d e h
@@ -144,7 +144,7 @@ alike_all p read other w (x ∷ xs) r d e h =
     at false false i = h
 
 -- a thread with other advice, another guess and other words in advisory memories does the same
-pub advice_apart : (p : Pipe) (read other : ℕ → ℕ → ℕ) → SameWords p read other → (s : ℕ) → list_all (λ (x : Stmt). reads_plainly p x.op) (in_stage s p.stmts) ≡ true → (t u : Thread) → t.env ≡ u.env → t.kept ≡ u.kept
+pub advice_apart : (p : Pipe) (read other : ℕ → ℕ → ℕ) → SameWords p read other → (s : ℕ) → list_all (λ (x : Stmt). fits_kind p x.op) (in_stage s p.stmts) ≡ true → (t u : Thread) → t.env ≡ u.env → t.kept ≡ u.kept
     → Alike (deeds_with read p s t) (deeds_with other p s u)
 advice_apart p read other w s r t u e k =
     alike_all p read other w (in_stage s p.stmts) r _ _
