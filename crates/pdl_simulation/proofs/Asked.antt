@@ -7,6 +7,7 @@ use Rattle.pdl_semantics.specs.Machine.{Ask, Awaited, Request, NoRequest, Owned,
 use Rattle.pdl_semantics.specs.Locks.{has_room}
 use Rattle.pdl_semantics.specs.Moves.{movers, is_empty, block_ready}
 use Rattle.pdl_semantics.specs.Cycle.{awaited_of, asked_of, asked_by, asked_in, address_of, request_left, is_kept}
+use Rattle.pdl_semantics.specs.Promises.{DifferInAdvice}
 use Rattle.pdl_derived.specs.Derived.{Work, awaits_mem, asked_at, find_ask, asks_of, next_ask, port_free, still, around}
 use Rattle.pdl_derived.specs.Derived
 use Rattle.pdl_facts.specs.Scans.{none_of}
@@ -14,8 +15,8 @@ use Rattle.pdl_simulation.proofs.FlowFacts.{Flows}
 use Rattle.pdl_derived.proofs.Writes.{and_left, and_right}
 use Rattle.pdl_derived.proofs.Slots.{rev}
 use Rattle.pdl_simulation.proofs.Stretches.{Behind, AsksFrom}
-use Rattle.pdl_simulation.proofs.Seats.{Live, Ordered, dacts, lacts, lact, did, work_of_live, deeds_of}
-use Rattle.pdl_simulation.proofs.Choices.{has_owner, Matched, one_stage, Known, AllKnown, told_here, asks_here}
+use Rattle.pdl_simulation.proofs.Seats.{advised, Live, Ordered, dacts, lacts, lact, did, work_of_live, deeds_of}
+use Rattle.pdl_simulation.proofs.Choices.{has_owner, Matched, one_stage, Known, AllKnown, like_here, asks_here}
 use Rattle.pdl_simulation.proofs.Telling.{someone, behind_someone}
 use Rattle.pdl_simulation.proofs.Turned.{fell, moved_live, stood, next_live, go_on, Agrees}
 use Rattle.pdl_simulation.proofs.Onward.{stuck_here, born_live}
@@ -146,14 +147,14 @@ still_awaits p bits (r ∷ rs) m h e = at (r.mem == m) refl h (λ i. still_await
         by true = f i
         by false = ap (λ c. (r.mem == m) || c) (f i) ∙ or_true (r.mem == m)
 
-module _ (p : Pipe) (flows : Flows p) (st : State) (d : Derived.State) (bits : List Bool) (arrays : st.arrays ≡ d.arrays) where
+module _ (p : Pipe) (flows : Flows p) (st : State) (d : Derived.State) (bits : List Bool) (arrays : DifferInAdvice p st.arrays d.arrays) where
   -- the thread that asks for m in this cycle
   abbrev pub asking : List Live → ℕ → Option Asker
   asking [] m = None
   asking (l ∷ ls) m = if (did p d bits ls l).moves then first_of (find_ask (work_of_live p d bits ls l).asks m) l.number (asking ls m) else asking ls m
 
   pub asks_are : (ls : List Live) (l : Live) → Known p flows st d bits arrays ls l → (deeds_of p st bits l).asks ≡ (work_of_live p d bits ls l).asks
-  asks_are ls l k = ap (λ (w : Work). w.asks) (sym (told_here p flows st d bits arrays ls l k).is)
+  asks_are ls l k = ap (λ (w : Work). w.asks) (sym (like_here p flows st d bits arrays ls l k).is)
 
   pub asked_is : (m : ℕ) (old : Request) (ls : List Live) → AllKnown p flows st d bits arrays ls → asked_by m (movers (lacts p st d bits ls)) old ≡ owned_by (asking ls m) old
   asked_is m old [] k = refl
@@ -234,8 +235,8 @@ module _ (p : Pipe) (flows : Flows p) (st : State) (d : Derived.State) (bits : L
   ports_were_free : (ls : List Live) (l : Live) → Known p flows st d bits arrays ls l → (did p d bits ls l).moves ≡ true → list_all (λ q. port_free p d bits (dacts p d bits ls) q.mem) (deeds_of p st bits l).asks ≡ true
   ports_were_free ls l k i =
       let ready : (work_of_live p d bits ls l).ready ≡ true = and_right _ _ (and_left _ _ (and_left _ _ (and_left _ _ i))) in
-      let all : (((list_all (λ b. block_ready p st l.number b) (deeds_of p st bits l).blocks) && list_all (λ q. port_free p d bits (dacts p d bits ls) q.mem) (deeds_of p st bits l).asks) && (not (deeds_of p st bits l).barrier || (around p d bits (dacts p d bits ls) l.thread.stage).clear)) ≡ true =
-      ap (λ (w : Work). w.ready) (sym (told_here p flows st d bits arrays ls l k).is) ∙ ready in
+      let all : (((list_all (λ b. block_ready p st l.number b) (deeds_of p st bits l).blocks) && list_all (λ q. port_free p d bits (dacts p d bits ls) q.mem) (deeds_of p st bits l).asks) && (not (deeds_of p st bits l).barrier || (around p d bits (dacts p d bits ls) l.thread.stage l.thread.hint).clear)) ≡ true =
+      ap (λ (w : Work). w.ready) (sym (like_here p flows st d bits arrays ls l k).is) ∙ ready in
       and_right _ _ (and_left _ _ all)
 
   -- whose port is free
@@ -278,7 +279,7 @@ module _ (p : Pipe) (flows : Flows p) (st : State) (d : Derived.State) (bits : L
       number_is : (x : ℕ) → Some (record { number = l.number; address = x }) ≡ Some a → l.number ≡ a.number
       number_is x i = cc
 
-      goes : (x : ℕ) → find_ask (work_of_live p d bits ls l).asks m ≡ Some x → (r : Option ℕ) → goes_to (stage_at p l.thread.stage).next (work_of_live p d bits ls l).env ≡ r → has_owner l.number m (moved_live r l (work_of_live p d bits ls l)) ≡ true
+      goes : (x : ℕ) → find_ask (work_of_live p d bits ls l).asks m ≡ Some x → (r : Option ℕ) → goes_to (stage_at p l.thread.stage).next (work_of_live p d bits ls l).env ≡ r → has_owner l.number m (moved_live r (advised p st bits l) (work_of_live p d bits ls l)) ≡ true
       goes x f None i =
           absurd (cc (sym (asks_at ls l k.0 m x f) ∙ none_fetches m (in_stage l.thread.stage p.stmts) (flows.fetch_inside l.thread.stage (flows.graph.last l.thread.stage (work_of_live p d bits ls l).env k.0.seated.keeps_on.inside i).0)))
       goes x f (Some q) i = ap₂ (λ b c. (b && c) || false) (eq-eqb _ _ refl) (awaits_found (work_of_live p d bits ls l).asks m ∙ ap is_some f)
@@ -290,7 +291,7 @@ module _ (p : Pipe) (flows : Flows p) (st : State) (d : Derived.State) (bits : L
             ∙ owner_append a.number m (next_live p st d bits ls l) (go_on p st d bits ls)
             ∙ ap (λ b. b || has_owner a.number m (go_on p st d bits ls))
             (subst (λ n. has_owner n m (next_live p st d bits ls l) ≡ true) j
-            (ap (λ b. has_owner l.number m (cond b (moved_live (goes_to (stage_at p l.thread.stage).next (work_of_live p d bits ls l).env) l (work_of_live p d bits ls l)) (stood p st d bits l ∷ []))) i ∙ goes x f (goes_to (stage_at p l.thread.stage).next (work_of_live p d bits ls l).env) refl)),
+            (ap (λ b. has_owner l.number m (cond b (moved_live (goes_to (stage_at p l.thread.stage).next (work_of_live p d bits ls l).env) (advised p st bits l) (work_of_live p d bits ls l)) (stood p st d bits l ∷ []))) i ∙ goes x f (goes_to (stage_at p l.thread.stage).next (work_of_live p d bits ls l).env) refl)),
       )
 
       at : (b : Bool) → (did p d bits ls l).moves ≡ b → (o : Option ℕ) → find_ask (work_of_live p d bits ls l).asks m ≡ o → cond b (first_of o l.number (asking ls m)) (asking ls m) ≡ Some a
@@ -326,7 +327,7 @@ module _ (p : Pipe) (flows : Flows p) (st : State) (d : Derived.State) (bits : L
 
       mine : l.number ≡ n → awaits_mem l.thread.awaits m ≡ true → has_owner n m (go_on p st d bits (l ∷ ls)) ≡ true
       mine i j =
-          ap₂ (λ f b. has_owner n m ((if f then [] else cond b (moved_live (goes_to (stage_at p l.thread.stage).next (work_of_live p d bits ls l).env) l (work_of_live p d bits ls l)) (stood p st d bits l ∷ [])) ++ go_on p st d bits ls)) (firm i (fell p d bits ls) refl) (waits_stand ls l m j e)
+          ap₂ (λ f b. has_owner n m ((if f then [] else cond b (moved_live (goes_to (stage_at p l.thread.stage).next (work_of_live p d bits ls l).env) (advised p st bits l) (work_of_live p d bits ls l)) (stood p st d bits l ∷ [])) ++ go_on p st d bits ls)) (firm i (fell p d bits ls) refl) (waits_stand ls l m j e)
           ∙ ap₂ (λ b c. (b && c) || has_owner n m (go_on p st d bits ls)) (eq-eqb _ _ i) (still_awaits p bits l.thread.awaits m j e)
 
       at : (b : Bool) → (l.number == n) ≡ b → (c : Bool) → awaits_mem l.thread.awaits m ≡ c → ((b && c) || has_owner n m ls) ≡ true → (has_owner n m ls ≡ true → has_owner n m (go_on p st d bits ls) ≡ true) → has_owner n m (go_on p st d bits (l ∷ ls)) ≡ true
@@ -343,25 +344,25 @@ module _ (p : Pipe) (flows : Flows p) (st : State) (d : Derived.State) (bits : L
   asked_now ls m = next_ask (address_for (asking ls m)) (is_answered p bits m) (asked_at d m)
 
   pub matched_next : (m n : ℕ) (c : Option (List ℕ)) (sq : Option ℕ) (ls : List Live) → AllKnown p flows st d bits arrays ls → Agrees p d bits sq ls → Matched (request_of st m) (asked_at d m) m ls
-      → Matched (request_now sq ls m) (asked_now ls m) m (born_live p n c ++ go_on p st d bits ls)
+      → Matched (request_now sq ls m) (asked_now ls m) m (born_live p (d.hints 0) n c ++ go_on p st d bits ls)
   matched_next m n c sq ls k g h = at (asking ls m) refl
     where
-      old : (q : Request) → request_of st m ≡ q → Matched q (asked_at d m) m ls → is_answered p bits m ≡ false → Matched (request_left sq q) (asked_at d m) m (born_live p n c ++ go_on p st d bits ls)
+      old : (q : Request) → request_of st m ≡ q → Matched q (asked_at d m) m ls → is_answered p bits m ≡ false → Matched (request_left sq q) (asked_at d m) m (born_live p (d.hints 0) n c ++ go_on p st d bits ls)
       old NoRequest e h i = h
       old (Orphan a) e h i = h
       old (Owned w a) e h i = by (is_kept sq w) refl
         where
-          by : (b : Bool) → is_kept sq w ≡ b → Matched (if b then Owned w a else Orphan a) (asked_at d m) m (born_live p n c ++ go_on p st d bits ls)
-          by true j = (h.0, owner_behind w m (born_live p n c) (go_on p st d bits ls) (owner_stays w m sq ls k g h.1 i j))
+          by : (b : Bool) → is_kept sq w ≡ b → Matched (if b then Owned w a else Orphan a) (asked_at d m) m (born_live p (d.hints 0) n c ++ go_on p st d bits ls)
+          by true j = (h.0, owner_behind w m (born_live p (d.hints 0) n c) (go_on p st d bits ls) (owner_stays w m sq ls k g h.1 i j))
           by false j = h.0
 
-      at : (r : Option Asker) → asking ls m ≡ r → Matched (request_left sq (owned_by r (if is_answered p bits m then NoRequest else request_of st m))) (next_ask (address_for r) (is_answered p bits m) (asked_at d m)) m (born_live p n c ++ go_on p st d bits ls)
+      at : (r : Option Asker) → asking ls m ≡ r → Matched (request_left sq (owned_by r (if is_answered p bits m then NoRequest else request_of st m))) (next_ask (address_for r) (is_answered p bits m) (asked_at d m)) m (born_live p (d.hints 0) n c ++ go_on p st d bits ls)
       at (Some a) e =
           let l = asker_lives m a sq ls k g e in
-          subst (λ b. Matched (if b then Owned a.number a.address else Orphan a.address) (Some a.address) m (born_live p n c ++ go_on p st d bits ls)) (sym l.0)
-          (refl, owner_behind a.number m (born_live p n c) (go_on p st d bits ls) l.1)
+          subst (λ b. Matched (if b then Owned a.number a.address else Orphan a.address) (Some a.address) m (born_live p (d.hints 0) n c ++ go_on p st d bits ls)) (sym l.0)
+          (refl, owner_behind a.number m (born_live p (d.hints 0) n c) (go_on p st d bits ls) l.1)
       at None e = by (is_answered p bits m) refl
         where
-          by : (b : Bool) → is_answered p bits m ≡ b → Matched (request_left sq (if b then NoRequest else request_of st m)) (if b then None else asked_at d m) m (born_live p n c ++ go_on p st d bits ls)
+          by : (b : Bool) → is_answered p bits m ≡ b → Matched (request_left sq (if b then NoRequest else request_of st m)) (if b then None else asked_at d m) m (born_live p (d.hints 0) n c ++ go_on p st d bits ls)
           by true i = refl
           by false i = old (request_of st m) refl h i

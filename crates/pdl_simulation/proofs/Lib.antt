@@ -1,6 +1,7 @@
 pub mod FlowFacts
 pub mod Shapes
 pub mod Stretches
+pub mod Guessing
 pub mod Seats
 pub mod Choices
 pub mod Telling
@@ -12,7 +13,9 @@ pub mod Placed
 pub mod Asked
 pub mod PerMemory
 pub mod Simulated
+pub mod Advising
 pub mod Together
+pub mod Foretold
 pub mod Swapped
 pub mod Forked
 pub mod Flowing
