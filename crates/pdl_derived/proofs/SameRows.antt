@@ -11,7 +11,7 @@ use Rattle.pdl_semantics.specs.Lines
 use Rattle.pdl_semantics.specs.Machine.{Ask}
 use Rattle.pdl_semantics.specs.Cycle.{PortWrite, commits_shown, turns}
 use Rattle.pdl_semantics.specs.Cycle
-use Rattle.pdl_semantics.proofs.Pipes.{two_writes, two_writes_apart, one_stage, two_stages, under_guard, shared_guard, count_up, count_late, guess, guess_reserved, copy, copy_guessed, two_branches, one_branch, count_slow, barrier, far_barrier}
+use Rattle.pdl_semantics.proofs.Pipes.{two_writes, two_writes_apart, one_stage, two_stages, under_guard, shared_guard, count_up, count_late, guess, guess_learnt, guess_kept, guess_reserved, copy, copy_guessed, two_branches, one_branch, count_slow, barrier, far_barrier}
 use Rattle.pdl_semantics.proofs.Texts.{variable}
 use Rattle.pdl_semantics.proofs.MachineRows.{zeros, idle, bits, copied}
 use Rattle.pdl_derived.specs.Derived
@@ -75,6 +75,10 @@ guess_ports : all_true (both_agree (guess 1) (zeros ∷ []) (idle 12) ∷ both_a
     ∷ both_agree barrier (zeros ∷ []) (idle 6) ∷ both_agree far_barrier (zeros ∷ []) (idle 12) ∷ []) ≡ true
 unfolding add slice zext
 guess_ports = refl
+
+advice_ports : all_true (both_agree guess_learnt (zeros ∷ zeros ∷ []) (idle 14) ∷ both_agree guess_learnt ((2 ∷ 0 ∷ 2 ∷ 0 ∷ []) ∷ zeros ∷ []) (idle 12) ∷ both_agree guess_kept (zeros ∷ zeros ∷ []) (idle 14) ∷ both_agree guess_kept ((2 ∷ 0 ∷ 0 ∷ 0 ∷ []) ∷ zeros ∷ []) (idle 12) ∷ []) ≡ true
+unfolding add slice zext
+advice_ports = refl
 
 delayed_ports : all_true (both_agree copy copied mixed ∷ both_agree copy_guessed copied mixed ∷ both_agree count_slow ((0 ∷ 0 ∷ []) ∷ []) mixed ∷ []) ≡ true
 unfolding add slice zext
