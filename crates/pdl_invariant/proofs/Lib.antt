@@ -4,6 +4,7 @@ pub mod Past
 pub mod Trails
 pub mod Local
 pub mod Fading
+pub mod Guessed
 pub mod Stage
 pub mod Lasting
 pub mod Reached

@@ -3,7 +3,7 @@ use Rattle.std.proofs.Common.{◌≡◌, ◌≢◌, refl, sym, ap, ap₂, ◌∙
 use Rattle.std.proofs.lemmas.List.{get_or-set_other, length-replicate}
 use Rattle.std.proofs.lemmas.Bool.{ne_eqb}
 use Rattle.std.proofs.lemmas.List.Recursion.{is_count_by}
-use Rattle.pdl_semantics.specs.Flat.{Op, Bind, CombRead, DelayedRead, Write, ReserveRead, ReserveWrite, Block, Release, Call, SpecCall, Verify, SpecCheck, SpecBarrier, Stmt, Pipe, Forks, values_of, all_hold, start_env}
+use Rattle.pdl_semantics.specs.Flat.{Op, Bind, CombRead, DelayedRead, Write, ReserveRead, ReserveWrite, Block, Release, Call, SpecCall, Verify, SpecCheck, SpecBarrier, AdviceBind, AdviceRead, AdviceWrite, Stmt, Pipe, Forks, values_of, all_hold, start_env}
 use Rattle.pdl_semantics.specs.Stages.{list_any, onpath, in_stage, stage_at, goes_to}
 use Rattle.pdl_semantics.specs.Machine.{Ask, Awaited, Kept, same_args, with_kept, State, answer_for, kept_answer, unanswered_reads}
 use Rattle.pdl_semantics.specs.Cycle.{awaited_of}
@@ -58,6 +58,9 @@ asks_op o (Release m a) w = sym (append-nil _)
 asks_op o (Call args) w = sym (append-nil _)
 asks_op o (SpecCall args) w = sym (append-nil _)
 asks_op o SpecCheck w = sym (append-nil _)
+asks_op o (AdviceBind x' e') w = sym (append-nil _)
+asks_op o (AdviceRead x' m' a') w = sym (append-nil _)
+asks_op o (AdviceWrite m' a' e') w = sym (append-nil _)
 asks_op o SpecBarrier w = sym (append-nil _)
 
 -- what a stage asks for
@@ -84,6 +87,9 @@ fetch_one (Call args) = refl
 fetch_one (SpecCall args) = refl
 fetch_one (Verify args) = refl
 fetch_one SpecCheck = refl
+fetch_one (AdviceBind x' e') = refl
+fetch_one (AdviceRead x' m' a') = refl
+fetch_one (AdviceWrite m' a' e') = refl
 fetch_one SpecBarrier = refl
 
 -- whether a read of m into x is awaited or kept
@@ -285,8 +291,8 @@ module _ (p : Pipe) (st : State) (bits : List Bool) (n : ℕ) where
 start_long : (p : Pipe) (args : List ℕ) → p.vars ≤ length (start_env p args)
 start_long p args = subst (λ n. p.vars ≤ n) (sym (length-append args _ ∙ ap (λ n. length args + n) (length-replicate _ 0))) (omega arith)
 
-pub local_fresh : (p : Pipe) (flows : Flows p) (args : List ℕ) → Local p (start_env p args) [] (Derived.fresh p args)
-local_fresh p flows args =
+pub local_fresh : (p : Pipe) (flows : Flows p) (hint args : List ℕ) → Local p (start_env p args) [] (Derived.fresh p hint args)
+local_fresh p flows hint args =
     record {
       long = start_long p args;
       trail = [];
@@ -311,7 +317,7 @@ all_flip P [] f = tt
 all_flip P (q ∷ qs) f = ((λ a. (f a).0), all_flip P qs (λ a. (f a).1))
 
 -- no call among statements
-uncalled : (c : Bool) (xs : List Stmt) (past : List Op) → called c xs ≡ false → (c ≡ false → AllOps (λ op. is_call op ≡ false) past) → AllOps (λ op. is_call op ≡ false) (onto xs past)
+pub uncalled : (c : Bool) (xs : List Stmt) (past : List Op) → called c xs ≡ false → (c ≡ false → AllOps (λ op. is_call op ≡ false) past) → AllOps (λ op. is_call op ≡ false) (onto xs past)
 uncalled c [] past h f = f h
 uncalled c (x ∷ xs) past h f = uncalled (c || is_call x.op) xs (x.op ∷ past) h (λ e. both c (is_call x.op) e f)
   where
@@ -363,7 +369,7 @@ module _ (p : Pipe) (flows : Flows p) (sound : Sound p) (strict : Strict p) (o :
         blocks = blocks;
       }
 
-  whole_way : onpath (work_of_stage p o t).env p.stmts ≡ (on_way p env t.stage ++ onpath (work_of_stage p o t).env (in_stage t.stage p.stmts)) ++ onpath (work_of_stage p o t).env (stages_from (next_of p t.stage (work_of_stage p o t).env) p.stmts)
+  pub whole_way : onpath (work_of_stage p o t).env p.stmts ≡ (on_way p env t.stage ++ onpath (work_of_stage p o t).env (in_stage t.stage p.stmts)) ++ onpath (work_of_stage p o t).env (stages_from (next_of p t.stage (work_of_stage p o t).env) p.stmts)
   whole_way = flows.all_pieces (work_of_stage p o t).env (next_of p t.stage (work_of_stage p o t).env) ∙ ap (λ l. l ++ onpath (work_of_stage p o t).env (stages_from (next_of p t.stage (work_of_stage p o t).env) p.stmts)) (way_next p flows env t kept_answer o)
 
   -- and at its end
@@ -432,7 +438,7 @@ module _ (p : Pipe) (flows : Flows p) (sound : Sound p) (strict : Strict p) (o :
     held_awaited z h x m a e = ap (λ l. held_in [] l x m) asks_here ∙ h x m a e
 
     pub local_moved : AllOps (BlockOk o t.env t.entries (past_of p env t.stage)) (past_of p env t.stage)
-        → Local p (work_of_stage p o t).env [] (record { stage = q; env = (work_of_stage p o t).env; entries = (work_of_stage p o t).entries; guess = (work_of_stage p o t).guess; awaits = awaited_of (work_of_stage p o t).asks })
+        → Local p (work_of_stage p o t).env [] (record { stage = q; hint = t.hint; env = (work_of_stage p o t).env; entries = (work_of_stage p o t).entries; guess = (work_of_stage p o t).guess; awaits = awaited_of (work_of_stage p o t).asks })
     local_moved blocks =
         let e = past_end blocks in
         record {

@@ -6,6 +6,7 @@ use Rattle.pdl_semantics.specs.Machine.{State, Pending, lock_of}
 use Rattle.pdl_semantics.specs.Moves.{Act, all_acts, movers}
 use Rattle.pdl_semantics.specs.Cycle.{first, state_after, with_reserves, all_releases}
 use Rattle.pdl_derived.specs.Derived
+use Rattle.pdl_derived.specs.Simulation.{hints_of}
 use Rattle.pdl_facts.specs.Facts.{Sound}
 use Rattle.pdl_simulation.proofs.Joined.{sound_flows}
 use Rattle.pdl_simulation.proofs.Seats.{Live, pends, lact, lacts}
@@ -81,16 +82,16 @@ module _ (p : Pipe) (sound : Sound p) (st : State) (d : Derived.State) (bits : L
 
 module _ (p : Pipe) (sound : Sound p) (strict : Strict p) (image : Arrays) (schedule : List (List Bool)) where
   pub ordered_here : (m : ℕ) → AreOrdered 0 (lock_of (state_after p (first p image) schedule) m)
-  ordered_here m = let r = reached p sound strict image schedule in list_ordered p sound (state_after p (first p image) schedule) (Derived.state_after p (Derived.first p image) schedule) [] r.0 r.1 m
+  ordered_here m = let r = reached p sound strict image schedule in list_ordered p sound (state_after p (first p image) schedule) (Derived.state_after p (Derived.first p image (hints_of p (first p image) schedule)) schedule) [] r.0 r.1 m
 
   pub older_here : (bits : List Bool) (m : ℕ) → AllActs (FindsOlder (state_after p (first p image) schedule) m (reserve_stage p m)) (all_acts p (state_after p (first p image) schedule) bits)
-  older_here bits m = let r = reached p sound strict image schedule in finds_older p sound (state_after p (first p image) schedule) (Derived.state_after p (Derived.first p image) schedule) bits r.0 r.1 m
+  older_here bits m = let r = reached p sound strict image schedule in finds_older p sound (state_after p (first p image) schedule) (Derived.state_after p (Derived.first p image (hints_of p (first p image) schedule)) schedule) bits r.0 r.1 m
 
   pub reserves_here : (bits : List Bool) (m : ℕ) → Reserves p (state_after p (first p image) schedule) bits m
-  reserves_here bits m = let r = reached p sound strict image schedule in reserves p sound (state_after p (first p image) schedule) (Derived.state_after p (Derived.first p image) schedule) bits r.0 r.1 m
+  reserves_here bits m = let r = reached p sound strict image schedule in reserves p sound (state_after p (first p image) schedule) (Derived.state_after p (Derived.first p image (hints_of p (first p image) schedule)) schedule) bits r.0 r.1 m
 
   pub places_here : (bits : List Bool) (m : ℕ) → AllActs (KeepsPlace p (state_after p (first p image) schedule) bits m) (all_acts p (state_after p (first p image) schedule) bits)
-  places_here bits m = let r = reached p sound strict image schedule in places p sound (state_after p (first p image) schedule) (Derived.state_after p (Derived.first p image) schedule) bits r.0 r.1 m
+  places_here bits m = let r = reached p sound strict image schedule in places p sound (state_after p (first p image) schedule) (Derived.state_after p (Derived.first p image (hints_of p (first p image) schedule)) schedule) bits r.0 r.1 m
 
   pub shifts_here : (bits : List Bool) (m : ℕ) → AllActs (ShiftsPlace p (state_after p (first p image) schedule) bits m) (all_acts p (state_after p (first p image) schedule) bits)
-  shifts_here bits m = let r = reached p sound strict image schedule in shifts p sound (state_after p (first p image) schedule) (Derived.state_after p (Derived.first p image) schedule) bits r.0 r.1 m
+  shifts_here bits m = let r = reached p sound strict image schedule in shifts p sound (state_after p (first p image) schedule) (Derived.state_after p (Derived.first p image (hints_of p (first p image) schedule)) schedule) bits r.0 r.1 m

@@ -3,7 +3,7 @@ use Rattle.std.proofs.Common.{◌≡◌, refl, sym, ap, ap₂, ◌∙◌, subst,
 use Rattle.std.proofs.lemmas.List.{get_or-set_other, get_or-set_same, length-set}
 use Rattle.std.proofs.lemmas.Bool.{eqb-true, not-true, or_parts, or_right, or_left}
 use Rattle.pdl_word.specs.Words
-use Rattle.pdl_semantics.specs.Flat.{Op, Bind, CombRead, DelayedRead, Write, ReserveRead, ReserveWrite, Block, Release, Call, SpecCall, Verify, SpecCheck, SpecBarrier, Expr, Constant, Variable, Slice, Not, Binary, Cat, LessSigned, ZeroExtend, SignExtend, Choose, Stmt, value_of, values_of, operator_value, all_hold}
+use Rattle.pdl_semantics.specs.Flat.{Op, Bind, CombRead, DelayedRead, Write, ReserveRead, ReserveWrite, Block, Release, Call, SpecCall, Verify, SpecCheck, SpecBarrier, AdviceBind, AdviceRead, AdviceWrite, Expr, Constant, Variable, Slice, Not, Binary, Cat, LessSigned, ZeroExtend, SignExtend, Choose, Stmt, value_of, values_of, operator_value, all_hold}
 use Rattle.pdl_semantics.specs.Stages.{onpath, is_release}
 use Rattle.pdl_semantics.specs.Machine.{Ask, same_args}
 use Rattle.pdl_semantics.specs.Sound.{is_release_at, is_call}
@@ -91,7 +91,6 @@ values_agree (e ∷ es) env env' f = ap₂ (λ a l. a ∷ l) (value_agree e env 
 -- what a statement gave
 abbrev pub Done : List ℕ → List ℕ → Op → Type 0
 Done env guess (Bind x e) = slice_index env x ≡ value_of e env
-Done env guess (SpecCall args) = guess ≡ values_of args env
 Done env guess _ = Unit {0}
 
 -- values agree on what a statement hangs on
@@ -100,34 +99,12 @@ Agrees op env env' = (g : ℕ) → touches g op ≡ true → slice_index env g �
 
 pub done_agrees : (env env' guess : List ℕ) (op : Op) → Agrees op env env' → Done env guess op → Done env' guess op
 done_agrees env env' guess (Bind x e) f h = sym (f x (or_left _ _ (eq-eqb x x refl))) ∙ h ∙ value_agree e env env' (λ g k. f g (or_right (x == g) _ k))
-done_agrees env env' guess (SpecCall args) f h = h ∙ values_agree args env env' f
-done_agrees env env' guess (CombRead x m a) f h = tt
-done_agrees env env' guess (DelayedRead x m a) f h = tt
-done_agrees env env' guess (Write m a e) f h = tt
-done_agrees env env' guess (ReserveRead m a) f h = tt
-done_agrees env env' guess (ReserveWrite m a) f h = tt
-done_agrees env env' guess (Block m a) f h = tt
-done_agrees env env' guess (Release m a) f h = tt
-done_agrees env env' guess (Call args) f h = tt
-done_agrees env env' guess (Verify args) f h = tt
-done_agrees env env' guess SpecCheck f h = tt
-done_agrees env env' guess SpecBarrier f h = tt
+done_agrees env env' guess _ f h = tt
 
--- only a speculative call hangs on the guess
-done_guess : (env guess guess' : List ℕ) (op : Op) → is_call op ≡ false → Done env guess op → Done env guess' op
-done_guess env guess guess' (SpecCall args) k h = absurd (cc k)
-done_guess env guess guess' (Bind x e) k h = h
-done_guess env guess guess' (CombRead x m a) k h = tt
-done_guess env guess guess' (DelayedRead x m a) k h = tt
-done_guess env guess guess' (Write m a e) k h = tt
-done_guess env guess guess' (ReserveRead m a) k h = tt
-done_guess env guess guess' (ReserveWrite m a) k h = tt
-done_guess env guess guess' (Block m a) k h = tt
-done_guess env guess guess' (Release m a) k h = tt
-done_guess env guess guess' (Call args) k h = tt
-done_guess env guess guess' (Verify args) k h = tt
-done_guess env guess guess' SpecCheck k h = tt
-done_guess env guess guess' SpecBarrier k h = tt
+-- that doesn't hang on the guess
+done_guess : (env guess guess' : List ℕ) (op : Op) → Done env guess op → Done env guess' op
+done_guess env guess guess' (Bind x e) h = h
+done_guess env guess guess' _ h = tt
 
 -- what no statement has to do with, none hangs on
 mention_touch : (x : ℕ) (op : Op) → mentions_var x op ≡ false → touches x op ≡ false
@@ -143,6 +120,9 @@ mention_touch x (Call args) h = h
 mention_touch x (SpecCall args) h = h
 mention_touch x (Verify args) h = h
 mention_touch x SpecCheck h = h
+mention_touch x (AdviceBind x' e') h = h
+mention_touch x (AdviceRead x' m' a') h = h
+mention_touch x (AdviceWrite m' a' e') h = h
 mention_touch x SpecBarrier h = h
 
 pub untouched : (x : ℕ) (ops : List Op) → is_mentioned x ops ≡ false → AllOps (λ op. touches x op ≡ false) ops
@@ -238,6 +218,9 @@ block_set o x v env es past (Call args) t h = tt
 block_set o x v env es past (SpecCall args) t h = tt
 block_set o x v env es past (Verify args) t h = tt
 block_set o x v env es past SpecCheck t h = tt
+block_set o x v env es past (AdviceBind x' e') t h = tt
+block_set o x v env es past (AdviceRead x' m' a') t h = tt
+block_set o x v env es past (AdviceWrite m' a' e') t h = tt
 block_set o x v env es past SpecBarrier t h = tt
 
 -- the same with more pending writes, or fewer, where each location that is none any more is released
@@ -263,6 +246,9 @@ block_more o env es es' past past' (Call args) f g h = tt
 block_more o env es es' past past' (SpecCall args) f g h = tt
 block_more o env es es' past past' (Verify args) f g h = tt
 block_more o env es es' past past' SpecCheck f g h = tt
+block_more o env es es' past past' (AdviceBind x' e') f g h = tt
+block_more o env es es' past past' (AdviceRead x' m' a') f g h = tt
+block_more o env es es' past past' (AdviceWrite m' a' e') f g h = tt
 block_more o env es es' past past' SpecBarrier f g h = tt
 
 -- one more statement was carried out
@@ -368,12 +354,12 @@ module _ (o : Around) (vars : ℕ) (kind : Kind o) where
       }
 
   call_step : (args : List Expr) (past : List Op) (w : Work) → AllAsks (λ q. mentions_var q.var (SpecCall args) ≡ false) w.asks → AllOps (λ op. is_call op ≡ false) past → Past o vars past w
-      → Past o vars (SpecCall args ∷ past) (record w { child = Some (values_of args w.env); guess = values_of args w.env })
+      → Past o vars (SpecCall args ∷ past) (record w { child = Some o.guess; guess = o.guess })
   call_step args past w silent none h =
       let g = still_step SpecCheck past w (all_more (λ q. mentions_var q.var (SpecCall args) ≡ false) (λ q. mentions_var q.var SpecCheck ≡ false) w.asks (λ q k. refl) silent) tt tt h in
       record {
         long = h.long;
-        done = (refl, ops_both (λ op n d. done_guess w.env w.guess (values_of args w.env) op n d) past none h.done);
+        done = (tt, ops_map (λ op d. done_guess w.env w.guess o.guess op d) past h.done);
         placed = placed_more w.env past (SpecCall args) w.entries h.placed;
         asked = all_more (AskedBy w.env past) (AskedBy w.env (SpecCall args ∷ past)) w.asks (λ q k. inr k) h.asked;
         unused = all_more (λ q. (mentions_var q.var (SpecCall args) ≡ false) × AllOps (λ o'. touches q.var o' ≡ false) past) (λ q. AllOps (λ o'. touches q.var o' ≡ false) (SpecCall args ∷ past)) w.asks (λ q k. (k.0, k.1)) (all_both (λ q. mentions_var q.var (SpecCall args) ≡ false) (λ q. AllOps (λ o'. touches q.var o' ≡ false) past) w.asks silent h.unused);
@@ -439,6 +425,9 @@ module _ (o : Around) (vars : ℕ) (kind : Kind o) where
       at true = still_step (Verify args) past w silent tt tt h
       at false = same_past (Verify args ∷ past) w (record w { child = Some (values_of args w.env); fails = true }) refl refl refl refl (still_step (Verify args) past w silent tt tt h)
   past_step SpecCheck past w new own silent calls ready h = still_step SpecCheck past w silent tt tt h
+  past_step (AdviceBind x' e') past w new own silent calls ready h = still_step (AdviceBind x' e') past w silent tt tt h
+  past_step (AdviceRead x' m' a') past w new own silent calls ready h = still_step (AdviceRead x' m' a') past w silent tt tt h
+  past_step (AdviceWrite m' a' e') past w new own silent calls ready h = still_step (AdviceWrite m' a' e') past w silent tt tt h
   past_step SpecBarrier past w new own silent calls ready h = same_past (SpecBarrier ∷ past) w (work_after o SpecBarrier w) refl refl refl refl (still_step SpecBarrier past w silent tt tt h)
 
   -- THE STATEMENTS OF A STAGE
@@ -463,6 +452,9 @@ module _ (o : Around) (vars : ℕ) (kind : Kind o) where
   asks_silent (Call args) w ys u h = h
   asks_silent (SpecCall args) w ys u h = h
   asks_silent SpecCheck w ys u h = h
+  asks_silent (AdviceBind x' e') w ys u h = h
+  asks_silent (AdviceRead x' m' a') w ys u h = h
+  asks_silent (AdviceWrite m' a' e') w ys u h = h
   asks_silent SpecBarrier w ys u h = h
 
   call_flag : (c : Bool) (op : Op) (past : List Op) → call_ok c op ≡ true → Uncalled c past → is_call op ≡ true → AllOps (λ op. is_call op ≡ false) past

@@ -98,7 +98,7 @@ one_stage test (x ∷ xs) j k h f g = at (test x.op) refl h (λ i. one_stage tes
     at true e n r = sym (mine j n f) ∙ mine k n g
     at false e n r = r n (skip j e f) (skip k e g)
 
-kept_append : (xs ys : List Kept) (env : List ℕ) → with_kept (xs ++ ys) env ≡ with_kept ys (with_kept xs env)
+pub kept_append : (xs ys : List Kept) (env : List ℕ) → with_kept (xs ++ ys) env ≡ with_kept ys (with_kept xs env)
 kept_append [] ys env = refl
 kept_append (x ∷ xs) ys env = kept_append xs ys (slice_set env x.var x.word)
 
@@ -122,7 +122,7 @@ module _ (p : Pipe) (flows : Flows p) (st : State) (d : Derived.State) (bits : L
           at false e = ap not e
       off _ i = refl
 
-  plain_fetch : (s m : ℕ) → Fetched p s m → is_advisory (mem_at p m).kind ≡ false
+  pub plain_fetch : (s m : ℕ) → Fetched p s m → is_advisory (mem_at p m).kind ≡ false
   plain_fetch s m f = at (is_advisory (mem_at p m).kind) refl
     where
       at : (b : Bool) → is_advisory (mem_at p m).kind ≡ b → is_advisory (mem_at p m).kind ≡ false
@@ -324,7 +324,7 @@ module _ (p : Pipe) (flows : Flows p) (st : State) (d : Derived.State) (bits : L
     fails = false;
   }
 
-  deeds_are : (ls : List Live) (l : Live) (k : Known ls l) → deeds_of p st bits l ≡ deeds_after_all (word_for st l.number) (in_stage l.thread.stage p.stmts) (start_deeds p flows l.env (now_of p d bits l) (keeps_now l k.seated) l.advice)
+  pub deeds_are : (ls : List Live) (l : Live) (k : Known ls l) → deeds_of p st bits l ≡ deeds_after_all (word_for st l.number) (in_stage l.thread.stage p.stmts) (start_deeds p flows l.env (now_of p d bits l) (keeps_now l k.seated) l.advice)
   deeds_are ls l k = λ i. deeds_after_all (word_for st l.number) (in_stage l.thread.stage p.stmts) (begun l (k.values i))
 
   abbrev pub Like_deeds : List Live → Live → Deeds → Work → Type 0
@@ -332,7 +332,7 @@ module _ (p : Pipe) (flows : Flows p) (st : State) (d : Derived.State) (bits : L
       Loosely (around p d bits (dacts p d bits ls) l.thread.stage l.thread.hint) (word_for st l.number) (λ b. block_ready p st l.number b)
       (λ q. port_free p d bits (dacts p d bits ls) q.mem) e w
 
-  starts_here : (ls : List Live) (l : Live) (k : Known ls l) → Like_deeds ls l (begun l (now_of p d bits l).env) (start_of (now_of p d bits l))
+  pub starts_here : (ls : List Live) (l : Live) (k : Known ls l) → Like_deeds ls l (begun l (now_of p d bits l).env) (start_of (now_of p d bits l))
   starts_here ls l k = loose_start (around p d bits (dacts p d bits ls) l.thread.stage l.thread.hint) (word_for st l.number) (λ b. block_ready p st l.number b)
       (λ q. port_free p d bits (dacts p d bits ls) q.mem) (begun l (now_of p d bits l).env) l.thread.entries [] k.seated.keeps_on.held
 
@@ -357,7 +357,7 @@ module _ (p : Pipe) (flows : Flows p) (st : State) (d : Derived.State) (bits : L
       (λ q. port_free p d bits (dacts p d bits ls) q.mem)
       (in_stage l.thread.stage p.stmts) (begun l (now_of p d bits l).env) l.thread.entries [] k.seated.keeps_on.held (fit_all ls l k) foresees)
 
-  fixed_way : (ls : List Live) (l : Live) (k : Known ls l) → Fixed (work_of_live p d bits ls l).env (around p d bits (dacts p d bits ls) l.thread.stage l.thread.hint) (in_stage l.thread.stage p.stmts) (start_of (now_of p d bits l))
+  pub fixed_way : (ls : List Live) (l : Live) (k : Known ls l) → Fixed (work_of_live p d bits ls l).env (around p d bits (dacts p d bits ls) l.thread.stage l.thread.hint) (in_stage l.thread.stage p.stmts) (start_of (now_of p d bits l))
   fixed_way ls l k = fixed_here p flows l.env (now_of p d bits l) (keeps_now l k.seated) (around p d bits (dacts p d bits ls) l.thread.stage l.thread.hint)
 
   -- where it makes no guess
