@@ -40,6 +40,7 @@ pub enum Rule {
     S3,
     S4,
     S5,
+    P1,
     I1,
     I2,
     I3,
@@ -90,6 +91,7 @@ impl Rule {
             Rule::L1 | Rule::L2 | Rule::L3 | Rule::L4 | Rule::L5 | Rule::L6 | Rule::L7 | Rule::L8 =>
                 b'L',
             Rule::S1 | Rule::S2 | Rule::S3 | Rule::S4 | Rule::S5 => b'S',
+            Rule::P1 => b'P',
             Rule::I1 | Rule::I2 | Rule::I3 | Rule::I4 | Rule::I5 | Rule::I6 => b'I',
             Rule::Y1 | Rule::Y2 | Rule::Y3 => b'Y',
             Rule::V1 | Rule::V2 | Rule::V3 | Rule::V4 | Rule::V5 => b'V',
@@ -111,6 +113,7 @@ impl Rule {
             | Rule::F1
             | Rule::L1
             | Rule::S1
+            | Rule::P1
             | Rule::I1
             | Rule::Y1
             | Rule::V1

@@ -2,6 +2,7 @@
 use Rattle.std.specs.Prelude.{ℕ, ◌+◌, Bool, true, false, not, ◌&&◌, ◌||◌, ◌==◌, List, [], ◌∷◌, drop, length, if◌then◌else◌, bytes_eq}
 use Rattle.std.specs.List.{list_any}
 use Rattle.pdl_semantics.specs.Tree.{Stmt, Separator, CombRead, Bind, SpecCall, DelayedRead, Write, Reserve, Block, Release, If, Call, Verify, SpecCheck, SpecBarrier, Stmts, Mem, Pipe}
+use Rattle.pdl_semantics.specs.Flat.{is_delayed}
 use Rattle.pdl_semantics.specs.Flatten.{separators}
 use Rattle.pdl_rules.specs.Places.{Place, Statement, Branch, statements, places, places_after}
 use Rattle.pdl_rules.specs.Parts.{parts_of}
@@ -65,10 +66,10 @@ breaks_f3 p before (Statement (DelayedRead _ _ at) bs) =
     (stage_in before bs == stage_after (places p)) || list_any (breaks_fetch_order at.mem.name) before
 breaks_f3 p before _ = false
 
--- F4: a comb read of a delayed memory, or a delayed read of a comb one
+-- F4: a comb read of a delayed memory, or a delayed read of one that isn't delayed
 abbrev pub is_delayed_memory : List Mem → List ℕ → Bool
 is_delayed_memory [] m = false
-is_delayed_memory (x ∷ xs) m = if bytes_eq x.name.name m then x.delayed else is_delayed_memory xs m
+is_delayed_memory (x ∷ xs) m = if bytes_eq x.name.name m then is_delayed x.kind else is_delayed_memory xs m
 
 abbrev pub breaks_f4 : Pipe → Place → Bool
 breaks_f4 p (Statement (CombRead _ _ at) _) = is_delayed_memory p.mems at.mem.name

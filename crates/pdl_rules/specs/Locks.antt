@@ -1,8 +1,9 @@
 -- Locks: rules F5, L1 and L3 to L7. The rules L are asked on each path, of the places before on that path, the earlier ones.
-use Rattle.std.specs.Prelude.{ℕ, Bool, true, false, not, ◌&&◌, ◌==◌, nat_le, List, [], ◌∷◌, Option, Some, None, fold, count_by, if◌then◌else◌, bytes_eq}
+use Rattle.std.specs.Prelude.{ℕ, Bool, true, false, not, ◌&&◌, ◌||◌, ◌==◌, nat_le, List, [], ◌∷◌, Option, Some, None, fold, count_by, if◌then◌else◌, bytes_eq}
 use Rattle.std.specs.List.{list_any}
 use Rattle.std.specs.Option.{is_some}
 use Rattle.pdl_semantics.specs.Tree.{Location, Kind, R, W, CombRead, DelayedRead, Write, Reserve, Block, Release, LockDecl, Mem, Pipe}
+use Rattle.pdl_semantics.specs.Flatten.{is_advisory_mem}
 use Rattle.pdl_rules.specs.Places.{Place, Statement, End, on_some_path}
 
 -- whether a memory has a lock, by its name
@@ -10,9 +11,9 @@ abbrev pub is_locked : List Mem → List ℕ → Bool
 is_locked [] m = false
 is_locked (x ∷ xs) m = if bytes_eq x.name.name m then is_some x.lock else is_locked xs m
 
--- F5: reserve, block, write or release of a memory without lock
+-- F5: reserve, block, write or release of a memory without lock, but for the write of an advisory one
 abbrev pub breaks_f5 : Pipe → Place → Bool
-breaks_f5 p (Statement (Write _ at _) _) = not (is_locked p.mems at.mem.name)
+breaks_f5 p (Statement (Write _ at _) _) = not (is_locked p.mems at.mem.name || is_advisory_mem p.mems at.mem.name)
 breaks_f5 p (Statement (Reserve _ at _) _) = not (is_locked p.mems at.mem.name)
 breaks_f5 p (Statement (Block _ at) _) = not (is_locked p.mems at.mem.name)
 breaks_f5 p (Statement (Release _ at) _) = not (is_locked p.mems at.mem.name)
@@ -66,12 +67,12 @@ is_held_for k (Reserved j) = same_kind k j
 is_held_for k (Blocked j) = same_kind k j
 is_held_for k _ = false
 
--- L1: a statement without the hold that it needs; a read of a memory without lock needs none
+-- L1: a statement without the hold that it needs; a read of a memory without lock and a write of an advisory one need none
 abbrev pub lacks_hold : Pipe → List Place → Place → Bool
 lacks_hold p earlier (Statement (Block _ at) _) = not (is_reserved (hold_after at earlier))
 lacks_hold p earlier (Statement (CombRead _ _ at) _) = is_locked p.mems at.mem.name && not (is_blocked_for R (hold_after at earlier))
 lacks_hold p earlier (Statement (DelayedRead _ _ at) _) = is_locked p.mems at.mem.name && not (is_blocked_for R (hold_after at earlier))
-lacks_hold p earlier (Statement (Write _ at _) _) = not (is_blocked_for W (hold_after at earlier))
+lacks_hold p earlier (Statement (Write _ at _) _) = not (is_advisory_mem p.mems at.mem.name) && not (is_blocked_for W (hold_after at earlier))
 lacks_hold p earlier (Statement (Release _ at) _) = not (is_blocked (hold_after at earlier))
 lacks_hold p earlier _ = false
 
@@ -89,15 +90,15 @@ abbrev pub is_write_of : List ℕ → Place → Bool
 is_write_of m (Statement (Write _ at _) _) = bytes_eq at.mem.name m
 is_write_of m _ = false
 
--- L3: a read reservation after the memory's write reservation, or a read after a write
-abbrev pub is_late_read : List Place → Place → Bool
-is_late_read earlier (Statement (Reserve _ at R) _) = list_any (is_reserve_of W at.mem.name) earlier
-is_late_read earlier (Statement (CombRead _ _ at) _) = list_any (is_write_of at.mem.name) earlier
-is_late_read earlier (Statement (DelayedRead _ _ at) _) = list_any (is_write_of at.mem.name) earlier
-is_late_read earlier _ = false
+-- L3: a read reservation after the memory's write reservation, or a read after a write, but of an advisory memory
+abbrev pub is_late_read : Pipe → List Place → Place → Bool
+is_late_read p earlier (Statement (Reserve _ at R) _) = list_any (is_reserve_of W at.mem.name) earlier
+is_late_read p earlier (Statement (CombRead _ _ at) _) = not (is_advisory_mem p.mems at.mem.name) && list_any (is_write_of at.mem.name) earlier
+is_late_read p earlier (Statement (DelayedRead _ _ at) _) = list_any (is_write_of at.mem.name) earlier
+is_late_read p earlier _ = false
 
 abbrev pub breaks_l3 : Pipe → List Place → Place → Bool
-breaks_l3 p before x = on_some_path (λ earlier. is_late_read earlier x) p before x
+breaks_l3 p before x = on_some_path (λ earlier. is_late_read p earlier x) p before x
 
 -- the size of a memory's lock, by its name
 abbrev pub size_of : Option LockDecl → ℕ

@@ -3,7 +3,7 @@ use Rattle.std.specs.Prelude.{ℕ, ◌+◌, ◌^◌, Bool, true, false, not, ◌
 use Rattle.std.specs.Cmp.Lexicographic.{pointwise}
 use Rattle.std.specs.List.{list_any}
 use Rattle.pdl_semantics.specs.Tree.{Literal, Expr, Slice, Binary, Cat, LessSigned, ZeroExtend, SignExtend, Choose, Location, CombRead, Bind, DelayedRead, Write, If, Param, Mem, Pipe}
-use Rattle.pdl_semantics.specs.Flatten.{Var, var_width, mem_width, width_of}
+use Rattle.pdl_semantics.specs.Flatten.{Var, var_width, mem_width, width_of, is_advisory_mem, is_advised}
 use Rattle.pdl_rules.specs.Places.{Place, Parameter, Statement, StartClause, places}
 use Rattle.pdl_rules.specs.Parts.{NoExpressions, One, Arguments, Expressions, parts_of, some_part, some_expr, some_literal, some_location}
 use Rattle.pdl_rules.specs.Limits.{depths}
@@ -11,15 +11,15 @@ use Rattle.pdl_rules.specs.Limits.{depths}
 -- VARIABLES
 
 -- the variables and one more, unless it is defined already
-abbrev pub with_variable : List Var → List ℕ → ℕ → List Var
-with_variable vs x w = if list_any (λ (v : Var). bytes_eq x v.name) vs then vs else vs ++ record { name = x; width = w } ∷ []
+abbrev pub with_variable : List Var → List ℕ → ℕ → Bool → List Var
+with_variable vs x w advised = if list_any (λ (v : Var). bytes_eq x v.name) vs then vs else vs ++ record { name = x; width = w; advised = advised } ∷ []
 
--- the variables after a place: a binding has its expression's width, a read its memory's
+-- the variables after a place: a binding has its expression's width, a read its memory's, and both are advised where what they take is
 abbrev pub after_place : List Mem → List Var → Place → List Var
-after_place ms vs (Parameter a) = with_variable vs a.name.name a.width.value
-after_place ms vs (Statement (CombRead _ x at) _) = with_variable vs x.name (mem_width ms at.mem.name)
-after_place ms vs (Statement (Bind _ x e) _) = with_variable vs x.name (width_of vs e)
-after_place ms vs (Statement (DelayedRead _ x at) _) = with_variable vs x.name (mem_width ms at.mem.name)
+after_place ms vs (Parameter a) = with_variable vs a.name.name a.width.value false
+after_place ms vs (Statement (CombRead _ x at) _) = with_variable vs x.name (mem_width ms at.mem.name) (is_advisory_mem ms at.mem.name)
+after_place ms vs (Statement (Bind _ x e) _) = with_variable vs x.name (width_of vs e) (is_advised vs e)
+after_place ms vs (Statement (DelayedRead _ x at) _) = with_variable vs x.name (mem_width ms at.mem.name) false
 after_place ms vs _ = vs
 
 -- the variables of a pipe with their widths, each by its first definition in the text
