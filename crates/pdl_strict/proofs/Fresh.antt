@@ -118,10 +118,10 @@ module _ (vars k : ℕ) (ms : List Mem) (vs : List Var) (rest : List Flat.Stmt) 
 
   pub site_new : (s : Stmt) → Uses vs s → length (vars_past ms vs s) ≤ vars → Follows vars (length (vars_past ms vs s)) rest → Follows vars (length vs) (seen_ops k (ops_of ms vs s) ++ rest)
   site_new (Separator sp) u room go = go
-  site_new (CombRead sp x from) u room go = read_new (record { name = x.name; width = mem_width ms from.mem.name }) room go (mem_of ms from.mem.name) (var_of vs from.address.name) (var_low vs from.address.name (u.address from refl))
-  site_new (Bind sp x e) u room go = bind_new (record { name = x.name; width = width_of vs e }) room go (flat_expr vs e) (expr_low vs u.test u.named e u.expressions)
+  site_new (CombRead sp x from) u room go = read_new (record { name = x.name; width = mem_width ms from.mem.name; advised = is_advisory_mem ms from.mem.name }) room go (mem_of ms from.mem.name) (var_of vs from.address.name) (var_low vs from.address.name (u.address from refl))
+  site_new (Bind sp x e) u room go = bind_new (record { name = x.name; width = width_of vs e; advised = is_advised vs e }) room go (flat_expr vs e) (expr_low vs u.test u.named e u.expressions)
   site_new (SpecCall sp g args) u room go = uses_old vars (length vs) k (Flat.SpecCall (flat_exprs vs args)) rest refl refl (exprs_low vs u.test u.named args u.expressions) go
-  site_new (DelayedRead sp x from) u room go = read_new (record { name = x.name; width = mem_width ms from.mem.name }) room go (mem_of ms from.mem.name) (var_of vs from.address.name) (var_low vs from.address.name (u.address from refl))
+  site_new (DelayedRead sp x from) u room go = read_new (record { name = x.name; width = mem_width ms from.mem.name; advised = false }) room go (mem_of ms from.mem.name) (var_of vs from.address.name) (var_low vs from.address.name (u.address from refl))
   site_new (Write sp to e) u room go = uses_old vars (length vs) k (Flat.Write (mem_of ms to.mem.name) (var_of vs to.address.name) (flat_expr vs e)) rest refl refl (λ y h. at y (or_cases (var_of vs to.address.name == y) (uses_in y (flat_expr vs e)) h)) go
     where
       at : (y : ℕ) → ((var_of vs to.address.name == y) ≡ true) ⊎ (uses_in y (flat_expr vs e) ≡ true) → y < length vs
@@ -132,15 +132,15 @@ module _ (vars k : ℕ) (ms : List Mem) (vs : List Var) (rest : List Flat.Stmt) 
   site_new (Block sp at) u room go = uses_old vars (length vs) k (Flat.Block (mem_of ms at.mem.name) (var_of vs at.address.name)) rest refl refl (λ y h. low_var (var_of vs at.address.name) y (var_low vs at.address.name (u.address at refl)) h) go
   site_new (Release sp at) u room go = uses_old vars (length vs) k (Flat.Release (mem_of ms at.mem.name) (var_of vs at.address.name)) rest refl refl (λ y h. absurd (false≢true h)) go
   site_new (If sp (Variable x) when otherwise) u room go = go
-  site_new (If sp (Constant l) when otherwise) u room go = bind_new (record { name = []; width = 1 }) room go (flat_expr vs (Constant l)) (expr_low vs u.test u.named (Constant l) u.expressions)
-  site_new (If sp (Slice x high low) when otherwise) u room go = bind_new (record { name = []; width = 1 }) room go (flat_expr vs (Slice x high low)) (expr_low vs u.test u.named (Slice x high low) u.expressions)
-  site_new (If sp (Not a) when otherwise) u room go = bind_new (record { name = []; width = 1 }) room go (flat_expr vs (Not a)) (expr_low vs u.test u.named (Not a) u.expressions)
-  site_new (If sp (Binary op a b) when otherwise) u room go = bind_new (record { name = []; width = 1 }) room go (flat_expr vs (Binary op a b)) (expr_low vs u.test u.named (Binary op a b) u.expressions)
-  site_new (If sp (Cat a b) when otherwise) u room go = bind_new (record { name = []; width = 1 }) room go (flat_expr vs (Cat a b)) (expr_low vs u.test u.named (Cat a b) u.expressions)
-  site_new (If sp (LessSigned a b) when otherwise) u room go = bind_new (record { name = []; width = 1 }) room go (flat_expr vs (LessSigned a b)) (expr_low vs u.test u.named (LessSigned a b) u.expressions)
-  site_new (If sp (ZeroExtend a n) when otherwise) u room go = bind_new (record { name = []; width = 1 }) room go (flat_expr vs (ZeroExtend a n)) (expr_low vs u.test u.named (ZeroExtend a n) u.expressions)
-  site_new (If sp (SignExtend a n) when otherwise) u room go = bind_new (record { name = []; width = 1 }) room go (flat_expr vs (SignExtend a n)) (expr_low vs u.test u.named (SignExtend a n) u.expressions)
-  site_new (If sp (Choose c a b) when otherwise) u room go = bind_new (record { name = []; width = 1 }) room go (flat_expr vs (Choose c a b)) (expr_low vs u.test u.named (Choose c a b) u.expressions)
+  site_new (If sp (Constant l) when otherwise) u room go = bind_new (record { name = []; width = 1; advised = false }) room go (flat_expr vs (Constant l)) (expr_low vs u.test u.named (Constant l) u.expressions)
+  site_new (If sp (Slice x high low) when otherwise) u room go = bind_new (record { name = []; width = 1; advised = false }) room go (flat_expr vs (Slice x high low)) (expr_low vs u.test u.named (Slice x high low) u.expressions)
+  site_new (If sp (Not a) when otherwise) u room go = bind_new (record { name = []; width = 1; advised = false }) room go (flat_expr vs (Not a)) (expr_low vs u.test u.named (Not a) u.expressions)
+  site_new (If sp (Binary op a b) when otherwise) u room go = bind_new (record { name = []; width = 1; advised = false }) room go (flat_expr vs (Binary op a b)) (expr_low vs u.test u.named (Binary op a b) u.expressions)
+  site_new (If sp (Cat a b) when otherwise) u room go = bind_new (record { name = []; width = 1; advised = false }) room go (flat_expr vs (Cat a b)) (expr_low vs u.test u.named (Cat a b) u.expressions)
+  site_new (If sp (LessSigned a b) when otherwise) u room go = bind_new (record { name = []; width = 1; advised = false }) room go (flat_expr vs (LessSigned a b)) (expr_low vs u.test u.named (LessSigned a b) u.expressions)
+  site_new (If sp (ZeroExtend a n) when otherwise) u room go = bind_new (record { name = []; width = 1; advised = false }) room go (flat_expr vs (ZeroExtend a n)) (expr_low vs u.test u.named (ZeroExtend a n) u.expressions)
+  site_new (If sp (SignExtend a n) when otherwise) u room go = bind_new (record { name = []; width = 1; advised = false }) room go (flat_expr vs (SignExtend a n)) (expr_low vs u.test u.named (SignExtend a n) u.expressions)
+  site_new (If sp (Choose c a b) when otherwise) u room go = bind_new (record { name = []; width = 1; advised = false }) room go (flat_expr vs (Choose c a b)) (expr_low vs u.test u.named (Choose c a b) u.expressions)
   site_new (Call sp args) u room go = uses_old vars (length vs) k (Flat.Call (flat_exprs vs args)) rest refl refl (exprs_low vs u.test u.named args u.expressions) go
   site_new (Verify sp g args) u room go = uses_old vars (length vs) k (Flat.Verify (flat_exprs vs args)) rest refl refl (exprs_low vs u.test u.named args u.expressions) go
   site_new (SpecCheck sp) u room go = uses_old vars (length vs) k (Flat.SpecCheck) rest refl refl (λ y h. absurd (false≢true h)) go
