@@ -1,3 +1,4 @@
 mod Fresh
+mod Guesses
 mod LetGo
 pub mod Paths
