@@ -8,3 +8,5 @@ pub mod FeatureRows
 mod SoundRows
 pub mod Readiness
 pub mod Facts
+pub mod Advice
+pub mod AdviceApart

@@ -1,6 +1,6 @@
 -- Sound state: what holds, between cycles, in every state that a run of an accepted pipe comes to. Each point is a test, so that it computes. A turn is a thread of the sequential run.
 use Rattle.std.specs.Prelude.{IsTrue, ℕ, zero, suc, ◌+◌, ◌-◌, count_by, Bool, true, false, ◌&&◌, ◌||◌, not, List, [], ◌∷◌, ◌++◌, Option, Some, None, is_none, if◌then◌else◌, nat_lt, nat_le, ◌==◌, slice_index, length}
-use Rattle.pdl_semantics.specs.Flat.{Arrays, list_all, Op, Bind, CombRead, DelayedRead, Write, ReserveRead, ReserveWrite, Block, Release, Call, SpecCall, Verify, SpecCheck, SpecBarrier, Stmt, Mem, Branch, Pipe, value_of, values_of, start_env, word_at, Commit, of_mem}
+use Rattle.pdl_semantics.specs.Flat.{is_advisory, Arrays, list_all, Op, Bind, CombRead, DelayedRead, Write, ReserveRead, ReserveWrite, Block, Release, Call, SpecCall, Verify, SpecCheck, SpecBarrier, Stmt, Mem, Branch, Pipe, value_of, values_of, start_env, word_at, Commit, of_mem}
 use Rattle.pdl_semantics.specs.Forms.{on_delayed_read, on_block, on_release}
 use Rattle.pdl_semantics.specs.Stages.{list_any, onpath, stage_at, goes_to, is_verify, verify_stage}
 use Rattle.pdl_semantics.specs.Sequential.{Run, run_all, thread, seqwrites, after_turns}
@@ -270,7 +270,7 @@ are_linked p [] = false
 are_linked p (l ∷ []) = not (has_done is_call p l)
 are_linked p (l ∷ k ∷ ls) = has_done is_call p l && are_linked p (k ∷ ls)
 
--- 3. VALUES. A follower's values, once its awaited reads are answered, are those of its turn, and so are the addresses that it awaits
+-- 3. VALUES. A follower's values, the advised ones apart, once its awaited reads are answered, are those of its turn, and so are the addresses that it awaits
 
 -- the address of a request, 0 where there is none
 abbrev pub request_address : Request → ℕ
@@ -354,7 +354,7 @@ abbrev pub pending_right : Pipe → Arrays → ℕ → State → ℕ → Bool
 pending_right p image n st m =
     same_args (owners (lock_of st m)) (holders p m (live st)) && list_all (right_entries p st m) (followers p image n st)
 
--- 5. ARRAYS. An array is the image with, in order, the writes of the ended turns and the released ones of followers; no later thread has released a write
+-- 5. ARRAYS. An array that isn't advisory is the image with, in order, the writes of the ended turns and the released ones of followers; no later thread has released a write
 
 -- the writes to m that followers have released, in order
 abbrev pub released_by : ℕ → Pipe → List Follower → List Commit
@@ -370,7 +370,7 @@ array_right p image n st m depth =
 -- point 5 of the memories from number m on
 abbrev pub arrays_right : Pipe → Arrays → ℕ → State → ℕ → List Mem → Bool
 arrays_right p image n st m [] = true
-arrays_right p image n st m (x ∷ xs) = array_right p image n st m x.depth && arrays_right p image n st (suc m) xs
+arrays_right p image n st m (x ∷ xs) = (is_advisory x.kind || array_right p image n st m x.depth) && arrays_right p image n st (suc m) xs
 
 -- 6. CERTAINTY. A thread that has moved on from a barrier, or stands after V, has only older threads that stand after V
 
@@ -449,7 +449,7 @@ comes_to p path q (suc limit) s = (s == q) || one_of (comes_to p path q limit) (
 -- what a binding or a call on a guess says is so in the thread's values; any other statement passes
 abbrev pub is_done : State → Live → Op → Bool
 is_done st l (Bind x e) = slice_index l.thread.env x == value_of e l.thread.env
-is_done st l (SpecCall args) = same_args l.thread.guess (values_of args l.thread.env)
+is_done st l (SpecCall args) = same_args l.thread.guess (values_of args (with_kept l.thread.advice l.thread.env))
 is_done st l (CombRead x m a) = true
 is_done st l (DelayedRead x m a) = true
 is_done st l (Write m a e) = true

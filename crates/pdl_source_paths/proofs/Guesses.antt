@@ -6,6 +6,8 @@ use Rattle.std.proofs.lemmas.List.Sums.{sum_by-append}
 use Rattle.std.specs.List.{list_any}
 use Rattle.pdl_semantics.specs.Tree.{Span, Ident, Expr, Variable, R, W, Stmt, Separator, CombRead, Bind, SpecCall, DelayedRead, Write, Reserve, Block, Release, If, Call, Verify, SpecCheck, SpecBarrier, Param, Mem, Pipe}
 use Rattle.pdl_semantics.specs.Stages
+use Rattle.pdl_semantics.specs.Flatten.{is_advisory_mem, is_advised}
+use Rattle.pdl_stagefacts.proofs.Fine.{either_read, either_bind, either_write}
 use Rattle.pdl_kit.specs.declared.rule.Rule.TheVariants.{N3, S2, S4}
 use Rattle.pdl_rules.specs.Places.{Place, Parameter, Memory, Statement, Guard, places, guards, on_path}
 use Rattle.pdl_rules.specs.Parts.{is_some_and, location_of, some_expr_of, some_part}
@@ -390,6 +392,9 @@ module _ (p : Pipe) (rules : KeepsRules p) (v : Guard → Bool) (staged : All St
                   of_stmt (If sp d a b) k = of_if d
                   of_stmt (Reserve sp l R) k = refl
                   of_stmt (Reserve sp l W) k = refl
+                  of_stmt (CombRead sp x at) k = either_read (λ op. some_op Stages.is_verify (op ∷ []) ≡ false) (is_advisory_mem p.mems at.mem.name) _ _ _ refl refl
+                  of_stmt (Bind sp x e) k = either_bind (λ op. some_op Stages.is_verify (op ∷ []) ≡ false) (is_advised u.walk.vars e) _ _ refl refl
+                  of_stmt (Write sp at e) k = either_write (λ op. some_op Stages.is_verify (op ∷ []) ≡ false) (is_advisory_mem p.mems at.mem.name) _ _ _ refl refl
                   of_stmt _ k = refl
 
           found :

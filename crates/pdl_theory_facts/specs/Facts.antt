@@ -8,6 +8,7 @@ use Rattle.pdl_theory_derived.specs.Alone.{before, answered_op}
 use Rattle.pdl_theory_facts.specs.Scans.{none_of, all_at, binds_var}
 pub use Rattle.pdl_theory_facts.specs.Scans.{against, is_dead}
 use Rattle.pdl_semantics.specs.Cycle.{merges_by}
+use Rattle.pdl_semantics.specs.Promises.{KeepsAdvice}
 use Rattle.pdl_theory_facts.specs.Graphs.{next_of, Graph, In, Branches, goes_by}
 use Rattle.pdl_theory_facts.specs.Accepted.{Pathwise}
 use Rattle.pdl_semantics.specs.Sound.{stages_from, is_fetch}
@@ -208,5 +209,7 @@ pub record Sound (p : Pipe) : Type 0 where
       → onpath env' (before (next_of p s env) p.stmts) ≡ onpath env (before (next_of p s env) p.stmts)
   pub fetch_unseen : (s : ℕ) → is_unseen (in_stage s p.stmts) ≡ true
   pub fetch_alone : (s : ℕ) → fetch_apart (in_stage s p.stmts) ≡ true
+  -- F4, F5: a statement takes a memory by its kind
+  pub advice : KeepsAdvice p
   -- F3: none stands in the last stage
   pub fetch_inside : (s : ℕ) → suc s ≡ length p.stages → none_of is_fetch (in_stage s p.stmts) ≡ true

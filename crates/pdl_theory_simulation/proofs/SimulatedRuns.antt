@@ -56,8 +56,8 @@ module _ (p : Pipe) (flows : Flows p) where
       at false e false f = refl
 
   -- thread 1 in stage 0 with the start arguments
-  abbrev pub first_live : Live
-  first_live = record { number = 1; thread = Derived.fresh p p.start; env = (Derived.fresh p p.start).env; kept = [] }
+  abbrev pub first_live : List ℕ → Live
+  first_live hint = record { number = 1; thread = Derived.fresh p hint p.start; env = (Derived.fresh p hint p.start).env; kept = []; advice = [] }
 
   -- the first states of both machines belong together, with thread 1 as the one live thread
   pub first_sim : (image : Arrays) → Sim p (Cycle.first p image) (Derived.first p image) (first_live ∷ [])

@@ -3,7 +3,15 @@ use Rattle.std.proofs.Common.{◌≡◌, refl, sym, ap, ap₂, ◌∙◌, subst,
 use Rattle.std.proofs.lemmas.Bool.{eqb-true, eqb-false}
 use Rattle.pdl_semantics.specs.Flat.{Stmt, Branch, Pipe}
 use Rattle.pdl_semantics.specs.Stages.{onpath, in_stage, stage_at, goes_to, is_reserve, is_release, reserve_stage, commit_stage}
-use Rattle.pdl_semantics.specs.Machine.{Ask, Awaited, is_answered, Blocked, Reserved, Deeds, held_before, deeds_after_all}
+use Rattle.pdl_semantics.specs.Machine.{Ask, Awaited,
+<<<<<<< today
+
+||||||| base
+ same_args,
+=======
+ Kept, same_args,
+>>>>>>> sem1
+ is_answered, Blocked, Reserved, Deeds, held_before, deeds_after_all}
 use Rattle.pdl_semantics.specs.Cycle.{awaited_of, releases_of}
 use Rattle.pdl_semantics.specs.Sound.{stages_before, stages_from, is_delayed_read}
 use Rattle.pdl_theory_derived.specs.Derived.{Work, Around, work_of_stage, still, with_answers, answered_thread}
@@ -12,7 +20,15 @@ use Rattle.pdl_theory_facts.specs.Scans.{Fresh, phase_all, is_over, none_of, cal
 use Rattle.pdl_theory_simulation.proofs.FlowFacts.{Flows, uses_ok, calls_ok, visits_stage, next_of, stage_or, comes_by, Leads, Ways}
 use Rattle.pdl_theory_derived.proofs.Entries.{entries_of}
 use Rattle.pdl_theory_turns.proofs.Paths.{Fixed, none_onpath}
-use Rattle.pdl_theory_derived.proofs.Deeds.{places, AllFit}
+use Rattle.pdl_theory_derived.proofs.Deeds.{places, AllFit
+<<<<<<< today
+
+||||||| base
+, told_step
+=======
+, Loosely, loose_start, loose_step
+>>>>>>> sem1
+}
 use Rattle.pdl_theory_derived.proofs.Lists.{pend}
 use Rattle.pdl_theory_turns.proofs.Steps.{Here}
 use Rattle.pdl_theory_turns.proofs.OwnEntries.{Worked, worked, quiet_releases}
@@ -20,7 +36,230 @@ use Rattle.pdl_theory_simulation.proofs.Shapes.{Shape, shape_over, shape_start, 
 use Rattle.pdl_theory_turns.proofs.TurnPath.{phase_append}
 use Rattle.pdl_theory_turns.proofs.OfStage.{fixed_stage}
 use Rattle.pdl_theory_turns.proofs.Turn.{none_from, none_in_stage}
-use Rattle.pdl_theory_simulation.proofs.StretchSteps.{steps_all, set_stays, only_sets, awaits_var, only_asks, AsksFrom, asks_from, Childed, made_all}
+<<<<<<< today
+
+use Rattle.pdl_theory_simulation.proofs.StretchSteps.
+||||||| base
+
+
+-- WHAT A STAGE DOES
+
+-- to the pending writes of m
+module _ (o : Around) (read : ℕ → ℕ → ℕ) (block : Blocked → Bool) (free : Ask → Bool) (m n : ℕ) (start : List Pending) where
+  step_op : (op : Op) (ph : Phase) (d : Deeds) (es : List Entry) (cs : List Commit) → places es ≡ d.held → use_ok m ph op ≡ true
+      → Here o read block free m n start ph d (work_of o read block free d es cs)
+      → Here o read block free m n start (next_phase m ph op) (Machine.deeds_after read op d) (work_after o op (work_of o read block free d es cs))
+  step_op (Write j a e) ph d es cs h k g = step_write m n j a (value_of e d.env) ph es (of_mem m cs) _ d.writes _ (j == m) refl k g
+  step_op (ReserveWrite j a) ph d es cs h k g = step_reserve m n j a (slice_index d.env a) ph es (of_mem m cs) start d.reserves d.writes _ (j == m) refl k g
+  step_op (Release j a) ph d es cs h k g = step_release m n j a ph es cs _ d.writes d.releases (is_held d.held j a) (ap (λ l. is_held l j a) (sym h) ∙ places_has es j a) (j == m) refl k g
+  step_op (Verify args) ph d es cs h k g = at (same_args (values_of args d.env) d.guess)
+    where
+      at : (b : Bool) → Here o read block free m n start ph (cond b d (record d
+=======
+
+
+-- WHAT A STAGE DOES
+
+-- to the pending writes of m
+module _ (o : Around) (read : ℕ → ℕ → ℕ) (block : Blocked → Bool) (free : Ask → Bool) (m n : ℕ) (start : List Pending) where
+  step_op : (op : Op) (ph : Phase) (d : Deeds) (es : List Entry) (cs : List Commit) (gu : List ℕ) (c : Option (List ℕ)) (f : Bool) → places es ≡ d.held → use_ok m ph op ≡ true
+      → Here o read block free m n start ph d (work_of o read block free (record d { guess = gu; child = c; fails = f }) es cs)
+      → Here o read block free m n start (next_phase m ph op) (Machine.deeds_after read op d) (work_after o op (work_of o read block free (record d { guess = gu; child = c; fails = f }) es cs))
+  step_op (Write j a e) ph d es cs gu c f h k g = step_write m n j a (value_of e d.env) ph es (of_mem m cs) _ d.writes _ (j == m) refl k g
+  step_op (ReserveWrite j a) ph d es cs gu c f h k g = step_reserve m n j a (slice_index d.env a) ph es (of_mem m cs) start d.reserves d.writes _ (j == m) refl k g
+  step_op (Release j a) ph d es cs gu c f h k g = step_release m n j a ph es cs _ d.writes d.releases (is_held d.held j a) (ap (λ l. is_held l j a) (sym h) ∙ places_has es j a) (j == m) refl k g
+  step_op (Verify args) ph d es cs gu c f h k g = at (same_args (values_of args d.env) d.guess) (same_args (values_of args d.env) gu)
+    where
+      at : (b b' : Bool) → Here o read block free m n start ph (cond b d (record d
+>>>>>>> sem1
+{
+<<<<<<< today
+
+||||||| base
+ child = Some (values_of args d.env); fails = true })) (cond b (work_of o read block free d es cs) (record (work_of o read block free d es cs) { child = Some (values_of args d.env); fails = true }))
+      at true = g
+      at false = g
+  step_op _ ph d es cs h k g = g
+
+  step_if : (b : Bool) (op : Op) (ph : Phase) (d : Deeds) (es : List Entry) (cs : List Commit) → places es ≡ d.held → (b ≡ true → use_ok m ph op ≡ true)
+      → Here o read block free m n start ph d (work_of o read block free d es cs)
+      → Here o read block free m n start (cond b (next_phase m ph op) ph) (cond b (Machine.deeds_after read op d) d) (cond b (work_after o op (work_of o read block free d es cs)) (work_of o read block free d es cs))
+  step_if true op ph d es cs h k g = step_op op ph d es cs h (k refl) g
+  step_if false op ph d es cs h k g = g
+
+  -- the statements of a stage
+=======
+ child = Some (values_of args d.env); fails = true })) (cond b' (work_of o read block free (record d { guess = gu; child = c; fails = f }) es cs) (record (work_of o read block free (record d { guess = gu; child = c; fails = f }) es cs) { child = Some (values_of args d.env); fails = true }))
+      at true true = g
+      at true false = g
+      at false true = g
+      at false false = g
+  step_op _ ph d es cs gu c f h k g = g
+
+  step_if : (b : Bool) (op : Op) (ph : Phase) (d : Deeds) (w : Work) → Loosely o read block free d w → (b ≡ true → use_ok m ph op ≡ true)
+      → Here o read block free m n start ph d w
+      → Here o read block free m n start (cond b (next_phase m ph op) ph) (cond b (Machine.deeds_after read op d) d) (cond b (work_after o op w) w)
+  step_if true op ph d w l k g =
+      subst (λ v. Here o read block free m n start (next_phase m ph op) (Machine.deeds_after read op d) (work_after o op v)) (sym l.is)
+      (step_op op ph d w.entries w.commits w.guess w.child w.fails l.held (k refl) g)
+  step_if false op ph d w l k g = g
+
+  -- the statements of a stage
+>>>>>>> sem1
+steps_all
+<<<<<<< today
+
+||||||| base
+ : (path : List ℕ) (xs : List Stmt) (ph : Phase) (d : Deeds) (es : List Entry) (cs : List Commit) → places es ≡ d.held → AllFit o read block free xs
+      → Fixed path o xs (work_of o read block free d es cs) → uses_ok m ph (onpath path xs) ≡ true → Here o read block free m n start ph d (work_of o read block free d es cs)
+      → Here o read block free m n start (phase_all m ph (onpath path xs)) (deeds_after_all read xs d) (do_all o xs (work_of o read block free d es cs))
+  steps_all path [] ph d es cs h f q k g = g
+  steps_all path (x ∷ xs) ph d es cs h f q k g =
+      let t = told_step o read block free (all_hold x.guards d.env) x.op d es cs h f.0 in
+      let w' : Work = cond (all_hold x.guards d.env) (work_after o x.op (work_of o read block free d es cs)) (work_of o read block free d es cs) in
+      let ok = allowed (all_hold x.guards d.env) (all_hold x.guards path) q.0 k in
+      let r = steps_all path xs (cond (all_hold x.guards d.env) (next_phase m ph x.op) ph) (if all_hold x.guards d.env then Machine.deeds_after read x.op d else d) w'.entries w'.commits t.held f.1
+      (subst (λ w. Fixed path o xs w) t.is q.1) ok.1
+      (subst (λ w. Here o read block free m n start (cond (all_hold x.guards d.env) (next_phase m ph x.op) ph) (if all_hold x.guards d.env then Machine.deeds_after read x.op d else d) w) t.is (step_if (all_hold x.guards d.env) x.op ph d es cs h ok.0 g)) in
+      subst (λ u. Here o read block free m n start u (deeds_after_all read xs (if all_hold x.guards d.env then Machine.deeds_after read x.op d else d)) (do_all o xs w')) ok.2
+      (subst (λ w. Here o read block free m n start (phase_all m (cond (all_hold x.guards d.env) (next_phase m ph x.op) ph) (onpath path xs)) (deeds_after_all read xs (if all_hold x.guards d.env then Machine.deeds_after read x.op d else d)) (do_all o xs w)) (sym t.is) r)
+    where
+      allowed : (b c : Bool) → b ≡ c → uses_ok m ph (cond c (record x { guards = [] } ∷ onpath path xs) (onpath path xs)) ≡ true
+          → (b ≡ true → use_ok m ph x.op ≡ true) × (uses_ok m (cond b (next_phase m ph x.op) ph) (onpath path xs) ≡ true) × (phase_all m (cond b (next_phase m ph x.op) ph) (onpath path xs) ≡ phase_all m ph (cond c (record x { guards = [] } ∷ onpath path xs) (onpath path xs)))
+      allowed true true e k = ((λ _. and_left _ _ k)
+=======
+ : (path : List ℕ) (xs : List Stmt) (ph : Phase) (d : Deeds) (w : Work) → Loosely o read block free d w → AllFit o read block free xs
+      → Fixed path o xs w → uses_ok m ph (onpath path xs) ≡ true → Here o read block free m n start ph d w
+      → Here o read block free m n start (phase_all m ph (onpath path xs)) (deeds_after_all read xs d) (do_all o xs w)
+  steps_all path [] ph d w l f q k g = g
+  steps_all path (x ∷ xs) ph d w l f q k g =
+      subst (λ b. Here o read block free m n start (phase_all m ph (onpath path (x ∷ xs))) (deeds_after_all read xs (cond b (Machine.deeds_after read x.op d) d)) (do_all o (x ∷ xs) w)) (ap (λ (v : Work). all_hold x.guards v.env) l.is)
+      (at (all_hold x.guards w.env) (all_hold x.guards path) q.0 k q.1 (λ ph' d' w' l' q' k' g'. steps_all path xs ph' d' w' l' f.1 q' k' g'))
+    where
+      at : (b c : Bool) → b ≡ c → uses_ok m ph (cond c (record x { guards = [] } ∷ onpath path xs) (onpath path xs)) ≡ true → Fixed path o xs (cond b (work_after o x.op w) w)
+          → ((ph' : Phase) (d' : Deeds) (w' : Work) → Loosely o read block free d' w' → Fixed path o xs w' → uses_ok m ph' (onpath path xs) ≡ true → Here o read block free m n start ph' d' w' → Here o read block free m n start (phase_all m ph' (onpath path xs)) (deeds_after_all read xs d') (do_all o xs w'))
+          → Here o read block free m n start (phase_all m ph (cond c (record x { guards = [] } ∷ onpath path xs) (onpath path xs))) (deeds_after_all read xs (cond b (Machine.deeds_after read x.op d) d)) (do_all o xs (cond b (work_after o x.op w) w))
+      at true true e k q go =
+          go (next_phase m ph x.op)
+>>>>>>> sem1
+ (Machine.deeds_after read x.op d) (work_after o x.op w) (loose_step o read block free true x.op d w f.0 l) q (
+<<<<<<< today
+
+||||||| base
+ and_right (use_ok m ph x.op) _ k, refl)
+      allowed true false e k = absurd (cc e)
+      allowed false true e k = absurd (cc e)
+      allowed false false e k = ((λ i. absurd (cc i)), k, refl)
+
+-- to the values
+=======
+and_right (use_ok m ph x.op) _ k)
+          (step_if true x.op ph d w l (λ _. and_left _ _ k) g)
+      at true false e k q go = absurd (cc e)
+      at false true e k q go = absurd (cc e)
+      at false false e k q go = go ph d w l q k g
+
+-- to the values
+>>>>>>> sem1
+ set_stays, only_sets, awaits_var, only_asks, AsksFrom, asks_from, Childed
+<<<<<<< today
+,
+||||||| base
+ (been : Bool) (c : Bool) (w : Work) : Type 0 where
+  pub since : been ≡ true → c ≡ true
+  pub called_it : is_some w.child ≡ true → c ≡ true
+  pub no_second : been ≡ true → w.fails ≡ false → w.child ≡ None
+  pub squashes : w.fails ≡ true → is_some w.child ≡ true
+
+made_op : (been c : Bool) (o : Around) (op : Op) (w : Work) → call_ok c op ≡ true → Childed been c w → Childed been (c || is_call op) (work_after o op w)
+made_op been c o (Call args) w h k = fresh_call c (and_left (not (c && true)) _ h) k
+  where
+    fresh_call : (c : Bool) → not (c && true) ≡ true → Childed been c w → Childed been (c || true) (record w { child = Some (values_of args w.env) })
+    fresh_call true h k = absurd (cc h)
+    fresh_call false h k = record {
+      since = λ e. refl;
+      called_it = λ e. refl;
+      no_second = λ e f. absurd (clash (k.since e));
+      squashes = λ e. refl;
+    }
+      where
+        clash : false ≡ true → ⊥
+        clash i = cc
+made_op been c o (SpecCall args) w h k = fresh_call c (and_left (not (c && true)) _ h) k
+  where
+    fresh_call : (c : Bool) → not (c && true) ≡ true → Childed been c w → Childed been (c || true) (record w { child = Some (values_of args w.env); guess = values_of args w.env })
+    fresh_call true h k = absurd (cc h)
+    fresh_call false h k = record {
+      since = λ e. refl;
+      called_it = λ e. refl;
+      no_second = λ e f. absurd (clash (k.since e));
+      squashes = λ e. refl;
+    }
+      where
+        clash : false ≡ true → ⊥
+        clash i = cc
+made_op been c o (Verify args) w h k = at c (and_right (not (c && false)) _ h) k (same_args (values_of args w.env) w.guess)
+  where
+    at : (c : Bool) → (c || not true) ≡ true → Childed been c w → (b : Bool) → Childed been (c || false) (cond b w (record w { child = Some (values_of args w.env); fails = true }))
+    at false h k b = absurd (cc h)
+    at true h k true = k
+    at true h k false = record { since = λ e. refl; called_it = λ e. refl; no_second = λ e f. absurd (clash f); squashes = λ e. refl }
+      where
+        clash : true ≡ false → ⊥
+        clash i = cc
+made_op been c o _ w h k = record { since = λ e. or_left (k.since e); called_it = λ e. or_left (k.called_it e); no_second = k.no_second; squashes = k.squashes }
+  where
+    or_left : {b : Bool} → b ≡ true → (b || false) ≡ true
+    or_left e = ap (λ b. b || false) e
+=======
+ (been : Bool) (c : Bool) (w : Work) : Type 0 where
+  pub since : been ≡ true → c ≡ true
+  pub called_it : is_some w.child ≡ true → c ≡ true
+  pub no_second : been ≡ true → w.fails ≡ false → w.child ≡ None
+  pub squashes : w.fails ≡ true → is_some w.child ≡ true
+
+made_op : (been c : Bool) (o : Around) (op : Op) (w : Work) → call_ok c op ≡ true → Childed been c w → Childed been (c || is_call op) (work_after o op w)
+made_op been c o (Call args) w h k = fresh_call c (and_left (not (c && true)) _ h) k
+  where
+    fresh_call : (c : Bool) → not (c && true) ≡ true → Childed been c w → Childed been (c || true) (record w { child = Some (values_of args w.env) })
+    fresh_call true h k = absurd (cc h)
+    fresh_call false h k = record {
+      since = λ e. refl;
+      called_it = λ e. refl;
+      no_second = λ e f. absurd (clash (k.since e));
+      squashes = λ e. refl;
+    }
+      where
+        clash : false ≡ true → ⊥
+        clash i = cc
+made_op been c o (SpecCall args) w h k = fresh_call c (and_left (not (c && true)) _ h) k
+  where
+    fresh_call : (c : Bool) → not (c && true) ≡ true → Childed been c w → Childed been (c || true) (record w { child = Some o.guess; guess = o.guess })
+    fresh_call true h k = absurd (cc h)
+    fresh_call false h k = record {
+      since = λ e. refl;
+      called_it = λ e. refl;
+      no_second = λ e f. absurd (clash (k.since e));
+      squashes = λ e. refl;
+    }
+      where
+        clash : false ≡ true → ⊥
+        clash i = cc
+made_op been c o (Verify args) w h k = at c (and_right (not (c && false)) _ h) k (same_args (values_of args w.env) w.guess)
+  where
+    at : (c : Bool) → (c || not true) ≡ true → Childed been c w → (b : Bool) → Childed been (c || false) (cond b w (record w { child = Some (values_of args w.env); fails = true }))
+    at false h k b = absurd (cc h)
+    at true h k true = k
+    at true h k false = record { since = λ e. refl; called_it = λ e. refl; no_second = λ e f. absurd (clash f); squashes = λ e. refl }
+      where
+        clash : true ≡ false → ⊥
+        clash i = cc
+made_op been c o _ w h k = record { since = λ e. or_left (k.since e); called_it = λ e. or_left (k.called_it e); no_second = k.no_second; squashes = k.squashes }
+  where
+    or_left : {b : Bool} → b ≡ true → (b || false) ≡ true
+    or_left e = ap (λ b. b || false) e
+>>>>>>> sem1
+ made_all}
 
 -- THREADS
 
@@ -139,9 +378,10 @@ start_of t =
 
 module _ (p : Pipe) (flows : Flows p) (env : List ℕ) (t : Derived.Thread) (k : Keeps p env t) where
   -- the deeds with which the stage of the thread begins
-  abbrev pub start_deeds : Deeds
-  start_deeds = record {
+  abbrev pub start_deeds : List Kept → Deeds
+  start_deeds advice = record {
     env = t.env;
+    advice = advice;
     guess = t.guess;
     held = held_before t.stage env p.stmts [];
     blocks = [];
@@ -149,6 +389,7 @@ module _ (p : Pipe) (flows : Flows p) (env : List ℕ) (t : Derived.Thread) (k :
     writes = [];
     releases = [];
     asks = [];
+    advises = [];
     barrier = false;
     child = None;
     fails = false;
@@ -229,28 +470,28 @@ module _ (p : Pipe) (flows : Flows p) (env : List ℕ) (t : Derived.Thread) (k :
 
   -- its work on the entries of m
   module _ (o : Around) (read : ℕ → ℕ → ℕ) (block : Blocked → Bool) (free : Ask → Bool)
-      (fit : AllFit o read block free (in_stage t.stage p.stmts)) (m n : ℕ) where
+      (fit : AllFit o read block free (in_stage t.stage p.stmts)) (advice : List Kept) (m n : ℕ) where
     here : Here o read block free m n (pend m n t.entries)
         (phase_all m Fresh (on_way p (work_of_stage p o t).env (next_of p t.stage (work_of_stage p o t).env)))
-        (deeds_after_all read (in_stage t.stage p.stmts) start_deeds) (work_of_stage p o t)
+        (deeds_after_all read (in_stage t.stage p.stmts) (start_deeds advice)) (work_of_stage p o t)
     here =
-        subst (λ q. Here o read block free m n (pend m n t.entries) q (deeds_after_all read (in_stage t.stage p.stmts) start_deeds) (work_of_stage p o t))
+        subst (λ q. Here o read block free m n (pend m n t.entries) q (deeds_after_all read (in_stage t.stage p.stmts) (start_deeds advice)) (work_of_stage p o t))
         (sym (ap (phase_all m Fresh) (way_next o) ∙ phase_append m (on_way p env t.stage) _ Fresh))
         (steps_all o read block free m n (pend m n t.entries) (work_of_stage p o t).env (in_stage t.stage p.stmts)
-        (phase_all m Fresh (on_way p env t.stage)) start_deeds t.entries [] k.held fit (fixed_here o)
+        (phase_all m Fresh (on_way p env t.stage)) (start_deeds advice) (start_of t) (loose_start o read block free (start_deeds advice) t.entries [] k.held) fit (fixed_here o)
         (uses_back m (on_way p env t.stage)
         (onpath (work_of_stage p o t).env (in_stage t.stage p.stmts)) Fresh
         (subst (λ l. uses_ok m Fresh l ≡ true) (way_next o) (uses_way (work_of_stage p o t).env (next_of p t.stage (work_of_stage p o t).env) m)))
         (shape_start m n _ t.entries (k.shape m)))
 
     -- a thread's stage does to its entries of m what the stated machine's deeds do
-    pub stage_worked : Worked m n (pend m n t.entries) (deeds_after_all read (in_stage t.stage p.stmts) start_deeds) (work_of_stage p o t)
+    pub stage_worked : Worked m n (pend m n t.entries) (deeds_after_all read (in_stage t.stage p.stmts) (start_deeds advice)) (work_of_stage p o t)
     stage_worked = worked m n _ _ _ _ here (by (t.stage == commit_stage p m) refl)
       where
         by : (b : Bool) → (t.stage == commit_stage p m) ≡ b
-            → (releases_of m (deeds_after_all read (in_stage t.stage p.stmts) start_deeds).releases ≡ 0) ⊎ (is_over (phase_all m Fresh (on_way p (work_of_stage p o t).env (next_of p t.stage (work_of_stage p o t).env))) ≡ true)
+            → (releases_of m (deeds_after_all read (in_stage t.stage p.stmts) (start_deeds advice)).releases ≡ 0) ⊎ (is_over (phase_all m Fresh (on_way p (work_of_stage p o t).env (next_of p t.stage (work_of_stage p o t).env))) ≡ true)
         by true e = inr (over_at _ _ m (subst (λ s. s < next_of p t.stage (work_of_stage p o t).env) (eqb-true _ _ e) (stage_up (work_of_stage p o t).env)))
-        by false e = inl (quiet_releases m read (in_stage t.stage p.stmts) start_deeds (none_in_stage (is_release m) (commit_stage p m) t.stage p.stmts (flows.releases m) (eqb-false _ _ e)) refl)
+        by false e = inl (quiet_releases m read (in_stage t.stage p.stmts) (start_deeds advice) (none_in_stage (is_release m) (commit_stage p m) t.stage p.stmts (flows.releases m) (eqb-false _ _ e)) refl)
 
     stage_shape : Shape m (phase_all m Fresh (on_way p (work_of_stage p o t).env (next_of p t.stage (work_of_stage p o t).env)))
         (entries_of m (work_of_stage p o t).entries)
@@ -265,17 +506,25 @@ module _ (p : Pipe) (flows : Flows p) (env : List ℕ) (t : Derived.Thread) (k :
     late_empty e = shape_over m _ _ (over_at _ _ m e) stage_shape
 
   -- a thread's stage makes no second successor but by a failing verify, and one that it makes was called
-  pub stage_child : (o : Around)
-      → Childed (has_made p env t.stage) (has_made p (work_of_stage p o t).env (next_of p t.stage (work_of_stage p o t).env)) (work_of_stage p o t)
-  stage_child o =
-      subst (λ c. Childed (has_made p env t.stage) c (work_of_stage p o t))
-      (sym (ap (called false) (way_next o) ∙ called_append false (on_way p env t.stage) _))
-      (made_all (has_made p env t.stage) (has_made p env t.stage) (work_of_stage p o t).env o (in_stage t.stage p.stmts) (start_of t) (fixed_here o)
-      (calls_back false (on_way p env t.stage) _ (subst (λ l. calls_ok false l ≡ true) (way_next o)
+  pub made_then : (o : Around)
+      → has_made p (work_of_stage p o t).env (next_of p t.stage (work_of_stage p o t).env) ≡ called (has_made p env t.stage) (onpath (work_of_stage p o t).env (in_stage t.stage p.stmts))
+  made_then o = ap (called false) (way_next o) ∙ called_append false (on_way p env t.stage) _
+
+  -- the calls of its stage
+  pub calls_here :
+      (o : Around) → calls_ok (has_made p env t.stage) (onpath (work_of_stage p o t).env (in_stage t.stage p.stmts)) ≡ true
+  calls_here o = calls_back false (on_way p env t.stage) _ (subst (λ l. calls_ok false l ≡ true) (way_next o)
       (calls_front false (on_way p (work_of_stage p o t).env (next_of p t.stage (work_of_stage p o t).env)) _
       (subst (λ l. calls_ok false l ≡ true)
       (flows.all_pieces (work_of_stage p o t).env (next_of p t.stage (work_of_stage p o t).env))
-      (flows.calls (work_of_stage p o t).env)))))
+      (flows.calls (work_of_stage p o t).env))))
+
+  -- its successor
+  pub stage_child : (o : Around) → Childed (has_made p env t.stage) (has_made p (work_of_stage p o t).env (next_of p t.stage (work_of_stage p o t).env)) (work_of_stage p o t)
+  stage_child o =
+      subst (λ c. Childed (has_made p env t.stage) c (work_of_stage p o t)) (sym (made_then o))
+      (made_all (has_made p env t.stage) (has_made p env t.stage) (work_of_stage p o t).env o (in_stage t.stage p.stmts) (start_of t) (fixed_here o)
+      (calls_here o)
       (record { since = λ e. e; called_it = λ e. absurd (clash e); no_second = λ e f. refl; squashes = λ e. absurd (clash e) }))
     where
       clash : false ≡ true → ⊥
@@ -291,7 +540,7 @@ module _ (p : Pipe) (flows : Flows p) (env : List ℕ) (t : Derived.Thread) (k :
       → goes_to (stage_at p t.stage).next (work_of_stage p o t).env ≡ Some q
       → Keeps p (work_of_stage p o t).env
       (record {
-        stage = q;
+        stage = q; hint = t.hint;
         env = (work_of_stage p o t).env;
         entries = (work_of_stage p o t).entries;
         guess = (work_of_stage p o t).guess;
@@ -301,7 +550,7 @@ module _ (p : Pipe) (flows : Flows p) (env : List ℕ) (t : Derived.Thread) (k :
       subst
       (λ n. Keeps p (work_of_stage p o t).env
       (record {
-        stage = n;
+        stage = n; hint = t.hint;
         env = (work_of_stage p o t).env;
         entries = (work_of_stage p o t).entries;
         guess = (work_of_stage p o t).guess;
@@ -315,7 +564,7 @@ module _ (p : Pipe) (flows : Flows p) (env : List ℕ) (t : Derived.Thread) (k :
             ∙ sym
             (held_path (next_of p t.stage (work_of_stage p o t).env) (work_of_stage p o t).env p.stmts []
             ∙ ap (λ l. held_ops l []) (way_next o) ∙ held_append (on_way p env t.stage) _ []);
-        shape = λ m. stage_shape o read block free fit m 0;
+        shape = λ m. stage_shape o read block free fit [] m 0;
         reached =
             subst (λ n. visits_stage p (work_of_stage p o t).env n ≡ true) (sym is)
             (flows.arrives (work_of_stage p o t).env t.stage q k.inside goes (reached_on o));
@@ -335,13 +584,13 @@ module _ (p : Pipe) (flows : Flows p) (env : List ℕ) (t : Derived.Thread) (k :
       leads = ((work_of_stage p o t).env, goes, k.inside)
 
 -- a new thread keeps to its way
-pub keeps_fresh : (p : Pipe) → Flows p → (args : List ℕ) → Keeps p (Derived.fresh p args).env (Derived.fresh p args)
-keeps_fresh p flows args =
+pub keeps_fresh : (p : Pipe) → Flows p → (hint args : List ℕ) → Keeps p (Derived.fresh p hint args).env (Derived.fresh p hint args)
+keeps_fresh p flows hint args =
     record {
       inside = flows.graph.some_stage;
       held = sym (held_path 0 _ p.stmts [] ∙ ap (λ l. held_ops l []) (flows.first_piece _));
-      shape = λ m. subst (λ l. Shape m (phase_all m Fresh l) []) (sym (flows.first_piece (Derived.fresh p args).env)) (shape_fresh m);
-      reached = trunk (Derived.fresh p args).env;
+      shape = λ m. subst (λ l. Shape m (phase_all m Fresh l) []) (sym (flows.first_piece (Derived.fresh p hint args).env)) (shape_fresh m);
+      reached = trunk (Derived.fresh p hint args).env;
       path = λ env' u. (flows.first_piece env' ∙ sym (flows.first_piece _), trunk env' ∙ sym (trunk _));
       fetched = tt;
     }

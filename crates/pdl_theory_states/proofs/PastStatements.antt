@@ -2,7 +2,7 @@
 use Rattle.std.proofs.Common.{◌≡◌, refl, sym, ap, ap₂, ◌∙◌, subst, ℕ, ◌≤◌, ◌<◌, ◌⊎◌, inl, inr, Bool, true, false, ◌&&◌, ◌||◌, not, List, [], ◌∷◌, ◌++◌, length, Some, None, ◌==◌, nat_lt, cond, arith, slice_index, slice_set, eq-eqb, ltb-true}
 use Rattle.std.proofs.lemmas.List.{get_or-set_other, get_or-set_same, length-set}
 use Rattle.std.proofs.lemmas.Bool.{eqb-true, not-true, or_parts, or_right, or_left}
-use Rattle.pdl_semantics.specs.Flat.{Op, Bind, CombRead, DelayedRead, Write, ReserveRead, ReserveWrite, Block, Release, Call, SpecCall, Verify, SpecCheck, SpecBarrier, Expr, Stmt, value_of, values_of, all_hold}
+use Rattle.pdl_semantics.specs.Flat.{Op, Bind, CombRead, DelayedRead, Write, ReserveRead, ReserveWrite, Block, Release, Call, SpecCall, Verify, SpecCheck, SpecBarrier, AdviceBind, AdviceRead, AdviceWrite, Expr, Stmt, value_of, values_of, all_hold}
 use Rattle.pdl_semantics.specs.Forms.{on_block}
 use Rattle.pdl_semantics.specs.Stages.{onpath, is_release}
 use Rattle.pdl_semantics.specs.Machine.{Ask, same_args}
@@ -22,6 +22,256 @@ use Rattle.pdl_word.proofs.Bools.{untrue}
 use Rattle.pdl_theory_states.proofs.UnusedValues.{AllOps, AnyOp, ops_map, ops_both, any_both, onto, touches, value_agree, Done, done_agrees, done_guess, mention_touch, untouched, set_agrees}
 
 -- LISTS OF STATEMENTS
+<<<<<<< today
+
+||||||| base
+
+
+abbrev pub AllOps : (Op → Type 0) → List Op → Type 0
+AllOps P [] = Unit {0}
+AllOps P (op ∷ ops) = P op × AllOps P ops
+
+abbrev pub AnyOp : (Op → Type 0) → List Op → Type 0
+AnyOp P [] = ⊥
+AnyOp P (op ∷ ops) = P op ⊎ AnyOp P ops
+
+pub ops_map : {P Q : Op → Type 0} → ((op : Op) → P op → Q op) → (ops : List Op) → AllOps P ops → AllOps Q ops
+ops_map f [] h = tt
+ops_map f (op ∷ ops) h = (f op h.0, ops_map f ops h.1)
+
+pub ops_both : {P Q R : Op → Type 0} → ((op : Op) → P op → Q op → R op) → (ops : List Op) → AllOps P ops → AllOps Q ops → AllOps R ops
+ops_both f [] h k = tt
+ops_both f (op ∷ ops) h k = (f op h.0 k.0, ops_both f ops h.1 k.1)
+
+pub any_both : {P Q R : Op → Type 0} → ((op : Op) → P op → Q op → R op) → (ops : List Op) → AllOps P ops → AnyOp Q ops → AnyOp R ops
+any_both f [] h k = absurd k
+any_both f (op ∷ ops) h (inl k) = inl (f op h.0 k)
+any_both f (op ∷ ops) h (inr k) = inr (any_both f ops h.1 k)
+
+-- statements after others that were carried out, the last one first
+abbrev pub onto : List Stmt → List Op → List Op
+onto [] past = past
+onto (x ∷ xs) past = onto xs (x.op ∷ past)
+
+pub onto_append : (xs ys : List Stmt) (past : List Op) → onto (xs ++ ys) past ≡ onto ys (onto xs past)
+onto_append [] ys past = refl
+onto_append (x ∷ xs) ys past = onto_append xs ys (x.op ∷ past)
+
+pub all_new_append : (vars : ℕ) (xs ys : List Stmt) (past : List Op) → all_new vars past (xs ++ ys) ≡ true → all_new vars (onto xs past) ys ≡ true
+all_new_append vars [] ys past h = h
+all_new_append vars (x ∷ xs) ys past h = all_new_append vars xs ys (x.op ∷ past) (and_right (is_new vars past (bound_by x.op) && not (uses_own x.op)) _ h)
+
+pub all_new_front : (vars : ℕ) (xs ys : List Stmt) (past : List Op) → all_new vars past (xs ++ ys) ≡ true → all_new vars past xs ≡ true
+all_new_front vars [] ys past h = refl
+all_new_front vars (x ∷ xs) ys past h =
+    ap₂ (λ a b. a && b) (and_left _ _ h) (all_new_front vars xs ys (x.op ∷ past) (and_right (is_new vars past (bound_by x.op) && not (uses_own x.op)) _ h))
+
+-- VALUES OF VARIABLES THAT ARE NOT USED
+
+-- whether a statement hangs on the value of a variable when it has been carried out
+abbrev pub touches : ℕ → Op → Bool
+touches x (DelayedRead y m a) = a == x
+touches x op = mentions_var x op
+
+pub value_agree : (e : Expr) (env env' : List ℕ) → ((g : ℕ) → uses_in g e ≡ true → slice_index env g ≡ slice_index env' g) → value_of e env ≡ value_of e env'
+value_agree (Constant w v) env env' f = refl
+value_agree (Variable x) env env' f = f x (eq-eqb x x refl)
+value_agree (Slice x high low) env env' f = ap (Words.slice high low) (f x (eq-eqb x x refl))
+value_agree (Not w a) env env' f = ap (Words.complement w) (value_agree a env env' f)
+value_agree (Binary op w a b) env env' f = ap₂ (operator_value op w) (value_agree a env env' (λ g h. f g (or_left _ _ h))) (value_agree b env env' (λ g h. f g (or_right (uses_in g a) _ h)))
+value_agree (Cat a w b) env env' f = ap₂ (Words.cat w) (value_agree a env env' (λ g h. f g (or_left _ _ h))) (value_agree b env env' (λ g h. f g (or_right (uses_in g a) _ h)))
+value_agree (LessSigned w a b) env env' f = ap₂ (Words.lts w) (value_agree a env env' (λ g h. f g (or_left _ _ h))) (value_agree b env env' (λ g h. f g (or_right (uses_in g a) _ h)))
+value_agree (ZeroExtend wide a) env env' f = ap Words.zext (value_agree a env env' f)
+value_agree (SignExtend w wide a) env env' f = ap (Words.sext w wide) (value_agree a env env' f)
+value_agree (Choose c a b) env env' f =
+    let k = value_agree c env env' (λ g h. f g (or_left _ _ h)) in
+    let m = value_agree a env env' (λ g h. f g (or_right (uses_in g c) _ (or_left _ _ h))) in
+    let n = value_agree b env env' (λ g h. f g (or_right (uses_in g c) _ (or_right (uses_in g a) _ h))) in
+    λ i. Words.mux (k i) (m i) (n i)
+
+pub values_agree : (es : List Expr) (env env' : List ℕ) → ((g : ℕ) → uses_any g es ≡ true → slice_index env g ≡ slice_index env' g) → values_of es env ≡ values_of es env'
+values_agree [] env env' f = refl
+values_agree (e ∷ es) env env' f = ap₂ (λ a l. a ∷ l) (value_agree e env env' (λ g h. f g (or_left _ _ h))) (values_agree es env env' (λ g h. f g (or_right (uses_in g e) _ h)))
+
+-- what a statement gave
+abbrev pub Done : List ℕ → List ℕ → Op → Type 0
+Done env guess (Bind x e) = slice_index env x ≡ value_of e env
+Done env guess (SpecCall args) = guess ≡ values_of args env
+Done env guess _ = Unit {0}
+
+-- values agree on what a statement hangs on
+abbrev pub Agrees : Op → List ℕ → List ℕ → Type 0
+Agrees op env env' = (g : ℕ) → touches g op ≡ true → slice_index env g ≡ slice_index env' g
+
+pub done_agrees : (env env' guess : List ℕ) (op : Op) → Agrees op env env' → Done env guess op → Done env' guess op
+done_agrees env env' guess (Bind x e) f h = sym (f x (or_left _ _ (eq-eqb x x refl))) ∙ h ∙ value_agree e env env' (λ g k. f g (or_right (x == g) _ k))
+done_agrees env env' guess (SpecCall args) f h = h ∙ values_agree args env env' f
+done_agrees env env' guess (CombRead x m a) f h = tt
+done_agrees env env' guess (DelayedRead x m a) f h = tt
+done_agrees env env' guess (Write m a e) f h = tt
+done_agrees env env' guess (ReserveRead m a) f h = tt
+done_agrees env env' guess (ReserveWrite m a) f h = tt
+done_agrees env env' guess (Block m a) f h = tt
+done_agrees env env' guess (Release m a) f h = tt
+done_agrees env env' guess (Call args) f h = tt
+done_agrees env env' guess (Verify args) f h = tt
+done_agrees env env' guess SpecCheck f h = tt
+done_agrees env env' guess SpecBarrier f h = tt
+
+-- only a speculative call hangs on the guess
+done_guess : (env guess guess' : List ℕ) (op : Op) → is_call op ≡ false → Done env guess op → Done env guess' op
+done_guess env guess guess' (SpecCall args) k h = absurd (cc k)
+done_guess env guess guess' (Bind x e) k h = h
+done_guess env guess guess' (CombRead x m a) k h = tt
+done_guess env guess guess' (DelayedRead x m a) k h = tt
+done_guess env guess guess' (Write m a e) k h = tt
+done_guess env guess guess' (ReserveRead m a) k h = tt
+done_guess env guess guess' (ReserveWrite m a) k h = tt
+done_guess env guess guess' (Block m a) k h = tt
+done_guess env guess guess' (Release m a) k h = tt
+done_guess env guess guess' (Call args) k h = tt
+done_guess env guess guess' (Verify args) k h = tt
+done_guess env guess guess' SpecCheck k h = tt
+done_guess env guess guess' SpecBarrier k h = tt
+
+-- what no statement has to do with, none hangs on
+mention_touch : (x : ℕ) (op : Op) → mentions_var x op ≡ false → touches x op ≡ false
+mention_touch x (DelayedRead y m a) h = (or_parts (y == x) (a == x) h).1
+mention_touch x (Bind y e) h = h
+mention_touch x (CombRead y m a) h = h
+mention_touch x (Write m a e) h = h
+mention_touch x (ReserveRead m a) h = h
+mention_touch x (ReserveWrite m a) h = h
+mention_touch x (Block m a) h = h
+mention_touch x (Release m a) h = h
+mention_touch x (Call args) h = h
+mention_touch x (SpecCall args) h = h
+mention_touch x (Verify args) h = h
+mention_touch x SpecCheck h = h
+mention_touch x SpecBarrier h = h
+
+pub untouched : (x : ℕ) (ops : List Op) → is_mentioned x ops ≡ false → AllOps (λ op. touches x op ≡ false) ops
+untouched x [] h = tt
+untouched x (op ∷ ops) h = let k = or_parts (mentions_var x op) (is_mentioned x ops) h in (mention_touch x op k.0, untouched x ops k.1)
+
+-- another value of a variable on which a statement doesn't hang
+pub set_agrees : (x v : ℕ) (op : Op) (env : List ℕ) → touches x op ≡ false → Agrees op env (slice_set env x v)
+set_agrees x v op env h g k = sym (get_or-set_other env x g v 0 (λ e. untrue (sym h ∙ ap (λ n. touches n op) (sym e) ∙ k)))
+=======
+
+
+abbrev pub AllOps : (Op → Type 0) → List Op → Type 0
+AllOps P [] = Unit {0}
+AllOps P (op ∷ ops) = P op × AllOps P ops
+
+abbrev pub AnyOp : (Op → Type 0) → List Op → Type 0
+AnyOp P [] = ⊥
+AnyOp P (op ∷ ops) = P op ⊎ AnyOp P ops
+
+pub ops_map : {P Q : Op → Type 0} → ((op : Op) → P op → Q op) → (ops : List Op) → AllOps P ops → AllOps Q ops
+ops_map f [] h = tt
+ops_map f (op ∷ ops) h = (f op h.0, ops_map f ops h.1)
+
+pub ops_both : {P Q R : Op → Type 0} → ((op : Op) → P op → Q op → R op) → (ops : List Op) → AllOps P ops → AllOps Q ops → AllOps R ops
+ops_both f [] h k = tt
+ops_both f (op ∷ ops) h k = (f op h.0 k.0, ops_both f ops h.1 k.1)
+
+pub any_both : {P Q R : Op → Type 0} → ((op : Op) → P op → Q op → R op) → (ops : List Op) → AllOps P ops → AnyOp Q ops → AnyOp R ops
+any_both f [] h k = absurd k
+any_both f (op ∷ ops) h (inl k) = inl (f op h.0 k)
+any_both f (op ∷ ops) h (inr k) = inr (any_both f ops h.1 k)
+
+-- statements after others that were carried out, the last one first
+abbrev pub onto : List Stmt → List Op → List Op
+onto [] past = past
+onto (x ∷ xs) past = onto xs (x.op ∷ past)
+
+pub onto_append : (xs ys : List Stmt) (past : List Op) → onto (xs ++ ys) past ≡ onto ys (onto xs past)
+onto_append [] ys past = refl
+onto_append (x ∷ xs) ys past = onto_append xs ys (x.op ∷ past)
+
+pub all_new_append : (vars : ℕ) (xs ys : List Stmt) (past : List Op) → all_new vars past (xs ++ ys) ≡ true → all_new vars (onto xs past) ys ≡ true
+all_new_append vars [] ys past h = h
+all_new_append vars (x ∷ xs) ys past h = all_new_append vars xs ys (x.op ∷ past) (and_right (is_new vars past (bound_by x.op) && not (uses_own x.op)) _ h)
+
+pub all_new_front : (vars : ℕ) (xs ys : List Stmt) (past : List Op) → all_new vars past (xs ++ ys) ≡ true → all_new vars past xs ≡ true
+all_new_front vars [] ys past h = refl
+all_new_front vars (x ∷ xs) ys past h =
+    ap₂ (λ a b. a && b) (and_left _ _ h) (all_new_front vars xs ys (x.op ∷ past) (and_right (is_new vars past (bound_by x.op) && not (uses_own x.op)) _ h))
+
+-- VALUES OF VARIABLES THAT ARE NOT USED
+
+-- whether a statement hangs on the value of a variable when it has been carried out
+abbrev pub touches : ℕ → Op → Bool
+touches x (DelayedRead y m a) = a == x
+touches x op = mentions_var x op
+
+pub value_agree : (e : Expr) (env env' : List ℕ) → ((g : ℕ) → uses_in g e ≡ true → slice_index env g ≡ slice_index env' g) → value_of e env ≡ value_of e env'
+value_agree (Constant w v) env env' f = refl
+value_agree (Variable x) env env' f = f x (eq-eqb x x refl)
+value_agree (Slice x high low) env env' f = ap (Words.slice high low) (f x (eq-eqb x x refl))
+value_agree (Not w a) env env' f = ap (Words.complement w) (value_agree a env env' f)
+value_agree (Binary op w a b) env env' f = ap₂ (operator_value op w) (value_agree a env env' (λ g h. f g (or_left _ _ h))) (value_agree b env env' (λ g h. f g (or_right (uses_in g a) _ h)))
+value_agree (Cat a w b) env env' f = ap₂ (Words.cat w) (value_agree a env env' (λ g h. f g (or_left _ _ h))) (value_agree b env env' (λ g h. f g (or_right (uses_in g a) _ h)))
+value_agree (LessSigned w a b) env env' f = ap₂ (Words.lts w) (value_agree a env env' (λ g h. f g (or_left _ _ h))) (value_agree b env env' (λ g h. f g (or_right (uses_in g a) _ h)))
+value_agree (ZeroExtend wide a) env env' f = ap Words.zext (value_agree a env env' f)
+value_agree (SignExtend w wide a) env env' f = ap (Words.sext w wide) (value_agree a env env' f)
+value_agree (Choose c a b) env env' f =
+    let k = value_agree c env env' (λ g h. f g (or_left _ _ h)) in
+    let m = value_agree a env env' (λ g h. f g (or_right (uses_in g c) _ (or_left _ _ h))) in
+    let n = value_agree b env env' (λ g h. f g (or_right (uses_in g c) _ (or_right (uses_in g a) _ h))) in
+    λ i. Words.mux (k i) (m i) (n i)
+
+pub values_agree : (es : List Expr) (env env' : List ℕ) → ((g : ℕ) → uses_any g es ≡ true → slice_index env g ≡ slice_index env' g) → values_of es env ≡ values_of es env'
+values_agree [] env env' f = refl
+values_agree (e ∷ es) env env' f = ap₂ (λ a l. a ∷ l) (value_agree e env env' (λ g h. f g (or_left _ _ h))) (values_agree es env env' (λ g h. f g (or_right (uses_in g e) _ h)))
+
+-- what a statement gave
+abbrev pub Done : List ℕ → List ℕ → Op → Type 0
+Done env guess (Bind x e) = slice_index env x ≡ value_of e env
+Done env guess _ = Unit {0}
+
+-- values agree on what a statement hangs on
+abbrev pub Agrees : Op → List ℕ → List ℕ → Type 0
+Agrees op env env' = (g : ℕ) → touches g op ≡ true → slice_index env g ≡ slice_index env' g
+
+pub done_agrees : (env env' guess : List ℕ) (op : Op) → Agrees op env env' → Done env guess op → Done env' guess op
+done_agrees env env' guess (Bind x e) f h = sym (f x (or_left _ _ (eq-eqb x x refl))) ∙ h ∙ value_agree e env env' (λ g k. f g (or_right (x == g) _ k))
+done_agrees env env' guess _ f h = tt
+
+-- that doesn't hang on the guess
+done_guess : (env guess guess' : List ℕ) (op : Op) → Done env guess op → Done env guess' op
+done_guess env guess guess' (Bind x e) h = h
+done_guess env guess guess' _ h = tt
+
+-- what no statement has to do with, none hangs on
+mention_touch : (x : ℕ) (op : Op) → mentions_var x op ≡ false → touches x op ≡ false
+mention_touch x (DelayedRead y m a) h = (or_parts (y == x) (a == x) h).1
+mention_touch x (Bind y e) h = h
+mention_touch x (CombRead y m a) h = h
+mention_touch x (Write m a e) h = h
+mention_touch x (ReserveRead m a) h = h
+mention_touch x (ReserveWrite m a) h = h
+mention_touch x (Block m a) h = h
+mention_touch x (Release m a) h = h
+mention_touch x (Call args) h = h
+mention_touch x (SpecCall args) h = h
+mention_touch x (Verify args) h = h
+mention_touch x SpecCheck h = h
+mention_touch x (AdviceBind x' e') h = h
+mention_touch x (AdviceRead x' m' a') h = h
+mention_touch x (AdviceWrite m' a' e') h = h
+mention_touch x SpecBarrier h = h
+
+pub untouched : (x : ℕ) (ops : List Op) → is_mentioned x ops ≡ false → AllOps (λ op. touches x op ≡ false) ops
+untouched x [] h = tt
+untouched x (op ∷ ops) h = let k = or_parts (mentions_var x op) (is_mentioned x ops) h in (mention_touch x op k.0, untouched x ops k.1)
+
+-- another value of a variable on which a statement doesn't hang
+pub set_agrees : (x v : ℕ) (op : Op) (env : List ℕ) → touches x op ≡ false → Agrees op env (slice_set env x v)
+set_agrees x v op env h g k = sym (get_or-set_other env x g v 0 (λ e. untrue (sym h ∙ ap (λ n. touches n op) (sym e) ∙ k)))
+>>>>>>> sem1
+
 
 -- THREADS
 
@@ -118,6 +368,9 @@ block_set o x v env es past (Call args) t h = tt
 block_set o x v env es past (SpecCall args) t h = tt
 block_set o x v env es past (Verify args) t h = tt
 block_set o x v env es past SpecCheck t h = tt
+block_set o x v env es past (AdviceBind x' e') t h = tt
+block_set o x v env es past (AdviceRead x' m' a') t h = tt
+block_set o x v env es past (AdviceWrite m' a' e') t h = tt
 block_set o x v env es past SpecBarrier t h = tt
 
 -- a block stays true with more pending writes, or fewer, where each location that is none any more is released
@@ -148,6 +401,9 @@ block_more o env es es' past past' (Call args) f g h = tt
 block_more o env es es' past past' (SpecCall args) f g h = tt
 block_more o env es es' past past' (Verify args) f g h = tt
 block_more o env es es' past past' SpecCheck f g h = tt
+block_more o env es es' past past' (AdviceBind x' e') f g h = tt
+block_more o env es es' past past' (AdviceRead x' m' a') f g h = tt
+block_more o env es es' past past' (AdviceWrite m' a' e') f g h = tt
 block_more o env es es' past past' SpecBarrier f g h = tt
 
 -- one more statement was carried out
@@ -286,14 +542,14 @@ module _ (o : Around) (vars : ℕ) (kind : Kind o) where
   call_step : (args : List Expr) (past : List Op) (w : Work)
       → AllAsks (λ q. mentions_var q.var (SpecCall args) ≡ false) w.asks → AllOps (λ op. is_call op ≡ false) past
       → Past o vars past w
-      → Past o vars (SpecCall args ∷ past) (record w { child = Some (values_of args w.env); guess = values_of args w.env })
+      → Past o vars (SpecCall args ∷ past) (record w { child = Some o.guess; guess = o.guess })
   call_step args past w silent none h =
       let g =
       still_step SpecCheck past w
       (all_more (λ q. mentions_var q.var (SpecCall args) ≡ false) (λ q. mentions_var q.var SpecCheck ≡ false) w.asks (λ q k. refl) silent) tt tt h in
       record {
         long = h.long;
-        done = (refl, ops_both (λ op n d. done_guess w.env w.guess (values_of args w.env) op n d) past none h.done);
+        done = (tt, ops_map (λ op d. done_guess w.env w.guess o.guess op d) past h.done);
         placed = placed_more w.env past (SpecCall args) w.entries h.placed;
         asked = all_more (AskedBy w.env past) (AskedBy w.env (SpecCall args ∷ past)) w.asks (λ q k. inr k) h.asked;
         unused =
@@ -389,6 +645,9 @@ module _ (o : Around) (vars : ℕ) (kind : Kind o) where
           (record w { child = Some (values_of args w.env); fails = true }) refl refl refl refl
           (still_step (Verify args) past w silent tt tt h)
   past_step SpecCheck past w new own silent calls ready h = still_step SpecCheck past w silent tt tt h
+  past_step (AdviceBind x' e') past w new own silent calls ready h = still_step (AdviceBind x' e') past w silent tt tt h
+  past_step (AdviceRead x' m' a') past w new own silent calls ready h = still_step (AdviceRead x' m' a') past w silent tt tt h
+  past_step (AdviceWrite m' a' e') past w new own silent calls ready h = still_step (AdviceWrite m' a' e') past w silent tt tt h
   past_step SpecBarrier past w new own silent calls ready h =
       same_past (SpecBarrier ∷ past) w (work_after o SpecBarrier w) refl refl refl refl (still_step SpecBarrier past w silent tt tt h)
 
@@ -417,6 +676,9 @@ module _ (o : Around) (vars : ℕ) (kind : Kind o) where
   asks_silent (Call args) w ys u h = h
   asks_silent (SpecCall args) w ys u h = h
   asks_silent SpecCheck w ys u h = h
+  asks_silent (AdviceBind x' e') w ys u h = h
+  asks_silent (AdviceRead x' m' a') w ys u h = h
+  asks_silent (AdviceWrite m' a' e') w ys u h = h
   asks_silent SpecBarrier w ys u h = h
 
   call_flag : (c : Bool) (op : Op) (past : List Op) → call_ok c op ≡ true → Uncalled c past → is_call op ≡ true → AllOps (λ op. is_call op ≡ false) past

@@ -2,7 +2,7 @@
 use Rattle.std.proofs.Common.{◌≡◌, ◌≢◌, refl, sym, ap, ap₂, ◌∙◌, subst, ℕ, suc, ◌+◌, ◌≤◌, ◌<◌, ◌⊎◌, inl, inr, Bool, true, false, ◌&&◌, ◌||◌, not, List, [], ◌∷◌, ◌++◌, length, Option, Some, None, is_some, ◌==◌, if◌then◌else◌, arith, slice_index, slice_set, eq-eqb, length-append, add-zero, zero-add, length-set}
 use Rattle.std.proofs.lemmas.List.{get_or-set_other, length-replicate}
 use Rattle.std.proofs.lemmas.Bool.{ne_eqb}
-use Rattle.pdl_semantics.specs.Flat.{Op, Stmt, Pipe, Forks, start_env}
+use Rattle.pdl_semantics.specs.Flat.{Op, AdviceBind, AdviceRead, AdviceWrite, Stmt, Pipe, Forks, start_env}
 use Rattle.pdl_semantics.specs.Stages.{list_any, onpath, in_stage, stage_at, goes_to}
 use Rattle.pdl_semantics.specs.Machine.{Ask, Awaited, Kept, with_kept, State, answer_for, kept_answer, unanswered_reads}
 use Rattle.pdl_semantics.specs.Cycle.{awaited_of}
@@ -27,6 +27,266 @@ use Rattle.pdl_theory_states.proofs.Trails.{AllStmts, stmts_append, stmts_map, s
 use Rattle.pdl_theory_states.proofs.FetchCounts.{fetches_of, asks_are, held_in, HeldOp, fetches_in, count, count_append, count_none, count_same, count_fetch}
 
 -- DELAYED READS OF A STAGE
+<<<<<<< today
+
+||||||| base
+
+
+-- the reads that these statements ask for
+abbrev pub fetch_of : Op → List Awaited
+fetch_of (DelayedRead x m a) = record { mem = m; var = x } ∷ []
+fetch_of _ = []
+
+abbrev pub fetches_of : List Stmt → List Awaited
+fetches_of [] = []
+fetches_of (y ∷ ys) = fetch_of y.op ++ fetches_of ys
+
+awaited_snoc : (qs : List Ask) (q : Ask) → awaited_of (qs ++ q ∷ []) ≡ awaited_of qs ++ record { mem = q.mem; var = q.var } ∷ []
+awaited_snoc [] q = refl
+awaited_snoc (r ∷ qs) q = ap (λ l. record { mem = r.mem; var = r.var } ∷ l) (awaited_snoc qs q)
+
+asks_op : (o : Around) (op : Op) (w : Work) → awaited_of (work_after o op w).asks ≡ awaited_of w.asks ++ fetch_of op
+asks_op o (DelayedRead x m a) w = awaited_snoc w.asks _
+asks_op o (Verify args) w = at (same_args (values_of args w.env) w.guess)
+  where
+    at : (b : Bool) → awaited_of (cond b w (record w { child = Some (values_of args w.env); fails = true })).asks ≡ awaited_of w.asks ++ []
+    at true = sym (append-nil _)
+    at false = sym (append-nil _)
+asks_op o (Bind x e) w = sym (append-nil _)
+asks_op o (CombRead x m a) w = sym (append-nil _)
+asks_op o (Write m a e) w = sym (append-nil _)
+asks_op o (ReserveRead m a) w = sym (append-nil _)
+asks_op o (ReserveWrite m a) w = sym (append-nil _)
+asks_op o (Block m a) w = sym (append-nil _)
+asks_op o (Release m a) w = sym (append-nil _)
+asks_op o (Call args) w = sym (append-nil _)
+asks_op o (SpecCall args) w = sym (append-nil _)
+asks_op o SpecCheck w = sym (append-nil _)
+asks_op o SpecBarrier w = sym (append-nil _)
+
+-- what a stage asks for
+asks_are : (path : List ℕ) (o : Around) (xs : List Stmt) (w : Work) → Fixed path o xs w → awaited_of (do_all o xs w).asks ≡ awaited_of w.asks ++ fetches_of (onpath path xs)
+asks_are path o [] w f = sym (append-nil _)
+asks_are path o (x ∷ xs) w f = asks_are path o xs (step o x w) f.1 ∙ at (all_hold x.guards w.env) (all_hold x.guards path) f.0
+  where
+    at : (b c : Bool) → b ≡ c → awaited_of (cond b (work_after o x.op w) w).asks ++ fetches_of (onpath path xs) ≡ awaited_of w.asks ++ fetches_of (cond c (record x { guards = [] } ∷ onpath path xs) (onpath path xs))
+    at true true e = ap (λ l. l ++ fetches_of (onpath path xs)) (asks_op o x.op w) ∙ append_assoc (awaited_of w.asks) (fetch_of x.op) _
+    at true false e = absurd (cc e)
+    at false true e = absurd (cc e)
+    at false false e = refl
+
+fetch_one : (op : Op) → length (fetch_of op) ≡ cond (is_fetch op) 1 0
+fetch_one (DelayedRead x m a) = refl
+fetch_one (Bind x e) = refl
+fetch_one (CombRead x m a) = refl
+fetch_one (Write m a e) = refl
+fetch_one (ReserveRead m a) = refl
+fetch_one (ReserveWrite m a) = refl
+fetch_one (Block m a) = refl
+fetch_one (Release m a) = refl
+fetch_one (Call args) = refl
+fetch_one (SpecCall args) = refl
+fetch_one (Verify args) = refl
+fetch_one SpecCheck = refl
+fetch_one SpecBarrier = refl
+
+-- whether a read of m into x is awaited or kept
+abbrev pub held_in : List Kept → List Awaited → ℕ → ℕ → Bool
+held_in kept awaits x m = list_any (λ k. k.var == x) kept || list_any (λ r. (r.var == x) && (r.mem == m)) awaits
+
+abbrev pub HeldOp : List Kept → List Awaited → Op → Type 0
+HeldOp kept awaits op = (x m a : ℕ) → op ≡ DelayedRead x m a → held_in kept awaits x m ≡ true
+
+pub any_append : {X : Type 0} → (test : X → Bool) (xs ys : List X) → list_any test ys ≡ true → list_any test (xs ++ ys) ≡ true
+any_append test [] ys h = h
+any_append test (x ∷ xs) ys h = at (test x) (any_append test xs ys h)
+  where
+    at : (b : Bool) → list_any test (xs ++ ys) ≡ true → (b || list_any test (xs ++ ys)) ≡ true
+    at true k = refl
+    at false k = k
+
+pub any_front : {X : Type 0} → (test : X → Bool) (xs ys : List X) → list_any test xs ≡ true → list_any test (xs ++ ys) ≡ true
+any_front test [] ys h = absurd (cc h)
+any_front test (x ∷ xs) ys h = at (test x) h (λ k. any_front test xs ys k)
+  where
+    at : (b : Bool) → (b || list_any test xs) ≡ true → (list_any test xs ≡ true → list_any test (xs ++ ys) ≡ true) → (b || list_any test (xs ++ ys)) ≡ true
+    at true k f = refl
+    at false k f = f k
+
+-- each delayed read is among them
+fetches_in : (xs : List Stmt) → AllStmts (λ z. HeldOp [] (fetches_of xs) z.op) xs
+fetches_in [] = tt
+fetches_in (y ∷ ys) = (
+  (λ x m a e. any_front (λ (r : Awaited). (r.var == x) && (r.mem == m)) (fetch_of y.op) (fetches_of ys) (ap (λ op. list_any (λ (r : Awaited). (r.var == x) && (r.mem == m)) (fetch_of op)) e ∙ ap₂ (λ a b. (a && b) || false) (eq-eqb x x refl) (eq-eqb m m refl))),
+  stmts_map (λ z h x m a e. any_append (λ (r : Awaited). (r.var == x) && (r.mem == m)) (fetch_of y.op) (fetches_of ys) (h x m a e)) ys (fetches_in ys),
+)
+
+-- COUNTS
+
+-- how many statements pass a test
+abbrev pub count : (Stmt → Bool) → List Stmt → ℕ
+count test [] = 0
+count test (x ∷ xs) = cond (test x) (1 + count test xs) (count test xs)
+
+pub count_is : (test : Stmt → Bool) (xs : List Stmt) → count test xs ≡ count_by test xs
+count_is test xs = is_count_by (count test) test refl (λ x xs. refl) xs
+
+count_append : (test : Stmt → Bool) (xs ys : List Stmt) → count test (xs ++ ys) ≡ count test xs + count test ys
+count_append test [] ys = omega arith
+count_append test (x ∷ xs) ys = at (test x) (count_append test xs ys)
+  where
+    at : (b : Bool) → count test (xs ++ ys) ≡ count test xs + count test ys → cond b (1 + count test (xs ++ ys)) (count test (xs ++ ys)) ≡ cond b (1 + count test xs) (count test xs) + count test ys
+    at true h = omega arith
+    at false h = h
+
+count_none : (test : Stmt → Bool) (xs : List Stmt) → AllStmts (λ x. test x ≡ false) xs → count test xs ≡ 0
+count_none test [] h = refl
+count_none test (x ∷ xs) h = ap₂ (λ b n. cond b (1 + n) n) h.0 (count_none test xs h.1)
+
+count_same : (test test' : Stmt → Bool) (xs : List Stmt) → AllStmts (λ x. test x ≡ test' x) xs → count test xs ≡ count test' xs
+count_same test test' [] h = refl
+count_same test test' (x ∷ xs) h = ap₂ (λ b n. cond b (1 + n) n) h.0 (count_same test test' xs h.1)
+
+count_fetch : (xs : List Stmt) → length (fetches_of xs) ≡ count (λ (x : Stmt). is_fetch x.op) xs
+count_fetch [] = refl
+count_fetch (x ∷ xs) = length-append (fetch_of x.op) (fetches_of xs) ∙ ap₂ (λ a b. a + b) (fetch_one x.op) (count_fetch xs) ∙ at (is_fetch x.op)
+  where
+    at : (b : Bool) → cond b 1 0 + count (λ (x : Stmt). is_fetch x.op) xs ≡ cond b (1 + count (λ (x : Stmt). is_fetch x.op) xs) (count (λ (x : Stmt). is_fetch x.op) xs)
+    at true = refl
+    at false = omega arith
+=======
+
+
+-- the reads that these statements ask for
+abbrev pub fetch_of : Op → List Awaited
+fetch_of (DelayedRead x m a) = record { mem = m; var = x } ∷ []
+fetch_of _ = []
+
+abbrev pub fetches_of : List Stmt → List Awaited
+fetches_of [] = []
+fetches_of (y ∷ ys) = fetch_of y.op ++ fetches_of ys
+
+awaited_snoc : (qs : List Ask) (q : Ask) → awaited_of (qs ++ q ∷ []) ≡ awaited_of qs ++ record { mem = q.mem; var = q.var } ∷ []
+awaited_snoc [] q = refl
+awaited_snoc (r ∷ qs) q = ap (λ l. record { mem = r.mem; var = r.var } ∷ l) (awaited_snoc qs q)
+
+asks_op : (o : Around) (op : Op) (w : Work) → awaited_of (work_after o op w).asks ≡ awaited_of w.asks ++ fetch_of op
+asks_op o (DelayedRead x m a) w = awaited_snoc w.asks _
+asks_op o (Verify args) w = at (same_args (values_of args w.env) w.guess)
+  where
+    at : (b : Bool) → awaited_of (cond b w (record w { child = Some (values_of args w.env); fails = true })).asks ≡ awaited_of w.asks ++ []
+    at true = sym (append-nil _)
+    at false = sym (append-nil _)
+asks_op o (Bind x e) w = sym (append-nil _)
+asks_op o (CombRead x m a) w = sym (append-nil _)
+asks_op o (Write m a e) w = sym (append-nil _)
+asks_op o (ReserveRead m a) w = sym (append-nil _)
+asks_op o (ReserveWrite m a) w = sym (append-nil _)
+asks_op o (Block m a) w = sym (append-nil _)
+asks_op o (Release m a) w = sym (append-nil _)
+asks_op o (Call args) w = sym (append-nil _)
+asks_op o (SpecCall args) w = sym (append-nil _)
+asks_op o SpecCheck w = sym (append-nil _)
+asks_op o (AdviceBind x' e') w = sym (append-nil _)
+asks_op o (AdviceRead x' m' a') w = sym (append-nil _)
+asks_op o (AdviceWrite m' a' e') w = sym (append-nil _)
+asks_op o SpecBarrier w = sym (append-nil _)
+
+-- what a stage asks for
+asks_are : (path : List ℕ) (o : Around) (xs : List Stmt) (w : Work) → Fixed path o xs w → awaited_of (do_all o xs w).asks ≡ awaited_of w.asks ++ fetches_of (onpath path xs)
+asks_are path o [] w f = sym (append-nil _)
+asks_are path o (x ∷ xs) w f = asks_are path o xs (step o x w) f.1 ∙ at (all_hold x.guards w.env) (all_hold x.guards path) f.0
+  where
+    at : (b c : Bool) → b ≡ c → awaited_of (cond b (work_after o x.op w) w).asks ++ fetches_of (onpath path xs) ≡ awaited_of w.asks ++ fetches_of (cond c (record x { guards = [] } ∷ onpath path xs) (onpath path xs))
+    at true true e = ap (λ l. l ++ fetches_of (onpath path xs)) (asks_op o x.op w) ∙ append_assoc (awaited_of w.asks) (fetch_of x.op) _
+    at true false e = absurd (cc e)
+    at false true e = absurd (cc e)
+    at false false e = refl
+
+fetch_one : (op : Op) → length (fetch_of op) ≡ cond (is_fetch op) 1 0
+fetch_one (DelayedRead x m a) = refl
+fetch_one (Bind x e) = refl
+fetch_one (CombRead x m a) = refl
+fetch_one (Write m a e) = refl
+fetch_one (ReserveRead m a) = refl
+fetch_one (ReserveWrite m a) = refl
+fetch_one (Block m a) = refl
+fetch_one (Release m a) = refl
+fetch_one (Call args) = refl
+fetch_one (SpecCall args) = refl
+fetch_one (Verify args) = refl
+fetch_one SpecCheck = refl
+fetch_one (AdviceBind x' e') = refl
+fetch_one (AdviceRead x' m' a') = refl
+fetch_one (AdviceWrite m' a' e') = refl
+fetch_one SpecBarrier = refl
+
+-- whether a read of m into x is awaited or kept
+abbrev pub held_in : List Kept → List Awaited → ℕ → ℕ → Bool
+held_in kept awaits x m = list_any (λ k. k.var == x) kept || list_any (λ r. (r.var == x) && (r.mem == m)) awaits
+
+abbrev pub HeldOp : List Kept → List Awaited → Op → Type 0
+HeldOp kept awaits op = (x m a : ℕ) → op ≡ DelayedRead x m a → held_in kept awaits x m ≡ true
+
+pub any_append : {X : Type 0} → (test : X → Bool) (xs ys : List X) → list_any test ys ≡ true → list_any test (xs ++ ys) ≡ true
+any_append test [] ys h = h
+any_append test (x ∷ xs) ys h = at (test x) (any_append test xs ys h)
+  where
+    at : (b : Bool) → list_any test (xs ++ ys) ≡ true → (b || list_any test (xs ++ ys)) ≡ true
+    at true k = refl
+    at false k = k
+
+pub any_front : {X : Type 0} → (test : X → Bool) (xs ys : List X) → list_any test xs ≡ true → list_any test (xs ++ ys) ≡ true
+any_front test [] ys h = absurd (cc h)
+any_front test (x ∷ xs) ys h = at (test x) h (λ k. any_front test xs ys k)
+  where
+    at : (b : Bool) → (b || list_any test xs) ≡ true → (list_any test xs ≡ true → list_any test (xs ++ ys) ≡ true) → (b || list_any test (xs ++ ys)) ≡ true
+    at true k f = refl
+    at false k f = f k
+
+-- each delayed read is among them
+fetches_in : (xs : List Stmt) → AllStmts (λ z. HeldOp [] (fetches_of xs) z.op) xs
+fetches_in [] = tt
+fetches_in (y ∷ ys) = (
+  (λ x m a e. any_front (λ (r : Awaited). (r.var == x) && (r.mem == m)) (fetch_of y.op) (fetches_of ys) (ap (λ op. list_any (λ (r : Awaited). (r.var == x) && (r.mem == m)) (fetch_of op)) e ∙ ap₂ (λ a b. (a && b) || false) (eq-eqb x x refl) (eq-eqb m m refl))),
+  stmts_map (λ z h x m a e. any_append (λ (r : Awaited). (r.var == x) && (r.mem == m)) (fetch_of y.op) (fetches_of ys) (h x m a e)) ys (fetches_in ys),
+)
+
+-- COUNTS
+
+-- how many statements pass a test
+abbrev pub count : (Stmt → Bool) → List Stmt → ℕ
+count test [] = 0
+count test (x ∷ xs) = cond (test x) (1 + count test xs) (count test xs)
+
+pub count_is : (test : Stmt → Bool) (xs : List Stmt) → count test xs ≡ count_by test xs
+count_is test xs = is_count_by (count test) test refl (λ x xs. refl) xs
+
+count_append : (test : Stmt → Bool) (xs ys : List Stmt) → count test (xs ++ ys) ≡ count test xs + count test ys
+count_append test [] ys = omega arith
+count_append test (x ∷ xs) ys = at (test x) (count_append test xs ys)
+  where
+    at : (b : Bool) → count test (xs ++ ys) ≡ count test xs + count test ys → cond b (1 + count test (xs ++ ys)) (count test (xs ++ ys)) ≡ cond b (1 + count test xs) (count test xs) + count test ys
+    at true h = omega arith
+    at false h = h
+
+count_none : (test : Stmt → Bool) (xs : List Stmt) → AllStmts (λ x. test x ≡ false) xs → count test xs ≡ 0
+count_none test [] h = refl
+count_none test (x ∷ xs) h = ap₂ (λ b n. cond b (1 + n) n) h.0 (count_none test xs h.1)
+
+count_same : (test test' : Stmt → Bool) (xs : List Stmt) → AllStmts (λ x. test x ≡ test' x) xs → count test xs ≡ count test' xs
+count_same test test' [] h = refl
+count_same test test' (x ∷ xs) h = ap₂ (λ b n. cond b (1 + n) n) h.0 (count_same test test' xs h.1)
+
+count_fetch : (xs : List Stmt) → length (fetches_of xs) ≡ count (λ (x : Stmt). is_fetch x.op) xs
+count_fetch [] = refl
+count_fetch (x ∷ xs) = length-append (fetch_of x.op) (fetches_of xs) ∙ ap₂ (λ a b. a + b) (fetch_one x.op) (count_fetch xs) ∙ at (is_fetch x.op)
+  where
+    at : (b : Bool) → cond b 1 0 + count (λ (x : Stmt). is_fetch x.op) xs ≡ cond b (1 + count (λ (x : Stmt). is_fetch x.op) xs) (count (λ (x : Stmt). is_fetch x.op) xs)
+    at true = refl
+    at false = omega arith
+>>>>>>> sem1
+
 
 -- A LIVE THREAD
 
@@ -215,8 +475,8 @@ start_long : (p : Pipe) (args : List ℕ) → p.vars ≤ length (start_env p arg
 start_long p args = subst (λ n. p.vars ≤ n) (sym (length-append args _ ∙ ap (λ n. length args + n) (length-replicate _ 0))) (omega arith)
 
 -- a new thread, with just its arguments, keeps to what a live thread keeps to on its own
-pub local_fresh : (p : Pipe) (flows : Flows p) (args : List ℕ) → Local p (start_env p args) [] (Derived.fresh p args)
-local_fresh p flows args =
+pub local_fresh : (p : Pipe) (flows : Flows p) (hint args : List ℕ) → Local p (start_env p args) [] (Derived.fresh p hint args)
+local_fresh p flows hint args =
     record {
       long = start_long p args;
       trail = [];
@@ -241,6 +501,7 @@ all_flip P [] f = tt
 all_flip P (q ∷ qs) f = ((λ a. (f a).0), all_flip P qs (λ a. (f a).1))
 
 -- no call among statements
+pub
 uncalled : (c : Bool) (xs : List Stmt) (past : List Op)
     → called c xs ≡ false → (c ≡ false → AllOps (λ op. is_call op ≡ false) past)
     → AllOps (λ op. is_call op ≡ false) (onto xs past)
@@ -318,6 +579,8 @@ module _ (p : Pipe) (flows : Flows p) (sound : Sound p) (strict : Strict p) (o :
         unused = tt;
         blocks = blocks;
       }
+
+  pub
 
   whole_way : onpath (work_of_stage p o t).env p.stmts
       ≡ (on_way p env t.stage ++ onpath (work_of_stage p o t).env (in_stage t.stage p.stmts))
@@ -414,7 +677,7 @@ module _ (p : Pipe) (flows : Flows p) (sound : Sound p) (strict : Strict p) (o :
     pub local_moved : AllOps (BlockOk o t.env t.entries (past_of p env t.stage)) (past_of p env t.stage)
         → Local p (work_of_stage p o t).env []
         (record {
-          stage = q;
+          stage = q; hint = t.hint;
           env = (work_of_stage p o t).env;
           entries = (work_of_stage p o t).entries;
           guess = (work_of_stage p o t).guess;

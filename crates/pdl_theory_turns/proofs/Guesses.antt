@@ -6,7 +6,7 @@ use Rattle.pdl_semantics.specs.Stages.{is_verify}
 use Rattle.pdl_semantics.specs.Machine.{same_args}
 use Rattle.pdl_semantics.specs.Sequential.{Run, run_after, run_all}
 use Rattle.pdl_theory_derived.specs.Derived.{Work, Around, work_after, do_all}
-use Rattle.pdl_theory_derived.specs.Alone.{alone}
+use Rattle.pdl_theory_derived.specs.Alone.{World, alone}
 use Rattle.pdl_theory_facts.specs.Scans.{Phase, no_guards, phases_ok, all_at, none_of}
 use Rattle.pdl_theory_facts.specs.GuessScans.{stands_at, stands_before, Making, Unmade, Guessed, Made, next_making, making_all, is_unmade, is_guessed, making_ok, makings_ok}
 use Rattle.pdl_theory_derived.proofs.Writes.{and_left, and_right}
@@ -169,7 +169,7 @@ pub run_settled : (v : Option ℕ) (k : Making) (xs : List Stmt) (r : Run)
 run_settled v k [] r u h n = refl
 run_settled v k (x ∷ xs) r u h n =
     let here =
-    settled_op (alone r.arrays) v k x.stage x.op
+    settled_op (alone (record { words = r.arrays; guess = [] })) v k x.stage x.op
     (record { env = []; entries = []; guess = []; asks = []; reserves = []; commits = []; child = None; fails = false; ready = true }) u
     (and_left _ _ h)
     (and_left _ _ n) in
@@ -279,25 +279,25 @@ calls_op o v k s (Verify args) w r h e c = by k c (and_left _ _ h)
 calls_op o v k s _ w r h e c = c
 
 -- what a thread alone makes and guesses goes on agreeing with its sequential run's next arguments
-pub calls_all : (arrays : Arrays) (v : Option ℕ) (xs : List Stmt) (ph : ℕ → Phase) (k : Making) (w : Work) (r : Run)
-    → ((m : ℕ) → phases_ok m (ph m) xs ≡ true) → makings_ok v k xs ≡ true → Related arrays ph w r
+pub calls_all : (world : World) (v : Option ℕ) (xs : List Stmt) (ph : ℕ → Phase) (k : Making) (w : Work) (r : Run)
+    → ((m : ℕ) → phases_ok m (ph m) xs ≡ true) → makings_ok v k xs ≡ true → Related world ph w r
     → Calls k w.child w.guess r.next
-    → Calls (making_all k xs) (do_all (alone arrays) xs w).child (do_all (alone arrays) xs w).guess (run_all xs r).next
-calls_all arrays v [] ph k w r ok h rel c = c
-calls_all arrays v (x ∷ xs) ph k w r ok h rel c =
+    → Calls (making_all k xs) (do_all (alone world) xs w).child (do_all (alone world) xs w).guess (run_all xs r).next
+calls_all world v [] ph k w r ok h rel c = c
+calls_all world v (x ∷ xs) ph k w r ok h rel c =
     subst
     (λ (u : Work). Calls (making_all (next_making k x.op) xs)
-    (do_all (alone arrays) xs u).child (do_all (alone arrays) xs u).guess (run_all xs (cond (all_hold x.guards r.env) (run_after x.op r) r)).next)
-    (sym (step_free (alone arrays) x w free))
+    (do_all (alone world) xs u).child (do_all (alone world) xs u).guess (run_all xs (cond (all_hold x.guards r.env) (run_after x.op r) r)).next)
+    (sym (step_free (alone world) x w free))
     (subst
     (λ (u : Run). Calls (making_all (next_making k x.op) xs)
-    (do_all (alone arrays) xs (work_after (alone arrays) x.op w)).child
-    (do_all (alone arrays) xs (work_after (alone arrays) x.op w)).guess (run_all xs u).next)
+    (do_all (alone world) xs (work_after (alone world) x.op w)).child
+    (do_all (alone world) xs (work_after (alone world) x.op w)).guess (run_all xs u).next)
     (sym (ap (λ b. cond b (run_after x.op r) r) (taken_none x.guards r.env free)))
-    (calls_all arrays v xs (next_phases ph x.op) (next_making k x.op) (work_after (alone arrays) x.op w)
+    (calls_all world v xs (next_phases ph x.op) (next_making k x.op) (work_after (alone world) x.op w)
     (run_after x.op r) (λ m. and_right _ _ (ok m)) (and_right (making_ok v k x.stage x.op) _ h)
-    (related_step arrays ph x.op w r (λ m. and_right _ _ (and_left _ _ (ok m))) rel)
-    (calls_op (alone arrays) v k x.stage x.op w r (and_left _ _ h) rel.env c)))
+    (related_step world ph x.op w r (λ m. and_right _ _ (and_left _ _ (ok m))) rel)
+    (calls_op (alone world) v k x.stage x.op w r (and_left _ _ h) rel.env c)))
   where
     free : no_guards x.guards ≡ true
     free = and_left _ _ (and_left _ _ (ok 0))
@@ -314,73 +314,73 @@ verified_kept Guessed v u w n h f = (f.0 ∙ h.0, f.1 ∙ h.1, f.2 ∙ h.2)
 verified_kept Made v u w n h f = (f.0 ∙ ap₂ (λ g c. cond (same_args n g) c (Some n)) h.2 h.0, f.1 ∙ ap₂ (λ g c. cond (same_args n g) c true) h.2 h.1)
 
 -- a work and a run whose values stay the same over these statements
-abbrev pub Along : Arrays → List Stmt → Work → Run → Type 0
-Along arrays [] w r = w.env ≡ r.env
-Along arrays (x ∷ xs) w r = (w.env ≡ r.env) × Along arrays xs (step (alone arrays) x w) (if all_hold x.guards r.env then run_after x.op r else r)
+abbrev pub Along : World → List Stmt → Work → Run → Type 0
+Along world [] w r = w.env ≡ r.env
+Along world (x ∷ xs) w r = (w.env ≡ r.env) × Along world xs (step (alone world) x w) (if all_hold x.guards r.env then run_after x.op r else r)
 
 -- a thread alone has the values of its sequential run all along statements that the phases allow
-pub along_all : (arrays : Arrays) (xs : List Stmt) (ph : ℕ → Phase) (w : Work) (r : Run)
-    → ((m : ℕ) → phases_ok m (ph m) xs ≡ true) → Related arrays ph w r → Along arrays xs w r
-along_all arrays [] ph w r ok rel = rel.env
-along_all arrays (x ∷ xs) ph w r ok rel = (
+pub along_all : (world : World) (xs : List Stmt) (ph : ℕ → Phase) (w : Work) (r : Run)
+    → ((m : ℕ) → phases_ok m (ph m) xs ≡ true) → Related world ph w r → Along world xs w r
+along_all world [] ph w r ok rel = rel.env
+along_all world (x ∷ xs) ph w r ok rel = (
   rel.env,
-  subst (λ (u : Work). Along arrays xs u (if all_hold x.guards r.env then run_after x.op r else r)) (sym (step_free (alone arrays) x w free))
-      (subst (λ (u : Run). Along arrays xs (work_after (alone arrays) x.op w) u) (sym (ap (λ b. cond b (run_after x.op r) r) (taken_none x.guards r.env free)))
-      (along_all arrays xs (next_phases ph x.op) (work_after (alone arrays) x.op w) (run_after x.op r)
+  subst (λ (u : Work). Along world xs u (if all_hold x.guards r.env then run_after x.op r else r)) (sym (step_free (alone world) x w free))
+      (subst (λ (u : Run). Along world xs (work_after (alone world) x.op w) u) (sym (ap (λ b. cond b (run_after x.op r) r) (taken_none x.guards r.env free)))
+      (along_all world xs (next_phases ph x.op) (work_after (alone world) x.op w) (run_after x.op r)
       (λ m. and_right _ _ (ok m))
-      (related_step arrays ph x.op w r (λ m. and_right _ _ (and_left _ _ (ok m))) rel))),
+      (related_step world ph x.op w r (λ m. and_right _ _ (and_left _ _ (ok m))) rel))),
 )
   where
     free : no_guards x.guards ≡ true
     free = and_left _ _ (and_left _ _ (ok 0))
 
 -- a work that has the run's values all along the statements has them without the work of earlier stages
-pub along_joined : (arrays : Arrays) (xs : List Stmt) (w v : Work) (r : Run) → Along arrays xs (joined w v) r → Along arrays xs v r
-along_joined arrays [] w v r h = h
-along_joined arrays (x ∷ xs) w v r h = (
+pub along_joined : (world : World) (xs : List Stmt) (w v : Work) (r : Run) → Along world xs (joined w v) r → Along world xs v r
+along_joined world [] w v r h = h
+along_joined world (x ∷ xs) w v r h = (
   h.0,
-  along_joined arrays xs w (step (alone arrays) x v) (if all_hold x.guards r.env then run_after x.op r else r)
-      (subst (λ u. Along arrays xs u (if all_hold x.guards r.env then run_after x.op r else r))
-      (step_joined (all_hold x.guards v.env) (alone arrays) x.op w v) h.1),
+  along_joined world xs w (step (alone world) x v) (if all_hold x.guards r.env then run_after x.op r else r)
+      (subst (λ u. Along world xs u (if all_hold x.guards r.env then run_after x.op r else r))
+      (step_joined (all_hold x.guards v.env) (alone world) x.op w v) h.1),
 )
 
-along_free : (arrays : Arrays) (x : Stmt) (xs : List Stmt) (w : Work) (r : Run)
-    → no_guards x.guards ≡ true → Along arrays (x ∷ xs) w r
-    → Along arrays xs (work_after (alone arrays) x.op w) (run_after x.op r)
-along_free arrays x xs w r free h =
-    subst (λ (u : Work). Along arrays xs u (run_after x.op r)) (step_free (alone arrays) x w free)
-    (subst (λ (u : Run). Along arrays xs (step (alone arrays) x w) u) (ap (λ b. cond b (run_after x.op r) r) (taken_none x.guards r.env free)) h.1)
+along_free : (world : World) (x : Stmt) (xs : List Stmt) (w : Work) (r : Run)
+    → no_guards x.guards ≡ true → Along world (x ∷ xs) w r
+    → Along world xs (work_after (alone world) x.op w) (run_after x.op r)
+along_free world x xs w r free h =
+    subst (λ (u : Work). Along world xs u (run_after x.op r)) (step_free (alone world) x w free)
+    (subst (λ (u : Run). Along world xs (step (alone world) x w) u) (ap (λ b. cond b (run_after x.op r) r) (taken_none x.guards r.env free)) h.1)
 
 -- the end of a guess, over the statements of a path
-pub verified_all : (arrays : Arrays) (v : Option ℕ) (xs : List Stmt) (w : Work) (r : Run)
-    → unguarded xs ≡ true → makings_ok v Guessed xs ≡ true → Along arrays xs w r
-    → Verified (making_all Guessed xs) (do_all (alone arrays) xs w) w (run_all xs r).next
-verified_all arrays v [] w r g h rel = (refl, refl, refl)
-verified_all arrays v (x ∷ xs) w r g h rel =
+pub verified_all : (world : World) (v : Option ℕ) (xs : List Stmt) (w : Work) (r : Run)
+    → unguarded xs ≡ true → makings_ok v Guessed xs ≡ true → Along world xs w r
+    → Verified (making_all Guessed xs) (do_all (alone world) xs w) w (run_all xs r).next
+verified_all world v [] w r g h rel = (refl, refl, refl)
+verified_all world v (x ∷ xs) w r g h rel =
     subst
     (λ (u : Work). Verified (making_all (next_making Guessed x.op) xs)
-    (do_all (alone arrays) xs u) w (run_all xs (cond (all_hold x.guards r.env) (run_after x.op r) r)).next)
-    (sym (step_free (alone arrays) x w free))
+    (do_all (alone world) xs u) w (run_all xs (cond (all_hold x.guards r.env) (run_after x.op r) r)).next)
+    (sym (step_free (alone world) x w free))
     (subst
-    (λ (u : Run). Verified (making_all (next_making Guessed x.op) xs) (do_all (alone arrays) xs (work_after (alone arrays) x.op w)) w (run_all xs u).next)
+    (λ (u : Run). Verified (making_all (next_making Guessed x.op) xs) (do_all (alone world) xs (work_after (alone world) x.op w)) w (run_all xs u).next)
     (sym (ap (λ b. cond b (run_after x.op r) r) (taken_none x.guards r.env free)))
     (by x.op (and_left _ _ h) (and_right (making_ok v Guessed x.stage x.op) _ h)
-    (λ h'. verified_all arrays v xs (work_after (alone arrays) x.op w) (run_after x.op r)
-    (and_right (no_guards x.guards) _ g) h' (along_free arrays x xs w r free rel))))
+    (λ h'. verified_all world v xs (work_after (alone world) x.op w) (run_after x.op r)
+    (and_right (no_guards x.guards) _ g) h' (along_free world x xs w r free rel))))
   where
     free : no_guards x.guards ≡ true
     free = and_left _ _ g
 
     plain : (op : Op) → making_ok v Guessed x.stage op ≡ true → makings_ok v (next_making Guessed op) xs ≡ true
         → (makings_ok v Guessed xs ≡ true
-        → Verified (making_all Guessed xs) (do_all (alone arrays) xs (work_after (alone arrays) op w))
-        (work_after (alone arrays) op w) (run_all xs (run_after op r)).next)
+        → Verified (making_all Guessed xs) (do_all (alone world) xs (work_after (alone world) op w))
+        (work_after (alone world) op w) (run_all xs (run_after op r)).next)
         → not (is_verify op) ≡ true
-        → Verified (making_all (next_making Guessed op) xs) (do_all (alone arrays) xs (work_after (alone arrays) op w)) w (run_all xs (run_after op r)).next
+        → Verified (making_all (next_making Guessed op) xs) (do_all (alone world) xs (work_after (alone world) op w)) w (run_all xs (run_after op r)).next
     plain op i rest go n =
-        let s = settled_op (alone arrays) v Guessed x.stage op w refl i n in
-        subst (λ k. Verified (making_all k xs) (do_all (alone arrays) xs (work_after (alone arrays) op w)) w (run_all xs (run_after op r)).next) (sym s.1)
-        (verified_kept (making_all Guessed xs) _ (work_after (alone arrays) op w) w _ s.0 (go (subst (λ k. makings_ok v k xs ≡ true) s.1 rest)))
+        let s = settled_op (alone world) v Guessed x.stage op w refl i n in
+        subst (λ k. Verified (making_all k xs) (do_all (alone world) xs (work_after (alone world) op w)) w (run_all xs (run_after op r)).next) (sym s.1)
+        (verified_kept (making_all Guessed xs) _ (work_after (alone world) op w) w _ s.0 (go (subst (λ k. makings_ok v k xs ≡ true) s.1 rest)))
 
     at : (args : List Expr) (b : Bool) → same_args (values_of args w.env) w.guess ≡ b
         → ((cond b w (record w { child = Some (values_of args w.env); fails = true })).child ≡ cond b w.child (Some (values_of args w.env)))
@@ -390,15 +390,15 @@ verified_all arrays v (x ∷ xs) w r g h rel =
 
     by : (op : Op) → making_ok v Guessed x.stage op ≡ true → makings_ok v (next_making Guessed op) xs ≡ true
         → (makings_ok v Guessed xs ≡ true
-        → Verified (making_all Guessed xs) (do_all (alone arrays) xs (work_after (alone arrays) op w))
-        (work_after (alone arrays) op w) (run_all xs (run_after op r)).next)
-        → Verified (making_all (next_making Guessed op) xs) (do_all (alone arrays) xs (work_after (alone arrays) op w)) w (run_all xs (run_after op r)).next
+        → Verified (making_all Guessed xs) (do_all (alone world) xs (work_after (alone world) op w))
+        (work_after (alone world) op w) (run_all xs (run_after op r)).next)
+        → Verified (making_all (next_making Guessed op) xs) (do_all (alone world) xs (work_after (alone world) op w)) w (run_all xs (run_after op r)).next
     by (Verify args) i rest go =
         let none = unverified_made v xs rest in
-        let s = settled (alone arrays) v Made xs (work_after (alone arrays) (Verify args) w) refl rest none in
+        let s = settled (alone world) v Made xs (work_after (alone world) (Verify args) w) refl rest none in
         let one = at args (same_args (values_of args w.env) w.guess) refl in
         let n : (run_all xs (run_after (Verify args) r)).next ≡ values_of args w.env =
         run_settled v Made xs (run_after (Verify args) r) refl rest none ∙ ap (values_of args) (sym rel.0) in
-        subst (λ k. Verified k (do_all (alone arrays) xs (work_after (alone arrays) (Verify args) w)) w (run_all xs (run_after (Verify args) r)).next) (sym s.1)
-        (subst (λ l. Verified Made (do_all (alone arrays) xs (work_after (alone arrays) (Verify args) w)) w l) (sym n) (s.0.0 ∙ one.0, s.0.1 ∙ one.1))
+        subst (λ k. Verified k (do_all (alone world) xs (work_after (alone world) (Verify args) w)) w (run_all xs (run_after (Verify args) r)).next) (sym s.1)
+        (subst (λ l. Verified Made (do_all (alone world) xs (work_after (alone world) (Verify args) w)) w l) (sym n) (s.0.0 ∙ one.0, s.0.1 ∙ one.1))
     by op i rest go = plain op i rest go refl
