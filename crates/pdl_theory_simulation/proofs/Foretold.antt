@@ -24,7 +24,8 @@ use Rattle.pdl_theory_simulation.proofs.LockLists.{fell, moved_live, stood, next
 use Rattle.pdl_theory_simulation.proofs.LiveThreads.{Made, made, born_live, lives_next}
 use Rattle.pdl_theory_simulation.proofs.ThreadPlaces.{made_on}
 use Rattle.pdl_theory_simulation.proofs.SimulatedStates.{Sim, HaveMade}
-use Rattle.pdl_theory_simulation.proofs.WholeSimulation.{known, swaps, acts_are, cycle_sim, turn_same, first_live, first_sim}
+use Rattle.pdl_theory_simulation.proofs.WholeSimulation.{known, swaps, acts_are, cycle_sim, turn_same}
+use Rattle.pdl_theory_simulation.proofs.SimulatedRuns.{first_live, first_sim}
 use Rattle.pdl_word.specs.Each.{Each}
 
 -- the youngest thread, if it hasn't made its successor, was given what it will guess

@@ -1,11 +1,11 @@
 -- What ties a state of the stated machine to one of the derived machine, one cycle of both, and whole runs.
 use Rattle.std.proofs.Common.{drop, take, ◌≡◌, refl, sym, ap, ap₂, ◌∙◌, subst, ℕ, zero, suc, ◌+◌, ◌≤◌, ◌<◌, Bool, true, false, ◌&&◌, ◌||◌, not, List, [], ◌∷◌, ◌++◌, length, Option, Some, None, is_some, is_none, ◌==◌, nat_lt, cond, if◌then◌else◌, arith, append-nil, slice_index_or, ltb-true, ltb-false, zero-add, add-zero, add-suc, suc-add, eq-eqb}
 use Rattle.std.proofs.lemmas.Bool.{eqb-true}
-use Rattle.pdl_semantics.specs.Flat.{Arrays, Array, Pipe, Branch, Mem, Stage, of_mem, after_commits}
+use Rattle.pdl_semantics.specs.Flat.{Arrays, Pipe, Branch, Mem, Stage, of_mem, after_commits, Array}
 use Rattle.pdl_semantics.specs.Stages.{list_any, stage_at, goes_to, in_stage, is_inside, is_branch_of}
 use Rattle.pdl_semantics.specs.Sound.{is_delayed_read}
 use Rattle.pdl_semantics.specs.Machine.{Ask, Awaited, Request, NoRequest, Owned, Orphan, is_answered, State, lock_of, fork_of, request_of, with_kept}
-use Rattle.pdl_semantics.specs.Cycle.{awaited_of, for_mems, for_stages, all_releases, list_two, list_three, taken_out, with_commits, with_all_advised, entries_left, request_left, request_next, port_writes, is_kept, squasher}
+use Rattle.pdl_semantics.specs.Cycle.{awaited_of, for_mems, for_stages, all_releases, list_two, list_three, taken_out, with_commits, entries_left, request_left, request_next, port_writes, is_kept, squasher, with_all_advised}
 use Rattle.pdl_theory_turns.proofs.EntryCommits.{released}
 use Rattle.pdl_semantics.specs.Moves.{movers, next_stage}
 use Rattle.pdl_semantics.specs.Promises.{row, wrote, DifferInAdvice}
@@ -27,11 +27,10 @@ use Rattle.pdl_theory_turns.proofs.OwnEntries.{pend_own}
 use Rattle.pdl_theory_simulation.proofs.Stretches.{Keeps, Fetched, AllFetched, unknown}
 use Rattle.pdl_theory_simulation.proofs.StretchSteps.{AsksFrom}
 use Rattle.pdl_theory_simulation.proofs.Seats.{Live, each_map, Ordered, Rises, Falls, dacts, lacts, lact, did, work_of_live, acts_slots, acts_back, pends, pends_append}
-use Rattle.pdl_theory_simulation.proofs.Choices.{Matched, OwnedBy, AllOwned, Seated, Known, AllKnown, AllForeseen, like_here, asks_here}
-use Rattle.pdl_theory_simulation.proofs.ThreadFacts.{Pair, sides, sorted, lives_of, find_sorted, rises_sorted}
+use Rattle.pdl_theory_simulation.proofs.Choices.{Matched, OwnedBy, AllOwned, Seated, Known, AllKnown, told_here, asks_here, AllForeseen, like_here}
+use Rattle.pdl_theory_simulation.proofs.ThreadFacts.{sides, sorted, lives_of, find_sorted, rises_sorted, Pair}
 use Rattle.pdl_theory_simulation.proofs.Orders.{sides_none, known_all, acts_of, acts_sorted}
-use Rattle.pdl_theory_simulation.proofs.ActOrder.{Swaps, swaps_all, same_after, same_arrays, same_ports}
-use Rattle.pdl_theory_simulation.proofs.Advising.{EachAdvisory, advises_all, fits_stage, advice_apart}
+use Rattle.pdl_theory_simulation.proofs.ActOrder.{swaps_all, same_after, same_ports, Swaps, same_arrays}
 use Rattle.pdl_theory_simulation.proofs.ForkLists.{fork_next}
 use Rattle.pdl_theory_simulation.proofs.LockLists.{fell, next_live, go_on, Agrees, two, three, two_is, three_is, commits_here, unreleased, pends_on}
 use Rattle.pdl_theory_simulation.proofs.LiveThreads.{made, born_live, lives_next, child_is, survive, agrees, squashes, any_rev}
@@ -41,6 +40,7 @@ use Rattle.pdl_theory_turns.proofs.OfStage.{none_stage}
 use Rattle.pdl_word.specs.Each.{Each}
 use Rattle.pdl_word.proofs.Each.{each_append}
 use Rattle.pdl_theory_simulation.proofs.SimulatedStates.{Sim}
+use Rattle.pdl_theory_simulation.proofs.Advising.{EachAdvisory, advises_all, fits_stage, advice_apart}
 
 module _ (p : Pipe) (flows : Flows p) where
   -- only memories that are there are read
