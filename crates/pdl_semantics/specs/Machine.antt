@@ -108,6 +108,9 @@ held_after (SpecCall args) ls = ls
 held_after (Verify args) ls = ls
 held_after SpecCheck ls = ls
 held_after SpecBarrier ls = ls
+held_after (AdviceBind x e) ls = ls
+held_after (AdviceRead x m a) ls = ls
+held_after (AdviceWrite m a e) ls = ls
 
 -- the locations that are held for writing after the statements of the path in the stages before s
 abbrev pub held_before : ℕ → List ℕ → List Stmt → List HeldLocation → List HeldLocation

@@ -1,6 +1,6 @@
 -- Sound state: what holds, between cycles, in every state that a run of an accepted pipe comes to. Each point is a test, so that it computes. A turn is a thread of the sequential run.
 use Rattle.std.specs.Prelude.{IsTrue, ℕ, zero, suc, ◌+◌, ◌-◌, count_by, Bool, true, false, ◌&&◌, ◌||◌, not, List, [], ◌∷◌, ◌++◌, Option, Some, None, is_none, if◌then◌else◌, nat_lt, nat_le, ◌==◌, slice_index, length}
-use Rattle.pdl_semantics.specs.Flat.{is_advisory, Arrays, list_all, Op, Bind, CombRead, DelayedRead, Write, ReserveRead, ReserveWrite, Block, Release, Call, SpecCall, Verify, SpecCheck, SpecBarrier, Stmt, Mem, Branch, Pipe, value_of, values_of, start_env, word_at, Commit, of_mem}
+use Rattle.pdl_semantics.specs.Flat.{is_advisory, Arrays, list_all, Op, Bind, CombRead, DelayedRead, Write, ReserveRead, ReserveWrite, Block, Release, Call, SpecCall, Verify, SpecCheck, SpecBarrier, AdviceBind, AdviceRead, AdviceWrite, Stmt, Mem, Branch, Pipe, value_of, values_of, start_env, word_at, Commit, of_mem}
 use Rattle.pdl_semantics.specs.Forms.{on_delayed_read, on_block, on_release}
 use Rattle.pdl_semantics.specs.Stages.{list_any, onpath, stage_at, goes_to, is_verify, verify_stage}
 use Rattle.pdl_semantics.specs.Sequential.{Run, run_all, thread, seqwrites, after_turns}
@@ -92,6 +92,9 @@ is_call (Release m a) = false
 is_call (Verify args) = false
 is_call SpecCheck = false
 is_call SpecBarrier = false
+is_call (AdviceBind x e) = false
+is_call (AdviceRead x m a) = false
+is_call (AdviceWrite m a e) = false
 
 -- whether a statement is a call on a guess
 abbrev pub is_spec_call : Op → Bool
@@ -108,10 +111,16 @@ is_spec_call (Call args) = false
 is_spec_call (Verify args) = false
 is_spec_call SpecCheck = false
 is_spec_call SpecBarrier = false
+is_spec_call (AdviceBind x e) = false
+is_spec_call (AdviceRead x m a) = false
+is_spec_call (AdviceWrite m a e) = false
 
 -- whether a statement is a `spec_barrier`
 abbrev pub is_barrier : Op → Bool
 is_barrier SpecBarrier = true
+is_barrier (AdviceBind x e) = false
+is_barrier (AdviceRead x m a) = false
+is_barrier (AdviceWrite m a e) = false
 is_barrier (Bind x e) = false
 is_barrier (CombRead x m a) = false
 is_barrier (DelayedRead x m a) = false
@@ -140,6 +149,9 @@ is_write m (SpecCall args) = false
 is_write m (Verify args) = false
 is_write m SpecCheck = false
 is_write m SpecBarrier = false
+is_write m (AdviceBind x e) = false
+is_write m (AdviceRead x _ a) = false
+is_write m (AdviceWrite _ a e) = false
 
 -- a reservation of memory m for writing
 abbrev pub is_write_reserve : ℕ → Op → Bool
@@ -156,6 +168,9 @@ is_write_reserve m (SpecCall args) = false
 is_write_reserve m (Verify args) = false
 is_write_reserve m SpecCheck = false
 is_write_reserve m SpecBarrier = false
+is_write_reserve m (AdviceBind x e) = false
+is_write_reserve m (AdviceRead x _ a) = false
+is_write_reserve m (AdviceWrite _ a e) = false
 
 -- the release of the location in memory m whose address is variable a
 abbrev pub is_release_at : ℕ → ℕ → Op → Bool
@@ -176,6 +191,9 @@ looks_at m (SpecCall args) = false
 looks_at m (Verify args) = false
 looks_at m SpecCheck = false
 looks_at m SpecBarrier = false
+looks_at m (AdviceBind x e) = false
+looks_at m (AdviceRead x _ a) = false
+looks_at m (AdviceWrite _ a e) = false
 
 -- a thread has released a write of m
 abbrev pub has_released : ℕ → Pipe → Live → Bool
@@ -461,6 +479,9 @@ is_done st l (Call args) = true
 is_done st l (Verify args) = true
 is_done st l SpecCheck = true
 is_done st l SpecBarrier = true
+is_done st l (AdviceBind x e) = true
+is_done st l (AdviceRead x m a) = true
+is_done st l (AdviceWrite m a e) = true
 
 -- the memory of a location that a thread holds has a pending write of the thread at its address
 abbrev pub right_place : State → Live → HeldLocation → Bool

@@ -1,7 +1,7 @@
 -- Stages and paths of a pipe in flat form. A path is a truth value for each guard: a list of values of all variables, of which those of guards count.
 use Rattle.std.specs.Prelude.{ℕ, zero, suc, max, Bool, true, false, ◌||◌, List, [], ◌∷◌, ◌++◌, Option, Some, None, if◌then◌else◌, ◌==◌, slice_index, slice_index_or, slice_set, length, take, count_by, unwrap_or}
 use Rattle.pdl_semantics.specs.Tree.{Comb}
-use Rattle.pdl_semantics.specs.Flat.{is_delayed, Op, Bind, CombRead, DelayedRead, Write, ReserveRead, ReserveWrite, Block, Release, Call, SpecCall, Verify, SpecCheck, SpecBarrier, Stmt, Plain, Mem, Next, Ends, Goes, Forks, Branch, Stage, Pipe, all_hold, start_env}
+use Rattle.pdl_semantics.specs.Flat.{is_delayed, Op, Bind, CombRead, DelayedRead, Write, ReserveRead, ReserveWrite, Block, Release, Call, SpecCall, Verify, SpecCheck, SpecBarrier, AdviceBind, AdviceRead, AdviceWrite, Stmt, Plain, Mem, Next, Ends, Goes, Forks, Branch, Stage, Pipe, all_hold, start_env}
 use Rattle.pdl_semantics.specs.Forms.{on_release}
 
 -- whether some element passes the test
@@ -82,6 +82,9 @@ is_reserve m (SpecCall args) = false
 is_reserve m (Verify args) = false
 is_reserve m SpecCheck = false
 is_reserve m SpecBarrier = false
+is_reserve m (AdviceBind x e) = false
+is_reserve m (AdviceRead x _ a) = false
+is_reserve m (AdviceWrite _ a e) = false
 
 -- the release of a location in memory m
 abbrev pub is_release : ℕ → Op → Bool
@@ -102,6 +105,9 @@ is_verify (Call args) = false
 is_verify (SpecCall args) = false
 is_verify SpecCheck = false
 is_verify SpecBarrier = false
+is_verify (AdviceBind x e) = false
+is_verify (AdviceRead x m a) = false
+is_verify (AdviceWrite m a e) = false
 
 -- V as the stage of the first `verify`, where there is one
 abbrev pub verify_stage : List Stmt → Option ℕ
