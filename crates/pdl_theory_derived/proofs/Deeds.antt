@@ -105,6 +105,9 @@ module _ (o : Around) (read : ℕ → ℕ → ℕ) (block : Blocked → Bool) (f
   Fits (Verify args) = Unit {0}
   Fits SpecCheck = Unit {0}
   Fits SpecBarrier = Unit {0}
+  Fits (AdviceBind x e) = Unit {0}
+  Fits (AdviceRead x m a) = Unit {0}
+  Fits (AdviceWrite m a e) = Unit {0}
 
   -- the surroundings say of each of these statements what the stated conditions say
   abbrev pub AllFit : List Stmt → Type 0

@@ -1,7 +1,7 @@
 -- A stage's work is a piece of the whole thread's.
 use Rattle.std.proofs.Common.{◌≡◌, refl, sym, ap, ◌∙◌, ℕ, suc, Bool, true, false, ◌&&◌, ◌||◌, List, [], ◌∷◌, ◌++◌, Option, Some, None, slice_index, slice_set, cond, if◌then◌else◌, append_assoc, append-nil}
 use Rattle.std.proofs.Math.Bool.{and_assoc, and-true}
-use Rattle.pdl_semantics.specs.Flat.{Arrays, Op, Bind, CombRead, DelayedRead, Write, ReserveRead, ReserveWrite, Block, Release, Call, SpecCall, Verify, SpecCheck, SpecBarrier, Stmt, Pipe, values_of, all_hold, word_at}
+use Rattle.pdl_semantics.specs.Flat.{Arrays, Op, Bind, CombRead, DelayedRead, Write, ReserveRead, ReserveWrite, Block, Release, Call, SpecCall, Verify, SpecCheck, SpecBarrier, AdviceBind, AdviceRead, AdviceWrite, Stmt, Pipe, values_of, all_hold, word_at}
 use Rattle.pdl_semantics.specs.Stages.{in_stage}
 use Rattle.pdl_semantics.specs.Machine.{same_args}
 use Rattle.pdl_theory_derived.specs.Derived.{Work, Around, work_after, do_all, work_of_stage, has_entry, released_commits}
@@ -116,10 +116,12 @@ ReadsRight o arrays (ReserveWrite m a) env = Unit {0}
 ReadsRight o arrays (Block m a) env = Unit {0}
 ReadsRight o arrays (Release m a) env = Unit {0}
 ReadsRight o arrays (Call args) env = Unit {0}
-ReadsRight o arrays (SpecCall args) env = Unit {0}
 ReadsRight o arrays (Verify args) env = Unit {0}
 ReadsRight o arrays SpecCheck env = Unit {0}
 ReadsRight o arrays SpecBarrier env = Unit {0}
+ReadsRight o arrays (AdviceBind x e) env = Unit {0}
+ReadsRight o arrays (AdviceRead x m a) env = Unit {0}
+ReadsRight o arrays (AdviceWrite m a e) env = Unit {0}
 
 ready_same : (b c d : Bool) → (b && c) ≡ true → d ≡ true → (b && c) ≡ (b && d)
 ready_same true c d h e = h ∙ sym e
