@@ -1,5 +1,5 @@
 -- The live threads in the whole language: each on its turn, in a stage of its path, with the answers that it still awaits.
-use Rattle.std.proofs.Common.{◌≡◌, sym, ap, ap₂, ◌∙◌, ℕ, ◌≤◌, ◌<◌, Bool, true, false, not, List, [], ◌∷◌, ◌++◌, length, Option, Some, None, is_some, nat_lt, if◌then◌else◌, arith}
+use Rattle.std.proofs.Common.{◌≡◌, refl, sym, ap, ap₂, ◌∙◌, ℕ, ◌≤◌, ◌<◌, Bool, true, false, not, List, [], ◌∷◌, ◌++◌, length, Option, Some, None, is_some, nat_lt, if◌then◌else◌, arith}
 use Rattle.pdl_semantics.specs.Flat.{Arrays, Array, Pipe, of_mem, word_at}
 use Rattle.pdl_semantics.specs.Stages.{mem_at, commit_stage, reserve_stage}
 use Rattle.pdl_semantics.specs.Locks.{Nothing, value_or, read_ready}
