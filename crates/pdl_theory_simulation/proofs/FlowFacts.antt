@@ -1,6 +1,6 @@
 -- The forms in which the simulation takes the facts of an accepted pipe of the whole language (all follow from the record of Facts).
 use Rattle.std.specs.Prelude.{◌≡◌, ◌⊎◌, ℕ, suc, ◌<◌, ◌≤◌, Bool, true, false, ◌&&◌, ◌||◌, not, List, [], ◌∷◌, ◌++◌, Some, None, if◌then◌else◌, ◌==◌, length, slice_index}
-use Rattle.pdl_semantics.specs.Flat.{Op, Bind, CombRead, DelayedRead, Write, ReserveRead, ReserveWrite, Block, Release, Call, SpecCall, Verify, SpecCheck, SpecBarrier, Stmt, Forks, Branch, Pipe, all_hold}
+use Rattle.pdl_semantics.specs.Flat.{Op, Bind, CombRead, DelayedRead, Write, ReserveRead, ReserveWrite, Block, Release, Call, SpecCall, Verify, SpecCheck, SpecBarrier, AdviceBind, AdviceRead, AdviceWrite, Stmt, Forks, Branch, Pipe, all_hold}
 use Rattle.pdl_semantics.specs.Stages.{onpath, in_stage, stage_at, is_inside, goes_to, verify_stage, commit_stage, reserve_stage, is_reserve, is_release, is_verify}
 use Rattle.pdl_semantics.specs.Cycle.{merges_by}
 use Rattle.pdl_semantics.specs.Promises.{KeepsAdvice}
@@ -26,6 +26,9 @@ sets x (SpecCall args) = false
 sets x (Verify args) = false
 sets x SpecCheck = false
 sets x SpecBarrier = false
+sets x (AdviceBind _ e) = false
+sets x (AdviceRead _ m a) = false
+sets x (AdviceWrite m a e) = false
 
 -- whether at most one statement is of a kind
 abbrev pub at_most_one : (Op → Bool) → List Stmt → Bool
@@ -47,6 +50,9 @@ use_ok m ph (SpecCall args) = true
 use_ok m ph (Verify args) = true
 use_ok m ph SpecCheck = true
 use_ok m ph SpecBarrier = true
+use_ok m ph (AdviceBind x e) = true
+use_ok m ph (AdviceRead x _ a) = true
+use_ok m ph (AdviceWrite _ a e) = true
 
 -- each of these statements is in order in its phase of the lock of m
 abbrev pub uses_ok : ℕ → Phase → List Stmt → Bool
