@@ -7,6 +7,7 @@ use Rattle.std.proofs.lemmas.List.Sums.{fold_push}
 use Rattle.std.proofs.lemmas.Slice.Eq.{bytes_eq-Decides}
 use Rattle.std.specs.List.{list_any, list_all}
 use Rattle.pdl_semantics.specs.Tree.{Span, Expr, Location, R, W, Write, Reserve, Block, Release, Pipe}
+use Rattle.pdl_semantics.specs.Flatten.{is_advisory_mem}
 use Rattle.pdl_rules.specs.Places.{Place, Statement, End, Branch}
 use Rattle.pdl_rules.specs.Locks.{same_location, same_kind, Hold, Nothing, Reserved, Blocked, Released, after_block, after_place, hold_after, is_blocked_for, is_held_for, lacks_hold, is_late_read, is_reserve_of, is_write_of, is_one_too_many, is_reserved_again, is_not_written_once, ends_open, reserves_location, writes_location, leaves_open}
 use Rattle.pdl_rules.proofs.EachPlace.{Each}
@@ -18,7 +19,7 @@ use Rattle.pdl_word.proofs.Lists.{all_weaker}
 -- what the rules of locks say of a place, with the places before it on a path
 pub record KeepsLocks (p : Pipe) (before : List Place) (x : Place) : Type 0 where
   pub l1 : lacks_hold p before x ≡ false
-  pub l3 : is_late_read before x ≡ false
+  pub l3 : is_late_read p before x ≡ false
   pub l4 : is_one_too_many p before x ≡ false
   pub l5 : is_reserved_again before x ≡ false
   pub l6 : is_not_written_once before x ≡ false
@@ -145,22 +146,23 @@ reserved_if_held l (x ∷ xs) h f e =
 
 -- THE PLACES SO FAR
 
--- whether a write goes to a location that one of these places reserves for it
-abbrev is_backed : List Place → Place → Bool
-is_backed before (Statement (Write _ l _) _) = list_any (reserves_to_write l) before
-is_backed before _ = true
+-- whether a write that isn't one of an advisory memory goes to a location that one of these places reserves for it
+abbrev is_backed : Pipe → List Place → Place → Bool
+is_backed p before (Statement (Write _ l _) _) = is_advisory_mem p.mems l.mem.name || list_any (reserves_to_write l) before
+is_backed p before _ = true
 
--- each write has its location reserved
-pub record AreBacked (before : List Place) : Type 0 where
-  pub backed : list_all (is_backed before) before ≡ true
+-- each such write has its location reserved
+pub record AreBacked (p : Pipe) (before : List Place) : Type 0 where
+  pub backed : list_all (is_backed p before) before ≡ true
 
 -- where there are no places, no memory is reserved twice, and no write lacks its reservation
-pub none_backed : AreBacked []
-none_backed = record { backed = refl }
+pub none_backed : (p : Pipe) → AreBacked p []
+none_backed p = record { backed = refl }
 
-backed_more : (before : List Place) (y x : Place) → is_backed before x ≡ true → is_backed (before ++ y ∷ []) x ≡ true
-backed_more before y (Statement (Write s l v) bs) e = any_front (reserves_to_write l) before y e
-backed_more before y _ e = refl
+backed_more : (p : Pipe) (before : List Place) (y x : Place) → is_backed p before x ≡ true → is_backed p (before ++ y ∷ []) x ≡ true
+backed_more p before y (Statement (Write s l v) bs) e =
+    ⊎_elim (λ t. or_left _ (list_any (reserves_to_write l) (before ++ y ∷ [])) t) (λ t. or_right (is_advisory_mem p.mems l.mem.name) _ (any_front (reserves_to_write l) before y t)) (or_cases (is_advisory_mem p.mems l.mem.name) _ e)
+backed_more p before y _ e = refl
 
 -- what is blocked to be written is held as `Blocked W`
 pub held_if_blocked : (h : Hold) → is_blocked_for W h ≡ true → h ≡ Blocked W
@@ -175,16 +177,24 @@ pub reserved_if_blocked : (l : Location) (before : List Place)
     → hold_after l before ≡ Blocked W → list_any (reserves_to_write l) before ≡ true
 reserved_if_blocked l before e = reserved_if_held l before Nothing refl (ap (is_held_for W) e)
 
-backed_here : (p : Pipe) (before : List Place) (x : Place) → lacks_hold p before x ≡ false → is_backed before x ≡ true
-backed_here p before (Statement (Write s l v) bs) e = reserved_if_blocked l before (held_if_blocked _ (not-false _ e))
+-- a write of a memory that isn't advisory has its location blocked
+pub blocked_here : (p : Pipe) (before : List Place) (l : Location) → is_advisory_mem p.mems l.mem.name ≡ false → (not (is_advisory_mem p.mems l.mem.name) && not (is_blocked_for W (hold_after l before))) ≡ false → hold_after l before ≡ Blocked W
+blocked_here p before l plain e = held_if_blocked _ (not-false _ (sym (ap (λ a. not a && not (is_blocked_for W (hold_after l before))) plain) ∙ e))
+
+backed_here : (p : Pipe) (before : List Place) (x : Place) → lacks_hold p before x ≡ false → is_backed p before x ≡ true
+backed_here p before (Statement (Write s l v) bs) e = go (is_advisory_mem p.mems l.mem.name) refl
+  where
+    go : (b : Bool) → is_advisory_mem p.mems l.mem.name ≡ b → (is_advisory_mem p.mems l.mem.name || list_any (reserves_to_write l) before) ≡ true
+    go true a = or_left _ (list_any (reserves_to_write l) before) a
+    go false a = or_right (is_advisory_mem p.mems l.mem.name) _ (reserved_if_blocked l before (blocked_here p before l a e))
 backed_here p before _ e = refl
 
 -- after a place that keeps the rules on locks, too, each write has its location reserved
-pub backed_next : (p : Pipe) (before : List Place) (x : Place) → KeepsLocks p before x → AreBacked before → AreBacked (before ++ x ∷ [])
+pub backed_next : (p : Pipe) (before : List Place) (x : Place) → KeepsLocks p before x → AreBacked p before → AreBacked p (before ++ x ∷ [])
 backed_next p before x k b = record {
   backed = list_all-append _ before (x ∷ []) ∙ and_from _ _
-      (all_weaker _ _ (backed_more before x) before b.backed)
-      (and_from _ _ (backed_more before x x (backed_here p before x k.l1)) refl);
+      (all_weaker _ _ (backed_more p before x) before b.backed)
+      (and_from _ _ (backed_more p before x x (backed_here p before x k.l1)) refl);
 }
 
 -- what is written is reserved
@@ -192,24 +202,27 @@ reserved_alike : (a b : Location) → same_location a b ≡ true → (x : Place)
 reserved_alike a b e (Statement (Reserve s l k) bs) = ap (λ c. same_kind W k && c) (same_right l a b e)
 reserved_alike a b e _ = refl
 
-written_here : (before : List Place) (a : Location) (x : Place) → is_backed before x ≡ true
-    → writes_location a x ≡ true → list_any (reserves_to_write a) before ≡ true
-written_here before a (Statement (Write s l v) bs) e w = sym (ap (λ f. list_any f before) (fun_ext (reserved_alike l a w))) ∙ e
-written_here before a _ e w = absurd (false≢true w)
+same_advisory : (p : Pipe) (a b : Location) → same_location a b ≡ true → is_advisory_mem p.mems a.mem.name ≡ is_advisory_mem p.mems b.mem.name
+same_advisory p a b e = ap (is_advisory_mem p.mems) (bytes_same a.mem.name b.mem.name (and_parts (bytes_eq a.mem.name b.mem.name) _ e).0)
 
-written_among : (before : List Place) (a : Location) (xs : List Place) → list_all (is_backed before) xs ≡ true
+written_here : (p : Pipe) (before : List Place) (a : Location) (x : Place) → is_advisory_mem p.mems a.mem.name ≡ false → is_backed p before x ≡ true
+    → writes_location a x ≡ true → list_any (reserves_to_write a) before ≡ true
+written_here p before a (Statement (Write s l v) bs) plain e w = sym (ap (λ f. list_any f before) (fun_ext (reserved_alike l a w))) ∙ sym (ap (λ b. b || list_any (reserves_to_write l) before) (same_advisory p l a w ∙ plain)) ∙ e
+written_here p before a _ plain e w = absurd (false≢true w)
+
+written_among : (p : Pipe) (before : List Place) (a : Location) (xs : List Place) → is_advisory_mem p.mems a.mem.name ≡ false → list_all (is_backed p before) xs ≡ true
     → list_any (writes_location a) xs ≡ true → list_any (reserves_to_write a) before ≡ true
-written_among before a [] e w = absurd (false≢true w)
-written_among before a (x ∷ xs) e w =
-    let parts = and_parts (is_backed before x) (list_all (is_backed before) xs) e in
+written_among p before a [] plain e w = absurd (false≢true w)
+written_among p before a (x ∷ xs) plain e w =
+    let parts = and_parts (is_backed p before x) (list_all (is_backed p before) xs) e in
     ⊎_elim
-    (λ t. written_here before a x parts.0 t)
-    (λ t. written_among before a xs parts.1 t)
+    (λ t. written_here p before a x plain parts.0 t)
+    (λ t. written_among p before a xs plain parts.1 t)
     (or_cases (writes_location a x) (list_any (writes_location a) xs) w)
 
 -- what is written was reserved
-pub written_reserved : (before : List Place) (a : Location) → AreBacked before → list_any (writes_location a) before ≡ true → list_any (reserves_to_write a) before ≡ true
-written_reserved before a b w = written_among before a before b.backed w
+pub written_reserved : (p : Pipe) (before : List Place) (a : Location) → is_advisory_mem p.mems a.mem.name ≡ false → AreBacked p before → list_any (writes_location a) before ≡ true → list_any (reserves_to_write a) before ≡ true
+written_reserved p before a plain b w = written_among p before a before plain b.backed w
 
 -- WRITTEN TWICE
 
@@ -269,12 +282,13 @@ stuck_at_end p l (x ∷ xs) later before s stuck each = stuck_at_end p l xs late
 
 -- no write through a location stands after a write through it
 pub written_once : (p : Pipe) (s : Span) (l : Location) (v : Expr) (bs : List Branch) (before xs later : List Place) (end : Span)
+    → is_advisory_mem p.mems l.mem.name ≡ false
     → Each (KeepsLocks p) before (Statement (Write s l v) bs ∷ (xs ++ End end ∷ later))
     → list_any (writes_location l) before ≡ false
-written_once p s l v bs before xs later end each = go (list_any (writes_location l) before) refl
+written_once p s l v bs before xs later end plain each = go (list_any (writes_location l) before) refl
   where
     here : hold_after l before ≡ Blocked W
-    here = held_if_blocked _ (not-false _ each.0.l1)
+    here = blocked_here p before l plain each.0.l1
 
     asked : list_any (reserves_to_write l) before ≡ true
     asked = reserved_if_blocked l before here

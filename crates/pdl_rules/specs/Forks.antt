@@ -2,6 +2,7 @@
 use Rattle.std.specs.Prelude.{ℕ, ◌+◌, Bool, true, false, not, ◌&&◌, ◌||◌, ◌==◌, List, [], ◌∷◌, drop, take, length, if◌then◌else◌, bytes_eq}
 use Rattle.std.specs.List.{list_any}
 use Rattle.pdl_semantics.specs.Tree.{Stmt, Separator, CombRead, Bind, SpecCall, DelayedRead, Write, Reserve, Block, Release, If, Call, Verify, Update, SpecCheck, SpecBarrier, Stmts, Location, Mem, Pipe}
+use Rattle.pdl_semantics.specs.Flat.{is_delayed}
 use Rattle.pdl_semantics.specs.Flatten.{separators}
 use Rattle.pdl_rules.specs.Places.{Place, Branch, at_statement, statements, places, places_after}
 use Rattle.pdl_rules.specs.Forms.{fetches}
@@ -78,7 +79,7 @@ breaks_f3 p before x = at_statement false (λ s bs. fetches (is_wrong_fetch p be
 -- whether the memory of this name is delayed
 abbrev pub is_delayed_memory : List Mem → List ℕ → Bool
 is_delayed_memory [] m = false
-is_delayed_memory (x ∷ xs) m = if bytes_eq x.name.name m then x.delayed else is_delayed_memory xs m
+is_delayed_memory (x ∷ xs) m = if bytes_eq x.name.name m then is_delayed x.kind else is_delayed_memory xs m
 
 -- whether a statement is a comb read of a delayed memory, or a delayed read of a comb one
 abbrev pub is_wrong_read : List Mem → Stmt → Bool

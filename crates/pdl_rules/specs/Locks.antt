@@ -1,8 +1,9 @@
 -- Locks: rules F5, L1 and L3 to L7. The rules L are asked on each path, of the places before on that path, the earlier ones.
-use Rattle.std.specs.Prelude.{ℕ, Bool, true, false, not, ◌&&◌, ◌==◌, nat_le, List, [], ◌∷◌, Option, Some, None, fold, count_by, if◌then◌else◌, bytes_eq}
+use Rattle.std.specs.Prelude.{ℕ, Bool, true, false, not, ◌&&◌, ◌||◌, ◌==◌, nat_le, List, [], ◌∷◌, Option, Some, None, fold, count_by, if◌then◌else◌, bytes_eq}
 use Rattle.std.specs.List.{list_any}
 use Rattle.std.specs.Option.{is_some}
 use Rattle.pdl_semantics.specs.Tree.{Location, Kind, R, W, Stmt, Separator, CombRead, Bind, SpecCall, DelayedRead, Write, Reserve, Block, Release, LockDecl, If, Call, Verify, SpecCheck, SpecBarrier, Mem, Pipe, Update}
+use Rattle.pdl_semantics.specs.Flatten.{is_advisory_mem}
 use Rattle.pdl_rules.specs.Places.{Place, Parameter, Memory, Statement, End, StartClause, at_statement, on_some_path}
 use Rattle.pdl_rules.specs.Forms.{writes, reserves}
 use Rattle.pdl_rules.specs.Parts.{parts_of}
@@ -19,7 +20,7 @@ lacks_lock ms (CombRead _ _ _) = false
 lacks_lock ms (Bind _ _ _) = false
 lacks_lock ms (SpecCall _ _ _) = false
 lacks_lock ms (DelayedRead _ _ _) = false
-lacks_lock ms (Write _ at _) = not (is_locked ms at.mem.name)
+lacks_lock ms (Write _ at _) = not (is_locked ms at.mem.name || is_advisory_mem ms at.mem.name)
 lacks_lock ms (Reserve _ at _) = not (is_locked ms at.mem.name)
 lacks_lock ms (Block _ at) = not (is_locked ms at.mem.name)
 lacks_lock ms (Release _ at) = not (is_locked ms at.mem.name)
@@ -122,7 +123,7 @@ acts_unheld ms earlier (CombRead _ _ at) = is_locked ms at.mem.name && not (is_b
 acts_unheld ms earlier (Bind _ _ _) = false
 acts_unheld ms earlier (SpecCall _ _ _) = false
 acts_unheld ms earlier (DelayedRead _ _ at) = is_locked ms at.mem.name && not (is_blocked_for R (hold_after at earlier))
-acts_unheld ms earlier (Write _ at _) = not (is_blocked_for W (hold_after at earlier))
+acts_unheld ms earlier (Write _ at _) = not (is_advisory_mem ms at.mem.name) && not (is_blocked_for W (hold_after at earlier))
 acts_unheld ms earlier (Reserve _ _ _) = false
 acts_unheld ms earlier (Block _ at) = not (is_reserved (hold_after at earlier))
 acts_unheld ms earlier (Release _ at) = not (is_blocked (hold_after at earlier))
@@ -152,31 +153,31 @@ abbrev pub is_write_of : List ℕ → Place → Bool
 is_write_of m x = at_statement false (λ s bs. writes (λ at e. bytes_eq at.mem.name m) s) x
 
 -- whether a statement reserves a memory to be read after its write reservation, or reads it after a write
-abbrev pub reads_late : List Place → Stmt → Bool
-reads_late earlier (Separator _) = false
-reads_late earlier (CombRead _ _ at) = list_any (is_write_of at.mem.name) earlier
-reads_late earlier (Bind _ _ _) = false
-reads_late earlier (SpecCall _ _ _) = false
-reads_late earlier (DelayedRead _ _ at) = list_any (is_write_of at.mem.name) earlier
-reads_late earlier (Write _ _ _) = false
-reads_late earlier (Reserve _ at R) = list_any (is_reserve_of W at.mem.name) earlier
-reads_late earlier (Reserve _ _ W) = false
-reads_late earlier (Block _ _) = false
-reads_late earlier (Release _ _) = false
-reads_late earlier (If _ _ _ _) = false
-reads_late earlier (Call _ _) = false
-reads_late earlier (Verify _ _ _) = false
-reads_late earlier (Update _ _ _) = false
-reads_late earlier (SpecCheck _) = false
-reads_late earlier (SpecBarrier _) = false
+abbrev pub reads_late : List Mem → List Place → Stmt → Bool
+reads_late ms earlier (Separator _) = false
+reads_late ms earlier (CombRead _ _ at) = not (is_advisory_mem ms at.mem.name) && list_any (is_write_of at.mem.name) earlier
+reads_late ms earlier (Bind _ _ _) = false
+reads_late ms earlier (SpecCall _ _ _) = false
+reads_late ms earlier (DelayedRead _ _ at) = list_any (is_write_of at.mem.name) earlier
+reads_late ms earlier (Write _ _ _) = false
+reads_late ms earlier (Reserve _ at R) = list_any (is_reserve_of W at.mem.name) earlier
+reads_late ms earlier (Reserve _ _ W) = false
+reads_late ms earlier (Block _ _) = false
+reads_late ms earlier (Release _ _) = false
+reads_late ms earlier (If _ _ _ _) = false
+reads_late ms earlier (Call _ _) = false
+reads_late ms earlier (Verify _ _ _) = false
+reads_late ms earlier (Update _ _ _) = false
+reads_late ms earlier (SpecCheck _) = false
+reads_late ms earlier (SpecBarrier _) = false
 
 -- whether a place reads after a write of the memory, or reserves it to be read after a write reservation
-abbrev pub is_late_read : List Place → Place → Bool
-is_late_read earlier x = at_statement false (λ s bs. reads_late earlier s) x
+abbrev pub is_late_read : Pipe → List Place → Place → Bool
+is_late_read p earlier x = at_statement false (λ s bs. reads_late p.mems earlier s) x
 
 -- L3 at a place: on some path a read, or a reservation to be read, that comes too late
 abbrev pub breaks_l3 : Pipe → List Place → Place → Bool
-breaks_l3 p before x = on_some_path (λ earlier. is_late_read earlier x) p before x
+breaks_l3 p before x = on_some_path (λ earlier. is_late_read p earlier x) p before x
 
 -- the size that a lock is declared with, 0 without lock
 abbrev pub declared_size : Option LockDecl → ℕ

@@ -9,3 +9,5 @@ mod SoundRows
 pub mod Readiness
 pub mod Facts
 pub mod Updates
+pub mod Advice
+pub mod AdviceApart

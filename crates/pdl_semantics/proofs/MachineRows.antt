@@ -8,7 +8,7 @@ use Rattle.pdl_semantics.specs.Lines.{run_lines, view_lines, accepted_line}
 use Rattle.pdl_semantics.specs.Flat.{arrays_of}
 use Rattle.pdl_semantics.specs.Flatten.{flat}
 use Rattle.pdl_semantics.specs.Cycle.{Turn, turns}
-use Rattle.pdl_semantics.proofs.Pipes.{two_writes, two_writes_apart, one_stage, two_stages, under_guard, shared_guard, count_late, count_up, guess, guess_reserved, copy, copy_guessed, two_branches, one_branch, count_slow, barrier, nested, nested_straight, four_levels, nested_guess, guess_again, updated}
+use Rattle.pdl_semantics.proofs.Pipes.{two_writes, two_writes_apart, one_stage, two_stages, under_guard, shared_guard, count_late, count_up, guess, guess_reserved, copy, copy_guessed, two_branches, one_branch, count_slow, barrier, nested, nested_straight, four_levels, nested_guess, guess_again, updated, guess_learnt, guess_kept}
 
 -- four words that are all 0
 abbrev pub zeros : List ℕ
@@ -103,6 +103,20 @@ right_guesses = refl
 wrong_guesses : run_lines (guess 2) (zeros ∷ []) (idle 9) ≡ codes "3 m 0 00\n6 m 2 02\n9 m 0 04\nend cycles 9 ended 3 waits 0 squashes 3\n"
 unfolding digits add slice zext
 wrong_guesses = refl
+
+-- the advisory memory learns, and the image may set it; a squash takes no advice back
+guesses_learn : run_lines guess_learnt (zeros ∷ zeros ∷ []) (idle 10) ≡ codes "3 m 0 00\n6 m 2 02\n9 m 0 04\n10 m 2 06\nend cycles 10 ended 4 waits 0 squashes 2\n"
+unfolding digits add slice zext
+guesses_learn = refl
+
+guesses_known : run_lines guess_learnt ((2 ∷ 0 ∷ 2 ∷ 0 ∷ []) ∷ zeros ∷ []) (idle 6) ≡ codes "3 m 0 00\n4 m 2 02\n5 m 0 04\n6 m 2 06\nend cycles 6 ended 4 waits 0 squashes 0\n"
+unfolding digits add slice zext
+guesses_known = refl
+
+-- of two advisory writes in one cycle that of the lesser stage holds
+last_advice_holds : run_lines guess_kept ((2 ∷ 0 ∷ 0 ∷ 0 ∷ []) ∷ zeros ∷ []) (idle 6) ≡ codes "3 m 0 00\n4 m 2 02\n5 m 0 04\n6 m 2 06\nend cycles 6 ended 4 waits 0 squashes 0\n"
+unfolding digits add slice zext
+last_advice_holds = refl
 
 wrong_guesses_reserved : run_lines (guess_reserved 2) (zeros ∷ [])
     (idle 9) ≡ codes "3 m 0 00\n6 m 2 02\n9 m 0 04\nend cycles 9 ended 3 waits 0 squashes 3\n"

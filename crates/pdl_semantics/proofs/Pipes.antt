@@ -1,7 +1,7 @@
 -- Pipes on which the definitions are computed, as trees.
 use Rattle.std.specs.Prelude.{ℕ, List, [], ◌∷◌, ◌++◌, None}
 use Rattle.pdl_semantics.specs.Tree.{Not, ZeroExtend, R, W, LockKind, Queue, Bypass, Rename, Expr, Stmt, Pipe}
-use Rattle.pdl_semantics.proofs.Texts.{number, constant, variable, slice, plus, separator, bind, comb_read, delayed_read, write, reserve, block, release, call, spec_call, verify, spec_check, spec_barrier, if_else, lock, comb, slow, pipe, update}
+use Rattle.pdl_semantics.proofs.Texts.{number, constant, variable, slice, plus, separator, bind, comb_read, delayed_read, write, reserve, block, release, call, spec_call, verify, spec_check, spec_barrier, if_else, lock, comb, slow, pipe, update, advisory}
 
 -- one stage: each thread writes its argument
 abbrev pub one_stage : Pipe
@@ -106,6 +106,23 @@ guess_again second =
 -- by a guess that is j more
 abbrev pub updated : ℕ → Pipe
 updated j = guess_again (update "s" (plus (variable "n") (constant 8 j)) ∷ [])
+
+-- the same with a guess that is learnt: word a of an advisory memory is how much more the next one's argument is after argument a
+abbrev pub guess_learnt : Pipe
+guess_learnt =
+    pipe 8 (advisory "t" 4 ∷ comb "m" 4 (lock Queue 1) ∷ [])
+    (spec_check ∷ bind "a" (slice "n" 1 0) ∷ comb_read "g" "t" "a" ∷ spec_call "s" (plus (variable "n") (variable "g")) ∷ separator
+    ∷ bind "u" (plus (variable "n") (constant 8 2)) ∷ separator ∷ verify "s" (variable "u") ∷ write "t" "a" (constant 8 2)
+    ∷ reserve "m" "a" W ∷ block "m" "a" ∷ write "m" "a" (variable "n") ∷ release "m" "a" ∷ [])
+
+-- with an advised variable between, and writes of one advisory word from two stages: the first stage writes back what it found
+abbrev pub guess_kept : Pipe
+guess_kept =
+    pipe 8 (advisory "t" 4 ∷ comb "m" 4 (lock Queue 1) ∷ [])
+    (spec_check ∷ bind "z" (constant 2 0) ∷ comb_read "g" "t" "z" ∷ bind "h" (variable "g") ∷ write "t" "z" (variable "h")
+    ∷ spec_call "s" (plus (variable "n") (variable "h")) ∷ separator ∷ bind "u" (plus (variable "n") (constant 8 2)) ∷ separator
+    ∷ verify "s" (variable "u") ∷ write "t" "z" (constant 8 7) ∷ bind "a" (slice "n" 1 0)
+    ∷ reserve "m" "a" W ∷ block "m" "a" ∷ write "m" "a" (variable "n") ∷ release "m" "a" ∷ [])
 
 -- a delayed memory is copied
 abbrev pub copy : Pipe

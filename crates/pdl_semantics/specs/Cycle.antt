@@ -3,7 +3,7 @@ use Rattle.std.specs.Prelude.{ℕ, suc, Bool, true, false, ◌&&◌, ◌||◌, n
 use Rattle.pdl_semantics.specs.Flat.{Arrays, Mem, Stage, Pipe, start_env, with_word, Commit}
 use Rattle.pdl_semantics.specs.Stages.{list_any, stage_at, merges_fork, is_inside, sides_of}
 use Rattle.pdl_semantics.specs.Locks.{commit_value}
-use Rattle.pdl_semantics.specs.Machine.{Ask, Awaited, Thread, Pending, Request, NoRequest, Owned, Orphan, State, lock_of, fork_of, request_of, Reserved, Written, is_answered}
+use Rattle.pdl_semantics.specs.Machine.{Advised, Ask, Awaited, Thread, Pending, Request, NoRequest, Owned, Orphan, State, lock_of, fork_of, request_of, Reserved, Written, is_answered}
 use Rattle.pdl_semantics.specs.Moves.{Act, next_stage, all_acts, movers}
 
 -- 1. reservations for writing append an entry without a value
@@ -66,6 +66,15 @@ abbrev pub with_commits : State → List Act → ℕ → List Mem → Arrays →
 with_commits st ms m [] arrays = arrays
 with_commits st ms m (x ∷ xs) arrays = with_commits st ms (suc m) xs (with_commit arrays m (taken_out st ms m))
 
+-- then the advisory writes come, those of the greatest stage first and within a stage in text order: of two writes of one word the last one holds
+abbrev pub with_advised : List Advised → Arrays → Arrays
+with_advised [] arrays = arrays
+with_advised (w ∷ ws) arrays = with_advised ws (with_word arrays w.mem w.address w.value)
+
+abbrev pub with_all_advised : List Act → Arrays → Arrays
+with_all_advised [] arrays = arrays
+with_all_advised (a ∷ ms) arrays = with_advised a.does.advises (with_all_advised ms arrays)
+
 -- 4. who moves from a fork into a branch appends it to the fork's list; who moves from a branch into the merge takes the first out
 abbrev pub goes_into : Pipe → ℕ → Option ℕ → List Bool
 goes_into p f None = []
@@ -102,7 +111,7 @@ awaited_of (q ∷ qs) = record { mem = q.mem; var = q.var } ∷ awaited_of qs
 -- a thread that has moved, as it stands in its next stage
 abbrev pub thread_after : Act → Thread
 thread_after a =
-    record { number = a.thread.number; env = a.does.env; guess = a.does.guess; awaits = awaited_of a.does.asks; kept = [] }
+    record { number = a.thread.number; env = a.does.env; advice = a.does.advice; guess = a.does.guess; awaits = awaited_of a.does.asks; kept = [] }
 
 -- whether a next stage is there and is stage q
 abbrev pub is_stage : ℕ → Option ℕ → Bool
@@ -187,7 +196,7 @@ child_of (a ∷ ms) = if is_some a.does.child then a.does.child else child_of ms
 abbrev pub born_thread : Pipe → ℕ → Option (List ℕ) → Option Thread
 born_thread p number None = None
 born_thread p number (Some args) =
-    Some (record { number = number; env = start_env p args; guess = []; awaits = []; kept = [] })
+    Some (record { number = number; env = start_env p args; advice = []; guess = []; awaits = []; kept = [] })
 
 -- the thread in stage q after a cycle: in stage 0 the new one, else one that the squash keeps
 abbrev pub stage_next : Pipe → State → List Act → Option ℕ → ℕ → Option Thread
@@ -209,7 +218,7 @@ abbrev pub after_these : Pipe → State → List Bool → List Act → List Act 
 after_these p st bits these ms sq =
     record {
       stages = for_stages (λ q. stage_next p st these sq q) 0 p.stages;
-      arrays = with_commits st ms 0 p.mems st.arrays;
+      arrays = with_all_advised ms (with_commits st ms 0 p.mems st.arrays);
       locks = for_mems (λ m. entries_left sq (list_three st ms m)) 0 p.mems;
       forks = for_stages (λ f. branches_left p (squash_stage ms) f (fork_next p st ms f)) 0 p.stages;
       requests = for_mems (λ m. request_left sq (request_next p st bits ms m)) 0 p.mems;

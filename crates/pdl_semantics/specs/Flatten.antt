@@ -1,5 +1,5 @@
 -- The flat form of a tree: names become numbers, each statement gets its stage and its guards, and the separators give the stage graph. Total; a tree that breaks a rule of the language gets a flat form that nobody uses.
-use Rattle.std.specs.Prelude.{ℕ, suc, ◌+◌, ◌-◌, Bool, true, false, List, [], ◌∷◌, ◌++◌, Option, Some, None, unwrap_or, if◌then◌else◌, ◌==◌, nat_lt, bytes_eq, length}
+use Rattle.std.specs.Prelude.{ℕ, suc, ◌+◌, ◌-◌, Bool, true, false, List, [], ◌∷◌, ◌++◌, Option, Some, None, unwrap_or, if◌then◌else◌, ◌==◌, nat_lt, bytes_eq, length, ◌||◌}
 use Rattle.pdl_semantics.specs.Tree.{Literal, BinaryOp, Add, Sub, Mul, And, Or, Xor, Equal, Differ, Less, ShiftLeft, ShiftRight, Expr, Constant, Variable, Slice, Not, Binary, Cat, LessSigned, ZeroExtend, SignExtend, Choose, Kind, R, W, Stmt, Separator, CombRead, Bind, SpecCall, DelayedRead, Write, Reserve, Block, Release, If, Call, Verify, Update, SpecCheck, SpecBarrier, Stmts, Nil, Cons, Param, LockKind, Queue, Bypass, Rename, LockDecl, Mem, Pipe}
 use Rattle.pdl_semantics.specs.Flat
 use Rattle.pdl_semantics.specs.Stages.{is_reserve, is_release}
@@ -8,10 +8,13 @@ use Rattle.pdl_semantics.specs.Stages.{is_reserve, is_release}
 abbrev pub widest : ℕ
 widest = 64
 
--- a variable with its width; the guard of an `if` on an expression is a variable without name
+-- a variable with its width, and whether it is advised; the guard of an `if` on an expression is a variable without name
 pub record Var : Type 0 where
   pub name : List ℕ
   pub width : ℕ
+  pub advised : Bool
+
+-- the number of a variable, and its width
 
 -- the number of the first variable of this name, how many there are where there is none
 abbrev pub var_of : List Var → List ℕ → ℕ
@@ -32,6 +35,29 @@ mem_of (x ∷ xs) m = if bytes_eq x.name.name m then 0 else suc (mem_of xs m)
 abbrev pub mem_width : List Mem → List ℕ → ℕ
 mem_width [] m = 0
 mem_width (x ∷ xs) m = if bytes_eq x.name.name m then x.width.value else mem_width xs m
+
+-- whether a memory is advisory
+abbrev pub is_advisory_mem : List Mem → List ℕ → Bool
+is_advisory_mem [] m = false
+is_advisory_mem (x ∷ xs) m = if bytes_eq x.name.name m then Flat.is_advisory x.kind else is_advisory_mem xs m
+
+-- ADVISED VARIABLES: those bound by a read of an advisory memory, and by an expression that uses one
+
+abbrev pub is_advised_var : List Var → List ℕ → Bool
+is_advised_var [] x = false
+is_advised_var (v ∷ vs) x = if bytes_eq v.name x then v.advised else is_advised_var vs x
+
+abbrev pub is_advised : List Var → Expr → Bool
+is_advised vs (Constant l) = false
+is_advised vs (Variable x) = is_advised_var vs x.name
+is_advised vs (Slice x high low) = is_advised_var vs x.name
+is_advised vs (Not a) = is_advised vs a
+is_advised vs (Binary op a b) = is_advised vs a || is_advised vs b
+is_advised vs (Cat a b) = is_advised vs a || is_advised vs b
+is_advised vs (LessSigned a b) = is_advised vs a || is_advised vs b
+is_advised vs (ZeroExtend a width) = is_advised vs a
+is_advised vs (SignExtend a width) = is_advised vs a
+is_advised vs (Choose c a b) = is_advised vs c || (is_advised vs a || is_advised vs b)
 
 -- EXPRESSIONS
 
@@ -89,8 +115,8 @@ pub record Position : Type 0 where
   pub begun : ℕ
 
 -- the position with one more variable
-abbrev pub with_var : List ℕ → ℕ → Position → Position
-with_var x width at' = record at' { vars = at'.vars ++ record { name = x; width = width } ∷ [] }
+abbrev pub with_var : List ℕ → ℕ → Bool → Position → Position
+with_var x width advised at' = record at' { vars = at'.vars ++ record { name = x; width = width; advised = advised } ∷ [] }
 
 -- the position in the stage that begins next
 abbrev pub next_position : Position → Position
@@ -119,15 +145,15 @@ guard_of vs e = on_variable (var_of vs) (length vs) e
 
 -- the position after a condition: one that is no plain variable has a variable of 1 bit of its own
 abbrev pub with_guard : Expr → Position → Position
-with_guard e at' = on_variable (λ x. at') (with_var [] 1 at') e
+with_guard e at' = on_variable (λ x. at') (with_var [] 1 false at') e
 
 abbrev mutual
   -- the position after a statement; a branch begins in the stage of its `if`
   pub past : List Mem → Stmt → Position → Position
   past ms (Separator _) at' = next_position at'
-  past ms (CombRead _ x from) at' = with_var x.name (mem_width ms from.mem.name) at'
-  past ms (Bind _ x e) at' = with_var x.name (width_of at'.vars e) at'
-  past ms (DelayedRead _ x from) at' = with_var x.name (mem_width ms from.mem.name) at'
+  past ms (CombRead _ x from) at' = with_var x.name (mem_width ms from.mem.name) (is_advisory_mem ms from.mem.name) at'
+  past ms (Bind _ x e) at' = with_var x.name (width_of at'.vars e) (is_advised at'.vars e) at'
+  past ms (DelayedRead _ x from) at' = with_var x.name (mem_width ms from.mem.name) false at'
   past ms (If _ c when otherwise) at' =
       back_in at'.stage (past_all ms otherwise (back_in at'.stage (past_all ms when (with_guard c at'))))
   past ms (SpecCall _ guess args) at' = at'
@@ -164,6 +190,19 @@ binds_guard gs at' e = on_variable (λ x. []) (at_position gs at' (Flat.Bind (le
 abbrev pub under : List Flat.Guard → List Var → Expr → Bool → List Flat.Guard
 under gs vs c first = gs ++ record { var = guard_of vs c; first = first } ∷ []
 
+-- a binding, a read and a write, by whether they are advisory
+abbrev pub bind_op : Bool → ℕ → Flat.Expr → Flat.Op
+bind_op true x e = Flat.AdviceBind x e
+bind_op false x e = Flat.Bind x e
+
+abbrev pub read_op : Bool → ℕ → ℕ → ℕ → Flat.Op
+read_op true x m a = Flat.AdviceRead x m a
+read_op false x m a = Flat.CombRead x m a
+
+abbrev pub write_op : Bool → ℕ → ℕ → Flat.Expr → Flat.Op
+write_op true m a e = Flat.AdviceWrite m a e
+write_op false m a e = Flat.Write m a e
+
 -- a reservation in flat form, by its kind
 abbrev pub reserve_op : Kind → ℕ → ℕ → Flat.Op
 reserve_op R m a = Flat.ReserveRead m a
@@ -174,13 +213,13 @@ abbrev mutual
   pub flat_stmt : List Mem → List Flat.Guard → Stmt → Position → List Flat.Stmt
   flat_stmt ms gs (Separator _) at' = []
   flat_stmt ms gs (CombRead _ x from) at' =
-      at_position gs at' (Flat.CombRead (length at'.vars) (mem_of ms from.mem.name) (var_of at'.vars from.address.name))
-  flat_stmt ms gs (Bind _ x e) at' = at_position gs at' (Flat.Bind (length at'.vars) (flat_expr at'.vars e))
+      at_position gs at' (read_op (is_advisory_mem ms from.mem.name) (length at'.vars) (mem_of ms from.mem.name) (var_of at'.vars from.address.name))
+  flat_stmt ms gs (Bind _ x e) at' = at_position gs at' (bind_op (is_advised at'.vars e) (length at'.vars) (flat_expr at'.vars e))
   flat_stmt ms gs (SpecCall _ guess args) at' = at_position gs at' (Flat.SpecCall (flat_exprs at'.vars args))
   flat_stmt ms gs (DelayedRead _ x from) at' =
       at_position gs at' (Flat.DelayedRead (length at'.vars) (mem_of ms from.mem.name) (var_of at'.vars from.address.name))
   flat_stmt ms gs (Write _ to e) at' =
-      at_position gs at' (Flat.Write (mem_of ms to.mem.name) (var_of at'.vars to.address.name) (flat_expr at'.vars e))
+      at_position gs at' (write_op (is_advisory_mem ms to.mem.name) (mem_of ms to.mem.name) (var_of at'.vars to.address.name) (flat_expr at'.vars e))
   flat_stmt ms gs (Reserve _ at kind) at' =
       at_position gs at' (reserve_op kind (mem_of ms at.mem.name) (var_of at'.vars at.address.name))
   flat_stmt ms gs (Block _ at) at' = at_position gs at' (Flat.Block (mem_of ms at.mem.name) (var_of at'.vars at.address.name))
@@ -296,7 +335,7 @@ abbrev mutual
 -- the parameters as variables
 abbrev pub params_of : List Param → List Var
 params_of [] = []
-params_of (x ∷ xs) = record { name = x.name.name; width = x.width.value } ∷ params_of xs
+params_of (x ∷ xs) = record { name = x.name.name; width = x.width.value; advised = false } ∷ params_of xs
 
 -- a memory's lock in flat form, with its size
 abbrev pub flat_lock : Option LockDecl → Flat.Lock
@@ -311,7 +350,7 @@ flat_lock (Some l) = of_kind l.kind l.size.value
 -- memories in flat form
 abbrev pub mems_of : List Mem → List Flat.Mem
 mems_of [] = []
-mems_of (m ∷ ms) = record { width = m.width.value; depth = m.depth.value; delayed = m.delayed; lock = flat_lock m.lock } ∷ mems_of ms
+mems_of (m ∷ ms) = record { width = m.width.value; depth = m.depth.value; kind = m.kind; lock = flat_lock m.lock } ∷ mems_of ms
 
 -- the start arguments
 abbrev pub start_of : List Literal → List ℕ

@@ -1,6 +1,6 @@
 -- Sound state: what holds, between cycles, in every state that a run of an accepted pipe comes to. Each point is a test, so that it computes. A turn is a thread of the sequential run.
 use Rattle.std.specs.Prelude.{IsTrue, ℕ, zero, suc, ◌+◌, ◌-◌, count_by, Bool, true, false, ◌&&◌, ◌||◌, not, List, [], ◌∷◌, ◌++◌, Option, Some, None, is_none, if◌then◌else◌, nat_lt, nat_le, ◌==◌, slice_index, length}
-use Rattle.pdl_semantics.specs.Flat.{Arrays, list_all, Op, Bind, CombRead, DelayedRead, Write, ReserveRead, ReserveWrite, Block, Release, Call, SpecCall, Verify, SpecCheck, SpecBarrier, Stmt, Mem, Branch, Pipe, value_of, values_of, start_env, word_at, Commit, of_mem}
+use Rattle.pdl_semantics.specs.Flat.{is_advisory, Arrays, list_all, Op, Bind, CombRead, DelayedRead, Write, ReserveRead, ReserveWrite, Block, Release, Call, SpecCall, Verify, SpecCheck, SpecBarrier, AdviceBind, AdviceRead, AdviceWrite, Stmt, Mem, Branch, Pipe, value_of, values_of, start_env, word_at, Commit, of_mem}
 use Rattle.pdl_semantics.specs.Forms.{on_delayed_read, on_block, on_release}
 use Rattle.pdl_semantics.specs.Stages.{list_any, onpath, stage_at, sides_of, goes_to, is_verify, verify_stage}
 use Rattle.pdl_semantics.specs.Sequential.{Run, run_all, thread, seqwrites, after_turns}
@@ -92,6 +92,9 @@ is_call (Release m a) = false
 is_call (Verify last args) = false
 is_call SpecCheck = false
 is_call SpecBarrier = false
+is_call (AdviceBind x e) = false
+is_call (AdviceRead x m a) = false
+is_call (AdviceWrite m a e) = false
 
 -- whether a statement is a call on a guess
 abbrev pub is_spec_call : Op → Bool
@@ -108,10 +111,16 @@ is_spec_call (Call args) = false
 is_spec_call (Verify last args) = false
 is_spec_call SpecCheck = false
 is_spec_call SpecBarrier = false
+is_spec_call (AdviceBind x e) = false
+is_spec_call (AdviceRead x m a) = false
+is_spec_call (AdviceWrite m a e) = false
 
 -- whether a statement is a `spec_barrier`
 abbrev pub is_barrier : Op → Bool
 is_barrier SpecBarrier = true
+is_barrier (AdviceBind x e) = false
+is_barrier (AdviceRead x m a) = false
+is_barrier (AdviceWrite m a e) = false
 is_barrier (Bind x e) = false
 is_barrier (CombRead x m a) = false
 is_barrier (DelayedRead x m a) = false
@@ -140,6 +149,9 @@ is_write m (SpecCall args) = false
 is_write m (Verify last args) = false
 is_write m SpecCheck = false
 is_write m SpecBarrier = false
+is_write m (AdviceBind x e) = false
+is_write m (AdviceRead x _ a) = false
+is_write m (AdviceWrite _ a e) = false
 
 -- a reservation of memory m for writing
 abbrev pub is_write_reserve : ℕ → Op → Bool
@@ -156,6 +168,9 @@ is_write_reserve m (SpecCall args) = false
 is_write_reserve m (Verify last args) = false
 is_write_reserve m SpecCheck = false
 is_write_reserve m SpecBarrier = false
+is_write_reserve m (AdviceBind x e) = false
+is_write_reserve m (AdviceRead x _ a) = false
+is_write_reserve m (AdviceWrite _ a e) = false
 
 -- the release of the location in memory m whose address is variable a
 abbrev pub is_release_at : ℕ → ℕ → Op → Bool
@@ -176,6 +191,9 @@ looks_at m (SpecCall args) = false
 looks_at m (Verify last args) = false
 looks_at m SpecCheck = false
 looks_at m SpecBarrier = false
+looks_at m (AdviceBind x e) = false
+looks_at m (AdviceRead x _ a) = false
+looks_at m (AdviceWrite _ a e) = false
 
 -- a thread has released a write of m
 abbrev pub has_released : ℕ → Pipe → Live → Bool
@@ -267,7 +285,7 @@ are_linked p [] = false
 are_linked p (l ∷ []) = not (has_done is_call p l)
 are_linked p (l ∷ k ∷ ls) = has_done is_call p l && are_linked p (k ∷ ls)
 
--- 3. VALUES. A follower's values, once its awaited reads are answered, are those of its turn, and so are the addresses that it awaits
+-- 3. VALUES. A follower's values, the advised ones apart, once its awaited reads are answered, are those of its turn, and so are the addresses that it awaits
 
 -- the address of a request, 0 where there is none
 abbrev pub request_address : Request → ℕ
@@ -351,7 +369,7 @@ abbrev pub pending_right : Pipe → Arrays → ℕ → State → ℕ → Bool
 pending_right p image n st m =
     same_args (owners (lock_of st m)) (holders p m (live st)) && list_all (right_entries p st m) (followers p image n st)
 
--- 5. ARRAYS. An array is the image with, in order, the writes of the ended turns and the released ones of followers; no later thread has released a write
+-- 5. ARRAYS. An array that isn't advisory is the image with, in order, the writes of the ended turns and the released ones of followers; no later thread has released a write
 
 -- the writes to m that followers have released, in order
 abbrev pub released_by : ℕ → Pipe → List Follower → List Commit
@@ -367,7 +385,7 @@ array_right p image n st m depth =
 -- point 5 of the memories from number m on
 abbrev pub arrays_right : Pipe → Arrays → ℕ → State → ℕ → List Mem → Bool
 arrays_right p image n st m [] = true
-arrays_right p image n st m (x ∷ xs) = array_right p image n st m x.depth && arrays_right p image n st (suc m) xs
+arrays_right p image n st m (x ∷ xs) = (is_advisory x.kind || array_right p image n st m x.depth) && arrays_right p image n st (suc m) xs
 
 -- 6. CERTAINTY. A thread that has moved on from a barrier, or stands after V, has only older threads that stand after V
 
@@ -458,27 +476,33 @@ is_done st l (SpecCall args) = true
 is_done st l (Verify last args) = true
 is_done st l SpecCheck = true
 is_done st l SpecBarrier = true
+is_done st l (AdviceBind x e) = true
+is_done st l (AdviceRead x m a) = true
+is_done st l (AdviceWrite m a e) = true
 
 -- the present guess is that of the last statement that gave one
-abbrev pub guess_after : Op → List ℕ → List ℕ → List ℕ
-guess_after (SpecCall args) env guess = values_of args env
-guess_after (Verify last args) env guess = values_of args env
-guess_after (Bind x e) env guess = guess
-guess_after (CombRead x m a) env guess = guess
-guess_after (DelayedRead x m a) env guess = guess
-guess_after (Write m a e) env guess = guess
-guess_after (ReserveRead m a) env guess = guess
-guess_after (ReserveWrite m a) env guess = guess
-guess_after (Block m a) env guess = guess
-guess_after (Release m a) env guess = guess
-guess_after (Call args) env guess = guess
-guess_after SpecCheck env guess = guess
-guess_after SpecBarrier env guess = guess
+abbrev pub guess_after : Op → List Kept → List ℕ → List ℕ → List ℕ
+guess_after (SpecCall args) advice env guess = values_of args (with_kept advice env)
+guess_after (Verify last args) advice env guess = values_of args env
+guess_after (Bind x e) advice env guess = guess
+guess_after (CombRead x m a) advice env guess = guess
+guess_after (DelayedRead x m a) advice env guess = guess
+guess_after (Write m a e) advice env guess = guess
+guess_after (ReserveRead m a) advice env guess = guess
+guess_after (ReserveWrite m a) advice env guess = guess
+guess_after (Block m a) advice env guess = guess
+guess_after (Release m a) advice env guess = guess
+guess_after (Call args) advice env guess = guess
+guess_after SpecCheck advice env guess = guess
+guess_after SpecBarrier advice env guess = guess
+guess_after (AdviceBind x e) advice env guess = guess
+guess_after (AdviceRead x m a) advice env guess = guess
+guess_after (AdviceWrite m a e) advice env guess = guess
 
 -- the present guess after these statements
-abbrev pub guess_of : List Stmt → List ℕ → List ℕ → List ℕ
-guess_of [] env guess = guess
-guess_of (x ∷ xs) env guess = guess_of xs env (guess_after x.op env guess)
+abbrev pub guess_of : List Stmt → List Kept → List ℕ → List ℕ → List ℕ
+guess_of [] advice env guess = guess
+guess_of (x ∷ xs) advice env guess = guess_of xs advice env (guess_after x.op advice env guess)
 
 -- the memory of a location that a thread holds has a pending write of the thread at its address
 abbrev pub right_place : State → Live → HeldLocation → Bool
@@ -488,7 +512,7 @@ right_place st l h = list_any (λ e. (e.thread == l.thread.number) && ((e.var ==
 abbrev pub on_path : Pipe → State → Live → Bool
 on_path p st l =
     comes_to p l.thread.env l.stage (length p.stages) 0 && list_all (λ x. is_done st l x.op) (past_stmts p l)
-    && same_args l.thread.guess (guess_of (past_stmts p l) l.thread.env [])
+    && same_args l.thread.guess (guess_of (past_stmts p l) l.thread.advice l.thread.env [])
     && list_all (right_place st l) (held_places p l) && nat_lt l.thread.number st.next
 
 -- THE WHOLE, of a state that a run from this image comes to, in which n threads have ended

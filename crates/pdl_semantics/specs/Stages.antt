@@ -1,6 +1,7 @@
 -- Stages and paths of a pipe in flat form. A path is a truth value for each guard: a list of values of all variables, of which those of guards count.
 use Rattle.std.specs.Prelude.{ℕ, zero, suc, max, Bool, true, false, ◌||◌, List, [], ◌∷◌, ◌++◌, Option, Some, None, if◌then◌else◌, ◌==◌, slice_index, slice_index_or, slice_set, length, take, count_by, unwrap_or}
-use Rattle.pdl_semantics.specs.Flat.{Op, Bind, CombRead, DelayedRead, Write, ReserveRead, ReserveWrite, Block, Release, Call, SpecCall, Verify, SpecCheck, SpecBarrier, Stmt, Plain, Mem, Next, Ends, Goes, Forks, Branch, Stage, Pipe, all_hold, start_env}
+use Rattle.pdl_semantics.specs.Tree.{Comb}
+use Rattle.pdl_semantics.specs.Flat.{is_delayed, Op, Bind, CombRead, DelayedRead, Write, ReserveRead, ReserveWrite, Block, Release, Call, SpecCall, Verify, SpecCheck, SpecBarrier, AdviceBind, AdviceRead, AdviceWrite, Stmt, Plain, Mem, Next, Ends, Goes, Forks, Branch, Stage, Pipe, all_hold, start_env}
 use Rattle.pdl_semantics.specs.Forms.{on_release}
 
 -- whether some element passes the test
@@ -20,7 +21,7 @@ in_stage s (x ∷ xs) = if x.stage == s then x ∷ in_stage s xs else in_stage s
 
 -- a memory without words and without lock, for a number past those of the memories
 abbrev pub plain_mem : Mem
-plain_mem = record { width = 0; depth = 0; delayed = false; lock = Plain }
+plain_mem = record { width = 0; depth = 0; kind = Comb; lock = Plain }
 
 -- the memory of this number
 abbrev pub mem_at : Pipe → ℕ → Mem
@@ -56,7 +57,7 @@ merges_fork (Some g) f = g == f
 
 -- the place of a delayed memory among the delayed ones
 abbrev pub reply_place : Pipe → ℕ → ℕ
-reply_place p m = count_by (λ x. x.delayed) (take m p.mems)
+reply_place p m = count_by (λ x. is_delayed x.kind) (take m p.mems)
 
 -- R(m), the stage of m's reserves, 0 where it has none
 abbrev pub reserve_stage : Pipe → ℕ → ℕ
@@ -81,6 +82,9 @@ is_reserve m (SpecCall args) = false
 is_reserve m (Verify last args) = false
 is_reserve m SpecCheck = false
 is_reserve m SpecBarrier = false
+is_reserve m (AdviceBind x e) = false
+is_reserve m (AdviceRead x _ a) = false
+is_reserve m (AdviceWrite _ a e) = false
 
 -- the release of a location in memory m
 abbrev pub is_release : ℕ → Op → Bool
@@ -101,6 +105,9 @@ is_verify (Call args) = false
 is_verify (SpecCall args) = false
 is_verify SpecCheck = false
 is_verify SpecBarrier = false
+is_verify (AdviceBind x e) = false
+is_verify (AdviceRead x m a) = false
+is_verify (AdviceWrite m a e) = false
 
 -- a verify or an update, which asks whether the present guess is another
 abbrev pub is_check : Op → Bool
@@ -117,6 +124,9 @@ is_check (Call args) = false
 is_check (SpecCall args) = false
 is_check SpecCheck = false
 is_check SpecBarrier = false
+is_check (AdviceBind x e) = false
+is_check (AdviceRead x m a) = false
+is_check (AdviceWrite m a e) = false
 
 -- V as the stage of the first `verify`, where there is one
 abbrev pub verify_stage : List Stmt → Option ℕ

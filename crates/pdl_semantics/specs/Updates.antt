@@ -1,6 +1,6 @@
 -- A pipe without its updates, which replace a guess by a better one: it does the same, only later.
 use Rattle.std.specs.Prelude.{◌≡◌, ℕ, Bool, false, not, List, [], ◌∷◌, if◌then◌else◌}
-use Rattle.pdl_semantics.specs.Flat.{Arrays, Op, Bind, CombRead, DelayedRead, Write, ReserveRead, ReserveWrite, Block, Release, Call, SpecCall, Verify, SpecCheck, SpecBarrier, Stmt, Pipe, Commit}
+use Rattle.pdl_semantics.specs.Flat.{Arrays, Op, Bind, CombRead, DelayedRead, Write, ReserveRead, ReserveWrite, Block, Release, Call, SpecCall, Verify, SpecCheck, SpecBarrier, AdviceBind, AdviceRead, AdviceWrite, Stmt, Pipe, Commit}
 use Rattle.pdl_semantics.specs.Sequential.{seqwrites}
 use Rattle.pdl_semantics.specs.Cycle.{turns, commits}
 use Rattle.pdl_semantics.specs.Promises.{IsPrefix}
@@ -20,6 +20,9 @@ is_update (Call args) = false
 is_update (SpecCall args) = false
 is_update SpecCheck = false
 is_update SpecBarrier = false
+is_update (AdviceBind x e) = false
+is_update (AdviceRead x m a) = false
+is_update (AdviceWrite m a e) = false
 
 -- the statements but for the updates
 abbrev pub without_updates : List Stmt → List Stmt

@@ -3,10 +3,10 @@ use Rattle.std.proofs.Common.{◌≡◌, refl, sym, ap, ap₂, ◌∙◌, subst,
 use Rattle.std.proofs.lemmas.Bool.{false≢true, and_parts, or_parts, both_ways}
 use Rattle.std.proofs.lemmas.List.Folds.{list_any-append}
 use Rattle.std.specs.List.{list_any}
-use Rattle.pdl_semantics.specs.Tree.{Span, Ident, Location, R, W, Variable, Stmt, Separator, DelayedRead, Reserve, Release, If, Stmts, Nil, Cons, Pipe}
+use Rattle.pdl_semantics.specs.Tree.{Span, Ident, Location, R, W, Variable, Stmt, Separator, CombRead, Bind, Write, DelayedRead, Reserve, Release, If, Stmts, Nil, Cons, Pipe}
 use Rattle.pdl_semantics.specs.Flat
 use Rattle.pdl_semantics.specs.Flat.{all_hold}
-use Rattle.pdl_semantics.specs.Flatten.{flat, mem_of}
+use Rattle.pdl_semantics.specs.Flatten.{flat, mem_of, var_of, flat_expr, is_advisory_mem, is_advised}
 use Rattle.pdl_semantics.specs.Stages.{is_release, commit_stage}
 use Rattle.pdl_kit.specs.declared.rule.Rule.TheVariants.{F3, F5, L8}
 use Rattle.pdl_rules.specs.Places.{Place, Parameter, Memory, Statement, Guard, Branch, with_inner, statements, places, places_after, guards, on_path}
@@ -28,7 +28,7 @@ use Rattle.pdl_source_stages.proofs.BodyShape.{body_forked}
 use Rattle.pdl_source_stages.proofs.StatementStages.{all_staged}
 use Rattle.pdl_source_stages.proofs.TextStages.{from_append, from_none}
 use Rattle.pdl_source_stages.proofs.Firsts.{any_params, any_mems}
-use Rattle.pdl_source_stages.proofs.SiteFacts.{each_stmt, AtSite, op_of, from_op}
+use Rattle.pdl_source_stages.proofs.SiteFacts.{each_stmt, AtSite, op_of, from_op, read_none, bind_none, write_none}
 use Rattle.pdl_source_paths.specs.Source.{are_apart}
 use Rattle.pdl_source_paths.proofs.Choices.{by_choice}
 use Rattle.pdl_source_paths.proofs.PathStatements.{ops}
@@ -338,4 +338,7 @@ module _ (p : Pipe) (rules : KeepsRules p) where
             at (If sp c when otherwise) g i = absurd (false≢true (sym (ap (λ s. from_op is_fetch (op_of p.mems t.walk.vars s)) g) ∙ wrong))
             at (Reserve sp l R) g i = absurd (false≢true (sym (ap (λ s. from_op is_fetch (op_of p.mems t.walk.vars s)) g) ∙ wrong))
             at (Reserve sp l W) g i = absurd (false≢true (sym (ap (λ s. from_op is_fetch (op_of p.mems t.walk.vars s)) g) ∙ wrong))
+            at (CombRead sp x l) g i = absurd (false≢true (sym (read_none is_fetch (is_advisory_mem p.mems l.mem.name) (length t.walk.vars) (mem_of p.mems l.mem.name) (var_of t.walk.vars l.address.name) refl refl) ∙ (sym (ap (λ s. from_op is_fetch (op_of p.mems t.walk.vars s)) g) ∙ wrong)))
+            at (Bind sp x v) g i = absurd (false≢true (sym (bind_none is_fetch (is_advised t.walk.vars v) (length t.walk.vars) (flat_expr t.walk.vars v) refl refl) ∙ (sym (ap (λ s. from_op is_fetch (op_of p.mems t.walk.vars s)) g) ∙ wrong)))
+            at (Write sp l v) g i = absurd (false≢true (sym (write_none is_fetch (is_advisory_mem p.mems l.mem.name) (mem_of p.mems l.mem.name) (var_of t.walk.vars l.address.name) (flat_expr t.walk.vars v) refl refl) ∙ (sym (ap (λ s. from_op is_fetch (op_of p.mems t.walk.vars s)) g) ∙ wrong)))
             at s g i = absurd (false≢true (sym (ap (λ s. from_op is_fetch (op_of p.mems t.walk.vars s)) g) ∙ wrong))

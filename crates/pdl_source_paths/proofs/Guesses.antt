@@ -7,6 +7,8 @@ use Rattle.std.specs.List.{list_any}
 use Rattle.pdl_semantics.specs.Tree.{Span, Ident, Expr, Variable, R, W, Stmt, Separator, CombRead, Bind, SpecCall, DelayedRead, Write, Reserve, Block, Release, If, Call, Verify, Update, SpecCheck, SpecBarrier, Param, Mem, Pipe}
 use Rattle.pdl_semantics.specs.Stages
 use Rattle.pdl_kit.specs.declared.rule.Rule.TheVariants.{N3, S2, S4, S6}
+use Rattle.pdl_semantics.specs.Flatten.{is_advisory_mem, is_advised}
+use Rattle.pdl_stagefacts.proofs.Fine.{either_read, either_bind, either_write}
 use Rattle.pdl_rules.specs.Places.{Place, Parameter, Memory, Statement, Guard, places, guards, on_path}
 use Rattle.pdl_rules.specs.Parts.{is_some_and, location_of, some_expr_of, some_part}
 use Rattle.pdl_rules.specs.Names.{OfGuess, Use, defines_use, is_given, is_undefined, is_too_early, is_delayed, in_location, in_verify, reads_some}

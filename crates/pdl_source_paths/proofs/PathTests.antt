@@ -4,16 +4,18 @@ use Rattle.std.proofs.lemmas.Bool.{false≢true, and_parts, and_from, or_left, o
 use Rattle.std.specs.List.{list_any}
 use Rattle.pdl_semantics.specs.Tree.{Location, W, Stmt, Reserve, Release, Verify, Param, Mem, Pipe}
 use Rattle.pdl_semantics.specs.Flat
-use Rattle.pdl_semantics.specs.Flatten.{flat, params_of, mem_of}
+use Rattle.pdl_semantics.specs.Flatten.{flat, params_of, mem_of, is_advisory_mem}
 use Rattle.pdl_semantics.specs.Stages
 use Rattle.pdl_semantics.specs.Stages.{mem_at, reserve_stage, commit_stage, is_reserve, is_release, onpath}
 use Rattle.pdl_semantics.specs.Sound.{all_below}
 use Rattle.pdl_kit.specs.declared.rule.Rule.TheVariants.{F5}
 use Rattle.pdl_rules.specs.Places.{Place, Parameter, Memory, Statement, End, StartClause, Guard, statements, places, on_path}
+use Rattle.pdl_rules.specs.Typed.{is_memory}
 use Rattle.pdl_rules.specs.Locks
 use Rattle.pdl_rules.specs.Locks.{is_locked, lock_size, most_reservations, reserves_location}
 use Rattle.pdl_theory_facts.proofs.Apart.{total, total_all}
 use Rattle.pdl_source_paths.proofs.WritesKept.{stands_first}
+use Rattle.pdl_source_paths.proofs.Quiet.{touches, quiet_seen, untouched}
 use Rattle.pdl_semantics.specs.Locks.{has_room}
 use Rattle.pdl_rules.specs.Stages.{reserves_memory, releases_memory}
 use Rattle.pdl_rules.specs.Names.{OfGuess, defines_use}
@@ -53,7 +55,7 @@ use Rattle.pdl_source_paths.proofs.PathScans
 use Rattle.pdl_source_paths.proofs.PathScans.{Known, order_along, inside_along, reads_along, writes_along, makings_along, sure_along, ops_all}
 use Rattle.pdl_source_paths.proofs.Guesses
 use Rattle.pdl_source_paths.proofs.Guesses.{all_asked, verified_end}
-use Rattle.pdl_source_paths.proofs.Memories.{at_number, mems_length, all_after, distinct, lock_tells, rooms, stages_length, stage_at, first_none}
+use Rattle.pdl_source_paths.proofs.Memories.{at_number, mems_length, all_after, distinct, lock_tells, advisory_unlocked, rooms, stages_length, stage_at, first_none}
 use Rattle.pdl_source_paths.proofs.StatementTests
 use Rattle.pdl_word.proofs.Bytes.{bytes_same}
 
@@ -65,17 +67,17 @@ front_on c [] [] = refl
 front_on c [] (m ∷ ms) = ap (λ l. Memory m ∷ l) (front_on c [] ms)
 front_on c (a ∷ ps) ms = ap (λ l. Parameter a ∷ l) (front_on c ps ms)
 
-backed_params : (p : Pipe) (ps : List Param) (before : List Place) → AreBacked before → AreBacked (before ++ map Parameter ps)
-backed_params p [] before b = subst AreBacked (sym (append-nil before)) b
+backed_params : (p : Pipe) (ps : List Param) (before : List Place) → AreBacked p before → AreBacked p (before ++ map Parameter ps)
+backed_params p [] before b = subst (AreBacked p) (sym (append-nil before)) b
 backed_params p (a ∷ ps) before b =
-    subst AreBacked (append_assoc before (Parameter a ∷ []) (map Parameter ps))
+    subst (AreBacked p) (append_assoc before (Parameter a ∷ []) (map Parameter ps))
     (backed_params p ps (before ++ Parameter a ∷ [])
     (backed_next p before (Parameter a) (record { l1 = refl; l3 = refl; l4 = refl; l5 = refl; l6 = refl; l7 = refl }) b))
 
-backed_mems : (p : Pipe) (ms : List Mem) (before : List Place) → AreBacked before → AreBacked (before ++ map Memory ms)
-backed_mems p [] before b = subst AreBacked (sym (append-nil before)) b
+backed_mems : (p : Pipe) (ms : List Mem) (before : List Place) → AreBacked p before → AreBacked p (before ++ map Memory ms)
+backed_mems p [] before b = subst (AreBacked p) (sym (append-nil before)) b
 backed_mems p (m ∷ ms) before b =
-    subst AreBacked (append_assoc before (Memory m ∷ []) (map Memory ms))
+    subst (AreBacked p) (append_assoc before (Memory m ∷ []) (map Memory ms))
     (backed_mems p ms (before ++ Memory m ∷ [])
     (backed_next p before (Memory m) (record { l1 = refl; l3 = refl; l4 = refl; l5 = refl; l6 = refl; l7 = refl }) b))
 
@@ -246,8 +248,8 @@ module _ (p : Pipe) (rules : KeepsRules p) where
 
     -- THE LOCKS SO FAR
 
-    backed : AreBacked (front_of p)
-    backed = backed_mems p p.mems (map Parameter p.params) (backed_params p p.params [] none_backed)
+    backed : AreBacked p (front_of p)
+    backed = backed_mems p p.mems (map Parameter p.params) (backed_params p p.params [] (none_backed p))
 
     scanned : ReadsKept.Scanned p (params_of p.params) (front_of p) no_scan
     scanned =
@@ -278,9 +280,7 @@ module _ (p : Pipe) (rules : KeepsRules p) where
         subst
         (λ k. (phases_ok k Fresh (seen p.mems ts) ≡ true) × (is_over (phase_all k Fresh (seen p.mems ts)) ≡ true)
         × (has_room (mem_at q k).lock (write_reserves k (seen p.mems ts)) 0 ≡ true) × (write_reserves k (seen p.mems ts) ≤ 2)) n.2
-        (let w = writes_along p q lock_is n.0 n.1 (params_of p.params) _ (front_of p) Fresh ts known
-        (grows_on p.mems c (params_of p.params) _ (sites_of p) (grows_all p)) each backed
-        (stands_first p (params_of p.params) (front_of p) n.0 (λ f g h. none_front p f g h)) in (
+        (let w = scanned_writes n.0 n.1 (is_advisory_mem p.mems n.0) refl in (
           w.0,
           w.1,
           rooms p rules p.mems (map Parameter p.params) n.0 (all_after p) (write_reserves (mem_of p.mems n.0) (seen p.mems ts))
@@ -288,6 +288,17 @@ module _ (p : Pipe) (rules : KeepsRules p) where
           at_most_two n.0 (many n.0 w.0 w.2),
         ))
       where
+        Writes : List ℕ → Type 0
+        Writes m = (phases_ok (mem_of p.mems m) Fresh (seen p.mems ts) ≡ true) × (is_over (phase_all (mem_of p.mems m) Fresh (seen p.mems ts)) ≡ true) × (total (phase_all (mem_of p.mems m) Fresh (seen p.mems ts)) ≤ most_reservations p.mems W m)
+
+        scanned_writes : (m : List ℕ) → is_memory p.mems m ≡ true → (b : Bool) → is_advisory_mem p.mems m ≡ b → Writes m
+        scanned_writes m there false a = writes_along p q lock_is m there a (params_of p.params) _ (front_of p) Fresh ts known (grows_on p.mems c (params_of p.params) _ (sites_of p) (grows_all p)) each backed (stands_first p (params_of p.params) (front_of p) m (λ f g h. none_front p f g h))
+        scanned_writes m there true a =
+            let k = quiet_seen (mem_of p.mems m) p.mems ts
+                    (all_on (λ t. some_op (touches (mem_of p.mems m)) (ops p.mems t) ≡ false) c (sites_of p)
+                    (all_map (Here p) (λ t. some_op (touches (mem_of p.mems m)) (ops p.mems t) ≡ false)
+                    (λ t h. untouched p m there a (advisory_unlocked p rules p.mems (map Parameter p.params) m (all_after p) a) t.walk.vars t.stmt t.branches (located p rules t h) (rules F5 t.front (place_of t) h.later h.whole)) (sites_of p) (all_here p))) in
+            (k.0, ap is_over k.1, subst (λ ph. total ph ≤ most_reservations p.mems W m) (sym k.1) (let l : 0 ≤ most_reservations p.mems W m = omega arith in l))
         none_more : (n : ℕ) → 0 + n ≡ n
         none_more n = omega arith
 

@@ -117,6 +117,7 @@ module _ (p : Pipe) (rules : KeepsRules p) (apart : are_apart (places p) ≡ tru
     fetch_blind = fetch_blind p rules apart named;
     fetch_unseen = fetch_unseen p rules apart named;
     fetch_alone = fetch_alone p rules apart named;
+    advice = facts.advice;
     fetch_inside = facts.fetch_inside;
   }
 

@@ -7,7 +7,7 @@ use Rattle.pdl_semantics.specs.Tree.{R, W, Variable, Stmt, Separator, CombRead, 
 use Rattle.pdl_semantics.specs.Tree
 use Rattle.pdl_semantics.specs.Flat
 use Rattle.pdl_semantics.specs.Flat.{all_hold}
-use Rattle.pdl_semantics.specs.Flatten.{Var, var_of, flat}
+use Rattle.pdl_semantics.specs.Flatten.{Var, var_of, flat, mem_of, flat_expr, is_advisory_mem}
 use Rattle.pdl_semantics.specs.Stages.{stage_at, in_stage}
 use Rattle.pdl_rules.specs.Places.{Place, Parameter, Memory, Statement, Guard, places, on_path}
 use Rattle.pdl_rules.specs.Parts.{is_some_and}
@@ -22,7 +22,7 @@ use Rattle.pdl_source_stages.proofs.Sites.{Site, sites_of, front_of, place_of, A
 use Rattle.pdl_source_stages.proofs.Walks.{names, names_by, names_append}
 use Rattle.pdl_source_stages.proofs.SiteStages.{all_both, all_map}
 use Rattle.pdl_source_stages.proofs.BodyShape.{body_forked}
-use Rattle.pdl_source_stages.proofs.SiteFacts.{Fine, all_fine, op_of, from_op}
+use Rattle.pdl_source_stages.proofs.SiteFacts.{Fine, all_fine, op_of, from_op, write_none}
 use Rattle.pdl_source_stages.proofs.ForkSites.{Order, Before, Same, After, order}
 use Rattle.pdl_source_stages.proofs.ForkVars
 use Rattle.pdl_source_stages.proofs.ForkFacts
@@ -148,6 +148,8 @@ bound_name ms vs (If sp (Variable y) when otherwise) i e = absurd (false≢true 
 bound_name ms vs (If sp c when otherwise) i e = ([], refl, λ m f g. absurd (both_ways (bytes_eq [] m) g f))
 bound_name ms vs (Reserve sp l R) i e = absurd (false≢true e)
 bound_name ms vs (Reserve sp l W) i e = absurd (false≢true e)
+bound_name ms vs (Tree.Write sp l v) i e =
+    absurd (false≢true (sym (write_none (binds_var i) (is_advisory_mem ms l.mem.name) (mem_of ms l.mem.name) (var_of vs l.address.name) (flat_expr vs v) refl refl) ∙ e))
 bound_name ms vs _ i e = absurd (false≢true e)
 
 -- the site y is bound on the path, in a stage no later, and in an earlier one where it is a delayed read

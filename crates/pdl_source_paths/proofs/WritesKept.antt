@@ -6,13 +6,14 @@ use Rattle.std.specs.List.{list_any}
 use mathlib.Core.Path.{fun_ext}
 use Rattle.pdl_semantics.specs.Tree.{Span, Location, R, W, Expr, Variable, Stmt, Separator, CombRead, Bind, SpecCall, DelayedRead, Write, Reserve, Block, Release, If, Call, Verify, SpecCheck, SpecBarrier, Param, Mem, Pipe, Update}
 use Rattle.pdl_semantics.specs.Flat
-use Rattle.pdl_semantics.specs.Flatten.{Var, var_of, mem_of}
+use Rattle.pdl_semantics.specs.Flatten.{Var, var_of, mem_of, flat_expr, is_advisory_mem, is_advised, write_op}
+use Rattle.pdl_source_stages.proofs.SiteFacts.{either_read, either_bind, either_write}
 use Rattle.pdl_rules.specs.Places.{Place, Parameter, Memory, Statement, End, StartClause, Branch}
 use Rattle.pdl_rules.specs.Parts.{location_of}
 use Rattle.pdl_rules.specs.Locks.{same_location, Hold, Nothing, Reserved, Blocked, Released, after_block, after_place, hold_after, is_held_for, is_unreleased, is_reserve_of, is_write_of, reserves_location, writes_location, leaves_open, most_reservations, lock_size, first_reserved, is_out_of_turn}
 use Rattle.pdl_rules.specs.Typed.{is_named, is_memory}
 use Rattle.pdl_rules.proofs.EachPlace.{Each, closing}
-use Rattle.pdl_rules.proofs.SingleWrites.{KeepsLocks, AreBacked, any_weaker, any_front, any_last, location_refl, location_sym, held_alike, writes_alike, reserves_alike, reserves_to_write, reserves_some, reserves_mem, held_if_blocked, reserved_if_blocked, written_reserved, weight, count_push, count_cons, count_none, written_once}
+use Rattle.pdl_rules.proofs.SingleWrites.{KeepsLocks, AreBacked, any_weaker, any_front, any_last, location_refl, location_sym, held_alike, writes_alike, reserves_alike, reserves_to_write, reserves_some, reserves_mem, held_if_blocked, reserved_if_blocked, written_reserved, blocked_here, weight, count_push, count_cons, count_none, written_once}
 use Rattle.pdl_theory_derived.specs.Alone.{answered_op, is_nil, is_among, is_oldest, drop_var, but_last}
 use Rattle.pdl_theory_facts.specs.Scans.{Phase, Fresh, after_write, after_reserve, after_release, may_read, may_write, is_new, next_phase, phase_ok, phases_ok, phase_all, is_over}
 use Rattle.pdl_theory_facts.proofs.Apart.{Apart, apart_fresh, apart_reserve, apart_write, apart_release, oldest_once, front_among, total, oldest_length, drop_length}
@@ -266,7 +267,7 @@ other_mem : (at l : Location) (m : List ℕ) → bytes_eq at.mem.name m ≡ fals
 other_mem at l m e f =
     false_from_ne_true _ (λ t. both_ways _ e (subst (λ n. bytes_eq at.mem.name n ≡ true) f (and_parts (bytes_eq at.mem.name l.mem.name) _ t).0))
 
-module _ (p : Pipe) (vs : List Var) (before : List Place) (m : List ℕ) (there : is_memory p.mems m ≡ true) (bs : List Branch) where
+module _ (p : Pipe) (vs : List Var) (before : List Place) (m : List ℕ) (there : is_memory p.mems m ≡ true) (plain : is_advisory_mem p.mems m ≡ false) (bs : List Branch) where
   -- two locations of one number are one
   same_place : (at : Location) (y : ℕ) (o : Open vs before m y) → at.mem.name ≡ m → is_named vs at.address.name ≡ true → y ≡ var_of vs at.address.name → same_location at o.at ≡ true
   same_place at y o same named f =
@@ -278,7 +279,7 @@ module _ (p : Pipe) (vs : List Var) (before : List Place) (m : List ℕ) (there 
   same_number at y o t = sym o.number ∙ ap (var_of vs) (sym (bytes_same _ _ (and_parts (bytes_eq at.mem.name o.at.mem.name) _ t).1))
   -- a reservation for writing
   reserve_step : (sp : Span) (at : Location) (ph : Phase) → IsNamed p.mems vs at
-      → AreBacked before → KeepsLocks p before (Statement (Reserve sp at W) bs) → Stands p vs before m ph → (b : Bool)
+      → AreBacked p before → KeepsLocks p before (Statement (Reserve sp at W) bs) → Stands p vs before m ph → (b : Bool)
       → bytes_eq at.mem.name m ≡ b
       → ((not b || is_new ph (var_of vs at.address.name)) ≡ true) × Stands p vs (before ++ Statement (Reserve sp at W) bs ∷ []) m (cond b (after_reserve ph (var_of vs at.address.name)) ph)
   reserve_step sp at ph n backed keeps s false e = (
@@ -313,7 +314,7 @@ module _ (p : Pipe) (vs : List Var) (before : List Place) (m : List ℕ) (there 
 
       -- nor written
       unwritten : list_any (writes_location at) before ≡ false
-      unwritten = false_from_ne_true _ (λ t. both_ways _ keeps.l5 (any_weaker _ _ (reserves_some at) before (written_reserved before at backed t)))
+      unwritten = false_from_ne_true _ (λ t. both_ways _ keeps.l5 (any_weaker _ _ (reserves_some at) before (written_reserved p before at (subst (λ n. is_advisory_mem p.mems n ≡ false) (sym same) plain) backed t)))
 
       place : Open vs (before ++ x ∷ []) m a
       place = record {
@@ -439,7 +440,7 @@ module _ (p : Pipe) (vs : List Var) (before : List Place) (m : List ℕ) (there 
       same = bytes_same _ _ e
 
       is : hold_after at before ≡ Blocked W
-      is = held_if_blocked _ (not-false _ keeps.l1)
+      is = blocked_here p before at (subst (λ n. is_advisory_mem p.mems n ≡ false) (sym same) plain) keeps.l1
 
       reserved : list_any (reserves_to_write at) before ≡ true
       reserved = reserved_if_blocked at before is
@@ -744,7 +745,7 @@ phase_append m k ph (op ∷ os) rest = phase_append m k (next_phase m ph (answer
 and_true : (b : Bool) → b ≡ true → (b && true) ≡ true
 and_true b e = and_from b true e refl
 
-module _ (p : Pipe) (m : List ℕ) (there : is_memory p.mems m ≡ true) (bs : List Branch) where
+module _ (p : Pipe) (m : List ℕ) (there : is_memory p.mems m ≡ true) (plain : is_advisory_mem p.mems m ≡ false) (bs : List Branch) where
   -- with the variables that it binds, a statement that touches no location
   bound_next : (vs us : List Var) (before : List Place) (ph : Phase) (x : Place)
       → ((l : Location) (h : Hold) → after_place l h x ≡ h) → is_reserve_of W m x ≡ false → is_write_of m x ≡ false
@@ -764,7 +765,7 @@ module _ (p : Pipe) (m : List ℕ) (there : is_memory p.mems m ≡ true) (bs : L
   read_next : (vs us : List Var) (before : List Place) (ph : Phase) (s : Stmt) (at : Location)
       → ((l : Location) (h : Hold) → after_place l h (Statement s bs) ≡ h) → is_reserve_of W m (Statement s bs) ≡ false
       → is_write_of m (Statement s bs) ≡ false
-      → IsNamed p.mems vs at → list_any (is_write_of at.mem.name) before ≡ false → Stands p vs before m ph
+      → IsNamed p.mems vs at → (bytes_eq at.mem.name m ≡ true → list_any (is_write_of at.mem.name) before ≡ false) → Stands p vs before m ph
       → (((not (is_among (length vs) ph.unwritten) && (not (mem_of p.mems at.mem.name == mem_of p.mems m) || may_read ph)) && true) ≡ true)
       × Stands p (vs ++ us) (before ++ Statement s bs ∷ []) m ph
   read_next vs us before ph s at same nor now named l3 i =
@@ -773,7 +774,7 @@ module _ (p : Pipe) (m : List ℕ) (there : is_memory p.mems m ≡ true) (bs : L
       may : (b : Bool) → bytes_eq at.mem.name m ≡ b → (not (mem_of p.mems at.mem.name == mem_of p.mems m) || may_read ph) ≡ true
       may true f =
           or_right (not (mem_of p.mems at.mem.name == mem_of p.mems m)) _
-          (wrote_none p vs before m ph i (subst (λ k. list_any (is_write_of k) before ≡ false) (bytes_same _ _ f) l3))
+          (wrote_none p vs before m ph i (subst (λ k. list_any (is_write_of k) before ≡ false) (bytes_same _ _ f) (l3 f)))
       may false f = or_left _ (may_read ph) (ap not (mem_is p.mems at.mem.name m named.0 there ∙ f))
 
   if_next : (vs : List Var) (before : List Place) (ph : Phase) (sp : Span) (s : Stmt) (e : Expr)
@@ -785,25 +786,34 @@ module _ (p : Pipe) (m : List ℕ) (there : is_memory p.mems m ≡ true) (bs : L
 
   -- a statement that keeps the rules of locks passes, and the write to m stands with it as its operations say
   pub stands_next : (vs : List Var) (before xs : List Place) (ph : Phase) (s : Stmt)
-      → ((at : Location) → location_of s ≡ Some at → IsNamed p.mems vs at) → AreBacked before
+      → ((at : Location) → location_of s ≡ Some at → IsNamed p.mems vs at) → AreBacked p before
       → Each (KeepsLocks p) before (Statement s bs ∷ (xs ++ closing p)) → Stands p vs before m ph
       → Goes vs before ph s (ops_of p.mems vs s) (vars_past p.mems vs s)
   stands_next vs before xs ph (Separator sp) h b each i = (refl, kept_next vs before ph (Statement (Separator sp) bs) (λ l g. refl) refl refl i)
-  stands_next vs before xs ph (CombRead sp x at) h b each i = read_next vs _ before ph (CombRead sp x at) at (λ l g. refl) refl refl (h at refl) each.0.l3 i
+  stands_next vs before xs ph (CombRead sp x at) h b each i =
+      either_read (λ op. Goes vs before ph (CombRead sp x at) (op ∷ []) (vars_past p.mems vs (CombRead sp x at))) (is_advisory_mem p.mems at.mem.name) (length vs) (mem_of p.mems at.mem.name) (var_of vs at.address.name)
+      (refl, bound_next vs _ before ph (Statement (CombRead sp x at) bs) (λ l g. refl) refl refl i)
+      (read_next vs _ before ph (CombRead sp x at) at (λ l g. refl) refl refl (h at refl) (λ f. sym (ap (λ a. not a && list_any (is_write_of at.mem.name) before) (subst (λ n. is_advisory_mem p.mems n ≡ false) (sym (bytes_same _ _ f)) plain)) ∙ each.0.l3) i)
   stands_next vs before xs ph (DelayedRead sp x at) h b each i =
-      read_next vs _ before ph (DelayedRead sp x at) at (λ l g. refl) refl refl (h at refl) each.0.l3 i
+      read_next vs _ before ph (DelayedRead sp x at) at (λ l g. refl) refl refl (h at refl) (λ f. each.0.l3) i
   stands_next vs before xs ph (Bind sp x v) h b each i =
+      either_bind (λ op. Goes vs before ph (Bind sp x v) (op ∷ []) (vars_past p.mems vs (Bind sp x v))) (is_advised vs v) (length vs) (flat_expr vs v)
+      (refl, bound_next vs _ before ph (Statement (Bind sp x v) bs) (λ l h. refl) refl refl i)
       (and_true _ (held_low p vs before m ph i), bound_next vs _ before ph (Statement (Bind sp x v) bs) (λ l h. refl) refl refl i)
   stands_next vs before xs ph (If sp e when otherwise) h b each i = if_next vs before ph sp (If sp e when otherwise) e (λ l g. refl) refl refl i
   stands_next vs before xs ph (SpecCall sp g args) h b each i = (refl, kept_next vs before ph (Statement (SpecCall sp g args) bs) (λ l g. refl) refl refl i)
-  stands_next vs before xs ph (Write sp at v) h b each i =
+  stands_next vs before xs ph (Write sp at v) h b each i = go (is_advisory_mem p.mems at.mem.name) refl
+    where
+      go : (k : Bool) → is_advisory_mem p.mems at.mem.name ≡ k → Goes vs before ph (Write sp at v) (write_op k (mem_of p.mems at.mem.name) (var_of vs at.address.name) (flat_expr vs v) ∷ []) vs
+      go true a = (refl, kept_next vs before ph (Statement (Write sp at v) bs) (λ l g. refl) refl (false_from_ne_true _ (λ t. both_ways _ plain (subst (λ n. is_advisory_mem p.mems n ≡ true) (bytes_same _ _ t) a))) i)
+      go false a =
       let named = h at refl in
       subst
       (λ c. (((not c || may_write ph (var_of vs at.address.name)) && true) ≡ true)
       × Stands p vs (before ++ Statement (Write sp at v) bs ∷ []) m (cond c (after_write ph (var_of vs at.address.name)) ph))
       (sym (mem_is p.mems at.mem.name m named.0 there))
-      (let step = write_step p vs before m there bs sp at v ph named each.0
-      (written_once p sp at v bs before xs (StartClause p.start ∷ []) p.end each) i
+      (let step = write_step p vs before m there plain bs sp at v ph named each.0
+      (written_once p sp at v bs before xs (StartClause p.start ∷ []) p.end a each) i
       (bytes_eq at.mem.name m) refl in
       (and_true _ step.0, step.1))
   stands_next vs before xs ph (Reserve sp at R) h b each i = (
@@ -824,7 +834,7 @@ module _ (p : Pipe) (m : List ℕ) (there : is_memory p.mems m ≡ true) (bs : L
       (λ c. (((not c || is_new ph (var_of vs at.address.name)) && true) ≡ true)
       × Stands p vs (before ++ Statement (Reserve sp at W) bs ∷ []) m (cond c (after_reserve ph (var_of vs at.address.name)) ph))
       (sym (mem_is p.mems at.mem.name m named.0 there))
-      (let step = reserve_step p vs before m there bs sp at ph named b each.0 i (bytes_eq at.mem.name m) refl in (and_true _ step.0, step.1))
+      (let step = reserve_step p vs before m there plain bs sp at ph named b each.0 i (bytes_eq at.mem.name m) refl in (and_true _ step.0, step.1))
   stands_next vs before xs ph (Block sp at) h b each i = (
     refl,
     subst (λ us. Stands p us (before ++ Statement (Block sp at) bs ∷ []) m ph) (append-nil vs)
@@ -847,7 +857,7 @@ module _ (p : Pipe) (m : List ℕ) (there : is_memory p.mems m ≡ true) (bs : L
       (λ c. (((not c || not (is_among (var_of vs at.address.name) ph.unwritten)) && true) ≡ true)
       × Stands p vs (before ++ Statement (Release sp at) bs ∷ []) m (cond c (after_release ph (var_of vs at.address.name)) ph))
       (sym (mem_is p.mems at.mem.name m named.0 there))
-      (let step = release_step p vs before m there bs sp at ph named each.0 i (bytes_eq at.mem.name m) refl in (and_true _ step.0, step.1))
+      (let step = release_step p vs before m there plain bs sp at ph named each.0 i (bytes_eq at.mem.name m) refl in (and_true _ step.0, step.1))
   stands_next vs before xs ph (Call sp args) h b each i = (refl, kept_next vs before ph (Statement (Call sp args) bs) (λ l h. refl) refl refl i)
   stands_next vs before xs ph (Verify sp g args) h b each i = (refl, kept_next vs before ph (Statement (Verify sp g args) bs) (λ l h. refl) refl refl i)
   stands_next vs before xs ph (Update sp g args) h b each i = (refl, kept_next vs before ph (Statement (Update sp g args) bs) (λ l h. refl) refl refl i)

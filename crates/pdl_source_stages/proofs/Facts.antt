@@ -63,4 +63,5 @@ module _ (p : Pipe) (rules : KeepsRules p) where
     fetch = Homes.fetch_at p rules;
     found = found;
     fetch_inside = Homes.fetch_inside p rules;
+    advice = Homes.advice p rules;
   }

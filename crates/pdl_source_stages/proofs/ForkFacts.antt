@@ -5,10 +5,10 @@ use Rattle.std.proofs.lemmas.List.{get_or_past}
 use Rattle.std.proofs.lemmas.List.Folds.{list_any-append}
 use Rattle.std.specs.List.{list_any}
 use Rattle.pdl_kit.specs.declared.rule.Rule.TheVariants.{N3}
-use Rattle.pdl_semantics.specs.Tree.{R, W, Span, Ident, Expr, Constant, Variable, Slice, Not, Binary, Cat, LessSigned, ZeroExtend, SignExtend, Choose, Location, Stmt, DelayedRead, Reserve, If, Param, Pipe}
+use Rattle.pdl_semantics.specs.Tree.{CombRead, Bind, Write, R, W, Span, Ident, Expr, Constant, Variable, Slice, Not, Binary, Cat, LessSigned, ZeroExtend, SignExtend, Choose, Location, Stmt, DelayedRead, Reserve, If, Param, Pipe}
 use Rattle.pdl_semantics.specs.Flat
 use Rattle.pdl_semantics.specs.Flat.{all_hold}
-use Rattle.pdl_semantics.specs.Flatten.{var_of, guard_of, past_all, at_start, flat}
+use Rattle.pdl_semantics.specs.Flatten.{var_of, guard_of, past_all, at_start, flat, is_advisory_mem, is_advised, mem_of, flat_expr}
 use Rattle.pdl_semantics.specs.Stages.{last_stage, stage_at, in_stage}
 use Rattle.pdl_rules.specs.Places.{Place, Parameter, Memory, Statement, Guard, statements, places, on_path, on_some_path}
 use Rattle.pdl_rules.specs.Parts.{is_some_and}
@@ -21,7 +21,7 @@ use Rattle.pdl_source_stages.proofs.Sites.{Site, sites_of, front_of, place_of, A
 use Rattle.pdl_source_stages.proofs.Walks.{cut, cut_append, names, names_at, names_by, names_append, told_past_all, at_front}
 use Rattle.pdl_source_stages.proofs.BodyShape.{body_forked, body_groups, body_size}
 use Rattle.pdl_source_stages.proofs.SiteStages.{all_both}
-use Rattle.pdl_source_stages.proofs.SiteFacts.{Fine, all_fine, AtSite, each_stmt, each_in_stage, none_each, op_of, from_op}
+use Rattle.pdl_source_stages.proofs.SiteFacts.{Fine, all_fine, AtSite, each_stmt, each_in_stage, none_each, op_of, from_op, read_none, bind_none, write_none}
 use Rattle.pdl_source_stages.proofs.ForkSites.{ForkSite, Some_site, pick, fork_sites, fork_var, Order, Before, Same, After, order}
 use Rattle.pdl_source_stages.proofs.ForkVars
 use Rattle.pdl_word.proofs.Bytes.{bytes_same, bytes_refl}
@@ -339,6 +339,9 @@ module _ (p : Pipe) (rules : KeepsRules p) where
       by t h i (Reserve sp l W) k true f = absurd (false≢true f)
       by t h i (If sp (Variable v) when otherwise) k true f = absurd (false≢true f)
       by t h i (If sp c when otherwise) k true f = absurd (false≢true f)
+      by t h i (CombRead sp y l) k true f = absurd (false≢true (sym (read_none (is_fetch_of x) (is_advisory_mem p.mems l.mem.name) (length t.walk.vars) (mem_of p.mems l.mem.name) (var_of t.walk.vars l.address.name) refl refl) ∙ f))
+      by t h i (Bind sp y v) k true f = absurd (false≢true (sym (bind_none (is_fetch_of x) (is_advised t.walk.vars v) (length t.walk.vars) (flat_expr t.walk.vars v) refl refl) ∙ f))
+      by t h i (Write sp l v) k true f = absurd (false≢true (sym (write_none (is_fetch_of x) (is_advisory_mem p.mems l.mem.name) (mem_of p.mems l.mem.name) (var_of t.walk.vars l.address.name) (flat_expr t.walk.vars v) refl refl) ∙ f))
       by t h i z k true f = absurd (false≢true f)
 
       each_of : (ts : List Site) → All (Deep p) ts → All (AtSite (λ y. y.stage ≡ s → is_fetch_of x y.op ≡ false) p.mems) ts

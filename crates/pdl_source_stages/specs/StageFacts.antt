@@ -3,6 +3,7 @@ use Rattle.std.specs.Prelude.{◌≡◌, ℕ, suc, ◌≤◌, ◌<◌, true, fal
 use Rattle.pdl_semantics.specs.Flat.{list_all, Op, Bind, CombRead, DelayedRead, Write, ReserveRead, ReserveWrite, Block, Release, Call, SpecCall, Verify, SpecCheck, SpecBarrier, Stmt, Branch, Forks, Pipe}
 use Rattle.pdl_semantics.specs.Stages.{is_inside, is_reserve, is_release, is_verify, onpath, in_stage, stage_at, verify_stage, commit_stage, reserve_stage}
 use Rattle.pdl_semantics.specs.Cycle.{merges_by}
+use Rattle.pdl_semantics.specs.Promises.{KeepsAdvice}
 use Rattle.pdl_theory_derived.specs.Alone.{before}
 use Rattle.pdl_theory_facts.specs.Scans.{none_of, all_at, binds_var}
 use Rattle.pdl_theory_facts.specs.Graphs.{Trunk, next_of, Graph, Home, Branches}
@@ -60,3 +61,5 @@ pub record StageFacts (p : Pipe) : Type 0 where
   pub fetch : ℕ → ℕ
   pub found : (s : ℕ) → AllFound p fetch s (in_stage s p.stmts)
   pub fetch_inside : (s : ℕ) → suc s ≡ length p.stages → none_of is_fetch (in_stage s p.stmts) ≡ true
+  -- F4, F5: a statement takes a memory by its kind
+  pub advice : KeepsAdvice p

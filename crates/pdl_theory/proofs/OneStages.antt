@@ -15,7 +15,7 @@ use Rattle.pdl_semantics.specs.Moves
 use Rattle.pdl_theory_derived.specs.Derived.{Around, Work, Thread, State, Act, do_all, work_after, work_of_stage, around, answered_thread, act, acts, all_acts, cycle, turns_from, first, is_wait, waits_from, next_ask, next_asks, nothing_asked, asks_of, commits_of}
 use Rattle.pdl_theory_derived.specs.Derived
 use Rattle.pdl_theory_derived.specs.Alone.{answered_op}
-use Rattle.pdl_theory_derived.specs.Simulation.{SameTurns}
+use Rattle.pdl_theory_derived.specs.Simulation.{SameTurns, hints_of}
 use Rattle.pdl_theory_derived.specs.OneStage.{IsThread, AreThreads}
 use Rattle.pdl_theory_derived.proofs.Stages.{step}
 use Rattle.pdl_theory_derived.proofs.Writes.{and_left, and_right, of_mem_append}
@@ -183,7 +183,7 @@ module _ (p : Pipe) (sound : Sound p) (single : length p.stages ≡ 1) where
   none_fail st bits older [] = refl
   none_fail st bits older (t ∷ ts) =
       ap₂ (λ c d. c || d)
-      (ap (λ f. (act p st bits older t).moves && f) (fails_none (around p st bits older t.stage) (answered_thread p st bits t))
+      (ap (λ f. (act p st bits older t).moves && f) (fails_none (around p st bits older t.stage t.hint) (answered_thread p st bits t))
       ∙ at (act p st bits older t).moves)
       (none_fail st bits (act p st bits older t ∷ older) ts)
     where
@@ -199,7 +199,7 @@ module _ (p : Pipe) (sound : Sound p) (single : length p.stages ≡ 1) where
           → cond b ((act p st bits older t).work.asks ++ asks_of (acts p st bits (act p st bits older t ∷ older) ts))
           (asks_of (acts p st bits (act p st bits older t ∷ older) ts))
           ≡ []
-      at true h = ap₂ (λ c d. c ++ d) (asks_none (around p st bits older t.stage) (answered_thread p st bits t)) h
+      at true h = ap₂ (λ c d. c ++ d) (asks_none (around p st bits older t.stage t.hint) (answered_thread p st bits t)) h
       at false h = h
 
   -- between cycles the commits are the writes of the threads that ended
@@ -286,10 +286,13 @@ module _ (p : Pipe) (sound : Sound p) (single : length p.stages ≡ 1) where
     carried ts us wss s.1 h.1,
   )
 
+  abbrev hints : Arrays → List (List Bool) → ℕ → List ℕ
+  hints image schedule = hints_of p (Cycle.first p image) schedule
+
   -- the cycles of a run of the stated machine are the threads of the sequential run, one after another
   pub whole_threads : (image : Arrays) (schedule : List (List Bool)) → AreThreads (Cycle.turns p image schedule) (threads p image (length schedule))
   whole_threads image schedule =
-      carried _ _ _ (whole_same p sound image schedule) (from_here image 0 [] (first p image) schedule (runs_first p (course p sound) image) refl)
+      carried _ _ _ (whole_same p sound image schedule) (from_here image 0 [] (first p image (hints image schedule)) schedule (runs_first p (course p sound) image (hints image schedule)) refl)
 
 -- LINES
 

@@ -1,12 +1,12 @@
 -- Written pipes pass the tests of the whole language.
-use Rattle.std.proofs.Common.{◌≡◌, refl, Bool, true, false, List, [], ◌∷◌, None}
+use Rattle.std.proofs.Common.{◌≡◌, refl, Bool, true, false, List, [], ◌∷◌, None, ℕ}
 use Rattle.pdl_semantics.specs.Tree.{W, Queue}
 use Rattle.pdl_semantics.specs.Tree
 use Rattle.pdl_semantics.specs.Tree.{Queue, Bypass}
 use Rattle.pdl_semantics.specs.Flatten.{flat}
-use Rattle.pdl_semantics.proofs.Pipes.{two_writes, two_writes_apart, one_stage, shared_guard, count_queue, guess, far_barrier, copy, copy_guessed, count_slow, two_branches, one_branch, forked, everything, dead_read, nested, nested_straight, four_levels, nested_guess, updated}
+use Rattle.pdl_semantics.proofs.Pipes.{two_writes, two_writes_apart, one_stage, shared_guard, count_queue, guess, far_barrier, copy, copy_guessed, count_slow, two_branches, one_branch, forked, everything, dead_read, nested, nested_straight, four_levels, nested_guess, updated, guess_learnt, guess_kept}
 use Rattle.pdl_semantics.proofs.Texts.{number, constant, variable, slice, plus, separator, bind, delayed_read, call, spec_barrier, if_else, slow, pipe, write, reserve, block, release, spec_call, verify, update, spec_check, lock, comb}
-use Rattle.pdl_semantics.specs.Flat.{Arrays, Pipe}
+use Rattle.pdl_semantics.specs.Flat.{Arrays, Pipe, CombRead}
 use Rattle.pdl_theory_derived.specs.Alone.{Refines, Advances, KeepsPace}
 use Rattle.pdl_theory_facts.specs.SoundChecks.{passes_tests}
 use Rattle.pdl_theory_turns.proofs.Courses.{Course}
@@ -14,7 +14,7 @@ use Rattle.pdl_theory_turns.proofs.CourseOf.{course}
 use Rattle.pdl_theory_refinement.proofs.Follows.{refines, advances}
 use Rattle.pdl_theory_progress.proofs.Rates.{keeps_pace}
 use Rattle.pdl_theory_progress.proofs.SoundTests.{sounded}
-use Rattle.pdl_theory.proofs.StatedTheorems.{whole_refines, whole_advances, whole_paces, updates_alike}
+use Rattle.pdl_theory.proofs.StatedTheorems.{whole_refines, whole_advances, whole_paces, updates_alike, whole_idle}
 use Rattle.pdl_semantics.specs.Updates.{not_updated, CommitsAlike}
 use Rattle.pdl_semantics.specs.Promises
 
@@ -29,6 +29,16 @@ queue_sounds = refl
 
 guess_sounds : passes_tests (flat (guess 3)) ≡ true
 guess_sounds = refl
+
+guess_learnt_sounds : passes_tests (flat guess_learnt) ≡ true
+guess_learnt_sounds = refl
+
+guess_kept_sounds : passes_tests (flat guess_kept) ≡ true
+guess_kept_sounds = refl
+
+-- a read of an advisory memory that isn't one of advice fails
+advice_read_fails : passes_tests (record (flat guess_learnt) { stmts = record { stage = 0; guards = []; op = CombRead 0 0 0 } ∷ (flat guess_learnt).stmts }) ≡ false
+advice_read_fails = refl
 
 far_barrier_sounds : passes_tests (flat far_barrier) ≡ true
 far_barrier_sounds = refl
@@ -144,16 +154,16 @@ branch_barrier_fails = refl
 abbrev whole : (p : Pipe) → passes_tests p ≡ true → Course p
 whole p h = course p (sounded p h)
 
-copy_guessed_refines : (image : Arrays) (schedule : List (List Bool)) → Refines (flat copy_guessed) image schedule
+copy_guessed_refines : (image : Arrays) (hints : ℕ → List ℕ) (schedule : List (List Bool)) → Refines (flat copy_guessed) image hints schedule
 copy_guessed_refines = refines (flat copy_guessed) (whole (flat copy_guessed) copy_guessed_sounds)
 
-branches_refine : (image : Arrays) (schedule : List (List Bool)) → Refines (flat two_branches) image schedule
+branches_refine : (image : Arrays) (hints : ℕ → List ℕ) (schedule : List (List Bool)) → Refines (flat two_branches) image hints schedule
 branches_refine = refines (flat two_branches) (whole (flat two_branches) two_branches_sound)
 
-slow_advances : (image : Arrays) (schedule : List (List Bool)) (bits : List Bool) → Advances (flat count_slow) image schedule bits
+slow_advances : (image : Arrays) (hints : ℕ → List ℕ) (schedule : List (List Bool)) (bits : List Bool) → Advances (flat count_slow) image hints schedule bits
 slow_advances = advances (flat count_slow) (whole (flat count_slow) count_slow_sounds)
 
-branches_keep_pace : (image : Arrays) (schedule : List (List Bool)) → KeepsPace (flat one_branch) image schedule
+branches_keep_pace : (image : Arrays) (hints : ℕ → List ℕ) (schedule : List (List Bool)) → KeepsPace (flat one_branch) image hints schedule
 branches_keep_pace = keeps_pace (flat one_branch) (sounded (flat one_branch) one_branch_sounds)
 
 -- every run of the stated machine on the pipe with guesses refines the sequential run
@@ -193,3 +203,10 @@ stated_branches_keep_pace = whole_paces (flat one_branch) (sounded (flat one_bra
 
 stated_everything_refines : (image : Arrays) (schedule : List (List Bool)) → Promises.Refines (flat everything) image schedule
 stated_everything_refines = whole_refines (flat everything) (sounded (flat everything) everything_sounds)
+
+stated_learnt_refines : (image : Arrays) (schedule : List (List Bool)) → Promises.Refines (flat guess_learnt) image schedule
+stated_learnt_refines = whole_refines (flat guess_learnt) (sounded (flat guess_learnt) guess_learnt_sounds)
+
+-- what was learnt changes no write
+learnt_is_idle : (image other : Arrays) (schedule replies : List (List Bool)) → Promises.DifferInAdvice (flat guess_learnt) image other → Promises.AdviceIsIdle (flat guess_learnt) image other schedule replies
+learnt_is_idle = whole_idle (flat guess_learnt) (sounded (flat guess_learnt) guess_learnt_sounds)

@@ -303,5 +303,5 @@ held_port p st bits older (t ∷ ts) m h =
         ≡ None
     at true e k =
         find_append (act p st bits older t).work.asks (asks_of (acts p st bits (act p st bits older t ∷ older) ts)) m
-        ∙ ap₂ or_ask (unasked (around p st bits older t.stage) (in_stage t.stage p.stmts) _ m h (and_right _ _ (and_left _ _ (and_left _ _ (and_left _ _ e))))) k
+        ∙ ap₂ or_ask (unasked (around p st bits older t.stage t.hint) (in_stage t.stage p.stmts) _ m h (and_right _ _ (and_left _ _ (and_left _ _ (and_left _ _ e))))) k
     at false e k = k

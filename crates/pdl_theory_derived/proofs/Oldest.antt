@@ -100,7 +100,7 @@ pub oldest : (p : Pipe) (st : State) (bits : List Bool) (t : Thread) → have_ro
     → is_wait p st bits ≡ false → (act p st bits [] t).moves ≡ true
 oldest p st bits t room a h =
     and_from _ _
-    (and_from _ _ (and_from _ _ (ready_all (around p st bits [] t.stage) (in_stage t.stage p.stmts) _
+    (and_from _ _ (and_from _ _ (ready_all (around p st bits [] t.stage t.hint) (in_stage t.stage p.stmts) _
     (record {
       can_read = λ m x. read_free (mem_at p m).lock;
       can_write = λ m x. write_free (mem_at p m).lock;

@@ -11,10 +11,11 @@ use Rattle.pdl_semantics.specs.Lines
 use Rattle.pdl_semantics.specs.Machine.{Ask}
 use Rattle.pdl_semantics.specs.Cycle.{PortWrite, commits_shown, turns}
 use Rattle.pdl_semantics.specs.Cycle
-use Rattle.pdl_semantics.proofs.Pipes.{two_writes, two_writes_apart, one_stage, two_stages, under_guard, shared_guard, count_queue, count_bypass, count_rename, count_late, guess, guess_reserved, copy, copy_guessed, two_branches, one_branch, count_slow, barrier, far_barrier}
+use Rattle.pdl_semantics.proofs.Pipes.{two_writes, two_writes_apart, one_stage, two_stages, under_guard, shared_guard, count_queue, count_bypass, count_rename, count_late, guess, guess_learnt, guess_kept, guess_reserved, copy, copy_guessed, two_branches, one_branch, count_slow, barrier, far_barrier}
 use Rattle.pdl_semantics.proofs.Texts.{variable}
 use Rattle.pdl_semantics.proofs.MachineRows.{zeros, idle, bits, copied}
 use Rattle.pdl_theory_derived.specs.Derived
+use Rattle.pdl_theory_derived.specs.Simulation.{hints_of}
 
 -- PORTS
 
@@ -52,7 +53,7 @@ agree (a ∷ ts) (b ∷ us) =
 agree _ _ = false
 
 abbrev both_agree : Tree.Pipe → List (List ℕ) → List (List Bool) → Bool
-both_agree p image schedule = agree (turns (flat p) (arrays_of image) schedule) (Derived.turns (flat p) (arrays_of image) schedule)
+both_agree p image schedule = agree (turns (flat p) (arrays_of image) schedule) (Derived.turns (flat p) (arrays_of image) (hints_of (flat p) (Cycle.first (flat p) (arrays_of image)) schedule) schedule)
 
 -- some replies late, some prompt
 abbrev mixed : List (List Bool)
@@ -76,6 +77,10 @@ guess_ports : all_true
 unfolding add slice zext
 guess_ports = refl
 
+advice_ports : all_true (both_agree guess_learnt (zeros ∷ zeros ∷ []) (idle 14) ∷ both_agree guess_learnt ((2 ∷ 0 ∷ 2 ∷ 0 ∷ []) ∷ zeros ∷ []) (idle 12) ∷ both_agree guess_kept (zeros ∷ zeros ∷ []) (idle 14) ∷ both_agree guess_kept ((2 ∷ 0 ∷ 0 ∷ 0 ∷ []) ∷ zeros ∷ []) (idle 12) ∷ []) ≡ true
+unfolding add slice zext
+advice_ports = refl
+
 delayed_ports : all_true (both_agree copy copied mixed ∷ both_agree copy_guessed copied mixed ∷ both_agree count_slow ((0 ∷ 0 ∷ []) ∷ []) mixed ∷ [])
     ≡ true
 unfolding add slice zext
@@ -95,7 +100,7 @@ derived_cycles ms [] = []
 derived_cycles ms (t ∷ ts) = derived_cycle ms t ∷ derived_cycles ms ts
 
 abbrev derived_lines : Tree.Pipe → List (List ℕ) → List (List Bool) → List ℕ
-derived_lines p image schedule = lines (columns p.mems) (derived_cycles (columns p.mems) (Derived.turns (flat p) (arrays_of image) schedule))
+derived_lines p image schedule = lines (columns p.mems) (derived_cycles (columns p.mems) (Derived.turns (flat p) (arrays_of image) (hints_of (flat p) (Cycle.first (flat p) (arrays_of image)) schedule) schedule))
 
 abbrev prints_alike : Tree.Pipe → List (List ℕ) → List (List Bool) → Bool
 prints_alike p image schedule = bytes_eq (derived_lines p image schedule) (run_lines p image schedule)

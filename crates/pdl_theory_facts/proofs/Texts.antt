@@ -118,19 +118,8 @@ no_fetch p c [] h = refl
 no_fetch p c (x ∷ xs) h = and_from _ _ (here x.op (and_right _ _ (and_left _ _ h))) (no_fetch p (scan_after x.op c) xs (and_right _ _ h))
   where
     here : (op : Op) → op_ok p x.stage c op ≡ true → not (is_fetch op) ≡ true
-    here (Bind y e) k = refl
-    here (CombRead y m a) k = refl
     here (DelayedRead y m a) k = k
-    here (Write m a e) k = refl
-    here (ReserveRead m a) k = refl
-    here (ReserveWrite m a) k = refl
-    here (Block m a) k = refl
-    here (Release m a) k = refl
-    here (Call args) k = refl
-    here (SpecCall args) k = refl
-    here (Verify last args) k = refl
-    here SpecCheck k = refl
-    here SpecBarrier k = refl
+    here _ k = refl
 
 -- without a verify there is no stage of the verifies
 pub no_verify : (xs : List Stmt) → none_of is_verify xs ≡ true → verify_stage xs ≡ None

@@ -1,6 +1,6 @@
 -- The facts of an accepted pipe's text and of each of its paths, as tests that compute.
 use Rattle.std.specs.Prelude.{ℕ, suc, Bool, true, false, ◌&&◌, ◌||◌, not, List, [], ◌∷◌, ◌++◌, Option, Some, None, if◌then◌else◌, nat_lt, nat_le, ◌==◌, length}
-use Rattle.pdl_semantics.specs.Flat.{list_all, Op, Bind, CombRead, DelayedRead, Write, ReserveRead, ReserveWrite, Block, Release, Call, SpecCall, Verify, SpecCheck, SpecBarrier, Stmt, Guard, Pipe}
+use Rattle.pdl_semantics.specs.Flat.{list_all, Op, Bind, CombRead, DelayedRead, Write, ReserveRead, ReserveWrite, Block, Release, Call, SpecCall, Verify, SpecCheck, SpecBarrier, AdviceBind, AdviceRead, AdviceWrite, Stmt, Guard, Pipe}
 use Rattle.pdl_theory_derived.specs.Alone.{before}
 use Rattle.pdl_semantics.specs.Stages.{in_stage, mem_at, commit_stage, reserve_stage, is_reserve, is_release, is_verify, verify_stage}
 use Rattle.pdl_semantics.specs.Locks.{has_room}
@@ -28,6 +28,9 @@ knows_memory n (SpecCall args) = true
 knows_memory n (Verify last args) = true
 knows_memory n SpecCheck = true
 knows_memory n SpecBarrier = true
+knows_memory n (AdviceBind x e) = true
+knows_memory n (AdviceRead x m a) = true
+knows_memory n (AdviceWrite m a e) = true
 
 -- whether a statement makes a guess or verifies it
 abbrev pub is_guess : Op → Bool

@@ -1,6 +1,6 @@
 -- WHAT IS TAKEN OF AN ACCEPTED PIPE OF THE WHOLE LANGUAGE: facts that the rules of the language give, of its text, of its stage graph, and of the statements of each path.
 use Rattle.std.specs.Prelude.{◌≡◌, ℕ, suc, ◌≤◌, ◌<◌, Bool, true, false, ◌&&◌, ◌||◌, not, List, [], ◌∷◌, Option, Some, None, ◌==◌, length, nat_lt, nat_le, slice_index}
-use Rattle.pdl_semantics.specs.Flat.{list_all, Op, Bind, CombRead, DelayedRead, Write, ReserveRead, ReserveWrite, Block, Release, Call, SpecCall, Verify, SpecCheck, SpecBarrier, Expr, Constant, Variable, Slice, Not, Binary, Cat, LessSigned, ZeroExtend, SignExtend, Choose, Guard, Stmt, Forks, Branch, Pipe}
+use Rattle.pdl_semantics.specs.Flat.{list_all, Op, Bind, CombRead, DelayedRead, Write, ReserveRead, ReserveWrite, Block, Release, Call, SpecCall, Verify, SpecCheck, SpecBarrier, AdviceBind, AdviceRead, AdviceWrite, Expr, Constant, Variable, Slice, Not, Binary, Cat, LessSigned, ZeroExtend, SignExtend, Choose, Guard, Stmt, Forks, Branch, Pipe}
 use Rattle.pdl_semantics.specs.Forms.{on_delayed_read}
 use Rattle.pdl_semantics.specs.Stages.{is_inside, is_reserve, is_verify, onpath, in_stage, stage_at, mem_at, verify_stage, commit_stage, reserve_stage}
 pub use Rattle.pdl_semantics.specs.Locks.{is_exact}
@@ -9,6 +9,7 @@ use Rattle.pdl_theory_facts.specs.Scans.{none_of, all_at, binds_var}
 pub use Rattle.pdl_theory_facts.specs.Scans.{against, is_dead}
 use Rattle.pdl_semantics.specs.Cycle.{merges_by}
 use Rattle.pdl_theory_facts.specs.Graphs.{Trunk, next_of, Graph, Home, Branches, goes_by}
+use Rattle.pdl_semantics.specs.Promises.{KeepsAdvice}
 use Rattle.pdl_theory_facts.specs.Accepted.{Pathwise}
 use Rattle.pdl_semantics.specs.Sound.{stages_from, is_fetch}
 
@@ -47,6 +48,9 @@ mentions_var x (ReserveRead m a) = false
 mentions_var x (Release m a) = false
 mentions_var x SpecCheck = false
 mentions_var x SpecBarrier = false
+mentions_var x (AdviceBind _ e) = false
+mentions_var x (AdviceRead _ m a) = false
+mentions_var x (AdviceWrite m a e) = false
 
 -- whether one of these guards is on variable x
 abbrev pub asks_for : ℕ → List Guard → Bool
@@ -70,6 +74,9 @@ trunk_only (SpecCall args) = true
 trunk_only (Verify last args) = true
 trunk_only SpecCheck = true
 trunk_only SpecBarrier = true
+trunk_only (AdviceBind x e) = true
+trunk_only (AdviceRead x m a) = true
+trunk_only (AdviceWrite m a e) = true
 trunk_only (Bind x e) = false
 trunk_only (CombRead x m a) = false
 trunk_only (DelayedRead x m a) = false
@@ -209,5 +216,7 @@ pub record Sound (p : Pipe) : Type 0 where
       → onpath env' (before (next_of p s env) p.stmts) ≡ onpath env (before (next_of p s env) p.stmts)
   pub fetch_unseen : (s : ℕ) → is_unseen (in_stage s p.stmts) ≡ true
   pub fetch_alone : (s : ℕ) → fetch_apart (in_stage s p.stmts) ≡ true
+  -- F4, F5: a statement takes a memory by its kind
+  pub advice : KeepsAdvice p
   -- F3: none stands in the last stage
   pub fetch_inside : (s : ℕ) → suc s ≡ length p.stages → none_of is_fetch (in_stage s p.stmts) ≡ true

@@ -1,6 +1,6 @@
 -- Facts of an accepted pipe on guesses: scans over the statements of one path that tell who makes the next thread, and that nothing is released before it is certain.
 use Rattle.std.specs.Prelude.{ℕ, Bool, true, false, ◌&&◌, ◌||◌, not, List, [], ◌∷◌, Option, Some, None, ◌==◌, nat_lt}
-use Rattle.pdl_semantics.specs.Flat.{Op, Bind, CombRead, DelayedRead, Write, ReserveRead, ReserveWrite, Block, Release, Call, SpecCall, Verify, SpecCheck, SpecBarrier, Stmt}
+use Rattle.pdl_semantics.specs.Flat.{Op, Bind, CombRead, DelayedRead, Write, ReserveRead, ReserveWrite, Block, Release, Call, SpecCall, Verify, SpecCheck, SpecBarrier, AdviceBind, AdviceRead, AdviceWrite, Stmt}
 use Rattle.pdl_semantics.specs.Forms.{on_release}
 pub use Rattle.pdl_semantics.specs.Sound.{is_barrier}
 use Rattle.pdl_theory_facts.specs.Scans.{has_location, scan_after, Scan}
@@ -39,6 +39,9 @@ next_making k (Block m a) = k
 next_making k (Release m a) = k
 next_making k SpecCheck = k
 next_making k SpecBarrier = k
+next_making k (AdviceBind x e) = k
+next_making k (AdviceRead x m a) = k
+next_making k (AdviceWrite m a e) = k
 
 -- how far a thread is with its successor after these statements
 abbrev pub making_all : Making → List Stmt → Making
@@ -76,6 +79,9 @@ making_ok v k s (Block m a) = true
 making_ok v k s (Release m a) = true
 making_ok v k s SpecCheck = true
 making_ok v k s SpecBarrier = true
+making_ok v k s (AdviceBind x e) = true
+making_ok v k s (AdviceRead x m a) = true
+making_ok v k s (AdviceWrite m a e) = true
 
 -- these statements make the next thread in order, from this point on
 abbrev pub makings_ok : Option ℕ → Making → List Stmt → Bool

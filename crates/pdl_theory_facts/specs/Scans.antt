@@ -1,6 +1,6 @@
 -- Scans over the statements of one path, and over a text, that tell whether locks and values are used as the rules of the language say.
 use Rattle.std.specs.Prelude.{ℕ, suc, Bool, true, false, ◌&&◌, ◌||◌, not, List, [], ◌∷◌, if◌then◌else◌, ◌==◌, nat_le}
-use Rattle.pdl_semantics.specs.Flat.{Op, Bind, CombRead, DelayedRead, Write, ReserveRead, ReserveWrite, Block, Release, Call, SpecCall, Verify, SpecCheck, SpecBarrier, Stmt, Guard, Pipe}
+use Rattle.pdl_semantics.specs.Flat.{Op, Bind, CombRead, DelayedRead, Write, ReserveRead, ReserveWrite, Block, Release, Call, SpecCall, Verify, SpecCheck, SpecBarrier, AdviceBind, AdviceRead, AdviceWrite, Stmt, Guard, Pipe}
 use Rattle.pdl_semantics.specs.Forms.{on_binding}
 use Rattle.pdl_semantics.specs.Stages.{mem_at, commit_stage, reserve_stage}
 pub use Rattle.pdl_semantics.specs.Locks.{is_plain}
@@ -50,6 +50,9 @@ scan_after (SpecCall args) c = c
 scan_after (Verify last args) c = c
 scan_after SpecCheck c = c
 scan_after SpecBarrier c = c
+scan_after (AdviceBind x e) c = c
+scan_after (AdviceRead x m a) c = c
+scan_after (AdviceWrite m a e) c = c
 
 -- a scan after these statements
 abbrev pub scan_after_all : List Stmt → Scan → Scan
@@ -72,6 +75,9 @@ op_ok p s c (SpecCall args) = true
 op_ok p s c (Verify last args) = true
 op_ok p s c SpecCheck = true
 op_ok p s c SpecBarrier = true
+op_ok p s c (AdviceBind x e) = true
+op_ok p s c (AdviceRead x m a) = true
+op_ok p s c (AdviceWrite m a e) = true
 
 -- each of these statements is without guards, and its binding, read or block is in order
 abbrev pub reads_ok : Pipe → Scan → List Stmt → Bool
@@ -125,6 +131,9 @@ next_phase m ph (SpecCall args) = ph
 next_phase m ph (Verify last args) = ph
 next_phase m ph SpecCheck = ph
 next_phase m ph SpecBarrier = ph
+next_phase m ph (AdviceBind x e) = ph
+next_phase m ph (AdviceRead x _ a) = ph
+next_phase m ph (AdviceWrite _ a e) = ph
 
 -- whether m may be read: no location of it is written yet
 abbrev pub may_read : Phase → Bool
@@ -153,6 +162,9 @@ phase_ok m ph (SpecCall args) = true
 phase_ok m ph (Verify last args) = true
 phase_ok m ph SpecCheck = true
 phase_ok m ph SpecBarrier = true
+phase_ok m ph (AdviceBind x e) = true
+phase_ok m ph (AdviceRead x _ a) = true
+phase_ok m ph (AdviceWrite _ a e) = true
 
 -- each of these statements, without guards, is in order in its phase of m's write
 abbrev pub phases_ok : ℕ → Phase → List Stmt → Bool

@@ -3,6 +3,7 @@ use Rattle.std.specs.Prelude.{ℕ, suc, Bool, true, false, ◌&&◌, ◌||◌, n
 use Rattle.pdl_semantics.specs.Flat.{list_all, Op, Guard, Stmt, Next, Ends, Goes, Forks, Branch, Pipe, all_hold, start_env}
 use Rattle.pdl_semantics.specs.Forms.{on_delayed_read}
 use Rattle.pdl_semantics.specs.Stages.{onpath, in_stage, stage_at, is_inside, mem_at, commit_stage, reserve_stage, verify_stage, is_verify, fork_guards}
+use Rattle.pdl_semantics.specs.Promises.{fits_kind}
 use Rattle.pdl_semantics.specs.Sound.{all_below, stages_from, is_fetch, is_delayed_read}
 use Rattle.pdl_theory_derived.specs.Alone.{before}
 use Rattle.pdl_theory_facts.specs.Scans.{none_of, all_at, binds_var}
@@ -235,6 +236,7 @@ tests p =
     ∷ list_all (λ z. is_dead z.guards || late_for z p.stmts) p.stmts
     ∷ all_below (λ s. not (suc s == length p.stages) || none_of is_fetch (in_stage s p.stmts)) (length p.stages)
     ∷ all_paths (all_guards p) (blind_passes p) (start_env p [])
+    ∷ list_all (λ y. fits_kind p y.op) p.stmts
     ∷ []
 
 -- a pipe passes all tests

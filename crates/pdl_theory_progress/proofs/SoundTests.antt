@@ -494,5 +494,6 @@ module _ (p : Pipe) (h : passes_tests p ≡ true) where
         fetch_blind = fetch_blind;
         fetch_unseen = in_each is_unseen refl all.1.1.1.1.1.1.1.1.1.1.0;
         fetch_alone = in_each fetch_apart refl all.1.1.1.1.1.1.1.1.1.1.1.0;
+        advice = all.1.1.1.1.1.1.1.1.1.1.1.1.1.1.1.1.1.1.0;
         fetch_inside = λ s e. where_true (suc s == length p.stages) _ (below_at (λ s. not (suc s == length p.stages) || none_of is_fetch (in_stage s p.stmts)) (length p.stages) s all.1.1.1.1.1.1.1.1.1.1.1.1.1.1.1.1.0 (omega arith)) (eq-eqb _ _ e);
       }

@@ -10,16 +10,17 @@ use Rattle.pdl_semantics.specs.Sound.{is_delayed_read}
 use Rattle.pdl_semantics.specs.Cycle
 use Rattle.pdl_semantics.specs.Machine
 use Rattle.pdl_semantics.specs.Moves
+use Rattle.pdl_semantics.specs.Promises.{DifferInAdvice}
 use Rattle.pdl_theory_derived.specs.Derived.{Work, find_ask}
 use Rattle.pdl_theory_derived.specs.Derived
 use Rattle.pdl_theory_simulation.proofs.FlowFacts.{Home, Trunk, Flows, Leads}
 use Rattle.pdl_theory_simulation.proofs.Stretches.{Behind, left_trunk, less_home}
 use Rattle.pdl_theory_simulation.proofs.Seats.{Live, seat, find, Ordered, Falls, falls_each, dacts, lacts, lact, did, deeds_of, work_of_live}
-use Rattle.pdl_theory_simulation.proofs.Choices.{Known, AllKnown, one_stage, told_here}
+use Rattle.pdl_theory_simulation.proofs.Choices.{Known, AllKnown, one_stage, like_here}
 use Rattle.pdl_theory_simulation.proofs.ThreadFacts.{Pair, EachPair, pairs, place, sorted, pair_map, pair_both, sorted_each}
 use Rattle.pdl_theory_simulation.proofs.Orders.{acts_of}
 use Rattle.pdl_theory_simulation.proofs.LockLists.{next_live}
-use Rattle.pdl_theory_simulation.proofs.LiveThreads.{comes_is}
+use Rattle.pdl_theory_simulation.proofs.LiveThreads.{comes_none}
 use Rattle.pdl_theory_simulation.proofs.ThreadPlaces.{become_stay, become_move, enters_here, leads_of}
 use Rattle.pdl_theory_simulation.proofs.Requests.{asks_at, asks_are}
 use Rattle.pdl_word.specs.Each.{Each}
@@ -27,7 +28,7 @@ use Rattle.pdl_theory_simulation.proofs.ActSwaps.{or_swap, put_all_swap, asked_n
 
 -- WHAT ORDER DOESN'T MATTER
 
-module _ (p : Pipe) (flows : Flows p) (st : State) (d : Derived.State) (bits : List Bool) (arrays : st.arrays ≡ d.arrays) where
+module _ (p : Pipe) (flows : Flows p) (st : State) (d : Derived.State) (bits : List Bool) (arrays : DifferInAdvice p st.arrays d.arrays) where
   -- the stated act of a thread with these older ones, as the derived machine decides it
   abbrev pub act_of : Pair → Moves.Act
   act_of x = lact p st d bits x.older x.live
@@ -66,6 +67,7 @@ module _ (p : Pipe) (flows : Flows p) (st : State) (d : Derived.State) (bits : L
       → ((deeds_of p st bits l).reserves ≡ []) × ((deeds_of p st bits l).child ≡ None) × ((deeds_of p st bits l).fails ≡ false)
   plain_here l b c e = plain_all (word_for st l.number) (in_stage l.thread.stage p.stmts) (record {
     env = Machine.with_kept (with_answers p st bits (seat l)).kept l.env;
+    advice = l.advice;
     guess = l.thread.guess;
     held = Machine.held_before l.thread.stage l.env p.stmts [];
     blocks = [];
@@ -73,6 +75,7 @@ module _ (p : Pipe) (flows : Flows p) (st : State) (d : Derived.State) (bits : L
     writes = [];
     releases = [];
     asks = [];
+    advises = [];
     barrier = false;
     child = None;
     fails = false;
@@ -312,15 +315,20 @@ module _ (p : Pipe) (flows : Flows p) (st : State) (d : Derived.State) (bits : L
   -- THE CYCLE
 
   -- the state after a cycle is the same with the acts by stages and by age
-  pub same_after : (ls : List Live) → Swaps ls
-      → Cycle.after_acts p st bits (acts_of p flows st d bits arrays (sorted ls))
-      ≡ Cycle.after_these p st bits (lacts p st d bits ls) (movers (lacts p st d bits ls)) (squasher (movers (lacts p st d bits ls)))
-  same_after ls s = λ i. record {
+  pub same_arrays : (ls : List Live) → Swaps ls
+      → (words : Arrays) → with_commits st (movers (acts_of p flows st d bits arrays (sorted ls))) 0 p.mems words ≡ with_commits st (movers (lacts p st d bits ls)) 0 p.mems words
+  same_arrays ls s words = same_commits (movers (acts_of p flows st d bits arrays (sorted ls))) (movers (lacts p st d bits ls)) (λ m. same_taken m ls s) 0 p.mems words
+
+  -- but for the arrays, where advisory writes come in the order of stages
+  pub same_after : (words : Arrays) (ls : List Live) → Swaps ls
+      → record (Cycle.after_acts p st bits (acts_of p flows st d bits arrays (sorted ls))) { arrays = words }
+      ≡ record (Cycle.after_these p st bits (lacts p st d bits ls) (movers (lacts p st d bits ls)) (squasher (movers (lacts p st d bits ls)))) { arrays = words }
+  same_after words ls s = λ i. record {
     stages =
         for_stages
         (λ q. Cycle.or_then (if q == 0 then Cycle.born_thread p st.next (same_child ls s i) else None)
         (Cycle.if_kept (same_squasher ls s i) (same_stands q ls s i))) 0 p.stages;
-    arrays = same_commits (movers (acts_of p flows st d bits arrays (sorted ls))) (movers (lacts p st d bits ls)) (λ m. same_taken m ls s) 0 p.mems st.arrays i;
+    arrays = words;
     locks = for_mems (λ m. Cycle.entries_left (same_squasher ls s i) (same_three m ls s i)) 0 p.mems;
     forks =
         for_stages
@@ -378,7 +386,7 @@ module _ (p : Pipe) (flows : Flows p) (st : State) (d : Derived.State) (bits : L
               → Known p flows st d bits arrays y.older y.live → (q : ℕ) (c : Bool) → (q == s) ≡ c
               → (coming_thread p q (lact p st d bits ls l) ≡ None) ⊎ (coming_thread p q (lact p st d bits y.older y.live) ≡ None)
           by y f k q true e =
-              inr (comes_is p flows st d bits arrays y.older y.live q k ∙ find_none s q (next_live p st d bits y.older y.live) f (sym (eqb-true _ _ e)))
+              inr (comes_none p flows st d bits arrays y.older y.live q k (find_none s q (next_live p st d bits y.older y.live) f (sym (eqb-true _ _ e))))
           by y f k q false e = inl (none q (eqb-false _ _ e))
 
       stays_none : (did p d bits ls l).moves ≡ false → (q : ℕ) → (q ≡ l.thread.stage → ⊥) → coming_thread p q (lact p st d bits ls l) ≡ None
@@ -411,14 +419,14 @@ module _ (p : Pipe) (flows : Flows p) (st : State) (d : Derived.State) (bits : L
       out e None i = pair_map (λ y f q. inl (moves_none e None (same_next ∙ i) q refl)) (pairs ls) (known_pairs ls ks)
         where
           same_next : next_stage p l.thread.stage (deeds_of p st bits l) ≡ goes_to (stage_at p l.thread.stage).next (work_of_live p d bits ls l).env
-          same_next = ap (λ (w : Work). goes_to (stage_at p l.thread.stage).next w.env) (sym (told_here p flows st d bits arrays ls l k).is)
+          same_next = ap (λ (w : Work). goes_to (stage_at p l.thread.stage).next w.env) (sym (like_here p flows st d bits arrays ls l k).is)
       out e (Some s) i =
           target s (λ q n. moves_none e (Some s) (same_next ∙ i) q (off q n))
           (become_move p flows st d bits arrays l.thread.stage s (leads_of p flows st d bits arrays ls l k s i) ls ks b
           (subst (λ r. Derived.can_enter p (dacts p d bits ls) r ≡ true) i (enters_here p flows st d bits arrays ls l e)))
         where
           same_next : next_stage p l.thread.stage (deeds_of p st bits l) ≡ goes_to (stage_at p l.thread.stage).next (work_of_live p d bits ls l).env
-          same_next = ap (λ (w : Work). goes_to (stage_at p l.thread.stage).next w.env) (sym (told_here p flows st d bits arrays ls l k).is)
+          same_next = ap (λ (w : Work). goes_to (stage_at p l.thread.stage).next w.env) (sym (like_here p flows st d bits arrays ls l k).is)
 
           off : (q : ℕ) → (q ≡ s → ⊥) → (s == q) ≡ false
           off q n = by (s == q) refl

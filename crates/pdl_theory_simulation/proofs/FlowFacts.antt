@@ -1,12 +1,14 @@
 -- The forms in which the simulation takes the facts of an accepted pipe of the whole language (all follow from the record of Facts).
 use Rattle.std.specs.Prelude.{◌≡◌, ◌⊎◌, ℕ, suc, ◌<◌, ◌≤◌, Bool, true, false, ◌&&◌, ◌||◌, not, List, [], ◌∷◌, ◌++◌, Some, None, if◌then◌else◌, ◌==◌, length, slice_index}
-use Rattle.pdl_semantics.specs.Flat.{Op, Bind, CombRead, DelayedRead, Write, ReserveRead, ReserveWrite, Block, Release, Call, SpecCall, Verify, SpecCheck, SpecBarrier, Stmt, Forks, Branch, Pipe, all_hold}
+use Rattle.pdl_semantics.specs.Flat.{Op, Bind, CombRead, DelayedRead, Write, ReserveRead, ReserveWrite, Block, Release, Call, SpecCall, Verify, SpecCheck, SpecBarrier, AdviceBind, AdviceRead, AdviceWrite, Stmt, Forks, Branch, Pipe, all_hold}
 use Rattle.pdl_semantics.specs.Stages.{onpath, in_stage, stage_at, is_inside, goes_to, verify_stage, commit_stage, reserve_stage, is_reserve, is_release, is_verify}
 use Rattle.pdl_semantics.specs.Cycle.{merges_by}
 use Rattle.pdl_semantics.specs.Stages.{is_check}
+use Rattle.pdl_semantics.specs.Promises.{KeepsAdvice}
 use Rattle.pdl_semantics.specs.Sound.{stages_before, stages_from, is_fetch, is_call, is_delayed_read}
 pub use Rattle.pdl_theory_facts.specs.Graphs.{Home, Within, Trunk, Below, Way, stage_or, next_of, on_side, goes_by}
 use Rattle.pdl_theory_derived.specs.Alone.{is_among}
+use Rattle.pdl_theory_derived.specs.Simulation.{is_guess}
 use Rattle.pdl_theory_facts.specs.Scans.{Phase, Fresh, next_phase, may_write, is_new, is_over, phase_all, all_at, none_of, binds_var, is_fixed}
 pub use Rattle.pdl_theory_facts.specs.Facts.{trunk_only, binds_guard, is_fetch_of, comes_by, visits_stage}
 
@@ -25,6 +27,9 @@ sets x (SpecCall args) = false
 sets x (Verify last args) = false
 sets x SpecCheck = false
 sets x SpecBarrier = false
+sets x (AdviceBind _ e) = false
+sets x (AdviceRead _ m a) = false
+sets x (AdviceWrite m a e) = false
 
 -- whether at most one statement is of a kind
 abbrev pub at_most_one : (Op → Bool) → List Stmt → Bool
@@ -46,6 +51,9 @@ use_ok m ph (SpecCall args) = true
 use_ok m ph (Verify last args) = true
 use_ok m ph SpecCheck = true
 use_ok m ph SpecBarrier = true
+use_ok m ph (AdviceBind x e) = true
+use_ok m ph (AdviceRead x _ a) = true
+use_ok m ph (AdviceWrite _ a e) = true
 
 -- each of these statements is in order in its phase of the lock of m
 abbrev pub uses_ok : ℕ → Phase → List Stmt → Bool
@@ -135,6 +143,10 @@ pub record Flows (p : Pipe) : Type 0 where
   pub unfetched : (m : ℕ) → length p.mems ≤ m → none_of (is_delayed_read m) p.stmts ≡ true
   -- S1, S2, N3: on each path one call or speculative call, and a verify after it
   pub calls : (path : List ℕ) → calls_ok false (onpath path p.stmts) ≡ true
+  -- F4, F5: a statement takes a memory by its kind
+  pub advice : KeepsAdvice p
+  -- S2, S3: a stage of a path that makes a guess verifies none
+  pub guess_apart : (path : List ℕ) (s : ℕ) → (none_of is_guess (onpath path (in_stage s p.stmts)) ≡ true) ⊎ (none_of is_verify (onpath path (in_stage s p.stmts)) ≡ true)
   -- F3: no second delayed read statement of one memory, and none in the last stage
   pub one_fetch : (m : ℕ) → at_most_one (is_delayed_read m) p.stmts ≡ true
   pub fetch_inside : (s : ℕ) → suc s ≡ length p.stages → none_of is_fetch (in_stage s p.stmts) ≡ true
@@ -186,6 +198,10 @@ pub record FlowRules (p : Pipe) : Type 0 where
   pub unfetched : (m : ℕ) → length p.mems ≤ m → none_of (is_delayed_read m) p.stmts ≡ true
   -- S1, S2, N3
   pub calls : (path : List ℕ) → calls_ok false (onpath path p.stmts) ≡ true
+  -- F4, F5: a statement takes a memory by its kind
+  pub advice : KeepsAdvice p
+  -- S2, S3: a stage of a path that makes a guess verifies none
+  pub guess_apart : (path : List ℕ) (s : ℕ) → (none_of is_guess (onpath path (in_stage s p.stmts)) ≡ true) ⊎ (none_of is_verify (onpath path (in_stage s p.stmts)) ≡ true)
   -- F3
   pub one_fetch : (m : ℕ) → at_most_one (is_delayed_read m) p.stmts ≡ true
   pub fetch_inside : (s : ℕ) → suc s ≡ length p.stages → none_of is_fetch (in_stage s p.stmts) ≡ true

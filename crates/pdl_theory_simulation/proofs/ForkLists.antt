@@ -8,6 +8,7 @@ use Rattle.pdl_semantics.specs.Moves.{movers, next_stage, is_nobody}
 use Rattle.pdl_semantics.specs.Cycle.{entered_branches, goes_into, goes_out, has_left, but_first, merges_by, squash_stage}
 use Rattle.pdl_semantics.specs.Cycle
 use Rattle.pdl_semantics.specs.Moves
+use Rattle.pdl_semantics.specs.Promises.{DifferInAdvice}
 use Rattle.pdl_theory_derived.specs.Derived.{Work, around}
 use Rattle.pdl_theory_derived.specs.Derived
 use Rattle.pdl_theory_facts.specs.Scans.{none_of}
@@ -15,8 +16,8 @@ use Rattle.pdl_theory_facts.proofs.Nested.{within_home, came_from_way, inside_at
 use Rattle.pdl_theory_simulation.proofs.FlowFacts.{Home, Within, Trunk, Way, Flows, Leads}
 use Rattle.pdl_theory_derived.proofs.Writes.{and_right}
 use Rattle.pdl_theory_simulation.proofs.Stretches.{Behind, left_trunk, fork_left, start_of}
-use Rattle.pdl_theory_simulation.proofs.Seats.{Live, each_map, Ordered, dacts, lacts, lact, did, now_of, deeds_of, work_of_live}
-use Rattle.pdl_theory_simulation.proofs.Choices.{Known, AllKnown, told_here}
+use Rattle.pdl_theory_simulation.proofs.Seats.{Live, each_map, Ordered, dacts, lacts, lact, did, now_of, deeds_of, work_of_live, advised}
+use Rattle.pdl_theory_simulation.proofs.Choices.{Known, AllKnown, like_here}
 use Rattle.pdl_theory_simulation.proofs.ThreadFacts.{someone, behind_someone, sides, sides_append}
 use Rattle.pdl_theory_simulation.proofs.Orders.{sides_none, sides_nobody}
 use Rattle.pdl_theory_simulation.proofs.LockLists.{fell, moved_live, stood, next_live, go_on}
@@ -28,7 +29,7 @@ use Rattle.pdl_word.specs.Each.{Each}
 use Rattle.pdl_word.proofs.Each.{each_append}
 use Rattle.pdl_theory_simulation.proofs.ForkListSteps.{unchecked_trunk, list_neutral, list_inside, list_leaves}
 
-module _ (p : Pipe) (flows : Flows p) (st : State) (d : Derived.State) (bits : List Bool) (arrays : st.arrays ≡ d.arrays) where
+module _ (p : Pipe) (flows : Flows p) (st : State) (d : Derived.State) (bits : List Bool) (arrays : DifferInAdvice p st.arrays d.arrays) where
   -- the live threads after the cycle, if no squash removes any
   abbrev pub all_on : List Live → List Live
   all_on [] = []
@@ -40,7 +41,7 @@ module _ (p : Pipe) (flows : Flows p) (st : State) (d : Derived.State) (bits : L
 
   next_is : (ls : List Live) (l : Live) → Known p flows st d bits arrays ls l
       → next_stage p l.thread.stage (deeds_of p st bits l) ≡ goes_to (stage_at p l.thread.stage).next (work_of_live p d bits ls l).env
-  next_is ls l k = ap (λ (w : Work). goes_to (stage_at p l.thread.stage).next w.env) (sym (told_here p flows st d bits arrays ls l k).is)
+  next_is ls l k = ap (λ (w : Work). goes_to (stage_at p l.thread.stage).next w.env) (sym (like_here p flows st d bits arrays ls l k).is)
 
   -- ONE FORK
   module _ (f : ℕ) where
@@ -274,7 +275,7 @@ module _ (p : Pipe) (flows : Flows p) (st : State) (d : Derived.State) (bits : L
             || has_left p f (ms ls) then but_first (sides p f ls ++ sides_of f (stage_at p l.thread.stage).branches)
             else (sides p f ls ++ sides_of f (stage_at p l.thread.stage).branches))
             ++ (entered_branches p f (ms ls) ++ enters l)
-            ≡ sides p f (moved_live r l (work_of_live p d bits ls l) ++ all_on ls)
+            ≡ sides p f (moved_live r (advised p st bits l) (work_of_live p d bits ls l) ++ all_on ls)
         moved go None i h =
             outside_moves (ap (list_any (λ (b : Branch). b.fork == f)) last) [] (none (l.thread.stage == f)) h ∙ append-nil _
           where
@@ -298,9 +299,9 @@ module _ (p : Pipe) (flows : Flows p) (st : State) (d : Derived.State) (bits : L
             → (if has_left p f (ms ls) then but_first (sides p f ls) else sides p f ls) ++ entered_branches p f (ms ls) ≡ sides p f (all_on ls)
             → (if has_left p f (cond b (lact p st d bits ls l ∷ ms ls) (ms ls)) then but_first (sides p f (l ∷ ls)) else sides p f (l ∷ ls))
             ++ entered_branches p f (cond b (lact p st d bits ls l ∷ ms ls) (ms ls))
-            ≡ sides p f (cond b (moved_live (goes_to (stage_at p l.thread.stage).next (work_of_live p d bits ls l).env) l (work_of_live p d bits ls l)) (stood p st d bits l ∷ []) ++ all_on ls)
+            ≡ sides p f (cond b (moved_live (goes_to (stage_at p l.thread.stage).next (work_of_live p d bits ls l).env) (advised p st bits l) (work_of_live p d bits ls l)) (stood p st d bits l ∷ []) ++ all_on ls)
         at false e h = stands h ∙ sym (behind_next (stood p st d bits l ∷ []))
-        at true e h = moved e (next_stage p l.thread.stage (deeds_of p st bits l)) refl h ∙ ap (λ r. sides p f (moved_live r l (work_of_live p d bits ls l) ++ all_on ls)) (next_is ls l k.0)
+        at true e h = moved e (next_stage p l.thread.stage (deeds_of p st bits l)) refl h ∙ ap (λ r. sides p f (moved_live r (advised p st bits l) (work_of_live p d bits ls l) ++ all_on ls)) (next_is ls l k.0)
 
     -- SQUASHES
 
@@ -310,7 +311,7 @@ module _ (p : Pipe) (flows : Flows p) (st : State) (d : Derived.State) (bits : L
     fails_at ls l g = trunk (stage_at p l.thread.stage).branches refl
       where
         quiet : none_of is_check (in_stage l.thread.stage p.stmts) ≡ true → (work_of_live p d bits ls l).fails ≡ false
-        quiet n = unfailed (around p d bits (dacts p d bits ls) l.thread.stage) (in_stage l.thread.stage p.stmts) (start_of (now_of p d bits l)) n
+        quiet n = unfailed (around p d bits (dacts p d bits ls) l.thread.stage l.thread.hint) (in_stage l.thread.stage p.stmts) (start_of (now_of p d bits l)) n
 
         trunk : (b : List Branch) → (stage_at p l.thread.stage).branches ≡ b → Trunk p l.thread.stage
         trunk [] e = e
@@ -391,7 +392,7 @@ module _ (p : Pipe) (flows : Flows p) (st : State) (d : Derived.State) (bits : L
             absurd (omega arith))
 
         stood_side : fell p d bits ls ≡ true → sides p f (next_live p st d bits ls l) ≡ []
-        stood_side e = ap (λ b. sides p f (cond b (moved_live (goes_to (stage_at p l.thread.stage).next (work_of_live p d bits ls l).env) l (work_of_live p d bits ls l)) (stood p st d bits l ∷ []))) (stuck_here p flows st d bits arrays ls l e) ∙ one_side (stood p st d bits l) (removed e)
+        stood_side e = ap (λ b. sides p f (cond b (moved_live (goes_to (stage_at p l.thread.stage).next (work_of_live p d bits ls l).env) (advised p st bits l) (work_of_live p d bits ls l)) (stood p st d bits l ∷ []))) (stuck_here p flows st d bits arrays ls l e) ∙ one_side (stood p st d bits l) (removed e)
 
         at : (g : Bool) → fell p d bits ls ≡ g → sides p f (go_on p st d bits ls) ≡ sides p f (all_on ls)
             → sides p f ((if g then [] else next_live p st d bits ls l) ++ go_on p st d bits ls) ≡ sides p f (next_live p st d bits ls l ++ all_on ls)
@@ -444,14 +445,14 @@ module _ (p : Pipe) (flows : Flows p) (st : State) (d : Derived.State) (bits : L
         second true g = absurd (cc g)
         second false g = g
 
-    born_side : (n : ℕ) (c : Option (List ℕ)) (xs : List Live) → sides p f (born_live p n c ++ xs) ≡ sides p f xs
+    born_side : (n : ℕ) (c : Option (List ℕ)) (xs : List Live) → sides p f (born_live p (d.hints 0) n c ++ xs) ≡ sides p f xs
     born_side n None xs = refl
     born_side n (Some x) xs = ap (λ b. sides p f xs ++ sides_of f b) flows.graph.trunk_start ∙ append-nil _
 
     -- the list of fork f after the cycle
     pub fork_next : (n : ℕ) (c : Option (List ℕ)) (ls : List Live) → AllKnown p flows st d bits arrays ls → Ordered p ls
         → Cycle.branches_left p (squash_stage (ms ls)) f ((if has_left p f (ms ls) then but_first (sides p f ls) else sides p f ls) ++ entered_branches p f (ms ls))
-        ≡ sides p f (born_live p n c ++ go_on p st d bits ls)
+        ≡ sides p f (born_live p (d.hints 0) n c ++ go_on p st d bits ls)
     fork_next n c ls k o =
         ap (λ l. if merges_by p f (squash_stage (ms ls)) then [] else l) (list_all_on ls k o)
         ∙ at (fell p d bits ls) refl (merges_by p f (squash_stage (ms ls))) refl ∙ sym (born_side n c (go_on p st d bits ls))

@@ -9,6 +9,7 @@ use Rattle.pdl_semantics.specs.Moves.{movers}
 use Rattle.pdl_semantics.specs.Cycle.{awaited_of, new_entries, with_reserves, with_writes_of, with_all_writes, releases_of, all_releases, is_kept, entries_left}
 use Rattle.pdl_theory_turns.proofs.EntryCommits.{released}
 use Rattle.pdl_semantics.specs.Moves
+use Rattle.pdl_semantics.specs.Promises.{DifferInAdvice}
 use Rattle.pdl_theory_derived.specs.Derived.{Entry, Work, around, commits_of}
 use Rattle.pdl_theory_derived.specs.Derived
 use Rattle.pdl_theory_simulation.proofs.FlowFacts.{Flows, stage_or, next_of, Trunk}
@@ -20,7 +21,7 @@ use Rattle.pdl_theory_derived.proofs.Lists.{own, pend, Foreign, AllForeign, Rese
 use Rattle.pdl_theory_turns.proofs.OwnEntries.{Worked, pend_own, quiet_reserves, quiet_releases}
 use Rattle.pdl_theory_simulation.proofs.LockRemovals.{Out, Still, out_more, foreign_append, foreign_pend, foreign_new, foreign_put_all, commits_more}
 use Rattle.pdl_theory_simulation.proofs.Stretches.{Behind, left_trunk, early, late, start_of}
-use Rattle.pdl_theory_simulation.proofs.Seats.{Live, seat, each_map, Ordered, Falls, falls_up, dacts, lacts, lact, did, now_of, work_of_live, deeds_of, pends, pends_append}
+use Rattle.pdl_theory_simulation.proofs.Seats.{Live, seat, each_map, Ordered, Falls, falls_up, dacts, lacts, lact, did, now_of, work_of_live, deeds_of, pends, pends_append, advised}
 use Rattle.pdl_theory_simulation.proofs.Choices.{Known, AllKnown, Seated, worked_here, ends_here, late_here}
 use Rattle.pdl_word.specs.Each.{Each}
 
@@ -35,9 +36,10 @@ abbrev pub moved_one : ℕ → Live → Work → Live
 moved_one q l w =
     record {
       number = l.number;
-      thread = record { stage = q; env = w.env; entries = w.entries; guess = w.guess; awaits = awaited_of w.asks };
+      thread = record { stage = q; hint = l.thread.hint; env = w.env; entries = w.entries; guess = w.guess; awaits = awaited_of w.asks };
       env = w.env;
       kept = [];
+      advice = l.advice;
     }
 
 -- a live thread that has moved with this work, none where it has ended
@@ -47,13 +49,13 @@ moved_live (Some q) l w = moved_one q l w ∷ []
 
 -- a live thread that has stood, with this cycle's answers
 abbrev pub stood : Pipe → State → Derived.State → List Bool → Live → Live
-stood p st d bits l = record { number = l.number; thread = now_of p d bits l; env = l.env; kept = (with_answers p st bits (seat l)).kept }
+stood p st d bits l = record { number = l.number; thread = now_of p d bits l; env = l.env; kept = (with_answers p st bits (seat l)).kept; advice = l.advice }
 
 -- one thread after the cycle, where no squash removes it
 abbrev pub next_live : Pipe → State → Derived.State → List Bool → List Live → Live → List Live
 next_live p st d bits ls l =
     if (did p d bits ls l).moves
-    then moved_live (goes_to (stage_at p l.thread.stage).next (work_of_live p d bits ls l).env) l (work_of_live p d bits ls l)
+    then moved_live (goes_to (stage_at p l.thread.stage).next (work_of_live p d bits ls l).env) (advised p st bits l) (work_of_live p d bits ls l)
     else stood p st d bits l ∷ []
 
 -- all of them: a failing verify removes the younger ones
@@ -94,7 +96,7 @@ left_pend sq m n (e ∷ es) = left_append sq (pend m n es) _ ∙ at (is_kept sq 
 abbrev pub Past : ℕ → List Live → Type 0
 Past r ls = Each (λ k. r < k.thread.stage) ls
 
-module _ (p : Pipe) (flows : Flows p) (st : State) (d : Derived.State) (bits : List Bool) (arrays : st.arrays ≡ d.arrays) where
+module _ (p : Pipe) (flows : Flows p) (st : State) (d : Derived.State) (bits : List Bool) (arrays : DifferInAdvice p st.arrays d.arrays) where
   -- the stated acts of the live threads that move, the youngest first
   abbrev pub ms : List Live → List Moves.Act
   ms ls = movers (lacts p st d bits ls)
@@ -324,13 +326,13 @@ module _ (p : Pipe) (flows : Flows p) (st : State) (d : Derived.State) (bits : L
       w = work_of_live p d bits ls l
 
       out : (r : Option ℕ) → goes_to (stage_at p l.thread.stage).next (work_of_live p d bits ls l).env ≡ r
-          → pends m (moved_live r l (work_of_live p d bits ls l)) ≡ pend m l.number (work_of_live p d bits ls l).entries
+          → pends m (moved_live r (advised p st bits l) (work_of_live p d bits ls l)) ≡ pend m l.number (work_of_live p d bits ls l).entries
       out None e = sym (pend_own m l.number _ ∙ ap (pend m l.number) (ends_here p flows st d bits arrays ls l k m (ap (stage_or (length p.stages)) e)))
       out (Some q) e = refl
 
       at : (b : Bool)
           → pends m
-          (cond b (moved_live (goes_to (stage_at p l.thread.stage).next (work_of_live p d bits ls l).env) l (work_of_live p d bits ls l))
+          (cond b (moved_live (goes_to (stage_at p l.thread.stage).next (work_of_live p d bits ls l).env) (advised p st bits l) (work_of_live p d bits ls l))
           (stood p st d bits l ∷ []))
           ≡ cond b (pend m l.number (work_of_live p d bits ls l).entries) (pend m l.number l.thread.entries)
       at true = out (goes_to (stage_at p l.thread.stage).next (work_of_live p d bits ls l).env) refl

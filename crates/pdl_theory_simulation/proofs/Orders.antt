@@ -9,6 +9,7 @@ use Rattle.pdl_semantics.specs.Moves.{next_stage, is_free, is_first, is_nobody, 
 use Rattle.pdl_semantics.specs.Sound.{is_delayed_read}
 use Rattle.pdl_semantics.specs.Machine
 use Rattle.pdl_semantics.specs.Moves
+use Rattle.pdl_semantics.specs.Promises.{DifferInAdvice}
 use Rattle.pdl_theory_derived.specs.Derived.{Work, latest, pending, befores, awaits_mem, asked_at, port_free}
 use Rattle.pdl_theory_derived.specs.Derived
 use Rattle.pdl_theory_facts.specs.Scans.{none_of}
@@ -18,7 +19,7 @@ use Rattle.pdl_theory_derived.proofs.Lists.{pend, youngest_append, youngest_othe
 use Rattle.pdl_theory_turns.proofs.OwnEntries.{pend_own}
 use Rattle.pdl_theory_simulation.proofs.Stretches.{Behind, left_trunk, fork_left, not_behind, early}
 use Rattle.pdl_theory_simulation.proofs.Seats.{Live, seat, each_map, Ordered, Rises, Falls, sacts, dacts, lacts, lact, did, deeds_of, befores_are, pends, youngest_all, length_pends}
-use Rattle.pdl_theory_simulation.proofs.Choices.{has_owner, Matched, Seated, fetched_of, one_stage, waits_are, env_is, port_is, Known, AllKnown, Tells, told_here, act_is}
+use Rattle.pdl_theory_simulation.proofs.Choices.{has_owner, Matched, Seated, fetched_of, one_stage, waits_are, env_is, port_is, Known, AllKnown, Tells, fails_here, act_is}
 use Rattle.pdl_theory_simulation.proofs.ThreadFacts.{someone, someone_more, behind_someone, sides, sides_append, Pair, pairs, sorted, lives_of, EachPair, pair_map, pair_both, sorted_each, each_sorted, pairs_each, rises_sorted, fails_none, all_pairs, later_older}
 use Rattle.pdl_word.specs.Each.{Each}
 
@@ -101,7 +102,7 @@ first_other false [] rest h = refl
 first_other true (x ∷ xs) rest h = h.0
 first_other false (x ∷ xs) rest h = ap not h.0
 
-module _ (p : Pipe) (flows : Flows p) (st : State) (d : Derived.State) (bits : List Bool) (arrays : st.arrays ≡ d.arrays) where
+module _ (p : Pipe) (flows : Flows p) (st : State) (d : Derived.State) (bits : List Bool) (arrays : DifferInAdvice p st.arrays d.arrays) where
   -- the stated acts of these threads with their older ones, as the derived machine decides them
   abbrev pub acts_of : List Pair → List Moves.Act
   acts_of [] = []
@@ -121,6 +122,7 @@ module _ (p : Pipe) (flows : Flows p) (st : State) (d : Derived.State) (bits : L
       → ((deeds_of p st bits l).fails ≡ false) × ((deeds_of p st bits l).barrier ≡ false)
   plain_branch l x c e = fails_none (Machine.word_for st l.number) (in_stage l.thread.stage p.stmts) (record {
     env = Machine.with_kept (with_answers p st bits (seat l)).kept l.env;
+    advice = l.advice;
     guess = l.thread.guess;
     held = Machine.held_before l.thread.stage l.env p.stmts [];
     blocks = [];
@@ -128,6 +130,7 @@ module _ (p : Pipe) (flows : Flows p) (st : State) (d : Derived.State) (bits : L
     writes = [];
     releases = [];
     asks = [];
+    advises = [];
     barrier = false;
     child = None;
     fails = false;
@@ -181,7 +184,7 @@ module _ (p : Pipe) (flows : Flows p) (st : State) (d : Derived.State) (bits : L
     no_failure : (ls : List Live) → AllKnown p flows st d bits arrays ls
         → Moves.no_failure (lacts p st d bits ls) ≡ list_all (λ (o : Derived.Act). not (o.moves && o.work.fails)) (dacts p d bits ls)
     no_failure [] k = refl
-    no_failure (l ∷ ls) k = ap₂ (λ x y. not ((did p d bits ls l).moves && x) && y) (sym (ap (λ (w : Work). w.fails) (told_here p flows st d bits arrays ls l k.0).is)) (no_failure ls k.1)
+    no_failure (l ∷ ls) k = ap₂ (λ x y. not ((did p d bits ls l).moves && x) && y) (fails_here p flows st d bits arrays ls l k.0) (no_failure ls k.1)
 
     clear_is : (v s : ℕ) (ls : List Live) → Each (λ k. s < k.thread.stage) ls
         → Moves.none_up_to (Some v) (lacts p st d bits ls) ≡ Derived.barrier_clear (Some v) s (befores (dacts p d bits ls))

@@ -335,6 +335,8 @@ module _ (p : Pipe) (rules : FlowRules p) where
         unreleased = rules.unreleased;
         unfetched = rules.unfetched;
         calls = rules.calls;
+        advice = rules.advice;
+        guess_apart = rules.guess_apart;
         one_fetch = rules.one_fetch;
         fetch_inside = rules.fetch_inside;
       }

@@ -3,7 +3,7 @@ use Rattle.std.proofs.Common.{◌≡◌, refl, sym, ap, ap₂, ◌∙◌, subst,
 use Rattle.std.proofs.lemmas.Bool.{eqb-true, eqb-false}
 use Rattle.pdl_semantics.specs.Flat.{Stmt, Branch, Pipe}
 use Rattle.pdl_semantics.specs.Stages.{onpath, in_stage, stage_at, goes_to, is_reserve, is_release, reserve_stage, commit_stage}
-use Rattle.pdl_semantics.specs.Machine.{Ask, Awaited, is_answered, Blocked, Reserved, Deeds, held_before, deeds_after_all}
+use Rattle.pdl_semantics.specs.Machine.{Ask, Awaited, is_answered, Blocked, Reserved, Deeds, held_before, deeds_after_all, Kept, same_args, Pending, is_held}
 use Rattle.pdl_semantics.specs.Cycle.{awaited_of, releases_of}
 use Rattle.pdl_semantics.specs.Sound.{stages_before, stages_from, is_delayed_read}
 use Rattle.pdl_theory_derived.specs.Derived.{Work, Around, work_of_stage, still, with_answers, answered_thread}
@@ -13,7 +13,7 @@ use Rattle.pdl_theory_facts.proofs.Nested.{within_all, within_home, within_more}
 use Rattle.pdl_theory_simulation.proofs.FlowFacts.{Home, Within, Trunk, Below, Way, Flows, uses_ok, calls_ok, visits_stage, next_of, stage_or, comes_by, Leads, Ways}
 use Rattle.pdl_theory_derived.proofs.Entries.{entries_of}
 use Rattle.pdl_theory_turns.proofs.Paths.{Fixed, none_onpath}
-use Rattle.pdl_theory_derived.proofs.Deeds.{places, AllFit}
+use Rattle.pdl_theory_derived.proofs.Deeds.{places, AllFit, places_has, work_of, Loosely, loose_start, loose_step}
 use Rattle.pdl_theory_derived.proofs.Lists.{pend}
 use Rattle.pdl_theory_turns.proofs.Steps.{Here}
 use Rattle.pdl_theory_turns.proofs.OwnEntries.{Worked, worked, quiet_releases}
@@ -152,9 +152,10 @@ start_of t =
 
 module _ (p : Pipe) (flows : Flows p) (env : List ℕ) (t : Derived.Thread) (k : Keeps p env t) where
   -- the deeds with which the stage of the thread begins
-  abbrev pub start_deeds : Deeds
-  start_deeds = record {
+  abbrev pub start_deeds : List Kept → Deeds
+  start_deeds advice = record {
     env = t.env;
+    advice = advice;
     guess = t.guess;
     held = held_before t.stage env p.stmts [];
     blocks = [];
@@ -162,6 +163,7 @@ module _ (p : Pipe) (flows : Flows p) (env : List ℕ) (t : Derived.Thread) (k :
     writes = [];
     releases = [];
     asks = [];
+    advises = [];
     barrier = false;
     child = None;
     fails = false;
@@ -242,28 +244,28 @@ module _ (p : Pipe) (flows : Flows p) (env : List ℕ) (t : Derived.Thread) (k :
 
   -- its work on the entries of m
   module _ (o : Around) (read : ℕ → ℕ → ℕ) (block : Blocked → Bool) (free : Ask → Bool)
-      (fit : AllFit o read block free (in_stage t.stage p.stmts)) (m n : ℕ) where
+      (fit : AllFit o read block free (in_stage t.stage p.stmts)) (advice : List Kept) (m n : ℕ) where
     here : Here o read block free m n (pend m n t.entries)
         (phase_all m Fresh (on_way p (work_of_stage p o t).env (next_of p t.stage (work_of_stage p o t).env)))
-        (deeds_after_all read (in_stage t.stage p.stmts) start_deeds) (work_of_stage p o t)
+        (deeds_after_all read (in_stage t.stage p.stmts) (start_deeds advice)) (work_of_stage p o t)
     here =
-        subst (λ q. Here o read block free m n (pend m n t.entries) q (deeds_after_all read (in_stage t.stage p.stmts) start_deeds) (work_of_stage p o t))
+        subst (λ q. Here o read block free m n (pend m n t.entries) q (deeds_after_all read (in_stage t.stage p.stmts) (start_deeds advice)) (work_of_stage p o t))
         (sym (ap (phase_all m Fresh) (way_next o) ∙ phase_append m (on_way p env t.stage) _ Fresh))
         (steps_all o read block free m n (pend m n t.entries) (work_of_stage p o t).env (in_stage t.stage p.stmts)
-        (phase_all m Fresh (on_way p env t.stage)) start_deeds t.entries [] k.held fit (fixed_here o)
+        (phase_all m Fresh (on_way p env t.stage)) (start_deeds advice) (start_of t) (loose_start o read block free (start_deeds advice) t.entries [] k.held) fit (fixed_here o)
         (uses_back m (on_way p env t.stage)
         (onpath (work_of_stage p o t).env (in_stage t.stage p.stmts)) Fresh
         (subst (λ l. uses_ok m Fresh l ≡ true) (way_next o) (uses_way (work_of_stage p o t).env (next_of p t.stage (work_of_stage p o t).env) m)))
         (shape_start m n _ t.entries (k.shape m)))
 
     -- a thread's stage does to its entries of m what the stated machine's deeds do
-    pub stage_worked : Worked m n (pend m n t.entries) (deeds_after_all read (in_stage t.stage p.stmts) start_deeds) (work_of_stage p o t)
+    pub stage_worked : Worked m n (pend m n t.entries) (deeds_after_all read (in_stage t.stage p.stmts) (start_deeds advice)) (work_of_stage p o t)
     stage_worked = worked m n _ _ _ _ here (by (t.stage == commit_stage p m) refl)
       where
         by : (b : Bool) → (t.stage == commit_stage p m) ≡ b
-            → (releases_of m (deeds_after_all read (in_stage t.stage p.stmts) start_deeds).releases ≡ 0) ⊎ (is_over (phase_all m Fresh (on_way p (work_of_stage p o t).env (next_of p t.stage (work_of_stage p o t).env))) ≡ true)
+            → (releases_of m (deeds_after_all read (in_stage t.stage p.stmts) (start_deeds advice)).releases ≡ 0) ⊎ (is_over (phase_all m Fresh (on_way p (work_of_stage p o t).env (next_of p t.stage (work_of_stage p o t).env))) ≡ true)
         by true e = inr (over_at _ _ m (subst (λ s. s < next_of p t.stage (work_of_stage p o t).env) (eqb-true _ _ e) (stage_up (work_of_stage p o t).env)))
-        by false e = inl (quiet_releases m read (in_stage t.stage p.stmts) start_deeds (none_in_stage (is_release m) (commit_stage p m) t.stage p.stmts (flows.releases m) (eqb-false _ _ e)) refl)
+        by false e = inl (quiet_releases m read (in_stage t.stage p.stmts) (start_deeds advice) (none_in_stage (is_release m) (commit_stage p m) t.stage p.stmts (flows.releases m) (eqb-false _ _ e)) refl)
 
     stage_shape : Shape m (phase_all m Fresh (on_way p (work_of_stage p o t).env (next_of p t.stage (work_of_stage p o t).env)))
         (entries_of m (work_of_stage p o t).entries)
@@ -278,17 +280,25 @@ module _ (p : Pipe) (flows : Flows p) (env : List ℕ) (t : Derived.Thread) (k :
     late_empty e = shape_over m _ _ (over_at _ _ m e) stage_shape
 
   -- a thread's stage makes no second successor but by a failing verify, and one that it makes was called
-  pub stage_child : (o : Around)
-      → Childed (has_made p env t.stage) (has_made p (work_of_stage p o t).env (next_of p t.stage (work_of_stage p o t).env)) (work_of_stage p o t)
-  stage_child o =
-      subst (λ c. Childed (has_made p env t.stage) c (work_of_stage p o t))
-      (sym (ap (called false) (way_next o) ∙ called_append false (on_way p env t.stage) _))
-      (made_all (has_made p env t.stage) (has_made p env t.stage) (work_of_stage p o t).env o (in_stage t.stage p.stmts) (start_of t) (fixed_here o)
-      (calls_back false (on_way p env t.stage) _ (subst (λ l. calls_ok false l ≡ true) (way_next o)
+  pub made_then : (o : Around)
+      → has_made p (work_of_stage p o t).env (next_of p t.stage (work_of_stage p o t).env) ≡ called (has_made p env t.stage) (onpath (work_of_stage p o t).env (in_stage t.stage p.stmts))
+  made_then o = ap (called false) (way_next o) ∙ called_append false (on_way p env t.stage) _
+
+  -- the calls of its stage
+  pub calls_here :
+      (o : Around) → calls_ok (has_made p env t.stage) (onpath (work_of_stage p o t).env (in_stage t.stage p.stmts)) ≡ true
+  calls_here o = calls_back false (on_way p env t.stage) _ (subst (λ l. calls_ok false l ≡ true) (way_next o)
       (calls_front false (on_way p (work_of_stage p o t).env (next_of p t.stage (work_of_stage p o t).env)) _
       (subst (λ l. calls_ok false l ≡ true)
       (flows.all_pieces (work_of_stage p o t).env (next_of p t.stage (work_of_stage p o t).env))
-      (flows.calls (work_of_stage p o t).env)))))
+      (flows.calls (work_of_stage p o t).env))))
+
+  -- its successor
+  pub stage_child : (o : Around) → Childed (has_made p env t.stage) (has_made p (work_of_stage p o t).env (next_of p t.stage (work_of_stage p o t).env)) (work_of_stage p o t)
+  stage_child o =
+      subst (λ c. Childed (has_made p env t.stage) c (work_of_stage p o t)) (sym (made_then o))
+      (made_all (has_made p env t.stage) (has_made p env t.stage) (work_of_stage p o t).env o (in_stage t.stage p.stmts) (start_of t) (fixed_here o)
+      (calls_here o)
       (record { since = λ e. e; called_it = λ e. absurd (clash e); no_second = λ e f. refl; squashes = λ e. absurd (clash e) }))
     where
       clash : false ≡ true → ⊥
@@ -304,7 +314,7 @@ module _ (p : Pipe) (flows : Flows p) (env : List ℕ) (t : Derived.Thread) (k :
       → goes_to (stage_at p t.stage).next (work_of_stage p o t).env ≡ Some q
       → Keeps p (work_of_stage p o t).env
       (record {
-        stage = q;
+        stage = q; hint = t.hint;
         env = (work_of_stage p o t).env;
         entries = (work_of_stage p o t).entries;
         guess = (work_of_stage p o t).guess;
@@ -314,7 +324,7 @@ module _ (p : Pipe) (flows : Flows p) (env : List ℕ) (t : Derived.Thread) (k :
       subst
       (λ n. Keeps p (work_of_stage p o t).env
       (record {
-        stage = n;
+        stage = n; hint = t.hint;
         env = (work_of_stage p o t).env;
         entries = (work_of_stage p o t).entries;
         guess = (work_of_stage p o t).guess;
@@ -328,7 +338,7 @@ module _ (p : Pipe) (flows : Flows p) (env : List ℕ) (t : Derived.Thread) (k :
             ∙ sym
             (held_path (next_of p t.stage (work_of_stage p o t).env) (work_of_stage p o t).env p.stmts []
             ∙ ap (λ l. held_ops l []) (way_next o) ∙ held_append (on_way p env t.stage) _ []);
-        shape = λ m. stage_shape o read block free fit m 0;
+        shape = λ m. stage_shape o read block free fit [] m 0;
         reached =
             subst (λ n. visits_stage p (work_of_stage p o t).env n ≡ true) (sym is)
             (flows.arrives (work_of_stage p o t).env t.stage q k.inside goes (reached_on o));
@@ -348,13 +358,13 @@ module _ (p : Pipe) (flows : Flows p) (env : List ℕ) (t : Derived.Thread) (k :
       leads = ((work_of_stage p o t).env, goes, k.inside)
 
 -- a new thread keeps to its way
-pub keeps_fresh : (p : Pipe) → Flows p → (args : List ℕ) → Keeps p (Derived.fresh p args).env (Derived.fresh p args)
-keeps_fresh p flows args =
+pub keeps_fresh : (p : Pipe) → Flows p → (hint args : List ℕ) → Keeps p (Derived.fresh p hint args).env (Derived.fresh p hint args)
+keeps_fresh p flows hint args =
     record {
       inside = flows.graph.some_stage;
       held = sym (held_path 0 _ p.stmts [] ∙ ap (λ l. held_ops l []) (flows.first_piece _));
-      shape = λ m. subst (λ l. Shape m (phase_all m Fresh l) []) (sym (flows.first_piece (Derived.fresh p args).env)) (shape_fresh m);
-      reached = trunk (Derived.fresh p args).env;
+      shape = λ m. subst (λ l. Shape m (phase_all m Fresh l) []) (sym (flows.first_piece (Derived.fresh p hint args).env)) (shape_fresh m);
+      reached = trunk (Derived.fresh p hint args).env;
       path = λ env' u. (flows.first_piece env' ∙ sym (flows.first_piece _), trunk env' ∙ sym (trunk _));
       fetched = tt;
     }

@@ -9,14 +9,15 @@ use Rattle.pdl_semantics.specs.Locks.{has_room}
 use Rattle.pdl_semantics.specs.Cycle.{next_thread, or_then, is_kept, if_kept}
 use Rattle.pdl_semantics.specs.Cycle
 use Rattle.pdl_semantics.specs.Machine
+use Rattle.pdl_semantics.specs.Promises.{DifferInAdvice}
 use Rattle.pdl_theory_derived.specs.Derived.{around}
 use Rattle.pdl_theory_derived.specs.Derived
 use Rattle.pdl_theory_simulation.proofs.FlowFacts.{Home, Within, Below, Flows, Ways, Leads, stage_or, next_of}
 use Rattle.pdl_theory_derived.proofs.Writes.{and_left, and_right}
 use Rattle.pdl_theory_facts.proofs.Nested.{same_head, same_tail, within_home, Came, came_way}
 use Rattle.pdl_theory_simulation.proofs.Stretches.{Behind, left_trunk, less_home, fork_left, Keeps, has_made, keeps_next, keeps_fresh}
-use Rattle.pdl_theory_simulation.proofs.Seats.{Live, seat, find, each_map, Ordered, Falls, falls_up, dacts, lacts, did, now_of, work_of_live}
-use Rattle.pdl_theory_simulation.proofs.Choices.{Known, AllKnown, keeps_now, fit_all}
+use Rattle.pdl_theory_simulation.proofs.Seats.{Live, seat, find, each_map, Ordered, Falls, falls_up, dacts, lacts, did, now_of, work_of_live, advised}
+use Rattle.pdl_theory_simulation.proofs.Choices.{Known, AllKnown, keeps_now, fit_all, AllForeseen}
 use Rattle.pdl_theory_simulation.proofs.ThreadFacts.{EachPair, pairs}
 use Rattle.pdl_theory_simulation.proofs.LockLists.{fell, moved_one, moved_live, stood, next_live, go_on, Agrees}
 use Rattle.pdl_theory_simulation.proofs.LiveThreads.{stuck_here, childed_here, Made, MadeBehind, made, made_none, born_live, lives_next, comes_is, find_append}
@@ -121,25 +122,25 @@ module _ (p : Pipe) (g : Ways p) where
               omega arith
 
 module _ (p : Pipe) (flows : Flows p) where
-  module _ (st : State) (d : Derived.State) (bits : List Bool) (arrays : st.arrays ≡ d.arrays) where
+  module _ (st : State) (d : Derived.State) (bits : List Bool) (arrays : DifferInAdvice p st.arrays d.arrays) where
     -- what holds of a thread where it stands and where it goes, holds of it after the cycle
     pub each_next : (A : Live → Type 0) (ls : List Live) (l : Live) → Known p flows st d bits arrays ls l
         → ((did p d bits ls l).moves ≡ false → A (stood p st d bits l))
         → ((did p d bits ls l).moves ≡ true → (q : ℕ)
         → goes_to (stage_at p l.thread.stage).next (work_of_live p d bits ls l).env ≡ Some q
-        → A (moved_one q l (work_of_live p d bits ls l)))
+        → A (moved_one q (advised p st bits l) (work_of_live p d bits ls l)))
         → Each A (next_live p st d bits ls l)
     each_next A ls l k f g = at (did p d bits ls l).moves refl
       where
         out : (did p d bits ls l).moves ≡ true → (r : Option ℕ)
             → goes_to (stage_at p l.thread.stage).next (work_of_live p d bits ls l).env ≡ r
-            → Each A (moved_live r l (work_of_live p d bits ls l))
+            → Each A (moved_live r (advised p st bits l) (work_of_live p d bits ls l))
         out e None i = tt
         out e (Some q) i = (g e q i, tt)
 
         at : (b : Bool) → (did p d bits ls l).moves ≡ b
             → Each A
-            (cond b (moved_live (goes_to (stage_at p l.thread.stage).next (work_of_live p d bits ls l).env) l (work_of_live p d bits ls l))
+            (cond b (moved_live (goes_to (stage_at p l.thread.stage).next (work_of_live p d bits ls l).env) (advised p st bits l) (work_of_live p d bits ls l))
             (stood p st d bits l ∷ []))
         at true e = out e (goes_to (stage_at p l.thread.stage).next (work_of_live p d bits ls l).env) refl
         at false e = (f e, tt)
@@ -234,14 +235,14 @@ module _ (p : Pipe) (flows : Flows p) where
         out : (did p d bits ls l).moves ≡ true → (r : Option ℕ)
             → goes_to (stage_at p l.thread.stage).next (work_of_live p d bits ls l).env ≡ r
             → Ordered p (go_on p st d bits ls)
-            → Ordered p (moved_live r l (work_of_live p d bits ls l) ++ go_on p st d bits ls)
+            → Ordered p (moved_live r (advised p st bits l) (work_of_live p d bits ls l) ++ go_on p st d bits ls)
         out e None i r = r
         out e (Some q) i r = (behind_move l.thread.stage q (leads_of ls l k.0 q i) ls k.1 o.0 (subst (λ r. Derived.can_enter p (dacts p d bits ls) r ≡ true) i (enters_here ls l e)), r)
 
         at : (f b : Bool) → (did p d bits ls l).moves ≡ b → Ordered p (go_on p st d bits ls)
             → Ordered p
             ((if f then []
-            else cond b (moved_live (goes_to (stage_at p l.thread.stage).next (work_of_live p d bits ls l).env) l (work_of_live p d bits ls l))
+            else cond b (moved_live (goes_to (stage_at p l.thread.stage).next (work_of_live p d bits ls l).env) (advised p st bits l) (work_of_live p d bits ls l))
             (stood p st d bits l ∷ []))
             ++ go_on p st d bits ls)
         at true b e r = r
@@ -279,7 +280,7 @@ module _ (p : Pipe) (flows : Flows p) where
         → MadeBehind p flows st d bits arrays ls → Ordered p (lives_next p flows st d bits arrays ls)
     ordered_next ls k o m = at (made p flows st d bits arrays ls) refl
       where
-        at : (c : Option (List ℕ)) → made p flows st d bits arrays ls ≡ c → Ordered p (born_live p st.next c ++ go_on p st d bits ls)
+        at : (c : Option (List ℕ)) → made p flows st d bits arrays ls ≡ c → Ordered p (born_live p (d.hints 0) st.next c ++ go_on p st d bits ls)
         at None e = ordered_on ls k o
         at (Some x) e = (each_map (λ k h. behind_zero k.thread.stage h) (go_on p st d bits ls) (born_alone ls k o m x e), ordered_on ls k o)
 
@@ -289,14 +290,14 @@ module _ (p : Pipe) (flows : Flows p) where
     falls_on n [] f = tt
     falls_on n (l ∷ ls) f = at (fell p d bits ls) (did p d bits ls l).moves (falls_on l.number ls f.1)
       where
-        out : (r : Option ℕ) → Falls l.number (go_on p st d bits ls) → Falls n (moved_live r l (work_of_live p d bits ls l) ++ go_on p st d bits ls)
+        out : (r : Option ℕ) → Falls l.number (go_on p st d bits ls) → Falls n (moved_live r (advised p st bits l) (work_of_live p d bits ls l) ++ go_on p st d bits ls)
         out None g = falls_up l.number n (go_on p st d bits ls) (let i = f.0 in omega arith) g
         out (Some q) g = (f.0, g)
 
         at : (c b : Bool) → Falls l.number (go_on p st d bits ls)
             → Falls n
             ((if c then []
-            else cond b (moved_live (goes_to (stage_at p l.thread.stage).next (work_of_live p d bits ls l).env) l (work_of_live p d bits ls l))
+            else cond b (moved_live (goes_to (stage_at p l.thread.stage).next (work_of_live p d bits ls l).env) (advised p st bits l) (work_of_live p d bits ls l))
             (stood p st d bits l ∷ []))
             ++ go_on p st d bits ls)
         at true b g = falls_up l.number n (go_on p st d bits ls) (let i = f.0 in omega arith) g
@@ -308,7 +309,7 @@ module _ (p : Pipe) (flows : Flows p) where
         → Falls (if is_some (made p flows st d bits arrays ls) then suc st.next else st.next) (lives_next p flows st d bits arrays ls)
     falls_next ls f = at (made p flows st d bits arrays ls)
       where
-        at : (c : Option (List ℕ)) → Falls (if is_some c then suc st.next else st.next) (born_live p st.next c ++ go_on p st d bits ls)
+        at : (c : Option (List ℕ)) → Falls (if is_some c then suc st.next else st.next) (born_live p (d.hints 0) st.next c ++ go_on p st d bits ls)
         at None = falls_on st.next ls f
         at (Some x) = (omega arith, falls_on st.next ls f)
 
@@ -319,6 +320,8 @@ module _ (p : Pipe) (flows : Flows p) where
         → has_made p (work_of_live p d bits ls l).env (next_of p l.thread.stage (work_of_live p d bits ls l).env) ≡ true
         → has_made p (work_of_live p d bits ls l).env q ≡ true
     has_next ls l k q i h = subst (λ n. has_made p (work_of_live p d bits ls l).env n ≡ true) (ap (stage_or (length p.stages)) i) h
+
+    pub
 
     made_on : (ls : List Live) → AllKnown p flows st d bits arrays ls → Made p flows st d bits arrays ls → Made p flows st d bits arrays (go_on p st d bits ls)
     made_on [] k m = tt
@@ -371,21 +374,21 @@ module _ (p : Pipe) (flows : Flows p) where
             rest : Made p flows st d bits arrays (go_on p st d bits ks)
             rest = made_on ks k.1 m
 
-            out : (r : Option ℕ) → MadeBehind p flows st d bits arrays (moved_live r l (work_of_live p d bits ks l) ++ go_on p st d bits ks)
+            out : (r : Option ℕ) → MadeBehind p flows st d bits arrays (moved_live r (advised p st bits l) (work_of_live p d bits ks l) ++ go_on p st d bits ks)
             out None = tail_of (go_on p st d bits ks) rest
             out (Some q) = rest
 
             by : (f b : Bool)
                 → MadeBehind p flows st d bits arrays
                 ((if f then []
-                else cond b (moved_live (goes_to (stage_at p l.thread.stage).next (work_of_live p d bits ks l).env) l (work_of_live p d bits ks l))
+                else cond b (moved_live (goes_to (stage_at p l.thread.stage).next (work_of_live p d bits ks l).env) (advised p st bits l) (work_of_live p d bits ks l))
                 (stood p st d bits l ∷ []))
                 ++ go_on p st d bits ks)
             by true b = tail_of (go_on p st d bits ks) rest
             by false true = out (goes_to (stage_at p l.thread.stage).next (work_of_live p d bits ks l).env)
             by false false = rest
 
-        at : (c : Option (List ℕ)) → made p flows st d bits arrays ls ≡ c → MadeBehind p flows st d bits arrays (born_live p st.next c ++ go_on p st d bits ls)
+        at : (c : Option (List ℕ)) → made p flows st d bits arrays ls ≡ c → MadeBehind p flows st d bits arrays (born_live p (d.hints 0) st.next c ++ go_on p st d bits ls)
         at None e = behind ls k m
         at (Some x) e = made_born ls k m x e
 
@@ -404,27 +407,27 @@ module _ (p : Pipe) (flows : Flows p) where
         (ways_on ls k.1)
       where
         keeps_moved : (q : ℕ) → goes_to (stage_at p l.thread.stage).next (work_of_live p d bits ls l).env ≡ Some q
-            → Keeps p (work_of_live p d bits ls l).env (moved_one q l (work_of_live p d bits ls l)).thread
+            → Keeps p (work_of_live p d bits ls l).env (moved_one q (advised p st bits l) (work_of_live p d bits ls l)).thread
         keeps_moved q i =
-            keeps_next p flows l.env (now_of p d bits l) (keeps_now p flows st d bits arrays l k.0.seated) (around p d bits (dacts p d bits ls) l.thread.stage) (Machine.word_for st l.number) (λ b. block_ready p st l.number b)
+            keeps_next p flows l.env (now_of p d bits l) (keeps_now p flows st d bits arrays l k.0.seated) (around p d bits (dacts p d bits ls) l.thread.stage l.thread.hint) (Machine.word_for st l.number) (λ b. block_ready p st l.number b)
             (λ q. Derived.port_free p d bits (dacts p d bits ls) q.mem) (fit_all p flows st d bits arrays ls l k.0) q i
 
     -- after a cycle all live threads keep to their ways, the new one too
     pub ways_next : (ls : List Live) → AllKnown p flows st d bits arrays ls → Each OnWay (lives_next p flows st d bits arrays ls)
     ways_next ls k = at (made p flows st d bits arrays ls)
       where
-        at : (c : Option (List ℕ)) → Each OnWay (born_live p st.next c ++ go_on p st d bits ls)
+        at : (c : Option (List ℕ)) → Each OnWay (born_live p (d.hints 0) st.next c ++ go_on p st d bits ls)
         at None = ways_on ls k
-        at (Some x) = ((keeps_fresh p flows x, refl), ways_on ls k)
+        at (Some x) = ((keeps_fresh p flows (d.hints 0) x, refl), ways_on ls k)
 
     -- THE STAGES
 
-    stands_left : (sq : Option ℕ) (q : ℕ) (ls : List Live) → AllKnown p flows st d bits arrays ls → Ordered p ls
+    stands_left : (sq : Option ℕ) (q : ℕ) (ls : List Live) → AllKnown p flows st d bits arrays ls → AllForeseen p flows st d bits arrays ls → Ordered p ls
         → Agrees p d bits sq ls → if_kept sq (next_thread p q (lacts p st d bits ls)) ≡ find q (go_on p st d bits ls)
-    stands_left sq q [] k o g = refl
-    stands_left sq q (l ∷ ls) k o g =
-        ap (λ t. if_kept sq (or_then t (next_thread p q (lacts p st d bits ls)))) (comes_is p flows st d bits arrays ls l q k.0)
-        ∙ at (fell p d bits ls) refl (did p d bits ls l).moves refl (stands_left sq q ls k.1 o.1 g.1)
+    stands_left sq q [] k fs o g = refl
+    stands_left sq q (l ∷ ls) k fs o g =
+        ap (λ t. if_kept sq (or_then t (next_thread p q (lacts p st d bits ls)))) (comes_is p flows st d bits arrays ls l q k.0 fs.0)
+        ∙ at (fell p d bits ls) refl (did p d bits ls l).moves refl (stands_left sq q ls k.1 fs.1 o.1 g.1)
       where
         rest : Option Machine.Thread
         rest = next_thread p q (lacts p st d bits ls)
@@ -455,26 +458,26 @@ module _ (p : Pipe) (flows : Flows p) where
             by false e = r
 
         out : (r : Option ℕ) → is_kept sq l.number ≡ true → if_kept sq (next_thread p q (lacts p st d bits ls)) ≡ find q (go_on p st d bits ls)
-            → if_kept sq (or_then (find q (moved_live r l (work_of_live p d bits ls l))) (next_thread p q (lacts p st d bits ls)))
-            ≡ find q (moved_live r l (work_of_live p d bits ls l) ++ go_on p st d bits ls)
+            → if_kept sq (or_then (find q (moved_live r (advised p st bits l) (work_of_live p d bits ls l))) (next_thread p q (lacts p st d bits ls)))
+            ≡ find q (moved_live r (advised p st bits l) (work_of_live p d bits ls l) ++ go_on p st d bits ls)
         out None h r = r
-        out (Some s) h r = one (moved_one s l (work_of_live p d bits ls l)) refl h r
+        out (Some s) h r = one (moved_one s (advised p st bits l) (work_of_live p d bits ls l)) refl h r
 
         at : (f : Bool) → fell p d bits ls ≡ f → (b : Bool) → (did p d bits ls l).moves ≡ b
             → if_kept sq (next_thread p q (lacts p st d bits ls)) ≡ find q (go_on p st d bits ls)
             → if_kept sq
             (or_then
             (find q
-            (cond b (moved_live (goes_to (stage_at p l.thread.stage).next (work_of_live p d bits ls l).env) l (work_of_live p d bits ls l))
+            (cond b (moved_live (goes_to (stage_at p l.thread.stage).next (work_of_live p d bits ls l).env) (advised p st bits l) (work_of_live p d bits ls l))
             (stood p st d bits l ∷ [])))
             (next_thread p q (lacts p st d bits ls)))
-            ≡ find q ((if f then [] else cond b (moved_live (goes_to (stage_at p l.thread.stage).next (work_of_live p d bits ls l).env) l (work_of_live p d bits ls l)) (stood p st d bits l ∷ [])) ++ go_on p st d bits ls)
+            ≡ find q ((if f then [] else cond b (moved_live (goes_to (stage_at p l.thread.stage).next (work_of_live p d bits ls l).env) (advised p st bits l) (work_of_live p d bits ls l)) (stood p st d bits l ∷ [])) ++ go_on p st d bits ls)
         at true e true i r = absurd (cc (sym i ∙ stuck_here p flows st d bits arrays ls l e))
         at true e false i r = removed (g.0 ∙ ap not e) r
         at false e true i r = out (goes_to (stage_at p l.thread.stage).next (work_of_live p d bits ls l).env) (g.0 ∙ ap not e) r
         at false e false i r = one (stood p st d bits l) refl (g.0 ∙ ap not e) r
 
-    newborn : (q n : ℕ) (c : Option (List ℕ)) → (if q == 0 then Cycle.born_thread p n c else None) ≡ find q (born_live p n c)
+    newborn : (q n : ℕ) (c : Option (List ℕ)) → (if q == 0 then Cycle.born_thread p n c else None) ≡ find q (born_live p (d.hints 0) n c)
     newborn q n None = at (q == 0)
       where
         at : (b : Bool) → cond b (Cycle.born_thread p n None) None ≡ None
@@ -492,10 +495,10 @@ module _ (p : Pipe) (flows : Flows p) where
             at false e false f = refl
 
     -- who stands in a stage after the cycle is the live thread that is found there then
-    pub stage_is : (sq : Option ℕ) (q : ℕ) (ls : List Live) → AllKnown p flows st d bits arrays ls → Ordered p ls → Agrees p d bits sq ls
+    pub stage_is : (sq : Option ℕ) (q : ℕ) (ls : List Live) → AllKnown p flows st d bits arrays ls → AllForeseen p flows st d bits arrays ls → Ordered p ls → Agrees p d bits sq ls
         → or_then (if q == 0 then Cycle.born_thread p st.next (made p flows st d bits arrays ls) else None)
         (if_kept sq (next_thread p q (lacts p st d bits ls)))
         ≡ find q (lives_next p flows st d bits arrays ls)
-    stage_is sq q ls k o g =
-        ap₂ or_then (newborn q st.next (made p flows st d bits arrays ls)) (stands_left sq q ls k o g)
-        ∙ sym (find_append q (born_live p st.next (made p flows st d bits arrays ls)) (go_on p st d bits ls))
+    stage_is sq q ls k fs o g =
+        ap₂ or_then (newborn q st.next (made p flows st d bits arrays ls)) (stands_left sq q ls k fs o g)
+        ∙ sym (find_append q (born_live p (d.hints 0) st.next (made p flows st d bits arrays ls)) (go_on p st d bits ls))

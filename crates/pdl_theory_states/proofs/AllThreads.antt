@@ -148,7 +148,7 @@ module _ (p : Pipe) (sound : Sound p) (st : State) (d : Derived.State) (ls : Lis
       → Each (λ l. on_path p st (told l) ≡ true) ks
   each_path [] s a n f = tt
   each_path (l ∷ ks) s a n f = (
-    path_point p sound st l s.0 a.0.local n.0 (λ m test h. f m test (any_append test (pends m ks) (pend m l.number l.thread.entries) h)),
+    path_point p sound st l s.0 a.0.local a.0.guessed n.0 (λ m test h. f m test (any_append test (pends m ks) (pend m l.number l.thread.entries) h)),
     each_path ks s.1 a.1 n.1 (λ m test h. f m test (any_front test (pends m ks) (pend m l.number l.thread.entries) h)),
   )
 

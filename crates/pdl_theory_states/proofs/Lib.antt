@@ -6,6 +6,7 @@ pub mod Trails
 pub mod ThreadHistory
 pub mod FetchCounts
 pub mod OlderWrites
+pub mod Guessed
 pub mod Stage
 pub mod ThreadFacts
 pub mod ReachedStates

@@ -6,6 +6,7 @@ use Rattle.pdl_semantics.specs.Stages.{in_stage, is_reserve, reserve_stage}
 use Rattle.pdl_semantics.specs.Machine.{State, Pending, Reserved, reserves_of, word_for}
 use Rattle.pdl_semantics.specs.Moves.{Act, movers}
 use Rattle.pdl_semantics.specs.Cycle.{new_entries, with_reserves}
+use Rattle.pdl_semantics.specs.Promises.{DifferInAdvice}
 use Rattle.pdl_theory_derived.specs.Derived
 use Rattle.pdl_theory_simulation.proofs.FlowFacts.{Flows}
 use Rattle.pdl_theory_turns.proofs.Turn.{none_in_stage}
@@ -58,7 +59,7 @@ count_appended t m (a ∷ ms) list h =
     none (inl e) = ap (count_older t) e
     none (inr e) = none_older t a.thread.number _ (of_new m a.thread.number a.does.reserves) e
 
-module _ (p : Pipe) (flows : Flows p) (st : State) (d : Derived.State) (bits : List Bool) (arrays : st.arrays ≡ d.arrays) (m : ℕ) where
+module _ (p : Pipe) (flows : Flows p) (st : State) (d : Derived.State) (bits : List Bool) (arrays : DifferInAdvice p st.arrays d.arrays) (m : ℕ) where
   -- a thread reserves in one stage alone
   pub quiet_new : (l : Live) → l.thread.stage ≢ reserve_stage p m → new_entries m l.number (deeds_of p st bits l).reserves ≡ []
   quiet_new l h =

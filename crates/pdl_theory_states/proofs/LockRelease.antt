@@ -5,6 +5,7 @@ use Rattle.pdl_semantics.specs.Stages.{commit_stage}
 use Rattle.pdl_semantics.specs.Machine.{State, Pending, Written}
 use Rattle.pdl_semantics.specs.Moves.{Act, movers}
 use Rattle.pdl_semantics.specs.Cycle.{with_reserves, with_value_of, with_writes_of, with_all_writes, all_releases, releases_of}
+use Rattle.pdl_semantics.specs.Promises.{DifferInAdvice}
 use Rattle.pdl_theory_derived.specs.Derived
 use Rattle.pdl_theory_simulation.proofs.FlowFacts.{Flows}
 use Rattle.pdl_theory_derived.proofs.Lists.{pend}
@@ -75,7 +76,7 @@ count_dropped (suc k) t (x ∷ xs) h =
 pub count_released : (k t m : ℕ) (ms : List Act) (xs : List Pending) → LowFirst k t xs → count_older t (drop k (with_all_writes m ms xs)) + k ≡ count_older t xs
 count_released k t m ms xs h = count_dropped k t (with_all_writes m ms xs) (low_filled k t m ms xs h) ∙ count_filled t m ms xs
 
-module _ (p : Pipe) (flows : Flows p) (st : State) (d : Derived.State) (bits : List Bool) (arrays : st.arrays ≡ d.arrays) (m : ℕ) where
+module _ (p : Pipe) (flows : Flows p) (st : State) (d : Derived.State) (bits : List Bool) (arrays : DifferInAdvice p st.arrays d.arrays) (m : ℕ) where
   abbrev new : List Live → List Pending
   new ls = with_reserves m (movers (lacts p st d bits ls)) (pends m ls)
 

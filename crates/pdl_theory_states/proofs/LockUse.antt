@@ -6,6 +6,7 @@ use Rattle.pdl_semantics.specs.Machine.{State, Pending, lock_of}
 use Rattle.pdl_semantics.specs.Moves.{Act, all_acts, movers}
 use Rattle.pdl_semantics.specs.Cycle.{first, state_after, with_reserves, all_releases}
 use Rattle.pdl_theory_derived.specs.Derived
+use Rattle.pdl_theory_derived.specs.Simulation.{hints_of}
 use Rattle.pdl_theory_facts.specs.Facts.{Sound}
 use Rattle.pdl_theory_simulation.proofs.AcceptedFacts.{sound_flows}
 use Rattle.pdl_theory_simulation.proofs.Seats.{Live, pends, lact, lacts}
@@ -106,27 +107,27 @@ module _ (p : Pipe) (sound : Sound p) (strict : Strict p) (image : Arrays) (sche
   -- in every state that a run comes to, a lock's list is in thread order, with at most one entry of each thread
   pub ordered_here : (m : ℕ) → AreOrdered 0 (lock_of (state_after p (first p image) schedule) m)
   ordered_here m = let r = reached p sound strict image schedule in
-      list_ordered p sound (state_after p (first p image) schedule) (Derived.state_after p (Derived.first p image) schedule) [] r.0 r.1 m
+      list_ordered p sound (state_after p (first p image) schedule) (Derived.state_after p (Derived.first p image (hints_of p (first p image) schedule)) schedule) [] r.0 r.1 m
 
   -- in every state that a run comes to, a thread up to the stage of m's reserves finds all pending writes of m older
   pub older_here : (bits : List Bool) (m : ℕ)
       → AllActs (FindsOlder (state_after p (first p image) schedule) m (reserve_stage p m)) (all_acts p (state_after p (first p image) schedule) bits)
   older_here bits m = let r = reached p sound strict image schedule in
-      finds_older p sound (state_after p (first p image) schedule) (Derived.state_after p (Derived.first p image) schedule) bits r.0 r.1 m
+      finds_older p sound (state_after p (first p image) schedule) (Derived.state_after p (Derived.first p image (hints_of p (first p image) schedule)) schedule) bits r.0 r.1 m
 
   -- in each cycle of a run at most one write of m is reserved, and the list stays in order with it
   pub reserves_here : (bits : List Bool) (m : ℕ) → Reserves p (state_after p (first p image) schedule) bits m
   reserves_here bits m = let r = reached p sound strict image schedule in
-      reserves p sound (state_after p (first p image) schedule) (Derived.state_after p (Derived.first p image) schedule) bits r.0 r.1 m
+      reserves p sound (state_after p (first p image) schedule) (Derived.state_after p (Derived.first p image (hints_of p (first p image) schedule)) schedule) bits r.0 r.1 m
 
   -- in each cycle of a run, from the reserves' stage on, what is reserved leaves a thread's place among the pending writes as it is
   pub places_here : (bits : List Bool) (m : ℕ)
       → AllActs (KeepsPlace p (state_after p (first p image) schedule) bits m) (all_acts p (state_after p (first p image) schedule) bits)
   places_here bits m = let r = reached p sound strict image schedule in
-      places p sound (state_after p (first p image) schedule) (Derived.state_after p (Derived.first p image) schedule) bits r.0 r.1 m
+      places p sound (state_after p (first p image) schedule) (Derived.state_after p (Derived.first p image (hints_of p (first p image) schedule)) schedule) bits r.0 r.1 m
 
   -- in each cycle of a run, until a thread moves out of the releases' stage, its place shifts by one where a write of m is released
   pub shifts_here : (bits : List Bool) (m : ℕ)
       → AllActs (ShiftsPlace p (state_after p (first p image) schedule) bits m) (all_acts p (state_after p (first p image) schedule) bits)
   shifts_here bits m = let r = reached p sound strict image schedule in
-      shifts p sound (state_after p (first p image) schedule) (Derived.state_after p (Derived.first p image) schedule) bits r.0 r.1 m
+      shifts p sound (state_after p (first p image) schedule) (Derived.state_after p (Derived.first p image (hints_of p (first p image) schedule)) schedule) bits r.0 r.1 m

@@ -1,11 +1,12 @@
 -- What older threads' pending writes say of an address grows only more ready, where they are past the reserves.
 use Rattle.std.proofs.Common.{◌≡◌, ◌≢◌, refl, sym, ap, ◌∙◌, subst, ℕ, ◌≤◌, ◌<◌, ◌⊎◌, inl, inr, Bool, true, false, ◌&&◌, ◌||◌, not, List, [], ◌∷◌, ◌++◌, length, Option, Some, None, is_none, ◌==◌, cond, if◌then◌else◌, arith, eq-eqb, slice_index}
 use Rattle.std.proofs.lemmas.Bool.{eqb-true, eqb-false}
-use Rattle.pdl_semantics.specs.Flat.{Pipe, Op, Bind, CombRead, DelayedRead, Write, ReserveRead, ReserveWrite, Block, Release, Call, SpecCall, Verify, SpecCheck, SpecBarrier, Stmt, value_of, values_of, all_hold}
+use Rattle.pdl_semantics.specs.Flat.{Pipe, Op, Bind, CombRead, DelayedRead, Write, ReserveRead, ReserveWrite, Block, Release, Call, SpecCall, Verify, SpecCheck, SpecBarrier, AdviceBind, AdviceRead, AdviceWrite, Stmt, value_of, values_of, all_hold}
 use Rattle.pdl_semantics.specs.Stages.{in_stage, stage_at, goes_to, is_reserve, is_release, reserve_stage, commit_stage}
 use Rattle.pdl_semantics.specs.Locks.{Latest, Nothing, as_latest}
 use Rattle.pdl_semantics.specs.Machine.{State, same_args}
 use Rattle.pdl_semantics.proofs.Readiness.{Calm, calm_nothing, calm_value}
+use Rattle.pdl_semantics.specs.Promises.{DifferInAdvice}
 use Rattle.pdl_theory_derived.specs.Derived.{Entry, Work, Around, work_after, do_all, with_entry_value, without, latest_in, latest, around}
 use Rattle.pdl_theory_derived.specs.Derived
 use Rattle.pdl_theory_facts.specs.Scans.{none_of}
@@ -16,7 +17,7 @@ use Rattle.pdl_theory_turns.proofs.Marks.{latest_own}
 use Rattle.pdl_theory_derived.proofs.Stages.{step}
 use Rattle.pdl_theory_turns.proofs.Turn.{none_in_stage}
 use Rattle.pdl_theory_simulation.proofs.Stretches.{Behind, late, start_of, stage_up, left_trunk}
-use Rattle.pdl_theory_simulation.proofs.Seats.{Live, threads_of, Ordered, dacts, did, now_of, work_of_live}
+use Rattle.pdl_theory_simulation.proofs.Seats.{Live, threads_of, Ordered, dacts, did, now_of, work_of_live, advised}
 use Rattle.pdl_theory_simulation.proofs.Choices.{AllKnown, ends_here, late_here}
 use Rattle.pdl_theory_simulation.proofs.LockLists.{fell, moved_live, stood, go_on}
 use Rattle.pdl_theory_simulation.proofs.ThreadPlaces.{ways_on, behind_stay}
@@ -79,6 +80,9 @@ filled_op m start o (Block n a) w r q h = h
 filled_op m start o (Call args) w r q h = h
 filled_op m start o (SpecCall args) w r q h = h
 filled_op m start o SpecCheck w r q h = h
+filled_op m start o (AdviceBind x' e') w r q h = h
+filled_op m start o (AdviceRead x' m' a') w r q h = h
+filled_op m start o (AdviceWrite m' a' e') w r q h = h
 filled_op m start o SpecBarrier w r q h = h
 
 filled_all : (m : ℕ) (start : List Entry) (o : Around) (xs : List Stmt) (w : Work)
@@ -119,7 +123,7 @@ none_latest m a [] h = refl
 none_latest m a (k ∷ ks) h =
     latest_own k.thread.entries m a (latest (threads_of ks) m a) ∙ ap (λ l. latest_in l m a (latest (threads_of ks) m a)) h.0 ∙ none_latest m a ks h.1
 
-module _ (p : Pipe) (flows : Flows p) (st : State) (d : Derived.State) (bits : List Bool) (arrays : st.arrays ≡ d.arrays) where
+module _ (p : Pipe) (flows : Flows p) (st : State) (d : Derived.State) (bits : List Bool) (arrays : DifferInAdvice p st.arrays d.arrays) where
   -- a thread past the releases of m, behind all these, finds no write of theirs pending after the cycle
   late_next : (m a s : ℕ) (ks : List Live) → AllKnown p flows st d bits arrays ks
       → Each (λ k. Behind p s k.thread.stage) ks → commit_stage p m ≤ s
@@ -157,13 +161,13 @@ module _ (p : Pipe) (flows : Flows p) (st : State) (d : Derived.State) (bits : L
           (λ x. Calm x (latest_in (work_of_live p d bits ks l).entries m a (latest (threads_of (go_on p st d bits ks)) m a))) (sym (latest_own l.thread.entries m a _))
           (subst (λ x. Calm (latest_in (entries_of m l.thread.entries) m a (latest (threads_of ks) m a)) x) (sym (latest_own (work_of_live p d bits ks l).entries m a _))
           (calm_filled m a (entries_of m l.thread.entries) (entries_of m (work_of_live p d bits ks l).entries) (latest (threads_of ks) m a) (latest (threads_of (go_on p st d bits ks)) m a)
-          (filled_all m (entries_of m l.thread.entries) (around p d bits (dacts p d bits ks) l.thread.stage) (in_stage l.thread.stage p.stmts)
+          (filled_all m (entries_of m l.thread.entries) (around p d bits (dacts p d bits ks) l.thread.stage l.thread.hint) (in_stage l.thread.stage p.stmts)
           (start_of (now_of p d bits l)) kept (none_in_stage (is_release m) (commit_stage p m) l.thread.stage p.stmts (flows.releases m) i) (filled_same (entries_of m l.thread.entries))) c)))
 
       out : (r : Option ℕ) → goes_to (stage_at p l.thread.stage).next (work_of_live p d bits ks l).env ≡ r
           → Calm (latest (threads_of ks) m a) (latest (threads_of (go_on p st d bits ks)) m a)
           → Calm (latest_in l.thread.entries m a (latest (threads_of ks) m a))
-          (latest (threads_of (moved_live r l (work_of_live p d bits ks l) ++ go_on p st d bits ks)) m a)
+          (latest (threads_of (moved_live r (advised p st bits l) (work_of_live p d bits ks l) ++ go_on p st d bits ks)) m a)
       out None e c =
           subst (λ x. Calm (latest_in l.thread.entries m a (latest (threads_of ks) m a)) x)
           (latest_own (work_of_live p d bits ks l).entries m a _
@@ -184,7 +188,7 @@ module _ (p : Pipe) (flows : Flows p) (st : State) (d : Derived.State) (bits : L
           (latest
           (threads_of
           ((if g then []
-          else cond b (moved_live (goes_to (stage_at p l.thread.stage).next (work_of_live p d bits ks l).env) l (work_of_live p d bits ks l))
+          else cond b (moved_live (goes_to (stage_at p l.thread.stage).next (work_of_live p d bits ks l).env) (advised p st bits l) (work_of_live p d bits ks l))
           (stood p st d bits l ∷ []))
           ++ go_on p st d bits ks)) m a)
       at true e b i c = absurd (cc (sym (second b (work_of_live p d bits ks l).fails i) ∙ e))

@@ -2,7 +2,7 @@
 use Rattle.std.proofs.Common.{◌≡◌, refl, sym, ap, ap₂, ◌∙◌, subst, ℕ, ◌≤◌, ◌<◌, ◌⊎◌, inl, inr, Bool, true, false, ◌&&◌, ◌||◌, not, List, [], ◌∷◌, ◌++◌, length, Some, None, ◌==◌, nat_lt, cond, arith, slice_index, slice_set, eq-eqb, ltb-true}
 use Rattle.std.proofs.lemmas.List.{get_or-set_other, get_or-set_same, length-set}
 use Rattle.std.proofs.lemmas.Bool.{eqb-true, not-true, or_parts, or_right, or_left}
-use Rattle.pdl_semantics.specs.Flat.{Op, Bind, CombRead, DelayedRead, Write, ReserveRead, ReserveWrite, Block, Release, Call, SpecCall, Verify, SpecCheck, SpecBarrier, Expr, Stmt, value_of, values_of, all_hold}
+use Rattle.pdl_semantics.specs.Flat.{Op, Bind, CombRead, DelayedRead, Write, ReserveRead, ReserveWrite, Block, Release, Call, SpecCall, Verify, SpecCheck, SpecBarrier, Expr, Stmt, value_of, values_of, all_hold, AdviceBind, AdviceRead, AdviceWrite, Constant, Variable, Slice, Not, Binary, Cat, LessSigned, ZeroExtend, SignExtend, Choose, operator_value}
 use Rattle.pdl_semantics.specs.Forms.{on_block}
 use Rattle.pdl_semantics.specs.Stages.{onpath, is_release}
 use Rattle.pdl_semantics.specs.Machine.{Ask, same_args}
@@ -128,6 +128,9 @@ block_set o x v env es past (Call args) t h = tt
 block_set o x v env es past (SpecCall args) t h = tt
 block_set o x v env es past (Verify last args) t h = tt
 block_set o x v env es past SpecCheck t h = tt
+block_set o x v env es past (AdviceBind x' e') t h = tt
+block_set o x v env es past (AdviceRead x' m' a') t h = tt
+block_set o x v env es past (AdviceWrite m' a' e') t h = tt
 block_set o x v env es past SpecBarrier t h = tt
 
 -- a block stays true with more pending writes, or fewer, where each location that is none any more is released
@@ -158,6 +161,9 @@ block_more o env es es' past past' (Call args) f g h = tt
 block_more o env es es' past past' (SpecCall args) f g h = tt
 block_more o env es es' past past' (Verify last args) f g h = tt
 block_more o env es es' past past' SpecCheck f g h = tt
+block_more o env es es' past past' (AdviceBind x' e') f g h = tt
+block_more o env es es' past past' (AdviceRead x' m' a') f g h = tt
+block_more o env es es' past past' (AdviceWrite m' a' e') f g h = tt
 block_more o env es es' past past' SpecBarrier f g h = tt
 
 -- one more statement was carried out
@@ -301,7 +307,7 @@ module _ (o : Around) (vars : ℕ) (kind : Kind o) where
       → AllAsks (λ q. mentions_var q.var op ≡ false) w.asks → values_of args w.env ≡ guess_after op w.env (guess_past past w.env)
       → Done w.env (values_of args w.env) op → BlockOk o w.env w.entries (op ∷ past) op → ((q : Ask) → mentions_var q.var op ≡ false → touches q.var op ≡ false)
       → Past o vars past w
-      → Past o vars (op ∷ past) (record w { child = Some (values_of args w.env); guess = values_of args w.env })
+      → Past o vars (op ∷ past) (record w { child = Some o.guess; guess = o.guess })
   guess_step op args past w silent given mine block apart h =
       record {
         long = h.long;
@@ -403,6 +409,9 @@ module _ (o : Around) (vars : ℕ) (kind : Kind o) where
           (record w { child = Some (values_of args w.env); guess = values_of args w.env }) (record w { child = Some (values_of args w.env); guess = (values_of args w.env); fails = true }) refl refl refl refl
           (guess_step (Verify last args) args past w silent refl tt tt (λ q k. mention_touch q.var (Verify last args) k) h)
   past_step SpecCheck past w new own silent calls ready h = still_step SpecCheck past w silent tt h.guessed tt h
+  past_step (AdviceBind x' e') past w new own silent calls ready h = still_step (AdviceBind x' e') past w silent tt tt h
+  past_step (AdviceRead x' m' a') past w new own silent calls ready h = still_step (AdviceRead x' m' a') past w silent tt tt h
+  past_step (AdviceWrite m' a' e') past w new own silent calls ready h = still_step (AdviceWrite m' a' e') past w silent tt tt h
   past_step SpecBarrier past w new own silent calls ready h =
       same_past (SpecBarrier ∷ past) w (work_after o SpecBarrier w) refl refl refl refl (still_step SpecBarrier past w silent tt h.guessed tt h)
 
@@ -431,6 +440,9 @@ module _ (o : Around) (vars : ℕ) (kind : Kind o) where
   asks_silent (Call args) w ys u h = h
   asks_silent (SpecCall args) w ys u h = h
   asks_silent SpecCheck w ys u h = h
+  asks_silent (AdviceBind x' e') w ys u h = h
+  asks_silent (AdviceRead x' m' a') w ys u h = h
+  asks_silent (AdviceWrite m' a' e') w ys u h = h
   asks_silent SpecBarrier w ys u h = h
 
   call_flag : (c : Bool) (op : Op) (past : List Op) → call_ok c op ≡ true → Uncalled c past → is_call op ≡ true → AllOps (λ op. is_call op ≡ false) past

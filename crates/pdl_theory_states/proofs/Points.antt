@@ -1,10 +1,10 @@
 -- The points of Sound state that hold of all live threads alike.
 use Rattle.std.proofs.Common.{◌≡◌, refl, sym, ap, ap₂, ◌∙◌, subst, ℕ, ◌<◌, ◌⊎◌, inl, inr, Bool, true, false, ◌&&◌, ◌||◌, not, List, [], ◌∷◌, ◌++◌, length, ◌==◌, cond, arith, slice_index, eq-eqb, lt-ltb, ltb-true, ltb-false, nat_lt}
 use Rattle.std.proofs.lemmas.Bool.{or_right, or_left, not-true}
-use Rattle.pdl_semantics.specs.Flat.{Pipe, Op, Bind, CombRead, DelayedRead, Write, ReserveRead, ReserveWrite, Block, Release, Call, SpecCall, Verify, SpecCheck, SpecBarrier, Stmt, list_all, values_of}
+use Rattle.pdl_semantics.specs.Flat.{Pipe, Op, Bind, CombRead, DelayedRead, Write, ReserveRead, ReserveWrite, Block, Release, Call, SpecCall, Verify, SpecCheck, SpecBarrier, AdviceBind, AdviceRead, AdviceWrite, Stmt, list_all, values_of}
 use Rattle.pdl_semantics.specs.Stages.{list_any, is_release, commit_stage, mem_at}
 use Rattle.pdl_semantics.specs.Locks.{read_ready, write_ready}
-use Rattle.pdl_semantics.specs.Machine.{State, Awaited, Kept, Pending, HeldLocation, lock_of, request_of, same_args, is_held, held_before, older_write}
+use Rattle.pdl_semantics.specs.Machine.{State, Awaited, Kept, with_kept, Pending, HeldLocation, lock_of, request_of, same_args, is_held, held_before, older_write}
 use Rattle.pdl_semantics.specs.Moves.{block_ready}
 use Rattle.pdl_semantics.specs.Sound.{stages_before, are_linked, is_kept_or_awaited, asks_right, is_owner, is_release_at, stays_ready, on_path, is_done, right_place, is_fetch, held_places, has_done, is_call, guess_of}
 use Rattle.pdl_semantics.specs.Sound
@@ -25,9 +25,10 @@ use Rattle.pdl_theory_simulation.proofs.Choices
 use Rattle.pdl_theory_states.proofs.OldestFirst.{told, oldest_first, AllLive, live_each}
 use Rattle.pdl_theory_states.proofs.PastStatements.{BlockOk, AllPlaced, is_released, AllStand, let_go, standing}
 use Rattle.pdl_theory_states.proofs.UnusedValues.{AllOps, onto, Done, guess_onto}
-use Rattle.pdl_theory_states.proofs.Trails.{AllStmts, stmts_map, stmts_ops, trail_comes}
+use Rattle.pdl_theory_states.proofs.Trails.{AllStmts, stmts_map, stmts_ops, trail_comes, stmts_both}
 use Rattle.pdl_theory_states.proofs.ThreadHistory.{Local, here, past_of}
 use Rattle.pdl_theory_states.proofs.FetchCounts.{HeldOp, count_is, any_append, any_front}
+use Rattle.pdl_theory_states.proofs.Guessed.{GuessDone}
 use Rattle.pdl_theory_states.proofs.Stage.{look_at}
 use Rattle.pdl_theory_simulation.proofs.SimulatedStates.{HaveMade}
 
@@ -117,10 +118,10 @@ chain p l ls h k =
 
 -- 7. REQUESTS
 
-held_op : (kept : List Kept) (awaits : List Awaited) (n : ℕ) (env guess : List ℕ) (op : Op) → HeldOp kept awaits op
-    → is_kept_or_awaited (record { number = n; env = env; guess = guess; awaits = awaits; kept = kept }) op ≡ true
-held_op kept awaits n env guess (DelayedRead x m a) h = h x m a refl
-held_op kept awaits n env guess _ h = refl
+held_op : (kept : List Kept) (awaits : List Awaited) (n : ℕ) (advice : List Kept) (env guess : List ℕ) (op : Op) → HeldOp kept awaits op
+    → is_kept_or_awaited (record { number = n; env = env; advice = advice; guess = guess; awaits = awaits; kept = kept }) op ≡ true
+held_op kept awaits n advice env guess (DelayedRead x m a) h = h x m a refl
+held_op kept awaits n advice env guess _ h = refl
 
 imply : (b c : Bool) → (b ≡ true → c ≡ true) → (not b || c) ≡ true
 imply true c f = f refl
@@ -136,7 +137,7 @@ pub asks_point : (p : Pipe) (st : State) (l : Live) → Seated p st l → Local 
 asks_point p st l seated loc =
     ap₂ (λ a b. a && b) (both_true
     (stmts_all _ (on_way p l.env l.thread.stage)
-    (stmts_map (λ z f. imply (here p l.env l.thread.stage z) _ (λ i. held_op l.kept l.thread.awaits l.number l.env l.thread.guess z.op (f i)))
+    (stmts_map (λ z f. imply (here p l.env l.thread.stage z) _ (λ i. held_op l.kept l.thread.awaits l.number l.advice l.env l.thread.guess z.op (f i)))
     (on_way p l.env l.thread.stage) loc.held))
     (owners_all st l.number l.thread.awaits seated.owned))
     (eq-eqb _ _ (loc.total ∙ count_is (λ (x : Stmt). here p l.env l.thread.stage x && is_fetch x.op) (on_way p l.env l.thread.stage)))
@@ -207,6 +208,9 @@ module _ (p : Pipe) (st : State) (l : Live) (older : List Live)
   block_op (SpecCall args) h = refl
   block_op (Verify last args) h = refl
   block_op SpecCheck h = refl
+  block_op (AdviceBind x' e') h = refl
+  block_op (AdviceRead x' m' a') h = refl
+  block_op (AdviceWrite m' a' e') h = refl
   block_op SpecBarrier h = refl
 
   -- where each block that a thread has passed is ready or let go, the test of Sound state on blocks passes
@@ -265,17 +269,17 @@ own_places n env (e ∷ es) h test f =
 
 module _ (p : Pipe) (sound : Sound p) where
   -- a thread that keeps to its path, with its pending writes in the locks' lists, passes the test of Sound state on paths
-  pub path_point : (st : State) (l : Live) → Seated p st l → Local p l.env l.kept l.thread → l.number < st.next
+  pub path_point : (st : State) (l : Live) → Seated p st l → Local p l.env l.kept l.thread → AllOps (GuessDone l.advice l.env l.thread.guess) (past_of p l.env l.thread.stage) → l.number < st.next
       → ((m : ℕ) (test : Pending → Bool) → list_any test (pend m l.number l.thread.entries) ≡ true → list_any test (lock_of st m) ≡ true)
       → on_path p st (told l) ≡ true
-  path_point st l seated loc low locks =
+  path_point st l seated loc guessed low locks =
       both_true (both_true (both_true (both_true
       (trail_comes p (sound_flows p sound).graph l.env l.thread.stage l.thread.stage
       (length p.stages) 1 loc.trail loc.walked (or_left (l.thread.stage == l.thread.stage) _ (eq-eqb _ _ refl))
       (let i = seated.keeps_on.inside in omega arith))
       (stmts_all _ (on_way p l.env l.thread.stage)
-      (stmts_map (λ z d. done_op st l z.op d) (on_way p l.env l.thread.stage)
-      (stmts_ops (Done l.env l.thread.guess) (on_way p l.env l.thread.stage) [] loc.done).0)))
+      (stmts_both (λ z d g. done_op st l z.op d g) (on_way p l.env l.thread.stage)
+      (stmts_ops (Done l.env l.thread.guess) (on_way p l.env l.thread.stage) [] loc.done).0 (stmts_ops (GuessDone l.advice l.env l.thread.guess) (on_way p l.env l.thread.stage) [] guessed).0)))
       (ap (λ g. same_args g (guess_of (on_way p l.env l.thread.stage) l.env [])) (loc.guessed ∙ guess_onto (on_way p l.env l.thread.stage) [] l.env) ∙ same_args_refl (guess_of (on_way p l.env l.thread.stage) l.env [])))
       (subst (λ hs. list_all (right_place st (told l)) hs ≡ true) seated.keeps_on.held
       (own_places l.number l.env l.thread.entries stand (right_place st (told l))

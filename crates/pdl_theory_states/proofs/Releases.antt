@@ -1,14 +1,14 @@
 -- Who has released a write of a memory: only threads past the stage of its releases, all threads of turns past it that write, and none after a wrong guess.
 use Rattle.std.proofs.Common.{◌≡◌, refl, sym, ap, ap₂, ◌∙◌, subst, ℕ, ◌<◌, Bool, true, false, ◌&&◌, ◌||◌, not, List, [], ◌∷◌, ◌++◌, Some, ◌==◌, nat_lt, cond, arith, eq-eqb, ltb-true, ltb-false, lt-ltb}
 use Rattle.std.proofs.lemmas.Bool.{eqb-true, not-true, or_right}
-use Rattle.pdl_semantics.specs.Flat.{Arrays, Pipe, Op, Bind, CombRead, DelayedRead, Write, ReserveRead, ReserveWrite, Block, Release, Call, SpecCall, Verify, SpecCheck, SpecBarrier, Stmt, Commit, all_hold, of_mem}
+use Rattle.pdl_semantics.specs.Flat.{Arrays, Pipe, Op, Bind, CombRead, DelayedRead, Write, ReserveRead, ReserveWrite, Block, Release, Call, SpecCall, Verify, SpecCheck, SpecBarrier, AdviceBind, AdviceRead, AdviceWrite, Stmt, Commit, all_hold, of_mem}
 use Rattle.pdl_semantics.specs.Stages.{list_any, onpath, is_release, commit_stage, verify_stage}
 use Rattle.pdl_semantics.specs.Machine.{State, HeldLocation}
 use Rattle.pdl_semantics.specs.Sequential.{Run, thread}
 use Rattle.pdl_semantics.specs.Sound.{stages_before, stages_from, is_write_reserve, has_released}
 use Rattle.pdl_theory_derived.specs.Derived.{Entry}
 use Rattle.pdl_semantics.specs.Sound
-use Rattle.pdl_theory_derived.specs.Alone.{before, answered_op, is_nil, is_among, is_oldest, drop_var, but_last}
+use Rattle.pdl_theory_derived.specs.Alone.{World, before, answered_op, is_nil, is_among, is_oldest, drop_var, but_last}
 use Rattle.pdl_theory_facts.specs.Scans.{Phase, Fresh, next_phase, phase_all, phase_ok, phases_ok, after_write, after_reserve, after_release, may_write, none_of, Scan, no_scan, has_location, scan_after, no_guards}
 use Rattle.pdl_theory_facts.specs.GuessScans.{is_barrier, is_sure, all_sure}
 use Rattle.pdl_theory_facts.specs.Facts.{Sound, looked_all, at_once}
@@ -230,19 +230,19 @@ pending_none m ph env es cs ws t h = t.calm (at ph.gone h)
     at [] i = refl
     at (x ∷ xs) i = absurd (cc i)
 
-module _ (p : Pipe) (sound : Sound p) (arrays : Arrays) (args : List ℕ) where
+module _ (p : Pipe) (sound : Sound p) (world : World) (args : List ℕ) where
   -- past the releases it has none undone
   pub turn_kept : (s m : ℕ) → commit_stage p m < s
-      → is_done (phase_all m Fresh (on_way p (thread (at_once p) arrays args).env s)) ≡ false
-      → of_mem m (thread p arrays args).writes ≡ []
+      → is_done (phase_all m Fresh (on_way p (thread (at_once p) world.words args).env s)) ≡ false
+      → of_mem m (thread p world.words args).writes ≡ []
   turn_kept s m late h =
-      ap (λ (r : Run). of_mem m r.writes) (whole p sound arrays args)
-      ∙ sym (TurnPath.commits_late (along (thread (at_once p) arrays args).env (at_once p)) (acc p sound arrays args) arrays args s m late)
+      ap (λ (r : Run). of_mem m r.writes) (whole p sound world args)
+      ∙ sym (TurnPath.commits_late (along (thread (at_once p) world.words args).env (at_once p)) (acc p sound world args) world args s m late)
       ∙ pending_none m
-      (phase_all m Fresh (before s (onpath (thread (at_once p) arrays args).env (looked_all p.stmts)))) _ _ _ _
-      ((TurnPath.related_at (along (thread (at_once p) arrays args).env (at_once p)) (acc p sound arrays args) arrays args s).tied m)
-      (ap (λ xs. is_done (phase_all m Fresh xs)) (way_looked p (thread (at_once p) arrays args).env s)
-      ∙ ap is_done (phases_looked m Fresh (on_way p (thread (at_once p) arrays args).env s)) ∙ h)
+      (phase_all m Fresh (before s (onpath (thread (at_once p) world.words args).env (looked_all p.stmts)))) _ _ _ _
+      ((TurnPath.related_at (along (thread (at_once p) world.words args).env (at_once p)) (acc p sound world args) world args s).tied m)
+      (ap (λ xs. is_done (phase_all m Fresh xs)) (way_looked p (thread (at_once p) world.words args).env s)
+      ∙ ap is_done (phases_looked m Fresh (on_way p (thread (at_once p) world.words args).env s)) ∙ h)
 
 -- A THREAD AFTER A WRONG GUESS
 
@@ -359,6 +359,9 @@ barrier_looked (Call args) = refl
 barrier_looked (SpecCall args) = refl
 barrier_looked (Verify last args) = refl
 barrier_looked SpecCheck = refl
+barrier_looked (AdviceBind x' e') = refl
+barrier_looked (AdviceRead x' m' a') = refl
+barrier_looked (AdviceWrite m' a' e') = refl
 
 -- statements without a barrier have none where their delayed reads are answered at once
 pub unbarred : (xs : List Stmt) → list_any (λ (x : Stmt). Sound.is_barrier x.op) xs ≡ false → some_barrier false (looked_all xs) ≡ false
@@ -380,7 +383,7 @@ early_unreleased p sound st l seated v verifies low clear m = not_released p sou
     (ap is_done (sym (phases_looked m Fresh (on_way p l.env l.thread.stage)))
     ∙ ap (λ xs. is_done (phase_all m Fresh xs)) (sym (way_looked p l.env l.thread.stage))
     ∙ sure_done m v no_scan Fresh (before l.thread.stage (onpath l.env (looked_all p.stmts)))
-    (TurnPath.ok_before (along l.env (at_once p)) (sound.pathwise.paths l.env) (λ k a. 0) [] l.thread.stage m)
+    (TurnPath.ok_before (along l.env (at_once p)) (sound.pathwise.paths l.env) (record { words = λ k a. 0; guess = [] }) [] l.thread.stage m)
     (subst (λ o. all_sure o false no_scan (before l.thread.stage (onpath l.env (looked_all p.stmts))) ≡ true) (verify_looked p.stmts ∙ verifies)
     (sure_first (verify_stage (looked_all p.stmts)) false no_scan (before l.thread.stage (onpath l.env (looked_all p.stmts)))
     (stages_from l.thread.stage (onpath l.env (looked_all p.stmts)))

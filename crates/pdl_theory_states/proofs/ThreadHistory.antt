@@ -2,7 +2,7 @@
 use Rattle.std.proofs.Common.{◌≡◌, ◌≢◌, refl, sym, ap, ap₂, ◌∙◌, subst, ℕ, suc, ◌+◌, ◌≤◌, ◌<◌, ◌⊎◌, inl, inr, Bool, true, false, ◌&&◌, ◌||◌, not, List, [], ◌∷◌, ◌++◌, length, Option, Some, None, is_some, ◌==◌, if◌then◌else◌, arith, slice_index, slice_set, eq-eqb, length-append, add-zero, zero-add, length-set}
 use Rattle.std.proofs.lemmas.List.{get_or-set_other, length-replicate}
 use Rattle.std.proofs.lemmas.Bool.{ne_eqb}
-use Rattle.pdl_semantics.specs.Flat.{Op, Stmt, Pipe, Forks, start_env}
+use Rattle.pdl_semantics.specs.Flat.{Op, Stmt, Pipe, Forks, start_env, Bind, CombRead, DelayedRead, Write, ReserveRead, ReserveWrite, Block, Release, Call, SpecCall, Verify, SpecCheck, SpecBarrier, AdviceBind, AdviceRead, AdviceWrite, values_of, all_hold}
 use Rattle.pdl_semantics.specs.Stages.{list_any, onpath, in_stage, stage_at, goes_to}
 use Rattle.pdl_semantics.specs.Machine.{Ask, Awaited, Kept, with_kept, State, answer_for, kept_answer, unanswered_reads}
 use Rattle.pdl_semantics.specs.Cycle.{awaited_of}
@@ -217,8 +217,8 @@ start_long : (p : Pipe) (args : List ℕ) → p.vars ≤ length (start_env p arg
 start_long p args = subst (λ n. p.vars ≤ n) (sym (length-append args _ ∙ ap (λ n. length args + n) (length-replicate _ 0))) (omega arith)
 
 -- a new thread, with just its arguments, keeps to what a live thread keeps to on its own
-pub local_fresh : (p : Pipe) (flows : Flows p) (args : List ℕ) → Local p (start_env p args) [] (Derived.fresh p args)
-local_fresh p flows args =
+pub local_fresh : (p : Pipe) (flows : Flows p) (hint args : List ℕ) → Local p (start_env p args) [] (Derived.fresh p hint args)
+local_fresh p flows hint args =
     record {
       long = start_long p args;
       trail = [];
@@ -244,6 +244,7 @@ all_flip P [] f = tt
 all_flip P (q ∷ qs) f = ((λ a. (f a).0), all_flip P qs (λ a. (f a).1))
 
 -- no call among statements
+pub
 uncalled : (c : Bool) (xs : List Stmt) (past : List Op)
     → called c xs ≡ false → (c ≡ false → AllOps (λ op. is_call op ≡ false) past)
     → AllOps (λ op. is_call op ≡ false) (onto xs past)
@@ -326,6 +327,8 @@ module _ (p : Pipe) (flows : Flows p) (sound : Sound p) (strict : Strict p) (o :
         unused = tt;
         blocks = blocks;
       }
+
+  pub
 
   whole_way : onpath (work_of_stage p o t).env p.stmts
       ≡ (on_way p env t.stage ++ onpath (work_of_stage p o t).env (in_stage t.stage p.stmts))
@@ -422,7 +425,7 @@ module _ (p : Pipe) (flows : Flows p) (sound : Sound p) (strict : Strict p) (o :
     pub local_moved : AllOps (BlockOk o t.env t.entries (past_of p env t.stage)) (past_of p env t.stage)
         → Local p (work_of_stage p o t).env []
         (record {
-          stage = q;
+          stage = q; hint = t.hint;
           env = (work_of_stage p o t).env;
           entries = (work_of_stage p o t).entries;
           guess = (work_of_stage p o t).guess;

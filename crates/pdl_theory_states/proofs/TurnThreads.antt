@@ -1,13 +1,13 @@
 -- A thread of a turn in a stage: its way is the turn's path, its values and pending writes are the turn's, and its guess is wrong just where its successor isn't the next turn.
 use Rattle.std.proofs.Common.{◌≡◌, refl, sym, ap, ap₂, ◌∙◌, subst, ℕ, suc, ◌+◌, ◌-◌, ◌<◌, ◌≤◌, length, arith, nat_lt, is_none, append_assoc, length-append, ltb-true, ltb-false, lt-ltb, Bool, true, false, ◌&&◌, ◌||◌, not, List, [], ◌∷◌, ◌++◌, Option, Some, None, is_some, ◌==◌, cond, slice_index, eq-eqb}
 use Rattle.std.proofs.Math.Bool.{and-false}
-use Rattle.pdl_semantics.specs.Flat.{Arrays, Pipe, Op, Bind, CombRead, DelayedRead, Write, ReserveRead, ReserveWrite, Block, Release, Call, SpecCall, Verify, SpecCheck, SpecBarrier, Stmt, value_of, all_hold, Commit, of_mem}
+use Rattle.pdl_semantics.specs.Flat.{Arrays, Pipe, Op, Bind, CombRead, DelayedRead, Write, ReserveRead, ReserveWrite, Block, Release, Call, SpecCall, Verify, SpecCheck, SpecBarrier, AdviceBind, AdviceRead, AdviceWrite, Stmt, value_of, all_hold, Commit, of_mem}
 use Rattle.pdl_semantics.specs.Stages.{list_any, onpath, in_stage, is_verify, verify_stage, reserve_stage, commit_stage}
 use Rattle.pdl_semantics.specs.Machine.{Pending, same_args}
 use Rattle.pdl_semantics.specs.Sequential.{Run, run_after, run_all, thread}
 use Rattle.pdl_semantics.specs.Sound.{stages_before, is_right_entry, are_right, is_write, is_spec_call, stages_from}
 use Rattle.pdl_theory_derived.specs.Derived.{ Work, work_after, do_all}
-use Rattle.pdl_theory_derived.specs.Alone.{alone, before, answered_op, start_work, so_far}
+use Rattle.pdl_theory_derived.specs.Alone.{World, alone, before, answered_op, start_work, so_far}
 use Rattle.pdl_theory_facts.specs.GuessScans.{Making, Unmade, Guessed, Made, next_making, making_all, makings_ok, making_ok, is_guessed, is_unmade}
 use Rattle.pdl_theory_facts.specs.Scans.{Phase, Fresh, next_phase, phase_all, phase_ok, phases_ok, none_of, binds_var, is_fixed, no_guards}
 use Rattle.pdl_theory_facts.specs.Facts.{Sound, looked_all, at_once}
@@ -50,25 +50,25 @@ way_same env path (x ∷ xs) ys h f =
     (way_same env path xs ys (and_right _ _ h) f)
 
 -- a run of the statements that a thread alone carries out
-follow : (path : List ℕ) (arrays : Arrays) (xs : List Stmt) (ph : ℕ → Phase) (w : Work) (r : Run)
-    → Fixed path (alone arrays) xs w → ((n : ℕ) → phases_ok n (ph n) (onpath path xs) ≡ true) → Related arrays ph w r
-    → (do_all (alone arrays) xs w).env ≡ (run_all xs r).env
-follow path arrays [] ph w r f ok rel = rel.env
-follow path arrays (x ∷ xs) ph w r f ok rel =
+follow : (path : List ℕ) (world : World) (xs : List Stmt) (ph : ℕ → Phase) (w : Work) (r : Run)
+    → Fixed path (alone world) xs w → ((n : ℕ) → phases_ok n (ph n) (onpath path xs) ≡ true) → Related world ph w r
+    → (do_all (alone world) xs w).env ≡ (run_all xs r).env
+follow path world [] ph w r f ok rel = rel.env
+follow path world (x ∷ xs) ph w r f ok rel =
     at (all_hold x.guards w.env) (all_hold x.guards r.env) (ap (all_hold x.guards) rel.env)
-    (all_hold x.guards path) f.0 ok f.1 (λ ph' w' r' f' ok' rel'. follow path arrays xs ph' w' r' f' ok' rel')
+    (all_hold x.guards path) f.0 ok f.1 (λ ph' w' r' f' ok' rel'. follow path world xs ph' w' r' f' ok' rel')
   where
     at : (b c : Bool) → b ≡ c → (d : Bool) → b ≡ d
         → ((n : ℕ) → phases_ok n (ph n) (cond d (record x { guards = [] } ∷ onpath path xs) (onpath path xs)) ≡ true)
-        → Fixed path (alone arrays) xs (cond b (work_after (alone arrays) x.op w) w)
-        → ((ph' : ℕ → Phase) (w' : Work) (r' : Run) → Fixed path (alone arrays) xs w'
-        → ((n : ℕ) → phases_ok n (ph' n) (onpath path xs) ≡ true) → Related arrays ph' w' r'
-        → (do_all (alone arrays) xs w').env ≡ (run_all xs r').env)
-        → (do_all (alone arrays) xs (cond b (work_after (alone arrays) x.op w) w)).env ≡ (run_all xs (cond c (run_after x.op r) r)).env
+        → Fixed path (alone world) xs (cond b (work_after (alone world) x.op w) w)
+        → ((ph' : ℕ → Phase) (w' : Work) (r' : Run) → Fixed path (alone world) xs w'
+        → ((n : ℕ) → phases_ok n (ph' n) (onpath path xs) ≡ true) → Related world ph' w' r'
+        → (do_all (alone world) xs w').env ≡ (run_all xs r').env)
+        → (do_all (alone world) xs (cond b (work_after (alone world) x.op w) w)).env ≡ (run_all xs (cond c (run_after x.op r) r)).env
     at true true e true i k g go =
-        go (λ n. next_phase n (ph n) x.op) (work_after (alone arrays) x.op w)
+        go (λ n. next_phase n (ph n) x.op) (work_after (alone world) x.op w)
         (run_after x.op r) g (λ n. and_right (true && phase_ok n (ph n) x.op) _ (k n))
-        (related_step arrays ph x.op w r (λ n. and_right true _ (and_left _ _ (k n))) rel)
+        (related_step world ph x.op w r (λ n. and_right true _ (and_left _ _ (k n))) rel)
     at true true e false i k g go = absurd (cc i)
     at true false e d i k g go = absurd (cc e)
     at false true e d i k g go = absurd (cc e)
@@ -287,6 +287,9 @@ guess_all v k (x ∷ xs) h =
     made (Call args) e = absurd (cc e)
     made (SpecCall args) e = absurd (cc e)
     made SpecCheck e = absurd (cc e)
+    made (AdviceBind x' e') e = absurd (cc e)
+    made (AdviceRead x' m' a') e = absurd (cc e)
+    made (AdviceWrite m' a' e') e = absurd (cc e)
     made SpecBarrier e = absurd (cc e)
 
     at : (b : Bool) → is_verify x.op ≡ b
@@ -304,127 +307,127 @@ guess_all v k (x ∷ xs) h =
 
 -- A TURN
 
-module _ (p : Pipe) (sound : Sound p) (arrays : Arrays) (args : List ℕ) where
+module _ (p : Pipe) (sound : Sound p) (world : World) (args : List ℕ) where
   -- the values with which the turn ends where delayed reads have their answers at once, which tell its path
   abbrev pub path : List ℕ
-  path = (thread (at_once p) arrays args).env
+  path = (thread (at_once p) world.words args).env
 
   -- the statements of the turn's path, with delayed reads answered at once, have the facts of an accepted pipe
-  pub acc : Accepted (along (thread (at_once p) arrays args).env (at_once p))
-  acc = sound.pathwise.paths (thread (at_once p) arrays args).env
+  pub acc : Accepted (along (thread (at_once p) world.words args).env (at_once p))
+  acc = sound.pathwise.paths (thread (at_once p) world.words args).env
 
   -- before each stage the turn has done the same on the statements of its path alone, with delayed reads answered at once
-  pub so : (s : ℕ) → so_far p arrays args s ≡ so_far (along (thread (at_once p) arrays args).env (at_once p)) arrays args s
-  so s = sym (StageFacts.same_so p sound arrays args s) ∙ Turns.so_path (at_once p) sound.pathwise arrays args s
+  pub so : (s : ℕ) → so_far p world args s ≡ so_far (along (thread (at_once p) world.words args).env (at_once p)) world args s
+  so s = sym (StageFacts.same_so p sound world args s) ∙ Turns.so_path (at_once p) sound.pathwise world args s
 
   -- the sequential thread is the same on the statements of its path alone, with delayed reads answered at once
-  pub whole : thread p arrays args ≡ thread (along (thread (at_once p) arrays args).env (at_once p)) arrays args
-  whole = sym (StageFacts.same_thread p sound arrays args) ∙ Turns.thread_path (at_once p) sound.pathwise arrays args
+  pub whole : thread p world.words args ≡ thread (along (thread (at_once p) world.words args).env (at_once p)) world.words args
+  whole = sym (StageFacts.same_thread p sound world args) ∙ Turns.thread_path (at_once p) sound.pathwise world args
 
   -- the way of a turn up to a stage is that of its path
-  pub turn_way : (s : ℕ) → on_way p (so_far p arrays args s).env s ≡ on_way p (thread (at_once p) arrays args).env s
+  pub turn_way : (s : ℕ) → on_way p (so_far p world args s).env s ≡ on_way p (thread (at_once p) world.words args).env s
   turn_way s =
-      way_same (so_far p arrays args s).env (thread (at_once p) arrays args).env (stages_before s p.stmts)
+      way_same (so_far p world args s).env (thread (at_once p) world.words args).env (stages_before s p.stmts)
       (in_stage s (looked_all p.stmts) ++ stages_from (suc s) (looked_all p.stmts))
       (subst (λ l. is_fixed (l ++ (in_stage s (looked_all p.stmts) ++ stages_from (suc s) (looked_all p.stmts))) ≡ true)
       (before_looked s p.stmts ∙ before_stages s p.stmts) (sound.pathwise.fixed_by s))
       (λ g k. sym
       (ap (λ (w : Work). slice_index w.env g) (so s)
-      ∙ Turns.value_kept (at_once p) sound.pathwise arrays args s g (Turns.none_parts (binds_var g) s (looked_all p.stmts) k)))
+      ∙ Turns.value_kept (at_once p) sound.pathwise world args s g (Turns.none_parts (binds_var g) s (looked_all p.stmts) k)))
 
   -- the values of a turn before a stage are those of the sequential run after the statements of earlier stages
-  pub turn_env : (s : ℕ) → (so_far p arrays args s).env ≡ (run_all (stages_before s p.stmts) (TurnPath.start_run p arrays args)).env
+  pub turn_env : (s : ℕ) → (so_far p world args s).env ≡ (run_all (stages_before s p.stmts) (TurnPath.start_run p world.words args)).env
   turn_env s =
-      follow (thread (at_once p) arrays args).env arrays (before s p.stmts) (λ m. Fresh) (start_work p args) (TurnPath.start_run p arrays args)
-      (subst (λ l. Fixed (thread (at_once p) arrays args).env (alone arrays) l (start_work p args))
-      (before_looked s p.stmts) (Turns.fixed_before (at_once p) sound.pathwise arrays args s))
+      follow (thread (at_once p) world.words args).env world (before s p.stmts) (λ m. Fresh) (start_work p args) (TurnPath.start_run p world.words args)
+      (subst (λ l. Fixed (thread (at_once p) world.words args).env (alone world) l (start_work p args))
+      (before_looked s p.stmts) (Turns.fixed_before (at_once p) sound.pathwise world args s))
       (λ n. subst (λ l. phases_ok n Fresh l ≡ true)
-      (before_path (thread (at_once p) arrays args).env s (looked_all p.stmts) ∙ ap (onpath (thread (at_once p) arrays args).env) (before_looked s p.stmts))
-      (TurnPath.ok_before (along (thread (at_once p) arrays args).env (at_once p)) acc arrays args s n))
-      (TurnPath.start_related (along (thread (at_once p) arrays args).env (at_once p)) acc arrays args)
-      ∙ ap (λ l. (run_all l (TurnPath.start_run p arrays args)).env) (before_stages s p.stmts)
-      ∙ ap (λ (r : Run). r.env) (run_looked (stages_before s p.stmts) (TurnPath.start_run p arrays args))
+      (before_path (thread (at_once p) world.words args).env s (looked_all p.stmts) ∙ ap (onpath (thread (at_once p) world.words args).env) (before_looked s p.stmts))
+      (TurnPath.ok_before (along (thread (at_once p) world.words args).env (at_once p)) acc world args s n))
+      (TurnPath.start_related (along (thread (at_once p) world.words args).env (at_once p)) acc world args)
+      ∙ ap (λ l. (run_all l (TurnPath.start_run p world.words args)).env) (before_stages s p.stmts)
+      ∙ ap (λ (r : Run). r.env) (run_looked (stages_before s p.stmts) (TurnPath.start_run p world.words args))
 
   -- past the stage of m's reserves the pending writes of a turn have the address of its write of m and, once written, its value
   pub turn_entries : (s m n : ℕ) → reserve_stage p m < s
       → right_list (count
-      (λ x. is_write m x.op) (on_way p (thread (at_once p) arrays args).env s))
-      (of_mem m (thread p arrays args).writes) (pend m n
-      (entries_of m (so_far p arrays args s).entries)) ≡ true
+      (λ x. is_write m x.op) (on_way p (thread (at_once p) world.words args).env s))
+      (of_mem m (thread p world.words args).writes) (pend m n
+      (entries_of m (so_far p world args s).entries)) ≡ true
   turn_entries s m n h =
       subst
       (λ (w : Work). right_list made
-      (of_mem m (thread p arrays args).writes) (pend m n
+      (of_mem m (thread p world.words args).writes) (pend m n
       (entries_of m w.entries)) ≡ true)
       (sym (so s))
       (subst
       (λ (r : Run). right_list made
       (of_mem m r.writes) (pend m n
-      (entries_of m (so_far q arrays args s).entries)) ≡ true)
+      (entries_of m (so_far q world args s).entries)) ≡ true)
       (sym whole)
       (at (nat_lt (commit_stage p m) s) refl))
     where
       q : Pipe
-      q = along (thread (at_once p) arrays args).env (at_once p)
+      q = along (thread (at_once p) world.words args).env (at_once p)
 
       made : ℕ
-      made = count (λ x. is_write m x.op) (on_way p (thread (at_once p) arrays args).env s)
+      made = count (λ x. is_write m x.op) (on_way p (thread (at_once p) world.words args).env s)
 
       xs : List Stmt
-      xs = before s (onpath (thread (at_once p) arrays args).env (looked_all p.stmts))
+      xs = before s (onpath (thread (at_once p) world.words args).env (looked_all p.stmts))
 
-      counts : length (of_mem m (TurnPath.run_at q arrays args s).writes) ≡ made
+      counts : length (of_mem m (TurnPath.run_at q world.words args s).writes) ≡ made
       counts =
-          run_count m Fresh xs (TurnPath.start_run q arrays args) (TurnPath.ok_before q acc arrays args s m)
+          run_count m Fresh xs (TurnPath.start_run q world.words args) (TurnPath.ok_before q acc world args s m)
           ∙ none_first (count (λ x. is_write m x.op) xs)
-          ∙ ap (count (λ x. is_write m x.op)) (way_looked p (thread (at_once p) arrays args).env s)
-          ∙ count_looked (is_write m) (write_looked m) (on_way p (thread (at_once p) arrays args).env s)
+          ∙ ap (count (λ x. is_write m x.op)) (way_looked p (thread (at_once p) world.words args).env s)
+          ∙ count_looked (is_write m) (write_looked m) (on_way p (thread (at_once p) world.words args).env s)
 
-      early : s ≤ commit_stage p m → are_right made (of_mem m (thread q arrays args).writes) (pend m n (entries_of m (so_far q arrays args s).entries)) ≡ true
+      early : s ≤ commit_stage p m → are_right made (of_mem m (thread q world.words args).writes) (pend m n (entries_of m (so_far q world args s).entries)) ≡ true
       early low =
-          let t = tied_at q acc arrays args s m in
-          let ws : of_mem m (TurnPath.run_at q arrays args s).writes ≡ told m t.fulls = early_written q acc arrays args s m low in
-          let more = writes_first q acc arrays args s m in
+          let t = tied_at q acc world args s m in
+          let ws : of_mem m (TurnPath.run_at q world.words args s).writes ≡ told m t.fulls = early_written q acc world args s m low in
+          let more = writes_first q acc world args s m in
           let unset : List ℕ = (phase_all m Fresh xs).unwritten in
-          let all : of_mem m (thread q arrays args).writes ≡ told m t.fulls ++ more.0 = more.1 ∙ ap (λ l. l ++ more.0) ws in
-          let rest : places more.0 ≡ rev (addresses_at (so_far q arrays args s).env unset) = same_rest (places (told m t.fulls)) (places more.0) (rev (addresses_at (so_far q arrays args s).env unset))
-          (sym (places_append (told m t.fulls) more.0) ∙ ap places (sym all) ∙ sym (TurnPath.all_places q acc arrays args s m h) ∙ ap (λ l. places l ++ rev (addresses_at (so_far q arrays args s).env unset)) ws) in
-          ap₂ (λ xs es. are_right made xs es) all (ap (pend m n) t.entries ∙ pend_append m n (waiting m (opened (so_far q arrays args s).env unset)) (known m t.fulls))
-          ∙ ap (λ k. are_right k (told m t.fulls ++ more.0) (pend m n (known m t.fulls) ++ pend m n (waiting m (opened (so_far q arrays args s).env unset)))) (sym counts ∙ ap length ws ∙ sym (none_first (length (told m t.fulls))))
-          ∙ right_known m n 0 t.fulls more.0 (pend m n (waiting m (opened (so_far q arrays args s).env unset)))
-          (right_none more.0 (pend m n (waiting m (opened (so_far q arrays args s).env unset))) (none_waiting m n (opened (so_far q arrays args s).env unset)) (rest ∙ sym (spots_waiting m n (so_far q arrays args s).env unset)))
+          let all : of_mem m (thread q world.words args).writes ≡ told m t.fulls ++ more.0 = more.1 ∙ ap (λ l. l ++ more.0) ws in
+          let rest : places more.0 ≡ rev (addresses_at (so_far q world args s).env unset) = same_rest (places (told m t.fulls)) (places more.0) (rev (addresses_at (so_far q world args s).env unset))
+          (sym (places_append (told m t.fulls) more.0) ∙ ap places (sym all) ∙ sym (TurnPath.all_places q acc world args s m h) ∙ ap (λ l. places l ++ rev (addresses_at (so_far q world args s).env unset)) ws) in
+          ap₂ (λ xs es. are_right made xs es) all (ap (pend m n) t.entries ∙ pend_append m n (waiting m (opened (so_far q world args s).env unset)) (known m t.fulls))
+          ∙ ap (λ k. are_right k (told m t.fulls ++ more.0) (pend m n (known m t.fulls) ++ pend m n (waiting m (opened (so_far q world args s).env unset)))) (sym counts ∙ ap length ws ∙ sym (none_first (length (told m t.fulls))))
+          ∙ right_known m n 0 t.fulls more.0 (pend m n (waiting m (opened (so_far q world args s).env unset)))
+          (right_none more.0 (pend m n (waiting m (opened (so_far q world args s).env unset))) (none_waiting m n (opened (so_far q world args s).env unset)) (rest ∙ sym (spots_waiting m n (so_far q world args s).env unset)))
 
-      at : (b : Bool) → nat_lt (commit_stage p m) s ≡ b → right_list made (of_mem m (thread q arrays args).writes) (pend m n (entries_of m (so_far q arrays args s).entries)) ≡ true
-      at true e = ap (λ es. right_list made (of_mem m (thread q arrays args).writes) (pend m n es)) (late_empty q acc arrays args s m (ltb-true (commit_stage p m) s e) h)
-      at false e = right_some made (of_mem m (thread q arrays args).writes) (pend m n (entries_of m (so_far q arrays args s).entries)) (early (ltb-false (commit_stage p m) s e))
+      at : (b : Bool) → nat_lt (commit_stage p m) s ≡ b → right_list made (of_mem m (thread q world.words args).writes) (pend m n (entries_of m (so_far q world args s).entries)) ≡ true
+      at true e = ap (λ es. right_list made (of_mem m (thread q world.words args).writes) (pend m n es)) (late_empty q acc world args s m (ltb-true (commit_stage p m) s e) h)
+      at false e = right_some made (of_mem m (thread q world.words args).writes) (pend m n (entries_of m (so_far q world args s).entries)) (early (ltb-false (commit_stage p m) s e))
 
   -- its guess
 
   -- a turn has an open guess before a stage just where its way has a speculative call and no verify
   pub turn_guess : (s : ℕ)
-      → is_guessed (making_all Unmade (before s (onpath (thread (at_once p) arrays args).env (looked_all p.stmts))))
-      ≡ (list_any (λ (x : Stmt). is_spec_call x.op) (on_way p (thread (at_once p) arrays args).env s)
-      && not (list_any (λ (x : Stmt). is_verify x.op) (on_way p (thread (at_once p) arrays args).env s)))
+      → is_guessed (making_all Unmade (before s (onpath (thread (at_once p) world.words args).env (looked_all p.stmts))))
+      ≡ (list_any (λ (x : Stmt). is_spec_call x.op) (on_way p (thread (at_once p) world.words args).env s)
+      && not (list_any (λ (x : Stmt). is_verify x.op) (on_way p (thread (at_once p) world.words args).env s)))
   turn_guess s =
-      guess_all (verify_stage (looked_all p.stmts)) Unmade (before s (onpath (thread (at_once p) arrays args).env (looked_all p.stmts)))
-      (Makes.makings_before (at_once p) sound.pathwise (thread (at_once p) arrays args).env arrays args s)
+      guess_all (verify_stage (looked_all p.stmts)) Unmade (before s (onpath (thread (at_once p) world.words args).env (looked_all p.stmts)))
+      (Makes.makings_before (at_once p) sound.pathwise (thread (at_once p) world.words args).env world args s)
       ∙ ap (λ l. list_any (λ (x : Stmt). is_spec_call x.op) l && not (list_any (λ (x : Stmt). is_verify x.op) l))
-      (way_looked p (thread (at_once p) arrays args).env s)
-      ∙ ap₂ (λ a b. a && not b) (any_looked is_spec_call spec_looked (on_way p (thread (at_once p) arrays args).env s))
-      (any_looked is_verify verify_same (on_way p (thread (at_once p) arrays args).env s))
+      (way_looked p (thread (at_once p) world.words args).env s)
+      ∙ ap₂ (λ a b. a && not b) (any_looked is_spec_call spec_looked (on_way p (thread (at_once p) world.words args).env s))
+      (any_looked is_verify verify_same (on_way p (thread (at_once p) world.words args).env s))
 
   -- an open guess is wrong just where a thread was made with other arguments
-  pub turn_wrong : (s : ℕ) (b : Bool) → (right_guess (so_far p arrays args s).child (thread p arrays args).next ≡ not b)
-      → is_some (so_far p arrays args s).child ≡ true
-      → (is_guessed (making_all Unmade (before s (onpath (thread (at_once p) arrays args).env (looked_all p.stmts))))
-      && not (same_args (so_far p arrays args s).guess (thread p arrays args).next))
+  pub turn_wrong : (s : ℕ) (b : Bool) → (right_guess (so_far p world args s).child (thread p world.words args).next ≡ not b)
+      → is_some (so_far p world args s).child ≡ true
+      → (is_guessed (making_all Unmade (before s (onpath (thread (at_once p) world.words args).env (looked_all p.stmts))))
+      && not (same_args (so_far p world args s).guess (thread p world.words args).next))
       ≡ b
-  turn_wrong s b h made = at (making_all Unmade (before s (onpath (thread (at_once p) arrays args).env (looked_all p.stmts)))) refl
+  turn_wrong s b h made = at (making_all Unmade (before s (onpath (thread (at_once p) world.words args).env (looked_all p.stmts)))) refl
       (subst
       (λ (w : Work). Calls
-      (making_all Unmade (before s (onpath (thread (at_once p) arrays args).env (looked_all p.stmts)))) w.child w.guess
-      (TurnPath.run_at (along (thread (at_once p) arrays args).env (at_once p)) arrays args s).next)
-      (sym (so s)) (Makes.calls_at (at_once p) sound.pathwise (thread (at_once p) arrays args).env arrays args s))
+      (making_all Unmade (before s (onpath (thread (at_once p) world.words args).env (looked_all p.stmts)))) w.child w.guess
+      (TurnPath.run_at (along (thread (at_once p) world.words args).env (at_once p)) world.words args s).next)
+      (sym (so s)) (Makes.calls_at (at_once p) sound.pathwise (thread (at_once p) world.words args).env world args s))
     where
       flip : (c : Bool) → c ≡ not b → not c ≡ b
       flip true i = by b i
@@ -439,18 +442,18 @@ module _ (p : Pipe) (sound : Sound p) (arrays : Arrays) (args : List ℕ) where
           by false j = absurd (cc j)
 
       at : (k : Making)
-          → making_all Unmade (before s (onpath (thread (at_once p) arrays args).env (looked_all p.stmts))) ≡ k
-          → Calls k (so_far p arrays args s).child (so_far p arrays args s).guess
-          (TurnPath.run_at (along (thread (at_once p) arrays args).env (at_once p)) arrays args s).next
-          → (is_guessed k && not (same_args (so_far p arrays args s).guess (thread p arrays args).next)) ≡ b
+          → making_all Unmade (before s (onpath (thread (at_once p) world.words args).env (looked_all p.stmts))) ≡ k
+          → Calls k (so_far p world args s).child (so_far p world args s).guess
+          (TurnPath.run_at (along (thread (at_once p) world.words args).env (at_once p)) world.words args s).next
+          → (is_guessed k && not (same_args (so_far p world args s).guess (thread p world.words args).next)) ≡ b
       at Unmade e c = absurd (cc (sym (ap is_some c) ∙ made))
       at Guessed e c =
-          flip (same_args (so_far p arrays args s).guess (thread p arrays args).next) (ap (λ x. right_guess x (thread p arrays args).next) (sym c) ∙ h)
+          flip (same_args (so_far p world args s).guess (thread p world.words args).next) (ap (λ x. right_guess x (thread p world.words args).next) (sym c) ∙ h)
       at Made e c =
-          flip true (sym (same_args_refl (thread p arrays args).next)
-          ∙ ap (λ x. right_guess x (thread p arrays args).next)
+          flip true (sym (same_args_refl (thread p world.words args).next)
+          ∙ ap (λ x. right_guess x (thread p world.words args).next)
           (sym
           (ap (λ (w : Work). w.child) (so s)
-          ∙ Makes.made_child (at_once p) sound.pathwise (thread (at_once p) arrays args).env arrays args s e
+          ∙ Makes.made_child (at_once p) sound.pathwise (thread (at_once p) world.words args).env world args s e
           ∙ ap (λ (r : Run). Some r.next) (sym whole)))
           ∙ h)

@@ -3,7 +3,7 @@ use Rattle.std.proofs.Common.{◌≡◌, refl, sym, ap, ap₂, ◌∙◌, ℕ, �
 use Rattle.std.proofs.lemmas.List.{get_or-set_other}
 use Rattle.std.proofs.lemmas.Bool.{or_parts, or_right, or_left}
 use Rattle.pdl_word.specs.Words
-use Rattle.pdl_semantics.specs.Flat.{Op, Bind, CombRead, DelayedRead, Write, ReserveRead, ReserveWrite, Block, Release, Call, SpecCall, Verify, SpecCheck, SpecBarrier, Expr, Constant, Variable, Slice, Not, Binary, Cat, LessSigned, ZeroExtend, SignExtend, Choose, Stmt, value_of, values_of, operator_value}
+use Rattle.pdl_semantics.specs.Flat.{Op, Bind, CombRead, DelayedRead, Write, ReserveRead, ReserveWrite, Block, Release, Call, SpecCall, Verify, SpecCheck, SpecBarrier, Expr, Constant, Variable, Slice, Not, Binary, Cat, LessSigned, ZeroExtend, SignExtend, Choose, Stmt, value_of, values_of, operator_value, AdviceBind, AdviceRead, AdviceWrite, all_hold}
 use Rattle.pdl_semantics.specs.Forms.{on_delayed_read}
 use Rattle.pdl_semantics.specs.Sound.{guess_after, guess_of}
 use Rattle.pdl_theory_facts.specs.Facts.{uses_in, uses_any, mentions_var}
@@ -185,6 +185,9 @@ mention_touch x (Call args) h = h
 mention_touch x (SpecCall args) h = h
 mention_touch x (Verify last args) h = h
 mention_touch x SpecCheck h = h
+mention_touch x (AdviceBind x' e') h = h
+mention_touch x (AdviceRead x' m' a') h = h
+mention_touch x (AdviceWrite m' a' e') h = h
 mention_touch x SpecBarrier h = h
 
 -- no statement hangs on a variable with which none of them has to do
@@ -195,3 +198,4 @@ untouched x (op ∷ ops) h = let k = or_parts (mentions_var x op) (is_mentioned 
 -- another value of a variable on which a statement doesn't hang
 pub set_agrees : (x v : ℕ) (op : Op) (env : List ℕ) → touches x op ≡ false → Agrees op env (slice_set env x v)
 set_agrees x v op env h g k = sym (get_or-set_other env x g v 0 (λ e. untrue (sym h ∙ ap (λ n. touches n op) (sym e) ∙ k)))
+

@@ -7,7 +7,7 @@ use Rattle.pdl_semantics.specs.Stages.{is_check, is_verify}
 use Rattle.pdl_semantics.specs.Machine.{same_args}
 use Rattle.pdl_semantics.specs.Sequential.{Run, run_after, run_all}
 use Rattle.pdl_theory_derived.specs.Derived.{Work, Around, work_after, do_all}
-use Rattle.pdl_theory_derived.specs.Alone.{alone}
+use Rattle.pdl_theory_derived.specs.Alone.{World, alone}
 use Rattle.pdl_theory_facts.specs.Scans.{Phase, no_guards, phases_ok, all_at, none_of}
 use Rattle.pdl_theory_facts.specs.GuessScans.{stands_at, stands_before, Making, Unmade, Guessed, Made, next_making, making_all, is_unmade, is_guessed, making_ok, makings_ok}
 use Rattle.pdl_theory_derived.proofs.Writes.{and_left, and_right}
@@ -122,7 +122,7 @@ run_op_settled v k s _ r u h n = refl
 pub run_settled : (v : Option ℕ) (k : Making) (xs : List Stmt) (r : Run) → is_unmade k ≡ false → makings_ok v k xs ≡ true → none_of is_check xs ≡ true → (run_all xs r).next ≡ r.next
 run_settled v k [] r u h n = refl
 run_settled v k (x ∷ xs) r u h n =
-    let here = settled_op (alone r.arrays) v k x.stage x.op (record { env = []; entries = []; guess = []; asks = []; reserves = []; commits = []; child = None; fails = false; ready = true }) u (and_left _ _ h) (and_left _ _ n) in
+    let here = settled_op (alone (record { words = r.arrays; guess = [] })) v k x.stage x.op (record { env = []; entries = []; guess = []; asks = []; reserves = []; commits = []; child = None; fails = false; ready = true }) u (and_left _ _ h) (and_left _ _ n) in
     run_settled v k xs (if all_hold x.guards r.env then run_after x.op r else r) u (subst (λ j. makings_ok v j xs ≡ true) here.1 (and_right (making_ok v k x.stage x.op) _ h)) (and_right (not (is_check x.op)) _ n)
     ∙ at (all_hold x.guards r.env)
   where
@@ -211,15 +211,15 @@ calls_op o v k s (Verify false args) w r h e c = by k c (and_left _ _ h)
     by Made c i = absurd (cc i)
 calls_op o v k s _ w r h e c = c
 
-pub calls_all : (arrays : Arrays) (v : Option ℕ) (xs : List Stmt) (ph : ℕ → Phase) (k : Making) (w : Work) (r : Run) → ((m : ℕ) → phases_ok m (ph m) xs ≡ true) → makings_ok v k xs ≡ true → Related arrays ph w r → Calls k w.child w.guess r.next
-    → Calls (making_all k xs) (do_all (alone arrays) xs w).child (do_all (alone arrays) xs w).guess (run_all xs r).next
-calls_all arrays v [] ph k w r ok h rel c = c
-calls_all arrays v (x ∷ xs) ph k w r ok h rel c =
-    subst (λ (u : Work). Calls (making_all (next_making k x.op) xs) (do_all (alone arrays) xs u).child (do_all (alone arrays) xs u).guess (run_all xs (cond (all_hold x.guards r.env) (run_after x.op r) r)).next) (sym (step_free (alone arrays) x w free))
-    (subst (λ (u : Run). Calls (making_all (next_making k x.op) xs) (do_all (alone arrays) xs (work_after (alone arrays) x.op w)).child (do_all (alone arrays) xs (work_after (alone arrays) x.op w)).guess (run_all xs u).next) (sym (ap (λ b. cond b (run_after x.op r) r) (taken_none x.guards r.env free)))
-    (calls_all arrays v xs (next_phases ph x.op) (next_making k x.op) (work_after (alone arrays) x.op w) (run_after x.op r) (λ m. and_right _ _ (ok m)) (and_right (making_ok v k x.stage x.op) _ h)
-    (related_step arrays ph x.op w r (λ m. and_right _ _ (and_left _ _ (ok m))) rel)
-    (calls_op (alone arrays) v k x.stage x.op w r (and_left _ _ h) rel.env c)))
+pub calls_all : (world : World) (v : Option ℕ) (xs : List Stmt) (ph : ℕ → Phase) (k : Making) (w : Work) (r : Run) → ((m : ℕ) → phases_ok m (ph m) xs ≡ true) → makings_ok v k xs ≡ true → Related world ph w r → Calls k w.child w.guess r.next
+    → Calls (making_all k xs) (do_all (alone world) xs w).child (do_all (alone world) xs w).guess (run_all xs r).next
+calls_all world v [] ph k w r ok h rel c = c
+calls_all world v (x ∷ xs) ph k w r ok h rel c =
+    subst (λ (u : Work). Calls (making_all (next_making k x.op) xs) (do_all (alone world) xs u).child (do_all (alone world) xs u).guess (run_all xs (cond (all_hold x.guards r.env) (run_after x.op r) r)).next) (sym (step_free (alone world) x w free))
+    (subst (λ (u : Run). Calls (making_all (next_making k x.op) xs) (do_all (alone world) xs (work_after (alone world) x.op w)).child (do_all (alone world) xs (work_after (alone world) x.op w)).guess (run_all xs u).next) (sym (ap (λ b. cond b (run_after x.op r) r) (taken_none x.guards r.env free)))
+    (calls_all world v xs (next_phases ph x.op) (next_making k x.op) (work_after (alone world) x.op w) (run_after x.op r) (λ m. and_right _ _ (ok m)) (and_right (making_ok v k x.stage x.op) _ h)
+    (related_step world ph x.op w r (λ m. and_right _ _ (and_left _ _ (ok m))) rel)
+    (calls_op (alone world) v k x.stage x.op w r (and_left _ _ h) rel.env c)))
   where
     free : no_guards x.guards ≡ true
     free = and_left _ _ (and_left _ _ (ok 0))

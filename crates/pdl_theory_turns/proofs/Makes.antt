@@ -5,7 +5,7 @@ use Rattle.pdl_semantics.specs.Stages.{is_check, onpath, in_stage, is_verify, ve
 use Rattle.pdl_semantics.specs.Machine.{same_args}
 use Rattle.pdl_semantics.specs.Sequential.{Run, run_all, thread}
 use Rattle.pdl_theory_derived.specs.Derived.{Around, work_of_stage}
-use Rattle.pdl_theory_derived.specs.Alone.{alone, before, start_work, so_far, thread_at}
+use Rattle.pdl_theory_derived.specs.Alone.{World, alone, before, start_work, so_far, thread_at}
 use Rattle.pdl_theory_facts.specs.Scans.{Phase, Fresh, no_guards, next_phase, phase_ok, phases_ok, phase_all, none_of}
 use Rattle.pdl_theory_facts.specs.GuessScans.{stands_at, Making, Unmade, Guessed, Made, making_all, is_unmade, is_guessed, is_made, makings_ok}
 use Rattle.pdl_theory_facts.specs.Accepted.{Pathwise, along}
@@ -44,7 +44,7 @@ same_some h = cc
 clash : false ≡ true → ⊥
 clash h = cc
 
-module _ (p : Pipe) (acc : Pathwise p) (path : List ℕ) (arrays : Arrays) (args : List ℕ) where
+module _ (p : Pipe) (acc : Pathwise p) (path : List ℕ) (world : World) (args : List ℕ) where
   -- the statements of a path before a stage make the next thread in order
   pub makings_before : (s : ℕ) → makings_ok (verify_stage p.stmts) Unmade (before s (onpath path p.stmts)) ≡ true
   makings_before s =
@@ -78,46 +78,46 @@ module _ (p : Pipe) (acc : Pathwise p) (path : List ℕ) (arrays : Arrays) (args
   -- before each stage the thread has made nobody, the one that it guesses, or the next turn's, by how far its path is
   pub calls_at : (s : ℕ)
       → Calls (making_all Unmade (before s (onpath path p.stmts)))
-      (so_far (along path p) arrays args s).child (so_far (along path p) arrays args s).guess (run_at (along path p) arrays args s).next
+      (so_far (along path p) world args s).child (so_far (along path p) world args s).guess (run_at (along path p) world.words args s).next
   calls_at s =
-      calls_all arrays (verify_stage p.stmts) (before s (onpath path p.stmts))
-      (λ m. Fresh) Unmade (start_work (along path p) args) (start_run (along path p) arrays args)
-      (ok_before (along path p) (acc.paths path) arrays args s) (makings_before s) (start_related (along path p) (acc.paths path) arrays args) refl
+      calls_all world (verify_stage p.stmts) (before s (onpath path p.stmts))
+      (λ m. Fresh) Unmade (start_work (along path p) args) (start_run (along path p) world.words args)
+      (ok_before (along path p) (acc.paths path) world args s) (makings_before s) (start_related (along path p) (acc.paths path) world args) refl
 
   -- the next arguments stay once the next thread is made for certain
   rest_next : (s : ℕ) → making_all Unmade (before s (onpath path p.stmts)) ≡ Made
-      → (thread (along path p) arrays args).next ≡ (run_at (along path p) arrays args s).next
+      → (thread (along path p) world.words args).next ≡ (run_at (along path p) world.words args s).next
   rest_next s e =
       let ok = subst (λ k. makings_ok (verify_stage p.stmts) k (stages_from s (onpath path p.stmts)) ≡ true) e (makings_from s) in
-      ap (λ l. (run_all l (start_run (along path p) arrays args)).next) ((acc.paths path).ordered s)
-      ∙ ap (λ (r : Run). r.next) (run_append (before s (onpath path p.stmts)) (stages_from s (onpath path p.stmts)) (start_run (along path p) arrays args))
+      ap (λ l. (run_all l (start_run (along path p) world.words args)).next) ((acc.paths path).ordered s)
+      ∙ ap (λ (r : Run). r.next) (run_append (before s (onpath path p.stmts)) (stages_from s (onpath path p.stmts)) (start_run (along path p) world.words args))
       ∙ run_settled (verify_stage p.stmts) Made (stages_from s (onpath path p.stmts))
-      (run_at (along path p) arrays args s) refl ok (unverified_made (verify_stage p.stmts) (stages_from s (onpath path p.stmts)) ok)
+      (run_at (along path p) world.words args s) refl ok (unverified_made (verify_stage p.stmts) (stages_from s (onpath path p.stmts)) ok)
 
   -- where a path has made the next thread for certain, that has the arguments which the sequential run gives it
   pub made_child : (s : ℕ) → making_all Unmade (before s (onpath path p.stmts)) ≡ Made
-      → (so_far (along path p) arrays args s).child ≡ Some (thread (along path p) arrays args).next
+      → (so_far (along path p) world args s).child ≡ Some (thread (along path p) world.words args).next
   made_child s e =
       subst
-      (λ k. Calls k (so_far (along path p) arrays args s).child (so_far (along path p) arrays args s).guess (run_at (along path p) arrays args s).next) e
+      (λ k. Calls k (so_far (along path p) world args s).child (so_far (along path p) world args s).guess (run_at (along path p) world.words args s).next) e
       (calls_at s)
       ∙ ap Some (sym (rest_next s e))
 
   guessed_child : (s : ℕ) → making_all Unmade (before s (onpath path p.stmts)) ≡ Guessed
-      → (so_far (along path p) arrays args s).child ≡ Some (so_far (along path p) arrays args s).guess
+      → (so_far (along path p) world args s).child ≡ Some (so_far (along path p) world args s).guess
   guessed_child s e =
       subst
-      (λ k. Calls k (so_far (along path p) arrays args s).child (so_far (along path p) arrays args s).guess (run_at (along path p) arrays args s).next) e
+      (λ k. Calls k (so_far (along path p) world args s).child (so_far (along path p) world args s).guess (run_at (along path p) world.words args s).next) e
       (calls_at s)
 
-  unmade_child : (s : ℕ) → making_all Unmade (before s (onpath path p.stmts)) ≡ Unmade → (so_far (along path p) arrays args s).child ≡ None
+  unmade_child : (s : ℕ) → making_all Unmade (before s (onpath path p.stmts)) ≡ Unmade → (so_far (along path p) world args s).child ≡ None
   unmade_child s e =
       subst
-      (λ k. Calls k (so_far (along path p) arrays args s).child (so_far (along path p) arrays args s).guess (run_at (along path p) arrays args s).next) e
+      (λ k. Calls k (so_far (along path p) world args s).child (so_far (along path p) world args s).guess (run_at (along path p) world.words args s).next) e
       (calls_at s)
 
   -- at the end of the pipe a thread has made a successor with the arguments which the sequential run gives it
-  pub child_in_end : (so_far (along path p) arrays args (length p.stages)).child ≡ Some (thread (along path p) arrays args).next
+  pub child_in_end : (so_far (along path p) world args (length p.stages)).child ≡ Some (thread (along path p) world.words args).next
   child_in_end = made_child (length p.stages) (ap (making_all Unmade) (acc.paths path).whole ∙ made_is _ (acc.made path))
 
   -- where a guess is open before a stage, the verifies stand in that stage or a later one
@@ -143,28 +143,28 @@ module _ (p : Pipe) (acc : Pathwise p) (path : List ℕ) (arrays : Arrays) (args
               unchecked_from v Unmade (onpath path p.stmts) s low (subst (λ o. makings_ok o Unmade (onpath path p.stmts) ≡ true) i (acc.makings path)) in
               let ok = subst (λ k. makings_ok (verify_stage p.stmts) k (stages_from s (onpath path p.stmts)) ≡ true) e (makings_from s) in
               apart
-              (sym (settled (alone arrays) (verify_stage p.stmts) Guessed (stages_from s (onpath path p.stmts)) (start_work p args) refl ok none).1
+              (sym (settled (alone world) (verify_stage p.stmts) Guessed (stages_from s (onpath path p.stmts)) (start_work p args) refl ok none).1
               ∙ ap (λ k. making_all k (stages_from s (onpath path p.stmts))) (sym e) ∙ at_last s)
             where
               apart : Guessed ≡ Made → ⊥
               apart k = cc
 
   -- a stage of a thread that has made one makes nothing, or replaces it
-  pub made_changes : (o : Around) (s : ℕ) (x : List ℕ) → (so_far (along path p) arrays args s).child ≡ Some x → Changed (work_of_stage (along path p) o (thread_at (along path p) arrays args s))
+  pub made_changes : (o : Around) (s : ℕ) (x : List ℕ) → (so_far (along path p) world args s).child ≡ Some x → Changed (work_of_stage (along path p) o (thread_at (along path p) world args s))
   made_changes o s x h =
       by_making (making_all Unmade (before s (onpath path p.stmts))) _
       (λ k. absurd (not_some (sym (unmade_child s k) ∙ h)))
       (λ k. here Guessed k refl)
       (λ k. here Made k refl)
     where
-      here : (k : Making) → making_all Unmade (before s (onpath path p.stmts)) ≡ k → is_unmade k ≡ false → Changed (work_of_stage (along path p) o (thread_at (along path p) arrays args s))
+      here : (k : Making) → making_all Unmade (before s (onpath path p.stmts)) ≡ k → is_unmade k ≡ false → Changed (work_of_stage (along path p) o (thread_at (along path p) world args s))
       here k i u =
           (changed_all o (verify_stage p.stmts) k (in_stage s (onpath path p.stmts))
-          (reset (so_far (along path p) arrays args s)) u
+          (reset (so_far (along path p) world args s)) u
           (subst (λ j. makings_ok (verify_stage p.stmts) j (in_stage s (onpath path p.stmts)) ≡ true) i (makings_stage s)) (inl (refl, refl))).0
 
   -- only a thread whose guess isn't verified yet replaces it before a stage, the stage makes none and fails no verify
-  pub change_guessed : (o : Around) (s : ℕ) (x : List ℕ) → (so_far (along path p) arrays args s).child ≡ Some x → (work_of_stage (along path p) o (thread_at (along path p) arrays args s)).fails ≡ true → making_all Unmade (before s (onpath path p.stmts)) ≡ Guessed
+  pub change_guessed : (o : Around) (s : ℕ) (x : List ℕ) → (so_far (along path p) world args s).child ≡ Some x → (work_of_stage (along path p) o (thread_at (along path p) world args s)).fails ≡ true → making_all Unmade (before s (onpath path p.stmts)) ≡ Guessed
   change_guessed o s x h f =
       by_making (making_all Unmade (before s (onpath path p.stmts))) _
       (λ k. absurd (not_some (sym (unmade_child s k) ∙ h)))
@@ -172,11 +172,11 @@ module _ (p : Pipe) (acc : Pathwise p) (path : List ℕ) (arrays : Arrays) (args
       (λ k.
       let ok = subst (λ j. makings_ok (verify_stage p.stmts) j (in_stage s (onpath path p.stmts)) ≡ true) k (makings_stage s) in
       absurd (clash (sym (unfailed o (in_stage s (onpath path p.stmts))
-      (reset (so_far (along path p) arrays args s)) (unverified_made (verify_stage p.stmts) (in_stage s (onpath path p.stmts)) ok )) ∙ f)))
+      (reset (so_far (along path p) world args s)) (unverified_made (verify_stage p.stmts) (in_stage s (onpath path p.stmts)) ok)) ∙ f)))
 
   -- a wrong guess is not verified yet
-  pub wrong_made : (s : ℕ) (x : List ℕ) → (so_far (along path p) arrays args s).child ≡ Some x
-      → same_args x (thread (along path p) arrays args).next ≡ false
+  pub wrong_made : (s : ℕ) (x : List ℕ) → (so_far (along path p) world args s).child ≡ Some x
+      → same_args x (thread (along path p) world.words args).next ≡ false
       → making_all Unmade (before s (onpath path p.stmts)) ≡ Guessed
   wrong_made s x e h =
       by_making (making_all Unmade (before s (onpath path p.stmts))) _
@@ -184,5 +184,5 @@ module _ (p : Pipe) (acc : Pathwise p) (path : List ℕ) (arrays : Arrays) (args
       (λ k. k)
       (λ k. absurd
       (clash
-      (sym h ∙ ap (λ y. same_args y (thread (along path p) arrays args).next) (same_some (sym e ∙ made_child s k))
-      ∙ same_args_refl (thread (along path p) arrays args).next)))
+      (sym h ∙ ap (λ y. same_args y (thread (along path p) world.words args).next) (same_some (sym e ∙ made_child s k))
+      ∙ same_args_refl (thread (along path p) world.words args).next)))

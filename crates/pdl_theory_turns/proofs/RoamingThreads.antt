@@ -95,16 +95,16 @@ not_asked x (q ∷ qs) h = ap₂ (λ a b. a || b) (not-true (q.var == x) h.0) (n
 
 module _ (p : Pipe) (acc : Sound p) where
   -- a new thread is on its path and has made no successor
-  pub fresh_roams : (args : List ℕ) → Roams p (fresh p args) × (has_made p (fresh p args) ≡ false)
-  fresh_roams args = (
+  pub fresh_roams : (g args : List ℕ) → Roams p (fresh p g args) × (has_made p (fresh p g args) ≡ false)
+  fresh_roams g args = (
     record {
       covers = λ m a h. absurd (cc h);
-      barred = ap (λ l. some_barrier false (onpath (fresh p args).env l)) none;
-      blind = λ env' f. ap (onpath env') none ∙ sym (ap (onpath (fresh p args).env) none);
-      on = ap (comes_by p (fresh p args).env) acc.graph.trunk_start;
+      barred = ap (λ l. some_barrier false (onpath (fresh p g args).env l)) none;
+      blind = λ env' f. ap (onpath env') none ∙ sym (ap (onpath (fresh p g args).env) none);
+      on = ap (comes_by p (fresh p g args).env) acc.graph.trunk_start;
       aside = tt;
     },
-    ap (λ l. not (is_unmade (making_all Unmade (onpath (fresh p args).env l)))) none,
+    ap (λ l. not (is_unmade (making_all Unmade (onpath (fresh p g args).env l)))) none,
   )
     where
       none : before 0 p.stmts ≡ []
@@ -207,7 +207,7 @@ module _ (p : Pipe) (acc : Sound p) where
     ok_here =
         sym (ok_looked (verify_stage p.stmts) _ (onpath (work_of_stage p o t).env (in_stage t.stage p.stmts)))
         ∙ (λ i. makings_ok (sym vis i) (making_all Unmade (sym (before_on t.stage) i)) (sym stage_on i))
-        ∙ Makes.makings_stage (at_once p) acc.pathwise (work_of_stage p o t).env (λ m a. 0) [] t.stage
+        ∙ Makes.makings_stage (at_once p) acc.pathwise (work_of_stage p o t).env (record { words = λ m a. 0; guess = [] }) [] t.stage
 
     -- what it makes
     makes_one : (has_made p t ≡ true → Changed (work_of_stage p o t))
@@ -330,9 +330,9 @@ module _ (p : Pipe) (acc : Sound p) where
         → stands_at (verify_stage p.stmts) t.stage ≡ false
         → Barred o (onpath (work_of_stage p o t).env (in_stage t.stage p.stmts)) → (work_of_stage p o t).ready ≡ true
         → ((work_of_stage p o t).commits ≡ [])
-        × Roams p (onward (next_of p t.stage (work_of_stage p o t).env) (work_of_stage p o t))
+        × Roams p (onward (next_of p t.stage (work_of_stage p o t).env) t.hint (work_of_stage p o t))
         × (has_made p t ≡ true → Changed (work_of_stage p o t))
-        × (has_made p (onward (next_of p t.stage (work_of_stage p o t).env) (work_of_stage p o t)) ≡ (has_made p t || is_some (work_of_stage p o t).child))
+        × (has_made p (onward (next_of p t.stage (work_of_stage p o t).env) t.hint (work_of_stage p o t)) ≡ (has_made p t || is_some (work_of_stage p o t).child))
     roam_step st inside low apart clear ready =
         let on_path : visits_stage p (work_of_stage p o t).env t.stage ≡ true = on_now st.on in
         let skip : onpath (work_of_stage p o t).env (before (next_of p t.stage (work_of_stage p o t).env) p.stmts)

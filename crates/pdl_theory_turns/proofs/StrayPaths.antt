@@ -1,6 +1,6 @@
 -- A thread after a wrong guess in the whole language: it keeps to one path, whatever answers come, has passed no barrier, and so releases nothing.
 use Rattle.std.proofs.Common.{◌≡◌, refl, sym, ap, ap₂, ◌∙◌, subst, ℕ, ◌≤◌, ◌<◌, ◌⊎◌, inl, inr, Bool, true, false, ◌&&◌, ◌||◌, not, List, [], ◌∷◌, ◌++◌, Option, Some, None, ◌==◌, nat_lt, cond, if◌then◌else◌, slice_index, slice_set, append-nil, nat_le, arith, leb-false, ltb-true}
-use Rattle.pdl_semantics.specs.Flat.{Op, Guard, DelayedRead, Release, SpecBarrier, Verify, Stmt, Pipe, Branch, Next, Ends, Goes, Forks, values_of}
+use Rattle.pdl_semantics.specs.Flat.{Op, Guard, DelayedRead, Release, SpecBarrier, AdviceBind, AdviceRead, AdviceWrite, Verify, Stmt, Pipe, Branch, Next, Ends, Goes, Forks, values_of}
 use Rattle.pdl_semantics.specs.Stages.{in_stage, stage_at, is_verify, verify_stage}
 use Rattle.pdl_semantics.specs.Machine.{Ask, Awaited, is_answered, same_args}
 use Rattle.pdl_semantics.specs.Cycle.{awaited_of}

@@ -9,7 +9,7 @@ use Rattle.pdl_semantics.specs.Stages.{in_stage, is_release, is_reserve}
 use Rattle.pdl_semantics.specs.Machine.{same_args}
 use Rattle.pdl_semantics.specs.Sequential.{Run, run_after}
 use Rattle.pdl_theory_derived.specs.Derived.{ Work, Around, work_after, do_all, released_commits}
-use Rattle.pdl_theory_derived.specs.Alone.{alone, before, answered_op, is_among, is_oldest, drop_var, but_last}
+use Rattle.pdl_theory_derived.specs.Alone.{World, alone, before, answered_op, is_among, is_oldest, drop_var, but_last}
 use Rattle.pdl_theory_derived.proofs.Writes.{and_left, and_right, of_mem_append}
 use Rattle.pdl_theory_derived.proofs.Entries.{ released_other, write_of, places}
 use Rattle.pdl_theory_derived.proofs.Slots.{rev}
@@ -135,14 +135,14 @@ spots_set ph env ws x v h =
 -- they stay over what doesn't reserve m
 
 -- a statement that the phases allow and that is no reserve leaves the addresses written to memory m as they are
-pub spots_op : (arrays : Arrays) (m : ℕ) (ph : ℕ → Phase) (op : Op) (w : Work) (r : Run)
-    → not (is_reserve m op) ≡ true → Ok ph op → Related arrays ph w r
-    → spots (next_phase m (ph m) op) (work_after (alone arrays) op w).env (of_mem m (run_after op r).writes)
+pub spots_op : (world : World) (m : ℕ) (ph : ℕ → Phase) (op : Op) (w : Work) (r : Run)
+    → not (is_reserve m op) ≡ true → Ok ph op → Related world ph w r
+    → spots (next_phase m (ph m) op) (work_after (alone world) op w).env (of_mem m (run_after op r).writes)
     ≡ spots (ph m) w.env (of_mem m r.writes)
-spots_op arrays m ph (Bind x e) w r h ok rel = spots_set (ph m) w.env (of_mem m r.writes) x _ (ok m)
-spots_op arrays m ph (CombRead x n a) w r h ok rel = spots_set (ph m) w.env (of_mem m r.writes) x _ (and_left (not (is_among x (ph m).unwritten)) _ (ok m))
-spots_op arrays m ph (DelayedRead x n a) w r h ok rel = absurd (cc (ok 0))
-spots_op arrays m ph (Write n a e) w r h ok rel = at (n == m) refl (ok m)
+spots_op world m ph (Bind x e) w r h ok rel = spots_set (ph m) w.env (of_mem m r.writes) x _ (ok m)
+spots_op world m ph (CombRead x n a) w r h ok rel = spots_set (ph m) w.env (of_mem m r.writes) x _ (and_left (not (is_among x (ph m).unwritten)) _ (ok m))
+spots_op world m ph (DelayedRead x n a) w r h ok rel = absurd (cc (ok 0))
+spots_op world m ph (Write n a e) w r h ok rel = at (n == m) refl (ok m)
   where
     at : (b : Bool) → (n == m) ≡ b
         → (not b || may_write (ph m) a) ≡ true
@@ -154,19 +154,19 @@ spots_op arrays m ph (Write n a e) w r h ok rel = at (n == m) refl (ok m)
         ∙ append_assoc (places (of_mem m r.writes)) (slice_index r.env a ∷ []) (rev (addresses_at w.env (but_last (ph m).unwritten)))
         ∙ ap (λ l. places (of_mem m r.writes) ++ l) (ap (λ v. slice_index v a ∷ rev (addresses_at w.env (but_last (ph m).unwritten))) (sym rel.env) ∙ sym (oldest_first w.env (ph m).unwritten a k))
     at false f k = ap (λ l. places l ++ rev (addresses_at w.env (ph m).unwritten)) (of_mem_append m r.writes _ ∙ ap (λ b. of_mem m r.writes ++ cond b (write_of n (slice_index r.env a) (value_of e r.env) ∷ []) []) f ∙ append-nil (of_mem m r.writes))
-spots_op arrays m ph (ReserveWrite n a) w r h ok rel = at (n == m) h
+spots_op world m ph (ReserveWrite n a) w r h ok rel = at (n == m) h
   where
     at : (b : Bool) → not b ≡ true → spots (cond b (after_reserve (ph m) a) (ph m)) w.env (of_mem m r.writes) ≡ spots (ph m) w.env (of_mem m r.writes)
     at true k = absurd (cc k)
     at false k = refl
-spots_op arrays m ph (Release n a) w r h ok rel = at (n == m) (is_among a (ph m).full)
+spots_op world m ph (Release n a) w r h ok rel = at (n == m) (is_among a (ph m).full)
   where
     at : (b c : Bool) → spots (cond b (cond c (record { unwritten = (ph m).unwritten; full = drop_var a (ph m).full; gone = a ∷ (ph m).gone }) (ph m)) (ph m)) w.env (of_mem m r.writes)
         ≡ spots (ph m) w.env (of_mem m r.writes)
     at true true = refl
     at true false = refl
     at false c = refl
-spots_op arrays m ph (Verify true args) w r h ok rel = at (same_args (values_of args w.env) w.guess)
+spots_op world m ph (Verify true args) w r h ok rel = at (same_args (values_of args w.env) w.guess)
   where
     at : (b : Bool)
         → spots (ph m) (cond b w (record w { child = Some (values_of args w.env); guess = values_of args w.env; fails = true })).env
@@ -174,7 +174,7 @@ spots_op arrays m ph (Verify true args) w r h ok rel = at (same_args (values_of 
         ≡ spots (ph m) w.env (of_mem m r.writes)
     at true = refl
     at false = refl
-spots_op arrays m ph (Verify false args) w r h ok rel = at (same_args (values_of args w.env) w.guess)
+spots_op world m ph (Verify false args) w r h ok rel = at (same_args (values_of args w.env) w.guess)
   where
     at : (b : Bool)
         → spots (ph m) (cond b w (record w { child = Some (values_of args w.env); guess = values_of args w.env; fails = true })).env
@@ -182,4 +182,4 @@ spots_op arrays m ph (Verify false args) w r h ok rel = at (same_args (values_of
         ≡ spots (ph m) w.env (of_mem m r.writes)
     at true = refl
     at false = refl
-spots_op arrays m ph _ w r h ok rel = refl
+spots_op world m ph _ w r h ok rel = refl

@@ -6,7 +6,7 @@ use Rattle.pdl_semantics.specs.Stages.{in_stage, mem_at, commit_stage, reserve_s
 use Rattle.pdl_semantics.specs.Locks.{Latest, Coming, Known, as_latest}
 use Rattle.pdl_semantics.specs.Sequential.{Run, run_after, run_all, thread}
 use Rattle.pdl_theory_derived.specs.Derived.{Entry, work_of_stage, latest_in}
-use Rattle.pdl_theory_derived.specs.Alone.{alone, before, so_far, thread_at, undone}
+use Rattle.pdl_theory_derived.specs.Alone.{World, alone, before, so_far, thread_at, undone}
 use Rattle.pdl_theory_derived.proofs.Writes.{and_left, and_right, of_mem_append}
 use Rattle.pdl_theory_derived.proofs.Entries.{entries_of, write_of, places, Open, Full, waiting, known, told, length_places}
 use Rattle.pdl_theory_derived.proofs.Slots.{rev}
@@ -24,9 +24,9 @@ known_count [] = 0
 known_count (e ∷ es) = if is_some e.value then suc (known_count es) else known_count es
 
 -- the undone writes of a turn in stage s
-abbrev pub marks : Pipe → Arrays → List ℕ → ℕ → ℕ → List Mark
-marks p arrays args s m =
-    if nat_lt (commit_stage p m) s then [] else marked (known_count (entries_of m (so_far p arrays args s).entries)) (of_mem m (thread p arrays args).writes)
+abbrev pub marks : Pipe → World → List ℕ → ℕ → ℕ → List Mark
+marks p world args s m =
+    if nat_lt (commit_stage p m) s then [] else marked (known_count (entries_of m (so_far p world args s).entries)) (of_mem m (thread p world.words args).writes)
 
 -- as many as are written and not released
 count_known : (m : ℕ) (os : List Open) (fs : List Full) → known_count (waiting m os ++ known m fs) ≡ length (told m fs)
@@ -131,65 +131,65 @@ later_split m c s b b' ws xs own e f g = at (nat_lt c s) refl (nat_lt c (suc s))
         apart : suc s ≤ c → s ≢ c
         apart u v = omega arith
 
-module _ (p : Pipe) (acc : Accepted p) (arrays : Arrays) (args : List ℕ) where
+module _ (p : Pipe) (acc : Accepted p) (world : World) (args : List ℕ) where
   -- what stage s has written is written first
-  pub writes_first : (s m : ℕ) → (more : List Commit) × (of_mem m (thread p arrays args).writes ≡ of_mem m (run_at p arrays args s).writes ++ more)
+  pub writes_first : (s m : ℕ) → (more : List Commit) × (of_mem m (thread p world.words args).writes ≡ of_mem m (run_at p world.words args s).writes ++ more)
   writes_first s m =
-      let r = runs_more m (stages_from s p.stmts) (run_at p arrays args s) in (r.0, ap (λ (q : Run). of_mem m q.writes) (run_rest p acc arrays args s) ∙ r.1)
+      let r = runs_more m (stages_from s p.stmts) (run_at p world.words args s) in (r.0, ap (λ (q : Run). of_mem m q.writes) (run_rest p acc world args s) ∙ r.1)
 
   -- what stage s finds of m
-  pub tied_at : (s m : ℕ) → Tied m (phase_all m Fresh (before s p.stmts)) (so_far p arrays args s).env (entries_of m (so_far p arrays args s).entries) (of_mem m (so_far p arrays args s).commits) (of_mem m (run_at p arrays args s).writes)
-  tied_at s m = (related_at p acc arrays args s).tied m
+  pub tied_at : (s m : ℕ) → Tied m (phase_all m Fresh (before s p.stmts)) (so_far p world args s).env (entries_of m (so_far p world args s).entries) (of_mem m (so_far p world args s).commits) (of_mem m (run_at p world.words args s).writes)
+  tied_at s m = (related_at p acc world args s).tied m
 
   -- before the releases, all that has a value is written and the other way round
-  pub early_written : (s m : ℕ) → s ≤ commit_stage p m → of_mem m (run_at p arrays args s).writes ≡ told m (tied_at s m).fulls
-  early_written s m h = (tied_at s m).written ∙ ap (λ l. l ++ told m (tied_at s m).fulls) (commits_early p acc arrays args s m h)
+  pub early_written : (s m : ℕ) → s ≤ commit_stage p m → of_mem m (run_at p world.words args s).writes ≡ told m (tied_at s m).fulls
+  early_written s m h = (tied_at s m).written ∙ ap (λ l. l ++ told m (tied_at s m).fulls) (commits_early p acc world args s m h)
 
-  early_count : (s m : ℕ) → s ≤ commit_stage p m → known_count (entries_of m (so_far p arrays args s).entries) ≡ length (of_mem m (run_at p arrays args s).writes)
-  early_count s m h = ap known_count (tied_at s m).entries ∙ count_known m (opened (so_far p arrays args s).env (phase_all m Fresh (before s p.stmts)).unwritten)
+  early_count : (s m : ℕ) → s ≤ commit_stage p m → known_count (entries_of m (so_far p world args s).entries) ≡ length (of_mem m (run_at p world.words args s).writes)
+  early_count s m h = ap known_count (tied_at s m).entries ∙ count_known m (opened (so_far p world args s).env (phase_all m Fresh (before s p.stmts)).unwritten)
       (tied_at s m).fulls ∙ ap length (sym (early_written s m h))
 
   -- past the releases nothing is left
-  pub late_empty : (s m : ℕ) → commit_stage p m < s → reserve_stage p m < s → entries_of m (so_far p arrays args s).entries ≡ []
-  late_empty s m h r = (tied_at s m).entries ∙ ap₂ (λ os fs. waiting m (opened (so_far p arrays args s).env os) ++ known m fs) none.0 none.1
+  pub late_empty : (s m : ℕ) → commit_stage p m < s → reserve_stage p m < s → entries_of m (so_far p world args s).entries ≡ []
+  late_empty s m h r = (tied_at s m).entries ∙ ap₂ (λ os fs. waiting m (opened (so_far p world args s).env os) ++ known m fs) none.0 none.1
     where
       cs : List Commit
-      cs = of_mem m (so_far p arrays args s).commits
+      cs = of_mem m (so_far p world args s).commits
 
-      total : length (told m (tied_at s m).fulls) + length (rev (addresses_at (so_far p arrays args s).env (phase_all m Fresh (before s p.stmts)).unwritten)) ≡ 0
+      total : length (told m (tied_at s m).fulls) + length (rev (addresses_at (so_far p world args s).env (phase_all m Fresh (before s p.stmts)).unwritten)) ≡ 0
       total =
-          let all = all_places p acc arrays args s m r in
-          let ls : length (places (of_mem m (run_at p arrays args s).writes)) + length (rev (addresses_at (so_far p arrays args s).env (phase_all m Fresh (before s p.stmts)).unwritten)) ≡ length (places cs) = sym (length-append (places (of_mem m (run_at p arrays args s).writes)) _) ∙ ap length all ∙ ap (λ l. length (places l)) (sym (commits_late p acc arrays args s m h)) in
-          let ws : length (places (of_mem m (run_at p arrays args s).writes)) ≡ length (places cs) + length (told m (tied_at s m).fulls) = ap (λ l. length (places l)) (tied_at s m).written ∙ ap length (places_append cs (told m (tied_at s m).fulls)) ∙ length-append (places cs) _ ∙ ap (λ n. length (places cs) + n) (length_places (told m (tied_at s m).fulls)) in
+          let all = all_places p acc world args s m r in
+          let ls : length (places (of_mem m (run_at p world.words args s).writes)) + length (rev (addresses_at (so_far p world args s).env (phase_all m Fresh (before s p.stmts)).unwritten)) ≡ length (places cs) = sym (length-append (places (of_mem m (run_at p world.words args s).writes)) _) ∙ ap length all ∙ ap (λ l. length (places l)) (sym (commits_late p acc world args s m h)) in
+          let ws : length (places (of_mem m (run_at p world.words args s).writes)) ≡ length (places cs) + length (told m (tied_at s m).fulls) = ap (λ l. length (places l)) (tied_at s m).written ∙ ap length (places_append cs (told m (tied_at s m).fulls)) ∙ length-append (places cs) _ ∙ ap (λ n. length (places cs) + n) (length_places (told m (tied_at s m).fulls)) in
           omega arith
 
-      nothing : (xs : List ℕ) (fs : List Full) → length (told m fs) + length (rev (addresses_at (so_far p arrays args s).env xs)) ≡ 0 → (xs ≡ []) × (fs ≡ [])
+      nothing : (xs : List ℕ) (fs : List Full) → length (told m fs) + length (rev (addresses_at (so_far p world args s).env xs)) ≡ 0 → (xs ≡ []) × (fs ≡ [])
       nothing [] [] e = (refl, refl)
       nothing [] (f ∷ fs) e = absurd (let l : length (told m fs ++ write_of m f.address f.value ∷ []) ≡ length (told m fs) + 1 = length-append (told m fs) _ in omega arith)
-      nothing (x ∷ xs) fs e = absurd (let l : length (rev (addresses_at (so_far p arrays args s).env xs) ++ slice_index (so_far p arrays args s).env x ∷ []) ≡ length (rev (addresses_at (so_far p arrays args s).env xs)) + 1 = length-append (rev (addresses_at (so_far p arrays args s).env xs)) _ in omega arith)
+      nothing (x ∷ xs) fs e = absurd (let l : length (rev (addresses_at (so_far p world args s).env xs) ++ slice_index (so_far p world args s).env x ∷ []) ≡ length (rev (addresses_at (so_far p world args s).env xs)) + 1 = length-append (rev (addresses_at (so_far p world args s).env xs)) _ in omega arith)
 
       none : ((phase_all m Fresh (before s p.stmts)).unwritten ≡ []) × ((tied_at s m).fulls ≡ [])
       none = nothing _ _ total
 
   -- past the reserves of m the turn's pending writes say of an address what its undone writes say
   pub marks_seen : (s m a : ℕ) (rest : Latest) → reserve_stage p m < s
-      → latest_in (so_far p arrays args s).entries m a rest ≡ seen a (marks p arrays args s m) rest
-  marks_seen s m a rest h = latest_own (so_far p arrays args s).entries m a rest ∙ at (nat_lt (commit_stage p m) s) refl
+      → latest_in (so_far p world args s).entries m a rest ≡ seen a (marks p world args s m) rest
+  marks_seen s m a rest h = latest_own (so_far p world args s).entries m a rest ∙ at (nat_lt (commit_stage p m) s) refl
     where
       xs : List ℕ
       xs = (phase_all m Fresh (before s p.stmts)).unwritten
 
       ws : List Commit
-      ws = of_mem m (run_at p arrays args s).writes
+      ws = of_mem m (run_at p world.words args s).writes
 
       more : List Commit
       more = (writes_first s m).0
 
-      to_come : places more ≡ rev (addresses_at (so_far p arrays args s).env xs)
-      to_come = same_rest (places ws) _ _ (sym (places_append ws more) ∙ ap places (sym (writes_first s m).1) ∙ sym (all_places p acc arrays args s m h))
+      to_come : places more ≡ rev (addresses_at (so_far p world args s).env xs)
+      to_come = same_rest (places ws) _ _ (sym (places_append ws more) ∙ ap places (sym (writes_first s m).1) ∙ sym (all_places p acc world args s m h))
       at : (b : Bool) → nat_lt (commit_stage p m) s ≡ b
-          → latest_in (entries_of m (so_far p arrays args s).entries) m a rest
-          ≡ seen a (cond b [] (marked (known_count (entries_of m (so_far p arrays args s).entries)) (of_mem m (thread p arrays args).writes))) rest
+          → latest_in (entries_of m (so_far p world args s).entries) m a rest
+          ≡ seen a (cond b [] (marked (known_count (entries_of m (so_far p world args s).entries)) (of_mem m (thread p world.words args).writes))) rest
       at true e =
           ap (λ l. latest_in l m a rest)
           (late_empty s m (ltb-true _ _ e) h)
@@ -197,9 +197,9 @@ module _ (p : Pipe) (acc : Accepted p) (arrays : Arrays) (args : List ℕ) where
           let early : s ≤ commit_stage p m = ltb-false _ _ e in
           ap (λ l. latest_in l m a rest) (tied_at s m).entries
           ∙ latest_append (waiting m (opened
-          (so_far p arrays args s).env xs))
+          (so_far p world args s).env xs))
           (known m (tied_at s m).fulls) m a rest
-          ∙ latest_waiting m a (so_far p arrays args s).env xs _
+          ∙ latest_waiting m a (so_far p world args s).env xs _
           ∙ ap (λ l. coming a l (latest_in (known m (tied_at s m).fulls) m a rest)) (sym to_come)
           ∙ sym (seen_unknown a more _)
           ∙ ap (seen a (marked 0 more))
@@ -208,40 +208,40 @@ module _ (p : Pipe) (acc : Accepted p) (arrays : Arrays) (args : List ℕ) where
           ∙ ap₂ (λ n l. seen a (marked n l) rest) (sym (early_count s m early)) (sym (writes_first s m).1)
 
   -- the writes that the turn's marks stand for are those that it has not released
-  pub marks_strips : (s m : ℕ) → strips m (marks p arrays args s m) ≡ undone p arrays args s m
+  pub marks_strips : (s m : ℕ) → strips m (marks p world args s m) ≡ undone p world.words args s m
   marks_strips s m = at (nat_lt (commit_stage p m) s)
     where
       at : (b : Bool)
-          → strips m (cond b [] (marked (known_count (entries_of m (so_far p arrays args s).entries)) (of_mem m (thread p arrays args).writes)))
-          ≡ cond b [] (of_mem m (thread p arrays args).writes)
+          → strips m (cond b [] (marked (known_count (entries_of m (so_far p world args s).entries)) (of_mem m (thread p world.words args).writes)))
+          ≡ cond b [] (of_mem m (thread p world.words args).writes)
       at true = refl
-      at false = strips_marked m _ (thread p arrays args).writes
+      at false = strips_marked m _ (thread p world.words args).writes
 
   -- a stage commits the first of the turn's undone writes of m, and leaves the others with more of their values known
   pub marks_step : (s m : ℕ)
-      → Later m (marks p arrays args s m) (of_mem m (work_of_stage p (alone arrays) (thread_at p arrays args s)).commits) (marks p arrays args (suc s) m)
+      → Later m (marks p world args s m) (of_mem m (work_of_stage p (alone world) (thread_at p world args s)).commits) (marks p world args (suc s) m)
   marks_step s m =
-      later_split m (commit_stage p m) s (known_count (entries_of m (so_far p arrays args s).entries))
-      (known_count (entries_of m (so_far p arrays args (suc s)).entries)) (of_mem m (thread p arrays args).writes) _
-      (strips_marked m _ (thread p arrays args).writes) (undone_step p acc arrays args s m)
-      (quiet_at p acc arrays args (alone arrays) (thread_at p arrays args s) m) raise
+      later_split m (commit_stage p m) s (known_count (entries_of m (so_far p world args s).entries))
+      (known_count (entries_of m (so_far p world args (suc s)).entries)) (of_mem m (thread p world.words args).writes) _
+      (strips_marked m _ (thread p world.words args).writes) (undone_step p acc world args s m)
+      (quiet_at p acc world args (alone world) (thread_at p world args s) m) raise
     where
-      raise : suc s ≤ commit_stage p m → known_count (entries_of m (so_far p arrays args s).entries) ≤ known_count (entries_of m (so_far p arrays args (suc s)).entries)
+      raise : suc s ≤ commit_stage p m → known_count (entries_of m (so_far p world args s).entries) ≤ known_count (entries_of m (so_far p world args (suc s)).entries)
       raise h =
           let now = early_count s m (omega arith) in
           let next = early_count (suc s) m h in
-          let r = runs_more m (in_stage s p.stmts) (run_at p arrays args s) in
-          let grown : length (of_mem m (run_at p arrays args (suc s)).writes) ≡ length (of_mem m (run_at p arrays args s).writes) + length r.0 = ap (λ l. length (of_mem m (run_all l (start_run p arrays args)).writes)) (acc.pieces s) ∙ ap (λ (q : Run). length (of_mem m q.writes)) (run_append (before s p.stmts) (in_stage s p.stmts) (start_run p arrays args))
-          ∙ ap length r.1 ∙ length-append (of_mem m (run_at p arrays args s).writes) r.0 in
+          let r = runs_more m (in_stage s p.stmts) (run_at p world.words args s) in
+          let grown : length (of_mem m (run_at p world.words args (suc s)).writes) ≡ length (of_mem m (run_at p world.words args s).writes) + length r.0 = ap (λ l. length (of_mem m (run_all l (start_run p world.words args)).writes)) (acc.pieces s) ∙ ap (λ (q : Run). length (of_mem m q.writes)) (run_append (before s p.stmts) (in_stage s p.stmts) (start_run p world.words args))
+          ∙ ap length r.1 ∙ length-append (of_mem m (run_at p world.words args s).writes) r.0 in
           omega arith
 
   -- a memory without lock has no marks, and neither has one past its releases
 
   -- a memory without lock has no marks
-  pub marks_plain : (s m : ℕ) → is_plain (mem_at p m).lock ≡ true → marks p arrays args s m ≡ []
+  pub marks_plain : (s m : ℕ) → is_plain (mem_at p m).lock ≡ true → marks p world args s m ≡ []
   marks_plain s m h =
-      ap (λ l. cond (nat_lt (commit_stage p m) s) [] (marked (known_count (entries_of m (so_far p arrays args s).entries)) l))
-      (plain_writes p acc arrays args m h)
+      ap (λ l. cond (nat_lt (commit_stage p m) s) [] (marked (known_count (entries_of m (so_far p world args s).entries)) l))
+      (plain_writes p acc world args m h)
       ∙ none (nat_lt (commit_stage p m) s)
     where
       none : (b : Bool) → cond {A = List Mark} b [] [] ≡ []
@@ -249,10 +249,10 @@ module _ (p : Pipe) (acc : Accepted p) (arrays : Arrays) (args : List ℕ) where
       none false = refl
 
   -- past the stage of m's releases the turn has no undone writes of m
-  pub marks_late : (s m : ℕ) → commit_stage p m < s → marks p arrays args s m ≡ []
+  pub marks_late : (s m : ℕ) → commit_stage p m < s → marks p world args s m ≡ []
   marks_late s m h =
-      ap (λ b. cond b [] (marked (known_count (entries_of m (so_far p arrays args s).entries)) (of_mem m (thread p arrays args).writes))) (lt-ltb _ _ h)
+      ap (λ b. cond b [] (marked (known_count (entries_of m (so_far p world args s).entries)) (of_mem m (thread p world.words args).writes))) (lt-ltb _ _ h)
 
   -- at the end of the pipe the turn has no undone writes
-  pub marks_end : (m : ℕ) → marks p arrays args (length p.stages) m ≡ []
-  marks_end m = no_strips m _ (marks_strips (length p.stages) m ∙ undone_in_end p acc arrays args m)
+  pub marks_end : (m : ℕ) → marks p world args (length p.stages) m ≡ []
+  marks_end m = no_strips m _ (marks_strips (length p.stages) m ∙ undone_in_end p acc world args m)
