@@ -488,7 +488,7 @@ module _ (p : Pipe) (acc : Course p) (image : Arrays) (st : State) (bits : List 
         (acts p st bits (act p st bits older (seat p (with_guess arrays sp.hint) args sp) ∷ older) strays) =
         stray_rest p acc (st.hints 0) st bits (with_guess arrays sp.hint) args older sp.stage (next_at p (with_guess arrays sp.hint) args sp.stage)
         (act p st bits older (seat p (with_guess arrays sp.hint) args sp)) strays _ refl h.linked l (le_of_lt up) refl (λ _. up) in
-        last_moves p acc (st.hints 0) (next_asks p bits all 0 st.asked) past' w v' (with_guess arrays sp.hint) args ahead ahead' sp.stage (act p st bits older (seat p world args sp)) (acts p st bits (act p st bits older (seat p (with_guess arrays sp.hint) args sp) ∷ older) strays)
+        last_moves p acc (st.hints 0) (next_asks p bits all 0 st.asked) past' w v' (with_guess arrays sp.hint) args ahead ahead' sp.stage (act p st bits older (seat p (with_guess arrays sp.hint) args sp)) (acts p st bits (act p st bits older (seat p (with_guess arrays sp.hint) args sp) ∷ older) strays)
         (moving strays true h total now nowa goes after.commits after.ended)
         strays (λ k. ap (λ ts. acts p st bits (act p st bits older (seat p (with_guess arrays sp.hint) args sp) ∷ older) ts) k) after
         (so_far p (with_guess arrays sp.hint) args sp.stage).child refl h.linked l (stage_work p (with_guess arrays sp.hint) args sp.stage).child refl
