@@ -349,7 +349,7 @@ module _ (p : Pipe) (acc : Sound p) where
                   (suc (length p.stages) ∷ []) sp (is_nil sps) (rows_at p (course p acc) image n)
                   (behind_none p (course p acc)) h.0 f)
                   ∙ StageFacts.path_next p acc (with_guess (after_turns p image n).arrays sp.hint) (after_turns p image n).next sp.stage
-                  (on_visited p acc (after_turns p image n).arrays (after_turns p image n).next sp.stage h.0.on)
+                  (on_visited p acc (with_guess (after_turns p image n).arrays sp.hint) (after_turns p image n).next sp.stage h.0.on)
 
               leaving : exit_of p (act p st bits [] (seat p (with_guess (after_turns p image n).arrays sp.hint) (after_turns p image n).next sp))
                   ≡ cond (nat_lt (next_of p sp.stage (turn_path image n)) (length p.stages)) (Some (next_of p sp.stage (turn_path image n))) None
