@@ -7,7 +7,7 @@ use Rattle.pdl_semantics.specs.Locks.{has_room}
 use Rattle.pdl_semantics.specs.Sound.{all_below, stages_from, is_fetch}
 use Rattle.pdl_theory_derived.specs.Alone.{before}
 use Rattle.pdl_theory_facts.specs.Scans.{is_plain, none_of, all_at, reads_ok, no_scan, phases_ok, phase_all, Fresh, is_over, write_reserves, is_fixed}
-use Rattle.pdl_theory_facts.specs.GuessScans.{Unmade, makings_ok, making_all, is_made, all_sure}
+use Rattle.pdl_theory_facts.specs.GuessScans.{Unmade, makings_ok, making_all, is_made, checks_apart, all_sure}
 use Rattle.pdl_theory_facts.specs.Checks.{in_text_order, knows_memory, on_paths, guard_vars, mem_passes, path_passes, lock_passes, is_below, locks_pass, text_passes, paths_pass}
 use Rattle.pdl_theory_facts.specs.Accepted.{Accepted, Pathwise, along}
 use Rattle.pdl_theory_derived.proofs.Writes.{and_left, and_right}
@@ -133,7 +133,7 @@ module _ (p : Pipe) (h : Parts p) where
         && (list_all (λ x. knows_memory (length p.mems) x.op) xs
         && (reads_ok p no_scan xs
         && (all_below (mem_passes p xs) (length p.mems)
-        && (makings_ok (verify_stage p.stmts) Unmade xs && (is_made (making_all Unmade xs) && all_sure (verify_stage p.stmts) false no_scan xs))))))
+        && (makings_ok (verify_stage p.stmts) Unmade xs && (is_made (making_all Unmade xs) && (checks_apart None xs && all_sure (verify_stage p.stmts) false no_scan xs)))))))
         ≡ true
     after_order = and_right (in_text_order 0 xs) _ ok
 
@@ -141,7 +141,7 @@ module _ (p : Pipe) (h : Parts p) where
         (list_all (λ x. knows_memory (length p.mems) x.op) xs
         && (reads_ok p no_scan xs
         && (all_below (mem_passes p xs) (length p.mems)
-        && (makings_ok (verify_stage p.stmts) Unmade xs && (is_made (making_all Unmade xs) && all_sure (verify_stage p.stmts) false no_scan xs)))))
+        && (makings_ok (verify_stage p.stmts) Unmade xs && (is_made (making_all Unmade xs) && (checks_apart None xs && all_sure (verify_stage p.stmts) false no_scan xs))))))
         ≡ true
     after_stages = and_right (list_all (λ x. nat_lt x.stage (length p.stages)) xs) _ after_order
 
@@ -153,7 +153,7 @@ module _ (p : Pipe) (h : Parts p) where
 
     after_reads :
         (all_below (mem_passes p xs) (length p.mems)
-        && (makings_ok (verify_stage p.stmts) Unmade xs && (is_made (making_all Unmade xs) && all_sure (verify_stage p.stmts) false no_scan xs)))
+        && (makings_ok (verify_stage p.stmts) Unmade xs && (is_made (making_all Unmade xs) && (checks_apart None xs && all_sure (verify_stage p.stmts) false no_scan xs))))
         ≡ true
     after_reads = and_right (reads_ok p no_scan xs) _ (and_right (list_all (λ x. knows_memory (length p.mems) x.op) xs) _ after_stages)
 
@@ -212,7 +212,7 @@ module _ (p : Pipe) (h : Parts p) where
         (and_right (all_at (is_release m) (commit_stage p m) xs) _ (and_right (all_at (is_reserve m) (reserve_stage p m) xs) _ (mem_rest m low))) e)
         (λ past. no_release m _ (onpath path p.stmts) path_known past)
 
-    after_mems : (makings_ok (verify_stage p.stmts) Unmade xs && (is_made (making_all Unmade xs) && all_sure (verify_stage p.stmts) false no_scan xs)) ≡ true
+    after_mems : (makings_ok (verify_stage p.stmts) Unmade xs && (is_made (making_all Unmade xs) && (checks_apart None xs && all_sure (verify_stage p.stmts) false no_scan xs))) ≡ true
     after_mems = and_right (all_below (mem_passes p xs) (length p.mems)) _ after_reads
 
     -- a path makes the next thread in order: by one call, or by one guess and its verify
@@ -225,7 +225,11 @@ module _ (p : Pipe) (h : Parts p) where
 
     -- each release on a path is certain: after a barrier, in V or later, or of what was not reserved for writing
     pub path_sure : all_sure (verify_stage p.stmts) false no_scan (onpath path p.stmts) ≡ true
-    path_sure = and_right (is_made (making_all Unmade xs)) _ (and_right (makings_ok (verify_stage p.stmts) Unmade xs) _ after_mems)
+    path_sure = and_right (checks_apart None xs) _ (and_right (is_made (making_all Unmade xs)) _ (and_right (makings_ok (verify_stage p.stmts) Unmade xs) _ after_mems))
+
+    -- a check on a path stands in another stage than the guess
+    pub path_apart : checks_apart None (onpath path p.stmts) ≡ true
+    path_apart = and_left _ _ (and_right (is_made (making_all Unmade xs)) _ (and_right (makings_ok (verify_stage p.stmts) Unmade xs) _ after_mems))
 
     -- the statements of a path, as a pipe of their own, have the facts of an accepted pipe
     pub accepted : Accepted (along path p)
@@ -264,6 +268,7 @@ module _ (p : Pipe) (h : Parts p) where
         verify_inside = verify_low;
         paths = accepted;
         makings = path_makings;
+        apart = path_apart;
         made = path_made;
         sure = path_sure;
       }

@@ -88,6 +88,22 @@ abbrev pub makings_ok : Option ℕ → Making → List Stmt → Bool
 makings_ok v k [] = true
 makings_ok v k (x ∷ xs) = making_ok v k x.stage x.op && makings_ok v (next_making k x.op) xs
 
+-- S3, S6: a verify or an update stands in another stage than the guess that it asks about
+
+-- the stage of the last guess
+abbrev pub guess_stage : Option ℕ → ℕ → Op → Option ℕ
+guess_stage g s (SpecCall args) = Some s
+guess_stage g s _ = g
+
+abbrev pub check_apart : Option ℕ → ℕ → Op → Bool
+check_apart g s (Verify last args) = not (stands_at g s)
+check_apart g s _ = true
+
+-- each check among these statements does, where g is the stage of the last guess before them
+abbrev pub checks_apart : Option ℕ → List Stmt → Bool
+checks_apart g [] = true
+checks_apart g (x ∷ xs) = check_apart g x.stage x.op && checks_apart (guess_stage g x.stage x.op) xs
+
 -- CERTAINTY
 
 -- S4: after a barrier, or in V and later, anything is released; else only what was not reserved for writing

@@ -2,7 +2,7 @@
 use Rattle.std.proofs.Common.{◌≡◌, refl, sym, ap, ap₂, ◌∙◌, subst, ℕ, ◌≤◌, ◌<◌, ◌⊎◌, inl, inr, Bool, true, false, ◌&&◌, ◌||◌, not, List, [], ◌∷◌, ◌++◌, length, Option, Some, None, is_none, is_some, ◌==◌, cond, if◌then◌else◌, arith, slice_set, eq-eqb}
 use Rattle.std.proofs.lemmas.Bool.{eqb-true, eqb-false, ne_eqb, not-true}
 use Rattle.pdl_semantics.specs.Flat.{Array, Pipe, is_advisory, Op, DelayedRead, CombRead, ReserveWrite, Block, Stmt, list_all, word_at}
-use Rattle.pdl_semantics.specs.Stages.{list_any, onpath, in_stage, mem_at, stage_at, goes_to, is_verify, is_reserve, reserve_stage, commit_stage}
+use Rattle.pdl_semantics.specs.Stages.{list_any, onpath, in_stage, mem_at, stage_at, goes_to, is_check, is_reserve, reserve_stage, commit_stage}
 use Rattle.pdl_semantics.specs.Locks.{Latest, has_room}
 use Rattle.pdl_semantics.specs.Machine.{Ask, Reserved, reserves_of, Awaited, Kept, is_answered, Request, NoRequest, Owned, Orphan, State, Deeds, lock_of, request_of, older_write, word_for, held_before, with_kept, unanswered_reads, answer_to, answer_for, kept_answer, with_answers, deeds_after_all}
 use Rattle.pdl_semantics.specs.Moves.{block_ready, is_free, next_stage}
@@ -375,9 +375,7 @@ module _ (p : Pipe) (flows : Flows p) (st : State) (d : Derived.State) (bits : L
     fails = false;
   }
 
-  pub
-
-  deeds_are : (ls : List Live) (l : Live) (k : Known ls l)
+  pub deeds_are : (ls : List Live) (l : Live) (k : Known ls l)
       → deeds_of p st bits l
       ≡ deeds_after_all (word_for st l.number) (in_stage l.thread.stage p.stmts) (start_deeds p flows l.env (now_of p d bits l) (keeps_now l k.seated) l.advice)
   deeds_are ls l k = λ i. deeds_after_all (word_for st l.number) (in_stage l.thread.stage p.stmts) (begun l (k.values i))
@@ -444,7 +442,7 @@ module _ (p : Pipe) (flows : Flows p) (st : State) (d : Derived.State) (bits : L
   pub fails_here : (ls : List Live) (l : Live) → Known ls l → (deeds_of p st bits l).fails ≡ (work_of_live p d bits ls l).fails
   fails_here ls l k = at (flows.guess_apart (work_of_live p d bits ls l).env l.thread.stage)
     where
-      at : (none_of is_guess (onpath (work_of_live p d bits ls l).env (in_stage l.thread.stage p.stmts)) ≡ true) ⊎ (none_of is_verify (onpath (work_of_live p d bits ls l).env (in_stage l.thread.stage p.stmts)) ≡ true)
+      at : (none_of is_guess (onpath (work_of_live p d bits ls l).env (in_stage l.thread.stage p.stmts)) ≡ true) ⊎ (none_of is_check (onpath (work_of_live p d bits ls l).env (in_stage l.thread.stage p.stmts)) ≡ true)
           → (deeds_of p st bits l).fails ≡ (work_of_live p d bits ls l).fails
       at (inl h) = ap (λ (w : Work). w.fails) (sym (told_here ls l k (none_foreseen ls l k h)).is)
       at (inr h) =

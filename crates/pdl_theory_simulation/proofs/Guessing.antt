@@ -1,7 +1,7 @@
 -- What a stage guesses, and whether it fails a verify: where its path makes no guess, and where what it guesses in the end is what the surroundings give.
 use Rattle.std.proofs.Common.{◌≡◌, refl, sym, ap, ap₂, ◌∙◌, subst, ℕ, Bool, true, false, ◌&&◌, ◌||◌, not, List, [], ◌∷◌, cond, if◌then◌else◌, Some}
 use Rattle.pdl_semantics.specs.Flat.{Op, Call, SpecCall, Verify, Stmt, values_of, all_hold}
-use Rattle.pdl_semantics.specs.Stages.{onpath, is_verify}
+use Rattle.pdl_semantics.specs.Stages.{onpath, is_check}
 use Rattle.pdl_semantics.specs.Machine.{Ask, same_args, all_values, Blocked, Deeds, deeds_after_all}
 use Rattle.pdl_semantics.specs.Machine
 use Rattle.pdl_semantics.specs.Sound.{is_call}
@@ -101,23 +101,23 @@ module _ (o : Around) (read : ℕ → ℕ → ℕ) (block : Blocked → Bool) (f
       at false false e h q go g = ((λ i. absurd (cc i)), go been d w l q h g)
 
   -- a path without verify fails none
-  same_fails : (op : Op) (d : Deeds) (w : Work) → not (is_verify op) ≡ true → ((Machine.deeds_after read op d).fails ≡ d.fails) × ((work_after o op w).fails ≡ w.fails)
+  same_fails : (op : Op) (d : Deeds) (w : Work) → not (is_check op) ≡ true → ((Machine.deeds_after read op d).fails ≡ d.fails) × ((work_after o op w).fails ≡ w.fails)
   same_fails (Verify last args) d w h = absurd (cc h)
   same_fails _ d w h = (refl, refl)
 
   pub no_failure : (path : List ℕ) (xs : List Stmt) (d : Deeds) (w : Work) → Loosely o read block free d w → AllFit o read block free xs → Fixed path o xs w
-      → none_of is_verify (onpath path xs) ≡ true → ((deeds_after_all read xs d).fails ≡ d.fails) × ((do_all o xs w).fails ≡ w.fails)
+      → none_of is_check (onpath path xs) ≡ true → ((deeds_after_all read xs d).fails ≡ d.fails) × ((do_all o xs w).fails ≡ w.fails)
   no_failure path [] d w l f q h = (refl, refl)
   no_failure path (x ∷ xs) d w l f q h =
       subst (λ b. ((deeds_after_all read xs (then_done b x.op d)).fails ≡ d.fails) × ((do_all o (x ∷ xs) w).fails ≡ w.fails)) (ap (λ (v : Work). all_hold x.guards v.env) l.is)
       (at (all_hold x.guards w.env) (all_hold x.guards path) q.0 h q.1 (λ d' w' l' q' h'. no_failure path xs d' w' l' f.1 q' h'))
     where
-      at : (b c : Bool) → b ≡ c → none_of is_verify (cond c (record x { guards = [] } ∷ onpath path xs) (onpath path xs)) ≡ true → Fixed path o xs (cond b (work_after o x.op w) w)
-          → ((d' : Deeds) (w' : Work) → Loosely o read block free d' w' → Fixed path o xs w' → none_of is_verify (onpath path xs) ≡ true → ((deeds_after_all read xs d').fails ≡ d'.fails) × ((do_all o xs w').fails ≡ w'.fails))
+      at : (b c : Bool) → b ≡ c → none_of is_check (cond c (record x { guards = [] } ∷ onpath path xs) (onpath path xs)) ≡ true → Fixed path o xs (cond b (work_after o x.op w) w)
+          → ((d' : Deeds) (w' : Work) → Loosely o read block free d' w' → Fixed path o xs w' → none_of is_check (onpath path xs) ≡ true → ((deeds_after_all read xs d').fails ≡ d'.fails) × ((do_all o xs w').fails ≡ w'.fails))
           → ((deeds_after_all read xs (then_done b x.op d)).fails ≡ d.fails) × ((do_all o xs (cond b (work_after o x.op w) w)).fails ≡ w.fails)
       at true true e h q go =
           let s = same_fails x.op d w (and_left _ _ h) in
-          let r = go (Machine.deeds_after read x.op d) (work_after o x.op w) (loose_step o read block free true x.op d w f.0 l) q (and_right (not (is_verify x.op)) _ h) in
+          let r = go (Machine.deeds_after read x.op d) (work_after o x.op w) (loose_step o read block free true x.op d w f.0 l) q (and_right (not (is_check x.op)) _ h) in
           (r.0 ∙ s.0, r.1 ∙ s.1)
       at true false e h q go = absurd (cc e)
       at false true e h q go = absurd (cc e)

@@ -67,9 +67,6 @@ module _ (p : Pipe) (flows : Flows p) where
         ∙ acts_slots p st bits p.stages 0 (lives_of (sorted ls)) (subst (λ h. Rises 0 h (lives_of (sorted ls))) (sym (zero-add (length p.stages))) (rises_sorted p (length p.stages) ls (inside_all ls sim.seated) sim.ordered))
         ∙ acts_sorted p flows st d bits sim.arrays ls sim.matched st.next sim.seated sim.ordered sim.falls known sim.forks (length p.stages) (inside_all ls sim.seated)
 
-    -- the state after the cycle, in age order but for the arrays
-    abbrev
-
     -- the stated state after a cycle is that after the same acts by age
     pub next_state : State
     next_state = record (Cycle.after_these p st bits (lacts p st d bits ls) (movers (lacts p st d bits ls)) (squasher (movers (lacts p st d bits ls)))) { arrays = (Cycle.cycle p st bits).arrays }
