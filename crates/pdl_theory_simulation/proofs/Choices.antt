@@ -422,13 +422,21 @@ module _ (p : Pipe) (flows : Flows p) (st : State) (d : Derived.State) (bits : L
       (λ q. port_free p d bits (dacts p d bits ls) q.mem) (work_of_live p d bits ls l).env (in_stage l.thread.stage p.stmts) (begun l (now_of p d bits l).env) (start_of (now_of p d bits l))
       (starts_here ls l k) (fit_all ls l k) (fixed_way ls l k) h
 
-  -- where what it guesses is its hint
-  pub guess_foreseen : (ls : List Live) (l : Live) (k : Known ls l) → (deeds_of p st bits l).guess ≡ l.thread.hint → Foresees ls l
-  guess_foreseen ls l k h =
+  -- where it makes one, which is its hint
+  pub guess_foreseen : (ls : List Live) (l : Live) (k : Known ls l) → none_of is_guess (onpath (work_of_live p d bits ls l).env (in_stage l.thread.stage p.stmts)) ≡ false → (deeds_of p st bits l).guess ≡ l.thread.hint → Foresees ls l
+  guess_foreseen ls l k i h =
       foreseen (around p d bits (dacts p d bits ls) l.thread.stage l.thread.hint) (word_for st l.number) (λ b. block_ready p st l.number b)
       (λ q. port_free p d bits (dacts p d bits ls) q.mem) (work_of_live p d bits ls l).env (in_stage l.thread.stage p.stmts) (has_made p l.env l.thread.stage) (begun l (now_of p d bits l).env) (start_of (now_of p d bits l))
       (starts_here ls l k) (fit_all ls l k) (fixed_way ls l k) (calls_here p flows l.env (now_of p d bits l) (keeps_now l k.seated) (around p d bits (dacts p d bits ls) l.thread.stage l.thread.hint))
-      (ap (λ (e : Deeds). e.guess) (sym (deeds_are ls l k)) ∙ h)
+      (unchecked (flows.guess_apart (work_of_live p d bits ls l).env l.thread.stage)) (ap (λ (e : Deeds). e.guess) (sym (deeds_are ls l k)) ∙ h)
+    where
+      unchecked : (none_of is_guess (onpath (work_of_live p d bits ls l).env (in_stage l.thread.stage p.stmts)) ≡ true) ⊎ (none_of is_check (onpath (work_of_live p d bits ls l).env (in_stage l.thread.stage p.stmts)) ≡ true)
+          → none_of is_check (onpath (work_of_live p d bits ls l).env (in_stage l.thread.stage p.stmts)) ≡ true
+      unchecked (inl j) = absurd (clash (sym i ∙ j))
+        where
+          clash : false ≡ true → ⊥
+          clash e = cc e
+      unchecked (inr j) = j
 
   -- each thread that moves guesses what it was given
   abbrev pub MovesForeseen : List Live → Live → Type 0
@@ -438,7 +446,7 @@ module _ (p : Pipe) (flows : Flows p) (st : State) (d : Derived.State) (bits : L
   AllForeseen [] = Unit {0}
   AllForeseen (l ∷ ls) = MovesForeseen ls l × AllForeseen ls
 
-  -- a failing verify stands in a stage that makes no guess
+  -- a failing check stands in a stage that makes no guess
   pub fails_here : (ls : List Live) (l : Live) → Known ls l → (deeds_of p st bits l).fails ≡ (work_of_live p d bits ls l).fails
   fails_here ls l k = at (flows.guess_apart (work_of_live p d bits ls l).env l.thread.stage)
     where

@@ -99,7 +99,10 @@ unchecked v s k (x ∷ xs) u h c =
 pub apart_of : (v : Option ℕ) (s : ℕ) (k : Making) (g : Option ℕ) (xs : List Stmt) → makings_ok v k (looked_all xs) ≡ true → checks_apart g (looked_all xs) ≡ true
     → (none_of is_guess (in_stage s xs) ≡ true) ⊎ (none_of is_check (in_stage s xs) ≡ true)
 apart_of v s k g [] h c = inl refl
-apart_of v s k g (x ∷ xs) h c = by (is_unmade k) refl
+apart_of v s k g (x ∷ xs) h c =
+    by (is_unmade k) refl
+    (apart_of v s (next_making k (answered_op x.op)) (guess_stage g x.stage (answered_op x.op)) xs (and_right (making_ok v k x.stage (answered_op x.op)) _ h)
+    (and_right (check_apart g x.stage (answered_op x.op)) _ c))
   where
     Apart : List Stmt → Type 0
     Apart ys = (none_of is_guess ys ≡ true) ⊎ (none_of is_check ys ≡ true)
@@ -143,10 +146,10 @@ apart_of v s k g (x ∷ xs) h c = by (is_unmade k) refl
         (unchecked v s (next_making k (answered_op x.op)) xs m.0 rest (subst (λ n. checks_apart (Some n) (looked_all xs) ≡ true) (eqb-true x.stage s i) (subst (λ o. checks_apart o (looked_all xs) ≡ true) m.1 more))))
     guessed false i e = inl (unguessed v s (next_making k (answered_op x.op)) xs (made x.op e).0 rest)
 
-    first : (b : Bool) → is_guess x.op ≡ b → is_unmade k ≡ true → Apart (cond (x.stage == s) (x ∷ in_stage s xs) (in_stage s xs))
-    first true e u = guessed (x.stage == s) refl e
-    first false e u = add (x.stage == s) e (quiet x.op u (and_left _ _ h) e) (apart_of v s (next_making k (answered_op x.op)) (guess_stage g x.stage (answered_op x.op)) xs rest more)
+    first : (b : Bool) → is_guess x.op ≡ b → is_unmade k ≡ true → Apart (in_stage s xs) → Apart (cond (x.stage == s) (x ∷ in_stage s xs) (in_stage s xs))
+    first true e u r = guessed (x.stage == s) refl e
+    first false e u r = add (x.stage == s) e (quiet x.op u (and_left _ _ h) e) r
 
-    by : (b : Bool) → is_unmade k ≡ b → Apart (in_stage s (x ∷ xs))
-    by true u = first (is_guess x.op) refl u
-    by false u = inl (unguessed v s k (x ∷ xs) u h)
+    by : (b : Bool) → is_unmade k ≡ b → Apart (in_stage s xs) → Apart (in_stage s (x ∷ xs))
+    by true u r = first (is_guess x.op) refl u r
+    by false u r = inl (unguessed v s k (x ∷ xs) u h)

@@ -137,7 +137,7 @@ module _ (p : Pipe) (flows : Flows p) where
         at true i c j e = none_foreseen p flows st d bits sim.arrays ks l k.0 i
         at false i true j e = none_foreseen p flows st d bits sim.arrays ks l k.0 (no_guess_after l ks k.0 j)
         at false i false j e =
-            guess_foreseen p flows st d bits sim.arrays ks l k.0
+            guess_foreseen p flows st d bits sim.arrays ks l k.0 i
             (sym (h j ∙ in_age l.number (guess_of p (Cycle.cycle p st bits) schedule l.number)
             ∙ ap (λ xs. guess_in p (lacts p st d bits xs) l.number (guess_of p (Cycle.cycle p st bits) schedule l.number)) (sym is)
             ∙ mine l ks _ f.1

@@ -317,7 +317,7 @@ module _ (p : Pipe) (flows : Flows p) (st : State) (d : Derived.State) (bits : L
   squash_stage_is ls l h = at (did p d bits ls l).moves
     where
       at : (b : Bool) → squash_stage (cond b (lact p st d bits ls l ∷ movers (lacts p st d bits ls)) (movers (lacts p st d bits ls))) ≡ (if b && (work_of_live p d bits ls l).fails then Some l.thread.stage else squash_stage (movers (lacts p st d bits ls)))
-      at true = ap (λ f. if f then Some l.thread.stage else squash_stage (movers (lacts p st d bits ls))) (fails_is ls l h)
+      at true = ap (λ f. if f then Some l.thread.stage else squash_stage (movers (lacts p st d bits ls))) (fails_here p flows st d bits arrays ls l h)
       at false = refl
 
   pub no_squash_stage : (ls : List Live) → AllKnown p flows st d bits arrays ls → fell p d bits ls ≡ false → squash_stage (movers (lacts p st d bits ls)) ≡ None

@@ -68,7 +68,7 @@ module _ (p : Pipe) (flows : Flows p) where
         ∙ acts_sorted p flows st d bits sim.arrays ls sim.matched st.next sim.seated sim.ordered sim.falls known sim.forks (length p.stages) (inside_all ls sim.seated)
 
     -- the stated state after a cycle is that after the same acts by age
-    pub next_state : State
+    abbrev pub next_state : State
     next_state = record (Cycle.after_these p st bits (lacts p st d bits ls) (movers (lacts p st d bits ls)) (squasher (movers (lacts p st d bits ls)))) { arrays = (Cycle.cycle p st bits).arrays }
 
     pub swaps : Swaps p flows st d bits sim.arrays ls
