@@ -18,10 +18,10 @@ with_variable vs x w advised = if list_any (λ (v : Var). bytes_eq x v.name) vs 
 -- the variables after a statement: a binding has its expression's width, a read its memory's
 abbrev pub after_statement : List Mem → List Var → Stmt → List Var
 after_statement ms vs (Separator _) = vs
-after_statement ms vs (CombRead _ x at) = with_variable vs x.name (mem_width ms at.mem.name)
-after_statement ms vs (Bind _ x e) = with_variable vs x.name (width_of vs e)
+after_statement ms vs (CombRead _ x at) = with_variable vs x.name (mem_width ms at.mem.name) (is_advisory_mem ms at.mem.name)
+after_statement ms vs (Bind _ x e) = with_variable vs x.name (width_of vs e) (is_advised vs e)
 after_statement ms vs (SpecCall _ _ _) = vs
-after_statement ms vs (DelayedRead _ x at) = with_variable vs x.name (mem_width ms at.mem.name)
+after_statement ms vs (DelayedRead _ x at) = with_variable vs x.name (mem_width ms at.mem.name) false
 after_statement ms vs (Write _ _ _) = vs
 after_statement ms vs (Reserve _ _ _) = vs
 after_statement ms vs (Block _ _) = vs
@@ -36,9 +36,9 @@ after_statement ms vs (SpecBarrier _) = vs
 -- the variables after a place
 abbrev pub after_place : List Mem → List Var → Place → List Var
 after_place ms vs (Parameter a) = with_variable vs a.name.name a.width.value false
-after_place ms vs (Memory _) = vs (is_advisory_mem ms at.mem.name)
-after_place ms vs (Statement s _) = after_statement ms vs s (is_advised vs e)
-after_place ms vs (End _) = vs false
+after_place ms vs (Memory _) = vs
+after_place ms vs (Statement s _) = after_statement ms vs s
+after_place ms vs (End _) = vs
 after_place ms vs (StartClause _) = vs
 
 -- the variables of a pipe with their widths, each by its first definition in the text

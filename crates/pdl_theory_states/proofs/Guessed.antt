@@ -9,18 +9,18 @@ use Rattle.pdl_semantics.specs.Machine
 use Rattle.pdl_semantics.specs.Sound.{is_call}
 use Rattle.pdl_theory_derived.specs.Derived.{Work, Around, work_after, do_all}
 use Rattle.pdl_theory_derived.specs.Simulation.{is_guess}
-use Rattle.pdl_theory_derived.proofs.Deeds.{AllFit, Loosely, loose_step}
+use Rattle.pdl_theory_derived.proofs.Deeds.{AllFit, Loosely, loose_step, Guesses, AllGuesses}
 use Rattle.pdl_theory_derived.proofs.Writes.{and_left, and_right}
 use Rattle.pdl_theory_facts.specs.Facts.{uses_any}
 use Rattle.pdl_theory_turns.proofs.Paths.{Fixed}
 use Rattle.pdl_theory_simulation.proofs.FlowFacts.{call_ok, calls_ok}
-use Rattle.pdl_theory_simulation.proofs.Choices.{kept_append}
+use Rattle.pdl_semantics.proofs.Facts.{kept_append}
 use Rattle.pdl_theory_states.specs.Strict.{bound_of, binds_used, keeps_guess, all_keep_guess}
 use Rattle.pdl_theory_states.proofs.UnusedValues.{AllOps, ops_map, ops_both, onto, touches, values_agree}
-use Rattle.pdl_theory_states.proofs.FetchCounts.{AllKept}
+use Rattle.pdl_theory_states.proofs.ThreadHistory.{AllKept}
 use Rattle.pdl_word.proofs.Bools.{untrue}
 
--- what a guess gave
+-- what a guess gave: the hint
 abbrev pub GuessDone : List Kept → List ℕ → List ℕ → Op → Type 0
 GuessDone advice env guess (SpecCall args) = guess ≡ values_of args (with_kept advice env)
 GuessDone advice env guess _ = Unit {0}
@@ -77,31 +77,27 @@ abbrev kept_by : Op → Op → Bool
 kept_by (SpecCall args) op = not (binds_used args op)
 kept_by _ op = true
 
-done_op : (read : ℕ → ℕ → ℕ) (op : Op) (args : List Expr) (d : Deeds) → binds_used args op ≡ false → (is_guess op ≡ true → ⊥) → d.guess ≡ values_of args (with_kept d.advice d.env)
-    → (Machine.deeds_after read op d).guess ≡ values_of args (with_kept (Machine.deeds_after read op d).advice (Machine.deeds_after read op d).env)
-done_op read (Bind x e) args d u n h = set_done x _ d.advice d.env d.guess args u h
-done_op read (CombRead x m a) args d u n h = set_done x _ d.advice d.env d.guess args u h
-done_op read (AdviceBind x e) args d u n h = more_done x _ d.advice d.env d.guess args u h
-done_op read (AdviceRead x m a) args d u n h = more_done x _ d.advice d.env d.guess args u h
-done_op read (SpecCall es) args d u n h = absurd (n refl)
-done_op read (Verify es) args d u n h = at (same_args (values_of es d.env) d.guess)
+done_op : (read : ℕ → ℕ → ℕ) (op : Op) (args : List Expr) (hint : List ℕ) (d : Deeds) → binds_used args op ≡ false → hint ≡ values_of args (with_kept d.advice d.env)
+    → hint ≡ values_of args (with_kept (Machine.deeds_after read op d).advice (Machine.deeds_after read op d).env)
+done_op read (Bind x e) args hint d u h = set_done x _ d.advice d.env hint args u h
+done_op read (CombRead x m a) args hint d u h = set_done x _ d.advice d.env hint args u h
+done_op read (AdviceBind x e) args hint d u h = more_done x _ d.advice d.env hint args u h
+done_op read (AdviceRead x m a) args hint d u h = more_done x _ d.advice d.env hint args u h
+done_op read (Verify last es) args hint d u h = at (same_args (values_of es d.env) d.guess)
   where
-    at : (b : Bool) → (cond b d (record d { child = Some (values_of es d.env); fails = true })).guess ≡ values_of args (with_kept (cond b d (record d { child = Some (values_of es d.env); fails = true })).advice (cond b d (record d { child = Some (values_of es d.env); fails = true })).env)
+    at : (b : Bool) → hint ≡ values_of args (with_kept (cond b d (record d { child = Some (values_of es d.env); guess = values_of es d.env; fails = true })).advice (cond b d (record d { child = Some (values_of es d.env); guess = values_of es d.env; fails = true })).env)
     at true = h
     at false = h
-done_op read _ args d u n h = h
+done_op read _ args hint d u h = h
 
-one_kept : (read : ℕ → ℕ → ℕ) (op o : Op) (d : Deeds) → kept_by o op ≡ true → (is_guess op ≡ true → is_call o ≡ false) → GuessDone d.advice d.env d.guess o
-    → GuessDone (Machine.deeds_after read op d).advice (Machine.deeds_after read op d).env (Machine.deeds_after read op d).guess o
-one_kept read op (SpecCall args) d u n h = done_op read op args d (not-true _ u) (λ i. clash (n i)) h
-  where
-    clash : true ≡ false → ⊥
-    clash i = cc
-one_kept read op _ d u n h = tt
+one_kept : (read : ℕ → ℕ → ℕ) (op o : Op) (hint : List ℕ) (d : Deeds) → kept_by o op ≡ true → GuessDone d.advice d.env hint o
+    → GuessDone (Machine.deeds_after read op d).advice (Machine.deeds_after read op d).env hint o
+one_kept read op (SpecCall args) hint d u h = done_op read op args hint d (not-true _ u) h
+one_kept read op _ hint d u h = tt
 
-own_guess : (read : ℕ → ℕ → ℕ) (op : Op) (d : Deeds) → GuessDone (Machine.deeds_after read op d).advice (Machine.deeds_after read op d).env (Machine.deeds_after read op d).guess op
-own_guess read (SpecCall args) d = refl
-own_guess read _ d = tt
+own_guess : (o : Around) (read : ℕ → ℕ → ℕ) (block : Blocked → Bool) (free : Ask → Bool) (op : Op) (d : Deeds) → Guesses o read block free op d → GuessDone (Machine.deeds_after read op d).advice (Machine.deeds_after read op d).env o.guess op
+own_guess o read block free (SpecCall args) d g = sym g
+own_guess o read block free _ d g = tt
 
 -- A STAGE
 
@@ -112,56 +108,38 @@ first_kept : (o : Op) (y : Stmt) (ys : List Stmt) → keeps_guess o (y ∷ ys) �
 first_kept (SpecCall args) y ys h = (and_left _ _ h, and_right (not (binds_used args y.op)) _ h)
 first_kept _ y ys h = (refl, refl)
 
-abbrev Uncalled : Bool → List Op → Type 0
-Uncalled c past = c ≡ false → AllOps (λ op. is_call op ≡ false) past
-
-guess_calls : (op : Op) → is_guess op ≡ true → is_call op ≡ true
-guess_calls (SpecCall args) h = refl
-guess_calls _ h = absurd (cc h)
-
 module _ (o : Around) (read : ℕ → ℕ → ℕ) (block : Blocked → Bool) (free : Ask → Bool) where
-  pub guesses_all : (path : List ℕ) (c : Bool) (xs : List Stmt) (past : List Op) (d : Deeds) (w : Work) → Loosely o read block free d w → AllFit o read block free xs → Fixed path o xs w
-      → calls_ok c (onpath path xs) ≡ true → Uncalled c past → Free past (onpath path xs) → all_keep_guess (onpath path xs) ≡ true → AllOps (GuessDone d.advice d.env d.guess) past
-      → AllOps (GuessDone (deeds_after_all read xs d).advice (deeds_after_all read xs d).env (deeds_after_all read xs d).guess) (onto (onpath path xs) past)
-  guesses_all path c [] past d w l f q k u r g h = h
-  guesses_all path c (x ∷ xs) past d w l f q k u r g h =
-      subst (λ b. AllOps (GuessDone (deeds_after_all read xs (cond b (Machine.deeds_after read x.op d) d)).advice (deeds_after_all read xs (cond b (Machine.deeds_after read x.op d) d)).env (deeds_after_all read xs (cond b (Machine.deeds_after read x.op d) d)).guess) (onto (onpath path (x ∷ xs)) past)) (ap (λ (v : Work). all_hold x.guards v.env) l.is)
-      (at (all_hold x.guards w.env) (all_hold x.guards path) q.0 k r g q.1 (λ c' past' d' w' l' q' k' u' r' g' h'. guesses_all path c' xs past' d' w' l' f.1 q' k' u' r' g' h'))
+  pub guesses_all : (path : List ℕ) (xs : List Stmt) (past : List Op) (d : Deeds) (w : Work) → Loosely o read block free d w → AllFit o read block free xs → Fixed path o xs w → AllGuesses o read block free xs d
+      → Free past (onpath path xs) → all_keep_guess (onpath path xs) ≡ true → AllOps (GuessDone d.advice d.env o.guess) past
+      → AllOps (GuessDone (deeds_after_all read xs d).advice (deeds_after_all read xs d).env o.guess) (onto (onpath path xs) past)
+  guesses_all path [] past d w l f q n r g h = h
+  guesses_all path (x ∷ xs) past d w l f q n r g h =
+      subst (λ b. ((b ≡ true → Guesses o read block free x.op d) × AllGuesses o read block free xs (cond b (Machine.deeds_after read x.op d) d)) → AllOps (GuessDone (deeds_after_all read xs (cond b (Machine.deeds_after read x.op d) d)).advice (deeds_after_all read xs (cond b (Machine.deeds_after read x.op d) d)).env o.guess) (onto (onpath path (x ∷ xs)) past)) (ap (λ (v : Work). all_hold x.guards v.env) l.is)
+      (at (all_hold x.guards w.env) (all_hold x.guards path) q.0 r g q.1 (λ past' d' w' l' q' n' r' g' h'. guesses_all path xs past' d' w' l' f.1 q' n' r' g' h')) n
     where
       parts : (ps : List Op) → Free ps (record x { guards = [] } ∷ onpath path xs) → AllOps (λ o. kept_by o x.op ≡ true) ps × Free ps (onpath path xs)
       parts [] r = (tt, tt)
       parts (p ∷ ps) r = let one = first_kept p (record x { guards = [] }) (onpath path xs) r.0 in let more = parts ps r.1 in ((one.0, more.0), (one.1, more.1))
 
-      both : (a b : Bool) → (a || b) ≡ false → (a ≡ false) × (b ≡ false)
-      both true b e = absurd (cc e)
-      both false b e = (refl, e)
+      each : (ps : List Op) → AllOps (λ o. kept_by o x.op ≡ true) ps → AllOps (GuessDone d.advice d.env o.guess) ps
+          → AllOps (GuessDone (Machine.deeds_after read x.op d).advice (Machine.deeds_after read x.op d).env o.guess) ps
+      each [] a h = tt
+      each (p ∷ ps) a h = (one_kept read x.op p o.guess d a.0 h.0, each ps a.1 h.1)
 
-      lone : call_ok c x.op ≡ true → is_guess x.op ≡ true → AllOps (λ op. is_call op ≡ false) past
-      lone i e = u (off c (is_call x.op) (guess_calls x.op e) (and_left _ _ i))
-        where
-          off : (a b : Bool) → b ≡ true → not (a && b) ≡ true → a ≡ false
-          off true true e i = absurd (cc i)
-          off true false e i = absurd (cc e)
-          off false b e i = refl
-
-      each : (ps : List Op) → (is_guess x.op ≡ true → AllOps (λ op. is_call op ≡ false) ps) → AllOps (λ o. kept_by o x.op ≡ true) ps → AllOps (GuessDone d.advice d.env d.guess) ps
-          → AllOps (GuessDone (Machine.deeds_after read x.op d).advice (Machine.deeds_after read x.op d).env (Machine.deeds_after read x.op d).guess) ps
-      each [] n a h = tt
-      each (p ∷ ps) n a h = (one_kept read x.op p d a.0 (λ e. (n e).0) h.0, each ps (λ e. (n e).1) a.1 h.1)
-
-      at : (b e : Bool) → b ≡ e → calls_ok c (cond e (record x { guards = [] } ∷ onpath path xs) (onpath path xs)) ≡ true → Free past (cond e (record x { guards = [] } ∷ onpath path xs) (onpath path xs)) → all_keep_guess (cond e (record x { guards = [] } ∷ onpath path xs) (onpath path xs)) ≡ true
+      at : (b e : Bool) → b ≡ e → Free past (cond e (record x { guards = [] } ∷ onpath path xs) (onpath path xs)) → all_keep_guess (cond e (record x { guards = [] } ∷ onpath path xs) (onpath path xs)) ≡ true
           → Fixed path o xs (cond b (work_after o x.op w) w)
-          → ((c' : Bool) (past' : List Op) (d' : Deeds) (w' : Work) → Loosely o read block free d' w' → Fixed path o xs w' → calls_ok c' (onpath path xs) ≡ true → Uncalled c' past' → Free past' (onpath path xs) → all_keep_guess (onpath path xs) ≡ true → AllOps (GuessDone d'.advice d'.env d'.guess) past'
-          → AllOps (GuessDone (deeds_after_all read xs d').advice (deeds_after_all read xs d').env (deeds_after_all read xs d').guess) (onto (onpath path xs) past'))
-          → AllOps (GuessDone (deeds_after_all read xs (cond b (Machine.deeds_after read x.op d) d)).advice (deeds_after_all read xs (cond b (Machine.deeds_after read x.op d) d)).env (deeds_after_all read xs (cond b (Machine.deeds_after read x.op d) d)).guess) (onto (cond e (record x { guards = [] } ∷ onpath path xs) (onpath path xs)) past)
-      at true true i k r g q go =
-          let n = parts past r in
-          go (c || is_call x.op) (x.op ∷ past) (Machine.deeds_after read x.op d) (work_after o x.op w) (loose_step o read block free true x.op d w f.0 l) q (and_right (call_ok c x.op) _ k)
-          (λ e. let s = both c (is_call x.op) e in (s.1, u s.0)) (and_left _ _ g, n.1) (and_right (keeps_guess x.op (onpath path xs)) _ g)
-          (own_guess read x.op d, each past (lone (and_left _ _ k)) n.0 h)
-      at true false i k r g q go = absurd (cc i)
-      at false true i k r g q go = absurd (cc i)
-      at false false i k r g q go = go c past d w l q k u r g h
+          → ((past' : List Op) (d' : Deeds) (w' : Work) → Loosely o read block free d' w' → Fixed path o xs w' → AllGuesses o read block free xs d' → Free past' (onpath path xs) → all_keep_guess (onpath path xs) ≡ true → AllOps (GuessDone d'.advice d'.env o.guess) past'
+          → AllOps (GuessDone (deeds_after_all read xs d').advice (deeds_after_all read xs d').env o.guess) (onto (onpath path xs) past'))
+          → ((b ≡ true → Guesses o read block free x.op d) × AllGuesses o read block free xs (cond b (Machine.deeds_after read x.op d) d))
+          → AllOps (GuessDone (deeds_after_all read xs (cond b (Machine.deeds_after read x.op d) d)).advice (deeds_after_all read xs (cond b (Machine.deeds_after read x.op d) d)).env o.guess) (onto (cond e (record x { guards = [] } ∷ onpath path xs) (onpath path xs)) past)
+      at true true i r g q go n =
+          let c = parts past r in
+          go (x.op ∷ past) (Machine.deeds_after read x.op d) (work_after o x.op w) (loose_step o read block free true x.op d w f.0 l) q n.1
+          (and_left _ _ g, c.1) (and_right (keeps_guess x.op (onpath path xs)) _ g)
+          (own_guess o read block free x.op d (n.0 refl), each past c.0 h)
+      at true false i r g q go n = absurd (cc i)
+      at false true i r g q go n = absurd (cc i)
+      at false false i r g q go n = go past d w l q n.1 r g h
 
 -- what a path keeps of its guesses
 pub keep_front : (xs ys : List Stmt) → all_keep_guess (xs ++ ys) ≡ true → all_keep_guess xs ≡ true

@@ -6,7 +6,7 @@ use Rattle.pdl_semantics.specs.Flat.{Op, Bind, CombRead, DelayedRead, Write, Res
 use Rattle.pdl_semantics.specs.Forms.{on_block}
 use Rattle.pdl_semantics.specs.Stages.{onpath, is_release}
 use Rattle.pdl_semantics.specs.Machine.{Ask, same_args}
-use Rattle.pdl_semantics.specs.Sound.{is_release_at, is_call, guess_after}
+use Rattle.pdl_semantics.specs.Sound.{is_release_at, is_call}
 use Rattle.pdl_theory_derived.specs.Derived.{Entry, Work, Around, work_after, do_all, moved_up, without, with_entry_value, has_entry}
 use Rattle.pdl_theory_facts.specs.Facts.{uses_in, mentions_var, asks_for, silent_on, unseen_op, is_unseen}
 use Rattle.pdl_theory_facts.specs.Scans.{is_dead}
@@ -25,12 +25,11 @@ use Rattle.pdl_theory_states.proofs.UnusedValues.{AllOps, AnyOp, ops_map, ops_bo
 -- LISTS OF STATEMENTS
 
 -- the guess stays where a variable is set that no statement hangs on
-pub guess_set : (x v : ℕ) (env : List ℕ) (past : List Op) → AllOps (λ op. touches x op ≡ false) past
-    → guess_past past env ≡ guess_past past (slice_set env x v)
-guess_set x v env [] t = refl
-guess_set x v env (op ∷ past) t =
-    guess_agrees op env (slice_set env x v) (guess_past past env) (guess_past past (slice_set env x v))
-    (set_agrees x v op env t.0) (guess_set x v env past t.1)
+pub guess_set : (hint : List ℕ) (x v : ℕ) (env : List ℕ) (past : List Op) → AllOps (λ op. touches x op ≡ false) past
+    → guess_past hint past env ≡ guess_past hint past (slice_set env x v)
+guess_set hint x v env [] t = refl
+guess_set hint x v env (op ∷ past) t =
+    guess_agrees hint op past env (slice_set env x v) (set_agrees x v op env t.0) (guess_set hint x v env past t.1)
 
 -- THREADS
 
@@ -90,7 +89,7 @@ BlockOk o env es past op =
 pub record Past (o : Around) (vars : ℕ) (past : List Op) (w : Work) : Type 0 where
   pub long : vars ≤ length w.env
   pub done : AllOps (Done w.env w.guess) past
-  pub guessed : w.guess ≡ guess_past past w.env
+  pub guessed : w.guess ≡ guess_past o.guess past w.env
   pub placed : AllPlaced w.env past w.entries
   pub asked : AllAsks (AskedBy w.env past) w.asks
   pub unused : AllAsks (λ q. AllOps (λ op. touches q.var op ≡ false) past) w.asks
@@ -233,7 +232,7 @@ module _ (o : Around) (vars : ℕ) (kind : Kind o) where
   -- a statement that binds a variable
   bind_step : (x v : ℕ) (op : Op) (past : List Op) (w : Work) → is_new vars past (Some x) ≡ true
       → AllAsks (λ q. mentions_var q.var op ≡ false) w.asks → (Done (slice_set w.env x v) w.guess op)
-      → ((e g : List ℕ) → guess_after op e g ≡ g) → BlockOk o (slice_set w.env x v) w.entries (op ∷ past) op → ((m a : ℕ) → is_release_at m a op ≡ false)
+      → ((e : List ℕ) → guess_past o.guess (op ∷ past) e ≡ guess_past o.guess past e) → BlockOk o (slice_set w.env x v) w.entries (op ∷ past) op → ((m a : ℕ) → is_release_at m a op ≡ false)
       → Past o vars past w → Past o vars (op ∷ past) (record w { env = slice_set w.env x v })
   bind_step x v op past w new silent mine calm block quiet h =
       let none : is_mentioned x past ≡ false = not-true _ (and_right (nat_lt x vars) _ new) in
@@ -241,7 +240,7 @@ module _ (o : Around) (vars : ℕ) (kind : Kind o) where
       record {
         long = subst (λ n. vars ≤ n) (sym (length-set w.env x v)) h.long;
         done = (mine, ops_both (λ o' t' d. done_agrees w.env (slice_set w.env x v) w.guess o' (set_agrees x v o' w.env t') d) past t h.done);
-        guessed = h.guessed ∙ guess_set x v w.env past t ∙ sym (calm (slice_set w.env x v) (guess_past past (slice_set w.env x v)));
+        guessed = h.guessed ∙ guess_set o.guess x v w.env past t ∙ sym (calm (slice_set w.env x v));
         placed = placed_more (slice_set w.env x v) past op w.entries (placed_set x v w.env past w.entries (none_touched x past t) h.placed);
         asked = all_more (AskedBy w.env past) (AskedBy (slice_set w.env x v) (op ∷ past)) w.asks (λ q k. inr (asked_set x v w.env past q t k)) h.asked;
         unused =
@@ -253,7 +252,7 @@ module _ (o : Around) (vars : ℕ) (kind : Kind o) where
 
   -- one that only changes what is pending
   pend_step : (op : Op) (past : List Op) (w : Work) (es : List Entry)
-      → AllAsks (λ q. mentions_var q.var op ≡ false) w.asks → Done w.env w.guess op → w.guess ≡ guess_after op w.env (guess_past past w.env) → AllPlaced w.env (op ∷ past) es
+      → AllAsks (λ q. mentions_var q.var op ≡ false) w.asks → Done w.env w.guess op → w.guess ≡ guess_past o.guess (op ∷ past) w.env → AllPlaced w.env (op ∷ past) es
       → BlockOk o w.env es (op ∷ past) op
       → ((m a : ℕ)
       → (is_released m a (op ∷ past) ≡ true)
@@ -277,7 +276,7 @@ module _ (o : Around) (vars : ℕ) (kind : Kind o) where
 
   -- one that leaves all that as it is
   still_step : (op : Op) (past : List Op) (w : Work) → AllAsks (λ q. mentions_var q.var op ≡ false) w.asks
-      → Done w.env w.guess op → w.guess ≡ guess_after op w.env (guess_past past w.env) → BlockOk o w.env w.entries (op ∷ past) op → Past o vars past w
+      → Done w.env w.guess op → w.guess ≡ guess_past o.guess (op ∷ past) w.env → BlockOk o w.env w.entries (op ∷ past) op → Past o vars past w
       → Past o vars (op ∷ past) w
   still_step op past w silent mine guessed block h =
       pend_step op past w w.entries silent mine guessed (placed_more w.env past op w.entries h.placed) block (λ m a. inr (λ i. i)) h
@@ -303,15 +302,15 @@ module _ (o : Around) (vars : ℕ) (kind : Kind o) where
       }
 
   -- one that gives the guess
-  guess_step : (op : Op) (args : List Expr) (past : List Op) (w : Work)
-      → AllAsks (λ q. mentions_var q.var op ≡ false) w.asks → values_of args w.env ≡ guess_after op w.env (guess_past past w.env)
-      → Done w.env (values_of args w.env) op → BlockOk o w.env w.entries (op ∷ past) op → ((q : Ask) → mentions_var q.var op ≡ false → touches q.var op ≡ false)
+  guess_step : (op : Op) (g : List ℕ) (past : List Op) (w : Work)
+      → AllAsks (λ q. mentions_var q.var op ≡ false) w.asks → g ≡ guess_past o.guess (op ∷ past) w.env
+      → Done w.env g op → BlockOk o w.env w.entries (op ∷ past) op → ((q : Ask) → mentions_var q.var op ≡ false → touches q.var op ≡ false)
       → Past o vars past w
-      → Past o vars (op ∷ past) (record w { child = Some o.guess; guess = o.guess })
-  guess_step op args past w silent given mine block apart h =
+      → Past o vars (op ∷ past) (record w { child = Some g; guess = g })
+  guess_step op g past w silent given mine block apart h =
       record {
         long = h.long;
-        done = (mine, ops_map (λ op' d. done_guess w.env w.guess (values_of args w.env) op' d) past h.done);
+        done = (mine, ops_map (λ op' d. done_guess w.env w.guess g op' d) past h.done);
         guessed = given;
         placed = placed_more w.env past op w.entries h.placed;
         asked = all_more (AskedBy w.env past) (AskedBy w.env (op ∷ past)) w.asks (λ q k. inr k) h.asked;
@@ -330,7 +329,7 @@ module _ (o : Around) (vars : ℕ) (kind : Kind o) where
       record {
         long = subst (λ (l : List ℕ). vars ≤ length l) e h.long;
         done = subst (λ l. AllOps (Done v.env l) past) g (subst (λ l. AllOps (Done l w.guess) past) e h.done);
-        guessed = sym g ∙ h.guessed ∙ ap (guess_past past) e;
+        guessed = sym g ∙ h.guessed ∙ ap (guess_past o.guess past) e;
         placed = subst (λ l. AllPlaced v.env past l) s (subst (λ l. AllPlaced l past w.entries) e h.placed);
         asked = subst (λ l. AllAsks (AskedBy v.env past) l) a (subst (λ l. AllAsks (AskedBy l past) w.asks) e h.asked);
         unused = subst (λ l. AllAsks (λ q. AllOps (λ op. touches q.var op ≡ false) past) l) a h.unused;
@@ -342,7 +341,7 @@ module _ (o : Around) (vars : ℕ) (kind : Kind o) where
       → not (uses_own op) ≡ true → AllAsks (λ q. mentions_var q.var op ≡ false) w.asks
       → (is_call op ≡ true → AllOps (λ op. is_call op ≡ false) past) → (work_after o op w).ready ≡ true
       → Past o vars past w → Past o vars (op ∷ past) (work_after o op w)
-  past_step (Bind x e) past w new own silent calls ready h = bind_step x (value_of e w.env) (Bind x e) past w new silent here (λ _ g. refl) tt (λ m a. refl) h
+  past_step (Bind x e) past w new own silent calls ready h = bind_step x (value_of e w.env) (Bind x e) past w new silent here (λ _. refl) tt (λ m a. refl) h
     where
       here : slice_index (slice_set w.env x (value_of e w.env)) x ≡ value_of e (slice_set w.env x (value_of e w.env))
       here =
@@ -353,7 +352,7 @@ module _ (o : Around) (vars : ℕ) (kind : Kind o) where
           low : x < vars → vars ≤ length w.env → x < length w.env
           low i j = omega arith
   past_step (CombRead x m a) past w new own silent calls ready h =
-      bind_step x (o.read m (slice_index w.env a)) (CombRead x m a) past w new silent tt (λ _ g. refl) tt (λ m a. refl) h
+      bind_step x (o.read m (slice_index w.env a)) (CombRead x m a) past w new silent tt (λ _. refl) tt (λ m a. refl) h
   past_step (DelayedRead x m a) past w new own silent calls ready h = fetch_step x m a past w (w.ready && o.free m) new (not-true _ own) silent h
   past_step (Write m a e) past w new own silent calls ready h =
       pend_step (Write m a e) past w (with_entry_value w.entries m a (value_of e w.env)) silent tt h.guessed
@@ -399,7 +398,7 @@ module _ (o : Around) (vars : ℕ) (kind : Kind o) where
           inr (λ i. ap (λ t. cond t (o.can_write n (slice_index w.env b)) (o.can_read n (slice_index w.env b))) (has_without w.entries m a n b e) ∙ i)
   past_step (Call args) past w new own silent calls ready h =
       same_past (Call args ∷ past) w (work_after o (Call args) w) refl refl refl refl (still_step (Call args) past w silent tt h.guessed tt h)
-  past_step (SpecCall args) past w new own silent calls ready h = guess_step (SpecCall args) args past w silent refl tt tt (λ q k. mention_touch q.var (SpecCall args) k) h
+  past_step (SpecCall args) past w new own silent calls ready h = guess_step (SpecCall args) o.guess past w silent refl tt tt (λ q k. mention_touch q.var (SpecCall args) k) h
   past_step (Verify last args) past w new own silent calls ready h = at (same_args (values_of args w.env) w.guess) refl
     where
       at : (b : Bool) → same_args (values_of args w.env) w.guess ≡ b → Past o vars (Verify last args ∷ past) (cond b w (record w { child = Some (values_of args w.env); guess = (values_of args w.env); fails = true }))
@@ -407,11 +406,11 @@ module _ (o : Around) (vars : ℕ) (kind : Kind o) where
       at false e =
           same_past (Verify last args ∷ past)
           (record w { child = Some (values_of args w.env); guess = values_of args w.env }) (record w { child = Some (values_of args w.env); guess = (values_of args w.env); fails = true }) refl refl refl refl
-          (guess_step (Verify last args) args past w silent refl tt tt (λ q k. mention_touch q.var (Verify last args) k) h)
+          (guess_step (Verify last args) (values_of args w.env) past w silent refl tt tt (λ q k. mention_touch q.var (Verify last args) k) h)
   past_step SpecCheck past w new own silent calls ready h = still_step SpecCheck past w silent tt h.guessed tt h
-  past_step (AdviceBind x' e') past w new own silent calls ready h = still_step (AdviceBind x' e') past w silent tt tt h
-  past_step (AdviceRead x' m' a') past w new own silent calls ready h = still_step (AdviceRead x' m' a') past w silent tt tt h
-  past_step (AdviceWrite m' a' e') past w new own silent calls ready h = still_step (AdviceWrite m' a' e') past w silent tt tt h
+  past_step (AdviceBind x' e') past w new own silent calls ready h = still_step (AdviceBind x' e') past w silent tt h.guessed tt h
+  past_step (AdviceRead x' m' a') past w new own silent calls ready h = still_step (AdviceRead x' m' a') past w silent tt h.guessed tt h
+  past_step (AdviceWrite m' a' e') past w new own silent calls ready h = still_step (AdviceWrite m' a' e') past w silent tt h.guessed tt h
   past_step SpecBarrier past w new own silent calls ready h =
       same_past (SpecBarrier ∷ past) w (work_after o SpecBarrier w) refl refl refl refl (still_step SpecBarrier past w silent tt h.guessed tt h)
 

@@ -6,7 +6,7 @@ use Rattle.pdl_semantics.specs.Stages.{list_any, is_release, commit_stage, mem_a
 use Rattle.pdl_semantics.specs.Locks.{read_ready, write_ready}
 use Rattle.pdl_semantics.specs.Machine.{State, Awaited, Kept, with_kept, Pending, HeldLocation, lock_of, request_of, same_args, is_held, held_before, older_write}
 use Rattle.pdl_semantics.specs.Moves.{block_ready}
-use Rattle.pdl_semantics.specs.Sound.{stages_before, are_linked, is_kept_or_awaited, asks_right, is_owner, is_release_at, stays_ready, on_path, is_done, right_place, is_fetch, held_places, has_done, is_call, guess_of}
+use Rattle.pdl_semantics.specs.Sound.{stages_before, are_linked, is_kept_or_awaited, asks_right, is_owner, is_release_at, stays_ready, on_path, is_done, right_place, is_fetch, held_places, has_done, is_call, guess_of, guess_after}
 use Rattle.pdl_semantics.specs.Sound
 use Rattle.pdl_theory_derived.specs.Derived.{Entry, has_entry, latest, awaits_mem}
 use Rattle.pdl_theory_facts.specs.Scans.{called, none_of}
@@ -24,8 +24,8 @@ use Rattle.pdl_theory_simulation.proofs.Choices.{Seated}
 use Rattle.pdl_theory_simulation.proofs.Choices
 use Rattle.pdl_theory_states.proofs.OldestFirst.{told, oldest_first, AllLive, live_each}
 use Rattle.pdl_theory_states.proofs.PastStatements.{BlockOk, AllPlaced, is_released, AllStand, let_go, standing}
-use Rattle.pdl_theory_states.proofs.UnusedValues.{AllOps, onto, Done, guess_onto}
-use Rattle.pdl_theory_states.proofs.Trails.{AllStmts, stmts_map, stmts_ops, trail_comes, stmts_both}
+use Rattle.pdl_theory_states.proofs.UnusedValues.{AllOps, onto, Done, guess_past}
+use Rattle.pdl_theory_states.proofs.Trails.{AllStmts, stmts_map, stmts_ops, trail_comes}
 use Rattle.pdl_theory_states.proofs.ThreadHistory.{Local, here, past_of}
 use Rattle.pdl_theory_states.proofs.FetchCounts.{HeldOp, count_is, any_append, any_front}
 use Rattle.pdl_theory_states.proofs.Guessed.{GuessDone}
@@ -237,6 +237,24 @@ done_op st l (Call args) h = refl
 done_op st l (Verify last args) h = refl
 done_op st l SpecCheck h = refl
 done_op st l SpecBarrier h = refl
+done_op st l (AdviceBind x e) h = refl
+done_op st l (AdviceRead x m a) h = refl
+done_op st l (AdviceWrite m a e) h = refl
+
+-- the guess after statements that were carried out one after another is what these give, in the order of the text
+guess_onto : (hint : List ℕ) (advice : List Kept) (env : List ℕ) (xs : List Stmt) (past : List Op) → AllOps (GuessDone advice env hint) (onto xs past)
+    → guess_past hint (onto xs past) env ≡ guess_of xs advice env (guess_past hint past env)
+guess_onto hint advice env [] past h = refl
+guess_onto hint advice env (x ∷ xs) past h =
+    guess_onto hint advice env xs (x.op ∷ past) h ∙ ap (guess_of xs advice env) (one x.op (first xs (x.op ∷ past) h).0)
+  where
+    first : (ys : List Stmt) (ops : List Op) → AllOps (GuessDone advice env hint) (onto ys ops) → AllOps (GuessDone advice env hint) ops
+    first [] ops k = k
+    first (y ∷ ys) ops k = (first ys (y.op ∷ ops) k).1
+
+    one : (op : Op) → GuessDone advice env hint op → guess_past hint (op ∷ past) env ≡ guess_after op advice env (guess_past hint past env)
+    one (SpecCall args) k = k
+    one _ k = refl
 
 never_go : (m : ℕ) (xs : List Stmt) → none_of (is_release m) xs ≡ true → let_go m (onto xs []) ≡ true → ⊥
 never_go m xs n h = at (onto_any (is_release m) (let_go m) (λ op ops. refl) xs [] h)
@@ -269,7 +287,7 @@ own_places n env (e ∷ es) h test f =
 
 module _ (p : Pipe) (sound : Sound p) where
   -- a thread that keeps to its path, with its pending writes in the locks' lists, passes the test of Sound state on paths
-  pub path_point : (st : State) (l : Live) → Seated p st l → Local p l.env l.kept l.thread → AllOps (GuessDone l.advice l.env l.thread.guess) (past_of p l.env l.thread.stage) → l.number < st.next
+  pub path_point : (st : State) (l : Live) → Seated p st l → Local p l.env l.kept l.thread → AllOps (GuessDone l.advice l.env l.thread.hint) (past_of p l.env l.thread.stage) → l.number < st.next
       → ((m : ℕ) (test : Pending → Bool) → list_any test (pend m l.number l.thread.entries) ≡ true → list_any test (lock_of st m) ≡ true)
       → on_path p st (told l) ≡ true
   path_point st l seated loc guessed low locks =
@@ -278,9 +296,9 @@ module _ (p : Pipe) (sound : Sound p) where
       (length p.stages) 1 loc.trail loc.walked (or_left (l.thread.stage == l.thread.stage) _ (eq-eqb _ _ refl))
       (let i = seated.keeps_on.inside in omega arith))
       (stmts_all _ (on_way p l.env l.thread.stage)
-      (stmts_both (λ z d g. done_op st l z.op d g) (on_way p l.env l.thread.stage)
-      (stmts_ops (Done l.env l.thread.guess) (on_way p l.env l.thread.stage) [] loc.done).0 (stmts_ops (GuessDone l.advice l.env l.thread.guess) (on_way p l.env l.thread.stage) [] guessed).0)))
-      (ap (λ g. same_args g (guess_of (on_way p l.env l.thread.stage) l.env [])) (loc.guessed ∙ guess_onto (on_way p l.env l.thread.stage) [] l.env) ∙ same_args_refl (guess_of (on_way p l.env l.thread.stage) l.env [])))
+      (stmts_map (λ z d. done_op st l z.op d) (on_way p l.env l.thread.stage)
+      (stmts_ops (Done l.env l.thread.guess) (on_way p l.env l.thread.stage) [] loc.done).0)))
+      (ap (λ g. same_args g (guess_of (on_way p l.env l.thread.stage) l.advice l.env [])) (loc.guessed ∙ guess_onto l.thread.hint l.advice l.env (on_way p l.env l.thread.stage) [] guessed) ∙ same_args_refl (guess_of (on_way p l.env l.thread.stage) l.advice l.env [])))
       (subst (λ hs. list_all (right_place st (told l)) hs ≡ true) seated.keeps_on.held
       (own_places l.number l.env l.thread.entries stand (right_place st (told l))
       (λ h k. locks h.mem (places_test l.number l.env h) k))))

@@ -46,7 +46,7 @@ Owns st n asks rs = AllAwaited (λ r. AnyAsk (λ q. (q.var ≡ r.var) × (q.mem 
 -- what holds of a live thread: it keeps to its path, owns its requests, has older ones past V after a barrier, and ready blocks
 pub record Lasting (p : Pipe) (st : State) (l : Live) (older : List Live) : Type 0 where
   pub local : Local p l.env l.kept l.thread
-  pub guessed : AllOps (GuessDone l.advice l.env l.thread.guess) (past_of p l.env l.thread.stage)
+  pub guessed : AllOps (GuessDone l.advice l.env l.thread.hint) (past_of p l.env l.thread.stage)
   pub owns : Owns st l.number local.asks l.thread.awaits
   pub certain : (v : ℕ) → verify_stage p.stmts ≡ Some v → barred (past_of p l.env l.thread.stage) ≡ true → Each (λ k. v < k.thread.stage) older
   pub blocks : AllOps (BlockOk (look_at p (threads_of older)) l.env l.thread.entries (past_of p l.env l.thread.stage)) (past_of p l.env l.thread.stage)
@@ -251,17 +251,15 @@ module _ (p : Pipe) (sound : Sound p) (strict : Strict p) where
             (now_of p d bits l) now_keeps k.values now_local ready block_start
 
         -- what it has guessed
-        guessed_end : AllOps (GuessDone (deeds_of p st bits l).advice (work_of_live p d bits ks l).env (work_of_live p d bits ks l).guess) (onto (onpath (work_of_live p d bits ks l).env (in_stage l.thread.stage p.stmts)) (past_of p l.env l.thread.stage))
+        guessed_end : AllOps (GuessDone (deeds_of p st bits l).advice (work_of_live p d bits ks l).env l.thread.hint) (onto (onpath (work_of_live p d bits ks l).env (in_stage l.thread.stage p.stmts)) (past_of p l.env l.thread.stage))
         guessed_end =
-            subst (λ (w : Work). AllOps (GuessDone (deeds_of p st bits l).advice w.env w.guess) (onto mine (past_of p l.env l.thread.stage))) (sym (told_here p (sound_flows p sound) st d bits sim.arrays ks l k foresees).is)
-            (subst (λ (e : Deeds). AllOps (GuessDone e.advice e.env e.guess) (onto mine (past_of p l.env l.thread.stage))) (sym (deeds_are p (sound_flows p sound) st d bits sim.arrays ks l k))
+            subst (λ (w : Work). AllOps (GuessDone (deeds_of p st bits l).advice w.env l.thread.hint) (onto mine (past_of p l.env l.thread.stage))) (sym (told_here p (sound_flows p sound) st d bits sim.arrays ks l k foresees).is)
+            (subst (λ (e : Deeds). AllOps (GuessDone e.advice e.env l.thread.hint) (onto mine (past_of p l.env l.thread.stage))) (sym (deeds_are p (sound_flows p sound) st d bits sim.arrays ks l k))
             (guesses_all (around p d bits (dacts p d bits ks) l.thread.stage l.thread.hint) (word_for st l.number) (λ b. block_ready p st l.number b) (λ q. Derived.port_free p d bits (dacts p d bits ks) q.mem)
-            (work_of_live p d bits ks l).env (has_made p l.env l.thread.stage) (in_stage l.thread.stage p.stmts) (past_of p l.env l.thread.stage) _ (start_of (now_of p d bits l))
-            (starts_here p (sound_flows p sound) st d bits sim.arrays ks l k) (fit_all p (sound_flows p sound) st d bits sim.arrays ks l k) (fixed_way p (sound_flows p sound) st d bits sim.arrays ks l k)
-            (calls_here p (sound_flows p sound) l.env (now_of p d bits l) now_keeps (around p d bits (dacts p d bits ks) l.thread.stage l.thread.hint))
-            (λ e. uncalled false (on_way p l.env l.thread.stage) [] e (λ i. tt)) kept_back.0 kept_back.1
-            (subst (λ e. AllOps (GuessDone l.advice e l.thread.guess) (past_of p l.env l.thread.stage)) k.values
-            (kept_guesses l.advice l.thread.guess (past_of p l.env l.thread.stage) (l.kept ++ Machine.answered_reads p st bits l.number l.thread.awaits) l.env (kept_unused p l.env (l.kept ++ Machine.answered_reads p st bits l.number l.thread.awaits) (now_of p d bits l) now_local) h.guessed))))
+            (work_of_live p d bits ks l).env (in_stage l.thread.stage p.stmts) (past_of p l.env l.thread.stage) _ (start_of (now_of p d bits l))
+            (starts_here p (sound_flows p sound) st d bits sim.arrays ks l k) (fit_all p (sound_flows p sound) st d bits sim.arrays ks l k) (fixed_way p (sound_flows p sound) st d bits sim.arrays ks l k) foresees kept_back.0 kept_back.1
+            (subst (λ e. AllOps (GuessDone l.advice e l.thread.hint) (past_of p l.env l.thread.stage)) k.values
+            (kept_guesses l.advice l.thread.hint (past_of p l.env l.thread.stage) (l.kept ++ Machine.answered_reads p st bits l.number l.thread.awaits) l.env (kept_unused p l.env (l.kept ++ Machine.answered_reads p st bits l.number l.thread.awaits) (now_of p d bits l) now_local) h.guessed))))
           where
             mine : List Stmt
             mine = onpath (work_of_live p d bits ks l).env (in_stage l.thread.stage p.stmts)
@@ -359,7 +357,7 @@ module _ (p : Pipe) (sound : Sound p) (strict : Strict p) where
         lasting_moved q goes =
             record {
               local = moved_local q goes;
-              guessed = subst (λ ops. AllOps (GuessDone (deeds_of p st bits l).advice (work_of_live p d bits ks l).env (work_of_live p d bits ks l).guess) ops) (sym is_past) guessed_end;
+              guessed = subst (λ ops. AllOps (GuessDone (deeds_of p st bits l).advice (work_of_live p d bits ks l).env l.thread.hint) ops) (sym is_past) guessed_end;
               owns =
                   subst
                   (λ qs. Owns

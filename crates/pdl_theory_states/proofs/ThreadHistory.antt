@@ -62,7 +62,7 @@ pub record Local (p : Pipe) (env : List ℕ) (kept : List Kept) (t : Derived.Thr
   pub among : AllStmts (λ z. Among z.stage trail) (on_way p env t.stage)
   -- what it did there
   pub done : AllOps (Done env t.guess) (past_of p env t.stage)
-  pub guessed : t.guess ≡ guess_past (past_of p env t.stage) env
+  pub guessed : t.guess ≡ guess_past t.hint (past_of p env t.stage) env
   pub placed : AllPlaced env (past_of p env t.stage) t.entries
   -- what it asked for in the last one
   pub asks : List Ask
@@ -225,7 +225,7 @@ local_fresh p flows hint args =
       walked = refl;
       among = subst (λ l. AllStmts (λ z. Among z.stage []) l) (sym (flows.first_piece (start_env p args))) tt;
       done = subst (λ l. AllOps (Done (start_env p args) []) (onto l [])) (sym (flows.first_piece (start_env p args))) tt;
-      guessed = ap (λ l. guess_past (onto l []) (start_env p args)) (sym (flows.first_piece (start_env p args)));
+      guessed = ap (λ l. guess_past _ (onto l []) (start_env p args)) (sym (flows.first_piece (start_env p args)));
       placed = tt;
       asks = [];
       asked = tt;
@@ -244,8 +244,7 @@ all_flip P [] f = tt
 all_flip P (q ∷ qs) f = ((λ a. (f a).0), all_flip P qs (λ a. (f a).1))
 
 -- no call among statements
-pub
-uncalled : (c : Bool) (xs : List Stmt) (past : List Op)
+pub uncalled : (c : Bool) (xs : List Stmt) (past : List Op)
     → called c xs ≡ false → (c ≡ false → AllOps (λ op. is_call op ≡ false) past)
     → AllOps (λ op. is_call op ≡ false) (onto xs past)
 uncalled c [] past h f = f h
@@ -263,9 +262,9 @@ kept_done guess past (k ∷ kept) env u h =
     kept_done guess past kept (slice_set env k.var k.word) u.1
     (ops_both (λ op t d. done_agrees env (slice_set env k.var k.word) guess op (set_agrees k.var k.word op env t) d) past u.0 h)
 
-kept_guess : (past : List Op) (kept : List Kept) (env : List ℕ) → AllKept (λ k. AllOps (λ op. touches k.var op ≡ false) past) kept → guess_past past env ≡ guess_past past (with_kept kept env)
-kept_guess past [] env u = refl
-kept_guess past (k ∷ kept) env u = guess_set k.var k.word env past u.0 ∙ kept_guess past kept (slice_set env k.var k.word) u.1
+kept_guess : (hint : List ℕ) (past : List Op) (kept : List Kept) (env : List ℕ) → AllKept (λ k. AllOps (λ op. touches k.var op ≡ false) past) kept → guess_past hint past env ≡ guess_past hint past (with_kept kept env)
+kept_guess hint past [] env u = refl
+kept_guess hint past (k ∷ kept) env u = guess_set hint k.var k.word env past u.0 ∙ kept_guess hint past kept (slice_set env k.var k.word) u.1
 
 kept_placed : (past : List Op) (es : List Entry) (kept : List Kept) (env : List ℕ)
     → AllKept (λ k. AllOps (λ op. touches k.var op ≡ false) past) kept → AllPlaced env past es
@@ -319,7 +318,7 @@ module _ (p : Pipe) (flows : Flows p) (sound : Sound p) (strict : Strict p) (o :
         done =
             subst (λ l. AllOps (Done l t.guess) (past_of p env t.stage)) values
             (kept_done t.guess (past_of p env t.stage) kept env (kept_unused p env kept t loc) loc.done);
-        guessed = loc.guessed ∙ kept_guess (past_of p env t.stage) kept env (kept_unused p env kept t loc) ∙ ap (guess_past (past_of p env t.stage)) values;
+        guessed = loc.guessed ∙ kept_guess t.hint (past_of p env t.stage) kept env (kept_unused p env kept t loc) ∙ ap (guess_past t.hint (past_of p env t.stage)) values;
         placed =
             subst (λ l. AllPlaced l (past_of p env t.stage) t.entries) values
             (kept_placed (past_of p env t.stage) t.entries kept env (kept_unused p env kept t loc) loc.placed);
@@ -328,9 +327,7 @@ module _ (p : Pipe) (flows : Flows p) (sound : Sound p) (strict : Strict p) (o :
         blocks = blocks;
       }
 
-  pub
-
-  whole_way : onpath (work_of_stage p o t).env p.stmts
+  pub whole_way : onpath (work_of_stage p o t).env p.stmts
       ≡ (on_way p env t.stage ++ onpath (work_of_stage p o t).env (in_stage t.stage p.stmts))
       ++ onpath (work_of_stage p o t).env (stages_from (next_of p t.stage (work_of_stage p o t).env) p.stmts)
   whole_way =
@@ -444,7 +441,7 @@ module _ (p : Pipe) (flows : Flows p) (sound : Sound p) (strict : Strict p) (o :
               (stmts_map (λ z i. inl i) (onpath (work_of_stage p o t).env (in_stage t.stage p.stmts))
               (stage_stmts (work_of_stage p o t).env t.stage p.stmts)));
           done = subst (λ l. AllOps (Done (work_of_stage p o t).env (work_of_stage p o t).guess) l) (sym past_q) e.done;
-          guessed = e.guessed ∙ ap (λ l. guess_past l (work_of_stage p o t).env) (sym past_q);
+          guessed = e.guessed ∙ ap (λ l. guess_past o.guess l (work_of_stage p o t).env) (sym past_q);
           placed = subst (λ l. AllPlaced (work_of_stage p o t).env l (work_of_stage p o t).entries) (sym past_q) e.placed;
           asks = (work_of_stage p o t).asks;
           asked = subst (λ l. AllAsks (AskedBy (work_of_stage p o t).env l) (work_of_stage p o t).asks) (sym past_q) e.asked;

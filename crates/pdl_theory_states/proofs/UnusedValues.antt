@@ -86,7 +86,7 @@ value_agree (Choose c a b) env env' f =
     let n = value_agree b env env' (λ g h. f g (or_right (uses_in g c) _ (or_right (uses_in g a) _ h))) in
     λ i. Words.mux (k i) (m i) (n i)
 
-values_agree : (es : List Expr) (env env' : List ℕ)
+pub values_agree : (es : List Expr) (env env' : List ℕ)
     → ((g : ℕ) → uses_any g es ≡ true → slice_index env g ≡ slice_index env' g) → values_of es env ≡ values_of es env'
 values_agree [] env env' f = refl
 values_agree (e ∷ es) env env' f =
@@ -107,6 +107,9 @@ Done env guess (Call args) = Unit {0}
 Done env guess (Verify last args) = Unit {0}
 Done env guess SpecCheck = Unit {0}
 Done env guess SpecBarrier = Unit {0}
+Done env guess (AdviceBind x e) = Unit {0}
+Done env guess (AdviceRead x m a) = Unit {0}
+Done env guess (AdviceWrite m a e) = Unit {0}
 
 -- two lists of values agree on the variables that a statement hangs on
 abbrev pub Agrees : Op → List ℕ → List ℕ → Type 0
@@ -127,28 +130,23 @@ done_agrees env env' guess (Call args) f h = tt
 done_agrees env env' guess (Verify last args) f h = tt
 done_agrees env env' guess SpecCheck f h = tt
 done_agrees env env' guess SpecBarrier f h = tt
+done_agrees env env' guess (AdviceBind x e) f h = tt
+done_agrees env env' guess (AdviceRead x m a) f h = tt
+done_agrees env env' guess (AdviceWrite m a e) f h = tt
 
--- the guess after these statements, the last one first: what the last statement gave that gives one
-abbrev pub guess_past : List Op → List ℕ → List ℕ
-guess_past [] env = []
-guess_past (op ∷ past) env = guess_after op env (guess_past past env)
+-- the guess after these statements, the last one first: what the last statement gave that gives one, where a speculative call gives the hint
+abbrev pub guess_past : List ℕ → List Op → List ℕ → List ℕ
+guess_past hint [] env = []
+guess_past hint (SpecCall args ∷ past) env = hint
+guess_past hint (Verify last args ∷ past) env = values_of args env
+guess_past hint (_ ∷ past) env = guess_past hint past env
 
--- after a statement the guess is the same by values that agree on all variables that it hangs on
-pub guess_agrees : (op : Op) (env env' guess guess' : List ℕ) → Agrees op env env' → guess ≡ guess'
-    → guess_after op env guess ≡ guess_after op env' guess'
-guess_agrees (SpecCall args) env env' guess guess' f h = values_agree args env env' f
-guess_agrees (Verify last args) env env' guess guess' f h = values_agree args env env' f
-guess_agrees (Bind x e) env env' guess guess' f h = h
-guess_agrees (CombRead x m a) env env' guess guess' f h = h
-guess_agrees (DelayedRead x m a) env env' guess guess' f h = h
-guess_agrees (Write m a e) env env' guess guess' f h = h
-guess_agrees (ReserveRead m a) env env' guess guess' f h = h
-guess_agrees (ReserveWrite m a) env env' guess guess' f h = h
-guess_agrees (Block m a) env env' guess guess' f h = h
-guess_agrees (Release m a) env env' guess guess' f h = h
-guess_agrees (Call args) env env' guess guess' f h = h
-guess_agrees SpecCheck env env' guess guess' f h = h
-guess_agrees SpecBarrier env env' guess guess' f h = h
+-- by values that agree on all variables that a statement hangs on it is the same
+pub guess_agrees : (hint : List ℕ) (op : Op) (past : List Op) (env env' : List ℕ) → Agrees op env env' → guess_past hint past env ≡ guess_past hint past env'
+    → guess_past hint (op ∷ past) env ≡ guess_past hint (op ∷ past) env'
+guess_agrees hint (SpecCall args) past env env' f h = refl
+guess_agrees hint (Verify last args) past env env' f h = values_agree args env env' f
+guess_agrees hint _ past env env' f h = h
 
 -- what a statement gave doesn't hang on the guess
 pub done_guess : (env guess guess' : List ℕ) (op : Op) → Done env guess op → Done env guess' op
@@ -165,11 +163,9 @@ done_guess env guess guess' (SpecCall args) h = tt
 done_guess env guess guess' (Verify last args) h = tt
 done_guess env guess guess' SpecCheck h = tt
 done_guess env guess guess' SpecBarrier h = tt
-
--- the guess after statements that were carried out one after another is what these give, in the order of the text
-pub guess_onto : (xs : List Stmt) (past : List Op) (env : List ℕ) → guess_past (onto xs past) env ≡ guess_of xs env (guess_past past env)
-guess_onto [] past env = refl
-guess_onto (x ∷ xs) past env = guess_onto xs (x.op ∷ past) env
+done_guess env guess guess' (AdviceBind x e) h = tt
+done_guess env guess guess' (AdviceRead x m a) h = tt
+done_guess env guess guess' (AdviceWrite m a e) h = tt
 
 -- a statement that has nothing to do with a variable doesn't hang on its value
 pub mention_touch : (x : ℕ) (op : Op) → mentions_var x op ≡ false → touches x op ≡ false

@@ -26,6 +26,9 @@ uses_own (SpecCall args) = false
 uses_own (Verify last args) = false
 uses_own SpecCheck = false
 uses_own SpecBarrier = false
+uses_own (AdviceBind x e) = false
+uses_own (AdviceRead x m a) = false
+uses_own (AdviceWrite m a e) = false
 
 -- whether one of these binds or uses a variable
 abbrev pub is_mentioned : ℕ → List Op → Bool
