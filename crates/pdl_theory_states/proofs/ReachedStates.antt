@@ -88,7 +88,7 @@ module _ (p : Pipe) (sound : Sound p) (strict : Strict p) where
   fresh_lasting st n hint args older =
       record {
         local = local_fresh p (sound_flows p sound) hint args;
-        guessed = subst (λ l. AllOps (GuessDone [] (start_env p args) _) (onto l [])) (sym ((sound_flows p sound).first_piece (start_env p args))) tt;
+        guessed = subst (λ l. AllOps (GuessDone [] (start_env p args) hint) (onto l [])) (sym ((sound_flows p sound).first_piece (start_env p args))) tt;
         owns = tt;
         certain = λ v e h. absurd (cc (sym (ap (λ l. barred (onto l [])) ((sound_flows p sound).first_piece (start_env p args))) ∙ h));
         blocks =

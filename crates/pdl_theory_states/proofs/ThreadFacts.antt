@@ -248,7 +248,7 @@ module _ (p : Pipe) (sound : Sound p) (strict : Strict p) where
             past_end p (sound_flows p sound) sound strict
             (around p d bits (dacts p d bits ks) l.thread.stage l.thread.hint) kind l.env
             (l.kept ++ Machine.answered_reads p st bits l.number l.thread.awaits)
-            (now_of p d bits l) now_keeps k.values now_local ready block_start
+            (now_of p d bits l) now_keeps k.values now_local ready refl block_start
 
         -- what it has guessed
         guessed_end : AllOps (GuessDone (deeds_of p st bits l).advice (work_of_live p d bits ks l).env l.thread.hint) (onto (onpath (work_of_live p d bits ks l).env (in_stage l.thread.stage p.stmts)) (past_of p l.env l.thread.stage))
@@ -268,7 +268,7 @@ module _ (p : Pipe) (sound : Sound p) (strict : Strict p) where
             kept_back =
                 keep_back (on_way p l.env l.thread.stage) (onpath (work_of_live p d bits ks l).env (in_stage l.thread.stage p.stmts)) []
                 (keep_front (on_way p l.env l.thread.stage ++ onpath (work_of_live p d bits ks l).env (in_stage l.thread.stage p.stmts)) _ (subst (λ xs. all_keep_guess xs ≡ true)
-                (whole_way p (sound_flows p sound) sound strict (around p d bits (dacts p d bits ks) l.thread.stage l.thread.hint) kind l.env (l.kept ++ Machine.answered_reads p st bits l.number l.thread.awaits) (now_of p d bits l) now_keeps k.values now_local ready)
+                (whole_way p (sound_flows p sound) sound strict (around p d bits (dacts p d bits ks) l.thread.stage l.thread.hint) kind l.env (l.kept ++ Machine.answered_reads p st bits l.number l.thread.awaits) (now_of p d bits l) now_keeps k.values now_local ready refl)
                 (strict.guesses (work_of_live p d bits ks l).env))) tt
 
         own_requests : AllAsks
@@ -340,7 +340,7 @@ module _ (p : Pipe) (sound : Sound p) (strict : Strict p) where
             local_moved p (sound_flows p sound) sound strict
             (around p d bits (dacts p d bits ks) l.thread.stage l.thread.hint) kind l.env
             (l.kept ++ Machine.answered_reads p st bits l.number l.thread.awaits)
-            (now_of p d bits l) now_keeps k.values now_local ready q goes block_start
+            (now_of p d bits l) now_keeps k.values now_local ready refl q goes block_start
 
         trail_moved : (q : ℕ) (goes : goes_to (stage_at p l.thread.stage).next (work_of_live p d bits ks l).env ≡ Some q)
             → (moved_local q goes).trail ≡ l.thread.stage ∷ now_local.trail
@@ -348,7 +348,7 @@ module _ (p : Pipe) (sound : Sound p) (strict : Strict p) where
             moved_trail p (sound_flows p sound) sound strict
             (around p d bits (dacts p d bits ks) l.thread.stage l.thread.hint) kind l.env
             (l.kept ++ Machine.answered_reads p st bits l.number l.thread.awaits)
-            (now_of p d bits l) now_keeps k.values now_local ready q goes block_start
+            (now_of p d bits l) now_keeps k.values now_local ready refl q goes block_start
 
         -- what holds of a live thread holds of it after a cycle in which it moves to a next stage
         pub lasting_moved : (q : ℕ) → goes_to (stage_at p l.thread.stage).next (work_of_live p d bits ks l).env ≡ Some q
@@ -367,7 +367,7 @@ module _ (p : Pipe) (sound : Sound p) (strict : Strict p) where
                   (moved_asks p (sound_flows p sound) sound strict
                   (around p d bits (dacts p d bits ks) l.thread.stage l.thread.hint) kind l.env
                   (l.kept ++ Machine.answered_reads p st bits l.number l.thread.awaits)
-                  (now_of p d bits l) now_keeps k.values now_local ready q goes block_start))
+                  (now_of p d bits l) now_keeps k.values now_local ready refl q goes block_start))
                   (owns_made
                   (next_state p (sound_flows p sound) st d bits ls sim) l.number
                   (work_of_live p d bits ks l).asks own_requests);
@@ -403,7 +403,7 @@ module _ (p : Pipe) (sound : Sound p) (strict : Strict p) where
                 past_q p (sound_flows p sound) sound strict
                 (around p d bits (dacts p d bits ks) l.thread.stage l.thread.hint) kind l.env
                 (l.kept ++ Machine.answered_reads p st bits l.number l.thread.awaits)
-                (now_of p d bits l) now_keeps k.values now_local ready q goes
+                (now_of p d bits l) now_keeps k.values now_local ready refl q goes
 
             before : (v : ℕ) → verify_stage p.stmts ≡ Some v
                 → (some_barrier (onpath (work_of_live p d bits ks l).env (in_stage l.thread.stage p.stmts)) ≡ true)

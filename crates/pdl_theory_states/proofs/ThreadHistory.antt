@@ -225,7 +225,7 @@ local_fresh p flows hint args =
       walked = refl;
       among = subst (λ l. AllStmts (λ z. Among z.stage []) l) (sym (flows.first_piece (start_env p args))) tt;
       done = subst (λ l. AllOps (Done (start_env p args) []) (onto l [])) (sym (flows.first_piece (start_env p args))) tt;
-      guessed = ap (λ l. guess_past _ (onto l []) (start_env p args)) (sym (flows.first_piece (start_env p args)));
+      guessed = ap (λ l. guess_past hint (onto l []) (start_env p args)) (sym (flows.first_piece (start_env p args)));
       placed = tt;
       asks = [];
       asked = tt;
@@ -305,7 +305,7 @@ kept_steady p env kept t loc =
 
 module _ (p : Pipe) (flows : Flows p) (sound : Sound p) (strict : Strict p) (o : Around) (kind : Kind o) (env : List ℕ)
     (kept : List Kept) (t : Derived.Thread) (kept_answer : Keeps p env t) (values : with_kept kept env ≡ t.env)
-    (loc : Local p env kept t) (ready : (work_of_stage p o t).ready ≡ true) where
+    (loc : Local p env kept t) (ready : (work_of_stage p o t).ready ≡ true) (hinted : o.guess ≡ t.hint) where
   -- the statements of the thread's stage that are on its path
   abbrev pub mine : List Stmt
   mine = onpath (work_of_stage p o t).env (in_stage t.stage p.stmts)
@@ -318,7 +318,8 @@ module _ (p : Pipe) (flows : Flows p) (sound : Sound p) (strict : Strict p) (o :
         done =
             subst (λ l. AllOps (Done l t.guess) (past_of p env t.stage)) values
             (kept_done t.guess (past_of p env t.stage) kept env (kept_unused p env kept t loc) loc.done);
-        guessed = loc.guessed ∙ kept_guess t.hint (past_of p env t.stage) kept env (kept_unused p env kept t loc) ∙ ap (guess_past t.hint (past_of p env t.stage)) values;
+        guessed = loc.guessed ∙ kept_guess t.hint (past_of p env t.stage) kept env (kept_unused p env kept t loc) ∙ ap (guess_past t.hint (past_of p env t.stage)) values
+            ∙ ap (λ g. guess_past g (past_of p env t.stage) t.env) (sym hinted);
         placed =
             subst (λ l. AllPlaced l (past_of p env t.stage) t.entries) values
             (kept_placed (past_of p env t.stage) t.entries kept env (kept_unused p env kept t loc) loc.placed);
@@ -441,7 +442,7 @@ module _ (p : Pipe) (flows : Flows p) (sound : Sound p) (strict : Strict p) (o :
               (stmts_map (λ z i. inl i) (onpath (work_of_stage p o t).env (in_stage t.stage p.stmts))
               (stage_stmts (work_of_stage p o t).env t.stage p.stmts)));
           done = subst (λ l. AllOps (Done (work_of_stage p o t).env (work_of_stage p o t).guess) l) (sym past_q) e.done;
-          guessed = e.guessed ∙ ap (λ l. guess_past o.guess l (work_of_stage p o t).env) (sym past_q);
+          guessed = e.guessed ∙ ap₂ (λ g l. guess_past g l (work_of_stage p o t).env) hinted (sym past_q);
           placed = subst (λ l. AllPlaced (work_of_stage p o t).env l (work_of_stage p o t).entries) (sym past_q) e.placed;
           asks = (work_of_stage p o t).asks;
           asked = subst (λ l. AllAsks (AskedBy (work_of_stage p o t).env l) (work_of_stage p o t).asks) (sym past_q) e.asked;
