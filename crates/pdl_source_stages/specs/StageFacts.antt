@@ -1,6 +1,6 @@
 -- What the rules of the language give of an accepted pipe's stage graph and of its text: the facts of `Sound` that no path's statements are asked for.
 use Rattle.std.specs.Prelude.{◌≡◌, ℕ, suc, ◌≤◌, ◌<◌, true, false, List, [], ◌∷◌, Some, length, nat_lt}
-use Rattle.pdl_semantics.specs.Flat.{list_all, Op, Bind, CombRead, DelayedRead, Write, ReserveRead, ReserveWrite, Block, Release, Call, SpecCall, Verify, SpecCheck, SpecBarrier, Stmt, Branch, Forks, Pipe}
+use Rattle.pdl_semantics.specs.Flat.{list_all, Op, Bind, CombRead, DelayedRead, Write, ReserveRead, ReserveWrite, Block, Release, Call, SpecCall, Verify, SpecCheck, SpecBarrier, AdviceBind, AdviceRead, AdviceWrite, Stmt, Branch, Forks, Pipe}
 use Rattle.pdl_semantics.specs.Stages.{is_inside, is_reserve, is_release, is_verify, onpath, in_stage, stage_at, verify_stage, commit_stage, reserve_stage}
 use Rattle.pdl_semantics.specs.Cycle.{merges_by}
 use Rattle.pdl_semantics.specs.Promises.{KeepsAdvice}
@@ -25,6 +25,9 @@ FoundIf p fetch s (SpecCall _) = Unit {0}
 FoundIf p fetch s (Verify _ _) = Unit {0}
 FoundIf p fetch s SpecCheck = Unit {0}
 FoundIf p fetch s SpecBarrier = Unit {0}
+FoundIf p fetch s (AdviceBind x e) = Unit {0}
+FoundIf p fetch s (AdviceRead x m a) = Unit {0}
+FoundIf p fetch s (AdviceWrite m a e) = Unit {0}
 
 -- what is known of the delayed reads of stage s holds of each of these statements
 abbrev pub AllFound : Pipe → (ℕ → ℕ) → ℕ → List Stmt → Type 0
