@@ -245,6 +245,9 @@ module _ (p : Pipe) (rules : KeepsRules p) (v : Guard → Bool) (staged : All St
               of_stmt (If sp d a b) k = of_if d
               of_stmt (Reserve sp l R) k = refl
               of_stmt (Reserve sp l W) k = refl
+              of_stmt (CombRead sp x at) k = either_read (λ op. some_op Stages.is_verify (op ∷ []) ≡ false) (is_advisory_mem p.mems at.mem.name) _ _ _ refl refl
+              of_stmt (Bind sp x e) k = either_bind (λ op. some_op Stages.is_verify (op ∷ []) ≡ false) (is_advised u.walk.vars e) _ _ refl refl
+              of_stmt (Write sp at e) k = either_write (λ op. some_op Stages.is_verify (op ∷ []) ≡ false) (is_advisory_mem p.mems at.mem.name) _ _ _ refl refl
               of_stmt _ k = refl
 
       found :
