@@ -7,7 +7,7 @@ returns-in-None c all earlier l x kept is there own = waits_for_none all earlier
 
 pub returns-then-first-number : goal.returns-then-first-number
 returns-then-first-number c all earlier l x kept is there own =
-    let n = c.in-Some.field-0 in
+    let n = c.in-Some.first in
     let uses = c.args.uses.now in
     ap (λ (u : _). u.writes == 0) c.use_at.ensures
     ∙ ap (λ b. b && ((get_or uses n c.none.result).writes == 0)) (sym c.if-first-number.true)
@@ -15,7 +15,7 @@ returns-then-first-number c all earlier l x kept is there own =
 
 pub returns-else-first-number : goal.returns-else-first-number
 returns-else-first-number c all earlier l x kept is there own =
-    let n = c.in-Some.field-0 in
+    let n = c.in-Some.first in
     let uses = c.args.uses.now in
     ap (λ b. b && ((get_or uses n c.none.result).writes == 0)) (sym c.if-first-number.false)
     ∙ waits all earlier l x uses c.none.result c.args.first n c.args.number kept is there own c.in-Some.is
