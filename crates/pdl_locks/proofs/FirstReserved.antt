@@ -65,16 +65,13 @@ pub first_there : (m : List ℕ) (f : Location) (keep : Place → Bool) (before 
 first_there m f keep [] later h = absurd (none_and_some f h)
 first_there m f keep (y ∷ before) later h = at (keep y) refl h (λ k. one_before Locations f y (before ++ later) (first_there m f keep before later k))
   where
-    abbrev Is : Type 0
-    Is = first_place Locations f (y ∷ before ++ later) < length (y ∷ before ++ later)
-
     which : (b : Bool) → is_reserve_of W m y ≡ b → (if b then location_at y else first_reserved m (filter keep before)) ≡ Some f
-        → (first_reserved m (filter keep before) ≡ Some f → Is) → Is
+        → (first_reserved m (filter keep before) ≡ Some f → first_place Locations f (y ∷ before ++ later) < length (y ∷ before ++ later)) → first_place Locations f (y ∷ before ++ later) < length (y ∷ before ++ later)
     which true e k past = found Locations f [] (before ++ later) y (is_own Locations f y k)
     which false e k past = past k
 
     at : (b : Bool) → keep y ≡ b → first_reserved m (cond b (y ∷ filter keep before) (filter keep before)) ≡ Some f
-        → (first_reserved m (filter keep before) ≡ Some f → Is) → Is
+        → (first_reserved m (filter keep before) ≡ Some f → first_place Locations f (y ∷ before ++ later) < length (y ∷ before ++ later)) → first_place Locations f (y ∷ before ++ later) < length (y ∷ before ++ later)
     at true e k past = which (is_reserve_of W m y) refl k past
     at false e k past = past k
 

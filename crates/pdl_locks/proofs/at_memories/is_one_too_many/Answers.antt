@@ -29,7 +29,7 @@ returns-in-W c earlier =
     let at = location_view c.in-Reserve.at.now in
     let is = c.in-Reserve.is ∙ ap (Reserve c.in-Reserve.at) c.in-W.is in
     let most : c.most_reserves.result ≡ spec.most_reservations p.mems W at.mem.name =
-    c.most_reserves.ensures ∙ ap (λ ms. spec.most_reservations (map mem_view ms) W at.mem.name) c.as_slice.ensures.value in
+    c.most_reserves.ensures ∙ ap (λ ms. spec.most_reservations (map mem_view ms) W at.mem.name) c.as_slice.ensures in
     subst
     (λ (a : Action). IsOwn IsUsedMemory c.args.used earlier (place_at s bs a)
     → nat_le c.most_reserves.result c.args.used.reserves ≡ spec.is_one_too_many p earlier (place_at s bs a))

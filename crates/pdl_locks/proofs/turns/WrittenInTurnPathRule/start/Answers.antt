@@ -12,6 +12,6 @@ returns c gs all s =
     let rows = map place_view places in (
       subst (λ us. AreKept Locations IsUsed rows [] us) (sym (c.in_ok-uses.ensures.items_if_clones_equal (λ y h. h)))
           (begun Locations IsUsed rows c.none.result (length places) (sym (length-map places place_view)) c.none.ensures),
-      subst (λ us. AreKept Memories (IsFirst rows) rows [] us) (sym (c.in_ok-first.ensures.items_if_clones_equal (λ y h. h)))
+      subst (λ us. AreKept Memories (IsFirst rows) rows [] us) (sym c.in_ok-first.ensures)
           (begun Memories (IsFirst rows) rows None (length places) (sym (length-map places place_view)) (λ l. refl)),
     )
