@@ -62,3 +62,13 @@ pub waits_for_none : (all earlier : List Place) (l : Location) (first : Option �
     → IsFirst all first l earlier → first ≡ None → false ≡ is_out_of_turn l earlier (first_reserved l.mem.name earlier)
 waits_for_none all earlier l first is none =
     sym (ap (is_out_of_turn l earlier) (unnumbered all (first_reserved l.mem.name earlier) (sym none ∙ is)))
+
+-- the one that was reserved first waits for none
+pub waits_own : (all earlier : List Place) (l : Location) (x : Place) (first : Option ℕ) (n k : ℕ)
+    → IsFirst all first l earlier → IsThere all l earlier → k ≡ first_place Locations l all → first ≡ Some n → n ≡ k
+    → false ≡ is_out_of_turn l earlier (first_reserved l.mem.name earlier)
+waits_own all earlier l x first n k is there own some same =
+    let f = numbered all (first_reserved l.mem.name earlier) n (sym some ∙ is) in
+    ap (λ a. not a && not (list_any (writes_location f.0) earlier))
+    (sym (eq-eqb n k same) ∙ same_number all l f.0 x n k f.2 own (there f.0 f.1))
+    ∙ sym (ap (is_out_of_turn l earlier) f.1)
