@@ -1,4 +1,4 @@
-use Rattle.std.proofs.Common.{◌≡◌, sym, ap, ◌∙◌, get_or, not, ◌&&◌, ◌==◌, ne_eqb}
+use Rattle.std.proofs.Common.{◌≡◌, sym, ap, ◌∙◌, get_or, not, ◌&&◌, ◌==◌, eq-eqb, ne_eqb}
 use Rattle.pdl_locks.proofs.WriteTurns.{waits, waits_own, waits_for_none}
 use Rattle.pdl_locks.proofs.turns.waits_for.Goals as goal
 
@@ -15,4 +15,5 @@ returns-then-first-number c all earlier l x kept is there own =
 
 pub returns-else-first-number : goal.returns-else-first-number
 returns-else-first-number c all earlier l x kept is there own =
-    waits_own all earlier l x c.args.first c.in-Some.first c.args.number is there own c.in-Some.is c.if-first-number.false
+    ap not (eq-eqb c.in-Some.first c.args.number c.if-first-number.false)
+    ∙ waits_own all earlier l x c.args.first c.in-Some.first c.args.number is there own c.in-Some.is c.if-first-number.false
