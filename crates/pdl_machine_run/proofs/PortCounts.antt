@@ -31,7 +31,7 @@ one_counted l t ws = at (has_lock l) t
     at : (b t : Bool) → length (if b then shown_values ws ++ (if t then second_values ws else []) else []) ≡ (if b then (if t then 6 else 3) else 0)
     at false t = refl
     at true true = let a = shown_counted ws in let b = second_counted ws in let c = length-append (shown_values ws) (second_values ws) in omega (arith, a, b, c)
-    at true false = let a = shown_counted ws in let c = length-append {ℕ} (shown_values ws) [] in omega (arith, a, c)
+    at true false = let a = shown_counted ws in let c = length-append {A = ℕ} (shown_values ws) [] in omega (arith, a, c)
 
 request_counted : (b : Bool) (o : Option ℕ) → length (if b then request_values o else []) ≡ (if b then 2 else 0)
 request_counted false o = refl
