@@ -15,7 +15,7 @@ use Rattle.pdl_locks.proofs.UseSteps.{HasLaws}
 use Rattle.pdl_word.proofs.Bytes.{bytes_same}
 
 -- there is none and some
-pub none_and_some : {T : Type 0} (x : T) → None {T} ≡ Some x → ⊥
+pub none_and_some : {T : Type 0} (x : T) → None ≡ Some x → ⊥
 none_and_some x e = false≢true (ap is_some e)
 
 -- a place that reserves a memory has a location
@@ -38,43 +38,42 @@ first_stays m (y ∷ before) x h = at (is_reserve_of W m y) refl (first_stays m 
 pub first_kept : (m : List ℕ) (before : List Place) (x : Place) (f : Location)
     → first_reserved m before ≡ Some f → first_reserved m (before ++ x ∷ []) ≡ Some f
 first_kept m [] x f h = absurd (none_and_some f h)
-first_kept m (y ∷ before) x f h = at (is_reserve_of W m y) refl h
+first_kept m (y ∷ before) x f h = at (is_reserve_of W m y) refl h (λ k. first_kept m before x f k)
   where
     at : (b : Bool) → is_reserve_of W m y ≡ b → (if b then location_at y else first_reserved m before) ≡ Some f
+        → (first_reserved m before ≡ Some f → first_reserved m (before ++ x ∷ []) ≡ Some f)
         → first_reserved m (y ∷ before ++ x ∷ []) ≡ Some f
-    at true e k = rw e k
-    at false e k = rw e (first_kept m before x f k)
+    at true e k rest = rw e k
+    at false e k rest = rw e (rest k)
 
 -- where there is none it is that of the place
 pub first_comes : (m : List ℕ) (before : List Place) (x : Place) (l : Location)
     → location_at x ≡ Some l → is_reserve_of W m x ≡ true → first_reserved m before ≡ None
     → first_reserved m (before ++ x ∷ []) ≡ Some l
 first_comes m [] x l own h none = rw h own
-first_comes m (y ∷ before) x l own h none = at (is_reserve_of W m y) refl none
+first_comes m (y ∷ before) x l own h none = at (is_reserve_of W m y) refl none (λ k. first_comes m before x l own h k)
   where
     at : (b : Bool) → is_reserve_of W m y ≡ b → (if b then location_at y else first_reserved m before) ≡ None
+        → (first_reserved m before ≡ None → first_reserved m (before ++ x ∷ []) ≡ Some l)
         → first_reserved m (y ∷ before ++ x ∷ []) ≡ Some l
-    at true e k = let o = reserve_place m y e in absurd (none_and_some o.0 (sym k ∙ o.1))
-    at false e k = rw e (first_comes m before x l own h k)
+    at true e k rest = let o = reserve_place m y e in absurd (none_and_some o.0 (sym k ∙ o.1))
+    at false e k rest = rw e (rest k)
 
 -- the first of some places is a location of all of them
 pub first_there : (m : List ℕ) (f : Location) (keep : Place → Bool) (before later : List Place)
     → first_reserved m (filter keep before) ≡ Some f → first_place Locations f (before ++ later) < length (before ++ later)
 first_there m f keep [] later h = absurd (none_and_some f h)
-first_there m f keep (y ∷ before) later h = at (keep y) refl h
+first_there m f keep (y ∷ before) later h = at (keep y) refl h (λ k. one_before Locations f y (before ++ later) (first_there m f keep before later k))
   where
-    past : first_reserved m (filter keep before) ≡ Some f → first_place Locations f (y ∷ before ++ later) < length (y ∷ before ++ later)
-    past k = one_before Locations f y (before ++ later) (first_there m f keep before later k)
-
     which : (b : Bool) → is_reserve_of W m y ≡ b → (if b then location_at y else first_reserved m (filter keep before)) ≡ Some f
-        → first_place Locations f (y ∷ before ++ later) < length (y ∷ before ++ later)
-    which true e k = found Locations f [] (before ++ later) y (is_own Locations f y k)
-    which false e k = past k
+        → (first_reserved m (filter keep before) ≡ Some f → first_place Locations f (y ∷ before ++ later) < length (y ∷ before ++ later)) → first_place Locations f (y ∷ before ++ later) < length (y ∷ before ++ later)
+    which true e k past = found Locations f [] (before ++ later) y (is_own Locations f y k)
+    which false e k past = past k
 
     at : (b : Bool) → keep y ≡ b → first_reserved m (cond b (y ∷ filter keep before) (filter keep before)) ≡ Some f
-        → first_place Locations f (y ∷ before ++ later) < length (y ∷ before ++ later)
-    at true e k = which (is_reserve_of W m y) refl k
-    at false e k = past k
+        → (first_reserved m (filter keep before) ≡ Some f → first_place Locations f (y ∷ before ++ later) < length (y ∷ before ++ later)) → first_place Locations f (y ∷ before ++ later) < length (y ∷ before ++ later)
+    at true e k past = which (is_reserve_of W m y) refl k past
+    at false e k past = past k
 
 -- its number is the same of each location in its memory, and stays after a place with another
 pub first_laws : (all : List Place) → HasLaws Memories (IsFirst all)

@@ -1,3 +1,4 @@
+mod Results
 mod FirstMatch
 mod KeyNumbers
 pub mod UseSteps

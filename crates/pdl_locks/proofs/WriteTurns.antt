@@ -1,7 +1,7 @@
 -- Whether a location waits for the one that was reserved first.
-use Rattle.std.proofs.Common.{◌≡◌, refl, sym, ap, ◌∙◌, subst, ap₂, ℕ, zero, suc, ◌==◌, ◌<◌, min, nat_le, Bool, true, false, not, ◌&&◌, List, count_by, length, Option, Some, None, eq-eqb, get_or}
+use Rattle.std.proofs.Common.{◌≡◌, refl, sym, ap, ◌∙◌, subst, ap₂, ℕ, zero, suc, ◌==◌, ◌<◌, min, nat_le, Bool, true, false, not, ◌&&◌, List, count_by, length, Option, Some, None, eq-eqb, ne_eqb, get_or, arith}
 use Rattle.std.specs.List.{list_any}
-use Rattle.std.proofs.lemmas.Bool.{eqb-true}
+use Rattle.std.proofs.lemmas.Bool.{eqb-true, le-leb}
 use Rattle.std.specs.Cmp.{both_ways}
 use Rattle.pdl_semantics.specs.Tree.{Location}
 use Rattle.pdl_rules.specs.Places.{Place}
@@ -35,7 +35,7 @@ same_number all l f x n k is own there = both_ways (n == k) (same_location f l)
 
 none_or_one : (n : ℕ) → (n == 0) ≡ not (nat_le 1 n)
 none_or_one zero = refl
-none_or_one (suc n) = refl
+none_or_one (suc n) = ne_eqb (suc n) 0 (λ e. absurd (omega (arith, e))) ∙ sym (ap not (le-leb 1 (suc n) (omega arith)))
 
 -- by these numbers and writes it is told whether it is out of turn
 told : (all earlier : List Place) (l f : Location) (x : Place) (n k w : ℕ) → n ≡ first_place Locations f all → k ≡ first_place Locations l all
@@ -62,3 +62,13 @@ pub waits_for_none : (all earlier : List Place) (l : Location) (first : Option �
     → IsFirst all first l earlier → first ≡ None → false ≡ is_out_of_turn l earlier (first_reserved l.mem.name earlier)
 waits_for_none all earlier l first is none =
     sym (ap (is_out_of_turn l earlier) (unnumbered all (first_reserved l.mem.name earlier) (sym none ∙ is)))
+
+-- the one that was reserved first waits for none
+pub waits_own : (all earlier : List Place) (l : Location) (x : Place) (first : Option ℕ) (n k : ℕ)
+    → IsFirst all first l earlier → IsThere all l earlier → k ≡ first_place Locations l all → first ≡ Some n → n ≡ k
+    → false ≡ is_out_of_turn l earlier (first_reserved l.mem.name earlier)
+waits_own all earlier l x first n k is there own some same =
+    let f = numbered all (first_reserved l.mem.name earlier) n (sym some ∙ is) in
+    ap (λ a. not a && not (list_any (writes_location f.0) earlier))
+    (sym (eq-eqb n k same) ∙ same_number all l f.0 x n k f.2 own (there f.0 f.1))
+    ∙ sym (ap (is_out_of_turn l earlier) f.1)

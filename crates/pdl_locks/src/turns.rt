@@ -1,5 +1,5 @@
 // L6: a reservation to write is released after exactly one write, and those of a memory are written in their order.
-ghost use Rattle.std.specs.Prelude.{◌≡◌, [], ◌∷◌, ◌++◌, List, Some, filter, map, length, true};
+ghost use Rattle.std.specs.Prelude.{◌≡◌, [], ◌∷◌, ◌++◌, IfOk, List, None, Some, filter, map, length, replicate, true};
 ghost use Rattle.pdl_semantics.specs.Tree.{Location as SpecLocation};
 ghost use Rattle.pdl_rules.specs.Places as rules;
 ghost use Rattle.pdl_rules.specs.Places.{on_path};
@@ -56,7 +56,7 @@ impl PathRule for WrittenInTurn<'_, '_> {
 
     fn start(&self, alloc: Global, _path: Path) -> Result<Turns, NoMemory> {
         let uses = vec![in alloc; LocationUse::none(); self.places.len()]?;
-        let first = vec![in alloc; None; self.places.len()]?;
+        let first = none_reserved(alloc, self.places.len())?;
         Ok(Turns { uses, first })
     }
 
@@ -77,6 +77,17 @@ impl PathRule for WrittenInTurn<'_, '_> {
     ghost skips = { λ rule path before x state off stands.
         turns_pass (map place_view rule.places.now) path before x state.uses.items state.first.items
         off stands };
+}
+
+// For so many memories that none of their locations was reserved.
+fn none_reserved(alloc: Global, count: usize) -> Result<Vec<Option<usize>>, NoMemory>
+    ensures { IfOk result (λ v. v.items ≡ replicate count None) }
+{
+    let mut first = Vec::new(alloc);
+    while first.len() < count {
+        first.push(None)?;
+    }
+    Ok(first)
 }
 
 // Passes the k-th place of a text: where it reserves its memory to write, it is the first one if none was.

@@ -1,4 +1,5 @@
 mod Places
+pub mod GuardLists
 pub mod TakenOut
 pub mod MoverDeeds
 pub mod ActLists

@@ -6,9 +6,9 @@ use Rattle.pdl_semantics.specs.Flat.{Mem, Stage, Pipe}
 use Rattle.pdl_semantics.specs.Stages.{plain_mem, list_any}
 use Rattle.pdl_semantics.specs.Machine.{Thread, Request, NoRequest, State, lock_of}
 use Rattle.pdl_semantics.specs.Moves.{Act, all_acts, movers}
-use Rattle.pdl_semantics.specs.Cycle.{for_mems, for_stages, or_then, if_kept, born_thread, child_of, squasher, squash_stage, next_thread, stage_next, with_commits, entries_left, list_three, taken_out, port_write, fork_next, branches_left, request_next, request_left, after_these, after_acts, cycle, ports_these, asked_in}
+use Rattle.pdl_semantics.specs.Cycle.{for_mems, for_stages, or_then, if_kept, born_thread, child_of, squasher, squash_stage, next_thread, stage_next, with_commits, entries_left, list_three, taken_out, port_writes, fork_next, branches_left, request_next, request_left, after_these, after_acts, cycle, ports_these, asked_in}
 use Rattle.pdl_semantics.specs.Cycle as stated
-use Rattle.pdl_machine_facts.specs.Ports.{stage_values, all_commit_values, request_values, all_request_values, whole_values}
+use Rattle.pdl_machine_facts.specs.Ports.{stage_values, all_twice, all_commit_values, request_values, all_request_values, whole_values}
 use Rattle.pdl_form.specs.Form.{Form}
 use Rattle.pdl_machine_pending.specs.Memory.{Memory}
 use Rattle.pdl_machine_run.specs.declared.stage.Stage as r_stage
@@ -327,17 +327,17 @@ module _ (f : Form) (b : r_beside.Beside) (bits : List Bool) (next : ℕ) (ys zs
 
   -- what is shown of stages, commits, requests, the end and the squash are the stated ports
   pub next_ports : (sq : Option ℕ) → sq ≡ squasher ms
-      → stage_values (are_held zs) (are_moving zs) ++ (commits_shown 0 ms xs ++ (requests_shown 0 ms p.mems ++ bit (one_ends p ms) ∷ bit (is_some sq) ∷ []))
+      → stage_values (are_held zs) (are_moving zs) ++ (commits_shown b.twice.items 0 ms xs ++ (requests_shown 0 ms p.mems ++ bit (one_ends p ms) ∷ bit (is_some sq) ∷ []))
       ≡ whole_values p (stated.ports p st (all_acts p st bits))
   next_ports sq squashed =
       ap₂
       (λ (u v : List Bool). stage_values u v
-      ++ (commits_shown 0 ms xs ++ (requests_shown 0 ms p.mems ++ bit (one_ends p ms) ∷ bit (is_some sq) ∷ []))) held_are moving_are
+      ++ (commits_shown b.twice.items 0 ms xs ++ (requests_shown 0 ms p.mems ++ bit (one_ends p ms) ∷ bit (is_some sq) ∷ []))) held_are moving_are
       ∙ ap₂ (λ (u v : List ℕ). stage_values valid moves ++ (u ++ (v ++ bit (one_ends p ms) ∷ bit (is_some sq) ∷ [])))
-      (sym (commits_after st ms 0 p.mems xs mems locked kinds)) (requests_are ms 0 p.mems)
+      (ap (λ (ts : List Bool). commits_shown ts 0 ms xs) beside.twice ∙ sym (commits_after st ms told 0 p.mems xs mems locked kinds)) (requests_are ms 0 p.mems)
       ∙ ap
       (λ (s : Option ℕ). stage_values valid moves
-      ++ (all_commit_values p.mems commits ++ (all_request_values p.mems asked ++ bit (one_ends p ms) ∷ bit (is_some s) ∷ []))) squashed
+      ++ (all_commit_values told p.mems commits ++ (all_request_values p.mems asked ++ bit (one_ends p ms) ∷ bit (is_some s) ∷ []))) squashed
       ∙ ap (λ (as' : List Act). whole_values p (ports_these p st (all_of 0 zs) as')) (sym (movers_are 0 zs))
       ∙ ap (λ (as' : List Act). whole_values p (stated.ports p st as')) these_are
     where
@@ -347,8 +347,11 @@ module _ (f : Form) (b : r_beside.Beside) (bits : List Bool) (next : ℕ) (ys zs
       moves : List Bool
       moves = for_stages (λ s. list_any (λ (a : Act). a.stage == s) ms) 0 p.stages
 
-      commits : List (Option stated.PortWrite)
-      commits = for_mems (λ m. port_write (taken_out st ms m)) 0 p.mems
+      told : List Bool
+      told = all_twice p.stmts 0 p.mems
+
+      commits : List (List stated.PortWrite)
+      commits = for_mems (λ m. port_writes (taken_out st ms m)) 0 p.mems
 
       asked : List (Option ℕ)
       asked = for_mems (λ m. asked_in ms m) 0 p.mems

@@ -31,7 +31,7 @@ one_counted l t ws = at (has_lock l) t
     at : (b t : Bool) → length (if b then shown_values ws ++ (if t then second_values ws else []) else []) ≡ (if b then (if t then 6 else 3) else 0)
     at false t = refl
     at true true = let a = shown_counted ws in let b = second_counted ws in let c = length-append (shown_values ws) (second_values ws) in omega (arith, a, b, c)
-    at true false = let a = shown_counted ws in let c = length-append {ℕ} (shown_values ws) [] in omega (arith, a, c)
+    at true false = let a = shown_counted ws in let c = length-append {A = ℕ} (shown_values ws) [] in omega (arith, a, c)
 
 request_counted : (b : Bool) (o : Option ℕ) → length (if b then request_values o else []) ≡ (if b then 2 else 0)
 request_counted false o = refl
@@ -63,6 +63,11 @@ ports_counted p st acts =
     let b = length-append (all_commit_values ts p.mems o.commits) (all_request_values p.mems o.requests ++ last) in
     let c = length-append (stage_values o.valid o.moves) (all_commit_values ts p.mems o.commits ++ (all_request_values p.mems o.requests ++ last)) in
     omega (arith, stages, memories, a, b, c)
+
+-- each memory is told once
+pub told_counted : (xs : List Stmt) (m : ℕ) (ms : List Mem) → length (all_twice xs m ms) ≡ length ms
+told_counted xs m [] = refl
+told_counted xs m (x ∷ ms) = let rest = told_counted xs (suc m) ms in omega (arith, rest)
 
 -- HOW MANY ARE SHOWN
 

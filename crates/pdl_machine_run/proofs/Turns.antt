@@ -127,7 +127,7 @@ module _ (f : Form) (b : r_beside.Beside) (bits : List Bool) (next : ℕ) (ys zs
   -- what is shown of stages, commits, requests, the end and the squash are the stated ports
   pub turn_ports : (sq : Option ℕ) → sq ≡ squasher ms
       → stage_values (are_held zs) (are_moving zs)
-      ++ (commits_shown 0 ms b.memories.items ++ (requests_shown 0 ms p.mems ++ bit (one_ends p ms) ∷ bit (is_some sq) ∷ []))
+      ++ (commits_shown b.twice.items 0 ms b.memories.items ++ (requests_shown 0 ms p.mems ++ bit (one_ends p ms) ∷ bit (is_some sq) ∷ []))
       ≡ whole_values p (stated.ports p (state_of (seats ys) b next) (all_acts p (state_of (seats ys) b next) bits))
   turn_ports sq e = next_ports f b bits next ys zs t.beside t.count t.long t.carried t.decided sq e
 
@@ -148,7 +148,7 @@ module _ (f : Form) (b : r_beside.Beside) (bits : List Bool) (next : ℕ) (ys zs
               (born_fine f t.run.typed.vars next (child_of ms) (child_fits f 0 zs turn_acted))));
         }
 
-    module _ (c : r_beside.Beside) (memories : c.memories.items ≡ memories_after 0 ms sq b.memories.items)
+    module _ (c : r_beside.Beside) (twice : c.twice.items ≡ b.twice.items) (memories : c.memories.items ≡ memories_after 0 ms sq b.memories.items)
         (orders : order_views c.orders.items ≡ orders_after p ms 0 (order_views b.orders.items))
         (requests : map request_view c.requests.items ≡ requests_after p bits ms sq 0 (map request_view b.requests.items)) where
       -- what the program holds after the cycle is the stated state after it
@@ -168,11 +168,12 @@ module _ (f : Form) (b : r_beside.Beside) (bits : List Bool) (next : ℕ) (ys zs
           let os = ap (λ (l : List (List Bool)). length l) orders in
           let oa = length-map c.orders.items (λ (o : r_order.Order). o.branches.items) in
           let ob = length-map b.orders.items (λ (o : r_order.Order). o.branches.items) in
-          let oc = orders_count p ms (is_some sq) 0 (order_views b.orders.items) in
+          let oc = orders_count p ms 0 (order_views b.orders.items) in
           let wr = t.beside.requests in
           let wo = t.beside.orders in
           record {
             roomy = subst (AreRoomy p) (sym memories) (roomy_after f t.run b bits next ys zs t.beside t.count t.long t.carried t.decided t.reached sq squashed);
+            twice = twice ∙ t.beside.twice;
             requests = omega (arith, rs, ra, rb, rc, wr);
             orders = omega (arith, os, oa, ob, oc, wo);
             long = long;

@@ -8,6 +8,7 @@ use Rattle.pdl_lockapi.specs.Sizes.{size_of}
 use Rattle.pdl_machine_facts.specs.Slots.{LeadsOn}
 use Rattle.pdl_machine_facts.specs.Cycle.{IsByStages}
 use Rattle.pdl_machine_facts.specs.Use.{IsInUse}
+use Rattle.pdl_machine_facts.specs.Ports.{all_twice}
 use Rattle.pdl_form.specs.Form.{Form}
 use Rattle.pdl_form_types.specs.Stmts.{IsTypedForm}
 use Rattle.pdl_machine_pending.specs.Memory.{Memory}
@@ -53,6 +54,7 @@ pub record IsFirst (l : Lock) (words : List ℕ) (x : Memory) : Type 0 where
 -- what stands beside the stages of a pipe, with room for a cycle
 pub record IsBeside (p : Pipe) (b : r_beside.Beside) : Type 0 where
   pub roomy : AreRoomy p b.memories.items
+  pub twice : b.twice.items ≡ all_twice p.stmts 0 p.mems
   pub requests : length b.requests.items ≡ length p.mems
   pub orders : length b.orders.items ≡ length p.stages
   pub long : AreOrders (length p.stages) b.orders.items

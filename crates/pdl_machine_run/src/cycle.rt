@@ -38,12 +38,13 @@ fn step_beside(
 )
     requires memories { AllCanStep 0 (acts_of 0 stages.now) beside.old.memories.items }
     requires count { length beside.old.orders.items ≡ length stages.now }
+    requires told { length beside.old.twice.items ≡ length beside.old.memories.items }
     requires mems { length beside.old.memories.items ≡ length (form pipe.now).pipe.mems }
     requires orders { (f : ℕ) (d : r_order.Order) → f < length beside.old.orders.items →
         length (order_after (form pipe.now).pipe (acts_of 0 stages.now) f
         (slice_index_or beside.old.orders.items f d).branches.items)
         ≤ vec_capacity (slice_index_or beside.old.orders.items f d).branches }
-    requires room { vec_len shown.old + 5 * length beside.old.memories.items
+    requires room { vec_len shown.old + 8 * length beside.old.memories.items
         ≤ vec_capacity shown.old }
     ensures memories { beside.new.memories.items
         ≡ memories_after 0 (acts_of 0 stages.now) squasher beside.old.memories.items }
@@ -53,14 +54,21 @@ fn step_beside(
     ensures requests { map request_view beside.new.requests.items
         ≡ requests_after (form pipe.now).pipe replies.now (acts_of 0 stages.now) squasher 0
         (map request_view beside.old.requests.items) }
+    ensures twice { beside.new.twice.items ≡ beside.old.twice.items }
     ensures long { (n : ℕ) → AreOrders n beside.old.orders.items →
         AreOrders n beside.new.orders.items }
     ensures shown { shown.new.items ≡ shown.old.items ++
-        (commits_shown 0 (acts_of 0 stages.now) beside.old.memories.items ++
+        (commits_shown beside.old.twice.items 0 (acts_of 0 stages.now) beside.old.memories.items ++
         requests_shown 0 (acts_of 0 stages.now) (form pipe.now).pipe.mems) }
     ensures capacity { vec_capacity shown.new ≡ vec_capacity shown.old }
 {
-    step_memories(beside.memories.as_mut_slice(), stages, squasher, shown);
+    step_memories(
+        beside.memories.as_mut_slice(),
+        beside.twice.as_slice(),
+        stages,
+        squasher,
+        shown,
+    );
     show_requests(pipe.mems(), stages, shown);
     step_orders(
         pipe,
@@ -113,7 +121,7 @@ pub fn cycle(
     requires beside { IsBeside (form pipe.now).pipe beside.old }
     requires reached { IsReached (form pipe.now).pipe
         (state_of (seats stages.old) beside.old next) }
-    requires room { 2 * length stages.old + 5 * length beside.old.memories.items + 2
+    requires room { 2 * length stages.old + 8 * length beside.old.memories.items + 2
         ≤ vec_capacity shown.old }
     ensures state { state_of (seats stages.new) beside.new (if result then suc next else next)
         ≡ stated.cycle (form pipe.now).pipe (state_of (seats stages.old) beside.old next)

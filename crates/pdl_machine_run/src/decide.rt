@@ -1,5 +1,5 @@
 // Which threads move. Those in later stages are decided already.
-ghost use Rattle.std.specs.Prelude.{◌≡◌, ◌<◌, ◌≤◌, ◌+◌, ◌&&◌, ℕ, List, Some, map, length, drop, slice_index_or};
+ghost use Rattle.std.specs.Prelude.{◌≡◌, ◌<◌, ◌≤◌, ◌+◌, ◌&&◌, ℕ, Bool, List, Some, map, length, drop, slice_index_or};
 ghost use Rattle.pdl_semantics.specs.Flat.{Pipe, list_all};
 ghost use Rattle.pdl_semantics.specs.Machine as machine;
 ghost use Rattle.pdl_semantics.specs.Moves as moves;

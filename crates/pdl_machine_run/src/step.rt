@@ -108,6 +108,7 @@ fn releases(m: usize, stages: &[Stage]) -> usize
 }
 
 // The pending writes of a memory that are released in a cycle: none, one, or two of which the first is older.
+#[derive(Clone, Copy)]
 struct Taken {
     first: Option<Pending>,
     second: Option<Pending>,

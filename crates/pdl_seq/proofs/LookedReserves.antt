@@ -24,7 +24,7 @@ looked_reserves path m (x ∷ xs) = at (all_hold x.guards path) (looked_reserves
     one (Release n a) k l h = h
     one (Call args) k l h = h
     one (SpecCall args) k l h = h
-    one (Verify args) k l h = h
+    one (Verify last args) k l h = h
     one SpecCheck k l h = h
     one SpecBarrier k l h = h
 

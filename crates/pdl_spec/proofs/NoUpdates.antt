@@ -1,5 +1,5 @@
 -- A pipe of the program has no `update`, so it breaks no rule on these.
-use Rattle.std.proofs.Common.{◌≡◌, refl, sym, ap, ap₂, ◌∙◌, Bool, true, false, ◌&&◌, if◌then◌else◌, List, [], ◌∷◌, ◌++◌, map, None, Some}
+use Rattle.std.proofs.Common.{◌≡◌, refl, sym, ap, ap₂, ◌∙◌, Bool, true, false, ◌&&◌, ◌||◌, if◌then◌else◌, List, [], ◌∷◌, ◌++◌, map, None, Some}
 use Rattle.std.specs.List.{list_any}
 use Rattle.pdl_kit.specs.declared.rule.Rule.{Rule}
 use Rattle.pdl_kit.specs.declared.rule.Rule.TheVariants.{S6, S7}
@@ -14,7 +14,7 @@ use Rattle.pdl_paths.specs.Actions.{place_at, place_view}
 
 none_any : {A : Type 0} (f : A → Bool) → ((x : A) → f x ≡ false) → (xs : List A) → list_any f xs ≡ false
 none_any f h [] = refl
-none_any f h (x ∷ xs) = ap (λ b. if b then true else list_any f xs) (h x) ∙ none_any f h xs
+none_any f h (x ∷ xs) = ap (λ b. b || list_any f xs) (h x) ∙ none_any f h xs
 
 none_line : (rule : Rule) (p : Pipe) → ((before : List Place) (x : r_place.Place) → breaks_rule rule p before (place_view x) ≡ false)
     → (before : List Place) (xs : List r_place.Place) → broken_line rule p before (map place_view xs) ≡ None

@@ -15,21 +15,21 @@ returns-in-R c earlier =
     let s = span_view c.args.place.now.span in
     let bs = map branch_view c.args.place.now.branches in
     let p = pipe_view c.args.pipe.now in
-    let is = c.in-Reserve.is ∙ ap (Reserve c.in-Reserve.field-0) c.in-R.is in
+    let is = c.in-Reserve.is ∙ ap (Reserve c.in-Reserve.at) c.in-R.is in
     subst
     (λ (a : Action). IsOwn IsUsedMemory c.args.used earlier (place_at s bs a) → nat_le 4 c.args.used.reads ≡ spec.is_one_too_many p earlier (place_at s bs a))
     (sym is)
-    (λ own. up_to_four _ _ (own (location_view c.in-Reserve.field-0.now) refl).reads)
+    (λ own. up_to_four _ _ (own (location_view c.in-Reserve.at.now) refl).reads)
 
 pub returns-in-W : goal.returns-in-W
 returns-in-W c earlier =
     let s = span_view c.args.place.now.span in
     let bs = map branch_view c.args.place.now.branches in
     let p = pipe_view c.args.pipe.now in
-    let at = location_view c.in-Reserve.field-0.now in
-    let is = c.in-Reserve.is ∙ ap (Reserve c.in-Reserve.field-0) c.in-W.is in
+    let at = location_view c.in-Reserve.at.now in
+    let is = c.in-Reserve.is ∙ ap (Reserve c.in-Reserve.at) c.in-W.is in
     let most : c.most_reserves.result ≡ spec.most_reservations p.mems W at.mem.name =
-    c.most_reserves.ensures ∙ ap (λ ms. spec.most_reservations (map mem_view ms) W at.mem.name) c.as_slice.ensures.value in
+    c.most_reserves.ensures ∙ ap (λ ms. spec.most_reservations (map mem_view ms) W at.mem.name) c.as_slice.ensures in
     subst
     (λ (a : Action). IsOwn IsUsedMemory c.args.used earlier (place_at s bs a)
     → nat_le c.most_reserves.result c.args.used.reserves ≡ spec.is_one_too_many p earlier (place_at s bs a))

@@ -10,8 +10,8 @@ pub returns : goal.returns
 returns c gs all s =
     let places = c.args.self.now.places.now in
     let rows = map place_view places in (
-      subst (λ us. AreKept Locations IsUsed rows [] us) (sym (c.in_ok-vec-uses.ensures.items_if_clones_equal (λ y h. h)))
+      subst (λ us. AreKept Locations IsUsed rows [] us) (sym (c.in_ok-uses.ensures.items_if_clones_equal (λ y h. h)))
           (begun Locations IsUsed rows c.none.result (length places) (sym (length-map places place_view)) c.none.ensures),
-      subst (λ us. AreKept Memories (IsFirst rows) rows [] us) (sym (c.in_ok-vec-first.ensures.items_if_clones_equal (λ y h. h)))
+      subst (λ us. AreKept Memories (IsFirst rows) rows [] us) (sym c.in_ok-first.ensures)
           (begun Memories (IsFirst rows) rows None (length places) (sym (length-map places place_view)) (λ l. refl)),
     )
