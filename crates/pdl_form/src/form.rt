@@ -122,10 +122,27 @@ pub struct FlatBranch {
     pub first: bool,
 }
 
-/// A stage: where it leads, the branch that it stands in, and the fork stage whose branches meet in it.
+/// The branches that a stage stands in, the innermost first; those that there are come before those that there aren't.
+#[derive(Clone, Copy)]
+pub struct FlatBranches {
+    pub first: Option<FlatBranch>,
+    pub second: Option<FlatBranch>,
+    pub third: Option<FlatBranch>,
+    pub fourth: Option<FlatBranch>,
+}
+
+/// The branches of a stage that stands in none.
+pub const NO_BRANCHES: FlatBranches = FlatBranches {
+    first: None,
+    second: None,
+    third: None,
+    fourth: None,
+};
+
+/// A stage: where it leads, the branches that it stands in, and the fork stage whose branches meet in it.
 #[derive(Clone, Copy)]
 pub struct FlatStage {
     pub next: Next,
-    pub branch: Option<FlatBranch>,
+    pub branches: FlatBranches,
     pub merges: Option<usize>,
 }

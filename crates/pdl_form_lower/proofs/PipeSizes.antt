@@ -5,7 +5,7 @@ use Rattle.std.proofs.lemmas.Bool.{or_parts, or_left, or_right, and_parts, and_c
 use Rattle.std.proofs.lemmas.List.Sums.{sum_by-append}
 use Rattle.std.specs.List.{list_any}
 use Rattle.pdl_kit.specs.declared.rule.Rule.TheVariants.{Z3, Z7, N2, N3, W1, W2, W3}
-use Rattle.pdl_semantics.specs.Tree.{Expr, Location, Stmt, Separator, CombRead, Bind, SpecCall, DelayedRead, Write, Reserve, Block, Release, If, Call, Verify, SpecCheck, SpecBarrier, Stmts, Nil, Cons, Param, LockDecl, Mem, Pipe}
+use Rattle.pdl_semantics.specs.Tree.{Expr, Location, Stmt, Separator, CombRead, Bind, SpecCall, DelayedRead, Write, Reserve, Block, Release, If, Call, Verify, Update, SpecCheck, SpecBarrier, Stmts, Nil, Cons, Param, LockDecl, Mem, Pipe}
 use Rattle.pdl_semantics.specs.Flatten.{Var, width_of, mem_width, params_of, separators, separators_in}
 use Rattle.pdl_rules.specs.Places.{Place, Parameter, Memory, Statement, End, StartClause, Branch, guard_of, with_inner, statements, places, on_some_path}
 use Rattle.pdl_rules.specs.Parts.{some_part, some_expr_of, location_of, of_constant, is_some_and}
@@ -128,6 +128,7 @@ lowerable_here all vs early r (Release _ at) bs d h f = known_address all vs ear
 lowerable_here all vs early r (If _ c when otherwise) bs d h f = (lowerable_one all vs early r c f).0
 lowerable_here all vs early r (Call _ es) bs d h f = lowerable_all all vs early r es f
 lowerable_here all vs early r (Verify _ g es) bs d h f = lowerable_all all vs early r es f
+lowerable_here all vs early r (Update _ g es) bs d h f = lowerable_all all vs early r es f
 lowerable_here all vs early r (SpecCheck _) bs d h f = tt
 lowerable_here all vs early r (SpecBarrier _) bs d h f = tt
 
@@ -218,6 +219,7 @@ module _ (p : Pipe) (rules : KeepsRules p) where
       after (If sp c when otherwise) e = (vs, same p vs before _ (known_same p vs before (Statement (If sp c when otherwise) bs) refl refl b.known) b)
       after (Call sp es) e = (vs, same p vs before _ (known_same p vs before (Statement (Call sp es) bs) refl refl b.known) b)
       after (Verify sp g es) e = (vs, same p vs before _ (known_same p vs before (Statement (Verify sp g es) bs) refl refl b.known) b)
+      after (Update sp g es) e = (vs, same p vs before _ (known_same p vs before (Statement (Update sp g es) bs) refl refl b.known) b)
       after (SpecCheck sp) e = (vs, same p vs before _ (known_same p vs before (Statement (SpecCheck sp) bs) refl refl b.known) b)
       after (SpecBarrier sp) e = (vs, same p vs before _ (known_same p vs before (Statement (SpecBarrier sp) bs) refl refl b.known) b)
 
@@ -324,6 +326,7 @@ mutual
       (a.0, (tree_stmts us _ when inner.0, tree_stmts us _ otherwise inner.1))
   tree_stmt us bs (Call _ es) a = a.0
   tree_stmt us bs (Verify _ g es) a = a.0
+  tree_stmt us bs (Update _ g es) a = a.0
   tree_stmt us bs (SpecCheck _) a = a.0
   tree_stmt us bs (SpecBarrier _) a = a.0
 

@@ -1,6 +1,6 @@
 -- A walk over the statements of a pipe: what it has made, and how the stages that it has begun are closed.
 use Rattle.std.specs.Prelude.{◌≡◌, ℕ, zero, suc, ◌≤◌, Bool, true, false, List, [], ◌∷◌, ◌++◌, Some, length, slice_index_or}
-use Rattle.pdl_semantics.specs.Tree.{Stmt, Separator, CombRead, Bind, SpecCall, DelayedRead, Write, Reserve, Block, Release, If, Call, Verify, SpecCheck, SpecBarrier}
+use Rattle.pdl_semantics.specs.Tree.{Stmt, Separator, CombRead, Bind, SpecCall, DelayedRead, Write, Reserve, Block, Release, If, Call, Verify, Update, SpecCheck, SpecBarrier}
 use Rattle.pdl_semantics.specs.Flat as flat
 use Rattle.pdl_semantics.specs.Flat.{Op, Next, Stage}
 use Rattle.pdl_semantics.specs.Flatten.{Position, Graph, with_merge}
@@ -57,6 +57,7 @@ is_plain (Release _ _) = true
 is_plain (If _ _ _ _) = false
 is_plain (Call _ _) = true
 is_plain (Verify _ _ _) = true
+is_plain (Update _ _ _) = true
 is_plain (SpecCheck _) = true
 is_plain (SpecBarrier _) = true
 
@@ -74,6 +75,7 @@ is_act (Release _ _) = true
 is_act (If _ _ _ _) = false
 is_act (Call _ _) = true
 is_act (Verify _ _ _) = true
+is_act (Update _ _ _) = true
 is_act (SpecCheck _) = true
 is_act (SpecBarrier _) = true
 

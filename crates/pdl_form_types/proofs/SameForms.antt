@@ -231,7 +231,11 @@ op_tells (Release m a) (Release m' a') e0 =
     cc
 op_tells (Call es) (Call es') e0 = ap Call (list_tells same_expr expr_tells _ _ e0)
 op_tells (SpecCall es) (SpecCall es') e0 = ap SpecCall (list_tells same_expr expr_tells _ _ e0)
-op_tells (Verify es) (Verify es') e0 = ap Verify (list_tells same_expr expr_tells _ _ e0)
+op_tells (Verify l es) (Verify l' es') e0 =
+    let s0 = and_parts _ _ e0 in
+    let h0 : l ≡ l' = bool_tells _ _ s0.0 in
+    let h1 : es ≡ es' = list_tells same_expr expr_tells _ _ s0.1 in
+    cc
 op_tells SpecCheck SpecCheck e0 = refl
 op_tells SpecBarrier SpecBarrier e0 = refl
 op_tells (Bind _ _) _ e0 = absurd (false≢true e0)
@@ -244,7 +248,7 @@ op_tells (Block _ _) _ e0 = absurd (false≢true e0)
 op_tells (Release _ _) _ e0 = absurd (false≢true e0)
 op_tells (Call _) _ e0 = absurd (false≢true e0)
 op_tells (SpecCall _) _ e0 = absurd (false≢true e0)
-op_tells (Verify _) _ e0 = absurd (false≢true e0)
+op_tells (Verify _ _) _ e0 = absurd (false≢true e0)
 op_tells SpecCheck _ e0 = absurd (false≢true e0)
 op_tells SpecBarrier _ e0 = absurd (false≢true e0)
 
@@ -259,7 +263,7 @@ op_knows (Block m a) = and_from _ _ (number_knows m) (number_knows a)
 op_knows (Release m a) = and_from _ _ (number_knows m) (number_knows a)
 op_knows (Call es) = list_knows same_expr expr_knows es
 op_knows (SpecCall es) = list_knows same_expr expr_knows es
-op_knows (Verify es) = list_knows same_expr expr_knows es
+op_knows (Verify l es) = and_from _ _ (bool_knows l) (list_knows same_expr expr_knows es)
 op_knows SpecCheck = refl
 op_knows SpecBarrier = refl
 
@@ -364,22 +368,22 @@ branch_tells x y e0 =
 branch_knows : Knows same_branch
 branch_knows x = and_from _ _ (number_knows x.fork) (bool_knows x.first)
 
-abbrev stage_of : Next → Option Branch → Option ℕ → Stage
-stage_of a0 a1 a2 = record { next = a0; branch = a1; merges = a2 }
+abbrev stage_of : Next → List Branch → Option ℕ → Stage
+stage_of a0 a1 a2 = record { next = a0; branches = a1; merges = a2 }
 
 stage_tells : Tells same_stage
 stage_tells x y e0 =
     let s0 = and_parts _ _ e0 in
     let s1 = and_parts _ _ s0.1 in
     let h0 : x.next ≡ y.next = next_tells _ _ s0.0 in
-    let h1 : x.branch ≡ y.branch = option_tells same_branch branch_tells _ _ s1.0 in
+    let h1 : x.branches ≡ y.branches = list_tells same_branch branch_tells _ _ s1.0 in
     let h2 : x.merges ≡ y.merges = option_tells same_number number_tells _ _ s1.1 in
-    let whole : stage_of x.next x.branch x.merges ≡ stage_of y.next y.branch y.merges = cc in
+    let whole : stage_of x.next x.branches x.merges ≡ stage_of y.next y.branches y.merges = cc in
     whole
 
 stage_knows : Knows same_stage
 stage_knows x =
-    and_from _ _ (next_knows x.next) (and_from _ _ (option_knows same_branch branch_knows x.branch) (option_knows same_number number_knows x.merges))
+    and_from _ _ (next_knows x.next) (and_from _ _ (list_knows same_branch branch_knows x.branches) (option_knows same_number number_knows x.merges))
 
 -- THE WHOLE
 

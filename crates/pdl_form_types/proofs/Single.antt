@@ -4,7 +4,7 @@ use Rattle.std.specs.List.{list_any}
 use Rattle.std.specs.Cmp.Lexicographic.{pointwise}
 use Rattle.std.proofs.lemmas.Bool.{true≢false, eqb-true, not-false}
 use Rattle.pdl_kit.specs.declared.rule.Rule.TheVariants.{N2, W5, W6, F5}
-use Rattle.pdl_semantics.specs.Tree.{Expr, Location, R, W, Stmt, Separator, CombRead, Bind, SpecCall, DelayedRead, Write, Reserve, Block, Release, If, Call, Verify, SpecCheck, SpecBarrier, Param, Pipe}
+use Rattle.pdl_semantics.specs.Tree.{Expr, Location, R, W, Stmt, Separator, CombRead, Bind, SpecCall, DelayedRead, Write, Reserve, Block, Release, If, Call, Verify, Update, SpecCheck, SpecBarrier, Param, Pipe}
 use Rattle.pdl_semantics.specs.Flat as flat
 use Rattle.pdl_semantics.specs.Flatten.{var_of, mem_of, mems_of, mem_width, width_of, flat_expr, flat_exprs, flat_stmt, past}
 use Rattle.pdl_semantics.specs.Flatten
@@ -118,6 +118,14 @@ module _ (p : Pipe) (rules : KeepsRules p) (before : List Place) (bs : List Bran
       g,
       its_arguments (Verify sp h es) e begins es (fits p rules before (Verify sp h es) bs later e)
           (not-false _ (rules W5 before (Statement (Verify sp h es) bs) later e)),
+    ),
+    tt,
+  )
+  single (Update sp h es) i e begins gs g = (
+    (
+      g,
+      its_arguments (Update sp h es) e begins es (fits p rules before (Update sp h es) bs later e)
+          (not-false _ (rules W5 before (Statement (Update sp h es) bs) later e)),
     ),
     tt,
   )

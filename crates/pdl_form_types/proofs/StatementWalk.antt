@@ -78,15 +78,15 @@ module _ (p : Pipe) (w : Flatten.Position) where
 pub record Walked (p : Pipe) (before : List Place) (bs : List Branch) (gs : List flat.Guard) (s : Stmt) (w : Flatten.Position) : Type 0 where
   pub after : After p (before ++ with_inner bs s) (past p.mems s w).vars
   pub typed : AreTypedStmts (form_of p) (flat_stmt p.mems gs s w)
-  pub forked : (branch : Option flat.Branch) (rest : Graph) → IsForked (widths_of (all_vars p)) rest
-      → IsForked (widths_of (all_vars p)) (graph_before p.mems branch s w rest)
+  pub forked : (branches : List flat.Branch) (rest : Graph) → IsForked (widths_of (all_vars p)) rest
+      → IsForked (widths_of (all_vars p)) (graph_before p.mems branches s w rest)
 
 -- what comes of some statements, one after another, that stand after these places
 pub record AllWalked (p : Pipe) (before : List Place) (bs : List Branch) (gs : List flat.Guard) (ss : Stmts) (w : Flatten.Position) : Type 0 where
   pub after : After p (before ++ statements bs ss) (past_all p.mems ss w).vars
   pub typed : AreTypedStmts (form_of p) (flat_stmts p.mems gs ss w)
-  pub forked : (branch : Option flat.Branch) (exit : flat.Next) → IsFork (widths_of (all_vars p)) exit
-      → IsForked (widths_of (all_vars p)) (graph p.mems branch exit ss w)
+  pub forked : (branches : List flat.Branch) (exit : flat.Next) → IsFork (widths_of (all_vars p)) exit
+      → IsForked (widths_of (all_vars p)) (graph p.mems branches exit ss w)
 
 abbrev branch : Span → Expr → Bool → Stmts → Branch
 branch sp c truth inside = record { guard = Places.guard_of sp c; truth = truth; inside = inside }
@@ -129,10 +129,10 @@ module _ (p : Pipe) (rules : KeepsRules p) (named : is_undefined (places p) (OfV
               (stmts_append p (binds_guard gs w c) _ (guard_typed p w b.us gs c start value one g) one_branch.typed) other_branch.typed;
           forked = λ out rest h.
               let merge = flat.Goes (suc (w.begun + separators when + separators otherwise)) in
-              let upper = graph p.mems (side w.stage true) merge when (with_guard c w) in
-              let lower = graph p.mems (side w.stage false) merge otherwise (at_otherwise p.mems c when w) in
-              let of_upper = one_branch.forked (side w.stage true) merge tt in
-              let of_lower = other_branch.forked (side w.stage false) merge tt in
+              let upper = graph p.mems (side w.stage true ∷ out) merge when (with_guard c w) in
+              let lower = graph p.mems (side w.stage false ∷ out) merge otherwise (at_otherwise p.mems c when w) in
+              let of_upper = one_branch.forked (side w.stage true ∷ out) merge tt in
+              let of_lower = other_branch.forked (side w.stage false ∷ out) merge tt in
               either_forked (widths_of (all_vars p))
               (separators when + separators otherwise == 0) rest (graph_with_fork w.stage (guard_of w.vars c) upper lower rest) h (
                 bit,

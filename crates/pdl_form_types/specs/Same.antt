@@ -85,8 +85,8 @@ same_op (Call es) (Call es') = same_list same_expr es es'
 same_op (Call _) _ = false
 same_op (SpecCall es) (SpecCall es') = same_list same_expr es es'
 same_op (SpecCall _) _ = false
-same_op (Verify es) (Verify es') = same_list same_expr es es'
-same_op (Verify _) _ = false
+same_op (Verify l es) (Verify l' es') = same_bool l l' && same_list same_expr es es'
+same_op (Verify _ _) _ = false
 same_op SpecCheck SpecCheck = true
 same_op SpecCheck _ = false
 same_op SpecBarrier SpecBarrier = true
@@ -128,9 +128,9 @@ same_next (Forks _ _ _) _ = false
 abbrev pub same_branch : Branch → Branch → Bool
 same_branch x y = (x.fork == y.fork) && same_bool x.first y.first
 
--- two stages lead to the same, in the same branch, and merge the same fork
+-- two stages lead to the same, in the same branches, and merge the same fork
 abbrev pub same_stage : Stage → Stage → Bool
-same_stage x y = same_next x.next y.next && (same_option same_branch x.branch y.branch && same_option same_number x.merges y.merges)
+same_stage x y = same_next x.next y.next && (same_list same_branch x.branches y.branches && same_option same_number x.merges y.merges)
 
 -- two pipes are the same
 abbrev pub same_pipe : Pipe → Pipe → Bool

@@ -51,7 +51,7 @@ IsTypedOp f (Block m a) = IsLocked f.pipe f.widths m a
 IsTypedOp f (Release m a) = IsLocked f.pipe f.widths m a
 IsTypedOp f (Call args) = AreArguments f.widths (param_widths f) args
 IsTypedOp f (SpecCall args) = AreArguments f.widths (param_widths f) args
-IsTypedOp f (Verify args) = AreArguments f.widths (param_widths f) args
+IsTypedOp f (Verify last args) = AreArguments f.widths (param_widths f) args
 IsTypedOp f SpecCheck = ⊤
 IsTypedOp f SpecBarrier = ⊤
 

@@ -38,7 +38,7 @@ use Rattle.pdl_law_parts.proofs.LockStep.{words_next, stands_next}
 use Rattle.pdl_law_parts.proofs.LockPorts.{both_is, moves_or_not}
 use Rattle.pdl_law_parts.proofs.Comers.{first_come, brought, picked_is}
 use Rattle.pdl_law_parts.proofs.NextState.{lock_there}
-use Rattle.pdl_machine_inflight.specs.InFlight.{InFlight}
+use Rattle.pdl_machine_inflight.specs.InFlight.{InFlight, ReplacesNone}
 use Rattle.pdl_machine_inflight.proofs.Squashes.{stood_in, squasher_in}
 use Rattle.pdl_machine_inflight.proofs.Comings.{stage_low}
 use Rattle.pdl_law_sides.specs.Sides.{Sides, with_tickets}
@@ -111,7 +111,7 @@ if_kept_is sq (Some t) u e = at (is_kept sq t.number) refl e
     at true f g = let same : t ≡ u = cc g in (g, subst (λ (x : Thread). is_kept sq x.number ≡ true) same f)
     at false f g = absurd (cc g)
 
-module _ (p : Pipe) (sound : Sound p) (leads : LeadsOn p) (ls : Locks) (c : Circuit) (vs : ℕ → View) (gates : Gates)
+module _ (p : Pipe) (sound : Sound p) (still : ReplacesNone p) (leads : LeadsOn p) (ls : Locks) (c : Circuit) (vs : ℕ → View) (gates : Gates)
     (moves : ℕ → Signal) (made : IsLaid p ls vs gates moves c) (sides : Sides) (v : ℕ)
     (is : verify_stage p.stmts ≡ Some v) (has : HasTails p ls c vs gates moves sides v)
     (s : State) (st : machine.State) (bits : List Bool) (suits : Suits c s) (flight : InFlight p st)
@@ -151,7 +151,7 @@ module _ (p : Pipe) (sound : Sound p) (leads : LeadsOn p) (ls : Locks) (c : Circ
     pub tail_is : (n : ℕ) → squasher (moving p st bits) ≡ Some n
         → holds_ticket (ls.bits m) (gates.tail m) s (stand.base + released + count_older (suc n) (list_three st (moving p st bits) m))
     tail_is n e =
-        let u = squasher_in p sound st bits flight v is n e in
+        let u = squasher_in p sound still st bits flight v is n e in
         has.tail m locked s suits
         ∙ tail_now v u.0 u.1 (omega arith)
         ∙ ap (λ x. x % 2 ^ ls.bits m) (sym (shifts v u.0 u.1 (omega arith)))

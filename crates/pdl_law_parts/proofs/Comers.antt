@@ -29,8 +29,10 @@ use Rattle.pdl_semantics.proofs.Facts.{held_first}
 use Rattle.pdl_semantics.specs.PendingLists.{count_older}
 
 -- no thread that moves is removed by a squash
-abbrev pub Spares : Pipe → machine.State → List Bool → Type 0
-Spares p st bits = (k : ℕ) (t : Thread) → here p st bits k ≡ Some t → stage_moves p st bits k ≡ true → is_kept (squasher (moving p st bits)) t.number ≡ true
+pub record Spares (p : Pipe) (st : machine.State) (bits : List Bool) : Type 0 where
+  pub kept : (k : ℕ) (t : Thread) → here p st bits k ≡ Some t → stage_moves p st bits k ≡ true → is_kept (squasher (moving p st bits)) t.number ≡ true
+  -- no guess has failed that a later stage verifies
+  pub calm : (k : ℕ) (t : Thread) → here p st bits k ≡ Some t → verifies_from p (suc k) ≡ true → (deeds p st k t).fails ≡ false
 
 -- WHAT LIVES ON LIVED BEFORE
 
@@ -286,7 +288,7 @@ module _ (p : Pipe) (ls : Locks) (vs : ℕ → View) (moves : ℕ → Signal) (s
         env = λ x live. so.env x (lives_down p j q x (omega (arith, low)) live);
         held = λ m a live. so.held m a (holds_down p j q m a (omega (arith, low)) live) ∙ ap (λ ps. bit (is_held ps m a)) (used.held j q t h on);
         guess =
-            λ v e i m. ap (λ l'. slice_index l' i) (so.guess (verifies_down p j q (omega (arith, low)) v) e)
+            λ v e i m. ap (λ l'. slice_index l' i) (so.guess (spared.calm j t h (verifies_down p (suc j) q (omega (arith, low)) v)) (verifies_down p j q (omega (arith, low)) v) e)
             ∙ signal_at s (vs j).ended.guess i (let z = so.guess_long in omega (arith, m, z));
         tickets = λ m e r high. (
           subst
@@ -295,7 +297,7 @@ module _ (p : Pipe) (ls : Locks) (vs : ℕ → View) (moves : ℕ → Signal) (s
           subst
               (λ n. count_older n (list_three st (moving p st bits) m) + bit (has_release m (moving p st bits)) ≡ count_older n (machine.lock_of st m)) u.number
               (used.shifts j u.thread m u.slot (leads.over j q m d.env l to r) (omega (arith, low, high)) (λ c. absurd (omega (arith, c, low, high)))),
-          spared j t h g,
+          spared.kept j t h g,
         );
       }
     where

@@ -1,7 +1,7 @@
 -- Rows that make threads, requests and guesses.
 use Rattle.std.proofs.Common.{◌≡◌, ℕ, Bool, true, false, List, [], ◌∷◌, ◌++◌, map, refl, sym, ap, ap₂, ◌∙◌, append-nil}
 use Rattle.std.specs.Prelude.{Some, ◌==◌, if◌then◌else◌, not}
-use Rattle.std.proofs.lemmas.Bool.{or_right, or_left}
+use Rattle.std.proofs.lemmas.Bool.{false≢true, or_right, or_left}
 use Rattle.pdl_word.specs.Words.{bit}
 use Rattle.pdl_semantics.specs.Flat.{Expr, Call, Pipe, all_hold, values_of, DelayedRead, SpecCall, Verify, SpecCheck, SpecBarrier}
 use Rattle.pdl_semantics.specs.Machine as machine
@@ -177,9 +177,9 @@ module _ (c : Circuit) (p : Pipe) (ls : Locks) (vs : ℕ → View) (s : State) (
           ∙ ap (λ c. if c then Some (map (λ (f : Signal). f.value s) r.args) else child_in s w.births)
           (sym (on_is s r.on false (on_at c p ls vs s st k thread around gs r w d glive on q h ∙ ap bit f)))
 
-      guess_at : IsSo p k s w d → (b : Bool) → all_hold gs d.env ≡ b → IsGuess p k s r.guess (done st thread b (SpecCall args) d).guess
-      guess_at h true f v l = values h f ∙ sym (row.3 s around.suits (is_taken c p ls vs s st k thread around gs r w d glive on q h f))
-      guess_at h false f v l = h.guess v l ∙ sym (row.4 s around.suits (is_not c p ls vs s st k thread around gs r w d glive on q h f))
+      guess_at : IsSo p k s w d → (b : Bool) → all_hold gs d.env ≡ b → (done st thread b (SpecCall args) d).fails ≡ false → IsGuess p k s r.guess (done st thread b (SpecCall args) d).guess
+      guess_at h true f z v l = values h f ∙ sym (row.3 s around.suits (is_taken c p ls vs s st k thread around gs r w d glive on q h f))
+      guess_at h false f z v l = h.guess z v l ∙ sym (row.4 s around.suits (is_not c p ls vs s st k thread around gs r w d glive on q h f))
 
       so : IsSo p k s w d → (b : Bool) → all_hold gs d.env ≡ b → IsSo p k s (walk_after (SpecCall args) r ls w) (done st thread b (SpecCall args) d)
       so h true f =
@@ -220,17 +220,17 @@ module _ (c : Circuit) (p : Pipe) (ls : Locks) (vs : ℕ → View) (s : State) (
           }
 
   -- a row that verifies: the guess fails where the arguments differ from it, and then a new thread has them
-  pub follows_verify : (args : List Expr) → FollowsOp c p ls vs s st k thread around (Verify args)
+  pub follows_verify : (args : List Expr) → FollowsOp c p ls vs s st k thread around (Verify true args)
   follows_verify args j gs r w d live on row here fine q =
-      quiet c p ls vs s st k thread around gs r w d glive on q (Verify args) (walk_after (Verify args) r ls w) refl (λ b. same b) (λ h z b f. so h z b f)
+      quiet c p ls vs s st k thread around gs r w d glive on q (Verify true args) (walk_after (Verify true args) r ls w) refl (λ b. same b) (λ h z b f. so h z b f)
     where
       glive : (z : ℕ) → guards_use gs z ≡ true → lives_from p k z ≡ true
       glive z u = live.vars z (or_left (guards_use gs z) (are_using args z) u)
 
       failed : Deeds
-      failed = record d { child = Some (values_of args d.env); fails = true }
+      failed = record d { child = Some (values_of args d.env); guess = values_of args d.env; fails = true }
 
-      same : (b : Bool) → locks_ready p st thread (done st thread b (Verify args) d) ≡ locks_ready p st thread d
+      same : (b : Bool) → locks_ready p st thread (done st thread b (Verify true args) d) ≡ locks_ready p st thread d
       same true = at (same_args (values_of args d.env) d.guess)
         where
           at : (b : Bool) → locks_ready p st thread (if b then d else failed) ≡ locks_ready p st thread d
@@ -242,7 +242,7 @@ module _ (c : Circuit) (p : Pipe) (ls : Locks) (vs : ℕ → View) (s : State) (
       wrong = both r.on r.value
 
       new : Walk
-      new = walk_after (Verify args) r ls w
+      new = walk_after (Verify true args) r ls w
 
       -- after a verify of which this says whether it fails
       after : IsSo p k s w d → (b : Bool) → wrong.value s ≡ bit b
@@ -261,7 +261,7 @@ module _ (c : Circuit) (p : Pipe) (ls : Locks) (vs : ℕ → View) (s : State) (
         short = (row.0, h.short);
         asks = h.asks;
         guess_long = h.guess_long;
-        guess = h.guess;
+        guess = λ z. absurd (false≢true (sym z));
         fails = mux_at s wrong one w.fails true e ∙ one_is s;
         barrier = h.barrier;
       }
@@ -283,7 +283,7 @@ module _ (c : Circuit) (p : Pipe) (ls : Locks) (vs : ℕ → View) (s : State) (
         barrier = h.barrier;
       }
 
-      so : IsSo p k s w d → locks_ready p st thread d ≡ true → (b : Bool) → all_hold gs d.env ≡ b → IsSo p k s new (done st thread b (Verify args) d)
+      so : IsSo p k s w d → locks_ready p st thread d ≡ true → (b : Bool) → all_hold gs d.env ≡ b → IsSo p k s new (done st thread b (Verify true args) d)
       so h z false f =
           after h false (both_at s r.on r.value false true (on_at c p ls vs s st k thread around gs r w d glive on q h ∙ ap bit f) (λ e. absurd (cc e)))
           (λ e. absurd (cc e))
@@ -292,7 +292,7 @@ module _ (c : Circuit) (p : Pipe) (ls : Locks) (vs : ℕ → View) (s : State) (
           let v : values_of args d.env ≡ values_at s r.args =
           values_same c p ls vs s st k thread around args r.args w d.env (row.1 s around.suits t)
           (λ e i y u. h.env y (live.vars y (or_right (guards_use gs y) (are_using args y) (i y u)))) in
-          let g : d.guess ≡ values_at s w.guess = h.guess (live.verify refl) ((fine f z).1 ∙ sym row.2 ∙ h.guess_long) in
+          let g : d.guess ≡ values_at s w.guess = h.guess (fine f z).1.calm (live.verify refl) ((fine f z).1.long ∙ sym row.2 ∙ h.guess_long) in
           let e : r.value.value s ≡ bit (not (same_args (values_of args d.env) d.guess)) =
           row.3 s around.suits t ∙ ap₂ (λ x y. bit (not (same_args x y))) (sym v) (sym g) in
           at (same_args (values_of args d.env) d.guess)

@@ -125,7 +125,7 @@ module _ (c : Circuit) (p : Pipe) (ls : Locks) (vs : ℕ → View) (s : State) (
           short = subst (λ (bs : List Birth). AreShort p bs) (sym fresh.births) tt;
           asks = sym (ap (asked_in s) fresh.asks);
           guess_long = guess_long;
-          guess = subst (λ g. IsGuess p k s (vs k).begun.guess g) u.guess (stands.guess k u.thread u.slot);
+          guess = λ z. subst (λ g. IsGuess p k s (vs k).begun.guess g) u.guess (stands.guess k u.thread u.slot);
           fails = ap (λ (f : Signal). f.value s) fresh.fails ∙ zero_is s;
           barrier = ap (λ (f : Signal). f.value s) fresh.barrier ∙ zero_is s;
         };

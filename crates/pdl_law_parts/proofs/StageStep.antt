@@ -147,7 +147,8 @@ module _ (c : Circuit) (p : Pipe) (ls : Locks) (vs : ℕ → View) (s : State) (
   follows_op (Call args) = follows_call c p ls vs s st k thread around args
   follows_op (DelayedRead y m a) = follows_fetch c p ls vs s st k thread around y m a
   follows_op (SpecCall args) = follows_spec_call c p ls vs s st k thread around args
-  follows_op (Verify args) = follows_verify c p ls vs s st k thread around args
+  follows_op (Verify true args) = follows_verify c p ls vs s st k thread around args
+  follows_op (Verify false args) = λ j gs r w d live on row here fine q. absurd row
   follows_op SpecCheck = follows_check c p ls vs s st k thread around
   follows_op SpecBarrier = follows_barrier c p ls vs s st k thread around
 

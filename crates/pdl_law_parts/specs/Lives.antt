@@ -24,7 +24,7 @@ op_uses (Block m a) x = a == x
 op_uses (Release _ _) x = false
 op_uses (Call args) x = are_using args x
 op_uses (SpecCall args) x = are_using args x
-op_uses (Verify args) x = are_using args x
+op_uses (Verify last args) x = are_using args x
 op_uses SpecCheck x = false
 op_uses SpecBarrier x = false
 
@@ -59,7 +59,7 @@ asks_held (Block n b) m a = (n == m) && (b == a)
 asks_held (Release n b) m a = (n == m) && (b == a)
 asks_held (Call _) m a = false
 asks_held (SpecCall _) m a = false
-asks_held (Verify _) m a = false
+asks_held (Verify _ _) m a = false
 asks_held SpecCheck m a = false
 asks_held SpecBarrier m a = false
 

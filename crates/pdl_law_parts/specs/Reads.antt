@@ -16,7 +16,7 @@ IsAtOnce p (Block m a) = ⊤
 IsAtOnce p (Release m a) = ⊤
 IsAtOnce p (Call args) = ⊤
 IsAtOnce p (SpecCall args) = ⊤
-IsAtOnce p (Verify args) = ⊤
+IsAtOnce p (Verify last args) = ⊤
 IsAtOnce p SpecCheck = ⊤
 IsAtOnce p SpecBarrier = ⊤
 

@@ -104,7 +104,7 @@ pub record IsSo (p : Pipe) (k : ℕ) (s : State) (w : Walk) (d : Deeds) : Type 0
   pub short : AreShort p w.births
   pub asks : d.asks ≡ asked_in s w.asks
   pub guess_long : length w.guess ≡ length p.start
-  pub guess : IsGuess p k s w.guess d.guess
+  pub guess : d.fails ≡ false → IsGuess p k s w.guess d.guess
   pub fails : w.fails.value s ≡ bit d.fails
   pub barrier : w.barrier.value s ≡ bit d.barrier
 

@@ -177,7 +177,8 @@ IsOp c p ls tickets gs (SpecCall args) w r =
     (length r.args ≤ p.vars) × WhereTaken c gs w (HaveValues args w r.args)
     × (length r.guess ≡ length w.guess) × WhereTaken c gs w (λ s. values_at s r.guess ≡ values_at s r.args)
     × WhereNot c gs w (λ s. values_at s r.guess ≡ values_at s w.guess)
-IsOp c p ls tickets gs (Verify args) w r =
+IsOp c p ls tickets gs (Verify false args) w r = ⊥
+IsOp c p ls tickets gs (Verify true args) w r =
     (length r.args ≤ p.vars) × WhereTaken c gs w (HaveValues args w r.args)
     × (length w.guess ≡ length args) × WhereTaken c gs w (λ s. r.value.value s ≡ bit (not (same_args (values_at s r.args) (values_at s w.guess))))
 IsOp c p ls tickets gs SpecCheck w r = ⊤
@@ -222,7 +223,8 @@ walk_after (Release m a) r ls w =
 walk_after (Call args) r ls w = record w { births = record { on = r.on; args = r.args } ∷ w.births }
 walk_after (DelayedRead x m a) r ls w = record w { asks = w.asks ++ record { mem = m; var = x; on = r.on; addr = w.vars a } ∷ [] }
 walk_after (SpecCall args) r ls w = record w { births = record { on = r.on; args = r.args } ∷ w.births; guess = r.guess }
-walk_after (Verify args) r ls w =
+walk_after (Verify false args) r ls w = w
+walk_after (Verify true args) r ls w =
     record w { births = record { on = both r.on r.value; args = r.args } ∷ w.births; fails = mux_signal (both r.on r.value) one w.fails }
 walk_after SpecBarrier r ls w = record w { barrier = mux_signal r.on one w.barrier }
 walk_after (ReserveRead _ _) r ls w = w

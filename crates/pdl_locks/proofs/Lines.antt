@@ -10,21 +10,20 @@ use Rattle.pdl_rules_on_paths.proofs.Lines.{rule_lines}
 use Rattle.pdl_rules_walk.specs.Course.{path_line}
 use Rattle.pdl_rules_walk.proofs.Lines.{at_places}
 use Rattle.pdl_locks.specs.declared.at_locations.LocationRule.{LocationRule}
-use Rattle.pdl_locks.specs.declared.at_locations.LocationRule.TheVariants.{Held, ReservedOnce, WrittenOnce, Released}
+use Rattle.pdl_locks.specs.declared.at_locations.LocationRule.TheVariants.{Held, ReservedOnce, Released}
 use Rattle.pdl_locks.specs.declared.at_memories.MemoryRule.{MemoryRule}
 use Rattle.pdl_locks.specs.declared.at_memories.MemoryRule.TheVariants.{ReadFirst, FewReserves}
 use Rattle.pdl_locks.specs.RuleQuestions.{rule_of, memory_rule_of}
-use Rattle.pdl_locks.specs.Walk.{at_location, of_memory}
+use Rattle.pdl_locks.specs.Walk.{at_location, of_memory, in_turn}
 
 of_locations : (rule : LocationRule) (p : Pipe)
     → line_where (on_some (at_location p rule) (guards (places p))) [] (places p) ≡ broken_line (rule_of rule) p [] (places p)
 of_locations Held p = rule_lines L1 p [] (places p)
 of_locations ReservedOnce p = rule_lines L5 p [] (places p)
-of_locations WrittenOnce p = rule_lines L6 p [] (places p)
 of_locations Released p = rule_lines L7 p [] (places p)
 
 of_memories : (rule : MemoryRule) (p : Pipe)
-    → line_where (on_some (of_memory rule) (guards (places p))) [] (places p) ≡ broken_line (memory_rule_of rule) p [] (places p)
+    → line_where (on_some (of_memory p rule) (guards (places p))) [] (places p) ≡ broken_line (memory_rule_of rule) p [] (places p)
 of_memories ReadFirst p = rule_lines L3 p [] (places p)
 of_memories FewReserves p = rule_lines L4 p [] (places p)
 
@@ -35,8 +34,13 @@ location_line rule p gs xs own of = at_places (at_location p rule) p gs xs own o
 
 -- the line at which a rule on memories is broken on some path is that at which the pipe breaks it
 pub memory_line : (rule : MemoryRule) (p : Pipe) (gs : List Guard) (xs : List Place) → gs ≡ guards xs → xs ≡ places p
-    → path_line (of_memory rule) gs xs ≡ broken_line (memory_rule_of rule) p [] (places p)
-memory_line rule p gs xs own of = at_places (of_memory rule) p gs xs own of ∙ of_memories rule p
+    → path_line (of_memory p rule) gs xs ≡ broken_line (memory_rule_of rule) p [] (places p)
+memory_line rule p gs xs own of = at_places (of_memory p rule) p gs xs own of ∙ of_memories rule p
+
+-- the line at which a write is out of turn, or a release without one, on some path is that at which the pipe breaks L6
+pub written_line : (p : Pipe) (gs : List Guard) (xs : List Place)
+    → gs ≡ guards xs → xs ≡ places p → path_line in_turn gs xs ≡ broken_line L6 p [] (places p)
+written_line p gs xs own of = at_places in_turn p gs xs own of ∙ rule_lines L6 p [] (places p)
 
 -- the line at which a read is bound too late on some path is that at which the pipe breaks L8
 pub bound_line : (p : Pipe) (gs : List Guard) (xs : List Place)

@@ -1,5 +1,7 @@
 // Rules on what is done with a memory: L3 and L4.
 ghost use Rattle.std.specs.Prelude.{◌≡◌, List, filter, map};
+ghost use Rattle.pdl_semantics.specs.Tree.{W};
+ghost use Rattle.pdl_syntax_tree.specs.View.{mem_view, pipe_view};
 ghost use Rattle.pdl_rules.specs.Places as rules;
 ghost use Rattle.pdl_rules.specs.Places.{on_path};
 ghost use Rattle.pdl_rules.specs.Locks as spec;
@@ -12,10 +14,11 @@ ghost use Rattle.pdl_locks.specs.RuleQuestions.{breaks_at_memory};
 
 use crate::numbers::number_of;
 use crate::uses::{MemoryUse, use_at};
-use pdl_kit::NoMemory;
+use crate::at_locations::lock_size;
+use pdl_kit::{Name, NoMemory};
 use pdl_paths::{Action, Path, Place};
 use pdl_rules_on_paths::PathRule;
-use pdl_syntax_tree::AccessKind;
+use pdl_syntax_tree::{AccessKind, Mem, Pipe};
 use std::alloc::Global;
 
 /// What is asked of the places of one memory.
@@ -23,13 +26,14 @@ use std::alloc::Global;
 pub enum MemoryRule {
     /// L3: it is reserved to read before it is reserved to write, and read before it is written.
     ReadFirst,
-    /// L4: it is reserved to write once, and to read at most four times.
+    /// L4: it is reserved to write at most twice, or once where its lock has room for one, and to read at most four times.
     FewReserves,
 }
 
 /// A rule on the places of each memory of a pipe.
 #[derive(Clone, Copy)]
 pub struct AtMemories<'a, 'p> {
+    pub pipe: &'a Pipe,
     /// The places of the pipe.
     pub places: &'a [Place<'p>],
     /// For each of them the number of the first one at a location of its memory.
@@ -44,7 +48,7 @@ impl PathRule for AtMemories<'_, '_> {
     ghost suits = { λ rule gs xs. AreNumbered keys.Memories rule.places.now rule.first.now xs };
 
     ghost breaks_on = { λ rule path before x.
-        breaks_at_memory rule.rule (filter (on_path path) before) x };
+        breaks_at_memory rule.rule (pipe_view rule.pipe.now) (filter (on_path path) before) x };
 
     ghost stands = { λ rule path before state.
         AreKept keys.Memories IsUsedMemory (map place_view rule.places.now)
@@ -58,7 +62,7 @@ impl PathRule for AtMemories<'_, '_> {
         let used = use_at(state, number_of(self.first, k), MemoryUse::none());
         match self.rule {
             MemoryRule::ReadFirst => is_late_read(used, place),
-            MemoryRule::FewReserves => is_one_too_many(used, place),
+            MemoryRule::FewReserves => is_one_too_many(self.pipe, used, place),
         }
     }
 
@@ -88,7 +92,7 @@ fn is_late_read(used: MemoryUse, place: &Place<'_>) -> bool
 {
     match place.action {
         Action::Reserve(_, kind) => match kind {
-            AccessKind::R => used.reserved,
+            AccessKind::R => used.reserves >= 1,
             AccessKind::W => false,
         },
         Action::CombRead(_, _) => used.written,
@@ -101,15 +105,22 @@ fn is_late_read(used: MemoryUse, place: &Place<'_>) -> bool
     }
 }
 
-fn is_one_too_many(used: MemoryUse, place: &Place<'_>) -> bool
+// How many write reservations of a memory there may be on a path: one where its lock has size 1.
+fn most_reserves(mems: &[Mem], name: &Name) -> u8
+    ensures { result ≡ spec.most_reservations (map mem_view mems.now) W name.now }
+{
+    if lock_size(mems, name) == 1 { 1 } else { 2 }
+}
+
+fn is_one_too_many(pipe: &Pipe, used: MemoryUse, place: &Place<'_>) -> bool
     ensures { (earlier : List rules.Place) →
         IsOwn IsUsedMemory used earlier (place_view place.now) →
-        result ≡ spec.is_one_too_many earlier (place_view place.now) }
+        result ≡ spec.is_one_too_many (pipe_view pipe.now) earlier (place_view place.now) }
 {
     match place.action {
-        Action::Reserve(_, kind) => match kind {
+        Action::Reserve(at, kind) => match kind {
             AccessKind::R => used.reads >= 4,
-            AccessKind::W => used.reserved,
+            AccessKind::W => used.reserves >= most_reserves(pipe.mems.as_slice(), &at.mem.name),
         },
         Action::Parameter(_) | Action::Memory(_) | Action::Separator | Action::Bind(_, _) => false,
         Action::CombRead(_, _) | Action::DelayedRead(_, _) | Action::Write(_, _) => false,

@@ -1,12 +1,12 @@
 -- What a cycle does stage by stage, in a pipe whose threads go on to later stages.
 use Rattle.std.proofs.Common.{◌≡◌, refl, sym, ap, ap₂, ◌∙◌, subst, ℕ, zero, suc, ◌+◌, ◌-◌, ◌<◌, Bool, List, [], ◌∷◌, length, Option, Some, None, is_some, is_none, ◌==◌, cond, if◌then◌else◌, arith}
 use Rattle.std.proofs.lemmas.Bool.{ne_eqb}
-use Rattle.pdl_semantics.specs.Flat.{Arrays, with_value, Mem, Pipe}
+use Rattle.pdl_semantics.specs.Flat.{Arrays, with_value, with_word, Mem, Pipe}
 use Rattle.pdl_semantics.specs.Stages.{list_any}
 use Rattle.pdl_semantics.specs.Machine.{State, Pending, lock_of}
 use Rattle.pdl_semantics.specs.Locks.{commit_value}
 use Rattle.pdl_semantics.specs.Moves.{Act, next_stage, all_acts, movers}
-use Rattle.pdl_semantics.specs.Cycle.{after_these, cycle, for_mems, list_three, taken_out, port_write, with_commit, with_commits, entries_left, or_then, if_kept, born_thread, child_of, squasher, stage_next}
+use Rattle.pdl_semantics.specs.Cycle.{after_these, cycle, for_mems, list_three, taken_out, port_writes, with_commit, with_commits, entries_left, or_then, if_kept, born_thread, child_of, squasher, stage_next}
 use Rattle.pdl_theory_simulation.proofs.PerMemory.{at_mem, other_commit, before_commits}
 use Rattle.pdl_machine_facts.specs.Slots
 use Rattle.pdl_machine_facts.specs.Slots.{LeadsOn, slot, stage_moves, movers_from, moving, arriving_thread}
@@ -16,10 +16,12 @@ use Rattle.pdl_machine_facts.proofs.StagewisePorts.{stages_below, stages_count, 
 
 -- MEMORIES
 
--- a commit looks only at its own memory's words
-same_commit : (m : ℕ) (o : Option Pending) (a b : Arrays) → a m ≡ b m → with_commit a m o m ≡ with_commit b m o m
-same_commit m None a b h = h
-same_commit m (Some e) a b h = ap (λ w. cond (m == m) (with_value w e.address (commit_value e.value)) w) h
+-- commits look only at their own memory's words
+same_commit : (m : ℕ) (es : List Pending) (a b : Arrays) → a m ≡ b m → with_commit a m es m ≡ with_commit b m es m
+same_commit m [] a b h = h
+same_commit m (e ∷ es) a b h =
+    same_commit m es (with_word a m e.address (commit_value e.value)) (with_word b m e.address (commit_value e.value))
+    (ap (λ w. cond (m == m) (with_value w e.address (commit_value e.value)) w) h)
 
 commits_at : (st : State) (ms : List Act) (k n : ℕ) (xs : List Mem) (arrays : Arrays)
     → n < length xs
@@ -90,7 +92,7 @@ module _ (p : Pipe) (leads : LeadsOn p) (some : 0 < length p.stages) (st : State
         goes_where = λ k t l e. goes_is p st bits leads count k t l e;
         valid = stages_below _ _ 0 p.stages (λ s h i. ap (list_any (λ (a : Act). a.stage == s)) these_are ∙ valid_at p st bits (length p.stages) 0 s h i);
         moves = stages_below _ _ 0 p.stages (λ s h i. ap (list_any (λ (a : Act). a.stage == s)) movers_here ∙ moves_at p st bits (length p.stages) 0 s h i);
-        commits = ap (λ ms. for_mems (λ m. port_write (taken_out st ms m)) 0 p.mems) movers_here;
+        commits = ap (λ ms. for_mems (λ m. port_writes (taken_out st ms m)) 0 p.mems) movers_here;
         ended = ended_is;
         squash = ap (λ ms. is_some (squasher ms)) movers_here;
         count = stages_count _ 0 p.stages;

@@ -27,6 +27,8 @@ use Rattle.pdl_machine_inflight.specs.InFlight.{Some-of, Awaits, IsAwaited, InFl
 use Rattle.pdl_machine_inflight.proofs.Seats.{Among, each_among, seated_in, seat_of, stage_count, same_stage, number_given, behind_older}
 use Rattle.pdl_machine_inflight.proofs.ReadingFacts.{read_in, is_place}
 use Rattle.pdl_machine_inflight.proofs.ForkLists.{list_few}
+use Rattle.pdl_theory_simulation.proofs.FlowFacts.{Ways}
+use Rattle.pdl_theory_simulation.proofs.AcceptedFacts.{sound_flows}
 use Rattle.pdl_word.specs.Each.{Each}
 
 -- STATEMENTS
@@ -62,7 +64,7 @@ read_among p v m R Goal found (x ∷ xs) past h rest i = read_among p v m R Goal
     at (inl e) = found x.stage (subst (λ op. IsTheReading p (record x { op = op })) e.1 h.0)
     at (inr e) = rest e
 
-module _ (p : Pipe) (reads : Reads p) (st : State) (d : Derived.State) (ls : List Live) (sim : Sim p st d ls) (whole : Whole p st ls) where
+module _ (p : Pipe) (ways : Ways p) (reads : Reads p) (st : State) (d : Derived.State) (ls : List Live) (sim : Sim p st d ls) (whole : Whole p st ls) where
   lasting_of : (l : Live) (ks : List Live) → Along (Lasting p st) ks → Among l ks → (older : List Live) × Lasting p st l older
   lasting_of l [] h i = absurd i
   lasting_of l (k ∷ ks) h (inl e) = (ks, subst (λ (j : Live). Lasting p st j ks) e h.0)
@@ -155,7 +157,7 @@ module _ (p : Pipe) (reads : Reads p) (st : State) (d : Derived.State) (ls : Lis
     awaited = awaited_here;
     owner = owner_here;
     listed = sim.requests;
-    forked = list_few p st d ls sim;
+    forked = list_few p ways st d ls sim;
   }
 
 -- in each state of a run all holds that holds of threads in flight
@@ -163,4 +165,4 @@ pub flights : (p : Pipe) → Sound p → Strict p → Reads p → (image : Array
     → InFlight p (state_after p (first p image) before)
 flights p sound strict reads image before =
     let r = reached p sound strict image before in
-    in_flight p reads (state_after p (first p image) before) (Derived.state_after p (Derived.first p image) before) r.0 r.1 r.2
+    in_flight p (sound_flows p sound).graph reads (state_after p (first p image) before) (Derived.state_after p (Derived.first p image) before) r.0 r.1 r.2

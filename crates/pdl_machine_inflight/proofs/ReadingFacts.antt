@@ -38,7 +38,7 @@ read_in p k m (y ∷ ys) h e = at (y.stage == k) refl e (read_in p k m ys h.1)
     op_is (Release n a) g s f rest = rest f
     op_is (Call as') g s f rest = rest f
     op_is (SpecCall as') g s f rest = rest f
-    op_is (Verify as') g s f rest = rest f
+    op_is (Verify _ as') g s f rest = rest f
     op_is SpecCheck g s f rest = rest f
     op_is SpecBarrier g s f rest = rest f
 

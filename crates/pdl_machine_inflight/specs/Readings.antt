@@ -3,7 +3,7 @@ use Rattle.std.specs.Prelude.{◌≡◌, ℕ, ◌<◌, true, false, List, [], �
 use Rattle.pdl_word.specs.Each.{Each}
 use Rattle.pdl_semantics.specs.Flat.{Op, Bind, CombRead, DelayedRead, Write, ReserveRead, ReserveWrite, Block, Release, Call, SpecCall, Verify, SpecCheck, SpecBarrier, Stmt, Next, Ends, Goes, Forks, Stage, Pipe}
 use Rattle.pdl_semantics.specs.Forms.{on_delayed_read}
-use Rattle.pdl_semantics.specs.Stages.{stage_at, mem_at, is_branch_of}
+use Rattle.pdl_semantics.specs.Stages.{stage_at, mem_at, list_any}
 
 -- the stage of a delayed read, and the variable that it binds
 pub record Reading : Type 0 where
@@ -55,7 +55,7 @@ ReadsAtOnce p (Block m a) = ⊤
 ReadsAtOnce p (Release m a) = ⊤
 ReadsAtOnce p (Call args) = ⊤
 ReadsAtOnce p (SpecCall args) = ⊤
-ReadsAtOnce p (Verify args) = ⊤
+ReadsAtOnce p (Verify last args) = ⊤
 ReadsAtOnce p SpecCheck = ⊤
 ReadsAtOnce p SpecBarrier = ⊤
 
@@ -68,4 +68,4 @@ pub record Reads (p : Pipe) : Type 0 where
 
 -- how many stages the branches of a fork have
 abbrev pub branch_stages : Pipe → ℕ → ℕ
-branch_stages p f = count_by (λ (x : Stage). is_branch_of x.branch f) p.stages
+branch_stages p f = count_by (λ (x : Stage). list_any (λ b. b.fork == f) x.branches) p.stages

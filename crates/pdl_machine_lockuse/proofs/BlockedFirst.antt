@@ -2,7 +2,7 @@
 use Rattle.std.proofs.Common.{◌≡◌, refl, sym, ap, ap₂, ◌∙◌, subst, ℕ, ◌⊎◌, inl, inr, Bool, true, false, ◌&&◌, ◌||◌, List, [], ◌∷◌, ◌++◌, map, filter, fold, if◌then◌else◌, Some, bytes_eq, eq-eqb}
 use Rattle.std.proofs.lemmas.Bool.{false≢true, and_parts, and_from, or_left, or_right, not-false}
 use Rattle.std.proofs.lemmas.List.Folds.{list_any-append}
-use Rattle.pdl_semantics.specs.Tree.{Span, Location, R, W, Stmt, Separator, CombRead, Bind, SpecCall, DelayedRead, Write, Reserve, Block, Release, If, Call, Verify, SpecCheck, SpecBarrier, Expr, Variable, Param, Mem, Pipe}
+use Rattle.pdl_semantics.specs.Tree.{Span, Location, R, W, Stmt, Separator, CombRead, Bind, SpecCall, DelayedRead, Write, Reserve, Block, Release, If, Call, Verify, Update, SpecCheck, SpecBarrier, Expr, Variable, Param, Mem, Pipe}
 use Rattle.pdl_semantics.specs.Flat
 use Rattle.pdl_semantics.specs.Flatten.{Var, var_of, mem_of}
 use Rattle.pdl_rules.specs.Places.{Place, Parameter, Memory, Statement, Branch}
@@ -163,6 +163,7 @@ sites_let p vs us before past (t ∷ ts) g each named i =
     here (If sp c when otherwise) e rest = rest
     here (Call sp args) e rest = rest
     here (Verify sp x args) e rest = rest
+    here (Update sp x args) e rest = rest
     here (SpecCheck sp) e rest = rest
     here (SpecBarrier sp) e rest = rest
 

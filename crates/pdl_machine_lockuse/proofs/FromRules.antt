@@ -1,12 +1,12 @@
 -- Behind each block of a path of an accepted source its location is not reserved again; and guesses and verifies pass as many arguments as the start.
-use Rattle.std.proofs.Common.{◌≡◌, refl, sym, ap, ap₂, ◌∙◌, subst, ℕ, suc, Bool, true, false, ◌&&◌, not, List, [], ◌∷◌, ◌++◌, length, map, Some, ◌==◌, eq-eqb, append_assoc}
+use Rattle.std.proofs.Common.{◌≡◌, refl, sym, ap, ap₂, ◌∙◌, subst, ℕ, suc, ◌≤◌, ◌<◌, if◌then◌else◌, Bool, true, false, ◌&&◌, not, List, [], ◌∷◌, ◌++◌, length, map, Some, ◌==◌, eq-eqb, append_assoc}
 use Rattle.std.proofs.lemmas.Bool.{false≢true, and_parts, and_from, both_ways, not-false, eqb-true}
 use Rattle.std.specs.List.{list_any}
 use Rattle.std.specs.Cmp.Lexicographic.{pointwise}
 use Rattle.std.proofs.lemmas.List.{length-map}
 use Rattle.std.specs.Prelude.{nat_eq, bytes_eq}
 use Rattle.pdl_kit.specs.declared.rule.Rule.TheVariants.{W5}
-use Rattle.pdl_semantics.specs.Tree.{Span, Location, R, W, Stmt, Separator, CombRead, Bind, SpecCall, DelayedRead, Write, Reserve, Block, Release, If, Call, Verify, SpecCheck, SpecBarrier, Expr, Variable, Literal, Param, Pipe}
+use Rattle.pdl_semantics.specs.Tree.{Span, Location, R, W, Stmt, Separator, CombRead, Bind, SpecCall, DelayedRead, Write, Reserve, Block, Release, If, Call, Verify, Update, SpecCheck, SpecBarrier, Expr, Variable, Literal, Param, Pipe}
 use Rattle.pdl_semantics.specs.Flat
 use Rattle.pdl_semantics.specs.Flatten.{Var, var_of, mem_of, flat, flat_exprs, start_of, params_of, width_of}
 use Rattle.pdl_semantics.specs.Stages.{onpath}
@@ -20,7 +20,10 @@ use Rattle.pdl_rules.proofs.EachPlace.{Each, closing}
 use Rattle.pdl_rules.proofs.SingleWrites.{KeepsLocks, any_weaker, any_front, reserves_alike}
 use Rattle.pdl_theory_derived.specs.Alone.{answered_op}
 use Rattle.pdl_theory_derived.proofs.Writes.{and_left, and_right}
-use Rattle.pdl_theory_facts.specs.Scans.{none_of}
+use Rattle.pdl_semantics.specs.Sound.{is_write_reserve}
+use Rattle.pdl_theory_facts.specs.Scans.{none_of, write_reserves}
+use Rattle.pdl_source_paths.proofs.Memories.{mems_length}
+use Rattle.pdl_source_paths.proofs.PathTests.{few_ok}
 use Rattle.pdl_theory_facts.specs.Facts.{looked_all}
 use Rattle.pdl_theory_turns.proofs.Looks.{path_looked}
 use Rattle.pdl_source_stages.proofs.Sites.{Site, sites_of, front_of, place_of, own, owns, All, stmts_are}
@@ -61,7 +64,7 @@ keeps_looked (Flat.ReserveWrite m a) xs = refl
 keeps_looked (Flat.Release m a) xs = refl
 keeps_looked (Flat.Call args) xs = refl
 keeps_looked (Flat.SpecCall args) xs = refl
-keeps_looked (Flat.Verify args) xs = refl
+keeps_looked (Flat.Verify last args) xs = refl
 keeps_looked Flat.SpecCheck xs = refl
 keeps_looked Flat.SpecBarrier xs = refl
 
@@ -116,6 +119,7 @@ module _ (p : Pipe) (at : Location) (vs : List Var) (there : IsNamed p.mems vs a
   one_site before k ws (If sp c when otherwise) bs g n r keeps = refl
   one_site before k ws (Call sp args) bs g n r keeps = refl
   one_site before k ws (Verify sp x args) bs g n r keeps = refl
+  one_site before k ws (Update sp x args) bs g n r keeps = refl
   one_site before k ws (SpecCheck sp) bs g n r keeps = refl
   one_site before k ws (SpecBarrier sp) bs g n r keeps = refl
 
@@ -166,6 +170,7 @@ sites_kinds p vs us before (t ∷ ts) g each named =
     here (If sp c when otherwise) e rest = rest
     here (Call sp args) e rest = rest
     here (Verify sp x args) e rest = rest
+    here (Update sp x args) e rest = rest
     here (SpecCheck sp) e rest = rest
     here (SpecBarrier sp) e rest = rest
 
@@ -209,6 +214,7 @@ module _ (p : Pipe) (rules : KeepsRules p) where
       → Flat.list_all (λ (x : Flat.Stmt). passes_on (length (flat p).start) x.op) (stmts_at k gs (ops_of p.mems vs s)) ≡ true
   site_passes k gs vs (SpecCall sp x args) bs h = and_from _ _ (args_right vs args h) refl
   site_passes k gs vs (Verify sp x args) bs h = and_from _ _ (args_right vs args h) refl
+  site_passes k gs vs (Update sp x args) bs h = and_from _ _ (args_right vs args h) refl
   site_passes k gs vs (Separator sp) bs h = refl
   site_passes k gs vs (CombRead sp x l) bs h = refl
   site_passes k gs vs (Bind sp x e) bs h = refl
@@ -269,11 +275,25 @@ module _ (p : Pipe) (rules : KeepsRules p) where
         (grows_on p.mems (path_of p (value p path)) (params_of p.params) (all_vars p) (sites_of p) (grows_all p)) (keeps_all p rules (value p path)) locations
         (λ l h. absurd (false≢true (sym (none_blocked p (on_path (path_of p (value p path))) l) ∙ h)))
 
+    reserve_looked : (m : ℕ) (op : Flat.Op) → is_write_reserve m (answered_op op) ≡ is_write_reserve m op
+    reserve_looked m (Flat.DelayedRead x n b) = refl
+    reserve_looked m _ = refl
+
+    few_looked : (m : ℕ) (xs : List Flat.Stmt) → write_reserves m (looked_all xs) ≡ write_reserves m xs
+    few_looked m [] = refl
+    few_looked m (x ∷ xs) = ap₂ (λ b n. if b then suc n else n) (reserve_looked m x.op) (few_looked m xs)
+
+    few : (m : ℕ) → m < length (flat p).mems → write_reserves m (onpath path (flat p).stmts) ≤ 2
+    few m low =
+        subst (λ n. n ≤ 2) (ap (write_reserves m) (path_looked path (flat p).stmts) ∙ few_looked m (onpath path (flat p).stmts))
+        (few_ok p rules source path m (subst (λ n. m < n) (mems_length p.mems) low))
+
   -- the flat form of an accepted source is careful with its blocks, its writes and the arguments of its guesses
   pub careful_source : is_source p ≡ true → Careful (flat p)
   careful_source source =
       record {
         kinds = kinds source;
         writes = writes source;
+        few = few source;
         args = ap (Flat.list_all (λ (x : Flat.Stmt). passes_on (length (flat p).start) x.op)) (stmts_are p) ∙ sites_pass (sites_of p) (all_here p);
       }

@@ -38,18 +38,15 @@ module _ (p : Pipe) (sound : Sound p) (strict : Strict p) (image : Arrays) (befo
   pub spared_here : AllActs (IsSpared p (state_after p (first p image) before) bits) (all_acts p (state_after p (first p image) before) bits)
   spared_here = let r = reached p sound strict image before in spared p sound strict now twin bits r.0 r.1 r.2
 
-  -- what a thread that moves releases is its own pending write, the oldest, which has its value
+  -- what a thread that moves releases are its own pending writes, the oldest ones, which have their values
   pub owns_here : (m : ℕ) → AllActs (ReleasesOwn p (state_after p (first p image) before) bits m) (all_acts p (state_after p (first p image) before) bits)
   owns_here m = let r = reached p sound strict image before in owns p sound strict now twin bits r.0 r.1 r.2 m
 
-  -- where a write of the memory is released, the oldest pending one has its value
+  -- where writes of the memory are released, as many of the oldest pending ones have their values
   pub written_here : (m : ℕ) → ReleasesWritten p (state_after p (first p image) before) bits m
-  written_here m h =
-      let r = reached p sound strict image before in
-      let w = written p sound strict now twin bits r.0 r.1 r.2 m h in
-      record { entry = record { thread = w.0; address = w.1.address; value = Some w.1.value }; rest = w.1.rest; value = w.1.value; is = w.1.is; written = refl }
+  written_here m = let r = reached p sound strict image before in written p sound strict now twin bits r.0 r.1 r.2 m
 
-  -- a thread that moves writes at most once to the memory, into its own pending write, which has no value yet
+  -- a thread that moves writes each of its pending writes at most once, in the order of its reservations
   pub once_here : (m : ℕ) → AllActs (WritesOnce p (state_after p (first p image) before) bits m) (all_acts p (state_after p (first p image) before) bits)
   once_here m = let r = reached p sound strict image before in once p sound strict now twin bits r.0 r.1 r.2 m
 

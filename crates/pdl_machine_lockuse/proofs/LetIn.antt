@@ -20,6 +20,7 @@ use Rattle.pdl_theory_states.proofs.PastStatements.{BlockOk, is_released}
 use Rattle.pdl_theory_states.proofs.UnusedValues.{AllOps}
 use Rattle.pdl_semantics.proofs.Readiness.{read_write}
 use Rattle.pdl_theory_states.proofs.Stage.{LowBlock}
+use Rattle.pdl_machine_lockuse.proofs.FewerReserves.{room_before}
 use Rattle.pdl_machine_lockuse.specs.Careful.{is_block_at, was_blocked, is_let_in, all_let_in}
 use Rattle.pdl_machine_lockuse.specs.Use.{IsLetIn, AreLetIn}
 use Rattle.pdl_machine_lockuse.proofs.HeldLocations.{right_at, Covers, covers_op, held_does}
@@ -77,13 +78,14 @@ module _ (p : Pipe) (st : State) (n : ℕ) where
   let_next vars s past (Bind x e) d h low r = λ k. right_set p s Let (blocks_of past) d.env x (value_of e d.env) (fresh vars x past h) (r k)
   let_next vars s past (CombRead x m a) d h low r =
       λ k. right_set p s Let (blocks_of past) d.env x (word_for st n m (slice_index d.env a)) (fresh vars x past h) (r k)
-  let_next vars s past (Verify args) d h low r = at (same_args (values_of args d.env) d.guess)
+  let_next vars s past (Verify last args) d h low r = at (same_args (values_of args d.env) d.guess)
     where
-      at : (b : Bool) → LetIf s past (cond b d (record d { child = Some (values_of args d.env); fails = true }))
+      at : (b : Bool) → LetIf s past (cond b d (record d { child = Some (values_of args d.env); guess = (values_of args d.env); fails = true }))
       at true = r
       at false = r
   let_next vars s past (ReserveWrite m a) d h low r =
-      λ k. r (ap₂ (λ x y. x && y) (and_left (blocks_ready p st n d) _ k) (all_last _ d.reserves _ (and_right (blocks_ready p st n d) _ k)).0)
+      λ k. r (ap₂ (λ x y. x && y) (and_left (blocks_ready p st n d) _ k)
+      (room_before p st d (deeds_after (word_for st n) (ReserveWrite m a) d) _ refl (and_right (blocks_ready p st n d) _ k)))
   let_next vars s past (Block m a) d h low r = λ k.
       let b : Blocked = record { mem = m; address = slice_index d.env a; writes = is_held d.held m a } in
       let q = all_last (λ b. block_ready p st n b) d.blocks b (and_left (list_all (λ b. block_ready p st n b) (d.blocks ++ b ∷ [])) _ k) in (

@@ -1,6 +1,8 @@
 pub mod Acts
 pub mod Paths
+pub mod Reservations
 pub mod HeldLocations
+pub mod FewerReserves
 pub mod StageStatements
 pub mod LetIn
 pub mod Begins

@@ -2,7 +2,7 @@
 use Rattle.std.proofs.Common.{◌≡◌, refl, sym, ap, ap₂, ◌∙◌, ℕ, zero, suc, ◌+◌, ◌<◌, Bool, true, false, if◌then◌else◌, ◌==◌, List, [], ◌∷◌, ◌++◌, map, Option, Some, None, length, get_or, arith, append-nil, ne_eqb}
 use Rattle.pdl_semantics.specs.Flat.{Pipe}
 use Rattle.pdl_semantics.specs.Moves.{Act, is_empty}
-use Rattle.pdl_semantics.specs.Cycle.{squasher, entered_branches, address_of, asked_in}
+use Rattle.pdl_semantics.specs.Cycle.{squasher, squash_stage, entered_branches, address_of, asked_in}
 use Rattle.pdl_machine_run.specs.declared.stage.Awaited as r_awaited
 use Rattle.pdl_machine_run.specs.declared.stage.Stage as r_stage
 use Rattle.pdl_machine_run.specs.View.{awaited_view}
@@ -21,6 +21,16 @@ squasher_on k None x more e = refl
 squasher_on k (Some n) x more e = at x.deeds.fails e
   where
     at : (b : Bool) → (if b then Some n else None) ≡ None → (if b then Some n else squasher more) ≡ squasher more
+    at true e = absurd (cc e)
+    at false e = refl
+
+-- the same of the stage of the thread that does
+pub squash_stage_on : (k : ℕ) (o : Option ℕ) (x : r_stage.Stage) (more : List Act)
+    → squash_stage (act_of k o x) ≡ None → squash_stage (act_of k o x ++ more) ≡ squash_stage more
+squash_stage_on k None x more e = refl
+squash_stage_on k (Some n) x more e = at x.deeds.fails e
+  where
+    at : (b : Bool) → (if b then Some k else None) ≡ None → (if b then Some k else squash_stage more) ≡ squash_stage more
     at true e = absurd (cc e)
     at false e = refl
 

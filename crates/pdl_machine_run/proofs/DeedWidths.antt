@@ -82,10 +82,10 @@ module _ (f : Form) (wide : AreWidths f.widths) (xs : List Memory) (ms : AreMemo
       let few = few_args args t in
       omega arith
 
-  fit_verify : (b : Bool) (args : List ℕ) (d : Deeds) → Fit (param_widths f) args → AreFit f d
-      → AreFit f (if b then d else record d { child = Some args; fails = true })
-  fit_verify true args d h k = k
-  fit_verify false args d h k = record { env = k.env; guess = k.guess; reserves = k.reserves; writes = k.writes; asks = k.asks; child = h }
+  fit_verify : (b : Bool) (args : List ℕ) (d : Deeds) → Fit (param_widths f) args → length args ≤ length f.pipe.start → AreFit f d
+      → AreFit f (if b then d else record d { child = Some args; guess = args; fails = true })
+  fit_verify true args d h few k = k
+  fit_verify false args d h few k = record { env = k.env; guess = few; reserves = k.reserves; writes = k.writes; asks = k.asks; child = h }
 
   -- the deeds after a typed statement have their widths, where those before it have
   pub fit_does : (thread : ℕ) (op : Op) (d : Deeds) → IsTypedOp f op → AreFit f d → AreFit f (deeds_after (word_of xs thread) op d)
@@ -157,8 +157,9 @@ module _ (f : Form) (wide : AreWidths f.widths) (xs : List Memory) (ms : AreMemo
         asks = k.asks;
         child = args_fit f.widths d.env wide k.env (param_widths f) args t;
       }
-  fit_does thread (Verify args) d t k =
-      fit_verify (same_args (values_of args d.env) d.guess) (values_of args d.env) d (args_fit f.widths d.env wide k.env (param_widths f) args t) k
+  fit_does thread (Verify last args) d t k =
+      fit_verify (same_args (values_of args d.env) d.guess) (values_of args d.env) d (args_fit f.widths d.env wide k.env (param_widths f) args t)
+      (few_values args d.env t) k
   fit_does thread SpecCheck d t k = k
   fit_does thread SpecBarrier d t k = record { env = k.env; guess = k.guess; reserves = k.reserves; writes = k.writes; asks = k.asks; child = k.child }
 
@@ -190,11 +191,12 @@ module _ (f : Form) (wide : AreWidths f.widths) (xs : List Memory) (ms : AreMemo
       let room = h.args in
       let kept = h.guess in
       (all_safe f.widths d.env wide k.env (param_widths f) args t, omega arith, omega arith)
-  safe_op (Verify args) d c n t k h =
+  safe_op (Verify last args) d c n t k h =
       let few = few_args args t in
       let room = h.args in
       let kept = h.verified in
-      (all_safe f.widths d.env wide k.env (param_widths f) args t, omega arith, omega arith)
+      let guessed = h.guess in
+      (all_safe f.widths d.env wide k.env (param_widths f) args t, omega arith, omega arith, omega arith)
   safe_op SpecCheck d c n t k h = tt
   safe_op SpecBarrier d c n t k h = tt
 

@@ -1,4 +1,6 @@
 mod Places
+pub mod GuardLists
+pub mod TakenOut
 pub mod MoverDeeds
 pub mod ActLists
 pub mod AnswerLists

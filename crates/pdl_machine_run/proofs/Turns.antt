@@ -87,9 +87,9 @@ requests_count : (p : Pipe) (bits : List Bool) (ms : List Act) (sq : Option ℕ)
 requests_count p bits ms sq m [] = refl
 requests_count p bits ms sq m (r ∷ rs) = ap suc (requests_count p bits ms sq (suc m) rs)
 
-orders_count : (p : Pipe) (ms : List Act) (b : Bool) (k : ℕ) (ls : List (List Bool)) → length (orders_after p ms b k ls) ≡ length ls
-orders_count p ms b k [] = refl
-orders_count p ms b k (l ∷ ls) = ap suc (orders_count p ms b (suc k) ls)
+orders_count : (p : Pipe) (ms : List Act) (k : ℕ) (ls : List (List Bool)) → length (orders_after p ms k ls) ≡ length ls
+orders_count p ms k [] = refl
+orders_count p ms k (l ∷ ls) = ap suc (orders_count p ms (suc k) ls)
 
 module _ (f : Form) (b : r_beside.Beside) (bits : List Bool) (next : ℕ) (ys zs : List r_stage.Stage) (t : Turn f b bits next ys zs) where
   -- the pipe of the form
@@ -108,7 +108,7 @@ module _ (f : Form) (b : r_beside.Beside) (bits : List Bool) (next : ℕ) (ys zs
 
   -- each fork's order has room for the branches of the threads that are inside after the cycle
   pub turn_orders : (sq : Option ℕ) → sq ≡ squasher ms → (i : ℕ) (d : r_order.Order) → i < length b.orders.items
-      → length (order_after p ms (is_some sq) i (get_or b.orders.items i d).branches.items) ≤ vec_capacity (get_or b.orders.items i d).branches
+      → length (order_after p ms i (get_or b.orders.items i d).branches.items) ≤ vec_capacity (get_or b.orders.items i d).branches
   turn_orders sq e = orders_room f t.run b bits next ys zs t.beside t.count t.long t.carried t.decided t.reached sq e
 
   turn_acted : Rattle.pdl_machine_run.proofs.ActedThreads.AllActed f zs
@@ -127,7 +127,7 @@ module _ (f : Form) (b : r_beside.Beside) (bits : List Bool) (next : ℕ) (ys zs
   -- what is shown of stages, commits, requests, the end and the squash are the stated ports
   pub turn_ports : (sq : Option ℕ) → sq ≡ squasher ms
       → stage_values (are_held zs) (are_moving zs)
-      ++ (commits_shown 0 ms b.memories.items ++ (requests_shown 0 ms p.mems ++ bit (one_ends p ms) ∷ bit (is_some sq) ∷ []))
+      ++ (commits_shown b.twice.items 0 ms b.memories.items ++ (requests_shown 0 ms p.mems ++ bit (one_ends p ms) ∷ bit (is_some sq) ∷ []))
       ≡ whole_values p (stated.ports p (state_of (seats ys) b next) (all_acts p (state_of (seats ys) b next) bits))
   turn_ports sq e = next_ports f b bits next ys zs t.beside t.count t.long t.carried t.decided sq e
 
@@ -148,8 +148,8 @@ module _ (f : Form) (b : r_beside.Beside) (bits : List Bool) (next : ℕ) (ys zs
               (born_fine f t.run.typed.vars next (child_of ms) (child_fits f 0 zs turn_acted))));
         }
 
-    module _ (c : r_beside.Beside) (memories : c.memories.items ≡ memories_after 0 ms sq b.memories.items)
-        (orders : order_views c.orders.items ≡ orders_after p ms (is_some sq) 0 (order_views b.orders.items))
+    module _ (c : r_beside.Beside) (twice : c.twice.items ≡ b.twice.items) (memories : c.memories.items ≡ memories_after 0 ms sq b.memories.items)
+        (orders : order_views c.orders.items ≡ orders_after p ms 0 (order_views b.orders.items))
         (requests : map request_view c.requests.items ≡ requests_after p bits ms sq 0 (map request_view b.requests.items)) where
       -- what the program holds after the cycle is the stated state after it
       pub turn_state : (called : Bool) → called ≡ is_some (child_of ms)
@@ -168,11 +168,12 @@ module _ (f : Form) (b : r_beside.Beside) (bits : List Bool) (next : ℕ) (ys zs
           let os = ap (λ (l : List (List Bool)). length l) orders in
           let oa = length-map c.orders.items (λ (o : r_order.Order). o.branches.items) in
           let ob = length-map b.orders.items (λ (o : r_order.Order). o.branches.items) in
-          let oc = orders_count p ms (is_some sq) 0 (order_views b.orders.items) in
+          let oc = orders_count p ms 0 (order_views b.orders.items) in
           let wr = t.beside.requests in
           let wo = t.beside.orders in
           record {
             roomy = subst (AreRoomy p) (sym memories) (roomy_after f t.run b bits next ys zs t.beside t.count t.long t.carried t.decided t.reached sq squashed);
+            twice = twice ∙ t.beside.twice;
             requests = omega (arith, rs, ra, rb, rc, wr);
             orders = omega (arith, os, oa, ob, oc, wo);
             long = long;

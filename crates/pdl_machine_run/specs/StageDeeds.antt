@@ -52,6 +52,6 @@ IsSafeOp c (Block m a) env = ⊤
 IsSafeOp c (Release m a) env = ⊤
 IsSafeOp c (Call args) env = AreSafe args env × (length args ≤ c.args)
 IsSafeOp c (SpecCall args) env = AreSafe args env × (length args ≤ c.args) × (length args ≤ c.guess)
-IsSafeOp c (Verify args) env = AreSafe args env × (length args ≤ c.args) × (length args ≤ c.verified)
+IsSafeOp c (Verify last args) env = AreSafe args env × (length args ≤ c.args) × (length args ≤ c.verified) × (length args ≤ c.guess)
 IsSafeOp c SpecCheck env = ⊤
 IsSafeOp c SpecBarrier env = ⊤

@@ -19,6 +19,7 @@ mod shown;
 mod stage;
 mod step;
 mod stmts;
+mod twice;
 mod ways;
 
 pub use running::Run;

@@ -151,6 +151,27 @@ pub fn squasher(stages: &[Stage]) -> Option<u64>
     None
 }
 
+/// The stage of the thread that squashes, if one does.
+#[tactic(auto, using(crate::proofs::ActLists::squash_stage_on))]
+pub fn squash_stage(stages: &[Stage]) -> Option<usize>
+    ensures { result ≡ stated.squash_stage (acts_of 0 stages.now) }
+{
+    for k in 0..stages.len() {
+        if squashes_in(k, &stages[k]) {
+            return Some(k);
+        }
+    }
+    None
+}
+
+// Whether the thread of stage k squashes.
+fn squashes_in(k: usize, stage: &Stage) -> bool
+    ensures { stated.squash_stage (act_of k (mover_of stage.now) stage.now)
+        ≡ (if result then Some k else None) }
+{
+    stage.deeds.fails && mover(stage).is_some()
+}
+
 // The same of the thread of a stage.
 fn squashes(stage: &Stage) -> Option<u64>
     ensures { (k : ℕ) → result ≡ stated.squasher (act_of k (mover_of stage.now) stage.now) }

@@ -13,12 +13,14 @@ ghost use Rattle.pdl_machine_run.specs.Ready.{IsWide, IsStage, AreStages, AreOrd
 ghost use Rattle.pdl_lockapi.specs.Sizes.{size_of};
 ghost use Rattle.pdl_machine_run.specs.Running.{AreImages, IsFirst, IsBeside};
 ghost use Rattle.pdl_machine_run.specs.Firsts.{seats_first, IsFirstBeside};
+ghost use Rattle.pdl_machine_facts.specs.Ports as ports;
 ghost use Rattle.pdl_machine_run.specs.Outputs.{memory_count, all_memory_count, output_count};
 
 use crate::beside::{Beside, Order, Request};
 use crate::deeds::Deeds;
 use crate::moves::begin;
 use crate::stage::{Stage, ThreadSlot};
+use crate::twice::all_twice;
 use pdl_form::{FlatMem, FlatPipe, Lock};
 use pdl_image::Image;
 use pdl_kit::NoMemory;
@@ -48,11 +50,11 @@ fn size(lock: Lock) -> usize
     }
 }
 
-// A memory with these words, and room for what may be pending and one reservation more.
+// A memory with these words, and room for what may be pending and two reservations more.
 fn memory(alloc: Global, words: &[u64], lock: Lock) -> Result<Memory, NoMemory>
     ensures { IfOk result (λ x. IsFirst (lock_view lock) words.now x) }
 {
-    Memory::new(alloc, words, lock, size(lock) + 1)
+    Memory::new(alloc, words, lock, size(lock) + 2)
 }
 
 /// The memories with the words of an image.
@@ -189,42 +191,52 @@ pub fn first_beside(alloc: Global, pipe: &FlatPipe, image: &Image) -> Result<Bes
     ensures { IfOk result (IsFirstBeside (form pipe.now).pipe image.now) }
 {
     let memories = memories(alloc, pipe, image)?;
+    let twice = all_twice(alloc, pipe)?;
     let requests = no_requests(alloc, pipe.mems().len())?;
     let orders = no_orders(alloc, pipe.stages().len())?;
     Ok(Beside {
         memories,
+        twice,
         requests,
         orders,
     })
 }
 
-// How many outputs show a memory: its commits where it has a lock, and its requests where it is delayed.
-fn memory_output(mem: &FlatMem) -> usize
-    ensures value { result ≡ memory_count (mem_view mem.now) }
-    ensures most { result ≤ 5 }
+// How many outputs show a memory: its commits where it has a lock, twice where a path reserves it twice, and its requests where it is delayed.
+fn memory_output(mem: &FlatMem, twice: bool) -> usize
+    ensures value { result ≡ memory_count twice (mem_view mem.now) }
+    ensures most { result ≤ 8 }
 {
     let commits = match mem.lock {
         Lock::Plain => 0,
-        Lock::Queue(_) | Lock::Bypass(_) | Lock::Rename(_) => 3,
+        Lock::Queue(_) | Lock::Bypass(_) | Lock::Rename(_) => {
+            if twice {
+                6
+            } else {
+                3
+            }
+        }
     };
     if mem.delayed { commits + 2 } else { commits }
 }
 
-// How many outputs show memories.
-fn memory_outputs(mems: &[FlatMem]) -> usize
-    ensures value { result ≡ all_memory_count (mems_view mems.now) }
-    ensures most { result ≤ 5 * length mems.now }
+// How many outputs show memories, of each of which it is told whether a path reserves it twice.
+fn memory_outputs(mems: &[FlatMem], twice: &[bool]) -> usize
+    requires { length twice.now ≡ length mems.now }
+    ensures value { result ≡ all_memory_count twice.now (mems_view mems.now) }
+    ensures most { result ≤ 8 * length mems.now }
 {
     let mut count = 0;
-    for mem in mems {
-        count += memory_output(mem);
+    for m in 0..mems.len() {
+        count += memory_output(&mems[m], twice[m]);
     }
     count
 }
 
-/// How many outputs there are.
-pub fn outputs(pipe: &FlatPipe) -> usize
+/// How many outputs there are, where it is told of each memory whether a path reserves it twice.
+pub fn outputs(pipe: &FlatPipe, twice: &[bool]) -> usize
+    requires { twice.now ≡ ports.all_twice (form pipe.now).pipe.stmts 0 (form pipe.now).pipe.mems }
     ensures { result ≡ output_count (form pipe.now).pipe }
 {
-    2 * pipe.stages().len() + memory_outputs(pipe.mems()) + 2
+    2 * pipe.stages().len() + memory_outputs(pipe.mems(), twice) + 2
 }

@@ -78,6 +78,7 @@ fn reserve(m: usize, a: usize, deeds: &mut Deeds)
           held = record { mem = m; var = a } ∷ (deeds_view deeds.old).held;
           reserves = (deeds_view deeds.old).reserves ++ record {
             mem = m;
+            var = a;
             address = slice_index (deeds_view deeds.old).env a;
           } ∷ [];
         } }
@@ -85,7 +86,11 @@ fn reserve(m: usize, a: usize, deeds: &mut Deeds)
     ensures room { (n : ℕ) → HasRoomFor (suc n) deeds.old → HasRoomFor n deeds.new }
 {
     let address = variable(deeds.values.as_slice(), a);
-    deeds.reserves.push_reserved(Reserved { mem: m, address });
+    deeds.reserves.push_reserved(Reserved {
+        mem: m,
+        var: a,
+        address,
+    });
     hold(&mut deeds.held, m, a);
 }
 
@@ -130,14 +135,15 @@ fn release(m: usize, a: usize, deeds: &mut Deeds)
     let_go(&mut deeds.held, m, a);
 }
 
-// A value is written.
-fn write(m: usize, e: &FlatExpr, deeds: &mut Deeds)
+// A value is written to the location that a variable reserved.
+fn write(m: usize, a: usize, e: &FlatExpr, deeds: &mut Deeds)
     requires safe { IsSafe (expr_view e.now) (deeds_view deeds.old).env }
     requires room { HasRoomFor 1 deeds.old }
     ensures deeds { deeds_view deeds.new
         ≡ record (deeds_view deeds.old) {
           writes = (deeds_view deeds.old).writes ++ record {
             mem = m;
+            var = a;
             value = spec_value_of (expr_view e.now) (deeds_view deeds.old).env;
           } ∷ [];
         } }
@@ -145,7 +151,11 @@ fn write(m: usize, e: &FlatExpr, deeds: &mut Deeds)
     ensures room { (n : ℕ) → HasRoomFor (suc n) deeds.old → HasRoomFor n deeds.new }
 {
     let value = value_of(e, deeds.values.as_slice());
-    deeds.writes.push_reserved(Written { mem: m, value });
+    deeds.writes.push_reserved(Written {
+        mem: m,
+        var: a,
+        value,
+    });
 }
 
 // A thread is called.
@@ -196,11 +206,12 @@ fn same_args(these: &[u64], those: &[u64]) -> bool
     true
 }
 
-// A guess is verified: where it was wrong, a thread is called with the right arguments.
+// A guess is verified: where it was wrong, a thread is called with the right arguments, and they are kept as the guess.
 fn verify(args: &[FlatExpr], deeds: &mut Deeds)
     requires safe { AreSafe (exprs_view args.now) (deeds_view deeds.old).env }
     requires room { length args.now ≤ vec_capacity deeds.old.verified }
     requires args_room { length args.now ≤ vec_capacity deeds.old.args }
+    requires guess_room { length args.now ≤ vec_capacity deeds.old.guess }
     ensures deeds { deeds_view deeds.new
         ≡ after_verify (spec_values_of (exprs_view args.now) (deeds_view deeds.old).env)
         (deeds_view deeds.old) }
@@ -210,6 +221,7 @@ fn verify(args: &[FlatExpr], deeds: &mut Deeds)
     values_of(args, deeds.values.as_slice(), &mut deeds.verified);
     if !same_args(deeds.verified.as_slice(), deeds.guess.as_slice()) {
         copy_words(deeds.verified.as_slice(), &mut deeds.args);
+        copy_words(deeds.verified.as_slice(), &mut deeds.guess);
         deeds.called = true;
         deeds.fails = true;
     }
@@ -230,7 +242,7 @@ fn act(memories: &[Memory], thread: u64, op: &Op, deeds: &mut Deeds)
             read_word(memories, thread, *x, *m, *a, deeds.values.as_mut_slice());
         }
         Op::DelayedRead { x, m, a } => ask(*x, *m, *a, deeds),
-        Op::Write { m, a: _, e } => write(*m, e, deeds),
+        Op::Write { m, a, e } => write(*m, *a, e, deeds),
         Op::ReserveWrite { m, a } => reserve(*m, *a, deeds),
         Op::Block { m, a } => block(*m, *a, deeds),
         Op::Release { m, a } => release(*m, *a, deeds),

@@ -34,6 +34,6 @@ reading_next m s ss = at s.op
     at (flat.Release n a) = refl
     at (flat.Call args) = refl
     at (flat.SpecCall args) = refl
-    at (flat.Verify args) = refl
+    at (flat.Verify last args) = refl
     at flat.SpecCheck = refl
     at flat.SpecBarrier = refl

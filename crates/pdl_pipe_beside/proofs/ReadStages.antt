@@ -26,7 +26,7 @@ bound_fetches m (flat.Block n a) x h = absurd (cc h)
 bound_fetches m (flat.Release n a) x h = absurd (cc h)
 bound_fetches m (flat.Call args) x h = absurd (cc h)
 bound_fetches m (flat.SpecCall args) x h = absurd (cc h)
-bound_fetches m (flat.Verify args) x h = absurd (cc h)
+bound_fetches m (flat.Verify last args) x h = absurd (cc h)
 bound_fetches m flat.SpecCheck x h = absurd (cc h)
 bound_fetches m flat.SpecBarrier x h = absurd (cc h)
 

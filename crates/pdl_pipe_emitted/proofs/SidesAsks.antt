@@ -36,7 +36,7 @@ asks_row p ls k x h e r w so = by x.op h
   where
     by : (op : Op) → IsTheReading p (record x { op = op }) → Each (AsksOf p k) (walk_after op r ls w).asks
     by (DelayedRead y m a) g = each_push (AsksOf p k) w.asks _ so (g ∙ ap (λ j. Some (record { stage = j; var = y })) e)
-    by (Verify args) g = so
+    by (Verify last args) g = so
     by (Bind y a) g = so
     by (CombRead y m a) g = so
     by (Write m a b) g = so

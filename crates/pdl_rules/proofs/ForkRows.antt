@@ -59,6 +59,26 @@ not_followed = refl
 fork_at_end : of_body (g ∷ next ∷ choice "g" [] (separator ∷ []) ∷ []) ≡ at_line F2 5
 fork_at_end = refl
 
+-- a fork in a branch of another, after the branch's first separator
+abbrev inner : List Line → List Line
+inner body = choice "g" (separator ∷ body) [] ∷ separator ∷ []
+
+fork_after_separator : of_body (g ∷ next ∷ inner (inner [])) ≡ None
+fork_after_separator = refl
+
+fork_of_level_four : of_body (g ∷ next ∷ inner (inner (inner (inner [])))) ≡ None
+fork_of_level_four = refl
+
+fork_of_level_five : of_body (g ∷ next ∷ inner (inner (inner (inner (inner []))))) ≡ at_line F2 49
+fork_of_level_five = refl
+
+-- the separator after the outer fork doesn't follow the inner one, nor does one in the other branch
+inner_fork_not_followed : of_body (g ∷ next ∷ choice "g" (separator ∷ choice "g" (separator ∷ []) [] ∷ []) [] ∷ separator ∷ []) ≡ at_line F2 16
+inner_fork_not_followed = refl
+
+followed_in_other_branch : of_body (g ∷ next ∷ choice "g" (separator ∷ choice "g" (separator ∷ []) [] ∷ []) (separator ∷ []) ∷ separator ∷ []) ≡ at_line F2 16
+followed_in_other_branch = refl
+
 fork_in_branch : of_body (g ∷ next ∷ choice "g" (choice "g" (separator ∷ []) [] ∷ separator ∷ []) [] ∷ separator ∷ []) ≡ at_line F2 15
 fork_in_branch = refl
 

@@ -6,7 +6,7 @@ use Rattle.std.proofs.lemmas.List.Folds.{list_any-append}
 use Rattle.std.proofs.lemmas.List.Sums.{fold-append, fold_push}
 use Rattle.std.specs.List.{list_any}
 use Rattle.pdl_semantics.specs.Tree.{CombRead, Bind, DelayedRead, Param, Mem, Pipe}
-use Rattle.pdl_semantics.specs.Flatten.{Var, var_width, mem_width, width_of, params_of}
+use Rattle.pdl_semantics.specs.Flatten.{Var, var_width, mem_width, width_of, is_advisory_mem, is_advised, params_of}
 use Rattle.pdl_rules.specs.Places.{Place, Parameter, Memory, Statement, places}
 use Rattle.pdl_rules.specs.Parts.{is_some_and}
 use Rattle.pdl_rules.specs.Names.{variable_at, name_at, is_taken_name, breaks_n2, defines_use, OfMemory}
@@ -36,20 +36,20 @@ width_more (v ∷ vs) more x e = go (bytes_eq v.name x) e (width_more vs more x)
 pub stays_more : (vs more : List Var) → Stays vs (vs ++ more)
 stays_more vs more x e = (named_more vs more x e, width_more vs more x e)
 
-stays_variable : (vs : List Var) (y : List ℕ) (w : ℕ) → Stays vs (with_variable vs y w)
-stays_variable vs y w x e = go (list_any (λ (v : Var). bytes_eq y v.name) vs)
+stays_variable : (vs : List Var) (y : List ℕ) (w : ℕ) (advised : Bool) → Stays vs (with_variable vs y w advised)
+stays_variable vs y w advised x e = go (list_any (λ (v : Var). bytes_eq y v.name) vs)
   where
     go : (b : Bool)
-        → IsTrue (is_named (if b then vs else vs ++ record { name = y; width = w } ∷ []) x)
-        × (var_width (if b then vs else vs ++ record { name = y; width = w } ∷ []) x ≡ var_width vs x)
+        → IsTrue (is_named (if b then vs else vs ++ record { name = y; width = w; advised = advised } ∷ []) x)
+        × (var_width (if b then vs else vs ++ record { name = y; width = w; advised = advised } ∷ []) x ≡ var_width vs x)
     go true = (e, refl)
-    go false = stays_more vs (record { name = y; width = w } ∷ []) x e
+    go false = stays_more vs (record { name = y; width = w; advised = advised } ∷ []) x e
 
 stays_place : (ms : List Mem) (vs : List Var) (d : Place) → Stays vs (after_place ms vs d)
-stays_place ms vs (Parameter a) = stays_variable vs a.name.name a.width.value
-stays_place ms vs (Statement (CombRead s x at) bs) = stays_variable vs x.name (mem_width ms at.mem.name)
-stays_place ms vs (Statement (Bind s x e) bs) = stays_variable vs x.name (width_of vs e)
-stays_place ms vs (Statement (DelayedRead s x at) bs) = stays_variable vs x.name (mem_width ms at.mem.name)
+stays_place ms vs (Parameter a) = stays_variable vs a.name.name a.width.value false
+stays_place ms vs (Statement (CombRead s x at) bs) = stays_variable vs x.name (mem_width ms at.mem.name) (is_advisory_mem ms at.mem.name)
+stays_place ms vs (Statement (Bind s x e) bs) = stays_variable vs x.name (width_of vs e) (is_advised vs e)
+stays_place ms vs (Statement (DelayedRead s x at) bs) = stays_variable vs x.name (mem_width ms at.mem.name) false
 stays_place ms vs _ = λ x e. (e, refl)
 
 stays_places : (ms : List Mem) (xs : List Place) (vs : List Var) → Stays vs (fold (after_place ms) vs xs)
@@ -97,14 +97,14 @@ known_same p vs before d none same k = record {
 }
 
 -- a place that defines this variable, with this width
-pub known_more : (p : Pipe) (vs : List Var) (before : List Place) (d : Place) (x : List ℕ) (w : ℕ)
-    → variable_at d ≡ Some x → name_at d ≡ Some x → after_place p.mems vs d ≡ with_variable vs x w
+pub known_more : (p : Pipe) (vs : List Var) (before : List Place) (d : Place) (x : List ℕ) (w : ℕ) (advised : Bool)
+    → variable_at d ≡ Some x → name_at d ≡ Some x → after_place p.mems vs d ≡ with_variable vs x w advised
     → breaks_n2 p before d ≡ false → AreKnown p vs before
-    → AreKnown p (vs ++ record { name = x; width = w } ∷ []) (before ++ d ∷ [])
-known_more p vs before d x w variable name after unbroken k = record {
+    → AreKnown p (vs ++ record { name = x; width = w; advised = advised } ∷ []) (before ++ d ∷ [])
+known_more p vs before d x w advised variable name after unbroken k = record {
   vars =
       fold_push (after_place p.mems) [] before d ∙ ap (λ us. after_place p.mems us d) k.vars ∙ after
-      ∙ ap (λ b. if b then vs else vs ++ record { name = x; width = w } ∷ []) fresh;
+      ∙ ap (λ b. if b then vs else vs ++ record { name = x; width = w; advised = advised } ∷ []) fresh;
   named = λ y e. ⊎_elim
       (λ a. named_more vs _ y (k.named y a))
       (λ a. any_last (λ (v : Var). bytes_eq v.name y) vs _ (bytes_sym y x (sym (ap (is_some_and (bytes_eq y)) variable) ∙ a)))

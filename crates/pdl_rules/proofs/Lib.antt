@@ -2,6 +2,7 @@ pub mod Texts
 mod Rows
 mod ForkRows
 mod GuessRows
+mod AdviceRows
 pub mod Counts
 pub mod SingleWrites
 pub mod TypedExpressions

@@ -178,6 +178,46 @@ two_writes :
     ≡ at_line L4 10
 two_writes = refl
 
+-- a pipe with room for this many writes, two of which each thread makes: b is the second address
+abbrev two_words : ℕ → List Line → Pipe
+two_words size body = whole (param "n" 2 ∷ []) (comb 2 "m" 8 4 (queue size) ∷ []) body (literal 2 0 ∷ [])
+
+abbrev to_both : List Line
+to_both =
+    bind "b" (plus (variable "n") (constant 2 1)) ∷ bind "z" (ZeroExtend (variable "n") (number 8)) ∷ reserve "m" "n" W
+    ∷ reserve "m" "b" W ∷ block "m" "n" ∷ block "m" "b" ∷ []
+
+abbrev into_first : Line
+into_first = write "m" "n" (variable "z")
+
+abbrev into_second : Line
+into_second = write "m" "b" (plus (variable "z") (constant 8 4))
+
+abbrev after_both : List Line
+after_both = release "m" "n" ∷ release "m" "b" ∷ call (plus (variable "n") (constant 2 2) ∷ []) ∷ []
+
+two_words_accepted : of_pipe (two_words 2 (to_both ++ into_first ∷ into_second ∷ after_both)) ≡ None
+two_words_accepted = refl
+
+writes_exchanged : of_pipe (two_words 2 (to_both ++ into_second ∷ into_first ∷ after_both)) ≡ at_line L6 9
+writes_exchanged = refl
+
+room_for_one : of_pipe (two_words 1 (to_both ++ into_first ∷ into_second ∷ after_both)) ≡ at_line L4 6
+room_for_one = refl
+
+third_reserved : of_pipe (two_words 4 (bind "c" (plus (variable "n") (constant 2 3)) ∷ to_both ++ reserve "m" "c" W ∷ into_first ∷ into_second ∷ after_both)) ≡ at_line L4 10
+third_reserved = refl
+
+-- the releases may stand in the other order, and the second reservation may follow the first one's release
+released_exchanged : of_pipe (two_words 2 (to_both ++ into_first ∷ into_second ∷ release "m" "b" ∷ release "m" "n" ∷ call (plus (variable "n") (constant 2 2) ∷ []) ∷ [])) ≡ None
+released_exchanged = refl
+
+one_after_the_other :
+    of_pipe (two_words 2 (bind "b" (plus (variable "n") (constant 2 1)) ∷ bind "z" (ZeroExtend (variable "n") (number 8))
+    ∷ reserve "m" "n" W ∷ block "m" "n" ∷ into_first ∷ release "m" "n" ∷ reserve "m" "b" W ∷ block "m" "b" ∷ into_second
+    ∷ release "m" "b" ∷ call (plus (variable "n") (constant 2 2) ∷ []) ∷ [])) ≡ None
+one_after_the_other = refl
+
 reserved_again : of_pipe (pipe (address ∷ reserve "m" "a" R ∷ reserve "m" "a" R ∷ block "m" "a" ∷ release "m" "a" ∷ next ∷ []))
     ≡ at_line L5 5
 reserved_again = refl

@@ -1,7 +1,7 @@
 -- A source that is not refused breaks no rule at any place.
 use Rattle.std.proofs.Common.{◌≡◌, refl, ℕ, zero, suc, false, List, [], ◌∷◌, ◌++◌, get_or, Option, Some, None, subst}
 use Rattle.pdl_kit.specs.declared.rule.Rule.{Rule}
-use Rattle.pdl_kit.specs.declared.rule.Rule.TheVariants.{G1, Z2, Z3, Z4, Z5, Z6, Z7, N1, N2, N3, W1, W2, W3, W4, W5, W6, F1, F2, F3, F4, F5, L1, L2, L3, L4, L5, L6, L7, L8, S1, S2, S3, S4, S5}
+use Rattle.pdl_kit.specs.declared.rule.Rule.TheVariants.{G1, Z2, Z3, Z4, Z5, Z6, Z7, N1, N2, N3, W1, W2, W3, W4, W5, W6, F1, F2, F3, F4, F5, L1, L2, L3, L4, L5, L6, L7, L8, S1, S2, S3, S4, S5, S6, S7, P1}
 use Rattle.pdl_semantics.specs.Tree.{Pipe}
 use Rattle.pdl_rules.specs.Places.{Place, places, line_of}
 use Rattle.pdl_rules.specs.Refusal.{breaks_rule, limits, after_limits, broken_line, refused_at, Refused, first_broken, KeepsRules}
@@ -66,4 +66,7 @@ keeps_unbroken p e S2 = unbroken p (limits ++ after_limits) 29 e
 keeps_unbroken p e S3 = unbroken p (limits ++ after_limits) 30 e
 keeps_unbroken p e S4 = unbroken p (limits ++ after_limits) 31 e
 keeps_unbroken p e S5 = unbroken p (limits ++ after_limits) 32 e
+keeps_unbroken p e S6 = unbroken p (limits ++ after_limits) 33 e
+keeps_unbroken p e S7 = unbroken p (limits ++ after_limits) 34 e
+keeps_unbroken p e P1 = unbroken p (limits ++ after_limits) 35 e
 keeps_unbroken p e _ = λ before x later same. refl

@@ -12,3 +12,4 @@ pub mod Speculation
 pub mod Refusal
 pub mod Typed
 pub mod Memories
+pub mod Advice

@@ -2,8 +2,9 @@
 use Rattle.std.specs.Prelude.{◌≡◌, ℕ, Bool, true, false, not, ◌&&◌, List, [], ◌∷◌, ◌++◌, if◌then◌else◌, Option, Some, None}
 use Rattle.std.specs.List.{list_all}
 use Rattle.pdl_kit.specs.declared.rule.Rule.{Rule}
-use Rattle.pdl_kit.specs.declared.rule.Rule.TheVariants.{G1, Z1, Z2, Z3, Z4, Z5, Z6, Z7, N1, N2, N3, W1, W2, W3, W4, W5, W6, F1, F2, F3, F4, F5, L1, L2, L3, L4, L5, L6, L7, L8, S1, S2, S3, S4, S5, I1, I2, I3, I4, I5, I6, Y1, Y2, Y3, V1, V2, V3, V4, V5, B1, B2, B3, B4, B5, A1, A2, A3, A4, A5, A6, A7, A8}
-use Rattle.pdl_semantics.specs.Tree.{Stmt, Separator, CombRead, Bind, SpecCall, DelayedRead, Write, Reserve, Block, Release, If, Call, Verify, SpecCheck, SpecBarrier, Stmts, Nil, Cons, Mem, Pipe}
+use Rattle.pdl_kit.specs.declared.rule.Rule.TheVariants.{G1, Z1, Z2, Z3, Z4, Z5, Z6, Z7, N1, N2, N3, W1, W2, W3, W4, W5, W6, F1, F2, F3, F4, F5, L1, L2, L3, L4, L5, L6, L7, L8, S1, S2, S3, S4, S5, S6, S7, I1, I2, I3, I4, I5, I6, Y1, Y2, Y3, V1, V2, V3, V4, V5, B1, B2, B3, B4, B5, A1, A2, A3, A4, A5, A6, A7, A8, P1}
+use Rattle.pdl_semantics.specs.Tree.{Stmt, Separator, CombRead, Bind, SpecCall, DelayedRead, Write, Reserve, Block, Release, If, Call, Verify, Update, SpecCheck, SpecBarrier, Stmts, Nil, Cons, Mem, Pipe}
+use Rattle.pdl_semantics.specs.Flat.{is_delayed}
 use Rattle.pdl_rules.specs.Places.{Place, places, line_of}
 use Rattle.pdl_rules.specs.Limits.{is_too_long, breaks_z2, breaks_z3, breaks_z4, breaks_z5, breaks_z6, breaks_z7}
 use Rattle.pdl_rules.specs.Names.{breaks_n1, breaks_n2, breaks_n3}
@@ -12,7 +13,8 @@ use Rattle.pdl_rules.specs.Locks.{breaks_f5, breaks_l1, breaks_l3, breaks_l4, br
 use Rattle.pdl_rules.specs.Stages.{breaks_l2, breaks_l8}
 use Rattle.pdl_rules.specs.Forks.{breaks_f1, breaks_f2, breaks_f3, breaks_f4}
 use Rattle.pdl_rules.specs.Calls.{breaks_s1}
-use Rattle.pdl_rules.specs.Speculation.{breaks_s2, breaks_s3, breaks_s4, breaks_s5}
+use Rattle.pdl_rules.specs.Speculation.{breaks_s2, breaks_s3, breaks_s4, breaks_s5, breaks_s6, breaks_s7}
+use Rattle.pdl_rules.specs.Advice.{breaks_p1}
 
 -- whether the place, with these places before it in the text, breaks a rule; no tree breaks the rules of bytes and tokens, G1 and Z1, nor those of other files
 abbrev pub breaks_rule : Rule → Pipe → List Place → Place → Bool
@@ -51,6 +53,9 @@ breaks_rule S2 p before x = breaks_s2 p before x
 breaks_rule S3 p before x = breaks_s3 before x
 breaks_rule S4 p before x = breaks_s4 p before x
 breaks_rule S5 p before x = breaks_s5 p before x
+breaks_rule S6 p before x = breaks_s6 p before x
+breaks_rule S7 p before x = breaks_s7 before x
+breaks_rule P1 p before x = breaks_p1 p x
 breaks_rule I1 p before x = false
 breaks_rule I2 p before x = false
 breaks_rule I3 p before x = false
@@ -85,7 +90,7 @@ limits = Z2 ∷ Z3 ∷ Z4 ∷ Z5 ∷ Z6 ∷ Z7 ∷ []
 
 -- the rules of the tree that come after the limits, in their order
 abbrev pub after_limits : List Rule
-after_limits = N1 ∷ N2 ∷ N3 ∷ W1 ∷ W2 ∷ W3 ∷ W4 ∷ W5 ∷ W6 ∷ F1 ∷ F2 ∷ F3 ∷ F4 ∷ F5 ∷ L1 ∷ L2 ∷ L3 ∷ L4 ∷ L5 ∷ L6 ∷ L7 ∷ L8 ∷ S1 ∷ S2 ∷ S3 ∷ S4 ∷ S5 ∷ []
+after_limits = N1 ∷ N2 ∷ N3 ∷ W1 ∷ W2 ∷ W3 ∷ W4 ∷ W5 ∷ W6 ∷ F1 ∷ F2 ∷ F3 ∷ F4 ∷ F5 ∷ L1 ∷ L2 ∷ L3 ∷ L4 ∷ L5 ∷ L6 ∷ L7 ∷ L8 ∷ S1 ∷ S2 ∷ S3 ∷ S4 ∷ S5 ∷ S6 ∷ S7 ∷ P1 ∷ []
 
 -- a rule that is broken, and the line of its lowest place
 pub record Refused : Type 0 where
@@ -132,6 +137,7 @@ is_straight (Release _ _) = true
 is_straight (If _ _ _ _) = false
 is_straight (Call _ _) = true
 is_straight (Verify _ _ _) = false
+is_straight (Update _ _ _) = false
 is_straight (SpecCheck _) = false
 is_straight (SpecBarrier _) = false
 
@@ -142,7 +148,7 @@ all_straight (Cons s ss) = is_straight s && all_straight ss
 
 -- whether a memory is not a delayed one
 abbrev pub is_comb : Mem → Bool
-is_comb m = not m.delayed
+is_comb m = not (is_delayed m.kind)
 
 -- whether the pipe is of that kind: it has one path
 abbrev pub is_one_stage : Pipe → Bool

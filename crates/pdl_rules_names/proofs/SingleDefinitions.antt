@@ -7,7 +7,7 @@ use Rattle.std.proofs.lemmas.Slice.Eq.{bytes_eq-Decides}
 use Rattle.std.proofs.Common.{⊎_elim}
 use Rattle.pdl_kit.specs.declared.rule.Rule.{Rule}
 use Rattle.pdl_kit.specs.declared.rule.Rule.TheVariants.{N2}
-use Rattle.pdl_semantics.specs.Tree.{Stmt, Separator, CombRead, Bind, SpecCall, DelayedRead, Write, Reserve, Block, Release, If, Call, Verify, SpecCheck, SpecBarrier, Pipe}
+use Rattle.pdl_semantics.specs.Tree.{Stmt, Separator, CombRead, Bind, SpecCall, DelayedRead, Write, Reserve, Block, Release, If, Call, Verify, Update, SpecCheck, SpecBarrier, Pipe}
 use Rattle.pdl_rules.specs.Places.{Place, Parameter, Memory, Statement, End, StartClause, line_of}
 use Rattle.pdl_rules.specs.Parts.{is_some_and, parts_of}
 use Rattle.pdl_rules.specs.Names.{Use, OfVariable, OfMemory, OfGuess, defines_use, name_at, name_of, either_name, is_taken_name, breaks_n2}
@@ -40,6 +40,7 @@ guess_name x (Release _ _) h = cc
 guess_name x (If _ _ _ _) h = cc
 guess_name x (Call _ _) h = cc
 guess_name x (Verify _ _ _) h = cc
+guess_name x (Update _ _ _) h = cc
 guess_name x (SpecCheck _) h = cc
 guess_name x (SpecBarrier _) h = cc
 

@@ -8,3 +8,6 @@ pub mod FeatureRows
 mod SoundRows
 pub mod Readiness
 pub mod Facts
+pub mod Updates
+pub mod Advice
+pub mod AdviceApart

@@ -1,11 +1,11 @@
 -- Pending writes of a memory as a list: whose they are, and how many are older than a thread.
-use Rattle.std.specs.Prelude.{ℕ, suc, ◌+◌, ◌≤◌, List, [], ◌∷◌, if◌then◌else◌, nat_lt}
+use Rattle.std.specs.Prelude.{ℕ, suc, ◌≤◌, List, [], ◌∷◌, if◌then◌else◌, nat_lt}
 use Rattle.pdl_semantics.specs.Machine.{Pending}
 
--- the threads of the pending writes are these, from a number on, in order and each once
+-- the threads of the pending writes are these, from a number on, in order
 abbrev pub AreOrdered : ℕ → List Pending → Type 0
 AreOrdered t [] = Unit {0}
-AreOrdered t (e ∷ es) = (t ≤ e.thread) × AreOrdered (e.thread + 1) es
+AreOrdered t (e ∷ es) = (t ≤ e.thread) × AreOrdered e.thread es
 
 -- how many of them are of threads older than this one
 abbrev pub count_older : ℕ → List Pending → ℕ

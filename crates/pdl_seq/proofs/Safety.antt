@@ -51,6 +51,6 @@ module _ (f : Form) (typed : IsTypedForm f) (lists : List (List ℕ)) (s : IsSha
   safe_op (Release m a) t = tt
   safe_op (Call args) t = let few = few_args f args t in (all_safe f.widths r.env typed.wide k.values (param_widths f) args t, omega arith)
   safe_op (SpecCall args) t = tt
-  safe_op (Verify args) t = let few = few_args f args t in (all_safe f.widths r.env typed.wide k.values (param_widths f) args t, omega arith)
+  safe_op (Verify last args) t = let few = few_args f args t in (all_safe f.widths r.env typed.wide k.values (param_widths f) args t, omega arith)
   safe_op SpecCheck t = tt
   safe_op SpecBarrier t = tt

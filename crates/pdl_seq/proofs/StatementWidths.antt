@@ -129,7 +129,8 @@ module _ (f : Form) where
     fits_runs (Release m a) r t k = k
     fits_runs (Call args) r t k = record { words = k.words; values = k.values; next_args = are_args r.env args k.values t; commits = k.commits }
     fits_runs (SpecCall args) r t k = k
-    fits_runs (Verify args) r t k = record { words = k.words; values = k.values; next_args = are_args r.env args k.values t; commits = k.commits }
+    fits_runs (Verify true args) r t k = record { words = k.words; values = k.values; next_args = are_args r.env args k.values t; commits = k.commits }
+    fits_runs (Verify false args) r t k = k
     fits_runs SpecCheck r t k = k
     fits_runs SpecBarrier r t k = k
 

@@ -21,7 +21,8 @@ grow_op (Block m a) r = omega arith
 grow_op (Release m a) r = omega arith
 grow_op (Call args) r = omega arith
 grow_op (SpecCall args) r = omega arith
-grow_op (Verify args) r = omega arith
+grow_op (Verify true args) r = omega arith
+grow_op (Verify false args) r = omega arith
 grow_op SpecCheck r = omega arith
 grow_op SpecBarrier r = omega arith
 

@@ -58,6 +58,6 @@ IsSafeOp lists room (Block m a) env = ⊤
 IsSafeOp lists room (Release m a) env = ⊤
 IsSafeOp lists room (Call args) env = AreSafe args env × (length args ≤ room)
 IsSafeOp lists room (SpecCall args) env = ⊤
-IsSafeOp lists room (Verify args) env = AreSafe args env × (length args ≤ room)
+IsSafeOp lists room (Verify last args) env = AreSafe args env × (length args ≤ room)
 IsSafeOp lists room SpecCheck env = ⊤
 IsSafeOp lists room SpecBarrier env = ⊤

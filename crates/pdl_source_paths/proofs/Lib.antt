@@ -6,6 +6,7 @@ pub mod Walk
 pub mod Growth
 pub mod ReadsKept
 pub mod WritesKept
+pub mod Quiet
 pub mod Order
 pub mod FlatPaths
 pub mod Calls

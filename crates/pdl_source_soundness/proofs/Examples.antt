@@ -5,7 +5,7 @@ use Rattle.pdl_semantics.specs.Flat.{Arrays}
 use Rattle.pdl_semantics.specs.Flatten.{flat}
 use Rattle.pdl_semantics.specs.Promises.{Refines}
 use Rattle.pdl_semantics.proofs.Texts.{constant, variable, slice, separator, bind, call, if_else, pipe}
-use Rattle.pdl_semantics.proofs.Pipes.{shared_guard, copy_guessed, count_slow, two_branches}
+use Rattle.pdl_semantics.proofs.Pipes.{shared_guard, copy_guessed, count_slow, two_branches, guess_learnt, guess_kept}
 use Rattle.pdl_rules.specs.Refusal.{first_broken, limits, after_limits}
 use Rattle.pdl_rules.proofs.Unbroken.{keeps_unbroken}
 use Rattle.pdl_theory_facts.specs.SoundChecks.{passes_tests}
@@ -30,11 +30,21 @@ slow_keeps = (refl, refl, refl)
 guesses_keep : rules_of copy_guessed
 guesses_keep = (refl, refl, refl)
 
+-- with an advisory memory
+learnt_keeps : rules_of guess_learnt
+learnt_keeps = (refl, refl, refl)
+
+kept_keeps : rules_of guess_kept
+kept_keeps = (refl, refl, refl)
+
 passed_keeps : rules_of passed_by
 passed_keeps = (refl, refl, refl)
 
 passed_refines : (image : Arrays) (schedule : List (List Bool)) → Refines (flat passed_by) image schedule
 passed_refines = whole_refines (flat passed_by) (of_source passed_by (keeps_unbroken passed_by refl) refl refl)
+
+learnt_refines : (image : Arrays) (schedule : List (List Bool)) → Refines (flat guess_learnt) image schedule
+learnt_refines = whole_refines (flat guess_learnt) (of_source guess_learnt (keeps_unbroken guess_learnt refl) refl refl)
 
 -- two `if`s on expressions at one byte: one guard for the rules, two in the flat form, so none calls where they differ
 abbrev at_one_byte : Pipe

@@ -1,2 +1,3 @@
 mod SingleNumber
 mod PathlessParts
+mod NoUpdates

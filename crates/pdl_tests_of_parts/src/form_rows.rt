@@ -2,7 +2,10 @@
 ghost use Rattle.std.specs.Prelude.{◌≡◌, length, IfOk};
 ghost use Rattle.pdl_form.specs.FormView.{form};
 
-use pdl_form::{FlatBranch, FlatExpr, FlatMem, FlatPipe, FlatStage, FlatStmt, Lock, Next, Op};
+use pdl_form::{
+    FlatBranch, FlatBranches, FlatExpr, FlatMem, FlatPipe, FlatStage, FlatStmt, Lock, NO_BRANCHES,
+    Next, Op,
+};
 use pdl_kit::{Name, NoMemory, Seq};
 use pdl_stages::{Fork, StageGraph, stage_graph};
 use std::alloc::Global;
@@ -15,20 +18,25 @@ const STAGES: [FlatStage; 3] = [
             first: 1,
             second: 2,
         },
-        branch: None,
+        branches: NO_BRANCHES,
         merges: None,
     },
     FlatStage {
         next: Next::Goes(2),
-        branch: Some(FlatBranch {
-            fork: 0,
-            first: true,
-        }),
+        branches: FlatBranches {
+            first: Some(FlatBranch {
+                fork: 0,
+                first: true,
+            }),
+            second: None,
+            third: None,
+            fourth: None,
+        },
         merges: None,
     },
     FlatStage {
         next: Next::Ends,
-        branch: None,
+        branches: NO_BRANCHES,
         merges: Some(0),
     },
 ];

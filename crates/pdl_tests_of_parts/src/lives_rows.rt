@@ -3,7 +3,7 @@ ghost use Rattle.std.specs.Prelude.{◌≡◌, length, IfOk};
 ghost use Rattle.pdl_form.specs.FormView.{form};
 
 use crate::form_rows::{memory, statements};
-use pdl_form::{FlatPipe, FlatStage, Next};
+use pdl_form::{FlatPipe, FlatStage, NO_BRANCHES, Next};
 use pdl_kit::NoMemory;
 use pdl_pipe_lives::{held_from, keeps_ticket, lives_from};
 use std::alloc::Global;
@@ -12,12 +12,12 @@ use std::mem::drop;
 const STAGES: [FlatStage; 2] = [
     FlatStage {
         next: Next::Goes(1),
-        branch: None,
+        branches: NO_BRANCHES,
         merges: None,
     },
     FlatStage {
         next: Next::Ends,
-        branch: None,
+        branches: NO_BRANCHES,
         merges: None,
     },
 ];

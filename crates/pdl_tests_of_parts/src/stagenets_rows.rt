@@ -6,7 +6,7 @@ ghost use Rattle.pdl_pipe_exprs.specs.Conditions.{AreBits};
 ghost use Rattle.pdl_pipe_walk.specs.Sized.{IsWalkOf, AreWalked};
 
 use pdl_build::Builder;
-use pdl_form::{FlatPipe, FlatStage, FlatStmt, Next, Op};
+use pdl_form::{FlatPipe, FlatStage, FlatStmt, NO_BRANCHES, Next, Op};
 use pdl_kit::{NoMemory, Seq};
 use pdl_pipe_exprs::Bits;
 use pdl_pipe_walk::{Setting, WalkNets};
@@ -63,7 +63,7 @@ fn one_stage(alloc: Global, stmts: Vec<FlatStmt>) -> Result<FlatPipe, NoMemory>
     let mut stages = Vec::new(alloc);
     stages.push(FlatStage {
         next: Next::Ends,
-        branch: None,
+        branches: NO_BRANCHES,
         merges: None,
     })?;
     let flat = FlatPipe::new(

@@ -1,16 +1,48 @@
 -- What it means that both machines do the same.
-use Rattle.std.specs.Prelude.{◌≡◌, ℕ, List, [], ◌∷◌, None, slice_index_or}
-use Rattle.pdl_semantics.specs.Flat.{Pipe, of_mem}
-use Rattle.pdl_semantics.specs.Cycle.{for_mems, commit_shown}
+use Rattle.std.specs.Prelude.{◌≡◌, ℕ, zero, suc, Bool, true, false, ◌&&◌, List, [], ◌∷◌, if◌then◌else◌, ◌==◌, slice_index_or}
+use Rattle.pdl_semantics.specs.Flat.{Op, SpecCall, Pipe, of_mem}
+use Rattle.pdl_semantics.specs.Stages.{list_any, onpath, in_stage}
+use Rattle.pdl_semantics.specs.Cycle.{for_mems, commits_shown}
 use Rattle.pdl_semantics.specs.Cycle
+use Rattle.pdl_semantics.specs.Machine.{State}
+use Rattle.pdl_semantics.specs.Moves.{Act, all_acts}
 use Rattle.pdl_theory_derived.specs.Derived.{find_ask}
 use Rattle.pdl_theory_derived.specs.Derived
+
+-- whether a thread's stage makes a guess
+abbrev pub is_guess : Op → Bool
+is_guess (SpecCall args) = true
+is_guess _ = false
+
+abbrev pub makes_guess : Pipe → Act → Bool
+makes_guess p a = list_any (λ x. is_guess x.op) (onpath a.does.env (in_stage a.stage p.stmts))
+
+-- what the thread of this number guesses as it moves in a cycle, else `rest`
+abbrev pub guess_in : Pipe → List Act → ℕ → List ℕ → List ℕ
+guess_in p [] n rest = rest
+guess_in p (a ∷ these) n rest = if (a.thread.number == n) && (a.moves && makes_guess p a) then a.does.guess else guess_in p these n rest
+
+-- what it guesses in a run of the stated machine from this state on, nothing where it makes no guess
+abbrev pub guess_of : Pipe → State → List (List Bool) → ℕ → List ℕ
+guess_of p st [] n = []
+guess_of p st (bits ∷ schedule) n = guess_in p (all_acts p st bits) n (guess_of p (Cycle.cycle p st bits) schedule n)
+
+-- what the threads guess that are made in each cycle of that run
+abbrev pub made_hints : Pipe → State → List (List Bool) → ℕ → List ℕ
+made_hints p st [] n = []
+made_hints p st (bits ∷ schedule) zero = guess_of p (Cycle.cycle p st bits) schedule st.next
+made_hints p st (bits ∷ schedule) (suc n) = made_hints p (Cycle.cycle p st bits) schedule n
+
+-- and before them what the first thread guesses
+abbrev pub hints_of : Pipe → State → List (List Bool) → ℕ → List ℕ
+hints_of p st schedule zero = guess_of p st schedule 1
+hints_of p st schedule (suc n) = made_hints p st schedule n
 
 -- the ports of a cycle of each machine
 pub record SameTurn (p : Pipe) (a : Cycle.Turn) (b : Derived.Turn) : Type 0 where
   pub valid : a.ports.valid ≡ b.ports.valid
   pub moves : a.ports.moves ≡ b.ports.moves
-  pub commits : (m : ℕ) → commit_shown m (slice_index_or a.ports.commits m None) ≡ of_mem m b.ports.commits
+  pub commits : (m : ℕ) → commits_shown m (slice_index_or a.ports.commits m []) ≡ of_mem m b.ports.commits
   pub requests : a.ports.requests ≡ for_mems (λ m. find_ask b.ports.requests m) 0 p.mems
   pub ended : a.ports.ended ≡ b.ports.ended
   pub squash : a.ports.squash ≡ b.ports.squash

@@ -2,6 +2,7 @@ pub mod FlowFacts
 pub mod Shapes
 pub mod Stretches
 pub mod StretchSteps
+pub mod Guessing
 pub mod Seats
 pub mod Choices
 pub mod ThreadFacts
@@ -13,8 +14,10 @@ pub mod ThreadPlaces
 pub mod Requests
 pub mod PerMemory
 pub mod SimulatedStates
+pub mod Advising
 pub mod WholeSimulation
 pub mod SimulatedRuns
+pub mod Foretold
 pub mod ActOrder
 pub mod ActSwaps
 pub mod ForkLists

@@ -3,9 +3,9 @@ use Rattle.std.proofs.Common.{◌≡◌, refl, sym, ap, ap₂, ◌∙◌, ℕ, �
 use Rattle.std.proofs.lemmas.List.{get_or-set_other}
 use Rattle.std.proofs.lemmas.Bool.{or_parts, or_right, or_left}
 use Rattle.pdl_word.specs.Words
-use Rattle.pdl_semantics.specs.Flat.{Op, Bind, CombRead, DelayedRead, Write, ReserveRead, ReserveWrite, Block, Release, Call, SpecCall, Verify, SpecCheck, SpecBarrier, Expr, Constant, Variable, Slice, Not, Binary, Cat, LessSigned, ZeroExtend, SignExtend, Choose, Stmt, value_of, values_of, operator_value}
+use Rattle.pdl_semantics.specs.Flat.{Op, Bind, CombRead, DelayedRead, Write, ReserveRead, ReserveWrite, Block, Release, Call, SpecCall, Verify, SpecCheck, SpecBarrier, Expr, Constant, Variable, Slice, Not, Binary, Cat, LessSigned, ZeroExtend, SignExtend, Choose, Stmt, value_of, values_of, operator_value, AdviceBind, AdviceRead, AdviceWrite, all_hold}
 use Rattle.pdl_semantics.specs.Forms.{on_delayed_read}
-use Rattle.pdl_semantics.specs.Sound.{is_call}
+use Rattle.pdl_semantics.specs.Sound.{guess_after, guess_of}
 use Rattle.pdl_theory_facts.specs.Facts.{uses_in, uses_any, mentions_var}
 use Rattle.pdl_theory_derived.proofs.Writes.{and_left, and_right}
 use Rattle.pdl_theory_states.specs.Strict.{bound_by, uses_own, is_mentioned, is_new, all_new}
@@ -86,16 +86,16 @@ value_agree (Choose c a b) env env' f =
     let n = value_agree b env env' (λ g h. f g (or_right (uses_in g c) _ (or_right (uses_in g a) _ h))) in
     λ i. Words.mux (k i) (m i) (n i)
 
-values_agree : (es : List Expr) (env env' : List ℕ)
+pub values_agree : (es : List Expr) (env env' : List ℕ)
     → ((g : ℕ) → uses_any g es ≡ true → slice_index env g ≡ slice_index env' g) → values_of es env ≡ values_of es env'
 values_agree [] env env' f = refl
 values_agree (e ∷ es) env env' f =
     ap₂ (λ a l. a ∷ l) (value_agree e env env' (λ g h. f g (or_left _ _ h))) (values_agree es env env' (λ g h. f g (or_right (uses_in g e) _ h)))
 
--- what a statement gave is still so: the value of the variable that it binds, or the guess that it makes
+-- what a binding gave is still so: the value of its variable; any other statement passes
 abbrev pub Done : List ℕ → List ℕ → Op → Type 0
 Done env guess (Bind x e) = slice_index env x ≡ value_of e env
-Done env guess (SpecCall args) = guess ≡ values_of args env
+Done env guess (SpecCall args) = Unit {0}
 Done env guess (CombRead x m a) = Unit {0}
 Done env guess (DelayedRead x m a) = Unit {0}
 Done env guess (Write m a e) = Unit {0}
@@ -104,9 +104,12 @@ Done env guess (ReserveWrite m a) = Unit {0}
 Done env guess (Block m a) = Unit {0}
 Done env guess (Release m a) = Unit {0}
 Done env guess (Call args) = Unit {0}
-Done env guess (Verify args) = Unit {0}
+Done env guess (Verify last args) = Unit {0}
 Done env guess SpecCheck = Unit {0}
 Done env guess SpecBarrier = Unit {0}
+Done env guess (AdviceBind x e) = Unit {0}
+Done env guess (AdviceRead x m a) = Unit {0}
+Done env guess (AdviceWrite m a e) = Unit {0}
 
 -- two lists of values agree on the variables that a statement hangs on
 abbrev pub Agrees : Op → List ℕ → List ℕ → Type 0
@@ -115,7 +118,7 @@ Agrees op env env' = (g : ℕ) → touches g op ≡ true → slice_index env g �
 -- what a statement gave is true of other values too that agree on all variables that it hangs on
 pub done_agrees : (env env' guess : List ℕ) (op : Op) → Agrees op env env' → Done env guess op → Done env' guess op
 done_agrees env env' guess (Bind x e) f h = sym (f x (or_left _ _ (eq-eqb x x refl))) ∙ h ∙ value_agree e env env' (λ g k. f g (or_right (x == g) _ k))
-done_agrees env env' guess (SpecCall args) f h = h ∙ values_agree args env env' f
+done_agrees env env' guess (SpecCall args) f h = tt
 done_agrees env env' guess (CombRead x m a) f h = tt
 done_agrees env env' guess (DelayedRead x m a) f h = tt
 done_agrees env env' guess (Write m a e) f h = tt
@@ -124,25 +127,45 @@ done_agrees env env' guess (ReserveWrite m a) f h = tt
 done_agrees env env' guess (Block m a) f h = tt
 done_agrees env env' guess (Release m a) f h = tt
 done_agrees env env' guess (Call args) f h = tt
-done_agrees env env' guess (Verify args) f h = tt
+done_agrees env env' guess (Verify last args) f h = tt
 done_agrees env env' guess SpecCheck f h = tt
 done_agrees env env' guess SpecBarrier f h = tt
+done_agrees env env' guess (AdviceBind x e) f h = tt
+done_agrees env env' guess (AdviceRead x m a) f h = tt
+done_agrees env env' guess (AdviceWrite m a e) f h = tt
 
--- only a speculative call hangs on the guess
-pub done_guess : (env guess guess' : List ℕ) (op : Op) → is_call op ≡ false → Done env guess op → Done env guess' op
-done_guess env guess guess' (SpecCall args) k h = absurd (cc k)
-done_guess env guess guess' (Bind x e) k h = h
-done_guess env guess guess' (CombRead x m a) k h = tt
-done_guess env guess guess' (DelayedRead x m a) k h = tt
-done_guess env guess guess' (Write m a e) k h = tt
-done_guess env guess guess' (ReserveRead m a) k h = tt
-done_guess env guess guess' (ReserveWrite m a) k h = tt
-done_guess env guess guess' (Block m a) k h = tt
-done_guess env guess guess' (Release m a) k h = tt
-done_guess env guess guess' (Call args) k h = tt
-done_guess env guess guess' (Verify args) k h = tt
-done_guess env guess guess' SpecCheck k h = tt
-done_guess env guess guess' SpecBarrier k h = tt
+-- the guess after these statements, the last one first: what the last statement gave that gives one, where a speculative call gives the hint
+abbrev pub guess_past : List ℕ → List Op → List ℕ → List ℕ
+guess_past hint [] env = []
+guess_past hint (SpecCall args ∷ past) env = hint
+guess_past hint (Verify last args ∷ past) env = values_of args env
+guess_past hint (_ ∷ past) env = guess_past hint past env
+
+-- by values that agree on all variables that a statement hangs on it is the same
+pub guess_agrees : (hint : List ℕ) (op : Op) (past : List Op) (env env' : List ℕ) → Agrees op env env' → guess_past hint past env ≡ guess_past hint past env'
+    → guess_past hint (op ∷ past) env ≡ guess_past hint (op ∷ past) env'
+guess_agrees hint (SpecCall args) past env env' f h = refl
+guess_agrees hint (Verify last args) past env env' f h = values_agree args env env' f
+guess_agrees hint _ past env env' f h = h
+
+-- what a statement gave doesn't hang on the guess
+pub done_guess : (env guess guess' : List ℕ) (op : Op) → Done env guess op → Done env guess' op
+done_guess env guess guess' (Bind x e) h = h
+done_guess env guess guess' (CombRead x m a) h = tt
+done_guess env guess guess' (DelayedRead x m a) h = tt
+done_guess env guess guess' (Write m a e) h = tt
+done_guess env guess guess' (ReserveRead m a) h = tt
+done_guess env guess guess' (ReserveWrite m a) h = tt
+done_guess env guess guess' (Block m a) h = tt
+done_guess env guess guess' (Release m a) h = tt
+done_guess env guess guess' (Call args) h = tt
+done_guess env guess guess' (SpecCall args) h = tt
+done_guess env guess guess' (Verify last args) h = tt
+done_guess env guess guess' SpecCheck h = tt
+done_guess env guess guess' SpecBarrier h = tt
+done_guess env guess guess' (AdviceBind x e) h = tt
+done_guess env guess guess' (AdviceRead x m a) h = tt
+done_guess env guess guess' (AdviceWrite m a e) h = tt
 
 -- a statement that has nothing to do with a variable doesn't hang on its value
 pub mention_touch : (x : ℕ) (op : Op) → mentions_var x op ≡ false → touches x op ≡ false
@@ -156,8 +179,11 @@ mention_touch x (Block m a) h = h
 mention_touch x (Release m a) h = h
 mention_touch x (Call args) h = h
 mention_touch x (SpecCall args) h = h
-mention_touch x (Verify args) h = h
+mention_touch x (Verify last args) h = h
 mention_touch x SpecCheck h = h
+mention_touch x (AdviceBind x' e') h = h
+mention_touch x (AdviceRead x' m' a') h = h
+mention_touch x (AdviceWrite m' a' e') h = h
 mention_touch x SpecBarrier h = h
 
 -- no statement hangs on a variable with which none of them has to do
@@ -168,3 +194,4 @@ untouched x (op ∷ ops) h = let k = or_parts (mentions_var x op) (is_mentioned 
 -- another value of a variable on which a statement doesn't hang
 pub set_agrees : (x v : ℕ) (op : Op) (env : List ℕ) → touches x op ≡ false → Agrees op env (slice_set env x v)
 set_agrees x v op env h g k = sym (get_or-set_other env x g v 0 (λ e. untrue (sym h ∙ ap (λ n. touches n op) (sym e) ∙ k)))
+

@@ -24,15 +24,17 @@ run_op_stays : (g : ℕ) (op : Op) (r : Run) → not (binds_var g op) ≡ true �
 run_op_stays g (Bind x e) r h = set_stays r.env x g _ h
 run_op_stays g (CombRead x m a) r h = set_stays r.env x g _ h
 run_op_stays g (DelayedRead x m a) r h = set_stays r.env x g _ h
+run_op_stays g (Verify true args) r h = refl
+run_op_stays g (Verify false args) r h = refl
 run_op_stays g _ r h = refl
 
 op_stays : (g : ℕ) (o : Around) (op : Op) (w : Work)
     → not (binds_var g op) ≡ true → slice_index (work_after o op w).env g ≡ slice_index w.env g
 op_stays g o (Bind x e) w h = set_stays w.env x g _ h
 op_stays g o (CombRead x m a) w h = set_stays w.env x g _ h
-op_stays g o (Verify args) w h = at (same_args (values_of args w.env) w.guess)
+op_stays g o (Verify last args) w h = at (same_args (values_of args w.env) w.guess)
   where
-    at : (b : Bool) → slice_index (cond b w (record w { child = Some (values_of args w.env); fails = true })).env g ≡ slice_index w.env g
+    at : (b : Bool) → slice_index (cond b w (record w { child = Some (values_of args w.env); guess = (values_of args w.env); fails = true })).env g ≡ slice_index w.env g
     at true = refl
     at false = refl
 op_stays g o _ w h = refl

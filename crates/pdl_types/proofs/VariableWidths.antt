@@ -6,7 +6,7 @@ use Rattle.std.proofs.lemmas.Bool.{or_parts, and_parts, and_from, le-leb, not-fa
 use Rattle.std.proofs.lemmas.List.Folds.{list_any-append}
 use Rattle.std.proofs.lemmas.List.Sums.{fold_push}
 use Rattle.pdl_kit.specs.declared.rule.Rule.TheVariants.{Z7, N2, N3, W2}
-use Rattle.pdl_semantics.specs.Tree.{Ident, Expr, Span, Separator, CombRead, Bind, SpecCall, DelayedRead, Write, Reserve, Block, Release, If, Call, Verify, SpecCheck, SpecBarrier, Param, Mem, Pipe}
+use Rattle.pdl_semantics.specs.Tree.{Ident, Expr, Span, Separator, CombRead, Bind, SpecCall, DelayedRead, Write, Reserve, Block, Release, If, Call, Verify, Update, SpecCheck, SpecBarrier, Param, Mem, Pipe}
 use Rattle.pdl_semantics.specs.Flatten.{Var, var_width, mem_width, width_of}
 use Rattle.pdl_rules.specs.Places.{Place, Branch, Parameter, Memory, Statement, End, StartClause, statements, places, line_of}
 use Rattle.pdl_rules.specs.Limits.{breaks_z7, is_width, is_depth}
@@ -172,6 +172,7 @@ one_place p before (Statement (Release s at) bs) ys vs split k ms there known h 
 one_place p before (Statement (If s c a b) bs) ys vs split k ms there known h = same p vs before _ refl refl known h
 one_place p before (Statement (Call s args) bs) ys vs split k ms there known h = same p vs before _ refl refl known h
 one_place p before (Statement (Verify s g args) bs) ys vs split k ms there known h = same p vs before _ refl refl known h
+one_place p before (Statement (Update s g args) bs) ys vs split k ms there known h = same p vs before _ refl refl known h
 one_place p before (Statement (SpecCheck s) bs) ys vs split k ms there known h = same p vs before _ refl refl known h
 one_place p before (Statement (SpecBarrier s) bs) ys vs split k ms there known h = same p vs before _ refl refl known h
 one_place p before (End s) ys vs split k ms there known h = same p vs before (End s) refl refl known h

@@ -5,8 +5,7 @@ use Rattle.std.proofs.lemmas.Bool.{false≢true, and_parts}
 use Rattle.pdl_semantics.specs.Tree.{Stmt, Separator, If, Stmts, Nil, Cons, Pipe}
 use Rattle.pdl_semantics.specs.Flatten.{flat, separators, separators_in}
 use Rattle.pdl_rules.specs.Refusal.{KeepsRules, is_straight, all_straight, is_comb, is_one_stage}
-use Rattle.pdl_source_stages.proofs.BodyShape.{body_forked}
-use Rattle.pdl_source_stages.proofs.SiteFacts.{stage_count}
+use Rattle.pdl_source_stages.proofs.BodyShape.{body_forked, stage_count}
 use Rattle.pdl_source_paths.proofs.PipeFacts.{of_source}
 use Rattle.pdl_theory.proofs.OneStages.{same_lines}
 use Rattle.pdl_source_soundness.proofs.one_stage.Goals as goal

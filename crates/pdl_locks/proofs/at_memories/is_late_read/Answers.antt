@@ -1,4 +1,5 @@
-use Rattle.std.proofs.Common.{◌≡◌, ◌∙◌, refl, sym, ap, map, subst}
+use Rattle.std.proofs.Common.{◌≡◌, ◌∙◌, refl, sym, ap, map, subst, nat_le}
+use Rattle.pdl_semantics.specs.Tree.{W}
 use Rattle.pdl_syntax_tree.specs.View.{span_view, location_view}
 use Rattle.pdl_rules.specs.Locks as spec
 use Rattle.pdl_paths.specs.declared.action.Action.{Action}
@@ -6,6 +7,7 @@ use Rattle.pdl_paths.specs.declared.action.Action.TheVariants.{Reserve}
 use Rattle.pdl_paths.specs.Actions.{place_at}
 use Rattle.pdl_paths.specs.Guards.{branch_view}
 use Rattle.pdl_locks.specs.Uses.{IsOwn, IsUsedMemory}
+use Rattle.pdl_locks.proofs.BoundedCounts.{some_counted}
 use Rattle.pdl_locks.proofs.at_memories.is_late_read.Goals as goal
 
 pub returns-in-R : goal.returns-in-R
@@ -13,9 +15,9 @@ returns-in-R c earlier =
     let s = span_view c.args.place.now.span in
     let bs = map branch_view c.args.place.now.branches in
     let is = c.in-Reserve.is ∙ ap (Reserve c.in-Reserve.field-0) c.in-R.is in
-    subst (λ (a : Action). IsOwn IsUsedMemory c.args.used earlier (place_at s bs a) → c.args.used.reserved ≡ spec.is_late_read earlier (place_at s bs a))
+    subst (λ (a : Action). IsOwn IsUsedMemory c.args.used earlier (place_at s bs a) → nat_le 1 c.args.used.reserves ≡ spec.is_late_read earlier (place_at s bs a))
     (sym is)
-    (λ own. (own (location_view c.in-Reserve.field-0.now) refl).reserved)
+    (λ own. some_counted (spec.is_reserve_of W (location_view c.in-Reserve.field-0.now).mem.name) earlier _ (own (location_view c.in-Reserve.field-0.now) refl).reserves)
 
 pub returns-in-CombRead : goal.returns-in-CombRead
 returns-in-CombRead c earlier =

@@ -1,4 +1,4 @@
-use Rattle.std.proofs.Common.{◌≡◌, ◌∙◌, List, sym, ap, refl, subst, length}
+use Rattle.std.proofs.Common.{◌≡◌, ◌∙◌, true, List, sym, ap, refl, subst, length}
 use Rattle.pdl_semantics.specs.Flat as flat
 use Rattle.pdl_net.proofs.Keeps.{extends_keeps}
 use Rattle.pdl_form.specs.FormView.{form}
@@ -386,7 +386,7 @@ returns-in-Verify-clause-step g c =
     (nets_of a (form c.args.setting.now.pipe.now).pipe (form c.args.setting.now.pipe.now).widths w c.requires.walk) in
     let typed = subst (λ (o : r_op.Op). IsTypedOp (form c.args.setting.now.pipe.now) (act_view o)) c.in-Verify.is c.requires.typed.0.1 in
     let es = exprs_view c.as_slice-in-Verify.result.now in
-    let op = ap (λ (l : List r_expr.FlatExpr). flat.Verify (exprs_view l)) c.as_slice-in-Verify.ensures ∙ sym (ap act_view c.in-Verify.is) in
+    let op = ap (λ (l : List r_expr.FlatExpr). flat.Verify true (exprs_view l)) c.as_slice-in-Verify.ensures ∙ sym (ap act_view c.in-Verify.is) in
     let args =
     subst
     (λ (l : List r_expr.FlatExpr). AreArguments (form c.args.setting.now.pipe.now).widths (param_widths (form c.args.setting.now.pipe.now)) (exprs_view l))
@@ -399,7 +399,7 @@ returns-in-Verify-clause-step g c =
     ∙ sym c.requires.walk.sized.guess in
     on_ok c.verify.result
     (λ q. step_as b (form c.args.setting.now.pipe.now).pipe ls tickets gs (guards_view c.args.s.now.guards)
-    (flat.Verify es) (act_view c.args.s.now.op) (walk_of (parts_in a w))
+    (flat.Verify true es) (act_view c.args.s.now.op) (walk_of (parts_in a w))
     (walk_of (parts_in b c.verify.new.self)) same op
     (verify_step b (form c.args.setting.now.pipe.now).pipe (form c.args.setting.now.pipe.now).widths ls tickets gs
     (parts_in a w) nets c.requires.walk.sized refl guards es (arguments_few ws n es args)
