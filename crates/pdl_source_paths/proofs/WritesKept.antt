@@ -13,6 +13,7 @@ use Rattle.pdl_rules.specs.Parts.{location_of}
 use Rattle.pdl_rules.specs.Locks.{same_location, Hold, Nothing, Reserved, Blocked, Released, after_block, after_place, hold_after, is_held_for, is_unreleased, is_reserve_of, is_write_of, reserves_location, writes_location, leaves_open, most_reservations, lock_size, first_reserved, is_out_of_turn}
 use Rattle.pdl_rules.specs.Typed.{is_named, is_memory}
 use Rattle.pdl_rules.proofs.EachPlace.{Each, closing}
+use Rattle.pdl_rules.proofs.FirstReserves.{first_stays}
 use Rattle.pdl_rules.proofs.SingleWrites.{KeepsLocks, AreBacked, any_weaker, any_front, any_last, location_refl, location_sym, held_alike, writes_alike, reserves_alike, reserves_to_write, reserves_some, reserves_mem, held_if_blocked, reserved_if_blocked, written_reserved, blocked_here, weight, count_push, count_cons, count_none, written_once}
 use Rattle.pdl_theory_derived.specs.Alone.{answered_op, is_nil, is_among, is_oldest, drop_var, but_last}
 use Rattle.pdl_theory_facts.specs.Scans.{Phase, Fresh, after_write, after_reserve, after_release, may_read, may_write, is_new, next_phase, phase_ok, phases_ok, phase_all, is_over}
@@ -163,15 +164,6 @@ drop_distinct a (x ∷ xs) h = at (x == a) (λ d. drop_distinct a xs d)
     at false go = and_from _ _ (ap not (false_from_ne_true _ (λ t. both_ways _ (not-true _ parts.0) (dropped_among x a xs t)))) (go parts.1)
 
 -- PLACES
-
--- the first reserved location stays, and is the new one where there was none
-first_stays : (m : List ℕ) (before : List Place) (x : Place) → is_reserve_of W m x ≡ false → first_reserved m (before ++ x ∷ []) ≡ first_reserved m before
-first_stays m [] x h = rw h refl
-first_stays m (y ∷ before) x h = at (is_reserve_of W m y) refl (first_stays m before x h)
-  where
-    at : (b : Bool) → is_reserve_of W m y ≡ b → first_reserved m (before ++ x ∷ []) ≡ first_reserved m before → first_reserved m (y ∷ before ++ x ∷ []) ≡ first_reserved m (y ∷ before)
-    at true e on = rw e refl
-    at false e on = rw e on
 
 -- one more place
 abbrev place_front : (vs us : List Var) (before : List Place) (m : List ℕ) (n : ℕ) (x : Place) → Open vs before m n

@@ -13,7 +13,7 @@ use Rattle.pdl_source_paths.proofs.PathStatements.{ops_of, seen_ops, seen}
 use Rattle.pdl_source_paths.proofs.Growth.{Grows, vars_past, past_grown}
 use Rattle.pdl_source_paths.proofs.GuardFacts.{grown_long}
 use Rattle.pdl_theory_states.specs.Strict.{binds_used, all_keep_guess}
-use Rattle.pdl_strict.proofs.Fresh.{Uses, exprs_low}
+use Rattle.pdl_source_strict.proofs.FreshVariables.{Uses, exprs_low}
 
 all_onto : (f : Flat.Stmt → Bool) (xs ys : List Flat.Stmt) → list_all f xs ≡ true → list_all f ys ≡ true → list_all f (xs ++ ys) ≡ true
 all_onto f [] ys h i = i
