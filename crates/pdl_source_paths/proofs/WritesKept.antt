@@ -38,19 +38,19 @@ pub record Open (vs : List Var) (before : List Place) (m : List ℕ) (x : ℕ) :
   pub number : var_of vs at.address.name ≡ x
   pub reserved : list_any (reserves_to_write at) before ≡ true
 
--- what these places have reserved and written of memory m is as this phase of its write says
-
--- one that isn't written, one that is, and one that is released
+-- one that isn't written
 pub record IsUnset (vs : List Var) (before : List Place) (m : List ℕ) (x : ℕ) : Type 0 where
   pub place : Open vs before m x
   pub unset : list_any (writes_location place.at) before ≡ false
   pub held : is_held_for W (hold_after place.at before) ≡ true
 
+-- one that is written and not released
 pub record IsSet (vs : List Var) (before : List Place) (m : List ℕ) (x : ℕ) : Type 0 where
   pub place : Open vs before m x
   pub set : list_any (writes_location place.at) before ≡ true
   pub held : hold_after place.at before ≡ Blocked W
 
+-- one that is released
 pub record IsOut (vs : List Var) (before : List Place) (m : List ℕ) (x : ℕ) : Type 0 where
   pub place : Open vs before m x
   pub set : list_any (writes_location place.at) before ≡ true
@@ -78,6 +78,7 @@ abbrev pub is_distinct : List ℕ → Bool
 is_distinct [] = true
 is_distinct (x ∷ xs) = not (is_among x xs) && is_distinct xs
 
+-- what these places have reserved and written of memory m is as this phase of its write says
 pub record Stands (p : Pipe) (vs : List Var) (before : List Place) (m : List ℕ) (ph : Phase) : Type 0 where
   pub unset : (x : ℕ) → is_among x ph.unwritten ≡ true → IsUnset vs before m x
   pub set : (x : ℕ) → is_among x ph.full ≡ true → IsSet vs before m x

@@ -73,6 +73,7 @@ site_keeps k ms vs (If sp (Variable x) when otherwise) u rest later go = go
 site_keeps k ms vs (If sp c when otherwise) u rest later go = go
 site_keeps k ms vs _ u rest later go = go
 
+-- after each guess along sites none of its variables is bound
 pub sites_keep : (ms : List Mem) (vs us : List Var) (ts : List Site) → Grows ms vs ts us → All (λ t. Uses t.walk.vars t.stmt) ts → all_keep_guess (seen ms ts) ≡ true
 sites_keep ms vs us [] g u = refl
 sites_keep ms vs us (t ∷ ts) g u =

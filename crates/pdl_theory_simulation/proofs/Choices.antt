@@ -126,6 +126,7 @@ module _ (p : Pipe) (flows : Flows p) (st : State) (d : Derived.State) (bits : L
           at false e = ap not e
       off _ i = refl
 
+  -- a memory that is read delayed is not advisory
   pub plain_fetch : (s m : ℕ) → Fetched p s m → is_advisory (mem_at p m).kind ≡ false
   plain_fetch s m f = at (is_advisory (mem_at p m).kind) refl
     where
@@ -374,16 +375,19 @@ module _ (p : Pipe) (flows : Flows p) (st : State) (d : Derived.State) (bits : L
     fails = false;
   }
 
+  -- a thread's deeds begin with its values in the derived machine
   pub deeds_are : (ls : List Live) (l : Live) (k : Known ls l)
       → deeds_of p st bits l
       ≡ deeds_after_all (word_for st l.number) (in_stage l.thread.stage p.stmts) (start_deeds p flows l.env (now_of p d bits l) (keeps_now l k.seated) l.advice)
   deeds_are ls l k = λ i. deeds_after_all (word_for st l.number) (in_stage l.thread.stage p.stmts) (begun l (k.values i))
 
+  -- deeds and work of a thread's stage agree but for the guess
   abbrev pub Like_deeds : List Live → Live → Deeds → Work → Type 0
   Like_deeds ls l e w =
       Loosely (around p d bits (dacts p d bits ls) l.thread.stage l.thread.hint) (word_for st l.number) (λ b. block_ready p st l.number b)
       (λ q. port_free p d bits (dacts p d bits ls) q.mem) e w
 
+  -- they do where the stage begins
   pub starts_here : (ls : List Live) (l : Live) (k : Known ls l) → Like_deeds ls l (begun l (now_of p d bits l).env) (start_of (now_of p d bits l))
   starts_here ls l k = loose_start (around p d bits (dacts p d bits ls) l.thread.stage l.thread.hint) (word_for st l.number) (λ b. block_ready p st l.number b)
       (λ q. port_free p d bits (dacts p d bits ls) q.mem) (begun l (now_of p d bits l).env) l.thread.entries [] k.seated.keeps_on.held
@@ -411,6 +415,7 @@ module _ (p : Pipe) (flows : Flows p) (st : State) (d : Derived.State) (bits : L
       (in_stage l.thread.stage p.stmts)
       (begun l (now_of p d bits l).env) l.thread.entries [] k.seated.keeps_on.held (fit_all ls l k) foresees)
 
+  -- a thread's stage keeps to the path of its values
   pub fixed_way : (ls : List Live) (l : Live) (k : Known ls l) → Fixed (work_of_live p d bits ls l).env (around p d bits (dacts p d bits ls) l.thread.stage l.thread.hint) (in_stage l.thread.stage p.stmts) (start_of (now_of p d bits l))
   fixed_way ls l k = fixed_here p flows l.env (now_of p d bits l) (keeps_now l k.seated) (around p d bits (dacts p d bits ls) l.thread.stage l.thread.hint)
 
@@ -441,6 +446,7 @@ module _ (p : Pipe) (flows : Flows p) (st : State) (d : Derived.State) (bits : L
   abbrev pub MovesForeseen : List Live → Live → Type 0
   MovesForeseen ls l = (did p d bits ls l).moves ≡ true → Foresees ls l
 
+  -- each thread that moves guesses what it was given
   abbrev pub AllForeseen : List Live → Type 0
   AllForeseen [] = Unit {0}
   AllForeseen (l ∷ ls) = MovesForeseen ls l × AllForeseen ls

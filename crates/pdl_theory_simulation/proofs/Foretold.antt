@@ -144,6 +144,7 @@ module _ (p : Pipe) (flows : Flows p) where
             ∙ ap₂ (λ a b. if a && b then (deeds_of p st bits l).guess else guess_of p (Cycle.cycle p st bits) schedule l.number) e
             (guesses_is l ks k.0 ∙ not_not _ (sym (none_any (onpath (work_of_live p d bits ks l).env (in_stage l.thread.stage p.stmts))) ∙ i))))
 
+    -- where what is guessed in the rest of a run was given, each thread that moves guesses what it was given
     pub foreseen_here : (schedule : List (List Bool)) → Foretells p st d (bits ∷ schedule) ls → AllForeseen p flows st d bits sim.arrays ls
     foreseen_here schedule f = all_foreseen schedule ls (known p flows st d bits ls sim) sim.have_made sim.falls refl f.hinted
 
@@ -186,6 +187,7 @@ module _ (p : Pipe) (flows : Flows p) where
         at false true e = out e (goes_to (stage_at p l.thread.stage).next (work_of_live p d bits ks l).env) refl
         at false false e = λ j. later schedule l ks is f.1 h j (ap (λ b. b && makes_guess p (lact p st d bits ks l)) e)
 
+    -- what is guessed in the rest of the run was given after a cycle too
     pub foretells_next : (schedule : List (List Bool)) → Foretells p st d (bits ∷ schedule) ls → Foretells p (Cycle.cycle p st bits) (Derived.cycle p d bits) schedule (lives_next p flows st d bits sim.arrays ls)
     foretells_next schedule f = record { hints = λ n. f.hints (suc n); hinted = at (made p flows st d bits sim.arrays ls) }
       where
@@ -195,6 +197,7 @@ module _ (p : Pipe) (flows : Flows p) where
 
   -- RUNS
 
+  -- the first thread is given what it will guess
   pub first_foretells : (image : Arrays) (schedule : List (List Bool))
       → Foretells p (Cycle.first p image) (Derived.first p image (hints_of p (Cycle.first p image) schedule)) schedule (first_live p flows (hints_of p (Cycle.first p image) schedule 0) ∷ [])
   first_foretells image schedule = record { hints = λ n. refl; hinted = λ j. refl }

@@ -101,6 +101,7 @@ module _ (o : Around) (read : ℕ → ℕ → ℕ) (block : Blocked → Bool) (f
   same_fails (Verify last args) d w h = absurd (cc h)
   same_fails _ d w h = (refl, refl)
 
+  -- a path without check fails none in either machine
   pub no_failure : (path : List ℕ) (xs : List Stmt) (d : Deeds) (w : Work) → Loosely o read block free d w → AllFit o read block free xs → Fixed path o xs w
       → none_of is_check (onpath path xs) ≡ true → ((deeds_after_all read xs d).fails ≡ d.fails) × ((do_all o xs w).fails ≡ w.fails)
   no_failure path [] d w l f q h = (refl, refl)
