@@ -20,6 +20,7 @@ use Rattle.pdl_lockapi.specs.Forget.{has_place}
 use Rattle.pdl_theory_simulation.proofs.Stretches.{left_trunk}
 use Rattle.pdl_machine_facts.proofs.StatementUses.{writes_to}
 use Rattle.pdl_semantics.specs.PendingLists.{AreWritten}
+use Rattle.pdl_semantics.specs.Promises.{DifferInAdvice}
 use Rattle.pdl_theory_states.proofs.PendingLists.{AllOf, of_new}
 use Rattle.pdl_theory_states.proofs.OwnEntries.{by_append}
 use Rattle.pdl_machine_lockuse.specs.Use.{AreOwn, is_open, AreInTurn}
@@ -165,7 +166,7 @@ open_place n y (e ∷ es) h = at ((e.thread == n) && (e.var == y)) h (open_place
     at true i f = refl
     at false i f = f i
 
-module _ (p : Pipe) (sound : Sound p) (st : State) (d : Derived.State) (bits : List Bool) (arrays : st.arrays ≡ d.arrays) (m : ℕ) where
+module _ (p : Pipe) (sound : Sound p) (st : State) (d : Derived.State) (bits : List Bool) (arrays : DifferInAdvice p st.arrays d.arrays) (m : ℕ) where
   abbrev takes : Live → ℕ
   takes l = releases_of m (deeds_of p st bits l).releases
 

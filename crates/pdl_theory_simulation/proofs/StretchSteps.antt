@@ -46,7 +46,8 @@ module _ (o : Around) (read : ℕ → ℕ → ℕ) (block : Blocked → Bool) (f
       at false false = g
   step_op _ ph d es cs gu c f h k g = g
 
-  step_if : (b : Bool) (op : Op) (ph : Phase) (d : Deeds) (w : Work) → Loosely o read block free d w → (b ≡ true → use_ok m ph op ≡ true)
+  -- a statement that is carried out or passed over leaves m's pending writes as the phase after it says
+  pub step_if : (b : Bool) (op : Op) (ph : Phase) (d : Deeds) (w : Work) → Loosely o read block free d w → (b ≡ true → use_ok m ph op ≡ true)
       → Here o read block free m n start ph d w
       → Here o read block free m n start (cond b (next_phase m ph op) ph)
       (cond b (Machine.deeds_after read op d) d)

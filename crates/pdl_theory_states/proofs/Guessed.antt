@@ -8,7 +8,6 @@ use Rattle.pdl_semantics.specs.Machine.{Ask, Kept, Blocked, same_args, with_kept
 use Rattle.pdl_semantics.specs.Machine
 use Rattle.pdl_semantics.specs.Sound.{is_call}
 use Rattle.pdl_theory_derived.specs.Derived.{Work, Around, work_after, do_all}
-use Rattle.pdl_theory_derived.specs.Simulation.{is_guess}
 use Rattle.pdl_theory_derived.proofs.Deeds.{AllFit, Loosely, loose_step, Guesses, AllGuesses}
 use Rattle.pdl_theory_derived.proofs.Writes.{and_left, and_right}
 use Rattle.pdl_theory_facts.specs.Facts.{uses_any}

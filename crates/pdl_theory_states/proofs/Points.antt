@@ -242,7 +242,7 @@ done_op st l (AdviceRead x m a) h = refl
 done_op st l (AdviceWrite m a e) h = refl
 
 -- the guess after statements that were carried out one after another is what these give, in the order of the text
-guess_onto : (hint : List ℕ) (advice : List Kept) (env : List ℕ) (xs : List Stmt) (past : List Op) → AllOps (GuessDone advice env hint) (onto xs past)
+pub guess_onto : (hint : List ℕ) (advice : List Kept) (env : List ℕ) (xs : List Stmt) (past : List Op) → AllOps (GuessDone advice env hint) (onto xs past)
     → guess_past hint (onto xs past) env ≡ guess_of xs advice env (guess_past hint past env)
 guess_onto hint advice env [] past h = refl
 guess_onto hint advice env (x ∷ xs) past h =
