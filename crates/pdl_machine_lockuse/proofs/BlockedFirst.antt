@@ -150,7 +150,7 @@ sites_let p vs us before past (t ∷ ts) g each named i =
         (ap (λ b. not b && not (is_blocked_for W (hold_after at before))) (sym plain)
         ∙ subst (λ s. Locks.lacks_hold p before (Statement s t.branches) ≡ false) e each.0.l1))))).1
 
-    abbrev Passes : Flat.Op → Type 0
+    Passes : Flat.Op → Type 0
     Passes op =
         all_let_in (onto (seen_ops t.walk.stage (op ∷ [])) past) (seen p.mems ts) ≡ true
         → all_let_in past (seen_ops t.walk.stage (op ∷ []) ++ seen p.mems ts) ≡ true
