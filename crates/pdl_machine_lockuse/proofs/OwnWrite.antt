@@ -14,7 +14,7 @@ use Rattle.pdl_theory_derived.specs.Derived
 use Rattle.pdl_theory_derived.specs.Derived.{Entry, Work, Around, around, port_free}
 use Rattle.pdl_theory_facts.specs.Scans.{Phase, Fresh, after_write, after_reserve, after_release, may_write, is_new, next_phase, phase_all, write_reserves}
 use Rattle.pdl_theory_facts.specs.Facts.{Sound}
-use Rattle.pdl_theory_facts.proofs.Apart.{total, oldest_length}
+use Rattle.pdl_theory_facts.proofs.Apart.{total, oldest_length, oldest_among}
 use Rattle.pdl_theory_derived.proofs.Writes.{and_left, and_right}
 use Rattle.pdl_theory_derived.proofs.Entries.{entries_of, entry, Open, Full, waiting, known, open_vars, full_vars}
 use Rattle.pdl_theory_derived.proofs.Deeds.{AllFit, Loosely, loose_step}
@@ -202,15 +202,6 @@ pend_length m n (o ∷ os) =
   where
     one : length (pend m n (waiting m os)) ≡ length (open_vars os) → length (pend m n (waiting m os)) + 1 ≡ suc (length (open_vars os))
     one h = omega (arith, h)
-
-oldest_among : (a : ℕ) (xs : List ℕ) → is_oldest a xs ≡ true → is_among a xs ≡ true
-oldest_among a [] h = absurd (cc h)
-oldest_among a (x ∷ []) h = ap (λ b. b || false) h
-oldest_among a (x ∷ y ∷ ys) h = at (x == a) h (oldest_among a (y ∷ ys))
-  where
-    at : (b : Bool) → (not b && is_oldest a (y ∷ ys)) ≡ true → (is_oldest a (y ∷ ys) ≡ true → is_among a (y ∷ ys) ≡ true) → (b || is_among a (y ∷ ys)) ≡ true
-    at true k f = refl
-    at false k f = f k
 
 unused_place : (ph : Phase) (n a : ℕ) (es : List Pending) → is_used ph a ≡ false → AllUsed ph es → has_place n a es ≡ false
 unused_place ph n a [] h u = refl

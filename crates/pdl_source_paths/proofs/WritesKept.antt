@@ -17,7 +17,7 @@ use Rattle.pdl_rules.proofs.FirstReserves.{first_stays}
 use Rattle.pdl_rules.proofs.SingleWrites.{KeepsLocks, AreBacked, any_weaker, any_front, any_last, location_refl, location_sym, held_alike, writes_alike, reserves_alike, reserves_to_write, reserves_some, reserves_mem, held_if_blocked, reserved_if_blocked, written_reserved, blocked_here, weight, count_push, count_cons, count_none, written_once}
 use Rattle.pdl_theory_derived.specs.Alone.{answered_op, is_nil, is_among, is_oldest, drop_var, but_last}
 use Rattle.pdl_theory_facts.specs.Scans.{Phase, Fresh, after_write, after_reserve, after_release, may_read, may_write, is_new, next_phase, phase_ok, phases_ok, phase_all, is_over}
-use Rattle.pdl_theory_facts.proofs.Apart.{Apart, apart_fresh, apart_reserve, apart_write, apart_release, oldest_once, front_among, total, oldest_length, drop_length}
+use Rattle.pdl_theory_facts.proofs.Apart.{Apart, apart_fresh, apart_reserve, apart_write, apart_release, oldest_once, front_among, total, oldest_length, drop_length, oldest_among}
 use Rattle.pdl_source_paths.proofs.Numbers.{var_low, var_same, var_stays, mem_is}
 use Rattle.pdl_source_paths.proofs.PathStatements
 use Rattle.pdl_source_paths.proofs.PathStatements.{ops_of, seen_ops}
@@ -104,11 +104,6 @@ among_here x y xs h = at (y == x) refl h
 
 among_self : (x : ℕ) (xs : List ℕ) → is_among x (x ∷ xs) ≡ true
 among_self x xs = or_left (x == x) _ (eq-eqb x x refl)
-
-oldest_among : (a : ℕ) (xs : List ℕ) → is_oldest a xs ≡ true → is_among a xs ≡ true
-oldest_among a [] h = absurd (false≢true h)
-oldest_among a (x ∷ []) h = or_left (x == a) false h
-oldest_among a (x ∷ y ∷ ys) h = or_right (x == a) _ (oldest_among a (y ∷ ys) (and_parts (not (x == a)) _ h).1)
 
 oldest_or : (x a : ℕ) (xs : List ℕ) → is_oldest a xs ≡ true → is_among x xs ≡ true → (a ≡ x) ⊎ (is_among x (but_last xs) ≡ true)
 oldest_or x a [] h k = absurd (false≢true h)

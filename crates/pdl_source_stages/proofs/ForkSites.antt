@@ -64,24 +64,6 @@ fork_var (Flat.Forks x a b) = Some x
 none_one : (x : ℕ) → None ≡ Some x → ⊥
 none_one x e = cc
 
--- the guard of a branch is taken on each path that goes by the branch
-shown_side : (p : Flat.Pipe) (gs : List Flat.Guard) (d : List Flat.Branch) (k x a b : ℕ) (first : Bool) → Forked p d k x a b → Shown p gs d
-    → Shown p (gs ++ record { var = x; first = first } ∷ []) (side k first ∷ d)
-shown_side p gs d k x a b first fork h path on =
-    let parts = and_parts (goes_by p (side k first) path) (comes_by p path d) on in
-    both gs (h path parts.1) (turn first (slice_index path x) (sym (ap (λ n. on_side n first path) fork.next) ∙ parts.0))
-  where
-    both : (gs : List Flat.Guard) → all_hold gs path ≡ true → takes_branch first (slice_index path x) ≡ true
-        → all_hold (gs ++ record { var = x; first = first } ∷ []) path ≡ true
-    both [] i j = and_from (takes_branch first (slice_index path x)) true j refl
-    both (g ∷ gs) i j =
-        let parts = and_parts (takes_branch g.first (slice_index path g.var)) (all_hold gs path) i in
-        and_from (takes_branch g.first (slice_index path g.var)) (all_hold (gs ++ record { var = x; first = first } ∷ []) path) parts.0 (both gs parts.1 j)
-
-    turn : (first : Bool) (v : ℕ) → (if first then v == 1 else not (v == 1)) ≡ true → takes_branch first v ≡ true
-    turn true v e = e
-    turn false v e = e
-
 mutual
   -- a stage of statements that begin stage k, which forks on x, has such an `if`
   pub fork_sites : (p : Flat.Pipe) (ms : List Mem) (d : List Flat.Branch) (exit : Flat.Next) (k : ℕ) (merges : Option ℕ) (front : List Place) (w : Flatten.Position)

@@ -60,11 +60,6 @@ mutual
 
 -- THE STAGES
 
--- a branch leads to the stage that it enters
-entry_goes : (m j : ℕ) (sd : Side) (env : List ℕ) → Some (entry (side_leads (Flat.Goes m) j sd)) ≡ goes_to (side_leads (Flat.Goes m) j sd) env
-entry_goes m j Straight env = refl
-entry_goes m j (Runs sh) env = refl
-
 mutual
   -- from stage k on a path visits the stages that its separators begin in these statements, and then what the last one leads to
   visits_from : (p : Flat.Pipe) (env : List ℕ) (ms : List Mem) (d : List Flat.Branch) (exit : Flat.Next) (k : ℕ) (merges : Option ℕ) (w : Flatten.Position) (ss : Stmts)

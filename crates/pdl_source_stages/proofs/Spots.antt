@@ -37,17 +37,6 @@ many a b first = cond first a b
 abbrev pub Rest : Flat.Pipe → ℕ → List Flat.Stage → Type 0
 Rest p k xs = (front : List Flat.Stage) × (p.stages ≡ front ++ xs) × (length front ≡ k)
 
-rest_head : (p : Flat.Pipe) (k : ℕ) (x : Flat.Stage) (xs : List Flat.Stage) → Rest p k (x ∷ xs) → stage_at p k ≡ x
-rest_head p k x xs h =
-    ap₂ (λ l i. slice_index_or l i last_stage) h.1 (sym h.2) ∙ get_or-append_seam h.0 x xs last_stage
-
-rest_tail : (p : Flat.Pipe) (k : ℕ) (x : Flat.Stage) (xs : List Flat.Stage) → Rest p k (x ∷ xs) → Rest p (suc k) xs
-rest_tail p k x xs h = (
-  h.0 ++ x ∷ [],
-  h.1 ∙ sym (append_assoc h.0 (x ∷ []) xs),
-  let e = h.2 in let f = length-append h.0 (x ∷ []) in let g : length (x ∷ []) ≡ 1 = refl in omega arith,
-)
-
 -- GROUPS
 
 abbrev mutual
@@ -115,9 +104,6 @@ some_size : (sh : Shape) → 0 < size sh
 some_size Last = omega arith
 some_size (Cut rest) = omega arith
 some_size (Fork x a b rest) = omega arith
-
-more_within : (p : Flat.Pipe) (c d : List Flat.Branch) (x : Flat.Branch) (r : ℕ) → d ≡ x ∷ c → Within p d r → Within p c r
-more_within p c d x r e h = (h.0 ++ x ∷ [], h.1 ∙ ap (λ l. h.0 ++ l) e ∙ sym (append_assoc h.0 (x ∷ []) c))
 
 -- all stages of a shape stand within its branches
 mutual

@@ -183,13 +183,6 @@ abbrev pub told : ℕ → List Full → List Commit
 told m [] = []
 told m (f ∷ fs) = told m fs ++ write_of m f.address f.value ∷ []
 
--- those without a value in front of others are all of m
-pub waiting_own : (m : ℕ) (os : List Open) (es : List Entry) → entries_of m (waiting m os ++ es) ≡ waiting m os ++ entries_of m es
-waiting_own m [] es = refl
-waiting_own m (o ∷ os) es =
-    ap (λ b. cond b (entry m o.var o.address None ∷ entries_of m (waiting m os ++ es)) (entries_of m (waiting m os ++ es))) (eq-eqb m m refl)
-    ∙ ap (λ l. entry m o.var o.address None ∷ l) (waiting_own m os es)
-
 -- the last of a list, where it has one
 abbrev pub last_or : {X : Type 0} → X → List X → X
 last_or x [] = x

@@ -113,6 +113,16 @@ oldest_length a [] h = absurd (cc h)
 oldest_length a (x ∷ []) h = refl
 oldest_length a (x ∷ y ∷ ys) h = let e = oldest_length a (y ∷ ys) (and_right (not (x == a)) _ h) in omega arith
 
+-- the oldest of some variables is among them
+pub oldest_among : (a : ℕ) (xs : List ℕ) → is_oldest a xs ≡ true → is_among a xs ≡ true
+oldest_among a [] h = absurd (cc h)
+oldest_among a (x ∷ []) h = ap (λ b. b || false) h
+oldest_among a (x ∷ y ∷ ys) h = at (x == a) h (oldest_among a (y ∷ ys))
+  where
+    at : (b : Bool) → (not b && is_oldest a (y ∷ ys)) ≡ true → (is_oldest a (y ∷ ys) ≡ true → is_among a (y ∷ ys) ≡ true) → (b || is_among a (y ∷ ys)) ≡ true
+    at true k f = refl
+    at false k f = f k
+
 -- without one of them there is one fewer
 pub drop_length : (a : ℕ) (xs : List ℕ) → is_among a xs ≡ true → length (drop_var a xs) + 1 ≡ length xs
 drop_length a [] h = absurd (cc h)

@@ -32,10 +32,6 @@ knows_memory n (AdviceBind x e) = true
 knows_memory n (AdviceRead x m a) = true
 knows_memory n (AdviceWrite m a e) = true
 
--- whether a statement makes a guess or verifies it
-abbrev pub is_guess : Op → Bool
-is_guess op = is_spec_call op || is_verify op
-
 -- PATHS
 
 -- the statements that are left where the guard g has this value; they no longer ask for it

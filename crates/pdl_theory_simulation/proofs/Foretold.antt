@@ -53,7 +53,7 @@ not_not true h = refl
 not_not false h = absurd (cc h)
 
 -- after a call a thread has made its successor
-stays_called : (xs : List Stmt) → called true xs ≡ true
+pub stays_called : (xs : List Stmt) → called true xs ≡ true
 stays_called [] = refl
 stays_called (x ∷ xs) = stays_called xs
 

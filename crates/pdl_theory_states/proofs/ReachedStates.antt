@@ -26,7 +26,7 @@ use Rattle.pdl_theory_simulation.proofs.LiveThreads.{made, childed_here, born_li
 use Rattle.pdl_theory_simulation.proofs.Requests.{Asker, asking, one_asks, first_of}
 use Rattle.pdl_theory_simulation.proofs.WholeSimulation.{next_state, known, fit, after_is, cycle_sim}
 use Rattle.pdl_theory_simulation.proofs.SimulatedRuns.{first_sim, first_live}
-use Rattle.pdl_theory_simulation.proofs.Foretold.{Foretells, foreseen_here, foretells_next, first_foretells}
+use Rattle.pdl_theory_simulation.proofs.Foretold.{Foretells, foreseen_here, foretells_next, first_foretells, stays_called}
 use Rattle.pdl_theory_states.specs.Strict.{Strict}
 use Rattle.pdl_theory_states.proofs.PastStatements.{BlockOk}
 use Rattle.pdl_theory_states.proofs.Guessed.{GuessDone}
@@ -53,10 +53,6 @@ unmade_op (Call args) h k = absurd (cc k)
 unmade_op (SpecCall args) h k = absurd (cc k)
 unmade_op (Verify last args) h k = absurd (cc h)
 unmade_op _ h k = refl
-
-stays_called : (xs : List Stmt) → called true xs ≡ true
-stays_called [] = refl
-stays_called (x ∷ xs) = stays_called xs
 
 unmade_all : (xs : List Stmt) → calls_ok false xs ≡ true → called false xs ≡ false → making_all Unmade xs ≡ Unmade
 unmade_all [] h k = refl

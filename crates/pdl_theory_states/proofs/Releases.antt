@@ -17,7 +17,7 @@ use Rattle.pdl_theory_derived.proofs.Writes.{and_left, and_right}
 use Rattle.pdl_theory_simulation.proofs.FlowFacts.{uses_ok, use_ok}
 use Rattle.pdl_theory_simulation.proofs.AcceptedFacts.{sound_flows, phases_looked}
 use Rattle.pdl_theory_derived.proofs.Entries.{entries_of, Open, Full, waiting, known, open_vars, full_vars}
-use Rattle.pdl_theory_facts.proofs.Apart.{front_among}
+use Rattle.pdl_theory_facts.proofs.Apart.{front_among, oldest_among}
 use Rattle.pdl_theory_turns.proofs.Phases.{Tied}
 use Rattle.pdl_theory_derived.proofs.Deeds.{places}
 use Rattle.pdl_theory_turns.proofs.CertaintyScans.{some_barrier, sure_first}
@@ -250,11 +250,6 @@ module _ (p : Pipe) (sound : Sound p) (world : World) (args : List ℕ) where
       ∙ ap is_done (phases_looked m Fresh (on_way p (thread (at_once p) world.words args).env s)) ∙ h)
 
 -- A THREAD AFTER A WRONG GUESS
-
-oldest_among : (a : ℕ) (xs : List ℕ) → is_oldest a xs ≡ true → is_among a xs ≡ true
-oldest_among a [] h = absurd (cc h)
-oldest_among a (x ∷ []) h = ap (λ b. b || false) h
-oldest_among a (x ∷ y ∷ ys) h = or_right (x == a) _ (oldest_among a (y ∷ ys) (and_right (not (x == a)) _ h))
 
 -- writes under way have their locations among those that were opened
 pub record Opened (m : ℕ) (ph : Phase) (c : Scan) : Type 0 where

@@ -19,12 +19,6 @@ use Rattle.pdl_theory_turns.proofs.TurnFacts.{right_guess}
 use Rattle.pdl_word.proofs.Bools.{by_bool}
 use Rattle.pdl_semantics.specs.Sound.{stages_from}
 
-free_all : (m : ℕ) (ph : Phase) (xs : List Stmt) → phases_ok m ph xs ≡ true → unguarded xs ≡ true
-free_all m ph [] h = refl
-free_all m ph (x ∷ xs) h =
-    ap₂ (λ a b. a && b) (and_left (no_guards x.guards) _ (and_left _ _ h))
-    (free_all m (next_phase m ph x.op) xs (and_right (no_guards x.guards && phase_ok m ph x.op) _ h))
-
 made_is : (k : Making) → is_made k ≡ true → k ≡ Made
 made_is Unmade h = absurd (cc h)
 made_is Guessed h = absurd (cc h)

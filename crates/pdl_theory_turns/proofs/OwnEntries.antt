@@ -22,7 +22,8 @@ no_length : {X : Type 0} → (xs : List X) → length xs ≡ 0 → xs ≡ []
 no_length [] h = refl
 no_length (x ∷ xs) h = absurd (cc h)
 
-no_opens : (os : List Open) → open_vars os ≡ [] → os ≡ []
+-- where no location waits for a value no pending write does
+pub no_opens : (os : List Open) → open_vars os ≡ [] → os ≡ []
 no_opens [] h = refl
 no_opens (o ∷ os) h = absurd (cc h)
 
