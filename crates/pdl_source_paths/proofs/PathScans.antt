@@ -28,7 +28,8 @@ use Rattle.pdl_source_paths.proofs.Growth.{vars_past, Grows}
 use Rattle.pdl_source_paths.proofs.Order.{Next, Rises}
 use Rattle.pdl_source_paths.proofs.SiteStages.{some_op}
 use Rattle.pdl_source_paths.proofs.ReadsKept.{Scanned, scanned_grown, scanned_next, scan_ok, reads_append, reads_at, opens_ops}
-use Rattle.pdl_source_paths.proofs.WritesKept.{Stands, stands_grown, stands_next, ends_over, phases_append, phase_append, phase_ops}
+use Rattle.pdl_source_paths.proofs.Standing.{Stands}
+use Rattle.pdl_source_paths.proofs.WritesKept.{stands_grown, stands_next, ends_over, phases_append, phase_append, phase_ops}
 use Rattle.pdl_source_paths.proofs.Calls.{Stood, Asked, stood_by, makings_append, making_append, making_ops}
 use Rattle.pdl_source_paths.proofs.ReleaseBarriers.{sure_by, sures_append, barred_ops}
 use Rattle.pdl_word.proofs.Bytes.{bytes_same}
