@@ -350,12 +350,14 @@ module _ (p : Pipe) (sound : Sound p) (strict : Strict p) (st : State) (d : Deri
 
     -- what a thread that moves reserves has room
     each_room : (these : List Act) → AllActs (HasRoom p st) these
-        → Each (λ (a : Act). 1 ≤ reserves_of m a.does.reserves → has_room (mem_at p m).lock (reserves_of m a.does.reserves) (length (lock_of st m)) ≡ true) (movers these)
+        → Each (λ (a : Act). 1 ≤ reserves_of m a.does.reserves → has_room (mem_at p m).lock (reserves_of m a.does.reserves)
+        (length (lock_of st m)) ≡ true) (movers these)
     each_room [] h = tt
     each_room (a ∷ these) h = at a.moves refl (each_room these h.1)
       where
         at : (b : Bool) → a.moves ≡ b
-            → Each (λ (a : Act). 1 ≤ reserves_of m a.does.reserves → has_room (mem_at p m).lock (reserves_of m a.does.reserves) (length (lock_of st m)) ≡ true) (movers these)
+            → Each (λ (a : Act). 1 ≤ reserves_of m a.does.reserves → has_room (mem_at p m).lock (reserves_of m a.does.reserves)
+            (length (lock_of st m)) ≡ true) (movers these)
             → Each (λ (a : Act). 1 ≤ reserves_of m a.does.reserves → has_room (mem_at p m).lock (reserves_of m a.does.reserves) (length (lock_of st m)) ≡ true)
             (cond b (a ∷ movers these) (movers these))
         at true e g = ((λ some. room_together p st m a.does.reserves a.does.reserves (h.0 e) some), g)

@@ -561,7 +561,8 @@ module _ (p : Pipe) (sound : Sound p) (st : State) (d : Derived.State) (bits : L
       (λ q. port_free p d bits (dacts p d bits older) q.mem) m l.number (pend m l.number l.thread.entries) (length (phase_all m Fresh done).full)
       way (in_stage l.thread.stage p.stmts) (phase_all m Fresh done)
       (begun p sound st d bits arrays older l k) (start_of (now_of p d bits l))
-      (starts_here p (sound_flows p sound) st d bits arrays older l k) (fit_all p (sound_flows p sound) st d bits arrays older l k) (along_here p sound st d bits arrays older l k)
+      (starts_here p (sound_flows p sound) st d bits arrays older l k) (fit_all p (sound_flows p sound) st d bits arrays older l k)
+      (along_here p sound st d bits arrays older l k)
       (mine_uses p sound st d bits arrays older l k m)
       (shape_start m l.number (phase_all m Fresh done) l.thread.entries (k.seated.keeps_on.shape m))
       (record {

@@ -35,7 +35,8 @@ verify_trunk p sound v e = subst (λ n. Trunk p n) (v_is (verify_stage p.stmts) 
     v_is (Some w) i = cc i
 
 -- a thread before the stage of the reserves leaves the list of the older ones as it is
-quiet_same : (p : Pipe) (sound : Sound p) (st : State) (d : Derived.State) (bits : List Bool) (arrays : DifferInAdvice p st.arrays d.arrays) (m : ℕ) (ls : List Live)
+quiet_same : (p : Pipe) (sound : Sound p) (st : State) (d : Derived.State) (bits : List Bool) (arrays : DifferInAdvice p st.arrays d.arrays)
+    (m : ℕ) (ls : List Live)
     (l : Live)
     → Seated p st l → l.thread.stage < reserve_stage p m
     → with_reserves m (movers (lacts p st d bits (l ∷ ls))) (pends m (l ∷ ls)) ≡ with_reserves m (movers (lacts p st d bits ls)) (pends m ls)

@@ -263,7 +263,8 @@ pub held_low : (p : Pipe) (vs : List Var) (before : List Place) (m : List ℕ) (
 held_low p vs before m ph s =
     ap not
     (false_from_ne_true _ (λ t.
-    let o = (s.unset (length vs) t).place in let i : var_of vs o.at.address.name < length vs = var_low vs o.at.address.name o.named in let j = o.number in absurd (omega arith)))
+    let o = (s.unset (length vs) t).place in let i : var_of vs o.at.address.name < length vs = var_low vs o.at.address.name o.named in let j =
+    o.number in absurd (omega arith)))
 
 -- a location of another memory is another location
 pub other_mem : (at l : Location) (m : List ℕ) → bytes_eq at.mem.name m ≡ false → l.mem.name ≡ m → same_location at l ≡ false

@@ -31,7 +31,8 @@ use Rattle.pdl_source_paths.proofs.Standing.{Open, IsUnset, IsSet, IsFirst, is_i
 
 -- A STATEMENT ON m, AND THE OTHERS
 
-module _ (p : Pipe) (vs : List Var) (before : List Place) (m : List ℕ) (there : is_memory p.mems m ≡ true) (plain : is_advisory_mem p.mems m ≡ false) (bs : List Branch) where
+module _ (p : Pipe) (vs : List Var) (before : List Place) (m : List ℕ) (there : is_memory p.mems m ≡ true)
+    (plain : is_advisory_mem p.mems m ≡ false) (bs : List Branch) where
   -- two locations of one number are one
   same_place : (at : Location) (y : ℕ) (o : Open vs before m y)
       → at.mem.name ≡ m → is_named vs at.address.name ≡ true → y ≡ var_of vs at.address.name → same_location at o.at ≡ true
@@ -48,7 +49,8 @@ module _ (p : Pipe) (vs : List Var) (before : List Place) (m : List ℕ) (there 
   reserve_step : (sp : Span) (at : Location) (ph : Phase) → IsNamed p.mems vs at
       → AreBacked p before → KeepsLocks p before (Statement (Reserve sp at W) bs) → Stands p vs before m ph → (b : Bool)
       → bytes_eq at.mem.name m ≡ b
-      → ((not b || is_new ph (var_of vs at.address.name)) ≡ true) × Stands p vs (before ++ Statement (Reserve sp at W) bs ∷ []) m (cond b (after_reserve ph (var_of vs at.address.name)) ph)
+      → ((not b || is_new ph (var_of vs at.address.name)) ≡ true) × Stands p vs (before ++ Statement (Reserve sp at W) bs ∷ []) m
+      (cond b (after_reserve ph (var_of vs at.address.name)) ph)
   reserve_step sp at ph n backed keeps s false e = (
     refl,
     subst (λ us. Stands p us (before ++ Statement (Reserve sp at W) bs ∷ []) m ph) (append-nil vs)

@@ -271,7 +271,8 @@ module _ (p : Pipe) (rules : KeepsRules p) where
       named : (v : Ident) → f.condition ≡ Variable v → list_any is_separator m ≡ true
       named v i = turn (is_parameter p v.name) refl (fork_rule s x u f d v i)
         where
-          given : on_some_path (λ earlier. not (is_given earlier (OfVariable v.name))) p u.front (Statement (If f.span f.condition f.when f.otherwise) u.branches)
+          given : on_some_path (λ earlier. not (is_given earlier (OfVariable v.name))) p u.front
+              (Statement (If f.span f.condition f.when f.otherwise) u.branches)
               ≡ false
               → (c : List Guard) × (is_given (filter (on_path c) u.front) (OfVariable v.name) ≡ true)
           given k =

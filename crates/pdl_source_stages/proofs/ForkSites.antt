@@ -66,7 +66,8 @@ none_one x e = cc
 
 mutual
   -- a stage of statements that begin stage k, which forks on x, has such an `if`
-  pub fork_sites : (p : Flat.Pipe) (ms : List Mem) (d : List Flat.Branch) (exit : Flat.Next) (k : ℕ) (merges : Option ℕ) (front : List Place) (w : Flatten.Position)
+  pub fork_sites : (p : Flat.Pipe) (ms : List Mem) (d : List Flat.Branch) (exit : Flat.Next) (k : ℕ) (merges : Option ℕ)
+      (front : List Place) (w : Flatten.Position)
       (gs : List Flat.Guard) (bs : List Branch) (ss : Stmts)
       → w.stage ≡ w.begun → w.begun ≡ k → is_forked ss ≡ true → Groups p d exit k merges (shape ms ss w)
       → k + size (shape ms ss w) ≤ length p.stages → fork_var exit ≡ None → Shown p gs d → (s x : ℕ) → k ≤ s → s < k + size (shape ms ss w)
@@ -122,14 +123,17 @@ mutual
           →
           (Forked p d k (guard_of w.vars c) (long (side_shape ms when (with_guard c w))) (long (side_shape ms otherwise (at_otherwise ms c when w)))
           → is_late when ≡ true
-          → Sides p (side k true ∷ d) (Flat.Goes (merge_at k (long (side_shape ms when (with_guard c w))) (long (side_shape ms otherwise (at_otherwise ms c when w))))) k (side_shape ms when (with_guard c w))
+          → Sides p (side k true ∷ d) (Flat.Goes (merge_at k (long (side_shape ms when (with_guard c w)))
+          (long (side_shape ms otherwise (at_otherwise ms c when w))))) k (side_shape ms when (with_guard c w))
           → suc (k + long (side_shape ms when (with_guard c w))) ≤ length p.stages → k < s → s ≤ k + long (side_shape ms when (with_guard c w)) → Some_site
           (ForkSite p s x)
           (sites ms (front ++ Statement (If sp c when otherwise) bs ∷ []) (with_guard c w) (under gs w.vars c true) (bs ++ branch sp c true when ∷ []) when))
           →
           (Forked p d k (guard_of w.vars c) (long (side_shape ms when (with_guard c w))) (long (side_shape ms otherwise (at_otherwise ms c when w)))
           → is_late otherwise ≡ true
-          → Sides p (side k false ∷ d) (Flat.Goes (merge_at k (long (side_shape ms when (with_guard c w))) (long (side_shape ms otherwise (at_otherwise ms c when w))))) (k + long (side_shape ms when (with_guard c w))) (side_shape ms otherwise (at_otherwise ms c when w))
+          → Sides p (side k false ∷ d) (Flat.Goes (merge_at k (long (side_shape ms when (with_guard c w)))
+          (long (side_shape ms otherwise (at_otherwise ms c when w))))) (k + long (side_shape ms when (with_guard c w)))
+          (side_shape ms otherwise (at_otherwise ms c when w))
           → suc (k + long (side_shape ms when (with_guard c w)) + long (side_shape ms otherwise (at_otherwise ms c when w))) ≤ length p.stages
           → (at_otherwise ms c when w).begun ≡ k + long (side_shape ms when (with_guard c w))
           → k + long (side_shape ms when (with_guard c w)) < s
@@ -171,7 +175,8 @@ mutual
               let b2 = past_all_begun ms when (with_guard c w) in
               omega arith
 
-          merged : suc (past ms (If sp c when otherwise) w).begun ≡ (merge_at k (long (side_shape ms when (with_guard c w))) (long (side_shape ms otherwise (at_otherwise ms c when w))))
+          merged : suc (past ms (If sp c when otherwise) w).begun ≡ (merge_at k (long (side_shape ms when (with_guard c w)))
+              (long (side_shape ms otherwise (at_otherwise ms c when w))))
           merged =
               let l1 = long_is ms when (with_guard c w) late.0 in
               let l2 = long_is ms otherwise (at_otherwise ms c when w) late.1 in

@@ -62,7 +62,8 @@ mutual
 
 mutual
   -- from stage k on a path visits the stages that its separators begin in these statements, and then what the last one leads to
-  visits_from : (p : Flat.Pipe) (env : List ℕ) (ms : List Mem) (d : List Flat.Branch) (exit : Flat.Next) (k : ℕ) (merges : Option ℕ) (w : Flatten.Position) (ss : Stmts)
+  visits_from : (p : Flat.Pipe) (env : List ℕ) (ms : List Mem) (d : List Flat.Branch) (exit : Flat.Next) (k : ℕ) (merges : Option ℕ)
+      (w : Flatten.Position) (ss : Stmts)
       → w.begun ≡ k → is_forked ss ≡ true → Groups p d exit k merges (shape ms ss w) → (fuel rest : ℕ) → fuel ≡ length (begun_by env ms ss w) + rest
       → visited_stages p env (suc fuel) k ≡ k ∷ (begun_by env ms ss w ++ onward (visited_stages p env rest) (goes_to exit env))
   visits_from p env ms d exit k merges w Nil i h g fuel rest f =
@@ -155,7 +156,8 @@ mutual
           l2 : long (side_shape ms otherwise (at_otherwise ms c when w)) ≡ separators otherwise
           l2 = long_is ms otherwise (at_otherwise ms c when w) late.1
 
-          merged : (merge_at k (long (side_shape ms when (with_guard c w))) (long (side_shape ms otherwise (at_otherwise ms c when w)))) ≡ suc (past ms (If sp c when otherwise) w).begun
+          merged : (merge_at k (long (side_shape ms when (with_guard c w))) (long (side_shape ms otherwise (at_otherwise ms c when w))))
+              ≡ suc (past ms (If sp c when otherwise) w).begun
           merged = let a = begun in let x = l1 in let y = l2 in omega arith
 
           -- from the merge on
@@ -174,11 +176,14 @@ mutual
 
           -- the stages of the branch that is taken
           taken : (b : Bool) → (slice_index env (guard_of w.vars c) == 1) ≡ b
-              → begun_in env ms (If sp c when otherwise) w ≡ (if b then begun_by env ms when (with_guard c w) else begun_by env ms otherwise (at_otherwise ms c when w))
+              → begun_in env ms (If sp c when otherwise) w ≡ (if b then begun_by env ms when (with_guard c w) else begun_by env ms otherwise
+              (at_otherwise ms c when w))
           taken b v = ap (λ t. if t then begun_by env ms when (with_guard c w) else begun_by env ms otherwise (at_otherwise ms c when w)) v
 
           through : (b : Bool) → (slice_index env (guard_of w.vars c) == 1) ≡ b → (n r : ℕ) → n ≡ length (begun_in env ms (If sp c when otherwise) w) + r
-              → onward (visited_stages p env n) (goes_to (stage_at p k).next env) ≡ begun_in env ms (If sp c when otherwise) w ++ visited_stages p env r (merge_at k (long (side_shape ms when (with_guard c w))) (long (side_shape ms otherwise (at_otherwise ms c when w))))
+              → onward (visited_stages p env n) (goes_to (stage_at p k).next env) ≡ begun_in env ms (If sp c when otherwise) w
+              ++ visited_stages p env r (merge_at k (long (side_shape ms when (with_guard c w)))
+              (long (side_shape ms otherwise (at_otherwise ms c when w))))
           through true v n r q =
               let z = ap length (taken true v) in
               let b1 = guard_begun c w in

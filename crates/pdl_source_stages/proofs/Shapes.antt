@@ -205,10 +205,19 @@ mutual
       begun = past_begun ms (If sp c when otherwise) w
 
       at : (b : Bool) → is_whole when otherwise ≡ b → (b || (true && (is_late when && is_late otherwise))) ≡ true
-          → graph ms d exit ss (past ms (Separator sq) (past ms (If sp c when otherwise) w)) ≡ trunk d exit (suc (past ms (If sp c when otherwise) w).begun) (shape ms ss (past ms (Separator sq) (past ms (If sp c when otherwise) w)))
-          → (is_late when ≡ true → graph ms (side w.stage true ∷ d) (Flat.Goes (suc (w.begun + separators when + separators otherwise))) when (with_guard c w) ≡ bunch (side w.stage true ∷ d) (Flat.Goes (suc (w.begun + separators when + separators otherwise))) (with_guard c w).begun (side_shape ms when (with_guard c w)))
-          → (is_late otherwise ≡ true → graph ms (side w.stage false ∷ d) (Flat.Goes (suc (w.begun + separators when + separators otherwise))) otherwise (at_otherwise ms c when w) ≡ bunch (side w.stage false ∷ d) (Flat.Goes (suc (w.begun + separators when + separators otherwise))) (at_otherwise ms c when w).begun (side_shape ms otherwise (at_otherwise ms c when w)))
-          → (if b then graph ms d exit (Cons (Separator sq) ss) (past ms (If sp c when otherwise) w) else graph_with_fork w.stage (guard_of w.vars c) (graph ms (side w.stage true ∷ d) (Flat.Goes (suc (w.begun + separators when + separators otherwise))) when (with_guard c w)) (graph ms (side w.stage false ∷ d) (Flat.Goes (suc (w.begun + separators when + separators otherwise))) otherwise (at_otherwise ms c when w)) (graph ms d exit (Cons (Separator sq) ss) (past ms (If sp c when otherwise) w)))
+          → graph ms d exit ss (past ms (Separator sq) (past ms (If sp c when otherwise) w)) ≡ trunk d exit
+          (suc (past ms (If sp c when otherwise) w).begun) (shape ms ss (past ms (Separator sq) (past ms (If sp c when otherwise) w)))
+          → (is_late when ≡ true → graph ms (side w.stage true ∷ d) (Flat.Goes (suc (w.begun + separators when + separators otherwise))) when
+          (with_guard c w) ≡ bunch (side w.stage true ∷ d) (Flat.Goes (suc (w.begun + separators when + separators otherwise)))
+          (with_guard c w).begun (side_shape ms when (with_guard c w)))
+          → (is_late otherwise ≡ true → graph ms (side w.stage false ∷ d)
+          (Flat.Goes (suc (w.begun + separators when + separators otherwise))) otherwise (at_otherwise ms c when w) ≡ bunch
+          (side w.stage false ∷ d) (Flat.Goes (suc (w.begun + separators when + separators otherwise)))
+          (at_otherwise ms c when w).begun (side_shape ms otherwise (at_otherwise ms c when w)))
+          → (if b then graph ms d exit (Cons (Separator sq) ss) (past ms (If sp c when otherwise) w) else graph_with_fork w.stage
+          (guard_of w.vars c) (graph ms (side w.stage true ∷ d) (Flat.Goes (suc (w.begun + separators when + separators otherwise))) when
+          (with_guard c w)) (graph ms (side w.stage false ∷ d) (Flat.Goes (suc (w.begun + separators when + separators otherwise))) otherwise
+          (at_otherwise ms c when w)) (graph ms d exit (Cons (Separator sq) ss) (past ms (If sp c when otherwise) w)))
           ≡ trunk d exit w.begun
           (cond b (Cut (shape ms ss (past ms (Separator sq) (past ms (If sp c when otherwise) w))))
           (Fork (guard_of w.vars c) (side_shape ms when (with_guard c w)) (side_shape ms otherwise (at_otherwise ms c when w))

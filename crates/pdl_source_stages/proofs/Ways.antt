@@ -158,7 +158,8 @@ module _ (p : Flat.Pipe) (knows : (s : ℕ) → s < length p.stages → Known p 
 
   -- it goes on to a stage of the pipe, or ends
   pub on_or_end : (s : ℕ) (env : List ℕ) → s < length p.stages
-      → ((Trunk p s) × (suc s ≡ length p.stages) × (goes_to (stage_at p s).next env ≡ None)) ⊎ ((n : ℕ) × (goes_to (stage_at p s).next env ≡ Some n) × (s < n) × (n < length p.stages))
+      → ((Trunk p s) × (suc s ≡ length p.stages) × (goes_to (stage_at p s).next env ≡ None))
+      ⊎ ((n : ℕ) × (goes_to (stage_at p s).next env ≡ Some n) × (s < n) × (n < length p.stages))
   on_or_end s env low = at (go s env low)
     where
       at : Step p s env
@@ -206,7 +207,8 @@ module _ (p : Flat.Pipe) (knows : (s : ℕ) → s < length p.stages → Known p 
       → goes_to (stage_at p s).next env ≡ (if nat_lt (next_of p s env) (length p.stages) then Some (next_of p s env) else None)
   leaves s env low = at (on_or_end s env low)
     where
-      at : ((Trunk p s) × (suc s ≡ length p.stages) × (goes_to (stage_at p s).next env ≡ None)) ⊎ ((n : ℕ) × (goes_to (stage_at p s).next env ≡ Some n) × (s < n) × (n < length p.stages))
+      at : ((Trunk p s) × (suc s ≡ length p.stages) × (goes_to (stage_at p s).next env ≡ None))
+          ⊎ ((n : ℕ) × (goes_to (stage_at p s).next env ≡ Some n) × (s < n) × (n < length p.stages))
           → goes_to (stage_at p s).next env ≡ (if nat_lt (next_of p s env) (length p.stages) then Some (next_of p s env) else None)
       at (inl h) = h.2 ∙ by (nat_lt (next_of p s env) (length p.stages)) refl
         where

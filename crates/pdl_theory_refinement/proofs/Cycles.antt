@@ -245,7 +245,8 @@ module _ (p : Pipe) (acc : Course p) (image : Arrays) (st : State) (bits : List 
     pub head_stands : (ts : List Thread) → (act p st bits older (seat p world args sp)).moves ≡ false
         → Now past past' d (act p st bits older (seat p world args sp) ∷ acts p st bits (act p st bits older (seat p world args sp) ∷ older) ts)
         → NowAsks all asks (act p st bits older (seat p world args sp) ∷ acts p st bits (act p st bits older (seat p world args sp) ∷ older) ts)
-        → ((m : ℕ) → (sp.stage ≤ commit_stage p m) ⊎ Unsure p acc.v ahead → of_mem m (commits_of (acts p st bits (act p st bits older (seat p world args sp) ∷ older) ts)) ≡ [])
+        → ((m : ℕ) → (sp.stage ≤ commit_stage p m) ⊎ Unsure p acc.v ahead → of_mem m
+        (commits_of (acts p st bits (act p st bits older (seat p world args sp) ∷ older) ts)) ≡ [])
         → Here p acc (next_asks p bits all 0 st.asked) past' w v' world args ahead' (now_spot p st bits sp) last
     head_stands ts stays now nowa quiet =
         record {
@@ -358,7 +359,8 @@ module _ (p : Pipe) (acc : Course p) (image : Arrays) (st : State) (bits : List 
       pub head_moves : (ts : List Thread) (last' : Bool)
           → Now past past' d (act p st bits older (seat p world args sp) ∷ acts p st bits (act p st bits older (seat p world args sp) ∷ older) ts)
           → NowAsks all asks (act p st bits older (seat p world args sp) ∷ acts p st bits (act p st bits older (seat p world args sp) ∷ older) ts)
-          → ((m : ℕ) → (sp.stage ≤ commit_stage p m) ⊎ Unsure p acc.v ahead → of_mem m (commits_of (acts p st bits (act p st bits older (seat p world args sp) ∷ older) ts)) ≡ [])
+          → ((m : ℕ) → (sp.stage ≤ commit_stage p m) ⊎ Unsure p acc.v ahead → of_mem m
+          (commits_of (acts p st bits (act p st bits older (seat p world args sp) ∷ older) ts)) ≡ [])
           → right_guess (so_far p world args (next_at p world args sp.stage)).child (thread p world.words args).next ≡ not last'
           → Here p acc (next_asks p bits all 0 st.asked) past' w v' world args ahead' (moved_spot p world args sp.stage) last'
       head_moves ts last' now nowa quiet linked =

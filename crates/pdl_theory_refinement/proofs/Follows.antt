@@ -352,7 +352,8 @@ module _ (p : Pipe) (acc : Course p) where
       (thread p arrays args).arrays (thread p arrays args).next (sp.stage ∷ ahead) sps f h.1)
     where
       at : (b : Bool) → nat_lt (commit_stage p m) sp.stage ≡ b
-          → (v m ++ marks p (with_guess arrays sp.hint) args sp.stage m ≡ [] → (rest : List Commit) × ((w m ++ of_mem m (thread p arrays args).writes) ++ rest ≡ past m))
+          → (v m ++ marks p (with_guess arrays sp.hint) args sp.stage m ≡ [] → (rest : List Commit)
+          × ((w m ++ of_mem m (thread p arrays args).writes) ++ rest ≡ past m))
           → (rest : List Commit) × (w m ++ rest ≡ past m)
       at true f k =
           let r = k (ap₂ (λ l c. l ++ c) e (acc.marks_late (with_guess arrays sp.hint) args sp.stage m (ltb-true _ _ f))) in

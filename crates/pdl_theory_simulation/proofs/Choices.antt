@@ -445,7 +445,8 @@ module _ (p : Pipe) (flows : Flows p) (st : State) (d : Derived.State) (bits : L
       (calls_here p flows l.env (now_of p d bits l) (keeps_now l k.seated) (around p d bits (dacts p d bits ls) l.thread.stage l.thread.hint))
       (unchecked (flows.guess_apart (work_of_live p d bits ls l).env l.thread.stage)) (ap (λ (e : Deeds). e.guess) (sym (deeds_are ls l k)) ∙ h)
     where
-      unchecked : (none_of is_spec_call (onpath (work_of_live p d bits ls l).env (in_stage l.thread.stage p.stmts)) ≡ true) ⊎ (none_of is_check (onpath (work_of_live p d bits ls l).env (in_stage l.thread.stage p.stmts)) ≡ true)
+      unchecked : (none_of is_spec_call (onpath (work_of_live p d bits ls l).env (in_stage l.thread.stage p.stmts)) ≡ true)
+          ⊎ (none_of is_check (onpath (work_of_live p d bits ls l).env (in_stage l.thread.stage p.stmts)) ≡ true)
           → none_of is_check (onpath (work_of_live p d bits ls l).env (in_stage l.thread.stage p.stmts)) ≡ true
       unchecked (inl j) = absurd (clash (sym i ∙ j))
         where
@@ -466,7 +467,8 @@ module _ (p : Pipe) (flows : Flows p) (st : State) (d : Derived.State) (bits : L
   pub fails_here : (ls : List Live) (l : Live) → Known ls l → (deeds_of p st bits l).fails ≡ (work_of_live p d bits ls l).fails
   fails_here ls l k = at (flows.guess_apart (work_of_live p d bits ls l).env l.thread.stage)
     where
-      at : (none_of is_spec_call (onpath (work_of_live p d bits ls l).env (in_stage l.thread.stage p.stmts)) ≡ true) ⊎ (none_of is_check (onpath (work_of_live p d bits ls l).env (in_stage l.thread.stage p.stmts)) ≡ true)
+      at : (none_of is_spec_call (onpath (work_of_live p d bits ls l).env (in_stage l.thread.stage p.stmts)) ≡ true)
+          ⊎ (none_of is_check (onpath (work_of_live p d bits ls l).env (in_stage l.thread.stage p.stmts)) ≡ true)
           → (deeds_of p st bits l).fails ≡ (work_of_live p d bits ls l).fails
       at (inl h) = ap (λ (w : Work). w.fails) (sym (told_here ls l k (none_foreseen ls l k h)).is)
       at (inr h) =

@@ -82,11 +82,13 @@ module _ (p : Pipe) (flows : Flows p) where
 
     -- two threads have two numbers
     commutes : (n : ℕ) (x y : Pair) → Swap p flows st d bits sim.arrays x y → (z : List ℕ)
-        → step_in n (lact p st d bits y.older y.live) (step_in n (lact p st d bits x.older x.live) z) ≡ step_in n (lact p st d bits x.older x.live) (step_in n (lact p st d bits y.older y.live) z)
+        → step_in n (lact p st d bits y.older y.live) (step_in n (lact p st d bits x.older x.live) z) ≡ step_in n
+        (lact p st d bits x.older x.live) (step_in n (lact p st d bits y.older y.live) z)
     commutes n x y s z = at (y.live.number == n) refl (x.live.number == n) refl _ _
       where
         at : (b : Bool) → (y.live.number == n) ≡ b → (c : Bool) → (x.live.number == n) ≡ c → (u v : Bool)
-            → (if (y.live.number == n) && u then (deeds_of p st bits y.live).guess else (if (x.live.number == n) && v then (deeds_of p st bits x.live).guess else z))
+            → (if (y.live.number == n) && u then (deeds_of p st bits y.live).guess else
+            (if (x.live.number == n) && v then (deeds_of p st bits x.live).guess else z))
             ≡
             (if (x.live.number == n)
             && v then (deeds_of p st bits x.live).guess else (if (y.live.number == n) && u then (deeds_of p st bits y.live).guess else z))
@@ -122,7 +124,8 @@ module _ (p : Pipe) (flows : Flows p) where
 
     -- the youngest one's
     mine : (l : Live) (ks : List Live) (rest : List ℕ) → Falls l.number ks
-        → guess_in p (lacts p st d bits (l ∷ ks)) l.number rest ≡ (if (did p d bits ks l).moves && makes_guess p (lact p st d bits ks l) then (deeds_of p st bits l).guess else rest)
+        → guess_in p (lacts p st d bits (l ∷ ks)) l.number rest ≡ (if (did p d bits ks l).moves && makes_guess p
+        (lact p st d bits ks l) then (deeds_of p st bits l).guess else rest)
     mine l ks rest f =
         ap₂ (λ b z. if b && ((did p d bits ks l).moves && makes_guess p (lact p st d bits ks l)) then (deeds_of p st bits l).guess else z)
         (eq-eqb l.number l.number refl) (others l.number rest ks f)
@@ -221,7 +224,9 @@ module _ (p : Pipe) (flows : Flows p) where
             quiet false v = refl
 
         at : (g b : Bool) → (did p d bits ks l).moves ≡ b
-            → Hinted p (Cycle.cycle p st bits) schedule ((if g then [] else cond b (moved_live (goes_to (stage_at p l.thread.stage).next (work_of_live p d bits ks l).env) (advised p st bits l) (work_of_live p d bits ks l)) (stood p st d bits l ∷ [])) ++ go_on p st d bits ks)
+            → Hinted p (Cycle.cycle p st bits) schedule ((if g then [] else cond b
+            (moved_live (goes_to (stage_at p l.thread.stage).next (work_of_live p d bits ks l).env) (advised p st bits l)
+            (work_of_live p d bits ks l)) (stood p st d bits l ∷ [])) ++ go_on p st d bits ks)
         at true b e = hinted_made schedule (go_on p st d bits ks) rest
         at false true e = out e (goes_to (stage_at p l.thread.stage).next (work_of_live p d bits ks l).env) refl
         at false false e = λ j. later schedule l ks is f.1 h j (ap (λ b. b && makes_guess p (lact p st d bits ks l)) e)
@@ -240,12 +245,14 @@ module _ (p : Pipe) (flows : Flows p) where
 
   -- the first thread is given what it will guess
   pub first_foretells : (image : Arrays) (schedule : List (List Bool))
-      → Foretells p (Cycle.first p image) (Derived.first p image (hints_of p (Cycle.first p image) schedule)) schedule (first_live p flows (hints_of p (Cycle.first p image) schedule 0) ∷ [])
+      → Foretells p (Cycle.first p image) (Derived.first p image (hints_of p (Cycle.first p image) schedule)) schedule
+      (first_live p flows (hints_of p (Cycle.first p image) schedule 0) ∷ [])
   first_foretells image schedule = record { hints = λ n. refl; hinted = λ j. refl }
 
   -- a run of both, and the live threads at its end
   pub runs_same : (st : State) (d : Derived.State) (schedule : List (List Bool)) (ls : List Live) → Sim p st d ls → Foretells p st d schedule ls
-      → SameTurns p (Cycle.turns_from p st schedule) (Derived.turns_from p d schedule) × ((ks : List Live) × Sim p (Cycle.state_after p st schedule) (Derived.state_after p d schedule) ks)
+      → SameTurns p (Cycle.turns_from p st schedule) (Derived.turns_from p d schedule)
+      × ((ks : List Live) × Sim p (Cycle.state_after p st schedule) (Derived.state_after p d schedule) ks)
   runs_same st d [] ls sim f = (tt, (ls, sim))
   runs_same st d (bits ∷ schedule) ls sim f =
       let rest = runs_same (Cycle.cycle p st bits) (Derived.cycle p d bits) schedule (lives_next p flows st d bits sim.arrays ls)

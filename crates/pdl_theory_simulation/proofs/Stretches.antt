@@ -265,7 +265,8 @@ module _ (p : Pipe) (flows : Flows p) (env : List ℕ) (t : Derived.Thread) (k :
     stage_worked = worked m n _ _ _ _ here (by (t.stage == commit_stage p m) refl)
       where
         by : (b : Bool) → (t.stage == commit_stage p m) ≡ b
-            → (releases_of m (deeds_after_all read (in_stage t.stage p.stmts) (start_deeds advice)).releases ≡ 0) ⊎ (is_over (phase_all m Fresh (on_way p (work_of_stage p o t).env (next_of p t.stage (work_of_stage p o t).env))) ≡ true)
+            → (releases_of m (deeds_after_all read (in_stage t.stage p.stmts) (start_deeds advice)).releases ≡ 0)
+            ⊎ (is_over (phase_all m Fresh (on_way p (work_of_stage p o t).env (next_of p t.stage (work_of_stage p o t).env))) ≡ true)
         by true e = inr (over_at _ _ m (subst (λ s. s < next_of p t.stage (work_of_stage p o t).env) (eqb-true _ _ e) (stage_up (work_of_stage p o t).env)))
         by false e =
             inl
@@ -286,7 +287,8 @@ module _ (p : Pipe) (flows : Flows p) (env : List ℕ) (t : Derived.Thread) (k :
 
   -- a thread's stage makes no second successor but by a failing verify, and one that it makes was called
   pub made_then : (o : Around)
-      → has_made p (work_of_stage p o t).env (next_of p t.stage (work_of_stage p o t).env) ≡ called (has_made p env t.stage) (onpath (work_of_stage p o t).env (in_stage t.stage p.stmts))
+      → has_made p (work_of_stage p o t).env (next_of p t.stage (work_of_stage p o t).env) ≡ called (has_made p env t.stage)
+      (onpath (work_of_stage p o t).env (in_stage t.stage p.stmts))
   made_then o = ap (called false) (way_next o) ∙ called_append false (on_way p env t.stage) _
 
   -- the calls of its stage

@@ -440,7 +440,9 @@ module _ (p : Pipe) (flows : Flows p) where
         record {
           arrays = arrays_next;
           threads = survive p flows st d bits sim.arrays ls known sim.have_made;
-          stages = stages_same _ _ 0 p.stages (λ q i. ap (λ c. Cycle.or_then (if q == 0 then Cycle.born_thread p st.next c else None) (Cycle.if_kept (squasher (movers (lacts p st d bits ls))) (Cycle.next_thread p q (lacts p st d bits ls)))) (child_is p flows st d bits sim.arrays ls known foreseen)
+          stages = stages_same _ _ 0 p.stages (λ q i. ap (λ c. Cycle.or_then (if q == 0 then Cycle.born_thread p st.next c else None)
+              (Cycle.if_kept (squasher (movers (lacts p st d bits ls))) (Cycle.next_thread p q (lacts p st d bits ls))))
+              (child_is p flows st d bits sim.arrays ls known foreseen)
               ∙ stage_is p flows st d bits sim.arrays (squasher (movers (lacts p st d bits ls))) q ls known foreseen sim.ordered fit);
           locks = locks_next;
           falls =

@@ -159,7 +159,9 @@ module _ (o : Around) (read : ℕ → ℕ → ℕ) (block : Blocked → Bool) (f
           → Free past' (onpath path xs) → all_keep_guess (onpath path xs) ≡ true → AllOps (GuessDone d'.advice d'.env o.guess) past'
           → AllOps (GuessDone (deeds_after_all read xs d').advice (deeds_after_all read xs d').env o.guess) (onto (onpath path xs) past'))
           → ((b ≡ true → Guesses o read block free x.op d) × AllGuesses o read block free xs (cond b (Machine.deeds_after read x.op d) d))
-          → AllOps (GuessDone (deeds_after_all read xs (cond b (Machine.deeds_after read x.op d) d)).advice (deeds_after_all read xs (cond b (Machine.deeds_after read x.op d) d)).env o.guess) (onto (cond e (record x { guards = [] } ∷ onpath path xs) (onpath path xs)) past)
+          → AllOps (GuessDone (deeds_after_all read xs (cond b (Machine.deeds_after read x.op d) d)).advice
+          (deeds_after_all read xs (cond b (Machine.deeds_after read x.op d) d)).env o.guess)
+          (onto (cond e (record x { guards = [] } ∷ onpath path xs) (onpath path xs)) past)
       at true true i r g q go n =
           let c = parts past r in
           go (x.op ∷ past) (Machine.deeds_after read x.op d) (work_after o x.op w) (loose_step o read block free true x.op d w f.0 l) q n.1

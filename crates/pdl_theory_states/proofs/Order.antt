@@ -119,7 +119,8 @@ module _ (p : Pipe) (g : Ways p) where
       from (suc n) c (m ∷ ms) (o ∷ os) e f low = inner (last_of m ms) (last_of o os) (λ d a b i j k. from n d a b i j k)
         where
           inner : (init : List Branch) × (z : Branch) × (m ∷ ms ≡ init ++ z ∷ []) → (init : List Branch) × (z : Branch) × (o ∷ os ≡ init ++ z ∷ [])
-              → ((d a b : List Branch) → (stage_at p younger.stage).branches ≡ a ++ d → (stage_at p older.stage).branches ≡ b ++ d → length a < n → Sound.is_behind p older younger ≡ true)
+              → ((d a b : List Branch) → (stage_at p younger.stage).branches ≡ a ++ d → (stage_at p older.stage).branches ≡ b
+              ++ d → length a < n → Sound.is_behind p older younger ≡ true)
               → Sound.is_behind p older younger ≡ true
           inner r s further = at (r.1.fork == s.1.fork) refl
             where

@@ -297,7 +297,8 @@ sure_op m v s c ph (Release n a) k u low o d = at (n == m) refl (is_among a ph.f
     shut true false i j = absurd (cc j)
 
     at : (b : Bool) → (n == m) ≡ b → (t : Bool) → is_among a ph.full ≡ t
-        → Opened m (cond b (cond t (record { unwritten = ph.unwritten; full = drop_var a ph.full; gone = a ∷ ph.gone }) ph) ph) c × (is_done (cond b (cond t (record { unwritten = ph.unwritten; full = drop_var a ph.full; gone = a ∷ ph.gone }) ph) ph) ≡ false)
+        → Opened m (cond b (cond t (record { unwritten = ph.unwritten; full = drop_var a ph.full; gone = a ∷ ph.gone }) ph) ph) c
+        × (is_done (cond b (cond t (record { unwritten = ph.unwritten; full = drop_var a ph.full; gone = a ∷ ph.gone }) ph) ph) ≡ false)
     at true e true g = absurd (cc (sym (shut (has_location c.held n a) (nat_lt s v) u low) ∙ ap (λ j. has_location c.held j a) (eqb-true n m e) ∙ o.full a g))
     at true e false g = (o, d)
     at false e t g = (o, d)

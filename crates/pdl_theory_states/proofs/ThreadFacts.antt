@@ -252,7 +252,8 @@ module _ (p : Pipe) (sound : Sound p) (strict : Strict p) where
             (now_of p d bits l) now_keeps k.values now_local ready refl block_start
 
         -- what it has guessed
-        guessed_end : AllOps (GuessDone (deeds_of p st bits l).advice (work_of_live p d bits ks l).env l.thread.hint) (onto (onpath (work_of_live p d bits ks l).env (in_stage l.thread.stage p.stmts)) (past_of p l.env l.thread.stage))
+        guessed_end : AllOps (GuessDone (deeds_of p st bits l).advice (work_of_live p d bits ks l).env l.thread.hint)
+            (onto (onpath (work_of_live p d bits ks l).env (in_stage l.thread.stage p.stmts)) (past_of p l.env l.thread.stage))
         guessed_end =
             subst (λ (w : Work). AllOps (GuessDone (deeds_of p st bits l).advice w.env l.thread.hint) (onto mine (past_of p l.env l.thread.stage)))
             (sym (told_here p (sound_flows p sound) st d bits sim.arrays ks l k foresees).is)
@@ -270,7 +271,8 @@ module _ (p : Pipe) (sound : Sound p) (strict : Strict p) where
             mine : List Stmt
             mine = onpath (work_of_live p d bits ks l).env (in_stage l.thread.stage p.stmts)
 
-            kept_back : AllOps (λ o. keeps_guess o (onpath (work_of_live p d bits ks l).env (in_stage l.thread.stage p.stmts)) ≡ true) (past_of p l.env l.thread.stage) × (all_keep_guess (onpath (work_of_live p d bits ks l).env (in_stage l.thread.stage p.stmts)) ≡ true)
+            kept_back : AllOps (λ o. keeps_guess o (onpath (work_of_live p d bits ks l).env (in_stage l.thread.stage p.stmts)) ≡ true)
+                (past_of p l.env l.thread.stage) × (all_keep_guess (onpath (work_of_live p d bits ks l).env (in_stage l.thread.stage p.stmts)) ≡ true)
             kept_back =
                 keep_back (on_way p l.env l.thread.stage) (onpath (work_of_live p d bits ks l).env (in_stage l.thread.stage p.stmts)) []
                 (keep_front (on_way p l.env l.thread.stage ++ onpath (work_of_live p d bits ks l).env (in_stage l.thread.stage p.stmts)) _

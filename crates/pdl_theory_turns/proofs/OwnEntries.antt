@@ -76,7 +76,8 @@ worked m n start d w ph g (inr h) =
     let closed : g.opens ≡ [] = no_opens g.opens (g.at_open ∙ nil_of ph.unwritten (and_left _ _ h)) in
     let empty : g.fulls ≡ [] = no_fulls g.fulls (g.at_full ∙ nil_of ph.full (and_right (is_nil ph.unwritten) _ h)) in
     let rest : g.rest ≡ [] = no_unnamed g.rest (g.same ∙ ap (λ l. pendings n (told m l)) empty) in
-    let two : with_writes_of m n d.writes (start ++ new_entries m n d.reserves) ≡ g.out = g.two ∙ ap₂ (λ l k. g.out ++ (l ++ pend m n (waiting m k))) rest closed ∙ append-nil g.out in record {
+    let two : with_writes_of m n d.writes (start ++ new_entries m n d.reserves) ≡ g.out =
+    g.two ∙ ap₂ (λ l k. g.out ++ (l ++ pend m n (waiting m k))) rest closed ∙ append-nil g.out in record {
       after =
           pend_own m n w.entries ∙ ap (pend m n) (g.entries ∙ ap₂ (λ l k. waiting m l ++ known m k) closed empty)
           ∙ sym (ap₂ drop (sym g.outs) two ∙ drop_whole g.out);

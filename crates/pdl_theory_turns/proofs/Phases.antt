@@ -124,7 +124,9 @@ tied_release m a ph env es cs ws h t = at (is_among a ph.full) refl
     os : List Open
     os = opened env ph.unwritten
 
-    behind : (without (waiting m os ++ known m t.fulls) m a ≡ waiting m os ++ without (known m t.fulls) m a) × (released_commits (waiting m os ++ known m t.fulls) m a ≡ released_commits (known m t.fulls) m a) × (has_entry (waiting m os ++ known m t.fulls) m a ≡ has_entry (known m t.fulls) m a)
+    behind : (without (waiting m os ++ known m t.fulls) m a ≡ waiting m os ++ without (known m t.fulls) m a)
+        × (released_commits (waiting m os ++ known m t.fulls) m a ≡ released_commits (known m t.fulls) m a)
+        × (has_entry (waiting m os ++ known m t.fulls) m a ≡ has_entry (known m t.fulls) m a)
     behind = released_behind m a os (known m t.fulls) (ap (is_among a) (opened_vars env ph.unwritten) ∙ not_false _ h)
 
     at : (b : Bool)

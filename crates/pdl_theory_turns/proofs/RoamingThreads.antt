@@ -255,7 +255,18 @@ module _ (p : Pipe) (acc : Sound p) where
           ap (λ j. not (is_unmade (making_all j (onpath (work_of_stage p o t).env (in_stage t.stage p.stmts))))) i
               ∙ flip _ _
               (begins o (verify_stage p.stmts) Unmade (onpath (work_of_stage p o t).env (in_stage t.stage p.stmts))
-              (record { env = t.env; entries = t.entries; guess = t.guess; asks = []; reserves = []; commits = []; child = None; fails = false; ready = true }) refl
+              (record {
+                env = t.env;
+                entries = t.entries;
+                guess = t.guess;
+                asks = [];
+                reserves = [];
+                commits = [];
+                child =
+                    None;
+                fails = false;
+                ready = true;
+              }) refl
               (subst
               (λ j. makings_ok (verify_stage p.stmts) j (onpath (work_of_stage p o t).env (in_stage t.stage p.stmts)) ≡ true) i ok_here) free_stage)
               ∙ ap (λ (w : Work). is_some w.child) (sym along_path) ∙ ap (λ b. b || is_some (work_of_stage p o t).child) (sym (had Unmade i)),

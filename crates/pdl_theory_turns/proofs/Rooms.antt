@@ -74,7 +74,8 @@ stage_fewer path m s (x ∷ xs) = at (x.stage == s) (all_hold x.guards path) ref
     at : (b c : Bool)
         → all_hold x.guards path ≡ c → (d : Bool) → is_write_reserve m x.op ≡ d
         → write_reserves m (onpath path (in_stage s xs)) ≤ write_reserves m (onpath path xs)
-        → write_reserves m (onpath path (cond b (x ∷ in_stage s xs) (in_stage s xs))) ≤ write_reserves m (cond c (record x { guards = [] } ∷ onpath path xs) (onpath path xs))
+        → write_reserves m (onpath path (cond b (x ∷ in_stage s xs) (in_stage s xs))) ≤ write_reserves m
+        (cond c (record x { guards = [] } ∷ onpath path xs) (onpath path xs))
     at true true e d f h =
         subst
         (λ c. write_reserves m (cond c (record x { guards = [] } ∷ onpath path (in_stage s xs)) (onpath path (in_stage s xs))) ≤ cond (is_write_reserve m x.op)

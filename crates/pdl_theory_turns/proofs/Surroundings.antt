@@ -101,7 +101,8 @@ has_moved e [] m a = refl
 has_moved e (f ∷ es) m a = at (f.mem == e.mem) (has_moved f es m a) (has_moved e es m a)
   where
     at : (t : Bool) → has_entry (moved_up f es) m a ≡ has_entry es m a → has_entry (moved_up e es) m a ≡ has_entry es m a
-        → has_entry (cond t (record f { address = e.address; value = e.value } ∷ moved_up f es) (f ∷ moved_up e es)) m a ≡ (((f.mem == m) && (f.var == a)) || has_entry es m a)
+        → has_entry (cond t (record f { address = e.address; value = e.value } ∷ moved_up f es) (f ∷ moved_up e es)) m a
+        ≡ (((f.mem == m) && (f.var == a)) || has_entry es m a)
     at true h g = ap (λ t. ((f.mem == m) && (f.var == a)) || t) h
     at false h g = ap (λ t. ((f.mem == m) && (f.var == a)) || t) g
 

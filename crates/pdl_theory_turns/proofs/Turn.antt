@@ -148,7 +148,8 @@ spots_op world m ph (Write n a e) w r h ok rel = at (n == m) refl (ok m)
   where
     at : (b : Bool) → (n == m) ≡ b
         → (not b || may_write (ph m) a) ≡ true
-        → spots (cond b (after_write (ph m) a) (ph m)) w.env (of_mem m (r.writes ++ write_of n (slice_index r.env a) (value_of e r.env) ∷ [])) ≡ spots (ph m) w.env (of_mem m r.writes)
+        → spots (cond b (after_write (ph m) a) (ph m)) w.env (of_mem m (r.writes ++ write_of n (slice_index r.env a) (value_of e r.env) ∷ []))
+        ≡ spots (ph m) w.env (of_mem m r.writes)
     at true f k =
         ap (λ l. places l ++ rev (addresses_at w.env (but_last (ph m).unwritten))) (of_mem_append m r.writes _
         ∙ ap (λ b. of_mem m r.writes ++ cond b (write_of n (slice_index r.env a) (value_of e r.env) ∷ []) []) f)

@@ -177,7 +177,8 @@ module _ (p : Pipe) (acc : Accepted p) (world : World) (args : List ℕ) where
 
   -- past the reserves, the addresses of the writes made and of those to come are those of the turn's writes
   pub all_places : (s m : ℕ) → reserve_stage p m < s
-      → spots (phase_all m Fresh (before s p.stmts)) (so_far p world args s).env (of_mem m (run_at p world.words args s).writes) ≡ places (of_mem m (thread p world.words args).writes)
+      → spots (phase_all m Fresh (before s p.stmts)) (so_far p world args s).env (of_mem m (run_at p world.words args s).writes)
+      ≡ places (of_mem m (thread p world.words args).writes)
   all_places s m h =
       sym
       (spots_all world m (stages_from s p.stmts) (λ n. phase_all n Fresh (before s p.stmts))
