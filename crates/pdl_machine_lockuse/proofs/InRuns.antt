@@ -1,5 +1,5 @@
 -- The same of each state that a run comes to.
-use Rattle.std.proofs.Common.{refl, ℕ, Bool, List, Some}
+use Rattle.std.proofs.Common.{ℕ, Bool, List}
 use Rattle.pdl_semantics.specs.Flat.{Arrays, Pipe}
 use Rattle.pdl_semantics.specs.Machine.{State}
 use Rattle.pdl_semantics.specs.Moves.{all_acts}

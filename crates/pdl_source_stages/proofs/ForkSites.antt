@@ -1,18 +1,17 @@
 -- The `if` of each fork: where it stands, and under which guards.
-use Rattle.std.proofs.Common.{◌≡◌, refl, sym, ap, ap₂, ◌∙◌, ℕ, zero, suc, ◌+◌, ◌≤◌, ◌<◌, ◌⊎◌, inl, inr, Bool, true, false, ◌&&◌, ◌||◌, not, List, [], ◌∷◌, ◌++◌, length, Option, Some, None, unwrap_or, arith, if◌then◌else◌, ◌==◌, slice_index}
-use Rattle.std.proofs.lemmas.Bool.{and_parts, and_from, cases_lt}
+use Rattle.std.proofs.Common.{◌≡◌, refl, sym, ap, ap₂, ◌∙◌, ℕ, suc, ◌+◌, ◌≤◌, ◌<◌, ◌⊎◌, inl, inr, Bool, true, false, ◌&&◌, ◌||◌, List, [], ◌∷◌, ◌++◌, length, Option, Some, None, unwrap_or, arith}
+use Rattle.std.proofs.lemmas.Bool.{and_parts, cases_lt}
 use Rattle.pdl_semantics.specs.Tree.{Span, Expr, Separator, If, Stmts, Nil, Cons, Mem, Pipe}
 use Rattle.pdl_semantics.specs.Flat
-use Rattle.pdl_semantics.specs.Flat.{all_hold, takes_branch}
+use Rattle.pdl_semantics.specs.Flat.{all_hold}
 use Rattle.pdl_semantics.specs.Flatten.{guard_of, with_guard, past, at_otherwise, under, side, separators}
 use Rattle.pdl_semantics.specs.Flatten
 use Rattle.pdl_semantics.specs.Stages.{stage_at}
-use Rattle.pdl_theory_facts.specs.Graphs.{goes_by, on_side}
-use Rattle.pdl_theory_facts.specs.Facts.{comes_by, visits_stage}
+use Rattle.pdl_theory_facts.specs.Facts.{comes_by}
 use Rattle.pdl_rules.specs.Places.{Place, Statement, Branch, with_inner, statements}
 use Rattle.pdl_source_stages.proofs.Sites.{Site, branch, sites_in, sites, place_of, All}
 use Rattle.pdl_source_stages.proofs.Walks.{guard_begun, past_begun, past_all_begun}
-use Rattle.pdl_source_stages.proofs.Shapes.{is_whole, is_forked, is_late, begins_stage, Side, Straight, Runs, size, long, merge_at, shape, side_shape, long_is}
+use Rattle.pdl_source_stages.proofs.Shapes.{is_whole, is_forked, is_late, begins_stage, size, long, merge_at, shape, side_shape, long_is}
 use Rattle.pdl_source_stages.proofs.Spots.{Groups, Sides, group_fork, Forked}
 use Rattle.pdl_source_stages.proofs.SiteStages.{none_of_whole, fitting, rest_shape, either_shape}
 use Rattle.pdl_source_stages.proofs.SiteFacts.{Fine}

@@ -1,15 +1,15 @@
 -- On each path the stages visited are 0 and then those begun by the separators of that path, in text order.
 use Rattle.std.proofs.Common.{◌≡◌, refl, sym, ap, ap₂, ◌∙◌, ℕ, zero, suc, ◌+◌, ◌-◌, ◌≤◌, Bool, true, false, ◌&&◌, ◌||◌, List, [], ◌∷◌, ◌++◌, length, length-append, append_assoc, append-nil, Option, Some, None, arith, if◌then◌else◌, ◌==◌, slice_index}
-use Rattle.std.proofs.lemmas.Bool.{false≢true, and_parts}
+use Rattle.std.proofs.lemmas.Bool.{and_parts}
 use Rattle.pdl_semantics.specs.Tree.{Stmt, Separator, If, Stmts, Nil, Cons, Mem, Pipe}
 use Rattle.pdl_semantics.specs.Flat
-use Rattle.pdl_semantics.specs.Flatten.{with_guard, past, past_all, at_otherwise, guard_of, separators_in, separators, entry, side, at_start, flat}
+use Rattle.pdl_semantics.specs.Flatten.{with_guard, past, at_otherwise, guard_of, separators_in, separators, entry, side, at_start, flat}
 use Rattle.pdl_semantics.specs.Flatten
 use Rattle.pdl_semantics.specs.Stages.{stage_at, goes_to}
 use Rattle.pdl_rules.specs.Refusal.{KeepsRules}
 use Rattle.pdl_source_stages.specs.Visits.{onward, visited_stages, begun_in, begun_by}
 use Rattle.pdl_source_stages.proofs.Walks.{guard_begun, past_begun, past_all_begun}
-use Rattle.pdl_source_stages.proofs.Shapes.{is_whole, is_forked, is_late, begins_stage, Side, Straight, Runs, long, merge_at, side_leads, shape, side_shape, long_is}
+use Rattle.pdl_source_stages.proofs.Shapes.{is_whole, is_forked, is_late, begins_stage, long, merge_at, side_leads, shape, side_shape, long_is}
 use Rattle.pdl_source_stages.proofs.Spots.{Groups, Sides}
 use Rattle.pdl_source_stages.proofs.BodyShape.{body_forked, body_groups, stage_count}
 use Rattle.pdl_source_stages.proofs.SiteStages.{none_of_whole, fitting, rest_shape, either_shape}

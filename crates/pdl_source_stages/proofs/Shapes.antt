@@ -1,9 +1,9 @@
 -- The stage graph of a body in which each fork is directly followed by a separator, and each branch has one before its first fork: a trunk, from which each fork leads through two branches to its merge; a branch is built as the trunk is.
-use Rattle.std.proofs.Common.{◌≡◌, refl, sym, ap, ap₂, ◌∙◌, ℕ, zero, suc, ◌+◌, Bool, true, false, ◌&&◌, ◌||◌, List, [], ◌∷◌, ◌++◌, Option, Some, None, arith, cond, if◌then◌else◌, ◌==◌, eqb-true}
+use Rattle.std.proofs.Common.{◌≡◌, refl, sym, ap, ap₂, ◌∙◌, ℕ, suc, ◌+◌, Bool, true, false, ◌&&◌, ◌||◌, List, [], ◌∷◌, ◌++◌, Option, Some, None, arith, cond, if◌then◌else◌, ◌==◌, eqb-true}
 use Rattle.std.proofs.lemmas.Bool.{false≢true, and_parts, and_from, or_left}
 use Rattle.pdl_semantics.specs.Tree.{Separator, If, Stmts, Nil, Cons, Mem}
 use Rattle.pdl_semantics.specs.Flat
-use Rattle.pdl_semantics.specs.Flatten.{Var, with_guard, past, past_all, at_otherwise, guard_of, separators_in, separators, graph_before, graph, entry, graph_with_fork, with_merge, side, graph_with_stage}
+use Rattle.pdl_semantics.specs.Flatten.{with_guard, past, at_otherwise, guard_of, separators_in, separators, graph, entry, graph_with_fork, side, graph_with_stage}
 use Rattle.pdl_semantics.specs.Flatten
 use Rattle.pdl_source_stages.proofs.Walks.{past_begun, past_all_begun, guard_begun}
 

@@ -1,8 +1,8 @@
 -- A pipe that passes the tests of the whole language has the facts that the theorems take.
-use Rattle.std.proofs.Common.{◌≡◌, refl, sym, ap, ap₂, ◌∙◌, subst, ℕ, zero, suc, ◌-◌, ◌≤◌, ◌<◌, ◌⊎◌, inl, inr, Bool, true, false, ◌&&◌, ◌||◌, not, List, [], ◌∷◌, ◌++◌, length, Option, Some, None, is_none, nat_lt, nat_le, ◌==◌, cond, if◌then◌else◌, arith, slice_index, replicate, ltb-true, ltb-false, leb-true, lt-ltb, le_refl, eq-eqb}
+use Rattle.std.proofs.Common.{◌≡◌, refl, sym, ap, ap₂, ◌∙◌, subst, ℕ, zero, suc, ◌-◌, ◌≤◌, ◌<◌, ◌⊎◌, inl, inr, Bool, true, false, ◌&&◌, ◌||◌, not, List, [], ◌∷◌, ◌++◌, length, Option, Some, None, nat_lt, nat_le, ◌==◌, cond, if◌then◌else◌, arith, slice_index, replicate, ltb-true, ltb-false, leb-true, lt-ltb, le_refl, eq-eqb}
 use Rattle.std.proofs.lemmas.Bool.{eqb-true, ne_eqb, not-true}
 use Rattle.pdl_semantics.specs.Flat.{list_all, Op, DelayedRead, Stmt, Guard, Next, Ends, Goes, Forks, Branch, Stage, Pipe, start_env}
-use Rattle.pdl_semantics.specs.Stages.{onpath, in_stage, stage_at, last_stage, list_any, is_inside, is_reserve, mem_at, goes_to, commit_stage, reserve_stage, verify_stage, fork_guards}
+use Rattle.pdl_semantics.specs.Stages.{onpath, in_stage, stage_at, last_stage, list_any, is_inside, is_reserve, mem_at, goes_to, commit_stage, reserve_stage, fork_guards}
 use Rattle.pdl_semantics.specs.Sound.{all_below, stages_from, is_fetch}
 use Rattle.pdl_theory_derived.specs.Alone.{before, answered_op}
 use Rattle.pdl_theory_facts.specs.Scans.{none_of, all_at, binds_var}
@@ -16,7 +16,7 @@ use Rattle.pdl_theory_facts.specs.Facts.{DifferIn, looked_all, is_unseen, fetch_
 use Rattle.pdl_theory_facts.specs.Checks.{guard_vars}
 use Rattle.pdl_theory_facts.specs.SoundChecks.{none_hangs, blind_passes, is_last_of, merge_sound, branch_whole, forks_whole, verifies_at, nexts_of, nexts, is_trunk, same_branches, is_home, is_within, all_outer, leads_in, any_below, is_passed, is_in_merge, stays, is_entered, merges_it, is_left, is_way, next_passes, branch_passes, side_is, no_side, side_passes, stage_sound, fork_sound, none_between, skip_passes, all_guards, fetch_stage, fetch_sound, tests, passes_tests}
 use Rattle.pdl_theory_derived.proofs.Writes.{and_left, and_right}
-use Rattle.pdl_theory_facts.proofs.Texts.{below_at, past_end, none_there, where_true, no_reserve}
+use Rattle.pdl_theory_facts.proofs.Texts.{below_at, past_end, where_true, no_reserve}
 use Rattle.pdl_theory_facts.proofs.Passes.{known, reserves, pathwise_paths, parts_paths, reserve_past, commit_past}
 use Rattle.pdl_theory_progress.proofs.Rates.{picks, among, among_append, fork_among}
 use Rattle.pdl_theory_progress.proofs.TestedPaths.{clash, or_more, all_picks, Agree, path_agree, between_none, AllTrue, parts, agree_picks, hangs_none, before_among, all_same}

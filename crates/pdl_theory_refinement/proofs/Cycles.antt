@@ -2,7 +2,7 @@
 use Rattle.std.proofs.Common.{◌≡◌, ◌≢◌, refl, sym, ap, ap₂, ◌∙◌, subst, ℕ, ◌≤◌, ◌<◌, ◌⊎◌, inl, inr, Bool, true, false, ◌&&◌, ◌||◌, not, List, [], ◌∷◌, ◌++◌, length, Option, Some, None, ◌==◌, nat_lt, cond, arith, append_assoc, is_none, is_some}
 use Rattle.std.proofs.lemmas.Bool.{eqb-true, eqb-false}
 use Rattle.std.proofs.Common.{ltb-false, lt-ltb, le_of_eq, le_refl, le_of_lt, lt_of_lt_of_le}
-use Rattle.pdl_semantics.specs.Flat.{Arrays, Pipe, Branch, of_mem, list_all, start_env}
+use Rattle.pdl_semantics.specs.Flat.{Arrays, Pipe, of_mem, list_all, start_env}
 use Rattle.pdl_semantics.specs.Stages.{stage_at, mem_at, goes_to, commit_stage, reserve_stage}
 use Rattle.pdl_semantics.specs.Locks.{Nothing}
 use Rattle.pdl_semantics.specs.Machine.{Ask, Awaited, is_answered}

@@ -1,10 +1,10 @@
 -- Both machines decide alike which threads move.
 use Rattle.std.proofs.Common.{◌≡◌, refl, sym, ap, ap₂, ◌∙◌, subst, ℕ, ◌≤◌, ◌<◌, ◌⊎◌, inl, inr, Bool, true, false, ◌&&◌, ◌||◌, not, List, [], ◌∷◌, ◌++◌, length, Option, Some, None, is_none, is_some, ◌==◌, cond, if◌then◌else◌, arith, slice_set, eq-eqb}
 use Rattle.std.proofs.lemmas.Bool.{eqb-true, eqb-false, ne_eqb, not-true}
-use Rattle.pdl_semantics.specs.Flat.{Array, Pipe, is_advisory, Op, DelayedRead, CombRead, ReserveWrite, Block, Stmt, list_all, word_at}
+use Rattle.pdl_semantics.specs.Flat.{Array, Pipe, is_advisory, Op, DelayedRead, CombRead, Block, Stmt, list_all, word_at}
 use Rattle.pdl_semantics.specs.Stages.{list_any, onpath, in_stage, mem_at, stage_at, goes_to, is_check, is_reserve, reserve_stage, commit_stage}
 use Rattle.pdl_semantics.specs.Locks.{Latest, has_room}
-use Rattle.pdl_semantics.specs.Machine.{Ask, Reserved, reserves_of, Awaited, Kept, is_answered, Request, NoRequest, Owned, Orphan, State, Deeds, lock_of, request_of, older_write, word_for, held_before, with_kept, unanswered_reads, answer_to, answer_for, kept_answer, with_answers, deeds_after_all}
+use Rattle.pdl_semantics.specs.Machine.{Ask, Reserved, reserves_of, Awaited, is_answered, Request, NoRequest, Owned, Orphan, State, Deeds, lock_of, request_of, older_write, word_for, held_before, with_kept, unanswered_reads, answer_to, answer_for, kept_answer, with_answers, deeds_after_all}
 use Rattle.pdl_semantics.specs.Moves.{block_ready, is_free, next_stage}
 use Rattle.pdl_semantics.specs.Locks
 use Rattle.pdl_semantics.specs.Machine

@@ -1,7 +1,7 @@
 -- What the threads of the derived machine are given to guess is what those of a run of the stated machine guess, and so whole runs of both are the same.
-use Rattle.std.proofs.Common.{◌≡◌, refl, sym, ap, ap₂, ◌∙◌, subst, ℕ, zero, suc, ◌≤◌, ◌<◌, Bool, true, false, ◌&&◌, ◌||◌, not, List, [], ◌∷◌, ◌++◌, Option, Some, None, ◌==◌, cond, if◌then◌else◌, arith, eq-eqb, length}
+use Rattle.std.proofs.Common.{◌≡◌, refl, sym, ap, ap₂, ◌∙◌, subst, ℕ, suc, Bool, true, false, ◌&&◌, ◌||◌, not, List, [], ◌∷◌, ◌++◌, Option, Some, None, ◌==◌, cond, if◌then◌else◌, arith, eq-eqb, length}
 use Rattle.std.proofs.lemmas.Bool.{eqb-true, ne_eqb}
-use Rattle.pdl_semantics.specs.Flat.{Arrays, Pipe, Op, Call, SpecCall, Stmt}
+use Rattle.pdl_semantics.specs.Flat.{Arrays, Pipe, Op, SpecCall, Stmt}
 use Rattle.pdl_semantics.specs.Stages.{list_any, onpath, in_stage, stage_at, goes_to}
 use Rattle.pdl_semantics.specs.Machine.{State}
 use Rattle.pdl_semantics.specs.Sound.{is_call, is_spec_call}
@@ -10,18 +10,16 @@ use Rattle.pdl_semantics.specs.Moves
 use Rattle.pdl_theory_derived.specs.Derived.{Work, around}
 use Rattle.pdl_theory_derived.specs.Derived
 use Rattle.pdl_theory_derived.specs.Simulation.{SameTurns, makes_guess, guess_in, guess_of, made_hints, hints_of}
-use Rattle.pdl_theory_derived.proofs.Writes.{and_left, and_right}
 use Rattle.pdl_theory_facts.specs.Scans.{none_of, called}
-use Rattle.pdl_theory_simulation.proofs.FlowFacts.{Flows, calls_ok, stage_or, next_of}
+use Rattle.pdl_theory_simulation.proofs.FlowFacts.{Flows, calls_ok, stage_or}
 use Rattle.pdl_theory_simulation.proofs.Stretches.{has_made, calls_here, made_then}
 use Rattle.pdl_theory_simulation.proofs.Guessing.{no_second}
 use Rattle.pdl_theory_simulation.proofs.Seats.{Live, advised, Falls, dacts, lacts, lact, did, now_of, work_of_live, deeds_of}
-use Rattle.pdl_theory_simulation.proofs.Choices.{Known, AllKnown, Foresees, MovesForeseen, AllForeseen, like_here, keeps_now, none_foreseen, guess_foreseen}
-use Rattle.pdl_theory_simulation.proofs.ThreadFacts.{Pair, sorted}
-use Rattle.pdl_theory_simulation.proofs.Orders.{acts_of}
-use Rattle.pdl_theory_simulation.proofs.ActOrder.{Swap, Swaps, same_fold}
-use Rattle.pdl_theory_simulation.proofs.LockLists.{fell, moved_live, stood, next_live, go_on}
-use Rattle.pdl_theory_simulation.proofs.LiveThreads.{Made, made, born_live, lives_next}
+use Rattle.pdl_theory_simulation.proofs.Choices.{Known, AllKnown, Foresees, AllForeseen, like_here, keeps_now, none_foreseen, guess_foreseen}
+use Rattle.pdl_theory_simulation.proofs.ThreadFacts.{Pair}
+use Rattle.pdl_theory_simulation.proofs.ActOrder.{Swap, same_fold}
+use Rattle.pdl_theory_simulation.proofs.LockLists.{fell, moved_live, stood, go_on}
+use Rattle.pdl_theory_simulation.proofs.LiveThreads.{made, born_live, lives_next}
 use Rattle.pdl_theory_simulation.proofs.ThreadPlaces.{made_on}
 use Rattle.pdl_theory_simulation.proofs.SimulatedStates.{Sim, HaveMade}
 use Rattle.pdl_theory_simulation.proofs.WholeSimulation.{known, swaps, acts_are, cycle_sim, turn_same}

@@ -1,8 +1,8 @@
 -- What a stage guesses, and whether it fails a verify: where its path makes no guess, and where what it guesses in the end is what the surroundings give.
-use Rattle.std.proofs.Common.{◌≡◌, refl, sym, ap, ap₂, ◌∙◌, subst, ℕ, Bool, true, false, ◌&&◌, ◌||◌, not, List, [], ◌∷◌, cond, if◌then◌else◌, Some}
-use Rattle.pdl_semantics.specs.Flat.{Op, Call, SpecCall, Verify, Stmt, values_of, all_hold}
+use Rattle.std.proofs.Common.{◌≡◌, refl, sym, ap, ap₂, ◌∙◌, subst, ℕ, Bool, true, false, ◌&&◌, ◌||◌, not, List, [], ◌∷◌, cond}
+use Rattle.pdl_semantics.specs.Flat.{Op, SpecCall, Verify, Stmt, all_hold}
 use Rattle.pdl_semantics.specs.Stages.{onpath, is_check}
-use Rattle.pdl_semantics.specs.Machine.{Ask, same_args, all_values, Blocked, Deeds, deeds_after_all}
+use Rattle.pdl_semantics.specs.Machine.{Ask, Blocked, Deeds, deeds_after_all}
 use Rattle.pdl_semantics.specs.Machine
 use Rattle.pdl_semantics.specs.Sound.{is_call, is_spec_call}
 use Rattle.pdl_theory_derived.specs.Derived.{Work, Around, work_after, do_all}

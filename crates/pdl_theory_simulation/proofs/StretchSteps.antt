@@ -1,12 +1,11 @@
 -- What the statements of a path do to values, to awaited variables, to requests and to the successor.
 use Rattle.std.proofs.Common.{Option, ◌≡◌, refl, sym, ap, ◌∙◌, subst, ℕ, Bool, true, false, ◌&&◌, ◌||◌, not, List, [], ◌∷◌, ◌++◌, Some, None, is_some, ◌==◌, cond, if◌then◌else◌, arith, slice_index, slice_set, eq-eqb}
 use Rattle.std.proofs.lemmas.List.{get_or-set_other}
-use Rattle.std.proofs.lemmas.Bool.{eqb-true, eqb-false}
 use Rattle.std.proofs.lemmas.Bool.Decides.{eqb_tells}
 use Rattle.pdl_semantics.specs.Flat.{Commit, of_mem, Op, Bind, CombRead, DelayedRead, Write, ReserveWrite, Release, Call, SpecCall, Verify, Stmt, value_of, values_of, all_hold}
 use Rattle.pdl_semantics.specs.Stages.{onpath, is_reserve}
-use Rattle.pdl_semantics.specs.Machine.{Ask, Awaited, same_args, Pending, Blocked, Reserved, Deeds, deeds_after_all, is_held, Kept, is_answered, held_before}
-use Rattle.pdl_semantics.specs.Cycle.{awaited_of, releases_of}
+use Rattle.pdl_semantics.specs.Machine.{Ask, Awaited, same_args, Pending, Blocked, Reserved, Deeds, deeds_after_all, is_held}
+use Rattle.pdl_semantics.specs.Cycle.{awaited_of}
 use Rattle.pdl_semantics.specs.Sound.{is_call, is_delayed_read}
 use Rattle.pdl_semantics.specs.Machine
 use Rattle.pdl_theory_derived.specs.Derived.{Entry, Work, Around, work_after, do_all}
@@ -15,7 +14,7 @@ use Rattle.pdl_theory_simulation.proofs.FlowFacts.{SameBut, sets, is_fetch_of, u
 use Rattle.pdl_theory_derived.proofs.Writes.{and_left, and_right}
 use Rattle.pdl_theory_derived.proofs.Stages.{step}
 use Rattle.pdl_theory_turns.proofs.Paths.{Fixed}
-use Rattle.pdl_theory_derived.proofs.Deeds.{places, places_has, work_of, AllFit, told_step, Loosely, loose_start, loose_step}
+use Rattle.pdl_theory_derived.proofs.Deeds.{places, places_has, work_of, AllFit, Loosely, loose_step}
 use Rattle.pdl_theory_turns.proofs.Steps.{Here, step_write, step_reserve, step_release}
 
 -- what statements do to the pending writes of m

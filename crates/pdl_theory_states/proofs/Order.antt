@@ -1,5 +1,5 @@
 -- Live threads stand in order: the older one in the greater stage, or in the other branch of a fork.
-use Rattle.std.proofs.Common.{◌≡◌, ◌≢◌, refl, sym, ap, ap₂, ◌∙◌, subst, ℕ, zero, suc, length, ◌≤◌, ◌<◌, ◌⊎◌, inl, inr, Bool, true, false, ◌&&◌, ◌||◌, not, List, [], ◌∷◌, ◌++◌, Option, Some, None, ◌==◌, nat_lt, if◌then◌else◌, arith, eq-eqb, ltb-true, ltb-false, lt-ltb, le_refl, append-nil, append_assoc, length-append}
+use Rattle.std.proofs.Common.{◌≡◌, ◌≢◌, refl, sym, ap, ap₂, ◌∙◌, subst, ℕ, zero, suc, length, ◌≤◌, ◌<◌, ◌⊎◌, inl, inr, Bool, true, false, ◌&&◌, ◌||◌, not, List, [], ◌∷◌, ◌++◌, ◌==◌, nat_lt, if◌then◌else◌, arith, eq-eqb, ltb-true, ltb-false, lt-ltb, le_refl, append-nil, append_assoc, length-append}
 use Rattle.std.proofs.lemmas.Bool.{eqb-true, eqb-false, or_right, or_left}
 use Rattle.pdl_semantics.specs.Flat.{Pipe, Branch}
 use Rattle.pdl_semantics.specs.Stages.{list_any, stage_at, sides_of}

@@ -1,5 +1,5 @@
 -- A thread's entries of one memory: what its stage does to them; and guards that keep their values over statements.
-use Rattle.std.proofs.Common.{◌≡◌, ◌||◌, ◌⊎◌, refl, sym, ap, ap₂, ◌∙◌, ℕ, ◌+◌, inl, inr, length, take, drop, Bool, true, false, ◌&&◌, not, List, [], ◌∷◌, ◌++◌, Option, Some, None, ◌==◌, cond, if◌then◌else◌, eq-eqb, slice_index, append-nil}
+use Rattle.std.proofs.Common.{◌≡◌, ◌||◌, ◌⊎◌, refl, sym, ap, ap₂, ◌∙◌, ℕ, ◌+◌, inl, inr, length, take, drop, Bool, true, false, ◌&&◌, not, List, [], ◌∷◌, ◌++◌, Some, None, ◌==◌, cond, if◌then◌else◌, slice_index, append-nil}
 use Rattle.pdl_semantics.specs.Flat.{of_mem, Op, ReserveWrite, Release, Verify, Stmt, Guard, values_of, all_hold}
 use Rattle.pdl_semantics.specs.Stages.{is_reserve, is_release}
 use Rattle.pdl_semantics.specs.Machine.{same_args, is_held, Pending, Deeds, deeds_after_all}
@@ -8,7 +8,7 @@ use Rattle.pdl_theory_turns.proofs.EntryCommits.{released}
 use Rattle.pdl_semantics.specs.Machine
 use Rattle.pdl_theory_derived.specs.Derived.{Entry, Work, Around, do_all}
 use Rattle.pdl_theory_derived.proofs.Writes.{and_left, and_right}
-use Rattle.pdl_theory_derived.proofs.Entries.{entries_of, entry, Open, Full, waiting, known, open_vars, full_vars, told}
+use Rattle.pdl_theory_derived.proofs.Entries.{entries_of, entry, Open, waiting, known, open_vars, told}
 use Rattle.pdl_theory_derived.specs.Alone.{is_nil}
 use Rattle.pdl_theory_turns.proofs.Phases.{nil_of, no_fulls}
 use Rattle.pdl_theory_facts.specs.Scans.{Phase, is_over, none_of, binds_var, is_fixed, free_of, is_dead, keeps_guards}

@@ -1,7 +1,7 @@
 -- A thread after a wrong guess: it keeps to one path, whatever answers come.
-use Rattle.std.proofs.Common.{◌≡◌, refl, sym, ap, ap₂, ◌∙◌, subst, ℕ, suc, ◌<◌, ◌⊎◌, inl, inr, Bool, true, false, ◌||◌, not, List, [], ◌∷◌, ◌++◌, length, Option, Some, None, is_some, ◌==◌, cond, if◌then◌else◌, slice_index, slice_set, append-nil, append_assoc, eq-eqb}
+use Rattle.std.proofs.Common.{◌≡◌, refl, sym, ap, ap₂, ◌∙◌, subst, ℕ, suc, ◌<◌, ◌⊎◌, inl, inr, Bool, true, false, ◌||◌, not, List, [], ◌∷◌, ◌++◌, length, None, is_some, ◌==◌, cond, if◌then◌else◌, slice_index, slice_set, append-nil, append_assoc, eq-eqb}
 use Rattle.pdl_semantics.specs.Flat.{Stmt, Pipe, Branch, Next, Ends, Goes, Forks, all_hold}
-use Rattle.pdl_semantics.specs.Stages.{onpath, in_stage, stage_at, is_verify, verify_stage}
+use Rattle.pdl_semantics.specs.Stages.{onpath, in_stage, stage_at, verify_stage}
 use Rattle.pdl_semantics.specs.Machine.{Ask, Awaited, is_answered}
 use Rattle.pdl_semantics.specs.Cycle.{awaited_of}
 use Rattle.pdl_theory_derived.specs.Derived.{Work, Around, Thread, State, do_all, work_of_stage, fresh, answered_thread, with_answers, still, word_of, asked_at}

@@ -1,5 +1,5 @@
 -- A thread's stage reserves no more of a memory for writing than its lock has room for.
-use Rattle.std.proofs.Common.{◌≡◌, refl, sym, ap, ap₂, ◌∙◌, subst, ℕ, suc, ◌+◌, ◌≤◌, Bool, true, false, ◌&&◌, List, [], ◌∷◌, ◌++◌, ◌==◌, cond, Some, arith, append-nil}
+use Rattle.std.proofs.Common.{◌≡◌, refl, sym, ap, ap₂, ◌∙◌, subst, ℕ, suc, ◌+◌, ◌≤◌, Bool, true, false, List, [], ◌∷◌, ◌++◌, ◌==◌, cond, Some, arith, append-nil}
 use Rattle.std.proofs.lemmas.Bool.{and_from}
 use Rattle.pdl_semantics.specs.Flat.{list_all, Op, DelayedRead, ReserveWrite, Verify, Stmt, Pipe, all_hold, values_of}
 use Rattle.pdl_semantics.specs.Stages.{onpath, in_stage, mem_at}

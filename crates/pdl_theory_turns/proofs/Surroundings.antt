@@ -2,7 +2,7 @@
 use Rattle.std.proofs.Common.{◌≡◌, ◌≢◌, refl, sym, ap, ◌∙◌, subst, ℕ, ◌≤◌, Bool, true, false, ◌&&◌, ◌||◌, not, List, [], ◌∷◌, Some, ◌==◌, slice_index, slice_set, cond, nat_le}
 use Rattle.std.proofs.lemmas.List.{get_or-set_other}
 use Rattle.std.proofs.lemmas.Bool.{eqb-true, eqb-false, leb-true, or_right as or_more}
-use Rattle.pdl_semantics.specs.Flat.{SpecCall, Arrays, Op, Bind, CombRead, DelayedRead, Write, ReserveWrite, Block, Release, Verify, Stmt, Guard, Pipe, value_of, values_of, all_hold, word_at}
+use Rattle.pdl_semantics.specs.Flat.{SpecCall, Op, Bind, CombRead, DelayedRead, Write, ReserveWrite, Block, Release, Verify, Stmt, Guard, Pipe, value_of, values_of, all_hold, word_at}
 use Rattle.pdl_semantics.specs.Stages.{in_stage, mem_at, commit_stage, reserve_stage}
 use Rattle.pdl_semantics.specs.Machine.{same_args}
 use Rattle.pdl_theory_derived.specs.Derived.{Work, Around, Entry, work_after, do_all, has_entry, with_entry_value, without, moved_up}

@@ -1,14 +1,14 @@
 -- The statements of one path: what their thread holds, commits and makes by each stage.
-use Rattle.std.proofs.Common.{◌≡◌, ◌≢◌, refl, sym, ap, ap₂, ◌∙◌, subst, ℕ, ◌≤◌, ◌<◌, Bool, true, false, ◌&&◌, ◌||◌, not, List, [], ◌∷◌, ◌++◌, Some, None, ◌==◌, nat_lt, nat_le, cond, arith, slice_index, slice_set, append-nil, append_assoc}
+use Rattle.std.proofs.Common.{◌≡◌, ◌≢◌, refl, sym, ap, ap₂, ◌∙◌, subst, ℕ, ◌≤◌, ◌<◌, Bool, true, false, ◌&&◌, ◌||◌, not, List, [], ◌∷◌, ◌++◌, Some, ◌==◌, nat_lt, nat_le, cond, arith, slice_index, slice_set, append-nil, append_assoc}
 use Rattle.std.proofs.lemmas.List.{get_or-set_other}
 use Rattle.std.proofs.lemmas.Bool.{eqb-true, eqb-false}
 use Rattle.std.proofs.lemmas.Bool.Decides.{eqb_tells}
 use Rattle.std.proofs.Common.{leb-true, ltb-true}
-use Rattle.pdl_semantics.specs.Flat.{Arrays, Op, Bind, CombRead, DelayedRead, Write, ReserveWrite, Release, Verify, Stmt, value_of, values_of, all_hold, Commit, of_mem}
+use Rattle.pdl_semantics.specs.Flat.{Op, Bind, CombRead, DelayedRead, Write, ReserveWrite, Release, Verify, Stmt, value_of, values_of, all_hold, Commit, of_mem}
 use Rattle.pdl_semantics.specs.Stages.{in_stage, is_release, is_reserve}
 use Rattle.pdl_semantics.specs.Machine.{same_args}
 use Rattle.pdl_semantics.specs.Sequential.{Run, run_after}
-use Rattle.pdl_theory_derived.specs.Derived.{Work, Around, work_after, do_all, released_commits}
+use Rattle.pdl_theory_derived.specs.Derived.{Work, Around, work_after, do_all}
 use Rattle.pdl_theory_derived.specs.Alone.{World, alone, before, answered_op, is_among, is_oldest, drop_var, but_last}
 use Rattle.pdl_theory_derived.proofs.Writes.{and_left, and_right, of_mem_append}
 use Rattle.pdl_theory_derived.proofs.Entries.{released_other, write_of, places}
