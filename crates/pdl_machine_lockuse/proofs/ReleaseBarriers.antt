@@ -101,7 +101,8 @@ module _ (p : Pipe) (sound : Sound p) (st : State) (d : Derived.State) (bits : L
       let looked_way = way_looked p q n ∙ ap looked_all way_here in
       ap is_done (sym (phases_looked m Fresh way))
       ∙ sure_done m v no_scan Fresh (looked_all way)
-      (subst (λ xs. phases_ok m Fresh xs ≡ true) looked_way (TurnPath.ok_before (along q (at_once p)) (sound.pathwise.paths q) (λ k a. 0) [] n m))
+      (subst (λ xs. phases_ok m Fresh xs ≡ true) looked_way
+      (TurnPath.ok_before (along q (at_once p)) (sound.pathwise.paths q) (record { words = λ k a. 0; guess = [] }) [] n m))
       (subst (λ o. all_sure o false no_scan (looked_all way) ≡ true) (verify_looked p.stmts ∙ verifies)
       (subst (λ xs. all_sure (verify_stage (looked_all p.stmts)) false no_scan xs ≡ true) looked_way
       (sure_first (verify_stage (looked_all p.stmts)) false no_scan (Rattle.pdl_theory_derived.specs.Alone.before n (onpath q (looked_all p.stmts)))

@@ -100,7 +100,7 @@ pub record IsInTurn (thread : ℕ) (m : ℕ) (es : List Pending) (ws : List Writ
 abbrev pub WritesOnce : Pipe → State → List Bool → ℕ → Act → Type 0
 WritesOnce p st bits m a = a.moves ≡ true → IsInTurn a.thread.number m (with_new p st bits m) a.does.writes
 
--- whether a statement blocks, reads or writes a memory
+-- whether a statement blocks, reads or writes a memory by its lock, which an advisory memory has not
 abbrev pub uses_mem : ℕ → Op → Bool
 uses_mem m (Bind _ _) = false
 uses_mem m (CombRead x n a) = n == m
@@ -115,6 +115,9 @@ uses_mem m (SpecCall _) = false
 uses_mem m (Verify _ _) = false
 uses_mem m SpecCheck = false
 uses_mem m SpecBarrier = false
+uses_mem m (AdviceBind _ _) = false
+uses_mem m (AdviceRead _ _ _) = false
+uses_mem m (AdviceWrite _ _ _) = false
 
 -- as long as a statement that uses the memory may be to come, on whatever path, what is released is no younger
 abbrev pub UsesOlder : Pipe → State → List Bool → ℕ → Act → Type 0
