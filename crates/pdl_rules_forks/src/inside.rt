@@ -22,10 +22,8 @@ fn is_cut(s: &Stmt) -> bool
         Stmt::CombRead { .. } | Stmt::Bind { .. } | Stmt::SpecCall { .. } => false,
         Stmt::DelayedRead { .. } | Stmt::Write { .. } | Stmt::Reserve { .. } => false,
         Stmt::Block { .. } | Stmt::Release { .. } | Stmt::Call { .. } => false,
-        Stmt::Verify { .. }
-        | Stmt::Update { .. }
-        | Stmt::SpecCheck { .. }
-        | Stmt::SpecBarrier { .. } => false,
+        Stmt::Verify { .. } | Stmt::Update { .. } | Stmt::SpecCheck { .. } => false,
+        Stmt::SpecBarrier { .. } => false,
     }
 }
 
