@@ -103,8 +103,8 @@ pub fn location_at<'a>(place: &Place<'a>) -> Option<&'a Location>
         Action::Reserve(at, _) | Action::Block(at) | Action::Release(at) => Some(at),
         Action::Parameter(_) | Action::Memory(_) | Action::Separator | Action::Bind(_, _) => None,
         Action::SpecCall(_, _) | Action::If(_, _, _) | Action::Call(_) => None,
-        Action::Verify(_, _) | Action::Update(_, _) | Action::SpecCheck | Action::SpecBarrier =>
-            None,
+        Action::Verify(_, _) | Action::Update(_, _) | Action::SpecCheck => None,
+        Action::SpecBarrier => None,
         Action::End | Action::StartClause(_) => None,
     }
 }
@@ -135,8 +135,8 @@ pub fn is_call(place: &Place<'_>) -> bool
         Action::CombRead(_, _) | Action::Bind(_, _) | Action::DelayedRead(_, _) => false,
         Action::Write(_, _) | Action::Reserve(_, _) | Action::Block(_) | Action::Release(_) =>
             false,
-        Action::If(_, _, _) | Action::Verify(_, _) | Action::Update(_, _) | Action::SpecCheck =>
-            false,
+        Action::If(_, _, _) | Action::Verify(_, _) | Action::Update(_, _) => false,
+        Action::SpecCheck => false,
         Action::SpecBarrier | Action::End | Action::StartClause(_) => false,
     }
 }

@@ -58,8 +58,8 @@ fn left_after_one(s: &Stmt, left: usize) -> usize
         Stmt::Separator { .. } | Stmt::CombRead { .. } | Stmt::Bind { .. } => after,
         Stmt::SpecCall { .. } | Stmt::DelayedRead { .. } | Stmt::Write { .. } => after,
         Stmt::Reserve { .. } | Stmt::Block { .. } | Stmt::Release { .. } => after,
-        Stmt::Call { .. } | Stmt::Verify { .. } | Stmt::Update { .. } | Stmt::SpecCheck { .. } =>
-            after,
+        Stmt::Call { .. } | Stmt::Verify { .. } | Stmt::Update { .. } => after,
+        Stmt::SpecCheck { .. } => after,
         Stmt::SpecBarrier { .. } => after,
     }
 }
