@@ -56,6 +56,9 @@ IsLetIn p st thread (SpecCall _) d = ⊤
 IsLetIn p st thread (Verify _ _) d = ⊤
 IsLetIn p st thread SpecCheck d = ⊤
 IsLetIn p st thread SpecBarrier d = ⊤
+IsLetIn p st thread (AdviceBind _ _) d = ⊤
+IsLetIn p st thread (AdviceRead _ _ _) d = ⊤
+IsLetIn p st thread (AdviceWrite _ _ _) d = ⊤
 
 -- each statement after these deeds, as long as the locks let the thread move so far
 abbrev pub AreLetIn : Pipe → State → ℕ → List Stmt → Deeds → Type 0

@@ -32,10 +32,6 @@ knows_memory n (AdviceBind x e) = true
 knows_memory n (AdviceRead x m a) = true
 knows_memory n (AdviceWrite m a e) = true
 
--- whether a statement makes a guess or verifies it
-abbrev pub is_guess : Op → Bool
-is_guess op = is_spec_call op || is_verify op
-
 -- PATHS
 
 -- the statements that are left where the guard g has this value; they no longer ask for it
@@ -89,7 +85,9 @@ path_passes p xs =
     && (list_all (λ x. knows_memory (length p.mems) x.op) xs
     && (reads_ok p no_scan xs
     && (all_below (mem_passes p xs) (length p.mems)
-    && (makings_ok (verify_stage p.stmts) Unmade xs && (is_made (making_all Unmade xs) && (checks_apart None xs && all_sure (verify_stage p.stmts) false no_scan xs)))))))
+    &&
+    (makings_ok (verify_stage p.stmts) Unmade xs
+    && (is_made (making_all Unmade xs) && (checks_apart None xs && all_sure (verify_stage p.stmts) false no_scan xs)))))))
 
 -- THE TEXT
 

@@ -33,7 +33,7 @@ abbrev pub uses_any : ℕ → List Expr → Bool
 uses_any x [] = false
 uses_any x (e ∷ es) = uses_in x e || uses_any x es
 
--- whether a statement binds a variable or uses its value
+-- whether a statement binds a variable or uses its value; advisory statements, by which no path and no lock is told, are left out
 abbrev pub mentions_var : ℕ → Op → Bool
 mentions_var x (Bind y e) = (y == x) || uses_in x e
 mentions_var x (CombRead y m a) = (y == x) || (a == x)

@@ -86,6 +86,7 @@ value_agree (Choose c a b) env env' f =
     let n = value_agree b env env' (λ g h. f g (or_right (uses_in g c) _ (or_right (uses_in g a) _ h))) in
     λ i. Words.mux (k i) (m i) (n i)
 
+-- arguments have one value where the values of their variables agree
 pub values_agree : (es : List Expr) (env env' : List ℕ)
     → ((g : ℕ) → uses_any g es ≡ true → slice_index env g ≡ slice_index env' g) → values_of es env ≡ values_of es env'
 values_agree [] env env' f = refl
@@ -194,4 +195,3 @@ untouched x (op ∷ ops) h = let k = or_parts (mentions_var x op) (is_mentioned 
 -- another value of a variable on which a statement doesn't hang
 pub set_agrees : (x v : ℕ) (op : Op) (env : List ℕ) → touches x op ≡ false → Agrees op env (slice_set env x v)
 set_agrees x v op env h g k = sym (get_or-set_other env x g v 0 (λ e. untrue (sym h ∙ ap (λ n. touches n op) (sym e) ∙ k)))
-
