@@ -273,7 +273,8 @@ sole_older t y m (a ∷ ms) es h o p = at (reserves_of m a.does.reserves) refl (
     new = new_entries m a.thread.number a.does.reserves
 
     at : (n : ℕ) → reserves_of m a.does.reserves ≡ n
-        → (AreOrdered 0 (with_reserves m ms es) → forget.has_place t y (with_reserves m ms es) ≡ true → count_older t (with_reserves m ms es) ≡ count_older t es)
+        → (AreOrdered 0 (with_reserves m ms es) → forget.has_place t y (with_reserves m ms es) ≡ true → count_older t
+        (with_reserves m ms es) ≡ count_older t es)
         → count_older t (with_reserves m ms es ++ new) ≡ count_older t es
     at zero e go =
         let same : with_reserves m ms es ++ new ≡ with_reserves m ms es =

@@ -1,5 +1,5 @@
 -- What holds of a thread as its stage begins: its blocks for reading are ready, it holds each location at most once, and a guess has as many arguments as it should. So the statements of its stage are fine.
-use Rattle.std.proofs.Common.{◌≡◌, refl, sym, ap, ap₂, ◌∙◌, subst, ℕ, suc, ◌+◌, ◌≤◌, ◌<◌, inl, inr, Bool, true, false, ◌&&◌, ◌||◌, not, List, [], ◌∷◌, ◌++◌, length, None, ◌==◌, cond, if◌then◌else◌, arith, eq-eqb, slice_index}
+use Rattle.std.proofs.Common.{◌≡◌, refl, sym, ap, ap₂, ◌∙◌, subst, ℕ, ◌+◌, ◌≤◌, ◌<◌, inl, inr, Bool, true, false, ◌&&◌, ◌||◌, not, List, [], ◌∷◌, ◌++◌, length, None, ◌==◌, cond, if◌then◌else◌, arith, eq-eqb, slice_index}
 use Rattle.std.proofs.lemmas.Bool.{false≢true, eqb-true, or_parts, not-true}
 use Rattle.pdl_semantics.specs.Flat.{list_all, Op, Bind, CombRead, DelayedRead, Write, ReserveRead, ReserveWrite, Block, Release, Call, SpecCall, Verify, SpecCheck, SpecBarrier, AdviceBind, AdviceRead, AdviceWrite, Stmt, Pipe, all_hold}
 use Rattle.pdl_semantics.specs.Stages.{onpath, in_stage, mem_at, reserve_stage, commit_stage, is_release, verify_stage}

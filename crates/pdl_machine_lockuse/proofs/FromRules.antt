@@ -112,11 +112,14 @@ module _ (p : Pipe) (at : Location) (vs : List Var) (there : IsNamed p.mems vs a
   one_site before k ws (Reserve sp l W) bs g n r keeps = and_from _ _ (ap not (other before l ws g (n l refl) r keeps.l5)) refl
   one_site before k ws (Reserve sp l R) bs g n r keeps = refl
   one_site before k ws (Separator sp) bs g n r keeps = refl
-  one_site before k ws (CombRead sp x l) bs g n r keeps = either_read (λ op. none_of (reserves_at m0 a0) (seen_ops k (op ∷ [])) ≡ true) (is_advisory_mem p.mems l.mem.name) _ _ _ refl refl
-  one_site before k ws (Bind sp x e) bs g n r keeps = either_bind (λ op. none_of (reserves_at m0 a0) (seen_ops k (op ∷ [])) ≡ true) (is_advised ws e) _ _ refl refl
+  one_site before k ws (CombRead sp x l) bs g n r keeps = either_read (λ op. none_of (reserves_at m0 a0) (seen_ops k (op ∷ [])) ≡ true)
+      (is_advisory_mem p.mems l.mem.name) _ _ _ refl refl
+  one_site before k ws (Bind sp x e) bs g n r keeps = either_bind (λ op. none_of (reserves_at m0 a0) (seen_ops k (op ∷ [])) ≡ true)
+      (is_advised ws e) _ _ refl refl
   one_site before k ws (SpecCall sp x args) bs g n r keeps = refl
   one_site before k ws (DelayedRead sp x l) bs g n r keeps = refl
-  one_site before k ws (Write sp l e) bs g n r keeps = either_write (λ op. none_of (reserves_at m0 a0) (seen_ops k (op ∷ [])) ≡ true) (is_advisory_mem p.mems l.mem.name) _ _ _ refl refl
+  one_site before k ws (Write sp l e) bs g n r keeps = either_write (λ op. none_of (reserves_at m0 a0) (seen_ops k (op ∷ [])) ≡ true)
+      (is_advisory_mem p.mems l.mem.name) _ _ _ refl refl
   one_site before k ws (Block sp l) bs g n r keeps = refl
   one_site before k ws (Release sp l) bs g n r keeps = refl
   one_site before k ws (If sp (Variable x) when otherwise) bs g n r keeps = refl
@@ -162,11 +165,14 @@ sites_kinds p vs us before (t ∷ ts) g each named =
         → all_keep_kind (seen_ops t.walk.stage (ops_of p.mems t.walk.vars s) ++ seen p.mems ts) ≡ true
     here (Block sp at) e rest = and_from _ _ (block sp at e) rest
     here (Separator sp) e rest = rest
-    here (CombRead sp x from) e rest = either_read (λ op. all_keep_kind (seen_ops t.walk.stage (op ∷ []) ++ seen p.mems ts) ≡ true) (is_advisory_mem p.mems from.mem.name) _ _ _ rest rest
-    here (Bind sp x v) e rest = either_bind (λ op. all_keep_kind (seen_ops t.walk.stage (op ∷ []) ++ seen p.mems ts) ≡ true) (is_advised t.walk.vars v) _ _ rest rest
+    here (CombRead sp x from) e rest = either_read (λ op. all_keep_kind (seen_ops t.walk.stage (op ∷ []) ++ seen p.mems ts) ≡ true)
+        (is_advisory_mem p.mems from.mem.name) _ _ _ rest rest
+    here (Bind sp x v) e rest = either_bind (λ op. all_keep_kind (seen_ops t.walk.stage (op ∷ []) ++ seen p.mems ts) ≡ true)
+        (is_advised t.walk.vars v) _ _ rest rest
     here (SpecCall sp x args) e rest = rest
     here (DelayedRead sp x from) e rest = rest
-    here (Write sp to v) e rest = either_write (λ op. all_keep_kind (seen_ops t.walk.stage (op ∷ []) ++ seen p.mems ts) ≡ true) (is_advisory_mem p.mems to.mem.name) _ _ _ rest rest
+    here (Write sp to v) e rest = either_write (λ op. all_keep_kind (seen_ops t.walk.stage (op ∷ []) ++ seen p.mems ts) ≡ true)
+        (is_advisory_mem p.mems to.mem.name) _ _ _ rest rest
     here (Reserve sp at R) e rest = rest
     here (Reserve sp at W) e rest = rest
     here (Release sp at) e rest = rest
@@ -221,12 +227,15 @@ module _ (p : Pipe) (rules : KeepsRules p) where
   site_passes k gs vs (Update sp x args) bs h = and_from _ _ (args_right vs args h) refl
   site_passes k gs vs (Separator sp) bs h = refl
   site_passes k gs vs (CombRead sp x l) bs h =
-      either_read (λ op. Flat.list_all (λ (x : Flat.Stmt). passes_on (length (flat p).start) x.op) (stmts_at k gs (op ∷ [])) ≡ true) (is_advisory_mem p.mems l.mem.name) _ _ _ refl refl
+      either_read (λ op. Flat.list_all (λ (x : Flat.Stmt). passes_on (length (flat p).start) x.op) (stmts_at k gs (op ∷ [])) ≡ true)
+      (is_advisory_mem p.mems l.mem.name) _ _ _ refl refl
   site_passes k gs vs (Bind sp x e) bs h =
-      either_bind (λ op. Flat.list_all (λ (x : Flat.Stmt). passes_on (length (flat p).start) x.op) (stmts_at k gs (op ∷ [])) ≡ true) (is_advised vs e) _ _ refl refl
+      either_bind (λ op. Flat.list_all (λ (x : Flat.Stmt). passes_on (length (flat p).start) x.op) (stmts_at k gs (op ∷ [])) ≡ true)
+      (is_advised vs e) _ _ refl refl
   site_passes k gs vs (DelayedRead sp x l) bs h = refl
   site_passes k gs vs (Write sp l e) bs h =
-      either_write (λ op. Flat.list_all (λ (x : Flat.Stmt). passes_on (length (flat p).start) x.op) (stmts_at k gs (op ∷ [])) ≡ true) (is_advisory_mem p.mems l.mem.name) _ _ _ refl refl
+      either_write (λ op. Flat.list_all (λ (x : Flat.Stmt). passes_on (length (flat p).start) x.op) (stmts_at k gs (op ∷ [])) ≡ true)
+      (is_advisory_mem p.mems l.mem.name) _ _ _ refl refl
   site_passes k gs vs (Reserve sp l R) bs h = refl
   site_passes k gs vs (Reserve sp l W) bs h = refl
   site_passes k gs vs (Block sp l) bs h = refl

@@ -2,9 +2,9 @@
 use Rattle.std.proofs.Common.{◌≡◌, refl, sym, ap, ap₂, ◌∙◌, subst, ℕ, suc, ◌+◌, ◌≤◌, ◌<◌, Bool, true, false, ◌&&◌, ◌||◌, not, List, [], ◌∷◌, ◌++◌, length, length-append, Option, Some, None, is_none, ◌==◌, cond, if◌then◌else◌, arith, eq-eqb, slice_index, append_assoc, append-nil, nat_le}
 use Rattle.std.specs.Prelude.{⊤}
 use Rattle.std.proofs.lemmas.Bool.{false≢true, leb-true, eqb-true}
-use Rattle.pdl_semantics.specs.Flat.{Pipe, Op, Write, ReserveWrite, Release, Verify, Stmt, Commit, of_mem, list_all, all_hold, value_of, values_of}
+use Rattle.pdl_semantics.specs.Flat.{Pipe, Op, Write, ReserveWrite, Release, Verify, Stmt, list_all, all_hold, value_of, values_of}
 use Rattle.pdl_semantics.specs.Stages.{list_any, onpath, in_stage, goes_to, stage_at, commit_stage}
-use Rattle.pdl_semantics.specs.Machine.{State, Pending, Blocked, Written, Ask, Deeds, deeds_after, deeds_after_all, reserves_of, is_held, held_before, same_args, word_for}
+use Rattle.pdl_semantics.specs.Machine.{State, Pending, Blocked, Written, Ask, Deeds, deeds_after, deeds_after_all, reserves_of, held_before, same_args, word_for}
 use Rattle.pdl_semantics.specs.Moves.{block_ready, next_stage}
 use Rattle.pdl_semantics.specs.Promises.{DifferInAdvice}
 use Rattle.pdl_semantics.specs.Cycle.{new_entries, with_value_of, with_writes_of, releases_of, is_stage}
@@ -561,7 +561,8 @@ module _ (p : Pipe) (sound : Sound p) (st : State) (d : Derived.State) (bits : L
       (λ q. port_free p d bits (dacts p d bits older) q.mem) m l.number (pend m l.number l.thread.entries) (length (phase_all m Fresh done).full)
       way (in_stage l.thread.stage p.stmts) (phase_all m Fresh done)
       (begun p sound st d bits arrays older l k) (start_of (now_of p d bits l))
-      (starts_here p (sound_flows p sound) st d bits arrays older l k) (fit_all p (sound_flows p sound) st d bits arrays older l k) (along_here p sound st d bits arrays older l k)
+      (starts_here p (sound_flows p sound) st d bits arrays older l k) (fit_all p (sound_flows p sound) st d bits arrays older l k)
+      (along_here p sound st d bits arrays older l k)
       (mine_uses p sound st d bits arrays older l k m)
       (shape_start m l.number (phase_all m Fresh done) l.thread.entries (k.seated.keeps_on.shape m))
       (record {

@@ -1,5 +1,5 @@
 -- A thread that releases a write before V has passed a barrier, so that all older ones stand after V.
-use Rattle.std.proofs.Common.{◌≡◌, refl, sym, ap, ◌∙◌, subst, ℕ, ◌<◌, Bool, true, false, ◌&&◌, ◌||◌, not, List, [], ◌∷◌, ◌++◌, Option, Some, None, ◌==◌, nat_lt, nat_le, cond, arith, le_refl, ltb-true, leb-true, lt-ltb, ◌≢◌}
+use Rattle.std.proofs.Common.{◌≡◌, refl, sym, ap, ◌∙◌, subst, ℕ, ◌<◌, Bool, true, false, ◌&&◌, ◌||◌, not, List, [], ◌∷◌, ◌++◌, Some, nat_lt, nat_le, cond, arith, le_refl, ltb-true, leb-true, lt-ltb, ◌≢◌}
 use Rattle.std.proofs.lemmas.Bool.{false≢true}
 use Rattle.pdl_semantics.specs.Flat.{list_all, Pipe, Branch, Op, Block, SpecBarrier, Stmt, all_hold}
 use Rattle.pdl_semantics.specs.Stages.{list_any, onpath, in_stage, stage_at, verify_stage}

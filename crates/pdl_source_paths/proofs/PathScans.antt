@@ -190,7 +190,8 @@ module _ (p : Pipe) (q : Flat.Pipe) (lock_is : (m : List ℕ) → is_plain (mem_
       → is_advisory_mem p.mems m ≡ false → (vs us : List Var) (before : List Place) (ph : Phase) (ts : List Site) → All (Known p q) ts
       → Grows p.mems vs ts us → Each (KeepsLocks p) before (map place_of ts ++ closing p)
       → AreBacked p before → Stands p vs before m ph
-      → (phases_ok (mem_of p.mems m) ph (seen p.mems ts) ≡ true) × (is_over (phase_all (mem_of p.mems m) ph (seen p.mems ts)) ≡ true) × (total (phase_all (mem_of p.mems m) ph (seen p.mems ts)) ≤ most_reservations p.mems W m)
+      → (phases_ok (mem_of p.mems m) ph (seen p.mems ts) ≡ true) × (is_over (phase_all (mem_of p.mems m) ph (seen p.mems ts)) ≡ true)
+      × (total (phase_all (mem_of p.mems m) ph (seen p.mems ts)) ≤ most_reservations p.mems W m)
   writes_along m there plain vs us before ph [] h g each b i =
       (refl, ends_over p m there plain [] vs before ph each.0 i, subst (λ n. n ≤ most_reservations p.mems W m) i.count i.few)
   writes_along m there plain vs us before ph (t ∷ ts) h g each b i =

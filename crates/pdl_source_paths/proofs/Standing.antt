@@ -1,31 +1,20 @@
 -- Where a memory stands on a path: which of its locations are reserved for writing, written and released.
-use Rattle.std.proofs.Common.{◌≡◌, refl, sym, ap, ◌∙◌, subst, ℕ, ◌<◌, ◌≤◌, Bool, true, false, ◌&&◌, ◌||◌, not, List, [], ◌∷◌, ◌++◌, length, cond, if◌then◌else◌, ◌==◌, ◌+◌, ◌⊎◌, inl, inr, ⊎_elim, bytes_eq, count_by, Option, Some, None, ap₂, arith, eq-eqb, le-leb, append-nil}
-use Rattle.std.proofs.lemmas.Bool.{false≢true, and_parts, and_from, or_left, or_right, or_cases, eqb-true, eqb-false, ne_eqb, leb-false, not-false, not-true, both_ways, false_from_ne_true}
+use Rattle.std.proofs.Common.{◌≡◌, refl, sym, ap, ◌∙◌, subst, ℕ, ◌<◌, ◌≤◌, Bool, true, false, ◌&&◌, ◌||◌, not, List, [], ◌∷◌, ◌++◌, length, cond, ◌==◌, ◌+◌, ◌⊎◌, inl, inr, ⊎_elim, bytes_eq, count_by, Some, arith, eq-eqb}
+use Rattle.std.proofs.lemmas.Bool.{false≢true, and_parts, and_from, or_left, or_right, or_cases, eqb-true, eqb-false, not-true, both_ways, false_from_ne_true}
 use Rattle.std.proofs.lemmas.List.Folds.{list_any-append}
 use Rattle.std.specs.List.{list_any}
-use mathlib.Core.Path.{fun_ext}
-use Rattle.pdl_semantics.specs.Tree.{Span, Location, R, W, Expr, Variable, Stmt, Separator, CombRead, Bind, SpecCall, DelayedRead, Write, Reserve, Block, Release, If, Call, Verify, SpecCheck, SpecBarrier, Param, Mem, Pipe, Update}
-use Rattle.pdl_semantics.specs.Flat
-use Rattle.pdl_semantics.specs.Flatten.{Var, var_of, mem_of, flat_expr, is_advisory_mem, is_advised, write_op}
-use Rattle.pdl_source_stages.proofs.SiteFacts.{either_read, either_bind, either_write}
-use Rattle.pdl_rules.specs.Places.{Place, Parameter, Memory, Statement, End, StartClause, Branch}
-use Rattle.pdl_rules.specs.Parts.{location_of}
-use Rattle.pdl_rules.specs.Locks.{same_location, Hold, Nothing, Reserved, Blocked, Released, after_block, after_place, hold_after, is_held_for, is_unreleased, is_reserve_of, is_write_of, reserves_location, writes_location, leaves_open, most_reservations, lock_size, first_reserved, is_out_of_turn}
-use Rattle.pdl_rules.specs.Typed.{is_named, is_memory}
-use Rattle.pdl_rules.proofs.EachPlace.{Each, closing}
+use Rattle.pdl_semantics.specs.Tree.{Location, W, Write, Pipe}
+use Rattle.pdl_semantics.specs.Flatten.{Var, var_of}
+use Rattle.pdl_rules.specs.Places.{Place, Statement}
+use Rattle.pdl_rules.specs.Locks.{same_location, Hold, Blocked, after_place, hold_after, is_held_for, is_reserve_of, is_write_of, writes_location, most_reservations, first_reserved}
+use Rattle.pdl_rules.specs.Typed.{is_named}
 use Rattle.pdl_rules.proofs.FirstReserves.{first_stays}
-use Rattle.pdl_rules.proofs.SingleWrites.{KeepsLocks, AreBacked, any_weaker, any_front, any_last, location_refl, location_sym, held_alike, writes_alike, reserves_alike, reserves_to_write, reserves_some, reserves_mem, held_if_blocked, reserved_if_blocked, written_reserved, blocked_here, weight, count_push, count_cons, count_none, written_once}
-use Rattle.pdl_theory_derived.specs.Alone.{answered_op, is_nil, is_among, is_oldest, drop_var, but_last}
-use Rattle.pdl_theory_facts.specs.Scans.{Phase, Fresh, after_write, after_reserve, after_release, may_read, may_write, is_new, next_phase, phase_ok, phases_ok, phase_all, is_over}
-use Rattle.pdl_theory_facts.proofs.Apart.{Apart, apart_fresh, apart_reserve, apart_write, apart_release, oldest_once, front_among, total, oldest_length, drop_length, oldest_among}
-use Rattle.pdl_source_paths.proofs.Numbers.{var_low, var_same, var_stays, mem_is}
-use Rattle.pdl_source_paths.proofs.PathStatements
-use Rattle.pdl_source_paths.proofs.PathStatements.{ops_of, seen_ops}
-use Rattle.pdl_source_paths.proofs.Variables.{IsNamed}
-use Rattle.pdl_source_paths.proofs.Growth
-use Rattle.pdl_source_paths.proofs.Growth.{vars_past, Grown}
+use Rattle.pdl_rules.proofs.SingleWrites.{any_weaker, any_front, reserves_to_write, reserves_mem, weight, count_push}
+use Rattle.pdl_theory_derived.specs.Alone.{is_nil, is_among, is_oldest, drop_var, but_last}
+use Rattle.pdl_theory_facts.specs.Scans.{Phase, may_read}
+use Rattle.pdl_theory_facts.proofs.Apart.{Apart, front_among, total}
+use Rattle.pdl_source_paths.proofs.Numbers.{var_low, var_stays}
 use Rattle.pdl_source_paths.proofs.ReadsKept.{held_more}
-use Rattle.pdl_word.proofs.Bytes.{bytes_same, bytes_refl}
 use Rattle.pdl_source_paths.proofs.Calls.{none_more}
 
 -- WHERE A MEMORY STANDS
@@ -263,7 +252,8 @@ pub held_low : (p : Pipe) (vs : List Var) (before : List Place) (m : List ℕ) (
 held_low p vs before m ph s =
     ap not
     (false_from_ne_true _ (λ t.
-    let o = (s.unset (length vs) t).place in let i : var_of vs o.at.address.name < length vs = var_low vs o.at.address.name o.named in let j = o.number in absurd (omega arith)))
+    let o = (s.unset (length vs) t).place in let i : var_of vs o.at.address.name < length vs = var_low vs o.at.address.name o.named in let j =
+    o.number in absurd (omega arith)))
 
 -- a location of another memory is another location
 pub other_mem : (at l : Location) (m : List ℕ) → bytes_eq at.mem.name m ≡ false → l.mem.name ≡ m → same_location at l ≡ false

@@ -1,24 +1,24 @@
 -- On each path of a source that breaks no rule, each memory is reserved for writing, written and released once, in this order, or not at all.
-use Rattle.std.proofs.Common.{◌≡◌, refl, sym, ap, ◌∙◌, subst, ℕ, ◌<◌, ◌≤◌, Bool, true, false, ◌&&◌, ◌||◌, not, List, [], ◌∷◌, ◌++◌, length, cond, if◌then◌else◌, ◌==◌, ◌+◌, ◌⊎◌, inl, inr, ⊎_elim, bytes_eq, count_by, Option, Some, None, ap₂, arith, eq-eqb, le-leb, append-nil}
-use Rattle.std.proofs.lemmas.Bool.{false≢true, and_parts, and_from, or_left, or_right, or_cases, eqb-true, eqb-false, ne_eqb, leb-false, not-false, not-true, both_ways, false_from_ne_true}
+use Rattle.std.proofs.Common.{◌≡◌, refl, sym, ap, ◌∙◌, subst, ℕ, ◌<◌, ◌≤◌, Bool, true, false, ◌&&◌, ◌||◌, not, List, [], ◌∷◌, ◌++◌, length, cond, if◌then◌else◌, ◌==◌, ◌+◌, ◌⊎◌, inl, inr, ⊎_elim, bytes_eq, count_by, Option, Some, ap₂, arith, eq-eqb, append-nil}
+use Rattle.std.proofs.lemmas.Bool.{false≢true, and_parts, and_from, or_left, or_right, or_cases, eqb-true, ne_eqb, leb-false, not-false, not-true, both_ways, false_from_ne_true}
 use Rattle.std.proofs.lemmas.List.Folds.{list_any-append}
 use Rattle.std.specs.List.{list_any}
 use mathlib.Core.Path.{fun_ext}
 use Rattle.pdl_semantics.specs.Tree.{Span, Location, R, W, Expr, Variable, Stmt, Separator, CombRead, Bind, SpecCall, DelayedRead, Write, Reserve, Block, Release, If, Call, Verify, SpecCheck, SpecBarrier, Param, Mem, Pipe, Update}
 use Rattle.pdl_semantics.specs.Flat
 use Rattle.pdl_semantics.specs.Flatten.{Var, var_of, mem_of, flat_expr, is_advisory_mem, is_advised, write_op}
-use Rattle.pdl_source_stages.proofs.SiteFacts.{either_read, either_bind, either_write}
+use Rattle.pdl_source_stages.proofs.SiteFacts.{either_read, either_bind}
 use Rattle.pdl_rules.specs.Places.{Place, Parameter, Memory, Statement, End, StartClause, Branch}
 use Rattle.pdl_rules.specs.Parts.{location_of}
 use Rattle.pdl_rules.specs.Locks.{same_location, Hold, Nothing, Reserved, Blocked, Released, after_block, after_place, hold_after, is_held_for, is_unreleased, is_reserve_of, is_write_of, reserves_location, writes_location, leaves_open, most_reservations, lock_size, first_reserved, is_out_of_turn}
 use Rattle.pdl_rules.specs.Typed.{is_named, is_memory}
 use Rattle.pdl_rules.proofs.EachPlace.{Each, closing}
 use Rattle.pdl_rules.proofs.FirstReserves.{first_stays}
-use Rattle.pdl_rules.proofs.SingleWrites.{KeepsLocks, AreBacked, any_weaker, any_front, any_last, location_refl, location_sym, held_alike, writes_alike, reserves_alike, reserves_to_write, reserves_some, reserves_mem, held_if_blocked, reserved_if_blocked, written_reserved, blocked_here, weight, count_push, count_cons, count_none, written_once}
+use Rattle.pdl_rules.proofs.SingleWrites.{KeepsLocks, AreBacked, any_weaker, any_front, any_last, location_refl, location_sym, held_alike, writes_alike, reserves_alike, reserves_to_write, reserves_some, reserved_if_blocked, written_reserved, blocked_here, weight, count_push, count_cons, count_none, written_once}
 use Rattle.pdl_theory_derived.specs.Alone.{answered_op, is_nil, is_among, is_oldest, drop_var, but_last}
 use Rattle.pdl_theory_facts.specs.Scans.{Phase, Fresh, after_write, after_reserve, after_release, may_read, may_write, is_new, next_phase, phase_ok, phases_ok, phase_all, is_over}
-use Rattle.pdl_theory_facts.proofs.Apart.{Apart, apart_fresh, apart_reserve, apart_write, apart_release, oldest_once, front_among, total, oldest_length, drop_length, oldest_among}
-use Rattle.pdl_source_paths.proofs.Numbers.{var_low, var_same, var_stays, mem_is}
+use Rattle.pdl_theory_facts.proofs.Apart.{Apart, apart_fresh, apart_reserve, apart_write, apart_release, oldest_once, front_among, total, oldest_length, drop_length}
+use Rattle.pdl_source_paths.proofs.Numbers.{var_same, var_stays, mem_is}
 use Rattle.pdl_source_paths.proofs.PathStatements
 use Rattle.pdl_source_paths.proofs.PathStatements.{ops_of, seen_ops}
 use Rattle.pdl_source_paths.proofs.Variables.{IsNamed}
@@ -31,7 +31,8 @@ use Rattle.pdl_source_paths.proofs.Standing.{Open, IsUnset, IsSet, IsFirst, is_i
 
 -- A STATEMENT ON m, AND THE OTHERS
 
-module _ (p : Pipe) (vs : List Var) (before : List Place) (m : List ℕ) (there : is_memory p.mems m ≡ true) (plain : is_advisory_mem p.mems m ≡ false) (bs : List Branch) where
+module _ (p : Pipe) (vs : List Var) (before : List Place) (m : List ℕ) (there : is_memory p.mems m ≡ true)
+    (plain : is_advisory_mem p.mems m ≡ false) (bs : List Branch) where
   -- two locations of one number are one
   same_place : (at : Location) (y : ℕ) (o : Open vs before m y)
       → at.mem.name ≡ m → is_named vs at.address.name ≡ true → y ≡ var_of vs at.address.name → same_location at o.at ≡ true
@@ -48,7 +49,8 @@ module _ (p : Pipe) (vs : List Var) (before : List Place) (m : List ℕ) (there 
   reserve_step : (sp : Span) (at : Location) (ph : Phase) → IsNamed p.mems vs at
       → AreBacked p before → KeepsLocks p before (Statement (Reserve sp at W) bs) → Stands p vs before m ph → (b : Bool)
       → bytes_eq at.mem.name m ≡ b
-      → ((not b || is_new ph (var_of vs at.address.name)) ≡ true) × Stands p vs (before ++ Statement (Reserve sp at W) bs ∷ []) m (cond b (after_reserve ph (var_of vs at.address.name)) ph)
+      → ((not b || is_new ph (var_of vs at.address.name)) ≡ true) × Stands p vs (before ++ Statement (Reserve sp at W) bs ∷ []) m
+      (cond b (after_reserve ph (var_of vs at.address.name)) ph)
   reserve_step sp at ph n backed keeps s false e = (
     refl,
     subst (λ us. Stands p us (before ++ Statement (Reserve sp at W) bs ∷ []) m ph) (append-nil vs)

@@ -1,11 +1,9 @@
 -- Where a stage stands in the graph of a shape: what its fork is, in each branch around it, and where it leads.
-use Rattle.std.proofs.Common.{◌≡◌, refl, sym, ap, ap₂, ◌∙◌, subst, ℕ, zero, suc, ◌+◌, ◌≤◌, ◌<◌, ◌⊎◌, inl, inr, Bool, true, false, List, [], ◌∷◌, ◌++◌, length, append_assoc, length-append, Option, Some, None, unwrap_or, arith, cond, slice_index_or, le_refl}
-use Rattle.std.proofs.Math.Seq.{get_or-append_seam}
-use Rattle.std.proofs.lemmas.List.{get_or_past}
+use Rattle.std.proofs.Common.{◌≡◌, refl, sym, ap, ap₂, ◌∙◌, subst, ℕ, zero, suc, ◌+◌, ◌≤◌, ◌<◌, ◌⊎◌, inl, inr, Bool, true, false, List, [], ◌∷◌, ◌++◌, length, append_assoc, Option, Some, None, unwrap_or, arith, cond, le_refl}
 use Rattle.std.proofs.lemmas.Bool.{cases_lt}
 use Rattle.pdl_semantics.specs.Flat
 use Rattle.pdl_semantics.specs.Flatten.{entry, side}
-use Rattle.pdl_semantics.specs.Stages.{last_stage, stage_at}
+use Rattle.pdl_semantics.specs.Stages.{stage_at}
 use Rattle.pdl_theory_facts.specs.Graphs.{Home, Within, Trunk}
 use Rattle.pdl_theory_facts.proofs.Nested.{within_home}
 use Rattle.pdl_source_stages.proofs.Shapes.{Shape, Last, Cut, Fork, Side, Straight, Runs, size, long, stage, merge_at, side_leads, leads_on, after, side_after}

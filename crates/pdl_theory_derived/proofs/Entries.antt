@@ -319,7 +319,8 @@ released_full m a (f ∷ fs) h = at (f.var == a) refl (λ k. released_full m a f
 
 -- locations without a value stay
 pub released_behind : (m a : ℕ) (os : List Open) (es : List Entry) → is_among a (open_vars os) ≡ false
-    → (without (waiting m os ++ es) m a ≡ waiting m os ++ without es m a) × (released_commits (waiting m os ++ es) m a ≡ released_commits es m a) × (has_entry (waiting m os ++ es) m a ≡ has_entry es m a)
+    → (without (waiting m os ++ es) m a ≡ waiting m os ++ without es m a) × (released_commits (waiting m os ++ es) m a ≡ released_commits es m a)
+    × (has_entry (waiting m os ++ es) m a ≡ has_entry es m a)
 released_behind m a [] es h = (refl, refl, refl)
 released_behind m a (o ∷ os) es h = at (o.var == a) refl (λ k. released_behind m a os es k)
   where
@@ -331,7 +332,8 @@ released_behind m a (o ∷ os) es h = at (o.var == a) refl (λ k. released_behin
     off false = refl
 
     at : (b : Bool) → (o.var == a) ≡ b
-        → (is_among a (open_vars os) ≡ false → (without (waiting m os ++ es) m a ≡ waiting m os ++ without es m a) × (released_commits (waiting m os ++ es) m a ≡ released_commits es m a) × (has_entry (waiting m os ++ es) m a ≡ has_entry es m a))
+        → (is_among a (open_vars os) ≡ false → (without (waiting m os ++ es) m a ≡ waiting m os ++ without es m a)
+        × (released_commits (waiting m os ++ es) m a ≡ released_commits es m a) × (has_entry (waiting m os ++ es) m a ≡ has_entry es m a))
         → (cond ((m == m) && (o.var == a)) (moved_up e (waiting m os ++ es)) (e ∷ without (waiting m os ++ es) m a) ≡ e ∷ waiting m os ++ without es m a)
         ×
         (cond ((m == m) && (o.var == a))

@@ -7,7 +7,6 @@ use Rattle.pdl_theory_derived.proofs.Writes.{and_left, and_right}
 use Rattle.pdl_theory_facts.specs.Graphs.{Home, Within}
 use Rattle.pdl_theory_facts.specs.SoundChecks.{same_branch, same_branches, is_home, has_outer, is_within, all_outer}
 use Rattle.pdl_theory_progress.proofs.TestedPaths.{or_more}
-use Rattle.pdl_word.proofs.Bools.{by_or}
 
 same_is : (b c : Branch) → same_branch b c ≡ true → b ≡ c
 same_is b c h =
