@@ -146,11 +146,11 @@ fn address_asked(m: usize, stages: &[Stage]) -> Option<u64>
 fn show_request(mem: &FlatMem, address: Option<u64>, shown: &mut Vec<u64>)
     requires room { vec_len shown.old + 2 ≤ vec_capacity shown.old }
     ensures shown { shown.new.items
-        ≡ shown.old.items ++ (if mem.now.delayed then request_values address else []) }
+        ≡ shown.old.items ++ (if is_delayed (kind_view mem.now.kind) then request_values address else []) }
     ensures count { vec_len shown.new ≤ vec_len shown.old + 2 }
     ensures capacity { vec_capacity shown.new ≡ vec_capacity shown.old }
 {
-    if mem.delayed {
+    if mem.kind.is_delayed() {
         shown.push_reserved(u64::from(address.is_some()));
         shown.push_reserved(address.unwrap_or(0));
     }

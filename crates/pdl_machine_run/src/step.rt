@@ -3,7 +3,7 @@ ghost use Rattle.std.specs.Prelude.{◌≡◌, ◌≤◌, ◌<◌, ◌+◌, ◌*
 ghost use Rattle.pdl_semantics.specs.Cycle as stated;
 ghost use Rattle.pdl_machine_facts.specs.Ports.{commit_values, shown_values};
 ghost use Rattle.pdl_machine_pending.specs.View.{entry_view};
-ghost use Rattle.pdl_machine_pending.specs.Memory.{all_committed_to, AreWithin};
+ghost use Rattle.pdl_machine_pending.specs.Memory.{oldest, all_committed_to, AreWithin};
 ghost use Rattle.pdl_machine_run.specs.Acts.{mover_of, act_of, acts_of, out_of, left_of, memory_after, memories_after, commits_shown, entries_of, taken_view};
 ghost use Rattle.pdl_machine_run.specs.Ready.{CanStep, AllCanStep};
 
@@ -107,11 +107,34 @@ fn releases(m: usize, stages: &[Stage]) -> usize
     count
 }
 
-// The pending writes of a memory that are released in a cycle: none, one, or two of which the first is older.
+// The pending writes of a memory that are released in a cycle, the older one first.
 #[derive(Clone, Copy)]
-struct Taken {
-    first: Option<Pending>,
-    second: Option<Pending>,
+enum Taken {
+    Nothing,
+    One(Pending),
+    Two(Pending, Pending),
+}
+
+impl Taken {
+    // The older one, if there is one.
+    fn first(self) -> Option<Pending>
+        ensures { entry_view result ≡ oldest (taken_view self) }
+    {
+        match self {
+            Taken::Nothing => None,
+            Taken::One(entry) | Taken::Two(entry, _) => Some(entry),
+        }
+    }
+
+    // The younger one, if there are two.
+    fn second(self) -> Option<Pending>
+        ensures { entry_view result ≡ oldest (drop 1 (taken_view self)) }
+    {
+        match self {
+            Taken::Nothing | Taken::One(_) => None,
+            Taken::Two(_, entry) => Some(entry),
+        }
+    }
 }
 
 // So many of the oldest pending writes of a memory are released, at most two.
@@ -124,9 +147,16 @@ fn take_out(memory: &mut Memory, count: usize) -> Taken
     } }
     ensures result { taken_view result ≡ take count memory.old.pending }
 {
-    let first = if count > 0 { memory.release() } else { None };
+    if count == 0 {
+        return Taken::Nothing;
+    }
+    let first = memory.release();
     let second = if count > 1 { memory.release() } else { None };
-    Taken { first, second }
+    match (first, second) {
+        (None, _) => Taken::Nothing,
+        (Some(first), None) => Taken::One(first),
+        (Some(first), Some(second)) => Taken::Two(first, second),
+    }
 }
 
 // The pending writes that the threads that move release of memory m, after their reservations and writes.
@@ -191,9 +221,9 @@ fn show_commits(memory: &Memory, twice: bool, taken: Taken, shown: &mut Vec<u64>
     ensures capacity { vec_capacity shown.new ≡ vec_capacity shown.old }
 {
     if memory.is_locked() {
-        show_one(taken.first, shown);
+        show_one(taken.first(), shown);
         if twice {
-            show_one(taken.second, shown);
+            show_one(taken.second(), shown);
         }
     }
 }
