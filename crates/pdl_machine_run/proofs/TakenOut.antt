@@ -4,6 +4,8 @@ use Rattle.std.specs.Prelude.{IfSome}
 use Rattle.std.proofs.lemmas.List.{length-set}
 use Rattle.pdl_semantics.specs.Locks.{commit_value}
 use Rattle.pdl_semantics.specs.Machine.{Pending}
+use Rattle.pdl_semantics.specs.Cycle.{port_writes}
+use Rattle.pdl_machine_facts.specs.Ports.{shown_values, second_values}
 use Rattle.pdl_machine_pending.specs.Memory.{oldest, committed_to, all_committed_to, AreWithin}
 use Rattle.pdl_machine_run.specs.Acts.{entries_of}
 
@@ -41,3 +43,16 @@ pub two_out : (es : List Pending) → entries_of (oldest es) ++ entries_of (olde
 two_out [] = refl
 two_out (e ∷ []) = refl
 two_out (e ∷ f ∷ es) = refl
+
+-- WHAT IS SHOWN
+
+-- the first of them is shown first
+pub first_shown : (es : List Pending) → shown_values (port_writes es) ≡ shown_values (port_writes (entries_of (oldest es)))
+first_shown [] = refl
+first_shown (e ∷ es) = refl
+
+-- the second one after it
+pub second_shown : (es : List Pending) → second_values (port_writes es) ≡ shown_values (port_writes (entries_of (oldest (drop 1 es))))
+second_shown [] = refl
+second_shown (e ∷ []) = refl
+second_shown (e ∷ f ∷ es) = refl

@@ -8,6 +8,7 @@ ghost use Rattle.pdl_form.specs.FormView.{form};
 ghost use Rattle.pdl_machine_run.specs.View.{thread_in, seats, request_view, order_views};
 ghost use Rattle.pdl_machine_run.specs.Outside.{state_of};
 ghost use Rattle.pdl_machine_run.specs.Acts.{acts_of, all_of, memories_after, commits_shown};
+ghost use Rattle.pdl_machine_run.specs.Advice.{after_all_writes};
 ghost use Rattle.pdl_machine_run.specs.Orders.{orders_after, order_after};
 ghost use Rattle.pdl_machine_run.specs.Requests.{requests_after, requests_shown};
 ghost use Rattle.pdl_machine_facts.specs.Ports.{whole_values};
@@ -16,6 +17,7 @@ ghost use Rattle.pdl_machine_run.specs.Running.{IsRunnable, IsReached, IsBeside,
 ghost use Rattle.pdl_machine_run.specs.declared.stage.Stage as r_stage;
 ghost use Rattle.pdl_machine_run.specs.declared.beside.Order as r_order;
 
+use crate::advice::make_all_writes;
 use crate::beside::Beside;
 use crate::carry::carry_out_all;
 use crate::decide::decide;
@@ -47,7 +49,8 @@ fn step_beside(
     requires room { vec_len shown.old + 8 * length beside.old.memories.items
         ≤ vec_capacity shown.old }
     ensures memories { beside.new.memories.items
-        ≡ memories_after 0 (acts_of 0 stages.now) squasher beside.old.memories.items }
+        ≡ after_all_writes (acts_of 0 stages.now)
+        (memories_after 0 (acts_of 0 stages.now) squasher beside.old.memories.items) }
     ensures orders { order_views beside.new.orders.items
         ≡ orders_after (form pipe.now).pipe (acts_of 0 stages.now) 0
         (order_views beside.old.orders.items) }
@@ -69,6 +72,7 @@ fn step_beside(
         squasher,
         shown,
     );
+    make_all_writes(beside.memories.as_mut_slice(), stages);
     show_requests(pipe.mems(), stages, shown);
     step_orders(
         pipe,

@@ -109,6 +109,7 @@ pub fn set_variable(values: &mut [u64], x: usize, word: u64)
 fn copy_kept(from: &[KeptWord], to: &mut Vec<KeptWord>)
     requires { length from.now ≤ vec_capacity to.old }
     ensures items { to.new.items ≡ from.now }
+    ensures count { vec_len to.new ≡ length from.now }
     ensures capacity { vec_capacity to.new ≡ vec_capacity to.old }
 {
     to.clear();
@@ -139,7 +140,7 @@ fn hold_after(op: &Op, held: &mut Vec<LocationNumbers>)
         Op::Release { m, a } => let_go(held, *m, *a),
         Op::Bind { .. } | Op::CombRead { .. } | Op::DelayedRead { .. } | Op::Write { .. } => {}
         Op::ReserveRead { .. } | Op::Block { .. } | Op::SpecCheck | Op::SpecBarrier => {}
-        Op::Call(_) | Op::SpecCall(_) | Op::Verify(_) => {}
+        Op::Call(_) | Op::SpecCall(_) | Op::Verify { .. } => {}
         Op::AdviceBind { .. } | Op::AdviceRead { .. } | Op::AdviceWrite { .. } => {}
     }
 }

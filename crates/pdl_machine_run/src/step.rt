@@ -138,6 +138,7 @@ impl Taken {
 }
 
 // So many of the oldest pending writes of a memory are released, at most two.
+#[tactic(auto, using(crate::proofs::TakenOut::oldest_in, crate::proofs::TakenOut::rest_in))]
 fn take_out(memory: &mut Memory, count: usize) -> Taken
     requires few { count ≤ 2 }
     requires within { AreWithin (length memory.old.words) memory.old.pending }
@@ -214,10 +215,12 @@ fn show_one(entry: Option<Pending>, shown: &mut Vec<u64>)
 }
 
 // Shows the commits of a memory with a lock, of the second one where the memory is reserved twice.
+#[tactic(auto, using(crate::proofs::TakenOut::first_shown, crate::proofs::TakenOut::second_shown))]
 fn show_commits(memory: &Memory, twice: bool, taken: Taken, shown: &mut Vec<u64>)
     requires room { vec_len shown.old + 6 ≤ vec_capacity shown.old }
     ensures shown { shown.new.items ≡ shown.old.items
         ++ commit_values memory.now.lock twice (stated.port_writes (taken_view taken)) }
+    ensures more { vec_len shown.new ≤ vec_len shown.old + 6 }
     ensures capacity { vec_capacity shown.new ≡ vec_capacity shown.old }
 {
     if memory.is_locked() {

@@ -199,7 +199,7 @@ fn same_args(these: &[u64], those: &[u64]) -> bool
     true
 }
 
-// A guess is verified: where it was wrong, a thread is called with the right arguments, and they are kept as the guess.
+// A guess is verified, or updated: where it was wrong, a thread is called with the right arguments, and they are kept as the guess.
 fn verify(args: &[FlatExpr], deeds: &mut Deeds)
     requires safe { AreSafe (exprs_view args.now) (deeds_view deeds.old).env }
     requires room { length args.now ≤ vec_capacity deeds.old.verified }
@@ -241,7 +241,7 @@ fn act(memories: &[Memory], thread: u64, op: &Op, deeds: &mut Deeds)
         Op::Release { m, a } => release(*m, *a, deeds),
         Op::Call(args) => call(args.as_slice(), deeds),
         Op::SpecCall(args) => guess(args.as_slice(), deeds),
-        Op::Verify(args) => verify(args.as_slice(), deeds),
+        Op::Verify { last: _, args } => verify(args.as_slice(), deeds),
         Op::SpecBarrier => deeds.barrier = true,
         Op::AdviceBind { x, e } => bind_advice(*x, e, deeds),
         Op::AdviceRead { x, m, a } => read_advice(memories, thread, *x, *m, *a, deeds),

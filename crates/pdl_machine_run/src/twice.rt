@@ -66,7 +66,9 @@ fn is_write_reserve(m: usize, op: &Op) -> bool
         Op::ReserveWrite { m: n, a: _ } => *n == m,
         Op::Bind { .. } | Op::CombRead { .. } | Op::DelayedRead { .. } | Op::Write { .. } => false,
         Op::ReserveRead { .. } | Op::Block { .. } | Op::Release { .. } => false,
-        Op::Call(_) | Op::SpecCall(_) | Op::Verify(_) | Op::SpecCheck | Op::SpecBarrier => false,
+        Op::Call(_) | Op::SpecCall(_) | Op::Verify { .. } | Op::SpecCheck => false,
+        Op::SpecBarrier | Op::AdviceBind { .. } | Op::AdviceRead { .. } => false,
+        Op::AdviceWrite { .. } => false,
     }
 }
 

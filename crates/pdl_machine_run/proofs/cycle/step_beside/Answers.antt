@@ -34,5 +34,5 @@ returns-clause-long c n h =
     let os = c.args.beside.now.orders in
     let new = c.step_orders.new.orders in
     let written : (with_items os new).items ≡ new =
-    items_written os new (c.step_orders.auto.orders ∙ ap (λ (xs : List r_order.Order). length xs) c.as_mut_slice-2.ensures.value) in
-    subst (AreOrders n) (sym written) (c.step_orders.ensures.long n (subst (AreOrders n) (sym c.as_mut_slice-2.ensures.value) h))
+    items_written os new (c.step_orders.auto.orders ∙ ap (λ (xs : List r_order.Order). length xs) c.as_mut_slice-3.ensures.value) in
+    subst (AreOrders n) (sym written) (c.step_orders.ensures.long n (subst (AreOrders n) (sym c.as_mut_slice-3.ensures.value) h))
