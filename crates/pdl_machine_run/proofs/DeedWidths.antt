@@ -105,15 +105,15 @@ module _ (f : Form) (wide : AreWidths f.widths) (xs : List Memory) (ms : AreMemo
       → AreFit f (if b then d else record d { child = Some args; guess = args; fails = true })
   fit_verify true args d h few k = k
   fit_verify false args d h few k = record {
-        env = k.env;
-        advice = k.advice;
-        guess = few;
-        reserves = k.reserves;
-        writes = k.writes;
-        asks = k.asks;
-        advises = k.advises;
-        child = h;
-      }
+    env = k.env;
+    advice = k.advice;
+    guess = few;
+    reserves = k.reserves;
+    writes = k.writes;
+    asks = k.asks;
+    advises = k.advises;
+    child = h;
+  }
 
   -- the deeds after a typed statement have their widths, where those before it have
   pub fit_does : (thread : ℕ) (op : Op) (d : Deeds) → IsTypedOp f op → AreFit f d → AreFit f (deeds_after (word_of xs thread) op d)
@@ -182,8 +182,10 @@ module _ (f : Form) (wide : AreWidths f.widths) (xs : List Memory) (ms : AreMemo
         advises = k.advises;
         child = k.child;
       }
-  fit_does thread (Block m a) d t k = record { env = k.env; advice = k.advice; guess = k.guess; reserves = k.reserves; writes = k.writes; asks = k.asks; advises = k.advises; child = k.child }
-  fit_does thread (Release m a) d t k = record { env = k.env; advice = k.advice; guess = k.guess; reserves = k.reserves; writes = k.writes; asks = k.asks; advises = k.advises; child = k.child }
+  fit_does thread (Block m a) d t k =
+      record { env = k.env; advice = k.advice; guess = k.guess; reserves = k.reserves; writes = k.writes; asks = k.asks; advises = k.advises; child = k.child }
+  fit_does thread (Release m a) d t k =
+      record { env = k.env; advice = k.advice; guess = k.guess; reserves = k.reserves; writes = k.writes; asks = k.asks; advises = k.advises; child = k.child }
   fit_does thread (Call args) d t k =
       record {
         env = k.env;
@@ -210,7 +212,8 @@ module _ (f : Form) (wide : AreWidths f.widths) (xs : List Memory) (ms : AreMemo
       fit_verify (same_args (values_of args d.env) d.guess) (values_of args d.env) d (args_fit f.widths d.env wide k.env (param_widths f) args t)
       (few_values args d.env t) k
   fit_does thread SpecCheck d t k = k
-  fit_does thread SpecBarrier d t k = record { env = k.env; advice = k.advice; guess = k.guess; reserves = k.reserves; writes = k.writes; asks = k.asks; advises = k.advises; child = k.child }
+  fit_does thread SpecBarrier d t k =
+      record { env = k.env; advice = k.advice; guess = k.guess; reserves = k.reserves; writes = k.writes; asks = k.asks; advises = k.advises; child = k.child }
   fit_does thread (AdviceBind x e) d t k =
       record {
         env = k.env;
@@ -264,7 +267,8 @@ module _ (f : Form) (wide : AreWidths f.widths) (xs : List Memory) (ms : AreMemo
   whole_room d c n k h = let count = k.env.count in let room = h.whole in omega arith
 
   -- a typed statement can be carried out on values of their widths, where there is room for its arguments
-  pub safe_op : (op : Op) (d : Deeds) (c : Capacities) (n : ℕ) → IsTypedOp f op → AreFit f d → IsLarge n (length f.pipe.start) (length f.widths) c → IsSafeOp c op d
+  pub safe_op : (op : Op) (d : Deeds) (c : Capacities) (n : ℕ)
+      → IsTypedOp f op → AreFit f d → IsLarge n (length f.pipe.start) (length f.widths) c → IsSafeOp c op d
   safe_op (Bind x e) d c n t k h = safe f.widths d.env wide k.env e t.1
   safe_op (CombRead x m a) d c n t k h = tt
   safe_op (DelayedRead x m a) d c n t k h = tt

@@ -278,7 +278,9 @@ module _ (f : Form) (b : r_beside.Beside) (bits : List Bool) (next : ℕ) (ys zs
 
         locks_next : map (λ (x : Memory). x.pending) c.memories.items ≡ for_mems (λ m. entries_left (squasher ms) (list_three st ms m)) 0 p.mems
         locks_next =
-            ap (λ (ns : List Memory). map (λ (x : Memory). x.pending) ns) memories ∙ pending_kept ms (memories_after 0 ms sq xs) ∙ sym (locks_after st ms sq 0 p.mems xs mems locked)
+            ap (λ (ns : List Memory). map (λ (x : Memory). x.pending) ns) memories
+            ∙ pending_kept ms (memories_after 0 ms sq xs)
+            ∙ sym (locks_after st ms sq 0 p.mems xs mems locked)
             ∙ ap (λ (s : Option ℕ). for_mems (λ m. entries_left s (list_three st ms m)) 0 p.mems) squashed
 
         forks_next : order_views c.orders.items ≡ for_stages (λ i. branches_left p (squash_stage ms) i (fork_next p st ms i)) 0 p.stages
@@ -331,7 +333,8 @@ module _ (f : Form) (b : r_beside.Beside) (bits : List Bool) (next : ℕ) (ys zs
 
   -- what is shown of stages, commits, requests, the end and the squash are the stated ports
   pub next_ports : (sq : Option ℕ) → sq ≡ squasher ms
-      → stage_values (are_held zs) (are_moving zs) ++ (commits_shown b.twice.items 0 ms xs ++ (requests_shown 0 ms p.mems ++ bit (one_ends p ms) ∷ bit (is_some sq) ∷ []))
+      → stage_values (are_held zs) (are_moving zs)
+      ++ (commits_shown b.twice.items 0 ms xs ++ (requests_shown 0 ms p.mems ++ bit (one_ends p ms) ∷ bit (is_some sq) ∷ []))
       ≡ whole_values p (stated.ports p st (all_acts p st bits))
   next_ports sq squashed =
       ap₂

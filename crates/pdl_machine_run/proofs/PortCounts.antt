@@ -40,7 +40,8 @@ request_counted true None = refl
 request_counted true (Some a) = refl
 
 memories_counted : (xs : List Stmt) (f : ℕ → List PortWrite) (g : ℕ → Option ℕ) (k : ℕ) (ms : List Mem)
-    → length (all_commit_values (all_twice xs k ms) ms (for_mems f k ms)) + length (all_request_values ms (for_mems g k ms)) ≡ all_memory_count (all_twice xs k ms) ms
+    → length (all_commit_values (all_twice xs k ms) ms (for_mems f k ms)) + length (all_request_values ms (for_mems g k ms))
+    ≡ all_memory_count (all_twice xs k ms) ms
 memories_counted xs f g k [] = refl
 memories_counted xs f g k (m ∷ ms) =
     let rest = memories_counted xs f g (suc k) ms in

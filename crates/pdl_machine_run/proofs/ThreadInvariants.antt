@@ -58,7 +58,16 @@ module _ (f : Form) (vars : f.pipe.vars ≡ length f.widths) where
   -- a new thread with arguments of the parameters' widths is fine
   pub born_fine : (n : ℕ) (c : Option (List ℕ)) → IfSome c (λ args. Fit (param_widths f) args) → IfSome (born_thread f.pipe n c) (IsFine f 0)
   born_fine n None h = tt
-  born_fine n (Some args) h = record { env = start_fits args h; advice = tt; advised = omega arith; guess = omega arith; awaits = tt; kept = tt; few = omega arith }
+  born_fine n (Some args) h =
+      record {
+        env = start_fits args h;
+        advice = tt;
+        advised = omega arith;
+        guess = omega arith;
+        awaits = tt;
+        kept = tt;
+        few = omega arith;
+      }
 
   -- the arguments of a new thread, of the parameters' widths, are no more than there are variables
   pub args_room : (c : Option (List ℕ)) (n : ℕ) → length f.widths ≡ n → IfSome c (λ args. Fit (param_widths f) args) → IfSome c (λ args. length args ≤ n)

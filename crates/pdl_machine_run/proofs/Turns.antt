@@ -154,7 +154,8 @@ module _ (f : Form) (b : r_beside.Beside) (bits : List Bool) (next : ℕ) (ys zs
               (born_fine f t.run.typed.vars next (child_of ms) (child_fits f 0 zs turn_acted))));
         }
 
-    module _ (c : r_beside.Beside) (twice : c.twice.items ≡ b.twice.items) (memories : c.memories.items ≡ after_all_writes ms (memories_after 0 ms sq b.memories.items))
+    module _ (c : r_beside.Beside) (twice : c.twice.items ≡ b.twice.items)
+        (memories : c.memories.items ≡ after_all_writes ms (memories_after 0 ms sq b.memories.items))
         (orders : order_views c.orders.items ≡ orders_after p ms 0 (order_views b.orders.items))
         (requests : map request_view c.requests.items ≡ requests_after p bits ms sq 0 (map request_view b.requests.items)) where
       turn_roomy : AreRoomy p (memories_after 0 ms sq b.memories.items)

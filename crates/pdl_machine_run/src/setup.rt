@@ -211,15 +211,13 @@ fn memory_output(mem: &FlatMem, twice: bool) -> usize
 {
     let commits = match mem.lock {
         Lock::Plain => 0,
-        Lock::Queue(_) | Lock::Bypass(_) | Lock::Rename(_) => {
-            if twice {
-                6
-            } else {
-                3
-            }
-        }
+        Lock::Queue(_) | Lock::Bypass(_) | Lock::Rename(_) => { if twice { 6 } else { 3 } }
     };
-    if mem.kind.is_delayed() { commits + 2 } else { commits }
+    if mem.kind.is_delayed() {
+        commits + 2
+    } else {
+        commits
+    }
 }
 
 // How many outputs show memories, of each of which it is told whether a path reserves it twice.

@@ -100,6 +100,7 @@ fn reserves_twice(m: usize, stmts: &[FlatStmt]) -> bool
 }
 
 /// Of each memory of a pipe, whether some path reserves it twice to write.
+#[tactic(auto, using(crate::proofs::GuardLists::told_more))]
 pub fn all_twice(alloc: Global, pipe: &FlatPipe) -> Result<Vec<bool>, NoMemory>
     ensures { IfOk result (λ v. v.items
         ≡ writes.all_twice (form pipe.now).pipe.stmts 0 (form pipe.now).pipe.mems) }
