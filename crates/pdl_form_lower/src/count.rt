@@ -21,7 +21,10 @@ pub fn separators_in(s: &Stmt) -> usize
         Stmt::CombRead { .. } | Stmt::Bind { .. } | Stmt::SpecCall { .. } => 0,
         Stmt::DelayedRead { .. } | Stmt::Write { .. } | Stmt::Reserve { .. } => 0,
         Stmt::Block { .. } | Stmt::Release { .. } | Stmt::Call { .. } => 0,
-        Stmt::Verify { .. } | Stmt::SpecCheck { .. } | Stmt::SpecBarrier { .. } => 0,
+        Stmt::Verify { .. }
+        | Stmt::Update { .. }
+        | Stmt::SpecCheck { .. }
+        | Stmt::SpecBarrier { .. } => 0,
     }
 }
 
