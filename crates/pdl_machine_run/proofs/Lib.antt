@@ -1,5 +1,4 @@
 mod Places
-pub mod GuardLists
 pub mod TakenOut
 pub mod AdviceCounts
 pub mod MoverDeeds

@@ -20,7 +20,6 @@ mod shown;
 mod stage;
 mod step;
 mod stmts;
-mod twice;
 mod ways;
 mod words;
 
