@@ -3,8 +3,7 @@ use Rattle.std.proofs.Common.{◌≡◌, refl, sym, ap, ap₂, ◌∙◌, ℕ, B
 use Rattle.pdl_semantics.specs.Flat.{Lock, Pipe, list_all}
 use Rattle.pdl_semantics.specs.Stages.{mem_at}
 use Rattle.pdl_semantics.specs.Locks.{has_room}
-use Rattle.pdl_semantics.specs.Machine.{Pending, Reserved, Deeds, lock_of, reserves_of}
-use Rattle.pdl_semantics.specs.Moves.{have_room}
+use Rattle.pdl_semantics.specs.Machine.{Pending, Reserved, lock_of, reserves_of}
 use Rattle.pdl_machine_pending.specs.Memory.{Memory}
 use Rattle.pdl_machine_run.specs.declared.beside.Beside as r_beside
 use Rattle.pdl_machine_run.specs.Outside.{outside}
@@ -22,8 +21,8 @@ module _ (p : Pipe) (b : r_beside.Beside) (memories : AreMemories p b.memories.i
   each_roomy all [] = refl
   each_roomy all (r ∷ rs) = ap₂ (λ (c d : Bool). c && d) (one_roomy (reserves_of r.mem all) r.mem) (each_roomy all rs)
 
-  -- whether the memories have room for what a thread reserves
-  pub roomy_is : (xs : List Memory) (d : Deeds) → xs ≡ b.memories.items
-      → list_all (λ (r : Reserved). is_roomy xs (reserves_of r.mem d.reserves) r.mem) d.reserves ≡ have_room p (outside b) d
-  roomy_is xs d e =
-      ap (λ (ys : List Memory). list_all (λ (r : Reserved). is_roomy ys (reserves_of r.mem d.reserves) r.mem) d.reserves) e ∙ each_roomy d.reserves d.reserves
+  -- whether the memories have room for these reservations
+  pub roomy_is : (xs : List Memory) (rs : List Reserved) → xs ≡ b.memories.items
+      → list_all (λ (r : Reserved). is_roomy xs (reserves_of r.mem rs) r.mem) rs
+      ≡ list_all (λ (r : Reserved). has_room (mem_at p r.mem).lock (reserves_of r.mem rs) (length (lock_of (outside b) r.mem))) rs
+  roomy_is xs rs e = ap (λ (ys : List Memory). list_all (λ (r : Reserved). is_roomy ys (reserves_of r.mem rs) r.mem) rs) e ∙ each_roomy rs rs
