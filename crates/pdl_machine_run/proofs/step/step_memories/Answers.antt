@@ -1,5 +1,5 @@
-use Rattle.std.proofs.Common.{◌≡◌, ◌<◌, ◌∙◌, ap, refl, List, ℕ, [], length, arith}
-use Rattle.pdl_semantics.specs.Flat.{Lock}
+use Rattle.std.proofs.Common.{◌≡◌, ◌<◌, ◌∙◌, ap, refl, length, arith}
+use Rattle.std.proofs.lemmas.List.{length-set}
 use Rattle.pdl_machine_pending.specs.Memory.{Memory}
 use Rattle.pdl_machine_pending.proofs.Sweeps.{swept_left}
 use Rattle.pdl_machine_run.specs.Acts.{acts_of}
@@ -26,6 +26,6 @@ loop-m-preserved c =
       shown =
           shown_more now all m x less count c.index-memories-m.is invariant.left c.args.twice.now ms _ y.lock _ _ _ _ told refl lock
           c.step_memory-taken.ensures.result c.show_commits.ensures.shown invariant.shown;
-      room = omega arith;
+      room = omega (arith, length-set now m y);
       capacity = c.show_commits.ensures.capacity ∙ invariant.capacity;
     }
