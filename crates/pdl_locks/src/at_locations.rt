@@ -136,11 +136,8 @@ fn is_reserved_again(used: LocationUse, place: &Place<'_>) -> bool
         Action::Parameter(_) | Action::Memory(_) | Action::Separator | Action::Bind(_, _) => false,
         Action::CombRead(_, _) | Action::DelayedRead(_, _) | Action::Write(_, _) => false,
         Action::SpecCall(_, _) | Action::Block(_) | Action::Release(_) => false,
-        Action::If(_, _, _)
-        | Action::Call(_)
-        | Action::Verify(_, _)
-        | Action::Update(_, _)
-        | Action::SpecCheck => false,
+        Action::If(_, _, _) | Action::Call(_) | Action::Verify(_, _) => false,
+        Action::Update(_, _) | Action::SpecCheck => false,
         Action::SpecBarrier | Action::End | Action::StartClause(_) => false,
     }
 }
@@ -155,11 +152,8 @@ fn is_end(place: &Place<'_>) -> bool
         Action::Parameter(_) | Action::Memory(_) | Action::Separator | Action::Bind(_, _) => false,
         Action::CombRead(_, _) | Action::DelayedRead(_, _) | Action::Write(_, _) => false,
         Action::SpecCall(_, _) | Action::Block(_) | Action::Reserve(_, _) => false,
-        Action::Release(_)
-        | Action::If(_, _, _)
-        | Action::Call(_)
-        | Action::Verify(_, _)
-        | Action::Update(_, _) => false,
+        Action::Release(_) | Action::If(_, _, _) | Action::Call(_) | Action::Verify(_, _) => false,
+        Action::Update(_, _) => false,
         Action::SpecCheck | Action::SpecBarrier | Action::StartClause(_) => false,
     }
 }

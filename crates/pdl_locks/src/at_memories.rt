@@ -1,6 +1,7 @@
 // Rules on what is done with a memory: L3 and L4.
-ghost use Rattle.std.specs.Prelude.{◌≡◌, ◌||◌, List, filter, map};
+ghost use Rattle.std.specs.Prelude.{◌≡◌, not, ◌&&◌, ◌||◌, List, filter, map};
 ghost use Rattle.pdl_semantics.specs.Tree.{W};
+ghost use Rattle.pdl_semantics.specs.Flatten.{is_advisory_mem};
 ghost use Rattle.pdl_syntax_tree.specs.View.{mem_view, pipe_view};
 ghost use Rattle.pdl_rules.specs.Places as rules;
 ghost use Rattle.pdl_rules.specs.Places.{on_path};
@@ -19,7 +20,7 @@ use crate::uses::{MemoryUse, use_at};
 use pdl_kit::{Name, NoMemory};
 use pdl_paths::{Action, Path, Place};
 use pdl_rules_on_paths::PathRule;
-use pdl_syntax_tree::{AccessKind, Mem, Pipe, is_advisory};
+use pdl_syntax_tree::{AccessKind, Location, Mem, Pipe, is_advisory};
 use std::alloc::Global;
 
 /// What is asked of the places of one memory.
@@ -96,15 +97,23 @@ fn is_late_read(pipe: &Pipe, used: MemoryUse, place: &Place<'_>) -> bool
             AccessKind::R => used.reserves >= 1,
             AccessKind::W => false,
         },
-        Action::CombRead(_, at) => !is_advisory(pipe.mems.as_slice(), &at.mem.name) && used.written,
+        Action::CombRead(_, at) => reads_written(pipe.mems.as_slice(), used, at),
         Action::DelayedRead(_, _) => used.written,
         Action::Parameter(_) | Action::Memory(_) | Action::Separator | Action::Bind(_, _) => false,
         Action::Write(_, _) | Action::SpecCall(_, _) => false,
         Action::Block(_) | Action::Release(_) | Action::If(_, _, _) | Action::Call(_) => false,
-        Action::Verify(_, _) | Action::Update(_, _) | Action::SpecCheck | Action::SpecBarrier =>
-            false,
+        Action::Verify(_, _) | Action::Update(_, _) | Action::SpecCheck => false,
+        Action::SpecBarrier => false,
         Action::End | Action::StartClause(_) => false,
     }
+}
+
+// Whether a comb read of a memory with this use is one after a write, where the memory isn't advisory.
+fn reads_written(mems: &[Mem], used: MemoryUse, at: &Location) -> bool
+    ensures { result ≡ (not (is_advisory_mem (map mem_view mems.now) at.now.mem.name)
+        && used.written) }
+{
+    !is_advisory(mems, &at.mem.name) && used.written
 }
 
 // Whether a place with this use of its memory reserves it once too often, or a second time to write.
@@ -131,8 +140,8 @@ fn reserves_second(used: MemoryUse, place: &Place<'_>) -> bool
         Action::Parameter(_) | Action::Memory(_) | Action::Separator | Action::Bind(_, _) => false,
         Action::CombRead(_, _) | Action::DelayedRead(_, _) | Action::Write(_, _) => false,
         Action::SpecCall(_, _) | Action::Block(_) | Action::Release(_) => false,
-        Action::If(_, _, _) | Action::Call(_) | Action::Verify(_, _) | Action::Update(_, _) =>
-            false,
+        Action::If(_, _, _) | Action::Call(_) | Action::Verify(_, _) => false,
+        Action::Update(_, _) => false,
         Action::SpecCheck | Action::SpecBarrier | Action::End | Action::StartClause(_) => false,
     }
 }
@@ -157,11 +166,8 @@ fn is_one_too_many(pipe: &Pipe, used: MemoryUse, place: &Place<'_>) -> bool
         Action::Parameter(_) | Action::Memory(_) | Action::Separator | Action::Bind(_, _) => false,
         Action::CombRead(_, _) | Action::DelayedRead(_, _) | Action::Write(_, _) => false,
         Action::SpecCall(_, _) | Action::Block(_) | Action::Release(_) => false,
-        Action::If(_, _, _)
-        | Action::Call(_)
-        | Action::Verify(_, _)
-        | Action::Update(_, _)
-        | Action::SpecCheck => false,
+        Action::If(_, _, _) | Action::Call(_) | Action::Verify(_, _) => false,
+        Action::Update(_, _) | Action::SpecCheck => false,
         Action::SpecBarrier | Action::End | Action::StartClause(_) => false,
     }
 }

@@ -100,11 +100,8 @@ fn is_reserve(place: &Place<'_>) -> bool
         Action::Parameter(_) | Action::Memory(_) | Action::Separator => false,
         Action::CombRead(_, _) | Action::Bind(_, _) | Action::DelayedRead(_, _) => false,
         Action::Write(_, _) | Action::SpecCall(_, _) | Action::Block(_) => false,
-        Action::Release(_)
-        | Action::If(_, _, _)
-        | Action::Call(_)
-        | Action::Verify(_, _)
-        | Action::Update(_, _) => false,
+        Action::Release(_) | Action::If(_, _, _) | Action::Call(_) | Action::Verify(_, _) => false,
+        Action::Update(_, _) => false,
         Action::SpecCheck | Action::SpecBarrier | Action::End | Action::StartClause(_) => false,
     }
 }
@@ -119,11 +116,8 @@ pub fn is_reserve_for(place: &Place<'_>, kind: AccessKind) -> bool
         Action::Parameter(_) | Action::Memory(_) | Action::Separator => false,
         Action::CombRead(_, _) | Action::Bind(_, _) | Action::DelayedRead(_, _) => false,
         Action::Write(_, _) | Action::SpecCall(_, _) | Action::Block(_) => false,
-        Action::Release(_)
-        | Action::If(_, _, _)
-        | Action::Call(_)
-        | Action::Verify(_, _)
-        | Action::Update(_, _) => false,
+        Action::Release(_) | Action::If(_, _, _) | Action::Call(_) | Action::Verify(_, _) => false,
+        Action::Update(_, _) => false,
         Action::SpecCheck | Action::SpecBarrier | Action::End | Action::StartClause(_) => false,
     }
 }
@@ -139,11 +133,8 @@ fn is_write(place: &Place<'_>) -> bool
         Action::Parameter(_) | Action::Memory(_) | Action::Separator => false,
         Action::CombRead(_, _) | Action::Bind(_, _) | Action::DelayedRead(_, _) => false,
         Action::Reserve(_, _) | Action::SpecCall(_, _) | Action::Block(_) => false,
-        Action::Release(_)
-        | Action::If(_, _, _)
-        | Action::Call(_)
-        | Action::Verify(_, _)
-        | Action::Update(_, _) => false,
+        Action::Release(_) | Action::If(_, _, _) | Action::Call(_) | Action::Verify(_, _) => false,
+        Action::Update(_, _) => false,
         Action::SpecCheck | Action::SpecBarrier | Action::End | Action::StartClause(_) => false,
     }
 }

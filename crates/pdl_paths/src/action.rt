@@ -81,9 +81,7 @@ pub fn span_of(stmt: &Stmt) -> Span
         Stmt::SpecCall { span, .. } | Stmt::DelayedRead { span, .. } => *span,
         Stmt::Write { span, .. } | Stmt::Reserve { span, .. } | Stmt::Block { span, .. } => *span,
         Stmt::Release { span, .. } | Stmt::If { span, .. } | Stmt::Call { span, .. } => *span,
-        Stmt::Verify { span, .. }
-        | Stmt::Update { span, .. }
-        | Stmt::SpecCheck { span }
-        | Stmt::SpecBarrier { span } => *span,
+        Stmt::Verify { span, .. } | Stmt::Update { span, .. } | Stmt::SpecCheck { span } => *span,
+        Stmt::SpecBarrier { span } => *span,
     }
 }

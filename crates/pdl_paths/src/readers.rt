@@ -41,11 +41,8 @@ pub fn variable_at<'a>(place: &Place<'a>) -> Option<&'a Name>
         Action::CombRead(x, _) | Action::Bind(x, _) | Action::DelayedRead(x, _) => Some(&x.name),
         Action::Memory(_) | Action::Separator | Action::SpecCall(_, _) => None,
         Action::Write(_, _) | Action::Reserve(_, _) | Action::Block(_) | Action::Release(_) => None,
-        Action::If(_, _, _)
-        | Action::Call(_)
-        | Action::Verify(_, _)
-        | Action::Update(_, _)
-        | Action::SpecCheck => None,
+        Action::If(_, _, _) | Action::Call(_) | Action::Verify(_, _) => None,
+        Action::Update(_, _) | Action::SpecCheck => None,
         Action::SpecBarrier | Action::End | Action::StartClause(_) => None,
     }
 }
@@ -59,11 +56,8 @@ pub fn memory_at<'a>(place: &Place<'a>) -> Option<&'a Name>
         Action::Parameter(_) | Action::Separator | Action::CombRead(_, _) => None,
         Action::Bind(_, _) | Action::SpecCall(_, _) | Action::DelayedRead(_, _) => None,
         Action::Write(_, _) | Action::Reserve(_, _) | Action::Block(_) | Action::Release(_) => None,
-        Action::If(_, _, _)
-        | Action::Call(_)
-        | Action::Verify(_, _)
-        | Action::Update(_, _)
-        | Action::SpecCheck => None,
+        Action::If(_, _, _) | Action::Call(_) | Action::Verify(_, _) => None,
+        Action::Update(_, _) | Action::SpecCheck => None,
         Action::SpecBarrier | Action::End | Action::StartClause(_) => None,
     }
 }
@@ -77,11 +71,8 @@ pub fn guess_at<'a>(place: &Place<'a>) -> Option<&'a Name>
         Action::Parameter(_) | Action::Memory(_) | Action::Separator => None,
         Action::CombRead(_, _) | Action::Bind(_, _) | Action::DelayedRead(_, _) => None,
         Action::Write(_, _) | Action::Reserve(_, _) | Action::Block(_) | Action::Release(_) => None,
-        Action::If(_, _, _)
-        | Action::Call(_)
-        | Action::Verify(_, _)
-        | Action::Update(_, _)
-        | Action::SpecCheck => None,
+        Action::If(_, _, _) | Action::Call(_) | Action::Verify(_, _) => None,
+        Action::Update(_, _) | Action::SpecCheck => None,
         Action::SpecBarrier | Action::End | Action::StartClause(_) => None,
     }
 }
@@ -96,11 +87,8 @@ pub fn name_at<'a>(place: &Place<'a>) -> Option<&'a Name>
         Action::CombRead(x, _) | Action::Bind(x, _) | Action::DelayedRead(x, _) => Some(&x.name),
         Action::SpecCall(guess, _) => Some(&guess.name),
         Action::Separator | Action::Write(_, _) | Action::Reserve(_, _) | Action::Block(_) => None,
-        Action::Release(_)
-        | Action::If(_, _, _)
-        | Action::Call(_)
-        | Action::Verify(_, _)
-        | Action::Update(_, _) => None,
+        Action::Release(_) | Action::If(_, _, _) | Action::Call(_) | Action::Verify(_, _) => None,
+        Action::Update(_, _) => None,
         Action::SpecCheck | Action::SpecBarrier | Action::End | Action::StartClause(_) => None,
     }
 }
@@ -115,8 +103,8 @@ pub fn location_at<'a>(place: &Place<'a>) -> Option<&'a Location>
         Action::Reserve(at, _) | Action::Block(at) | Action::Release(at) => Some(at),
         Action::Parameter(_) | Action::Memory(_) | Action::Separator | Action::Bind(_, _) => None,
         Action::SpecCall(_, _) | Action::If(_, _, _) | Action::Call(_) => None,
-        Action::Verify(_, _) | Action::Update(_, _) | Action::SpecCheck | Action::SpecBarrier =>
-            None,
+        Action::Verify(_, _) | Action::Update(_, _) | Action::SpecCheck => None,
+        Action::SpecBarrier => None,
         Action::End | Action::StartClause(_) => None,
     }
 }
@@ -131,11 +119,8 @@ pub fn is_separator(place: &Place<'_>) -> bool
         Action::Bind(_, _) | Action::SpecCall(_, _) | Action::DelayedRead(_, _) => false,
         Action::Write(_, _) | Action::Reserve(_, _) | Action::Block(_) | Action::Release(_) =>
             false,
-        Action::If(_, _, _)
-        | Action::Call(_)
-        | Action::Verify(_, _)
-        | Action::Update(_, _)
-        | Action::SpecCheck => false,
+        Action::If(_, _, _) | Action::Call(_) | Action::Verify(_, _) => false,
+        Action::Update(_, _) | Action::SpecCheck => false,
         Action::SpecBarrier | Action::End | Action::StartClause(_) => false,
     }
 }
@@ -150,8 +135,8 @@ pub fn is_call(place: &Place<'_>) -> bool
         Action::CombRead(_, _) | Action::Bind(_, _) | Action::DelayedRead(_, _) => false,
         Action::Write(_, _) | Action::Reserve(_, _) | Action::Block(_) | Action::Release(_) =>
             false,
-        Action::If(_, _, _) | Action::Verify(_, _) | Action::Update(_, _) | Action::SpecCheck =>
-            false,
+        Action::If(_, _, _) | Action::Verify(_, _) | Action::Update(_, _) => false,
+        Action::SpecCheck => false,
         Action::SpecBarrier | Action::End | Action::StartClause(_) => false,
     }
 }

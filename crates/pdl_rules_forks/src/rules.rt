@@ -34,15 +34,11 @@ fn is_some_cut(branches: &[Branch<'_>]) -> bool
 pub fn breaks_f1(place: &Place<'_>) -> bool
     ensures { result ≡ forks.breaks_f1 (place_view place.now) }
 {
+    let branches = place.branches.as_slice();
     match place.action {
-        Action::SpecCall(_, _) | Action::Reserve(_, _) | Action::Release(_) => {
-            is_some_cut(place.branches.as_slice())
-        }
-        Action::Call(_)
-        | Action::Verify(_, _)
-        | Action::Update(_, _)
-        | Action::SpecCheck
-        | Action::SpecBarrier => { is_some_cut(place.branches.as_slice()) }
+        Action::SpecCall(_, _) | Action::Reserve(_, _) => is_some_cut(branches),
+        Action::Release(_) | Action::Call(_) | Action::Verify(_, _) => is_some_cut(branches),
+        Action::Update(_, _) | Action::SpecCheck | Action::SpecBarrier => is_some_cut(branches),
         Action::Parameter(_) | Action::Memory(_) | Action::Separator => false,
         Action::CombRead(_, _) | Action::Bind(_, _) | Action::DelayedRead(_, _) => false,
         Action::Write(_, _) | Action::Block(_) | Action::If(_, _, _) => false,
@@ -123,11 +119,8 @@ pub fn breaks_f2(before: &[Place<'_>], place: &Place<'_>, later: &[Place<'_>]) -
         Action::Parameter(_) | Action::Memory(_) | Action::Separator => false,
         Action::CombRead(_, _) | Action::Bind(_, _) | Action::SpecCall(_, _) => false,
         Action::DelayedRead(_, _) | Action::Write(_, _) | Action::Reserve(_, _) => false,
-        Action::Block(_)
-        | Action::Release(_)
-        | Action::Call(_)
-        | Action::Verify(_, _)
-        | Action::Update(_, _) => false,
+        Action::Block(_) | Action::Release(_) | Action::Call(_) | Action::Verify(_, _) => false,
+        Action::Update(_, _) => false,
         Action::SpecCheck | Action::SpecBarrier | Action::End | Action::StartClause(_) => false,
     }
 }
@@ -159,11 +152,8 @@ fn is_fetch_of(memory: &Name, place: &Place<'_>) -> bool
         Action::Parameter(_) | Action::Memory(_) | Action::Separator => false,
         Action::CombRead(_, _) | Action::Bind(_, _) | Action::SpecCall(_, _) => false,
         Action::Write(_, _) | Action::Reserve(_, _) | Action::If(_, _, _) => false,
-        Action::Block(_)
-        | Action::Release(_)
-        | Action::Call(_)
-        | Action::Verify(_, _)
-        | Action::Update(_, _) => false,
+        Action::Block(_) | Action::Release(_) | Action::Call(_) | Action::Verify(_, _) => false,
+        Action::Update(_, _) => false,
         Action::SpecCheck | Action::SpecBarrier | Action::End | Action::StartClause(_) => false,
     }
 }
@@ -192,11 +182,8 @@ pub fn breaks_f3(place: &Place<'_>, before: &[Place<'_>], all: &[Place<'_>]) -> 
         Action::Parameter(_) | Action::Memory(_) | Action::Separator => false,
         Action::CombRead(_, _) | Action::Bind(_, _) | Action::SpecCall(_, _) => false,
         Action::Write(_, _) | Action::Reserve(_, _) | Action::If(_, _, _) => false,
-        Action::Block(_)
-        | Action::Release(_)
-        | Action::Call(_)
-        | Action::Verify(_, _)
-        | Action::Update(_, _) => false,
+        Action::Block(_) | Action::Release(_) | Action::Call(_) | Action::Verify(_, _) => false,
+        Action::Update(_, _) => false,
         Action::SpecCheck | Action::SpecBarrier | Action::End | Action::StartClause(_) => false,
     }
 }
@@ -224,11 +211,8 @@ pub fn breaks_f4(pipe: &Pipe, place: &Place<'_>) -> bool
         Action::Parameter(_) | Action::Memory(_) | Action::Separator => false,
         Action::Bind(_, _) | Action::SpecCall(_, _) | Action::Write(_, _) => false,
         Action::Reserve(_, _) | Action::If(_, _, _) => false,
-        Action::Block(_)
-        | Action::Release(_)
-        | Action::Call(_)
-        | Action::Verify(_, _)
-        | Action::Update(_, _) => false,
+        Action::Block(_) | Action::Release(_) | Action::Call(_) | Action::Verify(_, _) => false,
+        Action::Update(_, _) => false,
         Action::SpecCheck | Action::SpecBarrier | Action::End | Action::StartClause(_) => false,
     }
 }

@@ -231,9 +231,12 @@ fn from_calls(
 
 // Refuses by the rule on advised variables a pipe that is planned so.
 fn from_advice(pipe: &Pipe, known: Known<'_, '_>, plans: Plans) -> Result<Plans, Refusal>
-    requires { IsKnown (pipe_view pipe.now) known }
+    requires known { IsKnown (pipe_view pipe.now) known }
+    requires locks { plans.locks ≡ plan_of (pipe_view pipe.now) }
+    requires spec { plans.spec ≡ verify_stage (pipe_view pipe.now) }
     ensures answers { Answers advice_rules (pipe_view pipe.now) result }
-    ensures plans { IfOk result (λ r. r ≡ plans) }
+    ensures locks { IfOk result (λ plans. plans.locks ≡ plan_of (pipe_view pipe.now)) }
+    ensures spec { IfOk result (λ plans. plans.spec ≡ verify_stage (pipe_view pipe.now)) }
 {
     match advice_broken(pipe, known.variables, known.places) {
         Some(broken) => Err(refusal_at(broken.rule, broken.line)),

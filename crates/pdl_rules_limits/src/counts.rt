@@ -77,8 +77,8 @@ pub fn is_memory(place: &Place<'_>) -> bool
         Action::Bind(_, _) | Action::SpecCall(_, _) | Action::DelayedRead(_, _) => false,
         Action::Write(_, _) | Action::Reserve(_, _) | Action::Block(_) => false,
         Action::Release(_) | Action::If(_, _, _) | Action::Call(_) => false,
-        Action::Verify(_, _) | Action::Update(_, _) | Action::SpecCheck | Action::SpecBarrier =>
-            false,
+        Action::Verify(_, _) | Action::Update(_, _) | Action::SpecCheck => false,
+        Action::SpecBarrier => false,
         Action::End | Action::StartClause(_) => false,
     }
 }
@@ -92,8 +92,8 @@ pub fn is_binding(place: &Place<'_>) -> bool
         Action::SpecCall(_, _) | Action::DelayedRead(_, _) => true,
         Action::Memory(_) | Action::Separator | Action::Write(_, _) => false,
         Action::Reserve(_, _) | Action::Block(_) | Action::Release(_) => false,
-        Action::If(_, _, _) | Action::Call(_) | Action::Verify(_, _) | Action::Update(_, _) =>
-            false,
+        Action::If(_, _, _) | Action::Call(_) | Action::Verify(_, _) => false,
+        Action::Update(_, _) => false,
         Action::SpecCheck | Action::SpecBarrier | Action::End | Action::StartClause(_) => false,
     }
 }

@@ -1,5 +1,6 @@
 -- The line of the lowest place.
-use Rattle.std.proofs.Common.{◌≡◌, refl, sym, ap, ◌∙◌, subst, ℕ, zero, suc, ◌<◌, Bool, true, false, List, [], ◌∷◌, ◌++◌, take, length, slice_get, Some, None, if◌then◌else◌, arith, append_assoc, append-nil, option_map, ◌⊎◌, inl, inr}
+use Rattle.std.proofs.Common.{◌≡◌, refl, sym, ap, ◌∙◌, subst, ℕ, zero, suc, ◌+◌, ◌<◌, Bool, true, false, List, [], ◌∷◌, ◌++◌, map, take, drop, length, get_or, slice_get, Option, Some, None, if◌then◌else◌, arith, append_assoc, append-nil, option_map, ◌⊎◌, inl, inr}
+use Rattle.std.proofs.lemmas.List.{drop_more}
 use Rattle.std.proofs.Math.Nat.{eq-or-lt_of_le}
 use Rattle.pdl_kit.specs.declared.rule.Rule.{Rule}
 use Rattle.pdl_semantics.specs.Tree.{Pipe}
@@ -31,6 +32,28 @@ first_lines f test same before [] = refl
 first_lines f test same before (x ∷ xs) =
     ap (λ b. if b then Some (line_of x) else first_line test xs) (sym (same before x))
     ∙ ap (λ later. if f before x then Some (line_of x) else later) (first_lines f test same (before ++ x ∷ []) xs)
+
+-- the elements from the k-th on are it and those after it
+from_here : {A : Type 0} (xs : List A) (k : ℕ) (x : A) → k < length xs → x ≡ get_or xs k x → drop k xs ≡ x ∷ drop (k + 1) xs
+from_here xs k x h e = drop_more xs k x h ∙ ap (λ z. z ∷ drop (k + 1) xs) (sym e)
+
+-- where the k-th place passes a test, and none before it does, its line is the first
+pub first_found : {A : Type 0} (test : Place → Bool) (view : A → Place) (xs : List A) (k : ℕ) (x : A) (whole : Option ℕ)
+    → k < length xs → x ≡ get_or xs k x → test (view x) ≡ true → first_line test (map view (drop k xs)) ≡ whole
+    → Some (line_of (view x)) ≡ whole
+first_found test view xs k x whole h e is inv =
+    sym (ap (λ b. if b then Some (line_of (view x)) else first_line test (map view (drop (k + 1) xs))) is)
+    ∙ sym (ap (λ ys. first_line test (map view ys)) (from_here xs k x h e))
+    ∙ inv
+
+-- where the k-th place fails a test, the first line from it on is that after it
+pub first_passed : {A : Type 0} (test : Place → Bool) (view : A → Place) (xs : List A) (k : ℕ) (x : A) (whole : Option ℕ)
+    → k < length xs → x ≡ get_or xs k x → test (view x) ≡ false → first_line test (map view (drop k xs)) ≡ whole
+    → first_line test (map view (drop (k + 1) xs)) ≡ whole
+first_passed test view xs k x whole h e is inv =
+    sym (ap (λ b. if b then Some (line_of (view x)) else first_line test (map view (drop (k + 1) xs))) is)
+    ∙ sym (ap (λ ys. first_line test (map view ys)) (from_here xs k x h e))
+    ∙ inv
 
 -- places after others
 abbrev at_from : (List Place → Place → Bool) → List Place → List Place → ℕ → Bool

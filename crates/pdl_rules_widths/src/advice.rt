@@ -9,7 +9,7 @@ ghost use Rattle.pdl_rules.specs.Widths as spec;
 ghost use Rattle.pdl_paths.specs.Actions.{place_view};
 ghost use Rattle.pdl_rules_on_paths.specs.Lowest.{first_line};
 ghost use Rattle.pdl_rules_on_texts.specs.Refused.{refused_of};
-ghost use Rattle.pdl_rules_widths.specs.Advice.{is_unadvised, uses_advice};
+ghost use Rattle.pdl_rules_widths.specs.Advice.{is_unadvised as spec_unadvised, uses_advice};
 
 use crate::advised::{is_advised, is_some_advised};
 use crate::variables::Variables;
@@ -33,15 +33,23 @@ pub fn advice_broken(pipe: &Pipe, variables: &Variables, places: &[Place<'_>]) -
 
 // The line of the first place that declares an advisory memory, which has no circuit yet, or uses an advised variable where none may stand.
 fn advice_line(variables: &Variables, mems: &[Mem], places: &[Place<'_>]) -> Option<u32>
-    ensures { result ≡ first_line (is_unadvised variables.now (map mem_view mems.now))
+    ensures { result ≡ first_line (spec_unadvised variables.now (map mem_view mems.now))
         (map place_view places.now) }
 {
     for place in places {
-        if is_advisory_memory(place) || breaks_advice(variables, mems, place) {
+        if is_unadvised(variables, mems, place) {
             return Some(place.line());
         }
     }
     None
+}
+
+// Whether the place declares an advisory memory, or uses an advised variable where none may stand.
+fn is_unadvised(variables: &Variables, mems: &[Mem], place: &Place<'_>) -> bool
+    ensures { result ≡ spec_unadvised variables.now (map mem_view mems.now)
+        (place_view place.now) }
+{
+    is_advisory_memory(place) || breaks_advice(variables, mems, place)
 }
 
 // Whether the place declares an advisory memory.

@@ -91,8 +91,8 @@ impl Variables {
             Action::Memory(_) | Action::Separator | Action::SpecCall(_, _) => Ok(()),
             Action::Write(_, _) | Action::Reserve(_, _) | Action::Block(_) => Ok(()),
             Action::Release(_) | Action::If(_, _, _) | Action::Call(_) => Ok(()),
-            Action::Verify(_, _) | Action::Update(_, _) | Action::SpecCheck | Action::SpecBarrier =>
-                Ok(()),
+            Action::Verify(_, _) | Action::Update(_, _) | Action::SpecCheck => Ok(()),
+            Action::SpecBarrier => Ok(()),
             Action::End | Action::StartClause(_) => Ok(()),
         }
     }

@@ -1,14 +1,14 @@
 -- S6 refuses the first `update` of a pipe; one that has none keeps S6 and S7.
-use Rattle.std.proofs.Common.{◌≡◌, refl, sym, ap, ap₂, ◌∙◌, Bool, true, false, ◌&&◌, ◌||◌, if◌then◌else◌, List, [], ◌∷◌, ◌++◌, None, Some}
+use Rattle.std.proofs.Common.{◌≡◌, refl, sym, ap, ap₂, ◌∙◌, ℕ, Bool, true, false, ◌&&◌, ◌||◌, if◌then◌else◌, List, [], ◌∷◌, ◌++◌, Option, None, Some}
 use Rattle.std.specs.List.{list_any}
 use Rattle.pdl_kit.specs.declared.rule.Rule.TheVariants.{S6, S7}
 use Rattle.pdl_semantics.specs.Tree.{Update, Pipe}
 use Rattle.pdl_rules.specs.Places.{Place, Guard, Statement, places, paths, on_path, line_of}
 use Rattle.pdl_rules.specs.Refusal.{is_refused, line_by, broken_line, first_broken, refused_at}
-use Rattle.pdl_rules.specs.Speculation.{is_amiss, is_update, breaks_s6, breaks_s7}
+use Rattle.pdl_rules.specs.Stages.{stage_of, is_elsewhere}
+use Rattle.pdl_rules.specs.Speculation.{is_update, breaks_s7}
 use Rattle.pdl_rules_on_paths.specs.Lowest.{first_line}
 use Rattle.pdl_rules_on_paths.proofs.Lines.{rule_lines, first_lines}
-use Rattle.pdl_word.proofs.Bools.{none_given}
 
 no : (b : Bool) → (b && false) ≡ false
 no true = refl
@@ -29,12 +29,16 @@ pub update_lines : (p : Pipe) (xs : List Place) → xs ≡ places p → first_li
 update_lines p xs of =
     first_lines (is_refused S6 p) is_update (refuses_update p) [] xs ∙ rule_lines S6 p [] xs ∙ ap (broken_line S6 p []) of
 
+none_given : (b : Bool) (k : ℕ) (o : Option ℕ) → (if b then Some k else o) ≡ None → (b ≡ false) × (o ≡ None)
+none_given true k o h = cc
+none_given false k o h = (refl, h)
+
 -- where S6 refuses nothing, S7 refuses nothing
 apart_none : (p : Pipe) (before xs : List Place) → line_by is_refused S6 p before xs ≡ None → line_by is_refused S7 p before xs ≡ None
 apart_none p before [] e = refl
 apart_none p before (x ∷ xs) e =
     let parts = none_given (is_refused S6 p before x) (line_of x) (line_by is_refused S6 p (before ++ x ∷ []) xs) e in
-    let here : breaks_s7 before x ≡ false = ap (λ b. b && _) (sym (refuses_update p before x) ∙ parts.0) in
+    let here : breaks_s7 before x ≡ false = ap (λ b. b && is_elsewhere is_update before (stage_of before x)) (sym (refuses_update p before x) ∙ parts.0) in
     ap (λ b. if b then Some (line_of x) else line_by is_refused S7 p (before ++ x ∷ []) xs) here
     ∙ apart_none p (before ++ x ∷ []) xs parts.1
 

@@ -37,10 +37,8 @@ impl PathRule for OneCall {
             Action::Parameter(_) | Action::Memory(_) | Action::Separator => false,
             Action::CombRead(_, _) | Action::Bind(_, _) | Action::DelayedRead(_, _) => false,
             Action::Write(_, _) | Action::Reserve(_, _) | Action::Block(_) => false,
-            Action::Release(_)
-            | Action::If(_, _, _)
-            | Action::Verify(_, _)
-            | Action::Update(_, _) => false,
+            Action::Release(_) | Action::If(_, _, _) | Action::Verify(_, _) => false,
+            Action::Update(_, _) => false,
             Action::SpecCheck | Action::SpecBarrier | Action::StartClause(_) => false,
         }
     }
