@@ -126,6 +126,12 @@ abbrev pub entries_of : Option Pending → List Pending
 entries_of None = []
 entries_of (Some e) = e ∷ []
 
+-- the pending writes that two releases gave, one after the other
+abbrev pub given_by : Option Pending → Option Pending → List Pending
+given_by None second = []
+given_by (Some e) None = e ∷ []
+given_by (Some e) (Some f) = e ∷ f ∷ []
+
 -- the pending writes that were taken out of a memory
 abbrev pub taken_view : r_taken.Taken → List Pending
 taken_view r_takens.Nothing = []

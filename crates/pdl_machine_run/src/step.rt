@@ -4,7 +4,7 @@ ghost use Rattle.pdl_semantics.specs.Cycle as stated;
 ghost use Rattle.pdl_machine_facts.specs.Ports.{commit_values, shown_values};
 ghost use Rattle.pdl_machine_pending.specs.View.{entry_view};
 ghost use Rattle.pdl_machine_pending.specs.Memory.{oldest, all_committed_to, AreWithin};
-ghost use Rattle.pdl_machine_run.specs.Acts.{mover_of, act_of, acts_of, out_of, left_of, memory_after, memories_after, commits_shown, entries_of, taken_view};
+ghost use Rattle.pdl_machine_run.specs.Acts.{mover_of, act_of, acts_of, out_of, left_of, memory_after, memories_after, commits_shown, entries_of, given_by, taken_view};
 ghost use Rattle.pdl_machine_run.specs.Ready.{CanStep, AllCanStep};
 
 use crate::stage::Stage;
@@ -137,8 +137,45 @@ impl Taken {
     }
 }
 
+// What two releases gave, one after the other: where the first gave nothing, the second did neither.
+fn taken(first: Option<Pending>, second: Option<Pending>) -> Taken
+    ensures { taken_view result ≡ given_by (entry_view first) (entry_view second) }
+{
+    match (first, second) {
+        (None, _) => Taken::Nothing,
+        (Some(first), None) => Taken::One(first),
+        (Some(first), Some(second)) => Taken::Two(first, second),
+    }
+}
+
+// The oldest pending write of a memory is released.
+fn take_one(memory: &mut Memory) -> Taken
+    requires within { AreWithin (length memory.old.words) memory.old.pending }
+    ensures memory { memory.new ≡ record memory.old {
+      words = all_committed_to memory.old.words (take 1 memory.old.pending);
+      pending = drop 1 memory.old.pending;
+    } }
+    ensures result { taken_view result ≡ take 1 memory.old.pending }
+{
+    let first = memory.release();
+    taken(first, None)
+}
+
+// The two oldest pending writes of a memory are released.
+fn take_two(memory: &mut Memory) -> Taken
+    requires within { AreWithin (length memory.old.words) memory.old.pending }
+    ensures memory { memory.new ≡ record memory.old {
+      words = all_committed_to memory.old.words (take 2 memory.old.pending);
+      pending = drop 2 memory.old.pending;
+    } }
+    ensures result { taken_view result ≡ take 2 memory.old.pending }
+{
+    let first = memory.release();
+    let second = memory.release();
+    taken(first, second)
+}
+
 // So many of the oldest pending writes of a memory are released, at most two.
-#[tactic(auto, using(crate::proofs::TakenOut::oldest_in, crate::proofs::TakenOut::rest_in))]
 fn take_out(memory: &mut Memory, count: usize) -> Taken
     requires few { count ≤ 2 }
     requires within { AreWithin (length memory.old.words) memory.old.pending }
@@ -149,14 +186,11 @@ fn take_out(memory: &mut Memory, count: usize) -> Taken
     ensures result { taken_view result ≡ take count memory.old.pending }
 {
     if count == 0 {
-        return Taken::Nothing;
-    }
-    let first = memory.release();
-    let second = if count > 1 { memory.release() } else { None };
-    match (first, second) {
-        (None, _) => Taken::Nothing,
-        (Some(first), None) => Taken::One(first),
-        (Some(first), Some(second)) => Taken::Two(first, second),
+        Taken::Nothing
+    } else if count == 1 {
+        take_one(memory)
+    } else {
+        take_two(memory)
     }
 }
 
