@@ -1,6 +1,7 @@
 mod Places
 pub mod TakenOut
 pub mod AdviceCounts
+mod AdviceWrites
 pub mod MoverDeeds
 pub mod ActLists
 pub mod AnswerLists

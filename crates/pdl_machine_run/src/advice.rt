@@ -88,8 +88,9 @@ pub fn write_advice(m: usize, a: usize, e: &FlatExpr, deeds: &mut Deeds)
 fn make_write(memories: &mut [Memory], write: Advised)
     ensures { memories.new ≡ after_write (advised_view write) memories.old }
 {
-    if write.mem < memories.len() {
-        memories[write.mem].set_word(write.address, write.value);
+    let m = write.mem;
+    if m < memories.len() {
+        memories[m].set_word(write.address, write.value);
     }
 }
 
