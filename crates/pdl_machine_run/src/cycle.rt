@@ -28,6 +28,28 @@ use crate::shown::{show_end, show_stages};
 use crate::stage::{Stage, ThreadSlot};
 use crate::step::step_memories;
 use pdl_form::FlatPipe;
+use pdl_machine_pending::Memory;
+
+// What the threads that move do to the memories, whose commits are shown: writes of advisory memories come last.
+fn change_memories(
+    memories: &mut [Memory],
+    twice: &[bool],
+    stages: &[Stage],
+    squasher: Option<u64>,
+    shown: &mut Vec<u64>,
+)
+    requires step { AllCanStep 0 (acts_of 0 stages.now) memories.old }
+    requires told { length twice.now ≡ length memories.old }
+    requires room { vec_len shown.old + 6 * length memories.old ≤ vec_capacity shown.old }
+    ensures memories { memories.new ≡ after_all_writes (acts_of 0 stages.now)
+        (memories_after 0 (acts_of 0 stages.now) squasher memories.old) }
+    ensures shown { shown.new.items
+        ≡ shown.old.items ++ commits_shown twice.now 0 (acts_of 0 stages.now) memories.old }
+    ensures capacity { vec_capacity shown.new ≡ vec_capacity shown.old }
+{
+    step_memories(memories, twice, stages, squasher, shown);
+    make_all_writes(memories, stages);
+}
 
 // What stands beside the stages after a cycle, whose commits and requests are shown.
 fn step_beside(
@@ -65,14 +87,13 @@ fn step_beside(
         requests_shown 0 (acts_of 0 stages.now) (form pipe.now).pipe.mems) }
     ensures capacity { vec_capacity shown.new ≡ vec_capacity shown.old }
 {
-    step_memories(
+    change_memories(
         beside.memories.as_mut_slice(),
         beside.twice.as_slice(),
         stages,
         squasher,
         shown,
     );
-    make_all_writes(beside.memories.as_mut_slice(), stages);
     show_requests(pipe.mems(), stages, shown);
     step_orders(
         pipe,
