@@ -1,5 +1,5 @@
 -- The values of the ports of a pipe, in their order, and the replies of its delayed memories.
-use Rattle.std.specs.Prelude.{ℕ, zero, suc, ◌/◌, ◌%◌, ◌==◌, Bool, true, false, ◌&&◌, ◌||◌, not, if◌then◌else◌, List, [], ◌∷◌, ◌++◌, Option, Some, None, count_by}
+use Rattle.std.specs.Prelude.{ℕ, zero, suc, ◌/◌, ◌%◌, ◌==◌, Bool, if◌then◌else◌, List, [], ◌∷◌, ◌++◌, Option, Some, None, count_by}
 use Rattle.pdl_word.specs.Words.{bit}
 use Rattle.pdl_semantics.specs.Flat.{Lock, Mem, Pipe, has_lock, is_delayed}
 use Rattle.pdl_semantics.specs.SecondWrites.{all_twice}
@@ -51,4 +51,5 @@ all_request_values _ _ = []
 -- the values of all ports, in the order of a netlist's outputs
 abbrev pub whole_values : Pipe → Ports → List ℕ
 whole_values p o =
-    stage_values o.valid o.moves ++ (all_commit_values (all_twice p.stmts 0 p.mems) p.mems o.commits ++ (all_request_values p.mems o.requests ++ bit o.ended ∷ bit o.squash ∷ []))
+    stage_values o.valid o.moves
+    ++ (all_commit_values (all_twice p.stmts 0 p.mems) p.mems o.commits ++ (all_request_values p.mems o.requests ++ bit o.ended ∷ bit o.squash ∷ []))

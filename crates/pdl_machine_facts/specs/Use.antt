@@ -1,20 +1,21 @@
 -- How the threads of a pipe use the locks, in each state of a run.
-use Rattle.std.specs.Prelude.{◌≡◌, ℕ, zero, suc, ◌+◌, ◌≤◌, ◌<◌, Bool, true, false, IsTrue, List, [], ◌∷◌, Some, None, length, slice_index, nat_le, if◌then◌else◌, Contains, ⊤}
-use Rattle.pdl_semantics.specs.Flat.{Expr, Op, Bind, CombRead, DelayedRead, Write, ReserveRead, ReserveWrite, Block, Release, Call, SpecCall, Verify, SpecCheck, SpecBarrier, Stmt, Plain, Pipe, all_hold}
+use Rattle.std.specs.Prelude.{◌≡◌, ℕ, ◌+◌, ◌≤◌, ◌<◌, Bool, true, false, IsTrue, List, [], ◌∷◌, Some, None, length, slice_index, nat_le, if◌then◌else◌, Contains, ⊤}
+use Rattle.pdl_semantics.specs.Flat.{Expr, Op, Bind, CombRead, DelayedRead, Write, ReserveRead, ReserveWrite, Block, Release, Call, SpecCall, Verify, SpecCheck, SpecBarrier, AdviceBind, AdviceRead, AdviceWrite, Stmt, Plain, Pipe, all_hold}
 use Rattle.pdl_semantics.specs.Stages.{in_stage, mem_at, reserve_stage, commit_stage}
 use Rattle.pdl_semantics.specs.Locks.{read_ready, has_room}
-use Rattle.pdl_semantics.specs.Machine.{Thread, State, Pending, lock_of, Deeds, deeds, deeds_after, held_before, is_held, let_go, with_kept, older_write, word_for}
+use Rattle.pdl_semantics.specs.Machine.{Thread, State, lock_of, Deeds, deeds, deeds_after, held_before, is_held, let_go, with_kept, older_write, word_for}
 use Rattle.pdl_semantics.specs.Moves.{next_stage}
 use Rattle.pdl_semantics.specs.Cycle.{is_stage, with_reserves, all_releases, list_two, list_three}
 use Rattle.pdl_lockapi.specs.Forget.{has_place, IsOnce, addresses}
 use Rattle.pdl_machine_facts.specs.Slots.{slot, here, stage_moves, locks_ready, moving}
-use Rattle.pdl_semantics.specs.PendingLists.{AreOrdered, count_older}
+use Rattle.pdl_semantics.specs.PendingLists.{AreOrdered, count_older, AreWritten}
 
 -- a thread before the statements of its stage
 abbrev pub before_stage : Pipe → ℕ → Thread → Deeds
 before_stage p k t =
     record {
       env = with_kept t.kept t.env;
+      advice = t.advice;
       guess = t.guess;
       held = held_before k t.env p.stmts [];
       blocks = [];
@@ -22,6 +23,7 @@ before_stage p k t =
       writes = [];
       releases = [];
       asks = [];
+      advises = [];
       barrier = false;
       child = None;
       fails = false;
@@ -42,6 +44,9 @@ in_time p k (SpecCall _) = true
 in_time p k (Verify _ _) = true
 in_time p k SpecCheck = true
 in_time p k SpecBarrier = true
+in_time p k (AdviceBind _ _) = true
+in_time p k (AdviceRead _ _ _) = true
+in_time p k (AdviceWrite _ _ _) = true
 
 -- whether a statement that looks at a memory or writes it stands no later than the stage of its releases
 abbrev pub is_early : Pipe → Stmt → Bool
@@ -52,7 +57,7 @@ pub record IsGuessFine (args : List Expr) (d : Deeds) : Type 0 where
   pub long : length d.guess ≡ length args
   pub calm : d.fails ≡ false
 
--- a read is ready, what is released is held no more, and a verify has as many arguments as the guess
+-- a read is ready, what is released is held no more, and a verify or an update has as many arguments as the guess
 abbrev pub IsOpFine : Pipe → State → ℕ → Op → Deeds → Type 0
 IsOpFine p st thread (Bind _ _) d = ⊤
 IsOpFine p st thread (CombRead x m a) d = IsTrue (read_ready (mem_at p m).lock (older_write st thread m (slice_index d.env a)))
@@ -68,6 +73,9 @@ IsOpFine p st thread (Verify true args) d = IsGuessFine args d
 IsOpFine p st thread (Verify false args) d = length d.guess ≡ length args
 IsOpFine p st thread SpecCheck d = ⊤
 IsOpFine p st thread SpecBarrier d = ⊤
+IsOpFine p st thread (AdviceBind _ _) d = ⊤
+IsOpFine p st thread (AdviceRead _ _ _) d = ⊤
+IsOpFine p st thread (AdviceWrite _ _ _) d = ⊤
 
 -- after these deeds each statement on the thread's path is early and fine, as long as the locks let the thread move so far
 abbrev pub AreFine : Pipe → State → ℕ → List Stmt → Deeds → Type 0
@@ -75,12 +83,6 @@ AreFine p st thread [] d = ⊤
 AreFine p st thread (x ∷ xs) d =
     (all_hold x.guards d.env ≡ true → locks_ready p st thread d ≡ true → (is_early p x ≡ true) × IsOpFine p st thread x.op d)
     × AreFine p st thread xs (if all_hold x.guards d.env then deeds_after (word_for st thread) x.op d else d)
-
--- each of the oldest k pending writes has its value
-abbrev pub AreWritten : ℕ → List Pending → Type 0
-AreWritten zero es = ⊤
-AreWritten (suc k) [] = ⊥
-AreWritten (suc k) (e ∷ es) = (v : ℕ) × (e.value ≡ Some v) × AreWritten k es
 
 -- the threads of a state use the locks as the rules have it, in a cycle with these replies
 pub record IsInUse (p : Pipe) (st : State) (bits : List Bool) : Type 0 where

@@ -1,10 +1,10 @@
 -- How the threads use the locks in each state that a run comes to, whatever the replies.
-use Rattle.std.proofs.Common.{◌≡◌, refl, sym, ap, ap₂, ◌∙◌, subst, ℕ, zero, suc, ◌+◌, ◌≤◌, ◌<◌, Bool, true, false, ◌&&◌, ◌||◌, not, List, [], ◌∷◌, ◌++◌, length, take, le_refl, Option, Some, None, is_none, ◌==◌, cond, if◌then◌else◌, arith, nat_le, leb-true, leb-false, eq-eqb}
+use Rattle.std.proofs.Common.{◌≡◌, refl, sym, ap, ap₂, ◌∙◌, subst, ℕ, suc, ◌+◌, ◌≤◌, ◌<◌, Bool, true, false, ◌&&◌, ◌||◌, not, List, [], ◌∷◌, ◌++◌, length, take, le_refl, Option, Some, None, is_none, ◌==◌, cond, arith, nat_le, leb-true, leb-false, eq-eqb}
 use Rattle.std.specs.Prelude.{Contains}
-use Rattle.std.proofs.lemmas.Bool.{false≢true, ne_eqb}
+use Rattle.std.proofs.lemmas.Bool.{ne_eqb}
 use Rattle.pdl_semantics.specs.Flat.{Pipe, Plain, Stmt, list_all}
 use Rattle.pdl_semantics.specs.Stages.{list_any, onpath, in_stage, stage_at, goes_to, mem_at, is_release, reserve_stage, commit_stage, verify_stage}
-use Rattle.pdl_semantics.specs.Machine.{State, Thread, Pending, Deeds, reserves_of, lock_of, deeds, held_before, with_answers}
+use Rattle.pdl_semantics.specs.Machine.{State, Thread, Deeds, reserves_of, lock_of, deeds, held_before, with_answers}
 use Rattle.pdl_semantics.specs.Locks.{has_room}
 use Rattle.pdl_semantics.specs.Sound.{stages_from}
 use Rattle.pdl_semantics.specs.Moves.{Act, acts, all_acts, movers, may_move, next_stage, no_failure, blocks_ready, have_room}
@@ -33,11 +33,11 @@ use Rattle.pdl_lockapi.specs.Forget as forget
 use Rattle.pdl_machine_facts.specs.Slots
 use Rattle.pdl_machine_facts.specs.Slots.{LeadsOn}
 use Rattle.pdl_machine_facts.specs.Cycle.{IsByStages}
-use Rattle.pdl_machine_facts.specs.Use.{before_stage, AreFine, AreWritten, IsInUse}
+use Rattle.pdl_machine_facts.specs.Use.{before_stage, AreFine, IsInUse}
 use Rattle.pdl_machine_facts.proofs.Stagewise.{by_stages}
 use Rattle.pdl_machine_facts.proofs.StagewisePorts.{stages_count}
 use Rattle.pdl_theory_states.specs.Strict.{Strict}
-use Rattle.pdl_theory_states.specs.Use.{AllActs, Released, moving, with_new, with_values, with_release, FindsOlder, KeepsPlace, ShiftsPlace, ShiftsTail}
+use Rattle.pdl_theory_states.specs.Use.{AllActs, moving, with_new, with_values, with_release, FindsOlder, KeepsPlace, ShiftsPlace, ShiftsTail}
 use Rattle.pdl_theory_states.proofs.ThreadFacts.{Lasting, Along}
 use Rattle.pdl_theory_states.proofs.ReachedStates.{Whole}
 use Rattle.pdl_theory_states.proofs.LockRelease.{LowFirst, count_released}
@@ -54,7 +54,7 @@ use Rattle.pdl_machine_lockuse.proofs.Awaits.{still_early}
 use Rattle.pdl_machine_lockuse.proofs.Tails.{Bars, up_released, bars_commit, bars_verify, all_own, tail_kept}
 use Rattle.pdl_machine_lockuse.proofs.Cuts.{order_filled, order_behind, tail_left, front_left}
 use Rattle.pdl_theory_turns.proofs.TurnPath.{phase_append}
-use Rattle.pdl_semantics.specs.PendingLists.{AreOrdered, count_older}
+use Rattle.pdl_semantics.specs.PendingLists.{AreOrdered, count_older, AreWritten}
 use Rattle.pdl_word.specs.Each.{Each}
 use Rattle.pdl_theory_simulation.proofs.SimulatedStates.{Sim}
 
@@ -138,12 +138,6 @@ module _ (p : Pipe) (st : State) (bits : List Bool) where
   pub all_room : AllActs (HasRoom p st) (all_acts p st bits)
   all_room = rooms 0 st.stages
 
--- what has its value has it in the words of the law
-same_written : (k : ℕ) (es : List Pending) → Released k es → AreWritten k es
-same_written zero es h = tt
-same_written (suc k) [] h = absurd h
-same_written (suc k) (e ∷ es) h = (h.0, h.1, same_written k es h.2)
-
 -- A STATE AND THE LIVE THREADS
 
 module _ (p : Pipe) (sound : Sound p) (strict : Strict p) (st : State) (d : Derived.State) (bits : List Bool)
@@ -214,9 +208,9 @@ module _ (p : Pipe) (sound : Sound p) (strict : Strict p) (st : State) (d : Deri
     owns = all_each p sound st d bits ls sim m (ReleasesOwn p st bits m) owns_pairs
 
     -- what is released has its value
-    pub written : Released (all_releases m (moving p st bits)) (with_values p st bits m)
+    pub written : AreWritten (all_releases m (moving p st bits)) (with_values p st bits m)
     written =
-        subst (λ k. Released k (with_values p st bits m)) (sym (releases_are p sound st d bits ls sim m))
+        subst (λ k. AreWritten k (with_values p st bits m)) (sym (releases_are p sound st d bits ls sim m))
         (written_same (all_releases m (movers (lacts p st d bits ls))) (all_releases m (movers (lacts p st d bits ls)))
         (all_releases m (moving p st bits)) (two p (sound_flows p sound) st d bits sim.arrays m ls) (with_values p st bits m)
         (le_refl (all_releases m (movers (lacts p st d bits ls)))) fronts
@@ -311,7 +305,8 @@ module _ (p : Pipe) (sound : Sound p) (strict : Strict p) (st : State) (d : Deri
         ≡ pend m x.live.number x.live.thread.entries ++ new_entries m x.live.number (deeds_of p st bits x.live).reserves) (pairs ls)
     own_new =
         pair_both
-        (λ x g h i. ap (entries_by x.live.number) (with_new_is p sound st d bits ls sim m ∙ ap (with_reserves m (movers (lacts p st d bits ls))) (sym (sim.locks m)))
+        (λ x g h i. ap (entries_by x.live.number)
+        (with_new_is p sound st d bits ls sim m ∙ ap (with_reserves m (movers (lacts p st d bits ls))) (sym (sim.locks m)))
         ∙ h i ∙ ap (λ xs. xs ++ new_entries m x.live.number (deeds_of p st bits x.live).reserves) (g.listed m))
         (pairs ls) mines (by_new p sound st d bits sim.arrays m st.next (lock_of st m) ls sim.falls)
 
@@ -355,12 +350,14 @@ module _ (p : Pipe) (sound : Sound p) (strict : Strict p) (st : State) (d : Deri
 
     -- what a thread that moves reserves has room
     each_room : (these : List Act) → AllActs (HasRoom p st) these
-        → Each (λ (a : Act). 1 ≤ reserves_of m a.does.reserves → has_room (mem_at p m).lock (reserves_of m a.does.reserves) (length (lock_of st m)) ≡ true) (movers these)
+        → Each (λ (a : Act). 1 ≤ reserves_of m a.does.reserves → has_room (mem_at p m).lock (reserves_of m a.does.reserves)
+        (length (lock_of st m)) ≡ true) (movers these)
     each_room [] h = tt
     each_room (a ∷ these) h = at a.moves refl (each_room these h.1)
       where
         at : (b : Bool) → a.moves ≡ b
-            → Each (λ (a : Act). 1 ≤ reserves_of m a.does.reserves → has_room (mem_at p m).lock (reserves_of m a.does.reserves) (length (lock_of st m)) ≡ true) (movers these)
+            → Each (λ (a : Act). 1 ≤ reserves_of m a.does.reserves → has_room (mem_at p m).lock (reserves_of m a.does.reserves)
+            (length (lock_of st m)) ≡ true) (movers these)
             → Each (λ (a : Act). 1 ≤ reserves_of m a.does.reserves → has_room (mem_at p m).lock (reserves_of m a.does.reserves) (length (lock_of st m)) ≡ true)
             (cond b (a ∷ movers these) (movers these))
         at true e g = ((λ some. room_together p st m a.does.reserves a.does.reserves (h.0 e) some), g)
@@ -426,7 +423,8 @@ module _ (p : Pipe) (sound : Sound p) (strict : Strict p) (st : State) (d : Deri
       → EachPair (λ x. IsSpared p st bits (lact p st d bits x.older x.live)) (pairs ks)
   spares [] g = tt
   spares (l ∷ ks) g = (
-    (λ may_move. ap (λ q. is_kept q l.number) squasher_is ∙ g.0 ∙ ap not (no_fall (dacts p d bits ks) (and_left _ _ (and_left _ _ (and_left _ _ (and_left _ _ may_move)))))),
+    (λ may_move. ap (λ q. is_kept q l.number) squasher_is ∙ g.0
+        ∙ ap not (no_fall (dacts p d bits ks) (and_left _ _ (and_left _ _ (and_left _ _ (and_left _ _ may_move)))))),
     spares ks g.1,
   )
 
@@ -479,15 +477,18 @@ module _ (p : Pipe) (sound : Sound p) (strict : Strict p) (st : State) (d : Deri
           λ k t m h low. sym (same_count t.number (lock_of st m))
           ∙ at_slot p st bits (FindsOlder st m (reserve_stage p m)) (finds_older p sound st d bits ls sim m) k t h low;
       writer = λ k t m y v h g c.
-          let w = at_here p st bits (Writes m y v) (writes_all m y v) k t h g c in
-          (w.0, ap (forget.has_place t.number y) (list_is m) ∙ w.1, subst (forget.IsOnce t.number y) (sym (list_is m)) w.2,
-          ap (count_older t.number) (list_is m)
-          ∙ sole_older t.number y m (moving p st bits) (lock_of st m) (reserves p sound st d bits ls sim m).one (reserves p sound st d bits ls sim m).ordered w.1);
+          let w = at_here p st bits (Writes m y v) (writes_all m y v) k t h g c in (
+            w.0,
+            ap (forget.has_place t.number y) (list_is m) ∙ w.1,
+            subst (forget.IsOnce t.number y) (sym (list_is m)) w.2,
+            ap (count_older t.number) (list_is m)
+                ∙ sole_older t.number y m (moving p st bits) (lock_of st m) (reserves p sound st d bits ls sim m).one
+                (reserves p sound st d bits ls sim m).ordered w.1,
+          );
       after =
           λ k t m h low. ap (count_older t.number) (list_is m) ∙ sym (same_count t.number (with_new p st bits m))
           ∙ at_slot p st bits (KeepsPlace p st bits m) (places p sound st d bits ls sim m) k t h low ∙ same_count t.number (lock_of st m);
-      releaser = λ m. same_written (all_releases m (Slots.moving p st bits)) (list_two st (Slots.moving p st bits) m)
-          (subst (λ ms. Released (all_releases m ms) (list_two st ms m)) by.movers (written m));
+      releaser = λ m. subst (λ ms. AreWritten (all_releases m ms) (list_two st ms m)) by.movers (written m);
       few = λ m low. subst (λ ms. all_releases m ms ≤ 2) by.movers (two_released m careful low);
       shifts = λ k t m h low early stands.
           let s = at_slot p st bits (ShiftsPlace p st bits m) (shifts p sound st d bits ls sim m) k t h early stands in

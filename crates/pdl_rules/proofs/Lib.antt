@@ -7,6 +7,7 @@ mod UnbuiltRows
 mod Judged
 pub mod Counts
 pub mod SingleWrites
+pub mod FirstReserves
 pub mod TypedExpressions
 pub mod KnownVariables
 pub mod Memories

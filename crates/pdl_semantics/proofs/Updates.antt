@@ -35,6 +35,7 @@ writes_alike p (suc k) arrays args =
     ap (λ (r : Run). r.writes ++ writes_from (not_updated p) k r.arrays r.next) (thread_alike p arrays args)
     ∙ ap (λ l. (thread p arrays args).writes ++ l) (writes_alike p k (thread p arrays args).arrays (thread p arrays args).next)
 
+-- in sequence a pipe without its updates writes the same
 pub seq_alike : (p : Pipe) (image : Arrays) → WritesAlike p image
 seq_alike p image m k = ap (of_mem m) (writes_alike p k image p.start)
 
@@ -43,16 +44,21 @@ of_both : (m : ℕ) (xs ys : List Commit) → of_mem m (xs ++ ys) ≡ of_mem m x
 of_both m [] ys = refl
 of_both m (x ∷ xs) ys = at (x.mem == m) (of_both m xs ys)
   where
-    at : (b : Bool) → of_mem m (xs ++ ys) ≡ of_mem m xs ++ of_mem m ys → (if b then x ∷ of_mem m (xs ++ ys) else of_mem m (xs ++ ys)) ≡ (if b then x ∷ of_mem m xs else of_mem m xs) ++ of_mem m ys
+    at : (b : Bool)
+        → of_mem m (xs ++ ys) ≡ of_mem m xs ++ of_mem m ys
+        → (if b then x ∷ of_mem m (xs ++ ys) else of_mem m (xs ++ ys)) ≡ (if b then x ∷ of_mem m xs else of_mem m xs) ++ of_mem m ys
     at true h = ap (λ l. x ∷ l) h
     at false h = h
 
-more_from : (p : Pipe) (m a b : ℕ) (arrays : Arrays) (args : List ℕ) → IsPrefix (of_mem m (writes_from p a arrays args)) (of_mem m (writes_from p (a + b) arrays args))
-more_from p m zero b arrays args = subst (λ n. IsPrefix [] (of_mem m (writes_from p n arrays args))) (let e : b ≡ 0 + b = omega arith in e) (of_mem m (writes_from p b arrays args), refl)
+more_from : (p : Pipe) (m a b : ℕ) (arrays : Arrays) (args : List ℕ)
+    → IsPrefix (of_mem m (writes_from p a arrays args)) (of_mem m (writes_from p (a + b) arrays args))
+more_from p m zero b arrays args =
+    subst (λ n. IsPrefix [] (of_mem m (writes_from p n arrays args))) (let e : b ≡ 0 + b = omega arith in e) (of_mem m (writes_from p b arrays args), refl)
 more_from p m (suc a) b arrays args =
     let r = thread p arrays args in
     let k = more_from p m a b r.arrays r.next in
-    subst (λ n. IsPrefix (of_mem m (writes_from p (suc a) arrays args)) (of_mem m (writes_from p n arrays args))) (let e : suc (a + b) ≡ suc a + b = omega arith in e) (
+    subst (λ n. IsPrefix (of_mem m (writes_from p (suc a) arrays args)) (of_mem m (writes_from p n arrays args)))
+    (let e : suc (a + b) ≡ suc a + b = omega arith in e) (
       k.0,
       ap (λ l. l ++ k.0) (of_both m r.writes (writes_from p a r.arrays r.next)) ∙ append_assoc (of_mem m r.writes) _ k.0 ∙ ap (λ l. of_mem m r.writes ++ l) k.1
           ∙ sym (of_both m r.writes (writes_from p (a + b) r.arrays r.next)),
@@ -61,7 +67,9 @@ more_from p m (suc a) b arrays args =
 prefix_on : (xs ys zs : List Commit) → IsPrefix xs ys → IsPrefix ys zs → IsPrefix xs zs
 prefix_on xs ys zs h k = (h.0 ++ k.0, sym (append_assoc xs h.0 k.0) ∙ ap (λ l. l ++ k.0) h.1 ∙ k.1)
 
-pub commits_alike : (p : Pipe) (image : Arrays) (schedule schedule' : List (List Bool)) → Refines p image schedule → Refines (not_updated p) image schedule' → CommitsAlike p image schedule schedule'
+-- where both machines refine the sequential runs, what both commit to a memory begins one list
+pub commits_alike : (p : Pipe) (image : Arrays) (schedule schedule' : List (List Bool))
+    → Refines p image schedule → Refines (not_updated p) image schedule' → CommitsAlike p image schedule schedule'
 commits_alike p image schedule schedule' h k m =
     let a = ended_in (turns p image schedule) + length p.stages in
     let b = ended_in (turns (not_updated p) image schedule') + length p.stages in (

@@ -5,6 +5,7 @@ pub mod Variables
 pub mod Walk
 pub mod Growth
 pub mod ReadsKept
+pub mod Standing
 pub mod WritesKept
 pub mod Quiet
 pub mod Order
@@ -13,7 +14,9 @@ pub mod Calls
 pub mod SiteStages
 pub mod ReleaseBarriers
 pub mod PathScans
+pub mod GuessCounts
 pub mod Guesses
+pub mod GuessStages
 pub mod Memories
 pub mod StatementTests
 pub mod PathTests

@@ -1,9 +1,9 @@
 -- What holds at each site of a source that breaks no rule, and how facts of sites become facts of the flat statements.
-use Rattle.std.proofs.Common.{◌≡◌, refl, sym, ap, ◌∙◌, subst, ℕ, suc, ◌+◌, ◌<◌, Bool, true, false, ◌||◌, not, List, [], ◌∷◌, ◌++◌, length, Option, Some, None, arith, if◌then◌else◌, ◌==◌, eq-eqb, eqb-true}
-use Rattle.std.proofs.lemmas.Bool.{false≢true, and_parts, and_from}
-use Rattle.pdl_semantics.specs.Tree.{Variable, Stmt, Separator, CombRead, Bind, SpecCall, DelayedRead, Write, Reserve, Block, Release, If, Call, Verify, Update, SpecCheck, SpecBarrier, Stmts, Nil, Cons, Mem, Pipe}
+use Rattle.std.proofs.Common.{◌≡◌, refl, sym, ap, ◌∙◌, subst, ℕ, ◌+◌, ◌<◌, Bool, true, false, ◌||◌, not, List, [], ◌∷◌, ◌++◌, length, Option, Some, None, arith, if◌then◌else◌, ◌==◌, eq-eqb, eqb-true}
+use Rattle.std.proofs.lemmas.Bool.{false≢true, and_from}
+use Rattle.pdl_semantics.specs.Tree.{Variable, Stmt, Separator, CombRead, Bind, SpecCall, DelayedRead, Write, Reserve, Block, Release, If, Call, Verify, Update, SpecCheck, SpecBarrier, Mem, Pipe}
 use Rattle.pdl_semantics.specs.Flat
-use Rattle.pdl_semantics.specs.Flatten.{Var, var_of, mem_of, flat_expr, flat_exprs, reserve_op, at_position, past, separators, at_start, flat, is_advisory_mem, is_advised, bind_op, read_op, write_op}
+use Rattle.pdl_semantics.specs.Flatten.{Var, var_of, mem_of, flat_expr, flat_exprs, reserve_op, at_position, at_start, flat, is_advisory_mem, is_advised, bind_op, read_op, write_op}
 use Rattle.pdl_semantics.specs.Flatten
 use Rattle.pdl_rules.specs.Places.{Place, places}
 use Rattle.pdl_rules.specs.Forks.{is_trunk_only}
@@ -12,7 +12,7 @@ use Rattle.pdl_theory_facts.specs.Scans.{none_of, all_at}
 use Rattle.pdl_theory_facts.specs.Facts.{trunk_only}
 use Rattle.pdl_semantics.specs.Stages.{in_stage}
 use Rattle.pdl_source_stages.proofs.Sites.{Site, sites_of, front_of, place_of, own_of, own, owns, All, Stands, all_stand, stmts_are}
-use Rattle.pdl_source_stages.proofs.Walks.{At, past_begun}
+use Rattle.pdl_source_stages.proofs.Walks.{At}
 use Rattle.pdl_source_stages.proofs.Walks
 use Rattle.pdl_source_stages.proofs.Shapes.{is_forked}
 use Rattle.pdl_source_stages.proofs.BodyShape.{body_forked, stage_count}
@@ -91,15 +91,20 @@ from_op test None = false
 from_op test (Some op) = test op
 
 -- of a read, a binding and a write, advisory or not
-pub read_none : (test : Flat.Op → Bool) (b : Bool) (x m a : ℕ) → test (Flat.AdviceRead x m a) ≡ false → test (Flat.CombRead x m a) ≡ false → test (read_op b x m a) ≡ false
+pub read_none : (test : Flat.Op → Bool) (b : Bool) (x m a : ℕ)
+    → test (Flat.AdviceRead x m a) ≡ false → test (Flat.CombRead x m a) ≡ false → test (read_op b x m a) ≡ false
 read_none test true x m a h k = h
 read_none test false x m a h k = k
 
-pub bind_none : (test : Flat.Op → Bool) (b : Bool) (x : ℕ) (e : Flat.Expr) → test (Flat.AdviceBind x e) ≡ false → test (Flat.Bind x e) ≡ false → test (bind_op b x e) ≡ false
+-- what holds of neither binding doesn't hold of the one that is made
+pub bind_none : (test : Flat.Op → Bool) (b : Bool) (x : ℕ) (e : Flat.Expr)
+    → test (Flat.AdviceBind x e) ≡ false → test (Flat.Bind x e) ≡ false → test (bind_op b x e) ≡ false
 bind_none test true x e h k = h
 bind_none test false x e h k = k
 
-pub write_none : (test : Flat.Op → Bool) (b : Bool) (m a : ℕ) (e : Flat.Expr) → test (Flat.AdviceWrite m a e) ≡ false → test (Flat.Write m a e) ≡ false → test (write_op b m a e) ≡ false
+-- what holds of neither write doesn't hold of the one that is made
+pub write_none : (test : Flat.Op → Bool) (b : Bool) (m a : ℕ) (e : Flat.Expr)
+    → test (Flat.AdviceWrite m a e) ≡ false → test (Flat.Write m a e) ≡ false → test (write_op b m a e) ≡ false
 write_none test true m a e h k = h
 write_none test false m a e h k = k
 
@@ -108,10 +113,12 @@ pub either_read : (P : Flat.Op → Type 0) (b : Bool) (x m a : ℕ) → P (Flat.
 either_read P true x m a h k = h
 either_read P false x m a h k = k
 
+-- the same of bindings
 pub either_bind : (P : Flat.Op → Type 0) (b : Bool) (x : ℕ) (e : Flat.Expr) → P (Flat.AdviceBind x e) → P (Flat.Bind x e) → P (bind_op b x e)
 either_bind P true x e h k = h
 either_bind P false x e h k = k
 
+-- the same of writes
 pub either_write : (P : Flat.Op → Type 0) (b : Bool) (m a : ℕ) (e : Flat.Expr) → P (Flat.AdviceWrite m a e) → P (Flat.Write m a e) → P (write_op b m a e)
 either_write P true m a e h k = h
 either_write P false m a e h k = k
@@ -176,10 +183,17 @@ each_in_stage P s (y ∷ ys) h = at (y.stage == s) refl (each_in_stage P s ys h.
 pub op_trunk_only : (ms : List Mem) (vs : List Var) (s : Stmt) (op : Flat.Op)
     → op_of ms vs s ≡ Some op → trunk_only op ≡ true → is_trunk_only s ≡ true
 op_trunk_only ms vs (Separator _) op e h = cc
-op_trunk_only ms vs (CombRead _ x from) op e h = absurd (false≢true (sym (read_none (trunk_only) (is_advisory_mem ms from.mem.name) (length vs) (mem_of ms from.mem.name) (var_of vs from.address.name) refl refl) ∙ ap (from_op trunk_only) e ∙ h))
-op_trunk_only ms vs (Bind _ x f) op e h = absurd (false≢true (sym (bind_none (trunk_only) (is_advised vs f) (length vs) (flat_expr vs f) refl refl) ∙ ap (from_op trunk_only) e ∙ h))
+op_trunk_only ms vs (CombRead _ x from) op e h =
+    absurd
+    (false≢true (sym (read_none (trunk_only) (is_advisory_mem ms from.mem.name) (length vs) (mem_of ms from.mem.name) (var_of vs from.address.name) refl refl)
+    ∙ ap (from_op trunk_only) e ∙ h))
+op_trunk_only ms vs (Bind _ x f) op e h =
+    absurd (false≢true (sym (bind_none (trunk_only) (is_advised vs f) (length vs) (flat_expr vs f) refl refl) ∙ ap (from_op trunk_only) e ∙ h))
 op_trunk_only ms vs (DelayedRead _ x from) op e h = absurd (false≢true (ap (from_op trunk_only) e ∙ h))
-op_trunk_only ms vs (Write _ to f) op e h = absurd (false≢true (sym (write_none (trunk_only) (is_advisory_mem ms to.mem.name) (mem_of ms to.mem.name) (var_of vs to.address.name) (flat_expr vs f) refl refl) ∙ ap (from_op trunk_only) e ∙ h))
+op_trunk_only ms vs (Write _ to f) op e h =
+    absurd
+    (false≢true (sym (write_none (trunk_only) (is_advisory_mem ms to.mem.name) (mem_of ms to.mem.name) (var_of vs to.address.name) (flat_expr vs f) refl refl)
+    ∙ ap (from_op trunk_only) e ∙ h))
 op_trunk_only ms vs (Block _ at) op e h = absurd (false≢true (ap (from_op trunk_only) e ∙ h))
 op_trunk_only ms vs (If _ (Variable x) when otherwise) op e h = cc
 op_trunk_only ms vs (If _ c when otherwise) op e h = absurd (false≢true (ap (from_op trunk_only) e ∙ h))

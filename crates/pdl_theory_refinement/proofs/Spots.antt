@@ -109,7 +109,6 @@ pub record Here (p : Pipe) (acc : Course p) (asked : List (Option ℕ)) (past w 
   pub calm : Unsure p acc.v ahead → acc.stray (seat p world args sp)
 
 -- each spot is as `Here` says, and the commits with all undone writes are the writes of the turns
-
 abbrev pub Standing : (p : Pipe) → Course p → List (Option ℕ) → Writes → Writes → Marks → Arrays → List ℕ → List ℕ → List Spot → Type 0
 Standing p acc asked past w v arrays args ahead [] = (m : ℕ) → w m ≡ past m ++ strips m (v m)
 Standing p acc asked past w v arrays args ahead (sp ∷ sps) =
@@ -202,7 +201,8 @@ module _ (p : Pipe) (acc : Course p) (image : Arrays) (st : State) (past : Write
       → answered_thread p st bits (seat p world args sp) ≡ thread_at p world args sp.stage
   whole_now bits older v v' d w asks world args ahead ahead' sp last rows' b h e =
       let none : still_asks p bits sp.asks ≡ [] = none_awaited (still_asks p bits sp.asks) (ap is_empty (sym (still_awaited p bits sp.asks)) ∙ e) in
-      let right = answers_caught p st bits world.words sp.asks sp.env h.waits.apart (words_right older v v' d w asks world args ahead ahead' sp last rows' b h) in
+      let right = answers_caught p st bits world.words sp.asks sp.env h.waits.apart
+      (words_right older v v' d w asks world args ahead ahead' sp last rows' b h) in
       let env : with_answers p st bits (awaited_of sp.asks) sp.env ≡ (so_far p world args sp.stage).env =
       ap (λ l. caught world.words l (with_answers p st bits (awaited_of sp.asks) sp.env)) (sym none) ∙ right ∙ h.waits.gets in
       now_seat p st bits world args sp

@@ -1,16 +1,15 @@
 -- The facts that the simulation takes follow stages_from those of an accepted pipe.
-use Rattle.std.proofs.Common.{◌≡◌, refl, sym, ap, ap₂, ◌∙◌, subst, ℕ, suc, ◌≤◌, ◌<◌, ◌⊎◌, inl, inr, Bool, true, false, ◌&&◌, ◌||◌, not, List, [], ◌∷◌, ◌++◌, length, Option, Some, None, ◌==◌, nat_lt, nat_le, cond, arith, ltb-true, ltb-false, leb-true, leb-false, le_refl, eq-eqb}
+use Rattle.std.proofs.Common.{◌≡◌, refl, sym, ap, ap₂, ◌∙◌, subst, ℕ, suc, ◌≤◌, ◌<◌, ◌⊎◌, inl, inr, Bool, true, false, ◌&&◌, ◌||◌, not, List, [], ◌∷◌, ◌++◌, length, Some, None, ◌==◌, nat_lt, nat_le, cond, arith, ltb-true, ltb-false, leb-true, leb-false, le_refl, eq-eqb}
 use Rattle.std.proofs.lemmas.Bool.{eqb-true, eqb-false, ne_eqb}
 use Rattle.pdl_semantics.specs.Flat.{list_all, Pipe, Branch, Op, DelayedRead, Stmt, all_hold}
 use Rattle.pdl_semantics.specs.Stages.{onpath, in_stage, stage_at, goes_to, is_inside, commit_stage, verify_stage, is_check}
-use Rattle.pdl_semantics.specs.Sound.{stages_before, stages_from, is_fetch, is_call, is_delayed_read}
+use Rattle.pdl_semantics.specs.Sound.{stages_before, stages_from, is_fetch, is_call, is_delayed_read, is_spec_call}
 use Rattle.pdl_theory_derived.specs.Alone.{before, answered_op}
-use Rattle.pdl_theory_derived.specs.Simulation.{is_guess}
 use Rattle.pdl_theory_facts.specs.Scans.{Phase, Fresh, next_phase, phase_all, is_over, none_of, binds_var, is_dead}
 use Rattle.pdl_theory_facts.specs.GuessScans.{Unmade, makings_ok, checks_apart}
-use Rattle.pdl_theory_facts.specs.Graphs.{Home, Within, Trunk, Below, Way, stage_or, next_of}
+use Rattle.pdl_theory_facts.specs.Graphs.{Home, Within, Below, Way, stage_or, next_of}
 use Rattle.pdl_theory_facts.proofs.Nested.{arrives}
-use Rattle.pdl_theory_facts.specs.Facts.{is_fetch_of, none_like, alone_op, fetch_apart, Found, FetchIf, AllFetches, looked_all, at_once, comes_by, visits_stage, defined_by, late_for, Sound}
+use Rattle.pdl_theory_facts.specs.Facts.{is_fetch_of, none_like, alone_op, fetch_apart, Found, FetchIf, AllFetches, looked_all, at_once, visits_stage, defined_by, late_for, Sound}
 use Rattle.pdl_theory_simulation.proofs.FlowFacts.{Ways, Flows, FlowRules, Leads, AllOf, DefinedBy, binds_guard, use_ok, uses_ok, call_ok, calls_ok, at_most_one}
 use Rattle.pdl_theory_derived.proofs.Writes.{and_left, and_right}
 use Rattle.pdl_theory_turns.proofs.Paths.{dead_none, stage_path}
@@ -302,7 +301,8 @@ module _ (p : Pipe) (acc : Sound p) where
   between_of c s q b l w t h there i =
       let n = led s q l.0 l.2 l.1 in
       subst (λ m. (f : ℕ) × ((stage_at p m).merges ≡ Some f) × (is_inside p f b ≡ true)) n.0
-      (acc.graph.between c s l.0 b l.2 w (subst (Home p c) (sym n.0) t) (subst (λ m. m < length p.stages) (sym n.0) n.1) h there (subst (λ m. b < m) (sym n.0) i))
+      (acc.graph.between c s l.0 b l.2 w (subst (Home p c) (sym n.0) t) (subst (λ m. m < length p.stages) (sym n.0) n.1) h there
+      (subst (λ m. b < m) (sym n.0) i))
 
   flow_graph : Ways p
   flow_graph =
@@ -314,11 +314,16 @@ module _ (p : Pipe) (acc : Sound p) where
         jump = λ c s q r l w t i j. let n = led s q l.0 l.2 l.1 in acc.graph.jump c s l.0 r l.2 w t i (subst (λ m. r ≤ m) (sym n.0) j) ∙ n.0;
         between = between_of;
         way = λ s q l. let n = led s q l.0 l.2 l.1 in subst (λ m. Way p s m) n.0 (acc.branches.way s l.0 l.2);
-        entry = λ x c q r l t w. let n = led x.fork q l.0 l.2 l.1 in subst (λ m. m ≤ r) n.0 (acc.branches.entry x c l.0 r l.2 (subst (Home p (x ∷ c)) (sym n.0) t) w);
+        entry =
+            λ x c q r l t w. let n = led x.fork q l.0 l.2 l.1 in subst (λ m. m ≤ r) n.0
+            (acc.branches.entry x c l.0 r l.2 (subst (Home p (x ∷ c)) (sym n.0) t) w);
         fork_below = acc.branches.fork;
         merge = λ s q f l e.
             let n = led s q l.0 l.2 l.1 in
-            subst (λ m. ((s ≡ f) × ((stage_at p m).branches ≡ (stage_at p s).branches)) ⊎ ((x : Branch) × ((stage_at p s).branches ≡ x ∷ (stage_at p m).branches) × (x.fork ≡ f) × ((b : ℕ) → Within p (x ∷ (stage_at p m).branches) b → b ≤ s))) n.0
+            subst
+            (λ m. ((s ≡ f) × ((stage_at p m).branches ≡ (stage_at p s).branches)) ⊎
+            ((x : Branch) × ((stage_at p s).branches ≡ x ∷ (stage_at p m).branches) × (x.fork ≡ f)
+            × ((b : ℕ) → Within p (x ∷ (stage_at p m).branches) b → b ≤ s))) n.0
             (acc.branches.merge s l.0 f l.2 (subst (λ m. (stage_at p m).merges ≡ Some f) (sym n.0) e));
         merged = acc.merged;
         unmerged = acc.unmerged;
@@ -375,10 +380,12 @@ module _ (p : Pipe) (acc : Sound p) where
       (λ s. both_of (λ y f e. λ m i. subst (λ r. (acc.fetch m ≡ r) × (m < length p.mems)) (sym e) (f m i))
       (in_stage s p.stmts) (fetch_ok_at s (in_stage s p.stmts) (acc.fetch_ok s)) (in_same s p.stmts))
 
-  apart_guess : (path : List ℕ) (s : ℕ) → (none_of is_guess (onpath path (in_stage s p.stmts)) ≡ true) ⊎ (none_of is_check (onpath path (in_stage s p.stmts)) ≡ true)
+  apart_guess : (path : List ℕ) (s : ℕ)
+      → (none_of is_spec_call (onpath path (in_stage s p.stmts)) ≡ true) ⊎ (none_of is_check (onpath path (in_stage s p.stmts)) ≡ true)
   apart_guess path s =
-      subst (λ l. (none_of is_guess l ≡ true) ⊎ (none_of is_check l ≡ true)) (stage_path path s p.stmts)
-      (apart_of (verify_stage (at_once p).stmts) s Unmade None (onpath path p.stmts) (subst (λ l. makings_ok (verify_stage (at_once p).stmts) Unmade l ≡ true) (path_looked path p.stmts) (acc.pathwise.makings path))
+      subst (λ l. (none_of is_spec_call l ≡ true) ⊎ (none_of is_check l ≡ true)) (stage_path path s p.stmts)
+      (apart_of (verify_stage (at_once p).stmts) s Unmade None (onpath path p.stmts)
+      (subst (λ l. makings_ok (verify_stage (at_once p).stmts) Unmade l ≡ true) (path_looked path p.stmts) (acc.pathwise.makings path))
       (subst (λ l. checks_apart None l ≡ true) (path_looked path p.stmts) (acc.pathwise.apart path)))
 
   -- the facts of the simulation

@@ -1,5 +1,5 @@
 -- Advisory writes leave every other memory as it is.
-use Rattle.std.proofs.Common.{◌≡◌, refl, sym, ap, ap₂, ◌∙◌, subst, ℕ, Bool, true, false, ◌&&◌, List, [], ◌∷◌, ◌++◌, ◌==◌, cond, if◌then◌else◌, Some}
+use Rattle.std.proofs.Common.{◌≡◌, refl, sym, ap, ap₂, ◌∙◌, ℕ, Bool, true, false, ◌&&◌, List, [], ◌∷◌, ◌++◌, ◌==◌, cond, if◌then◌else◌, Some}
 use Rattle.std.proofs.lemmas.Bool.{eqb-true}
 use Rattle.pdl_semantics.specs.Flat.{Arrays, with_value, is_advisory, list_all, Op, AdviceWrite, Verify, Stmt, Pipe, values_of, all_hold}
 use Rattle.pdl_semantics.specs.Stages.{in_stage, mem_at}
@@ -25,7 +25,8 @@ module _ (p : Pipe) where
   one_more [] w h k = (k, tt)
   one_more (x ∷ ws) w h k = (h.0, one_more ws w h.1 k)
 
-  advises_op : (read : ℕ → ℕ → ℕ) (op : Op) (d : Deeds) → fits_kind p op ≡ true → AllAdvisory p d.advises → AllAdvisory p (Machine.deeds_after read op d).advises
+  advises_op : (read : ℕ → ℕ → ℕ) (op : Op) (d : Deeds)
+      → fits_kind p op ≡ true → AllAdvisory p d.advises → AllAdvisory p (Machine.deeds_after read op d).advises
   advises_op read (AdviceWrite m a e) d f h = one_more d.advises _ h f
   advises_op read (Verify last args) d f h = at (same_args (values_of args d.env) d.guess)
     where
@@ -34,20 +35,26 @@ module _ (p : Pipe) where
       at false = h
   advises_op read _ d f h = h
 
-  pub advises_all : (read : ℕ → ℕ → ℕ) (xs : List Stmt) (d : Deeds) → list_all (λ x. fits_kind p x.op) xs ≡ true → AllAdvisory p d.advises → AllAdvisory p (deeds_after_all read xs d).advises
+  -- statements that take their memories by kind write advisory memories alone, without a lock
+  pub advises_all : (read : ℕ → ℕ → ℕ) (xs : List Stmt) (d : Deeds)
+      → list_all (λ x. fits_kind p x.op) xs ≡ true → AllAdvisory p d.advises → AllAdvisory p (deeds_after_all read xs d).advises
   advises_all read [] d f h = h
   advises_all read (x ∷ xs) d f h =
-      advises_all read xs (if all_hold x.guards d.env then Machine.deeds_after read x.op d else d) (and_right (fits_kind p x.op) _ f) (at (all_hold x.guards d.env))
+      advises_all read xs (if all_hold x.guards d.env then Machine.deeds_after read x.op d else d) (and_right (fits_kind p x.op) _ f)
+      (at (all_hold x.guards d.env))
     where
       at : (b : Bool) → AllAdvisory p (cond b (Machine.deeds_after read x.op d) d).advises
       at true = advises_op read x.op d (and_left _ _ f) h
       at false = h
 
+  -- the statements of a stage take their memories by kind where all do
   pub fits_stage : (s : ℕ) (xs : List Stmt) → list_all (λ x. fits_kind p x.op) xs ≡ true → list_all (λ x. fits_kind p x.op) (in_stage s xs) ≡ true
   fits_stage s [] h = refl
   fits_stage s (x ∷ xs) h = at (x.stage == s) (fits_stage s xs (and_right (fits_kind p x.op) _ h))
     where
-      at : (b : Bool) → list_all (λ x. fits_kind p x.op) (in_stage s xs) ≡ true → list_all (λ x. fits_kind p x.op) (cond b (x ∷ in_stage s xs) (in_stage s xs)) ≡ true
+      at : (b : Bool)
+          → list_all (λ x. fits_kind p x.op) (in_stage s xs) ≡ true
+          → list_all (λ x. fits_kind p x.op) (cond b (x ∷ in_stage s xs) (in_stage s xs)) ≡ true
       at true k = ap₂ (λ a b. a && b) (and_left _ _ h) k
       at false k = k
 
@@ -71,5 +78,7 @@ module _ (p : Pipe) where
   all_apart n [] arrays f h = refl
   all_apart n (a ∷ ms) arrays f h = advised_apart n a.does.advises (with_all_advised ms arrays) f h.0 ∙ all_apart n ms arrays f h.1
 
-  pub advice_apart : (n : ℕ) (these : List Act) (arrays : Arrays) → is_advisory (mem_at p n).kind ≡ false → EachAdvisory p these → with_all_advised (movers these) arrays n ≡ arrays n
+  -- advisory writes leave the other memories as they are
+  pub advice_apart : (n : ℕ) (these : List Act) (arrays : Arrays)
+      → is_advisory (mem_at p n).kind ≡ false → EachAdvisory p these → with_all_advised (movers these) arrays n ≡ arrays n
   advice_apart n these arrays f h = all_apart n (movers these) arrays f (each_mover these h)

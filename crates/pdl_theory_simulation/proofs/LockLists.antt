@@ -1,26 +1,24 @@
 -- After a cycle each lock's list is the entries of the threads that live on, and what it releases is what the derived machine commits.
-use Rattle.std.proofs.Common.{suc, zero, ◌+◌, take, drop, ◌≡◌, ◌≢◌, refl, sym, ap, ap₂, ◌∙◌, subst, ℕ, ◌≤◌, ◌<◌, ◌⊎◌, inl, inr, Bool, true, false, ◌&&◌, ◌||◌, not, List, [], ◌∷◌, ◌++◌, length, Option, Some, None, ◌==◌, nat_le, cond, if◌then◌else◌, arith, append-nil, leb-true, leb-false}
+use Rattle.std.proofs.Common.{suc, zero, ◌+◌, take, drop, ◌≡◌, ◌≢◌, refl, sym, ap, ap₂, ◌∙◌, subst, ℕ, ◌≤◌, ◌<◌, ◌⊎◌, inl, inr, Bool, true, false, ◌&&◌, not, List, [], ◌∷◌, ◌++◌, length, Option, Some, None, ◌==◌, nat_le, cond, if◌then◌else◌, arith, append-nil, leb-true, leb-false}
 use Rattle.std.proofs.lemmas.Bool.{eqb-true, eqb-false}
 use Rattle.pdl_semantics.specs.Flat.{Pipe, Commit, of_mem}
 use Rattle.pdl_semantics.specs.Stages.{list_any, in_stage, stage_at, goes_to, is_reserve, is_release, reserve_stage, commit_stage}
-use Rattle.pdl_semantics.specs.Locks.{commit_value}
 use Rattle.pdl_semantics.specs.Machine.{State, Pending, word_for, with_answers}
 use Rattle.pdl_semantics.specs.Moves.{movers}
 use Rattle.pdl_semantics.specs.Cycle.{awaited_of, new_entries, with_reserves, with_writes_of, with_all_writes, releases_of, all_releases, is_kept, entries_left}
 use Rattle.pdl_theory_turns.proofs.EntryCommits.{released}
 use Rattle.pdl_semantics.specs.Moves
 use Rattle.pdl_semantics.specs.Promises.{DifferInAdvice}
-use Rattle.pdl_theory_derived.specs.Derived.{Entry, Work, around, commits_of}
+use Rattle.pdl_theory_derived.specs.Derived.{Entry, Work, commits_of}
 use Rattle.pdl_theory_derived.specs.Derived
 use Rattle.pdl_theory_simulation.proofs.FlowFacts.{Flows, stage_or, next_of, Trunk}
 use Rattle.pdl_theory_derived.proofs.Writes.{of_mem_append}
-use Rattle.pdl_theory_derived.proofs.Entries.{write_of}
-use Rattle.pdl_theory_turns.proofs.Turn.{quiet, none_in_stage}
+use Rattle.pdl_theory_turns.proofs.Turn.{none_in_stage}
 use Rattle.pdl_theory_derived.proofs.Slots.{rev}
 use Rattle.pdl_theory_derived.proofs.Lists.{own, pend, Foreign, AllForeign, Reserveless, two_moved, two_stays}
 use Rattle.pdl_theory_turns.proofs.OwnEntries.{Worked, pend_own, quiet_reserves, quiet_releases}
 use Rattle.pdl_theory_simulation.proofs.LockRemovals.{Out, Still, out_more, foreign_append, foreign_pend, foreign_new, foreign_put_all, commits_more}
-use Rattle.pdl_theory_simulation.proofs.Stretches.{Behind, left_trunk, early, late, start_of}
+use Rattle.pdl_theory_simulation.proofs.Stretches.{Behind, left_trunk, early, late}
 use Rattle.pdl_theory_simulation.proofs.Seats.{Live, seat, each_map, Ordered, Falls, falls_up, dacts, lacts, lact, did, now_of, work_of_live, deeds_of, pends, pends_append, advised}
 use Rattle.pdl_theory_simulation.proofs.Choices.{Known, AllKnown, Seated, worked_here, ends_here, late_here}
 use Rattle.pdl_word.specs.Each.{Each}
@@ -140,7 +138,6 @@ module _ (p : Pipe) (flows : Flows p) (st : State) (d : Derived.State) (bits : L
       → releases_of m (deeds_of p st bits l).releases ≢ 0 → l.thread.stage ≡ commit_stage p m
   release_here ls l k m h = at (l.thread.stage == commit_stage p m) refl
     where
-
       at : (b : Bool) → (l.thread.stage == commit_stage p m) ≡ b → l.thread.stage ≡ commit_stage p m
       at true e = eqb-true _ _ e
       at false e =
@@ -292,10 +289,14 @@ module _ (p : Pipe) (flows : Flows p) (st : State) (d : Derived.State) (bits : L
 
           by : (n : ℕ) → takes m l ≡ n → (takes m l ≡ 0) ⊎ Still (all_releases m (ms ls)) (two m ls) (three m ls) (commits_here m ls)
           by zero i = inl i
-          by (suc n) i = inr (gone m ls k.1 (past_of (commit_stage p m) l ls (flows.trunk_commit m) o.0 (let j = release_here ls l k.0 m (λ z. cc (sym i ∙ z)) in omega arith)))
+          by (suc n) i =
+              inr
+              (gone m ls k.1 (past_of (commit_stage p m) l ls (flows.trunk_commit m) o.0
+              (let j = release_here ls l k.0 m (λ z. cc (sym i ∙ z)) in omega arith)))
       at false e s =
           subst (λ c. Out m (all_releases m (ms ls)) (two m ls ++ pend m l.number l.thread.entries) (three m ls ++ pend m l.number l.thread.entries) c) (sym e)
-          (subst (λ n. Out m n (two m ls ++ pend m l.number l.thread.entries) (three m ls ++ pend m l.number l.thread.entries) (commits_here m ls ++ [])) (plus (all_releases m (ms ls)))
+          (subst (λ n. Out m n (two m ls ++ pend m l.number l.thread.entries) (three m ls ++ pend m l.number l.thread.entries) (commits_here m ls ++ []))
+          (plus (all_releases m (ms ls)))
           (out_more m (all_releases m (ms ls)) 0 (two m ls) (three m ls) (pend m l.number l.thread.entries)
           (pend m l.number l.thread.entries) (commits_here m ls)
           [] s refl (omega arith) refl (inl refl)))

@@ -1,10 +1,9 @@
 -- The requests of both machines after a cycle: the same are outstanding, their owners live and await them, and those of removed threads are orphans.
-use Rattle.std.proofs.Common.{◌≡◌, refl, sym, ap, ap₂, ◌∙◌, subst, ℕ, ◌<◌, Bool, true, false, ◌&&◌, ◌||◌, not, List, [], ◌∷◌, ◌++◌, length, Option, Some, None, is_some, is_none, ◌==◌, cond, if◌then◌else◌, arith, append-nil, append_assoc, eq-eqb}
+use Rattle.std.proofs.Common.{◌≡◌, refl, sym, ap, ap₂, ◌∙◌, subst, ℕ, ◌<◌, Bool, true, false, ◌&&◌, ◌||◌, not, List, [], ◌∷◌, ◌++◌, Option, Some, None, is_some, is_none, ◌==◌, cond, if◌then◌else◌, arith, append-nil, append_assoc, eq-eqb}
 use Rattle.std.proofs.lemmas.Bool.{eqb-true}
 use Rattle.pdl_semantics.specs.Flat.{Pipe, Stmt, Op, DelayedRead, list_all}
-use Rattle.pdl_semantics.specs.Stages.{stage_at, goes_to, in_stage, mem_at}
-use Rattle.pdl_semantics.specs.Machine.{Ask, Awaited, Request, NoRequest, Owned, Orphan, is_answered, State, lock_of, request_of}
-use Rattle.pdl_semantics.specs.Locks.{has_room}
+use Rattle.pdl_semantics.specs.Stages.{stage_at, goes_to, in_stage}
+use Rattle.pdl_semantics.specs.Machine.{Ask, Awaited, Request, NoRequest, Owned, Orphan, is_answered, State, request_of}
 use Rattle.pdl_semantics.specs.Moves.{movers, is_empty, block_ready}
 use Rattle.pdl_semantics.specs.Cycle.{awaited_of, asked_of, asked_by, asked_in, address_of, request_left, is_kept}
 use Rattle.pdl_semantics.specs.Promises.{DifferInAdvice}
@@ -394,7 +393,8 @@ module _ (p : Pipe) (flows : Flows p) (st : State) (d : Derived.State) (bits : L
           ap₂
           (λ f b. has_owner n m
           ((if f then []
-          else cond b (moved_live (goes_to (stage_at p l.thread.stage).next (work_of_live p d bits ls l).env) (advised p st bits l) (work_of_live p d bits ls l))
+          else cond b
+          (moved_live (goes_to (stage_at p l.thread.stage).next (work_of_live p d bits ls l).env) (advised p st bits l) (work_of_live p d bits ls l))
           (stood p st d bits l ∷ []))
           ++ go_on p st d bits ls))
           (firm i (fell p d bits ls) refl) (waits_stand ls l m j e)
@@ -430,7 +430,9 @@ module _ (p : Pipe) (flows : Flows p) (st : State) (d : Derived.State) (bits : L
       old (Orphan a) e h i = h
       old (Owned w a) e h i = by (is_kept sq w) refl
         where
-          by : (b : Bool) → is_kept sq w ≡ b → Matched (if b then Owned w a else Orphan a) (asked_at d m) m (born_live p (d.hints 0) n c ++ go_on p st d bits ls)
+          by : (b : Bool)
+              → is_kept sq w ≡ b
+              → Matched (if b then Owned w a else Orphan a) (asked_at d m) m (born_live p (d.hints 0) n c ++ go_on p st d bits ls)
           by true j = (h.0, owner_behind w m (born_live p (d.hints 0) n c) (go_on p st d bits ls) (owner_stays w m sq ls k g h.1 i j))
           by false j = h.0
 
@@ -439,7 +441,9 @@ module _ (p : Pipe) (flows : Flows p) (st : State) (d : Derived.State) (bits : L
           (next_ask (address_for r) (is_answered p bits m) (asked_at d m)) m (born_live p (d.hints 0) n c ++ go_on p st d bits ls)
       at (Some a) e =
           let l = asker_lives m a sq ls k g e in
-          subst (λ b. Matched (if b then Owned a.number a.address else Orphan a.address) (Some a.address) m (born_live p (d.hints 0) n c ++ go_on p st d bits ls)) (sym l.0)
+          subst
+          (λ b. Matched (if b then Owned a.number a.address else Orphan a.address) (Some a.address) m (born_live p (d.hints 0) n c ++ go_on p st d bits ls))
+          (sym l.0)
           (refl, owner_behind a.number m (born_live p (d.hints 0) n c) (go_on p st d bits ls) l.1)
       at None e = by (is_answered p bits m) refl
         where

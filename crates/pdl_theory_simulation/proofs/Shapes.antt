@@ -1,5 +1,5 @@
 -- What a live thread keeps on its own way through the stages, whatever stands around it: the locations that it holds, its pending writes, the reads that it awaits.
-use Rattle.std.proofs.Common.{◌≡◌, refl, sym, ap, ap₂, ◌∙◌, subst, ℕ, ◌≤◌, ◌<◌, Bool, true, false, ◌&&◌, ◌||◌, not, List, [], ◌∷◌, ◌++◌, Some, None, ◌==◌, nat_lt, cond, if◌then◌else◌, arith, eq-eqb, slice_index, append-nil, ltb-true}
+use Rattle.std.proofs.Common.{◌≡◌, refl, sym, ap, ap₂, ◌∙◌, subst, ℕ, ◌≤◌, ◌<◌, Bool, true, false, ◌&&◌, ◌||◌, not, List, [], ◌∷◌, ◌++◌, Some, ◌==◌, nat_lt, cond, if◌then◌else◌, arith, eq-eqb, slice_index, append-nil, ltb-true}
 use Rattle.std.proofs.lemmas.Bool.{eqb-true}
 use Rattle.pdl_semantics.specs.Flat.{Commit, Op, Write, ReserveWrite, Release, Verify, Stmt, values_of, all_hold}
 use Rattle.pdl_semantics.specs.Stages.{onpath, is_reserve, is_release}
@@ -19,7 +19,7 @@ use Rattle.pdl_theory_turns.proofs.Paths.{Fixed, all_stays, taken_stays}
 use Rattle.pdl_theory_derived.proofs.Deeds.{places, places_without, places_filled}
 use Rattle.pdl_theory_derived.proofs.Lists.{own, pend}
 use Rattle.pdl_theory_turns.proofs.Steps.{Staged, unnamed, pendings, unnamed_append, pendings_append, pend_append, is_used, AllUsed}
-use Rattle.pdl_theory_turns.proofs.OwnEntries.{pend_own}
+use Rattle.pdl_theory_turns.proofs.OwnEntries.{pend_own, no_opens}
 
 -- SHAPES
 
@@ -36,15 +36,12 @@ pub record Shape (m : ℕ) (ph : Phase) (es : List Entry) : Type 0 where
 pub shape_fresh : (m : ℕ) → Shape m Fresh []
 shape_fresh m = record { opens = []; fulls = []; entries = refl; at_open = refl; at_full = refl; apart = apart_fresh }
 
-no_opens : (os : List Open) → open_vars os ≡ [] → os ≡ []
-no_opens [] h = refl
-no_opens (o ∷ os) h = absurd (cc h)
-
 -- a thread whose write to m isn't begun, or is done, has no pending write of m
 pub shape_over : (m : ℕ) (ph : Phase) (es : List Entry) → is_over ph ≡ true → Shape m ph es → es ≡ []
 shape_over m ph es h s =
     s.entries
-    ∙ ap₂ (λ l k. waiting m l ++ known m k) (no_opens s.opens (s.at_open ∙ nil_of ph.unwritten (and_left _ _ h))) (no_fulls s.fulls (s.at_full ∙ nil_of ph.full (and_right (is_nil ph.unwritten) _ h)))
+    ∙ ap₂ (λ l k. waiting m l ++ known m k) (no_opens s.opens (s.at_open ∙ nil_of ph.unwritten (and_left _ _ h)))
+    (no_fulls s.fulls (s.at_full ∙ nil_of ph.full (and_right (is_nil ph.unwritten) _ h)))
 
 -- so there are none then
 pub shape_none : (m : ℕ) (es : List Entry) → Shape m Fresh es → es ≡ []
@@ -61,13 +58,16 @@ pend_known m n (f ∷ fs) =
 
 known_used : (m n : ℕ) (ph : Phase) (fs : List Full) → ((x : ℕ) → is_among x (full_vars fs) ≡ true → is_used ph x ≡ true) → AllUsed ph (pend m n (known m fs))
 known_used m n ph [] h = tt
-known_used m n ph (f ∷ fs) h = both (pend m n (known m fs)) (m == m) (known_used m n ph fs (λ x k. h x (ap (λ b. (f.var == x) || b) k ∙ always (f.var == x)))) (h f.var (ap (λ b. b || is_among f.var (full_vars fs)) (eq-eqb f.var f.var refl)))
+known_used m n ph (f ∷ fs) h =
+    both (pend m n (known m fs)) (m == m) (known_used m n ph fs (λ x k. h x (ap (λ b. (f.var == x) || b) k ∙ always (f.var == x))))
+    (h f.var (ap (λ b. b || is_among f.var (full_vars fs)) (eq-eqb f.var f.var refl)))
   where
     always : (b : Bool) → (b || true) ≡ true
     always true = refl
     always false = refl
 
-    both : (es : List Pending) (b : Bool) → AllUsed ph es → is_used ph f.var ≡ true → AllUsed ph (es ++ cond b (own n (entry m f.var f.address (Some f.value)) ∷ []) [])
+    both : (es : List Pending) (b : Bool)
+        → AllUsed ph es → is_used ph f.var ≡ true → AllUsed ph (es ++ cond b (own n (entry m f.var f.address (Some f.value)) ∷ []) [])
     both [] true u k = (k, tt)
     both [] false u k = tt
     both (e ∷ es) b u k = (u.0, both es b u.1 k)
@@ -99,7 +99,8 @@ shape_start m n ph es t =
 -- a thread's entries of m have the shape of its phase at the end of a stage
 pub shape_end : (m n : ℕ) (ph : Phase) (es : List Entry) (cs : List Commit) (new : List Pending) (ws : List Machine.Written) (rel : ℕ)
     → Staged m n ph es cs new ws rel → Shape m ph es
-shape_end m n ph es cs new ws rel g = record { opens = g.opens; fulls = g.fulls; entries = g.entries; at_open = g.at_open; at_full = g.at_full; apart = g.apart }
+shape_end m n ph es cs new ws rel g =
+    record { opens = g.opens; fulls = g.fulls; entries = g.entries; at_open = g.at_open; at_full = g.at_full; apart = g.apart }
 
 -- LISTS OF STATEMENTS
 
@@ -198,6 +199,7 @@ stuck m (Write k a e) ph h r = at (k == m)
     never : (b : Bool) → (b && false) ≡ false
     never true = refl
     never false = refl
+
     at : (b : Bool) → is_over (cond b (after_write ph a) ph) ≡ false
     at true = never (is_nil (but_last ph.unwritten))
     at false = h
@@ -251,7 +253,8 @@ held_op o (Write j a e) w = places_filled w.entries j a _
 held_op o (Release j a) w = places_without w.entries j a
 held_op o (Verify last args) w = at (same_args (values_of args w.env) w.guess)
   where
-    at : (b : Bool) → places (cond b w (record w { child = Some (values_of args w.env); guess = (values_of args w.env); fails = true })).entries ≡ places w.entries
+    at : (b : Bool)
+        → places (cond b w (record w { child = Some (values_of args w.env); guess = (values_of args w.env); fails = true })).entries ≡ places w.entries
     at true = refl
     at false = refl
 held_op o _ w = refl

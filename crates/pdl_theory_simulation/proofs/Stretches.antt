@@ -3,17 +3,17 @@ use Rattle.std.proofs.Common.{◌≡◌, refl, sym, ap, ap₂, ◌∙◌, subst,
 use Rattle.std.proofs.lemmas.Bool.{eqb-true, eqb-false}
 use Rattle.pdl_semantics.specs.Flat.{Stmt, Branch, Pipe}
 use Rattle.pdl_semantics.specs.Stages.{onpath, in_stage, stage_at, goes_to, is_reserve, is_release, reserve_stage, commit_stage}
-use Rattle.pdl_semantics.specs.Machine.{Ask, Awaited, is_answered, Blocked, Reserved, Deeds, held_before, deeds_after_all, Kept, same_args, Pending, is_held}
+use Rattle.pdl_semantics.specs.Machine.{Ask, Awaited, is_answered, Blocked, Deeds, held_before, deeds_after_all, Kept}
 use Rattle.pdl_semantics.specs.Cycle.{awaited_of, releases_of}
 use Rattle.pdl_semantics.specs.Sound.{stages_before, stages_from, is_delayed_read}
 use Rattle.pdl_theory_derived.specs.Derived.{Work, Around, work_of_stage, still, with_answers, answered_thread}
 use Rattle.pdl_theory_derived.specs.Derived
 use Rattle.pdl_theory_facts.specs.Scans.{Fresh, phase_all, is_over, none_of, called}
 use Rattle.pdl_theory_facts.proofs.Nested.{within_all, within_home, within_more}
-use Rattle.pdl_theory_simulation.proofs.FlowFacts.{Home, Within, Trunk, Below, Way, Flows, uses_ok, calls_ok, visits_stage, next_of, stage_or, comes_by, Leads, Ways}
+use Rattle.pdl_theory_simulation.proofs.FlowFacts.{Within, Trunk, Below, Way, Flows, uses_ok, calls_ok, visits_stage, next_of, stage_or, comes_by, Leads, Ways}
 use Rattle.pdl_theory_derived.proofs.Entries.{entries_of}
 use Rattle.pdl_theory_turns.proofs.Paths.{Fixed, none_onpath}
-use Rattle.pdl_theory_derived.proofs.Deeds.{places, AllFit, places_has, work_of, Loosely, loose_start, loose_step}
+use Rattle.pdl_theory_derived.proofs.Deeds.{places, AllFit, loose_start}
 use Rattle.pdl_theory_derived.proofs.Lists.{pend}
 use Rattle.pdl_theory_turns.proofs.Steps.{Here}
 use Rattle.pdl_theory_turns.proofs.OwnEntries.{Worked, worked, quiet_releases}
@@ -249,10 +249,12 @@ module _ (p : Pipe) (flows : Flows p) (env : List ℕ) (t : Derived.Thread) (k :
         (phase_all m Fresh (on_way p (work_of_stage p o t).env (next_of p t.stage (work_of_stage p o t).env)))
         (deeds_after_all read (in_stage t.stage p.stmts) (start_deeds advice)) (work_of_stage p o t)
     here =
-        subst (λ q. Here o read block free m n (pend m n t.entries) q (deeds_after_all read (in_stage t.stage p.stmts) (start_deeds advice)) (work_of_stage p o t))
+        subst
+        (λ q. Here o read block free m n (pend m n t.entries) q (deeds_after_all read (in_stage t.stage p.stmts) (start_deeds advice)) (work_of_stage p o t))
         (sym (ap (phase_all m Fresh) (way_next o) ∙ phase_append m (on_way p env t.stage) _ Fresh))
         (steps_all o read block free m n (pend m n t.entries) (work_of_stage p o t).env (in_stage t.stage p.stmts)
-        (phase_all m Fresh (on_way p env t.stage)) (start_deeds advice) (start_of t) (loose_start o read block free (start_deeds advice) t.entries [] k.held) fit (fixed_here o)
+        (phase_all m Fresh (on_way p env t.stage)) (start_deeds advice) (start_of t)
+        (loose_start o read block free (start_deeds advice) t.entries [] k.held) fit (fixed_here o)
         (uses_back m (on_way p env t.stage)
         (onpath (work_of_stage p o t).env (in_stage t.stage p.stmts)) Fresh
         (subst (λ l. uses_ok m Fresh l ≡ true) (way_next o) (uses_way (work_of_stage p o t).env (next_of p t.stage (work_of_stage p o t).env) m)))
@@ -263,9 +265,13 @@ module _ (p : Pipe) (flows : Flows p) (env : List ℕ) (t : Derived.Thread) (k :
     stage_worked = worked m n _ _ _ _ here (by (t.stage == commit_stage p m) refl)
       where
         by : (b : Bool) → (t.stage == commit_stage p m) ≡ b
-            → (releases_of m (deeds_after_all read (in_stage t.stage p.stmts) (start_deeds advice)).releases ≡ 0) ⊎ (is_over (phase_all m Fresh (on_way p (work_of_stage p o t).env (next_of p t.stage (work_of_stage p o t).env))) ≡ true)
+            → (releases_of m (deeds_after_all read (in_stage t.stage p.stmts) (start_deeds advice)).releases ≡ 0)
+            ⊎ (is_over (phase_all m Fresh (on_way p (work_of_stage p o t).env (next_of p t.stage (work_of_stage p o t).env))) ≡ true)
         by true e = inr (over_at _ _ m (subst (λ s. s < next_of p t.stage (work_of_stage p o t).env) (eqb-true _ _ e) (stage_up (work_of_stage p o t).env)))
-        by false e = inl (quiet_releases m read (in_stage t.stage p.stmts) (start_deeds advice) (none_in_stage (is_release m) (commit_stage p m) t.stage p.stmts (flows.releases m) (eqb-false _ _ e)) refl)
+        by false e =
+            inl
+            (quiet_releases m read (in_stage t.stage p.stmts) (start_deeds advice)
+            (none_in_stage (is_release m) (commit_stage p m) t.stage p.stmts (flows.releases m) (eqb-false _ _ e)) refl)
 
     stage_shape : Shape m (phase_all m Fresh (on_way p (work_of_stage p o t).env (next_of p t.stage (work_of_stage p o t).env)))
         (entries_of m (work_of_stage p o t).entries)
@@ -281,7 +287,8 @@ module _ (p : Pipe) (flows : Flows p) (env : List ℕ) (t : Derived.Thread) (k :
 
   -- a thread's stage makes no second successor but by a failing verify, and one that it makes was called
   pub made_then : (o : Around)
-      → has_made p (work_of_stage p o t).env (next_of p t.stage (work_of_stage p o t).env) ≡ called (has_made p env t.stage) (onpath (work_of_stage p o t).env (in_stage t.stage p.stmts))
+      → has_made p (work_of_stage p o t).env (next_of p t.stage (work_of_stage p o t).env) ≡ called (has_made p env t.stage)
+      (onpath (work_of_stage p o t).env (in_stage t.stage p.stmts))
   made_then o = ap (called false) (way_next o) ∙ called_append false (on_way p env t.stage) _
 
   -- the calls of its stage
@@ -294,7 +301,8 @@ module _ (p : Pipe) (flows : Flows p) (env : List ℕ) (t : Derived.Thread) (k :
       (flows.calls (work_of_stage p o t).env))))
 
   -- its successor
-  pub stage_child : (o : Around) → Childed (has_made p env t.stage) (has_made p (work_of_stage p o t).env (next_of p t.stage (work_of_stage p o t).env)) (work_of_stage p o t)
+  pub stage_child : (o : Around)
+      → Childed (has_made p env t.stage) (has_made p (work_of_stage p o t).env (next_of p t.stage (work_of_stage p o t).env)) (work_of_stage p o t)
   stage_child o =
       subst (λ c. Childed (has_made p env t.stage) c (work_of_stage p o t)) (sym (made_then o))
       (made_all (has_made p env t.stage) (has_made p env t.stage) (work_of_stage p o t).env o (in_stage t.stage p.stmts) (start_of t) (fixed_here o)
@@ -314,7 +322,8 @@ module _ (p : Pipe) (flows : Flows p) (env : List ℕ) (t : Derived.Thread) (k :
       → goes_to (stage_at p t.stage).next (work_of_stage p o t).env ≡ Some q
       → Keeps p (work_of_stage p o t).env
       (record {
-        stage = q; hint = t.hint;
+        stage = q;
+        hint = t.hint;
         env = (work_of_stage p o t).env;
         entries = (work_of_stage p o t).entries;
         guess = (work_of_stage p o t).guess;
@@ -324,7 +333,8 @@ module _ (p : Pipe) (flows : Flows p) (env : List ℕ) (t : Derived.Thread) (k :
       subst
       (λ n. Keeps p (work_of_stage p o t).env
       (record {
-        stage = n; hint = t.hint;
+        stage = n;
+        hint = t.hint;
         env = (work_of_stage p o t).env;
         entries = (work_of_stage p o t).entries;
         guess = (work_of_stage p o t).guess;

@@ -1,7 +1,7 @@
 -- The delayed reads among statements: what they ask for, and how many they are.
 use Rattle.std.proofs.Common.{◌≡◌, refl, sym, ap, ap₂, ◌∙◌, ℕ, ◌+◌, Bool, true, false, ◌&&◌, ◌||◌, List, [], ◌∷◌, ◌++◌, length, Some, ◌==◌, cond, arith, eq-eqb, count_by, append-nil, append_assoc, length-append}
 use Rattle.std.proofs.lemmas.List.Recursion.{is_count_by}
-use Rattle.pdl_semantics.specs.Flat.{Op, Bind, CombRead, DelayedRead, Write, ReserveRead, ReserveWrite, Block, Release, Call, SpecCall, Verify, SpecCheck, SpecBarrier, Stmt, values_of, all_hold, AdviceBind, AdviceRead, AdviceWrite, Pipe, Forks, start_env}
+use Rattle.pdl_semantics.specs.Flat.{Op, Bind, CombRead, DelayedRead, Write, ReserveRead, ReserveWrite, Block, Release, Call, SpecCall, Verify, SpecCheck, SpecBarrier, Stmt, values_of, all_hold, AdviceBind, AdviceRead, AdviceWrite}
 use Rattle.pdl_semantics.specs.Forms.{on_delayed_read}
 use Rattle.pdl_semantics.specs.Stages.{list_any, onpath}
 use Rattle.pdl_semantics.specs.Machine.{Ask, Awaited, Kept, same_args}
@@ -29,7 +29,8 @@ asks_op : (o : Around) (op : Op) (w : Work) → awaited_of (work_after o op w).a
 asks_op o (DelayedRead x m a) w = awaited_snoc w.asks _
 asks_op o (Verify last args) w = at (same_args (values_of args w.env) w.guess)
   where
-    at : (b : Bool) → awaited_of (cond b w (record w { child = Some (values_of args w.env); guess = values_of args w.env; fails = true })).asks ≡ awaited_of w.asks ++ []
+    at : (b : Bool)
+        → awaited_of (cond b w (record w { child = Some (values_of args w.env); guess = values_of args w.env; fails = true })).asks ≡ awaited_of w.asks ++ []
     at true = sym (append-nil _)
     at false = sym (append-nil _)
 asks_op o (Bind x e) w = sym (append-nil _)
@@ -155,4 +156,3 @@ count_fetch (x ∷ xs) = length-append (fetch_of x.op) (fetches_of xs) ∙ ap₂
         → cond b 1 0 + count (λ (x : Stmt). is_fetch x.op) xs ≡ cond b (1 + count (λ (x : Stmt). is_fetch x.op) xs) (count (λ (x : Stmt). is_fetch x.op) xs)
     at true = refl
     at false = omega arith
-

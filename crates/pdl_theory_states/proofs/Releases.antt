@@ -1,7 +1,7 @@
 -- Who has released a write of a memory: only threads past the stage of its releases, all threads of turns past it that write, and none after a wrong guess.
-use Rattle.std.proofs.Common.{◌≡◌, refl, sym, ap, ap₂, ◌∙◌, subst, ℕ, ◌<◌, Bool, true, false, ◌&&◌, ◌||◌, not, List, [], ◌∷◌, ◌++◌, Some, ◌==◌, nat_lt, cond, arith, eq-eqb, ltb-true, ltb-false, lt-ltb}
+use Rattle.std.proofs.Common.{◌≡◌, refl, sym, ap, ap₂, ◌∙◌, subst, ℕ, ◌<◌, Bool, true, false, ◌&&◌, ◌||◌, not, List, [], ◌∷◌, ◌++◌, Some, ◌==◌, nat_lt, cond, arith, ltb-true, ltb-false, lt-ltb}
 use Rattle.std.proofs.lemmas.Bool.{eqb-true, not-true, or_right}
-use Rattle.pdl_semantics.specs.Flat.{Arrays, Pipe, Op, Bind, CombRead, DelayedRead, Write, ReserveRead, ReserveWrite, Block, Release, Call, SpecCall, Verify, SpecCheck, SpecBarrier, AdviceBind, AdviceRead, AdviceWrite, Stmt, Commit, all_hold, of_mem}
+use Rattle.pdl_semantics.specs.Flat.{Pipe, Op, Bind, CombRead, DelayedRead, Write, ReserveRead, ReserveWrite, Block, Release, Call, SpecCall, Verify, SpecCheck, SpecBarrier, AdviceBind, AdviceRead, AdviceWrite, Stmt, Commit, all_hold, of_mem}
 use Rattle.pdl_semantics.specs.Stages.{list_any, onpath, is_release, commit_stage, verify_stage}
 use Rattle.pdl_semantics.specs.Machine.{State, HeldLocation}
 use Rattle.pdl_semantics.specs.Sequential.{Run, thread}
@@ -17,7 +17,7 @@ use Rattle.pdl_theory_derived.proofs.Writes.{and_left, and_right}
 use Rattle.pdl_theory_simulation.proofs.FlowFacts.{uses_ok, use_ok}
 use Rattle.pdl_theory_simulation.proofs.AcceptedFacts.{sound_flows, phases_looked}
 use Rattle.pdl_theory_derived.proofs.Entries.{entries_of, Open, Full, waiting, known, open_vars, full_vars}
-use Rattle.pdl_theory_facts.proofs.Apart.{front_among}
+use Rattle.pdl_theory_facts.proofs.Apart.{front_among, oldest_among}
 use Rattle.pdl_theory_turns.proofs.Phases.{Tied}
 use Rattle.pdl_theory_derived.proofs.Deeds.{places}
 use Rattle.pdl_theory_turns.proofs.CertaintyScans.{some_barrier, sure_first}
@@ -71,6 +71,7 @@ never_done m ph (x ∷ xs) r h = never_done m (next_phase m ph x.op) xs (and_rig
 and_none : (b : Bool) → (b && false) ≡ false
 and_none true = refl
 and_none false = refl
+
 used_op : (m : ℕ) (ph : Phase) (op : Op) → is_fresh ph ≡ false → is_fresh (next_phase m ph op) ≡ false
 used_op m ph (ReserveWrite n a) h = at (n == m)
   where
@@ -187,7 +188,11 @@ module _ (p : Pipe) (sound : Sound p) (st : State) (l : Live) (seated : Seated p
     where
       at : (b : Bool) → nat_lt (commit_stage p m) l.thread.stage ≡ b → commit_stage p m < l.thread.stage
       at true e = ltb-true _ _ e
-      at false e = absurd (cc (sym h ∙ never_done m Fresh (on_way p l.env l.thread.stage) (none_onpath (is_release m) l.env (stages_before l.thread.stage p.stmts) (none_till (is_release m) (commit_stage p m) l.thread.stage p.stmts ((sound_flows p sound).releases m) (ltb-false _ _ e))) refl))
+      at false e =
+          absurd
+          (cc (sym h ∙ never_done m Fresh (on_way p l.env l.thread.stage)
+          (none_onpath (is_release m) l.env (stages_before l.thread.stage p.stmts)
+          (none_till (is_release m) (commit_stage p m) l.thread.stage p.stmts ((sound_flows p sound).releases m) (ltb-false _ _ e))) refl))
 
   -- a thread whose way has come to the release of its write of m has released it
   pub done_released : is_done (phase_all m Fresh (on_way p l.env l.thread.stage)) ≡ true → has_released m p (told l) ≡ true
@@ -246,11 +251,6 @@ module _ (p : Pipe) (sound : Sound p) (world : World) (args : List ℕ) where
 
 -- A THREAD AFTER A WRONG GUESS
 
-oldest_among : (a : ℕ) (xs : List ℕ) → is_oldest a xs ≡ true → is_among a xs ≡ true
-oldest_among a [] h = absurd (cc h)
-oldest_among a (x ∷ []) h = ap (λ b. b || false) h
-oldest_among a (x ∷ y ∷ ys) h = or_right (x == a) _ (oldest_among a (y ∷ ys) (and_right (not (x == a)) _ h))
-
 -- writes under way have their locations among those that were opened
 pub record Opened (m : ℕ) (ph : Phase) (c : Scan) : Type 0 where
   pub unwritten : (x : ℕ) → is_among x ph.unwritten ≡ true → has_location c.held m x ≡ true
@@ -269,11 +269,15 @@ sure_op m v s c ph (ReserveWrite n a) k u low o d = at (n == m) refl
     more : Opened m ph (scan_after (ReserveWrite n a) c)
     more = opened_more m ph c (scan_after (ReserveWrite n a) c) (λ x i. or_right ((n == m) && (a == x)) _ i) o
 
-    new : (n == m) ≡ true → (x : ℕ) (b : Bool) → (a == x) ≡ b → (b || is_among x ph.unwritten) ≡ true → has_location (scan_after (ReserveWrite n a) c).held m x ≡ true
+    new : (n == m) ≡ true
+        → (x : ℕ) (b : Bool) → (a == x) ≡ b → (b || is_among x ph.unwritten) ≡ true
+        → has_location (scan_after (ReserveWrite n a) c).held m x ≡ true
     new e x true j i = ap₂ (λ s t. (s && t) || has_location c.held m x) e j
     new e x false j i = more.unwritten x i
 
-    at : (b : Bool) → (n == m) ≡ b → Opened m (cond b (after_reserve ph a) ph) (scan_after (ReserveWrite n a) c) × (is_done (cond b (after_reserve ph a) ph) ≡ false)
+    at : (b : Bool)
+        → (n == m) ≡ b
+        → Opened m (cond b (after_reserve ph a) ph) (scan_after (ReserveWrite n a) c) × (is_done (cond b (after_reserve ph a) ph) ≡ false)
     at true e = (record { unwritten = λ x i. new e x (a == x) refl i; full = more.full }, d)
     at false e = (more, d)
 sure_op m v s c ph (Write n a e) k u low o d = at (n == m) k
@@ -281,6 +285,7 @@ sure_op m v s c ph (Write n a e) k u low o d = at (n == m) k
     by : is_oldest a ph.unwritten ≡ true → (x : ℕ) (b : Bool) → (a == x) ≡ b → (b || is_among x ph.full) ≡ true → has_location c.held m x ≡ true
     by i x true j l = subst (λ y. has_location c.held m y ≡ true) (eqb-true a x j) (o.unwritten a (oldest_among a ph.unwritten i))
     by i x false j l = o.full x l
+
     at : (b : Bool) → (not b || may_write ph a) ≡ true → Opened m (cond b (after_write ph a) ph) c × (is_done (cond b (after_write ph a) ph) ≡ false)
     at true i = (record { unwritten = λ x j. o.unwritten x (front_among x ph.unwritten j); full = λ x j. by i x (a == x) refl j }, d)
     at false i = (o, d)
@@ -292,7 +297,8 @@ sure_op m v s c ph (Release n a) k u low o d = at (n == m) refl (is_among a ph.f
     shut true false i j = absurd (cc j)
 
     at : (b : Bool) → (n == m) ≡ b → (t : Bool) → is_among a ph.full ≡ t
-        → Opened m (cond b (cond t (record { unwritten = ph.unwritten; full = drop_var a ph.full; gone = a ∷ ph.gone }) ph) ph) c × (is_done (cond b (cond t (record { unwritten = ph.unwritten; full = drop_var a ph.full; gone = a ∷ ph.gone }) ph) ph) ≡ false)
+        → Opened m (cond b (cond t (record { unwritten = ph.unwritten; full = drop_var a ph.full; gone = a ∷ ph.gone }) ph) ph) c
+        × (is_done (cond b (cond t (record { unwritten = ph.unwritten; full = drop_var a ph.full; gone = a ∷ ph.gone }) ph) ph) ≡ false)
     at true e true g = absurd (cc (sym (shut (has_location c.held n a) (nat_lt s v) u low) ∙ ap (λ j. has_location c.held j a) (eqb-true n m e) ∙ o.full a g))
     at true e false g = (o, d)
     at false e t g = (o, d)

@@ -2,7 +2,7 @@
 use Rattle.std.proofs.Common.{◌≡◌, ◌≢◌, refl, sym, ap, ap₂, ◌∙◌, subst, ℕ, suc, ◌+◌, ◌≤◌, ◌<◌, ◌⊎◌, inl, inr, Bool, true, false, ◌&&◌, ◌||◌, not, List, [], ◌∷◌, ◌++◌, length, Option, Some, None, is_some, ◌==◌, if◌then◌else◌, arith, slice_index, slice_set, eq-eqb, length-append, add-zero, zero-add, length-set}
 use Rattle.std.proofs.lemmas.List.{get_or-set_other, length-replicate}
 use Rattle.std.proofs.lemmas.Bool.{ne_eqb}
-use Rattle.pdl_semantics.specs.Flat.{Op, Stmt, Pipe, Forks, start_env, Bind, CombRead, DelayedRead, Write, ReserveRead, ReserveWrite, Block, Release, Call, SpecCall, Verify, SpecCheck, SpecBarrier, AdviceBind, AdviceRead, AdviceWrite, values_of, all_hold}
+use Rattle.pdl_semantics.specs.Flat.{Op, Stmt, Pipe, Forks, start_env}
 use Rattle.pdl_semantics.specs.Stages.{list_any, onpath, in_stage, stage_at, goes_to}
 use Rattle.pdl_semantics.specs.Machine.{Ask, Awaited, Kept, with_kept, State, answer_for, kept_answer, unanswered_reads}
 use Rattle.pdl_semantics.specs.Cycle.{awaited_of}
@@ -262,7 +262,9 @@ kept_done guess past (k ∷ kept) env u h =
     kept_done guess past kept (slice_set env k.var k.word) u.1
     (ops_both (λ op t d. done_agrees env (slice_set env k.var k.word) guess op (set_agrees k.var k.word op env t) d) past u.0 h)
 
-kept_guess : (hint : List ℕ) (past : List Op) (kept : List Kept) (env : List ℕ) → AllKept (λ k. AllOps (λ op. touches k.var op ≡ false) past) kept → guess_past hint past env ≡ guess_past hint past (with_kept kept env)
+kept_guess : (hint : List ℕ) (past : List Op) (kept : List Kept) (env : List ℕ)
+    → AllKept (λ k. AllOps (λ op. touches k.var op ≡ false) past) kept
+    → guess_past hint past env ≡ guess_past hint past (with_kept kept env)
 kept_guess hint past [] env u = refl
 kept_guess hint past (k ∷ kept) env u = guess_set hint k.var k.word env past u.0 ∙ kept_guess hint past kept (slice_set env k.var k.word) u.1
 
@@ -318,7 +320,9 @@ module _ (p : Pipe) (flows : Flows p) (sound : Sound p) (strict : Strict p) (o :
         done =
             subst (λ l. AllOps (Done l t.guess) (past_of p env t.stage)) values
             (kept_done t.guess (past_of p env t.stage) kept env (kept_unused p env kept t loc) loc.done);
-        guessed = loc.guessed ∙ kept_guess t.hint (past_of p env t.stage) kept env (kept_unused p env kept t loc) ∙ ap (guess_past t.hint (past_of p env t.stage)) values
+        guessed =
+            loc.guessed ∙ kept_guess t.hint (past_of p env t.stage) kept env (kept_unused p env kept t loc)
+            ∙ ap (guess_past t.hint (past_of p env t.stage)) values
             ∙ ap (λ g. guess_past g (past_of p env t.stage) t.env) (sym hinted);
         placed =
             subst (λ l. AllPlaced l (past_of p env t.stage) t.entries) values
@@ -328,6 +332,7 @@ module _ (p : Pipe) (flows : Flows p) (sound : Sound p) (strict : Strict p) (o :
         blocks = blocks;
       }
 
+  -- a path is what the thread has done, its stage, and what is left
   pub whole_way : onpath (work_of_stage p o t).env p.stmts
       ≡ (on_way p env t.stage ++ onpath (work_of_stage p o t).env (in_stage t.stage p.stmts))
       ++ onpath (work_of_stage p o t).env (stages_from (next_of p t.stage (work_of_stage p o t).env) p.stmts)
@@ -423,7 +428,8 @@ module _ (p : Pipe) (flows : Flows p) (sound : Sound p) (strict : Strict p) (o :
     pub local_moved : AllOps (BlockOk o t.env t.entries (past_of p env t.stage)) (past_of p env t.stage)
         → Local p (work_of_stage p o t).env []
         (record {
-          stage = q; hint = t.hint;
+          stage = q;
+          hint = t.hint;
           env = (work_of_stage p o t).env;
           entries = (work_of_stage p o t).entries;
           guess = (work_of_stage p o t).guess;

@@ -1,14 +1,14 @@
 -- A thread's entries of one memory: what its stage does to them; and guards that keep their values over statements.
-use Rattle.std.proofs.Common.{◌≡◌, ◌||◌, ◌⊎◌, refl, sym, ap, ap₂, ◌∙◌, ℕ, ◌+◌, inl, inr, length, take, drop, Bool, true, false, ◌&&◌, not, List, [], ◌∷◌, ◌++◌, Option, Some, None, ◌==◌, cond, if◌then◌else◌, eq-eqb, slice_index, append-nil}
+use Rattle.std.proofs.Common.{◌≡◌, ◌||◌, ◌⊎◌, refl, sym, ap, ap₂, ◌∙◌, ℕ, ◌+◌, inl, inr, length, take, drop, Bool, true, false, ◌&&◌, not, List, [], ◌∷◌, ◌++◌, Some, None, ◌==◌, cond, if◌then◌else◌, slice_index, append-nil}
 use Rattle.pdl_semantics.specs.Flat.{of_mem, Op, ReserveWrite, Release, Verify, Stmt, Guard, values_of, all_hold}
-use Rattle.pdl_semantics.specs.Stages.{ is_reserve, is_release}
+use Rattle.pdl_semantics.specs.Stages.{is_reserve, is_release}
 use Rattle.pdl_semantics.specs.Machine.{same_args, is_held, Pending, Deeds, deeds_after_all}
 use Rattle.pdl_semantics.specs.Cycle.{new_entries, with_writes_of, releases_of}
 use Rattle.pdl_theory_turns.proofs.EntryCommits.{released}
 use Rattle.pdl_semantics.specs.Machine
 use Rattle.pdl_theory_derived.specs.Derived.{Entry, Work, Around, do_all}
 use Rattle.pdl_theory_derived.proofs.Writes.{and_left, and_right}
-use Rattle.pdl_theory_derived.proofs.Entries.{entries_of, entry, Open, Full, waiting, known, open_vars, full_vars, told}
+use Rattle.pdl_theory_derived.proofs.Entries.{entries_of, entry, Open, waiting, known, open_vars, told}
 use Rattle.pdl_theory_derived.specs.Alone.{is_nil}
 use Rattle.pdl_theory_turns.proofs.Phases.{nil_of, no_fulls}
 use Rattle.pdl_theory_facts.specs.Scans.{Phase, is_over, none_of, binds_var, is_fixed, free_of, is_dead, keeps_guards}
@@ -22,7 +22,8 @@ no_length : {X : Type 0} → (xs : List X) → length xs ≡ 0 → xs ≡ []
 no_length [] h = refl
 no_length (x ∷ xs) h = absurd (cc h)
 
-no_opens : (os : List Open) → open_vars os ≡ [] → os ≡ []
+-- where no location waits for a value no pending write does
+pub no_opens : (os : List Open) → open_vars os ≡ [] → os ≡ []
 no_opens [] h = refl
 no_opens (o ∷ os) h = absurd (cc h)
 
@@ -63,7 +64,9 @@ pub worked : (m n : ℕ) (start : List Pending) (d : Deeds) (w : Work) (ph : Pha
     → (releases_of m d.releases ≡ 0) ⊎ (is_over ph ≡ true) → Worked m n start d w
 worked m n start d w ph g (inl h) =
     let none : g.out ≡ [] = no_length g.out (g.outs ∙ h) in
-    let two : with_writes_of m n d.writes (start ++ new_entries m n d.reserves) ≡ pend m n w.entries = g.two ∙ ap₂ (λ l k. l ++ (k ++ pend m n (waiting m g.opens))) none (g.exact h) ∙ sym (pend_append m n (waiting m g.opens) (known m g.fulls)) ∙ ap (pend m n) (sym g.entries) ∙ sym (pend_own m n w.entries) in
+    let two : with_writes_of m n d.writes (start ++ new_entries m n d.reserves) ≡ pend m n w.entries = g.two
+    ∙ ap₂ (λ l k. l ++ (k ++ pend m n (waiting m g.opens))) none (g.exact h) ∙ sym (pend_append m n (waiting m g.opens) (known m g.fulls))
+    ∙ ap (pend m n) (sym g.entries) ∙ sym (pend_own m n w.entries) in
     record {
       after = sym two ∙ sym (ap (λ k. drop k (with_writes_of m n d.writes (start ++ new_entries m n d.reserves))) h);
       full = inl h;
@@ -73,11 +76,14 @@ worked m n start d w ph g (inr h) =
     let closed : g.opens ≡ [] = no_opens g.opens (g.at_open ∙ nil_of ph.unwritten (and_left _ _ h)) in
     let empty : g.fulls ≡ [] = no_fulls g.fulls (g.at_full ∙ nil_of ph.full (and_right (is_nil ph.unwritten) _ h)) in
     let rest : g.rest ≡ [] = no_unnamed g.rest (g.same ∙ ap (λ l. pendings n (told m l)) empty) in
-    let two : with_writes_of m n d.writes (start ++ new_entries m n d.reserves) ≡ g.out = g.two ∙ ap₂ (λ l k. g.out ++ (l ++ pend m n (waiting m k))) rest closed ∙ append-nil g.out in record {
-          after = pend_own m n w.entries ∙ ap (pend m n) (g.entries ∙ ap₂ (λ l k. waiting m l ++ known m k) closed empty) ∙ sym (ap₂ drop (sym g.outs) two ∙ drop_whole g.out);
-          full = inr (ap length two ∙ g.outs);
-          commits = g.commits ∙ ap (released m) (sym (ap₂ take (sym g.outs) two ∙ take_whole g.out));
-        }
+    let two : with_writes_of m n d.writes (start ++ new_entries m n d.reserves) ≡ g.out =
+    g.two ∙ ap₂ (λ l k. g.out ++ (l ++ pend m n (waiting m k))) rest closed ∙ append-nil g.out in record {
+      after =
+          pend_own m n w.entries ∙ ap (pend m n) (g.entries ∙ ap₂ (λ l k. waiting m l ++ known m k) closed empty)
+          ∙ sym (ap₂ drop (sym g.outs) two ∙ drop_whole g.out);
+      full = inr (ap length two ∙ g.outs);
+      commits = g.commits ∙ ap (released m) (sym (ap₂ take (sym g.outs) two ∙ take_whole g.out));
+    }
 
 -- guards stay over statements that don't bind them
 pub none_first : (test : Op → Bool) (xs ys : List Stmt) → none_of test (xs ++ ys) ≡ true → none_of test xs ≡ true
@@ -139,7 +145,8 @@ quiet_op m n read (Verify last args) d h k = at (same_args (values_of args d.env
 quiet_op m n read _ d h k = k
 
 -- only its stage releases m
-quiet_release : (m : ℕ) (read : ℕ → ℕ → ℕ) (op : Op) (d : Deeds) → not (is_release m op) ≡ true → releases_of m d.releases ≡ 0 → releases_of m (Machine.deeds_after read op d).releases ≡ 0
+quiet_release : (m : ℕ) (read : ℕ → ℕ → ℕ) (op : Op) (d : Deeds)
+    → not (is_release m op) ≡ true → releases_of m d.releases ≡ 0 → releases_of m (Machine.deeds_after read op d).releases ≡ 0
 quiet_release m read (Release j a) d h k = releases_more m d.releases _ ∙ ap₂ (λ x y. x + y) k (none (is_held d.held j a))
   where
     none : (b : Bool) → releases_of m (if b then j ∷ [] else []) ≡ 0
@@ -157,9 +164,11 @@ quiet_release m read (Verify last args) d h k = at (same_args (values_of args d.
 quiet_release m read _ d h k = k
 
 -- statements that release nothing of m release no write of it
-pub quiet_releases : (m : ℕ) (read : ℕ → ℕ → ℕ) (xs : List Stmt) (d : Deeds) → none_of (is_release m) xs ≡ true → releases_of m d.releases ≡ 0 → releases_of m (deeds_after_all read xs d).releases ≡ 0
+pub quiet_releases : (m : ℕ) (read : ℕ → ℕ → ℕ) (xs : List Stmt) (d : Deeds)
+    → none_of (is_release m) xs ≡ true → releases_of m d.releases ≡ 0 → releases_of m (deeds_after_all read xs d).releases ≡ 0
 quiet_releases m read [] d h k = k
-quiet_releases m read (x ∷ xs) d h k = quiet_releases m read xs (if all_hold x.guards d.env then Machine.deeds_after read x.op d else d) (and_right _ _ h) (at (all_hold x.guards d.env))
+quiet_releases m read (x ∷ xs) d h k =
+    quiet_releases m read xs (if all_hold x.guards d.env then Machine.deeds_after read x.op d else d) (and_right _ _ h) (at (all_hold x.guards d.env))
   where
     at : (b : Bool) → releases_of m (cond b (Machine.deeds_after read x.op d) d).releases ≡ 0
     at true = quiet_release m read x.op d (and_left _ _ h) k

@@ -1,13 +1,14 @@
 -- A thread's stage reserves no more of a memory for writing than its lock has room for.
-use Rattle.std.proofs.Common.{◌≡◌, refl, sym, ap, ap₂, ◌∙◌, subst, ℕ, suc, ◌+◌, ◌≤◌, Bool, true, false, ◌&&◌, List, [], ◌∷◌, ◌++◌, ◌==◌, cond, Some, arith, leb-true, le-leb, append-nil}
+use Rattle.std.proofs.Common.{◌≡◌, refl, sym, ap, ap₂, ◌∙◌, subst, ℕ, suc, ◌+◌, ◌≤◌, Bool, true, false, List, [], ◌∷◌, ◌++◌, ◌==◌, cond, Some, arith, append-nil}
 use Rattle.std.proofs.lemmas.Bool.{and_from}
-use Rattle.pdl_semantics.specs.Flat.{list_all, Op, DelayedRead, ReserveWrite, Verify, Stmt, Pipe, Lock, Plain, Queue, Bypass, Rename, all_hold, values_of}
+use Rattle.pdl_semantics.specs.Flat.{list_all, Op, DelayedRead, ReserveWrite, Verify, Stmt, Pipe, all_hold, values_of}
 use Rattle.pdl_semantics.specs.Stages.{onpath, in_stage, mem_at}
 use Rattle.pdl_semantics.specs.Locks.{has_room}
 use Rattle.pdl_semantics.specs.Machine.{Reserved, reserves_of, same_args}
 use Rattle.pdl_semantics.specs.Sound.{is_write_reserve}
 use Rattle.pdl_theory_derived.specs.Derived.{Work, Around, Thread, work_after, do_all, work_of_stage, have_room}
 use Rattle.pdl_theory_derived.specs.Alone.{answered_op}
+use Rattle.pdl_semantics.proofs.Readiness.{room_fewer}
 use Rattle.pdl_theory_derived.proofs.Stages.{step}
 use Rattle.pdl_theory_facts.specs.Scans.{is_fixed, write_reserves}
 use Rattle.pdl_theory_facts.specs.Facts.{Sound, looked_all}
@@ -17,13 +18,6 @@ use Rattle.pdl_theory_turns.proofs.OfStage.{fixed_stage}
 use Rattle.pdl_theory_turns.proofs.Looks.{path_looked}
 use Rattle.pdl_theory_turns.proofs.StrayPaths.{fixed_looked}
 
--- room for more is room for fewer
-room_fewer : (k : Lock) (i j : ℕ) → j ≤ i → has_room k i 0 ≡ true → has_room k j 0 ≡ true
-room_fewer Plain i j low h = refl
-room_fewer (Queue n) i j low h = le-leb (j + 0) n (let e : i + 0 ≤ n = leb-true (i + 0) n h in omega arith)
-room_fewer (Bypass n) i j low h = le-leb (j + 0) n (let e : i + 0 ≤ n = leb-true (i + 0) n h in omega arith)
-room_fewer (Rename n) i j low h = le-leb (j + 0) n (let e : i + 0 ≤ n = leb-true (i + 0) n h in omega arith)
-
 one_more : (m : ℕ) (rs : List Reserved) (r : Reserved) → reserves_of m (rs ++ r ∷ []) ≡ reserves_of m rs + cond (r.mem == m) 1 0
 one_more m [] r = none (r.mem == m)
   where
@@ -32,18 +26,24 @@ one_more m [] r = none (r.mem == m)
     none false = refl
 one_more m (x ∷ rs) r = at (x.mem == m) (one_more m rs r)
   where
-    at : (b : Bool) → reserves_of m (rs ++ r ∷ []) ≡ reserves_of m rs + cond (r.mem == m) 1 0 → cond b (suc (reserves_of m (rs ++ r ∷ []))) (reserves_of m (rs ++ r ∷ [])) ≡ cond b (suc (reserves_of m rs)) (reserves_of m rs) + cond (r.mem == m) 1 0
+    at : (b : Bool)
+        → reserves_of m (rs ++ r ∷ []) ≡ reserves_of m rs + cond (r.mem == m) 1 0
+        → cond b (suc (reserves_of m (rs ++ r ∷ []))) (reserves_of m (rs ++ r ∷ []))
+        ≡ cond b (suc (reserves_of m rs)) (reserves_of m rs) + cond (r.mem == m) 1 0
     at true h = omega arith
     at false h = h
 
 plus_none : (n : ℕ) → n ≡ n + 0
 plus_none n = omega arith
 
-counted_op : (m : ℕ) (o : Around) (op : Op) (w : Work) → reserves_of m (work_after o op w).reserves ≡ reserves_of m w.reserves + cond (is_write_reserve m op) 1 0
+counted_op : (m : ℕ) (o : Around) (op : Op) (w : Work)
+    → reserves_of m (work_after o op w).reserves ≡ reserves_of m w.reserves + cond (is_write_reserve m op) 1 0
 counted_op m o (ReserveWrite n a) w = one_more m w.reserves _
 counted_op m o (Verify last args) w = at (same_args (values_of args w.env) w.guess)
   where
-    at : (b : Bool) → reserves_of m (cond b w (record w { child = Some (values_of args w.env); guess = values_of args w.env; fails = true })).reserves ≡ reserves_of m w.reserves + 0
+    at : (b : Bool)
+        → reserves_of m (cond b w (record w { child = Some (values_of args w.env); guess = values_of args w.env; fails = true })).reserves
+        ≡ reserves_of m w.reserves + 0
     at true = plus_none (reserves_of m w.reserves)
     at false = plus_none (reserves_of m w.reserves)
 counted_op m o _ w = plus_none (reserves_of m w.reserves)
@@ -58,7 +58,9 @@ counted path m o (x ∷ xs) w f = counted path m o xs (step o x w) f.1 ∙ at (a
         ≡ reserves_of m w.reserves + write_reserves m (cond c (record x { guards = [] } ∷ onpath path xs) (onpath path xs))
     at true true e = ap (λ n. n + write_reserves m (onpath path xs)) (counted_op m o x.op w) ∙ by (is_write_reserve m x.op)
       where
-        by : (d : Bool) → (reserves_of m w.reserves + cond d 1 0) + write_reserves m (onpath path xs) ≡ reserves_of m w.reserves + cond d (suc (write_reserves m (onpath path xs))) (write_reserves m (onpath path xs))
+        by : (d : Bool)
+            → (reserves_of m w.reserves + cond d 1 0) + write_reserves m (onpath path xs)
+            ≡ reserves_of m w.reserves + cond d (suc (write_reserves m (onpath path xs))) (write_reserves m (onpath path xs))
         by true = omega arith
         by false = omega arith
     at true false e = absurd (cc e)
@@ -69,15 +71,26 @@ stage_fewer : (path : List ℕ) (m s : ℕ) (xs : List Stmt) → write_reserves 
 stage_fewer path m s [] = omega arith
 stage_fewer path m s (x ∷ xs) = at (x.stage == s) (all_hold x.guards path) refl (is_write_reserve m x.op) refl (stage_fewer path m s xs)
   where
-    at : (b c : Bool) → all_hold x.guards path ≡ c → (d : Bool) → is_write_reserve m x.op ≡ d → write_reserves m (onpath path (in_stage s xs)) ≤ write_reserves m (onpath path xs)
-        → write_reserves m (onpath path (cond b (x ∷ in_stage s xs) (in_stage s xs))) ≤ write_reserves m (cond c (record x { guards = [] } ∷ onpath path xs) (onpath path xs))
-    at true true e d f h = subst (λ c. write_reserves m (cond c (record x { guards = [] } ∷ onpath path (in_stage s xs)) (onpath path (in_stage s xs))) ≤ cond (is_write_reserve m x.op) (suc (write_reserves m (onpath path xs))) (write_reserves m (onpath path xs))) (sym e)
+    at : (b c : Bool)
+        → all_hold x.guards path ≡ c → (d : Bool) → is_write_reserve m x.op ≡ d
+        → write_reserves m (onpath path (in_stage s xs)) ≤ write_reserves m (onpath path xs)
+        → write_reserves m (onpath path (cond b (x ∷ in_stage s xs) (in_stage s xs))) ≤ write_reserves m
+        (cond c (record x { guards = [] } ∷ onpath path xs) (onpath path xs))
+    at true true e d f h =
+        subst
+        (λ c. write_reserves m (cond c (record x { guards = [] } ∷ onpath path (in_stage s xs)) (onpath path (in_stage s xs))) ≤ cond (is_write_reserve m x.op)
+        (suc (write_reserves m (onpath path xs))) (write_reserves m (onpath path xs))) (sym e)
         (by (is_write_reserve m x.op))
       where
-        by : (d : Bool) → cond d (suc (write_reserves m (onpath path (in_stage s xs)))) (write_reserves m (onpath path (in_stage s xs))) ≤ cond d (suc (write_reserves m (onpath path xs))) (write_reserves m (onpath path xs))
+        by : (d : Bool)
+            → cond d (suc (write_reserves m (onpath path (in_stage s xs)))) (write_reserves m (onpath path (in_stage s xs))) ≤ cond d
+            (suc (write_reserves m (onpath path xs))) (write_reserves m (onpath path xs))
         by true = omega arith
         by false = h
-    at true false e d f h = subst (λ c. write_reserves m (cond c (record x { guards = [] } ∷ onpath path (in_stage s xs)) (onpath path (in_stage s xs))) ≤ write_reserves m (onpath path xs)) (sym e) h
+    at true false e d f h =
+        subst
+        (λ c. write_reserves m (cond c (record x { guards = [] } ∷ onpath path (in_stage s xs)) (onpath path (in_stage s xs))) ≤ write_reserves m
+        (onpath path xs)) (sym e) h
     at false true e d f h = by (is_write_reserve m x.op)
       where
         by : (d : Bool) → write_reserves m (onpath path (in_stage s xs)) ≤ cond d (suc (write_reserves m (onpath path xs))) (write_reserves m (onpath path xs))
@@ -97,7 +110,7 @@ module _ (p : Pipe) (acc : Sound p) where
   -- each stage's reservations have room in an empty lock
   pub rooms : (o : Around) (t : Thread) (m : ℕ) → has_room (mem_at p m).lock (reserves_of m (work_of_stage p o t).reserves) 0 ≡ true
   rooms o t m =
-      room_fewer (mem_at p m).lock (write_reserves m (onpath path (looked_all p.stmts))) _ fewer ((acc.pathwise.paths path).locks m)
+      room_fewer (mem_at p m).lock (write_reserves m (onpath path (looked_all p.stmts))) _ 0 fewer ((acc.pathwise.paths path).locks m)
     where
       path : List ℕ
       path = (work_of_stage p o t).env
