@@ -138,7 +138,7 @@ impl Taken {
 }
 
 // What two releases gave, one after the other: where the first gave nothing, the second did neither.
-fn taken(first: Option<Pending>, second: Option<Pending>) -> Taken
+fn taken_by(first: Option<Pending>, second: Option<Pending>) -> Taken
     ensures { taken_view result ≡ given_by (entry_view first) (entry_view second) }
 {
     match (first, second) {
@@ -158,7 +158,7 @@ fn take_one(memory: &mut Memory) -> Taken
     ensures result { taken_view result ≡ take 1 memory.old.pending }
 {
     let first = memory.release();
-    taken(first, None)
+    taken_by(first, None)
 }
 
 // The two oldest pending writes of a memory are released.
@@ -172,7 +172,7 @@ fn take_two(memory: &mut Memory) -> Taken
 {
     let first = memory.release();
     let second = memory.release();
-    taken(first, second)
+    taken_by(first, second)
 }
 
 // So many of the oldest pending writes of a memory are released, at most two.

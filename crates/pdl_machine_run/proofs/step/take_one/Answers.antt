@@ -15,4 +15,4 @@ returns-clause-memory c =
     c.release-first.ensures.memory ∙ ap (λ (ws : List ℕ). record x { words = ws; pending = drop 1 x.pending }) (one_word x.words x.pending)
 
 pub returns-clause-result : goal.returns-clause-result
-returns-clause-result c = c.taken.ensures ∙ ap (λ e. given_by e None) c.release-first.ensures.result ∙ one_out c.args.memory.now.pending
+returns-clause-result c = c.taken_by.ensures ∙ ap (λ e. given_by e None) c.release-first.ensures.result ∙ one_out c.args.memory.now.pending

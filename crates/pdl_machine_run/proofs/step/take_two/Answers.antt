@@ -24,7 +24,7 @@ returns-clause-memory c =
 
 pub returns-clause-result : goal.returns-clause-result
 returns-clause-result c =
-    c.taken.ensures
+    c.taken_by.ensures
     ∙ ap₂ given_by c.release-first.ensures.result
     (c.release-second.ensures.result ∙ ap (λ (y : Memory). oldest y.pending) c.release-first.ensures.memory)
     ∙ two_out c.args.memory.now.pending
