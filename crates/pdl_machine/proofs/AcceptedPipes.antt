@@ -10,6 +10,7 @@ use Rattle.pdl_semantics.specs.Stages.{plain_mem, list_any}
 use Rattle.pdl_semantics.specs.Machine.{fork_of}
 use Rattle.pdl_semantics.specs.Cycle.{first, state_after}
 use Rattle.pdl_theory_derived.specs.Derived
+use Rattle.pdl_theory_derived.specs.Simulation.{hints_of}
 use Rattle.pdl_theory_facts.specs.Facts.{Sound}
 use Rattle.pdl_theory_states.specs.Strict.{Strict}
 use Rattle.pdl_theory_states.proofs.ReachedStates.{reached}
@@ -37,7 +38,9 @@ few_inside : (p : Flats.Pipe) → Sound p → Strict p → (image : Arrays) (bef
     → length (fork_of (state_after p (first p image) before) f) ≤ length p.stages
 few_inside p sound strict image before f =
     let r = reached p sound strict image before in
-    let few = list_few p (state_after p (first p image) before) (Derived.state_after p (Derived.first p image) before) r.0 r.1 f in
+    let hints : ℕ → List ℕ = hints_of p (first p image) before in
+    let few =
+    list_few p (sound_flows p sound).graph (state_after p (first p image) before) (Derived.state_after p (Derived.first p image hints) before) r.0 r.1 f in
     let most = count_by-le-length (λ (x : Flats.Stage). list_any (λ b. b.fork == f) x.branches) p.stages in
     omega (arith, few, most)
 

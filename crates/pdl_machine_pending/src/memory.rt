@@ -1,5 +1,5 @@
 // A memory as it runs.
-ghost use Rattle.std.specs.Prelude.{◌≡◌, ◌≤◌, ◌<◌, ◌+◌, ◌++◌, [], Some, drop, if◌then◌else◌, length, map, slice_index, IfOk, IfSome};
+ghost use Rattle.std.specs.Prelude.{◌≡◌, ◌≤◌, ◌<◌, ◌+◌, ◌++◌, [], Some, drop, if◌then◌else◌, length, map, slice_index, slice_set, IfOk, IfSome};
 ghost use Rattle.pdl_semantics.specs.Locks as locks;
 ghost use Rattle.pdl_semantics.specs.Machine as machine;
 ghost use Rattle.pdl_semantics.specs.Cycle as cycle;
@@ -156,6 +156,17 @@ impl Memory {
         let entry = self.pending.remove(0);
         self.words[entry.address as usize] = entry.value.unwrap_or(0);
         Some(entry)
+    }
+
+    /// Sets the array's word at an address, where there is one, as an advisory write does.
+    pub fn set_word(&mut self, address: u64, word: u64)
+        ensures { self.new ≡ record self.old
+            { words = slice_set self.old.words address word } }
+    {
+        let address = address as usize;
+        if address < self.words.len() {
+            self.words[address] = word;
+        }
     }
 
     /// Drops the pending writes of threads younger than this one, as its squash does.

@@ -4,7 +4,7 @@ use Rattle.std.specs.Prelude.{⊤, IfSome}
 use Rattle.std.proofs.lemmas.List.{length-set}
 use Rattle.std.proofs.lemmas.Nat.{pow_pos}
 use Rattle.std.proofs.lemmas.Bool.{eqb-true}
-use Rattle.pdl_semantics.specs.Flat.{Op, Bind, CombRead, DelayedRead, Write, ReserveRead, ReserveWrite, Block, Release, Call, SpecCall, Verify, SpecCheck, SpecBarrier, Stmt, list_all, all_hold, values_of, Pipe}
+use Rattle.pdl_semantics.specs.Flat.{Op, Bind, CombRead, DelayedRead, Write, ReserveRead, ReserveWrite, Block, Release, Call, SpecCall, Verify, SpecCheck, SpecBarrier, AdviceBind, AdviceRead, AdviceWrite, Stmt, list_all, all_hold, values_of, Pipe}
 use Rattle.pdl_semantics.specs.Stages.{in_stage, mem_at}
 use Rattle.pdl_semantics.specs.Locks.{has_room, commit_value}
 use Rattle.pdl_semantics.specs.Machine.{Thread, Pending, Reserved, Written, State, Deeds, lock_of, with_answers, deeds, word_for, same_args, deeds_after, deeds_after_all}
@@ -21,9 +21,10 @@ use Rattle.pdl_machine_run.specs.declared.stage.Stage as r_stage
 use Rattle.pdl_machine_run.specs.declared.beside.Beside as r_beside
 use Rattle.pdl_machine_run.specs.View.{deeds_view, thread_of, thread_if, thread_in}
 use Rattle.pdl_machine_run.specs.Outside.{outside}
-use Rattle.pdl_machine_run.specs.Typed.{IsFine, AreReserved, AreWritten, AreFit}
+use Rattle.pdl_machine_run.specs.Typed.{IsFine, AreReserved, AreWritten, AreAdvised, AreFit, count_before}
 use Rattle.pdl_machine_run.specs.Acts.{act_of, acts_of, IsCarried, goes, AreDecided, both, left_of, out_of, memory_after}
 use Rattle.pdl_machine_run.proofs.DeedWidths.{stage_few}
+use Rattle.pdl_machine_run.proofs.AdviceCounts.{count_next, advised_few}
 
 -- HOW OFTEN A STAGE ASKS
 
@@ -48,6 +49,9 @@ asked_op read (SpecCall args) d = omega arith
 asked_op read (Verify last args) d = let same = asked_verify (same_args (values_of args d.env) d.guess) (values_of args d.env) d in omega (arith, same)
 asked_op read SpecCheck d = omega arith
 asked_op read SpecBarrier d = omega arith
+asked_op read (AdviceBind x e) d = omega arith
+asked_op read (AdviceRead x m a) d = omega arith
+asked_op read (AdviceWrite m a e) d = omega arith
 
 asked_if : (read : ℕ → ℕ → ℕ) (b : Bool) (op : Op) (d : Deeds) → length (if b then deeds_after read op d else d).asks ≤ suc (length d.asks)
 asked_if read true op d = asked_op read op d
@@ -64,18 +68,21 @@ asks_few read (x ∷ ss) d =
 -- WHO HAS ACTED
 
 module _ (f : Form) where
-  -- the thread of this number in a stage, if there is one, fits, and so does what it does
-  abbrev pub HasActed : Option ℕ → r_stage.Stage → Type 0
-  HasActed None x = ⊤
-  HasActed (Some n) x = IsFine f (thread_of n x.slot) × AreFit f (deeds_view x.deeds) × (length (deeds_view x.deeds).asks ≤ length f.pipe.stmts)
+  -- the thread of this number in stage k, if there is one, fits, and so does what it does
+  abbrev pub HasActed : ℕ → Option ℕ → r_stage.Stage → Type 0
+  HasActed k None x = ⊤
+  HasActed k (Some n) x =
+      IsFine f k (thread_of n x.slot) × AreFit f (deeds_view x.deeds)
+      × (length (deeds_view x.deeds).asks ≤ length f.pipe.stmts)
+      × (length (deeds_view x.deeds).advice ≤ count_before (suc k) f.pipe.stmts)
 
-  -- in each of these stages the thread that is there fits, and so does what it does
-  abbrev pub AllActed : List r_stage.Stage → Type 0
-  AllActed [] = ⊤
-  AllActed (z ∷ zs) = HasActed z.slot.number z × AllActed zs
+  -- in each of these stages, of which the first is k, the thread that is there fits, and so does what it does
+  abbrev pub AllActed : ℕ → List r_stage.Stage → Type 0
+  AllActed k [] = ⊤
+  AllActed k (z ∷ zs) = HasActed k z.slot.number z × AllActed (suc k) zs
 
   module _ (b : r_beside.Beside) (bits : List Bool) where
-    carried_acted : (k : ℕ) (o : Option Thread) (n : Option ℕ) (z : r_stage.Stage) → z.slot.number ≡ n → IsCarried f b bits k o z → HasActed n z
+    carried_acted : (k : ℕ) (o : Option Thread) (n : Option ℕ) (z : r_stage.Stage) → z.slot.number ≡ n → IsCarried f b bits k o z → HasActed k n z
     carried_acted k o None z is c = tt
     carried_acted k None (Some m) z is c = absurd (cc (sym is ∙ c))
     carried_acted k (Some t) (Some m) z is c =
@@ -84,7 +91,12 @@ module _ (f : Form) where
         let few = asks_few (word_for (outside b) u.number) (in_stage k f.pipe.stmts) (before_stage f.pipe k u) in
         let most = stage_few k f.pipe.stmts in
         let asked : length (deeds_view z.deeds).asks ≡ length (deeds f.pipe (outside b) k u).asks = ap (λ (d : Deeds). length d.asks) c.1 in
-        (subst (IsFine f) (sym same) c.2, c.3, omega (arith, few, most, asked))
+        let advised : length (deeds_view z.deeds).advice ≡ length (deeds f.pipe (outside b) k u).advice = ap (λ (d : Deeds). length d.advice) c.1 in
+        let fine : IsFine f k u = c.2 in
+        let before = fine.advised in
+        let more = advised_few (word_for (outside b) u.number) (in_stage k f.pipe.stmts) (before_stage f.pipe k u) in
+        let next = count_next k f.pipe.stmts in
+        (subst (IsFine f k) (sym same) fine, c.3, omega (arith, few, most, asked), omega (arith, before, more, next, advised))
       where
         some_same : {a d : Thread} → Some a ≡ Some d → a ≡ d
         some_same e = cc e
@@ -92,37 +104,40 @@ module _ (f : Form) where
     -- where the threads of all stages were carried on, each fits, and so does what it does
     pub all_acted : (k : ℕ) (ys zs : List r_stage.Stage) → length ys ≡ length zs
         → ((i : ℕ) (d : r_stage.Stage) → i < length ys → IsCarried f b bits (k + i) (thread_in (get_or ys i d).slot) (get_or zs i d))
-        → AllActed zs
+        → AllActed k zs
     all_acted k [] [] n c = tt
     all_acted k [] (z ∷ zs) n c = absurd (omega arith)
     all_acted k (y ∷ ys) [] n c = absurd (omega arith)
-    all_acted k (y ∷ ys) (z ∷ zs) n c = (
-      carried_acted (k + 0) (thread_in y.slot) z.slot.number z refl (c 0 z (omega arith)),
+    all_acted k (y ∷ ys) (z ∷ zs) n c = let here : k + 0 ≡ k = omega arith in (
+      carried_acted k (thread_in y.slot) z.slot.number z refl (subst (λ j. IsCarried f b bits j (thread_in y.slot) z) here (c 0 z (omega arith))),
       all_acted (suc k) ys zs (omega arith)
           (λ i e less. let same : k + suc i ≡ suc k + i = omega arith in
           subst (λ j. IsCarried f b bits j (thread_in (get_or ys i e).slot) (get_or zs i e)) same (c (suc i) e (omega (arith, less)))),
     )
 
   -- the thread in one of these stages fits, and so does what it does, where it is so in each
-  pub acted_at : (zs : List r_stage.Stage) (i : ℕ) (d : r_stage.Stage) → AllActed zs → i < length zs → HasActed (get_or zs i d).slot.number (get_or zs i d)
-  acted_at [] i d h less = absurd (omega arith)
-  acted_at (z ∷ zs) zero d h less = h.0
-  acted_at (z ∷ zs) (suc i) d h less = acted_at zs i d h.1 (omega arith)
+  pub acted_at : (k : ℕ) (zs : List r_stage.Stage) (i : ℕ) (d : r_stage.Stage) → AllActed k zs → i < length zs
+      → HasActed (k + i) (get_or zs i d).slot.number (get_or zs i d)
+  acted_at k [] i d h less = absurd (omega arith)
+  acted_at k (z ∷ zs) zero d h less = let here : k ≡ k + 0 = omega arith in subst (λ j. HasActed j z.slot.number z) here h.0
+  acted_at k (z ∷ zs) (suc i) d h less =
+      let next : suc k + i ≡ k + suc i = omega arith in
+      subst (λ j. HasActed j (get_or zs i d).slot.number (get_or zs i d)) next (acted_at (suc k) zs i d h.1 (omega arith))
 
--- acts whose reservations and writes are of words that are there, and of their widths
+-- acts whose reservations, writes and writes of advisory memories are of words that are there, and of their widths
 abbrev pub AllSized : Pipe → List Act → Type 0
 AllSized p [] = ⊤
-AllSized p (a ∷ ms) = AreReserved p a.does.reserves × AreWritten p a.does.writes × AllSized p ms
+AllSized p (a ∷ ms) = AreReserved p a.does.reserves × AreWritten p a.does.writes × AreAdvised p a.does.advises × AllSized p ms
 
 module _ (f : Form) where
-  sized_one : (k : ℕ) (z : r_stage.Stage) (o : Option ℕ) (b : Bool) (more : List Act) → HasActed f o z
+  sized_one : (k : ℕ) (z : r_stage.Stage) (o : Option ℕ) (b : Bool) (more : List Act) → HasActed f k o z
       → AllSized f.pipe more → AllSized f.pipe (act_of k (if b then o else None) z ++ more)
   sized_one k z o false more done h = h
   sized_one k z None true more done h = h
-  sized_one k z (Some n) true more done h = (done.1.reserves, done.1.writes, h)
+  sized_one k z (Some n) true more done h = (done.1.reserves, done.1.writes, done.1.advises, h)
 
   -- where each thread fits, those who move reserve and write words that are there, with values of their widths
-  pub acts_sized : (k : ℕ) (zs : List r_stage.Stage) → AllActed f zs → AllSized f.pipe (acts_of k zs)
+  pub acts_sized : (k : ℕ) (zs : List r_stage.Stage) → AllActed f k zs → AllSized f.pipe (acts_of k zs)
   acts_sized k [] done = tt
   acts_sized k (z ∷ zs) done = sized_one k z z.slot.number z.moves (acts_of (suc k) zs) done.0 (acts_sized (suc k) zs done.1)
 
@@ -173,11 +188,11 @@ module _ (p : Pipe) (m : ℕ) where
 
   kept_appended : (ms : List Act) (es : List Pending) → AllSized p ms → Kept es → Kept (with_reserves m ms es)
   kept_appended [] es h k = k
-  kept_appended (a ∷ ms) es h k = kept_append (with_reserves m ms es) _ (kept_appended ms es h.2 k) (kept_entries a.thread.number a.does.reserves h.0)
+  kept_appended (a ∷ ms) es h k = kept_append (with_reserves m ms es) _ (kept_appended ms es h.3 k) (kept_entries a.thread.number a.does.reserves h.0)
 
   kept_filled : (ms : List Act) (es : List Pending) → AllSized p ms → Kept es → Kept (with_all_writes m ms es)
   kept_filled [] es h k = k
-  kept_filled (a ∷ ms) es h k = kept_puts a.thread.number a.does.writes (with_all_writes m ms es) h.1 (kept_filled ms es h.2 k)
+  kept_filled (a ∷ ms) es h k = kept_puts a.thread.number a.does.writes (with_all_writes m ms es) h.1 (kept_filled ms es h.3 k)
 
   -- with fitting reservations and writes, pending writes are of words that are there, with values of their width
   pub kept_both : (ms : List Act) (es : List Pending) → AllSized p ms → Kept es → Kept (both m ms es)
@@ -207,7 +222,8 @@ module _ (p : Pipe) (m : ℕ) where
   value_below None h = positive
   value_below (Some v) h = h
 
-  set_below : (ws : List ℕ) (a v n : ℕ) → ((i : ℕ) → slice_index ws i < n) → v < n → (i : ℕ) → slice_index (slice_set ws a v) i < n
+  -- words stay below a bound after one of them is set to a value below it
+  pub set_below : (ws : List ℕ) (a v n : ℕ) → ((i : ℕ) → slice_index ws i < n) → v < n → (i : ℕ) → slice_index (slice_set ws a v) i < n
   set_below [] a v n h g i = h i
   set_below (w ∷ ws) zero v n h g zero = g
   set_below (w ∷ ws) zero v n h g (suc i) = h (suc i)

@@ -253,15 +253,15 @@ module _ (f : Form) (run : IsRunnable f) (image : List (List ℕ)) (images : Are
   abbrev none_at : ℕ → Option Thread
   none_at k = None
 
-  none_fine : (n : ℕ) (k : ℕ) → IfSome (slice_index_or (replicate n (none_at 0)) k None) (IsFine f)
-  none_fine zero k = tt
-  none_fine (suc n) zero = tt
-  none_fine (suc n) (suc k) = none_fine n k
+  none_fine : (n k j : ℕ) → IfSome (slice_index_or (replicate n (none_at 0)) k None) (IsFine f j)
+  none_fine zero k j = tt
+  none_fine (suc n) zero j = tt
+  none_fine (suc n) (suc k) j = none_fine n k j
 
-  first_fine : (n k : ℕ) → IfSome (slice_index_or (seats_first p n) k None) (IsFine f)
+  first_fine : (n k : ℕ) → IfSome (slice_index_or (seats_first p n) k None) (IsFine f k)
   first_fine zero k = tt
   first_fine (suc n) zero = born_fine f run.typed.vars 1 (Some p.start) (start_fit f run)
-  first_fine (suc n) (suc k) = none_fine n k
+  first_fine (suc n) (suc k) = none_fine n k (suc k)
 
   first_count : (n : ℕ) → length (seats_first p n) ≡ n
   first_count zero = refl
@@ -282,7 +282,7 @@ module _ (f : Form) (run : IsRunnable f) (image : List (List ℕ)) (images : Are
         count = omega arith;
         wide = wide;
         fine = λ k d less.
-            subst (λ (o : Option Thread). IfSome o (IsFine f))
+            subst (λ (o : Option Thread). IfSome o (IsFine f k))
             (ap (λ (os : List (Option Thread)). slice_index_or os k None) (sym e) ∙ seat_at zs k d less)
             (first_fine (length p.stages) k);
       }

@@ -17,6 +17,29 @@ use Rattle.pdl_machine_run.specs.Acts.{left_of, out_of, memories_after, commits_
 use Rattle.pdl_machine_run.proofs.CarriedDeeds.{word_listed}
 use Rattle.pdl_word.proofs.Numbers.{eqb_self}
 
+-- WORDS
+
+-- a write to a word that is there
+set_hit : (ws : List ℕ) (a v : ℕ) → a < length ws → v ≡ slice_index (slice_set ws a v) a
+set_hit [] a v h = absurd (omega arith)
+set_hit (w ∷ ws) zero v h = refl
+set_hit (w ∷ ws) (suc a) v h = set_hit ws a v (omega arith)
+
+set_miss : (ws : List ℕ) (a v b : ℕ) → (b ≡ a → ⊥) → slice_index ws b ≡ slice_index (slice_set ws a v) b
+set_miss [] a v b h = refl
+set_miss (w ∷ ws) zero v zero h = absurd (h refl)
+set_miss (w ∷ ws) zero v (suc b) h = refl
+set_miss (w ∷ ws) (suc a) v zero h = refl
+set_miss (w ∷ ws) (suc a) v (suc b) h = set_miss ws a v b (λ e. h (ap suc e))
+
+-- a word after a write of one that is there
+pub set_here : (ws : List ℕ) (a v b : ℕ) → a < length ws → (if b == a then v else slice_index ws b) ≡ slice_index (slice_set ws a v) b
+set_here ws a v b h = by_equal (b == a) refl
+  where
+    by_equal : (t : Bool) → (b == a) ≡ t → (if t then v else slice_index ws b) ≡ slice_index (slice_set ws a v) b
+    by_equal true e = set_hit ws a v h ∙ ap (slice_index (slice_set ws a v)) (sym (eqb-true b a e))
+    by_equal false e = set_miss ws a v b (λ same. both_ways (b == a) e (ap (λ i. i == a) same ∙ eqb_self a))
+
 module _ (st : State) (ms : List Act) where
   -- ALL MEMORIES
 
@@ -73,26 +96,6 @@ module _ (st : State) (ms : List Act) where
   before_all m n [] arrays h = refl
   before_all m n (d ∷ ds) arrays h =
       before_all (suc m) n ds (with_commit arrays m (taken_out st ms m)) (omega arith) ∙ other_array arrays m n (taken_out st ms m) (differs n m h)
-
-  -- a write to a word that is there
-  set_hit : (ws : List ℕ) (a v : ℕ) → a < length ws → v ≡ slice_index (slice_set ws a v) a
-  set_hit [] a v h = absurd (omega arith)
-  set_hit (w ∷ ws) zero v h = refl
-  set_hit (w ∷ ws) (suc a) v h = set_hit ws a v (omega arith)
-
-  set_miss : (ws : List ℕ) (a v b : ℕ) → (b ≡ a → ⊥) → slice_index ws b ≡ slice_index (slice_set ws a v) b
-  set_miss [] a v b h = refl
-  set_miss (w ∷ ws) zero v zero h = absurd (h refl)
-  set_miss (w ∷ ws) zero v (suc b) h = refl
-  set_miss (w ∷ ws) (suc a) v zero h = refl
-  set_miss (w ∷ ws) (suc a) v (suc b) h = set_miss ws a v b (λ e. h (ap suc e))
-
-  set_here : (ws : List ℕ) (a v b : ℕ) → a < length ws → (if b == a then v else slice_index ws b) ≡ slice_index (slice_set ws a v) b
-  set_here ws a v b h = by_equal (b == a) refl
-    where
-      by_equal : (t : Bool) → (b == a) ≡ t → (if t then v else slice_index ws b) ≡ slice_index (slice_set ws a v) b
-      by_equal true e = set_hit ws a v h ∙ ap (slice_index (slice_set ws a v)) (sym (eqb-true b a e))
-      by_equal false e = set_miss ws a v b (λ same. both_ways (b == a) e (ap (λ i. i == a) same ∙ eqb_self a))
 
   one_array : (arrays : Arrays) (m : ℕ) (ws : List ℕ) (e : Pending) → ((a : ℕ) → arrays m a ≡ slice_index ws a)
       → e.address < length ws → (a : ℕ) → with_word arrays m e.address (commit_value e.value) m a ≡ slice_index (committed_to ws (Some e)) a

@@ -1,6 +1,6 @@
 -- How many values the ports have.
 use Rattle.std.proofs.Common.{◌≡◌, refl, ℕ, suc, ◌+◌, ◌*◌, ◌≤◌, Bool, true, false, if◌then◌else◌, List, [], ◌∷◌, ◌++◌, Option, Some, None, length, length-append, arith}
-use Rattle.pdl_semantics.specs.Flat.{Lock, Mem, Stmt, Stage, Pipe, has_lock}
+use Rattle.pdl_semantics.specs.Flat.{Lock, Mem, Stmt, Stage, Pipe, has_lock, is_delayed}
 use Rattle.pdl_semantics.specs.Machine.{State}
 use Rattle.pdl_semantics.specs.Moves.{Act}
 use Rattle.pdl_semantics.specs.Cycle.{PortWrite, port_writes, for_stages, for_mems, asked_in}
@@ -40,15 +40,16 @@ request_counted true None = refl
 request_counted true (Some a) = refl
 
 memories_counted : (xs : List Stmt) (f : ℕ → List PortWrite) (g : ℕ → Option ℕ) (k : ℕ) (ms : List Mem)
-    → length (all_commit_values (all_twice xs k ms) ms (for_mems f k ms)) + length (all_request_values ms (for_mems g k ms)) ≡ all_memory_count (all_twice xs k ms) ms
+    → length (all_commit_values (all_twice xs k ms) ms (for_mems f k ms)) + length (all_request_values ms (for_mems g k ms))
+    ≡ all_memory_count (all_twice xs k ms) ms
 memories_counted xs f g k [] = refl
 memories_counted xs f g k (m ∷ ms) =
     let rest = memories_counted xs f g (suc k) ms in
     let t = reserves_twice k xs in
     let one = one_counted m.lock t (f k) in
-    let two = request_counted m.delayed (g k) in
+    let two = request_counted (is_delayed m.kind) (g k) in
     let a = length-append (commit_values m.lock t (f k)) (all_commit_values (all_twice xs (suc k) ms) ms (for_mems f (suc k) ms)) in
-    let b = length-append (if m.delayed then request_values (g k) else []) (all_request_values ms (for_mems g (suc k) ms)) in
+    let b = length-append (if is_delayed m.kind then request_values (g k) else []) (all_request_values ms (for_mems g (suc k) ms)) in
     omega (arith, rest, one, two, a, b)
 
 -- the ports of a pipe show as many values as it has outputs
@@ -105,10 +106,10 @@ commits_most (t ∷ ts) k ms (x ∷ xs) =
 pub requests_most : (k : ℕ) (ms : List Act) (xs : List Mem) → length (requests_shown k ms xs) ≤ 2 * length xs
 requests_most k ms [] = omega arith
 requests_most k ms (x ∷ xs) =
-    let here = request_counted x.delayed (asked_in ms k) in
-    let most = few x.delayed 2 in
+    let here = request_counted (is_delayed x.kind) (asked_in ms k) in
+    let most = few (is_delayed x.kind) 2 in
     let rest = requests_most (suc k) ms xs in
-    let sum = length-append (if x.delayed then request_values (asked_in ms k) else []) (requests_shown (suc k) ms xs) in
+    let sum = length-append (if is_delayed x.kind then request_values (asked_in ms k) else []) (requests_shown (suc k) ms xs) in
     omega arith
 
 -- a count up to k that grows by at most one is at most k + 1

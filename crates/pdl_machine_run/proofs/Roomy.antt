@@ -100,13 +100,14 @@ module _ (f : Form) (run : IsRunnable f) (b : r_beside.Beside) (bits : List Bool
   xs = b.memories.items
 
   -- each thread in the stages fits, and so does what it does
-  pub acted : AllActed f zs
+  pub acted : AllActed f 0 zs
   acted =
       all_acted f b bits 0 ys zs long
       (λ i d less. let same : i ≡ 0 + i = omega arith in
       subst (λ j. IsCarried f b bits j (thread_in (get_or ys i d).slot) (get_or zs i d)) same (carried i d less))
 
-  sized : AllSized p ms
+  -- what those who move reserve and write is of words that are there, and of their widths
+  pub sized : AllSized p ms
   sized = acts_sized f 0 zs acted
 
   by : IsByStages p st bits

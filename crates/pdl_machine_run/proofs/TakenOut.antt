@@ -1,11 +1,13 @@
 -- What one and two releases take out of a memory.
-use Rattle.std.proofs.Common.{◌≡◌, refl, subst, sym, ℕ, ◌<◌, List, [], ◌∷◌, ◌++◌, length, take, drop}
+use Rattle.std.proofs.Common.{◌≡◌, refl, subst, sym, ℕ, ◌<◌, List, [], ◌∷◌, None, length, take, drop}
 use Rattle.std.specs.Prelude.{IfSome}
 use Rattle.std.proofs.lemmas.List.{length-set}
 use Rattle.pdl_semantics.specs.Locks.{commit_value}
 use Rattle.pdl_semantics.specs.Machine.{Pending}
+use Rattle.pdl_semantics.specs.Cycle.{port_writes}
+use Rattle.pdl_machine_facts.specs.Ports.{shown_values, second_values}
 use Rattle.pdl_machine_pending.specs.Memory.{oldest, committed_to, all_committed_to, AreWithin}
-use Rattle.pdl_machine_run.specs.Acts.{entries_of}
+use Rattle.pdl_machine_run.specs.Acts.{entries_of, given_by}
 
 -- the oldest pending write has its word
 pub oldest_in : (n : ℕ) (es : List Pending) → AreWithin n es → IfSome (oldest es) (λ e. e.address < n)
@@ -22,7 +24,7 @@ pub one_word : (ws : List ℕ) (es : List Pending) → committed_to ws (oldest e
 one_word ws [] = refl
 one_word ws (e ∷ es) = refl
 
-pub one_out : (es : List Pending) → entries_of (oldest es) ≡ take 1 es
+pub one_out : (es : List Pending) → given_by (oldest es) None ≡ take 1 es
 one_out [] = refl
 one_out (e ∷ es) = refl
 
@@ -37,7 +39,20 @@ two_left [] = refl
 two_left (e ∷ []) = refl
 two_left (e ∷ f ∷ es) = refl
 
-pub two_out : (es : List Pending) → entries_of (oldest es) ++ entries_of (oldest (drop 1 es)) ≡ take 2 es
+pub two_out : (es : List Pending) → given_by (oldest es) (oldest (drop 1 es)) ≡ take 2 es
 two_out [] = refl
 two_out (e ∷ []) = refl
 two_out (e ∷ f ∷ es) = refl
+
+-- WHAT IS SHOWN
+
+-- the first of them is shown first
+pub first_shown : (es : List Pending) → shown_values (port_writes es) ≡ shown_values (port_writes (entries_of (oldest es)))
+first_shown [] = refl
+first_shown (e ∷ es) = refl
+
+-- the second one after it
+pub second_shown : (es : List Pending) → second_values (port_writes es) ≡ shown_values (port_writes (entries_of (oldest (drop 1 es))))
+second_shown [] = refl
+second_shown (e ∷ []) = refl
+second_shown (e ∷ f ∷ es) = refl

@@ -8,11 +8,12 @@ use Rattle.pdl_semantics.specs.Moves.{Act, next_stage, no_failure, is_empty, por
 use Rattle.pdl_semantics.specs.Cycle.{with_reserves, with_all_writes, all_releases, port_writes, entries_left, is_stage, thread_after}
 use Rattle.pdl_form.specs.Form.{Form}
 use Rattle.pdl_machine_pending.specs.Memory.{Memory, all_committed_to}
-use Rattle.pdl_machine_pending.specs.View.{entry_view}
+use Rattle.pdl_machine_pending.specs.View.{pending_view}
 use Rattle.pdl_machine_facts.specs.Ports.{commit_values}
 use Rattle.pdl_machine_run.specs.declared.stage.Stage as r_stage
 use Rattle.pdl_machine_run.specs.declared.beside.Beside as r_beside
 use Rattle.pdl_machine_run.specs.declared.step.Taken as r_taken
+use Rattle.pdl_machine_run.specs.declared.step.Taken.TheVariants as r_takens
 use Rattle.pdl_machine_run.specs.View.{deeds_view, thread_of, thread_in}
 use Rattle.pdl_machine_run.specs.Outside.{outside}
 use Rattle.pdl_machine_run.specs.StageDeeds.{memory_at, latest_in}
@@ -60,7 +61,7 @@ IsCarried f b bits k None x = x.slot.number ≡ None
 IsCarried f b bits k (Some t) x =
     (thread_in x.slot ≡ Some (with_answers f.pipe (outside b) bits t))
     × (deeds_view x.deeds ≡ deeds f.pipe (outside b) k (with_answers f.pipe (outside b) bits t))
-    × IsFine f (with_answers f.pipe (outside b) bits t)
+    × IsFine f k (with_answers f.pipe (outside b) bits t)
     × AreFit f (deeds_view x.deeds)
 
 -- WHO MOVES
@@ -125,9 +126,17 @@ abbrev pub entries_of : Option Pending → List Pending
 entries_of None = []
 entries_of (Some e) = e ∷ []
 
+-- the pending writes that two releases gave, one after the other
+abbrev pub given_by : Option Pending → Option Pending → List Pending
+given_by None second = []
+given_by (Some e) None = e ∷ []
+given_by (Some e) (Some f) = e ∷ f ∷ []
+
 -- the pending writes that were taken out of a memory
 abbrev pub taken_view : r_taken.Taken → List Pending
-taken_view x = entries_of (entry_view x.first) ++ entries_of (entry_view x.second)
+taken_view r_takens.Nothing = []
+taken_view (r_takens.One e) = pending_view e ∷ []
+taken_view (r_takens.Two e f) = pending_view e ∷ pending_view f ∷ []
 
 -- memory m after these acts and a squash
 abbrev pub memory_after : ℕ → List Act → Option ℕ → Memory → Memory

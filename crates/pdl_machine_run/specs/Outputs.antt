@@ -1,6 +1,6 @@
 -- How many outputs a pipe has.
 use Rattle.std.specs.Prelude.{ℕ, Bool, ◌+◌, ◌*◌, if◌then◌else◌, List, [], ◌∷◌, length}
-use Rattle.pdl_semantics.specs.Flat.{Lock, Mem, Pipe, has_lock}
+use Rattle.pdl_semantics.specs.Flat.{Lock, Mem, Pipe, has_lock, is_delayed}
 use Rattle.pdl_semantics.specs.SecondWrites.{all_twice}
 
 -- how many show the commits of a memory with this lock, where it is told whether some path reserves it twice
@@ -9,7 +9,7 @@ commit_count l twice = if has_lock l then (if twice then 6 else 3) else 0
 
 -- with two for the requests of a delayed one
 abbrev pub memory_count : Bool → Mem → ℕ
-memory_count twice m = commit_count m.lock twice + (if m.delayed then 2 else 0)
+memory_count twice m = commit_count m.lock twice + (if is_delayed m.kind then 2 else 0)
 
 -- how many outputs all memories have
 abbrev pub all_memory_count : List Bool → List Mem → ℕ

@@ -63,4 +63,4 @@ pub record IsBeside (p : Pipe) (b : r_beside.Beside) : Type 0 where
 pub record AreReady (f : Form) (zs : List r_stage.Stage) : Type 0 where
   pub count : length zs ≡ length f.pipe.stages
   pub wide : AreStages f zs
-  pub fine : (k : ℕ) (d : r_stage.Stage) → k < length zs → IfSome (thread_in (slice_index_or zs k d).slot) (IsFine f)
+  pub fine : (k : ℕ) (d : r_stage.Stage) → k < length zs → IfSome (thread_in (slice_index_or zs k d).slot) (IsFine f k)

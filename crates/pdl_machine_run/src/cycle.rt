@@ -8,6 +8,7 @@ ghost use Rattle.pdl_form.specs.FormView.{form};
 ghost use Rattle.pdl_machine_run.specs.View.{thread_in, seats, request_view, order_views};
 ghost use Rattle.pdl_machine_run.specs.Outside.{state_of};
 ghost use Rattle.pdl_machine_run.specs.Acts.{acts_of, all_of, memories_after, commits_shown};
+ghost use Rattle.pdl_machine_run.specs.Advice.{after_all_writes};
 ghost use Rattle.pdl_machine_run.specs.Orders.{orders_after, order_after};
 ghost use Rattle.pdl_machine_run.specs.Requests.{requests_after, requests_shown};
 ghost use Rattle.pdl_machine_facts.specs.Ports.{whole_values};
@@ -16,6 +17,7 @@ ghost use Rattle.pdl_machine_run.specs.Running.{IsRunnable, IsReached, IsBeside,
 ghost use Rattle.pdl_machine_run.specs.declared.stage.Stage as r_stage;
 ghost use Rattle.pdl_machine_run.specs.declared.beside.Order as r_order;
 
+use crate::advice::make_all_writes;
 use crate::beside::Beside;
 use crate::carry::carry_out_all;
 use crate::decide::decide;
@@ -26,6 +28,28 @@ use crate::shown::{show_end, show_stages};
 use crate::stage::{Stage, ThreadSlot};
 use crate::step::step_memories;
 use pdl_form::FlatPipe;
+use pdl_machine_pending::Memory;
+
+// What the threads that move do to the memories, whose commits are shown: writes of advisory memories come last.
+fn change_memories(
+    memories: &mut [Memory],
+    twice: &[bool],
+    stages: &[Stage],
+    squasher: Option<u64>,
+    shown: &mut Vec<u64>,
+)
+    requires step { AllCanStep 0 (acts_of 0 stages.now) memories.old }
+    requires told { length twice.now ≡ length memories.old }
+    requires room { vec_len shown.old + 6 * length memories.old ≤ vec_capacity shown.old }
+    ensures memories { memories.new ≡ after_all_writes (acts_of 0 stages.now)
+        (memories_after 0 (acts_of 0 stages.now) squasher memories.old) }
+    ensures shown { shown.new.items
+        ≡ shown.old.items ++ commits_shown twice.now 0 (acts_of 0 stages.now) memories.old }
+    ensures capacity { vec_capacity shown.new ≡ vec_capacity shown.old }
+{
+    step_memories(memories, twice, stages, squasher, shown);
+    make_all_writes(memories, stages);
+}
 
 // What stands beside the stages after a cycle, whose commits and requests are shown.
 fn step_beside(
@@ -47,7 +71,8 @@ fn step_beside(
     requires room { vec_len shown.old + 8 * length beside.old.memories.items
         ≤ vec_capacity shown.old }
     ensures memories { beside.new.memories.items
-        ≡ memories_after 0 (acts_of 0 stages.now) squasher beside.old.memories.items }
+        ≡ after_all_writes (acts_of 0 stages.now)
+        (memories_after 0 (acts_of 0 stages.now) squasher beside.old.memories.items) }
     ensures orders { order_views beside.new.orders.items
         ≡ orders_after (form pipe.now).pipe (acts_of 0 stages.now) 0
         (order_views beside.old.orders.items) }
@@ -62,7 +87,7 @@ fn step_beside(
         requests_shown 0 (acts_of 0 stages.now) (form pipe.now).pipe.mems) }
     ensures capacity { vec_capacity shown.new ≡ vec_capacity shown.old }
 {
-    step_memories(
+    change_memories(
         beside.memories.as_mut_slice(),
         beside.twice.as_slice(),
         stages,

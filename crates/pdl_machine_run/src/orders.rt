@@ -161,13 +161,7 @@ fn pass_through(pipe: &FlatPipe, stages: &[Stage], f: usize, branches: &mut Vec<
 }
 
 // The order of fork f after a cycle, with a squash in this stage or without.
-fn step_order(
-    pipe: &FlatPipe,
-    stages: &[Stage],
-    squash: Option<usize>,
-    f: usize,
-    order: &mut Order,
-)
+fn step_order(pipe: &FlatPipe, stages: &[Stage], squash: Option<usize>, f: usize, order: &mut Order)
     requires stage { f < length stages.now }
     requires squash { squash ≡ stated.squash_stage (acts_of 0 stages.now) }
     requires room { length (order_after (form pipe.now).pipe (acts_of 0 stages.now) f
@@ -185,12 +179,7 @@ fn step_order(
 }
 
 /// The orders of all forks after a cycle, with a squash in this stage or without.
-pub fn step_orders(
-    pipe: &FlatPipe,
-    stages: &[Stage],
-    squash: Option<usize>,
-    orders: &mut [Order],
-)
+pub fn step_orders(pipe: &FlatPipe, stages: &[Stage], squash: Option<usize>, orders: &mut [Order])
     requires count { length orders.old ≡ length stages.now }
     requires squash { squash ≡ stated.squash_stage (acts_of 0 stages.now) }
     requires room { (f : ℕ) (d : r_order.Order) → f < length orders.old →

@@ -20,8 +20,8 @@ use crate::beside::{Beside, Order, Request};
 use crate::deeds::Deeds;
 use crate::moves::begin;
 use crate::stage::{Stage, ThreadSlot};
-use crate::twice::all_twice;
 use pdl_form::{FlatMem, FlatPipe, Lock};
+use pdl_form_values::all_twice;
 use pdl_image::Image;
 use pdl_kit::NoMemory;
 use pdl_machine_pending::Memory;
@@ -58,7 +58,6 @@ fn memory(alloc: Global, words: &[u64], lock: Lock) -> Result<Memory, NoMemory>
 }
 
 /// The memories with the words of an image.
-
 pub fn memories(alloc: Global, pipe: &FlatPipe, image: &Image) -> Result<Vec<Memory>, NoMemory>
     requires { length image.now ≡ length (form pipe.now).pipe.mems }
     ensures count { IfOk result (λ v. length v.items ≡ length (form pipe.now).pipe.mems) }
@@ -84,6 +83,7 @@ pub fn slot(alloc: Global, pipe: &FlatPipe) -> Result<ThreadSlot, NoMemory>
     Ok(ThreadSlot {
         number: None,
         values: zeros(alloc, vars, vars)?,
+        advice: Vec::with_capacity(alloc, 2 * count)?,
         guess: Vec::with_capacity(alloc, pipe.start().len())?,
         awaits: Vec::with_capacity(alloc, count)?,
         kept: Vec::with_capacity(alloc, count)?,
@@ -95,13 +95,14 @@ fn deeds(alloc: Global, pipe: &FlatPipe) -> Result<Deeds, NoMemory>
     ensures count { IfOk result (λ r. length r.values.items ≡ length (form pipe.now).widths) }
     ensures large { IfOk result (λ r.
         IsLarge (length (form pipe.now).pipe.stmts) (length (form pipe.now).pipe.start)
-        (capacities r)) }
+        (length (form pipe.now).widths) (capacities r)) }
 {
     let vars = pipe.vars();
     let args = pipe.start().len();
     let count = pipe.stmts().len();
     Ok(Deeds {
         values: zeros(alloc, vars, vars)?,
+        advice: Vec::with_capacity(alloc, 2 * count)?,
         guess: Vec::with_capacity(alloc, args)?,
         held: Vec::with_capacity(alloc, 2 * count)?,
         blocks: Vec::with_capacity(alloc, count)?,
@@ -109,11 +110,13 @@ fn deeds(alloc: Global, pipe: &FlatPipe) -> Result<Deeds, NoMemory>
         writes: Vec::with_capacity(alloc, count)?,
         releases: Vec::with_capacity(alloc, count)?,
         asks: Vec::with_capacity(alloc, count)?,
+        advises: Vec::with_capacity(alloc, count)?,
         barrier: false,
         called: false,
         args: Vec::with_capacity(alloc, args)?,
         fails: false,
         verified: Vec::with_capacity(alloc, args)?,
+        whole: Vec::with_capacity(alloc, vars)?,
     })
 }
 
@@ -143,7 +146,6 @@ fn first_stage(alloc: Global, pipe: &FlatPipe) -> Result<Stage, NoMemory>
 }
 
 /// Stages of which the first holds thread 1.
-
 pub fn first_stages(alloc: Global, pipe: &FlatPipe) -> Result<Vec<Stage>, NoMemory>
     requires some { 1 ≤ length (form pipe.now).pipe.stages }
     requires vars { (form pipe.now).pipe.vars ≡ length (form pipe.now).widths }
@@ -209,15 +211,13 @@ fn memory_output(mem: &FlatMem, twice: bool) -> usize
 {
     let commits = match mem.lock {
         Lock::Plain => 0,
-        Lock::Queue(_) | Lock::Bypass(_) | Lock::Rename(_) => {
-            if twice {
-                6
-            } else {
-                3
-            }
-        }
+        Lock::Queue(_) | Lock::Bypass(_) | Lock::Rename(_) => { if twice { 6 } else { 3 } }
     };
-    if mem.delayed { commits + 2 } else { commits }
+    if mem.kind.is_delayed() {
+        commits + 2
+    } else {
+        commits
+    }
 }
 
 // How many outputs show memories, of each of which it is told whether a path reserves it twice.

@@ -3,8 +3,8 @@ ghost use Rattle.std.specs.Prelude.{◌≡◌, ◌≤◌, ◌<◌, ◌+◌, ◌*
 ghost use Rattle.pdl_semantics.specs.Cycle as stated;
 ghost use Rattle.pdl_machine_facts.specs.Ports.{commit_values, shown_values};
 ghost use Rattle.pdl_machine_pending.specs.View.{entry_view};
-ghost use Rattle.pdl_machine_pending.specs.Memory.{all_committed_to, AreWithin};
-ghost use Rattle.pdl_machine_run.specs.Acts.{mover_of, act_of, acts_of, out_of, left_of, memory_after, memories_after, commits_shown, entries_of, taken_view};
+ghost use Rattle.pdl_machine_pending.specs.Memory.{oldest, all_committed_to, AreWithin};
+ghost use Rattle.pdl_machine_run.specs.Acts.{mover_of, act_of, acts_of, out_of, left_of, memory_after, memories_after, commits_shown, entries_of, given_by, taken_view};
 ghost use Rattle.pdl_machine_run.specs.Ready.{CanStep, AllCanStep};
 
 use crate::stage::Stage;
@@ -107,11 +107,72 @@ fn releases(m: usize, stages: &[Stage]) -> usize
     count
 }
 
-// The pending writes of a memory that are released in a cycle: none, one, or two of which the first is older.
+// The pending writes of a memory that are released in a cycle, the older one first.
 #[derive(Clone, Copy)]
-struct Taken {
-    first: Option<Pending>,
-    second: Option<Pending>,
+enum Taken {
+    Nothing,
+    One(Pending),
+    Two(Pending, Pending),
+}
+
+impl Taken {
+    // The older one, if there is one.
+    fn first(self) -> Option<Pending>
+        ensures { entry_view result ≡ oldest (taken_view self) }
+    {
+        match self {
+            Taken::Nothing => None,
+            Taken::One(entry) | Taken::Two(entry, _) => Some(entry),
+        }
+    }
+
+    // The younger one, if there are two.
+    fn second(self) -> Option<Pending>
+        ensures { entry_view result ≡ oldest (drop 1 (taken_view self)) }
+    {
+        match self {
+            Taken::Nothing | Taken::One(_) => None,
+            Taken::Two(_, entry) => Some(entry),
+        }
+    }
+}
+
+// What two releases gave, one after the other: where the first gave nothing, the second did neither.
+fn taken_by(first: Option<Pending>, second: Option<Pending>) -> Taken
+    ensures { taken_view result ≡ given_by (entry_view first) (entry_view second) }
+{
+    match (first, second) {
+        (None, _) => Taken::Nothing,
+        (Some(first), None) => Taken::One(first),
+        (Some(first), Some(second)) => Taken::Two(first, second),
+    }
+}
+
+// The oldest pending write of a memory is released.
+fn take_one(memory: &mut Memory) -> Taken
+    requires within { AreWithin (length memory.old.words) memory.old.pending }
+    ensures memory { memory.new ≡ record memory.old {
+      words = all_committed_to memory.old.words (take 1 memory.old.pending);
+      pending = drop 1 memory.old.pending;
+    } }
+    ensures result { taken_view result ≡ take 1 memory.old.pending }
+{
+    let first = memory.release();
+    taken_by(first, None)
+}
+
+// The two oldest pending writes of a memory are released.
+fn take_two(memory: &mut Memory) -> Taken
+    requires within { AreWithin (length memory.old.words) memory.old.pending }
+    ensures memory { memory.new ≡ record memory.old {
+      words = all_committed_to memory.old.words (take 2 memory.old.pending);
+      pending = drop 2 memory.old.pending;
+    } }
+    ensures result { taken_view result ≡ take 2 memory.old.pending }
+{
+    let first = memory.release();
+    let second = memory.release();
+    taken_by(first, second)
 }
 
 // So many of the oldest pending writes of a memory are released, at most two.
@@ -124,9 +185,13 @@ fn take_out(memory: &mut Memory, count: usize) -> Taken
     } }
     ensures result { taken_view result ≡ take count memory.old.pending }
 {
-    let first = if count > 0 { memory.release() } else { None };
-    let second = if count > 1 { memory.release() } else { None };
-    Taken { first, second }
+    if count == 0 {
+        Taken::Nothing
+    } else if count == 1 {
+        take_one(memory)
+    } else {
+        take_two(memory)
+    }
 }
 
 // The pending writes that the threads that move release of memory m, after their reservations and writes.
@@ -184,16 +249,18 @@ fn show_one(entry: Option<Pending>, shown: &mut Vec<u64>)
 }
 
 // Shows the commits of a memory with a lock, of the second one where the memory is reserved twice.
+#[tactic(auto, using(crate::proofs::TakenOut::first_shown, crate::proofs::TakenOut::second_shown))]
 fn show_commits(memory: &Memory, twice: bool, taken: Taken, shown: &mut Vec<u64>)
     requires room { vec_len shown.old + 6 ≤ vec_capacity shown.old }
     ensures shown { shown.new.items ≡ shown.old.items
         ++ commit_values memory.now.lock twice (stated.port_writes (taken_view taken)) }
+    ensures more { vec_len shown.new ≤ vec_len shown.old + 6 }
     ensures capacity { vec_capacity shown.new ≡ vec_capacity shown.old }
 {
     if memory.is_locked() {
-        show_one(taken.first, shown);
+        show_one(taken.first(), shown);
         if twice {
-            show_one(taken.second, shown);
+            show_one(taken.second(), shown);
         }
     }
 }

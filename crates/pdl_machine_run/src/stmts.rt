@@ -2,7 +2,7 @@
 ghost use Rattle.std.specs.Prelude.{◌≡◌, ◌≤◌, ◌<◌, ◌∷◌, [], ◌++◌, ℕ, suc, Some, true, if◌then◌else◌, length, slice_index, slice_set, vec_capacity};
 ghost use Rattle.pdl_semantics.specs.Flat.{all_hold, value_of as spec_value_of, values_of as spec_values_of};
 ghost use Rattle.pdl_semantics.specs.Stages.{in_stage};
-ghost use Rattle.pdl_semantics.specs.Machine.{deeds_after, deeds_after_all, after_verify, same_args as spec_same_args, is_held as spec_is_held, let_go as spec_let_go};
+ghost use Rattle.pdl_semantics.specs.Machine.{deeds_after, deeds_after_all, after_verify, all_values, same_args as spec_same_args, is_held as spec_is_held, let_go as spec_let_go};
 ghost use Rattle.pdl_form.specs.View.{expr_view, exprs_view, act_view, stmt_view};
 ghost use Rattle.pdl_form_values.specs.Safe.{IsSafe, AreSafe};
 ghost use Rattle.pdl_machine_run.specs.View.{deeds_view};
@@ -12,8 +12,10 @@ ghost use Rattle.pdl_form.specs.FormView.{form};
 ghost use Rattle.pdl_form_types.specs.Stmts.{IsTypedForm};
 ghost use Rattle.pdl_machine_run.specs.Typed.{AreFit, AreMemories};
 
+use crate::advice::{bind_advice, read_advice, write_advice};
 use crate::deeds::{Ask, Blocked, Deeds, copy_words, set_variable};
 use crate::place::{hold, is_held, let_go};
+use crate::words::read;
 use pdl_form::{FlatExpr, FlatPipe, FlatStmt, Op};
 use pdl_form_values::{are_taken, value_of, values_of, variable};
 use pdl_machine_pending::{Memory, Reserved, Written};
@@ -26,16 +28,6 @@ fn bind(x: usize, e: &FlatExpr, values: &mut [u64])
 {
     let value = value_of(e, values);
     set_variable(values, x, value);
-}
-
-// The word that a thread's read of a memory finds, 0 where there is no such memory.
-fn read(memories: &[Memory], thread: u64, m: usize, address: u64) -> u64
-    ensures { result ≡ word_of memories.now thread m address }
-{
-    match memories.get(m) {
-        None => 0,
-        Some(memory) => memory.read(thread, address),
-    }
 }
 
 // A variable is bound to the word that a read finds.
@@ -165,8 +157,6 @@ fn call(args: &[FlatExpr], deeds: &mut Deeds)
     ensures deeds { deeds_view deeds.new
         ≡ record (deeds_view deeds.old)
         { child = Some (spec_values_of (exprs_view args.now) (deeds_view deeds.old).env) } }
-    ensures args { deeds.new.args.items
-        ≡ spec_values_of (exprs_view args.now) (deeds_view deeds.old).env }
     ensures capacities { capacities deeds.new ≡ capacities deeds.old }
     ensures room { (n : ℕ) → HasRoomFor (suc n) deeds.old → HasRoomFor n deeds.new }
 {
@@ -174,21 +164,24 @@ fn call(args: &[FlatExpr], deeds: &mut Deeds)
     deeds.called = true;
 }
 
-// A thread is called by a guess, which is kept.
+// A thread is called by a guess, which is kept; the guess may name advised variables.
 fn guess(args: &[FlatExpr], deeds: &mut Deeds)
-    requires safe { AreSafe (exprs_view args.now) (deeds_view deeds.old).env }
+    requires safe { AreSafe (exprs_view args.now) (all_values (deeds_view deeds.old)) }
+    requires whole { length deeds.old.values.items ≤ vec_capacity deeds.old.whole }
     requires room { length args.now ≤ vec_capacity deeds.old.args }
     requires guess_room { length args.now ≤ vec_capacity deeds.old.guess }
     ensures deeds { deeds_view deeds.new
         ≡ record (deeds_view deeds.old) {
-          child = Some (spec_values_of (exprs_view args.now) (deeds_view deeds.old).env);
-          guess = spec_values_of (exprs_view args.now) (deeds_view deeds.old).env;
+          child = Some (spec_values_of (exprs_view args.now) (all_values (deeds_view deeds.old)));
+          guess = spec_values_of (exprs_view args.now) (all_values (deeds_view deeds.old));
         } }
     ensures capacities { capacities deeds.new ≡ capacities deeds.old }
     ensures room { (n : ℕ) → HasRoomFor (suc n) deeds.old → HasRoomFor n deeds.new }
 {
-    call(args, deeds);
+    deeds.lay_over();
+    values_of(args, deeds.whole.as_slice(), &mut deeds.args);
     copy_words(deeds.args.as_slice(), &mut deeds.guess);
+    deeds.called = true;
 }
 
 // Whether these arguments are the same.
@@ -206,7 +199,7 @@ fn same_args(these: &[u64], those: &[u64]) -> bool
     true
 }
 
-// A guess is verified: where it was wrong, a thread is called with the right arguments, and they are kept as the guess.
+// A guess is verified, or updated: where it was wrong, a thread is called with the right arguments, and they are kept as the guess.
 fn verify(args: &[FlatExpr], deeds: &mut Deeds)
     requires safe { AreSafe (exprs_view args.now) (deeds_view deeds.old).env }
     requires room { length args.now ≤ vec_capacity deeds.old.verified }
@@ -229,7 +222,7 @@ fn verify(args: &[FlatExpr], deeds: &mut Deeds)
 
 // What an operation does for a thread.
 fn act(memories: &[Memory], thread: u64, op: &Op, deeds: &mut Deeds)
-    requires safe { IsSafeOp (capacities deeds.old) (act_view op.now) (deeds_view deeds.old).env }
+    requires safe { IsSafeOp (capacities deeds.old) (act_view op.now) (deeds_view deeds.old) }
     requires room { HasRoomFor 1 deeds.old }
     ensures deeds { deeds_view deeds.new
         ≡ deeds_after (word_of memories.now thread) (act_view op.now) (deeds_view deeds.old) }
@@ -248,8 +241,11 @@ fn act(memories: &[Memory], thread: u64, op: &Op, deeds: &mut Deeds)
         Op::Release { m, a } => release(*m, *a, deeds),
         Op::Call(args) => call(args.as_slice(), deeds),
         Op::SpecCall(args) => guess(args.as_slice(), deeds),
-        Op::Verify(args) => verify(args.as_slice(), deeds),
+        Op::Verify { last: _, args } => verify(args.as_slice(), deeds),
         Op::SpecBarrier => deeds.barrier = true,
+        Op::AdviceBind { x, e } => bind_advice(*x, e, deeds),
+        Op::AdviceRead { x, m, a } => read_advice(memories, thread, *x, *m, *a, deeds),
+        Op::AdviceWrite { m, a, e } => write_advice(*m, *a, e, deeds),
         Op::ReserveRead { .. } | Op::SpecCheck => {}
     }
 }
@@ -257,7 +253,7 @@ fn act(memories: &[Memory], thread: u64, op: &Op, deeds: &mut Deeds)
 // What a statement does for a thread: nothing off its path.
 fn run_stmt(memories: &[Memory], thread: u64, stmt: &FlatStmt, deeds: &mut Deeds)
     requires safe { all_hold (stmt_view stmt.now).guards (deeds_view deeds.old).env ≡ true →
-        IsSafeOp (capacities deeds.old) (stmt_view stmt.now).op (deeds_view deeds.old).env }
+        IsSafeOp (capacities deeds.old) (stmt_view stmt.now).op (deeds_view deeds.old) }
     requires room { HasRoomFor 1 deeds.old }
     ensures deeds { deeds_view deeds.new
         ≡ deeds_after_all (word_of memories.now thread) (stmt_view stmt.now ∷ [])
@@ -276,7 +272,8 @@ pub fn run_stage(pipe: &FlatPipe, memories: &[Memory], thread: u64, stage: usize
     requires typed { IsTypedForm (form pipe.now) }
     requires memories { AreMemories (form pipe.now).pipe memories.now }
     requires fit { AreFit (form pipe.now) (deeds_view deeds.old) }
-    requires large { IsLarge 0 (length (form pipe.now).pipe.start) (capacities deeds.old) }
+    requires large { IsLarge 0 (length (form pipe.now).pipe.start) (length (form pipe.now).widths)
+        (capacities deeds.old) }
     requires room { HasRoomFor (length (in_stage stage (form pipe.now).pipe.stmts)) deeds.old }
     ensures deeds { deeds_view deeds.new
         ≡ deeds_after_all (word_of memories.now thread)

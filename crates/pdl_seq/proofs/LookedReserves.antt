@@ -1,6 +1,6 @@
 -- How often a path reserves a memory for writing, where each delayed read has its answer at once.
 use Rattle.std.proofs.Common.{◌≡◌, refl, ap, ℕ, suc, ◌==◌, Bool, true, false, cond, if◌then◌else◌, List, [], ◌∷◌}
-use Rattle.pdl_semantics.specs.Flat.{Op, Bind, CombRead, DelayedRead, Write, ReserveRead, ReserveWrite, Block, Release, Call, SpecCall, Verify, SpecCheck, SpecBarrier, Stmt, all_hold}
+use Rattle.pdl_semantics.specs.Flat.{Op, Bind, CombRead, DelayedRead, Write, ReserveRead, ReserveWrite, Block, Release, Call, SpecCall, Verify, SpecCheck, SpecBarrier, AdviceBind, AdviceRead, AdviceWrite, Stmt, all_hold}
 use Rattle.pdl_semantics.specs.Stages.{onpath}
 use Rattle.pdl_semantics.specs.Sound.{is_write_reserve}
 use Rattle.pdl_theory_derived.specs.Alone.{answered_op}
@@ -27,6 +27,9 @@ looked_reserves path m (x ∷ xs) = at (all_hold x.guards path) (looked_reserves
     one (Verify last args) k l h = h
     one SpecCheck k l h = h
     one SpecBarrier k l h = h
+    one (AdviceBind y e) k l h = h
+    one (AdviceRead y n a) k l h = h
+    one (AdviceWrite n a e) k l h = h
 
     at : (b : Bool) → write_reserves m (onpath path (looked_all xs)) ≡ write_reserves m (onpath path xs)
         → write_reserves m (cond b (record { stage = x.stage; guards = []; op = answered_op x.op } ∷ onpath path (looked_all xs)) (onpath path (looked_all xs)))

@@ -1,7 +1,7 @@
 -- On a path that uses the lock of a memory as the rules say, a thread writes that memory at most as often as it reserves it.
 use Rattle.std.proofs.Common.{◌≡◌, refl, sym, ap, ◌∙◌, subst, ℕ, ◌+◌, ◌≤◌, Bool, true, false, ◌||◌, not, cond, if◌then◌else◌, ◌==◌, List, [], ◌∷◌, ◌++◌, length, length-append, suc, arith}
 use Rattle.std.proofs.lemmas.Bool.{false≢true}
-use Rattle.pdl_semantics.specs.Flat.{Op, Bind, CombRead, DelayedRead, Write, ReserveRead, ReserveWrite, Block, Release, Call, SpecCall, Verify, SpecCheck, SpecBarrier, Stmt, Commit, of_mem, all_hold}
+use Rattle.pdl_semantics.specs.Flat.{Op, Bind, CombRead, DelayedRead, Write, ReserveRead, ReserveWrite, Block, Release, Call, SpecCall, Verify, SpecCheck, SpecBarrier, AdviceBind, AdviceRead, AdviceWrite, Stmt, Commit, of_mem, all_hold}
 use Rattle.pdl_semantics.specs.Sequential.{Run, run_after, run_all}
 use Rattle.pdl_semantics.specs.Sound.{is_write_reserve}
 use Rattle.pdl_theory_derived.specs.Alone.{is_among, is_oldest, drop_var, but_last}
@@ -81,6 +81,9 @@ step m ph (Verify true args) r h = omega arith
 step m ph (Verify false args) r h = omega arith
 step m ph SpecCheck r h = omega arith
 step m ph SpecBarrier r h = omega arith
+step m ph (AdviceBind x e) r h = omega arith
+step m ph (AdviceRead x n a) r h = omega arith
+step m ph (AdviceWrite n a e) r h = omega arith
 
 -- statements in order write a memory at most as often as reservations wait before them and they reserve it
 pub at_most : (m : ℕ) (xs : List Stmt) (ph : Phase) (r : Run)

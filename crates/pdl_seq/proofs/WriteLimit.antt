@@ -1,7 +1,7 @@
 -- A thread of a pipe that can be run writes at most 32 times.
 use Rattle.std.proofs.Common.{◌≡◌, sym, ap, ◌∙◌, subst, ℕ, ◌*◌, ◌<◌, ◌≤◌, Bool, true, false, if◌then◌else◌, List, [], ◌∷◌, ◌++◌, length, arith}
 use Rattle.std.proofs.lemmas.List.{length-map}
-use Rattle.pdl_semantics.specs.Flat.{Op, Bind, CombRead, DelayedRead, Write, ReserveRead, ReserveWrite, Block, Release, Call, SpecCall, Verify, SpecCheck, SpecBarrier, Stmt, Arrays, Commit, of_mem, all_hold, start_env}
+use Rattle.pdl_semantics.specs.Flat.{Op, Bind, CombRead, DelayedRead, Write, ReserveRead, ReserveWrite, Block, Release, Call, SpecCall, Verify, SpecCheck, SpecBarrier, AdviceBind, AdviceRead, AdviceWrite, Stmt, Arrays, Commit, of_mem, all_hold, start_env}
 use Rattle.pdl_semantics.specs.Stages.{onpath}
 use Rattle.pdl_semantics.specs.Sequential.{Run, run_after, run_all, thread}
 use Rattle.pdl_theory_facts.specs.Scans.{Fresh, write_reserves}
@@ -39,6 +39,9 @@ module _ (f : Form) where
   known_runs (Verify false args) r t k = k
   known_runs SpecCheck r t k = k
   known_runs SpecBarrier r t k = k
+  known_runs (AdviceBind x e) r t k = k
+  known_runs (AdviceRead x m a) r t k = k
+  known_runs (AdviceWrite m a e) r t k = k
 
   known_if : (b : Bool) (op : Op) (r : Run) → IsTypedOp f op → AreKnown (length f.pipe.mems) r.writes
       → AreKnown (length f.pipe.mems) (if b then run_after op r else r).writes

@@ -1,6 +1,0 @@
-use Rattle.std.proofs.Common.{length, ◌+◌}
-use Rattle.pdl_machine_run.proofs.twice.+are_consistent.Given as goal
-
--- one guard fewer in each round
-abbrev pub decreases-are_consistent : goal.decreases-are_consistent
-decreases-are_consistent l = length l.these.now + length l.those.now
