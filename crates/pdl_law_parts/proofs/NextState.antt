@@ -43,15 +43,6 @@ mem_there p m a l = ⊎_elim
     (let z = ap (λ (x : Rattle.pdl_semantics.specs.Flat.Mem). x.depth) (get_or_past p.mems m plain_mem h) in omega (arith, z, l)))
     (cases_lt m (length p.mems))
 
--- the number of a memory that has a lock is below the count of memories
-pub lock_there : (p : Pipe) (m : ℕ) → is_locked p m ≡ true → m < length p.mems
-lock_there p m e = ⊎_elim
-    (λ (h : m < length p.mems). h)
-    (λ (h : length p.mems ≤ m). absurd
-    (false≢true
-    (sym (ap (λ (x : Rattle.pdl_semantics.specs.Flat.Mem). Rattle.pdl_semantics.specs.Flat.has_lock x.lock) (get_or_past p.mems m plain_mem h)) ∙ e)))
-    (cases_lt m (length p.mems))
-
 -- who comes isn't removed
 if_stays_then : (sq : Option ℕ) (a b : Option Thread)
     → ((u : Thread) → a ≡ Some u → removed sq u.number ≡ true) → if_kept sq (or_then a b) ≡ or_then a (if_kept sq b)

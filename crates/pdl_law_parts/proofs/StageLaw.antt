@@ -6,24 +6,26 @@ use Rattle.std.proofs.Common.{[]}
 use Rattle.pdl_semantics.specs.Flat.{Stmt, Pipe, all_hold}
 use Rattle.pdl_semantics.specs.Stages.{in_stage, mem_at, list_any, is_verify}
 use Rattle.pdl_semantics.specs.Machine as machine
-use Rattle.pdl_semantics.specs.Machine.{Thread, Deeds, deeds_after, deeds_after_all, word_for, with_kept, deeds, held_before}
+use Rattle.pdl_semantics.specs.Machine.{Thread, Deeds, reserves_of, deeds_after, deeds_after_all, word_for, with_kept, deeds, held_before}
 use Rattle.pdl_net.specs.Circuit.{Circuit, State}
 use Rattle.pdl_net.specs.Signal.{Signal}
 use Rattle.pdl_net.specs.Well.{Suits}
 use Rattle.pdl_lockapi.specs.Laws.{RoomLaw, holds_ticket}
 use Rattle.pdl_lockapi.specs.Forget.{as_lock}
 use Rattle.pdl_machine_facts.specs.Slots.{here}
-use Rattle.pdl_machine_facts.specs.Use.{before_stage, AreFine, IsInUse}
+use Rattle.pdl_machine_facts.specs.Use.{before_stage, AreFine}
 use Rattle.pdl_law_parts.proofs.AnsweredThreads.{stood}
 use Rattle.pdl_law_parts.specs.Lives.{row_uses, asks_held, lives_from, held_from, verifies_from}
 use Rattle.pdl_law_parts.specs.Walk.{Locks, Put, Birth, Walk, is_locked, IsFresh, walk_after, AreRows}
 use Rattle.pdl_law_parts.specs.Reads.{IsAtOnce, AreAtOnce}
+use Rattle.pdl_law_parts.specs.Served.{IsServed}
+use Rattle.pdl_law_parts.proofs.Reservations.{reserves_grow}
 use Rattle.pdl_word.specs.Each.{Each}
 use Rattle.pdl_law_parts.specs.Views.{View}
 use Rattle.pdl_law_parts.specs.Stands.{AddressesFit, AreBits, AreShort, StandsFor, Follows, reserved_in, written_in, let_in, child_in, asked_in, IsEnv, IsHolding, IsGuess}
 use Rattle.pdl_law_parts.proofs.Signals.{one_is, zero_is}
-use Rattle.pdl_law_parts.proofs.StageLooks.{plain_is}
-use Rattle.pdl_law_parts.proofs.StageRow.{IsLive, IsAround}
+use Rattle.pdl_law_parts.proofs.StageLooks.{plain_is, lock_there}
+use Rattle.pdl_law_parts.proofs.StageRow.{IsLive, IsAround, HasSingles, done}
 use Rattle.pdl_law_parts.proofs.StageStep.{follows_row}
 use Rattle.pdl_semantics.specs.PendingLists.{count_older}
 use Rattle.pdl_semantics.proofs.Facts.{kept_long}
@@ -71,26 +73,30 @@ live_rows p k once = live_from p k p.stmts once (λ e. e) (λ y e. or_left _ _ e
 
 module _ (c : Circuit) (p : Pipe) (ls : Locks) (vs : ℕ → View) (s : State) (st : machine.State) (k thread : ℕ) (around : IsAround c p ls vs s st k thread) where
   follows_all : (xs : List Stmt) (w end : Walk) (d : Deeds) → AllLive p k xs → AreRows c p ls (vs k).tickets xs w end
-      → AreFine p st thread xs d → Follows p k s st thread w d
+      → AreFine p st thread xs d → HasSingles p (deeds_after_all (word_for st thread) xs d) → Follows p k s st thread w d
       → Follows p k s st thread end (deeds_after_all (word_for st thread) xs d)
-  follows_all [] w end d live rows fine q = subst (λ (x : Walk). Follows p k s st thread x d) (sym rows) q
-  follows_all (x ∷ xs) w end d live rows fine q =
-      follows_all xs (walk_after x.op rows.0 ls w) end (if all_hold x.guards d.env then deeds_after (word_for st thread) x.op d else d) live.1 rows.2 fine.1
-      (follows_row c p ls vs s st k thread around x rows.0 w d live.0.0 rows.1 live.0.1 fine.0 q)
+  follows_all [] w end d live rows fine sole q = subst (λ (x : Walk). Follows p k s st thread x d) (sym rows) q
+  follows_all (x ∷ xs) w end d live rows fine sole q =
+      follows_all xs (walk_after x.op rows.0 ls w) end (if all_hold x.guards d.env then deeds_after (word_for st thread) x.op d else d) live.1 rows.2 fine.1 sole
+      (follows_row c p ls vs s st k thread around x rows.0 w d live.0.0 rows.1 live.0.1 fine.0 (λ m e. sooner m (sole m e)) q)
+    where
+      sooner : (m : ℕ) → reserves_of m (deeds_after_all (word_for st thread) (x ∷ xs) d).reserves ≤ 1
+          → reserves_of m (done st thread (all_hold x.guards d.env) x.op d).reserves ≤ 1
+      sooner m l = let g = reserves_grow (word_for st thread) m xs (done st thread (all_hold x.guards d.env) x.op d) in omega (arith, g, l)
 
 -- THE WHOLE STAGE
 
 module _ (c : Circuit) (p : Pipe) (ls : Locks) (vs : ℕ → View) (s : State) (st : machine.State) (bits : List Bool) (suits : Suits c s)
     (kind : (m : ℕ) → is_locked p m ≡ true → (mem_at p m).lock ≡ as_lock (ls.kind m) (ls.size m))
     (room : (m : ℕ) → is_locked p m ≡ true → RoomLaw (ls.stands m) (ls.size m) (ls.room m))
-    (stands : StandsFor p ls vs s st) (used : IsInUse p st bits) (once : AreAtOnce p) where
+    (stands : StandsFor p ls vs s st) (used : IsServed p st bits) (once : AreAtOnce p) where
   around_of : (k : ℕ) (t : Thread) → here p st bits k ≡ Some t → IsAround c p ls vs s st k t.number
   around_of k t h = record {
     suits = suits;
     kind = kind;
     room = room;
-    ordered = used.ordered;
-    unlocked = λ m e. used.plain m (plain_is p m e);
+    ordered = used.in_use.ordered;
+    unlocked = λ m e. used.in_use.plain m (plain_is p m e);
     words = stands.words;
     locks = stands.locks;
     tickets =
@@ -109,12 +115,14 @@ module _ (c : Circuit) (p : Pipe) (ls : Locks) (vs : ℕ → View) (s : State) (
   stage_follows k t rows fresh guess_long env h =
       let u = stood p st bits k t h in
       follows_all c p ls vs s st k t.number (around_of k t h) (in_stage k p.stmts)
-      (vs k).begun (vs k).ended (before_stage p k t) (live_rows p k once) rows (used.fine k t h)
+      (vs k).begun (vs k).ended (before_stage p k t) (live_rows p k once) rows (used.in_use.fine k t h) (λ m e. used.one k t m h (lock_there p m e))
       (record {
         ready = ap (λ (f : Signal). f.value s) fresh.ready ∙ one_is s;
         so = λ z. record {
           long = kept_long t.kept t.env ∙ ap length (sym u.env) ∙ stands.long k u.thread u.slot;
           env = env;
+          advice = sym u.advice ∙ stands.advice k u.thread u.slot;
+          advises = refl;
           held = subst (λ e. IsHolding p k s (vs k).begun.held (held_before k e p.stmts [])) u.env (stands.held k u.thread u.slot);
           reserves = sym (ap (reserved_in s) fresh.reserves);
           fits = subst (AddressesFit s) (sym fresh.reserves) tt;

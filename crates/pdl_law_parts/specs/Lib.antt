@@ -6,6 +6,7 @@ pub mod Views
 pub mod Ports
 pub mod Compiled
 pub mod Stands
+pub mod Served
 pub mod Beside
 pub mod Declared
 pub mod Runs

@@ -1,12 +1,12 @@
 -- Reads that have their word at once.
 use Rattle.std.specs.Prelude.{◌≡◌, false, ⊤}
-use Rattle.pdl_semantics.specs.Flat.{Op, Bind, CombRead, DelayedRead, Write, ReserveRead, ReserveWrite, Block, Release, Call, SpecCall, Verify, SpecCheck, SpecBarrier, Stmt, Pipe}
+use Rattle.pdl_semantics.specs.Flat.{is_delayed, Op, Bind, CombRead, DelayedRead, Write, ReserveRead, ReserveWrite, Block, Release, Call, SpecCall, Verify, SpecCheck, SpecBarrier, AdviceBind, AdviceRead, AdviceWrite, Stmt, Pipe}
 use Rattle.pdl_semantics.specs.Stages.{mem_at}
 use Rattle.pdl_word.specs.Each.{Each}
 
 -- a statement that reads at once reads a memory that answers at once
 abbrev pub IsAtOnce : Pipe → Op → Type 0
-IsAtOnce p (CombRead x m a) = (mem_at p m).delayed ≡ false
+IsAtOnce p (CombRead x m a) = is_delayed (mem_at p m).kind ≡ false
 IsAtOnce p (Bind x e) = ⊤
 IsAtOnce p (DelayedRead x m a) = ⊤
 IsAtOnce p (Write m a e) = ⊤
@@ -19,6 +19,9 @@ IsAtOnce p (SpecCall args) = ⊤
 IsAtOnce p (Verify last args) = ⊤
 IsAtOnce p SpecCheck = ⊤
 IsAtOnce p SpecBarrier = ⊤
+IsAtOnce p (AdviceBind x e) = ⊤
+IsAtOnce p (AdviceRead x m a) = is_delayed (mem_at p m).kind ≡ false
+IsAtOnce p (AdviceWrite m a e) = ⊤
 
 -- each statement of a pipe that reads at once reads a memory that answers at once
 abbrev pub AreAtOnce : Pipe → Type 0
