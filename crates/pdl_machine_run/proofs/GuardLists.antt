@@ -1,7 +1,7 @@
 -- Whether the guards of two lists can hold together.
 use Rattle.std.proofs.Common.{◌≡◌, refl, sym, ap, ap₂, ◌∙◌, Bool, true, false, ◌&&◌, List, [], ◌∷◌, ◌++◌}
 use Rattle.pdl_semantics.specs.Flat.{Guard, list_all}
-use Rattle.pdl_machine_facts.specs.Ports.{agrees_with, are_consistent}
+use Rattle.pdl_semantics.specs.SecondWrites.{agrees_with, are_consistent}
 
 -- a test holds of all of two lists where it holds of all of each
 pub all_both : {X : Type 0} (test : X → Bool) (xs ys : List X) → list_all test (xs ++ ys) ≡ (list_all test xs && list_all test ys)

@@ -8,7 +8,8 @@ use Rattle.pdl_semantics.specs.Machine.{Thread, Request, NoRequest, State, lock_
 use Rattle.pdl_semantics.specs.Moves.{Act, all_acts, movers}
 use Rattle.pdl_semantics.specs.Cycle.{for_mems, for_stages, or_then, if_kept, born_thread, child_of, squasher, squash_stage, next_thread, stage_next, with_commits, entries_left, list_three, taken_out, port_writes, fork_next, branches_left, request_next, request_left, after_these, after_acts, cycle, ports_these, asked_in}
 use Rattle.pdl_semantics.specs.Cycle as stated
-use Rattle.pdl_machine_facts.specs.Ports.{stage_values, all_twice, all_commit_values, request_values, all_request_values, whole_values}
+use Rattle.pdl_semantics.specs.SecondWrites.{all_twice}
+use Rattle.pdl_machine_facts.specs.Ports.{stage_values, all_commit_values, request_values, all_request_values, whole_values}
 use Rattle.pdl_form.specs.Form.{Form}
 use Rattle.pdl_machine_pending.specs.Memory.{Memory}
 use Rattle.pdl_machine_run.specs.declared.stage.Stage as r_stage

@@ -6,7 +6,8 @@ use Rattle.pdl_semantics.specs.Moves.{Act}
 use Rattle.pdl_semantics.specs.Cycle.{PortWrite, port_writes, for_stages, for_mems, asked_in}
 use Rattle.pdl_semantics.specs.Cycle as stated
 use Rattle.pdl_word.specs.Words.{bit}
-use Rattle.pdl_machine_facts.specs.Ports.{stage_values, shown_values, second_values, reserves_twice, all_twice, commit_values, all_commit_values, request_values, all_request_values, whole_values}
+use Rattle.pdl_semantics.specs.SecondWrites.{reserves_twice, all_twice}
+use Rattle.pdl_machine_facts.specs.Ports.{stage_values, shown_values, second_values, commit_values, all_commit_values, request_values, all_request_values, whole_values}
 use Rattle.pdl_machine_pending.specs.Memory.{Memory}
 use Rattle.pdl_machine_run.specs.declared.stage.Stage as r_stage
 use Rattle.pdl_machine_run.specs.Acts.{out_of, commits_shown, are_held, are_moving}

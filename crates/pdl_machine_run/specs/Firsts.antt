@@ -4,7 +4,7 @@ use Rattle.pdl_semantics.specs.Flat.{Pipe}
 use Rattle.pdl_semantics.specs.Stages.{mem_at}
 use Rattle.pdl_semantics.specs.Machine.{Thread, NoRequest}
 use Rattle.pdl_semantics.specs.Cycle.{born_thread}
-use Rattle.pdl_machine_facts.specs.Ports.{all_twice}
+use Rattle.pdl_semantics.specs.SecondWrites.{all_twice}
 use Rattle.pdl_machine_run.specs.declared.beside.Beside as r_beside
 use Rattle.pdl_machine_run.specs.View.{request_view, order_views}
 use Rattle.pdl_machine_run.specs.StageDeeds.{memory_at}

@@ -1,7 +1,7 @@
 -- How many outputs a pipe has.
 use Rattle.std.specs.Prelude.{ℕ, Bool, ◌+◌, ◌*◌, if◌then◌else◌, List, [], ◌∷◌, length}
 use Rattle.pdl_semantics.specs.Flat.{Lock, Mem, Pipe, has_lock}
-use Rattle.pdl_machine_facts.specs.Ports.{all_twice}
+use Rattle.pdl_semantics.specs.SecondWrites.{all_twice}
 
 -- how many show the commits of a memory with this lock, where it is told whether some path reserves it twice
 abbrev pub commit_count : Lock → Bool → ℕ

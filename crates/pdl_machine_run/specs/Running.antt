@@ -8,7 +8,7 @@ use Rattle.pdl_lockapi.specs.Sizes.{size_of}
 use Rattle.pdl_machine_facts.specs.Slots.{LeadsOn}
 use Rattle.pdl_machine_facts.specs.Cycle.{IsByStages}
 use Rattle.pdl_machine_facts.specs.Use.{IsInUse}
-use Rattle.pdl_machine_facts.specs.Ports.{all_twice}
+use Rattle.pdl_semantics.specs.SecondWrites.{all_twice}
 use Rattle.pdl_form.specs.Form.{Form}
 use Rattle.pdl_form_types.specs.Stmts.{IsTypedForm}
 use Rattle.pdl_machine_pending.specs.Memory.{Memory}

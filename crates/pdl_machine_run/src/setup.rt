@@ -13,7 +13,7 @@ ghost use Rattle.pdl_machine_run.specs.Ready.{IsWide, IsStage, AreStages, AreOrd
 ghost use Rattle.pdl_lockapi.specs.Sizes.{size_of};
 ghost use Rattle.pdl_machine_run.specs.Running.{AreImages, IsFirst, IsBeside};
 ghost use Rattle.pdl_machine_run.specs.Firsts.{seats_first, IsFirstBeside};
-ghost use Rattle.pdl_machine_facts.specs.Ports as ports;
+ghost use Rattle.pdl_semantics.specs.SecondWrites as writes;
 ghost use Rattle.pdl_machine_run.specs.Outputs.{memory_count, all_memory_count, output_count};
 
 use crate::beside::{Beside, Order, Request};
@@ -235,7 +235,7 @@ fn memory_outputs(mems: &[FlatMem], twice: &[bool]) -> usize
 
 /// How many outputs there are, where it is told of each memory whether a path reserves it twice.
 pub fn outputs(pipe: &FlatPipe, twice: &[bool]) -> usize
-    requires { twice.now ≡ ports.all_twice (form pipe.now).pipe.stmts 0 (form pipe.now).pipe.mems }
+    requires { twice.now ≡ writes.all_twice (form pipe.now).pipe.stmts 0 (form pipe.now).pipe.mems }
     ensures { result ≡ output_count (form pipe.now).pipe }
 {
     2 * pipe.stages().len() + memory_outputs(pipe.mems(), twice) + 2

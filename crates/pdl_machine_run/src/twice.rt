@@ -5,7 +5,7 @@ ghost use Rattle.pdl_semantics.specs.Stages.{list_any};
 ghost use Rattle.pdl_semantics.specs.Sound.{is_write_reserve};
 ghost use Rattle.pdl_form.specs.View.{act_view, guard_view, guards_view, stmt_view, stmts_view};
 ghost use Rattle.pdl_form.specs.FormView.{form};
-ghost use Rattle.pdl_machine_facts.specs.Ports as ports;
+ghost use Rattle.pdl_semantics.specs.SecondWrites as writes;
 
 use pdl_form::{FlatGuard, FlatPipe, FlatStmt, Op};
 use pdl_kit::NoMemory;
@@ -13,7 +13,7 @@ use std::alloc::Global;
 
 // Whether two truth values are the same.
 fn same_truth(a: bool, b: bool) -> bool
-    ensures { result ≡ ports.same_truth a b }
+    ensures { result ≡ writes.same_truth a b }
 {
     match (a, b) {
         (true, true) | (false, false) => true,
@@ -23,7 +23,7 @@ fn same_truth(a: bool, b: bool) -> bool
 
 // Whether two guards can hold together.
 fn agrees(a: FlatGuard, b: FlatGuard) -> bool
-    ensures { result ≡ ports.agrees_with (guard_view a) (guard_view b) }
+    ensures { result ≡ writes.agrees_with (guard_view a) (guard_view b) }
 {
     b.var != a.var || same_truth(b.first, a.first)
 }
@@ -31,7 +31,7 @@ fn agrees(a: FlatGuard, b: FlatGuard) -> bool
 // Whether a guard can hold with each of these.
 fn agrees_with_all(guard: FlatGuard, guards: &[FlatGuard]) -> bool
     ensures { result
-        ≡ list_all (ports.agrees_with (guard_view guard)) (guards_view guards.now) }
+        ≡ list_all (writes.agrees_with (guard_view guard)) (guards_view guards.now) }
 {
     for other in guards {
         if !agrees(guard, *other) {
@@ -43,7 +43,7 @@ fn agrees_with_all(guard: FlatGuard, guards: &[FlatGuard]) -> bool
 
 // Whether no two of these guards, and then of those, ask for opposite values of a variable.
 fn are_consistent(these: &[FlatGuard], those: &[FlatGuard]) -> bool
-    ensures { result ≡ ports.are_consistent (guards_view these.now ++ guards_view those.now) }
+    ensures { result ≡ writes.are_consistent (guards_view these.now ++ guards_view those.now) }
 {
     match these.split_first() {
         Some((guard, rest)) => {
@@ -73,7 +73,7 @@ fn is_write_reserve(m: usize, op: &Op) -> bool
 // Whether one of these statements reserves memory m on a path on which one under these guards stands.
 fn one_reserves_too(m: usize, guards: &[FlatGuard], stmts: &[FlatStmt]) -> bool
     ensures { result
-        ≡ list_any (ports.reserves_too m (guards_view guards.now)) (stmts_view stmts.now) }
+        ≡ list_any (writes.reserves_too m (guards_view guards.now)) (stmts_view stmts.now) }
 {
     for stmt in stmts {
         if is_write_reserve(m, &stmt.op) && are_consistent(guards, stmt.guards.as_slice()) {
@@ -85,7 +85,7 @@ fn one_reserves_too(m: usize, guards: &[FlatGuard], stmts: &[FlatStmt]) -> bool
 
 // Whether some path reserves memory m twice to write.
 fn reserves_twice(m: usize, stmts: &[FlatStmt]) -> bool
-    ensures { result ≡ ports.reserves_twice m (stmts_view stmts.now) }
+    ensures { result ≡ writes.reserves_twice m (stmts_view stmts.now) }
 {
     for (k, stmt) in stmts.iter().enumerate() {
         if is_write_reserve(m, &stmt.op)
@@ -100,7 +100,7 @@ fn reserves_twice(m: usize, stmts: &[FlatStmt]) -> bool
 /// Of each memory of a pipe, whether some path reserves it twice to write.
 pub fn all_twice(alloc: Global, pipe: &FlatPipe) -> Result<Vec<bool>, NoMemory>
     ensures { IfOk result (λ v. v.items
-        ≡ ports.all_twice (form pipe.now).pipe.stmts 0 (form pipe.now).pipe.mems) }
+        ≡ writes.all_twice (form pipe.now).pipe.stmts 0 (form pipe.now).pipe.mems) }
 {
     let mut twice = Vec::new(alloc);
     let stmts = pipe.stmts();

@@ -13,3 +13,4 @@ pub mod Promises
 pub mod Sound
 pub mod PendingLists
 pub mod Updates
+pub mod SecondWrites

@@ -4,6 +4,7 @@ use Rattle.pdl_semantics.specs.Flat.{Op, Bind, CombRead, DelayedRead, Write, Res
 use Rattle.pdl_semantics.specs.Forms.{on_binding}
 use Rattle.pdl_semantics.specs.Stages.{mem_at, commit_stage, reserve_stage}
 pub use Rattle.pdl_semantics.specs.Locks.{is_plain}
+pub use Rattle.pdl_semantics.specs.SecondWrites.{write_reserves}
 use Rattle.pdl_theory_derived.specs.Alone.{Location, is_nil, is_among, is_oldest, drop_var, but_last}
 use Rattle.pdl_semantics.specs.Sound.{is_call, is_write_reserve}
 
@@ -179,11 +180,6 @@ phase_all m ph (x ∷ xs) = phase_all m (next_phase m ph x.op) xs
 -- whether each location that is reserved for writing is released
 abbrev pub is_over : Phase → Bool
 is_over ph = is_nil ph.unwritten && is_nil ph.full
-
--- how many write reservations of m there are
-abbrev pub write_reserves : ℕ → List Stmt → ℕ
-write_reserves m [] = 0
-write_reserves m (x ∷ xs) = if is_write_reserve m x.op then suc (write_reserves m xs) else write_reserves m xs
 
 -- whether the next thread is called, before or by these statements
 abbrev pub called : Bool → List Stmt → Bool

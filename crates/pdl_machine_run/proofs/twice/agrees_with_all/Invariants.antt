@@ -1,7 +1,7 @@
 use Rattle.std.proofs.Common.{◌≡◌, drop}
 use Rattle.pdl_semantics.specs.Flat.{list_all}
 use Rattle.pdl_form.specs.View.{guard_view, guards_view}
-use Rattle.pdl_machine_facts.specs.Ports.{agrees_with}
+use Rattle.pdl_semantics.specs.SecondWrites.{agrees_with}
 use Rattle.pdl_machine_run.proofs.twice.agrees_with_all.Given as goal
 
 -- the guards left decide

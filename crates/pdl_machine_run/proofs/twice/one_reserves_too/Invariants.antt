@@ -1,7 +1,7 @@
 use Rattle.std.proofs.Common.{◌≡◌, drop}
 use Rattle.pdl_semantics.specs.Stages.{list_any}
 use Rattle.pdl_form.specs.View.{guards_view, stmts_view}
-use Rattle.pdl_machine_facts.specs.Ports.{reserves_too}
+use Rattle.pdl_semantics.specs.SecondWrites.{reserves_too}
 use Rattle.pdl_machine_run.proofs.twice.one_reserves_too.Given as goal
 
 -- the statements left decide
