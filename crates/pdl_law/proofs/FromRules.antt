@@ -5,7 +5,7 @@ use Rattle.std.proofs.lemmas.Bool.{false≢true, not-false, and_parts, ltb-true}
 use Rattle.pdl_semantics.specs.Tree as tree
 use Rattle.pdl_semantics.specs.Tree.{R, W, Variable, Separator, CombRead, DelayedRead, Reserve, If, Mem}
 use Rattle.pdl_semantics.specs.Flat
-use Rattle.pdl_semantics.specs.Flat.{list_all, Op, Stmt, Pipe}
+use Rattle.pdl_semantics.specs.Flat.{is_delayed, list_all, Op, Stmt, Pipe}
 use Rattle.pdl_semantics.specs.Forms.{on_delayed_read}
 use Rattle.pdl_semantics.specs.Stages.{mem_at, plain_mem}
 use Rattle.pdl_semantics.specs.Flatten.{Var, flat, mem_of, mems_of, params_of}
@@ -33,25 +33,25 @@ use Rattle.pdl_word.proofs.Each.{each_weaker}
 -- a memory that the rules take for delayed is there, and delayed; one that they don't is not
 delayed_there : (ms : List Mem) (n : List ℕ)
     → is_delayed_memory ms n ≡ true
-    → (mem_of ms n < length (mems_of ms)) × ((slice_index_or (mems_of ms) (mem_of ms n) plain_mem).delayed ≡ true)
+    → (mem_of ms n < length (mems_of ms)) × (is_delayed (slice_index_or (mems_of ms) (mem_of ms n) plain_mem).kind ≡ true)
 delayed_there [] n e = absurd (false≢true e)
 delayed_there (x ∷ xs) n e = at (bytes_eq x.name.name n) e (delayed_there xs n)
   where
-    at : (b : Bool) → (if b then x.delayed else is_delayed_memory xs n) ≡ true
-        → (is_delayed_memory xs n ≡ true → (mem_of xs n < length (mems_of xs)) × ((slice_index_or (mems_of xs) (mem_of xs n) plain_mem).delayed ≡ true))
+    at : (b : Bool) → (if b then is_delayed x.kind else is_delayed_memory xs n) ≡ true
+        → (is_delayed_memory xs n ≡ true → (mem_of xs n < length (mems_of xs)) × (is_delayed (slice_index_or (mems_of xs) (mem_of xs n) plain_mem).kind ≡ true))
         → ((if b then 0 else suc (mem_of xs n)) < suc (length (mems_of xs)))
-        × ((slice_index_or (mems_of (x ∷ xs)) (if b then 0 else suc (mem_of xs n)) plain_mem).delayed ≡ true)
+        × (is_delayed (slice_index_or (mems_of (x ∷ xs)) (if b then 0 else suc (mem_of xs n)) plain_mem).kind ≡ true)
     at true f rest = (omega arith, f)
     at false f rest = let r = rest f in (let l = r.0 in omega (arith, l), r.1)
 
 comb_there : (ms : List Mem) (n : List ℕ)
-    → is_delayed_memory ms n ≡ false → (slice_index_or (mems_of ms) (mem_of ms n) plain_mem).delayed ≡ false
+    → is_delayed_memory ms n ≡ false → is_delayed (slice_index_or (mems_of ms) (mem_of ms n) plain_mem).kind ≡ false
 comb_there [] n e = refl
 comb_there (x ∷ xs) n e = at (bytes_eq x.name.name n) e (comb_there xs n)
   where
-    at : (b : Bool) → (if b then x.delayed else is_delayed_memory xs n) ≡ false
-        → (is_delayed_memory xs n ≡ false → (slice_index_or (mems_of xs) (mem_of xs n) plain_mem).delayed ≡ false)
-        → (slice_index_or (mems_of (x ∷ xs)) (if b then 0 else suc (mem_of xs n)) plain_mem).delayed ≡ false
+    at : (b : Bool) → (if b then is_delayed x.kind else is_delayed_memory xs n) ≡ false
+        → (is_delayed_memory xs n ≡ false → is_delayed (slice_index_or (mems_of xs) (mem_of xs n) plain_mem).kind ≡ false)
+        → is_delayed (slice_index_or (mems_of (x ∷ xs)) (if b then 0 else suc (mem_of xs n)) plain_mem).kind ≡ false
     at true f rest = f
     at false f rest = rest f
 
@@ -62,7 +62,7 @@ OnSome P (Some op) = P op
 
 -- each form of read is of a memory of its kind
 abbrev IsOfKind : Pipe → Op → Type 0
-IsOfKind p op = IsAtOnce p op × ReadsAtOnce p op × on_delayed_read (λ y m a. (m < length p.mems) × ((mem_at p m).delayed ≡ true)) ⊤ op
+IsOfKind p op = IsAtOnce p op × ReadsAtOnce p op × on_delayed_read (λ y m a. (m < length p.mems) × (is_delayed (mem_at p m).kind ≡ true)) ⊤ op
 
 kind_at : (p : tree.Pipe) (s : tree.Stmt) (vs : List Var) → is_wrong_read p.mems s ≡ false → OnSome (IsOfKind (flat p)) (op_of p.mems vs s)
 kind_at p (CombRead sp x from) vs e = (comb_there p.mems from.mem.name e, comb_there p.mems from.mem.name e, tt)
@@ -142,7 +142,7 @@ reads_source p rules sound = record {
   apart = reads_apart (length (params_of p.params)) (flat p).vars (flat p).stmts (rises p);
   known =
       λ m r e.
-      (let k = reading_has (λ n q. (n < length (flat p).mems) × ((mem_at (flat p) n).delayed ≡ true))
+      (let k = reading_has (λ n q. (n < length (flat p).mems) × (is_delayed (mem_at (flat p) n).kind ≡ true))
       (flat p).stmts (each_weaker (λ (x : Stmt). IsOfKind (flat p) x.op) _ (λ x h. h.2) (flat p).stmts (kinds p rules)) m r e in (
         k.0,
         k.1,

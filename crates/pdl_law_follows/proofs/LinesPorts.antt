@@ -5,6 +5,7 @@ use Rattle.std.specs.Option.{is_some}
 use Rattle.std.proofs.lemmas.Bool.{or_parts}
 use Rattle.pdl_kit.specs.declared.mem_info.MemInfo.{MemInfo}
 use Rattle.pdl_semantics.specs.Tree.{Mem}
+use Rattle.pdl_semantics.specs.Flat.{is_delayed}
 use Rattle.pdl_semantics.specs.Flatten.{mems_of, flat_lock}
 use Rattle.pdl_semantics.specs.Cycle.{PortWrite}
 use Rattle.pdl_rules.specs.Typed.{is_memory, AreDistinct}
@@ -21,7 +22,7 @@ use Rattle.pdl_law_parts.proofs.LinesNames.{name_of_output}
 use Rattle.pdl_law_parts.proofs.LinesPorts.{named_value, found, flag_of, addr_of, word_of, commit_if, commit_is, if_both, if_none}
 use Rattle.pdl_law_parts.proofs.LinesColumns.{locked_infos, AreFound, declared_found, with_port, skipped, none_of_stages, one_of_locked, by_names}
 use Rattle.pdl_law_sides.specs.WholeNetlist.{request_values, all_request_values}
-use Rattle.pdl_law_follows.specs.Memories.{is_delayed, delayed_of, comb_of, net_infos}
+use Rattle.pdl_law_follows.specs.Memories.{answers_late, delayed_of, comb_of, net_infos}
 use Rattle.pdl_law_follows.proofs.Memories.{none_named, distinct_some, some_among}
 use Rattle.pdl_law_follows.proofs.PortNames.{commit_names, request_names, last_names, output_names}
 
@@ -126,7 +127,7 @@ pub past_requests : (x : List ℕ)
 past_requests x f g [] [] names vals l = refl
 past_requests x f g [] (q ∷ qs) names vals l = absurd (cc l)
 past_requests x f g (m ∷ ms) [] names vals l = absurd (cc l)
-past_requests x f g (m ∷ ms) (q ∷ qs) names vals l = at m.delayed q (past_requests x f g ms qs names vals (omega (arith, l)))
+past_requests x f g (m ∷ ms) (q ∷ qs) names vals l = at (is_delayed m.kind) q (past_requests x f g ms qs names vals (omega (arith, l)))
   where
     pair : (a b : ℕ) → named_value (request_names (map port_mem (delayed_of ms)) names) (requests_then ms qs vals) x ≡ named_value names vals x
         → (if bytes_eq (codes "q_" ++ m.name.name) x
@@ -157,7 +158,7 @@ pub requests_same : (ms : List Mem) (qs : List (Option ℕ)) (names : List (List
 requests_same [] [] names vals l e = e
 requests_same [] (q ∷ qs) names vals l e = absurd (cc l)
 requests_same (m ∷ ms) [] names vals l e = absurd (cc l)
-requests_same (m ∷ ms) (q ∷ qs) names vals l e = at m.delayed q (requests_same ms qs names vals (omega (arith, l)) e)
+requests_same (m ∷ ms) (q ∷ qs) names vals l e = at (is_delayed m.kind) q (requests_same ms qs names vals (omega (arith, l)) e)
   where
     at : (b : Bool) (o : Option ℕ) → length (requests_then ms qs vals) ≡ length (request_names (map port_mem (delayed_of ms)) names)
         → length (((if b then request_values o else []) ++ all_request_values (mems_of ms) qs) ++ vals)
@@ -247,15 +248,15 @@ not_among test (x ∷ xs) h m (inr a) t = at (test x) (not_among test xs h.1 m a
 
 -- each memory of a pipe is found in the netlist by its commit port, where names differ
 pub net_found : (ms : List Mem) → AreDistinct ms → AreFound ms (net_infos ms)
-net_found ms h m a = at m.delayed refl
+net_found ms h m a = at (is_delayed m.kind) refl
   where
-    at : (b : Bool) → m.delayed ≡ b → commit_mem (net_infos ms) (codes "c_" ++ m.name.name) ≡ Some (info_of m)
+    at : (b : Bool) → is_delayed m.kind ≡ b → commit_mem (net_infos ms) (codes "c_" ++ m.name.name) ≡ Some (info_of m)
     at true e =
         found_left (map info_of (delayed_of ms)) (map info_of (comb_of ms)) (codes "c_" ++ m.name.name) (info_of m)
-        (declared_found (delayed_of ms) (distinct_some is_delayed ms h) m (some_among is_delayed ms m a e))
+        (declared_found (delayed_of ms) (distinct_some answers_late ms h) m (some_among answers_late ms m a e))
     at false e =
         found_right (map info_of (delayed_of ms)) (map info_of (comb_of ms)) (codes "c_" ++ m.name.name)
-        (none_found (delayed_of ms) m.name.name (not_among is_delayed ms h m a e))
+        (none_found (delayed_of ms) m.name.name (not_among answers_late ms h m a e))
         ∙ declared_found (comb_of ms)
         (distinct_some Rattle.pdl_rules.specs.Refusal.is_comb ms h) m
         (some_among Rattle.pdl_rules.specs.Refusal.is_comb ms m a (ap Rattle.std.proofs.Common.not e))

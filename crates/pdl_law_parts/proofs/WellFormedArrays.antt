@@ -125,7 +125,7 @@ pub info_if : (b : Bool) (a : Array) (m : Mem)
     → is_some m.lock ≡ b → shape_of a ≡ shape_of_mem m → Reaches m → is_delayed m.kind ≡ false
     → info_of m ≡ comb_info a (if b then Some (port_mem m) else None)
 info_if true a m l e r d =
-    info_same m.name.name a.name m.width.value m.width.value m.depth.value _ is_delayed m.kind false (sym (ap (λ (s : Shape). s.name) e)) refl (sym r) d
+    info_same m.name.name a.name m.width.value m.width.value m.depth.value _ (is_delayed m.kind) false (sym (ap (λ (s : Shape). s.name) e)) refl (sym r) d
 info_if false a m l e r d =
-    info_same m.name.name a.name m.width.value a.width m.depth.value a.depth is_delayed m.kind false (sym (ap (λ (s : Shape). s.name) e))
+    info_same m.name.name a.name m.width.value a.width m.depth.value a.depth (is_delayed m.kind) false (sym (ap (λ (s : Shape). s.name) e))
     (sym (ap (λ (s : Shape). s.width) e)) (sym (ap (λ (s : Shape). s.depth) e ∙ shallow m.lock m.depth.value l)) d

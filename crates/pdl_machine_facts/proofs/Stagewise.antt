@@ -1,12 +1,12 @@
 -- What a cycle does stage by stage, in a pipe whose threads go on to later stages.
-use Rattle.std.proofs.Common.{◌≡◌, refl, sym, ap, ap₂, ◌∙◌, subst, ℕ, zero, suc, ◌+◌, ◌-◌, ◌<◌, Bool, List, [], ◌∷◌, length, Option, Some, None, is_some, is_none, ◌==◌, cond, if◌then◌else◌, arith}
-use Rattle.std.proofs.lemmas.Bool.{ne_eqb}
+use Rattle.std.proofs.Common.{◌≡◌, refl, sym, ap, ap₂, ◌∙◌, subst, ℕ, zero, suc, ◌+◌, ◌-◌, ◌<◌, Bool, true, false, List, [], ◌∷◌, length, Option, Some, None, is_some, is_none, ◌==◌, cond, if◌then◌else◌, arith}
+use Rattle.std.proofs.lemmas.Bool.{eqb-true, ne_eqb}
 use Rattle.pdl_semantics.specs.Flat.{Arrays, with_value, with_word, Mem, Pipe}
 use Rattle.pdl_semantics.specs.Stages.{list_any}
-use Rattle.pdl_semantics.specs.Machine.{State, Pending, lock_of}
+use Rattle.pdl_semantics.specs.Machine.{Advised, State, Pending, lock_of}
 use Rattle.pdl_semantics.specs.Locks.{commit_value}
 use Rattle.pdl_semantics.specs.Moves.{Act, next_stage, all_acts, movers}
-use Rattle.pdl_semantics.specs.Cycle.{after_these, cycle, for_mems, list_three, taken_out, port_writes, with_commit, with_commits, entries_left, or_then, if_kept, born_thread, child_of, squasher, stage_next}
+use Rattle.pdl_semantics.specs.Cycle.{after_these, cycle, for_mems, list_three, taken_out, port_writes, with_commit, with_commits, with_advised, with_all_advised, entries_left, or_then, if_kept, born_thread, child_of, squasher, stage_next}
 use Rattle.pdl_theory_simulation.proofs.PerMemory.{at_mem, other_commit, before_commits}
 use Rattle.pdl_machine_facts.specs.Slots
 use Rattle.pdl_machine_facts.specs.Slots.{LeadsOn, slot, stage_moves, movers_from, moving, arriving_thread}
@@ -22,6 +22,24 @@ same_commit m [] a b h = h
 same_commit m (e ∷ es) a b h =
     same_commit m es (with_word a m e.address (commit_value e.value)) (with_word b m e.address (commit_value e.value))
     (ap (λ w. cond (m == m) (with_value w e.address (commit_value e.value)) w) h)
+
+-- so do the writes of advisory memories
+same_word : (m n k v : ℕ) (a b : Arrays) → a m ≡ b m → with_word a n k v m ≡ with_word b n k v m
+same_word m n k v a b h = at (m == n) refl
+  where
+    at : (c : Bool) → (m == n) ≡ c → (if c then with_value (a n) k v else a m) ≡ (if c then with_value (b n) k v else b m)
+    at true e = ap (λ w. with_value w k v) (subst (λ j. a j ≡ b j) (eqb-true m n e) h)
+    at false e = h
+
+same_advised : (m : ℕ) (ws : List Advised) (a b : Arrays) → a m ≡ b m → with_advised ws a m ≡ with_advised ws b m
+same_advised m [] a b h = h
+same_advised m (w ∷ ws) a b h =
+    same_advised m ws (with_word a w.mem w.address w.value) (with_word b w.mem w.address w.value) (same_word m w.mem w.address w.value a b h)
+
+same_all_advised : (m : ℕ) (ms : List Act) (a b : Arrays) → a m ≡ b m → with_all_advised ms a m ≡ with_all_advised ms b m
+same_all_advised m [] a b h = h
+same_all_advised m (x ∷ ms) a b h =
+    same_advised m x.does.advises (with_all_advised ms a) (with_all_advised ms b) (same_all_advised m ms a b h)
 
 commits_at : (st : State) (ms : List Act) (k n : ℕ) (xs : List Mem) (arrays : Arrays)
     → n < length xs
@@ -105,6 +123,8 @@ module _ (p : Pipe) (leads : LeadsOn p) (some : 0 < length p.stages) (st : State
             ap (λ (s : State). s.arrays m) next_is
             ∙ (let e : 0 + m ≡ m = omega arith in
             subst
-            (λ j. with_commits st (moving p st bits) 0 p.mems st.arrays j ≡ with_commit st.arrays j (taken_out st (moving p st bits) j) j) e
-            (commits_at st (moving p st bits) 0 m p.mems st.arrays h));
+            (λ j. with_all_advised (moving p st bits) (with_commits st (moving p st bits) 0 p.mems st.arrays) j
+            ≡ with_all_advised (moving p st bits) (with_commit st.arrays j (taken_out st (moving p st bits) j)) j) e
+            (same_all_advised (0 + m) (moving p st bits) (with_commits st (moving p st bits) 0 p.mems st.arrays)
+            (with_commit st.arrays (0 + m) (taken_out st (moving p st bits) (0 + m))) (commits_at st (moving p st bits) 0 m p.mems st.arrays h)));
       }

@@ -4,7 +4,7 @@ use Rattle.pdl_semantics.specs.Flat.{Pipe}
 use Rattle.pdl_semantics.specs.Machine.{Thread, State, lock_of, deeds}
 use Rattle.pdl_semantics.specs.Moves.{next_stage, is_empty, all_acts}
 use Rattle.pdl_semantics.specs.Moves as model
-use Rattle.pdl_semantics.specs.Cycle.{Ports, cycle, for_mems, for_stages, list_three, taken_out, port_writes, with_commit, entries_left, or_then, if_kept, born_thread, child_of, squasher}
+use Rattle.pdl_semantics.specs.Cycle.{Ports, cycle, for_mems, for_stages, list_three, taken_out, port_writes, with_commit, with_all_advised, entries_left, or_then, if_kept, born_thread, child_of, squasher}
 use Rattle.pdl_semantics.specs.Cycle as model_cycle
 use Rattle.pdl_machine_facts.specs.Slots.{slot, here, later_acts, locks_ready, may_pass, stage_moves, may_enter, moving, arriving_thread, staying_thread}
 
@@ -36,4 +36,5 @@ pub record IsByStages (p : Pipe) (st : State) (bits : List Bool) : Type 0 where
       → slot (cycle p st bits) k
       ≡ or_then (newborn p st bits k) (if_kept (squasher (moving p st bits)) (or_then (arriving_thread p st bits k) (staying_thread p st bits k)))
   pub locks : (m : ℕ) → m < length p.mems → lock_of (cycle p st bits) m ≡ entries_left (squasher (moving p st bits)) (list_three st (moving p st bits) m)
-  pub arrays : (m : ℕ) → m < length p.mems → (cycle p st bits).arrays m ≡ with_commit st.arrays m (taken_out st (moving p st bits) m) m
+  pub arrays : (m : ℕ) → m < length p.mems
+      → (cycle p st bits).arrays m ≡ with_all_advised (moving p st bits) (with_commit st.arrays m (taken_out st (moving p st bits) m)) m

@@ -1,6 +1,6 @@
 -- How the threads of a pipe use the locks, in each state of a run.
 use Rattle.std.specs.Prelude.{◌≡◌, ℕ, zero, suc, ◌+◌, ◌≤◌, ◌<◌, Bool, true, false, IsTrue, List, [], ◌∷◌, Some, None, length, slice_index, nat_le, if◌then◌else◌, Contains, ⊤}
-use Rattle.pdl_semantics.specs.Flat.{Expr, Op, Bind, CombRead, DelayedRead, Write, ReserveRead, ReserveWrite, Block, Release, Call, SpecCall, Verify, SpecCheck, SpecBarrier, Stmt, Plain, Pipe, all_hold}
+use Rattle.pdl_semantics.specs.Flat.{Expr, Op, Bind, CombRead, DelayedRead, Write, ReserveRead, ReserveWrite, Block, Release, Call, SpecCall, Verify, SpecCheck, SpecBarrier, AdviceBind, AdviceRead, AdviceWrite, Stmt, Plain, Pipe, all_hold}
 use Rattle.pdl_semantics.specs.Stages.{in_stage, mem_at, reserve_stage, commit_stage}
 use Rattle.pdl_semantics.specs.Locks.{read_ready, has_room}
 use Rattle.pdl_semantics.specs.Machine.{Thread, State, Pending, lock_of, Deeds, deeds, deeds_after, held_before, is_held, let_go, with_kept, older_write, word_for}
@@ -15,6 +15,7 @@ abbrev pub before_stage : Pipe → ℕ → Thread → Deeds
 before_stage p k t =
     record {
       env = with_kept t.kept t.env;
+      advice = t.advice;
       guess = t.guess;
       held = held_before k t.env p.stmts [];
       blocks = [];
@@ -22,6 +23,7 @@ before_stage p k t =
       writes = [];
       releases = [];
       asks = [];
+      advises = [];
       barrier = false;
       child = None;
       fails = false;
@@ -42,6 +44,9 @@ in_time p k (SpecCall _) = true
 in_time p k (Verify _ _) = true
 in_time p k SpecCheck = true
 in_time p k SpecBarrier = true
+in_time p k (AdviceBind _ _) = true
+in_time p k (AdviceRead _ _ _) = true
+in_time p k (AdviceWrite _ _ _) = true
 
 -- whether a statement that looks at a memory or writes it stands no later than the stage of its releases
 abbrev pub is_early : Pipe → Stmt → Bool
@@ -68,6 +73,9 @@ IsOpFine p st thread (Verify true args) d = IsGuessFine args d
 IsOpFine p st thread (Verify false args) d = length d.guess ≡ length args
 IsOpFine p st thread SpecCheck d = ⊤
 IsOpFine p st thread SpecBarrier d = ⊤
+IsOpFine p st thread (AdviceBind _ _) d = ⊤
+IsOpFine p st thread (AdviceRead _ _ _) d = ⊤
+IsOpFine p st thread (AdviceWrite _ _ _) d = ⊤
 
 -- after these deeds each statement on the thread's path is early and fine, as long as the locks let the thread move so far
 abbrev pub AreFine : Pipe → State → ℕ → List Stmt → Deeds → Type 0
