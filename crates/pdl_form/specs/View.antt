@@ -1,6 +1,6 @@
 -- The flat form that values of the program stand for.
-use Rattle.std.specs.Prelude.{ℕ, true, List, [], ◌∷◌, ◌++◌, map, Option, Some, None}
-use Rattle.pdl_syntax_tree.specs.View.{op_view}
+use Rattle.std.specs.Prelude.{ℕ, List, [], ◌∷◌, ◌++◌, map, Option, Some, None}
+use Rattle.pdl_syntax_tree.specs.View.{op_view, mem_kind_view}
 use Rattle.pdl_form.specs.declared.form.FlatExpr as r_expr
 use Rattle.pdl_form.specs.declared.form.FlatExpr.TheOpen.{FlatExpr-F}
 use Rattle.pdl_form.specs.declared.form.Op as r_op
@@ -51,9 +51,12 @@ act_view (r_ops.Block m a) = flat.Block m a
 act_view (r_ops.Release m a) = flat.Release m a
 act_view (r_ops.Call args) = flat.Call (exprs_view args)
 act_view (r_ops.SpecCall args) = flat.SpecCall (exprs_view args)
-act_view (r_ops.Verify args) = flat.Verify true (exprs_view args)
+act_view (r_ops.Verify last args) = flat.Verify last (exprs_view args)
 act_view r_ops.SpecCheck = flat.SpecCheck
 act_view r_ops.SpecBarrier = flat.SpecBarrier
+act_view (r_ops.AdviceBind x e) = flat.AdviceBind x (expr_view e)
+act_view (r_ops.AdviceRead x m a) = flat.AdviceRead x m a
+act_view (r_ops.AdviceWrite m a e) = flat.AdviceWrite m a (expr_view e)
 
 -- the guard that a guard of the program stands for
 abbrev pub guard_view : r_guard.FlatGuard → Guard
@@ -80,7 +83,7 @@ lock_view (r_locks.Rename size) = flat.Rename size
 
 -- the memory that a memory of the program stands for
 abbrev pub mem_view : r_mem.FlatMem → Mem
-mem_view m = record { width = m.width; depth = m.depth; delayed = m.delayed; lock = lock_view m.lock }
+mem_view m = record { width = m.width; depth = m.depth; kind = mem_kind_view m.kind; lock = lock_view m.lock }
 
 -- the memories that memories of the program stand for
 abbrev pub mems_view : List r_mem.FlatMem → List Mem

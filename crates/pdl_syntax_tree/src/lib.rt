@@ -5,6 +5,6 @@
 pub mod tree;
 
 pub use tree::{
-    AccessKind, BinaryOp, Expr, Ident, Literal, Location, LockDecl, LockKind, Mem, Number, Param,
-    Pipe, Span, Start, Stmt,
+    AccessKind, BinaryOp, Expr, Ident, Literal, Location, LockDecl, LockKind, Mem, MemKind, Number,
+    Param, Pipe, Span, Start, Stmt,
 };
