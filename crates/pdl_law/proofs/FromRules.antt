@@ -21,7 +21,7 @@ use Rattle.pdl_source_paths.specs.Source.{is_source, is_named}
 use Rattle.pdl_source_paths.proofs.Growth.{Grows, vars_past, past_grown, grows_all}
 use Rattle.pdl_source_paths.proofs.PipeFacts.{of_source}
 use Rattle.pdl_machine_lockuse.proofs.InUse.{leads_sound}
-use Rattle.pdl_law_parts.specs.Reads.{IsAtOnce}
+use Rattle.pdl_law_parts.specs.Rows.{HasRow}
 use Rattle.pdl_machine_inflight.specs.Readings.{ReadsAtOnce, Reads}
 use Rattle.pdl_law.specs.StandingStates.{IsLawful}
 use Rattle.pdl_law.proofs.DelayedReads.{RisesIn, rises_from, reading_has, risen, reads_apart, each_reading}
@@ -62,7 +62,7 @@ OnSome P (Some op) = P op
 
 -- each form of read is of a memory of its kind
 abbrev IsOfKind : Pipe → Op → Type 0
-IsOfKind p op = IsAtOnce p op × ReadsAtOnce p op × on_delayed_read (λ y m a. (m < length p.mems) × (is_delayed (mem_at p m).kind ≡ true)) ⊤ op
+IsOfKind p op = HasRow p op × ReadsAtOnce p op × on_delayed_read (λ y m a. (m < length p.mems) × (is_delayed (mem_at p m).kind ≡ true)) ⊤ op
 
 kind_at : (p : tree.Pipe) (s : tree.Stmt) (vs : List Var) → is_wrong_read p.mems s ≡ false → OnSome (IsOfKind (flat p)) (op_of p.mems vs s)
 kind_at p (CombRead sp x from) vs e = (comb_there p.mems from.mem.name e, comb_there p.mems from.mem.name e, tt)
@@ -161,6 +161,6 @@ lawful_source p rules source named =
       leads = leads_sound (flat p) sound;
       some = (let h = sound.graph.some_stage in omega (arith, h));
       reads = reads_source p rules sound;
-      at_once = each_weaker (λ (x : Stmt). IsOfKind (flat p) x.op) (λ (x : Stmt). IsAtOnce (flat p) x.op) (λ x h. h.0) (flat p).stmts (kinds p rules);
+      at_once = each_weaker (λ (x : Stmt). IsOfKind (flat p) x.op) (λ (x : Stmt). HasRow (flat p) x.op) (λ x h. h.0) (flat p).stmts (kinds p rules);
       inside = reading_has (λ n q. q.stage < length (flat p).stages) (flat p).stmts (each_low (length (flat p).stages) (flat p).stmts sound.inside);
     }

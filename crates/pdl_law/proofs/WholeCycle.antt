@@ -107,7 +107,7 @@ module _ (p : Pipe) (lawful : IsLawful p) (ls : Locks) (vs : ℕ → View) (gate
 
     -- each stage is as the machine's
     pub seen_whole : (j : ℕ) → j < length p.stages → IsSeen p vs moves s st bits j
-    seen_whole = all_seen p ls vs gates moves c laid lawful.at_once lawful.leads s st bits suits whole.stands known.used known.by answers tells
+    seen_whole = all_seen p ls vs gates moves c laid lawful.rows lawful.leads s st bits suits whole.stands known.used known.by answers tells
 
     -- the squash is as the machine's
     pub squashed_whole : IsSquashed p ls vs gates s st bits

@@ -11,7 +11,7 @@ use Rattle.pdl_machine_facts.specs.Slots.{LeadsOn, here, stage_moves, moving}
 use Rattle.pdl_machine_facts.specs.Cycle.{IsByStages}
 use Rattle.pdl_machine_facts.specs.Use.{IsInUse}
 use Rattle.pdl_machine_lockuse.specs.Cut.{IsCut}
-use Rattle.pdl_law_parts.specs.Reads.{AreAtOnce}
+use Rattle.pdl_law_parts.specs.Rows.{HaveRows}
 use Rattle.pdl_law_parts.specs.Served.{IsServed}
 use Rattle.pdl_machine_inflight.specs.Readings.{Reading, reading, Reads}
 use Rattle.pdl_machine_inflight.specs.InFlight.{InFlight}
@@ -26,7 +26,7 @@ pub record IsLawful (p : Pipe) : Type 0 where
   pub leads : LeadsOn p
   pub some : 1 ≤ length p.stages
   pub reads : Reads p
-  pub at_once : AreAtOnce p
+  pub rows : HaveRows p
   pub inside : (m : ℕ) (r : Reading) → reading p m ≡ Some r → r.stage < length p.stages
   pub single : IsSingle p
 

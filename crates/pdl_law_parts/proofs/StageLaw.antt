@@ -17,7 +17,7 @@ use Rattle.pdl_machine_facts.specs.Use.{before_stage, AreFine}
 use Rattle.pdl_law_parts.proofs.AnsweredThreads.{stood}
 use Rattle.pdl_law_parts.specs.Lives.{row_uses, asks_held, lives_from, held_from, verifies_from}
 use Rattle.pdl_law_parts.specs.Walk.{Locks, Put, Birth, Walk, is_locked, IsFresh, walk_after, AreRows}
-use Rattle.pdl_law_parts.specs.Reads.{IsAtOnce, AreAtOnce}
+use Rattle.pdl_law_parts.specs.Rows.{HasRow, HaveRows}
 use Rattle.pdl_law_parts.specs.Served.{IsServed}
 use Rattle.pdl_law_parts.proofs.Reservations.{reserves_grow}
 use Rattle.pdl_word.specs.Each.{Each}
@@ -37,15 +37,15 @@ abbrev pub AllLive : Pipe → ℕ → List Stmt → Type 0
 AllLive p k [] = Unit {0}
 AllLive p k (x ∷ xs) = (IsLive p k x × (x.stage ≡ k)) × AllLive p k xs
 
-live_from : (p : Pipe) (k : ℕ) (xs : List Stmt) → Each (λ (x : Stmt). IsAtOnce p x.op) xs
+live_from : (p : Pipe) (k : ℕ) (xs : List Stmt) → Each (λ (x : Stmt). HasRow p x.op) xs
     → (list_any (λ (r : Stmt). nat_le k r.stage && is_verify r.op) xs ≡ true → verifies_from p k ≡ true)
     → ((y : ℕ) → list_any (λ (r : Stmt). nat_le k r.stage && row_uses r y) xs ≡ true → lives_from p k y ≡ true)
     → ((m a : ℕ) → list_any (λ (r : Stmt). nat_le k r.stage && asks_held r.op m a) xs ≡ true → held_from p k m a ≡ true)
     → AllLive p k (in_stage k xs)
-live_from p k [] once v f g = tt
-live_from p k (x ∷ xs) once v f g =
+live_from p k [] each v f g = tt
+live_from p k (x ∷ xs) each v f g =
     at (x.stage == k) refl
-    (live_from p k xs once.1 (λ e. v (or_right (nat_le k x.stage && is_verify x.op) _ e))
+    (live_from p k xs each.1 (λ e. v (or_right (nat_le k x.stage && is_verify x.op) _ e))
     (λ y e. f y (or_right (nat_le k x.stage && row_uses x y) _ e))
     (λ m a e. g m a (or_right (nat_le k x.stage && asks_held x.op m a) _ e)))
   where
@@ -59,15 +59,15 @@ live_from p k (x ∷ xs) once v f g =
               vars = λ y u. f y (or_left (nat_le k x.stage && row_uses x y) _ (ap₂ (λ a b. a && b) low u));
               held = λ m a u. g m a (or_left (nat_le k x.stage && asks_held x.op m a) _ (ap₂ (λ a b. a && b) low u));
               verify = λ u. v (or_left (nat_le k x.stage && is_verify x.op) _ (ap₂ (λ a b. a && b) low u));
-              at_once = once.0;
+              row = each.0;
             },
             same,
           ),
           rest,
         )
 
-live_rows : (p : Pipe) (k : ℕ) → AreAtOnce p → AllLive p k (in_stage k p.stmts)
-live_rows p k once = live_from p k p.stmts once (λ e. e) (λ y e. or_left _ _ e) (λ m a e. e)
+live_rows : (p : Pipe) (k : ℕ) → HaveRows p → AllLive p k (in_stage k p.stmts)
+live_rows p k all = live_from p k p.stmts all (λ e. e) (λ y e. or_left _ _ e) (λ m a e. e)
 
 -- ALL ROWS
 
@@ -89,7 +89,7 @@ module _ (c : Circuit) (p : Pipe) (ls : Locks) (vs : ℕ → View) (s : State) (
 module _ (c : Circuit) (p : Pipe) (ls : Locks) (vs : ℕ → View) (s : State) (st : machine.State) (bits : List Bool) (suits : Suits c s)
     (kind : (m : ℕ) → is_locked p m ≡ true → (mem_at p m).lock ≡ as_lock (ls.kind m) (ls.size m))
     (room : (m : ℕ) → is_locked p m ≡ true → RoomLaw (ls.stands m) (ls.size m) (ls.room m))
-    (stands : StandsFor p ls vs s st) (used : IsServed p st bits) (once : AreAtOnce p) where
+    (stands : StandsFor p ls vs s st) (used : IsServed p st bits) (all : HaveRows p) where
   around_of : (k : ℕ) (t : Thread) → here p st bits k ≡ Some t → IsAround c p ls vs s st k t.number
   around_of k t h = record {
     suits = suits;
@@ -115,7 +115,7 @@ module _ (c : Circuit) (p : Pipe) (ls : Locks) (vs : ℕ → View) (s : State) (
   stage_follows k t rows fresh guess_long env h =
       let u = stood p st bits k t h in
       follows_all c p ls vs s st k t.number (around_of k t h) (in_stage k p.stmts)
-      (vs k).begun (vs k).ended (before_stage p k t) (live_rows p k once) rows (used.in_use.fine k t h) (λ m e. used.one k t m h (lock_there p m e))
+      (vs k).begun (vs k).ended (before_stage p k t) (live_rows p k all) rows (used.in_use.fine k t h) (λ m e. used.one k t m h (lock_there p m e))
       (record {
         ready = ap (λ (f : Signal). f.value s) fresh.ready ∙ one_is s;
         so = λ z. record {

@@ -18,7 +18,7 @@ use Rattle.pdl_machine_facts.specs.Slots.{locks_ready}
 use Rattle.pdl_machine_facts.specs.Use.{is_early, IsOpFine}
 use Rattle.pdl_law_parts.specs.Lives.{uses_var, are_using, guards_use, row_uses, asks_held, lives_from, held_from, verifies_from}
 use Rattle.pdl_law_parts.specs.Walk.{Locks, Row, Walk, is_locked, taken_in, AgreeOn, HaveValues, IsWord, IsOp, both, if_on, with_var, with_held, walk_after}
-use Rattle.pdl_law_parts.specs.Reads.{IsAtOnce}
+use Rattle.pdl_law_parts.specs.Rows.{HasRow}
 use Rattle.pdl_law_parts.specs.Views.{View}
 use Rattle.pdl_law_parts.specs.Stands.{IsEnv, IsHolding, StandsLock, IsSo, Follows}
 use Rattle.pdl_law_parts.proofs.Signals.{both_at, if_on_at}
@@ -45,7 +45,7 @@ pub record IsLive (p : Pipe) (k : ℕ) (x : Stmt) : Type 0 where
   pub vars : (y : ℕ) → row_uses x y ≡ true → lives_from p k y ≡ true
   pub held : (m a : ℕ) → asks_held x.op m a ≡ true → held_from p k m a ≡ true
   pub verify : is_verify x.op ≡ true → verifies_from p k ≡ true
-  pub at_once : IsAtOnce p x.op
+  pub row : HasRow p x.op
 
 -- the thread of a stage, in a state of the netlist that stands for the machine's
 pub record IsAround (c : Circuit) (p : Pipe) (ls : Locks) (vs : ℕ → View) (s : State) (st : machine.State) (k thread : ℕ) : Type 0 where

@@ -102,7 +102,7 @@ module _ (c : Circuit) (p : Pipe) (ls : Locks) (vs : ℕ → View) (s : State) (
             env =
                 set_env c p ls vs s st k thread around gs r w d glive on q y
                 (word_for st thread m (slice_index d.env a)) r.value (subst (λ n. y < n) (sym h.long) row.0)
-                (word_at c p ls vs s st k thread around gs r w d glive on q m a live.at_once word
+                (word_at c p ls vs s st k thread around gs r w d glive on q m a live.row word
                 (early c p ls vs s st k thread around j (commit_stage p m) here g.0)
                 (subst P addr g.1)
                 ∙ ap (word_for st thread m) (sym addr)) h.env;

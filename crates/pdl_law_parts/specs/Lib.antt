@@ -1,7 +1,7 @@
 pub mod Lives
 pub mod Walk
 pub mod Places
-pub mod Reads
+pub mod Rows
 pub mod Views
 pub mod Ports
 pub mod Compiled

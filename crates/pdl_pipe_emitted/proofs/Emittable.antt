@@ -11,7 +11,7 @@ use Rattle.pdl_source_paths.proofs.Memories.{mems_length, stages_length}
 use Rattle.pdl_form.specs.Form.{Form, form_of}
 use Rattle.pdl_form_types.specs.Stmts.{AreTypedStmts, IsTypedForm}
 use Rattle.pdl_form_types.proofs.FormTyping.{typed_whole}
-use Rattle.pdl_law_parts.specs.Reads.{IsAtOnce}
+use Rattle.pdl_law_parts.specs.Rows.{HasRow}
 use Rattle.pdl_law_parts.proofs.WellFormedStages.{few_stages}
 use Rattle.pdl_law.specs.StandingStates.{IsLawful}
 use Rattle.pdl_law.proofs.FromRules.{lawful_source}
@@ -28,7 +28,7 @@ one_each : (test : ℕ → Op → Bool) (xs : List Stmt) (ms : List Mem) → len
 one_each test xs ms = stages_length test xs 0 ms ∙ sym (mems_length ms)
 
 -- statements that are typed, and read at once where they say so
-both_walked : (f : Form) (xs : List Stmt) → AreTypedStmts f xs → Each (λ (x : Stmt). IsAtOnce f.pipe x.op) xs → AreWalked f xs
+both_walked : (f : Form) (xs : List Stmt) → AreTypedStmts f xs → Each (λ (x : Stmt). HasRow f.pipe x.op) xs → AreWalked f xs
 both_walked f [] t h = tt
 both_walked f (x ∷ xs) t h = ((t.0, h.0), both_walked f xs t.1 h.1)
 
@@ -36,7 +36,7 @@ both_walked f (x ∷ xs) t h = ((t.0, h.0), both_walked f xs t.1 h.1)
 pub can_emit : (p : Pipe) → KeepsRules p → is_source p ≡ true → is_named p ≡ true → CanEmit (form_of p)
 can_emit p rules source named = record {
   typed = typed;
-  walked = both_walked (form_of p) (flat p).stmts typed.stmts lawful.at_once;
+  walked = both_walked (form_of p) (flat p).stmts typed.stmts lawful.rows;
   reserves = one_each is_reserve (flat p).stmts p.mems;
   releases = one_each is_release (flat p).stmts p.mems;
   leads = lawful.leads;

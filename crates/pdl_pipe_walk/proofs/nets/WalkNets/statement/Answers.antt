@@ -12,7 +12,7 @@ use Rattle.pdl_form_types.specs.Stmts.{param_widths, AreArguments}
 use Rattle.pdl_pipe_walk.proofs.Arguments.{arguments_typed, arguments_few, arguments_wide}
 use Rattle.pdl_pipe_walk.proofs.Lists.{on_ok}
 use Rattle.pdl_pipe_walk.proofs.MadeSteps.{nets_of, has_keep, bind_step, read_step, write_step, idle_step, reserve_step, block_step, release_step, call_step}
-use Rattle.pdl_law_parts.specs.Reads.{IsAtOnce}
+use Rattle.pdl_law_parts.specs.Rows.{HasRow}
 use Rattle.pdl_pipe_walk.proofs.MadeGuesses.{ask_step, check_step, barrier_step, guess_step, verify_step}
 use Rattle.pdl_pipe_walk.proofs.RowSteps.{typed_as, guards_as, step_as}
 use Rattle.pdl_pipe_walk.proofs.nets.WalkNets.statement.Goals as goal
@@ -36,7 +36,7 @@ pub read-requires-clause-wide : goal.read-requires-clause-wide
 read-requires-clause-wide g c = (typed_as (form c.args.setting.now.pipe.now) c.args.s.now _ c.requires.typed c.in-CombRead.is).2
 
 pub read-requires-clause-at_once : goal.read-requires-clause-at_once
-read-requires-clause-at_once g c = subst (λ (o : r_op.Op). IsAtOnce (form c.args.setting.now.pipe.now).pipe (act_view o)) c.in-CombRead.is c.requires.typed.1
+read-requires-clause-at_once g c = subst (λ (o : r_op.Op). HasRow (form c.args.setting.now.pipe.now).pipe (act_view o)) c.in-CombRead.is c.requires.typed.1
 
 pub delayed_read-requires-clause-at : goal.delayed_read-requires-clause-at
 delayed_read-requires-clause-at g c = (typed_as (form c.args.setting.now.pipe.now) c.args.s.now _ c.requires.typed c.in-DelayedRead.is).1
