@@ -1,5 +1,5 @@
 -- No path of a source without forms that lack a circuit reserves a memory twice for writing.
-use Rattle.std.proofs.Common.{◌≡◌, refl, sym, ap, ap₂, ◌∙◌, subst, ℕ, suc, ◌+◌, ◌<◌, ◌≤◌, Bool, true, false, ◌&&◌, List, [], ◌∷◌, ◌++◌, length, map, Some, ◌==◌, if◌then◌else◌, bytes_eq, zero-add, arith}
+use Rattle.std.proofs.Common.{◌≡◌, refl, sym, ap, ap₂, ◌∙◌, subst, ℕ, suc, ◌+◌, ◌<◌, ◌≤◌, Bool, true, false, ◌&&◌, ◌||◌, List, [], ◌∷◌, ◌++◌, length, map, Some, ◌==◌, if◌then◌else◌, bytes_eq, zero-add, arith}
 use Rattle.std.specs.List.{list_any}
 use Rattle.std.proofs.lemmas.Bool.{false≢true}
 use Rattle.pdl_kit.specs.declared.rule.Rule.TheVariants.{L4}
@@ -31,6 +31,7 @@ use Rattle.pdl_source_paths.proofs.PathStatements.{ops, ops_of, seen_ops, seen, 
 use Rattle.pdl_source_paths.proofs.Variables.{Here, all_here, IsNamed, located}
 use Rattle.pdl_source_paths.proofs.Walk.{OnPath, all_on, all_in_text, on_the_path}
 use Rattle.pdl_law.specs.StandingStates.{IsSingle}
+use Rattle.pdl_law.proofs.TwicePaths.{never_twice}
 use Rattle.pdl_word.proofs.Bytes.{bytes_same}
 
 -- a condition counts one where it holds
@@ -182,4 +183,4 @@ module _ (p : tree.Pipe) (rules : KeepsRules p) (built : IsBuilt p) (source : is
 
 -- no path of a source without forms that lack a circuit reserves a memory twice for writing
 pub single_source : (p : tree.Pipe) → KeepsRules p → IsBuilt p → is_source p ≡ true → IsSingle (flat p)
-single_source p rules built source path m low = single_on p rules built source path m low
+single_source p rules built source m low = never_twice m (flat p).stmts (λ path. single_on p rules built source path m low)

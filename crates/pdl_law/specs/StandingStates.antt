@@ -1,11 +1,10 @@
 -- A state of the netlist of a whole pipe that stands for a state of the machine, and what is known of a cycle of the machine.
-use Rattle.std.specs.Prelude.{◌≡◌, ℕ, ◌<◌, ◌≤◌, Bool, true, List, [], Some, length}
+use Rattle.std.specs.Prelude.{◌≡◌, ℕ, ◌<◌, ◌≤◌, Bool, true, false, List, [], Some, length}
 use Rattle.pdl_semantics.specs.Flat.{Pipe}
-use Rattle.pdl_semantics.specs.Stages.{onpath}
 use Rattle.pdl_semantics.specs.Machine as machine
 use Rattle.pdl_semantics.specs.Machine.{Thread}
 use Rattle.pdl_semantics.specs.Cycle.{cycle, squasher, is_kept}
-use Rattle.pdl_semantics.specs.SecondWrites.{write_reserves}
+use Rattle.pdl_semantics.specs.SecondWrites.{reserves_twice}
 use Rattle.pdl_theory_facts.specs.Facts.{Sound}
 use Rattle.pdl_machine_facts.specs.Slots.{LeadsOn, here, stage_moves, moving}
 use Rattle.pdl_machine_facts.specs.Cycle.{IsByStages}
@@ -18,7 +17,7 @@ use Rattle.pdl_machine_inflight.specs.InFlight.{InFlight}
 
 -- no path reserves a memory twice for writing: the circuit of a lock has one commit in a cycle
 abbrev pub IsSingle : Pipe → Type 0
-IsSingle p = (path : List ℕ) (m : ℕ) → m < length p.mems → write_reserves m (onpath path p.stmts) ≤ 1
+IsSingle p = (m : ℕ) → m < length p.mems → reserves_twice m p.stmts ≡ false
 
 -- what the rules give of a pipe, as far as its netlist hangs on it
 pub record IsLawful (p : Pipe) : Type 0 where

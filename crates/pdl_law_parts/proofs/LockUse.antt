@@ -167,8 +167,10 @@ stage_written s m base t ticket fs (x ∷ xs) es a h = at (λ gs b g. stage_writ
     Has : List Written → Type 0
     Has ws = EachTo m (λ y. HasTicket base t (ticket y) fs y) ws
 
-    y v : ℕ
+    y : ℕ
     y = x.var
+
+    v : ℕ
     v = x.value.value s
 
     acts : List WriteAct

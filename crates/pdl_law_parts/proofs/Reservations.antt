@@ -1,5 +1,5 @@
 -- How many writes of a memory a thread's statements reserve, and that there is room for them.
-use Rattle.std.proofs.Common.{◌≡◌, refl, sym, ap, ap₂, ◌∙◌, ℕ, suc, ◌+◌, ◌≤◌, Bool, true, false, ◌&&◌, List, [], ◌∷◌, ◌++◌, ◌==◌, arith, le_refl, eq-eqb, add-zero, zero-add}
+use Rattle.std.proofs.Common.{◌≡◌, refl, sym, ap, ap₂, ◌∙◌, ℕ, suc, ◌+◌, ◌≤◌, Bool, true, false, ◌&&◌, List, [], ◌∷◌, ◌++◌, Some, ◌==◌, arith, le_refl, eq-eqb, add-zero, zero-add}
 use Rattle.std.specs.Prelude.{if◌then◌else◌, slice_index}
 use Rattle.std.proofs.lemmas.Bool.{eqb-true, eqb-false, ne_eqb}
 use Rattle.pdl_semantics.specs.Flat.{Op, Bind, CombRead, DelayedRead, Write, ReserveRead, ReserveWrite, Block, Release, Call, SpecCall, Verify, SpecCheck, SpecBarrier, AdviceBind, AdviceRead, AdviceWrite, Stmt, list_all, all_hold, values_of}
@@ -84,8 +84,9 @@ op_grows read m (AdviceWrite n a e) d = le_refl (reserves_of m d.reserves)
 pub reserves_grow : (read : ℕ → ℕ → ℕ) (m : ℕ) (xs : List Stmt) (d : Deeds)
     → reserves_of m d.reserves ≤ reserves_of m (deeds_after_all read xs d).reserves
 reserves_grow read m [] d = le_refl (reserves_of m d.reserves)
-reserves_grow read m (x ∷ xs) d = at (all_hold x.guards d.env)
+reserves_grow read m (x ∷ xs) d = at (λ e. reserves_grow read m xs e) (all_hold x.guards d.env)
   where
-    at : (b : Bool) → reserves_of m d.reserves ≤ reserves_of m (deeds_after_all read xs (if b then deeds_after read x.op d else d)).reserves
-    at true = let i = op_grows read m x.op d in let j = reserves_grow read m xs (deeds_after read x.op d) in omega (arith, i, j)
-    at false = reserves_grow read m xs d
+    at : ((e : Deeds) → reserves_of m e.reserves ≤ reserves_of m (deeds_after_all read xs e).reserves) → (b : Bool)
+        → reserves_of m d.reserves ≤ reserves_of m (deeds_after_all read xs (if b then deeds_after read x.op d else d)).reserves
+    at rest true = let i = op_grows read m x.op d in let j = rest (deeds_after read x.op d) in omega (arith, i, j)
+    at rest false = rest d
