@@ -5,6 +5,7 @@ use Rattle.std.proofs.lemmas.Bool.{false≢true}
 use Rattle.pdl_semantics.specs.Tree.{Location, W, Reserve}
 use Rattle.pdl_rules.specs.Places.{Place, Statement}
 use Rattle.pdl_rules.specs.Locks.{first_reserved, is_reserve_of}
+pub use Rattle.pdl_rules.proofs.FirstReserves.{first_stays}
 use Rattle.pdl_paths.specs.Actions.{location_at}
 use Rattle.pdl_locks.specs.declared.numbers.Keys.TheVariants.{Locations, Memories}
 use Rattle.pdl_locks.specs.Numbers.{first_place}
@@ -22,17 +23,6 @@ none_and_some x e = false≢true (ap is_some e)
 pub reserve_place : (m : List ℕ) (x : Place) → is_reserve_of W m x ≡ true → (l : Location) × (location_at x ≡ Some l)
 reserve_place m (Statement (Reserve s l k) bs) e = (l, refl)
 reserve_place m _ e = absurd (false≢true e)
-
--- it stays after a place that doesn't reserve the memory to write
-pub first_stays : (m : List ℕ) (before : List Place) (x : Place)
-    → is_reserve_of W m x ≡ false → first_reserved m (before ++ x ∷ []) ≡ first_reserved m before
-first_stays m [] x h = rw h refl
-first_stays m (y ∷ before) x h = at (is_reserve_of W m y) refl (first_stays m before x h)
-  where
-    at : (b : Bool) → is_reserve_of W m y ≡ b → first_reserved m (before ++ x ∷ []) ≡ first_reserved m before
-        → first_reserved m (y ∷ before ++ x ∷ []) ≡ first_reserved m (y ∷ before)
-    at true e on = rw e refl
-    at false e on = rw e on
 
 -- it stays where there is one
 pub first_kept : (m : List ℕ) (before : List Place) (x : Place) (f : Location)

@@ -8,7 +8,7 @@ use Rattle.pdl_semantics.specs.Moves.{next_stage}
 use Rattle.pdl_semantics.specs.Cycle.{is_stage, with_reserves, all_releases, list_two, list_three}
 use Rattle.pdl_lockapi.specs.Forget.{has_place, IsOnce, addresses}
 use Rattle.pdl_machine_facts.specs.Slots.{slot, here, stage_moves, locks_ready, moving}
-use Rattle.pdl_semantics.specs.PendingLists.{AreOrdered, count_older}
+use Rattle.pdl_semantics.specs.PendingLists.{AreOrdered, count_older, AreWritten}
 
 -- a thread before the statements of its stage
 abbrev pub before_stage : Pipe → ℕ → Thread → Deeds
@@ -83,12 +83,6 @@ AreFine p st thread [] d = ⊤
 AreFine p st thread (x ∷ xs) d =
     (all_hold x.guards d.env ≡ true → locks_ready p st thread d ≡ true → (is_early p x ≡ true) × IsOpFine p st thread x.op d)
     × AreFine p st thread xs (if all_hold x.guards d.env then deeds_after (word_for st thread) x.op d else d)
-
--- each of the oldest k pending writes has its value
-abbrev pub AreWritten : ℕ → List Pending → Type 0
-AreWritten zero es = ⊤
-AreWritten (suc k) [] = ⊥
-AreWritten (suc k) (e ∷ es) = (v : ℕ) × (e.value ≡ Some v) × AreWritten k es
 
 -- the threads of a state use the locks as the rules have it, in a cycle with these replies
 pub record IsInUse (p : Pipe) (st : State) (bits : List Bool) : Type 0 where

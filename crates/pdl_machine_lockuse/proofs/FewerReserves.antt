@@ -1,17 +1,12 @@
 -- Room for reservations is room for those before the last one.
-use Rattle.std.proofs.Common.{◌≡◌, refl, subst, ap₂, ℕ, suc, ◌+◌, ◌≤◌, Bool, true, false, ◌&&◌, List, [], ◌∷◌, ◌++◌, length, ◌==◌, cond, arith, leb-true, le-leb}
-use Rattle.pdl_semantics.specs.Flat.{Pipe, Lock, Plain, Queue, Bypass, Rename, list_all}
+use Rattle.std.proofs.Common.{◌≡◌, refl, subst, ap₂, ℕ, suc, ◌+◌, ◌≤◌, Bool, true, false, ◌&&◌, List, [], ◌∷◌, ◌++◌, length, ◌==◌, cond, arith}
+use Rattle.pdl_semantics.specs.Flat.{Pipe, list_all}
 use Rattle.pdl_semantics.specs.Stages.{mem_at}
 use Rattle.pdl_semantics.specs.Locks.{has_room}
 use Rattle.pdl_semantics.specs.Machine.{State, Deeds, Reserved, reserves_of, lock_of}
 use Rattle.pdl_semantics.specs.Moves.{have_room}
+use Rattle.pdl_semantics.proofs.Readiness.{room_fewer}
 use Rattle.pdl_theory_derived.proofs.Writes.{and_left, and_right}
-
-fewer : (k : Lock) (i j n : ℕ) → j ≤ i → has_room k i n ≡ true → has_room k j n ≡ true
-fewer Plain i j n low h = refl
-fewer (Queue s) i j n low h = le-leb (j + n) s (let e : i + n ≤ s = leb-true (i + n) s h in omega (arith, e, low))
-fewer (Bypass s) i j n low h = le-leb (j + n) s (let e : i + n ≤ s = leb-true (i + n) s h in omega (arith, e, low))
-fewer (Rename s) i j n low h = le-leb (j + n) s (let e : i + n ≤ s = leb-true (i + n) s h in omega (arith, e, low))
 
 count_front : (m : ℕ) (rs : List Reserved) (r : Reserved) → reserves_of m rs ≤ reserves_of m (rs ++ r ∷ [])
 count_front m [] r = omega arith
@@ -32,5 +27,5 @@ pub room_before : (p : Pipe) (st : State) (d e : Deeds) (r : Reserved) → e.res
 room_before p st d e r is h =
     front_all (λ q. has_room (mem_at p q.mem).lock (reserves_of q.mem (d.reserves ++ r ∷ [])) (length (lock_of st q.mem)))
     (λ q. has_room (mem_at p q.mem).lock (reserves_of q.mem d.reserves) (length (lock_of st q.mem)))
-    (λ q k. fewer (mem_at p q.mem).lock _ _ _ (count_front q.mem d.reserves r) k) d.reserves r
+    (λ q k. room_fewer (mem_at p q.mem).lock _ _ _ (count_front q.mem d.reserves r) k) d.reserves r
     (subst (λ rs. list_all (λ (q : Reserved). has_room (mem_at p q.mem).lock (reserves_of q.mem rs) (length (lock_of st q.mem))) rs ≡ true) is h)

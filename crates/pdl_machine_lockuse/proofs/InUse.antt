@@ -33,11 +33,11 @@ use Rattle.pdl_lockapi.specs.Forget as forget
 use Rattle.pdl_machine_facts.specs.Slots
 use Rattle.pdl_machine_facts.specs.Slots.{LeadsOn}
 use Rattle.pdl_machine_facts.specs.Cycle.{IsByStages}
-use Rattle.pdl_machine_facts.specs.Use.{before_stage, AreFine, AreWritten, IsInUse}
+use Rattle.pdl_machine_facts.specs.Use.{before_stage, AreFine, IsInUse}
 use Rattle.pdl_machine_facts.proofs.Stagewise.{by_stages}
 use Rattle.pdl_machine_facts.proofs.StagewisePorts.{stages_count}
 use Rattle.pdl_theory_states.specs.Strict.{Strict}
-use Rattle.pdl_theory_states.specs.Use.{AllActs, Released, moving, with_new, with_values, with_release, FindsOlder, KeepsPlace, ShiftsPlace, ShiftsTail}
+use Rattle.pdl_theory_states.specs.Use.{AllActs, moving, with_new, with_values, with_release, FindsOlder, KeepsPlace, ShiftsPlace, ShiftsTail}
 use Rattle.pdl_theory_states.proofs.ThreadFacts.{Lasting, Along}
 use Rattle.pdl_theory_states.proofs.ReachedStates.{Whole}
 use Rattle.pdl_theory_states.proofs.LockRelease.{LowFirst, count_released}
@@ -54,7 +54,7 @@ use Rattle.pdl_machine_lockuse.proofs.Awaits.{still_early}
 use Rattle.pdl_machine_lockuse.proofs.Tails.{Bars, up_released, bars_commit, bars_verify, all_own, tail_kept}
 use Rattle.pdl_machine_lockuse.proofs.Cuts.{order_filled, order_behind, tail_left, front_left}
 use Rattle.pdl_theory_turns.proofs.TurnPath.{phase_append}
-use Rattle.pdl_semantics.specs.PendingLists.{AreOrdered, count_older}
+use Rattle.pdl_semantics.specs.PendingLists.{AreOrdered, count_older, AreWritten}
 use Rattle.pdl_word.specs.Each.{Each}
 use Rattle.pdl_theory_simulation.proofs.SimulatedStates.{Sim}
 
@@ -138,12 +138,6 @@ module _ (p : Pipe) (st : State) (bits : List Bool) where
   pub all_room : AllActs (HasRoom p st) (all_acts p st bits)
   all_room = rooms 0 st.stages
 
--- what has its value has it in the words of the law
-same_written : (k : ℕ) (es : List Pending) → Released k es → AreWritten k es
-same_written zero es h = tt
-same_written (suc k) [] h = absurd h
-same_written (suc k) (e ∷ es) h = (h.0, h.1, same_written k es h.2)
-
 -- A STATE AND THE LIVE THREADS
 
 module _ (p : Pipe) (sound : Sound p) (strict : Strict p) (st : State) (d : Derived.State) (bits : List Bool)
@@ -214,9 +208,9 @@ module _ (p : Pipe) (sound : Sound p) (strict : Strict p) (st : State) (d : Deri
     owns = all_each p sound st d bits ls sim m (ReleasesOwn p st bits m) owns_pairs
 
     -- what is released has its value
-    pub written : Released (all_releases m (moving p st bits)) (with_values p st bits m)
+    pub written : AreWritten (all_releases m (moving p st bits)) (with_values p st bits m)
     written =
-        subst (λ k. Released k (with_values p st bits m)) (sym (releases_are p sound st d bits ls sim m))
+        subst (λ k. AreWritten k (with_values p st bits m)) (sym (releases_are p sound st d bits ls sim m))
         (written_same (all_releases m (movers (lacts p st d bits ls))) (all_releases m (movers (lacts p st d bits ls)))
         (all_releases m (moving p st bits)) (two p (sound_flows p sound) st d bits sim.arrays m ls) (with_values p st bits m)
         (le_refl (all_releases m (movers (lacts p st d bits ls)))) fronts
@@ -486,8 +480,7 @@ module _ (p : Pipe) (sound : Sound p) (strict : Strict p) (st : State) (d : Deri
       after =
           λ k t m h low. ap (count_older t.number) (list_is m) ∙ sym (same_count t.number (with_new p st bits m))
           ∙ at_slot p st bits (KeepsPlace p st bits m) (places p sound st d bits ls sim m) k t h low ∙ same_count t.number (lock_of st m);
-      releaser = λ m. same_written (all_releases m (Slots.moving p st bits)) (list_two st (Slots.moving p st bits) m)
-          (subst (λ ms. Released (all_releases m ms) (list_two st ms m)) by.movers (written m));
+      releaser = λ m. subst (λ ms. AreWritten (all_releases m ms) (list_two st ms m)) by.movers (written m);
       few = λ m low. subst (λ ms. all_releases m ms ≤ 2) by.movers (two_released m careful low);
       shifts = λ k t m h low early stands.
           let s = at_slot p st bits (ShiftsPlace p st bits m) (shifts p sound st d bits ls sim m) k t h early stands in

@@ -19,7 +19,7 @@ use Rattle.pdl_theory_derived.proofs.Lists.{pend}
 use Rattle.pdl_lockapi.specs.Forget.{has_place}
 use Rattle.pdl_theory_simulation.proofs.Stretches.{left_trunk}
 use Rattle.pdl_machine_facts.proofs.StatementUses.{writes_to}
-use Rattle.pdl_theory_states.specs.Use.{Released}
+use Rattle.pdl_semantics.specs.PendingLists.{AreWritten}
 use Rattle.pdl_theory_states.proofs.PendingLists.{AllOf, of_new}
 use Rattle.pdl_theory_states.proofs.OwnEntries.{by_append}
 use Rattle.pdl_machine_lockuse.specs.Use.{AreOwn, is_open, AreInTurn}
@@ -66,32 +66,32 @@ pub own_same : (k i j n : ℕ) (xs ys : List Pending) → k ≤ i → take i xs 
 own_same k i j n xs ys l e h = own_back k j n ys (subst (AreOwn k n) e (own_take k i n xs l h))
 
 -- pending writes of a thread that have their values have them
-pub own_written : (k n : ℕ) (xs : List Pending) → AreOwn k n xs → Released k xs
+pub own_written : (k n : ℕ) (xs : List Pending) → AreOwn k n xs → AreWritten k xs
 own_written zero n xs h = tt
 own_written (suc k) n [] h = absurd h
 own_written (suc k) n (x ∷ xs) h = (h.1, h.2, own_written k n xs h.3)
 
 -- written ones at the front of a list are there where the list is longer
-pub written_append : (k : ℕ) (xs ys : List Pending) → Released k xs → Released k (xs ++ ys)
+pub written_append : (k : ℕ) (xs ys : List Pending) → AreWritten k xs → AreWritten k (xs ++ ys)
 written_append zero xs ys h = tt
 written_append (suc k) [] ys h = absurd h
 written_append (suc k) (x ∷ xs) ys h = (h.0, h.1, written_append k xs ys h.2)
 
-written_take : (k j : ℕ) (xs : List Pending) → k ≤ j → Released k xs → Released k (take j xs)
+written_take : (k j : ℕ) (xs : List Pending) → k ≤ j → AreWritten k xs → AreWritten k (take j xs)
 written_take zero j xs l h = tt
 written_take (suc k) j [] l h = absurd h
 written_take (suc k) zero (x ∷ xs) l h = absurd (omega arith)
 written_take (suc k) (suc j) (x ∷ xs) l h = (h.0, h.1, written_take k j xs (omega arith) h.2)
 
-written_back : (k j : ℕ) (xs : List Pending) → Released k (take j xs) → Released k xs
+written_back : (k j : ℕ) (xs : List Pending) → AreWritten k (take j xs) → AreWritten k xs
 written_back zero j xs h = tt
 written_back (suc k) zero xs h = absurd h
 written_back (suc k) (suc j) [] h = absurd h
 written_back (suc k) (suc j) (x ∷ xs) h = (h.0, h.1, written_back k j xs h.2)
 
 -- what is written at the front of two lists that begin alike
-pub written_same : (k i j : ℕ) (xs ys : List Pending) → k ≤ i → take i xs ≡ take j ys → Released k xs → Released k ys
-written_same k i j xs ys l e h = written_back k j ys (subst (Released k) e (written_take k i xs l h))
+pub written_same : (k i j : ℕ) (xs ys : List Pending) → k ≤ i → take i xs ≡ take j ys → AreWritten k xs → AreWritten k ys
+written_same k i j xs ys l e h = written_back k j ys (subst (AreWritten k) e (written_take k i xs l h))
 
 -- A THREAD'S OWN ONES
 
@@ -222,27 +222,27 @@ module _ (p : Pipe) (sound : Sound p) (st : State) (d : Derived.State) (bits : L
 
   -- all that is released has its value
   pub written_two : (ls : List Live) → AllKnown p (sound_flows p sound) st d bits arrays ls → Ordered p ls
-      → Released (all_releases m (ms ls)) (two p (sound_flows p sound) st d bits arrays m ls)
+      → AreWritten (all_releases m (ms ls)) (two p (sound_flows p sound) st d bits arrays m ls)
   written_two [] k o = tt
   written_two (l ∷ ls) k o = at (did p d bits ls l).moves (takes l) refl (written_two ls k.1 o.1)
     where
       plus : (i : ℕ) → i ≡ i + 0
       plus i = omega arith
 
-      at : (b : Bool) (c : ℕ) → takes l ≡ c → Released (all_releases m (ms ls)) (two p (sound_flows p sound) st d bits arrays m ls)
-          → Released (all_releases m (cond b (lact p st d bits ls l ∷ ms ls) (ms ls)))
+      at : (b : Bool) (c : ℕ) → takes l ≡ c → AreWritten (all_releases m (ms ls)) (two p (sound_flows p sound) st d bits arrays m ls)
+          → AreWritten (all_releases m (cond b (lact p st d bits ls l ∷ ms ls) (ms ls)))
           (two p (sound_flows p sound) st d bits arrays m ls
           ++ cond b (part p (sound_flows p sound) st d bits arrays m l) (pend m l.number l.thread.entries))
       at false c e h = written_append _ (two p (sound_flows p sound) st d bits arrays m ls) _ h
       at true zero e h =
-          subst (λ n. Released n (two p (sound_flows p sound) st d bits arrays m ls ++ part p (sound_flows p sound) st d bits arrays m l))
+          subst (λ n. AreWritten n (two p (sound_flows p sound) st d bits arrays m ls ++ part p (sound_flows p sound) st d bits arrays m l))
           (plus (all_releases m (ms ls)) ∙ ap (λ n. all_releases m (ms ls) + n) (sym e))
           (written_append _ (two p (sound_flows p sound) st d bits arrays m ls) _ h)
       at true (suc c) e h =
           let a = alone l ls k o (λ z. cc (sym e ∙ z)) in
-          subst (λ n. Released n (two p (sound_flows p sound) st d bits arrays m ls ++ part p (sound_flows p sound) st d bits arrays m l))
+          subst (λ n. AreWritten n (two p (sound_flows p sound) st d bits arrays m ls ++ part p (sound_flows p sound) st d bits arrays m l))
           (zeros (takes l) ∙ ap (λ n. n + takes l) (sym a.0))
-          (subst (Released (takes l)) (sym (ap (λ x. x ++ part p (sound_flows p sound) st d bits arrays m l) a.1))
+          (subst (AreWritten (takes l)) (sym (ap (λ x. x ++ part p (sound_flows p sound) st d bits arrays m l) a.1))
           (own_written (takes l) l.number (part p (sound_flows p sound) st d bits arrays m l) (used_here p sound st d bits arrays ls l k.0 m).gives))
         where
           zeros : (i : ℕ) → i ≡ 0 + i

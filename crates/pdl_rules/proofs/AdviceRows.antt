@@ -4,7 +4,7 @@ use Rattle.pdl_kit.specs.declared.rule.Rule.{Rule}
 use Rattle.pdl_kit.specs.declared.rule.Rule.TheVariants.{F4, F5, L1, S5, P1}
 use Rattle.pdl_semantics.specs.Tree.{W}
 use Rattle.pdl_rules.specs.Refusal.{Refused, refusal}
-use Rattle.pdl_rules.proofs.Texts.{literal, constant, variable, slice, plus, Line, separator, choice, bind, read, delayed_read, write, reserve, block, release, call, spec_call, verify, spec_check, param, comb, slow, advisory, queue, whole}
+use Rattle.pdl_rules.proofs.Texts.{literal, constant, variable, slice, plus, Line, separator, choice, bind, read, delayed_read, write, reserve, block, release, call, spec_call, update, verify, spec_check, param, comb, slow, advisory, queue, whole}
 
 -- a pipe with an advisory memory t, a locked memory m and a delayed one d, of 4 words of 8 bits, whose guess is the sum of its argument and of what is learnt in t; `guess` stands behind the read of t, and `last` behind the verify
 abbrev predicted : Line → List Line → List Line → Option Refused
@@ -41,9 +41,13 @@ advised_in_guess = refl
 advised_address : predicted right (bind "b" (slice "g" 1 0) ∷ read "h" "t" "b" ∷ write "t" "b" (variable "h") ∷ guess ∷ []) [] ≡ None
 advised_address = refl
 
--- R17.c: in a verify
+-- in a verify
 advised_verify : predicted (verify "s" (plus (variable "u") (variable "g") ∷ [])) (guess ∷ []) (learn ∷ commit) ≡ at_line 10
 advised_verify = refl
+
+-- in an update, which replaces the guess
+advised_update : predicted right (guess ∷ separator ∷ update "s" (variable "g" ∷ []) ∷ []) commit ≡ at_line 8
+advised_update = refl
 
 advised_condition : predicted right (bind "c" (slice "g" 0 0) ∷ choice "c" [] [] ∷ guess ∷ []) commit ≡ at_line 7
 advised_condition = refl

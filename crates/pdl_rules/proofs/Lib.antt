@@ -5,6 +5,7 @@ mod GuessRows
 mod AdviceRows
 pub mod Counts
 pub mod SingleWrites
+pub mod FirstReserves
 pub mod TypedExpressions
 pub mod KnownVariables
 pub mod Memories

@@ -89,10 +89,11 @@ spec_call s args k = SpecCall (on_line k) (ident k s) args
 abbrev pub verify : String → List Expr → Line
 verify s args k = Verify (on_line k) (ident k s) args
 
--- a `spec_check`
+-- an `update` of a guess
 abbrev pub update : String → List Expr → Line
 update s args k = Update (on_line k) (ident k s) args
 
+-- a `spec_check`
 abbrev pub spec_check : Line
 spec_check k = SpecCheck (on_line k)
 

@@ -73,6 +73,7 @@ same_writes p (suc k) image other args h f =
     let t = alike_thread p image other args h f in
     ap₂ (λ a b. a ++ b) t.writes (ap (writes_from p k (thread p image args).arrays) t.next ∙ same_writes p k (thread p image args).arrays (thread p other args).arrays (thread p other args).next h t.arrays)
 
+-- threads write the same from images that differ in advisory memories alone
 pub same_seq : (p : Pipe) (image other : Arrays) → KeepsAdvice p → DifferInAdvice p image other → (m k : ℕ) → seqwrites p image m k ≡ seqwrites p other m k
 same_seq p image other h f m k = ap (of_mem m) (same_writes p k image other p.start h f)
 

@@ -9,5 +9,6 @@ mod SoundRows
 pub mod Readiness
 pub mod Facts
 pub mod Updates
+pub mod SecondWrites
 pub mod Advice
 pub mod AdviceApart

@@ -8,7 +8,7 @@ use Rattle.pdl_semantics.specs.Lines.{run_lines, view_lines, accepted_line}
 use Rattle.pdl_semantics.specs.Flat.{arrays_of}
 use Rattle.pdl_semantics.specs.Flatten.{flat}
 use Rattle.pdl_semantics.specs.Cycle.{Turn, turns}
-use Rattle.pdl_semantics.proofs.Pipes.{two_writes, two_writes_apart, one_stage, two_stages, under_guard, shared_guard, count_late, count_up, guess, guess_reserved, copy, copy_guessed, two_branches, one_branch, count_slow, barrier, nested, nested_straight, four_levels, nested_guess, guess_again, updated, guess_learnt, guess_kept}
+use Rattle.pdl_semantics.proofs.Pipes.{two_writes, two_writes_apart, two_writes_read, one_write_or_two, one_stage, two_stages, under_guard, shared_guard, count_late, count_up, guess, guess_reserved, copy, copy_guessed, two_branches, one_branch, count_slow, barrier, nested, nested_straight, four_levels, nested_guess, guess_again, updated, guess_learnt, guess_kept}
 
 -- four words that are all 0
 abbrev pub zeros : List ℕ
@@ -86,6 +86,23 @@ one_word_twice = refl
 releases_exchanged : run_lines (two_writes_apart Bypass 4) (zeros ∷ []) (idle 8) ≡ codes "3 m 0 01\n3 m 1 10\n4 m 0 02\n4 m 2 11\n6 m 0 03\n6 m 3 12\n7 m 0 04\n7 m 0 13\nend cycles 8 ended 4 waits 0 squashes 0\n"
 unfolding digits add slice zext
 releases_exchanged = refl
+
+-- the younger of the two is in the array afterwards
+second_write_is_read : run_lines two_writes_read (zeros ∷ [])
+    (idle 2) ≡ codes "1 m 0 01\n1 m 0 02\n2 m 0 03\n2 m 0 04\nend cycles 2 ended 2 waits 0 squashes 0\n"
+unfolding digits add slice zext
+second_write_is_read = refl
+
+-- who reserves twice waits until there is room for both
+room_for_both : view_lines one_write_or_two (zeros ∷ [])
+    (idle 9) ≡ codes "1 M..\n2 SM.\n3 S.M\n4 M..\n5 SM.\n6 S.M\n7 M..\n8 SM.\n9 S.M\n"
+unfolding digits add slice zext
+room_for_both = refl
+
+one_commit_or_two : run_lines one_write_or_two (zeros ∷ [])
+    (idle 9) ≡ codes "3 m 1 04\n6 m 1 01\n6 m 2 05\n9 m 3 06\nend cycles 9 ended 3 waits 0 squashes 0\n"
+unfolding digits add slice zext
+one_commit_or_two = refl
 
 every_other_writes : run_lines under_guard (zeros ∷ []) (idle 4) ≡ codes "2 m 1 05\n4 m 3 05\nend cycles 4 ended 4 waits 0 squashes 0\n"
 unfolding digits add slice zext

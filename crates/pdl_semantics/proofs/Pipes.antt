@@ -34,6 +34,25 @@ two_writes_apart kind size =
     ∷ write "m" "b" (plus (variable "x") (constant 8 1)) ∷ separator ∷ block "m" "c" ∷ write "m" "c" (plus (variable "x") (constant 8 16))
     ∷ release "m" "c" ∷ release "m" "a" ∷ release "m" "b" ∷ [])
 
+-- the same word is written twice, and read by the next thread: through a lock with room for both
+abbrev pub two_writes_read : Pipe
+two_writes_read =
+    pipe 2 (comb "m" 4 (lock Bypass 2) ∷ [])
+    (bind "a" (constant 2 0) ∷ bind "b" (constant 2 0) ∷ bind "c" (constant 2 0) ∷ reserve "m" "a" R ∷ block "m" "a"
+    ∷ comb_read "x" "m" "a" ∷ reserve "m" "b" W ∷ reserve "m" "c" W ∷ block "m" "b" ∷ block "m" "c"
+    ∷ write "m" "b" (plus (variable "x") (constant 8 1)) ∷ write "m" "c" (plus (variable "x") (constant 8 2))
+    ∷ release "m" "a" ∷ release "m" "b" ∷ release "m" "c" ∷ call (plus (variable "n") (constant 2 1)) ∷ [])
+
+-- every other thread reserves twice, with room for two
+abbrev pub one_write_or_two : Pipe
+one_write_or_two =
+    pipe 2 (comb "m" 4 (lock Bypass 2) ∷ [])
+    (bind "g" (slice "n" 0 0) ∷ bind "b" (plus (variable "n") (constant 2 1)) ∷ bind "z" (ZeroExtend (variable "n") (number 8))
+    ∷ if_else (variable "g") (reserve "m" "n" W ∷ []) [] ∷ reserve "m" "b" W ∷ call (plus (variable "n") (constant 2 1)) ∷ separator
+    ∷ if_else (variable "g") (block "m" "n" ∷ write "m" "n" (variable "z") ∷ []) [] ∷ block "m" "b"
+    ∷ write "m" "b" (plus (variable "z") (constant 8 4)) ∷ separator
+    ∷ if_else (variable "g") (release "m" "n" ∷ []) [] ∷ release "m" "b" ∷ [])
+
 -- every other thread writes
 abbrev pub under_guard : Pipe
 under_guard =
@@ -172,10 +191,11 @@ nested = forked_twice (separator ∷ []) (separator ∷ separator ∷ [])
 abbrev pub nested_straight : Pipe
 nested_straight = forked_twice [] (separator ∷ separator ∷ separator ∷ [])
 
--- forks of four levels, each in the first branch of the one around it
+-- a fork whose first branch holds these statements
 abbrev around_fork : List Stmt → List Stmt
 around_fork inner = if_else (variable "g") (separator ∷ inner) (separator ∷ separator ∷ []) ∷ separator ∷ []
 
+-- forks of four levels, each in the first branch of the one around it
 abbrev pub four_levels : Pipe
 four_levels =
     pipe 2 (comb "m" 4 (lock Bypass 8) ∷ [])

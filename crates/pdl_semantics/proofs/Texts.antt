@@ -83,10 +83,11 @@ spec_call s e = SpecCall nowhere (ident s) (e ∷ [])
 abbrev pub verify : String → Expr → Stmt
 verify s e = Verify nowhere (ident s) (e ∷ [])
 
--- a `spec_check`
+-- an `update` of a guess, with one argument
 abbrev pub update : String → Expr → Stmt
 update g e = Update nowhere (ident g) (e ∷ [])
 
+-- a `spec_check`
 abbrev pub spec_check : Stmt
 spec_check = SpecCheck nowhere
 
@@ -112,6 +113,7 @@ abbrev pub slow : String → ℕ → Option LockDecl → Mem
 slow m depth with_lock =
     record { name = ident m; width = number 8; depth = number depth; kind = Delayed; lock = with_lock }
 
+-- an advisory memory of words of 8 bits
 abbrev pub advisory : String → ℕ → Mem
 advisory m depth = record { name = ident m; width = number 8; depth = number depth; kind = Advisory; lock = None }
 

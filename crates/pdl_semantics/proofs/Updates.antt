@@ -35,6 +35,7 @@ writes_alike p (suc k) arrays args =
     ap (λ (r : Run). r.writes ++ writes_from (not_updated p) k r.arrays r.next) (thread_alike p arrays args)
     ∙ ap (λ l. (thread p arrays args).writes ++ l) (writes_alike p k (thread p arrays args).arrays (thread p arrays args).next)
 
+-- in sequence a pipe without its updates writes the same
 pub seq_alike : (p : Pipe) (image : Arrays) → WritesAlike p image
 seq_alike p image m k = ap (of_mem m) (writes_alike p k image p.start)
 
@@ -61,7 +62,9 @@ more_from p m (suc a) b arrays args =
 prefix_on : (xs ys zs : List Commit) → IsPrefix xs ys → IsPrefix ys zs → IsPrefix xs zs
 prefix_on xs ys zs h k = (h.0 ++ k.0, sym (append_assoc xs h.0 k.0) ∙ ap (λ l. l ++ k.0) h.1 ∙ k.1)
 
-pub commits_alike : (p : Pipe) (image : Arrays) (schedule schedule' : List (List Bool)) → Refines p image schedule → Refines (not_updated p) image schedule' → CommitsAlike p image schedule schedule'
+-- where both machines refine the sequential runs, what both commit to a memory begins one list
+pub commits_alike : (p : Pipe) (image : Arrays) (schedule schedule' : List (List Bool))
+    → Refines p image schedule → Refines (not_updated p) image schedule' → CommitsAlike p image schedule schedule'
 commits_alike p image schedule schedule' h k m =
     let a = ended_in (turns p image schedule) + length p.stages in
     let b = ended_in (turns (not_updated p) image schedule') + length p.stages in (

@@ -66,11 +66,12 @@ abbrev pub with_commits : State → List Act → ℕ → List Mem → Arrays →
 with_commits st ms m [] arrays = arrays
 with_commits st ms m (x ∷ xs) arrays = with_commits st ms (suc m) xs (with_commit arrays m (taken_out st ms m))
 
--- then the advisory writes come, those of the greatest stage first and within a stage in text order: of two writes of one word the last one holds
+-- the arrays after these advisory writes of one thread, in text order
 abbrev pub with_advised : List Advised → Arrays → Arrays
 with_advised [] arrays = arrays
 with_advised (w ∷ ws) arrays = with_advised ws (with_word arrays w.mem w.address w.value)
 
+-- then the advisory writes come, those of the greatest stage first and within a stage in text order: of two writes of one word the last one holds
 abbrev pub with_all_advised : List Act → Arrays → Arrays
 with_all_advised [] arrays = arrays
 with_all_advised (a ∷ ms) arrays = with_advised a.does.advises (with_all_advised ms arrays)
@@ -149,11 +150,12 @@ asked_by m (a ∷ ms) old = asked_of m a.thread.number a.does.asks (asked_by m m
 abbrev pub request_next : Pipe → State → List Bool → List Act → ℕ → Request
 request_next p st bits ms m = asked_by m ms (if is_answered p bits m then NoRequest else request_of st m)
 
--- 6. a squash: the number of the thread that moves with a failing verify or a changing update, and its stage
+-- 6. a squash: the number of the thread that moves with a failing verify or a changing update
 abbrev pub squasher : List Act → Option ℕ
 squasher [] = None
 squasher (a ∷ ms) = if a.does.fails then Some a.thread.number else squasher ms
 
+-- and its stage
 abbrev pub squash_stage : List Act → Option ℕ
 squash_stage [] = None
 squash_stage (a ∷ ms) = if a.does.fails then Some a.stage else squash_stage ms

@@ -99,13 +99,17 @@ pub record Mem : Type 0 where
   pub kind : MemKind
   pub lock : Lock
 
+-- whether a memory's answers come in a later cycle
 abbrev pub is_delayed : MemKind → Bool
+is_delayed Comb = false
 is_delayed Delayed = true
-is_delayed _ = false
+is_delayed Advisory = false
 
+-- whether what a memory says reaches guesses alone
 abbrev pub is_advisory : MemKind → Bool
+is_advisory Comb = false
+is_advisory Delayed = false
 is_advisory Advisory = true
-is_advisory _ = false
 
 -- where a thread goes from a stage: out of the pipe, to one stage, or where x is 1 to the first stage, else to the second
 pub data Next : Type 0 where

@@ -14,8 +14,6 @@ pub record Var : Type 0 where
   pub width : ℕ
   pub advised : Bool
 
--- the number of a variable, and its width
-
 -- the number of the first variable of this name, how many there are where there is none
 abbrev pub var_of : List Var → List ℕ → ℕ
 var_of [] x = 0
@@ -43,10 +41,12 @@ is_advisory_mem (x ∷ xs) m = if bytes_eq x.name.name m then Flat.is_advisory x
 
 -- ADVISED VARIABLES: those bound by a read of an advisory memory, and by an expression that uses one
 
+-- whether the variable of this name is advised
 abbrev pub is_advised_var : List Var → List ℕ → Bool
 is_advised_var [] x = false
 is_advised_var (v ∷ vs) x = if bytes_eq v.name x then v.advised else is_advised_var vs x
 
+-- whether an expression uses an advised variable
 abbrev pub is_advised : List Var → Expr → Bool
 is_advised vs (Constant l) = false
 is_advised vs (Variable x) = is_advised_var vs x.name
@@ -190,15 +190,17 @@ binds_guard gs at' e = on_variable (λ x. []) (at_position gs at' (Flat.Bind (le
 abbrev pub under : List Flat.Guard → List Var → Expr → Bool → List Flat.Guard
 under gs vs c first = gs ++ record { var = guard_of vs c; first = first } ∷ []
 
--- a binding, a read and a write, by whether they are advisory
+-- a binding, by whether its expression is advised
 abbrev pub bind_op : Bool → ℕ → Flat.Expr → Flat.Op
 bind_op true x e = Flat.AdviceBind x e
 bind_op false x e = Flat.Bind x e
 
+-- a comb read, by whether its memory is advisory
 abbrev pub read_op : Bool → ℕ → ℕ → ℕ → Flat.Op
 read_op true x m a = Flat.AdviceRead x m a
 read_op false x m a = Flat.CombRead x m a
 
+-- a write, by whether its memory is advisory
 abbrev pub write_op : Bool → ℕ → ℕ → Flat.Expr → Flat.Op
 write_op true m a e = Flat.AdviceWrite m a e
 write_op false m a e = Flat.Write m a e

@@ -171,6 +171,7 @@ after_verify args d = if same_args args d.guess then d else record d { child = S
 abbrev pub all_values : Deeds → List ℕ
 all_values d = with_kept d.advice d.env
 
+-- the deeds with the value of one more advised variable
 abbrev pub with_advised : ℕ → ℕ → Deeds → Deeds
 with_advised x v d = record d { advice = d.advice ++ record { var = x; word = v } ∷ [] }
 

@@ -74,11 +74,12 @@ abbrev pub is_nobody : List Bool → Bool
 is_nobody [] = true
 is_nobody (c ∷ cs) = false
 
--- whether a thread from this branch, or from none, may enter a stage that merges this fork, or none
+-- whether a thread from this branch of a fork, or straight from the fork, may enter the merge, by the fork's list
 abbrev pub is_its_turn : List Bool → List Bool → Bool
 is_its_turn [] list = is_nobody list
 is_its_turn (b ∷ bs) list = is_first b list
 
+-- whether a thread from these branches may enter a stage that merges this fork, or none
 abbrev pub may_merge : State → Option ℕ → List Branch → Bool
 may_merge st None from = true
 may_merge st (Some f) from = is_its_turn (sides_of f from) (fork_of st f)

@@ -1,6 +1,6 @@
 -- Pipeline refinement and Progress, as statements about the runs of the machine.
 use Rattle.std.specs.Prelude.{◌≡◌, ◌⊎◌, not, true, IsTrue, IsFalse, ℕ, ◌+◌, ◌-◌, ◌/◌, ◌≤◌, Bool, false, List, [], ◌∷◌, ◌++◌, Option, Some, None, if◌then◌else◌, nat_lt, length}
-use Rattle.pdl_semantics.specs.Flat.{Arrays, Array, with_value, is_advisory, list_all, Op, CombRead, DelayedRead, AdviceWrite, Plain, Pipe, Commit}
+use Rattle.pdl_semantics.specs.Flat.{Arrays, Array, with_value, is_advisory, list_all, Op, Bind, CombRead, DelayedRead, Write, ReserveRead, ReserveWrite, Block, Release, Call, SpecCall, Verify, SpecCheck, SpecBarrier, AdviceBind, AdviceRead, AdviceWrite, Plain, Pipe, Commit}
 use Rattle.pdl_semantics.specs.Stages.{mem_at, depth}
 use Rattle.pdl_semantics.specs.Sequential.{seqwrites}
 use Rattle.pdl_semantics.specs.Moves.{Act, all_acts}
@@ -68,12 +68,25 @@ pub record AdviceIsIdle (p : Pipe) (image other : Arrays) (schedule replies : Li
   pub prefix : (m : ℕ)
       → IsPrefix (commits m (turns p image schedule)) (commits m (turns p other replies)) ⊎ IsPrefix (commits m (turns p other replies)) (commits m (turns p image schedule))
 
--- what a statement does to a memory fits its kind: advisory ones are read as such alone, and only they are written without a lock
+-- whether a statement takes its memory by its kind: no plain read is of an advisory memory, and no advisory write of another
 abbrev pub fits_kind : Pipe → Op → Bool
 fits_kind p (CombRead x m a) = not (is_advisory (mem_at p m).kind)
 fits_kind p (DelayedRead x m a) = not (is_advisory (mem_at p m).kind)
 fits_kind p (AdviceWrite m a e) = is_advisory (mem_at p m).kind
-fits_kind p _ = true
+fits_kind p (Bind x e) = true
+fits_kind p (Write m a e) = true
+fits_kind p (ReserveRead m a) = true
+fits_kind p (ReserveWrite m a) = true
+fits_kind p (Block m a) = true
+fits_kind p (Release m a) = true
+fits_kind p (Call args) = true
+fits_kind p (SpecCall args) = true
+fits_kind p (Verify last args) = true
+fits_kind p SpecCheck = true
+fits_kind p SpecBarrier = true
+fits_kind p (AdviceBind x e) = true
+fits_kind p (AdviceRead x m a) = true
 
+-- each statement of the pipe takes its memory by its kind
 abbrev pub KeepsAdvice : Pipe → Type 0
 KeepsAdvice p = list_all (λ x. fits_kind p x.op) p.stmts ≡ true

@@ -248,10 +248,11 @@ turn_so_far p f =
 
 -- 1. ORDER. Of two live threads the older stands in the greater stage, or they stand in the two branches of some fork
 
--- the branches that two stages stand in are the two of one fork
+-- whether two branches are the two of one fork
 abbrev pub other_branch : Branch → Branch → Bool
 other_branch a b = (a.fork == b.fork) && (if a.first then not b.first else b.first)
 
+-- whether two stages stand in the two branches of some fork, by the branches that each stands in
 abbrev pub are_apart : List Branch → List Branch → Bool
 are_apart older younger = list_any (λ a. list_any (other_branch a) younger) older
 

@@ -8,7 +8,7 @@ use Rattle.pdl_semantics.specs.Tree.{Span, Ident, Expr, Variable, R, W, Stmt, Se
 use Rattle.pdl_semantics.specs.Stages
 use Rattle.pdl_kit.specs.declared.rule.Rule.TheVariants.{N3, S2, S4, S6}
 use Rattle.pdl_semantics.specs.Flatten.{is_advisory_mem, is_advised}
-use Rattle.pdl_stagefacts.proofs.Fine.{either_read, either_bind, either_write}
+use Rattle.pdl_source_stages.proofs.SiteFacts.{either_read, either_bind, either_write}
 use Rattle.pdl_rules.specs.Places.{Place, Parameter, Memory, Statement, Guard, places, guards, on_path}
 use Rattle.pdl_rules.specs.Parts.{is_some_and, location_of, some_expr_of, some_part}
 use Rattle.pdl_rules.specs.Names.{OfGuess, Use, defines_use, is_given, is_undefined, is_too_early, is_delayed, in_location, in_verify, reads_some}
@@ -32,95 +32,12 @@ use Rattle.pdl_source_paths.proofs.PathStatements.{ops}
 use Rattle.pdl_source_paths.proofs.Variables.{Here}
 use Rattle.pdl_source_paths.proofs.Walk.{all_in_text, OnPath, calls_right, text_places}
 use Rattle.pdl_source_paths.proofs.SiteStages.{first_skip, first_sited, each_sited, some_op, none_sited}
-use Rattle.pdl_source_paths.proofs.Calls.{Asked, guess_calls, verifies_one}
+use Rattle.pdl_source_paths.proofs.Calls.{Asked, verifies_one}
+use Rattle.pdl_source_paths.proofs.GuessCounts.{count_stages, count_append, stages_past, any_on, one_guess, given_any}
 use Rattle.pdl_source_paths.proofs.Order.{Next, Rises}
 use Rattle.pdl_source_paths.proofs.PathScans.{AllAsked, AllSure}
 use Rattle.pdl_word.proofs.Bytes.{bytes_same, bytes_refl}
 use Rattle.pdl_rules.proofs.EachPlace.{closing}
-
--- COUNTS
-
--- as many stages as places that pass
-count_stages : (test : Place → Bool) (before xs : List Place) → length (stages_that test before xs) ≡ count_by test xs
-count_stages test before [] = refl
-count_stages test before (x ∷ xs) = at (test x) refl (count_stages test (before ++ x ∷ []) xs)
-  where
-    at : (b : Bool) → test x ≡ b → length (stages_that test (before ++ x ∷ []) xs) ≡ count_by test xs
-        → length (if b then stage_of before x ∷ stages_that test (before ++ x ∷ []) xs else stages_that test (before ++ x ∷ []) xs) ≡ count_by test (x ∷ xs)
-    at true e h = let f = count_cons test x xs in let g : weight (test x) ≡ 1 = ap weight e in omega arith
-    at false e h = let f = count_cons test x xs in let g : weight (test x) ≡ 0 = ap weight e in omega arith
-
-count_append : (test : Place → Bool) (xs ys : List Place) → count_by test (xs ++ ys) ≡ count_by test xs + count_by test ys
-count_append test xs ys = sum_by-append (λ x. weight (test x)) xs ys
-
-stages_past : (test : Place → Bool) (before xs ys : List Place)
-    → list_any test xs ≡ false → stages_that test before (xs ++ ys) ≡ stages_that test (before ++ xs) ys
-stages_past test before [] ys h = ap (λ l. stages_that test l ys) (sym (append-nil before))
-stages_past test before (x ∷ xs) ys h =
-    let parts = or_parts (test x) (list_any test xs) h in
-    ap (λ b. if b then stage_of before x ∷ stages_that test (before ++ x ∷ []) (xs ++ ys) else stages_that test (before ++ x ∷ []) (xs ++ ys)) parts.0
-    ∙ stages_past test (before ++ x ∷ []) xs ys parts.1
-    ∙ ap (λ l. stages_that test l ys) (append_assoc before (x ∷ []) xs)
-
--- a test of the places on a path
-any_on : (f test : Place → Bool) (xs : List Place) → list_any (λ y. f y && test y) xs ≡ list_any test (filter f xs)
-any_on f test [] = refl
-any_on f test (x ∷ xs) = at (f x) (any_on f test xs)
-  where
-    at : (b : Bool) → list_any (λ y. f y && test y) xs ≡ list_any test (filter f xs)
-        → ((b && test x) || list_any (λ y. f y && test y) xs) ≡ list_any test (cond b (x ∷ filter f xs) (filter f xs))
-    at true h = ap (λ b. test x || b) h
-    at false h = h
-
--- of one call there is one guess
-one_name : (n g : List ℕ) (x : Place) → defines_use (OfGuess n) x ≡ true → defines_use (OfGuess g) x ≡ true → n ≡ g
-one_name n g (Statement (SpecCall _ y _) bs) e f = bytes_same n y.name e ∙ sym (bytes_same g y.name f)
-one_name n g (Statement (Call _ _) bs) e f = absurd (false≢true e)
-one_name n g (Statement (Separator _) bs) e f = absurd (false≢true e)
-one_name n g (Statement (CombRead _ _ _) bs) e f = absurd (false≢true e)
-one_name n g (Statement (Bind _ _ _) bs) e f = absurd (false≢true e)
-one_name n g (Statement (DelayedRead _ _ _) bs) e f = absurd (false≢true e)
-one_name n g (Statement (Write _ _ _) bs) e f = absurd (false≢true e)
-one_name n g (Statement (Reserve _ _ _) bs) e f = absurd (false≢true e)
-one_name n g (Statement (Block _ _) bs) e f = absurd (false≢true e)
-one_name n g (Statement (Release _ _) bs) e f = absurd (false≢true e)
-one_name n g (Statement (If _ _ _ _) bs) e f = absurd (false≢true e)
-one_name n g (Statement (Verify _ _ _) bs) e f = absurd (false≢true e)
-one_name n g (Statement (Update _ _ _) bs) e f = absurd (false≢true e)
-one_name n g (Statement (SpecCheck _) bs) e f = absurd (false≢true e)
-one_name n g (Statement (SpecBarrier _) bs) e f = absurd (false≢true e)
-one_name n g _ e f = absurd (false≢true e)
-
-one_guess : (n g : List ℕ) (xs : List Place)
-    → count_by is_call xs ≤ 1 → list_any (defines_use (OfGuess n)) xs ≡ true
-    → list_any (defines_use (OfGuess g)) xs ≡ true → n ≡ g
-one_guess n g [] few e f = absurd (false≢true e)
-one_guess n g (x ∷ xs) few e f = by (or_cases (defines_use (OfGuess n) x) _ e) (or_cases (defines_use (OfGuess g) x) _ f) (one_guess n g xs fewer)
-  where
-    fewer : count_by is_call xs ≤ 1
-    fewer = let sum = count_cons is_call x xs in omega arith
-
-    more : (l : List ℕ) → is_call x ≡ true → list_any (defines_use (OfGuess l)) xs ≡ true → ⊥
-    more l t u =
-        let one : 1 ≤ count_by is_call xs = counted is_call xs (any_weaker _ _ (guess_calls l) xs u) in
-        let here : weight (is_call x) ≡ 1 = ap weight t in
-        let sum = count_cons is_call x xs in
-        omega arith
-
-    by : (defines_use (OfGuess n) x ≡ true) ⊎ (list_any (defines_use (OfGuess n)) xs ≡ true)
-        → (defines_use (OfGuess g) x ≡ true) ⊎ (list_any (defines_use (OfGuess g)) xs ≡ true)
-        → (list_any (defines_use (OfGuess n)) xs ≡ true → list_any (defines_use (OfGuess g)) xs ≡ true → n ≡ g) → n ≡ g
-    by (inl a) (inl b) r = one_name n g x a b
-    by (inl a) (inr b) r = absurd (more g (guess_calls n x a) b)
-    by (inr a) (inl b) r = absurd (more n (guess_calls g x b) a)
-    by (inr a) (inr b) r = r a b
-
--- a name that is given after some places is defined by one of them
-pub given_any : (u : Use) (xs : List Place) → is_given xs u ≡ true → list_any (defines_use u) xs ≡ true
-given_any u [] e = absurd (false≢true e)
-given_any u (x ∷ xs) e =
-    ⊎_elim (λ a. or_left _ _ (and_parts (defines_use u x) _ a).0) (λ a. or_right (defines_use u x) _ (given_any u xs a))
-    (or_cases (defines_use u x && (not (is_delayed x) || list_any is_separator xs)) _ e)
 
 -- THE RULES
 
@@ -173,7 +90,8 @@ module _ (p : Pipe) (rules : KeepsRules p) (v : Guard → Bool) (staged : All St
       ap (stages_that (verified_on g) []) (text_places p)
       ∙ stages_past (verified_on g) [] (front_of p) (map place_of (sites_of p) ++ closing p) (none_front (verified_on g) (λ a. refl) (λ m. refl))
 
-  guess_before : (t : Site) → Here p t → Staged t → on_path c (place_of t) ≡ true
+  -- a guess on the path is made before V and verified once
+  pub guess_before : (t : Site) → Here p t → Staged t → on_path c (place_of t) ≡ true
       → (sp : Span) (g : Ident) (args : List Expr) → t.stmt ≡ SpecCall sp g args
       → (stands_before o t.walk.stage ≡ true) × Once g.name
   guess_before t h st on sp g args e = (stands, sym (count_stages (verified_on g.name) [] (places p)) ∙ ap length one.1)
@@ -276,7 +194,8 @@ module _ (p : Pipe) (rules : KeepsRules p) (v : Guard → Bool) (staged : All St
   abbrev pub Verified : ℕ → List Place → Type 0
   Verified k before = (V : ℕ) → o ≡ Some V → list_any is_verify before ≡ true → V ≤ k
 
-  called_next : (before : List Place) (t : Site) → Here p t → Staged t → filter (on_path c) t.front ≡ before
+  -- what is known of the calls before the next site
+  pub called_next : (before : List Place) (t : Site) → Here p t → Staged t → filter (on_path c) t.front ≡ before
       → on_path c (place_of t) ≡ true → Called before → Called (before ++ place_of t ∷ [])
   called_next before t h st same on k =
       record {
@@ -326,7 +245,7 @@ module _ (p : Pipe) (rules : KeepsRules p) (v : Guard → Bool) (staged : All St
       here (SpecBarrier _) i g e = absurd (false≢true e)
 
   -- N3: the guess that a statement verifies or replaces was made before on the path
-  guess_there : (before : List Place) (t : Site) → Here p t → filter (on_path c) t.front ≡ before → on_path c (place_of t) ≡ true → (g : Ident)
+  pub guess_there : (before : List Place) (t : Site) → Here p t → filter (on_path c) t.front ≡ before → on_path c (place_of t) ≡ true → (g : Ident)
       → ((u : Use → Bool) → in_verify u t.stmt ≡ u (OfGuess g.name)) → list_any (defines_use (OfGuess g.name)) before ≡ true
   guess_there before t h same on g is = given_any (OfGuess g.name) before given
     where
@@ -345,6 +264,15 @@ module _ (p : Pipe) (rules : KeepsRules p) (v : Guard → Bool) (staged : All St
           (not-false _
           (unbroken_on (λ earlier. not (is_given earlier (OfGuess g.name))) p v t.front (place_of t)
           (or_parts (is_undefined t.front (OfGuess g.name)) _ used).1 on))
+
+  -- S6: an update on the path is after its guess, before V, and the only one
+  pub update_right : (t : Site) → Here p t → Staged t → on_path c (place_of t) ≡ true → (sp : Span) (g : Ident) (args : List Expr)
+      → t.stmt ≡ Update sp g args → updates_amiss p c t.front t.walk.stage g.name ≡ false
+  update_right t h st on sp g args e =
+      ap (λ k. updates_amiss p c t.front k g.name) (sym st) ∙ ap (λ s. is_amiss p c t.front (Statement s t.branches)) (sym e)
+      ∙ ap (λ b. b && is_amiss p c t.front (place_of t)) (sym on)
+      ∙ by_choice (λ path. on_path path (place_of t) && is_amiss p path t.front (place_of t)) v (guards (places p))
+      (rules S6 t.front (place_of t) h.later h.whole)
 
   asked_here : (before : List Place) (t : Site) → Here p t → Staged t → filter (on_path c) t.front ≡ before
       → on_path c (place_of t) ≡ true → (is_verify (place_of t) ≡ true → o ≡ Some t.walk.stage)
@@ -388,23 +316,16 @@ module _ (p : Pipe) (rules : KeepsRules p) (v : Guard → Bool) (staged : All St
       there : list_any (defines_use (OfGuess g.name)) before ≡ true
       there = guess_there before t h same on g (λ u. ap (λ x. in_verify u x) e)
 
-      -- S6
       early : (V : ℕ) → o ≡ Some V → t.walk.stage < V
       early V i =
-          let r =
-          by_choice (λ path. on_path path (place_of t) && is_amiss p path t.front (place_of t)) v (guards (places p))
-          (rules S6 t.front (place_of t) h.later h.whole) in
-          let amiss : updates_amiss p c t.front (stage_in t.front t.branches) g.name ≡ false =
-          ap (λ s. is_amiss p c t.front (Statement s t.branches)) (sym e) ∙ ap (λ b. b && is_amiss p c t.front (place_of t)) (sym on) ∙ r in
           let rest =
           (or_parts
-          (list_any (λ j. not (nat_lt j (stage_in t.front t.branches))) (guess_stages c t.front g.name)
-          || is_some_and (λ w. not (nat_lt (stage_in t.front t.branches) w)) (Speculation.verify_stage p)) _ amiss).0
+          (list_any (λ j. not (nat_lt j t.walk.stage)) (guess_stages c t.front g.name)
+          || is_some_and (λ w. not (nat_lt t.walk.stage w)) (Speculation.verify_stage p)) _ (update_right t h st on sp g args e)).0
           in
-          let low = (or_parts (list_any (λ j. not (nat_lt j (stage_in t.front t.branches))) (guess_stages c t.front g.name)) _ rest).1 in
+          let low = (or_parts (list_any (λ j. not (nat_lt j t.walk.stage)) (guess_stages c t.front g.name)) _ rest).1 in
           ltb-true t.walk.stage V
-          (not-false (nat_lt t.walk.stage V)
-          (ap (λ k. not (nat_lt k V)) (sym st) ∙ ap (is_some_and (λ w. not (nat_lt (stage_in t.front t.branches) w))) (sym (v_is V i)) ∙ low))
+          (not-false (nat_lt t.walk.stage V) (ap (is_some_and (λ w. not (nat_lt t.walk.stage w))) (sym (v_is V i)) ∙ low))
 
       stands : stands_before o t.walk.stage ≡ true
       stands = by o refl (k.some g.name there)

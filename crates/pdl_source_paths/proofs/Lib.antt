@@ -13,7 +13,9 @@ pub mod Calls
 pub mod SiteStages
 pub mod ReleaseBarriers
 pub mod PathScans
+pub mod GuessCounts
 pub mod Guesses
+pub mod GuessStages
 pub mod Memories
 pub mod StatementTests
 pub mod PathTests

@@ -27,7 +27,7 @@ use Rattle.pdl_rules.proofs.SingleWrites.{KeepsLocks, AreBacked, none_backed, ba
 use Rattle.pdl_theory_facts.specs.Scans.{is_plain, none_of, all_at, reads_ok, no_scan, phases_ok, phase_all, Fresh, is_over, write_reserves}
 use Rattle.pdl_theory_derived.specs.Alone
 use Rattle.pdl_theory_facts.specs.GuessScans
-use Rattle.pdl_theory_facts.specs.GuessScans.{Unmade, makings_ok, making_all, is_made, all_sure}
+use Rattle.pdl_theory_facts.specs.GuessScans.{Unmade, makings_ok, making_all, is_made, checks_apart, all_sure}
 use Rattle.pdl_theory_facts.specs.Checks.{knows_memory, mem_passes, path_passes, lock_passes, locks_pass}
 use Rattle.pdl_theory_facts.specs.Facts.{looked_all, at_once}
 use Rattle.pdl_theory_facts.proofs.Passes.{Parts}
@@ -54,6 +54,7 @@ use Rattle.pdl_source_paths.proofs.Calls.{Stood, made_end}
 use Rattle.pdl_source_paths.proofs.PathScans
 use Rattle.pdl_source_paths.proofs.PathScans.{Known, order_along, inside_along, reads_along, writes_along, makings_along, sure_along, ops_all}
 use Rattle.pdl_source_paths.proofs.Guesses
+use Rattle.pdl_source_paths.proofs.GuessStages
 use Rattle.pdl_source_paths.proofs.Guesses.{all_asked, verified_end}
 use Rattle.pdl_source_paths.proofs.Memories.{at_number, mems_length, all_after, distinct, lock_tells, advisory_unlocked, rooms, stages_length, stage_at, first_none}
 use Rattle.pdl_source_paths.proofs.StatementTests
@@ -235,16 +236,18 @@ module _ (p : Pipe) (rules : KeepsRules p) where
         (StatementTests.all_numbers (λ i t. some_op (is_reserve i) (ops p.mems t) ≡ true → t.walk.stage ≡ reserve_stage q i) (sites_of p) reserve_home)))
         late
 
-    told : All (Guesses.Told p rules v staged verify_home) ts
-    told =
-        all_on (Guesses.Told p rules v staged verify_home) c (sites_of p)
-        (all_both (λ t. Both t)
+    told_all : All (Guesses.Told p rules v staged verify_home) (sites_of p)
+    told_all =
+        all_both (λ t. Both t)
         (λ t. Staged t × (Speculation.is_verify (place_of t) ≡ true → Stages.verify_stage (flat p).stmts ≡ Some t.walk.stage))
         (Guesses.Told p rules v staged verify_home) (λ t a b. record { here = a.1; stage = b.0; verify = b.1 })
         (sites_of p) both
         (all_both Staged (λ t. Speculation.is_verify (place_of t) ≡ true → Stages.verify_stage (flat p).stmts ≡ Some t.walk.stage)
         (λ t. Staged t × (Speculation.is_verify (place_of t) ≡ true → Stages.verify_stage (flat p).stmts ≡ Some t.walk.stage))
-        (λ t a b. (a, b)) (sites_of p) staged verify_home))
+        (λ t a b. (a, b)) (sites_of p) staged verify_home)
+
+    told : All (Guesses.Told p rules v staged verify_home) ts
+    told = all_on (Guesses.Told p rules v staged verify_home) c (sites_of p) told_all
 
     -- THE LOCKS SO FAR
 
@@ -374,6 +377,11 @@ module _ (p : Pipe) (rules : KeepsRules p) where
         all_places : filter (on_path c) (places p) ≡ (front_of p ++ map place_of ts) ++ closing p
         all_places = filter_append (on_path c) (front_of p ++ statements [] p.body) (closing p) ∙ ap (λ l. l ++ closing p) text
 
+    apart_pass : checks_apart None (seen p.mems ts) ≡ true
+    apart_pass =
+        GuessStages.checks_along p rules v staged verify_home (sites_of p) (all_in_text p) told_all
+        (subst (Guesses.Called p rules v staged verify_home) (sym front) called)
+
     sure_pass : all_sure o false no_scan (seen p.mems ts) ≡ true
     sure_pass =
         sure_along p q lock_is o (params_of p.params) _ (front_of p) no_scan false ts known
@@ -398,9 +406,9 @@ module _ (p : Pipe) (rules : KeepsRules p) where
         (and_from _ _ reads_pass
         (and_from _ _ (below_all (mem_passes q (seen p.mems ts)) (length q.mems) (λ m low. mem_pass m (subst (λ n. m < n) (mems_length p.mems) low)))
         (subst
-        (λ w. (makings_ok w Unmade (seen p.mems ts) && (is_made (making_all Unmade (seen p.mems ts)) && all_sure w false no_scan (seen p.mems ts))) ≡ true)
+        (λ w. (makings_ok w Unmade (seen p.mems ts) && (is_made (making_all Unmade (seen p.mems ts)) && (checks_apart None (seen p.mems ts) && all_sure w false no_scan (seen p.mems ts)))) ≡ true)
         (sym (StatementTests.verify_looked (flat p).stmts))
-        (and_from _ _ makings_pass.0 (and_from _ _ makings_pass.1 sure_pass))))))))
+        (and_from _ _ makings_pass.0 (and_from _ _ makings_pass.1 (and_from _ _ apart_pass sure_pass)))))))))
 
   -- ALL TESTS
 

@@ -43,6 +43,7 @@ quiet_ops i (op ∷ os) h =
     let rest = quiet_ops i os parts.1 in
     (and_from _ _ here.0 (ap (λ ph. phase_oks i ph os) here.1 ∙ rest.0), ap (λ ph. phase_ops i ph os) here.1 ∙ rest.1)
 
+-- of a memory that no site touches the phase stays fresh
 pub quiet_seen : (i : ℕ) (ms : List Mem) (ts : List Site) → All (λ t. some_op (touches i) (ops ms t) ≡ false) ts → (phases_ok i Fresh (seen ms ts) ≡ true) × (phase_all i Fresh (seen ms ts) ≡ Fresh)
 quiet_seen i ms [] h = (refl, refl)
 quiet_seen i ms (t ∷ ts) h =

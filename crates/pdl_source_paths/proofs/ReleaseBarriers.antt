@@ -6,7 +6,7 @@ use Rattle.std.specs.List.{list_any}
 use Rattle.pdl_semantics.specs.Tree.{Span, Expr, Variable, Location, R, W, Stmt, Separator, CombRead, Bind, SpecCall, DelayedRead, Write, Reserve, Block, Release, If, Call, Verify, Update, SpecCheck, SpecBarrier, Pipe}
 use Rattle.pdl_semantics.specs.Flat
 use Rattle.pdl_semantics.specs.Flatten.{Var, var_of, mem_of, flat_expr, is_advisory_mem, is_advised}
-use Rattle.pdl_stagefacts.proofs.Fine.{either_read, either_bind, either_write}
+use Rattle.pdl_source_stages.proofs.SiteFacts.{either_read, either_bind, either_write}
 use Rattle.pdl_rules.specs.Places.{Place, Statement, Branch}
 use Rattle.pdl_rules.specs.Parts.{location_of}
 use Rattle.pdl_rules.specs.Locks.{Hold, Nothing, Reserved, Blocked, Released, hold_after, is_blocked, is_held_for}

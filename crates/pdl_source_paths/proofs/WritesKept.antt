@@ -13,6 +13,7 @@ use Rattle.pdl_rules.specs.Parts.{location_of}
 use Rattle.pdl_rules.specs.Locks.{same_location, Hold, Nothing, Reserved, Blocked, Released, after_block, after_place, hold_after, is_held_for, is_unreleased, is_reserve_of, is_write_of, reserves_location, writes_location, leaves_open, most_reservations, lock_size, first_reserved, is_out_of_turn}
 use Rattle.pdl_rules.specs.Typed.{is_named, is_memory}
 use Rattle.pdl_rules.proofs.EachPlace.{Each, closing}
+use Rattle.pdl_rules.proofs.FirstReserves.{first_stays}
 use Rattle.pdl_rules.proofs.SingleWrites.{KeepsLocks, AreBacked, any_weaker, any_front, any_last, location_refl, location_sym, held_alike, writes_alike, reserves_alike, reserves_to_write, reserves_some, reserves_mem, held_if_blocked, reserved_if_blocked, written_reserved, blocked_here, weight, count_push, count_cons, count_none, written_once}
 use Rattle.pdl_theory_derived.specs.Alone.{answered_op, is_nil, is_among, is_oldest, drop_var, but_last}
 use Rattle.pdl_theory_facts.specs.Scans.{Phase, Fresh, after_write, after_reserve, after_release, may_read, may_write, is_new, next_phase, phase_ok, phases_ok, phase_all, is_over}
@@ -37,19 +38,19 @@ pub record Open (vs : List Var) (before : List Place) (m : List ℕ) (x : ℕ) :
   pub number : var_of vs at.address.name ≡ x
   pub reserved : list_any (reserves_to_write at) before ≡ true
 
--- what these places have reserved and written of memory m is as this phase of its write says
-
--- one that isn't written, one that is, and one that is released
+-- one that isn't written
 pub record IsUnset (vs : List Var) (before : List Place) (m : List ℕ) (x : ℕ) : Type 0 where
   pub place : Open vs before m x
   pub unset : list_any (writes_location place.at) before ≡ false
   pub held : is_held_for W (hold_after place.at before) ≡ true
 
+-- one that is written and not released
 pub record IsSet (vs : List Var) (before : List Place) (m : List ℕ) (x : ℕ) : Type 0 where
   pub place : Open vs before m x
   pub set : list_any (writes_location place.at) before ≡ true
   pub held : hold_after place.at before ≡ Blocked W
 
+-- one that is released
 pub record IsOut (vs : List Var) (before : List Place) (m : List ℕ) (x : ℕ) : Type 0 where
   pub place : Open vs before m x
   pub set : list_any (writes_location place.at) before ≡ true
@@ -77,6 +78,7 @@ abbrev pub is_distinct : List ℕ → Bool
 is_distinct [] = true
 is_distinct (x ∷ xs) = not (is_among x xs) && is_distinct xs
 
+-- what these places have reserved and written of memory m is as this phase of its write says
 pub record Stands (p : Pipe) (vs : List Var) (before : List Place) (m : List ℕ) (ph : Phase) : Type 0 where
   pub unset : (x : ℕ) → is_among x ph.unwritten ≡ true → IsUnset vs before m x
   pub set : (x : ℕ) → is_among x ph.full ≡ true → IsSet vs before m x
@@ -163,15 +165,6 @@ drop_distinct a (x ∷ xs) h = at (x == a) (λ d. drop_distinct a xs d)
     at false go = and_from _ _ (ap not (false_from_ne_true _ (λ t. both_ways _ (not-true _ parts.0) (dropped_among x a xs t)))) (go parts.1)
 
 -- PLACES
-
--- the first reserved location stays, and is the new one where there was none
-first_stays : (m : List ℕ) (before : List Place) (x : Place) → is_reserve_of W m x ≡ false → first_reserved m (before ++ x ∷ []) ≡ first_reserved m before
-first_stays m [] x h = rw h refl
-first_stays m (y ∷ before) x h = at (is_reserve_of W m y) refl (first_stays m before x h)
-  where
-    at : (b : Bool) → is_reserve_of W m y ≡ b → first_reserved m (before ++ x ∷ []) ≡ first_reserved m before → first_reserved m (y ∷ before ++ x ∷ []) ≡ first_reserved m (y ∷ before)
-    at true e on = rw e refl
-    at false e on = rw e on
 
 -- one more place
 abbrev place_front : (vs us : List Var) (before : List Place) (m : List ℕ) (n : ℕ) (x : Place) → Open vs before m n

@@ -488,6 +488,7 @@ module _ (p : Pipe) (rules : KeepsRules p) where
   fits_some None = true
   fits_some (Some op) = fits_kind (flat p) op
 
+  -- each flat statement takes its memory by its kind
   pub advice_fits : Each (λ y. fits_kind (flat p) y.op ≡ true) (flat p).stmts
   advice_fits = each_fine p rules (λ y. fits_kind (flat p) y.op ≡ true) (λ t h op e. sym (ap fits_some e) ∙ at t h t.stmt refl)
     where
@@ -514,6 +515,7 @@ module _ (p : Pipe) (rules : KeepsRules p) where
       at t h (If sp c when otherwise) e = refl
       at t h s e = refl
 
+  -- so the flat form does
   pub advice : list_all (λ y. fits_kind (flat p) y.op) (flat p).stmts ≡ true
   advice = all_each (flat p).stmts advice_fits
     where

@@ -13,17 +13,20 @@ use Rattle.pdl_source_stages.proofs.Walks.{past_begun, past_all_begun, guard_beg
 abbrev pub is_whole : Stmts → Stmts → Bool
 is_whole when otherwise = separators when + separators otherwise == 0
 
+-- whether some statements begin with a separator
 abbrev pub begins_stage : Stmts → Bool
 begins_stage (Cons (Separator sp) ss) = true
 begins_stage _ = false
 
 -- a fork is directly followed by a separator, and a branch has one before its first fork: of statements that begin a stage, and of a branch
 abbrev mutual
+  -- of statements that begin a stage
   pub is_forked : Stmts → Bool
   is_forked Nil = true
   is_forked (Cons (If sp c when otherwise) ss) = (is_whole when otherwise || (begins_stage ss && (is_late when && is_late otherwise))) && is_forked ss
   is_forked (Cons s ss) = is_forked ss
 
+  -- of a branch
   pub is_late : Stmts → Bool
   is_late Nil = true
   is_late (Cons (Separator sp) ss) = is_forked ss
@@ -44,26 +47,31 @@ late_forked (Cons s ss) h = late_forked ss h
 
 -- the stages of the trunk or of a branch, from one of them on: the last one, one that leads to the next, or a fork on x with its two branches; a branch has no stage or some
 mutual
+  -- the last stage, one that leads to the next, or a fork on x with two branches
   pub data Shape : Type 0 where
     Last : Shape
     Cut : (rest : Shape) → Shape
     Fork : (x : ℕ) (first second : Side) (rest : Shape) → Shape
 
+  -- a branch without stages, or with some
   pub data Side : Type 0 where
     Straight : Side
     Runs : (stages : Shape) → Side
 
 -- how many stages they are
 abbrev mutual
+  -- of a shape
   pub size : Shape → ℕ
   size Last = 1
   size (Cut rest) = suc (size rest)
   size (Fork x a b rest) = suc (long a + long b + size rest)
 
+  -- of a branch
   pub long : Side → ℕ
   long Straight = 0
   long (Runs sh) = size sh
 
+-- a stage that leads there, in these branches, and merges this fork or none
 abbrev pub stage : Flat.Next → List Flat.Branch → Option ℕ → Flat.Stage
 stage next branches merges = record { next = next; branches = branches; merges = merges }
 
@@ -76,6 +84,7 @@ abbrev pub side_leads : Flat.Next → ℕ → Side → Flat.Next
 side_leads exit k Straight = exit
 side_leads exit k (Runs sh) = Flat.Goes (suc k)
 
+-- where the first stage of a shape leads, which has the number k
 abbrev pub leads_on : Flat.Next → ℕ → Shape → Flat.Next
 leads_on exit k Last = exit
 leads_on exit k (Cut rest) = Flat.Goes (suc k)
@@ -84,6 +93,7 @@ leads_on exit k (Fork x a b rest) =
 
 -- the stages after stage k, in these branches
 abbrev mutual
+  -- of a shape
   pub after : List Flat.Branch → Flat.Next → ℕ → Shape → List Flat.Stage
   after c exit k Last = []
   after c exit k (Cut rest) = stage (leads_on exit (suc k) rest) c None ∷ after c exit (suc k) rest
@@ -92,12 +102,14 @@ abbrev mutual
       ++ side_after (side k false ∷ c) (Flat.Goes (merge_at k (long a) (long b))) (k + long a) b
       ++ stage (leads_on exit (merge_at k (long a) (long b)) rest) c (Some k) ∷ after c exit (merge_at k (long a) (long b)) rest
 
+  -- of a branch
   pub side_after : List Flat.Branch → Flat.Next → ℕ → Side → List Flat.Stage
   side_after c exit k Straight = []
   side_after c exit k (Runs sh) = stage (leads_on exit (suc k) sh) c None ∷ after c exit (suc k) sh
 
 -- the shape of statements that begin a stage, and of a branch
 abbrev mutual
+  -- of statements that begin a stage
   pub shape : List Mem → Stmts → Flatten.Position → Shape
   shape ms Nil w = Last
   shape ms (Cons (Separator sp) ss) w = Cut (shape ms ss (past ms (Separator sp) w))
@@ -106,6 +118,7 @@ abbrev mutual
       (Fork (guard_of w.vars c) (side_shape ms when (with_guard c w)) (side_shape ms otherwise (at_otherwise ms c when w)) (shape ms ss (past ms (Separator sq) (past ms (If sp c when otherwise) w))))
   shape ms (Cons s ss) w = shape ms ss (past ms s w)
 
+  -- of a branch
   pub side_shape : List Mem → Stmts → Flatten.Position → Side
   side_shape ms Nil w = Straight
   side_shape ms (Cons (Separator sp) ss) w = Runs (shape ms ss (past ms (Separator sp) w))
@@ -113,14 +126,17 @@ abbrev mutual
 
 -- THE GRAPH
 
+-- the graph of a shape that begins in stage k
 abbrev pub trunk : List Flat.Branch → Flat.Next → ℕ → Shape → Flatten.Graph
 trunk c exit k sh = record { next = leads_on exit k sh; later = after c exit k sh }
 
+-- the graph of a branch that begins after stage k
 abbrev pub bunch : List Flat.Branch → Flat.Next → ℕ → Side → Flatten.Graph
 bunch c exit k sd = record { next = side_leads exit k sd; later = side_after c exit k sd }
 
 -- the sizes are told by the separators
 mutual
+  -- a shape has one stage more than separators
   pub size_is : (ms : List Mem) (ss : Stmts) (w : Flatten.Position) → is_forked ss ≡ true → size (shape ms ss w) ≡ suc (separators ss)
   size_is ms Nil w h = refl
   size_is ms (Cons (Separator sp) ss) w h = let k = size_is ms ss (past ms (Separator sp) w) h in omega arith
@@ -151,6 +167,7 @@ mutual
       fitting false e = absurd (false≢true (and_parts (begins_stage ss) (is_late when && is_late otherwise) e).0)
   size_is ms (Cons s ss) w h = let k = size_is ms ss (past ms s w) h in omega arith
 
+  -- a branch has as many stages as separators
   pub long_is : (ms : List Mem) (ss : Stmts) (w : Flatten.Position) → is_late ss ≡ true → long (side_shape ms ss w) ≡ separators ss
   long_is ms Nil w h = refl
   long_is ms (Cons (Separator sp) ss) w h = let k = size_is ms ss (past ms (Separator sp) w) h in omega arith
@@ -172,6 +189,7 @@ forked_is d exit x a b f m i j k n r e1 e2 e3 e4 e5 =
     ∙ ap (λ u. forked d exit x a b n (merge_at n (long a) (long b)) n u k r) e4 ∙ ap (λ u. forked d exit x a b n (merge_at n (long a) (long b)) n (n + long a) u r) e5
 
 mutual
+  -- the graph of statements that begin a stage is that of their shape
   pub graph_trunk : (ms : List Mem) (d : List Flat.Branch) (exit : Flat.Next) (ss : Stmts) (w : Flatten.Position) → w.stage ≡ w.begun → is_forked ss ≡ true → graph ms d exit ss w ≡ trunk d exit w.begun (shape ms ss w)
   graph_trunk ms d exit Nil w e h = refl
   graph_trunk ms d exit (Cons (Separator sp) ss) w e h = ap (graph_with_stage d w) (graph_trunk ms d exit ss (past ms (Separator sp) w) refl h)
@@ -224,6 +242,7 @@ mutual
       fitting false e = absurd (false≢true (and_parts (begins_stage ss) (is_late when && is_late otherwise) e).0)
   graph_trunk ms d exit (Cons s ss) w e h = graph_trunk ms d exit ss (past ms s w) e h
 
+  -- the graph of a branch is that of its shape
   pub graph_side : (ms : List Mem) (d : List Flat.Branch) (exit : Flat.Next) (ss : Stmts) (w : Flatten.Position) → is_late ss ≡ true → graph ms d exit ss w ≡ bunch d exit w.begun (side_shape ms ss w)
   graph_side ms d exit Nil w h = refl
   graph_side ms d exit (Cons (Separator sp) ss) w h = ap (graph_with_stage d w) (graph_trunk ms d exit ss (past ms (Separator sp) w) refl h)

@@ -95,10 +95,12 @@ pub read_none : (test : Flat.Op → Bool) (b : Bool) (x m a : ℕ) → test (Fla
 read_none test true x m a h k = h
 read_none test false x m a h k = k
 
+-- what holds of neither binding doesn't hold of the one that is made
 pub bind_none : (test : Flat.Op → Bool) (b : Bool) (x : ℕ) (e : Flat.Expr) → test (Flat.AdviceBind x e) ≡ false → test (Flat.Bind x e) ≡ false → test (bind_op b x e) ≡ false
 bind_none test true x e h k = h
 bind_none test false x e h k = k
 
+-- what holds of neither write doesn't hold of the one that is made
 pub write_none : (test : Flat.Op → Bool) (b : Bool) (m a : ℕ) (e : Flat.Expr) → test (Flat.AdviceWrite m a e) ≡ false → test (Flat.Write m a e) ≡ false → test (write_op b m a e) ≡ false
 write_none test true m a e h k = h
 write_none test false m a e h k = k
@@ -108,10 +110,12 @@ pub either_read : (P : Flat.Op → Type 0) (b : Bool) (x m a : ℕ) → P (Flat.
 either_read P true x m a h k = h
 either_read P false x m a h k = k
 
+-- the same of bindings
 pub either_bind : (P : Flat.Op → Type 0) (b : Bool) (x : ℕ) (e : Flat.Expr) → P (Flat.AdviceBind x e) → P (Flat.Bind x e) → P (bind_op b x e)
 either_bind P true x e h k = h
 either_bind P false x e h k = k
 
+-- the same of writes
 pub either_write : (P : Flat.Op → Type 0) (b : Bool) (m a : ℕ) (e : Flat.Expr) → P (Flat.AdviceWrite m a e) → P (Flat.Write m a e) → P (write_op b m a e)
 either_write P true m a e h k = h
 either_write P false m a e h k = k

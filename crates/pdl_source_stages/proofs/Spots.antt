@@ -12,11 +12,13 @@ use Rattle.pdl_source_stages.proofs.Shapes.{Shape, Last, Cut, Fork, Side, Straig
 
 -- each fork has a branch stage
 abbrev mutual
+  -- of a shape
   pub Proper : Shape → Type 0
   Proper Last = Unit {0}
   Proper (Cut rest) = Proper rest
   Proper (Fork x a b rest) = (0 < long a + long b) × ProperSide a × ProperSide b × Proper rest
 
+  -- of a branch
   pub ProperSide : Side → Type 0
   ProperSide Straight = Unit {0}
   ProperSide (Runs sh) = Proper sh
@@ -25,6 +27,7 @@ abbrev mutual
 abbrev pub start : ℕ → ℕ → Bool → ℕ
 start f a first = cond first f (f + a)
 
+-- how many stages this branch of the two has
 abbrev pub many : ℕ → ℕ → Bool → ℕ
 many a b first = cond first a b
 
@@ -48,6 +51,7 @@ rest_tail p k x xs h = (
 -- GROUPS
 
 abbrev mutual
+  -- the stages from k on are those of this shape, in these branches
   pub Groups : Flat.Pipe → List Flat.Branch → Flat.Next → ℕ → Option ℕ → Shape → Type 0
   Groups p c exit k merges Last = stage_at p k ≡ stage exit c merges
   Groups p c exit k merges (Cut rest) = (stage_at p k ≡ stage (Flat.Goes (suc k)) c merges) × Groups p c exit (suc k) None rest
@@ -58,11 +62,13 @@ abbrev mutual
       × Sides p (side k false ∷ c) (Flat.Goes (merge_at k (long a) (long b))) (k + long a) b
       × Groups p c exit (merge_at k (long a) (long b)) (Some k) rest
 
+  -- the stages after k are those of this branch
   pub Sides : Flat.Pipe → List Flat.Branch → Flat.Next → ℕ → Side → Type 0
   Sides p c exit k Straight = Unit {0}
   Sides p c exit k (Runs sh) = Groups p c exit (suc k) None sh
 
 mutual
+  -- where the list of stages goes on with those of a shape, they are its stages
   pub groups : (p : Flat.Pipe) (c : List Flat.Branch) (exit : Flat.Next) (k : ℕ) (merges : Option ℕ) (sh : Shape) (ys : List Flat.Stage) → Proper sh → Rest p k (stage (leads_on exit k sh) c merges ∷ (after c exit k sh ++ ys))
       → Groups p c exit k merges sh × Rest p (k + size sh) ys
   groups p c exit k merges Last ys proper h = (rest_head p k _ _ h, subst (λ n. Rest p n ys) (let e : suc k ≡ k + 1 = omega arith in e) (rest_tail p k _ _ h))
@@ -80,17 +86,20 @@ mutual
       let more = groups p c exit m (Some k) rest ys proper.3 two.1 in
       ((rest_head p k _ _ h, proper.0, one.0, two.0, more.0), subst (λ n. Rest p n ys) (let e : merge_at k (long a) (long b) + size rest ≡ k + suc (long a + long b + size rest) = omega arith in e) more.1)
 
+  -- and with those of a branch
   pub sides : (p : Flat.Pipe) (c : List Flat.Branch) (exit : Flat.Next) (k : ℕ) (sd : Side) (ys : List Flat.Stage) → ProperSide sd → Rest p (suc k) (side_after c exit k sd ++ ys) → Sides p c exit k sd × Rest p (suc (k + long sd)) ys
   sides p c exit k Straight ys proper h = (tt, subst (λ n. Rest p n ys) (let e : suc k ≡ suc (k + 0) = omega arith in e) h)
   sides p c exit k (Runs sh) ys proper h =
       let more = groups p c exit (suc k) None sh ys proper h in
       (more.0, subst (λ n. Rest p n ys) (let e : suc k + size sh ≡ suc (k + size sh) = omega arith in e) more.1)
 
+-- the first stage of a shape stands in just its branches
 pub group_home : (p : Flat.Pipe) (c : List Flat.Branch) (exit : Flat.Next) (k : ℕ) (merges : Option ℕ) (sh : Shape) → Groups p c exit k merges sh → Home p c k
 group_home p c exit k merges Last g = ap (λ (x : Flat.Stage). x.branches) g
 group_home p c exit k merges (Cut rest) g = ap (λ (x : Flat.Stage). x.branches) g.0
 group_home p c exit k merges (Fork x a b rest) g = ap (λ (x : Flat.Stage). x.branches) g.0
 
+-- and merges what is told
 pub group_merge : (p : Flat.Pipe) (c : List Flat.Branch) (exit : Flat.Next) (k : ℕ) (merges : Option ℕ) (sh : Shape) → Groups p c exit k merges sh → (stage_at p k).merges ≡ merges
 group_merge p c exit k merges Last g = ap (λ (x : Flat.Stage). x.merges) g
 group_merge p c exit k merges (Cut rest) g = ap (λ (x : Flat.Stage). x.merges) g.0
@@ -106,6 +115,7 @@ more_within p c d x r e h = (h.0 ++ x ∷ [], h.1 ∙ ap (λ l. h.0 ++ l) e ∙ 
 
 -- all stages of a shape stand within its branches
 mutual
+  -- those of a shape
   pub group_within : (p : Flat.Pipe) (c : List Flat.Branch) (exit : Flat.Next) (k : ℕ) (merges : Option ℕ) (sh : Shape) → Groups p c exit k merges sh → (r : ℕ) → k ≤ r → r < k + size sh → Within p c r
   group_within p c exit k merges Last g r low high = subst (Within p c) (let e : k ≡ r = omega arith in e) (within_home p c k (group_home p c exit k merges Last g))
   group_within p c exit k merges (Cut rest) g r low high = at (cases_lt k r) (λ l. group_within p c exit (suc k) None rest g.1 r l (omega arith))
@@ -126,6 +136,7 @@ mutual
       at (inl l) (inl m) (inl n) one two three = two m (omega arith)
       at (inl l) (inl m) (inr n) one two three = three n
 
+  -- and those of a branch
   pub side_within : (p : Flat.Pipe) (c : List Flat.Branch) (exit : Flat.Next) (k : ℕ) (sd : Side) → Sides p c exit k sd → (r : ℕ) → k < r → r ≤ k + long sd → Within p c r
   side_within p c exit k Straight g r low high = absurd (omega arith)
   side_within p c exit k (Runs sh) g r low high = group_within p c exit (suc k) None sh g r (omega arith) (omega arith)
@@ -190,6 +201,7 @@ entry_side exit k m (Runs sh) e = at (size sh) (some_size sh)
     at zero l = absurd (omega arith)
     at (suc n) l = refl
 
+-- what is known of a fork in a shape
 pub group_fork : (p : Flat.Pipe) (c : List Flat.Branch) (exit : Flat.Next) (k : ℕ) (merges : Option ℕ) (x : ℕ) (a b : Side) (rest : Shape) → Groups p c exit k merges (Fork x a b rest) → k + size (Fork x a b rest) ≤ length p.stages → Forked p c k x (long a) (long b)
 group_fork p c exit k merges x a b rest g inside = record {
   home = ap (λ (y : Flat.Stage). y.branches) g.0;
@@ -216,6 +228,7 @@ group_fork p c exit k merges x a b rest g inside = record {
 
 -- each stage of a shape, where the last one is known, and the forks around the shape
 mutual
+  -- of a shape
   pub known : (p : Flat.Pipe) (c : List Flat.Branch) (exit : Flat.Next) (k : ℕ) (merges : Option ℕ) (sh : Shape) → Groups p c exit k merges sh → k + size sh ≤ length p.stages
       → ((n : ℕ) → suc n ≡ k + size sh → (stage_at p n).next ≡ exit → Home p c n → Spot p n) → ((n : ℕ) → k ≤ n → n < k + size sh → AllAround p c n)
       → ((f : ℕ) → merges ≡ Some f → Merges p f k) → (s : ℕ) → k ≤ s → s < k + size sh → Known p s

@@ -34,6 +34,7 @@ fork_step p s env c x a b k = at (slice_index env x == 1) refl
     at true e = by true e a refl (ap (λ n. goes_to n env) k.next ∙ ap (λ v. Some (if v then enters s (merge_at s a b) a else enters (s + a) (merge_at s a b) b)) e)
     at false e = by false e b refl (ap (λ n. goes_to n env) k.next ∙ ap (λ v. Some (if v then enters s (merge_at s a b) a else enters (s + a) (merge_at s a b) b)) e)
 
+-- a step from a stage is of one of these forms
 pub step : (p : Flat.Pipe) (s : ℕ) (env : List ℕ) → Spot p s → Step p s env
 step p s env (Final n t e) = Ends t e (ap (λ n. goes_to n env) n)
 step p s env (Line c n t u m l) = Steps c t u m l (ap (λ n. goes_to n env) n)
@@ -127,6 +128,7 @@ module _ (p : Flat.Pipe) (knows : (s : ℕ) → s < length p.stages → Known p 
   past : (r : ℕ) → length p.stages ≤ r → stage_at p r ≡ last_stage
   past r h = get_or_past p.stages r last_stage h
 
+  -- a number past the stages stands for the trunk
   pub trunk_past : (r : ℕ) → length p.stages ≤ r → Trunk p r
   trunk_past r h = ap (λ (y : Flat.Stage). y.branches) (past r h)
 
@@ -248,6 +250,7 @@ module _ (p : Flat.Pipe) (knows : (s : ℕ) → s < length p.stages → Known p 
       at (Skips c x a e first k z v g) = merged c s x a e k (to s env _ g) (bel s (k.home ∙ home_at _ g c k.merge_home) (let n : s ≤ s = omega arith in n))
       at (Out c f x a e first k h i g) = merged c f x a e k (to s env _ g) (bel f (k.home ∙ home_at _ g c k.merge_home) (let y = start_low f a first in omega arith))
 
+  -- the stage graph has the facts that the theorems take
   pub graph_of : 0 < length p.stages → Trunk p 0 → ((m : ℕ) → Trunk p (reserve_stage p m)) → ((m : ℕ) → Trunk p (commit_stage p m)) → Graph p
   graph_of some begin reserve commit = record {
     some_stage = some;
@@ -365,6 +368,7 @@ module _ (p : Flat.Pipe) (knows : (s : ℕ) → s < length p.stages → Known p 
                 omega arith,
           )
 
+  -- and so have its branches
   pub branches_of : Branches p
   branches_of = record { fork = fork; way = way; side = side_of; entry = entry; merge = merge }
 
@@ -392,6 +396,7 @@ module _ (p : Flat.Pipe) (knows : (s : ℕ) → s < length p.stages → Known p 
           let q = k.5 in
           omega arith
 
+  -- any other fork is not before v
   pub unmerged : (v f b : ℕ) → Trunk p v → v < length p.stages → is_inside p f b ≡ true → merges_by p f (Some v) ≡ false → v ≤ f
   unmerged v f b t low h m = inside_at p f b h at
     where

@@ -13,7 +13,7 @@ use Rattle.pdl_source_paths.proofs.PathStatements.{ops_of, seen_ops, seen}
 use Rattle.pdl_source_paths.proofs.Growth.{Grows, vars_past, past_grown}
 use Rattle.pdl_source_paths.proofs.GuardFacts.{grown_long}
 use Rattle.pdl_theory_states.specs.Strict.{binds_used, all_keep_guess}
-use Rattle.pdl_strict.proofs.Fresh.{Uses, exprs_low}
+use Rattle.pdl_source_strict.proofs.FreshVariables.{Uses, exprs_low}
 
 all_onto : (f : Flat.Stmt → Bool) (xs ys : List Flat.Stmt) → list_all f xs ≡ true → list_all f ys ≡ true → list_all f (xs ++ ys) ≡ true
 all_onto f [] ys h i = i
@@ -73,6 +73,7 @@ site_keeps k ms vs (If sp (Variable x) when otherwise) u rest later go = go
 site_keeps k ms vs (If sp c when otherwise) u rest later go = go
 site_keeps k ms vs _ u rest later go = go
 
+-- after each guess along sites none of its variables is bound
 pub sites_keep : (ms : List Mem) (vs us : List Var) (ts : List Site) → Grows ms vs ts us → All (λ t. Uses t.walk.vars t.stmt) ts → all_keep_guess (seen ms ts) ≡ true
 sites_keep ms vs us [] g u = refl
 sites_keep ms vs us (t ∷ ts) g u =

@@ -119,6 +119,7 @@ module _ (o : Around) (read : ℕ → ℕ → ℕ) (block : Blocked → Bool) (f
   Guesses (SpecCall args) d = values_of args (all_values d) ≡ o.guess
   Guesses _ d = Unit {0}
 
+  -- each guess of these statements, after these deeds, is the one that the surroundings give
   abbrev pub AllGuesses : List Stmt → Deeds → Type 0
   AllGuesses [] d = Unit {0}
   AllGuesses (x ∷ xs) d = (all_hold x.guards d.env ≡ true → Guesses x.op d) × AllGuesses xs (if all_hold x.guards d.env then Machine.deeds_after read x.op d else d)
@@ -200,6 +201,7 @@ module _ (o : Around) (read : ℕ → ℕ → ℕ) (block : Blocked → Bool) (f
     is = t.is ∙ (λ i. work_of (record e { guess = (sym t.is i).guess; child = (sym t.is i).child; fails = (sym t.is i).fails }) w.entries w.commits);
   }
 
+  -- deeds and the work that begins with them agree but for the guess
   pub loose_start : (d : Deeds) (es : List Entry) (cs : List Commit) → places es ≡ d.held → Loosely d (work_of d es cs)
   loose_start d es cs h = record { held = h; is = refl }
 
@@ -217,11 +219,13 @@ module _ (o : Around) (read : ℕ → ℕ → ℕ) (block : Blocked → Bool) (f
       at false false = record { held = h; is = refl }
   loose_op op d es cs g c f h k = loosen (Machine.deeds_after read op d) g c f _ (told_op op (record d { guess = g; child = c; fails = f }) es cs h k tt)
 
+  -- they agree so after one more statement that is carried out or passed over
   pub loose_step : (b : Bool) (op : Op) (d : Deeds) (w : Work) → Fits op → Loosely d w → Loosely (cond b (Machine.deeds_after read op d) d) (cond b (work_after o op w) w)
   loose_step true op d w k l =
       subst (λ v. Loosely (Machine.deeds_after read op d) (work_after o op v)) (sym l.is) (loose_op op d w.entries w.commits w.guess w.child w.fails l.held k)
   loose_step false op d w k l = l
 
+  -- they agree so after more statements, where the surroundings fit each of them
   pub loose_all : (xs : List Stmt) (d : Deeds) (w : Work) → AllFit xs → Loosely d w → Loosely (deeds_after_all read xs d) (do_all o xs w)
   loose_all [] d w k l = l
   loose_all (x ∷ xs) d w k l =

@@ -1,7 +1,8 @@
 -- What it means that both machines do the same.
 use Rattle.std.specs.Prelude.{◌≡◌, ℕ, zero, suc, Bool, true, false, ◌&&◌, List, [], ◌∷◌, if◌then◌else◌, ◌==◌, slice_index_or}
-use Rattle.pdl_semantics.specs.Flat.{Op, SpecCall, Pipe, of_mem}
+use Rattle.pdl_semantics.specs.Flat.{Pipe, of_mem}
 use Rattle.pdl_semantics.specs.Stages.{list_any, onpath, in_stage}
+use Rattle.pdl_semantics.specs.Sound.{is_spec_call}
 use Rattle.pdl_semantics.specs.Cycle.{for_mems, commits_shown}
 use Rattle.pdl_semantics.specs.Cycle
 use Rattle.pdl_semantics.specs.Machine.{State}
@@ -10,12 +11,8 @@ use Rattle.pdl_theory_derived.specs.Derived.{find_ask}
 use Rattle.pdl_theory_derived.specs.Derived
 
 -- whether a thread's stage makes a guess
-abbrev pub is_guess : Op → Bool
-is_guess (SpecCall args) = true
-is_guess _ = false
-
 abbrev pub makes_guess : Pipe → Act → Bool
-makes_guess p a = list_any (λ x. is_guess x.op) (onpath a.does.env (in_stage a.stage p.stmts))
+makes_guess p a = list_any (λ x. is_spec_call x.op) (onpath a.does.env (in_stage a.stage p.stmts))
 
 -- what the thread of this number guesses as it moves in a cycle, else `rest`
 abbrev pub guess_in : Pipe → List Act → ℕ → List ℕ → List ℕ

@@ -15,12 +15,15 @@ abbrev tail_of : List Branch → List Branch
 tail_of [] = []
 tail_of (y ∷ ys) = ys
 
+-- equal lists of branches begin with the same branch
 pub same_head : (x y : Branch) (xs ys : List Branch) → x ∷ xs ≡ y ∷ ys → x ≡ y
 same_head x y xs ys e = ap (head_of x) e
 
+-- and go on in the same way
 pub same_tail : (x y : Branch) (xs ys : List Branch) → x ∷ xs ≡ y ∷ ys → xs ≡ ys
 same_tail x y xs ys e = ap tail_of e
 
+-- a list with a branch is not empty
 pub not_empty : {R : Type 0} → (x : Branch) (xs : List Branch) → x ∷ xs ≡ [] → R
 not_empty x xs e = absurd (cc e)
 
@@ -28,9 +31,11 @@ not_empty x xs e = absurd (cc e)
 pub within_all : (p : Pipe) (s : ℕ) → Within p [] s
 within_all p s = ((stage_at p s).branches, sym (append-nil _))
 
+-- a stage stands within its own branches
 pub within_home : (p : Pipe) (c : List Branch) (s : ℕ) → Home p c s → Within p c s
 within_home p c s h = ([], h)
 
+-- what stands within some branches stands within those around them
 pub within_more : (p : Pipe) (x : Branch) (c : List Branch) (s : ℕ) → Within p (x ∷ c) s → Within p c s
 within_more p x c s h = (h.0 ++ x ∷ [], h.1 ∙ sym (append_assoc h.0 (x ∷ []) c))
 
@@ -46,6 +51,7 @@ trunk_within p x c s t h = at h.0 (sym t ∙ h.1)
 abbrev pub Came : Pipe → List Branch → ℕ → ℕ → Type 0
 Came p c s q = Within p c s ⊎ ((x : Branch) × (c ≡ x ∷ (stage_at p s).branches) × (x.fork ≡ s) × Home p c q)
 
+-- a way into some branches comes from within them, or from the fork of the innermost one
 pub came_way : (p : Pipe) (c : List Branch) (s q : ℕ) → Way p s q → Within p c q → Came p c s q
 came_way p c s q (inl e) h = inl (h.0, sym e ∙ h.1)
 came_way p c s q (inr (inl e)) h = at h.0 (sym e.1 ∙ h.1)
@@ -64,9 +70,11 @@ came_from_way p x c s q w h = at (came_way p (x ∷ c) s q w h)
     at (inr k) = inl (ap (λ (y : Branch). y.fork) (same_head x k.0 c _ k.1) ∙ k.2)
 
 module _ (p : Pipe) (br : Branches p) where
+  -- whoever stands within some branches after its next step was there before, or enters the innermost of them from its fork
   pub came : (c : List Branch) (s : ℕ) (env : List ℕ) → s < length p.stages → Within p c (next_of p s env) → Came p c s (next_of p s env)
   came c s env low h = came_way p c s (next_of p s env) (br.way s env low) h
 
+  -- of one branch: it was entered before, or is entered from its fork
   pub came_from : (x : Branch) (c : List Branch) (s : ℕ) (env : List ℕ) → s < length p.stages → Within p (x ∷ c) (next_of p s env) → (x.fork ≡ s) ⊎ Within p (x ∷ c) s
   came_from x c s env low h = came_from_way p x c s (next_of p s env) (br.way s env low) h
 
@@ -88,6 +96,7 @@ pub comes_same : (p : Pipe) (s : ℕ) (env env' : List ℕ) → ((x : Branch) (c
 comes_same p s env env' f [] h = refl
 comes_same p s env env' f (x ∷ c) h = ap₂ (λ a b. a && b) (f x c h) (comes_same p s env env' f c (within_more p x c s h))
 
+-- a path's values that lead to the same sides of the forks around a stage come to it alike
 pub visits_same : (p : Pipe) (s : ℕ) (env env' : List ℕ) → ((x : Branch) (c : List Branch) → Within p (x ∷ c) s → goes_by p x env ≡ goes_by p x env') → visits_stage p env s ≡ visits_stage p env' s
 visits_same p s env env' f = comes_same p s env env' f (stage_at p s).branches (within_home p _ s refl)
 
@@ -117,6 +126,7 @@ inside_at {R} p f s h go = at (stage_at p s).branches [] refl h
         by true i j next = go x c (inner, e) (eqb-true _ _ i)
         by false i j next = next j
 
+-- a stage is not inside a fork whose branches it does not stand within
 pub not_inside : (p : Pipe) (f s : ℕ) → ((x : Branch) (c : List Branch) → Within p (x ∷ c) s → x.fork ≡ f → ⊥) → is_inside p f s ≡ false
 not_inside p f s none = at (is_inside p f s) refl
   where
@@ -124,6 +134,7 @@ not_inside p f s none = at (is_inside p f s) refl
     at true e = absurd (inside_at p f s e none)
     at false e = e
 
+-- a stage within a branch of a fork is inside the fork
 pub inside_of : (p : Pipe) (f s : ℕ) (x : Branch) (c : List Branch) → Within p (x ∷ c) s → x.fork ≡ f → is_inside p f s ≡ true
 inside_of p f s x c h e = ap (λ l. list_any (λ (b : Branch). b.fork == f) l) h.1 ∙ at h.0
   where
@@ -144,9 +155,11 @@ sides_outside f (b ∷ bs) h = at (b.fork == f) h (sides_outside f bs)
     at true k next = absurd (cc k)
     at false k next = next k
 
+-- a branch of another fork says nothing of this one
 pub sides_other : (f : ℕ) (x : Branch) (c : List Branch) → (x.fork ≡ f → ⊥) → sides_of f (x ∷ c) ≡ sides_of f c
 sides_other f x c n = ap (λ t. (if t then x.first ∷ [] else []) ++ sides_of f c) (ne_eqb x.fork f n)
 
+-- of two lists of branches those of a fork are those of the one and then those of the other
 pub sides_append : (f : ℕ) (xs ys : List Branch) → sides_of f (xs ++ ys) ≡ sides_of f xs ++ sides_of f ys
 sides_append f [] ys = refl
 sides_append f (x ∷ xs) ys = ap (λ l. (if x.fork == f then x.first ∷ [] else []) ++ l) (sides_append f xs ys) ∙ sym (append_assoc (if x.fork == f then x.first ∷ [] else []) (sides_of f xs) (sides_of f ys))

@@ -88,16 +88,45 @@ abbrev pub makings_ok : Option ℕ → Making → List Stmt → Bool
 makings_ok v k [] = true
 makings_ok v k (x ∷ xs) = making_ok v k x.stage x.op && makings_ok v (next_making k x.op) xs
 
--- S3, S6: a verify or an update stands in another stage than the guess that it asks about
+-- S2, S3, S6: a verify or an update stands in another stage than the guess that it asks about
 
--- the stage of the last guess
+-- the stage of the last guess, after a statement of stage s
 abbrev pub guess_stage : Option ℕ → ℕ → Op → Option ℕ
 guess_stage g s (SpecCall args) = Some s
-guess_stage g s _ = g
+guess_stage g s (Bind x e) = g
+guess_stage g s (CombRead x m a) = g
+guess_stage g s (DelayedRead x m a) = g
+guess_stage g s (Write m a e) = g
+guess_stage g s (ReserveRead m a) = g
+guess_stage g s (ReserveWrite m a) = g
+guess_stage g s (Block m a) = g
+guess_stage g s (Release m a) = g
+guess_stage g s (Call args) = g
+guess_stage g s (Verify last args) = g
+guess_stage g s SpecCheck = g
+guess_stage g s SpecBarrier = g
+guess_stage g s (AdviceBind x e) = g
+guess_stage g s (AdviceRead x m a) = g
+guess_stage g s (AdviceWrite m a e) = g
 
+-- whether a statement of stage s, where it is a verify or an update, stands in another stage than the last guess
 abbrev pub check_apart : Option ℕ → ℕ → Op → Bool
 check_apart g s (Verify last args) = not (stands_at g s)
-check_apart g s _ = true
+check_apart g s (Bind x e) = true
+check_apart g s (CombRead x m a) = true
+check_apart g s (DelayedRead x m a) = true
+check_apart g s (Write m a e) = true
+check_apart g s (ReserveRead m a) = true
+check_apart g s (ReserveWrite m a) = true
+check_apart g s (Block m a) = true
+check_apart g s (Release m a) = true
+check_apart g s (Call args) = true
+check_apart g s (SpecCall args) = true
+check_apart g s SpecCheck = true
+check_apart g s SpecBarrier = true
+check_apart g s (AdviceBind x e) = true
+check_apart g s (AdviceRead x m a) = true
+check_apart g s (AdviceWrite m a e) = true
 
 -- each check among these statements does, where g is the stage of the last guess before them
 abbrev pub checks_apart : Option ℕ → List Stmt → Bool

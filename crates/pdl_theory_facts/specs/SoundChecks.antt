@@ -28,19 +28,22 @@ nexts p s = nexts_of (length p.stages) (stage_at p s).next
 abbrev pub same_branch : Branch → Branch → Bool
 same_branch b c = (b.fork == c.fork) && (if b.first then c.first else not c.first)
 
+-- whether two lists of branches are the same
 abbrev pub same_branches : List Branch → List Branch → Bool
 same_branches [] [] = true
 same_branches (b ∷ bs) (c ∷ cs) = same_branch b c && same_branches bs cs
 same_branches _ _ = false
 
--- whether a stage stands in just these branches, and whether it stands in these and perhaps further inside
+-- whether a stage stands in just these branches
 abbrev pub is_home : Pipe → List Branch → ℕ → Bool
 is_home p c s = same_branches (stage_at p s).branches c
 
+-- whether these branches are the ones that stand around some branches, or all of them
 abbrev pub has_outer : List Branch → List Branch → Bool
 has_outer [] c = same_branches [] c
 has_outer (b ∷ bs) c = same_branches (b ∷ bs) c || has_outer bs c
 
+-- whether a stage stands in these branches and perhaps further inside
 abbrev pub is_within : Pipe → List Branch → ℕ → Bool
 is_within p c s = has_outer (stage_at p s).branches c
 
@@ -72,24 +75,28 @@ abbrev pub is_in_merge : Pipe → Option ℕ → ℕ → Bool
 is_in_merge p None b = false
 is_in_merge p (Some f) b = is_inside p f b
 
--- a way stays in its branches, enters one more from its fork in its first stage, or leaves the innermost one into the merge
+-- a way stays in its branches, enters one more from its fork in its first stage, or leaves the innermost one into the merge: whether it stays
 abbrev pub stays : Pipe → ℕ → ℕ → Bool
 stays p s n = same_branches (stage_at p n).branches (stage_at p s).branches
 
+-- whether stage n is the first one of the innermost of its branches, and stage s is the fork of that
 abbrev pub is_entered : Pipe → ℕ → ℕ → List Branch → Bool
 is_entered p s n [] = false
 is_entered p s n (x ∷ c) =
     same_branches c (stage_at p s).branches
     && ((x.fork == s) && all_below (λ r. not (is_within p (x ∷ c) r) || nat_le n r) (length p.stages))
 
+-- whether a stage that merges this fork, or none, merges fork f
 abbrev pub merges_it : Option ℕ → ℕ → Bool
 merges_it None f = false
 merges_it (Some g) f = g == f
 
+-- whether stage n merges the fork of the innermost of these branches, and stands in those around it
 abbrev pub is_left : Pipe → ℕ → List Branch → Bool
 is_left p n [] = false
 is_left p n (x ∷ c) = same_branches c (stage_at p n).branches && merges_it (stage_at p n).merges x.fork
 
+-- whether a way from stage s to stage n is one of the three
 abbrev pub is_way : Pipe → ℕ → ℕ → Bool
 is_way p s n = stays p s n || (is_entered p s n (stage_at p n).branches || is_left p n (stage_at p s).branches)
 

@@ -23,6 +23,7 @@ is_same b = ap₂ (λ a b. a && b) (eq-eqb b.fork b.fork refl) (at b.first)
     at true = refl
     at false = refl
 
+-- lists of branches that pass the test of sameness are equal
 pub branches_are : (bs cs : List Branch) → same_branches bs cs ≡ true → bs ≡ cs
 branches_are [] [] h = refl
 branches_are [] (c ∷ cs) h = absurd (cc h)
@@ -33,12 +34,15 @@ same_self : (bs : List Branch) → same_branches bs bs ≡ true
 same_self [] = refl
 same_self (b ∷ bs) = ap₂ (λ a b. a && b) (is_same b) (same_self bs)
 
+-- equal lists of branches pass it
 pub are_branches : (bs cs : List Branch) → bs ≡ cs → same_branches bs cs ≡ true
 are_branches bs cs e = subst (λ l. same_branches bs l ≡ true) e (same_self bs)
 
+-- a stage that passes the test stands in just these branches
 pub home_is : (p : Pipe) (c : List Branch) (s : ℕ) → is_home p c s ≡ true → Home p c s
 home_is p c s h = branches_are (stage_at p s).branches c h
 
+-- a stage in just these branches passes it
 pub is_home_of : (p : Pipe) (c : List Branch) (s : ℕ) → Home p c s → is_home p c s ≡ true
 is_home_of p c s h = are_branches (stage_at p s).branches c h
 
@@ -53,9 +57,11 @@ is_outer [] [] = refl
 is_outer [] (x ∷ c) = ap (λ b. b || has_outer c (x ∷ c)) (same_self (x ∷ c))
 is_outer (y ∷ ys) c = or_more (same_branches (y ∷ (ys ++ c)) c) (is_outer ys c)
 
+-- a stage that passes the test stands within these branches
 pub within_is : (p : Pipe) (c : List Branch) (s : ℕ) → is_within p c s ≡ true → Within p c s
 within_is p c s h = outer_is (stage_at p s).branches c h
 
+-- a stage within these branches passes it
 pub is_within_of : (p : Pipe) (c : List Branch) (s : ℕ) → Within p c s → is_within p c s ≡ true
 is_within_of p c s h = ap (λ l. has_outer l c) h.1 ∙ is_outer h.0 c
 

@@ -29,12 +29,12 @@ use Rattle.pdl_theory_refinement.proofs.Spots.{Spot, seat, now_spot, now_seat, S
 clash : false ≡ true → ⊥
 clash k = cc
 
+-- no read is awaited where the test finds none
 pub none_left : (rs : List Awaited) → is_empty rs ≡ true → rs ≡ []
 none_left [] h = refl
 none_left (r ∷ rs) h = absurd (cc h)
 
 -- whether the first of these spots is past the last stage
-
 abbrev pub past_last : Pipe → List Spot → Bool
 past_last p [] = false
 past_last p (sp ∷ sps) = not (nat_lt sp.stage (length p.stages))
@@ -337,7 +337,6 @@ module _ (p : Pipe) (acc : Course p) (image : Arrays) (st : State) (bits : List 
           (moves_ready p st bits older (seat p world args sp) e)
 
       -- where it moves, the thread asks for m only in the stage of m's delayed reads
-
       pub asks_here : (m : ℕ) → is_some (find_ask (act p st bits older (seat p world args sp)).work.asks m) ≡ true → sp.stage ≡ acc.fetch m
       asks_here = acc.asks_at (around p st bits older sp.stage world.guess) (answered_thread p st bits (seat p world args sp))
 

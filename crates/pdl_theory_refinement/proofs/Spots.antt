@@ -109,7 +109,6 @@ pub record Here (p : Pipe) (acc : Course p) (asked : List (Option ℕ)) (past w 
   pub calm : Unsure p acc.v ahead → acc.stray (seat p world args sp)
 
 -- each spot is as `Here` says, and the commits with all undone writes are the writes of the turns
-
 abbrev pub Standing : (p : Pipe) → Course p → List (Option ℕ) → Writes → Writes → Marks → Arrays → List ℕ → List ℕ → List Spot → Type 0
 Standing p acc asked past w v arrays args ahead [] = (m : ℕ) → w m ≡ past m ++ strips m (v m)
 Standing p acc asked past w v arrays args ahead (sp ∷ sps) =

@@ -3,9 +3,8 @@ use Rattle.std.proofs.Common.{◌≡◌, refl, sym, ap, ap₂, ◌∙◌, subst,
 use Rattle.std.proofs.lemmas.Bool.{eqb-true, eqb-false, ne_eqb}
 use Rattle.pdl_semantics.specs.Flat.{list_all, Pipe, Branch, Op, DelayedRead, Stmt, all_hold}
 use Rattle.pdl_semantics.specs.Stages.{onpath, in_stage, stage_at, goes_to, is_inside, commit_stage, verify_stage, is_check}
-use Rattle.pdl_semantics.specs.Sound.{stages_before, stages_from, is_fetch, is_call, is_delayed_read}
+use Rattle.pdl_semantics.specs.Sound.{stages_before, stages_from, is_fetch, is_call, is_delayed_read, is_spec_call}
 use Rattle.pdl_theory_derived.specs.Alone.{before, answered_op}
-use Rattle.pdl_theory_derived.specs.Simulation.{is_guess}
 use Rattle.pdl_theory_facts.specs.Scans.{Phase, Fresh, next_phase, phase_all, is_over, none_of, binds_var, is_dead}
 use Rattle.pdl_theory_facts.specs.GuessScans.{Unmade, makings_ok, checks_apart}
 use Rattle.pdl_theory_facts.specs.Graphs.{Home, Within, Trunk, Below, Way, stage_or, next_of}
@@ -375,9 +374,9 @@ module _ (p : Pipe) (acc : Sound p) where
       (λ s. both_of (λ y f e. λ m i. subst (λ r. (acc.fetch m ≡ r) × (m < length p.mems)) (sym e) (f m i))
       (in_stage s p.stmts) (fetch_ok_at s (in_stage s p.stmts) (acc.fetch_ok s)) (in_same s p.stmts))
 
-  apart_guess : (path : List ℕ) (s : ℕ) → (none_of is_guess (onpath path (in_stage s p.stmts)) ≡ true) ⊎ (none_of is_check (onpath path (in_stage s p.stmts)) ≡ true)
+  apart_guess : (path : List ℕ) (s : ℕ) → (none_of is_spec_call (onpath path (in_stage s p.stmts)) ≡ true) ⊎ (none_of is_check (onpath path (in_stage s p.stmts)) ≡ true)
   apart_guess path s =
-      subst (λ l. (none_of is_guess l ≡ true) ⊎ (none_of is_check l ≡ true)) (stage_path path s p.stmts)
+      subst (λ l. (none_of is_spec_call l ≡ true) ⊎ (none_of is_check l ≡ true)) (stage_path path s p.stmts)
       (apart_of (verify_stage (at_once p).stmts) s Unmade None (onpath path p.stmts) (subst (λ l. makings_ok (verify_stage (at_once p).stmts) Unmade l ≡ true) (path_looked path p.stmts) (acc.pathwise.makings path))
       (subst (λ l. checks_apart None l ≡ true) (path_looked path p.stmts) (acc.pathwise.apart path)))
 

@@ -289,6 +289,7 @@ module _ (p : Pipe) (flows : Flows p) (st : State) (d : Derived.State) (bits : L
       same_filled m (with_reserves m (movers (acts_of p flows st d bits arrays (sorted ls))) (lock_of st m)) ls s
       ∙ ap (with_all_writes m (movers (lacts p st d bits ls))) (same_appended m (lock_of st m) ls s)
 
+  -- how many writes of a memory are released hangs on no order of the acts
   pub same_releases : (m : ℕ) (ls : List Live) → Swaps ls
       → all_releases m (movers (acts_of p flows st d bits arrays (sorted ls))) ≡ all_releases m (movers (lacts p st d bits ls))
   same_releases m = same_movers ℕ (all_releases m) (λ a z. z + releases_of m a.does.releases) (λ a rest. refl)

@@ -34,6 +34,7 @@ module _ (p : Pipe) where
       at false = h
   advises_op read _ d f h = h
 
+  -- statements that take their memories by kind write advisory memories alone, without a lock
   pub advises_all : (read : ℕ → ℕ → ℕ) (xs : List Stmt) (d : Deeds) → list_all (λ x. fits_kind p x.op) xs ≡ true → AllAdvisory p d.advises → AllAdvisory p (deeds_after_all read xs d).advises
   advises_all read [] d f h = h
   advises_all read (x ∷ xs) d f h =
@@ -43,6 +44,7 @@ module _ (p : Pipe) where
       at true = advises_op read x.op d (and_left _ _ f) h
       at false = h
 
+  -- the statements of a stage take their memories by kind where all do
   pub fits_stage : (s : ℕ) (xs : List Stmt) → list_all (λ x. fits_kind p x.op) xs ≡ true → list_all (λ x. fits_kind p x.op) (in_stage s xs) ≡ true
   fits_stage s [] h = refl
   fits_stage s (x ∷ xs) h = at (x.stage == s) (fits_stage s xs (and_right (fits_kind p x.op) _ h))
@@ -71,5 +73,6 @@ module _ (p : Pipe) where
   all_apart n [] arrays f h = refl
   all_apart n (a ∷ ms) arrays f h = advised_apart n a.does.advises (with_all_advised ms arrays) f h.0 ∙ all_apart n ms arrays f h.1
 
+  -- advisory writes leave the other memories as they are
   pub advice_apart : (n : ℕ) (these : List Act) (arrays : Arrays) → is_advisory (mem_at p n).kind ≡ false → EachAdvisory p these → with_all_advised (movers these) arrays n ≡ arrays n
   advice_apart n these arrays f h = all_apart n (movers these) arrays f (each_mover these h)

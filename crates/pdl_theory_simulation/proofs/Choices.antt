@@ -10,7 +10,6 @@ use Rattle.pdl_semantics.specs.Locks
 use Rattle.pdl_semantics.specs.Machine
 use Rattle.pdl_semantics.specs.Moves
 use Rattle.pdl_semantics.specs.Promises.{DifferInAdvice, fits_kind}
-use Rattle.pdl_theory_derived.specs.Simulation.{is_guess}
 use Rattle.pdl_theory_turns.proofs.Paths.{Fixed}
 use Rattle.pdl_theory_simulation.proofs.Guessing.{unguessed, foreseen, no_failure}
 use Rattle.pdl_theory_derived.specs.Derived.{Work, latest, pending, befores, around, awaits_mem, port_free, still, asked_at, word_of}
@@ -27,7 +26,7 @@ use Rattle.pdl_theory_simulation.proofs.StretchSteps.{AsksFrom, asks_from, Reser
 use Rattle.pdl_theory_simulation.proofs.Seats.{Live, seat, Falls, dacts, lacts, lact, did, now_of, work_of_live, deeds_of}
 use Rattle.pdl_theory_turns.proofs.OfStage.{none_stage}
 use Rattle.pdl_theory_turns.proofs.Turn.{none_in_stage}
-use Rattle.pdl_semantics.specs.Sound.{is_delayed_read}
+use Rattle.pdl_semantics.specs.Sound.{is_delayed_read, is_spec_call}
 use Rattle.pdl_word.specs.Each.{Each}
 use Rattle.pdl_semantics.proofs.Facts.{kept_append}
 
@@ -127,6 +126,7 @@ module _ (p : Pipe) (flows : Flows p) (st : State) (d : Derived.State) (bits : L
           at false e = ap not e
       off _ i = refl
 
+  -- a memory that is read delayed is not advisory
   pub plain_fetch : (s m : ℕ) → Fetched p s m → is_advisory (mem_at p m).kind ≡ false
   plain_fetch s m f = at (is_advisory (mem_at p m).kind) refl
     where
@@ -375,16 +375,19 @@ module _ (p : Pipe) (flows : Flows p) (st : State) (d : Derived.State) (bits : L
     fails = false;
   }
 
+  -- a thread's deeds begin with its values in the derived machine
   pub deeds_are : (ls : List Live) (l : Live) (k : Known ls l)
       → deeds_of p st bits l
       ≡ deeds_after_all (word_for st l.number) (in_stage l.thread.stage p.stmts) (start_deeds p flows l.env (now_of p d bits l) (keeps_now l k.seated) l.advice)
   deeds_are ls l k = λ i. deeds_after_all (word_for st l.number) (in_stage l.thread.stage p.stmts) (begun l (k.values i))
 
+  -- deeds and work of a thread's stage agree but for the guess
   abbrev pub Like_deeds : List Live → Live → Deeds → Work → Type 0
   Like_deeds ls l e w =
       Loosely (around p d bits (dacts p d bits ls) l.thread.stage l.thread.hint) (word_for st l.number) (λ b. block_ready p st l.number b)
       (λ q. port_free p d bits (dacts p d bits ls) q.mem) e w
 
+  -- they do where the stage begins
   pub starts_here : (ls : List Live) (l : Live) (k : Known ls l) → Like_deeds ls l (begun l (now_of p d bits l).env) (start_of (now_of p d bits l))
   starts_here ls l k = loose_start (around p d bits (dacts p d bits ls) l.thread.stage l.thread.hint) (word_for st l.number) (λ b. block_ready p st l.number b)
       (λ q. port_free p d bits (dacts p d bits ls) q.mem) (begun l (now_of p d bits l).env) l.thread.entries [] k.seated.keeps_on.held
@@ -412,25 +415,26 @@ module _ (p : Pipe) (flows : Flows p) (st : State) (d : Derived.State) (bits : L
       (in_stage l.thread.stage p.stmts)
       (begun l (now_of p d bits l).env) l.thread.entries [] k.seated.keeps_on.held (fit_all ls l k) foresees)
 
+  -- a thread's stage keeps to the path of its values
   pub fixed_way : (ls : List Live) (l : Live) (k : Known ls l) → Fixed (work_of_live p d bits ls l).env (around p d bits (dacts p d bits ls) l.thread.stage l.thread.hint) (in_stage l.thread.stage p.stmts) (start_of (now_of p d bits l))
   fixed_way ls l k = fixed_here p flows l.env (now_of p d bits l) (keeps_now l k.seated) (around p d bits (dacts p d bits ls) l.thread.stage l.thread.hint)
 
   -- where it makes no guess
-  pub none_foreseen : (ls : List Live) (l : Live) (k : Known ls l) → none_of is_guess (onpath (work_of_live p d bits ls l).env (in_stage l.thread.stage p.stmts)) ≡ true → Foresees ls l
+  pub none_foreseen : (ls : List Live) (l : Live) (k : Known ls l) → none_of is_spec_call (onpath (work_of_live p d bits ls l).env (in_stage l.thread.stage p.stmts)) ≡ true → Foresees ls l
   none_foreseen ls l k h =
       unguessed (around p d bits (dacts p d bits ls) l.thread.stage l.thread.hint) (word_for st l.number) (λ b. block_ready p st l.number b)
       (λ q. port_free p d bits (dacts p d bits ls) q.mem) (work_of_live p d bits ls l).env (in_stage l.thread.stage p.stmts) (begun l (now_of p d bits l).env) (start_of (now_of p d bits l))
       (starts_here ls l k) (fit_all ls l k) (fixed_way ls l k) h
 
   -- where it makes one, which is its hint
-  pub guess_foreseen : (ls : List Live) (l : Live) (k : Known ls l) → none_of is_guess (onpath (work_of_live p d bits ls l).env (in_stage l.thread.stage p.stmts)) ≡ false → (deeds_of p st bits l).guess ≡ l.thread.hint → Foresees ls l
+  pub guess_foreseen : (ls : List Live) (l : Live) (k : Known ls l) → none_of is_spec_call (onpath (work_of_live p d bits ls l).env (in_stage l.thread.stage p.stmts)) ≡ false → (deeds_of p st bits l).guess ≡ l.thread.hint → Foresees ls l
   guess_foreseen ls l k i h =
       foreseen (around p d bits (dacts p d bits ls) l.thread.stage l.thread.hint) (word_for st l.number) (λ b. block_ready p st l.number b)
       (λ q. port_free p d bits (dacts p d bits ls) q.mem) (work_of_live p d bits ls l).env (in_stage l.thread.stage p.stmts) (has_made p l.env l.thread.stage) (begun l (now_of p d bits l).env) (start_of (now_of p d bits l))
       (starts_here ls l k) (fit_all ls l k) (fixed_way ls l k) (calls_here p flows l.env (now_of p d bits l) (keeps_now l k.seated) (around p d bits (dacts p d bits ls) l.thread.stage l.thread.hint))
       (unchecked (flows.guess_apart (work_of_live p d bits ls l).env l.thread.stage)) (ap (λ (e : Deeds). e.guess) (sym (deeds_are ls l k)) ∙ h)
     where
-      unchecked : (none_of is_guess (onpath (work_of_live p d bits ls l).env (in_stage l.thread.stage p.stmts)) ≡ true) ⊎ (none_of is_check (onpath (work_of_live p d bits ls l).env (in_stage l.thread.stage p.stmts)) ≡ true)
+      unchecked : (none_of is_spec_call (onpath (work_of_live p d bits ls l).env (in_stage l.thread.stage p.stmts)) ≡ true) ⊎ (none_of is_check (onpath (work_of_live p d bits ls l).env (in_stage l.thread.stage p.stmts)) ≡ true)
           → none_of is_check (onpath (work_of_live p d bits ls l).env (in_stage l.thread.stage p.stmts)) ≡ true
       unchecked (inl j) = absurd (clash (sym i ∙ j))
         where
@@ -442,6 +446,7 @@ module _ (p : Pipe) (flows : Flows p) (st : State) (d : Derived.State) (bits : L
   abbrev pub MovesForeseen : List Live → Live → Type 0
   MovesForeseen ls l = (did p d bits ls l).moves ≡ true → Foresees ls l
 
+  -- each thread that moves guesses what it was given
   abbrev pub AllForeseen : List Live → Type 0
   AllForeseen [] = Unit {0}
   AllForeseen (l ∷ ls) = MovesForeseen ls l × AllForeseen ls
@@ -450,7 +455,7 @@ module _ (p : Pipe) (flows : Flows p) (st : State) (d : Derived.State) (bits : L
   pub fails_here : (ls : List Live) (l : Live) → Known ls l → (deeds_of p st bits l).fails ≡ (work_of_live p d bits ls l).fails
   fails_here ls l k = at (flows.guess_apart (work_of_live p d bits ls l).env l.thread.stage)
     where
-      at : (none_of is_guess (onpath (work_of_live p d bits ls l).env (in_stage l.thread.stage p.stmts)) ≡ true) ⊎ (none_of is_check (onpath (work_of_live p d bits ls l).env (in_stage l.thread.stage p.stmts)) ≡ true)
+      at : (none_of is_spec_call (onpath (work_of_live p d bits ls l).env (in_stage l.thread.stage p.stmts)) ≡ true) ⊎ (none_of is_check (onpath (work_of_live p d bits ls l).env (in_stage l.thread.stage p.stmts)) ≡ true)
           → (deeds_of p st bits l).fails ≡ (work_of_live p d bits ls l).fails
       at (inl h) = ap (λ (w : Work). w.fails) (sym (told_here ls l k (none_foreseen ls l k h)).is)
       at (inr h) =

@@ -5,10 +5,9 @@ use Rattle.pdl_semantics.specs.Stages.{onpath, in_stage, stage_at, is_inside, go
 use Rattle.pdl_semantics.specs.Cycle.{merges_by}
 use Rattle.pdl_semantics.specs.Stages.{is_check}
 use Rattle.pdl_semantics.specs.Promises.{KeepsAdvice}
-use Rattle.pdl_semantics.specs.Sound.{stages_before, stages_from, is_fetch, is_call, is_delayed_read}
+use Rattle.pdl_semantics.specs.Sound.{stages_before, stages_from, is_fetch, is_call, is_delayed_read, is_spec_call}
 pub use Rattle.pdl_theory_facts.specs.Graphs.{Home, Within, Trunk, Below, Way, stage_or, next_of, on_side, goes_by}
 use Rattle.pdl_theory_derived.specs.Alone.{is_among}
-use Rattle.pdl_theory_derived.specs.Simulation.{is_guess}
 use Rattle.pdl_theory_facts.specs.Scans.{Phase, Fresh, next_phase, may_write, is_new, is_over, phase_all, all_at, none_of, binds_var, is_fixed}
 pub use Rattle.pdl_theory_facts.specs.Facts.{trunk_only, binds_guard, is_fetch_of, comes_by, visits_stage}
 
@@ -146,7 +145,7 @@ pub record Flows (p : Pipe) : Type 0 where
   -- F4, F5: a statement takes a memory by its kind
   pub advice : KeepsAdvice p
   -- S2, S3: a stage of a path that makes a guess verifies none
-  pub guess_apart : (path : List ℕ) (s : ℕ) → (none_of is_guess (onpath path (in_stage s p.stmts)) ≡ true) ⊎ (none_of is_check (onpath path (in_stage s p.stmts)) ≡ true)
+  pub guess_apart : (path : List ℕ) (s : ℕ) → (none_of is_spec_call (onpath path (in_stage s p.stmts)) ≡ true) ⊎ (none_of is_check (onpath path (in_stage s p.stmts)) ≡ true)
   -- F3: no second delayed read statement of one memory, and none in the last stage
   pub one_fetch : (m : ℕ) → at_most_one (is_delayed_read m) p.stmts ≡ true
   pub fetch_inside : (s : ℕ) → suc s ≡ length p.stages → none_of is_fetch (in_stage s p.stmts) ≡ true
@@ -201,7 +200,7 @@ pub record FlowRules (p : Pipe) : Type 0 where
   -- F4, F5: a statement takes a memory by its kind
   pub advice : KeepsAdvice p
   -- S2, S3: a stage of a path that makes a guess verifies none
-  pub guess_apart : (path : List ℕ) (s : ℕ) → (none_of is_guess (onpath path (in_stage s p.stmts)) ≡ true) ⊎ (none_of is_check (onpath path (in_stage s p.stmts)) ≡ true)
+  pub guess_apart : (path : List ℕ) (s : ℕ) → (none_of is_spec_call (onpath path (in_stage s p.stmts)) ≡ true) ⊎ (none_of is_check (onpath path (in_stage s p.stmts)) ≡ true)
   -- F3
   pub one_fetch : (m : ℕ) → at_most_one (is_delayed_read m) p.stmts ≡ true
   pub fetch_inside : (s : ℕ) → suc s ≡ length p.stages → none_of is_fetch (in_stage s p.stmts) ≡ true

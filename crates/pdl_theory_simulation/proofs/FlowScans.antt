@@ -4,13 +4,12 @@ use Rattle.std.proofs.lemmas.Bool.{eqb-true}
 use Rattle.pdl_semantics.specs.Flat.{Op, Write, ReserveWrite, Release, SpecCall, Verify, Call, Stmt}
 use Rattle.pdl_semantics.specs.Stages.{in_stage, is_check}
 use Rattle.pdl_theory_derived.specs.Alone.{answered_op}
-use Rattle.pdl_theory_derived.specs.Simulation.{is_guess}
 use Rattle.pdl_theory_facts.specs.Scans.{Phase, phase_ok, phases_ok, next_phase, none_of}
 use Rattle.pdl_theory_facts.specs.Facts.{looked_all}
 use Rattle.pdl_theory_facts.specs.GuessScans.{Making, Unmade, Guessed, Made, next_making, is_unmade, is_guessed, making_ok, makings_ok, guess_stage, check_apart, checks_apart}
 use Rattle.pdl_theory_simulation.proofs.FlowFacts.{use_ok, uses_ok, call_ok, calls_ok}
 use Rattle.pdl_theory_derived.proofs.Writes.{and_left, and_right}
-use Rattle.pdl_semantics.specs.Sound.{is_call}
+use Rattle.pdl_semantics.specs.Sound.{is_call, is_spec_call}
 
 -- the use of a lock
 use_of : (m : ℕ) (ph : Phase) (op : Op) → phase_ok m ph op ≡ true → use_ok m ph op ≡ true
@@ -57,25 +56,25 @@ clash : false ≡ true → ⊥
 clash i = cc
 
 -- after a guess or a call no path makes a guess
-still : (v : Option ℕ) (s : ℕ) (k : Making) (op : Op) → is_unmade k ≡ false → making_ok v k s (answered_op op) ≡ true → (is_unmade (next_making k (answered_op op)) ≡ false) × (is_guess op ≡ false)
+still : (v : Option ℕ) (s : ℕ) (k : Making) (op : Op) → is_unmade k ≡ false → making_ok v k s (answered_op op) ≡ true → (is_unmade (next_making k (answered_op op)) ≡ false) × (is_spec_call op ≡ false)
 still v s k (Call args) u i = (refl, refl)
 still v s k (SpecCall args) u i = absurd (clash (sym u ∙ and_left _ _ i))
 still v s k (Verify true args) u i = (refl, refl)
 still v s k (Verify false args) u i = (refl, refl)
 still v s k _ u i = (u, refl)
 
-unguessed : (v : Option ℕ) (s : ℕ) (k : Making) (xs : List Stmt) → is_unmade k ≡ false → makings_ok v k (looked_all xs) ≡ true → none_of is_guess (in_stage s xs) ≡ true
+unguessed : (v : Option ℕ) (s : ℕ) (k : Making) (xs : List Stmt) → is_unmade k ≡ false → makings_ok v k (looked_all xs) ≡ true → none_of is_spec_call (in_stage s xs) ≡ true
 unguessed v s k [] u h = refl
 unguessed v s k (x ∷ xs) u h =
     let here = still v x.stage k x.op u (and_left _ _ h) in
     at (x.stage == s) here.1 (unguessed v s (next_making k (answered_op x.op)) xs here.0 (and_right (making_ok v k x.stage (answered_op x.op)) _ h))
   where
-    at : (b : Bool) → is_guess x.op ≡ false → none_of is_guess (in_stage s xs) ≡ true → none_of is_guess (cond b (x ∷ in_stage s xs) (in_stage s xs)) ≡ true
+    at : (b : Bool) → is_spec_call x.op ≡ false → none_of is_spec_call (in_stage s xs) ≡ true → none_of is_spec_call (cond b (x ∷ in_stage s xs) (in_stage s xs)) ≡ true
     at true e r = ap₂ (λ a b. not a && b) e r
     at false e r = r
 
 -- nor does it ask in the stage of its guess
-same_stage : (g : Option ℕ) (s : ℕ) (op : Op) → is_guess op ≡ false → guess_stage g s (answered_op op) ≡ g
+same_stage : (g : Option ℕ) (s : ℕ) (op : Op) → is_spec_call op ≡ false → guess_stage g s (answered_op op) ≡ g
 same_stage g s (SpecCall args) h = absurd (cc h)
 same_stage g s _ h = refl
 
@@ -97,7 +96,7 @@ unchecked v s k (x ∷ xs) u h c =
 
 -- a stage that makes a guess checks none
 pub apart_of : (v : Option ℕ) (s : ℕ) (k : Making) (g : Option ℕ) (xs : List Stmt) → makings_ok v k (looked_all xs) ≡ true → checks_apart g (looked_all xs) ≡ true
-    → (none_of is_guess (in_stage s xs) ≡ true) ⊎ (none_of is_check (in_stage s xs) ≡ true)
+    → (none_of is_spec_call (in_stage s xs) ≡ true) ⊎ (none_of is_check (in_stage s xs) ≡ true)
 apart_of v s k g [] h c = inl refl
 apart_of v s k g (x ∷ xs) h c =
     by (is_unmade k) refl
@@ -105,7 +104,7 @@ apart_of v s k g (x ∷ xs) h c =
     (and_right (check_apart g x.stage (answered_op x.op)) _ c))
   where
     Apart : List Stmt → Type 0
-    Apart ys = (none_of is_guess ys ≡ true) ⊎ (none_of is_check ys ≡ true)
+    Apart ys = (none_of is_spec_call ys ≡ true) ⊎ (none_of is_check ys ≡ true)
 
     rest : makings_ok v (next_making k (answered_op x.op)) (looked_all xs) ≡ true
     rest = and_right (making_ok v k x.stage (answered_op x.op)) _ h
@@ -113,13 +112,13 @@ apart_of v s k g (x ∷ xs) h c =
     more : checks_apart (guess_stage g x.stage (answered_op x.op)) (looked_all xs) ≡ true
     more = and_right (check_apart g x.stage (answered_op x.op)) _ c
 
-    add : (b : Bool) → is_guess x.op ≡ false → is_check x.op ≡ false → Apart (in_stage s xs) → Apart (cond b (x ∷ in_stage s xs) (in_stage s xs))
+    add : (b : Bool) → is_spec_call x.op ≡ false → is_check x.op ≡ false → Apart (in_stage s xs) → Apart (cond b (x ∷ in_stage s xs) (in_stage s xs))
     add true e f (inl r) = inl (ap₂ (λ a b. not a && b) e r)
     add true e f (inr r) = inr (ap₂ (λ a b. not a && b) f r)
     add false e f r = r
 
     -- a statement that is neither
-    quiet : (op : Op) → is_unmade k ≡ true → making_ok v k x.stage (answered_op op) ≡ true → is_guess op ≡ false → is_check op ≡ false
+    quiet : (op : Op) → is_unmade k ≡ true → making_ok v k x.stage (answered_op op) ≡ true → is_spec_call op ≡ false → is_check op ≡ false
     quiet (Verify true args) u i e = absurd (two k u (and_left _ _ i))
       where
         two : (j : Making) → is_unmade j ≡ true → is_guessed j ≡ true → ⊥
@@ -135,21 +134,21 @@ apart_of v s k g (x ∷ xs) h c =
     quiet _ u i e = refl
 
     -- a guess
-    made : (op : Op) → is_guess op ≡ true → (is_unmade (next_making k (answered_op op)) ≡ false) × (guess_stage g x.stage (answered_op op) ≡ Some x.stage) × (is_check op ≡ false)
+    made : (op : Op) → is_spec_call op ≡ true → (is_unmade (next_making k (answered_op op)) ≡ false) × (guess_stage g x.stage (answered_op op) ≡ Some x.stage) × (is_check op ≡ false)
     made (SpecCall args) e = (refl, refl, refl)
     made _ e = absurd (cc e)
 
-    guessed : (b : Bool) → (x.stage == s) ≡ b → is_guess x.op ≡ true → Apart (cond b (x ∷ in_stage s xs) (in_stage s xs))
+    guessed : (b : Bool) → (x.stage == s) ≡ b → is_spec_call x.op ≡ true → Apart (cond b (x ∷ in_stage s xs) (in_stage s xs))
     guessed true i e =
         let m = made x.op e in
         inr (ap₂ (λ a b. not a && b) m.2
         (unchecked v s (next_making k (answered_op x.op)) xs m.0 rest (subst (λ n. checks_apart (Some n) (looked_all xs) ≡ true) (eqb-true x.stage s i) (subst (λ o. checks_apart o (looked_all xs) ≡ true) m.1 more))))
     guessed false i e = inl (unguessed v s (next_making k (answered_op x.op)) xs (made x.op e).0 rest)
 
-    first : (b : Bool) → is_guess x.op ≡ b → is_unmade k ≡ true → Apart (in_stage s xs) → Apart (cond (x.stage == s) (x ∷ in_stage s xs) (in_stage s xs))
+    first : (b : Bool) → is_spec_call x.op ≡ b → is_unmade k ≡ true → Apart (in_stage s xs) → Apart (cond (x.stage == s) (x ∷ in_stage s xs) (in_stage s xs))
     first true e u r = guessed (x.stage == s) refl e
     first false e u r = add (x.stage == s) e (quiet x.op u (and_left _ _ h) e) r
 
     by : (b : Bool) → is_unmade k ≡ b → Apart (in_stage s xs) → Apart (in_stage s (x ∷ xs))
-    by true u r = first (is_guess x.op) refl u r
+    by true u r = first (is_spec_call x.op) refl u r
     by false u r = inl (unguessed v s k (x ∷ xs) u h)

@@ -4,12 +4,12 @@ use Rattle.std.proofs.lemmas.Bool.{eqb-true, ne_eqb}
 use Rattle.pdl_semantics.specs.Flat.{Arrays, Pipe, Op, Call, SpecCall, Stmt}
 use Rattle.pdl_semantics.specs.Stages.{list_any, onpath, in_stage, stage_at, goes_to}
 use Rattle.pdl_semantics.specs.Machine.{State}
-use Rattle.pdl_semantics.specs.Sound.{is_call}
+use Rattle.pdl_semantics.specs.Sound.{is_call, is_spec_call}
 use Rattle.pdl_semantics.specs.Cycle
 use Rattle.pdl_semantics.specs.Moves
 use Rattle.pdl_theory_derived.specs.Derived.{Work, around}
 use Rattle.pdl_theory_derived.specs.Derived
-use Rattle.pdl_theory_derived.specs.Simulation.{SameTurns, is_guess, makes_guess, guess_in, guess_of, made_hints, hints_of}
+use Rattle.pdl_theory_derived.specs.Simulation.{SameTurns, makes_guess, guess_in, guess_of, made_hints, hints_of}
 use Rattle.pdl_theory_derived.proofs.Writes.{and_left, and_right}
 use Rattle.pdl_theory_facts.specs.Scans.{none_of, called}
 use Rattle.pdl_theory_simulation.proofs.FlowFacts.{Flows, calls_ok, stage_or, next_of}
@@ -40,9 +40,9 @@ pub record Foretells (p : Pipe) (st : State) (d : Derived.State) (schedule : Lis
 
 -- GUESSES ON A PATH
 
-none_any : (xs : List Stmt) → none_of is_guess xs ≡ not (list_any (λ x. is_guess x.op) xs)
+none_any : (xs : List Stmt) → none_of is_spec_call xs ≡ not (list_any (λ x. is_spec_call x.op) xs)
 none_any [] = refl
-none_any (x ∷ xs) = ap (λ b. not (is_guess x.op) && b) (none_any xs) ∙ both (is_guess x.op) (list_any (λ x. is_guess x.op) xs)
+none_any (x ∷ xs) = ap (λ b. not (is_spec_call x.op) && b) (none_any xs) ∙ both (is_spec_call x.op) (list_any (λ x. is_spec_call x.op) xs)
   where
     both : (a b : Bool) → (not a && not b) ≡ not (a || b)
     both true b = refl
@@ -57,7 +57,7 @@ stays_called : (xs : List Stmt) → called true xs ≡ true
 stays_called [] = refl
 stays_called (x ∷ xs) = stays_called xs
 
-uncalled : (c : Bool) (xs : List Stmt) → called c xs ≡ false → (c ≡ false) × (none_of is_guess xs ≡ true)
+uncalled : (c : Bool) (xs : List Stmt) → called c xs ≡ false → (c ≡ false) × (none_of is_spec_call xs ≡ true)
 uncalled c [] h = (h, refl)
 uncalled c (x ∷ xs) h =
     let r = uncalled (c || is_call x.op) xs h in
@@ -71,7 +71,7 @@ uncalled c (x ∷ xs) h =
     second true b i = absurd (cc i)
     second false b i = i
 
-    off : (op : Op) → is_call op ≡ false → not (is_guess op) ≡ true
+    off : (op : Op) → is_call op ≡ false → not (is_spec_call op) ≡ true
     off (SpecCall args) i = absurd (cc i)
     off _ i = refl
 
@@ -116,10 +116,10 @@ module _ (p : Pipe) (flows : Flows p) where
         ap₂ (λ b z. if b && ((did p d bits ks l).moves && makes_guess p (lact p st d bits ks l)) then (deeds_of p st bits l).guess else z) (eq-eqb l.number l.number refl) (others l.number rest ks f)
 
     -- whether its stage makes a guess
-    guesses_is : (l : Live) (ks : List Live) → Known p flows st d bits sim.arrays ks l → makes_guess p (lact p st d bits ks l) ≡ list_any (λ x. is_guess x.op) (onpath (work_of_live p d bits ks l).env (in_stage l.thread.stage p.stmts))
-    guesses_is l ks k = ap (λ (w : Work). list_any (λ x. is_guess x.op) (onpath w.env (in_stage l.thread.stage p.stmts))) (sym (like_here p flows st d bits sim.arrays ks l k).is)
+    guesses_is : (l : Live) (ks : List Live) → Known p flows st d bits sim.arrays ks l → makes_guess p (lact p st d bits ks l) ≡ list_any (λ x. is_spec_call x.op) (onpath (work_of_live p d bits ks l).env (in_stage l.thread.stage p.stmts))
+    guesses_is l ks k = ap (λ (w : Work). list_any (λ x. is_spec_call x.op) (onpath w.env (in_stage l.thread.stage p.stmts))) (sym (like_here p flows st d bits sim.arrays ks l k).is)
 
-    no_guess_after : (l : Live) (ks : List Live) → Known p flows st d bits sim.arrays ks l → has_made p l.env l.thread.stage ≡ true → none_of is_guess (onpath (work_of_live p d bits ks l).env (in_stage l.thread.stage p.stmts)) ≡ true
+    no_guess_after : (l : Live) (ks : List Live) → Known p flows st d bits sim.arrays ks l → has_made p l.env l.thread.stage ≡ true → none_of is_spec_call (onpath (work_of_live p d bits ks l).env (in_stage l.thread.stage p.stmts)) ≡ true
     no_guess_after l ks k h =
         no_second (onpath (work_of_live p d bits ks l).env (in_stage l.thread.stage p.stmts)) (subst (λ b. calls_ok b (onpath (work_of_live p d bits ks l).env (in_stage l.thread.stage p.stmts)) ≡ true) h
         (calls_here p flows l.env (now_of p d bits l) (keeps_now p flows st d bits sim.arrays l k.seated) (around p d bits (dacts p d bits ks) l.thread.stage l.thread.hint)))
@@ -131,9 +131,9 @@ module _ (p : Pipe) (flows : Flows p) where
 
     all_foreseen : (schedule : List (List Bool)) (xs : List Live) → AllKnown p flows st d bits sim.arrays xs → HaveMade p xs → Falls st.next xs → xs ≡ ls → Hinted p st (bits ∷ schedule) xs → AllForeseen p flows st d bits sim.arrays xs
     all_foreseen schedule [] k m f is h = tt
-    all_foreseen schedule (l ∷ ks) k m f is h = ((λ e. at (none_of is_guess (onpath (work_of_live p d bits ks l).env (in_stage l.thread.stage p.stmts))) refl (has_made p l.env l.thread.stage) refl e), older_foreseen ks k.1 m)
+    all_foreseen schedule (l ∷ ks) k m f is h = ((λ e. at (none_of is_spec_call (onpath (work_of_live p d bits ks l).env (in_stage l.thread.stage p.stmts))) refl (has_made p l.env l.thread.stage) refl e), older_foreseen ks k.1 m)
       where
-        at : (b : Bool) → none_of is_guess (onpath (work_of_live p d bits ks l).env (in_stage l.thread.stage p.stmts)) ≡ b → (c : Bool) → has_made p l.env l.thread.stage ≡ c → (did p d bits ks l).moves ≡ true → Foresees p flows st d bits sim.arrays ks l
+        at : (b : Bool) → none_of is_spec_call (onpath (work_of_live p d bits ks l).env (in_stage l.thread.stage p.stmts)) ≡ b → (c : Bool) → has_made p l.env l.thread.stage ≡ c → (did p d bits ks l).moves ≡ true → Foresees p flows st d bits sim.arrays ks l
         at true i c j e = none_foreseen p flows st d bits sim.arrays ks l k.0 i
         at false i true j e = none_foreseen p flows st d bits sim.arrays ks l k.0 (no_guess_after l ks k.0 j)
         at false i false j e =
@@ -144,6 +144,7 @@ module _ (p : Pipe) (flows : Flows p) where
             ∙ ap₂ (λ a b. if a && b then (deeds_of p st bits l).guess else guess_of p (Cycle.cycle p st bits) schedule l.number) e
             (guesses_is l ks k.0 ∙ not_not _ (sym (none_any (onpath (work_of_live p d bits ks l).env (in_stage l.thread.stage p.stmts))) ∙ i))))
 
+    -- where what is guessed in the rest of a run was given, each thread that moves guesses what it was given
     pub foreseen_here : (schedule : List (List Bool)) → Foretells p st d (bits ∷ schedule) ls → AllForeseen p flows st d bits sim.arrays ls
     foreseen_here schedule f = all_foreseen schedule ls (known p flows st d bits ls sim) sim.have_made sim.falls refl f.hinted
 
@@ -186,6 +187,7 @@ module _ (p : Pipe) (flows : Flows p) where
         at false true e = out e (goes_to (stage_at p l.thread.stage).next (work_of_live p d bits ks l).env) refl
         at false false e = λ j. later schedule l ks is f.1 h j (ap (λ b. b && makes_guess p (lact p st d bits ks l)) e)
 
+    -- what is guessed in the rest of the run was given after a cycle too
     pub foretells_next : (schedule : List (List Bool)) → Foretells p st d (bits ∷ schedule) ls → Foretells p (Cycle.cycle p st bits) (Derived.cycle p d bits) schedule (lives_next p flows st d bits sim.arrays ls)
     foretells_next schedule f = record { hints = λ n. f.hints (suc n); hinted = at (made p flows st d bits sim.arrays ls) }
       where
@@ -195,6 +197,7 @@ module _ (p : Pipe) (flows : Flows p) where
 
   -- RUNS
 
+  -- the first thread is given what it will guess
   pub first_foretells : (image : Arrays) (schedule : List (List Bool))
       → Foretells p (Cycle.first p image) (Derived.first p image (hints_of p (Cycle.first p image) schedule)) schedule (first_live p flows (hints_of p (Cycle.first p image) schedule 0) ∷ [])
   first_foretells image schedule = record { hints = λ n. refl; hinted = λ j. refl }

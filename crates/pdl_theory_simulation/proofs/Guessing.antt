@@ -4,9 +4,8 @@ use Rattle.pdl_semantics.specs.Flat.{Op, Call, SpecCall, Verify, Stmt, values_of
 use Rattle.pdl_semantics.specs.Stages.{onpath, is_check}
 use Rattle.pdl_semantics.specs.Machine.{Ask, same_args, all_values, Blocked, Deeds, deeds_after_all}
 use Rattle.pdl_semantics.specs.Machine
-use Rattle.pdl_semantics.specs.Sound.{is_call}
+use Rattle.pdl_semantics.specs.Sound.{is_call, is_spec_call}
 use Rattle.pdl_theory_derived.specs.Derived.{Work, Around, work_after, do_all}
-use Rattle.pdl_theory_derived.specs.Simulation.{is_guess}
 use Rattle.pdl_theory_derived.proofs.Deeds.{AllFit, Guesses, AllGuesses, Loosely, loose_step}
 use Rattle.pdl_theory_derived.proofs.Writes.{and_left, and_right}
 use Rattle.pdl_theory_facts.specs.Scans.{none_of}
@@ -14,11 +13,11 @@ use Rattle.pdl_theory_turns.proofs.Paths.{Fixed}
 use Rattle.pdl_theory_simulation.proofs.FlowFacts.{call_ok, calls_ok}
 
 -- after a call no path makes a guess
-pub no_second : (xs : List Stmt) → calls_ok true xs ≡ true → none_of is_guess xs ≡ true
+pub no_second : (xs : List Stmt) → calls_ok true xs ≡ true → none_of is_spec_call xs ≡ true
 no_second [] h = refl
 no_second (x ∷ xs) h = ap₂ (λ a b. a && b) (off x.op (and_left _ _ h)) (no_second xs (and_right (call_ok true x.op) _ h))
   where
-    off : (op : Op) → call_ok true op ≡ true → not (is_guess op) ≡ true
+    off : (op : Op) → call_ok true op ≡ true → not (is_spec_call op) ≡ true
     off (SpecCall args) i = absurd (cc i)
     off _ i = refl
 
@@ -27,43 +26,43 @@ module _ (o : Around) (read : ℕ → ℕ → ℕ) (block : Blocked → Bool) (f
   abbrev then_done : Bool → Op → Deeds → Deeds
   then_done b op d = cond b (Machine.deeds_after read op d) d
 
-  same_guess : (op : Op) (d : Deeds) → not (is_guess op) ≡ true → not (is_check op) ≡ true → (Machine.deeds_after read op d).guess ≡ d.guess
+  same_guess : (op : Op) (d : Deeds) → not (is_spec_call op) ≡ true → not (is_check op) ≡ true → (Machine.deeds_after read op d).guess ≡ d.guess
   same_guess (SpecCall args) d h c = absurd (cc h)
   same_guess (Verify last args) d h c = absurd (cc c)
   same_guess _ d h c = refl
 
   -- a path without guess and without check leaves what was guessed before
   pub kept_guess : (path : List ℕ) (xs : List Stmt) (d : Deeds) (w : Work) → Loosely o read block free d w → AllFit o read block free xs → Fixed path o xs w
-      → none_of is_guess (onpath path xs) ≡ true → none_of is_check (onpath path xs) ≡ true → (deeds_after_all read xs d).guess ≡ d.guess
+      → none_of is_spec_call (onpath path xs) ≡ true → none_of is_check (onpath path xs) ≡ true → (deeds_after_all read xs d).guess ≡ d.guess
   kept_guess path [] d w l f q h c = refl
   kept_guess path (x ∷ xs) d w l f q h c =
       subst (λ b. (deeds_after_all read xs (then_done b x.op d)).guess ≡ d.guess) (ap (λ (v : Work). all_hold x.guards v.env) l.is)
       (at (all_hold x.guards w.env) (all_hold x.guards path) q.0 h c q.1 (λ d' w' l' q' h' c'. kept_guess path xs d' w' l' f.1 q' h' c'))
     where
-      at : (b c : Bool) → b ≡ c → none_of is_guess (cond c (record x { guards = [] } ∷ onpath path xs) (onpath path xs)) ≡ true → none_of is_check (cond c (record x { guards = [] } ∷ onpath path xs) (onpath path xs)) ≡ true → Fixed path o xs (cond b (work_after o x.op w) w)
-          → ((d' : Deeds) (w' : Work) → Loosely o read block free d' w' → Fixed path o xs w' → none_of is_guess (onpath path xs) ≡ true → none_of is_check (onpath path xs) ≡ true → (deeds_after_all read xs d').guess ≡ d'.guess)
+      at : (b c : Bool) → b ≡ c → none_of is_spec_call (cond c (record x { guards = [] } ∷ onpath path xs) (onpath path xs)) ≡ true → none_of is_check (cond c (record x { guards = [] } ∷ onpath path xs) (onpath path xs)) ≡ true → Fixed path o xs (cond b (work_after o x.op w) w)
+          → ((d' : Deeds) (w' : Work) → Loosely o read block free d' w' → Fixed path o xs w' → none_of is_spec_call (onpath path xs) ≡ true → none_of is_check (onpath path xs) ≡ true → (deeds_after_all read xs d').guess ≡ d'.guess)
           → (deeds_after_all read xs (then_done b x.op d)).guess ≡ d.guess
-      at true true e h c q go = go (Machine.deeds_after read x.op d) (work_after o x.op w) (loose_step o read block free true x.op d w f.0 l) q (and_right (not (is_guess x.op)) _ h) (and_right (not (is_check x.op)) _ c) ∙ same_guess x.op d (and_left _ _ h) (and_left _ _ c)
+      at true true e h c q go = go (Machine.deeds_after read x.op d) (work_after o x.op w) (loose_step o read block free true x.op d w f.0 l) q (and_right (not (is_spec_call x.op)) _ h) (and_right (not (is_check x.op)) _ c) ∙ same_guess x.op d (and_left _ _ h) (and_left _ _ c)
       at true false e h c q go = absurd (cc e)
       at false true e h c q go = absurd (cc e)
       at false false e h c q go = go d w l q h c
 
   -- where the path makes no guess there is none to foresee
   pub unguessed : (path : List ℕ) (xs : List Stmt) (d : Deeds) (w : Work) → Loosely o read block free d w → AllFit o read block free xs → Fixed path o xs w
-      → none_of is_guess (onpath path xs) ≡ true → AllGuesses o read block free xs d
+      → none_of is_spec_call (onpath path xs) ≡ true → AllGuesses o read block free xs d
   unguessed path [] d w l f q h = tt
   unguessed path (x ∷ xs) d w l f q h =
       subst (λ b. (b ≡ true → Guesses o read block free x.op d) × AllGuesses o read block free xs (then_done b x.op d)) (ap (λ (v : Work). all_hold x.guards v.env) l.is)
       (at (all_hold x.guards w.env) (all_hold x.guards path) q.0 h q.1 (λ d' w' l' q' h'. unguessed path xs d' w' l' f.1 q' h'))
     where
-      off : (op : Op) → not (is_guess op) ≡ true → Guesses o read block free op d
+      off : (op : Op) → not (is_spec_call op) ≡ true → Guesses o read block free op d
       off (SpecCall args) i = absurd (cc i)
       off _ i = tt
 
-      at : (b c : Bool) → b ≡ c → none_of is_guess (cond c (record x { guards = [] } ∷ onpath path xs) (onpath path xs)) ≡ true → Fixed path o xs (cond b (work_after o x.op w) w)
-          → ((d' : Deeds) (w' : Work) → Loosely o read block free d' w' → Fixed path o xs w' → none_of is_guess (onpath path xs) ≡ true → AllGuesses o read block free xs d')
+      at : (b c : Bool) → b ≡ c → none_of is_spec_call (cond c (record x { guards = [] } ∷ onpath path xs) (onpath path xs)) ≡ true → Fixed path o xs (cond b (work_after o x.op w) w)
+          → ((d' : Deeds) (w' : Work) → Loosely o read block free d' w' → Fixed path o xs w' → none_of is_spec_call (onpath path xs) ≡ true → AllGuesses o read block free xs d')
           → (b ≡ true → Guesses o read block free x.op d) × AllGuesses o read block free xs (then_done b x.op d)
-      at true true e h q go = ((λ _. off x.op (and_left _ _ h)), go (Machine.deeds_after read x.op d) (work_after o x.op w) (loose_step o read block free true x.op d w f.0 l) q (and_right (not (is_guess x.op)) _ h))
+      at true true e h q go = ((λ _. off x.op (and_left _ _ h)), go (Machine.deeds_after read x.op d) (work_after o x.op w) (loose_step o read block free true x.op d w f.0 l) q (and_right (not (is_spec_call x.op)) _ h))
       at true false e h q go = absurd (cc e)
       at false true e h q go = absurd (cc e)
       at false false e h q go = ((λ i. absurd (cc i)), go d w l q h)
@@ -102,6 +101,7 @@ module _ (o : Around) (read : ℕ → ℕ → ℕ) (block : Blocked → Bool) (f
   same_fails (Verify last args) d w h = absurd (cc h)
   same_fails _ d w h = (refl, refl)
 
+  -- a path without check fails none in either machine
   pub no_failure : (path : List ℕ) (xs : List Stmt) (d : Deeds) (w : Work) → Loosely o read block free d w → AllFit o read block free xs → Fixed path o xs w
       → none_of is_check (onpath path xs) ≡ true → ((deeds_after_all read xs d).fails ≡ d.fails) × ((do_all o xs w).fails ≡ w.fails)
   no_failure path [] d w l f q h = (refl, refl)

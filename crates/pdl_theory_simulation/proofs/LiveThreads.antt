@@ -320,6 +320,7 @@ module _ (p : Pipe) (flows : Flows p) (st : State) (d : Derived.State) (bits : L
       at true = ap (λ f. if f then Some l.thread.stage else squash_stage (movers (lacts p st d bits ls))) (fails_here p flows st d bits arrays ls l h)
       at false = refl
 
+  -- where no thread moves with a failing check there is no squash, so it has no stage
   pub no_squash_stage : (ls : List Live) → AllKnown p flows st d bits arrays ls → fell p d bits ls ≡ false → squash_stage (movers (lacts p st d bits ls)) ≡ None
   no_squash_stage [] k h = refl
   no_squash_stage (l ∷ ls) k h = squash_stage_is ls l k.0 ∙ at ((did p d bits ls l).moves && (work_of_live p d bits ls l).fails) h (no_squash_stage ls k.1)

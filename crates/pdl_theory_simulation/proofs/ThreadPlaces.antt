@@ -321,6 +321,7 @@ module _ (p : Pipe) (flows : Flows p) where
         → has_made p (work_of_live p d bits ls l).env q ≡ true
     has_next ls l k q i h = subst (λ n. has_made p (work_of_live p d bits ls l).env n ≡ true) (ap (stage_or (length p.stages)) i) h
 
+    -- a thread that has made its successor has made it ever after
     pub made_on : (ls : List Live) → AllKnown p flows st d bits arrays ls → Made p flows st d bits arrays ls → Made p flows st d bits arrays (go_on p st d bits ls)
     made_on [] k m = tt
     made_on (l ∷ ls) k m =

@@ -71,9 +71,11 @@ module _ (p : Pipe) (flows : Flows p) where
     abbrev pub next_state : State
     next_state = record (Cycle.after_these p st bits (lacts p st d bits ls) (movers (lacts p st d bits ls)) (squasher (movers (lacts p st d bits ls)))) { arrays = (Cycle.cycle p st bits).arrays }
 
+    -- two live threads that stand in another order by age than by stage can be exchanged
     pub swaps : Swaps p flows st d bits sim.arrays ls
     swaps = swaps_all p flows st d bits sim.arrays st.next ls known sim.ordered sim.falls
 
+    -- the state after a cycle is that after the same acts by age
     pub after_is : Cycle.cycle p st bits ≡ next_state
     after_is = (λ i. record (Cycle.after_acts p st bits (acts_are i)) { arrays = (Cycle.cycle p st bits).arrays }) ∙ same_after p flows st d bits sim.arrays (Cycle.cycle p st bits).arrays ls swaps
 

@@ -109,6 +109,7 @@ first_kept (SpecCall args) y ys h = (and_left _ _ h, and_right (not (binds_used 
 first_kept _ y ys h = (refl, refl)
 
 module _ (o : Around) (read : ℕ → ℕ → ℕ) (block : Blocked → Bool) (free : Ask → Bool) where
+  -- what a guess gave is still what its arguments say after more statements
   pub guesses_all : (path : List ℕ) (xs : List Stmt) (past : List Op) (d : Deeds) (w : Work) → Loosely o read block free d w → AllFit o read block free xs → Fixed path o xs w → AllGuesses o read block free xs d
       → Free past (onpath path xs) → all_keep_guess (onpath path xs) ≡ true → AllOps (GuessDone d.advice d.env o.guess) past
       → AllOps (GuessDone (deeds_after_all read xs d).advice (deeds_after_all read xs d).env o.guess) (onto (onpath path xs) past)
@@ -154,6 +155,7 @@ keep_front (x ∷ xs) ys h = ap₂ (λ a b. a && b) (first x.op (and_left _ _ h)
     first (SpecCall args) k = all_front (λ z. not (binds_used args z.op)) xs ys k
     first _ k = refl
 
+-- what keeps the guesses of a list keeps those of its second part, and of what came before
 pub keep_back : (xs ys : List Stmt) (past : List Op) → all_keep_guess (xs ++ ys) ≡ true → AllOps (λ o. keeps_guess o ys ≡ true) past → AllOps (λ o. keeps_guess o ys ≡ true) (onto xs past) × (all_keep_guess ys ≡ true)
 keep_back [] ys past h r = (r, h)
 keep_back (x ∷ xs) ys past h r = keep_back xs ys (x.op ∷ past) (and_right (keeps_guess x.op (xs ++ ys)) _ h) (last x.op (and_left _ _ h), r)

@@ -75,6 +75,7 @@ standing env past (e ∷ es) h g = (here h.0, standing env past es h.2 (λ m k. 
     here (inl k) = absurd (cc (sym (ap (λ b. cond b (e ∷ entries_of e.mem es) (entries_of e.mem es)) (eq-eqb e.mem e.mem refl)) ∙ g e.mem k))
     here (inr k) = k
 
+-- whether one of these statements releases the location
 abbrev pub is_released : ℕ → ℕ → List Op → Bool
 is_released m a [] = false
 is_released m a (op ∷ ops) = is_release_at m a op || is_released m a ops

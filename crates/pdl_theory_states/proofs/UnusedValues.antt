@@ -86,6 +86,7 @@ value_agree (Choose c a b) env env' f =
     let n = value_agree b env env' (λ g h. f g (or_right (uses_in g c) _ (or_right (uses_in g a) _ h))) in
     λ i. Words.mux (k i) (m i) (n i)
 
+-- arguments have one value where the values of their variables agree
 pub values_agree : (es : List Expr) (env env' : List ℕ)
     → ((g : ℕ) → uses_any g es ≡ true → slice_index env g ≡ slice_index env' g) → values_of es env ≡ values_of es env'
 values_agree [] env env' f = refl

@@ -68,6 +68,7 @@ abbrev pub is_used_by : List Expr → Option ℕ → Bool
 is_used_by args None = false
 is_used_by args (Some x) = uses_any x args
 
+-- whether a statement binds a variable that these arguments use
 abbrev pub binds_used : List Expr → Op → Bool
 binds_used args op = is_used_by args (bound_of op)
 
@@ -76,6 +77,7 @@ abbrev pub keeps_guess : Op → List Stmt → Bool
 keeps_guess (SpecCall args) ys = list_all (λ z. not (binds_used args z.op)) ys
 keeps_guess _ ys = true
 
+-- after each guess of these statements none of its variables is bound
 abbrev pub all_keep_guess : List Stmt → Bool
 all_keep_guess [] = true
 all_keep_guess (y ∷ ys) = keeps_guess y.op ys && all_keep_guess ys

@@ -1,13 +1,11 @@
 -- How the threads use the locks, in each state of a run of any pipe: with guesses and squashes, forks, and delayed memories.
-use Rattle.std.specs.Prelude.{◌≡◌, ℕ, zero, suc, ◌+◌, ◌≤◌, Bool, false, List, [], ◌∷◌, Some, length, if◌then◌else◌, ◌==◌}
+use Rattle.std.specs.Prelude.{◌≡◌, ℕ, suc, ◌+◌, ◌≤◌, Bool, false, List, [], ◌∷◌, Some, length, if◌then◌else◌, ◌==◌}
 use Rattle.pdl_semantics.specs.Flat.{Pipe}
 use Rattle.pdl_semantics.specs.Stages.{reserve_stage, commit_stage, verify_stage}
 use Rattle.pdl_semantics.specs.Machine.{State, Pending, reserves_of, lock_of}
 use Rattle.pdl_semantics.specs.Moves.{Act, all_acts, movers}
 use Rattle.pdl_semantics.specs.Cycle.{with_reserves, all_releases, list_two, list_three}
-use Rattle.pdl_semantics.specs.PendingLists.{AreOrdered, count_older}
-
--- PENDING WRITES
+use Rattle.pdl_semantics.specs.PendingLists.{AreOrdered, count_older, AreWritten}
 
 -- THREADS
 
@@ -52,15 +50,9 @@ pub record Reserves (p : Pipe) (st : State) (bits : List Bool) (m : ℕ) : Type 
 abbrev pub KeepsPlace : Pipe → State → List Bool → ℕ → Act → Type 0
 KeepsPlace p st bits m a = reserve_stage p m ≤ a.stage → count_older a.thread.number (with_new p st bits m) ≡ count_older a.thread.number (lock_of st m)
 
--- each of the oldest k pending writes has its value, which may come in this cycle
-abbrev pub Released : ℕ → List Pending → Type 0
-Released zero es = Unit {0}
-Released (suc k) [] = ⊥
-Released (suc k) (e ∷ es) = (v : ℕ) × (e.value ≡ Some v) × Released k es
-
 -- where writes of memory m are released in a cycle, as many of the oldest pending ones have their values
 abbrev pub ReleasesWritten : Pipe → State → List Bool → ℕ → Type 0
-ReleasesWritten p st bits m = Released (all_releases m (moving p st bits)) (with_values p st bits m)
+ReleasesWritten p st bits m = AreWritten (all_releases m (moving p st bits)) (with_values p st bits m)
 
 -- up to the stage of the releases, until the thread itself moves out of it, its place shifts by the writes that are released
 abbrev pub ShiftsPlace : Pipe → State → List Bool → ℕ → Act → Type 0

@@ -15,26 +15,31 @@ use Rattle.pdl_theory_derived.proofs.Stages.{step, joined, step_joined}
 use Rattle.pdl_theory_turns.proofs.SequentialThread.{Related, related_step, next_phases}
 use Rattle.pdl_theory_turns.proofs.Surroundings.{AllIn, taken_none}
 
+-- arguments that pass the test of sameness are equal
 pub same_args_eq : (x y : List ℕ) → same_args x y ≡ true → x ≡ y
 same_args_eq [] [] h = refl
 same_args_eq [] (y ∷ ys) h = absurd (cc h)
 same_args_eq (x ∷ xs) [] h = absurd (cc h)
 same_args_eq (x ∷ xs) (y ∷ ys) h = ap₂ (λ a l. a ∷ l) (eqb-true x y (and_left _ _ h)) (same_args_eq xs ys (and_right _ _ h))
 
+-- arguments are the same as themselves
 pub same_args_refl : (x : List ℕ) → same_args x x ≡ true
 same_args_refl [] = refl
 same_args_refl (x ∷ xs) = ap₂ (λ a b. a && b) (eq-eqb x x refl) (same_args_refl xs)
 
 -- THE SCAN OF TWO LISTS
 
+-- how far a thread is after two lists of statements
 pub making_append : (k : Making) (xs ys : List Stmt) → making_all k (xs ++ ys) ≡ making_all (making_all k xs) ys
 making_append k [] ys = refl
 making_append k (x ∷ xs) ys = making_append (next_making k x.op) xs ys
 
+-- of two lists that make the next thread in order the first does
 pub makings_first : (v : Option ℕ) (k : Making) (xs ys : List Stmt) → makings_ok v k (xs ++ ys) ≡ true → makings_ok v k xs ≡ true
 makings_first v k [] ys h = refl
 makings_first v k (x ∷ xs) ys h = ap₂ (λ a b. a && b) (and_left (making_ok v k x.stage x.op) _ h) (makings_first v (next_making k x.op) xs ys (and_right (making_ok v k x.stage x.op) _ h))
 
+-- and so does the second, from where the first one leads
 pub makings_second : (v : Option ℕ) (k : Making) (xs ys : List Stmt) → makings_ok v k (xs ++ ys) ≡ true → makings_ok v (making_all k xs) ys ≡ true
 makings_second v k [] ys h = h
 makings_second v k (x ∷ xs) ys h = makings_second v (next_making k x.op) xs ys (and_right (making_ok v k x.stage x.op) _ h)
@@ -63,6 +68,7 @@ unguessed_op k s (Verify true args) h e = refl
 unguessed_op k s (Verify false args) h e = absurd (cc (and_right (is_guessed k) _ h))
 unguessed_op k s _ h e = e
 
+-- in a pipe without V no guess is made
 pub no_guess : (k : Making) (xs : List Stmt) → makings_ok None k xs ≡ true → is_guessed k ≡ false → is_guessed (making_all k xs) ≡ false
 no_guess k [] h e = e
 no_guess k (x ∷ xs) h e = no_guess (next_making k x.op) xs (and_right (making_ok None k x.stage x.op) _ h) (unguessed_op k x.stage x.op (and_left _ _ h) e)
@@ -75,6 +81,7 @@ made_next v s (Verify true args) h = absurd (cc h)
 made_next v s (Verify false args) h = absurd (cc h)
 made_next v s _ h = (refl, refl)
 
+-- once the next thread is made for certain no statement checks a guess
 pub unverified_made : (v : Option ℕ) (xs : List Stmt) → makings_ok v Made xs ≡ true → none_of is_check xs ≡ true
 unverified_made v [] h = refl
 unverified_made v (x ∷ xs) h =
@@ -83,6 +90,7 @@ unverified_made v (x ∷ xs) h =
 
 -- WORK THAT MAKES NOTHING
 
+-- the same child, failure and guess
 abbrev pub Kept : Work → Work → Type 0
 Kept v w = (v.child ≡ w.child) × (v.fails ≡ w.fails) × (v.guess ≡ w.guess)
 
@@ -102,6 +110,7 @@ kept_step : (b : Bool) (v w : Work) → Kept v w → Kept (cond b v w) w
 kept_step true v w h = h
 kept_step false v w h = (refl, refl, refl)
 
+-- once something is made, statements without a check keep child, failure and guess
 pub settled : (o : Around) (v : Option ℕ) (k : Making) (xs : List Stmt) (w : Work) → is_unmade k ≡ false → makings_ok v k xs ≡ true → none_of is_check xs ≡ true → Kept (do_all o xs w) w × (making_all k xs ≡ k)
 settled o v k [] w u h n = ((refl, refl, refl), refl)
 settled o v k (x ∷ xs) w u h n =
@@ -119,6 +128,7 @@ run_op_settled v k s (Call args) r u h n = absurd (clash (sym u ∙ h))
 run_op_settled v k s (Verify last args) r u h n = absurd (cc n)
 run_op_settled v k s _ r u h n = refl
 
+-- and in sequence they keep the next arguments
 pub run_settled : (v : Option ℕ) (k : Making) (xs : List Stmt) (r : Run) → is_unmade k ≡ false → makings_ok v k xs ≡ true → none_of is_check xs ≡ true → (run_all xs r).next ≡ r.next
 run_settled v k [] r u h n = refl
 run_settled v k (x ∷ xs) r u h n =
@@ -135,6 +145,7 @@ pub fails_op : (o : Around) (op : Op) (w : Work) → not (is_check op) ≡ true 
 fails_op o (Verify last args) w n = absurd (cc n)
 fails_op o _ w n = refl
 
+-- statements without a check fail none
 pub unfailed : (o : Around) (xs : List Stmt) (w : Work) → none_of is_check xs ≡ true → (do_all o xs w).fails ≡ w.fails
 unfailed o [] w n = refl
 unfailed o (x ∷ xs) w n = unfailed o xs (step o x w) (and_right (not (is_check x.op)) _ n) ∙ at (all_hold x.guards w.env)
@@ -148,6 +159,7 @@ abbrev pub unguarded : List Stmt → Bool
 unguarded [] = true
 unguarded (x ∷ xs) = no_guards x.guards && unguarded xs
 
+-- a statement without guards is carried out
 pub step_free : (o : Around) (x : Stmt) (w : Work) → no_guards x.guards ≡ true → step o x w ≡ work_after o x.op w
 step_free o x w h = ap (λ b. cond b (work_after o x.op w) w) (taken_none x.guards w.env h)
 
@@ -171,6 +183,7 @@ begins_op o v k s (Verify false args) w h e = by k e (and_left _ _ h) (same_args
     by Made e g b = absurd (cc g)
 begins_op o v k s _ w h e = e
 
+-- after statements that make the next thread in order a thread has made one just where they say so
 pub begins : (o : Around) (v : Option ℕ) (k : Making) (xs : List Stmt) (w : Work) → is_unmade k ≡ not (is_some w.child) → makings_ok v k xs ≡ true → unguarded xs ≡ true → is_unmade (making_all k xs) ≡ not (is_some (do_all o xs w).child)
 begins o v k [] w e h g = e
 begins o v k (x ∷ xs) w e h g =
@@ -211,6 +224,7 @@ calls_op o v k s (Verify false args) w r h e c = by k c (and_left _ _ h)
     by Made c i = absurd (cc i)
 calls_op o v k s _ w r h e c = c
 
+-- alone, what a thread has made is what the sequential thread passes on, as far as it has come
 pub calls_all : (world : World) (v : Option ℕ) (xs : List Stmt) (ph : ℕ → Phase) (k : Making) (w : Work) (r : Run) → ((m : ℕ) → phases_ok m (ph m) xs ≡ true) → makings_ok v k xs ≡ true → Related world ph w r → Calls k w.child w.guess r.next
     → Calls (making_all k xs) (do_all (alone world) xs w).child (do_all (alone world) xs w).guess (run_all xs r).next
 calls_all world v [] ph k w r ok h rel c = c
@@ -226,6 +240,7 @@ calls_all world v (x ∷ xs) ph k w r ok h rel c =
 
 -- WHAT A THREAD DOES THAT HAS MADE ANOTHER: nothing, or it replaces it
 
+-- either nothing is made, or a new thread in place of the one that was made
 abbrev pub Changed : Work → Type 0
 Changed w = ((w.child ≡ None) × (w.fails ≡ false)) ⊎ ((y : List ℕ) × (w.child ≡ Some y) × (w.fails ≡ true))
 
@@ -250,6 +265,7 @@ changed_op o v k s (Verify false args) w u h c = (at (same_args (values_of args 
     at false = inr (values_of args w.env, refl, refl)
 changed_op o v k s _ w u h c = (c, u)
 
+-- once something is made, statements make nothing, or a new thread in its place
 pub changed_all : (o : Around) (v : Option ℕ) (k : Making) (xs : List Stmt) (w : Work) → is_unmade k ≡ false → makings_ok v k xs ≡ true → Changed w → Changed (do_all o xs w) × (is_unmade (making_all k xs) ≡ false)
 changed_all o v k [] w u h c = (c, u)
 changed_all o v k (x ∷ xs) w u h c =

@@ -1,13 +1,14 @@
 -- A thread's stage reserves no more of a memory for writing than its lock has room for.
-use Rattle.std.proofs.Common.{◌≡◌, refl, sym, ap, ap₂, ◌∙◌, subst, ℕ, suc, ◌+◌, ◌≤◌, Bool, true, false, ◌&&◌, List, [], ◌∷◌, ◌++◌, ◌==◌, cond, Some, arith, leb-true, le-leb, append-nil}
+use Rattle.std.proofs.Common.{◌≡◌, refl, sym, ap, ap₂, ◌∙◌, subst, ℕ, suc, ◌+◌, ◌≤◌, Bool, true, false, ◌&&◌, List, [], ◌∷◌, ◌++◌, ◌==◌, cond, Some, arith, append-nil}
 use Rattle.std.proofs.lemmas.Bool.{and_from}
-use Rattle.pdl_semantics.specs.Flat.{list_all, Op, DelayedRead, ReserveWrite, Verify, Stmt, Pipe, Lock, Plain, Queue, Bypass, Rename, all_hold, values_of}
+use Rattle.pdl_semantics.specs.Flat.{list_all, Op, DelayedRead, ReserveWrite, Verify, Stmt, Pipe, all_hold, values_of}
 use Rattle.pdl_semantics.specs.Stages.{onpath, in_stage, mem_at}
 use Rattle.pdl_semantics.specs.Locks.{has_room}
 use Rattle.pdl_semantics.specs.Machine.{Reserved, reserves_of, same_args}
 use Rattle.pdl_semantics.specs.Sound.{is_write_reserve}
 use Rattle.pdl_theory_derived.specs.Derived.{Work, Around, Thread, work_after, do_all, work_of_stage, have_room}
 use Rattle.pdl_theory_derived.specs.Alone.{answered_op}
+use Rattle.pdl_semantics.proofs.Readiness.{room_fewer}
 use Rattle.pdl_theory_derived.proofs.Stages.{step}
 use Rattle.pdl_theory_facts.specs.Scans.{is_fixed, write_reserves}
 use Rattle.pdl_theory_facts.specs.Facts.{Sound, looked_all}
@@ -16,13 +17,6 @@ use Rattle.pdl_theory_turns.proofs.OwnEntries.{fixed_to}
 use Rattle.pdl_theory_turns.proofs.OfStage.{fixed_stage}
 use Rattle.pdl_theory_turns.proofs.Looks.{path_looked}
 use Rattle.pdl_theory_turns.proofs.StrayPaths.{fixed_looked}
-
--- room for more is room for fewer
-room_fewer : (k : Lock) (i j : ℕ) → j ≤ i → has_room k i 0 ≡ true → has_room k j 0 ≡ true
-room_fewer Plain i j low h = refl
-room_fewer (Queue n) i j low h = le-leb (j + 0) n (let e : i + 0 ≤ n = leb-true (i + 0) n h in omega arith)
-room_fewer (Bypass n) i j low h = le-leb (j + 0) n (let e : i + 0 ≤ n = leb-true (i + 0) n h in omega arith)
-room_fewer (Rename n) i j low h = le-leb (j + 0) n (let e : i + 0 ≤ n = leb-true (i + 0) n h in omega arith)
 
 one_more : (m : ℕ) (rs : List Reserved) (r : Reserved) → reserves_of m (rs ++ r ∷ []) ≡ reserves_of m rs + cond (r.mem == m) 1 0
 one_more m [] r = none (r.mem == m)
@@ -97,7 +91,7 @@ module _ (p : Pipe) (acc : Sound p) where
   -- each stage's reservations have room in an empty lock
   pub rooms : (o : Around) (t : Thread) (m : ℕ) → has_room (mem_at p m).lock (reserves_of m (work_of_stage p o t).reserves) 0 ≡ true
   rooms o t m =
-      room_fewer (mem_at p m).lock (write_reserves m (onpath path (looked_all p.stmts))) _ fewer ((acc.pathwise.paths path).locks m)
+      room_fewer (mem_at p m).lock (write_reserves m (onpath path (looked_all p.stmts))) _ 0 fewer ((acc.pathwise.paths path).locks m)
     where
       path : List ℕ
       path = (work_of_stage p o t).env
