@@ -23,7 +23,8 @@ pub known_here : (p : Pipe) → Sound p → Strict p → Careful p → IsSingle 
     → IsKnown p (state_after p (first p image) before) bits
 known_here p sound strict careful single reads image before bits = record {
   by = stages_here p sound strict image before bits;
-  used = served_here p sound strict single image before bits (in_use_here p sound strict image before bits careful);
+  used =
+      served_here p sound strict single image before bits (stages_here p sound strict image before bits) (in_use_here p sound strict image before bits careful);
   later = subst (λ st. IsInUse p st []) (after_more p (first p image) before bits) (in_use_here p sound strict image (before ++ bits ∷ []) [] careful);
   cut = cut_here p sound strict image before bits;
   flight = flights p sound strict reads image before;

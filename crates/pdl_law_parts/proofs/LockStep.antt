@@ -192,7 +192,8 @@ module _ (p : Pipe) (ls : Locks) (vs : ℕ → View) (moves : ℕ → Signal) (s
         words = x.words;
       }
 
-  step_is : step (lock_state_of stand.base (machine.lock_of st m) stand.words) (act_of p ls vs moves s st bits by used seen stood m locked stand gates squashed)
+  -- the state after the cycle, that which stands for the machine's next one
+  pub step_is : step (lock_state_of stand.base (machine.lock_of st m) stand.words) (act_of p ls vs moves s st bits by used seen stood m locked stand gates squashed)
       ≡ lock_state_of (stand.base + gone) left words_next
   step_is =
       ap (λ xs. cut (released gone stand.base xs stand.words))
