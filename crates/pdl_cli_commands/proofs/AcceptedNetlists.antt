@@ -9,7 +9,7 @@ use Rattle.pdl_semantics.specs.Lines.{columns}
 use Rattle.pdl_rules.specs.Memories.{infos_of}
 use Rattle.pdl_rules.specs.Limits.{is_too_long}
 use Rattle.pdl_rules.specs.Refusal.{KeepsRules, limits, after_limits, first_broken}
-use Rattle.pdl_rules.proofs.Unbroken.{keeps_unbroken}
+use Rattle.pdl_rules.proofs.Unbroken.{keeps_accepted}
 use Rattle.pdl_source.proofs.Texts.{source_of, named_of}
 use Rattle.pdl_image.specs.Images.{IsImage, image}
 use Rattle.pdl_net.specs.declared.Netlist.{Netlist}
@@ -63,7 +63,7 @@ kept_by : (t : Bool) (p : Pipe)
     → (if t then Some (record { rule = Z1; line = 1 }) else first_broken (limits ++ after_limits) p) ≡ None
     → KeepsRules p
 kept_by true p e = absurd (cc e)
-kept_by false p e = keeps_unbroken p e
+kept_by false p e = keeps_accepted p e
 
 -- an accepted source keeps the rules
 pub keeps_rules : (b : List ℕ) (p : Pipe) → IsAccepted b p → KeepsRules p

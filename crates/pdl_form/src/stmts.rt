@@ -51,7 +51,14 @@ fn is_release_of(op: &Op, mem: usize) -> bool
 fn is_verify(op: &Op) -> bool
     ensures { result ≡ stages.is_verify (act_view op.now) }
 {
-    matches!(op, Op::Verify { last: true, .. })
+    match op {
+        Op::Verify { last, .. } => *last,
+        Op::Bind { .. } | Op::CombRead { .. } | Op::DelayedRead { .. } | Op::Write { .. } => false,
+        Op::ReserveRead { .. } | Op::ReserveWrite { .. } | Op::Block { .. } => false,
+        Op::Release { .. } | Op::Call(_) | Op::SpecCall(_) | Op::SpecCheck => false,
+        Op::SpecBarrier | Op::AdviceBind { .. } | Op::AdviceRead { .. } => false,
+        Op::AdviceWrite { .. } => false,
+    }
 }
 
 /// The stage of a memory's reserves: that of the first one in the text.

@@ -18,7 +18,7 @@ use crate::uses::{LocationUse, use_at};
 use pdl_kit::{Name, NoMemory};
 use pdl_paths::{Action, Path, Place};
 use pdl_rules_on_paths::PathRule;
-use pdl_syntax_tree::{AccessKind, LockDecl, Mem, Pipe};
+use pdl_syntax_tree::{AccessKind, LockDecl, Mem, Pipe, is_advisory};
 use std::alloc::Global;
 
 /// What is asked of the places at one location.
@@ -116,11 +116,13 @@ fn lacks_hold(pipe: &Pipe, used: LocationUse, place: &Place<'_>) -> bool
         Action::DelayedRead(_, at) => {
             is_locked(mems, &at.mem.name) && !hold.is_blocked_for(AccessKind::R)
         }
-        Action::Write(_, _) => !hold.is_blocked_for(AccessKind::W),
+        Action::Write(at, _) => {
+            !is_advisory(mems, &at.mem.name) && !hold.is_blocked_for(AccessKind::W)
+        }
         Action::Release(_) => !hold.is_blocked(),
         Action::Parameter(_) | Action::Memory(_) | Action::Separator | Action::Bind(_, _) => false,
         Action::SpecCall(_, _) | Action::Reserve(_, _) | Action::If(_, _, _) => false,
-        Action::Call(_) | Action::Verify(_, _) | Action::SpecCheck => false,
+        Action::Call(_) | Action::Verify(_, _) | Action::Update(_, _) | Action::SpecCheck => false,
         Action::SpecBarrier | Action::End | Action::StartClause(_) => false,
     }
 }
@@ -134,7 +136,8 @@ fn is_reserved_again(used: LocationUse, place: &Place<'_>) -> bool
         Action::Parameter(_) | Action::Memory(_) | Action::Separator | Action::Bind(_, _) => false,
         Action::CombRead(_, _) | Action::DelayedRead(_, _) | Action::Write(_, _) => false,
         Action::SpecCall(_, _) | Action::Block(_) | Action::Release(_) => false,
-        Action::If(_, _, _) | Action::Call(_) | Action::Verify(_, _) | Action::SpecCheck => false,
+        Action::If(_, _, _) | Action::Call(_) | Action::Verify(_, _) => false,
+        Action::Update(_, _) | Action::SpecCheck => false,
         Action::SpecBarrier | Action::End | Action::StartClause(_) => false,
     }
 }
@@ -150,6 +153,7 @@ fn is_end(place: &Place<'_>) -> bool
         Action::CombRead(_, _) | Action::DelayedRead(_, _) | Action::Write(_, _) => false,
         Action::SpecCall(_, _) | Action::Block(_) | Action::Reserve(_, _) => false,
         Action::Release(_) | Action::If(_, _, _) | Action::Call(_) | Action::Verify(_, _) => false,
+        Action::Update(_, _) => false,
         Action::SpecCheck | Action::SpecBarrier | Action::StartClause(_) => false,
     }
 }

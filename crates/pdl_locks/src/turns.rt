@@ -141,9 +141,7 @@ fn waits_for(uses: &[LocationUse], first: Option<usize>, number: usize) -> bool
 {
     match first {
         None => false,
-        Some(first) => {
-            first != number && use_at(uses, first, LocationUse::none()).writes == 0
-        }
+        Some(first) => { first != number && use_at(uses, first, LocationUse::none()).writes == 0 }
     }
 }
 
@@ -158,7 +156,8 @@ fn is_not_written_once(used: LocationUse, waits: bool, place: &Place<'_>) -> boo
         Action::Parameter(_) | Action::Memory(_) | Action::Separator | Action::Bind(_, _) => false,
         Action::CombRead(_, _) | Action::DelayedRead(_, _) => false,
         Action::SpecCall(_, _) | Action::Block(_) | Action::Reserve(_, _) => false,
-        Action::If(_, _, _) | Action::Call(_) | Action::Verify(_, _) | Action::SpecCheck => false,
+        Action::If(_, _, _) | Action::Call(_) | Action::Verify(_, _) => false,
+        Action::Update(_, _) | Action::SpecCheck => false,
         Action::SpecBarrier | Action::End | Action::StartClause(_) => false,
     }
 }

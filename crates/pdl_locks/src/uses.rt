@@ -101,6 +101,7 @@ fn is_reserve(place: &Place<'_>) -> bool
         Action::CombRead(_, _) | Action::Bind(_, _) | Action::DelayedRead(_, _) => false,
         Action::Write(_, _) | Action::SpecCall(_, _) | Action::Block(_) => false,
         Action::Release(_) | Action::If(_, _, _) | Action::Call(_) | Action::Verify(_, _) => false,
+        Action::Update(_, _) => false,
         Action::SpecCheck | Action::SpecBarrier | Action::End | Action::StartClause(_) => false,
     }
 }
@@ -116,6 +117,7 @@ pub fn is_reserve_for(place: &Place<'_>, kind: AccessKind) -> bool
         Action::CombRead(_, _) | Action::Bind(_, _) | Action::DelayedRead(_, _) => false,
         Action::Write(_, _) | Action::SpecCall(_, _) | Action::Block(_) => false,
         Action::Release(_) | Action::If(_, _, _) | Action::Call(_) | Action::Verify(_, _) => false,
+        Action::Update(_, _) => false,
         Action::SpecCheck | Action::SpecBarrier | Action::End | Action::StartClause(_) => false,
     }
 }
@@ -132,6 +134,7 @@ fn is_write(place: &Place<'_>) -> bool
         Action::CombRead(_, _) | Action::Bind(_, _) | Action::DelayedRead(_, _) => false,
         Action::Reserve(_, _) | Action::SpecCall(_, _) | Action::Block(_) => false,
         Action::Release(_) | Action::If(_, _, _) | Action::Call(_) | Action::Verify(_, _) => false,
+        Action::Update(_, _) => false,
         Action::SpecCheck | Action::SpecBarrier | Action::End | Action::StartClause(_) => false,
     }
 }

@@ -13,3 +13,4 @@ pub mod Refusal
 pub mod Typed
 pub mod Memories
 pub mod Advice
+pub mod Unbuilt

@@ -6,6 +6,7 @@ ghost use Rattle.pdl_syntax_tree.specs.View.{pipe_view, mem_view, stmts_view};
 ghost use Rattle.pdl_rules.specs.Places as spec;
 ghost use Rattle.pdl_rules.specs.Forks as forks;
 ghost use Rattle.pdl_rules.specs.Locks as locks;
+ghost use Rattle.pdl_rules.specs.Unbuilt.{is_in_branch as spec_in_branch, is_inner_fork as spec_inner_fork};
 ghost use Rattle.pdl_paths.specs.Actions.{place_view};
 ghost use Rattle.pdl_paths.specs.Guards.{branch_view};
 ghost use Rattle.pdl_rules_forks.specs.Order.{is_wrong_fork as spec_wrong_fork, is_unfollowed as spec_unfollowed, is_cut_in as spec_cut_in};
@@ -14,7 +15,7 @@ use crate::inside::{holds_separator, left_after};
 use pdl_kit::Name;
 use pdl_paths::{Action, Branch, Place, branches_at, is_separator};
 use pdl_rules_stages::{are_outer, begun_before, stage_in};
-use pdl_syntax_tree::{Mem, Pipe, Stmt};
+use pdl_syntax_tree::{Mem, Pipe, Stmt, is_advisory};
 
 // Whether one of these branches holds a separator.
 fn is_some_cut(branches: &[Branch<'_>]) -> bool
@@ -33,13 +34,11 @@ fn is_some_cut(branches: &[Branch<'_>]) -> bool
 pub fn breaks_f1(place: &Place<'_>) -> bool
     ensures { result ≡ forks.breaks_f1 (place_view place.now) }
 {
+    let branches = place.branches.as_slice();
     match place.action {
-        Action::SpecCall(_, _) | Action::Reserve(_, _) | Action::Release(_) => {
-            is_some_cut(place.branches.as_slice())
-        }
-        Action::Call(_) | Action::Verify(_, _) | Action::SpecCheck | Action::SpecBarrier => {
-            is_some_cut(place.branches.as_slice())
-        }
+        Action::SpecCall(_, _) | Action::Reserve(_, _) => is_some_cut(branches),
+        Action::Release(_) | Action::Call(_) | Action::Verify(_, _) => is_some_cut(branches),
+        Action::Update(_, _) | Action::SpecCheck | Action::SpecBarrier => is_some_cut(branches),
         Action::Parameter(_) | Action::Memory(_) | Action::Separator => false,
         Action::CombRead(_, _) | Action::Bind(_, _) | Action::DelayedRead(_, _) => false,
         Action::Write(_, _) | Action::Block(_) | Action::If(_, _, _) => false,
@@ -83,6 +82,13 @@ fn is_in_outer_stage(before: &[Place<'_>], branches: &[Branch<'_>]) -> bool
     stage_in(before, branches) == stage_in(before, &branches[..branches.len() - 1])
 }
 
+// Whether what has these branches around it stands in any.
+fn is_in_branch(branches: &[Branch<'_>]) -> bool
+    ensures { result ≡ spec_in_branch (map branch_view branches.now) }
+{
+    !branches.is_empty()
+}
+
 // Whether an `if` with these branches is a fork of the fifth level, one in the stage of the fork around it, or one that no separator follows.
 fn is_wrong_fork(
     when: &[Stmt],
@@ -114,7 +120,26 @@ pub fn breaks_f2(before: &[Place<'_>], place: &Place<'_>, later: &[Place<'_>]) -
         Action::CombRead(_, _) | Action::Bind(_, _) | Action::SpecCall(_, _) => false,
         Action::DelayedRead(_, _) | Action::Write(_, _) | Action::Reserve(_, _) => false,
         Action::Block(_) | Action::Release(_) | Action::Call(_) | Action::Verify(_, _) => false,
+        Action::Update(_, _) => false,
         Action::SpecCheck | Action::SpecBarrier | Action::End | Action::StartClause(_) => false,
+    }
+}
+
+/// Whether the place is a fork in a branch, which has no circuit yet.
+pub fn is_inner_fork(place: &Place<'_>) -> bool
+    ensures { result ≡ spec_inner_fork (place_view place.now) }
+{
+    match place.action {
+        Action::If(_, when, otherwise) => {
+            (holds_separator(when) || holds_separator(otherwise))
+                && is_in_branch(place.branches.as_slice())
+        }
+        Action::Parameter(_) | Action::Memory(_) | Action::Separator => false,
+        Action::CombRead(_, _) | Action::Bind(_, _) | Action::SpecCall(_, _) => false,
+        Action::DelayedRead(_, _) | Action::Write(_, _) | Action::Reserve(_, _) => false,
+        Action::Block(_) | Action::Release(_) | Action::Call(_) | Action::Verify(_, _) => false,
+        Action::Update(_, _) | Action::SpecCheck | Action::SpecBarrier => false,
+        Action::End | Action::StartClause(_) => false,
     }
 }
 
@@ -128,6 +153,7 @@ fn is_fetch_of(memory: &Name, place: &Place<'_>) -> bool
         Action::CombRead(_, _) | Action::Bind(_, _) | Action::SpecCall(_, _) => false,
         Action::Write(_, _) | Action::Reserve(_, _) | Action::If(_, _, _) => false,
         Action::Block(_) | Action::Release(_) | Action::Call(_) | Action::Verify(_, _) => false,
+        Action::Update(_, _) => false,
         Action::SpecCheck | Action::SpecBarrier | Action::End | Action::StartClause(_) => false,
     }
 }
@@ -157,6 +183,7 @@ pub fn breaks_f3(place: &Place<'_>, before: &[Place<'_>], all: &[Place<'_>]) -> 
         Action::CombRead(_, _) | Action::Bind(_, _) | Action::SpecCall(_, _) => false,
         Action::Write(_, _) | Action::Reserve(_, _) | Action::If(_, _, _) => false,
         Action::Block(_) | Action::Release(_) | Action::Call(_) | Action::Verify(_, _) => false,
+        Action::Update(_, _) => false,
         Action::SpecCheck | Action::SpecBarrier | Action::End | Action::StartClause(_) => false,
     }
 }
@@ -167,7 +194,7 @@ fn is_delayed(mems: &[Mem], name: &Name) -> bool
 {
     for mem in mems {
         if mem.name.name == *name {
-            return mem.delayed;
+            return mem.kind.is_delayed();
         }
     }
     false
@@ -185,6 +212,7 @@ pub fn breaks_f4(pipe: &Pipe, place: &Place<'_>) -> bool
         Action::Bind(_, _) | Action::SpecCall(_, _) | Action::Write(_, _) => false,
         Action::Reserve(_, _) | Action::If(_, _, _) => false,
         Action::Block(_) | Action::Release(_) | Action::Call(_) | Action::Verify(_, _) => false,
+        Action::Update(_, _) => false,
         Action::SpecCheck | Action::SpecBarrier | Action::End | Action::StartClause(_) => false,
     }
 }
@@ -201,20 +229,22 @@ fn is_locked(mems: &[Mem], name: &Name) -> bool
     false
 }
 
-/// Whether the place reserves, blocks, writes or releases a memory without lock.
+/// Whether the place reserves, blocks, writes or releases a memory without lock; one that is advisory is written without.
 pub fn breaks_f5(pipe: &Pipe, place: &Place<'_>) -> bool
     ensures { result ≡ locks.breaks_f5 (pipe_view pipe.now) (place_view place.now) }
 {
     let mems = pipe.mems.as_slice();
     match place.action {
-        Action::Write(at, _) => !is_locked(mems, &at.mem.name),
+        Action::Write(at, _) => {
+            !(is_locked(mems, &at.mem.name) || is_advisory(mems, &at.mem.name))
+        }
         Action::Reserve(at, _) | Action::Block(at) | Action::Release(at) => {
             !is_locked(mems, &at.mem.name)
         }
         Action::Parameter(_) | Action::Memory(_) | Action::Separator => false,
         Action::CombRead(_, _) | Action::DelayedRead(_, _) | Action::Bind(_, _) => false,
         Action::SpecCall(_, _) | Action::If(_, _, _) => false,
-        Action::Call(_) | Action::Verify(_, _) => false,
+        Action::Call(_) | Action::Verify(_, _) | Action::Update(_, _) => false,
         Action::SpecCheck | Action::SpecBarrier | Action::End | Action::StartClause(_) => false,
     }
 }

@@ -8,6 +8,7 @@ use pdl_form::{
 };
 use pdl_kit::{Name, NoMemory, Seq};
 use pdl_stages::{Fork, StageGraph, stage_graph};
+use pdl_syntax_tree::MemKind;
 use std::alloc::Global;
 
 // A fork on the variable 0 in the stage 0 into the stage 1 on its first branch, and the merge in the stage 2.
@@ -47,7 +48,7 @@ pub fn memory(alloc: Global) -> Result<FlatMem, NoMemory> {
         name: Name::copy_of(alloc, b"m")?,
         width: 8,
         depth: 8,
-        delayed: false,
+        kind: MemKind::Comb,
         lock: Lock::Queue(2),
     })
 }

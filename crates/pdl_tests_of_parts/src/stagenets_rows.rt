@@ -47,7 +47,8 @@ fn guesser(alloc: Global) -> Result<FlatPipe, NoMemory>
 {
     let mut stmts = Vec::new(alloc);
     stmts.push(statement(alloc, Op::SpecCall(Seq::new(alloc))))?;
-    stmts.push(statement(alloc, Op::Verify(Seq::new(alloc))))?;
+    let args = Seq::new(alloc);
+    stmts.push(statement(alloc, Op::Verify { last: true, args }))?;
     stmts.push(statement(alloc, Op::SpecBarrier))?;
     one_stage(alloc, stmts)
 }
