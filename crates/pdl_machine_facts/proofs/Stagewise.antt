@@ -1,6 +1,6 @@
 -- What a cycle does stage by stage, in a pipe whose threads go on to later stages.
-use Rattle.std.proofs.Common.{◌≡◌, refl, sym, ap, ap₂, ◌∙◌, subst, ℕ, zero, suc, ◌+◌, ◌-◌, ◌<◌, Bool, true, false, List, [], ◌∷◌, length, Option, Some, None, is_some, is_none, ◌==◌, cond, if◌then◌else◌, arith}
-use Rattle.std.proofs.lemmas.Bool.{eqb-true, ne_eqb}
+use Rattle.std.proofs.Common.{◌≡◌, refl, sym, ap, ap₂, ◌∙◌, subst, ℕ, zero, suc, ◌+◌, ◌-◌, ◌<◌, Bool, List, [], ◌∷◌, length, Option, Some, None, is_some, is_none, ◌==◌, cond, if◌then◌else◌, arith}
+use Rattle.std.proofs.lemmas.Bool.{ne_eqb, eqb-true}
 use Rattle.pdl_semantics.specs.Flat.{Arrays, with_value, with_word, Mem, Pipe}
 use Rattle.pdl_semantics.specs.Stages.{list_any}
 use Rattle.pdl_semantics.specs.Machine.{Advised, State, Pending, lock_of}
@@ -23,23 +23,20 @@ same_commit m (e ∷ es) a b h =
     same_commit m es (with_word a m e.address (commit_value e.value)) (with_word b m e.address (commit_value e.value))
     (ap (λ w. cond (m == m) (with_value w e.address (commit_value e.value)) w) h)
 
--- so do the writes of advisory memories
-same_word : (m n k v : ℕ) (a b : Arrays) → a m ≡ b m → with_word a n k v m ≡ with_word b n k v m
-same_word m n k v a b h = at (m == n) refl
+-- and so do advisory writes
+same_words : (m : ℕ) (ws : List Advised) (a b : Arrays) → a m ≡ b m → with_advised ws a m ≡ with_advised ws b m
+same_words m [] a b h = h
+same_words m (w ∷ ws) a b h =
+    same_words m ws (with_word a w.mem w.address w.value) (with_word b w.mem w.address w.value) (at (m == w.mem) refl)
   where
-    at : (c : Bool) → (m == n) ≡ c → (if c then with_value (a n) k v else a m) ≡ (if c then with_value (b n) k v else b m)
-    at true e = ap (λ w. with_value w k v) (subst (λ j. a j ≡ b j) (eqb-true m n e) h)
+    at : (c : Bool) → (m == w.mem) ≡ c
+        → cond c (with_value (a w.mem) w.address w.value) (a m) ≡ cond c (with_value (b w.mem) w.address w.value) (b m)
+    at true e = ap (λ l. with_value l w.address w.value) (subst (λ n. a n ≡ b n) (eqb-true m w.mem e) h)
     at false e = h
 
-same_advised : (m : ℕ) (ws : List Advised) (a b : Arrays) → a m ≡ b m → with_advised ws a m ≡ with_advised ws b m
-same_advised m [] a b h = h
-same_advised m (w ∷ ws) a b h =
-    same_advised m ws (with_word a w.mem w.address w.value) (with_word b w.mem w.address w.value) (same_word m w.mem w.address w.value a b h)
-
-same_all_advised : (m : ℕ) (ms : List Act) (a b : Arrays) → a m ≡ b m → with_all_advised ms a m ≡ with_all_advised ms b m
-same_all_advised m [] a b h = h
-same_all_advised m (x ∷ ms) a b h =
-    same_advised m x.does.advises (with_all_advised ms a) (with_all_advised ms b) (same_all_advised m ms a b h)
+same_advice : (m : ℕ) (ms : List Act) (a b : Arrays) → a m ≡ b m → with_all_advised ms a m ≡ with_all_advised ms b m
+same_advice m [] a b h = h
+same_advice m (x ∷ ms) a b h = same_words m x.does.advises (with_all_advised ms a) (with_all_advised ms b) (same_advice m ms a b h)
 
 commits_at : (st : State) (ms : List Act) (k n : ℕ) (xs : List Mem) (arrays : Arrays)
     → n < length xs
@@ -121,10 +118,10 @@ module _ (p : Pipe) (leads : LeadsOn p) (some : 0 < length p.stages) (st : State
             ∙ ap (λ i. entries_left (squasher (moving p st bits)) (list_three st (moving p st bits) i)) (let e : 0 + m ≡ m = omega arith in e);
         arrays = λ m h.
             ap (λ (s : State). s.arrays m) next_is
-            ∙ (let e : 0 + m ≡ m = omega arith in
+            ∙ same_advice m (moving p st bits)
+            (with_commits st (moving p st bits) 0 p.mems st.arrays) (with_commit st.arrays m (taken_out st (moving p st bits) m))
+            (let e : 0 + m ≡ m = omega arith in
             subst
-            (λ j. with_all_advised (moving p st bits) (with_commits st (moving p st bits) 0 p.mems st.arrays) j
-            ≡ with_all_advised (moving p st bits) (with_commit st.arrays j (taken_out st (moving p st bits) j)) j) e
-            (same_all_advised (0 + m) (moving p st bits) (with_commits st (moving p st bits) 0 p.mems st.arrays)
-            (with_commit st.arrays (0 + m) (taken_out st (moving p st bits) (0 + m))) (commits_at st (moving p st bits) 0 m p.mems st.arrays h)));
+            (λ j. with_commits st (moving p st bits) 0 p.mems st.arrays j ≡ with_commit st.arrays j (taken_out st (moving p st bits) j) j) e
+            (commits_at st (moving p st bits) 0 m p.mems st.arrays h));
       }

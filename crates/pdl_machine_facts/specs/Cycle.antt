@@ -36,5 +36,6 @@ pub record IsByStages (p : Pipe) (st : State) (bits : List Bool) : Type 0 where
       → slot (cycle p st bits) k
       ≡ or_then (newborn p st bits k) (if_kept (squasher (moving p st bits)) (or_then (arriving_thread p st bits k) (staying_thread p st bits k)))
   pub locks : (m : ℕ) → m < length p.mems → lock_of (cycle p st bits) m ≡ entries_left (squasher (moving p st bits)) (list_three st (moving p st bits) m)
+  -- the words of a memory: what is released comes first, and then what is written without a lock
   pub arrays : (m : ℕ) → m < length p.mems
       → (cycle p st bits).arrays m ≡ with_all_advised (moving p st bits) (with_commit st.arrays m (taken_out st (moving p st bits) m)) m

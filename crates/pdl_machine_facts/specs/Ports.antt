@@ -51,4 +51,5 @@ all_request_values _ _ = []
 -- the values of all ports, in the order of a netlist's outputs
 abbrev pub whole_values : Pipe → Ports → List ℕ
 whole_values p o =
-    stage_values o.valid o.moves ++ (all_commit_values (all_twice p.stmts 0 p.mems) p.mems o.commits ++ (all_request_values p.mems o.requests ++ bit o.ended ∷ bit o.squash ∷ []))
+    stage_values o.valid o.moves
+    ++ (all_commit_values (all_twice p.stmts 0 p.mems) p.mems o.commits ++ (all_request_values p.mems o.requests ++ bit o.ended ∷ bit o.squash ∷ []))

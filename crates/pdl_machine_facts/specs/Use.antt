@@ -57,7 +57,7 @@ pub record IsGuessFine (args : List Expr) (d : Deeds) : Type 0 where
   pub long : length d.guess ≡ length args
   pub calm : d.fails ≡ false
 
--- a read is ready, what is released is held no more, and a verify has as many arguments as the guess
+-- a read is ready, what is released is held no more, and a verify or an update has as many arguments as the guess
 abbrev pub IsOpFine : Pipe → State → ℕ → Op → Deeds → Type 0
 IsOpFine p st thread (Bind _ _) d = ⊤
 IsOpFine p st thread (CombRead x m a) d = IsTrue (read_ready (mem_at p m).lock (older_write st thread m (slice_index d.env a)))

@@ -67,7 +67,8 @@ side_long p g f s = at (is_inside p f s) refl
 stages_counted : (f : ℕ) (xs : List Stage)
     → total (λ k. side_count f (slice_index_or xs k last_stage).branches) (length xs) ≡ count_by (λ (x : Stage). list_any (λ (b : Branch). b.fork == f) x.branches) xs
 stages_counted f xs =
-    is_count_by (λ ys. total (λ k. side_count f (slice_index_or ys k last_stage).branches) (length ys)) (λ (x : Stage). list_any (λ (b : Branch). b.fork == f) x.branches) refl one xs
+    is_count_by (λ ys. total (λ k. side_count f (slice_index_or ys k last_stage).branches) (length ys))
+    (λ (x : Stage). list_any (λ (b : Branch). b.fork == f) x.branches) refl one xs
   where
     at : (b : Bool) (n : ℕ) → (if b then 1 else 0) + n ≡ cond b (1 + n) n
     at true n = refl

@@ -121,5 +121,6 @@ module _ (p : Pipe) (st : State) (d : Derived.State) (ls : List Live) (sim : Sim
       let x = ap (λ (v : Thread). v.number) a.3 in
       let y = ap (λ (v : Thread). v.number) b.3 in
       let h =
-      left_trunk p _ _ (stands_behind p st.next a.0 b.0 ls sim.falls sim.ordered a.1 b.1 (omega (arith, g, x, y))) r trunk (let z = a.2 in omega (arith, low, z)) in
+      left_trunk p _ _ (stands_behind p st.next a.0 b.0 ls sim.falls sim.ordered a.1 b.1 (omega (arith, g, x, y))) r trunk
+      (let z = a.2 in omega (arith, low, z)) in
       let z = b.2 in omega (arith, h, z)

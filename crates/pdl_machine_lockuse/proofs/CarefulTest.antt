@@ -29,7 +29,8 @@ module _ (p : Pipe) (low : list_all (λ g. nat_lt g (length (start_env p []))) (
   careful_tested h =
       let rest = and_left _ _ h in
       let both =
-      each_path (λ xs. all_keep_kind xs && (all_let_in [] xs && all_few (length p.mems) xs)) (and_right (list_all (λ g. nat_lt g (length (start_env p []))) (all_guards p)) _ rest) in
+      each_path (λ xs. all_keep_kind xs && (all_let_in [] xs && all_few (length p.mems) xs))
+      (and_right (list_all (λ g. nat_lt g (length (start_env p []))) (all_guards p)) _ rest) in
       record {
         kinds = λ path. and_left _ _ (both path);
         writes = λ path. and_left _ _ (and_right (all_keep_kind (onpath path p.stmts)) _ (both path));
@@ -39,7 +40,9 @@ module _ (p : Pipe) (low : list_all (λ g. nat_lt g (length (start_env p []))) (
         args =
             and_right
             (list_all (λ g. nat_lt g (length (start_env p []))) (all_guards p)
-            && all_paths (all_guards p) (λ path. all_keep_kind (onpath path p.stmts) && (all_let_in [] (onpath path p.stmts) && all_few (length p.mems) (onpath path p.stmts))) (start_env p [])) _ h;
+            && all_paths (all_guards p)
+            (λ path. all_keep_kind (onpath path p.stmts) && (all_let_in [] (onpath path p.stmts) && all_few (length p.mems) (onpath path p.stmts)))
+            (start_env p [])) _ h;
       }
 
 -- the facts of a pipe that passes the test

@@ -305,7 +305,8 @@ module _ (p : Pipe) (sound : Sound p) (strict : Strict p) (st : State) (d : Deri
         ≡ pend m x.live.number x.live.thread.entries ++ new_entries m x.live.number (deeds_of p st bits x.live).reserves) (pairs ls)
     own_new =
         pair_both
-        (λ x g h i. ap (entries_by x.live.number) (with_new_is p sound st d bits ls sim m ∙ ap (with_reserves m (movers (lacts p st d bits ls))) (sym (sim.locks m)))
+        (λ x g h i. ap (entries_by x.live.number)
+        (with_new_is p sound st d bits ls sim m ∙ ap (with_reserves m (movers (lacts p st d bits ls))) (sym (sim.locks m)))
         ∙ h i ∙ ap (λ xs. xs ++ new_entries m x.live.number (deeds_of p st bits x.live).reserves) (g.listed m))
         (pairs ls) mines (by_new p sound st d bits sim.arrays m st.next (lock_of st m) ls sim.falls)
 
@@ -420,7 +421,8 @@ module _ (p : Pipe) (sound : Sound p) (strict : Strict p) (st : State) (d : Deri
       → EachPair (λ x. IsSpared p st bits (lact p st d bits x.older x.live)) (pairs ks)
   spares [] g = tt
   spares (l ∷ ks) g = (
-    (λ may_move. ap (λ q. is_kept q l.number) squasher_is ∙ g.0 ∙ ap not (no_fall (dacts p d bits ks) (and_left _ _ (and_left _ _ (and_left _ _ (and_left _ _ may_move)))))),
+    (λ may_move. ap (λ q. is_kept q l.number) squasher_is ∙ g.0
+        ∙ ap not (no_fall (dacts p d bits ks) (and_left _ _ (and_left _ _ (and_left _ _ (and_left _ _ may_move)))))),
     spares ks g.1,
   )
 
@@ -473,10 +475,14 @@ module _ (p : Pipe) (sound : Sound p) (strict : Strict p) (st : State) (d : Deri
           λ k t m h low. sym (same_count t.number (lock_of st m))
           ∙ at_slot p st bits (FindsOlder st m (reserve_stage p m)) (finds_older p sound st d bits ls sim m) k t h low;
       writer = λ k t m y v h g c.
-          let w = at_here p st bits (Writes m y v) (writes_all m y v) k t h g c in
-          (w.0, ap (forget.has_place t.number y) (list_is m) ∙ w.1, subst (forget.IsOnce t.number y) (sym (list_is m)) w.2,
-          ap (count_older t.number) (list_is m)
-          ∙ sole_older t.number y m (moving p st bits) (lock_of st m) (reserves p sound st d bits ls sim m).one (reserves p sound st d bits ls sim m).ordered w.1);
+          let w = at_here p st bits (Writes m y v) (writes_all m y v) k t h g c in (
+            w.0,
+            ap (forget.has_place t.number y) (list_is m) ∙ w.1,
+            subst (forget.IsOnce t.number y) (sym (list_is m)) w.2,
+            ap (count_older t.number) (list_is m)
+                ∙ sole_older t.number y m (moving p st bits) (lock_of st m) (reserves p sound st d bits ls sim m).one
+                (reserves p sound st d bits ls sim m).ordered w.1,
+          );
       after =
           λ k t m h low. ap (count_older t.number) (list_is m) ∙ sym (same_count t.number (with_new p st bits m))
           ∙ at_slot p st bits (KeepsPlace p st bits m) (places p sound st d bits ls sim m) k t h low ∙ same_count t.number (lock_of st m);

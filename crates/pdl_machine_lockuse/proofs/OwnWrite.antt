@@ -115,9 +115,13 @@ put_place n y t a v (e ∷ es) = at ((e.thread == t) && (e.var == a)) (put_place
         → (has_place n y (cond b (record e { value = Some v }) e ∷ with_value_of t a v es) ≡ has_place n y (e ∷ es))
         × (place_of n y (cond b (record e { value = Some v }) e ∷ with_value_of t a v es) ≡ place_of n y (e ∷ es))
     at true h = (
-      ap (λ z. cond ((e.thread == n) && (e.var == y)) true z) h.0, ap (λ z. cond ((e.thread == n) && (e.var == y)) 0 (suc z)) h.1)
+      ap (λ z. cond ((e.thread == n) && (e.var == y)) true z) h.0,
+      ap (λ z. cond ((e.thread == n) && (e.var == y)) 0 (suc z)) h.1,
+    )
     at false h = (
-      ap (λ z. cond ((e.thread == n) && (e.var == y)) true z) h.0, ap (λ z. cond ((e.thread == n) && (e.var == y)) 0 (suc z)) h.1)
+      ap (λ z. cond ((e.thread == n) && (e.var == y)) true z) h.0,
+      ap (λ z. cond ((e.thread == n) && (e.var == y)) 0 (suc z)) h.1,
+    )
 
 puts_place : (m n y t : ℕ) (ws : List Written) (es : List Pending)
     → (has_place n y (with_writes_of m t ws es) ≡ has_place n y es) × (place_of n y (with_writes_of m t ws es) ≡ place_of n y es)
@@ -341,8 +345,10 @@ module _ (o : Around) (read : ℕ → ℕ → ℕ) (block : Blocked → Bool) (f
     single = λ x. subst (λ i. i ≤ 1) (sym (uses_write ph a x k)) (w.single x);
     named = λ y. subst (λ i. names n y (all d) ≤ i) (sym (uses_write ph a y k)) (w.named y);
     made =
-        one (length (but_last ph.unwritten)) (length ph.unwritten) (written_in m d.writes) (written_in m (d.writes ++ record { mem = j; var = a; value = v } ∷ []))
-        (length (all d)) (oldest_length a ph.unwritten k) (written_more m d.writes (record { mem = j; var = a; value = v }) ∙ ap (λ c. written_in m d.writes + one_if c) e)
+        one (length (but_last ph.unwritten)) (length ph.unwritten) (written_in m d.writes)
+        (written_in m (d.writes ++ record { mem = j; var = a; value = v } ∷ []))
+        (length (all d)) (oldest_length a ph.unwritten k)
+        (written_more m d.writes (record { mem = j; var = a; value = v }) ∙ ap (λ c. written_in m d.writes + one_if c) e)
         w.made;
     turns = turn_more m n (all d) before d.writes (record { mem = j; var = a; value = v }) w.turns (λ i. next_place a ph d es cs k g w);
   }
@@ -515,7 +521,8 @@ module _ (p : Pipe) (k : ℕ) (read : ℕ → ℕ → ℕ) (path : List ℕ) whe
   one (Write m a e) d g h = all_last d.writes _ h g
   one (Verify last args) d g h = at (same_args (values_of args d.env) d.guess)
     where
-      at : (b : Bool) → list_all is_timely (cond b d (record d { child = Some (values_of args d.env); guess = (values_of args d.env); fails = true })).writes ≡ true
+      at : (b : Bool)
+          → list_all is_timely (cond b d (record d { child = Some (values_of args d.env); guess = (values_of args d.env); fails = true })).writes ≡ true
       at true = h
       at false = h
   one _ d g h = h
@@ -616,7 +623,8 @@ module _ (p : Pipe) (sound : Sound p) (st : State) (d : Derived.State) (bits : L
           zero : (i : ℕ) → i ≡ 0 + i
           zero i = omega arith
       waiting_names (o ∷ os) fs y =
-          ap (λ b. names l.number y (pend m l.number (waiting m os ++ known m fs) ++ cond b (own l.number (entry m o.var o.address None) ∷ []) [])) (eq-eqb m m refl)
+          ap (λ b. names l.number y (pend m l.number (waiting m os ++ known m fs) ++ cond b (own l.number (entry m o.var o.address None) ∷ []) []))
+          (eq-eqb m m refl)
           ∙ names_append l.number y (pend m l.number (waiting m os ++ known m fs)) (own l.number (entry m o.var o.address None) ∷ [])
           ∙ ap₂ (λ i b. i + (one_if (b && (o.var == y)) + 0)) (waiting_names os fs y) (eq-eqb l.number l.number refl)
           ∙ turn (times y (open_vars os)) (times y (full_vars fs)) (one_if (o.var == y))
@@ -671,8 +679,8 @@ module _ (p : Pipe) (sound : Sound p) (st : State) (d : Derived.State) (bits : L
   few_reserves careful m low =
       let all = all_few careful m low in
       let here = ap (λ (e : Deeds). reserves_of m e.reserves) did_is
-          ∙ reserved_all m way (word_for st l.number) (in_stage l.thread.stage p.stmts) (begun p sound st d bits arrays older l k)
-          (along_here p sound st d bits arrays older l k) in
+      ∙ reserved_all m way (word_for st l.number) (in_stage l.thread.stage p.stmts) (begun p sound st d bits arrays older l k)
+      (along_here p sound st d bits arrays older l k) in
       low_of (write_reserves m done) (write_reserves m mine_here) (reserves_of m (deeds_of p st bits l).reserves) here all
     where
       low_of : (i j r : ℕ) → r ≡ 0 + j → i + j ≤ 2 → r ≤ 2

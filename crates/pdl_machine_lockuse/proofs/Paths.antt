@@ -131,7 +131,10 @@ module _ (p q : Pipe) (same : (m : ℕ) → commit_stage q m ≡ commit_stage p 
       (and_right (lets_go x.op (xs ++ rest)) _ go) behind over)
     where
       left_open : (m a : ℕ) (e : Expr) → x.op ≡ Write m a e → false ≡ is_over (next_phase m (ph m) x.op)
-      left_open m a e w = sym (ap (λ o. is_over (next_phase m (ph m) o)) w ∙ ap (λ b. is_over (cond b (after_write (ph m) a) (ph m))) (eq-eqb m m refl) ∙ and_false (is_nil (but_last (ph m).unwritten)))
+      left_open m a e w =
+          sym
+          (ap (λ o. is_over (next_phase m (ph m) o)) w ∙ ap (λ b. is_over (cond b (after_write (ph m) a) (ph m))) (eq-eqb m m refl)
+          ∙ and_false (is_nil (but_last (ph m).unwritten)))
 
 -- A THREAD IN ITS STAGE
 

@@ -159,7 +159,10 @@ module _ (p : Pipe) (sound : Sound p) (path : List ℕ) where
       (and_right (lets_go x.op xs) _ go) r.1 rest over (and_right (nat_lt x.stage (length p.stages)) _ inside))
     where
       left_open : (m a : ℕ) (e : Expr) → x.op ≡ Write m a e → false ≡ is_over (next_phase m (ph m) x.op)
-      left_open m a e w = sym (ap (λ o. is_over (next_phase m (ph m) o)) w ∙ ap (λ b. is_over (cond b (after_write (ph m) a) (ph m))) (eq-eqb m m refl) ∙ and_false (is_nil (but_last (ph m).unwritten)))
+      left_open m a e w =
+          sym
+          (ap (λ o. is_over (next_phase m (ph m) o)) w ∙ ap (λ b. is_over (cond b (after_write (ph m) a) (ph m))) (eq-eqb m m refl)
+          ∙ and_false (is_nil (but_last (ph m).unwritten)))
 
   all_path : (test : Stmt → Bool) → ((x : Stmt) → test (record x { guards = [] }) ≡ test x) → (xs : List Stmt) → list_all test xs ≡ true
       → list_all test (onpath path xs) ≡ true

@@ -233,7 +233,9 @@ reserved_all m path read (x ∷ xs) d i =
             by false e = e
     one_op (Verify last args) = by (same_args (values_of args d.env) d.guess)
       where
-        by : (b : Bool) → reserves_of m (cond b d (record d { child = Some (values_of args d.env); guess = values_of args d.env; fails = true })).reserves ≡ reserves_of m d.reserves + 0
+        by : (b : Bool)
+            → reserves_of m (cond b d (record d { child = Some (values_of args d.env); guess = values_of args d.env; fails = true })).reserves
+            ≡ reserves_of m d.reserves + 0
         by true = plus (reserves_of m d.reserves)
         by false = plus (reserves_of m d.reserves)
     one_op _ = plus (reserves_of m d.reserves)

@@ -139,7 +139,8 @@ module _ (p : Pipe) (st : State) (n : ℕ) where
       → IsAlong path (word_for st n) xs d → reads_ok p c (looked_all (onpath path xs)) ≡ true → ((m : ℕ) → uses_ok m (ph m) (onpath path xs) ≡ true)
       → makings_ok v g (looked_all (onpath path xs)) ≡ true → list_all (λ (x : Stmt). passes_on size x.op) (onpath path xs) ≡ true
       → list_all (is_early p) (onpath path xs) ≡ true
-      → ((m : ℕ) → HeldOnce m (ph m) d.held) → Covers c.held d.held → (is_guessed g ≡ true → length d.guess ≡ size) → Calm v s g d → RightIf s c d → AreFine p st n xs d
+      → ((m : ℕ) → HeldOnce m (ph m) d.held) → Covers c.held d.held → (is_guessed g ≡ true → length d.guess ≡ size) → Calm v s g d
+      → RightIf s c d → AreFine p st n xs d
   fine_all size s v c path ph g [] d i q h k w y e o f u l r = tt
   fine_all size s v c path ph g (x ∷ xs) d i q h k w y e o f u l r =
       at (all_hold x.guards d.env) (all_hold x.guards path) q.0 q.1 h k w y e
@@ -161,7 +162,8 @@ module _ (p : Pipe) (st : State) (n : ℕ) where
           → reads_ok p c (looked_all (onpath path xs)) ≡ true → ((m : ℕ) → uses_ok m (ph m) (onpath path xs) ≡ true)
           → makings_ok v g (looked_all (onpath path xs)) ≡ true → list_all (λ (x : Stmt). passes_on size x.op) (onpath path xs) ≡ true
           → list_all (is_early p) (onpath path xs) ≡ true
-          → ((m : ℕ) → HeldOnce m (ph m) d.held) → Covers c.held d.held → (is_guessed g ≡ true → length d.guess ≡ size) → Calm v s g d → RightIf s c d → AreFine p st n xs d)
+          → ((m : ℕ) → HeldOnce m (ph m) d.held) → Covers c.held d.held →
+          (is_guessed g ≡ true → length d.guess ≡ size) → Calm v s g d → RightIf s c d → AreFine p st n xs d)
           → Fine b
       at true false z q h k w y e go = absurd (cc z)
       at false true z q h k w y e go = absurd (cc z)

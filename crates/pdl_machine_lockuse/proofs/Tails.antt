@@ -117,7 +117,8 @@ module _ (p : Pipe) (sound : Sound p) (st : State) (d : Derived.State) (bits : L
     (λ i j. pair_map
         (λ x b g. absurd
         (let here = release_here p (sound_flows p sound) st d bits arrays ls l k.0 m j in
-        let u : commit_stage p m < x.live.thread.stage = left_trunk p _ _ b (commit_stage p m) ((sound_flows p sound).trunk_commit m) (let v = here in omega arith) in
+        let u : commit_stage p m < x.live.thread.stage = left_trunk p _ _ b (commit_stage p m) ((sound_flows p sound).trunk_commit m)
+        (let v = here in omega arith) in
         let v = g in omega arith))
         (pairs ls) (pairs_each (λ k. Behind p l.thread.stage k.thread.stage) ls o.0)),
     bars_commit ls k.1 o.1,
@@ -134,7 +135,8 @@ module _ (p : Pipe) (sound : Sound p) (st : State) (d : Derived.State) (bits : L
 
       at : (b : Bool) → nat_le v l.thread.stage ≡ b → (did p d bits ls l).moves ≡ true → takes l ≢ 0 → EachPair (λ x. x.live.thread.stage ≤ v → ⊥) (pairs ls)
       at true f i j =
-          pair_map (λ x b g. let u : v < x.live.thread.stage = left_trunk p _ _ b v trunk (leb-true _ _ f) in absurd (let w = g in omega (arith, u, w))) (pairs ls)
+          pair_map (λ x b g. let u : v < x.live.thread.stage = left_trunk p _ _ b v trunk (leb-true _ _ f) in absurd (let w = g in omega (arith, u, w)))
+          (pairs ls)
           (pairs_each (λ k. Behind p l.thread.stage k.thread.stage) ls o.0)
       at false f i j =
           pair_map (λ x b g. absurd (let u = b in let w = g in omega (arith, u, w))) (pairs ls)
@@ -165,7 +167,8 @@ module _ (p : Pipe) (sound : Sound p) (st : State) (d : Derived.State) (bits : L
           low : (c : Bool) → nat_le (reserve_stage p m) l.thread.stage ≡ c → l.thread.stage < reserve_stage p m
           low true e =
               absurd
-              (let u : reserve_stage p m < x.live.thread.stage = left_trunk p _ _ b (reserve_stage p m) ((sound_flows p sound).trunk_reserve m) (leb-true _ _ e) in
+              (let u : reserve_stage p m < x.live.thread.stage = left_trunk p _ _ b (reserve_stage p m) ((sound_flows p sound).trunk_reserve m)
+              (leb-true _ _ e) in
               omega (arith, u, h))
           low false e = leb-false _ _ e
 

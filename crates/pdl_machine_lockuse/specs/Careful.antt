@@ -120,5 +120,6 @@ pub record Careful (p : Pipe) : Type 0 where
 abbrev pub is_careful : Pipe → Bool
 is_careful p =
     list_all (λ g. nat_lt g (length (start_env p []))) (all_guards p)
-    && all_paths (all_guards p) (λ path. all_keep_kind (onpath path p.stmts) && (all_let_in [] (onpath path p.stmts) && all_few (length p.mems) (onpath path p.stmts))) (start_env p [])
+    && all_paths (all_guards p)
+    (λ path. all_keep_kind (onpath path p.stmts) && (all_let_in [] (onpath path p.stmts) && all_few (length p.mems) (onpath path p.stmts))) (start_env p [])
     && list_all (λ x. passes_on (length p.start) x.op) p.stmts

@@ -161,7 +161,8 @@ none_backed p = record { backed = refl }
 
 backed_more : (p : Pipe) (before : List Place) (y x : Place) → is_backed p before x ≡ true → is_backed p (before ++ y ∷ []) x ≡ true
 backed_more p before y (Statement (Write s l v) bs) e =
-    ⊎_elim (λ t. or_left _ (list_any (reserves_to_write l) (before ++ y ∷ [])) t) (λ t. or_right (is_advisory_mem p.mems l.mem.name) _ (any_front (reserves_to_write l) before y t)) (or_cases (is_advisory_mem p.mems l.mem.name) _ e)
+    ⊎_elim (λ t. or_left _ (list_any (reserves_to_write l) (before ++ y ∷ [])) t)
+    (λ t. or_right (is_advisory_mem p.mems l.mem.name) _ (any_front (reserves_to_write l) before y t)) (or_cases (is_advisory_mem p.mems l.mem.name) _ e)
 backed_more p before y _ e = refl
 
 -- what is blocked to be written is held as `Blocked W`
@@ -178,7 +179,9 @@ pub reserved_if_blocked : (l : Location) (before : List Place)
 reserved_if_blocked l before e = reserved_if_held l before Nothing refl (ap (is_held_for W) e)
 
 -- a write of a memory that isn't advisory has its location blocked
-pub blocked_here : (p : Pipe) (before : List Place) (l : Location) → is_advisory_mem p.mems l.mem.name ≡ false → (not (is_advisory_mem p.mems l.mem.name) && not (is_blocked_for W (hold_after l before))) ≡ false → hold_after l before ≡ Blocked W
+pub blocked_here : (p : Pipe) (before : List Place) (l : Location)
+    → is_advisory_mem p.mems l.mem.name ≡ false
+    → (not (is_advisory_mem p.mems l.mem.name) && not (is_blocked_for W (hold_after l before))) ≡ false → hold_after l before ≡ Blocked W
 blocked_here p before l plain e = held_if_blocked _ (not-false _ (sym (ap (λ a. not a && not (is_blocked_for W (hold_after l before))) plain) ∙ e))
 
 backed_here : (p : Pipe) (before : List Place) (x : Place) → lacks_hold p before x ≡ false → is_backed p before x ≡ true
@@ -207,10 +210,13 @@ same_advisory p a b e = ap (is_advisory_mem p.mems) (bytes_same a.mem.name b.mem
 
 written_here : (p : Pipe) (before : List Place) (a : Location) (x : Place) → is_advisory_mem p.mems a.mem.name ≡ false → is_backed p before x ≡ true
     → writes_location a x ≡ true → list_any (reserves_to_write a) before ≡ true
-written_here p before a (Statement (Write s l v) bs) plain e w = sym (ap (λ f. list_any f before) (fun_ext (reserved_alike l a w))) ∙ sym (ap (λ b. b || list_any (reserves_to_write l) before) (same_advisory p l a w ∙ plain)) ∙ e
+written_here p before a (Statement (Write s l v) bs) plain e w =
+    sym (ap (λ f. list_any f before) (fun_ext (reserved_alike l a w)))
+    ∙ sym (ap (λ b. b || list_any (reserves_to_write l) before) (same_advisory p l a w ∙ plain)) ∙ e
 written_here p before a _ plain e w = absurd (false≢true w)
 
-written_among : (p : Pipe) (before : List Place) (a : Location) (xs : List Place) → is_advisory_mem p.mems a.mem.name ≡ false → list_all (is_backed p before) xs ≡ true
+written_among : (p : Pipe) (before : List Place) (a : Location) (xs : List Place)
+    → is_advisory_mem p.mems a.mem.name ≡ false → list_all (is_backed p before) xs ≡ true
     → list_any (writes_location a) xs ≡ true → list_any (reserves_to_write a) before ≡ true
 written_among p before a [] plain e w = absurd (false≢true w)
 written_among p before a (x ∷ xs) plain e w =
@@ -221,7 +227,9 @@ written_among p before a (x ∷ xs) plain e w =
     (or_cases (writes_location a x) (list_any (writes_location a) xs) w)
 
 -- what is written was reserved
-pub written_reserved : (p : Pipe) (before : List Place) (a : Location) → is_advisory_mem p.mems a.mem.name ≡ false → AreBacked p before → list_any (writes_location a) before ≡ true → list_any (reserves_to_write a) before ≡ true
+pub written_reserved : (p : Pipe) (before : List Place) (a : Location)
+    → is_advisory_mem p.mems a.mem.name ≡ false → AreBacked p before → list_any (writes_location a) before ≡ true
+    → list_any (reserves_to_write a) before ≡ true
 written_reserved p before a plain b w = written_among p before a before plain b.backed w
 
 -- WRITTEN TWICE

@@ -91,7 +91,8 @@ limits = Z2 ∷ Z3 ∷ Z4 ∷ Z5 ∷ Z6 ∷ Z7 ∷ []
 
 -- the rules of the tree that come after the limits, in their order
 abbrev pub after_limits : List Rule
-after_limits = N1 ∷ N2 ∷ N3 ∷ W1 ∷ W2 ∷ W3 ∷ W4 ∷ W5 ∷ W6 ∷ F1 ∷ F2 ∷ F3 ∷ F4 ∷ F5 ∷ L1 ∷ L2 ∷ L3 ∷ L4 ∷ L5 ∷ L6 ∷ L7 ∷ L8 ∷ S1 ∷ S2 ∷ S3 ∷ S4 ∷ S5 ∷ S6 ∷ S7 ∷ P1 ∷ []
+after_limits =
+    N1 ∷ N2 ∷ N3 ∷ W1 ∷ W2 ∷ W3 ∷ W4 ∷ W5 ∷ W6 ∷ F1 ∷ F2 ∷ F3 ∷ F4 ∷ F5 ∷ L1 ∷ L2 ∷ L3 ∷ L4 ∷ L5 ∷ L6 ∷ L7 ∷ L8 ∷ S1 ∷ S2 ∷ S3 ∷ S4 ∷ S5 ∷ S6 ∷ S7 ∷ P1 ∷ []
 
 -- a rule that is broken, and the line of its lowest place
 pub record Refused : Type 0 where

@@ -44,7 +44,9 @@ alike_op p (Write m a e) r s h f = record {
   where
     at : (n : ℕ) (b : Bool) → (n == m) ≡ b → r.arrays n ≡ s.arrays n → is_advisory (mem_at p n).kind ≡ false
         → cond b (with_value (r.arrays m) (slice_index r.env a) (value_of e r.env)) (r.arrays n) ≡ cond b (with_value (s.arrays m) (slice_index s.env a) (value_of e s.env)) (s.arrays n)
-    at n true i g k = ap₂ (λ (w : Array) v. with_value w (slice_index v a) (value_of e v)) (f.arrays m (subst (λ l. is_advisory (mem_at p l).kind ≡ false) (eqb-true n m i) k)) f.env
+    at n true i g k =
+        ap₂ (λ (w : Array) v. with_value w (slice_index v a) (value_of e v))
+        (f.arrays m (subst (λ l. is_advisory (mem_at p l).kind ≡ false) (eqb-true n m i) k)) f.env
     at n false i g k = g
 alike_op p (Call args) r s h f = record { arrays = f.arrays; env = f.env; writes = f.writes; next = ap (values_of args) f.env }
 alike_op p (Verify true args) r s h f = record { arrays = f.arrays; env = f.env; writes = f.writes; next = ap (values_of args) f.env }
@@ -64,14 +66,18 @@ alike_all p (x ∷ xs) r s h f =
     at false false e k = f
 
 -- a thread, and k threads
-alike_thread : (p : Pipe) (image other : Arrays) (args : List ℕ) → KeepsAdvice p → DifferInAdvice p image other → Alike p (thread p image args) (thread p other args)
+alike_thread : (p : Pipe) (image other : Arrays) (args : List ℕ)
+    → KeepsAdvice p → DifferInAdvice p image other → Alike p (thread p image args) (thread p other args)
 alike_thread p image other args h f = alike_all p p.stmts _ _ h (record { arrays = f; env = refl; writes = refl; next = refl })
 
-same_writes : (p : Pipe) (k : ℕ) (image other : Arrays) (args : List ℕ) → KeepsAdvice p → DifferInAdvice p image other → writes_from p k image args ≡ writes_from p k other args
+same_writes : (p : Pipe) (k : ℕ) (image other : Arrays) (args : List ℕ)
+    → KeepsAdvice p → DifferInAdvice p image other → writes_from p k image args ≡ writes_from p k other args
 same_writes p zero image other args h f = refl
 same_writes p (suc k) image other args h f =
     let t = alike_thread p image other args h f in
-    ap₂ (λ a b. a ++ b) t.writes (ap (writes_from p k (thread p image args).arrays) t.next ∙ same_writes p k (thread p image args).arrays (thread p other args).arrays (thread p other args).next h t.arrays)
+    ap₂ (λ a b. a ++ b) t.writes
+    (ap (writes_from p k (thread p image args).arrays) t.next
+    ∙ same_writes p k (thread p image args).arrays (thread p other args).arrays (thread p other args).next h t.arrays)
 
 -- threads write the same from images that differ in advisory memories alone
 pub same_seq : (p : Pipe) (image other : Arrays) → KeepsAdvice p → DifferInAdvice p image other → (m k : ℕ) → seqwrites p image m k ≡ seqwrites p other m k
@@ -83,16 +89,22 @@ mem_append : (m : ℕ) (xs ys : List Commit) → of_mem m (xs ++ ys) ≡ of_mem 
 mem_append m [] ys = refl
 mem_append m (x ∷ xs) ys = at (x.mem == m) (mem_append m xs ys)
   where
-    at : (b : Bool) → of_mem m (xs ++ ys) ≡ of_mem m xs ++ of_mem m ys → cond b (x ∷ of_mem m (xs ++ ys)) (of_mem m (xs ++ ys)) ≡ cond b (x ∷ of_mem m xs) (of_mem m xs) ++ of_mem m ys
+    at : (b : Bool)
+        → of_mem m (xs ++ ys) ≡ of_mem m xs ++ of_mem m ys
+        → cond b (x ∷ of_mem m (xs ++ ys)) (of_mem m (xs ++ ys)) ≡ cond b (x ∷ of_mem m xs) (of_mem m xs) ++ of_mem m ys
     at true e = ap (λ l. x ∷ l) e
     at false e = e
 
-more_writes : (p : Pipe) (k j : ℕ) (arrays : Arrays) (args : List ℕ) → (rest : List Commit) × (writes_from p k arrays args ++ rest ≡ writes_from p (k + j) arrays args)
+more_writes : (p : Pipe) (k j : ℕ) (arrays : Arrays) (args : List ℕ)
+    → (rest : List Commit) × (writes_from p k arrays args ++ rest ≡ writes_from p (k + j) arrays args)
 more_writes p zero j arrays args = (writes_from p j arrays args, ap (λ n. writes_from p n arrays args) (let e : j ≡ 0 + j = omega arith in e))
 more_writes p (suc k) j arrays args =
     let t = thread p arrays args in
-    let r = more_writes p k j t.arrays t.next in
-    (r.0, append_assoc t.writes (writes_from p k t.arrays t.next) r.0 ∙ ap (λ l. t.writes ++ l) r.1 ∙ ap (λ n. writes_from p n arrays args) (let e : suc (k + j) ≡ suc k + j = omega arith in e))
+    let r = more_writes p k j t.arrays t.next in (
+      r.0,
+      append_assoc t.writes (writes_from p k t.arrays t.next) r.0 ∙ ap (λ l. t.writes ++ l) r.1
+          ∙ ap (λ n. writes_from p n arrays args) (let e : suc (k + j) ≡ suc k + j = omega arith in e),
+    )
 
 -- more threads write more
 more_seq : (p : Pipe) (image : Arrays) (m k j : ℕ) → IsPrefix (seqwrites p image m k) (seqwrites p image m (k + j))
@@ -132,12 +144,15 @@ advice_is_idle p image other schedule replies h f r s =
       prefix = λ m. both m (ended_in (turns p image schedule) + length p.stages) (ended_in (turns p other replies) + length p.stages) (r.prefix m) (s.prefix m);
     }
   where
-    both : (m k j : ℕ) → IsPrefix (commits m (turns p image schedule)) (seqwrites p image m k) → IsPrefix (commits m (turns p other replies)) (seqwrites p other m j)
+    both : (m k j : ℕ)
+        → IsPrefix (commits m (turns p image schedule)) (seqwrites p image m k)
+        → IsPrefix (commits m (turns p other replies)) (seqwrites p other m j)
         → IsPrefix (commits m (turns p image schedule)) (commits m (turns p other replies)) ⊎ IsPrefix (commits m (turns p other replies)) (commits m (turns p image schedule))
     both m k j a b =
         either_first _ _ (seqwrites p image m (k + j)) (then_prefix _ _ _ a (more_seq p image m k j))
         (subst (λ n. IsPrefix (commits m (turns p other replies)) (seqwrites p image m n)) (swap k j)
-        (subst (λ l. IsPrefix (commits m (turns p other replies)) l) (sym (same_seq p image other h f m (j + k))) (then_prefix _ _ _ b (more_seq p other m j k))))
+        (subst (λ l. IsPrefix (commits m (turns p other replies)) l) (sym (same_seq p image other h f m (j + k)))
+        (then_prefix _ _ _ b (more_seq p other m j k))))
       where
         swap : (a b : ℕ) → b + a ≡ a + b
         swap a b = omega arith

@@ -29,8 +29,11 @@ and_both true c h = (refl, h)
 and_both false c h = absurd (cc h)
 
 -- only what is left out changes
-still : (d d' e e' : Deeds) → Alike d e → d'.env ≡ d.env → d'.held ≡ d.held → d'.blocks ≡ d.blocks → d'.reserves ≡ d.reserves → d'.writes ≡ d.writes → d'.releases ≡ d.releases → d'.asks ≡ d.asks → d'.barrier ≡ d.barrier
-    → e'.env ≡ e.env → e'.held ≡ e.held → e'.blocks ≡ e.blocks → e'.reserves ≡ e.reserves → e'.writes ≡ e.writes → e'.releases ≡ e.releases → e'.asks ≡ e.asks → e'.barrier ≡ e.barrier → Alike d' e'
+still : (d d' e e' : Deeds)
+    → Alike d e → d'.env ≡ d.env → d'.held ≡ d.held → d'.blocks ≡ d.blocks → d'.reserves ≡ d.reserves → d'.writes ≡ d.writes
+    → d'.releases ≡ d.releases → d'.asks ≡ d.asks → d'.barrier ≡ d.barrier
+    → e'.env ≡ e.env → e'.held ≡ e.held → e'.blocks ≡ e.blocks → e'.reserves ≡ e.reserves → e'.writes ≡ e.writes → e'.releases ≡ e.releases
+    → e'.asks ≡ e.asks → e'.barrier ≡ e.barrier → Alike d' e'
 still d d' e e' h a b c f g i j k a' b' c' f' g' i' j' k' =
     record {
       env = a ∙ h.env ∙ sym a';
@@ -43,9 +46,21 @@ still d d' e e' h a b c f g i j k a' b' c' f' g' i' j' k' =
       barrier = k ∙ h.barrier ∙ sym k';
     }
 
-alike_op : (p : Pipe) (read other : ℕ → ℕ → ℕ) → SameWords p read other → (op : Op) → fits_kind p op ≡ true → (d e : Deeds) → Alike d e → Alike (deeds_after read op d) (deeds_after other op e)
+alike_op : (p : Pipe) (read other : ℕ → ℕ → ℕ)
+    → SameWords p read other → (op : Op) → fits_kind p op ≡ true → (d e : Deeds) → Alike d e
+    → Alike (deeds_after read op d) (deeds_after other op e)
 alike_op p read other w (Bind x a) r d e h =
-    record { env = ap (λ v. slice_set v x (value_of a v)) h.env; held = h.held; blocks = h.blocks; reserves = h.reserves; writes = h.writes; releases = h.releases; asks = h.asks; barrier = h.barrier }
+    record {
+      env = ap (λ v. slice_set v x
+          (value_of a v)) h.env;
+      held = h.held;
+      blocks = h.blocks;
+      reserves = h.reserves;
+      writes = h.writes;
+      releases = h.releases;
+      asks = h.asks;
+      barrier = h.barrier;
+    }
 alike_op p read other w (CombRead x m a) r d e h =
     record {
       env = ap (λ v. slice_set v x (read m (slice_index v a))) h.env ∙ ap (slice_set e.env x) (w m (slice_index e.env a) (not_so _ r));
@@ -113,25 +128,57 @@ alike_op p read other w (Release m a) r d e h =
       asks = h.asks;
       barrier = h.barrier;
     }
-alike_op p read other w (Call args) r d e h = record { env = h.env; held = h.held; blocks = h.blocks; reserves = h.reserves; writes = h.writes; releases = h.releases; asks = h.asks; barrier = h.barrier }
-alike_op p read other w (SpecCall args) r d e h = record { env = h.env; held = h.held; blocks = h.blocks; reserves = h.reserves; writes = h.writes; releases = h.releases; asks = h.asks; barrier = h.barrier }
+alike_op p read other w (Call args) r d e h =
+    record { env = h.env; held = h.held; blocks = h.blocks; reserves = h.reserves; writes = h.writes; releases = h.releases; asks = h.asks; barrier = h.barrier }
+alike_op p read other w (SpecCall args) r d e h =
+    record { env = h.env; held = h.held; blocks = h.blocks; reserves = h.reserves; writes = h.writes; releases = h.releases; asks = h.asks; barrier = h.barrier }
 alike_op p read other w (Verify last args) r d e h = at (same_args (values_of args d.env) d.guess) (same_args (values_of args e.env) e.guess)
   where
-    at : (b c : Bool) → Alike (cond b d (record d { child = Some (values_of args d.env); guess = values_of args d.env; fails = true })) (cond c e (record e { child = Some (values_of args e.env); guess = values_of args e.env; fails = true }))
+    at : (b c : Bool)
+        → Alike (cond b d (record d { child = Some (values_of args d.env); guess = values_of args d.env; fails = true }))
+        (cond c e (record e { child = Some (values_of args e.env); guess = values_of args e.env; fails = true }))
     at true true = h
-    at true false = still d d e (record e { child = Some (values_of args e.env); guess = values_of args e.env; fails = true }) h refl refl refl refl refl refl refl refl refl refl refl refl refl refl refl refl
-    at false true = still d (record d { child = Some (values_of args d.env); guess = values_of args d.env; fails = true }) e e h refl refl refl refl refl refl refl refl refl refl refl refl refl refl refl refl
-    at false false = still d (record d { child = Some (values_of args d.env); guess = values_of args d.env; fails = true }) e (record e { child = Some (values_of args e.env); guess = values_of args e.env; fails = true }) h refl refl refl refl refl refl refl refl refl refl refl refl refl refl refl refl
+    at true false =
+        still d d e
+        (record e {
+          child = Some
+              (values_of args e.env);
+          guess = values_of args e.env;
+          fails = true;
+        }) h refl refl refl refl refl refl refl refl refl refl refl refl refl refl refl refl
+    at false true =
+        still d
+        (record d {
+          child = Some
+              (values_of args d.env);
+          guess = values_of args d.env;
+          fails = true;
+        }) e e h refl refl refl refl refl refl refl refl refl refl refl refl refl refl refl refl
+    at false false =
+        still d (record d { child = Some (values_of args d.env); guess = values_of args d.env; fails = true }) e
+        (record e {
+          child = Some
+              (values_of args e.env);
+          guess = values_of args e.env;
+          fails = true;
+        }) h refl refl refl refl refl refl refl refl refl refl refl refl refl refl refl refl
 alike_op p read other w SpecCheck r d e h = h
-alike_op p read other w SpecBarrier r d e h = record { env = h.env; held = h.held; blocks = h.blocks; reserves = h.reserves; writes = h.writes; releases = h.releases; asks = h.asks; barrier = refl }
-alike_op p read other w (AdviceBind x a) r d e h = record { env = h.env; held = h.held; blocks = h.blocks; reserves = h.reserves; writes = h.writes; releases = h.releases; asks = h.asks; barrier = h.barrier }
-alike_op p read other w (AdviceRead x m a) r d e h = record { env = h.env; held = h.held; blocks = h.blocks; reserves = h.reserves; writes = h.writes; releases = h.releases; asks = h.asks; barrier = h.barrier }
-alike_op p read other w (AdviceWrite m a v) r d e h = record { env = h.env; held = h.held; blocks = h.blocks; reserves = h.reserves; writes = h.writes; releases = h.releases; asks = h.asks; barrier = h.barrier }
+alike_op p read other w SpecBarrier r d e h =
+    record { env = h.env; held = h.held; blocks = h.blocks; reserves = h.reserves; writes = h.writes; releases = h.releases; asks = h.asks; barrier = refl }
+alike_op p read other w (AdviceBind x a) r d e h =
+    record { env = h.env; held = h.held; blocks = h.blocks; reserves = h.reserves; writes = h.writes; releases = h.releases; asks = h.asks; barrier = h.barrier }
+alike_op p read other w (AdviceRead x m a) r d e h =
+    record { env = h.env; held = h.held; blocks = h.blocks; reserves = h.reserves; writes = h.writes; releases = h.releases; asks = h.asks; barrier = h.barrier }
+alike_op p read other w (AdviceWrite m a v) r d e h =
+    record { env = h.env; held = h.held; blocks = h.blocks; reserves = h.reserves; writes = h.writes; releases = h.releases; asks = h.asks; barrier = h.barrier }
 
-alike_all : (p : Pipe) (read other : ℕ → ℕ → ℕ) → SameWords p read other → (xs : List Stmt) → list_all (λ (x : Stmt). fits_kind p x.op) xs ≡ true → (d e : Deeds) → Alike d e → Alike (deeds_after_all read xs d) (deeds_after_all other xs e)
+alike_all : (p : Pipe) (read other : ℕ → ℕ → ℕ)
+    → SameWords p read other → (xs : List Stmt) → list_all (λ (x : Stmt). fits_kind p x.op) xs ≡ true → (d e : Deeds) → Alike d e
+    → Alike (deeds_after_all read xs d) (deeds_after_all other xs e)
 alike_all p read other w [] r d e h = h
 alike_all p read other w (x ∷ xs) r d e h =
-    alike_all p read other w xs k.1 (if all_hold x.guards d.env then deeds_after read x.op d else d) (if all_hold x.guards e.env then deeds_after other x.op e else e)
+    alike_all p read other w xs k.1 (if all_hold x.guards d.env then deeds_after read x.op d else d)
+    (if all_hold x.guards e.env then deeds_after other x.op e else e)
     (at (all_hold x.guards d.env) (all_hold x.guards e.env) (ap (all_hold x.guards) h.env))
   where
     k : (fits_kind p x.op ≡ true) × (list_all (λ (x : Stmt). fits_kind p x.op) xs ≡ true)
@@ -144,8 +191,20 @@ alike_all p read other w (x ∷ xs) r d e h =
     at false false i = h
 
 -- a thread with other advice, another guess and other words in advisory memories does the same
-pub advice_apart : (p : Pipe) (read other : ℕ → ℕ → ℕ) → SameWords p read other → (s : ℕ) → list_all (λ (x : Stmt). fits_kind p x.op) (in_stage s p.stmts) ≡ true → (t u : Thread) → t.env ≡ u.env → t.kept ≡ u.kept
+pub advice_apart : (p : Pipe) (read other : ℕ → ℕ → ℕ)
+    → SameWords p read other → (s : ℕ) → list_all (λ (x : Stmt). fits_kind p x.op) (in_stage s p.stmts) ≡ true → (t u : Thread)
+    → t.env ≡ u.env → t.kept ≡ u.kept
     → Alike (deeds_with read p s t) (deeds_with other p s u)
 advice_apart p read other w s r t u e k =
     alike_all p read other w (in_stage s p.stmts) r _ _
-    (record { env = ap₂ with_kept k e; held = ap (λ v. held_before s v p.stmts []) e; blocks = refl; reserves = refl; writes = refl; releases = refl; asks = refl; barrier = refl })
+    (record {
+      env = ap₂ with_kept k e;
+      held = ap
+          (λ v. held_before s v p.stmts []) e;
+      blocks = refl;
+      reserves = refl;
+      writes = refl;
+      releases = refl;
+      asks = refl;
+      barrier = refl;
+    })

@@ -29,7 +29,8 @@ two_writes b =
 abbrev pub two_writes_apart : LockKind → ℕ → Pipe
 two_writes_apart kind size =
     pipe 2 (comb "m" 4 (lock kind size) ∷ [])
-    (bind "a" (constant 2 0) ∷ bind "b" (constant 2 0) ∷ bind "c" (plus (variable "n") (constant 2 1)) ∷ reserve "m" "a" R ∷ reserve "m" "b" W ∷ reserve "m" "c" W
+    (bind "a" (constant 2 0) ∷ bind "b" (constant 2 0) ∷ bind "c"
+    (plus (variable "n") (constant 2 1)) ∷ reserve "m" "a" R ∷ reserve "m" "b" W ∷ reserve "m" "c" W
     ∷ call (plus (variable "n") (constant 2 1)) ∷ separator ∷ block "m" "a" ∷ comb_read "x" "m" "a" ∷ block "m" "b"
     ∷ write "m" "b" (plus (variable "x") (constant 8 1)) ∷ separator ∷ block "m" "c" ∷ write "m" "c" (plus (variable "x") (constant 8 16))
     ∷ release "m" "c" ∷ release "m" "a" ∷ release "m" "b" ∷ [])

@@ -44,16 +44,21 @@ of_both : (m : ℕ) (xs ys : List Commit) → of_mem m (xs ++ ys) ≡ of_mem m x
 of_both m [] ys = refl
 of_both m (x ∷ xs) ys = at (x.mem == m) (of_both m xs ys)
   where
-    at : (b : Bool) → of_mem m (xs ++ ys) ≡ of_mem m xs ++ of_mem m ys → (if b then x ∷ of_mem m (xs ++ ys) else of_mem m (xs ++ ys)) ≡ (if b then x ∷ of_mem m xs else of_mem m xs) ++ of_mem m ys
+    at : (b : Bool)
+        → of_mem m (xs ++ ys) ≡ of_mem m xs ++ of_mem m ys
+        → (if b then x ∷ of_mem m (xs ++ ys) else of_mem m (xs ++ ys)) ≡ (if b then x ∷ of_mem m xs else of_mem m xs) ++ of_mem m ys
     at true h = ap (λ l. x ∷ l) h
     at false h = h
 
-more_from : (p : Pipe) (m a b : ℕ) (arrays : Arrays) (args : List ℕ) → IsPrefix (of_mem m (writes_from p a arrays args)) (of_mem m (writes_from p (a + b) arrays args))
-more_from p m zero b arrays args = subst (λ n. IsPrefix [] (of_mem m (writes_from p n arrays args))) (let e : b ≡ 0 + b = omega arith in e) (of_mem m (writes_from p b arrays args), refl)
+more_from : (p : Pipe) (m a b : ℕ) (arrays : Arrays) (args : List ℕ)
+    → IsPrefix (of_mem m (writes_from p a arrays args)) (of_mem m (writes_from p (a + b) arrays args))
+more_from p m zero b arrays args =
+    subst (λ n. IsPrefix [] (of_mem m (writes_from p n arrays args))) (let e : b ≡ 0 + b = omega arith in e) (of_mem m (writes_from p b arrays args), refl)
 more_from p m (suc a) b arrays args =
     let r = thread p arrays args in
     let k = more_from p m a b r.arrays r.next in
-    subst (λ n. IsPrefix (of_mem m (writes_from p (suc a) arrays args)) (of_mem m (writes_from p n arrays args))) (let e : suc (a + b) ≡ suc a + b = omega arith in e) (
+    subst (λ n. IsPrefix (of_mem m (writes_from p (suc a) arrays args)) (of_mem m (writes_from p n arrays args)))
+    (let e : suc (a + b) ≡ suc a + b = omega arith in e) (
       k.0,
       ap (λ l. l ++ k.0) (of_both m r.writes (writes_from p a r.arrays r.next)) ∙ append_assoc (of_mem m r.writes) _ k.0 ∙ ap (λ l. of_mem m r.writes ++ l) k.1
           ∙ sym (of_both m r.writes (writes_from p (a + b) r.arrays r.next)),

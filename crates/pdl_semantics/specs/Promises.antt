@@ -26,7 +26,9 @@ pub record Refines (p : Pipe) (image : Arrays) (schedule : List (List Bool)) : T
   pub whole : (m : ℕ) → IsPrefix (seqwrites p image m (ended_in (turns p image schedule))) (commits m (turns p image schedule))
   pub prefix : (m : ℕ) → IsPrefix (commits m (turns p image schedule)) (seqwrites p image m (ended_in (turns p image schedule) + length p.stages))
   pub unlocked : (m : ℕ) → (mem_at p m).lock ≡ Plain → commits m (turns p image schedule) ≡ []
-  pub end : (m : ℕ) → is_advisory (mem_at p m).kind ≡ false → row (state_after p (first p image) schedule).arrays m ≡ wrote (row image m) (commits m (turns p image schedule))
+  pub end : (m : ℕ)
+      → is_advisory (mem_at p m).kind ≡ false
+      → row (state_after p (first p image) schedule).arrays m ≡ wrote (row image m) (commits m (turns p image schedule))
 
 -- PROGRESS
 

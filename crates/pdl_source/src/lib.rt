@@ -46,7 +46,7 @@ pub fn promises()
     ensures simulation { (text : List ℕ) (p : Pipe) → IsText text p → KeepsRules p →
         (image : Arrays) (schedule : List (List Bool)) →
         SameTurns (flat p) (turns (flat p) image schedule)
-            (Derived.turns (flat p) image (hints_of (flat p) (first (flat p) image) schedule) schedule) }
+        (Derived.turns (flat p) image (hints_of (flat p) (first (flat p) image) schedule) schedule) }
     ensures advice { (text : List ℕ) (p : Pipe) → IsText text p → KeepsRules p →
         (image other : Arrays) (schedule replies : List (List Bool)) →
         DifferInAdvice (flat p) image other → AdviceIsIdle (flat p) image other schedule replies }

@@ -199,10 +199,16 @@ module _ (ms : List Mem) (v : Option ℕ) (before : List Place) (bs : List Branc
   stood_by k (Verify sp g args) a i = verified sp g args a.0 a.1 a.2 k i a.3
   stood_by k (Update sp g args) a i = updated sp g args a.0 a.1 a.2 k i a.3
   stood_by k (Separator sp) a i = still k (Separator sp) refl refl i
-  stood_by k (CombRead sp x at) a i = either_read (λ op. Goes k (CombRead sp x at) (op ∷ [])) (is_advisory_mem ms at.mem.name) (length vs) (mem_of ms at.mem.name) (var_of vs at.address.name) (still k (CombRead sp x at) refl refl i) (still k (CombRead sp x at) refl refl i)
-  stood_by k (Bind sp x e) a i = either_bind (λ op. Goes k (Bind sp x e) (op ∷ [])) (is_advised vs e) (length vs) (flat_expr vs e) (still k (Bind sp x e) refl refl i) (still k (Bind sp x e) refl refl i)
+  stood_by k (CombRead sp x at) a i =
+      either_read (λ op. Goes k (CombRead sp x at) (op ∷ [])) (is_advisory_mem ms at.mem.name) (length vs) (mem_of ms at.mem.name) (var_of vs at.address.name)
+      (still k (CombRead sp x at) refl refl i) (still k (CombRead sp x at) refl refl i)
+  stood_by k (Bind sp x e) a i =
+      either_bind (λ op. Goes k (Bind sp x e) (op ∷ [])) (is_advised vs e) (length vs) (flat_expr vs e) (still k (Bind sp x e) refl refl i)
+      (still k (Bind sp x e) refl refl i)
   stood_by k (DelayedRead sp x at) a i = still k (DelayedRead sp x at) refl refl i
-  stood_by k (Write sp at e) a i = either_write (λ op. Goes k (Write sp at e) (op ∷ [])) (is_advisory_mem ms at.mem.name) (mem_of ms at.mem.name) (var_of vs at.address.name) (flat_expr vs e) (still k (Write sp at e) refl refl i) (still k (Write sp at e) refl refl i)
+  stood_by k (Write sp at e) a i =
+      either_write (λ op. Goes k (Write sp at e) (op ∷ [])) (is_advisory_mem ms at.mem.name) (mem_of ms at.mem.name) (var_of vs at.address.name)
+      (flat_expr vs e) (still k (Write sp at e) refl refl i) (still k (Write sp at e) refl refl i)
   stood_by k (Reserve sp at R) a i = still k (Reserve sp at R) refl refl i
   stood_by k (Reserve sp at W) a i = still k (Reserve sp at W) refl refl i
   stood_by k (Block sp at) a i = still k (Block sp at) refl refl i

@@ -152,7 +152,8 @@ module _ (p : Pipe) (rules : KeepsRules p) (apart : are_apart (places p) ≡ tru
       at Flat.Ends e = ap (λ n. goes_to n env') e ∙ sym (ap (λ n. goes_to n env) e)
       at (Flat.Goes to) e = ap (λ n. goes_to n env') e ∙ sym (ap (λ n. goes_to n env) e)
       at (Flat.Forks x a b) e =
-          ap (λ n. goes_to n env') e ∙ ap (λ v. Some (if v == 1 then a else b)) (d x (fork_seen p rules apart env' s x a b on e)) ∙ sym (ap (λ n. goes_to n env) e)
+          ap (λ n. goes_to n env') e ∙ ap (λ v. Some (if v == 1 then a else b)) (d x (fork_seen p rules apart env' s x a b on e))
+          ∙ sym (ap (λ n. goes_to n env) e)
 
   abbrev Alike : Flat.Stmt → Type 0
   Alike z =

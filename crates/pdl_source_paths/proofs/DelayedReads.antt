@@ -114,14 +114,21 @@ fetch_grows : (ms : List Mem) (t : Site) (x m a : ℕ)
 fetch_grows ms t x m a e = (ForkVars.bound_last ms t.walk.vars t.stmt x (ap (from_op (binds_var x)) e ∙ eq-eqb x x refl), at t.stmt (ap (from_op is_fetch) e))
   where
     at : (s : Stmt) → from_op is_fetch (op_of ms t.walk.vars s) ≡ true → length (vars_past ms t.walk.vars s) ≡ suc (length t.walk.vars)
-    at (DelayedRead sp y l) f = let a = length-append t.walk.vars (record { name = y.name; width = mem_width ms l.mem.name; advised = false } ∷ []) in omega arith
+    at (DelayedRead sp y l) f =
+        let a = length-append t.walk.vars (record { name = y.name; width = mem_width ms l.mem.name; advised = false } ∷ []) in omega arith
     at (If sp (Variable y) when otherwise) f = absurd (false≢true f)
     at (If sp c when otherwise) f = absurd (false≢true f)
     at (Reserve sp l R) f = absurd (false≢true f)
     at (Reserve sp l W) f = absurd (false≢true f)
-    at (CombRead sp x l) f = absurd (false≢true (sym (read_none is_fetch (is_advisory_mem ms l.mem.name) (length t.walk.vars) (mem_of ms l.mem.name) (var_of t.walk.vars l.address.name) refl refl) ∙ f))
+    at (CombRead sp x l) f =
+        absurd
+        (false≢true (sym (read_none is_fetch (is_advisory_mem ms l.mem.name) (length t.walk.vars) (mem_of ms l.mem.name)
+        (var_of t.walk.vars l.address.name) refl refl) ∙ f))
     at (Bind sp x v) f = absurd (false≢true (sym (bind_none is_fetch (is_advised t.walk.vars v) (length t.walk.vars) (flat_expr t.walk.vars v) refl refl) ∙ f))
-    at (Write sp l v) f = absurd (false≢true (sym (write_none is_fetch (is_advisory_mem ms l.mem.name) (mem_of ms l.mem.name) (var_of t.walk.vars l.address.name) (flat_expr t.walk.vars v) refl refl) ∙ f))
+    at (Write sp l v) f =
+        absurd
+        (false≢true (sym (write_none is_fetch (is_advisory_mem ms l.mem.name) (mem_of ms l.mem.name) (var_of t.walk.vars l.address.name)
+        (flat_expr t.walk.vars v) refl refl) ∙ f))
     at _ f = absurd (false≢true f)
 
 module _ (p : Pipe) (rules : KeepsRules p) (apart : are_apart (places p) ≡ true)

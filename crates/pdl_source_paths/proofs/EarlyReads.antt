@@ -338,7 +338,16 @@ module _ (p : Pipe) (rules : KeepsRules p) where
             at (If sp c when otherwise) g i = absurd (false≢true (sym (ap (λ s. from_op is_fetch (op_of p.mems t.walk.vars s)) g) ∙ wrong))
             at (Reserve sp l R) g i = absurd (false≢true (sym (ap (λ s. from_op is_fetch (op_of p.mems t.walk.vars s)) g) ∙ wrong))
             at (Reserve sp l W) g i = absurd (false≢true (sym (ap (λ s. from_op is_fetch (op_of p.mems t.walk.vars s)) g) ∙ wrong))
-            at (CombRead sp x l) g i = absurd (false≢true (sym (read_none is_fetch (is_advisory_mem p.mems l.mem.name) (length t.walk.vars) (mem_of p.mems l.mem.name) (var_of t.walk.vars l.address.name) refl refl) ∙ (sym (ap (λ s. from_op is_fetch (op_of p.mems t.walk.vars s)) g) ∙ wrong)))
-            at (Bind sp x v) g i = absurd (false≢true (sym (bind_none is_fetch (is_advised t.walk.vars v) (length t.walk.vars) (flat_expr t.walk.vars v) refl refl) ∙ (sym (ap (λ s. from_op is_fetch (op_of p.mems t.walk.vars s)) g) ∙ wrong)))
-            at (Write sp l v) g i = absurd (false≢true (sym (write_none is_fetch (is_advisory_mem p.mems l.mem.name) (mem_of p.mems l.mem.name) (var_of t.walk.vars l.address.name) (flat_expr t.walk.vars v) refl refl) ∙ (sym (ap (λ s. from_op is_fetch (op_of p.mems t.walk.vars s)) g) ∙ wrong)))
+            at (CombRead sp x l) g i =
+                absurd
+                (false≢true (sym (read_none is_fetch (is_advisory_mem p.mems l.mem.name) (length t.walk.vars) (mem_of p.mems l.mem.name)
+                (var_of t.walk.vars l.address.name) refl refl) ∙ (sym (ap (λ s. from_op is_fetch (op_of p.mems t.walk.vars s)) g) ∙ wrong)))
+            at (Bind sp x v) g i =
+                absurd
+                (false≢true (sym (bind_none is_fetch (is_advised t.walk.vars v) (length t.walk.vars) (flat_expr t.walk.vars v) refl refl)
+                ∙ (sym (ap (λ s. from_op is_fetch (op_of p.mems t.walk.vars s)) g) ∙ wrong)))
+            at (Write sp l v) g i =
+                absurd
+                (false≢true (sym (write_none is_fetch (is_advisory_mem p.mems l.mem.name) (mem_of p.mems l.mem.name) (var_of t.walk.vars l.address.name)
+                (flat_expr t.walk.vars v) refl refl) ∙ (sym (ap (λ s. from_op is_fetch (op_of p.mems t.walk.vars s)) g) ∙ wrong)))
             at s g i = absurd (false≢true (sym (ap (λ s. from_op is_fetch (op_of p.mems t.walk.vars s)) g) ∙ wrong))

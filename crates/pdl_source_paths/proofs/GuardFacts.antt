@@ -52,9 +52,14 @@ fetch_delayed ms vs s bs op e f = at s (ap (from_op is_fetch) e ∙ f)
     at (If sp c when otherwise) g = absurd (false≢true g)
     at (Reserve sp l R) g = absurd (false≢true g)
     at (Reserve sp l W) g = absurd (false≢true g)
-    at (CombRead sp x l) g = absurd (false≢true (sym (read_none is_fetch (is_advisory_mem ms l.mem.name) (length vs) (mem_of ms l.mem.name) (var_of vs l.address.name) refl refl) ∙ g))
+    at (CombRead sp x l) g =
+        absurd
+        (false≢true (sym (read_none is_fetch (is_advisory_mem ms l.mem.name) (length vs) (mem_of ms l.mem.name) (var_of vs l.address.name) refl refl) ∙ g))
     at (Bind sp x v) g = absurd (false≢true (sym (bind_none is_fetch (is_advised vs v) (length vs) (flat_expr vs v) refl refl) ∙ g))
-    at (Write sp l v) g = absurd (false≢true (sym (write_none is_fetch (is_advisory_mem ms l.mem.name) (mem_of ms l.mem.name) (var_of vs l.address.name) (flat_expr vs v) refl refl) ∙ g))
+    at (Write sp l v) g =
+        absurd
+        (false≢true (sym (write_none is_fetch (is_advisory_mem ms l.mem.name) (mem_of ms l.mem.name) (var_of vs l.address.name) (flat_expr vs v) refl refl)
+        ∙ g))
     at _ g = absurd (false≢true g)
 
 -- the guard that a statement binds

@@ -117,7 +117,8 @@ room_size n k h low = at (n == 1) refl low
     at true e l = le-leb (k + 0) n (let i = eqb-true n 1 e in omega arith)
     at false e l = le-leb (k + 0) n (let i = eqb-false n 1 e in let j = ltb-true 0 n h in omega arith)
 
-room_lock : (l : Option LockDecl) → ((d : LockDecl) → l ≡ Some d → is_size d.size.value ≡ true) → (k : ℕ) → k ≤ most (declared_size l) → has_room (flat_lock l) k 0 ≡ true
+room_lock : (l : Option LockDecl)
+    → ((d : LockDecl) → l ≡ Some d → is_size d.size.value ≡ true) → (k : ℕ) → k ≤ most (declared_size l) → has_room (flat_lock l) k 0 ≡ true
 room_lock None f k low = refl
 room_lock (Some l) f k low = at l.kind (room_size l.size.value k (sized l.size.value (f l refl)) low)
   where
@@ -137,27 +138,41 @@ rooms p rules (x ∷ ms) before m b k low = at (bytes_eq x.name.name m) low (roo
         let wrong = (or_parts (not (is_width x.width.value && is_depth x.depth.value))
         (Parts.is_some_and (Limits.is_wrong_lock x) x.lock)
         (rules Z7 before (Memory x) (map Memory ms ++ b.0) b.1)).1 in
-        let h = (or_parts (Flat.is_advisory x.kind) (not (is_size d.size.value && allows_lock x.depth.value (Flat.is_delayed x.kind) d.kind d.size.value)) (sym (ap (Parts.is_some_and (Limits.is_wrong_lock x)) e) ∙ wrong)).1 in
+        let h =
+        (or_parts (Flat.is_advisory x.kind) (not (is_size d.size.value && allows_lock x.depth.value (Flat.is_delayed x.kind) d.kind d.size.value))
+        (sym (ap (Parts.is_some_and (Limits.is_wrong_lock x)) e) ∙ wrong)).1 in
         (and_parts (is_size d.size.value) _ (not-false _ h)).0
 
-    at : (c : Bool) → k ≤ most (cond c (declared_size x.lock) (lock_size ms m)) → (k ≤ most (lock_size ms m) → has_room (slice_index_or (mems_of ms) (mem_of ms m) plain_mem).lock k 0 ≡ true)
+    at : (c : Bool)
+        → k ≤ most (cond c (declared_size x.lock) (lock_size ms m))
+        → (k ≤ most (lock_size ms m) → has_room (slice_index_or (mems_of ms) (mem_of ms m) plain_mem).lock k 0 ≡ true)
         → has_room (slice_index_or (mems_of (x ∷ ms)) (cond c 0 (suc (mem_of ms m))) plain_mem).lock k 0 ≡ true
     at true l f = room_lock x.lock known k l
     at false l f = f l
 
 -- an advisory memory has no lock
-pub advisory_unlocked : (p : Pipe) → KeepsRules p → (ms : List Mem) (before : List Place) (m : List ℕ) → After p before ms → is_advisory_mem ms m ≡ true → is_locked ms m ≡ false
+pub advisory_unlocked : (p : Pipe)
+    → KeepsRules p → (ms : List Mem) (before : List Place) (m : List ℕ) → After p before ms → is_advisory_mem ms m ≡ true
+    → is_locked ms m ≡ false
 advisory_unlocked p rules [] before m b h = refl
-advisory_unlocked p rules (x ∷ ms) before m b h = at (bytes_eq x.name.name m) h (advisory_unlocked p rules ms (before ++ Memory x ∷ []) m (after_next p before x ms b))
+advisory_unlocked p rules (x ∷ ms) before m b h =
+    at (bytes_eq x.name.name m) h (advisory_unlocked p rules ms (before ++ Memory x ∷ []) m (after_next p before x ms b))
   where
     wrong : Parts.is_some_and (Limits.is_wrong_lock x) x.lock ≡ false
-    wrong = (or_parts (not (is_width x.width.value && is_depth x.depth.value)) (Parts.is_some_and (Limits.is_wrong_lock x) x.lock) (rules Z7 before (Memory x) (map Memory ms ++ b.0) b.1)).1
+    wrong =
+        (or_parts (not (is_width x.width.value && is_depth x.depth.value)) (Parts.is_some_and (Limits.is_wrong_lock x) x.lock)
+        (rules Z7 before (Memory x) (map Memory ms ++ b.0) b.1)).1
 
     none : (l : Option LockDecl) → Parts.is_some_and (Limits.is_wrong_lock x) l ≡ false → Flat.is_advisory x.kind ≡ true → is_some l ≡ false
     none None w a = refl
-    none (Some d) w a = absurd (false≢true (sym (or_parts (Flat.is_advisory x.kind) (not (is_size d.size.value && allows_lock x.depth.value (Flat.is_delayed x.kind) d.kind d.size.value)) w).0 ∙ a))
+    none (Some d) w a =
+        absurd
+        (false≢true (sym (or_parts (Flat.is_advisory x.kind)
+        (not (is_size d.size.value && allows_lock x.depth.value (Flat.is_delayed x.kind) d.kind d.size.value)) w).0 ∙ a))
 
-    at : (c : Bool) → cond c (Flat.is_advisory x.kind) (is_advisory_mem ms m) ≡ true → (is_advisory_mem ms m ≡ true → is_locked ms m ≡ false) → cond c (is_some x.lock) (is_locked ms m) ≡ false
+    at : (c : Bool)
+        → cond c (Flat.is_advisory x.kind) (is_advisory_mem ms m) ≡ true → (is_advisory_mem ms m ≡ true → is_locked ms m ≡ false)
+        → cond c (is_some x.lock) (is_locked ms m) ≡ false
     at true a f = none x.lock wrong a
     at false a f = f a
 

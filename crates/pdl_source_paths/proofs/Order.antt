@@ -195,7 +195,8 @@ module _ (ms : List Mem) (c : List Guard) where
   -- the branches of a fork
   branch_rises : (front : List Place) (w : Flatten.Position) (gs : List Flat.Guard) (bs : List Branch) (sp : Span) (e : Expr) (when otherwise : Stmts)
       → Rises w.stage
-      (on_sites c (sites ms (front ++ Statement (If sp e when otherwise) bs ∷ []) (with_guard e w) (under gs w.vars e true) (bs ++ branch sp e true when ∷ []) when))
+      (on_sites c (sites ms (front ++ Statement (If sp e when otherwise) bs ∷ []) (with_guard e w) (under gs w.vars e true)
+      (bs ++ branch sp e true when ∷ []) when))
       (past_all ms when (with_guard e w)).begun
       → Rises w.stage
       (on_sites c
@@ -271,7 +272,8 @@ module _ (ms : List Mem) (c : List Guard) where
 
       by : (b : Bool) → is_whole when otherwise ≡ b → (b || (begins_stage ss && (is_late when && is_late otherwise))) ≡ true → k ≤ w.stage
           → (is_late when ≡ true → Rises w.stage
-          (on_sites c (sites ms (front ++ Statement (If sp e when otherwise) bs ∷ []) (with_guard e w) (under gs w.vars e true) (bs ++ branch sp e true when ∷ []) when))
+          (on_sites c (sites ms (front ++ Statement (If sp e when otherwise) bs ∷ []) (with_guard e w) (under gs w.vars e true)
+          (bs ++ branch sp e true when ∷ []) when))
           (past_all ms when (with_guard e w)).begun)
           → (is_late otherwise ≡ true → Rises w.stage
           (on_sites c

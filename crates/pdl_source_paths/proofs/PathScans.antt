@@ -190,9 +190,11 @@ module _ (p : Pipe) (q : Flat.Pipe) (lock_is : (m : List ℕ) → is_plain (mem_
       → Grows p.mems vs ts us → Each (KeepsLocks p) before (map place_of ts ++ closing p)
       → AreBacked p before → Stands p vs before m ph
       → (phases_ok (mem_of p.mems m) ph (seen p.mems ts) ≡ true) × (is_over (phase_all (mem_of p.mems m) ph (seen p.mems ts)) ≡ true) × (total (phase_all (mem_of p.mems m) ph (seen p.mems ts)) ≤ most_reservations p.mems W m)
-  writes_along m there plain vs us before ph [] h g each b i = (refl, ends_over p m there plain [] vs before ph each.0 i, subst (λ n. n ≤ most_reservations p.mems W m) i.count i.few)
+  writes_along m there plain vs us before ph [] h g each b i =
+      (refl, ends_over p m there plain [] vs before ph each.0 i, subst (λ n. n ≤ most_reservations p.mems W m) i.count i.few)
   writes_along m there plain vs us before ph (t ∷ ts) h g each b i =
-      let here = stands_next p m there plain t.branches t.walk.vars before (map place_of ts) ph t.stmt h.0.located b each (stands_grown p vs t.walk.vars before m ph g.0 i) in
+      let here = stands_next p m there plain t.branches t.walk.vars before (map place_of ts) ph t.stmt h.0.located b each
+      (stands_grown p vs t.walk.vars before m ph g.0 i) in
       let rest =
       writes_along m there plain (vars_past p.mems t.walk.vars t.stmt) us (before ++ place_of t ∷ [])
       (phase_ops (mem_of p.mems m) ph (ops p.mems t)) ts h.1 g.1 each.1 (backed_next p before (place_of t) each.0 b) here.1 in (

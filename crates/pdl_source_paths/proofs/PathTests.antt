@@ -292,16 +292,23 @@ module _ (p : Pipe) (rules : KeepsRules p) where
         ))
       where
         Writes : List ℕ → Type 0
-        Writes m = (phases_ok (mem_of p.mems m) Fresh (seen p.mems ts) ≡ true) × (is_over (phase_all (mem_of p.mems m) Fresh (seen p.mems ts)) ≡ true) × (total (phase_all (mem_of p.mems m) Fresh (seen p.mems ts)) ≤ most_reservations p.mems W m)
+        Writes m =
+            (phases_ok (mem_of p.mems m) Fresh (seen p.mems ts) ≡ true) × (is_over (phase_all (mem_of p.mems m) Fresh (seen p.mems ts)) ≡ true)
+            × (total (phase_all (mem_of p.mems m) Fresh (seen p.mems ts)) ≤ most_reservations p.mems W m)
 
         scanned_writes : (m : List ℕ) → is_memory p.mems m ≡ true → (b : Bool) → is_advisory_mem p.mems m ≡ b → Writes m
-        scanned_writes m there false a = writes_along p q lock_is m there a (params_of p.params) _ (front_of p) Fresh ts known (grows_on p.mems c (params_of p.params) _ (sites_of p) (grows_all p)) each backed (stands_first p (params_of p.params) (front_of p) m (λ f g h. none_front p f g h))
+        scanned_writes m there false a =
+            writes_along p q lock_is m there a (params_of p.params) _ (front_of p) Fresh ts known
+            (grows_on p.mems c (params_of p.params) _ (sites_of p) (grows_all p)) each backed
+            (stands_first p (params_of p.params) (front_of p) m (λ f g h. none_front p f g h))
         scanned_writes m there true a =
             let k = quiet_seen (mem_of p.mems m) p.mems ts
-                    (all_on (λ t. some_op (touches (mem_of p.mems m)) (ops p.mems t) ≡ false) c (sites_of p)
-                    (all_map (Here p) (λ t. some_op (touches (mem_of p.mems m)) (ops p.mems t) ≡ false)
-                    (λ t h. untouched p m there a (advisory_unlocked p rules p.mems (map Parameter p.params) m (all_after p) a) t.walk.vars t.stmt t.branches (located p rules t h) (rules F5 t.front (place_of t) h.later h.whole)) (sites_of p) (all_here p))) in
+            (all_on (λ t. some_op (touches (mem_of p.mems m)) (ops p.mems t) ≡ false) c (sites_of p)
+            (all_map (Here p) (λ t. some_op (touches (mem_of p.mems m)) (ops p.mems t) ≡ false)
+            (λ t h. untouched p m there a (advisory_unlocked p rules p.mems (map Parameter p.params) m (all_after p) a) t.walk.vars t.stmt t.branches
+            (located p rules t h) (rules F5 t.front (place_of t) h.later h.whole)) (sites_of p) (all_here p))) in
             (k.0, ap is_over k.1, subst (λ ph. total ph ≤ most_reservations p.mems W m) (sym k.1) (let l : 0 ≤ most_reservations p.mems W m = omega arith in l))
+
         none_more : (n : ℕ) → 0 + n ≡ n
         none_more n = omega arith
 
@@ -406,7 +413,8 @@ module _ (p : Pipe) (rules : KeepsRules p) where
         (and_from _ _ reads_pass
         (and_from _ _ (below_all (mem_passes q (seen p.mems ts)) (length q.mems) (λ m low. mem_pass m (subst (λ n. m < n) (mems_length p.mems) low)))
         (subst
-        (λ w. (makings_ok w Unmade (seen p.mems ts) && (is_made (making_all Unmade (seen p.mems ts)) && (checks_apart None (seen p.mems ts) && all_sure w false no_scan (seen p.mems ts)))) ≡ true)
+        (λ w. (makings_ok w Unmade (seen p.mems ts)
+        && (is_made (making_all Unmade (seen p.mems ts)) && (checks_apart None (seen p.mems ts) && all_sure w false no_scan (seen p.mems ts)))) ≡ true)
         (sym (StatementTests.verify_looked (flat p).stmts))
         (and_from _ _ makings_pass.0 (and_from _ _ makings_pass.1 (and_from _ _ apart_pass sure_pass)))))))))
 

@@ -44,7 +44,9 @@ quiet_ops i (op ∷ os) h =
     (and_from _ _ here.0 (ap (λ ph. phase_oks i ph os) here.1 ∙ rest.0), ap (λ ph. phase_ops i ph os) here.1 ∙ rest.1)
 
 -- of a memory that no site touches the phase stays fresh
-pub quiet_seen : (i : ℕ) (ms : List Mem) (ts : List Site) → All (λ t. some_op (touches i) (ops ms t) ≡ false) ts → (phases_ok i Fresh (seen ms ts) ≡ true) × (phase_all i Fresh (seen ms ts) ≡ Fresh)
+pub quiet_seen : (i : ℕ) (ms : List Mem) (ts : List Site)
+    → All (λ t. some_op (touches i) (ops ms t) ≡ false) ts
+    → (phases_ok i Fresh (seen ms ts) ≡ true) × (phase_all i Fresh (seen ms ts) ≡ Fresh)
 quiet_seen i ms [] h = (refl, refl)
 quiet_seen i ms (t ∷ ts) h =
     let here = quiet_ops i (ops ms t) h.0 in
@@ -54,8 +56,11 @@ quiet_seen i ms (t ∷ ts) h =
     )
 
 -- a statement touches no memory without lock that is advisory
-pub untouched : (p : Pipe) (m : List ℕ) → is_memory p.mems m ≡ true → is_advisory_mem p.mems m ≡ true → is_locked p.mems m ≡ false → (vs : List Var) (s : Stmt) (bs : List Branch)
-    → ((at : Location) → location_of s ≡ Some at → IsNamed p.mems vs at) → breaks_f5 p (Statement s bs) ≡ false → some_op (touches (mem_of p.mems m)) (ops_of p.mems vs s) ≡ false
+pub untouched : (p : Pipe) (m : List ℕ)
+    → is_memory p.mems m ≡ true → is_advisory_mem p.mems m ≡ true → is_locked p.mems m ≡ false
+    → (vs : List Var) (s : Stmt) (bs : List Branch)
+    → ((at : Location) → location_of s ≡ Some at → IsNamed p.mems vs at) → breaks_f5 p (Statement s bs) ≡ false
+    → some_op (touches (mem_of p.mems m)) (ops_of p.mems vs s) ≡ false
 untouched p m there advisory unlocked vs s bs = at s
   where
     far : (l : Location) → not (is_locked p.mems l.mem.name) ≡ false → bytes_eq l.mem.name m ≡ false
@@ -67,14 +72,17 @@ untouched p m there advisory unlocked vs s bs = at s
     elsewhere : (l : Location) → IsNamed p.mems vs l → bytes_eq l.mem.name m ≡ false → ((mem_of p.mems l.mem.name == mem_of p.mems m) || false) ≡ false
     elsewhere l n e = ap (λ b. b || false) (mem_is p.mems l.mem.name m n.0 there ∙ e)
 
-    at : (z : Stmt) → ((l : Location) → location_of z ≡ Some l → IsNamed p.mems vs l) → breaks_f5 p (Statement z bs) ≡ false → some_op (touches (mem_of p.mems m)) (ops_of p.mems vs z) ≡ false
+    at : (z : Stmt)
+        → ((l : Location) → location_of z ≡ Some l → IsNamed p.mems vs l) → breaks_f5 p (Statement z bs) ≡ false
+        → some_op (touches (mem_of p.mems m)) (ops_of p.mems vs z) ≡ false
     at (CombRead sp x l) h f = either_read Quiet (is_advisory_mem p.mems l.mem.name) _ _ _ refl refl
     at (Bind sp x v) h f = either_bind Quiet (is_advised vs v) _ _ refl refl
     at (Write sp l v) h f = go (is_advisory_mem p.mems l.mem.name) refl
       where
         go : (k : Bool) → is_advisory_mem p.mems l.mem.name ≡ k → Quiet (write_op k (mem_of p.mems l.mem.name) (var_of vs l.address.name) (flat_expr vs v))
         go true a = refl
-        go false a = elsewhere l (h l refl) (false_from_ne_true _ (λ t. both_ways _ a (subst (λ n. is_advisory_mem p.mems n ≡ true) (sym (bytes_same _ _ t)) advisory)))
+        go false a =
+            elsewhere l (h l refl) (false_from_ne_true _ (λ t. both_ways _ a (subst (λ n. is_advisory_mem p.mems n ≡ true) (sym (bytes_same _ _ t)) advisory)))
     at (Reserve sp l R) h f = refl
     at (Reserve sp l W) h f = elsewhere l (h l refl) (far l f)
     at (Release sp l) h f = elsewhere l (h l refl) (far l f)

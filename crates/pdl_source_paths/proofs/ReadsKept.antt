@@ -427,11 +427,22 @@ module _ (p : Pipe) (q : Flat.Pipe) (lock_is : (m : List ℕ) → is_plain (mem_
       → ((at : Location) → location_of s ≡ Some at → IsNamed p.mems vs at)
       → Scanned p (vars_past p.mems vs s) (before ++ Statement s bs ∷ []) (opens_ops (ops_of p.mems vs s) c)
   scanned_next (Separator sp) k there = same_next p vs before (Statement (Separator sp) bs) c (λ l h. refl) (λ l. refl) (λ l. refl) i
-  scanned_next (CombRead sp x at) k there = either_read (λ op. Scanned p (vars_past p.mems vs (CombRead sp x at)) (before ++ Statement (CombRead sp x at) bs ∷ []) (opens_ops (op ∷ []) c)) (is_advisory_mem p.mems at.mem.name) (length vs) (mem_of p.mems at.mem.name) (var_of vs at.address.name) (plain_next p vs _ before (Statement (CombRead sp x at) bs) c (λ l h. refl) (λ l. refl) (λ l. refl) i) (plain_next p vs _ before (Statement (CombRead sp x at) bs) c (λ l h. refl) (λ l. refl) (λ l. refl) i)
-  scanned_next (Bind sp x v) k there = either_bind (λ op. Scanned p (vars_past p.mems vs (Bind sp x v)) (before ++ Statement (Bind sp x v) bs ∷ []) (opens_ops (op ∷ []) c)) (is_advised vs v) (length vs) (flat_expr vs v) (plain_next p vs _ before (Statement (Bind sp x v) bs) c (λ l h. refl) (λ l. refl) (λ l. refl) i) (plain_next p vs _ before (Statement (Bind sp x v) bs) c (λ l h. refl) (λ l. refl) (λ l. refl) i)
+  scanned_next (CombRead sp x at) k there =
+      either_read (λ op. Scanned p (vars_past p.mems vs (CombRead sp x at)) (before ++ Statement (CombRead sp x at) bs ∷ []) (opens_ops (op ∷ []) c))
+      (is_advisory_mem p.mems at.mem.name) (length vs) (mem_of p.mems at.mem.name) (var_of vs at.address.name)
+      (plain_next p vs _ before (Statement (CombRead sp x at) bs) c (λ l h. refl) (λ l. refl) (λ l. refl) i)
+      (plain_next p vs _ before (Statement (CombRead sp x at) bs) c (λ l h. refl) (λ l. refl) (λ l. refl) i)
+  scanned_next (Bind sp x v) k there =
+      either_bind (λ op. Scanned p (vars_past p.mems vs (Bind sp x v)) (before ++ Statement (Bind sp x v) bs ∷ []) (opens_ops (op ∷ []) c)) (is_advised vs v)
+      (length vs) (flat_expr vs v) (plain_next p vs _ before (Statement (Bind sp x v) bs) c (λ l h. refl) (λ l. refl) (λ l. refl) i)
+      (plain_next p vs _ before (Statement (Bind sp x v) bs) c (λ l h. refl) (λ l. refl) (λ l. refl) i)
   scanned_next (SpecCall sp x v) k there = same_next p vs before (Statement (SpecCall sp x v) bs) c (λ l h. refl) (λ l. refl) (λ l. refl) i
   scanned_next (DelayedRead sp x at) k there = plain_next p vs _ before (Statement (DelayedRead sp x at) bs) c (λ l h. refl) (λ l. refl) (λ l. refl) i
-  scanned_next (Write sp at v) k there = either_write (λ op. Scanned p (vars_past p.mems vs (Write sp at v)) (before ++ Statement (Write sp at v) bs ∷ []) (opens_ops (op ∷ []) c)) (is_advisory_mem p.mems at.mem.name) (mem_of p.mems at.mem.name) (var_of vs at.address.name) (flat_expr vs v) (same_next p vs before (Statement (Write sp at v) bs) c (λ l h. refl) (λ l. refl) (λ l. refl) i) (same_next p vs before (Statement (Write sp at v) bs) c (λ l h. refl) (λ l. refl) (λ l. refl) i)
+  scanned_next (Write sp at v) k there =
+      either_write (λ op. Scanned p (vars_past p.mems vs (Write sp at v)) (before ++ Statement (Write sp at v) bs ∷ []) (opens_ops (op ∷ []) c))
+      (is_advisory_mem p.mems at.mem.name) (mem_of p.mems at.mem.name) (var_of vs at.address.name) (flat_expr vs v)
+      (same_next p vs before (Statement (Write sp at v) bs) c (λ l h. refl) (λ l. refl) (λ l. refl) i)
+      (same_next p vs before (Statement (Write sp at v) bs) c (λ l h. refl) (λ l. refl) (λ l. refl) i)
   scanned_next (Reserve sp at R) k there = read_next p vs before c sp at bs (there at refl) i k
   scanned_next (Reserve sp at W) k there = write_next p vs before c sp at bs (there at refl) i k
   scanned_next (Block sp at) k there = block_next p vs before c sp at bs (there at refl) i k
@@ -474,10 +485,15 @@ module _ (p : Pipe) (q : Flat.Pipe) (lock_is : (m : List ℕ) → is_plain (mem_
     pub scan_ok : (s : Stmt) → KeepsLocks p before (Statement s bs) → ((at : Location) → location_of s ≡ Some at → IsNamed p.mems vs at)
         → ((at : Location) → reads_at s ≡ Some at → is_locked p.mems at.mem.name ≡ true → k ≤ commit_stage q (mem_of p.mems at.mem.name))
         → ops_ok q k c (ops_of p.mems vs s) ≡ true
-    scan_ok (CombRead sp x at) h there late = either_read (λ op. ops_ok q k c (op ∷ []) ≡ true) (is_advisory_mem p.mems at.mem.name) (length vs) (mem_of p.mems at.mem.name) (var_of vs at.address.name) (refl) (read_ok at h.l1 (late at refl))
+    scan_ok (CombRead sp x at) h there late =
+        either_read (λ op. ops_ok q k c (op ∷ []) ≡ true) (is_advisory_mem p.mems at.mem.name) (length vs) (mem_of p.mems at.mem.name)
+        (var_of vs at.address.name) (refl) (read_ok at h.l1 (late at refl))
     scan_ok (DelayedRead sp x at) h there late = read_ok at h.l1 (late at refl)
-    scan_ok (Bind sp x v) h there late = either_bind (λ op. ops_ok q k c (op ∷ []) ≡ true) (is_advised vs v) (length vs) (flat_expr vs v) (refl) (and_from _ _ unbound refl)
-    scan_ok (Write sp at v) h there late = either_write (λ op. ops_ok q k c (op ∷ []) ≡ true) (is_advisory_mem p.mems at.mem.name) (mem_of p.mems at.mem.name) (var_of vs at.address.name) (flat_expr vs v) (refl) (refl)
+    scan_ok (Bind sp x v) h there late =
+        either_bind (λ op. ops_ok q k c (op ∷ []) ≡ true) (is_advised vs v) (length vs) (flat_expr vs v) (refl) (and_from _ _ unbound refl)
+    scan_ok (Write sp at v) h there late =
+        either_write (λ op. ops_ok q k c (op ∷ []) ≡ true) (is_advisory_mem p.mems at.mem.name) (mem_of p.mems at.mem.name) (var_of vs at.address.name)
+        (flat_expr vs v) (refl) (refl)
     scan_ok (If sp e when otherwise) h there late = if_ok e
     scan_ok (Reserve sp at R) h there late = refl
     scan_ok (Reserve sp at W) h there late = refl

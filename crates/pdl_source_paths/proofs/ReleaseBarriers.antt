@@ -90,11 +90,17 @@ module _ (p : Pipe) (v : Option ℕ) (vs : List Var) (before : List Place) (c : 
       → ((at : Location) → location_of t ≡ Some at → IsNamed p.mems vs at)
       → (stands_before v s ≡ true → releases_unsure before (Statement t bs) ≡ false) → Goes t (ops_of p.mems vs t)
   sure_by (Separator sp) k h a = (refl, still (Statement (Separator sp) bs) refl)
-  sure_by (CombRead sp x at) k h a = either_read (λ op. Goes (CombRead sp x at) (op ∷ [])) (is_advisory_mem p.mems at.mem.name) (length vs) (mem_of p.mems at.mem.name) (var_of vs at.address.name) ((refl, still_bind (Statement (CombRead sp x at) bs) refl)) ((refl, still_bind (Statement (CombRead sp x at) bs) refl))
-  sure_by (Bind sp x e) k h a = either_bind (λ op. Goes (Bind sp x e) (op ∷ [])) (is_advised vs e) (length vs) (flat_expr vs e) ((refl, still_bind (Statement (Bind sp x e) bs) refl)) ((refl, still_bind (Statement (Bind sp x e) bs) refl))
+  sure_by (CombRead sp x at) k h a =
+      either_read (λ op. Goes (CombRead sp x at) (op ∷ [])) (is_advisory_mem p.mems at.mem.name) (length vs) (mem_of p.mems at.mem.name)
+      (var_of vs at.address.name) ((refl, still_bind (Statement (CombRead sp x at) bs) refl)) ((refl, still_bind (Statement (CombRead sp x at) bs) refl))
+  sure_by (Bind sp x e) k h a =
+      either_bind (λ op. Goes (Bind sp x e) (op ∷ [])) (is_advised vs e) (length vs) (flat_expr vs e) ((refl, still_bind (Statement (Bind sp x e) bs) refl))
+      ((refl, still_bind (Statement (Bind sp x e) bs) refl))
   sure_by (SpecCall sp g args) k h a = (refl, still_bind (Statement (SpecCall sp g args) bs) refl)
   sure_by (DelayedRead sp x at) k h a = (refl, still_bind (Statement (DelayedRead sp x at) bs) refl)
-  sure_by (Write sp at e) k h a = either_write (λ op. Goes (Write sp at e) (op ∷ [])) (is_advisory_mem p.mems at.mem.name) (mem_of p.mems at.mem.name) (var_of vs at.address.name) (flat_expr vs e) ((refl, still_bind (Statement (Write sp at e) bs) refl)) ((refl, still_bind (Statement (Write sp at e) bs) refl))
+  sure_by (Write sp at e) k h a =
+      either_write (λ op. Goes (Write sp at e) (op ∷ [])) (is_advisory_mem p.mems at.mem.name) (mem_of p.mems at.mem.name) (var_of vs at.address.name)
+      (flat_expr vs e) ((refl, still_bind (Statement (Write sp at e) bs) refl)) ((refl, still_bind (Statement (Write sp at e) bs) refl))
   sure_by (Reserve sp at R) k h a = (refl, still_bind (Statement (Reserve sp at R) bs) refl)
   sure_by (Reserve sp at W) k h a = (refl, still_bind (Statement (Reserve sp at W) bs) refl)
   sure_by (Block sp at) k h a = (refl, still_bind (Statement (Block sp at) bs) refl)

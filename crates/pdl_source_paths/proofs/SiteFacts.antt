@@ -149,7 +149,9 @@ bound_name ms vs (If sp c when otherwise) i e = ([], refl, λ m f g. absurd (bot
 bound_name ms vs (Reserve sp l R) i e = absurd (false≢true e)
 bound_name ms vs (Reserve sp l W) i e = absurd (false≢true e)
 bound_name ms vs (Tree.Write sp l v) i e =
-    absurd (false≢true (sym (write_none (binds_var i) (is_advisory_mem ms l.mem.name) (mem_of ms l.mem.name) (var_of vs l.address.name) (flat_expr vs v) refl refl) ∙ e))
+    absurd
+    (false≢true (sym (write_none (binds_var i) (is_advisory_mem ms l.mem.name) (mem_of ms l.mem.name) (var_of vs l.address.name) (flat_expr vs v) refl refl)
+    ∙ e))
 bound_name ms vs _ i e = absurd (false≢true e)
 
 -- the site y is bound on the path, in a stage no later, and in an earlier one where it is a delayed read

@@ -200,10 +200,14 @@ knows_all ms vs s f = here s f
 
     here : (t : Stmt) → ((at : Location) → location_of t ≡ Some at → is_memory ms at.mem.name ≡ true)
         → ops_all (λ op. knows_memory (length ms) (answered_op op)) (ops_of ms vs t) ≡ true
-    here (CombRead sp x at) g = either_read (λ op. ops_all (λ o. knows_memory (length ms) (answered_op o)) (op ∷ []) ≡ true) (is_advisory_mem ms at.mem.name) (length vs) (mem_of ms at.mem.name) (var_of vs at.address.name) refl (low at.mem.name (g at refl))
+    here (CombRead sp x at) g =
+        either_read (λ op. ops_all (λ o. knows_memory (length ms) (answered_op o)) (op ∷ []) ≡ true) (is_advisory_mem ms at.mem.name) (length vs)
+        (mem_of ms at.mem.name) (var_of vs at.address.name) refl (low at.mem.name (g at refl))
     here (Bind sp x e) g = either_bind (λ op. ops_all (λ o. knows_memory (length ms) (answered_op o)) (op ∷ []) ≡ true) (is_advised vs e) _ _ refl refl
     here (DelayedRead sp x at) g = low at.mem.name (g at refl)
-    here (Write sp at v) g = either_write (λ op. ops_all (λ o. knows_memory (length ms) (answered_op o)) (op ∷ []) ≡ true) (is_advisory_mem ms at.mem.name) (mem_of ms at.mem.name) (var_of vs at.address.name) (flat_expr vs v) refl (low at.mem.name (g at refl))
+    here (Write sp at v) g =
+        either_write (λ op. ops_all (λ o. knows_memory (length ms) (answered_op o)) (op ∷ []) ≡ true) (is_advisory_mem ms at.mem.name) (mem_of ms at.mem.name)
+        (var_of vs at.address.name) (flat_expr vs v) refl (low at.mem.name (g at refl))
     here (Reserve sp at R) g = low at.mem.name (g at refl)
     here (Reserve sp at W) g = low at.mem.name (g at refl)
     here (Block sp at) g = low at.mem.name (g at refl)

@@ -92,12 +92,14 @@ bound_or vs x s b h f = ⊎_elim (λ t. inl (eqb-true (length vs) x t)) f (or_ca
 pub mention : (ms : List Mem) (vs : List Var) (s : Stmt) (x : ℕ) → from_op (mentions_var x) (op_of ms vs s) ≡ true → AtStmt vs x s
 mention ms vs (Separator sp) x h = absurd (false≢true h)
 mention ms vs (CombRead sp y l) x h =
-    either_read (λ op. from_op (mentions_var x) (Some op) ≡ true → AtStmt vs x (CombRead sp y l)) (is_advisory_mem ms l.mem.name) (length vs) (mem_of ms l.mem.name) (var_of vs l.address.name) (λ h. absurd (false≢true h))
+    either_read (λ op. from_op (mentions_var x) (Some op) ≡ true → AtStmt vs x (CombRead sp y l)) (is_advisory_mem ms l.mem.name) (length vs)
+    (mem_of ms l.mem.name) (var_of vs l.address.name) (λ h. absurd (false≢true h))
     (λ h.
     bound_or vs x (CombRead sp y l)
     (var_of vs l.address.name == x) h (λ t. inr (l.address.name, eqb-true (var_of vs l.address.name) x t, λ test bs e. at_address test l false e))) h
 mention ms vs (Bind sp y v) x h =
-    either_bind (λ op. from_op (mentions_var x) (Some op) ≡ true → AtStmt vs x (Bind sp y v)) (is_advised vs v) (length vs) (flat_expr vs v) (λ h. absurd (false≢true h))
+    either_bind (λ op. from_op (mentions_var x) (Some op) ≡ true → AtStmt vs x (Bind sp y v)) (is_advised vs v) (length vs) (flat_expr vs v)
+    (λ h. absurd (false≢true h))
     (λ h.
     bound_or vs x (Bind sp y v) (uses_in x (flat_expr vs v)) h (λ t. let r = in_expr vs x v t in inr (r.0, r.1, λ test bs e. r.2 test e))) h
 mention ms vs (SpecCall sp g args) x h = let r = in_exprs vs x args h in inr (r.0, r.1, λ test bs e. r.2 test e)
@@ -105,7 +107,8 @@ mention ms vs (DelayedRead sp y l) x h =
     bound_or vs x (DelayedRead sp y l)
     (var_of vs l.address.name == x) h (λ t. inr (l.address.name, eqb-true (var_of vs l.address.name) x t, λ test bs e. at_address test l false e))
 mention ms vs (Write sp l v) x h =
-    either_write (λ op. from_op (mentions_var x) (Some op) ≡ true → AtStmt vs x (Write sp l v)) (is_advisory_mem ms l.mem.name) (mem_of ms l.mem.name) (var_of vs l.address.name) (flat_expr vs v) (λ h. absurd (false≢true h))
+    either_write (λ op. from_op (mentions_var x) (Some op) ≡ true → AtStmt vs x (Write sp l v)) (is_advisory_mem ms l.mem.name) (mem_of ms l.mem.name)
+    (var_of vs l.address.name) (flat_expr vs v) (λ h. absurd (false≢true h))
     (λ h.
     ⊎_elim
     (λ t. inr (l.address.name, eqb-true (var_of vs l.address.name) x t, λ test bs e. at_address test l (some_part (reads_some test) v) e))

@@ -85,7 +85,9 @@ pub record Stands (p : Pipe) (vs : List Var) (before : List Place) (m : List ℕ
   pub out : (x : ℕ) → is_among x ph.gone ≡ true → IsOut vs before m x
   pub count : count_by (is_reserve_of W m) before ≡ total ph
   pub few : count_by (is_reserve_of W m) before ≤ most_reservations p.mems W m
-  pub every : (l : Location) → l.mem.name ≡ m → list_any (reserves_to_write l) before ≡ true → (x : ℕ) × (o : Open vs before m x) × (is_in ph x ≡ true) × (same_location o.at l ≡ true)
+  pub every : (l : Location)
+      → l.mem.name ≡ m → list_any (reserves_to_write l) before ≡ true
+      → (x : ℕ) × (o : Open vs before m x) × (is_in ph x ≡ true) × (same_location o.at l ≡ true)
   pub first : ph.full ≡ [] → ph.gone ≡ [] → (x : ℕ) → is_last x ph.unwritten ≡ true → IsFirst vs before m x
   pub one_open : is_distinct ph.unwritten ≡ true
   pub one_full : is_distinct ph.full ≡ true
@@ -121,7 +123,9 @@ dropped_among : (x a : ℕ) (xs : List ℕ) → is_among x (drop_var a xs) ≡ t
 dropped_among x a [] h = absurd (false≢true h)
 dropped_among x a (y ∷ ys) h = at (y == a) h (λ e. dropped_among x a ys e)
   where
-    at : (b : Bool) → is_among x (cond b ys (y ∷ drop_var a ys)) ≡ true → (is_among x (drop_var a ys) ≡ true → is_among x ys ≡ true) → is_among x (y ∷ ys) ≡ true
+    at : (b : Bool)
+        → is_among x (cond b ys (y ∷ drop_var a ys)) ≡ true → (is_among x (drop_var a ys) ≡ true → is_among x ys ≡ true)
+        → is_among x (y ∷ ys) ≡ true
     at true k go = or_right (y == x) _ k
     at false k go = ⊎_elim (λ e. or_left (y == x) _ (eq-eqb y x e)) (λ e. or_right (y == x) _ (go e)) (among_here x y (drop_var a ys) k)
 
@@ -140,7 +144,9 @@ still_among : (x a : ℕ) (xs : List ℕ) → is_among x xs ≡ true → (a ≡ 
 still_among x a [] h = absurd (false≢true h)
 still_among x a (y ∷ ys) h = at (y == a) refl (among_here x y ys h) (λ k. still_among x a ys k)
   where
-    at : (b : Bool) → (y == a) ≡ b → (y ≡ x) ⊎ (is_among x ys ≡ true) → (is_among x ys ≡ true → (a ≡ x) ⊎ (is_among x (drop_var a ys) ≡ true)) → (a ≡ x) ⊎ (is_among x (cond b ys (y ∷ drop_var a ys)) ≡ true)
+    at : (b : Bool)
+        → (y == a) ≡ b → (y ≡ x) ⊎ (is_among x ys ≡ true) → (is_among x ys ≡ true → (a ≡ x) ⊎ (is_among x (drop_var a ys) ≡ true))
+        → (a ≡ x) ⊎ (is_among x (cond b ys (y ∷ drop_var a ys)) ≡ true)
     at true i (inl e) go = inl (sym (eqb-true y a i) ∙ e)
     at true i (inr k) go = inr k
     at false i (inl e) go = inr (or_left (y == x) _ (eq-eqb y x e))
@@ -191,7 +197,8 @@ writes_there : (l : Location) (m : List ℕ) (x : Place) → l.mem.name ≡ m �
 writes_there l m (Statement (Write sp k v) bs) same f = subst (λ n. bytes_eq k.mem.name n ≡ true) same (and_parts (bytes_eq k.mem.name l.mem.name) _ f).0
 writes_there l m _ same f = absurd (false≢true f)
 
-counted_more : (m : List ℕ) (before : List Place) (x : Place) → is_reserve_of W m x ≡ false → count_by (is_reserve_of W m) (before ++ x ∷ []) ≡ count_by (is_reserve_of W m) before
+counted_more : (m : List ℕ) (before : List Place) (x : Place)
+    → is_reserve_of W m x ≡ false → count_by (is_reserve_of W m) (before ++ x ∷ []) ≡ count_by (is_reserve_of W m) before
 counted_more m before x nor =
     let here : weight (is_reserve_of W m x) ≡ 0 = ap weight nor in
     omega (arith, count_push (is_reserve_of W m) before x)
@@ -232,13 +239,16 @@ moved p vs us before m ph x nor now keep still s =
     reserved_front : (l : Location) → l.mem.name ≡ m → list_any (reserves_to_write l) (before ++ x ∷ []) ≡ true → list_any (reserves_to_write l) before ≡ true
     reserved_front l same r =
         ⊎_elim (λ t. t)
-        (λ t. ⊎_elim (λ u. absurd (both_ways _ nor (subst (λ n. is_reserve_of W n x ≡ true) same (reserves_mem l x u)))) (λ u. absurd (false≢true u)) (or_cases (reserves_to_write l x) false t))
+        (λ t. ⊎_elim (λ u. absurd (both_ways _ nor (subst (λ n. is_reserve_of W n x ≡ true) same (reserves_mem l x u)))) (λ u. absurd (false≢true u))
+        (or_cases (reserves_to_write l x) false t))
         (or_cases (list_any (reserves_to_write l) before) _ (sym (list_any-append (reserves_to_write l) before (x ∷ [])) ∙ r))
 
 -- no write, no location with a value
 wrote_none : (p : Pipe) (vs : List Var) (before : List Place) (m : List ℕ) (ph : Phase) → Stands p vs before m ph
     → list_any (is_write_of m) before ≡ false → may_read ph ≡ true
-wrote_none p vs before m ph s h = and_from _ _ (nil ph.full (λ n t. both_ways _ h (any_weaker _ _ (λ x e. writes_there (s.set n t).place.at m x (s.set n t).place.mem e) before (s.set n t).set)))
+wrote_none p vs before m ph s h =
+    and_from _ _
+    (nil ph.full (λ n t. both_ways _ h (any_weaker _ _ (λ x e. writes_there (s.set n t).place.at m x (s.set n t).place.mem e) before (s.set n t).set)))
     (nil ph.gone (λ n t. both_ways _ h (any_weaker _ _ (λ x e. writes_there (s.out n t).place.at m x (s.out n t).place.mem e) before (s.out n t).set)))
   where
     nil : (xs : List ℕ) → ((n : ℕ) → is_among n xs ≡ true → ⊥) → is_nil xs ≡ true
@@ -262,14 +272,17 @@ other_mem at l m e f =
 
 module _ (p : Pipe) (vs : List Var) (before : List Place) (m : List ℕ) (there : is_memory p.mems m ≡ true) (plain : is_advisory_mem p.mems m ≡ false) (bs : List Branch) where
   -- two locations of one number are one
-  same_place : (at : Location) (y : ℕ) (o : Open vs before m y) → at.mem.name ≡ m → is_named vs at.address.name ≡ true → y ≡ var_of vs at.address.name → same_location at o.at ≡ true
+  same_place : (at : Location) (y : ℕ) (o : Open vs before m y)
+      → at.mem.name ≡ m → is_named vs at.address.name ≡ true → y ≡ var_of vs at.address.name → same_location at o.at ≡ true
   same_place at y o same named f =
       and_from _ _ (subst (λ k. bytes_eq at.mem.name k ≡ true) (same ∙ sym o.mem) (bytes_refl at.mem.name))
-      (subst (λ k. bytes_eq at.address.name k ≡ true) (var_same vs at.address.name o.at.address.name named o.named (sym f ∙ sym o.number)) (bytes_refl at.address.name))
+      (subst (λ k. bytes_eq at.address.name k ≡ true) (var_same vs at.address.name o.at.address.name named o.named (sym f ∙ sym o.number))
+      (bytes_refl at.address.name))
 
   -- and one location has one number
   same_number : (at : Location) (y : ℕ) (o : Open vs before m y) → same_location at o.at ≡ true → y ≡ var_of vs at.address.name
   same_number at y o t = sym o.number ∙ ap (var_of vs) (sym (bytes_same _ _ (and_parts (bytes_eq at.mem.name o.at.mem.name) _ t).1))
+
   -- a reservation for writing
   reserve_step : (sp : Span) (at : Location) (ph : Phase) → IsNamed p.mems vs at
       → AreBacked p before → KeepsLocks p before (Statement (Reserve sp at W) bs) → Stands p vs before m ph → (b : Bool)
@@ -295,19 +308,25 @@ module _ (p : Pipe) (vs : List Var) (before : List Place) (m : List ℕ) (there 
 
       -- it isn't reserved yet
       other : (l : Location) → list_any (reserves_to_write l) before ≡ true → same_location at l ≡ false
-      other l r = false_from_ne_true _ (λ t. both_ways _ keeps.l5 (ap (λ f. list_any f before) (fun_ext (reserves_alike at l t)) ∙ any_weaker _ _ (reserves_some l) before r))
+      other l r =
+          false_from_ne_true _
+          (λ t. both_ways _ keeps.l5 (ap (λ f. list_any f before) (fun_ext (reserves_alike at l t)) ∙ any_weaker _ _ (reserves_some l) before r))
 
       apart_from : (y : ℕ) (o : Open vs before m y) → a ≡ y → ⊥
       apart_from y o f = both_ways _
-        (other o.at o.reserved) (same_place at y o same n.1 (sym f))
+          (other o.at o.reserved) (same_place at y o same n.1 (sym f))
 
       new : is_new ph a ≡ true
       new = and_from _ _ (ap not (false_from_ne_true _ (λ t. apart_from a (s.unset a t).place refl)))
-          (and_from _ _ (ap not (false_from_ne_true _ (λ t. apart_from a (s.set a t).place refl))) (ap not (false_from_ne_true _ (λ t. apart_from a (s.out a t).place refl))))
+          (and_from _ _ (ap not (false_from_ne_true _ (λ t. apart_from a (s.set a t).place refl)))
+          (ap not (false_from_ne_true _ (λ t. apart_from a (s.out a t).place refl))))
 
       -- nor written
       unwritten : list_any (writes_location at) before ≡ false
-      unwritten = false_from_ne_true _ (λ t. both_ways _ keeps.l5 (any_weaker _ _ (reserves_some at) before (written_reserved p before at (subst (λ n. is_advisory_mem p.mems n ≡ false) (sym same) plain) backed t)))
+      unwritten =
+          false_from_ne_true _
+          (λ t. both_ways _ keeps.l5
+          (any_weaker _ _ (reserves_some at) before (written_reserved p before at (subst (λ n. is_advisory_mem p.mems n ≡ false) (sym same) plain) backed t)))
 
       place : Open vs (before ++ x ∷ []) m a
       place = record {
@@ -327,7 +346,9 @@ module _ (p : Pipe) (vs : List Var) (before : List Place) (m : List ℕ) (there 
           omega (arith, count_push (is_reserve_of W m) before x)
 
       low : count_by (is_reserve_of W m) before < most_reservations p.mems W m
-      low = subst (λ k. count_by (is_reserve_of W k) before < most_reservations p.mems W k) same (leb-false (most_reservations p.mems W at.mem.name) (count_by (is_reserve_of W at.mem.name) before) keeps.l4)
+      low =
+          subst (λ k. count_by (is_reserve_of W k) before < most_reservations p.mems W k) same
+          (leb-false (most_reservations p.mems W at.mem.name) (count_by (is_reserve_of W at.mem.name) before) keeps.l4)
 
       held : (b : Bool) (h : Hold) → is_held_for W h ≡ true → is_held_for W (if b then Reserved W else h) ≡ true
       held true h i = refl
@@ -351,7 +372,9 @@ module _ (p : Pipe) (vs : List Var) (before : List Place) (m : List ℕ) (there 
           first_new [] k = rw e refl
           first_new (z ∷ zs) k =
               let c = count_cons (is_reserve_of W m) z zs in
-              let here : is_reserve_of W m z ≡ false = none_here (is_reserve_of W m z) (let w : weight (is_reserve_of W m z) + count_by (is_reserve_of W m) zs ≡ 0 = sym c ∙ k in omega arith) in
+              let here : is_reserve_of W m z
+              ≡ false = none_here (is_reserve_of W m z)
+              (let w : weight (is_reserve_of W m z) + count_by (is_reserve_of W m) zs ≡ 0 = sym c ∙ k in omega arith) in
               rw here (first_new zs (let w : weight (is_reserve_of W m z) + count_by (is_reserve_of W m) zs ≡ 0 = sym c ∙ k in omega arith))
             where
               none_here : (b : Bool) → weight b ≡ 0 → b ≡ false
@@ -371,7 +394,10 @@ module _ (p : Pipe) (vs : List Var) (before : List Place) (m : List ℕ) (there 
               skip : (zs : List Place) → is_reserve_of W m w ≡ false → first_reserved m (w ∷ zs) ≡ first_reserved m zs
               skip zs q = rw q refl
 
-              by : (b : Bool) → is_reserve_of W m w ≡ b → first_reserved m (w ∷ ws) ≡ Some l → (first_reserved m ws ≡ Some l → first_reserved m (ws ++ x ∷ []) ≡ Some l) → first_reserved m (w ∷ (ws ++ x ∷ [])) ≡ Some l
+              by : (b : Bool)
+                  → is_reserve_of W m w ≡ b → first_reserved m (w ∷ ws) ≡ Some l
+                  → (first_reserved m ws ≡ Some l → first_reserved m (ws ++ x ∷ []) ≡ Some l)
+                  → first_reserved m (w ∷ (ws ++ x ∷ [])) ≡ Some l
               by true q k r = same q ∙ k
               by false q k r = skip (ws ++ x ∷ []) q ∙ r (sym (skip ws q) ∙ k)
 
@@ -404,7 +430,8 @@ module _ (p : Pipe) (vs : List Var) (before : List Place) (m : List ℕ) (there 
         every = λ l f r. ⊎_elim
             (λ t. let o = s.every l f t in
             (o.0, front o.0 o.1, or_shift (a == o.0) (is_among o.0 ph.unwritten) (is_among o.0 ph.full || is_among o.0 ph.gone) o.2, o.3))
-            (λ t. ⊎_elim (λ u. (a, place, or_left (is_among a (a ∷ ph.unwritten)) _ (among_self a ph.unwritten), u)) (λ u. absurd (false≢true u)) (or_cases (reserves_to_write l x) false t))
+            (λ t. ⊎_elim (λ u. (a, place, or_left (is_among a (a ∷ ph.unwritten)) _ (among_self a ph.unwritten), u)) (λ u. absurd (false≢true u))
+            (or_cases (reserves_to_write l x) false t))
             (or_cases (list_any (reserves_to_write l) before) _ (sym (list_any-append (reserves_to_write l) before (x ∷ [])) ∙ r));
         first = first ph.unwritten refl;
         one_open = and_from _ _ (and_parts (not (is_among a ph.unwritten)) _ new).0 s.one_open;
@@ -414,7 +441,8 @@ module _ (p : Pipe) (vs : List Var) (before : List Place) (m : List ℕ) (there 
 
   -- a write
   write_step : (sp : Span) (at : Location) (v : Expr) (ph : Phase) → IsNamed p.mems vs at
-      → KeepsLocks p before (Statement (Write sp at v) bs) → list_any (writes_location at) before ≡ false → Stands p vs before m ph → (b : Bool) → bytes_eq at.mem.name m ≡ b
+      → KeepsLocks p before (Statement (Write sp at v) bs) → list_any (writes_location at) before ≡ false → Stands p vs before m ph
+      → (b : Bool) → bytes_eq at.mem.name m ≡ b
       → ((not b || may_write ph (var_of vs at.address.name)) ≡ true)
       × Stands p vs (before ++ Statement (Write sp at v) bs ∷ []) m (cond b (after_write ph (var_of vs at.address.name)) ph)
   write_step sp at v ph n keeps unwritten s false e = (
@@ -429,6 +457,7 @@ module _ (p : Pipe) (vs : List Var) (before : List Place) (m : List ℕ) (there 
 
       a : ℕ
       a = var_of vs at.address.name
+
       same : at.mem.name ≡ m
       same = bytes_same _ _ e
 
@@ -447,7 +476,8 @@ module _ (p : Pipe) (vs : List Var) (before : List Place) (m : List ℕ) (there 
           let w = s.every at same reserved in
           let f : w.0 ≡ a = same_number at w.0 w.1 (location_sym w.1.at at w.3) in
           ⊎_elim (λ t. subst (λ y. is_among y ph.unwritten ≡ true) f t)
-          (λ t. ⊎_elim (λ u. absurd (not_set w.0 (s.set w.0 u).place (s.set w.0 u).set (sym f))) (λ u. absurd (not_set w.0 (s.out w.0 u).place (s.out w.0 u).set (sym f))) (or_cases (is_among w.0 ph.full) _ t))
+          (λ t. ⊎_elim (λ u. absurd (not_set w.0 (s.set w.0 u).place (s.set w.0 u).set (sym f)))
+          (λ u. absurd (not_set w.0 (s.out w.0 u).place (s.out w.0 u).set (sym f))) (or_cases (is_among w.0 ph.full) _ t))
           (or_cases (is_among w.0 ph.unwritten) _ w.2)
 
       two : total ph ≤ 2
@@ -478,7 +508,9 @@ module _ (p : Pipe) (vs : List Var) (before : List Place) (m : List ℕ) (there 
           z_among = subst (λ l. is_among z l ≡ true) (sym u) (or_right (y == z) _ (among_self z []))
 
           distinct : y ≡ z → ⊥
-          distinct g = both_ways _ (not-true _ (and_parts (not (is_among y (z ∷ []))) _ (subst (λ l. is_distinct l ≡ true) u s.one_open)).0) (or_left (z == y) false (eq-eqb z y (sym g)))
+          distinct g =
+              both_ways _ (not-true _ (and_parts (not (is_among y (z ∷ []))) _ (subst (λ l. is_distinct l ≡ true) u s.one_open)).0)
+              (or_left (z == y) false (eq-eqb z y (sym g)))
 
           -- the first one has no value
           first_unset : list_any (writes_location f.at) before ≡ false
@@ -504,7 +536,8 @@ module _ (p : Pipe) (vs : List Var) (before : List Place) (m : List ℕ) (there 
           by : (xs : List ℕ) → ph.unwritten ≡ xs → is_among a xs ≡ true → is_oldest a xs ≡ true
           by [] u t = absurd (false≢true t)
           by (y ∷ []) u t = ⊎_elim (λ f. eq-eqb y a f) (λ f. absurd (false≢true f)) (among_here a y [] t)
-          by (y ∷ z ∷ []) u t = second y z u (⊎_elim (λ f. inl f) (λ f. ⊎_elim (λ g. inr g) (λ g. absurd (false≢true g)) (among_here a z [] f)) (among_here a y (z ∷ []) t))
+          by (y ∷ z ∷ []) u t =
+              second y z u (⊎_elim (λ f. inl f) (λ f. ⊎_elim (λ g. inr g) (λ g. absurd (false≢true g)) (among_here a z [] f)) (among_here a y (z ∷ []) t))
           by (y ∷ z ∷ w ∷ ws) u t = absurd (let l : length ph.unwritten ≡ length (y ∷ z ∷ w ∷ ws) = ap length u in let t = two in omega arith)
 
       front : (y : ℕ) → Open vs before m y → Open vs (before ++ x ∷ []) m y
@@ -514,7 +547,10 @@ module _ (p : Pipe) (vs : List Var) (before : List Place) (m : List ℕ) (there 
       stands = record {
         unset = λ y t. let u = s.unset y (front_among y ph.unwritten t) in record {
           place = front y u.place;
-          unset = none_more (writes_location u.place.at) before x u.unset (false_from_ne_true _ (λ q. both_ways _ (oldest_once a ph.unwritten oldest) (subst (λ k. is_among k (but_last ph.unwritten) ≡ true) (same_number at y u.place q) t)));
+          unset =
+              none_more (writes_location u.place.at) before x u.unset
+              (false_from_ne_true _
+              (λ q. both_ways _ (oldest_once a ph.unwritten oldest) (subst (λ k. is_among k (but_last ph.unwritten) ≡ true) (same_number at y u.place q) t)));
           held = ap (is_held_for W) (held_more u.place.at before x) ∙ u.held;
         };
         set = λ y t. ⊎_elim
@@ -540,7 +576,9 @@ module _ (p : Pipe) (vs : List Var) (before : List Place) (m : List ℕ) (there 
       }
         where
           reserved_front : (l : Location) → list_any (reserves_to_write l) (before ++ x ∷ []) ≡ true → list_any (reserves_to_write l) before ≡ true
-          reserved_front l r = ⊎_elim (λ t. t) (λ t. absurd (false≢true t)) (or_cases (list_any (reserves_to_write l) before) _ (sym (list_any-append (reserves_to_write l) before (x ∷ [])) ∙ r))
+          reserved_front l r =
+              ⊎_elim (λ t. t) (λ t. absurd (false≢true t))
+              (or_cases (list_any (reserves_to_write l) before) _ (sym (list_any-append (reserves_to_write l) before (x ∷ [])) ∙ r))
 
           still : (y : ℕ) → is_in ph y ≡ true → is_in (after_write ph a) y ≡ true
           still y t = ⊎_elim
@@ -594,7 +632,8 @@ module _ (p : Pipe) (vs : List Var) (before : List Place) (m : List ℕ) (there 
               let c : not (count_by (writes_location at) before == 1) ≡ false =
               ap (λ b. b && not (count_by (writes_location at) before == 1)) (sym h) ∙ keeps.l6 in
               let k : count_by (writes_location at) before ≡ 1 = eqb-true _ 1 (not-false _ c) in
-              let z : count_by (writes_location at) before ≡ 0 = count_none (writes_location at) before (ap (λ g. list_any g before) (fun_ext (writes_alike at o.place.at j)) ∙ o.unset) in
+              let z : count_by (writes_location at) before
+              ≡ 0 = count_none (writes_location at) before (ap (λ g. list_any g before) (fun_ext (writes_alike at o.place.at j)) ∙ o.unset) in
               absurd (omega arith))
 
           front : (y : ℕ) → Open vs before m y
@@ -605,9 +644,13 @@ module _ (p : Pipe) (vs : List Var) (before : List Place) (m : List ℕ) (there 
           other y o f = false_from_ne_true _ (λ t. f (sym (same_number at y o t)))
 
           reserved_front : (l : Location) → list_any (reserves_to_write l) (before ++ x ∷ []) ≡ true → list_any (reserves_to_write l) before ≡ true
-          reserved_front l r = ⊎_elim (λ t. t) (λ t. absurd (false≢true t)) (or_cases (list_any (reserves_to_write l) before) _ (sym (list_any-append (reserves_to_write l) before (x ∷ [])) ∙ r))
+          reserved_front l r =
+              ⊎_elim (λ t. t) (λ t. absurd (false≢true t))
+              (or_cases (list_any (reserves_to_write l) before) _ (sym (list_any-append (reserves_to_write l) before (x ∷ [])) ∙ r))
 
-          by : (c : Bool) → is_among a ph.full ≡ c → Stands p vs (before ++ x ∷ []) m (if c then record { unwritten = ph.unwritten; full = drop_var a ph.full; gone = a ∷ ph.gone } else ph)
+          by : (c : Bool)
+              → is_among a ph.full ≡ c
+              → Stands p vs (before ++ x ∷ []) m (if c then record { unwritten = ph.unwritten; full = drop_var a ph.full; gone = a ∷ ph.gone } else ph)
           by false t = record {
             unset = λ y u. let o = s.unset y u in record {
               place = front y o.place;
@@ -615,19 +658,33 @@ module _ (p : Pipe) (vs : List Var) (before : List Place) (m : List ℕ) (there 
                   none_more (writes_location o.place.at) before x o.unset refl;
               held =
                   ap (is_held_for W)
-                      (held_more o.place.at before x ∙ ap (λ c. if c then Released else hold_after o.place.at before) (other y o.place (λ f. both_ways _ closed (subst (λ k. is_among k ph.unwritten ≡ true) (sym f) u))))
-                      ∙ o.held;
+                  (held_more o.place.at before x
+                  ∙ ap (λ c. if c then Released else hold_after o.place.at before)
+                  (other y o.place (λ f. both_ways _ closed (subst (λ k. is_among k ph.unwritten ≡ true) (sym f) u))))
+                  ∙ o.held;
             };
             set = λ y u. let o = s.set y u in record {
               place = front y o.place;
               set = any_front (writes_location o.place.at) before x o.set;
-              held = held_more o.place.at before x ∙ ap (λ c. if c then Released else hold_after o.place.at before) (other y o.place (λ f. both_ways _ t (subst (λ k. is_among k ph.full ≡ true) (sym f) u))) ∙ o.held;
+              held =
+                  held_more o.place.at before x
+                  ∙ ap (λ c. if c then Released else hold_after o.place.at before)
+                  (other y o.place (λ f. both_ways _ t (subst (λ k. is_among k ph.full ≡ true) (sym f) u)))
+                  ∙ o.held;
             };
             out = λ y u. let o = s.out y u in record { place = front y o.place; set = any_front (writes_location o.place.at) before x o.set };
             count = counted_more m before x refl ∙ s.count;
             few = subst (λ k. k ≤ most_reservations p.mems W m) (sym (counted_more m before x refl)) s.few;
             every = λ l f r. let o = s.every l f (reserved_front l r) in (o.0, front o.0 o.1, o.2, o.3);
-            first = λ f g y u. let o = s.first f g y u in record { at = o.at; first = first_stays m before x refl ∙ o.first; mem = o.mem; named = o.named; number = o.number };
+            first =
+                λ f g y u. let o = s.first f g y u in record {
+                  at = o.at;
+                  first = first_stays m before x refl
+                      ∙ o.first;
+                  mem = o.mem;
+                  named = o.named;
+                  number = o.number;
+                };
             one_open = s.one_open;
             one_full = s.one_full;
             apart = s.apart;
@@ -636,15 +693,23 @@ module _ (p : Pipe) (vs : List Var) (before : List Place) (m : List ℕ) (there 
             unset = λ y u. let o = s.unset y u in record {
               place = front y o.place;
               unset = none_more (writes_location o.place.at) before x o.unset refl;
-              held = ap (is_held_for W) (held_more o.place.at before x ∙ ap (λ c. if c then Released else hold_after o.place.at before) (other y o.place (λ f. both_ways _ closed (subst (λ k. is_among k ph.unwritten ≡ true) (sym f) u)))) ∙ o.held;
+              held =
+                  ap (is_held_for W)
+                  (held_more o.place.at before x
+                  ∙ ap (λ c. if c then Released else hold_after o.place.at before)
+                  (other y o.place (λ f. both_ways _ closed (subst (λ k. is_among k ph.unwritten ≡ true) (sym f) u))))
+                  ∙ o.held;
             };
             set = λ y u. let o = s.set y (dropped_among y a ph.full u) in record {
               place = front y o.place;
               set = any_front (writes_location o.place.at) before x o.set;
-              held = held_more o.place.at before x ∙ ap (λ c. if c then Released else hold_after o.place.at before) (other y o.place (dropped_other y a ph.full s.one_full u)) ∙ o.held;
+              held =
+                  held_more o.place.at before x
+                  ∙ ap (λ c. if c then Released else hold_after o.place.at before) (other y o.place (dropped_other y a ph.full s.one_full u)) ∙ o.held;
             };
             out = λ y u. ⊎_elim
-                (λ f. let o = s.set y (subst (λ k. is_among k ph.full ≡ true) f t) in record { place = front y o.place; set = any_front (writes_location o.place.at) before x o.set })
+                (λ f. let o = s.set y
+                (subst (λ k. is_among k ph.full ≡ true) f t) in record { place = front y o.place; set = any_front (writes_location o.place.at) before x o.set })
                 (λ f. let o = s.out y f in record { place = front y o.place; set = any_front (writes_location o.place.at) before x o.set })
                 (among_here y a ph.gone u);
             count = counted_more m before x refl ∙ s.count ∙ (let l = drop_length a ph.full t in omega arith);
@@ -653,14 +718,17 @@ module _ (p : Pipe) (vs : List Var) (before : List Place) (m : List ℕ) (there 
             first = λ f g y u. absurd (cc g);
             one_open = s.one_open;
             one_full = drop_distinct a ph.full s.one_full;
-            apart = subst Apart (ap (λ c. if c then record { unwritten = ph.unwritten; full = drop_var a ph.full; gone = a ∷ ph.gone } else ph) t) (apart_release ph a s.apart);
+            apart =
+                subst Apart (ap (λ c. if c then record { unwritten = ph.unwritten; full = drop_var a ph.full; gone = a ∷ ph.gone } else ph) t)
+                (apart_release ph a s.apart);
           }
             where
               still : (y : ℕ) → is_in ph y ≡ true → (is_among y ph.unwritten || (is_among y (drop_var a ph.full) || is_among y (a ∷ ph.gone))) ≡ true
               still y u = ⊎_elim
                   (λ f. or_left (is_among y ph.unwritten) _ f)
                   (λ f. or_right (is_among y ph.unwritten) _ (⊎_elim
-                  (λ g. ⊎_elim (λ h. or_right (is_among y (drop_var a ph.full)) _ (or_left (a == y) _ (eq-eqb a y h))) (λ h. or_left (is_among y (drop_var a ph.full)) _ h) (still_among y a ph.full g))
+                  (λ g. ⊎_elim (λ h. or_right (is_among y (drop_var a ph.full)) _ (or_left (a == y) _ (eq-eqb a y h)))
+                  (λ h. or_left (is_among y (drop_var a ph.full)) _ h) (still_among y a ph.full g))
                   (λ g. or_right (is_among y (drop_var a ph.full)) _ (or_right (a == y) _ g))
                   (or_cases (is_among y ph.full) _ f)))
                   (or_cases (is_among y ph.unwritten) _ u)
@@ -677,7 +745,15 @@ stands_grown p vs us before m ph g s = subst (λ ws. Stands p ws before m ph) (s
   count = s.count;
   few = s.few;
   every = λ l f r. let o = s.every l f r in (o.0, more o.0 o.1, o.2, o.3);
-  first = λ f h x t. let o = s.first f h x t in record { at = o.at; first = o.first; mem = o.mem; named = list_any-append _ vs g.0 ∙ or_left (is_named vs o.at.address.name) _ o.named; number = var_stays vs g.0 o.at.address.name o.named ∙ o.number };
+  first =
+      λ f h x t. let o = s.first f h x t in record {
+        at = o.at;
+        first = o.first;
+        mem = o.mem;
+        named = list_any-append _ vs g.0
+            ∙ or_left (is_named vs o.at.address.name) _ o.named;
+        number = var_stays vs g.0 o.at.address.name o.named ∙ o.number;
+      };
   one_open = s.one_open;
   one_full = s.one_full;
   apart = s.apart;
@@ -694,7 +770,9 @@ stands_grown p vs us before m ph g s = subst (λ ws. Stands p ws before m ph) (s
         }
 
 -- nothing stands before the statements
-pub stands_first : (p : Pipe) (vs : List Var) (before : List Place) (m : List ℕ) → ((f : Place → Bool) → ((a : Param) → f (Parameter a) ≡ false) → ((x : Mem) → f (Memory x) ≡ false) → list_any f before ≡ false) → Stands p vs before m Fresh
+pub stands_first : (p : Pipe) (vs : List Var) (before : List Place) (m : List ℕ)
+    → ((f : Place → Bool) → ((a : Param) → f (Parameter a) ≡ false) → ((x : Mem) → f (Memory x) ≡ false) → list_any f before ≡ false)
+    → Stands p vs before m Fresh
 stands_first p vs before m none = record {
   unset = λ x t. absurd (false≢true t);
   set = λ x t. absurd (false≢true t);
@@ -784,9 +862,12 @@ module _ (p : Pipe) (m : List ℕ) (there : is_memory p.mems m ≡ true) (plain 
       → Goes vs before ph s (ops_of p.mems vs s) (vars_past p.mems vs s)
   stands_next vs before xs ph (Separator sp) h b each i = (refl, kept_next vs before ph (Statement (Separator sp) bs) (λ l g. refl) refl refl i)
   stands_next vs before xs ph (CombRead sp x at) h b each i =
-      either_read (λ op. Goes vs before ph (CombRead sp x at) (op ∷ []) (vars_past p.mems vs (CombRead sp x at))) (is_advisory_mem p.mems at.mem.name) (length vs) (mem_of p.mems at.mem.name) (var_of vs at.address.name)
+      either_read (λ op. Goes vs before ph (CombRead sp x at) (op ∷ []) (vars_past p.mems vs (CombRead sp x at))) (is_advisory_mem p.mems at.mem.name)
+      (length vs) (mem_of p.mems at.mem.name) (var_of vs at.address.name)
       (refl, bound_next vs _ before ph (Statement (CombRead sp x at) bs) (λ l g. refl) refl refl i)
-      (read_next vs _ before ph (CombRead sp x at) at (λ l g. refl) refl refl (h at refl) (λ f. sym (ap (λ a. not a && list_any (is_write_of at.mem.name) before) (subst (λ n. is_advisory_mem p.mems n ≡ false) (sym (bytes_same _ _ f)) plain)) ∙ each.0.l3) i)
+      (read_next vs _ before ph (CombRead sp x at) at (λ l g. refl) refl refl (h at refl)
+      (λ f. sym (ap (λ a. not a && list_any (is_write_of at.mem.name) before) (subst (λ n. is_advisory_mem p.mems n ≡ false) (sym (bytes_same _ _ f)) plain))
+      ∙ each.0.l3) i)
   stands_next vs before xs ph (DelayedRead sp x at) h b each i =
       read_next vs _ before ph (DelayedRead sp x at) at (λ l g. refl) refl refl (h at refl) (λ f. each.0.l3) i
   stands_next vs before xs ph (Bind sp x v) h b each i =
@@ -797,18 +878,24 @@ module _ (p : Pipe) (m : List ℕ) (there : is_memory p.mems m ≡ true) (plain 
   stands_next vs before xs ph (SpecCall sp g args) h b each i = (refl, kept_next vs before ph (Statement (SpecCall sp g args) bs) (λ l g. refl) refl refl i)
   stands_next vs before xs ph (Write sp at v) h b each i = go (is_advisory_mem p.mems at.mem.name) refl
     where
-      go : (k : Bool) → is_advisory_mem p.mems at.mem.name ≡ k → Goes vs before ph (Write sp at v) (write_op k (mem_of p.mems at.mem.name) (var_of vs at.address.name) (flat_expr vs v) ∷ []) vs
-      go true a = (refl, kept_next vs before ph (Statement (Write sp at v) bs) (λ l g. refl) refl (false_from_ne_true _ (λ t. both_ways _ plain (subst (λ n. is_advisory_mem p.mems n ≡ true) (bytes_same _ _ t) a))) i)
+      go : (k : Bool)
+          → is_advisory_mem p.mems at.mem.name ≡ k
+          → Goes vs before ph (Write sp at v) (write_op k (mem_of p.mems at.mem.name) (var_of vs at.address.name) (flat_expr vs v) ∷ []) vs
+      go true a = (
+        refl,
+        kept_next vs before ph (Statement (Write sp at v) bs) (λ l g. refl) refl
+            (false_from_ne_true _ (λ t. both_ways _ plain (subst (λ n. is_advisory_mem p.mems n ≡ true) (bytes_same _ _ t) a))) i,
+      )
       go false a =
-      let named = h at refl in
-      subst
-      (λ c. (((not c || may_write ph (var_of vs at.address.name)) && true) ≡ true)
-      × Stands p vs (before ++ Statement (Write sp at v) bs ∷ []) m (cond c (after_write ph (var_of vs at.address.name)) ph))
-      (sym (mem_is p.mems at.mem.name m named.0 there))
-      (let step = write_step p vs before m there plain bs sp at v ph named each.0
-      (written_once p sp at v bs before xs (StartClause p.start ∷ []) p.end a each) i
-      (bytes_eq at.mem.name m) refl in
-      (and_true _ step.0, step.1))
+          let named = h at refl in
+          subst
+          (λ c. (((not c || may_write ph (var_of vs at.address.name)) && true) ≡ true)
+          × Stands p vs (before ++ Statement (Write sp at v) bs ∷ []) m (cond c (after_write ph (var_of vs at.address.name)) ph))
+          (sym (mem_is p.mems at.mem.name m named.0 there))
+          (let step = write_step p vs before m there plain bs sp at v ph named each.0
+          (written_once p sp at v bs before xs (StartClause p.start ∷ []) p.end a each) i
+          (bytes_eq at.mem.name m) refl in
+          (and_true _ step.0, step.1))
   stands_next vs before xs ph (Reserve sp at R) h b each i = (
     refl,
     subst (λ us. Stands p us (before ++ Statement (Reserve sp at R) bs ∷ []) m ph) (append-nil vs)
@@ -831,7 +918,8 @@ module _ (p : Pipe) (m : List ℕ) (there : is_memory p.mems m ≡ true) (plain 
   stands_next vs before xs ph (Block sp at) h b each i = (
     refl,
     subst (λ us. Stands p us (before ++ Statement (Block sp at) bs ∷ []) m ph) (append-nil vs)
-        (moved p vs [] before m ph (Statement (Block sp at) bs) refl refl (λ l f g h i. blocks (same_location at l) h i) (λ l f g. stays (same_location at l)) i),
+        (moved p vs [] before m ph (Statement (Block sp at) bs) refl refl (λ l f g h i. blocks (same_location at l) h i)
+        (λ l f g. stays (same_location at l)) i),
   )
     where
       blocks : (b : Bool) (h : Hold) → is_held_for W h ≡ true → is_held_for W (if b then after_block h else h) ≡ true

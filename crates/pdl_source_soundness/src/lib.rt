@@ -27,7 +27,7 @@ pub fn accepted()
     ensures simulation { (p : Pipe) → KeepsRules p → IsTrue (is_source p) → IsTrue (is_named p) →
         (image : Arrays) (schedule : List (List Bool)) →
         SameTurns (flat p) (turns (flat p) image schedule)
-            (Derived.turns (flat p) image (hints_of (flat p) (first (flat p) image) schedule) schedule) }
+        (Derived.turns (flat p) image (hints_of (flat p) (first (flat p) image) schedule) schedule) }
     ensures advice { (p : Pipe) → KeepsRules p → IsTrue (is_source p) → IsTrue (is_named p) →
         (image other : Arrays) (schedule replies : List (List Bool)) →
         DifferInAdvice (flat p) image other → AdviceIsIdle (flat p) image other schedule replies }

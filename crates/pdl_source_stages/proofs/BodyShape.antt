@@ -201,7 +201,8 @@ module _ (p : Pipe) (rules : KeepsRules p) where
         → places p ≡ front ++ (statements bs ss ++ tail) → is_forked ss ≡ true
     forked_all Nil bs n front tail closed r e = refl
     forked_all (Cons (Separator sp) ss) bs n front tail closed r e =
-        forked_all ss bs (suc (cut front)) (front ++ Statement (Separator sp) bs ∷ []) tail closed (reads_cut front bs sp) (at_rest (Separator sp) ss bs front tail e)
+        forked_all ss bs (suc (cut front)) (front ++ Statement (Separator sp) bs ∷ []) tail closed (reads_cut front bs sp)
+        (at_rest (Separator sp) ss bs front tail e)
     forked_all (Cons (If sp c when otherwise) (Cons (Separator sq) ss)) bs n front tail closed r e =
         and_from (is_whole when otherwise || (true && (is_late when && is_late otherwise))) (is_forked ss)
         (at (is_whole when otherwise)
@@ -211,7 +212,8 @@ module _ (p : Pipe) (rules : KeepsRules p) where
         (reads_here (front ++ Statement (If sp c when otherwise) bs ∷ []) bs n (reads_none front (Statement (If sp c when otherwise) bs ∷ []) bs n refl r))
         (reads_first front bs sp c when otherwise n r)
         (at_first sp c when otherwise (Cons (Separator sq) ss) bs front tail e))
-        (late_all otherwise bs (branch sp c false otherwise) n (front ++ Statement (If sp c when otherwise) bs ∷ statements (bs ++ branch sp c true when ∷ []) when)
+        (late_all otherwise bs (branch sp c false otherwise) n
+        (front ++ Statement (If sp c when otherwise) bs ∷ statements (bs ++ branch sp c true when ∷ []) when)
         (statements bs (Cons (Separator sq) ss) ++ tail)
         (closes_inner bs (branch sp c false otherwise) (Cons (Separator sq) ss) tail closed)
         (from_append 0 0 bs front (Statement (If sp c when otherwise) bs ∷ statements (bs ++ branch sp c true when ∷ []) when)
@@ -228,7 +230,8 @@ module _ (p : Pipe) (rules : KeepsRules p) where
         at true h k = refl
         at false h k = and_from (is_late when) (is_late otherwise) h k
     forked_all (Cons (If sp c when otherwise) ss) bs n front tail closed r e =
-        let whole = no_fork_whole sp c when otherwise (no_fork (is_fork (If sp c when otherwise)) (λ f. follows sp c when otherwise ss bs front tail closed e f) refl) in
+        let whole = no_fork_whole sp c when otherwise
+        (no_fork (is_fork (If sp c when otherwise)) (λ f. follows sp c when otherwise ss bs front tail closed e f) refl) in
         let f = cut_in bs (If sp c when otherwise) in
         let none : separators when + separators otherwise ≡ 0 = eqb-true (separators when + separators otherwise) 0 whole in
         and_from (is_whole when otherwise || (begins_stage ss && (is_late when && is_late otherwise))) (is_forked ss)
@@ -305,8 +308,13 @@ mutual
           let late = and_parts (is_late when) (is_late otherwise) fits in
           let l1 = long_is ms when (with_guard c w) late.0 in
           let l2 = long_is ms otherwise (at_otherwise ms c when w) late.1 in
-          let n = some (separators when + separators otherwise) e in
-          ((let z : 0 < long (side_shape ms when (with_guard c w)) + long (side_shape ms otherwise (at_otherwise ms c when w)) = omega arith in z), f late.0, g late.1, k)
+          let n = some (separators when + separators otherwise) e in (
+            (let z : 0 < long (side_shape ms when (with_guard c w)) + long
+                (side_shape ms otherwise (at_otherwise ms c when w)) = omega arith in z),
+            f late.0,
+            g late.1,
+            k,
+          )
         where
           some : (n : ℕ) → (n == 0) ≡ false → 0 < n
           some zero e = absurd (false≢true (sym e))

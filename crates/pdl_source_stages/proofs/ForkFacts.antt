@@ -282,7 +282,8 @@ module _ (p : Pipe) (rules : KeepsRules p) where
           turn : (b : Bool) → is_parameter p v.name ≡ b
               → (not b
               && (is_undefined u.front (OfVariable v.name)
-              || on_some_path (λ earlier. not (is_given earlier (OfVariable v.name))) p u.front (Statement (If f.span f.condition f.when f.otherwise) u.branches)))
+              || on_some_path (λ earlier. not (is_given earlier (OfVariable v.name))) p u.front
+              (Statement (If f.span f.condition f.when f.otherwise) u.branches)))
               ≡ false
               → list_any is_separator m ≡ true
           turn true j k = absurd (false≢true (sym none ∙ ap (λ z. list_any (defines_use (OfVariable z)) t.front) (same v i) ∙ parameter_before t h v.name j))
@@ -339,9 +340,16 @@ module _ (p : Pipe) (rules : KeepsRules p) where
       by t h i (Reserve sp l W) k true f = absurd (false≢true f)
       by t h i (If sp (Variable v) when otherwise) k true f = absurd (false≢true f)
       by t h i (If sp c when otherwise) k true f = absurd (false≢true f)
-      by t h i (CombRead sp y l) k true f = absurd (false≢true (sym (read_none (is_fetch_of x) (is_advisory_mem p.mems l.mem.name) (length t.walk.vars) (mem_of p.mems l.mem.name) (var_of t.walk.vars l.address.name) refl refl) ∙ f))
-      by t h i (Bind sp y v) k true f = absurd (false≢true (sym (bind_none (is_fetch_of x) (is_advised t.walk.vars v) (length t.walk.vars) (flat_expr t.walk.vars v) refl refl) ∙ f))
-      by t h i (Write sp l v) k true f = absurd (false≢true (sym (write_none (is_fetch_of x) (is_advisory_mem p.mems l.mem.name) (mem_of p.mems l.mem.name) (var_of t.walk.vars l.address.name) (flat_expr t.walk.vars v) refl refl) ∙ f))
+      by t h i (CombRead sp y l) k true f =
+          absurd
+          (false≢true (sym (read_none (is_fetch_of x) (is_advisory_mem p.mems l.mem.name) (length t.walk.vars) (mem_of p.mems l.mem.name)
+          (var_of t.walk.vars l.address.name) refl refl) ∙ f))
+      by t h i (Bind sp y v) k true f =
+          absurd (false≢true (sym (bind_none (is_fetch_of x) (is_advised t.walk.vars v) (length t.walk.vars) (flat_expr t.walk.vars v) refl refl) ∙ f))
+      by t h i (Write sp l v) k true f =
+          absurd
+          (false≢true (sym (write_none (is_fetch_of x) (is_advisory_mem p.mems l.mem.name) (mem_of p.mems l.mem.name) (var_of t.walk.vars l.address.name)
+          (flat_expr t.walk.vars v) refl refl) ∙ f))
       by t h i z k true f = absurd (false≢true f)
 
       each_of : (ts : List Site) → All (Deep p) ts → All (AtSite (λ y. y.stage ≡ s → is_fetch_of x y.op ≡ false) p.mems) ts

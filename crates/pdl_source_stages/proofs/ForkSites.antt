@@ -106,13 +106,19 @@ mutual
           (none_one x (ap (λ (y : Flat.Stage). fork_var y.next) (sym g.0) ∙ ap (λ n. fork_var (stage_at p n).next) (let y : k ≡ s = omega arith in y) ∙ f))
   fork_sites p ms d exit k merges front w gs bs (Cons (If sp c when otherwise) (Cons (Separator sq) ss)) e i h g l z q s x low high f =
       at (is_whole when otherwise) refl parts.0 g l high
-      (λ fork late sides inside m n. fork_side p ms (side k true ∷ d) (Flat.Goes (merge_at k (long (side_shape ms when (with_guard c w))) (long (side_shape ms otherwise (at_otherwise ms c when w))))) k (front ++ Statement (If sp c when otherwise) bs ∷ []) (with_guard c w)
+      (λ fork late sides inside m n. fork_side p ms (side k true ∷ d)
+      (Flat.Goes (merge_at k (long (side_shape ms when (with_guard c w))) (long (side_shape ms otherwise (at_otherwise ms c when w))))) k
+      (front ++ Statement (If sp c when otherwise) bs ∷ []) (with_guard c w)
       (under gs w.vars c true) (bs ++ branch sp c true when ∷ []) when (guard_begun c w ∙ i) late sides inside refl
-      (shown_side p gs d k (guard_of w.vars c) (long (side_shape ms when (with_guard c w))) (long (side_shape ms otherwise (at_otherwise ms c when w))) true fork q) s x m n f)
-      (λ fork late sides inside begun m n. fork_side p ms (side k false ∷ d) (Flat.Goes (merge_at k (long (side_shape ms when (with_guard c w))) (long (side_shape ms otherwise (at_otherwise ms c when w))))) (k + long (side_shape ms when (with_guard c w)))
+      (shown_side p gs d k (guard_of w.vars c) (long (side_shape ms when (with_guard c w)))
+      (long (side_shape ms otherwise (at_otherwise ms c when w))) true fork q) s x m n f)
+      (λ fork late sides inside begun m n. fork_side p ms (side k false ∷ d)
+      (Flat.Goes (merge_at k (long (side_shape ms when (with_guard c w))) (long (side_shape ms otherwise (at_otherwise ms c when w)))))
+      (k + long (side_shape ms when (with_guard c w)))
       (front ++ Statement (If sp c when otherwise) bs ∷ statements (bs ++ branch sp c true when ∷ []) when) (at_otherwise ms c when w)
       (under gs w.vars c false) (bs ++ branch sp c false otherwise ∷ []) otherwise begun late sides inside refl
-      (shown_side p gs d k (guard_of w.vars c) (long (side_shape ms when (with_guard c w))) (long (side_shape ms otherwise (at_otherwise ms c when w))) false fork q) s x m n f)
+      (shown_side p gs d k (guard_of w.vars c) (long (side_shape ms when (with_guard c w)))
+      (long (side_shape ms otherwise (at_otherwise ms c when w))) false fork q) s x m n f)
       (λ j merge begun groups inside m n. fork_sites p ms d exit j merge ((front ++ with_inner bs (If sp c when otherwise)) ++ Statement (Separator sq) bs ∷ [])
       (past ms (Separator sq) (past ms (If sp c when otherwise) w)) gs bs ss refl begun parts.1 groups inside z q s x m n f)
     where
@@ -131,36 +137,50 @@ mutual
           → Groups p d exit k merges (either_shape ms sp c when otherwise sq ss w b)
           → k + size (either_shape ms sp c when otherwise sq ss w b) ≤ length p.stages
           → s < k + size (either_shape ms sp c when otherwise sq ss w b)
-          → (Forked p d k (guard_of w.vars c) (long (side_shape ms when (with_guard c w))) (long (side_shape ms otherwise (at_otherwise ms c when w))) → is_late when ≡ true
+          →
+          (Forked p d k (guard_of w.vars c) (long (side_shape ms when (with_guard c w))) (long (side_shape ms otherwise (at_otherwise ms c when w)))
+          → is_late when ≡ true
           → Sides p (side k true ∷ d) (Flat.Goes (merge_at k (long (side_shape ms when (with_guard c w))) (long (side_shape ms otherwise (at_otherwise ms c when w))))) k (side_shape ms when (with_guard c w))
-          → suc (k + long (side_shape ms when (with_guard c w))) ≤ length p.stages → k < s → s ≤ k + long (side_shape ms when (with_guard c w)) → Some_site (ForkSite p s x) (sites ms (front ++ Statement (If sp c when otherwise) bs ∷ []) (with_guard c w) (under gs w.vars c true) (bs ++ branch sp c true when ∷ []) when))
-          → (Forked p d k (guard_of w.vars c) (long (side_shape ms when (with_guard c w))) (long (side_shape ms otherwise (at_otherwise ms c when w))) → is_late otherwise ≡ true
+          → suc (k + long (side_shape ms when (with_guard c w))) ≤ length p.stages → k < s → s ≤ k + long (side_shape ms when (with_guard c w)) → Some_site
+          (ForkSite p s x)
+          (sites ms (front ++ Statement (If sp c when otherwise) bs ∷ []) (with_guard c w) (under gs w.vars c true) (bs ++ branch sp c true when ∷ []) when))
+          →
+          (Forked p d k (guard_of w.vars c) (long (side_shape ms when (with_guard c w))) (long (side_shape ms otherwise (at_otherwise ms c when w)))
+          → is_late otherwise ≡ true
           → Sides p (side k false ∷ d) (Flat.Goes (merge_at k (long (side_shape ms when (with_guard c w))) (long (side_shape ms otherwise (at_otherwise ms c when w))))) (k + long (side_shape ms when (with_guard c w))) (side_shape ms otherwise (at_otherwise ms c when w))
           → suc (k + long (side_shape ms when (with_guard c w)) + long (side_shape ms otherwise (at_otherwise ms c when w))) ≤ length p.stages
-          → (at_otherwise ms c when w).begun ≡ k + long (side_shape ms when (with_guard c w)) → k + long (side_shape ms when (with_guard c w)) < s → s ≤ k + long (side_shape ms when (with_guard c w)) + long (side_shape ms otherwise (at_otherwise ms c when w))
+          → (at_otherwise ms c when w).begun ≡ k + long (side_shape ms when (with_guard c w))
+          → k + long (side_shape ms when (with_guard c w)) < s
+          → s ≤ k + long (side_shape ms when (with_guard c w)) + long (side_shape ms otherwise (at_otherwise ms c when w))
           → Some_site (ForkSite p s x) (sites ms (front ++ Statement (If sp c when otherwise) bs ∷ statements (bs ++ branch sp c true when ∷ []) when)
           (at_otherwise ms c when w) (under gs w.vars c false) (bs ++ branch sp c false otherwise ∷ []) otherwise))
           → ((j : ℕ) (merge : Option ℕ) → suc (past ms (If sp c when otherwise) w).begun ≡ j
           → Groups p d exit j merge (rest_shape ms sp c when otherwise sq ss w)
           → j + size (rest_shape ms sp c when otherwise sq ss w) ≤ length p.stages
-          → j ≤ s → s < j + size (rest_shape ms sp c when otherwise sq ss w) → Some_site (ForkSite p s x) (sites ms ((front ++ with_inner bs (If sp c when otherwise)) ++ Statement (Separator sq) bs ∷ [])
+          → j ≤ s → s < j + size (rest_shape ms sp c when otherwise sq ss w) → Some_site (ForkSite p s x)
+          (sites ms ((front ++ with_inner bs (If sp c when otherwise)) ++ Statement (Separator sq) bs ∷ [])
           (past ms (Separator sq) (past ms (If sp c when otherwise) w)) gs bs ss))
           → Some_site (ForkSite p s x) (sites ms front w gs bs (Cons (If sp c when otherwise) (Cons (Separator sq) ss)))
       at true whole fits g l high one two more = turn (cases_lt k s)
         where
           turn : (k < s) ⊎ (s ≤ k) → Some_site (ForkSite p s x) (sites ms front w gs bs (Cons (If sp c when otherwise) (Cons (Separator sq) ss)))
           turn (inl m) =
-              after (more (suc k) None (let none = none_of_whole when otherwise whole in let y = begun in omega arith) g.1 (omega arith) (omega arith) (omega arith))
+              after
+              (more (suc k) None (let none = none_of_whole when otherwise whole in let y = begun in omega arith) g.1 (omega arith) (omega arith) (omega arith))
           turn (inr m) =
               absurd
               (none_one x (ap (λ (y : Flat.Stage). fork_var y.next) (sym g.0) ∙ ap (λ n. fork_var (stage_at p n).next) (let y : k ≡ s = omega arith in y) ∙ f))
-      at false some fits g l high one two more = turn (cases_lt k s) (cases_lt (k + long (side_shape ms when (with_guard c w))) s) (cases_lt s (merge_at k (long (side_shape ms when (with_guard c w))) (long (side_shape ms otherwise (at_otherwise ms c when w)))))
+      at false some fits g l high one two more =
+          turn (cases_lt k s) (cases_lt (k + long (side_shape ms when (with_guard c w))) s)
+          (cases_lt s (merge_at k (long (side_shape ms when (with_guard c w))) (long (side_shape ms otherwise (at_otherwise ms c when w)))))
         where
           late : (is_late when ≡ true) × (is_late otherwise ≡ true)
           late = and_parts (is_late when) (is_late otherwise) fits
 
           fork : Forked p d k (guard_of w.vars c) (long (side_shape ms when (with_guard c w))) (long (side_shape ms otherwise (at_otherwise ms c when w)))
-          fork = group_fork p d exit k merges (guard_of w.vars c) (side_shape ms when (with_guard c w)) (side_shape ms otherwise (at_otherwise ms c when w)) (rest_shape ms sp c when otherwise sq ss w) g l
+          fork =
+              group_fork p d exit k merges (guard_of w.vars c) (side_shape ms when (with_guard c w)) (side_shape ms otherwise (at_otherwise ms c when w))
+              (rest_shape ms sp c when otherwise sq ss w) g l
 
           second : (at_otherwise ms c when w).begun ≡ k + long (side_shape ms when (with_guard c w))
           second =
@@ -176,14 +196,25 @@ mutual
               let b = begun in
               omega arith
 
-          turn : (k < s) ⊎ (s ≤ k) → (k + long (side_shape ms when (with_guard c w)) < s) ⊎ (s ≤ k + long (side_shape ms when (with_guard c w))) → (s < (merge_at k (long (side_shape ms when (with_guard c w))) (long (side_shape ms otherwise (at_otherwise ms c when w))))) ⊎ ((merge_at k (long (side_shape ms when (with_guard c w))) (long (side_shape ms otherwise (at_otherwise ms c when w)))) ≤ s) → Some_site (ForkSite p s x) (sites ms front w gs bs (Cons (If sp c when otherwise) (Cons (Separator sq) ss)))
+          turn : (k < s) ⊎ (s ≤ k)
+              → (k + long (side_shape ms when (with_guard c w)) < s) ⊎ (s ≤ k + long (side_shape ms when (with_guard c w)))
+              → (s < (merge_at k (long (side_shape ms when (with_guard c w))) (long (side_shape ms otherwise (at_otherwise ms c when w)))))
+              ⊎ ((merge_at k (long (side_shape ms when (with_guard c w))) (long (side_shape ms otherwise (at_otherwise ms c when w)))) ≤ s)
+              → Some_site (ForkSite p s x) (sites ms front w gs bs (Cons (If sp c when otherwise) (Cons (Separator sq) ss)))
           turn (inl m) (inr n) o =
               some_left (ForkSite p s x) (sites_in ms front w gs bs (If sp c when otherwise)) _
-              (inr (some_left (ForkSite p s x) (sites ms (front ++ Statement (If sp c when otherwise) bs ∷ []) (with_guard c w) (under gs w.vars c true) (bs ++ branch sp c true when ∷ []) when) _ (one fork late.0 g.2 (omega arith) m n)))
+              (inr (some_left (ForkSite p s x)
+              (sites ms (front ++ Statement (If sp c when otherwise) bs ∷ []) (with_guard c w) (under gs w.vars c true)
+              (bs ++ branch sp c true when ∷ []) when) _ (one fork late.0 g.2 (omega arith) m n)))
           turn (inl m) (inl n) (inl o) =
               some_left (ForkSite p s x) (sites_in ms front w gs bs (If sp c when otherwise)) _
-              (inr (some_right (ForkSite p s x) (sites ms (front ++ Statement (If sp c when otherwise) bs ∷ []) (with_guard c w) (under gs w.vars c true) (bs ++ branch sp c true when ∷ []) when) _ (two fork late.1 g.3 (omega arith) second n (omega arith))))
-          turn (inl m) (inl n) (inr o) = after (more (merge_at k (long (side_shape ms when (with_guard c w))) (long (side_shape ms otherwise (at_otherwise ms c when w)))) (Some k) merged g.4 (omega arith) o (omega arith))
+              (inr (some_right (ForkSite p s x)
+              (sites ms (front ++ Statement (If sp c when otherwise) bs ∷ []) (with_guard c w) (under gs w.vars c true)
+              (bs ++ branch sp c true when ∷ []) when) _ (two fork late.1 g.3 (omega arith) second n (omega arith))))
+          turn (inl m) (inl n) (inr o) =
+              after
+              (more (merge_at k (long (side_shape ms when (with_guard c w))) (long (side_shape ms otherwise (at_otherwise ms c when w)))) (Some k) merged g.4
+              (omega arith) o (omega arith))
           turn (inr m) n o =
               let same : k ≡ s = omega arith in
               inl (record {

@@ -131,7 +131,10 @@ bound_last ms vs (Bind sp y v) x e = at (is_advised vs v) e
     at : (b : Bool) → binds_var x (bind_op b (length vs) (flat_expr vs v)) ≡ true → length vs ≡ x
     at true f = absurd (false≢true f)
     at false f = eqb-true (length vs) x f
-bound_last ms vs (Write sp l v) x e = absurd (false≢true (sym (write_none (binds_var x) (is_advisory_mem ms l.mem.name) (mem_of ms l.mem.name) (var_of vs l.address.name) (flat_expr vs v) refl refl) ∙ e))
+bound_last ms vs (Write sp l v) x e =
+    absurd
+    (false≢true (sym (write_none (binds_var x) (is_advisory_mem ms l.mem.name) (mem_of ms l.mem.name) (var_of vs l.address.name) (flat_expr vs v) refl refl)
+    ∙ e))
 bound_last ms vs (DelayedRead sp y l) x e = eqb-true (length vs) x e
 bound_last ms vs (If sp (Variable y) when otherwise) x e = absurd (false≢true e)
 bound_last ms vs (If sp c when otherwise) x e = eqb-true (length vs) x e

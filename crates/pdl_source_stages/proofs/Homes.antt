@@ -60,9 +60,13 @@ reserve_alike p n k rules t h = at t.stmt refl
     at (Reserve sp l W) e = same_memory p.mems n l.mem.name k (located p rules t h l (ap location_of e))
     at (If sp (Variable x) when otherwise) e = refl
     at (If sp c when otherwise) e = refl
-    at (CombRead sp x l) e = read_none (is_reserve (mem_of p.mems n)) (is_advisory_mem p.mems l.mem.name) (length t.walk.vars) (mem_of p.mems l.mem.name) (var_of t.walk.vars l.address.name) refl refl
+    at (CombRead sp x l) e =
+        read_none (is_reserve (mem_of p.mems n)) (is_advisory_mem p.mems l.mem.name) (length t.walk.vars) (mem_of p.mems l.mem.name)
+        (var_of t.walk.vars l.address.name) refl refl
     at (Bind sp x v) e = bind_none (is_reserve (mem_of p.mems n)) (is_advised t.walk.vars v) (length t.walk.vars) (flat_expr t.walk.vars v) refl refl
-    at (Write sp l v) e = write_none (is_reserve (mem_of p.mems n)) (is_advisory_mem p.mems l.mem.name) (mem_of p.mems l.mem.name) (var_of t.walk.vars l.address.name) (flat_expr t.walk.vars v) refl refl
+    at (Write sp l v) e =
+        write_none (is_reserve (mem_of p.mems n)) (is_advisory_mem p.mems l.mem.name) (mem_of p.mems l.mem.name) (var_of t.walk.vars l.address.name)
+        (flat_expr t.walk.vars v) refl refl
     at s e = refl
 
 reserve_elsewhere : (p : Pipe) (n : List ℕ) → KeepsRules p → (t : Site) → Fine p t
@@ -86,9 +90,13 @@ release_alike p n k rules t h = at t.stmt refl
     at (Reserve sp l W) e = refl
     at (If sp (Variable x) when otherwise) e = refl
     at (If sp c when otherwise) e = refl
-    at (CombRead sp x l) e = read_none (is_release (mem_of p.mems n)) (is_advisory_mem p.mems l.mem.name) (length t.walk.vars) (mem_of p.mems l.mem.name) (var_of t.walk.vars l.address.name) refl refl
+    at (CombRead sp x l) e =
+        read_none (is_release (mem_of p.mems n)) (is_advisory_mem p.mems l.mem.name) (length t.walk.vars) (mem_of p.mems l.mem.name)
+        (var_of t.walk.vars l.address.name) refl refl
     at (Bind sp x v) e = bind_none (is_release (mem_of p.mems n)) (is_advised t.walk.vars v) (length t.walk.vars) (flat_expr t.walk.vars v) refl refl
-    at (Write sp l v) e = write_none (is_release (mem_of p.mems n)) (is_advisory_mem p.mems l.mem.name) (mem_of p.mems l.mem.name) (var_of t.walk.vars l.address.name) (flat_expr t.walk.vars v) refl refl
+    at (Write sp l v) e =
+        write_none (is_release (mem_of p.mems n)) (is_advisory_mem p.mems l.mem.name) (mem_of p.mems l.mem.name) (var_of t.walk.vars l.address.name)
+        (flat_expr t.walk.vars v) refl refl
     at s e = refl
 
 release_elsewhere : (p : Pipe) (n : List ℕ) → KeepsRules p → (t : Site) → Fine p t
@@ -155,9 +163,16 @@ module _ (p : Pipe) (rules : KeepsRules p) where
       at (Reserve sp l W) i g = (l.mem.name, located p rules t h l (ap location_of i), eqb-true (mem_of p.mems l.mem.name) m g, bytes_refl l.mem.name)
       at (If sp (Variable x) when otherwise) i g = absurd (false≢true g)
       at (If sp c when otherwise) i g = absurd (false≢true g)
-      at (CombRead sp x l) i g = absurd (false≢true (sym (read_none (is_reserve m) (is_advisory_mem p.mems l.mem.name) (length t.walk.vars) (mem_of p.mems l.mem.name) (var_of t.walk.vars l.address.name) refl refl) ∙ g))
-      at (Bind sp x v) i g = absurd (false≢true (sym (bind_none (is_reserve m) (is_advised t.walk.vars v) (length t.walk.vars) (flat_expr t.walk.vars v) refl refl) ∙ g))
-      at (Write sp l v) i g = absurd (false≢true (sym (write_none (is_reserve m) (is_advisory_mem p.mems l.mem.name) (mem_of p.mems l.mem.name) (var_of t.walk.vars l.address.name) (flat_expr t.walk.vars v) refl refl) ∙ g))
+      at (CombRead sp x l) i g =
+          absurd
+          (false≢true (sym (read_none (is_reserve m) (is_advisory_mem p.mems l.mem.name) (length t.walk.vars) (mem_of p.mems l.mem.name)
+          (var_of t.walk.vars l.address.name) refl refl) ∙ g))
+      at (Bind sp x v) i g =
+          absurd (false≢true (sym (bind_none (is_reserve m) (is_advised t.walk.vars v) (length t.walk.vars) (flat_expr t.walk.vars v) refl refl) ∙ g))
+      at (Write sp l v) i g =
+          absurd
+          (false≢true (sym (write_none (is_reserve m) (is_advisory_mem p.mems l.mem.name) (mem_of p.mems l.mem.name) (var_of t.walk.vars l.address.name)
+          (flat_expr t.walk.vars v) refl refl) ∙ g))
       at s i g = absurd (false≢true g)
 
   release_named : (t : Site) → Fine p t → (m : ℕ) (op : Flat.Op) → op_of p.mems t.walk.vars t.stmt ≡ Some op
@@ -172,9 +187,16 @@ module _ (p : Pipe) (rules : KeepsRules p) where
       at (Reserve sp l W) i g = absurd (false≢true g)
       at (If sp (Variable x) when otherwise) i g = absurd (false≢true g)
       at (If sp c when otherwise) i g = absurd (false≢true g)
-      at (CombRead sp x l) i g = absurd (false≢true (sym (read_none (is_release m) (is_advisory_mem p.mems l.mem.name) (length t.walk.vars) (mem_of p.mems l.mem.name) (var_of t.walk.vars l.address.name) refl refl) ∙ g))
-      at (Bind sp x v) i g = absurd (false≢true (sym (bind_none (is_release m) (is_advised t.walk.vars v) (length t.walk.vars) (flat_expr t.walk.vars v) refl refl) ∙ g))
-      at (Write sp l v) i g = absurd (false≢true (sym (write_none (is_release m) (is_advisory_mem p.mems l.mem.name) (mem_of p.mems l.mem.name) (var_of t.walk.vars l.address.name) (flat_expr t.walk.vars v) refl refl) ∙ g))
+      at (CombRead sp x l) i g =
+          absurd
+          (false≢true (sym (read_none (is_release m) (is_advisory_mem p.mems l.mem.name) (length t.walk.vars) (mem_of p.mems l.mem.name)
+          (var_of t.walk.vars l.address.name) refl refl) ∙ g))
+      at (Bind sp x v) i g =
+          absurd (false≢true (sym (bind_none (is_release m) (is_advised t.walk.vars v) (length t.walk.vars) (flat_expr t.walk.vars v) refl refl) ∙ g))
+      at (Write sp l v) i g =
+          absurd
+          (false≢true (sym (write_none (is_release m) (is_advisory_mem p.mems l.mem.name) (mem_of p.mems l.mem.name) (var_of t.walk.vars l.address.name)
+          (flat_expr t.walk.vars v) refl refl) ∙ g))
       at s i g = absurd (false≢true g)
 
   -- L2
@@ -255,9 +277,13 @@ module _ (p : Pipe) (rules : KeepsRules p) where
       at (Reserve sp l W) = refl
       at (If sp (Variable x) when otherwise) = refl
       at (If sp c when otherwise) = refl
-      at (CombRead sp x l) = read_none (is_verify) (is_advisory_mem p.mems l.mem.name) (length t.walk.vars) (mem_of p.mems l.mem.name) (var_of t.walk.vars l.address.name) refl refl
+      at (CombRead sp x l) =
+          read_none (is_verify) (is_advisory_mem p.mems l.mem.name) (length t.walk.vars) (mem_of p.mems l.mem.name)
+          (var_of t.walk.vars l.address.name) refl refl
       at (Bind sp x v) = bind_none (is_verify) (is_advised t.walk.vars v) (length t.walk.vars) (flat_expr t.walk.vars v) refl refl
-      at (Write sp l v) = write_none (is_verify) (is_advisory_mem p.mems l.mem.name) (mem_of p.mems l.mem.name) (var_of t.walk.vars l.address.name) (flat_expr t.walk.vars v) refl refl
+      at (Write sp l v) =
+          write_none (is_verify) (is_advisory_mem p.mems l.mem.name) (mem_of p.mems l.mem.name) (var_of t.walk.vars l.address.name)
+          (flat_expr t.walk.vars v) refl refl
       at s = refl
 
   verify_elsewhere : (t : Site) → Fine p t → Speculation.is_verify (place_of t) ≡ true → is_elsewhere Speculation.is_verify t.front t.walk.stage ≡ false
@@ -299,9 +325,13 @@ module _ (p : Pipe) (rules : KeepsRules p) where
       at (Reserve sp l W) e = refl
       at (If sp (Variable x) when otherwise) e = refl
       at (If sp c when otherwise) e = refl
-      at (CombRead sp x l) e = read_none (is_fetch_of (mem_of p.mems n)) (is_advisory_mem p.mems l.mem.name) (length t.walk.vars) (mem_of p.mems l.mem.name) (var_of t.walk.vars l.address.name) refl refl
+      at (CombRead sp x l) e =
+          read_none (is_fetch_of (mem_of p.mems n)) (is_advisory_mem p.mems l.mem.name) (length t.walk.vars) (mem_of p.mems l.mem.name)
+          (var_of t.walk.vars l.address.name) refl refl
       at (Bind sp x v) e = bind_none (is_fetch_of (mem_of p.mems n)) (is_advised t.walk.vars v) (length t.walk.vars) (flat_expr t.walk.vars v) refl refl
-      at (Write sp l v) e = write_none (is_fetch_of (mem_of p.mems n)) (is_advisory_mem p.mems l.mem.name) (mem_of p.mems l.mem.name) (var_of t.walk.vars l.address.name) (flat_expr t.walk.vars v) refl refl
+      at (Write sp l v) e =
+          write_none (is_fetch_of (mem_of p.mems n)) (is_advisory_mem p.mems l.mem.name) (mem_of p.mems l.mem.name) (var_of t.walk.vars l.address.name)
+          (flat_expr t.walk.vars v) refl refl
       at s e = refl
 
   fetch_elsewhere : (n : List ℕ) (t : Site) → Fine p t → breaks_fetch_order n (place_of t) ≡ true
@@ -329,9 +359,16 @@ module _ (p : Pipe) (rules : KeepsRules p) where
       at (Reserve sp l W) i g = absurd (false≢true g)
       at (If sp (Variable x) when otherwise) i g = absurd (false≢true g)
       at (If sp c when otherwise) i g = absurd (false≢true g)
-      at (CombRead sp x l) i g = absurd (false≢true (sym (read_none (is_fetch_of m) (is_advisory_mem p.mems l.mem.name) (length t.walk.vars) (mem_of p.mems l.mem.name) (var_of t.walk.vars l.address.name) refl refl) ∙ g))
-      at (Bind sp x v) i g = absurd (false≢true (sym (bind_none (is_fetch_of m) (is_advised t.walk.vars v) (length t.walk.vars) (flat_expr t.walk.vars v) refl refl) ∙ g))
-      at (Write sp l v) i g = absurd (false≢true (sym (write_none (is_fetch_of m) (is_advisory_mem p.mems l.mem.name) (mem_of p.mems l.mem.name) (var_of t.walk.vars l.address.name) (flat_expr t.walk.vars v) refl refl) ∙ g))
+      at (CombRead sp x l) i g =
+          absurd
+          (false≢true (sym (read_none (is_fetch_of m) (is_advisory_mem p.mems l.mem.name) (length t.walk.vars) (mem_of p.mems l.mem.name)
+          (var_of t.walk.vars l.address.name) refl refl) ∙ g))
+      at (Bind sp x v) i g =
+          absurd (false≢true (sym (bind_none (is_fetch_of m) (is_advised t.walk.vars v) (length t.walk.vars) (flat_expr t.walk.vars v) refl refl) ∙ g))
+      at (Write sp l v) i g =
+          absurd
+          (false≢true (sym (write_none (is_fetch_of m) (is_advisory_mem p.mems l.mem.name) (mem_of p.mems l.mem.name) (var_of t.walk.vars l.address.name)
+          (flat_expr t.walk.vars v) refl refl) ∙ g))
       at s i g = absurd (false≢true g)
 
   each_fetch : Each (λ y. (m : ℕ) → is_fetch_of m y.op ≡ true → (m < length p.mems) × (Some y.stage ≡ Flatten.first_stage (is_fetch_of m) (flat p).stmts))
@@ -384,9 +421,16 @@ module _ (p : Pipe) (rules : KeepsRules p) where
       at t h (Reserve sp l W) e f g = false≢true f
       at t h (If sp (Variable x) when otherwise) e f g = false≢true f
       at t h (If sp c when otherwise) e f g = false≢true f
-      at t h (CombRead sp x l) e f g = false≢true (sym (read_none (is_fetch) (is_advisory_mem p.mems l.mem.name) (length t.walk.vars) (mem_of p.mems l.mem.name) (var_of t.walk.vars l.address.name) refl refl) ∙ f)
-      at t h (Bind sp x v) e f g = false≢true (sym (bind_none (is_fetch) (is_advised t.walk.vars v) (length t.walk.vars) (flat_expr t.walk.vars v) refl refl) ∙ f)
-      at t h (Write sp l v) e f g = false≢true (sym (write_none (is_fetch) (is_advisory_mem p.mems l.mem.name) (mem_of p.mems l.mem.name) (var_of t.walk.vars l.address.name) (flat_expr t.walk.vars v) refl refl) ∙ f)
+      at t h (CombRead sp x l) e f g =
+          false≢true
+          (sym (read_none (is_fetch) (is_advisory_mem p.mems l.mem.name) (length t.walk.vars) (mem_of p.mems l.mem.name)
+          (var_of t.walk.vars l.address.name) refl refl) ∙ f)
+      at t h (Bind sp x v) e f g =
+          false≢true (sym (bind_none (is_fetch) (is_advised t.walk.vars v) (length t.walk.vars) (flat_expr t.walk.vars v) refl refl) ∙ f)
+      at t h (Write sp l v) e f g =
+          false≢true
+          (sym (write_none (is_fetch) (is_advisory_mem p.mems l.mem.name) (mem_of p.mems l.mem.name) (var_of t.walk.vars l.address.name)
+          (flat_expr t.walk.vars v) refl refl) ∙ f)
       at t h s e f g = false≢true f
 
   -- no delayed read stands in the last stage
@@ -423,7 +467,9 @@ module _ (p : Pipe) (rules : KeepsRules p) where
       lock (Some l) i j =
           kind l.kind m.depth.value l.size.value
           (ap (λ b. allows_lock m.depth.value b l.kind l.size.value) (sym j)
-          ∙ (and_parts (is_size l.size.value) (allows_lock m.depth.value (is_delayed m.kind) l.kind l.size.value) (not-false _ (or_parts (is_advisory m.kind) _ i).1)).1)
+          ∙
+          (and_parts (is_size l.size.value) (allows_lock m.depth.value (is_delayed m.kind) l.kind l.size.value)
+          (not-false _ (or_parts (is_advisory m.kind) _ i).1)).1)
 
       at : (b : Bool) → (if b then is_delayed m.kind else is_delayed_memory ms n) ≡ true
           → (is_delayed_memory ms n ≡ true → is_exact (slice_index_or (mems_of ms) (mem_of ms n) plain_mem).lock ≡ true)
@@ -455,9 +501,16 @@ module _ (p : Pipe) (rules : KeepsRules p) where
       at t h (Reserve sp l W) e m f = absurd (false≢true f)
       at t h (If sp (Variable x) when otherwise) e m f = absurd (false≢true f)
       at t h (If sp c when otherwise) e m f = absurd (false≢true f)
-      at t h (CombRead sp x l) e m f = absurd (false≢true (sym (read_none (is_fetch_of m) (is_advisory_mem p.mems l.mem.name) (length t.walk.vars) (mem_of p.mems l.mem.name) (var_of t.walk.vars l.address.name) refl refl) ∙ f))
-      at t h (Bind sp x v) e m f = absurd (false≢true (sym (bind_none (is_fetch_of m) (is_advised t.walk.vars v) (length t.walk.vars) (flat_expr t.walk.vars v) refl refl) ∙ f))
-      at t h (Write sp l v) e m f = absurd (false≢true (sym (write_none (is_fetch_of m) (is_advisory_mem p.mems l.mem.name) (mem_of p.mems l.mem.name) (var_of t.walk.vars l.address.name) (flat_expr t.walk.vars v) refl refl) ∙ f))
+      at t h (CombRead sp x l) e m f =
+          absurd
+          (false≢true (sym (read_none (is_fetch_of m) (is_advisory_mem p.mems l.mem.name) (length t.walk.vars) (mem_of p.mems l.mem.name)
+          (var_of t.walk.vars l.address.name) refl refl) ∙ f))
+      at t h (Bind sp x v) e m f =
+          absurd (false≢true (sym (bind_none (is_fetch_of m) (is_advised t.walk.vars v) (length t.walk.vars) (flat_expr t.walk.vars v) refl refl) ∙ f))
+      at t h (Write sp l v) e m f =
+          absurd
+          (false≢true (sym (write_none (is_fetch_of m) (is_advisory_mem p.mems l.mem.name) (mem_of p.mems l.mem.name) (var_of t.walk.vars l.address.name)
+          (flat_expr t.walk.vars v) refl refl) ∙ f))
       at t h s e m f = absurd (false≢true f)
 
   -- F4: a statement takes a memory by its kind
@@ -479,7 +532,10 @@ module _ (p : Pipe) (rules : KeepsRules p) where
       kind Delayed i = refl
       kind Advisory i = absurd (false≢true i)
 
-      at : (b : Bool) → (if b then is_delayed m.kind else is_delayed_memory ms n) ≡ true → (is_delayed_memory ms n ≡ true → Flatten.is_advisory_mem ms n ≡ false) → (if b then is_advisory m.kind else Flatten.is_advisory_mem ms n) ≡ false
+      at : (b : Bool)
+          → (if b then is_delayed m.kind else is_delayed_memory ms n) ≡ true
+          → (is_delayed_memory ms n ≡ true → Flatten.is_advisory_mem ms n ≡ false)
+          → (if b then is_advisory m.kind else Flatten.is_advisory_mem ms n) ≡ false
       at true i k = kind m.kind i
       at false i k = k i
 
@@ -496,7 +552,8 @@ module _ (p : Pipe) (rules : KeepsRules p) where
       read true n x a i = refl
       read false n x a i = ap not (advisory_is p.mems n ∙ i)
 
-      written : (b : Bool) (n : List ℕ) (a : ℕ) (v : Flat.Expr) → Flatten.is_advisory_mem p.mems n ≡ b → fits_kind (flat p) (Flatten.write_op b (mem_of p.mems n) a v) ≡ true
+      written : (b : Bool) (n : List ℕ) (a : ℕ) (v : Flat.Expr)
+          → Flatten.is_advisory_mem p.mems n ≡ b → fits_kind (flat p) (Flatten.write_op b (mem_of p.mems n) a v) ≡ true
       written true n a v i = advisory_is p.mems n ∙ i
       written false n a v i = refl
 
@@ -508,7 +565,12 @@ module _ (p : Pipe) (rules : KeepsRules p) where
       at t h (CombRead sp x l) e = read (Flatten.is_advisory_mem p.mems l.mem.name) l.mem.name _ _ refl
       at t h (Bind sp x v) e = bound (Flatten.is_advised t.walk.vars v) _ _
       at t h (Write sp l v) e = written (Flatten.is_advisory_mem p.mems l.mem.name) l.mem.name _ _ refl
-      at t h (DelayedRead sp x l) e = ap not (advisory_is p.mems l.mem.name ∙ slow_plain p.mems l.mem.name (not-false _ (rules F4 t.front (Statement (DelayedRead sp x l) t.branches) h.later (h.whole ∙ ap (λ s. t.front ++ Statement s t.branches ∷ h.later) e))))
+      at t h (DelayedRead sp x l) e =
+          ap not
+          (advisory_is p.mems l.mem.name
+          ∙ slow_plain p.mems l.mem.name
+          (not-false _ (rules F4 t.front (Statement (DelayedRead sp x l) t.branches) h.later
+          (h.whole ∙ ap (λ s. t.front ++ Statement s t.branches ∷ h.later) e))))
       at t h (Reserve sp l R) e = refl
       at t h (Reserve sp l W) e = refl
       at t h (If sp (Variable x) when otherwise) e = refl

@@ -93,7 +93,8 @@ mutual
 
       -- how many stages these are
       many : length (begun_by env ms (Cons (If sp c when otherwise) (Cons (Separator sq) ss)) w)
-          ≡ length (begun_in env ms (If sp c when otherwise) w) + suc (length (begun_by env ms ss (past ms (Separator sq) (past ms (If sp c when otherwise) w))))
+          ≡ length (begun_in env ms (If sp c when otherwise) w) + suc
+          (length (begun_by env ms ss (past ms (Separator sq) (past ms (If sp c when otherwise) w))))
       many = length-append (begun_in env ms (If sp c when otherwise) w)
           (suc (past ms (If sp c when otherwise) w).begun ∷ begun_by env ms ss (past ms (Separator sq) (past ms (If sp c when otherwise) w)))
 
@@ -104,11 +105,15 @@ mutual
           → n ≡ length (begun_by env ms ss (past ms (Separator sq) (past ms (If sp c when otherwise) w))) + r
           → visited_stages p env (suc n) j
           ≡ j ∷ (begun_by env ms ss (past ms (Separator sq) (past ms (If sp c when otherwise) w)) ++ onward (visited_stages p env r) (goes_to exit env)))
-          → ((j m : ℕ) → (with_guard c w).begun ≡ j → is_late when ≡ true → Sides p (side k true ∷ d) (Flat.Goes m) j (side_shape ms when (with_guard c w)) → (n r : ℕ)
+          →
+          ((j m : ℕ) → (with_guard c w).begun ≡ j → is_late when
+          ≡ true → Sides p (side k true ∷ d) (Flat.Goes m) j (side_shape ms when (with_guard c w)) → (n r : ℕ)
           → n ≡ length (begun_by env ms when (with_guard c w)) + r
           → onward (visited_stages p env n) (goes_to (side_leads (Flat.Goes m) j (side_shape ms when (with_guard c w))) env)
           ≡ begun_by env ms when (with_guard c w) ++ visited_stages p env r m)
-          → ((j m : ℕ) → (at_otherwise ms c when w).begun ≡ j → is_late otherwise ≡ true → Sides p (side k false ∷ d) (Flat.Goes m) j (side_shape ms otherwise (at_otherwise ms c when w)) → (n r : ℕ)
+          →
+          ((j m : ℕ) → (at_otherwise ms c when w).begun ≡ j → is_late otherwise
+          ≡ true → Sides p (side k false ∷ d) (Flat.Goes m) j (side_shape ms otherwise (at_otherwise ms c when w)) → (n r : ℕ)
           → n ≡ length (begun_by env ms otherwise (at_otherwise ms c when w)) + r
           → onward (visited_stages p env n) (goes_to (side_leads (Flat.Goes m) j (side_shape ms otherwise (at_otherwise ms c when w))) env)
           ≡ begun_by env ms otherwise (at_otherwise ms c when w) ++ visited_stages p env r m)
@@ -137,7 +142,8 @@ mutual
               ∙ ap (λ r. k ∷ r)
               (more (suc k) None (sym here) g.1 n rest (omega arith)
               ∙ ap
-              (λ q. q ∷ (begun_by env ms ss (past ms (Separator sq) (past ms (If sp c when otherwise) w)) ++ onward (visited_stages p env rest) (goes_to exit env)))
+              (λ q. q ∷ (begun_by env ms ss (past ms (Separator sq) (past ms (If sp c when otherwise) w))
+              ++ onward (visited_stages p env rest) (goes_to exit env)))
               here
               ∙ ap
               (λ r. (r
@@ -164,9 +170,11 @@ mutual
               ∷ (begun_by env ms ss (past ms (Separator sq) (past ms (If sp c when otherwise) w)) ++ onward (visited_stages p env rest) (goes_to exit env))
           on zero m = absurd (omega arith)
           on (suc n) m =
-              more (merge_at k (long (side_shape ms when (with_guard c w))) (long (side_shape ms otherwise (at_otherwise ms c when w)))) (Some k) (sym merged) g.4 n rest (omega arith)
+              more (merge_at k (long (side_shape ms when (with_guard c w))) (long (side_shape ms otherwise (at_otherwise ms c when w)))) (Some k)
+              (sym merged) g.4 n rest (omega arith)
               ∙ ap
-              (λ q. q ∷ (begun_by env ms ss (past ms (Separator sq) (past ms (If sp c when otherwise) w)) ++ onward (visited_stages p env rest) (goes_to exit env)))
+              (λ q. q ∷ (begun_by env ms ss (past ms (Separator sq) (past ms (If sp c when otherwise) w))
+              ++ onward (visited_stages p env rest) (goes_to exit env)))
               merged
 
           -- the stages of the branch that is taken
@@ -183,11 +191,20 @@ mutual
               ∙ ap
               (λ t. onward (visited_stages p env n)
               (Some
-              (if t then entry (side_leads (Flat.Goes (merge_at k (long (side_shape ms when (with_guard c w))) (long (side_shape ms otherwise (at_otherwise ms c when w))))) k (side_shape ms when (with_guard c w)))
-              else entry (side_leads (Flat.Goes (merge_at k (long (side_shape ms when (with_guard c w))) (long (side_shape ms otherwise (at_otherwise ms c when w))))) (k + long (side_shape ms when (with_guard c w))) (side_shape ms otherwise (at_otherwise ms c when w)))))) v
-              ∙ ap (onward (visited_stages p env n)) (entry_goes (merge_at k (long (side_shape ms when (with_guard c w))) (long (side_shape ms otherwise (at_otherwise ms c when w)))) k (side_shape ms when (with_guard c w)) env)
-              ∙ one k (merge_at k (long (side_shape ms when (with_guard c w))) (long (side_shape ms otherwise (at_otherwise ms c when w)))) (omega arith) late.0 g.2 n r (omega arith)
-              ∙ ap (λ l. l ++ visited_stages p env r (merge_at k (long (side_shape ms when (with_guard c w))) (long (side_shape ms otherwise (at_otherwise ms c when w))))) (sym (taken true v))
+              (if t then entry (side_leads
+              (Flat.Goes (merge_at k (long (side_shape ms when (with_guard c w))) (long (side_shape ms otherwise (at_otherwise ms c when w))))) k
+              (side_shape ms when (with_guard c w)))
+              else entry
+              (side_leads (Flat.Goes (merge_at k (long (side_shape ms when (with_guard c w))) (long (side_shape ms otherwise (at_otherwise ms c when w)))))
+              (k + long (side_shape ms when (with_guard c w))) (side_shape ms otherwise (at_otherwise ms c when w)))))) v
+              ∙ ap (onward (visited_stages p env n))
+              (entry_goes (merge_at k (long (side_shape ms when (with_guard c w))) (long (side_shape ms otherwise (at_otherwise ms c when w)))) k
+              (side_shape ms when (with_guard c w)) env)
+              ∙ one k (merge_at k (long (side_shape ms when (with_guard c w))) (long (side_shape ms otherwise (at_otherwise ms c when w))))
+              (omega arith) late.0 g.2 n r (omega arith)
+              ∙ ap
+              (λ l. l ++ visited_stages p env r
+              (merge_at k (long (side_shape ms when (with_guard c w))) (long (side_shape ms otherwise (at_otherwise ms c when w))))) (sym (taken true v))
           through false v n r q =
               let z = ap length (taken false v) in
               let b1 = guard_begun c w in
@@ -197,11 +214,21 @@ mutual
               ∙ ap
               (λ t. onward (visited_stages p env n)
               (Some
-              (if t then entry (side_leads (Flat.Goes (merge_at k (long (side_shape ms when (with_guard c w))) (long (side_shape ms otherwise (at_otherwise ms c when w))))) k (side_shape ms when (with_guard c w)))
-              else entry (side_leads (Flat.Goes (merge_at k (long (side_shape ms when (with_guard c w))) (long (side_shape ms otherwise (at_otherwise ms c when w))))) (k + long (side_shape ms when (with_guard c w))) (side_shape ms otherwise (at_otherwise ms c when w)))))) v
-              ∙ ap (onward (visited_stages p env n)) (entry_goes (merge_at k (long (side_shape ms when (with_guard c w))) (long (side_shape ms otherwise (at_otherwise ms c when w)))) (k + long (side_shape ms when (with_guard c w))) (side_shape ms otherwise (at_otherwise ms c when w)) env)
-              ∙ two (k + long (side_shape ms when (with_guard c w))) (merge_at k (long (side_shape ms when (with_guard c w))) (long (side_shape ms otherwise (at_otherwise ms c when w)))) (omega arith) late.1 g.3 n r (omega arith)
-              ∙ ap (λ l. l ++ visited_stages p env r (merge_at k (long (side_shape ms when (with_guard c w))) (long (side_shape ms otherwise (at_otherwise ms c when w))))) (sym (taken false v))
+              (if t then entry (side_leads
+              (Flat.Goes (merge_at k (long (side_shape ms when (with_guard c w))) (long (side_shape ms otherwise (at_otherwise ms c when w))))) k
+              (side_shape ms when (with_guard c w)))
+              else entry
+              (side_leads (Flat.Goes (merge_at k (long (side_shape ms when (with_guard c w))) (long (side_shape ms otherwise (at_otherwise ms c when w)))))
+              (k + long (side_shape ms when (with_guard c w))) (side_shape ms otherwise (at_otherwise ms c when w)))))) v
+              ∙ ap (onward (visited_stages p env n))
+              (entry_goes (merge_at k (long (side_shape ms when (with_guard c w))) (long (side_shape ms otherwise (at_otherwise ms c when w))))
+              (k + long (side_shape ms when (with_guard c w))) (side_shape ms otherwise (at_otherwise ms c when w)) env)
+              ∙ two (k + long (side_shape ms when (with_guard c w)))
+              (merge_at k (long (side_shape ms when (with_guard c w))) (long (side_shape ms otherwise (at_otherwise ms c when w)))) (omega arith) late.1 g.3 n r
+              (omega arith)
+              ∙ ap
+              (λ l. l ++ visited_stages p env r
+              (merge_at k (long (side_shape ms when (with_guard c w))) (long (side_shape ms otherwise (at_otherwise ms c when w))))) (sym (taken false v))
 
           turn : (b : Bool) → (slice_index env (guard_of w.vars c) == 1) ≡ b
               → visited_stages p env (suc fuel) k

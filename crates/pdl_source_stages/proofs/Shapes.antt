@@ -89,7 +89,8 @@ abbrev pub leads_on : Flat.Next → ℕ → Shape → Flat.Next
 leads_on exit k Last = exit
 leads_on exit k (Cut rest) = Flat.Goes (suc k)
 leads_on exit k (Fork x a b rest) =
-    Flat.Forks x (entry (side_leads (Flat.Goes (merge_at k (long a) (long b))) k a)) (entry (side_leads (Flat.Goes (merge_at k (long a) (long b))) (k + long a) b))
+    Flat.Forks x (entry (side_leads (Flat.Goes (merge_at k (long a) (long b))) k a))
+    (entry (side_leads (Flat.Goes (merge_at k (long a) (long b))) (k + long a) b))
 
 -- the stages after stage k, in these branches
 abbrev mutual
@@ -115,7 +116,8 @@ abbrev mutual
   shape ms (Cons (Separator sp) ss) w = Cut (shape ms ss (past ms (Separator sp) w))
   shape ms (Cons (If sp c when otherwise) (Cons (Separator sq) ss)) w =
       cond (is_whole when otherwise) (Cut (shape ms ss (past ms (Separator sq) (past ms (If sp c when otherwise) w))))
-      (Fork (guard_of w.vars c) (side_shape ms when (with_guard c w)) (side_shape ms otherwise (at_otherwise ms c when w)) (shape ms ss (past ms (Separator sq) (past ms (If sp c when otherwise) w))))
+      (Fork (guard_of w.vars c) (side_shape ms when (with_guard c w)) (side_shape ms otherwise (at_otherwise ms c when w))
+      (shape ms ss (past ms (Separator sq) (past ms (If sp c when otherwise) w))))
   shape ms (Cons s ss) w = shape ms ss (past ms s w)
 
   -- of a branch
@@ -142,13 +144,16 @@ mutual
   size_is ms (Cons (Separator sp) ss) w h = let k = size_is ms ss (past ms (Separator sp) w) h in omega arith
   size_is ms (Cons (If sp c when otherwise) (Cons (Separator sq) ss)) w h =
       let parts = and_parts (is_whole when otherwise || (true && (is_late when && is_late otherwise))) (is_forked ss) h in
-      at (is_whole when otherwise) refl parts.0 (size_is ms ss (past ms (Separator sq) (past ms (If sp c when otherwise) w)) parts.1) (λ i. long_is ms when (with_guard c w) i) (λ i. long_is ms otherwise (at_otherwise ms c when w) i)
+      at (is_whole when otherwise) refl parts.0 (size_is ms ss (past ms (Separator sq) (past ms (If sp c when otherwise) w)) parts.1)
+      (λ i. long_is ms when (with_guard c w) i) (λ i. long_is ms otherwise (at_otherwise ms c when w) i)
     where
       at : (b : Bool) → is_whole when otherwise ≡ b → (b || (true && (is_late when && is_late otherwise))) ≡ true
           → size (shape ms ss (past ms (Separator sq) (past ms (If sp c when otherwise) w))) ≡ suc (separators ss)
-          → (is_late when ≡ true → long (side_shape ms when (with_guard c w)) ≡ separators when) → (is_late otherwise ≡ true → long (side_shape ms otherwise (at_otherwise ms c when w)) ≡ separators otherwise)
+          → (is_late when ≡ true → long (side_shape ms when (with_guard c w)) ≡ separators when)
+          → (is_late otherwise ≡ true → long (side_shape ms otherwise (at_otherwise ms c when w)) ≡ separators otherwise)
           → size (cond b (Cut (shape ms ss (past ms (Separator sq) (past ms (If sp c when otherwise) w))))
-          (Fork (guard_of w.vars c) (side_shape ms when (with_guard c w)) (side_shape ms otherwise (at_otherwise ms c when w)) (shape ms ss (past ms (Separator sq) (past ms (If sp c when otherwise) w)))))
+          (Fork (guard_of w.vars c) (side_shape ms when (with_guard c w)) (side_shape ms otherwise (at_otherwise ms c when w))
+          (shape ms ss (past ms (Separator sq) (past ms (If sp c when otherwise) w)))))
           ≡ suc (separators_in (If sp c when otherwise) + separators (Cons (Separator sq) ss))
       at true none fits k f g = let z : separators when + separators otherwise ≡ 0 = eqb-true _ _ none in omega arith
       at false some fits k f g =
@@ -181,16 +186,22 @@ mutual
 -- a fork's graph by the numbers that stand in it
 abbrev forked : List Flat.Branch → Flat.Next → ℕ → Side → Side → ℕ → ℕ → ℕ → ℕ → ℕ → Shape → Flatten.Graph
 forked d exit x a b f m i j k r =
-    graph_with_fork f x (bunch (side f true ∷ d) (Flat.Goes m) i a) (bunch (side f false ∷ d) (Flat.Goes m) j b) (record { next = Flat.Goes (suc k); later = stage (leads_on exit (suc k) r) d None ∷ after d exit (suc k) r })
+    graph_with_fork f x (bunch (side f true ∷ d) (Flat.Goes m) i a) (bunch (side f false ∷ d) (Flat.Goes m) j b)
+    (record { next = Flat.Goes (suc k); later = stage (leads_on exit (suc k) r) d None ∷ after d exit (suc k) r })
 
-forked_is : (d : List Flat.Branch) (exit : Flat.Next) (x : ℕ) (a b : Side) (f m i j k n : ℕ) (r : Shape) → f ≡ n → m ≡ merge_at n (long a) (long b) → i ≡ n → j ≡ n + long a → k ≡ n + long a + long b → forked d exit x a b f m i j k r ≡ trunk d exit n (Fork x a b r)
+forked_is : (d : List Flat.Branch) (exit : Flat.Next) (x : ℕ) (a b : Side) (f m i j k n : ℕ) (r : Shape)
+    → f ≡ n → m ≡ merge_at n (long a) (long b) → i ≡ n → j ≡ n + long a → k ≡ n + long a + long b
+    → forked d exit x a b f m i j k r ≡ trunk d exit n (Fork x a b r)
 forked_is d exit x a b f m i j k n r e1 e2 e3 e4 e5 =
-    ap (λ u. forked d exit x a b u m i j k r) e1 ∙ ap (λ u. forked d exit x a b n u i j k r) e2 ∙ ap (λ u. forked d exit x a b n (merge_at n (long a) (long b)) u j k r) e3
-    ∙ ap (λ u. forked d exit x a b n (merge_at n (long a) (long b)) n u k r) e4 ∙ ap (λ u. forked d exit x a b n (merge_at n (long a) (long b)) n (n + long a) u r) e5
+    ap (λ u. forked d exit x a b u m i j k r) e1 ∙ ap (λ u. forked d exit x a b n u i j k r) e2
+    ∙ ap (λ u. forked d exit x a b n (merge_at n (long a) (long b)) u j k r) e3
+    ∙ ap (λ u. forked d exit x a b n (merge_at n (long a) (long b)) n u k r) e4
+    ∙ ap (λ u. forked d exit x a b n (merge_at n (long a) (long b)) n (n + long a) u r) e5
 
 mutual
   -- the graph of statements that begin a stage is that of their shape
-  pub graph_trunk : (ms : List Mem) (d : List Flat.Branch) (exit : Flat.Next) (ss : Stmts) (w : Flatten.Position) → w.stage ≡ w.begun → is_forked ss ≡ true → graph ms d exit ss w ≡ trunk d exit w.begun (shape ms ss w)
+  pub graph_trunk : (ms : List Mem) (d : List Flat.Branch) (exit : Flat.Next) (ss : Stmts) (w : Flatten.Position)
+      → w.stage ≡ w.begun → is_forked ss ≡ true → graph ms d exit ss w ≡ trunk d exit w.begun (shape ms ss w)
   graph_trunk ms d exit Nil w e h = refl
   graph_trunk ms d exit (Cons (Separator sp) ss) w e h = ap (graph_with_stage d w) (graph_trunk ms d exit ss (past ms (Separator sp) w) refl h)
   graph_trunk ms d exit (Cons (If sp c when otherwise) (Cons (Separator sq) ss)) w e h =
@@ -207,9 +218,15 @@ mutual
           → (is_late when ≡ true → graph ms (side w.stage true ∷ d) (Flat.Goes (suc (w.begun + separators when + separators otherwise))) when (with_guard c w) ≡ bunch (side w.stage true ∷ d) (Flat.Goes (suc (w.begun + separators when + separators otherwise))) (with_guard c w).begun (side_shape ms when (with_guard c w)))
           → (is_late otherwise ≡ true → graph ms (side w.stage false ∷ d) (Flat.Goes (suc (w.begun + separators when + separators otherwise))) otherwise (at_otherwise ms c when w) ≡ bunch (side w.stage false ∷ d) (Flat.Goes (suc (w.begun + separators when + separators otherwise))) (at_otherwise ms c when w).begun (side_shape ms otherwise (at_otherwise ms c when w)))
           → (if b then graph ms d exit (Cons (Separator sq) ss) (past ms (If sp c when otherwise) w) else graph_with_fork w.stage (guard_of w.vars c) (graph ms (side w.stage true ∷ d) (Flat.Goes (suc (w.begun + separators when + separators otherwise))) when (with_guard c w)) (graph ms (side w.stage false ∷ d) (Flat.Goes (suc (w.begun + separators when + separators otherwise))) otherwise (at_otherwise ms c when w)) (graph ms d exit (Cons (Separator sq) ss) (past ms (If sp c when otherwise) w)))
-          ≡ trunk d exit w.begun (cond b (Cut (shape ms ss (past ms (Separator sq) (past ms (If sp c when otherwise) w)))) (Fork (guard_of w.vars c) (side_shape ms when (with_guard c w)) (side_shape ms otherwise (at_otherwise ms c when w)) (shape ms ss (past ms (Separator sq) (past ms (If sp c when otherwise) w)))))
+          ≡ trunk d exit w.begun
+          (cond b (Cut (shape ms ss (past ms (Separator sq) (past ms (If sp c when otherwise) w))))
+          (Fork (guard_of w.vars c) (side_shape ms when (with_guard c w)) (side_shape ms otherwise (at_otherwise ms c when w))
+          (shape ms ss (past ms (Separator sq) (past ms (If sp c when otherwise) w)))))
       at true none fits ih f g =
-          ap (graph_with_stage d (past ms (If sp c when otherwise) w)) ih ∙ ap (λ n. trunk d exit n (Cut (shape ms ss (past ms (Separator sq) (past ms (If sp c when otherwise) w))))) (let z : separators when + separators otherwise ≡ 0 = eqb-true _ _ none in let k = begun in let r : (past ms (If sp c when otherwise) w).begun ≡ w.begun = omega arith in r)
+          ap (graph_with_stage d (past ms (If sp c when otherwise) w)) ih
+          ∙ ap (λ n. trunk d exit n (Cut (shape ms ss (past ms (Separator sq) (past ms (If sp c when otherwise) w)))))
+          (let z : separators when + separators otherwise ≡ 0 = eqb-true _ _ none in let k = begun in let r : (past ms (If sp c when otherwise) w).begun
+          ≡ w.begun = omega arith in r)
       at false some fits ih f g =
           let late = and_parts (is_late when) (is_late otherwise) fits in
           let g1 = guard_begun c w in
@@ -217,12 +234,21 @@ mutual
           let g3 = begun in
           let l1 = long_is ms when (with_guard c w) late.0 in
           let l2 = long_is ms otherwise (at_otherwise ms c when w) late.1 in
-          ap₂ (λ u v. graph_with_fork w.stage (guard_of w.vars c) u v (graph ms d exit (Cons (Separator sq) ss) (past ms (If sp c when otherwise) w))) (f late.0) (g late.1)
-          ∙ ap (λ u. graph_with_fork w.stage (guard_of w.vars c) (bunch (side w.stage true ∷ d) (Flat.Goes (suc (w.begun + separators when + separators otherwise))) (with_guard c w).begun (side_shape ms when (with_guard c w))) (bunch (side w.stage false ∷ d) (Flat.Goes (suc (w.begun + separators when + separators otherwise))) (at_otherwise ms c when w).begun (side_shape ms otherwise (at_otherwise ms c when w))) (graph_with_stage d (past ms (If sp c when otherwise) w) u)) ih
-          ∙ forked_is d exit (guard_of w.vars c) (side_shape ms when (with_guard c w)) (side_shape ms otherwise (at_otherwise ms c when w)) w.stage (suc (w.begun + separators when + separators otherwise)) (with_guard c w).begun (at_otherwise ms c when w).begun (past ms (If sp c when otherwise) w).begun w.begun (shape ms ss (past ms (Separator sq) (past ms (If sp c when otherwise) w))) e
-          (let k : suc (w.begun + separators when + separators otherwise) ≡ suc (w.begun + long (side_shape ms when (with_guard c w)) + long (side_shape ms otherwise (at_otherwise ms c when w))) = omega arith in k) g1
+          ap₂ (λ u v. graph_with_fork w.stage (guard_of w.vars c) u v (graph ms d exit (Cons (Separator sq) ss) (past ms (If sp c when otherwise) w)))
+          (f late.0) (g late.1)
+          ∙ ap
+          (λ u. graph_with_fork w.stage (guard_of w.vars c)
+          (bunch (side w.stage true ∷ d) (Flat.Goes (suc (w.begun + separators when + separators otherwise))) (with_guard c w).begun
+          (side_shape ms when (with_guard c w))) (bunch (side w.stage false ∷ d) (Flat.Goes (suc (w.begun + separators when + separators otherwise)))
+          (at_otherwise ms c when w).begun (side_shape ms otherwise (at_otherwise ms c when w))) (graph_with_stage d (past ms (If sp c when otherwise) w) u)) ih
+          ∙ forked_is d exit (guard_of w.vars c) (side_shape ms when (with_guard c w)) (side_shape ms otherwise (at_otherwise ms c when w)) w.stage
+          (suc (w.begun + separators when + separators otherwise)) (with_guard c w).begun (at_otherwise ms c when w).begun
+          (past ms (If sp c when otherwise) w).begun w.begun (shape ms ss (past ms (Separator sq) (past ms (If sp c when otherwise) w))) e
+          (let k : suc (w.begun + separators when + separators otherwise)
+          ≡ suc (w.begun + long (side_shape ms when (with_guard c w)) + long (side_shape ms otherwise (at_otherwise ms c when w))) = omega arith in k) g1
           (let k : (at_otherwise ms c when w).begun ≡ w.begun + long (side_shape ms when (with_guard c w)) = omega arith in k)
-          (let k : (past ms (If sp c when otherwise) w).begun ≡ w.begun + long (side_shape ms when (with_guard c w)) + long (side_shape ms otherwise (at_otherwise ms c when w)) = omega arith in k)
+          (let k : (past ms (If sp c when otherwise) w).begun
+          ≡ w.begun + long (side_shape ms when (with_guard c w)) + long (side_shape ms otherwise (at_otherwise ms c when w)) = omega arith in k)
   graph_trunk ms d exit (Cons (If sp c when otherwise) ss) w e h =
       let parts = and_parts (is_whole when otherwise || (begins_stage ss && (is_late when && is_late otherwise))) (is_forked ss) h in
       let whole = fitting (is_whole when otherwise) parts.0 in
@@ -243,7 +269,8 @@ mutual
   graph_trunk ms d exit (Cons s ss) w e h = graph_trunk ms d exit ss (past ms s w) e h
 
   -- the graph of a branch is that of its shape
-  pub graph_side : (ms : List Mem) (d : List Flat.Branch) (exit : Flat.Next) (ss : Stmts) (w : Flatten.Position) → is_late ss ≡ true → graph ms d exit ss w ≡ bunch d exit w.begun (side_shape ms ss w)
+  pub graph_side : (ms : List Mem) (d : List Flat.Branch) (exit : Flat.Next) (ss : Stmts) (w : Flatten.Position)
+      → is_late ss ≡ true → graph ms d exit ss w ≡ bunch d exit w.begun (side_shape ms ss w)
   graph_side ms d exit Nil w h = refl
   graph_side ms d exit (Cons (Separator sp) ss) w h = ap (graph_with_stage d w) (graph_trunk ms d exit ss (past ms (Separator sp) w) refl h)
   graph_side ms d exit (Cons (If sp c when otherwise) ss) w h =
@@ -252,7 +279,8 @@ mutual
       let f = past_begun ms (If sp c when otherwise) w in
       skipped (is_whole when otherwise) parts.0 (graph ms d exit ss (past ms (If sp c when otherwise) w)) _
       ∙ graph_side ms d exit ss (past ms (If sp c when otherwise) w) parts.1
-      ∙ ap (λ n. bunch d exit n (side_shape ms ss (past ms (If sp c when otherwise) w))) (let e : (past ms (If sp c when otherwise) w).begun ≡ w.begun = omega arith in e)
+      ∙ ap (λ n. bunch d exit n (side_shape ms ss (past ms (If sp c when otherwise) w)))
+      (let e : (past ms (If sp c when otherwise) w).begun ≡ w.begun = omega arith in e)
     where
       skipped : (b : Bool) → b ≡ true → (g k : Flatten.Graph) → (if b then g else k) ≡ g
       skipped true e g k = refl

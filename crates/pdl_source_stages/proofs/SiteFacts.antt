@@ -91,17 +91,20 @@ from_op test None = false
 from_op test (Some op) = test op
 
 -- of a read, a binding and a write, advisory or not
-pub read_none : (test : Flat.Op → Bool) (b : Bool) (x m a : ℕ) → test (Flat.AdviceRead x m a) ≡ false → test (Flat.CombRead x m a) ≡ false → test (read_op b x m a) ≡ false
+pub read_none : (test : Flat.Op → Bool) (b : Bool) (x m a : ℕ)
+    → test (Flat.AdviceRead x m a) ≡ false → test (Flat.CombRead x m a) ≡ false → test (read_op b x m a) ≡ false
 read_none test true x m a h k = h
 read_none test false x m a h k = k
 
 -- what holds of neither binding doesn't hold of the one that is made
-pub bind_none : (test : Flat.Op → Bool) (b : Bool) (x : ℕ) (e : Flat.Expr) → test (Flat.AdviceBind x e) ≡ false → test (Flat.Bind x e) ≡ false → test (bind_op b x e) ≡ false
+pub bind_none : (test : Flat.Op → Bool) (b : Bool) (x : ℕ) (e : Flat.Expr)
+    → test (Flat.AdviceBind x e) ≡ false → test (Flat.Bind x e) ≡ false → test (bind_op b x e) ≡ false
 bind_none test true x e h k = h
 bind_none test false x e h k = k
 
 -- what holds of neither write doesn't hold of the one that is made
-pub write_none : (test : Flat.Op → Bool) (b : Bool) (m a : ℕ) (e : Flat.Expr) → test (Flat.AdviceWrite m a e) ≡ false → test (Flat.Write m a e) ≡ false → test (write_op b m a e) ≡ false
+pub write_none : (test : Flat.Op → Bool) (b : Bool) (m a : ℕ) (e : Flat.Expr)
+    → test (Flat.AdviceWrite m a e) ≡ false → test (Flat.Write m a e) ≡ false → test (write_op b m a e) ≡ false
 write_none test true m a e h k = h
 write_none test false m a e h k = k
 
@@ -180,10 +183,17 @@ each_in_stage P s (y ∷ ys) h = at (y.stage == s) refl (each_in_stage P s ys h.
 pub op_trunk_only : (ms : List Mem) (vs : List Var) (s : Stmt) (op : Flat.Op)
     → op_of ms vs s ≡ Some op → trunk_only op ≡ true → is_trunk_only s ≡ true
 op_trunk_only ms vs (Separator _) op e h = cc
-op_trunk_only ms vs (CombRead _ x from) op e h = absurd (false≢true (sym (read_none (trunk_only) (is_advisory_mem ms from.mem.name) (length vs) (mem_of ms from.mem.name) (var_of vs from.address.name) refl refl) ∙ ap (from_op trunk_only) e ∙ h))
-op_trunk_only ms vs (Bind _ x f) op e h = absurd (false≢true (sym (bind_none (trunk_only) (is_advised vs f) (length vs) (flat_expr vs f) refl refl) ∙ ap (from_op trunk_only) e ∙ h))
+op_trunk_only ms vs (CombRead _ x from) op e h =
+    absurd
+    (false≢true (sym (read_none (trunk_only) (is_advisory_mem ms from.mem.name) (length vs) (mem_of ms from.mem.name) (var_of vs from.address.name) refl refl)
+    ∙ ap (from_op trunk_only) e ∙ h))
+op_trunk_only ms vs (Bind _ x f) op e h =
+    absurd (false≢true (sym (bind_none (trunk_only) (is_advised vs f) (length vs) (flat_expr vs f) refl refl) ∙ ap (from_op trunk_only) e ∙ h))
 op_trunk_only ms vs (DelayedRead _ x from) op e h = absurd (false≢true (ap (from_op trunk_only) e ∙ h))
-op_trunk_only ms vs (Write _ to f) op e h = absurd (false≢true (sym (write_none (trunk_only) (is_advisory_mem ms to.mem.name) (mem_of ms to.mem.name) (var_of vs to.address.name) (flat_expr vs f) refl refl) ∙ ap (from_op trunk_only) e ∙ h))
+op_trunk_only ms vs (Write _ to f) op e h =
+    absurd
+    (false≢true (sym (write_none (trunk_only) (is_advisory_mem ms to.mem.name) (mem_of ms to.mem.name) (var_of vs to.address.name) (flat_expr vs f) refl refl)
+    ∙ ap (from_op trunk_only) e ∙ h))
 op_trunk_only ms vs (Block _ at) op e h = absurd (false≢true (ap (from_op trunk_only) e ∙ h))
 op_trunk_only ms vs (If _ (Variable x) when otherwise) op e h = cc
 op_trunk_only ms vs (If _ c when otherwise) op e h = absurd (false≢true (ap (from_op trunk_only) e ∙ h))

@@ -174,16 +174,35 @@ mutual
   )
   stands p ms d exit k merges front w gs bs (Cons (If sp c when otherwise) (Cons (Separator sq) ss)) e i h g l a f =
       at (is_whole when otherwise) refl parts.0 g l
-      (λ fork late sides inside. side_stands p ms d (side k true) (Flat.Goes (merge_at k (long (side_shape ms when (with_guard c w))) (long (side_shape ms otherwise (at_otherwise ms c when w))))) k k
+      (λ fork late sides inside. side_stands p ms d (side k true)
+      (Flat.Goes (merge_at k (long (side_shape ms when (with_guard c w))) (long (side_shape ms otherwise (at_otherwise ms c when w))))) k k
       (front ++ Statement (If sp c when otherwise) bs ∷ []) (with_guard c w) (under gs w.vars c true)
-      (bs ++ branch sp c true when ∷ []) when fork.home (guard_stage c w ∙ e ∙ i) (guard_begun c w ∙ i) late sides inside
-      ((guard_of w.vars c, long (side_shape ms when (with_guard c w)), long (side_shape ms otherwise (at_otherwise ms c when w)), fork, (gs, [], refl)), guarded_more p gs _ d a)
+      (bs ++ branch sp c true when ∷ []) when fork.home (guard_stage c w ∙ e ∙ i) (guard_begun c w ∙ i) late sides inside (
+        (
+          guard_of w.vars c,
+          long (side_shape ms when (with_guard c w)),
+          long (side_shape ms otherwise (at_otherwise ms c when w)),
+          fork,
+          (gs, [], refl),
+        ),
+        guarded_more p gs _ d a,
+      )
       (inner_more d bs _ f) (λ some. fork_last bs (branch sp c true when) (holds_some when some)))
-      (λ fork late sides inside begun. side_stands p ms d (side k false) (Flat.Goes (merge_at k (long (side_shape ms when (with_guard c w))) (long (side_shape ms otherwise (at_otherwise ms c when w))))) k (k + long (side_shape ms when (with_guard c w)))
+      (λ fork late sides inside begun. side_stands p ms d (side k false)
+      (Flat.Goes (merge_at k (long (side_shape ms when (with_guard c w))) (long (side_shape ms otherwise (at_otherwise ms c when w))))) k
+      (k + long (side_shape ms when (with_guard c w)))
       (front ++ Statement (If sp c when otherwise) bs ∷ statements (bs ++ branch sp c true when ∷ []) when)
       (at_otherwise ms c when w) (under gs w.vars c false)
-      (bs ++ branch sp c false otherwise ∷ []) otherwise fork.home (e ∙ i) begun late sides inside
-      ((guard_of w.vars c, long (side_shape ms when (with_guard c w)), long (side_shape ms otherwise (at_otherwise ms c when w)), fork, (gs, [], refl)), guarded_more p gs _ d a)
+      (bs ++ branch sp c false otherwise ∷ []) otherwise fork.home (e ∙ i) begun late sides inside (
+        (
+          guard_of w.vars c,
+          long (side_shape ms when (with_guard c w)),
+          long (side_shape ms otherwise (at_otherwise ms c when w)),
+          fork,
+          (gs, [], refl),
+        ),
+        guarded_more p gs _ d a,
+      )
       (inner_more d bs _ f) (λ some. fork_last bs (branch sp c false otherwise) (holds_some otherwise some)))
       (λ j merge begun groups inside. stands p ms d exit j merge ((front ++ with_inner bs (If sp c when otherwise)) ++ Statement (Separator sq) bs ∷ [])
       (past ms (Separator sq) (past ms (If sp c when otherwise) w)) gs bs ss refl begun parts.1 groups inside a f)
@@ -197,17 +216,25 @@ mutual
       at : (b : Bool) → is_whole when otherwise ≡ b → (b || (true && (is_late when && is_late otherwise))) ≡ true
           → Groups p d exit k merges (either_shape ms sp c when otherwise sq ss w b)
           → k + size (either_shape ms sp c when otherwise sq ss w b) ≤ length p.stages
-          → (Forked p d k (guard_of w.vars c) (long (side_shape ms when (with_guard c w))) (long (side_shape ms otherwise (at_otherwise ms c when w))) → is_late when ≡ true
+          →
+          (Forked p d k (guard_of w.vars c) (long (side_shape ms when (with_guard c w))) (long (side_shape ms otherwise (at_otherwise ms c when w)))
+          → is_late when ≡ true
           → Sides p (side k true ∷ d) (Flat.Goes (merge_at k (long (side_shape ms when (with_guard c w))) (long (side_shape ms otherwise (at_otherwise ms c when w))))) k (side_shape ms when (with_guard c w))
-          → suc (k + long (side_shape ms when (with_guard c w))) ≤ length p.stages → All (Standing p) (sites ms (front ++ Statement (If sp c when otherwise) bs ∷ []) (with_guard c w) (under gs w.vars c true) (bs ++ branch sp c true when ∷ []) when))
-          → (Forked p d k (guard_of w.vars c) (long (side_shape ms when (with_guard c w))) (long (side_shape ms otherwise (at_otherwise ms c when w))) → is_late otherwise ≡ true
+          → suc (k + long (side_shape ms when (with_guard c w))) ≤ length p.stages → All (Standing p)
+          (sites ms (front ++ Statement (If sp c when otherwise) bs ∷ []) (with_guard c w) (under gs w.vars c true) (bs ++ branch sp c true when ∷ []) when))
+          →
+          (Forked p d k (guard_of w.vars c) (long (side_shape ms when (with_guard c w))) (long (side_shape ms otherwise (at_otherwise ms c when w)))
+          → is_late otherwise ≡ true
           → Sides p (side k false ∷ d) (Flat.Goes (merge_at k (long (side_shape ms when (with_guard c w))) (long (side_shape ms otherwise (at_otherwise ms c when w))))) (k + long (side_shape ms when (with_guard c w))) (side_shape ms otherwise (at_otherwise ms c when w))
           → suc (k + long (side_shape ms when (with_guard c w)) + long (side_shape ms otherwise (at_otherwise ms c when w))) ≤ length p.stages
-          → (at_otherwise ms c when w).begun ≡ k + long (side_shape ms when (with_guard c w)) → All (Standing p) (sites ms (front ++ Statement (If sp c when otherwise) bs ∷ statements (bs ++ branch sp c true when ∷ []) when)
+          → (at_otherwise ms c when w).begun
+          ≡ k + long (side_shape ms when (with_guard c w)) → All (Standing p)
+          (sites ms (front ++ Statement (If sp c when otherwise) bs ∷ statements (bs ++ branch sp c true when ∷ []) when)
           (at_otherwise ms c when w) (under gs w.vars c false) (bs ++ branch sp c false otherwise ∷ []) otherwise))
           → ((j : ℕ) (merge : Option ℕ) → suc (past ms (If sp c when otherwise) w).begun ≡ j
           → Groups p d exit j merge (rest_shape ms sp c when otherwise sq ss w)
-          → j + size (rest_shape ms sp c when otherwise sq ss w) ≤ length p.stages → All (Standing p) (sites ms ((front ++ with_inner bs (If sp c when otherwise)) ++ Statement (Separator sq) bs ∷ [])
+          → j + size (rest_shape ms sp c when otherwise sq ss w) ≤ length p.stages → All (Standing p)
+          (sites ms ((front ++ with_inner bs (If sp c when otherwise)) ++ Statement (Separator sq) bs ∷ [])
           (past ms (Separator sq) (past ms (If sp c when otherwise) w)) gs bs ss))
           → All (Standing p) (sites ms front w gs bs (Cons (If sp c when otherwise) (Cons (Separator sq) ss)))
       at true whole fits g l one two more =
@@ -224,13 +251,20 @@ mutual
           let l2 = long_is ms otherwise (at_otherwise ms c when w) late.1 in
           let b1 = guard_begun c w in
           let b2 = past_all_begun ms when (with_guard c w) in
-          let fork = group_fork p d exit k merges (guard_of w.vars c) (side_shape ms when (with_guard c w)) (side_shape ms otherwise (at_otherwise ms c when w)) (rest_shape ms sp c when otherwise sq ss w) g l in
-          all_append (Standing p) (sites_in ms front w gs bs (If sp c when otherwise)) _
-          (
+          let fork = group_fork p d exit k merges (guard_of w.vars c) (side_shape ms when (with_guard c w)) (side_shape ms otherwise (at_otherwise ms c when w))
+          (rest_shape ms sp c when otherwise sq ss w) g l in
+          all_append (Standing p) (sites_in ms front w gs bs (If sp c when otherwise)) _ (
             stands_here p d k _ fork.home (e ∙ i) a f,
-            all_append (Standing p) (sites ms (front ++ Statement (If sp c when otherwise) bs ∷ []) (with_guard c w) (under gs w.vars c true) (bs ++ branch sp c true when ∷ []) when) _ (one fork late.0 g.2 (omega arith)) (two fork late.1 g.3 (omega arith) (omega arith)),
+            all_append (Standing p)
+                (sites ms (front ++ Statement (If sp c when otherwise) bs ∷ []) (with_guard c w) (under gs w.vars c true)
+                (bs ++ branch sp c true when ∷ []) when) _
+                (one fork late.0 g.2 (omega arith)) (two fork late.1 g.3 (omega arith) (omega arith)),
+          ) (
+            stands_here p d k _ fork.home (e ∙ i) a f,
+            more
+                (merge_at k (long (side_shape ms when (with_guard c w))) (long (side_shape ms otherwise (at_otherwise ms c when w)))) (Some k) (omega arith) g.4
+                (omega arith),
           )
-          (stands_here p d k _ fork.home (e ∙ i) a f, more (merge_at k (long (side_shape ms when (with_guard c w))) (long (side_shape ms otherwise (at_otherwise ms c when w)))) (Some k) (omega arith) g.4 (omega arith))
   stands p ms d exit k merges front w gs bs (Cons (If sp c when otherwise) ss) e i h g l a f =
       let parts = and_parts (is_whole when otherwise || (begins_stage ss && (is_late when && is_late otherwise))) (is_forked ss) h in
       let none = none_of_whole when otherwise (fitting when otherwise ss refl (is_whole when otherwise) parts.0) in

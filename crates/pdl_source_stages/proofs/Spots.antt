@@ -69,7 +69,8 @@ abbrev mutual
 
 mutual
   -- where the list of stages goes on with those of a shape, they are its stages
-  pub groups : (p : Flat.Pipe) (c : List Flat.Branch) (exit : Flat.Next) (k : ℕ) (merges : Option ℕ) (sh : Shape) (ys : List Flat.Stage) → Proper sh → Rest p k (stage (leads_on exit k sh) c merges ∷ (after c exit k sh ++ ys))
+  pub groups : (p : Flat.Pipe) (c : List Flat.Branch) (exit : Flat.Next) (k : ℕ) (merges : Option ℕ) (sh : Shape) (ys : List Flat.Stage)
+      → Proper sh → Rest p k (stage (leads_on exit k sh) c merges ∷ (after c exit k sh ++ ys))
       → Groups p c exit k merges sh × Rest p (k + size sh) ys
   groups p c exit k merges Last ys proper h = (rest_head p k _ _ h, subst (λ n. Rest p n ys) (let e : suc k ≡ k + 1 = omega arith in e) (rest_tail p k _ _ h))
   groups p c exit k merges (Cut rest) ys proper h =
@@ -83,11 +84,15 @@ mutual
       let tail = subst (λ l. Rest p (suc k) l) (append_assoc (one' ++ two') third ys ∙ append_assoc one' two' (third ++ ys)) (rest_tail p k _ _ h) in
       let one = sides p (side k true ∷ c) (Flat.Goes m) k a (two' ++ (third ++ ys)) proper.1 tail in
       let two = sides p (side k false ∷ c) (Flat.Goes m) (k + long a) b (third ++ ys) proper.2 one.1 in
-      let more = groups p c exit m (Some k) rest ys proper.3 two.1 in
-      ((rest_head p k _ _ h, proper.0, one.0, two.0, more.0), subst (λ n. Rest p n ys) (let e : merge_at k (long a) (long b) + size rest ≡ k + suc (long a + long b + size rest) = omega arith in e) more.1)
+      let more = groups p c exit m (Some k) rest ys proper.3 two.1 in (
+        (rest_head p k _ _ h, proper.0, one.0, two.0, more.0),
+        subst (λ n. Rest p n ys)
+            (let e : merge_at k (long a) (long b) + size rest ≡ k + suc (long a + long b + size rest) = omega arith in e) more.1,
+      )
 
   -- and with those of a branch
-  pub sides : (p : Flat.Pipe) (c : List Flat.Branch) (exit : Flat.Next) (k : ℕ) (sd : Side) (ys : List Flat.Stage) → ProperSide sd → Rest p (suc k) (side_after c exit k sd ++ ys) → Sides p c exit k sd × Rest p (suc (k + long sd)) ys
+  pub sides : (p : Flat.Pipe) (c : List Flat.Branch) (exit : Flat.Next) (k : ℕ) (sd : Side) (ys : List Flat.Stage)
+      → ProperSide sd → Rest p (suc k) (side_after c exit k sd ++ ys) → Sides p c exit k sd × Rest p (suc (k + long sd)) ys
   sides p c exit k Straight ys proper h = (tt, subst (λ n. Rest p n ys) (let e : suc k ≡ suc (k + 0) = omega arith in e) h)
   sides p c exit k (Runs sh) ys proper h =
       let more = groups p c exit (suc k) None sh ys proper h in
@@ -100,7 +105,8 @@ group_home p c exit k merges (Cut rest) g = ap (λ (x : Flat.Stage). x.branches)
 group_home p c exit k merges (Fork x a b rest) g = ap (λ (x : Flat.Stage). x.branches) g.0
 
 -- and merges what is told
-pub group_merge : (p : Flat.Pipe) (c : List Flat.Branch) (exit : Flat.Next) (k : ℕ) (merges : Option ℕ) (sh : Shape) → Groups p c exit k merges sh → (stage_at p k).merges ≡ merges
+pub group_merge : (p : Flat.Pipe) (c : List Flat.Branch) (exit : Flat.Next) (k : ℕ) (merges : Option ℕ) (sh : Shape)
+    → Groups p c exit k merges sh → (stage_at p k).merges ≡ merges
 group_merge p c exit k merges Last g = ap (λ (x : Flat.Stage). x.merges) g
 group_merge p c exit k merges (Cut rest) g = ap (λ (x : Flat.Stage). x.merges) g.0
 group_merge p c exit k merges (Fork x a b rest) g = ap (λ (x : Flat.Stage). x.merges) g.0
@@ -116,8 +122,10 @@ more_within p c d x r e h = (h.0 ++ x ∷ [], h.1 ∙ ap (λ l. h.0 ++ l) e ∙ 
 -- all stages of a shape stand within its branches
 mutual
   -- those of a shape
-  pub group_within : (p : Flat.Pipe) (c : List Flat.Branch) (exit : Flat.Next) (k : ℕ) (merges : Option ℕ) (sh : Shape) → Groups p c exit k merges sh → (r : ℕ) → k ≤ r → r < k + size sh → Within p c r
-  group_within p c exit k merges Last g r low high = subst (Within p c) (let e : k ≡ r = omega arith in e) (within_home p c k (group_home p c exit k merges Last g))
+  pub group_within : (p : Flat.Pipe) (c : List Flat.Branch) (exit : Flat.Next) (k : ℕ) (merges : Option ℕ) (sh : Shape)
+      → Groups p c exit k merges sh → (r : ℕ) → k ≤ r → r < k + size sh → Within p c r
+  group_within p c exit k merges Last g r low high =
+      subst (Within p c) (let e : k ≡ r = omega arith in e) (within_home p c k (group_home p c exit k merges Last g))
   group_within p c exit k merges (Cut rest) g r low high = at (cases_lt k r) (λ l. group_within p c exit (suc k) None rest g.1 r l (omega arith))
     where
       at : (k < r) ⊎ (r ≤ k) → (suc k ≤ r → Within p c r) → Within p c r
@@ -126,18 +134,22 @@ mutual
   group_within p c exit k merges (Fork x a b rest) g r low high =
       at (cases_lt k r) (cases_lt (k + long a) r) (cases_lt r (merge_at k (long a) (long b)))
       (λ l m. more_within p c (side k true ∷ c) (side k true) r refl (side_within p (side k true ∷ c) (Flat.Goes (merge_at k (long a) (long b))) k a g.2 r l m))
-      (λ l m. more_within p c (side k false ∷ c) (side k false) r refl (side_within p (side k false ∷ c) (Flat.Goes (merge_at k (long a) (long b))) (k + long a) b g.3 r l m))
+      (λ l m. more_within p c (side k false ∷ c) (side k false) r refl
+      (side_within p (side k false ∷ c) (Flat.Goes (merge_at k (long a) (long b))) (k + long a) b g.3 r l m))
       (λ l. group_within p c exit (merge_at k (long a) (long b)) (Some k) rest g.4 r l (omega arith))
     where
       at : (k < r) ⊎ (r ≤ k) → (k + long a < r) ⊎ (r ≤ k + long a) → (r < merge_at k (long a) (long b)) ⊎ (merge_at k (long a) (long b) ≤ r)
-          → (k < r → r ≤ k + long a → Within p c r) → (k + long a < r → r ≤ k + long a + long b → Within p c r) → (merge_at k (long a) (long b) ≤ r → Within p c r) → Within p c r
-      at (inr l) m n one two three = subst (Within p c) (let e : k ≡ r = omega arith in e) (within_home p c k (group_home p c exit k merges (Fork x a b rest) g))
+          → (k < r → r ≤ k + long a → Within p c r) → (k + long a < r → r ≤ k + long a + long b → Within p c r)
+          → (merge_at k (long a) (long b) ≤ r → Within p c r) → Within p c r
+      at (inr l) m n one two three =
+          subst (Within p c) (let e : k ≡ r = omega arith in e) (within_home p c k (group_home p c exit k merges (Fork x a b rest) g))
       at (inl l) (inr m) n one two three = one l m
       at (inl l) (inl m) (inl n) one two three = two m (omega arith)
       at (inl l) (inl m) (inr n) one two three = three n
 
   -- and those of a branch
-  pub side_within : (p : Flat.Pipe) (c : List Flat.Branch) (exit : Flat.Next) (k : ℕ) (sd : Side) → Sides p c exit k sd → (r : ℕ) → k < r → r ≤ k + long sd → Within p c r
+  pub side_within : (p : Flat.Pipe) (c : List Flat.Branch) (exit : Flat.Next) (k : ℕ) (sd : Side)
+      → Sides p c exit k sd → (r : ℕ) → k < r → r ≤ k + long sd → Within p c r
   side_within p c exit k Straight g r low high = absurd (omega arith)
   side_within p c exit k (Runs sh) g r low high = group_within p c exit (suc k) None sh g r (omega arith) (omega arith)
 
@@ -162,9 +174,13 @@ pub record Forked (p : Flat.Pipe) (c : List Flat.Branch) (f x a b : ℕ) : Type 
 -- the last stage; one that leads to the next; a fork; or the last one of a branch
 pub data Spot (p : Flat.Pipe) (s : ℕ) : Type 0 where
   Final : (stage_at p s).next ≡ Flat.Ends → Trunk p s → suc s ≡ length p.stages → Spot p s
-  Line : (c : List Flat.Branch) → (stage_at p s).next ≡ Flat.Goes (suc s) → Home p c s → Home p c (suc s) → (stage_at p (suc s)).merges ≡ None → suc s < length p.stages → Spot p s
+  Line : (c : List Flat.Branch)
+      → (stage_at p s).next ≡ Flat.Goes (suc s) → Home p c s → Home p c (suc s) → (stage_at p (suc s)).merges ≡ None
+      → suc s < length p.stages → Spot p s
   AtFork : (c : List Flat.Branch) (x a b : ℕ) → Forked p c s x a b → Spot p s
-  Leaves : (c : List Flat.Branch) (f x a b : ℕ) (first : Bool) → Forked p c f x a b → Home p (side f first ∷ c) s → s ≡ start f a first + many a b first → (stage_at p s).next ≡ Flat.Goes (merge_at f a b) → Spot p s
+  Leaves : (c : List Flat.Branch) (f x a b : ℕ) (first : Bool)
+      → Forked p c f x a b → Home p (side f first ∷ c) s → s ≡ start f a first + many a b first
+      → (stage_at p s).next ≡ Flat.Goes (merge_at f a b) → Spot p s
 
 -- the fork of a branch around a stage
 pub record Around (p : Flat.Pipe) (y : Flat.Branch) (c : List Flat.Branch) (s : ℕ) : Type 0 where
@@ -202,10 +218,14 @@ entry_side exit k m (Runs sh) e = at (size sh) (some_size sh)
     at (suc n) l = refl
 
 -- what is known of a fork in a shape
-pub group_fork : (p : Flat.Pipe) (c : List Flat.Branch) (exit : Flat.Next) (k : ℕ) (merges : Option ℕ) (x : ℕ) (a b : Side) (rest : Shape) → Groups p c exit k merges (Fork x a b rest) → k + size (Fork x a b rest) ≤ length p.stages → Forked p c k x (long a) (long b)
+pub group_fork : (p : Flat.Pipe) (c : List Flat.Branch) (exit : Flat.Next) (k : ℕ) (merges : Option ℕ) (x : ℕ) (a b : Side) (rest : Shape)
+    → Groups p c exit k merges (Fork x a b rest) → k + size (Fork x a b rest) ≤ length p.stages → Forked p c k x (long a) (long b)
 group_fork p c exit k merges x a b rest g inside = record {
   home = ap (λ (y : Flat.Stage). y.branches) g.0;
-  next = ap (λ (y : Flat.Stage). y.next) g.0 ∙ ap₂ (λ i j. Flat.Forks x i j) (entry_side (merge_at k (long a) (long b)) k (merge_at k (long a) (long b)) a refl) (entry_side (merge_at k (long a) (long b)) (k + long a) (merge_at k (long a) (long b)) b refl);
+  next =
+      ap (λ (y : Flat.Stage). y.next) g.0
+      ∙ ap₂ (λ i j. Flat.Forks x i j) (entry_side (merge_at k (long a) (long b)) k (merge_at k (long a) (long b)) a refl)
+      (entry_side (merge_at k (long a) (long b)) (k + long a) (merge_at k (long a) (long b)) b refl);
   some = g.1;
   within = ins;
   begins = firsts;
@@ -222,14 +242,17 @@ group_fork p c exit k merges x a b rest g inside = record {
     one d m j Straight h l = absurd (omega arith)
     one d m j (Runs sh) h l = (group_home p d m (suc j) None sh h, group_merge p d m (suc j) None sh h)
 
-    firsts : (first : Bool) → 0 < many (long a) (long b) first → Home p (side k first ∷ c) (suc (start k (long a) first)) × ((stage_at p (suc (start k (long a) first))).merges ≡ None)
+    firsts : (first : Bool)
+        → 0 < many (long a) (long b) first
+        → Home p (side k first ∷ c) (suc (start k (long a) first)) × ((stage_at p (suc (start k (long a) first))).merges ≡ None)
     firsts true l = one (side k true ∷ c) (Flat.Goes (merge_at k (long a) (long b))) k a g.2 l
     firsts false l = one (side k false ∷ c) (Flat.Goes (merge_at k (long a) (long b))) (k + long a) b g.3 l
 
 -- each stage of a shape, where the last one is known, and the forks around the shape
 mutual
   -- of a shape
-  pub known : (p : Flat.Pipe) (c : List Flat.Branch) (exit : Flat.Next) (k : ℕ) (merges : Option ℕ) (sh : Shape) → Groups p c exit k merges sh → k + size sh ≤ length p.stages
+  pub known : (p : Flat.Pipe) (c : List Flat.Branch) (exit : Flat.Next) (k : ℕ) (merges : Option ℕ) (sh : Shape)
+      → Groups p c exit k merges sh → k + size sh ≤ length p.stages
       → ((n : ℕ) → suc n ≡ k + size sh → (stage_at p n).next ≡ exit → Home p c n → Spot p n) → ((n : ℕ) → k ≤ n → n < k + size sh → AllAround p c n)
       → ((f : ℕ) → merges ≡ Some f → Merges p f k) → (s : ℕ) → k ≤ s → s < k + size sh → Known p s
   known p c exit k merges Last g inside last around merge s low high =
@@ -240,14 +263,18 @@ mutual
         merges = λ f e. merge f (sym (group_merge p c exit k merges Last g) ∙ e);
       })
   known p c exit k merges (Cut rest) g inside last around merge s low high =
-      at (cases_lt k s) (λ l. known p c exit (suc k) None rest g.1 (omega arith) (λ n e. last n (omega arith)) (λ n i j. around n (omega arith) (omega arith)) (λ f e. absurd (none_some e)) s l (omega arith))
+      at (cases_lt k s)
+      (λ l. known p c exit (suc k) None rest g.1 (omega arith) (λ n e. last n (omega arith)) (λ n i j. around n (omega arith) (omega arith))
+      (λ f e. absurd (none_some e)) s l (omega arith))
     where
       at : (k < s) ⊎ (s ≤ k) → (suc k ≤ s → Known p s) → Known p s
       at (inl l) more = more (omega arith)
       at (inr l) more =
           subst (Known p) (let e : k ≡ s = omega arith in e)
           (record {
-            spot = Line c (ap (λ (x : Flat.Stage). x.next) g.0) (ap (λ (x : Flat.Stage). x.branches) g.0) (group_home p c exit (suc k) None rest g.1) (group_merge p c exit (suc k) None rest g.1) (let n = some_size rest in omega arith);
+            spot =
+                Line c (ap (λ (x : Flat.Stage). x.next) g.0) (ap (λ (x : Flat.Stage). x.branches) g.0) (group_home p c exit (suc k) None rest g.1)
+                (group_merge p c exit (suc k) None rest g.1) (let n = some_size rest in omega arith);
             around = subst (λ l. AllAround p l k) (sym (ap (λ (x : Flat.Stage). x.branches) g.0)) (around k (le_refl k) (omega arith));
             merges = λ f e. merge f (sym (group_merge p c exit k merges (Cut rest) g) ∙ e);
           })
@@ -255,7 +282,8 @@ mutual
       at (cases_lt k s) (cases_lt (k + long a) s) (cases_lt s (merge_at k (long a) (long b)))
       (λ l m. known_side p c k x (long a) (long b) true fork a k refl g.2 (omega arith) (λ n i j. around n (omega arith) (omega arith)) s l m refl)
       (λ l m. known_side p c k x (long a) (long b) false fork b (k + long a) refl g.3 (omega arith) (λ n i j. around n (omega arith) (omega arith)) s l m refl)
-      (λ l. known p c exit (merge_at k (long a) (long b)) (Some k) rest g.4 (omega arith) (λ n e. last n (omega arith)) (λ n i j. around n (omega arith) (omega arith))
+      (λ l. known p c exit (merge_at k (long a) (long b)) (Some k) rest g.4 (omega arith) (λ n e. last n (omega arith))
+      (λ n i j. around n (omega arith) (omega arith))
       (λ f e. subst (λ n. Merges p n (merge_at k (long a) (long b))) (some_is k f e) (c, x, long a, long b, fork, refl)) s l (omega arith))
     where
       some_is : (m n : ℕ) → Some m ≡ Some n → m ≡ n
@@ -265,19 +293,28 @@ mutual
       fork = group_fork p c exit k merges x a b rest g inside
 
       at : (k < s) ⊎ (s ≤ k) → (k + long a < s) ⊎ (s ≤ k + long a) → (s < merge_at k (long a) (long b)) ⊎ (merge_at k (long a) (long b) ≤ s)
-          → (k < s → s ≤ k + long a → Known p s) → (k + long a < s → s ≤ k + long a + long b → Known p s) → (merge_at k (long a) (long b) ≤ s → Known p s) → Known p s
+          → (k < s → s ≤ k + long a → Known p s) → (k + long a < s → s ≤ k + long a + long b → Known p s)
+          → (merge_at k (long a) (long b) ≤ s → Known p s) → Known p s
       at (inr l) m n one two three =
           subst (Known p) (let e : k ≡ s = omega arith in e)
-          (record { spot = AtFork c x (long a) (long b) fork; around = subst (λ l. AllAround p l k) (sym fork.home) (around k (le_refl k) (omega arith)); merges = λ f e. merge f (sym (group_merge p c exit k merges (Fork x a b rest) g) ∙ e) })
+          (record {
+            spot = AtFork c x (long a) (long b) fork;
+            around = subst (λ l. AllAround p l k) (sym fork.home)
+                (around k (le_refl k) (omega arith));
+            merges = λ f e. merge f (sym (group_merge p c exit k merges (Fork x a b rest) g) ∙ e);
+          })
       at (inl l) (inr m) n one two three = one l m
       at (inl l) (inl m) (inl n) one two three = two m (omega arith)
       at (inl l) (inl m) (inr n) one two three = three n
 
-  known_side : (p : Flat.Pipe) (c : List Flat.Branch) (f x a b : ℕ) (first : Bool) → Forked p c f x a b → (sd : Side) (k : ℕ) → k ≡ start f a first → Sides p (side f first ∷ c) (Flat.Goes (merge_at f a b)) k sd → suc (k + long sd) ≤ length p.stages
+  known_side : (p : Flat.Pipe) (c : List Flat.Branch) (f x a b : ℕ) (first : Bool)
+      → Forked p c f x a b → (sd : Side) (k : ℕ) → k ≡ start f a first → Sides p (side f first ∷ c) (Flat.Goes (merge_at f a b)) k sd
+      → suc (k + long sd) ≤ length p.stages
       → ((n : ℕ) → k < n → n ≤ k + long sd → AllAround p c n) → (s : ℕ) → k < s → s ≤ k + long sd → long sd ≡ many a b first → Known p s
   known_side p c f x a b first fork Straight k at_start g inside around s low high is = absurd (omega arith)
   known_side p c f x a b first fork (Runs sh) k at_start g inside around s low high is =
       known p (side f first ∷ c) (Flat.Goes (merge_at f a b)) (suc k) None sh g (omega arith)
       (λ n e i h. Leaves c f x a b first fork h (omega arith) i)
-      (λ n i j. (record { x = x; a = a; b = b; fork = fork; low = omega arith; high = omega arith }, around n (omega arith) (omega arith))) (λ h e. absurd (none_some e))
+      (λ n i j. (record { x = x; a = a; b = b; fork = fork; low = omega arith; high = omega arith }, around n (omega arith) (omega arith)))
+      (λ h e. absurd (none_some e))
       s (omega arith) (omega arith)

@@ -81,8 +81,7 @@ forked_staged ms front w gs bs (Cons (If sp c when otherwise) (Cons (Separator s
     (λ i. forked_staged ms (front ++ Statement (If sp c when otherwise) bs ∷ statements (bs ++ branch sp c true when ∷ []) when)
     (at_otherwise ms c when w) (under gs w.vars c false)
     (bs ++ branch sp c false otherwise ∷ []) otherwise (late_forked otherwise i) (begun_second ms front w bs sp c when otherwise b)
-    (reads_second front bs sp c when otherwise w.stage r)))
-    (
+    (reads_second front bs sp c when otherwise w.stage r))) (
       past_if front bs sp c when otherwise ∙ reads_here front bs w.stage r,
       forked_staged ms ((front ++ with_inner bs (If sp c when otherwise)) ++ Statement (Separator sq) bs ∷ [])
           (past ms (Separator sq) (past ms (If sp c when otherwise) w)) gs bs ss parts.1
@@ -110,7 +109,8 @@ forked_staged ms front w gs bs (Cons (If sp c when otherwise) (Cons (Separator s
         let late = and_parts (is_late when) (is_late otherwise) f in (
           reads_here front bs w.stage r,
           all_append Staged
-              (sites ms (front ++ Statement (If sp c when otherwise) bs ∷ []) (with_guard c w) (under gs w.vars c true) (bs ++ branch sp c true when ∷ []) when) _
+              (sites ms (front ++ Statement (If sp c when otherwise) bs ∷ []) (with_guard c w) (under gs w.vars c true)
+              (bs ++ branch sp c true when ∷ []) when) _
               (one late.0) (two late.1),
         )
 forked_staged ms front w gs bs (Cons (If sp c when otherwise) ss) h b r =

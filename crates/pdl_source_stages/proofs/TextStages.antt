@@ -145,7 +145,8 @@ pub reads_second : (front : List Place) (bs : List Branch) (sp : Span) (c : Expr
 reads_second front bs sp c when otherwise n h cs =
     ap (stage_in (front ++ Statement (If sp c when otherwise) bs ∷ statements (bs ++ branch sp c true when ∷ []) when))
     (append_assoc bs (branch sp c false otherwise ∷ []) cs)
-    ∙ from_append 0 0 (bs ++ branch sp c false otherwise ∷ cs) front (Statement (If sp c when otherwise) bs ∷ statements (bs ++ branch sp c true when ∷ []) when)
+    ∙ from_append 0 0 (bs ++ branch sp c false otherwise ∷ cs) front
+    (Statement (If sp c when otherwise) bs ∷ statements (bs ++ branch sp c true when ∷ []) when)
     ∙ subst
     (λ l. stage_from (0 + cut front) (stage_in front (bs ++ branch sp c false otherwise ∷ cs)) (bs ++ branch sp c false otherwise ∷ cs) (statements l when)
     ≡ stage_in front (bs ++ branch sp c false otherwise ∷ cs))

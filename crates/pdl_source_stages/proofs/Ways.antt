@@ -26,13 +26,17 @@ pub data Step (p : Flat.Pipe) (s : ℕ) (env : List ℕ) : Type 0 where
 fork_step : (p : Flat.Pipe) (s : ℕ) (env : List ℕ) (c : List Flat.Branch) (x a b : ℕ) → Forked p c s x a b → Step p s env
 fork_step p s env c x a b k = at (slice_index env x == 1) refl
   where
-    by : (first : Bool) → (slice_index env x == 1) ≡ first → (n : ℕ) → many a b first ≡ n → goes_to (stage_at p s).next env ≡ Some (enters (start s a first) (merge_at s a b) n) → Step p s env
+    by : (first : Bool)
+        → (slice_index env x == 1) ≡ first → (n : ℕ) → many a b first ≡ n
+        → goes_to (stage_at p s).next env ≡ Some (enters (start s a first) (merge_at s a b) n) → Step p s env
     by first v zero e g = Skips c x a b first k e v g
     by first v (suc n) e g = Enters c x a b first k (let z = e in omega arith) v g
 
     at : (v : Bool) → (slice_index env x == 1) ≡ v → Step p s env
-    at true e = by true e a refl (ap (λ n. goes_to n env) k.next ∙ ap (λ v. Some (if v then enters s (merge_at s a b) a else enters (s + a) (merge_at s a b) b)) e)
-    at false e = by false e b refl (ap (λ n. goes_to n env) k.next ∙ ap (λ v. Some (if v then enters s (merge_at s a b) a else enters (s + a) (merge_at s a b) b)) e)
+    at true e =
+        by true e a refl (ap (λ n. goes_to n env) k.next ∙ ap (λ v. Some (if v then enters s (merge_at s a b) a else enters (s + a) (merge_at s a b) b)) e)
+    at false e =
+        by false e b refl (ap (λ n. goes_to n env) k.next ∙ ap (λ v. Some (if v then enters s (merge_at s a b) a else enters (s + a) (merge_at s a b) b)) e)
 
 -- a step from a stage is of one of these forms
 pub step : (p : Flat.Pipe) (s : ℕ) (env : List ℕ) → Spot p s → Step p s env
@@ -44,7 +48,10 @@ step p s env (Leaves c f x a b first k h e n) = Out c f x a b first k h e (ap (�
 -- LISTS OF BRANCHES
 
 no_cycle : {R : Type 0} → (x : Flat.Branch) (c inner : List Flat.Branch) → c ≡ inner ++ x ∷ c → R
-no_cycle x c inner e = absurd (let i : length c ≡ length (inner ++ x ∷ c) = ap length e in let j = length-append inner (x ∷ c) in let k : length (x ∷ c) ≡ suc (length c) = refl in omega arith)
+no_cycle x c inner e =
+    absurd
+    (let i : length c ≡ length (inner ++ x ∷ c) = ap length e in let j = length-append inner (x ∷ c) in let k : length (x ∷ c)
+    ≡ suc (length c) = refl in omega arith)
 
 same_ends : (x y : Flat.Branch) (c inner inner' : List Flat.Branch) → inner ++ x ∷ c ≡ inner' ++ y ∷ c → x ≡ y
 same_ends x y c [] [] e = same_head x y c c e
@@ -66,7 +73,9 @@ start_high f a b true = omega arith
 start_high f a b false = omega arith
 
 -- every stage between a fork and its merge stands in one of the two branches
-pub between_in : (p : Flat.Pipe) (c : List Flat.Branch) (f x a b r : ℕ) → Forked p c f x a b → f < r → r < merge_at f a b → (first : Bool) × (start f a first < r) × (r ≤ start f a first + many a b first) × Within p (side f first ∷ c) r
+pub between_in : (p : Flat.Pipe) (c : List Flat.Branch) (f x a b r : ℕ)
+    → Forked p c f x a b → f < r → r < merge_at f a b
+    → (first : Bool) × (start f a first < r) × (r ≤ start f a first + many a b first) × Within p (side f first ∷ c) r
 between_in p c f x a b r k low high = at (cases_lt (f + a) r)
   where
     at : (f + a < r) ⊎ (r ≤ f + a) → (first : Bool) × (start f a first < r) × (r ≤ start f a first + many a b first) × Within p (side f first ∷ c) r
@@ -86,7 +95,9 @@ fork_same p c d f x a b y a' b' k l =
     no_less p c d f x a b y a' b' k l = at (cases_lt (a' + b') (a + b))
       where
         at : (a' + b' < a + b) ⊎ (a + b ≤ a' + b') → a + b ≤ a' + b'
-        at (inl m) = let h = between_in p c f x a b (merge_at f a' b') k (omega arith) (omega arith) in not_home p (side f h.0) c (merge_at f a' b') (l.merge_home ∙ sym l.home ∙ k.home) h.3
+        at (inl m) =
+            let h = between_in p c f x a b (merge_at f a' b') k (omega arith) (omega arith) in
+            not_home p (side f h.0) c (merge_at f a' b') (l.merge_home ∙ sym l.home ∙ k.home) h.3
         at (inr m) = m
 
     clash : true ≡ false → ⊥
@@ -99,23 +110,30 @@ fork_same p c d f x a b y a' b' k l =
         at (inl m) =
             let i = k.within true (suc (f + a')) (omega arith) (omega arith) in
             let j = l.within false (suc (f + a')) (omega arith) (omega arith) in
-            absurd (clash (ap (λ (z : Flat.Branch). z.first) (same_ends (side f true) (side f false) c i.0 j.0 (sym i.1 ∙ j.1 ∙ ap (λ e. j.0 ++ side f false ∷ e) (sym l.home ∙ k.home)))))
+            absurd
+            (clash (ap (λ (z : Flat.Branch). z.first)
+            (same_ends (side f true) (side f false) c i.0 j.0 (sym i.1 ∙ j.1 ∙ ap (λ e. j.0 ++ side f false ∷ e) (sym l.home ∙ k.home)))))
         at (inr m) = m
 
 -- a test of the first stages
-some_taken : (test : Flat.Stage → Bool) (d : Flat.Stage) (n i : ℕ) (xs : List Flat.Stage) → i < n → i < length xs → test (slice_index_or xs i d) ≡ true → list_any test (take n xs) ≡ true
+some_taken : (test : Flat.Stage → Bool) (d : Flat.Stage) (n i : ℕ) (xs : List Flat.Stage)
+    → i < n → i < length xs → test (slice_index_or xs i d) ≡ true → list_any test (take n xs) ≡ true
 some_taken test d n i [] l m h = absurd (omega arith)
 some_taken test d zero i (x ∷ xs) l m h = absurd (omega arith)
 some_taken test d (suc n) zero (x ∷ xs) l m h = or_left (test x) _ h
 some_taken test d (suc n) (suc i) (x ∷ xs) l m h = or_right (test x) _ (some_taken test d n i xs (omega arith) (omega arith) h)
 
-taken_some : (test : Flat.Stage → Bool) (d : Flat.Stage) (n : ℕ) (xs : List Flat.Stage) → list_any test (take n xs) ≡ true → (i : ℕ) × (i < n) × (test (slice_index_or xs i d) ≡ true)
+taken_some : (test : Flat.Stage → Bool) (d : Flat.Stage) (n : ℕ) (xs : List Flat.Stage)
+    → list_any test (take n xs) ≡ true → (i : ℕ) × (i < n) × (test (slice_index_or xs i d) ≡ true)
 taken_some test d zero [] h = absurd (false≢true h)
 taken_some test d (suc n) [] h = absurd (false≢true h)
 taken_some test d zero (x ∷ xs) h = absurd (false≢true h)
 taken_some test d (suc n) (x ∷ xs) h = at (test x) refl h (taken_some test d n xs)
   where
-    at : (b : Bool) → test x ≡ b → (b || list_any test (take n xs)) ≡ true → (list_any test (take n xs) ≡ true → (i : ℕ) × (i < n) × (test (slice_index_or xs i d) ≡ true)) → (i : ℕ) × (i < suc n) × (test (slice_index_or (x ∷ xs) i d) ≡ true)
+    at : (b : Bool)
+        → test x ≡ b → (b || list_any test (take n xs)) ≡ true
+        → (list_any test (take n xs) ≡ true → (i : ℕ) × (i < n) × (test (slice_index_or xs i d) ≡ true))
+        → (i : ℕ) × (i < suc n) × (test (slice_index_or (x ∷ xs) i d) ≡ true)
     at true e k more = (0, omega arith, e)
     at false e k more = let r = more k in (suc r.0, (let l = r.1 in omega arith), r.2)
 
@@ -143,7 +161,9 @@ module _ (p : Flat.Pipe) (knows : (s : ℕ) → s < length p.stages → Known p 
       → ((Trunk p s) × (suc s ≡ length p.stages) × (goes_to (stage_at p s).next env ≡ None)) ⊎ ((n : ℕ) × (goes_to (stage_at p s).next env ≡ Some n) × (s < n) × (n < length p.stages))
   on_or_end s env low = at (go s env low)
     where
-      at : Step p s env → ((Trunk p s) × (suc s ≡ length p.stages) × (goes_to (stage_at p s).next env ≡ None)) ⊎ ((n : ℕ) × (goes_to (stage_at p s).next env ≡ Some n) × (s < n) × (n < length p.stages))
+      at : Step p s env
+          → ((Trunk p s) × (suc s ≡ length p.stages) × (goes_to (stage_at p s).next env ≡ None))
+          ⊎ ((n : ℕ) × (goes_to (stage_at p s).next env ≡ Some n) × (s < n) × (n < length p.stages))
       at (Ends t e g) = inl (t, e, g)
       at (Steps c t u m l g) = inr (suc s, g, (omega arith), l)
       at (Enters c x a b first k l v g) =
@@ -157,25 +177,33 @@ module _ (p : Flat.Pipe) (knows : (s : ℕ) → s < length p.stages → Known p 
   up : (s : ℕ) (env : List ℕ) → s < length p.stages → s < next_of p s env
   up s env low = at (on_or_end s env low)
     where
-      at : ((Trunk p s) × (suc s ≡ length p.stages) × (goes_to (stage_at p s).next env ≡ None)) ⊎ ((n : ℕ) × (goes_to (stage_at p s).next env ≡ Some n) × (s < n) × (n < length p.stages)) → s < next_of p s env
+      at : ((Trunk p s) × (suc s ≡ length p.stages) × (goes_to (stage_at p s).next env ≡ None))
+          ⊎ ((n : ℕ) × (goes_to (stage_at p s).next env ≡ Some n) × (s < n) × (n < length p.stages))
+          → s < next_of p s env
       at (inl h) = let z = to_end s env h.2 in omega arith
       at (inr h) = let z = to s env h.0 h.1 in let i = h.2 in omega arith
 
   inside : (s : ℕ) (env : List ℕ) → s < length p.stages → next_of p s env ≤ length p.stages
   inside s env low = at (on_or_end s env low)
     where
-      at : ((Trunk p s) × (suc s ≡ length p.stages) × (goes_to (stage_at p s).next env ≡ None)) ⊎ ((n : ℕ) × (goes_to (stage_at p s).next env ≡ Some n) × (s < n) × (n < length p.stages)) → next_of p s env ≤ length p.stages
+      at : ((Trunk p s) × (suc s ≡ length p.stages) × (goes_to (stage_at p s).next env ≡ None))
+          ⊎ ((n : ℕ) × (goes_to (stage_at p s).next env ≡ Some n) × (s < n) × (n < length p.stages))
+          → next_of p s env ≤ length p.stages
       at (inl h) = let z = to_end s env h.2 in omega arith
       at (inr h) = let z = to s env h.0 h.1 in let i = h.3 in omega arith
 
   last : (s : ℕ) (env : List ℕ) → s < length p.stages → next_of p s env ≡ length p.stages → Trunk p s × (suc s ≡ length p.stages)
   last s env low e = at (on_or_end s env low)
     where
-      at : ((Trunk p s) × (suc s ≡ length p.stages) × (goes_to (stage_at p s).next env ≡ None)) ⊎ ((n : ℕ) × (goes_to (stage_at p s).next env ≡ Some n) × (s < n) × (n < length p.stages)) → Trunk p s × (suc s ≡ length p.stages)
+      at : ((Trunk p s) × (suc s ≡ length p.stages) × (goes_to (stage_at p s).next env ≡ None))
+          ⊎ ((n : ℕ) × (goes_to (stage_at p s).next env ≡ Some n) × (s < n) × (n < length p.stages))
+          → Trunk p s × (suc s ≡ length p.stages)
       at (inl h) = (h.0, h.1)
       at (inr h) = absurd (let z = to s env h.0 h.1 in let i = h.3 in omega arith)
 
-  leaves : (s : ℕ) (env : List ℕ) → s < length p.stages → goes_to (stage_at p s).next env ≡ (if nat_lt (next_of p s env) (length p.stages) then Some (next_of p s env) else None)
+  leaves : (s : ℕ) (env : List ℕ)
+      → s < length p.stages
+      → goes_to (stage_at p s).next env ≡ (if nat_lt (next_of p s env) (length p.stages) then Some (next_of p s env) else None)
   leaves s env low = at (on_or_end s env low)
     where
       at : ((Trunk p s) × (suc s ≡ length p.stages) × (goes_to (stage_at p s).next env ≡ None)) ⊎ ((n : ℕ) × (goes_to (stage_at p s).next env ≡ Some n) × (s < n) × (n < length p.stages))
@@ -186,17 +214,23 @@ module _ (p : Flat.Pipe) (knows : (s : ℕ) → s < length p.stages → Known p 
           by true e = absurd (let l = ltb-true _ _ e in let z = to_end s env h.2 in omega arith)
           by false e = refl
       at (inr h) =
-          h.1 ∙ ap (λ c. if c then Some h.0 else None) (sym (lt-ltb h.0 (length p.stages) h.3)) ∙ ap (λ i. if nat_lt i (length p.stages) then Some i else None) (sym (to s env h.0 h.1))
+          h.1 ∙ ap (λ c. if c then Some h.0 else None) (sym (lt-ltb h.0 (length p.stages) h.3))
+          ∙ ap (λ i. if nat_lt i (length p.stages) then Some i else None) (sym (to s env h.0 h.1))
 
   -- no stage of the branches around a fork stands between it and its merge
   pub no_home : {R : Type 0} → (c : List Flat.Branch) (f x a b r : ℕ) → Forked p c f x a b → f < r → r < merge_at f a b → Home p c r → R
   no_home c f x a b r k low high h = let i = between_in p c f x a b r k low high in not_home p (side f i.0) c r h i.3
 
-  jump : (d : List Flat.Branch) (s : ℕ) (env : List ℕ) (r : ℕ) → s < length p.stages → Within p d s → Home p d r → s < r → r ≤ next_of p s env → r ≡ next_of p s env
+  jump : (d : List Flat.Branch) (s : ℕ) (env : List ℕ) (r : ℕ)
+      → s < length p.stages → Within p d s → Home p d r → s < r → r ≤ next_of p s env → r ≡ next_of p s env
   jump d s env r low w t i j = at (go s env low)
     where
       -- a stage of branches around this one is not passed over at a fork
-      over : (c : List Flat.Branch) (f x a b : ℕ) → Forked p c f x a b → (mine : List Flat.Branch) → Home p (mine ++ c) s → f < r → ((first : Bool) → start f a first < r → r ≤ start f a first + many a b first → (inner : List Flat.Branch) → mine ++ c ≡ inner ++ side f first ∷ c → ⊥) → r < merge_at f a b → ⊥
+      over : (c : List Flat.Branch) (f x a b : ℕ)
+          → Forked p c f x a b → (mine : List Flat.Branch) → Home p (mine ++ c) s → f < r
+          →
+          ((first : Bool) → start f a first < r → r ≤ start f a first + many a b first → (inner : List Flat.Branch) → mine ++ c ≡ inner ++ side f first ∷ c → ⊥)
+          → r < merge_at f a b → ⊥
       over c f x a b k mine h l none high =
           let q = between_in p c f x a b r k l high in
           none q.0 q.1 q.2 (w.0 ++ q.3.0) (sym h ∙ w.1 ∙ ap (λ z. w.0 ++ z) (sym t ∙ q.3.1) ∙ sym (append_assoc w.0 q.3.0 (side f q.0 ∷ c)))
@@ -228,11 +262,15 @@ module _ (p : Flat.Pipe) (knows : (s : ℕ) → s < length p.stages → Known p 
           let n : r ≤ start f a first + many a b first = subst (λ o. r ≤ start f a o + many a b o) (sym y) m in
           omega arith) q)
 
-  between : (d : List Flat.Branch) (s : ℕ) (env : List ℕ) (b : ℕ) → s < length p.stages → Within p d s → Home p d (next_of p s env) → next_of p s env < length p.stages → Below p d b s → Within p d b → b < next_of p s env
+  between : (d : List Flat.Branch) (s : ℕ) (env : List ℕ) (b : ℕ)
+      → s < length p.stages → Within p d s → Home p d (next_of p s env) → next_of p s env < length p.stages → Below p d b s → Within p d b
+      → b < next_of p s env
       → (f : ℕ) × ((stage_at p (next_of p s env)).merges ≡ Some f) × (is_inside p f b ≡ true)
   between d s env b low w t high bel wb j = at (go s env low)
     where
-      merged : (c : List Flat.Branch) (f x a e : ℕ) → Forked p c f x a e → next_of p s env ≡ merge_at f a e → f < b → (f : ℕ) × ((stage_at p (next_of p s env)).merges ≡ Some f) × (is_inside p f b ≡ true)
+      merged : (c : List Flat.Branch) (f x a e : ℕ)
+          → Forked p c f x a e → next_of p s env ≡ merge_at f a e → f < b
+          → (f : ℕ) × ((stage_at p (next_of p s env)).merges ≡ Some f) × (is_inside p f b ≡ true)
       merged c f x a e k n l =
           let i = between_in p c f x a e b k l (omega arith) in
           (f, ap (λ q. (stage_at p q).merges) n ∙ k.merge, inside_of p f b (side f i.0) c i.3 refl)
@@ -248,7 +286,8 @@ module _ (p : Flat.Pipe) (knows : (s : ℕ) → s < length p.stages → Known p 
           let h : side s first ∷ c ≡ d = home_at _ g (side s first ∷ c) (k.begins first l).0 in
           no_cycle (side s first) c w.0 (sym k.home ∙ w.1 ∙ ap (λ z. w.0 ++ z) (sym h))
       at (Skips c x a e first k z v g) = merged c s x a e k (to s env _ g) (bel s (k.home ∙ home_at _ g c k.merge_home) (let n : s ≤ s = omega arith in n))
-      at (Out c f x a e first k h i g) = merged c f x a e k (to s env _ g) (bel f (k.home ∙ home_at _ g c k.merge_home) (let y = start_low f a first in omega arith))
+      at (Out c f x a e first k h i g) =
+          merged c f x a e k (to s env _ g) (bel f (k.home ∙ home_at _ g c k.merge_home) (let y = start_low f a first in omega arith))
 
   -- the stage graph has the facts that the theorems take
   pub graph_of : 0 < length p.stages → Trunk p 0 → ((m : ℕ) → Trunk p (reserve_stage p m)) → ((m : ℕ) → Trunk p (commit_stage p m)) → Graph p
@@ -290,7 +329,10 @@ module _ (p : Flat.Pipe) (knows : (s : ℕ) → s < length p.stages → Known p 
       there n g c h = ap (λ q. (stage_at p q).branches) (to s env n g) ∙ h
 
       at : Step p s env → Way p s (next_of p s env)
-      at (Ends t e g) = inl (ap (λ q. (stage_at p q).branches) (to_end s env g) ∙ trunk_past (length p.stages) (let n : length p.stages ≤ length p.stages = omega arith in n) ∙ sym t)
+      at (Ends t e g) =
+          inl
+          (ap (λ q. (stage_at p q).branches) (to_end s env g) ∙ trunk_past (length p.stages) (let n : length p.stages ≤ length p.stages = omega arith in n)
+          ∙ sym t)
       at (Steps c t u m l g) = inl (there (suc s) g c u ∙ sym t)
       at (Enters c x a b first k l v g) = inr (inl (side s first, there _ g _ (k.begins first l).0 ∙ ap (λ z. side s first ∷ z) (sym k.home), refl))
       at (Skips c x a b first k e v g) = inl (there _ g c k.merge_home ∙ sym k.home)
@@ -309,7 +351,8 @@ module _ (p : Flat.Pipe) (knows : (s : ℕ) → s < length p.stages → Known p 
       same : (n : ℕ) → goes_to (stage_at p x.fork).next env ≡ Some n → (d : List Flat.Branch) → Home p d n → x ∷ c ≡ d
       same n g d i = sym h ∙ ap (λ q. (stage_at p q).branches) (to x.fork env n g) ∙ i
 
-      at : Step p x.fork env → (v : ℕ) × (a : ℕ) × (b : ℕ) × Forked p c x.fork v a b × ((slice_index env v == 1) ≡ x.first) × (next_of p x.fork env ≡ suc (start x.fork a x.first))
+      at : Step p x.fork env
+          → (v : ℕ) × (a : ℕ) × (b : ℕ) × Forked p c x.fork v a b × ((slice_index env v == 1) ≡ x.first) × (next_of p x.fork env ≡ suc (start x.fork a x.first))
       at (Ends t e g) = trunk_within p x c (next_of p x.fork env) (trunk_past _ (let z = to_end x.fork env g in omega arith)) (within_home p _ _ h)
       at (Steps d t u m l g) = not_from x c (within_home p _ _ (t ∙ sym (same _ g d u)))
       at (Enters d v a b first k l e g) =
@@ -327,7 +370,8 @@ module _ (p : Flat.Pipe) (knows : (s : ℕ) → s < length p.stages → Known p 
       at true v e = e
       at false v e = ap not e
 
-  entry : (x : Flat.Branch) (c : List Flat.Branch) (env : List ℕ) (r : ℕ) → x.fork < length p.stages → Home p (x ∷ c) (next_of p x.fork env) → Within p (x ∷ c) r → next_of p x.fork env ≤ r
+  entry : (x : Flat.Branch) (c : List Flat.Branch) (env : List ℕ) (r : ℕ)
+      → x.fork < length p.stages → Home p (x ∷ c) (next_of p x.fork env) → Within p (x ∷ c) r → next_of p x.fork env ≤ r
   entry x c env r low h w =
       let e = entered x c env low h in
       let i = around x c r w in
@@ -338,7 +382,9 @@ module _ (p : Flat.Pipe) (knows : (s : ℕ) → s < length p.stages → Known p 
 
   merge : (s : ℕ) (env : List ℕ) (f : ℕ) → s < length p.stages → (stage_at p (next_of p s env)).merges ≡ Some f
       → ((s ≡ f) × ((stage_at p (next_of p s env)).branches ≡ (stage_at p s).branches))
-      ⊎ ((x : Flat.Branch) × ((stage_at p s).branches ≡ x ∷ (stage_at p (next_of p s env)).branches) × (x.fork ≡ f) × ((b : ℕ) → Within p (x ∷ (stage_at p (next_of p s env)).branches) b → b ≤ s))
+      ⊎
+      ((x : Flat.Branch) × ((stage_at p s).branches ≡ x ∷ (stage_at p (next_of p s env)).branches) × (x.fork ≡ f)
+      × ((b : ℕ) → Within p (x ∷ (stage_at p (next_of p s env)).branches) b → b ≤ s))
   merge s env f low e = at (go s env low)
     where
       none : {R : Type 0} → (n : ℕ) → goes_to (stage_at p s).next env ≡ Some n → (stage_at p n).merges ≡ None → R
@@ -351,7 +397,9 @@ module _ (p : Flat.Pipe) (knows : (s : ℕ) → s < length p.stages → Known p 
       there n g c h = ap (λ q. (stage_at p q).branches) (to s env n g) ∙ h
 
       at : Step p s env → ((s ≡ f) × ((stage_at p (next_of p s env)).branches ≡ (stage_at p s).branches))
-          ⊎ ((x : Flat.Branch) × ((stage_at p s).branches ≡ x ∷ (stage_at p (next_of p s env)).branches) × (x.fork ≡ f) × ((b : ℕ) → Within p (x ∷ (stage_at p (next_of p s env)).branches) b → b ≤ s))
+          ⊎
+          ((x : Flat.Branch) × ((stage_at p s).branches ≡ x ∷ (stage_at p (next_of p s env)).branches) × (x.fork ≡ f)
+          × ((b : ℕ) → Within p (x ∷ (stage_at p (next_of p s env)).branches) b → b ≤ s))
       at (Ends t i g) = absurd (cc (sym (ap (λ (y : Flat.Stage). y.merges) (past (next_of p s env) (let z = to_end s env g in omega arith))) ∙ e))
       at (Steps c t u m l g) = none (suc s) g m
       at (Enters c x a b first k l v g) = none _ g (k.begins first l).1
@@ -364,7 +412,8 @@ module _ (p : Flat.Pipe) (knows : (s : ℕ) → s < length p.stages → Known p 
             λ r w.
                 let o = around (side h first) (stage_at p (next_of p s env)).branches r w in
                 let same = fork_same p (stage_at p (next_of p s env)).branches c h o.x o.a o.b x a b o.fork k in
-                let z : r ≤ start h a first + many a b first = subst (λ n. r ≤ start h n first + many n b first) same.0 (subst (λ n. r ≤ start h o.a first + many o.a n first) same.1 o.high) in
+                let z : r ≤ start h a first + many a b first = subst (λ n. r ≤ start h n first + many n b first) same.0
+                (subst (λ n. r ≤ start h o.a first + many o.a n first) same.1 o.high) in
                 omega arith,
           )
 
@@ -391,7 +440,8 @@ module _ (p : Flat.Pipe) (knows : (s : ℕ) → s < length p.stages → Known p 
           let k = (knows found.0 (omega arith)).merges f (merges_some (stage_at p found.0).merges f found.2) in
           let o = around y c b w in
           let same = fork_same p c k.0 f o.x o.a o.b k.1 k.2 k.3 (subst (λ n. Forked p c n o.x o.a o.b) e o.fork) k.4 in
-          let high : b ≤ start f k.2 y.first + many k.2 k.3 y.first = subst (λ n. b ≤ start f n y.first + many n k.3 y.first) same.0 (subst (λ n. b ≤ start f o.a y.first + many o.a n y.first) same.1 (subst (λ n. b ≤ start n o.a y.first + many o.a o.b y.first) e o.high)) in
+          let high : b ≤ start f k.2 y.first + many k.2 k.3 y.first = subst (λ n. b ≤ start f n y.first + many n k.3 y.first) same.0
+          (subst (λ n. b ≤ start f o.a y.first + many o.a n y.first) same.1 (subst (λ n. b ≤ start n o.a y.first + many o.a o.b y.first) e o.high)) in
           let z = start_high f k.2 k.3 y.first in
           let q = k.5 in
           omega arith
@@ -414,7 +464,9 @@ module _ (p : Flat.Pipe) (knows : (s : ℕ) → s < length p.stages → Known p 
 
           past_it : merge_at f o.a o.b ≤ v → ⊥
           past_it l =
-              clash (sym m ∙ some_taken (λ y. merges_fork y.merges f) last_stage (suc v) (merge_at f o.a o.b) p.stages (omega arith) k.inside (ap (λ r. merges_fork r f) k.merge ∙ eq-eqb f f refl))
+              clash
+              (sym m ∙ some_taken (λ y. merges_fork y.merges f) last_stage (suc v) (merge_at f o.a o.b) p.stages (omega arith) k.inside
+              (ap (λ r. merges_fork r f) k.merge ∙ eq-eqb f f refl))
 
           second : f < v → (v < merge_at f o.a o.b) ⊎ (merge_at f o.a o.b ≤ v) → v ≤ f
           second l (inl i) = let q = between_in p c f o.x o.a o.b v k l i in trunk_within p (side f q.0) c v t q.3

@@ -128,8 +128,12 @@ module _ (vars k : ℕ) (ms : List Mem) (vs : List Var) (rest : List Flat.Stmt) 
         (λ y h. low_or y (a == y) (λ e. subst (λ n. n < length vs) (eqb-true a y e) low) h) (subst (λ n. Follows vars n rest) (one_more v) go)
 
   -- one that binds an advised variable
-  advice_new : (v : Var) (op : Flat.Op) → bound_by op ≡ None → uses_own op ≡ false → ((x : ℕ) → mentions_var x op ≡ true → x < length vs) → Follows vars (length (vs ++ v ∷ [])) rest → Follows vars (length vs) (record { stage = k; guards = []; op = op } ∷ rest)
-  advice_new v op none own f go = uses_old vars (length vs) k op rest none own f (λ past low. go past (past_more (length vs) (length (vs ++ v ∷ [])) past (let i = one_more v in omega arith) low))
+  advice_new : (v : Var) (op : Flat.Op)
+      → bound_by op ≡ None → uses_own op ≡ false → ((x : ℕ) → mentions_var x op ≡ true → x < length vs)
+      → Follows vars (length (vs ++ v ∷ [])) rest → Follows vars (length vs) (record { stage = k; guards = []; op = op } ∷ rest)
+  advice_new v op none own f go =
+      uses_old vars (length vs) k op rest none own f
+      (λ past low. go past (past_more (length vs) (length (vs ++ v ∷ [])) past (let i = one_more v in omega arith) low))
 
   low_var : (a y : ℕ) → a < length vs → (a == y) ≡ true → y < length vs
   low_var a y low e = subst (λ n. n < length vs) (eqb-true a y e) low
@@ -139,24 +143,30 @@ module _ (vars k : ℕ) (ms : List Mem) (vs : List Var) (rest : List Flat.Stmt) 
       → Follows vars (length (vars_past ms vs s)) rest → Follows vars (length vs) (seen_ops k (ops_of ms vs s) ++ rest)
   site_new (Separator sp) u room go = go
   site_new (CombRead sp x from) u room go =
-      either_read (λ op. Follows vars (length vs) (seen_ops k (op ∷ []) ++ rest)) (is_advisory_mem ms from.mem.name) (length vs) (mem_of ms from.mem.name) (var_of vs from.address.name)
-      (advice_new (record { name = x.name; width = mem_width ms from.mem.name; advised = is_advisory_mem ms from.mem.name }) (Flat.AdviceRead (length vs) (mem_of ms from.mem.name) (var_of vs from.address.name)) refl refl (λ y h. absurd (false≢true h)) go)
+      either_read (λ op. Follows vars (length vs) (seen_ops k (op ∷ []) ++ rest)) (is_advisory_mem ms from.mem.name) (length vs) (mem_of ms from.mem.name)
+      (var_of vs from.address.name)
+      (advice_new (record { name = x.name; width = mem_width ms from.mem.name; advised = is_advisory_mem ms from.mem.name })
+      (Flat.AdviceRead (length vs) (mem_of ms from.mem.name) (var_of vs from.address.name)) refl refl (λ y h. absurd (false≢true h)) go)
       (
       read_new (record { name = x.name; width = mem_width ms from.mem.name; advised = is_advisory_mem ms from.mem.name }) room go (mem_of ms from.mem.name)
       (var_of vs from.address.name) (var_low vs from.address.name (u.address from refl)))
   site_new (Bind sp x e) u room go =
       either_bind (λ op. Follows vars (length vs) (seen_ops k (op ∷ []) ++ rest)) (is_advised vs e) (length vs) (flat_expr vs e)
-      (advice_new (record { name = x.name; width = width_of vs e; advised = is_advised vs e }) (Flat.AdviceBind (length vs) (flat_expr vs e)) refl refl (λ y h. absurd (false≢true h)) go)
+      (advice_new (record { name = x.name; width = width_of vs e; advised = is_advised vs e }) (Flat.AdviceBind (length vs) (flat_expr vs e)) refl refl
+      (λ y h. absurd (false≢true h)) go)
       (
-      bind_new (record { name = x.name; width = width_of vs e; advised = is_advised vs e }) room go (flat_expr vs e) (expr_low vs u.test u.named e u.expressions))
+      bind_new (record { name = x.name; width = width_of vs e; advised = is_advised vs e }) room go (flat_expr vs e)
+      (expr_low vs u.test u.named e u.expressions))
   site_new (SpecCall sp g args) u room go =
       uses_old vars (length vs) k (Flat.SpecCall (flat_exprs vs args)) rest refl refl (exprs_low vs u.test u.named args u.expressions) go
   site_new (DelayedRead sp x from) u room go =
       read_new (record { name = x.name; width = mem_width ms from.mem.name; advised = false }) room go (mem_of ms from.mem.name)
       (var_of vs from.address.name) (var_low vs from.address.name (u.address from refl))
   site_new (Write sp to e) u room go =
-      either_write (λ op. Follows vars (length vs) (seen_ops k (op ∷ []) ++ rest)) (is_advisory_mem ms to.mem.name) (mem_of ms to.mem.name) (var_of vs to.address.name) (flat_expr vs e)
-      (uses_old vars (length vs) k (Flat.AdviceWrite (mem_of ms to.mem.name) (var_of vs to.address.name) (flat_expr vs e)) rest refl refl (λ y h. absurd (false≢true h)) go)
+      either_write (λ op. Follows vars (length vs) (seen_ops k (op ∷ []) ++ rest)) (is_advisory_mem ms to.mem.name) (mem_of ms to.mem.name)
+      (var_of vs to.address.name) (flat_expr vs e)
+      (uses_old vars (length vs) k (Flat.AdviceWrite (mem_of ms to.mem.name) (var_of vs to.address.name) (flat_expr vs e)) rest refl refl
+      (λ y h. absurd (false≢true h)) go)
       (
       uses_old vars (length vs) k
       (Flat.Write (mem_of ms to.mem.name) (var_of vs to.address.name) (flat_expr vs e)) rest refl refl
@@ -179,21 +189,27 @@ module _ (vars k : ℕ) (ms : List Mem) (vs : List Var) (rest : List Flat.Stmt) 
   site_new (If sp (Constant l) when otherwise) u room go =
       bind_new (record { name = []; width = 1; advised = false }) room go (flat_expr vs (Constant l)) (expr_low vs u.test u.named (Constant l) u.expressions)
   site_new (If sp (Slice x high low) when otherwise) u room go =
-      bind_new (record { name = []; width = 1; advised = false }) room go (flat_expr vs (Slice x high low)) (expr_low vs u.test u.named (Slice x high low) u.expressions)
+      bind_new (record { name = []; width = 1; advised = false }) room go (flat_expr vs (Slice x high low))
+      (expr_low vs u.test u.named (Slice x high low) u.expressions)
   site_new (If sp (Not a) when otherwise) u room go =
       bind_new (record { name = []; width = 1; advised = false }) room go (flat_expr vs (Not a)) (expr_low vs u.test u.named (Not a) u.expressions)
   site_new (If sp (Binary op a b) when otherwise) u room go =
-      bind_new (record { name = []; width = 1; advised = false }) room go (flat_expr vs (Binary op a b)) (expr_low vs u.test u.named (Binary op a b) u.expressions)
+      bind_new (record { name = []; width = 1; advised = false }) room go (flat_expr vs (Binary op a b))
+      (expr_low vs u.test u.named (Binary op a b) u.expressions)
   site_new (If sp (Cat a b) when otherwise) u room go =
       bind_new (record { name = []; width = 1; advised = false }) room go (flat_expr vs (Cat a b)) (expr_low vs u.test u.named (Cat a b) u.expressions)
   site_new (If sp (LessSigned a b) when otherwise) u room go =
-      bind_new (record { name = []; width = 1; advised = false }) room go (flat_expr vs (LessSigned a b)) (expr_low vs u.test u.named (LessSigned a b) u.expressions)
+      bind_new (record { name = []; width = 1; advised = false }) room go (flat_expr vs (LessSigned a b))
+      (expr_low vs u.test u.named (LessSigned a b) u.expressions)
   site_new (If sp (ZeroExtend a n) when otherwise) u room go =
-      bind_new (record { name = []; width = 1; advised = false }) room go (flat_expr vs (ZeroExtend a n)) (expr_low vs u.test u.named (ZeroExtend a n) u.expressions)
+      bind_new (record { name = []; width = 1; advised = false }) room go (flat_expr vs (ZeroExtend a n))
+      (expr_low vs u.test u.named (ZeroExtend a n) u.expressions)
   site_new (If sp (SignExtend a n) when otherwise) u room go =
-      bind_new (record { name = []; width = 1; advised = false }) room go (flat_expr vs (SignExtend a n)) (expr_low vs u.test u.named (SignExtend a n) u.expressions)
+      bind_new (record { name = []; width = 1; advised = false }) room go (flat_expr vs (SignExtend a n))
+      (expr_low vs u.test u.named (SignExtend a n) u.expressions)
   site_new (If sp (Choose c a b) when otherwise) u room go =
-      bind_new (record { name = []; width = 1; advised = false }) room go (flat_expr vs (Choose c a b)) (expr_low vs u.test u.named (Choose c a b) u.expressions)
+      bind_new (record { name = []; width = 1; advised = false }) room go (flat_expr vs (Choose c a b))
+      (expr_low vs u.test u.named (Choose c a b) u.expressions)
   site_new (Call sp args) u room go =
       uses_old vars (length vs) k (Flat.Call (flat_exprs vs args)) rest refl refl (exprs_low vs u.test u.named args u.expressions) go
   site_new (Verify sp g args) u room go =

@@ -53,7 +53,8 @@ site_spares k ms vs args low s = at s
     at _ = refl
 
 -- nor do the sites after it
-sites_spare : (ms : List Mem) (n : ℕ) (args : List Flat.Expr) → AreLow n args → (vs us : List Var) (ts : List Site) → n ≤ length vs → Grows ms vs ts us → Spares args (seen ms ts)
+sites_spare : (ms : List Mem) (n : ℕ) (args : List Flat.Expr)
+    → AreLow n args → (vs us : List Var) (ts : List Site) → n ≤ length vs → Grows ms vs ts us → Spares args (seen ms ts)
 sites_spare ms n args low vs us [] l g = refl
 sites_spare ms n args low vs us (t ∷ ts) l g =
     let a = grown_long vs t.walk.vars g.0 in
@@ -62,11 +63,15 @@ sites_spare ms n args low vs us (t ∷ ts) l g =
     (site_spares t.walk.stage ms t.walk.vars args (λ y u. (let c = low y u in omega arith)) t.stmt)
     (sites_spare ms n args low (vars_past ms t.walk.vars t.stmt) us ts (omega arith) g.1)
 
-site_keeps : (k : ℕ) (ms : List Mem) (vs : List Var) (s : Stmt) → Uses vs s → (rest : List Flat.Stmt) → ((args : List Flat.Expr) → AreLow (length vs) args → Spares args rest) → all_keep_guess rest ≡ true → all_keep_guess (seen_ops k (ops_of ms vs s) ++ rest) ≡ true
+site_keeps : (k : ℕ) (ms : List Mem) (vs : List Var) (s : Stmt)
+    → Uses vs s → (rest : List Flat.Stmt) → ((args : List Flat.Expr) → AreLow (length vs) args → Spares args rest)
+    → all_keep_guess rest ≡ true → all_keep_guess (seen_ops k (ops_of ms vs s) ++ rest) ≡ true
 site_keeps k ms vs (SpecCall sp g args) u rest later go = and_from _ _ (later (flat_exprs vs args) (exprs_low vs u.test u.named args u.expressions)) go
-site_keeps k ms vs (CombRead sp x l) u rest later go = either_read (λ op. all_keep_guess (seen_ops k (op ∷ []) ++ rest) ≡ true) (is_advisory_mem ms l.mem.name) _ _ _ go go
+site_keeps k ms vs (CombRead sp x l) u rest later go =
+    either_read (λ op. all_keep_guess (seen_ops k (op ∷ []) ++ rest) ≡ true) (is_advisory_mem ms l.mem.name) _ _ _ go go
 site_keeps k ms vs (Bind sp x e) u rest later go = either_bind (λ op. all_keep_guess (seen_ops k (op ∷ []) ++ rest) ≡ true) (is_advised vs e) _ _ go go
-site_keeps k ms vs (Write sp l e) u rest later go = either_write (λ op. all_keep_guess (seen_ops k (op ∷ []) ++ rest) ≡ true) (is_advisory_mem ms l.mem.name) _ _ _ go go
+site_keeps k ms vs (Write sp l e) u rest later go =
+    either_write (λ op. all_keep_guess (seen_ops k (op ∷ []) ++ rest) ≡ true) (is_advisory_mem ms l.mem.name) _ _ _ go go
 site_keeps k ms vs (Reserve sp l R) u rest later go = go
 site_keeps k ms vs (Reserve sp l W) u rest later go = go
 site_keeps k ms vs (If sp (Variable x) when otherwise) u rest later go = go
@@ -74,9 +79,11 @@ site_keeps k ms vs (If sp c when otherwise) u rest later go = go
 site_keeps k ms vs _ u rest later go = go
 
 -- after each guess along sites none of its variables is bound
-pub sites_keep : (ms : List Mem) (vs us : List Var) (ts : List Site) → Grows ms vs ts us → All (λ t. Uses t.walk.vars t.stmt) ts → all_keep_guess (seen ms ts) ≡ true
+pub sites_keep : (ms : List Mem) (vs us : List Var) (ts : List Site)
+    → Grows ms vs ts us → All (λ t. Uses t.walk.vars t.stmt) ts → all_keep_guess (seen ms ts) ≡ true
 sites_keep ms vs us [] g u = refl
 sites_keep ms vs us (t ∷ ts) g u =
     site_keeps t.walk.stage ms t.walk.vars t.stmt u.0 (seen ms ts)
-    (λ args low. sites_spare ms (length t.walk.vars) args low (vars_past ms t.walk.vars t.stmt) us ts (grown_long t.walk.vars (vars_past ms t.walk.vars t.stmt) (past_grown ms t.walk.vars t.stmt)) g.1)
+    (λ args low. sites_spare ms (length t.walk.vars) args low (vars_past ms t.walk.vars t.stmt) us ts
+    (grown_long t.walk.vars (vars_past ms t.walk.vars t.stmt) (past_grown ms t.walk.vars t.stmt)) g.1)
     (sites_keep ms (vars_past ms t.walk.vars t.stmt) us ts g.1 u.1)

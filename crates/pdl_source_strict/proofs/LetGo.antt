@@ -139,11 +139,13 @@ sites_let_go p ms vs us before (t ∷ ts) g each named =
     here : (s : Stmt) → t.stmt ≡ s → all_let_go (seen ms ts) ≡ true → all_let_go (seen_ops t.walk.stage (ops_of ms t.walk.vars s) ++ seen ms ts) ≡ true
     here (Block sp at) e rest = and_from _ _ (block sp at e) rest
     here (Separator sp) e rest = rest
-    here (CombRead sp x from) e rest = either_read (λ op. all_let_go (seen_ops t.walk.stage (op ∷ []) ++ seen ms ts) ≡ true) (is_advisory_mem ms from.mem.name) _ _ _ rest rest
+    here (CombRead sp x from) e rest =
+        either_read (λ op. all_let_go (seen_ops t.walk.stage (op ∷ []) ++ seen ms ts) ≡ true) (is_advisory_mem ms from.mem.name) _ _ _ rest rest
     here (Bind sp x v) e rest = either_bind (λ op. all_let_go (seen_ops t.walk.stage (op ∷ []) ++ seen ms ts) ≡ true) (is_advised t.walk.vars v) _ _ rest rest
     here (SpecCall sp x args) e rest = rest
     here (DelayedRead sp x from) e rest = rest
-    here (Write sp to v) e rest = either_write (λ op. all_let_go (seen_ops t.walk.stage (op ∷ []) ++ seen ms ts) ≡ true) (is_advisory_mem ms to.mem.name) _ _ _ rest rest
+    here (Write sp to v) e rest =
+        either_write (λ op. all_let_go (seen_ops t.walk.stage (op ∷ []) ++ seen ms ts) ≡ true) (is_advisory_mem ms to.mem.name) _ _ _ rest rest
     here (Reserve sp at R) e rest = rest
     here (Reserve sp at W) e rest = rest
     here (Release sp at) e rest = rest

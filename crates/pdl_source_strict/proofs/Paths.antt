@@ -99,7 +99,8 @@ bound_of_looked : (op : Flat.Op) → bound_of (answered_op op) ≡ bound_of op
 bound_of_looked (DelayedRead y m a) = refl
 bound_of_looked _ = refl
 
-spares_looked : (args : List Flat.Expr) (xs : List Flat.Stmt) → list_all (λ z. not (binds_used args z.op)) (looked_all xs) ≡ list_all (λ z. not (binds_used args z.op)) xs
+spares_looked : (args : List Flat.Expr) (xs : List Flat.Stmt)
+    → list_all (λ z. not (binds_used args z.op)) (looked_all xs) ≡ list_all (λ z. not (binds_used args z.op)) xs
 spares_looked args [] = refl
 spares_looked args (x ∷ xs) = ap₂ (λ a b. not (is_used_by args a) && b) (bound_of_looked x.op) (spares_looked args xs)
 
@@ -165,7 +166,8 @@ module _ (p : Pipe) (rules : KeepsRules p) where
     guesses : all_keep_guess (onpath path (flat p).stmts) ≡ true
     guesses =
         sym (keep_looked (onpath path (flat p).stmts)) ∙ ap all_keep_guess seen_is
-        ∙ sites_keep p.mems (params_of p.params) (all_vars p) ts (grows_on p.mems (path_of p (value p path)) (params_of p.params) (all_vars p) (sites_of p) (grows_all p)) uses
+        ∙ sites_keep p.mems (params_of p.params) (all_vars p) ts
+        (grows_on p.mems (path_of p (value p path)) (params_of p.params) (all_vars p) (sites_of p) (grows_all p)) uses
 
     blocks : all_let_go (onpath path (flat p).stmts) ≡ true
     blocks =

@@ -292,7 +292,8 @@ module _ (p : Pipe) (sound : Sound p) (single : length p.stages ≡ 1) where
   -- the cycles of a run of the stated machine are the threads of the sequential run, one after another
   pub whole_threads : (image : Arrays) (schedule : List (List Bool)) → AreThreads (Cycle.turns p image schedule) (threads p image (length schedule))
   whole_threads image schedule =
-      carried _ _ _ (whole_same p sound image schedule) (from_here image 0 [] (first p image (hints image schedule)) schedule (runs_first p (course p sound) image (hints image schedule)) refl)
+      carried _ _ _ (whole_same p sound image schedule)
+      (from_here image 0 [] (first p image (hints image schedule)) schedule (runs_first p (course p sound) image (hints image schedule)) refl)
 
 -- LINES
 

@@ -121,7 +121,6 @@ late_update_fails : passes_tests
     ∷ update "s" (plus (variable "n") (constant 2 3)) ∷ []))) ≡ false
 late_update_fails = refl
 
-
 everything_sounds : passes_tests (flat everything) ≡ true
 everything_sounds = refl
 
@@ -189,10 +188,13 @@ stated_nested_updated_refines : (image : Arrays) (schedule : List (List Bool)) �
 stated_nested_updated_refines = whole_refines (flat nested_updated) (sounded (flat nested_updated) nested_updated_sounds)
 
 stated_nested_updates_alike : (image : Arrays) (schedule schedule' : List (List Bool)) → CommitsAlike (flat nested_updated) image schedule schedule'
-stated_nested_updates_alike = updates_alike (flat nested_updated) (sounded (flat nested_updated) nested_updated_sounds) (sounded (not_updated (flat nested_updated)) nested_not_updated_sounds)
+stated_nested_updates_alike =
+    updates_alike (flat nested_updated) (sounded (flat nested_updated) nested_updated_sounds)
+    (sounded (not_updated (flat nested_updated)) nested_not_updated_sounds)
 
 stated_updates_alike : (image : Arrays) (schedule schedule' : List (List Bool)) → CommitsAlike (flat (updated 2)) image schedule schedule'
-stated_updates_alike = updates_alike (flat (updated 2)) (sounded (flat (updated 2)) updated_sounds) (sounded (not_updated (flat (updated 2))) not_updated_sounds)
+stated_updates_alike =
+    updates_alike (flat (updated 2)) (sounded (flat (updated 2)) updated_sounds) (sounded (not_updated (flat (updated 2))) not_updated_sounds)
 
 stated_slow_advances : (image : Arrays) (schedule : List (List Bool)) (bits : List Bool)
     → Promises.Advances (flat count_slow) image schedule bits
@@ -208,5 +210,6 @@ stated_learnt_refines : (image : Arrays) (schedule : List (List Bool)) → Promi
 stated_learnt_refines = whole_refines (flat guess_learnt) (sounded (flat guess_learnt) guess_learnt_sounds)
 
 -- what was learnt changes no write
-learnt_is_idle : (image other : Arrays) (schedule replies : List (List Bool)) → Promises.DifferInAdvice (flat guess_learnt) image other → Promises.AdviceIsIdle (flat guess_learnt) image other schedule replies
+learnt_is_idle : (image other : Arrays) (schedule replies : List (List Bool))
+    → Promises.DifferInAdvice (flat guess_learnt) image other → Promises.AdviceIsIdle (flat guess_learnt) image other schedule replies
 learnt_is_idle = whole_idle (flat guess_learnt) (sounded (flat guess_learnt) guess_learnt_sounds)

@@ -21,8 +21,10 @@ module _ (p : Pipe) (sound : Sound p) where
   -- what the threads of a run guess
   abbrev hints : Arrays → List (List Bool) → ℕ → List ℕ
   hints image schedule = hints_of p (Cycle.first p image) schedule
+
   -- in each cycle of a run both machines have the same ports and waits
-  pub whole_same : (image : Arrays) (schedule : List (List Bool)) → SameTurns p (Cycle.turns p image schedule) (Derived.turns p image (hints_of p (Cycle.first p image) schedule) schedule)
+  pub whole_same : (image : Arrays) (schedule : List (List Bool))
+      → SameTurns p (Cycle.turns p image schedule) (Derived.turns p image (hints_of p (Cycle.first p image) schedule) schedule)
   whole_same = same_turns p (sound_flows p sound)
 
   -- every run of the stated machine refines the sequential run
@@ -33,7 +35,8 @@ module _ (p : Pipe) (sound : Sound p) where
 
   -- after any schedule the oldest thread of the stated machine moves in a cycle that isn't a wait
   pub whole_advances : (image : Arrays) (schedule : List (List Bool)) (bits : List Bool) → Advances p image schedule bits
-  whole_advances image schedule bits = carries_advances p (sound_flows p sound) image schedule bits (Follows.advances p (course p sound) image (hints image schedule) schedule bits)
+  whole_advances image schedule bits =
+      carries_advances p (sound_flows p sound) image schedule bits (Follows.advances p (course p sound) image (hints image schedule) schedule bits)
 
   -- at least as many threads end in a run of the stated machine as its cycles that are no waits, divided by the depth
   pub whole_paces : (image : Arrays) (schedule : List (List Bool)) → KeepsPace p image schedule
@@ -41,8 +44,11 @@ module _ (p : Pipe) (sound : Sound p) where
 
   -- what advisory memories hold changes no write
   pub whole_idle : (image other : Arrays) (schedule replies : List (List Bool)) → DifferInAdvice p image other → AdviceIsIdle p image other schedule replies
-  whole_idle image other schedule replies differ = advice_is_idle p image other schedule replies sound.advice differ (whole_refines image schedule) (whole_refines other replies)
+  whole_idle image other schedule replies differ =
+      advice_is_idle p image other schedule replies sound.advice differ (whole_refines image schedule) (whole_refines other replies)
 
 -- with its updates or without them a pipe commits the same, only sooner or later
-pub updates_alike : (p : Pipe) → Sound p → Sound (not_updated p) → (image : Arrays) (schedule schedule' : List (List Bool)) → CommitsAlike p image schedule schedule'
-updates_alike p sound plain image schedule schedule' = commits_alike p image schedule schedule' (whole_refines p sound image schedule) (whole_refines (not_updated p) plain image schedule')
+pub updates_alike : (p : Pipe)
+    → Sound p → Sound (not_updated p) → (image : Arrays) (schedule schedule' : List (List Bool)) → CommitsAlike p image schedule schedule'
+updates_alike p sound plain image schedule schedule' =
+    commits_alike p image schedule schedule' (whole_refines p sound image schedule) (whole_refines (not_updated p) plain image schedule')

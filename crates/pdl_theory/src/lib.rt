@@ -33,7 +33,7 @@ pub fn whole_language()
 pub fn simulation()
     ensures { (p : Pipe) → Sound p → (image : Arrays) (schedule : List (List Bool)) →
         SameTurns p (turns p image schedule)
-            (Derived.turns p image (hints_of p (first p image) schedule) schedule) }
+        (Derived.turns p image (hints_of p (first p image) schedule) schedule) }
 {}
 
 /// What advisory memories hold changes no write: threads write the same, and of two runs one's commits begin with those of the other.

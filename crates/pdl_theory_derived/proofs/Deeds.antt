@@ -122,7 +122,8 @@ module _ (o : Around) (read : ℕ → ℕ → ℕ) (block : Blocked → Bool) (f
   -- each guess of these statements, after these deeds, is the one that the surroundings give
   abbrev pub AllGuesses : List Stmt → Deeds → Type 0
   AllGuesses [] d = Unit {0}
-  AllGuesses (x ∷ xs) d = (all_hold x.guards d.env ≡ true → Guesses x.op d) × AllGuesses xs (if all_hold x.guards d.env then Machine.deeds_after read x.op d else d)
+  AllGuesses (x ∷ xs) d =
+      (all_hold x.guards d.env ≡ true → Guesses x.op d) × AllGuesses xs (if all_hold x.guards d.env then Machine.deeds_after read x.op d else d)
 
   told : (d : Deeds) (es : List Entry) (cs : List Commit) → places es ≡ d.held → Told d (work_of d es cs)
   told d es cs h = record { held = h; is = refl }
@@ -170,7 +171,8 @@ module _ (o : Around) (read : ℕ → ℕ → ℕ) (block : Blocked → Bool) (f
   told_op (Release m a) d es cs h f c = record { held = places_without es m a ∙ ap (λ l. let_go l m a) h; is = refl }
   told_op (Call args) d es cs h f c = told _ es cs h
   told_op (SpecCall args) d es cs h f c =
-      subst (λ (g : List ℕ). Told (Machine.deeds_after read (SpecCall args) d) (record (work_of d es cs) { child = Some g; guess = g })) c (told (Machine.deeds_after read (SpecCall args) d) es cs h)
+      subst (λ (g : List ℕ). Told (Machine.deeds_after read (SpecCall args) d) (record (work_of d es cs) { child = Some g; guess = g })) c
+      (told (Machine.deeds_after read (SpecCall args) d) es cs h)
   told_op (AdviceBind x e) d es cs h f c = told _ es cs h
   told_op (AdviceRead x m a) d es cs h f c = told _ es cs h
   told_op (AdviceWrite m a e) d es cs h f c = told _ es cs h
@@ -212,7 +214,13 @@ module _ (o : Around) (read : ℕ → ℕ → ℕ) (block : Blocked → Bool) (f
   loose_op (Verify last args) d es cs g c f h k = at (same_args (values_of args d.env) d.guess) (same_args (values_of args d.env) g)
     where
       at : (a b : Bool) → Loosely (cond a d (record d { child = Some (values_of args d.env); guess = values_of args d.env; fails = true }))
-          (cond b (work_of (record d { guess = g; child = c; fails = f }) es cs) (record (work_of (record d { guess = g; child = c; fails = f }) es cs) { child = Some (values_of args d.env); guess = values_of args d.env; fails = true }))
+          (cond b (work_of (record d { guess = g; child = c; fails = f }) es cs)
+          (record (work_of (record d { guess = g; child = c; fails = f }) es cs) {
+            child = Some
+                (values_of args d.env);
+            guess = values_of args d.env;
+            fails = true;
+          }))
       at true true = record { held = h; is = refl }
       at true false = record { held = h; is = refl }
       at false true = record { held = h; is = refl }
@@ -220,7 +228,8 @@ module _ (o : Around) (read : ℕ → ℕ → ℕ) (block : Blocked → Bool) (f
   loose_op op d es cs g c f h k = loosen (Machine.deeds_after read op d) g c f _ (told_op op (record d { guess = g; child = c; fails = f }) es cs h k tt)
 
   -- they agree so after one more statement that is carried out or passed over
-  pub loose_step : (b : Bool) (op : Op) (d : Deeds) (w : Work) → Fits op → Loosely d w → Loosely (cond b (Machine.deeds_after read op d) d) (cond b (work_after o op w) w)
+  pub loose_step : (b : Bool) (op : Op) (d : Deeds) (w : Work)
+      → Fits op → Loosely d w → Loosely (cond b (Machine.deeds_after read op d) d) (cond b (work_after o op w) w)
   loose_step true op d w k l =
       subst (λ v. Loosely (Machine.deeds_after read op d) (work_after o op v)) (sym l.is) (loose_op op d w.entries w.commits w.guess w.child w.fails l.held k)
   loose_step false op d w k l = l
@@ -230,7 +239,8 @@ module _ (o : Around) (read : ℕ → ℕ → ℕ) (block : Blocked → Bool) (f
   loose_all [] d w k l = l
   loose_all (x ∷ xs) d w k l =
       loose_all xs (if all_hold x.guards d.env then Machine.deeds_after read x.op d else d) (if all_hold x.guards w.env then work_after o x.op w else w) k.1
-      (subst (λ b. Loosely (if all_hold x.guards d.env then Machine.deeds_after read x.op d else d) (cond b (work_after o x.op w) w)) (ap (λ (v : Work). all_hold x.guards v.env) (sym l.is)) (loose_step (all_hold x.guards d.env) x.op d w k.0 l))
+      (subst (λ b. Loosely (if all_hold x.guards d.env then Machine.deeds_after read x.op d else d) (cond b (work_after o x.op w) w))
+      (ap (λ (v : Work). all_hold x.guards v.env) (sym l.is)) (loose_step (all_hold x.guards d.env) x.op d w k.0 l))
 
   -- the work and the deeds stay those of the same statements over one more statement that is carried out or passed over
   pub told_step : (b : Bool) (op : Op) (d : Deeds) (es : List Entry) (cs : List Commit) → places es ≡ d.held → Fits op

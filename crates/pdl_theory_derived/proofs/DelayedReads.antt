@@ -261,7 +261,8 @@ unasked_op o (DelayedRead x n a) w m h r = at (n == m) refl
         ∙ no_more (find_ask w.asks m)
 unasked_op o (Verify last args) w m h r = at (same_args (values_of args w.env) w.guess)
   where
-    at : (b : Bool) → find_ask (cond b w (record w { child = Some (values_of args w.env); guess = (values_of args w.env); fails = true })).asks m ≡ find_ask w.asks m
+    at : (b : Bool)
+        → find_ask (cond b w (record w { child = Some (values_of args w.env); guess = (values_of args w.env); fails = true })).asks m ≡ find_ask w.asks m
     at true = refl
     at false = refl
 unasked_op o _ w m h r = refl
@@ -303,5 +304,6 @@ held_port p st bits older (t ∷ ts) m h =
         ≡ None
     at true e k =
         find_append (act p st bits older t).work.asks (asks_of (acts p st bits (act p st bits older t ∷ older) ts)) m
-        ∙ ap₂ or_ask (unasked (around p st bits older t.stage t.hint) (in_stage t.stage p.stmts) _ m h (and_right _ _ (and_left _ _ (and_left _ _ (and_left _ _ e))))) k
+        ∙ ap₂ or_ask
+        (unasked (around p st bits older t.stage t.hint) (in_stage t.stage p.stmts) _ m h (and_right _ _ (and_left _ _ (and_left _ _ (and_left _ _ e))))) k
     at false e k = k

@@ -31,12 +31,17 @@ pub moved_own : (e : Entry) (es : List Entry) (m : ℕ) → e.mem ≡ m → entr
 moved_own e [] m h = refl
 moved_own e (f ∷ es) m h = at (f.mem == e.mem) refl (λ i. moved_own f es m i) (moved_own e es m h)
   where
-    at : (b : Bool) → (f.mem == e.mem) ≡ b → (f.mem ≡ m → entries_of m (moved_up f es) ≡ moved_up f (entries_of m es)) → entries_of m (moved_up e es) ≡ moved_up e (entries_of m es) → entries_of m (cond b (refilled f e ∷ moved_up f es) (f ∷ moved_up e es)) ≡ moved_up e (cond (f.mem == m) (f ∷ entries_of m es) (entries_of m es))
+    at : (b : Bool)
+        → (f.mem == e.mem) ≡ b → (f.mem ≡ m → entries_of m (moved_up f es) ≡ moved_up f (entries_of m es))
+        → entries_of m (moved_up e es) ≡ moved_up e (entries_of m es)
+        → entries_of m (cond b (refilled f e ∷ moved_up f es) (f ∷ moved_up e es)) ≡ moved_up e (cond (f.mem == m) (f ∷ entries_of m es) (entries_of m es))
     at true k go on =
         let i : f.mem ≡ m = eqb-true f.mem e.mem k ∙ h in
         ap (λ b. cond b (refilled f e ∷ entries_of m (moved_up f es)) (entries_of m (moved_up f es))) (eq-eqb f.mem m i)
         ∙ ap (λ l. refilled f e ∷ l) (go i)
-        ∙ sym (ap (λ b. moved_up e (cond b (f ∷ entries_of m es) (entries_of m es))) (eq-eqb f.mem m i) ∙ ap (λ b. cond b (refilled f e ∷ moved_up f (entries_of m es)) (f ∷ moved_up e (entries_of m es))) k)
+        ∙ sym
+        (ap (λ b. moved_up e (cond b (f ∷ entries_of m es) (entries_of m es))) (eq-eqb f.mem m i)
+        ∙ ap (λ b. cond b (refilled f e ∷ moved_up f (entries_of m es)) (f ∷ moved_up e (entries_of m es))) k)
     at false k go on =
         let i : (f.mem == m) ≡ false = ne_eqb f.mem m (λ j. eqb-false f.mem e.mem k (j ∙ sym h)) in
         ap (λ b. cond b (f ∷ entries_of m (moved_up e es)) (entries_of m (moved_up e es))) i
@@ -47,7 +52,10 @@ moved_other : (e : Entry) (es : List Entry) (m : ℕ) → e.mem ≢ m → entrie
 moved_other e [] m h = refl
 moved_other e (f ∷ es) m h = at (f.mem == e.mem) refl (λ j. moved_other f es m j) (moved_other e es m h)
   where
-    at : (b : Bool) → (f.mem == e.mem) ≡ b → (f.mem ≢ m → entries_of m (moved_up f es) ≡ entries_of m es) → entries_of m (moved_up e es) ≡ entries_of m es → entries_of m (cond b (refilled f e ∷ moved_up f es) (f ∷ moved_up e es)) ≡ cond (f.mem == m) (f ∷ entries_of m es) (entries_of m es)
+    at : (b : Bool)
+        → (f.mem == e.mem) ≡ b → (f.mem ≢ m → entries_of m (moved_up f es) ≡ entries_of m es)
+        → entries_of m (moved_up e es) ≡ entries_of m es
+        → entries_of m (cond b (refilled f e ∷ moved_up f es) (f ∷ moved_up e es)) ≡ cond (f.mem == m) (f ∷ entries_of m es) (entries_of m es)
     at true k go on =
         let j : f.mem ≢ m = (λ i. h (sym (eqb-true f.mem e.mem k) ∙ i)) in
         ap (λ b. cond b (refilled f e ∷ entries_of m (moved_up f es)) (entries_of m (moved_up f es))) (ne_eqb f.mem m j)
@@ -59,11 +67,16 @@ oldest_own : (e : Entry) (es : List Entry) (m : ℕ) → e.mem ≡ m → oldest_
 oldest_own e [] m h = refl
 oldest_own e (f ∷ es) m h = at (f.mem == e.mem) refl (λ i. oldest_own f es m i) (oldest_own e es m h)
   where
-    at : (b : Bool) → (f.mem == e.mem) ≡ b → (f.mem ≡ m → oldest_of f es ≡ oldest_of f (entries_of m es)) → oldest_of e es ≡ oldest_of e (entries_of m es) → cond b (oldest_of f es) (oldest_of e es) ≡ oldest_of e (cond (f.mem == m) (f ∷ entries_of m es) (entries_of m es))
+    at : (b : Bool)
+        → (f.mem == e.mem) ≡ b → (f.mem ≡ m → oldest_of f es ≡ oldest_of f (entries_of m es))
+        → oldest_of e es ≡ oldest_of e (entries_of m es)
+        → cond b (oldest_of f es) (oldest_of e es) ≡ oldest_of e (cond (f.mem == m) (f ∷ entries_of m es) (entries_of m es))
     at true k go on =
         let i : f.mem ≡ m = eqb-true f.mem e.mem k ∙ h in
         go i
-        ∙ sym (ap (λ b. oldest_of e (cond b (f ∷ entries_of m es) (entries_of m es))) (eq-eqb f.mem m i) ∙ ap (λ b. cond b (oldest_of f (entries_of m es)) (oldest_of e (entries_of m es))) k)
+        ∙ sym
+        (ap (λ b. oldest_of e (cond b (f ∷ entries_of m es) (entries_of m es))) (eq-eqb f.mem m i)
+        ∙ ap (λ b. cond b (oldest_of f (entries_of m es)) (oldest_of e (entries_of m es))) k)
     at false k go on =
         let i : (f.mem == m) ≡ false = ne_eqb f.mem m (λ j. eqb-false f.mem e.mem k (j ∙ sym h)) in
         on ∙ sym (ap (λ b. oldest_of e (cond b (f ∷ entries_of m es) (entries_of m es))) i)
@@ -73,8 +86,11 @@ pub without_own : (es : List Entry) (m a : ℕ) → entries_of m (without es m a
 without_own [] m a = refl
 without_own (e ∷ es) m a = at (e.mem == m) refl (e.var == a) refl (without_own es m a)
   where
-    at : (b : Bool) → (e.mem == m) ≡ b → (c : Bool) → (e.var == a) ≡ c → entries_of m (without es m a) ≡ without (entries_of m es) m a → entries_of m (cond (b && c) (moved_up e es) (e ∷ without es m a)) ≡ without (cond b (e ∷ entries_of m es) (entries_of m es)) m a
-    at true h true k on = moved_own e es m (eqb-true e.mem m h) ∙ sym (ap₂ (λ b c. cond (b && c) (moved_up e (entries_of m es)) (e ∷ without (entries_of m es) m a)) h k)
+    at : (b : Bool)
+        → (e.mem == m) ≡ b → (c : Bool) → (e.var == a) ≡ c → entries_of m (without es m a) ≡ without (entries_of m es) m a
+        → entries_of m (cond (b && c) (moved_up e es) (e ∷ without es m a)) ≡ without (cond b (e ∷ entries_of m es) (entries_of m es)) m a
+    at true h true k on =
+        moved_own e es m (eqb-true e.mem m h) ∙ sym (ap₂ (λ b c. cond (b && c) (moved_up e (entries_of m es)) (e ∷ without (entries_of m es) m a)) h k)
     at true h false k on =
         ap (λ b. cond b (e ∷ entries_of m (without es m a)) (entries_of m (without es m a))) h ∙ ap (λ l. e ∷ l) on
         ∙ sym (ap₂ (λ b c. cond (b && c) (moved_up e (entries_of m es)) (e ∷ without (entries_of m es) m a)) h k)
@@ -85,7 +101,9 @@ pub without_other : (es : List Entry) (m n a : ℕ) → n ≢ m → entries_of m
 without_other [] m n a h = refl
 without_other (e ∷ es) m n a h = at (e.mem == n) refl (e.var == a) (without_other es m n a h)
   where
-    at : (b : Bool) → (e.mem == n) ≡ b → (c : Bool) → entries_of m (without es n a) ≡ entries_of m es → entries_of m (cond (b && c) (moved_up e es) (e ∷ without es n a)) ≡ cond (e.mem == m) (e ∷ entries_of m es) (entries_of m es)
+    at : (b : Bool)
+        → (e.mem == n) ≡ b → (c : Bool) → entries_of m (without es n a) ≡ entries_of m es
+        → entries_of m (cond (b && c) (moved_up e es) (e ∷ without es n a)) ≡ cond (e.mem == m) (e ∷ entries_of m es) (entries_of m es)
     at true k true on =
         let j : e.mem ≢ m = (λ i. h (sym (eqb-true e.mem n k) ∙ i)) in
         moved_other e es m j ∙ sym (ap (λ b. cond b (e ∷ entries_of m es) (entries_of m es)) (ne_eqb e.mem m j))
@@ -168,7 +186,9 @@ told m (f ∷ fs) = told m fs ++ write_of m f.address f.value ∷ []
 -- those without a value in front of others are all of m
 pub waiting_own : (m : ℕ) (os : List Open) (es : List Entry) → entries_of m (waiting m os ++ es) ≡ waiting m os ++ entries_of m es
 waiting_own m [] es = refl
-waiting_own m (o ∷ os) es = ap (λ b. cond b (entry m o.var o.address None ∷ entries_of m (waiting m os ++ es)) (entries_of m (waiting m os ++ es))) (eq-eqb m m refl) ∙ ap (λ l. entry m o.var o.address None ∷ l) (waiting_own m os es)
+waiting_own m (o ∷ os) es =
+    ap (λ b. cond b (entry m o.var o.address None ∷ entries_of m (waiting m os ++ es)) (entries_of m (waiting m os ++ es))) (eq-eqb m m refl)
+    ∙ ap (λ l. entry m o.var o.address None ∷ l) (waiting_own m os es)
 
 -- the last of a list, where it has one
 abbrev pub last_or : {X : Type 0} → X → List X → X
@@ -182,13 +202,17 @@ last_address (o ∷ []) = o.address
 last_address (o ∷ q ∷ os) = last_address (q ∷ os)
 
 -- a write through the oldest location without a value gives it that value
-pub filled_last : (m a v : ℕ) (os : List Open) (es : List Entry) → is_oldest a (open_vars os) ≡ true → with_entry_value (waiting m os ++ es) m a v ≡ waiting m (but_last os) ++ entry m a (last_address os) (Some v) ∷ es
+pub filled_last : (m a v : ℕ) (os : List Open) (es : List Entry)
+    → is_oldest a (open_vars os) ≡ true
+    → with_entry_value (waiting m os ++ es) m a v ≡ waiting m (but_last os) ++ entry m a (last_address os) (Some v) ∷ es
 filled_last m a v [] es h = absurd (cc h)
 filled_last m a v (o ∷ []) es h =
     ap₂ (λ b c. cond (b && c) (entry m o.var o.address (Some v) ∷ es) (entry m o.var o.address None ∷ with_entry_value es m a v)) (eq-eqb m m refl) h
     ∙ ap (λ x. entry m x o.address (Some v) ∷ es) (eqb-true o.var a h)
 filled_last m a v (o ∷ q ∷ os) es h =
-    ap₂ (λ b c. cond (b && c) (entry m o.var o.address (Some v) ∷ waiting m (q ∷ os) ++ es) (entry m o.var o.address None ∷ with_entry_value (waiting m (q ∷ os) ++ es) m a v)) (eq-eqb m m refl) (off (o.var == a) h)
+    ap₂
+    (λ b c. cond (b && c) (entry m o.var o.address (Some v) ∷ waiting m (q ∷ os) ++ es)
+    (entry m o.var o.address None ∷ with_entry_value (waiting m (q ∷ os) ++ es) m a v)) (eq-eqb m m refl) (off (o.var == a) h)
     ∙ ap (λ l. entry m o.var o.address None ∷ l) (filled_last m a v (q ∷ os) es (and_second (o.var == a) h))
   where
     off : (b : Bool) → (not b && is_oldest a (open_vars (q ∷ os))) ≡ true → b ≡ false
@@ -220,7 +244,9 @@ pub let_out_vars : (fs : List Full) (a : ℕ) → full_vars (let_out fs a) ≡ d
 let_out_vars [] a = refl
 let_out_vars (f ∷ fs) a = at (f.var == a) (let_out_vars fs a)
   where
-    at : (b : Bool) → full_vars (let_out fs a) ≡ drop_var a (full_vars fs) → full_vars (cond b (pushed f fs) (f ∷ let_out fs a)) ≡ cond b (full_vars fs) (f.var ∷ drop_var a (full_vars fs))
+    at : (b : Bool)
+        → full_vars (let_out fs a) ≡ drop_var a (full_vars fs)
+        → full_vars (cond b (pushed f fs) (f ∷ let_out fs a)) ≡ cond b (full_vars fs) (f.var ∷ drop_var a (full_vars fs))
     at true on = pushed_vars f fs
     at false on = ap (λ l. f.var ∷ l) on
 
@@ -235,14 +261,17 @@ pushed_told m f (g ∷ gs) = ap (λ l. l ++ commit_of m f ∷ []) (pushed_told m
 pushed_known : (m : ℕ) (f : Full) (fs : List Full) → moved_up (entry m f.var f.address (Some f.value)) (known m fs) ≡ known m (pushed f fs)
 pushed_known m f [] = refl
 pushed_known m f (g ∷ gs) =
-    ap (λ b. cond b (entry m g.var f.address (Some f.value) ∷ moved_up (entry m g.var g.address (Some g.value)) (known m gs)) (entry m g.var g.address (Some g.value) ∷ moved_up (entry m f.var f.address (Some f.value)) (known m gs))) (eq-eqb m m refl)
+    ap
+    (λ b. cond b (entry m g.var f.address (Some f.value) ∷ moved_up (entry m g.var g.address (Some g.value)) (known m gs))
+    (entry m g.var g.address (Some g.value) ∷ moved_up (entry m f.var f.address (Some f.value)) (known m gs))) (eq-eqb m m refl)
     ∙ ap (λ l. entry m g.var f.address (Some f.value) ∷ l) (pushed_known m g gs)
 
 oldest_known : (m : ℕ) (f : Full) (fs : List Full)
     → oldest_of (entry m f.var f.address (Some f.value)) (known m fs) ≡ entry m (last_or f fs).var (last_or f fs).address (Some (last_or f fs).value)
 oldest_known m f [] = refl
 oldest_known m f (g ∷ gs) =
-    ap (λ b. cond b (oldest_of (entry m g.var g.address (Some g.value)) (known m gs)) (oldest_of (entry m f.var f.address (Some f.value)) (known m gs))) (eq-eqb m m refl)
+    ap (λ b. cond b (oldest_of (entry m g.var g.address (Some g.value)) (known m gs)) (oldest_of (entry m f.var f.address (Some f.value)) (known m gs)))
+    (eq-eqb m m refl)
     ∙ oldest_known m g gs
 
 -- a location with a value is let go
@@ -265,8 +294,13 @@ released_full m a (f ∷ fs) h = at (f.var == a) refl (λ k. released_full m a f
     here k = record {
       out = last_or f fs;
       front = pushed_told m f fs ∙ ap (λ b. commit_of m (last_or f fs) ∷ told m (cond b (pushed f fs) (f ∷ let_out fs a))) (sym k);
-      rest = ap₂ (λ b c. cond (b && c) (moved_up e (known m fs)) (e ∷ without (known m fs) m a)) (eq-eqb m m refl) k ∙ pushed_known m f fs ∙ ap (λ b. known m (cond b (pushed f fs) (f ∷ let_out fs a))) (sym k);
-      commits = ap₂ (λ b c. cond (b && c) (record { mem = m; address = (oldest_of e (known m fs)).address; value = commit_value (oldest_of e (known m fs)).value } ∷ []) (released_commits (known m fs) m a)) (eq-eqb m m refl) k
+      rest =
+          ap₂ (λ b c. cond (b && c) (moved_up e (known m fs)) (e ∷ without (known m fs) m a)) (eq-eqb m m refl) k ∙ pushed_known m f fs
+          ∙ ap (λ b. known m (cond b (pushed f fs) (f ∷ let_out fs a))) (sym k);
+      commits =
+          ap₂
+          (λ b c. cond (b && c) (record { mem = m; address = (oldest_of e (known m fs)).address; value = commit_value (oldest_of e (known m fs)).value } ∷ [])
+          (released_commits (known m fs) m a)) (eq-eqb m m refl) k
           ∙ ap (λ (o : Entry). record { mem = m; address = o.address; value = commit_value o.value } ∷ []) (oldest_known m f fs);
       there = ap₂ (λ b c. (b && c) || has_entry (known m fs) m a) (eq-eqb m m refl) k;
     }
@@ -275,8 +309,14 @@ released_full m a (f ∷ fs) h = at (f.var == a) refl (λ k. released_full m a f
     behind k r = record {
       out = r.out;
       front = ap (λ l. l ++ commit_of m f ∷ []) r.front ∙ ap (λ b. commit_of m r.out ∷ told m (cond b (pushed f fs) (f ∷ let_out fs a))) (sym k);
-      rest = ap₂ (λ b c. cond (b && c) (moved_up e (known m fs)) (e ∷ without (known m fs) m a)) (eq-eqb m m refl) k ∙ ap (λ l. e ∷ l) r.rest ∙ ap (λ b. known m (cond b (pushed f fs) (f ∷ let_out fs a))) (sym k);
-      commits = ap₂ (λ b c. cond (b && c) (record { mem = m; address = (oldest_of e (known m fs)).address; value = commit_value (oldest_of e (known m fs)).value } ∷ []) (released_commits (known m fs) m a)) (eq-eqb m m refl) k ∙ r.commits;
+      rest =
+          ap₂ (λ b c. cond (b && c) (moved_up e (known m fs)) (e ∷ without (known m fs) m a)) (eq-eqb m m refl) k ∙ ap (λ l. e ∷ l) r.rest
+          ∙ ap (λ b. known m (cond b (pushed f fs) (f ∷ let_out fs a))) (sym k);
+      commits =
+          ap₂
+          (λ b c. cond (b && c) (record { mem = m; address = (oldest_of e (known m fs)).address; value = commit_value (oldest_of e (known m fs)).value } ∷ [])
+          (released_commits (known m fs) m a)) (eq-eqb m m refl) k
+          ∙ r.commits;
       there = ap₂ (λ b c. (b && c) || has_entry (known m fs) m a) (eq-eqb m m refl) k ∙ r.there;
     }
 
@@ -300,14 +340,28 @@ released_behind m a (o ∷ os) es h = at (o.var == a) refl (λ k. released_behin
     at : (b : Bool) → (o.var == a) ≡ b
         → (is_among a (open_vars os) ≡ false → (without (waiting m os ++ es) m a ≡ waiting m os ++ without es m a) × (released_commits (waiting m os ++ es) m a ≡ released_commits es m a) × (has_entry (waiting m os ++ es) m a ≡ has_entry es m a))
         → (cond ((m == m) && (o.var == a)) (moved_up e (waiting m os ++ es)) (e ∷ without (waiting m os ++ es) m a) ≡ e ∷ waiting m os ++ without es m a)
-        × (cond ((m == m) && (o.var == a)) (record { mem = m; address = (oldest_of e (waiting m os ++ es)).address; value = commit_value (oldest_of e (waiting m os ++ es)).value } ∷ []) (released_commits (waiting m os ++ es) m a) ≡ released_commits es m a)
+        ×
+        (cond ((m == m) && (o.var == a))
+        (record { mem = m; address = (oldest_of e (waiting m os ++ es)).address; value = commit_value (oldest_of e (waiting m os ++ es)).value } ∷ [])
+        (released_commits (waiting m os ++ es) m a) ≡ released_commits es m a)
         × ((((m == m) && (o.var == a)) || has_entry (waiting m os ++ es) m a) ≡ has_entry es m a)
     at true k on = absurd (cc (sym h ∙ ap (λ b. b || is_among a (open_vars os)) k))
     at false k on =
         let r = on (ap (λ b. b || is_among a (open_vars os)) (sym k) ∙ h) in (
-          ap (λ c. cond ((m == m) && c) (moved_up e (waiting m os ++ es)) (e ∷ without (waiting m os ++ es) m a)) k ∙ ap (λ c. cond c (moved_up e (waiting m os ++ es)) (e ∷ without (waiting m os ++ es) m a)) (off (m == m)) ∙ ap (λ l. e ∷ l) r.0,
-          ap (λ c. cond ((m == m) && c) (record { mem = m; address = (oldest_of e (waiting m os ++ es)).address; value = commit_value (oldest_of e (waiting m os ++ es)).value } ∷ []) (released_commits (waiting m os ++ es) m a)) k
-              ∙ ap (λ c. cond c (record { mem = m; address = (oldest_of e (waiting m os ++ es)).address; value = commit_value (oldest_of e (waiting m os ++ es)).value } ∷ []) (released_commits (waiting m os ++ es) m a)) (off (m == m)) ∙ r.1,
+          ap (λ c. cond ((m == m) && c) (moved_up e (waiting m os ++ es)) (e ∷ without (waiting m os ++ es) m a)) k
+              ∙ ap (λ c. cond c (moved_up e (waiting m os ++ es)) (e ∷ without (waiting m os ++ es) m a)) (off (m == m)) ∙ ap (λ l. e ∷ l) r.0,
+          ap
+              (λ c. cond ((m == m) && c)
+              (record { mem = m; address = (oldest_of e (waiting m os ++ es)).address; value = commit_value (oldest_of e (waiting m os ++ es)).value } ∷ [])
+              (released_commits (waiting m os ++ es) m a)) k
+              ∙ ap
+              (λ c. cond c (record {
+                mem = m;
+                address = (oldest_of e (waiting m os ++ es)).address;
+                value = commit_value
+                    (oldest_of e (waiting m os ++ es)).value;
+              } ∷ []) (released_commits (waiting m os ++ es) m a)) (off (m == m))
+              ∙ r.1,
           ap (λ c. ((m == m) && c) || has_entry (waiting m os ++ es) m a) k ∙ ap (λ c. c || has_entry (waiting m os ++ es) m a) (off (m == m)) ∙ r.2,
         )
 
@@ -333,9 +387,13 @@ no_known m a (f ∷ fs) h = at (f.var == a) refl (λ k. no_known m a fs k)
     off true = refl
     off false = refl
 
-    at : (b : Bool) → (f.var == a) ≡ b → (is_among a (full_vars fs) ≡ false → has_entry (known m fs) m a ≡ false) → (((m == m) && (f.var == a)) || has_entry (known m fs) m a) ≡ false
+    at : (b : Bool)
+        → (f.var == a) ≡ b → (is_among a (full_vars fs) ≡ false → has_entry (known m fs) m a ≡ false)
+        → (((m == m) && (f.var == a)) || has_entry (known m fs) m a) ≡ false
     at true k on = absurd (cc (sym h ∙ ap (λ b. b || is_among a (full_vars fs)) k))
-    at false k on = ap (λ c. ((m == m) && c) || has_entry (known m fs) m a) k ∙ ap (λ c. c || has_entry (known m fs) m a) (off (m == m)) ∙ on (ap (λ b. b || is_among a (full_vars fs)) (sym k) ∙ h)
+    at false k on =
+        ap (λ c. ((m == m) && c) || has_entry (known m fs) m a) k ∙ ap (λ c. c || has_entry (known m fs) m a) (off (m == m))
+        ∙ on (ap (λ b. b || is_among a (full_vars fs)) (sym k) ∙ h)
 
 -- the addresses of pending writes and of writes
 abbrev pub addresses : List Entry → List ℕ

@@ -53,7 +53,9 @@ agree (a ∷ ts) (b ∷ us) =
 agree _ _ = false
 
 abbrev both_agree : Tree.Pipe → List (List ℕ) → List (List Bool) → Bool
-both_agree p image schedule = agree (turns (flat p) (arrays_of image) schedule) (Derived.turns (flat p) (arrays_of image) (hints_of (flat p) (Cycle.first (flat p) (arrays_of image)) schedule) schedule)
+both_agree p image schedule =
+    agree (turns (flat p) (arrays_of image) schedule)
+    (Derived.turns (flat p) (arrays_of image) (hints_of (flat p) (Cycle.first (flat p) (arrays_of image)) schedule) schedule)
 
 -- some replies late, some prompt
 abbrev mixed : List (List Bool)
@@ -66,7 +68,8 @@ all_true (b ∷ bs) = b && all_true bs
 
 trunk_ports : all_true (both_agree one_stage (zeros ∷ []) (idle 6) ∷ both_agree two_stages (zeros ∷ []) (idle 8) ∷ both_agree under_guard (zeros ∷ []) (idle 8)
     ∷ both_agree shared_guard (zeros ∷ []) (idle 8) ∷ both_agree (count_queue 1) (zeros ∷ []) (idle 12) ∷ both_agree (count_bypass 4) (zeros ∷ []) (idle 12)
-    ∷ both_agree (two_writes (variable "n")) (zeros ∷ []) (idle 4) ∷ both_agree (two_writes_apart Bypass 4) (zeros ∷ []) (idle 12) ∷ both_agree (two_writes_apart Queue 2) (zeros ∷ []) (idle 12)
+    ∷ both_agree (two_writes (variable "n")) (zeros ∷ []) (idle 4) ∷ both_agree (two_writes_apart Bypass 4) (zeros ∷ []) (idle 12)
+    ∷ both_agree (two_writes_apart Queue 2) (zeros ∷ []) (idle 12)
     ∷ both_agree (count_rename 2) (zeros ∷ []) (idle 12) ∷ both_agree count_late (zeros ∷ []) (idle 12) ∷ []) ≡ true
 unfolding add slice zext complement
 trunk_ports = refl
@@ -100,7 +103,9 @@ derived_cycles ms [] = []
 derived_cycles ms (t ∷ ts) = derived_cycle ms t ∷ derived_cycles ms ts
 
 abbrev derived_lines : Tree.Pipe → List (List ℕ) → List (List Bool) → List ℕ
-derived_lines p image schedule = lines (columns p.mems) (derived_cycles (columns p.mems) (Derived.turns (flat p) (arrays_of image) (hints_of (flat p) (Cycle.first (flat p) (arrays_of image)) schedule) schedule))
+derived_lines p image schedule =
+    lines (columns p.mems)
+    (derived_cycles (columns p.mems) (Derived.turns (flat p) (arrays_of image) (hints_of (flat p) (Cycle.first (flat p) (arrays_of image)) schedule) schedule))
 
 abbrev prints_alike : Tree.Pipe → List (List ℕ) → List (List Bool) → Bool
 prints_alike p image schedule = bytes_eq (derived_lines p image schedule) (run_lines p image schedule)

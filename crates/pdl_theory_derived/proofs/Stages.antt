@@ -58,7 +58,12 @@ does_joined o (DelayedRead x m a) w v = λ i. record (joined w (work_after o (De
   asks = append_assoc w.asks v.asks (record { mem = m; var = x; address = slice_index v.env a } ∷ []) i;
   ready = and_assoc w.ready v.ready (o.free m) i;
 }
-does_joined o (ReserveWrite m a) w v = λ i. record (joined w (work_after o (ReserveWrite m a) v)) { reserves = append_assoc w.reserves v.reserves (record { mem = m; var = a; address = slice_index v.env a } ∷ []) i }
+does_joined o (ReserveWrite m a) w v =
+    λ i. record
+    (joined w (work_after o (ReserveWrite m a) v)) {
+      reserves = append_assoc w.reserves v.reserves
+          (record { mem = m; var = a; address = slice_index v.env a } ∷ []) i;
+    }
 does_joined o (Block m a) w v =
     λ i. record (joined w (work_after o (Block m a) v))
     { ready = and_assoc w.ready v.ready (if has_entry v.entries m a then o.can_write m (slice_index v.env a) else o.can_read m (slice_index v.env a)) i }

@@ -38,7 +38,9 @@ oldest_once a [] h = refl
 oldest_once a (x ∷ []) h = refl
 oldest_once a (x ∷ y ∷ ys) h = at (x == a) h (oldest_once a (y ∷ ys))
   where
-    at : (b : Bool) → (not b && is_oldest a (y ∷ ys)) ≡ true → (is_oldest a (y ∷ ys) ≡ true → is_among a (but_last (y ∷ ys)) ≡ false) → (b || is_among a (but_last (y ∷ ys))) ≡ false
+    at : (b : Bool)
+        → (not b && is_oldest a (y ∷ ys)) ≡ true → (is_oldest a (y ∷ ys) ≡ true → is_among a (but_last (y ∷ ys)) ≡ false)
+        → (b || is_among a (but_last (y ∷ ys))) ≡ false
     at true k g = absurd (cc k)
     at false k g = g k
 
@@ -48,7 +50,9 @@ front_among x [] h = absurd (cc h)
 front_among x (y ∷ []) h = absurd (cc h)
 front_among x (y ∷ z ∷ zs) h = at (y == x) h (front_among x (z ∷ zs))
   where
-    at : (b : Bool) → (b || is_among x (but_last (z ∷ zs))) ≡ true → (is_among x (but_last (z ∷ zs)) ≡ true → is_among x (z ∷ zs) ≡ true) → (b || is_among x (z ∷ zs)) ≡ true
+    at : (b : Bool)
+        → (b || is_among x (but_last (z ∷ zs))) ≡ true → (is_among x (but_last (z ∷ zs)) ≡ true → is_among x (z ∷ zs) ≡ true)
+        → (b || is_among x (z ∷ zs)) ≡ true
     at true k g = refl
     at false k g = g k
 
@@ -71,7 +75,9 @@ among_drop : (x a : ℕ) (xs : List ℕ) → is_among x xs ≡ false → is_amon
 among_drop x a [] h = refl
 among_drop x a (y ∷ ys) h = at (y == a) (y == x) h (among_drop x a ys)
   where
-    at : (b c : Bool) → (c || is_among x ys) ≡ false → (is_among x ys ≡ false → is_among x (drop_var a ys) ≡ false) → is_among x (cond b ys (y ∷ drop_var a ys)) ≡ false
+    at : (b c : Bool)
+        → (c || is_among x ys) ≡ false → (is_among x ys ≡ false → is_among x (drop_var a ys) ≡ false)
+        → is_among x (cond b ys (y ∷ drop_var a ys)) ≡ false
     at b true k g = absurd (cc k)
     at true false k g = k
     at false false k g = keep (y == x) refl
@@ -112,7 +118,9 @@ pub drop_length : (a : ℕ) (xs : List ℕ) → is_among a xs ≡ true → lengt
 drop_length a [] h = absurd (cc h)
 drop_length a (x ∷ xs) h = at (x == a) h (drop_length a xs)
   where
-    at : (b : Bool) → (b || is_among a xs) ≡ true → (is_among a xs ≡ true → length (drop_var a xs) + 1 ≡ length xs) → length (cond b xs (x ∷ drop_var a xs)) + 1 ≡ length (x ∷ xs)
+    at : (b : Bool)
+        → (b || is_among a xs) ≡ true → (is_among a xs ≡ true → length (drop_var a xs) + 1 ≡ length xs)
+        → length (cond b xs (x ∷ drop_var a xs)) + 1 ≡ length (x ∷ xs)
     at true k f = omega arith
     at false k f = let e = f k in omega arith
 
@@ -132,7 +140,9 @@ total_op m ph (ReserveWrite n a) h = at (n == m)
     at false = plus_none _
 total_op m ph (Release n a) h = at (n == m) (is_among a ph.full) refl
   where
-    at : (b c : Bool) → is_among a ph.full ≡ c → total (cond b (cond c (record { unwritten = ph.unwritten; full = drop_var a ph.full; gone = a ∷ ph.gone }) ph) ph) ≡ total ph + 0
+    at : (b c : Bool)
+        → is_among a ph.full ≡ c
+        → total (cond b (cond c (record { unwritten = ph.unwritten; full = drop_var a ph.full; gone = a ∷ ph.gone }) ph) ph) ≡ total ph + 0
     at true true e = let l = drop_length a ph.full e in omega arith
     at true false e = plus_none _
     at false c e = plus_none _
@@ -141,8 +151,12 @@ total_op m ph _ h = plus_none _
 -- as many locations are reserved as there are reservations
 pub total_all : (m : ℕ) (ph : Phase) (xs : List Stmt) → phases_ok m ph xs ≡ true → total (phase_all m ph xs) ≡ total ph + write_reserves m xs
 total_all m ph [] h = plus_none _
-total_all m ph (x ∷ xs) h = total_all m (next_phase m ph x.op) xs (and_right (no_guards x.guards && phase_ok m ph x.op) _ h) ∙ at (is_write_reserve m x.op) (total_op m ph x.op (and_right (no_guards x.guards) _ (and_left (no_guards x.guards && phase_ok m ph x.op) _ h)))
+total_all m ph (x ∷ xs) h =
+    total_all m (next_phase m ph x.op) xs (and_right (no_guards x.guards && phase_ok m ph x.op) _ h)
+    ∙ at (is_write_reserve m x.op) (total_op m ph x.op (and_right (no_guards x.guards) _ (and_left (no_guards x.guards && phase_ok m ph x.op) _ h)))
   where
-    at : (b : Bool) → total (next_phase m ph x.op) ≡ total ph + cond b 1 0 → total (next_phase m ph x.op) + write_reserves m xs ≡ total ph + cond b (suc (write_reserves m xs)) (write_reserves m xs)
+    at : (b : Bool)
+        → total (next_phase m ph x.op) ≡ total ph + cond b 1 0
+        → total (next_phase m ph x.op) + write_reserves m xs ≡ total ph + cond b (suc (write_reserves m xs)) (write_reserves m xs)
     at true e = omega arith
     at false e = omega arith

@@ -75,7 +75,8 @@ module _ (p : Pipe) (br : Branches p) where
   came c s env low h = came_way p c s (next_of p s env) (br.way s env low) h
 
   -- of one branch: it was entered before, or is entered from its fork
-  pub came_from : (x : Branch) (c : List Branch) (s : ℕ) (env : List ℕ) → s < length p.stages → Within p (x ∷ c) (next_of p s env) → (x.fork ≡ s) ⊎ Within p (x ∷ c) s
+  pub came_from : (x : Branch) (c : List Branch) (s : ℕ) (env : List ℕ)
+      → s < length p.stages → Within p (x ∷ c) (next_of p s env) → (x.fork ≡ s) ⊎ Within p (x ∷ c) s
   came_from x c s env low h = came_from_way p x c s (next_of p s env) (br.way s env low) h
 
   -- the next stage on a path is one that the path comes to
@@ -87,17 +88,22 @@ module _ (p : Pipe) (br : Branches p) where
       at (inr (inl e)) =
           ap (comes_by p env) e.1
           ∙ ap₂ (λ a b. a && b)
-          (br.side e.0 (stage_at p s).branches env (subst (λ n. n < length p.stages) (sym e.2) low) (subst (λ n. Home p (e.0 ∷ (stage_at p s).branches) (next_of p n env)) (sym e.2) e.1))
+          (br.side e.0 (stage_at p s).branches env (subst (λ n. n < length p.stages) (sym e.2) low)
+          (subst (λ n. Home p (e.0 ∷ (stage_at p s).branches) (next_of p n env)) (sym e.2) e.1))
           h
       at (inr (inr e)) = and_right (goes_by p e.0 env) _ (sym (ap (comes_by p env) e.1) ∙ h)
 
 -- a path's values that lead to the same sides come to the same stages
-pub comes_same : (p : Pipe) (s : ℕ) (env env' : List ℕ) → ((x : Branch) (c : List Branch) → Within p (x ∷ c) s → goes_by p x env ≡ goes_by p x env') → (c : List Branch) → Within p c s → comes_by p env c ≡ comes_by p env' c
+pub comes_same : (p : Pipe) (s : ℕ) (env env' : List ℕ)
+    → ((x : Branch) (c : List Branch) → Within p (x ∷ c) s → goes_by p x env ≡ goes_by p x env') → (c : List Branch) → Within p c s
+    → comes_by p env c ≡ comes_by p env' c
 comes_same p s env env' f [] h = refl
 comes_same p s env env' f (x ∷ c) h = ap₂ (λ a b. a && b) (f x c h) (comes_same p s env env' f c (within_more p x c s h))
 
 -- a path's values that lead to the same sides of the forks around a stage come to it alike
-pub visits_same : (p : Pipe) (s : ℕ) (env env' : List ℕ) → ((x : Branch) (c : List Branch) → Within p (x ∷ c) s → goes_by p x env ≡ goes_by p x env') → visits_stage p env s ≡ visits_stage p env' s
+pub visits_same : (p : Pipe) (s : ℕ) (env env' : List ℕ)
+    → ((x : Branch) (c : List Branch) → Within p (x ∷ c) s → goes_by p x env ≡ goes_by p x env')
+    → visits_stage p env s ≡ visits_stage p env' s
 visits_same p s env env' f = comes_same p s env env' f (stage_at p s).branches (within_home p _ s refl)
 
 -- a path that comes by some branches comes by those around them
@@ -151,7 +157,9 @@ pub sides_outside : (f : ℕ) (bs : List Branch) → list_any (λ b. b.fork == f
 sides_outside f [] h = refl
 sides_outside f (b ∷ bs) h = at (b.fork == f) h (sides_outside f bs)
   where
-    at : (t : Bool) → (t || list_any (λ b. b.fork == f) bs) ≡ false → (list_any (λ b. b.fork == f) bs ≡ false → sides_of f bs ≡ []) → ((if t then b.first ∷ [] else []) ++ sides_of f bs) ≡ []
+    at : (t : Bool)
+        → (t || list_any (λ b. b.fork == f) bs) ≡ false → (list_any (λ b. b.fork == f) bs ≡ false → sides_of f bs ≡ [])
+        → ((if t then b.first ∷ [] else []) ++ sides_of f bs) ≡ []
     at true k next = absurd (cc k)
     at false k next = next k
 
@@ -162,7 +170,9 @@ sides_other f x c n = ap (λ t. (if t then x.first ∷ [] else []) ++ sides_of f
 -- of two lists of branches those of a fork are those of the one and then those of the other
 pub sides_append : (f : ℕ) (xs ys : List Branch) → sides_of f (xs ++ ys) ≡ sides_of f xs ++ sides_of f ys
 sides_append f [] ys = refl
-sides_append f (x ∷ xs) ys = ap (λ l. (if x.fork == f then x.first ∷ [] else []) ++ l) (sides_append f xs ys) ∙ sym (append_assoc (if x.fork == f then x.first ∷ [] else []) (sides_of f xs) (sides_of f ys))
+sides_append f (x ∷ xs) ys =
+    ap (λ l. (if x.fork == f then x.first ∷ [] else []) ++ l) (sides_append f xs ys)
+    ∙ sym (append_assoc (if x.fork == f then x.first ∷ [] else []) (sides_of f xs) (sides_of f ys))
 
 module _ (p : Pipe) (below : (x : Branch) (c : List Branch) (s : ℕ) → Within p (x ∷ c) s → Home p c x.fork × (x.fork < s)) where
   -- no stage is inside its own fork
@@ -176,7 +186,9 @@ module _ (p : Pipe) (below : (x : Branch) (c : List Branch) (s : ℕ) → Within
   pub sides_inside : (f : ℕ) (x : Branch) (c : List Branch) (s : ℕ) → Within p (x ∷ c) s → x.fork ≡ f → sides_of f (stage_at p s).branches ≡ x.first ∷ []
   sides_inside f x c s h e =
       ap (sides_of f) h.1 ∙ sides_append f h.0 (x ∷ c)
-      ∙ ap₂ (λ a b. a ++ b) (none h.0 [] h.1) (ap₂ (λ t l. (if t then x.first ∷ [] else []) ++ l) (eq-eqb _ _ e) (sides_outside f c (subst (λ n. list_any (λ (b : Branch). b.fork == n) c ≡ false) e (outside_branches x c s h))))
+      ∙ ap₂ (λ a b. a ++ b) (none h.0 [] h.1)
+      (ap₂ (λ t l. (if t then x.first ∷ [] else []) ++ l) (eq-eqb _ _ e)
+      (sides_outside f c (subst (λ n. list_any (λ (b : Branch). b.fork == n) c ≡ false) e (outside_branches x c s h))))
     where
       none : (inner before : List Branch) → (stage_at p s).branches ≡ before ++ (inner ++ x ∷ c) → sides_of f inner ≡ []
       none [] before i = refl

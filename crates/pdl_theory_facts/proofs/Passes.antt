@@ -69,6 +69,7 @@ module _ (p : Pipe) (h : Parts p) where
       (let i : length p.releases_at ≤ length p.mems = leb-true _ _
       (and_left (nat_le (length p.releases_at) (length p.mems)) _ (and_right (nat_le (length p.reserves_at) (length p.mems)) _ locks_ok)) in
       omega arith))
+
   lock_rest : (m : ℕ) → m < length p.mems
       → (all_at (is_reserve m) (reserve_stage p m) p.stmts
       && (all_at (is_release m) (commit_stage p m) p.stmts
@@ -133,7 +134,9 @@ module _ (p : Pipe) (h : Parts p) where
         && (list_all (λ x. knows_memory (length p.mems) x.op) xs
         && (reads_ok p no_scan xs
         && (all_below (mem_passes p xs) (length p.mems)
-        && (makings_ok (verify_stage p.stmts) Unmade xs && (is_made (making_all Unmade xs) && (checks_apart None xs && all_sure (verify_stage p.stmts) false no_scan xs)))))))
+        &&
+        (makings_ok (verify_stage p.stmts) Unmade xs
+        && (is_made (making_all Unmade xs) && (checks_apart None xs && all_sure (verify_stage p.stmts) false no_scan xs)))))))
         ≡ true
     after_order = and_right (in_text_order 0 xs) _ ok
 
@@ -141,7 +144,9 @@ module _ (p : Pipe) (h : Parts p) where
         (list_all (λ x. knows_memory (length p.mems) x.op) xs
         && (reads_ok p no_scan xs
         && (all_below (mem_passes p xs) (length p.mems)
-        && (makings_ok (verify_stage p.stmts) Unmade xs && (is_made (making_all Unmade xs) && (checks_apart None xs && all_sure (verify_stage p.stmts) false no_scan xs))))))
+        &&
+        (makings_ok (verify_stage p.stmts) Unmade xs
+        && (is_made (making_all Unmade xs) && (checks_apart None xs && all_sure (verify_stage p.stmts) false no_scan xs))))))
         ≡ true
     after_stages = and_right (list_all (λ x. nat_lt x.stage (length p.stages)) xs) _ after_order
 
@@ -153,7 +158,9 @@ module _ (p : Pipe) (h : Parts p) where
 
     after_reads :
         (all_below (mem_passes p xs) (length p.mems)
-        && (makings_ok (verify_stage p.stmts) Unmade xs && (is_made (making_all Unmade xs) && (checks_apart None xs && all_sure (verify_stage p.stmts) false no_scan xs))))
+        &&
+        (makings_ok (verify_stage p.stmts) Unmade xs
+        && (is_made (making_all Unmade xs) && (checks_apart None xs && all_sure (verify_stage p.stmts) false no_scan xs))))
         ≡ true
     after_reads = and_right (reads_ok p no_scan xs) _ (and_right (list_all (λ x. knows_memory (length p.mems) x.op) xs) _ after_stages)
 
@@ -179,7 +186,13 @@ module _ (p : Pipe) (h : Parts p) where
         (λ past. ap is_over (stays_fresh p m (length p.mems) no_scan (onpath path p.stmts) path_known path_reads past).1)
 
     -- a memory's tests after the phases
-    after_over : (m : ℕ) → m < length p.mems → (has_room (mem_at p m).lock (write_reserves m xs) 0 && (all_at (is_reserve m) (reserve_stage p m) xs && (all_at (is_release m) (commit_stage p m) xs && (not (is_plain (mem_at p m).lock) || none_of (is_release m) xs)))) ≡ true
+    after_over : (m : ℕ)
+        → m < length p.mems
+        →
+        (has_room (mem_at p m).lock (write_reserves m xs) 0
+        &&
+        (all_at (is_reserve m) (reserve_stage p m) xs
+        && (all_at (is_release m) (commit_stage p m) xs && (not (is_plain (mem_at p m).lock) || none_of (is_release m) xs)))) ≡ true
     after_over m low = and_right (is_over (phase_all m Fresh xs)) _ (and_right (phases_ok m Fresh xs) _ (mem_ok m low))
 
     path_locks : (m : ℕ) → has_room (mem_at p m).lock (write_reserves m (onpath path p.stmts)) 0 ≡ true
@@ -187,6 +200,7 @@ module _ (p : Pipe) (h : Parts p) where
         by_bound (length p.mems) m (has_room (mem_at p m).lock (write_reserves m (onpath path p.stmts)) 0 ≡ true)
         (λ low. and_left (has_room (mem_at p m).lock (write_reserves m xs) 0) _ (after_over m low))
         (λ past. ap (λ (x : Mem). has_room x.lock (write_reserves m (onpath path p.stmts)) 0) (past_end p.mems m plain_mem past))
+
     mem_rest : (m : ℕ) → m < length p.mems
         → (all_at (is_reserve m) (reserve_stage p m) xs
         && (all_at (is_release m) (commit_stage p m) xs && (not (is_plain (mem_at p m).lock) || none_of (is_release m) xs)))
@@ -225,7 +239,8 @@ module _ (p : Pipe) (h : Parts p) where
 
     -- each release on a path is certain: after a barrier, in V or later, or of what was not reserved for writing
     pub path_sure : all_sure (verify_stage p.stmts) false no_scan (onpath path p.stmts) ≡ true
-    path_sure = and_right (checks_apart None xs) _ (and_right (is_made (making_all Unmade xs)) _ (and_right (makings_ok (verify_stage p.stmts) Unmade xs) _ after_mems))
+    path_sure =
+        and_right (checks_apart None xs) _ (and_right (is_made (making_all Unmade xs)) _ (and_right (makings_ok (verify_stage p.stmts) Unmade xs) _ after_mems))
 
     -- a check on a path stands in another stage than the guess
     pub path_apart : checks_apart None (onpath path p.stmts) ≡ true

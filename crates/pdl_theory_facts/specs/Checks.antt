@@ -89,7 +89,9 @@ path_passes p xs =
     && (list_all (λ x. knows_memory (length p.mems) x.op) xs
     && (reads_ok p no_scan xs
     && (all_below (mem_passes p xs) (length p.mems)
-    && (makings_ok (verify_stage p.stmts) Unmade xs && (is_made (making_all Unmade xs) && (checks_apart None xs && all_sure (verify_stage p.stmts) false no_scan xs)))))))
+    &&
+    (makings_ok (verify_stage p.stmts) Unmade xs
+    && (is_made (making_all Unmade xs) && (checks_apart None xs && all_sure (verify_stage p.stmts) false no_scan xs)))))))
 
 -- THE TEXT
 

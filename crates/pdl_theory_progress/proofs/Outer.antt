@@ -10,7 +10,8 @@ use Rattle.pdl_theory_progress.proofs.TestedPaths.{or_more}
 use Rattle.pdl_word.proofs.Bools.{by_or}
 
 same_is : (b c : Branch) → same_branch b c ≡ true → b ≡ c
-same_is b c h = λ i. record { fork = eqb-true b.fork c.fork (and_left (b.fork == c.fork) _ h) i; first = alike b.first c.first (and_right (b.fork == c.fork) _ h) i }
+same_is b c h =
+    λ i. record { fork = eqb-true b.fork c.fork (and_left (b.fork == c.fork) _ h) i; first = alike b.first c.first (and_right (b.fork == c.fork) _ h) i }
   where
     alike : (x y : Bool) → (if x then y else not y) ≡ true → x ≡ y
     alike true y k = sym k

@@ -253,7 +253,8 @@ module _ (p : Pipe) (acc : Sound p) where
           let low : sp.stage < length p.stages = low_end p (course p acc) sp.stage h.0.under in
           subst (λ ts. (lead ts < length p.stages) × (left (turn_path image n) (lead ts) ≤ depth p)) (sym e) (
             low,
-            reached_left (turn_path image n) sp.stage low (on_reached p acc (with_guess (after_turns p image n).arrays sp.hint) (after_turns p image n).next sp.stage h.0.on),
+            reached_left (turn_path image n) sp.stage low
+                (on_reached p acc (with_guess (after_turns p image n).arrays sp.hint) (after_turns p image n).next sp.stage h.0.on),
           )
 
   -- a cycle that no thread ends in takes the oldest one stage further, unless it is a wait
@@ -298,18 +299,21 @@ module _ (p : Pipe) (acc : Sound p) where
               first_false true b k = absurd (cc k)
               first_false false b k = refl
 
-          moves_on : is_wait p st bits ≡ false → (act p st bits [] (seat p (with_guess (after_turns p image n).arrays sp.hint) (after_turns p image n).next sp)).moves ≡ true
+          moves_on : is_wait p st bits ≡ false
+              → (act p st bits [] (seat p (with_guess (after_turns p image n).arrays sp.hint) (after_turns p image n).next sp)).moves ≡ true
           moves_on k = subst (λ ts. oldest_moves (acts p st bits [] ts) ≡ true) e (oldest_of p (course p acc) image n past st bits r k)
 
           by : (b : Bool) → (act p st bits [] (seat p (with_guess (after_turns p image n).arrays sp.hint) (after_turns p image n).next sp)).moves ≡ b
               → (if is_wait p st bits then 0 else 1) + left (turn_path image n)
-              (lead (survivors p (st.hints 0) (act p st bits [] (seat p (with_guess (after_turns p image n).arrays sp.hint) (after_turns p image n).next sp) ∷ rest))) ≤ left
+              (lead (survivors p (st.hints 0)
+              (act p st bits [] (seat p (with_guess (after_turns p image n).arrays sp.hint) (after_turns p image n).next sp) ∷ rest))) ≤ left
               (turn_path image n) sp.stage
           by false f =
               subst
               (λ c. (if is_wait p st bits then 0 else 1) + left (turn_path image n)
               (lead
-              (cond c (moved_to (exit_of p a) a.now.hint a.work ++ (born_threads p (st.hints 0) a.work.child ++ (if a.work.fails then [] else survivors p (st.hints 0) rest)))
+              (cond c (moved_to (exit_of p a) a.now.hint a.work
+              ++ (born_threads p (st.hints 0) a.work.child ++ (if a.work.fails then [] else survivors p (st.hints 0) rest)))
               (a.now ∷ survivors p (st.hints 0) rest))) ≤ left
               (turn_path image n) sp.stage)
               (sym f) (waits (is_wait p st bits) refl)
@@ -324,13 +328,15 @@ module _ (p : Pipe) (acc : Sound p) where
               subst
               (λ c. (if is_wait p st bits then 0 else 1) + left (turn_path image n)
               (lead
-              (cond c (moved_to (exit_of p a) a.now.hint a.work ++ (born_threads p (st.hints 0) a.work.child ++ (if a.work.fails then [] else survivors p (st.hints 0) rest)))
+              (cond c (moved_to (exit_of p a) a.now.hint a.work
+              ++ (born_threads p (st.hints 0) a.work.child ++ (if a.work.fails then [] else survivors p (st.hints 0) rest)))
               (a.now ∷ survivors p (st.hints 0) rest))) ≤ left
               (turn_path image n) sp.stage)
               (sym f)
               (subst
               (λ o. (if is_wait p st bits then 0 else 1) + left (turn_path image n)
-              (lead (moved_to o a.now.hint a.work ++ (born_threads p (st.hints 0) a.work.child ++ (if a.work.fails then [] else survivors p (st.hints 0) rest)))) ≤ left
+              (lead (moved_to o a.now.hint a.work
+              ++ (born_threads p (st.hints 0) a.work.child ++ (if a.work.fails then [] else survivors p (st.hints 0) rest)))) ≤ left
               (turn_path image n) sp.stage)
               (sym exit)
               (less (is_wait p st bits)))

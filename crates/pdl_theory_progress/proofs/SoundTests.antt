@@ -40,9 +40,13 @@ next_in : (p : Pipe) (test : ℕ → Bool) (s : ℕ) (env : List ℕ) → list_a
 next_in p test s env h = at (stage_at p s).next refl
   where
     at : (n : Next) → (stage_at p s).next ≡ n → test (next_of p s env) ≡ true
-    at Ends e = ap (λ n. test (stage_or (length p.stages) (goes_to n env))) e ∙ and_left _ _ (subst (λ n. list_all test (nexts_of (length p.stages) n) ≡ true) e h)
-    at (Goes to) e = ap (λ n. test (stage_or (length p.stages) (goes_to n env))) e ∙ and_left _ _ (subst (λ n. list_all test (nexts_of (length p.stages) n) ≡ true) e h)
-    at (Forks x a b) e = ap (λ n. test (stage_or (length p.stages) (goes_to n env))) e ∙ pick (slice_index env x == 1) (subst (λ n. list_all test (nexts_of (length p.stages) n) ≡ true) e h)
+    at Ends e =
+        ap (λ n. test (stage_or (length p.stages) (goes_to n env))) e ∙ and_left _ _ (subst (λ n. list_all test (nexts_of (length p.stages) n) ≡ true) e h)
+    at (Goes to) e =
+        ap (λ n. test (stage_or (length p.stages) (goes_to n env))) e ∙ and_left _ _ (subst (λ n. list_all test (nexts_of (length p.stages) n) ≡ true) e h)
+    at (Forks x a b) e =
+        ap (λ n. test (stage_or (length p.stages) (goes_to n env))) e
+        ∙ pick (slice_index env x == 1) (subst (λ n. list_all test (nexts_of (length p.stages) n) ≡ true) e h)
       where
         pick : (c : Bool) → list_all test (a ∷ b ∷ []) ≡ true → test (if c then a else b) ≡ true
         pick true k = and_left (test a) _ k
@@ -79,7 +83,9 @@ module _ (p : Pipe) (h : passes_tests p ≡ true) where
   trunk_past r low = ap (λ (x : Stage). x.branches) (past_stage p r low)
 
   next_ok : (s : ℕ) (env : List ℕ) → s < length p.stages → next_passes p s (next_of p s env) ≡ true
-  next_ok s env low = next_in p (next_passes p s) s env (and_left (list_all (next_passes p s) (nexts p s)) _ (and_right (leads_in (length p.stages) (stage_at p s).next) _ (stage_ok s low)))
+  next_ok s env low =
+      next_in p (next_passes p s) s env
+      (and_left (list_all (next_passes p s) (nexts p s)) _ (and_right (leads_in (length p.stages) (stage_at p s).next) _ (stage_ok s low)))
 
   up : (s : ℕ) (env : List ℕ) → s < length p.stages → s < next_of p s env
   up s env low = ltb-true _ _ (and_left (nat_lt s (next_of p s env)) _ (next_ok s env low))
@@ -88,7 +94,9 @@ module _ (p : Pipe) (h : passes_tests p ≡ true) where
       → (nat_le (next_of p s env) (length p.stages)
       && (all_outer (λ c. all_below (λ r. not (is_home p c r) || not (nat_lt s r && nat_lt r (next_of p s env))) (length p.stages)) (stage_at p s).branches
       && ((not (next_of p s env == length p.stages) || (is_trunk p s && (suc s == length p.stages)))
-      && (all_below (λ b. not (is_within p (stage_at p (next_of p s env)).branches b) || (is_passed p (stage_at p (next_of p s env)).branches s b || is_in_merge p (stage_at p (next_of p s env)).merges b)) (next_of p s env)
+      &&
+      (all_below (λ b. not (is_within p (stage_at p (next_of p s env)).branches b) ||
+      (is_passed p (stage_at p (next_of p s env)).branches s b || is_in_merge p (stage_at p (next_of p s env)).merges b)) (next_of p s env)
       && is_way p s (next_of p s env))))) ≡ true
   after_up s env low = and_right (nat_lt s (next_of p s env)) _ (next_ok s env low)
 
@@ -98,26 +106,37 @@ module _ (p : Pipe) (h : passes_tests p ≡ true) where
   after_inside : (s : ℕ) (env : List ℕ) → s < length p.stages
       → (all_outer (λ c. all_below (λ r. not (is_home p c r) || not (nat_lt s r && nat_lt r (next_of p s env))) (length p.stages)) (stage_at p s).branches
       && ((not (next_of p s env == length p.stages) || (is_trunk p s && (suc s == length p.stages)))
-      && (all_below (λ b. not (is_within p (stage_at p (next_of p s env)).branches b) || (is_passed p (stage_at p (next_of p s env)).branches s b || is_in_merge p (stage_at p (next_of p s env)).merges b)) (next_of p s env)
+      &&
+      (all_below (λ b. not (is_within p (stage_at p (next_of p s env)).branches b) ||
+      (is_passed p (stage_at p (next_of p s env)).branches s b || is_in_merge p (stage_at p (next_of p s env)).merges b)) (next_of p s env)
       && is_way p s (next_of p s env)))) ≡ true
   after_inside s env low = and_right (nat_le (next_of p s env) (length p.stages)) _ (after_up s env low)
 
   jump : (c : List Branch) (s : ℕ) (env : List ℕ) (r : ℕ) → s < length p.stages → Within p c s → Home p c r → s < r → r ≤ next_of p s env → r ≡ next_of p s env
-  jump c s env r low here t i j = by_bool (nat_lt r (next_of p s env)) (r ≡ next_of p s env) (λ k. absurd (passed k)) (λ k. let x : next_of p s env ≤ r = ltb-false _ _ k in omega arith)
+  jump c s env r low here t i j =
+      by_bool (nat_lt r (next_of p s env)) (r ≡ next_of p s env) (λ k. absurd (passed k)) (λ k. let x : next_of p s env ≤ r = ltb-false _ _ k in omega arith)
     where
       passed : nat_lt r (next_of p s env) ≡ true → ⊥
       passed k =
           let x : r < next_of p s env = ltb-true _ _ k in
           let y : next_of p s env ≤ length p.stages = inside s env low in
-          let all_c = at_outer (λ c. all_below (λ r. not (is_home p c r) || not (nat_lt s r && nat_lt r (next_of p s env))) (length p.stages)) here.0 c (stage_at p s).branches here.1 (and_left (all_outer (λ c. all_below (λ r. not (is_home p c r) || not (nat_lt s r && nat_lt r (next_of p s env))) (length p.stages)) (stage_at p s).branches) _ (after_inside s env low)) in
+          let all_c = at_outer (λ c. all_below (λ r. not (is_home p c r) || not (nat_lt s r && nat_lt r (next_of p s env))) (length p.stages)) here.0 c
+          (stage_at p s).branches here.1
+          (and_left (all_outer (λ c. all_below (λ r. not (is_home p c r) || not (nat_lt s r && nat_lt r (next_of p s env))) (length p.stages))
+          (stage_at p s).branches) _ (after_inside s env low)) in
           let z = below_at (λ r. not (is_home p c r) || not (nat_lt s r && nat_lt r (next_of p s env))) (length p.stages) r all_c (omega arith) in
           clash (sym (ap₂ (λ a b. not a || not (b && nat_lt r (next_of p s env))) (is_home_of p c r t) (lt-ltb _ _ i) ∙ ap not k) ∙ z)
 
   after_jump : (s : ℕ) (env : List ℕ) → s < length p.stages
       → ((not (next_of p s env == length p.stages) || (is_trunk p s && (suc s == length p.stages)))
-      && (all_below (λ b. not (is_within p (stage_at p (next_of p s env)).branches b) || (is_passed p (stage_at p (next_of p s env)).branches s b || is_in_merge p (stage_at p (next_of p s env)).merges b)) (next_of p s env)
+      &&
+      (all_below (λ b. not (is_within p (stage_at p (next_of p s env)).branches b) ||
+      (is_passed p (stage_at p (next_of p s env)).branches s b || is_in_merge p (stage_at p (next_of p s env)).merges b)) (next_of p s env)
       && is_way p s (next_of p s env))) ≡ true
-  after_jump s env low = and_right (all_outer (λ c. all_below (λ r. not (is_home p c r) || not (nat_lt s r && nat_lt r (next_of p s env))) (length p.stages)) (stage_at p s).branches) _ (after_inside s env low)
+  after_jump s env low =
+      and_right
+      (all_outer (λ c. all_below (λ r. not (is_home p c r) || not (nat_lt s r && nat_lt r (next_of p s env))) (length p.stages)) (stage_at p s).branches) _
+      (after_inside s env low)
 
   last : (s : ℕ) (env : List ℕ) → s < length p.stages → next_of p s env ≡ length p.stages → Trunk p s × (suc s ≡ length p.stages)
   last s env low e =
@@ -125,7 +144,9 @@ module _ (p : Pipe) (h : passes_tests p ≡ true) where
       (trunk_is p s (and_left (is_trunk p s) _ k), eqb-true _ _ (and_right (is_trunk p s) _ k))
 
   after_last : (s : ℕ) (env : List ℕ) → s < length p.stages
-      → (all_below (λ b. not (is_within p (stage_at p (next_of p s env)).branches b) || (is_passed p (stage_at p (next_of p s env)).branches s b || is_in_merge p (stage_at p (next_of p s env)).merges b)) (next_of p s env)
+      →
+      (all_below (λ b. not (is_within p (stage_at p (next_of p s env)).branches b) ||
+      (is_passed p (stage_at p (next_of p s env)).branches s b || is_in_merge p (stage_at p (next_of p s env)).merges b)) (next_of p s env)
       && is_way p s (next_of p s env)) ≡ true
   after_last s env low = and_right (not (next_of p s env == length p.stages) || (is_trunk p s && (suc s == length p.stages))) _ (after_jump s env low)
 
@@ -134,12 +155,16 @@ module _ (p : Pipe) (h : passes_tests p ≡ true) where
       → (f : ℕ) × ((stage_at p (next_of p s env)).merges ≡ Some f) × (is_inside p f b ≡ true)
   between c s env b low here t i bel there j =
       let k = where_true (is_within p (stage_at p (next_of p s env)).branches b) _ (below_at (λ b. not (is_within p (stage_at p (next_of p s env)).branches b) || (is_passed p (stage_at p (next_of p s env)).branches s b || is_in_merge p (stage_at p (next_of p s env)).merges b)) (next_of p s env) b
-      (and_left (all_below (λ b. not (is_within p (stage_at p (next_of p s env)).branches b) || (is_passed p (stage_at p (next_of p s env)).branches s b || is_in_merge p (stage_at p (next_of p s env)).merges b)) (next_of p s env)) _ (after_last s env low)) j) (is_within_of p (stage_at p (next_of p s env)).branches b (subst (λ l. Within p l b) (sym t) there)) in
+      (and_left (all_below
+      (λ b. not (is_within p (stage_at p (next_of p s env)).branches b) ||
+      (is_passed p (stage_at p (next_of p s env)).branches s b || is_in_merge p
+      (stage_at p (next_of p s env)).merges b)) (next_of p s env)) _ (after_last s env low)) j) (is_within_of p (stage_at p (next_of p s env)).branches b (subst (λ l. Within p l b) (sym t) there)) in
       by_or (is_passed p (stage_at p (next_of p s env)).branches s b) _ _ k
       (λ q. absurd (any_at (λ r. is_home p (stage_at p (next_of p s env)).branches r && nat_le b r) (suc s) ⊥ q
       (λ r r_low both.
       let x : b ≤ r = leb-true _ _ (and_right (is_home p (stage_at p (next_of p s env)).branches r) _ both) in
-      let y : r < b = bel r (home_is p (stage_at p (next_of p s env)).branches r (and_left (is_home p (stage_at p (next_of p s env)).branches r) _ both) ∙ t) (omega arith) in
+      let y : r < b = bel r (home_is p (stage_at p (next_of p s env)).branches r (and_left (is_home p (stage_at p (next_of p s env)).branches r) _ both) ∙ t)
+      (omega arith) in
       omega arith)))
       (λ q. merged (stage_at p (next_of p s env)).merges refl q)
     where
@@ -163,13 +188,20 @@ module _ (p : Pipe) (h : passes_tests p ≡ true) where
 
       at : (n : Next) → (stage_at p s).next ≡ n → leads_in (length p.stages) (stage_at p s).next ≡ true
           → goes_to (stage_at p s).next env ≡ (if nat_lt (next_of p s env) (length p.stages) then Some (next_of p s env) else None)
-      at Ends e i = ap (λ n. goes_to n env) e ∙ sym (ap (λ b. if b then Some (next_of p s env) else None) (not-true (nat_lt (next_of p s env) (length p.stages)) (not_low (nat_lt (next_of p s env) (length p.stages)) refl)))
+      at Ends e i =
+          ap (λ n. goes_to n env) e
+          ∙ sym
+          (ap (λ b. if b then Some (next_of p s env) else None)
+          (not-true (nat_lt (next_of p s env) (length p.stages)) (not_low (nat_lt (next_of p s env) (length p.stages)) refl)))
         where
           not_low : (b : Bool) → nat_lt (next_of p s env) (length p.stages) ≡ b → not (nat_lt (next_of p s env) (length p.stages)) ≡ true
-          not_low true k = absurd (let x : next_of p s env < length p.stages = ltb-true _ _ k in let y : next_of p s env ≡ length p.stages = same Ends e in omega arith)
+          not_low true k =
+              absurd (let x : next_of p s env < length p.stages = ltb-true _ _ k in let y : next_of p s env ≡ length p.stages = same Ends e in omega arith)
           not_low false k = ap not k
       at (Goes to) e i = some (Goes to) to e refl (ltb-true _ _ (subst (λ n. leads_in (length p.stages) n ≡ true) e i))
-      at (Forks x a b) e i = some (Forks x a b) (if slice_index env x == 1 then a else b) e refl (pick (slice_index env x == 1) (subst (λ n. leads_in (length p.stages) n ≡ true) e i))
+      at (Forks x a b) e i =
+          some (Forks x a b) (if slice_index env x == 1 then a else b) e refl
+          (pick (slice_index env x == 1) (subst (λ n. leads_in (length p.stages) n ≡ true) e i))
         where
           pick : (c : Bool) → (nat_lt a (length p.stages) && nat_lt b (length p.stages)) ≡ true → (if c then a else b) < length p.stages
           pick true k = ltb-true _ _ (and_left (nat_lt a (length p.stages)) _ k)
@@ -179,8 +211,11 @@ module _ (p : Pipe) (h : passes_tests p ≡ true) where
   trunk_lock m =
       by_bool (nat_lt m (length p.mems)) _
       (λ e.
-      let k = below_at (λ m. is_trunk p (reserve_stage p m) && is_trunk p (commit_stage p m)) (length p.mems) m all.1.1.1.0 (ltb-true _ _ e) in
-      (trunk_is p (reserve_stage p m) (and_left (is_trunk p (reserve_stage p m)) _ k), trunk_is p (commit_stage p m) (and_right (is_trunk p (reserve_stage p m)) _ k)))
+      let k = below_at (λ m. is_trunk p (reserve_stage p m) && is_trunk p (commit_stage p m)) (length p.mems) m all.1.1.1.0 (ltb-true _ _ e) in (
+        trunk_is p (reserve_stage p m) (and_left (is_trunk p (reserve_stage p m)) _ k),
+        trunk_is p (commit_stage p m)
+            (and_right (is_trunk p (reserve_stage p m)) _ k),
+      ))
       (λ e. (
         subst (λ n. Trunk p n) (sym (reserve_past (at_once p) (parts_paths (at_once p) all.0) m (ltb-false _ _ e))) (trunk_is p 0 all.1.0),
         subst (λ n. Trunk p n) (sym (commit_past (at_once p) (parts_paths (at_once p) all.0) m (ltb-false _ _ e))) (trunk_past (length p.stages) (le_refl _)),
@@ -203,25 +238,36 @@ module _ (p : Pipe) (h : passes_tests p ≡ true) where
       }
 
   in_low : (x : Branch) (c : List Branch) (s : ℕ) → Within p (x ∷ c) s → s < length p.stages
-  in_low x c s i = by_bool (nat_lt s (length p.stages)) (s < length p.stages) (λ e. ltb-true _ _ e) (λ e. absurd (trunk_within p x c s (trunk_past s (ltb-false _ _ e)) i))
+  in_low x c s i =
+      by_bool (nat_lt s (length p.stages)) (s < length p.stages) (λ e. ltb-true _ _ e) (λ e. absurd (trunk_within p x c s (trunk_past s (ltb-false _ _ e)) i))
 
   fork_before : (x : Branch) (c : List Branch) (s : ℕ) → Within p (x ∷ c) s → Home p c x.fork × (x.fork < s)
   fork_before x c s i =
-      at i.0 (subst (λ o. branch_passes p s o ≡ true) i.1 (and_left (branch_passes p s (stage_at p s).branches) _ (and_right (list_all (next_passes p s) (nexts p s)) _ (and_right (leads_in (length p.stages) (stage_at p s).next) _ (stage_ok s (in_low x c s i))))))
+      at i.0
+      (subst (λ o. branch_passes p s o ≡ true) i.1
+      (and_left (branch_passes p s (stage_at p s).branches) _
+      (and_right (list_all (next_passes p s) (nexts p s)) _ (and_right (leads_in (length p.stages) (stage_at p s).next) _ (stage_ok s (in_low x c s i))))))
     where
       at : (inner : List Branch) → branch_passes p s (inner ++ x ∷ c) ≡ true → Home p c x.fork × (x.fork < s)
       at [] k = (home_is p c x.fork (and_left (is_home p c x.fork) _ k), ltb-true _ _ (and_left (nat_lt x.fork s) _ (and_right (is_home p c x.fork) _ k)))
       at (y ∷ ys) k = at ys (and_right (nat_lt y.fork s) _ (and_right (is_home p (ys ++ x ∷ c) y.fork) _ k))
 
   way_ok : (s : ℕ) (env : List ℕ) → s < length p.stages → is_way p s (next_of p s env) ≡ true
-  way_ok s env low = and_right (all_below (λ b. not (is_within p (stage_at p (next_of p s env)).branches b) || (is_passed p (stage_at p (next_of p s env)).branches s b || is_in_merge p (stage_at p (next_of p s env)).merges b)) (next_of p s env)) _ (after_last s env low)
+  way_ok s env low =
+      and_right
+      (all_below (λ b. not (is_within p (stage_at p (next_of p s env)).branches b) ||
+      (is_passed p (stage_at p (next_of p s env)).branches s b || is_in_merge p
+      (stage_at p (next_of p s env)).merges b)) (next_of p s env)) _ (after_last s env low)
 
   way : (s : ℕ) (env : List ℕ) → s < length p.stages → Way p s (next_of p s env)
   way s env low =
       by_or (stays p s (next_of p s env)) _ _ (way_ok s env low) (λ k. inl (branches_are _ _ k))
-      (λ k. by_or (is_entered p s (next_of p s env) (stage_at p (next_of p s env)).branches) _ _ k (λ j. inr (inl (enters (stage_at p (next_of p s env)).branches refl j))) (λ j. inr (inr (leaves_it (stage_at p s).branches refl j))))
+      (λ k. by_or (is_entered p s (next_of p s env) (stage_at p (next_of p s env)).branches) _ _ k
+      (λ j. inr (inl (enters (stage_at p (next_of p s env)).branches refl j))) (λ j. inr (inr (leaves_it (stage_at p s).branches refl j))))
     where
-      enters : (l : List Branch) → (stage_at p (next_of p s env)).branches ≡ l → is_entered p s (next_of p s env) l ≡ true → (x : Branch) × ((stage_at p (next_of p s env)).branches ≡ x ∷ (stage_at p s).branches) × (x.fork ≡ s)
+      enters : (l : List Branch)
+          → (stage_at p (next_of p s env)).branches ≡ l → is_entered p s (next_of p s env) l ≡ true
+          → (x : Branch) × ((stage_at p (next_of p s env)).branches ≡ x ∷ (stage_at p s).branches) × (x.fork ≡ s)
       enters [] e k = absurd (cc k)
       enters (x ∷ c) e k = (
         x,
@@ -233,7 +279,9 @@ module _ (p : Pipe) (h : passes_tests p ≡ true) where
       it_merges None f k = absurd (cc k)
       it_merges (Some g) f k = ap Some (eqb-true _ _ k)
 
-      leaves_it : (l : List Branch) → (stage_at p s).branches ≡ l → is_left p (next_of p s env) l ≡ true → (x : Branch) × ((stage_at p s).branches ≡ x ∷ (stage_at p (next_of p s env)).branches) × ((stage_at p (next_of p s env)).merges ≡ Some x.fork)
+      leaves_it : (l : List Branch)
+          → (stage_at p s).branches ≡ l → is_left p (next_of p s env) l ≡ true
+          → (x : Branch) × ((stage_at p s).branches ≡ x ∷ (stage_at p (next_of p s env)).branches) × ((stage_at p (next_of p s env)).merges ≡ Some x.fork)
       leaves_it [] e k = absurd (cc k)
       leaves_it (x ∷ c) e k = (
         x,
@@ -242,11 +290,13 @@ module _ (p : Pipe) (h : passes_tests p ≡ true) where
       )
 
   -- who comes into a branch from its fork comes into its first stage
-  entry : (x : Branch) (c : List Branch) (env : List ℕ) (r : ℕ) → x.fork < length p.stages → Home p (x ∷ c) (next_of p x.fork env) → Within p (x ∷ c) r → next_of p x.fork env ≤ r
+  entry : (x : Branch) (c : List Branch) (env : List ℕ) (r : ℕ)
+      → x.fork < length p.stages → Home p (x ∷ c) (next_of p x.fork env) → Within p (x ∷ c) r → next_of p x.fork env ≤ r
   entry x c env r low i j =
       by_or (stays p x.fork (next_of p x.fork env)) _ _ (way_ok x.fork env low)
       (λ k. absurd (longer (sym (fork_before x c r j).0 ∙ sym (branches_are _ _ k) ∙ i)))
-      (λ k. by_or (is_entered p x.fork (next_of p x.fork env) (stage_at p (next_of p x.fork env)).branches) _ _ k (λ l. first_of (subst (λ o. is_entered p x.fork (next_of p x.fork env) o ≡ true) i l)) (λ l. absurd (not_left (stage_at p x.fork).branches refl l)))
+      (λ k. by_or (is_entered p x.fork (next_of p x.fork env) (stage_at p (next_of p x.fork env)).branches) _ _ k
+      (λ l. first_of (subst (λ o. is_entered p x.fork (next_of p x.fork env) o ≡ true) i l)) (λ l. absurd (not_left (stage_at p x.fork).branches refl l)))
     where
       longer : c ≡ x ∷ c → ⊥
       longer e = let k : length c ≡ suc (length c) = ap length e in omega arith
@@ -254,7 +304,8 @@ module _ (p : Pipe) (h : passes_tests p ≡ true) where
       first_of : is_entered p x.fork (next_of p x.fork env) (x ∷ c) ≡ true → next_of p x.fork env ≤ r
       first_of k =
           leb-true _ _ (where_true (is_within p (x ∷ c) r) _
-          (below_at (λ r. not (is_within p (x ∷ c) r) || nat_le (next_of p x.fork env) r) (length p.stages) r (and_right (x.fork == x.fork) _ (and_right (same_branches c (stage_at p x.fork).branches) _ k)) (in_low x c r j)) (is_within_of p (x ∷ c) r j))
+          (below_at (λ r. not (is_within p (x ∷ c) r) || nat_le (next_of p x.fork env) r) (length p.stages) r
+          (and_right (x.fork == x.fork) _ (and_right (same_branches c (stage_at p x.fork).branches) _ k)) (in_low x c r j)) (is_within_of p (x ∷ c) r j))
 
       not_left : (l : List Branch) → (stage_at p x.fork).branches ≡ l → is_left p (next_of p x.fork env) l ≡ true → ⊥
       not_left [] e k = cc k
@@ -264,7 +315,11 @@ module _ (p : Pipe) (h : passes_tests p ≡ true) where
           omega arith
 
   side : (c : Branch) (cs : List Branch) (env : List ℕ) → c.fork < length p.stages → Home p (c ∷ cs) (next_of p c.fork env) → goes_by p c env ≡ true
-  side c cs env low i = at (stage_at p c.fork).next refl (and_right (branch_passes p c.fork (stage_at p c.fork).branches) _ (and_right (list_all (next_passes p c.fork) (nexts p c.fork)) _ (and_right (leads_in (length p.stages) (stage_at p c.fork).next) _ (stage_ok c.fork low))))
+  side c cs env low i =
+      at (stage_at p c.fork).next refl
+      (and_right (branch_passes p c.fork (stage_at p c.fork).branches) _
+      (and_right (list_all (next_passes p c.fork) (nexts p c.fork)) _
+      (and_right (leads_in (length p.stages) (stage_at p c.fork).next) _ (stage_ok c.fork low))))
     where
       there : (n : Next) → (stage_at p c.fork).next ≡ n → Home p (c ∷ cs) (stage_or (length p.stages) (goes_to n env))
       there n e = subst (λ n. Home p (c ∷ cs) (stage_or (length p.stages) (goes_to n env))) e i
@@ -283,36 +338,48 @@ module _ (p : Pipe) (h : passes_tests p ≡ true) where
         where
           never : not (c.fork == c.fork) ≡ true → ⊥
           never l = clash (sym (ap not (eq-eqb c.fork c.fork refl)) ∙ l)
-      at (Forks x a b) e k = ap (λ n. on_side n c.first env) e ∙ pick (slice_index env x == 1) refl (there (Forks x a b) e) (subst (λ n. side_passes p c.fork n ≡ true) e k)
+      at (Forks x a b) e k =
+          ap (λ n. on_side n c.first env) e ∙ pick (slice_index env x == 1) refl (there (Forks x a b) e) (subst (λ n. side_passes p c.fork n ≡ true) e k)
         where
           pick : (t : Bool) → (slice_index env x == 1) ≡ t → Home p (c ∷ cs) (if slice_index env x == 1 then a else b)
               → (side_is c.fork true (stage_at p a).branches && side_is c.fork false (stage_at p b).branches) ≡ true
               → (if c.first then slice_index env x == 1 else not (slice_index env x == 1)) ≡ true
           pick true f j l =
-              ap₂ (λ u v. if u then v else not v) (side_of true a (subst (λ t. Home p (c ∷ cs) (if t then a else b)) f j) (and_left (side_is c.fork true (stage_at p a).branches) _ l)) f
+              ap₂ (λ u v. if u then v else not v)
+              (side_of true a (subst (λ t. Home p (c ∷ cs) (if t then a else b)) f j) (and_left (side_is c.fork true (stage_at p a).branches) _ l)) f
           pick false f j l =
-              ap₂ (λ u v. if u then v else not v) (side_of false b (subst (λ t. Home p (c ∷ cs) (if t then a else b)) f j) (and_right (side_is c.fork true (stage_at p a).branches) _ l)) f
+              ap₂ (λ u v. if u then v else not v)
+              (side_of false b (subst (λ t. Home p (c ∷ cs) (if t then a else b)) f j) (and_right (side_is c.fork true (stage_at p a).branches) _ l)) f
 
   merge : (s : ℕ) (env : List ℕ) (f : ℕ) → s < length p.stages → (stage_at p (next_of p s env)).merges ≡ Some f
       → ((s ≡ f) × ((stage_at p (next_of p s env)).branches ≡ (stage_at p s).branches))
-      ⊎ ((x : Branch) × ((stage_at p s).branches ≡ x ∷ (stage_at p (next_of p s env)).branches) × (x.fork ≡ f) × ((b : ℕ) → Within p (x ∷ (stage_at p (next_of p s env)).branches) b → b ≤ s))
+      ⊎
+      ((x : Branch) × ((stage_at p s).branches ≡ x ∷ (stage_at p (next_of p s env)).branches) × (x.fork ≡ f)
+      × ((b : ℕ) → Within p (x ∷ (stage_at p (next_of p s env)).branches) b → b ≤ s))
   merge s env f low e =
       by_or ((s == f) && stays p s (next_of p s env)) (is_last_of p s f (next_of p s env) (stage_at p s).branches) _
-      (subst (λ o. merge_sound p s o (next_of p s env) ≡ true) e (next_in p (λ n. merge_sound p s (stage_at p n).merges n) s env (below_at (λ s. list_all (λ n. merge_sound p s (stage_at p n).merges n) (nexts p s)) (length p.stages) s all.1.1.1.1.1.1.1.1.1.1.1.1.0 low)))
+      (subst (λ o. merge_sound p s o (next_of p s env) ≡ true) e
+      (next_in p (λ n. merge_sound p s (stage_at p n).merges n) s env
+      (below_at (λ s. list_all (λ n. merge_sound p s (stage_at p n).merges n) (nexts p s)) (length p.stages) s all.1.1.1.1.1.1.1.1.1.1.1.1.0 low)))
       (λ t. inl (eqb-true _ _ (and_left (s == f) _ t), branches_are _ _ (and_right (s == f) _ t))) (λ t. inr (last_of (stage_at p s).branches refl t))
     where
       last_of : (l : List Branch) → (stage_at p s).branches ≡ l → is_last_of p s f (next_of p s env) l ≡ true
           → (x : Branch) × ((stage_at p s).branches ≡ x ∷ (stage_at p (next_of p s env)).branches) × (x.fork ≡ f) × ((b : ℕ) → Within p (x ∷ (stage_at p (next_of p s env)).branches) b → b ≤ s)
       last_of [] i t = absurd (cc t)
       last_of (x ∷ c) i t =
-          let same : c ≡ (stage_at p (next_of p s env)).branches = branches_are c (stage_at p (next_of p s env)).branches (and_left (same_branches c (stage_at p (next_of p s env)).branches) _ t) in
+          let same : c
+          ≡ (stage_at p (next_of p s env)).branches = branches_are c (stage_at p (next_of p s env)).branches
+          (and_left (same_branches c (stage_at p (next_of p s env)).branches) _ t) in
           let k = and_right (same_branches c (stage_at p (next_of p s env)).branches) _ t in (
             x,
             i ∙ ap (λ l. x ∷ l) same,
             eqb-true _ _ (and_left (x.fork == f) _ k),
             λ b j.
                 let here : Within p (x ∷ c) b = subst (λ l. Within p (x ∷ l) b) (sym same) j in
-                leb-true _ _ (where_true (is_within p (x ∷ c) b) _ (below_at (λ b. not (is_within p (x ∷ c) b) || nat_le b s) (length p.stages) b (and_right (x.fork == f) _ k) (in_low x c b here)) (is_within_of p (x ∷ c) b here)),
+                leb-true _ _
+                (where_true (is_within p (x ∷ c) b) _
+                (below_at (λ b. not (is_within p (x ∷ c) b) || nat_le b s) (length p.stages) b (and_right (x.fork == f) _ k) (in_low x c b here))
+                (is_within_of p (x ∷ c) b here)),
           )
 
   branches : Branches p
@@ -332,14 +399,16 @@ module _ (p : Pipe) (h : passes_tests p ≡ true) where
 
   trunk_holds : (x : Branch) (c : List Branch) (s : ℕ) → Home p (x ∷ c) s → none_of trunk_only (in_stage s p.stmts) ≡ true
   trunk_holds x c s i =
-      by_or (is_trunk p s) (none_of trunk_only (in_stage s p.stmts)) _ (below_at (λ s. is_trunk p s || none_of trunk_only (in_stage s p.stmts)) (length p.stages) s all.1.1.1.1.0 (in_low x c s (within_home p _ s i)))
+      by_or (is_trunk p s) (none_of trunk_only (in_stage s p.stmts)) _
+      (below_at (λ s. is_trunk p s || none_of trunk_only (in_stage s p.stmts)) (length p.stages) s all.1.1.1.1.0 (in_low x c s (within_home p _ s i)))
       (λ t. absurd (trunk_within p x c s (trunk_is p s t) (within_home p _ s i))) (λ k. k)
 
   -- a stage of a branch is before the verifies where its fork merges up to their stage, else the fork is in that stage or later
   whole_at : (v b : ℕ) → v < length p.stages → Trunk p v → b < length p.stages → branch_whole p v b (stage_at p b).branches ≡ true
   whole_at v b i t low =
       below_at (λ b. branch_whole p v b (stage_at p b).branches) (length p.stages) b
-      (where_true (is_trunk p v) (all_below (λ b. branch_whole p v b (stage_at p b).branches) (length p.stages)) (below_at (forks_whole p) (length p.stages) v all.1.1.1.1.1.1.1.1.1.1.1.1.1.0 i) (is_home_of p [] v t)) low
+      (where_true (is_trunk p v) (all_below (λ b. branch_whole p v b (stage_at p b).branches) (length p.stages))
+      (below_at (forks_whole p) (length p.stages) v all.1.1.1.1.1.1.1.1.1.1.1.1.1.0 i) (is_home_of p [] v t)) low
 
   -- of a fork around a stage
   of_fork : (v f b : ℕ) → v < length p.stages → Trunk p v → is_inside p f b ≡ true → (if merges_by p f (Some v) then nat_lt b v else nat_le v f) ≡ true
@@ -347,11 +416,14 @@ module _ (p : Pipe) (h : passes_tests p ≡ true) where
       by_bool (nat_lt b (length p.stages)) _ (λ low. at (stage_at p b).branches i (whole_at v b u t (ltb-true _ _ low)))
       (λ high. absurd (clash (ap (λ l. list_any (λ (x : Branch). x.fork == f) l) (sym (trunk_past b (ltb-false _ _ high))) ∙ i)))
     where
-      at : (l : List Branch) → list_any (λ x. x.fork == f) l ≡ true → branch_whole p v b l ≡ true → (if merges_by p f (Some v) then nat_lt b v else nat_le v f) ≡ true
+      at : (l : List Branch)
+          → list_any (λ x. x.fork == f) l ≡ true → branch_whole p v b l ≡ true
+          → (if merges_by p f (Some v) then nat_lt b v else nat_le v f) ≡ true
       at [] j k = absurd (cc j)
       at (x ∷ c) j k =
           by_or (x.fork == f) (list_any (λ y. y.fork == f) c) _ j
-          (λ l. subst (λ g. (if merges_by p g (Some v) then nat_lt b v else nat_le v g) ≡ true) (eqb-true _ _ l) (and_left (if merges_by p x.fork (Some v) then nat_lt b v else nat_le v x.fork) _ k))
+          (λ l. subst (λ g. (if merges_by p g (Some v) then nat_lt b v else nat_le v g) ≡ true) (eqb-true _ _ l)
+          (and_left (if merges_by p x.fork (Some v) then nat_lt b v else nat_le v x.fork) _ k))
           (λ l. at c l (and_right (if merges_by p x.fork (Some v) then nat_lt b v else nat_le v x.fork) _ k))
 
   merged : (v f b : ℕ) → v < length p.stages → Trunk p v → is_inside p f b ≡ true → merges_by p f (Some v) ≡ true → b < v
@@ -368,7 +440,8 @@ module _ (p : Pipe) (h : passes_tests p ≡ true) where
   start_long = zeros (p.vars - 0) ∙ (let e : p.vars - 0 ≡ p.vars = omega arith in e)
 
   agrees : (path : List ℕ) → Agree (all_guards p) (picks path (all_guards p) (start_env p [])) path
-  agrees path = agree_picks path (all_guards p) (start_env p []) (subst (λ n. list_all (λ g. nat_lt g n) (all_guards p) ≡ true) (sym start_long) all.1.1.1.1.1.1.0)
+  agrees path =
+      agree_picks path (all_guards p) (start_env p []) (subst (λ n. list_all (λ g. nat_lt g n) (all_guards p) ≡ true) (sym start_long) all.1.1.1.1.1.1.0)
 
   fork_guard : (s x a b : ℕ) → (stage_at p s).next ≡ Forks x a b → among x (all_guards p) ≡ true
   fork_guard s x a b e = among_append x (guard_vars p.stmts) (fork_guards p.stages) ∙ or_more (among x (guard_vars p.stmts)) (fork_among p.stages s x a b e)
@@ -379,7 +452,9 @@ module _ (p : Pipe) (h : passes_tests p ≡ true) where
       at : (n : Next) → (stage_at p s).next ≡ n → goes_to (stage_at p s).next (picks path (all_guards p) (start_env p [])) ≡ goes_to (stage_at p s).next path
       at Ends e = ap (λ n. goes_to n (picks path (all_guards p) (start_env p []))) e ∙ sym (ap (λ n. goes_to n path) e)
       at (Goes to) e = ap (λ n. goes_to n (picks path (all_guards p) (start_env p []))) e ∙ sym (ap (λ n. goes_to n path) e)
-      at (Forks x a b) e = ap (λ n. goes_to n (picks path (all_guards p) (start_env p []))) e ∙ ap (λ t. Some (if t then a else b)) (agrees path x (fork_guard s x a b e)) ∙ sym (ap (λ n. goes_to n path) e)
+      at (Forks x a b) e =
+          ap (λ n. goes_to n (picks path (all_guards p) (start_env p []))) e ∙ ap (λ t. Some (if t then a else b)) (agrees path x (fork_guard s x a b e))
+          ∙ sym (ap (λ n. goes_to n path) e)
 
   visits_same : (path : List ℕ) (s : ℕ) → visits_stage p (picks path (all_guards p) (start_env p [])) s ≡ visits_stage p path s
   visits_same path s = at (stage_at p s).branches
@@ -388,14 +463,18 @@ module _ (p : Pipe) (h : passes_tests p ≡ true) where
           → on_side (stage_at p c.fork).next c.first (picks path (all_guards p) (start_env p [])) ≡ on_side (stage_at p c.fork).next c.first path
       on c Ends e = ap (λ n. on_side n c.first (picks path (all_guards p) (start_env p []))) e ∙ sym (ap (λ n. on_side n c.first path) e)
       on c (Goes to) e = ap (λ n. on_side n c.first (picks path (all_guards p) (start_env p []))) e ∙ sym (ap (λ n. on_side n c.first path) e)
-      on c (Forks x a b) e = ap (λ n. on_side n c.first (picks path (all_guards p) (start_env p []))) e ∙ ap (λ t. if c.first then t else not t) (agrees path x (fork_guard c.fork x a b e)) ∙ sym (ap (λ n. on_side n c.first path) e)
+      on c (Forks x a b) e =
+          ap (λ n. on_side n c.first (picks path (all_guards p) (start_env p []))) e
+          ∙ ap (λ t. if c.first then t else not t) (agrees path x (fork_guard c.fork x a b e)) ∙ sym (ap (λ n. on_side n c.first path) e)
 
       at : (l : List Branch) → comes_by p (picks path (all_guards p) (start_env p [])) l ≡ comes_by p path l
       at [] = refl
       at (c ∷ cs) = ap₂ (λ a b. a && b) (on c (stage_at p c.fork).next refl) (at cs)
 
   path_same : (path : List ℕ) → onpath (picks path (all_guards p) (start_env p [])) p.stmts ≡ onpath path p.stmts
-  path_same path = path_agree (all_guards p) (picks path (all_guards p) (start_env p [])) path p.stmts (agrees path) (λ g k. among_append g (guard_vars p.stmts) (fork_guards p.stages) ∙ ap (λ b. b || among g (fork_guards p.stages)) k)
+  path_same path =
+      path_agree (all_guards p) (picks path (all_guards p) (start_env p [])) path p.stmts (agrees path)
+      (λ g k. among_append g (guard_vars p.stmts) (fork_guards p.stages) ∙ ap (λ b. b || among g (fork_guards p.stages)) k)
 
   skips : (path : List ℕ) (s : ℕ) → s < length p.stages → visits_stage p path s ≡ true
       → before (next_of p s path) (onpath path p.stmts) ≡ before (suc s) (onpath path p.stmts)
@@ -413,7 +492,8 @@ module _ (p : Pipe) (h : passes_tests p ≡ true) where
   none_past s [] low k = refl
   none_past s (x ∷ xs) low k =
       let i : x.stage < length p.stages = ltb-true _ _ (and_left (nat_lt x.stage (length p.stages)) _ k) in
-      ap (λ b. cond b (x ∷ in_stage s xs) (in_stage s xs)) (ne_eqb x.stage s (λ e. absurd (omega arith))) ∙ none_past s xs low (and_right (nat_lt x.stage (length p.stages)) _ k)
+      ap (λ b. cond b (x ∷ in_stage s xs) (in_stage s xs)) (ne_eqb x.stage s (λ e. absurd (omega arith)))
+      ∙ none_past s xs low (and_right (nat_lt x.stage (length p.stages)) _ k)
 
   fetch_blind : (s : ℕ) (env env' : List ℕ) → DifferIn (in_stage s p.stmts) env env'
       → onpath env' (before (next_of p s env) p.stmts) ≡ onpath env (before (next_of p s env) p.stmts)
@@ -422,11 +502,14 @@ module _ (p : Pipe) (h : passes_tests p ≡ true) where
       (λ i.
       let k : none_hangs (picks env (all_guards p) (start_env p [])) (in_stage s p.stmts) (before (next_of p s env) p.stmts) ≡ true =
       subst (λ n. none_hangs (picks env (all_guards p) (start_env p [])) (in_stage s p.stmts) (before n p.stmts) ≡ true) (next_same env s)
-      (below_at (λ s. none_hangs (picks env (all_guards p) (start_env p [])) (in_stage s p.stmts) (before (next_of p s (picks env (all_guards p) (start_env p []))) p.stmts)) (length p.stages) s
+      (below_at (λ s. none_hangs (picks env (all_guards p) (start_env p [])) (in_stage s p.stmts)
+      (before (next_of p s (picks env (all_guards p) (start_env p []))) p.stmts)) (length p.stages) s
       (all_picks (blind_passes p) env (all_guards p) (start_env p []) all.1.1.1.1.1.1.1.1.1.1.1.1.1.1.1.1.1.0) (ltb-true _ _ i)) in
       hangs_none (all_guards p) (picks env (all_guards p) (start_env p [])) env env' (in_stage s p.stmts) (before (next_of p s env) p.stmts) (agrees env)
-      (λ g j. among_append g (guard_vars p.stmts) (fork_guards p.stages) ∙ ap (λ b. b || among g (fork_guards p.stages)) (before_among (next_of p s env) g p.stmts j)) d k)
-      (λ i. all_same env env' (before (next_of p s env) p.stmts) (λ x. d x (ap (none_of (is_fetch_of x)) (none_past s p.stmts (ltb-false _ _ i) all.1.1.1.1.1.1.1.1.1.0))))
+      (λ g j. among_append g (guard_vars p.stmts) (fork_guards p.stages)
+      ∙ ap (λ b. b || among g (fork_guards p.stages)) (before_among (next_of p s env) g p.stmts j)) d k)
+      (λ i. all_same env env' (before (next_of p s env) p.stmts)
+      (λ x. d x (ap (none_of (is_fetch_of x)) (none_past s p.stmts (ltb-false _ _ i) all.1.1.1.1.1.1.1.1.1.0))))
 
   fetch_here : (s : ℕ) (gs : List Guard) (op : Op) → fetch_sound p s gs op ≡ true → FetchIf p (λ m. fetch_stage m p.stmts) s gs op
   fetch_here s gs (DelayedRead x m a) k =
@@ -459,7 +542,11 @@ module _ (p : Pipe) (h : passes_tests p ≡ true) where
     where
       at : (b : Bool) → (x.stage == s) ≡ b → AllFetches p (λ m. fetch_stage m p.stmts) s (in_stage s xs)
           → AllFetches p (λ m. fetch_stage m p.stmts) s (cond b (x ∷ in_stage s xs) (in_stage s xs))
-      at true e r = (fetch_here s x.guards x.op (subst (λ n. fetch_sound p n x.guards x.op ≡ true) (eqb-true x.stage s e) (and_left (fetch_sound p x.stage x.guards x.op) _ k)), r)
+      at true e r = (
+        fetch_here s x.guards x.op
+            (subst (λ n. fetch_sound p n x.guards x.op ≡ true) (eqb-true x.stage s e) (and_left (fetch_sound p x.stage x.guards x.op) _ k)),
+        r,
+      )
       at false e r = r
 
   in_each : (test : List Stmt → Bool) → test [] ≡ true
@@ -482,7 +569,9 @@ module _ (p : Pipe) (h : passes_tests p ≡ true) where
         inside = all.1.1.1.1.1.1.1.1.1.0;
         reserves = λ m. sym (all_looked (is_reserve m) (reserve_looked m) (reserve_stage p m) p.stmts) ∙ reserves (at_once p) (parts_paths (at_once p) all.0) m;
         verifies = λ v e. subst (λ o. verifies_at p o ≡ true) e all.1.1.1.1.1.1.1.1.1.1.1.1.1.1.0;
-        unreserved = λ m past. sym (none_looked (is_reserve m) (reserve_looked m) p.stmts) ∙ no_reserve m _ (looked_all p.stmts) (known (at_once p) (parts_paths (at_once p) all.0)) past;
+        unreserved =
+            λ m past. sym (none_looked (is_reserve m) (reserve_looked m) p.stmts) ∙ no_reserve m _ (looked_all p.stmts)
+            (known (at_once p) (parts_paths (at_once p) all.0)) past;
         unreleased = λ m past. let e : commit_stage p m ≡ length p.stages = commit_past (at_once p) (parts_paths (at_once p) all.0) m past in omega arith;
         guards_late = all.1.1.1.1.1.1.1.1.1.1.1.1.1.1.1.0;
         skips = skips;

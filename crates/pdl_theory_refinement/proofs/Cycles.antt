@@ -55,7 +55,8 @@ moves_answered p st bits older t e = and_right _ _ (and_left _ _ e)
 
 -- where a turn stands after it moved from stage s
 abbrev pub moved_spot : Pipe → World → List ℕ → ℕ → Spot
-moved_spot p world args s = record { stage = next_at p world args s; hint = world.guess; env = (stage_work p world args s).env; asks = (stage_work p world args s).asks }
+moved_spot p world args s =
+    record { stage = next_at p world args s; hint = world.guess; env = (stage_work p world args s).env; asks = (stage_work p world args s).asks }
 
 -- the spot where a turn begins
 abbrev pub start_spot : Pipe → List ℕ → List ℕ → Spot
@@ -69,7 +70,8 @@ module _ (p : Pipe) (acc : Course p) where
   -- a new thread stands behind all that an older one stands behind
   pub under_start : (bs : List ℕ) (s : ℕ) → AllUnder p bs s → AllUnder p bs 0
   under_start [] s u = tt
-  under_start (b ∷ bs) s u = (fresh_under p acc.graph acc.branches b (u.0 [] (within_all p _) (within_all p _) 0 acc.graph.trunk_start (omega arith)), under_start bs s u.1)
+  under_start (b ∷ bs) s u =
+      (fresh_under p acc.graph acc.branches b (u.0 [] (within_all p _) (within_all p _) 0 acc.graph.trunk_start (omega arith)), under_start bs s u.1)
 
   -- what the next younger thread knows, where this one's stage becomes s'
   behind_next : (older : List Act) (v v' : Marks) (d e : Writes) (asks more : ℕ → Option ℕ) (world : World)
@@ -139,7 +141,8 @@ module _ (p : Pipe) (acc : Course p) where
   -- a new thread is the thread of its turn on the start spot
   pub born_seat : (world : World) (args : List ℕ) → fresh p world.guess args ≡ seat p world args (start_spot p world.guess args)
   born_seat world args =
-      ap (λ (w : Work). record { stage = 0; hint = world.guess; env = start_env p args; entries = w.entries; guess = w.guess; awaits = [] }) (sym (acc.start_so world args))
+      ap (λ (w : Work). record { stage = 0; hint = world.guess; env = start_env p args; entries = w.entries; guess = w.guess; awaits = [] })
+      (sym (acc.start_so world args))
 
   -- the thread that begins a turn stands on it, where the writes before the turn are the commits and the undone ones
   pub born_standing : (asked : List (Option ℕ)) (past w : Writes) (v : Marks) (world : World) (args : List ℕ) (ahead : List ℕ) → AllUnder p ahead 0
@@ -177,7 +180,8 @@ module _ (p : Pipe) (acc : Course p) where
       let n = acc.next_so world args s on low in
       ap₂
       (λ es g. record {
-        stage = next_at p world args s; hint = world.guess;
+        stage = next_at p world args s;
+        hint = world.guess;
         env = (stage_work p world args s).env;
         entries = es;
         guess = g;
@@ -216,7 +220,8 @@ module _ (p : Pipe) (acc : Course p) where
       at true e = ap not e
       at false e =
           absurd
-          (let i : length p.stages < s = k.0.under.0 [] (within_all p _) (within_all p _) (length p.stages) (acc.graph.trunk_past (length p.stages) (le_refl _)) (ltb-false _ _ e) in
+          (let i : length p.stages < s = k.0.under.0 [] (within_all p _) (within_all p _) (length p.stages) (acc.graph.trunk_past (length p.stages) (le_refl _))
+          (ltb-false _ _ e) in
           omega arith)
 
 -- one thread in a cycle
@@ -249,8 +254,11 @@ module _ (p : Pipe) (acc : Course p) (image : Arrays) (st : State) (bits : List 
           words =
               λ m c. words_step (w m) (past m) (past' m) (strips m (v m)) (d m) (strips m (v' m)) _ (h.words m (was_so m c))
               (later_strips m (v m) (d m) (v' m) (b.split m)) (now m)
-              (ap (λ k. of_mem m (cond k ((act p st bits older (seat p world args sp)).work.commits ++ commits_of rest) (commits_of rest))) stays ∙ quiet m (was_so m c));
-          calm = λ u. subst acc.stray (now_seat p st bits world args sp) (acc.stray_answered st bits (seat p world args sp) (h.calm (unsure_before p acc older ahead ahead' b.moves u))).0;
+              (ap (λ k. of_mem m (cond k ((act p st bits older (seat p world args sp)).work.commits ++ commits_of rest) (commits_of rest))) stays
+              ∙ quiet m (was_so m c));
+          calm =
+              λ u. subst acc.stray (now_seat p st bits world args sp)
+              (acc.stray_answered st bits (seat p world args sp) (h.calm (unsure_before p acc older ahead ahead' b.moves u))).0;
           clean = right_weaken p sp.stage sp.stage v v' _ _ (le_of_eq refl) (λ m x k. clean_later m x k) h.clean;
           linked = h.linked;
           waits =
@@ -366,7 +374,10 @@ module _ (p : Pipe) (acc : Course p) (image : Arrays) (st : State) (bits : List 
                 (ap (λ k. of_mem m (cond k ((act p st bits older (seat p world args sp)).work.commits ++ commits_of rest) (commits_of rest))) e
                 ∙ moved_quiet m true (act p st bits older (seat p world args sp)).work.commits (commits_of rest)
                 (silent m c) (quiet m (earlier m c)));
-            calm = λ u. subst acc.stray (moved_seat p acc world args sp.stage h.on low_here) (subst (λ (k : Work). acc.stray (onward (next_of p sp.stage k.env) world.guess k)) work_same (calm_here (unsure_before p acc older ahead ahead' b.moves u)).goes_on);
+            calm =
+                λ u. subst acc.stray (moved_seat p acc world args sp.stage h.on low_here)
+                (subst (λ (k : Work). acc.stray (onward (next_of p sp.stage k.env) world.guess k)) work_same
+                (calm_here (unsure_before p acc older ahead ahead' b.moves u)).goes_on);
             clean = right_weaken p sp.stage (next_at p world args sp.stage) v v' _ _ (le_of_lt more) (λ m x k. clean_later m x k) alike_here.1;
             linked = linked;
             waits =
@@ -403,7 +414,9 @@ module _ (p : Pipe) (acc : Course p) (image : Arrays) (st : State) (bits : List 
           apart : (m : ℕ) → next_at p world args sp.stage ≤ commit_stage p m → sp.stage ≢ commit_stage p m
           apart m i j = let k : sp.stage < commit_stage p m = lt_of_lt_of_le more i in omega arith
 
-          silent : (m : ℕ) → (next_at p world args sp.stage ≤ commit_stage p m) ⊎ Unsure p acc.v ahead' → of_mem m (act p st bits older (seat p world args sp)).work.commits ≡ []
+          silent : (m : ℕ)
+              → (next_at p world args sp.stage ≤ commit_stage p m) ⊎ Unsure p acc.v ahead'
+              → of_mem m (act p st bits older (seat p world args sp)).work.commits ≡ []
           silent m (inl i) = commits_quiet m (apart m i)
           silent m (inr u) = ap (of_mem m) (calm_here (unsure_before p acc older ahead ahead' b.moves u)).commits
 

@@ -59,7 +59,16 @@ module _ (p : Pipe) (acc : Course p) where
       → Standing p acc asked past w v arrays args ahead sps → Standing p acc asked past w v arrays args ahead2 sps
   weaker asked past w v arrays args ahead ahead2 [] f g h = h
   weaker asked past w v arrays args ahead ahead2 (sp ∷ sps) f g h = (
-    record { under = f sp.stage h.0.under; on = h.0.on; words = λ m c. h.0.words m (at m c); clean = h.0.clean; linked = h.0.linked; waits = h.0.waits; calm = λ u. h.0.calm (g u) },
+    record {
+      under = f sp.stage h.0.under;
+      on = h.0.on;
+      words = λ m c. h.0.words m
+          (at m c);
+      clean = h.0.clean;
+      linked = h.0.linked;
+      waits = h.0.waits;
+      calm = λ u. h.0.calm (g u);
+    },
     weaker asked past (λ n. w n ++ of_mem n (thread p arrays args).writes) (λ n. v n ++ marks p (with_guess arrays sp.hint) args sp.stage n)
         (thread p arrays args).arrays (thread p arrays args).next (sp.stage ∷ ahead)
         (sp.stage ∷ ahead2) sps (λ s u. (u.0, f s u.1)) (λ u. u) h.1,
@@ -73,7 +82,9 @@ module _ (p : Pipe) (acc : Course p) where
   sure_end : Unsure p acc.v (length p.stages ∷ []) → ⊥
   sure_end u = let i : length p.stages ≤ acc.v = u.1 in let j : acc.v < length p.stages = acc.v_inside in omega arith
 
-  at_end : (sp : Spot) (m : ℕ) → (sp.stage ≤ commit_stage p m) ⊎ Unsure p acc.v (length p.stages ∷ []) → (sp.stage ≤ commit_stage p m) ⊎ Unsure p acc.v (suc (length p.stages) ∷ [])
+  at_end : (sp : Spot) (m : ℕ)
+      → (sp.stage ≤ commit_stage p m) ⊎ Unsure p acc.v (length p.stages ∷ [])
+      → (sp.stage ≤ commit_stage p m) ⊎ Unsure p acc.v (suc (length p.stages) ∷ [])
   at_end sp m (inl c) = inl c
   at_end sp m (inr u) = absurd (sure_end u)
 
@@ -95,14 +106,16 @@ module _ (p : Pipe) (acc : Course p) where
       at true e = ltb-true _ _ e
       at false e =
           absurd
-          (let i : length p.stages < length p.stages = u.0 [] (within_all p _) (within_all p _) (length p.stages) (acc.graph.trunk_past (length p.stages) (le_refl _)) (ltb-false _ _ e) in
+          (let i : length p.stages < length p.stages = u.0 [] (within_all p _) (within_all p _) (length p.stages)
+          (acc.graph.trunk_past (length p.stages) (le_refl _)) (ltb-false _ _ e) in
           omega arith)
 
   -- the sequential array at a turn
   pub rows_at : (image : Arrays) (n : ℕ) → RowsAt image (λ m. of_mem m (writes_from p n image p.start)) (after_turns p image n).arrays
   rows_at image zero m = refl
   rows_at image (suc n) m =
-      rows_next p acc image (λ k. of_mem k (writes_from p n image p.start)) (with_guess (after_turns p image n).arrays []) (after_turns p image n).next (rows_at image n) m
+      rows_next p acc image (λ k. of_mem k (writes_from p n image p.start)) (with_guess (after_turns p image n).arrays []) (after_turns p image n).next
+      (rows_at image n) m
       ∙ ap (wrote (row image m)) (sym (of_mem_append m (writes_from p n image p.start) _) ∙ ap (of_mem m) (sym (writes_more p n image p.start)))
 
   -- the next threads where the oldest ends
@@ -129,7 +142,9 @@ module _ (p : Pipe) (acc : Course p) where
       → sp.stage ≡ length p.stages
       → Standing p acc asked past w v arrays args ahead (sp ∷ sps) → is_nil sps ≡ false
   dropped_live asked past w v arrays args ahead sp sps e h =
-      at (is_nil sps) (sym (acc.child_end (with_guess arrays sp.hint) args) ∙ ap (λ s. right_guess (so_far p (with_guess arrays sp.hint) args s).child (thread p arrays args).next) (sym e) ∙ h.0.linked)
+      at (is_nil sps)
+      (sym (acc.child_end (with_guess arrays sp.hint) args)
+      ∙ ap (λ s. right_guess (so_far p (with_guess arrays sp.hint) args s).child (thread p arrays args).next) (sym e) ∙ h.0.linked)
     where
       at : (b : Bool) → true ≡ not b → b ≡ false
       at true f = absurd (cc f)
@@ -184,7 +199,16 @@ module _ (p : Pipe) (acc : Course p) where
               let here : Here p acc st'.asked (λ m. of_mem m (past ++ commits_of these))
               (λ m. of_mem m (writes_from p n image p.start)) (λ m. [])
               (with_guess (after_turns p image n).arrays sp.hint) (after_turns p image n).next (length p.stages ∷ []) sp (is_nil sps) =
-              record { under = (under_low sp.stage low, tt); on = h.0.on; words = λ m c. h.0.words m (at_end sp m c); clean = h.0.clean; linked = h.0.linked; waits = h.0.waits; calm = λ u. absurd (sure_end u) } in
+              record {
+                under = (under_low sp.stage low, tt);
+                on = h.0.on;
+                words = λ m c. h.0.words m
+                    (at_end sp m c);
+                clean = h.0.clean;
+                linked = h.0.linked;
+                waits = h.0.waits;
+                calm = λ u. absurd (sure_end u);
+              } in
               subst (λ c. Runs p acc image (cond c (suc n) n) (past ++ commits_of these) st') (sym (l ∙ ap not i))
               (record {
                 spots = sp ∷ sps;
@@ -203,7 +227,8 @@ module _ (p : Pipe) (acc : Course p) where
               })
           by_last false i =
               let past_it : sp.stage ≡ length p.stages =
-              exact (ltb-false _ _ i) (h.0.under.0 [] (within_all p _) (within_all p _) sp.stage (acc.graph.trunk_past sp.stage (ltb-false _ _ i)) (le_refl sp.stage)) in
+              exact (ltb-false _ _ i)
+              (h.0.under.0 [] (within_all p _) (within_all p _) sp.stage (acc.graph.trunk_past sp.stage (ltb-false _ _ i)) (le_refl sp.stage)) in
               let h'' = dropped st'.asked (λ m. of_mem m (past ++ commits_of these)) image n sp sps past_it h in
               subst (λ c. Runs p acc image (cond c (suc n) n) (past ++ commits_of these) st') (sym (l ∙ ap not i))
               (record {
@@ -452,7 +477,11 @@ module _ (p : Pipe) (acc : Course p) where
           → is_nil sps ≡ false → oldest_moves (acts p st bits [] (seats p (after_turns p image n).arrays (after_turns p image n).next sps ++ r.strays)) ≡ true
       at [] h l = absurd (cc l)
       at (sp ∷ sps) h l =
-          oldest p st bits (seat p (with_guess (after_turns p image n).arrays sp.hint) (after_turns p image n).next sp) (room_alone p (act p st bits [] (seat p (with_guess (after_turns p image n).arrays sp.hint) (after_turns p image n).next sp)).work (acc.rooms (around p st bits [] sp.stage sp.hint) (answered_thread p st bits (seat p (with_guess (after_turns p image n).arrays sp.hint) (after_turns p image n).next sp)))) (asked_all st.asked sp.asks h.0.waits.out) k
+          oldest p st bits (seat p (with_guess (after_turns p image n).arrays sp.hint) (after_turns p image n).next sp)
+          (room_alone p (act p st bits [] (seat p (with_guess (after_turns p image n).arrays sp.hint) (after_turns p image n).next sp)).work
+          (acc.rooms (around p st bits [] sp.stage sp.hint)
+          (answered_thread p st bits
+          (seat p (with_guess (after_turns p image n).arrays sp.hint) (after_turns p image n).next sp)))) (asked_all st.asked sp.asks h.0.waits.out) k
 
   -- after any schedule the oldest thread of the derived machine moves in a cycle that isn't a wait
   pub advances : (image : Arrays) (hints : ℕ → List ℕ) (schedule : List (List Bool)) (bits : List Bool) → Advances p image hints schedule bits

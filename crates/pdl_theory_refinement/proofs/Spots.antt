@@ -201,7 +201,8 @@ module _ (p : Pipe) (acc : Course p) (image : Arrays) (st : State) (past : Write
       → answered_thread p st bits (seat p world args sp) ≡ thread_at p world args sp.stage
   whole_now bits older v v' d w asks world args ahead ahead' sp last rows' b h e =
       let none : still_asks p bits sp.asks ≡ [] = none_awaited (still_asks p bits sp.asks) (ap is_empty (sym (still_awaited p bits sp.asks)) ∙ e) in
-      let right = answers_caught p st bits world.words sp.asks sp.env h.waits.apart (words_right older v v' d w asks world args ahead ahead' sp last rows' b h) in
+      let right = answers_caught p st bits world.words sp.asks sp.env h.waits.apart
+      (words_right older v v' d w asks world args ahead ahead' sp last rows' b h) in
       let env : with_answers p st bits (awaited_of sp.asks) sp.env ≡ (so_far p world args sp.stage).env =
       ap (λ l. caught world.words l (with_answers p st bits (awaited_of sp.asks) sp.env)) (sym none) ∙ right ∙ h.waits.gets in
       now_seat p st bits world args sp

@@ -60,8 +60,9 @@ stray_moves p g f t a rest bound' n none goes h out is more low made hinted r =
       commits = ap (λ b. cond b (a.work.commits ++ commits_of rest) (commits_of rest)) goes ∙ ap₂ (λ x y. x ++ y) h.commits r.commits;
       strays = subst (λ l. Strays p f.stray f.made bound' l) (sym survive) (
         subst (λ q. f.stray (onward n q a.work)) (sym hinted) (subst (λ k. f.stray (onward k t.hint a.work)) (sym is) h.goes_on),
-        low, ap (λ q. f.made (onward n q a.work)) hinted ∙
-        subst (λ k. f.made (onward k t.hint a.work) ≡ (f.made t || is_some a.work.child)) (sym is) h.made_next ∙ linked a.work.child refl,
+        low,
+        ap (λ q. f.made (onward n q a.work)) hinted ∙
+            subst (λ k. f.made (onward k t.hint a.work) ≡ (f.made t || is_some a.work.child)) (sym is) h.made_next ∙ linked a.work.child refl,
         behind a.work.child refl,
       );
       ended = ap (λ b. (b && is_none (exit_of p a)) || list_any (λ o. o.moves && is_none (exit_of p o)) rest) goes ∙ ap₂ (λ x y. is_none x || y) out r.ended;
@@ -159,11 +160,13 @@ strays_cycle p g f vis st bits older bound bound' (t ∷ ts) h s =
     let low : t.stage < length p.stages = omega arith in
     by_bool (act p st bits older t).moves (StraysAfter p g f.stray f.made bound' false (acts p st bits older (t ∷ ts)))
     (λ e.
-    let ready : (work_of_stage p (around p st bits older t.stage t.hint) (answered_thread p st bits t)).ready ≡ true = and_right _ _ (and_left _ _ (and_left _ _ (and_left _ _ e))) in
+    let ready : (work_of_stage p (around p st bits older t.stage t.hint) (answered_thread p st bits t)).ready
+    ≡ true = and_right _ _ (and_left _ _ (and_left _ _ (and_left _ _ e))) in
     let done : (answered_thread p st bits t).awaits ≡ [] = none_left _ (and_right _ _ (and_left _ _ e)) in
     let clear : Trunk p t.stage → barrier_clear (verify_stage p.stmts) t.stage (befores older) ≡ false =
     λ k. subst (λ o. barrier_clear o t.stage (befores older) ≡ false) (sym vis) (h.unclear t.stage (s.1 t.stage k (le_refl t.stage)) k) in
-    let strayed : Strayed p f.stray f.made (answered_thread p st bits t) (work_of_stage p (around p st bits older t.stage t.hint) (answered_thread p st bits t)) =
+    let strayed : Strayed p f.stray f.made (answered_thread p st bits t)
+    (work_of_stage p (around p st bits older t.stage t.hint) (answered_thread p st bits t)) =
     f.stray_step (around p st bits older t.stage t.hint) (answered_thread p st bits t) now.0 done deep clear ready in
     let up : t.stage < next_of p t.stage (act p st bits older t).work.env = f.graph.up t.stage _ low in
     let in_pipe : next_of p t.stage (act p st bits older t).work.env < length p.stages =

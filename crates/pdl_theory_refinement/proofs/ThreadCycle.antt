@@ -58,10 +58,14 @@ module _ (p : Pipe) (acc : Course p) (g : List ℕ) where
       ++ (born_threads p g c ++ cond f [] (survivors p g rest))
   after_move world args s a rest on low goes is hinted same c child f fails =
       ap
-      (λ b. cond b (moved_to (exit_of p a) a.now.hint a.work ++ (born_threads p g a.work.child ++ (if a.work.fails then [] else survivors p g rest))) (a.now ∷ survivors p g rest)) goes
+      (λ b. cond b (moved_to (exit_of p a) a.now.hint a.work ++ (born_threads p g a.work.child ++ (if a.work.fails then [] else survivors p g rest)))
+      (a.now ∷ survivors p g rest)) goes
       ∙ ap
-      (λ n. moved_to (goes_to (stage_at p n).next a.work.env) a.now.hint a.work ++ (born_threads p g a.work.child ++ (if a.work.fails then [] else survivors p g rest))) is
-      ∙ ap (λ q. moved_to (goes_to (stage_at p s).next a.work.env) q a.work ++ (born_threads p g a.work.child ++ (if a.work.fails then [] else survivors p g rest))) hinted
+      (λ n. moved_to (goes_to (stage_at p n).next a.work.env) a.now.hint a.work
+      ++ (born_threads p g a.work.child ++ (if a.work.fails then [] else survivors p g rest))) is
+      ∙ ap
+      (λ q. moved_to (goes_to (stage_at p s).next a.work.env) q a.work
+      ++ (born_threads p g a.work.child ++ (if a.work.fails then [] else survivors p g rest))) hinted
       ∙ ap (λ l. l ++ (born_threads p g a.work.child ++ (if a.work.fails then [] else survivors p g rest))) (moved_thread p acc world args s a.work on low same)
       ∙ ap₂
       (λ x f'. (cond (nat_lt (next_at p world args s) (length p.stages)) (seat p world args (moved_spot p world args s) ∷ []) [])
@@ -119,7 +123,8 @@ module _ (p : Pipe) (acc : Course p) (g : List ℕ) where
 
   -- who stands no later than the releases of m keeps those behind it from them
   not_behind : (m s : ℕ) (ahead : List ℕ) → s ≤ commit_stage p m → AllUnder p (s ∷ ahead) (commit_stage p m) → ⊥
-  not_behind m s ahead c u = let i : commit_stage p m < s = u.0 [] (within_all p _) (within_all p _) (commit_stage p m) (acc.graph.trunk_commit m) (le_refl _) in omega arith
+  not_behind m s ahead c u =
+      let i : commit_stage p m < s = u.0 [] (within_all p _) (within_all p _) (commit_stage p m) (acc.graph.trunk_commit m) (le_refl _) in omega arith
 
   -- a thread behind others where the releases of m are not is not past them
   commit_ahead : (m : ℕ) (ahead : List ℕ) (s : ℕ) → AllUnder p ahead s → (AllUnder p ahead (commit_stage p m) → ⊥) → s ≢ commit_stage p m
@@ -133,12 +138,14 @@ module _ (p : Pipe) (acc : Course p) (g : List ℕ) where
   quiet_more m a rest ahead s u f c (inr g) k = moved_quiet m a.moves a.work.commits (commits_of rest) (ap (of_mem m) (c g)) k
 
   -- what keeps those behind from their releases
-  quiet_behind : (older : List Act) (m s : ℕ) (ahead ahead' : List ℕ) → Moves p older ahead ahead' → AllUnder p ahead s → (AllUnder p ahead (commit_stage p m) → ⊥) ⊎ Unsure p acc.v ahead
+  quiet_behind : (older : List Act) (m s : ℕ) (ahead ahead' : List ℕ)
+      → Moves p older ahead ahead' → AllUnder p ahead s → (AllUnder p ahead (commit_stage p m) → ⊥) ⊎ Unsure p acc.v ahead
       → (AllUnder p (s ∷ ahead) (commit_stage p m) → ⊥) ⊎ Unsure p acc.v (s ∷ ahead)
   quiet_behind older m s ahead ahead' b u (inl c) = inl (λ k. c k.1)
   quiet_behind older m s ahead ahead' b u (inr c) = inr (unsure_more p acc older ahead ahead' s b u c)
 
-  quiet_before : (older : List Act) (m s : ℕ) (ahead ahead' : List ℕ) → Moves p older ahead ahead' → AllUnder p ahead s → (s ≤ commit_stage p m) ⊎ Unsure p acc.v ahead
+  quiet_before : (older : List Act) (m s : ℕ) (ahead ahead' : List ℕ)
+      → Moves p older ahead ahead' → AllUnder p ahead s → (s ≤ commit_stage p m) ⊎ Unsure p acc.v ahead
       → (AllUnder p (s ∷ ahead) (commit_stage p m) → ⊥) ⊎ Unsure p acc.v (s ∷ ahead)
   quiet_before older m s ahead ahead' b u (inl c) = inl (not_behind m s ahead c)
   quiet_before older m s ahead ahead' b u (inr c) = inr (unsure_more p acc older ahead ahead' s b u c)
@@ -204,11 +211,12 @@ module _ (p : Pipe) (acc : Course p) (g : List ℕ) where
           threads = left ∙ shown_two world.words args (moved_spot p world args s) x is;
           standing = (
             k.head false right,
-            born_standing p acc asked' past' _ _ (with_guess (thread p world.words args).arrays g) (thread p world.words args).next (next_at p world args s ∷ ahead') (
-              fresh_under p acc.graph acc.branches (next_at p world args s)
-                  (lt_of_le_of_lt (le_of_zero s) (acc.graph.up s (stage_work p world args s).env k.low)),
-              under_start p acc ahead' (next_at p world args s) (k.head false right).under,
-            ) k.total,
+            born_standing p acc asked' past' _ _ (with_guess (thread p world.words args).arrays g) (thread p world.words args).next
+                (next_at p world args s ∷ ahead') (
+                  fresh_under p acc.graph acc.branches (next_at p world args s)
+                      (lt_of_le_of_lt (le_of_zero s) (acc.graph.up s (stage_work p world args s).env k.low)),
+                  under_start p acc ahead' (next_at p world args s) (k.head false right).under,
+                ) k.total,
           );
           tail =
               subst (λ c. Last p acc.stray acc.made 0 c [])
@@ -243,18 +251,22 @@ module _ (p : Pipe) (acc : Course p) (g : List ℕ) where
         made = acc.child_next world args s k.on k.low ∙ ap (λ c. or_else c (so_far p world args s).child) i
 
     -- it replaces those behind it
-    replaced : (x : List ℕ) → (stage_work p world args s).child ≡ Some x → (stage_work p world args s).fails ≡ true → Turned p acc g asked' past' w v' world.words args ahead ahead' (a ∷ rest)
+    replaced : (x : List ℕ)
+        → (stage_work p world args s).child ≡ Some x → (stage_work p world args s).fails ≡ true
+        → Turned p acc g asked' past' w v' world.words args ahead ahead' (a ∷ rest)
     replaced x i f = made_one x i (after_move world args s a rest k.on k.low k.goes k.is k.hinted k.same (Some x) i true f)
 
     -- the last thread on its turn, where it moves; c is what it had made, n what it makes
     last_moves : (strays : List Thread) → (strays
-            ≡ [] → rest ≡ []) → StraysAfter p g acc.stray acc.made (next_at p world args s) (nobody strays) rest
-        → (c : Option (List ℕ)) → (so_far p world args s).child ≡ c → right_guess c (thread p world.words args).next ≡ false → Last p acc.stray acc.made s c strays
+        ≡ [] → rest ≡ []) → StraysAfter p g acc.stray acc.made (next_at p world args s) (nobody strays) rest
+        → (c : Option (List ℕ)) → (so_far p world args s).child ≡ c → right_guess c (thread p world.words args).next ≡ false
+        → Last p acc.stray acc.made s c strays
         → (n : Option (List ℕ)) → (stage_work p world args s).child ≡ n → Turned p acc g asked' past' w v' world.words args ahead ahead' (a ∷ rest)
     last_moves strays none after None e q l None i =
         one_left [] (ap (λ c. right_guess c (thread p world.words args).next) made)
         (after_move world args s a rest k.on k.low k.goes k.is k.hinted k.same None i (stage_work p world args s).fails refl
-        ∙ ap (λ r. (cond (nat_lt (next_at p world args s) (length p.stages)) (seat p world args (moved_spot p world args s) ∷ []) []) ++ r) (same_none (stage_work p world args s).fails (survivors p g rest) (ap (survivors p g) (none l))))
+        ∙ ap (λ r. (cond (nat_lt (next_at p world args s) (length p.stages)) (seat p world args (moved_spot p world args s) ∷ []) []) ++ r)
+        (same_none (stage_work p world args s).fails (survivors p g rest) (ap (survivors p g) (none l))))
         (subst (λ c. Last p acc.stray acc.made (next_at p world args s) c []) (sym made) refl)
       where
         made : (so_far p world args (next_at p world args s)).child ≡ None
@@ -263,9 +275,9 @@ module _ (p : Pipe) (acc : Course p) (g : List ℕ) where
         made_one x i
         (after_move world args s a rest k.on k.low k.goes k.is k.hinted k.same (Some x) i (stage_work p world args s).fails refl
         ∙ ap
-            (λ r. (cond (nat_lt (next_at p world args s) (length p.stages)) (seat p world args (moved_spot p world args s) ∷ []) [])
-            ++ (fresh p g x ∷ r))
-            (same_none (stage_work p world args s).fails (survivors p g rest) (ap (survivors p g) (none l))))
+        (λ r. (cond (nat_lt (next_at p world args s) (length p.stages)) (seat p world args (moved_spot p world args s) ∷ []) [])
+        ++ (fresh p g x ∷ r))
+        (same_none (stage_work p world args s).fails (survivors p g rest) (ap (survivors p g) (none l))))
     last_moves strays none after (Some x) e q l n i = changed (acc.made_changes world args s x k.on e)
       where
         changed : Changed (stage_work p world args s) → Turned p acc g asked' past' w v' world.words args ahead ahead' (a ∷ rest)
@@ -284,15 +296,18 @@ module _ (p : Pipe) (acc : Course p) (image : Arrays) (st : State) (bits : List 
     -- the last thread on its turn, where it stands
     last_stands : (strays : List Thread) (h : Here p acc st.asked past w v (with_guess arrays sp.hint) args ahead sp true)
         → ((m : ℕ) → w m ++ of_mem m (thread p arrays args).writes ≡ past m ++ strips m (v m ++ marks p (with_guess arrays sp.hint) args sp.stage m))
-        → Now past past' d (acts p st bits older (seat p (with_guess arrays sp.hint) args sp ∷ strays)) → NowAsks all asks (acts p st bits older (seat p (with_guess arrays sp.hint) args sp ∷ strays))
+        → Now past past' d (acts p st bits older (seat p (with_guess arrays sp.hint) args sp ∷ strays))
+        → NowAsks all asks (acts p st bits older (seat p (with_guess arrays sp.hint) args sp ∷ strays))
         → Last p acc.stray acc.made sp.stage (so_far p (with_guess arrays sp.hint) args sp.stage).child strays
         → (act p st bits older (seat p (with_guess arrays sp.hint) args sp)).moves ≡ false
         → Turned p acc (st.hints 0) (next_asks p bits all 0 st.asked) past' w v' arrays args ahead ahead' (acts p st bits older (seat p (with_guess arrays sp.hint) args sp ∷ strays))
     last_stands strays h total now nowa l stays =
         let a : Act = act p st bits older (seat p (with_guess arrays sp.hint) args sp) in
         let rest : List Act = acts p st bits (act p st bits older (seat p (with_guess arrays sp.hint) args sp) ∷ older) strays in
-        let after : StraysAfter p (st.hints 0) acc.stray acc.made sp.stage (nobody strays) (acts p st bits (act p st bits older (seat p (with_guess arrays sp.hint) args sp) ∷ older) strays) =
-        stray_rest p acc (st.hints 0) st bits (with_guess arrays sp.hint) args older sp.stage sp.stage (act p st bits older (seat p (with_guess arrays sp.hint) args sp)) strays _ refl h.linked l
+        let after : StraysAfter p (st.hints 0) acc.stray acc.made sp.stage (nobody strays)
+        (acts p st bits (act p st bits older (seat p (with_guess arrays sp.hint) args sp) ∷ older) strays) =
+        stray_rest p acc (st.hints 0) st bits (with_guess arrays sp.hint) args older sp.stage sp.stage
+        (act p st bits older (seat p (with_guess arrays sp.hint) args sp)) strays _ refl h.linked l
         (le_refl sp.stage) refl (λ k. absurd (clash (sym stays ∙ k))) in
         let quiet : (m : ℕ) → of_mem m (commits_of (acts p st bits (act p st bits older (seat p (with_guess arrays sp.hint) args sp) ∷ older) strays)) ≡ [] =
         λ m. ap (of_mem m) after.commits in
@@ -303,16 +318,21 @@ module _ (p : Pipe) (acc : Course p) (image : Arrays) (st : State) (bits : List 
           strays = survivors p (st.hints 0) (acts p st bits (act p st bits older (seat p (with_guess arrays sp.hint) args sp) ∷ older) strays);
           threads =
               ap
-              (λ c. cond c (moved_to (exit_of p a) a.now.hint a.work ++ (born_threads p (st.hints 0) a.work.child ++ (if a.work.fails then [] else survivors p (st.hints 0) rest))) (a.now ∷ survivors p (st.hints 0) rest)) stays
+              (λ c. cond c (moved_to (exit_of p a) a.now.hint a.work
+              ++ (born_threads p (st.hints 0) a.work.child ++ (if a.work.fails then [] else survivors p (st.hints 0) rest))) (a.now
+              ∷ survivors p (st.hints 0) rest)) stays
               ∙ ap (λ t. t ∷ survivors p (st.hints 0) rest) (now_seat p st bits (with_guess arrays sp.hint) args sp)
-              ∙ ap (λ c. (cond c (seat p (with_guess arrays sp.hint) args (now_spot p st bits sp) ∷ []) [] ++ []) ++ survivors p (st.hints 0) rest) (sym (lt-ltb sp.stage (length p.stages) low));
+              ∙ ap (λ c. (cond c (seat p (with_guess arrays sp.hint) args (now_spot p st bits sp) ∷ []) [] ++ []) ++ survivors p (st.hints 0) rest)
+              (sym (lt-ltb sp.stage (length p.stages) low));
           standing = (
-            head_stands p acc image st bits past past' all rows known older v v' d w asks (with_guess arrays sp.hint) args ahead ahead' sp true rows' b h strays stays now nowa
+            head_stands p acc image st bits past past' all rows known older v v' d w asks
+                (with_guess arrays sp.hint) args ahead ahead' sp true rows' b h strays stays now nowa
                 (λ m c. quiet m),
             λ m. words_step _ (past m) (past' m) (strips m (v m ++ marks p (with_guess arrays sp.hint) args sp.stage m)) (d m ++ [])
                 (strips m (v' m ++ marks p (with_guess arrays sp.hint) args sp.stage m)) (of_mem m (commits_of rest)) (total m)
                 (later_strips m _ (d m ++ []) _
-                (later_more m (v m) (d m) (v' m) (marks p (with_guess arrays sp.hint) args sp.stage m) [] (marks p (with_guess arrays sp.hint) args sp.stage m) (b.split m)
+                (later_more m (v m) (d m) (v' m) (marks p (with_guess arrays sp.hint) args sp.stage m) [] (marks p (with_guess arrays sp.hint) args sp.stage m)
+                (b.split m)
                 (record {
                   front = [];
                   rest = marks p (with_guess arrays sp.hint) args sp.stage m;
@@ -337,10 +357,12 @@ module _ (p : Pipe) (acc : Course p) (image : Arrays) (st : State) (bits : List 
 
     -- where a thread stands and others on their turns are behind it
     more_stands : (ts : List Thread) (h : Here p acc st.asked past w v (with_guess arrays sp.hint) args ahead sp false)
-        → Now past past' d (acts p st bits older (seat p (with_guess arrays sp.hint) args sp ∷ ts)) → NowAsks all asks (acts p st bits older (seat p (with_guess arrays sp.hint) args sp ∷ ts))
+        → Now past past' d (acts p st bits older (seat p (with_guess arrays sp.hint) args sp ∷ ts))
+        → NowAsks all asks (acts p st bits older (seat p (with_guess arrays sp.hint) args sp ∷ ts))
         → (act p st bits older (seat p (with_guess arrays sp.hint) args sp)).moves ≡ false
         → Turned p acc (st.hints 0) (next_asks p bits all 0 st.asked) past' (λ m. w m ++ of_mem m (thread p arrays args).writes)
-        (λ m. v' m ++ marks p (with_guess arrays sp.hint) args sp.stage m) (thread p arrays args).arrays (thread p arrays args).next (sp.stage ∷ ahead) (sp.stage ∷ ahead')
+        (λ m. v' m ++ marks p (with_guess arrays sp.hint) args sp.stage m) (thread p arrays args).arrays (thread p arrays args).next (sp.stage ∷ ahead)
+        (sp.stage ∷ ahead')
         (acts p st bits (act p st bits older (seat p (with_guess arrays sp.hint) args sp) ∷ older) ts)
         → Turned p acc (st.hints 0) (next_asks p bits all 0 st.asked) past' w v' arrays args ahead ahead' (acts p st bits older (seat p (with_guess arrays sp.hint) args sp ∷ ts))
     more_stands ts h now nowa stays t =
@@ -353,16 +375,20 @@ module _ (p : Pipe) (acc : Course p) (image : Arrays) (st : State) (bits : List 
           strays = t.strays;
           threads =
               ap
-              (λ c. cond c (moved_to (exit_of p a) a.now.hint a.work ++ (born_threads p (st.hints 0) a.work.child ++ (if a.work.fails then [] else survivors p (st.hints 0) rest))) (a.now ∷ survivors p (st.hints 0) rest)) stays
+              (λ c. cond c (moved_to (exit_of p a) a.now.hint a.work
+              ++ (born_threads p (st.hints 0) a.work.child ++ (if a.work.fails then [] else survivors p (st.hints 0) rest))) (a.now
+              ∷ survivors p (st.hints 0) rest)) stays
               ∙ ap₂ (λ x xs. x ∷ xs) (now_seat p st bits (with_guess arrays sp.hint) args sp) t.threads
               ∙ ap
               (λ c.
-              (cond c (seat p (with_guess arrays sp.hint) args (now_spot p st bits sp) ∷ []) [] ++ shown p (thread p arrays args).arrays (thread p arrays args).next t.spots)
+              (cond c (seat p (with_guess arrays sp.hint) args (now_spot p st bits sp) ∷ []) []
+              ++ shown p (thread p arrays args).arrays (thread p arrays args).next t.spots)
               ++ t.strays)
               (sym (lt-ltb sp.stage (length p.stages) low));
           standing = (
             subst (λ l. Here p acc (next_asks p bits all 0 st.asked) past' w v' (with_guess arrays sp.hint) args ahead' (now_spot p st bits sp) l) (sym t.some)
-                (head_stands p acc image st bits past past' all rows known older v v' d w asks (with_guess arrays sp.hint) args ahead ahead' sp false rows' b h ts stays now nowa
+                (head_stands p acc image st bits past past' all rows known older v v' d w asks
+                (with_guess arrays sp.hint) args ahead ahead' sp false rows' b h ts stays now nowa
                 (λ m c. t.quiet m (quiet_before p acc (st.hints 0) older m sp.stage ahead ahead' b.moves h.under c))),
             t.standing,
           );
@@ -371,15 +397,20 @@ module _ (p : Pipe) (acc : Course p) (image : Arrays) (st : State) (bits : List 
           ended =
               ap (λ c. (c && is_none (exit_of p a)) || ends_one p rest) stays ∙ t.ended
               ∙ none_past p acc _ past' _ _ _ _ sp.stage ahead' t.spots (le_of_lt low) t.standing ∙ ap not (sym (lt-ltb sp.stage (length p.stages) low));
-          quiet = λ m c. ap (λ t. of_mem m (cond t (a.work.commits ++ commits_of rest) (commits_of rest))) stays ∙ t.quiet m (quiet_behind p acc (st.hints 0) older m sp.stage ahead ahead' b.moves h.under c);
+          quiet =
+              λ m c. ap (λ t. of_mem m (cond t (a.work.commits ++ commits_of rest) (commits_of rest))) stays ∙ t.quiet m
+              (quiet_behind p acc (st.hints 0) older m sp.stage ahead ahead' b.moves h.under c);
         }
 
     -- after a cycle in which the first thread moves, and others stand behind it, the threads from it on are again on their turns
     more_moves : (ts : List Thread) (h : Here p acc st.asked past w v (with_guess arrays sp.hint) args ahead sp false)
-        → Now past past' d (acts p st bits older (seat p (with_guess arrays sp.hint) args sp ∷ ts)) → NowAsks all asks (acts p st bits older (seat p (with_guess arrays sp.hint) args sp ∷ ts))
-        → (act p st bits older (seat p (with_guess arrays sp.hint) args sp)).moves ≡ true → ((stage_work p (with_guess arrays sp.hint) args sp.stage).child ≡ None) × ((stage_work p (with_guess arrays sp.hint) args sp.stage).fails ≡ false)
+        → Now past past' d (acts p st bits older (seat p (with_guess arrays sp.hint) args sp ∷ ts))
+        → NowAsks all asks (acts p st bits older (seat p (with_guess arrays sp.hint) args sp ∷ ts))
+        → (act p st bits older (seat p (with_guess arrays sp.hint) args sp)).moves ≡ true
+        → ((stage_work p (with_guess arrays sp.hint) args sp.stage).child ≡ None) × ((stage_work p (with_guess arrays sp.hint) args sp.stage).fails ≡ false)
         → Turned p acc (st.hints 0) (next_asks p bits all 0 st.asked) past' (λ m. w m ++ of_mem m (thread p arrays args).writes)
-        (λ m. v' m ++ marks p (with_guess arrays sp.hint) args (next_at p (with_guess arrays sp.hint) args sp.stage) m) (thread p arrays args).arrays (thread p arrays args).next (sp.stage ∷ ahead)
+        (λ m. v' m ++ marks p (with_guess arrays sp.hint) args (next_at p (with_guess arrays sp.hint) args sp.stage) m) (thread p arrays args).arrays
+        (thread p arrays args).next (sp.stage ∷ ahead)
         (next_at p (with_guess arrays sp.hint) args sp.stage ∷ ahead')
         (acts p st bits (act p st bits older (seat p (with_guess arrays sp.hint) args sp) ∷ older) ts)
         → Turned p acc (st.hints 0) (next_asks p bits all 0 st.asked) past' w v' arrays args ahead ahead' (acts p st bits older (seat p (with_guess arrays sp.hint) args sp ∷ ts))
@@ -388,25 +419,32 @@ module _ (p : Pipe) (acc : Course p) (image : Arrays) (st : State) (bits : List 
         let rest : List Act = acts p st bits (act p st bits older (seat p (with_guess arrays sp.hint) args sp) ∷ older) ts in
         let low : sp.stage < length p.stages =
         low_here p acc image st bits past past' all rows known older v v' d w asks (with_guess arrays sp.hint) args ahead ahead' sp false rows' b h in
-        let same = work_same p acc image st bits past past' all rows known older v v' d w asks (with_guess arrays sp.hint) args ahead ahead' sp false rows' b h goes in
+        let same = work_same p acc image st bits past past' all rows known older v v' d w asks
+        (with_guess arrays sp.hint) args ahead ahead' sp false rows' b h goes in
         record {
           spots = moved_spot p (with_guess arrays sp.hint) args sp.stage ∷ t.spots;
           strays = t.strays;
           threads =
               after_move p acc (st.hints 0) (with_guess arrays sp.hint) args sp.stage a rest h.on low goes refl refl same None right.0 false right.1
               ∙ ap
-              (λ l. (cond (nat_lt (next_at p (with_guess arrays sp.hint) args sp.stage) (length p.stages)) (seat p (with_guess arrays sp.hint) args (moved_spot p (with_guess arrays sp.hint) args sp.stage) ∷ []) [])
+              (λ l. (cond (nat_lt (next_at p (with_guess arrays sp.hint) args sp.stage) (length p.stages))
+              (seat p (with_guess arrays sp.hint) args (moved_spot p (with_guess arrays sp.hint) args sp.stage) ∷ []) [])
               ++ l) t.threads
               ∙ sym
               (append_assoc
-              (cond (nat_lt (next_at p (with_guess arrays sp.hint) args sp.stage) (length p.stages)) (seat p (with_guess arrays sp.hint) args (moved_spot p (with_guess arrays sp.hint) args sp.stage) ∷ []) [])
+              (cond (nat_lt (next_at p (with_guess arrays sp.hint) args sp.stage) (length p.stages))
+              (seat p (with_guess arrays sp.hint) args (moved_spot p (with_guess arrays sp.hint) args sp.stage) ∷ []) [])
               (shown p (thread p arrays args).arrays (thread p arrays args).next t.spots) t.strays);
           standing = (
-            subst (λ l. Here p acc (next_asks p bits all 0 st.asked) past' w v' (with_guess arrays sp.hint) args ahead' (moved_spot p (with_guess arrays sp.hint) args sp.stage) l) (sym t.some)
-                (head_moves p acc image st bits past past' all rows known older v v' d w asks (with_guess arrays sp.hint) args ahead ahead' sp false rows' b h goes ts false now nowa
+            subst
+                (λ l. Here p acc (next_asks p bits all 0 st.asked) past' w v' (with_guess arrays sp.hint) args ahead'
+                (moved_spot p (with_guess arrays sp.hint) args sp.stage) l) (sym t.some)
+                (head_moves p acc image st bits past past' all rows known older v v' d w asks
+                (with_guess arrays sp.hint) args ahead ahead' sp false rows' b h goes ts false now nowa
                 (λ m c. t.quiet m (quiet_before p acc (st.hints 0) older m sp.stage ahead ahead' b.moves h.under c))
                 (ap (λ c. right_guess c (thread p arrays args).next)
-                (acc.child_next (with_guess arrays sp.hint) args sp.stage h.on low ∙ ap (λ c. or_else c (so_far p (with_guess arrays sp.hint) args sp.stage).child) right.0)
+                (acc.child_next (with_guess arrays sp.hint) args sp.stage h.on low
+                ∙ ap (λ c. or_else c (so_far p (with_guess arrays sp.hint) args sp.stage).child) right.0)
                 ∙ h.linked)),
             t.standing,
           );
@@ -419,76 +457,113 @@ module _ (p : Pipe) (acc : Course p) (image : Arrays) (st : State) (bits : List 
               (acc.graph.inside sp.stage (stage_work p (with_guess arrays sp.hint) args sp.stage).env low) t.standing);
           quiet =
               λ m c. quiet_more p acc (st.hints 0) m a rest ahead sp.stage h.under
-              (commits_quiet p acc image st bits past past' all rows known older v v' d w asks (with_guess arrays sp.hint) args ahead ahead' sp false rows' b h goes m) (λ u. (calm_here p acc image st bits past past' all rows known older v v' d w asks (with_guess arrays sp.hint) args ahead ahead' sp false rows' b h goes u).commits) c
+              (commits_quiet p acc image st bits past past' all rows known older v v' d w asks
+              (with_guess arrays sp.hint) args ahead ahead' sp false rows' b h goes m) (λ u.
+              (calm_here p acc image st bits past past' all rows known older v v' d w asks
+              (with_guess arrays sp.hint) args ahead ahead' sp false rows' b h goes u).commits) c
               (t.quiet m (quiet_behind p acc (st.hints 0) older m sp.stage ahead ahead' b.moves h.under c));
         }
 
     -- what is known of one that moves
-    moving : (ts : List Thread) (last : Bool) (h : Here p acc st.asked past w v (with_guess arrays sp.hint) args ahead sp last) → ((m : ℕ) → w m ++ of_mem m (thread p arrays args).writes ≡ past m ++ strips m (v m ++ marks p (with_guess arrays sp.hint) args sp.stage m))
-        → Now past past' d (acts p st bits older (seat p (with_guess arrays sp.hint) args sp ∷ ts)) → NowAsks all asks (acts p st bits older (seat p (with_guess arrays sp.hint) args sp ∷ ts))
+    moving : (ts : List Thread) (last : Bool) (h : Here p acc st.asked past w v (with_guess arrays sp.hint) args ahead sp last)
+        → ((m : ℕ) → w m ++ of_mem m (thread p arrays args).writes ≡ past m ++ strips m (v m ++ marks p (with_guess arrays sp.hint) args sp.stage m))
+        → Now past past' d (acts p st bits older (seat p (with_guess arrays sp.hint) args sp ∷ ts))
+        → NowAsks all asks (acts p st bits older (seat p (with_guess arrays sp.hint) args sp ∷ ts))
         → (goes : (act p st bits older (seat p (with_guess arrays sp.hint) args sp)).moves ≡ true)
-        → commits_of (acts p st bits (act p st bits older (seat p (with_guess arrays sp.hint) args sp) ∷ older) ts) ≡ [] → ends_one p (acts p st bits (act p st bits older (seat p (with_guess arrays sp.hint) args sp) ∷ older) ts) ≡ false
+        → commits_of (acts p st bits (act p st bits older (seat p (with_guess arrays sp.hint) args sp) ∷ older) ts) ≡ []
+        → ends_one p (acts p st bits (act p st bits older (seat p (with_guess arrays sp.hint) args sp) ∷ older) ts) ≡ false
         → Moving p acc (st.hints 0) (next_asks p bits all 0 st.asked) past' w v' (with_guess arrays sp.hint) args ahead ahead' sp.stage (act p st bits older (seat p (with_guess arrays sp.hint) args sp)) (acts p st bits (act p st bits older (seat p (with_guess arrays sp.hint) args sp) ∷ older) ts)
     moving ts last h total now nowa goes silent ended =
         let a : Act = act p st bits older (seat p (with_guess arrays sp.hint) args sp) in
         let rest : List Act = acts p st bits (act p st bits older (seat p (with_guess arrays sp.hint) args sp) ∷ older) ts in
-        let quiet : (m : ℕ) → of_mem m (commits_of (acts p st bits (act p st bits older (seat p (with_guess arrays sp.hint) args sp) ∷ older) ts)) ≡ [] = λ m. ap (of_mem m) silent in
-        let step = behind_moved p acc image st bits past past' all rows known older v v' d w asks (with_guess arrays sp.hint) args ahead ahead' sp last rows' b h goes in
+        let quiet : (m : ℕ) → of_mem m (commits_of (acts p st bits (act p st bits older (seat p (with_guess arrays sp.hint) args sp) ∷ older) ts))
+        ≡ [] = λ m. ap (of_mem m) silent in
+        let step = behind_moved p acc image st bits past past' all rows known older v v' d w asks
+        (with_guess arrays sp.hint) args ahead ahead' sp last rows' b h goes in
         record {
           low = low_here p acc image st bits past past' all rows known older v v' d w asks (with_guess arrays sp.hint) args ahead ahead' sp last rows' b h;
           on = h.on;
           goes = goes;
           is = refl;
           hinted = refl;
-          same = work_same p acc image st bits past past' all rows known older v v' d w asks (with_guess arrays sp.hint) args ahead ahead' sp last rows' b h goes;
-          head = λ last' k. head_moves p acc image st bits past past' all rows known older v v' d w asks (with_guess arrays sp.hint) args ahead ahead' sp last rows' b h goes ts last' now nowa (λ m c. quiet m) k;
-          total = λ m. words_step _ (past m) (past' m) (strips m (v m ++ marks p (with_guess arrays sp.hint) args sp.stage m)) _ (strips m (v' m ++ marks p (with_guess arrays sp.hint) args (next_at p (with_guess arrays sp.hint) args sp.stage) m)) (of_mem m (commits_of rest)) (total m)
+          same =
+              work_same p acc image st bits past past' all rows known older v v' d w asks (with_guess arrays sp.hint) args ahead ahead' sp last rows' b h goes;
+          head =
+              λ last' k. head_moves p acc image st bits past past' all rows known older v v' d w asks
+              (with_guess arrays sp.hint) args ahead ahead' sp last rows' b h goes ts last' now nowa (λ m c. quiet m) k;
+          total =
+              λ m. words_step _ (past m) (past' m) (strips m (v m ++ marks p (with_guess arrays sp.hint) args sp.stage m)) _
+              (strips m (v' m ++ marks p (with_guess arrays sp.hint) args (next_at p (with_guess arrays sp.hint) args sp.stage) m)) (of_mem m (commits_of rest))
+              (total m)
               (later_strips m _ _ _ (step.1.split m)) (now_moved past past' d a rest goes now m) (quiet m);
           ended = ended;
-          quiet = λ m c. quiet_more p acc (st.hints 0) m a rest ahead sp.stage h.under (commits_quiet p acc image st bits past past' all rows known older v v' d w asks (with_guess arrays sp.hint) args ahead ahead' sp last rows' b h goes m)
-              (λ u. (calm_here p acc image st bits past past' all rows known older v v' d w asks (with_guess arrays sp.hint) args ahead ahead' sp last rows' b h goes u).commits) c (quiet m);
+          quiet =
+              λ m c. quiet_more p acc (st.hints 0) m a rest ahead sp.stage h.under
+              (commits_quiet p acc image st bits past past' all rows known older v v' d w asks
+              (with_guess arrays sp.hint) args ahead ahead' sp last rows' b h goes m)
+              (λ u. (calm_here p acc image st bits past past' all rows known older v v' d w asks
+              (with_guess arrays sp.hint) args ahead ahead' sp last rows' b h goes u).commits) c (quiet m);
         }
 
     -- where it moves and replaces those behind it: they released nothing, as its guess wasn't verified
-    more_changes : (ts : List Thread) (h : Here p acc st.asked past w v (with_guess arrays sp.hint) args ahead sp false) → ((m : ℕ) → Unsure p acc.v (sp.stage ∷ ahead) → w m ++ of_mem m (thread p arrays args).writes ≡ past m ++ strips m (v m ++ marks p (with_guess arrays sp.hint) args sp.stage m))
-        → Now past past' d (acts p st bits older (seat p (with_guess arrays sp.hint) args sp ∷ ts)) → NowAsks all asks (acts p st bits older (seat p (with_guess arrays sp.hint) args sp ∷ ts))
-        → (act p st bits older (seat p (with_guess arrays sp.hint) args sp)).moves ≡ true → (y : List ℕ) × ((stage_work p (with_guess arrays sp.hint) args sp.stage).child ≡ Some y) × ((stage_work p (with_guess arrays sp.hint) args sp.stage).fails ≡ true)
+    more_changes : (ts : List Thread) (h : Here p acc st.asked past w v (with_guess arrays sp.hint) args ahead sp false)
+        →
+        ((m : ℕ) → Unsure p acc.v (sp.stage ∷ ahead) → w m ++ of_mem m (thread p arrays args).writes
+        ≡ past m ++ strips m (v m ++ marks p (with_guess arrays sp.hint) args sp.stage m))
+        → Now past past' d (acts p st bits older (seat p (with_guess arrays sp.hint) args sp ∷ ts))
+        → NowAsks all asks (acts p st bits older (seat p (with_guess arrays sp.hint) args sp ∷ ts))
+        → (act p st bits older (seat p (with_guess arrays sp.hint) args sp)).moves ≡ true
+        → (y : List ℕ) × ((stage_work p (with_guess arrays sp.hint) args sp.stage).child ≡ Some y)
+        × ((stage_work p (with_guess arrays sp.hint) args sp.stage).fails ≡ true)
         → Turned p acc (st.hints 0) (next_asks p bits all 0 st.asked) past' w v' arrays args ahead ahead' (acts p st bits older (seat p (with_guess arrays sp.hint) args sp ∷ ts))
     more_changes ts h words now nowa goes changed =
         let a : Act = act p st bits older (seat p (with_guess arrays sp.hint) args sp) in
-        let same = work_same p acc image st bits past past' all rows known older v v' d w asks (with_guess arrays sp.hint) args ahead ahead' sp false rows' b h goes in
+        let same = work_same p acc image st bits past past' all rows known older v v' d w asks
+        (with_guess arrays sp.hint) args ahead ahead' sp false rows' b h goes in
         let made = some_right (so_far p (with_guess arrays sp.hint) args sp.stage).child (thread p arrays args).next h.linked in
         let early = acc.changes_early (with_guess arrays sp.hint) args sp.stage made.0 h.on made.1 changed.2 in
-        let held = held_back p st bits (act p st bits older (seat p (with_guess arrays sp.hint) args sp) ∷ older) ts (ap₂ (λ x y. not (x && y) && list_all (λ o. not (o.moves && o.work.fails)) older) goes (ap (λ (k : Work). k.fails) same ∙ changed.2)) in
-        replaced p acc (st.hints 0) (next_asks p bits all 0 st.asked) past' w v' (with_guess arrays sp.hint) args ahead ahead' sp.stage a (acts p st bits (act p st bits older (seat p (with_guess arrays sp.hint) args sp) ∷ older) ts)
+        let held = held_back p st bits (act p st bits older (seat p (with_guess arrays sp.hint) args sp) ∷ older) ts
+        (ap₂ (λ x y. not (x && y) && list_all (λ o. not (o.moves && o.work.fails)) older) goes (ap (λ (k : Work). k.fails) same ∙ changed.2)) in
+        replaced p acc (st.hints 0) (next_asks p bits all 0 st.asked) past' w v' (with_guess arrays sp.hint) args ahead ahead' sp.stage a
+        (acts p st bits (act p st bits older (seat p (with_guess arrays sp.hint) args sp) ∷ older) ts)
         (moving ts false h (λ m. words m (early.1, early.0)) now nowa goes held.0 held.1) changed.0 changed.1 changed.2
 
     -- where it moves and others on their turns are behind it
-    more_goes : (ts : List Thread) (h : Here p acc st.asked past w v (with_guess arrays sp.hint) args ahead sp false) → ((m : ℕ) → Unsure p acc.v (sp.stage ∷ ahead) → w m ++ of_mem m (thread p arrays args).writes ≡ past m ++ strips m (v m ++ marks p (with_guess arrays sp.hint) args sp.stage m))
-        → Now past past' d (acts p st bits older (seat p (with_guess arrays sp.hint) args sp ∷ ts)) → NowAsks all asks (acts p st bits older (seat p (with_guess arrays sp.hint) args sp ∷ ts))
+    more_goes : (ts : List Thread) (h : Here p acc st.asked past w v (with_guess arrays sp.hint) args ahead sp false)
+        →
+        ((m : ℕ) → Unsure p acc.v (sp.stage ∷ ahead) → w m ++ of_mem m (thread p arrays args).writes
+        ≡ past m ++ strips m (v m ++ marks p (with_guess arrays sp.hint) args sp.stage m))
+        → Now past past' d (acts p st bits older (seat p (with_guess arrays sp.hint) args sp ∷ ts))
+        → NowAsks all asks (acts p st bits older (seat p (with_guess arrays sp.hint) args sp ∷ ts))
         → (act p st bits older (seat p (with_guess arrays sp.hint) args sp)).moves ≡ true
         → Turned p acc (st.hints 0) (next_asks p bits all 0 st.asked) past' (λ m. w m ++ of_mem m (thread p arrays args).writes) (λ m. v' m ++ marks p (with_guess arrays sp.hint) args (next_at p (with_guess arrays sp.hint) args sp.stage) m) (thread p arrays args).arrays (thread p arrays args).next (sp.stage ∷ ahead) (next_at p (with_guess arrays sp.hint) args sp.stage ∷ ahead')
         (acts p st bits (act p st bits older (seat p (with_guess arrays sp.hint) args sp) ∷ older) ts)
-        → Changed (stage_work p (with_guess arrays sp.hint) args sp.stage) → Turned p acc (st.hints 0) (next_asks p bits all 0 st.asked) past' w v' arrays args ahead ahead' (acts p st bits older (seat p (with_guess arrays sp.hint) args sp ∷ ts))
+        → Changed (stage_work p (with_guess arrays sp.hint) args sp.stage)
+        → Turned p acc (st.hints 0) (next_asks p bits all 0 st.asked) past' w v' arrays args ahead ahead'
+        (acts p st bits older (seat p (with_guess arrays sp.hint) args sp ∷ ts))
     more_goes ts h words now nowa goes t (inl c) = more_moves ts h now nowa goes c t
     more_goes ts h words now nowa goes t (inr c) = more_changes ts h words now nowa goes c
 
     -- the last one, where it moves
     last_goes : (strays : List Thread) (h : Here p acc st.asked past w v (with_guess arrays sp.hint) args ahead sp true)
         → ((m : ℕ) → w m ++ of_mem m (thread p arrays args).writes ≡ past m ++ strips m (v m ++ marks p (with_guess arrays sp.hint) args sp.stage m))
-        → Now past past' d (acts p st bits older (seat p (with_guess arrays sp.hint) args sp ∷ strays)) → NowAsks all asks (acts p st bits older (seat p (with_guess arrays sp.hint) args sp ∷ strays))
+        → Now past past' d (acts p st bits older (seat p (with_guess arrays sp.hint) args sp ∷ strays))
+        → NowAsks all asks (acts p st bits older (seat p (with_guess arrays sp.hint) args sp ∷ strays))
         → Last p acc.stray acc.made sp.stage (so_far p (with_guess arrays sp.hint) args sp.stage).child strays
         → (act p st bits older (seat p (with_guess arrays sp.hint) args sp)).moves ≡ true
         → Turned p acc (st.hints 0) (next_asks p bits all 0 st.asked) past' w v' arrays args ahead ahead' (acts p st bits older (seat p (with_guess arrays sp.hint) args sp ∷ strays))
     last_goes strays h total now nowa l goes =
         let low : sp.stage < length p.stages =
         low_here p acc image st bits past past' all rows known older v v' d w asks (with_guess arrays sp.hint) args ahead ahead' sp true rows' b h in
-        let up : sp.stage < next_at p (with_guess arrays sp.hint) args sp.stage = acc.graph.up sp.stage (stage_work p (with_guess arrays sp.hint) args sp.stage).env low in
+        let up : sp.stage < next_at p (with_guess arrays sp.hint) args sp.stage = acc.graph.up sp.stage
+        (stage_work p (with_guess arrays sp.hint) args sp.stage).env low in
         let after : StraysAfter p (st.hints 0) acc.stray acc.made (next_at p (with_guess arrays sp.hint) args sp.stage) (nobody strays)
         (acts p st bits (act p st bits older (seat p (with_guess arrays sp.hint) args sp) ∷ older) strays) =
         stray_rest p acc (st.hints 0) st bits (with_guess arrays sp.hint) args older sp.stage (next_at p (with_guess arrays sp.hint) args sp.stage)
         (act p st bits older (seat p (with_guess arrays sp.hint) args sp)) strays _ refl h.linked l (le_of_lt up) refl (λ _. up) in
-        last_moves p acc (st.hints 0) (next_asks p bits all 0 st.asked) past' w v' (with_guess arrays sp.hint) args ahead ahead' sp.stage (act p st bits older (seat p (with_guess arrays sp.hint) args sp)) (acts p st bits (act p st bits older (seat p (with_guess arrays sp.hint) args sp) ∷ older) strays)
+        last_moves p acc (st.hints 0) (next_asks p bits all 0 st.asked) past' w v' (with_guess arrays sp.hint) args ahead ahead' sp.stage
+        (act p st bits older (seat p (with_guess arrays sp.hint) args sp))
+        (acts p st bits (act p st bits older (seat p (with_guess arrays sp.hint) args sp) ∷ older) strays)
         (moving strays true h total now nowa goes after.commits after.ended)
         strays (λ k. ap (λ ts. acts p st bits (act p st bits older (seat p (with_guess arrays sp.hint) args sp) ∷ older) ts) k) after
         (so_far p (with_guess arrays sp.hint) args sp.stage).child refl h.linked l (stage_work p (with_guess arrays sp.hint) args sp.stage).child refl
@@ -505,7 +580,8 @@ module _ (p : Pipe) (acc : Course p) (image : Arrays) (st : State) (bits : List 
   turned older v v' d w asks arrays args ahead ahead' [] strays rows' b h l some now nowa = absurd (cc some)
   turned older v v' d w asks arrays args ahead ahead' (sp ∷ []) strays rows' b h l some now nowa =
       by_bool (act p st bits older (seat p (with_guess arrays sp.hint) args sp)).moves
-      (Turned p acc (st.hints 0) (next_asks p bits all 0 st.asked) past' w v' arrays args ahead ahead' (acts p st bits older (seat p (with_guess arrays sp.hint) args sp ∷ strays)))
+      (Turned p acc (st.hints 0) (next_asks p bits all 0 st.asked) past' w v' arrays args ahead ahead'
+      (acts p st bits older (seat p (with_guess arrays sp.hint) args sp ∷ strays)))
       (λ e. last_goes older v v' d w asks arrays args ahead ahead' sp rows' b strays h.0 h.1 now nowa l e)
       (λ e. last_stands older v v' d w asks arrays args ahead ahead' sp rows' b strays h.0 h.1 now nowa l e)
   turned older v v' d w asks arrays args ahead ahead' (sp ∷ r ∷ sps) strays rows' b h l some now nowa =
@@ -513,11 +589,13 @@ module _ (p : Pipe) (acc : Course p) (image : Arrays) (st : State) (bits : List 
       (Turned p acc (st.hints 0) (next_asks p bits all 0 st.asked) past' w v' arrays args ahead ahead'
       (acts p st bits older (seats p arrays args (sp ∷ r ∷ sps) ++ strays)))
       (λ e.
-      let step = behind_moved p acc image st bits past past' all rows known older v v' d w asks (with_guess arrays sp.hint) args ahead ahead' sp false rows' b h.0 e in
+      let step = behind_moved p acc image st bits past past' all rows known older v v' d w asks
+      (with_guess arrays sp.hint) args ahead ahead' sp false rows' b h.0 e in
       let made = some_right (so_far p (with_guess arrays sp.hint) args sp.stage).child (thread p arrays args).next h.0.linked in
       more_goes older v v' d w asks arrays args ahead ahead' sp rows' b
       (seats p (thread p arrays args).arrays (thread p arrays args).next (r ∷ sps) ++ strays) h.0 (λ m u. h.1.0.words m (inr u)) now nowa e
-      (turned (act p st bits older (seat p (with_guess arrays sp.hint) args sp) ∷ older) _ _ _ (λ m. w m ++ of_mem m (thread p arrays args).writes) _ (thread p arrays args).arrays
+      (turned (act p st bits older (seat p (with_guess arrays sp.hint) args sp) ∷ older) _ _ _ (λ m. w m ++ of_mem m (thread p arrays args).writes) _
+      (thread p arrays args).arrays
       (thread p arrays args).next (sp.stage ∷ ahead)
       (next_at p (with_guess arrays sp.hint) args sp.stage ∷ ahead') (r ∷ sps) strays
       (rows_next p acc image w (with_guess arrays sp.hint) args rows') step.1 h.1 l refl
@@ -531,11 +609,13 @@ module _ (p : Pipe) (acc : Course p) (image : Arrays) (st : State) (bits : List 
       (λ e.
       more_stands older v v' d w asks arrays args ahead ahead' sp rows' b
       (seats p (thread p arrays args).arrays (thread p arrays args).next (r ∷ sps) ++ strays) h.0 now nowa e
-      (turned (act p st bits older (seat p (with_guess arrays sp.hint) args sp) ∷ older) _ _ _ (λ m. w m ++ of_mem m (thread p arrays args).writes) _ (thread p arrays args).arrays
+      (turned (act p st bits older (seat p (with_guess arrays sp.hint) args sp) ∷ older) _ _ _ (λ m. w m ++ of_mem m (thread p arrays args).writes) _
+      (thread p arrays args).arrays
       (thread p arrays args).next (sp.stage ∷ ahead)
       (sp.stage ∷ ahead') (r ∷ sps) strays
       (rows_next p acc image w (with_guess arrays sp.hint) args rows')
-      (behind_stands p acc image st bits past past' all rows known older v v' d w asks (with_guess arrays sp.hint) args ahead ahead' sp false rows' b h.0 e) h.1 l refl
+      (behind_stands p acc image st bits past past' all rows known older v v' d w asks
+      (with_guess arrays sp.hint) args ahead ahead' sp false rows' b h.0 e) h.1 l refl
       (now_stays past past' d (act p st bits older (seat p (with_guess arrays sp.hint) args sp))
       (acts p st bits (act p st bits older (seat p (with_guess arrays sp.hint) args sp) ∷ older)
       (seats p (thread p arrays args).arrays (thread p arrays args).next (r ∷ sps) ++ strays)) e now)

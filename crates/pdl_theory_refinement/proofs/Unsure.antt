@@ -31,21 +31,27 @@ pub held_back : (p : Pipe) (st : State) (bits : List Bool) (older : List Act) (t
 held_back p st bits older [] h = (refl, refl)
 held_back p st bits older (t ∷ ts) h =
     let a : Act = act p st bits older t in
-    let stays : a.moves ≡ false = ap (λ b. b && a.work.ready && have_room p (befores older) a.work && is_empty a.now.awaits && can_enter p older (exit_of p a)) h in
-    let rest = held_back p st bits (act p st bits older t ∷ older) ts (ap (λ b. not (a.moves && a.work.fails) && b) h ∙ and_false (not (a.moves && a.work.fails))) in
+    let stays : a.moves
+    ≡ false = ap (λ b. b && a.work.ready && have_room p (befores older) a.work && is_empty a.now.awaits && can_enter p older (exit_of p a)) h in
+    let rest = held_back p st bits (act p st bits older t ∷ older) ts
+    (ap (λ b. not (a.moves && a.work.fails) && b) h ∙ and_false (not (a.moves && a.work.fails))) in
     (ap₂ (λ b l. cond b (a.work.commits ++ l) l) stays rest.0, ap₂ (λ b c. (b && is_none (exit_of p a)) || c) stays rest.1)
 
 module _ (p : Pipe) (acc : Course p) where
   -- one that is behind it stands before V, and a barrier of the trunk is not clear for it
-  pub unsure_older : (older : List Act) (bs bs' : List ℕ) (s : ℕ) → Moves p older bs bs' → AllUnder p bs s → Unsure p acc.v bs → (s < acc.v) × (Trunk p s → barrier_clear (verify_stage p.stmts) s (befores older) ≡ false)
+  pub unsure_older : (older : List Act) (bs bs' : List ℕ) (s : ℕ)
+      → Moves p older bs bs' → AllUnder p bs s → Unsure p acc.v bs
+      → (s < acc.v) × (Trunk p s → barrier_clear (verify_stage p.stmts) s (befores older) ≡ false)
   unsure_older [] [] bs' s m u k = absurd m
   unsure_older [] (b ∷ []) [] s m u k = absurd m
-  unsure_older [] (b ∷ []) (b' ∷ []) s m u k = absurd (let i : length p.stages ≤ acc.v = subst (λ n. n ≤ acc.v) m.0 k.1 in let j : acc.v < length p.stages = acc.v_inside in omega arith)
+  unsure_older [] (b ∷ []) (b' ∷ []) s m u k =
+      absurd (let i : length p.stages ≤ acc.v = subst (λ n. n ≤ acc.v) m.0 k.1 in let j : acc.v < length p.stages = acc.v_inside in omega arith)
   unsure_older [] (b ∷ []) (b' ∷ c' ∷ bs') s m u k = absurd m
   unsure_older [] (b ∷ c ∷ bs) bs' s m u k = absurd m
   unsure_older (o ∷ os) [] bs' s m u k = absurd m
   unsure_older (o ∷ os) (b ∷ bs) [] s m u k = absurd m
-  unsure_older (o ∷ os) (b ∷ bs) (b' ∷ bs') s m u k = (shallow (nat_lt s acc.v) refl, λ t. subst (λ o'. barrier_clear o' s (befores (o ∷ os)) ≡ false) (sym k.0) (unclear (behind s t (le_refl s))))
+  unsure_older (o ∷ os) (b ∷ bs) (b' ∷ bs') s m u k =
+      (shallow (nat_lt s acc.v) refl, λ t. subst (λ o'. barrier_clear o' s (befores (o ∷ os)) ≡ false) (sym k.0) (unclear (behind s t (le_refl s))))
     where
       behind : (r : ℕ) → Trunk p r → r ≤ s → r < b
       behind r t i = u.0 [] (within_all p _) (within_all p _) r t i
@@ -55,7 +61,9 @@ module _ (p : Pipe) (acc : Course p) where
       shallow false e = absurd (let i : acc.v < b = behind acc.v acc.trunk_v (ltb-false _ _ e) in let j : b ≤ acc.v = k.1 in omega arith)
 
       unclear : s < b → barrier_clear (Some acc.v) s (befores (o ∷ os)) ≡ false
-      unclear i = ap₂ (λ x y. (x || y) && barrier_clear (Some acc.v) s (befores os)) (ap (λ n. nat_le n s) m.0 ∙ above b s i) (ap (nat_lt acc.v) m.0 ∙ below b acc.v k.1)
+      unclear i =
+          ap₂ (λ x y. (x || y) && barrier_clear (Some acc.v) s (befores os)) (ap (λ n. nat_le n s) m.0 ∙ above b s i)
+          (ap (nat_lt acc.v) m.0 ∙ below b acc.v k.1)
         where
           above : (n r : ℕ) → r < n → nat_le n r ≡ false
           above n r h = grind (arith, leb_tells)
@@ -76,7 +84,8 @@ module _ (p : Pipe) (acc : Course p) where
   pub unsure_before : (older : List Act) (bs bs' : List ℕ) → Moves p older bs bs' → Unsure p acc.v bs' → Unsure p acc.v bs
   unsure_before [] [] bs' m k = absurd m
   unsure_before [] (b ∷ []) [] m k = absurd m
-  unsure_before [] (b ∷ []) (b' ∷ []) m k = absurd (let i : suc (length p.stages) ≤ acc.v = subst (λ n. n ≤ acc.v) m.1 k.1 in let j : acc.v < length p.stages = acc.v_inside in omega arith)
+  unsure_before [] (b ∷ []) (b' ∷ []) m k =
+      absurd (let i : suc (length p.stages) ≤ acc.v = subst (λ n. n ≤ acc.v) m.1 k.1 in let j : acc.v < length p.stages = acc.v_inside in omega arith)
   unsure_before [] (b ∷ []) (b' ∷ c' ∷ bs') m k = absurd m
   unsure_before [] (b ∷ c ∷ bs) bs' m k = absurd m
   unsure_before (o ∷ os) [] bs' m k = absurd m

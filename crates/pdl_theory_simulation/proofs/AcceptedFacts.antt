@@ -301,7 +301,8 @@ module _ (p : Pipe) (acc : Sound p) where
   between_of c s q b l w t h there i =
       let n = led s q l.0 l.2 l.1 in
       subst (λ m. (f : ℕ) × ((stage_at p m).merges ≡ Some f) × (is_inside p f b ≡ true)) n.0
-      (acc.graph.between c s l.0 b l.2 w (subst (Home p c) (sym n.0) t) (subst (λ m. m < length p.stages) (sym n.0) n.1) h there (subst (λ m. b < m) (sym n.0) i))
+      (acc.graph.between c s l.0 b l.2 w (subst (Home p c) (sym n.0) t) (subst (λ m. m < length p.stages) (sym n.0) n.1) h there
+      (subst (λ m. b < m) (sym n.0) i))
 
   flow_graph : Ways p
   flow_graph =
@@ -313,11 +314,16 @@ module _ (p : Pipe) (acc : Sound p) where
         jump = λ c s q r l w t i j. let n = led s q l.0 l.2 l.1 in acc.graph.jump c s l.0 r l.2 w t i (subst (λ m. r ≤ m) (sym n.0) j) ∙ n.0;
         between = between_of;
         way = λ s q l. let n = led s q l.0 l.2 l.1 in subst (λ m. Way p s m) n.0 (acc.branches.way s l.0 l.2);
-        entry = λ x c q r l t w. let n = led x.fork q l.0 l.2 l.1 in subst (λ m. m ≤ r) n.0 (acc.branches.entry x c l.0 r l.2 (subst (Home p (x ∷ c)) (sym n.0) t) w);
+        entry =
+            λ x c q r l t w. let n = led x.fork q l.0 l.2 l.1 in subst (λ m. m ≤ r) n.0
+            (acc.branches.entry x c l.0 r l.2 (subst (Home p (x ∷ c)) (sym n.0) t) w);
         fork_below = acc.branches.fork;
         merge = λ s q f l e.
             let n = led s q l.0 l.2 l.1 in
-            subst (λ m. ((s ≡ f) × ((stage_at p m).branches ≡ (stage_at p s).branches)) ⊎ ((x : Branch) × ((stage_at p s).branches ≡ x ∷ (stage_at p m).branches) × (x.fork ≡ f) × ((b : ℕ) → Within p (x ∷ (stage_at p m).branches) b → b ≤ s))) n.0
+            subst
+            (λ m. ((s ≡ f) × ((stage_at p m).branches ≡ (stage_at p s).branches)) ⊎
+            ((x : Branch) × ((stage_at p s).branches ≡ x ∷ (stage_at p m).branches) × (x.fork ≡ f)
+            × ((b : ℕ) → Within p (x ∷ (stage_at p m).branches) b → b ≤ s))) n.0
             (acc.branches.merge s l.0 f l.2 (subst (λ m. (stage_at p m).merges ≡ Some f) (sym n.0) e));
         merged = acc.merged;
         unmerged = acc.unmerged;
@@ -374,10 +380,12 @@ module _ (p : Pipe) (acc : Sound p) where
       (λ s. both_of (λ y f e. λ m i. subst (λ r. (acc.fetch m ≡ r) × (m < length p.mems)) (sym e) (f m i))
       (in_stage s p.stmts) (fetch_ok_at s (in_stage s p.stmts) (acc.fetch_ok s)) (in_same s p.stmts))
 
-  apart_guess : (path : List ℕ) (s : ℕ) → (none_of is_spec_call (onpath path (in_stage s p.stmts)) ≡ true) ⊎ (none_of is_check (onpath path (in_stage s p.stmts)) ≡ true)
+  apart_guess : (path : List ℕ) (s : ℕ)
+      → (none_of is_spec_call (onpath path (in_stage s p.stmts)) ≡ true) ⊎ (none_of is_check (onpath path (in_stage s p.stmts)) ≡ true)
   apart_guess path s =
       subst (λ l. (none_of is_spec_call l ≡ true) ⊎ (none_of is_check l ≡ true)) (stage_path path s p.stmts)
-      (apart_of (verify_stage (at_once p).stmts) s Unmade None (onpath path p.stmts) (subst (λ l. makings_ok (verify_stage (at_once p).stmts) Unmade l ≡ true) (path_looked path p.stmts) (acc.pathwise.makings path))
+      (apart_of (verify_stage (at_once p).stmts) s Unmade None (onpath path p.stmts)
+      (subst (λ l. makings_ok (verify_stage (at_once p).stmts) Unmade l ≡ true) (path_looked path p.stmts) (acc.pathwise.makings path))
       (subst (λ l. checks_apart None l ≡ true) (path_looked path p.stmts) (acc.pathwise.apart path)))
 
   -- the facts of the simulation

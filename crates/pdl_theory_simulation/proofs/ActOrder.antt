@@ -52,7 +52,8 @@ module _ (p : Pipe) (flows : Flows p) (st : State) (d : Derived.State) (bits : L
   younger_branch : (x y : Pair) → Swap x y → (b : Branch) × (c : List Branch) × Home p (b ∷ c) x.live.thread.stage
   younger_branch x y s =
       in_branch x.live.thread.stage
-      (λ e. let i : x.live.thread.stage < y.live.thread.stage = left_trunk p _ _ s.behind x.live.thread.stage e (le_refl _) in let j = s.low in absurd (omega arith))
+      (λ e. let i : x.live.thread.stage < y.live.thread.stage = left_trunk p _ _ s.behind x.live.thread.stage e (le_refl _) in let j = s.low in absurd
+      (omega arith))
 
   older_branch : (x y : Pair) → Swap x y → (b : Branch) × (c : List Branch) × Home p (b ∷ c) y.live.thread.stage
   older_branch x y s =
@@ -187,17 +188,22 @@ module _ (p : Pipe) (flows : Flows p) (st : State) (d : Derived.State) (bits : L
   same_squasher = same_movers (Option ℕ) squasher (λ a z. if a.does.fails then Some a.thread.number else z) (λ a rest. refl)
       (λ x y s z.
       let bx = younger_branch x y s in let by = older_branch x y s in
-      ap₂ (λ a b. if b then Some y.live.number else (if a then Some x.live.number else z)) (plain_here x.live bx.0 bx.1 bx.2).2 (plain_here y.live by.0 by.1 by.2).2
+      ap₂ (λ a b. if b then Some y.live.number else (if a then Some x.live.number else z)) (plain_here x.live bx.0 bx.1 bx.2).2
+      (plain_here y.live by.0 by.1 by.2).2
       ∙ sym
       (ap₂ (λ a b. if a then Some x.live.number else (if b then Some y.live.number else z))
       (plain_here x.live bx.0 bx.1 bx.2).2 (plain_here y.live by.0 by.1 by.2).2))
 
-  same_squash_stage : (ls : List Live) → Swaps ls → squash_stage (movers (acts_of p flows st d bits arrays (sorted ls))) ≡ squash_stage (movers (lacts p st d bits ls))
+  same_squash_stage : (ls : List Live)
+      → Swaps ls → squash_stage (movers (acts_of p flows st d bits arrays (sorted ls))) ≡ squash_stage (movers (lacts p st d bits ls))
   same_squash_stage = same_movers (Option ℕ) squash_stage (λ a z. if a.does.fails then Some a.stage else z) (λ a rest. refl)
       (λ x y s z.
       let bx = younger_branch x y s in let by = older_branch x y s in
-      ap₂ (λ a b. if b then Some y.live.thread.stage else (if a then Some x.live.thread.stage else z)) (plain_here x.live bx.0 bx.1 bx.2).2 (plain_here y.live by.0 by.1 by.2).2
-      ∙ sym (ap₂ (λ a b. if a then Some x.live.thread.stage else (if b then Some y.live.thread.stage else z)) (plain_here x.live bx.0 bx.1 bx.2).2 (plain_here y.live by.0 by.1 by.2).2))
+      ap₂ (λ a b. if b then Some y.live.thread.stage else (if a then Some x.live.thread.stage else z)) (plain_here x.live bx.0 bx.1 bx.2).2
+      (plain_here y.live by.0 by.1 by.2).2
+      ∙ sym
+      (ap₂ (λ a b. if a then Some x.live.thread.stage else (if b then Some y.live.thread.stage else z)) (plain_here x.live bx.0 bx.1 bx.2).2
+      (plain_here y.live by.0 by.1 by.2).2))
 
   -- at most one of two asks for m
   one_asks : (m : ℕ) (x y : Pair) → Swap x y → (find_ask (deeds_of p st bits x.live).asks m ≡ None) ⊎ (find_ask (deeds_of p st bits y.live).asks m ≡ None)
@@ -266,7 +272,9 @@ module _ (p : Pipe) (flows : Flows p) (st : State) (d : Derived.State) (bits : L
   no_entry : (f : ℕ) (x : Pair) → (x.live.thread.stage == f) ≡ false → entry_of f x ≡ []
   no_entry f x e = ap (λ t. if t then goes_into p f (next_stage p x.live.thread.stage (deeds_of p st bits x.live)) else []) e
 
-  one_enters : (f : ℕ) (x y : Pair) → Swap x y → (z : List Bool) → (t : Bool) → (x.live.thread.stage == f) ≡ t → (z ++ entry_of f x) ++ entry_of f y ≡ (z ++ entry_of f y) ++ entry_of f x
+  one_enters : (f : ℕ) (x y : Pair)
+      → Swap x y → (z : List Bool) → (t : Bool) → (x.live.thread.stage == f) ≡ t
+      → (z ++ entry_of f x) ++ entry_of f y ≡ (z ++ entry_of f y) ++ entry_of f x
   one_enters f x y s z true e =
       let none = no_entry f y (ne_eqb y.live.thread.stage f (λ i. absurd (two_stages x y s (eqb-true _ _ e ∙ sym i)))) in
       ap (λ u. (z ++ entry_of f x) ++ u) none ∙ append-nil _ ∙ sym (ap (λ u. (z ++ u) ++ entry_of f x) none ∙ ap (λ u. u ++ entry_of f x) (append-nil z))
@@ -317,13 +325,16 @@ module _ (p : Pipe) (flows : Flows p) (st : State) (d : Derived.State) (bits : L
 
   -- the state after a cycle is the same with the acts by stages and by age
   pub same_arrays : (ls : List Live) → Swaps ls
-      → (words : Arrays) → with_commits st (movers (acts_of p flows st d bits arrays (sorted ls))) 0 p.mems words ≡ with_commits st (movers (lacts p st d bits ls)) 0 p.mems words
-  same_arrays ls s words = same_commits (movers (acts_of p flows st d bits arrays (sorted ls))) (movers (lacts p st d bits ls)) (λ m. same_taken m ls s) 0 p.mems words
+      → (words : Arrays)
+      → with_commits st (movers (acts_of p flows st d bits arrays (sorted ls))) 0 p.mems words ≡ with_commits st (movers (lacts p st d bits ls)) 0 p.mems words
+  same_arrays ls s words =
+      same_commits (movers (acts_of p flows st d bits arrays (sorted ls))) (movers (lacts p st d bits ls)) (λ m. same_taken m ls s) 0 p.mems words
 
   -- but for the arrays, where advisory writes come in the order of stages
   pub same_after : (words : Arrays) (ls : List Live) → Swaps ls
       → record (Cycle.after_acts p st bits (acts_of p flows st d bits arrays (sorted ls))) { arrays = words }
-      ≡ record (Cycle.after_these p st bits (lacts p st d bits ls) (movers (lacts p st d bits ls)) (squasher (movers (lacts p st d bits ls)))) { arrays = words }
+      ≡ record
+      (Cycle.after_these p st bits (lacts p st d bits ls) (movers (lacts p st d bits ls)) (squasher (movers (lacts p st d bits ls)))) { arrays = words }
   same_after words ls s = λ i. record {
     stages =
         for_stages

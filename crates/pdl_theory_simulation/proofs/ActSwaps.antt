@@ -25,7 +25,8 @@ put_one n y v e = if (e.thread == n) && (e.var == y) then record e { value = Som
 put_swap : (n y v k z w : ℕ) (xs : List Pending)
     → (n ≡ k → ⊥) → with_value_of n y v (with_value_of k z w xs) ≡ with_value_of k z w (with_value_of n y v xs)
 put_swap n y v k z w [] h = refl
-put_swap n y v k z w (e ∷ es) h = ap₂ (λ a l. a ∷ l) (at ((e.thread == n) && (e.var == y)) refl ((e.thread == k) && (e.var == z)) refl) (put_swap n y v k z w es h)
+put_swap n y v k z w (e ∷ es) h =
+    ap₂ (λ a l. a ∷ l) (at ((e.thread == n) && (e.var == y)) refl ((e.thread == k) && (e.var == z)) refl) (put_swap n y v k z w es h)
   where
     first : ((e.thread == n) && (e.var == y)) ≡ false → put_one n y v e ≡ e
     first i = ap (λ b. cond b (record e { value = Some v }) e) i
@@ -140,4 +141,3 @@ plain_all read (x ∷ xs) d h =
     three : (b : Bool) → (Machine.deeds_after read x.op d).fails ≡ d.fails → (cond b (Machine.deeds_after read x.op d) d).fails ≡ d.fails
     three true e = e
     three false e = refl
-

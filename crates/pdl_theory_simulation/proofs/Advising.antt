@@ -25,7 +25,8 @@ module _ (p : Pipe) where
   one_more [] w h k = (k, tt)
   one_more (x ∷ ws) w h k = (h.0, one_more ws w h.1 k)
 
-  advises_op : (read : ℕ → ℕ → ℕ) (op : Op) (d : Deeds) → fits_kind p op ≡ true → AllAdvisory p d.advises → AllAdvisory p (Machine.deeds_after read op d).advises
+  advises_op : (read : ℕ → ℕ → ℕ) (op : Op) (d : Deeds)
+      → fits_kind p op ≡ true → AllAdvisory p d.advises → AllAdvisory p (Machine.deeds_after read op d).advises
   advises_op read (AdviceWrite m a e) d f h = one_more d.advises _ h f
   advises_op read (Verify last args) d f h = at (same_args (values_of args d.env) d.guess)
     where
@@ -35,10 +36,12 @@ module _ (p : Pipe) where
   advises_op read _ d f h = h
 
   -- statements that take their memories by kind write advisory memories alone, without a lock
-  pub advises_all : (read : ℕ → ℕ → ℕ) (xs : List Stmt) (d : Deeds) → list_all (λ x. fits_kind p x.op) xs ≡ true → AllAdvisory p d.advises → AllAdvisory p (deeds_after_all read xs d).advises
+  pub advises_all : (read : ℕ → ℕ → ℕ) (xs : List Stmt) (d : Deeds)
+      → list_all (λ x. fits_kind p x.op) xs ≡ true → AllAdvisory p d.advises → AllAdvisory p (deeds_after_all read xs d).advises
   advises_all read [] d f h = h
   advises_all read (x ∷ xs) d f h =
-      advises_all read xs (if all_hold x.guards d.env then Machine.deeds_after read x.op d else d) (and_right (fits_kind p x.op) _ f) (at (all_hold x.guards d.env))
+      advises_all read xs (if all_hold x.guards d.env then Machine.deeds_after read x.op d else d) (and_right (fits_kind p x.op) _ f)
+      (at (all_hold x.guards d.env))
     where
       at : (b : Bool) → AllAdvisory p (cond b (Machine.deeds_after read x.op d) d).advises
       at true = advises_op read x.op d (and_left _ _ f) h
@@ -49,7 +52,9 @@ module _ (p : Pipe) where
   fits_stage s [] h = refl
   fits_stage s (x ∷ xs) h = at (x.stage == s) (fits_stage s xs (and_right (fits_kind p x.op) _ h))
     where
-      at : (b : Bool) → list_all (λ x. fits_kind p x.op) (in_stage s xs) ≡ true → list_all (λ x. fits_kind p x.op) (cond b (x ∷ in_stage s xs) (in_stage s xs)) ≡ true
+      at : (b : Bool)
+          → list_all (λ x. fits_kind p x.op) (in_stage s xs) ≡ true
+          → list_all (λ x. fits_kind p x.op) (cond b (x ∷ in_stage s xs) (in_stage s xs)) ≡ true
       at true k = ap₂ (λ a b. a && b) (and_left _ _ h) k
       at false k = k
 
@@ -74,5 +79,6 @@ module _ (p : Pipe) where
   all_apart n (a ∷ ms) arrays f h = advised_apart n a.does.advises (with_all_advised ms arrays) f h.0 ∙ all_apart n ms arrays f h.1
 
   -- advisory writes leave the other memories as they are
-  pub advice_apart : (n : ℕ) (these : List Act) (arrays : Arrays) → is_advisory (mem_at p n).kind ≡ false → EachAdvisory p these → with_all_advised (movers these) arrays n ≡ arrays n
+  pub advice_apart : (n : ℕ) (these : List Act) (arrays : Arrays)
+      → is_advisory (mem_at p n).kind ≡ false → EachAdvisory p these → with_all_advised (movers these) arrays n ≡ arrays n
   advice_apart n these arrays f h = all_apart n (movers these) arrays f (each_mover these h)

@@ -129,8 +129,12 @@ module _ (p : Pipe) (flows : Flows p) where
   -- in each run both machines have the same ports and waits, and come to states that belong together
   pub run_same : (image : Arrays) (schedule : List (List Bool))
       → SameTurns p (Cycle.turns p image schedule) (Derived.turns p image (hints image schedule) schedule)
-      × ((ls : List Live) × Sim p (Cycle.state_after p (Cycle.first p image) schedule) (Derived.state_after p (Derived.first p image (hints image schedule)) schedule) ls)
-  run_same image schedule = runs_same p flows (Cycle.first p image) (Derived.first p image (hints image schedule)) schedule (first_live p flows (hints image schedule 0) ∷ []) (first_sim p flows image (hints image schedule)) (first_foretells p flows image schedule)
+      ×
+      ((ls : List Live) × Sim p (Cycle.state_after p (Cycle.first p image) schedule)
+      (Derived.state_after p (Derived.first p image (hints image schedule)) schedule) ls)
+  run_same image schedule =
+      runs_same p flows (Cycle.first p image) (Derived.first p image (hints image schedule)) schedule (first_live p flows (hints image schedule 0) ∷ [])
+      (first_sim p flows image (hints image schedule)) (first_foretells p flows image schedule)
 
   -- Pipeline refinement, where nobody writes a memory without lock
   pub carries_refines : (image : Arrays) (schedule : List (List Bool)) → Alone.Refines p image (hints image schedule) schedule
@@ -144,10 +148,13 @@ module _ (p : Pipe) (flows : Flows p) where
       (sym (ended_same p _ _ both.0)) (r.prefix m)) in
       record {
         whole = λ m. subst (λ c. IsPrefix (seqwrites p image m (Cycle.ended_in (Cycle.turns p image schedule))) c) (sym (commits_same p m _ _ both.0))
-            (subst (λ n. IsPrefix (seqwrites p image m n) (Derived.commits m (Derived.turns p image (hints image schedule) schedule))) (sym (ended_same p _ _ both.0)) (r.whole m));
+            (subst (λ n. IsPrefix (seqwrites p image m n) (Derived.commits m (Derived.turns p image (hints image schedule) schedule)))
+            (sym (ended_same p _ _ both.0)) (r.whole m));
         prefix = prefix;
         unlocked = λ m e. nothing_before _ ((prefix m).0, (prefix m).1 ∙ unwritten m _ e);
-        end = λ m plain. both.1.1.arrays m plain ∙ ap (λ (a : Arrays). row a m) r.end ∙ row_committed m (Derived.all_commits (Derived.turns p image (hints image schedule) schedule)) image
+        end =
+            λ m plain. both.1.1.arrays m plain ∙ ap (λ (a : Arrays). row a m) r.end ∙ row_committed m
+            (Derived.all_commits (Derived.turns p image (hints image schedule) schedule)) image
             ∙ ap (wrote (row image m)) (sym (commits_same p m _ _ both.0));
       }
 
@@ -167,4 +174,5 @@ module _ (p : Pipe) (flows : Flows p) where
   carries_pace image schedule pace =
       let both = run_same image schedule in
       subst (λ n. (length schedule - n) / depth p ≤ Cycle.ended_in (Cycle.turns p image schedule)) (sym (waits_same p _ _ both.0))
-      (subst (λ n. (length schedule - Derived.waits_in (Derived.turns p image (hints image schedule) schedule)) / depth p ≤ n) (sym (ended_same p _ _ both.0)) pace)
+      (subst (λ n. (length schedule - Derived.waits_in (Derived.turns p image (hints image schedule) schedule)) / depth p ≤ n)
+      (sym (ended_same p _ _ both.0)) pace)

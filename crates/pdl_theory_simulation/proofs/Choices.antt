@@ -105,7 +105,6 @@ one_stage test (x ∷ xs) j k h f g = at (test x.op) refl h (λ i. one_stage tes
     at true e n r = sym (mine j n f) ∙ mine k n g
     at false e n r = r n (skip j e f) (skip k e g)
 
-
 -- a live thread keeps to its way, its kept answers are in the derived machine's values, and it owns its requests
 pub record Seated (p : Pipe) (st : State) (l : Live) : Type 0 where
   pub keeps_on : Keeps p l.env l.thread
@@ -114,7 +113,9 @@ pub record Seated (p : Pipe) (st : State) (l : Live) : Type 0 where
 
 module _ (p : Pipe) (flows : Flows p) (st : State) (d : Derived.State) (bits : List Bool) (arrays : DifferInAdvice p st.arrays d.arrays) where
   -- an advisory memory is never read delayed
-  unread : (m : ℕ) → is_advisory (mem_at p m).kind ≡ true → (xs : List Stmt) → list_all (λ x. fits_kind p x.op) xs ≡ true → none_of (is_delayed_read m) xs ≡ true
+  unread : (m : ℕ)
+      → is_advisory (mem_at p m).kind ≡ true → (xs : List Stmt) → list_all (λ x. fits_kind p x.op) xs ≡ true
+      → none_of (is_delayed_read m) xs ≡ true
   unread m a [] h = refl
   unread m a (x ∷ xs) h = ap₂ (λ b c. b && c) (off x.op (and_left _ _ h)) (unread m a xs (and_right (fits_kind p x.op) _ h))
     where
@@ -133,6 +134,7 @@ module _ (p : Pipe) (flows : Flows p) (st : State) (d : Derived.State) (bits : L
       at : (b : Bool) → is_advisory (mem_at p m).kind ≡ b → is_advisory (mem_at p m).kind ≡ false
       at true e = absurd (cc (sym (none_stage (is_delayed_read m) f.0 p.stmts (unread m e p.stmts flows.advice)) ∙ f.2))
       at false e = e
+
   -- ANSWERS
 
   -- the answer to an own request
@@ -344,7 +346,8 @@ module _ (p : Pipe) (flows : Flows p) (st : State) (d : Derived.State) (bits : L
       at : (b : Bool) → (x.stage == l.thread.stage) ≡ b → FitsAll ls l (in_stage l.thread.stage xs)
           → FitsAll ls l (cond b (x ∷ in_stage l.thread.stage xs) (in_stage l.thread.stage xs))
       at true e r = (
-        fits ls l k x.op (and_left _ _ g) (λ m i. sym (eqb-true _ _ e) ∙ eqb-true _ _ (subst (λ t. (not t || (x.stage == reserve_stage p m)) ≡ true) i (and_left _ _ (f m)))),
+        fits ls l k x.op (and_left _ _ g)
+            (λ m i. sym (eqb-true _ _ e) ∙ eqb-true _ _ (subst (λ t. (not t || (x.stage == reserve_stage p m)) ≡ true) i (and_left _ _ (f m)))),
         r,
       )
       at false e r = r
@@ -416,22 +419,30 @@ module _ (p : Pipe) (flows : Flows p) (st : State) (d : Derived.State) (bits : L
       (begun l (now_of p d bits l).env) l.thread.entries [] k.seated.keeps_on.held (fit_all ls l k) foresees)
 
   -- a thread's stage keeps to the path of its values
-  pub fixed_way : (ls : List Live) (l : Live) (k : Known ls l) → Fixed (work_of_live p d bits ls l).env (around p d bits (dacts p d bits ls) l.thread.stage l.thread.hint) (in_stage l.thread.stage p.stmts) (start_of (now_of p d bits l))
+  pub fixed_way : (ls : List Live) (l : Live) (k : Known ls l)
+      → Fixed (work_of_live p d bits ls l).env (around p d bits (dacts p d bits ls) l.thread.stage l.thread.hint) (in_stage l.thread.stage p.stmts)
+      (start_of (now_of p d bits l))
   fixed_way ls l k = fixed_here p flows l.env (now_of p d bits l) (keeps_now l k.seated) (around p d bits (dacts p d bits ls) l.thread.stage l.thread.hint)
 
   -- where it makes no guess
-  pub none_foreseen : (ls : List Live) (l : Live) (k : Known ls l) → none_of is_spec_call (onpath (work_of_live p d bits ls l).env (in_stage l.thread.stage p.stmts)) ≡ true → Foresees ls l
+  pub none_foreseen : (ls : List Live) (l : Live) (k : Known ls l)
+      → none_of is_spec_call (onpath (work_of_live p d bits ls l).env (in_stage l.thread.stage p.stmts)) ≡ true → Foresees ls l
   none_foreseen ls l k h =
       unguessed (around p d bits (dacts p d bits ls) l.thread.stage l.thread.hint) (word_for st l.number) (λ b. block_ready p st l.number b)
-      (λ q. port_free p d bits (dacts p d bits ls) q.mem) (work_of_live p d bits ls l).env (in_stage l.thread.stage p.stmts) (begun l (now_of p d bits l).env) (start_of (now_of p d bits l))
+      (λ q. port_free p d bits (dacts p d bits ls) q.mem) (work_of_live p d bits ls l).env (in_stage l.thread.stage p.stmts) (begun l (now_of p d bits l).env)
+      (start_of (now_of p d bits l))
       (starts_here ls l k) (fit_all ls l k) (fixed_way ls l k) h
 
   -- where it makes one, which is its hint
-  pub guess_foreseen : (ls : List Live) (l : Live) (k : Known ls l) → none_of is_spec_call (onpath (work_of_live p d bits ls l).env (in_stage l.thread.stage p.stmts)) ≡ false → (deeds_of p st bits l).guess ≡ l.thread.hint → Foresees ls l
+  pub guess_foreseen : (ls : List Live) (l : Live) (k : Known ls l)
+      → none_of is_spec_call (onpath (work_of_live p d bits ls l).env (in_stage l.thread.stage p.stmts)) ≡ false
+      → (deeds_of p st bits l).guess ≡ l.thread.hint → Foresees ls l
   guess_foreseen ls l k i h =
       foreseen (around p d bits (dacts p d bits ls) l.thread.stage l.thread.hint) (word_for st l.number) (λ b. block_ready p st l.number b)
-      (λ q. port_free p d bits (dacts p d bits ls) q.mem) (work_of_live p d bits ls l).env (in_stage l.thread.stage p.stmts) (has_made p l.env l.thread.stage) (begun l (now_of p d bits l).env) (start_of (now_of p d bits l))
-      (starts_here ls l k) (fit_all ls l k) (fixed_way ls l k) (calls_here p flows l.env (now_of p d bits l) (keeps_now l k.seated) (around p d bits (dacts p d bits ls) l.thread.stage l.thread.hint))
+      (λ q. port_free p d bits (dacts p d bits ls) q.mem) (work_of_live p d bits ls l).env (in_stage l.thread.stage p.stmts) (has_made p l.env l.thread.stage)
+      (begun l (now_of p d bits l).env) (start_of (now_of p d bits l))
+      (starts_here ls l k) (fit_all ls l k) (fixed_way ls l k)
+      (calls_here p flows l.env (now_of p d bits l) (keeps_now l k.seated) (around p d bits (dacts p d bits ls) l.thread.stage l.thread.hint))
       (unchecked (flows.guess_apart (work_of_live p d bits ls l).env l.thread.stage)) (ap (λ (e : Deeds). e.guess) (sym (deeds_are ls l k)) ∙ h)
     where
       unchecked : (none_of is_spec_call (onpath (work_of_live p d bits ls l).env (in_stage l.thread.stage p.stmts)) ≡ true) ⊎ (none_of is_check (onpath (work_of_live p d bits ls l).env (in_stage l.thread.stage p.stmts)) ≡ true)
@@ -460,7 +471,8 @@ module _ (p : Pipe) (flows : Flows p) (st : State) (d : Derived.State) (bits : L
       at (inl h) = ap (λ (w : Work). w.fails) (sym (told_here ls l k (none_foreseen ls l k h)).is)
       at (inr h) =
           let r = no_failure (around p d bits (dacts p d bits ls) l.thread.stage l.thread.hint) (word_for st l.number) (λ b. block_ready p st l.number b)
-          (λ q. port_free p d bits (dacts p d bits ls) q.mem) (work_of_live p d bits ls l).env (in_stage l.thread.stage p.stmts) (begun l (now_of p d bits l).env) (start_of (now_of p d bits l))
+          (λ q. port_free p d bits (dacts p d bits ls) q.mem) (work_of_live p d bits ls l).env (in_stage l.thread.stage p.stmts)
+          (begun l (now_of p d bits l).env) (start_of (now_of p d bits l))
           (starts_here ls l k) (fit_all ls l k) (fixed_way ls l k) h in
           ap (λ (e : Deeds). e.fails) (deeds_are ls l k) ∙ r.0 ∙ sym r.1
 
@@ -533,7 +545,8 @@ module _ (p : Pipe) (flows : Flows p) (st : State) (d : Derived.State) (bits : L
   reserves_here : (ls : List Live) (l : Live) → Known ls l → ReservesFrom (in_stage l.thread.stage p.stmts) (deeds_of p st bits l).reserves
   reserves_here ls l k =
       subst (λ e. ReservesFrom (in_stage l.thread.stage p.stmts) e.reserves) (sym (deeds_are ls l k))
-      (reserves_from (in_stage l.thread.stage p.stmts) (word_for st l.number) (in_stage l.thread.stage p.stmts) (start_deeds p flows l.env (now_of p d bits l) (keeps_now l k.seated) l.advice) (λ m h. h) tt)
+      (reserves_from (in_stage l.thread.stage p.stmts) (word_for st l.number) (in_stage l.thread.stage p.stmts)
+      (start_deeds p flows l.env (now_of p d bits l) (keeps_now l k.seated) l.advice) (λ m h. h) tt)
 
   rooms_are : (ls : List Live) (l : Live) → Known ls l → (rs : List Reserved) → ReservesFrom (in_stage l.thread.stage p.stmts) rs
       → list_all (λ r. has_room (mem_at p r.mem).lock (reserves_of r.mem (deeds_of p st bits l).reserves) (length (lock_of st r.mem))) rs
@@ -547,7 +560,8 @@ module _ (p : Pipe) (flows : Flows p) (st : State) (d : Derived.State) (bits : L
         where
           by : (b : Bool) → (l.thread.stage == reserve_stage p r.mem) ≡ b → l.thread.stage ≡ reserve_stage p r.mem
           by true e = eqb-true _ _ e
-          by false e = absurd (cc (sym (none_in_stage (is_reserve r.mem) (reserve_stage p r.mem) l.thread.stage p.stmts (flows.reserves r.mem) (eqb-false _ _ e)) ∙ h.0))
+          by false e =
+              absurd (cc (sym (none_in_stage (is_reserve r.mem) (reserve_stage p r.mem) l.thread.stage p.stmts (flows.reserves r.mem) (eqb-false _ _ e)) ∙ h.0))
 
   moves_are : (ls : List Live) (l : Live) (later : List Moves.Act) → Known ls l → Tells ls l later
       → Moves.may_move p st bits later l.thread.stage (with_answers p st bits (seat l)) (deeds_of p st bits l) ≡ (did p d bits ls l).moves
@@ -576,7 +590,8 @@ module _ (p : Pipe) (flows : Flows p) (st : State) (d : Derived.State) (bits : L
       (rooms_are ls l k (deeds_of p st bits l).reserves (reserves_here ls l k)) t.enters
       ∙ ap
       (λ (v : Work).
-      (((list_all (λ (o : Derived.Act). not (o.moves && o.work.fails)) (dacts p d bits ls) && v.ready) && Derived.have_room p (befores (dacts p d bits ls)) v) && Moves.is_empty (still p bits l.thread.awaits))
+      (((list_all (λ (o : Derived.Act). not (o.moves && o.work.fails)) (dacts p d bits ls) && v.ready) && Derived.have_room p (befores (dacts p d bits ls)) v)
+      && Moves.is_empty (still p bits l.thread.awaits))
       && Derived.can_enter p (dacts p d bits ls) (goes_to (stage_at p l.thread.stage).next v.env))
       (sym (like_here ls l k).is)
 

@@ -145,7 +145,8 @@ pub record Flows (p : Pipe) : Type 0 where
   -- F4, F5: a statement takes a memory by its kind
   pub advice : KeepsAdvice p
   -- S2, S3: a stage of a path that makes a guess verifies none
-  pub guess_apart : (path : List ℕ) (s : ℕ) → (none_of is_spec_call (onpath path (in_stage s p.stmts)) ≡ true) ⊎ (none_of is_check (onpath path (in_stage s p.stmts)) ≡ true)
+  pub guess_apart : (path : List ℕ) (s : ℕ)
+      → (none_of is_spec_call (onpath path (in_stage s p.stmts)) ≡ true) ⊎ (none_of is_check (onpath path (in_stage s p.stmts)) ≡ true)
   -- F3: no second delayed read statement of one memory, and none in the last stage
   pub one_fetch : (m : ℕ) → at_most_one (is_delayed_read m) p.stmts ≡ true
   pub fetch_inside : (s : ℕ) → suc s ≡ length p.stages → none_of is_fetch (in_stage s p.stmts) ≡ true
@@ -200,7 +201,8 @@ pub record FlowRules (p : Pipe) : Type 0 where
   -- F4, F5: a statement takes a memory by its kind
   pub advice : KeepsAdvice p
   -- S2, S3: a stage of a path that makes a guess verifies none
-  pub guess_apart : (path : List ℕ) (s : ℕ) → (none_of is_spec_call (onpath path (in_stage s p.stmts)) ≡ true) ⊎ (none_of is_check (onpath path (in_stage s p.stmts)) ≡ true)
+  pub guess_apart : (path : List ℕ) (s : ℕ)
+      → (none_of is_spec_call (onpath path (in_stage s p.stmts)) ≡ true) ⊎ (none_of is_check (onpath path (in_stage s p.stmts)) ≡ true)
   -- F3
   pub one_fetch : (m : ℕ) → at_most_one (is_delayed_read m) p.stmts ≡ true
   pub fetch_inside : (s : ℕ) → suc s ≡ length p.stages → none_of is_fetch (in_stage s p.stmts) ≡ true

@@ -56,20 +56,25 @@ clash : false ≡ true → ⊥
 clash i = cc
 
 -- after a guess or a call no path makes a guess
-still : (v : Option ℕ) (s : ℕ) (k : Making) (op : Op) → is_unmade k ≡ false → making_ok v k s (answered_op op) ≡ true → (is_unmade (next_making k (answered_op op)) ≡ false) × (is_spec_call op ≡ false)
+still : (v : Option ℕ) (s : ℕ) (k : Making) (op : Op)
+    → is_unmade k ≡ false → making_ok v k s (answered_op op) ≡ true
+    → (is_unmade (next_making k (answered_op op)) ≡ false) × (is_spec_call op ≡ false)
 still v s k (Call args) u i = (refl, refl)
 still v s k (SpecCall args) u i = absurd (clash (sym u ∙ and_left _ _ i))
 still v s k (Verify true args) u i = (refl, refl)
 still v s k (Verify false args) u i = (refl, refl)
 still v s k _ u i = (u, refl)
 
-unguessed : (v : Option ℕ) (s : ℕ) (k : Making) (xs : List Stmt) → is_unmade k ≡ false → makings_ok v k (looked_all xs) ≡ true → none_of is_spec_call (in_stage s xs) ≡ true
+unguessed : (v : Option ℕ) (s : ℕ) (k : Making) (xs : List Stmt)
+    → is_unmade k ≡ false → makings_ok v k (looked_all xs) ≡ true → none_of is_spec_call (in_stage s xs) ≡ true
 unguessed v s k [] u h = refl
 unguessed v s k (x ∷ xs) u h =
     let here = still v x.stage k x.op u (and_left _ _ h) in
     at (x.stage == s) here.1 (unguessed v s (next_making k (answered_op x.op)) xs here.0 (and_right (making_ok v k x.stage (answered_op x.op)) _ h))
   where
-    at : (b : Bool) → is_spec_call x.op ≡ false → none_of is_spec_call (in_stage s xs) ≡ true → none_of is_spec_call (cond b (x ∷ in_stage s xs) (in_stage s xs)) ≡ true
+    at : (b : Bool)
+        → is_spec_call x.op ≡ false → none_of is_spec_call (in_stage s xs) ≡ true
+        → none_of is_spec_call (cond b (x ∷ in_stage s xs) (in_stage s xs)) ≡ true
     at true e r = ap₂ (λ a b. not a && b) e r
     at false e r = r
 
@@ -82,20 +87,24 @@ no_check : (s r : ℕ) (op : Op) → check_apart (Some s) r (answered_op op) ≡
 no_check s r (Verify last args) h e = absurd (clash (sym (ap not e) ∙ h))
 no_check s r _ h e = refl
 
-unchecked : (v : Option ℕ) (s : ℕ) (k : Making) (xs : List Stmt) → is_unmade k ≡ false → makings_ok v k (looked_all xs) ≡ true → checks_apart (Some s) (looked_all xs) ≡ true → none_of is_check (in_stage s xs) ≡ true
+unchecked : (v : Option ℕ) (s : ℕ) (k : Making) (xs : List Stmt)
+    → is_unmade k ≡ false → makings_ok v k (looked_all xs) ≡ true → checks_apart (Some s) (looked_all xs) ≡ true
+    → none_of is_check (in_stage s xs) ≡ true
 unchecked v s k [] u h c = refl
 unchecked v s k (x ∷ xs) u h c =
     let here = still v x.stage k x.op u (and_left _ _ h) in
     at (x.stage == s) refl
     (unchecked v s (next_making k (answered_op x.op)) xs here.0 (and_right (making_ok v k x.stage (answered_op x.op)) _ h)
-    (subst (λ g. checks_apart g (looked_all xs) ≡ true) (same_stage (Some s) x.stage x.op here.1) (and_right (check_apart (Some s) x.stage (answered_op x.op)) _ c)))
+    (subst (λ g. checks_apart g (looked_all xs) ≡ true) (same_stage (Some s) x.stage x.op here.1)
+    (and_right (check_apart (Some s) x.stage (answered_op x.op)) _ c)))
   where
     at : (b : Bool) → (x.stage == s) ≡ b → none_of is_check (in_stage s xs) ≡ true → none_of is_check (cond b (x ∷ in_stage s xs) (in_stage s xs)) ≡ true
     at true e r = ap₂ (λ a b. not a && b) (no_check s x.stage x.op (and_left _ _ c) e) r
     at false e r = r
 
 -- a stage that makes a guess checks none
-pub apart_of : (v : Option ℕ) (s : ℕ) (k : Making) (g : Option ℕ) (xs : List Stmt) → makings_ok v k (looked_all xs) ≡ true → checks_apart g (looked_all xs) ≡ true
+pub apart_of : (v : Option ℕ) (s : ℕ) (k : Making) (g : Option ℕ) (xs : List Stmt)
+    → makings_ok v k (looked_all xs) ≡ true → checks_apart g (looked_all xs) ≡ true
     → (none_of is_spec_call (in_stage s xs) ≡ true) ⊎ (none_of is_check (in_stage s xs) ≡ true)
 apart_of v s k g [] h c = inl refl
 apart_of v s k g (x ∷ xs) h c =
@@ -134,7 +143,9 @@ apart_of v s k g (x ∷ xs) h c =
     quiet _ u i e = refl
 
     -- a guess
-    made : (op : Op) → is_spec_call op ≡ true → (is_unmade (next_making k (answered_op op)) ≡ false) × (guess_stage g x.stage (answered_op op) ≡ Some x.stage) × (is_check op ≡ false)
+    made : (op : Op)
+        → is_spec_call op ≡ true
+        → (is_unmade (next_making k (answered_op op)) ≡ false) × (guess_stage g x.stage (answered_op op) ≡ Some x.stage) × (is_check op ≡ false)
     made (SpecCall args) e = (refl, refl, refl)
     made _ e = absurd (cc e)
 
@@ -142,7 +153,8 @@ apart_of v s k g (x ∷ xs) h c =
     guessed true i e =
         let m = made x.op e in
         inr (ap₂ (λ a b. not a && b) m.2
-        (unchecked v s (next_making k (answered_op x.op)) xs m.0 rest (subst (λ n. checks_apart (Some n) (looked_all xs) ≡ true) (eqb-true x.stage s i) (subst (λ o. checks_apart o (looked_all xs) ≡ true) m.1 more))))
+        (unchecked v s (next_making k (answered_op x.op)) xs m.0 rest
+        (subst (λ n. checks_apart (Some n) (looked_all xs) ≡ true) (eqb-true x.stage s i) (subst (λ o. checks_apart o (looked_all xs) ≡ true) m.1 more))))
     guessed false i e = inl (unguessed v s (next_making k (answered_op x.op)) xs (made x.op e).0 rest)
 
     first : (b : Bool) → is_spec_call x.op ≡ b → is_unmade k ≡ true → Apart (in_stage s xs) → Apart (cond (x.stage == s) (x ∷ in_stage s xs) (in_stage s xs))

@@ -87,22 +87,33 @@ module _ (p : Pipe) (flows : Flows p) where
       where
         at : (b : Bool) → (y.live.number == n) ≡ b → (c : Bool) → (x.live.number == n) ≡ c → (u v : Bool)
             → (if (y.live.number == n) && u then (deeds_of p st bits y.live).guess else (if (x.live.number == n) && v then (deeds_of p st bits x.live).guess else z))
-            ≡ (if (x.live.number == n) && v then (deeds_of p st bits x.live).guess else (if (y.live.number == n) && u then (deeds_of p st bits y.live).guess else z))
+            ≡
+            (if (x.live.number == n)
+            && v then (deeds_of p st bits x.live).guess else (if (y.live.number == n) && u then (deeds_of p st bits y.live).guess else z))
         at true e true f u v = absurd (let i = s.numbers in let j = eqb-true _ _ e in let k = eqb-true _ _ f in omega arith)
-        at b e false f u v = ap₂ (λ i j. if (y.live.number == n) && u then (deeds_of p st bits y.live).guess else (if i && v then (deeds_of p st bits x.live).guess else z)) f f ∙ sym (ap (λ i. if i && v then (deeds_of p st bits x.live).guess else (if (y.live.number == n) && u then (deeds_of p st bits y.live).guess else z)) f)
-        at false e true f u v = ap (λ i. if i && u then (deeds_of p st bits y.live).guess else (if (x.live.number == n) && v then (deeds_of p st bits x.live).guess else z)) e ∙ sym (ap (λ i. if (x.live.number == n) && v then (deeds_of p st bits x.live).guess else (if i && u then (deeds_of p st bits y.live).guess else z)) e)
+        at b e false f u v =
+            ap₂ (λ i j. if (y.live.number == n) && u then (deeds_of p st bits y.live).guess else (if i && v then (deeds_of p st bits x.live).guess else z)) f f
+            ∙ sym
+            (ap (λ i. if i && v then (deeds_of p st bits x.live).guess else (if (y.live.number == n) && u then (deeds_of p st bits y.live).guess else z)) f)
+        at false e true f u v =
+            ap (λ i. if i && u then (deeds_of p st bits y.live).guess else (if (x.live.number == n) && v then (deeds_of p st bits x.live).guess else z)) e
+            ∙ sym
+            (ap (λ i. if (x.live.number == n) && v then (deeds_of p st bits x.live).guess else (if i && u then (deeds_of p st bits y.live).guess else z)) e)
 
     -- what a thread guesses in this cycle, in age order
     in_age : (n : ℕ) (rest : List ℕ) → guess_in p (Moves.all_acts p st bits) n rest ≡ guess_in p (lacts p st d bits ls) n rest
     in_age n rest =
         ap (λ these. guess_in p these n rest) (acts_are p flows st d bits ls sim)
-        ∙ same_fold p flows st d bits sim.arrays (List ℕ) (λ these. guess_in p these n rest) (step_in n) (λ a these. refl) (λ x y s z. commutes n x y s z) ls (swaps p flows st d bits ls sim)
+        ∙ same_fold p flows st d bits sim.arrays (List ℕ) (λ these. guess_in p these n rest) (step_in n) (λ a these. refl) (λ x y s z. commutes n x y s z) ls
+        (swaps p flows st d bits ls sim)
 
     -- older threads have other numbers
     others : (n : ℕ) (rest : List ℕ) (ks : List Live) → Falls n ks → guess_in p (lacts p st d bits ks) n rest ≡ rest
     others n rest [] f = refl
     others n rest (k ∷ ks) f =
-        ap (λ b. if b && ((did p d bits ks k).moves && makes_guess p (lact p st d bits ks k)) then (deeds_of p st bits k).guess else guess_in p (lacts p st d bits ks) n rest) (ne_eqb k.number n (λ e. absurd (let i = f.0 in omega arith)))
+        ap
+        (λ b. if b && ((did p d bits ks k).moves && makes_guess p (lact p st d bits ks k)) then (deeds_of p st bits k).guess else guess_in p
+        (lacts p st d bits ks) n rest) (ne_eqb k.number n (λ e. absurd (let i = f.0 in omega arith)))
         ∙ others n rest ks (up ks f.1)
       where
         up : (xs : List Live) → Falls k.number xs → Falls n xs
@@ -113,27 +124,46 @@ module _ (p : Pipe) (flows : Flows p) where
     mine : (l : Live) (ks : List Live) (rest : List ℕ) → Falls l.number ks
         → guess_in p (lacts p st d bits (l ∷ ks)) l.number rest ≡ (if (did p d bits ks l).moves && makes_guess p (lact p st d bits ks l) then (deeds_of p st bits l).guess else rest)
     mine l ks rest f =
-        ap₂ (λ b z. if b && ((did p d bits ks l).moves && makes_guess p (lact p st d bits ks l)) then (deeds_of p st bits l).guess else z) (eq-eqb l.number l.number refl) (others l.number rest ks f)
+        ap₂ (λ b z. if b && ((did p d bits ks l).moves && makes_guess p (lact p st d bits ks l)) then (deeds_of p st bits l).guess else z)
+        (eq-eqb l.number l.number refl) (others l.number rest ks f)
 
     -- whether its stage makes a guess
-    guesses_is : (l : Live) (ks : List Live) → Known p flows st d bits sim.arrays ks l → makes_guess p (lact p st d bits ks l) ≡ list_any (λ x. is_spec_call x.op) (onpath (work_of_live p d bits ks l).env (in_stage l.thread.stage p.stmts))
-    guesses_is l ks k = ap (λ (w : Work). list_any (λ x. is_spec_call x.op) (onpath w.env (in_stage l.thread.stage p.stmts))) (sym (like_here p flows st d bits sim.arrays ks l k).is)
+    guesses_is : (l : Live) (ks : List Live)
+        → Known p flows st d bits sim.arrays ks l
+        → makes_guess p (lact p st d bits ks l) ≡ list_any (λ x. is_spec_call x.op) (onpath (work_of_live p d bits ks l).env (in_stage l.thread.stage p.stmts))
+    guesses_is l ks k =
+        ap (λ (w : Work). list_any (λ x. is_spec_call x.op) (onpath w.env (in_stage l.thread.stage p.stmts)))
+        (sym (like_here p flows st d bits sim.arrays ks l k).is)
 
-    no_guess_after : (l : Live) (ks : List Live) → Known p flows st d bits sim.arrays ks l → has_made p l.env l.thread.stage ≡ true → none_of is_spec_call (onpath (work_of_live p d bits ks l).env (in_stage l.thread.stage p.stmts)) ≡ true
+    no_guess_after : (l : Live) (ks : List Live)
+        → Known p flows st d bits sim.arrays ks l → has_made p l.env l.thread.stage ≡ true
+        → none_of is_spec_call (onpath (work_of_live p d bits ks l).env (in_stage l.thread.stage p.stmts)) ≡ true
     no_guess_after l ks k h =
-        no_second (onpath (work_of_live p d bits ks l).env (in_stage l.thread.stage p.stmts)) (subst (λ b. calls_ok b (onpath (work_of_live p d bits ks l).env (in_stage l.thread.stage p.stmts)) ≡ true) h
-        (calls_here p flows l.env (now_of p d bits l) (keeps_now p flows st d bits sim.arrays l k.seated) (around p d bits (dacts p d bits ks) l.thread.stage l.thread.hint)))
+        no_second (onpath (work_of_live p d bits ks l).env (in_stage l.thread.stage p.stmts))
+        (subst (λ b. calls_ok b (onpath (work_of_live p d bits ks l).env (in_stage l.thread.stage p.stmts)) ≡ true) h
+        (calls_here p flows l.env (now_of p d bits l) (keeps_now p flows st d bits sim.arrays l k.seated)
+        (around p d bits (dacts p d bits ks) l.thread.stage l.thread.hint)))
 
     -- those that have made their successors guess no more
-    older_foreseen : (ks : List Live) → AllKnown p flows st d bits sim.arrays ks → Each (λ k. has_made p k.env k.thread.stage ≡ true) ks → AllForeseen p flows st d bits sim.arrays ks
+    older_foreseen : (ks : List Live)
+        → AllKnown p flows st d bits sim.arrays ks → Each (λ k. has_made p k.env k.thread.stage ≡ true) ks
+        → AllForeseen p flows st d bits sim.arrays ks
     older_foreseen [] k h = tt
     older_foreseen (l ∷ ks) k h = ((λ e. none_foreseen p flows st d bits sim.arrays ks l k.0 (no_guess_after l ks k.0 h.0)), older_foreseen ks k.1 h.1)
 
-    all_foreseen : (schedule : List (List Bool)) (xs : List Live) → AllKnown p flows st d bits sim.arrays xs → HaveMade p xs → Falls st.next xs → xs ≡ ls → Hinted p st (bits ∷ schedule) xs → AllForeseen p flows st d bits sim.arrays xs
+    all_foreseen : (schedule : List (List Bool)) (xs : List Live)
+        → AllKnown p flows st d bits sim.arrays xs → HaveMade p xs → Falls st.next xs → xs ≡ ls → Hinted p st (bits ∷ schedule) xs
+        → AllForeseen p flows st d bits sim.arrays xs
     all_foreseen schedule [] k m f is h = tt
-    all_foreseen schedule (l ∷ ks) k m f is h = ((λ e. at (none_of is_spec_call (onpath (work_of_live p d bits ks l).env (in_stage l.thread.stage p.stmts))) refl (has_made p l.env l.thread.stage) refl e), older_foreseen ks k.1 m)
+    all_foreseen schedule (l ∷ ks) k m f is h = (
+      (λ e. at (none_of is_spec_call (onpath (work_of_live p d bits ks l).env (in_stage l.thread.stage p.stmts))) refl
+          (has_made p l.env l.thread.stage) refl e),
+      older_foreseen ks k.1 m,
+    )
       where
-        at : (b : Bool) → none_of is_spec_call (onpath (work_of_live p d bits ks l).env (in_stage l.thread.stage p.stmts)) ≡ b → (c : Bool) → has_made p l.env l.thread.stage ≡ c → (did p d bits ks l).moves ≡ true → Foresees p flows st d bits sim.arrays ks l
+        at : (b : Bool)
+            → none_of is_spec_call (onpath (work_of_live p d bits ks l).env (in_stage l.thread.stage p.stmts)) ≡ b → (c : Bool)
+            → has_made p l.env l.thread.stage ≡ c → (did p d bits ks l).moves ≡ true → Foresees p flows st d bits sim.arrays ks l
         at true i c j e = none_foreseen p flows st d bits sim.arrays ks l k.0 i
         at false i true j e = none_foreseen p flows st d bits sim.arrays ks l k.0 (no_guess_after l ks k.0 j)
         at false i false j e =
@@ -150,12 +180,14 @@ module _ (p : Pipe) (flows : Flows p) where
 
     -- AFTER THE CYCLE
 
-    hinted_made : (schedule : List (List Bool)) (xs : List Live) → Each (λ k. has_made p k.env k.thread.stage ≡ true) xs → Hinted p (Cycle.cycle p st bits) schedule xs
+    hinted_made : (schedule : List (List Bool)) (xs : List Live)
+        → Each (λ k. has_made p k.env k.thread.stage ≡ true) xs → Hinted p (Cycle.cycle p st bits) schedule xs
     hinted_made schedule [] h = tt
     hinted_made schedule (x ∷ xs) h = λ e. absurd (cc (sym h.0 ∙ e))
 
     -- one that makes no guess as it moves, or stands, will guess later
-    later : (schedule : List (List Bool)) (l : Live) (ks : List Live) → l ∷ ks ≡ ls → Falls l.number ks → Hinted p st (bits ∷ schedule) (l ∷ ks) → has_made p l.env l.thread.stage ≡ false
+    later : (schedule : List (List Bool)) (l : Live) (ks : List Live)
+        → l ∷ ks ≡ ls → Falls l.number ks → Hinted p st (bits ∷ schedule) (l ∷ ks) → has_made p l.env l.thread.stage ≡ false
         → ((did p d bits ks l).moves && makes_guess p (lact p st d bits ks l)) ≡ false → l.thread.hint ≡ guess_of p (Cycle.cycle p st bits) schedule l.number
     later schedule l ks is f h j e =
         h j ∙ in_age l.number (guess_of p (Cycle.cycle p st bits) schedule l.number)
@@ -163,7 +195,9 @@ module _ (p : Pipe) (flows : Flows p) where
         ∙ mine l ks _ f
         ∙ ap (λ b. if b then (deeds_of p st bits l).guess else guess_of p (Cycle.cycle p st bits) schedule l.number) e
 
-    hinted_on : (schedule : List (List Bool)) (xs : List Live) → AllKnown p flows st d bits sim.arrays xs → HaveMade p xs → Falls st.next xs → xs ≡ ls → Hinted p st (bits ∷ schedule) xs → Hinted p (Cycle.cycle p st bits) schedule (go_on p st d bits xs)
+    hinted_on : (schedule : List (List Bool)) (xs : List Live)
+        → AllKnown p flows st d bits sim.arrays xs → HaveMade p xs → Falls st.next xs → xs ≡ ls → Hinted p st (bits ∷ schedule) xs
+        → Hinted p (Cycle.cycle p st bits) schedule (go_on p st d bits xs)
     hinted_on schedule [] k m f is h = tt
     hinted_on schedule (l ∷ ks) k m f is h = at (fell p d bits ks) (did p d bits ks l).moves refl
       where
@@ -174,8 +208,13 @@ module _ (p : Pipe) (flows : Flows p) where
             → Hinted p (Cycle.cycle p st bits) schedule (moved_live r (advised p st bits l) (work_of_live p d bits ks l) ++ go_on p st d bits ks)
         out e None i = hinted_made schedule (go_on p st d bits ks) rest
         out e (Some q) i = λ j.
-            let u = uncalled (has_made p l.env l.thread.stage) (onpath (work_of_live p d bits ks l).env (in_stage l.thread.stage p.stmts)) (sym (made_then p flows l.env (now_of p d bits l) (keeps_now p flows st d bits sim.arrays l k.0.seated) (around p d bits (dacts p d bits ks) l.thread.stage l.thread.hint)) ∙ ap (has_made p (work_of_live p d bits ks l).env) (ap (stage_or (length p.stages)) i) ∙ j) in
-            later schedule l ks is f.1 h u.0 (ap₂ (λ a b. a && b) e (guesses_is l ks k.0 ∙ quiet _ (sym (none_any (onpath (work_of_live p d bits ks l).env (in_stage l.thread.stage p.stmts))) ∙ u.1)))
+            let u = uncalled (has_made p l.env l.thread.stage) (onpath (work_of_live p d bits ks l).env (in_stage l.thread.stage p.stmts))
+            (sym (made_then p flows l.env (now_of p d bits l) (keeps_now p flows st d bits sim.arrays l k.0.seated)
+            (around p d bits (dacts p d bits ks) l.thread.stage l.thread.hint)) ∙ ap (has_made p (work_of_live p d bits ks l).env) (ap
+            (stage_or (length p.stages)) i) ∙ j) in
+            later schedule l ks is f.1 h u.0
+            (ap₂ (λ a b. a && b) e
+            (guesses_is l ks k.0 ∙ quiet _ (sym (none_any (onpath (work_of_live p d bits ks l).env (in_stage l.thread.stage p.stmts))) ∙ u.1)))
           where
             quiet : (b : Bool) → not b ≡ true → b ≡ false
             quiet true v = absurd (cc v)
@@ -188,7 +227,9 @@ module _ (p : Pipe) (flows : Flows p) where
         at false false e = λ j. later schedule l ks is f.1 h j (ap (λ b. b && makes_guess p (lact p st d bits ks l)) e)
 
     -- what is guessed in the rest of the run was given after a cycle too
-    pub foretells_next : (schedule : List (List Bool)) → Foretells p st d (bits ∷ schedule) ls → Foretells p (Cycle.cycle p st bits) (Derived.cycle p d bits) schedule (lives_next p flows st d bits sim.arrays ls)
+    pub foretells_next : (schedule : List (List Bool))
+        → Foretells p st d (bits ∷ schedule) ls
+        → Foretells p (Cycle.cycle p st bits) (Derived.cycle p d bits) schedule (lives_next p flows st d bits sim.arrays ls)
     foretells_next schedule f = record { hints = λ n. f.hints (suc n); hinted = at (made p flows st d bits sim.arrays ls) }
       where
         at : (c : Option (List ℕ)) → Hinted p (Cycle.cycle p st bits) schedule (born_live p (d.hints 0) st.next c ++ go_on p st d bits ls)
@@ -207,11 +248,14 @@ module _ (p : Pipe) (flows : Flows p) where
       → SameTurns p (Cycle.turns_from p st schedule) (Derived.turns_from p d schedule) × ((ks : List Live) × Sim p (Cycle.state_after p st schedule) (Derived.state_after p d schedule) ks)
   runs_same st d [] ls sim f = (tt, (ls, sim))
   runs_same st d (bits ∷ schedule) ls sim f =
-      let rest = runs_same (Cycle.cycle p st bits) (Derived.cycle p d bits) schedule (lives_next p flows st d bits sim.arrays ls) (cycle_sim p flows st d bits ls sim (foreseen_here st d bits ls sim schedule f)) (foretells_next st d bits ls sim schedule f) in
+      let rest = runs_same (Cycle.cycle p st bits) (Derived.cycle p d bits) schedule (lives_next p flows st d bits sim.arrays ls)
+      (cycle_sim p flows st d bits ls sim (foreseen_here st d bits ls sim schedule f)) (foretells_next st d bits ls sim schedule f) in
       ((turn_same p flows st d bits ls sim, rest.0), rest.1)
 
   -- the simulation
-  pub same_turns : (image : Arrays) (schedule : List (List Bool)) → SameTurns p (Cycle.turns p image schedule) (Derived.turns p image (hints_of p (Cycle.first p image) schedule) schedule)
+  pub same_turns : (image : Arrays) (schedule : List (List Bool))
+      → SameTurns p (Cycle.turns p image schedule) (Derived.turns p image (hints_of p (Cycle.first p image) schedule) schedule)
   same_turns image schedule =
-      (runs_same (Cycle.first p image) (Derived.first p image (hints_of p (Cycle.first p image) schedule)) schedule (first_live p flows (hints_of p (Cycle.first p image) schedule 0) ∷ [])
+      (runs_same (Cycle.first p image) (Derived.first p image (hints_of p (Cycle.first p image) schedule)) schedule
+      (first_live p flows (hints_of p (Cycle.first p image) schedule 0) ∷ [])
       (first_sim p flows image (hints_of p (Cycle.first p image) schedule)) (first_foretells image schedule)).0

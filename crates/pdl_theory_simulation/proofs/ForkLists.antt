@@ -63,7 +63,9 @@ module _ (p : Pipe) (flows : Flows p) (st : State) (d : Derived.State) (bits : L
 
     left_none : (ls : List Live) → is_nobody (sides p f ls) ≡ true → has_left p f (ms ls) ≡ false
     left_none [] h = refl
-    left_none (l ∷ ls) h = at (did p d bits ls l).moves (left_none ls (front (sides p f ls) (sides_of f (stage_at p l.thread.stage).branches) h)) (outside (is_inside p f l.thread.stage) refl)
+    left_none (l ∷ ls) h =
+        at (did p d bits ls l).moves (left_none ls (front (sides p f ls) (sides_of f (stage_at p l.thread.stage).branches) h))
+        (outside (is_inside p f l.thread.stage) refl)
       where
         front : (xs ys : List Bool) → is_nobody (xs ++ ys) ≡ true → is_nobody xs ≡ true
         front [] ys e = refl
@@ -77,7 +79,9 @@ module _ (p : Pipe) (flows : Flows p) (st : State) (d : Derived.State) (bits : L
         outside false e = e
         outside true e =
             inside_at p f l.thread.stage e
-            (λ x c i j. absurd (cc (sym (behind (sides p f ls) (sides_of f (stage_at p l.thread.stage).branches) h) ∙ ap is_nobody (sides_inside p flows.graph.fork_below f x c l.thread.stage i j))))
+            (λ x c i j. absurd (cc
+            (sym (behind (sides p f ls) (sides_of f (stage_at p l.thread.stage).branches) h)
+            ∙ ap is_nobody (sides_inside p flows.graph.fork_below f x c l.thread.stage i j))))
 
         at : (b : Bool) → has_left p f (ms ls) ≡ false → is_inside p f l.thread.stage ≡ false
             → has_left p f (cond b (lact p st d bits ls l ∷ ms ls) (ms ls)) ≡ false
@@ -99,7 +103,8 @@ module _ (p : Pipe) (flows : Flows p) (st : State) (d : Derived.State) (bits : L
         late : (k : Live) → Behind p l.thread.stage k.thread.stage → k.thread.stage ≡ f → ⊥
         late k h j =
             let home : Home p c x.fork = (flows.graph.fork_below x c l.thread.stage e).0 in
-            let less : x.fork < k.thread.stage = fork_left p flows.graph x c l.thread.stage k.thread.stage h e (within_home p c _ (subst (λ n. Home p c n) (i ∙ sym j) home)) in
+            let less : x.fork < k.thread.stage = fork_left p flows.graph x c l.thread.stage k.thread.stage h e
+            (within_home p c _ (subst (λ n. Home p c n) (i ∙ sym j) home)) in
             absurd (omega arith)
 
     nobody_nil : (xs : List Bool) → is_nobody xs ≡ true → xs ≡ []
@@ -123,7 +128,9 @@ module _ (p : Pipe) (flows : Flows p) (st : State) (d : Derived.State) (bits : L
             ++ entered_branches p f (ms ls)
             ≡ sides p f (all_on ls) ++ sides_of f (stage_at p l.thread.stage).branches
         stands h =
-            sym (ap (λ u. (if has_left p f (ms ls) then but_first (sides p f ls ++ sides_of f (stage_at p l.thread.stage).branches) else (sides p f ls ++ sides_of f (stage_at p l.thread.stage).branches)) ++ u) (append-nil _))
+            sym
+            (ap (λ u. (if has_left p f (ms ls) then but_first (sides p f ls ++ sides_of f (stage_at p l.thread.stage).branches) else
+            (sides p f ls ++ sides_of f (stage_at p l.thread.stage).branches)) ++ u) (append-nil _))
             ∙ by (is_inside p f l.thread.stage) refl
           where
             by : (b : Bool) → is_inside p f l.thread.stage ≡ b → (if has_left p f (ms ls)
@@ -133,12 +140,16 @@ module _ (p : Pipe) (flows : Flows p) (st : State) (d : Derived.State) (bits : L
                 ≡ sides p f (all_on ls) ++ sides_of f (stage_at p l.thread.stage).branches
             by false e =
                 let none : sides_of f (stage_at p l.thread.stage).branches ≡ [] = sides_outside f _ e in
-                list_neutral (has_left p f (ms ls)) (sides p f ls) (entered_branches p f (ms ls)) (sides p f (all_on ls)) (sides_of f (stage_at p l.thread.stage).branches) (sides_of f (stage_at p l.thread.stage).branches) [] h none (sym none)
+                list_neutral (has_left p f (ms ls)) (sides p f ls) (entered_branches p f (ms ls)) (sides p f (all_on ls))
+                (sides_of f (stage_at p l.thread.stage).branches) (sides_of f (stage_at p l.thread.stage).branches) [] h none (sym none)
             by true e =
                 inside_at p f l.thread.stage e
                 (λ x c i j.
-                subst (λ s. (if has_left p f (ms ls) then but_first (sides p f ls ++ s) else (sides p f ls ++ s)) ++ (entered_branches p f (ms ls) ++ []) ≡ sides p f (all_on ls) ++ s) (sym (sides_inside p flows.graph.fork_below f x c l.thread.stage i j))
-                (list_inside (has_left p f (ms ls)) (sides p f ls) (entered_branches p f (ms ls)) (sides p f (all_on ls)) x.first h (entered_none ls (past_fork l x c ls i j o.0)) (some_left ls)))
+                subst
+                (λ s. (if has_left p f (ms ls) then but_first (sides p f ls ++ s) else (sides p f ls ++ s)) ++ (entered_branches p f (ms ls) ++ [])
+                ≡ sides p f (all_on ls) ++ s) (sym (sides_inside p flows.graph.fork_below f x c l.thread.stage i j))
+                (list_inside (has_left p f (ms ls)) (sides p f ls) (entered_branches p f (ms ls)) (sides p f (all_on ls)) x.first h
+                (entered_none ls (past_fork l x c ls i j o.0)) (some_left ls)))
 
         -- the list of the fork with a thread behind the others that is outside it and enters it, perhaps
         outside_moves : is_inside p f l.thread.stage ≡ false → (after : List Bool) → enters l ≡ after
@@ -149,26 +160,41 @@ module _ (p : Pipe) (flows : Flows p) (st : State) (d : Derived.State) (bits : L
             ++ (entered_branches p f (ms ls) ++ enters l)
             ≡ sides p f (all_on ls) ++ after
         outside_moves off after e h =
-            ap (λ b. (if (b && goes_out p f (next_stage p l.thread.stage (deeds_of p st bits l))) || has_left p f (ms ls) then but_first (sides p f ls ++ sides_of f (stage_at p l.thread.stage).branches) else (sides p f ls ++ sides_of f (stage_at p l.thread.stage).branches)) ++ (entered_branches p f (ms ls) ++ enters l)) off
-            ∙ list_neutral (has_left p f (ms ls)) (sides p f ls) (entered_branches p f (ms ls)) (sides p f (all_on ls)) (sides_of f (stage_at p l.thread.stage).branches) after (enters l) h (sides_outside f _ off) e
+            ap
+            (λ b. (if (b && goes_out p f (next_stage p l.thread.stage (deeds_of p st bits l))) || has_left p f (ms ls) then but_first
+            (sides p f ls ++ sides_of f (stage_at p l.thread.stage).branches) else
+            (sides p f ls ++ sides_of f (stage_at p l.thread.stage).branches)) ++ (entered_branches p f (ms ls) ++ enters l)) off
+            ∙ list_neutral (has_left p f (ms ls)) (sides p f ls) (entered_branches p f (ms ls)) (sides p f (all_on ls))
+            (sides_of f (stage_at p l.thread.stage).branches) after (enters l) h (sides_outside f _ off) e
 
         leads : (q : ℕ) → next_stage p l.thread.stage (deeds_of p st bits l) ≡ Some q → Leads p l.thread.stage q
         leads q i = ((deeds_of p st bits l).env, i, k.0.seated.keeps_on.inside)
 
         -- from the fork it enters a branch
-        enters_side : (q : ℕ) → next_stage p l.thread.stage (deeds_of p st bits l) ≡ Some q → is_inside p f l.thread.stage ≡ false → enters l ≡ sides_of f (stage_at p q).branches
+        enters_side : (q : ℕ)
+            → next_stage p l.thread.stage (deeds_of p st bits l) ≡ Some q → is_inside p f l.thread.stage ≡ false
+            → enters l ≡ sides_of f (stage_at p q).branches
         enters_side q i off = by (l.thread.stage == f) refl
           where
             came : (x : Branch) (c : List Branch) → x.fork ≡ f → (l.thread.stage ≡ f → ⊥) → (x.fork ≡ l.thread.stage) ⊎ Within p (x ∷ c) l.thread.stage → ⊥
             came x c e n (inl j) = n (sym j ∙ e)
             came x c e n (inr j) = cc (sym off ∙ inside_of p f l.thread.stage x c j e)
 
-            by : (t : Bool) → (l.thread.stage == f) ≡ t → (if t then goes_into p f (next_stage p l.thread.stage (deeds_of p st bits l)) else []) ≡ sides_of f (stage_at p q).branches
+            by : (t : Bool)
+                → (l.thread.stage == f) ≡ t
+                → (if t then goes_into p f (next_stage p l.thread.stage (deeds_of p st bits l)) else []) ≡ sides_of f (stage_at p q).branches
             by true e = ap (goes_into p f) i
-            by false e = sym (sides_outside f (stage_at p q).branches (not_inside p f q (λ x c w j. came x c j (eqb-false _ _ e) (came_from_way p x c l.thread.stage q (flows.graph.way l.thread.stage q (leads q i)) w))))
+            by false e =
+                sym
+                (sides_outside f (stage_at p q).branches
+                (not_inside p f q (λ x c w j. came x c j (eqb-false _ _ e)
+                (came_from_way p x c l.thread.stage q (flows.graph.way l.thread.stage q (leads q i)) w))))
 
         -- inside, it enters nothing of this fork, and stays inside or leaves
-        inside_moves : (x : Branch) (c : List Branch) → Within p (x ∷ c) l.thread.stage → x.fork ≡ f → (did p d bits ls l).moves ≡ true → (q : ℕ) → next_stage p l.thread.stage (deeds_of p st bits l) ≡ Some q → (if has_left p f (ms ls) then but_first (sides p f ls) else sides p f ls) ++ entered_branches p f (ms ls) ≡ sides p f (all_on ls)
+        inside_moves : (x : Branch) (c : List Branch)
+            → Within p (x ∷ c) l.thread.stage → x.fork ≡ f → (did p d bits ls l).moves ≡ true → (q : ℕ)
+            → next_stage p l.thread.stage (deeds_of p st bits l) ≡ Some q
+            → (if has_left p f (ms ls) then but_first (sides p f ls) else sides p f ls) ++ entered_branches p f (ms ls) ≡ sides p f (all_on ls)
             → (if leaves l
             || has_left p f (ms ls) then but_first (sides p f ls ++ sides_of f (stage_at p l.thread.stage).branches)
             else (sides p f ls ++ sides_of f (stage_at p l.thread.stage).branches))
@@ -189,11 +215,17 @@ module _ (p : Pipe) (flows : Flows p) (st : State) (d : Derived.State) (bits : L
             mine = sides_inside p flows.graph.fork_below f x c l.thread.stage here its
 
             -- it stays inside
-            moves_inside : (q : ℕ) → next_stage p l.thread.stage (deeds_of p st bits l) ≡ Some q → sides_of f (stage_at p q).branches ≡ sides_of f (stage_at p l.thread.stage).branches → merges_fork (stage_at p q).merges f ≡ false → (if has_left p f (ms ls) then but_first (sides p f ls) else sides p f ls) ++ entered_branches p f (ms ls) ≡ sides p f (all_on ls)
+            moves_inside : (q : ℕ)
+                → next_stage p l.thread.stage (deeds_of p st bits l) ≡ Some q
+                → sides_of f (stage_at p q).branches ≡ sides_of f (stage_at p l.thread.stage).branches
+                → merges_fork (stage_at p q).merges f ≡ false
+                → (if has_left p f (ms ls) then but_first (sides p f ls) else sides p f ls) ++ entered_branches p f (ms ls) ≡ sides p f (all_on ls)
                 → (if leaves l || has_left p f (ms ls) then but_first (sides p f ls ++ sides_of f (stage_at p l.thread.stage).branches) else (sides p f ls ++ sides_of f (stage_at p l.thread.stage).branches)) ++ (entered_branches p f (ms ls) ++ enters l) ≡ sides p f (all_on ls) ++ sides_of f (stage_at p q).branches
             moves_inside q i same no_merge h =
-                (λ t. (if stays t || has_left p f (ms ls) then but_first (sides p f ls ++ mine t) else (sides p f ls ++ mine t)) ++ (entered_branches p f (ms ls) ++ no_entry t))
-                ∙ list_inside (has_left p f (ms ls)) (sides p f ls) (entered_branches p f (ms ls)) (sides p f (all_on ls)) x.first h (entered_none ls (past_fork l x c ls here its o.0)) (some_left ls)
+                (λ t. (if stays t || has_left p f (ms ls) then but_first (sides p f ls ++ mine t) else (sides p f ls ++ mine t))
+                ++ (entered_branches p f (ms ls) ++ no_entry t))
+                ∙ list_inside (has_left p f (ms ls)) (sides p f ls) (entered_branches p f (ms ls)) (sides p f (all_on ls)) x.first h
+                (entered_none ls (past_fork l x c ls here its o.0)) (some_left ls)
                 ∙ ap (λ u. sides p f (all_on ls) ++ u) (sym (same ∙ mine))
               where
                 off : (t : Bool) → (t && false) ≡ false
@@ -201,18 +233,25 @@ module _ (p : Pipe) (flows : Flows p) (st : State) (d : Derived.State) (bits : L
                 off false = refl
 
                 stays : leaves l ≡ false
-                stays = ap (λ r. is_inside p f l.thread.stage && goes_out p f r) i ∙ ap (λ t. is_inside p f l.thread.stage && t) no_merge ∙ off (is_inside p f l.thread.stage)
+                stays =
+                    ap (λ r. is_inside p f l.thread.stage && goes_out p f r) i ∙ ap (λ t. is_inside p f l.thread.stage && t) no_merge
+                    ∙ off (is_inside p f l.thread.stage)
 
             -- the list of the fork with a thread that leaves into the merge, the oldest inside
-            moves_out : (did p d bits ls l).moves ≡ true → (q : ℕ) → next_stage p l.thread.stage (deeds_of p st bits l) ≡ Some q → sides_of f (stage_at p q).branches ≡ [] → (stage_at p q).merges ≡ Some f → (if has_left p f (ms ls) then but_first (sides p f ls) else sides p f ls) ++ entered_branches p f (ms ls) ≡ sides p f (all_on ls)
+            moves_out : (did p d bits ls l).moves ≡ true
+                → (q : ℕ) → next_stage p l.thread.stage (deeds_of p st bits l) ≡ Some q → sides_of f (stage_at p q).branches ≡ []
+                → (stage_at p q).merges ≡ Some f
+                → (if has_left p f (ms ls) then but_first (sides p f ls) else sides p f ls) ++ entered_branches p f (ms ls) ≡ sides p f (all_on ls)
                 → (if leaves l || has_left p f (ms ls)
                 then but_first (sides p f ls ++ sides_of f (stage_at p l.thread.stage).branches)
                 else (sides p f ls ++ sides_of f (stage_at p l.thread.stage).branches))
                 ++ (entered_branches p f (ms ls) ++ enters l)
                 ≡ sides p f (all_on ls) ++ sides_of f (stage_at p q).branches
             moves_out go q i out m h =
-                (λ t. (if goes t || has_left p f (ms ls) then but_first (sides p f ls ++ mine t) else (sides p f ls ++ mine t)) ++ (entered_branches p f (ms ls) ++ no_entry t))
-                ∙ list_leaves (has_left p f (ms ls)) (sides p f ls) (entered_branches p f (ms ls)) (sides p f (all_on ls)) x.first h (nobody_nil (sides p f ls) nobody) (entered_none ls (past_fork l x c ls here its o.0)) (left_none ls nobody)
+                (λ t. (if goes t || has_left p f (ms ls) then but_first (sides p f ls ++ mine t) else (sides p f ls ++ mine t))
+                ++ (entered_branches p f (ms ls) ++ no_entry t))
+                ∙ list_leaves (has_left p f (ms ls)) (sides p f ls) (entered_branches p f (ms ls)) (sides p f (all_on ls)) x.first h
+                (nobody_nil (sides p f ls) nobody) (entered_none ls (past_fork l x c ls here its o.0)) (left_none ls nobody)
                 ∙ ap (λ u. sides p f (all_on ls) ++ u) (sym out)
               where
                 goes : leaves l ≡ true
@@ -224,7 +263,9 @@ module _ (p : Pipe) (flows : Flows p) (st : State) (d : Derived.State) (bits : L
                 can = subst (λ r. Derived.can_enter p (dacts p d bits ls) r ≡ true) (sym (next_is ls l k.0) ∙ i) (enters_here p flows st d bits arrays ls l go)
 
                 clear : Derived.fork_clear p (dacts p d bits ls) (stage_at p q).merges ≡ true
-                clear = and_right (list_all (λ (o : Derived.Act). not (o.before.stage == q) || o.moves) (dacts p d bits ls)) (Derived.fork_clear p (dacts p d bits ls) (stage_at p q).merges) can
+                clear =
+                    and_right (list_all (λ (o : Derived.Act). not (o.before.stage == q) || o.moves) (dacts p d bits ls))
+                    (Derived.fork_clear p (dacts p d bits ls) (stage_at p q).merges) can
 
                 nobody : is_nobody (sides p f ls) ≡ true
                 nobody = sides_nobody p d bits f ls ∙ subst (λ r. Derived.fork_clear p (dacts p d bits ls) r ≡ true) m clear
@@ -236,11 +277,18 @@ module _ (p : Pipe) (flows : Flows p) (st : State) (d : Derived.State) (bits : L
             twice_longer : (a b : ℕ) → a ≡ suc b → b ≡ suc a → ⊥
             twice_longer a b e g = omega arith
 
-            no_merge_at : (q : ℕ) → Leads p l.thread.stage q → ((y : Branch) → (stage_at p l.thread.stage).branches ≡ y ∷ (stage_at p q).branches → y.fork ≡ f → ⊥) → merges_fork (stage_at p q).merges f ≡ false
+            no_merge_at : (q : ℕ)
+                → Leads p l.thread.stage q
+                → ((y : Branch) → (stage_at p l.thread.stage).branches ≡ y ∷ (stage_at p q).branches → y.fork ≡ f → ⊥)
+                → merges_fork (stage_at p q).merges f ≡ false
             no_merge_at q leads' n = at (stage_at p q).merges refl
               where
                 from : (g : ℕ) → g ≡ f
-                    → ((l.thread.stage ≡ g) × ((stage_at p q).branches ≡ (stage_at p l.thread.stage).branches)) ⊎ ((y : Branch) × ((stage_at p l.thread.stage).branches ≡ y ∷ (stage_at p q).branches) × (y.fork ≡ g) × ((b : ℕ) → Within p (y ∷ (stage_at p q).branches) b → b ≤ l.thread.stage)) → ⊥
+                    → ((l.thread.stage ≡ g) × ((stage_at p q).branches ≡ (stage_at p l.thread.stage).branches))
+                    ⊎
+                    ((y : Branch) × ((stage_at p l.thread.stage).branches ≡ y ∷ (stage_at p q).branches) × (y.fork ≡ g)
+                    × ((b : ℕ) → Within p (y ∷ (stage_at p q).branches) b → b ≤ l.thread.stage))
+                    → ⊥
                 from g e (inl j) = not_f (j.0 ∙ e)
                 from g e (inr j) = n j.0 j.1 (j.2 ∙ e)
 
@@ -252,22 +300,37 @@ module _ (p : Pipe) (flows : Flows p) (st : State) (d : Derived.State) (bits : L
                     by true j = absurd (from g (eqb-true _ _ j) (flows.graph.merge l.thread.stage q g leads' e))
                     by false j = j
 
-            at : Way p l.thread.stage q → (if leaves l || has_left p f (ms ls) then but_first (sides p f ls ++ sides_of f (stage_at p l.thread.stage).branches) else (sides p f ls ++ sides_of f (stage_at p l.thread.stage).branches)) ++ (entered_branches p f (ms ls) ++ enters l) ≡ sides p f (all_on ls) ++ sides_of f (stage_at p q).branches
-            at (inl e) = moves_inside q i (ap (sides_of f) e) (no_merge_at q (leads q i) (λ y j u. longer (length (stage_at p q).branches) (length (stage_at p l.thread.stage).branches) (ap length e) (ap length j))) h
+            at : Way p l.thread.stage q
+                →
+                (if leaves l || has_left p f (ms ls) then but_first (sides p f ls ++ sides_of f (stage_at p l.thread.stage).branches) else
+                (sides p f ls ++ sides_of f (stage_at p l.thread.stage).branches)) ++ (entered_branches p f (ms ls)
+                ++ enters l) ≡ sides p f (all_on ls) ++ sides_of f (stage_at p q).branches
+            at (inl e) =
+                moves_inside q i (ap (sides_of f) e)
+                (no_merge_at q (leads q i)
+                (λ y j u. longer (length (stage_at p q).branches) (length (stage_at p l.thread.stage).branches) (ap length e) (ap length j))) h
             at (inr (inl e)) =
                 moves_inside q i (ap (sides_of f) e.1 ∙ sides_other f e.0 (stage_at p l.thread.stage).branches (λ j. not_f (sym e.2 ∙ j)))
-                (no_merge_at q (leads q i) (λ y j u. twice_longer (length (stage_at p q).branches) (length (stage_at p l.thread.stage).branches) (ap length e.1) (ap length j))) h
+                (no_merge_at q (leads q i)
+                (λ y j u. twice_longer (length (stage_at p q).branches) (length (stage_at p l.thread.stage).branches) (ap length e.1) (ap length j))) h
             at (inr (inr e)) = which (e.0.fork == f) refl
               where
-                which : (t : Bool) → (e.0.fork == f) ≡ t → (if leaves l || has_left p f (ms ls) then but_first (sides p f ls ++ sides_of f (stage_at p l.thread.stage).branches) else (sides p f ls ++ sides_of f (stage_at p l.thread.stage).branches)) ++ (entered_branches p f (ms ls) ++ enters l) ≡ sides p f (all_on ls) ++ sides_of f (stage_at p q).branches
+                which : (t : Bool)
+                    → (e.0.fork == f) ≡ t
+                    →
+                    (if leaves l || has_left p f (ms ls) then but_first (sides p f ls ++ sides_of f (stage_at p l.thread.stage).branches) else
+                    (sides p f ls ++ sides_of f (stage_at p l.thread.stage).branches)) ++ (entered_branches p f (ms ls)
+                    ++ enters l) ≡ sides p f (all_on ls) ++ sides_of f (stage_at p q).branches
                 which true j =
                     moves_out go q i
                     (sides_outside f (stage_at p q).branches
-                    (ap (list_any (λ (b : Branch). b.fork == f)) (sym (flows.graph.fork_below e.0 (stage_at p q).branches l.thread.stage (within_home p _ _ e.1)).0)
+                    (ap (list_any (λ (b : Branch). b.fork == f))
+                    (sym (flows.graph.fork_below e.0 (stage_at p q).branches l.thread.stage (within_home p _ _ e.1)).0)
                     ∙ subst (λ n. is_inside p f n ≡ false) (sym (eqb-true _ _ j)) (outside_self p flows.graph.fork_below f)))
                     (e.2 ∙ ap Some (eqb-true _ _ j)) h
                 which false j =
-                    moves_inside q i (sym (ap (sides_of f) e.1 ∙ sides_other f e.0 (stage_at p q).branches (eqb-false _ _ j))) (ap (λ r. merges_fork r f) e.2 ∙ j) h
+                    moves_inside q i (sym (ap (sides_of f) e.1 ∙ sides_other f e.0 (stage_at p q).branches (eqb-false _ _ j)))
+                    (ap (λ r. merges_fork r f) e.2 ∙ j) h
 
         moved : (did p d bits ls l).moves ≡ true → (r : Option ℕ) → next_stage p l.thread.stage (deeds_of p st bits l) ≡ r
             → (if has_left p f (ms ls) then but_first (sides p f ls) else sides p f ls) ++ entered_branches p f (ms ls) ≡ sides p f (all_on ls)
@@ -288,10 +351,10 @@ module _ (p : Pipe) (flows : Flows p) (st : State) (d : Derived.State) (bits : L
         moved go (Some q) i h = by (is_inside p f l.thread.stage) refl
           where
             by : (t : Bool) → is_inside p f l.thread.stage ≡ t → (if leaves l
-                    || has_left p f (ms ls) then but_first (sides p f ls ++ sides_of f (stage_at p l.thread.stage).branches)
-                    else (sides p f ls ++ sides_of f (stage_at p l.thread.stage).branches))
-                    ++ (entered_branches p f (ms ls) ++ enters l)
-                    ≡ sides p f (all_on ls) ++ sides_of f (stage_at p q).branches
+                || has_left p f (ms ls) then but_first (sides p f ls ++ sides_of f (stage_at p l.thread.stage).branches)
+                else (sides p f ls ++ sides_of f (stage_at p l.thread.stage).branches))
+                ++ (entered_branches p f (ms ls) ++ enters l)
+                ≡ sides p f (all_on ls) ++ sides_of f (stage_at p q).branches
             by false e = outside_moves e (sides_of f (stage_at p q).branches) (enters_side q i e) h
             by true e = inside_at p f l.thread.stage e (λ x c w j. inside_moves x c w j go q i h)
 
@@ -299,9 +362,13 @@ module _ (p : Pipe) (flows : Flows p) (st : State) (d : Derived.State) (bits : L
             → (if has_left p f (ms ls) then but_first (sides p f ls) else sides p f ls) ++ entered_branches p f (ms ls) ≡ sides p f (all_on ls)
             → (if has_left p f (cond b (lact p st d bits ls l ∷ ms ls) (ms ls)) then but_first (sides p f (l ∷ ls)) else sides p f (l ∷ ls))
             ++ entered_branches p f (cond b (lact p st d bits ls l ∷ ms ls) (ms ls))
-            ≡ sides p f (cond b (moved_live (goes_to (stage_at p l.thread.stage).next (work_of_live p d bits ls l).env) (advised p st bits l) (work_of_live p d bits ls l)) (stood p st d bits l ∷ []) ++ all_on ls)
+            ≡ sides p f
+            (cond b (moved_live (goes_to (stage_at p l.thread.stage).next (work_of_live p d bits ls l).env) (advised p st bits l) (work_of_live p d bits ls l))
+            (stood p st d bits l ∷ []) ++ all_on ls)
         at false e h = stands h ∙ sym (behind_next (stood p st d bits l ∷ []))
-        at true e h = moved e (next_stage p l.thread.stage (deeds_of p st bits l)) refl h ∙ ap (λ r. sides p f (moved_live r (advised p st bits l) (work_of_live p d bits ls l) ++ all_on ls)) (next_is ls l k.0)
+        at true e h =
+            moved e (next_stage p l.thread.stage (deeds_of p st bits l)) refl h
+            ∙ ap (λ r. sides p f (moved_live r (advised p st bits l) (work_of_live p d bits ls l) ++ all_on ls)) (next_is ls l k.0)
 
     -- SQUASHES
 
@@ -317,7 +384,9 @@ module _ (p : Pipe) (flows : Flows p) (st : State) (d : Derived.State) (bits : L
         trunk [] e = e
         trunk (x ∷ c) e = absurd (cc (sym g ∙ quiet (unchecked_trunk (in_stage l.thread.stage p.stmts) (flows.branches x c l.thread.stage e))))
 
-    fell_at : (ls : List Live) → AllKnown p flows st d bits arrays ls → fell p d bits ls ≡ true → (v : ℕ) × (squash_stage (ms ls) ≡ Some v) × (someone v ls ≡ true) × Trunk p v × (v < length p.stages)
+    fell_at : (ls : List Live)
+        → AllKnown p flows st d bits arrays ls → fell p d bits ls ≡ true
+        → (v : ℕ) × (squash_stage (ms ls) ≡ Some v) × (someone v ls ≡ true) × Trunk p v × (v < length p.stages)
     fell_at [] k h = absurd (cc h)
     fell_at (l ∷ ls) k h = at ((did p d bits ls l).moves && (work_of_live p d bits ls l).fails) refl h (λ i. fell_at ls k.1 i)
       where
@@ -348,7 +417,8 @@ module _ (p : Pipe) (flows : Flows p) (st : State) (d : Derived.State) (bits : L
             )
 
     -- who is behind the one that fails is not it
-    same_squash : (ls : List Live) (l : Live) → Known p flows st d bits arrays ls l → fell p d bits ls ≡ true → squash_stage (ms (l ∷ ls)) ≡ squash_stage (ms ls)
+    same_squash : (ls : List Live) (l : Live)
+        → Known p flows st d bits arrays ls l → fell p d bits ls ≡ true → squash_stage (ms (l ∷ ls)) ≡ squash_stage (ms ls)
     same_squash ls l k e =
         squash_stage_is p flows st d bits arrays ls l k
         ∙ ap (λ b. if b && (work_of_live p d bits ls l).fails then Some l.thread.stage else squash_stage (ms ls)) (stuck_here p flows st d bits arrays ls l e)
@@ -379,7 +449,11 @@ module _ (p : Pipe) (flows : Flows p) (st : State) (d : Derived.State) (bits : L
         or_true false = refl
 
         stage : fell p d bits ls ≡ true → squash_stage (ms ls) ≡ r
-        stage e = sym (same_squash ls l k.0 e) ∙ is (ap (λ b. ((did p d bits ls l).moves && (work_of_live p d bits ls l).fails) || b) e ∙ or_true ((did p d bits ls l).moves && (work_of_live p d bits ls l).fails))
+        stage e =
+            sym (same_squash ls l k.0 e)
+            ∙ is
+            (ap (λ b. ((did p d bits ls l).moves && (work_of_live p d bits ls l).fails) || b) e
+            ∙ or_true ((did p d bits ls l).moves && (work_of_live p d bits ls l).fails))
 
         removed : fell p d bits ls ≡ true → is_inside p f l.thread.stage ≡ false
         removed e =
@@ -392,12 +466,20 @@ module _ (p : Pipe) (flows : Flows p) (st : State) (d : Derived.State) (bits : L
             absurd (omega arith))
 
         stood_side : fell p d bits ls ≡ true → sides p f (next_live p st d bits ls l) ≡ []
-        stood_side e = ap (λ b. sides p f (cond b (moved_live (goes_to (stage_at p l.thread.stage).next (work_of_live p d bits ls l).env) (advised p st bits l) (work_of_live p d bits ls l)) (stood p st d bits l ∷ []))) (stuck_here p flows st d bits arrays ls l e) ∙ one_side (stood p st d bits l) (removed e)
+        stood_side e =
+            ap
+            (λ b. sides p f (cond b
+            (moved_live (goes_to (stage_at p l.thread.stage).next (work_of_live p d bits ls l).env) (advised p st bits l) (work_of_live p d bits ls l))
+            (stood p st d bits l ∷ []))) (stuck_here p flows st d bits arrays ls l e)
+            ∙ one_side (stood p st d bits l) (removed e)
 
         at : (g : Bool) → fell p d bits ls ≡ g → sides p f (go_on p st d bits ls) ≡ sides p f (all_on ls)
             → sides p f ((if g then [] else next_live p st d bits ls l) ++ go_on p st d bits ls) ≡ sides p f (next_live p st d bits ls l ++ all_on ls)
-        at true e r = r ∙ sym (append-nil _) ∙ ap (λ x. sides p f (all_on ls) ++ x) (sym (stood_side e)) ∙ sym (sides_append p f (next_live p st d bits ls l) (all_on ls))
-        at false e r = sides_append p f (next_live p st d bits ls l) (go_on p st d bits ls) ∙ ap (λ x. x ++ sides p f (next_live p st d bits ls l)) r ∙ sym (sides_append p f (next_live p st d bits ls l) (all_on ls))
+        at true e r =
+            r ∙ sym (append-nil _) ∙ ap (λ x. sides p f (all_on ls) ++ x) (sym (stood_side e)) ∙ sym (sides_append p f (next_live p st d bits ls l) (all_on ls))
+        at false e r =
+            sides_append p f (next_live p st d bits ls l) (go_on p st d bits ls) ∙ ap (λ x. x ++ sides p f (next_live p st d bits ls l)) r
+            ∙ sym (sides_append p f (next_live p st d bits ls l) (all_on ls))
 
     -- after a squash the list of a fork that merges up to the stage of it is empty
     pub merged_on : (r : Option ℕ) → merges_by p f r ≡ true → (ls : List Live) → AllKnown p flows st d bits arrays ls → Ordered p ls
@@ -417,8 +499,11 @@ module _ (p : Pipe) (flows : Flows p) (st : State) (d : Derived.State) (bits : L
         all_out g =
             sides_none p f (next_live p st d bits ls l ++ go_on p st d bits ls)
             (each_append (λ k. is_inside p f k.thread.stage ≡ false) (next_live p st d bits ls l) (go_on p st d bits ls)
-            (each_next p flows st d bits arrays (λ k. is_inside p f k.thread.stage ≡ false) ls l k.0 (λ i. outside l.thread.stage (le_refl _)) (λ i q j. outside q (let w = (flows.graph.up l.thread.stage q (leads_of p flows st d bits arrays ls l k.0 q j)).0 in omega arith)))
-            (each_map (λ k h. outside k.thread.stage (let w : l.thread.stage < k.thread.stage = left_trunk p _ _ h l.thread.stage trunk (le_refl _) in omega arith)) (go_on p st d bits ls) (behind_stay p flows st d bits arrays l.thread.stage ls k.1 o.0)))
+            (each_next p flows st d bits arrays (λ k. is_inside p f k.thread.stage ≡ false) ls l k.0 (λ i. outside l.thread.stage (le_refl _))
+            (λ i q j. outside q (let w = (flows.graph.up l.thread.stage q (leads_of p flows st d bits arrays ls l k.0 q j)).0 in omega arith)))
+            (each_map (λ k h. outside k.thread.stage
+            (let w : l.thread.stage < k.thread.stage = left_trunk p _ _ h l.thread.stage trunk
+            (le_refl _) in omega arith)) (go_on p st d bits ls) (behind_stay p flows st d bits arrays l.thread.stage ls k.1 o.0)))
           where
             trunk : Trunk p l.thread.stage
             trunk = fails_at ls l (and_right (did p d bits ls l).moves (work_of_live p d bits ls l).fails (here g))
@@ -427,7 +512,10 @@ module _ (p : Pipe) (flows : Flows p) (st : State) (d : Derived.State) (bits : L
             stage = sym is ∙ squash_stage_is p flows st d bits arrays ls l k.0 ∙ ap (λ b. if b then Some l.thread.stage else squash_stage (ms ls)) (here g)
 
             outside : (b : ℕ) → l.thread.stage ≤ b → is_inside p f b ≡ false
-            outside b h = not_here b (λ i. let less : b < l.thread.stage = flows.graph.merged l.thread.stage f b k.0.seated.keeps_on.inside trunk i (subst (λ q. merges_by p f q ≡ true) stage u) in absurd (omega arith))
+            outside b h =
+                not_here b
+                (λ i. let less : b < l.thread.stage = flows.graph.merged l.thread.stage f b k.0.seated.keeps_on.inside trunk i
+                (subst (λ q. merges_by p f q ≡ true) stage u) in absurd (omega arith))
 
         at : (g : Bool) → fell p d bits ls ≡ g → (fell p d bits ls ≡ true → sides p f (go_on p st d bits ls) ≡ [])
             → sides p f ((if g then [] else next_live p st d bits ls l) ++ go_on p st d bits ls) ≡ []
@@ -439,7 +527,8 @@ module _ (p : Pipe) (flows : Flows p) (st : State) (d : Derived.State) (bits : L
     calm_on (l ∷ ls) e =
         let rest = second ((did p d bits ls l).moves && (work_of_live p d bits ls l).fails) e in
         ap (λ g. sides p f ((if g then [] else next_live p st d bits ls l) ++ go_on p st d bits ls)) rest
-        ∙ sides_append p f (next_live p st d bits ls l) (go_on p st d bits ls) ∙ ap (λ x. x ++ sides p f (next_live p st d bits ls l)) (calm_on ls rest) ∙ sym (sides_append p f (next_live p st d bits ls l) (all_on ls))
+        ∙ sides_append p f (next_live p st d bits ls l) (go_on p st d bits ls) ∙ ap (λ x. x ++ sides p f (next_live p st d bits ls l)) (calm_on ls rest)
+        ∙ sym (sides_append p f (next_live p st d bits ls l) (all_on ls))
       where
         second : (b : Bool) → (b || fell p d bits ls) ≡ false → fell p d bits ls ≡ false
         second true g = absurd (cc g)

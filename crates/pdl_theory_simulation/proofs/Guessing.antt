@@ -39,10 +39,16 @@ module _ (o : Around) (read : ℕ → ℕ → ℕ) (block : Blocked → Bool) (f
       subst (λ b. (deeds_after_all read xs (then_done b x.op d)).guess ≡ d.guess) (ap (λ (v : Work). all_hold x.guards v.env) l.is)
       (at (all_hold x.guards w.env) (all_hold x.guards path) q.0 h c q.1 (λ d' w' l' q' h' c'. kept_guess path xs d' w' l' f.1 q' h' c'))
     where
-      at : (b c : Bool) → b ≡ c → none_of is_spec_call (cond c (record x { guards = [] } ∷ onpath path xs) (onpath path xs)) ≡ true → none_of is_check (cond c (record x { guards = [] } ∷ onpath path xs) (onpath path xs)) ≡ true → Fixed path o xs (cond b (work_after o x.op w) w)
+      at : (b c : Bool)
+          → b ≡ c → none_of is_spec_call (cond c (record x { guards = [] } ∷ onpath path xs) (onpath path xs)) ≡ true
+          → none_of is_check (cond c (record x { guards = [] } ∷ onpath path xs) (onpath path xs)) ≡ true
+          → Fixed path o xs (cond b (work_after o x.op w) w)
           → ((d' : Deeds) (w' : Work) → Loosely o read block free d' w' → Fixed path o xs w' → none_of is_spec_call (onpath path xs) ≡ true → none_of is_check (onpath path xs) ≡ true → (deeds_after_all read xs d').guess ≡ d'.guess)
           → (deeds_after_all read xs (then_done b x.op d)).guess ≡ d.guess
-      at true true e h c q go = go (Machine.deeds_after read x.op d) (work_after o x.op w) (loose_step o read block free true x.op d w f.0 l) q (and_right (not (is_spec_call x.op)) _ h) (and_right (not (is_check x.op)) _ c) ∙ same_guess x.op d (and_left _ _ h) (and_left _ _ c)
+      at true true e h c q go =
+          go (Machine.deeds_after read x.op d) (work_after o x.op w) (loose_step o read block free true x.op d w f.0 l) q
+          (and_right (not (is_spec_call x.op)) _ h) (and_right (not (is_check x.op)) _ c)
+          ∙ same_guess x.op d (and_left _ _ h) (and_left _ _ c)
       at true false e h c q go = absurd (cc e)
       at false true e h c q go = absurd (cc e)
       at false false e h c q go = go d w l q h c
@@ -52,41 +58,63 @@ module _ (o : Around) (read : ℕ → ℕ → ℕ) (block : Blocked → Bool) (f
       → none_of is_spec_call (onpath path xs) ≡ true → AllGuesses o read block free xs d
   unguessed path [] d w l f q h = tt
   unguessed path (x ∷ xs) d w l f q h =
-      subst (λ b. (b ≡ true → Guesses o read block free x.op d) × AllGuesses o read block free xs (then_done b x.op d)) (ap (λ (v : Work). all_hold x.guards v.env) l.is)
+      subst (λ b. (b ≡ true → Guesses o read block free x.op d) × AllGuesses o read block free xs (then_done b x.op d))
+      (ap (λ (v : Work). all_hold x.guards v.env) l.is)
       (at (all_hold x.guards w.env) (all_hold x.guards path) q.0 h q.1 (λ d' w' l' q' h'. unguessed path xs d' w' l' f.1 q' h'))
     where
       off : (op : Op) → not (is_spec_call op) ≡ true → Guesses o read block free op d
       off (SpecCall args) i = absurd (cc i)
       off _ i = tt
 
-      at : (b c : Bool) → b ≡ c → none_of is_spec_call (cond c (record x { guards = [] } ∷ onpath path xs) (onpath path xs)) ≡ true → Fixed path o xs (cond b (work_after o x.op w) w)
+      at : (b c : Bool)
+          → b ≡ c → none_of is_spec_call (cond c (record x { guards = [] } ∷ onpath path xs) (onpath path xs)) ≡ true
+          → Fixed path o xs (cond b (work_after o x.op w) w)
           → ((d' : Deeds) (w' : Work) → Loosely o read block free d' w' → Fixed path o xs w' → none_of is_spec_call (onpath path xs) ≡ true → AllGuesses o read block free xs d')
           → (b ≡ true → Guesses o read block free x.op d) × AllGuesses o read block free xs (then_done b x.op d)
-      at true true e h q go = ((λ _. off x.op (and_left _ _ h)), go (Machine.deeds_after read x.op d) (work_after o x.op w) (loose_step o read block free true x.op d w f.0 l) q (and_right (not (is_spec_call x.op)) _ h))
+      at true true e h q go = (
+        (λ _. off x.op (and_left _ _ h)),
+        go (Machine.deeds_after read x.op d) (work_after o x.op w) (loose_step o read block free true x.op d w f.0 l) q
+            (and_right (not (is_spec_call x.op)) _ h),
+      )
       at true false e h q go = absurd (cc e)
       at false true e h q go = absurd (cc e)
       at false false e h q go = ((λ i. absurd (cc i)), go d w l q h)
 
   -- where it makes one, and that is what the surroundings give
-  pub foreseen : (path : List ℕ) (xs : List Stmt) (been : Bool) (d : Deeds) (w : Work) → Loosely o read block free d w → AllFit o read block free xs → Fixed path o xs w
-      → calls_ok been (onpath path xs) ≡ true → none_of is_check (onpath path xs) ≡ true → (deeds_after_all read xs d).guess ≡ o.guess → AllGuesses o read block free xs d
+  pub foreseen : (path : List ℕ) (xs : List Stmt) (been : Bool) (d : Deeds) (w : Work)
+      → Loosely o read block free d w → AllFit o read block free xs → Fixed path o xs w
+      → calls_ok been (onpath path xs) ≡ true → none_of is_check (onpath path xs) ≡ true → (deeds_after_all read xs d).guess ≡ o.guess
+      → AllGuesses o read block free xs d
   foreseen path [] been d w l f q h n g = tt
   foreseen path (x ∷ xs) been d w l f q h n g =
-      subst (λ b. (deeds_after_all read xs (then_done b x.op d)).guess ≡ o.guess → (b ≡ true → Guesses o read block free x.op d) × AllGuesses o read block free xs (then_done b x.op d)) (ap (λ (v : Work). all_hold x.guards v.env) l.is)
+      subst
+      (λ b. (deeds_after_all read xs (then_done b x.op d)).guess
+      ≡ o.guess → (b ≡ true → Guesses o read block free x.op d)
+      × AllGuesses o read block free xs (then_done b x.op d)) (ap (λ (v : Work). all_hold x.guards v.env) l.is)
       (at (all_hold x.guards w.env) (all_hold x.guards path) q.0 h n q.1 (λ been' d' w' l' q' h' n' g'. foreseen path xs been' d' w' l' f.1 q' h' n' g')) g
     where
-      one : (op : Op) → calls_ok (been || is_call op) (onpath path xs) ≡ true → none_of is_check (onpath path xs) ≡ true → Loosely o read block free (Machine.deeds_after read op d) (work_after o op w) → Fixed path o xs (work_after o op w)
+      one : (op : Op)
+          → calls_ok (been || is_call op) (onpath path xs) ≡ true → none_of is_check (onpath path xs) ≡ true
+          → Loosely o read block free (Machine.deeds_after read op d) (work_after o op w) → Fixed path o xs (work_after o op w)
           → (deeds_after_all read xs (Machine.deeds_after read op d)).guess ≡ o.guess → Guesses o read block free op d
-      one (SpecCall args) i n l q g = sym (kept_guess path xs (Machine.deeds_after read (SpecCall args) d) (work_after o (SpecCall args) w) l f.1 q (no_second (onpath path xs) (subst (λ b. calls_ok b (onpath path xs) ≡ true) (or_true been) i)) n) ∙ g
+      one (SpecCall args) i n l q g =
+          sym
+          (kept_guess path xs (Machine.deeds_after read (SpecCall args) d) (work_after o (SpecCall args) w) l f.1 q
+          (no_second (onpath path xs) (subst (λ b. calls_ok b (onpath path xs) ≡ true) (or_true been) i)) n)
+          ∙ g
         where
           or_true : (b : Bool) → (b || true) ≡ true
           or_true true = refl
           or_true false = refl
       one _ i n l q g = tt
 
-      at : (b c : Bool) → b ≡ c → calls_ok been (cond c (record x { guards = [] } ∷ onpath path xs) (onpath path xs)) ≡ true → none_of is_check (cond c (record x { guards = [] } ∷ onpath path xs) (onpath path xs)) ≡ true → Fixed path o xs (cond b (work_after o x.op w) w)
+      at : (b c : Bool)
+          → b ≡ c → calls_ok been (cond c (record x { guards = [] } ∷ onpath path xs) (onpath path xs)) ≡ true
+          → none_of is_check (cond c (record x { guards = [] } ∷ onpath path xs) (onpath path xs)) ≡ true
+          → Fixed path o xs (cond b (work_after o x.op w) w)
           → ((been' : Bool) (d' : Deeds) (w' : Work) → Loosely o read block free d' w' → Fixed path o xs w' → calls_ok been' (onpath path xs) ≡ true → none_of is_check (onpath path xs) ≡ true → (deeds_after_all read xs d').guess ≡ o.guess → AllGuesses o read block free xs d')
-          → (deeds_after_all read xs (then_done b x.op d)).guess ≡ o.guess → (b ≡ true → Guesses o read block free x.op d) × AllGuesses o read block free xs (then_done b x.op d)
+          → (deeds_after_all read xs (then_done b x.op d)).guess ≡ o.guess
+          → (b ≡ true → Guesses o read block free x.op d) × AllGuesses o read block free xs (then_done b x.op d)
       at true true e h n q go g =
           let l' = loose_step o read block free true x.op d w f.0 l in
           let h' = and_right (call_ok been x.op) _ h in
@@ -97,7 +125,8 @@ module _ (o : Around) (read : ℕ → ℕ → ℕ) (block : Blocked → Bool) (f
       at false false e h n q go g = ((λ i. absurd (cc i)), go been d w l q h n g)
 
   -- a path without check fails none
-  same_fails : (op : Op) (d : Deeds) (w : Work) → not (is_check op) ≡ true → ((Machine.deeds_after read op d).fails ≡ d.fails) × ((work_after o op w).fails ≡ w.fails)
+  same_fails : (op : Op) (d : Deeds) (w : Work)
+      → not (is_check op) ≡ true → ((Machine.deeds_after read op d).fails ≡ d.fails) × ((work_after o op w).fails ≡ w.fails)
   same_fails (Verify last args) d w h = absurd (cc h)
   same_fails _ d w h = (refl, refl)
 
@@ -106,15 +135,19 @@ module _ (o : Around) (read : ℕ → ℕ → ℕ) (block : Blocked → Bool) (f
       → none_of is_check (onpath path xs) ≡ true → ((deeds_after_all read xs d).fails ≡ d.fails) × ((do_all o xs w).fails ≡ w.fails)
   no_failure path [] d w l f q h = (refl, refl)
   no_failure path (x ∷ xs) d w l f q h =
-      subst (λ b. ((deeds_after_all read xs (then_done b x.op d)).fails ≡ d.fails) × ((do_all o (x ∷ xs) w).fails ≡ w.fails)) (ap (λ (v : Work). all_hold x.guards v.env) l.is)
+      subst (λ b. ((deeds_after_all read xs (then_done b x.op d)).fails ≡ d.fails) × ((do_all o (x ∷ xs) w).fails ≡ w.fails))
+      (ap (λ (v : Work). all_hold x.guards v.env) l.is)
       (at (all_hold x.guards w.env) (all_hold x.guards path) q.0 h q.1 (λ d' w' l' q' h'. no_failure path xs d' w' l' f.1 q' h'))
     where
-      at : (b c : Bool) → b ≡ c → none_of is_check (cond c (record x { guards = [] } ∷ onpath path xs) (onpath path xs)) ≡ true → Fixed path o xs (cond b (work_after o x.op w) w)
+      at : (b c : Bool)
+          → b ≡ c → none_of is_check (cond c (record x { guards = [] } ∷ onpath path xs) (onpath path xs)) ≡ true
+          → Fixed path o xs (cond b (work_after o x.op w) w)
           → ((d' : Deeds) (w' : Work) → Loosely o read block free d' w' → Fixed path o xs w' → none_of is_check (onpath path xs) ≡ true → ((deeds_after_all read xs d').fails ≡ d'.fails) × ((do_all o xs w').fails ≡ w'.fails))
           → ((deeds_after_all read xs (then_done b x.op d)).fails ≡ d.fails) × ((do_all o xs (cond b (work_after o x.op w) w)).fails ≡ w.fails)
       at true true e h q go =
           let s = same_fails x.op d w (and_left _ _ h) in
-          let r = go (Machine.deeds_after read x.op d) (work_after o x.op w) (loose_step o read block free true x.op d w f.0 l) q (and_right (not (is_check x.op)) _ h) in
+          let r = go (Machine.deeds_after read x.op d) (work_after o x.op w) (loose_step o read block free true x.op d w f.0 l) q
+          (and_right (not (is_check x.op)) _ h) in
           (r.0 ∙ s.0, r.1 ∙ s.1)
       at true false e h q go = absurd (cc e)
       at false true e h q go = absurd (cc e)

@@ -112,7 +112,8 @@ module _ (p : Pipe) (flows : Flows p) (st : State) (d : Derived.State) (bits : L
       (has_made p (work_of_live p d bits ls l).env (next_of p l.thread.stage (work_of_live p d bits ls l).env))
       (work_of_live p d bits ls l)
   childed_here ls l k =
-      stage_child p flows l.env (now_of p d bits l) (keeps_now p flows st d bits arrays l k.seated) (around p d bits (dacts p d bits ls) l.thread.stage l.thread.hint)
+      stage_child p flows l.env (now_of p d bits l) (keeps_now p flows st d bits arrays l k.seated)
+      (around p d bits (dacts p d bits ls) l.thread.stage l.thread.hint)
 
   -- each live thread has made its successor
   abbrev pub Made : List Live → Type 0
@@ -130,7 +131,8 @@ module _ (p : Pipe) (flows : Flows p) (st : State) (d : Derived.State) (bits : L
       if (did p d bits ls l).moves then (if is_some (work_of_live p d bits ls l).child then (work_of_live p d bits ls l).child else made ls) else made ls
 
   -- the stated machine's new thread has the arguments that the live threads of the derived one make
-  pub child_is : (ls : List Live) → AllKnown p flows st d bits arrays ls → AllForeseen p flows st d bits arrays ls → child_of (movers (lacts p st d bits ls)) ≡ made ls
+  pub child_is : (ls : List Live)
+      → AllKnown p flows st d bits arrays ls → AllForeseen p flows st d bits arrays ls → child_of (movers (lacts p st d bits ls)) ≡ made ls
   child_is [] k h = refl
   child_is (l ∷ ls) k h = at (did p d bits ls l).moves refl (child_is ls k.1 h.1)
     where
@@ -163,7 +165,8 @@ module _ (p : Pipe) (flows : Flows p) (st : State) (d : Derived.State) (bits : L
       w : Work
       w = work_of_live p d bits ls l
 
-      out : (r : Option ℕ) → moved_to r l.thread.hint (work_of_live p d bits ls l) ≡ threads_of (moved_live r (advised p st bits l) (work_of_live p d bits ls l))
+      out : (r : Option ℕ)
+          → moved_to r l.thread.hint (work_of_live p d bits ls l) ≡ threads_of (moved_live r (advised p st bits l) (work_of_live p d bits ls l))
       out None = refl
       out (Some q) = refl
 
@@ -192,7 +195,9 @@ module _ (p : Pipe) (flows : Flows p) (st : State) (d : Derived.State) (bits : L
   rev_next : (ls : List Live) (l : Live) → rev (threads_of (next_live p st d bits ls l)) ≡ threads_of (next_live p st d bits ls l)
   rev_next ls l = at (did p d bits ls l).moves
     where
-      out : (r : Option ℕ) → rev (threads_of (moved_live r (advised p st bits l) (work_of_live p d bits ls l))) ≡ threads_of (moved_live r (advised p st bits l) (work_of_live p d bits ls l))
+      out : (r : Option ℕ)
+          → rev (threads_of (moved_live r (advised p st bits l) (work_of_live p d bits ls l)))
+          ≡ threads_of (moved_live r (advised p st bits l) (work_of_live p d bits ls l))
       out None = refl
       out (Some q) = refl
 
@@ -212,7 +217,8 @@ module _ (p : Pipe) (flows : Flows p) (st : State) (d : Derived.State) (bits : L
   rev_born (Some x) = refl
 
   -- a list of lives with a new one, oldest first
-  back_lives : (c : Option (List ℕ)) (xs : List Live) → rev (threads_of (born_live p (d.hints 0) st.next c ++ xs)) ≡ rev (threads_of xs) ++ born_threads p (d.hints 0) c
+  back_lives : (c : Option (List ℕ)) (xs : List Live)
+      → rev (threads_of (born_live p (d.hints 0) st.next c ++ xs)) ≡ rev (threads_of xs) ++ born_threads p (d.hints 0) c
   back_lives c xs =
       ap rev (threads_append (born_live p (d.hints 0) st.next c) xs)
       ∙ rev_append (threads_of (born_live p (d.hints 0) st.next c)) (threads_of xs)
@@ -243,7 +249,8 @@ module _ (p : Pipe) (flows : Flows p) (st : State) (d : Derived.State) (bits : L
           append-nil _ ∙ back_lives (made ls) (go_on p st d bits ls)
           ∙ ap
           (λ b. rev (threads_of (go_on p st d bits ls))
-          ++ born_threads p (d.hints 0) (if b then (if is_some (work_of_live p d bits ls l).child then (work_of_live p d bits ls l).child else made ls) else made ls))
+          ++ born_threads p (d.hints 0)
+          (if b then (if is_some (work_of_live p d bits ls l).child then (work_of_live p d bits ls l).child else made ls) else made ls))
           (sym (stuck_here ls l e))
       at false e =
           ap₂ (λ x y. x ++ y)
@@ -316,7 +323,9 @@ module _ (p : Pipe) (flows : Flows p) (st : State) (d : Derived.State) (bits : L
       → squash_stage (movers (lacts p st d bits (l ∷ ls))) ≡ (if (did p d bits ls l).moves && (work_of_live p d bits ls l).fails then Some l.thread.stage else squash_stage (movers (lacts p st d bits ls)))
   squash_stage_is ls l h = at (did p d bits ls l).moves
     where
-      at : (b : Bool) → squash_stage (cond b (lact p st d bits ls l ∷ movers (lacts p st d bits ls)) (movers (lacts p st d bits ls))) ≡ (if b && (work_of_live p d bits ls l).fails then Some l.thread.stage else squash_stage (movers (lacts p st d bits ls)))
+      at : (b : Bool)
+          → squash_stage (cond b (lact p st d bits ls l ∷ movers (lacts p st d bits ls)) (movers (lacts p st d bits ls)))
+          ≡ (if b && (work_of_live p d bits ls l).fails then Some l.thread.stage else squash_stage (movers (lacts p st d bits ls)))
       at true = ap (λ f. if f then Some l.thread.stage else squash_stage (movers (lacts p st d bits ls))) (fails_here p flows st d bits arrays ls l h)
       at false = refl
 
@@ -325,7 +334,9 @@ module _ (p : Pipe) (flows : Flows p) (st : State) (d : Derived.State) (bits : L
   no_squash_stage [] k h = refl
   no_squash_stage (l ∷ ls) k h = squash_stage_is ls l k.0 ∙ at ((did p d bits ls l).moves && (work_of_live p d bits ls l).fails) h (no_squash_stage ls k.1)
     where
-      at : (b : Bool) → (b || fell p d bits ls) ≡ false → (fell p d bits ls ≡ false → squash_stage (movers (lacts p st d bits ls)) ≡ None) → (if b then Some l.thread.stage else squash_stage (movers (lacts p st d bits ls))) ≡ None
+      at : (b : Bool)
+          → (b || fell p d bits ls) ≡ false → (fell p d bits ls ≡ false → squash_stage (movers (lacts p st d bits ls)) ≡ None)
+          → (if b then Some l.thread.stage else squash_stage (movers (lacts p st d bits ls))) ≡ None
       at true g r = absurd (cc g)
       at false g r = r g
 
@@ -405,7 +416,9 @@ module _ (p : Pipe) (flows : Flows p) (st : State) (d : Derived.State) (bits : L
   -- THE STAGES
 
   -- its next stage is the same in both machines
-  pub same_next : (ls : List Live) (l : Live) → Known p flows st d bits arrays ls l → next_stage p l.thread.stage (deeds_of p st bits l) ≡ goes_to (stage_at p l.thread.stage).next (work_of_live p d bits ls l).env
+  pub same_next : (ls : List Live) (l : Live)
+      → Known p flows st d bits arrays ls l
+      → next_stage p l.thread.stage (deeds_of p st bits l) ≡ goes_to (stage_at p l.thread.stage).next (work_of_live p d bits ls l).env
   same_next ls l k = ap (λ (w : Work). goes_to (stage_at p l.thread.stage).next w.env) (sym (like_here p flows st d bits arrays ls l k).is)
 
   -- where one thread comes
@@ -423,14 +436,16 @@ module _ (p : Pipe) (flows : Flows p) (st : State) (d : Derived.State) (bits : L
           (Some
           (record {
             number = l.number;
-            env = (sym (told_here p flows st d bits arrays ls l k g).is i).env; advice = (deeds_of p st bits l).advice;
+            env = (sym (told_here p flows st d bits arrays ls l k g).is i).env;
+            advice = (deeds_of p st bits l).advice;
             guess = (sym (told_here p flows st d bits arrays ls l k g).is i).guess;
             awaits = awaited_of (sym (told_here p flows st d bits arrays ls l k g).is i).asks;
             kept = [];
           })) None
 
       at : (b : Bool)
-          → (did p d bits ls l).moves ≡ b → cond b (cond (Cycle.is_stage q (next_stage p l.thread.stage (deeds_of p st bits l))) (Some (Cycle.thread_after (lact p st d bits ls l))) None)
+          → (did p d bits ls l).moves ≡ b
+          → cond b (cond (Cycle.is_stage q (next_stage p l.thread.stage (deeds_of p st bits l))) (Some (Cycle.thread_after (lact p st d bits ls l))) None)
           (cond (l.thread.stage == q) (Some (with_answers p st bits (seat l))) None)
           ≡ find q
           (cond b (moved_live (goes_to (stage_at p l.thread.stage).next (work_of_live p d bits ls l).env) (advised p st bits l) (work_of_live p d bits ls l))
@@ -441,10 +456,19 @@ module _ (p : Pipe) (flows : Flows p) (st : State) (d : Derived.State) (bits : L
           (same_next ls l k)
       at false e =
           λ i. cond (l.thread.stage == q)
-          (Some (record { number = l.number; env = l.env; advice = l.advice; guess = l.thread.guess; awaits = k.waits i; kept = (with_answers p st bits (seat l)).kept })) None
+          (Some (record {
+            number = l.number;
+            env = l.env;
+            advice = l.advice;
+            guess = l.thread.guess;
+            awaits = k.waits i;
+            kept =
+                (with_answers p st bits (seat l)).kept;
+          })) None
 
   -- nor does it come there in the one where it doesn't in the other, whatever it guesses
-  pub comes_none : (ls : List Live) (l : Live) (q : ℕ) → Known p flows st d bits arrays ls l → find q (next_live p st d bits ls l) ≡ None → coming_thread p q (lact p st d bits ls l) ≡ None
+  pub comes_none : (ls : List Live) (l : Live) (q : ℕ)
+      → Known p flows st d bits arrays ls l → find q (next_live p st d bits ls l) ≡ None → coming_thread p q (lact p st d bits ls l) ≡ None
   comes_none ls l q k h = at (did p d bits ls l).moves h
     where
       clash : {t : Machine.Thread} → Some t ≡ None → ⊥
@@ -454,11 +478,16 @@ module _ (p : Pipe) (flows : Flows p) (st : State) (d : Derived.State) (bits : L
       none true t u i = absurd (clash i)
       none false t u i = refl
 
-      there : (r : Option ℕ) → find q (moved_live r (advised p st bits l) (work_of_live p d bits ls l)) ≡ None → cond (Cycle.is_stage q r) (Some (Cycle.thread_after (lact p st d bits ls l))) None ≡ None
+      there : (r : Option ℕ)
+          → find q (moved_live r (advised p st bits l) (work_of_live p d bits ls l)) ≡ None
+          → cond (Cycle.is_stage q r) (Some (Cycle.thread_after (lact p st d bits ls l))) None ≡ None
       there None i = refl
       there (Some s) i = none (s == q) _ _ i
 
-      at : (b : Bool) → find q (cond b (moved_live (goes_to (stage_at p l.thread.stage).next (work_of_live p d bits ls l).env) (advised p st bits l) (work_of_live p d bits ls l)) (stood p st d bits l ∷ [])) ≡ None
+      at : (b : Bool)
+          → find q
+          (cond b (moved_live (goes_to (stage_at p l.thread.stage).next (work_of_live p d bits ls l).env) (advised p st bits l) (work_of_live p d bits ls l))
+          (stood p st d bits l ∷ [])) ≡ None
           → cond b (cond (Cycle.is_stage q (next_stage p l.thread.stage (deeds_of p st bits l))) (Some (Cycle.thread_after (lact p st d bits ls l))) None) (cond (l.thread.stage == q) (Some (with_answers p st bits (seat l))) None) ≡ None
       at true i = ap (λ r. cond (Cycle.is_stage q r) (Some (Cycle.thread_after (lact p st d bits ls l))) None) (same_next ls l k) ∙ there _ i
       at false i = none (l.thread.stage == q) _ _ i

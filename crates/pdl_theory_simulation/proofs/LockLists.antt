@@ -140,7 +140,6 @@ module _ (p : Pipe) (flows : Flows p) (st : State) (d : Derived.State) (bits : L
       → releases_of m (deeds_of p st bits l).releases ≢ 0 → l.thread.stage ≡ commit_stage p m
   release_here ls l k m h = at (l.thread.stage == commit_stage p m) refl
     where
-
       at : (b : Bool) → (l.thread.stage == commit_stage p m) ≡ b → l.thread.stage ≡ commit_stage p m
       at true e = eqb-true _ _ e
       at false e =
@@ -292,10 +291,14 @@ module _ (p : Pipe) (flows : Flows p) (st : State) (d : Derived.State) (bits : L
 
           by : (n : ℕ) → takes m l ≡ n → (takes m l ≡ 0) ⊎ Still (all_releases m (ms ls)) (two m ls) (three m ls) (commits_here m ls)
           by zero i = inl i
-          by (suc n) i = inr (gone m ls k.1 (past_of (commit_stage p m) l ls (flows.trunk_commit m) o.0 (let j = release_here ls l k.0 m (λ z. cc (sym i ∙ z)) in omega arith)))
+          by (suc n) i =
+              inr
+              (gone m ls k.1 (past_of (commit_stage p m) l ls (flows.trunk_commit m) o.0
+              (let j = release_here ls l k.0 m (λ z. cc (sym i ∙ z)) in omega arith)))
       at false e s =
           subst (λ c. Out m (all_releases m (ms ls)) (two m ls ++ pend m l.number l.thread.entries) (three m ls ++ pend m l.number l.thread.entries) c) (sym e)
-          (subst (λ n. Out m n (two m ls ++ pend m l.number l.thread.entries) (three m ls ++ pend m l.number l.thread.entries) (commits_here m ls ++ [])) (plus (all_releases m (ms ls)))
+          (subst (λ n. Out m n (two m ls ++ pend m l.number l.thread.entries) (three m ls ++ pend m l.number l.thread.entries) (commits_here m ls ++ []))
+          (plus (all_releases m (ms ls)))
           (out_more m (all_releases m (ms ls)) 0 (two m ls) (three m ls) (pend m l.number l.thread.entries)
           (pend m l.number l.thread.entries) (commits_here m ls)
           [] s refl (omega arith) refl (inl refl)))

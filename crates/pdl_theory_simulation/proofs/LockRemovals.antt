@@ -94,7 +94,9 @@ out_more m k rel two three mine mine' cs c out e f g (inl h) =
     record {
       left = ap (λ j. drop j (two ++ mine)) z ∙ d.0 ∙ ap₂ (λ a b. a ++ b) out.left (sym (e ∙ ap (λ j. drop j mine) h));
       enough = let l = length-append two mine in let o = out.enough in omega arith;
-      shows = ap₂ (λ a b. a ++ b) out.shows (g ∙ ap (λ j. released m (take j mine)) h) ∙ append-nil _ ∙ sym (ap (λ j. released m (take j (two ++ mine))) z ∙ ap (released m) d.1);
+      shows =
+          ap₂ (λ a b. a ++ b) out.shows (g ∙ ap (λ j. released m (take j mine)) h) ∙ append-nil _
+          ∙ sym (ap (λ j. released m (take j (two ++ mine))) z ∙ ap (released m) d.1);
     }
 out_more m k rel two three mine mine' cs c out e f g (inr s) =
     let z : k + rel ≡ rel = let i = s.0 in omega arith in

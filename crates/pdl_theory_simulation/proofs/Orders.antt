@@ -64,7 +64,9 @@ nobody_side : (f : ℕ) (bs : List Branch) → is_nobody (sides_of f bs) ≡ not
 nobody_side f [] = refl
 nobody_side f (x ∷ bs) = at (x.fork == f) (nobody_side f bs)
   where
-    at : (c : Bool) → is_nobody (sides_of f bs) ≡ not (list_any (λ b. b.fork == f) bs) → is_nobody ((if c then x.first ∷ [] else []) ++ sides_of f bs) ≡ not (c || list_any (λ b. b.fork == f) bs)
+    at : (c : Bool)
+        → is_nobody (sides_of f bs) ≡ not (list_any (λ b. b.fork == f) bs)
+        → is_nobody ((if c then x.first ∷ [] else []) ++ sides_of f bs) ≡ not (c || list_any (λ b. b.fork == f) bs)
     at true h = refl
     at false h = h
 
@@ -157,7 +159,9 @@ module _ (p : Pipe) (flows : Flows p) (st : State) (d : Derived.State) (bits : L
         seated = s.0;
         waits = waits_are p flows st d bits arrays l.number l.thread.awaits s.0.owned;
         values = env_is p flows st d bits arrays all matched l s.0;
-        older = λ m a. seen m a l.number f.0 (le-ltb l.number l.number (le_refl l.number)) ∙ youngest_all m l.number a ls f.1 ∙ ap (λ ts. latest ts m a) (sym (befores_are p d bits ls));
+        older =
+            λ m a. seen m a l.number f.0 (le-ltb l.number l.number (le_refl l.number)) ∙ youngest_all m l.number a ls f.1 ∙ ap (λ ts. latest ts m a)
+            (sym (befores_are p d bits ls));
         room = λ m e. ap (λ ts. pending ts m) (befores_are p d bits ls) ∙ sym (ap length (whole m (mine m e) (omega arith)) ∙ length_pends m ls);
       },
       known_all l.number ls s.1 o.1 f.1
@@ -173,13 +177,19 @@ module _ (p : Pipe) (flows : Flows p) (st : State) (d : Derived.State) (bits : L
           where
             by : (c : Bool) → nat_le l.thread.stage (reserve_stage p m) ≡ c → l.thread.stage ≤ reserve_stage p m
             by true e = leb-true _ _ e
-            by false e = absurd (let i : reserve_stage p m < reserve_stage p m = left_trunk p _ _ b (reserve_stage p m) (flows.trunk_reserve m) (let j = leb-false _ _ e in omega arith) in omega arith)
+            by false e =
+                absurd
+                (let i : reserve_stage p m < reserve_stage p m = left_trunk p _ _ b (reserve_stage p m) (flows.trunk_reserve m)
+                (let j = leb-false _ _ e in omega arith) in omega arith)
 
         seen : (m a k : ℕ) → k < n → nat_lt l.number k ≡ false → youngest (lock_of st m) k a Nothing ≡ youngest (pends m ls) k a Nothing
-        seen m a k i j = g m a k i ∙ youngest_append (pends m ls) (pend m l.number l.thread.entries) k a Nothing ∙ youngest_other m l.number k a l.thread.entries _ j
+        seen m a k i j =
+            g m a k i ∙ youngest_append (pends m ls) (pend m l.number l.thread.entries) k a Nothing ∙ youngest_other m l.number k a l.thread.entries _ j
 
         whole : (m : ℕ) → someone (reserve_stage p m) (l ∷ ls) ≡ true → l.thread.stage ≤ reserve_stage p m → lock_of st m ≡ pends m ls
-        whole m i j = h m i ∙ ap (λ x. pends m ls ++ x) (pend_own m l.number l.thread.entries ∙ ap (pend m l.number) (early p flows l.env l.thread s.0.keeps_on m j)) ∙ append-nil (pends m ls)
+        whole m i j =
+            h m i ∙ ap (λ x. pends m ls ++ x) (pend_own m l.number l.thread.entries ∙ ap (pend m l.number) (early p flows l.env l.thread s.0.keeps_on m j))
+            ∙ append-nil (pends m ls)
 
     no_failure : (ls : List Live) → AllKnown p flows st d bits arrays ls
         → Moves.no_failure (lacts p st d bits ls) ≡ list_all (λ (o : Derived.Act). not (o.moves && o.work.fails)) (dacts p d bits ls)
@@ -208,7 +218,9 @@ module _ (p : Pipe) (flows : Flows p) (st : State) (d : Derived.State) (bits : L
       where
         none : (b : ℕ) (ks : List Live) → Falls b ks → b ≤ n → has_owner n m ks ≡ false
         none b [] f i = refl
-        none b (k ∷ ks) f i = ap₂ (λ c e. (c && awaits_mem k.thread.awaits m) || e) (ne_eqb k.number n (λ e. absurd (let j = f.0 in omega arith))) (none k.number ks f.1 (let j = f.0 in omega arith))
+        none b (k ∷ ks) f i =
+            ap₂ (λ c e. (c && awaits_mem k.thread.awaits m) || e) (ne_eqb k.number n (λ e. absurd (let j = f.0 in omega arith)))
+            (none k.number ks f.1 (let j = f.0 in omega arith))
 
         others : (b : ℕ) (ks : List Live) → Falls b ks → b ≤ n → Each (λ k. k.number ≡ n → awaits_mem k.thread.awaits m ≡ true) ks
         others b [] f i = tt
@@ -261,7 +273,15 @@ module _ (p : Pipe) (flows : Flows p) (st : State) (d : Derived.State) (bits : L
             at (x ∷ c) e = some x c e
 
         fails_same : Moves.no_failure (acts_of later) ≡ list_all (λ (o : Derived.Act). not (o.moves && o.work.fails)) (dacts p d bits older)
-        fails_same = tested (λ o. not (o.moves && o.does.fails)) (pair_map (λ y k. ((λ b i. branch_if _ y.live.thread.stage (λ e. clash (left_trunk p _ _ b y.live.thread.stage e (le_refl _)) i) (λ x c e. calm (did p d bits y.older y.live).moves (plain_branch y.live x c e).0)), (λ b i. branch_if _ y.live.thread.stage (λ e. irreflexive (left_trunk p _ _ b y.live.thread.stage e i)) (λ x c e. calm (did p d bits y.older y.live).moves (plain_branch y.live x c e).0)))) (pairs all) (known_pairs all known))
+        fails_same =
+            tested (λ o. not (o.moves && o.does.fails))
+            (pair_map (λ y k. (
+              (λ b i. branch_if _ y.live.thread.stage (λ e. clash (left_trunk p _ _ b y.live.thread.stage e (le_refl _)) i)
+                  (λ x c e. calm (did p d bits y.older y.live).moves (plain_branch y.live x c e).0)),
+              (λ b i. branch_if _ y.live.thread.stage
+                  (λ e. irreflexive (left_trunk p _ _ b y.live.thread.stage e i))
+                  (λ x c e. calm (did p d bits y.older y.live).moves (plain_branch y.live x c e).0)),
+            )) (pairs all) (known_pairs all known))
             ∙ no_failure older mine.1
           where
             clash : {s q : ℕ} → s < q → q < s → ⊥
@@ -298,11 +318,17 @@ module _ (p : Pipe) (flows : Flows p) (st : State) (d : Derived.State) (bits : L
                 → Each (Seated p st) (zs ++ l ∷ older) → has_owner n m (zs ++ l ∷ older) ≡ true
                 → has_owner n m older ≡ true
             first [] b s i = ap (λ c. c || has_owner n m older) (sym (not_owner n m g l s.0 self)) ∙ i
-            first (z ∷ zs) b s i = first zs b.1 s.1 (ap (λ c. c || has_owner n m (zs ++ l ∷ older)) (sym (not_owner n m g z s.0 (λ k. not_behind p flows.graph l.thread.stage z.thread.stage k b.0))) ∙ i)
+            first (z ∷ zs) b s i =
+                first zs b.1 s.1
+                (ap (λ c. c || has_owner n m (zs ++ l ∷ older))
+                (sym (not_owner n m g z s.0 (λ k. not_behind p flows.graph l.thread.stage z.thread.stage k b.0))) ∙ i)
 
         port_same : (m : ℕ) → none_of (is_delayed_read m) (in_stage l.thread.stage p.stmts) ≡ false
             → is_free (request_of st m) (is_answered p bits m) (acts_of later) ≡ port_free p d bits (dacts p d bits older) m
-        port_same m g = at (request_of st m) refl ∙ port_is p flows st d bits arrays all matched m l.number older older_seated (older_falls bound ys l older (subst (λ x. Falls bound x) is falls)) (λ n a e. owner_older n m g (owned n a e))
+        port_same m g =
+            at (request_of st m) refl
+            ∙ port_is p flows st d bits arrays all matched m l.number older older_seated (older_falls bound ys l older (subst (λ x. Falls bound x) is falls))
+            (λ n a e. owner_older n m g (owned n a e))
           where
             owned : (n a : ℕ) → request_of st m ≡ Owned n a → has_owner n m all ≡ true
             owned n a e = (subst (λ q. Matched q (asked_at d m) m all) e (matched m)).1
@@ -313,20 +339,28 @@ module _ (p : Pipe) (flows : Flows p) (st : State) (d : Derived.State) (bits : L
 
             at : (q : Request) → request_of st m ≡ q
                 → is_free (request_of st m) (is_answered p bits m) (acts_of later) ≡ is_free (request_of st m) (is_answered p bits m) (lacts p st d bits older)
-            at NoRequest e = ap (λ q. is_free q (is_answered p bits m) (acts_of later)) e ∙ sym (ap (λ q. is_free q (is_answered p bits m) (lacts p st d bits older)) e)
-            at (Orphan a) e = ap (λ q. is_free q (is_answered p bits m) (acts_of later)) e ∙ sym (ap (λ q. is_free q (is_answered p bits m) (lacts p st d bits older)) e)
+            at NoRequest e =
+                ap (λ q. is_free q (is_answered p bits m) (acts_of later)) e ∙ sym (ap (λ q. is_free q (is_answered p bits m) (lacts p st d bits older)) e)
+            at (Orphan a) e =
+                ap (λ q. is_free q (is_answered p bits m) (acts_of later)) e ∙ sym (ap (λ q. is_free q (is_answered p bits m) (lacts p st d bits older)) e)
             at (Owned n a) e =
                 ap (λ q. is_free q (is_answered p bits m) (acts_of later)) e
                 ∙ ap (λ x. is_answered p bits m && x)
                 (any_not (λ (o : Moves.Act). (o.thread.number == n) && o.moves) (acts_of later)
                 ∙ ap not (tested (λ o. not ((o.thread.number == n) && o.moves))
-                (pair_both (λ y w s. ((λ b i. off _ _ (λ j. not_behind p flows.graph l.thread.stage y.live.thread.stage (leads y.live s (w (eqb-true _ _ j))) b)), (λ b i. off _ _ (λ j. let u = (flows.graph.up l.thread.stage y.live.thread.stage (leads y.live s (w (eqb-true _ _ j)))).0 in omega arith))))
-                (pairs all) (pairs_each (λ k. k.number ≡ n → awaits_mem k.thread.awaits m ≡ true) all (awaiting n m bound all falls (owned n a e))) (pairs_each (Seated p st) all seated)))
+                (pair_both (λ y w s. (
+                  (λ b i. off _ _ (λ j. not_behind p flows.graph l.thread.stage y.live.thread.stage (leads y.live s (w (eqb-true _ _ j))) b)),
+                  (λ b i. off _ _ (λ j. let u = (flows.graph.up l.thread.stage y.live.thread.stage (leads y.live s (w (eqb-true _ _ j)))).0 in omega arith)),
+                ))
+                (pairs all) (pairs_each (λ k. k.number ≡ n → awaits_mem k.thread.awaits m ≡ true) all (awaiting n m bound all falls (owned n a e)))
+                (pairs_each (Seated p st) all seated)))
                 ∙ sym (any_not (λ (o : Moves.Act). (o.thread.number == n) && o.moves) (lacts p st d bits older)))
                 ∙ sym (ap (λ q. is_free q (is_answered p bits m) (lacts p st d bits older)) e)
               where
                 leads : (y : Live) → Seated p st y → awaits_mem y.thread.awaits m ≡ true → Leads p l.thread.stage y.thread.stage
-                leads y s w = let k = fetched_of p y.thread.stage m y.thread.awaits s.keeps_on.fetched w in subst (λ s. Leads p s y.thread.stage) (one_stage (is_delayed_read m) p.stmts k.0 l.thread.stage (flows.one_fetch m) k.2 g) k.1
+                leads y s w =
+                    let k = fetched_of p y.thread.stage m y.thread.awaits s.keeps_on.fetched w in
+                    subst (λ s. Leads p s y.thread.stage) (one_stage (is_delayed_read m) p.stmts k.0 l.thread.stage (flows.one_fetch m) k.2 g) k.1
 
         clear_same : Moves.barrier_clear p (acts_of later) (deeds_of p st bits l)
             ≡ (not (deeds_of p st bits l).barrier || Derived.barrier_clear (verify_stage p.stmts) l.thread.stage (befores (dacts p d bits older)))
@@ -340,7 +374,11 @@ module _ (p : Pipe) (flows : Flows p) (st : State) (d : Derived.State) (bits : L
             trunk None e = refl
             trunk (Some v) e =
                 tested (λ o. nat_lt v o.stage)
-                (pair_map (λ y k. ((λ b i. absurd (clash i (left_trunk p _ _ b l.thread.stage e (let j = i in omega arith)))), (λ b i. absurd (let j : l.thread.stage < y.live.thread.stage = left_trunk p _ _ b l.thread.stage e (le_refl _) in omega arith)))) (pairs all) (known_pairs all known))
+                (pair_map (λ y k. (
+                  (λ b i. absurd (clash i (left_trunk p _ _ b l.thread.stage e (let j = i in omega arith)))),
+                  (λ b i. absurd (let j : l.thread.stage < y.live.thread.stage = left_trunk p _ _ b l.thread.stage e
+                      (le_refl _) in omega arith)),
+                )) (pairs all) (known_pairs all known))
                 ∙ clear_is v l.thread.stage older (each_map (λ k b. left_trunk p _ _ b l.thread.stage e (le_refl _)) older behind)
 
             at : (b : List Branch) → (stage_at p l.thread.stage).branches ≡ b
@@ -356,7 +394,13 @@ module _ (p : Pipe) (flows : Flows p) (st : State) (d : Derived.State) (bits : L
             ≡ list_all (λ (o : Derived.Act). not (o.before.stage == q) || o.moves) (dacts p d bits older)
         enters_same q leads =
             tested (λ o. not (o.stage == q) || o.moves)
-            (pair_map (λ y k. ((λ b i. off (y.live.thread.stage == q) _ (λ j. not_behind p flows.graph l.thread.stage q leads (subst (λ n. Behind p n l.thread.stage) (eqb-true _ _ j) b))), (λ b i. off (y.live.thread.stage == q) _ (λ j. let u = (flows.graph.up l.thread.stage q leads).0 in let v = eqb-true _ _ j in omega arith)))) (pairs all) (known_pairs all known))
+            (pair_map (λ y k. (
+              (λ b i. off (y.live.thread.stage == q) _
+                  (λ j. not_behind p flows.graph l.thread.stage q leads (subst (λ n. Behind p n l.thread.stage) (eqb-true _ _ j) b))),
+              (λ b i. off
+                  (y.live.thread.stage == q) _
+                  (λ j. let u = (flows.graph.up l.thread.stage q leads).0 in let v = eqb-true _ _ j in omega arith)),
+            )) (pairs all) (known_pairs all known))
             ∙ enters q older
           where
             off : (b c : Bool) → (b ≡ true → ⊥) → (not b || c) ≡ true
@@ -376,10 +420,13 @@ module _ (p : Pipe) (flows : Flows p) (st : State) (d : Derived.State) (bits : L
             at None e = refl
             at (Some f) e = by (flows.graph.merge l.thread.stage q f leads e)
               where
-                straight : l.thread.stage ≡ f → Moves.may_merge st (Some f) (stage_at p l.thread.stage).branches ≡ Derived.fork_clear p (dacts p d bits older) (Some f)
+                straight : l.thread.stage ≡ f
+                    → Moves.may_merge st (Some f) (stage_at p l.thread.stage).branches ≡ Derived.fork_clear p (dacts p d bits older) (Some f)
                 straight i =
                     ap (λ s. is_its_turn s (fork_of st f)) none
-                    ∙ ap is_nobody (lists f ∙ ap₂ (λ a b. (sides p f older ++ a) ++ b) none (sides_none p f ys (each_map (λ y b. outside y b) ys young)) ∙ append-nil _ ∙ append-nil _)
+                    ∙ ap is_nobody
+                    (lists f ∙ ap₂ (λ a b. (sides p f older ++ a) ++ b) none (sides_none p f ys (each_map (λ y b. outside y b) ys young)) ∙ append-nil _
+                    ∙ append-nil _)
                     ∙ sides_nobody p d bits f older
                   where
                     none : sides_of f (stage_at p l.thread.stage).branches ≡ []
@@ -390,7 +437,8 @@ module _ (p : Pipe) (flows : Flows p) (st : State) (d : Derived.State) (bits : L
                         not_inside p f y.thread.stage
                         (λ x c h j.
                         let home : Home p c x.fork = (flows.graph.fork_below x c y.thread.stage h).0 in
-                        let less : x.fork < l.thread.stage = fork_left p flows.graph x c y.thread.stage l.thread.stage b h (within_home p c _ (subst (λ n. Home p c n) (j ∙ sym i) home)) in
+                        let less : x.fork < l.thread.stage = fork_left p flows.graph x c y.thread.stage l.thread.stage b h
+                        (within_home p c _ (subst (λ n. Home p c n) (j ∙ sym i) home)) in
                         let same = i in
                         omega arith)
 
@@ -399,7 +447,8 @@ module _ (p : Pipe) (flows : Flows p) (st : State) (d : Derived.State) (bits : L
                     → Moves.may_merge st (Some f) (stage_at p l.thread.stage).branches ≡ Derived.fork_clear p (dacts p d bits older) (Some f)
                 through x c j i top =
                     ap (λ s. is_its_turn s (fork_of st f)) mine_side
-                    ∙ ap (is_first x.first) (lists f ∙ ap (λ a. (sides p f older ++ a) ++ sides p f ys) mine_side ∙ append_assoc (sides p f older) (x.first ∷ []) (sides p f ys))
+                    ∙ ap (is_first x.first)
+                    (lists f ∙ ap (λ a. (sides p f older ++ a) ++ sides p f ys) mine_side ∙ append_assoc (sides p f older) (x.first ∷ []) (sides p f ys))
                     ∙ first_other x.first (sides p f older) (sides p f ys) (others older behind)
                     ∙ sides_nobody p d bits f older
                   where
@@ -413,20 +462,26 @@ module _ (p : Pipe) (flows : Flows p) (st : State) (d : Derived.State) (bits : L
                     flip false false n = absurd (n refl)
 
                     -- an older thread in the same branch would stand past its last stage
-                    twice : (k : Live) → Behind p l.thread.stage k.thread.stage → (z : Branch) (e : List Branch) → Within p (z ∷ e) k.thread.stage → z.fork ≡ f → z.first ≡ x.first → ⊥
+                    twice : (k : Live)
+                        → Behind p l.thread.stage k.thread.stage → (z : Branch) (e : List Branch) → Within p (z ∷ e) k.thread.stage
+                        → z.fork ≡ f → z.first ≡ x.first → ⊥
                     twice k b z e h n same =
-                        let around : e ≡ c = sym (flows.graph.fork_below z e k.thread.stage h).0 ∙ ap (λ m. (stage_at p m).branches) (n ∙ sym i) ∙ (flows.graph.fork_below x c l.thread.stage (within_home p _ _ j)).0 in
+                        let around : e ≡ c = sym (flows.graph.fork_below z e k.thread.stage h).0 ∙ ap (λ m. (stage_at p m).branches) (n ∙ sym i)
+                        ∙ (flows.graph.fork_below x c l.thread.stage (within_home p _ _ j)).0 in
                         let equal : z ≡ x = (λ u. record { fork = (n ∙ sym i) u; first = same u }) in
                         let here : Within p (x ∷ c) k.thread.stage = subst (λ m. Within p m k.thread.stage) (ap₂ (λ a d. a ∷ d) equal around) h in
                         let low : k.thread.stage ≤ l.thread.stage = top k.thread.stage here in
                         let less : l.thread.stage < k.thread.stage = b (x ∷ c) (within_home p _ _ j) here l.thread.stage j (le_refl _) in
                         omega arith
 
-                    side : (k : Live) → Behind p l.thread.stage k.thread.stage → (t : Bool) → is_inside p f k.thread.stage ≡ t → AllAre (not x.first) (sides_of f (stage_at p k.thread.stage).branches)
+                    side : (k : Live)
+                        → Behind p l.thread.stage k.thread.stage → (t : Bool) → is_inside p f k.thread.stage ≡ t
+                        → AllAre (not x.first) (sides_of f (stage_at p k.thread.stage).branches)
                     side k b false g = subst (λ s. AllAre (not x.first) s) (sym (sides_outside f (stage_at p k.thread.stage).branches g)) tt
                     side k b true g =
                         inside_at p f k.thread.stage g
-                        (λ z e h n. subst (λ s. AllAre (not x.first) s) (sym (sides_inside p flows.graph.fork_below f z e k.thread.stage h n)) (flip z.first x.first (λ same. twice k b z e h n same), tt))
+                        (λ z e h n. subst (λ s. AllAre (not x.first) s) (sym (sides_inside p flows.graph.fork_below f z e k.thread.stage h n))
+                        (flip z.first x.first (λ same. twice k b z e h n same), tt))
 
                     others : (ks : List Live) → Each (λ k. Behind p l.thread.stage k.thread.stage) ks → AllAre (not x.first) (sides p f ks)
                     others [] b = tt
@@ -470,7 +525,8 @@ module _ (p : Pipe) (flows : Flows p) (st : State) (d : Derived.State) (bits : L
           → sacts p st bits (lives_of xs) ≡ acts_of xs
       acts_from lo hi [] r up down = refl
       acts_from lo hi (x ∷ xs) r up down =
-          ap (λ later. Moves.act p st bits later x.live.thread.stage (with_answers p st bits (seat x.live)) ∷ later) (acts_from (suc x.live.thread.stage) hi xs r.2 (λ A h. (up A h).1) below)
+          ap (λ later. Moves.act p st bits later x.live.thread.stage (with_answers p st bits (seat x.live)) ∷ later)
+          (acts_from (suc x.live.thread.stage) hi xs r.2 (λ A h. (up A h).1) below)
           ∙ ap (λ a. a ∷ acts_of xs) (act_same seen.0 x.live x.older seen.1 xs hi r.2 (λ A h. (up A h).1) below)
         where
           seen : (ys : List Live) × (all ≡ ys ++ x.live ∷ x.older)

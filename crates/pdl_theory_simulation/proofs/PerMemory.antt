@@ -42,7 +42,8 @@ wrote_shown words m (e ∷ es) arrays h =
 pub other_commit : (m n : ℕ) (es : List Pending) (arrays : Arrays) → (n == m) ≡ false → with_commit arrays m es n ≡ arrays n
 other_commit m n [] arrays h = refl
 other_commit m n (e ∷ es) arrays h =
-    other_commit m n es (with_word arrays m e.address (commit_value e.value)) h ∙ ap (λ b. cond b (with_value (arrays m) e.address (commit_value e.value)) (arrays n)) h
+    other_commit m n es (with_word arrays m e.address (commit_value e.value)) h
+    ∙ ap (λ b. cond b (with_value (arrays m) e.address (commit_value e.value)) (arrays n)) h
 
 -- commits to the memories from k on leave those before k as they are
 pub before_commits : (st : State) (ms : List Act) (k n : ℕ) (xs : List Mem) (arrays : Arrays)

@@ -394,7 +394,8 @@ module _ (p : Pipe) (flows : Flows p) (st : State) (d : Derived.State) (bits : L
           ap₂
           (λ f b. has_owner n m
           ((if f then []
-          else cond b (moved_live (goes_to (stage_at p l.thread.stage).next (work_of_live p d bits ls l).env) (advised p st bits l) (work_of_live p d bits ls l))
+          else cond b
+          (moved_live (goes_to (stage_at p l.thread.stage).next (work_of_live p d bits ls l).env) (advised p st bits l) (work_of_live p d bits ls l))
           (stood p st d bits l ∷ []))
           ++ go_on p st d bits ls))
           (firm i (fell p d bits ls) refl) (waits_stand ls l m j e)
@@ -430,7 +431,9 @@ module _ (p : Pipe) (flows : Flows p) (st : State) (d : Derived.State) (bits : L
       old (Orphan a) e h i = h
       old (Owned w a) e h i = by (is_kept sq w) refl
         where
-          by : (b : Bool) → is_kept sq w ≡ b → Matched (if b then Owned w a else Orphan a) (asked_at d m) m (born_live p (d.hints 0) n c ++ go_on p st d bits ls)
+          by : (b : Bool)
+              → is_kept sq w ≡ b
+              → Matched (if b then Owned w a else Orphan a) (asked_at d m) m (born_live p (d.hints 0) n c ++ go_on p st d bits ls)
           by true j = (h.0, owner_behind w m (born_live p (d.hints 0) n c) (go_on p st d bits ls) (owner_stays w m sq ls k g h.1 i j))
           by false j = h.0
 
@@ -439,7 +442,9 @@ module _ (p : Pipe) (flows : Flows p) (st : State) (d : Derived.State) (bits : L
           (next_ask (address_for r) (is_answered p bits m) (asked_at d m)) m (born_live p (d.hints 0) n c ++ go_on p st d bits ls)
       at (Some a) e =
           let l = asker_lives m a sq ls k g e in
-          subst (λ b. Matched (if b then Owned a.number a.address else Orphan a.address) (Some a.address) m (born_live p (d.hints 0) n c ++ go_on p st d bits ls)) (sym l.0)
+          subst
+          (λ b. Matched (if b then Owned a.number a.address else Orphan a.address) (Some a.address) m (born_live p (d.hints 0) n c ++ go_on p st d bits ls))
+          (sym l.0)
           (refl, owner_behind a.number m (born_live p (d.hints 0) n c) (go_on p st d bits ls) l.1)
       at None e = by (is_answered p bits m) refl
         where

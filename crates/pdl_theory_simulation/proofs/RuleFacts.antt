@@ -285,7 +285,8 @@ module _ (p : Pipe) (rules : FlowRules p) where
           (λ x c i. trunk_within p x c (length p.stages)
           (ap (λ (y : Stage). y.branches) (get_or_past p.stages (length p.stages) last_stage (le_refl (length p.stages)))) i))
       next_branch (Some q) e =
-          subst (λ n. visits_stage p env n ≡ visits_stage p env' n) (sym (ap (stage_or (length p.stages)) e)) (branches_at q (λ x c i. from x c (came_from_way p x c s q (rules.graph.way s q (env', e, low)) i)))
+          subst (λ n. visits_stage p env n ≡ visits_stage p env' n) (sym (ap (stage_or (length p.stages)) e))
+          (branches_at q (λ x c i. from x c (came_from_way p x c s q (rules.graph.way s q (env', e, low)) i)))
         where
           from : (x : Branch) (c : List Branch) → (x.fork ≡ s) ⊎ Within p (x ∷ c) s → (x.fork ≤ s) × (visits_stage p env' x.fork ≡ true)
           from x c (inl j) = ((let e : x.fork ≤ s = omega arith in e), subst (λ n. visits_stage p env' n ≡ true) (sym j) b)

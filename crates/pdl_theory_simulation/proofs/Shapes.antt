@@ -44,7 +44,8 @@ no_opens (o ∷ os) h = absurd (cc h)
 pub shape_over : (m : ℕ) (ph : Phase) (es : List Entry) → is_over ph ≡ true → Shape m ph es → es ≡ []
 shape_over m ph es h s =
     s.entries
-    ∙ ap₂ (λ l k. waiting m l ++ known m k) (no_opens s.opens (s.at_open ∙ nil_of ph.unwritten (and_left _ _ h))) (no_fulls s.fulls (s.at_full ∙ nil_of ph.full (and_right (is_nil ph.unwritten) _ h)))
+    ∙ ap₂ (λ l k. waiting m l ++ known m k) (no_opens s.opens (s.at_open ∙ nil_of ph.unwritten (and_left _ _ h)))
+    (no_fulls s.fulls (s.at_full ∙ nil_of ph.full (and_right (is_nil ph.unwritten) _ h)))
 
 -- so there are none then
 pub shape_none : (m : ℕ) (es : List Entry) → Shape m Fresh es → es ≡ []
@@ -61,13 +62,16 @@ pend_known m n (f ∷ fs) =
 
 known_used : (m n : ℕ) (ph : Phase) (fs : List Full) → ((x : ℕ) → is_among x (full_vars fs) ≡ true → is_used ph x ≡ true) → AllUsed ph (pend m n (known m fs))
 known_used m n ph [] h = tt
-known_used m n ph (f ∷ fs) h = both (pend m n (known m fs)) (m == m) (known_used m n ph fs (λ x k. h x (ap (λ b. (f.var == x) || b) k ∙ always (f.var == x)))) (h f.var (ap (λ b. b || is_among f.var (full_vars fs)) (eq-eqb f.var f.var refl)))
+known_used m n ph (f ∷ fs) h =
+    both (pend m n (known m fs)) (m == m) (known_used m n ph fs (λ x k. h x (ap (λ b. (f.var == x) || b) k ∙ always (f.var == x))))
+    (h f.var (ap (λ b. b || is_among f.var (full_vars fs)) (eq-eqb f.var f.var refl)))
   where
     always : (b : Bool) → (b || true) ≡ true
     always true = refl
     always false = refl
 
-    both : (es : List Pending) (b : Bool) → AllUsed ph es → is_used ph f.var ≡ true → AllUsed ph (es ++ cond b (own n (entry m f.var f.address (Some f.value)) ∷ []) [])
+    both : (es : List Pending) (b : Bool)
+        → AllUsed ph es → is_used ph f.var ≡ true → AllUsed ph (es ++ cond b (own n (entry m f.var f.address (Some f.value)) ∷ []) [])
     both [] true u k = (k, tt)
     both [] false u k = tt
     both (e ∷ es) b u k = (u.0, both es b u.1 k)
@@ -99,7 +103,8 @@ shape_start m n ph es t =
 -- a thread's entries of m have the shape of its phase at the end of a stage
 pub shape_end : (m n : ℕ) (ph : Phase) (es : List Entry) (cs : List Commit) (new : List Pending) (ws : List Machine.Written) (rel : ℕ)
     → Staged m n ph es cs new ws rel → Shape m ph es
-shape_end m n ph es cs new ws rel g = record { opens = g.opens; fulls = g.fulls; entries = g.entries; at_open = g.at_open; at_full = g.at_full; apart = g.apart }
+shape_end m n ph es cs new ws rel g =
+    record { opens = g.opens; fulls = g.fulls; entries = g.entries; at_open = g.at_open; at_full = g.at_full; apart = g.apart }
 
 -- LISTS OF STATEMENTS
 
@@ -198,6 +203,7 @@ stuck m (Write k a e) ph h r = at (k == m)
     never : (b : Bool) → (b && false) ≡ false
     never true = refl
     never false = refl
+
     at : (b : Bool) → is_over (cond b (after_write ph a) ph) ≡ false
     at true = never (is_nil (but_last ph.unwritten))
     at false = h
@@ -251,7 +257,8 @@ held_op o (Write j a e) w = places_filled w.entries j a _
 held_op o (Release j a) w = places_without w.entries j a
 held_op o (Verify last args) w = at (same_args (values_of args w.env) w.guess)
   where
-    at : (b : Bool) → places (cond b w (record w { child = Some (values_of args w.env); guess = (values_of args w.env); fails = true })).entries ≡ places w.entries
+    at : (b : Bool)
+        → places (cond b w (record w { child = Some (values_of args w.env); guess = (values_of args w.env); fails = true })).entries ≡ places w.entries
     at true = refl
     at false = refl
 held_op o _ w = refl

@@ -78,6 +78,7 @@ module _ (p : Pipe) (flows : Flows p) where
         forks = λ f. no_branches 0 f p.stages ∙ sym (ap (λ b. [] ++ sides_of f b) flows.graph.trunk_start);
         requests = mems_same _ _ 0 p.mems (λ m. sym (no_request 0 m p.mems));
         asked = nothing_is 0 p.mems ∙ mems_same _ _ 0 p.mems (λ m. sym (nothing_at m p.mems));
-        matched = λ m. subst (λ q. Matched q (asked_at (Derived.first p image hints) m) m (first_live (hints 0) ∷ [])) (sym (no_request 0 m p.mems)) (nothing_at m p.mems);
+        matched =
+            λ m. subst (λ q. Matched q (asked_at (Derived.first p image hints) m) m (first_live (hints 0) ∷ [])) (sym (no_request 0 m p.mems))
+            (nothing_at m p.mems);
       }
-

@@ -20,11 +20,13 @@ use Rattle.pdl_theory_turns.proofs.Steps.{Here, step_write, step_reserve, step_r
 
 -- what statements do to the pending writes of m
 module _ (o : Around) (read : ℕ → ℕ → ℕ) (block : Blocked → Bool) (free : Ask → Bool) (m n : ℕ) (start : List Pending) where
-  step_op : (op : Op) (ph : Phase) (d : Deeds) (es : List Entry) (cs : List Commit) (gu : List ℕ) (c : Option (List ℕ)) (f : Bool) → places es ≡ d.held → use_ok m ph op ≡ true
+  step_op : (op : Op) (ph : Phase) (d : Deeds) (es : List Entry) (cs : List Commit) (gu : List ℕ) (c : Option (List ℕ)) (f : Bool)
+      → places es ≡ d.held → use_ok m ph op ≡ true
       → Here o read block free m n start ph d (work_of o read block free (record d { guess = gu; child = c; fails = f }) es cs)
       → Here o read block free m n start (next_phase m ph op) (Machine.deeds_after read op d) (work_after o op (work_of o read block free (record d { guess = gu; child = c; fails = f }) es cs))
   step_op (Write j a e) ph d es cs gu c f h k g = step_write m n j a (value_of e d.env) ph es (of_mem m cs) _ d.writes _ (j == m) refl k g
-  step_op (ReserveWrite j a) ph d es cs gu c f h k g = step_reserve m n j a (slice_index d.env a) ph es (of_mem m cs) start d.reserves d.writes _ (j == m) refl k g
+  step_op (ReserveWrite j a) ph d es cs gu c f h k g =
+      step_reserve m n j a (slice_index d.env a) ph es (of_mem m cs) start d.reserves d.writes _ (j == m) refl k g
   step_op (Release j a) ph d es cs gu c f h k g =
       step_release m n j a ph es cs _ d.writes d.releases (is_held d.held j a) (ap (λ l. is_held l j a) (sym h) ∙ places_has es j a) (j == m) refl k g
   step_op (Verify last args) ph d es cs gu c f h k g = at (same_args (values_of args d.env) d.guess) (same_args (values_of args d.env) gu)
@@ -32,7 +34,12 @@ module _ (o : Around) (read : ℕ → ℕ → ℕ) (block : Blocked → Bool) (f
       at : (b b' : Bool)
           → Here o read block free m n start ph (cond b d (record d { child = Some (values_of args d.env); guess = values_of args d.env; fails = true }))
           (cond b' (work_of o read block free (record d { guess = gu; child = c; fails = f }) es cs)
-          (record (work_of o read block free (record d { guess = gu; child = c; fails = f }) es cs) { child = Some (values_of args d.env); guess = values_of args d.env; fails = true }))
+          (record (work_of o read block free (record d { guess = gu; child = c; fails = f }) es cs) {
+            child = Some
+                (values_of args d.env);
+            guess = values_of args d.env;
+            fails = true;
+          }))
       at true true = g
       at true false = g
       at false true = g
@@ -68,7 +75,8 @@ module _ (o : Around) (read : ℕ → ℕ → ℕ) (block : Blocked → Bool) (f
           → ((ph' : Phase) (d' : Deeds) (w' : Work) → Loosely o read block free d' w' → Fixed path o xs w' → uses_ok m ph' (onpath path xs) ≡ true → Here o read block free m n start ph' d' w' → Here o read block free m n start (phase_all m ph' (onpath path xs)) (deeds_after_all read xs d') (do_all o xs w'))
           → Here o read block free m n start (phase_all m ph (cond c (record x { guards = [] } ∷ onpath path xs) (onpath path xs))) (deeds_after_all read xs (cond b (Machine.deeds_after read x.op d) d)) (do_all o xs (cond b (work_after o x.op w) w))
       at true true e k q go =
-          go (next_phase m ph x.op) (Machine.deeds_after read x.op d) (work_after o x.op w) (loose_step o read block free true x.op d w f.0 l) q (and_right (use_ok m ph x.op) _ k)
+          go (next_phase m ph x.op) (Machine.deeds_after read x.op d) (work_after o x.op w) (loose_step o read block free true x.op d w f.0 l) q
+          (and_right (use_ok m ph x.op) _ k)
           (step_if true x.op ph d w l (λ _. and_left _ _ k) g)
       at true false e k q go = absurd (cc e)
       at false true e k q go = absurd (cc e)
@@ -86,7 +94,8 @@ op_sets g o (Bind x e) w h = set_stays w.env x g _ h
 op_sets g o (CombRead x m a) w h = set_stays w.env x g _ h
 op_sets g o (Verify last args) w h = at (same_args (values_of args w.env) w.guess)
   where
-    at : (b : Bool) → slice_index w.env g ≡ slice_index (cond b w (record w { child = Some (values_of args w.env); guess = values_of args w.env; fails = true })).env g
+    at : (b : Bool)
+        → slice_index w.env g ≡ slice_index (cond b w (record w { child = Some (values_of args w.env); guess = values_of args w.env; fails = true })).env g
     at true = refl
     at false = refl
 op_sets g o _ w h = refl
@@ -153,7 +162,9 @@ abbrev pub ReservesFrom : List Stmt → List Reserved → Type 0
 ReservesFrom all [] = Unit {0}
 ReservesFrom all (r ∷ rs) = (none_of (is_reserve r.mem) all ≡ false) × ReservesFrom all rs
 
-reserved_op : (all : List Stmt) (read : ℕ → ℕ → ℕ) (op : Op) (d : Deeds) → ((m : ℕ) → not (is_reserve m op) ≡ false → none_of (is_reserve m) all ≡ false) → ReservesFrom all d.reserves → ReservesFrom all (Machine.deeds_after read op d).reserves
+reserved_op : (all : List Stmt) (read : ℕ → ℕ → ℕ) (op : Op) (d : Deeds)
+    → ((m : ℕ) → not (is_reserve m op) ≡ false → none_of (is_reserve m) all ≡ false) → ReservesFrom all d.reserves
+    → ReservesFrom all (Machine.deeds_after read op d).reserves
 reserved_op all read (ReserveWrite m a) d f h = more d.reserves h
   where
     more : (rs : List Reserved) → ReservesFrom all rs → ReservesFrom all (rs ++ record { mem = m; var = a; address = slice_index d.env a } ∷ [])
@@ -167,10 +178,13 @@ reserved_op all read (Verify last args) d f h = at (same_args (values_of args d.
 reserved_op all read _ d f h = h
 
 -- what a stage reserves are memories that its statements reserve
-pub reserves_from : (all : List Stmt) (read : ℕ → ℕ → ℕ) (xs : List Stmt) (d : Deeds) → ((m : ℕ) → none_of (is_reserve m) xs ≡ false → none_of (is_reserve m) all ≡ false) → ReservesFrom all d.reserves → ReservesFrom all (deeds_after_all read xs d).reserves
+pub reserves_from : (all : List Stmt) (read : ℕ → ℕ → ℕ) (xs : List Stmt) (d : Deeds)
+    → ((m : ℕ) → none_of (is_reserve m) xs ≡ false → none_of (is_reserve m) all ≡ false) → ReservesFrom all d.reserves
+    → ReservesFrom all (deeds_after_all read xs d).reserves
 reserves_from all read [] d f h = h
 reserves_from all read (x ∷ xs) d f h =
-    reserves_from all read xs (if all_hold x.guards d.env then Machine.deeds_after read x.op d else d) (λ m k. f m (behind (not (is_reserve m x.op)) _ k)) (at (all_hold x.guards d.env))
+    reserves_from all read xs (if all_hold x.guards d.env then Machine.deeds_after read x.op d else d) (λ m k. f m (behind (not (is_reserve m x.op)) _ k))
+    (at (all_hold x.guards d.env))
   where
     behind : (b c : Bool) → c ≡ false → (b && c) ≡ false
     behind true c k = k
@@ -293,4 +307,3 @@ made_all been c path o (x ∷ xs) w f h k =
     at true false e i r g = absurd (cc e)
     at false true e i r g = absurd (cc e)
     at false false e i r g = r c w g i k
-

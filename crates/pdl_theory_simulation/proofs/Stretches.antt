@@ -249,10 +249,12 @@ module _ (p : Pipe) (flows : Flows p) (env : List ℕ) (t : Derived.Thread) (k :
         (phase_all m Fresh (on_way p (work_of_stage p o t).env (next_of p t.stage (work_of_stage p o t).env)))
         (deeds_after_all read (in_stage t.stage p.stmts) (start_deeds advice)) (work_of_stage p o t)
     here =
-        subst (λ q. Here o read block free m n (pend m n t.entries) q (deeds_after_all read (in_stage t.stage p.stmts) (start_deeds advice)) (work_of_stage p o t))
+        subst
+        (λ q. Here o read block free m n (pend m n t.entries) q (deeds_after_all read (in_stage t.stage p.stmts) (start_deeds advice)) (work_of_stage p o t))
         (sym (ap (phase_all m Fresh) (way_next o) ∙ phase_append m (on_way p env t.stage) _ Fresh))
         (steps_all o read block free m n (pend m n t.entries) (work_of_stage p o t).env (in_stage t.stage p.stmts)
-        (phase_all m Fresh (on_way p env t.stage)) (start_deeds advice) (start_of t) (loose_start o read block free (start_deeds advice) t.entries [] k.held) fit (fixed_here o)
+        (phase_all m Fresh (on_way p env t.stage)) (start_deeds advice) (start_of t)
+        (loose_start o read block free (start_deeds advice) t.entries [] k.held) fit (fixed_here o)
         (uses_back m (on_way p env t.stage)
         (onpath (work_of_stage p o t).env (in_stage t.stage p.stmts)) Fresh
         (subst (λ l. uses_ok m Fresh l ≡ true) (way_next o) (uses_way (work_of_stage p o t).env (next_of p t.stage (work_of_stage p o t).env) m)))
@@ -265,7 +267,10 @@ module _ (p : Pipe) (flows : Flows p) (env : List ℕ) (t : Derived.Thread) (k :
         by : (b : Bool) → (t.stage == commit_stage p m) ≡ b
             → (releases_of m (deeds_after_all read (in_stage t.stage p.stmts) (start_deeds advice)).releases ≡ 0) ⊎ (is_over (phase_all m Fresh (on_way p (work_of_stage p o t).env (next_of p t.stage (work_of_stage p o t).env))) ≡ true)
         by true e = inr (over_at _ _ m (subst (λ s. s < next_of p t.stage (work_of_stage p o t).env) (eqb-true _ _ e) (stage_up (work_of_stage p o t).env)))
-        by false e = inl (quiet_releases m read (in_stage t.stage p.stmts) (start_deeds advice) (none_in_stage (is_release m) (commit_stage p m) t.stage p.stmts (flows.releases m) (eqb-false _ _ e)) refl)
+        by false e =
+            inl
+            (quiet_releases m read (in_stage t.stage p.stmts) (start_deeds advice)
+            (none_in_stage (is_release m) (commit_stage p m) t.stage p.stmts (flows.releases m) (eqb-false _ _ e)) refl)
 
     stage_shape : Shape m (phase_all m Fresh (on_way p (work_of_stage p o t).env (next_of p t.stage (work_of_stage p o t).env)))
         (entries_of m (work_of_stage p o t).entries)
@@ -294,7 +299,8 @@ module _ (p : Pipe) (flows : Flows p) (env : List ℕ) (t : Derived.Thread) (k :
       (flows.calls (work_of_stage p o t).env))))
 
   -- its successor
-  pub stage_child : (o : Around) → Childed (has_made p env t.stage) (has_made p (work_of_stage p o t).env (next_of p t.stage (work_of_stage p o t).env)) (work_of_stage p o t)
+  pub stage_child : (o : Around)
+      → Childed (has_made p env t.stage) (has_made p (work_of_stage p o t).env (next_of p t.stage (work_of_stage p o t).env)) (work_of_stage p o t)
   stage_child o =
       subst (λ c. Childed (has_made p env t.stage) c (work_of_stage p o t)) (sym (made_then o))
       (made_all (has_made p env t.stage) (has_made p env t.stage) (work_of_stage p o t).env o (in_stage t.stage p.stmts) (start_of t) (fixed_here o)
@@ -314,7 +320,8 @@ module _ (p : Pipe) (flows : Flows p) (env : List ℕ) (t : Derived.Thread) (k :
       → goes_to (stage_at p t.stage).next (work_of_stage p o t).env ≡ Some q
       → Keeps p (work_of_stage p o t).env
       (record {
-        stage = q; hint = t.hint;
+        stage = q;
+        hint = t.hint;
         env = (work_of_stage p o t).env;
         entries = (work_of_stage p o t).entries;
         guess = (work_of_stage p o t).guess;
@@ -324,7 +331,8 @@ module _ (p : Pipe) (flows : Flows p) (env : List ℕ) (t : Derived.Thread) (k :
       subst
       (λ n. Keeps p (work_of_stage p o t).env
       (record {
-        stage = n; hint = t.hint;
+        stage = n;
+        hint = t.hint;
         env = (work_of_stage p o t).env;
         entries = (work_of_stage p o t).entries;
         guess = (work_of_stage p o t).guess;

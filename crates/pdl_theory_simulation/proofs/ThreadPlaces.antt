@@ -27,7 +27,10 @@ use Rattle.pdl_word.proofs.Each.{each_append}
 -- nobody stands in stage q where all stand before it
 none_found : (p : Pipe) (q : ℕ) (ls : List Live) → Each (λ k. Behind p q k.thread.stage) ls → find q ls ≡ None
 none_found p q [] h = refl
-none_found p q (l ∷ ls) h = ap (λ b. cond b (Some (seat l)) (find q ls)) (ne_eqb l.thread.stage q (λ e. absurd (let i : q < l.thread.stage = less_home p _ _ h.0 (ap (λ n. (stage_at p n).branches) (sym e)) in omega arith))) ∙ none_found p q ls h.1
+none_found p q (l ∷ ls) h =
+    ap (λ b. cond b (Some (seat l)) (find q ls))
+    (ne_eqb l.thread.stage q (λ e. absurd (let i : q < l.thread.stage = less_home p _ _ h.0 (ap (λ n. (stage_at p n).branches) (sym e)) in omega arith)))
+    ∙ none_found p q ls h.1
 
 -- ORDER, AS THREADS MOVE
 
@@ -72,7 +75,9 @@ module _ (p : Pipe) (g : Ways p) where
       at (inr w) = inr (exact (entered r (within_home p c r t)), entered b j)
         where
           entered : (q : ℕ) → Within p c q → s' ≤ q
-          entered q z = g.entry w.0 (stage_at p s).branches s' q (subst (λ n. Leads p n s') (sym w.2) l) (subst (λ d. Home p d s') w.1 w.3) (subst (λ d. Within p d q) w.1 z)
+          entered q z =
+              g.entry w.0 (stage_at p s).branches s' q (subst (λ n. Leads p n s') (sym w.2) l) (subst (λ d. Home p d s') w.1 w.3)
+              (subst (λ d. Within p d q) w.1 z)
 
           exact : s' ≤ r → r ≡ s'
           exact z = omega arith
@@ -201,17 +206,23 @@ module _ (p : Pipe) (flows : Flows p) where
         fork_part = fork_of_enter (did p d bits ls l ∷ dacts p d bits ls) e
           where
             fork_of_enter : (os : List Derived.Act) → Derived.can_enter p os (Some s') ≡ true → Derived.fork_clear p os (stage_at p s').merges ≡ true
-            fork_of_enter os f = and_right (list_all (λ (o : Derived.Act). not (o.before.stage == s') || o.moves) os) (Derived.fork_clear p os (stage_at p s').merges) f
+            fork_of_enter os f =
+                and_right (list_all (λ (o : Derived.Act). not (o.before.stage == s') || o.moves) os) (Derived.fork_clear p os (stage_at p s').merges) f
 
         clear : (f : ℕ) → (stage_at p s').merges ≡ Some f → is_inside p f l.thread.stage ≡ false
-        clear f i = off (is_inside p f l.thread.stage) (and_left _ _ (subst (λ r. Derived.fork_clear p (did p d bits ls l ∷ dacts p d bits ls) r ≡ true) i fork_part))
+        clear f i =
+            off (is_inside p f l.thread.stage) (and_left _ _ (subst (λ r. Derived.fork_clear p (did p d bits ls l ∷ dacts p d bits ls) r ≡ true) i fork_part))
           where
             off : (b : Bool) → not b ≡ true → b ≡ false
             off true u = absurd (cc u)
             off false u = refl
 
         rest : Derived.can_enter p (dacts p d bits ls) (Some s') ≡ true
-        rest = ap₂ (λ a b. a && b) (and_right (not (l.thread.stage == s') || (did p d bits ls l).moves) (list_all (λ (o : Derived.Act). not (o.before.stage == s') || o.moves) (dacts p d bits ls)) (and_left _ _ e)) (tail (stage_at p s').merges fork_part)
+        rest =
+            ap₂ (λ a b. a && b)
+            (and_right (not (l.thread.stage == s') || (did p d bits ls l).moves)
+            (list_all (λ (o : Derived.Act). not (o.before.stage == s') || o.moves) (dacts p d bits ls)) (and_left _ _ e)) (tail
+            (stage_at p s').merges fork_part)
           where
             tail : (r : Option ℕ) → Derived.fork_clear p (did p d bits ls l ∷ dacts p d bits ls) r ≡ true → Derived.fork_clear p (dacts p d bits ls) r ≡ true
             tail None f = refl
@@ -237,12 +248,17 @@ module _ (p : Pipe) (flows : Flows p) where
             → Ordered p (go_on p st d bits ls)
             → Ordered p (moved_live r (advised p st bits l) (work_of_live p d bits ls l) ++ go_on p st d bits ls)
         out e None i r = r
-        out e (Some q) i r = (behind_move l.thread.stage q (leads_of ls l k.0 q i) ls k.1 o.0 (subst (λ r. Derived.can_enter p (dacts p d bits ls) r ≡ true) i (enters_here ls l e)), r)
+        out e (Some q) i r = (
+          behind_move l.thread.stage q (leads_of ls l k.0 q i) ls k.1 o.0
+              (subst (λ r. Derived.can_enter p (dacts p d bits ls) r ≡ true) i (enters_here ls l e)),
+          r,
+        )
 
         at : (f b : Bool) → (did p d bits ls l).moves ≡ b → Ordered p (go_on p st d bits ls)
             → Ordered p
             ((if f then []
-            else cond b (moved_live (goes_to (stage_at p l.thread.stage).next (work_of_live p d bits ls l).env) (advised p st bits l) (work_of_live p d bits ls l))
+            else cond b
+            (moved_live (goes_to (stage_at p l.thread.stage).next (work_of_live p d bits ls l).env) (advised p st bits l) (work_of_live p d bits ls l))
             (stood p st d bits l ∷ []))
             ++ go_on p st d bits ls)
         at true b e r = r
@@ -266,7 +282,12 @@ module _ (p : Pipe) (flows : Flows p) where
         at true g = deep
         at false g =
             each_append (λ k. 0 < k.thread.stage) (next_live p st d bits ls l) (go_on p st d bits ls)
-            (each_next (λ k. 0 < k.thread.stage) ls l k.0 (λ i. absurd (clash (sym none ∙ sym (ap (λ b. if b then (if is_some (work_of_live p d bits ls l).child then (work_of_live p d bits ls l).child else made p flows st d bits arrays ls) else made p flows st d bits arrays ls) i) ∙ e)))
+            (each_next (λ k. 0 < k.thread.stage) ls l k.0
+            (λ i. absurd (clash (sym none
+            ∙ sym
+            (ap (λ b. if b then (if is_some (work_of_live p d bits ls l).child then
+            (work_of_live p d bits ls l).child else made p flows st d bits arrays ls) else made p flows st d bits arrays ls) i)
+            ∙ e)))
             (λ i q j. let u = (flows.graph.up l.thread.stage q (leads_of ls l k.0 q j)).0 in omega arith)) deep
           where
             none : made p flows st d bits arrays ls ≡ None
@@ -290,14 +311,17 @@ module _ (p : Pipe) (flows : Flows p) where
     falls_on n [] f = tt
     falls_on n (l ∷ ls) f = at (fell p d bits ls) (did p d bits ls l).moves (falls_on l.number ls f.1)
       where
-        out : (r : Option ℕ) → Falls l.number (go_on p st d bits ls) → Falls n (moved_live r (advised p st bits l) (work_of_live p d bits ls l) ++ go_on p st d bits ls)
+        out : (r : Option ℕ)
+            → Falls l.number (go_on p st d bits ls)
+            → Falls n (moved_live r (advised p st bits l) (work_of_live p d bits ls l) ++ go_on p st d bits ls)
         out None g = falls_up l.number n (go_on p st d bits ls) (let i = f.0 in omega arith) g
         out (Some q) g = (f.0, g)
 
         at : (c b : Bool) → Falls l.number (go_on p st d bits ls)
             → Falls n
             ((if c then []
-            else cond b (moved_live (goes_to (stage_at p l.thread.stage).next (work_of_live p d bits ls l).env) (advised p st bits l) (work_of_live p d bits ls l))
+            else cond b
+            (moved_live (goes_to (stage_at p l.thread.stage).next (work_of_live p d bits ls l).env) (advised p st bits l) (work_of_live p d bits ls l))
             (stood p st d bits l ∷ []))
             ++ go_on p st d bits ls)
         at true b g = falls_up l.number n (go_on p st d bits ls) (let i = f.0 in omega arith) g
@@ -322,11 +346,13 @@ module _ (p : Pipe) (flows : Flows p) where
     has_next ls l k q i h = subst (λ n. has_made p (work_of_live p d bits ls l).env n ≡ true) (ap (stage_or (length p.stages)) i) h
 
     -- a thread that has made its successor has made it ever after
-    pub made_on : (ls : List Live) → AllKnown p flows st d bits arrays ls → Made p flows st d bits arrays ls → Made p flows st d bits arrays (go_on p st d bits ls)
+    pub made_on : (ls : List Live)
+        → AllKnown p flows st d bits arrays ls → Made p flows st d bits arrays ls → Made p flows st d bits arrays (go_on p st d bits ls)
     made_on [] k m = tt
     made_on (l ∷ ls) k m =
         each_on (λ l. has_made p l.env l.thread.stage ≡ true) (fell p d bits ls) (next_live p st d bits ls l) (go_on p st d bits ls)
-        (each_next (λ l. has_made p l.env l.thread.stage ≡ true) ls l k.0 (λ e. m.0) (λ e q i. has_next ls l k.0 q i ((childed_here p flows st d bits arrays ls l k.0).since m.0)))
+        (each_next (λ l. has_made p l.env l.thread.stage ≡ true) ls l k.0 (λ e. m.0)
+        (λ e q i. has_next ls l k.0 q i ((childed_here p flows st d bits arrays ls l k.0).since m.0)))
         (made_on ls k.1 m.1)
 
     -- the one with the new thread has made it
@@ -348,9 +374,16 @@ module _ (p : Pipe) (flows : Flows p) where
         at false g =
             each_append (λ l. has_made p l.env l.thread.stage ≡ true) (next_live p st d bits ls l) (go_on p st d bits ls)
             (each_next (λ l. has_made p l.env l.thread.stage ≡ true) ls l k.0
-            (λ i. absurd (clash (sym none ∙ sym (ap (λ b. if b then (if is_some (work_of_live p d bits ls l).child then (work_of_live p d bits ls l).child else made p flows st d bits arrays ls) else made p flows st d bits arrays ls) i) ∙ e)))
+            (λ i. absurd (clash (sym none
+            ∙ sym
+            (ap (λ b. if b then (if is_some (work_of_live p d bits ls l).child then
+            (work_of_live p d bits ls l).child else made p flows st d bits arrays ls) else made p flows st d bits arrays ls) i)
+            ∙ e)))
             (λ i q j. has_next ls l k.0 q j ((childed_here p flows st d bits arrays ls l k.0).called_it
-            (is_it (work_of_live p d bits ls l).child (made p flows st d bits arrays ls) none (sym (ap (λ b. if b then (if is_some (work_of_live p d bits ls l).child then (work_of_live p d bits ls l).child else made p flows st d bits arrays ls) else made p flows st d bits arrays ls) i) ∙ e)))))
+            (is_it (work_of_live p d bits ls l).child (made p flows st d bits arrays ls) none
+            (sym (ap (λ b. if b then
+            (if is_some (work_of_live p d bits ls l).child then
+            (work_of_live p d bits ls l).child else made p flows st d bits arrays ls) else made p flows st d bits arrays ls) i) ∙ e)))))
             (made_on ls k.1 m)
           where
             none : made p flows st d bits arrays ls ≡ None
@@ -380,14 +413,17 @@ module _ (p : Pipe) (flows : Flows p) where
             by : (f b : Bool)
                 → MadeBehind p flows st d bits arrays
                 ((if f then []
-                else cond b (moved_live (goes_to (stage_at p l.thread.stage).next (work_of_live p d bits ks l).env) (advised p st bits l) (work_of_live p d bits ks l))
+                else cond b
+                (moved_live (goes_to (stage_at p l.thread.stage).next (work_of_live p d bits ks l).env) (advised p st bits l) (work_of_live p d bits ks l))
                 (stood p st d bits l ∷ []))
                 ++ go_on p st d bits ks)
             by true b = tail_of (go_on p st d bits ks) rest
             by false true = out (goes_to (stage_at p l.thread.stage).next (work_of_live p d bits ks l).env)
             by false false = rest
 
-        at : (c : Option (List ℕ)) → made p flows st d bits arrays ls ≡ c → MadeBehind p flows st d bits arrays (born_live p (d.hints 0) st.next c ++ go_on p st d bits ls)
+        at : (c : Option (List ℕ))
+            → made p flows st d bits arrays ls ≡ c
+            → MadeBehind p flows st d bits arrays (born_live p (d.hints 0) st.next c ++ go_on p st d bits ls)
         at None e = behind ls k m
         at (Some x) e = made_born ls k m x e
 
@@ -408,7 +444,8 @@ module _ (p : Pipe) (flows : Flows p) where
         keeps_moved : (q : ℕ) → goes_to (stage_at p l.thread.stage).next (work_of_live p d bits ls l).env ≡ Some q
             → Keeps p (work_of_live p d bits ls l).env (moved_one q (advised p st bits l) (work_of_live p d bits ls l)).thread
         keeps_moved q i =
-            keeps_next p flows l.env (now_of p d bits l) (keeps_now p flows st d bits arrays l k.0.seated) (around p d bits (dacts p d bits ls) l.thread.stage l.thread.hint) (Machine.word_for st l.number) (λ b. block_ready p st l.number b)
+            keeps_next p flows l.env (now_of p d bits l) (keeps_now p flows st d bits arrays l k.0.seated)
+            (around p d bits (dacts p d bits ls) l.thread.stage l.thread.hint) (Machine.word_for st l.number) (λ b. block_ready p st l.number b)
             (λ q. Derived.port_free p d bits (dacts p d bits ls) q.mem) (fit_all p flows st d bits arrays ls l k.0) q i
 
     -- after a cycle all live threads keep to their ways, the new one too
@@ -453,7 +490,11 @@ module _ (p : Pipe) (flows : Flows p) where
             by : (b : Bool) → (l.thread.stage == q) ≡ b
                 → if_kept sq (or_then (cond b (Some (seat (stood p st d bits l))) None) (next_thread p q (lacts p st d bits ls)))
                 ≡ find q (go_on p st d bits ls)
-            by true e = ap (λ b. if b then Some (seat (stood p st d bits l)) else None) h ∙ sym (none_found p q (go_on p st d bits ls) (subst (λ n. Each (λ k. Behind p n k.thread.stage) (go_on p st d bits ls)) (eqb-true _ _ e) (behind_stay l.thread.stage ls k.1 o.0)))
+            by true e =
+                ap (λ b. if b then Some (seat (stood p st d bits l)) else None) h
+                ∙ sym
+                (none_found p q (go_on p st d bits ls)
+                (subst (λ n. Each (λ k. Behind p n k.thread.stage) (go_on p st d bits ls)) (eqb-true _ _ e) (behind_stay l.thread.stage ls k.1 o.0)))
             by false e = r
 
         out : (r : Option ℕ) → is_kept sq l.number ≡ true → if_kept sq (next_thread p q (lacts p st d bits ls)) ≡ find q (go_on p st d bits ls)
@@ -470,7 +511,10 @@ module _ (p : Pipe) (flows : Flows p) where
             (cond b (moved_live (goes_to (stage_at p l.thread.stage).next (work_of_live p d bits ls l).env) (advised p st bits l) (work_of_live p d bits ls l))
             (stood p st d bits l ∷ [])))
             (next_thread p q (lacts p st d bits ls)))
-            ≡ find q ((if f then [] else cond b (moved_live (goes_to (stage_at p l.thread.stage).next (work_of_live p d bits ls l).env) (advised p st bits l) (work_of_live p d bits ls l)) (stood p st d bits l ∷ [])) ++ go_on p st d bits ls)
+            ≡ find q
+            ((if f then [] else cond b
+            (moved_live (goes_to (stage_at p l.thread.stage).next (work_of_live p d bits ls l).env) (advised p st bits l) (work_of_live p d bits ls l))
+            (stood p st d bits l ∷ [])) ++ go_on p st d bits ls)
         at true e true i r = absurd (cc (sym i ∙ stuck_here p flows st d bits arrays ls l e))
         at true e false i r = removed (g.0 ∙ ap not e) r
         at false e true i r = out (goes_to (stage_at p l.thread.stage).next (work_of_live p d bits ls l).env) (g.0 ∙ ap not e) r
@@ -494,7 +538,8 @@ module _ (p : Pipe) (flows : Flows p) where
             at false e false f = refl
 
     -- who stands in a stage after the cycle is the live thread that is found there then
-    pub stage_is : (sq : Option ℕ) (q : ℕ) (ls : List Live) → AllKnown p flows st d bits arrays ls → AllForeseen p flows st d bits arrays ls → Ordered p ls → Agrees p d bits sq ls
+    pub stage_is : (sq : Option ℕ) (q : ℕ) (ls : List Live)
+        → AllKnown p flows st d bits arrays ls → AllForeseen p flows st d bits arrays ls → Ordered p ls → Agrees p d bits sq ls
         → or_then (if q == 0 then Cycle.born_thread p st.next (made p flows st d bits arrays ls) else None)
         (if_kept sq (next_thread p q (lacts p st d bits ls)))
         ≡ find q (lives_next p flows st d bits arrays ls)

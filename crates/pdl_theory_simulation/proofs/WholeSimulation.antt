@@ -55,7 +55,9 @@ module _ (p : Pipe) (flows : Flows p) where
   module _ (st : State) (d : Derived.State) (bits : List Bool) (ls : List Live) (sim : Sim p st d ls) where
     -- in states that belong together, what is needed at the start of a cycle is known of each live thread
     pub known : AllKnown p flows st d bits sim.arrays ls
-    known = known_all p flows st d bits sim.arrays ls sim.matched st.next ls sim.seated sim.ordered sim.falls (λ m a k i. ap (λ q. Machine.youngest q k a Locks.Nothing) (sim.locks m)) (λ m i. sim.locks m)
+    known =
+        known_all p flows st d bits sim.arrays ls sim.matched st.next ls sim.seated sim.ordered sim.falls
+        (λ m a k i. ap (λ q. Machine.youngest q k a Locks.Nothing) (sim.locks m)) (λ m i. sim.locks m)
 
     inside_all : (ks : List Live) → Each (Seated p st) ks → Each (λ k. k.thread.stage < length p.stages) ks
     inside_all ks s = each_map (λ k h. h.keeps_on.inside) ks s
@@ -64,12 +66,20 @@ module _ (p : Pipe) (flows : Flows p) where
     pub acts_are : Moves.all_acts p st bits ≡ acts_of p flows st d bits sim.arrays (sorted ls)
     acts_are =
         ap (Moves.acts p st bits 0) (sim.stages ∙ stages_same _ _ 0 p.stages (λ q i. sym (find_sorted p q ls sim.ordered)))
-        ∙ acts_slots p st bits p.stages 0 (lives_of (sorted ls)) (subst (λ h. Rises 0 h (lives_of (sorted ls))) (sym (zero-add (length p.stages))) (rises_sorted p (length p.stages) ls (inside_all ls sim.seated) sim.ordered))
-        ∙ acts_sorted p flows st d bits sim.arrays ls sim.matched st.next sim.seated sim.ordered sim.falls known sim.forks (length p.stages) (inside_all ls sim.seated)
+        ∙ acts_slots p st bits p.stages 0 (lives_of (sorted ls))
+        (subst (λ h. Rises 0 h (lives_of (sorted ls))) (sym (zero-add (length p.stages)))
+        (rises_sorted p (length p.stages) ls (inside_all ls sim.seated) sim.ordered))
+        ∙ acts_sorted p flows st d bits sim.arrays ls sim.matched st.next sim.seated sim.ordered sim.falls known sim.forks (length p.stages)
+        (inside_all ls sim.seated)
 
     -- the stated state after a cycle is that after the same acts by age
     abbrev pub next_state : State
-    next_state = record (Cycle.after_these p st bits (lacts p st d bits ls) (movers (lacts p st d bits ls)) (squasher (movers (lacts p st d bits ls)))) { arrays = (Cycle.cycle p st bits).arrays }
+    next_state =
+        record
+        (Cycle.after_these p st bits (lacts p st d bits ls) (movers (lacts p st d bits ls)) (squasher (movers (lacts p st d bits ls)))) {
+          arrays =
+              (Cycle.cycle p st bits).arrays;
+        }
 
     -- two live threads that stand in another order by age than by stage can be exchanged
     pub swaps : Swaps p flows st d bits sim.arrays ls
@@ -77,7 +87,9 @@ module _ (p : Pipe) (flows : Flows p) where
 
     -- the state after a cycle is that after the same acts by age
     pub after_is : Cycle.cycle p st bits ≡ next_state
-    after_is = (λ i. record (Cycle.after_acts p st bits (acts_are i)) { arrays = (Cycle.cycle p st bits).arrays }) ∙ same_after p flows st d bits sim.arrays (Cycle.cycle p st bits).arrays ls swaps
+    after_is =
+        (λ i. record (Cycle.after_acts p st bits (acts_are i)) { arrays = (Cycle.cycle p st bits).arrays })
+        ∙ same_after p flows st d bits sim.arrays (Cycle.cycle p st bits).arrays ls swaps
 
     -- the stated ports of a cycle are those of the same acts by age
     pub ports_are : Cycle.ports p st (Moves.all_acts p st bits) ≡ Cycle.ports p st (lacts p st d bits ls)
@@ -94,7 +106,9 @@ module _ (p : Pipe) (flows : Flows p) where
     -- THE LOCKS
 
     list_is : (m : ℕ) → list_two st (movers (lacts p st d bits ls)) m ≡ two p flows st d bits sim.arrays m ls
-    list_is m = ap (λ l. Cycle.with_all_writes m (movers (lacts p st d bits ls)) (Cycle.with_reserves m (movers (lacts p st d bits ls)) l)) (sim.locks m) ∙ two_is p flows st d bits sim.arrays m st.next ls sim.seated sim.ordered sim.falls
+    list_is m =
+        ap (λ l. Cycle.with_all_writes m (movers (lacts p st d bits ls)) (Cycle.with_reserves m (movers (lacts p st d bits ls)) l)) (sim.locks m)
+        ∙ two_is p flows st d bits sim.arrays m st.next ls sim.seated sim.ordered sim.falls
 
     out : (m : ℕ)
         → Out m (all_releases m (movers (lacts p st d bits ls))) (two p flows st d bits sim.arrays m ls) (three p flows st d bits sim.arrays m ls)
@@ -114,7 +128,11 @@ module _ (p : Pipe) (flows : Flows p) where
 
     advises_here : (xs : List Pair) → EachAdvisory p (acts_of p flows st d bits sim.arrays xs)
     advises_here [] = tt
-    advises_here (x ∷ xs) = (advises_all p (Machine.word_for st x.live.number) (in_stage x.live.thread.stage p.stmts) _ (fits_stage p x.live.thread.stage p.stmts flows.advice) tt, advises_here xs)
+    advises_here (x ∷ xs) = (
+      advises_all p (Machine.word_for st x.live.number) (in_stage x.live.thread.stage p.stmts) _
+          (fits_stage p x.live.thread.stage p.stmts flows.advice) tt,
+      advises_here xs,
+    )
 
     arrays_next : DifferInAdvice p (Cycle.cycle p st bits).arrays (after_commits d.arrays (commits_of (rev (dacts p d bits ls))))
     arrays_next n plain =
@@ -122,24 +140,26 @@ module _ (p : Pipe) (flows : Flows p) where
         ∙ advice_apart p n (acts_of p flows st d bits sim.arrays (sorted ls)) _ plain (advises_here (sorted ls))
         ∙ ap (λ (a : Arrays). a n) (same_arrays p flows st d bits sim.arrays ls swaps st.arrays)
         ∙ at (nat_lt n (length p.mems)) refl
-          where
-            at : (b : Bool) → nat_lt n (length p.mems) ≡ b
-                → with_commits st (movers (lacts p st d bits ls)) 0 p.mems st.arrays n ≡ after_commits d.arrays (commits_of (rev (dacts p d bits ls))) n
-            at true e =
-                row_commits st (movers (lacts p st d bits ls)) 0 n p.mems st.arrays (omega arith) (let i = ltb-true _ _ e in omega arith)
-                ∙ ap₂ (λ (a : Array) c. wrote a c) (sim.arrays n plain) (sym (commits_are n)) ∙ sym (row_committed n (commits_of (rev (dacts p d bits ls))) d.arrays)
-            at false e =
-                past_commits st (movers (lacts p st d bits ls)) 0 n p.mems st.arrays (let i = ltb-false _ _ e in omega arith)
-                ∙ sim.arrays n plain
-                ∙ ap (λ c. wrote (row d.arrays n) c) (sym (commits_are n ∙ ap (released n) (never n (ltb-false _ _ e))))
-                ∙ sym (row_committed n (commits_of (rev (dacts p d bits ls))) d.arrays)
+      where
+        at : (b : Bool) → nat_lt n (length p.mems) ≡ b
+            → with_commits st (movers (lacts p st d bits ls)) 0 p.mems st.arrays n ≡ after_commits d.arrays (commits_of (rev (dacts p d bits ls))) n
+        at true e =
+            row_commits st (movers (lacts p st d bits ls)) 0 n p.mems st.arrays (omega arith) (let i = ltb-true _ _ e in omega arith)
+            ∙ ap₂ (λ (a : Array) c. wrote a c) (sim.arrays n plain) (sym (commits_are n))
+            ∙ sym (row_committed n (commits_of (rev (dacts p d bits ls))) d.arrays)
+        at false e =
+            past_commits st (movers (lacts p st d bits ls)) 0 n p.mems st.arrays (let i = ltb-false _ _ e in omega arith)
+            ∙ sim.arrays n plain
+            ∙ ap (λ c. wrote (row d.arrays n) c) (sym (commits_are n ∙ ap (released n) (never n (ltb-false _ _ e))))
+            ∙ sym (row_committed n (commits_of (rev (dacts p d bits ls))) d.arrays)
 
     -- THE NEXT STATES
 
     no_entries : (m : ℕ) → length p.mems ≤ m → (ks : List Live) → Each (λ k. Keeps p k.env k.thread × (with_kept k.kept k.env ≡ k.thread.env)) ks
         → pends m ks ≡ []
     no_entries m i [] o = refl
-    no_entries m i (k ∷ ks) o = ap₂ (λ x y. x ++ y) (no_entries m i ks o.1) (pend_own m k.number k.thread.entries ∙ ap (pend m k.number) (unknown p flows k.env k.thread o.0.0 m i))
+    no_entries m i (k ∷ ks) o =
+        ap₂ (λ x y. x ++ y) (no_entries m i ks o.1) (pend_own m k.number k.thread.entries ∙ ap (pend m k.number) (unknown p flows k.env k.thread o.0.0 m i))
 
     pends_born : (m : ℕ) (c : Option (List ℕ)) → pends m (born_live p (d.hints 0) st.next c) ≡ []
     pends_born m None = refl
@@ -154,20 +174,25 @@ module _ (p : Pipe) (flows : Flows p) where
             → lock_of next_state m
             ≡ pends m (lives_next p flows st d bits sim.arrays ls)
         at true e =
-            at_mem (λ j. entries_left (squasher (movers (lacts p st d bits ls))) (list_three st (movers (lacts p st d bits ls)) j)) 0 p.mems m [] (ltb-true _ _ e)
+            at_mem (λ j. entries_left (squasher (movers (lacts p st d bits ls))) (list_three st (movers (lacts p st d bits ls)) j)) 0 p.mems m []
+            (ltb-true _ _ e)
             ∙ ap (λ j. entries_left (squasher (movers (lacts p st d bits ls))) (list_three st (movers (lacts p st d bits ls)) j)) (zero-add m)
             ∙ ap (entries_left (squasher (movers (lacts p st d bits ls)))) (list_next m)
             ∙ pends_on p flows st d bits sim.arrays m (squasher (movers (lacts p st d bits ls))) ls known fit
             ∙ sym (append-nil _) ∙ ap (λ x. pends m (go_on p st d bits ls) ++ x) (sym (pends_born m (made p flows st d bits sim.arrays ls)))
             ∙ sym (pends_append m (born_live p (d.hints 0) st.next (made p flows st d bits sim.arrays ls)) (go_on p st d bits ls))
-        at false e = past_mems _ 0 p.mems m [] (ltb-false _ _ e) ∙ sym (no_entries m (ltb-false _ _ e) (lives_next p flows st d bits sim.arrays ls) (ways_next p flows st d bits sim.arrays ls known))
+        at false e =
+            past_mems _ 0 p.mems m [] (ltb-false _ _ e)
+            ∙ sym (no_entries m (ltb-false _ _ e) (lives_next p flows st d bits sim.arrays ls) (ways_next p flows st d bits sim.arrays ls known))
 
     -- THE REQUESTS
 
     request_is : (m : ℕ)
         → request_left (squasher (movers (lacts p st d bits ls))) (request_next p st bits (movers (lacts p st d bits ls)) m)
         ≡ request_now p flows st d bits sim.arrays (squasher (movers (lacts p st d bits ls))) ls m
-    request_is m = ap (request_left (squasher (movers (lacts p st d bits ls)))) (asked_is p flows st d bits sim.arrays m (if is_answered p bits m then NoRequest else request_of st m) ls known)
+    request_is m =
+        ap (request_left (squasher (movers (lacts p st d bits ls))))
+        (asked_is p flows st d bits sim.arrays m (if is_answered p bits m then NoRequest else request_of st m) ls known)
 
     requests_are : next_state.requests
         ≡ for_mems (request_now p flows st d bits sim.arrays (squasher (movers (lacts p st d bits ls))) ls) 0 p.mems
@@ -176,13 +201,16 @@ module _ (p : Pipe) (flows : Flows p) where
     asked_are : (Derived.after_acts p d bits (rev (dacts p d bits ls))).asked ≡ for_mems (asked_now p flows st d bits sim.arrays ls) 0 p.mems
     asked_are =
         ap (next_asks p bits (asks_of (rev (dacts p d bits ls))) 0) sim.asked ∙ asks_mems p bits (asks_of (rev (dacts p d bits ls))) (asked_at d) 0 p.mems
-        ∙ mems_same _ _ 0 p.mems (λ m. ap (λ q. next_ask q (is_answered p bits m) (asked_at d m)) (finds_is p flows st d bits sim.arrays m ls known sim.ordered))
+        ∙ mems_same _ _ 0 p.mems
+        (λ m. ap (λ q. next_ask q (is_answered p bits m) (asked_at d m)) (finds_is p flows st d bits sim.arrays m ls known sim.ordered))
 
     -- the stated request of a memory after a cycle is the new one, or what is left of the old one
     pub request_at : (m : ℕ) → m < length p.mems
         → request_of next_state m
         ≡ request_now p flows st d bits sim.arrays (squasher (movers (lacts p st d bits ls))) ls m
-    request_at m h = ap (λ l. slice_index_or l m NoRequest) requests_are ∙ at_mem _ 0 p.mems m NoRequest h ∙ ap (request_now p flows st d bits sim.arrays (squasher (movers (lacts p st d bits ls))) ls) (zero-add m)
+    request_at m h =
+        ap (λ l. slice_index_or l m NoRequest) requests_are ∙ at_mem _ 0 p.mems m NoRequest h
+        ∙ ap (request_now p flows st d bits sim.arrays (squasher (movers (lacts p st d bits ls))) ls) (zero-add m)
 
     -- the address that is outstanding for a memory in the derived machine after a cycle is the new one, or the old one that is left
     pub asked_next : (m : ℕ) → m < length p.mems
@@ -199,17 +227,22 @@ module _ (p : Pipe) (flows : Flows p) where
             (request_of next_state m)
             (asked_at (Derived.after_acts p d bits (rev (dacts p d bits ls))) m) m (lives_next p flows st d bits sim.arrays ls)
         at true e =
-            subst (λ q. Matched q (asked_at (Derived.after_acts p d bits (rev (dacts p d bits ls))) m) m (lives_next p flows st d bits sim.arrays ls)) (sym (request_at m (ltb-true _ _ e)))
-            (subst (λ o. Matched (request_now p flows st d bits sim.arrays (squasher (movers (lacts p st d bits ls))) ls m) o m (lives_next p flows st d bits sim.arrays ls)) (sym (asked_next m (ltb-true _ _ e)))
-            (matched_next p flows st d bits sim.arrays m st.next (made p flows st d bits sim.arrays ls) (squasher (movers (lacts p st d bits ls))) ls known fit (sim.matched m)))
+            subst (λ q. Matched q (asked_at (Derived.after_acts p d bits (rev (dacts p d bits ls))) m) m (lives_next p flows st d bits sim.arrays ls))
+            (sym (request_at m (ltb-true _ _ e)))
+            (subst (λ o. Matched (request_now p flows st d bits sim.arrays (squasher (movers (lacts p st d bits ls))) ls m) o m
+            (lives_next p flows st d bits sim.arrays ls)) (sym (asked_next m (ltb-true _ _ e)))
+            (matched_next p flows st d bits sim.arrays m st.next (made p flows st d bits sim.arrays ls) (squasher (movers (lacts p st d bits ls))) ls known fit
+            (sim.matched m)))
         at false e =
-            subst (λ q. Matched q (asked_at (Derived.after_acts p d bits (rev (dacts p d bits ls))) m) m (lives_next p flows st d bits sim.arrays ls)) (sym (past_mems _ 0 p.mems m NoRequest (ltb-false _ _ e)))
+            subst (λ q. Matched q (asked_at (Derived.after_acts p d bits (rev (dacts p d bits ls))) m) m (lives_next p flows st d bits sim.arrays ls))
+            (sym (past_mems _ 0 p.mems m NoRequest (ltb-false _ _ e)))
             (ap (λ l. slice_index_or l m None) asked_are ∙ past_mems _ 0 p.mems m None (ltb-false _ _ e))
 
     nobody_asks : (l : Live) (m : ℕ) → OwnedBy st l.number m → is_answered p bits m ≡ false → (x : Option Asker)
         → asking p flows st d bits sim.arrays ls m ≡ x → asking p flows st d bits sim.arrays ls m ≡ None
     nobody_asks l m o i None e = e
-    nobody_asks l m o i (Some a) e = absurd (cc (sym i ∙ port_was_free p flows st d bits sim.arrays m o.0 a ls known e (subst (λ q. Matched q (asked_at d m) m ls) o.1 (sim.matched m)).0))
+    nobody_asks l m o i (Some a) e =
+        absurd (cc (sym i ∙ port_was_free p flows st d bits sim.arrays m o.0 a ls known e (subst (λ q. Matched q (asked_at d m) m ls) o.1 (sim.matched m)).0))
 
     -- a request that is not answered stays its owner's
     pub request_stays : (l : Live) → is_kept (squasher (movers (lacts p st d bits ls))) l.number ≡ true → (m : ℕ) (o : OwnedBy st l.number m)
@@ -218,12 +251,15 @@ module _ (p : Pipe) (flows : Flows p) where
         ≡ Owned l.number o.0
     request_stays l s m o f e =
         request_at m (fetch_low m f.0 f.2)
-        ∙ ap₂ (λ k b. request_left (squasher (movers (lacts p st d bits ls))) (owned_by k (if b then NoRequest else request_of st m))) (nobody_asks l m o e (asking p flows st d bits sim.arrays ls m) refl) e
+        ∙ ap₂ (λ k b. request_left (squasher (movers (lacts p st d bits ls))) (owned_by k (if b then NoRequest else request_of st m)))
+        (nobody_asks l m o e (asking p flows st d bits sim.arrays ls m) refl) e
         ∙ ap (request_left (squasher (movers (lacts p st d bits ls)))) o.1
         ∙ ap (λ b. if b then Owned l.number o.0 else Orphan o.0) s
 
     -- a request that is made in the cycle is owned by the thread that made it, where that is kept
-    pub request_made : (l : Live) → is_kept (squasher (movers (lacts p st d bits ls))) l.number ≡ true → (m a : ℕ) → m < length p.mems → asking p flows st d bits sim.arrays ls m ≡ Some (record { number = l.number; address = a })
+    pub request_made : (l : Live)
+        → is_kept (squasher (movers (lacts p st d bits ls))) l.number ≡ true → (m a : ℕ) → m < length p.mems
+        → asking p flows st d bits sim.arrays ls m ≡ Some (record { number = l.number; address = a })
         → request_of next_state m
         ≡ Owned l.number a
     request_made l s m a low e =
@@ -242,7 +278,10 @@ module _ (p : Pipe) (flows : Flows p) where
         nobody : (x : Option Asker) → asking p flows st d bits sim.arrays ls r.mem ≡ x → is_answered p bits r.mem ≡ false
             → asking p flows st d bits sim.arrays ls r.mem ≡ None
         nobody None e i = e
-        nobody (Some a) e i = absurd (cc (sym i ∙ port_was_free p flows st d bits sim.arrays r.mem o.0.0 a ls known e (subst (λ q. Matched q (asked_at d r.mem) r.mem ls) o.0.1 (sim.matched r.mem)).0))
+        nobody (Some a) e i =
+            absurd
+            (cc (sym i ∙ port_was_free p flows st d bits sim.arrays r.mem o.0.0 a ls known e
+            (subst (λ q. Matched q (asked_at d r.mem) r.mem ls) o.0.1 (sim.matched r.mem)).0))
 
         at : (b : Bool) → is_answered p bits r.mem ≡ b
             → AllOwned next_state l.number
@@ -254,7 +293,8 @@ module _ (p : Pipe) (flows : Flows p) where
           (
             o.0.0,
             request_at r.mem (fetch_low r.mem f.0.0 f.0.2)
-                ∙ ap₂ (λ k b. request_left (squasher (movers (lacts p st d bits ls))) (owned_by k (if b then NoRequest else request_of st r.mem))) (nobody (asking p flows st d bits sim.arrays ls r.mem) refl e) e
+                ∙ ap₂ (λ k b. request_left (squasher (movers (lacts p st d bits ls))) (owned_by k (if b then NoRequest else request_of st r.mem)))
+                (nobody (asking p flows st d bits sim.arrays ls r.mem) refl e) e
                 ∙ ap (request_left (squasher (movers (lacts p st d bits ls)))) o.0.1
                 ∙ ap (λ b. if b then Owned l.number o.0.0 else Orphan o.0.0) s,
           ),
@@ -262,7 +302,9 @@ module _ (p : Pipe) (flows : Flows p) where
         )
 
     -- an ask has its own request
-    owned_moved : (l : Live) → is_kept (squasher (movers (lacts p st d bits ls))) l.number ≡ true → (all : List Ask) → ((m a : ℕ) → find_ask all m ≡ Some a → asking p flows st d bits sim.arrays ls m ≡ Some (record { number = l.number; address = a }))
+    owned_moved : (l : Live)
+        → is_kept (squasher (movers (lacts p st d bits ls))) l.number ≡ true → (all : List Ask)
+        → ((m a : ℕ) → find_ask all m ≡ Some a → asking p flows st d bits sim.arrays ls m ≡ Some (record { number = l.number; address = a }))
         → (qs : List Ask) → AsksFrom (in_stage l.thread.stage p.stmts) qs → ((m : ℕ) → is_some (find_ask qs m) ≡ true → is_some (find_ask all m) ≡ true)
         → AllOwned next_state l.number
         (awaited_of qs)
@@ -282,7 +324,9 @@ module _ (p : Pipe) (flows : Flows p) where
         own (Some a) e h = (
           a,
           request_at q.mem (fetch_low q.mem l.thread.stage f.0)
-              ∙ ap (λ k. request_left (squasher (movers (lacts p st d bits ls))) (owned_by k (if is_answered p bits q.mem then NoRequest else request_of st q.mem))) (g q.mem a e)
+              ∙ ap
+              (λ k. request_left (squasher (movers (lacts p st d bits ls))) (owned_by k (if is_answered p bits q.mem then NoRequest else request_of st q.mem)))
+              (g q.mem a e)
               ∙ ap (λ b. if b then Owned l.number a else Orphan a) s,
         )
 
@@ -302,11 +346,15 @@ module _ (p : Pipe) (flows : Flows p) where
         older m a e true = ap (λ x. first_of x l.number (asking p flows st d bits sim.arrays ks m)) (one_asks p flows st d bits sim.arrays m a l ks k o e) ∙ e
         older m a e false = e
 
-        mine : (did p d bits ks l).moves ≡ true → (m a : ℕ) → find_ask (work_of_live p d bits ks l).asks m ≡ Some a → asking p flows st d bits sim.arrays (l ∷ ks) m ≡ Some (record { number = l.number; address = a })
+        mine : (did p d bits ks l).moves ≡ true
+            → (m a : ℕ) → find_ask (work_of_live p d bits ks l).asks m ≡ Some a
+            → asking p flows st d bits sim.arrays (l ∷ ks) m ≡ Some (record { number = l.number; address = a })
         mine i m a e = ap₂ (λ b x. cond b (first_of x l.number (asking p flows st d bits sim.arrays ks m)) (asking p flows st d bits sim.arrays ks m)) i e
 
         from_stage : AsksFrom (in_stage l.thread.stage p.stmts) (work_of_live p d bits ks l).asks
-        from_stage = subst (λ (w : Work). AsksFrom (in_stage l.thread.stage p.stmts) w.asks) (sym (like_here p flows st d bits sim.arrays ks l k.0).is) (asks_here p flows st d bits sim.arrays ks l k.0)
+        from_stage =
+            subst (λ (w : Work). AsksFrom (in_stage l.thread.stage p.stmts) w.asks) (sym (like_here p flows st d bits sim.arrays ks l k.0).is)
+            (asks_here p flows st d bits sim.arrays ks l k.0)
 
         at : (f : Bool) → fell p d bits ks ≡ f
             → Each
@@ -320,13 +368,15 @@ module _ (p : Pipe) (flows : Flows p) where
             each_append (λ k. AllOwned next_state k.number k.thread.awaits) (next_live p st d bits ks l) (go_on p st d bits ks)
             (each_next p flows st d bits sim.arrays (λ k. AllOwned next_state k.number k.thread.awaits) ks l k.0
             (λ i. owned_stood l (g.0 ∙ ap not e) l.thread.awaits k.0.seated.owned k.0.seated.keeps_on.fetched)
-            (λ i q j. owned_moved l (g.0 ∙ ap not e) (work_of_live p d bits ks l).asks (λ m a u. h m _ (mine i m a u)) (work_of_live p d bits ks l).asks from_stage (λ m u. u)))
+            (λ i q j. owned_moved l (g.0 ∙ ap not e) (work_of_live p d bits ks l).asks (λ m a u. h m _ (mine i m a u))
+            (work_of_live p d bits ks l).asks from_stage (λ m u. u)))
             r
 
     seated_next : Each
         (Seated p next_state)
         (lives_next p flows st d bits sim.arrays ls)
-    seated_next = both (lives_next p flows st d bits sim.arrays ls) (ways_next p flows st d bits sim.arrays ls known) (owned (made p flows st d bits sim.arrays ls))
+    seated_next =
+        both (lives_next p flows st d bits sim.arrays ls) (ways_next p flows st d bits sim.arrays ls known) (owned (made p flows st d bits sim.arrays ls))
       where
         owned : (c : Option (List ℕ))
             → Each
@@ -369,11 +419,19 @@ module _ (p : Pipe) (flows : Flows p) where
             → fork_of next_state f
             ≡ sides p f (lives_next p flows st d bits sim.arrays ls)
         at true e =
-            at_stage (λ j. Cycle.branches_left p (Cycle.squash_stage (movers (lacts p st d bits ls))) j (Cycle.fork_next p st (movers (lacts p st d bits ls)) j)) 0 p.stages f [] (ltb-true _ _ e)
-            ∙ ap (λ j. Cycle.branches_left p (Cycle.squash_stage (movers (lacts p st d bits ls))) j (Cycle.fork_next p st (movers (lacts p st d bits ls)) j)) (zero-add f)
-            ∙ ap (λ l. Cycle.branches_left p (Cycle.squash_stage (movers (lacts p st d bits ls))) f ((if Cycle.has_left p f (movers (lacts p st d bits ls)) then Cycle.but_first l else l) ++ Cycle.entered_branches p f (movers (lacts p st d bits ls)))) (sim.forks f)
+            at_stage
+            (λ j. Cycle.branches_left p (Cycle.squash_stage (movers (lacts p st d bits ls))) j
+            (Cycle.fork_next p st (movers (lacts p st d bits ls)) j)) 0 p.stages f [] (ltb-true _ _ e)
+            ∙ ap (λ j. Cycle.branches_left p (Cycle.squash_stage (movers (lacts p st d bits ls))) j (Cycle.fork_next p st (movers (lacts p st d bits ls)) j))
+            (zero-add f)
+            ∙ ap
+            (λ l. Cycle.branches_left p (Cycle.squash_stage (movers (lacts p st d bits ls))) f
+            ((if Cycle.has_left p f (movers (lacts p st d bits ls)) then Cycle.but_first l else l)
+            ++ Cycle.entered_branches p f (movers (lacts p st d bits ls)))) (sim.forks f)
             ∙ fork_next p flows st d bits sim.arrays f st.next (made p flows st d bits sim.arrays ls) ls known sim.ordered
-        at false e = past_stages _ 0 p.stages f [] (ltb-false _ _ e) ∙ sym (none_inside f (ltb-false _ _ e) (lives_next p flows st d bits sim.arrays ls) (ways_next p flows st d bits sim.arrays ls known))
+        at false e =
+            past_stages _ 0 p.stages f [] (ltb-false _ _ e)
+            ∙ sym (none_inside f (ltb-false _ _ e) (lives_next p flows st d bits sim.arrays ls) (ways_next p flows st d bits sim.arrays ls known))
 
     -- the next states belong together
     next_sim : AllForeseen p flows st d bits sim.arrays ls → Sim p next_state
@@ -385,7 +443,9 @@ module _ (p : Pipe) (flows : Flows p) where
           stages = stages_same _ _ 0 p.stages (λ q i. ap (λ c. Cycle.or_then (if q == 0 then Cycle.born_thread p st.next c else None) (Cycle.if_kept (squasher (movers (lacts p st d bits ls))) (Cycle.next_thread p q (lacts p st d bits ls)))) (child_is p flows st d bits sim.arrays ls known foreseen)
               ∙ stage_is p flows st d bits sim.arrays (squasher (movers (lacts p st d bits ls))) q ls known foreseen sim.ordered fit);
           locks = locks_next;
-          falls = subst (λ c. Falls (if is_some c then suc st.next else st.next) (lives_next p flows st d bits sim.arrays ls)) (sym (child_is p flows st d bits sim.arrays ls known foreseen)) (falls_next p flows st d bits sim.arrays ls sim.falls);
+          falls =
+              subst (λ c. Falls (if is_some c then suc st.next else st.next) (lives_next p flows st d bits sim.arrays ls))
+              (sym (child_is p flows st d bits sim.arrays ls known foreseen)) (falls_next p flows st d bits sim.arrays ls sim.falls);
           ordered = ordered_next p flows st d bits sim.arrays ls known sim.ordered sim.have_made;
           seated = seated_next;
           have_made = made_next p flows st d bits sim.arrays ls known sim.have_made;
@@ -396,10 +456,12 @@ module _ (p : Pipe) (flows : Flows p) where
         }
 
     -- states that belong together belong together after a cycle of both machines
-    pub cycle_sim : AllForeseen p flows st d bits sim.arrays ls → Sim p (Cycle.cycle p st bits) (Derived.cycle p d bits) (lives_next p flows st d bits sim.arrays ls)
+    pub cycle_sim : AllForeseen p flows st d bits sim.arrays ls
+        → Sim p (Cycle.cycle p st bits) (Derived.cycle p d bits) (lives_next p flows st d bits sim.arrays ls)
     cycle_sim foreseen =
         subst (λ s. Sim p s (Derived.cycle p d bits) (lives_next p flows st d bits sim.arrays ls)) (sym after_is)
-        (subst (λ these. Sim p next_state (Derived.after_acts p d bits these) (lives_next p flows st d bits sim.arrays ls)) (sym derived_acts_are) (next_sim foreseen))
+        (subst (λ these. Sim p next_state (Derived.after_acts p d bits these) (lives_next p flows st d bits sim.arrays ls)) (sym derived_acts_are)
+        (next_sim foreseen))
 
     -- THE PORTS
 
@@ -458,18 +520,34 @@ module _ (p : Pipe) (flows : Flows p) where
     pub turn_same : SameTurn p (record { ports = Cycle.ports p st (Moves.all_acts p st bits); wait = Cycle.is_wait p st bits })
         (record { ports = Derived.ports_of p (Derived.all_acts p d bits); wait = Derived.is_wait p d bits })
     turn_same =
-        subst (λ ports. SameTurn p (record { ports = ports; wait = Cycle.is_wait p st bits }) (record { ports = Derived.ports_of p (Derived.all_acts p d bits); wait = Derived.is_wait p d bits })) (sym ports_are)
-        (subst (λ bs. SameTurn p (record { ports = Cycle.ports p st (lacts p st d bits ls); wait = Cycle.is_wait p st bits }) (record { ports = Derived.ports_of p bs; wait = Derived.is_wait p d bits })) (sym derived_acts_are)
+        subst
+        (λ ports. SameTurn p (record { ports = ports; wait = Cycle.is_wait p st bits })
+        (record { ports = Derived.ports_of p (Derived.all_acts p d bits); wait = Derived.is_wait p d bits })) (sym ports_are)
+        (subst (λ bs. SameTurn p (record { ports = Cycle.ports p st (lacts p st d bits ls); wait = Cycle.is_wait p st bits })
+        (record { ports = Derived.ports_of p bs; wait = Derived.is_wait p d bits })) (sym derived_acts_are)
         (record {
-          valid = flags _ (rev (dacts p d bits ls)) _ 0 p.stages (λ q. any_pair (λ a. a.stage == q) (λ a. (a.before.stage == q) && true) ls known (λ ks l k. and_true (l.thread.stage == q)) ∙ sym (any_rev _ (dacts p d bits ls)));
-          moves = flags _ (rev (dacts p d bits ls)) _ 0 p.stages (λ q. any_movers (λ a. a.stage == q) (lacts p st d bits ls) ∙ any_pair (λ a. a.moves && (a.stage == q)) (λ a. (a.before.stage == q) && a.moves) ls known (λ ks l k. and_comm _ (l.thread.stage == q)) ∙ sym (any_rev _ (dacts p d bits ls)));
+          valid =
+              flags _ (rev (dacts p d bits ls)) _ 0 p.stages
+              (λ q. any_pair (λ a. a.stage == q) (λ a. (a.before.stage == q) && true) ls known (λ ks l k. and_true (l.thread.stage == q))
+              ∙ sym (any_rev _ (dacts p d bits ls)));
+          moves =
+              flags _ (rev (dacts p d bits ls)) _ 0 p.stages
+              (λ q. any_movers (λ a. a.stage == q) (lacts p st d bits ls)
+              ∙ any_pair (λ a. a.moves && (a.stage == q)) (λ a. (a.before.stage == q) && a.moves) ls known (λ ks l k. and_comm _ (l.thread.stage == q))
+              ∙ sym (any_rev _ (dacts p d bits ls)));
           commits = commits_shown;
-          requests = mems_same _ _ 0 p.mems (λ m. shown_is p flows st d bits sim.arrays m ls known ∙ sym (finds_is p flows st d bits sim.arrays m ls known sim.ordered));
+          requests =
+              mems_same _ _ 0 p.mems
+              (λ m. shown_is p flows st d bits sim.arrays m ls known ∙ sym (finds_is p flows st d bits sim.arrays m ls known sim.ordered));
           ended = any_movers (λ a. is_none (next_stage p a.stage a.does)) (lacts p st d bits ls)
-              ∙ any_pair (λ a. a.moves && is_none (next_stage p a.stage a.does)) (λ a. a.moves && is_none (Derived.exit_of p a)) ls known (λ ks l k. ap (λ (w : Work). (did p d bits ks l).moves && is_none (goes_to (stage_at p l.thread.stage).next w.env)) (sym (like_here p flows st d bits sim.arrays ks l k).is))
+              ∙ any_pair (λ a. a.moves && is_none (next_stage p a.stage a.does)) (λ a. a.moves && is_none (Derived.exit_of p a)) ls known
+              (λ ks l k. ap (λ (w : Work). (did p d bits ks l).moves && is_none (goes_to (stage_at p l.thread.stage).next w.env))
+              (sym (like_here p flows st d bits sim.arrays ks l k).is))
               ∙ sym (any_rev _ (dacts p d bits ls));
           squash = squashes p flows st d bits sim.arrays st.next ls known sim.falls ∙ sym (any_rev _ (dacts p d bits ls));
-          wait = ap (Cycle.waits_from p bits 0) sim.requests ∙ waits_are (request_of st) (asked_at d) outstanding 0 p.mems ∙ ap (Derived.waits_from p bits 0) (sym sim.asked);
+          wait =
+              ap (Cycle.waits_from p bits 0) sim.requests ∙ waits_are (request_of st) (asked_at d) outstanding 0 p.mems
+              ∙ ap (Derived.waits_from p bits 0) (sym sim.asked);
         }))
       where
         commits_shown : (m : ℕ)
@@ -481,9 +559,12 @@ module _ (p : Pipe) (flows : Flows p) where
                 → Cycle.commits_shown m (slice_index_or (for_mems (λ j. port_writes (taken_out st (movers (lacts p st d bits ls)) j)) 0 p.mems) m [])
                 ≡ of_mem m (commits_of (rev (dacts p d bits ls)))
             at true e =
-                ap (Cycle.commits_shown m) (at_mem (λ j. port_writes (taken_out st (movers (lacts p st d bits ls)) j)) 0 p.mems m [] (ltb-true _ _ e) ∙ ap (λ j. port_writes (taken_out st (movers (lacts p st d bits ls)) j)) (zero-add m))
+                ap (Cycle.commits_shown m)
+                (at_mem (λ j. port_writes (taken_out st (movers (lacts p st d bits ls)) j)) 0 p.mems m [] (ltb-true _ _ e)
+                ∙ ap (λ j. port_writes (taken_out st (movers (lacts p st d bits ls)) j)) (zero-add m))
                 ∙ sym (commits_are m)
             at false e =
-                ap (Cycle.commits_shown m) (past_mems (λ j. port_writes (taken_out st (movers (lacts p st d bits ls)) j)) 0 p.mems m [] (ltb-false _ _ e) ∙ ap port_writes (sym (never m (ltb-false _ _ e))))
+                ap (Cycle.commits_shown m)
+                (past_mems (λ j. port_writes (taken_out st (movers (lacts p st d bits ls)) j)) 0 p.mems m [] (ltb-false _ _ e)
+                ∙ ap port_writes (sym (never m (ltb-false _ _ e))))
                 ∙ sym (commits_are m)
-

@@ -91,7 +91,8 @@ module _ (p : Pipe) (sound : Sound p) (strict : Strict p) (image : Arrays) (sche
 
   -- the derived machine's state after the schedule is one of a run, with its ended threads and its commits
   pub runs_here : Follows.Runs p (course p sound) image (Derived.ended_in (Derived.turns p image (hints_of p (first p image) schedule) schedule))
-      (Derived.all_commits (Derived.turns p image (hints_of p (first p image) schedule) schedule)) (Derived.state_after p (Derived.first p image (hints_of p (first p image) schedule)) schedule)
+      (Derived.all_commits (Derived.turns p image (hints_of p (first p image) schedule) schedule))
+      (Derived.state_after p (Derived.first p image (hints_of p (first p image) schedule)) schedule)
   runs_here = Follows.run_of p (course p sound) image (hints_of p (first p image) schedule) schedule
 
   some_seat : (arrays : Arrays) (args : List ℕ) (strays : List Derived.Thread) (sps : List Spot)
@@ -116,7 +117,8 @@ module _ (p : Pipe) (sound : Sound p) (strict : Strict p) (image : Arrays) (sche
   past m = of_mem m (Derived.all_commits (Derived.turns p image (hints_of p (first p image) schedule) schedule))
 
   rows_now : RowsAt image (λ m. of_mem m (Derived.all_commits (Derived.turns p image (hints_of p (first p image) schedule) schedule))) (Derived.state_after p (Derived.first p image (hints_of p (first p image) schedule)) schedule).arrays
-  rows_now m = ap (λ l. row l m) runs_here.arrays ∙ row_committed m (Derived.all_commits (Derived.turns p image (hints_of p (first p image) schedule) schedule)) image
+  rows_now m =
+      ap (λ l. row l m) runs_here.arrays ∙ row_committed m (Derived.all_commits (Derived.turns p image (hints_of p (first p image) schedule) schedule)) image
 
   all_good : AllGood p sound image (state_after p (first p image) schedule)
       (Derived.state_after p (Derived.first p image (hints_of p (first p image) schedule)) schedule) sim_here.arrays
@@ -242,7 +244,8 @@ module _ (p : Pipe) (sound : Sound p) (strict : Strict p) (image : Arrays) (sche
       (seqwrites p image m (Cycle.ended_in (Cycle.turns p image schedule))
       ++ released_by m p (followers p image (Cycle.ended_in (Cycle.turns p image schedule)) (state_after p (first p image) schedule))) a)
       ≡ true
-  word_right m plain a = eq-eqb _ _ (ap (λ (l : Array). l a) (sim_here.arrays m plain) ∙ ap (λ (l : Array). l a) (rows_now m ∙ ap (wrote (row image m)) (sym (commits_are m))))
+  word_right m plain a =
+      eq-eqb _ _ (ap (λ (l : Array). l a) (sim_here.arrays m plain) ∙ ap (λ (l : Array). l a) (rows_now m ∙ ap (wrote (row image m)) (sym (commits_are m))))
 
   none_astray : (m : ℕ)
       → list_all (λ l. not (has_released m p l)) (strays p image (Cycle.ended_in (Cycle.turns p image schedule)) (state_after p (first p image) schedule))
@@ -256,16 +259,24 @@ module _ (p : Pipe) (sound : Sound p) (strict : Strict p) (image : Arrays) (sche
   below_all test (suc n) f = ap₂ (λ a b. a && b) (below_all test n f) (f n)
 
   arrays_from : (m : ℕ) (xs : List Mem)
-      → ((k : ℕ) → k < length xs → mem_at p (m + k) ≡ slice_index_or xs k plain_mem) → arrays_right p image (Cycle.ended_in (Cycle.turns p image schedule)) (state_after p (first p image) schedule) m xs ≡ true
+      → ((k : ℕ) → k < length xs → mem_at p (m + k) ≡ slice_index_or xs k plain_mem)
+      → arrays_right p image (Cycle.ended_in (Cycle.turns p image schedule)) (state_after p (first p image) schedule) m xs ≡ true
   arrays_from m [] f = refl
-  arrays_from m (x ∷ xs) f = ap₂ (λ a b. a && b) (at (is_advisory x.kind) refl) (arrays_from (suc m) xs (λ k i. ap (mem_at p) (suc-add m k ∙ sym (add-suc m k)) ∙ f (suc k) (omega arith)))
+  arrays_from m (x ∷ xs) f =
+      ap₂ (λ a b. a && b) (at (is_advisory x.kind) refl)
+      (arrays_from (suc m) xs (λ k i. ap (mem_at p) (suc-add m k ∙ sym (add-suc m k)) ∙ f (suc k) (omega arith)))
     where
       same : mem_at p m ≡ x
       same = ap (mem_at p) (sym (add-zero m)) ∙ f 0 (omega arith)
 
-      at : (b : Bool) → is_advisory x.kind ≡ b → (is_advisory x.kind || Sound.array_right p image (Cycle.ended_in (Cycle.turns p image schedule)) (state_after p (first p image) schedule) m x.depth) ≡ true
+      at : (b : Bool)
+          → is_advisory x.kind ≡ b
+          → (is_advisory x.kind || Sound.array_right p image (Cycle.ended_in (Cycle.turns p image schedule)) (state_after p (first p image) schedule) m x.depth)
+          ≡ true
       at true e = ap (λ b. b || Sound.array_right p image (Cycle.ended_in (Cycle.turns p image schedule)) (state_after p (first p image) schedule) m x.depth) e
-      at false e = ap (λ b. b || Sound.array_right p image (Cycle.ended_in (Cycle.turns p image schedule)) (state_after p (first p image) schedule) m x.depth) e ∙ ap₂ (λ a b. a && b) (below_all _ x.depth (word_right m (ap (λ (y : Mem). is_advisory y.kind) same ∙ e))) (none_astray m)
+      at false e =
+          ap (λ b. b || Sound.array_right p image (Cycle.ended_in (Cycle.turns p image schedule)) (state_after p (first p image) schedule) m x.depth) e
+          ∙ ap₂ (λ a b. a && b) (below_all _ x.depth (word_right m (ap (λ (y : Mem). is_advisory y.kind) same ∙ e))) (none_astray m)
 
   -- in every state that a run comes to, the arrays are the image with what was released
   pub arrays : IsTrue (arrays_right p image (Cycle.ended_in (Cycle.turns p image schedule)) (state_after p (first p image) schedule) 0 p.mems)

@@ -29,7 +29,8 @@ asks_op : (o : Around) (op : Op) (w : Work) → awaited_of (work_after o op w).a
 asks_op o (DelayedRead x m a) w = awaited_snoc w.asks _
 asks_op o (Verify last args) w = at (same_args (values_of args w.env) w.guess)
   where
-    at : (b : Bool) → awaited_of (cond b w (record w { child = Some (values_of args w.env); guess = values_of args w.env; fails = true })).asks ≡ awaited_of w.asks ++ []
+    at : (b : Bool)
+        → awaited_of (cond b w (record w { child = Some (values_of args w.env); guess = values_of args w.env; fails = true })).asks ≡ awaited_of w.asks ++ []
     at true = sym (append-nil _)
     at false = sym (append-nil _)
 asks_op o (Bind x e) w = sym (append-nil _)
@@ -155,4 +156,3 @@ count_fetch (x ∷ xs) = length-append (fetch_of x.op) (fetches_of xs) ∙ ap₂
         → cond b 1 0 + count (λ (x : Stmt). is_fetch x.op) xs ≡ cond b (1 + count (λ (x : Stmt). is_fetch x.op) xs) (count (λ (x : Stmt). is_fetch x.op) xs)
     at true = refl
     at false = omega arith
-

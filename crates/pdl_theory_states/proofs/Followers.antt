@@ -13,7 +13,7 @@ use Rattle.pdl_semantics.specs.Promises.{wrote, row}
 use Rattle.pdl_semantics.specs.Sound.{Follower, followers_of, guessed_wrong, has_done, is_spec_call, is_write, once_answered, awaited_words, request_address, has_asked, entries_by, writes_done, right_entries, turn_writes, turn_so_far}
 use Rattle.pdl_semantics.specs.Sound
 use Rattle.pdl_semantics.specs.Promises.{DifferInAdvice}
-use Rattle.pdl_theory_derived.specs.Derived.{ asked_at}
+use Rattle.pdl_theory_derived.specs.Derived.{asked_at}
 use Rattle.pdl_theory_derived.specs.Derived
 use Rattle.pdl_theory_derived.specs.Alone.{World, so_far}
 use Rattle.pdl_theory_facts.specs.Scans.{is_plain}
@@ -35,7 +35,7 @@ use Rattle.pdl_theory_refinement.proofs.Spots.{Spot, with_guess, seats, Sure, He
 use Rattle.pdl_semantics.proofs.Readiness.{exact_none}
 use Rattle.pdl_theory_simulation.proofs.AcceptedFacts.{sound_flows}
 use Rattle.pdl_theory_derived.proofs.Entries.{entries_of}
-use Rattle.pdl_theory_derived.proofs.Lists.{ pend}
+use Rattle.pdl_theory_derived.proofs.Lists.{pend}
 use Rattle.pdl_theory_turns.proofs.OwnEntries.{pend_own}
 use Rattle.pdl_theory_simulation.proofs.Stretches.{on_way, early, Fetched, AllFetched}
 use Rattle.pdl_theory_simulation.proofs.StretchSteps.{awaits_var}
@@ -275,7 +275,9 @@ module _ (p : Pipe) (sound : Sound p) (image : Arrays) (st : State) (d : Derived
       none true i = tt
       none false i = subst (λ ks. AllGood (followers_of p (thread p arrays args).arrays (thread p arrays args).next (tells ks))) (sym i) tt
 
-      at : (c : Option (List ℕ)) → (so_far p (with_guess arrays sp.hint) args sp.stage).child ≡ c → Last p (course p sound).stray (course p sound).made sp.stage c strays
+      at : (c : Option (List ℕ))
+          → (so_far p (with_guess arrays sp.hint) args sp.stage).child ≡ c
+          → Last p (course p sound).stray (course p sound).made sp.stage c strays
           → AllGood
           (if guessed_wrong p (thread p arrays args).next (told o) then []
           else followers_of p (thread p arrays args).arrays (thread p arrays args).next (tells os))
@@ -355,7 +357,8 @@ module _ (p : Pipe) (sound : Sound p) (image : Arrays) (st : State) (d : Derived
       ∙ ap (λ (t : Derived.Thread). with_kept (awaited_words st t.awaits) t.env) g.thread
       ∙ words_are st f.arrays g.sp.asks g.sp.env
       (answers_right g.w g.v f.arrays g.rows_now g.plain g.sp.stage (λ m c. g.here.words m (inl c)) g.l.number g.sp.asks
-      (subst (λ (t : Derived.Thread). AllFetched p t.stage t.awaits) g.thread g.seated.keeps_on.fetched) (subst (λ rs. AllOwned st g.l.number rs) (ap (λ (t : Derived.Thread). t.awaits) g.thread) g.seated.owned) g.here.waits.out g.here.waits.sure)
+      (subst (λ (t : Derived.Thread). AllFetched p t.stage t.awaits) g.thread g.seated.keeps_on.fetched)
+      (subst (λ rs. AllOwned st g.l.number rs) (ap (λ (t : Derived.Thread). t.awaits) g.thread) g.seated.owned) g.here.waits.out g.here.waits.sure)
       ∙ g.here.waits.gets ∙ turn_env p sound (with_guess f.arrays g.sp.hint) f.args g.sp.stage
       ∙ ap (λ s. (Sequential.run_all (Sound.stages_before s p.stmts) (TurnPath.start_run p f.arrays f.args)).env)
       (ap (λ (t : Derived.Thread). t.stage) (sym g.thread) ∙ ap (λ (x : Sound.Live). x.stage) (sym g.is))
@@ -379,14 +382,17 @@ module _ (p : Pipe) (sound : Sound p) (image : Arrays) (st : State) (d : Derived
   pub right_good : (m : ℕ) (f : Follower) → Good f → right_entries p st m f ≡ true
   right_good m f g =
       ap (λ (x : Sound.Live). right_list (writes_done m p x) (turn_writes m p f) (entries_by x.thread.number (lock_of st m))) g.is
-      ∙ ap₂ (λ k es. right_list k (turn_writes m p f) es) (sym (count_is (λ x. is_write m x.op) (on_way p g.l.env g.l.thread.stage))) (g.mine.listed m ∙ pend_own m g.l.number g.l.thread.entries)
+      ∙ ap₂ (λ k es. right_list k (turn_writes m p f) es) (sym (count_is (λ x. is_write m x.op) (on_way p g.l.env g.l.thread.stage)))
+      (g.mine.listed m ∙ pend_own m g.l.number g.l.thread.entries)
       ∙ at (nat_lt (reserve_stage p m) g.sp.stage) refl
     where
       here : g.l.thread.stage ≡ g.sp.stage
       here = ap (λ (t : Derived.Thread). t.stage) g.thread
 
       way : on_way p g.l.env g.l.thread.stage ≡ on_way p (thread (at_once p) f.arrays f.args).env g.sp.stage
-      way = way_of p sound st (with_guess f.arrays g.sp.hint) f.args g.l g.sp g.thread g.seated g.here.waits.gets ∙ ap (on_way p (thread (at_once p) f.arrays f.args).env) here
+      way =
+          way_of p sound st (with_guess f.arrays g.sp.hint) f.args g.l g.sp g.thread g.seated g.here.waits.gets
+          ∙ ap (on_way p (thread (at_once p) f.arrays f.args).env) here
 
       at : (b : Bool) → nat_lt (reserve_stage p m) g.sp.stage ≡ b
           → right_list (count (λ x. is_write m x.op) (on_way p g.l.env g.l.thread.stage)) (turn_writes m p f) (pend m g.l.number
@@ -396,7 +402,9 @@ module _ (p : Pipe) (sound : Sound p) (image : Arrays) (st : State) (d : Derived
           (λ xs (t : Derived.Thread). right_list (count (λ x. is_write m x.op) xs) (turn_writes m p f) (pend m g.l.number
           (entries_of m t.entries))) way g.thread
           ∙ turn_entries p sound (with_guess f.arrays g.sp.hint) f.args g.sp.stage m g.l.number (ltb-true _ _ e)
-      at false e = ap (λ es. right_list (count (λ x. is_write m x.op) (on_way p g.l.env g.l.thread.stage)) (turn_writes m p f) (pend m g.l.number es)) (early p (sound_flows p sound) g.l.env g.l.thread g.seated.keeps_on m (subst (λ s. s ≤ reserve_stage p m) (sym here) (ltb-false _ _ e)))
+      at false e =
+          ap (λ es. right_list (count (λ x. is_write m x.op) (on_way p g.l.env g.l.thread.stage)) (turn_writes m p f) (pend m g.l.number es))
+          (early p (sound_flows p sound) g.l.env g.l.thread g.seated.keeps_on m (subst (λ s. s ≤ reserve_stage p m) (sym here) (ltb-false _ _ e)))
 
   -- a test that each of them passes
   pub good_all : (test : Follower → Bool) → ((f : Follower) → Good f → test f ≡ true) → (fs : List Follower) → AllGood fs → list_all test fs ≡ true

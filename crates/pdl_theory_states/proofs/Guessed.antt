@@ -27,7 +27,9 @@ GuessDone advice env guess _ = Unit {0}
 
 -- VALUES THAT AGREE IN A VARIABLE
 
-set_same : (env env' : List ℕ) (k g w : ℕ) → length env ≡ length env' → slice_index env g ≡ slice_index env' g → slice_index (slice_set env k w) g ≡ slice_index (slice_set env' k w) g
+set_same : (env env' : List ℕ) (k g w : ℕ)
+    → length env ≡ length env' → slice_index env g ≡ slice_index env' g
+    → slice_index (slice_set env k w) g ≡ slice_index (slice_set env' k w) g
 set_same [] [] k g w e h = refl
 set_same [] (y ∷ ys) k g w e h = absurd (cc e)
 set_same (x ∷ xs) [] k g w e h = absurd (cc e)
@@ -39,16 +41,21 @@ set_same (x ∷ xs) (y ∷ ys) (suc k) (suc g) w e h = set_same xs ys k g w (res
     rest : suc (length xs) ≡ suc (length ys) → length xs ≡ length ys
     rest i = cc
 
-agree_kept : (ks : List Kept) (env env' : List ℕ) (g : ℕ) → length env ≡ length env' → slice_index env g ≡ slice_index env' g → slice_index (with_kept ks env) g ≡ slice_index (with_kept ks env') g
+agree_kept : (ks : List Kept) (env env' : List ℕ) (g : ℕ)
+    → length env ≡ length env' → slice_index env g ≡ slice_index env' g
+    → slice_index (with_kept ks env) g ≡ slice_index (with_kept ks env') g
 agree_kept [] env env' g e h = h
 agree_kept (k ∷ ks) env env' g e h =
-    agree_kept ks (slice_set env k.var k.word) (slice_set env' k.var k.word) g (length-set env k.var k.word ∙ e ∙ sym (length-set env' k.var k.word)) (set_same env env' k.var g k.word e h)
+    agree_kept ks (slice_set env k.var k.word) (slice_set env' k.var k.word) g (length-set env k.var k.word ∙ e ∙ sym (length-set env' k.var k.word))
+    (set_same env env' k.var g k.word e h)
 
 other_var : (x g : ℕ) (args : List Expr) → uses_any x args ≡ false → uses_any g args ≡ true → g ≢ x
 other_var x g args h k e = untrue (sym h ∙ ap (λ n. uses_any n args) (sym e) ∙ k)
 
 -- another value of a variable that it doesn't use
-set_done : (x v : ℕ) (advice : List Kept) (env guess : List ℕ) (args : List Expr) → uses_any x args ≡ false → guess ≡ values_of args (with_kept advice env) → guess ≡ values_of args (with_kept advice (slice_set env x v))
+set_done : (x v : ℕ) (advice : List Kept) (env guess : List ℕ) (args : List Expr)
+    → uses_any x args ≡ false → guess ≡ values_of args (with_kept advice env)
+    → guess ≡ values_of args (with_kept advice (slice_set env x v))
 set_done x v advice env guess args u h =
     h ∙ values_agree args (with_kept advice env) (with_kept advice (slice_set env x v))
     (λ g k. agree_kept advice env (slice_set env x v) g (sym (length-set env x v)) (sym (get_or-set_other env x g v 0 (other_var x g args u k))))
@@ -57,11 +64,15 @@ set_done x v advice env guess args u h =
 more_done : (x v : ℕ) (advice : List Kept) (env guess : List ℕ) (args : List Expr) → uses_any x args ≡ false → guess ≡ values_of args (with_kept advice env)
     → guess ≡ values_of args (with_kept (advice ++ record { var = x; word = v } ∷ []) env)
 more_done x v advice env guess args u h =
-    h ∙ values_agree args (with_kept advice env) (slice_set (with_kept advice env) x v) (λ g k. sym (get_or-set_other (with_kept advice env) x g v 0 (other_var x g args u k)))
+    h
+    ∙ values_agree args (with_kept advice env) (slice_set (with_kept advice env) x v)
+    (λ g k. sym (get_or-set_other (with_kept advice env) x g v 0 (other_var x g args u k)))
     ∙ ap (values_of args) (sym (kept_append advice (record { var = x; word = v } ∷ []) env))
 
 -- kept answers are for variables that no guess uses
-pub kept_guesses : (advice : List Kept) (guess : List ℕ) (past : List Op) (kept : List Kept) (env : List ℕ) → AllKept (λ k. AllOps (λ op. touches k.var op ≡ false) past) kept → AllOps (GuessDone advice env guess) past → AllOps (GuessDone advice (with_kept kept env) guess) past
+pub kept_guesses : (advice : List Kept) (guess : List ℕ) (past : List Op) (kept : List Kept) (env : List ℕ)
+    → AllKept (λ k. AllOps (λ op. touches k.var op ≡ false) past) kept → AllOps (GuessDone advice env guess) past
+    → AllOps (GuessDone advice (with_kept kept env) guess) past
 kept_guesses advice guess past [] env u h = h
 kept_guesses advice guess past (k ∷ kept) env u h =
     kept_guesses advice guess past kept (slice_set env k.var k.word) u.1 (ops_both (λ op t d. one op t d) past u.0 h)
@@ -77,7 +88,8 @@ abbrev kept_by : Op → Op → Bool
 kept_by (SpecCall args) op = not (binds_used args op)
 kept_by _ op = true
 
-done_op : (read : ℕ → ℕ → ℕ) (op : Op) (args : List Expr) (hint : List ℕ) (d : Deeds) → binds_used args op ≡ false → hint ≡ values_of args (with_kept d.advice d.env)
+done_op : (read : ℕ → ℕ → ℕ) (op : Op) (args : List Expr) (hint : List ℕ) (d : Deeds)
+    → binds_used args op ≡ false → hint ≡ values_of args (with_kept d.advice d.env)
     → hint ≡ values_of args (with_kept (Machine.deeds_after read op d).advice (Machine.deeds_after read op d).env)
 done_op read (Bind x e) args hint d u h = set_done x _ d.advice d.env hint args u h
 done_op read (CombRead x m a) args hint d u h = set_done x _ d.advice d.env hint args u h
@@ -85,7 +97,11 @@ done_op read (AdviceBind x e) args hint d u h = more_done x _ d.advice d.env hin
 done_op read (AdviceRead x m a) args hint d u h = more_done x _ d.advice d.env hint args u h
 done_op read (Verify last es) args hint d u h = at (same_args (values_of es d.env) d.guess)
   where
-    at : (b : Bool) → hint ≡ values_of args (with_kept (cond b d (record d { child = Some (values_of es d.env); guess = values_of es d.env; fails = true })).advice (cond b d (record d { child = Some (values_of es d.env); guess = values_of es d.env; fails = true })).env)
+    at : (b : Bool)
+        → hint
+        ≡ values_of args
+        (with_kept (cond b d (record d { child = Some (values_of es d.env); guess = values_of es d.env; fails = true })).advice
+        (cond b d (record d { child = Some (values_of es d.env); guess = values_of es d.env; fails = true })).env)
     at true = h
     at false = h
 done_op read _ args hint d u h = h
@@ -95,7 +111,8 @@ one_kept : (read : ℕ → ℕ → ℕ) (op o : Op) (hint : List ℕ) (d : Deeds
 one_kept read op (SpecCall args) hint d u h = done_op read op args hint d (not-true _ u) h
 one_kept read op _ hint d u h = tt
 
-own_guess : (o : Around) (read : ℕ → ℕ → ℕ) (block : Blocked → Bool) (free : Ask → Bool) (op : Op) (d : Deeds) → Guesses o read block free op d → GuessDone (Machine.deeds_after read op d).advice (Machine.deeds_after read op d).env o.guess op
+own_guess : (o : Around) (read : ℕ → ℕ → ℕ) (block : Blocked → Bool) (free : Ask → Bool) (op : Op) (d : Deeds)
+    → Guesses o read block free op d → GuessDone (Machine.deeds_after read op d).advice (Machine.deeds_after read op d).env o.guess op
 own_guess o read block free (SpecCall args) d g = sym g
 own_guess o read block free _ d g = tt
 
@@ -110,13 +127,20 @@ first_kept _ y ys h = (refl, refl)
 
 module _ (o : Around) (read : ℕ → ℕ → ℕ) (block : Blocked → Bool) (free : Ask → Bool) where
   -- what a guess gave is still what its arguments say after more statements
-  pub guesses_all : (path : List ℕ) (xs : List Stmt) (past : List Op) (d : Deeds) (w : Work) → Loosely o read block free d w → AllFit o read block free xs → Fixed path o xs w → AllGuesses o read block free xs d
+  pub guesses_all : (path : List ℕ) (xs : List Stmt) (past : List Op) (d : Deeds) (w : Work)
+      → Loosely o read block free d w → AllFit o read block free xs → Fixed path o xs w → AllGuesses o read block free xs d
       → Free past (onpath path xs) → all_keep_guess (onpath path xs) ≡ true → AllOps (GuessDone d.advice d.env o.guess) past
       → AllOps (GuessDone (deeds_after_all read xs d).advice (deeds_after_all read xs d).env o.guess) (onto (onpath path xs) past)
   guesses_all path [] past d w l f q n r g h = h
   guesses_all path (x ∷ xs) past d w l f q n r g h =
-      subst (λ b. ((b ≡ true → Guesses o read block free x.op d) × AllGuesses o read block free xs (cond b (Machine.deeds_after read x.op d) d)) → AllOps (GuessDone (deeds_after_all read xs (cond b (Machine.deeds_after read x.op d) d)).advice (deeds_after_all read xs (cond b (Machine.deeds_after read x.op d) d)).env o.guess) (onto (onpath path (x ∷ xs)) past)) (ap (λ (v : Work). all_hold x.guards v.env) l.is)
-      (at (all_hold x.guards w.env) (all_hold x.guards path) q.0 r g q.1 (λ past' d' w' l' q' n' r' g' h'. guesses_all path xs past' d' w' l' f.1 q' n' r' g' h')) n
+      subst
+      (λ b. ((b ≡ true → Guesses o read block free x.op d) × AllGuesses o read block free xs (cond b (Machine.deeds_after read x.op d) d))
+      → AllOps
+      (GuessDone (deeds_after_all read xs (cond b (Machine.deeds_after read x.op d) d)).advice
+      (deeds_after_all read xs (cond b (Machine.deeds_after read x.op d) d)).env o.guess) (onto (onpath path (x ∷ xs)) past)) (ap (λ
+      (v : Work). all_hold x.guards v.env) l.is)
+      (at (all_hold x.guards w.env) (all_hold x.guards path) q.0 r g q.1
+      (λ past' d' w' l' q' n' r' g' h'. guesses_all path xs past' d' w' l' f.1 q' n' r' g' h')) n
     where
       parts : (ps : List Op) → Free ps (record x { guards = [] } ∷ onpath path xs) → AllOps (λ o. kept_by o x.op ≡ true) ps × Free ps (onpath path xs)
       parts [] r = (tt, tt)
@@ -127,9 +151,13 @@ module _ (o : Around) (read : ℕ → ℕ → ℕ) (block : Blocked → Bool) (f
       each [] a h = tt
       each (p ∷ ps) a h = (one_kept read x.op p o.guess d a.0 h.0, each ps a.1 h.1)
 
-      at : (b e : Bool) → b ≡ e → Free past (cond e (record x { guards = [] } ∷ onpath path xs) (onpath path xs)) → all_keep_guess (cond e (record x { guards = [] } ∷ onpath path xs) (onpath path xs)) ≡ true
+      at : (b e : Bool)
+          → b ≡ e → Free past (cond e (record x { guards = [] } ∷ onpath path xs) (onpath path xs))
+          → all_keep_guess (cond e (record x { guards = [] } ∷ onpath path xs) (onpath path xs)) ≡ true
           → Fixed path o xs (cond b (work_after o x.op w) w)
-          → ((past' : List Op) (d' : Deeds) (w' : Work) → Loosely o read block free d' w' → Fixed path o xs w' → AllGuesses o read block free xs d' → Free past' (onpath path xs) → all_keep_guess (onpath path xs) ≡ true → AllOps (GuessDone d'.advice d'.env o.guess) past'
+          →
+          ((past' : List Op) (d' : Deeds) (w' : Work) → Loosely o read block free d' w' → Fixed path o xs w' → AllGuesses o read block free xs d'
+          → Free past' (onpath path xs) → all_keep_guess (onpath path xs) ≡ true → AllOps (GuessDone d'.advice d'.env o.guess) past'
           → AllOps (GuessDone (deeds_after_all read xs d').advice (deeds_after_all read xs d').env o.guess) (onto (onpath path xs) past'))
           → ((b ≡ true → Guesses o read block free x.op d) × AllGuesses o read block free xs (cond b (Machine.deeds_after read x.op d) d))
           → AllOps (GuessDone (deeds_after_all read xs (cond b (Machine.deeds_after read x.op d) d)).advice (deeds_after_all read xs (cond b (Machine.deeds_after read x.op d) d)).env o.guess) (onto (cond e (record x { guards = [] } ∷ onpath path xs) (onpath path xs)) past)
@@ -156,7 +184,9 @@ keep_front (x ∷ xs) ys h = ap₂ (λ a b. a && b) (first x.op (and_left _ _ h)
     first _ k = refl
 
 -- what keeps the guesses of a list keeps those of its second part, and of what came before
-pub keep_back : (xs ys : List Stmt) (past : List Op) → all_keep_guess (xs ++ ys) ≡ true → AllOps (λ o. keeps_guess o ys ≡ true) past → AllOps (λ o. keeps_guess o ys ≡ true) (onto xs past) × (all_keep_guess ys ≡ true)
+pub keep_back : (xs ys : List Stmt) (past : List Op)
+    → all_keep_guess (xs ++ ys) ≡ true → AllOps (λ o. keeps_guess o ys ≡ true) past
+    → AllOps (λ o. keeps_guess o ys ≡ true) (onto xs past) × (all_keep_guess ys ≡ true)
 keep_back [] ys past h r = (r, h)
 keep_back (x ∷ xs) ys past h r = keep_back xs ys (x.op ∷ past) (and_right (keeps_guess x.op (xs ++ ys)) _ h) (last x.op (and_left _ _ h), r)
   where

@@ -18,9 +18,9 @@ use Rattle.pdl_theory_simulation.proofs.ThreadFacts.{Pair, pairs, EachPair, pair
 use Rattle.pdl_theory_simulation.proofs.Orders.{acts_of}
 use Rattle.pdl_theory_simulation.proofs.Choices.{Seated, AllKnown}
 use Rattle.pdl_theory_simulation.proofs.ActOrder.{Swap, Swaps, same_movers}
-use Rattle.pdl_theory_states.specs.Use.{ reserved_count}
+use Rattle.pdl_theory_states.specs.Use.{reserved_count}
 use Rattle.pdl_theory_states.proofs.PendingLists.{Within, within_append, within_of, of_append, of_pend, of_new, none_older, count_append}
-use Rattle.pdl_theory_states.proofs.OwnWrites.{ none_pending}
+use Rattle.pdl_theory_states.proofs.OwnWrites.{none_pending}
 use Rattle.pdl_semantics.specs.PendingLists.{count_older}
 use Rattle.pdl_word.specs.Each.{Each}
 
@@ -29,7 +29,9 @@ none_new : (m n : ℕ) (rs : List Reserved) → new_entries m n rs ≡ [] → re
 none_new m n [] h = refl
 none_new m n (r ∷ rs) h = at (r.mem == m) h (none_new m n rs)
   where
-    at : (b : Bool) → cond b (record { thread = n; var = r.var; address = r.address; value = None } ∷ []) [] ++ new_entries m n rs ≡ [] → (new_entries m n rs ≡ [] → reserves_of m rs ≡ 0) → cond b (suc (reserves_of m rs)) (reserves_of m rs) ≡ 0
+    at : (b : Bool)
+        → cond b (record { thread = n; var = r.var; address = r.address; value = None } ∷ []) [] ++ new_entries m n rs ≡ []
+        → (new_entries m n rs ≡ [] → reserves_of m rs ≡ 0) → cond b (suc (reserves_of m rs)) (reserves_of m rs) ≡ 0
     at true k f = absurd (cc k)
     at false k f = f k
 
@@ -157,7 +159,8 @@ module _ (p : Pipe) (flows : Flows p) (st : State) (d : Derived.State) (bits : L
   none_reserved : (ms : List Act) → Reserveless m ms → reserved_count m ms ≡ 0
   none_reserved [] h = refl
   none_reserved (a ∷ ms) h = let i = none_reserved ms h.1 in
-      let j : cond {A = ℕ} (reserves_of m a.does.reserves == 0) 0 1 ≡ 0 = ap (λ b. cond {A = ℕ} b 0 1) (eq-eqb _ _ (none_new m a.thread.number a.does.reserves h.0)) in
+      let j : cond {A = ℕ} (reserves_of m a.does.reserves == 0) 0 1
+      ≡ 0 = ap (λ b. cond {A = ℕ} b 0 1) (eq-eqb _ _ (none_new m a.thread.number a.does.reserves h.0)) in
       omega (arith, i, j)
 
   bit : (b : Bool) → cond {A = ℕ} b 0 1 ≤ 1
@@ -169,7 +172,6 @@ module _ (p : Pipe) (flows : Flows p) (st : State) (d : Derived.State) (bits : L
   one_reserved [] k o = omega arith
   one_reserved (l ∷ ls) k o = at (did p d bits ls l).moves (l.thread.stage == reserve_stage p m) refl (one_reserved ls k.1 o.1)
     where
-
       at : (b c : Bool) → (l.thread.stage == reserve_stage p m) ≡ c
           → reserved_count m (movers (lacts p st d bits ls)) ≤ 1
           → reserved_count m (cond b (lact p st d bits ls l ∷ movers (lacts p st d bits ls)) (movers (lacts p st d bits ls))) ≤ 1
@@ -179,7 +181,8 @@ module _ (p : Pipe) (flows : Flows p) (st : State) (d : Derived.State) (bits : L
           let j = bit (reserves_of m (deeds_of p st bits l).reserves == 0) in
           omega arith
       at true false e h =
-          let i : cond {A = ℕ} (reserves_of m (deeds_of p st bits l).reserves == 0) 0 1 ≡ 0 = ap (λ b. cond {A = ℕ} b 0 1) (eq-eqb _ _ (none_new m l.number (deeds_of p st bits l).reserves (quiet_new l (eqb-false _ _ e)))) in
+          let i : cond {A = ℕ} (reserves_of m (deeds_of p st bits l).reserves == 0) 0 1
+          ≡ 0 = ap (λ b. cond {A = ℕ} b 0 1) (eq-eqb _ _ (none_new m l.number (deeds_of p st bits l).reserves (quiet_new l (eqb-false _ _ e)))) in
           omega (arith, h, i)
 
   -- nothing older is appended
@@ -236,7 +239,8 @@ module _ (p : Pipe) (flows : Flows p) (st : State) (d : Derived.State) (bits : L
   same_reserved =
       same_movers p flows st d bits arrays ℕ (reserved_count m) (λ a z. z + cond (reserves_of m a.does.reserves == 0) 0 1)
       (λ a rest. refl)
-      (λ x y s z. flip z (cond (reserves_of m (deeds_of p st bits x.live).reserves == 0) 0 1) (cond (reserves_of m (deeds_of p st bits y.live).reserves == 0) 0 1))
+      (λ x y s z. flip z (cond (reserves_of m (deeds_of p st bits x.live).reserves == 0) 0 1)
+      (cond (reserves_of m (deeds_of p st bits y.live).reserves == 0) 0 1))
     where
       flip : (z a b : ℕ) → (z + a) + b ≡ (z + b) + a
       flip z a b = omega arith

@@ -13,7 +13,7 @@ use Rattle.pdl_theory_simulation.proofs.Stretches.{Behind, left_trunk}
 use Rattle.pdl_theory_simulation.proofs.Seats.{Live, Falls, Ordered, pends, lact, lacts, did, deeds_of}
 use Rattle.pdl_theory_simulation.proofs.ThreadFacts.{Pair, pairs, EachPair, pair_map, pairs_each}
 use Rattle.pdl_theory_simulation.proofs.Choices.{Seated, AllKnown}
-use Rattle.pdl_theory_simulation.proofs.LockLists.{ release_here, two_is, three_is}
+use Rattle.pdl_theory_simulation.proofs.LockLists.{release_here, two_is, three_is}
 use Rattle.pdl_semantics.proofs.Facts.{put_all_length}
 use Rattle.pdl_theory_states.proofs.PendingLists.{Within, count_filled}
 use Rattle.pdl_theory_states.proofs.LockCycle.{within_new, appended_more}
@@ -70,7 +70,9 @@ count_dropped zero t xs h = omega arith
 count_dropped (suc k) t [] h = absurd h
 count_dropped (suc k) t (x ∷ xs) h =
     let i = count_dropped k t xs h.1 in
-    let j : cond (nat_lt x.thread t) (suc (count_older t xs)) (count_older t xs) ≡ suc (count_older t xs) = ap (λ b. cond b (suc (count_older t xs)) (count_older t xs)) (lt-ltb x.thread t h.0) in omega arith
+    let j : cond (nat_lt x.thread t) (suc (count_older t xs)) (count_older t xs)
+    ≡ suc (count_older t xs) = ap (λ b. cond b (suc (count_older t xs)) (count_older t xs)) (lt-ltb x.thread t h.0) in
+    omega arith
 
 -- where the first k are older than a thread, its place shifts by k as they are taken out, after all writes
 pub count_released : (k t m : ℕ) (ms : List Act) (xs : List Pending) → LowFirst k t xs → count_older t (drop k (with_all_writes m ms xs)) + k ≡ count_older t xs
@@ -87,7 +89,8 @@ module _ (p : Pipe) (flows : Flows p) (st : State) (d : Derived.State) (bits : L
   pub enough : (n : ℕ) (ls : List Live) → Each (Seated p st) ls → AllKnown p flows st d bits arrays ls
       → Ordered p ls → Falls n ls → gone ls ≤ length (new ls)
   enough n ls s k o f =
-      subst (λ j. gone ls ≤ j) (ap length (sym (two_is p flows st d bits arrays m n ls s o f)) ∙ filled_length m (movers (lacts p st d bits ls)) (new ls)) (three_is p flows st d bits arrays m ls k o).enough
+      subst (λ j. gone ls ≤ j) (ap length (sym (two_is p flows st d bits arrays m n ls s o f)) ∙ filled_length m (movers (lacts p st d bits ls)) (new ls))
+      (three_is p flows st d bits arrays m ls k o).enough
 
   -- a thread is not past the stage of m's releases, and doesn't move out of it in this cycle
   abbrev pub Stays : Pair → Type 0
@@ -95,7 +98,9 @@ module _ (p : Pipe) (flows : Flows p) (st : State) (d : Derived.State) (bits : L
 
   -- what is released is older than each thread that stays up to the releases
   pub older_released : (n : ℕ) (ls : List Live) → Each (Seated p st) ls → AllKnown p flows st d bits arrays ls
-      → Ordered p ls → Falls n ls → EachPair (λ x. Stays x → LowFirst (all_releases m (movers (lacts p st d bits ls))) x.live.number (with_reserves m (movers (lacts p st d bits ls)) (pends m ls)))
+      → Ordered p ls → Falls n ls
+      → EachPair
+      (λ x. Stays x → LowFirst (all_releases m (movers (lacts p st d bits ls))) x.live.number (with_reserves m (movers (lacts p st d bits ls)) (pends m ls)))
       (pairs ls)
   older_released n [] s k o f = tt
   older_released n (l ∷ ls) s k o f =
@@ -139,7 +144,10 @@ module _ (p : Pipe) (flows : Flows p) (st : State) (d : Derived.State) (bits : L
           (pends m ls ++ pend m l.number l.thread.entries)
           ≡ new ls ++ tail))
           → EachPair (λ x. Stays x → LowFirst (gone ls) x.live.number (new ls)) (pairs ls)
-          → EachPair (λ x. Stays x → LowFirst (all_releases m (cond b (lact p st d bits ls l ∷ movers (lacts p st d bits ls)) (movers (lacts p st d bits ls)))) x.live.number (with_reserves m (cond b (lact p st d bits ls l ∷ movers (lacts p st d bits ls)) (movers (lacts p st d bits ls)))
+          → EachPair
+          (λ x. Stays x → LowFirst
+          (all_releases m (cond b (lact p st d bits ls l ∷ movers (lacts p st d bits ls)) (movers (lacts p st d bits ls)))) x.live.number
+          (with_reserves m (cond b (lact p st d bits ls l ∷ movers (lacts p st d bits ls)) (movers (lacts p st d bits ls)))
           (pends m ls ++ pend m l.number l.thread.entries)))
           (pairs (l ∷ ls))
       at true i zero j t g = other (gone ls + releases_of m (deeds_of p st bits l).releases) (let h = j in omega arith) _ (t true) g

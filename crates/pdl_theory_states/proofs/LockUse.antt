@@ -1,7 +1,7 @@
 -- How the threads use the locks in each state of a run.
 use Rattle.std.proofs.Common.{◌≡◌, refl, sym, subst, ap, ◌∙◌, ℕ, ◌+◌, ◌≤◌, Bool, List, [], ◌∷◌, length}
 use Rattle.pdl_semantics.specs.Flat.{Arrays, Pipe}
-use Rattle.pdl_semantics.specs.Stages.{ reserve_stage}
+use Rattle.pdl_semantics.specs.Stages.{reserve_stage}
 use Rattle.pdl_semantics.specs.Machine.{State, Pending, lock_of}
 use Rattle.pdl_semantics.specs.Moves.{Act, all_acts, movers}
 use Rattle.pdl_semantics.specs.Cycle.{first, state_after, with_reserves, all_releases}
@@ -92,42 +92,48 @@ module _ (p : Pipe) (sound : Sound p) (st : State) (d : Derived.State) (bits : L
   -- until a thread moves out of the stage of m's releases, its place among the pending writes shifts by one where one is released
   pub shifts : AllActs (ShiftsPlace p st bits m) (all_acts p st bits)
   shifts =
-          all_each (ShiftsPlace p st bits m)
-          (pair_map (λ x h i j. one x.live.number (h (i, j))) (pairs ls)
-          (older_released p (sound_flows p sound) st d bits sim.arrays m st.next ls sim.seated
-          (known p (sound_flows p sound) st d bits ls sim) sim.ordered sim.falls))
+      all_each (ShiftsPlace p st bits m)
+      (pair_map (λ x h i j. one x.live.number (h (i, j))) (pairs ls)
+      (older_released p (sound_flows p sound) st d bits sim.arrays m st.next ls sim.seated
+      (known p (sound_flows p sound) st d bits ls sim) sim.ordered sim.falls))
     where
       one : (t : ℕ) → LowFirst (all_releases m (movers (lacts p st d bits ls))) t (with_reserves m (movers (lacts p st d bits ls)) (pends m ls))
           → count_older t (with_release p st bits m) + all_releases m (moving p st bits) ≡ count_older t (with_new p st bits m)
       one t low =
           count_released (all_releases m (moving p st bits)) t m (moving p st bits) (with_new p st bits m)
-          (subst (λ k. LowFirst k t (with_new p st bits m)) (sym releases_are) (subst (λ xs. LowFirst (all_releases m (movers (lacts p st d bits ls))) t xs) (sym with_new_is) low))
+          (subst (λ k. LowFirst k t (with_new p st bits m)) (sym releases_are)
+          (subst (λ xs. LowFirst (all_releases m (movers (lacts p st d bits ls))) t xs) (sym with_new_is) low))
 
 module _ (p : Pipe) (sound : Sound p) (strict : Strict p) (image : Arrays) (schedule : List (List Bool)) where
   -- in every state that a run comes to, a lock's list is in thread order, with at most one entry of each thread
   pub ordered_here : (m : ℕ) → AreOrdered 0 (lock_of (state_after p (first p image) schedule) m)
   ordered_here m = let r = reached p sound strict image schedule in
-      list_ordered p sound (state_after p (first p image) schedule) (Derived.state_after p (Derived.first p image (hints_of p (first p image) schedule)) schedule) [] r.0 r.1 m
+      list_ordered p sound (state_after p (first p image) schedule)
+      (Derived.state_after p (Derived.first p image (hints_of p (first p image) schedule)) schedule) [] r.0 r.1 m
 
   -- in every state that a run comes to, a thread up to the stage of m's reserves finds all pending writes of m older
   pub older_here : (bits : List Bool) (m : ℕ)
       → AllActs (FindsOlder (state_after p (first p image) schedule) m (reserve_stage p m)) (all_acts p (state_after p (first p image) schedule) bits)
   older_here bits m = let r = reached p sound strict image schedule in
-      finds_older p sound (state_after p (first p image) schedule) (Derived.state_after p (Derived.first p image (hints_of p (first p image) schedule)) schedule) bits r.0 r.1 m
+      finds_older p sound (state_after p (first p image) schedule)
+      (Derived.state_after p (Derived.first p image (hints_of p (first p image) schedule)) schedule) bits r.0 r.1 m
 
   -- in each cycle of a run at most one write of m is reserved, and the list stays in order with it
   pub reserves_here : (bits : List Bool) (m : ℕ) → Reserves p (state_after p (first p image) schedule) bits m
   reserves_here bits m = let r = reached p sound strict image schedule in
-      reserves p sound (state_after p (first p image) schedule) (Derived.state_after p (Derived.first p image (hints_of p (first p image) schedule)) schedule) bits r.0 r.1 m
+      reserves p sound (state_after p (first p image) schedule)
+      (Derived.state_after p (Derived.first p image (hints_of p (first p image) schedule)) schedule) bits r.0 r.1 m
 
   -- in each cycle of a run, from the reserves' stage on, what is reserved leaves a thread's place among the pending writes as it is
   pub places_here : (bits : List Bool) (m : ℕ)
       → AllActs (KeepsPlace p (state_after p (first p image) schedule) bits m) (all_acts p (state_after p (first p image) schedule) bits)
   places_here bits m = let r = reached p sound strict image schedule in
-      places p sound (state_after p (first p image) schedule) (Derived.state_after p (Derived.first p image (hints_of p (first p image) schedule)) schedule) bits r.0 r.1 m
+      places p sound (state_after p (first p image) schedule)
+      (Derived.state_after p (Derived.first p image (hints_of p (first p image) schedule)) schedule) bits r.0 r.1 m
 
   -- in each cycle of a run, until a thread moves out of the releases' stage, its place shifts by one where a write of m is released
   pub shifts_here : (bits : List Bool) (m : ℕ)
       → AllActs (ShiftsPlace p (state_after p (first p image) schedule) bits m) (all_acts p (state_after p (first p image) schedule) bits)
   shifts_here bits m = let r = reached p sound strict image schedule in
-      shifts p sound (state_after p (first p image) schedule) (Derived.state_after p (Derived.first p image (hints_of p (first p image) schedule)) schedule) bits r.0 r.1 m
+      shifts p sound (state_after p (first p image) schedule)
+      (Derived.state_after p (Derived.first p image (hints_of p (first p image) schedule)) schedule) bits r.0 r.1 m

@@ -55,10 +55,13 @@ by_memory n m R f g = at (n == m) refl
     at false e = g (eqb-false n m e)
 
 filled_op : (m : ℕ) (start : List Entry) (o : Around) (op : Op) (w : Work)
-    → not (is_reserve m op) ≡ true → not (is_release m op) ≡ true → Filled start (entries_of m w.entries) → Filled start (entries_of m (work_after o op w).entries)
+    → not (is_reserve m op) ≡ true → not (is_release m op) ≡ true → Filled start (entries_of m w.entries)
+    → Filled start (entries_of m (work_after o op w).entries)
 filled_op m start o (Write n a e) w r q h =
     by_memory n m (Filled start (entries_of m (with_entry_value w.entries n a (value_of e w.env))))
-    (λ i. subst (λ j. Filled start (entries_of m (with_entry_value w.entries j a (value_of e w.env)))) (sym i) (subst (λ l. Filled start l) (sym (entries_of-filled w.entries m a (value_of e w.env))) (filled_more m a (value_of e w.env) start (entries_of m w.entries) h)))
+    (λ i. subst (λ j. Filled start (entries_of m (with_entry_value w.entries j a (value_of e w.env)))) (sym i)
+    (subst (λ l. Filled start l) (sym (entries_of-filled w.entries m a (value_of e w.env)))
+    (filled_more m a (value_of e w.env) start (entries_of m w.entries) h)))
     (λ i. subst (λ l. Filled start l) (sym (filled_other w.entries m n a (value_of e w.env) i)) h)
 filled_op m start o (Release n a) w r q h = subst (λ l. Filled start l) (sym (without_other w.entries m n a (off_case n m q))) h
 filled_op m start o (ReserveWrite n a) w r q h = at (n == m) r
@@ -69,7 +72,8 @@ filled_op m start o (ReserveWrite n a) w r q h = at (n == m) r
     at false i = h
 filled_op m start o (Verify last args) w r q h = at (same_args (values_of args w.env) w.guess)
   where
-    at : (b : Bool) → Filled start (entries_of m (cond b w (record w { child = Some (values_of args w.env); guess = values_of args w.env; fails = true })).entries)
+    at : (b : Bool)
+        → Filled start (entries_of m (cond b w (record w { child = Some (values_of args w.env); guess = values_of args w.env; fails = true })).entries)
     at true = h
     at false = h
 filled_op m start o (Bind x e) w r q h = h
@@ -86,9 +90,11 @@ filled_op m start o (AdviceWrite m' a' e') w r q h = h
 filled_op m start o SpecBarrier w r q h = h
 
 filled_all : (m : ℕ) (start : List Entry) (o : Around) (xs : List Stmt) (w : Work)
-    → none_of (is_reserve m) xs ≡ true → none_of (is_release m) xs ≡ true → Filled start (entries_of m w.entries) → Filled start (entries_of m (do_all o xs w).entries)
+    → none_of (is_reserve m) xs ≡ true → none_of (is_release m) xs ≡ true → Filled start (entries_of m w.entries)
+    → Filled start (entries_of m (do_all o xs w).entries)
 filled_all m start o [] w r q h = h
-filled_all m start o (x ∷ xs) w r q h = filled_all m start o xs (step o x w) (and_right (not (is_reserve m x.op)) _ r) (and_right (not (is_release m x.op)) _ q) (at (all_hold x.guards w.env))
+filled_all m start o (x ∷ xs) w r q h =
+    filled_all m start o xs (step o x w) (and_right (not (is_reserve m x.op)) _ r) (and_right (not (is_release m x.op)) _ q) (at (all_hold x.guards w.env))
   where
     at : (b : Bool) → Filled start (entries_of m (cond b (work_after o x.op w) w).entries)
     at true = filled_op m start o x.op w (and_left _ _ r) (and_left _ _ q) h
@@ -103,9 +109,12 @@ calm_filled m a [] (x ∷ fs) r r' h c = absurd h
 calm_filled m a (e ∷ es) [] r r' h c = absurd h
 calm_filled m a (e ∷ es) (x ∷ fs) r r' h c =
     subst (λ n. Calm (latest_in (e ∷ es) m a r) (cond ((n == m) && (x.address == a)) (as_latest x.value) (latest_in fs m a r'))) (sym h.0)
-    (subst (λ n. Calm (latest_in (e ∷ es) m a r) (cond ((e.mem == m) && (n == a)) (as_latest x.value) (latest_in fs m a r'))) (sym h.1) (at ((e.mem == m) && (e.address == a)) (calm_filled m a es fs r r' h.3 c)))
+    (subst (λ n. Calm (latest_in (e ∷ es) m a r) (cond ((e.mem == m) && (n == a)) (as_latest x.value) (latest_in fs m a r'))) (sym h.1)
+    (at ((e.mem == m) && (e.address == a)) (calm_filled m a es fs r r' h.3 c)))
   where
-    at : (b : Bool) → Calm (latest_in es m a r) (latest_in fs m a r') → Calm (cond b (as_latest e.value) (latest_in es m a r)) (cond b (as_latest x.value) (latest_in fs m a r'))
+    at : (b : Bool)
+        → Calm (latest_in es m a r) (latest_in fs m a r')
+        → Calm (cond b (as_latest e.value) (latest_in es m a r)) (cond b (as_latest x.value) (latest_in fs m a r'))
     at true k = calm_value e.value x.value h.2
     at false k = k
 
@@ -151,18 +160,29 @@ module _ (p : Pipe) (flows : Flows p) (st : State) (d : Derived.State) (bits : L
       kept = none_in_stage (is_reserve m) (reserve_stage p m) l.thread.stage p.stmts (flows.reserves m) (λ e. absurd (let i = h.0 in omega arith))
 
       -- where it releases nothing is left, else more has a value
-      own : Calm (latest (threads_of ks) m a) (latest (threads_of (go_on p st d bits ks)) m a) → Calm (latest_in l.thread.entries m a (latest (threads_of ks) m a)) (latest_in (work_of_live p d bits ks l).entries m a (latest (threads_of (go_on p st d bits ks)) m a))
-      own c = by_memory l.thread.stage (commit_stage p m) (Calm (latest_in l.thread.entries m a (latest (threads_of ks) m a)) (latest_in (work_of_live p d bits ks l).entries m a (latest (threads_of (go_on p st d bits ks)) m a)))
+      own : Calm (latest (threads_of ks) m a) (latest (threads_of (go_on p st d bits ks)) m a)
+          → Calm (latest_in l.thread.entries m a (latest (threads_of ks) m a))
+          (latest_in (work_of_live p d bits ks l).entries m a (latest (threads_of (go_on p st d bits ks)) m a))
+      own c =
+          by_memory l.thread.stage (commit_stage p m)
+          (Calm (latest_in l.thread.entries m a (latest (threads_of ks) m a))
+          (latest_in (work_of_live p d bits ks l).entries m a (latest (threads_of (go_on p st d bits ks)) m a)))
           (λ i. calm_nothing _ _ (latest_own (work_of_live p d bits ks l).entries m a _
-          ∙ ap (λ es. latest_in es m a (latest (threads_of (go_on p st d bits ks)) m a)) (late_here p flows st d bits arrays ks l k.0 m (let j = i in let u = stage_up p flows l.env l.thread k.0.seated.keeps_on (work_of_live p d bits ks l).env in omega arith))
+          ∙ ap (λ es. latest_in es m a (latest (threads_of (go_on p st d bits ks)) m a))
+          (late_here p flows st d bits arrays ks l k.0 m
+          (let j = i in let u = stage_up p flows l.env l.thread k.0.seated.keeps_on (work_of_live p d bits ks l).env in omega arith))
           ∙ late_next m a l.thread.stage ks k.1 o.0 (let j = i in omega arith)))
           (λ i.
           subst
-          (λ x. Calm x (latest_in (work_of_live p d bits ks l).entries m a (latest (threads_of (go_on p st d bits ks)) m a))) (sym (latest_own l.thread.entries m a _))
-          (subst (λ x. Calm (latest_in (entries_of m l.thread.entries) m a (latest (threads_of ks) m a)) x) (sym (latest_own (work_of_live p d bits ks l).entries m a _))
-          (calm_filled m a (entries_of m l.thread.entries) (entries_of m (work_of_live p d bits ks l).entries) (latest (threads_of ks) m a) (latest (threads_of (go_on p st d bits ks)) m a)
+          (λ x. Calm x (latest_in (work_of_live p d bits ks l).entries m a (latest (threads_of (go_on p st d bits ks)) m a)))
+          (sym (latest_own l.thread.entries m a _))
+          (subst (λ x. Calm (latest_in (entries_of m l.thread.entries) m a (latest (threads_of ks) m a)) x)
+          (sym (latest_own (work_of_live p d bits ks l).entries m a _))
+          (calm_filled m a (entries_of m l.thread.entries) (entries_of m (work_of_live p d bits ks l).entries) (latest (threads_of ks) m a)
+          (latest (threads_of (go_on p st d bits ks)) m a)
           (filled_all m (entries_of m l.thread.entries) (around p d bits (dacts p d bits ks) l.thread.stage l.thread.hint) (in_stage l.thread.stage p.stmts)
-          (start_of (now_of p d bits l)) kept (none_in_stage (is_release m) (commit_stage p m) l.thread.stage p.stmts (flows.releases m) i) (filled_same (entries_of m l.thread.entries))) c)))
+          (start_of (now_of p d bits l)) kept (none_in_stage (is_release m) (commit_stage p m) l.thread.stage p.stmts (flows.releases m) i)
+          (filled_same (entries_of m l.thread.entries))) c)))
 
       out : (r : Option ℕ) → goes_to (stage_at p l.thread.stage).next (work_of_live p d bits ks l).env ≡ r
           → Calm (latest (threads_of ks) m a) (latest (threads_of (go_on p st d bits ks)) m a)
@@ -188,7 +208,8 @@ module _ (p : Pipe) (flows : Flows p) (st : State) (d : Derived.State) (bits : L
           (latest
           (threads_of
           ((if g then []
-          else cond b (moved_live (goes_to (stage_at p l.thread.stage).next (work_of_live p d bits ks l).env) (advised p st bits l) (work_of_live p d bits ks l))
+          else cond b
+          (moved_live (goes_to (stage_at p l.thread.stage).next (work_of_live p d bits ks l).env) (advised p st bits l) (work_of_live p d bits ks l))
           (stood p st d bits l ∷ []))
           ++ go_on p st d bits ks)) m a)
       at true e b i c = absurd (cc (sym (second b (work_of_live p d bits ks l).fails i) ∙ e))

@@ -23,7 +23,9 @@ longer [] z = refl
 longer (x ∷ xs) z = ap suc (longer xs z)
 
 no_cycle : (x : Branch) (c inner : List Branch) → c ≡ inner ++ x ∷ c → ⊥
-no_cycle x c inner e = let i : length c ≡ length (inner ++ x ∷ c) = ap length e in let j = length-append inner (x ∷ c) in let k : length (x ∷ c) ≡ suc (length c) = refl in omega arith
+no_cycle x c inner e =
+    let i : length c ≡ length (inner ++ x ∷ c) = ap length e in
+    let j = length-append inner (x ∷ c) in let k : length (x ∷ c) ≡ suc (length c) = refl in omega arith
 
 any_of : (test : Branch → Bool) (inner : List Branch) (z : Branch) (c : List Branch) → test z ≡ true → list_any test (inner ++ z ∷ c) ≡ true
 any_of test [] z c h = ap (λ b. b || list_any test c) h
@@ -34,7 +36,8 @@ module _ (p : Pipe) (g : Ways p) where
   none_between : (env : List ℕ) (s : ℕ) (trail : List ℕ) (x : Branch) (c : List Branch) (r : ℕ) → Trail p env s trail
       → Within p (x ∷ c) s → Home p c r → x.fork < r → r ≤ s → ⊥
   none_between env s [] x c r h b t low up = trunk_within p x c s (subst (λ n. Trunk p n) (sym h) g.trunk_start) b
-  none_between env s (q ∷ qs) x c r h b t low up = at (nat_lt q r) refl (came_from_way p x c q s (g.way q s (env, h.0, h.1)) b) (λ e i. none_between env q qs x c r h.2 e t low i)
+  none_between env s (q ∷ qs) x c r h b t low up =
+      at (nat_lt q r) refl (came_from_way p x c q s (g.way q s (env, h.0, h.1)) b) (λ e i. none_between env q qs x c r h.2 e t low i)
     where
       around : (x.fork ≡ q) ⊎ Within p (x ∷ c) q → Within p c q
       around (inl i) = within_home p c q (subst (λ n. Home p c n) i (g.fork_below x c s b).0)
@@ -42,7 +45,8 @@ module _ (p : Pipe) (g : Ways p) where
 
       at : (d : Bool) → nat_lt q r ≡ d
           → (x.fork ≡ q) ⊎ Within p (x ∷ c) q → (Within p (x ∷ c) q → r ≤ q → ⊥) → ⊥
-      at true e i f = no_cycle x c b.0 (sym (ap (λ n. (stage_at p n).branches) (sym (g.jump c q s r (env, h.0, h.1) (around i) t (ltb-true _ _ e) up)) ∙ t) ∙ b.1)
+      at true e i f =
+          no_cycle x c b.0 (sym (ap (λ n. (stage_at p n).branches) (sym (g.jump c q s r (env, h.0, h.1) (around i) t (ltb-true _ _ e) up)) ∙ t) ∙ b.1)
       at false e (inl i) f = absurd (let k = ltb-false _ _ e in omega arith)
       at false e (inr i) f = f i (ltb-false _ _ e)
 
@@ -50,7 +54,9 @@ module _ (p : Pipe) (g : Ways p) where
   pub behind_is : (older younger : Sound.Live) (env env' : List ℕ) (trail trail' : List ℕ)
       → Trail p env older.stage trail → Trail p env' younger.stage trail' → Behind p younger.stage older.stage
       → Sound.is_behind p older younger ≡ true
-  behind_is older younger env env' trail trail' t t' h = from (suc (length (stage_at p younger.stage).branches)) [] (stage_at p younger.stage).branches (stage_at p older.stage).branches (sym (append-nil _)) (sym (append-nil _)) (omega arith)
+  behind_is older younger env env' trail trail' t t' h =
+      from (suc (length (stage_at p younger.stage).branches)) [] (stage_at p younger.stage).branches (stage_at p older.stage).branches (sym (append-nil _))
+      (sym (append-nil _)) (omega arith)
     where
       less : younger.stage < older.stage
           → Sound.is_behind p older younger ≡ true
@@ -107,7 +113,9 @@ module _ (p : Pipe) (g : Ways p) where
           inner : (init : List Branch) × (z : Branch) × (m ∷ ms ≡ init ++ z ∷ []) → Sound.is_behind p older younger ≡ true
           inner r =
               let here : Within p (r.1 ∷ c) younger.stage = (r.0, e ∙ ap (λ l. l ++ c) r.2 ∙ append_assoc r.0 (r.1 ∷ []) c) in
-              less (unless (λ i. none_between env' younger.stage trail' r.1 c older.stage t' here f (fork_left p g r.1 c younger.stage older.stage h here ([], f)) i))
+              less
+              (unless (λ i. none_between env' younger.stage trail' r.1 c older.stage t' here f
+              (fork_left p g r.1 c younger.stage older.stage h here ([], f)) i))
       from (suc n) c (m ∷ ms) (o ∷ os) e f low = inner (last_of m ms) (last_of o os) (λ d a b i j k. from n d a b i j k)
         where
           inner : (init : List Branch) × (z : Branch) × (m ∷ ms ≡ init ++ z ∷ []) → (init : List Branch) × (z : Branch) × (o ∷ os ≡ init ++ z ∷ [])
@@ -127,7 +135,8 @@ module _ (p : Pipe) (g : Ways p) where
               others : (if s.1.first then not r.1.first else r.1.first) ≡ true → (s.1.fork == r.1.fork) ≡ true → Sound.is_behind p older younger ≡ true
               others i j =
                   or_right (nat_lt younger.stage older.stage) _
-                  (ap₂ are_apart there.1 here.1 ∙ any_of (λ a. list_any (other_branch a) (r.0 ++ r.1 ∷ c)) s.0 s.1 c (any_of (other_branch s.1) r.0 r.1 c (ap₂ (λ a b. a && b) j i)))
+                  (ap₂ are_apart there.1 here.1
+                  ∙ any_of (λ a. list_any (other_branch a) (r.0 ++ r.1 ∷ c)) s.0 s.1 c (any_of (other_branch s.1) r.0 r.1 c (ap₂ (λ a b. a && b) j i)))
 
               at : (b : Bool) → (r.1.fork == s.1.fork) ≡ b → Sound.is_behind p older younger ≡ true
               at false i = less (unless (apart c r.1 s.1 here there (eqb-false _ _ i)))

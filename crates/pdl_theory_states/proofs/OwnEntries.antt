@@ -22,7 +22,9 @@ pub by_append : (n : ℕ) (xs ys : List Pending) → entries_by n (xs ++ ys) ≡
 by_append n [] ys = refl
 by_append n (x ∷ xs) ys = at (x.thread == n) (by_append n xs ys)
   where
-    at : (b : Bool) → entries_by n (xs ++ ys) ≡ entries_by n xs ++ entries_by n ys → cond b (x ∷ entries_by n (xs ++ ys)) (entries_by n (xs ++ ys)) ≡ cond b (x ∷ entries_by n xs) (entries_by n xs) ++ entries_by n ys
+    at : (b : Bool)
+        → entries_by n (xs ++ ys) ≡ entries_by n xs ++ entries_by n ys
+        → cond b (x ∷ entries_by n (xs ++ ys)) (entries_by n (xs ++ ys)) ≡ cond b (x ∷ entries_by n xs) (entries_by n xs) ++ entries_by n ys
     at true h = ap (λ l. x ∷ l) h
     at false h = h
 
@@ -67,7 +69,8 @@ module _ (p : Pipe) (st : State) where
           λ m. g m l.number f.0 ∙ by_append l.number (pends m ks) _ ∙ ap₂ (λ l k. l ++ k) (by_older m l.number ks f.1) (by_own m l.number l.thread.entries);
     },
     mine_of l.number ks f.1 a.1
-        (λ m n i. g m n (let j = f.0 in omega arith) ∙ by_append n (pends m ks) _ ∙ ap (λ k. entries_by n (pends m ks) ++ k) (by_other m n l.number l.thread.entries (λ e. absurd (let j = i in omega arith))) ∙ append-nil _),
+        (λ m n i. g m n (let j = f.0 in omega arith) ∙ by_append n (pends m ks) _
+        ∙ ap (λ k. entries_by n (pends m ks) ++ k) (by_other m n l.number l.thread.entries (λ e. absurd (let j = i in omega arith))) ∙ append-nil _),
   )
 
   -- each live thread has these for its own, where the locks' lists are the live threads' entries

@@ -6,7 +6,7 @@ use Rattle.pdl_semantics.specs.Machine.{State}
 use Rattle.pdl_theory_derived.specs.Derived.{Entry}
 use Rattle.pdl_theory_simulation.proofs.FlowFacts.{Flows}
 use Rattle.pdl_theory_derived.proofs.Entries.{entries_of}
-use Rattle.pdl_theory_derived.proofs.Lists.{ pend}
+use Rattle.pdl_theory_derived.proofs.Lists.{pend}
 use Rattle.pdl_theory_turns.proofs.OwnEntries.{pend_own}
 use Rattle.pdl_theory_simulation.proofs.Stretches.{Behind, early, left_trunk}
 use Rattle.pdl_theory_simulation.proofs.Seats.{Live, Falls, Ordered, pends}
@@ -17,7 +17,6 @@ use Rattle.pdl_semantics.specs.PendingLists.{count_older}
 use Rattle.pdl_word.specs.Each.{Each}
 
 module _ (p : Pipe) (flows : Flows p) (st : State) where
-
   -- none up to the stage of the reserves
   pub none_pending : (m : ℕ) (l : Live) → Seated p st l → l.thread.stage ≤ reserve_stage p m → pend m l.number l.thread.entries ≡ []
   none_pending m l s h = pend_own m l.number l.thread.entries ∙ ap (pend m l.number) (early p flows l.env l.thread s.keeps_on m h)
@@ -49,7 +48,8 @@ module _ (p : Pipe) (flows : Flows p) (st : State) where
           by true e = leb-true _ _ e
           by false e =
               absurd
-              (let i : reserve_stage p m < x.live.thread.stage = left_trunk p _ _ b (reserve_stage p m) (flows.trunk_reserve m) (let j = leb-false _ _ e in omega arith) in
+              (let i : reserve_stage p m < x.live.thread.stage = left_trunk p _ _ b (reserve_stage p m) (flows.trunk_reserve m)
+              (let j = leb-false _ _ e in omega arith) in
               omega arith)
 
       at : (x : Pair) → x.live.thread.stage ≤ reserve_stage p m → pend m l.number l.thread.entries ≡ []

@@ -63,7 +63,8 @@ AllStand env [] = Unit {0}
 AllStand env (e ∷ es) = (e.address ≡ slice_index env e.var) × AllStand env es
 
 -- where nothing is left of what is released, each stands
-pub standing : (env : List ℕ) (past : List Op) (es : List Entry) → AllPlaced env past es → ((m : ℕ) → let_go m past ≡ true → entries_of m es ≡ []) → AllStand env es
+pub standing : (env : List ℕ) (past : List Op) (es : List Entry)
+    → AllPlaced env past es → ((m : ℕ) → let_go m past ≡ true → entries_of m es ≡ []) → AllStand env es
 standing env past [] h g = tt
 standing env past (e ∷ es) h g = (here h.0, standing env past es h.2 (λ m k. rest m (e.mem == m) (g m k)))
   where
@@ -186,7 +187,8 @@ placed_filled env past (e ∷ es) m a v h = at ((e.mem == m) && (e.var == a)) (p
     at false k = (h.0, h.1, k)
 
 -- what moves up is of the memory of which something is released
-placed_moved : (env : List ℕ) (past : List Op) (e : Entry) (es : List Entry) → let_go e.mem past ≡ true → AllPlaced env past es → AllPlaced env past (moved_up e es)
+placed_moved : (env : List ℕ) (past : List Op) (e : Entry) (es : List Entry)
+    → let_go e.mem past ≡ true → AllPlaced env past es → AllPlaced env past (moved_up e es)
 placed_moved env past e [] g h = tt
 placed_moved env past e (f ∷ es) g h = at (f.mem == e.mem) refl (λ i. placed_moved env past f es i h.2) (placed_moved env past e es g h.2)
   where
@@ -195,11 +197,14 @@ placed_moved env past e (f ∷ es) g h = at (f.mem == e.mem) refl (λ i. placed_
     at true i k n = let j : let_go f.mem past ≡ true = ap (λ m. let_go m past) (eqb-true f.mem e.mem i) ∙ g in (inl j, h.1, k j)
     at false i k n = (h.0, h.1, n)
 
-placed_without : (env : List ℕ) (past : List Op) (es : List Entry) (m a : ℕ) → let_go m past ≡ true → AllPlaced env past es → AllPlaced env past (without es m a)
+placed_without : (env : List ℕ) (past : List Op) (es : List Entry) (m a : ℕ)
+    → let_go m past ≡ true → AllPlaced env past es → AllPlaced env past (without es m a)
 placed_without env past [] m a g h = tt
 placed_without env past (e ∷ es) m a g h = at (e.mem == m) refl (e.var == a) (placed_without env past es m a g h.2)
   where
-    at : (b : Bool) → (e.mem == m) ≡ b → (c : Bool) → AllPlaced env past (without es m a) → AllPlaced env past (cond (b && c) (moved_up e es) (e ∷ without es m a))
+    at : (b : Bool)
+        → (e.mem == m) ≡ b → (c : Bool) → AllPlaced env past (without es m a)
+        → AllPlaced env past (cond (b && c) (moved_up e es) (e ∷ without es m a))
     at true i true k = placed_moved env past e es (ap (λ n. let_go n past) (eqb-true e.mem m i) ∙ g) h.2
     at true i false k = (h.0, h.1, k)
     at false i c k = (h.0, h.1, k)
@@ -233,7 +238,8 @@ module _ (o : Around) (vars : ℕ) (kind : Kind o) where
   -- a statement that binds a variable
   bind_step : (x v : ℕ) (op : Op) (past : List Op) (w : Work) → is_new vars past (Some x) ≡ true
       → AllAsks (λ q. mentions_var q.var op ≡ false) w.asks → (Done (slice_set w.env x v) w.guess op)
-      → ((e : List ℕ) → guess_past o.guess (op ∷ past) e ≡ guess_past o.guess past e) → BlockOk o (slice_set w.env x v) w.entries (op ∷ past) op → ((m a : ℕ) → is_release_at m a op ≡ false)
+      → ((e : List ℕ) → guess_past o.guess (op ∷ past) e ≡ guess_past o.guess past e)
+      → BlockOk o (slice_set w.env x v) w.entries (op ∷ past) op → ((m a : ℕ) → is_release_at m a op ≡ false)
       → Past o vars past w → Past o vars (op ∷ past) (record w { env = slice_set w.env x v })
   bind_step x v op past w new silent mine calm block quiet h =
       let none : is_mentioned x past ≡ false = not-true _ (and_right (nat_lt x vars) _ new) in
@@ -253,7 +259,8 @@ module _ (o : Around) (vars : ℕ) (kind : Kind o) where
 
   -- one that only changes what is pending
   pend_step : (op : Op) (past : List Op) (w : Work) (es : List Entry)
-      → AllAsks (λ q. mentions_var q.var op ≡ false) w.asks → Done w.env w.guess op → w.guess ≡ guess_past o.guess (op ∷ past) w.env → AllPlaced w.env (op ∷ past) es
+      → AllAsks (λ q. mentions_var q.var op ≡ false) w.asks → Done w.env w.guess op → w.guess ≡ guess_past o.guess (op ∷ past) w.env
+      → AllPlaced w.env (op ∷ past) es
       → BlockOk o w.env es (op ∷ past) op
       → ((m a : ℕ)
       → (is_released m a (op ∷ past) ≡ true)
@@ -319,8 +326,11 @@ module _ (o : Around) (vars : ℕ) (kind : Kind o) where
             all_more (λ q. (mentions_var q.var op ≡ false) × AllOps (λ o'. touches q.var o' ≡ false) past)
             (λ q. AllOps (λ o'. touches q.var o' ≡ false) (op ∷ past)) w.asks (λ q k. (apart q k.0, k.1))
             (all_both (λ q. mentions_var q.var op ≡ false) (λ q. AllOps (λ o'. touches q.var o' ≡ false) past) w.asks silent h.unused);
-        blocks =
-            (block, ops_map (λ o' b. block_more o w.env w.entries w.entries past (op ∷ past) o' (λ m a i. or_right (is_release_at m a op) _ i) (λ m a. inr (λ i. i)) b) past h.blocks);
+        blocks = (
+          block,
+          ops_map (λ o' b. block_more o w.env w.entries w.entries past (op ∷ past) o' (λ m a i. or_right (is_release_at m a op) _ i)
+              (λ m a. inr (λ i. i)) b) past h.blocks,
+        );
       }
 
   -- only these fields matter
@@ -399,14 +409,18 @@ module _ (o : Around) (vars : ℕ) (kind : Kind o) where
           inr (λ i. ap (λ t. cond t (o.can_write n (slice_index w.env b)) (o.can_read n (slice_index w.env b))) (has_without w.entries m a n b e) ∙ i)
   past_step (Call args) past w new own silent calls ready h =
       same_past (Call args ∷ past) w (work_after o (Call args) w) refl refl refl refl (still_step (Call args) past w silent tt h.guessed tt h)
-  past_step (SpecCall args) past w new own silent calls ready h = guess_step (SpecCall args) o.guess past w silent refl tt tt (λ q k. mention_touch q.var (SpecCall args) k) h
+  past_step (SpecCall args) past w new own silent calls ready h =
+      guess_step (SpecCall args) o.guess past w silent refl tt tt (λ q k. mention_touch q.var (SpecCall args) k) h
   past_step (Verify last args) past w new own silent calls ready h = at (same_args (values_of args w.env) w.guess) refl
     where
-      at : (b : Bool) → same_args (values_of args w.env) w.guess ≡ b → Past o vars (Verify last args ∷ past) (cond b w (record w { child = Some (values_of args w.env); guess = (values_of args w.env); fails = true }))
+      at : (b : Bool)
+          → same_args (values_of args w.env) w.guess ≡ b
+          → Past o vars (Verify last args ∷ past) (cond b w (record w { child = Some (values_of args w.env); guess = (values_of args w.env); fails = true }))
       at true e = still_step (Verify last args) past w silent tt (sym (same_args_eq (values_of args w.env) w.guess e)) tt h
       at false e =
           same_past (Verify last args ∷ past)
-          (record w { child = Some (values_of args w.env); guess = values_of args w.env }) (record w { child = Some (values_of args w.env); guess = (values_of args w.env); fails = true }) refl refl refl refl
+          (record w { child = Some (values_of args w.env); guess = values_of args w.env })
+          (record w { child = Some (values_of args w.env); guess = (values_of args w.env); fails = true }) refl refl refl refl
           (guess_step (Verify last args) (values_of args w.env) past w silent refl tt tt (λ q k. mention_touch q.var (Verify last args) k) h)
   past_step SpecCheck past w new own silent calls ready h = still_step SpecCheck past w silent tt h.guessed tt h
   past_step (AdviceBind x' e') past w new own silent calls ready h = still_step (AdviceBind x' e') past w silent tt h.guessed tt h
@@ -427,7 +441,9 @@ module _ (o : Around) (vars : ℕ) (kind : Kind o) where
   asks_silent (DelayedRead x m a) w ys u h = all_snoc (λ q. silent_on q.var ys ≡ true) w.asks (record { mem = m; var = x; address = slice_index w.env a }) h u
   asks_silent (Verify last args) w ys u h = at (same_args (values_of args w.env) w.guess)
     where
-      at : (b : Bool) → AllAsks (λ q. silent_on q.var ys ≡ true) (cond b w (record w { child = Some (values_of args w.env); guess = (values_of args w.env); fails = true })).asks
+      at : (b : Bool)
+          → AllAsks (λ q. silent_on q.var ys ≡ true)
+          (cond b w (record w { child = Some (values_of args w.env); guess = (values_of args w.env); fails = true })).asks
       at true = h
       at false = h
   asks_silent (Bind x e) w ys u h = h

@@ -287,7 +287,9 @@ own_places n env (e ∷ es) h test f =
 
 module _ (p : Pipe) (sound : Sound p) where
   -- a thread that keeps to its path, with its pending writes in the locks' lists, passes the test of Sound state on paths
-  pub path_point : (st : State) (l : Live) → Seated p st l → Local p l.env l.kept l.thread → AllOps (GuessDone l.advice l.env l.thread.hint) (past_of p l.env l.thread.stage) → l.number < st.next
+  pub path_point : (st : State) (l : Live)
+      → Seated p st l → Local p l.env l.kept l.thread → AllOps (GuessDone l.advice l.env l.thread.hint) (past_of p l.env l.thread.stage)
+      → l.number < st.next
       → ((m : ℕ) (test : Pending → Bool) → list_any test (pend m l.number l.thread.entries) ≡ true → list_any test (lock_of st m) ≡ true)
       → on_path p st (told l) ≡ true
   path_point st l seated loc guessed low locks =
@@ -298,7 +300,9 @@ module _ (p : Pipe) (sound : Sound p) where
       (stmts_all _ (on_way p l.env l.thread.stage)
       (stmts_map (λ z d. done_op st l z.op d) (on_way p l.env l.thread.stage)
       (stmts_ops (Done l.env l.thread.guess) (on_way p l.env l.thread.stage) [] loc.done).0)))
-      (ap (λ g. same_args g (guess_of (on_way p l.env l.thread.stage) l.advice l.env [])) (loc.guessed ∙ guess_onto l.thread.hint l.advice l.env (on_way p l.env l.thread.stage) [] guessed) ∙ same_args_refl (guess_of (on_way p l.env l.thread.stage) l.advice l.env [])))
+      (ap (λ g. same_args g (guess_of (on_way p l.env l.thread.stage) l.advice l.env []))
+      (loc.guessed ∙ guess_onto l.thread.hint l.advice l.env (on_way p l.env l.thread.stage) [] guessed)
+      ∙ same_args_refl (guess_of (on_way p l.env l.thread.stage) l.advice l.env [])))
       (subst (λ hs. list_all (right_place st (told l)) hs ≡ true) seated.keeps_on.held
       (own_places l.number l.env l.thread.entries stand (right_place st (told l))
       (λ h k. locks h.mem (places_test l.number l.env h) k))))
@@ -312,7 +316,10 @@ module _ (p : Pipe) (sound : Sound p) where
           at true e = ltb-true _ _ e
           at false e =
               absurd (never_go m (on_way p l.env l.thread.stage)
-              (none_onpath (is_release m) l.env (stages_before l.thread.stage p.stmts) (none_till (is_release m) (commit_stage p m) l.thread.stage p.stmts ((sound_flows p sound).releases m) (ltb-false _ _ e))) k)
+              (none_onpath (is_release m) l.env (stages_before l.thread.stage p.stmts)
+              (none_till (is_release m) (commit_stage p m) l.thread.stage p.stmts ((sound_flows p sound).releases m) (ltb-false _ _ e))) k)
 
       stand : AllStand l.env l.thread.entries
-      stand = standing l.env (past_of p l.env l.thread.stage) l.thread.entries loc.placed (λ m k. late p (sound_flows p sound) l.env l.thread seated.keeps_on m (past m k))
+      stand =
+          standing l.env (past_of p l.env l.thread.stage) l.thread.entries loc.placed
+          (λ m k. late p (sound_flows p sound) l.env l.thread seated.keeps_on m (past m k))

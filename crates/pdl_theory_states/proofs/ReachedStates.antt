@@ -101,7 +101,9 @@ module _ (p : Pipe) (sound : Sound p) (strict : Strict p) where
 
   module _ (st : State) (d : Derived.State) (bits : List Bool) (ls : List Live) (sim : Sim p st d ls) where
     -- the threads that live on
-    along_on : (ks : List Live) → AllKnown p (sound_flows p sound) st d bits sim.arrays ks → AllForeseen p (sound_flows p sound) st d bits sim.arrays ks → Ordered p ks
+    along_on : (ks : List Live)
+        → AllKnown p (sound_flows p sound) st d bits sim.arrays ks → AllForeseen p (sound_flows p sound) st d bits sim.arrays ks
+        → Ordered p ks
         → Agrees p d bits (squasher (movers (lacts p st d bits ls))) ks
         → ((m : ℕ) (a : Asker) → asking p (sound_flows p sound) st d bits sim.arrays ks m ≡ Some a
         → asking p (sound_flows p sound) st d bits sim.arrays ls m ≡ Some a)
@@ -147,7 +149,8 @@ module _ (p : Pipe) (sound : Sound p) (strict : Strict p) where
             (go_on p st d bits ks)
             → Along (Lasting p (next_state p (sound_flows p sound) st d bits ls sim))
             ((if f then []
-            else cond b (moved_live (goes_to (stage_at p l.thread.stage).next (work_of_live p d bits ks l).env) (advised p st bits l) (work_of_live p d bits ks l))
+            else cond b
+            (moved_live (goes_to (stage_at p l.thread.stage).next (work_of_live p d bits ks l).env) (advised p st bits l) (work_of_live p d bits ks l))
             (stood p st d bits l ∷ []))
             ++ go_on p st d bits ks)
         at true e b i r = r
@@ -238,7 +241,8 @@ module _ (p : Pipe) (sound : Sound p) (strict : Strict p) where
             ≡ None
             → Youngest p
             ((if f then []
-            else cond b (moved_live (goes_to (stage_at p l.thread.stage).next (work_of_live p d bits ks l).env) (advised p st bits l) (work_of_live p d bits ks l))
+            else cond b
+            (moved_live (goes_to (stage_at p l.thread.stage).next (work_of_live p d bits ks l).env) (advised p st bits l) (work_of_live p d bits ks l))
             (stood p st d bits l ∷ []))
             ++ go_on p st d bits ks)
         at true f b i = absurd (fell_made ks k.1 f (later b i))
@@ -248,11 +252,14 @@ module _ (p : Pipe) (sound : Sound p) (strict : Strict p) where
     young_next : Youngest p ls → Youngest p (lives_next p (sound_flows p sound) st d bits sim.arrays ls)
     young_next y = at (made p (sound_flows p sound) st d bits sim.arrays ls) refl
       where
-        at : (c : Option (List ℕ)) → made p (sound_flows p sound) st d bits sim.arrays ls ≡ c → Youngest p (born_live p (d.hints 0) st.next c ++ go_on p st d bits ls)
+        at : (c : Option (List ℕ))
+            → made p (sound_flows p sound) st d bits sim.arrays ls ≡ c
+            → Youngest p (born_live p (d.hints 0) st.next c ++ go_on p st d bits ls)
         at None e = young_on ls (known p (sound_flows p sound) st d bits ls sim) e y
         at (Some x) e = fresh_young x
 
-    whole_next : AllForeseen p (sound_flows p sound) st d bits sim.arrays ls → Whole p st ls → Whole p (cycle p st bits) (lives_next p (sound_flows p sound) st d bits sim.arrays ls)
+    whole_next : AllForeseen p (sound_flows p sound) st d bits sim.arrays ls
+        → Whole p st ls → Whole p (cycle p st bits) (lives_next p (sound_flows p sound) st d bits sim.arrays ls)
     whole_next fs w = record {
       along =
           subst (λ s. Along (Lasting p s) (lives_next p (sound_flows p sound) st d bits sim.arrays ls))
@@ -268,7 +275,8 @@ module _ (p : Pipe) (sound : Sound p) (strict : Strict p) where
       let fs = foreseen_here p (sound_flows p sound) st d bits ls sim schedule f in
       whole_run (cycle p st bits)
       (Derived.cycle p d bits) schedule (lives_next p (sound_flows p sound) st d bits sim.arrays ls)
-      (cycle_sim p (sound_flows p sound) st d bits ls sim fs) (foretells_next p (sound_flows p sound) st d bits ls sim schedule f) (whole_next st d bits ls sim fs w)
+      (cycle_sim p (sound_flows p sound) st d bits ls sim fs) (foretells_next p (sound_flows p sound) st d bits ls sim schedule f)
+      (whole_next st d bits ls sim fs w)
 
   -- every state that a run comes to belongs to one of the derived machine, and all this holds of its live threads
   pub reached : (image : Arrays) (schedule : List (List Bool))
@@ -276,5 +284,7 @@ module _ (p : Pipe) (sound : Sound p) (strict : Strict p) where
       × Sim p (state_after p (first p image) schedule) (Derived.state_after p (Derived.first p image (hints_of p (first p image) schedule)) schedule) ks
       × Whole p (state_after p (first p image) schedule) ks
   reached image schedule =
-      whole_run (first p image) (Derived.first p image (hints_of p (first p image) schedule)) schedule (first_live p (sound_flows p sound) (hints_of p (first p image) schedule 0) ∷ []) (first_sim p (sound_flows p sound) image (hints_of p (first p image) schedule)) (first_foretells p (sound_flows p sound) image schedule)
+      whole_run (first p image) (Derived.first p image (hints_of p (first p image) schedule)) schedule
+      (first_live p (sound_flows p sound) (hints_of p (first p image) schedule 0) ∷ [])
+      (first_sim p (sound_flows p sound) image (hints_of p (first p image) schedule)) (first_foretells p (sound_flows p sound) image schedule)
       (record { along = (fresh_lasting (first p image) 1 (hints_of p (first p image) schedule 0) p.start [], tt); youngest = fresh_young p.start })

@@ -71,6 +71,7 @@ never_done m ph (x ∷ xs) r h = never_done m (next_phase m ph x.op) xs (and_rig
 and_none : (b : Bool) → (b && false) ≡ false
 and_none true = refl
 and_none false = refl
+
 used_op : (m : ℕ) (ph : Phase) (op : Op) → is_fresh ph ≡ false → is_fresh (next_phase m ph op) ≡ false
 used_op m ph (ReserveWrite n a) h = at (n == m)
   where
@@ -187,7 +188,11 @@ module _ (p : Pipe) (sound : Sound p) (st : State) (l : Live) (seated : Seated p
     where
       at : (b : Bool) → nat_lt (commit_stage p m) l.thread.stage ≡ b → commit_stage p m < l.thread.stage
       at true e = ltb-true _ _ e
-      at false e = absurd (cc (sym h ∙ never_done m Fresh (on_way p l.env l.thread.stage) (none_onpath (is_release m) l.env (stages_before l.thread.stage p.stmts) (none_till (is_release m) (commit_stage p m) l.thread.stage p.stmts ((sound_flows p sound).releases m) (ltb-false _ _ e))) refl))
+      at false e =
+          absurd
+          (cc (sym h ∙ never_done m Fresh (on_way p l.env l.thread.stage)
+          (none_onpath (is_release m) l.env (stages_before l.thread.stage p.stmts)
+          (none_till (is_release m) (commit_stage p m) l.thread.stage p.stmts ((sound_flows p sound).releases m) (ltb-false _ _ e))) refl))
 
   -- a thread whose way has come to the release of its write of m has released it
   pub done_released : is_done (phase_all m Fresh (on_way p l.env l.thread.stage)) ≡ true → has_released m p (told l) ≡ true
@@ -269,11 +274,15 @@ sure_op m v s c ph (ReserveWrite n a) k u low o d = at (n == m) refl
     more : Opened m ph (scan_after (ReserveWrite n a) c)
     more = opened_more m ph c (scan_after (ReserveWrite n a) c) (λ x i. or_right ((n == m) && (a == x)) _ i) o
 
-    new : (n == m) ≡ true → (x : ℕ) (b : Bool) → (a == x) ≡ b → (b || is_among x ph.unwritten) ≡ true → has_location (scan_after (ReserveWrite n a) c).held m x ≡ true
+    new : (n == m) ≡ true
+        → (x : ℕ) (b : Bool) → (a == x) ≡ b → (b || is_among x ph.unwritten) ≡ true
+        → has_location (scan_after (ReserveWrite n a) c).held m x ≡ true
     new e x true j i = ap₂ (λ s t. (s && t) || has_location c.held m x) e j
     new e x false j i = more.unwritten x i
 
-    at : (b : Bool) → (n == m) ≡ b → Opened m (cond b (after_reserve ph a) ph) (scan_after (ReserveWrite n a) c) × (is_done (cond b (after_reserve ph a) ph) ≡ false)
+    at : (b : Bool)
+        → (n == m) ≡ b
+        → Opened m (cond b (after_reserve ph a) ph) (scan_after (ReserveWrite n a) c) × (is_done (cond b (after_reserve ph a) ph) ≡ false)
     at true e = (record { unwritten = λ x i. new e x (a == x) refl i; full = more.full }, d)
     at false e = (more, d)
 sure_op m v s c ph (Write n a e) k u low o d = at (n == m) k
@@ -281,6 +290,7 @@ sure_op m v s c ph (Write n a e) k u low o d = at (n == m) k
     by : is_oldest a ph.unwritten ≡ true → (x : ℕ) (b : Bool) → (a == x) ≡ b → (b || is_among x ph.full) ≡ true → has_location c.held m x ≡ true
     by i x true j l = subst (λ y. has_location c.held m y ≡ true) (eqb-true a x j) (o.unwritten a (oldest_among a ph.unwritten i))
     by i x false j l = o.full x l
+
     at : (b : Bool) → (not b || may_write ph a) ≡ true → Opened m (cond b (after_write ph a) ph) c × (is_done (cond b (after_write ph a) ph) ≡ false)
     at true i = (record { unwritten = λ x j. o.unwritten x (front_among x ph.unwritten j); full = λ x j. by i x (a == x) refl j }, d)
     at false i = (o, d)

@@ -222,7 +222,8 @@ module _ (p : Pipe) (sound : Sound p) (strict : Strict p) where
         now_keeps = keeps_now p (sound_flows p sound) st d bits sim.arrays l k.seated
 
         block_start : AllOps
-            (BlockOk (around p d bits (dacts p d bits ks) l.thread.stage l.thread.hint) (now_of p d bits l).env l.thread.entries (past_of p l.env l.thread.stage))
+            (BlockOk (around p d bits (dacts p d bits ks) l.thread.stage l.thread.hint) (now_of p d bits l).env l.thread.entries
+            (past_of p l.env l.thread.stage))
             (past_of p l.env l.thread.stage)
         block_start =
             subst
@@ -253,13 +254,18 @@ module _ (p : Pipe) (sound : Sound p) (strict : Strict p) where
         -- what it has guessed
         guessed_end : AllOps (GuessDone (deeds_of p st bits l).advice (work_of_live p d bits ks l).env l.thread.hint) (onto (onpath (work_of_live p d bits ks l).env (in_stage l.thread.stage p.stmts)) (past_of p l.env l.thread.stage))
         guessed_end =
-            subst (λ (w : Work). AllOps (GuessDone (deeds_of p st bits l).advice w.env l.thread.hint) (onto mine (past_of p l.env l.thread.stage))) (sym (told_here p (sound_flows p sound) st d bits sim.arrays ks l k foresees).is)
-            (subst (λ (e : Deeds). AllOps (GuessDone e.advice e.env l.thread.hint) (onto mine (past_of p l.env l.thread.stage))) (sym (deeds_are p (sound_flows p sound) st d bits sim.arrays ks l k))
-            (guesses_all (around p d bits (dacts p d bits ks) l.thread.stage l.thread.hint) (word_for st l.number) (λ b. block_ready p st l.number b) (λ q. Derived.port_free p d bits (dacts p d bits ks) q.mem)
+            subst (λ (w : Work). AllOps (GuessDone (deeds_of p st bits l).advice w.env l.thread.hint) (onto mine (past_of p l.env l.thread.stage)))
+            (sym (told_here p (sound_flows p sound) st d bits sim.arrays ks l k foresees).is)
+            (subst (λ (e : Deeds). AllOps (GuessDone e.advice e.env l.thread.hint) (onto mine (past_of p l.env l.thread.stage)))
+            (sym (deeds_are p (sound_flows p sound) st d bits sim.arrays ks l k))
+            (guesses_all (around p d bits (dacts p d bits ks) l.thread.stage l.thread.hint) (word_for st l.number) (λ b. block_ready p st l.number b)
+            (λ q. Derived.port_free p d bits (dacts p d bits ks) q.mem)
             (work_of_live p d bits ks l).env (in_stage l.thread.stage p.stmts) (past_of p l.env l.thread.stage) _ (start_of (now_of p d bits l))
-            (starts_here p (sound_flows p sound) st d bits sim.arrays ks l k) (fit_all p (sound_flows p sound) st d bits sim.arrays ks l k) (fixed_way p (sound_flows p sound) st d bits sim.arrays ks l k) foresees kept_back.0 kept_back.1
+            (starts_here p (sound_flows p sound) st d bits sim.arrays ks l k) (fit_all p (sound_flows p sound) st d bits sim.arrays ks l k)
+            (fixed_way p (sound_flows p sound) st d bits sim.arrays ks l k) foresees kept_back.0 kept_back.1
             (subst (λ e. AllOps (GuessDone l.advice e l.thread.hint) (past_of p l.env l.thread.stage)) k.values
-            (kept_guesses l.advice l.thread.hint (past_of p l.env l.thread.stage) (l.kept ++ Machine.answered_reads p st bits l.number l.thread.awaits) l.env (kept_unused p l.env (l.kept ++ Machine.answered_reads p st bits l.number l.thread.awaits) (now_of p d bits l) now_local) h.guessed))))
+            (kept_guesses l.advice l.thread.hint (past_of p l.env l.thread.stage) (l.kept ++ Machine.answered_reads p st bits l.number l.thread.awaits) l.env
+            (kept_unused p l.env (l.kept ++ Machine.answered_reads p st bits l.number l.thread.awaits) (now_of p d bits l) now_local) h.guessed))))
           where
             mine : List Stmt
             mine = onpath (work_of_live p d bits ks l).env (in_stage l.thread.stage p.stmts)
@@ -267,8 +273,10 @@ module _ (p : Pipe) (sound : Sound p) (strict : Strict p) where
             kept_back : AllOps (λ o. keeps_guess o (onpath (work_of_live p d bits ks l).env (in_stage l.thread.stage p.stmts)) ≡ true) (past_of p l.env l.thread.stage) × (all_keep_guess (onpath (work_of_live p d bits ks l).env (in_stage l.thread.stage p.stmts)) ≡ true)
             kept_back =
                 keep_back (on_way p l.env l.thread.stage) (onpath (work_of_live p d bits ks l).env (in_stage l.thread.stage p.stmts)) []
-                (keep_front (on_way p l.env l.thread.stage ++ onpath (work_of_live p d bits ks l).env (in_stage l.thread.stage p.stmts)) _ (subst (λ xs. all_keep_guess xs ≡ true)
-                (whole_way p (sound_flows p sound) sound strict (around p d bits (dacts p d bits ks) l.thread.stage l.thread.hint) kind l.env (l.kept ++ Machine.answered_reads p st bits l.number l.thread.awaits) (now_of p d bits l) now_keeps k.values now_local ready refl)
+                (keep_front (on_way p l.env l.thread.stage ++ onpath (work_of_live p d bits ks l).env (in_stage l.thread.stage p.stmts)) _
+                (subst (λ xs. all_keep_guess xs ≡ true)
+                (whole_way p (sound_flows p sound) sound strict (around p d bits (dacts p d bits ks) l.thread.stage l.thread.hint) kind l.env
+                (l.kept ++ Machine.answered_reads p st bits l.number l.thread.awaits) (now_of p d bits l) now_keeps k.values now_local ready refl)
                 (strict.guesses (work_of_live p d bits ks l).env))) tt
 
         own_requests : AllAsks
@@ -313,7 +321,8 @@ module _ (p : Pipe) (sound : Sound p) (strict : Strict p) where
                 (subst (λ r. Derived.barrier_clear r l.thread.stage (befores (dacts p d bits ks)) ≡ true) e
                 (clear_all (work_of_live p d bits ks l).env (around p d bits (dacts p d bits ks) l.thread.stage l.thread.hint)
                 (in_stage l.thread.stage p.stmts) (start_of (now_of p d bits l))
-                (fixed_here p (sound_flows p sound) l.env (now_of p d bits l) now_keeps (around p d bits (dacts p d bits ks) l.thread.stage l.thread.hint)) b ready))
+                (fixed_here p (sound_flows p sound) l.env (now_of p d bits l) now_keeps
+                (around p d bits (dacts p d bits ks) l.thread.stage l.thread.hint)) b ready))
 
             each : (js : List Live) → Each (λ j. l.thread.stage < j.thread.stage) js
                 → Derived.barrier_clear (Some v) l.thread.stage (threads_of js) ≡ true
@@ -357,7 +366,8 @@ module _ (p : Pipe) (sound : Sound p) (strict : Strict p) where
         lasting_moved q goes =
             record {
               local = moved_local q goes;
-              guessed = subst (λ ops. AllOps (GuessDone (deeds_of p st bits l).advice (work_of_live p d bits ks l).env l.thread.hint) ops) (sym is_past) guessed_end;
+              guessed =
+                  subst (λ ops. AllOps (GuessDone (deeds_of p st bits l).advice (work_of_live p d bits ks l).env l.thread.hint) ops) (sym is_past) guessed_end;
               owns =
                   subst
                   (λ qs. Owns

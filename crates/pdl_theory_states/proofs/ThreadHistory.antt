@@ -262,7 +262,9 @@ kept_done guess past (k ∷ kept) env u h =
     kept_done guess past kept (slice_set env k.var k.word) u.1
     (ops_both (λ op t d. done_agrees env (slice_set env k.var k.word) guess op (set_agrees k.var k.word op env t) d) past u.0 h)
 
-kept_guess : (hint : List ℕ) (past : List Op) (kept : List Kept) (env : List ℕ) → AllKept (λ k. AllOps (λ op. touches k.var op ≡ false) past) kept → guess_past hint past env ≡ guess_past hint past (with_kept kept env)
+kept_guess : (hint : List ℕ) (past : List Op) (kept : List Kept) (env : List ℕ)
+    → AllKept (λ k. AllOps (λ op. touches k.var op ≡ false) past) kept
+    → guess_past hint past env ≡ guess_past hint past (with_kept kept env)
 kept_guess hint past [] env u = refl
 kept_guess hint past (k ∷ kept) env u = guess_set hint k.var k.word env past u.0 ∙ kept_guess hint past kept (slice_set env k.var k.word) u.1
 
@@ -318,7 +320,9 @@ module _ (p : Pipe) (flows : Flows p) (sound : Sound p) (strict : Strict p) (o :
         done =
             subst (λ l. AllOps (Done l t.guess) (past_of p env t.stage)) values
             (kept_done t.guess (past_of p env t.stage) kept env (kept_unused p env kept t loc) loc.done);
-        guessed = loc.guessed ∙ kept_guess t.hint (past_of p env t.stage) kept env (kept_unused p env kept t loc) ∙ ap (guess_past t.hint (past_of p env t.stage)) values
+        guessed =
+            loc.guessed ∙ kept_guess t.hint (past_of p env t.stage) kept env (kept_unused p env kept t loc)
+            ∙ ap (guess_past t.hint (past_of p env t.stage)) values
             ∙ ap (λ g. guess_past g (past_of p env t.stage) t.env) (sym hinted);
         placed =
             subst (λ l. AllPlaced l (past_of p env t.stage) t.entries) values
@@ -424,7 +428,8 @@ module _ (p : Pipe) (flows : Flows p) (sound : Sound p) (strict : Strict p) (o :
     pub local_moved : AllOps (BlockOk o t.env t.entries (past_of p env t.stage)) (past_of p env t.stage)
         → Local p (work_of_stage p o t).env []
         (record {
-          stage = q; hint = t.hint;
+          stage = q;
+          hint = t.hint;
           env = (work_of_stage p o t).env;
           entries = (work_of_stage p o t).entries;
           guess = (work_of_stage p o t).guess;

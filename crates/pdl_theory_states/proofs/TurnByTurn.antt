@@ -73,7 +73,9 @@ module _ (p : Pipe) (sound : Sound p) (st : State) (asked : List (Option ℕ)) (
   parted w v arrays args ahead [] (sp ∷ sps) ts h t e s = (refl, refl)
   parted w v arrays args ahead (o ∷ os) (sp ∷ []) ts h t e s = at (so_far p (with_guess arrays sp.hint) args sp.stage).child refl t
     where
-      at : (c : Option (List ℕ)) → (so_far p (with_guess arrays sp.hint) args sp.stage).child ≡ c → Last p (course p sound).stray (course p sound).made sp.stage c ts
+      at : (c : Option (List ℕ))
+          → (so_far p (with_guess arrays sp.hint) args sp.stage).child ≡ c
+          → Last p (course p sound).stray (course p sound).made sp.stage c ts
           → (record { live = told o; arrays = arrays; args = args }
           ∷ (if guessed_wrong p (thread p arrays args).next (told o) then []
           else followers_of p (thread p arrays args).arrays (thread p arrays args).next (tells os))
@@ -124,7 +126,8 @@ module _ (p : Pipe) (sound : Sound p) (st : State) (asked : List (Option ℕ)) (
           at : (c : Bool) → nat_lt (commit_stage p m) sp.stage ≡ c → sp.stage ≤ commit_stage p m
           at true i =
               absurd
-              (let j : commit_stage p m < b = h.0.under.0 [] (within_all p _) (within_all p _) (commit_stage p m) (sound.graph.trunk_commit m) (le_of_lt (ltb-true _ _ i)) in
+              (let j : commit_stage p m < b = h.0.under.0 [] (within_all p _) (within_all p _) (commit_stage p m) (sound.graph.trunk_commit m)
+              (le_of_lt (ltb-true _ _ i)) in
               let k = low in omega arith)
           at false i = ltb-false _ _ i
 
@@ -155,7 +158,9 @@ module _ (p : Pipe) (sound : Sound p) (st : State) (asked : List (Option ℕ)) (
       all_released late = by (is_done (phase_all m Fresh (on_way p o.env o.thread.stage))) refl
         where
           way : on_way p o.env o.thread.stage ≡ on_way p (thread (at_once p) arrays args).env sp.stage
-          way = way_of p sound st (with_guess arrays sp.hint) args o sp (cons_head e) s.0 h.0.waits.gets ∙ ap (on_way p (thread (at_once p) arrays args).env) stage_is
+          way =
+              way_of p sound st (with_guess arrays sp.hint) args o sp (cons_head e) s.0 h.0.waits.gets
+              ∙ ap (on_way p (thread (at_once p) arrays args).env) stage_is
 
           by : (c : Bool) → is_done (phase_all m Fresh (on_way p o.env o.thread.stage)) ≡ c
               → (if has_released m p (told o) then of_mem m (thread p arrays args).writes else []) ≡ of_mem m (thread p arrays args).writes
@@ -293,7 +298,8 @@ module _ (p : Pipe) (sound : Sound p) (st : State) (asked : List (Option ℕ)) (
           → list_all (λ l. not (has_released m p l)) (tells os) ≡ true
       at None i k = ap (λ ks. list_all (λ l. not (has_released m p l)) (tells ks)) (no_lives os (cons_tail e ∙ k))
       at (Some x) i k =
-          let made = (course p sound).wrong_made (with_guess arrays sp.hint) args sp.stage x i (ap (λ y. right_guess y (thread p arrays args).next) (sym i) ∙ h.0.linked) in
+          let made = (course p sound).wrong_made (with_guess arrays sp.hint) args sp.stage x i
+          (ap (λ y. right_guess y (thread p arrays args).next) (sym i) ∙ h.0.linked) in
           stray_each m (course p sound).v made.1 (course p sound).trunk_v sp.stage made.0 os ts (cons_tail e) s.1 k
           (uncertain (course p sound).v (told o) (not_less made.0) (tells os)
           (subst (λ y. list_all (certain_after p y (told o)) (tells os) ≡ true) made.1 (and_left _ _ c)))

@@ -6,7 +6,7 @@ use Rattle.pdl_semantics.specs.Stages.{list_any, onpath, in_stage, is_verify, ve
 use Rattle.pdl_semantics.specs.Machine.{Pending, same_args}
 use Rattle.pdl_semantics.specs.Sequential.{Run, run_after, run_all, thread}
 use Rattle.pdl_semantics.specs.Sound.{stages_before, is_right_entry, are_right, is_write, is_spec_call, stages_from}
-use Rattle.pdl_theory_derived.specs.Derived.{ Work, work_after, do_all}
+use Rattle.pdl_theory_derived.specs.Derived.{Work, work_after, do_all}
 use Rattle.pdl_theory_derived.specs.Alone.{World, alone, before, answered_op, start_work, so_far}
 use Rattle.pdl_theory_facts.specs.GuessScans.{Making, Unmade, Guessed, Made, next_making, making_all, makings_ok, making_ok, is_guessed, is_unmade}
 use Rattle.pdl_theory_facts.specs.Scans.{Phase, Fresh, next_phase, phase_all, phase_ok, phases_ok, none_of, binds_var, is_fixed, no_guards}
@@ -89,13 +89,15 @@ right_some k ds es h = at (length es == 0)
     at false = h
 
 -- entries with a value are those of the first writes
-right_known : (m n k : ℕ) (fs : List Full) (ds : List Commit) (ys : List Pending) → are_right k ds ys ≡ true → are_right (k + length (told m fs)) (told m fs ++ ds) (pend m n (known m fs) ++ ys) ≡ true
+right_known : (m n k : ℕ) (fs : List Full) (ds : List Commit) (ys : List Pending)
+    → are_right k ds ys ≡ true → are_right (k + length (told m fs)) (told m fs ++ ds) (pend m n (known m fs) ++ ys) ≡ true
 right_known m n k [] ds ys h = subst (λ j. are_right j ds ys ≡ true) (let e : k ≡ k + 0 = omega arith in e) h
 right_known m n k (f ∷ fs) ds ys h =
     ap (λ b. are_right (k + length (told m (f ∷ fs))) (told m (f ∷ fs) ++ ds) ((pend m n (known m fs) ++ cond b (e ∷ []) []) ++ ys)) (eq-eqb m m refl)
     ∙ ap₂ (λ xs es. are_right (k + length (told m (f ∷ fs))) xs es) (append_assoc (told m fs) (w ∷ []) ds) (append_assoc (pend m n (known m fs)) (e ∷ []) ys)
     ∙ ap (λ j. are_right j (told m fs ++ w ∷ ds) (pend m n (known m fs) ++ e ∷ ys)) more
-    ∙ right_known m n (suc k) fs (w ∷ ds) (e ∷ ys) (ap₂ (λ b j. is_right_entry b w e && are_right j ds ys) (lt-ltb 0 (suc k) (omega arith)) (let e : suc k - 1 ≡ k = omega arith in e)
+    ∙ right_known m n (suc k) fs (w ∷ ds) (e ∷ ys)
+    (ap₂ (λ b j. is_right_entry b w e && are_right j ds ys) (lt-ltb 0 (suc k) (omega arith)) (let e : suc k - 1 ≡ k = omega arith in e)
     ∙ ap₂ (λ a b. a && b) (ap₂ (λ a b. a && b) (eq-eqb f.address f.address refl) (eq-eqb f.value f.value refl)) h)
   where
     w : Commit
@@ -143,7 +145,7 @@ right_none [] [] f h = refl
 right_none [] (e ∷ es) f h = absurd (cc h)
 right_none (d ∷ ds) [] f h = absurd (cc h)
 right_none (d ∷ ds) (e ∷ es) f h = ap₂ (λ a b. a && b)
-          (ap₂ (λ a b. a && b) (eq-eqb e.address d.address (sym (first h))) (ap is_none f.0)) (right_none ds es f.1 (rest h))
+    (ap₂ (λ a b. a && b) (eq-eqb e.address d.address (sym (first h))) (ap is_none f.0)) (right_none ds es f.1 (rest h))
   where
     first : d.address ∷ places ds ≡ e.address ∷ spots_of es → d.address ≡ e.address
     first i = cc
@@ -156,7 +158,8 @@ plus_none : (n : ℕ) → n ≡ n + 0
 plus_none n = omega arith
 
 more_writes : (m : ℕ) (op : Op) (r : Run) → length (of_mem m (run_after op r).writes) ≡ length (of_mem m r.writes) + cond (is_write m op) 1 0
-more_writes m (Write n a e) r = ap length (of_mem_append m r.writes _) ∙ length-append (of_mem m r.writes) _ ∙ ap (λ k. length (of_mem m r.writes) + k) (at (n == m))
+more_writes m (Write n a e) r =
+    ap length (of_mem_append m r.writes _) ∙ length-append (of_mem m r.writes) _ ∙ ap (λ k. length (of_mem m r.writes) + k) (at (n == m))
   where
     at : (b : Bool) → length (cond b (write_of n (slice_index r.env a) (value_of e r.env) ∷ []) []) ≡ cond b 1 0
     at true = refl
@@ -173,16 +176,20 @@ run_count : (m : ℕ) (ph : Phase) (xs : List Stmt) (r : Run)
     → length (of_mem m (run_all xs r).writes) ≡ length (of_mem m r.writes) + count (λ x. is_write m x.op) xs
 run_count m ph [] r h = plus_none (length (of_mem m r.writes))
 run_count m ph (x ∷ xs) r h =
-    ap (λ b. length (of_mem m (run_all xs (cond b (run_after x.op r) r)).writes)) (taken_none x.guards r.env (and_left _ _ (and_left (no_guards x.guards && phase_ok m ph x.op) _ h)))
+    ap (λ b. length (of_mem m (run_all xs (cond b (run_after x.op r) r)).writes))
+    (taken_none x.guards r.env (and_left _ _ (and_left (no_guards x.guards && phase_ok m ph x.op) _ h)))
     ∙ run_count m (next_phase m ph x.op) xs (run_after x.op r) (and_right (no_guards x.guards && phase_ok m ph x.op) _ h)
     ∙ ap (λ n. n + count (λ x. is_write m x.op) xs) (more_writes m x.op r)
     ∙ one (is_write m x.op)
   where
-    one : (b : Bool) → (length (of_mem m r.writes) + cond b 1 0) + count (λ x. is_write m x.op) xs ≡ length (of_mem m r.writes) + cond b (1 + count (λ x. is_write m x.op) xs) (count (λ x. is_write m x.op) xs)
+    one : (b : Bool)
+        → (length (of_mem m r.writes) + cond b 1 0) + count (λ x. is_write m x.op) xs
+        ≡ length (of_mem m r.writes) + cond b (1 + count (λ x. is_write m x.op) xs) (count (λ x. is_write m x.op) xs)
     one true = omega arith
     one false = omega arith
 
-count_looked : (test : Op → Bool) → ((op : Op) → test (answered_op op) ≡ test op) → (xs : List Stmt) → count (λ x. test x.op) (looked_all xs) ≡ count (λ x. test x.op) xs
+count_looked : (test : Op → Bool)
+    → ((op : Op) → test (answered_op op) ≡ test op) → (xs : List Stmt) → count (λ x. test x.op) (looked_all xs) ≡ count (λ x. test x.op) xs
 count_looked test f [] = refl
 count_looked test f (x ∷ xs) = ap₂ (λ b n. cond b (1 + n) n) (f x.op) (count_looked test f xs)
 
@@ -342,7 +349,8 @@ module _ (p : Pipe) (sound : Sound p) (world : World) (args : List ℕ) where
       (subst (λ l. Fixed (thread (at_once p) world.words args).env (alone world) l (start_work p args))
       (before_looked s p.stmts) (Turns.fixed_before (at_once p) sound.pathwise world args s))
       (λ n. subst (λ l. phases_ok n Fresh l ≡ true)
-      (before_path (thread (at_once p) world.words args).env s (looked_all p.stmts) ∙ ap (onpath (thread (at_once p) world.words args).env) (before_looked s p.stmts))
+      (before_path (thread (at_once p) world.words args).env s (looked_all p.stmts)
+      ∙ ap (onpath (thread (at_once p) world.words args).env) (before_looked s p.stmts))
       (TurnPath.ok_before (along (thread (at_once p) world.words args).env (at_once p)) acc world args s n))
       (TurnPath.start_related (along (thread (at_once p) world.words args).env (at_once p)) acc world args)
       ∙ ap (λ l. (run_all l (TurnPath.start_run p world.words args)).env) (before_stages s p.stmts)
@@ -383,23 +391,36 @@ module _ (p : Pipe) (sound : Sound p) (world : World) (args : List ℕ) where
           ∙ ap (count (λ x. is_write m x.op)) (way_looked p (thread (at_once p) world.words args).env s)
           ∙ count_looked (is_write m) (write_looked m) (on_way p (thread (at_once p) world.words args).env s)
 
-      early : s ≤ commit_stage p m → are_right made (of_mem m (thread q world.words args).writes) (pend m n (entries_of m (so_far q world args s).entries)) ≡ true
+      early : s ≤ commit_stage p m
+          → are_right made (of_mem m (thread q world.words args).writes) (pend m n (entries_of m (so_far q world args s).entries)) ≡ true
       early low =
           let t = tied_at q acc world args s m in
           let ws : of_mem m (TurnPath.run_at q world.words args s).writes ≡ told m t.fulls = early_written q acc world args s m low in
           let more = writes_first q acc world args s m in
           let unset : List ℕ = (phase_all m Fresh xs).unwritten in
           let all : of_mem m (thread q world.words args).writes ≡ told m t.fulls ++ more.0 = more.1 ∙ ap (λ l. l ++ more.0) ws in
-          let rest : places more.0 ≡ rev (addresses_at (so_far q world args s).env unset) = same_rest (places (told m t.fulls)) (places more.0) (rev (addresses_at (so_far q world args s).env unset))
-          (sym (places_append (told m t.fulls) more.0) ∙ ap places (sym all) ∙ sym (TurnPath.all_places q acc world args s m h) ∙ ap (λ l. places l ++ rev (addresses_at (so_far q world args s).env unset)) ws) in
-          ap₂ (λ xs es. are_right made xs es) all (ap (pend m n) t.entries ∙ pend_append m n (waiting m (opened (so_far q world args s).env unset)) (known m t.fulls))
-          ∙ ap (λ k. are_right k (told m t.fulls ++ more.0) (pend m n (known m t.fulls) ++ pend m n (waiting m (opened (so_far q world args s).env unset)))) (sym counts ∙ ap length ws ∙ sym (none_first (length (told m t.fulls))))
+          let rest : places more.0
+          ≡ rev (addresses_at (so_far q world args s).env unset) = same_rest (places (told m t.fulls)) (places more.0)
+          (rev (addresses_at (so_far q world args s).env unset))
+          (sym (places_append (told m t.fulls) more.0) ∙ ap places (sym all) ∙ sym (TurnPath.all_places q acc world args s m h)
+          ∙ ap (λ l. places l ++ rev (addresses_at (so_far q world args s).env unset)) ws) in
+          ap₂ (λ xs es. are_right made xs es) all
+          (ap (pend m n) t.entries ∙ pend_append m n (waiting m (opened (so_far q world args s).env unset)) (known m t.fulls))
+          ∙ ap (λ k. are_right k (told m t.fulls ++ more.0) (pend m n (known m t.fulls) ++ pend m n (waiting m (opened (so_far q world args s).env unset))))
+          (sym counts ∙ ap length ws ∙ sym (none_first (length (told m t.fulls))))
           ∙ right_known m n 0 t.fulls more.0 (pend m n (waiting m (opened (so_far q world args s).env unset)))
-          (right_none more.0 (pend m n (waiting m (opened (so_far q world args s).env unset))) (none_waiting m n (opened (so_far q world args s).env unset)) (rest ∙ sym (spots_waiting m n (so_far q world args s).env unset)))
+          (right_none more.0 (pend m n (waiting m (opened (so_far q world args s).env unset))) (none_waiting m n (opened (so_far q world args s).env unset))
+          (rest ∙ sym (spots_waiting m n (so_far q world args s).env unset)))
 
-      at : (b : Bool) → nat_lt (commit_stage p m) s ≡ b → right_list made (of_mem m (thread q world.words args).writes) (pend m n (entries_of m (so_far q world args s).entries)) ≡ true
-      at true e = ap (λ es. right_list made (of_mem m (thread q world.words args).writes) (pend m n es)) (late_empty q acc world args s m (ltb-true (commit_stage p m) s e) h)
-      at false e = right_some made (of_mem m (thread q world.words args).writes) (pend m n (entries_of m (so_far q world args s).entries)) (early (ltb-false (commit_stage p m) s e))
+      at : (b : Bool)
+          → nat_lt (commit_stage p m) s ≡ b
+          → right_list made (of_mem m (thread q world.words args).writes) (pend m n (entries_of m (so_far q world args s).entries)) ≡ true
+      at true e =
+          ap (λ es. right_list made (of_mem m (thread q world.words args).writes) (pend m n es))
+          (late_empty q acc world args s m (ltb-true (commit_stage p m) s e) h)
+      at false e =
+          right_some made (of_mem m (thread q world.words args).writes) (pend m n (entries_of m (so_far q world args s).entries))
+          (early (ltb-false (commit_stage p m) s e))
 
   -- its guess
 

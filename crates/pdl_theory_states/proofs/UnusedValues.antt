@@ -195,4 +195,3 @@ untouched x (op ∷ ops) h = let k = or_parts (mentions_var x op) (is_mentioned 
 -- another value of a variable on which a statement doesn't hang
 pub set_agrees : (x v : ℕ) (op : Op) (env : List ℕ) → touches x op ≡ false → Agrees op env (slice_set env x v)
 set_agrees x v op env h g k = sym (get_or-set_other env x g v 0 (λ e. untrue (sym h ∙ ap (λ n. touches n op) (sym e) ∙ k)))
-

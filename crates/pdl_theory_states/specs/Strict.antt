@@ -93,4 +93,6 @@ pub record Strict (p : Pipe) : Type 0 where
 
 -- whether each path passes the tests of names and of blocks that are released
 abbrev pub is_strict : Pipe → Bool
-is_strict p = all_paths (all_guards p) (λ path. all_new p.vars [] (onpath path p.stmts) && (all_keep_guess (onpath path p.stmts) && all_let_go (onpath path p.stmts))) (start_env p [])
+is_strict p =
+    all_paths (all_guards p) (λ path. all_new p.vars [] (onpath path p.stmts) && (all_keep_guess (onpath path p.stmts) && all_let_go (onpath path p.stmts)))
+    (start_env p [])

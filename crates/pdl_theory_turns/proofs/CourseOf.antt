@@ -199,17 +199,22 @@ module _ (p : Pipe) (acc : Sound p) where
         (Makes.child_in_end (at_once p) acc.pathwise (thread (at_once p) world.words args).env world args)
         ∙ same_args_refl (thread (along (thread (at_once p) world.words args).env (at_once p)) world.words args).next
 
-    changed_here : (s : ℕ) → Changed (stage_work (along (thread (at_once p) world.words args).env (at_once p)) world args s) → Changed (stage_work p world args s)
+    changed_here : (s : ℕ)
+        → Changed (stage_work (along (thread (at_once p) world.words args).env (at_once p)) world args s)
+        → Changed (stage_work p world args s)
     changed_here s (inl h) = inl (child_here s ∙ h.0, fails_here s ∙ h.1)
     changed_here s (inr h) = inr (h.0, child_here s ∙ h.1, fails_here s ∙ h.2)
 
     made_changes : (s : ℕ) (x : List ℕ) → (so_far p world args s).child ≡ Some x → Changed (stage_work p world args s)
     made_changes s x e =
         changed_here s
-        (Makes.made_changes (at_once p) acc.pathwise (thread (at_once p) world.words args).env world args (alone world) s x (ap (λ (w : Work). w.child) (sym (so s)) ∙ e))
+        (Makes.made_changes (at_once p) acc.pathwise (thread (at_once p) world.words args).env world args (alone world) s x
+        (ap (λ (w : Work). w.child) (sym (so s)) ∙ e))
 
     -- along the path: a guess that isn't verified yet
-    inside : (s : ℕ) → ((v : ℕ) × (verify_stage (looked_all p.stmts) ≡ Some v) × (s ≤ v)) → (s ≤ v_of (verify_stage p.stmts)) × (verify_stage p.stmts ≡ Some (v_of (verify_stage p.stmts)))
+    inside : (s : ℕ)
+        → ((v : ℕ) × (verify_stage (looked_all p.stmts) ≡ Some v) × (s ≤ v))
+        → (s ≤ v_of (verify_stage p.stmts)) × (verify_stage p.stmts ≡ Some (v_of (verify_stage p.stmts)))
     inside s i =
         let there : verify_stage p.stmts ≡ Some i.0 = sym
         (verify_looked p.stmts) ∙ i.1 in
@@ -220,16 +225,19 @@ module _ (p : Pipe) (acc : Sound p) where
       made_here : (so_far (along (thread (at_once p) world.words args).env (at_once p)) world args s).child ≡ Some x
       made_here = ap (λ (w : Work). w.child) (sym (so s)) ∙ e
 
-      wrong_made : same_args x (thread p world.words args).next ≡ false → (s ≤ v_of (verify_stage p.stmts)) × (verify_stage p.stmts ≡ Some (v_of (verify_stage p.stmts)))
+      wrong_made : same_args x (thread p world.words args).next ≡ false
+          → (s ≤ v_of (verify_stage p.stmts)) × (verify_stage p.stmts ≡ Some (v_of (verify_stage p.stmts)))
       wrong_made h =
           inside s (
           Makes.guess_inside (at_once p) acc.pathwise (thread (at_once p) world.words args).env world args s
-          (Makes.wrong_made (at_once p) acc.pathwise (thread (at_once p) world.words args).env world args s x made_here (ap (λ (r : Run). same_args x r.next) (sym whole) ∙ h)))
+          (Makes.wrong_made (at_once p) acc.pathwise (thread (at_once p) world.words args).env world args s x made_here
+          (ap (λ (r : Run). same_args x r.next) (sym whole) ∙ h)))
 
       changes_early : (stage_work p world args s).fails ≡ true → (s ≤ v_of (verify_stage p.stmts)) × (verify_stage p.stmts ≡ Some (v_of (verify_stage p.stmts)))
       changes_early h =
           inside s (Makes.guess_inside (at_once p) acc.pathwise (thread (at_once p) world.words args).env world args s
-          (Makes.change_guessed (at_once p) acc.pathwise (thread (at_once p) world.words args).env world args (alone world) s x made_here (sym (fails_here s) ∙ h)))
+          (Makes.change_guessed (at_once p) acc.pathwise (thread (at_once p) world.words args).env world args (alone world) s x made_here
+          (sym (fails_here s) ∙ h)))
 
     fetched : (o : Around) (t : Thread) → AllAsks (λ q. FetchOk p acc.fetch t.stage q.var q.mem) (work_of_stage p o t).asks
     fetched o t =
@@ -289,7 +297,8 @@ module _ (p : Pipe) (acc : Sound p) where
             λ o t m h. sym
             (found_one (λ n. acc.fetch n ≡ t.stage)
             (work_of_stage p o t).asks m
-            (all_more _ (λ q. acc.fetch q.mem ≡ t.stage) (work_of_stage p o t).asks (λ q k. k.here) (fetched (record { words = λ n a. 0; guess = [] }) [] o t)) h);
+            (all_more _ (λ q. acc.fetch q.mem ≡ t.stage) (work_of_stage p o t).asks (λ q k. k.here)
+            (fetched (record { words = λ n a. 0; guess = [] }) [] o t)) h);
         asks_ok =
             λ world args s on low. all_more _ (AskOk p acc.fetch s (next_at p world args s))
             (stage_work p world args s).asks
@@ -314,7 +323,6 @@ module _ (p : Pipe) (acc : Sound p) where
         made_changes = λ world args s x on e. made_changes world args s x e;
         changes_early = λ world args s x on e h. changes_early world args s x e h;
         wrong_made = wrong_made;
-
         stray = Roams p;
         made = has_made p;
         stray_fresh = fresh_roams p acc;

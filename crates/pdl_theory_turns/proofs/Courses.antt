@@ -90,8 +90,11 @@ pub record Course (p : Pipe) : Type 1 where
       → (so_far p world args (next_at p world args s)).child ≡ or_else (stage_work p world args s).child (so_far p world args s).child
   pub child_end : (world : World) (args : List ℕ) → right_guess (so_far p world args (length p.stages)).child (thread p world.words args).next ≡ true
   -- once it has made one, a stage makes nothing or replaces it, which is no later than v
-  pub made_changes : (world : World) (args : List ℕ) (s : ℕ) (x : List ℕ) → on world args s → (so_far p world args s).child ≡ Some x → Changed (stage_work p world args s)
-  pub changes_early : (world : World) (args : List ℕ) (s : ℕ) (x : List ℕ) → on world args s → (so_far p world args s).child ≡ Some x → (stage_work p world args s).fails ≡ true → (s ≤ v) × (verify_stage p.stmts ≡ Some v)
+  pub made_changes : (world : World) (args : List ℕ) (s : ℕ) (x : List ℕ)
+      → on world args s → (so_far p world args s).child ≡ Some x → Changed (stage_work p world args s)
+  pub changes_early : (world : World) (args : List ℕ) (s : ℕ) (x : List ℕ)
+      → on world args s → (so_far p world args s).child ≡ Some x → (stage_work p world args s).fails ≡ true
+      → (s ≤ v) × (verify_stage p.stmts ≡ Some v)
   pub wrong_made : (world : World) (args : List ℕ) (s : ℕ) (x : List ℕ) → (so_far p world args s).child ≡ Some x
       → same_args x (thread p world.words args).next ≡ false → (s ≤ v) × (verify_stage p.stmts ≡ Some v)
   -- a thread after a wrong guess, which has passed no barrier

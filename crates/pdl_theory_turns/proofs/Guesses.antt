@@ -37,7 +37,8 @@ making_append k (x ∷ xs) ys = making_append (next_making k x.op) xs ys
 -- of two lists that make the next thread in order the first does
 pub makings_first : (v : Option ℕ) (k : Making) (xs ys : List Stmt) → makings_ok v k (xs ++ ys) ≡ true → makings_ok v k xs ≡ true
 makings_first v k [] ys h = refl
-makings_first v k (x ∷ xs) ys h = ap₂ (λ a b. a && b) (and_left (making_ok v k x.stage x.op) _ h) (makings_first v (next_making k x.op) xs ys (and_right (making_ok v k x.stage x.op) _ h))
+makings_first v k (x ∷ xs) ys h =
+    ap₂ (λ a b. a && b) (and_left (making_ok v k x.stage x.op) _ h) (makings_first v (next_making k x.op) xs ys (and_right (making_ok v k x.stage x.op) _ h))
 
 -- and so does the second, from where the first one leads
 pub makings_second : (v : Option ℕ) (k : Making) (xs ys : List Stmt) → makings_ok v k (xs ++ ys) ≡ true → makings_ok v (making_all k xs) ys ≡ true
@@ -53,9 +54,12 @@ check_op v k s _ h c = absurd (cc c)
 -- none stands behind V
 pub unchecked_from : (v : ℕ) (k : Making) (xs : List Stmt) (s : ℕ) → v < s → makings_ok (Some v) k xs ≡ true → none_of is_check (stages_from s xs) ≡ true
 unchecked_from v k [] s low h = refl
-unchecked_from v k (x ∷ xs) s low h = at (nat_le s x.stage) refl (is_check x.op) refl (unchecked_from v (next_making k x.op) xs s low (and_right (making_ok (Some v) k x.stage x.op) _ h))
+unchecked_from v k (x ∷ xs) s low h =
+    at (nat_le s x.stage) refl (is_check x.op) refl (unchecked_from v (next_making k x.op) xs s low (and_right (making_ok (Some v) k x.stage x.op) _ h))
   where
-    at : (b : Bool) → nat_le s x.stage ≡ b → (c : Bool) → is_check x.op ≡ c → none_of is_check (stages_from s xs) ≡ true → none_of is_check (cond b (x ∷ stages_from s xs) (stages_from s xs)) ≡ true
+    at : (b : Bool)
+        → nat_le s x.stage ≡ b → (c : Bool) → is_check x.op ≡ c → none_of is_check (stages_from s xs) ≡ true
+        → none_of is_check (cond b (x ∷ stages_from s xs) (stages_from s xs)) ≡ true
     at true e true f r = absurd (let i = leb-true s x.stage e in let j = check_op v k x.stage x.op (and_left _ _ h) f in omega arith)
     at true e false f r = ap₂ (λ a b. not a && b) f r
     at false e c f r = r
@@ -94,7 +98,8 @@ unverified_made v (x ∷ xs) h =
 abbrev pub Kept : Work → Work → Type 0
 Kept v w = (v.child ≡ w.child) × (v.fails ≡ w.fails) × (v.guess ≡ w.guess)
 
-settled_op : (o : Around) (v : Option ℕ) (k : Making) (s : ℕ) (op : Op) (w : Work) → is_unmade k ≡ false → making_ok v k s op ≡ true → not (is_check op) ≡ true → Kept (work_after o op w) w × (next_making k op ≡ k)
+settled_op : (o : Around) (v : Option ℕ) (k : Making) (s : ℕ) (op : Op) (w : Work)
+    → is_unmade k ≡ false → making_ok v k s op ≡ true → not (is_check op) ≡ true → Kept (work_after o op w) w × (next_making k op ≡ k)
 settled_op o v k s (Call args) w u h n = absurd (clash (sym u ∙ h))
   where
     clash : false ≡ true → ⊥
@@ -111,16 +116,19 @@ kept_step true v w h = h
 kept_step false v w h = (refl, refl, refl)
 
 -- once something is made, statements without a check keep child, failure and guess
-pub settled : (o : Around) (v : Option ℕ) (k : Making) (xs : List Stmt) (w : Work) → is_unmade k ≡ false → makings_ok v k xs ≡ true → none_of is_check xs ≡ true → Kept (do_all o xs w) w × (making_all k xs ≡ k)
+pub settled : (o : Around) (v : Option ℕ) (k : Making) (xs : List Stmt) (w : Work)
+    → is_unmade k ≡ false → makings_ok v k xs ≡ true → none_of is_check xs ≡ true → Kept (do_all o xs w) w × (making_all k xs ≡ k)
 settled o v k [] w u h n = ((refl, refl, refl), refl)
 settled o v k (x ∷ xs) w u h n =
     let here = settled_op o v k x.stage x.op w u (and_left _ _ h) (and_left _ _ n) in
-    let rest = settled o v k xs (step o x w) u (subst (λ j. makings_ok v j xs ≡ true) here.1 (and_right (making_ok v k x.stage x.op) _ h)) (and_right (not (is_check x.op)) _ n) in
+    let rest = settled o v k xs (step o x w) u (subst (λ j. makings_ok v j xs ≡ true) here.1 (and_right (making_ok v k x.stage x.op) _ h))
+    (and_right (not (is_check x.op)) _ n) in
     let one = kept_step (all_hold x.guards w.env) (work_after o x.op w) w here.0 in
     ((rest.0.0 ∙ one.0, rest.0.1 ∙ one.1, rest.0.2 ∙ one.2), ap (λ j. making_all j xs) here.1 ∙ rest.1)
 
 -- nor is the next arguments' value changed
-run_op_settled : (v : Option ℕ) (k : Making) (s : ℕ) (op : Op) (r : Run) → is_unmade k ≡ false → making_ok v k s op ≡ true → not (is_check op) ≡ true → (run_after op r).next ≡ r.next
+run_op_settled : (v : Option ℕ) (k : Making) (s : ℕ) (op : Op) (r : Run)
+    → is_unmade k ≡ false → making_ok v k s op ≡ true → not (is_check op) ≡ true → (run_after op r).next ≡ r.next
 run_op_settled v k s (Call args) r u h n = absurd (clash (sym u ∙ h))
   where
     clash : false ≡ true → ⊥
@@ -129,11 +137,15 @@ run_op_settled v k s (Verify last args) r u h n = absurd (cc n)
 run_op_settled v k s _ r u h n = refl
 
 -- and in sequence they keep the next arguments
-pub run_settled : (v : Option ℕ) (k : Making) (xs : List Stmt) (r : Run) → is_unmade k ≡ false → makings_ok v k xs ≡ true → none_of is_check xs ≡ true → (run_all xs r).next ≡ r.next
+pub run_settled : (v : Option ℕ) (k : Making) (xs : List Stmt) (r : Run)
+    → is_unmade k ≡ false → makings_ok v k xs ≡ true → none_of is_check xs ≡ true → (run_all xs r).next ≡ r.next
 run_settled v k [] r u h n = refl
 run_settled v k (x ∷ xs) r u h n =
-    let here = settled_op (alone (record { words = r.arrays; guess = [] })) v k x.stage x.op (record { env = []; entries = []; guess = []; asks = []; reserves = []; commits = []; child = None; fails = false; ready = true }) u (and_left _ _ h) (and_left _ _ n) in
-    run_settled v k xs (if all_hold x.guards r.env then run_after x.op r else r) u (subst (λ j. makings_ok v j xs ≡ true) here.1 (and_right (making_ok v k x.stage x.op) _ h)) (and_right (not (is_check x.op)) _ n)
+    let here = settled_op (alone (record { words = r.arrays; guess = [] })) v k x.stage x.op
+    (record { env = []; entries = []; guess = []; asks = []; reserves = []; commits = []; child = None; fails = false; ready = true }) u (and_left _ _ h)
+    (and_left _ _ n) in
+    run_settled v k xs (if all_hold x.guards r.env then run_after x.op r else r) u
+    (subst (λ j. makings_ok v j xs ≡ true) here.1 (and_right (making_ok v k x.stage x.op) _ h)) (and_right (not (is_check x.op)) _ n)
     ∙ at (all_hold x.guards r.env)
   where
     at : (b : Bool) → (cond b (run_after x.op r) r).next ≡ r.next
@@ -164,19 +176,25 @@ pub step_free : (o : Around) (x : Stmt) (w : Work) → no_guards x.guards ≡ tr
 step_free o x w h = ap (λ b. cond b (work_after o x.op w) w) (taken_none x.guards w.env h)
 
 -- a thread has made one where the scan says so
-begins_op : (o : Around) (v : Option ℕ) (k : Making) (s : ℕ) (op : Op) (w : Work) → making_ok v k s op ≡ true → is_unmade k ≡ not (is_some w.child) → is_unmade (next_making k op) ≡ not (is_some (work_after o op w).child)
+begins_op : (o : Around) (v : Option ℕ) (k : Making) (s : ℕ) (op : Op) (w : Work)
+    → making_ok v k s op ≡ true → is_unmade k ≡ not (is_some w.child)
+    → is_unmade (next_making k op) ≡ not (is_some (work_after o op w).child)
 begins_op o v k s (Call args) w h e = refl
 begins_op o v k s (SpecCall args) w h e = refl
 begins_op o v k s (Verify true args) w h e = by k e (and_left _ _ h) (same_args (values_of args w.env) w.guess)
   where
-    by : (k : Making) → is_unmade k ≡ not (is_some w.child) → is_guessed k ≡ true → (b : Bool) → false ≡ not (is_some (cond b w (record w { child = Some (values_of args w.env); guess = (values_of args w.env); fails = true })).child)
+    by : (k : Making)
+        → is_unmade k ≡ not (is_some w.child) → is_guessed k ≡ true → (b : Bool)
+        → false ≡ not (is_some (cond b w (record w { child = Some (values_of args w.env); guess = (values_of args w.env); fails = true })).child)
     by Unmade e g b = absurd (cc g)
     by Guessed e g true = e
     by Guessed e g false = refl
     by Made e g b = absurd (cc g)
 begins_op o v k s (Verify false args) w h e = by k e (and_left _ _ h) (same_args (values_of args w.env) w.guess)
   where
-    by : (k : Making) → is_unmade k ≡ not (is_some w.child) → is_guessed k ≡ true → (b : Bool) → false ≡ not (is_some (cond b w (record w { child = Some (values_of args w.env); guess = (values_of args w.env); fails = true })).child)
+    by : (k : Making)
+        → is_unmade k ≡ not (is_some w.child) → is_guessed k ≡ true → (b : Bool)
+        → false ≡ not (is_some (cond b w (record w { child = Some (values_of args w.env); guess = (values_of args w.env); fails = true })).child)
     by Unmade e g b = absurd (cc g)
     by Guessed e g true = e
     by Guessed e g false = refl
@@ -184,10 +202,13 @@ begins_op o v k s (Verify false args) w h e = by k e (and_left _ _ h) (same_args
 begins_op o v k s _ w h e = e
 
 -- after statements that make the next thread in order a thread has made one just where they say so
-pub begins : (o : Around) (v : Option ℕ) (k : Making) (xs : List Stmt) (w : Work) → is_unmade k ≡ not (is_some w.child) → makings_ok v k xs ≡ true → unguarded xs ≡ true → is_unmade (making_all k xs) ≡ not (is_some (do_all o xs w).child)
+pub begins : (o : Around) (v : Option ℕ) (k : Making) (xs : List Stmt) (w : Work)
+    → is_unmade k ≡ not (is_some w.child) → makings_ok v k xs ≡ true → unguarded xs ≡ true
+    → is_unmade (making_all k xs) ≡ not (is_some (do_all o xs w).child)
 begins o v k [] w e h g = e
 begins o v k (x ∷ xs) w e h g =
-    begins o v (next_making k x.op) xs (work_after o x.op w) (begins_op o v k x.stage x.op w (and_left _ _ h) e) (and_right (making_ok v k x.stage x.op) _ h) (and_right (no_guards x.guards) _ g)
+    begins o v (next_making k x.op) xs (work_after o x.op w) (begins_op o v k x.stage x.op w (and_left _ _ h) e) (and_right (making_ok v k x.stage x.op) _ h)
+    (and_right (no_guards x.guards) _ g)
     ∙ ap (λ (u : Work). not (is_some (do_all o xs u).child)) (sym (step_free o x w (and_left _ _ g)))
 
 -- A TURN, ALONE AND IN THE SEQUENTIAL RUN
@@ -198,13 +219,16 @@ Calls Unmade child guess next = child ≡ None
 Calls Guessed child guess next = child ≡ Some guess
 Calls Made child guess next = child ≡ Some next
 
-calls_op : (o : Around) (v : Option ℕ) (k : Making) (s : ℕ) (op : Op) (w : Work) (r : Run) → making_ok v k s op ≡ true → w.env ≡ r.env → Calls k w.child w.guess r.next
+calls_op : (o : Around) (v : Option ℕ) (k : Making) (s : ℕ) (op : Op) (w : Work) (r : Run)
+    → making_ok v k s op ≡ true → w.env ≡ r.env → Calls k w.child w.guess r.next
     → Calls (next_making k op) (work_after o op w).child (work_after o op w).guess (run_after op r).next
 calls_op o v k s (Call args) w r h e c = ap (λ l. Some (values_of args l)) e
 calls_op o v k s (SpecCall args) w r h e c = refl
 calls_op o v k s (Verify true args) w r h e c = by k c (and_left _ _ h)
   where
-    at : (b : Bool) → same_args (values_of args w.env) w.guess ≡ b → w.child ≡ Some w.guess → (cond b w (record w { child = Some (values_of args w.env); guess = (values_of args w.env); fails = true })).child ≡ Some (values_of args r.env)
+    at : (b : Bool)
+        → same_args (values_of args w.env) w.guess ≡ b → w.child ≡ Some w.guess
+        → (cond b w (record w { child = Some (values_of args w.env); guess = (values_of args w.env); fails = true })).child ≡ Some (values_of args r.env)
     at true i c = c ∙ ap Some (sym (same_args_eq _ _ i)) ∙ ap (λ l. Some (values_of args l)) e
     at false i c = ap (λ l. Some (values_of args l)) e
 
@@ -214,24 +238,35 @@ calls_op o v k s (Verify true args) w r h e c = by k c (and_left _ _ h)
     by Made c i = absurd (cc i)
 calls_op o v k s (Verify false args) w r h e c = by k c (and_left _ _ h)
   where
-    at : (b : Bool) → w.child ≡ Some w.guess → (cond b w (record w { child = Some (values_of args w.env); guess = (values_of args w.env); fails = true })).child ≡ Some (cond b w (record w { child = Some (values_of args w.env); guess = (values_of args w.env); fails = true })).guess
+    at : (b : Bool)
+        → w.child ≡ Some w.guess
+        → (cond b w (record w { child = Some (values_of args w.env); guess = (values_of args w.env); fails = true })).child
+        ≡ Some (cond b w (record w { child = Some (values_of args w.env); guess = (values_of args w.env); fails = true })).guess
     at true c = c
     at false c = refl
 
-    by : (k : Making) → Calls k w.child w.guess r.next → is_guessed k ≡ true → (work_after o (Verify false args) w).child ≡ Some (work_after o (Verify false args) w).guess
+    by : (k : Making)
+        → Calls k w.child w.guess r.next → is_guessed k ≡ true
+        → (work_after o (Verify false args) w).child ≡ Some (work_after o (Verify false args) w).guess
     by Unmade c i = absurd (cc i)
     by Guessed c i = at (same_args (values_of args w.env) w.guess) c
     by Made c i = absurd (cc i)
 calls_op o v k s _ w r h e c = c
 
 -- alone, what a thread has made is what the sequential thread passes on, as far as it has come
-pub calls_all : (world : World) (v : Option ℕ) (xs : List Stmt) (ph : ℕ → Phase) (k : Making) (w : Work) (r : Run) → ((m : ℕ) → phases_ok m (ph m) xs ≡ true) → makings_ok v k xs ≡ true → Related world ph w r → Calls k w.child w.guess r.next
+pub calls_all : (world : World) (v : Option ℕ) (xs : List Stmt) (ph : ℕ → Phase) (k : Making) (w : Work) (r : Run)
+    → ((m : ℕ) → phases_ok m (ph m) xs ≡ true) → makings_ok v k xs ≡ true → Related world ph w r → Calls k w.child w.guess r.next
     → Calls (making_all k xs) (do_all (alone world) xs w).child (do_all (alone world) xs w).guess (run_all xs r).next
 calls_all world v [] ph k w r ok h rel c = c
 calls_all world v (x ∷ xs) ph k w r ok h rel c =
-    subst (λ (u : Work). Calls (making_all (next_making k x.op) xs) (do_all (alone world) xs u).child (do_all (alone world) xs u).guess (run_all xs (cond (all_hold x.guards r.env) (run_after x.op r) r)).next) (sym (step_free (alone world) x w free))
-    (subst (λ (u : Run). Calls (making_all (next_making k x.op) xs) (do_all (alone world) xs (work_after (alone world) x.op w)).child (do_all (alone world) xs (work_after (alone world) x.op w)).guess (run_all xs u).next) (sym (ap (λ b. cond b (run_after x.op r) r) (taken_none x.guards r.env free)))
-    (calls_all world v xs (next_phases ph x.op) (next_making k x.op) (work_after (alone world) x.op w) (run_after x.op r) (λ m. and_right _ _ (ok m)) (and_right (making_ok v k x.stage x.op) _ h)
+    subst
+    (λ (u : Work). Calls (making_all (next_making k x.op) xs) (do_all (alone world) xs u).child (do_all (alone world) xs u).guess
+    (run_all xs (cond (all_hold x.guards r.env) (run_after x.op r) r)).next) (sym (step_free (alone world) x w free))
+    (subst (λ (u : Run). Calls (making_all (next_making k x.op) xs) (do_all (alone world) xs (work_after (alone world) x.op w)).child
+    (do_all (alone world) xs (work_after (alone world) x.op w)).guess (run_all xs u).next) (sym
+    (ap (λ b. cond b (run_after x.op r) r) (taken_none x.guards r.env free)))
+    (calls_all world v xs (next_phases ph x.op) (next_making k x.op) (work_after (alone world) x.op w) (run_after x.op r) (λ m. and_right _ _ (ok m))
+    (and_right (making_ok v k x.stage x.op) _ h)
     (related_step world ph x.op w r (λ m. and_right _ _ (and_left _ _ (ok m))) rel)
     (calls_op (alone world) v k x.stage x.op w r (and_left _ _ h) rel.env c)))
   where
@@ -244,7 +279,8 @@ calls_all world v (x ∷ xs) ph k w r ok h rel c =
 abbrev pub Changed : Work → Type 0
 Changed w = ((w.child ≡ None) × (w.fails ≡ false)) ⊎ ((y : List ℕ) × (w.child ≡ Some y) × (w.fails ≡ true))
 
-changed_op : (o : Around) (v : Option ℕ) (k : Making) (s : ℕ) (op : Op) (w : Work) → is_unmade k ≡ false → making_ok v k s op ≡ true → Changed w → Changed (work_after o op w) × (is_unmade (next_making k op) ≡ false)
+changed_op : (o : Around) (v : Option ℕ) (k : Making) (s : ℕ) (op : Op) (w : Work)
+    → is_unmade k ≡ false → making_ok v k s op ≡ true → Changed w → Changed (work_after o op w) × (is_unmade (next_making k op) ≡ false)
 changed_op o v k s (Call args) w u h c = absurd (clash (sym u ∙ h))
   where
     clash : false ≡ true → ⊥
@@ -266,7 +302,8 @@ changed_op o v k s (Verify false args) w u h c = (at (same_args (values_of args 
 changed_op o v k s _ w u h c = (c, u)
 
 -- once something is made, statements make nothing, or a new thread in its place
-pub changed_all : (o : Around) (v : Option ℕ) (k : Making) (xs : List Stmt) (w : Work) → is_unmade k ≡ false → makings_ok v k xs ≡ true → Changed w → Changed (do_all o xs w) × (is_unmade (making_all k xs) ≡ false)
+pub changed_all : (o : Around) (v : Option ℕ) (k : Making) (xs : List Stmt) (w : Work)
+    → is_unmade k ≡ false → makings_ok v k xs ≡ true → Changed w → Changed (do_all o xs w) × (is_unmade (making_all k xs) ≡ false)
 changed_all o v k [] w u h c = (c, u)
 changed_all o v k (x ∷ xs) w u h c =
     let one = changed_op o v k x.stage x.op w u (and_left _ _ h) c in

@@ -96,7 +96,12 @@ does_set world x v (DelayedRead y m a) w h =
 does_set world x v (Write m a e) w h = let n = not_or (a == x) (uses_in x e) h in
     ap (λ k. record (with_set w x v) { entries = with_entry_value w.entries m a k }) (value_unused x v e w.env n.1)
 does_set world x v (ReserveWrite m a) w h =
-    ap (λ k. record (with_set w x v) { entries = record { mem = m; var = a; address = k; value = None } ∷ w.entries; reserves = w.reserves ++ record { mem = m; var = a; address = k } ∷ [] })
+    ap
+    (λ k. record (with_set w x v) {
+      entries = record { mem = m; var = a; address = k; value = None } ∷ w.entries;
+      reserves = w.reserves
+          ++ record { mem = m; var = a; address = k } ∷ [];
+    })
     (other w.env x v a h)
 does_set world x v (Block m a) w h = refl
 does_set world x v (Call args) w h = ap (λ k. record (with_set w x v) { child = Some k }) (values_unused x v args w.env h)

@@ -150,21 +150,28 @@ module _ (p : Pipe) (acc : Pathwise p) (path : List ℕ) (world : World) (args :
               apart k = cc
 
   -- a stage of a thread that has made one makes nothing, or replaces it
-  pub made_changes : (o : Around) (s : ℕ) (x : List ℕ) → (so_far (along path p) world args s).child ≡ Some x → Changed (work_of_stage (along path p) o (thread_at (along path p) world args s))
+  pub made_changes : (o : Around) (s : ℕ) (x : List ℕ)
+      → (so_far (along path p) world args s).child ≡ Some x
+      → Changed (work_of_stage (along path p) o (thread_at (along path p) world args s))
   made_changes o s x h =
       by_making (making_all Unmade (before s (onpath path p.stmts))) _
       (λ k. absurd (not_some (sym (unmade_child s k) ∙ h)))
       (λ k. here Guessed k refl)
       (λ k. here Made k refl)
     where
-      here : (k : Making) → making_all Unmade (before s (onpath path p.stmts)) ≡ k → is_unmade k ≡ false → Changed (work_of_stage (along path p) o (thread_at (along path p) world args s))
+      here : (k : Making)
+          → making_all Unmade (before s (onpath path p.stmts)) ≡ k → is_unmade k ≡ false
+          → Changed (work_of_stage (along path p) o (thread_at (along path p) world args s))
       here k i u =
           (changed_all o (verify_stage p.stmts) k (in_stage s (onpath path p.stmts))
           (reset (so_far (along path p) world args s)) u
           (subst (λ j. makings_ok (verify_stage p.stmts) j (in_stage s (onpath path p.stmts)) ≡ true) i (makings_stage s)) (inl (refl, refl))).0
 
   -- only a thread whose guess isn't verified yet replaces it before a stage, the stage makes none and fails no verify
-  pub change_guessed : (o : Around) (s : ℕ) (x : List ℕ) → (so_far (along path p) world args s).child ≡ Some x → (work_of_stage (along path p) o (thread_at (along path p) world args s)).fails ≡ true → making_all Unmade (before s (onpath path p.stmts)) ≡ Guessed
+  pub change_guessed : (o : Around) (s : ℕ) (x : List ℕ)
+      → (so_far (along path p) world args s).child ≡ Some x
+      → (work_of_stage (along path p) o (thread_at (along path p) world args s)).fails ≡ true
+      → making_all Unmade (before s (onpath path p.stmts)) ≡ Guessed
   change_guessed o s x h f =
       by_making (making_all Unmade (before s (onpath path p.stmts))) _
       (λ k. absurd (not_some (sym (unmade_child s k) ∙ h)))

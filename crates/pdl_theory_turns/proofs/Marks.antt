@@ -34,11 +34,15 @@ marked k [] = []
 marked k (c ∷ cs) = record { address = c.address; value = c.value; known = nat_lt 0 k } ∷ marked (k - 1) cs
 
 -- all writes are marked but the first one, where they are one more
-pub marked_more : (n : ℕ) (d : Commit) (cs : List Commit) → marked (suc n) (d ∷ cs) ≡ record { address = d.address; value = d.value; known = true } ∷ marked n cs
-marked_more n d cs = ap₂ (λ b k. record { address = d.address; value = d.value; known = b } ∷ marked k cs) (lt-ltb 0 (suc n) (omega arith)) (let e : suc n - 1 ≡ n = omega arith in e)
+pub marked_more : (n : ℕ) (d : Commit) (cs : List Commit)
+    → marked (suc n) (d ∷ cs) ≡ record { address = d.address; value = d.value; known = true } ∷ marked n cs
+marked_more n d cs =
+    ap₂ (λ b k. record { address = d.address; value = d.value; known = b } ∷ marked k cs) (lt-ltb 0 (suc n) (omega arith))
+    (let e : suc n - 1 ≡ n = omega arith in e)
 
 -- all writes are marked, with one more
-pub marked_last : (cs : List Commit) (c : Commit) → marked (length (cs ++ c ∷ [])) (cs ++ c ∷ []) ≡ marked (length cs) cs ++ record { address = c.address; value = c.value; known = true } ∷ []
+pub marked_last : (cs : List Commit) (c : Commit)
+    → marked (length (cs ++ c ∷ [])) (cs ++ c ∷ []) ≡ marked (length cs) cs ++ record { address = c.address; value = c.value; known = true } ∷ []
 marked_last [] c = refl
 marked_last (d ∷ cs) c =
     marked_more (length (cs ++ c ∷ [])) d (cs ++ c ∷ []) ∙ ap (λ l. record { address = d.address; value = d.value; known = true } ∷ l) (marked_last cs c)

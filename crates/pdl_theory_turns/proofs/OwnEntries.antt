@@ -1,7 +1,7 @@
 -- A thread's entries of one memory: what its stage does to them; and guards that keep their values over statements.
 use Rattle.std.proofs.Common.{◌≡◌, ◌||◌, ◌⊎◌, refl, sym, ap, ap₂, ◌∙◌, ℕ, ◌+◌, inl, inr, length, take, drop, Bool, true, false, ◌&&◌, not, List, [], ◌∷◌, ◌++◌, Option, Some, None, ◌==◌, cond, if◌then◌else◌, eq-eqb, slice_index, append-nil}
 use Rattle.pdl_semantics.specs.Flat.{of_mem, Op, ReserveWrite, Release, Verify, Stmt, Guard, values_of, all_hold}
-use Rattle.pdl_semantics.specs.Stages.{ is_reserve, is_release}
+use Rattle.pdl_semantics.specs.Stages.{is_reserve, is_release}
 use Rattle.pdl_semantics.specs.Machine.{same_args, is_held, Pending, Deeds, deeds_after_all}
 use Rattle.pdl_semantics.specs.Cycle.{new_entries, with_writes_of, releases_of}
 use Rattle.pdl_theory_turns.proofs.EntryCommits.{released}
@@ -63,7 +63,9 @@ pub worked : (m n : ℕ) (start : List Pending) (d : Deeds) (w : Work) (ph : Pha
     → (releases_of m d.releases ≡ 0) ⊎ (is_over ph ≡ true) → Worked m n start d w
 worked m n start d w ph g (inl h) =
     let none : g.out ≡ [] = no_length g.out (g.outs ∙ h) in
-    let two : with_writes_of m n d.writes (start ++ new_entries m n d.reserves) ≡ pend m n w.entries = g.two ∙ ap₂ (λ l k. l ++ (k ++ pend m n (waiting m g.opens))) none (g.exact h) ∙ sym (pend_append m n (waiting m g.opens) (known m g.fulls)) ∙ ap (pend m n) (sym g.entries) ∙ sym (pend_own m n w.entries) in
+    let two : with_writes_of m n d.writes (start ++ new_entries m n d.reserves) ≡ pend m n w.entries = g.two
+    ∙ ap₂ (λ l k. l ++ (k ++ pend m n (waiting m g.opens))) none (g.exact h) ∙ sym (pend_append m n (waiting m g.opens) (known m g.fulls))
+    ∙ ap (pend m n) (sym g.entries) ∙ sym (pend_own m n w.entries) in
     record {
       after = sym two ∙ sym (ap (λ k. drop k (with_writes_of m n d.writes (start ++ new_entries m n d.reserves))) h);
       full = inl h;
@@ -74,10 +76,12 @@ worked m n start d w ph g (inr h) =
     let empty : g.fulls ≡ [] = no_fulls g.fulls (g.at_full ∙ nil_of ph.full (and_right (is_nil ph.unwritten) _ h)) in
     let rest : g.rest ≡ [] = no_unnamed g.rest (g.same ∙ ap (λ l. pendings n (told m l)) empty) in
     let two : with_writes_of m n d.writes (start ++ new_entries m n d.reserves) ≡ g.out = g.two ∙ ap₂ (λ l k. g.out ++ (l ++ pend m n (waiting m k))) rest closed ∙ append-nil g.out in record {
-          after = pend_own m n w.entries ∙ ap (pend m n) (g.entries ∙ ap₂ (λ l k. waiting m l ++ known m k) closed empty) ∙ sym (ap₂ drop (sym g.outs) two ∙ drop_whole g.out);
-          full = inr (ap length two ∙ g.outs);
-          commits = g.commits ∙ ap (released m) (sym (ap₂ take (sym g.outs) two ∙ take_whole g.out));
-        }
+      after =
+          pend_own m n w.entries ∙ ap (pend m n) (g.entries ∙ ap₂ (λ l k. waiting m l ++ known m k) closed empty)
+          ∙ sym (ap₂ drop (sym g.outs) two ∙ drop_whole g.out);
+      full = inr (ap length two ∙ g.outs);
+      commits = g.commits ∙ ap (released m) (sym (ap₂ take (sym g.outs) two ∙ take_whole g.out));
+    }
 
 -- guards stay over statements that don't bind them
 pub none_first : (test : Op → Bool) (xs ys : List Stmt) → none_of test (xs ++ ys) ≡ true → none_of test xs ≡ true
@@ -139,7 +143,8 @@ quiet_op m n read (Verify last args) d h k = at (same_args (values_of args d.env
 quiet_op m n read _ d h k = k
 
 -- only its stage releases m
-quiet_release : (m : ℕ) (read : ℕ → ℕ → ℕ) (op : Op) (d : Deeds) → not (is_release m op) ≡ true → releases_of m d.releases ≡ 0 → releases_of m (Machine.deeds_after read op d).releases ≡ 0
+quiet_release : (m : ℕ) (read : ℕ → ℕ → ℕ) (op : Op) (d : Deeds)
+    → not (is_release m op) ≡ true → releases_of m d.releases ≡ 0 → releases_of m (Machine.deeds_after read op d).releases ≡ 0
 quiet_release m read (Release j a) d h k = releases_more m d.releases _ ∙ ap₂ (λ x y. x + y) k (none (is_held d.held j a))
   where
     none : (b : Bool) → releases_of m (if b then j ∷ [] else []) ≡ 0
@@ -157,9 +162,11 @@ quiet_release m read (Verify last args) d h k = at (same_args (values_of args d.
 quiet_release m read _ d h k = k
 
 -- statements that release nothing of m release no write of it
-pub quiet_releases : (m : ℕ) (read : ℕ → ℕ → ℕ) (xs : List Stmt) (d : Deeds) → none_of (is_release m) xs ≡ true → releases_of m d.releases ≡ 0 → releases_of m (deeds_after_all read xs d).releases ≡ 0
+pub quiet_releases : (m : ℕ) (read : ℕ → ℕ → ℕ) (xs : List Stmt) (d : Deeds)
+    → none_of (is_release m) xs ≡ true → releases_of m d.releases ≡ 0 → releases_of m (deeds_after_all read xs d).releases ≡ 0
 quiet_releases m read [] d h k = k
-quiet_releases m read (x ∷ xs) d h k = quiet_releases m read xs (if all_hold x.guards d.env then Machine.deeds_after read x.op d else d) (and_right _ _ h) (at (all_hold x.guards d.env))
+quiet_releases m read (x ∷ xs) d h k =
+    quiet_releases m read xs (if all_hold x.guards d.env then Machine.deeds_after read x.op d else d) (and_right _ _ h) (at (all_hold x.guards d.env))
   where
     at : (b : Bool) → releases_of m (cond b (Machine.deeds_after read x.op d) d).releases ≡ 0
     at true = quiet_release m read x.op d (and_left _ _ h) k

@@ -34,7 +34,8 @@ op_stays g o (Bind x e) w h = set_stays w.env x g _ h
 op_stays g o (CombRead x m a) w h = set_stays w.env x g _ h
 op_stays g o (Verify last args) w h = at (same_args (values_of args w.env) w.guess)
   where
-    at : (b : Bool) → slice_index (cond b w (record w { child = Some (values_of args w.env); guess = (values_of args w.env); fails = true })).env g ≡ slice_index w.env g
+    at : (b : Bool)
+        → slice_index (cond b w (record w { child = Some (values_of args w.env); guess = (values_of args w.env); fails = true })).env g ≡ slice_index w.env g
     at true = refl
     at false = refl
 op_stays g o _ w h = refl

@@ -65,7 +65,14 @@ pub record Tied (m : ℕ) (ph : Phase) (env : List ℕ) (es : List Entry) (cs ws
 pub tied_moved : (m : ℕ) (ph : Phase) (env : List ℕ) (es es' : List Entry) (cs cs' ws ws' : List Commit)
     → es' ≡ es → cs' ≡ cs → ws' ≡ ws → Tied m ph env es cs ws → Tied m ph env es' cs' ws'
 tied_moved m ph env es es' cs cs' ws ws' p q r t =
-    record { fulls = t.fulls; entries = p ∙ t.entries; vars = t.vars; written = r ∙ t.written ∙ ap (λ l. l ++ told m t.fulls) (sym q); calm = λ h. q ∙ t.calm h }
+    record {
+      fulls = t.fulls;
+      entries = p ∙ t.entries;
+      vars = t.vars;
+      written = r ∙ t.written ∙ ap (λ l. l ++ told m t.fulls) (sym q);
+      calm = λ h. q
+          ∙ t.calm h;
+    }
 
 -- what is not true is false
 pub not_false : (b : Bool) → not b ≡ true → b ≡ false
@@ -119,7 +126,11 @@ tied_release m a ph env es cs ws h t = at (is_among a ph.full) refl
 
     behind : (without (waiting m os ++ known m t.fulls) m a ≡ waiting m os ++ without (known m t.fulls) m a) × (released_commits (waiting m os ++ known m t.fulls) m a ≡ released_commits (known m t.fulls) m a) × (has_entry (waiting m os ++ known m t.fulls) m a ≡ has_entry (known m t.fulls) m a)
     behind = released_behind m a os (known m t.fulls) (ap (is_among a) (opened_vars env ph.unwritten) ∙ not_false _ h)
-    at : (b : Bool) → is_among a ph.full ≡ b → Tied m (if b then record { unwritten = ph.unwritten; full = drop_var a ph.full; gone = a ∷ ph.gone } else ph) env (without es m a) (cs ++ released_commits es m a) ws
+
+    at : (b : Bool)
+        → is_among a ph.full ≡ b
+        → Tied m (if b then record { unwritten = ph.unwritten; full = drop_var a ph.full; gone = a ∷ ph.gone } else ph) env (without es m a)
+        (cs ++ released_commits es m a) ws
     at true e =
         let r : Released m a t.fulls = released_full m a t.fulls (ap (is_among a) t.vars ∙ e) in
         record {
@@ -147,9 +158,11 @@ no_fulls [] h = refl
 no_fulls (f ∷ fs) h = absurd (cc h)
 
 -- where the phase is over, no entry is left, and the commits are the sequential writes
-pub finished : (m : ℕ) (ph : Phase) → is_over ph ≡ true → (env : List ℕ) (es : List Entry) (cs ws : List Commit) → Tied m ph env es cs ws → (es ≡ []) × (cs ≡ ws)
+pub finished : (m : ℕ) (ph : Phase)
+    → is_over ph ≡ true → (env : List ℕ) (es : List Entry) (cs ws : List Commit) → Tied m ph env es cs ws → (es ≡ []) × (cs ≡ ws)
 finished m ph h env es cs ws t =
     let f : t.fulls ≡ [] = no_fulls t.fulls
     (t.vars ∙ nil_of ph.full (and_right (is_nil ph.unwritten) _ h)) in (
       t.entries ∙ ap₂ (λ l k. waiting m (opened env l) ++ known m k) (nil_of ph.unwritten (and_left _ _ h)) f,
-      sym (append-nil cs) ∙ sym (t.written ∙ ap (λ l. cs ++ told m l) f),)
+      sym (append-nil cs) ∙ sym (t.written ∙ ap (λ l. cs ++ told m l) f),
+    )

@@ -236,7 +236,8 @@ module _ (p : Pipe) (acc : Sound p) where
             let s =
             changed_all o (verify_stage p.stmts) k (onpath (work_of_stage p o t).env (in_stage t.stage p.stmts))
             (record { env = t.env; entries = t.entries; guess = t.guess; asks = []; reserves = []; commits = []; child = None; fails = false; ready = true }) u
-            (subst (λ j. makings_ok (verify_stage p.stmts) j (onpath (work_of_stage p o t).env (in_stage t.stage p.stmts)) ≡ true) i ok_here) (inl (refl, refl)) in (
+            (subst (λ j. makings_ok (verify_stage p.stmts) j (onpath (work_of_stage p o t).env (in_stage t.stage p.stmts)) ≡ true) i ok_here)
+            (inl (refl, refl)) in (
               (λ _. subst (λ (w : Work). Changed w) (sym along_path) s.0),
               ap (λ j. not (is_unmade j)) (ap (λ j. making_all j (onpath (work_of_stage p o t).env (in_stage t.stage p.stmts))) i)
                   ∙ ap not s.1 ∙ sym (ap (λ b. b || is_some (work_of_stage p o t).child) (had k i ∙ ap not u)),
@@ -267,8 +268,8 @@ module _ (p : Pipe) (acc : Sound p) where
     on_now h =
         visits_same p t.stage (work_of_stage p o t).env t.env
         (λ x c i. side_same (stage_at p x.fork).next x.first (work_of_stage p o t).env t.env
-            (λ z a b f. all_stays z o (in_stage t.stage p.stmts) _
-            (none_stage_from (binds_var z) (suc x.fork) t.stage p.stmts (acc.branches.fork x c t.stage i).1 (acc.fork_bound x.fork z a b f))))
+        (λ z a b f. all_stays z o (in_stage t.stage p.stmts) _
+        (none_stage_from (binds_var z) (suc x.fork) t.stage p.stmts (acc.branches.fork x c t.stage i).1 (acc.fork_bound x.fork z a b f))))
         ∙ h
 
     -- the next stage of the thread is on its path
@@ -277,7 +278,8 @@ module _ (p : Pipe) (acc : Sound p) where
     on_then h low = arrives p acc.branches t.stage (work_of_stage p o t).env low h
 
     -- what it awaits there is no fork's variable
-    aside_then : visits_stage p (work_of_stage p o t).env t.stage ≡ true → t.stage < length p.stages → AllAsks (λ q. Aside p (next_of p t.stage (work_of_stage p o t).env) q.var) (work_of_stage p o t).asks
+    aside_then : visits_stage p (work_of_stage p o t).env t.stage ≡ true
+        → t.stage < length p.stages → AllAsks (λ q. Aside p (next_of p t.stage (work_of_stage p o t).env) q.var) (work_of_stage p o t).asks
     aside_then on low =
         flip (work_of_stage p o t).asks
         (λ y c e. asks_each (λ x m. steers p y x ≡ false) o (in_stage t.stage p.stmts) _ (none_steers y c e (stage_at p y.fork).next refl) tt)
@@ -308,7 +310,9 @@ module _ (p : Pipe) (acc : Sound p) where
           where
             by : (y.fork ≡ t.stage) ⊎ Within p (y ∷ c) t.stage
                 → none_of (is_fetch_of z) (in_stage t.stage p.stmts) ≡ true
-            by (inl g) = subst (λ n. none_of (is_fetch_of z) (in_stage n p.stmts) ≡ true) g (acc.fork_seen (work_of_stage p o t).env y.fork z a b (subst (λ n. visits_stage p (work_of_stage p o t).env n ≡ true) (sym g) on) f)
+            by (inl g) =
+                subst (λ n. none_of (is_fetch_of z) (in_stage n p.stmts) ≡ true) g
+                (acc.fork_seen (work_of_stage p o t).env y.fork z a b (subst (λ n. visits_stage p (work_of_stage p o t).env n ≡ true) (sym g) on) f)
             by (inr g) =
                 fetch_binds z (in_stage t.stage p.stmts)
                 (none_stage_from (binds_var z) (suc y.fork) t.stage p.stmts (acc.branches.fork y c t.stage g).1 (acc.fork_bound y.fork z a b f))
@@ -332,7 +336,8 @@ module _ (p : Pipe) (acc : Sound p) where
         → ((work_of_stage p o t).commits ≡ [])
         × Roams p (onward (next_of p t.stage (work_of_stage p o t).env) t.hint (work_of_stage p o t))
         × (has_made p t ≡ true → Changed (work_of_stage p o t))
-        × (has_made p (onward (next_of p t.stage (work_of_stage p o t).env) t.hint (work_of_stage p o t)) ≡ (has_made p t || is_some (work_of_stage p o t).child))
+        ×
+        (has_made p (onward (next_of p t.stage (work_of_stage p o t).env) t.hint (work_of_stage p o t)) ≡ (has_made p t || is_some (work_of_stage p o t).child))
     roam_step st inside low apart clear ready =
         let on_path : visits_stage p (work_of_stage p o t).env t.stage ≡ true = on_now st.on in
         let skip : onpath (work_of_stage p o t).env (before (next_of p t.stage (work_of_stage p o t).env) p.stmts)
@@ -353,7 +358,8 @@ module _ (p : Pipe) (acc : Sound p) where
           env = t.env;
           entries = t.entries;
           guess = t.guess;
-          asks = []; reserves = [];
+          asks = [];
+          reserves = [];
           commits = [];
           child = None;
           fails = false;

@@ -26,18 +26,24 @@ one_more m [] r = none (r.mem == m)
     none false = refl
 one_more m (x ∷ rs) r = at (x.mem == m) (one_more m rs r)
   where
-    at : (b : Bool) → reserves_of m (rs ++ r ∷ []) ≡ reserves_of m rs + cond (r.mem == m) 1 0 → cond b (suc (reserves_of m (rs ++ r ∷ []))) (reserves_of m (rs ++ r ∷ [])) ≡ cond b (suc (reserves_of m rs)) (reserves_of m rs) + cond (r.mem == m) 1 0
+    at : (b : Bool)
+        → reserves_of m (rs ++ r ∷ []) ≡ reserves_of m rs + cond (r.mem == m) 1 0
+        → cond b (suc (reserves_of m (rs ++ r ∷ []))) (reserves_of m (rs ++ r ∷ []))
+        ≡ cond b (suc (reserves_of m rs)) (reserves_of m rs) + cond (r.mem == m) 1 0
     at true h = omega arith
     at false h = h
 
 plus_none : (n : ℕ) → n ≡ n + 0
 plus_none n = omega arith
 
-counted_op : (m : ℕ) (o : Around) (op : Op) (w : Work) → reserves_of m (work_after o op w).reserves ≡ reserves_of m w.reserves + cond (is_write_reserve m op) 1 0
+counted_op : (m : ℕ) (o : Around) (op : Op) (w : Work)
+    → reserves_of m (work_after o op w).reserves ≡ reserves_of m w.reserves + cond (is_write_reserve m op) 1 0
 counted_op m o (ReserveWrite n a) w = one_more m w.reserves _
 counted_op m o (Verify last args) w = at (same_args (values_of args w.env) w.guess)
   where
-    at : (b : Bool) → reserves_of m (cond b w (record w { child = Some (values_of args w.env); guess = values_of args w.env; fails = true })).reserves ≡ reserves_of m w.reserves + 0
+    at : (b : Bool)
+        → reserves_of m (cond b w (record w { child = Some (values_of args w.env); guess = values_of args w.env; fails = true })).reserves
+        ≡ reserves_of m w.reserves + 0
     at true = plus_none (reserves_of m w.reserves)
     at false = plus_none (reserves_of m w.reserves)
 counted_op m o _ w = plus_none (reserves_of m w.reserves)
@@ -52,7 +58,9 @@ counted path m o (x ∷ xs) w f = counted path m o xs (step o x w) f.1 ∙ at (a
         ≡ reserves_of m w.reserves + write_reserves m (cond c (record x { guards = [] } ∷ onpath path xs) (onpath path xs))
     at true true e = ap (λ n. n + write_reserves m (onpath path xs)) (counted_op m o x.op w) ∙ by (is_write_reserve m x.op)
       where
-        by : (d : Bool) → (reserves_of m w.reserves + cond d 1 0) + write_reserves m (onpath path xs) ≡ reserves_of m w.reserves + cond d (suc (write_reserves m (onpath path xs))) (write_reserves m (onpath path xs))
+        by : (d : Bool)
+            → (reserves_of m w.reserves + cond d 1 0) + write_reserves m (onpath path xs)
+            ≡ reserves_of m w.reserves + cond d (suc (write_reserves m (onpath path xs))) (write_reserves m (onpath path xs))
         by true = omega arith
         by false = omega arith
     at true false e = absurd (cc e)
@@ -63,15 +71,25 @@ stage_fewer : (path : List ℕ) (m s : ℕ) (xs : List Stmt) → write_reserves 
 stage_fewer path m s [] = omega arith
 stage_fewer path m s (x ∷ xs) = at (x.stage == s) (all_hold x.guards path) refl (is_write_reserve m x.op) refl (stage_fewer path m s xs)
   where
-    at : (b c : Bool) → all_hold x.guards path ≡ c → (d : Bool) → is_write_reserve m x.op ≡ d → write_reserves m (onpath path (in_stage s xs)) ≤ write_reserves m (onpath path xs)
+    at : (b c : Bool)
+        → all_hold x.guards path ≡ c → (d : Bool) → is_write_reserve m x.op ≡ d
+        → write_reserves m (onpath path (in_stage s xs)) ≤ write_reserves m (onpath path xs)
         → write_reserves m (onpath path (cond b (x ∷ in_stage s xs) (in_stage s xs))) ≤ write_reserves m (cond c (record x { guards = [] } ∷ onpath path xs) (onpath path xs))
-    at true true e d f h = subst (λ c. write_reserves m (cond c (record x { guards = [] } ∷ onpath path (in_stage s xs)) (onpath path (in_stage s xs))) ≤ cond (is_write_reserve m x.op) (suc (write_reserves m (onpath path xs))) (write_reserves m (onpath path xs))) (sym e)
+    at true true e d f h =
+        subst
+        (λ c. write_reserves m (cond c (record x { guards = [] } ∷ onpath path (in_stage s xs)) (onpath path (in_stage s xs))) ≤ cond (is_write_reserve m x.op)
+        (suc (write_reserves m (onpath path xs))) (write_reserves m (onpath path xs))) (sym e)
         (by (is_write_reserve m x.op))
       where
-        by : (d : Bool) → cond d (suc (write_reserves m (onpath path (in_stage s xs)))) (write_reserves m (onpath path (in_stage s xs))) ≤ cond d (suc (write_reserves m (onpath path xs))) (write_reserves m (onpath path xs))
+        by : (d : Bool)
+            → cond d (suc (write_reserves m (onpath path (in_stage s xs)))) (write_reserves m (onpath path (in_stage s xs))) ≤ cond d
+            (suc (write_reserves m (onpath path xs))) (write_reserves m (onpath path xs))
         by true = omega arith
         by false = h
-    at true false e d f h = subst (λ c. write_reserves m (cond c (record x { guards = [] } ∷ onpath path (in_stage s xs)) (onpath path (in_stage s xs))) ≤ write_reserves m (onpath path xs)) (sym e) h
+    at true false e d f h =
+        subst
+        (λ c. write_reserves m (cond c (record x { guards = [] } ∷ onpath path (in_stage s xs)) (onpath path (in_stage s xs))) ≤ write_reserves m
+        (onpath path xs)) (sym e) h
     at false true e d f h = by (is_write_reserve m x.op)
       where
         by : (d : Bool) → write_reserves m (onpath path (in_stage s xs)) ≤ cond d (suc (write_reserves m (onpath path xs))) (write_reserves m (onpath path xs))

@@ -32,7 +32,8 @@ Ok ph op = (m : ℕ) → phase_ok m (ph m) op ≡ true
 unwritten : (m : ℕ) (ph : Phase) (env : List ℕ) (es : List Entry) (cs ws : List Commit)
     → may_read ph ≡ true → Tied m ph env es cs ws → ws ≡ []
 unwritten m ph env es cs ws h t =
-    t.written ∙ ap₂ (λ l k. l ++ told m k) (t.calm (nil_of ph.gone (and_right (is_nil ph.full) _ h))) (no_fulls t.fulls (t.vars ∙ nil_of ph.full (and_left _ _ h)))
+    t.written
+    ∙ ap₂ (λ l k. l ++ told m k) (t.calm (nil_of ph.gone (and_right (is_nil ph.full) _ h))) (no_fulls t.fulls (t.vars ∙ nil_of ph.full (and_left _ _ h)))
 
 reads_same : (world : World) (ph : ℕ → Phase) (w : Work) (r : Run) (x n a : ℕ)
     → Related world ph w r → Ok ph (CombRead x n a) → word_at world.words n (slice_index w.env a) ≡ word_at r.arrays n (slice_index r.env a)
@@ -45,7 +46,9 @@ reads_same world ph w r x n a rel ok =
         subst (λ b. (not b || may_read (ph n)) ≡ true) (eq-eqb n n refl) h
 
     same_row : row r.arrays n ≡ row world.words n
-    same_row = ap (λ l. row l n) rel.arrays_now ∙ row_committed n r.writes world.words ∙ ap (wrote (row world.words n)) (unwritten n (ph n) w.env _ _ _ may (rel.tied n))
+    same_row =
+        ap (λ l. row l n) rel.arrays_now ∙ row_committed n r.writes world.words
+        ∙ ap (wrote (row world.words n)) (unwritten n (ph n) w.env _ _ _ may (rel.tied n))
 
 one_of : (m n a v : ℕ) (b : Bool) → (n == m) ≡ b → of_mem m (write_of n a v ∷ []) ≡ cond b (write_of n a v ∷ []) []
 one_of m n a v b e = ap (λ c. cond c (write_of n a v ∷ []) []) e
@@ -101,7 +104,9 @@ related_step world ph (CombRead x n a) w r ok rel =
     record {
       env = ap₂ (λ v k. slice_set v x k) rel.env (reads_same world ph w r x n a rel ok);
       arrays_now = rel.arrays_now;
-      tied = λ m. tied_set m (ph m) w.env _ _ _ x (word_at world.words n (slice_index w.env a)) (and_left (not (is_among x (ph m).unwritten)) _ (ok m)) (rel.tied m);
+      tied =
+          λ m. tied_set m (ph m) w.env _ _ _ x (word_at world.words n (slice_index w.env a)) (and_left (not (is_among x (ph m).unwritten)) _ (ok m))
+          (rel.tied m);
     }
 related_step world ph (DelayedRead x n a) w r ok rel = absurd (cc (ok 0))
 related_step world ph (Write n a e) w r ok rel =
@@ -134,12 +139,16 @@ related_step world ph (Call args) w r ok rel =
     }
 related_step world ph (Verify true args) w r ok rel = at (same_args (values_of args w.env) w.guess)
   where
-    at : (b : Bool) → Related world ph (cond b w (record w { child = Some (values_of args w.env); guess = (values_of args w.env); fails = true })) (run_after (Verify true args) r)
+    at : (b : Bool)
+        → Related world ph (cond b w (record w { child = Some (values_of args w.env); guess = (values_of args w.env); fails = true }))
+        (run_after (Verify true args) r)
     at true = record { env = rel.env; arrays_now = rel.arrays_now; tied = rel.tied }
     at false = record { env = rel.env; arrays_now = rel.arrays_now; tied = rel.tied }
 related_step world ph (Verify false args) w r ok rel = at (same_args (values_of args w.env) w.guess)
   where
-    at : (b : Bool) → Related world ph (cond b w (record w { child = Some (values_of args w.env); guess = (values_of args w.env); fails = true })) (run_after (Verify false args) r)
+    at : (b : Bool)
+        → Related world ph (cond b w (record w { child = Some (values_of args w.env); guess = (values_of args w.env); fails = true }))
+        (run_after (Verify false args) r)
     at true = record { env = rel.env; arrays_now = rel.arrays_now; tied = rel.tied }
     at false = record { env = rel.env; arrays_now = rel.arrays_now; tied = rel.tied }
 related_step world ph _ w r ok rel =

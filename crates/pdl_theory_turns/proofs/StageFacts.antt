@@ -188,14 +188,16 @@ module _ (p : Pipe) (acc : Sound p) (world : World) (args : List ℕ) where
       → before (next_at p world args s) (onpath (thread (at_once p) world.words args).env p.stmts)
       ≡ before (suc s) (onpath (thread (at_once p) world.words args).env p.stmts)
   path_skips s on low =
-      ap (λ n. before n (onpath (thread (at_once p) world.words args).env p.stmts)) (path_next s on) ∙ acc.skips (thread (at_once p) world.words args).env s low on
+      ap (λ n. before n (onpath (thread (at_once p) world.words args).env p.stmts)) (path_next s on)
+      ∙ acc.skips (thread (at_once p) world.words args).env s low on
 
   -- what it did by a stage, along its path
   so_on : (s : ℕ) → so_far p world args s ≡ do_all (alone world) (before s (onpath (thread (at_once p) world.words args).env p.stmts)) (start_work p args)
   so_on s =
       sym (same_so s) ∙ Turns.so_path (at_once p) acc.pathwise world args s
       ∙ ap (λ l. do_all (alone world) l (start_work p args))
-      (ap (before s) (path_looked (thread (at_once p) world.words args).env p.stmts) ∙ before_looked s (onpath (thread (at_once p) world.words args).env p.stmts))
+      (ap (before s) (path_looked (thread (at_once p) world.words args).env p.stmts)
+      ∙ before_looked s (onpath (thread (at_once p) world.words args).env p.stmts))
 
   -- the stages that a turn passes over add nothing to what it has done
   pub so_next : (s : ℕ) → visits_stage p (thread (at_once p) world.words args).env s ≡ true → s < length p.stages
@@ -233,13 +235,15 @@ module _ (p : Pipe) (acc : Sound p) (world : World) (args : List ℕ) where
       ≡ scan_after_all (before s (onpath (thread (at_once p) world.words args).env p.stmts)) no_scan
   scan_same s =
       ap (λ l. scan_after_all l no_scan)
-      (ap (before s) (path_looked (thread (at_once p) world.words args).env p.stmts) ∙ before_looked s (onpath (thread (at_once p) world.words args).env p.stmts))
+      (ap (before s) (path_looked (thread (at_once p) world.words args).env p.stmts)
+      ∙ before_looked s (onpath (thread (at_once p) world.words args).env p.stmts))
 
   stage_here : (s : ℕ)
       → in_stage s (onpath (thread (at_once p) world.words args).env (looked_all p.stmts))
       ≡ onpath (thread (at_once p) world.words args).env (looked_all (in_stage s p.stmts))
   stage_here s =
-      stage_path (thread (at_once p) world.words args).env s (looked_all p.stmts) ∙ ap (onpath (thread (at_once p) world.words args).env) (stage_looked s p.stmts)
+      stage_path (thread (at_once p) world.words args).env s (looked_all p.stmts)
+      ∙ ap (onpath (thread (at_once p) world.words args).env) (stage_looked s p.stmts)
 
   -- in right surroundings a thread that is ready does what its turn does alone, and its blocked locations stay right
   pub here_alike : (o : Around) (s : ℕ) (clean : ℕ → ℕ → Type 0)
@@ -256,7 +260,8 @@ module _ (p : Pipe) (acc : Sound p) (world : World) (args : List ℕ) where
       ≡ true =
       subst (λ l. reads_ok p (scan_after_all (before s (onpath (thread (at_once p) world.words args).env p.stmts)) no_scan) l ≡ true) (stage_here s)
       (subst (λ c. reads_ok p c (in_stage s (onpath (thread (at_once p) world.words args).env (looked_all p.stmts))) ≡ true) (scan_same s)
-      (TurnPath.reads_here (along (thread (at_once p) world.words args).env (at_once p)) (acc.pathwise.paths (thread (at_once p) world.words args).env) world args s)) in
+      (TurnPath.reads_here (along (thread (at_once p) world.words args).env (at_once p))
+      (acc.pathwise.paths (thread (at_once p) world.words args).env) world args s)) in
       let covers : (m a : ℕ) → has_entry (so_far p world args s).entries m a ≡ true
       → has_location (scan_after_all (before s (onpath (thread (at_once p) world.words args).env p.stmts)) no_scan).held m a ≡ true =
       subst
@@ -342,7 +347,8 @@ module _ (p : Pipe) (acc : Sound p) (world : World) (args : List ℕ) where
       at false e true f =
           absurd
           (jumped
-          (acc.graph.jump [] s (stage_work p world args s).env (commit_stage p m) low (within_all p s) (acc.graph.trunk_commit m) (ltb-false _ _ e) (below (ltb-true _ _ f)))
+          (acc.graph.jump [] s (stage_work p world args s).env (commit_stage p m) low (within_all p s) (acc.graph.trunk_commit m) (ltb-false _ _ e)
+          (below (ltb-true _ _ f)))
           (ltb-true _ _ f))
         where
           below : commit_stage p m < next_at p world args s → commit_stage p m ≤ next_at p world args s

@@ -214,4 +214,5 @@ module _ (p : Pipe) (o : Around) (world : World) (s : ℕ) (clean : ℕ → ℕ 
       → Right p s clean ls (caught world.words qs env)
   right_caught ls [] env h r = r
   right_caught ls (q ∷ qs) env h r =
-      right_caught ls qs (slice_set env q.var (word_at world.words q.mem q.address)) h.1 (right_set p s clean ls env q.var (word_at world.words q.mem q.address) h.0 r)
+      right_caught ls qs (slice_set env q.var (word_at world.words q.mem q.address)) h.1
+      (right_set p s clean ls env q.var (word_at world.words q.mem q.address) h.0 r)

@@ -116,7 +116,9 @@ puts_new ph m n a y (w ∷ ws) h u = ap (with_writes_of m n ws) (at (w.mem == m)
     e : Pending
     e = record { thread = n; var = a; address = y; value = None }
 
-    at : (b : Bool) → (w.mem == m) ≡ b → (c : Bool) → (a == w.var) ≡ c → cond b ((cond ((n == n) && c) (record e { value = Some w.value }) e) ∷ []) (e ∷ []) ≡ e ∷ []
+    at : (b : Bool)
+        → (w.mem == m) ≡ b → (c : Bool) → (a == w.var) ≡ c
+        → cond b ((cond ((n == n) && c) (record e { value = Some w.value }) e) ∷ []) (e ∷ []) ≡ e ∷ []
     at true k true l = absurd (clash (sym (u.0 k) ∙ ap (is_used ph) (sym (eqb-true a w.var l)) ∙ h))
       where
         clash : true ≡ false → ⊥
@@ -128,7 +130,8 @@ puts_new ph m n a y (w ∷ ws) h u = ap (with_writes_of m n ws) (at (w.mem == m)
         off false = refl
     at false k c l = refl
 
-puts_append : (m n : ℕ) (ws : List Machine.Written) (xs ys : List Pending) → with_writes_of m n ws (xs ++ ys) ≡ with_writes_of m n ws xs ++ with_writes_of m n ws ys
+puts_append : (m n : ℕ) (ws : List Machine.Written) (xs ys : List Pending)
+    → with_writes_of m n ws (xs ++ ys) ≡ with_writes_of m n ws xs ++ with_writes_of m n ws ys
 puts_append m n [] xs ys = refl
 puts_append m n (w ∷ ws) xs ys = at (w.mem == m) (λ us vs. puts_append m n ws us vs)
   where
@@ -156,7 +159,9 @@ pub releases_more : (m : ℕ) (rs ns : List ℕ) → releases_of m (rs ++ ns) �
 releases_more m [] ns = omega arith
 releases_more m (r ∷ rs) ns = at (r == m) (releases_more m rs ns)
   where
-    at : (b : Bool) → releases_of m (rs ++ ns) ≡ releases_of m rs + releases_of m ns → cond b (suc (releases_of m (rs ++ ns))) (releases_of m (rs ++ ns)) ≡ cond b (suc (releases_of m rs)) (releases_of m rs) + releases_of m ns
+    at : (b : Bool)
+        → releases_of m (rs ++ ns) ≡ releases_of m rs + releases_of m ns
+        → cond b (suc (releases_of m (rs ++ ns))) (releases_of m (rs ++ ns)) ≡ cond b (suc (releases_of m rs)) (releases_of m rs) + releases_of m ns
     at true h = omega arith
     at false h = h
 
@@ -165,11 +170,14 @@ has_own [] m a = refl
 has_own (e ∷ es) m a = grind (arith, eqb_tells, has_own es m a)
 
 -- the value that is put into the oldest entry without one
-filled_pend : (m n a v : ℕ) (os : List Open) → is_oldest a (open_vars os) ≡ true → with_value_of n a v (pend m n (waiting m os)) ≡ own n (entry m a (last_address os) (Some v)) ∷ pend m n (waiting m (but_last os))
+filled_pend : (m n a v : ℕ) (os : List Open)
+    → is_oldest a (open_vars os) ≡ true
+    → with_value_of n a v (pend m n (waiting m os)) ≡ own n (entry m a (last_address os) (Some v)) ∷ pend m n (waiting m (but_last os))
 filled_pend m n a v [] h = absurd (cc h)
 filled_pend m n a v (o ∷ []) h =
     ap (λ b. with_value_of n a v (cond b (own n (entry m o.var o.address None) ∷ []) [])) (eq-eqb m m refl)
-    ∙ ap₂ (λ b c. cond (b && c) (record (own n (entry m o.var o.address None)) { value = Some v }) (own n (entry m o.var o.address None)) ∷ []) (eq-eqb n n refl) h
+    ∙ ap₂ (λ b c. cond (b && c) (record (own n (entry m o.var o.address None)) { value = Some v }) (own n (entry m o.var o.address None)) ∷ [])
+    (eq-eqb n n refl) h
     ∙ ap (λ x. own n (entry m x o.address (Some v)) ∷ []) (eqb-true o.var a h)
 filled_pend m n a v (o ∷ q ∷ os) h =
     put_append n a v (pend m n (waiting m (q ∷ os))) _
@@ -183,8 +191,11 @@ filled_pend m n a v (o ∷ q ∷ os) h =
     first true k = absurd (cc k)
     first false k = refl
 
-    last : (b : Bool) → (m == m) ≡ b → (c : Bool) → c ≡ false → with_value_of n a v (cond b (own n (entry m o.var o.address None) ∷ []) []) ≡ cond b (own n (entry m o.var o.address None) ∷ []) []
-    last true k c l = ap (λ t. cond t (record (own n (entry m o.var o.address None)) { value = Some v }) (own n (entry m o.var o.address None)) ∷ []) (off (n == n))
+    last : (b : Bool)
+        → (m == m) ≡ b → (c : Bool) → c ≡ false
+        → with_value_of n a v (cond b (own n (entry m o.var o.address None) ∷ []) []) ≡ cond b (own n (entry m o.var o.address None) ∷ []) []
+    last true k c l =
+        ap (λ t. cond t (record (own n (entry m o.var o.address None)) { value = Some v }) (own n (entry m o.var o.address None)) ∷ []) (off (n == n))
       where
         off : (t : Bool) → (t && (o.var == a)) ≡ false
         off true = first (o.var == a) h
@@ -223,7 +234,8 @@ pub record Staged (m n : ℕ) (ph : Phase) (es : List Entry) (cs : List Commit) 
   pub apart : Apart ph
 
 staged_moved : (m n : ℕ) (ph : Phase) (es es' : List Entry) (cs cs' : List Commit) (new new' : List Pending) (ws ws' : List Machine.Written) (rel rel' : ℕ)
-    → es' ≡ es → cs' ≡ cs → new' ≡ new → ((l : List Pending) → with_writes_of m n ws' l ≡ with_writes_of m n ws l) → WritesUsed m ph ws' → rel' ≡ rel → Staged m n ph es cs new ws rel → Staged m n ph es' cs' new' ws' rel'
+    → es' ≡ es → cs' ≡ cs → new' ≡ new → ((l : List Pending) → with_writes_of m n ws' l ≡ with_writes_of m n ws l) → WritesUsed m ph ws'
+    → rel' ≡ rel → Staged m n ph es cs new ws rel → Staged m n ph es' cs' new' ws' rel'
 staged_moved m n ph es es' cs cs' new new' ws ws' rel rel' p q r s u t g =
     record {
       opens = g.opens;
@@ -267,22 +279,26 @@ step_write m n k a v ph es cs new ws rel true e h g =
       out = g.out;
       rest = g.rest ++ filled ∷ [];
       entries = ap (λ j. entries_of m (Derived.with_entry_value es j a v)) (eqb-true k m e) ∙ entries_of-filled es m a v
-      ∙ ap (λ l. Derived.with_entry_value l m a v) g.entries ∙ filled_last m a v g.opens (known m g.fulls) oldest;
+          ∙ ap (λ l. Derived.with_entry_value l m a v) g.entries ∙ filled_last m a v g.opens (known m g.fulls) oldest;
       at_open = vars_front g.opens ∙ ap but_last g.at_open;
       at_full = ap (λ l. a ∷ l) g.at_full;
       two = put_all_more m n ws (record { mem = k; var = a; value = v }) new
-      ∙ ap (λ c. cond c (with_value_of n a v (with_writes_of m n ws new)) (with_writes_of m n ws new)) e
-      ∙ ap (with_value_of n a v) g.two
-      ∙ put_append n a v g.out _ ∙ ap₂ (λ l j. l ++ j) (put_used ph n a v g.out unused (used_first ph g.out g.rest g.used)) (put_append n a v g.rest _
+          ∙ ap (λ c. cond c (with_value_of n a v (with_writes_of m n ws new)) (with_writes_of m n ws new)) e
+          ∙ ap (with_value_of n a v) g.two
+          ∙ put_append n a v g.out _ ∙ ap₂ (λ l j. l ++ j) (put_used ph n a v g.out unused (used_first ph g.out g.rest g.used)) (put_append n a v g.rest _
           ∙ ap₂ (λ l j. l ++ j) (put_used ph n a v g.rest unused (used_second ph g.out g.rest g.used)) (filled_pend m n a v g.opens oldest)
           ∙ sym (append_assoc g.rest (filled ∷ []) (pend m n (waiting m (but_last g.opens)))));
       outs = g.outs;
       given = g.given;
       let_go = g.let_go;
       commits = g.commits;
-      same = unnamed_append g.rest (filled ∷ []) ∙ ap (λ l. l ++ record filled { var = 0 } ∷ []) g.same ∙ sym (pendings_append n (told m g.fulls) (write_of m (last_address g.opens) v ∷ []));
+      same =
+          unnamed_append g.rest (filled ∷ []) ∙ ap (λ l. l ++ record filled { var = 0 } ∷ []) g.same
+          ∙ sym (pendings_append n (told m g.fulls) (write_of m (last_address g.opens) v ∷ []));
       exact = λ i. ap (λ l. l ++ filled ∷ []) (g.exact i) ∙ sym (ap (λ b. pend m n (known m g.fulls) ++ cond b (filled ∷ []) []) (eq-eqb m m refl));
-      used = subst (AllUsed (after_write ph a)) (append_assoc g.out g.rest (filled ∷ [])) (used_append (after_write ph a) (g.out ++ g.rest) (filled ∷ []) (used_kept ph (after_write ph a) (g.out ++ g.rest) more g.used) (now, tt));
+      used =
+          subst (AllUsed (after_write ph a)) (append_assoc g.out g.rest (filled ∷ []))
+          (used_append (after_write ph a) (g.out ++ g.rest) (filled ∷ []) (used_kept ph (after_write ph a) (g.out ++ g.rest) more g.used) (now, tt));
       written = writes_append m (after_write ph a) ws _ (writes_kept m ph (after_write ph a) ws more g.written) ((λ f. now), tt);
       apart = apart_write ph a h g.apart;
     }
@@ -303,7 +319,9 @@ step_write m n k a v ph es cs new ws rel true e h g =
     among (x ∷ []) i = ap (λ c. c || false) i
     among (x ∷ y ∷ ys) i = by (x == a) i (λ j. among (y ∷ ys) j)
       where
-        by : (c : Bool) → (not c && is_oldest a (y ∷ ys)) ≡ true → (is_oldest a (y ∷ ys) ≡ true → is_among a (y ∷ ys) ≡ true) → (c || is_among a (y ∷ ys)) ≡ true
+        by : (c : Bool)
+            → (not c && is_oldest a (y ∷ ys)) ≡ true → (is_oldest a (y ∷ ys) ≡ true → is_among a (y ∷ ys) ≡ true)
+            → (c || is_among a (y ∷ ys)) ≡ true
         by true j go = refl
         by false j go = go j
 
@@ -343,11 +361,14 @@ step_reserve m n k a y ph es cs start rs ws rel true e h g =
       at_open = ap (λ l. a ∷ l) g.at_open;
       at_full = g.at_full;
       two = ap (λ l. with_writes_of m n ws (start ++ l))
-      (new_more m n rs _ ∙ ap (λ c. new_entries m n rs ++ cond c (last ∷ []) []) e)
-      ∙ ap (with_writes_of m n ws) (sym (append_assoc start (new_entries m n rs) (last ∷ [])))
+          (new_more m n rs _ ∙ ap (λ c. new_entries m n rs ++ cond c (last ∷ []) []) e)
+          ∙ ap (with_writes_of m n ws) (sym (append_assoc start (new_entries m n rs) (last ∷ [])))
           ∙ puts_append m n ws (start ++ new_entries m n rs) (last ∷ [])
           ∙ ap₂ (λ l j. l ++ j) g.two (puts_new ph m n a y ws unused g.written)
-          ∙ append_assoc g.out (g.rest ++ pend m n (waiting m g.opens)) (last ∷ []) ∙ ap (λ l. g.out ++ l) (append_assoc g.rest (pend m n (waiting m g.opens)) (last ∷ []) ∙ ap (λ c. g.rest ++ (pend m n (waiting m g.opens) ++ cond c (last ∷ []) [])) (sym (eq-eqb m m refl)));
+          ∙ append_assoc g.out (g.rest ++ pend m n (waiting m g.opens)) (last ∷ [])
+          ∙ ap (λ l. g.out ++ l)
+          (append_assoc g.rest (pend m n (waiting m g.opens)) (last ∷ [])
+          ∙ ap (λ c. g.rest ++ (pend m n (waiting m g.opens) ++ cond c (last ∷ []) [])) (sym (eq-eqb m m refl)));
       outs = g.outs;
       given = g.given;
       let_go = g.let_go;
@@ -418,7 +439,6 @@ step_release m n k a ph es cs new ws rs held i true e h g = at (is_among a ph.fu
         let z : has_entry es k a ≡ false = known_here ∙ no_known m a g.fulls (ap (is_among a) g.at_full ∙ f) in
         let w = without_none es k a z in
         step_none m n k a ph es cs new ws rs held (ap (entries_of m) w.0) (ap (of_mem m) w.1) (ap (λ c. c && (k == m)) (i ∙ z)) g
-
     at true f = taken g.rest (g.same ∙ ap (pendings n) r.front) g.two g.used
       where
         r : Released m a g.fulls
@@ -434,13 +454,17 @@ step_release m n k a ph es cs new ws rs held i true e h g = at (is_among a ph.fu
             still [] u t = absurd (cc t)
             still (y ∷ ys) u t = go (y == a) refl (y == x) refl t (λ s. still ys u s)
               where
-                go : (c : Bool) → (y == a) ≡ c → (d : Bool) → (y == x) ≡ d → (d || is_among x ys) ≡ true → (is_among x ys ≡ true → is_among x (drop_var a ys) ≡ true) → is_among x (cond c ys (y ∷ drop_var a ys)) ≡ true
+                go : (c : Bool)
+                    → (y == a) ≡ c → (d : Bool) → (y == x) ≡ d → (d || is_among x ys) ≡ true
+                    → (is_among x ys ≡ true → is_among x (drop_var a ys) ≡ true) → is_among x (cond c ys (y ∷ drop_var a ys)) ≡ true
                 go true l true q s on = absurd (eqb-false a x u (sym (eqb-true y a l) ∙ eqb-true y x q))
                 go true l false q s on = s
                 go false l true q s on = ap (λ t. t || is_among x (drop_var a ys)) q
                 go false l false q s on = ap (λ t. t || is_among x (drop_var a ys)) q ∙ on s
 
-            by : (c : Bool) → (a == x) ≡ c → (d : Bool) → is_among x ph.full ≡ d → (d || is_among x ph.gone) ≡ true → (is_among x (drop_var a ph.full) || (c || is_among x ph.gone)) ≡ true
+            by : (c : Bool)
+                → (a == x) ≡ c → (d : Bool) → is_among x ph.full ≡ d → (d || is_among x ph.gone) ≡ true
+                → (is_among x (drop_var a ph.full) || (c || is_among x ph.gone)) ≡ true
             by true u d t s = always (is_among x (drop_var a ph.full))
               where
                 always : (q : Bool) → (q || true) ≡ true
@@ -453,7 +477,9 @@ step_release m n k a ph es cs new ws rs held i true e h g = at (is_among a ph.fu
                 last true w = refl
                 last false w = w
 
-        taken : (rest : List Pending) → unnamed rest ≡ pendings n (commit_of m r.out ∷ told m (let_out g.fulls a)) → with_writes_of m n ws new ≡ g.out ++ (rest ++ pend m n (waiting m g.opens)) → AllUsed ph (g.out ++ rest)
+        taken : (rest : List Pending)
+            → unnamed rest ≡ pendings n (commit_of m r.out ∷ told m (let_out g.fulls a))
+            → with_writes_of m n ws new ≡ g.out ++ (rest ++ pend m n (waiting m g.opens)) → AllUsed ph (g.out ++ rest)
             → Staged m n qh (entries_of m (without es k a))
             (of_mem m (cs ++ released_commits es k a)) new ws (releases_of m (rs ++ cond held (k ∷ []) []))
         taken [] u t s = absurd (cc u)
@@ -463,7 +489,9 @@ step_release m n k a ph es cs new ws rs held i true e h g = at (is_among a ph.fu
               fulls = let_out g.fulls a;
               out = g.out ++ x ∷ [];
               rest = xs;
-              entries = ap (λ j. entries_of m (without es j a)) same ∙ without_own es m a ∙ ap (λ l. without l m a) g.entries ∙ behind.0 ∙ ap (λ l. waiting m g.opens ++ l) r.rest;
+              entries =
+                  ap (λ j. entries_of m (without es j a)) same ∙ without_own es m a ∙ ap (λ l. without l m a) g.entries ∙ behind.0
+                  ∙ ap (λ l. waiting m g.opens ++ l) r.rest;
               at_open = g.at_open;
               at_full = let_out_vars g.fulls a ∙ ap (drop_var a) g.at_full;
               two = t ∙ sym (append_assoc g.out (x ∷ []) (xs ++ pend m n (waiting m g.opens)));
@@ -471,9 +499,10 @@ step_release m n k a ph es cs new ws rs held i true e h g = at (is_among a ph.fu
               let_go = (let e = length-append g.out (x ∷ []) in let i = g.let_go in omega arith);
               given = given_more n r.out.value g.out x g.given (ap (λ (z : Pending). z.thread) (first u)) (ap (λ (z : Pending). z.value) (first u));
               commits =
-                of_mem_append m cs _
-                    ∙ ap₂ (λ c d. c ++ d) g.commits
-                    (ap (λ j. of_mem m (released_commits es j a)) same ∙ released_own es m a ∙ ap (λ l. released_commits l m a) g.entries ∙ behind.1 ∙ r.commits ∙ sym (shows (first u)))
+                  of_mem_append m cs _
+                  ∙ ap₂ (λ c d. c ++ d) g.commits
+                  (ap (λ j. of_mem m (released_commits es j a)) same ∙ released_own es m a ∙ ap (λ l. released_commits l m a) g.entries ∙ behind.1 ∙ r.commits
+                  ∙ sym (shows (first u)))
                   ∙ sym (released_append m g.out (x ∷ []));
               same = others u;
               exact = λ q. absurd (let c : releases_of m (rs ++ cond held (k ∷ []) []) ≡ releases_of m rs + 1 = counted in omega arith);
@@ -483,15 +512,19 @@ step_release m n k a ph es cs new ws rs held i true e h g = at (is_among a ph.fu
             }
           where
             counted : releases_of m (rs ++ cond held (k ∷ []) []) ≡ releases_of m rs + 1
-            counted = releases_more m rs _ ∙ ap (λ c. releases_of m rs + releases_of m (cond c (k ∷ []) [])) (i ∙ known_here ∙ r.there) ∙ ap (λ c. releases_of m rs + cond c 1 0) e
+            counted =
+                releases_more m rs _ ∙ ap (λ c. releases_of m rs + releases_of m (cond c (k ∷ []) [])) (i ∙ known_here ∙ r.there)
+                ∙ ap (λ c. releases_of m rs + cond c 1 0) e
 
-            first : unnamed (x ∷ xs) ≡ pendings n (commit_of m r.out ∷ told m (let_out g.fulls a)) → record x { var = 0 } ≡ record { thread = n; var = 0; address = r.out.address; value = Some r.out.value }
+            first : unnamed (x ∷ xs) ≡ pendings n (commit_of m r.out ∷ told m (let_out g.fulls a))
+                → record x { var = 0 } ≡ record { thread = n; var = 0; address = r.out.address; value = Some r.out.value }
             first q = cc
 
             others : unnamed (x ∷ xs) ≡ pendings n (commit_of m r.out ∷ told m (let_out g.fulls a)) → unnamed xs ≡ pendings n (told m (let_out g.fulls a))
             others q = cc
 
-            shows : record x { var = 0 } ≡ record { thread = n; var = 0; address = r.out.address; value = Some r.out.value } → released m (x ∷ []) ≡ commit_of m r.out ∷ []
+            shows : record x { var = 0 } ≡ record { thread = n; var = 0; address = r.out.address; value = Some r.out.value }
+                → released m (x ∷ []) ≡ commit_of m r.out ∷ []
             shows q = ap (λ (z : Pending). record { mem = m; address = z.address; value = commit_value z.value } ∷ []) q
 
 -- one statement

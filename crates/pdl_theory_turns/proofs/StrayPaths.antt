@@ -142,7 +142,8 @@ roam_op v o c s (Release m a) w clear low sure cover ready =
     unheld false e = e
 roam_op v o c s (Verify last args) w clear low sure cover ready = at (same_args (values_of args w.env) w.guess)
   where
-    at : (b : Bool) → ((cond b w (record w { child = Some (values_of args w.env); guess = (values_of args w.env); fails = true })).commits ≡ w.commits) × (false ≡ false)
+    at : (b : Bool)
+        → ((cond b w (record w { child = Some (values_of args w.env); guess = (values_of args w.env); fails = true })).commits ≡ w.commits) × (false ≡ false)
     at true = (refl, refl)
     at false = (refl, refl)
 roam_op v o c s SpecBarrier w (inl n) low sure cover ready = absurd (cc n)

@@ -131,7 +131,8 @@ covers_op o c (Write m a e) w f = λ n b h. f n b (sym (has_filled w.entries m a
 covers_op o c (ReserveWrite m a) w f = λ n b h. or_map ((m == n) && (a == b)) _ _ (f n b) h
 covers_op o c (Block m a) w f = covers_block (has_location c.held m a) c (location m a) w.entries f
 covers_op o c (Release m a) w f = λ n b h. f n b (has_without w.entries m a n b h)
-covers_op o c (Verify last args) w f = subst (λ es. Covers c.held es) (sym (covers_verified (same_args (values_of args w.env) w.guess) (values_of args w.env) w)) f
+covers_op o c (Verify last args) w f =
+    subst (λ es. Covers c.held es) (sym (covers_verified (same_args (values_of args w.env) w.guess) (values_of args w.env) w)) f
 covers_op o c _ w f = f
 
 -- a ready block makes its location clean, if it is one for reading

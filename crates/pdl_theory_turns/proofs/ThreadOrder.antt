@@ -87,7 +87,9 @@ module _ (p : Pipe) (g : Graph p) (br : Branches p) where
       enters x is from home r at_home k =
           let low_r : next_of p s env ≤ r =
           subst (λ n. next_of p n env ≤ r) from
-          (br.entry x (stage_at p s).branches env r (subst (λ n. n < length p.stages) (sym from) low) (subst (λ n. Home p (x ∷ (stage_at p s).branches) (next_of p n env)) (sym from) (subst (λ l. Home p l (next_of p s env)) is home)) (subst (λ l. Within p l r) is (within_home p c r at_home))) in
+          (br.entry x (stage_at p s).branches env r (subst (λ n. n < length p.stages) (sym from) low)
+          (subst (λ n. Home p (x ∷ (stage_at p s).branches) (next_of p n env)) (sym from) (subst (λ l. Home p l (next_of p s env)) is home))
+          (subst (λ l. Within p l r) is (within_home p c r at_home))) in
           let y = behind h in
           omega arith
         where
@@ -98,14 +100,19 @@ module _ (p : Pipe) (g : Graph p) (br : Branches p) where
           first_here : Within p c b → next_of p s env ≤ b
           first_here k =
               subst (λ n. next_of p n env ≤ b) from
-              (br.entry x (stage_at p s).branches env b (subst (λ n. n < length p.stages) (sym from) low) (subst (λ n. Home p (x ∷ (stage_at p s).branches) (next_of p n env)) (sym from) (subst (λ l. Home p l (next_of p s env)) is home)) (subst (λ l. Within p l b) is k))
+              (br.entry x (stage_at p s).branches env b (subst (λ n. n < length p.stages) (sym from) low)
+              (subst (λ n. Home p (x ∷ (stage_at p s).branches) (next_of p n env)) (sym from) (subst (λ l. Home p l (next_of p s env)) is home))
+              (subst (λ l. Within p l b) is k))
 
           in_pipe : next_of p s env < length p.stages
           in_pipe = at (nat_lt (next_of p s env) (length p.stages)) refl
             where
               at : (t : Bool) → nat_lt (next_of p s env) (length p.stages) ≡ t → next_of p s env < length p.stages
               at true e = ltb-true _ _ e
-              at false e = absurd (trunk_within p x (stage_at p s).branches (next_of p s env) (g.trunk_past (next_of p s env) (ltb-false _ _ e)) (subst (λ l. Within p l (next_of p s env)) is j))
+              at false e =
+                  absurd
+                  (trunk_within p x (stage_at p s).branches (next_of p s env) (g.trunk_past (next_of p s env) (ltb-false _ _ e))
+                  (subst (λ l. Within p l (next_of p s env)) is j))
 
           entered : can_enter p older (Some (next_of p s env)) ≡ true
           entered = subst (λ o. can_enter p older o ≡ true) (g.leaves s env low ∙ ap (λ t. cond t (Some (next_of p s env)) None) (lt-ltb _ _ in_pipe)) can
@@ -161,7 +168,10 @@ module _ (p : Pipe) (g : Graph p) (br : Branches p) where
     where
       at : (c : Bool) → nat_lt s (length p.stages) ≡ c → s < length p.stages
       at true e = ltb-true _ _ e
-      at false e = absurd (irrefl (length p.stages) b (sym m.0) (u.0 [] (within_all p b) (within_all p s) (length p.stages) (g.trunk_past (length p.stages) (le_refl _)) (ltb-false _ _ e)))
+      at false e =
+          absurd
+          (irrefl (length p.stages) b (sym m.0)
+          (u.0 [] (within_all p b) (within_all p s) (length p.stages) (g.trunk_past (length p.stages) (le_refl _)) (ltb-false _ _ e)))
   all_low [] (b ∷ []) (b' ∷ c' ∷ bs') s m u = absurd m
   all_low [] (b ∷ c ∷ bs) bs' s m u = absurd m
   all_low (o ∷ os) [] bs' s m u = absurd m

@@ -8,10 +8,10 @@ use Rattle.pdl_semantics.specs.Flat.{Arrays, Op, Bind, CombRead, DelayedRead, Wr
 use Rattle.pdl_semantics.specs.Stages.{in_stage, is_release, is_reserve}
 use Rattle.pdl_semantics.specs.Machine.{same_args}
 use Rattle.pdl_semantics.specs.Sequential.{Run, run_after}
-use Rattle.pdl_theory_derived.specs.Derived.{ Work, Around, work_after, do_all, released_commits}
+use Rattle.pdl_theory_derived.specs.Derived.{Work, Around, work_after, do_all, released_commits}
 use Rattle.pdl_theory_derived.specs.Alone.{World, alone, before, answered_op, is_among, is_oldest, drop_var, but_last}
 use Rattle.pdl_theory_derived.proofs.Writes.{and_left, and_right, of_mem_append}
-use Rattle.pdl_theory_derived.proofs.Entries.{ released_other, write_of, places}
+use Rattle.pdl_theory_derived.proofs.Entries.{released_other, write_of, places}
 use Rattle.pdl_theory_derived.proofs.Slots.{rev}
 use Rattle.pdl_theory_turns.proofs.Phases.{not_false}
 use Rattle.pdl_theory_facts.specs.Scans.{Phase, after_write, after_reserve, may_write, next_phase, all_at, none_of}
@@ -29,7 +29,8 @@ quiet_op m o (Release n a) w h =
     apart e = grind (arith, eqb_tells)
 quiet_op m o (Verify last args) w h = at (same_args (values_of args w.env) w.guess)
   where
-    at : (b : Bool) → of_mem m (cond b w (record w { child = Some (values_of args w.env); guess = (values_of args w.env); fails = true })).commits ≡ of_mem m w.commits
+    at : (b : Bool)
+        → of_mem m (cond b w (record w { child = Some (values_of args w.env); guess = (values_of args w.env); fails = true })).commits ≡ of_mem m w.commits
     at true = refl
     at false = refl
 quiet_op m o _ w h = refl
@@ -102,7 +103,8 @@ spots ph env ws = places ws ++ rev (addresses_at env ph.unwritten)
 
 addresses_set : (env xs : List ℕ) (x v : ℕ) → is_among x xs ≡ false → addresses_at (slice_set env x v) xs ≡ addresses_at env xs
 addresses_set env [] x v h = refl
-addresses_set env (y ∷ ys) x v h = ap₂ (λ n l. n ∷ l) (get_or-set_other env x y v 0 (λ e. eqb-false y x (off (y == x) h) e)) (addresses_set env ys x v (rest (y == x) h))
+addresses_set env (y ∷ ys) x v h =
+    ap₂ (λ n l. n ∷ l) (get_or-set_other env x y v 0 (λ e. eqb-false y x (off (y == x) h) e)) (addresses_set env ys x v (rest (y == x) h))
   where
     off : (b : Bool) → (b || is_among x ys) ≡ false → b ≡ false
     off true k = absurd (cc k)
@@ -152,8 +154,12 @@ spots_op world m ph (Write n a e) w r h ok rel = at (n == m) refl (ok m)
         ∙ ap (λ b. of_mem m r.writes ++ cond b (write_of n (slice_index r.env a) (value_of e r.env) ∷ []) []) f)
         ∙ ap (λ l. l ++ rev (addresses_at w.env (but_last (ph m).unwritten))) (places_append (of_mem m r.writes) _)
         ∙ append_assoc (places (of_mem m r.writes)) (slice_index r.env a ∷ []) (rev (addresses_at w.env (but_last (ph m).unwritten)))
-        ∙ ap (λ l. places (of_mem m r.writes) ++ l) (ap (λ v. slice_index v a ∷ rev (addresses_at w.env (but_last (ph m).unwritten))) (sym rel.env) ∙ sym (oldest_first w.env (ph m).unwritten a k))
-    at false f k = ap (λ l. places l ++ rev (addresses_at w.env (ph m).unwritten)) (of_mem_append m r.writes _ ∙ ap (λ b. of_mem m r.writes ++ cond b (write_of n (slice_index r.env a) (value_of e r.env) ∷ []) []) f ∙ append-nil (of_mem m r.writes))
+        ∙ ap (λ l. places (of_mem m r.writes) ++ l)
+        (ap (λ v. slice_index v a ∷ rev (addresses_at w.env (but_last (ph m).unwritten))) (sym rel.env) ∙ sym (oldest_first w.env (ph m).unwritten a k))
+    at false f k =
+        ap (λ l. places l ++ rev (addresses_at w.env (ph m).unwritten))
+        (of_mem_append m r.writes _ ∙ ap (λ b. of_mem m r.writes ++ cond b (write_of n (slice_index r.env a) (value_of e r.env) ∷ []) []) f
+        ∙ append-nil (of_mem m r.writes))
 spots_op world m ph (ReserveWrite n a) w r h ok rel = at (n == m) h
   where
     at : (b : Bool) → not b ≡ true → spots (cond b (after_reserve (ph m) a) (ph m)) w.env (of_mem m r.writes) ≡ spots (ph m) w.env (of_mem m r.writes)
@@ -161,7 +167,9 @@ spots_op world m ph (ReserveWrite n a) w r h ok rel = at (n == m) h
     at false k = refl
 spots_op world m ph (Release n a) w r h ok rel = at (n == m) (is_among a (ph m).full)
   where
-    at : (b c : Bool) → spots (cond b (cond c (record { unwritten = (ph m).unwritten; full = drop_var a (ph m).full; gone = a ∷ (ph m).gone }) (ph m)) (ph m)) w.env (of_mem m r.writes)
+    at : (b c : Bool)
+        → spots (cond b (cond c (record { unwritten = (ph m).unwritten; full = drop_var a (ph m).full; gone = a ∷ (ph m).gone }) (ph m)) (ph m)) w.env
+        (of_mem m r.writes)
         ≡ spots (ph m) w.env (of_mem m r.writes)
     at true true = refl
     at true false = refl

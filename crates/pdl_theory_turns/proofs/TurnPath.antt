@@ -172,7 +172,8 @@ module _ (p : Pipe) (acc : Accepted p) (world : World) (args : List ℕ) where
 
   -- the rest of the sequential thread
   pub run_rest : (s : ℕ) → thread p world.words args ≡ run_all (stages_from s p.stmts) (run_at p world.words args s)
-  run_rest s = ap (λ l. run_all l (start_run p world.words args)) (acc.ordered s) ∙ run_append (before s p.stmts) (stages_from s p.stmts) (start_run p world.words args)
+  run_rest s =
+      ap (λ l. run_all l (start_run p world.words args)) (acc.ordered s) ∙ run_append (before s p.stmts) (stages_from s p.stmts) (start_run p world.words args)
 
   -- past the reserves, the addresses of the writes made and of those to come are those of the turn's writes
   pub all_places : (s m : ℕ) → reserve_stage p m < s
@@ -182,7 +183,9 @@ module _ (p : Pipe) (acc : Accepted p) (world : World) (args : List ℕ) where
       (spots_all world m (stages_from s p.stmts) (λ n. phase_all n Fresh (before s p.stmts))
       (so_far p world args s) (run_at p world.words args s)
       (none_from (is_reserve m) (reserve_stage p m) s p.stmts (acc.reserves m) h) (ok_from s) (related_at s))
-      ∙ ap (λ xs. places (of_mem m (run_all (stages_from s p.stmts) (run_at p world.words args s)).writes) ++ rev (addresses_at (do_all (alone world) (stages_from s p.stmts) (so_far p world args s)).env xs)) none_open
+      ∙ ap
+      (λ xs. places (of_mem m (run_all (stages_from s p.stmts) (run_at p world.words args s)).writes)
+      ++ rev (addresses_at (do_all (alone world) (stages_from s p.stmts) (so_far p world args s)).env xs)) none_open
       ∙ append-nil _
       ∙ ap (λ (r : Run). places (of_mem m r.writes)) (sym (run_rest s))
     where

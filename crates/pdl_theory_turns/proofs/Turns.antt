@@ -117,7 +117,8 @@ module _ (p : Pipe) (acc : Pathwise p) (world : World) (args : List ℕ) where
       (reset (so_far p world args s))
       (fixed_second (before s p.stmts) (in_stage s p.stmts ++ stages_from (suc s) p.stmts) (acc.fixed_by s))
       (λ g k. (λ i. slice_index (do_all (alone world) (sym (stage_path (thread p world.words args).env s p.stmts) i) (reset (so_path s i))).env g)
-      ∙ ap (λ (w : Work). slice_index w.env g) (sym (next_piece (along (thread p world.words args).env p) world args s (accq.pieces s))) ∙ value_kept (suc s) g k)
+      ∙ ap (λ (w : Work). slice_index w.env g) (sym (next_piece (along (thread p world.words args).env p) world args s (accq.pieces s)))
+      ∙ value_kept (suc s) g k)
 
   -- a stage does the same work on the statements of the turn's path alone
   pub works_path : (s : ℕ)
@@ -180,7 +181,8 @@ module _ (p : Pipe) (acc : Pathwise p) (world : World) (args : List ℕ) where
 
   -- what is done by the following stage is what was done before this one, with this stage's work
   pub piece : (s : ℕ) → so_far p world args (suc s) ≡ joined (so_far p world args s) (work_of_stage p (alone world) (thread_at p world args s))
-  piece s = so_path (suc s) ∙ next_piece (along (thread p world.words args).env p) world args s (accq.pieces s) ∙ ap₂ joined (sym (so_path s)) (sym (works_path s))
+  piece s =
+      so_path (suc s) ∙ next_piece (along (thread p world.words args).env p) world args s (accq.pieces s) ∙ ap₂ joined (sym (so_path s)) (sym (works_path s))
 
   -- in the following stage the thread has the values, the pending writes and the guess that this stage's work leaves
   pub placed_next : (s : ℕ)
@@ -197,7 +199,8 @@ module _ (p : Pipe) (acc : Pathwise p) (world : World) (args : List ℕ) where
   -- the locations that it has blocked for reading before stage s
   pub blocked_next : (s : ℕ)
       → scan_after_all (before (suc s) (onpath (thread p world.words args).env p.stmts)) no_scan
-      ≡ scan_after_all (onpath (thread p world.words args).env (in_stage s p.stmts)) (scan_after_all (before s (onpath (thread p world.words args).env p.stmts)) no_scan)
+      ≡ scan_after_all (onpath (thread p world.words args).env (in_stage s p.stmts))
+      (scan_after_all (before s (onpath (thread p world.words args).env p.stmts)) no_scan)
   blocked_next s =
       ap (λ l. scan_after_all l no_scan) (accq.pieces s)
       ∙ TurnPath.opens_append (before s (onpath (thread p world.words args).env p.stmts)) (in_stage s (onpath (thread p world.words args).env p.stmts)) no_scan

@@ -12,7 +12,7 @@ use Rattle.pdl_theory_derived.proofs.Entries.{entries_of, write_of, places, Open
 use Rattle.pdl_theory_derived.proofs.Slots.{rev}
 use Rattle.pdl_theory_turns.proofs.Turn.{addresses_at, places_append}
 use Rattle.pdl_theory_turns.proofs.Phases.{Tied, opened}
-use Rattle.pdl_theory_facts.specs.Scans.{ Fresh, phase_all, is_plain}
+use Rattle.pdl_theory_facts.specs.Scans.{Fresh, phase_all, is_plain}
 use Rattle.pdl_theory_facts.specs.Accepted.{Accepted}
 use Rattle.pdl_theory_turns.proofs.Marks.{Mark, seen, strips, marked, Later, raised_marked, strips_marked, latest_own, no_strips, marked_more, marked_last, seen_append}
 use Rattle.pdl_theory_turns.proofs.TurnPath.{run_rest, related_at, commits_early, commits_late, all_places, run_at, start_run, run_append, quiet_at, undone_step, plain_writes, undone_in_end}
@@ -26,7 +26,8 @@ known_count (e ∷ es) = if is_some e.value then suc (known_count es) else known
 -- the undone writes of a turn in stage s
 abbrev pub marks : Pipe → World → List ℕ → ℕ → ℕ → List Mark
 marks p world args s m =
-    if nat_lt (commit_stage p m) s then [] else marked (known_count (entries_of m (so_far p world args s).entries)) (of_mem m (thread p world.words args).writes)
+    if nat_lt (commit_stage p m) s then [] else marked (known_count (entries_of m (so_far p world args s).entries))
+    (of_mem m (thread p world.words args).writes)
 
 -- as many as are written and not released
 count_known : (m : ℕ) (os : List Open) (fs : List Full) → known_count (waiting m os ++ known m fs) ≡ length (told m fs)
@@ -59,7 +60,9 @@ latest_append (e ∷ es) ks m a rest = ap (λ l. cond ((e.mem == m) && (e.addres
 latest_waiting : (m a : ℕ) (env xs : List ℕ) (rest : Latest)
     → latest_in (waiting m (opened env xs)) m a rest ≡ coming a (rev (addresses_at env xs)) rest
 latest_waiting m a env [] rest = refl
-latest_waiting m a env (x ∷ xs) rest = ap₂ (λ b l. cond (b && (slice_index env x == a)) Coming l) (eq-eqb m m refl) (latest_waiting m a env xs rest) ∙ sym (coming_last a (slice_index env x) (rev (addresses_at env xs)) rest)
+latest_waiting m a env (x ∷ xs) rest =
+    ap₂ (λ b l. cond (b && (slice_index env x == a)) Coming l) (eq-eqb m m refl) (latest_waiting m a env xs rest)
+    ∙ sym (coming_last a (slice_index env x) (rev (addresses_at env xs)) rest)
 
 latest_known : (m a : ℕ) (fs : List Full) (rest : Latest) → latest_in (known m fs) m a rest ≡ seen a (marked (length (told m fs))
     (told m fs)) rest
@@ -69,7 +72,8 @@ latest_known m a (f ∷ fs) rest =
     ∙ sym (ap (λ l. seen a l rest) (marked_last (told m fs) (write_of m f.address f.value)) ∙ seen_append a (marked (length (told m fs)) (told m fs)) _ rest)
 
 -- some writes with values, and others behind them
-seen_split : (a : ℕ) (xs ys : List Commit) (rest : Latest) → seen a (marked (length xs) (xs ++ ys)) rest ≡ seen a (marked 0 ys) (seen a (marked (length xs) xs) rest)
+seen_split : (a : ℕ) (xs ys : List Commit) (rest : Latest)
+    → seen a (marked (length xs) (xs ++ ys)) rest ≡ seen a (marked 0 ys) (seen a (marked (length xs) xs) rest)
 seen_split a [] ys rest = refl
 seen_split a (x ∷ xs) ys rest =
     ap (λ l. seen a l rest) (marked_more (length xs) x (xs ++ ys)) ∙ seen_split a xs ys (if x.address == a then Known x.value else rest)
@@ -86,7 +90,9 @@ runs_more : (m : ℕ) (xs : List Stmt) (r : Run) → (more : List Commit) × (of
 runs_more m [] r = ([], sym (append-nil _))
 runs_more m (x ∷ xs) r = at (all_hold x.guards r.env) (runs_more m xs (run_after x.op r)) (runs_more m xs r)
   where
-    at : (b : Bool) → (more : List Commit) × (of_mem m (run_all xs (run_after x.op r)).writes ≡ of_mem m (run_after x.op r).writes ++ more) → (more : List Commit) × (of_mem m (run_all xs r).writes ≡ of_mem m r.writes ++ more)
+    at : (b : Bool)
+        → (more : List Commit) × (of_mem m (run_all xs (run_after x.op r)).writes ≡ of_mem m (run_after x.op r).writes ++ more)
+        → (more : List Commit) × (of_mem m (run_all xs r).writes ≡ of_mem m r.writes ++ more)
         → (more : List Commit) × (of_mem m (run_all xs (cond b (run_after x.op r) r)).writes ≡ of_mem m r.writes ++ more)
     at true rest on =
         let here = run_more m x.op r in
@@ -135,17 +141,22 @@ module _ (p : Pipe) (acc : Accepted p) (world : World) (args : List ℕ) where
   -- what stage s has written is written first
   pub writes_first : (s m : ℕ) → (more : List Commit) × (of_mem m (thread p world.words args).writes ≡ of_mem m (run_at p world.words args s).writes ++ more)
   writes_first s m =
-      let r = runs_more m (stages_from s p.stmts) (run_at p world.words args s) in (r.0, ap (λ (q : Run). of_mem m q.writes) (run_rest p acc world args s) ∙ r.1)
+      let r = runs_more m (stages_from s p.stmts) (run_at p world.words args s) in
+      (r.0, ap (λ (q : Run). of_mem m q.writes) (run_rest p acc world args s) ∙ r.1)
 
   -- what stage s finds of m
-  pub tied_at : (s m : ℕ) → Tied m (phase_all m Fresh (before s p.stmts)) (so_far p world args s).env (entries_of m (so_far p world args s).entries) (of_mem m (so_far p world args s).commits) (of_mem m (run_at p world.words args s).writes)
+  pub tied_at : (s m : ℕ)
+      → Tied m (phase_all m Fresh (before s p.stmts)) (so_far p world args s).env (entries_of m (so_far p world args s).entries)
+      (of_mem m (so_far p world args s).commits) (of_mem m (run_at p world.words args s).writes)
   tied_at s m = (related_at p acc world args s).tied m
 
   -- before the releases, all that has a value is written and the other way round
   pub early_written : (s m : ℕ) → s ≤ commit_stage p m → of_mem m (run_at p world.words args s).writes ≡ told m (tied_at s m).fulls
   early_written s m h = (tied_at s m).written ∙ ap (λ l. l ++ told m (tied_at s m).fulls) (commits_early p acc world args s m h)
 
-  early_count : (s m : ℕ) → s ≤ commit_stage p m → known_count (entries_of m (so_far p world args s).entries) ≡ length (of_mem m (run_at p world.words args s).writes)
+  early_count : (s m : ℕ)
+      → s ≤ commit_stage p m
+      → known_count (entries_of m (so_far p world args s).entries) ≡ length (of_mem m (run_at p world.words args s).writes)
   early_count s m h = ap known_count (tied_at s m).entries ∙ count_known m (opened (so_far p world args s).env (phase_all m Fresh (before s p.stmts)).unwritten)
       (tied_at s m).fulls ∙ ap length (sym (early_written s m h))
 
@@ -159,14 +170,24 @@ module _ (p : Pipe) (acc : Accepted p) (world : World) (args : List ℕ) where
       total : length (told m (tied_at s m).fulls) + length (rev (addresses_at (so_far p world args s).env (phase_all m Fresh (before s p.stmts)).unwritten)) ≡ 0
       total =
           let all = all_places p acc world args s m r in
-          let ls : length (places (of_mem m (run_at p world.words args s).writes)) + length (rev (addresses_at (so_far p world args s).env (phase_all m Fresh (before s p.stmts)).unwritten)) ≡ length (places cs) = sym (length-append (places (of_mem m (run_at p world.words args s).writes)) _) ∙ ap length all ∙ ap (λ l. length (places l)) (sym (commits_late p acc world args s m h)) in
-          let ws : length (places (of_mem m (run_at p world.words args s).writes)) ≡ length (places cs) + length (told m (tied_at s m).fulls) = ap (λ l. length (places l)) (tied_at s m).written ∙ ap length (places_append cs (told m (tied_at s m).fulls)) ∙ length-append (places cs) _ ∙ ap (λ n. length (places cs) + n) (length_places (told m (tied_at s m).fulls)) in
+          let ls : length (places (of_mem m (run_at p world.words args s).writes)) + length
+          (rev (addresses_at (so_far p world args s).env (phase_all m Fresh (before s p.stmts)).unwritten))
+          ≡ length (places cs) = sym (length-append (places (of_mem m (run_at p world.words args s).writes)) _)
+          ∙ ap length all ∙ ap (λ l. length (places l)) (sym (commits_late p acc world args s m h)) in
+          let ws : length (places (of_mem m (run_at p world.words args s).writes))
+          ≡ length (places cs) + length (told m (tied_at s m).fulls) = ap (λ l. length (places l)) (tied_at s m).written
+          ∙ ap length (places_append cs (told m (tied_at s m).fulls)) ∙ length-append (places cs) _
+          ∙ ap (λ n. length (places cs) + n) (length_places (told m (tied_at s m).fulls)) in
           omega arith
 
       nothing : (xs : List ℕ) (fs : List Full) → length (told m fs) + length (rev (addresses_at (so_far p world args s).env xs)) ≡ 0 → (xs ≡ []) × (fs ≡ [])
       nothing [] [] e = (refl, refl)
-      nothing [] (f ∷ fs) e = absurd (let l : length (told m fs ++ write_of m f.address f.value ∷ []) ≡ length (told m fs) + 1 = length-append (told m fs) _ in omega arith)
-      nothing (x ∷ xs) fs e = absurd (let l : length (rev (addresses_at (so_far p world args s).env xs) ++ slice_index (so_far p world args s).env x ∷ []) ≡ length (rev (addresses_at (so_far p world args s).env xs)) + 1 = length-append (rev (addresses_at (so_far p world args s).env xs)) _ in omega arith)
+      nothing [] (f ∷ fs) e =
+          absurd (let l : length (told m fs ++ write_of m f.address f.value ∷ []) ≡ length (told m fs) + 1 = length-append (told m fs) _ in omega arith)
+      nothing (x ∷ xs) fs e =
+          absurd
+          (let l : length (rev (addresses_at (so_far p world args s).env xs) ++ slice_index (so_far p world args s).env x ∷ [])
+          ≡ length (rev (addresses_at (so_far p world args s).env xs)) + 1 = length-append (rev (addresses_at (so_far p world args s).env xs)) _ in omega arith)
 
       none : ((phase_all m Fresh (before s p.stmts)).unwritten ≡ []) × ((tied_at s m).fulls ≡ [])
       none = nothing _ _ total
@@ -187,6 +208,7 @@ module _ (p : Pipe) (acc : Accepted p) (world : World) (args : List ℕ) where
 
       to_come : places more ≡ rev (addresses_at (so_far p world args s).env xs)
       to_come = same_rest (places ws) _ _ (sym (places_append ws more) ∙ ap places (sym (writes_first s m).1) ∙ sym (all_places p acc world args s m h))
+
       at : (b : Bool) → nat_lt (commit_stage p m) s ≡ b
           → latest_in (entries_of m (so_far p world args s).entries) m a rest
           ≡ seen a (cond b [] (marked (known_count (entries_of m (so_far p world args s).entries)) (of_mem m (thread p world.words args).writes))) rest
@@ -226,12 +248,16 @@ module _ (p : Pipe) (acc : Accepted p) (world : World) (args : List ℕ) where
       (strips_marked m _ (thread p world.words args).writes) (undone_step p acc world args s m)
       (quiet_at p acc world args (alone world) (thread_at p world args s) m) raise
     where
-      raise : suc s ≤ commit_stage p m → known_count (entries_of m (so_far p world args s).entries) ≤ known_count (entries_of m (so_far p world args (suc s)).entries)
+      raise : suc s ≤ commit_stage p m
+          → known_count (entries_of m (so_far p world args s).entries) ≤ known_count (entries_of m (so_far p world args (suc s)).entries)
       raise h =
           let now = early_count s m (omega arith) in
           let next = early_count (suc s) m h in
           let r = runs_more m (in_stage s p.stmts) (run_at p world.words args s) in
-          let grown : length (of_mem m (run_at p world.words args (suc s)).writes) ≡ length (of_mem m (run_at p world.words args s).writes) + length r.0 = ap (λ l. length (of_mem m (run_all l (start_run p world.words args)).writes)) (acc.pieces s) ∙ ap (λ (q : Run). length (of_mem m q.writes)) (run_append (before s p.stmts) (in_stage s p.stmts) (start_run p world.words args))
+          let grown : length (of_mem m (run_at p world.words args (suc s)).writes)
+          ≡ length (of_mem m (run_at p world.words args s).writes) + length r.0 = ap (λ l. length (of_mem m (run_all l (start_run p world.words args)).writes))
+          (acc.pieces s)
+          ∙ ap (λ (q : Run). length (of_mem m q.writes)) (run_append (before s p.stmts) (in_stage s p.stmts) (start_run p world.words args))
           ∙ ap length r.1 ∙ length-append (of_mem m (run_at p world.words args s).writes) r.0 in
           omega arith
 
