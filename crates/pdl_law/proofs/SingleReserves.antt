@@ -1,22 +1,22 @@
 -- No path of a source without forms that lack a circuit reserves a memory twice for writing.
-use Rattle.std.proofs.Common.{◌≡◌, refl, sym, ap, ap₂, ◌∙◌, subst, ℕ, suc, ◌+◌, ◌<◌, ◌≤◌, Bool, true, false, ◌&&◌, ◌||◌, List, [], ◌∷◌, ◌++◌, length, map, Some, ◌==◌, if◌then◌else◌, bytes_eq, zero-add, arith}
+use Rattle.std.proofs.Common.{◌≡◌, refl, sym, ap, ap₂, ◌∙◌, subst, ℕ, suc, ◌+◌, ◌<◌, ◌≤◌, Bool, true, false, ◌&&◌, ◌||◌, List, [], ◌∷◌, ◌++◌, filter, length, map, Some, ◌==◌, if◌then◌else◌, bytes_eq, zero-add, arith}
 use Rattle.std.specs.List.{list_any}
 use Rattle.std.proofs.lemmas.Bool.{false≢true}
+use Rattle.std.proofs.lemmas.List.Folds.{list_any-append}
 use Rattle.pdl_kit.specs.declared.rule.Rule.TheVariants.{L4}
 use Rattle.pdl_semantics.specs.Tree as tree
 use Rattle.pdl_semantics.specs.Tree.{R, W, Variable, Separator, CombRead, Bind, SpecCall, DelayedRead, Write, Reserve, Block, Release, If, Call, Verify, Update, SpecCheck, SpecBarrier, Location, Stmt}
 use Rattle.pdl_semantics.specs.Flat
-use Rattle.pdl_semantics.specs.Flatten.{flat, mem_of, var_of, flat_expr, is_advisory_mem, is_advised, params_of}
+use Rattle.pdl_semantics.specs.Flatten.{Var, flat, mem_of, var_of, flat_expr, is_advisory_mem, is_advised, params_of}
 use Rattle.pdl_semantics.specs.Sound.{is_write_reserve}
 use Rattle.pdl_semantics.specs.SecondWrites.{write_reserves}
 use Rattle.pdl_semantics.specs.Stages.{onpath}
-use Rattle.pdl_rules.specs.Places.{Place, Parameter, Statement, places, on_path}
+use Rattle.pdl_rules.specs.Places.{Place, Parameter, Statement, Branch, Guard, places, on_path}
 use Rattle.pdl_rules.specs.Parts.{location_of}
 use Rattle.pdl_rules.specs.Typed.{is_memory}
 use Rattle.pdl_rules.specs.Locks.{is_reserve_of}
 use Rattle.pdl_rules.specs.Refusal.{KeepsRules}
 use Rattle.pdl_rules.specs.Unbuilt.{IsBuilt, is_second_write}
-use Rattle.pdl_rules.proofs.SingleWrites.{any_last}
 use Rattle.pdl_theory_facts.specs.Facts.{looked_all}
 use Rattle.pdl_theory_derived.specs.Alone.{answered_op}
 use Rattle.pdl_theory_turns.proofs.Looks.{path_looked}
@@ -45,7 +45,7 @@ module _ (p : tree.Pipe) (n : List ℕ) (there : is_memory p.mems n ≡ true) wh
   m = mem_of p.mems n
 
   -- what a statement does reserves the memory for writing where the statement does
-  reserves_at : (k : ℕ) (vs : List Rattle.pdl_semantics.specs.Flatten.Var) (s : Stmt) (bs : List Rattle.pdl_rules.specs.Places.Branch) (rest : List Flat.Stmt)
+  reserves_at : (k : ℕ) (vs : List Var) (s : Stmt) (bs : List Branch) (rest : List Flat.Stmt)
       → ((l : Location) → location_of s ≡ Some l → is_memory p.mems l.mem.name ≡ true)
       → write_reserves m (seen_ops k (ops_of p.mems vs s) ++ rest) ≡ one_where (is_reserve_of W n (Statement s bs)) + write_reserves m rest
   reserves_at k vs (Reserve sp l W) bs rest named =
@@ -79,7 +79,7 @@ module _ (p : tree.Pipe) (n : List ℕ) (there : is_memory p.mems n ≡ true) wh
   reserves_at k vs (SpecBarrier sp) bs rest named = sym (zero-add (write_reserves m rest))
 
   -- a place that reserves the memory for writing is the first one, where it is no second one
-  first_one : (earlier : List Place) (s : Stmt) (bs : List Rattle.pdl_rules.specs.Places.Branch)
+  first_one : (earlier : List Place) (s : Stmt) (bs : List Branch)
       → is_second_write earlier (Statement s bs) ≡ false → is_reserve_of W n (Statement s bs) ≡ true → list_any (is_reserve_of W n) earlier ≡ false
   first_one earlier (Reserve sp l W) bs h e = subst (λ x. list_any (is_reserve_of W x) earlier ≡ false) (bytes_same l.mem.name n e) h
   first_one earlier (Reserve sp l R) bs h e = absurd (false≢true e)
@@ -88,7 +88,7 @@ module _ (p : tree.Pipe) (n : List ℕ) (there : is_memory p.mems n ≡ true) wh
 -- ---- A PATH
 
 module _ (p : tree.Pipe) (rules : KeepsRules p) (built : IsBuilt p) (source : is_source p ≡ true) (path : List ℕ) where
-  abbrev c : List Rattle.pdl_rules.specs.Places.Guard
+  abbrev c : List Guard
   c = path_of p (value p path)
 
   -- along the path no place is a second write
@@ -123,7 +123,7 @@ module _ (p : tree.Pipe) (rules : KeepsRules p) (built : IsBuilt p) (source : is
         count = reserves_at p n there t.walk.stage t.walk.vars t.stmt t.branches (seen p.mems ts) (λ l e. (located p rules t here.0 l e).0)
 
         more : list_any (is_reserve_of W n) (earlier ++ place_of t ∷ []) ≡ (list_any (is_reserve_of W n) earlier || is_reserve_of W n (place_of t))
-        more = Rattle.std.proofs.lemmas.List.list_any-append (is_reserve_of W n) earlier (place_of t ∷ []) ∙ last (list_any (is_reserve_of W n) earlier) (is_reserve_of W n (place_of t))
+        more = list_any-append (is_reserve_of W n) earlier (place_of t ∷ []) ∙ last (list_any (is_reserve_of W n) earlier) (is_reserve_of W n (place_of t))
           where
             last : (a b : Bool) → (a || (b || false)) ≡ (a || b)
             last true b = refl
@@ -177,7 +177,7 @@ module _ (p : tree.Pipe) (rules : KeepsRules p) (built : IsBuilt p) (source : is
       let n = at_number p.mems i (distinct p rules p.mems (map Parameter p.params) (all_after p)) (subst (λ k. i < k) (mems_length p.mems) low) in
       let here = all_on (Here p) (path_of p (value p path)) (sites_of p) (all_here p) in
       let on = on_the_path (path_of p (value p path)) (front_of p) (sites_of p) (all_in_text p) in
-      let few = few_along n.0 n.1 (Rattle.std.specs.List.filter (on_path (path_of p (value p path))) (front_of p)) ts (are_first _ ts on here) here in
+      let few = few_along n.0 n.1 (filter (on_path (path_of p (value p path))) (front_of p)) ts (are_first _ ts on here) here in
       let all = ap (write_reserves (mem_of p.mems n.0)) (sym seen_is) ∙ few_looked (mem_of p.mems n.0) (onpath path (flat p).stmts) in
       subst (λ k. write_reserves k (onpath path (flat p).stmts) ≤ 1) n.2 (omega (arith, few, all))
 
