@@ -20,7 +20,6 @@ use Rattle.pdl_lockapi.specs.Forget.{forget, forgotten_entries, as_lock, has_pla
 use Rattle.pdl_lockapi.proofs.Threads.{same_append, ticket_covered}
 use Rattle.pdl_machine_facts.specs.Slots.{here, stage_moves, movers_from, moving}
 use Rattle.pdl_machine_facts.specs.Cycle.{IsByStages}
-use Rattle.pdl_machine_facts.specs.Use.{AreWritten}
 use Rattle.pdl_law_parts.proofs.AnsweredThreads.{Stood}
 use Rattle.pdl_law_parts.specs.Walk.{Locks, is_locked, Put, is_on}
 use Rattle.pdl_law_parts.specs.Views.{Gates, View}
@@ -33,7 +32,7 @@ use Rattle.pdl_law_parts.proofs.Moves.{ready_of}
 use Rattle.pdl_law_parts.proofs.LockUse.{IsAlike, alike, all_new, appended_is, new_count, EachTo, each_to, each_map, HasTicket, write_acts, written_append, none_written, stage_written, place_below}
 use Rattle.pdl_lockapi.proofs.LockKinds.{room_there}
 use Rattle.pdl_law_parts.proofs.LockPorts.{asked_append, asked_stage, lets_stage, AreFitting, fitting_append, fitting_at, fitting_stage, AreDriven, driven_append, driven_count, driven_at, driven_stage, moves_or_not, no_mover, one_mover}
-use Rattle.pdl_semantics.specs.PendingLists.{AreOrdered, count_older}
+use Rattle.pdl_semantics.specs.PendingLists.{AreOrdered, count_older, AreWritten}
 
 -- RELEASES
 
