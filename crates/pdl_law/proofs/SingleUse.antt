@@ -228,8 +228,8 @@ module _ (p : Pipe) (sound : Sound p) (st : State) (d : Derived.State) (bits : L
       up n (inl z) = inl z
       up n (inr o) = inr (o.0, o.1, o.2, o.3, let a = o.4 in let b = f.0 in omega (arith, a, b))
 
-      mine : (c : ℕ) → takes l ≡ suc c → AreOwn (takes l) l.number es → Few l.number (gone ks) → Few bound (gone ks + takes l)
-      mine c e o r = by es refl (subst (λ n. AreOwn n l.number es) e o) r
+      taken : (c : ℕ) → takes l ≡ suc c → AreOwn (takes l) l.number es → Few l.number (gone ks) → Few bound (gone ks + takes l)
+      taken c e o r = by es refl (subst (λ n. AreOwn n l.number es) e o) r
         where
           one : takes l ≡ 1
           one = let g = few.0 in omega (arith, g, e)
@@ -246,22 +246,22 @@ module _ (p : Pipe) (sound : Sound p) (st : State) (d : Derived.State) (bits : L
       at : (b : Bool) → (did p d bits ks l).moves ≡ b → (c : ℕ) → takes l ≡ c → Few l.number (gone ks)
           → Few bound (all_releases m (if b then lact p st d bits ks l ∷ movers (lacts p st d bits ks) else movers (lacts p st d bits ks)))
       at false i c e r = up (gone ks) r
-      at true i zero e r = subst (Few bound) (omega (arith, e)) (up (gone ks) r)
-      at true i (suc c) e r = mine c e (own.0 i) r
+      at true i zero e r = let same : gone ks ≡ gone ks + takes l = omega (arith, e) in subst (Few bound) same (up (gone ks) r)
+      at true i (suc c) e r = taken c e (own.0 i) r
 
   -- a cycle releases at most one write
   pub one_gone : all_releases m (moving p st bits) ≤ 1
   one_gone =
       subst (λ n. n ≤ 1) (sym (releases_are p sound st d bits ls sim m))
-      (low (few_gone (two p (sound_flows p sound) st d bits sim.arrays m ls) st.next ls sim.falls
+      (at_most (few_gone (two p (sound_flows p sound) st d bits sim.arrays m ls) st.next ls sim.falls
       (own_two p sound st d bits sim.arrays m ls all_known sim.ordered)
       (pair_map (λ x k. one_released p sound st d bits sim.arrays x.older x.live k single m low) (pairs ls) knowns)))
     where
-      low : (gone ls ≡ 0)
+      at_most : (gone ls ≡ 0)
           ⊎ ((gone ls ≡ 1) × (e : Pending) × (fs : List Pending) × (two p (sound_flows p sound) st d bits sim.arrays m ls ≡ e ∷ fs) × (e.thread < st.next))
           → gone ls ≤ 1
-      low (inl z) = omega (arith, z)
-      low (inr o) = let e = o.0 in omega (arith, e)
+      at_most (inl z) = omega (arith, z)
+      at_most (inr o) = let e = o.0 in omega (arith, e)
 
 -- ---- A STATE OF A RUN
 
