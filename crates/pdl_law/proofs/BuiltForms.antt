@@ -18,12 +18,13 @@ use Rattle.pdl_word.proofs.Each.{each_push}
 mems_plain : (p : tree.Pipe) → IsBuilt p → (ms : List Mem) (before later : List Place)
     → places p ≡ before ++ (map Memory ms ++ later) → (n : List ℕ) → is_advisory_mem ms n ≡ false
 mems_plain p built [] before later e n = refl
-mems_plain p built (m ∷ ms) before later e n = at (bytes_eq m.name.name n)
+mems_plain p built (m ∷ ms) before later e n =
+    at (bytes_eq m.name.name n)
+    (mems_plain p built ms (before ++ Memory m ∷ []) later (e ∙ sym (append_assoc before (Memory m ∷ []) (map Memory ms ++ later))) n)
   where
-    at : (b : Bool) → (if b then is_advisory m.kind else is_advisory_mem ms n) ≡ false
-    at true = built P1 before (Memory m) (map Memory ms ++ later) e
-    at false =
-        mems_plain p built ms (before ++ Memory m ∷ []) later (e ∙ sym (append_assoc before (Memory m ∷ []) (map Memory ms ++ later))) n
+    at : (b : Bool) → is_advisory_mem ms n ≡ false → (if b then is_advisory m.kind else is_advisory_mem ms n) ≡ false
+    at true rest = built P1 before (Memory m) (map Memory ms ++ later) e
+    at false rest = rest
 
 -- no memory is advisory
 pub none_advisory : (p : tree.Pipe) → IsBuilt p → (n : List ℕ) → is_advisory_mem p.mems n ≡ false

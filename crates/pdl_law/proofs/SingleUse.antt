@@ -125,10 +125,13 @@ module _ (p : Pipe) (sound : Sound p) (st : State) (d : Derived.State) (bits : L
       let back = reserves_append m now (rest p sound st d bits arrays older l k) in
       omega (arith, few, all, front, back)
 
+  did_is : deeds_of p st bits l
+      ≡ deeds_after_all (word_for st l.number) (in_stage l.thread.stage p.stmts) (begun p sound st d bits arrays older l k)
+  did_is = ap (deeds_after_all (word_for st l.number) (in_stage l.thread.stage p.stmts)) (begun_is p sound st d bits arrays older l k)
+
   reserved_now : reserves_of m (deeds_of p st bits l).reserves ≡ 0 + write_reserves m now
   reserved_now =
-      ap (λ (e : Deeds). reserves_of m e.reserves)
-      (ap (deeds_after_all (word_for st l.number) (in_stage l.thread.stage p.stmts)) (begun_is p sound st d bits arrays older l k))
+      ap (λ (e : Deeds). reserves_of m e.reserves) did_is
       ∙ reserved_all m (path p sound st d bits arrays older l k) (word_for st l.number) (in_stage l.thread.stage p.stmts)
       (begun p sound st d bits arrays older l k) (along_here p sound st d bits arrays older l k)
 
