@@ -1,6 +1,6 @@
 -- The words of a memory that isn't advisory change by what is released alone.
 use Rattle.std.proofs.Common.{◌≡◌, sym, ap, ◌∙◌, ℕ, suc, ◌<◌, Bool, false, List, [], ◌∷◌, length, Option, Some, None}
-use Rattle.pdl_semantics.specs.Flat.{Arrays, is_advisory, Pipe}
+use Rattle.pdl_semantics.specs.Flat.{is_advisory, Pipe}
 use Rattle.pdl_semantics.specs.Stages.{in_stage, mem_at}
 use Rattle.pdl_semantics.specs.Machine.{Thread, State, with_answers, word_for}
 use Rattle.pdl_semantics.specs.Moves.{Act, acts, all_acts}

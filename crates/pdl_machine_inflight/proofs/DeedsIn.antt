@@ -1,7 +1,7 @@
 -- What a stage's statements may do: they ask for the delayed reads of the stage, and only where the verifies stand does one fail.
 use Rattle.std.proofs.Common.{◌≡◌, refl, sym, ap, ◌∙◌, ℕ, suc, Bool, true, false, ◌&&◌, ◌||◌, not, List, [], ◌∷◌, Option, Some, None, ◌==◌, nat_le, arith, cond, if◌then◌else◌}
 use Rattle.std.proofs.lemmas.Bool.{and_parts, eqb-true, leb-true}
-use Rattle.pdl_semantics.specs.Flat.{Op, Bind, CombRead, DelayedRead, Write, ReserveRead, ReserveWrite, Block, Release, Call, SpecCall, Verify, SpecCheck, SpecBarrier, Stmt, Pipe, values_of, all_hold}
+use Rattle.pdl_semantics.specs.Flat.{Op, Bind, CombRead, DelayedRead, Write, ReserveRead, ReserveWrite, Block, Release, Call, SpecCall, Verify, SpecCheck, SpecBarrier, AdviceBind, AdviceRead, AdviceWrite, Stmt, Pipe, values_of, all_hold}
 use Rattle.pdl_semantics.specs.Stages.{list_any, in_stage, is_verify, verify_stage}
 use Rattle.pdl_semantics.specs.Machine.{State, Thread, Ask, Deeds, same_args, deeds_after, deeds_after_all, deeds, word_for}
 use Rattle.pdl_theory_facts.specs.Scans.{all_at}
@@ -47,6 +47,9 @@ asks_op p k s read x h e d r = by x.op h
     by (SpecCall args) g = r
     by SpecCheck g = r
     by SpecBarrier g = r
+    by (AdviceBind y a) g = r
+    by (AdviceRead y m a) g = r
+    by (AdviceWrite m a b) g = r
 
 asks_all : (p : Pipe) (k : ℕ) (read : ℕ → ℕ → ℕ) (xs : List Stmt)
     → Each (λ (x : Stmt). IsTheReading p x × (x.stage ≡ k)) xs → (d : Deeds) → Each (AsksIn p k) d.asks
@@ -79,6 +82,9 @@ fails_op read (Call args) d h u = refl
 fails_op read (SpecCall args) d h u = refl
 fails_op read SpecCheck d h u = refl
 fails_op read SpecBarrier d h u = refl
+fails_op read (AdviceBind x e) d h u = refl
+fails_op read (AdviceRead x m a) d h u = refl
+fails_op read (AdviceWrite m a e) d h u = refl
 
 fails_all : (read : ℕ → ℕ → ℕ) (xs : List Stmt)
     → Each (λ (x : Stmt). is_verify x.op ≡ false) xs → Each (λ (x : Stmt). is_update x.op ≡ false) xs → (d : Deeds)

@@ -17,6 +17,7 @@ use Rattle.pdl_theory_simulation.proofs.Choices
 use Rattle.pdl_theory_simulation.proofs.SimulatedStates.{Sim}
 use Rattle.pdl_theory_states.specs.Strict.{Strict}
 use Rattle.pdl_theory_states.proofs.PastStatements.{AskedBy}
+use Rattle.pdl_theory_derived.specs.Simulation.{hints_of}
 use Rattle.pdl_theory_states.proofs.UnusedValues.{AnyOp, onto}
 use Rattle.pdl_theory_states.proofs.ThreadHistory.{AnyAsk, past_of, any_of}
 use Rattle.pdl_theory_states.proofs.ThreadFacts.{Owns, Lasting, Along}
@@ -165,4 +166,5 @@ pub flights : (p : Pipe) → Sound p → Strict p → Reads p → (image : Array
     → InFlight p (state_after p (first p image) before)
 flights p sound strict reads image before =
     let r = reached p sound strict image before in
-    in_flight p (sound_flows p sound).graph reads (state_after p (first p image) before) (Derived.state_after p (Derived.first p image) before) r.0 r.1 r.2
+    in_flight p (sound_flows p sound).graph reads (state_after p (first p image) before) (Derived.state_after p (Derived.first p image (hints_of p (first p image) before)) before)
+    r.0 r.1 r.2

@@ -1,5 +1,5 @@
 -- A fork's list is no longer than its branches have stages.
-use Rattle.std.proofs.Common.{◌≡◌, refl, sym, ap, ap₂, ◌∙◌, subst, ℕ, zero, suc, ◌+◌, ◌<◌, ◌≤◌, Bool, true, false, List, [], ◌∷◌, length, Option, Some, None, is_some, ◌==◌, cond, arith, ne_eqb, eq-eqb, length-append}
+use Rattle.std.proofs.Common.{◌≡◌, refl, sym, ap, ap₂, ◌∙◌, subst, ℕ, zero, suc, ◌+◌, ◌<◌, ◌≤◌, Bool, true, false, List, [], ◌∷◌, length, Some, None, is_some, ◌==◌, cond, arith, ne_eqb, eq-eqb, length-append}
 use Rattle.std.specs.Prelude.{if◌then◌else◌, slice_index_or, count_by}
 use Rattle.std.proofs.lemmas.Bool.{eqb-true, eqb-false}
 use Rattle.std.proofs.lemmas.List.Recursion.{is_count_by}
@@ -65,7 +65,8 @@ side_long p g f s = at (is_inside p f s) refl
     at false e = ap length (sides_outside f (stage_at p s).branches e) ∙ sym (ap (λ b. if b then 1 else 0) e)
 
 stages_counted : (f : ℕ) (xs : List Stage)
-    → total (λ k. side_count f (slice_index_or xs k last_stage).branches) (length xs) ≡ count_by (λ (x : Stage). list_any (λ (b : Branch). b.fork == f) x.branches) xs
+    → total (λ k. side_count f (slice_index_or xs k last_stage).branches) (length xs) ≡ count_by
+    (λ (x : Stage). list_any (λ (b : Branch). b.fork == f) x.branches) xs
 stages_counted f xs =
     is_count_by (λ ys. total (λ k. side_count f (slice_index_or ys k last_stage).branches) (length ys))
     (λ (x : Stage). list_any (λ (b : Branch). b.fork == f) x.branches) refl one xs

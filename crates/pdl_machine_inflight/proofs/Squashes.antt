@@ -120,7 +120,8 @@ verify_low n v (x ∷ xs) h e = at (is_verify x.op) e (verify_low n v xs (and_pa
     at true f rest = let same : x.stage ≡ v = cc f in subst (λ j. j < n) same (ltb-true x.stage n (and_parts (nat_lt x.stage n) _ h).0)
     at false f rest = rest f
 
-module _ (p : Pipe) (sound : Sound p) (still : ReplacesNone p) (st : State) (bits : List Bool) (flight : InFlight p st) (v : ℕ) (is : verify_stage p.stmts ≡ Some v) where
+module _ (p : Pipe) (sound : Sound p) (still : ReplacesNone p) (st : State) (bits : List Bool) (flight : InFlight p st) (v : ℕ)
+    (is : verify_stage p.stmts ≡ Some v) where
   v_is : (o : Option ℕ) → o ≡ Some v → CourseOf.v_of p sound o ≡ v
   v_is None i = absurd (cc i)
   v_is (Some w) i = cc i
@@ -189,7 +190,8 @@ module _ (p : Pipe) (sound : Sound p) (still : ReplacesNone p) (st : State) (bit
   stage_from (suc n) k low high = at (k == v) refl (λ i. stage_from n (suc k) i (omega (arith, high)))
     where
       at : (b : Bool) → (k == v) ≡ b
-          → (suc k ≤ v → squash_stage (movers_from p st bits n (suc k)) ≡ (if stage_moves p st bits v && failing p st v (here p st bits v) then Some v else None))
+          → (suc k ≤ v → squash_stage (movers_from p st bits n (suc k))
+          ≡ (if stage_moves p st bits v && failing p st v (here p st bits v) then Some v else None))
           → squash_stage (movers_from p st bits (suc n) k) ≡ (if stage_moves p st bits v && failing p st v (here p st bits v) then Some v else None)
       at true e rest =
           let same = eqb-true k v e in

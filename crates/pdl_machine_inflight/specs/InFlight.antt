@@ -1,5 +1,5 @@
 -- What holds of the threads in flight, by their stages, in each state that a run comes to.
-use Rattle.std.specs.Prelude.{◌≡◌, ℕ, ◌<◌, ◌≤◌, false, List, [], ◌∷◌, Some, None, length, ◌⊎◌}
+use Rattle.std.specs.Prelude.{◌≡◌, ℕ, ◌<◌, ◌≤◌, false, List, [], ◌∷◌, Some, length, ◌⊎◌}
 use Rattle.pdl_word.specs.Each.{Each}
 use Rattle.pdl_semantics.specs.Flat.{Stmt, Pipe}
 use Rattle.pdl_semantics.specs.Updates.{is_update}

@@ -13,6 +13,7 @@ use Rattle.pdl_machine_facts.specs.Slots.{slot, with_now, here, stage_moves, slo
 use Rattle.pdl_theory_states.specs.Use.{AllActs, reserved_count}
 use Rattle.pdl_semantics.specs.PendingLists.{AreOrdered, count_older}
 use Rattle.pdl_word.specs.Each.{Each}
+use Rattle.pdl_theory_states.proofs.PendingLists.{count_append}
 
 -- EACH STAGE
 
@@ -174,18 +175,6 @@ room_together p st m all (r ∷ rs) h some = at (r.mem == m) refl some (room_tog
 
 -- OLDER THREADS
 
-counted_append : (t : ℕ) (es fs : List Pending) → count_older t (es ++ fs) ≡ count_older t es + count_older t fs
-counted_append t [] fs = zero_first (count_older t fs)
-  where
-    zero_first : (n : ℕ) → n ≡ 0 + n
-    zero_first n = omega arith
-counted_append t (e ∷ es) fs = at (nat_lt e.thread t) (counted_append t es fs)
-  where
-    at : (b : Bool) → count_older t (es ++ fs) ≡ count_older t es + count_older t fs
-        → cond b (suc (count_older t (es ++ fs))) (count_older t (es ++ fs)) ≡ cond b (suc (count_older t es)) (count_older t es) + count_older t fs
-    at true h = omega (arith, h)
-    at false h = h
-
 -- what a thread reserves is no older than a thread before it
 new_young : (m n t : ℕ) (rs : List Reserved) → t ≤ n → count_older t (new_entries m n rs) ≡ 0
 new_young m n t [] h = refl
@@ -284,7 +273,8 @@ sole_older t y m (a ∷ ms) es h o p = at (reserves_of m a.does.reserves) refl (
     new = new_entries m a.thread.number a.does.reserves
 
     at : (n : ℕ) → reserves_of m a.does.reserves ≡ n
-        → (AreOrdered 0 (with_reserves m ms es) → forget.has_place t y (with_reserves m ms es) ≡ true → count_older t (with_reserves m ms es) ≡ count_older t es)
+        → (AreOrdered 0 (with_reserves m ms es) → forget.has_place t y (with_reserves m ms es) ≡ true → count_older t
+        (with_reserves m ms es) ≡ count_older t es)
         → count_older t (with_reserves m ms es ++ new) ≡ count_older t es
     at zero e go =
         let same : with_reserves m ms es ++ new ≡ with_reserves m ms es =
@@ -300,7 +290,7 @@ sole_older t y m (a ∷ ms) es h o p = at (reserves_of m a.does.reserves) refl (
         none i q g = omega (arith, q, g)
 
         young : t ≤ a.thread.number → count_older t (es ++ new) ≡ count_older t es
-        young l = let k = counted_append t es new in let z = new_young m a.thread.number t a.does.reserves l in omega (arith, k, z)
+        young l = let k = count_append t es new in let z = new_young m a.thread.number t a.does.reserves l in omega (arith, k, z)
 
         behind : AreOrdered 0 (es ++ new) → forget.has_place t y (es ++ new) ≡ true → count_older t (es ++ new) ≡ count_older t es
         behind o' p' = by (a.thread.number == t) refl

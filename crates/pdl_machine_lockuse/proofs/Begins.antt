@@ -1,13 +1,14 @@
 -- What holds of a thread as its stage begins: its blocks for reading are ready, it holds each location at most once, and a guess has as many arguments as it should. So the statements of its stage are fine.
-use Rattle.std.proofs.Common.{◌≡◌, refl, sym, ap, ap₂, ◌∙◌, subst, ℕ, suc, ◌+◌, ◌≤◌, ◌<◌, inl, inr, Bool, true, false, ◌&&◌, ◌||◌, not, List, [], ◌∷◌, ◌++◌, length, None, ◌==◌, cond, if◌then◌else◌, arith, eq-eqb, slice_index}
+use Rattle.std.proofs.Common.{◌≡◌, refl, sym, ap, ap₂, ◌∙◌, subst, ℕ, ◌+◌, ◌≤◌, ◌<◌, inl, inr, Bool, true, false, ◌&&◌, ◌||◌, not, List, [], ◌∷◌, ◌++◌, length, None, ◌==◌, cond, if◌then◌else◌, arith, eq-eqb, slice_index}
 use Rattle.std.proofs.lemmas.Bool.{false≢true, eqb-true, or_parts, not-true}
-use Rattle.pdl_semantics.specs.Flat.{list_all, Op, Bind, CombRead, DelayedRead, Write, ReserveRead, ReserveWrite, Block, Release, Call, SpecCall, Verify, SpecCheck, SpecBarrier, Stmt, Pipe, Commit, all_hold}
+use Rattle.pdl_semantics.specs.Flat.{list_all, Op, Bind, CombRead, DelayedRead, Write, ReserveRead, ReserveWrite, Block, Release, Call, SpecCall, Verify, SpecCheck, SpecBarrier, AdviceBind, AdviceRead, AdviceWrite, Stmt, Pipe, all_hold}
 use Rattle.pdl_semantics.specs.Stages.{onpath, in_stage, mem_at, reserve_stage, commit_stage, is_release, verify_stage}
 use Rattle.pdl_semantics.specs.Locks.{read_ready, write_ready}
-use Rattle.pdl_semantics.specs.Machine.{State, HeldLocation, Blocked, Reserved, Ask, Deeds, deeds_after, is_held, let_go, held_after, held_before, word_for, with_answers}
+use Rattle.pdl_semantics.specs.Machine.{State, HeldLocation, Blocked, Ask, Kept, Deeds, deeds_after, is_held, let_go, held_after, held_before, with_kept, word_for, with_answers}
 use Rattle.pdl_semantics.specs.Machine
 use Rattle.pdl_semantics.specs.Sound.{stages_before, is_release_at, guess_after, guess_of}
 use Rattle.pdl_semantics.specs.Moves.{block_ready}
+use Rattle.pdl_semantics.specs.Promises.{DifferInAdvice}
 use Rattle.pdl_theory_derived.specs.Derived.{Entry, Work, Around, has_entry, latest, around, port_free}
 use Rattle.pdl_theory_derived.specs.Derived
 use Rattle.pdl_theory_derived.specs.Alone.{answered_op}
@@ -16,20 +17,21 @@ use Rattle.pdl_theory_facts.specs.GuessScans.{Making, Unmade, next_making, makin
 use Rattle.pdl_theory_facts.specs.Facts.{Sound, looked_all}
 use Rattle.pdl_theory_derived.proofs.Writes.{and_left, and_right}
 use Rattle.pdl_theory_derived.proofs.Entries.{entries_of, Open, Full, waiting, known, open_vars, full_vars}
-use Rattle.pdl_theory_derived.proofs.Deeds.{places, places_has, work_of, AllFit, told_step}
+use Rattle.pdl_theory_derived.proofs.Deeds.{places, places_has, AllFit, Loosely, loose_step}
 use Rattle.pdl_theory_turns.proofs.Paths.{Fixed, none_onpath}
 use Rattle.pdl_theory_turns.proofs.Surroundings.{Right, in_stage_all}
 use Rattle.pdl_theory_simulation.proofs.AcceptedFacts.{sound_flows}
 use Rattle.pdl_theory_simulation.proofs.Shapes.{Shape, none_till, held_ops, held_path}
 use Rattle.pdl_theory_simulation.proofs.FlowFacts.{uses_ok}
-use Rattle.pdl_theory_simulation.proofs.Stretches.{Keeps, start_deeds, fixed_here}
+use Rattle.pdl_theory_simulation.proofs.Stretches.{Keeps, start_of, start_deeds, fixed_here}
 use Rattle.pdl_theory_simulation.proofs.Seats.{Live, seat, threads_of, dacts, now_of, befores_are}
-use Rattle.pdl_theory_simulation.proofs.Choices.{Known, keeps_now, fit_all}
+use Rattle.pdl_theory_simulation.proofs.Choices.{Known, keeps_now, fit_all, starts_here}
 use Rattle.pdl_machine_facts.specs.Use.{before_stage, AreFine}
 use Rattle.pdl_machine_facts.proofs.StatementUses.{IsAlong}
 use Rattle.pdl_theory_states.specs.Strict.{Strict}
 use Rattle.pdl_theory_states.proofs.PastStatements.{BlockOk, is_released}
-use Rattle.pdl_theory_states.proofs.UnusedValues.{AllOps, onto, guess_onto}
+use Rattle.pdl_theory_states.proofs.UnusedValues.{AllOps, onto}
+use Rattle.pdl_theory_states.proofs.Points.{guess_onto}
 use Rattle.pdl_theory_states.proofs.Trails.{AllStmts, stmts_ops, ops_stmts}
 use Rattle.pdl_theory_states.proofs.ThreadHistory.{Local, past_of, local_answered, kept_unused}
 use Rattle.pdl_semantics.proofs.Readiness.{read_write}
@@ -177,21 +179,23 @@ once_shape m ph es single s = record {
 
 -- THE GUESS
 
-guess_op : (size : ℕ) (env guess : List ℕ) (g : Making) (op : Op) → passes_on size op ≡ true → (is_guessed g ≡ true → length guess ≡ size)
-    → is_guessed (next_making g (answered_op op)) ≡ true → length (guess_after op env guess) ≡ size
-guess_op size env guess g (SpecCall args) y f i = values_long args env ∙ eqb-true (length args) size y
-guess_op size env guess g (Call args) y f i = absurd (false≢true i)
-guess_op size env guess g (Verify true args) y f i = absurd (false≢true i)
-guess_op size env guess g (Verify false args) y f i = values_long args env ∙ eqb-true (length args) size y
-guess_op size env guess g (DelayedRead x m a) y f i = f i
-guess_op size env guess g _ y f i = f i
+guess_op : (size : ℕ) (advice : List Kept) (env guess : List ℕ) (g : Making) (op : Op) → passes_on size op ≡ true
+    → (is_guessed g ≡ true → length guess ≡ size)
+    → is_guessed (next_making g (answered_op op)) ≡ true → length (guess_after op advice env guess) ≡ size
+guess_op size advice env guess g (SpecCall args) y f i = values_long args (with_kept advice env) ∙ eqb-true (length args) size y
+guess_op size advice env guess g (Call args) y f i = absurd (false≢true i)
+guess_op size advice env guess g (Verify true args) y f i = absurd (false≢true i)
+guess_op size advice env guess g (Verify false args) y f i = values_long args env ∙ eqb-true (length args) size y
+guess_op size advice env guess g (DelayedRead x m a) y f i = f i
+guess_op size advice env guess g _ y f i = f i
 
-guess_all : (size : ℕ) (env guess : List ℕ) (g : Making) (xs : List Stmt) → list_all (λ (x : Stmt). passes_on size x.op) xs ≡ true
-    → (is_guessed g ≡ true → length guess ≡ size) → is_guessed (making_all g (looked_all xs)) ≡ true → length (guess_of xs env guess) ≡ size
-guess_all size env guess g [] y f i = f i
-guess_all size env guess g (x ∷ xs) y f i =
-    guess_all size env (guess_after x.op env guess) (next_making g (answered_op x.op)) xs (and_right (passes_on size x.op) _ y)
-    (guess_op size env guess g x.op (and_left _ _ y) f) i
+guess_all : (size : ℕ) (advice : List Kept) (env guess : List ℕ) (g : Making) (xs : List Stmt)
+    → list_all (λ (x : Stmt). passes_on size x.op) xs ≡ true
+    → (is_guessed g ≡ true → length guess ≡ size) → is_guessed (making_all g (looked_all xs)) ≡ true → length (guess_of xs advice env guess) ≡ size
+guess_all size advice env guess g [] y f i = f i
+guess_all size advice env guess g (x ∷ xs) y f i =
+    guess_all size advice env (guess_after x.op advice env guess) (next_making g (answered_op x.op)) xs (and_right (passes_on size x.op) _ y)
+    (guess_op size advice env guess g x.op (and_left _ _ y) f) i
 
 -- READS OF ONE PATH ARE READS OF THE PIPE
 
@@ -209,6 +213,9 @@ op_same p zs s c (SpecCall args) = refl
 op_same p zs s c (Verify last args) = refl
 op_same p zs s c SpecCheck = refl
 op_same p zs s c SpecBarrier = refl
+op_same p zs s c (AdviceBind x e) = refl
+op_same p zs s c (AdviceRead x m a) = refl
+op_same p zs s c (AdviceWrite m a e) = refl
 
 reads_same : (p : Pipe) (zs : List Stmt) (c : Scan) (xs : List Stmt) → reads_ok (record p { stmts = zs }) c xs ≡ reads_ok p c xs
 reads_same p zs c [] = refl
@@ -217,22 +224,21 @@ reads_same p zs c (x ∷ xs) = ap₂ (λ a b. (no_guards x.guards && a) && b) (o
 -- a stage's statements are carried out as the path at their end tells
 module _ (o : Around) (read : ℕ → ℕ → ℕ) (block : Blocked → Bool) (free : Ask → Bool) where
   -- where the work on fitting statements takes each just where a path does, so do the deeds of these statements
-  pub along_of : (path : List ℕ) (xs : List Stmt) (d : Deeds) (es : List Entry) (cs : List Commit) → places es ≡ d.held → AllFit o read block free xs
-      → Fixed path o xs (work_of o read block free d es cs) → IsAlong path read xs d
-  along_of path [] d es cs h f q = tt
-  along_of path (x ∷ xs) d es cs h f q =
-      let t = told_step o read block free (all_hold x.guards d.env) x.op d es cs h f.0 in
-      let w : Work = cond (all_hold x.guards d.env) (Derived.work_after o x.op (work_of o read block free d es cs)) (work_of o read block free d es cs) in (
-        q.0,
-        along_of path xs
-            (if all_hold x.guards d.env then deeds_after read x.op d else d) w.entries w.commits t.held f.1
-            (subst (λ v. Fixed path o xs v) t.is q.1),
-      )
+  pub along_of : (path : List ℕ) (xs : List Stmt) (d : Deeds) (w : Work) → Loosely o read block free d w → AllFit o read block free xs
+      → Fixed path o xs w → IsAlong path read xs d
+  along_of path [] d w l f q = tt
+  along_of path (x ∷ xs) d w l f q = (
+    ap (λ (v : Work). all_hold x.guards v.env) (sym l.is) ∙ q.0,
+    along_of path xs (if all_hold x.guards d.env then deeds_after read x.op d else d)
+        (if all_hold x.guards w.env then Derived.work_after o x.op w else w)
+        (subst (λ b. Loosely o read block free (if all_hold x.guards d.env then deeds_after read x.op d else d) (cond b (Derived.work_after o x.op w) w))
+        (ap (λ (v : Work). all_hold x.guards v.env) (sym l.is)) (loose_step o read block free (all_hold x.guards d.env) x.op d w f.0 l)) f.1 q.1,
+  )
 
 -- A LIVE THREAD
 
 module _ (p : Pipe) (sound : Sound p) (st : State) (d : Derived.State) (bits : List Bool)
-    (arrays : st.arrays ≡ d.arrays) (older : List Live) (l : Live)
+    (arrays : DifferInAdvice p st.arrays d.arrays) (older : List Live) (l : Live)
     (k : Known p (sound_flows p sound) st d bits arrays older l) where
   abbrev way : List ℕ
   way = path p sound st d bits arrays older l k
@@ -247,16 +253,17 @@ module _ (p : Pipe) (sound : Sound p) (st : State) (d : Derived.State) (bits : L
   keeps = keeps_now p (sound_flows p sound) st d bits arrays l k.seated
 
   abbrev o : Around
-  o = around p d bits (dacts p d bits older) l.thread.stage
+  o = around p d bits (dacts p d bits older) l.thread.stage l.thread.hint
 
   -- the deeds with which its stage begins
   abbrev pub begun : Deeds
-  begun = start_deeds p (sound_flows p sound) l.env (now_of p d bits l) (keeps_now p (sound_flows p sound) st d bits arrays l k.seated)
+  begun = start_deeds p (sound_flows p sound) l.env (now_of p d bits l) (keeps_now p (sound_flows p sound) st d bits arrays l k.seated) l.advice
 
   -- before the statements of its stage the thread in the stated machine has these deeds
   pub begun_is : before_stage p l.thread.stage (with_answers p st bits (seat l)) ≡ begun
   begun_is = λ i. record {
     env = k.values i;
+    advice = l.advice;
     guess = l.thread.guess;
     held = held_before l.thread.stage l.env p.stmts [];
     blocks = [];
@@ -264,6 +271,7 @@ module _ (p : Pipe) (sound : Sound p) (st : State) (d : Derived.State) (bits : L
     writes = [];
     releases = [];
     asks = [];
+    advises = [];
     barrier = false;
     child = None;
     fails = false;
@@ -274,7 +282,7 @@ module _ (p : Pipe) (sound : Sound p) (st : State) (d : Derived.State) (bits : L
   along_here =
       along_of o (word_for st l.number) (λ b. block_ready p st l.number b)
       (λ q. port_free p d bits (dacts p d bits older) q.mem)
-      way (in_stage l.thread.stage p.stmts) begun l.thread.entries [] k.seated.keeps_on.held
+      way (in_stage l.thread.stage p.stmts) begun (start_of (now_of p d bits l)) (starts_here p (sound_flows p sound) st d bits arrays older l k)
       (fit_all p (sound_flows p sound) st d bits arrays older l k)
       (fixed_here p (sound_flows p sound) l.env (now_of p d bits l) keeps o)
 
@@ -344,8 +352,8 @@ module _ (p : Pipe) (sound : Sound p) (st : State) (d : Derived.State) (bits : L
 
     guess_start : is_guessed (making_all Unmade (looked_all done)) ≡ true → length l.thread.guess ≡ length p.start
     guess_start i =
-        ap length (lasting.local.guessed ∙ guess_onto done [] l.env)
-        ∙ guess_all (length p.start) l.env [] Unmade done (all_way (passes_on (length p.start)) l.env l.thread.stage p.stmts careful.args)
+        ap length (lasting.local.guessed ∙ guess_onto l.thread.hint l.advice l.env done [] lasting.guessed)
+        ∙ guess_all (length p.start) l.advice l.env [] Unmade done (all_way (passes_on (length p.start)) l.env l.thread.stage p.stmts careful.args)
         (λ e. absurd (false≢true e)) i
 
     let_begin : Right p l.thread.stage (Let p st l.number) (blocks_of (past_of p l.env l.thread.stage)) (now_of p d bits l).env

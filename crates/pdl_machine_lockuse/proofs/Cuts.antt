@@ -1,5 +1,5 @@
 -- What a squash leaves of the pending writes of a lock: those up to a thread that it leaves, and of a list in the order of its threads a front.
-use Rattle.std.proofs.Common.{◌≡◌, refl, sym, ap, ◌∙◌, ℕ, zero, suc, ◌+◌, ◌≤◌, ◌<◌, Bool, true, false, ◌&&◌, List, [], ◌∷◌, take, drop, Option, Some, None, ◌==◌, cond, if◌then◌else◌, arith, nat_lt, nat_le, leb-true, leb-false, le-ltb, lt-ltb}
+use Rattle.std.proofs.Common.{◌≡◌, refl, sym, ap, ◌∙◌, ℕ, zero, suc, ◌≤◌, ◌<◌, Bool, true, false, ◌&&◌, List, [], ◌∷◌, take, drop, Option, Some, None, ◌==◌, cond, if◌then◌else◌, arith, nat_lt, nat_le, leb-true, leb-false, le-ltb, lt-ltb}
 use Rattle.pdl_semantics.specs.Machine.{Pending, Written}
 use Rattle.pdl_semantics.specs.Moves.{Act}
 use Rattle.pdl_semantics.specs.Cycle.{with_value_of, with_writes_of, with_all_writes, is_kept, entries_left}

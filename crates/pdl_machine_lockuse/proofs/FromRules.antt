@@ -8,7 +8,7 @@ use Rattle.std.specs.Prelude.{nat_eq, bytes_eq}
 use Rattle.pdl_kit.specs.declared.rule.Rule.TheVariants.{W5}
 use Rattle.pdl_semantics.specs.Tree.{Span, Location, R, W, Stmt, Separator, CombRead, Bind, SpecCall, DelayedRead, Write, Reserve, Block, Release, If, Call, Verify, Update, SpecCheck, SpecBarrier, Expr, Variable, Literal, Param, Pipe}
 use Rattle.pdl_semantics.specs.Flat
-use Rattle.pdl_semantics.specs.Flatten.{Var, var_of, mem_of, flat, flat_exprs, start_of, params_of, width_of}
+use Rattle.pdl_semantics.specs.Flatten.{Var, var_of, mem_of, flat, flat_exprs, start_of, params_of, width_of, is_advisory_mem, is_advised}
 use Rattle.pdl_semantics.specs.Stages.{onpath}
 use Rattle.pdl_rules.specs.Places.{on_path, Place, Statement, StartClause, End}
 use Rattle.pdl_rules.specs.Parts.{location_of}
@@ -27,6 +27,7 @@ use Rattle.pdl_source_paths.proofs.PathTests.{few_ok}
 use Rattle.pdl_theory_facts.specs.Facts.{looked_all}
 use Rattle.pdl_theory_turns.proofs.Looks.{path_looked}
 use Rattle.pdl_source_stages.proofs.Sites.{Site, sites_of, front_of, place_of, own, owns, All, stmts_are}
+use Rattle.pdl_source_stages.proofs.SiteFacts.{either_read, either_bind, either_write}
 use Rattle.pdl_source_stages.proofs.SiteStages.{all_map}
 use Rattle.pdl_source_paths.specs.Source.{is_source}
 use Rattle.pdl_source_paths.proofs.Choices.{path_of}
@@ -67,6 +68,9 @@ keeps_looked (Flat.SpecCall args) xs = refl
 keeps_looked (Flat.Verify last args) xs = refl
 keeps_looked Flat.SpecCheck xs = refl
 keeps_looked Flat.SpecBarrier xs = refl
+keeps_looked (Flat.AdviceBind x e) xs = refl
+keeps_looked (Flat.AdviceRead x m a) xs = refl
+keeps_looked (Flat.AdviceWrite m a e) xs = refl
 
 kinds_looked : (xs : List Flat.Stmt) → all_keep_kind (looked_all xs) ≡ all_keep_kind xs
 kinds_looked [] = refl
@@ -108,11 +112,14 @@ module _ (p : Pipe) (at : Location) (vs : List Var) (there : IsNamed p.mems vs a
   one_site before k ws (Reserve sp l W) bs g n r keeps = and_from _ _ (ap not (other before l ws g (n l refl) r keeps.l5)) refl
   one_site before k ws (Reserve sp l R) bs g n r keeps = refl
   one_site before k ws (Separator sp) bs g n r keeps = refl
-  one_site before k ws (CombRead sp x l) bs g n r keeps = refl
-  one_site before k ws (Bind sp x e) bs g n r keeps = refl
+  one_site before k ws (CombRead sp x l) bs g n r keeps = either_read (λ op. none_of (reserves_at m0 a0) (seen_ops k (op ∷ [])) ≡ true)
+      (is_advisory_mem p.mems l.mem.name) _ _ _ refl refl
+  one_site before k ws (Bind sp x e) bs g n r keeps = either_bind (λ op. none_of (reserves_at m0 a0) (seen_ops k (op ∷ [])) ≡ true)
+      (is_advised ws e) _ _ refl refl
   one_site before k ws (SpecCall sp x args) bs g n r keeps = refl
   one_site before k ws (DelayedRead sp x l) bs g n r keeps = refl
-  one_site before k ws (Write sp l e) bs g n r keeps = refl
+  one_site before k ws (Write sp l e) bs g n r keeps = either_write (λ op. none_of (reserves_at m0 a0) (seen_ops k (op ∷ [])) ≡ true)
+      (is_advisory_mem p.mems l.mem.name) _ _ _ refl refl
   one_site before k ws (Block sp l) bs g n r keeps = refl
   one_site before k ws (Release sp l) bs g n r keeps = refl
   one_site before k ws (If sp (Variable x) when otherwise) bs g n r keeps = refl
@@ -158,11 +165,14 @@ sites_kinds p vs us before (t ∷ ts) g each named =
         → all_keep_kind (seen_ops t.walk.stage (ops_of p.mems t.walk.vars s) ++ seen p.mems ts) ≡ true
     here (Block sp at) e rest = and_from _ _ (block sp at e) rest
     here (Separator sp) e rest = rest
-    here (CombRead sp x from) e rest = rest
-    here (Bind sp x v) e rest = rest
+    here (CombRead sp x from) e rest = either_read (λ op. all_keep_kind (seen_ops t.walk.stage (op ∷ []) ++ seen p.mems ts) ≡ true)
+        (is_advisory_mem p.mems from.mem.name) _ _ _ rest rest
+    here (Bind sp x v) e rest = either_bind (λ op. all_keep_kind (seen_ops t.walk.stage (op ∷ []) ++ seen p.mems ts) ≡ true)
+        (is_advised t.walk.vars v) _ _ rest rest
     here (SpecCall sp x args) e rest = rest
     here (DelayedRead sp x from) e rest = rest
-    here (Write sp to v) e rest = rest
+    here (Write sp to v) e rest = either_write (λ op. all_keep_kind (seen_ops t.walk.stage (op ∷ []) ++ seen p.mems ts) ≡ true)
+        (is_advisory_mem p.mems to.mem.name) _ _ _ rest rest
     here (Reserve sp at R) e rest = rest
     here (Reserve sp at W) e rest = rest
     here (Release sp at) e rest = rest
@@ -216,10 +226,16 @@ module _ (p : Pipe) (rules : KeepsRules p) where
   site_passes k gs vs (Verify sp x args) bs h = and_from _ _ (args_right vs args h) refl
   site_passes k gs vs (Update sp x args) bs h = and_from _ _ (args_right vs args h) refl
   site_passes k gs vs (Separator sp) bs h = refl
-  site_passes k gs vs (CombRead sp x l) bs h = refl
-  site_passes k gs vs (Bind sp x e) bs h = refl
+  site_passes k gs vs (CombRead sp x l) bs h =
+      either_read (λ op. Flat.list_all (λ (x : Flat.Stmt). passes_on (length (flat p).start) x.op) (stmts_at k gs (op ∷ [])) ≡ true)
+      (is_advisory_mem p.mems l.mem.name) _ _ _ refl refl
+  site_passes k gs vs (Bind sp x e) bs h =
+      either_bind (λ op. Flat.list_all (λ (x : Flat.Stmt). passes_on (length (flat p).start) x.op) (stmts_at k gs (op ∷ [])) ≡ true)
+      (is_advised vs e) _ _ refl refl
   site_passes k gs vs (DelayedRead sp x l) bs h = refl
-  site_passes k gs vs (Write sp l e) bs h = refl
+  site_passes k gs vs (Write sp l e) bs h =
+      either_write (λ op. Flat.list_all (λ (x : Flat.Stmt). passes_on (length (flat p).start) x.op) (stmts_at k gs (op ∷ [])) ≡ true)
+      (is_advisory_mem p.mems l.mem.name) _ _ _ refl refl
   site_passes k gs vs (Reserve sp l R) bs h = refl
   site_passes k gs vs (Reserve sp l W) bs h = refl
   site_passes k gs vs (Block sp l) bs h = refl

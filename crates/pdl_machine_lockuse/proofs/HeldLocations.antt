@@ -1,13 +1,12 @@
 -- Locations that a thread has blocked for reading, and those that it holds for writing, as its statements go by.
-use Rattle.std.proofs.Common.{◌≡◌, ◌≢◌, refl, sym, ap, ◌∙◌, subst, ℕ, suc, ◌≤◌, Bool, true, false, ◌&&◌, ◌||◌, not, List, [], ◌∷◌, Some, ◌==◌, cond, if◌then◌else◌, arith, slice_index, ◌+◌}
-use Rattle.std.proofs.lemmas.Bool.{false≢true, or_right, eqb-true}
+use Rattle.std.proofs.Common.{◌≡◌, refl, sym, ap, ◌∙◌, subst, ℕ, ◌≤◌, Bool, true, false, ◌&&◌, ◌||◌, not, List, [], ◌∷◌, Some, ◌==◌, cond, arith, slice_index, ◌+◌}
+use Rattle.std.proofs.lemmas.Bool.{or_right, eqb-true}
 use Rattle.pdl_semantics.specs.Flat.{Op, DelayedRead, Write, ReserveWrite, Block, Release, Verify, Pipe, values_of}
 use Rattle.pdl_semantics.specs.Stages.{commit_stage}
 use Rattle.pdl_semantics.specs.Machine.{HeldLocation, Deeds, deeds_after, is_held, let_go, held_after, same_args}
 use Rattle.pdl_theory_derived.specs.Alone.{Location, answered_op}
 use Rattle.pdl_theory_facts.specs.Scans.{Phase, after_write, after_reserve, after_release, may_write, next_phase, Scan, has_location, scan_after, location}
 use Rattle.pdl_machine_lockuse.proofs.Reservations.{one_if, uses, Single, uses_reserve, uses_write, uses_release, single_op}
-use Rattle.pdl_theory_derived.proofs.Writes.{and_left}
 use Rattle.pdl_theory_turns.proofs.Surroundings.{Right}
 use Rattle.pdl_theory_simulation.proofs.FlowFacts.{use_ok}
 use Rattle.pdl_word.proofs.Bools.{or_map}

@@ -1,5 +1,5 @@
 -- The same of each state that a run comes to.
-use Rattle.std.proofs.Common.{refl, ℕ, Bool, List, Some}
+use Rattle.std.proofs.Common.{ℕ, Bool, List}
 use Rattle.pdl_semantics.specs.Flat.{Arrays, Pipe}
 use Rattle.pdl_semantics.specs.Machine.{State}
 use Rattle.pdl_semantics.specs.Moves.{all_acts}
@@ -10,6 +10,7 @@ use Rattle.pdl_machine_facts.specs.Cycle.{IsByStages}
 use Rattle.pdl_machine_facts.specs.Use.{IsInUse}
 use Rattle.pdl_theory_states.specs.Strict.{Strict}
 use Rattle.pdl_theory_states.specs.Use.{AllActs, ShiftsTail, ReleasesWritten}
+use Rattle.pdl_theory_derived.specs.Simulation.{hints_of}
 use Rattle.pdl_theory_states.proofs.ReachedStates.{reached}
 use Rattle.pdl_machine_lockuse.specs.Careful.{Careful}
 use Rattle.pdl_machine_lockuse.specs.Use.{ReleasesOwn, ReleasesOlder, FindsAll, KeepsTail, LeavesTail, Cuts, IsSpared, WritesOnce, IsLet, AwaitsOlder}
@@ -20,7 +21,7 @@ module _ (p : Pipe) (sound : Sound p) (strict : Strict p) (image : Arrays) (befo
   now = state_after p (first p image) before
 
   abbrev twin : Derived.State
-  twin = Derived.state_after p (Derived.first p image) before
+  twin = Derived.state_after p (Derived.first p image (hints_of p (first p image) before)) before
 
   -- the threads use the locks as the rules have it, where the pipe is careful
   pub in_use_here : Careful p → IsInUse p (state_after p (first p image) before) bits

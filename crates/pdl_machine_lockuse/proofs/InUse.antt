@@ -1,10 +1,10 @@
 -- How the threads use the locks in each state that a run comes to, whatever the replies.
-use Rattle.std.proofs.Common.{◌≡◌, refl, sym, ap, ap₂, ◌∙◌, subst, ℕ, zero, suc, ◌+◌, ◌≤◌, ◌<◌, Bool, true, false, ◌&&◌, ◌||◌, not, List, [], ◌∷◌, ◌++◌, length, take, le_refl, Option, Some, None, is_none, ◌==◌, cond, if◌then◌else◌, arith, nat_le, leb-true, leb-false, eq-eqb}
+use Rattle.std.proofs.Common.{◌≡◌, refl, sym, ap, ap₂, ◌∙◌, subst, ℕ, suc, ◌+◌, ◌≤◌, ◌<◌, Bool, true, false, ◌&&◌, ◌||◌, not, List, [], ◌∷◌, ◌++◌, length, take, le_refl, Option, Some, None, is_none, ◌==◌, cond, arith, nat_le, leb-true, leb-false, eq-eqb}
 use Rattle.std.specs.Prelude.{Contains}
-use Rattle.std.proofs.lemmas.Bool.{false≢true, ne_eqb}
+use Rattle.std.proofs.lemmas.Bool.{ne_eqb}
 use Rattle.pdl_semantics.specs.Flat.{Pipe, Plain, Stmt, list_all}
 use Rattle.pdl_semantics.specs.Stages.{list_any, onpath, in_stage, stage_at, goes_to, mem_at, is_release, reserve_stage, commit_stage, verify_stage}
-use Rattle.pdl_semantics.specs.Machine.{State, Thread, Pending, Deeds, reserves_of, lock_of, deeds, held_before, with_answers}
+use Rattle.pdl_semantics.specs.Machine.{State, Thread, Deeds, reserves_of, lock_of, deeds, held_before, with_answers}
 use Rattle.pdl_semantics.specs.Locks.{has_room}
 use Rattle.pdl_semantics.specs.Sound.{stages_from}
 use Rattle.pdl_semantics.specs.Moves.{Act, acts, all_acts, movers, may_move, next_stage, no_failure, blocks_ready, have_room}
@@ -350,12 +350,14 @@ module _ (p : Pipe) (sound : Sound p) (strict : Strict p) (st : State) (d : Deri
 
     -- what a thread that moves reserves has room
     each_room : (these : List Act) → AllActs (HasRoom p st) these
-        → Each (λ (a : Act). 1 ≤ reserves_of m a.does.reserves → has_room (mem_at p m).lock (reserves_of m a.does.reserves) (length (lock_of st m)) ≡ true) (movers these)
+        → Each (λ (a : Act). 1 ≤ reserves_of m a.does.reserves → has_room (mem_at p m).lock (reserves_of m a.does.reserves)
+        (length (lock_of st m)) ≡ true) (movers these)
     each_room [] h = tt
     each_room (a ∷ these) h = at a.moves refl (each_room these h.1)
       where
         at : (b : Bool) → a.moves ≡ b
-            → Each (λ (a : Act). 1 ≤ reserves_of m a.does.reserves → has_room (mem_at p m).lock (reserves_of m a.does.reserves) (length (lock_of st m)) ≡ true) (movers these)
+            → Each (λ (a : Act). 1 ≤ reserves_of m a.does.reserves → has_room (mem_at p m).lock (reserves_of m a.does.reserves)
+            (length (lock_of st m)) ≡ true) (movers these)
             → Each (λ (a : Act). 1 ≤ reserves_of m a.does.reserves → has_room (mem_at p m).lock (reserves_of m a.does.reserves) (length (lock_of st m)) ≡ true)
             (cond b (a ∷ movers these) (movers these))
         at true e g = ((λ some. room_together p st m a.does.reserves a.does.reserves (h.0 e) some), g)

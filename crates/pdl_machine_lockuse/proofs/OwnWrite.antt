@@ -2,10 +2,11 @@
 use Rattle.std.proofs.Common.{◌≡◌, refl, sym, ap, ap₂, ◌∙◌, subst, ℕ, suc, ◌+◌, ◌≤◌, ◌<◌, Bool, true, false, ◌&&◌, ◌||◌, not, List, [], ◌∷◌, ◌++◌, length, length-append, Option, Some, None, is_none, ◌==◌, cond, if◌then◌else◌, arith, eq-eqb, slice_index, append_assoc, append-nil, nat_le}
 use Rattle.std.specs.Prelude.{⊤}
 use Rattle.std.proofs.lemmas.Bool.{false≢true, leb-true, eqb-true}
-use Rattle.pdl_semantics.specs.Flat.{Pipe, Op, Write, ReserveWrite, Release, Verify, Stmt, Commit, of_mem, list_all, all_hold, value_of, values_of}
+use Rattle.pdl_semantics.specs.Flat.{Pipe, Op, Write, ReserveWrite, Release, Verify, Stmt, list_all, all_hold, value_of, values_of}
 use Rattle.pdl_semantics.specs.Stages.{list_any, onpath, in_stage, goes_to, stage_at, commit_stage}
-use Rattle.pdl_semantics.specs.Machine.{State, Pending, Blocked, Written, Ask, Deeds, deeds_after, deeds_after_all, reserves_of, is_held, held_before, same_args, word_for}
+use Rattle.pdl_semantics.specs.Machine.{State, Pending, Blocked, Written, Ask, Deeds, deeds_after, deeds_after_all, reserves_of, held_before, same_args, word_for}
 use Rattle.pdl_semantics.specs.Moves.{block_ready, next_stage}
+use Rattle.pdl_semantics.specs.Promises.{DifferInAdvice}
 use Rattle.pdl_semantics.specs.Cycle.{new_entries, with_value_of, with_writes_of, releases_of, is_stage}
 use Rattle.pdl_semantics.proofs.Facts.{put_all_length}
 use Rattle.pdl_theory_derived.specs.Alone.{is_nil, is_among, is_oldest, drop_var, but_last}
@@ -13,20 +14,21 @@ use Rattle.pdl_theory_derived.specs.Derived
 use Rattle.pdl_theory_derived.specs.Derived.{Entry, Work, Around, around, port_free}
 use Rattle.pdl_theory_facts.specs.Scans.{Phase, Fresh, after_write, after_reserve, after_release, may_write, is_new, next_phase, phase_all, write_reserves}
 use Rattle.pdl_theory_facts.specs.Facts.{Sound}
-use Rattle.pdl_theory_facts.proofs.Apart.{total, oldest_length}
+use Rattle.pdl_theory_facts.proofs.Apart.{total, oldest_length, oldest_among}
 use Rattle.pdl_theory_derived.proofs.Writes.{and_left, and_right}
 use Rattle.pdl_theory_derived.proofs.Entries.{entries_of, entry, Open, Full, waiting, known, open_vars, full_vars}
-use Rattle.pdl_theory_derived.proofs.Deeds.{places, places_has, work_of, AllFit, told_step}
+use Rattle.pdl_theory_derived.proofs.Deeds.{AllFit, Loosely, loose_step}
 use Rattle.pdl_theory_derived.proofs.Lists.{own, pend}
-use Rattle.pdl_theory_turns.proofs.Steps.{AreGiven, AllUsed, is_used, Here, step_write, step_reserve, step_release, new_more, pend_append}
+use Rattle.pdl_theory_turns.proofs.Steps.{AreGiven, AllUsed, is_used, Here, new_more, pend_append}
 use Rattle.pdl_theory_turns.proofs.OwnEntries.{pend_own}
 use Rattle.pdl_theory_turns.proofs.Surroundings.{AllIn, in_stage_all}
 use Rattle.pdl_theory_simulation.proofs.FlowFacts.{use_ok, uses_ok}
 use Rattle.pdl_theory_simulation.proofs.AcceptedFacts.{sound_flows}
 use Rattle.pdl_theory_simulation.proofs.Shapes.{Shape, shape_start}
-use Rattle.pdl_theory_simulation.proofs.Stretches.{Keeps, keeps_next}
+use Rattle.pdl_theory_simulation.proofs.Stretches.{Keeps, start_of, keeps_next}
+use Rattle.pdl_theory_simulation.proofs.StretchSteps.{step_if}
 use Rattle.pdl_theory_simulation.proofs.Seats.{Live, dacts, now_of, work_of_live, deeds_of}
-use Rattle.pdl_theory_simulation.proofs.Choices.{Known, keeps_now, fit_all, told_here}
+use Rattle.pdl_theory_simulation.proofs.Choices.{Known, keeps_now, fit_all, starts_here, like_here}
 use Rattle.pdl_lockapi.specs.Forget.{has_place, place_of, IsOnce}
 use Rattle.pdl_machine_facts.specs.Use.{in_time, is_early}
 use Rattle.pdl_machine_facts.proofs.StatementUses.{IsAlong, writes_to}
@@ -201,15 +203,6 @@ pend_length m n (o ∷ os) =
     one : length (pend m n (waiting m os)) ≡ length (open_vars os) → length (pend m n (waiting m os)) + 1 ≡ suc (length (open_vars os))
     one h = omega (arith, h)
 
-oldest_among : (a : ℕ) (xs : List ℕ) → is_oldest a xs ≡ true → is_among a xs ≡ true
-oldest_among a [] h = absurd (cc h)
-oldest_among a (x ∷ []) h = ap (λ b. b || false) h
-oldest_among a (x ∷ y ∷ ys) h = at (x == a) h (oldest_among a (y ∷ ys))
-  where
-    at : (b : Bool) → (not b && is_oldest a (y ∷ ys)) ≡ true → (is_oldest a (y ∷ ys) ≡ true → is_among a (y ∷ ys) ≡ true) → (b || is_among a (y ∷ ys)) ≡ true
-    at true k f = refl
-    at false k f = f k
-
 unused_place : (ph : Phase) (n a : ℕ) (es : List Pending) → is_used ph a ≡ false → AllUsed ph es → has_place n a es ≡ false
 unused_place ph n a [] h u = refl
 unused_place ph n a (e ∷ es) h u = at ((e.thread == n) && (e.var == a)) refl (unused_place ph n a es h u.1)
@@ -267,26 +260,8 @@ pub record Used (m n : ℕ) (start : List Pending) (d : Deeds) (ph : Phase) : Ty
   pub short : releases_of m d.releases ≤ length ph.gone
 
 module _ (o : Around) (read : ℕ → ℕ → ℕ) (block : Blocked → Bool) (free : Ask → Bool) (m n : ℕ) (start : List Pending) (before : ℕ) where
-  abbrev W : Deeds → List Entry → List Commit → Work
-  W d es cs = work_of o read block free d es cs
-
   abbrev At : Phase → Deeds → Work → Type 0
   At ph d w = Here o read block free m n start ph d w
-
-  step_op : (op : Op) (ph : Phase) (d : Deeds) (es : List Entry) (cs : List Commit) → places es ≡ d.held → use_ok m ph op ≡ true → At ph d (W d es cs)
-      → At (next_phase m ph op) (deeds_after read op d) (Derived.work_after o op (W d es cs))
-  step_op (Write j a e) ph d es cs h k g = step_write m n j a (value_of e d.env) ph es (of_mem m cs) _ d.writes _ (j == m) refl k g
-  step_op (ReserveWrite j a) ph d es cs h k g = step_reserve m n j a (slice_index d.env a) ph es (of_mem m cs) start d.reserves d.writes _ (j == m) refl k g
-  step_op (Release j a) ph d es cs h k g =
-      step_release m n j a ph es cs _ d.writes d.releases (is_held d.held j a) (ap (λ l. is_held l j a) (sym h) ∙ places_has es j a) (j == m) refl k g
-  step_op (Verify last args) ph d es cs h k g = at (same_args (values_of args d.env) d.guess)
-    where
-      at : (b : Bool)
-          → At ph (cond b d (record d { child = Some (values_of args d.env); guess = (values_of args d.env); fails = true }))
-          (cond b (W d es cs) (record (W d es cs) { child = Some (values_of args d.env); guess = (values_of args d.env); fails = true }))
-      at true = g
-      at false = g
-  step_op _ ph d es cs h k g = g
 
   -- a thread's pending writes of m, those of this stage's reservations included
   abbrev all : Deeds → List Pending
@@ -303,9 +278,9 @@ module _ (o : Around) (read : ℕ → ℕ → ℕ) (block : Blocked → Bool) (f
   puts_length ws es = put_all_length m n ws es
 
   -- the location that is written has the first pending write without value
-  next_place : (a : ℕ) (ph : Phase) (d : Deeds) (es : List Entry) (cs : List Commit) → may_write ph a ≡ true → At ph d (W d es cs) → Wrote ph d
+  next_place : (a : ℕ) (ph : Phase) (d : Deeds) (v : Work) → may_write ph a ≡ true → At ph d v → Wrote ph d
       → (is_open n a (all d) ≡ true) × (has_place n a (all d) ≡ true) × (place_of n a (all d) ≡ before + written_in m d.writes)
-  next_place a ph d es cs h g w = (
+  next_place a ph d v h g w = (
     opens_back m n a n d.writes (all d)
         (ap (is_open n a) two ∙ any_append _ (g.out ++ g.rest) (pend m n (waiting m g.opens)) first.0),
     sym (puts_place m n a n d.writes (all d)).0 ∙ ap (has_place n a) two ∙ behind.0 ∙ first.1,
@@ -338,10 +313,10 @@ module _ (o : Around) (read : ℕ → ℕ → ℕ) (block : Blocked → Bool) (f
           sums : (i j u b l : ℕ) → j ≡ 0 → u + b ≡ l → l ≡ i + u → i + j ≡ b
           sums i j u b l e f k = omega (arith, e, f, k)
 
-  write_next : (j a v : ℕ) (ph : Phase) (d : Deeds) (es : List Entry) (cs : List Commit) → (b : Bool) → (j == m) ≡ b → (not b || may_write ph a) ≡ true
-      → At ph d (W d es cs) → Wrote ph d
+  write_next : (j a v : ℕ) (ph : Phase) (d : Deeds) (q : Work) → (b : Bool) → (j == m) ≡ b → (not b || may_write ph a) ≡ true
+      → At ph d q → Wrote ph d
       → Wrote (cond b (after_write ph a) ph) (record d { writes = d.writes ++ record { mem = j; var = a; value = v } ∷ [] })
-  write_next j a v ph d es cs true e k g w = record {
+  write_next j a v ph d q true e k g w = record {
     single = λ x. subst (λ i. i ≤ 1) (sym (uses_write ph a x k)) (w.single x);
     named = λ y. subst (λ i. names n y (all d) ≤ i) (sym (uses_write ph a y k)) (w.named y);
     made =
@@ -350,12 +325,12 @@ module _ (o : Around) (read : ℕ → ℕ → ℕ) (block : Blocked → Bool) (f
         (length (all d)) (oldest_length a ph.unwritten k)
         (written_more m d.writes (record { mem = j; var = a; value = v }) ∙ ap (λ c. written_in m d.writes + one_if c) e)
         w.made;
-    turns = turn_more m n (all d) before d.writes (record { mem = j; var = a; value = v }) w.turns (λ i. next_place a ph d es cs k g w);
+    turns = turn_more m n (all d) before d.writes (record { mem = j; var = a; value = v }) w.turns (λ i. next_place a ph d q k g w);
   }
     where
       one : (i u f t l : ℕ) → i + 1 ≡ u → t ≡ f + 1 → u + (before + f) ≡ l → i + (before + t) ≡ l
       one i u f t l q r s = omega (arith, q, r, s)
-  write_next j a v ph d es cs false e k g w = record {
+  write_next j a v ph d q false e k g w = record {
     single = w.single;
     named = w.named;
     made =
@@ -432,11 +407,11 @@ module _ (o : Around) (read : ℕ → ℕ → ℕ) (block : Blocked → Bool) (f
           still : (t i j s : ℕ) → t ≡ i + j → j ≡ 0 → s ≡ i → s ≡ t
           still t i j s e f h = omega (arith, e, f, h)
 
-  wrote_next : (op : Op) (ph : Phase) (d : Deeds) (es : List Entry) (cs : List Commit) → use_ok m ph op ≡ true → At ph d (W d es cs) → Wrote ph d
+  wrote_next : (op : Op) (ph : Phase) (d : Deeds) (v : Work) → use_ok m ph op ≡ true → At ph d v → Wrote ph d
       → Wrote (next_phase m ph op) (deeds_after read op d)
-  wrote_next (Write j a e) ph d es cs k g w = write_next j a (value_of e d.env) ph d es cs (j == m) refl k g w
-  wrote_next (ReserveWrite j a) ph d es cs k g w = reserve_next j a ph d (j == m) refl k w
-  wrote_next (Release j a) ph d es cs k g w = at (j == m)
+  wrote_next (Write j a e) ph d v k g w = write_next j a (value_of e d.env) ph d v (j == m) refl k g w
+  wrote_next (ReserveWrite j a) ph d v k g w = reserve_next j a ph d (j == m) refl k w
+  wrote_next (Release j a) ph d v k g w = at (j == m)
     where
       opens : (b : Bool)
           → (if b then record { unwritten = ph.unwritten; full = drop_var a ph.full; gone = a ∷ ph.gone } else ph).unwritten ≡ ph.unwritten
@@ -451,12 +426,12 @@ module _ (o : Around) (read : ℕ → ℕ → ℕ) (block : Blocked → Bool) (f
         turns = w.turns;
       }
       at false = record { single = w.single; named = w.named; made = w.made; turns = w.turns }
-  wrote_next (Verify last args) ph d es cs k g w = at (same_args (values_of args d.env) d.guess)
+  wrote_next (Verify last args) ph d v k g w = at (same_args (values_of args d.env) d.guess)
     where
       at : (b : Bool) → Wrote ph (cond b d (record d { child = Some (values_of args d.env); guess = (values_of args d.env); fails = true }))
       at true = w
       at false = record { single = w.single; named = w.named; made = w.made; turns = w.turns }
-  wrote_next _ ph d es cs k g w = record { single = w.single; named = w.named; made = w.made; turns = w.turns }
+  wrote_next _ ph d v k g w = record { single = w.single; named = w.named; made = w.made; turns = w.turns }
 
   -- at the end
   in_end : (ph : Phase) (d : Deeds) (w : Work) → At ph d w → Wrote ph d → Used m n start d ph
@@ -479,33 +454,30 @@ module _ (o : Around) (read : ℕ → ℕ → ℕ) (block : Blocked → Bool) (f
       gone (x ∷ xs) f e = refl
 
   -- statements that write and release a memory in order on a path use it as they should, up to the phase after all of them
-  pub used_all : (path : List ℕ) (xs : List Stmt) (ph : Phase) (d : Deeds) (es : List Entry) (cs : List Commit)
-      → places es ≡ d.held → AllFit o read block free xs → IsAlong path read xs d
-      → uses_ok m ph (onpath path xs) ≡ true → At ph d (W d es cs) → Wrote ph d
+  pub used_all : (path : List ℕ) (xs : List Stmt) (ph : Phase) (d : Deeds) (v : Work)
+      → Loosely o read block free d v → AllFit o read block free xs → IsAlong path read xs d
+      → uses_ok m ph (onpath path xs) ≡ true → At ph d v → Wrote ph d
       → Used m n start (deeds_after_all read xs d) (phase_all m ph (onpath path xs))
-  used_all path [] ph d es cs h i f k g w = in_end ph d (W d es cs) g w
-  used_all path (x ∷ xs) ph d es cs h i f k g w =
-      at (all_hold x.guards d.env) (all_hold x.guards path) f.0 f.1 k (λ ph d es cs h f k g w. used_all path xs ph d es cs h i.1 f k g w)
+  used_all path [] ph d v l i f k g w = in_end ph d v g w
+  used_all path (x ∷ xs) ph d v l i f k g w =
+      at (all_hold x.guards d.env) (all_hold x.guards path) f.0 f.1 k (λ ph d v l f k g w. used_all path xs ph d v l i.1 f k g w)
     where
       at : (b c : Bool) → b ≡ c → IsAlong path read xs (cond b (deeds_after read x.op d) d)
           → uses_ok m ph (cond c (record x { guards = [] } ∷ onpath path xs) (onpath path xs)) ≡ true
           →
-          ((ph : Phase) (d : Deeds) (es : List Entry) (cs : List Commit) → places es ≡ d.held → IsAlong path read xs d
-          → uses_ok m ph (onpath path xs) ≡ true → At ph d (W d es cs) → Wrote ph d
+          ((ph : Phase) (d : Deeds) (v : Work) → Loosely o read block free d v → IsAlong path read xs d
+          → uses_ok m ph (onpath path xs) ≡ true → At ph d v → Wrote ph d
           → Used m n start (deeds_after_all read xs d) (phase_all m ph (onpath path xs)))
           → Used m n start (deeds_after_all read xs (cond b (deeds_after read x.op d) d))
           (phase_all m ph (cond c (record x { guards = [] } ∷ onpath path xs) (onpath path xs)))
       at true false e f k go = absurd (cc e)
       at false true e f k go = absurd (cc e)
-      at false false e f k go = go ph d es cs h f k g w
+      at false false e f k go = go ph d v l f k g w
       at true true e f k go =
-          let t = told_step o read block free true x.op d es cs h i.0 in
           let ok : use_ok m ph x.op ≡ true = and_left (use_ok m ph x.op) (uses_ok m (next_phase m ph x.op) (onpath path xs)) k in
-          let w' : Work = Derived.work_after o x.op (W d es cs) in
-          let g' : At (next_phase m ph x.op) (deeds_after read x.op d) (W (deeds_after read x.op d) w'.entries w'.commits) =
-          subst (λ v. At (next_phase m ph x.op) (deeds_after read x.op d) v) t.is (step_op x.op ph d es cs h ok g) in
-          go (next_phase m ph x.op) (deeds_after read x.op d) w'.entries w'.commits t.held f
-          (and_right (use_ok m ph x.op) (uses_ok m (next_phase m ph x.op) (onpath path xs)) k) g' (wrote_next x.op ph d es cs ok g w)
+          go (next_phase m ph x.op) (deeds_after read x.op d) (Derived.work_after o x.op v) (loose_step o read block free true x.op d v i.0 l) f
+          (and_right (use_ok m ph x.op) (uses_ok m (next_phase m ph x.op) (onpath path xs)) k)
+          (step_if o read block free m n start true x.op ph d v l (λ _. ok) g) (wrote_next x.op ph d v ok g w)
 
 -- WRITES IN TIME
 
@@ -557,7 +529,7 @@ module _ (p : Pipe) (k : ℕ) (read : ℕ → ℕ → ℕ) (path : List ℕ) whe
 -- A LIVE THREAD
 
 module _ (p : Pipe) (sound : Sound p) (st : State) (d : Derived.State) (bits : List Bool)
-    (arrays : st.arrays ≡ d.arrays) (older : List Live) (l : Live)
+    (arrays : DifferInAdvice p st.arrays d.arrays) (older : List Live) (l : Live)
     (k : Known p (sound_flows p sound) st d bits arrays older l) where
   abbrev way : List ℕ
   way = path p sound st d bits arrays older l k
@@ -572,7 +544,7 @@ module _ (p : Pipe) (sound : Sound p) (st : State) (d : Derived.State) (bits : L
   keeps = keeps_now p (sound_flows p sound) st d bits arrays l k.seated
 
   abbrev o : Around
-  o = around p d bits (dacts p d bits older) l.thread.stage
+  o = around p d bits (dacts p d bits older) l.thread.stage l.thread.hint
 
   did_is : deeds_of p st bits l ≡ deeds_after_all (word_for st l.number) (in_stage l.thread.stage p.stmts) (begun p sound st d bits arrays older l k)
   did_is = ap (deeds_after_all (word_for st l.number) (in_stage l.thread.stage p.stmts)) (begun_is p sound st d bits arrays older l k)
@@ -588,8 +560,9 @@ module _ (p : Pipe) (sound : Sound p) (st : State) (d : Derived.State) (bits : L
       (used_all o (word_for st l.number) (λ b. block_ready p st l.number b)
       (λ q. port_free p d bits (dacts p d bits older) q.mem) m l.number (pend m l.number l.thread.entries) (length (phase_all m Fresh done).full)
       way (in_stage l.thread.stage p.stmts) (phase_all m Fresh done)
-      (begun p sound st d bits arrays older l k) l.thread.entries []
-      k.seated.keeps_on.held (fit_all p (sound_flows p sound) st d bits arrays older l k) (along_here p sound st d bits arrays older l k)
+      (begun p sound st d bits arrays older l k) (start_of (now_of p d bits l))
+      (starts_here p (sound_flows p sound) st d bits arrays older l k) (fit_all p (sound_flows p sound) st d bits arrays older l k)
+      (along_here p sound st d bits arrays older l k)
       (mine_uses p sound st d bits arrays older l k m)
       (shape_start m l.number (phase_all m Fresh done) l.thread.entries (k.seated.keeps_on.shape m))
       (record {
@@ -719,7 +692,7 @@ module _ (p : Pipe) (sound : Sound p) (st : State) (d : Derived.State) (bits : L
       (ap (λ (env : List ℕ). is_stage q (goes_to (stage_at p l.thread.stage).next env)) env_is ∙ e)
     where
       env_is : (work_of_live p d bits older l).env ≡ (deeds_of p st bits l).env
-      env_is = ap (λ (w : Work). w.env) (told_here p (sound_flows p sound) st d bits arrays older l k).is
+      env_is = ap (λ (w : Work). w.env) (like_here p (sound_flows p sound) st d bits arrays older l k).is
 
       at : (r : Option ℕ) → goes_to (stage_at p l.thread.stage).next (work_of_live p d bits older l).env ≡ r → is_stage q r ≡ true
           → (deeds_of p st bits l).held ≡ held_before q (deeds_of p st bits l).env p.stmts []
@@ -729,5 +702,5 @@ module _ (p : Pipe) (sound : Sound p) (st : State) (d : Derived.State) (bits : L
           keeps_next p (sound_flows p sound) l.env (now_of p d bits l) keeps o (word_for st l.number)
           (λ b. block_ready p st l.number b)
           (λ q. port_free p d bits (dacts p d bits older) q.mem) (fit_all p (sound_flows p sound) st d bits arrays older l k) r f in
-          sym (told_here p (sound_flows p sound) st d bits arrays older l k).held ∙ next.held
+          sym (like_here p (sound_flows p sound) st d bits arrays older l k).held ∙ next.held
           ∙ ap₂ (λ s env. held_before s env p.stmts []) (eqb-true r q g) env_is

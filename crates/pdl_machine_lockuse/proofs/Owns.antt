@@ -1,9 +1,9 @@
 -- What is released are the releasing thread's own writes, and they have their values; who writes has pending writes.
-use Rattle.std.proofs.Common.{◌≡◌, ◌≢◌, refl, sym, ap, ap₂, ◌∙◌, subst, ℕ, zero, suc, ◌+◌, ◌≤◌, ◌<◌, Bool, true, false, ◌&&◌, ◌||◌, List, [], ◌∷◌, ◌++◌, length, take, Some, is_none, ◌==◌, cond, if◌then◌else◌, arith, eq-eqb, append-nil, append_assoc, slice_index_or}
+use Rattle.std.proofs.Common.{◌≡◌, ◌≢◌, refl, sym, ap, ap₂, ◌∙◌, subst, ℕ, zero, suc, ◌+◌, ◌≤◌, ◌<◌, Bool, true, false, ◌&&◌, ◌||◌, List, [], ◌∷◌, ◌++◌, length, take, is_none, ◌==◌, cond, if◌then◌else◌, arith, eq-eqb, append-nil, slice_index_or}
 use Rattle.std.specs.Prelude.{Contains}
 use Rattle.std.proofs.lemmas.Bool.{false≢true, ne_eqb}
 use Rattle.pdl_semantics.specs.Flat.{Pipe}
-use Rattle.pdl_semantics.specs.Stages.{list_any, commit_stage}
+use Rattle.pdl_semantics.specs.Stages.{commit_stage}
 use Rattle.pdl_semantics.specs.Machine.{State, Pending, Written}
 use Rattle.pdl_semantics.specs.Moves.{Act, movers}
 use Rattle.pdl_semantics.specs.Cycle.{with_reserves, new_entries, releases_of, all_releases}
@@ -11,22 +11,22 @@ use Rattle.pdl_semantics.specs.Sound.{entries_by}
 use Rattle.pdl_theory_derived.specs.Derived
 use Rattle.pdl_theory_facts.specs.Facts.{Sound}
 use Rattle.pdl_theory_simulation.proofs.AcceptedFacts.{sound_flows}
-use Rattle.pdl_theory_simulation.proofs.Seats.{Live, each_map, Falls, Ordered, pends, lact, lacts, did, deeds_of}
+use Rattle.pdl_theory_simulation.proofs.Seats.{Live, each_map, Falls, Ordered, lact, lacts, did, deeds_of}
 use Rattle.pdl_theory_simulation.proofs.ThreadFacts.{pairs, EachPair, pair_map, pair_both, pairs_each}
 use Rattle.pdl_theory_simulation.proofs.Choices.{AllKnown}
-use Rattle.pdl_theory_simulation.proofs.LockLists.{part, two, release_here, three_is, gone}
+use Rattle.pdl_theory_simulation.proofs.LockLists.{part, two, release_here, gone}
 use Rattle.pdl_theory_derived.proofs.Lists.{pend}
 use Rattle.pdl_lockapi.specs.Forget.{has_place}
 use Rattle.pdl_theory_simulation.proofs.Stretches.{left_trunk}
 use Rattle.pdl_machine_facts.proofs.StatementUses.{writes_to}
 use Rattle.pdl_semantics.specs.PendingLists.{AreWritten}
+use Rattle.pdl_semantics.specs.Promises.{DifferInAdvice}
 use Rattle.pdl_theory_states.proofs.PendingLists.{AllOf, of_new}
 use Rattle.pdl_theory_states.proofs.OwnEntries.{by_append}
 use Rattle.pdl_machine_lockuse.specs.Use.{AreOwn, is_open, AreInTurn}
 use Rattle.pdl_machine_lockuse.proofs.Reservations.{one_if}
-use Rattle.pdl_machine_lockuse.proofs.OwnWrite.{Used, used_here, InTurn, names}
+use Rattle.pdl_machine_lockuse.proofs.OwnWrite.{used_here, InTurn, names}
 use Rattle.pdl_theory_simulation.proofs.Seats.{falls_each}
-use Rattle.pdl_word.specs.Each.{Each}
 
 -- a memory is written to where one of the writes is to it
 pub contains_write : (m : ℕ) (ws : List Written) (w : Written) → w.mem ≡ m → Contains ws w → writes_to m ws ≡ true
@@ -165,7 +165,7 @@ open_place n y (e ∷ es) h = at ((e.thread == n) && (e.var == y)) h (open_place
     at true i f = refl
     at false i f = f i
 
-module _ (p : Pipe) (sound : Sound p) (st : State) (d : Derived.State) (bits : List Bool) (arrays : st.arrays ≡ d.arrays) (m : ℕ) where
+module _ (p : Pipe) (sound : Sound p) (st : State) (d : Derived.State) (bits : List Bool) (arrays : DifferInAdvice p st.arrays d.arrays) (m : ℕ) where
   abbrev takes : Live → ℕ
   takes l = releases_of m (deeds_of p st bits l).releases
 

@@ -5,6 +5,7 @@ use Rattle.pdl_semantics.specs.Flat.{Pipe, Op, CombRead, DelayedRead, Write, Blo
 use Rattle.pdl_semantics.specs.Stages.{list_any, onpath, in_stage, mem_at, is_release, commit_stage, verify_stage}
 use Rattle.pdl_semantics.specs.Machine.{State}
 use Rattle.pdl_semantics.specs.Sound.{stages_before, stages_from, is_release_at}
+use Rattle.pdl_semantics.specs.Promises.{DifferInAdvice}
 use Rattle.pdl_theory_derived.specs.Derived
 use Rattle.pdl_theory_derived.specs.Derived.{Around, around}
 use Rattle.pdl_theory_derived.specs.Alone.{but_last, is_nil, answered_op}
@@ -139,7 +140,7 @@ module _ (p q : Pipe) (same : (m : ℕ) → commit_stage q m ≡ commit_stage p 
 -- A THREAD IN ITS STAGE
 
 module _ (p : Pipe) (sound : Sound p) (st : State) (d : Derived.State) (bits : List Bool)
-    (arrays : st.arrays ≡ d.arrays) (older : List Live) (l : Live)
+    (arrays : DifferInAdvice p st.arrays d.arrays) (older : List Live) (l : Live)
     (k : Known p (sound_flows p sound) st d bits arrays older l) where
   -- the path that the thread takes, by the values with which its stage ends
   abbrev pub path : List ℕ
@@ -164,7 +165,7 @@ module _ (p : Pipe) (sound : Sound p) (st : State) (d : Derived.State) (bits : L
   keeps = keeps_now p (sound_flows p sound) st d bits arrays l k.seated
 
   abbrev o : Around
-  o = around p d bits (dacts p d bits older) l.thread.stage
+  o = around p d bits (dacts p d bits older) l.thread.stage l.thread.hint
 
   -- before its next stage it has done what it did before its stage, and then the statements of this
   pub way_is : on_way p path (next_of p l.thread.stage path) ≡ passed ++ mine

@@ -1,5 +1,5 @@
 -- A thread that releases a write before V has passed a barrier, so that all older ones stand after V.
-use Rattle.std.proofs.Common.{◌≡◌, refl, sym, ap, ◌∙◌, subst, ℕ, ◌<◌, Bool, true, false, ◌&&◌, ◌||◌, not, List, [], ◌∷◌, ◌++◌, Option, Some, None, ◌==◌, nat_lt, nat_le, cond, arith, le_refl, ltb-true, leb-true, lt-ltb, ◌≢◌}
+use Rattle.std.proofs.Common.{◌≡◌, refl, sym, ap, ◌∙◌, subst, ℕ, ◌<◌, Bool, true, false, ◌&&◌, ◌||◌, not, List, [], ◌∷◌, ◌++◌, Some, nat_lt, nat_le, cond, arith, le_refl, ltb-true, leb-true, lt-ltb, ◌≢◌}
 use Rattle.std.proofs.lemmas.Bool.{false≢true}
 use Rattle.pdl_semantics.specs.Flat.{list_all, Pipe, Branch, Op, Block, SpecBarrier, Stmt, all_hold}
 use Rattle.pdl_semantics.specs.Stages.{list_any, onpath, in_stage, stage_at, verify_stage}
@@ -31,6 +31,7 @@ use Rattle.pdl_machine_lockuse.proofs.Paths.{path, mine, passed, way_is}
 use Rattle.pdl_machine_lockuse.proofs.OwnWrite.{used_here}
 use Rattle.pdl_theory_turns.proofs.TurnPath.{phase_append}
 use Rattle.pdl_semantics.specs.Sound.{stages_from}
+use Rattle.pdl_semantics.specs.Promises.{DifferInAdvice}
 use Rattle.pdl_word.specs.Each.{Each}
 
 -- barriers stand in the trunk alone
@@ -70,7 +71,7 @@ any_append (x ∷ xs) ys h k = at (Sound.is_barrier x.op) h (λ i. any_append xs
     at false e f = f e
 
 module _ (p : Pipe) (sound : Sound p) (st : State) (d : Derived.State) (bits : List Bool)
-    (arrays : st.arrays ≡ d.arrays) (older : List Live) (l : Live)
+    (arrays : DifferInAdvice p st.arrays d.arrays) (older : List Live) (l : Live)
     (k : Known p (sound_flows p sound) st d bits arrays older l) where
   abbrev route : List ℕ
   route = path p sound st d bits arrays older l k
@@ -120,7 +121,7 @@ module _ (p : Pipe) (sound : Sound p) (st : State) (d : Derived.State) (bits : L
   barrier_here v e behind ready b = at (stage_at p l.thread.stage).branches refl
     where
       o : Around
-      o = around p d bits (dacts p d bits older) l.thread.stage
+      o = around p d bits (dacts p d bits older) l.thread.stage l.thread.hint
 
       clear : Derived.barrier_clear (Some v) l.thread.stage (threads_of older) ≡ true
       clear =

@@ -4,7 +4,7 @@ use Rattle.std.proofs.lemmas.Bool.{false≢true, leb-true, ltb-true, eqb-true}
 use Rattle.pdl_semantics.specs.Flat.{list_all, Op, Bind, CombRead, DelayedRead, ReserveWrite, Block, Release, Call, SpecCall, Verify, Stmt, Expr, Pipe, all_hold, value_of, values_of}
 use Rattle.pdl_semantics.specs.Stages.{onpath, mem_at, reserve_stage, commit_stage}
 use Rattle.pdl_semantics.specs.Locks.{read_ready, write_ready}
-use Rattle.pdl_semantics.specs.Machine.{State, Blocked, Deeds, deeds_after, is_held, older_write, word_for, same_args}
+use Rattle.pdl_semantics.specs.Machine.{State, Blocked, Deeds, all_values, deeds_after, is_held, older_write, word_for, same_args}
 use Rattle.pdl_semantics.specs.Moves.{block_ready, blocks_ready, have_room}
 use Rattle.pdl_semantics.proofs.Readiness.{plain_ready}
 use Rattle.pdl_theory_derived.specs.Alone.{answered_op}
@@ -100,7 +100,7 @@ module _ (p : Pipe) (st : State) (n : ℕ) where
   guess_next : (size : ℕ) (g : Making) (op : Op) (d : Deeds) → passes_on size op ≡ true → (is_guessed g ≡ true → length d.guess ≡ size)
       → is_guessed (next_making g (answered_op op)) ≡ true → length (deeds_after (word_for st n) op d).guess ≡ size
   guess_next size g (Call args) d h f i = absurd (false≢true i)
-  guess_next size g (SpecCall args) d h f i = values_long args d.env ∙ eqb-true (length args) size h
+  guess_next size g (SpecCall args) d h f i = values_long args (all_values d) ∙ eqb-true (length args) size h
   guess_next size g (Verify true args) d h f i = absurd (false≢true i)
   guess_next size g (Verify false args) d h f i = at (same_args (values_of args d.env) d.guess) refl
     where

@@ -1,7 +1,7 @@
 -- Places among the pending writes of a lock in a cycle: what is appended and what is released is no younger than a thread, up to the stages where that matters.
-use Rattle.std.proofs.Common.{◌≡◌, ◌≢◌, refl, sym, ap, ◌∙◌, subst, ℕ, zero, suc, ◌+◌, ◌≤◌, ◌<◌, inl, inr, Bool, true, false, ◌||◌, List, [], ◌∷◌, ◌++◌, length, Option, Some, None, ◌==◌, nat_le, cond, arith, le_refl, leb-true, leb-false, append-nil}
+use Rattle.std.proofs.Common.{◌≡◌, ◌≢◌, refl, sym, ap, ◌∙◌, subst, ℕ, zero, suc, ◌+◌, ◌≤◌, ◌<◌, inl, inr, Bool, true, false, List, [], ◌∷◌, ◌++◌, length, Option, Some, None, nat_le, cond, arith, le_refl, leb-true, leb-false, append-nil}
 use Rattle.pdl_semantics.specs.Flat.{Pipe}
-use Rattle.pdl_semantics.specs.Stages.{list_any, stage_at, reserve_stage, commit_stage, verify_stage}
+use Rattle.pdl_semantics.specs.Stages.{reserve_stage, commit_stage, verify_stage}
 use Rattle.pdl_semantics.specs.Machine.{State, Pending}
 use Rattle.pdl_semantics.specs.Moves.{movers}
 use Rattle.pdl_semantics.specs.Cycle.{with_reserves, releases_of, all_releases}
@@ -23,6 +23,7 @@ use Rattle.pdl_theory_states.proofs.OwnWrites.{none_pending}
 use Rattle.pdl_theory_states.proofs.LockRelease.{LowFirst, low_append, low_within, enough}
 use Rattle.pdl_machine_lockuse.proofs.ReleaseBarriers.{certain_here}
 use Rattle.pdl_semantics.specs.PendingLists.{count_older}
+use Rattle.pdl_semantics.specs.Promises.{DifferInAdvice}
 use Rattle.pdl_word.specs.Each.{Each}
 
 -- V is a trunk stage
@@ -34,7 +35,8 @@ verify_trunk p sound v e = subst (λ n. Trunk p n) (v_is (verify_stage p.stmts) 
     v_is (Some w) i = cc i
 
 -- a thread before the stage of the reserves leaves the list of the older ones as it is
-quiet_same : (p : Pipe) (sound : Sound p) (st : State) (d : Derived.State) (bits : List Bool) (arrays : st.arrays ≡ d.arrays) (m : ℕ) (ls : List Live)
+quiet_same : (p : Pipe) (sound : Sound p) (st : State) (d : Derived.State) (bits : List Bool) (arrays : DifferInAdvice p st.arrays d.arrays)
+    (m : ℕ) (ls : List Live)
     (l : Live)
     → Seated p st l → l.thread.stage < reserve_stage p m
     → with_reserves m (movers (lacts p st d bits (l ∷ ls))) (pends m (l ∷ ls)) ≡ with_reserves m (movers (lacts p st d bits ls)) (pends m ls)
@@ -54,7 +56,7 @@ quiet_same p sound st d bits arrays m ls l s low =
         ∙ append-nil (with_reserves m (movers (lacts p st d bits ls)) (pends m ls))
     at false = refl
 
-module _ (p : Pipe) (sound : Sound p) (st : State) (d : Derived.State) (bits : List Bool) (arrays : st.arrays ≡ d.arrays) (m : ℕ) where
+module _ (p : Pipe) (sound : Sound p) (st : State) (d : Derived.State) (bits : List Bool) (arrays : DifferInAdvice p st.arrays d.arrays) (m : ℕ) where
   abbrev new : List Live → List Pending
   new ls = with_reserves m (movers (lacts p st d bits ls)) (pends m ls)
 

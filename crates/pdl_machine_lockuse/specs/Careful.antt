@@ -1,6 +1,6 @@
 -- What the use of the locks takes of an accepted pipe beside the facts of a sound and strict one: a location that was blocked for reading is not reserved for writing later, one that is written was blocked before, and guesses have as many arguments as their verifies.
 use Rattle.std.specs.Prelude.{◌≡◌, ℕ, ◌≤◌, ◌<◌, Bool, true, false, ◌&&◌, ◌||◌, List, [], ◌∷◌, length, nat_lt, nat_le, ◌==◌}
-use Rattle.pdl_semantics.specs.Flat.{list_all, Op, Bind, CombRead, DelayedRead, Write, ReserveRead, ReserveWrite, Block, Release, Call, SpecCall, Verify, SpecCheck, SpecBarrier, Stmt, Pipe, start_env}
+use Rattle.pdl_semantics.specs.Flat.{list_all, Op, Bind, CombRead, DelayedRead, Write, ReserveRead, ReserveWrite, Block, Release, Call, SpecCall, Verify, SpecCheck, SpecBarrier, AdviceBind, AdviceRead, AdviceWrite, Stmt, Pipe, start_env}
 use Rattle.pdl_semantics.specs.Stages.{onpath}
 use Rattle.pdl_semantics.specs.Sound.{all_below}
 use Rattle.pdl_theory_facts.specs.Scans.{none_of, write_reserves}
@@ -21,6 +21,9 @@ reserves_at m a (SpecCall _) = false
 reserves_at m a (Verify _ _) = false
 reserves_at m a SpecCheck = false
 reserves_at m a SpecBarrier = false
+reserves_at m a (AdviceBind _ _) = false
+reserves_at m a (AdviceRead _ _ _) = false
+reserves_at m a (AdviceWrite _ _ _) = false
 
 -- after a block its location is not reserved for writing
 abbrev pub keeps_kind : Op → List Stmt → Bool
@@ -37,6 +40,9 @@ keeps_kind (SpecCall _) ys = true
 keeps_kind (Verify _ _) ys = true
 keeps_kind SpecCheck ys = true
 keeps_kind SpecBarrier ys = true
+keeps_kind (AdviceBind _ _) ys = true
+keeps_kind (AdviceRead _ _ _) ys = true
+keeps_kind (AdviceWrite _ _ _) ys = true
 
 -- after each block of these statements its location is not reserved for writing
 abbrev pub all_keep_kind : List Stmt → Bool
@@ -58,6 +64,9 @@ is_block_at m a (SpecCall _) = false
 is_block_at m a (Verify _ _) = false
 is_block_at m a SpecCheck = false
 is_block_at m a SpecBarrier = false
+is_block_at m a (AdviceBind _ _) = false
+is_block_at m a (AdviceRead _ _ _) = false
+is_block_at m a (AdviceWrite _ _ _) = false
 
 -- whether one of the earlier statements blocked this location
 abbrev pub was_blocked : ℕ → ℕ → List Op → Bool
@@ -79,6 +88,9 @@ is_let_in (SpecCall _) past = true
 is_let_in (Verify _ _) past = true
 is_let_in SpecCheck past = true
 is_let_in SpecBarrier past = true
+is_let_in (AdviceBind _ _) past = true
+is_let_in (AdviceRead _ _ _) past = true
+is_let_in (AdviceWrite _ _ _) past = true
 
 -- the location of each write of these statements was blocked before it
 abbrev pub all_let_in : List Op → List Stmt → Bool
@@ -100,6 +112,9 @@ passes_on n (SpecCall args) = length args == n
 passes_on n (Verify last args) = length args == n
 passes_on n SpecCheck = true
 passes_on n SpecBarrier = true
+passes_on n (AdviceBind _ _) = true
+passes_on n (AdviceRead _ _ _) = true
+passes_on n (AdviceWrite _ _ _) = true
 
 -- each of n memories is reserved for writing at most twice by these statements
 abbrev pub all_few : ℕ → List Stmt → Bool

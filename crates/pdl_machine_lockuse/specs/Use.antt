@@ -1,6 +1,6 @@
 -- How the threads use the locks in a cycle, of any pipe, beside what the law of a netlist takes: room, whose write is released, and where a squash cuts the list of pending writes.
 use Rattle.std.specs.Prelude.{◌≡◌, ℕ, zero, suc, ◌+◌, ◌≤◌, ◌<◌, Bool, true, false, ◌&&◌, List, [], ◌∷◌, Some, is_none, nat_le, length, take, if◌then◌else◌, ◌==◌, slice_index, IsTrue, ⊤}
-use Rattle.pdl_semantics.specs.Flat.{Op, Bind, CombRead, DelayedRead, Write, ReserveRead, ReserveWrite, Block, Release, Call, SpecCall, Verify, SpecCheck, SpecBarrier, Stmt, Pipe, all_hold}
+use Rattle.pdl_semantics.specs.Flat.{Op, Bind, CombRead, DelayedRead, Write, ReserveRead, ReserveWrite, Block, Release, Call, SpecCall, Verify, SpecCheck, SpecBarrier, AdviceBind, AdviceRead, AdviceWrite, Stmt, Pipe, all_hold}
 use Rattle.pdl_semantics.specs.Stages.{list_any, onpath, in_stage, mem_at, reserve_stage, commit_stage}
 use Rattle.pdl_semantics.specs.Machine.{Awaited, State, Pending, Written, Deeds, deeds_after, lock_of, older_write, word_for}
 use Rattle.pdl_semantics.specs.Locks.{read_ready, write_ready}
@@ -56,6 +56,9 @@ IsLetIn p st thread (SpecCall _) d = ⊤
 IsLetIn p st thread (Verify _ _) d = ⊤
 IsLetIn p st thread SpecCheck d = ⊤
 IsLetIn p st thread SpecBarrier d = ⊤
+IsLetIn p st thread (AdviceBind _ _) d = ⊤
+IsLetIn p st thread (AdviceRead _ _ _) d = ⊤
+IsLetIn p st thread (AdviceWrite _ _ _) d = ⊤
 
 -- each statement after these deeds, as long as the locks let the thread move so far
 abbrev pub AreLetIn : Pipe → State → ℕ → List Stmt → Deeds → Type 0

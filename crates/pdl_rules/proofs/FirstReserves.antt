@@ -1,5 +1,5 @@
 -- Which location of a memory is reserved first for writing, after one place more.
-use Rattle.std.proofs.Common.{◌≡◌, ℕ, Bool, true, false, List, [], ◌∷◌, ◌++◌}
+use Rattle.std.proofs.Common.{◌≡◌, refl, ℕ, Bool, true, false, List, [], ◌∷◌, ◌++◌}
 use Rattle.pdl_semantics.specs.Tree.{W}
 use Rattle.pdl_rules.specs.Places.{Place}
 use Rattle.pdl_rules.specs.Locks.{first_reserved, is_reserve_of}

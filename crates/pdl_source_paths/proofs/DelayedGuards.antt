@@ -1,6 +1,6 @@
 -- What a stage reads delayed decides no guard, on a path, of a statement before the stage where it is bound.
-use Rattle.std.proofs.Common.{◌≡◌, refl, sym, ap, ap₂, ◌∙◌, subst, ℕ, suc, ◌<◌, Bool, true, false, ◌&&◌, List, [], ◌∷◌, ◌++◌, length, Some, cond, if◌then◌else◌, ◌==◌, nat_lt, slice_index, arith, ltb-true, lt-ltb}
-use Rattle.std.proofs.lemmas.Bool.{false≢true, and_parts, both_ways}
+use Rattle.std.proofs.Common.{◌≡◌, refl, sym, ap, ap₂, ◌∙◌, subst, ℕ, suc, ◌<◌, Bool, true, false, ◌&&◌, List, [], ◌∷◌, length, Some, cond, if◌then◌else◌, ◌==◌, nat_lt, arith, ltb-true, lt-ltb}
+use Rattle.std.proofs.lemmas.Bool.{false≢true, both_ways}
 use Rattle.std.specs.List.{list_any}
 use Rattle.pdl_semantics.specs.Tree.{Pipe}
 use Rattle.pdl_semantics.specs.Flat
@@ -12,8 +12,8 @@ use Rattle.pdl_rules.specs.Names.{OfVariable, defines_use}
 use Rattle.pdl_rules.specs.Refusal.{KeepsRules}
 use Rattle.pdl_theory_derived.specs.Alone.{before, answered_op}
 use Rattle.pdl_theory_facts.specs.Scans.{none_of, binds_var}
-use Rattle.pdl_theory_facts.specs.Graphs.{stage_or, next_of, on_side}
-use Rattle.pdl_theory_facts.specs.Facts.{is_fetch_of, DifferIn, comes_by, visits_stage}
+use Rattle.pdl_theory_facts.specs.Graphs.{stage_or, next_of}
+use Rattle.pdl_theory_facts.specs.Facts.{is_fetch_of, DifferIn, visits_stage}
 use Rattle.pdl_source_stages.specs.StageFacts.{StageFacts}
 use Rattle.pdl_source_stages.proofs.Facts.{stage_facts}
 use Rattle.pdl_source_stages.proofs.Sites.{Site, sites_of}

@@ -1,27 +1,26 @@
 -- On each path a verify or an update stands in another stage than the guess that it asks about.
-use Rattle.std.proofs.Common.{◌≡◌, refl, sym, ap, ap₂, ◌∙◌, subst, ℕ, ◌<◌, Bool, true, false, ◌&&◌, ◌||◌, not, List, [], ◌∷◌, ◌++◌, filter, cond, if◌then◌else◌, nat_lt, ◌==◌, Option, Some, None, arith, append-nil, ltb-true, eq-eqb}
-use Rattle.std.proofs.lemmas.Bool.{false≢true, and_parts, and_from, or_parts, or_left, or_right, both_ways, eqb-true, ne_eqb}
+use Rattle.std.proofs.Common.{◌≡◌, refl, sym, ap, ◌∙◌, subst, ℕ, ◌<◌, Bool, true, false, ◌&&◌, ◌||◌, not, List, [], ◌∷◌, ◌++◌, filter, cond, if◌then◌else◌, nat_lt, ◌==◌, Option, Some, None, arith, append-nil, ltb-true, eq-eqb}
+use Rattle.std.proofs.lemmas.Bool.{and_parts, and_from, or_parts, or_left, or_right, both_ways, eqb-true, ne_eqb}
 use Rattle.std.proofs.lemmas.List.Folds.{list_any-append}
 use Rattle.std.specs.List.{list_any}
-use Rattle.pdl_semantics.specs.Tree.{Span, Ident, Expr, Variable, R, W, Stmt, Separator, CombRead, Bind, SpecCall, DelayedRead, Write, Reserve, Block, Release, If, Call, Verify, Update, SpecCheck, SpecBarrier, Mem, Pipe}
+use Rattle.pdl_semantics.specs.Tree.{Span, Ident, Expr, Variable, R, W, Stmt, Separator, CombRead, Bind, SpecCall, DelayedRead, Write, Reserve, Block, Release, If, Call, Verify, Update, SpecCheck, SpecBarrier, Pipe}
 use Rattle.pdl_semantics.specs.Flat
-use Rattle.pdl_semantics.specs.Flatten.{flat, var_of, mem_of, flat_expr, is_advisory_mem, is_advised}
+use Rattle.pdl_semantics.specs.Flatten.{flat, is_advisory_mem, is_advised}
 use Rattle.pdl_semantics.specs.Stages
 use Rattle.pdl_rules.specs.Places.{Place, Statement, Guard, on_path}
 use Rattle.pdl_rules.specs.Parts.{is_some_and}
 use Rattle.pdl_rules.specs.Names.{OfGuess, defines_use, in_verify}
-use Rattle.pdl_rules.specs.Stages.{stage_in, stage_of, stages_that}
-use Rattle.pdl_rules.specs.Speculation.{is_verify, is_update, is_guess_of, guess_stages}
+use Rattle.pdl_rules.specs.Stages.{stage_of}
+use Rattle.pdl_rules.specs.Speculation.{is_verify, is_guess_of, guess_stages}
 use Rattle.pdl_rules.specs.Speculation
 use Rattle.pdl_rules.specs.Refusal.{KeepsRules}
-use Rattle.pdl_rules.proofs.SingleWrites.{any_weaker, any_front, any_last}
+use Rattle.pdl_rules.proofs.SingleWrites.{any_weaker, any_last}
 use Rattle.pdl_theory_derived.specs.Alone.{answered_op}
 use Rattle.pdl_theory_facts.specs.GuessScans.{stands_at, stands_before, guess_stage, check_apart, checks_apart}
 use Rattle.pdl_source_stages.proofs.SiteFacts.{either_read, either_bind, either_write}
 use Rattle.pdl_source_stages.proofs.Sites.{Site, sites_of, front_of, place_of, All}
 use Rattle.pdl_source_stages.proofs.StatementStages.{Staged}
 use Rattle.pdl_source_paths.proofs.Choices.{path_of}
-use Rattle.pdl_source_paths.proofs.PathStatements
 use Rattle.pdl_source_paths.proofs.PathStatements.{ops_of, ops, seen_ops, seen, on_sites}
 use Rattle.pdl_source_paths.proofs.Walk.{InText, filter_append}
 use Rattle.pdl_source_paths.proofs.GuessCounts.{one_guess, stages_append}

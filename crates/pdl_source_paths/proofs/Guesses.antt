@@ -1,8 +1,7 @@
 -- What the rules of calls, guesses and releases ask of each site on a path.
-use Rattle.std.proofs.Common.{◌≡◌, refl, sym, ap, ap₂, ◌∙◌, subst, ℕ, suc, ◌+◌, ◌≤◌, ◌<◌, ◌⊎◌, inl, inr, Bool, true, false, ◌&&◌, ◌||◌, not, List, [], ◌∷◌, ◌++◌, length, map, filter, cond, if◌then◌else◌, nat_lt, count_by, Option, Some, None, is_some, arith, append_assoc, append-nil, ltb-true, lt-ltb, eq-eqb, le_refl, ⊎_elim}
-use Rattle.std.proofs.lemmas.Bool.{false≢true, and_parts, and_from, or_parts, or_cases, or_left, or_right, false_from_ne_true, not-false, cases_Bool, both_ways}
+use Rattle.std.proofs.Common.{◌≡◌, refl, sym, ap, ap₂, ◌∙◌, subst, ℕ, suc, ◌+◌, ◌≤◌, ◌<◌, ◌⊎◌, inl, inr, Bool, true, false, ◌&&◌, ◌||◌, not, List, [], ◌∷◌, ◌++◌, length, map, filter, nat_lt, count_by, Option, Some, None, is_some, arith, append_assoc, append-nil, ltb-true, lt-ltb, eq-eqb, le_refl, ⊎_elim}
+use Rattle.std.proofs.lemmas.Bool.{false≢true, and_parts, and_from, or_parts, or_cases, false_from_ne_true, not-false, cases_Bool, both_ways}
 use Rattle.std.proofs.lemmas.List.Folds.{list_any-append}
-use Rattle.std.proofs.lemmas.List.Sums.{sum_by-append}
 use Rattle.std.specs.List.{list_any}
 use Rattle.pdl_semantics.specs.Tree.{Span, Ident, Expr, Variable, R, W, Stmt, Separator, CombRead, Bind, SpecCall, DelayedRead, Write, Reserve, Block, Release, If, Call, Verify, Update, SpecCheck, SpecBarrier, Param, Mem, Pipe}
 use Rattle.pdl_semantics.specs.Stages
@@ -11,10 +10,10 @@ use Rattle.pdl_semantics.specs.Flatten.{is_advisory_mem, is_advised}
 use Rattle.pdl_source_stages.proofs.SiteFacts.{either_read, either_bind, either_write}
 use Rattle.pdl_rules.specs.Places.{Place, Parameter, Memory, Statement, Guard, places, guards, on_path}
 use Rattle.pdl_rules.specs.Parts.{is_some_and, location_of, some_expr_of, some_part}
-use Rattle.pdl_rules.specs.Names.{OfGuess, Use, defines_use, is_given, is_undefined, is_too_early, is_delayed, in_location, in_verify, reads_some}
+use Rattle.pdl_rules.specs.Names.{OfGuess, Use, defines_use, is_given, is_undefined, is_too_early, in_location, in_verify, reads_some}
 use Rattle.pdl_rules.specs.Limits.{is_separator}
 use Rattle.pdl_rules.specs.Calls.{is_call, is_wrong_call}
-use Rattle.pdl_rules.specs.Stages.{stage_in, stage_of, first_stage, stages_that}
+use Rattle.pdl_rules.specs.Stages.{stage_of, first_stage, stages_that}
 use Rattle.pdl_rules.specs.Speculation.{is_verify, is_verify_of, verify_stages, is_once_after, is_unverified, releases_unsure, is_before_verify, guess_stages, updates_amiss, is_amiss}
 use Rattle.pdl_rules.specs.Speculation
 use Rattle.pdl_rules.specs.Refusal.{KeepsRules}

@@ -5,6 +5,7 @@ pub mod Variables
 pub mod Walk
 pub mod Growth
 pub mod ReadsKept
+pub mod Standing
 pub mod WritesKept
 pub mod Quiet
 pub mod Order

@@ -28,7 +28,8 @@ use Rattle.pdl_source_paths.proofs.Growth.{vars_past, Grows}
 use Rattle.pdl_source_paths.proofs.Order.{Next, Rises}
 use Rattle.pdl_source_paths.proofs.SiteStages.{some_op}
 use Rattle.pdl_source_paths.proofs.ReadsKept.{Scanned, scanned_grown, scanned_next, scan_ok, reads_append, reads_at, opens_ops}
-use Rattle.pdl_source_paths.proofs.WritesKept.{Stands, stands_grown, stands_next, ends_over, phases_append, phase_append, phase_ops}
+use Rattle.pdl_source_paths.proofs.Standing.{Stands}
+use Rattle.pdl_source_paths.proofs.WritesKept.{stands_grown, stands_next, ends_over, phases_append, phase_append, phase_ops}
 use Rattle.pdl_source_paths.proofs.Calls.{Stood, Asked, stood_by, makings_append, making_append, making_ops}
 use Rattle.pdl_source_paths.proofs.ReleaseBarriers.{sure_by, sures_append, barred_ops}
 use Rattle.pdl_word.proofs.Bytes.{bytes_same}
@@ -189,7 +190,8 @@ module _ (p : Pipe) (q : Flat.Pipe) (lock_is : (m : List ℕ) → is_plain (mem_
       → is_advisory_mem p.mems m ≡ false → (vs us : List Var) (before : List Place) (ph : Phase) (ts : List Site) → All (Known p q) ts
       → Grows p.mems vs ts us → Each (KeepsLocks p) before (map place_of ts ++ closing p)
       → AreBacked p before → Stands p vs before m ph
-      → (phases_ok (mem_of p.mems m) ph (seen p.mems ts) ≡ true) × (is_over (phase_all (mem_of p.mems m) ph (seen p.mems ts)) ≡ true) × (total (phase_all (mem_of p.mems m) ph (seen p.mems ts)) ≤ most_reservations p.mems W m)
+      → (phases_ok (mem_of p.mems m) ph (seen p.mems ts) ≡ true) × (is_over (phase_all (mem_of p.mems m) ph (seen p.mems ts)) ≡ true)
+      × (total (phase_all (mem_of p.mems m) ph (seen p.mems ts)) ≤ most_reservations p.mems W m)
   writes_along m there plain vs us before ph [] h g each b i =
       (refl, ends_over p m there plain [] vs before ph each.0 i, subst (λ n. n ≤ most_reservations p.mems W m) i.count i.few)
   writes_along m there plain vs us before ph (t ∷ ts) h g each b i =

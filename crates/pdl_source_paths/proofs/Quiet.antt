@@ -1,21 +1,21 @@
 -- An advisory memory: a path reserves, releases and writes nothing of it that a lock would see.
-use Rattle.std.proofs.Common.{◌≡◌, refl, sym, ap, ◌∙◌, subst, ℕ, Bool, true, false, ◌&&◌, ◌||◌, not, List, [], ◌∷◌, ◌++◌, length, Option, Some, None, ◌==◌, if◌then◌else◌}
-use Rattle.std.proofs.lemmas.Bool.{false≢true, and_parts, and_from, or_left, or_right, or_parts, both_ways, not-false, false_from_ne_true}
-use Rattle.pdl_semantics.specs.Tree.{Span, Location, R, W, Expr, Variable, Stmt, CombRead, Bind, Write, Reserve, Release, If, Mem, Pipe}
+use Rattle.std.proofs.Common.{◌≡◌, refl, sym, ap, ◌∙◌, subst, ℕ, Bool, true, false, ◌||◌, not, List, [], ◌∷◌, Some, ◌==◌, if◌then◌else◌}
+use Rattle.std.proofs.lemmas.Bool.{and_from, or_left, or_right, or_parts, both_ways, not-false, false_from_ne_true}
+use Rattle.pdl_semantics.specs.Tree.{Location, R, W, Variable, Stmt, CombRead, Bind, Write, Reserve, Release, If, Mem, Pipe}
 use Rattle.pdl_semantics.specs.Flat
 use Rattle.pdl_semantics.specs.Flatten.{Var, var_of, mem_of, flat_expr, is_advisory_mem, is_advised, write_op}
-use Rattle.std.proofs.Common.{◌≡◌, refl, sym, ap, ◌∙◌, subst, ℕ, ◌<◌, ◌≤◌, Bool, true, false, ◌&&◌, ◌||◌, not, List, [], ◌∷◌, ◌++◌, length, cond, if◌then◌else◌, ◌==◌, ◌+◌, ◌⊎◌, inl, inr, ⊎_elim, bytes_eq, count_by, Option, Some, None, ap₂, arith, eq-eqb, le-leb, append-nil}
+use Rattle.std.proofs.Common.{◌≡◌, refl, sym, ap, ◌∙◌, subst, ℕ, Bool, true, false, ◌||◌, not, List, [], ◌∷◌, if◌then◌else◌, ◌==◌, bytes_eq, Some}
 use Rattle.pdl_word.proofs.Bytes.{bytes_same}
 use Rattle.pdl_theory_derived.specs.Alone.{answered_op}
 use Rattle.pdl_theory_facts.specs.Scans.{Fresh, after_write, after_reserve, after_release, next_phase, phase_ok, phases_ok, phase_all}
-use Rattle.pdl_rules.specs.Places.{Branch, Statement, statements}
+use Rattle.pdl_rules.specs.Places.{Branch, Statement}
 use Rattle.pdl_rules.specs.Parts.{location_of}
-use Rattle.pdl_rules.specs.Typed.{is_named, is_memory}
+use Rattle.pdl_rules.specs.Typed.{is_memory}
 use Rattle.pdl_source_paths.proofs.Variables.{IsNamed}
 use Rattle.pdl_rules.specs.Locks.{is_locked, breaks_f5}
 use Rattle.pdl_source_stages.proofs.Sites.{Site, All}
-use Rattle.pdl_source_stages.proofs.SiteFacts.{either_read, either_bind, either_write}
-use Rattle.pdl_source_paths.proofs.PathStatements.{ops, ops_of, seen, seen_ops}
+use Rattle.pdl_source_stages.proofs.SiteFacts.{either_read, either_bind}
+use Rattle.pdl_source_paths.proofs.PathStatements.{ops, ops_of, seen}
 use Rattle.pdl_source_paths.proofs.SiteStages.{some_op}
 use Rattle.pdl_source_paths.proofs.WritesKept.{phases_append, phase_append, phase_ops, phase_oks}
 use Rattle.pdl_source_paths.proofs.Numbers.{mem_is}

@@ -1,5 +1,5 @@
 -- The first statement of a kind: its place in the text and its flat form are one, so the rules that all of a kind stand in one stage hold of the flat statements.
-use Rattle.std.proofs.Common.{◌≡◌, refl, sym, ap, ap₂, ◌∙◌, subst, ℕ, suc, ◌<◌, Bool, true, false, ◌&&◌, ◌||◌, not, List, [], ◌∷◌, ◌++◌, map, length, append_assoc, append-nil, Option, Some, None, arith, if◌then◌else◌, ◌==◌, bytes_eq, eqb-true}
+use Rattle.std.proofs.Common.{◌≡◌, refl, sym, ap, ap₂, ◌∙◌, subst, ℕ, suc, ◌<◌, Bool, true, false, ◌||◌, not, List, [], ◌∷◌, ◌++◌, map, length, append_assoc, append-nil, Option, Some, None, arith, if◌then◌else◌, ◌==◌, bytes_eq, eqb-true}
 use Rattle.std.proofs.lemmas.Bool.{false≢true, or_parts, not-false}
 use Rattle.std.proofs.lemmas.List.Folds.{list_any-append}
 use Rattle.std.specs.List.{list_any}
@@ -26,11 +26,6 @@ use Rattle.pdl_rules.proofs.EachPlace.{closing}
 abbrev pub Fronts : List Place → List Site → Type 0
 Fronts base [] = Unit {0}
 Fronts base (t ∷ ts) = (t.front ≡ base) × Fronts (base ++ place_of t ∷ []) ts
-
-fronts_append : (base : List Place) (xs ys : List Site) → Fronts base xs → Fronts (base ++ map place_of xs) ys → Fronts base (xs ++ ys)
-fronts_append base [] ys h k = subst (λ l. Fronts l ys) (append-nil base) k
-fronts_append base (x ∷ xs) ys h k =
-    (h.0, fronts_append (base ++ place_of x ∷ []) xs ys h.1 (subst (λ l. Fronts l ys) (sym (append_assoc base (place_of x ∷ []) (map place_of xs))) k))
 
 mutual
   fronts_in : (ms : List Mem) (front : List Place) (w : Flatten.Position) (gs : List Flat.Guard) (bs : List Branch) (s : Stmt)

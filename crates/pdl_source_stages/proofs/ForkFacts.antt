@@ -1,5 +1,5 @@
 -- What a fork asks of its variable, of every source that breaks no rule.
-use Rattle.std.proofs.Common.{◌≡◌, refl, sym, ap, ap₂, ◌∙◌, ℕ, suc, ◌+◌, ◌≤◌, ◌<◌, ◌⊎◌, inl, inr, Bool, true, false, ◌&&◌, ◌||◌, not, List, [], ◌∷◌, ◌++◌, map, filter, length, append_assoc, length-append, Some, None, arith, ◌==◌, bytes_eq, eqb-true}
+use Rattle.std.proofs.Common.{◌≡◌, refl, sym, ap, ap₂, ◌∙◌, ℕ, suc, ◌+◌, ◌≤◌, ◌<◌, ◌⊎◌, inl, inr, Bool, true, false, ◌&&◌, ◌||◌, not, List, [], ◌∷◌, ◌++◌, map, filter, length, append_assoc, length-append, Some, None, arith, bytes_eq, eqb-true}
 use Rattle.std.proofs.lemmas.Bool.{false≢true, or_parts, or_left, or_right, not-false, cases_lt}
 use Rattle.std.proofs.lemmas.List.{get_or_past}
 use Rattle.std.proofs.lemmas.List.Folds.{list_any-append}
@@ -10,7 +10,7 @@ use Rattle.pdl_semantics.specs.Flat
 use Rattle.pdl_semantics.specs.Flat.{all_hold}
 use Rattle.pdl_semantics.specs.Flatten.{var_of, guard_of, past_all, at_start, flat, is_advisory_mem, is_advised, mem_of, flat_expr}
 use Rattle.pdl_semantics.specs.Stages.{last_stage, stage_at, in_stage}
-use Rattle.pdl_rules.specs.Places.{Place, Parameter, Memory, Statement, Guard, statements, places, on_path, on_some_path}
+use Rattle.pdl_rules.specs.Places.{Place, Parameter, Memory, Statement, Guard, statements, on_path, on_some_path}
 use Rattle.pdl_rules.specs.Parts.{is_some_and}
 use Rattle.pdl_rules.specs.Limits.{is_separator}
 use Rattle.pdl_rules.specs.Names.{OfVariable, defines_use, name_at, is_undefined, is_parameter, is_delayed, is_given, is_too_early}
@@ -271,7 +271,8 @@ module _ (p : Pipe) (rules : KeepsRules p) where
       named : (v : Ident) → f.condition ≡ Variable v → list_any is_separator m ≡ true
       named v i = turn (is_parameter p v.name) refl (fork_rule s x u f d v i)
         where
-          given : on_some_path (λ earlier. not (is_given earlier (OfVariable v.name))) p u.front (Statement (If f.span f.condition f.when f.otherwise) u.branches)
+          given : on_some_path (λ earlier. not (is_given earlier (OfVariable v.name))) p u.front
+              (Statement (If f.span f.condition f.when f.otherwise) u.branches)
               ≡ false
               → (c : List Guard) × (is_given (filter (on_path c) u.front) (OfVariable v.name) ≡ true)
           given k =

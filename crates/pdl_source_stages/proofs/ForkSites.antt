@@ -1,18 +1,17 @@
 -- The `if` of each fork: where it stands, and under which guards.
-use Rattle.std.proofs.Common.{◌≡◌, refl, sym, ap, ap₂, ◌∙◌, ℕ, zero, suc, ◌+◌, ◌≤◌, ◌<◌, ◌⊎◌, inl, inr, Bool, true, false, ◌&&◌, ◌||◌, not, List, [], ◌∷◌, ◌++◌, length, Option, Some, None, unwrap_or, arith, if◌then◌else◌, ◌==◌, slice_index}
-use Rattle.std.proofs.lemmas.Bool.{and_parts, and_from, cases_lt}
+use Rattle.std.proofs.Common.{◌≡◌, refl, sym, ap, ap₂, ◌∙◌, ℕ, suc, ◌+◌, ◌≤◌, ◌<◌, ◌⊎◌, inl, inr, Bool, true, false, ◌&&◌, ◌||◌, List, [], ◌∷◌, ◌++◌, length, Option, Some, None, unwrap_or, arith}
+use Rattle.std.proofs.lemmas.Bool.{and_parts, cases_lt}
 use Rattle.pdl_semantics.specs.Tree.{Span, Expr, Separator, If, Stmts, Nil, Cons, Mem, Pipe}
 use Rattle.pdl_semantics.specs.Flat
-use Rattle.pdl_semantics.specs.Flat.{all_hold, takes_branch}
+use Rattle.pdl_semantics.specs.Flat.{all_hold}
 use Rattle.pdl_semantics.specs.Flatten.{guard_of, with_guard, past, at_otherwise, under, side, separators}
 use Rattle.pdl_semantics.specs.Flatten
 use Rattle.pdl_semantics.specs.Stages.{stage_at}
-use Rattle.pdl_theory_facts.specs.Graphs.{goes_by, on_side}
-use Rattle.pdl_theory_facts.specs.Facts.{comes_by, visits_stage}
+use Rattle.pdl_theory_facts.specs.Facts.{comes_by}
 use Rattle.pdl_rules.specs.Places.{Place, Statement, Branch, with_inner, statements}
 use Rattle.pdl_source_stages.proofs.Sites.{Site, branch, sites_in, sites, place_of, All}
 use Rattle.pdl_source_stages.proofs.Walks.{guard_begun, past_begun, past_all_begun}
-use Rattle.pdl_source_stages.proofs.Shapes.{is_whole, is_forked, is_late, begins_stage, Side, Straight, Runs, size, long, merge_at, shape, side_shape, long_is}
+use Rattle.pdl_source_stages.proofs.Shapes.{is_whole, is_forked, is_late, begins_stage, size, long, merge_at, shape, side_shape, long_is}
 use Rattle.pdl_source_stages.proofs.Spots.{Groups, Sides, group_fork, Forked}
 use Rattle.pdl_source_stages.proofs.SiteStages.{none_of_whole, fitting, rest_shape, either_shape}
 use Rattle.pdl_source_stages.proofs.SiteFacts.{Fine}
@@ -64,27 +63,10 @@ fork_var (Flat.Forks x a b) = Some x
 none_one : (x : ℕ) → None ≡ Some x → ⊥
 none_one x e = cc
 
--- the guard of a branch is taken on each path that goes by the branch
-shown_side : (p : Flat.Pipe) (gs : List Flat.Guard) (d : List Flat.Branch) (k x a b : ℕ) (first : Bool) → Forked p d k x a b → Shown p gs d
-    → Shown p (gs ++ record { var = x; first = first } ∷ []) (side k first ∷ d)
-shown_side p gs d k x a b first fork h path on =
-    let parts = and_parts (goes_by p (side k first) path) (comes_by p path d) on in
-    both gs (h path parts.1) (turn first (slice_index path x) (sym (ap (λ n. on_side n first path) fork.next) ∙ parts.0))
-  where
-    both : (gs : List Flat.Guard) → all_hold gs path ≡ true → takes_branch first (slice_index path x) ≡ true
-        → all_hold (gs ++ record { var = x; first = first } ∷ []) path ≡ true
-    both [] i j = and_from (takes_branch first (slice_index path x)) true j refl
-    both (g ∷ gs) i j =
-        let parts = and_parts (takes_branch g.first (slice_index path g.var)) (all_hold gs path) i in
-        and_from (takes_branch g.first (slice_index path g.var)) (all_hold (gs ++ record { var = x; first = first } ∷ []) path) parts.0 (both gs parts.1 j)
-
-    turn : (first : Bool) (v : ℕ) → (if first then v == 1 else not (v == 1)) ≡ true → takes_branch first v ≡ true
-    turn true v e = e
-    turn false v e = e
-
 mutual
   -- a stage of statements that begin stage k, which forks on x, has such an `if`
-  pub fork_sites : (p : Flat.Pipe) (ms : List Mem) (d : List Flat.Branch) (exit : Flat.Next) (k : ℕ) (merges : Option ℕ) (front : List Place) (w : Flatten.Position)
+  pub fork_sites : (p : Flat.Pipe) (ms : List Mem) (d : List Flat.Branch) (exit : Flat.Next) (k : ℕ) (merges : Option ℕ)
+      (front : List Place) (w : Flatten.Position)
       (gs : List Flat.Guard) (bs : List Branch) (ss : Stmts)
       → w.stage ≡ w.begun → w.begun ≡ k → is_forked ss ≡ true → Groups p d exit k merges (shape ms ss w)
       → k + size (shape ms ss w) ≤ length p.stages → fork_var exit ≡ None → Shown p gs d → (s x : ℕ) → k ≤ s → s < k + size (shape ms ss w)
@@ -140,14 +122,17 @@ mutual
           →
           (Forked p d k (guard_of w.vars c) (long (side_shape ms when (with_guard c w))) (long (side_shape ms otherwise (at_otherwise ms c when w)))
           → is_late when ≡ true
-          → Sides p (side k true ∷ d) (Flat.Goes (merge_at k (long (side_shape ms when (with_guard c w))) (long (side_shape ms otherwise (at_otherwise ms c when w))))) k (side_shape ms when (with_guard c w))
+          → Sides p (side k true ∷ d) (Flat.Goes (merge_at k (long (side_shape ms when (with_guard c w)))
+          (long (side_shape ms otherwise (at_otherwise ms c when w))))) k (side_shape ms when (with_guard c w))
           → suc (k + long (side_shape ms when (with_guard c w))) ≤ length p.stages → k < s → s ≤ k + long (side_shape ms when (with_guard c w)) → Some_site
           (ForkSite p s x)
           (sites ms (front ++ Statement (If sp c when otherwise) bs ∷ []) (with_guard c w) (under gs w.vars c true) (bs ++ branch sp c true when ∷ []) when))
           →
           (Forked p d k (guard_of w.vars c) (long (side_shape ms when (with_guard c w))) (long (side_shape ms otherwise (at_otherwise ms c when w)))
           → is_late otherwise ≡ true
-          → Sides p (side k false ∷ d) (Flat.Goes (merge_at k (long (side_shape ms when (with_guard c w))) (long (side_shape ms otherwise (at_otherwise ms c when w))))) (k + long (side_shape ms when (with_guard c w))) (side_shape ms otherwise (at_otherwise ms c when w))
+          → Sides p (side k false ∷ d) (Flat.Goes (merge_at k (long (side_shape ms when (with_guard c w)))
+          (long (side_shape ms otherwise (at_otherwise ms c when w))))) (k + long (side_shape ms when (with_guard c w)))
+          (side_shape ms otherwise (at_otherwise ms c when w))
           → suc (k + long (side_shape ms when (with_guard c w)) + long (side_shape ms otherwise (at_otherwise ms c when w))) ≤ length p.stages
           → (at_otherwise ms c when w).begun ≡ k + long (side_shape ms when (with_guard c w))
           → k + long (side_shape ms when (with_guard c w)) < s
@@ -189,7 +174,8 @@ mutual
               let b2 = past_all_begun ms when (with_guard c w) in
               omega arith
 
-          merged : suc (past ms (If sp c when otherwise) w).begun ≡ (merge_at k (long (side_shape ms when (with_guard c w))) (long (side_shape ms otherwise (at_otherwise ms c when w))))
+          merged : suc (past ms (If sp c when otherwise) w).begun ≡ (merge_at k (long (side_shape ms when (with_guard c w)))
+              (long (side_shape ms otherwise (at_otherwise ms c when w))))
           merged =
               let l1 = long_is ms when (with_guard c w) late.0 in
               let l2 = long_is ms otherwise (at_otherwise ms c when w) late.1 in

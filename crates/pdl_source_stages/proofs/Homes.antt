@@ -519,7 +519,8 @@ module _ (p : Pipe) (rules : KeepsRules p) where
   advisory_is (m ∷ ms) n = at (bytes_eq m.name.name n) (advisory_is ms n)
     where
       at : (b : Bool) → is_advisory (slice_index_or (mems_of ms) (mem_of ms n) plain_mem).kind ≡ Flatten.is_advisory_mem ms n
-          → is_advisory (slice_index_or (mems_of (m ∷ ms)) (if b then 0 else suc (mem_of ms n)) plain_mem).kind ≡ (if b then is_advisory m.kind else Flatten.is_advisory_mem ms n)
+          → is_advisory (slice_index_or (mems_of (m ∷ ms)) (if b then 0 else suc (mem_of ms n)) plain_mem).kind
+          ≡ (if b then is_advisory m.kind else Flatten.is_advisory_mem ms n)
       at true k = refl
       at false k = k
 

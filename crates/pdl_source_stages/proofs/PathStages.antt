@@ -1,15 +1,15 @@
 -- On each path the stages visited are 0 and then those begun by the separators of that path, in text order.
 use Rattle.std.proofs.Common.{◌≡◌, refl, sym, ap, ap₂, ◌∙◌, ℕ, zero, suc, ◌+◌, ◌-◌, ◌≤◌, Bool, true, false, ◌&&◌, ◌||◌, List, [], ◌∷◌, ◌++◌, length, length-append, append_assoc, append-nil, Option, Some, None, arith, if◌then◌else◌, ◌==◌, slice_index}
-use Rattle.std.proofs.lemmas.Bool.{false≢true, and_parts}
+use Rattle.std.proofs.lemmas.Bool.{and_parts}
 use Rattle.pdl_semantics.specs.Tree.{Stmt, Separator, If, Stmts, Nil, Cons, Mem, Pipe}
 use Rattle.pdl_semantics.specs.Flat
-use Rattle.pdl_semantics.specs.Flatten.{with_guard, past, past_all, at_otherwise, guard_of, separators_in, separators, entry, side, at_start, flat}
+use Rattle.pdl_semantics.specs.Flatten.{with_guard, past, at_otherwise, guard_of, separators_in, separators, entry, side, at_start, flat}
 use Rattle.pdl_semantics.specs.Flatten
 use Rattle.pdl_semantics.specs.Stages.{stage_at, goes_to}
 use Rattle.pdl_rules.specs.Refusal.{KeepsRules}
 use Rattle.pdl_source_stages.specs.Visits.{onward, visited_stages, begun_in, begun_by}
 use Rattle.pdl_source_stages.proofs.Walks.{guard_begun, past_begun, past_all_begun}
-use Rattle.pdl_source_stages.proofs.Shapes.{is_whole, is_forked, is_late, begins_stage, Side, Straight, Runs, long, merge_at, side_leads, shape, side_shape, long_is}
+use Rattle.pdl_source_stages.proofs.Shapes.{is_whole, is_forked, is_late, begins_stage, long, merge_at, side_leads, shape, side_shape, long_is}
 use Rattle.pdl_source_stages.proofs.Spots.{Groups, Sides}
 use Rattle.pdl_source_stages.proofs.BodyShape.{body_forked, body_groups, stage_count}
 use Rattle.pdl_source_stages.proofs.SiteStages.{none_of_whole, fitting, rest_shape, either_shape}
@@ -60,14 +60,10 @@ mutual
 
 -- THE STAGES
 
--- a branch leads to the stage that it enters
-entry_goes : (m j : ℕ) (sd : Side) (env : List ℕ) → Some (entry (side_leads (Flat.Goes m) j sd)) ≡ goes_to (side_leads (Flat.Goes m) j sd) env
-entry_goes m j Straight env = refl
-entry_goes m j (Runs sh) env = refl
-
 mutual
   -- from stage k on a path visits the stages that its separators begin in these statements, and then what the last one leads to
-  visits_from : (p : Flat.Pipe) (env : List ℕ) (ms : List Mem) (d : List Flat.Branch) (exit : Flat.Next) (k : ℕ) (merges : Option ℕ) (w : Flatten.Position) (ss : Stmts)
+  visits_from : (p : Flat.Pipe) (env : List ℕ) (ms : List Mem) (d : List Flat.Branch) (exit : Flat.Next) (k : ℕ) (merges : Option ℕ)
+      (w : Flatten.Position) (ss : Stmts)
       → w.begun ≡ k → is_forked ss ≡ true → Groups p d exit k merges (shape ms ss w) → (fuel rest : ℕ) → fuel ≡ length (begun_by env ms ss w) + rest
       → visited_stages p env (suc fuel) k ≡ k ∷ (begun_by env ms ss w ++ onward (visited_stages p env rest) (goes_to exit env))
   visits_from p env ms d exit k merges w Nil i h g fuel rest f =
@@ -160,7 +156,8 @@ mutual
           l2 : long (side_shape ms otherwise (at_otherwise ms c when w)) ≡ separators otherwise
           l2 = long_is ms otherwise (at_otherwise ms c when w) late.1
 
-          merged : (merge_at k (long (side_shape ms when (with_guard c w))) (long (side_shape ms otherwise (at_otherwise ms c when w)))) ≡ suc (past ms (If sp c when otherwise) w).begun
+          merged : (merge_at k (long (side_shape ms when (with_guard c w))) (long (side_shape ms otherwise (at_otherwise ms c when w))))
+              ≡ suc (past ms (If sp c when otherwise) w).begun
           merged = let a = begun in let x = l1 in let y = l2 in omega arith
 
           -- from the merge on
@@ -179,11 +176,14 @@ mutual
 
           -- the stages of the branch that is taken
           taken : (b : Bool) → (slice_index env (guard_of w.vars c) == 1) ≡ b
-              → begun_in env ms (If sp c when otherwise) w ≡ (if b then begun_by env ms when (with_guard c w) else begun_by env ms otherwise (at_otherwise ms c when w))
+              → begun_in env ms (If sp c when otherwise) w ≡ (if b then begun_by env ms when (with_guard c w) else begun_by env ms otherwise
+              (at_otherwise ms c when w))
           taken b v = ap (λ t. if t then begun_by env ms when (with_guard c w) else begun_by env ms otherwise (at_otherwise ms c when w)) v
 
           through : (b : Bool) → (slice_index env (guard_of w.vars c) == 1) ≡ b → (n r : ℕ) → n ≡ length (begun_in env ms (If sp c when otherwise) w) + r
-              → onward (visited_stages p env n) (goes_to (stage_at p k).next env) ≡ begun_in env ms (If sp c when otherwise) w ++ visited_stages p env r (merge_at k (long (side_shape ms when (with_guard c w))) (long (side_shape ms otherwise (at_otherwise ms c when w))))
+              → onward (visited_stages p env n) (goes_to (stage_at p k).next env) ≡ begun_in env ms (If sp c when otherwise) w
+              ++ visited_stages p env r (merge_at k (long (side_shape ms when (with_guard c w)))
+              (long (side_shape ms otherwise (at_otherwise ms c when w))))
           through true v n r q =
               let z = ap length (taken true v) in
               let b1 = guard_begun c w in

@@ -1,9 +1,9 @@
 -- The stage graph of a body in which each fork is directly followed by a separator, and each branch has one before its first fork: a trunk, from which each fork leads through two branches to its merge; a branch is built as the trunk is.
-use Rattle.std.proofs.Common.{◌≡◌, refl, sym, ap, ap₂, ◌∙◌, ℕ, zero, suc, ◌+◌, Bool, true, false, ◌&&◌, ◌||◌, List, [], ◌∷◌, ◌++◌, Option, Some, None, arith, cond, if◌then◌else◌, ◌==◌, eqb-true}
+use Rattle.std.proofs.Common.{◌≡◌, refl, sym, ap, ap₂, ◌∙◌, ℕ, suc, ◌+◌, Bool, true, false, ◌&&◌, ◌||◌, List, [], ◌∷◌, ◌++◌, Option, Some, None, arith, cond, if◌then◌else◌, ◌==◌, eqb-true}
 use Rattle.std.proofs.lemmas.Bool.{false≢true, and_parts, and_from, or_left}
 use Rattle.pdl_semantics.specs.Tree.{Separator, If, Stmts, Nil, Cons, Mem}
 use Rattle.pdl_semantics.specs.Flat
-use Rattle.pdl_semantics.specs.Flatten.{Var, with_guard, past, past_all, at_otherwise, guard_of, separators_in, separators, graph_before, graph, entry, graph_with_fork, with_merge, side, graph_with_stage}
+use Rattle.pdl_semantics.specs.Flatten.{with_guard, past, at_otherwise, guard_of, separators_in, separators, graph, entry, graph_with_fork, side, graph_with_stage}
 use Rattle.pdl_semantics.specs.Flatten
 use Rattle.pdl_source_stages.proofs.Walks.{past_begun, past_all_begun, guard_begun}
 
@@ -189,15 +189,6 @@ forked d exit x a b f m i j k r =
     graph_with_fork f x (bunch (side f true ∷ d) (Flat.Goes m) i a) (bunch (side f false ∷ d) (Flat.Goes m) j b)
     (record { next = Flat.Goes (suc k); later = stage (leads_on exit (suc k) r) d None ∷ after d exit (suc k) r })
 
-forked_is : (d : List Flat.Branch) (exit : Flat.Next) (x : ℕ) (a b : Side) (f m i j k n : ℕ) (r : Shape)
-    → f ≡ n → m ≡ merge_at n (long a) (long b) → i ≡ n → j ≡ n + long a → k ≡ n + long a + long b
-    → forked d exit x a b f m i j k r ≡ trunk d exit n (Fork x a b r)
-forked_is d exit x a b f m i j k n r e1 e2 e3 e4 e5 =
-    ap (λ u. forked d exit x a b u m i j k r) e1 ∙ ap (λ u. forked d exit x a b n u i j k r) e2
-    ∙ ap (λ u. forked d exit x a b n (merge_at n (long a) (long b)) u j k r) e3
-    ∙ ap (λ u. forked d exit x a b n (merge_at n (long a) (long b)) n u k r) e4
-    ∙ ap (λ u. forked d exit x a b n (merge_at n (long a) (long b)) n (n + long a) u r) e5
-
 mutual
   -- the graph of statements that begin a stage is that of their shape
   pub graph_trunk : (ms : List Mem) (d : List Flat.Branch) (exit : Flat.Next) (ss : Stmts) (w : Flatten.Position)
@@ -214,10 +205,19 @@ mutual
       begun = past_begun ms (If sp c when otherwise) w
 
       at : (b : Bool) → is_whole when otherwise ≡ b → (b || (true && (is_late when && is_late otherwise))) ≡ true
-          → graph ms d exit ss (past ms (Separator sq) (past ms (If sp c when otherwise) w)) ≡ trunk d exit (suc (past ms (If sp c when otherwise) w).begun) (shape ms ss (past ms (Separator sq) (past ms (If sp c when otherwise) w)))
-          → (is_late when ≡ true → graph ms (side w.stage true ∷ d) (Flat.Goes (suc (w.begun + separators when + separators otherwise))) when (with_guard c w) ≡ bunch (side w.stage true ∷ d) (Flat.Goes (suc (w.begun + separators when + separators otherwise))) (with_guard c w).begun (side_shape ms when (with_guard c w)))
-          → (is_late otherwise ≡ true → graph ms (side w.stage false ∷ d) (Flat.Goes (suc (w.begun + separators when + separators otherwise))) otherwise (at_otherwise ms c when w) ≡ bunch (side w.stage false ∷ d) (Flat.Goes (suc (w.begun + separators when + separators otherwise))) (at_otherwise ms c when w).begun (side_shape ms otherwise (at_otherwise ms c when w)))
-          → (if b then graph ms d exit (Cons (Separator sq) ss) (past ms (If sp c when otherwise) w) else graph_with_fork w.stage (guard_of w.vars c) (graph ms (side w.stage true ∷ d) (Flat.Goes (suc (w.begun + separators when + separators otherwise))) when (with_guard c w)) (graph ms (side w.stage false ∷ d) (Flat.Goes (suc (w.begun + separators when + separators otherwise))) otherwise (at_otherwise ms c when w)) (graph ms d exit (Cons (Separator sq) ss) (past ms (If sp c when otherwise) w)))
+          → graph ms d exit ss (past ms (Separator sq) (past ms (If sp c when otherwise) w)) ≡ trunk d exit
+          (suc (past ms (If sp c when otherwise) w).begun) (shape ms ss (past ms (Separator sq) (past ms (If sp c when otherwise) w)))
+          → (is_late when ≡ true → graph ms (side w.stage true ∷ d) (Flat.Goes (suc (w.begun + separators when + separators otherwise))) when
+          (with_guard c w) ≡ bunch (side w.stage true ∷ d) (Flat.Goes (suc (w.begun + separators when + separators otherwise)))
+          (with_guard c w).begun (side_shape ms when (with_guard c w)))
+          → (is_late otherwise ≡ true → graph ms (side w.stage false ∷ d)
+          (Flat.Goes (suc (w.begun + separators when + separators otherwise))) otherwise (at_otherwise ms c when w) ≡ bunch
+          (side w.stage false ∷ d) (Flat.Goes (suc (w.begun + separators when + separators otherwise)))
+          (at_otherwise ms c when w).begun (side_shape ms otherwise (at_otherwise ms c when w)))
+          → (if b then graph ms d exit (Cons (Separator sq) ss) (past ms (If sp c when otherwise) w) else graph_with_fork w.stage
+          (guard_of w.vars c) (graph ms (side w.stage true ∷ d) (Flat.Goes (suc (w.begun + separators when + separators otherwise))) when
+          (with_guard c w)) (graph ms (side w.stage false ∷ d) (Flat.Goes (suc (w.begun + separators when + separators otherwise))) otherwise
+          (at_otherwise ms c when w)) (graph ms d exit (Cons (Separator sq) ss) (past ms (If sp c when otherwise) w)))
           ≡ trunk d exit w.begun
           (cond b (Cut (shape ms ss (past ms (Separator sq) (past ms (If sp c when otherwise) w))))
           (Fork (guard_of w.vars c) (side_shape ms when (with_guard c w)) (side_shape ms otherwise (at_otherwise ms c when w))

@@ -1,5 +1,5 @@
 -- Where the sites of a source stand in its stage graph: under the guards of all branches around their stage.
-use Rattle.std.proofs.Common.{◌≡◌, refl, sym, ap, ap₂, ◌∙◌, subst, ℕ, suc, ◌+◌, ◌≤◌, ◌<◌, ◌⊎◌, inl, inr, Bool, true, false, ◌&&◌, ◌||◌, not, List, [], ◌∷◌, ◌++◌, length, append_assoc, Option, Some, None, arith, cond, ◌==◌, eqb-true}
+use Rattle.std.proofs.Common.{◌≡◌, refl, sym, ap, ◌∙◌, subst, ℕ, suc, ◌+◌, ◌≤◌, ◌<◌, ◌⊎◌, inl, inr, Bool, true, false, ◌&&◌, ◌||◌, not, List, [], ◌∷◌, ◌++◌, length, append_assoc, Option, Some, None, arith, cond, ◌==◌, eqb-true}
 use Rattle.std.proofs.lemmas.Bool.{false≢true, and_parts, or_left, or_right}
 use Rattle.std.proofs.lemmas.List.Folds.{list_any-append}
 use Rattle.std.specs.List.{list_any}
@@ -219,13 +219,16 @@ mutual
           →
           (Forked p d k (guard_of w.vars c) (long (side_shape ms when (with_guard c w))) (long (side_shape ms otherwise (at_otherwise ms c when w)))
           → is_late when ≡ true
-          → Sides p (side k true ∷ d) (Flat.Goes (merge_at k (long (side_shape ms when (with_guard c w))) (long (side_shape ms otherwise (at_otherwise ms c when w))))) k (side_shape ms when (with_guard c w))
+          → Sides p (side k true ∷ d) (Flat.Goes (merge_at k (long (side_shape ms when (with_guard c w)))
+          (long (side_shape ms otherwise (at_otherwise ms c when w))))) k (side_shape ms when (with_guard c w))
           → suc (k + long (side_shape ms when (with_guard c w))) ≤ length p.stages → All (Standing p)
           (sites ms (front ++ Statement (If sp c when otherwise) bs ∷ []) (with_guard c w) (under gs w.vars c true) (bs ++ branch sp c true when ∷ []) when))
           →
           (Forked p d k (guard_of w.vars c) (long (side_shape ms when (with_guard c w))) (long (side_shape ms otherwise (at_otherwise ms c when w)))
           → is_late otherwise ≡ true
-          → Sides p (side k false ∷ d) (Flat.Goes (merge_at k (long (side_shape ms when (with_guard c w))) (long (side_shape ms otherwise (at_otherwise ms c when w))))) (k + long (side_shape ms when (with_guard c w))) (side_shape ms otherwise (at_otherwise ms c when w))
+          → Sides p (side k false ∷ d) (Flat.Goes (merge_at k (long (side_shape ms when (with_guard c w)))
+          (long (side_shape ms otherwise (at_otherwise ms c when w))))) (k + long (side_shape ms when (with_guard c w)))
+          (side_shape ms otherwise (at_otherwise ms c when w))
           → suc (k + long (side_shape ms when (with_guard c w)) + long (side_shape ms otherwise (at_otherwise ms c when w))) ≤ length p.stages
           → (at_otherwise ms c when w).begun
           ≡ k + long (side_shape ms when (with_guard c w)) → All (Standing p)
@@ -280,7 +283,8 @@ mutual
   )
 
   -- each site of a branch stands in the stage k of its fork, or under the guards of the branches around its stage, this one among them
-  side_stands : (p : Flat.Pipe) (ms : List Mem) (d : List Flat.Branch) (y : Flat.Branch) (exit : Flat.Next) (k j : ℕ) (front : List Place) (w : Flatten.Position)
+  side_stands : (p : Flat.Pipe) (ms : List Mem) (d : List Flat.Branch) (y : Flat.Branch) (exit : Flat.Next) (k j : ℕ)
+      (front : List Place) (w : Flatten.Position)
       (gs : List Flat.Guard) (bs : List Branch) (ss : Stmts)
       → Home p d k → w.stage ≡ k → w.begun ≡ j → is_late ss ≡ true → Sides p (y ∷ d) exit j (side_shape ms ss w)
       → suc (j + long (side_shape ms ss w)) ≤ length p.stages → AllGuarded p gs (y ∷ d) → InFork d bs → (0 < separators ss → in_fork bs ≡ true)

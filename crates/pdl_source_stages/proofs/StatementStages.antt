@@ -1,7 +1,7 @@
 -- The stage of a flat statement is the one that the rules speak of: that of the last separator before its place whose branches it stands in too.
-use Rattle.std.proofs.Common.{◌≡◌, refl, sym, ◌∙◌, subst, ℕ, suc, ◌+◌, Bool, true, false, ◌&&◌, ◌||◌, List, [], ◌∷◌, ◌++◌, arith, ◌==◌}
+use Rattle.std.proofs.Common.{◌≡◌, refl, sym, ◌∙◌, subst, suc, ◌+◌, Bool, true, false, ◌&&◌, ◌||◌, List, [], ◌∷◌, ◌++◌, arith}
 use Rattle.std.proofs.lemmas.Bool.{and_parts}
-use Rattle.pdl_semantics.specs.Tree.{Span, Expr, Stmt, Separator, If, Stmts, Nil, Cons, Mem, Pipe}
+use Rattle.pdl_semantics.specs.Tree.{Span, Stmt, Separator, If, Stmts, Nil, Cons, Mem, Pipe}
 use Rattle.pdl_semantics.specs.Flat
 use Rattle.pdl_semantics.specs.Flatten.{with_guard, past, at_otherwise, under, separators_in, separators, at_start}
 use Rattle.pdl_semantics.specs.Flatten

@@ -1,5 +1,5 @@
 -- What stands in the trunk: the stages of reserves, releases and verifies; and a branch's statements under the guards of the branches around it.
-use Rattle.std.proofs.Common.{◌≡◌, refl, sym, ap, ◌∙◌, subst, ℕ, zero, suc, ◌+◌, ◌≤◌, ◌<◌, ◌⊎◌, inl, inr, Bool, true, false, ◌||◌, not, List, [], ◌∷◌, ◌++◌, length, Option, Some, None, unwrap_or, arith, if◌then◌else◌, ◌==◌, nat_lt, slice_index, slice_index_or, ltb-true, ltb-false}
+use Rattle.std.proofs.Common.{◌≡◌, refl, sym, ap, ◌∙◌, subst, ℕ, zero, suc, ◌+◌, ◌≤◌, ◌<◌, ◌⊎◌, inl, inr, Bool, true, false, not, List, [], ◌∷◌, ◌++◌, length, Option, Some, None, unwrap_or, arith, if◌then◌else◌, ◌==◌, nat_lt, slice_index, slice_index_or, ltb-true, ltb-false}
 use Rattle.std.proofs.lemmas.Bool.{false≢true, and_parts, and_from, cases_lt}
 use Rattle.pdl_kit.specs.declared.rule.Rule.TheVariants.{F1}
 use Rattle.pdl_semantics.specs.Tree.{Mem, Pipe}
@@ -12,7 +12,7 @@ use Rattle.pdl_rules.specs.Forks.{is_trunk_only}
 use Rattle.pdl_rules.specs.Refusal.{KeepsRules}
 use Rattle.pdl_theory_derived.specs.Alone.{before, answered_op}
 use Rattle.pdl_theory_facts.specs.Scans.{none_of}
-use Rattle.pdl_theory_facts.specs.Graphs.{Home, Within, Trunk, next_of, stage_or, goes_by, on_side, Graph, Branches}
+use Rattle.pdl_theory_facts.specs.Graphs.{Home, Trunk, next_of, stage_or, goes_by, on_side, Graph, Branches}
 use Rattle.pdl_theory_facts.specs.Facts.{trunk_only, visits_stage, comes_by}
 use Rattle.pdl_theory_facts.proofs.Nested.{not_empty}
 use Rattle.pdl_source_stages.proofs.Sites.{Site, place_of}
@@ -21,7 +21,7 @@ use Rattle.pdl_source_stages.proofs.Spots.{start, many, group_home, Forked, Know
 use Rattle.pdl_source_stages.proofs.Ways.{Step, Ends, Steps, Enters, Skips, Out, step, start_low, start_high, between_in}
 use Rattle.pdl_source_stages.proofs.Ways
 use Rattle.pdl_source_stages.proofs.BodyShape.{body_forked, body_shape, body_groups, stage_count, knows}
-use Rattle.pdl_source_stages.proofs.SiteStages.{Standing, AllGuarded, InFork, HasGuard, in_fork}
+use Rattle.pdl_source_stages.proofs.SiteStages.{AllGuarded, InFork, HasGuard, in_fork}
 use Rattle.pdl_source_stages.proofs.SiteFacts.{Fine, each_fine, each_in_stage, none_each, op_of, op_trunk_only}
 use Rattle.pdl_word.specs.Each.{Each}
 use Rattle.pdl_word.proofs.Each.{each_weaker}

@@ -1,5 +1,5 @@
 -- Where a thread goes from a stage, and the facts of the stage graph and of its branches that follow, in the trunk as in each branch.
-use Rattle.std.proofs.Common.{◌≡◌, refl, sym, ap, ap₂, ◌∙◌, subst, ℕ, zero, suc, ◌+◌, ◌≤◌, ◌<◌, ◌⊎◌, inl, inr, Bool, true, false, not, List, [], ◌∷◌, ◌++◌, length, append_assoc, length-append, Option, Some, None, unwrap_or, arith, if◌then◌else◌, ◌==◌, nat_lt, slice_index, slice_index_or, take, ◌||◌, eqb-true, eq-eqb, ltb-true, ltb-false, lt-ltb}
+use Rattle.std.proofs.Common.{◌≡◌, refl, sym, ap, ◌∙◌, subst, ℕ, zero, suc, ◌+◌, ◌≤◌, ◌<◌, ◌⊎◌, inl, inr, Bool, true, false, not, List, [], ◌∷◌, ◌++◌, length, append_assoc, length-append, Option, Some, None, unwrap_or, arith, if◌then◌else◌, ◌==◌, nat_lt, slice_index, slice_index_or, take, ◌||◌, eqb-true, eq-eqb, ltb-true, lt-ltb}
 use Rattle.std.proofs.lemmas.List.{get_or_past}
 use Rattle.std.proofs.lemmas.Bool.{false≢true, or_left, or_right, cases_lt}
 use Rattle.pdl_semantics.specs.Flat
@@ -158,7 +158,8 @@ module _ (p : Flat.Pipe) (knows : (s : ℕ) → s < length p.stages → Known p 
 
   -- it goes on to a stage of the pipe, or ends
   pub on_or_end : (s : ℕ) (env : List ℕ) → s < length p.stages
-      → ((Trunk p s) × (suc s ≡ length p.stages) × (goes_to (stage_at p s).next env ≡ None)) ⊎ ((n : ℕ) × (goes_to (stage_at p s).next env ≡ Some n) × (s < n) × (n < length p.stages))
+      → ((Trunk p s) × (suc s ≡ length p.stages) × (goes_to (stage_at p s).next env ≡ None))
+      ⊎ ((n : ℕ) × (goes_to (stage_at p s).next env ≡ Some n) × (s < n) × (n < length p.stages))
   on_or_end s env low = at (go s env low)
     where
       at : Step p s env
@@ -206,7 +207,8 @@ module _ (p : Flat.Pipe) (knows : (s : ℕ) → s < length p.stages → Known p 
       → goes_to (stage_at p s).next env ≡ (if nat_lt (next_of p s env) (length p.stages) then Some (next_of p s env) else None)
   leaves s env low = at (on_or_end s env low)
     where
-      at : ((Trunk p s) × (suc s ≡ length p.stages) × (goes_to (stage_at p s).next env ≡ None)) ⊎ ((n : ℕ) × (goes_to (stage_at p s).next env ≡ Some n) × (s < n) × (n < length p.stages))
+      at : ((Trunk p s) × (suc s ≡ length p.stages) × (goes_to (stage_at p s).next env ≡ None))
+          ⊎ ((n : ℕ) × (goes_to (stage_at p s).next env ≡ Some n) × (s < n) × (n < length p.stages))
           → goes_to (stage_at p s).next env ≡ (if nat_lt (next_of p s env) (length p.stages) then Some (next_of p s env) else None)
       at (inl h) = h.2 ∙ by (nat_lt (next_of p s env) (length p.stages)) refl
         where

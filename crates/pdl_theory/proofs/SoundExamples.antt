@@ -37,7 +37,10 @@ guess_kept_sounds : passes_tests (flat guess_kept) ≡ true
 guess_kept_sounds = refl
 
 -- a read of an advisory memory that isn't one of advice fails
-advice_read_fails : passes_tests (record (flat guess_learnt) { stmts = record { stage = 0; guards = []; op = CombRead 0 0 0 } ∷ (flat guess_learnt).stmts }) ≡ false
+advice_read_fails : passes_tests (record (flat guess_learnt) {
+  stmts =
+      record { stage = 0; guards = []; op = CombRead 0 0 0 } ∷ (flat guess_learnt).stmts;
+}) ≡ false
 advice_read_fails = refl
 
 far_barrier_sounds : passes_tests (flat far_barrier) ≡ true

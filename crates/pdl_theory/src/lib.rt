@@ -11,6 +11,7 @@ ghost use Rattle.pdl_semantics.specs.Sequential.{threads};
 ghost use Rattle.pdl_semantics.specs.Lines.{run_lines, sequential_lines};
 ghost use Rattle.pdl_semantics.specs.Cycle.{first, turns};
 ghost use Rattle.pdl_semantics.specs.Promises.{Refines, Advances, KeepsPace, DifferInAdvice, AdviceIsIdle};
+ghost use Rattle.pdl_semantics.specs.Updates.{WritesAlike, CommitsAlike, not_updated};
 ghost use Rattle.pdl_theory_facts.specs.Facts.{Sound};
 ghost use Rattle.pdl_theory_facts.specs.SoundChecks.{passes_tests};
 ghost use Rattle.pdl_theory_derived.specs.Alone;
@@ -40,6 +41,14 @@ pub fn simulation()
 pub fn advice()
     ensures { (p : Pipe) → Sound p → (image other : Arrays) (schedule replies : List (List Bool)) →
         DifferInAdvice p image other → AdviceIsIdle p image other schedule replies }
+{}
+
+/// Updates change nothing but how soon: without them the threads of a pipe write the same, and what is committed with them and without them, each with any replies, begins one list.
+pub fn updates()
+    ensures writes { (p : Pipe) → (image : Arrays) → WritesAlike p image }
+    ensures commits { (p : Pipe) → Sound p → Sound (not_updated p) →
+        (image : Arrays) (schedule replies : List (List Bool)) →
+        CommitsAlike p image schedule replies }
 {}
 
 /// Both theorems for the machine that the proofs use, in the whole language, whatever its threads guess.

@@ -22,7 +22,8 @@ places_moved e [] = refl
 places_moved e (f ∷ es) = at (f.mem == e.mem) (places_moved f es) (places_moved e es)
   where
     at : (b : Bool) → places (moved_up f es) ≡ places es → places (moved_up e es) ≡ places es
-        → places (cond b (record f { address = e.address; value = e.value } ∷ moved_up f es) (f ∷ moved_up e es)) ≡ record { mem = f.mem; var = f.var } ∷ places es
+        → places (cond b (record f { address = e.address; value = e.value } ∷ moved_up f es) (f ∷ moved_up e es))
+        ≡ record { mem = f.mem; var = f.var } ∷ places es
     at true h k = ap (λ l. record { mem = f.mem; var = f.var } ∷ l) h
     at false h k = ap (λ l. record { mem = f.mem; var = f.var } ∷ l) k
 
@@ -80,7 +81,18 @@ module _ (o : Around) (read : ℕ → ℕ → ℕ) (block : Blocked → Bool) (f
   -- the work with these deeds, pending writes and commits
   abbrev pub work_of : Deeds → List Entry → List Commit → Work
   work_of d es cs =
-      record { env = d.env; entries = es; guess = d.guess; asks = d.asks; reserves = d.reserves; commits = cs; child = d.child; fails = d.fails; ready = all_ready d }
+      record {
+        env = d.env;
+        entries = es;
+        guess = d.guess;
+        asks = d.asks;
+        reserves = d.reserves;
+        commits = cs;
+        child =
+            d.child;
+        fails = d.fails;
+        ready = all_ready d;
+      }
 
   -- the work and the deeds of the same statements
   pub record Told (d : Deeds) (w : Work) : Type 0 where

@@ -183,13 +183,6 @@ abbrev pub told : ℕ → List Full → List Commit
 told m [] = []
 told m (f ∷ fs) = told m fs ++ write_of m f.address f.value ∷ []
 
--- those without a value in front of others are all of m
-pub waiting_own : (m : ℕ) (os : List Open) (es : List Entry) → entries_of m (waiting m os ++ es) ≡ waiting m os ++ entries_of m es
-waiting_own m [] es = refl
-waiting_own m (o ∷ os) es =
-    ap (λ b. cond b (entry m o.var o.address None ∷ entries_of m (waiting m os ++ es)) (entries_of m (waiting m os ++ es))) (eq-eqb m m refl)
-    ∙ ap (λ l. entry m o.var o.address None ∷ l) (waiting_own m os es)
-
 -- the last of a list, where it has one
 abbrev pub last_or : {X : Type 0} → X → List X → X
 last_or x [] = x
@@ -326,7 +319,8 @@ released_full m a (f ∷ fs) h = at (f.var == a) refl (λ k. released_full m a f
 
 -- locations without a value stay
 pub released_behind : (m a : ℕ) (os : List Open) (es : List Entry) → is_among a (open_vars os) ≡ false
-    → (without (waiting m os ++ es) m a ≡ waiting m os ++ without es m a) × (released_commits (waiting m os ++ es) m a ≡ released_commits es m a) × (has_entry (waiting m os ++ es) m a ≡ has_entry es m a)
+    → (without (waiting m os ++ es) m a ≡ waiting m os ++ without es m a) × (released_commits (waiting m os ++ es) m a ≡ released_commits es m a)
+    × (has_entry (waiting m os ++ es) m a ≡ has_entry es m a)
 released_behind m a [] es h = (refl, refl, refl)
 released_behind m a (o ∷ os) es h = at (o.var == a) refl (λ k. released_behind m a os es k)
   where
@@ -338,7 +332,8 @@ released_behind m a (o ∷ os) es h = at (o.var == a) refl (λ k. released_behin
     off false = refl
 
     at : (b : Bool) → (o.var == a) ≡ b
-        → (is_among a (open_vars os) ≡ false → (without (waiting m os ++ es) m a ≡ waiting m os ++ without es m a) × (released_commits (waiting m os ++ es) m a ≡ released_commits es m a) × (has_entry (waiting m os ++ es) m a ≡ has_entry es m a))
+        → (is_among a (open_vars os) ≡ false → (without (waiting m os ++ es) m a ≡ waiting m os ++ without es m a)
+        × (released_commits (waiting m os ++ es) m a ≡ released_commits es m a) × (has_entry (waiting m os ++ es) m a ≡ has_entry es m a))
         → (cond ((m == m) && (o.var == a)) (moved_up e (waiting m os ++ es)) (e ∷ without (waiting m os ++ es) m a) ≡ e ∷ waiting m os ++ without es m a)
         ×
         (cond ((m == m) && (o.var == a))

@@ -72,7 +72,8 @@ put_all_front m n (w ∷ ws) xs ys h = at (w.mem == m) (put_all_front m n ws xs 
     at : (b : Bool)
         → with_writes_of m n ws (xs ++ with_value_of n w.var w.value ys) ≡ xs ++ with_writes_of m n ws (with_value_of n w.var w.value ys)
         → with_writes_of m n ws (xs ++ ys) ≡ xs ++ with_writes_of m n ws ys
-        → with_writes_of m n ws (cond b (with_value_of n w.var w.value (xs ++ ys)) (xs ++ ys)) ≡ xs ++ with_writes_of m n ws (cond b (with_value_of n w.var w.value ys) ys)
+        → with_writes_of m n ws (cond b (with_value_of n w.var w.value (xs ++ ys)) (xs ++ ys)) ≡ xs ++ with_writes_of m n ws
+        (cond b (with_value_of n w.var w.value ys) ys)
     at true f g =
         ap (with_writes_of m n ws) (put_append n w.var w.value xs ys ∙ ap (λ l. l ++ with_value_of n w.var w.value ys) (put_foreign n w.var w.value xs h)) ∙ f
     at false f g = g
@@ -85,7 +86,8 @@ put_all_back m n (w ∷ ws) xs ys h = at (w.mem == m) (put_all_back m n ws (with
     at : (b : Bool)
         → with_writes_of m n ws (with_value_of n w.var w.value xs ++ ys) ≡ with_writes_of m n ws (with_value_of n w.var w.value xs) ++ ys
         → with_writes_of m n ws (xs ++ ys) ≡ with_writes_of m n ws xs ++ ys
-        → with_writes_of m n ws (cond b (with_value_of n w.var w.value (xs ++ ys)) (xs ++ ys)) ≡ with_writes_of m n ws (cond b (with_value_of n w.var w.value xs) xs) ++ ys
+        → with_writes_of m n ws (cond b (with_value_of n w.var w.value (xs ++ ys)) (xs ++ ys)) ≡ with_writes_of m n ws
+        (cond b (with_value_of n w.var w.value xs) xs) ++ ys
     at true f g =
         ap (with_writes_of m n ws) (put_append n w.var w.value xs ys ∙ ap (λ l. with_value_of n w.var w.value xs ++ l) (put_foreign n w.var w.value ys h)) ∙ f
     at false f g = g

@@ -80,7 +80,8 @@ guess_ports : all_true
 unfolding add slice zext
 guess_ports = refl
 
-advice_ports : all_true (both_agree guess_learnt (zeros ∷ zeros ∷ []) (idle 14) ∷ both_agree guess_learnt ((2 ∷ 0 ∷ 2 ∷ 0 ∷ []) ∷ zeros ∷ []) (idle 12) ∷ both_agree guess_kept (zeros ∷ zeros ∷ []) (idle 14) ∷ both_agree guess_kept ((2 ∷ 0 ∷ 0 ∷ 0 ∷ []) ∷ zeros ∷ []) (idle 12) ∷ []) ≡ true
+advice_ports : all_true (both_agree guess_learnt (zeros ∷ zeros ∷ []) (idle 14) ∷ both_agree guess_learnt ((2 ∷ 0 ∷ 2 ∷ 0 ∷ []) ∷ zeros ∷ [])
+    (idle 12) ∷ both_agree guess_kept (zeros ∷ zeros ∷ []) (idle 14) ∷ both_agree guess_kept ((2 ∷ 0 ∷ 0 ∷ 0 ∷ []) ∷ zeros ∷ []) (idle 12) ∷ []) ≡ true
 unfolding add slice zext
 advice_ports = refl
 

@@ -1,5 +1,5 @@
 -- The locations of a phase without a value are others than those with one and than those that are released.
-use Rattle.std.proofs.Common.{◌≡◌, refl, sym, ap, ap₂, ◌∙◌, ℕ, suc, ◌+◌, length, arith, Bool, true, false, ◌&&◌, ◌||◌, not, List, [], ◌∷◌, ◌==◌, cond, if◌then◌else◌}
+use Rattle.std.proofs.Common.{◌≡◌, refl, sym, ap, ◌∙◌, ℕ, suc, ◌+◌, length, arith, Bool, true, false, ◌&&◌, ◌||◌, not, List, [], ◌∷◌, ◌==◌, cond, if◌then◌else◌}
 use Rattle.std.proofs.lemmas.Bool.{eqb-true}
 use Rattle.pdl_theory_derived.specs.Alone.{is_among, is_oldest, drop_var, but_last}
 use Rattle.pdl_theory_derived.proofs.Writes.{and_left, and_right}
@@ -112,6 +112,16 @@ pub oldest_length : (a : ℕ) (xs : List ℕ) → is_oldest a xs ≡ true → le
 oldest_length a [] h = absurd (cc h)
 oldest_length a (x ∷ []) h = refl
 oldest_length a (x ∷ y ∷ ys) h = let e = oldest_length a (y ∷ ys) (and_right (not (x == a)) _ h) in omega arith
+
+-- the oldest of some variables is among them
+pub oldest_among : (a : ℕ) (xs : List ℕ) → is_oldest a xs ≡ true → is_among a xs ≡ true
+oldest_among a [] h = absurd (cc h)
+oldest_among a (x ∷ []) h = ap (λ b. b || false) h
+oldest_among a (x ∷ y ∷ ys) h = at (x == a) h (oldest_among a (y ∷ ys))
+  where
+    at : (b : Bool) → (not b && is_oldest a (y ∷ ys)) ≡ true → (is_oldest a (y ∷ ys) ≡ true → is_among a (y ∷ ys) ≡ true) → (b || is_among a (y ∷ ys)) ≡ true
+    at true k f = refl
+    at false k f = f k
 
 -- without one of them there is one fewer
 pub drop_length : (a : ℕ) (xs : List ℕ) → is_among a xs ≡ true → length (drop_var a xs) + 1 ≡ length xs

@@ -226,7 +226,8 @@ module _ (p : Pipe) (h : Parts p) where
         (and_right (all_at (is_release m) (commit_stage p m) xs) _ (and_right (all_at (is_reserve m) (reserve_stage p m) xs) _ (mem_rest m low))) e)
         (λ past. no_release m _ (onpath path p.stmts) path_known past)
 
-    after_mems : (makings_ok (verify_stage p.stmts) Unmade xs && (is_made (making_all Unmade xs) && (checks_apart None xs && all_sure (verify_stage p.stmts) false no_scan xs))) ≡ true
+    after_mems : (makings_ok (verify_stage p.stmts) Unmade xs && (is_made (making_all Unmade xs)
+        && (checks_apart None xs && all_sure (verify_stage p.stmts) false no_scan xs))) ≡ true
     after_mems = and_right (all_below (mem_passes p xs) (length p.mems)) _ after_reads
 
     -- a path makes the next thread in order: by one call, or by one guess and its verify

@@ -1,5 +1,5 @@
 -- WHAT IS TAKEN OF AN ACCEPTED PIPE OF THE WHOLE LANGUAGE: facts that the rules of the language give, of its text, of its stage graph, and of the statements of each path.
-use Rattle.std.specs.Prelude.{◌≡◌, ℕ, suc, ◌≤◌, ◌<◌, Bool, true, false, ◌&&◌, ◌||◌, not, List, [], ◌∷◌, Option, Some, None, ◌==◌, length, nat_lt, nat_le, slice_index}
+use Rattle.std.specs.Prelude.{◌≡◌, ℕ, suc, ◌≤◌, ◌<◌, Bool, true, false, ◌&&◌, ◌||◌, not, List, [], ◌∷◌, Some, ◌==◌, length, nat_lt, nat_le, slice_index}
 use Rattle.pdl_semantics.specs.Flat.{list_all, Op, Bind, CombRead, DelayedRead, Write, ReserveRead, ReserveWrite, Block, Release, Call, SpecCall, Verify, SpecCheck, SpecBarrier, AdviceBind, AdviceRead, AdviceWrite, Expr, Constant, Variable, Slice, Not, Binary, Cat, LessSigned, ZeroExtend, SignExtend, Choose, Guard, Stmt, Forks, Branch, Pipe}
 use Rattle.pdl_semantics.specs.Forms.{on_delayed_read}
 use Rattle.pdl_semantics.specs.Stages.{is_inside, is_reserve, is_verify, onpath, in_stage, stage_at, mem_at, verify_stage, commit_stage, reserve_stage}
@@ -33,7 +33,7 @@ abbrev pub uses_any : ℕ → List Expr → Bool
 uses_any x [] = false
 uses_any x (e ∷ es) = uses_in x e || uses_any x es
 
--- whether a statement binds a variable or uses its value
+-- whether a statement binds a variable or uses its value; advisory statements, by which no path and no lock is told, are left out
 abbrev pub mentions_var : ℕ → Op → Bool
 mentions_var x (Bind y e) = (y == x) || uses_in x e
 mentions_var x (CombRead y m a) = (y == x) || (a == x)

@@ -7,7 +7,6 @@ use Rattle.pdl_theory_derived.proofs.Writes.{and_left, and_right}
 use Rattle.pdl_theory_facts.specs.Graphs.{Home, Within}
 use Rattle.pdl_theory_facts.specs.SoundChecks.{same_branch, same_branches, is_home, has_outer, is_within, all_outer}
 use Rattle.pdl_theory_progress.proofs.TestedPaths.{or_more}
-use Rattle.pdl_word.proofs.Bools.{by_or}
 
 same_is : (b c : Branch) → same_branch b c ≡ true → b ≡ c
 same_is b c h =
@@ -47,20 +46,10 @@ home_is p c s h = branches_are (stage_at p s).branches c h
 pub is_home_of : (p : Pipe) (c : List Branch) (s : ℕ) → Home p c s → is_home p c s ≡ true
 is_home_of p c s h = are_branches (stage_at p s).branches c h
 
-outer_is : (bs c : List Branch) → has_outer bs c ≡ true → (inner : List Branch) × (bs ≡ inner ++ c)
-outer_is [] c h = ([], branches_are [] c h)
-outer_is (b ∷ bs) c h =
-    by_or (same_branches (b ∷ bs) c) (has_outer bs c) _ h (λ k. ([], branches_are (b ∷ bs) c k))
-    (λ k. let r = outer_is bs c k in (b ∷ r.0, ap (λ l. b ∷ l) r.1))
-
 is_outer : (inner c : List Branch) → has_outer (inner ++ c) c ≡ true
 is_outer [] [] = refl
 is_outer [] (x ∷ c) = ap (λ b. b || has_outer c (x ∷ c)) (same_self (x ∷ c))
 is_outer (y ∷ ys) c = or_more (same_branches (y ∷ (ys ++ c)) c) (is_outer ys c)
-
--- a stage that passes the test stands within these branches
-pub within_is : (p : Pipe) (c : List Branch) (s : ℕ) → is_within p c s ≡ true → Within p c s
-within_is p c s h = outer_is (stage_at p s).branches c h
 
 -- a stage within these branches passes it
 pub is_within_of : (p : Pipe) (c : List Branch) (s : ℕ) → Within p c s → is_within p c s ≡ true

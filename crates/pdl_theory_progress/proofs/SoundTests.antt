@@ -1,8 +1,8 @@
 -- A pipe that passes the tests of the whole language has the facts that the theorems take.
-use Rattle.std.proofs.Common.{◌≡◌, refl, sym, ap, ap₂, ◌∙◌, subst, ℕ, zero, suc, ◌-◌, ◌≤◌, ◌<◌, ◌⊎◌, inl, inr, Bool, true, false, ◌&&◌, ◌||◌, not, List, [], ◌∷◌, ◌++◌, length, Option, Some, None, is_none, nat_lt, nat_le, ◌==◌, cond, if◌then◌else◌, arith, slice_index, replicate, ltb-true, ltb-false, leb-true, lt-ltb, le_refl, eq-eqb}
+use Rattle.std.proofs.Common.{◌≡◌, refl, sym, ap, ap₂, ◌∙◌, subst, ℕ, zero, suc, ◌-◌, ◌≤◌, ◌<◌, ◌⊎◌, inl, inr, Bool, true, false, ◌&&◌, ◌||◌, not, List, [], ◌∷◌, ◌++◌, length, Option, Some, None, nat_lt, nat_le, ◌==◌, cond, if◌then◌else◌, arith, slice_index, replicate, ltb-true, ltb-false, leb-true, lt-ltb, le_refl, eq-eqb}
 use Rattle.std.proofs.lemmas.Bool.{eqb-true, ne_eqb, not-true}
 use Rattle.pdl_semantics.specs.Flat.{list_all, Op, DelayedRead, Stmt, Guard, Next, Ends, Goes, Forks, Branch, Stage, Pipe, start_env}
-use Rattle.pdl_semantics.specs.Stages.{onpath, in_stage, stage_at, last_stage, list_any, is_inside, is_reserve, mem_at, goes_to, commit_stage, reserve_stage, verify_stage, fork_guards}
+use Rattle.pdl_semantics.specs.Stages.{onpath, in_stage, stage_at, last_stage, list_any, is_inside, is_reserve, mem_at, goes_to, commit_stage, reserve_stage, fork_guards}
 use Rattle.pdl_semantics.specs.Sound.{all_below, stages_from, is_fetch}
 use Rattle.pdl_theory_derived.specs.Alone.{before, answered_op}
 use Rattle.pdl_theory_facts.specs.Scans.{none_of, all_at, binds_var}
@@ -16,7 +16,7 @@ use Rattle.pdl_theory_facts.specs.Facts.{DifferIn, looked_all, is_unseen, fetch_
 use Rattle.pdl_theory_facts.specs.Checks.{guard_vars}
 use Rattle.pdl_theory_facts.specs.SoundChecks.{none_hangs, blind_passes, is_last_of, merge_sound, branch_whole, forks_whole, verifies_at, nexts_of, nexts, is_trunk, same_branches, is_home, is_within, all_outer, leads_in, any_below, is_passed, is_in_merge, stays, is_entered, merges_it, is_left, is_way, next_passes, branch_passes, side_is, no_side, side_passes, stage_sound, fork_sound, none_between, skip_passes, all_guards, fetch_stage, fetch_sound, tests, passes_tests}
 use Rattle.pdl_theory_derived.proofs.Writes.{and_left, and_right}
-use Rattle.pdl_theory_facts.proofs.Texts.{below_at, past_end, none_there, where_true, no_reserve}
+use Rattle.pdl_theory_facts.proofs.Texts.{below_at, past_end, where_true, no_reserve}
 use Rattle.pdl_theory_facts.proofs.Passes.{known, reserves, pathwise_paths, parts_paths, reserve_past, commit_past}
 use Rattle.pdl_theory_progress.proofs.Rates.{picks, among, among_append, fork_among}
 use Rattle.pdl_theory_progress.proofs.TestedPaths.{clash, or_more, all_picks, Agree, path_agree, between_none, AllTrue, parts, agree_picks, hangs_none, before_among, all_same}
@@ -140,7 +140,8 @@ module _ (p : Pipe) (h : passes_tests p ≡ true) where
 
   last : (s : ℕ) (env : List ℕ) → s < length p.stages → next_of p s env ≡ length p.stages → Trunk p s × (suc s ≡ length p.stages)
   last s env low e =
-      let k = where_true (next_of p s env == length p.stages) _ (and_left (not (next_of p s env == length p.stages) || (is_trunk p s && (suc s == length p.stages))) _ (after_jump s env low)) (eq-eqb _ _ e) in
+      let k = where_true (next_of p s env == length p.stages) _ (and_left
+      (not (next_of p s env == length p.stages) || (is_trunk p s && (suc s == length p.stages))) _ (after_jump s env low)) (eq-eqb _ _ e) in
       (trunk_is p s (and_left (is_trunk p s) _ k), eqb-true _ _ (and_right (is_trunk p s) _ k))
 
   after_last : (s : ℕ) (env : List ℕ) → s < length p.stages
@@ -154,11 +155,14 @@ module _ (p : Pipe) (h : passes_tests p ≡ true) where
       → next_of p s env < length p.stages → Below p c b s → Within p c b → b < next_of p s env
       → (f : ℕ) × ((stage_at p (next_of p s env)).merges ≡ Some f) × (is_inside p f b ≡ true)
   between c s env b low here t i bel there j =
-      let k = where_true (is_within p (stage_at p (next_of p s env)).branches b) _ (below_at (λ b. not (is_within p (stage_at p (next_of p s env)).branches b) || (is_passed p (stage_at p (next_of p s env)).branches s b || is_in_merge p (stage_at p (next_of p s env)).merges b)) (next_of p s env) b
+      let k = where_true (is_within p (stage_at p (next_of p s env)).branches b) _
+      (below_at (λ b. not (is_within p (stage_at p (next_of p s env)).branches b)
+      || (is_passed p (stage_at p (next_of p s env)).branches s b || is_in_merge p (stage_at p (next_of p s env)).merges b)) (next_of p s env) b
       (and_left (all_below
       (λ b. not (is_within p (stage_at p (next_of p s env)).branches b) ||
       (is_passed p (stage_at p (next_of p s env)).branches s b || is_in_merge p
-      (stage_at p (next_of p s env)).merges b)) (next_of p s env)) _ (after_last s env low)) j) (is_within_of p (stage_at p (next_of p s env)).branches b (subst (λ l. Within p l b) (sym t) there)) in
+      (stage_at p (next_of p s env)).merges b)) (next_of p s env)) _ (after_last s env low)) j)
+      (is_within_of p (stage_at p (next_of p s env)).branches b (subst (λ l. Within p l b) (sym t) there)) in
       by_or (is_passed p (stage_at p (next_of p s env)).branches s b) _ _ k
       (λ q. absurd (any_at (λ r. is_home p (stage_at p (next_of p s env)).branches r && nat_le b r) (suc s) ⊥ q
       (λ r r_low both.
@@ -364,7 +368,8 @@ module _ (p : Pipe) (h : passes_tests p ≡ true) where
       (λ t. inl (eqb-true _ _ (and_left (s == f) _ t), branches_are _ _ (and_right (s == f) _ t))) (λ t. inr (last_of (stage_at p s).branches refl t))
     where
       last_of : (l : List Branch) → (stage_at p s).branches ≡ l → is_last_of p s f (next_of p s env) l ≡ true
-          → (x : Branch) × ((stage_at p s).branches ≡ x ∷ (stage_at p (next_of p s env)).branches) × (x.fork ≡ f) × ((b : ℕ) → Within p (x ∷ (stage_at p (next_of p s env)).branches) b → b ≤ s)
+          → (x : Branch) × ((stage_at p s).branches ≡ x ∷ (stage_at p (next_of p s env)).branches) × (x.fork ≡ f)
+          × ((b : ℕ) → Within p (x ∷ (stage_at p (next_of p s env)).branches) b → b ≤ s)
       last_of [] i t = absurd (cc t)
       last_of (x ∷ c) i t =
           let same : c
@@ -482,7 +487,10 @@ module _ (p : Pipe) (h : passes_tests p ≡ true) where
       let t = all_picks (skip_passes p) path (all_guards p) (start_env p []) all.1.1.1.1.1.1.1.0 in
       let k : none_between (suc s) (next_of p s path) (onpath path p.stmts) ≡ true =
       (λ i. none_between (suc s) (sym (next_same path s) i) (sym (path_same path) i))
-      ∙ where_true (visits_stage p (picks path (all_guards p) (start_env p [])) s) _ (below_at (λ s. not (visits_stage p (picks path (all_guards p) (start_env p [])) s) || none_between (suc s) (next_of p s (picks path (all_guards p) (start_env p []))) (onpath (picks path (all_guards p) (start_env p [])) p.stmts)) (length p.stages) s t low) (visits_same path s ∙ on) in
+      ∙ where_true (visits_stage p (picks path (all_guards p) (start_env p [])) s) _
+      (below_at (λ s. not (visits_stage p (picks path (all_guards p) (start_env p [])) s) || none_between (suc s)
+      (next_of p s (picks path (all_guards p) (start_env p []))) (onpath (picks path (all_guards p) (start_env p [])) p.stmts))
+      (length p.stages) s t low) (visits_same path s ∙ on) in
       between_none (suc s) (next_of p s path) (onpath path p.stmts) (up s path low) k
 
   -- DELAYED READS
@@ -584,5 +592,7 @@ module _ (p : Pipe) (h : passes_tests p ≡ true) where
         fetch_unseen = in_each is_unseen refl all.1.1.1.1.1.1.1.1.1.1.0;
         fetch_alone = in_each fetch_apart refl all.1.1.1.1.1.1.1.1.1.1.1.0;
         advice = all.1.1.1.1.1.1.1.1.1.1.1.1.1.1.1.1.1.1.0;
-        fetch_inside = λ s e. where_true (suc s == length p.stages) _ (below_at (λ s. not (suc s == length p.stages) || none_of is_fetch (in_stage s p.stmts)) (length p.stages) s all.1.1.1.1.1.1.1.1.1.1.1.1.1.1.1.1.0 (omega arith)) (eq-eqb _ _ e);
+        fetch_inside = λ s e. where_true (suc s == length p.stages) _ (below_at
+            (λ s. not (suc s == length p.stages) || none_of is_fetch (in_stage s p.stmts)) (length p.stages) s all.1.1.1.1.1.1.1.1.1.1.1.1.1.1.1.1.0
+            (omega arith)) (eq-eqb _ _ e);
       }

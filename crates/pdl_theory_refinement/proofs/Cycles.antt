@@ -2,7 +2,7 @@
 use Rattle.std.proofs.Common.{◌≡◌, ◌≢◌, refl, sym, ap, ap₂, ◌∙◌, subst, ℕ, ◌≤◌, ◌<◌, ◌⊎◌, inl, inr, Bool, true, false, ◌&&◌, ◌||◌, not, List, [], ◌∷◌, ◌++◌, length, Option, Some, None, ◌==◌, nat_lt, cond, arith, append_assoc, is_none, is_some}
 use Rattle.std.proofs.lemmas.Bool.{eqb-true, eqb-false}
 use Rattle.std.proofs.Common.{ltb-false, lt-ltb, le_of_eq, le_refl, le_of_lt, lt_of_lt_of_le}
-use Rattle.pdl_semantics.specs.Flat.{Arrays, Pipe, Branch, of_mem, list_all, start_env}
+use Rattle.pdl_semantics.specs.Flat.{Arrays, Pipe, of_mem, list_all, start_env}
 use Rattle.pdl_semantics.specs.Stages.{stage_at, mem_at, goes_to, commit_stage, reserve_stage}
 use Rattle.pdl_semantics.specs.Locks.{Nothing}
 use Rattle.pdl_semantics.specs.Machine.{Ask, Awaited, is_answered}
@@ -245,7 +245,8 @@ module _ (p : Pipe) (acc : Course p) (image : Arrays) (st : State) (bits : List 
     pub head_stands : (ts : List Thread) → (act p st bits older (seat p world args sp)).moves ≡ false
         → Now past past' d (act p st bits older (seat p world args sp) ∷ acts p st bits (act p st bits older (seat p world args sp) ∷ older) ts)
         → NowAsks all asks (act p st bits older (seat p world args sp) ∷ acts p st bits (act p st bits older (seat p world args sp) ∷ older) ts)
-        → ((m : ℕ) → (sp.stage ≤ commit_stage p m) ⊎ Unsure p acc.v ahead → of_mem m (commits_of (acts p st bits (act p st bits older (seat p world args sp) ∷ older) ts)) ≡ [])
+        → ((m : ℕ) → (sp.stage ≤ commit_stage p m) ⊎ Unsure p acc.v ahead → of_mem m
+        (commits_of (acts p st bits (act p st bits older (seat p world args sp) ∷ older) ts)) ≡ [])
         → Here p acc (next_asks p bits all 0 st.asked) past' w v' world args ahead' (now_spot p st bits sp) last
     head_stands ts stays now nowa quiet =
         record {
@@ -358,7 +359,8 @@ module _ (p : Pipe) (acc : Course p) (image : Arrays) (st : State) (bits : List 
       pub head_moves : (ts : List Thread) (last' : Bool)
           → Now past past' d (act p st bits older (seat p world args sp) ∷ acts p st bits (act p st bits older (seat p world args sp) ∷ older) ts)
           → NowAsks all asks (act p st bits older (seat p world args sp) ∷ acts p st bits (act p st bits older (seat p world args sp) ∷ older) ts)
-          → ((m : ℕ) → (sp.stage ≤ commit_stage p m) ⊎ Unsure p acc.v ahead → of_mem m (commits_of (acts p st bits (act p st bits older (seat p world args sp) ∷ older) ts)) ≡ [])
+          → ((m : ℕ) → (sp.stage ≤ commit_stage p m) ⊎ Unsure p acc.v ahead → of_mem m
+          (commits_of (acts p st bits (act p st bits older (seat p world args sp) ∷ older) ts)) ≡ [])
           → right_guess (so_far p world args (next_at p world args sp.stage)).child (thread p world.words args).next ≡ not last'
           → Here p acc (next_asks p bits all 0 st.asked) past' w v' world args ahead' (moved_spot p world args sp.stage) last'
       head_moves ts last' now nowa quiet linked =

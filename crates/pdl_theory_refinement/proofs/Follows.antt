@@ -1,10 +1,10 @@
 -- Every run of the derived machine refines the sequential run, and its oldest thread moves, in the whole language.
-use Rattle.std.proofs.Common.{◌≡◌, refl, sym, ap, ap₂, ◌∙◌, subst, ℕ, zero, suc, ◌+◌, ◌≤◌, ◌<◌, ◌⊎◌, inl, inr, Bool, true, false, ◌||◌, not, List, [], ◌∷◌, ◌++◌, length, Option, Some, None, is_some, nat_lt, cond, if◌then◌else◌, arith, append-nil, append_assoc, add-zero, le_refl, le_of_lt, zero-add, ltb-true, ltb-false, lt-ltb}
+use Rattle.std.proofs.Common.{◌≡◌, refl, sym, ap, ap₂, ◌∙◌, subst, ℕ, zero, suc, ◌+◌, ◌≤◌, ◌<◌, ◌⊎◌, inl, inr, Bool, true, false, ◌||◌, not, List, [], ◌∷◌, ◌++◌, length, Option, None, is_some, nat_lt, cond, if◌then◌else◌, arith, append-nil, append_assoc, add-zero, le_refl, le_of_lt, zero-add, ltb-true, ltb-false, lt-ltb}
 use Rattle.std.specs.List.{AllByRecursion, IsDistinct, list_any}
 use Rattle.std.proofs.lemmas.Map.Steps.{length-le_from_distinct_below}
 use Rattle.std.proofs.lemmas.Bool.{eqb-true, ne_eqb}
 use Rattle.std.proofs.Common.{eqb}
-use Rattle.pdl_semantics.specs.Flat.{Arrays, Pipe, Mem, Branch, Commit, of_mem, after_commits}
+use Rattle.pdl_semantics.specs.Flat.{Arrays, Pipe, Mem, Commit, of_mem, after_commits}
 use Rattle.pdl_semantics.specs.Stages.{mem_at, commit_stage}
 use Rattle.pdl_semantics.specs.Cycle.{awaited_of}
 use Rattle.pdl_semantics.specs.Machine.{Ask}
@@ -352,7 +352,8 @@ module _ (p : Pipe) (acc : Course p) where
       (thread p arrays args).arrays (thread p arrays args).next (sp.stage ∷ ahead) sps f h.1)
     where
       at : (b : Bool) → nat_lt (commit_stage p m) sp.stage ≡ b
-          → (v m ++ marks p (with_guess arrays sp.hint) args sp.stage m ≡ [] → (rest : List Commit) × ((w m ++ of_mem m (thread p arrays args).writes) ++ rest ≡ past m))
+          → (v m ++ marks p (with_guess arrays sp.hint) args sp.stage m ≡ [] → (rest : List Commit)
+          × ((w m ++ of_mem m (thread p arrays args).writes) ++ rest ≡ past m))
           → (rest : List Commit) × (w m ++ rest ≡ past m)
       at true f k =
           let r = k (ap₂ (λ l c. l ++ c) e (acc.marks_late (with_guess arrays sp.hint) args sp.stage m (ltb-true _ _ f))) in

@@ -175,7 +175,8 @@ module _ (p : Pipe) (acc : Course p) (g : List ℕ) where
     pub ended : ends_one p rest ≡ false
     pub quiet : (m : ℕ) → (AllUnder p ahead (commit_stage p m) → ⊥) ⊎ Unsure p acc.v ahead → of_mem m (commits_of (a ∷ rest)) ≡ []
 
-  module _ (asked' : List (Option ℕ)) (past' w : Writes) (v' : Marks) (world : World) (args : List ℕ) (ahead ahead' : List ℕ) (s : ℕ) (a : Act) (rest : List Act)
+  module _ (asked' : List (Option ℕ)) (past' w : Writes) (v' : Marks) (world : World) (args : List ℕ) (ahead ahead' : List ℕ)
+      (s : ℕ) (a : Act) (rest : List Act)
       (k : Moving asked' past' w v' world args ahead ahead' s a rest) where
     -- one thread is left on its turn, and these behind it
     one_left : (strays' : List Thread) → right_guess (so_far p world args (next_at p world args s)).child (thread p world.words args).next ≡ false
@@ -231,7 +232,8 @@ module _ (p : Pipe) (acc : Course p) (g : List ℕ) where
 
     -- it makes one, which is alone behind it
     made_one : (x : List ℕ) → (stage_work p world args s).child ≡ Some x
-        → survivors p g (a ∷ rest) ≡ (cond (nat_lt (next_at p world args s) (length p.stages)) (seat p world args (moved_spot p world args s) ∷ []) []) ++ (fresh p g x ∷ [])
+        → survivors p g (a ∷ rest) ≡ (cond (nat_lt (next_at p world args s) (length p.stages))
+        (seat p world args (moved_spot p world args s) ∷ []) []) ++ (fresh p g x ∷ [])
         → Turned p acc g asked' past' w v' world.words args ahead ahead' (a ∷ rest)
     made_one x i left =
         by_bool (same_args x (thread p world.words args).next) (Turned p acc g asked' past' w v' world.words args ahead ahead' (a ∷ rest))
@@ -300,7 +302,8 @@ module _ (p : Pipe) (acc : Course p) (image : Arrays) (st : State) (bits : List 
         → NowAsks all asks (acts p st bits older (seat p (with_guess arrays sp.hint) args sp ∷ strays))
         → Last p acc.stray acc.made sp.stage (so_far p (with_guess arrays sp.hint) args sp.stage).child strays
         → (act p st bits older (seat p (with_guess arrays sp.hint) args sp)).moves ≡ false
-        → Turned p acc (st.hints 0) (next_asks p bits all 0 st.asked) past' w v' arrays args ahead ahead' (acts p st bits older (seat p (with_guess arrays sp.hint) args sp ∷ strays))
+        → Turned p acc (st.hints 0) (next_asks p bits all 0 st.asked) past' w v' arrays args ahead ahead'
+        (acts p st bits older (seat p (with_guess arrays sp.hint) args sp ∷ strays))
     last_stands strays h total now nowa l stays =
         let a : Act = act p st bits older (seat p (with_guess arrays sp.hint) args sp) in
         let rest : List Act = acts p st bits (act p st bits older (seat p (with_guess arrays sp.hint) args sp) ∷ older) strays in
@@ -350,8 +353,10 @@ module _ (p : Pipe) (acc : Course p) (image : Arrays) (st : State) (bits : List 
         }
       where
         kept : (c : Option (List ℕ)) → Last p acc.stray acc.made sp.stage c strays
-            → Strays p acc.stray acc.made sp.stage (survivors p (st.hints 0) (acts p st bits (act p st bits older (seat p (with_guess arrays sp.hint) args sp) ∷ older) strays))
-            → Last p acc.stray acc.made sp.stage c (survivors p (st.hints 0) (acts p st bits (act p st bits older (seat p (with_guess arrays sp.hint) args sp) ∷ older) strays))
+            → Strays p acc.stray acc.made sp.stage (survivors p (st.hints 0)
+            (acts p st bits (act p st bits older (seat p (with_guess arrays sp.hint) args sp) ∷ older) strays))
+            → Last p acc.stray acc.made sp.stage c (survivors p (st.hints 0)
+            (acts p st bits (act p st bits older (seat p (with_guess arrays sp.hint) args sp) ∷ older) strays))
         kept None k q = ap (λ ts. survivors p (st.hints 0) (acts p st bits (act p st bits older (seat p (with_guess arrays sp.hint) args sp) ∷ older) ts)) k
         kept (Some x) k q = q
 
@@ -364,7 +369,8 @@ module _ (p : Pipe) (acc : Course p) (image : Arrays) (st : State) (bits : List 
         (λ m. v' m ++ marks p (with_guess arrays sp.hint) args sp.stage m) (thread p arrays args).arrays (thread p arrays args).next (sp.stage ∷ ahead)
         (sp.stage ∷ ahead')
         (acts p st bits (act p st bits older (seat p (with_guess arrays sp.hint) args sp) ∷ older) ts)
-        → Turned p acc (st.hints 0) (next_asks p bits all 0 st.asked) past' w v' arrays args ahead ahead' (acts p st bits older (seat p (with_guess arrays sp.hint) args sp ∷ ts))
+        → Turned p acc (st.hints 0) (next_asks p bits all 0 st.asked) past' w v' arrays args ahead ahead'
+        (acts p st bits older (seat p (with_guess arrays sp.hint) args sp ∷ ts))
     more_stands ts h now nowa stays t =
         let a : Act = act p st bits older (seat p (with_guess arrays sp.hint) args sp) in
         let rest : List Act = acts p st bits (act p st bits older (seat p (with_guess arrays sp.hint) args sp) ∷ older) ts in
@@ -413,7 +419,8 @@ module _ (p : Pipe) (acc : Course p) (image : Arrays) (st : State) (bits : List 
         (thread p arrays args).next (sp.stage ∷ ahead)
         (next_at p (with_guess arrays sp.hint) args sp.stage ∷ ahead')
         (acts p st bits (act p st bits older (seat p (with_guess arrays sp.hint) args sp) ∷ older) ts)
-        → Turned p acc (st.hints 0) (next_asks p bits all 0 st.asked) past' w v' arrays args ahead ahead' (acts p st bits older (seat p (with_guess arrays sp.hint) args sp ∷ ts))
+        → Turned p acc (st.hints 0) (next_asks p bits all 0 st.asked) past' w v' arrays args ahead ahead'
+        (acts p st bits older (seat p (with_guess arrays sp.hint) args sp ∷ ts))
     more_moves ts h now nowa goes right t =
         let a : Act = act p st bits older (seat p (with_guess arrays sp.hint) args sp) in
         let rest : List Act = acts p st bits (act p st bits older (seat p (with_guess arrays sp.hint) args sp) ∷ older) ts in
@@ -472,7 +479,9 @@ module _ (p : Pipe) (acc : Course p) (image : Arrays) (st : State) (bits : List 
         → (goes : (act p st bits older (seat p (with_guess arrays sp.hint) args sp)).moves ≡ true)
         → commits_of (acts p st bits (act p st bits older (seat p (with_guess arrays sp.hint) args sp) ∷ older) ts) ≡ []
         → ends_one p (acts p st bits (act p st bits older (seat p (with_guess arrays sp.hint) args sp) ∷ older) ts) ≡ false
-        → Moving p acc (st.hints 0) (next_asks p bits all 0 st.asked) past' w v' (with_guess arrays sp.hint) args ahead ahead' sp.stage (act p st bits older (seat p (with_guess arrays sp.hint) args sp)) (acts p st bits (act p st bits older (seat p (with_guess arrays sp.hint) args sp) ∷ older) ts)
+        → Moving p acc (st.hints 0) (next_asks p bits all 0 st.asked) past' w v' (with_guess arrays sp.hint) args ahead ahead' sp.stage
+        (act p st bits older (seat p (with_guess arrays sp.hint) args sp))
+        (acts p st bits (act p st bits older (seat p (with_guess arrays sp.hint) args sp) ∷ older) ts)
     moving ts last h total now nowa goes silent ended =
         let a : Act = act p st bits older (seat p (with_guess arrays sp.hint) args sp) in
         let rest : List Act = acts p st bits (act p st bits older (seat p (with_guess arrays sp.hint) args sp) ∷ older) ts in
@@ -515,7 +524,8 @@ module _ (p : Pipe) (acc : Course p) (image : Arrays) (st : State) (bits : List 
         → (act p st bits older (seat p (with_guess arrays sp.hint) args sp)).moves ≡ true
         → (y : List ℕ) × ((stage_work p (with_guess arrays sp.hint) args sp.stage).child ≡ Some y)
         × ((stage_work p (with_guess arrays sp.hint) args sp.stage).fails ≡ true)
-        → Turned p acc (st.hints 0) (next_asks p bits all 0 st.asked) past' w v' arrays args ahead ahead' (acts p st bits older (seat p (with_guess arrays sp.hint) args sp ∷ ts))
+        → Turned p acc (st.hints 0) (next_asks p bits all 0 st.asked) past' w v' arrays args ahead ahead'
+        (acts p st bits older (seat p (with_guess arrays sp.hint) args sp ∷ ts))
     more_changes ts h words now nowa goes changed =
         let a : Act = act p st bits older (seat p (with_guess arrays sp.hint) args sp) in
         let same = work_same p acc image st bits past past' all rows known older v v' d w asks
@@ -536,7 +546,9 @@ module _ (p : Pipe) (acc : Course p) (image : Arrays) (st : State) (bits : List 
         → Now past past' d (acts p st bits older (seat p (with_guess arrays sp.hint) args sp ∷ ts))
         → NowAsks all asks (acts p st bits older (seat p (with_guess arrays sp.hint) args sp ∷ ts))
         → (act p st bits older (seat p (with_guess arrays sp.hint) args sp)).moves ≡ true
-        → Turned p acc (st.hints 0) (next_asks p bits all 0 st.asked) past' (λ m. w m ++ of_mem m (thread p arrays args).writes) (λ m. v' m ++ marks p (with_guess arrays sp.hint) args (next_at p (with_guess arrays sp.hint) args sp.stage) m) (thread p arrays args).arrays (thread p arrays args).next (sp.stage ∷ ahead) (next_at p (with_guess arrays sp.hint) args sp.stage ∷ ahead')
+        → Turned p acc (st.hints 0) (next_asks p bits all 0 st.asked) past' (λ m. w m ++ of_mem m (thread p arrays args).writes)
+        (λ m. v' m ++ marks p (with_guess arrays sp.hint) args (next_at p (with_guess arrays sp.hint) args sp.stage) m)
+        (thread p arrays args).arrays (thread p arrays args).next (sp.stage ∷ ahead) (next_at p (with_guess arrays sp.hint) args sp.stage ∷ ahead')
         (acts p st bits (act p st bits older (seat p (with_guess arrays sp.hint) args sp) ∷ older) ts)
         → Changed (stage_work p (with_guess arrays sp.hint) args sp.stage)
         → Turned p acc (st.hints 0) (next_asks p bits all 0 st.asked) past' w v' arrays args ahead ahead'
@@ -551,7 +563,8 @@ module _ (p : Pipe) (acc : Course p) (image : Arrays) (st : State) (bits : List 
         → NowAsks all asks (acts p st bits older (seat p (with_guess arrays sp.hint) args sp ∷ strays))
         → Last p acc.stray acc.made sp.stage (so_far p (with_guess arrays sp.hint) args sp.stage).child strays
         → (act p st bits older (seat p (with_guess arrays sp.hint) args sp)).moves ≡ true
-        → Turned p acc (st.hints 0) (next_asks p bits all 0 st.asked) past' w v' arrays args ahead ahead' (acts p st bits older (seat p (with_guess arrays sp.hint) args sp ∷ strays))
+        → Turned p acc (st.hints 0) (next_asks p bits all 0 st.asked) past' w v' arrays args ahead ahead'
+        (acts p st bits older (seat p (with_guess arrays sp.hint) args sp ∷ strays))
     last_goes strays h total now nowa l goes =
         let low : sp.stage < length p.stages =
         low_here p acc image st bits past past' all rows known older v v' d w asks (with_guess arrays sp.hint) args ahead ahead' sp true rows' b h in
@@ -576,7 +589,8 @@ module _ (p : Pipe) (acc : Course p) (image : Arrays) (st : State) (bits : List 
       → is_nil sps ≡ false
       → Now past past' d (acts p st bits older (seats p arrays args sps ++ strays))
       → NowAsks all asks (acts p st bits older (seats p arrays args sps ++ strays))
-      → Turned p acc (st.hints 0) (next_asks p bits all 0 st.asked) past' w v' arrays args ahead ahead' (acts p st bits older (seats p arrays args sps ++ strays))
+      → Turned p acc (st.hints 0) (next_asks p bits all 0 st.asked) past' w v' arrays args ahead ahead'
+      (acts p st bits older (seats p arrays args sps ++ strays))
   turned older v v' d w asks arrays args ahead ahead' [] strays rows' b h l some now nowa = absurd (cc some)
   turned older v v' d w asks arrays args ahead ahead' (sp ∷ []) strays rows' b h l some now nowa =
       by_bool (act p st bits older (seat p (with_guess arrays sp.hint) args sp)).moves

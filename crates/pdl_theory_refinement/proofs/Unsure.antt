@@ -1,5 +1,5 @@
 -- Threads behind one whose guess may still change.
-use Rattle.std.proofs.Common.{◌≡◌, refl, sym, ap, ap₂, ◌∙◌, subst, ℕ, suc, ◌≤◌, ◌<◌, ◌⊎◌, inl, inr, Bool, true, false, ◌&&◌, ◌||◌, not, List, [], ◌∷◌, ◌++◌, length, Option, Some, None, is_none, nat_le, nat_lt, cond, arith, le_refl, le_of_lt, ltb-true, ltb-false}
+use Rattle.std.proofs.Common.{◌≡◌, refl, sym, ap, ap₂, ◌∙◌, subst, ℕ, suc, ◌≤◌, ◌<◌, inl, inr, Bool, true, false, ◌&&◌, ◌||◌, not, List, [], ◌∷◌, ◌++◌, length, Some, is_none, nat_le, nat_lt, cond, arith, le_refl, le_of_lt, ltb-true, ltb-false}
 use Rattle.std.proofs.lemmas.Bool.Decides.{leb_tells}
 use Rattle.pdl_semantics.specs.Flat.{Pipe, list_all}
 use Rattle.pdl_semantics.specs.Stages.{verify_stage}
@@ -8,7 +8,7 @@ use Rattle.pdl_theory_derived.specs.Derived.{have_room, Thread, State, Act, act,
 use Rattle.pdl_theory_facts.proofs.Nested.{within_all}
 use Rattle.pdl_theory_turns.proofs.TurnFacts.{Trunk}
 use Rattle.pdl_theory_turns.proofs.Courses.{Course}
-use Rattle.pdl_theory_turns.proofs.ThreadOrder.{Under, AllUnder, Stepped, Moves}
+use Rattle.pdl_theory_turns.proofs.ThreadOrder.{AllUnder, Stepped, Moves}
 use Rattle.pdl_theory_refinement.proofs.Cycle.{ends_one}
 
 -- the next older thread has not passed V, the stage of the verifies

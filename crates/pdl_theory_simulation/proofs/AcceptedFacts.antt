@@ -1,5 +1,5 @@
 -- The facts that the simulation takes follow stages_from those of an accepted pipe.
-use Rattle.std.proofs.Common.{◌≡◌, refl, sym, ap, ap₂, ◌∙◌, subst, ℕ, suc, ◌≤◌, ◌<◌, ◌⊎◌, inl, inr, Bool, true, false, ◌&&◌, ◌||◌, not, List, [], ◌∷◌, ◌++◌, length, Option, Some, None, ◌==◌, nat_lt, nat_le, cond, arith, ltb-true, ltb-false, leb-true, leb-false, le_refl, eq-eqb}
+use Rattle.std.proofs.Common.{◌≡◌, refl, sym, ap, ap₂, ◌∙◌, subst, ℕ, suc, ◌≤◌, ◌<◌, ◌⊎◌, inl, inr, Bool, true, false, ◌&&◌, ◌||◌, not, List, [], ◌∷◌, ◌++◌, length, Some, None, ◌==◌, nat_lt, nat_le, cond, arith, ltb-true, ltb-false, leb-true, leb-false, le_refl, eq-eqb}
 use Rattle.std.proofs.lemmas.Bool.{eqb-true, eqb-false, ne_eqb}
 use Rattle.pdl_semantics.specs.Flat.{list_all, Pipe, Branch, Op, DelayedRead, Stmt, all_hold}
 use Rattle.pdl_semantics.specs.Stages.{onpath, in_stage, stage_at, goes_to, is_inside, commit_stage, verify_stage, is_check}
@@ -7,9 +7,9 @@ use Rattle.pdl_semantics.specs.Sound.{stages_before, stages_from, is_fetch, is_c
 use Rattle.pdl_theory_derived.specs.Alone.{before, answered_op}
 use Rattle.pdl_theory_facts.specs.Scans.{Phase, Fresh, next_phase, phase_all, is_over, none_of, binds_var, is_dead}
 use Rattle.pdl_theory_facts.specs.GuessScans.{Unmade, makings_ok, checks_apart}
-use Rattle.pdl_theory_facts.specs.Graphs.{Home, Within, Trunk, Below, Way, stage_or, next_of}
+use Rattle.pdl_theory_facts.specs.Graphs.{Home, Within, Below, Way, stage_or, next_of}
 use Rattle.pdl_theory_facts.proofs.Nested.{arrives}
-use Rattle.pdl_theory_facts.specs.Facts.{is_fetch_of, none_like, alone_op, fetch_apart, Found, FetchIf, AllFetches, looked_all, at_once, comes_by, visits_stage, defined_by, late_for, Sound}
+use Rattle.pdl_theory_facts.specs.Facts.{is_fetch_of, none_like, alone_op, fetch_apart, Found, FetchIf, AllFetches, looked_all, at_once, visits_stage, defined_by, late_for, Sound}
 use Rattle.pdl_theory_simulation.proofs.FlowFacts.{Ways, Flows, FlowRules, Leads, AllOf, DefinedBy, binds_guard, use_ok, uses_ok, call_ok, calls_ok, at_most_one}
 use Rattle.pdl_theory_derived.proofs.Writes.{and_left, and_right}
 use Rattle.pdl_theory_turns.proofs.Paths.{dead_none, stage_path}

@@ -1,5 +1,5 @@
 -- A cycle does the same whether the acts are listed by stages or by age: two threads whose order differs stand in two branches, where nothing depends on it.
-use Rattle.std.proofs.Common.{◌≡◌, refl, sym, ap, ap₂, ◌∙◌, subst, ℕ, suc, ◌≤◌, ◌<◌, ◌⊎◌, inl, inr, Bool, true, false, ◌&&◌, ◌||◌, List, [], ◌∷◌, ◌++◌, length, Option, Some, None, is_some, is_none, ◌==◌, nat_lt, cond, if◌then◌else◌, arith, ltb-false, le_refl, drop, take, ◌+◌, append-nil}
+use Rattle.std.proofs.Common.{◌≡◌, refl, sym, ap, ap₂, ◌∙◌, subst, ℕ, suc, ◌≤◌, ◌<◌, ◌⊎◌, inl, inr, Bool, true, false, ◌&&◌, ◌||◌, List, [], ◌∷◌, ◌++◌, Option, Some, None, is_some, is_none, ◌==◌, nat_lt, cond, if◌then◌else◌, arith, ltb-false, le_refl, drop, take, ◌+◌, append-nil}
 use Rattle.std.proofs.lemmas.Bool.{eqb-true, eqb-false, ne_eqb}
 use Rattle.pdl_semantics.specs.Flat.{Arrays, Pipe, Branch, Mem}
 use Rattle.pdl_semantics.specs.Stages.{list_any, in_stage, stage_at, goes_to, is_inside}
@@ -13,7 +13,7 @@ use Rattle.pdl_semantics.specs.Moves
 use Rattle.pdl_semantics.specs.Promises.{DifferInAdvice}
 use Rattle.pdl_theory_derived.specs.Derived.{Work, find_ask}
 use Rattle.pdl_theory_derived.specs.Derived
-use Rattle.pdl_theory_simulation.proofs.FlowFacts.{Home, Trunk, Flows, Leads}
+use Rattle.pdl_theory_simulation.proofs.FlowFacts.{Home, Trunk, Flows}
 use Rattle.pdl_theory_simulation.proofs.Stretches.{Behind, left_trunk, less_home}
 use Rattle.pdl_theory_simulation.proofs.Seats.{Live, seat, find, Ordered, Falls, falls_each, dacts, lacts, lact, did, deeds_of, work_of_live}
 use Rattle.pdl_theory_simulation.proofs.Choices.{Known, AllKnown, one_stage, like_here}

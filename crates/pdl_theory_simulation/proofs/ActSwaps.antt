@@ -1,5 +1,5 @@
 -- What of two threads' acts can change places: their writes, what they ask for, and the thread that they make.
-use Rattle.std.proofs.Common.{◌+◌, drop, take, ◌≡◌, refl, sym, ap, ap₂, ◌∙◌, ℕ, ◌⊎◌, inl, inr, Bool, true, false, ◌||◌, not, List, [], ◌∷◌, Option, Some, None, ◌==◌, cond, if◌then◌else◌, ◌&&◌}
+use Rattle.std.proofs.Common.{◌≡◌, refl, sym, ap, ap₂, ◌∙◌, ℕ, ◌⊎◌, inl, inr, Bool, true, false, ◌||◌, not, List, [], ◌∷◌, Option, Some, None, ◌==◌, cond, if◌then◌else◌, ◌&&◌}
 use Rattle.std.proofs.lemmas.Bool.{eqb-true}
 use Rattle.pdl_semantics.specs.Flat.{Op, ReserveWrite, Call, SpecCall, Verify, Stmt, all_hold}
 use Rattle.pdl_semantics.specs.Machine.{Ask, Request, Pending, Deeds, deeds_after_all}

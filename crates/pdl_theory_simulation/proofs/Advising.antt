@@ -1,5 +1,5 @@
 -- Advisory writes leave every other memory as it is.
-use Rattle.std.proofs.Common.{◌≡◌, refl, sym, ap, ap₂, ◌∙◌, subst, ℕ, Bool, true, false, ◌&&◌, List, [], ◌∷◌, ◌++◌, ◌==◌, cond, if◌then◌else◌, Some}
+use Rattle.std.proofs.Common.{◌≡◌, refl, sym, ap, ap₂, ◌∙◌, ℕ, Bool, true, false, ◌&&◌, List, [], ◌∷◌, ◌++◌, ◌==◌, cond, if◌then◌else◌, Some}
 use Rattle.std.proofs.lemmas.Bool.{eqb-true}
 use Rattle.pdl_semantics.specs.Flat.{Arrays, with_value, is_advisory, list_all, Op, AdviceWrite, Verify, Stmt, Pipe, values_of, all_hold}
 use Rattle.pdl_semantics.specs.Stages.{in_stage, mem_at}

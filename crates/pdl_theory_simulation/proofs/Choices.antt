@@ -1,10 +1,10 @@
 -- Both machines decide alike which threads move.
 use Rattle.std.proofs.Common.{◌≡◌, refl, sym, ap, ap₂, ◌∙◌, subst, ℕ, ◌≤◌, ◌<◌, ◌⊎◌, inl, inr, Bool, true, false, ◌&&◌, ◌||◌, not, List, [], ◌∷◌, ◌++◌, length, Option, Some, None, is_none, is_some, ◌==◌, cond, if◌then◌else◌, arith, slice_set, eq-eqb}
 use Rattle.std.proofs.lemmas.Bool.{eqb-true, eqb-false, ne_eqb, not-true}
-use Rattle.pdl_semantics.specs.Flat.{Array, Pipe, is_advisory, Op, DelayedRead, CombRead, ReserveWrite, Block, Stmt, list_all, word_at}
+use Rattle.pdl_semantics.specs.Flat.{Array, Pipe, is_advisory, Op, DelayedRead, CombRead, Block, Stmt, list_all, word_at}
 use Rattle.pdl_semantics.specs.Stages.{list_any, onpath, in_stage, mem_at, stage_at, goes_to, is_check, is_reserve, reserve_stage, commit_stage}
 use Rattle.pdl_semantics.specs.Locks.{Latest, has_room}
-use Rattle.pdl_semantics.specs.Machine.{Ask, Reserved, reserves_of, Awaited, Kept, is_answered, Request, NoRequest, Owned, Orphan, State, Deeds, lock_of, request_of, older_write, word_for, held_before, with_kept, unanswered_reads, answer_to, answer_for, kept_answer, with_answers, deeds_after_all}
+use Rattle.pdl_semantics.specs.Machine.{Ask, Reserved, reserves_of, Awaited, is_answered, Request, NoRequest, Owned, Orphan, State, Deeds, lock_of, request_of, older_write, word_for, held_before, with_kept, unanswered_reads, answer_to, answer_for, kept_answer, with_answers, deeds_after_all}
 use Rattle.pdl_semantics.specs.Moves.{block_ready, is_free, next_stage}
 use Rattle.pdl_semantics.specs.Locks
 use Rattle.pdl_semantics.specs.Machine
@@ -445,7 +445,8 @@ module _ (p : Pipe) (flows : Flows p) (st : State) (d : Derived.State) (bits : L
       (calls_here p flows l.env (now_of p d bits l) (keeps_now l k.seated) (around p d bits (dacts p d bits ls) l.thread.stage l.thread.hint))
       (unchecked (flows.guess_apart (work_of_live p d bits ls l).env l.thread.stage)) (ap (λ (e : Deeds). e.guess) (sym (deeds_are ls l k)) ∙ h)
     where
-      unchecked : (none_of is_spec_call (onpath (work_of_live p d bits ls l).env (in_stage l.thread.stage p.stmts)) ≡ true) ⊎ (none_of is_check (onpath (work_of_live p d bits ls l).env (in_stage l.thread.stage p.stmts)) ≡ true)
+      unchecked : (none_of is_spec_call (onpath (work_of_live p d bits ls l).env (in_stage l.thread.stage p.stmts)) ≡ true)
+          ⊎ (none_of is_check (onpath (work_of_live p d bits ls l).env (in_stage l.thread.stage p.stmts)) ≡ true)
           → none_of is_check (onpath (work_of_live p d bits ls l).env (in_stage l.thread.stage p.stmts)) ≡ true
       unchecked (inl j) = absurd (clash (sym i ∙ j))
         where
@@ -466,7 +467,8 @@ module _ (p : Pipe) (flows : Flows p) (st : State) (d : Derived.State) (bits : L
   pub fails_here : (ls : List Live) (l : Live) → Known ls l → (deeds_of p st bits l).fails ≡ (work_of_live p d bits ls l).fails
   fails_here ls l k = at (flows.guess_apart (work_of_live p d bits ls l).env l.thread.stage)
     where
-      at : (none_of is_spec_call (onpath (work_of_live p d bits ls l).env (in_stage l.thread.stage p.stmts)) ≡ true) ⊎ (none_of is_check (onpath (work_of_live p d bits ls l).env (in_stage l.thread.stage p.stmts)) ≡ true)
+      at : (none_of is_spec_call (onpath (work_of_live p d bits ls l).env (in_stage l.thread.stage p.stmts)) ≡ true)
+          ⊎ (none_of is_check (onpath (work_of_live p d bits ls l).env (in_stage l.thread.stage p.stmts)) ≡ true)
           → (deeds_of p st bits l).fails ≡ (work_of_live p d bits ls l).fails
       at (inl h) = ap (λ (w : Work). w.fails) (sym (told_here ls l k (none_foreseen ls l k h)).is)
       at (inr h) =

@@ -1,5 +1,5 @@
 -- What the scans of locks and calls tell the simulation.
-use Rattle.std.proofs.Common.{◌≡◌, refl, ap, ap₂, ◌∙◌, ℕ, ◌&&◌, ◌||◌, not, List, [], ◌∷◌, Option, true, false, sym, ◌⊎◌, inl, inr, Bool, Some, None, ◌==◌, cond, subst}
+use Rattle.std.proofs.Common.{◌≡◌, refl, ap, ap₂, ◌∙◌, ℕ, ◌&&◌, ◌||◌, not, List, [], ◌∷◌, Option, true, false, sym, ◌⊎◌, inl, inr, Bool, Some, ◌==◌, cond, subst}
 use Rattle.std.proofs.lemmas.Bool.{eqb-true}
 use Rattle.pdl_semantics.specs.Flat.{Op, Write, ReserveWrite, Release, SpecCall, Verify, Call, Stmt}
 use Rattle.pdl_semantics.specs.Stages.{in_stage, is_check}

@@ -1,7 +1,7 @@
 -- What the threads of the derived machine are given to guess is what those of a run of the stated machine guess, and so whole runs of both are the same.
-use Rattle.std.proofs.Common.{◌≡◌, refl, sym, ap, ap₂, ◌∙◌, subst, ℕ, zero, suc, ◌≤◌, ◌<◌, Bool, true, false, ◌&&◌, ◌||◌, not, List, [], ◌∷◌, ◌++◌, Option, Some, None, ◌==◌, cond, if◌then◌else◌, arith, eq-eqb, length}
+use Rattle.std.proofs.Common.{◌≡◌, refl, sym, ap, ap₂, ◌∙◌, subst, ℕ, suc, Bool, true, false, ◌&&◌, ◌||◌, not, List, [], ◌∷◌, ◌++◌, Option, Some, None, ◌==◌, cond, if◌then◌else◌, arith, eq-eqb, length}
 use Rattle.std.proofs.lemmas.Bool.{eqb-true, ne_eqb}
-use Rattle.pdl_semantics.specs.Flat.{Arrays, Pipe, Op, Call, SpecCall, Stmt}
+use Rattle.pdl_semantics.specs.Flat.{Arrays, Pipe, Op, SpecCall, Stmt}
 use Rattle.pdl_semantics.specs.Stages.{list_any, onpath, in_stage, stage_at, goes_to}
 use Rattle.pdl_semantics.specs.Machine.{State}
 use Rattle.pdl_semantics.specs.Sound.{is_call, is_spec_call}
@@ -10,18 +10,16 @@ use Rattle.pdl_semantics.specs.Moves
 use Rattle.pdl_theory_derived.specs.Derived.{Work, around}
 use Rattle.pdl_theory_derived.specs.Derived
 use Rattle.pdl_theory_derived.specs.Simulation.{SameTurns, makes_guess, guess_in, guess_of, made_hints, hints_of}
-use Rattle.pdl_theory_derived.proofs.Writes.{and_left, and_right}
 use Rattle.pdl_theory_facts.specs.Scans.{none_of, called}
-use Rattle.pdl_theory_simulation.proofs.FlowFacts.{Flows, calls_ok, stage_or, next_of}
+use Rattle.pdl_theory_simulation.proofs.FlowFacts.{Flows, calls_ok, stage_or}
 use Rattle.pdl_theory_simulation.proofs.Stretches.{has_made, calls_here, made_then}
 use Rattle.pdl_theory_simulation.proofs.Guessing.{no_second}
 use Rattle.pdl_theory_simulation.proofs.Seats.{Live, advised, Falls, dacts, lacts, lact, did, now_of, work_of_live, deeds_of}
-use Rattle.pdl_theory_simulation.proofs.Choices.{Known, AllKnown, Foresees, MovesForeseen, AllForeseen, like_here, keeps_now, none_foreseen, guess_foreseen}
-use Rattle.pdl_theory_simulation.proofs.ThreadFacts.{Pair, sorted}
-use Rattle.pdl_theory_simulation.proofs.Orders.{acts_of}
-use Rattle.pdl_theory_simulation.proofs.ActOrder.{Swap, Swaps, same_fold}
-use Rattle.pdl_theory_simulation.proofs.LockLists.{fell, moved_live, stood, next_live, go_on}
-use Rattle.pdl_theory_simulation.proofs.LiveThreads.{Made, made, born_live, lives_next}
+use Rattle.pdl_theory_simulation.proofs.Choices.{Known, AllKnown, Foresees, AllForeseen, like_here, keeps_now, none_foreseen, guess_foreseen}
+use Rattle.pdl_theory_simulation.proofs.ThreadFacts.{Pair}
+use Rattle.pdl_theory_simulation.proofs.ActOrder.{Swap, same_fold}
+use Rattle.pdl_theory_simulation.proofs.LockLists.{fell, moved_live, stood, go_on}
+use Rattle.pdl_theory_simulation.proofs.LiveThreads.{made, born_live, lives_next}
 use Rattle.pdl_theory_simulation.proofs.ThreadPlaces.{made_on}
 use Rattle.pdl_theory_simulation.proofs.SimulatedStates.{Sim, HaveMade}
 use Rattle.pdl_theory_simulation.proofs.WholeSimulation.{known, swaps, acts_are, cycle_sim, turn_same}
@@ -53,7 +51,7 @@ not_not true h = refl
 not_not false h = absurd (cc h)
 
 -- after a call a thread has made its successor
-stays_called : (xs : List Stmt) → called true xs ≡ true
+pub stays_called : (xs : List Stmt) → called true xs ≡ true
 stays_called [] = refl
 stays_called (x ∷ xs) = stays_called xs
 
@@ -82,11 +80,13 @@ module _ (p : Pipe) (flows : Flows p) where
 
     -- two threads have two numbers
     commutes : (n : ℕ) (x y : Pair) → Swap p flows st d bits sim.arrays x y → (z : List ℕ)
-        → step_in n (lact p st d bits y.older y.live) (step_in n (lact p st d bits x.older x.live) z) ≡ step_in n (lact p st d bits x.older x.live) (step_in n (lact p st d bits y.older y.live) z)
+        → step_in n (lact p st d bits y.older y.live) (step_in n (lact p st d bits x.older x.live) z) ≡ step_in n
+        (lact p st d bits x.older x.live) (step_in n (lact p st d bits y.older y.live) z)
     commutes n x y s z = at (y.live.number == n) refl (x.live.number == n) refl _ _
       where
         at : (b : Bool) → (y.live.number == n) ≡ b → (c : Bool) → (x.live.number == n) ≡ c → (u v : Bool)
-            → (if (y.live.number == n) && u then (deeds_of p st bits y.live).guess else (if (x.live.number == n) && v then (deeds_of p st bits x.live).guess else z))
+            → (if (y.live.number == n) && u then (deeds_of p st bits y.live).guess else
+            (if (x.live.number == n) && v then (deeds_of p st bits x.live).guess else z))
             ≡
             (if (x.live.number == n)
             && v then (deeds_of p st bits x.live).guess else (if (y.live.number == n) && u then (deeds_of p st bits y.live).guess else z))
@@ -122,7 +122,8 @@ module _ (p : Pipe) (flows : Flows p) where
 
     -- the youngest one's
     mine : (l : Live) (ks : List Live) (rest : List ℕ) → Falls l.number ks
-        → guess_in p (lacts p st d bits (l ∷ ks)) l.number rest ≡ (if (did p d bits ks l).moves && makes_guess p (lact p st d bits ks l) then (deeds_of p st bits l).guess else rest)
+        → guess_in p (lacts p st d bits (l ∷ ks)) l.number rest ≡ (if (did p d bits ks l).moves && makes_guess p
+        (lact p st d bits ks l) then (deeds_of p st bits l).guess else rest)
     mine l ks rest f =
         ap₂ (λ b z. if b && ((did p d bits ks l).moves && makes_guess p (lact p st d bits ks l)) then (deeds_of p st bits l).guess else z)
         (eq-eqb l.number l.number refl) (others l.number rest ks f)
@@ -221,7 +222,9 @@ module _ (p : Pipe) (flows : Flows p) where
             quiet false v = refl
 
         at : (g b : Bool) → (did p d bits ks l).moves ≡ b
-            → Hinted p (Cycle.cycle p st bits) schedule ((if g then [] else cond b (moved_live (goes_to (stage_at p l.thread.stage).next (work_of_live p d bits ks l).env) (advised p st bits l) (work_of_live p d bits ks l)) (stood p st d bits l ∷ [])) ++ go_on p st d bits ks)
+            → Hinted p (Cycle.cycle p st bits) schedule ((if g then [] else cond b
+            (moved_live (goes_to (stage_at p l.thread.stage).next (work_of_live p d bits ks l).env) (advised p st bits l)
+            (work_of_live p d bits ks l)) (stood p st d bits l ∷ [])) ++ go_on p st d bits ks)
         at true b e = hinted_made schedule (go_on p st d bits ks) rest
         at false true e = out e (goes_to (stage_at p l.thread.stage).next (work_of_live p d bits ks l).env) refl
         at false false e = λ j. later schedule l ks is f.1 h j (ap (λ b. b && makes_guess p (lact p st d bits ks l)) e)
@@ -240,12 +243,14 @@ module _ (p : Pipe) (flows : Flows p) where
 
   -- the first thread is given what it will guess
   pub first_foretells : (image : Arrays) (schedule : List (List Bool))
-      → Foretells p (Cycle.first p image) (Derived.first p image (hints_of p (Cycle.first p image) schedule)) schedule (first_live p flows (hints_of p (Cycle.first p image) schedule 0) ∷ [])
+      → Foretells p (Cycle.first p image) (Derived.first p image (hints_of p (Cycle.first p image) schedule)) schedule
+      (first_live p flows (hints_of p (Cycle.first p image) schedule 0) ∷ [])
   first_foretells image schedule = record { hints = λ n. refl; hinted = λ j. refl }
 
   -- a run of both, and the live threads at its end
   pub runs_same : (st : State) (d : Derived.State) (schedule : List (List Bool)) (ls : List Live) → Sim p st d ls → Foretells p st d schedule ls
-      → SameTurns p (Cycle.turns_from p st schedule) (Derived.turns_from p d schedule) × ((ks : List Live) × Sim p (Cycle.state_after p st schedule) (Derived.state_after p d schedule) ks)
+      → SameTurns p (Cycle.turns_from p st schedule) (Derived.turns_from p d schedule)
+      × ((ks : List Live) × Sim p (Cycle.state_after p st schedule) (Derived.state_after p d schedule) ks)
   runs_same st d [] ls sim f = (tt, (ls, sim))
   runs_same st d (bits ∷ schedule) ls sim f =
       let rest = runs_same (Cycle.cycle p st bits) (Derived.cycle p d bits) schedule (lives_next p flows st d bits sim.arrays ls)

@@ -1,5 +1,5 @@
 -- The list of a fork as one more thread comes behind: one that enters, one that stays, and one that leaves.
-use Rattle.std.proofs.Common.{◌≡◌, refl, sym, ap, ap₂, ◌∙◌, Bool, true, false, ◌&&◌, not, List, [], ◌∷◌, ◌++◌, Some, None, if◌then◌else◌, append-nil, append_assoc}
+use Rattle.std.proofs.Common.{◌≡◌, refl, sym, ap, ap₂, ◌∙◌, Bool, true, false, ◌&&◌, not, List, [], ◌∷◌, ◌++◌, if◌then◌else◌, append-nil, append_assoc}
 use Rattle.pdl_semantics.specs.Flat.{Op, Verify, Stmt}
 use Rattle.pdl_semantics.specs.Stages.{is_check}
 use Rattle.pdl_semantics.specs.Moves.{is_nobody}

@@ -1,5 +1,5 @@
 -- After a cycle a fork's list holds the branches of just the threads inside it, oldest first.
-use Rattle.std.proofs.Common.{◌≡◌, refl, sym, ap, ap₂, ◌∙◌, subst, ℕ, suc, length, ◌≤◌, ◌<◌, ◌⊎◌, inl, inr, Bool, true, false, ◌&&◌, ◌||◌, not, List, [], ◌∷◌, ◌++◌, Option, Some, None, is_some, ◌==◌, cond, if◌then◌else◌, arith, append-nil, eq-eqb, le_refl}
+use Rattle.std.proofs.Common.{◌≡◌, refl, sym, ap, ap₂, ◌∙◌, subst, ℕ, suc, length, ◌≤◌, ◌<◌, ◌⊎◌, inl, inr, Bool, true, false, ◌&&◌, ◌||◌, not, List, [], ◌∷◌, ◌++◌, Option, Some, None, ◌==◌, cond, if◌then◌else◌, arith, append-nil, eq-eqb, le_refl}
 use Rattle.std.proofs.lemmas.Bool.{eqb-true, eqb-false, ne_eqb}
 use Rattle.pdl_semantics.specs.Flat.{Pipe, Branch, list_all}
 use Rattle.pdl_semantics.specs.Stages.{in_stage, stage_at, goes_to, list_any, is_inside, sides_of, merges_fork}
@@ -220,7 +220,9 @@ module _ (p : Pipe) (flows : Flows p) (st : State) (d : Derived.State) (bits : L
                 → sides_of f (stage_at p q).branches ≡ sides_of f (stage_at p l.thread.stage).branches
                 → merges_fork (stage_at p q).merges f ≡ false
                 → (if has_left p f (ms ls) then but_first (sides p f ls) else sides p f ls) ++ entered_branches p f (ms ls) ≡ sides p f (all_on ls)
-                → (if leaves l || has_left p f (ms ls) then but_first (sides p f ls ++ sides_of f (stage_at p l.thread.stage).branches) else (sides p f ls ++ sides_of f (stage_at p l.thread.stage).branches)) ++ (entered_branches p f (ms ls) ++ enters l) ≡ sides p f (all_on ls) ++ sides_of f (stage_at p q).branches
+                → (if leaves l || has_left p f (ms ls) then but_first (sides p f ls ++ sides_of f (stage_at p l.thread.stage).branches) else
+                (sides p f ls ++ sides_of f (stage_at p l.thread.stage).branches)) ++ (entered_branches p f (ms ls) ++ enters l)
+                ≡ sides p f (all_on ls) ++ sides_of f (stage_at p q).branches
             moves_inside q i same no_merge h =
                 (λ t. (if stays t || has_left p f (ms ls) then but_first (sides p f ls ++ mine t) else (sides p f ls ++ mine t))
                 ++ (entered_branches p f (ms ls) ++ no_entry t))
@@ -394,7 +396,8 @@ module _ (p : Pipe) (flows : Flows p) (st : State) (d : Derived.State) (bits : L
         or_true true = refl
         or_true false = refl
 
-        is : squash_stage (ms (l ∷ ls)) ≡ (if (did p d bits ls l).moves && (work_of_live p d bits ls l).fails then Some l.thread.stage else squash_stage (ms ls))
+        is : squash_stage (ms (l ∷ ls)) ≡ (if (did p d bits ls l).moves
+            && (work_of_live p d bits ls l).fails then Some l.thread.stage else squash_stage (ms ls))
         is = squash_stage_is p flows st d bits arrays ls l k.0
 
         at : (b : Bool) → ((did p d bits ls l).moves && (work_of_live p d bits ls l).fails) ≡ b → (b || fell p d bits ls) ≡ true
@@ -540,7 +543,8 @@ module _ (p : Pipe) (flows : Flows p) (st : State) (d : Derived.State) (bits : L
 
     -- the list of fork f after the cycle
     pub fork_next : (n : ℕ) (c : Option (List ℕ)) (ls : List Live) → AllKnown p flows st d bits arrays ls → Ordered p ls
-        → Cycle.branches_left p (squash_stage (ms ls)) f ((if has_left p f (ms ls) then but_first (sides p f ls) else sides p f ls) ++ entered_branches p f (ms ls))
+        → Cycle.branches_left p (squash_stage (ms ls)) f ((if has_left p f (ms ls) then but_first (sides p f ls) else sides p f ls)
+        ++ entered_branches p f (ms ls))
         ≡ sides p f (born_live p (d.hints 0) n c ++ go_on p st d bits ls)
     fork_next n c ls k o =
         ap (λ l. if merges_by p f (squash_stage (ms ls)) then [] else l) (list_all_on ls k o)

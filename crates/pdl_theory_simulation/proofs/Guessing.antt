@@ -1,8 +1,8 @@
 -- What a stage guesses, and whether it fails a verify: where its path makes no guess, and where what it guesses in the end is what the surroundings give.
-use Rattle.std.proofs.Common.{◌≡◌, refl, sym, ap, ap₂, ◌∙◌, subst, ℕ, Bool, true, false, ◌&&◌, ◌||◌, not, List, [], ◌∷◌, cond, if◌then◌else◌, Some}
-use Rattle.pdl_semantics.specs.Flat.{Op, Call, SpecCall, Verify, Stmt, values_of, all_hold}
+use Rattle.std.proofs.Common.{◌≡◌, refl, sym, ap, ap₂, ◌∙◌, subst, ℕ, Bool, true, false, ◌&&◌, ◌||◌, not, List, [], ◌∷◌, cond}
+use Rattle.pdl_semantics.specs.Flat.{Op, SpecCall, Verify, Stmt, all_hold}
 use Rattle.pdl_semantics.specs.Stages.{onpath, is_check}
-use Rattle.pdl_semantics.specs.Machine.{Ask, same_args, all_values, Blocked, Deeds, deeds_after_all}
+use Rattle.pdl_semantics.specs.Machine.{Ask, Blocked, Deeds, deeds_after_all}
 use Rattle.pdl_semantics.specs.Machine
 use Rattle.pdl_semantics.specs.Sound.{is_call, is_spec_call}
 use Rattle.pdl_theory_derived.specs.Derived.{Work, Around, work_after, do_all}
@@ -43,7 +43,8 @@ module _ (o : Around) (read : ℕ → ℕ → ℕ) (block : Blocked → Bool) (f
           → b ≡ c → none_of is_spec_call (cond c (record x { guards = [] } ∷ onpath path xs) (onpath path xs)) ≡ true
           → none_of is_check (cond c (record x { guards = [] } ∷ onpath path xs) (onpath path xs)) ≡ true
           → Fixed path o xs (cond b (work_after o x.op w) w)
-          → ((d' : Deeds) (w' : Work) → Loosely o read block free d' w' → Fixed path o xs w' → none_of is_spec_call (onpath path xs) ≡ true → none_of is_check (onpath path xs) ≡ true → (deeds_after_all read xs d').guess ≡ d'.guess)
+          → ((d' : Deeds) (w' : Work) → Loosely o read block free d' w' → Fixed path o xs w' → none_of is_spec_call (onpath path xs)
+          ≡ true → none_of is_check (onpath path xs) ≡ true → (deeds_after_all read xs d').guess ≡ d'.guess)
           → (deeds_after_all read xs (then_done b x.op d)).guess ≡ d.guess
       at true true e h c q go =
           go (Machine.deeds_after read x.op d) (work_after o x.op w) (loose_step o read block free true x.op d w f.0 l) q
@@ -69,7 +70,8 @@ module _ (o : Around) (read : ℕ → ℕ → ℕ) (block : Blocked → Bool) (f
       at : (b c : Bool)
           → b ≡ c → none_of is_spec_call (cond c (record x { guards = [] } ∷ onpath path xs) (onpath path xs)) ≡ true
           → Fixed path o xs (cond b (work_after o x.op w) w)
-          → ((d' : Deeds) (w' : Work) → Loosely o read block free d' w' → Fixed path o xs w' → none_of is_spec_call (onpath path xs) ≡ true → AllGuesses o read block free xs d')
+          → ((d' : Deeds) (w' : Work) → Loosely o read block free d' w' → Fixed path o xs w' → none_of is_spec_call (onpath path xs)
+          ≡ true → AllGuesses o read block free xs d')
           → (b ≡ true → Guesses o read block free x.op d) × AllGuesses o read block free xs (then_done b x.op d)
       at true true e h q go = (
         (λ _. off x.op (and_left _ _ h)),
@@ -112,7 +114,9 @@ module _ (o : Around) (read : ℕ → ℕ → ℕ) (block : Blocked → Bool) (f
           → b ≡ c → calls_ok been (cond c (record x { guards = [] } ∷ onpath path xs) (onpath path xs)) ≡ true
           → none_of is_check (cond c (record x { guards = [] } ∷ onpath path xs) (onpath path xs)) ≡ true
           → Fixed path o xs (cond b (work_after o x.op w) w)
-          → ((been' : Bool) (d' : Deeds) (w' : Work) → Loosely o read block free d' w' → Fixed path o xs w' → calls_ok been' (onpath path xs) ≡ true → none_of is_check (onpath path xs) ≡ true → (deeds_after_all read xs d').guess ≡ o.guess → AllGuesses o read block free xs d')
+          → ((been' : Bool) (d' : Deeds) (w' : Work) → Loosely o read block free d' w' → Fixed path o xs w' → calls_ok been'
+          (onpath path xs) ≡ true → none_of is_check (onpath path xs) ≡ true → (deeds_after_all read xs d').guess ≡ o.guess
+          → AllGuesses o read block free xs d')
           → (deeds_after_all read xs (then_done b x.op d)).guess ≡ o.guess
           → (b ≡ true → Guesses o read block free x.op d) × AllGuesses o read block free xs (then_done b x.op d)
       at true true e h n q go g =
@@ -142,7 +146,8 @@ module _ (o : Around) (read : ℕ → ℕ → ℕ) (block : Blocked → Bool) (f
       at : (b c : Bool)
           → b ≡ c → none_of is_check (cond c (record x { guards = [] } ∷ onpath path xs) (onpath path xs)) ≡ true
           → Fixed path o xs (cond b (work_after o x.op w) w)
-          → ((d' : Deeds) (w' : Work) → Loosely o read block free d' w' → Fixed path o xs w' → none_of is_check (onpath path xs) ≡ true → ((deeds_after_all read xs d').fails ≡ d'.fails) × ((do_all o xs w').fails ≡ w'.fails))
+          → ((d' : Deeds) (w' : Work) → Loosely o read block free d' w' → Fixed path o xs w' → none_of is_check (onpath path xs)
+          ≡ true → ((deeds_after_all read xs d').fails ≡ d'.fails) × ((do_all o xs w').fails ≡ w'.fails))
           → ((deeds_after_all read xs (then_done b x.op d)).fails ≡ d.fails) × ((do_all o xs (cond b (work_after o x.op w) w)).fails ≡ w.fails)
       at true true e h q go =
           let s = same_fails x.op d w (and_left _ _ h) in

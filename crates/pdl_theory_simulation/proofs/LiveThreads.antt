@@ -80,7 +80,8 @@ survivors_more p g (a ∷ xs) b = at a.moves a.work.fails (survivors_more p g xs
 
     at : (c f : Bool)
         → survivors p g (xs ++ b ∷ []) ≡ survivors p g xs ++ (if list_any (λ (o : Derived.Act). o.moves && o.work.fails) xs then [] else survivors p g (b ∷ []))
-        → cond c (moved_to (exit_of p a) a.now.hint a.work ++ (born_threads p g a.work.child ++ cond f [] (survivors p g (xs ++ b ∷ [])))) (a.now ∷ survivors p g (xs ++ b ∷ []))
+        → cond c (moved_to (exit_of p a) a.now.hint a.work ++ (born_threads p g a.work.child ++ cond f [] (survivors p g (xs ++ b ∷ []))))
+        (a.now ∷ survivors p g (xs ++ b ∷ []))
         ≡ cond c (moved_to (exit_of p a) a.now.hint a.work ++ (born_threads p g a.work.child ++ cond f [] (survivors p g xs))) (a.now ∷ survivors p g xs)
         ++ (if (c && f) || list_any (λ (o : Derived.Act). o.moves && o.work.fails) xs then [] else survivors p g (b ∷ []))
     at true true h = sym (append-nil _)
@@ -320,7 +321,8 @@ module _ (p : Pipe) (flows : Flows p) (st : State) (d : Derived.State) (bits : L
 
   -- its stage
   pub squash_stage_is : (ls : List Live) → (l : Live) → Known p flows st d bits arrays ls l
-      → squash_stage (movers (lacts p st d bits (l ∷ ls))) ≡ (if (did p d bits ls l).moves && (work_of_live p d bits ls l).fails then Some l.thread.stage else squash_stage (movers (lacts p st d bits ls)))
+      → squash_stage (movers (lacts p st d bits (l ∷ ls))) ≡ (if (did p d bits ls l).moves
+      && (work_of_live p d bits ls l).fails then Some l.thread.stage else squash_stage (movers (lacts p st d bits ls)))
   squash_stage_is ls l h = at (did p d bits ls l).moves
     where
       at : (b : Bool)
@@ -429,7 +431,8 @@ module _ (p : Pipe) (flows : Flows p) (st : State) (d : Derived.State) (bits : L
   comes_is ls l q k f = at (did p d bits ls l).moves refl
     where
       there : Foresees p flows st d bits arrays ls l → (r : Option ℕ)
-          → cond (Cycle.is_stage q r) (Some (Cycle.thread_after (lact p st d bits ls l))) None ≡ find q (moved_live r (advised p st bits l) (work_of_live p d bits ls l))
+          → cond (Cycle.is_stage q r) (Some (Cycle.thread_after (lact p st d bits ls l))) None ≡ find q
+          (moved_live r (advised p st bits l) (work_of_live p d bits ls l))
       there g None = refl
       there g (Some s) =
           λ i. cond (s == q)
@@ -488,6 +491,7 @@ module _ (p : Pipe) (flows : Flows p) (st : State) (d : Derived.State) (bits : L
           → find q
           (cond b (moved_live (goes_to (stage_at p l.thread.stage).next (work_of_live p d bits ls l).env) (advised p st bits l) (work_of_live p d bits ls l))
           (stood p st d bits l ∷ [])) ≡ None
-          → cond b (cond (Cycle.is_stage q (next_stage p l.thread.stage (deeds_of p st bits l))) (Some (Cycle.thread_after (lact p st d bits ls l))) None) (cond (l.thread.stage == q) (Some (with_answers p st bits (seat l))) None) ≡ None
+          → cond b (cond (Cycle.is_stage q (next_stage p l.thread.stage (deeds_of p st bits l)))
+          (Some (Cycle.thread_after (lact p st d bits ls l))) None) (cond (l.thread.stage == q) (Some (with_answers p st bits (seat l))) None) ≡ None
       at true i = ap (λ r. cond (Cycle.is_stage q r) (Some (Cycle.thread_after (lact p st d bits ls l))) None) (same_next ls l k) ∙ there _ i
       at false i = none (l.thread.stage == q) _ _ i

@@ -1,26 +1,24 @@
 -- After a cycle each lock's list is the entries of the threads that live on, and what it releases is what the derived machine commits.
-use Rattle.std.proofs.Common.{suc, zero, ◌+◌, take, drop, ◌≡◌, ◌≢◌, refl, sym, ap, ap₂, ◌∙◌, subst, ℕ, ◌≤◌, ◌<◌, ◌⊎◌, inl, inr, Bool, true, false, ◌&&◌, ◌||◌, not, List, [], ◌∷◌, ◌++◌, length, Option, Some, None, ◌==◌, nat_le, cond, if◌then◌else◌, arith, append-nil, leb-true, leb-false}
+use Rattle.std.proofs.Common.{suc, zero, ◌+◌, take, drop, ◌≡◌, ◌≢◌, refl, sym, ap, ap₂, ◌∙◌, subst, ℕ, ◌≤◌, ◌<◌, ◌⊎◌, inl, inr, Bool, true, false, ◌&&◌, not, List, [], ◌∷◌, ◌++◌, length, Option, Some, None, ◌==◌, nat_le, cond, if◌then◌else◌, arith, append-nil, leb-true, leb-false}
 use Rattle.std.proofs.lemmas.Bool.{eqb-true, eqb-false}
 use Rattle.pdl_semantics.specs.Flat.{Pipe, Commit, of_mem}
 use Rattle.pdl_semantics.specs.Stages.{list_any, in_stage, stage_at, goes_to, is_reserve, is_release, reserve_stage, commit_stage}
-use Rattle.pdl_semantics.specs.Locks.{commit_value}
 use Rattle.pdl_semantics.specs.Machine.{State, Pending, word_for, with_answers}
 use Rattle.pdl_semantics.specs.Moves.{movers}
 use Rattle.pdl_semantics.specs.Cycle.{awaited_of, new_entries, with_reserves, with_writes_of, with_all_writes, releases_of, all_releases, is_kept, entries_left}
 use Rattle.pdl_theory_turns.proofs.EntryCommits.{released}
 use Rattle.pdl_semantics.specs.Moves
 use Rattle.pdl_semantics.specs.Promises.{DifferInAdvice}
-use Rattle.pdl_theory_derived.specs.Derived.{Entry, Work, around, commits_of}
+use Rattle.pdl_theory_derived.specs.Derived.{Entry, Work, commits_of}
 use Rattle.pdl_theory_derived.specs.Derived
 use Rattle.pdl_theory_simulation.proofs.FlowFacts.{Flows, stage_or, next_of, Trunk}
 use Rattle.pdl_theory_derived.proofs.Writes.{of_mem_append}
-use Rattle.pdl_theory_derived.proofs.Entries.{write_of}
-use Rattle.pdl_theory_turns.proofs.Turn.{quiet, none_in_stage}
+use Rattle.pdl_theory_turns.proofs.Turn.{none_in_stage}
 use Rattle.pdl_theory_derived.proofs.Slots.{rev}
 use Rattle.pdl_theory_derived.proofs.Lists.{own, pend, Foreign, AllForeign, Reserveless, two_moved, two_stays}
 use Rattle.pdl_theory_turns.proofs.OwnEntries.{Worked, pend_own, quiet_reserves, quiet_releases}
 use Rattle.pdl_theory_simulation.proofs.LockRemovals.{Out, Still, out_more, foreign_append, foreign_pend, foreign_new, foreign_put_all, commits_more}
-use Rattle.pdl_theory_simulation.proofs.Stretches.{Behind, left_trunk, early, late, start_of}
+use Rattle.pdl_theory_simulation.proofs.Stretches.{Behind, left_trunk, early, late}
 use Rattle.pdl_theory_simulation.proofs.Seats.{Live, seat, each_map, Ordered, Falls, falls_up, dacts, lacts, lact, did, now_of, work_of_live, deeds_of, pends, pends_append, advised}
 use Rattle.pdl_theory_simulation.proofs.Choices.{Known, AllKnown, Seated, worked_here, ends_here, late_here}
 use Rattle.pdl_word.specs.Each.{Each}

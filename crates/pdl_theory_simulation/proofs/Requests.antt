@@ -1,10 +1,9 @@
 -- The requests of both machines after a cycle: the same are outstanding, their owners live and await them, and those of removed threads are orphans.
-use Rattle.std.proofs.Common.{◌≡◌, refl, sym, ap, ap₂, ◌∙◌, subst, ℕ, ◌<◌, Bool, true, false, ◌&&◌, ◌||◌, not, List, [], ◌∷◌, ◌++◌, length, Option, Some, None, is_some, is_none, ◌==◌, cond, if◌then◌else◌, arith, append-nil, append_assoc, eq-eqb}
+use Rattle.std.proofs.Common.{◌≡◌, refl, sym, ap, ap₂, ◌∙◌, subst, ℕ, ◌<◌, Bool, true, false, ◌&&◌, ◌||◌, not, List, [], ◌∷◌, ◌++◌, Option, Some, None, is_some, is_none, ◌==◌, cond, if◌then◌else◌, arith, append-nil, append_assoc, eq-eqb}
 use Rattle.std.proofs.lemmas.Bool.{eqb-true}
 use Rattle.pdl_semantics.specs.Flat.{Pipe, Stmt, Op, DelayedRead, list_all}
-use Rattle.pdl_semantics.specs.Stages.{stage_at, goes_to, in_stage, mem_at}
-use Rattle.pdl_semantics.specs.Machine.{Ask, Awaited, Request, NoRequest, Owned, Orphan, is_answered, State, lock_of, request_of}
-use Rattle.pdl_semantics.specs.Locks.{has_room}
+use Rattle.pdl_semantics.specs.Stages.{stage_at, goes_to, in_stage}
+use Rattle.pdl_semantics.specs.Machine.{Ask, Awaited, Request, NoRequest, Owned, Orphan, is_answered, State, request_of}
 use Rattle.pdl_semantics.specs.Moves.{movers, is_empty, block_ready}
 use Rattle.pdl_semantics.specs.Cycle.{awaited_of, asked_of, asked_by, asked_in, address_of, request_left, is_kept}
 use Rattle.pdl_semantics.specs.Promises.{DifferInAdvice}

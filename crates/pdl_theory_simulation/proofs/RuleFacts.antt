@@ -7,7 +7,7 @@ use Rattle.pdl_semantics.specs.Stages.{onpath, in_stage, last_stage, stage_at, g
 use Rattle.pdl_semantics.specs.Sound.{stages_before, stages_from, is_fetch}
 use Rattle.pdl_theory_facts.specs.Scans.{none_of, binds_var}
 use Rattle.pdl_theory_facts.proofs.Nested.{came_from_way, visits_same, visits_fork, trunk_within}
-use Rattle.pdl_theory_simulation.proofs.FlowFacts.{Within, Flows, FlowRules, AllOf, DefinedBy, SameBut, binds_guard, visits_stage, comes_by, on_side, next_of, stage_or, sets, is_fetch_of}
+use Rattle.pdl_theory_simulation.proofs.FlowFacts.{Within, Flows, FlowRules, AllOf, DefinedBy, SameBut, binds_guard, visits_stage, on_side, next_of, stage_or, sets, is_fetch_of}
 use Rattle.pdl_theory_turns.proofs.Paths.{stage_path, none_onpath}
 
 -- LISTS

@@ -1,5 +1,5 @@
 -- What a live thread keeps on its own way through the stages, whatever stands around it: the locations that it holds, its pending writes, the reads that it awaits.
-use Rattle.std.proofs.Common.{◌≡◌, refl, sym, ap, ap₂, ◌∙◌, subst, ℕ, ◌≤◌, ◌<◌, Bool, true, false, ◌&&◌, ◌||◌, not, List, [], ◌∷◌, ◌++◌, Some, None, ◌==◌, nat_lt, cond, if◌then◌else◌, arith, eq-eqb, slice_index, append-nil, ltb-true}
+use Rattle.std.proofs.Common.{◌≡◌, refl, sym, ap, ap₂, ◌∙◌, subst, ℕ, ◌≤◌, ◌<◌, Bool, true, false, ◌&&◌, ◌||◌, not, List, [], ◌∷◌, ◌++◌, Some, ◌==◌, nat_lt, cond, if◌then◌else◌, arith, eq-eqb, slice_index, append-nil, ltb-true}
 use Rattle.std.proofs.lemmas.Bool.{eqb-true}
 use Rattle.pdl_semantics.specs.Flat.{Commit, Op, Write, ReserveWrite, Release, Verify, Stmt, values_of, all_hold}
 use Rattle.pdl_semantics.specs.Stages.{onpath, is_reserve, is_release}
@@ -19,7 +19,7 @@ use Rattle.pdl_theory_turns.proofs.Paths.{Fixed, all_stays, taken_stays}
 use Rattle.pdl_theory_derived.proofs.Deeds.{places, places_without, places_filled}
 use Rattle.pdl_theory_derived.proofs.Lists.{own, pend}
 use Rattle.pdl_theory_turns.proofs.Steps.{Staged, unnamed, pendings, unnamed_append, pendings_append, pend_append, is_used, AllUsed}
-use Rattle.pdl_theory_turns.proofs.OwnEntries.{pend_own}
+use Rattle.pdl_theory_turns.proofs.OwnEntries.{pend_own, no_opens}
 
 -- SHAPES
 
@@ -35,10 +35,6 @@ pub record Shape (m : ℕ) (ph : Phase) (es : List Entry) : Type 0 where
 -- before the first reservation there are none
 pub shape_fresh : (m : ℕ) → Shape m Fresh []
 shape_fresh m = record { opens = []; fulls = []; entries = refl; at_open = refl; at_full = refl; apart = apart_fresh }
-
-no_opens : (os : List Open) → open_vars os ≡ [] → os ≡ []
-no_opens [] h = refl
-no_opens (o ∷ os) h = absurd (cc h)
 
 -- a thread whose write to m isn't begun, or is done, has no pending write of m
 pub shape_over : (m : ℕ) (ph : Phase) (es : List Entry) → is_over ph ≡ true → Shape m ph es → es ≡ []

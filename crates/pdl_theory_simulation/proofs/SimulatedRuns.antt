@@ -1,27 +1,20 @@
 -- Whole runs of the stated and of the derived machine: they begin alike, and show the same.
 use Rattle.std.proofs.Common.{◌≡◌, refl, sym, ap, ◌∙◌, subst, ℕ, zero, suc, Bool, true, false, List, [], ◌∷◌, ◌++◌, Some, None, ◌==◌, cond, arith, slice_index_or}
 use Rattle.std.proofs.lemmas.Bool.{eqb-true, eqb-false}
-use Rattle.pdl_semantics.specs.Flat.{Arrays, Pipe, Mem, Stage, Array, Branch, of_mem, after_commits}
+use Rattle.pdl_semantics.specs.Flat.{Arrays, Pipe, Mem, Stage}
 use Rattle.pdl_semantics.specs.Stages.{sides_of}
-use Rattle.pdl_semantics.specs.Machine.{NoRequest, State, Pending}
-use Rattle.pdl_semantics.specs.Cycle.{for_mems, for_stages, awaited_of, all_releases, list_two, list_three, taken_out, with_commits, with_all_advised, entries_left, request_left, request_next, port_writes, is_kept, squasher}
+use Rattle.pdl_semantics.specs.Machine.{NoRequest, Pending}
+use Rattle.pdl_semantics.specs.Cycle.{for_mems, for_stages}
 use Rattle.pdl_semantics.specs.Cycle
 use Rattle.pdl_theory_derived.specs.Derived.{asked_at}
 use Rattle.pdl_theory_derived.specs.Derived
 use Rattle.pdl_theory_simulation.proofs.FlowFacts.{Flows}
-use Rattle.pdl_theory_derived.specs.Simulation.{SameTurns}
 use Rattle.pdl_theory_derived.proofs.Slots.{stages_same}
 use Rattle.pdl_theory_simulation.proofs.PerMemory.{mems_same}
 use Rattle.pdl_theory_simulation.proofs.Stretches.{keeps_fresh}
 use Rattle.pdl_theory_simulation.proofs.Seats.{Live}
-use Rattle.pdl_theory_simulation.proofs.Choices.{Matched, OwnedBy, AllOwned, Seated, Known, AllKnown, AllForeseen, like_here, asks_here}
-use Rattle.pdl_theory_simulation.proofs.LiveThreads.{lives_next}
+use Rattle.pdl_theory_simulation.proofs.Choices.{Matched}
 use Rattle.pdl_theory_simulation.proofs.SimulatedStates.{Sim}
-use Rattle.pdl_theory_simulation.proofs.WholeSimulation.{turn_same, cycle_sim}
-use Rattle.pdl_semantics.specs.Promises.{row, wrote, DifferInAdvice}
-use Rattle.pdl_theory_simulation.proofs.ThreadFacts.{Pair, sides, sorted, lives_of, find_sorted, rises_sorted}
-use Rattle.pdl_theory_simulation.proofs.ActOrder.{Swaps, swaps_all, same_after, same_arrays, same_ports}
-use Rattle.pdl_theory_simulation.proofs.Advising.{EachAdvisory, advises_all, fits_stage, advice_apart}
 
 module _ (p : Pipe) (flows : Flows p) where
   -- RUNS

@@ -1,12 +1,11 @@
 -- What the statements of a path do to values, to awaited variables, to requests and to the successor.
 use Rattle.std.proofs.Common.{Option, ◌≡◌, refl, sym, ap, ◌∙◌, subst, ℕ, Bool, true, false, ◌&&◌, ◌||◌, not, List, [], ◌∷◌, ◌++◌, Some, None, is_some, ◌==◌, cond, if◌then◌else◌, arith, slice_index, slice_set, eq-eqb}
 use Rattle.std.proofs.lemmas.List.{get_or-set_other}
-use Rattle.std.proofs.lemmas.Bool.{eqb-true, eqb-false}
 use Rattle.std.proofs.lemmas.Bool.Decides.{eqb_tells}
 use Rattle.pdl_semantics.specs.Flat.{Commit, of_mem, Op, Bind, CombRead, DelayedRead, Write, ReserveWrite, Release, Call, SpecCall, Verify, Stmt, value_of, values_of, all_hold}
 use Rattle.pdl_semantics.specs.Stages.{onpath, is_reserve}
-use Rattle.pdl_semantics.specs.Machine.{Ask, Awaited, same_args, Pending, Blocked, Reserved, Deeds, deeds_after_all, is_held, Kept, is_answered, held_before}
-use Rattle.pdl_semantics.specs.Cycle.{awaited_of, releases_of}
+use Rattle.pdl_semantics.specs.Machine.{Ask, Awaited, same_args, Pending, Blocked, Reserved, Deeds, deeds_after_all, is_held}
+use Rattle.pdl_semantics.specs.Cycle.{awaited_of}
 use Rattle.pdl_semantics.specs.Sound.{is_call, is_delayed_read}
 use Rattle.pdl_semantics.specs.Machine
 use Rattle.pdl_theory_derived.specs.Derived.{Entry, Work, Around, work_after, do_all}
@@ -15,7 +14,7 @@ use Rattle.pdl_theory_simulation.proofs.FlowFacts.{SameBut, sets, is_fetch_of, u
 use Rattle.pdl_theory_derived.proofs.Writes.{and_left, and_right}
 use Rattle.pdl_theory_derived.proofs.Stages.{step}
 use Rattle.pdl_theory_turns.proofs.Paths.{Fixed}
-use Rattle.pdl_theory_derived.proofs.Deeds.{places, places_has, work_of, AllFit, told_step, Loosely, loose_start, loose_step}
+use Rattle.pdl_theory_derived.proofs.Deeds.{places, places_has, work_of, AllFit, Loosely, loose_step}
 use Rattle.pdl_theory_turns.proofs.Steps.{Here, step_write, step_reserve, step_release}
 
 -- what statements do to the pending writes of m
@@ -23,7 +22,8 @@ module _ (o : Around) (read : ℕ → ℕ → ℕ) (block : Blocked → Bool) (f
   step_op : (op : Op) (ph : Phase) (d : Deeds) (es : List Entry) (cs : List Commit) (gu : List ℕ) (c : Option (List ℕ)) (f : Bool)
       → places es ≡ d.held → use_ok m ph op ≡ true
       → Here o read block free m n start ph d (work_of o read block free (record d { guess = gu; child = c; fails = f }) es cs)
-      → Here o read block free m n start (next_phase m ph op) (Machine.deeds_after read op d) (work_after o op (work_of o read block free (record d { guess = gu; child = c; fails = f }) es cs))
+      → Here o read block free m n start (next_phase m ph op) (Machine.deeds_after read op d)
+      (work_after o op (work_of o read block free (record d { guess = gu; child = c; fails = f }) es cs))
   step_op (Write j a e) ph d es cs gu c f h k g = step_write m n j a (value_of e d.env) ph es (of_mem m cs) _ d.writes _ (j == m) refl k g
   step_op (ReserveWrite j a) ph d es cs gu c f h k g =
       step_reserve m n j a (slice_index d.env a) ph es (of_mem m cs) start d.reserves d.writes _ (j == m) refl k g
@@ -46,7 +46,8 @@ module _ (o : Around) (read : ℕ → ℕ → ℕ) (block : Blocked → Bool) (f
       at false false = g
   step_op _ ph d es cs gu c f h k g = g
 
-  step_if : (b : Bool) (op : Op) (ph : Phase) (d : Deeds) (w : Work) → Loosely o read block free d w → (b ≡ true → use_ok m ph op ≡ true)
+  -- a statement that is carried out or passed over leaves m's pending writes as the phase after it says
+  pub step_if : (b : Bool) (op : Op) (ph : Phase) (d : Deeds) (w : Work) → Loosely o read block free d w → (b ≡ true → use_ok m ph op ≡ true)
       → Here o read block free m n start ph d w
       → Here o read block free m n start (cond b (next_phase m ph op) ph)
       (cond b (Machine.deeds_after read op d) d)
@@ -72,8 +73,11 @@ module _ (o : Around) (read : ℕ → ℕ → ℕ) (block : Blocked → Bool) (f
     where
       at : (b c : Bool) → b ≡ c → uses_ok m ph (cond c (record x { guards = [] } ∷ onpath path xs) (onpath path xs)) ≡ true
           → Fixed path o xs (cond b (work_after o x.op w) w)
-          → ((ph' : Phase) (d' : Deeds) (w' : Work) → Loosely o read block free d' w' → Fixed path o xs w' → uses_ok m ph' (onpath path xs) ≡ true → Here o read block free m n start ph' d' w' → Here o read block free m n start (phase_all m ph' (onpath path xs)) (deeds_after_all read xs d') (do_all o xs w'))
-          → Here o read block free m n start (phase_all m ph (cond c (record x { guards = [] } ∷ onpath path xs) (onpath path xs))) (deeds_after_all read xs (cond b (Machine.deeds_after read x.op d) d)) (do_all o xs (cond b (work_after o x.op w) w))
+          → ((ph' : Phase) (d' : Deeds) (w' : Work) → Loosely o read block free d' w' → Fixed path o xs w' → uses_ok m ph'
+          (onpath path xs) ≡ true → Here o read block free m n start ph' d' w' → Here o read block free m n start
+          (phase_all m ph' (onpath path xs)) (deeds_after_all read xs d') (do_all o xs w'))
+          → Here o read block free m n start (phase_all m ph (cond c (record x { guards = [] } ∷ onpath path xs) (onpath path xs)))
+          (deeds_after_all read xs (cond b (Machine.deeds_after read x.op d) d)) (do_all o xs (cond b (work_after o x.op w) w))
       at true true e k q go =
           go (next_phase m ph x.op) (Machine.deeds_after read x.op d) (work_after o x.op w) (loose_step o read block free true x.op d w f.0 l) q
           (and_right (use_ok m ph x.op) _ k)
@@ -136,7 +140,8 @@ op_asks g o (DelayedRead x m a) w h = more w.asks
 op_asks g o (Verify last args) w h = at (same_args (values_of args w.env) w.guess)
   where
     at : (b : Bool)
-        → awaits_var (awaited_of (cond b w (record w { child = Some (values_of args w.env); guess = values_of args w.env; fails = true })).asks) g ≡ awaits_var (awaited_of w.asks) g
+        → awaits_var (awaited_of (cond b w (record w { child = Some (values_of args w.env); guess = values_of args w.env; fails = true })).asks) g
+        ≡ awaits_var (awaited_of w.asks) g
     at true = refl
     at false = refl
 op_asks g o _ w h = refl

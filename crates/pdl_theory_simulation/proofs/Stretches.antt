@@ -3,17 +3,17 @@ use Rattle.std.proofs.Common.{◌≡◌, refl, sym, ap, ap₂, ◌∙◌, subst,
 use Rattle.std.proofs.lemmas.Bool.{eqb-true, eqb-false}
 use Rattle.pdl_semantics.specs.Flat.{Stmt, Branch, Pipe}
 use Rattle.pdl_semantics.specs.Stages.{onpath, in_stage, stage_at, goes_to, is_reserve, is_release, reserve_stage, commit_stage}
-use Rattle.pdl_semantics.specs.Machine.{Ask, Awaited, is_answered, Blocked, Reserved, Deeds, held_before, deeds_after_all, Kept, same_args, Pending, is_held}
+use Rattle.pdl_semantics.specs.Machine.{Ask, Awaited, is_answered, Blocked, Deeds, held_before, deeds_after_all, Kept}
 use Rattle.pdl_semantics.specs.Cycle.{awaited_of, releases_of}
 use Rattle.pdl_semantics.specs.Sound.{stages_before, stages_from, is_delayed_read}
 use Rattle.pdl_theory_derived.specs.Derived.{Work, Around, work_of_stage, still, with_answers, answered_thread}
 use Rattle.pdl_theory_derived.specs.Derived
 use Rattle.pdl_theory_facts.specs.Scans.{Fresh, phase_all, is_over, none_of, called}
 use Rattle.pdl_theory_facts.proofs.Nested.{within_all, within_home, within_more}
-use Rattle.pdl_theory_simulation.proofs.FlowFacts.{Home, Within, Trunk, Below, Way, Flows, uses_ok, calls_ok, visits_stage, next_of, stage_or, comes_by, Leads, Ways}
+use Rattle.pdl_theory_simulation.proofs.FlowFacts.{Within, Trunk, Below, Way, Flows, uses_ok, calls_ok, visits_stage, next_of, stage_or, comes_by, Leads, Ways}
 use Rattle.pdl_theory_derived.proofs.Entries.{entries_of}
 use Rattle.pdl_theory_turns.proofs.Paths.{Fixed, none_onpath}
-use Rattle.pdl_theory_derived.proofs.Deeds.{places, AllFit, places_has, work_of, Loosely, loose_start, loose_step}
+use Rattle.pdl_theory_derived.proofs.Deeds.{places, AllFit, loose_start}
 use Rattle.pdl_theory_derived.proofs.Lists.{pend}
 use Rattle.pdl_theory_turns.proofs.Steps.{Here}
 use Rattle.pdl_theory_turns.proofs.OwnEntries.{Worked, worked, quiet_releases}
@@ -265,7 +265,8 @@ module _ (p : Pipe) (flows : Flows p) (env : List ℕ) (t : Derived.Thread) (k :
     stage_worked = worked m n _ _ _ _ here (by (t.stage == commit_stage p m) refl)
       where
         by : (b : Bool) → (t.stage == commit_stage p m) ≡ b
-            → (releases_of m (deeds_after_all read (in_stage t.stage p.stmts) (start_deeds advice)).releases ≡ 0) ⊎ (is_over (phase_all m Fresh (on_way p (work_of_stage p o t).env (next_of p t.stage (work_of_stage p o t).env))) ≡ true)
+            → (releases_of m (deeds_after_all read (in_stage t.stage p.stmts) (start_deeds advice)).releases ≡ 0)
+            ⊎ (is_over (phase_all m Fresh (on_way p (work_of_stage p o t).env (next_of p t.stage (work_of_stage p o t).env))) ≡ true)
         by true e = inr (over_at _ _ m (subst (λ s. s < next_of p t.stage (work_of_stage p o t).env) (eqb-true _ _ e) (stage_up (work_of_stage p o t).env)))
         by false e =
             inl
@@ -286,7 +287,8 @@ module _ (p : Pipe) (flows : Flows p) (env : List ℕ) (t : Derived.Thread) (k :
 
   -- a thread's stage makes no second successor but by a failing verify, and one that it makes was called
   pub made_then : (o : Around)
-      → has_made p (work_of_stage p o t).env (next_of p t.stage (work_of_stage p o t).env) ≡ called (has_made p env t.stage) (onpath (work_of_stage p o t).env (in_stage t.stage p.stmts))
+      → has_made p (work_of_stage p o t).env (next_of p t.stage (work_of_stage p o t).env) ≡ called (has_made p env t.stage)
+      (onpath (work_of_stage p o t).env (in_stage t.stage p.stmts))
   made_then o = ap (called false) (way_next o) ∙ called_append false (on_way p env t.stage) _
 
   -- the calls of its stage

@@ -1,18 +1,17 @@
 -- Where the live threads stand after a cycle: in age order, in their stages, each but the youngest with its successor made.
-use Rattle.std.proofs.Common.{◌≡◌, refl, sym, ap, ap₂, ◌∙◌, subst, ℕ, suc, ◌≤◌, ◌<◌, ◌⊎◌, inl, inr, Bool, true, false, ◌&&◌, ◌||◌, not, List, [], ◌∷◌, ◌++◌, length, Option, Some, None, is_some, ◌==◌, nat_lt, nat_le, cond, if◌then◌else◌, arith, ltb-true, ltb-false, leb-true, leb-false, eq-eqb, le_refl, le_of_lt}
+use Rattle.std.proofs.Common.{◌≡◌, refl, sym, ap, ap₂, ◌∙◌, subst, ℕ, suc, ◌≤◌, ◌<◌, ◌⊎◌, inl, inr, Bool, true, false, ◌&&◌, ◌||◌, not, List, [], ◌∷◌, ◌++◌, length, Option, Some, None, is_some, ◌==◌, nat_lt, nat_le, cond, if◌then◌else◌, arith, ltb-true, ltb-false, leb-true, leb-false, eq-eqb}
 use Rattle.std.proofs.lemmas.Bool.{eqb-true, eqb-false, ne_eqb}
 use Rattle.pdl_semantics.specs.Flat.{Pipe, Branch, list_all}
-use Rattle.pdl_semantics.specs.Stages.{stage_at, goes_to, is_inside, mem_at}
+use Rattle.pdl_semantics.specs.Stages.{stage_at, goes_to, is_inside}
 use Rattle.pdl_semantics.specs.Machine.{State}
 use Rattle.pdl_semantics.specs.Moves.{block_ready}
-use Rattle.pdl_semantics.specs.Locks.{has_room}
 use Rattle.pdl_semantics.specs.Cycle.{next_thread, or_then, is_kept, if_kept}
 use Rattle.pdl_semantics.specs.Cycle
 use Rattle.pdl_semantics.specs.Machine
 use Rattle.pdl_semantics.specs.Promises.{DifferInAdvice}
 use Rattle.pdl_theory_derived.specs.Derived.{around}
 use Rattle.pdl_theory_derived.specs.Derived
-use Rattle.pdl_theory_simulation.proofs.FlowFacts.{Home, Within, Below, Flows, Ways, Leads, stage_or, next_of}
+use Rattle.pdl_theory_simulation.proofs.FlowFacts.{Home, Within, Flows, Ways, Leads, stage_or, next_of}
 use Rattle.pdl_theory_derived.proofs.Writes.{and_left, and_right}
 use Rattle.pdl_theory_facts.proofs.Nested.{same_head, same_tail, within_home, Came, came_way}
 use Rattle.pdl_theory_simulation.proofs.Stretches.{Behind, left_trunk, less_home, fork_left, Keeps, has_made, keeps_next, keeps_fresh}

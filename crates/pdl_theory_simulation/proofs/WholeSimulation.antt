@@ -1,8 +1,7 @@
 -- What ties a state of the stated machine to one of the derived machine, one cycle of both, and whole runs.
 use Rattle.std.proofs.Common.{drop, take, ◌≡◌, refl, sym, ap, ap₂, ◌∙◌, subst, ℕ, zero, suc, ◌+◌, ◌≤◌, ◌<◌, Bool, true, false, ◌&&◌, ◌||◌, not, List, [], ◌∷◌, ◌++◌, length, Option, Some, None, is_some, is_none, ◌==◌, nat_lt, cond, if◌then◌else◌, arith, append-nil, slice_index_or, ltb-true, ltb-false, zero-add, add-zero, add-suc, suc-add, eq-eqb}
-use Rattle.std.proofs.lemmas.Bool.{eqb-true}
-use Rattle.pdl_semantics.specs.Flat.{Arrays, Pipe, Branch, Mem, Stage, of_mem, after_commits, Array}
-use Rattle.pdl_semantics.specs.Stages.{list_any, stage_at, goes_to, in_stage, is_inside, sides_of}
+use Rattle.pdl_semantics.specs.Flat.{Arrays, Pipe, Mem, Stage, of_mem, after_commits, Array}
+use Rattle.pdl_semantics.specs.Stages.{list_any, stage_at, goes_to, in_stage, is_inside}
 use Rattle.pdl_semantics.specs.Sound.{is_delayed_read}
 use Rattle.pdl_semantics.specs.Machine.{Ask, Awaited, Request, NoRequest, Owned, Orphan, is_answered, State, lock_of, fork_of, request_of, with_kept}
 use Rattle.pdl_semantics.specs.Cycle.{awaited_of, for_mems, for_stages, all_releases, list_two, list_three, taken_out, with_commits, entries_left, request_left, request_next, port_writes, is_kept, squasher, with_all_advised}
@@ -28,7 +27,7 @@ use Rattle.pdl_theory_turns.proofs.OwnEntries.{pend_own}
 use Rattle.pdl_theory_simulation.proofs.Stretches.{Keeps, Fetched, AllFetched, unknown}
 use Rattle.pdl_theory_simulation.proofs.StretchSteps.{AsksFrom}
 use Rattle.pdl_theory_simulation.proofs.Seats.{Live, each_map, Ordered, Rises, Falls, dacts, lacts, lact, did, work_of_live, acts_slots, acts_back, pends, pends_append}
-use Rattle.pdl_theory_simulation.proofs.Choices.{Matched, OwnedBy, AllOwned, Seated, Known, AllKnown, told_here, asks_here, AllForeseen, like_here}
+use Rattle.pdl_theory_simulation.proofs.Choices.{Matched, OwnedBy, AllOwned, Seated, Known, AllKnown, asks_here, AllForeseen, like_here}
 use Rattle.pdl_theory_simulation.proofs.ThreadFacts.{sides, sorted, lives_of, find_sorted, rises_sorted, Pair}
 use Rattle.pdl_theory_simulation.proofs.Orders.{sides_none, known_all, acts_of, acts_sorted}
 use Rattle.pdl_theory_simulation.proofs.ActOrder.{swaps_all, same_after, same_ports, Swaps, same_arrays}
@@ -440,7 +439,9 @@ module _ (p : Pipe) (flows : Flows p) where
         record {
           arrays = arrays_next;
           threads = survive p flows st d bits sim.arrays ls known sim.have_made;
-          stages = stages_same _ _ 0 p.stages (λ q i. ap (λ c. Cycle.or_then (if q == 0 then Cycle.born_thread p st.next c else None) (Cycle.if_kept (squasher (movers (lacts p st d bits ls))) (Cycle.next_thread p q (lacts p st d bits ls)))) (child_is p flows st d bits sim.arrays ls known foreseen)
+          stages = stages_same _ _ 0 p.stages (λ q i. ap (λ c. Cycle.or_then (if q == 0 then Cycle.born_thread p st.next c else None)
+              (Cycle.if_kept (squasher (movers (lacts p st d bits ls))) (Cycle.next_thread p q (lacts p st d bits ls))))
+              (child_is p flows st d bits sim.arrays ls known foreseen)
               ∙ stage_is p flows st d bits sim.arrays (squasher (movers (lacts p st d bits ls))) q ls known foreseen sim.ordered fit);
           locks = locks_next;
           falls =

@@ -3,7 +3,7 @@ use Rattle.std.proofs.Common.{◌≡◌, refl, ap, ap₂, ◌∙◌, subst, ℕ,
 use Rattle.std.proofs.lemmas.Bool.{or_right}
 use Rattle.pdl_theory_facts.specs.Graphs.{Trunk}
 use Rattle.pdl_semantics.specs.Flat.{Pipe, Stmt, list_all}
-use Rattle.pdl_semantics.specs.Stages.{list_any, verify_stage, stage_at}
+use Rattle.pdl_semantics.specs.Stages.{list_any, verify_stage}
 use Rattle.pdl_semantics.specs.Machine.{State, Request, NoRequest, Owned, Orphan, Pending, lock_of, request_of}
 use Rattle.pdl_semantics.specs.Sound.{live, all_pairs, all_from, in_order, are_linked, certain_after, asks_right, is_barrier, stays_ready, on_path, has_done, past_stmts}
 use Rattle.pdl_semantics.specs.Sound

@@ -50,7 +50,8 @@ module _ (p : Pipe) (sound : Sound p) (strict : Strict p) (image : Arrays) (sche
   abbrev d : Derived.State
   d = Derived.state_after p (Derived.first p image (hints_of p (first p image) schedule)) schedule
 
-  sim_here : Sim p (state_after p (first p image) schedule) (Derived.state_after p (Derived.first p image (hints_of p (first p image) schedule)) schedule) (reached p sound strict image schedule).0
+  sim_here : Sim p (state_after p (first p image) schedule) (Derived.state_after p
+      (Derived.first p image (hints_of p (first p image) schedule)) schedule) (reached p sound strict image schedule).0
   sim_here = (reached p sound strict image schedule).1
 
   whole_here : Whole p (state_after p (first p image) schedule) (reached p sound strict image schedule).0
@@ -116,7 +117,8 @@ module _ (p : Pipe) (sound : Sound p) (strict : Strict p) (image : Arrays) (sche
   abbrev past : ℕ → List Commit
   past m = of_mem m (Derived.all_commits (Derived.turns p image (hints_of p (first p image) schedule) schedule))
 
-  rows_now : RowsAt image (λ m. of_mem m (Derived.all_commits (Derived.turns p image (hints_of p (first p image) schedule) schedule))) (Derived.state_after p (Derived.first p image (hints_of p (first p image) schedule)) schedule).arrays
+  rows_now : RowsAt image (λ m. of_mem m (Derived.all_commits (Derived.turns p image (hints_of p (first p image) schedule) schedule)))
+      (Derived.state_after p (Derived.first p image (hints_of p (first p image) schedule)) schedule).arrays
   rows_now m =
       ap (λ l. row l m) runs_here.arrays ∙ row_committed m (Derived.all_commits (Derived.turns p image (hints_of p (first p image) schedule) schedule)) image
 

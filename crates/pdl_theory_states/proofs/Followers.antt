@@ -1,5 +1,5 @@
 -- The live threads up to the first wrong guess follow their turns: their values, once answered, are the turn's.
-use Rattle.std.proofs.Common.{◌≡◌, ◌≢◌, refl, sym, ap, ap₂, ◌∙◌, subst, ℕ, ◌≤◌, ◌⊎◌, inl, inr, Bool, true, false, ◌&&◌, ◌||◌, not, List, [], ◌∷◌, ◌++◌, Option, Some, None, is_some, ◌==◌, nat_lt, cond, if◌then◌else◌, slice_index, slice_set, eq-eqb, ltb-true, ltb-false}
+use Rattle.std.proofs.Common.{◌≡◌, ◌≢◌, refl, sym, ap, ap₂, ◌∙◌, subst, ℕ, ◌≤◌, ◌⊎◌, inl, inr, Bool, true, false, ◌&&◌, ◌||◌, not, List, [], ◌∷◌, ◌++◌, Option, Some, None, is_some, ◌==◌, nat_lt, if◌then◌else◌, slice_index, slice_set, eq-eqb, ltb-true, ltb-false}
 use Rattle.std.proofs.lemmas.Bool.{eqb-false, or_right, or_left}
 use Rattle.pdl_semantics.specs.Flat.{Arrays, Array, Pipe, Op, DelayedRead, Stmt, of_mem, word_at, list_all}
 use Rattle.pdl_semantics.specs.Stages

@@ -1,22 +1,19 @@
 -- What a thread has guessed is what its statement says of its values and its advised ones, ever after.
-use Rattle.std.proofs.Common.{◌≡◌, ◌≢◌, refl, sym, ap, ap₂, ◌∙◌, subst, ℕ, zero, suc, Bool, true, false, ◌&&◌, ◌||◌, not, List, [], ◌∷◌, ◌++◌, length, Option, Some, None, cond, if◌then◌else◌, slice_index, slice_set}
+use Rattle.std.proofs.Common.{◌≡◌, ◌≢◌, refl, sym, ap, ap₂, ◌∙◌, subst, ℕ, zero, suc, Bool, true, false, ◌&&◌, not, List, [], ◌∷◌, ◌++◌, length, Some, cond, slice_index, slice_set}
 use Rattle.std.proofs.lemmas.List.{get_or-set_other, length-set}
-use Rattle.std.proofs.lemmas.Bool.{not-true, or_parts}
-use Rattle.pdl_semantics.specs.Flat.{list_all, Op, Bind, CombRead, DelayedRead, Call, SpecCall, Verify, AdviceBind, AdviceRead, Expr, Stmt, value_of, values_of, all_hold}
+use Rattle.std.proofs.lemmas.Bool.{not-true}
+use Rattle.pdl_semantics.specs.Flat.{list_all, Op, Bind, CombRead, SpecCall, Verify, AdviceBind, AdviceRead, Expr, Stmt, values_of, all_hold}
 use Rattle.pdl_semantics.specs.Stages.{onpath}
-use Rattle.pdl_semantics.specs.Machine.{Ask, Kept, Blocked, same_args, with_kept, all_values, Deeds, deeds_after_all}
+use Rattle.pdl_semantics.specs.Machine.{Ask, Kept, Blocked, same_args, with_kept, Deeds, deeds_after_all}
 use Rattle.pdl_semantics.specs.Machine
-use Rattle.pdl_semantics.specs.Sound.{is_call}
-use Rattle.pdl_theory_derived.specs.Derived.{Work, Around, work_after, do_all}
-use Rattle.pdl_theory_derived.specs.Simulation.{is_guess}
+use Rattle.pdl_theory_derived.specs.Derived.{Work, Around, work_after}
 use Rattle.pdl_theory_derived.proofs.Deeds.{AllFit, Loosely, loose_step, Guesses, AllGuesses}
 use Rattle.pdl_theory_derived.proofs.Writes.{and_left, and_right}
 use Rattle.pdl_theory_facts.specs.Facts.{uses_any}
 use Rattle.pdl_theory_turns.proofs.Paths.{Fixed}
-use Rattle.pdl_theory_simulation.proofs.FlowFacts.{call_ok, calls_ok}
 use Rattle.pdl_semantics.proofs.Facts.{kept_append}
-use Rattle.pdl_theory_states.specs.Strict.{bound_of, binds_used, keeps_guess, all_keep_guess}
-use Rattle.pdl_theory_states.proofs.UnusedValues.{AllOps, ops_map, ops_both, onto, touches, values_agree}
+use Rattle.pdl_theory_states.specs.Strict.{binds_used, keeps_guess, all_keep_guess}
+use Rattle.pdl_theory_states.proofs.UnusedValues.{AllOps, ops_both, onto, touches, values_agree}
 use Rattle.pdl_theory_states.proofs.ThreadHistory.{AllKept}
 use Rattle.pdl_word.proofs.Bools.{untrue}
 
@@ -160,7 +157,9 @@ module _ (o : Around) (read : ℕ → ℕ → ℕ) (block : Blocked → Bool) (f
           → Free past' (onpath path xs) → all_keep_guess (onpath path xs) ≡ true → AllOps (GuessDone d'.advice d'.env o.guess) past'
           → AllOps (GuessDone (deeds_after_all read xs d').advice (deeds_after_all read xs d').env o.guess) (onto (onpath path xs) past'))
           → ((b ≡ true → Guesses o read block free x.op d) × AllGuesses o read block free xs (cond b (Machine.deeds_after read x.op d) d))
-          → AllOps (GuessDone (deeds_after_all read xs (cond b (Machine.deeds_after read x.op d) d)).advice (deeds_after_all read xs (cond b (Machine.deeds_after read x.op d) d)).env o.guess) (onto (cond e (record x { guards = [] } ∷ onpath path xs) (onpath path xs)) past)
+          → AllOps (GuessDone (deeds_after_all read xs (cond b (Machine.deeds_after read x.op d) d)).advice
+          (deeds_after_all read xs (cond b (Machine.deeds_after read x.op d) d)).env o.guess)
+          (onto (cond e (record x { guards = [] } ∷ onpath path xs) (onpath path xs)) past)
       at true true i r g q go n =
           let c = parts past r in
           go (x.op ∷ past) (Machine.deeds_after read x.op d) (work_after o x.op w) (loose_step o read block free true x.op d w f.0 l) q n.1

@@ -1,8 +1,8 @@
 -- How the threads use the locks in each state of a run.
-use Rattle.std.proofs.Common.{◌≡◌, refl, sym, subst, ap, ◌∙◌, ℕ, ◌+◌, ◌≤◌, Bool, List, [], ◌∷◌, length}
+use Rattle.std.proofs.Common.{◌≡◌, sym, subst, ap, ◌∙◌, ℕ, ◌+◌, ◌≤◌, Bool, List, [], ◌∷◌, length}
 use Rattle.pdl_semantics.specs.Flat.{Arrays, Pipe}
 use Rattle.pdl_semantics.specs.Stages.{reserve_stage}
-use Rattle.pdl_semantics.specs.Machine.{State, Pending, lock_of}
+use Rattle.pdl_semantics.specs.Machine.{State, lock_of}
 use Rattle.pdl_semantics.specs.Moves.{Act, all_acts, movers}
 use Rattle.pdl_semantics.specs.Cycle.{first, state_after, with_reserves, all_releases}
 use Rattle.pdl_theory_derived.specs.Derived

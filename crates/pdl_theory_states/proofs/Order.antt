@@ -1,5 +1,5 @@
 -- Live threads stand in order: the older one in the greater stage, or in the other branch of a fork.
-use Rattle.std.proofs.Common.{◌≡◌, ◌≢◌, refl, sym, ap, ap₂, ◌∙◌, subst, ℕ, zero, suc, length, ◌≤◌, ◌<◌, ◌⊎◌, inl, inr, Bool, true, false, ◌&&◌, ◌||◌, not, List, [], ◌∷◌, ◌++◌, Option, Some, None, ◌==◌, nat_lt, if◌then◌else◌, arith, eq-eqb, ltb-true, ltb-false, lt-ltb, le_refl, append-nil, append_assoc, length-append}
+use Rattle.std.proofs.Common.{◌≡◌, ◌≢◌, refl, sym, ap, ap₂, ◌∙◌, subst, ℕ, zero, suc, length, ◌≤◌, ◌<◌, ◌⊎◌, inl, inr, Bool, true, false, ◌&&◌, ◌||◌, not, List, [], ◌∷◌, ◌++◌, ◌==◌, nat_lt, if◌then◌else◌, arith, eq-eqb, ltb-true, ltb-false, lt-ltb, le_refl, append-nil, append_assoc, length-append}
 use Rattle.std.proofs.lemmas.Bool.{eqb-true, eqb-false, or_right, or_left}
 use Rattle.pdl_semantics.specs.Flat.{Pipe, Branch}
 use Rattle.pdl_semantics.specs.Stages.{list_any, stage_at, sides_of}
@@ -119,7 +119,8 @@ module _ (p : Pipe) (g : Ways p) where
       from (suc n) c (m ∷ ms) (o ∷ os) e f low = inner (last_of m ms) (last_of o os) (λ d a b i j k. from n d a b i j k)
         where
           inner : (init : List Branch) × (z : Branch) × (m ∷ ms ≡ init ++ z ∷ []) → (init : List Branch) × (z : Branch) × (o ∷ os ≡ init ++ z ∷ [])
-              → ((d a b : List Branch) → (stage_at p younger.stage).branches ≡ a ++ d → (stage_at p older.stage).branches ≡ b ++ d → length a < n → Sound.is_behind p older younger ≡ true)
+              → ((d a b : List Branch) → (stage_at p younger.stage).branches ≡ a ++ d → (stage_at p older.stage).branches ≡ b
+              ++ d → length a < n → Sound.is_behind p older younger ≡ true)
               → Sound.is_behind p older younger ≡ true
           inner r s further = at (r.1.fork == s.1.fork) refl
             where

@@ -1,10 +1,10 @@
 -- The points of Sound state that hold of all live threads alike.
 use Rattle.std.proofs.Common.{◌≡◌, refl, sym, ap, ap₂, ◌∙◌, subst, ℕ, ◌<◌, ◌⊎◌, inl, inr, Bool, true, false, ◌&&◌, ◌||◌, not, List, [], ◌∷◌, ◌++◌, length, ◌==◌, cond, arith, slice_index, eq-eqb, lt-ltb, ltb-true, ltb-false, nat_lt}
 use Rattle.std.proofs.lemmas.Bool.{or_right, or_left, not-true}
-use Rattle.pdl_semantics.specs.Flat.{Pipe, Op, Bind, CombRead, DelayedRead, Write, ReserveRead, ReserveWrite, Block, Release, Call, SpecCall, Verify, SpecCheck, SpecBarrier, AdviceBind, AdviceRead, AdviceWrite, Stmt, list_all, values_of}
+use Rattle.pdl_semantics.specs.Flat.{Pipe, Op, Bind, CombRead, DelayedRead, Write, ReserveRead, ReserveWrite, Block, Release, Call, SpecCall, Verify, SpecCheck, SpecBarrier, AdviceBind, AdviceRead, AdviceWrite, Stmt, list_all}
 use Rattle.pdl_semantics.specs.Stages.{list_any, is_release, commit_stage, mem_at}
 use Rattle.pdl_semantics.specs.Locks.{read_ready, write_ready}
-use Rattle.pdl_semantics.specs.Machine.{State, Awaited, Kept, with_kept, Pending, HeldLocation, lock_of, request_of, same_args, is_held, held_before, older_write}
+use Rattle.pdl_semantics.specs.Machine.{State, Awaited, Kept, Pending, HeldLocation, lock_of, request_of, same_args, is_held, held_before, older_write}
 use Rattle.pdl_semantics.specs.Moves.{block_ready}
 use Rattle.pdl_semantics.specs.Sound.{stages_before, are_linked, is_kept_or_awaited, asks_right, is_owner, is_release_at, stays_ready, on_path, is_done, right_place, is_fetch, held_places, has_done, is_call, guess_of, guess_after}
 use Rattle.pdl_semantics.specs.Sound
@@ -23,7 +23,7 @@ use Rattle.pdl_theory_simulation.proofs.Seats.{Live, threads_of, each_map}
 use Rattle.pdl_theory_simulation.proofs.Choices.{Seated}
 use Rattle.pdl_theory_simulation.proofs.Choices
 use Rattle.pdl_theory_states.proofs.OldestFirst.{told, oldest_first, AllLive, live_each}
-use Rattle.pdl_theory_states.proofs.PastStatements.{BlockOk, AllPlaced, is_released, AllStand, let_go, standing}
+use Rattle.pdl_theory_states.proofs.PastStatements.{BlockOk, is_released, AllStand, let_go, standing}
 use Rattle.pdl_theory_states.proofs.UnusedValues.{AllOps, onto, Done, guess_past}
 use Rattle.pdl_theory_states.proofs.Trails.{AllStmts, stmts_map, stmts_ops, trail_comes}
 use Rattle.pdl_theory_states.proofs.ThreadHistory.{Local, here, past_of}
@@ -242,7 +242,7 @@ done_op st l (AdviceRead x m a) h = refl
 done_op st l (AdviceWrite m a e) h = refl
 
 -- the guess after statements that were carried out one after another is what these give, in the order of the text
-guess_onto : (hint : List ℕ) (advice : List Kept) (env : List ℕ) (xs : List Stmt) (past : List Op) → AllOps (GuessDone advice env hint) (onto xs past)
+pub guess_onto : (hint : List ℕ) (advice : List Kept) (env : List ℕ) (xs : List Stmt) (past : List Op) → AllOps (GuessDone advice env hint) (onto xs past)
     → guess_past hint (onto xs past) env ≡ guess_of xs advice env (guess_past hint past env)
 guess_onto hint advice env [] past h = refl
 guess_onto hint advice env (x ∷ xs) past h =

@@ -5,7 +5,6 @@ use Rattle.pdl_semantics.specs.Stages.{onpath, in_stage, stage_at, goes_to}
 use Rattle.pdl_semantics.specs.Machine.{State}
 use Rattle.pdl_semantics.specs.Moves.{movers}
 use Rattle.pdl_semantics.specs.Cycle.{squasher, state_after, cycle, first}
-use Rattle.pdl_semantics.specs.Cycle
 use Rattle.pdl_theory_derived.specs.Derived.{find_ask, fresh, around}
 use Rattle.pdl_theory_derived.specs.Derived
 use Rattle.pdl_theory_derived.specs.Simulation.{hints_of}
@@ -26,7 +25,7 @@ use Rattle.pdl_theory_simulation.proofs.LiveThreads.{made, childed_here, born_li
 use Rattle.pdl_theory_simulation.proofs.Requests.{Asker, asking, one_asks, first_of}
 use Rattle.pdl_theory_simulation.proofs.WholeSimulation.{next_state, known, fit, after_is, cycle_sim}
 use Rattle.pdl_theory_simulation.proofs.SimulatedRuns.{first_sim, first_live}
-use Rattle.pdl_theory_simulation.proofs.Foretold.{Foretells, foreseen_here, foretells_next, first_foretells}
+use Rattle.pdl_theory_simulation.proofs.Foretold.{Foretells, foreseen_here, foretells_next, first_foretells, stays_called}
 use Rattle.pdl_theory_states.specs.Strict.{Strict}
 use Rattle.pdl_theory_states.proofs.PastStatements.{BlockOk}
 use Rattle.pdl_theory_states.proofs.Guessed.{GuessDone}
@@ -53,10 +52,6 @@ unmade_op (Call args) h k = absurd (cc k)
 unmade_op (SpecCall args) h k = absurd (cc k)
 unmade_op (Verify last args) h k = absurd (cc h)
 unmade_op _ h k = refl
-
-stays_called : (xs : List Stmt) → called true xs ≡ true
-stays_called [] = refl
-stays_called (x ∷ xs) = stays_called xs
 
 unmade_all : (xs : List Stmt) → calls_ok false xs ≡ true → called false xs ≡ false → making_all Unmade xs ≡ Unmade
 unmade_all [] h k = refl

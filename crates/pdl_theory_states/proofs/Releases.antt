@@ -1,7 +1,7 @@
 -- Who has released a write of a memory: only threads past the stage of its releases, all threads of turns past it that write, and none after a wrong guess.
-use Rattle.std.proofs.Common.{◌≡◌, refl, sym, ap, ap₂, ◌∙◌, subst, ℕ, ◌<◌, Bool, true, false, ◌&&◌, ◌||◌, not, List, [], ◌∷◌, ◌++◌, Some, ◌==◌, nat_lt, cond, arith, eq-eqb, ltb-true, ltb-false, lt-ltb}
+use Rattle.std.proofs.Common.{◌≡◌, refl, sym, ap, ap₂, ◌∙◌, subst, ℕ, ◌<◌, Bool, true, false, ◌&&◌, ◌||◌, not, List, [], ◌∷◌, ◌++◌, Some, ◌==◌, nat_lt, cond, arith, ltb-true, ltb-false, lt-ltb}
 use Rattle.std.proofs.lemmas.Bool.{eqb-true, not-true, or_right}
-use Rattle.pdl_semantics.specs.Flat.{Arrays, Pipe, Op, Bind, CombRead, DelayedRead, Write, ReserveRead, ReserveWrite, Block, Release, Call, SpecCall, Verify, SpecCheck, SpecBarrier, AdviceBind, AdviceRead, AdviceWrite, Stmt, Commit, all_hold, of_mem}
+use Rattle.pdl_semantics.specs.Flat.{Pipe, Op, Bind, CombRead, DelayedRead, Write, ReserveRead, ReserveWrite, Block, Release, Call, SpecCall, Verify, SpecCheck, SpecBarrier, AdviceBind, AdviceRead, AdviceWrite, Stmt, Commit, all_hold, of_mem}
 use Rattle.pdl_semantics.specs.Stages.{list_any, onpath, is_release, commit_stage, verify_stage}
 use Rattle.pdl_semantics.specs.Machine.{State, HeldLocation}
 use Rattle.pdl_semantics.specs.Sequential.{Run, thread}
@@ -17,7 +17,7 @@ use Rattle.pdl_theory_derived.proofs.Writes.{and_left, and_right}
 use Rattle.pdl_theory_simulation.proofs.FlowFacts.{uses_ok, use_ok}
 use Rattle.pdl_theory_simulation.proofs.AcceptedFacts.{sound_flows, phases_looked}
 use Rattle.pdl_theory_derived.proofs.Entries.{entries_of, Open, Full, waiting, known, open_vars, full_vars}
-use Rattle.pdl_theory_facts.proofs.Apart.{front_among}
+use Rattle.pdl_theory_facts.proofs.Apart.{front_among, oldest_among}
 use Rattle.pdl_theory_turns.proofs.Phases.{Tied}
 use Rattle.pdl_theory_derived.proofs.Deeds.{places}
 use Rattle.pdl_theory_turns.proofs.CertaintyScans.{some_barrier, sure_first}
@@ -251,11 +251,6 @@ module _ (p : Pipe) (sound : Sound p) (world : World) (args : List ℕ) where
 
 -- A THREAD AFTER A WRONG GUESS
 
-oldest_among : (a : ℕ) (xs : List ℕ) → is_oldest a xs ≡ true → is_among a xs ≡ true
-oldest_among a [] h = absurd (cc h)
-oldest_among a (x ∷ []) h = ap (λ b. b || false) h
-oldest_among a (x ∷ y ∷ ys) h = or_right (x == a) _ (oldest_among a (y ∷ ys) (and_right (not (x == a)) _ h))
-
 -- writes under way have their locations among those that were opened
 pub record Opened (m : ℕ) (ph : Phase) (c : Scan) : Type 0 where
   pub unwritten : (x : ℕ) → is_among x ph.unwritten ≡ true → has_location c.held m x ≡ true
@@ -302,7 +297,8 @@ sure_op m v s c ph (Release n a) k u low o d = at (n == m) refl (is_among a ph.f
     shut true false i j = absurd (cc j)
 
     at : (b : Bool) → (n == m) ≡ b → (t : Bool) → is_among a ph.full ≡ t
-        → Opened m (cond b (cond t (record { unwritten = ph.unwritten; full = drop_var a ph.full; gone = a ∷ ph.gone }) ph) ph) c × (is_done (cond b (cond t (record { unwritten = ph.unwritten; full = drop_var a ph.full; gone = a ∷ ph.gone }) ph) ph) ≡ false)
+        → Opened m (cond b (cond t (record { unwritten = ph.unwritten; full = drop_var a ph.full; gone = a ∷ ph.gone }) ph) ph) c
+        × (is_done (cond b (cond t (record { unwritten = ph.unwritten; full = drop_var a ph.full; gone = a ∷ ph.gone }) ph) ph) ≡ false)
     at true e true g = absurd (cc (sym (shut (has_location c.held n a) (nat_lt s v) u low) ∙ ap (λ j. has_location c.held j a) (eqb-true n m e) ∙ o.full a g))
     at true e false g = (o, d)
     at false e t g = (o, d)

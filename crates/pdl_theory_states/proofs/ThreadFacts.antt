@@ -1,5 +1,5 @@
 -- What holds of each live thread beside the simulation, whatever its guess: it keeps to one path, owns what it awaits, is certain after a barrier, and its blocks stay ready.
-use Rattle.std.proofs.Common.{◌≡◌, refl, sym, subst, ℕ, ◌≤◌, ◌<◌, ◌⊎◌, inl, inr, Bool, true, false, ◌||◌, not, List, [], ◌∷◌, ◌++◌, Option, Some, None, nat_lt, nat_le, cond, if◌then◌else◌, arith, slice_index, ltb-true, leb-true, le_refl}
+use Rattle.std.proofs.Common.{◌≡◌, refl, sym, subst, ℕ, ◌≤◌, ◌<◌, ◌⊎◌, inl, inr, Bool, true, false, ◌||◌, not, List, [], ◌∷◌, ◌++◌, Some, nat_lt, nat_le, cond, if◌then◌else◌, arith, slice_index, ltb-true, leb-true, le_refl}
 use Rattle.pdl_semantics.specs.Flat.{Pipe, Op, SpecBarrier, Block, Stmt, Branch, all_hold}
 use Rattle.pdl_semantics.specs.Stages.{onpath, in_stage, stage_at, goes_to, verify_stage, reserve_stage, mem_at}
 use Rattle.pdl_semantics.specs.Locks.{read_ready, write_ready}
@@ -7,7 +7,6 @@ use Rattle.pdl_semantics.specs.Machine.{Ask, Awaited, Deeds, is_answered, State,
 use Rattle.pdl_semantics.specs.Moves.{movers, block_ready}
 use Rattle.pdl_semantics.specs.Cycle.{awaited_of, squasher, is_kept}
 use Rattle.pdl_semantics.specs.Sound.{is_barrier}
-use Rattle.pdl_semantics.specs.Cycle
 use Rattle.pdl_semantics.specs.Machine
 use Rattle.pdl_theory_derived.specs.Derived.{Work, Around, around, befores, still, find_ask, latest}
 use Rattle.pdl_theory_derived.specs.Derived
@@ -18,7 +17,7 @@ use Rattle.pdl_theory_simulation.proofs.FlowFacts.{Flows}
 use Rattle.pdl_theory_simulation.proofs.AcceptedFacts.{sound_flows}
 use Rattle.pdl_theory_derived.proofs.DelayedReads.{AllAsks, found}
 use Rattle.pdl_theory_turns.proofs.CourseOf.{apart_asks}
-use Rattle.pdl_theory_simulation.proofs.Stretches.{Behind, AllFetched, fixed_here, start_of, on_way, Keeps, left_trunk, has_made, calls_here}
+use Rattle.pdl_theory_simulation.proofs.Stretches.{Behind, AllFetched, fixed_here, start_of, on_way, Keeps, left_trunk}
 use Rattle.pdl_theory_simulation.proofs.StretchSteps.{AsksFrom}
 use Rattle.pdl_theory_simulation.proofs.Seats.{deeds_of, advised, Live, threads_of, each_map, Ordered, dacts, lacts, did, now_of, work_of_live, befores_are}
 use Rattle.pdl_theory_simulation.proofs.Choices.{Known, AllKnown, Foresees, keeps_now, like_here, told_here, asks_here, deeds_are, starts_here, fixed_way, fit_all}
@@ -31,7 +30,7 @@ use Rattle.pdl_theory_states.proofs.Guessed.{GuessDone, kept_guesses, guesses_al
 use Rattle.pdl_theory_states.proofs.PastStatements.{BlockOk, Past, Kind}
 use Rattle.pdl_theory_states.proofs.UnusedValues.{AllOps, ops_map, ops_both, onto}
 use Rattle.pdl_theory_states.proofs.Trails.{AllStmts, stmts_map, stmts_both, ops_stmts, Among, among_low}
-use Rattle.pdl_theory_states.proofs.ThreadHistory.{Local, uncalled, whole_way, AnyAsk, AllAwaited, past_of, local_answered, answered_asks, local_moved, moved_asks, moved_trail, past_end, past_q, kept_unused}
+use Rattle.pdl_theory_states.proofs.ThreadHistory.{Local, whole_way, AnyAsk, AllAwaited, past_of, local_answered, answered_asks, local_moved, moved_asks, moved_trail, past_end, past_q, kept_unused}
 use Rattle.pdl_theory_states.proofs.OlderWrites.{calm_next}
 use Rattle.pdl_theory_states.proofs.Stage.{barred, some_barrier, barred_onto, clear_all, look_at, block_like, kept_blocks, LowBlock, low_blocks}
 use Rattle.pdl_semantics.proofs.Readiness.{calm_read, calm_write, read_write}
@@ -252,7 +251,8 @@ module _ (p : Pipe) (sound : Sound p) (strict : Strict p) where
             (now_of p d bits l) now_keeps k.values now_local ready refl block_start
 
         -- what it has guessed
-        guessed_end : AllOps (GuessDone (deeds_of p st bits l).advice (work_of_live p d bits ks l).env l.thread.hint) (onto (onpath (work_of_live p d bits ks l).env (in_stage l.thread.stage p.stmts)) (past_of p l.env l.thread.stage))
+        guessed_end : AllOps (GuessDone (deeds_of p st bits l).advice (work_of_live p d bits ks l).env l.thread.hint)
+            (onto (onpath (work_of_live p d bits ks l).env (in_stage l.thread.stage p.stmts)) (past_of p l.env l.thread.stage))
         guessed_end =
             subst (λ (w : Work). AllOps (GuessDone (deeds_of p st bits l).advice w.env l.thread.hint) (onto mine (past_of p l.env l.thread.stage)))
             (sym (told_here p (sound_flows p sound) st d bits sim.arrays ks l k foresees).is)
@@ -270,7 +270,8 @@ module _ (p : Pipe) (sound : Sound p) (strict : Strict p) where
             mine : List Stmt
             mine = onpath (work_of_live p d bits ks l).env (in_stage l.thread.stage p.stmts)
 
-            kept_back : AllOps (λ o. keeps_guess o (onpath (work_of_live p d bits ks l).env (in_stage l.thread.stage p.stmts)) ≡ true) (past_of p l.env l.thread.stage) × (all_keep_guess (onpath (work_of_live p d bits ks l).env (in_stage l.thread.stage p.stmts)) ≡ true)
+            kept_back : AllOps (λ o. keeps_guess o (onpath (work_of_live p d bits ks l).env (in_stage l.thread.stage p.stmts)) ≡ true)
+                (past_of p l.env l.thread.stage) × (all_keep_guess (onpath (work_of_live p d bits ks l).env (in_stage l.thread.stage p.stmts)) ≡ true)
             kept_back =
                 keep_back (on_way p l.env l.thread.stage) (onpath (work_of_live p d bits ks l).env (in_stage l.thread.stage p.stmts)) []
                 (keep_front (on_way p l.env l.thread.stage ++ onpath (work_of_live p d bits ks l).env (in_stage l.thread.stage p.stmts)) _

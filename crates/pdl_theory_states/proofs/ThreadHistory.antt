@@ -2,7 +2,7 @@
 use Rattle.std.proofs.Common.{◌≡◌, ◌≢◌, refl, sym, ap, ap₂, ◌∙◌, subst, ℕ, suc, ◌+◌, ◌≤◌, ◌<◌, ◌⊎◌, inl, inr, Bool, true, false, ◌&&◌, ◌||◌, not, List, [], ◌∷◌, ◌++◌, length, Option, Some, None, is_some, ◌==◌, if◌then◌else◌, arith, slice_index, slice_set, eq-eqb, length-append, add-zero, zero-add, length-set}
 use Rattle.std.proofs.lemmas.List.{get_or-set_other, length-replicate}
 use Rattle.std.proofs.lemmas.Bool.{ne_eqb}
-use Rattle.pdl_semantics.specs.Flat.{Op, Stmt, Pipe, Forks, start_env, Bind, CombRead, DelayedRead, Write, ReserveRead, ReserveWrite, Block, Release, Call, SpecCall, Verify, SpecCheck, SpecBarrier, AdviceBind, AdviceRead, AdviceWrite, values_of, all_hold}
+use Rattle.pdl_semantics.specs.Flat.{Op, Stmt, Pipe, Forks, start_env}
 use Rattle.pdl_semantics.specs.Stages.{list_any, onpath, in_stage, stage_at, goes_to}
 use Rattle.pdl_semantics.specs.Machine.{Ask, Awaited, Kept, with_kept, State, answer_for, kept_answer, unanswered_reads}
 use Rattle.pdl_semantics.specs.Cycle.{awaited_of}

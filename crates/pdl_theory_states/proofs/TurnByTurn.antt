@@ -4,7 +4,7 @@ use Rattle.std.proofs.lemmas.Bool.{not-true}
 use Rattle.pdl_theory_facts.proofs.Nested.{within_all}
 use Rattle.pdl_theory_facts.specs.Graphs.{Trunk}
 use Rattle.pdl_semantics.specs.Flat.{Arrays, Pipe, Stmt, of_mem, list_all}
-use Rattle.pdl_semantics.specs.Stages.{list_any, onpath, stage_at, commit_stage, verify_stage}
+use Rattle.pdl_semantics.specs.Stages.{list_any, onpath, commit_stage, verify_stage}
 use Rattle.pdl_semantics.specs.Machine.{State}
 use Rattle.pdl_semantics.specs.Sequential.{thread}
 use Rattle.pdl_semantics.specs.Sound.{Follower, followers_of, strays_of, guessed_wrong, all_pairs, has_done, is_barrier, certain_after, has_released, released_by, still_looks, stages_from, looks_at, is_delayed_read, turn_writes}

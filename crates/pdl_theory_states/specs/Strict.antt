@@ -11,7 +11,7 @@ use Rattle.pdl_theory_facts.specs.SoundChecks.{all_paths, all_guards}
 abbrev pub bound_by : Op → Option ℕ
 bound_by op = on_binding Some None op
 
--- whether a statement uses the variable that it binds
+-- whether a statement uses the variable that it binds; advised variables, which stand apart, are left out
 abbrev pub uses_own : Op → Bool
 uses_own (Bind x e) = uses_in x e
 uses_own (CombRead x m a) = a == x
@@ -61,7 +61,17 @@ bound_of (CombRead x m a) = Some x
 bound_of (DelayedRead x m a) = Some x
 bound_of (AdviceBind x e) = Some x
 bound_of (AdviceRead x m a) = Some x
-bound_of _ = None
+bound_of (Write m a e) = None
+bound_of (ReserveRead m a) = None
+bound_of (ReserveWrite m a) = None
+bound_of (Block m a) = None
+bound_of (Release m a) = None
+bound_of (Call args) = None
+bound_of (SpecCall args) = None
+bound_of (Verify last args) = None
+bound_of SpecCheck = None
+bound_of SpecBarrier = None
+bound_of (AdviceWrite m a e) = None
 
 -- whether it binds a variable that these arguments use
 abbrev pub is_used_by : List Expr → Option ℕ → Bool
@@ -75,7 +85,21 @@ binds_used args op = is_used_by args (bound_of op)
 -- after a guess none of its variables is bound
 abbrev pub keeps_guess : Op → List Stmt → Bool
 keeps_guess (SpecCall args) ys = list_all (λ z. not (binds_used args z.op)) ys
-keeps_guess _ ys = true
+keeps_guess (Bind x e) ys = true
+keeps_guess (CombRead x m a) ys = true
+keeps_guess (DelayedRead x m a) ys = true
+keeps_guess (Write m a e) ys = true
+keeps_guess (ReserveRead m a) ys = true
+keeps_guess (ReserveWrite m a) ys = true
+keeps_guess (Block m a) ys = true
+keeps_guess (Release m a) ys = true
+keeps_guess (Call args) ys = true
+keeps_guess (Verify last args) ys = true
+keeps_guess SpecCheck ys = true
+keeps_guess SpecBarrier ys = true
+keeps_guess (AdviceBind x e) ys = true
+keeps_guess (AdviceRead x m a) ys = true
+keeps_guess (AdviceWrite m a e) ys = true
 
 -- after each guess of these statements none of its variables is bound
 abbrev pub all_keep_guess : List Stmt → Bool

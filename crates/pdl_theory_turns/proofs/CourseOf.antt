@@ -1,7 +1,7 @@
 -- A sound pipe of the whole language has the facts that the pipeline's proof takes.
 use Rattle.std.proofs.Common.{◌≡◌, ◌≢◌, refl, sym, ap, ap₂, ◌∙◌, subst, ℕ, zero, suc, ◌≤◌, ◌<◌, inl, inr, Bool, true, false, ◌&&◌, ◌||◌, not, List, [], ◌∷◌, length, Option, Some, None, is_some, ◌==◌, cond, arith, slice_index, lt-ltb, eq-eqb}
 use Rattle.std.proofs.lemmas.Bool.{eqb-true, eqb-false, ne_eqb}
-use Rattle.pdl_semantics.specs.Flat.{Arrays, Op, DelayedRead, Verify, SpecBarrier, AdviceBind, AdviceRead, AdviceWrite, Stmt, Pipe, Branch, values_of, all_hold}
+use Rattle.pdl_semantics.specs.Flat.{Op, DelayedRead, Verify, SpecBarrier, Stmt, Pipe, Branch, values_of, all_hold}
 use Rattle.pdl_semantics.specs.Stages.{onpath, in_stage, stage_at, commit_stage, is_release, is_verify, verify_stage}
 use Rattle.pdl_semantics.specs.Machine.{Ask, same_args}
 use Rattle.pdl_semantics.specs.Sequential.{Run, thread}

@@ -1,6 +1,6 @@
 -- What the pipeline's proof takes of single threads, in the whole language: facts of each turn, of its delayed reads, and of threads after a wrong guess.
-use Rattle.std.proofs.Common.{◌≡◌, ◌≢◌, ℕ, ◌≤◌, ◌<◌, Bool, true, false, ◌||◌, List, [], length, Some, None, is_some}
-use Rattle.pdl_semantics.specs.Flat.{Arrays, Pipe, of_mem}
+use Rattle.std.proofs.Common.{◌≡◌, ◌≢◌, ℕ, ◌≤◌, ◌<◌, Bool, true, false, ◌||◌, List, [], length, Some, is_some}
+use Rattle.pdl_semantics.specs.Flat.{Pipe, of_mem}
 use Rattle.pdl_semantics.specs.Stages.{mem_at, verify_stage, commit_stage, reserve_stage}
 use Rattle.pdl_semantics.specs.Locks.{Latest, has_room}
 use Rattle.pdl_semantics.specs.Machine.{Ask, same_args, reserves_of}

@@ -1,19 +1,19 @@
 -- Who makes the next thread: a call, or a guess and the verify of it.
-use Rattle.std.proofs.Common.{◌≡◌, refl, sym, ap, ap₂, ◌∙◌, subst, ℕ, ◌≤◌, ◌<◌, ◌⊎◌, inl, inr, Bool, true, false, ◌&&◌, ◌||◌, not, List, [], ◌∷◌, ◌++◌, Option, Some, None, is_some, ◌==◌, cond, if◌then◌else◌, arith, eq-eqb, ltb-true, leb-true, nat_le}
+use Rattle.std.proofs.Common.{◌≡◌, refl, sym, ap, ap₂, ◌∙◌, subst, ℕ, ◌≤◌, ◌<◌, ◌⊎◌, inr, Bool, true, false, ◌&&◌, not, List, [], ◌∷◌, ◌++◌, Option, Some, None, is_some, cond, if◌then◌else◌, arith, eq-eqb, ltb-true, leb-true, nat_le}
 use Rattle.std.proofs.lemmas.Bool.{eqb-true}
-use Rattle.pdl_semantics.specs.Flat.{Arrays, Op, Call, SpecCall, Verify, Stmt, Expr, values_of, all_hold}
+use Rattle.pdl_semantics.specs.Flat.{Op, Call, SpecCall, Verify, Stmt, values_of, all_hold}
 use Rattle.pdl_semantics.specs.Sound.{stages_from}
-use Rattle.pdl_semantics.specs.Stages.{is_check, is_verify}
+use Rattle.pdl_semantics.specs.Stages.{is_check}
 use Rattle.pdl_semantics.specs.Machine.{same_args}
 use Rattle.pdl_semantics.specs.Sequential.{Run, run_after, run_all}
 use Rattle.pdl_theory_derived.specs.Derived.{Work, Around, work_after, do_all}
 use Rattle.pdl_theory_derived.specs.Alone.{World, alone}
-use Rattle.pdl_theory_facts.specs.Scans.{Phase, no_guards, phases_ok, all_at, none_of}
-use Rattle.pdl_theory_facts.specs.GuessScans.{stands_at, stands_before, Making, Unmade, Guessed, Made, next_making, making_all, is_unmade, is_guessed, making_ok, makings_ok}
+use Rattle.pdl_theory_facts.specs.Scans.{Phase, no_guards, phases_ok, none_of}
+use Rattle.pdl_theory_facts.specs.GuessScans.{Making, Unmade, Guessed, Made, next_making, making_all, is_unmade, is_guessed, making_ok, makings_ok}
 use Rattle.pdl_theory_derived.proofs.Writes.{and_left, and_right}
-use Rattle.pdl_theory_derived.proofs.Stages.{step, joined, step_joined}
+use Rattle.pdl_theory_derived.proofs.Stages.{step}
 use Rattle.pdl_theory_turns.proofs.SequentialThread.{Related, related_step, next_phases}
-use Rattle.pdl_theory_turns.proofs.Surroundings.{AllIn, taken_none}
+use Rattle.pdl_theory_turns.proofs.Surroundings.{taken_none}
 
 -- arguments that pass the test of sameness are equal
 pub same_args_eq : (x y : List ℕ) → same_args x y ≡ true → x ≡ y

@@ -1,29 +1,19 @@
 -- What the threads of one path make: the facts of their calls and guesses by stages.
-use Rattle.std.proofs.Common.{◌≡◌, refl, sym, ap, ap₂, ◌∙◌, subst, ℕ, suc, ◌≤◌, ◌<◌, inl, inr, true, false, ◌&&◌, List, [], ◌∷◌, length, Option, Some, None, nat_lt, cond, arith, ltb-true, ltb-false}
-use Rattle.pdl_semantics.specs.Flat.{Arrays, Stmt, Pipe}
-use Rattle.pdl_semantics.specs.Stages.{is_check, onpath, in_stage, is_verify, verify_stage}
+use Rattle.std.proofs.Common.{◌≡◌, refl, sym, ap, ◌∙◌, subst, ℕ, suc, ◌≤◌, ◌<◌, inl, true, false, List, length, Option, Some, None, nat_lt, ltb-true, ltb-false}
+use Rattle.pdl_semantics.specs.Flat.{Pipe}
+use Rattle.pdl_semantics.specs.Stages.{is_check, onpath, in_stage, verify_stage}
 use Rattle.pdl_semantics.specs.Machine.{same_args}
 use Rattle.pdl_semantics.specs.Sequential.{Run, run_all, thread}
 use Rattle.pdl_theory_derived.specs.Derived.{Around, work_of_stage}
 use Rattle.pdl_theory_derived.specs.Alone.{World, alone, before, start_work, so_far, thread_at}
-use Rattle.pdl_theory_facts.specs.Scans.{Phase, Fresh, no_guards, next_phase, phase_ok, phases_ok, phase_all, none_of}
-use Rattle.pdl_theory_facts.specs.GuessScans.{stands_at, Making, Unmade, Guessed, Made, making_all, is_unmade, is_guessed, is_made, makings_ok}
+use Rattle.pdl_theory_facts.specs.Scans.{Fresh, none_of}
+use Rattle.pdl_theory_facts.specs.GuessScans.{Making, Unmade, Guessed, Made, making_all, is_unmade, is_guessed, is_made, makings_ok}
 use Rattle.pdl_theory_facts.specs.Accepted.{Pathwise, along}
-use Rattle.pdl_theory_derived.proofs.Writes.{and_left, and_right}
-use Rattle.pdl_theory_derived.proofs.Stages.{reset, rejoined}
-use Rattle.pdl_theory_turns.proofs.Surroundings.{in_stage_all}
-use Rattle.pdl_theory_turns.proofs.Turn.{none_from}
-use Rattle.pdl_theory_turns.proofs.TurnPath.{start_run, run_at, run_append, related_at, ok_before, phases_second, start_related}
-use Rattle.pdl_theory_turns.proofs.Guesses.{same_args_eq, same_args_refl, unchecked_from, making_append, makings_first, makings_second, no_guess, unverified_made, settled, unfailed, run_settled, Calls, calls_all, Changed, changed_all, unguarded}
-use Rattle.pdl_theory_turns.proofs.TurnFacts.{right_guess}
+use Rattle.pdl_theory_derived.proofs.Stages.{reset}
+use Rattle.pdl_theory_turns.proofs.TurnPath.{start_run, run_at, run_append, ok_before, start_related}
+use Rattle.pdl_theory_turns.proofs.Guesses.{same_args_refl, unchecked_from, making_append, makings_first, makings_second, no_guess, unverified_made, settled, unfailed, run_settled, Calls, calls_all, Changed, changed_all}
 use Rattle.pdl_word.proofs.Bools.{by_bool}
 use Rattle.pdl_semantics.specs.Sound.{stages_from}
-
-free_all : (m : ℕ) (ph : Phase) (xs : List Stmt) → phases_ok m ph xs ≡ true → unguarded xs ≡ true
-free_all m ph [] h = refl
-free_all m ph (x ∷ xs) h =
-    ap₂ (λ a b. a && b) (and_left (no_guards x.guards) _ (and_left _ _ h))
-    (free_all m (next_phase m ph x.op) xs (and_right (no_guards x.guards && phase_ok m ph x.op) _ h))
 
 made_is : (k : Making) → is_made k ≡ true → k ≡ Made
 made_is Unmade h = absurd (cc h)

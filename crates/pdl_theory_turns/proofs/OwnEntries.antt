@@ -1,5 +1,5 @@
 -- A thread's entries of one memory: what its stage does to them; and guards that keep their values over statements.
-use Rattle.std.proofs.Common.{◌≡◌, ◌||◌, ◌⊎◌, refl, sym, ap, ap₂, ◌∙◌, ℕ, ◌+◌, inl, inr, length, take, drop, Bool, true, false, ◌&&◌, not, List, [], ◌∷◌, ◌++◌, Option, Some, None, ◌==◌, cond, if◌then◌else◌, eq-eqb, slice_index, append-nil}
+use Rattle.std.proofs.Common.{◌≡◌, ◌||◌, ◌⊎◌, refl, sym, ap, ap₂, ◌∙◌, ℕ, ◌+◌, inl, inr, length, take, drop, Bool, true, false, ◌&&◌, not, List, [], ◌∷◌, ◌++◌, Some, None, ◌==◌, cond, if◌then◌else◌, slice_index, append-nil}
 use Rattle.pdl_semantics.specs.Flat.{of_mem, Op, ReserveWrite, Release, Verify, Stmt, Guard, values_of, all_hold}
 use Rattle.pdl_semantics.specs.Stages.{is_reserve, is_release}
 use Rattle.pdl_semantics.specs.Machine.{same_args, is_held, Pending, Deeds, deeds_after_all}
@@ -8,7 +8,7 @@ use Rattle.pdl_theory_turns.proofs.EntryCommits.{released}
 use Rattle.pdl_semantics.specs.Machine
 use Rattle.pdl_theory_derived.specs.Derived.{Entry, Work, Around, do_all}
 use Rattle.pdl_theory_derived.proofs.Writes.{and_left, and_right}
-use Rattle.pdl_theory_derived.proofs.Entries.{entries_of, entry, Open, Full, waiting, known, open_vars, full_vars, told}
+use Rattle.pdl_theory_derived.proofs.Entries.{entries_of, entry, Open, waiting, known, open_vars, told}
 use Rattle.pdl_theory_derived.specs.Alone.{is_nil}
 use Rattle.pdl_theory_turns.proofs.Phases.{nil_of, no_fulls}
 use Rattle.pdl_theory_facts.specs.Scans.{Phase, is_over, none_of, binds_var, is_fixed, free_of, is_dead, keeps_guards}
@@ -22,7 +22,8 @@ no_length : {X : Type 0} → (xs : List X) → length xs ≡ 0 → xs ≡ []
 no_length [] h = refl
 no_length (x ∷ xs) h = absurd (cc h)
 
-no_opens : (os : List Open) → open_vars os ≡ [] → os ≡ []
+-- where no location waits for a value no pending write does
+pub no_opens : (os : List Open) → open_vars os ≡ [] → os ≡ []
 no_opens [] h = refl
 no_opens (o ∷ os) h = absurd (cc h)
 
@@ -75,7 +76,8 @@ worked m n start d w ph g (inr h) =
     let closed : g.opens ≡ [] = no_opens g.opens (g.at_open ∙ nil_of ph.unwritten (and_left _ _ h)) in
     let empty : g.fulls ≡ [] = no_fulls g.fulls (g.at_full ∙ nil_of ph.full (and_right (is_nil ph.unwritten) _ h)) in
     let rest : g.rest ≡ [] = no_unnamed g.rest (g.same ∙ ap (λ l. pendings n (told m l)) empty) in
-    let two : with_writes_of m n d.writes (start ++ new_entries m n d.reserves) ≡ g.out = g.two ∙ ap₂ (λ l k. g.out ++ (l ++ pend m n (waiting m k))) rest closed ∙ append-nil g.out in record {
+    let two : with_writes_of m n d.writes (start ++ new_entries m n d.reserves) ≡ g.out =
+    g.two ∙ ap₂ (λ l k. g.out ++ (l ++ pend m n (waiting m k))) rest closed ∙ append-nil g.out in record {
       after =
           pend_own m n w.entries ∙ ap (pend m n) (g.entries ∙ ap₂ (λ l k. waiting m l ++ known m k) closed empty)
           ∙ sym (ap₂ drop (sym g.outs) two ∙ drop_whole g.out);

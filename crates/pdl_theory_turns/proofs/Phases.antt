@@ -1,10 +1,9 @@
 -- What a thread that runs alone holds and commits of one memory, beside the sequential run.
-use Rattle.std.proofs.Common.{if◌then◌else◌, ◌≡◌, refl, sym, ap, ap₂, ◌∙◌, subst, ℕ, Bool, true, false, ◌&&◌, ◌||◌, not, List, [], ◌∷◌, ◌++◌, Some, None, ◌==◌, cond, arith, slice_index, slice_set, append-nil, append_assoc}
+use Rattle.std.proofs.Common.{if◌then◌else◌, ◌≡◌, refl, sym, ap, ap₂, ◌∙◌, ℕ, Bool, true, false, ◌&&◌, ◌||◌, not, List, [], ◌∷◌, ◌++◌, Some, None, ◌==◌, slice_index, slice_set, append-nil, append_assoc}
 use Rattle.std.proofs.lemmas.List.{get_or-set_other}
 use Rattle.std.proofs.lemmas.Bool.{eqb-true, eqb-false}
-use Rattle.std.proofs.lemmas.Bool.Decides.{eqb_tells}
 use Rattle.pdl_semantics.specs.Flat.{Commit}
-use Rattle.pdl_theory_facts.specs.Scans.{Phase, Fresh, after_write, after_reserve, after_release, may_write, is_over}
+use Rattle.pdl_theory_facts.specs.Scans.{Phase, after_write, after_reserve, after_release, may_write, is_over}
 use Rattle.pdl_theory_derived.specs.Alone.{is_nil, is_among, is_oldest, drop_var, but_last}
 use Rattle.pdl_theory_derived.specs.Derived.{Entry, has_entry, without, with_entry_value, released_commits}
 use Rattle.pdl_theory_derived.proofs.Writes.{and_left, and_right}
@@ -124,7 +123,9 @@ tied_release m a ph env es cs ws h t = at (is_among a ph.full) refl
     os : List Open
     os = opened env ph.unwritten
 
-    behind : (without (waiting m os ++ known m t.fulls) m a ≡ waiting m os ++ without (known m t.fulls) m a) × (released_commits (waiting m os ++ known m t.fulls) m a ≡ released_commits (known m t.fulls) m a) × (has_entry (waiting m os ++ known m t.fulls) m a ≡ has_entry (known m t.fulls) m a)
+    behind : (without (waiting m os ++ known m t.fulls) m a ≡ waiting m os ++ without (known m t.fulls) m a)
+        × (released_commits (waiting m os ++ known m t.fulls) m a ≡ released_commits (known m t.fulls) m a)
+        × (has_entry (waiting m os ++ known m t.fulls) m a ≡ has_entry (known m t.fulls) m a)
     behind = released_behind m a os (known m t.fulls) (ap (is_among a) (opened_vars env ph.unwritten) ∙ not_false _ h)
 
     at : (b : Bool)

@@ -1,7 +1,7 @@
 -- A thread after a wrong guess: it keeps to one path, whatever answers come.
-use Rattle.std.proofs.Common.{◌≡◌, refl, sym, ap, ap₂, ◌∙◌, subst, ℕ, suc, ◌<◌, ◌⊎◌, inl, inr, Bool, true, false, ◌||◌, not, List, [], ◌∷◌, ◌++◌, length, Option, Some, None, is_some, ◌==◌, cond, if◌then◌else◌, slice_index, slice_set, append-nil, append_assoc, eq-eqb}
+use Rattle.std.proofs.Common.{◌≡◌, refl, sym, ap, ap₂, ◌∙◌, subst, ℕ, suc, ◌<◌, ◌⊎◌, inl, inr, Bool, true, false, ◌||◌, not, List, [], ◌∷◌, ◌++◌, length, None, is_some, ◌==◌, cond, if◌then◌else◌, slice_index, slice_set, append-nil, append_assoc, eq-eqb}
 use Rattle.pdl_semantics.specs.Flat.{Stmt, Pipe, Branch, Next, Ends, Goes, Forks, all_hold}
-use Rattle.pdl_semantics.specs.Stages.{onpath, in_stage, stage_at, is_verify, verify_stage}
+use Rattle.pdl_semantics.specs.Stages.{onpath, in_stage, stage_at, verify_stage}
 use Rattle.pdl_semantics.specs.Machine.{Ask, Awaited, is_answered}
 use Rattle.pdl_semantics.specs.Cycle.{awaited_of}
 use Rattle.pdl_theory_derived.specs.Derived.{Work, Around, Thread, State, do_all, work_of_stage, fresh, answered_thread, with_answers, still, word_of, asked_at}
@@ -255,7 +255,18 @@ module _ (p : Pipe) (acc : Sound p) where
           ap (λ j. not (is_unmade (making_all j (onpath (work_of_stage p o t).env (in_stage t.stage p.stmts))))) i
               ∙ flip _ _
               (begins o (verify_stage p.stmts) Unmade (onpath (work_of_stage p o t).env (in_stage t.stage p.stmts))
-              (record { env = t.env; entries = t.entries; guess = t.guess; asks = []; reserves = []; commits = []; child = None; fails = false; ready = true }) refl
+              (record {
+                env = t.env;
+                entries = t.entries;
+                guess = t.guess;
+                asks = [];
+                reserves = [];
+                commits = [];
+                child =
+                    None;
+                fails = false;
+                ready = true;
+              }) refl
               (subst
               (λ j. makings_ok (verify_stage p.stmts) j (onpath (work_of_stage p o t).env (in_stage t.stage p.stmts)) ≡ true) i ok_here) free_stage)
               ∙ ap (λ (w : Work). is_some w.child) (sym along_path) ∙ ap (λ b. b || is_some (work_of_stage p o t).child) (sym (had Unmade i)),

@@ -1,5 +1,5 @@
 -- A thread's stage reserves no more of a memory for writing than its lock has room for.
-use Rattle.std.proofs.Common.{◌≡◌, refl, sym, ap, ap₂, ◌∙◌, subst, ℕ, suc, ◌+◌, ◌≤◌, Bool, true, false, ◌&&◌, List, [], ◌∷◌, ◌++◌, ◌==◌, cond, Some, arith, append-nil}
+use Rattle.std.proofs.Common.{◌≡◌, refl, sym, ap, ap₂, ◌∙◌, subst, ℕ, suc, ◌+◌, ◌≤◌, Bool, true, false, List, [], ◌∷◌, ◌++◌, ◌==◌, cond, Some, arith, append-nil}
 use Rattle.std.proofs.lemmas.Bool.{and_from}
 use Rattle.pdl_semantics.specs.Flat.{list_all, Op, DelayedRead, ReserveWrite, Verify, Stmt, Pipe, all_hold, values_of}
 use Rattle.pdl_semantics.specs.Stages.{onpath, in_stage, mem_at}
@@ -74,7 +74,8 @@ stage_fewer path m s (x ∷ xs) = at (x.stage == s) (all_hold x.guards path) ref
     at : (b c : Bool)
         → all_hold x.guards path ≡ c → (d : Bool) → is_write_reserve m x.op ≡ d
         → write_reserves m (onpath path (in_stage s xs)) ≤ write_reserves m (onpath path xs)
-        → write_reserves m (onpath path (cond b (x ∷ in_stage s xs) (in_stage s xs))) ≤ write_reserves m (cond c (record x { guards = [] } ∷ onpath path xs) (onpath path xs))
+        → write_reserves m (onpath path (cond b (x ∷ in_stage s xs) (in_stage s xs))) ≤ write_reserves m
+        (cond c (record x { guards = [] } ∷ onpath path xs) (onpath path xs))
     at true true e d f h =
         subst
         (λ c. write_reserves m (cond c (record x { guards = [] } ∷ onpath path (in_stage s xs)) (onpath path (in_stage s xs))) ≤ cond (is_write_reserve m x.op)

@@ -1,7 +1,7 @@
 -- A thread that runs alone does what the sequential run does.
 use Rattle.std.proofs.Common.{◌≡◌, refl, sym, ap, ap₂, ◌∙◌, subst, ℕ, Bool, true, false, ◌||◌, not, List, [], ◌∷◌, ◌++◌, Some, None, ◌==◌, cond, eq-eqb, slice_index, slice_set, append-nil}
 use Rattle.std.proofs.lemmas.Bool.{eqb-true, eqb-false}
-use Rattle.pdl_semantics.specs.Flat.{Arrays, Array, Op, Bind, CombRead, DelayedRead, Write, ReserveWrite, Release, Call, Verify, Stmt, value_of, values_of, all_hold, word_at, Commit, of_mem, after_commits, with_word}
+use Rattle.pdl_semantics.specs.Flat.{Array, Op, Bind, CombRead, DelayedRead, Write, ReserveWrite, Release, Call, Verify, Stmt, value_of, values_of, all_hold, word_at, Commit, of_mem, after_commits, with_word}
 use Rattle.pdl_semantics.specs.Sequential.{Run, run_after, run_all}
 use Rattle.pdl_semantics.specs.Promises.{wrote, row}
 use Rattle.pdl_theory_derived.specs.Derived.{Entry, Work, work_after, do_all, without, with_entry_value, released_commits}

@@ -1,8 +1,8 @@
 -- One turn of a pipe of the whole language: stages_from the facts of its path, where delayed reads are reads, to those of its stages, where they ask.
-use Rattle.std.proofs.Common.{◌≡◌, refl, sym, ap, ap₂, ◌∙◌, subst, ℕ, suc, ◌≤◌, ◌<◌, ◌⊎◌, inl, inr, Bool, true, false, ◌&&◌, not, List, [], ◌∷◌, length, Option, Some, None, ◌==◌, nat_lt, nat_le, cond, if◌then◌else◌, arith, slice_index, ltb-true, ltb-false}
+use Rattle.std.proofs.Common.{◌≡◌, refl, sym, ap, ap₂, ◌∙◌, subst, ℕ, suc, ◌≤◌, ◌<◌, Bool, true, false, ◌&&◌, not, List, [], ◌∷◌, length, Some, ◌==◌, nat_lt, nat_le, cond, if◌then◌else◌, arith, slice_index, ltb-true, ltb-false}
 use Rattle.std.proofs.lemmas.List.{get_or-set_other}
 use Rattle.std.proofs.lemmas.Bool.{eqb-false}
-use Rattle.pdl_semantics.specs.Flat.{Arrays, Op, DelayedRead, Verify, values_of, Guard, Stmt, Pipe, Branch, Next, Ends, Goes, Forks, all_hold, of_mem}
+use Rattle.pdl_semantics.specs.Flat.{Op, DelayedRead, Verify, values_of, Guard, Stmt, Pipe, Next, Ends, Goes, Forks, all_hold, of_mem}
 use Rattle.pdl_semantics.specs.Stages.{onpath, in_stage, stage_at, mem_at, commit_stage, reserve_stage, goes_to}
 use Rattle.pdl_semantics.specs.Locks.{Latest}
 use Rattle.pdl_semantics.specs.Machine.{Ask, same_args}
@@ -11,7 +11,7 @@ use Rattle.pdl_semantics.specs.Promises.{wrote, row}
 use Rattle.pdl_theory_derived.specs.Derived.{Work, Around, Thread, work_of_stage, work_after, do_all, latest_in, has_entry}
 use Rattle.pdl_theory_derived.specs.Alone.{World, alone, before, answered_op, start_work, so_far, thread_at}
 use Rattle.pdl_theory_facts.specs.Scans.{is_plain, none_of, binds_var, no_scan, scan_after_all, reads_ok, has_location}
-use Rattle.pdl_theory_facts.specs.Graphs.{stage_or, next_of, goes_by}
+use Rattle.pdl_theory_facts.specs.Graphs.{stage_or, next_of}
 use Rattle.pdl_theory_facts.specs.Facts.{is_dead, is_fetch_of, FetchOk, FetchIf, AllFetches, looked_all, at_once, comes_by, visits_stage, Sound}
 use Rattle.pdl_theory_facts.specs.Accepted.{along}
 use Rattle.pdl_theory_derived.proofs.Writes.{and_left, and_right}

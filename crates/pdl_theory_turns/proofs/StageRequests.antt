@@ -1,7 +1,7 @@
 -- A stage with delayed reads in surroundings that are right for its turn: what it does alone, and requests whose answers will be right.
 use Rattle.std.proofs.Common.{◌≡◌, refl, sym, ap, ◌∙◌, subst, ℕ, Bool, true, false, ◌&&◌, ◌||◌, not, List, [], ◌∷◌, ◌++◌, Some, ◌==◌, slice_index, slice_set, cond, nat_le}
 use Rattle.std.proofs.lemmas.Bool.{leb-true}
-use Rattle.pdl_semantics.specs.Flat.{Arrays, Op, Bind, CombRead, DelayedRead, Write, ReserveRead, ReserveWrite, Block, Release, Call, SpecCall, Verify, SpecCheck, SpecBarrier, AdviceBind, AdviceRead, AdviceWrite, Stmt, Pipe, values_of, all_hold, word_at}
+use Rattle.pdl_semantics.specs.Flat.{Op, Bind, CombRead, DelayedRead, Write, ReserveRead, ReserveWrite, Block, Release, Call, SpecCall, Verify, SpecCheck, SpecBarrier, AdviceBind, AdviceRead, AdviceWrite, Stmt, Pipe, values_of, all_hold, word_at}
 use Rattle.pdl_semantics.specs.Stages.{onpath, mem_at, commit_stage}
 use Rattle.pdl_semantics.specs.Machine.{Ask, same_args}
 use Rattle.pdl_theory_derived.specs.Derived.{Work, Around, work_after, do_all}

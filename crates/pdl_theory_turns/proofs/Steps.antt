@@ -1,6 +1,6 @@
 -- What a stage's deeds do to a thread's entries of one memory is what the derived work does at once.
-use Rattle.std.proofs.Common.{◌≡◌, ◌≤◌, refl, sym, ap, ap₂, ◌∙◌, subst, ℕ, suc, ◌+◌, Bool, true, false, ◌&&◌, ◌||◌, not, List, [], ◌∷◌, ◌++◌, Option, Some, None, ◌==◌, cond, if◌then◌else◌, arith, eq-eqb, append-nil, append_assoc, length, length-append}
-use Rattle.std.proofs.lemmas.Bool.{eqb-true, eqb-false, ne_eqb}
+use Rattle.std.proofs.Common.{◌≡◌, ◌≤◌, refl, sym, ap, ap₂, ◌∙◌, subst, ℕ, suc, ◌+◌, Bool, true, false, ◌&&◌, ◌||◌, not, List, [], ◌∷◌, ◌++◌, Some, None, ◌==◌, cond, if◌then◌else◌, arith, eq-eqb, append-nil, append_assoc, length, length-append}
+use Rattle.std.proofs.lemmas.Bool.{eqb-true, eqb-false}
 use Rattle.std.proofs.lemmas.Bool.Decides.{eqb_tells}
 use Rattle.pdl_semantics.specs.Flat.{Commit, of_mem}
 use Rattle.pdl_semantics.specs.Machine.{Ask, Pending, Blocked, Reserved, Deeds}
@@ -136,7 +136,8 @@ puts_append m n [] xs ys = refl
 puts_append m n (w ∷ ws) xs ys = at (w.mem == m) (λ us vs. puts_append m n ws us vs)
   where
     at : (b : Bool) → ((us vs : List Pending) → with_writes_of m n ws (us ++ vs) ≡ with_writes_of m n ws us ++ with_writes_of m n ws vs)
-        → with_writes_of m n ws (cond b (with_value_of n w.var w.value (xs ++ ys)) (xs ++ ys)) ≡ with_writes_of m n ws (cond b (with_value_of n w.var w.value xs) xs) ++ with_writes_of m n ws (cond b (with_value_of n w.var w.value ys) ys)
+        → with_writes_of m n ws (cond b (with_value_of n w.var w.value (xs ++ ys)) (xs ++ ys)) ≡ with_writes_of m n ws
+        (cond b (with_value_of n w.var w.value xs) xs) ++ with_writes_of m n ws (cond b (with_value_of n w.var w.value ys) ys)
     at true go = ap (with_writes_of m n ws) (put_append n w.var w.value xs ys) ∙ go (with_value_of n w.var w.value xs) (with_value_of n w.var w.value ys)
     at false go = go xs ys
 
@@ -263,7 +264,8 @@ staged_moved m n ph es es' cs cs' new new' ws ws' rel rel' p q r s u t g =
 pub step_write : (m n k a v : ℕ) (ph : Phase) (es : List Entry) (cs : List Commit) (new : List Pending)
     (ws : List Machine.Written) (rel : ℕ) (b : Bool)
     → (k == m) ≡ b → (not b || may_write ph a) ≡ true → Staged m n ph (entries_of m es) cs new ws rel
-    → Staged m n (cond b (after_write ph a) ph) (entries_of m (Derived.with_entry_value es k a v)) cs new (ws ++ record { mem = k; var = a; value = v } ∷ []) rel
+    → Staged m n (cond b (after_write ph a) ph) (entries_of m (Derived.with_entry_value es k a v)) cs new
+    (ws ++ record { mem = k; var = a; value = v } ∷ []) rel
 step_write m n k a v ph es cs new ws rel false e h g =
     staged_moved m n ph _ _ _ _ _ _ ws _ _ _ (filled_other es m k a v (eqb-false k m e)) refl refl
     (λ l. put_all_more m n ws (record { mem = k; var = a; value = v }) l
@@ -345,7 +347,8 @@ pub step_reserve : (m n k a y : ℕ) (ph : Phase) (es : List Entry) (cs : List C
     (rs : List Reserved) (ws : List Machine.Written) (rel : ℕ) (b : Bool)
     → (k == m) ≡ b → (not b || is_new ph a) ≡ true
     → Staged m n ph (entries_of m es) cs (start ++ new_entries m n rs) ws rel
-    → Staged m n (cond b (after_reserve ph a) ph) (entries_of m (entry k a y None ∷ es)) cs (start ++ new_entries m n (rs ++ record { mem = k; var = a; address = y } ∷ [])) ws rel
+    → Staged m n (cond b (after_reserve ph a) ph) (entries_of m (entry k a y None ∷ es)) cs
+    (start ++ new_entries m n (rs ++ record { mem = k; var = a; address = y } ∷ [])) ws rel
 step_reserve m n k a y ph es cs start rs ws rel false e h g =
     staged_moved m n ph _ _ _ _ _ _ ws ws _ _ (ap (λ c. cond c (entry k a y None ∷ entries_of m es) (entries_of m es)) e) refl
     (ap (λ l. start ++ l)
@@ -426,7 +429,9 @@ step_release m n k a ph es cs new ws rs held i true e h g = at (is_among a ph.fu
     closed : is_among a (open_vars g.opens) ≡ false
     closed = ap (is_among a) g.at_open ∙ not_false _ h
 
-    behind : (without (waiting m g.opens ++ known m g.fulls) m a ≡ waiting m g.opens ++ without (known m g.fulls) m a) × (released_commits (waiting m g.opens ++ known m g.fulls) m a ≡ released_commits (known m g.fulls) m a) × (has_entry (waiting m g.opens ++ known m g.fulls) m a ≡ has_entry (known m g.fulls) m a)
+    behind : (without (waiting m g.opens ++ known m g.fulls) m a ≡ waiting m g.opens ++ without (known m g.fulls) m a)
+        × (released_commits (waiting m g.opens ++ known m g.fulls) m a ≡ released_commits (known m g.fulls) m a)
+        × (has_entry (waiting m g.opens ++ known m g.fulls) m a ≡ has_entry (known m g.fulls) m a)
     behind = released_behind m a g.opens (known m g.fulls) closed
 
     known_here : has_entry es k a ≡ has_entry (known m g.fulls) m a
@@ -434,7 +439,8 @@ step_release m n k a ph es cs new ws rs held i true e h g = at (is_among a ph.fu
 
     at : (b : Bool)
         → is_among a ph.full ≡ b
-        → Staged m n (if b then record { unwritten = ph.unwritten; full = drop_var a ph.full; gone = a ∷ ph.gone } else ph) (entries_of m (without es k a)) (of_mem m (cs ++ released_commits es k a)) new ws (releases_of m (rs ++ cond held (k ∷ []) []))
+        → Staged m n (if b then record { unwritten = ph.unwritten; full = drop_var a ph.full; gone = a ∷ ph.gone } else ph)
+        (entries_of m (without es k a)) (of_mem m (cs ++ released_commits es k a)) new ws (releases_of m (rs ++ cond held (k ∷ []) []))
     at false f =
         let z : has_entry es k a ≡ false = known_here ∙ no_known m a g.fulls (ap (is_among a) g.at_full ∙ f) in
         let w = without_none es k a z in

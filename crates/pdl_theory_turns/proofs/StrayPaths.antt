@@ -1,6 +1,6 @@
 -- A thread after a wrong guess in the whole language: it keeps to one path, whatever answers come, has passed no barrier, and so releases nothing.
-use Rattle.std.proofs.Common.{◌≡◌, refl, sym, ap, ap₂, ◌∙◌, subst, ℕ, ◌≤◌, ◌<◌, ◌⊎◌, inl, inr, Bool, true, false, ◌&&◌, ◌||◌, not, List, [], ◌∷◌, ◌++◌, Option, Some, None, ◌==◌, nat_lt, cond, if◌then◌else◌, slice_index, slice_set, append-nil, nat_le, arith, leb-false, ltb-true}
-use Rattle.pdl_semantics.specs.Flat.{Op, Guard, DelayedRead, Release, SpecBarrier, AdviceBind, AdviceRead, AdviceWrite, Verify, Stmt, Pipe, Branch, Next, Ends, Goes, Forks, values_of}
+use Rattle.std.proofs.Common.{◌≡◌, refl, sym, ap, ap₂, ◌∙◌, subst, ℕ, ◌≤◌, ◌<◌, ◌⊎◌, inl, inr, Bool, true, false, ◌&&◌, ◌||◌, not, List, [], ◌∷◌, ◌++◌, Option, Some, ◌==◌, nat_lt, cond, if◌then◌else◌, slice_index, slice_set, append-nil, nat_le, arith, leb-false, ltb-true}
+use Rattle.pdl_semantics.specs.Flat.{Op, Guard, DelayedRead, Release, SpecBarrier, Verify, Stmt, Pipe, Branch, Next, Ends, Goes, Forks, values_of}
 use Rattle.pdl_semantics.specs.Stages.{in_stage, stage_at, is_verify, verify_stage}
 use Rattle.pdl_semantics.specs.Machine.{Ask, Awaited, is_answered, same_args}
 use Rattle.pdl_semantics.specs.Cycle.{awaited_of}
@@ -8,7 +8,7 @@ use Rattle.pdl_theory_derived.specs.Derived.{Work, Around, State, work_after, do
 use Rattle.pdl_theory_derived.specs.Alone.{before, answered_op}
 use Rattle.pdl_theory_facts.specs.Scans.{Scan, has_location, scan_after, scan_after_all, no_guards, none_of, binds_var, free_of, is_fixed}
 use Rattle.pdl_theory_facts.specs.GuessScans.{stands_before, Making, next_making, making_all, making_ok, makings_ok, is_barrier, is_sure, all_sure}
-use Rattle.pdl_theory_facts.specs.Facts.{is_dead, looked_all, is_fetch_of, comes_by, visits_stage}
+use Rattle.pdl_theory_facts.specs.Facts.{is_dead, looked_all, is_fetch_of, visits_stage}
 use Rattle.pdl_theory_facts.specs.Graphs.{on_side, Within}
 use Rattle.pdl_theory_facts.proofs.Nested.{visits_same}
 use Rattle.std.proofs.lemmas.List.{get_or-set_other}

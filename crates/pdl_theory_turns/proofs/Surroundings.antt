@@ -2,7 +2,7 @@
 use Rattle.std.proofs.Common.{◌≡◌, ◌≢◌, refl, sym, ap, ◌∙◌, subst, ℕ, ◌≤◌, Bool, true, false, ◌&&◌, ◌||◌, not, List, [], ◌∷◌, Some, ◌==◌, slice_index, slice_set, cond, nat_le}
 use Rattle.std.proofs.lemmas.List.{get_or-set_other}
 use Rattle.std.proofs.lemmas.Bool.{eqb-true, eqb-false, leb-true, or_right as or_more}
-use Rattle.pdl_semantics.specs.Flat.{SpecCall, Arrays, Op, Bind, CombRead, DelayedRead, Write, ReserveWrite, Block, Release, Verify, Stmt, Guard, Pipe, value_of, values_of, all_hold, word_at}
+use Rattle.pdl_semantics.specs.Flat.{SpecCall, Op, Bind, CombRead, DelayedRead, Write, ReserveWrite, Block, Release, Verify, Stmt, Guard, Pipe, value_of, values_of, all_hold, word_at}
 use Rattle.pdl_semantics.specs.Stages.{in_stage, mem_at, commit_stage, reserve_stage}
 use Rattle.pdl_semantics.specs.Machine.{same_args}
 use Rattle.pdl_theory_derived.specs.Derived.{Work, Around, Entry, work_after, do_all, has_entry, with_entry_value, without, moved_up}
@@ -101,7 +101,8 @@ has_moved e [] m a = refl
 has_moved e (f ∷ es) m a = at (f.mem == e.mem) (has_moved f es m a) (has_moved e es m a)
   where
     at : (t : Bool) → has_entry (moved_up f es) m a ≡ has_entry es m a → has_entry (moved_up e es) m a ≡ has_entry es m a
-        → has_entry (cond t (record f { address = e.address; value = e.value } ∷ moved_up f es) (f ∷ moved_up e es)) m a ≡ (((f.mem == m) && (f.var == a)) || has_entry es m a)
+        → has_entry (cond t (record f { address = e.address; value = e.value } ∷ moved_up f es) (f ∷ moved_up e es)) m a
+        ≡ (((f.mem == m) && (f.var == a)) || has_entry es m a)
     at true h g = ap (λ t. ((f.mem == m) && (f.var == a)) || t) h
     at false h g = ap (λ t. ((f.mem == m) && (f.var == a)) || t) g
 

@@ -1,11 +1,11 @@
 -- The order of the live threads in the stage graph: each stands behind all older ones, also in the branches of forks.
-use Rattle.std.proofs.Common.{◌≡◌, ◌≢◌, refl, sym, ap, ap₂, ◌∙◌, subst, ℕ, suc, ◌≤◌, ◌<◌, ◌⊎◌, inl, inr, Bool, true, false, ◌&&◌, ◌||◌, not, List, [], ◌∷◌, length, Option, Some, None, ◌==◌, nat_lt, cond, arith, le_refl, le_of_lt, ltb-true, ltb-false, lt-ltb}
+use Rattle.std.proofs.Common.{◌≡◌, refl, sym, ap, ap₂, ◌∙◌, subst, ℕ, suc, ◌≤◌, ◌<◌, ◌⊎◌, inl, inr, Bool, true, false, ◌&&◌, ◌||◌, not, List, [], ◌∷◌, length, Option, Some, None, ◌==◌, nat_lt, cond, arith, le_refl, le_of_lt, ltb-true, ltb-false, lt-ltb}
 use Rattle.std.proofs.lemmas.Bool.{eqb-true, eqb-false}
 use Rattle.pdl_semantics.specs.Flat.{Pipe, Branch, list_all}
 use Rattle.pdl_semantics.specs.Stages.{stage_at, is_inside, goes_to}
 use Rattle.pdl_theory_derived.specs.Derived.{Act, can_enter, fork_clear}
 use Rattle.pdl_theory_derived.proofs.Writes.{and_left, and_right}
-use Rattle.pdl_theory_turns.proofs.TurnFacts.{Graph, Home, Within, Below, Trunk, next_of}
+use Rattle.pdl_theory_turns.proofs.TurnFacts.{Graph, Home, Within, Below, next_of}
 use Rattle.pdl_theory_turns.proofs.Strays.{enter_next, step_below}
 use Rattle.pdl_theory_facts.proofs.Nested.{same_head, same_tail, within_all, within_home, within_more, trunk_within, came}
 use Rattle.pdl_theory_facts.specs.Graphs.{Way}

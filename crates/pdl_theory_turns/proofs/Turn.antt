@@ -1,14 +1,14 @@
 -- The statements of one path: what their thread holds, commits and makes by each stage.
-use Rattle.std.proofs.Common.{◌≡◌, ◌≢◌, refl, sym, ap, ap₂, ◌∙◌, subst, ℕ, ◌≤◌, ◌<◌, Bool, true, false, ◌&&◌, ◌||◌, not, List, [], ◌∷◌, ◌++◌, Some, None, ◌==◌, nat_lt, nat_le, cond, arith, slice_index, slice_set, append-nil, append_assoc}
+use Rattle.std.proofs.Common.{◌≡◌, ◌≢◌, refl, sym, ap, ap₂, ◌∙◌, subst, ℕ, ◌≤◌, ◌<◌, Bool, true, false, ◌&&◌, ◌||◌, not, List, [], ◌∷◌, ◌++◌, Some, ◌==◌, nat_lt, nat_le, cond, arith, slice_index, slice_set, append-nil, append_assoc}
 use Rattle.std.proofs.lemmas.List.{get_or-set_other}
 use Rattle.std.proofs.lemmas.Bool.{eqb-true, eqb-false}
 use Rattle.std.proofs.lemmas.Bool.Decides.{eqb_tells}
 use Rattle.std.proofs.Common.{leb-true, ltb-true}
-use Rattle.pdl_semantics.specs.Flat.{Arrays, Op, Bind, CombRead, DelayedRead, Write, ReserveWrite, Release, Verify, Stmt, value_of, values_of, all_hold, Commit, of_mem}
+use Rattle.pdl_semantics.specs.Flat.{Op, Bind, CombRead, DelayedRead, Write, ReserveWrite, Release, Verify, Stmt, value_of, values_of, all_hold, Commit, of_mem}
 use Rattle.pdl_semantics.specs.Stages.{in_stage, is_release, is_reserve}
 use Rattle.pdl_semantics.specs.Machine.{same_args}
 use Rattle.pdl_semantics.specs.Sequential.{Run, run_after}
-use Rattle.pdl_theory_derived.specs.Derived.{Work, Around, work_after, do_all, released_commits}
+use Rattle.pdl_theory_derived.specs.Derived.{Work, Around, work_after, do_all}
 use Rattle.pdl_theory_derived.specs.Alone.{World, alone, before, answered_op, is_among, is_oldest, drop_var, but_last}
 use Rattle.pdl_theory_derived.proofs.Writes.{and_left, and_right, of_mem_append}
 use Rattle.pdl_theory_derived.proofs.Entries.{released_other, write_of, places}
@@ -148,7 +148,8 @@ spots_op world m ph (Write n a e) w r h ok rel = at (n == m) refl (ok m)
   where
     at : (b : Bool) → (n == m) ≡ b
         → (not b || may_write (ph m) a) ≡ true
-        → spots (cond b (after_write (ph m) a) (ph m)) w.env (of_mem m (r.writes ++ write_of n (slice_index r.env a) (value_of e r.env) ∷ [])) ≡ spots (ph m) w.env (of_mem m r.writes)
+        → spots (cond b (after_write (ph m) a) (ph m)) w.env (of_mem m (r.writes ++ write_of n (slice_index r.env a) (value_of e r.env) ∷ []))
+        ≡ spots (ph m) w.env (of_mem m r.writes)
     at true f k =
         ap (λ l. places l ++ rev (addresses_at w.env (but_last (ph m).unwritten))) (of_mem_append m r.writes _
         ∙ ap (λ b. of_mem m r.writes ++ cond b (write_of n (slice_index r.env a) (value_of e r.env) ∷ []) []) f)

@@ -1,6 +1,6 @@
 -- A turn's stages: what it has blocked, what it does in each, where it goes on, and whether it was made by a right guess.
 use Rattle.std.proofs.Common.{ℕ, Bool, false, List, Option, Some, None}
-use Rattle.pdl_semantics.specs.Flat.{Arrays, Pipe}
+use Rattle.pdl_semantics.specs.Flat.{Pipe}
 use Rattle.pdl_semantics.specs.Stages.{onpath}
 use Rattle.pdl_semantics.specs.Machine.{same_args}
 use Rattle.pdl_semantics.specs.Sequential.{thread}

@@ -1,16 +1,16 @@
 -- One turn along its path, by stages.
 use Rattle.std.proofs.Common.{◌≡◌, ◌≢◌, refl, sym, ap, ap₂, ◌∙◌, subst, ℕ, suc, ◌+◌, ◌≤◌, ◌<◌, Bool, true, false, ◌&&◌, List, [], ◌∷◌, ◌++◌, length, nat_lt, cond, if◌then◌else◌, arith, append-nil}
-use Rattle.std.proofs.Common.{ltb-true, ltb-false, length-append, le_of_eq}
+use Rattle.std.proofs.Common.{ltb-true, ltb-false, le_of_eq}
 use Rattle.pdl_semantics.specs.Flat.{Arrays, Stmt, Pipe, all_hold, Commit, of_mem, start_env}
 use Rattle.pdl_semantics.specs.Stages.{in_stage, mem_at, is_release, is_reserve, commit_stage, reserve_stage}
 use Rattle.pdl_semantics.specs.Sequential.{Run, run_after, run_all, thread}
 use Rattle.pdl_semantics.specs.Promises.{wrote, row}
-use Rattle.pdl_theory_derived.specs.Derived.{Entry, Work, Around, Thread, work_after, do_all, work_of_stage}
+use Rattle.pdl_theory_derived.specs.Derived.{Work, Around, Thread, work_after, do_all, work_of_stage}
 use Rattle.pdl_theory_derived.specs.Alone.{World, alone, before, start_work, so_far, thread_at, undone, is_nil}
 use Rattle.pdl_theory_derived.proofs.Writes.{and_left, and_right, of_mem_append, row_committed}
 use Rattle.pdl_theory_derived.proofs.Entries.{entries_of, places}
 use Rattle.pdl_theory_derived.proofs.Slots.{rev}
-use Rattle.pdl_theory_turns.proofs.Phases.{Tied, finished, nil_of}
+use Rattle.pdl_theory_turns.proofs.Phases.{finished, nil_of}
 use Rattle.pdl_theory_facts.specs.Scans.{Phase, Fresh, next_phase, phase_ok, no_guards, phases_ok, phase_all, is_over, none_of, scan_after, reads_ok, scan_after_all, is_plain, Scan, no_scan}
 use Rattle.pdl_theory_turns.proofs.SequentialThread.{Related, related_all, related_step, Ok, next_phases}
 use Rattle.pdl_theory_derived.proofs.Stages.{step, joined, next_piece, do_all_append}
@@ -177,7 +177,8 @@ module _ (p : Pipe) (acc : Accepted p) (world : World) (args : List ℕ) where
 
   -- past the reserves, the addresses of the writes made and of those to come are those of the turn's writes
   pub all_places : (s m : ℕ) → reserve_stage p m < s
-      → spots (phase_all m Fresh (before s p.stmts)) (so_far p world args s).env (of_mem m (run_at p world.words args s).writes) ≡ places (of_mem m (thread p world.words args).writes)
+      → spots (phase_all m Fresh (before s p.stmts)) (so_far p world args s).env (of_mem m (run_at p world.words args s).writes)
+      ≡ places (of_mem m (thread p world.words args).writes)
   all_places s m h =
       sym
       (spots_all world m (stages_from s p.stmts) (λ n. phase_all n Fresh (before s p.stmts))

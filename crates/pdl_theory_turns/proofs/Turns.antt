@@ -1,6 +1,6 @@
 -- One turn of a pipe with guards, by its path: the facts that the pipeline's proof takes of it.
 use Rattle.std.proofs.Common.{◌≡◌, ◌≢◌, refl, sym, ap, ap₂, ◌∙◌, subst, ℕ, suc, ◌<◌, ◌≤◌, Bool, true, false, ◌&&◌, not, List, [], ◌∷◌, ◌++◌, length, ◌==◌, nat_lt, nat_le, cond, arith, slice_index, leb-true, leb-false}
-use Rattle.pdl_semantics.specs.Flat.{Arrays, Op, Stmt, Pipe, all_hold, of_mem}
+use Rattle.pdl_semantics.specs.Flat.{Op, Stmt, Pipe, all_hold, of_mem}
 use Rattle.pdl_semantics.specs.Stages.{onpath, in_stage, mem_at, commit_stage, reserve_stage}
 use Rattle.pdl_semantics.specs.Locks.{Latest}
 use Rattle.pdl_semantics.specs.Sequential.{Run, thread}

@@ -1,13 +1,13 @@
 -- A turn's undone writes with what is known of them, by stages.
-use Rattle.std.proofs.Common.{◌≡◌, ◌≢◌, refl, sym, ap, ap₂, ◌∙◌, subst, ℕ, suc, ◌+◌, ◌≤◌, ◌<◌, Bool, true, false, ◌&&◌, ◌||◌, not, List, [], ◌∷◌, ◌++◌, length, Some, None, is_some, ◌==◌, nat_lt, cond, if◌then◌else◌, arith, eq-eqb, slice_index, append-nil, append_assoc, length-append}
+use Rattle.std.proofs.Common.{◌≡◌, ◌≢◌, refl, sym, ap, ap₂, ◌∙◌, ℕ, suc, ◌+◌, ◌≤◌, ◌<◌, Bool, true, false, ◌&&◌, List, [], ◌∷◌, ◌++◌, length, is_some, ◌==◌, nat_lt, cond, if◌then◌else◌, arith, eq-eqb, slice_index, append-nil, append_assoc, length-append}
 use Rattle.std.proofs.Common.{ltb-true, ltb-false, lt-ltb}
-use Rattle.pdl_semantics.specs.Flat.{Arrays, Op, Write, Stmt, Pipe, value_of, all_hold, Commit, of_mem, Verify}
+use Rattle.pdl_semantics.specs.Flat.{Op, Write, Stmt, Pipe, value_of, all_hold, Commit, of_mem, Verify}
 use Rattle.pdl_semantics.specs.Stages.{in_stage, mem_at, commit_stage, reserve_stage}
 use Rattle.pdl_semantics.specs.Locks.{Latest, Coming, Known, as_latest}
 use Rattle.pdl_semantics.specs.Sequential.{Run, run_after, run_all, thread}
 use Rattle.pdl_theory_derived.specs.Derived.{Entry, work_of_stage, latest_in}
 use Rattle.pdl_theory_derived.specs.Alone.{World, alone, before, so_far, thread_at, undone}
-use Rattle.pdl_theory_derived.proofs.Writes.{and_left, and_right, of_mem_append}
+use Rattle.pdl_theory_derived.proofs.Writes.{of_mem_append}
 use Rattle.pdl_theory_derived.proofs.Entries.{entries_of, write_of, places, Open, Full, waiting, known, told, length_places}
 use Rattle.pdl_theory_derived.proofs.Slots.{rev}
 use Rattle.pdl_theory_turns.proofs.Turn.{addresses_at, places_append}
