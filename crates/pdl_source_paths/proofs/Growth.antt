@@ -52,6 +52,14 @@ grows_from : (ms : List Mem) (vs ws us : List Var) (ts : List Site) → Grown vs
 grows_from ms vs ws us [] h k = grown_more vs ws us h k
 grows_from ms vs ws us (t ∷ ts) h k = (grown_more vs ws t.walk.vars h k.0, k.1)
 
+grows_append : (ms : List Mem) (vs ws us : List Var) (xs ys : List Site) → Grows ms vs xs ws → Grows ms ws ys us → Grows ms vs (xs ++ ys) us
+grows_append ms vs ws us [] ys h k = grows_from ms vs ws us ys h k
+grows_append ms vs ws us (x ∷ xs) ys h k = (h.0, grows_append ms (vars_past ms x.walk.vars x.stmt) ws us xs ys h.1 k)
+
+guard_past : (c : Expr) (w : Flatten.Position) → (with_guard c w).vars ≡ if_past w.vars c
+guard_past (Variable x) w = refl
+guard_past _ w = refl
+
 mutual
   grows_in : (ms : List Mem) (front : List Place) (w : Flatten.Position) (gs : List Flat.Guard) (bs : List Branch) (s : Stmt)
       → Grows ms w.vars (sites_in ms front w gs bs s) (past ms s w).vars

@@ -88,8 +88,8 @@ module _ (p : Pipe) (rules : KeepsRules p) (v : Guard → Bool) (staged : All St
   last_next None front x h = tt
   last_next (Some s) front x h = record {
     name = h.name;
-    there = ap (list_any (defines_use (OfGuess h.name))) (filter_append (on_path c) front (x ∷ [])) ∙ more (defines_use (OfGuess h.name)) _ _ h.there;
-    here = ap (list_any (λ j. j == s)) (stages_next front x h.name) ∙ more (λ j. j == s) _ _ h.here;
+    there = ap (list_any (defines_use (OfGuess h.name))) (filter_append (on_path c) front (x ∷ [])) ∙ more (defines_use (OfGuess h.name)) (filter (on_path c) front) (filter (on_path c) (x ∷ [])) h.there;
+    here = ap (list_any (λ j. j == s)) (stages_next front x h.name) ∙ more (λ j. j == s) (guess_stages c front h.name) (cond (makes h.name x) (stage_of front x ∷ []) []) h.here;
     low = h.low;
   }
     where
@@ -189,20 +189,23 @@ module _ (p : Pipe) (rules : KeepsRules p) (v : Guard → Bool) (staged : All St
   apart_from : (g : Option ℕ) (front : List Place) (ts : List Site) → InText front ts → All (Told p rules v staged verify_at) ts
       → Called p rules v staged verify_at (filter (on_path c) front) → Last g front → checks_apart g (seen p.mems (on_sites c ts)) ≡ true
   apart_from g front [] text h k l = refl
-  apart_from g front (t ∷ ts) text h k l = at (on_path c (place_of t)) refl
+  apart_from g front (t ∷ ts) text h k l =
+      at (on_path c (place_of t)) refl (λ g' k' l'. apart_from g' (front ++ place_of t ∷ []) ts text.1 h.1 k' l')
     where
-      at : (b : Bool) → on_path c (place_of t) ≡ b → checks_apart g (seen p.mems (if b then t ∷ on_sites c ts else on_sites c ts)) ≡ true
-      at true e =
-          let k' = subst (λ f. Called p rules v staged verify_at (filter (on_path c) f)) (sym text.0) k in
-          let r = step g t h.0 e k' (subst (Last g) (sym text.0) l) t.stmt refl in
+      at : (b : Bool) → on_path c (place_of t) ≡ b
+          → ((g' : Option ℕ) → Called p rules v staged verify_at (filter (on_path c) (front ++ place_of t ∷ [])) → Last g' (front ++ place_of t ∷ [])
+          → checks_apart g' (seen p.mems (on_sites c ts)) ≡ true)
+          → checks_apart g (seen p.mems (if b then t ∷ on_sites c ts else on_sites c ts)) ≡ true
+      at true e go =
+          let before = subst (λ f. Called p rules v staged verify_at (filter (on_path c) f)) (sym text.0) k in
+          let r = step g t h.0 e before (subst (Last g) (sym text.0) l) t.stmt refl in
           aparts_append g t.walk.stage (ops p.mems t) (seen p.mems (on_sites c ts)) r.0
-          (apart_from (guess_ops g t.walk.stage (ops p.mems t)) (front ++ place_of t ∷ []) ts text.1 h.1
+          (go (guess_ops g t.walk.stage (ops p.mems t))
           (subst (Called p rules v staged verify_at) (sym (taken front (place_of t) true e))
           (called_next p rules v staged verify_at (filter (on_path c) front) t h.0.here h.0.stage (ap (filter (on_path c)) text.0) e k))
           (subst (λ f. Last (guess_ops g t.walk.stage (ops p.mems t)) (f ++ place_of t ∷ [])) text.0 r.1))
-      at false e =
-          apart_from g (front ++ place_of t ∷ []) ts text.1 h.1
-          (subst (Called p rules v staged verify_at) (sym (taken front (place_of t) false e ∙ append-nil (filter (on_path c) front))) k)
+      at false e go =
+          go g (subst (Called p rules v staged verify_at) (sym (taken front (place_of t) false e ∙ append-nil (filter (on_path c) front))) k)
           (last_next g front (place_of t) l)
 
   -- the checks among the flat statements of the sites on the path stand apart from their guess

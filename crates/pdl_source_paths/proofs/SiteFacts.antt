@@ -37,7 +37,7 @@ use Rattle.pdl_source_paths.proofs.Order.{all_rise}
 use Rattle.pdl_source_paths.proofs.FlatPaths.{value, all_alike, apart_before}
 use Rattle.pdl_source_paths.proofs.DefinitionOrder.{IsIt, Came, Gives, came_along, off_path}
 use Rattle.pdl_word.proofs.Bytes.{bytes_refl}
-use Rattle.pdl_source_paths.proofs.Guesses.{given_any}
+use Rattle.pdl_source_paths.proofs.GuessCounts.{given_any}
 use Rattle.pdl_word.proofs.Lists.{some_filtered}
 
 -- the path of the rules that these values take

@@ -23,6 +23,11 @@ abbrev pub InText : List Place → List Site → Type 0
 InText front [] = Unit {0}
 InText front (t ∷ ts) = (t.front ≡ front) × InText (front ++ place_of t ∷ []) ts
 
+in_append : (front : List Place) (xs ys : List Site) → InText front xs → InText (front ++ map place_of xs) ys → InText front (xs ++ ys)
+in_append front [] ys h k = subst (λ l. InText l ys) (append-nil front) k
+in_append front (x ∷ xs) ys h k =
+    (h.0, in_append (front ++ place_of x ∷ []) xs ys h.1 (subst (λ l. InText l ys) (sym (append_assoc front (place_of x ∷ []) (map place_of xs))) k))
+
 mutual
   in_text_in : (ms : List Mem) (front : List Place) (w : Flatten.Position) (gs : List Flat.Guard) (bs : List Branch) (s : Stmt)
       → InText front (sites_in ms front w gs bs s)

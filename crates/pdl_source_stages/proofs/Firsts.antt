@@ -27,6 +27,11 @@ abbrev pub Fronts : List Place → List Site → Type 0
 Fronts base [] = Unit {0}
 Fronts base (t ∷ ts) = (t.front ≡ base) × Fronts (base ++ place_of t ∷ []) ts
 
+fronts_append : (base : List Place) (xs ys : List Site) → Fronts base xs → Fronts (base ++ map place_of xs) ys → Fronts base (xs ++ ys)
+fronts_append base [] ys h k = subst (λ l. Fronts l ys) (append-nil base) k
+fronts_append base (x ∷ xs) ys h k =
+    (h.0, fronts_append (base ++ place_of x ∷ []) xs ys h.1 (subst (λ l. Fronts l ys) (sym (append_assoc base (place_of x ∷ []) (map place_of xs))) k))
+
 mutual
   fronts_in : (ms : List Mem) (front : List Place) (w : Flatten.Position) (gs : List Flat.Guard) (bs : List Branch) (s : Stmt)
       → Fronts front (sites_in ms front w gs bs s)

@@ -1,12 +1,13 @@
 -- The `if` of each fork: where it stands, and under which guards.
-use Rattle.std.proofs.Common.{◌≡◌, refl, sym, ap, ap₂, ◌∙◌, ℕ, suc, ◌+◌, ◌≤◌, ◌<◌, ◌⊎◌, inl, inr, Bool, true, false, ◌&&◌, ◌||◌, List, [], ◌∷◌, ◌++◌, length, Option, Some, None, unwrap_or, arith}
-use Rattle.std.proofs.lemmas.Bool.{and_parts, cases_lt}
+use Rattle.std.proofs.Common.{◌≡◌, refl, sym, ap, ap₂, ◌∙◌, ℕ, suc, ◌+◌, ◌≤◌, ◌<◌, ◌⊎◌, inl, inr, Bool, true, false, ◌&&◌, ◌||◌, not, List, [], ◌∷◌, ◌++◌, length, Option, Some, None, unwrap_or, arith, if◌then◌else◌, ◌==◌, slice_index}
+use Rattle.std.proofs.lemmas.Bool.{and_parts, and_from, cases_lt}
 use Rattle.pdl_semantics.specs.Tree.{Span, Expr, Separator, If, Stmts, Nil, Cons, Mem, Pipe}
 use Rattle.pdl_semantics.specs.Flat
-use Rattle.pdl_semantics.specs.Flat.{all_hold}
+use Rattle.pdl_semantics.specs.Flat.{all_hold, takes_branch}
 use Rattle.pdl_semantics.specs.Flatten.{guard_of, with_guard, past, at_otherwise, under, side, separators}
 use Rattle.pdl_semantics.specs.Flatten
 use Rattle.pdl_semantics.specs.Stages.{stage_at}
+use Rattle.pdl_theory_facts.specs.Graphs.{goes_by, on_side}
 use Rattle.pdl_theory_facts.specs.Facts.{comes_by}
 use Rattle.pdl_rules.specs.Places.{Place, Statement, Branch, with_inner, statements}
 use Rattle.pdl_source_stages.proofs.Sites.{Site, branch, sites_in, sites, place_of, All}
@@ -62,6 +63,24 @@ fork_var (Flat.Forks x a b) = Some x
 
 none_one : (x : ℕ) → None ≡ Some x → ⊥
 none_one x e = cc
+
+-- the guard of a branch is taken on each path that goes by the branch
+shown_side : (p : Flat.Pipe) (gs : List Flat.Guard) (d : List Flat.Branch) (k x a b : ℕ) (first : Bool) → Forked p d k x a b → Shown p gs d
+    → Shown p (gs ++ record { var = x; first = first } ∷ []) (side k first ∷ d)
+shown_side p gs d k x a b first fork h path on =
+    let parts = and_parts (goes_by p (side k first) path) (comes_by p path d) on in
+    both gs (h path parts.1) (turn first (slice_index path x) (sym (ap (λ n. on_side n first path) fork.next) ∙ parts.0))
+  where
+    both : (gs : List Flat.Guard) → all_hold gs path ≡ true → takes_branch first (slice_index path x) ≡ true
+        → all_hold (gs ++ record { var = x; first = first } ∷ []) path ≡ true
+    both [] i j = and_from (takes_branch first (slice_index path x)) true j refl
+    both (g ∷ gs) i j =
+        let parts = and_parts (takes_branch g.first (slice_index path g.var)) (all_hold gs path) i in
+        and_from (takes_branch g.first (slice_index path g.var)) (all_hold (gs ++ record { var = x; first = first } ∷ []) path) parts.0 (both gs parts.1 j)
+
+    turn : (first : Bool) (v : ℕ) → (if first then v == 1 else not (v == 1)) ≡ true → takes_branch first v ≡ true
+    turn true v e = e
+    turn false v e = e
 
 mutual
   -- a stage of statements that begin stage k, which forks on x, has such an `if`

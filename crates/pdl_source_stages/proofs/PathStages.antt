@@ -9,7 +9,7 @@ use Rattle.pdl_semantics.specs.Stages.{stage_at, goes_to}
 use Rattle.pdl_rules.specs.Refusal.{KeepsRules}
 use Rattle.pdl_source_stages.specs.Visits.{onward, visited_stages, begun_in, begun_by}
 use Rattle.pdl_source_stages.proofs.Walks.{guard_begun, past_begun, past_all_begun}
-use Rattle.pdl_source_stages.proofs.Shapes.{is_whole, is_forked, is_late, begins_stage, long, merge_at, side_leads, shape, side_shape, long_is}
+use Rattle.pdl_source_stages.proofs.Shapes.{is_whole, is_forked, is_late, begins_stage, Side, Straight, Runs, long, merge_at, side_leads, shape, side_shape, long_is}
 use Rattle.pdl_source_stages.proofs.Spots.{Groups, Sides}
 use Rattle.pdl_source_stages.proofs.BodyShape.{body_forked, body_groups, stage_count}
 use Rattle.pdl_source_stages.proofs.SiteStages.{none_of_whole, fitting, rest_shape, either_shape}
@@ -59,6 +59,11 @@ mutual
       omega arith
 
 -- THE STAGES
+
+-- a branch leads to the stage that it enters
+entry_goes : (m j : ℕ) (sd : Side) (env : List ℕ) → Some (entry (side_leads (Flat.Goes m) j sd)) ≡ goes_to (side_leads (Flat.Goes m) j sd) env
+entry_goes m j Straight env = refl
+entry_goes m j (Runs sh) env = refl
 
 mutual
   -- from stage k on a path visits the stages that its separators begin in these statements, and then what the last one leads to

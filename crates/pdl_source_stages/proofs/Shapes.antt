@@ -189,6 +189,15 @@ forked d exit x a b f m i j k r =
     graph_with_fork f x (bunch (side f true ∷ d) (Flat.Goes m) i a) (bunch (side f false ∷ d) (Flat.Goes m) j b)
     (record { next = Flat.Goes (suc k); later = stage (leads_on exit (suc k) r) d None ∷ after d exit (suc k) r })
 
+forked_is : (d : List Flat.Branch) (exit : Flat.Next) (x : ℕ) (a b : Side) (f m i j k n : ℕ) (r : Shape)
+    → f ≡ n → m ≡ merge_at n (long a) (long b) → i ≡ n → j ≡ n + long a → k ≡ n + long a + long b
+    → forked d exit x a b f m i j k r ≡ trunk d exit n (Fork x a b r)
+forked_is d exit x a b f m i j k n r e1 e2 e3 e4 e5 =
+    ap (λ u. forked d exit x a b u m i j k r) e1 ∙ ap (λ u. forked d exit x a b n u i j k r) e2
+    ∙ ap (λ u. forked d exit x a b n (merge_at n (long a) (long b)) u j k r) e3
+    ∙ ap (λ u. forked d exit x a b n (merge_at n (long a) (long b)) n u k r) e4
+    ∙ ap (λ u. forked d exit x a b n (merge_at n (long a) (long b)) n (n + long a) u r) e5
+
 mutual
   -- the graph of statements that begin a stage is that of their shape
   pub graph_trunk : (ms : List Mem) (d : List Flat.Branch) (exit : Flat.Next) (ss : Stmts) (w : Flatten.Position)

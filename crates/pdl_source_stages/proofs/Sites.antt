@@ -53,6 +53,10 @@ sites_of p = sites p.mems (front_of p) (at_start p) [] [] p.body
 abbrev pub place_of : Site → Place
 place_of t = Statement t.stmt t.branches
 
+map_append : {A B : Type 0} (f : A → B) (xs ys : List A) → map f (xs ++ ys) ≡ map f xs ++ map f ys
+map_append f [] ys = refl
+map_append f (x ∷ xs) ys = ap (λ l. f x ∷ l) (map_append f xs ys)
+
 -- the sites are the statements' places, in text order
 mutual
   -- the places of the sites of a statement are its place and those of what stands inside it
@@ -91,6 +95,10 @@ own ms t = own_of ms t.gs t.walk t.stmt
 abbrev pub owns : List Mem → List Site → List Flat.Stmt
 owns ms [] = []
 owns ms (t ∷ ts) = own ms t ++ owns ms ts
+
+owns_append : (ms : List Mem) (xs ys : List Site) → owns ms (xs ++ ys) ≡ owns ms xs ++ owns ms ys
+owns_append ms [] ys = refl
+owns_append ms (x ∷ xs) ys = ap (λ l. own ms x ++ l) (owns_append ms xs ys) ∙ sym (append_assoc (own ms x) (owns ms xs) (owns ms ys))
 
 -- the flat statements are those of the sites, in text order
 mutual

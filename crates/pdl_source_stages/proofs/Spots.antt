@@ -1,9 +1,10 @@
 -- Where a stage stands in the graph of a shape: what its fork is, in each branch around it, and where it leads.
-use Rattle.std.proofs.Common.{◌≡◌, refl, sym, ap, ap₂, ◌∙◌, subst, ℕ, zero, suc, ◌+◌, ◌≤◌, ◌<◌, ◌⊎◌, inl, inr, Bool, true, false, List, [], ◌∷◌, ◌++◌, length, append_assoc, Option, Some, None, unwrap_or, arith, cond, le_refl}
+use Rattle.std.proofs.Common.{◌≡◌, refl, sym, ap, ap₂, ◌∙◌, subst, ℕ, zero, suc, ◌+◌, ◌≤◌, ◌<◌, ◌⊎◌, inl, inr, Bool, true, false, List, [], ◌∷◌, ◌++◌, length, append_assoc, length-append, Option, Some, None, unwrap_or, arith, cond, slice_index_or, le_refl}
+use Rattle.std.proofs.Math.Seq.{get_or-append_seam}
 use Rattle.std.proofs.lemmas.Bool.{cases_lt}
 use Rattle.pdl_semantics.specs.Flat
 use Rattle.pdl_semantics.specs.Flatten.{entry, side}
-use Rattle.pdl_semantics.specs.Stages.{stage_at}
+use Rattle.pdl_semantics.specs.Stages.{last_stage, stage_at}
 use Rattle.pdl_theory_facts.specs.Graphs.{Home, Within, Trunk}
 use Rattle.pdl_theory_facts.proofs.Nested.{within_home}
 use Rattle.pdl_source_stages.proofs.Shapes.{Shape, Last, Cut, Fork, Side, Straight, Runs, size, long, stage, merge_at, side_leads, leads_on, after, side_after}
@@ -34,6 +35,17 @@ many a b first = cond first a b
 -- these are the stages from k on
 abbrev pub Rest : Flat.Pipe → ℕ → List Flat.Stage → Type 0
 Rest p k xs = (front : List Flat.Stage) × (p.stages ≡ front ++ xs) × (length front ≡ k)
+
+rest_head : (p : Flat.Pipe) (k : ℕ) (x : Flat.Stage) (xs : List Flat.Stage) → Rest p k (x ∷ xs) → stage_at p k ≡ x
+rest_head p k x xs h =
+    ap₂ (λ l i. slice_index_or l i last_stage) h.1 (sym h.2) ∙ get_or-append_seam h.0 x xs last_stage
+
+rest_tail : (p : Flat.Pipe) (k : ℕ) (x : Flat.Stage) (xs : List Flat.Stage) → Rest p k (x ∷ xs) → Rest p (suc k) xs
+rest_tail p k x xs h = (
+  h.0 ++ x ∷ [],
+  h.1 ∙ sym (append_assoc h.0 (x ∷ []) xs),
+  let e = h.2 in let f = length-append h.0 (x ∷ []) in let g : length (x ∷ []) ≡ 1 = refl in omega arith,
+)
 
 -- GROUPS
 
@@ -102,6 +114,9 @@ some_size : (sh : Shape) → 0 < size sh
 some_size Last = omega arith
 some_size (Cut rest) = omega arith
 some_size (Fork x a b rest) = omega arith
+
+more_within : (p : Flat.Pipe) (c d : List Flat.Branch) (x : Flat.Branch) (r : ℕ) → d ≡ x ∷ c → Within p d r → Within p c r
+more_within p c d x r e h = (h.0 ++ x ∷ [], h.1 ∙ ap (λ l. h.0 ++ l) e ∙ sym (append_assoc h.0 (x ∷ []) c))
 
 -- all stages of a shape stand within its branches
 mutual
