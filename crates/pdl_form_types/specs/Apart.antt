@@ -28,7 +28,7 @@ some_flagged fs (e ∷ es) = uses_flagged fs e || some_flagged fs es
 abbrev pub IsPlain : List Bool → ℕ → Type 0
 IsPlain fs x = flag_at fs x ≡ false
 
--- what is advised is bound by the statements on advice, and used by these and by guesses alone: those of calls, and of updates
+-- what is advised is bound by the statements on advice, and used by these and by the guesses of calls alone
 abbrev pub IsApartOp : List Bool → Op → Type 0
 IsApartOp fs (Bind x e) = IsPlain fs x × (uses_flagged fs e ≡ false)
 IsApartOp fs (CombRead x m a) = IsPlain fs x × IsPlain fs a
@@ -40,8 +40,7 @@ IsApartOp fs (Block m a) = IsPlain fs a
 IsApartOp fs (Release m a) = IsPlain fs a
 IsApartOp fs (Call args) = some_flagged fs args ≡ false
 IsApartOp fs (SpecCall args) = ⊤
-IsApartOp fs (Verify true args) = some_flagged fs args ≡ false
-IsApartOp fs (Verify false args) = ⊤
+IsApartOp fs (Verify last args) = some_flagged fs args ≡ false
 IsApartOp fs SpecCheck = ⊤
 IsApartOp fs SpecBarrier = ⊤
 IsApartOp fs (AdviceBind x e) = flag_at fs x ≡ true

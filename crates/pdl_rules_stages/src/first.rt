@@ -79,6 +79,7 @@ fn is_verify(place: &Place<'_>) -> bool
         Action::CombRead(_, _) | Action::Bind(_, _) | Action::DelayedRead(_, _) => false,
         Action::Write(_, _) | Action::SpecCall(_, _) | Action::Reserve(_, _) => false,
         Action::Block(_) | Action::Release(_) | Action::If(_, _, _) | Action::Call(_) => false,
-        Action::SpecCheck | Action::SpecBarrier | Action::End | Action::StartClause(_) => false,
+        Action::Update(_, _) | Action::SpecCheck | Action::SpecBarrier => false,
+        Action::End | Action::StartClause(_) => false,
     }
 }

@@ -7,27 +7,27 @@ use Rattle.pdl_rules.specs.Places.{Place, at_statement}
 use Rattle.pdl_rules.specs.Unbuilt.{is_advisory_memory}
 
 -- whether a statement uses an advised variable where none may stand
-abbrev pub uses_advice_at : List Var → List Mem → Stmt → Bool
-uses_advice_at vs ms (Separator _) = false
-uses_advice_at vs ms (CombRead _ _ at) = not (is_advisory_mem ms at.mem.name) && is_advised_var vs at.address.name
-uses_advice_at vs ms (Bind _ _ _) = false
-uses_advice_at vs ms (SpecCall _ _ _) = false
-uses_advice_at vs ms (DelayedRead _ _ at) = is_advised_var vs at.address.name
-uses_advice_at vs ms (Write _ at e) = not (is_advisory_mem ms at.mem.name) && (is_advised_var vs at.address.name || is_advised vs e)
-uses_advice_at vs ms (Reserve _ at _) = is_advised_var vs at.address.name
-uses_advice_at vs ms (Block _ at) = is_advised_var vs at.address.name
-uses_advice_at vs ms (Release _ at) = is_advised_var vs at.address.name
-uses_advice_at vs ms (If _ c _ _) = is_advised vs c
-uses_advice_at vs ms (Call _ args) = list_any (is_advised vs) args
-uses_advice_at vs ms (Verify _ _ args) = list_any (is_advised vs) args
-uses_advice_at vs ms (Update _ _ _) = false
-uses_advice_at vs ms (SpecCheck _) = false
-uses_advice_at vs ms (SpecBarrier _) = false
+abbrev pub uses_advice : List Var → List Mem → Stmt → Bool
+uses_advice vs ms (Separator _) = false
+uses_advice vs ms (CombRead _ _ at) = not (is_advisory_mem ms at.mem.name) && is_advised_var vs at.address.name
+uses_advice vs ms (Bind _ _ _) = false
+uses_advice vs ms (SpecCall _ _ _) = false
+uses_advice vs ms (DelayedRead _ _ at) = is_advised_var vs at.address.name
+uses_advice vs ms (Write _ at e) = not (is_advisory_mem ms at.mem.name) && (is_advised_var vs at.address.name || is_advised vs e)
+uses_advice vs ms (Reserve _ at _) = is_advised_var vs at.address.name
+uses_advice vs ms (Block _ at) = is_advised_var vs at.address.name
+uses_advice vs ms (Release _ at) = is_advised_var vs at.address.name
+uses_advice vs ms (If _ c _ _) = is_advised vs c
+uses_advice vs ms (Call _ args) = list_any (is_advised vs) args
+uses_advice vs ms (Verify _ _ args) = list_any (is_advised vs) args
+uses_advice vs ms (Update _ _ args) = list_any (is_advised vs) args
+uses_advice vs ms (SpecCheck _) = false
+uses_advice vs ms (SpecBarrier _) = false
 
 -- whether a place does
-abbrev pub uses_advice : List Var → List Mem → Place → Bool
-uses_advice vs ms x = at_statement false (λ s bs. uses_advice_at vs ms s) x
+abbrev pub breaks_advice : List Var → List Mem → Place → Bool
+breaks_advice vs ms x = at_statement false (λ s bs. uses_advice vs ms s) x
 
 -- whether a place declares an advisory memory, or uses an advised variable where none may stand
 abbrev pub is_unadvised : List Var → List Mem → Place → Bool
-is_unadvised vs ms x = is_advisory_memory x || uses_advice vs ms x
+is_unadvised vs ms x = is_advisory_memory x || breaks_advice vs ms x

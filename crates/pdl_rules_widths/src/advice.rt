@@ -9,7 +9,7 @@ ghost use Rattle.pdl_rules.specs.Widths as spec;
 ghost use Rattle.pdl_paths.specs.Actions.{place_view};
 ghost use Rattle.pdl_rules_on_paths.specs.Lowest.{first_line};
 ghost use Rattle.pdl_rules_on_texts.specs.Refused.{refused_of};
-ghost use Rattle.pdl_rules_widths.specs.Advice.{is_unadvised as spec_unadvised, uses_advice};
+ghost use Rattle.pdl_rules_widths.specs.Advice.{breaks_advice as spec_breaks_advice, is_unadvised as spec_unadvised};
 
 use crate::advised::{is_advised, is_some_advised};
 use crate::variables::Variables;
@@ -69,7 +69,8 @@ fn is_advisory_memory(place: &Place<'_>) -> bool
 
 // Whether the place uses an advised variable where none may stand.
 fn breaks_advice(variables: &Variables, mems: &[Mem], place: &Place<'_>) -> bool
-    ensures { result ≡ uses_advice variables.now (map mem_view mems.now) (place_view place.now) }
+    ensures { result ≡ spec_breaks_advice variables.now (map mem_view mems.now)
+        (place_view place.now) }
 {
     match place.action {
         Action::CombRead(_, at) => {
@@ -84,9 +85,10 @@ fn breaks_advice(variables: &Variables, mems: &[Mem], place: &Place<'_>) -> bool
             variables.is_advised(&at.address.name)
         }
         Action::If(condition, _, _) => is_advised(variables, condition),
-        Action::Call(args) | Action::Verify(_, args) => is_some_advised(variables, args),
+        Action::Call(args) => is_some_advised(variables, args),
+        Action::Verify(_, args) | Action::Update(_, args) => is_some_advised(variables, args),
         Action::Parameter(_) | Action::Memory(_) | Action::Separator => false,
-        Action::Bind(_, _) | Action::SpecCall(_, _) | Action::Update(_, _) => false,
+        Action::Bind(_, _) | Action::SpecCall(_, _) => false,
         Action::SpecCheck | Action::SpecBarrier | Action::End | Action::StartClause(_) => false,
     }
 }
