@@ -285,8 +285,8 @@ served_here p sound strict single image before bits by used =
           let es = with_reserves m (Slots.moving p st bits) (lock_of st m) in
           let own = place_is_own 0 t.number y es (used.ordered_next m) w.1 in
           let few = subst (λ ms. length (entries_by t.number (with_reserves m ms (lock_of st m))) ≤ 1) by.movers
-              (at_here p st bits (λ (a : Act). a.moves ≡ true → length (entries_by a.thread.number (with_new p st bits m)) ≤ 1)
-              (all_pending p sound st _ bits r.0 r.1 r.2 single m low) k t h g) in
+          (at_here p st bits (λ (a : Act). a.moves ≡ true → length (entries_by a.thread.number (with_new p st bits m)) ≤ 1)
+          (all_pending p sound st _ bits r.0 r.1 r.2 single m low) k t h g) in
           own.1 ∙ plus (count_older t.number es) (place_zero t.number y (entries_by t.number es) few own.0);
       single = λ m low. subst (λ ms. all_releases m ms ≤ 1) by.movers (one_gone p sound st _ bits r.0 r.1 r.2 single m low);
     }

@@ -387,7 +387,7 @@ returns-in-Verify-clause-step g c =
     let typed = subst (λ (o : r_op.Op). IsTypedOp (form c.args.setting.now.pipe.now) (act_view o)) c.in-Verify.is c.requires.typed.0.1 in
     let es = exprs_view c.as_slice-in-Verify.result.now in
     let last = last_only (form c.args.setting.now.pipe.now).pipe c.in-Verify.last (exprs_view c.in-Verify.args)
-        (subst (λ (o : r_op.Op). HasRow (form c.args.setting.now.pipe.now).pipe (act_view o)) c.in-Verify.is c.requires.typed.1) in
+    (subst (λ (o : r_op.Op). HasRow (form c.args.setting.now.pipe.now).pipe (act_view o)) c.in-Verify.is c.requires.typed.1) in
     let op =
     ap (λ (l : List r_expr.FlatExpr). flat.Verify true (exprs_view l)) c.as_slice-in-Verify.ensures
     ∙ ap (λ (b : Bool). flat.Verify b (exprs_view c.in-Verify.args)) (sym last) ∙ sym (ap act_view c.in-Verify.is) in
