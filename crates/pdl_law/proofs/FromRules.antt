@@ -76,7 +76,8 @@ kind_at p (CombRead sp x from) vs e =
 kind_at p (Bind sp x a) vs e = either_bind (IsOfKind (flat p)) (is_advised vs a) (length vs) (flat_expr vs a) (tt, tt) (tt, tt)
 kind_at p (DelayedRead sp x from) vs e = (tt, delayed_there p.mems from.mem.name (not-false _ e))
 kind_at p (Write sp to a) vs e =
-    either_write (IsOfKind (flat p)) (is_advisory_mem p.mems to.mem.name) (mem_of p.mems to.mem.name) (var_of vs to.address.name) (flat_expr vs a) (tt, tt) (tt, tt)
+    either_write (IsOfKind (flat p)) (is_advisory_mem p.mems to.mem.name) (mem_of p.mems to.mem.name) (var_of vs to.address.name) (flat_expr vs a)
+    (tt, tt) (tt, tt)
 kind_at p (Reserve sp at R) vs e = (tt, tt)
 kind_at p (Reserve sp at W) vs e = (tt, tt)
 kind_at p (If sp (Variable x) when otherwise) vs e = tt

@@ -189,7 +189,8 @@ module _ (p : Pipe) (lawful : IsLawful p) (st : machine.State) (bits : List Bool
           long = w.0;
           bounded = w.1;
           same = λ a i. w.2 a i
-              ∙ sym (ap (λ (f : ℕ → ℕ). f a) (known.by.arrays m l) ∙ ap (λ (x : Arrays). x m a) (calm (with_commit st.arrays m (taken_out st (moving p st bits) m))));
+              ∙ sym (ap (λ (f : ℕ → ℕ). f a) (known.by.arrays m l)
+              ∙ ap (λ (x : Arrays). x m a) (calm (with_commit st.arrays m (taken_out st (moving p st bits) m))));
           request = outstanding_is m y.request (is_answered p bits m) h.request (asked_in (moving p st bits) m) ∙ sym (request_after m l);
           reach = λ a e. at (asked_in (moving p st bits) m) refl (is_answered p bits m) a e;
         }

@@ -155,7 +155,8 @@ module _ (p : Pipe) (sound : Sound p) (st : State) (bits : List Bool) (f : ℕ) 
           ∙ ap (entered_list (is_inside p f a && true)) (sym (no (is_inside p f b)))
           ∙ ap (λ w. entered_list (is_inside p f a && w) (is_inside p f b && not w)) (sym e)
       at false e =
-          ap (λ w. sides_of f (stage_at p (if w then a else b)).branches) e ∙ to b false e (ap (λ w. Some (if w then a else b)) e) ∙ second_list (is_inside p f b)
+          ap (λ w. sides_of f (stage_at p (if w then a else b)).branches) e ∙ to b false e (ap (λ w. Some (if w then a else b)) e)
+          ∙ second_list (is_inside p f b)
           ∙ ap (λ u. entered_list u (is_inside p f b && true)) (sym (no (is_inside p f a)))
           ∙ ap (λ w. entered_list (is_inside p f a && w) (is_inside p f b && not w)) (sym e)
 

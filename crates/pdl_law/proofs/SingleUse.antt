@@ -196,7 +196,8 @@ module _ (p : Pipe) (sound : Sound p) (st : State) (d : Derived.State) (bits : L
       ≡ pend m x.live.number x.live.thread.entries ++ new_entries m x.live.number (deeds_of p st bits x.live).reserves) (pairs ls)
   own_new =
       pair_both
-      (λ x g h i. ap (entries_by x.live.number) (with_new_is p sound st d bits ls sim m ∙ ap (with_reserves m (movers (lacts p st d bits ls))) (sym (sim.locks m)))
+      (λ x g h i. ap (entries_by x.live.number)
+      (with_new_is p sound st d bits ls sim m ∙ ap (with_reserves m (movers (lacts p st d bits ls))) (sym (sim.locks m)))
       ∙ h i ∙ ap (λ xs. xs ++ new_entries m x.live.number (deeds_of p st bits x.live).reserves) (g.listed m))
       (pairs ls) (pairs_each (Mine p st) ls (each_mine p st ls sim.falls alike.along sim.locks))
       (by_new p sound st d bits sim.arrays m st.next (lock_of st m) ls sim.falls)

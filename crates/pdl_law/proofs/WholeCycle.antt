@@ -101,7 +101,8 @@ module _ (p : Pipe) (lawful : IsLawful p) (ls : Locks) (vs : ℕ → View) (gate
         (ports_told p lawful.reads lawful.leads lawful.inside c vs gates moves sides beside.port_owns beside.ports s st bits known.flight known.by whole.ports given k t w.asks so.asks later)
         (λ e. both_at s (barrier_open v k w.barrier (sides.clear k)) (way_on (stage_at p k).next (turn p sides k) w)
         (barrier_clear p acts d) (merges_well p st k (next_stage p k d))
-        (barrier_is p lawful.sound still c vs gates moves sides beside.removals s st bits suits known.flight known.by whole.stands.valid k d w.barrier so.barrier later)
+        (barrier_is p lawful.sound still c vs gates moves sides beside.removals s st bits suits known.flight known.by whole.stands.valid k d w.barrier
+        so.barrier later)
         (λ g. merges_is p lawful.sound c vs gates moves sides beside.order_owns beside.orders s st whole.orders k w d l
         (λ x i. so.env x (lives_fork p k x l i))))))
 
@@ -112,7 +113,8 @@ module _ (p : Pipe) (lawful : IsLawful p) (ls : Locks) (vs : ℕ → View) (gate
     -- the squash is as the machine's
     pub squashed_whole : IsSquashed p ls vs gates s st bits
     squashed_whole =
-        squashed_is p lawful.sound still lawful.leads ls c vs gates moves laid sides beside s st bits suits known.flight known.by known.used known.cut seen_whole whole.tails
+        squashed_is p lawful.sound still lawful.leads ls c vs gates moves laid sides beside s st bits suits known.flight known.by known.used known.cut
+        seen_whole whole.tails
 
     -- a squash is of V
     staged_whole : squash_stage (moving p st bits) ≡ (if is_some (squasher (moving p st bits)) then verify_stage p.stmts else None)
@@ -150,5 +152,6 @@ module _ (p : Pipe) (lawful : IsLawful p) (ls : Locks) (vs : ℕ → View) (gate
           (beside.orders f q low e) s st bits known.by seen_whole squashed_whole.squash lawful.sound lawful.leads known.flight.count known.next staged_whole
           (whole.orders f q low e) t regs arrays;
       tails =
-          tails_next p lawful.sound still lawful.leads ls c vs gates moves laid sides beside s st bits suits known.flight known.by known.used known.cut seen_whole whole.tails whole.stands.locks t regs arrays;
+          tails_next p lawful.sound still lawful.leads ls c vs gates moves laid sides beside s st bits suits known.flight known.by known.used known.cut
+          seen_whole whole.tails whole.stands.locks t regs arrays;
     }

@@ -139,7 +139,8 @@ module _ (p : Pipe) (names : ℕ → List ℕ) (apart : Apart names (length p.me
       (squashed : IsSquashed p ls vs gates s st bits) where
     -- the signals of a locked memory's commit have the values of what the machine commits
     pub commit_at : (m : ℕ) → is_locked p m ≡ true
-        → commit_words names s st (made.laid.commits m) ≡ commit_values (mem_at p m).lock (reserves_twice m p.stmts) (port_writes (taken_out st (moving p st bits) m))
+        → commit_words names s st (made.laid.commits m)
+        ≡ commit_values (mem_at p m).lock (reserves_twice m p.stmts) (port_writes (taken_out st (moving p st bits) m))
     commit_at = commit_laid p names ls vs gates moves c made.laid s st bits stands known.used known.by seen (stood p st bits) squashed
 
     -- the signals of a delayed memory's request tell whether the machine asks it, and at which address
@@ -201,7 +202,8 @@ module _ (p : Pipe) (names : ℕ → List ℕ) (apart : Apart names (length p.me
         (λ j f. ap (λ i. has_lock (slice_index_or p.mems i plain_mem).lock) (let z : j ≡ m = omega (arith, f) in z) ∙ e))
 
     -- the request that is found by a delayed memory's name is what the machine asks it
-    pub request_named : (m : ℕ) → m < length p.mems → is_delayed (mem_at p m).kind ≡ true → request_of c (output_values c s) (names m) ≡ asked_in (moving p st bits) m
+    pub request_named : (m : ℕ) → m < length p.mems → is_delayed (mem_at p m).kind ≡ true
+        → request_of c (output_values c s) (names m) ≡ asked_in (moving p st bits) m
     request_named m l d =
         let value : (g : Request → Signal)
         → pick (λ (x : Mem). is_delayed x.kind) (λ i. (g (made.asks i)).value s) names 0 p.mems (names m) 0 ≡ (g (made.asks m)).value s =
@@ -269,7 +271,8 @@ module _ (p : Pipe) (names : ℕ → List ℕ) (apart : Apart names (length p.me
         (λ i l e.
         (let z : i ≡ 0 + i = omega arith in
         subst
-        (λ j. commit_words names s st (made.laid.commits j) ≡ commit_values (mem_at p i).lock (reserves_twice j p.stmts) (port_writes (taken_out st (moving p st bits) j))) z
+        (λ j. commit_words names s st (made.laid.commits j)
+        ≡ commit_values (mem_at p i).lock (reserves_twice j p.stmts) (port_writes (taken_out st (moving p st bits) j))) z
         (commit_at i e)))
         ∙ ap (all_commit_values (all_twice p.stmts 0 p.mems) p.mems) (sym known.by.commits) in
         let asked =

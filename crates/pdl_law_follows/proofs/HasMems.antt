@@ -51,7 +51,8 @@ module _ (ms : List Mem) (p : Pipe) (same : p.mems ≡ mems_of ms) where
           ap (λ k. slice_index_or (net_infos ms) k d) (place_delayed p m e)
           ∙ get_or_append_left (map info_of (delayed_of ms)) (map info_of (comb_of ms)) d (count_by places.answers_late (take m p.mems)) (delayed_low e)
           ∙ ap (λ ys. slice_index_or (map info_of (delayed_of ms)) (count_by places.answers_late (take m ys)) d) same
-          ∙ some_at answers_late places.answers_late (λ x. refl) ms m d (low_here m l) (ap (λ ys. is_delayed (slice_index_or ys m plain_mem).kind) (sym same) ∙ e)
+          ∙ some_at answers_late places.answers_late (λ x. refl) ms m d (low_here m l)
+          (ap (λ ys. is_delayed (slice_index_or ys m plain_mem).kind) (sym same) ∙ e)
       at false e =
           ap (λ k. slice_index_or (net_infos ms) k d)
           (place_comb p m e ∙ ap (λ k. k + comb_place p m) (sym comb_count ∙ sym (length-map (delayed_of ms) info_of)))

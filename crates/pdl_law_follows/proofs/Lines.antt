@@ -186,14 +186,16 @@ module _ (p : Pipe) (ms : List Mem) (same : p.mems ≡ mems_of ms) (n : Netlist)
         front : List ℕ
         front = stage_values o.valid o.moves ++ (all_commit_values (all_twice p.stmts 0 p.mems) p.mems o.commits ++ all_request_values p.mems o.requests)
 
-        ends : (stage_values o.valid o.moves ++ (all_commit_values (all_twice p.stmts 0 p.mems) p.mems o.commits ++ all_request_values p.mems o.requests)) ++ bit o.ended ∷ bit o.squash ∷ []
+        ends : (stage_values o.valid o.moves
+            ++ (all_commit_values (all_twice p.stmts 0 p.mems) p.mems o.commits ++ all_request_values p.mems o.requests)) ++ bit o.ended ∷ bit o.squash ∷ []
             ≡ whole_values p o
         ends =
             append_assoc (stage_values o.valid o.moves)
             (all_commit_values (all_twice p.stmts 0 p.mems) p.mems o.commits ++ all_request_values p.mems o.requests)
             (bit o.ended ∷ bit o.squash ∷ [])
             ∙ ap (λ l. stage_values o.valid o.moves ++ l)
-            (append_assoc (all_commit_values (all_twice p.stmts 0 p.mems) p.mems o.commits) (all_request_values p.mems o.requests) (bit o.ended ∷ bit o.squash ∷ []))
+            (append_assoc (all_commit_values (all_twice p.stmts 0 p.mems) p.mems o.commits) (all_request_values p.mems o.requests)
+            (bit o.ended ∷ bit o.squash ∷ []))
 
   -- what is seen of a cycle is the machine's
   cycle_is : (x : Shown) (t : Turn) → HasPorts p t.ports → seen_of x ≡ whole_had p t → cycle_by n (map info_of ms) x ≡ turn_cycle t

@@ -61,7 +61,8 @@ commits_then ms es vals = all_commit_values (none_twice (mems_of ms)) (mems_of m
 commits_first : (m : Mem) (ms : List Mem) (e : List PortWrite) (es : List (List PortWrite)) (vals : List ℕ)
     → commits_then (m ∷ ms) (e ∷ es) vals ≡ commit_if (is_some m.lock) e ++ commits_then ms es vals
 commits_first m ms e es vals =
-    append_assoc (commit_values (flat_lock m.lock) false e) (all_commit_values (none_twice (mems_of ms)) (mems_of ms) es) vals ∙ ap (λ l. l ++ commits_then ms es vals) (commit_is m.lock e)
+    append_assoc (commit_values (flat_lock m.lock) false e) (all_commit_values (none_twice (mems_of ms)) (mems_of ms) es) vals
+    ∙ ap (λ l. l ++ commits_then ms es vals) (commit_is m.lock e)
 
 -- the port `c_` of a name tells whether that memory commits, where the ports after have 0 for the name
 pub flag_is : (ms : List Mem) (es : List (List PortWrite)) (names : List (List ℕ)) (vals x : List ℕ)

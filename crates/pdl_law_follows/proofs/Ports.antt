@@ -67,7 +67,8 @@ request_heads names asks k (m ∷ ms) h r f =
     (request_heads names asks (suc k) ms (rest_named names k m ms h) (λ x a. r x (inr a))
     (λ i l d. (let z : k + suc i ≡ suc k + i = omega arith in rw (sym z) (f (suc i) (omega (arith, l)) d))))
   where
-    at : (b : Bool) → is_delayed m.kind ≡ b → map head_shown (requests_shown names asks (suc k) (mems_of ms)) ≡ flat_map request_ports (map port_mem (delayed_of ms))
+    at : (b : Bool) → is_delayed m.kind ≡ b
+        → map head_shown (requests_shown names asks (suc k) (mems_of ms)) ≡ flat_map request_ports (map port_mem (delayed_of ms))
         → map head_shown ((if b then request_shown (names k) (asks k) else []) ++ requests_shown names asks (suc k) (mems_of ms))
         ≡ flat_map request_ports (map port_mem (if b then m ∷ delayed_of ms else delayed_of ms))
     at false e g = g

@@ -99,7 +99,8 @@ last_wait p n bits (b ∷ schedule) h st e =
 
 -- ---- netlists
 
-module _ (p : tree.Pipe) (rules : KeepsRules p) (built : IsBuilt p) (source : is_source p ≡ true) (named : is_named p ≡ true) (n : Netlist) (follows : Follows p n) where
+module _ (p : tree.Pipe) (rules : KeepsRules p) (built : IsBuilt p) (source : is_source p ≡ true) (named : is_named p ≡ true) (n : Netlist)
+    (follows : Follows p n) where
   turned : ShowsTurns p n
   turned = shows_turns p rules built source named n follows
 

@@ -74,7 +74,8 @@ module _ (p : Pipe) (ms : List Mem) (declared : AreDeclared ms) (same : p.mems �
       let count = sym (length-map n.arrays shape_of) ∙ ap length shapes ∙ length-map (comb_of ms) shape_of_mem in
       let c = comb_at ms k (omega (arith, l, count)) in
       let low : c.place < length p.mems = subst (λ (ys : List flat.Mem). c.place < length ys) (sym same) c.low in
-      let comb : is_delayed (mem_at p c.place).kind ≡ false = ap (λ (ys : List flat.Mem). is_delayed (slice_index_or ys c.place plain_mem).kind) same ∙ c.comb in
+      let comb : is_delayed (mem_at p c.place).kind ≡ false = ap (λ (ys : List flat.Mem). is_delayed (slice_index_or ys c.place plain_mem).kind) same
+      ∙ c.comb in
       let plain = ap (λ (ys : List flat.Mem). flat.has_lock (slice_index_or ys c.place plain_mem).lock) same ∙ c.lock ∙ h.lock ∙ e in
       let none = made.laid.unwritten c.place low plain comb in
       let place : ls.array c.place ≡ k =

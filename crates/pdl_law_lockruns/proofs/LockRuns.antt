@@ -168,7 +168,8 @@ module _ (p : tree.Pipe) (rules : KeepsRules p) (built : IsBuilt p) (source : is
     -- what the netlist holds after a schedule stands for the machine's state
     abbrev Reached : (image : List (List ℕ)) → List ℕ → Type 0
     Reached image schedule =
-        IsStandingFor p rules built source named ls vs gates moves sides n whole image (held_after n (start n image) schedule) (machine_after (flat p) image schedule)
+        IsStandingFor p rules built source named ls vs gates moves sides n whole image (held_after n (start n image) schedule)
+        (machine_after (flat p) image schedule)
 
     reached : (image : List (List ℕ)) (schedule : List ℕ) → IsImage n.mems image → Reached image schedule
     reached image schedule is_image =

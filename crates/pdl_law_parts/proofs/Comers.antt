@@ -306,7 +306,8 @@ module _ (p : Pipe) (ls : Locks) (vs : ℕ → View) (moves : ℕ → Signal) (s
         advice = so.advice;
         held = λ m a live. so.held m a (holds_down p j q m a (omega (arith, low)) live) ∙ ap (λ ps. bit (is_held ps m a)) (used.in_use.held j q t h on);
         guess =
-            λ v e i m. ap (λ l'. slice_index l' i) (so.guess (spared.calm j t h (verifies_down p (suc j) q (omega (arith, low)) v)) (verifies_down p j q (omega (arith, low)) v) e)
+            λ v e i m. ap (λ l'. slice_index l' i)
+            (so.guess (spared.calm j t h (verifies_down p (suc j) q (omega (arith, low)) v)) (verifies_down p j q (omega (arith, low)) v) e)
             ∙ signal_at s (vs j).ended.guess i (let z = so.guess_long in omega (arith, m, z));
         tickets = λ m e r high. (
           subst

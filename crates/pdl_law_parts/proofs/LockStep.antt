@@ -193,7 +193,8 @@ module _ (p : Pipe) (ls : Locks) (vs : ℕ → View) (moves : ℕ → Signal) (s
       }
 
   -- the state after the cycle, that which stands for the machine's next one
-  pub step_is : step (lock_state_of stand.base (machine.lock_of st m) stand.words) (act_of p ls vs moves s st bits by used seen stood m locked stand gates squashed)
+  pub step_is : step (lock_state_of stand.base (machine.lock_of st m) stand.words)
+      (act_of p ls vs moves s st bits by used seen stood m locked stand gates squashed)
       ≡ lock_state_of (stand.base + gone) left words_next
   step_is =
       ap (λ xs. cut (released gone stand.base xs stand.words))
@@ -232,7 +233,8 @@ module _ (p : Pipe) (ls : Locks) (vs : ℕ → View) (moves : ℕ → Signal) (s
           let q = proper p ls vs moves s st bits by used seen stood m locked stand gates squashed kind in
           ap₂ (λ u v. u ∷ v) (law.commits s x a stand.stands d q)
           (ap₂ (λ u v. u ∷ v ∷ []) (law.commits_addr s x a stand.stands d q) (law.commits_value s x a stand.stands d q))
-          ∙ ap (λ xs. bit (nat_lt 0 gone) ∷ (if nat_lt 0 gone then (entry_at xs 0).addr else 0) ∷ (if nat_lt 0 gone then or_zero (entry_at xs 0).value else 0) ∷ [])
+          ∙ ap (λ xs. bit (nat_lt 0 gone) ∷ (if nat_lt 0 gone then (entry_at xs 0).addr else 0) ∷ (if nat_lt 0 gone then or_zero (entry_at xs 0).value else 0)
+          ∷ [])
           (filled_is p ls vs moves s st bits by used seen stood m locked stand gates squashed)
           ∙ commit_by gone (list_two st ms m) there
 

@@ -145,7 +145,9 @@ none_written s m base ticket (x ∷ xs) es = at (none_written s m base ticket xs
   where
     at : with_writes base (write_acts s m false ticket xs) es ≡ es → (b : Bool)
         → with_writes base
-        (if b then record { on = false; ticket = ticket x.var; value = x.value.value s } ∷ write_acts s m false ticket xs else write_acts s m false ticket xs) es
+        (if b
+        then record { on = false; ticket = ticket x.var; value = x.value.value s } ∷ write_acts s m false ticket xs
+        else write_acts s m false ticket xs) es
         ≡ es
     at i true = i
     at i false = i

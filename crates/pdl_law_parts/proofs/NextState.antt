@@ -115,7 +115,9 @@ module _ (p : Pipe) (ls : Locks) (vs : ℕ → View) (gates : Gates) (moves : �
           taken : (b : Bool)
               → or_then (if b then Some (thread_after (slots.act_at p st j t)) else None) (slots.first_of p st bits q js) ≡ Some u
               → removed sq u.number ≡ true
-          taken true k = let same : thread_after (slots.act_at p st j t) ≡ u = cc k in subst (λ (v : Thread). removed sq v.number ≡ true) same (spared.kept j t h f)
+          taken true k =
+              let same : thread_after (slots.act_at p st j t) ≡ u = cc k in
+              subst (λ (v : Thread). removed sq v.number ≡ true) same (spared.kept j t h f)
           taken false k = go k
 
   slot_next : (q : ℕ) → q < length p.stages → slot next q ≡ or_then (coming q) (stays q)

@@ -74,21 +74,26 @@ module _ (names : ℕ → List ℕ) (s : State) (st : machine.State) where
     where
       at : commit_words (commits (m + 0)) ≡ commit_values x.lock (reserves_twice (m + 0) ss) (port_writes (taken_out st ms (m + 0)))
           → commit_words (commits m) ≡ commit_values x.lock (reserves_twice m ss) (port_writes (taken_out st ms m))
-      at e = ap (λ i. commit_words (commits i)) (sym (add-zero m)) ∙ e ∙ ap (λ i. commit_values x.lock (reserves_twice i ss) (port_writes (taken_out st ms i))) (add-zero m)
+      at e = ap (λ i. commit_words (commits i)) (sym (add-zero m)) ∙ e
+          ∙ ap (λ i. commit_values x.lock (reserves_twice i ss) (port_writes (taken_out st ms i))) (add-zero m)
 
       mine : (l : Lock)
           → (has_lock l ≡ true → commit_words (commits m) ≡ commit_values l (reserves_twice m ss) (port_writes (taken_out st ms m)))
-          → map (shown_value s) (if has_lock l then commit_shown (names m) (commits m) else []) ≡ commit_values l (reserves_twice m ss) (port_writes (taken_out st ms m))
+          → map (shown_value s) (if has_lock l then commit_shown (names m) (commits m) else [])
+          ≡ commit_values l (reserves_twice m ss) (port_writes (taken_out st ms m))
       mine l g = told (has_lock l) refl
         where
           told : (b : Bool) → has_lock l ≡ b
-              → map (shown_value s) (if b then commit_shown (names m) (commits m) else []) ≡ commit_values l (reserves_twice m ss) (port_writes (taken_out st ms m))
+              → map (shown_value s) (if b then commit_shown (names m) (commits m) else [])
+              ≡ commit_values l (reserves_twice m ss) (port_writes (taken_out st ms m))
           told false e = ap (λ (x : Lock). commit_values x (reserves_twice m ss) (port_writes (taken_out st ms m))) (sym (plain_is l e))
           told true e = g e
 
       later : (i : ℕ)
-          → commit_words (commits (m + suc i)) ≡ commit_values (slice_index_or xs i plain_mem).lock (reserves_twice (m + suc i) ss) (port_writes (taken_out st ms (m + suc i)))
-          → commit_words (commits (suc m + i)) ≡ commit_values (slice_index_or xs i plain_mem).lock (reserves_twice (suc m + i) ss) (port_writes (taken_out st ms (suc m + i)))
+          → commit_words (commits (m + suc i))
+          ≡ commit_values (slice_index_or xs i plain_mem).lock (reserves_twice (m + suc i) ss) (port_writes (taken_out st ms (m + suc i)))
+          → commit_words (commits (suc m + i))
+          ≡ commit_values (slice_index_or xs i plain_mem).lock (reserves_twice (suc m + i) ss) (port_writes (taken_out st ms (suc m + i)))
       later i e = let z : m + suc i ≡ suc m + i = omega arith in
           subst (λ j. commit_words (commits j) ≡ commit_values (slice_index_or xs i plain_mem).lock (reserves_twice j ss) (port_writes (taken_out st ms j))) z e
 

@@ -186,7 +186,8 @@ module _ (c : Circuit) (p : Pipe) (ls : Locks) (vs : ℕ → View) (s : State) (
           ∙ ap (λ c. if c then Some (map (λ (f : Signal). f.value s) r.args) else child_in s w.births)
           (sym (on_is s r.on false (on_at c p ls vs s st k thread around gs r w d glive on q h ∙ ap bit f)))
 
-      guess_at : IsSo p k s w d → (b : Bool) → all_hold gs d.env ≡ b → (done st thread b (SpecCall args) d).fails ≡ false → IsGuess p k s r.guess (done st thread b (SpecCall args) d).guess
+      guess_at : IsSo p k s w d → (b : Bool) → all_hold gs d.env ≡ b → (done st thread b (SpecCall args) d).fails ≡ false
+          → IsGuess p k s r.guess (done st thread b (SpecCall args) d).guess
       guess_at h true f z v l = values h f ∙ sym (row.3 s around.suits (is_taken c p ls vs s st k thread around gs r w d glive on q h f))
       guess_at h false f z v l = h.guess z v l ∙ sym (row.4 s around.suits (is_not c p ls vs s st k thread around gs r w d glive on q h f))
 
@@ -235,7 +236,8 @@ module _ (c : Circuit) (p : Pipe) (ls : Locks) (vs : ℕ → View) (s : State) (
   -- a row that verifies: the guess fails where the arguments differ from it, and then a new thread has them
   pub follows_verify : (args : List Expr) → FollowsOp c p ls vs s st k thread around (Verify true args)
   follows_verify args j gs r w d live on row here fine sole q =
-      quiet c p ls vs s st k thread around gs r w d glive on q (Verify true args) (walk_after (Verify true args) r ls w) refl (λ b. same b) (λ h z b f. so h z b f)
+      quiet c p ls vs s st k thread around gs r w d glive on q (Verify true args) (walk_after (Verify true args) r ls w) refl (λ b. same b)
+      (λ h z b f. so h z b f)
     where
       glive : (z : ℕ) → guards_use gs z ≡ true → lives_from p k z ≡ true
       glive z u = live.vars z (or_left (guards_use gs z) (are_using args z) u)

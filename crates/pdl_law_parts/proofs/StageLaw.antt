@@ -77,7 +77,8 @@ module _ (c : Circuit) (p : Pipe) (ls : Locks) (vs : ℕ → View) (s : State) (
       → Follows p k s st thread end (deeds_after_all (word_for st thread) xs d)
   follows_all [] w end d live rows fine sole q = subst (λ (x : Walk). Follows p k s st thread x d) (sym rows) q
   follows_all (x ∷ xs) w end d live rows fine sole q =
-      follows_all xs (walk_after x.op rows.0 ls w) end (if all_hold x.guards d.env then deeds_after (word_for st thread) x.op d else d) live.1 rows.2 fine.1 sole
+      follows_all xs (walk_after x.op rows.0 ls w) end
+      (if all_hold x.guards d.env then deeds_after (word_for st thread) x.op d else d) live.1 rows.2 fine.1 sole
       (follows_row c p ls vs s st k thread around x rows.0 w d live.0.0 rows.1 live.0.1 fine.0 (λ m e. sooner m (sole m e)) q)
     where
       sooner : (m : ℕ) → reserves_of m (deeds_after_all (word_for st thread) (x ∷ xs) d).reserves ≤ 1

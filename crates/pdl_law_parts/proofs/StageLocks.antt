@@ -170,7 +170,8 @@ module _ (c : Circuit) (p : Pipe) (ls : Locks) (vs : ℕ → View) (s : State) (
             (λ l. mine true h f l ∙ ap bit (sym (or_left ((m == m) && (a == a)) (is_held d.held m a) (ap₂ (λ x y. x && y) (eqb_self m) (eqb_self a)))))
             (λ n b e. ap (λ x. x || is_held d.held n b) e) h.held;
         reserves =
-            ap₂ (λ l v. l ++ record { mem = m; var = a; address = v } ∷ []) h.reserves (h.env a (live.vars a (or_right (guards_use gs a) (a == a) (eqb_self a))))
+            ap₂ (λ l v. l ++ record { mem = m; var = a; address = v } ∷ []) h.reserves
+            (h.env a (live.vars a (or_right (guards_use gs a) (a == a) (eqb_self a))))
             ∙ sym (more h true f);
         fits = fits_more s w.reserves _ h.fits (fits_new h true f);
         writes = h.writes;

@@ -57,7 +57,8 @@ size_of s h =
 lock_fits : (m : Mem) (l : Option LockDecl) → is_some_and (is_wrong_lock m) l ≡ false → IsSizedLock (flat_lock l) m.depth.value
 lock_fits m None e = tt
 lock_fits m (Some l) e =
-    let parts = and_parts (is_size l.size.value) (allows_lock m.depth.value (is_delayed m.kind) l.kind l.size.value) (not-false _ (or_parts (is_advisory m.kind) _ e).1) in
+    let parts = and_parts (is_size l.size.value) (allows_lock m.depth.value (is_delayed m.kind) l.kind l.size.value)
+    (not-false _ (or_parts (is_advisory m.kind) _ e).1) in
     subst (λ x. IsSizedLock x m.depth.value) (sym (lock_is l))
     (sized_allowed l.kind l.size.value m.depth.value (is_delayed m.kind) (size_of l.size.value parts.0) parts.1)
 
@@ -71,7 +72,8 @@ lock_in_time : (m : Mem) (l : Option LockDecl) (x : flat.Mem) → is_delayed x.k
     → IsInTime (flat_lock l) x
 lock_in_time m None x d e = tt
 lock_in_time m (Some l) x d e =
-    let parts = and_parts (is_size l.size.value) (allows_lock m.depth.value (is_delayed m.kind) l.kind l.size.value) (not-false _ (or_parts (is_advisory m.kind) _ e).1) in
+    let parts = and_parts (is_size l.size.value) (allows_lock m.depth.value (is_delayed m.kind) l.kind l.size.value)
+    (not-false _ (or_parts (is_advisory m.kind) _ e).1) in
     subst (λ k. IsInTime k x) (sym (lock_is l))
     (time_allowed l.kind l.size.value m.depth.value x (ap (λ b. allows_lock m.depth.value b l.kind l.size.value) d ∙ parts.1))
 

@@ -14,10 +14,12 @@ use Rattle.pdl_pipe_walk.specs.Locked.{array_of}
 use Rattle.pdl_pipe_locks.specs.Suited.{shape_in, arrays_in}
 
 place_comb : (p : Pipe) (i : ℕ) → i < length p.mems → is_delayed (mem_at p i).kind ≡ false → comb_place p (i + 1) ≡ comb_place p i + 1
-place_comb p i l e = count_by_more_yes (λ (x : Mem). if is_delayed x.kind then false else true) p.mems i plain_mem l (ap (λ (b : Bool). if b then false else true) e)
+place_comb p i l e = count_by_more_yes (λ (x : Mem). if is_delayed x.kind then false else true) p.mems i plain_mem l
+    (ap (λ (b : Bool). if b then false else true) e)
 
 place_delayed : (p : Pipe) (i : ℕ) → i < length p.mems → is_delayed (mem_at p i).kind ≡ true → comb_place p (i + 1) ≡ comb_place p i
-place_delayed p i l e = count_by_more_no (λ (x : Mem). if is_delayed x.kind then false else true) p.mems i plain_mem l (ap (λ (b : Bool). if b then false else true) e)
+place_delayed p i l e = count_by_more_no (λ (x : Mem). if is_delayed x.kind then false else true) p.mems i plain_mem l
+    (ap (λ (b : Bool). if b then false else true) e)
 
 -- one memory more has the array that it has
 pub place_more : (p : Pipe) (i : ℕ) (name : List ℕ)

@@ -25,7 +25,8 @@ counted : (ms : List r_mem.FlatMem) (n : ℕ)
     ≡ fold (λ (a : ℕ) (x : Mem). a + (if (if is_delayed x.kind then false else true) then 1 else 0)) n (mems_view ms)
 counted [] n = refl
 counted (x ∷ xs) n =
-    ap (λ (b : Bool). fold (λ (a : ℕ) (x : r_mem.FlatMem). a + (if not (is_delayed (mem_kind_view x.kind)) then 1 else 0)) (n + (if b then 1 else 0)) xs) (turned (is_delayed (mem_kind_view x.kind)))
+    ap (λ (b : Bool). fold (λ (a : ℕ) (x : r_mem.FlatMem). a + (if not (is_delayed (mem_kind_view x.kind)) then 1 else 0))
+    (n + (if b then 1 else 0)) xs) (turned (is_delayed (mem_kind_view x.kind)))
     ∙ counted xs (n + (if (if is_delayed (mem_kind_view x.kind) then false else true) then 1 else 0))
 
 -- memories that answer at once, of the program's and of the pipe's

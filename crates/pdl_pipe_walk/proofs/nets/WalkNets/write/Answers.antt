@@ -32,7 +32,8 @@ returns-clause-walk g c =
     on_ok c.push_put.result
     (λ q. subst (IsWalk two (form c.args.setting.now.pipe.now).pipe (form c.args.setting.now.pipe.now).widths) (sym q)
     (put_walk two (form c.args.setting.now.pipe.now).pipe (form c.args.setting.now.pipe.now).widths w
-    (walk_more a two far (form c.args.setting.now.pipe.now).pipe (form c.args.setting.now.pipe.now).widths w c.requires.walk) c.args.m c.args.a c.in_ok-on.on c.in_ok-value.value
+    (walk_more a two far (form c.args.setting.now.pipe.now).pipe (form c.args.setting.now.pipe.now).widths w c.requires.walk) c.args.m c.args.a
+    c.in_ok-on.on c.in_ok-value.value
     (after.there c.in_ok-on.on c.in_ok-on.ensures.means.there) c.in_ok-value.ensures.means.there c.requires.low
     (ap (λ (f : Signal). f.width) (after.kept c.in_ok-on.on c.in_ok-on.ensures.means.there) ∙ c.in_ok-on.ensures.one)
     (c.in_ok-value.ensures.wide ∙ c.requires.wide)))
