@@ -49,6 +49,22 @@ order_act p st bits f = record {
 abbrev entered_list : Bool → Bool → List Bool
 entered_list a b = if a then true ∷ [] else (if b then false ∷ [] else [])
 
+first_some : (b : Bool) (xs : List Bool) → is_first b xs ≡ true → 1 ≤ length xs
+first_some b [] i = absurd (cc i)
+first_some b (x ∷ xs) i = omega arith
+
+-- who has its turn in a fork that it is in finds a list that isn't empty
+some_in : (f : ℕ) (bs : List Branch) → list_any (λ (b : Branch). b.fork == f) bs ≡ true → (xs : List Bool)
+    → is_its_turn (sides_of f bs) xs ≡ true → 1 ≤ length xs
+some_in f [] i xs j = absurd (cc i)
+some_in f (b ∷ bs) i xs j = at (b.fork == f) i j (λ i j. some_in f bs i xs j)
+  where
+    at : (t : Bool) → (t || list_any (λ (y : Branch). y.fork == f) bs) ≡ true
+        → is_its_turn ((if t then b.first ∷ [] else []) ++ sides_of f bs) xs ≡ true
+        → (list_any (λ (y : Branch). y.fork == f) bs ≡ true → is_its_turn (sides_of f bs) xs ≡ true → 1 ≤ length xs) → 1 ≤ length xs
+    at true i j rest = first_some b.first xs j
+    at false i j rest = rest i j
+
 module _ (p : Pipe) (sound : Sound p) (st : State) (bits : List Bool) (f : ℕ) (low : f < length p.stages) where
   -- a thread that goes from the fork comes to one of its sides, that of its values, or to none
   side_to : (q : ℕ) (env : List ℕ) → goes_to (stage_at p f).next env ≡ Some q
@@ -139,7 +155,8 @@ module _ (p : Pipe) (sound : Sound p) (st : State) (bits : List Bool) (f : ℕ) 
           ∙ ap (entered_list (is_inside p f a && true)) (sym (no (is_inside p f b)))
           ∙ ap (λ w. entered_list (is_inside p f a && w) (is_inside p f b && not w)) (sym e)
       at false e =
-          ap (λ w. sides_of f (stage_at p (if w then a else b)).branches) e ∙ to b false e (ap (λ w. Some (if w then a else b)) e) ∙ second_list (is_inside p f b)
+          ap (λ w. sides_of f (stage_at p (if w then a else b)).branches) e ∙ to b false e (ap (λ w. Some (if w then a else b)) e)
+          ∙ second_list (is_inside p f b)
           ∙ ap (λ u. entered_list u (is_inside p f b && true)) (sym (no (is_inside p f a)))
           ∙ ap (λ w. entered_list (is_inside p f a && w) (is_inside p f b && not w)) (sym e)
 
@@ -240,25 +257,11 @@ module _ (p : Pipe) (sound : Sound p) (st : State) (bits : List Bool) (f : ℕ) 
       left_some zero k e h = absurd (cc h)
       left_some (suc n) k e h = at (stage_moves p st bits k) (here p st bits k) refl refl h (left_some n (suc k) (omega (arith, e)))
         where
-          first_some : (b : Bool) (xs : List Bool) → is_first b xs ≡ true → 1 ≤ length xs
-          first_some b [] i = absurd (cc i)
-          first_some b (x ∷ xs) i = omega arith
-
-          some_in : (bs : List Branch) → list_any (λ (b : Branch). b.fork == f) bs ≡ true → (xs : List Bool)
-              → is_its_turn (sides_of f bs) xs ≡ true → 1 ≤ length xs
-          some_in [] i xs j = absurd (cc i)
-          some_in (b ∷ bs) i xs j = at (b.fork == f) i j
-            where
-              at : (t : Bool) → (t || list_any (λ (y : Branch). y.fork == f) bs) ≡ true
-                  → is_its_turn ((if t then b.first ∷ [] else []) ++ sides_of f bs) xs ≡ true → 1 ≤ length xs
-              at true i j = first_some b.first xs j
-              at false i j = some_in bs i xs j
-
           merged : (m : Option ℕ) (from : List Branch) → merges_fork m f ≡ true → list_any (λ (b : Branch). b.fork == f) from ≡ true
               → may_merge st m from ≡ true → 1 ≤ length (fork_of st f)
           merged None from g i j = absurd (cc g)
           merged (Some g') from g i j =
-              some_in from i (fork_of st f) (subst (λ k. is_its_turn (sides_of k from) (fork_of st k) ≡ true) (eqb-true g' f g) j)
+              some_in f from i (fork_of st f) (subst (λ k. is_its_turn (sides_of k from) (fork_of st k) ≡ true) (eqb-true g' f g) j)
 
           well : (q : Option ℕ) → goes_out p f q ≡ true → is_inside p f k ≡ true → merges_well p st k q ≡ true → 1 ≤ length (fork_of st f)
           well None g i j = absurd (cc g)

@@ -128,7 +128,8 @@ module _ (p : Pipe) (sound : Sound p) (still : ReplacesNone p) (c : Circuit) (vs
               ≡ bit (if d.barrier then none_up_to (Some v) (later_acts p st bits k) else true)
           side true f = let low = ltb-true k v f in
               if_on_at s barrier (sides.clear k) d.barrier (none_up_to (Some v) (later_acts p st bits k)) on (λ g. clear_at v e (later v low (low_v v e)) k low)
-          side false f = one_is s ∙ all d.barrier (none_up_to (Some v) (later_acts p st bits k)) (clear_high p sound still st bits flight v e k (ltb-false k v f))
+          side false f = one_is s ∙ all d.barrier (none_up_to (Some v) (later_acts p st bits k))
+              (clear_high p sound still st bits flight v e k (ltb-false k v f))
 
   module _ (seen : (j : ℕ) → j < length p.stages → IsSeen p vs moves s st bits j) where
     -- the signal of a squash tells whether the machine has one

@@ -8,7 +8,7 @@ use Rattle.pdl_semantics.specs.Stages.{verify_stage}
 use Rattle.pdl_semantics.specs.Machine as machine
 use Rattle.pdl_semantics.specs.Machine.{Thread}
 use Rattle.pdl_semantics.specs.PendingLists.{count_older}
-use Rattle.pdl_semantics.specs.Cycle.{cycle, first, squasher, has_release, list_three}
+use Rattle.pdl_semantics.specs.Cycle.{cycle, first, squasher, all_releases, list_three}
 use Rattle.pdl_theory_facts.specs.Facts.{Sound}
 use Rattle.pdl_net.specs.Circuit.{Circuit, State}
 use Rattle.pdl_net.specs.Signal.{Signal}
@@ -17,7 +17,7 @@ use Rattle.pdl_net.specs.Well.{Suits}
 use Rattle.pdl_lockapi.specs.Laws.{holds_ticket}
 use Rattle.pdl_machine_facts.specs.Slots.{LeadsOn, slot, moving}
 use Rattle.pdl_machine_facts.specs.Cycle.{IsByStages}
-use Rattle.pdl_machine_facts.specs.Use.{IsInUse}
+use Rattle.pdl_law_parts.specs.Served.{IsServed}
 use Rattle.pdl_machine_lockuse.specs.Cut.{IsCut}
 use Rattle.pdl_law_parts.specs.Walk.{Locks, is_locked}
 use Rattle.pdl_law_parts.specs.Views.{View, Gates}
@@ -44,7 +44,7 @@ module _ (p : Pipe) (sound : Sound p) (still : ReplacesNone p) (leads : LeadsOn 
     (moves : ℕ → Signal) (made : IsLaid p ls vs gates moves c) (sides : Sides)
     (has : HasSides p ls c vs gates moves sides)
     (s : State) (st : machine.State) (bits : List Bool) (suits : Suits c s) (flight : InFlight p st)
-    (by : IsByStages p st bits) (used : IsInUse p st bits) (cut : IsCut p st bits)
+    (by : IsByStages p st bits) (used : IsServed p st bits) (cut : IsCut p st bits)
     (seen : (j : ℕ) → j < length p.stages → IsSeen p vs moves s st bits j) (tails : TailsStand p ls vs sides s st) where
   stage_there : (k : ℕ) (t : Thread) → slot st k ≡ Some t → k < length p.stages
   stage_there k t e = ⊎_elim
@@ -69,7 +69,7 @@ module _ (p : Pipe) (sound : Sound p) (still : ReplacesNone p) (leads : LeadsOn 
       cut_at : (m n : ℕ) → is_locked p m ≡ true → (stand : StandsLock p ls vs s st m)
           → squasher (moving p st bits) ≡ Some n → (o : Option ℕ) → verify_stage p.stmts ≡ o
           → holds_ticket (ls.bits m)
-          (gates.tail m) s (stand.base + bit (has_release m (moving p st bits)) + count_older (suc n) (list_three st (moving p st bits) m))
+          (gates.tail m) s (stand.base + all_releases m (moving p st bits) + count_older (suc n) (list_three st (moving p st bits) m))
       cut_at m n locked stand e (Some v) is =
           tail_is p sound still leads ls c vs gates moves made sides v is (has.tails v is) s st bits suits flight by used cut seen (stood p st bits)
           (tails v is) m locked stand n e

@@ -1,3 +1,2 @@
-pub mod RemainingWrites
 pub mod LockRuns
 pub mod LockCycles

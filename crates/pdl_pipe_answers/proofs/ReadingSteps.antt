@@ -37,3 +37,6 @@ reading_next m s ss = at s.op
     at (flat.Verify last args) = refl
     at flat.SpecCheck = refl
     at flat.SpecBarrier = refl
+    at (flat.AdviceBind x e) = refl
+    at (flat.AdviceRead x n a) = refl
+    at (flat.AdviceWrite n a e) = refl

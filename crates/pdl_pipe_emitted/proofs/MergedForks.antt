@@ -76,6 +76,9 @@ pub merged_low : (p : tree.Pipe) → KeepsRules p → (q i : ℕ)
 merged_low p rules q i low e =
     let n = separators p.body in
     let count = stage_count p (body_forked p rules) in
-    let up = at_low n (flat p).stages q
-    (λ f g. absurd (cc g), low_all n p.mems [] Flat.Ends p.body (at_start p) (let z : 0 ≤ 0 = omega arith in z) (let z : 0 + separators p.body ≤ n = omega arith in z)) low i e in
+    let up = at_low n (flat p).stages q (
+      λ f g. absurd (cc g),
+      low_all n p.mems [] Flat.Ends p.body (at_start p) (let z : 0 ≤ 0 = omega arith in z)
+          (let z : 0 + separators p.body ≤ n = omega arith in z),
+    ) low i e in
     omega (arith, up, count)

@@ -50,11 +50,14 @@ fn op_uses(op: &Op, x: usize) -> bool
         Op::Block { a, .. } => *a == x,
         Op::Call(args) => are_using(args.as_slice(), x),
         Op::SpecCall(args) => are_using(args.as_slice(), x),
-        Op::Verify(args) => are_using(args.as_slice(), x),
+        Op::Verify { args, .. } => are_using(args.as_slice(), x),
         Op::ReserveRead { .. } => false,
         Op::Release { .. } => false,
         Op::SpecCheck => false,
         Op::SpecBarrier => false,
+        Op::AdviceBind { e, .. } => uses_variable(e, x),
+        Op::AdviceRead { a, .. } => *a == x,
+        Op::AdviceWrite { a, e, .. } => *a == x || uses_variable(e, x),
     }
 }
 
