@@ -16,9 +16,83 @@ pub struct CellRun {
     pub operands: Vec<CellOperands>,
 }
 
-/// Gives cells of one kind their values, the first of which goes to a place and the others to those after it.
+/// Gives a cell its value, which goes to a place.
+fn walk_one<K: CellOperation>(
+    operands: &[CellOperands],
+    first: usize,
+    arrays: &[Vec<u64>],
+    values: &mut [u64],
+)
+    requires one { length operands.now ≡ 1 }
+    requires room { first + length operands.now ≤ length values.old }
+    requires fit { StepsFit (steps_with K.kind operands.now) first values.old
+        (array_words arrays.now) }
+    ensures { values.new ≡ after_steps (steps_with K.kind operands.now) first values.old
+        (array_words arrays.now) }
+{
+    values[first] = K::value(&operands[0], values, arrays);
+}
+
+/// Gives two cells of one kind their values.
+#[tactic(auto, using(crate::proofs::Steps::halves))]
+fn walk_two<K: CellOperation>(
+    operands: &[CellOperands],
+    first: usize,
+    arrays: &[Vec<u64>],
+    values: &mut [u64],
+)
+    requires two { length operands.now ≡ 2 }
+    requires room { first + length operands.now ≤ length values.old }
+    requires fit { StepsFit (steps_with K.kind operands.now) first values.old
+        (array_words arrays.now) }
+    ensures { values.new ≡ after_steps (steps_with K.kind operands.now) first values.old
+        (array_words arrays.now) }
+{
+    walk_one::<K>(&operands[..1], first, arrays, values);
+    walk_one::<K>(&operands[1..], first + 1, arrays, values);
+}
+
+/// Gives four cells of one kind their values.
+#[tactic(auto, using(crate::proofs::Steps::halves))]
+fn walk_four<K: CellOperation>(
+    operands: &[CellOperands],
+    first: usize,
+    arrays: &[Vec<u64>],
+    values: &mut [u64],
+)
+    requires four { length operands.now ≡ 4 }
+    requires room { first + length operands.now ≤ length values.old }
+    requires fit { StepsFit (steps_with K.kind operands.now) first values.old
+        (array_words arrays.now) }
+    ensures { values.new ≡ after_steps (steps_with K.kind operands.now) first values.old
+        (array_words arrays.now) }
+{
+    walk_two::<K>(&operands[..2], first, arrays, values);
+    walk_two::<K>(&operands[2..], first + 2, arrays, values);
+}
+
+/// Gives eight cells of one kind their values.
+#[tactic(auto, using(crate::proofs::Steps::halves))]
+fn walk_eight<K: CellOperation>(
+    operands: &[CellOperands],
+    first: usize,
+    arrays: &[Vec<u64>],
+    values: &mut [u64],
+)
+    requires eight { length operands.now ≡ 8 }
+    requires room { first + length operands.now ≤ length values.old }
+    requires fit { StepsFit (steps_with K.kind operands.now) first values.old
+        (array_words arrays.now) }
+    ensures { values.new ≡ after_steps (steps_with K.kind operands.now) first values.old
+        (array_words arrays.now) }
+{
+    walk_four::<K>(&operands[..4], first, arrays, values);
+    walk_four::<K>(&operands[4..], first + 4, arrays, values);
+}
+
+/// Gives any number of cells of one kind their values.
 #[tactic(auto, using(crate::proofs::Steps::walks))]
-fn walk<K: CellOperation>(
+fn walk_each<K: CellOperation>(
     operands: &[CellOperands],
     first: usize,
     arrays: &[Vec<u64>],
@@ -32,6 +106,29 @@ fn walk<K: CellOperation>(
 {
     for k in 0..operands.len() {
         values[first + k] = K::value(&operands[k], values, arrays);
+    }
+}
+
+/// Gives cells of one kind their values, the first of which goes to a place and the others to those after it.
+///
+/// Runs are made of eight cells, four or one, which need no loop.
+fn walk<K: CellOperation>(
+    operands: &[CellOperands],
+    first: usize,
+    arrays: &[Vec<u64>],
+    values: &mut [u64],
+)
+    requires room { first + length operands.now ≤ length values.old }
+    requires fit { StepsFit (steps_with K.kind operands.now) first values.old
+        (array_words arrays.now) }
+    ensures { values.new ≡ after_steps (steps_with K.kind operands.now) first values.old
+        (array_words arrays.now) }
+{
+    match operands.len() {
+        8 => walk_eight::<K>(operands, first, arrays, values),
+        4 => walk_four::<K>(operands, first, arrays, values),
+        1 => walk_one::<K>(operands, first, arrays, values),
+        _ => walk_each::<K>(operands, first, arrays, values),
     }
 }
 

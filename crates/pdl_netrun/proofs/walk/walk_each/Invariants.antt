@@ -1,6 +1,6 @@
 use Rattle.std.proofs.Common.{◌≡◌, ◌+◌, drop, length}
 use Rattle.pdl_netrun.specs.Steps.{StepsFit, steps_with, after_steps, array_words}
-use Rattle.pdl_netrun.proofs.walk.walk.Given as goal
+use Rattle.pdl_netrun.proofs.walk.walk_each.Given as goal
 
 abbrev pub invariant-loop-k : goal.invariant-loop-k
 invariant-loop-k g l = record {
