@@ -1,8 +1,7 @@
 -- The steps of the loops that make a plan.
-use Rattle.std.proofs.Common.{◌≡◌, ℕ, zero, suc, ◌+◌, ◌-◌, ◌<◌, ◌≤◌, List, [], ◌∷◌, ◌++◌, length, get_or, take, drop, map, filter_map, All, Some, refl, sym, ap, ◌∙◌, subst, arith, append_assoc, append-nil}
+use Rattle.std.proofs.Common.{◌≡◌, ℕ, zero, suc, ◌+◌, ◌<◌, ◌≤◌, List, [], ◌∷◌, ◌++◌, length, get_or, take, drop, map, filter_map, All, Some, refl, sym, ap, ◌∙◌, subst, arith, append_assoc, append-nil}
 use Rattle.std.specs.Prelude.{slice_get, slice_index}
-use Rattle.std.proofs.lemmas.List.{take_all, map_more, drop_more, get_or_default, map-append}
-use Rattle.std.proofs.Math.Seq.{take-add}
+use Rattle.std.proofs.lemmas.List.{take_all, map_more, drop_more, get_or_default}
 use Rattle.std.proofs.lemmas.Option.{slice_get-get_or}
 use Rattle.pdl_net.specs.declared.Net.{Net}
 use Rattle.pdl_net.specs.declared.Cell.{Cell}
@@ -54,22 +53,11 @@ ordered_fits c order ps xs j k w o h e f =
     let P : List Cell → Type 0 = λ l. FitsIn c (IsThereAt c (length c.cells)) (signal c) (get_or l k (cell.Const 0 0)) in
     subst P (sym f) (fits_whole c w k (subst (λ i. i < length c.cells) (sym e) ((o.turns j h).there)))
 
--- one part more of a run
-pub parts_more : (kind : CellKind) (os : List CellOperands) (at n : ℕ) → at ≤ n → n ≤ length os
-    → steps_with kind (take at os) ++ steps_with kind (take (n - at) (drop at os)) ≡ steps_with kind (take n os)
-parts_more kind os at n l m =
-    let e : at + (n - at) ≡ n = omega arith in
-    sym (map-append (λ (o : CellOperands). step_of kind o) (take at os) (take (n - at) (drop at os)))
-    ∙ ap (λ l. steps_with kind l) (sym (take-add at (n - at) os) ∙ ap (λ i. take i os) e)
-
-pub ruleset parts = (parts_more, append_assoc, take_all)
-
 -- where a last run ends the order, the steps of all runs are those of the whole order
 pub runs_end : (rs all : List CellRun) (r : CellRun) (order : List ℕ) (f : ℕ → Step) (j : ℕ)
-    → steps_of all ≡ steps_of rs ++ steps_with r.kind r.operands.items
-    → steps_of rs ++ steps_with r.kind r.operands.items ≡ map f (take j order) → length order ≤ j
+    → all ≡ rs ++ r ∷ [] → steps_of rs ++ steps_with r.kind r.operands.items ≡ map f (take j order) → length order ≤ j
     → steps_of all ≡ map f order
-runs_end rs all r order f j e i l = e ∙ i ∙ ap (map f) (take_all j order l)
+runs_end rs all r order f j e i l = ap steps_of e ∙ steps_push rs r ∙ i ∙ ap (map f) (take_all j order l)
 
 pub ruleset runs = (map_more)
 

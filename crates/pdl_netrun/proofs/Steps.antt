@@ -1,6 +1,6 @@
 -- The steps of the loops over cells, runs, places and writes.
 use Rattle.std.proofs.Common.{◌≡◌, ℕ, suc, ◌+◌, ◌-◌, ◌<◌, ◌≤◌, List, [], ◌∷◌, ◌++◌, length, get_or, take, drop, set, map, refl, sym, ap, ◌∙◌, subst, arith, length-append}
-use Rattle.std.proofs.lemmas.List.{take_all, map_more, drop_more, drop_all, length-set, length-map, take-append-drop, map-append, length-take-le, length-drop}
+use Rattle.std.proofs.lemmas.List.{take_all, map_more, drop_more, drop_all, length-set, length-map, take-append-drop, map-append, length-take-le, length-drop, drop-drop}
 use Rattle.std.proofs.lemmas.Grind.{take-set_at}
 use Rattle.pdl_netrun.specs.declared.operation.CellKind.{CellKind}
 use Rattle.pdl_netrun.specs.declared.operation.CellKind.TheVariants as kinds
@@ -104,6 +104,39 @@ left_all os n = take_all (length os - n) (drop n os) (let e = length-drop n os i
 
 pub ruleset halves = (halves_after, halves_fit, left_all)
 
+-- where no cell is left, the values stand
+pub none_left : (kind : CellKind) (os : List CellOperands) (first : ℕ) (vs : List ℕ) (ws : List (List ℕ)) → length os ≡ 0
+    → after_steps (steps_with kind os) first vs ws ≡ vs
+none_left kind [] first vs ws e = refl
+none_left kind (o ∷ os) first vs ws e = absurd (omega (arith, e))
+
+pub ruleset nothing = (none_left)
+
+-- n cells from the k-th on, and then those after them
+pub eights_after : (kind : CellKind) (os : List CellOperands) (first k n : ℕ) (vs : List ℕ) (ws : List (List ℕ)) → k + n ≤ length os
+    → after_steps (steps_with kind (drop (k + n) os)) (first + (k + n)) (after_steps (steps_with kind (take n (drop k os))) (first + k) vs ws) ws
+    ≡ after_steps (steps_with kind (drop k os)) (first + k) vs ws
+eights_after kind os first k n vs ws l =
+    let e : first + (k + n) ≡ first + k + n = omega arith in
+    let d = length-drop k os in
+    let ws' = after_steps (steps_with kind (take n (drop k os))) (first + k) vs ws in
+    ap (λ i. after_steps (steps_with kind (drop (k + n) os)) i ws' ws) e
+    ∙ ap (λ xs. after_steps (steps_with kind xs) (first + k + n) ws' ws) (sym (drop-drop n k os))
+    ∙ halves_after kind (drop k os) n (first + k) vs ws (omega (arith, l, d))
+
+-- where the cells from the k-th on fit, the first n of them do, and then those after them
+pub eights_fit : (kind : CellKind) (os : List CellOperands) (first k n : ℕ) (vs : List ℕ) (ws : List (List ℕ)) → k + n ≤ length os
+    → StepsFit (steps_with kind (drop k os)) (first + k) vs ws
+    → StepsFit (steps_with kind (take n (drop k os))) (first + k) vs ws
+    × StepsFit (steps_with kind (drop (k + n) os)) (first + (k + n)) (after_steps (steps_with kind (take n (drop k os))) (first + k) vs ws) ws
+eights_fit kind os first k n vs ws l f =
+    let e : first + k + n ≡ first + (k + n) = omega arith in
+    let d = length-drop k os in
+    let ws' = after_steps (steps_with kind (take n (drop k os))) (first + k) vs ws in
+    let g = halves_fit kind (drop k os) n (first + k) vs ws (omega (arith, l, d)) f in
+    (g.0, subst (λ i. StepsFit (steps_with kind (drop (k + n) os)) i ws' ws) e
+        (subst (λ xs. StepsFit (steps_with kind xs) (first + k + n) ws' ws) (drop-drop n k os) g.1))
+
 -- the steps from the k-th run on
 abbrev run_steps : CellRun → List Step
 run_steps r = steps_with r.kind r.operands.items
@@ -162,7 +195,7 @@ pub runs_all : (rs : List CellRun) (k at : ℕ) (vs : List ℕ) (ws : List (List
     → length rs ≤ k → after_steps (steps_of (drop k rs)) at vs ws ≡ vs
 runs_all rs k at vs ws h = ap (λ l. after_steps (steps_of l) at vs ws) (drop_all k rs h)
 
-pub ruleset walks = (cells_more, cells_fit, cells_all)
+pub ruleset eights = (eights_after, eights_fit, cells_all)
 
 pub ruleset runs = (constants_stand, with_length, run_length, after_length, runs_all)
 

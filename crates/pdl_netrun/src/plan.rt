@@ -1,6 +1,6 @@
 // The plan of a netlist: for each cell, register, output and write port the places that it reads in one list of values.
 
-ghost use Rattle.std.specs.Prelude.{◌≡◌, ◌++◌, ◌∷◌, [], ◌<◌, ◌≤◌, length, map, All, IfOk, OnOk, slice_index};
+ghost use Rattle.std.specs.Prelude.{◌≡◌, ◌++◌, ◌∷◌, [], ◌<◌, length, map, All, IfOk, OnOk, slice_index};
 ghost use Rattle.pdl_net.specs.Circuit.{circuit_of, outputs_of};
 ghost use Rattle.pdl_net.specs.Meaning.{signal, IsThereAt};
 ghost use Rattle.pdl_net.specs.Well.{IsWell, FitsIn};
@@ -80,7 +80,7 @@ pub fn all_runs(
         let operands = operands_of(n, order, widths, cell);
         push_step(alloc, &mut runs, &mut run, kind_of(cell), operands)?;
     }
-    push_run(alloc, &mut runs, &run)?;
+    runs.push(run)?;
     Ok(runs)
 }
 
@@ -104,58 +104,9 @@ fn push_step(
             operands: Vec::new(alloc),
         };
         let ended = std::mem::replace(run, next);
-        push_run(alloc, runs, &ended)?;
+        runs.push(ended)?;
     }
     run.operands.push(operands)?;
-    Ok(())
-}
-
-/// How many cells the next part of a run has, where so many are left of it: eight, four or one, which are walked without a loop, and of constants all.
-fn part_of(kind: CellKind, left: usize) -> usize
-    requires { 1 ≤ left }
-    ensures some { 1 ≤ result }
-    ensures within { result ≤ left }
-{
-    if kind == CellKind::Constant {
-        left
-    } else if left >= 8 {
-        8
-    } else if left >= 4 {
-        4
-    } else {
-        1
-    }
-}
-
-/// Adds a run in parts.
-#[tactic(auto, using(crate::proofs::PlanLemmas::parts))]
-fn push_run(alloc: Global, runs: &mut Vec<CellRun>, run: &CellRun) -> Result<(), NoMemory>
-    ensures { OnOk result (steps_of runs.new.items
-        ≡ steps_of runs.old.items ++ steps_with run.now.kind run.now.operands.items) }
-{
-    let operands = run.operands.as_slice();
-    let mut at = 0;
-    while at < operands.len() {
-        let end = at + part_of(run.kind, operands.len() - at);
-        push_part(alloc, runs, run.kind, &operands[at..end])?;
-        at = end;
-    }
-    Ok(())
-}
-
-/// Adds cells of one kind as a run of their own.
-#[tactic(auto, using(crate::proofs::PlanLemmas::pushes))]
-fn push_part(
-    alloc: Global,
-    runs: &mut Vec<CellRun>,
-    kind: CellKind,
-    operands: &[CellOperands],
-) -> Result<(), NoMemory>
-    ensures { OnOk result (steps_of runs.new.items
-        ≡ steps_of runs.old.items ++ steps_with kind operands.now) }
-{
-    let operands = Vec::from_slice(alloc, operands)?;
-    runs.push(CellRun { kind, operands })?;
     Ok(())
 }
 

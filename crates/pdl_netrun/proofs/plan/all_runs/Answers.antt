@@ -16,5 +16,5 @@ operands_of-operands-requires-clause-fits c =
 
 pub returns : goal.returns
 returns c =
-    runs_end c.loop-j.runs.items c.push_run.new.runs.items c.loop-j.run c.args.order.now.cells.items _ c.loop-j.j
+    runs_end c.loop-j.runs.items c.push.new.self.items c.loop-j.run c.args.order.now.cells.items _ c.loop-j.j
     (grind (arith, common_steps)) c.loop-j.invariant (grind (arith, common_steps))
