@@ -133,9 +133,11 @@ eights_fit kind os first k n vs ws l f =
     let e : first + k + n ≡ first + (k + n) = omega arith in
     let d = length-drop k os in
     let ws' = after_steps (steps_with kind (take n (drop k os))) (first + k) vs ws in
-    let g = halves_fit kind (drop k os) n (first + k) vs ws (omega (arith, l, d)) f in
-    (g.0, subst (λ i. StepsFit (steps_with kind (drop (k + n) os)) i ws' ws) e
-        (subst (λ xs. StepsFit (steps_with kind xs) (first + k + n) ws' ws) (drop-drop n k os) g.1))
+    let g = halves_fit kind (drop k os) n (first + k) vs ws (omega (arith, l, d)) f in (
+      g.0,
+      subst (λ i. StepsFit (steps_with kind (drop (k + n) os)) i ws' ws) e
+          (subst (λ xs. StepsFit (steps_with kind xs) (first + k + n) ws' ws) (drop-drop n k os) g.1),
+    )
 
 -- the steps from the k-th run on
 abbrev run_steps : CellRun → List Step
