@@ -1,7 +1,7 @@
 -- Words of a width, cut out of 64 bits by shifts.
 use Rattle.std.proofs.Common.{◌≡◌, refl, sym, ap, ap₂, ◌∙◌, ℕ, zero, suc, ◌+◌, ◌-◌, ◌*◌, ◌/◌, ◌%◌, ◌^◌, ◌<◌, ◌≤◌, bit_and, pow-add, arith}
-use Rattle.std.proofs.lemmas.Nat.{mod-pow-add, shr_high, shl-shr, pow_pos}
-use Rattle.std.proofs.Math.Nat.{mul-mod_left, mul-suc, add-mul-mod_self_left, mod-eq_of_lt, mod-lt, pow-succ'}
+use Rattle.std.proofs.lemmas.Nat.{mod-pow-add, shl-shr, pow_pos}
+use Rattle.std.proofs.Math.Nat.{mul-mod_left, mul-suc, add-mul-mod_self_left, mod-eq_of_lt, pow-succ'}
 use Rattle.pdl_word.specs.Words.{mask, add, sub, mul, shl, shr, slice, rep}
 use Rattle.pdl_word.proofs.Masks.{mod_of_64, and_with_mask}
 use Rattle.pdl_word.proofs.Shifts.{shl_within, shr_within}

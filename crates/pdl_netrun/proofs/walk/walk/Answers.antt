@@ -1,6 +1,6 @@
-use Rattle.std.proofs.Common.{◌≡◌, ap, subst, sym, ◌+◌, ◌*◌, ◌-◌, ◌/◌, ◌≤◌, take, drop, length, ℕ, List, arith}
+use Rattle.std.proofs.Common.{subst, sym, ◌+◌, ◌*◌, ◌/◌, ◌≤◌, drop, length, ℕ, List, arith}
 use Rattle.pdl_netrun.specs.declared.operation.CellOperands.{CellOperands}
-use Rattle.pdl_netrun.specs.Steps.{StepsFit, steps_with, after_steps, array_words}
+use Rattle.pdl_netrun.specs.Steps.{StepsFit, steps_with, array_words}
 use Rattle.pdl_netrun.proofs.Steps.{halves_fit, left_all}
 use Rattle.pdl_netrun.proofs.walk.walk.Goals as goal
 
