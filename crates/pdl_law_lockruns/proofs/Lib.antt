@@ -1,2 +1,0 @@
-pub mod LockRuns
-pub mod LockCycles
