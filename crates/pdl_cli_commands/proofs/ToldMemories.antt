@@ -20,7 +20,7 @@ use Rattle.pdl_law_parts.specs.Places.{delayed_count}
 use Rattle.pdl_law_parts.proofs.WellFormedNames.{Among, name_apart}
 use Rattle.pdl_law_parts.proofs.WellFormedMems.{sized_among, few_mems}
 use Rattle.pdl_law.proofs.Places as places
-use Rattle.pdl_law_follows.specs.Memories.{is_delayed, delayed_of, comb_of, net_infos}
+use Rattle.pdl_law_follows.specs.Memories.{answers_late, delayed_of, comb_of, net_infos}
 use Rattle.pdl_law_follows.specs.Follows.{Follows}
 use Rattle.pdl_law_follows.proofs.Memories.{among_some, some_count, told_delayed, all_told, none_told}
 use Rattle.pdl_law_follows.proofs.FollowsMade.{declared}
@@ -60,7 +60,7 @@ told_all P ms h = All-from_recursion P (map info_of ms) (each_told P ms h)
 told_both : (P : MemInfo → Type 0) (ms : List Mem) → ((m : Mem) → Among m ms → P (info_of m)) → All P (net_infos ms)
 told_both P ms h =
     All-append P (map info_of (delayed_of ms)) (map info_of (comb_of ms))
-    (told_all P (delayed_of ms) (λ m a. h m (among_some is_delayed ms m a).0))
+    (told_all P (delayed_of ms) (λ m a. h m (among_some answers_late ms m a).0))
     (told_all P (comb_of ms) (λ m a. h m (among_some is_comb ms m a).0))
 
 -- the words of each memory of a pipe that keeps the rules have at least 1 bit
@@ -103,7 +103,7 @@ delayed_as_many p n f =
     ap (λ l. length (filter told_delayed l)) f.mems
     ∙ ap length (delayed_told p.mems)
     ∙ length-map (delayed_of p.mems) info_of
-    ∙ some_count is_delayed places.is_delayed (λ m. refl) p.mems
+    ∙ some_count answers_late places.answers_late (λ m. refl) p.mems
 
 -- ---- how many are delayed
 
