@@ -46,7 +46,8 @@ use Rattle.pdl_machine_lockuse.specs.Careful.{Careful}
 use Rattle.pdl_machine_lockuse.specs.Use.{HasRoom, ReleasesOwn, ShiftsUpTo, ReleasesOlder, FindsAll, KeepsTail, LeavesTail, Cuts, IsSpared, WritesOnce, IsLet, AwaitsOlder}
 use Rattle.pdl_machine_lockuse.proofs.Acts.{at_here, at_slot, same_order, same_count, few_reserved, sole_reserved, room_together, sole_older}
 use Rattle.pdl_machine_lockuse.proofs.Begins.{fine_here, let_here}
-use Rattle.pdl_machine_lockuse.proofs.OwnWrite.{InTurn, names, once_names, used_here, writes_early, held_on, few_reserves, few_releases}
+use Rattle.pdl_machine_lockuse.proofs.OwnPlaces.{InTurn, names, once_names}
+use Rattle.pdl_machine_lockuse.proofs.OwnWrite.{used_here, writes_early, held_on, few_reserves, few_releases}
 use Rattle.pdl_machine_lockuse.proofs.Owns.{contains_write, own_same, written_same, names_by, turn_by, turn_of, open_place, own_two, written_two, fewer_taken, few_released, by_new}
 use Rattle.pdl_theory_states.proofs.OwnEntries.{Mine, each_mine}
 use Rattle.pdl_semantics.specs.Sound.{entries_by}
