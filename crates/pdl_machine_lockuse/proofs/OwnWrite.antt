@@ -1,13 +1,12 @@
 -- What a thread's stage does to its pending writes of one memory: who writes has one, once, and what is released has its value.
-use Rattle.std.proofs.Common.{◌≡◌, refl, sym, ap, ap₂, ◌∙◌, subst, ℕ, suc, ◌+◌, ◌≤◌, ◌<◌, Bool, true, false, ◌&&◌, ◌||◌, not, List, [], ◌∷◌, ◌++◌, length, length-append, Option, Some, None, is_none, ◌==◌, cond, if◌then◌else◌, arith, eq-eqb, slice_index, append_assoc, append-nil, nat_le}
-use Rattle.std.specs.Prelude.{⊤}
+use Rattle.std.proofs.Common.{◌≡◌, refl, sym, ap, ap₂, ◌∙◌, subst, ℕ, suc, ◌+◌, ◌≤◌, ◌<◌, Bool, true, false, ◌&&◌, ◌||◌, not, List, [], ◌∷◌, ◌++◌, length, length-append, Option, Some, None, ◌==◌, cond, if◌then◌else◌, arith, eq-eqb, slice_index, append_assoc, append-nil, nat_le}
 use Rattle.std.proofs.lemmas.Bool.{false≢true, leb-true, eqb-true}
 use Rattle.pdl_semantics.specs.Flat.{Pipe, Op, Write, ReserveWrite, Release, Verify, Stmt, list_all, all_hold, value_of, values_of}
-use Rattle.pdl_semantics.specs.Stages.{list_any, onpath, in_stage, goes_to, stage_at, commit_stage}
+use Rattle.pdl_semantics.specs.Stages.{onpath, in_stage, goes_to, stage_at, commit_stage}
 use Rattle.pdl_semantics.specs.Machine.{State, Pending, Blocked, Written, Ask, Deeds, deeds_after, deeds_after_all, reserves_of, held_before, same_args, word_for}
 use Rattle.pdl_semantics.specs.Moves.{block_ready, next_stage}
 use Rattle.pdl_semantics.specs.Promises.{DifferInAdvice}
-use Rattle.pdl_semantics.specs.Cycle.{new_entries, with_value_of, with_writes_of, releases_of, is_stage}
+use Rattle.pdl_semantics.specs.Cycle.{new_entries, with_writes_of, releases_of, is_stage}
 use Rattle.pdl_semantics.proofs.Facts.{put_all_length}
 use Rattle.pdl_theory_derived.specs.Alone.{is_nil, is_among, is_oldest, drop_var, but_last}
 use Rattle.pdl_theory_derived.specs.Derived
@@ -19,7 +18,7 @@ use Rattle.pdl_theory_derived.proofs.Writes.{and_left, and_right}
 use Rattle.pdl_theory_derived.proofs.Entries.{entries_of, entry, Open, Full, waiting, known, open_vars, full_vars}
 use Rattle.pdl_theory_derived.proofs.Deeds.{AllFit, Loosely, loose_step}
 use Rattle.pdl_theory_derived.proofs.Lists.{own, pend}
-use Rattle.pdl_theory_turns.proofs.Steps.{AreGiven, AllUsed, is_used, Here, new_more, pend_append}
+use Rattle.pdl_theory_turns.proofs.Steps.{is_used, Here, new_more, pend_append}
 use Rattle.pdl_theory_turns.proofs.OwnEntries.{pend_own}
 use Rattle.pdl_theory_turns.proofs.Surroundings.{AllIn, in_stage_all}
 use Rattle.pdl_theory_simulation.proofs.FlowFacts.{use_ok, uses_ok}
@@ -29,18 +28,18 @@ use Rattle.pdl_theory_simulation.proofs.Stretches.{Keeps, start_of, keeps_next}
 use Rattle.pdl_theory_simulation.proofs.StretchSteps.{step_if}
 use Rattle.pdl_theory_simulation.proofs.Seats.{Live, dacts, now_of, work_of_live, deeds_of}
 use Rattle.pdl_theory_simulation.proofs.Choices.{Known, keeps_now, fit_all, starts_here, like_here}
-use Rattle.pdl_lockapi.specs.Forget.{has_place, place_of, IsOnce}
+use Rattle.pdl_lockapi.specs.Forget.{has_place, place_of}
 use Rattle.pdl_machine_facts.specs.Use.{in_time, is_early}
 use Rattle.pdl_machine_facts.proofs.StatementUses.{IsAlong, writes_to}
 use Rattle.pdl_theory_states.specs.Strict.{Strict}
 use Rattle.pdl_theory_states.proofs.Releases.{is_done}
-use Rattle.pdl_theory_states.proofs.FetchCounts.{any_append, any_front}
+use Rattle.pdl_theory_states.proofs.FetchCounts.{any_append}
 use Rattle.pdl_machine_lockuse.specs.Careful.{Careful}
 use Rattle.pdl_machine_lockuse.specs.Use.{written_in, is_open, AreOwn}
 use Rattle.pdl_machine_lockuse.proofs.Reservations.{one_if, times, uses, Single, single_fresh, single_all, single_op, uses_reserve, uses_write, uses_release, total_all, gone_few, reserves_append, reserved_all}
 use Rattle.pdl_machine_lockuse.proofs.Paths.{path, mine, passed, rest, whole, passed_uses, mine_uses, mine_early}
 use Rattle.pdl_machine_lockuse.proofs.Begins.{begun, begun_is, along_here}
-use Rattle.pdl_machine_lockuse.proofs.OwnPlaces.{InTurn, written_more, turn_more, turn_grow, place_behind, puts_place, opens_back, oldest_first, pend_length, unused_place, names, names_append, once_names, given_own}
+use Rattle.pdl_machine_lockuse.proofs.OwnPlaces.{InTurn, written_more, turn_more, turn_grow, place_behind, puts_place, opens_back, oldest_first, pend_length, unused_place, names, names_append, given_own}
 
 -- what a stage does with a memory where start was pending before it, and in which phase it ends
 pub record Used (m n : ℕ) (start : List Pending) (d : Deeds) (ph : Phase) : Type 0 where
