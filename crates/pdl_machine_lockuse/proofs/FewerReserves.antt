@@ -1,5 +1,5 @@
 -- Room for reservations is room for those before the last one.
-use Rattle.std.proofs.Common.{◌≡◌, refl, subst, ap₂, ℕ, suc, ◌+◌, ◌≤◌, Bool, true, false, ◌&&◌, List, [], ◌∷◌, ◌++◌, length, ◌==◌, cond, arith}
+use Rattle.std.proofs.Common.{◌≡◌, refl, subst, ap₂, ℕ, suc, ◌≤◌, Bool, true, false, ◌&&◌, List, [], ◌∷◌, ◌++◌, length, ◌==◌, cond, arith}
 use Rattle.pdl_semantics.specs.Flat.{Pipe, list_all}
 use Rattle.pdl_semantics.specs.Stages.{mem_at}
 use Rattle.pdl_semantics.specs.Locks.{has_room}

@@ -38,6 +38,7 @@ use Rattle.pdl_source_paths.proofs.ReadsKept.{open_reserved, reserved_open}
 use Rattle.pdl_source_paths.proofs.Variables.{Here, all_here, IsNamed, located}
 use Rattle.pdl_source_paths.proofs.Walk.{all_on, keeps_all, text_places}
 use Rattle.pdl_source_paths.proofs.FlatPaths.{value, all_alike}
+use Rattle.pdl_theory_turns.proofs.StageFacts.{none_looked}
 use Rattle.pdl_machine_lockuse.specs.Careful.{Careful, reserves_at, keeps_kind, all_keep_kind, all_let_in, passes_on}
 use Rattle.pdl_machine_lockuse.proofs.BlockedFirst.{named_grown, lets_looked, sites_let, none_blocked}
 use Rattle.pdl_word.proofs.Bytes.{bytes_refl}
@@ -50,12 +51,8 @@ reserves_looked : (m a : ℕ) (op : Flat.Op) → reserves_at m a (answered_op op
 reserves_looked m a (Flat.DelayedRead x n b) = refl
 reserves_looked m a _ = refl
 
-none_looked : (m a : ℕ) (xs : List Flat.Stmt) → none_of (reserves_at m a) (looked_all xs) ≡ none_of (reserves_at m a) xs
-none_looked m a [] = refl
-none_looked m a (x ∷ xs) = ap₂ (λ b c. not b && c) (reserves_looked m a x.op) (none_looked m a xs)
-
 keeps_looked : (op : Flat.Op) (xs : List Flat.Stmt) → keeps_kind (answered_op op) (looked_all xs) ≡ keeps_kind op xs
-keeps_looked (Flat.Block m a) xs = none_looked m a xs
+keeps_looked (Flat.Block m a) xs = none_looked (reserves_at m a) (reserves_looked m a) xs
 keeps_looked (Flat.DelayedRead x n b) xs = refl
 keeps_looked (Flat.Bind x e) xs = refl
 keeps_looked (Flat.CombRead x m a) xs = refl

@@ -11,9 +11,8 @@ use Rattle.pdl_semantics.specs.Moves.{Act, acts, all_acts, movers, may_move, nex
 use Rattle.pdl_semantics.specs.Cycle.{new_entries, with_reserves, with_all_writes, releases_of, all_releases, list_two, list_three, taken_out, is_kept, is_stage, squasher}
 use Rattle.pdl_theory_derived.specs.Derived
 use Rattle.pdl_theory_facts.specs.Scans.{is_plain, none_of, Fresh, phase_all, is_over}
-use Rattle.pdl_theory_facts.specs.Facts.{Sound, looked_all}
+use Rattle.pdl_theory_facts.specs.Facts.{Sound}
 use Rattle.pdl_theory_facts.proofs.Nested.{within_all}
-use Rattle.pdl_theory_derived.specs.Alone.{answered_op}
 use Rattle.pdl_theory_derived.proofs.Writes.{and_left, and_right}
 use Rattle.pdl_theory_derived.proofs.Entries.{entries_of}
 use Rattle.pdl_theory_derived.proofs.Lists.{pend}
@@ -46,7 +45,10 @@ use Rattle.pdl_machine_lockuse.specs.Careful.{Careful}
 use Rattle.pdl_machine_lockuse.specs.Use.{HasRoom, ReleasesOwn, ShiftsUpTo, ReleasesOlder, FindsAll, KeepsTail, LeavesTail, Cuts, IsSpared, WritesOnce, IsLet, AwaitsOlder}
 use Rattle.pdl_machine_lockuse.proofs.Acts.{at_here, at_slot, same_order, same_count, few_reserved, sole_reserved, room_together, sole_older}
 use Rattle.pdl_machine_lockuse.proofs.Begins.{fine_here, let_here}
-use Rattle.pdl_machine_lockuse.proofs.OwnWrite.{InTurn, names, once_names, used_here, writes_early, held_on, few_reserves, few_releases}
+use Rattle.pdl_theory_turns.proofs.StageFacts.{none_looked}
+use Rattle.pdl_theory_turns.proofs.Turn.{release_looked}
+use Rattle.pdl_machine_lockuse.proofs.OwnPlaces.{InTurn, names, once_names}
+use Rattle.pdl_machine_lockuse.proofs.OwnWrite.{used_here, writes_early, held_on, few_reserves, few_releases}
 use Rattle.pdl_machine_lockuse.proofs.Owns.{contains_write, own_same, written_same, names_by, turn_by, turn_of, open_place, own_two, written_two, fewer_taken, few_released, by_new}
 use Rattle.pdl_theory_states.proofs.OwnEntries.{Mine, each_mine}
 use Rattle.pdl_semantics.specs.Sound.{entries_by}
@@ -88,14 +90,6 @@ leads_sound p sound = record { up = λ k q env l e. (sound_flows p sound).graph.
 
 -- A MEMORY WITHOUT LOCK
 
-none_looked : (m : ℕ) (xs : List Stmt) → none_of (is_release m) (looked_all xs) ≡ none_of (is_release m) xs
-none_looked m [] = refl
-none_looked m (x ∷ xs) = ap₂ (λ a b. not a && b) (one x.op) (none_looked m xs)
-  where
-    one : (op : Rattle.pdl_semantics.specs.Flat.Op) → is_release m (answered_op op) ≡ is_release m op
-    one (Rattle.pdl_semantics.specs.Flat.DelayedRead x n a) = refl
-    one _ = refl
-
 none_back : (m : ℕ) (xs ys : List Stmt) → none_of (is_release m) (xs ++ ys) ≡ true → none_of (is_release m) ys ≡ true
 none_back m [] ys h = h
 none_back m (x ∷ xs) ys h = none_back m xs ys (and_right (not (is_release m x.op)) _ h)
@@ -109,7 +103,7 @@ module _ (p : Pipe) (sound : Sound p) (st : State) (m : ℕ) (plain : is_plain (
       (over_early m (onpath l.env (stages_from l.thread.stage p.stmts)) (phase_all m Fresh (on_way p l.env l.thread.stage))
       (none_back m (on_way p l.env l.thread.stage) (onpath l.env (stages_from l.thread.stage p.stmts))
       (subst (λ xs. none_of (is_release m) xs ≡ true) ((sound_flows p sound).all_pieces l.env l.thread.stage)
-      (sym (none_looked m (onpath l.env p.stmts)) ∙ ap (none_of (is_release m)) (sym (path_looked l.env p.stmts))
+      (sym (none_looked (is_release m) (release_looked m) (onpath l.env p.stmts)) ∙ ap (none_of (is_release m)) (sym (path_looked l.env p.stmts))
       ∙ (sound.pathwise.paths l.env).plain m plain)))
       (subst (λ ph. is_over ph ≡ true)
       (ap (phase_all m Fresh) ((sound_flows p sound).all_pieces l.env l.thread.stage)

@@ -6,6 +6,7 @@ pub mod FewerReserves
 pub mod StageStatements
 pub mod LetIn
 pub mod Begins
+pub mod OwnPlaces
 pub mod OwnWrite
 pub mod ReleaseBarriers
 pub mod Tails

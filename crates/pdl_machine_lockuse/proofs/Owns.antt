@@ -25,7 +25,8 @@ use Rattle.pdl_theory_states.proofs.PendingLists.{AllOf, of_new}
 use Rattle.pdl_theory_states.proofs.OwnEntries.{by_append}
 use Rattle.pdl_machine_lockuse.specs.Use.{AreOwn, is_open, AreInTurn}
 use Rattle.pdl_machine_lockuse.proofs.Reservations.{one_if}
-use Rattle.pdl_machine_lockuse.proofs.OwnWrite.{used_here, InTurn, names}
+use Rattle.pdl_machine_lockuse.proofs.OwnPlaces.{InTurn, names}
+use Rattle.pdl_machine_lockuse.proofs.OwnWrite.{used_here}
 use Rattle.pdl_theory_simulation.proofs.Seats.{falls_each}
 
 -- a memory is written to where one of the writes is to it
