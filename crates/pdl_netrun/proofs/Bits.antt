@@ -1,9 +1,9 @@
 -- Words of a width, cut out of 64 bits by shifts.
-use Rattle.std.proofs.Common.{◌≡◌, refl, sym, ap, ap₂, ◌∙◌, ℕ, zero, suc, ◌+◌, ◌-◌, ◌*◌, ◌/◌, ◌%◌, ◌^◌, ◌<◌, ◌≤◌, pow-add, arith}
-use Rattle.std.proofs.lemmas.Nat.{mod-pow-add, shr_high, shl-shr, pow_pos}
-use Rattle.std.proofs.Math.Nat.{mul-mod_left, mul-suc, add-mul-mod_self_left, mod-eq_of_lt, mod-lt, pow-succ'}
+use Rattle.std.proofs.Common.{◌≡◌, refl, sym, ap, ap₂, ◌∙◌, ℕ, zero, suc, ◌+◌, ◌-◌, ◌*◌, ◌/◌, ◌%◌, ◌^◌, ◌<◌, ◌≤◌, bit_and, pow-add, arith}
+use Rattle.std.proofs.lemmas.Nat.{mod-pow-add, shl-shr, pow_pos}
+use Rattle.std.proofs.Math.Nat.{mul-mod_left, mul-suc, add-mul-mod_self_left, mod-eq_of_lt, pow-succ'}
 use Rattle.pdl_word.specs.Words.{mask, add, sub, mul, shl, shr, slice, rep}
-use Rattle.pdl_word.proofs.Masks.{mod_of_64}
+use Rattle.pdl_word.proofs.Masks.{mod_of_64, and_with_mask}
 use Rattle.pdl_word.proofs.Shifts.{shl_within, shr_within}
 
 -- what is shifted out at the top and back is gone
@@ -26,14 +26,18 @@ pub multiplied : (w a b : ℕ) → w ≤ 64 → a * b % 2 ^ 64 % 2 ^ w ≡ mul w
 unfolding mul
 multiplied w a b h = mod_of_64 (a * b) w h
 
--- the bits up to one, and of them those from another on
-pub sliced : (high low a : ℕ) → low ≤ high → a % 2 ^ (high + 1) / 2 ^ low ≡ slice high low a
+-- a sum of 64 bits cut to w of them
+pub sum_cut : (w a b m : ℕ) → m ≡ mask w → w ≤ 64 → bit_and ((a + b) % 2 ^ 64) m ≡ add w a b
+sum_cut w a b m e h = and_with_mask ((a + b) % 2 ^ 64) w m e ∙ added w a b h
+
+-- a product of 64 bits cut to w of them
+pub product_cut : (w a b m : ℕ) → m ≡ mask w → w ≤ 64 → bit_and (a * b % 2 ^ 64) m ≡ mul w a b
+product_cut w a b m e h = and_with_mask (a * b % 2 ^ 64) w m e ∙ multiplied w a b h
+
+-- the bits from one on, cut to as many as a slice has
+pub slice_cut : (high low a m : ℕ) → m ≡ mask (high + 1 - low) → bit_and (a / 2 ^ low) m ≡ slice high low a
 unfolding slice
-sliced high low a h =
-    let j = high + 1 - low in
-    let e : j + low ≡ high + 1 = omega arith in
-    ap (λ k. a % 2 ^ k / 2 ^ low) (sym e) ∙ ap (λ x. x / 2 ^ low) (mod-pow-add a j low)
-    ∙ shr_high (a / 2 ^ low % 2 ^ j) low (a % 2 ^ low) (mod-lt a (pow_pos low))
+slice_cut high low a m e = and_with_mask (a / 2 ^ low) (high + 1 - low) m e
 
 -- A BIT, REPEATED
 
@@ -65,6 +69,10 @@ subtracted w a b h l =
         let m : 2 ^ w * suc r ≡ 2 ^ w * r + 2 ^ w = mul-suc (2 ^ w) r in
         let f : a + (2 ^ 64 - b) ≡ (a + 2 ^ w - b) + 2 ^ w * r = omega (arith, p, m, l) in
         mod_of_64 (a + (2 ^ 64 - b)) w h ∙ ap (λ x. x % 2 ^ w) f ∙ add-mul-mod_self_left (a + 2 ^ w - b) (2 ^ w) r
+
+-- a difference of 64 bits cut to w of them
+pub difference_cut : (w a b m : ℕ) → m ≡ mask w → w ≤ 64 → b < 2 ^ w → bit_and ((a + (2 ^ 64 - b)) % 2 ^ 64) m ≡ sub w a b
+difference_cut w a b m e h l = and_with_mask ((a + (2 ^ 64 - b)) % 2 ^ 64) w m e ∙ subtracted w a b h l
 
 -- a shift by less than the width
 pub moved_up : (w a b : ℕ) → w ≤ 64 → b < w → a * 2 ^ (b % 64) % 2 ^ 64 % 2 ^ w ≡ shl w a b

@@ -6,10 +6,7 @@ use Rattle.pdl_net.specs.declared.Cell.{Cell}
 use Rattle.pdl_net.specs.declared.Cell.TheVariants as cell
 use Rattle.pdl_net.specs.declared.Netlist.{Netlist}
 use Rattle.pdl_net.specs.Circuit.{Circuit, circuit_of, inputs_of}
-use Rattle.pdl_net.specs.Well.{IsWell}
 use Rattle.pdl_net.specs.Run.{Store, delayed_mems, loaded_arrays}
-use Rattle.pdl_net.specs.Holds.{Holds, ImageFits}
-use Rattle.pdl_net.proofs.StartState.{holds_start}
 use Rattle.pdl_netrun.specs.Order.{first_place, cell_at, cell_of, unplaced, HasTurn, IsOrder, IsOrderOf, AllEarly, AllPlaced}
 use Rattle.pdl_netrun.specs.Plan.{held_at_start, IsHeld, HasConstants}
 use Rattle.pdl_netrun.specs.declared.order.CellOrder.{CellOrder}

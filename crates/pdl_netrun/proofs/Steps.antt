@@ -1,6 +1,6 @@
 -- The steps of the loops over cells, runs, places and writes.
-use Rattle.std.proofs.Common.{◌≡◌, ℕ, suc, ◌+◌, ◌<◌, ◌≤◌, List, [], ◌∷◌, ◌++◌, length, get_or, take, drop, set, map, refl, sym, ap, ◌∙◌, subst, arith, length-append}
-use Rattle.std.proofs.lemmas.List.{take_all, map_more, drop_more, drop_all, length-set, length-map}
+use Rattle.std.proofs.Common.{◌≡◌, ℕ, suc, ◌+◌, ◌-◌, ◌<◌, ◌≤◌, List, [], ◌∷◌, ◌++◌, length, get_or, take, drop, set, map, refl, sym, ap, ◌∙◌, subst, arith, length-append}
+use Rattle.std.proofs.lemmas.List.{take_all, map_more, drop_more, drop_all, length-set, length-map, take-append-drop, map-append, length-take-le, length-drop, drop-drop}
 use Rattle.std.proofs.lemmas.Grind.{take-set_at}
 use Rattle.pdl_netrun.specs.declared.operation.CellKind.{CellKind}
 use Rattle.pdl_netrun.specs.declared.operation.CellKind.TheVariants as kinds
@@ -68,6 +68,77 @@ constants_stand (o ∷ os) at vs ws = constants_stand os (suc at) vs ws
 pub with_length : (kind : CellKind) (os : List CellOperands) → length (steps_with kind os) ≡ length os
 with_length kind os = simp length-map
 
+-- PARTS OF A RUN
+
+-- the steps of the first n cells and then those of the others are the steps of all
+with_halves : (kind : CellKind) (os : List CellOperands) (n : ℕ)
+    → steps_with kind os ≡ steps_with kind (take n os) ++ steps_with kind (drop n os)
+with_halves kind os n =
+    ap (λ l. steps_with kind l) (sym (take-append-drop n os)) ∙ map-append (λ (o : CellOperands). record { kind = kind; operands = o }) (take n os) (drop n os)
+
+-- the first n cells have n steps
+first_count : (kind : CellKind) (os : List CellOperands) (n : ℕ) → n ≤ length os → length (steps_with kind (take n os)) ≡ n
+first_count kind os n l = with_length kind (take n os) ∙ length-take-le n os l
+
+-- after the first n cells and then the others the values are as after all of them
+pub halves_after : (kind : CellKind) (os : List CellOperands) (n first : ℕ) (vs : List ℕ) (ws : List (List ℕ)) → n ≤ length os
+    → after_steps (steps_with kind (drop n os)) (first + n) (after_steps (steps_with kind (take n os)) first vs ws) ws
+    ≡ after_steps (steps_with kind os) first vs ws
+halves_after kind os n first vs ws l =
+    ap (λ i. after_steps (steps_with kind (drop n os)) (first + i) (after_steps (steps_with kind (take n os)) first vs ws) ws) (sym (first_count kind os n l))
+    ∙ sym (after_append (steps_with kind (take n os)) (steps_with kind (drop n os)) first vs ws)
+    ∙ sym (ap (λ xs. after_steps xs first vs ws) (with_halves kind os n))
+
+-- where all cells fit, the first n do, and then the others
+pub halves_fit : (kind : CellKind) (os : List CellOperands) (n first : ℕ) (vs : List ℕ) (ws : List (List ℕ)) → n ≤ length os
+    → StepsFit (steps_with kind os) first vs ws
+    → StepsFit (steps_with kind (take n os)) first vs ws
+    × StepsFit (steps_with kind (drop n os)) (first + n) (after_steps (steps_with kind (take n os)) first vs ws) ws
+halves_fit kind os n first vs ws l f =
+    let g = fit_append (steps_with kind (take n os)) (steps_with kind (drop n os)) first vs ws (subst (λ xs. StepsFit xs first vs ws) (with_halves kind os n) f) in
+    (g.0, subst (λ i. StepsFit (steps_with kind (drop n os)) (first + i) (after_steps (steps_with kind (take n os)) first vs ws) ws) (first_count kind os n l) g.1)
+
+-- all that is left after the first n cells
+pub left_all : (os : List CellOperands) (n : ℕ) → take (length os - n) (drop n os) ≡ drop n os
+left_all os n = take_all (length os - n) (drop n os) (let e = length-drop n os in omega (arith, e))
+
+pub ruleset halves = (halves_after, halves_fit, left_all)
+
+-- where no cell is left, the values stand
+pub none_left : (kind : CellKind) (os : List CellOperands) (first : ℕ) (vs : List ℕ) (ws : List (List ℕ)) → length os ≡ 0
+    → after_steps (steps_with kind os) first vs ws ≡ vs
+none_left kind [] first vs ws e = refl
+none_left kind (o ∷ os) first vs ws e = absurd (omega (arith, e))
+
+pub ruleset nothing = (none_left)
+
+-- n cells from the k-th on, and then those after them
+pub eights_after : (kind : CellKind) (os : List CellOperands) (first k n : ℕ) (vs : List ℕ) (ws : List (List ℕ)) → k + n ≤ length os
+    → after_steps (steps_with kind (drop (k + n) os)) (first + (k + n)) (after_steps (steps_with kind (take n (drop k os))) (first + k) vs ws) ws
+    ≡ after_steps (steps_with kind (drop k os)) (first + k) vs ws
+eights_after kind os first k n vs ws l =
+    let e : first + (k + n) ≡ first + k + n = omega arith in
+    let d = length-drop k os in
+    let ws' = after_steps (steps_with kind (take n (drop k os))) (first + k) vs ws in
+    ap (λ i. after_steps (steps_with kind (drop (k + n) os)) i ws' ws) e
+    ∙ ap (λ xs. after_steps (steps_with kind xs) (first + k + n) ws' ws) (sym (drop-drop n k os))
+    ∙ halves_after kind (drop k os) n (first + k) vs ws (omega (arith, l, d))
+
+-- where the cells from the k-th on fit, the first n of them do, and then those after them
+pub eights_fit : (kind : CellKind) (os : List CellOperands) (first k n : ℕ) (vs : List ℕ) (ws : List (List ℕ)) → k + n ≤ length os
+    → StepsFit (steps_with kind (drop k os)) (first + k) vs ws
+    → StepsFit (steps_with kind (take n (drop k os))) (first + k) vs ws
+    × StepsFit (steps_with kind (drop (k + n) os)) (first + (k + n)) (after_steps (steps_with kind (take n (drop k os))) (first + k) vs ws) ws
+eights_fit kind os first k n vs ws l f =
+    let e : first + k + n ≡ first + (k + n) = omega arith in
+    let d = length-drop k os in
+    let ws' = after_steps (steps_with kind (take n (drop k os))) (first + k) vs ws in
+    let g = halves_fit kind (drop k os) n (first + k) vs ws (omega (arith, l, d)) f in (
+      g.0,
+      subst (λ i. StepsFit (steps_with kind (drop (k + n) os)) i ws' ws) e
+          (subst (λ xs. StepsFit (steps_with kind xs) (first + k + n) ws' ws) (drop-drop n k os) g.1),
+    )
+
 -- the steps from the k-th run on
 abbrev run_steps : CellRun → List Step
 run_steps r = steps_with r.kind r.operands.items
@@ -126,7 +197,7 @@ pub runs_all : (rs : List CellRun) (k at : ℕ) (vs : List ℕ) (ws : List (List
     → length rs ≤ k → after_steps (steps_of (drop k rs)) at vs ws ≡ vs
 runs_all rs k at vs ws h = ap (λ l. after_steps (steps_of l) at vs ws) (drop_all k rs h)
 
-pub ruleset walks = (cells_more, cells_fit, cells_all)
+pub ruleset eights = (eights_after, eights_fit, cells_all)
 
 pub ruleset runs = (constants_stand, with_length, run_length, after_length, runs_all)
 

@@ -1,7 +1,7 @@
 -- The steps of a plan give each cell's place the value of its signal.
-use Rattle.std.proofs.Common.{◌≡◌, ◌≢◌, refl, sym, ap, ap₂, ◌∙◌, subst, ℕ, zero, suc, ◌+◌, ◌-◌, ◌<◌, ◌≤◌, ◌^◌, List, [], ◌∷◌, length, get_or, set, drop, map, arith, ⊎_elim}
+use Rattle.std.proofs.Common.{◌≡◌, ◌≢◌, refl, sym, ap, ap₂, ◌∙◌, subst, ℕ, zero, suc, ◌+◌, ◌-◌, ◌<◌, ◌≤◌, ◌^◌, min, List, [], ◌∷◌, length, get_or, set, drop, map, arith, ⊎_elim}
 use Rattle.std.specs.Prelude.{slice_index}
-use Rattle.std.proofs.lemmas.List.{get_or-set_same, get_or-set_other, length-set, drop_more, drop_all}
+use Rattle.std.proofs.lemmas.List.{get_or-set_same, get_or-set_other, drop_more, drop_all}
 use Rattle.std.proofs.lemmas.Bool.{cases_lt, cases_eq}
 use Rattle.std.proofs.Math.Nat.{pow-le-pow_right}
 use Rattle.pdl_net.specs.declared.Net.{Net}
@@ -23,7 +23,7 @@ use Rattle.pdl_netrun.specs.declared.operation.CellOperands.{CellOperands}
 use Rattle.pdl_netrun.specs.Kinds.{operator_kind}
 use Rattle.pdl_netrun.specs.Steps.{Step, KindFits, StepsFit, AreWords, after_kind, after_step, after_steps}
 use Rattle.pdl_netrun.specs.Order.{first_place, place, unplaced, IsPlaced, cell_at, IsTurn, HasTurn, IsOrder}
-use Rattle.pdl_netrun.specs.Plan.{step_of_cell, cell_operands, HasValues, HasConstants, IsHeld}
+use Rattle.pdl_netrun.specs.Plan.{step_of_cell, cell_operands, mask_within, HasValues, HasConstants, IsHeld}
 use Rattle.pdl_netrun.proofs.Orders.{fits_turn}
 use Rattle.pdl_netrun.proofs.Steps.{after_kind_length}
 use Rattle.pdl_word.proofs.Lists.{either}
@@ -80,6 +80,10 @@ chosen vs x a b zero e l = ap (λ i. slice_index vs (slice_index (b ∷ a ∷ []
 chosen vs x a b (suc zero) e l = ap (λ i. slice_index vs (slice_index (b ∷ a ∷ []) i)) e
 chosen vs x a b (suc (suc n)) e l = absurd (omega arith)
 
+-- up to 64 bits
+cut : (w : ℕ) → w ≤ 64 → mask_within w ≡ words.mask w
+cut w h = let e : min w 64 ≡ w = omega (arith, h) in ap words.mask e
+
 module _ (c : Circuit) (s : State) (w : IsWell c) (t : Suits c s) (ps vs : List ℕ) (n : ℕ) (few : n ≤ length vs) (v : HasValues c ps s vs n) where
   bound : (x : Net) → IsPlaced c ps n x → IsBounded s (signal c x)
   bound x h = bounded_at c s w t (length c.cells) (omega arith) x h.there
@@ -97,9 +101,10 @@ module _ (c : Circuit) (s : State) (w : IsWell c) (t : Suits c s) (ps vs : List 
   -- the step of a cell that fits
   pub fits_planned : (g : Cell) → FitsIn c (IsPlaced c ps n) (signal c) g → KindFits (step_of_cell c ps g).kind (cell_operands c ps g) vs s.arrays
   fits_planned (cell.Const b x) h = tt
-  fits_planned (cell.Not a) h = record { there = here a h; low = (bound a h).low; high = (bound a h).high; fits = fits a h }
+  fits_planned (cell.Not a) h = record { mask = cut (signal c a).width (bound a h).high; there = here a h; low = (bound a h).low; high = (bound a h).high; fits = fits a h }
   fits_planned (cell.Bin o a b) h =
       operation_fits o (cell_operands c ps (cell.Bin o a b)) vs s.arrays (record {
+        mask = cut (signal c a).width (bound a h.0).high;
         there = here a h.0;
         second_there = here b h.1;
         low = (bound a h.0).low;
@@ -113,7 +118,12 @@ module _ (c : Circuit) (s : State) (w : IsWell c) (t : Suits c s) (ps vs : List 
     bit_fits = is_bit x h.0 h.3;
     each = either (λ i. i < length vs) (place c ps b) (place c ps a) (here b h.2) (here a h.1);
   }
-  fits_planned (cell.Slice a high low) h = let b = (bound a h.0).high in let l = h.2 in record { there = here a h.0; order = h.1; top = omega (arith, b, l) }
+  fits_planned (cell.Slice a high low) h = let b = (bound a h.0).high in let l = h.2 in let o = h.1 in record {
+    mask = (let e : high - low + 1 ≡ high + 1 - low = omega (arith, o) in cut (high - low + 1) (omega (arith, b, l, o)) ∙ ap words.mask e);
+    there = here a h.0;
+    order = o;
+    top = omega (arith, b, l);
+  }
   fits_planned (cell.Cat a b) h =
       let l = (bound a h.0).low in
       let m = h.2 in
@@ -126,7 +136,7 @@ module _ (c : Circuit) (s : State) (w : IsWell c) (t : Suits c s) (ps vs : List 
         second_fits = fits b h.1;
       }
   fits_planned (cell.Rep k a) h = record {
-    word = record { there = here a h.0; low = (bound a h.0).low; high = (bound a h.0).high; fits = fits a h.0 };
+    word = record { mask = cut (signal c a).width (bound a h.0).high; there = here a h.0; low = (bound a h.0).low; high = (bound a h.0).high; fits = fits a h.0 };
     some = h.1;
     room = h.2;
   }

@@ -1,11 +1,12 @@
 -- The plan of a circuit: what each cell and each write port reads, where the cells have these places.
-use Rattle.std.specs.Prelude.{◌≡◌, ℕ, suc, ◌<◌, List, [], ◌∷◌, ◌++◌, map, length, slice_index}
+use Rattle.std.specs.Prelude.{◌≡◌, ℕ, suc, ◌+◌, ◌-◌, ◌<◌, min, List, [], ◌∷◌, ◌++◌, map, length, slice_index}
 use Rattle.pdl_net.specs.declared.Net.{Net}
 use Rattle.pdl_net.specs.declared.Cell.{Cell}
 use Rattle.pdl_net.specs.declared.Cell.TheVariants as cell
 use Rattle.pdl_net.specs.declared.WritePort.{WritePort}
 use Rattle.pdl_net.specs.declared.Array.{Array}
 use Rattle.pdl_net.specs.Circuit.{Circuit, State}
+use Rattle.pdl_word.specs.Words as words
 use Rattle.pdl_net.specs.Meaning.{signal}
 use Rattle.pdl_netrun.specs.declared.operation.CellKind.{CellKind}
 use Rattle.pdl_netrun.specs.declared.operation.CellOperands.{CellOperands}
@@ -21,17 +22,21 @@ use Rattle.pdl_netrun.specs.Order.{place, IsPlaced, IsNetThere, cell_at}
 abbrev pub step_of : CellKind → CellOperands → Step
 step_of k o = record { kind = k; operands = o }
 
+-- the largest word of so many bits, and of no more than 64
+abbrev pub mask_within : ℕ → ℕ
+mask_within w = words.mask (min w 64)
+
 -- what a cell reads
 abbrev pub cell_operands : Circuit → List ℕ → Cell → CellOperands
 cell_operands c ps (cell.Const w v) = reading_at 0 0
-cell_operands c ps (cell.Not a) = record { places = place c ps a ∷ place c ps a ∷ []; selector = 0; width = (signal c a).width; high = 0; low = 0; count = 0 }
+cell_operands c ps (cell.Not a) = record { places = place c ps a ∷ place c ps a ∷ []; selector = 0; width = (signal c a).width; high = 0; low = 0; count = 0; mask = mask_within (signal c a).width }
 cell_operands c ps (cell.Bin o a b) =
-    record { places = place c ps a ∷ place c ps b ∷ []; selector = 0; width = (signal c a).width; high = 0; low = 0; count = 0 }
-cell_operands c ps (cell.Mux x a b) = record { places = place c ps b ∷ place c ps a ∷ []; selector = place c ps x; width = 0; high = 0; low = 0; count = 0 }
-cell_operands c ps (cell.Slice a high low) = record { places = place c ps a ∷ place c ps a ∷ []; selector = 0; width = 0; high = high; low = low; count = 0 }
-cell_operands c ps (cell.Cat a b) = record { places = place c ps a ∷ place c ps b ∷ []; selector = 0; width = 0; high = 0; low = (signal c b).width; count = 0 }
-cell_operands c ps (cell.Rep k a) = record { places = place c ps a ∷ place c ps a ∷ []; selector = 0; width = (signal c a).width; high = 0; low = 0; count = k }
-cell_operands c ps (cell.Read m a) = record { places = place c ps a ∷ place c ps a ∷ []; selector = m; width = 0; high = 0; low = 0; count = 0 }
+    record { places = place c ps a ∷ place c ps b ∷ []; selector = 0; width = (signal c a).width; high = 0; low = 0; count = 0; mask = mask_within (signal c a).width }
+cell_operands c ps (cell.Mux x a b) = record { places = place c ps b ∷ place c ps a ∷ []; selector = place c ps x; width = 0; high = 0; low = 0; count = 0; mask = 0 }
+cell_operands c ps (cell.Slice a high low) = record { places = place c ps a ∷ place c ps a ∷ []; selector = 0; width = 0; high = high; low = low; count = 0; mask = mask_within (high - low + 1) }
+cell_operands c ps (cell.Cat a b) = record { places = place c ps a ∷ place c ps b ∷ []; selector = 0; width = 0; high = 0; low = (signal c b).width; count = 0; mask = 0 }
+cell_operands c ps (cell.Rep k a) = record { places = place c ps a ∷ place c ps a ∷ []; selector = 0; width = (signal c a).width; high = 0; low = 0; count = k; mask = mask_within (signal c a).width }
+cell_operands c ps (cell.Read m a) = record { places = place c ps a ∷ place c ps a ∷ []; selector = m; width = 0; high = 0; low = 0; count = 0; mask = 0 }
 
 -- what a cell does
 abbrev pub step_of_cell : Circuit → List ℕ → Cell → Step

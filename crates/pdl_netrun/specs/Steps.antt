@@ -1,5 +1,5 @@
 -- What steps do to a list of values, where the arrays hold these words.
-use Rattle.std.specs.Prelude.{◌≡◌, ℕ, suc, ◌-◌, ◌*◌, ◌^◌, ◌<◌, ◌≤◌, ◌==◌, List, [], ◌∷◌, ◌++◌, length, map, slice_index, slice_index_or, slice_set, Vec, All, if◌then◌else◌}
+use Rattle.std.specs.Prelude.{◌≡◌, ℕ, suc, ◌+◌, ◌-◌, ◌*◌, ◌^◌, ◌<◌, ◌≤◌, ◌==◌, List, [], ◌∷◌, ◌++◌, length, map, slice_index, slice_index_or, slice_set, Vec, All, if◌then◌else◌}
 use Rattle.std.specs.declared.alloc.Global.{Global}
 use Rattle.pdl_word.specs.Words as words
 use Rattle.pdl_netrun.specs.declared.operation.CellKind.{CellKind}
@@ -20,7 +20,7 @@ AreBelow n places = All (λ p. p < n) places
 
 -- a cell that reads the words at these places
 abbrev pub reading_at : ℕ → ℕ → CellOperands
-reading_at a b = record { places = a ∷ b ∷ []; selector = 0; width = 0; high = 0; low = 0; count = 0 }
+reading_at a b = record { places = a ∷ b ∷ []; selector = 0; width = 0; high = 0; low = 0; count = 0; mask = 0 }
 
 -- the place of the first word
 abbrev pub first_of : CellOperands → ℕ
@@ -59,8 +59,9 @@ kind_value Join o vs ws = words.cat o.low (first o vs) (second o vs)
 kind_value Repeat o vs ws = words.rep o.width o.count (first o vs)
 kind_value Look o vs ws = slice_index (slice_index_or ws o.selector []) (first o vs)
 
--- the first place is there, and holds a word of w bits
+-- the first place is there, and holds a word of w bits, of which the mask is the largest
 pub record IsWord (w : ℕ) (o : CellOperands) (vs : List ℕ) : Type 0 where
+  pub mask : o.mask ≡ words.mask w
   pub there : first_of o < length vs
   pub low : 1 ≤ w
   pub high : w ≤ 64
@@ -71,8 +72,9 @@ pub record AreThere (o : CellOperands) (vs : List ℕ) : Type 0 where
   pub first : first_of o < length vs
   pub second : second_of o < length vs
 
--- both places are there and hold words of w bits
+-- both places are there and hold words of w bits, of which the mask is the largest
 pub record AreWords (w : ℕ) (o : CellOperands) (vs : List ℕ) : Type 0 where
+  pub mask : o.mask ≡ words.mask w
   pub there : first_of o < length vs
   pub second_there : second_of o < length vs
   pub low : 1 ≤ w
@@ -102,8 +104,9 @@ pub record AreJoined (o : CellOperands) (vs : List ℕ) : Type 0 where
   pub fits : first o vs < 2 ^ (64 - o.low)
   pub second_fits : second o vs < 2 ^ o.low
 
--- the first place is there, and the bits from high down to low are bits of a word
+-- the first place is there, the bits from high down to low are bits of a word, and the mask is the largest word of as many
 pub record IsSliced (o : CellOperands) (vs : List ℕ) : Type 0 where
+  pub mask : o.mask ≡ words.mask (o.high + 1 - o.low)
   pub there : first_of o < length vs
   pub order : o.low ≤ o.high
   pub top : o.high < 64

@@ -42,6 +42,8 @@ pub struct CellOperands {
     pub low: u8,
     /// How often a word is repeated.
     pub count: u8,
+    /// The largest word of as many bits as `width` says, or as a slice has, by which a value is cut to them.
+    pub mask: u64,
 }
 
 impl CellOperands {
@@ -56,6 +58,7 @@ impl CellOperands {
             high: 0,
             low: 0,
             count: 0,
+            mask: 0,
         }
     }
 

@@ -34,8 +34,9 @@ pub struct Complement;
 impl CellOperation for Complement {
     ghost kind = { kinds.Complement };
 
+    #[tactic(auto, unfolding(pdl_word::specs::Words::complement, pdl_word::specs::Words::mask))]
     fn value(operands: &CellOperands, values: &[u64], arrays: &[Vec<u64>]) -> u64 {
-        pdl_word::complement(operands.width, operands.first(values))
+        operands.mask - operands.first(values)
     }
 
     ghost acts = { λ o at vs ws. refl };
@@ -46,10 +47,9 @@ pub struct Add;
 impl CellOperation for Add {
     ghost kind = { kinds.Add };
 
-    #[tactic(auto, using(crate::proofs::Bits::added))]
+    #[tactic(auto, using(crate::proofs::Bits::sum_cut))]
     fn value(operands: &CellOperands, values: &[u64], arrays: &[Vec<u64>]) -> u64 {
-        let sum = operands.first(values).wrapping_add(operands.second(values));
-        low_bits(operands.width, sum)
+        operands.first(values).wrapping_add(operands.second(values)) & operands.mask
     }
 
     ghost acts = { λ o at vs ws. refl };
@@ -60,10 +60,9 @@ pub struct Sub;
 impl CellOperation for Sub {
     ghost kind = { kinds.Sub };
 
-    #[tactic(auto, using(crate::proofs::Bits::subtracted))]
+    #[tactic(auto, using(crate::proofs::Bits::difference_cut))]
     fn value(operands: &CellOperands, values: &[u64], arrays: &[Vec<u64>]) -> u64 {
-        let difference = operands.first(values).wrapping_sub(operands.second(values));
-        low_bits(operands.width, difference)
+        operands.first(values).wrapping_sub(operands.second(values)) & operands.mask
     }
 
     ghost acts = { λ o at vs ws. refl };
@@ -74,10 +73,9 @@ pub struct Mul;
 impl CellOperation for Mul {
     ghost kind = { kinds.Mul };
 
-    #[tactic(auto, using(crate::proofs::Bits::multiplied))]
+    #[tactic(auto, using(crate::proofs::Bits::product_cut))]
     fn value(operands: &CellOperands, values: &[u64], arrays: &[Vec<u64>]) -> u64 {
-        let product = operands.first(values).wrapping_mul(operands.second(values));
-        low_bits(operands.width, product)
+        operands.first(values).wrapping_mul(operands.second(values)) & operands.mask
     }
 
     ghost acts = { λ o at vs ws. refl };
@@ -215,9 +213,9 @@ pub struct Slice;
 impl CellOperation for Slice {
     ghost kind = { kinds.Slice };
 
-    #[tactic(auto, using(crate::proofs::Bits::sliced))]
+    #[tactic(auto, using(crate::proofs::Bits::slice_cut))]
     fn value(operands: &CellOperands, values: &[u64], arrays: &[Vec<u64>]) -> u64 {
-        low_bits(operands.high + 1, operands.first(values)) >> operands.low
+        (operands.first(values) >> operands.low) & operands.mask
     }
 
     ghost acts = { λ o at vs ws. refl };

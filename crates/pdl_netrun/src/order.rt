@@ -212,14 +212,78 @@ impl<'a> CellOrder<'a> {
         }
     }
 
-    /// How many cells a run of a kind would have, of how many of the kind that have no place yet; `run` tells which they are.
-    fn share(&self, kind: CellKind, run: &mut [bool]) -> Share
+    /// Tells a net, if it is a cell, of a cell that reads it: how often the kind changes from that one on.
+    fn tell(&self, net: Net, kind: CellKind, after: u32, changes: &mut [u32])
+        requires well { IsWell (order_circuit self.now) }
+        requires there { IsNetThere self.now net }
+        requires changes { length changes.old ≡ length self.now.net.now.cells }
+        ensures { length changes.new ≡ length changes.old }
+    {
+        if let Net::Cell(k) = net {
+            let own = self.cell(k);
+            let more = after.saturating_add(u32::from(kind_of(own) != kind));
+            changes[k] = changes[k].max(more);
+        }
+    }
+
+    /// Tells all cells that a cell reads.
+    fn tell_all(&self, cell: Cell, after: u32, changes: &mut [u32])
+        requires well { IsWell (order_circuit self.now) }
+        requires there { AreThere self.now cell }
+        requires changes { length changes.old ≡ length self.now.net.now.cells }
+        ensures { length changes.new ≡ length changes.old }
+    {
+        let kind = kind_of(cell);
+        match cell {
+            Cell::Const { width: _, value: _ } => (),
+            Cell::Not(a) => self.tell(a, kind, after, changes),
+            Cell::Bin(_, a, b) => {
+                self.tell(a, kind, after, changes);
+                self.tell(b, kind, after, changes);
+            }
+            Cell::Mux(choice, a, b) => {
+                self.tell(choice, kind, after, changes);
+                self.tell(a, kind, after, changes);
+                self.tell(b, kind, after, changes);
+            }
+            Cell::Slice { a, high: _, low: _ } => self.tell(a, kind, after, changes),
+            Cell::Cat(a, b) => {
+                self.tell(a, kind, after, changes);
+                self.tell(b, kind, after, changes);
+            }
+            Cell::Rep { count: _, a } => self.tell(a, kind, after, changes),
+            Cell::Read { array: _, addr } => self.tell(addr, kind, after, changes),
+        }
+    }
+
+    /// How often the kind changes at most on a way from each cell on, by cells that read one another; a cell stands after all that it reads.
+    fn all_changes(&self, alloc: Global) -> Result<Vec<u32>, NoMemory>
+        requires well { IsWell (order_circuit self.now) }
+        ensures { IfOk result (λ v. length v.items ≡ length self.now.net.now.cells) }
+    {
+        let count = self.net.cells.len();
+        let mut changes = vec![in alloc; 0; count]?;
+        for i in 0..count {
+            let k = count - 1 - i;
+            let after = changes[k];
+            self.tell_all(self.cell(k), after, &mut changes);
+        }
+        Ok(changes)
+    }
+
+    /// How many cells a run of a kind would have, of how many of the kind that have no place yet, and how many changes of kind may follow; `run` tells which cells they are.
+    fn share(&self, kind: CellKind, changes: &[u32], run: &mut [bool]) -> Share
         requires well { IsWell (order_circuit self.now) }
         requires order { IsOrderOf self.now }
+        requires changes { length changes.now ≡ length self.now.net.now.cells }
         requires run { length run.old ≡ length self.now.net.now.cells }
         ensures { length run.new ≡ length run.old }
     {
-        let mut share = Share { ready: 0, left: 0 };
+        let mut share = Share {
+            ready: 0,
+            left: 0,
+            changes: 0,
+        };
         for k in 0..self.net.cells.len() {
             let cell = self.cell(k);
             let is_left = self.places[k] == UNPLACED && kind_of(cell) == kind;
@@ -227,21 +291,29 @@ impl<'a> CellOrder<'a> {
             run[k] = is_left && self.can_follow(cell, run);
             share.left += usize::from(is_left);
             share.ready += usize::from(run[k]);
+            if run[k] {
+                share.changes = share.changes.max(changes[k]);
+            }
         }
         share
     }
 
-    /// The kind of which a run would have the greatest share of the cells that are left, if some run would have any.
-    fn best_kind(&self, run: &mut [bool]) -> Option<CellKind>
+    /// The kind of which a run is best made next, if some run would have any cell.
+    fn best_kind(&self, changes: &[u32], run: &mut [bool]) -> Option<CellKind>
         requires well { IsWell (order_circuit self.now) }
         requires order { IsOrderOf self.now }
+        requires changes { length changes.now ≡ length self.now.net.now.cells }
         requires run { length run.old ≡ length self.now.net.now.cells }
         ensures { length run.new ≡ length run.old }
     {
         let mut best = None;
-        let mut most = Share { ready: 0, left: 1 };
+        let mut most = Share {
+            ready: 0,
+            left: 1,
+            changes: 0,
+        };
         for kind in KINDS {
-            let share = self.share(kind, run);
+            let share = self.share(kind, changes, run);
             if share.is_above(most) {
                 best = Some(kind);
                 most = share;
@@ -251,16 +323,32 @@ impl<'a> CellOrder<'a> {
     }
 }
 
-/// How many cells a run would have, of how many that are left.
+/// How many cells a run would have, of how many that are left, and how often the kind changes at most on a way from one of them on.
 #[derive(Clone, Copy)]
 struct Share {
     ready: usize,
     left: usize,
+    changes: u32,
 }
 
 impl Share {
-    /// Whether it is the greater share; the products fit, since no more than `UNPLACED` cells are placed.
+    /// Whether a run has all cells that are left.
+    fn is_whole(self) -> bool {
+        self.ready == self.left
+    }
+
+    /// Whether its run is the better one to make next: one that leaves no cell of its kind, then one that more changes of kind follow, then the greater share.
     fn is_above(self, other: Share) -> bool {
+        if self.ready == 0 || other.ready == 0 {
+            return self.ready > other.ready;
+        }
+        if self.is_whole() != other.is_whole() {
+            return self.is_whole();
+        }
+        if self.changes != other.changes {
+            return self.changes > other.changes;
+        }
+        // The products fit, since no more than `UNPLACED` cells are placed.
         self.ready.wrapping_mul(other.left) > other.ready.wrapping_mul(self.left)
     }
 }
@@ -286,9 +374,10 @@ pub fn order_of<'a>(alloc: Global, net: &'a Netlist) -> Result<CellOrder<'a>, No
     ensures all { IfOk result AllPlaced }
 {
     let mut order = CellOrder::new(alloc, net)?;
+    let changes = order.all_changes(alloc)?;
     let mut run = vec![in alloc; false; net.cells.len()]?;
     for _ in 0..RUNS {
-        let Some(kind) = order.best_kind(&mut run) else {
+        let Some(kind) = order.best_kind(&changes, &mut run) else {
             break;
         };
         order.place_kind(kind)?;

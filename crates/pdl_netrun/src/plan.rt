@@ -7,7 +7,7 @@ ghost use Rattle.pdl_net.specs.Well.{IsWell, FitsIn};
 ghost use Rattle.pdl_net.specs.Width.{HasWidths};
 ghost use Rattle.pdl_netrun.specs.Order.{IsOrderOf, cell_of, place_in, order_circuit};
 ghost use Rattle.pdl_netrun.specs.Steps.{steps_of, steps_with};
-ghost use Rattle.pdl_netrun.specs.Plan.{cell_operands, step_of, step_of_cell, planned_write, planned_writes, held_at_start, IsWriteThere};
+ghost use Rattle.pdl_netrun.specs.Plan.{cell_operands, step_of, step_of_cell, planned_write, planned_writes, held_at_start, mask_within as mask_of, IsWriteThere};
 
 use crate::kinds::kind_of;
 use crate::operation::{CellKind, CellOperands};
@@ -110,6 +110,18 @@ fn push_step(
     Ok(())
 }
 
+/// The largest word of so many bits, and of no more than 64.
+#[tactic(auto, using(pdl_word::proofs::Masks::one_shifted), unfolding(pdl_word::specs::Words::mask))]
+fn mask_within(width: u8) -> u64
+    ensures { result ≡ mask_of width }
+{
+    if width < 64 {
+        (1 << width) - 1
+    } else {
+        u64::MAX
+    }
+}
+
 /// What a cell reads, at the places of an order.
 #[tactic(auto, using(crate::proofs::PlanLemmas::places))]
 fn operands_of(n: &Netlist, order: &CellOrder, widths: &[u8], cell: Cell) -> CellOperands
@@ -126,27 +138,35 @@ fn operands_of(n: &Netlist, order: &CellOrder, widths: &[u8], cell: Cell) -> Cel
         Cell::Const { width: _, value: _ } => CellOperands::reading(0, 0),
         Cell::Not(a) => CellOperands {
             width: width_of(n, widths, a),
+            mask: mask_within(width_of(n, widths, a)),
             ..CellOperands::reading_one(order.place(a))
         },
         Cell::Bin(_, a, b) => CellOperands {
             width: width_of(n, widths, a),
+            mask: mask_within(width_of(n, widths, a)),
             ..CellOperands::reading(order.place(a), order.place(b))
         },
         Cell::Mux(choice, a, b) => CellOperands {
             selector: order.place(choice),
             ..CellOperands::reading(order.place(b), order.place(a))
         },
-        Cell::Slice { a, high, low } => CellOperands {
-            high,
-            low,
-            ..CellOperands::reading_one(order.place(a))
-        },
+        Cell::Slice { a, high, low } => {
+            // The highest bit is below the width of the word, so the count of bits fits.
+            let _width = width_of(n, widths, a);
+            CellOperands {
+                high,
+                low,
+                mask: mask_within(high - low + 1),
+                ..CellOperands::reading_one(order.place(a))
+            }
+        }
         Cell::Cat(a, b) => CellOperands {
             low: width_of(n, widths, b),
             ..CellOperands::reading(order.place(a), order.place(b))
         },
         Cell::Rep { count, a } => CellOperands {
             width: width_of(n, widths, a),
+            mask: mask_within(width_of(n, widths, a)),
             count,
             ..CellOperands::reading_one(order.place(a))
         },

@@ -1,6 +1,6 @@
 // The walk of a cycle: runs of cells of one kind, one after another, each cell's value going to the next place.
 
-ghost use Rattle.std.specs.Prelude.{◌≡◌, ◌+◌, ◌<◌, ◌≤◌, length, map, slice_index};
+ghost use Rattle.std.specs.Prelude.{◌≡◌, ◌+◌, ◌%◌, ◌<◌, ◌≤◌, length, map, slice_index};
 ghost use Rattle.pdl_netrun.specs.Steps.{StepsFit, AreBelow, steps_with, steps_of, after_steps, array_words};
 
 use crate::operation::{CellKind, CellOperands, CellOperation};
@@ -16,8 +16,170 @@ pub struct CellRun {
     pub operands: Vec<CellOperands>,
 }
 
+/// Gives a cell its value, which goes to a place.
+fn walk_one<K: CellOperation>(
+    operands: &[CellOperands],
+    first: usize,
+    arrays: &[Vec<u64>],
+    values: &mut [u64],
+)
+    requires one { length operands.now ≡ 1 }
+    requires room { first + length operands.now ≤ length values.old }
+    requires fit { StepsFit (steps_with K.kind operands.now) first values.old
+        (array_words arrays.now) }
+    ensures { values.new ≡ after_steps (steps_with K.kind operands.now) first values.old
+        (array_words arrays.now) }
+{
+    values[first] = K::value(&operands[0], values, arrays);
+}
+
+/// Gives two cells of one kind their values.
+#[tactic(auto, using(crate::proofs::Steps::halves))]
+fn walk_two<K: CellOperation>(
+    operands: &[CellOperands],
+    first: usize,
+    arrays: &[Vec<u64>],
+    values: &mut [u64],
+)
+    requires two { length operands.now ≡ 2 }
+    requires room { first + length operands.now ≤ length values.old }
+    requires fit { StepsFit (steps_with K.kind operands.now) first values.old
+        (array_words arrays.now) }
+    ensures { values.new ≡ after_steps (steps_with K.kind operands.now) first values.old
+        (array_words arrays.now) }
+{
+    walk_one::<K>(&operands[..1], first, arrays, values);
+    walk_one::<K>(&operands[1..], first + 1, arrays, values);
+}
+
+/// Gives four cells of one kind their values.
+#[tactic(auto, using(crate::proofs::Steps::halves))]
+fn walk_four<K: CellOperation>(
+    operands: &[CellOperands],
+    first: usize,
+    arrays: &[Vec<u64>],
+    values: &mut [u64],
+)
+    requires four { length operands.now ≡ 4 }
+    requires room { first + length operands.now ≤ length values.old }
+    requires fit { StepsFit (steps_with K.kind operands.now) first values.old
+        (array_words arrays.now) }
+    ensures { values.new ≡ after_steps (steps_with K.kind operands.now) first values.old
+        (array_words arrays.now) }
+{
+    walk_two::<K>(&operands[..2], first, arrays, values);
+    walk_two::<K>(&operands[2..], first + 2, arrays, values);
+}
+
+/// Gives eight cells of one kind their values.
+#[tactic(auto, using(crate::proofs::Steps::halves))]
+fn walk_eight<K: CellOperation>(
+    operands: &[CellOperands],
+    first: usize,
+    arrays: &[Vec<u64>],
+    values: &mut [u64],
+)
+    requires eight { length operands.now ≡ 8 }
+    requires room { first + length operands.now ≤ length values.old }
+    requires fit { StepsFit (steps_with K.kind operands.now) first values.old
+        (array_words arrays.now) }
+    ensures { values.new ≡ after_steps (steps_with K.kind operands.now) first values.old
+        (array_words arrays.now) }
+{
+    walk_four::<K>(&operands[..4], first, arrays, values);
+    walk_four::<K>(&operands[4..], first + 4, arrays, values);
+}
+
+/// Gives the cells of a run of whole eights their values.
+#[tactic(auto, using(crate::proofs::Steps::eights))]
+fn walk_eights<K: CellOperation>(
+    operands: &[CellOperands],
+    first: usize,
+    arrays: &[Vec<u64>],
+    values: &mut [u64],
+)
+    requires eights { length operands.now % 8 ≡ 0 }
+    requires room { first + length operands.now ≤ length values.old }
+    requires fit { StepsFit (steps_with K.kind operands.now) first values.old
+        (array_words arrays.now) }
+    ensures { values.new ≡ after_steps (steps_with K.kind operands.now) first values.old
+        (array_words arrays.now) }
+{
+    for k in 0..operands.len() / 8 {
+        walk_eight::<K>(&operands[8 * k..8 * k + 8], first + 8 * k, arrays, values);
+    }
+}
+
+/// Gives a cell of one kind its value, or none.
+#[tactic(auto, using(crate::proofs::Steps::nothing))]
+fn walk_last<K: CellOperation>(
+    operands: &[CellOperands],
+    first: usize,
+    arrays: &[Vec<u64>],
+    values: &mut [u64],
+)
+    requires few { length operands.now < 2 }
+    requires room { first + length operands.now ≤ length values.old }
+    requires fit { StepsFit (steps_with K.kind operands.now) first values.old
+        (array_words arrays.now) }
+    ensures { values.new ≡ after_steps (steps_with K.kind operands.now) first values.old
+        (array_words arrays.now) }
+{
+    if operands.len() == 1 {
+        walk_one::<K>(operands, first, arrays, values);
+    }
+}
+
+/// Gives up to three cells of one kind their values.
+#[tactic(auto, using(crate::proofs::Steps::halves))]
+fn walk_few<K: CellOperation>(
+    operands: &[CellOperands],
+    first: usize,
+    arrays: &[Vec<u64>],
+    values: &mut [u64],
+)
+    requires few { length operands.now < 4 }
+    requires room { first + length operands.now ≤ length values.old }
+    requires fit { StepsFit (steps_with K.kind operands.now) first values.old
+        (array_words arrays.now) }
+    ensures { values.new ≡ after_steps (steps_with K.kind operands.now) first values.old
+        (array_words arrays.now) }
+{
+    if operands.len() >= 2 {
+        walk_two::<K>(&operands[..2], first, arrays, values);
+        walk_last::<K>(&operands[2..], first + 2, arrays, values);
+    } else {
+        walk_last::<K>(operands, first, arrays, values);
+    }
+}
+
+/// Gives up to seven cells of one kind their values.
+#[tactic(auto, using(crate::proofs::Steps::halves))]
+fn walk_rest<K: CellOperation>(
+    operands: &[CellOperands],
+    first: usize,
+    arrays: &[Vec<u64>],
+    values: &mut [u64],
+)
+    requires few { length operands.now < 8 }
+    requires room { first + length operands.now ≤ length values.old }
+    requires fit { StepsFit (steps_with K.kind operands.now) first values.old
+        (array_words arrays.now) }
+    ensures { values.new ≡ after_steps (steps_with K.kind operands.now) first values.old
+        (array_words arrays.now) }
+{
+    if operands.len() >= 4 {
+        walk_four::<K>(&operands[..4], first, arrays, values);
+        walk_few::<K>(&operands[4..], first + 4, arrays, values);
+    } else {
+        walk_few::<K>(operands, first, arrays, values);
+    }
+}
+
 /// Gives cells of one kind their values, the first of which goes to a place and the others to those after it.
-#[tactic(auto, using(crate::proofs::Steps::walks))]
+///
+/// Eight are walked without a loop, since what a loop asks for each cell costs as much as a cell's own load.
+#[tactic(auto, using(crate::proofs::Steps::halves))]
 fn walk<K: CellOperation>(
     operands: &[CellOperands],
     first: usize,
@@ -30,9 +192,9 @@ fn walk<K: CellOperation>(
     ensures { values.new ≡ after_steps (steps_with K.kind operands.now) first values.old
         (array_words arrays.now) }
 {
-    for k in 0..operands.len() {
-        values[first + k] = K::value(&operands[k], values, arrays);
-    }
+    let eights = operands.len() / 8 * 8;
+    walk_eights::<K>(&operands[..eights], first, arrays, values);
+    walk_rest::<K>(&operands[eights..], first + eights, arrays, values);
 }
 
 /// Gives the cells of a run their values.
