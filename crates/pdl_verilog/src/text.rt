@@ -18,7 +18,7 @@ pub fn reads_back()
 {}
 
 // A netlist that is there has fewer than 2^64 registers and cells, since their number is a `usize`.
-fn count(net: &Netlist)
+fn counts(net: &Netlist)
     ensures { IsCounted net.now }
 {
     prove!(net.regs.len() <= usize::MAX);
@@ -33,6 +33,6 @@ pub fn verilog_text(alloc: Global, net: &Netlist) -> Result<Vec<u8>, NoMemory>
     ensures reads { IfOk result (λ t. Reads t.items net.now) }
 {
     reads_back();
-    count(net);
+    counts(net);
     write_verilog(alloc, net)
 }

@@ -9,7 +9,7 @@ use Rattle.pdl_semantics.specs.Stages.{stage_at, last_stage, goes_to}
 use Rattle.pdl_machine_facts.specs.Slots.{LeadsOn, leads_to}
 use Rattle.pdl_machine_inflight.specs.Readings.{Reading, reading}
 use Rattle.pdl_pipe_answers.specs.Readings.{gets_one, gets_some, gets_answer}
-use Rattle.pdl_pipe_line.specs.MadeLine.{BeginsFirst}
+use Rattle.pdl_pipe_emitted.specs.MadeLine.{BeginsFirst}
 
 -- a stage that may lead to another one does so by some values
 goes_there : (n : Next) (q : ℕ) → leads_to n q ≡ true → (env : List ℕ) × (goes_to n env ≡ Some q)

@@ -43,8 +43,8 @@ use Rattle.pdl_law_follows.specs.Memories.{replies_in}
 use Rattle.pdl_law_follows.specs.Refined.{machine_after}
 use Rattle.pdl_law_follows.proofs.FollowsMade.{follows}
 use Rattle.pdl_law_follows.proofs.HasMems.{has_mems}
-use Rattle.pdl_law_lockruns.specs.Used.{IsUsedLock, IsStageAs}
-use Rattle.pdl_law_lockruns.proofs.RemainingWrites.{left}
+use Rattle.pdl_pipe_emitted.specs.Used.{IsUsedLock, IsStageAs}
+use Rattle.pdl_pipe_emitted.proofs.RemainingWrites.{left}
 
 -- ---- a cycle
 

@@ -29,9 +29,9 @@ use Rattle.pdl_pipe_registers.proofs.Lists.{view_at, some_stage}
 use Rattle.pdl_pipe_nexts.specs.declared.line.StageLine.{StageLine}
 use Rattle.pdl_pipe_nexts.specs.Lines.{line_form, line_pipe, line_views, line_moves, line_kills, ValueAs}
 use Rattle.pdl_pipe_nexts.specs.Nexts.{arriving, kept_signal, staying}
-use Rattle.pdl_pipe_line.specs.MadeLine.{BeginsFirst, AreNextTickets, IsLineMade}
-use Rattle.pdl_pipe_line.proofs.LineGrowth.{made_keep}
-use Rattle.pdl_pipe_line.proofs.SettledItems.{AreShort, calls_short, held_item, settled_stays, arrives_alike, settled_unanswered, held_as_kept}
+use Rattle.pdl_pipe_emitted.specs.MadeLine.{BeginsFirst, AreNextTickets, IsLineMade}
+use Rattle.pdl_pipe_emitted.proofs.LineGrowth.{made_keep}
+use Rattle.pdl_pipe_emitted.proofs.SettledItems.{AreShort, calls_short, held_item, settled_stays, arrives_alike, settled_unanswered, held_as_kept}
 
 -- ---- registers
 

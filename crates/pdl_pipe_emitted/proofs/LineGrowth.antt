@@ -29,7 +29,7 @@ use Rattle.pdl_pipe_nexts.specs.declared.line.StageLine.{StageLine}
 use Rattle.pdl_pipe_nexts.specs.Lines.{IsBit, IsStageNow, IsLineIn, line_form, line_pipe, line_views, line_moves, line_kills}
 use Rattle.pdl_pipe_nexts.specs.Nexts.{TakesNext}
 use Rattle.pdl_pipe_nexts.proofs.LineGrowth.{all_moves_same, kills_same, stage_now, view_same, views_same}
-use Rattle.pdl_pipe_line.specs.MadeLine.{AreNextTickets, IsLineMade}
+use Rattle.pdl_pipe_emitted.specs.MadeLine.{AreNextTickets, IsLineMade}
 use Rattle.pdl_word.specs.Each.{Each}
 use Rattle.pdl_word.proofs.Each.{each_from_all}
 

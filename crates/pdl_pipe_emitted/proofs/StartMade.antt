@@ -23,9 +23,9 @@ use Rattle.pdl_pipe_registers.specs.Staged.{IsStaged}
 use Rattle.pdl_pipe_registers.proofs.Lists.{view_at, some_stage}
 use Rattle.pdl_pipe_nexts.specs.declared.line.StageLine.{StageLine}
 use Rattle.pdl_pipe_nexts.specs.Lines.{line_form, line_pipe, line_views}
-use Rattle.pdl_pipe_line.specs.MadeLine.{BeginsFirst, IsLineMade}
-use Rattle.pdl_pipe_line.proofs.LineGrowth.{made_keep}
-use Rattle.pdl_pipe_line.proofs.StageMade.{starts_at}
+use Rattle.pdl_pipe_emitted.specs.MadeLine.{BeginsFirst, IsLineMade}
+use Rattle.pdl_pipe_emitted.proofs.LineGrowth.{made_keep}
+use Rattle.pdl_pipe_emitted.proofs.StageMade.{starts_at}
 
 starts_zero : (d : Circuit) (p : Pipe) (i : Item) (g : Signal) → IsZero p i g → StartsAs d g (first_value p 0 i)
 starts_zero d p (Var x) g h =

@@ -24,8 +24,8 @@ use Rattle.pdl_pipe_registers.specs.declared.nets.StageNets.{StageNets}
 use Rattle.pdl_pipe_registers.specs.Items.{ended_item, kept_item, comer_item, is_answered, IsZero}
 use Rattle.pdl_pipe_registers.specs.Stages.{view_in, IsThereBegun, HasAnswered, IsCommon, IsSettled}
 use Rattle.pdl_pipe_nexts.proofs.BroughtItems.{none_left, after_first}
-use Rattle.pdl_pipe_line.specs.MadeLine.{BeginsFirst}
-use Rattle.pdl_pipe_line.proofs.Begins.{first_unanswered}
+use Rattle.pdl_pipe_emitted.specs.MadeLine.{BeginsFirst}
+use Rattle.pdl_pipe_emitted.proofs.Begins.{first_unanswered}
 use Rattle.pdl_word.specs.Each.{Each}
 
 const_is : (s : State) (w v : ℕ) (f : Signal) → f ≡ const_signal w v → f.value s ≡ v

@@ -24,8 +24,8 @@ use Rattle.pdl_law_follows.specs.Follows.{IsMade}
 use Rattle.pdl_law_follows.specs.Refined.{machine_after}
 use Rattle.pdl_pipe_walk.specs.declared.locks.MemLock.{MemLock}
 use Rattle.pdl_pipe_walk.specs.Locked.{Members, some_at, of_lock, locks_in}
-use Rattle.pdl_law_lockruns.specs.Used.{IsUsedAs, IsUsedLock, IsUsed}
-use Rattle.pdl_law_lockruns.proofs.LockRuns.{used_made}
+use Rattle.pdl_pipe_emitted.specs.Used.{IsUsedAs, IsUsedLock, IsUsed}
+use Rattle.pdl_pipe_emitted.proofs.LockRuns.{used_made}
 
 -- the lock of a memory, used where it is known by the memory's number, is used as a lock of its lock module
 pub used_lock : {T : Type 0} (l : Members T) (p : Pipe) (c : Circuit) (xs : List (Option (MemLock T))) (vs : ℕ → View)
