@@ -9,7 +9,7 @@ use Rattle.pdl_source_stages.proofs.BodyShape.{body_forked}
 use Rattle.pdl_source_stages.proofs.SiteFacts.{stage_count}
 use Rattle.pdl_source_paths.proofs.PipeFacts.{of_source}
 use Rattle.pdl_theory.proofs.OneStages.{same_lines}
-use Rattle.pdl_source_soundness.proofs.one_stage.Goals as goal
+use Rattle.pdl_source.proofs.soundness.one_stage.Goals as goal
 
 -- a straight statement holds no separator, so a pipe of such has one stage
 none_in : (s : Stmt) → is_straight s ≡ true → separators_in s ≡ 0

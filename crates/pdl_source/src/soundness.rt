@@ -1,8 +1,4 @@
-//! Pipeline refinement and Progress of accepted sources.
-//!
-//! The functions do nothing: the clause of each is a theorem on every pipe that breaks no rule of the language, by the definitions of `pdl_rules`, and on the runs of the machine of `pdl_semantics`.
-#![tactic(auto)]
-
+// Pipeline refinement and Progress of accepted sources: the clause of each function is a theorem on every pipe that breaks no rule of the language, by the definitions of `pdl_rules`, and on the runs of the machine of `pdl_semantics`.
 ghost use Rattle.std.specs.Prelude.{◌≡◌, ℕ, Bool, IsTrue, List, length};
 ghost use Rattle.pdl_semantics.specs.Tree.{Pipe};
 ghost use Rattle.pdl_semantics.specs.Flat.{Arrays};

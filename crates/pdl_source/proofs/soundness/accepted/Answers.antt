@@ -1,7 +1,7 @@
 use Rattle.pdl_semantics.specs.Flatten.{flat}
 use Rattle.pdl_theory.proofs.StatedTheorems.{whole_refines, whole_advances, whole_paces, whole_same}
 use Rattle.pdl_source_paths.proofs.PipeFacts.{of_source}
-use Rattle.pdl_source_soundness.proofs.accepted.Goals as goal
+use Rattle.pdl_source.proofs.soundness.accepted.Goals as goal
 
 pub returns : goal.returns
 returns c = record {
