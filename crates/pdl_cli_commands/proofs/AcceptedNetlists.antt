@@ -28,7 +28,7 @@ use Rattle.pdl_pipe.specs.Locks.{HasLocksOf, any_lock}
 use Rattle.pdl_vlog.specs.Layout.{verilog}
 use Rattle.pdl_vread.specs.Reads.{Reads}
 use Rattle.pdl_netrun_wave.specs.Dumped.{run_dump}
-use Rattle.pdl_wave_dumped.proofs.SourceDumps.{says}
+use Rattle.pdl_source_written.proofs.SourceDumps.{says}
 use Rattle.pdl_netrun_lines.specs.Printed.{run_text, schedule, replies_from}
 use Rattle.pdl_netrun_lines.proofs.RunSteps.{schedule_length}
 use Rattle.pdl_cli_commands.specs.Replies.{all_answered, IsSchedule}

@@ -17,6 +17,7 @@ use std::mem::drop;
 
 // The text of the netlist of an accepted pipe: what is built of whatever file gives the pipe.
 fn text_of(alloc: Global, accepted: &Accepted) -> Result<Vec<u8>, NoMemory>
+    requires { (b : List ℕ) × IsAccepted b (pipe_view accepted.now.typed.pipe) }
     ensures { IfOk result (λ t. (holds : Option Held) (source text : List ℕ)
         → Gives holds source text → IsAccepted text (pipe_view accepted.now.typed.pipe)
         → IsBuilt holds source t.items) }

@@ -21,8 +21,8 @@ use Rattle.pdl_pipe_locks.proofs.LockGrowth.{Stays}
 use Rattle.pdl_law_follows.specs.Follows.{Follows, IsMade}
 use Rattle.pdl_law_follows.specs.Memories.{net_infos}
 use Rattle.pdl_law_follows.proofs.FollowsMade.{follows}
-use Rattle.pdl_law_lockruns.proofs.LockRuns.{stages_made}
-use Rattle.pdl_law_lockruns.proofs.LockCycles.{used_locks}
+use Rattle.pdl_pipe_emitted.proofs.LockRuns.{stages_made}
+use Rattle.pdl_pipe_emitted.proofs.LockCycles.{used_locks}
 use Rattle.pdl_pipe_emitted.specs.Emitted.{views_of, moves_of, gates_of, sides_of}
 use Rattle.pdl_pipe.specs.Emitted.{IsEmitted}
 use Rattle.pdl_pipe.specs.Locks.{HasLocks}

@@ -18,7 +18,7 @@ use Rattle.pdl_law_parts.specs.Compiled.{IsStage}
 use Rattle.pdl_law_parts.specs.States.{held_after}
 use Rattle.pdl_law_sides.specs.WholeNetlist.{replies_of}
 use Rattle.pdl_law_follows.specs.Refined.{machine_after}
-use Rattle.pdl_law_lockruns.specs.Used.{IsUsed, IsStageAs}
+use Rattle.pdl_pipe_emitted.specs.Used.{IsUsed, IsStageAs}
 use Rattle.pdl_pipe_walk.specs.declared.locks.MemLock.{MemLock}
 use Rattle.pdl_pipe_walk.specs.Locked.{Members, some_at, locks_in, AreLocked}
 use Rattle.pdl_pipe_locks.specs.Lawful.{AreLawful}

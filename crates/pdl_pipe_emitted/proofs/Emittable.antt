@@ -18,7 +18,7 @@ use Rattle.pdl_law.proofs.FromRules.{lawful_source}
 use Rattle.pdl_pipe_walk.specs.Sized.{AreWalked}
 use Rattle.pdl_pipe_beside.proofs.ReadStages.{reads_lead_on}
 use Rattle.pdl_pipe_beside.proofs.OrderParts.{forks_fit}
-use Rattle.pdl_pipe_line.proofs.Begins.{leads_up, begins_first}
+use Rattle.pdl_pipe_emitted.proofs.Begins.{leads_up, begins_first}
 use Rattle.pdl_pipe_emitted.specs.Emitted.{CanEmit}
 use Rattle.pdl_pipe_emitted.proofs.MergedForks.{merged_low}
 use Rattle.pdl_word.specs.Each.{Each}

@@ -7,10 +7,10 @@ use Rattle.pdl_pipe_walk.specs.Locked.{Members}
 use Rattle.pdl_pipe_answers.specs.Ports.{answers_in}
 use Rattle.pdl_pipe_registers.specs.Staged.{next_signals}
 use Rattle.pdl_pipe_nexts.specs.Lines.{line_pipe}
-use Rattle.pdl_pipe_line.specs.MadeLine.{AreNextTickets, IsLineMade}
-use Rattle.pdl_pipe_line.proofs.LineGrowth.{locks_next, line_made}
-use Rattle.pdl_pipe_line.proofs.StageMade.{is_stage}
-use Rattle.pdl_pipe_line.proofs.StartMade.{is_start}
+use Rattle.pdl_pipe_emitted.specs.MadeLine.{AreNextTickets, IsLineMade}
+use Rattle.pdl_pipe_emitted.proofs.LineGrowth.{locks_next, line_made}
+use Rattle.pdl_pipe_emitted.proofs.StageMade.{is_stage}
+use Rattle.pdl_pipe_emitted.proofs.StartMade.{is_start}
 use Rattle.pdl_pipe_emitted.specs.Emitted.{Nets, Emission, locks_of, views_of, moves_of, gates_of}
 use Rattle.pdl_pipe_emitted.proofs.LaidGrowth.{keeps_ac, keeps_ce, keeps_ed, stage_nexts}
 

@@ -1,3 +1,11 @@
+pub mod RemainingWrites
+pub mod LockRuns
+pub mod LockCycles
+pub mod Begins
+pub mod LineGrowth
+pub mod SettledItems
+pub mod StageMade
+pub mod StartMade
 pub mod LaidNetlist
 pub mod LaidDeeds
 pub mod LaidGrowth

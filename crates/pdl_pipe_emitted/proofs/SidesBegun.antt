@@ -22,7 +22,7 @@ use Rattle.pdl_pipe_registers.specs.Stages.{IsThereBegun}
 use Rattle.pdl_pipe_registers.specs.Staged.{AreStaged, IsStaged, next_signals}
 use Rattle.pdl_pipe_registers.proofs.Lists.{view_at, some_stage}
 use Rattle.pdl_pipe_nexts.specs.Lines.{line_form, line_pipe}
-use Rattle.pdl_pipe_line.proofs.LineGrowth.{made_keep}
+use Rattle.pdl_pipe_emitted.proofs.LineGrowth.{made_keep}
 use Rattle.pdl_pipe_emitted.specs.Emitted.{Nets, Emission, views_of}
 use Rattle.pdl_pipe_emitted.proofs.SidesGrowth.{keeps_ac, keeps_ad}
 

@@ -26,7 +26,7 @@ use Rattle.pdl_pipe_registers.specs.Staged.{next_signals}
 use Rattle.pdl_pipe_registers.proofs.TicketsMade.{next_at}
 use Rattle.pdl_pipe_nexts.specs.Lines.{line_form, line_pipe, line_views, line_kills}
 use Rattle.pdl_pipe_nexts.proofs.LineGrowth.{bits_there, line_keep, views_same, all_moves_same}
-use Rattle.pdl_pipe_line.proofs.LineGrowth.{made_views_same}
+use Rattle.pdl_pipe_emitted.proofs.LineGrowth.{made_views_same}
 use Rattle.pdl_pipe_tails.specs.Tails.{HasCut, AreTails, IsNextOf}
 use Rattle.pdl_pipe_tails.proofs.LineTails.{has_tails}
 use Rattle.pdl_pipe_emitted.specs.Emitted.{Nets, Emission, locks_of, views_of, moves_of, gates_of, sides_of, clear_of}

@@ -50,7 +50,7 @@ use Rattle.pdl_pipe_locks.specs.Deeds.{steps_in}
 use Rattle.pdl_pipe_locks.specs.Lawful.{AreLawful, AreUnwritten}
 use Rattle.pdl_pipe_locks.specs.Stepped.{own_of, AreStepped, ExtendsLocks}
 use Rattle.pdl_pipe_locks.specs.Suited.{shapes_in}
-use Rattle.pdl_pipe_line.specs.MadeLine.{BeginsFirst}
+use Rattle.pdl_pipe_emitted.specs.MadeLine.{BeginsFirst}
 
 -- ---- what is asked of a form
 

@@ -1,1 +1,3 @@
+pub mod Used
+pub mod MadeLine
 pub mod Emitted

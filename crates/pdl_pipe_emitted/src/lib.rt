@@ -1,4 +1,4 @@
-//! All nets of a pipe in one circuit, emitted one after the other, are what the law of its netlist asks for.
+//! All nets of a pipe in one circuit, emitted one after the other, are what the law of its netlist asks for; and in each cycle of each run of a netlist that is so made each stage is as the machine's, and each lock is used as the machine's threads use it.
 //!
 //! The layer above may use the definitions of `specs/` and the lemmas; no function stands here.
 #![tactic(auto)]

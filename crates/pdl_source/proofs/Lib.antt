@@ -4,3 +4,4 @@ pub mod Statements
 pub mod Texts
 pub mod RunPromises
 mod Examples
+pub mod AcceptedExamples

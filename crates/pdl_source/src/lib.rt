@@ -3,6 +3,8 @@
 //! The functions change nothing: each clause is a theorem on every text of the grammar of `pdl_syntax_grammar`.
 #![tactic(auto)]
 
+mod soundness;
+
 ghost use Rattle.std.specs.Prelude.{ℕ, Bool, IsTrue, List};
 ghost use Rattle.pdl_semantics.specs.Tree.{Pipe};
 ghost use Rattle.pdl_semantics.specs.Flat.{Arrays};
@@ -17,6 +19,8 @@ ghost use Rattle.pdl_theory_derived.specs.Simulation.{SameTurns};
 ghost use Rattle.pdl_theory_facts.specs.Facts.{Sound};
 ghost use Rattle.pdl_theory_states.specs.Strict.{Strict};
 ghost use Rattle.pdl_source_paths.specs.Source.{is_source, is_named};
+
+pub use soundness::{accepted, one_stage};
 
 /// The tree of a text: no two `if`s on expressions begin at one byte, and no variable has the empty name.
 pub fn trees()
@@ -48,7 +52,7 @@ pub fn promises()
         SameTurns (flat p) (turns (flat p) image schedule) (Derived.turns (flat p) image schedule) }
 {
     trees();
-    pdl_source_soundness::accepted();
+    accepted();
 }
 
 /// Every state that a run of such a text comes to passes the whole test of Sound state, with as many turns ended as threads.

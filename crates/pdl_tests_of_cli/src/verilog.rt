@@ -1,10 +1,8 @@
-// Texts that netlists are given, and netlists that differ in one place.
+// Texts that netlists are given.
 ghost use Rattle.std.specs.Prelude.{◌≤◌, length};
 
-use pdl_kit::{NoMemory, Seq};
-use pdl_net::{Cell, Net, Netlist, Reg};
-use pdl_net_same::is_same_netlist;
-use pdl_verilog::verilog_text;
+use pdl_kit::NoMemory;
+use pdl_vlog::write_verilog;
 use pdl_vread::read_verilog;
 use std::alloc::Global;
 
@@ -84,7 +82,7 @@ fn gives(alloc: Global, text: &[u8], wanted: &[u8]) -> bool {
         return false;
     }
     match read_verilog(alloc, text) {
-        Ok(netlist) => is_text(verilog_text(alloc, &netlist), wanted),
+        Ok(netlist) => is_text(write_verilog(alloc, &netlist), wanted),
         Err(_) => false,
     }
 }
@@ -101,66 +99,4 @@ fn gives_texts(rt: HostRuntime) {
     assert!(rt; gives(rt.alloc(), COUNTS, COUNTS));
     assert!(rt; gives(rt.alloc(), LOOSE, COUNTS));
     assert!(rt; gives(rt.alloc(), CELLS, CELLS));
-}
-
-// Puts a register of 2 bits with a reset value in the place of all registers.
-fn put_reg(alloc: Global, netlist: &mut Netlist, reset: u64) {
-    let reg = Reg {
-        width: 2,
-        reset,
-        next: Net::Cell(2),
-    };
-    if let Ok(regs) = Seq::copy_of(alloc, &[reg]) {
-        netlist.regs = regs;
-    }
-}
-
-// Puts a cell in the place of another.
-fn put_cell(alloc: Global, netlist: &mut Netlist, at: usize, cell: Cell) {
-    if let Ok(mut cells) = Vec::from_slice(alloc, netlist.cells.as_slice()) {
-        if let Some(old) = cells.get_mut(at) {
-            *old = cell;
-        }
-        netlist.cells = Seq::from_vec(cells);
-    }
-}
-
-// Whether a netlist is the same as another, as read, with another reset value, with the old one, and with another cell.
-fn compared(alloc: Global, netlist: &Netlist, other: &mut Netlist) -> [bool; 4] {
-    let as_read = is_same_netlist(netlist, other);
-    put_reg(alloc, other, 2);
-    let other_reset = is_same_netlist(netlist, other);
-    put_reg(alloc, other, 3);
-    let old_reset = is_same_netlist(netlist, other);
-    put_cell(alloc, other, 1, Cell::Const { width: 2, value: 2 });
-    let other_cell = is_same_netlist(netlist, other);
-    [as_read, other_reset, old_reset, other_cell]
-}
-
-// The same of a netlist and of what is read of a text.
-fn compared_to_text(alloc: Global, netlist: &Netlist, text: &[u8]) -> Option<[bool; 4]> {
-    if text.len() > 1_000_000 {
-        return None;
-    }
-    match read_verilog(alloc, text) {
-        Ok(mut other) => Some(compared(alloc, netlist, &mut other)),
-        Err(_) => None,
-    }
-}
-
-// The same of two netlists that are read of one text.
-fn compared_as_read(alloc: Global, text: &[u8]) -> Option<[bool; 4]> {
-    if text.len() > 1_000_000 {
-        return None;
-    }
-    match read_verilog(alloc, text) {
-        Ok(netlist) => compared_to_text(alloc, &netlist, text),
-        Err(_) => None,
-    }
-}
-
-// A netlist is the same as another only where the reset values and the cells are.
-#[test]
-fn differs(rt: HostRuntime) {
-    assert!(rt; compared_as_read(rt.alloc(), COUNTS) == Some([true, false, true, false]));
 }

@@ -1,8 +1,8 @@
-//! The text of a netlist, given only where it reads as that netlist: it is written by `pdl_vlog`, read back by `pdl_vread` and compared by `pdl_net_same`.
+//! The text of a netlist, and that it reads as that netlist: `pdl_vlog` writes it, and what is written of a well formed netlist with names of PDL reads as it.
 //!
-//! The layer above may use `verilog_text`.
+//! The layers above may use `verilog_text`, and the theorem: `reads_back`, a call without effect, or its lemma `round_trip`.
 #![tactic(auto)]
 
-pub mod checked;
+mod text;
 
-pub use checked::verilog_text;
+pub use text::{reads_back, verilog_text};

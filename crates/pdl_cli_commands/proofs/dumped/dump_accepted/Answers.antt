@@ -1,5 +1,5 @@
 use Rattle.pdl_syntax_tree.specs.View.{pipe_view}
-use Rattle.pdl_wave_dumped.proofs.SourceDumps.{dumpable}
+use Rattle.pdl_source_written.proofs.SourceDumps.{dumpable}
 use Rattle.pdl_cli_commands.proofs.dumped.dump_accepted.Goals as goal
 
 pub dump_netlist-requires-clause-well : goal.dump_netlist-requires-clause-well

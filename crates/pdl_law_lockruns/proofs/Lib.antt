@@ -1,3 +1,0 @@
-pub mod RemainingWrites
-pub mod LockRuns
-pub mod LockCycles

@@ -1,0 +1,33 @@
+// Pipeline refinement and Progress of accepted sources: the clause of each function is a theorem on every pipe that breaks no rule of the language, by the definitions of `pdl_rules`, and on the runs of the machine of `pdl_semantics`.
+ghost use Rattle.std.specs.Prelude.{◌≡◌, ℕ, Bool, IsTrue, List, length};
+ghost use Rattle.pdl_semantics.specs.Tree.{Pipe};
+ghost use Rattle.pdl_semantics.specs.Flat.{Arrays};
+ghost use Rattle.pdl_semantics.specs.Flatten.{flat};
+ghost use Rattle.pdl_semantics.specs.Lines.{run_lines, sequential_lines};
+ghost use Rattle.pdl_semantics.specs.Promises.{Refines, Advances, KeepsPace};
+ghost use Rattle.pdl_semantics.specs.Cycle.{turns};
+ghost use Rattle.pdl_rules.specs.Refusal.{KeepsRules, is_one_stage};
+ghost use Rattle.pdl_theory_derived.specs.Derived;
+ghost use Rattle.pdl_theory_derived.specs.Simulation.{SameTurns};
+ghost use Rattle.pdl_source_paths.specs.Source.{is_source, is_named};
+
+/// All accepted pipes, with guards, any locks, guesses, delayed reads and forks: each run commits what the sequential run writes, the oldest thread moves, enough threads end, and the machine that the proofs use has the same ports and waits.
+pub fn accepted()
+    ensures refines { (p : Pipe) → KeepsRules p → IsTrue (is_source p) → IsTrue (is_named p) →
+        (image : Arrays) (schedule : List (List Bool)) → Refines (flat p) image schedule }
+    ensures oldest_moves { (p : Pipe) → KeepsRules p → IsTrue (is_source p) → IsTrue (is_named p) →
+        (image : Arrays) (schedule : List (List Bool)) (bits : List Bool) →
+        Advances (flat p) image schedule bits }
+    ensures keeps_pace { (p : Pipe) → KeepsRules p → IsTrue (is_source p) → IsTrue (is_named p) →
+        (image : Arrays) (schedule : List (List Bool)) → KeepsPace (flat p) image schedule }
+    ensures simulation { (p : Pipe) → KeepsRules p → IsTrue (is_source p) → IsTrue (is_named p) →
+        (image : Arrays) (schedule : List (List Bool)) →
+        SameTurns (flat p) (turns (flat p) image schedule) (Derived.turns (flat p) image schedule) }
+{}
+
+/// Accepted pipes of one stage: the lines of each run are those of the sequential run.
+pub fn one_stage()
+    ensures { (p : Pipe) → KeepsRules p → IsTrue (is_source p) → IsTrue (is_named p) →
+        IsTrue (is_one_stage p) → (image : List (List ℕ)) (schedule : List (List Bool)) →
+        run_lines p image schedule ≡ sequential_lines p image (length schedule) }
+{}

@@ -1,0 +1,5 @@
+pub mod Words
+pub mod Sources
+pub mod Names
+pub mod Ports
+pub mod SourceDumps
