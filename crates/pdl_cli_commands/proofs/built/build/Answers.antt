@@ -2,6 +2,9 @@ use Rattle.std.proofs.lemmas.Result.{IfOk-weaker}
 use Rattle.pdl_cli_failure.proofs.InMemory.{made_so}
 use Rattle.pdl_cli_commands.proofs.built.build.Goals as goal
 
+pub text_of-requires : goal.text_of-requires
+text_of-requires g c = let a = c.in_ok-accepted.ensures.ok in (a.0, a.2)
+
 pub returns-clause-ok : goal.returns-clause-ok
 returns-clause-ok g c =
     let a = c.in_ok-accepted.ensures.ok in
