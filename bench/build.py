@@ -1,10 +1,11 @@
 #!/usr/bin/env python3
 """Times `pdl check`, `build` and `run` on the largest pipes, and counts what `build` writes: build.py PDL.
 
-A pipe has 8, 16, 32 or 64 stages and 16 memories behind `bypass(16)`, of which each thread reads and writes a word of each:
-it reads them one after another on its way through the stages, and writes all in the last stage. A line has the cells, the
-registers and the bytes of its text, and the seconds of a processor for each command, the least of five runs; `run` has
-10,000 cycles. docs/measured.md has the figures.
+The pipes are of two kinds. Memories: one has 8, 16, 32 or 64 stages and 16 memories behind `bypass(16)`, of which each thread
+reads and writes a word of each: it reads them one after another on its way through the stages, and writes all in the last
+stage. Variables: one has 2, 16 or 64 stages, and 250 variables of its first stage of which the last one has 230 sums. A line
+has the cells, the registers and the bytes of its text, and the seconds of a processor for each command, the least of five
+runs; `run` has 10,000 cycles of a pipe with memories, and 10 of one with variables. docs/measured.md has the figures.
 """
 
 import pathlib
@@ -15,11 +16,12 @@ import tempfile
 from sim import EMPTY, run, seconds
 
 MEMORIES = range(16)
-CYCLES = 10000
+VARIABLES = range(250)
+SUMS = range(230)
 
 
-def large_pipe(stages):
-    """The pipe with so many stages."""
+def pipe_with_memories(stages):
+    """The pipe with so many stages, and memories that each thread reads and writes."""
     memories = ", ".join(f"m{k}: uint<32>[256] comb lock bypass(16)" for k in MEMORIES)
     texts = [[] for _ in range(stages)]
     texts[0] += ["a = n[7:0];", "b = n[7:0];", "call(n + 32'd7);"]
@@ -31,15 +33,25 @@ def large_pipe(stages):
     return f"pipe p(n: uint<32>)[{memories}] {{\n{body}\n}} start p(32'd0);\n"
 
 
-def measure(program, stages, folder):
+def pipe_with_variables(stages):
+    """The pipe with so many stages, and variables of the first one that long sums of the last one need."""
+    names = [f"x{k}" for k in VARIABLES]
+    first = ["a = n[3:0];", "call(n + 16'd1);"] + [f"{name} = n + 16'd{k};" for k, name in enumerate(names)]
+    last = [f"y{k} = {'+'.join(names[k:] + names[:k])};" for k in SUMS]
+    last += ["acquire(m[a], W);", f"m[a] <- {' ^ '.join(f'y{k}' for k in SUMS)};", "release(m[a]);"]
+    body = "\n---\n".join("\n".join(lines) for lines in [first] + [[]] * (stages - 2) + [last])
+    return f"pipe p(n: uint<16>)[m: uint<16>[16] comb lock queue(16)] {{\n{body}\n}} start p(16'd0);\n"
+
+
+def measure(program, kind, source, stages, cycles, folder):
     """Prints the line of a pipe."""
-    (folder / "source.pdl").write_text(large_pipe(stages))
+    (folder / "source.pdl").write_text(source)
     (folder / "image.img").write_text(EMPTY)
     text = run([program, "build", "source.pdl"], folder)
     registers, cells = (len(re.findall(form, text, re.M)) for form in (r"^reg .* r\d+;$", r"^assign n\d+ = "))
-    commands = [["check", "source.pdl"], ["build", "source.pdl"], ["run", "source.pdl", "image.img", str(CYCLES)]]
+    commands = [["check", "source.pdl"], ["build", "source.pdl"], ["run", "source.pdl", "image.img", str(cycles)]]
     times = "  ".join(f"{words[0]} {seconds([program, *words], folder):.3f} s" for words in commands)
-    print(f"{stages:2} stages {cells:6} cells {registers:6} registers {len(text):7} bytes  {times}", flush=True)
+    print(f"{kind} {stages:2} stages {cells:6} cells {registers:6} registers {len(text):7} bytes  {times}", flush=True)
 
 
 def main():
@@ -51,7 +63,9 @@ def main():
     program = str(pathlib.Path(sys.argv[1]).resolve())
     with tempfile.TemporaryDirectory() as path:
         for stages in (8, 16, 32, 64):
-            measure(program, stages, pathlib.Path(path))
+            measure(program, "memories", pipe_with_memories(stages), stages, 10000, pathlib.Path(path))
+        for stages in (2, 16, 64):
+            measure(program, "variables", pipe_with_variables(stages), stages, 10, pathlib.Path(path))
 
 
 if __name__ == "__main__":

@@ -1,9 +1,11 @@
 //! What a thread still needs from a stage on: the values of variables, whether it holds locations, its tickets.
 //!
-//! The layer above may use `held_from`, `keeps_ticket`, `lives_from` and `verifies_from`.
+//! The layer above may use `Needs`, `held_from` and `keeps_ticket`.
 #![tactic(auto)]
 
+pub mod marks;
 pub mod needs;
-pub mod usage;
+pub mod tickets;
 
-pub use needs::{held_from, keeps_ticket, lives_from, verifies_from};
+pub use needs::{Needs, held_from};
+pub use tickets::{has_lock, keeps_ticket};

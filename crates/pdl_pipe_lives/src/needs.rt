@@ -1,57 +1,156 @@
 // What the statements from a stage on still need.
-ghost use Rattle.std.specs.Prelude.{◌≡◌, ◌<◌, ◌≤◌, ◌&&◌, drop, length, nat_le};
-ghost use Rattle.pdl_semantics.specs.Flat.{has_lock as locks};
-ghost use Rattle.pdl_semantics.specs.Stages.{is_verify, list_any, mem_at, reserve_stage, commit_stage};
+ghost use Rattle.std.specs.Prelude.{◌≡◌, ℕ, ◌<◌, ◌&&◌, ◌||◌, None, drop, length, nat_le, replicate, IfOk};
+ghost use Rattle.pdl_semantics.specs.Stages.{is_verify};
 ghost use Rattle.pdl_form.specs.FormView.{form};
-ghost use Rattle.pdl_form.specs.View.{act_view, lock_view, next_view, stages_view, stmt_view, stmts_view};
+ghost use Rattle.pdl_form.specs.View.{act_view, next_view, stages_view, stmts_view};
 ghost use Rattle.pdl_law_parts.specs.Lives.{lives_from as is_live, held_from as is_asked, asks_held as asks_location, forks_by as goes_by, verifies_from as is_verified};
-ghost use Rattle.pdl_law_parts.specs.Walk.{is_locked};
-ghost use Rattle.pdl_pipe_lives.specs.Needs.{rows_use, any_forks_by, rows_ask, goes_with};
+ghost use Rattle.pdl_pipe_lives.specs.Needs.{rows_use, rows_verify, any_forks_by, lasts as stays, lasts_at, AreMarked, IsMarked, AreNeeds};
 
-use crate::usage::is_using;
-use pdl_form::{FlatPipe, FlatStage, FlatStmt, Lock, Next, Op};
+use crate::marks::{later, mark, mark_statement};
+use pdl_form::{FlatPipe, FlatStage, FlatStmt, Next, Op};
+use pdl_kit::NoMemory;
+use std::alloc::Global;
 
-// Whether a stage forks by a variable.
-fn forks_by(next: &Next, x: usize) -> bool
-    ensures { result ≡ goes_by (next_view next.now) x }
-{
-    match next {
-        Next::Forks { x: y, .. } => *y == x,
-        Next::Ends => false,
-        Next::Goes(_) => false,
-    }
+/// How long a thread needs the values of its variables and the arguments of its guess.
+#[derive(Drop)]
+pub struct Needs {
+    // The last stage that uses a variable, by the number of the variable.
+    uses: Vec<Option<usize>>,
+    // The last stage that verifies the guess.
+    verifies: Option<usize>,
 }
 
-// Whether a statement of the stage or a later one uses a variable.
-fn is_used(stmts: &[FlatStmt], stage: usize, x: usize) -> bool
-    ensures { result ≡ rows_use stage x (stmts_view stmts.now) }
+// The stages of statements use the variables of these.
+fn mark_statements(last: &mut [Option<usize>], stmts: &[FlatStmt])
+    ensures { AreMarked last.old last.new (λ k x. rows_use k x (stmts_view stmts.now)) }
 {
     for s in stmts {
-        if stage <= s.stage && is_using(s, x) {
-            return true;
-        }
+        mark_statement(last, s);
     }
-    false
 }
 
-// Whether one of some stages forks by a variable.
-fn is_fork_var(stages: &[FlatStage], x: usize) -> bool
-    ensures { result ≡ any_forks_by x (stages_view stages.now) }
+// A stage that forks uses the variable that it forks by.
+fn mark_fork(last: &mut [Option<usize>], stage: usize, next: &Next)
+    ensures { IsMarked last.old last.new stage (goes_by (next_view next.now)) }
 {
-    for s in stages {
-        if forks_by(&s.next, x) {
-            return true;
-        }
+    match next {
+        Next::Forks { x, .. } => mark(last, stage, *x),
+        Next::Ends => {}
+        Next::Goes(_) => {}
     }
-    false
 }
 
-/// Whether a statement or a fork of the stage or a later one uses a variable.
-pub fn lives_from(pipe: &FlatPipe, stage: usize, x: usize) -> bool
-    requires { stage ≤ length (form pipe.now).pipe.stages }
-    ensures { result ≡ is_live (form pipe.now).pipe stage x }
+// The stages that fork use the variables that they fork by.
+fn mark_forks(last: &mut [Option<usize>], stages: &[FlatStage])
+    ensures { AreMarked last.old last.new (λ k x.
+        any_forks_by x (drop k (stages_view stages.now))) }
 {
-    is_used(pipe.stmts(), stage, x) || is_fork_var(&pipe.stages()[stage..], x)
+    for (stage, s) in stages.iter().enumerate() {
+        mark_fork(last, stage, &s.next);
+    }
+}
+
+// Whether an operation verifies the guess.
+fn verifies(op: &Op) -> bool
+    ensures { result ≡ is_verify (act_view op.now) }
+{
+    match op {
+        Op::Verify(_) => true,
+        Op::Bind { .. } | Op::CombRead { .. } | Op::DelayedRead { .. } | Op::Write { .. } => false,
+        Op::ReserveRead { .. } | Op::ReserveWrite { .. } | Op::Block { .. } => false,
+        Op::Release { .. } | Op::Call(_) | Op::SpecCall(_) | Op::SpecCheck | Op::SpecBarrier =>
+            false,
+    }
+}
+
+// The last stage that verifies the guess, with one more statement.
+fn with_verify(last: Option<usize>, s: &FlatStmt) -> Option<usize>
+    ensures { (k : ℕ) → stays k result
+        ≡ (stays k last || (nat_le k s.now.stage && is_verify (act_view s.now.op))) }
+{
+    if verifies(&s.op) {
+        Some(later(last, s.stage))
+    } else {
+        last
+    }
+}
+
+// The last stage that verifies the guess.
+fn last_verify(stmts: &[FlatStmt]) -> Option<usize>
+    ensures { (k : ℕ) → stays k result ≡ rows_verify k (stmts_view stmts.now) }
+{
+    let mut last = None;
+    for s in stmts {
+        last = with_verify(last, s);
+    }
+    last
+}
+
+// Whether a last stage, where there is one, is this one or a later one.
+fn lasts(last: Option<usize>, stage: usize) -> bool
+    ensures { result ≡ stays stage last }
+{
+    match last {
+        Some(last) => stage <= last,
+        None => false,
+    }
+}
+
+// The stages of a pipe use the variables that they need.
+fn mark_pipe(last: &mut [Option<usize>], pipe: &FlatPipe)
+    ensures { AreMarked last.old last.new (is_live (form pipe.now).pipe) }
+{
+    mark_statements(last, pipe.stmts());
+    mark_forks(last, pipe.stages());
+}
+
+// None of so many variables is used.
+fn no_uses(alloc: Global, count: usize) -> Result<Vec<Option<usize>>, NoMemory>
+    ensures { IfOk result (λ v. v.items ≡ replicate count None) }
+{
+    Ok(Vec::from_elem(alloc, None, count)?)
+}
+
+// The last stage that uses a variable, by the number of the variable.
+#[tactic(auto, using(crate::proofs::LastStages::unused))]
+fn last_uses(alloc: Global, pipe: &FlatPipe) -> Result<Vec<Option<usize>>, NoMemory>
+    ensures count { IfOk result (λ v. length v.items ≡ length (form pipe.now).widths) }
+    ensures lives { IfOk result (λ v. (k x : ℕ) → x < length (form pipe.now).widths →
+        lasts_at v.items k x ≡ is_live (form pipe.now).pipe k x) }
+{
+    let mut last = no_uses(alloc, pipe.vars())?;
+    mark_pipe(&mut last, pipe);
+    Ok(last)
+}
+
+impl Needs {
+    /// What the threads of a pipe need, by one walk over its statements. The error is that memory ran out.
+    pub fn new(alloc: Global, pipe: &FlatPipe) -> Result<Needs, NoMemory>
+        ensures { IfOk result (λ n. AreNeeds (form pipe.now) n) }
+    {
+        let uses = last_uses(alloc, pipe)?;
+        let verifies = last_verify(pipe.stmts());
+        Ok(Needs { uses, verifies })
+    }
+
+    /// Whether a statement or a fork of the stage or a later one uses a variable of the pipe, whose needs these are.
+    pub fn lives_from(&self, pipe: &FlatPipe, stage: usize, x: usize) -> bool
+        requires needs { AreNeeds (form pipe.now) self.now }
+        requires low { x < length (form pipe.now).widths }
+        ensures { result ≡ is_live (form pipe.now).pipe stage x }
+    {
+        let _vars = pipe.vars();
+        lasts(self.uses[x], stage)
+    }
+
+    /// Whether a statement of the stage or a later one of the pipe, whose needs these are, verifies the guess.
+    pub fn verifies_from(&self, pipe: &FlatPipe, stage: usize) -> bool
+        requires { AreNeeds (form pipe.now) self.now }
+        ensures { result ≡ is_verified (form pipe.now).pipe stage }
+    {
+        let _vars = pipe.vars();
+        lasts(self.verifies, stage)
+    }
 }
 
 // Whether an operation asks whether a location is held.
@@ -73,59 +172,6 @@ pub fn held_from(pipe: &FlatPipe, stage: usize, mem: usize, var: usize) -> bool
 {
     for s in pipe.stmts() {
         if stage <= s.stage && asks_held(&s.op, mem, var) {
-            return true;
-        }
-    }
-    false
-}
-
-// Whether a memory's lock is one.
-fn is_lock(lock: Lock) -> bool
-    ensures { result ≡ locks (lock_view lock) }
-{
-    !matches!(lock, Lock::Plain)
-}
-
-/// Whether a memory has a lock.
-pub fn has_lock(pipe: &FlatPipe, mem: usize) -> bool
-    requires { mem < length (form pipe.now).pipe.mems }
-    ensures { result ≡ is_locked (form pipe.now).pipe mem }
-{
-    let m = &pipe.mems()[mem];
-    is_lock(m.lock)
-}
-
-/// Whether a thread keeps its ticket of a memory's lock in a stage: after that of the reserves, up to that of the releases.
-pub fn keeps_ticket(pipe: &FlatPipe, stage: usize, mem: usize) -> bool
-    requires mem { mem < length (form pipe.now).pipe.mems }
-    requires reserves { length (form pipe.now).pipe.reserves_at ≡ length (form pipe.now).pipe.mems }
-    requires releases { length (form pipe.now).pipe.releases_at ≡ length (form pipe.now).pipe.mems }
-    ensures { result ≡ goes_with (form pipe.now).pipe stage mem }
-{
-    let from = pipe.reserved(mem).unwrap_or(0);
-    let to = pipe.released(mem).unwrap_or(pipe.stages().len());
-    has_lock(pipe, mem) && from < stage && stage <= to
-}
-
-// Whether an operation verifies the guess.
-fn verifies(op: &Op) -> bool
-    ensures { result ≡ is_verify (act_view op.now) }
-{
-    match op {
-        Op::Verify(_) => true,
-        Op::Bind { .. } | Op::CombRead { .. } | Op::DelayedRead { .. } | Op::Write { .. } => false,
-        Op::ReserveRead { .. } | Op::ReserveWrite { .. } | Op::Block { .. } => false,
-        Op::Release { .. } | Op::Call(_) | Op::SpecCall(_) | Op::SpecCheck | Op::SpecBarrier =>
-            false,
-    }
-}
-
-/// Whether a statement of the stage or a later one verifies the guess.
-pub fn verifies_from(pipe: &FlatPipe, stage: usize) -> bool
-    ensures { result ≡ is_verified (form pipe.now).pipe stage }
-{
-    for s in pipe.stmts() {
-        if stage <= s.stage && verifies(&s.op) {
             return true;
         }
     }

@@ -63,7 +63,7 @@ pub ends_keep : (a b : Circuit) (f : Form) (nexts : List Signal) (ss : List Stag
 ends_keep a b f nexts ss e h = each_map (IsEnded a f nexts) (IsEnded b f nexts) ss (λ s q. end_keep a b f nexts s e q) h
 
 earlier_keep : (a b : Circuit) (f : Form) (nexts : List Signal) (x : Earlier) → Keeps a b → IsEarlier a f nexts x → IsEarlier b f nexts x
-earlier_keep a b f nexts x e h = record { ended = ends_keep a b f nexts x.stages.now e h.ended; ways = h.ways; low = h.low; count = h.count }
+earlier_keep a b f nexts x e h = record { ended = ends_keep a b f nexts x.stages.now e h.ended; ways = h.ways; low = h.low; count = h.count; needs = h.needs }
 
 -- by the nets of the next tickets, as they stand in the later circuit
 pub earlier_now : (a b : Circuit) (f : Form) (s : Shared) (x : Earlier) → Keeps a b → IsShared a f s

@@ -22,7 +22,7 @@ use Rattle.pdl_pipe_walk.specs.declared.locks.MemLock.{MemLock}
 use Rattle.pdl_pipe_walk.specs.Locked.{of_lock}
 use Rattle.pdl_pipe_walk.specs.Sized.{IsWalk}
 use Rattle.pdl_pipe_walk.specs.declared.nets.WalkNets.{WalkNets}
-use Rattle.pdl_pipe_lives.specs.Needs.{goes_with}
+use Rattle.pdl_pipe_lives.specs.Needs.{goes_with, AreNeeds}
 use Rattle.pdl_port.specs.Laws.{AnswerSignals}
 use Rattle.pdl_law_sides.specs.Sides.{with_answer}
 use Rattle.pdl_pipe_answers.specs.Ports.{HasAnswers}
@@ -59,12 +59,13 @@ pub record IsEnded (c : Circuit) (f : Form) (nexts : List Signal) (s : StageNets
 abbrev pub AreEnded : Circuit → Form → List Signal → List StageNets → Type 0
 AreEnded c f nexts ss = Each (IsEnded c f nexts) ss
 
--- the stages before one, which may lead to it in these ways
+-- the stages before one, which may lead to it in these ways, and what threads need
 pub record IsEarlier (c : Circuit) (f : Form) (nexts : List Signal) (x : Earlier) : Type 0 where
   pub ended : AreEnded c f nexts x.stages.now
   pub ways : x.ways.now ≡ ways f.pipe (length x.stages.now)
   pub low : Each (λ j. j < length x.stages.now) x.ways.now
   pub count : length nexts ≡ length f.pipe.mems
+  pub needs : AreNeeds f x.needs.now
 
 -- the views of the stages before one
 abbrev pub earlier_views : Circuit → Earlier → ℕ → View

@@ -28,7 +28,6 @@ use pdl_net::Net;
 use pdl_pipe_answers::{gets_answer, with_answers};
 use pdl_pipe_exprs::Bits;
 use pdl_pipe_exprs::exprs::variable;
-use pdl_pipe_lives::lives_from;
 use pdl_pipe_walk::{HeldNet, WalkNets};
 use std::alloc::Global;
 
@@ -136,7 +135,7 @@ fn begin_var(
 {
     let zero = variable(b, shared.zeros.as_slice(), x);
     let stage = earlier.stages.len();
-    if !lives_from(pipe, stage, x) {
+    if !earlier.needs.lives_from(pipe, stage, x) {
         Ok(zero)
     } else if stage == 0 {
         first_var(b, pipe, regs, zero, x)

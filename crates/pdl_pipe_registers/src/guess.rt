@@ -21,7 +21,6 @@ use pdl_net::Net;
 use pdl_pipe_answers::gets_answer;
 use pdl_pipe_exprs::are_same;
 use pdl_pipe_exprs::exprs::variable;
-use pdl_pipe_lives::{lives_from, verifies_from};
 use std::alloc::Global;
 
 // Whether there is a stage that may lead here, and each ends with one net for two items.
@@ -74,7 +73,7 @@ fn twin_of(
     let stage = earlier.stages.len();
     for x in 0..pipe.vars() {
         if end_alike(b, pipe, shared, earlier, Item::Guess(i), Item::Var(x))
-            && lives_from(pipe, stage, x)
+            && earlier.needs.lives_from(pipe, stage, x)
             && !gets_answer(pipe, stage, x)
         {
             return Some(x);
@@ -113,7 +112,7 @@ fn begin_argument(
 {
     let zero = variable(b, shared.zeros.as_slice(), i);
     let stage = earlier.stages.len();
-    if stage == 0 || !verifies_from(pipe, stage) {
+    if stage == 0 || !earlier.needs.verifies_from(pipe, stage) {
         return Ok(zero);
     }
     if let Some(x) = twin_of(b, pipe, shared, earlier, i) {

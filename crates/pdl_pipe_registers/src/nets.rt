@@ -2,6 +2,7 @@
 use pdl_kit::Seq;
 use pdl_net::Net;
 use pdl_pipe_exprs::Bits;
+use pdl_pipe_lives::Needs;
 use pdl_pipe_walk::{HeldNet, WalkNets};
 use pdl_port::PortRegs;
 
@@ -61,9 +62,10 @@ pub struct Shared<'a> {
     pub ports: &'a [Option<PortRegs>],
 }
 
-/// The stages before one, and the numbers of those that may lead to it.
+/// The stages before one, the numbers of those that may lead to it, and what the threads of the pipe need.
 #[derive(Clone, Copy)]
 pub struct Earlier<'a> {
     pub stages: &'a [StageNets],
     pub ways: &'a [usize],
+    pub needs: &'a Needs,
 }

@@ -7,6 +7,7 @@ ghost use Rattle.pdl_pipe_exprs.specs.Conditions.{AreBits};
 ghost use Rattle.pdl_form_types.specs.Stmts.{IsTypedForm, AreWidths};
 ghost use Rattle.pdl_pipe_walk.specs.Locked.{members, AreLocked, locks_in};
 ghost use Rattle.pdl_pipe_walk.specs.Sized.{AreWalked};
+ghost use Rattle.pdl_pipe_lives.specs.Needs.{AreNeeds};
 ghost use Rattle.pdl_pipe_answers.specs.Ports.{HasAnswers, answers_in};
 ghost use Rattle.pdl_pipe_registers.specs.Stages.{zero_signal, end_of};
 ghost use Rattle.pdl_pipe_registers.specs.Begun.{IsShared, AreEnded};
@@ -22,6 +23,7 @@ use pdl_kit::{NoMemory, Seq};
 use pdl_lockapi::LockModule;
 use pdl_net::Net;
 use pdl_pipe_exprs::Bits;
+use pdl_pipe_lives::Needs;
 use pdl_pipe_walk::{MemLock, Setting};
 use pdl_port::PortRegs;
 use std::alloc::Global;
@@ -49,6 +51,7 @@ fn stage<L: LockModule>(
     pipe: &FlatPipe,
     shared: &Shared<'_>,
     locks: &[Option<MemLock<L>>],
+    needs: &Needs,
     before: &[StageNets],
 ) -> Result<StageNets, NoMemory>
     requires typed { IsTypedForm (form pipe.now) }
@@ -56,6 +59,7 @@ fn stage<L: LockModule>(
     requires shared { IsShared b.old (form pipe.now) shared.now }
     requires locks { AreLocked (members L.LockModule) b.old (form pipe.now).pipe locks.now }
     requires next { signals_in b.old shared.now.next ≡ next_signals b.old locks.now }
+    requires needs { AreNeeds (form pipe.now) needs.now }
     requires before { AreEnded b.old (form pipe.now) (signals_in b.old shared.now.next) before.now }
     requires stage { length before.now < length (form pipe.now).pipe.stages }
     requires reserves { length (form pipe.now).pipe.reserves_at ≡ length (form pipe.now).pipe.mems }
@@ -73,6 +77,7 @@ fn stage<L: LockModule>(
     let earlier = Earlier {
         stages: before,
         ways: ways.as_slice(),
+        needs,
     };
     let mut s = begin(alloc, b, pipe, shared, &earlier)?;
     let tickets = s.tickets.as_slice();
@@ -118,6 +123,7 @@ pub fn stages<L: LockModule>(
     ensures apart { IfOk result (λ ss. AreApart (length b.old.regs) (length b.new.regs) ss.items) }
     ensures extends { Extends b.old b.new }
 {
+    let needs = Needs::new(alloc, pipe)?;
     let blank = zeros(alloc, b, pipe)?;
     let next = next_tickets(alloc, locks, bits.zero)?;
     let shared = Shared {
@@ -129,7 +135,7 @@ pub fn stages<L: LockModule>(
     let mut stages = Vec::new(alloc);
     let line = pipe.stages();
     for _ in 0..line.len() {
-        let s = stage(alloc, b, pipe, &shared, locks, stages.as_slice())?;
+        let s = stage(alloc, b, pipe, &shared, locks, &needs, stages.as_slice())?;
         append(&mut stages, s)?;
     }
     Ok(stages)

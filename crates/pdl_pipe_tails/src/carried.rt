@@ -16,7 +16,7 @@ use pdl_form::FlatPipe;
 use pdl_kit::{NoMemory, Seq};
 use pdl_net::Net;
 use pdl_pipe_exprs::exprs::variable;
-use pdl_pipe_lives::needs::has_lock;
+use pdl_pipe_lives::has_lock;
 use pdl_pipe_nexts::StageLine;
 use pdl_pipe_nexts::arrivals::{Arrival, threads_into};
 use std::alloc::Global;

@@ -1,11 +1,12 @@
 // What a thread still needs.
 ghost use Rattle.std.specs.Prelude.{◌≡◌, length, IfOk};
 ghost use Rattle.pdl_form.specs.FormView.{form};
+ghost use Rattle.pdl_pipe_lives.specs.Needs.{AreNeeds};
 
 use crate::form_rows::{memory, statements};
 use pdl_form::{FlatPipe, FlatStage, Next};
 use pdl_kit::NoMemory;
-use pdl_pipe_lives::{held_from, keeps_ticket, lives_from};
+use pdl_pipe_lives::{Needs, held_from, keeps_ticket};
 use std::alloc::Global;
 use std::mem::drop;
 
@@ -24,6 +25,7 @@ const STAGES: [FlatStage; 2] = [
 
 // Two stages: a reserve in the first, its write and its release in the second.
 fn writer(alloc: Global) -> Result<FlatPipe, NoMemory>
+    ensures widths { IfOk result (λ f. length (form f).widths ≡ 1) }
     ensures mems { IfOk result (λ f. length (form f).pipe.mems ≡ 1) }
     ensures stages { IfOk result (λ f. length (form f).pipe.stages ≡ 2) }
     ensures reserves { IfOk result (λ f. length (form f).pipe.reserves_at ≡ 1) }
@@ -39,15 +41,17 @@ fn writer(alloc: Global) -> Result<FlatPipe, NoMemory>
 }
 
 // Whether the address is needed in each stage, whether its lock is held in the second, and whether each keeps its ticket.
-fn needed(flat: &FlatPipe) -> [bool; 5]
+fn needed(flat: &FlatPipe, needs: &Needs) -> [bool; 5]
+    requires needs { AreNeeds (form flat.now) needs.now }
+    requires widths { length (form flat.now).widths ≡ 1 }
     requires mems { length (form flat.now).pipe.mems ≡ 1 }
     requires stages { length (form flat.now).pipe.stages ≡ 2 }
     requires reserves { length (form flat.now).pipe.reserves_at ≡ 1 }
     requires releases { length (form flat.now).pipe.releases_at ≡ 1 }
 {
     [
-        lives_from(flat, 0, 0),
-        lives_from(flat, 1, 0),
+        needs.lives_from(flat, 0, 0),
+        needs.lives_from(flat, 1, 0),
         held_from(flat, 1, 0, 0),
         keeps_ticket(flat, 0, 0),
         keeps_ticket(flat, 1, 0),
@@ -57,7 +61,8 @@ fn needed(flat: &FlatPipe) -> [bool; 5]
 #[test]
 fn needs(rt: HostRuntime) -> Result<(), NoMemory> {
     let flat = writer(rt.alloc())?;
-    let needed = needed(&flat);
+    let needs = Needs::new(rt.alloc(), &flat)?;
+    let needed = needed(&flat, &needs);
     drop(flat);
     assert!(rt; needed == [true, false, true, false, true]);
     Ok(())

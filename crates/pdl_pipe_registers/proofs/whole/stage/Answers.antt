@@ -28,6 +28,7 @@ begin-requires-clause-earlier g c =
       ways = is;
       low = subst (Each (λ j. j < length ss)) (sym is) (each_way f.pipe (length ss) (λ j. j < length ss) (λ j l. l));
       count = length_signals c.args.b.now c.args.shared.now.next ∙ c.requires.shared.next_count;
+      needs = c.requires.needs;
     }
 
 pub walk-requires-clause-bits : goal.walk-requires-clause-bits

@@ -1,0 +1,71 @@
+-- Last stages of variables, as one use after another is marked.
+use Rattle.std.proofs.Common.{◌≡◌, ◌∙◌, ℕ, zero, suc, ◌+◌, ◌-◌, ◌<◌, ◌≤◌, Bool, true, false, List, ◌∷◌, drop, replicate, None, refl, sym, ap, ap₂, subst, inl, inr, arith}
+use Rattle.std.specs.Prelude.{◌&&◌, ◌||◌, ◌⊎◌, Option, nat_le}
+use Rattle.std.proofs.lemmas.Bool.Decides.{leb_tells}
+use Rattle.pdl_semantics.specs.Flat.{Stage}
+use Rattle.pdl_law_parts.specs.Lives.{forks_by}
+use Rattle.pdl_pipe_lives.specs.Needs.{any_forks_by, lasts_at, AreMarked, IsMarked, AreMarkedBut}
+
+or_or : (a b c : Bool) → ((a || b) || c) ≡ (a || (b || c))
+or_or true b c = refl
+or_or false b c = refl
+
+either : (l a b : Bool) → (l && (a || b)) ≡ ((l && a) || (l && b))
+either true a b = refl
+either false a b = refl
+
+module _ (a b c : List (Option ℕ)) (s : ℕ) (u v w : ℕ → Bool) where
+  -- what a stage uses by two ways is marked by one after the other
+  pub both_marked : IsMarked a b s u → IsMarked b c s v → ((x : ℕ) → w x ≡ (u x || v x)) → IsMarked a c s w
+  both_marked h g e = record {
+    count = g.count ∙ h.count;
+    last = λ k x low. g.last k x (subst (λ n. x < n) (sym h.count) low)
+        ∙ ap (λ t. t || (nat_le k s && v x)) (h.last k x low)
+        ∙ or_or (lasts_at a k x) (nat_le k s && u x) (nat_le k s && v x)
+        ∙ ap (λ t. lasts_at a k x || t) (sym (either (nat_le k s) (u x) (v x)) ∙ ap (λ t. nat_le k s && t) (sym (e x)));
+  }
+
+-- what is used in one of two ways is marked by one after the other
+pub all_marked : (a b c : List (Option ℕ)) (u v : ℕ → ℕ → Bool) → AreMarked a b u → AreMarked b c v → AreMarked a c (λ k x. u k x || v k x)
+all_marked a b c u v h g = record {
+  count = g.count ∙ h.count;
+  last = λ k x low. g.last k x (subst (λ n. x < n) (sym h.count) low)
+      ∙ ap (λ t. t || v k x) (h.last k x low)
+      ∙ or_or (lasts_at a k x) (u k x) (v k x);
+}
+
+-- a variable that isn't used lives nowhere
+pub unused : (n k x : ℕ) → lasts_at (replicate n None) k x ≡ false
+unused zero k x = refl
+unused (suc n) k zero = refl
+unused (suc n) k (suc x) = unused n k x
+
+module _ (a b c : List (Option ℕ)) (u rest more whole : ℕ → ℕ → Bool) where
+  -- one use of what is left is marked
+  pub but_more : AreMarkedBut a b rest whole → AreMarked b c u → ((k x : ℕ) → rest k x ≡ (u k x || more k x)) → AreMarkedBut a c more whole
+  but_more h g e = record {
+    count = g.count ∙ h.count;
+    last = λ k x low. ap (λ t. t || more k x) (g.last k x (subst (λ n. x < n) (sym h.count) low))
+        ∙ or_or (lasts_at b k x) (u k x) (more k x)
+        ∙ ap (λ t. lasts_at b k x || t) (sym (e k x))
+        ∙ h.last k x low;
+  }
+
+-- a stage and those after it, of which the stage is the i-th, fork from the k-th on where the stage does, if k is not higher, or a later one
+pub forks_more : (k i x : ℕ) (s : Stage) (ss : List Stage)
+    → any_forks_by x (drop (k - i) (s ∷ ss)) ≡ ((nat_le k i && forks_by s.next x) || any_forks_by x (drop (k - (i + 1)) ss))
+forks_more k i x s ss = by (leb_tells k i)
+  where
+    by : ((nat_le k i ≡ true) × (k ≤ i)) ⊎ ((nat_le k i ≡ false) × (i < k))
+        → any_forks_by x (drop (k - i) (s ∷ ss)) ≡ ((nat_le k i && forks_by s.next x) || any_forks_by x (drop (k - (i + 1)) ss))
+    by (inl q) =
+        let low : k ≤ i = q.1 in
+        let here : k - i ≡ 0 = omega arith in
+        let next : k - (i + 1) ≡ 0 = omega arith in
+        ap (λ n. any_forks_by x (drop n (s ∷ ss))) here
+        ∙ sym (ap₂ (λ t n. (t && forks_by s.next x) || any_forks_by x (drop n ss)) q.0 next)
+    by (inr q) =
+        let low : i < k = q.1 in
+        let here : k - i ≡ suc (k - (i + 1)) = omega arith in
+        ap (λ n. any_forks_by x (drop n (s ∷ ss))) here
+        ∙ sym (ap (λ t. (t && forks_by s.next x) || any_forks_by x (drop (k - (i + 1)) ss)) q.0)

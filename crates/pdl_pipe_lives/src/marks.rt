@@ -1,0 +1,104 @@
+// The last stage that uses a variable, noted expression by expression.
+ghost use Rattle.std.specs.Prelude.{◌≡◌, ◌<◌, ◌==◌, length};
+ghost use Rattle.pdl_form.specs.View.{expr_view, exprs_view, act_view, guards_view, stmt_view};
+ghost use Rattle.pdl_law_parts.specs.Lives.{uses_var, are_using, op_uses, guards_use, row_uses};
+ghost use Rattle.pdl_pipe_lives.specs.Needs.{IsLater, IsMarked};
+
+use pdl_form::{FlatExpr, FlatGuard, FlatStmt, Op};
+
+// The later one of a stage and the last one so far.
+pub(crate) fn later(last: Option<usize>, stage: usize) -> usize
+    ensures { IsLater last stage result }
+{
+    match last {
+        Some(other) if stage < other => other,
+        _ => stage,
+    }
+}
+
+/// A stage uses a variable.
+pub(crate) fn mark(last: &mut [Option<usize>], stage: usize, x: usize)
+    ensures { IsMarked last.old last.new stage (λ y. x == y) }
+{
+    if x < last.len() {
+        last[x] = Some(later(last[x], stage));
+    }
+}
+
+// A stage uses the variables of an expression.
+fn mark_expression(last: &mut [Option<usize>], stage: usize, e: &FlatExpr)
+    ensures { IsMarked last.old last.new stage (uses_var (expr_view e.now)) }
+{
+    match e {
+        FlatExpr::Constant { .. } => {}
+        FlatExpr::Variable(x) => mark(last, stage, *x),
+        FlatExpr::Slice { x, .. } => mark(last, stage, *x),
+        FlatExpr::Not { a, .. } => mark_expression(last, stage, a.get()),
+        FlatExpr::Binary { a, b, .. } => {
+            mark_expression(last, stage, a.get());
+            mark_expression(last, stage, b.get());
+        }
+        FlatExpr::Cat { a, b, .. } => {
+            mark_expression(last, stage, a.get());
+            mark_expression(last, stage, b.get());
+        }
+        FlatExpr::LessSigned { a, b, .. } => {
+            mark_expression(last, stage, a.get());
+            mark_expression(last, stage, b.get());
+        }
+        FlatExpr::ZeroExtend { a, .. } => mark_expression(last, stage, a.get()),
+        FlatExpr::SignExtend { a, .. } => mark_expression(last, stage, a.get()),
+        FlatExpr::Choose { c, a, b } => {
+            mark_expression(last, stage, c.get());
+            mark_expression(last, stage, a.get());
+            mark_expression(last, stage, b.get());
+        }
+    }
+}
+
+// A stage uses the variables of some expressions.
+fn mark_expressions(last: &mut [Option<usize>], stage: usize, es: &[FlatExpr])
+    ensures { IsMarked last.old last.new stage (are_using (exprs_view es.now)) }
+{
+    for e in es {
+        mark_expression(last, stage, e);
+    }
+}
+
+// A stage uses the variables of an operation; a write and a release find their location without its address.
+fn mark_operation(last: &mut [Option<usize>], stage: usize, op: &Op)
+    ensures { IsMarked last.old last.new stage (op_uses (act_view op.now)) }
+{
+    match op {
+        Op::Bind { e, .. } => mark_expression(last, stage, e),
+        Op::CombRead { a, .. } => mark(last, stage, *a),
+        Op::DelayedRead { a, .. } => mark(last, stage, *a),
+        Op::Write { e, .. } => mark_expression(last, stage, e),
+        Op::ReserveWrite { a, .. } => mark(last, stage, *a),
+        Op::Block { a, .. } => mark(last, stage, *a),
+        Op::Call(args) => mark_expressions(last, stage, args.as_slice()),
+        Op::SpecCall(args) => mark_expressions(last, stage, args.as_slice()),
+        Op::Verify(args) => mark_expressions(last, stage, args.as_slice()),
+        Op::ReserveRead { .. } => {}
+        Op::Release { .. } => {}
+        Op::SpecCheck => {}
+        Op::SpecBarrier => {}
+    }
+}
+
+// A stage uses the variables of some guards.
+fn mark_guards(last: &mut [Option<usize>], stage: usize, gs: &[FlatGuard])
+    ensures { IsMarked last.old last.new stage (guards_use (guards_view gs.now)) }
+{
+    for g in gs {
+        mark(last, stage, g.var);
+    }
+}
+
+/// The stage of a statement uses the variables of the statement and of its guards.
+pub(crate) fn mark_statement(last: &mut [Option<usize>], s: &FlatStmt)
+    ensures { IsMarked last.old last.new s.now.stage (row_uses (stmt_view s.now)) }
+{
+    mark_guards(last, s.stage, s.guards.as_slice());
+    mark_operation(last, s.stage, &s.op);
+}
