@@ -1,4 +1,4 @@
-//! What no row of tests/ can ask of the program: sinks that fail, runs held against the machines of their pipes, and calls whose answers it doesn't print.
+//! What no row of tests/ can ask of the program: files and sinks that fail, and runs held against the machines of their pipes.
 //!
 //! It has tests alone, and nothing stands on it.
 #![tactic(auto)]
@@ -8,15 +8,7 @@ mod asked;
 #[cfg(test)]
 mod cuts;
 #[cfg(test)]
-mod delayed;
-#[cfg(test)]
-mod delayed_chances;
-#[cfg(test)]
-mod delayed_runs;
-#[cfg(test)]
 mod faults;
-#[cfg(test)]
-mod generated;
 #[cfg(test)]
 mod late;
 #[cfg(test)]
@@ -24,12 +16,4 @@ mod lines;
 #[cfg(test)]
 mod machine;
 #[cfg(test)]
-mod plans;
-#[cfg(test)]
 mod random;
-#[cfg(test)]
-mod threads;
-#[cfg(test)]
-mod verilog;
-#[cfg(test)]
-mod widths;

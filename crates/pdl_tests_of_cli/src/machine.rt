@@ -109,8 +109,8 @@ fn machine_lines(
     Ok(text)
 }
 
-/// The image of a text for the memories of a pipe.
-pub fn image_of(alloc: Global, accepted: &Accepted, text: &[u8]) -> Result<Image, FileError>
+// The image of a text for the memories of a pipe.
+fn image_of(alloc: Global, accepted: &Accepted, text: &[u8]) -> Result<Image, FileError>
     requires { length text.now ≤ LONGEST_FILE }
     ensures { IfOk result (λ i. IsImage (infos_of (pipe_view accepted.now.typed.pipe).mems) i) }
 {

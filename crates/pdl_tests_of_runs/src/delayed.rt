@@ -8,7 +8,7 @@ ghost use Rattle.pdl_rules.specs.Memories.{infos_of};
 
 use crate::delayed_chances::CHANCES;
 use crate::delayed_runs::{BURSTS, DelayedCounts, DelayedRun, STEADY};
-use crate::machine::image_of;
+use crate::images::image_of;
 use pdl_check::Accepted;
 use pdl_check::check::check;
 use pdl_image::{FileError, Image, read_image};

@@ -4,8 +4,7 @@ ghost use Rattle.pdl_syntax_tree.specs.View.{pipe_view};
 ghost use Rattle.pdl_image.specs.Images.{IsImage};
 ghost use Rattle.pdl_rules.specs.Memories.{infos_of};
 
-use crate::faults::COUNTER;
-use crate::machine::image_of;
+use crate::images::{COUNTER, image_of};
 use pdl_check::Accepted;
 use pdl_check::check::check;
 use pdl_image::Image;

@@ -1,7 +1,7 @@
 use Rattle.std.proofs.Common.{◌≡◌, ◌+◌, ◌≤◌, drop, length}
 use Rattle.std.specs.Prelude.{filter_map}
 use Rattle.pdl_net.specs.Circuit.{port_output}
-use Rattle.pdl_tests_of_cli.proofs.delayed.count_outputs.Given as goal
+use Rattle.pdl_tests_of_runs.proofs.delayed.count_outputs.Given as goal
 
 -- those so far, and those to come
 abbrev pub invariant-loop-port : goal.invariant-loop-port

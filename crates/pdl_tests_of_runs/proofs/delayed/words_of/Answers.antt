@@ -1,6 +1,6 @@
 use Rattle.std.proofs.Common.{◌≢◌, ◌≤◌, All, AllPairs, subst, sym}
 use Rattle.pdl_vread.proofs.Memories.{mems_differ, mems_wide}
-use Rattle.pdl_tests_of_cli.proofs.delayed.words_of.Goals as goal
+use Rattle.pdl_tests_of_runs.proofs.delayed.words_of.Goals as goal
 
 pub read_image-requires-clause-names : goal.read_image-requires-clause-names
 read_image-requires-clause-names c = subst (AllPairs (λ a b. a.name ≢ b.name)) (sym c.as_slice.ensures) (mems_differ c.args.netlist.now c.requires.well)
