@@ -9,10 +9,9 @@ registers and the bytes of its text, and the seconds of a processor for each com
 
 import pathlib
 import re
-import sys
 import tempfile
 
-from sim import EMPTY, run, seconds
+from sim import EMPTY, run, seconds, usage
 
 MEMORIES = range(16)
 CYCLES = 10000
@@ -43,16 +42,11 @@ def measure(program, stages, folder):
 
 
 def main():
-    if "--help" in sys.argv:
-        print(__doc__.strip())
-        return
-    if len(sys.argv) != 2:
-        sys.exit(__doc__)
-    program = str(pathlib.Path(sys.argv[1]).resolve())
+    program = usage.program(usage.words(__doc__, 1, 1)[0])
     with tempfile.TemporaryDirectory() as path:
         for stages in (8, 16, 32, 64):
             measure(program, stages, pathlib.Path(path))
 
 
 if __name__ == "__main__":
-    main()
+    usage.runs(main)

@@ -11,6 +11,9 @@ import subprocess
 import sys
 import tempfile
 
+sys.path.append(str(pathlib.Path(__file__).resolve().parent.parent / "tools"))
+import usage
+
 EXAMPLES = pathlib.Path(__file__).resolve().parent.parent / "examples"
 RUNS = 5
 # A loop without end, in which each turn writes a word of data.
@@ -53,16 +56,11 @@ def measure(program, cycles, folder):
 
 
 def main():
-    if "--help" in sys.argv:
-        print(__doc__.strip())
-        return
-    if len(sys.argv) not in (2, 3):
-        sys.exit(__doc__)
-    program = str(pathlib.Path(sys.argv[1]).resolve())
-    cycles = sys.argv[2] if len(sys.argv) == 3 else "1000000"
+    given = usage.words(__doc__, 1, 2)
+    program, cycles = usage.program(given[0]), str(usage.number(*given[1:2] or ["1000000"]))
     with tempfile.TemporaryDirectory() as path:
         measure(program, cycles, pathlib.Path(path))
 
 
 if __name__ == "__main__":
-    main()
+    usage.runs(main)

@@ -45,5 +45,5 @@ def main(program, sources):
 
 
 if __name__ == "__main__":
-    program, *sources = usage.words(__doc__, 2, sys.maxsize)
+    program, *sources = usage.words(__doc__, 2)
     main(program, sources)
