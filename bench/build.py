@@ -3,7 +3,7 @@
 
 A pipe has 8, 16, 32 or 64 stages and 16 memories behind `bypass(16)`, of which each thread reads and writes a word of each:
 it reads them one after another on its way through the stages, and writes all in the last stage. A line has the cells, the
-registers and the bytes of its text, and the seconds of a processor for each command, the least of five runs; `run` has
+registers and the bytes of its text, and the CPU seconds for each command, the least of five runs; `run` has
 10,000 cycles. docs/measured.md has the figures.
 """
 

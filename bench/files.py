@@ -2,7 +2,7 @@
 """Times and weighs a program `pdl` on long files of each kind: files.py PDL [MEBIBYTES [KIND ..]]
 
 Each file has 256 MiB, or so many as are given, but the sources of 1 MiB and the image that sets all words. A line has the
-file, its bytes, the seconds of a processor, the greatest memory in MB, how many bytes of it stand for a byte of the file, and
+file, its bytes, the CPU seconds, the greatest memory in MB, how many bytes of it stand for a byte of the file, and
 the answer, of which only the end is shown. Memory is bounded at 10 GiB, so that `no memory` can be an answer. A KIND is the
 first word of a file's name. docs/measured.md has the figures.
 """

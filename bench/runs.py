@@ -2,7 +2,7 @@
 """Times and weighs a program `pdl` on long runs: runs.py PDL [CYCLES]
 
 A run has 1,000,000 cycles, or threads of `seq`, or so many as are given, and its output is thrown away. It prints the rows of
-a table: the run, the bytes that it writes, the seconds of a processor and the greatest memory, both the least of five runs.
+a table: the run, the bytes that it writes, the CPU seconds and the greatest memory, both the least of five runs.
 It needs GNU time. docs/measured.md has the figures.
 """
 
@@ -36,7 +36,7 @@ def written(words):
 
 
 def used(words, folder):
-    """The seconds of a processor and the kilobytes of memory that a command takes."""
+    """The CPU seconds and the kilobytes of memory that a command takes."""
     told = folder / "used"
     subprocess.run(["time", "-f", "%U %S %M", "-o", told, *words], stdout=subprocess.DEVNULL, check=True)
     user, system, kilobytes = told.read_text().split()

@@ -6,7 +6,7 @@
 PDL is the program. It needs `iverilog`, `vvp`, `verilator`, a C++ compiler and `valgrind`. Three pipes are built: the
 load/store machine of five stages with a bypass lock, one of 64 stages, and one with eight memories that are all
 read and written in each thread; then each SOURCE, with the words of its IMAGE. All three have to end as many threads.
-The start of a program is measured by a run of no cycle, and taken off. A time is that of a processor, the least of
+The start of a program is measured by a run of no cycle, and taken off. A time is CPU time, the least of
 five runs, and the instructions of `pdl sim` are counted by `valgrind`, over fewer cycles.
 docs/measured.md has the figures.
 """
@@ -76,7 +76,7 @@ def run(words, folder):
 
 
 def seconds(words, folder):
-    """How much time of a processor a command takes, the least of some runs."""
+    """How much CPU time a command takes, the least of some runs."""
     times = []
     for k in range(RUNS + 1):
         if k:
