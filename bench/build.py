@@ -4,16 +4,15 @@
 The pipes are of two kinds. Memories: one has 8, 16, 32 or 64 stages and 16 memories behind `bypass(16)`, of which each thread
 reads and writes a word of each: it reads them one after another on its way through the stages, and writes all in the last
 stage. Variables: one has 2, 16 or 64 stages, and 250 variables of its first stage of which the last one has 230 sums. A line
-has the cells, the registers and the bytes of its text, and the seconds of a processor for each command, the least of five
+has the cells, the registers and the bytes of its text, and the CPU seconds for each command, the least of five
 runs; `run` has 10,000 cycles of a pipe with memories, and 10 of one with variables. docs/measured.md has the figures.
 """
 
 import pathlib
 import re
-import sys
 import tempfile
 
-from sim import EMPTY, run, seconds
+from sim import EMPTY, run, seconds, usage
 
 MEMORIES = range(16)
 VARIABLES = range(250)
@@ -55,12 +54,7 @@ def measure(program, kind, source, stages, cycles, folder):
 
 
 def main():
-    if "--help" in sys.argv:
-        print(__doc__.strip())
-        return
-    if len(sys.argv) != 2:
-        sys.exit(__doc__)
-    program = str(pathlib.Path(sys.argv[1]).resolve())
+    program = usage.program(usage.words(__doc__, 1, 1)[0])
     with tempfile.TemporaryDirectory() as path:
         for stages in (8, 16, 32, 64):
             measure(program, "memories", pipe_with_memories(stages), stages, 10000, pathlib.Path(path))
@@ -69,4 +63,4 @@ def main():
 
 
 if __name__ == "__main__":
-    main()
+    usage.runs(main)

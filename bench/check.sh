@@ -2,6 +2,11 @@
 # Times `check` of a program `pdl`, which is given, on sources that ask most of it; prints each answer with its seconds.
 # The last source has 256 MiB; its memory is measured too where GNU time is there. docs/measured.md has the figures.
 set -u
+if [ "$*" = --help ]; then
+    sed -n '2,/^set/ { s/^# //p }' "${BASH_SOURCE[0]}"
+    exit 0
+fi
+[ $# -eq 1 ] && [ -x "$1" ] || { echo "check.sh: it takes one word, a program; --help tells how it is called" >&2; exit 1; }
 program=$(realpath "$1") || exit 1
 folder=$(mktemp -d) || exit 1
 trap 'rm -rf "$folder"' EXIT

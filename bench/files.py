@@ -2,7 +2,7 @@
 """Times and weighs a program `pdl` on long files of each kind: files.py PDL [MEBIBYTES [KIND ..]]
 
 Each file has 256 MiB, or so many as are given, but the sources of 1 MiB and the image that sets all words. A line has the
-file, its bytes, the seconds of a processor, the greatest memory in MB, how many bytes of it stand for a byte of the file, and
+file, its bytes, the CPU seconds, the greatest memory in MB, how many bytes of it stand for a byte of the file, and
 the answer, of which only the end is shown. Memory is bounded at 10 GiB, so that `no memory` can be an answer. A KIND is the
 first word of a file's name. docs/measured.md has the figures.
 """
@@ -12,6 +12,9 @@ import resource
 import subprocess
 import sys
 import tempfile
+
+sys.path.append(str(pathlib.Path(__file__).resolve().parent.parent / "tools"))
+import usage
 
 BOUND = 10 << 30
 HEAD = ("pipe p(n: uint<4>)[m: uint<8>[4] comb lock queue(1)] { a = n[1:0]; v = zext(n, 8); reserve(m[a], W); block(m[a]); "
@@ -122,7 +125,11 @@ def ask(program, words, folder):
     return " ".join(answer) or f"status {ran.returncode}", used.ru_utime + used.ru_stime, used.ru_maxrss * 1024
 
 
-def main(program, mebibytes=256, *kinds):
+def main():
+    given = usage.words(__doc__, 1)
+    program, mebibytes, kinds = usage.program(given[0]), usage.number(*given[1:2] or ["256"], least=1), given[2:]
+    for kind in set(kinds) - {file.split()[0] for file in FILES}:
+        usage.ends(f"no file's name begins with `{kind}`")
     with tempfile.TemporaryDirectory() as name:
         folder = pathlib.Path(name)
         for path, text in {"a.pdl": HEAD + CALL, "wide.pdl": WIDE, "fetch.pdl": FETCH, "e.img": "image 1\n", "t.toml": TABLE, "t.asm": ".word 1\n"}.items():
@@ -131,16 +138,11 @@ def main(program, mebibytes=256, *kinds):
         for file, (words, pieces) in FILES.items():
             if kinds and file.split()[0] not in kinds:
                 continue
-            put(folder / "long", pieces(int(mebibytes) << 20))
+            put(folder / "long", pieces(mebibytes << 20))
             size = (folder / "long").stat().st_size
-            answer, seconds, memory = ask(os.path.abspath(program), words.replace("_", "long").split(), folder)
+            answer, seconds, memory = ask(program, words.replace("_", "long").split(), folder)
             print(f"| {file} | {size} | {seconds:.1f} | {memory / 1e6:.0f} | {memory / size:.1f} | `{answer}` |", flush=True)
 
 
 if __name__ == "__main__":
-    if "--help" in sys.argv:
-        print(__doc__.strip())
-    elif len(sys.argv) < 2:
-        sys.exit(__doc__)
-    else:
-        main(*sys.argv[1:])
+    usage.runs(main)

@@ -2,7 +2,7 @@
 """Times and weighs a program `pdl` on long runs: runs.py PDL [CYCLES]
 
 A run has 1,000,000 cycles, or threads of `seq`, or so many as are given, and its output is thrown away. It prints the rows of
-a table: the run, the bytes that it writes, the seconds of a processor and the greatest memory, both the least of five runs.
+a table: the run, the bytes that it writes, the CPU seconds and the greatest memory, both the least of five runs.
 It needs GNU time. docs/measured.md has the figures.
 """
 
@@ -10,6 +10,9 @@ import pathlib
 import subprocess
 import sys
 import tempfile
+
+sys.path.append(str(pathlib.Path(__file__).resolve().parent.parent / "tools"))
+import usage
 
 EXAMPLES = pathlib.Path(__file__).resolve().parent.parent / "examples"
 RUNS = 5
@@ -33,7 +36,7 @@ def written(words):
 
 
 def used(words, folder):
-    """The seconds of a processor and the kilobytes of memory that a command takes."""
+    """The CPU seconds and the kilobytes of memory that a command takes."""
     told = folder / "used"
     subprocess.run(["time", "-f", "%U %S %M", "-o", told, *words], stdout=subprocess.DEVNULL, check=True)
     user, system, kilobytes = told.read_text().split()
@@ -53,16 +56,11 @@ def measure(program, cycles, folder):
 
 
 def main():
-    if "--help" in sys.argv:
-        print(__doc__.strip())
-        return
-    if len(sys.argv) not in (2, 3):
-        sys.exit(__doc__)
-    program = str(pathlib.Path(sys.argv[1]).resolve())
-    cycles = sys.argv[2] if len(sys.argv) == 3 else "1000000"
+    given = usage.words(__doc__, 1, 2)
+    program, cycles = usage.program(given[0]), str(usage.number(*given[1:2] or ["1000000"]))
     with tempfile.TemporaryDirectory() as path:
         measure(program, cycles, pathlib.Path(path))
 
 
 if __name__ == "__main__":
-    main()
+    usage.runs(main)

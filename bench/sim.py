@@ -6,7 +6,7 @@
 PDL is the program. It needs `iverilog`, `vvp`, `verilator`, a C++ compiler and `valgrind`. Three pipes are built: the
 load/store machine of five stages with a bypass lock, one of 64 stages, and one with eight memories that are all
 read and written in each thread; then each SOURCE, with the words of its IMAGE. All three have to end as many threads.
-The start of a program is measured by a run of no cycle, and taken off. A time is that of a processor, the least of
+The start of a program is measured by a run of no cycle, and taken off. A time is CPU time, the least of
 five runs, and the instructions of `pdl sim` are counted by `valgrind`, over fewer cycles.
 docs/measured.md has the figures.
 """
@@ -17,6 +17,9 @@ import resource
 import subprocess
 import sys
 import tempfile
+
+sys.path.append(str(pathlib.Path(__file__).resolve().parent.parent / "tools"))
+import usage
 
 ROOT = pathlib.Path(__file__).resolve().parent.parent
 EMPTY = "image 1\n"
@@ -73,7 +76,7 @@ def run(words, folder):
 
 
 def seconds(words, folder):
-    """How much time of a processor a command takes, the least of some runs."""
+    """How much CPU time a command takes, the least of some runs."""
     times = []
     for k in range(RUNS + 1):
         if k:
@@ -182,20 +185,17 @@ def measure(name, program, source, image, cycles):
 
 
 def main():
-    if "--help" in sys.argv:
-        print(__doc__.strip())
-        return
-    if len(sys.argv) < 2:
-        sys.exit(__doc__)
-    program = str(pathlib.Path(sys.argv[1]).resolve())
-    cycles = int(sys.argv[2]) if len(sys.argv) > 2 else 100000
+    given = usage.words(__doc__, 1)
+    program, cycles = usage.program(given[0]), usage.number(*given[1:2] or ["100000"], least=1)
+    if len(given) > 2 and len(given) % 2:
+        usage.ends("a SOURCE has no IMAGE")
     five = (ROOT / "examples" / "loadstore_bypass.pdl").read_text()
     pipes = [("five stages", five, EMPTY), ("64 stages", long_pipe(), EMPTY), ("eight memories", memory_pipe(), EMPTY)]
-    for source, image in zip(sys.argv[3::2], sys.argv[4::2]):
+    for source, image in zip(given[2::2], given[3::2]):
         pipes.append((pathlib.Path(source).stem, pathlib.Path(source).read_text(), pathlib.Path(image).read_text()))
     for name, source, image in pipes:
         measure(name, program, source, image, cycles)
 
 
 if __name__ == "__main__":
-    main()
+    usage.runs(main)

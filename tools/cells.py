@@ -10,7 +10,6 @@ each register between its reset and its next value is a part of the register, an
 import pathlib
 import re
 import subprocess
-import sys
 import tempfile
 
 import usage
@@ -32,7 +31,9 @@ def gates_left(text, folder):
     return sum(int(count) for kind, count in kinds if not STATE.match(kind))
 
 
-def main(program, sources):
+def main():
+    program, *sources = usage.words(__doc__, 2)
+    usage.program(program)
     with tempfile.TemporaryDirectory() as name:
         for source in sources:
             text = subprocess.run([program, "build", source], check=True, capture_output=True, text=True).stdout
@@ -45,5 +46,4 @@ def main(program, sources):
 
 
 if __name__ == "__main__":
-    program, *sources = usage.words(__doc__, 2, sys.maxsize)
-    main(program, sources)
+    usage.runs(main)

@@ -160,8 +160,9 @@ def pipes(chance, count):
             pass
 
 
-def main(words):
-    count, seed, cycles = [*map(int, words), *[1, 50][len(words) - 1 :]]
+def main():
+    words = usage.words(__doc__, 1, 3)
+    count, seed, cycles = [*map(usage.number, words), *[1, 50][len(words) - 1 :]]
     print(HEAD, end="")
     for number, (pipe, layout) in enumerate(pipes(random.Random(seed), count)):
         image = files.read_image(layout.pipe, pipe.image())
@@ -171,4 +172,4 @@ def main(words):
 
 
 if __name__ == "__main__":
-    main(usage.words(__doc__, 1, 3))
+    usage.runs(main)

@@ -17,6 +17,8 @@ import pathlib
 import re
 import sys
 
+import usage
+
 TOP = pathlib.Path(__file__).resolve().parent.parent
 BEGINS = re.compile(r"(?:abbrev|unfoldable|pub|mutual|record|data|private)\b(?! mod\b)(?! use\b)")
 USE = re.compile(r"(?:pub |ghost )?(?:ghost )?use ([\w.]+)(?:\.\{(.*)\})?(?: as (\w+))?;?\s*$")
@@ -150,23 +152,38 @@ class Specs:
 def clauses_of(path, call):
     """What the clauses of a call cite, and what the names of its file stand for."""
     rows = path.read_text().split("\n")
-    begin = next(at for at, row in enumerate(rows) if re.match(rf"\s*pub fn {call}\b", row))
+    begin = next((at for at, row in enumerate(rows) if re.match(rf"\s*pub fn {re.escape(call)}\b", row)), None)
+    if begin is None:
+        usage.ends(f"{path.relative_to(TOP)} has no public call `{call}`")
     end = next(at for at in range(begin, len(rows)) if rows[at].strip() in ("{", "{}"))
     return "\n".join(row for row in rows[begin:end] if not row.strip().startswith("//")), imports_of(rows)
 
 
-def main(words):
-    show = "--names" in words
-    words = [word for word in words if word != "--names"]
-    specs, without = Specs(), []
-    while "--without" in words:
-        at = words.index("--without")
-        crate, file, name = words[at + 1].split(":")
-        without.append(specs.own[crate, file][name])
-        del words[at : at + 2]
-    crate, source, call = words or ["pdl_cli", "src/program.rt", "top"]
+def without_of(specs, told):
+    """The definition that a word of --without tells."""
+    crate, file, name = [*told.split(":"), "", ""][:3]
+    if name not in specs.own.get((crate, file), {}):
+        usage.ends(f"`{told}` is no CRATE:FILE:NAME of a definition")
+    return specs.own[crate, file][name]
+
+
+def main():
+    usage.helps(__doc__)
+    asked = usage.Words()
+    asked.add_argument("call", nargs="*")
+    asked.add_argument("--names", action="store_true")
+    asked.add_argument("--without", action="append", default=[])
+    it = asked.parse_args()
+    if len(it.call) not in (0, 3):
+        usage.ends(f"{len(it.call)} words where it takes CRATE, SOURCE and CALL")
+    specs = Specs()
+    crate, source, call = it.call or ["pdl_cli", "src/program.rt", "top"]
     text, imports = clauses_of(TOP / "crates" / crate / source, call)
-    found = specs.below(specs.named_by(None, text, imports), without)
+    report(specs.below(specs.named_by(None, text, imports), [without_of(specs, told) for told in it.without]), specs, it.names)
+
+
+def report(found, specs, show):
+    """Prints how many definitions and lines there are, by crate and file, and each definition where that is asked."""
     files = collections.defaultdict(lambda: [0, 0])
     for place, it in found:
         files[place][0] += 1
@@ -180,4 +197,5 @@ def main(words):
             print(f"{it.size:4}  {place[0]}/specs/{place[1].replace('.', '/')}.antt:{it.line}  {' '.join(sorted(it.names))}")
 
 
-main(sys.argv[1:])
+if __name__ == "__main__":
+    usage.runs(main)

@@ -17,7 +17,6 @@ import resource
 import shutil
 import signal
 import subprocess
-import sys
 import tempfile
 import threading
 
@@ -192,15 +191,15 @@ class Edge:
 
 
 def main():
-    program = usage.words(__doc__, 1, 1)[0]
+    program = usage.program(usage.words(__doc__, 1, 1)[0])
     # ignored here, so that a program that is started without a change of its signals begins with it ignored
     signal.signal(signal.SIGPIPE, signal.SIG_IGN)
     with tempfile.TemporaryDirectory() as folder:
         edge = Edge(program, pathlib.Path(folder))
         edge.outputs(), edge.stack(), edge.memory(), edge.sources()
     print(f"{sum(edge.counts.values())} cases: " + ", ".join(f"{count} {verdict}" for verdict, count in edge.counts.items()))
-    sys.exit(1 if edge.counts["WRONG"] else 0)
+    return 1 if edge.counts["WRONG"] else 0
 
 
 if __name__ == "__main__":
-    main()
+    usage.runs(main)

@@ -106,7 +106,8 @@ class Growths:
                 return answers
 
 
-def main(program):
+def main():
+    program = usage.program(usage.words(__doc__, 1, 1)[0])
     with tempfile.TemporaryDirectory() as name, concurrent.futures.ThreadPoolExecutor(os.cpu_count()) as pool:
         growths, calls, others, wrong = Growths(program, pathlib.Path(name)), 0, [0, 0], 0
         for case in CASES:
@@ -129,4 +130,4 @@ def main(program):
 
 
 if __name__ == "__main__":
-    main(usage.words(__doc__, 1, 1)[0])
+    usage.runs(main)

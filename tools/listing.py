@@ -1,6 +1,15 @@
-"""Words as the instructions that they are with a table of `pdl asm` (docs/assembler.md), and values as text."""
+#!/usr/bin/env python3
+"""Words as the instructions that they are with a table of `pdl asm` (docs/assembler.md).
 
+    listing.py TABLE WORD..
+
+A WORD is hexadecimal, as in an image. It prints a line for each: the word, and its instruction, or `-` where it is none.
+"""
+
+import pathlib
 import tomllib
+
+import usage
 
 
 class Table:
@@ -38,6 +47,14 @@ class Table:
         return None
 
 
+def read(path):
+    """The table that a file has; where it has none, the tool ends and says so."""
+    try:
+        return Table(pathlib.Path(path).read_text())
+    except (ValueError, KeyError, TypeError, AttributeError) as reason:
+        usage.ends(f"{path} is no table of `pdl asm`: {reason}")
+
+
 def label(names, values, table):
     """The values of these variables, in hexadecimal: those that are bound. One as wide as a table's word is its instruction."""
     shown = []
@@ -47,3 +64,16 @@ def label(names, values, table):
             text = table.instruction(value.value) if table and value.width == table.width else None
             shown.append(text or f"{value.value:0{(value.width + 3) // 4}x}")
     return " ".join(shown)
+
+
+def main():
+    table, *words = usage.words(__doc__, 2)
+    table = read(table)
+    for word in words:
+        if set(word) - set("0123456789abcdef"):
+            usage.ends(f"`{word}` is no word in hexadecimal")
+        print(word, table.instruction(int(word, 16)) or "-")
+
+
+if __name__ == "__main__":
+    usage.runs(main)

@@ -11,7 +11,6 @@ has another table.
 import pathlib
 import re
 import subprocess
-import sys
 import tempfile
 
 import usage
@@ -64,7 +63,12 @@ def table(program, pipe):
                 yield f"| `{lock}` | " + " | ".join(cells) + " |"
 
 
-def main(program, writes):
+def main():
+    program, *more = usage.words(__doc__, 1, 2)
+    usage.program(program)
+    if more not in ([], ["--write"]):
+        usage.ends(f"`{more[0]}` is no word of it")
+    writes = bool(more)
     page = PAGE.read_text()
     pipe = re.search(r"^```pdl\n(.*?)^```$", page, re.M | re.S)[1]
     lines = "".join(line + "\n" for line in table(program, pipe))
@@ -76,7 +80,4 @@ def main(program, writes):
 
 
 if __name__ == "__main__":
-    program, *more = usage.words(__doc__, 1, 2)
-    if more not in ([], ["--write"]):
-        sys.exit(__doc__)
-    sys.exit(main(program, bool(more)))
+    usage.runs(main)

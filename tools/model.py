@@ -39,22 +39,22 @@ def lines_of(command, source, more, delays):
     return show(layout, image, count, rows)
 
 
-def main(words):
-    delays = None
+def main():
+    words, delays = usage.words(__doc__, 2, 6), None
     if "--delays" in words[:-1]:
         at = words.index("--delays")
         delays = words[at + 1]
         words = words[:at] + words[at + 2 :]
     needed = {"check": 2, "run": 4, "view": 4, "ports": 4, "seq": 4}
     if not words or needed.get(words[0]) != len(words):
-        sys.exit(__doc__)
+        usage.ends(f"`{' '.join(words)}` is no call of it")
     try:
         for line in lines_of(words[0], words[1], words[2:], delays):
             print(line)
     except (Refused, files.WrongFile) as refusal:
         print(refusal, file=sys.stderr)
-        sys.exit(2)
+        return 2
 
 
 if __name__ == "__main__":
-    main(usage.words(__doc__, 2, 6))
+    usage.runs(main)

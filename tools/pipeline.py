@@ -11,18 +11,17 @@ into a file that the viewer Konata opens.
 With --show each row begins with the values of these variables of its thread, `pc` and `word` for one. They are those of the
 model in tools/pdl_model, which has to stand where the program says, cycle by cycle. With --table a word of the table's
 memory is shown as the instruction that it is with the table of `pdl asm`. With --why a letter stands in the place of `*`, by
-the model likewise: the first of the conditions of docs/machine.md that keeps the thread where it is. Below the drawing stand
-how often each did so in each stage.
+the model likewise: the first of the conditions of docs/machine.md that keeps the thread where it is. Below the drawing stands
+how often each did so in each stage, and how often threads were squashed there.
 """
 
-import argparse
 import collections
 import pathlib
-import signal
 import subprocess
 import sys
 
 import listing
+import usage
 from pdl_model import files, rules
 from pdl_model.dump import Wave
 from pdl_model import moves as conditions
@@ -31,7 +30,7 @@ from pdl_model.machine import Machine
 
 # Why a thread doesn't move, in the order in which it is asked.
 REASONS = {
-    "a": "awaits an answer", "l": "a lock isn't ready", "q": "a later stage squashes", "r": "a lock has no room",
+    "a": "awaits an answer", "l": "a lock isn't ready", "x": "squashed by a later stage", "r": "a lock has no room",
     "p": "the port of a delayed memory isn't free", "b": "a barrier waits", "n": "the next stage is taken",
     "o": "an older thread is in the other branch"}
 
@@ -151,7 +150,7 @@ def reason(layout, state, answers, deeds, moves, stage):
     if own is None:
         return "a" if set(state.stages[stage].awaited()) - set(answers) else "l"
     return next(letter for letter, holds in {
-        "q": not conditions.fails_later(deeds, moves, stage),
+        "x": not conditions.fails_later(deeds, moves, stage),
         "r": conditions.have_room(layout, state, own),
         "p": conditions.ports_free(state, answers, moves, own),
         "b": conditions.barrier_clear(layout, state, own, stage),
@@ -218,19 +217,18 @@ def squashes_of(program, layout, words, cycles):
 
 
 def main():
-    asked = argparse.ArgumentParser(description=__doc__, formatter_class=argparse.RawDescriptionHelpFormatter)
+    usage.helps(__doc__)
+    asked = usage.Words()
     asked.add_argument("program")
     asked.add_argument("source")
     asked.add_argument("image")
-    asked.add_argument("cycles", type=int)
+    asked.add_argument("cycles", type=usage.number)
     asked.add_argument("--delays")
     asked.add_argument("--konata")
     asked.add_argument("--show", nargs="+", default=[])
     asked.add_argument("--table")
     asked.add_argument("--why", action="store_true")
     it = asked.parse_args()
-    # a reader that stops before the end, as `head` does, ends this program without a word
-    signal.signal(signal.SIGPIPE, signal.SIG_DFL)
     words = [it.source, it.image, str(it.cycles), *(["--delays", it.delays] if it.delays else [])]
     rows = [line.split(" ")[1] for line in said([it.program, "view", *words]).splitlines()]
     layout = rules.checked(pathlib.Path(it.source).read_bytes().decode("latin-1"))
@@ -239,7 +237,10 @@ def main():
         text = pathlib.Path(it.delays).read_text() if it.delays else ""
         image = files.read_image(layout.pipe, pathlib.Path(it.image).read_text())
         found = modelled(layout, image, rows, files.read_delays(layout.pipe, text) if it.delays else [])
-        table = listing.Table(pathlib.Path(it.table).read_text()) if it.table else None
+        table = listing.read(it.table) if it.table else None
+        for name in it.show:
+            if not any(name in bound for bound, _ in found):
+                usage.ends(f"no thread has a variable `{name}`")
         for thread, (bound, why) in zip(threads, found):
             thread.label = listing.label(it.show, bound, table)
             thread.reasons = why if it.why else {}
@@ -251,4 +252,4 @@ def main():
 
 
 if __name__ == "__main__":
-    main()
+    usage.runs(main)

@@ -21,7 +21,6 @@ import pathlib
 import random
 import re
 import subprocess
-import sys
 import tempfile
 from collections import Counter
 
@@ -245,7 +244,8 @@ def compare_all(program, make_pipe, count, seed):
     return 1 if wrong else 0
 
 
-def main(words):
+def main():
+    words = usage.words(__doc__, 1, 4)
     match words:
         case ["promises", *more] if len(more) <= 2:
             return watch_all(*numbers(more))
@@ -253,13 +253,13 @@ def main(words):
             return compare_all(program, plain_pipe, *numbers(more))
         case ["whole", program, *more] if len(more) <= 2:
             return compare_all(program, whole_pipe, *numbers(more))
-    sys.exit(__doc__)
+    usage.ends(f"`{' '.join(words)}` is no call of it")
 
 
 def numbers(words):
     """How many pipes, and the seed."""
-    return [*map(int, words), *[200, 1][len(words) :]]
+    return [*map(usage.number, words), *[200, 1][len(words) :]]
 
 
 if __name__ == "__main__":
-    sys.exit(main(usage.words(__doc__, 1, 4)))
+    usage.runs(main)

@@ -16,7 +16,6 @@ import random
 import re
 import shutil
 import subprocess
-import sys
 import tempfile
 
 import usage
@@ -234,9 +233,8 @@ def random_pipes(program, count, seed, folder):
 
 def main():
     given = usage.words(__doc__, 1, 3)
-    program = str(pathlib.Path(given[0]).resolve())
-    count = int(given[1]) if len(given) > 1 else 200
-    seed = int(given[2]) if len(given) > 2 else 1
+    program = usage.program(given[0])
+    count, seed = map(usage.number, given[1:] + ["200", "1"][len(given) - 1 :])
     asked = wrong = 0
     for words in (["iverilog", "-V"], ["verilator", "--version"], ["yosys", "-V"]):
         print(said(words, ".")[1].splitlines()[0] if shutil.which(words[0]) else f"{words[0]} is not installed")
@@ -253,4 +251,4 @@ def main():
 
 
 if __name__ == "__main__":
-    sys.exit(main())
+    usage.runs(main)

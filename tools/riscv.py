@@ -23,6 +23,7 @@ import tempfile
 
 import riscv_cores
 import riscv_verilator
+import usage
 from riscv_cores import CORES, SLOW, VERSIONS
 
 sys.path.insert(0, str(CORES))
@@ -149,10 +150,8 @@ def by_verilator(pdl, folder):
     return wrong
 
 
-def main(words):
-    if "--help" in words:
-        print(__doc__.strip())
-        return 0
+def main():
+    words = usage.words(__doc__, 1)
     with tempfile.TemporaryDirectory() as folder:
         pdl = os.path.abspath(words[1]) if len(words) > 1 else None
         if words[:1] == ["make"] and len(words) == 1:
@@ -166,9 +165,9 @@ def main(words):
             for table in (figures.versions, figures.guesses, figures.locks):
                 riscv_cores.put_table(table())
         else:
-            sys.exit(__doc__)
+            usage.ends(f"`{' '.join(words)}` is no call of it")
     return 0
 
 
 if __name__ == "__main__":
-    sys.exit(main(sys.argv[1:]))
+    usage.runs(main)

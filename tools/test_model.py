@@ -1,8 +1,6 @@
 #!/usr/bin/env python3
 """Worked rows for the model in tools/pdl_model: `test_model.py` runs them all and names those that fail."""
 
-import sys
-
 import usage
 from pdl_model import dump, files, rules
 from pdl_model.syntax import Refused
@@ -261,8 +259,8 @@ def main():
     for name, came, due in failed:
         print(f"{name}: came {came}; due {due}")
     print(f"{sum(1 for _ in rows())} rows, {len(failed)} failed")
-    sys.exit(1 if failed else 0)
+    return 1 if failed else 0
 
 
 if __name__ == "__main__":
-    main()
+    usage.runs(main)

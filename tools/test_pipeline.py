@@ -7,7 +7,6 @@ It gives pipeline.py the lines of `view` and the squashes, and compares the rows
 """
 
 import random
-import sys
 
 import pipeline
 import random_whole
@@ -46,12 +45,13 @@ def is_followed(chance):
     return due == {it.number: dict(enumerate(it.stages, it.begun)) for it in came}
 
 
-def main(words):
-    count, seed = (int(words[0]) if words else 300), (int(words[1]) if len(words) > 1 else 1)
+def main():
+    given = usage.words(__doc__, 0, 2)
+    count, seed = map(usage.number, given + ["300", "1"][len(given):])
     answers = [is_followed(random.Random(f"{seed} {number}")) for number in range(count)]
     print(f"pipes {answers.count(True)} wrong {answers.count(False)}")
-    sys.exit(1 if False in answers else 0)
+    return 1 if False in answers else 0
 
 
 if __name__ == "__main__":
-    main(usage.words(__doc__, 0, 2))
+    usage.runs(main)

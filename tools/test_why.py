@@ -1,8 +1,6 @@
 #!/usr/bin/env python3
 """Worked rows for tools/why.py: of each source the rule and the line that refuse it, and what is said of them."""
 
-import sys
-
 import usage
 import why
 
@@ -57,4 +55,4 @@ def main():
 
 
 if __name__ == "__main__":
-    sys.exit(main())
+    usage.runs(main)

@@ -74,7 +74,7 @@ def bench(module, cycles):
 
 def main():
     program, source, image, cycles, folder = usage.words(__doc__, 5, 5)
-    folder = pathlib.Path(folder)
+    cycles, folder = usage.number(cycles), pathlib.Path(folder)
     folder.mkdir(parents=True, exist_ok=True)
     built = subprocess.run([program, "build", source], capture_output=True, text=True)
     if built.returncode:
@@ -85,7 +85,7 @@ def main():
     for name, _, _, depth in memories(module):
         (folder / f"{name}.hex").write_text("".join(f"{given.get((name, at), 0):x}\n" for at in range(depth)))
     (folder / "core.v").write_text(built.stdout)
-    (folder / "bench.v").write_text(bench(module, int(cycles)))
+    (folder / "bench.v").write_text(bench(module, cycles))
     files = ["bench.v", "core.v"]
     if module.delayed():
         page = re.search(r"^```verilog\n(module ram .*?^endmodule\n)```$", PAGE.read_text(), re.M | re.S)
@@ -96,4 +96,4 @@ def main():
 
 
 if __name__ == "__main__":
-    sys.exit(main())
+    usage.runs(main)

@@ -10,7 +10,6 @@ before a reset: it may write no array, commit nothing, and ask for nothing.
 
 import pathlib
 import re
-import sys
 import tempfile
 
 import usage
@@ -71,7 +70,7 @@ def is_still_at_zero(program, source, folder):
 
 
 def main():
-    program = str(pathlib.Path(usage.words(__doc__, 1, 1)[0]).resolve())
+    program = usage.program(usage.words(__doc__, 1, 1)[0])
     with tempfile.TemporaryDirectory() as name:
         folder = pathlib.Path(name)
         same = prints_the_run(program, folder)
@@ -82,4 +81,4 @@ def main():
 
 
 if __name__ == "__main__":
-    sys.exit(main())
+    usage.runs(main)

@@ -10,12 +10,10 @@ tools/pdl_model, which has to show the same stages and moves as the ports, cycle
 has beside it, as text, the instruction that it is with the table of `pdl asm`.
 """
 
-import argparse
 import pathlib
-import signal
-import sys
 
 import listing
+import usage
 from pdl_model import files, rules
 from pdl_model.deeds import carry_out
 from pdl_model.dump import Wave
@@ -107,14 +105,13 @@ def dumped(wave, layout, rows, table):
 
 
 def main():
-    asked = argparse.ArgumentParser(description=__doc__, formatter_class=argparse.RawDescriptionHelpFormatter)
+    usage.helps(__doc__)
+    asked = usage.Words()
     for name in ("program", "source", "image", "cycles"):
         asked.add_argument(name)
     asked.add_argument("--delays")
     asked.add_argument("--table", nargs=2, metavar=("TABLE", "NAME"))
     it = asked.parse_args()
-    # a reader that stops before the end, as `head` does, ends this program without a word
-    signal.signal(signal.SIGPIPE, signal.SIG_DFL)
     words = [it.source, it.image, it.cycles, *(["--delays", it.delays] if it.delays else [])]
     wave = Wave(said([it.program, "wave", *words]))
     layout = rules.checked(pathlib.Path(it.source).read_bytes().decode("latin-1"))
@@ -122,11 +119,14 @@ def main():
     replies = files.read_delays(layout.pipe, pathlib.Path(it.delays).read_text()) if it.delays else []
     table = None
     if it.table:
-        table = listing.Table(pathlib.Path(it.table[0]).read_text())
+        table = listing.read(it.table[0])
         table.word = it.table[1]
-    for line in dumped(wave, layout, modelled(layout, image, replies, wave), table):
+    rows = modelled(layout, image, replies, wave)
+    if table and not any(it and table.word in it[1] for row in rows for it in row):
+        usage.ends(f"no thread has a variable `{table.word}`")
+    for line in dumped(wave, layout, rows, table):
         print(line)
 
 
 if __name__ == "__main__":
-    main()
+    usage.runs(main)

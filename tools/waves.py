@@ -13,7 +13,6 @@ after the way there and back: FST, LXT2 and VZT.
 import pathlib
 import re
 import subprocess
-import sys
 import tempfile
 
 import usage
@@ -161,8 +160,7 @@ def judged(program, source, image, cycles, folder):
 
 def main():
     words = usage.words(__doc__, 1, 2)
-    program = str(pathlib.Path(words[0]).resolve())
-    cycles = int(words[1]) if len(words) > 1 else 60
+    program, cycles = usage.program(words[0]), usage.number(*words[1:] or ["60"])
     asked = compared = bad = 0
     print(said(["iverilog", "-V"], ".")[1].splitlines()[0])
     for what, source, image, _ in examples():
@@ -176,4 +174,4 @@ def main():
 
 
 if __name__ == "__main__":
-    sys.exit(main())
+    usage.runs(main)

@@ -1,12 +1,18 @@
+#!/usr/bin/env python3
 """What of a source breaks the rule by which `pdl` refused it, in words of that source: the token, the name with the line of
 its definition, the widths of both sides, or the path with what it did at the location before.
 
-It asks the rules of tools/pdl_model again, so it says nothing where these find another place than `pdl` named, and what it
-says is no part of what is proved. `tools/explain.py` prints it below a refusal.
+    why.py SOURCE RULE LINE
+
+RULE and LINE are those of the refusal, as L2 and 15 of `refused L2 line 15`. It asks the rules of tools/pdl_model again, so
+it says nothing where these find another place than `pdl` named, and what it says is no part of what is proved.
+`tools/explain.py` prints it below a refusal.
 """
 
 import difflib
+import pathlib
 
+import usage
 from pdl_model import rule_guesses, rule_locks, rule_names, rules, syntax, tree
 from pdl_model.layout import Layout, variable_widths
 
@@ -467,3 +473,18 @@ def details(text, rule, line):
     if not found or rules.line_of(layout, found[0]) != line:
         return []
     return said(layout, rule, found[0])
+
+
+def main():
+    source, rule, line = usage.words(__doc__, 3, 3)
+    text = pathlib.Path(source).read_bytes().decode("latin-1")
+    try:
+        found = details(text, rule, usage.number(line, 1))
+    except syntax.Refused:
+        usage.ends(f"{source} is no pipe: {rule} isn't asked of it")
+    for it in found:
+        print(it)
+
+
+if __name__ == "__main__":
+    usage.runs(main)

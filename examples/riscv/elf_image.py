@@ -4,8 +4,12 @@
 FILE is a 32-bit little-endian ELF file of RISC-V, linked as c/link.ld says. The memories `code` and `data` have 16,384
 words of 32 bits each, and both begin with the whole program: the word at address a is word (a / 4) mod 16,384.
 """
+import pathlib
 import struct
 import sys
+
+sys.path.append(str(pathlib.Path(__file__).resolve().parents[2] / "tools"))
+import usage
 
 BYTES = 65536
 
@@ -43,8 +47,14 @@ def image_of(memory):
     return "\n".join(["image 1"] + lines) + "\n"
 
 
+def main():
+    with open(usage.words(__doc__, 1, 1)[0], "rb") as stream:
+        elf = stream.read()
+    try:
+        sys.stdout.write(image_of(memory_of(elf)))
+    except (struct.error, IndexError):
+        usage.ends("the file ends too early")
+
+
 if __name__ == "__main__":
-    if len(sys.argv) != 2:
-        sys.exit(__doc__)
-    with open(sys.argv[1], "rb") as stream:
-        sys.stdout.write(image_of(memory_of(stream.read())))
+    usage.runs(main)

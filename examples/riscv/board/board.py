@@ -30,9 +30,9 @@ def run(words, folder, log=None):
     return ran.stdout
 
 
-def write_core(name, folder):
+def write_core(name, folder, change):
     """The source of a core with small memories: their depths, and the bits of an address that name a word."""
-    text = (HERE.parent / (name + ".pdl")).read_text()
+    text = change((HERE.parent / (name + ".pdl")).read_text())
     high = WORDS.bit_length()
     text = text.replace("[16384]", "[%d]" % WORDS).replace("[15:2]", "[%d:2]" % high)
     (folder / "core.pdl").write_text(text)
@@ -66,8 +66,9 @@ def with_contents(text, image, folder):
     return text.replace("endmodule", "".join(loads) + "endmodule")
 
 
-def make(pdl, core, image, lamps, folder):
-    write_core(core, folder)
+def make(pdl, core, image, lamps, folder, change=lambda text: text):
+    """Makes the bitstream of a core, whose source may be changed first, and says what it takes."""
+    write_core(core, folder, change)
     text = run([pdl, "build", "core.pdl"], folder)
     (folder / "core.v").write_text(with_contents(text, image, folder))
     (folder / "top.v").write_text((HERE / WRAPPERS[core]).read_text())
@@ -78,11 +79,12 @@ def make(pdl, core, image, lamps, folder):
          "--asc", "top.asc", "--freq", "12", "--seed", "1"], folder, "nextpnr.log")
     run(["icepack", "top.asc", "top.bin"], folder)
     run(["icetime", "-d", "hx8k", "-m", "-r", "icetime.txt", "top.asc"], folder, "icetime.log")
-    print((folder / "cells.txt").read_text())
     log = (folder / "nextpnr.log").read_text()
-    print("\n".join(re.findall(r"Info:\s+((?:ICESTORM_(?:LC|RAM)|SB_\w+):.*)", log)))
-    print(re.findall(r"Max frequency for clock .*", log)[-1])
-    print(re.findall(r"Timing estimate: .*", (folder / "icetime.log").read_text())[-1])
+    return "\n".join([
+        (folder / "cells.txt").read_text(),
+        *re.findall(r"Info:\s+((?:ICESTORM_(?:LC|RAM)|SB_\w+):.*)", log),
+        re.findall(r"Max frequency for clock .*", log)[-1],
+        re.findall(r"Timing estimate: .*", (folder / "icetime.log").read_text())[-1]])
 
 
 BENCH = """
@@ -127,7 +129,7 @@ def main(words):
     if words[:1] == ["make"] and len(words) == 6 and words[2] in WRAPPERS:
         folder = pathlib.Path(words[5])
         folder.mkdir(parents=True, exist_ok=True)
-        make(pathlib.Path(words[1]).resolve(), words[2], pathlib.Path(words[3]).read_text(), int(words[4]), folder)
+        print(make(pathlib.Path(words[1]).resolve(), words[2], pathlib.Path(words[3]).read_text(), int(words[4]), folder))
     elif words[:1] == ["try"] and len(words) == 6:
         attempt(pathlib.Path(words[1]).resolve(), pathlib.Path(words[2]).read_text(), int(words[3]), int(words[4]), pathlib.Path(words[5]))
     elif words[:1] == ["contents"] and len(words) == 4:

@@ -1,0 +1,87 @@
+#!/usr/bin/env python3
+"""Makes the RV32I cores of docs/riscv.md for an iCE40-HX8K, and prints the page's table of what they take.
+
+    riscv_board.py PDL [--write]
+
+PDL is the program. It needs what examples/riscv/board/board.py does: yosys, nextpnr-ice40 and icestorm. Each core has the
+words of sha256_O2. The last columns are the cycle in which the first word of the digest is written, and how long that is by
+nextpnr's clock. With --write the table is put into the page.
+"""
+
+import concurrent.futures
+import os
+import pathlib
+import re
+import subprocess
+import sys
+import tempfile
+
+import usage
+from riscv_cores import CORES, OPERANDS, VERIFY_LATER, put_table
+
+sys.path.insert(0, str(CORES / "board"))
+import board
+
+PLACE = 357
+IMAGE = CORES / "images" / "sha256_O2.img"
+ROWS = (  # what the table says, a core of board.py, and what is changed in its source
+    ("`rv32i`", "rv32i", None),
+    ("`rv32i_guess`", "rv32i_guess", None),
+    ("the same, verified in memory", "rv32i_guess", VERIFY_LATER),
+    ("`rv32i_delayed`", "rv32i_delayed", None),
+    ("`rv32i` with a stage for operands", "rv32i", OPERANDS),
+)
+HEAD = [
+    "| core | look-up tables | flip-flops | logic cells | block memories | MHz by nextpnr | by icetime | cycles for `sha256_O2` | microseconds |",
+    "|---|---|---|---|---|---|---|---|---|",
+]
+LAST = "| there are on the HX8K | | | 7,680 | 32 | 12 asked | | | |"
+
+
+def changed(change):
+    """A change of a source, which has to change something."""
+    def change_of(text):
+        new = re.sub(*change, text) if change else text
+        if change and new == text:
+            raise SystemExit(f"riscv_board.py: {change[0]} is nowhere in the source")
+        return new
+    return change_of
+
+
+def last_write(program, folder):
+    """The last cycle in which the word of the result is written."""
+    lines = subprocess.run([program, "run", "core.pdl", IMAGE, "40000"], cwd=folder, check=True, capture_output=True, text=True).stdout
+    return max(int(it.split()[0]) for it in lines.splitlines() if it.split()[1:3] == ["data", str(PLACE)])
+
+
+def row(program, told, core, change):
+    """The row of a core."""
+    with tempfile.TemporaryDirectory() as name:
+        folder = pathlib.Path(name)
+        board.make(program, core, IMAGE.read_text(), PLACE, folder, changed(change))
+        cells, log = (folder / "cells.txt").read_text(), (folder / "nextpnr.log").read_text()
+        tables = int(re.search(r"SB_LUT4 +(\d+)", cells)[1])
+        flops = sum(map(int, re.findall(r"SB_DFF\w* +(\d+)", cells)))
+        used = {it: int(re.search(rf"{it}: +(\d+)", log)[1]) for it in ("ICESTORM_LC", "ICESTORM_RAM")}
+        clock = float(re.findall(r"Max frequency for clock .*?: ([\d.]+) MHz", log)[-1])
+        by_icetime = float(re.findall(r"Timing estimate: .*\(([\d.]+) MHz\)", (folder / "icetime.log").read_text())[-1])
+        cycle = last_write(program, folder)
+    return (f"| {told} | {tables:,} | {flops} | {used['ICESTORM_LC']:,} | {used['ICESTORM_RAM']} | {clock:.1f} | {by_icetime:.1f} "
+            f"| {cycle:,} | {cycle / clock:.0f} |")
+
+
+def main():
+    program, *more = usage.words(__doc__, 1, 2)
+    program = usage.program(program)
+    if more not in ([], ["--write"]):
+        usage.ends(f"`{more[0]}` is no word of it")
+    with concurrent.futures.ThreadPoolExecutor(os.cpu_count()) as workers:
+        rows = [*HEAD, *workers.map(lambda it: row(program, *it), ROWS), LAST]
+    print("\n".join(rows))
+    if more:
+        put_table(rows)
+    return 0
+
+
+if __name__ == "__main__":
+    usage.runs(main)
