@@ -288,7 +288,7 @@ def widths(layout, rule, place):
     known = variable_widths(pipe)
     statement = layout.statements[place[1]].statement if place[0] == 2 else None
     expressions = rule_names.expressions_of(statement) if statement else pipe.start
-    for it in rule_names.nodes(expressions):
+    for it in tree.nodes(expressions):
         if rule in ("W1", "W2", "W3") and rule in set(rule_names.node_rules(it, known)):
             return [node_said(it, rule, known)]
     match statement:
@@ -336,7 +336,7 @@ def limits(layout, rule, place):
         return [f"{bits(layout.pipe.parameters[place[1]].width)}: a width is 1 to 64"]
     if place[0] != 1:
         expressions = rule_names.expressions_of(layout.statements[place[1]].statement) if place[0] == 2 else layout.pipe.start
-        return [f"a literal of {bits(it.bits)}: a width is 1 to 64" for it in rule_names.nodes(expressions)
+        return [f"a literal of {bits(it.bits)}: a width is 1 to 64" for it in tree.nodes(expressions)
                 if isinstance(it, tree.Literal) and not 1 <= it.bits <= 64][:1]
     it = layout.pipe.memories[place[1]]
     most = 6 if it.lock == "rename" else 16
@@ -378,9 +378,9 @@ def on_path(layout, rule, place):
         found = {
             "L1": lambda: [p for r, p in rule_locks.states(layout.pipe, statements) if r == "L1"],
             "L7": lambda: [p for r, p in rule_locks.states(layout.pipe, statements) if r == "L7"],
-            "L3": lambda: [(2, p) for p in rule_locks.reads_after_writes(statements)],
-            "L4": lambda: [p for r, p in rule_locks.reservations(statements) if r == "L4"],
-            "L5": lambda: [p for r, p in rule_locks.reservations(statements) if r == "L5"],
+            "L3": lambda: [(2, p) for p in rule_locks.reads_after_writes(layout.pipe, statements)],
+            "L4": lambda: [p for r, p in rule_locks.reservations(layout, statements) if r == "L4"],
+            "L5": lambda: [p for r, p in rule_locks.reservations(layout, statements) if r == "L5"],
             "L6": lambda: [(2, p) for p in rule_locks.unwritten_releases(statements)],
             "L8": lambda: [(2, p) for p in rule_locks.late_reads(layout, statements, path)],
             "S1": lambda: [p for _, p in rule_guesses.successors(statements)],

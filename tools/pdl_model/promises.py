@@ -3,7 +3,7 @@
 - The commits of a memory are the first writes of the threads run one after another: all those of the ended threads, and
   none of a thread that comes after the K threads that follow them, K being the number of stages.
 - In each cycle that is no wait the oldest live thread moves. So at least (cycles - waits) / depth threads end.
-- The arrays at the end are the image with the commits.
+- The arrays at the end are the image with the commits, those of advisory memories aside.
 - Every state on the way is sound.
 """
 
@@ -45,9 +45,8 @@ class Run:
         self.squashes += ports.squash
         if not ports.waits and not ports.moves[oldest]:
             self.complain("no wait, and the oldest thread doesn't move")
-        for memory, commit in ports.commits.items():
-            if commit is not None:
-                self.commits[memory].append(commit)
+        for memory, commits in ports.commits.items():
+            self.commits[memory] += commits
         for point in self.sound.complaints(self.machine.state, self.ended):
             self.complain(f"not sound afterwards: {point}")
 
@@ -67,7 +66,8 @@ class Run:
         for memory, commits in self.commits.items():
             for address, value in commits:
                 arrays[memory][address] = value
-        if arrays != self.machine.state.arrays:
+        if any(arrays[memory.name] != self.machine.state.arrays[memory.name]
+               for memory in self.layout.pipe.memories if not memory.advisory):
             self.complain("the arrays aren't the image with the commits")
         if self.ended < (self.cycles - self.waits) // self.layout.depth():
             self.complain("too few threads have ended")
