@@ -37,3 +37,14 @@ def named(text):
             return None
         found |= words[word]
     return found
+
+
+def out_of(words):
+    """The words of a call without `--forms FORMS`, and these forms; those that the program takes where none are told.
+
+    None in the place of the forms where FORMS names others.
+    """
+    if "--forms" not in words[:-1]:
+        return words, TAKEN
+    at = words.index("--forms")
+    return words[:at] + words[at + 2 :], named(words[at + 1])

@@ -5,10 +5,18 @@
 - In each cycle that is no wait the oldest live thread moves. So at least (cycles - waits) / depth threads end.
 - The arrays at the end are the image with the commits, those of advisory memories aside.
 - Every state on the way is sound.
+
+Two runs that differ in guesses alone have to write the same: those of a pipe with and without its updates, and those of two
+images that differ in advisory memories alone.
 """
 
+import dataclasses
+
+from . import tree
 from .files import replies_of
+from .layout import Layout
 from .machine import Machine
+from .rules import kept
 from .sequential import Sequential
 from .sound import Sound
 
@@ -78,3 +86,27 @@ def watched(layout, image, rows, cycles):
     run = Run(layout, image, rows)
     run.go(cycles)
     return run
+
+
+# Runs that differ in guesses alone
+
+
+def without_updates(layout):
+    """The pipe with no update, which keeps all rules too."""
+    return kept(Layout(dataclasses.replace(layout.pipe, body=tree.without(layout.pipe.body, tree.Update)), layout.forms))
+
+
+def with_other_advice(layout, image, random):
+    """The image with other words in the advisory memories."""
+    others = {memory.name: [random.getrandbits(memory.width) for _ in range(memory.depth)]
+              for memory in layout.pipe.memories if memory.advisory}
+    return image | others
+
+
+def write_the_same(first, second):
+    """Whether of each memory's commits in two runs one list begins with the other, and the threads' writes are the same."""
+    threads = max(first.ended, second.ended) + 1
+    return all(
+        first.writes(memory, threads) == second.writes(memory, threads)
+        and all(it == other for it, other in zip(commits, second.commits[memory]))
+        for memory, commits in first.commits.items())

@@ -1,6 +1,6 @@
 """What a source text consists of: expressions, statements, and the pipe."""
 
-from dataclasses import dataclass
+from dataclasses import dataclass, replace
 
 from . import words
 
@@ -310,6 +310,13 @@ def every(items):
         if isinstance(item, If):
             yield from every(item.first)
             yield from every(item.second)
+
+
+def without(items, kind):
+    """These statements with none of a kind among them, at any depth."""
+    inner = (replace(it, first=without(it.first, kind), second=without(it.second, kind)) if isinstance(it, If) else it
+             for it in items)
+    return tuple(it for it in inner if not isinstance(it, kind))
 
 
 def holds_separator(items):
