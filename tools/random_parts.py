@@ -69,10 +69,13 @@ class Memory:
 
 
 class Location:
-    """An address that a thread reserves, for reading or writing; `guard` is a variable on whose path it does, or None."""
+    """An address that a thread reserves, for reading or writing; `guard` is a variable on whose path it does, or None.
 
-    def __init__(self, memory, kind):
-        self.memory, self.kind = memory, kind
+    Of a second write `first` is the location of the first one, else None.
+    """
+
+    def __init__(self, memory, kind, first=None):
+        self.memory, self.kind, self.first = memory, kind, first
         self.address = self.guard = None
 
     def at(self):

@@ -54,11 +54,11 @@ def complaints(source, image, delays, forms):
     words, rows = files.read_image(layout.pipe, image), files.read_delays(layout.pipe, delays)
     found, run = watched(layout, words, rows)
     chance = random.Random(source)
-    if layout.update_stage() is not None:
-        found = found or beside(run, promises.without_updates(layout), words, other_rows(rows, chance), "without updates")
-    if any(memory.advisory for memory in layout.pipe.memories):
+    if not found and layout.update_stage() is not None:
+        found = beside(run, promises.without_updates(layout), words, other_rows(rows, chance), "without updates")
+    if not found and any(memory.advisory for memory in layout.pipe.memories):
         others = promises.with_other_advice(layout, words, chance)
-        found = found or beside(run, layout, others, other_rows(rows, chance), "with other advice")
+        found = beside(run, layout, others, other_rows(rows, chance), "with other advice")
     return found, run
 
 
@@ -72,7 +72,11 @@ def watched(layout, image, rows):
 
 
 def beside(run, layout, image, rows, how):
-    """What a second run doesn't keep, or that it writes something else than the first one."""
+    """What a second run doesn't keep, that its pipe is refused, or that it writes something else than the first one."""
+    try:
+        rules.kept(layout)
+    except Refused as refusal:
+        return [f"{how}: {refusal}"]
     found, second = watched(layout, image, rows)
     if not found and not promises.write_the_same(run, second):
         found = ["the writes are others"]
@@ -214,9 +218,11 @@ def differences(program, forms, source, image, delays, cycles, threads, folder):
         return None if answer(program, ["check", "pipe.pdl"], folder) == [str(refusal)] else ["check pipe.pdl"]
     found = [" ".join(command) for command, lines in due(layout, image, delays, cycles, threads)
              if answer(program, command, folder) != lines]
+    if found:
+        return found
     words, rows = files.read_image(layout.pipe, image), files.read_delays(layout.pipe, delays)
     ports = [files.port_line(layout, it) for it in files.turns(layout, words, cycles, rows)]
-    found += ["wave pipe.pdl"] if port_lines(program, cycles, delays, folder) != ports else []
+    found = ["wave pipe.pdl"] if port_lines(program, cycles, delays, folder) != ports else []
     return found + ([] if is_in_order(program, layout, cycles, delays, folder) else ["run and seq"])
 
 
@@ -252,7 +258,7 @@ def plain_pipe(chance, forms):
 def whole_pipe(chance, forms):
     """A random pipe of the whole language, with some of these forms."""
     chosen = random_whole.random_forms(chance, forms) if forms else forms
-    pipe = random_whole.RandomPipe(chance, random_whole.random_features(chance), chosen)
+    pipe = random_whole.RandomPipe(chance, random_whole.random_features(chance, chosen), chosen)
     return pipe.source(), pipe.image(), pipe.delay_rows(CYCLES)
 
 

@@ -27,9 +27,13 @@ class RandomPipe:
     def __init__(self, random, features, forms=Forms(0)):
         self.random, self.scope, self.forms = random, Scope(random), forms
         self.segments = random.choice([2, 3, 4, 5, 6] if features else [1, 2, 3, 4, 5, 6])
+        if Forms.UPDATE in forms and "guess" in features:
+            self.segments = max(self.segments, 3)
         self.forks = self.make_forks() if "fork" in features else {}
         stages = range(1, self.segments)
         self.verify = max(random.choice(stages), random.choice(stages)) if "guess" in features else None
+        if Forms.UPDATE in forms and "guess" in features and self.chance(0.8):
+            self.verify = max(self.verify, 2)
         self.memories = self.make_memories("delayed" in features)
         self.parameters = [(f"n{k}", random.choice([2, 4, 4, 8])) for k in range(random.randint(1, 2))]
         self.known = [Known(name, width, frozenset(), None) for name, width in self.parameters]
@@ -165,7 +169,7 @@ class RandomPipe:
             steps.append((self.moment(first, write), 2, lambda location=location: self.block(location)))
             steps.append((write, 4, lambda location=location: self.write(location)))
         if Forms.TWO_WRITES in self.forms and writes and memory.size > 1 and self.chance(0.7):
-            writes += self.plan_second(memory, first, write, last, steps)
+            writes.append(self.plan_second(writes[0], first, write, last, steps))
         for location in [*reads, *writes]:
             steps.append((first, 0, lambda location=location: self.reserve(location)))
             rank = self.random.choice([5, 6]) if len(writes) > 1 else 5
@@ -177,13 +181,13 @@ class RandomPipe:
         if self.verify is not None and writes and release < self.verify:
             self.barriers.add(self.random.randint(0, release))
 
-    def plan_second(self, memory, first, write, last, steps):
-        """A second write, which comes after the first one."""
-        location = Location(memory, "W")
+    def plan_second(self, written, first, write, last, steps):
+        """The location of a second write, which comes after the first one."""
+        location = Location(written.memory, "W", written)
         second = self.random.choice([write, self.moment(write, last)])
         steps.append((self.moment(first, second), 2, lambda: self.block(location)))
         steps.append((second, 4, lambda: self.write(location)))
-        return [location]
+        return location
 
     def plan_read(self, location, first, before, last):
         """The block and the read of a location, up to the moment of the write; a delayed read is bound by the release."""
@@ -219,6 +223,11 @@ class RandomPipe:
             name = self.define("a", memory.address)
             return name, f"{name} = {memory.address}'d1;"
         return self.bind("a", memory.address)
+
+    def same_address(self, location):
+        """A variable for the address that the first write has, and the line that binds it."""
+        name = self.define("a", location.memory.address)
+        return name, f"{name} = {location.first.address};"
 
     def bind(self, letter, width):
         """A new variable with an expression; an answer or read is taken often, so that values go on."""
@@ -311,7 +320,7 @@ class RandomPipe:
 
     def reserve(self, location):
         location.guard, lines = self.new_guard() if self.chance(0.3) else (None, [])
-        location.address, line = self.address(location.memory)
+        location.address, line = self.same_address(location) if location.first and self.chance(0.4) else self.address(location.memory)
         return [*lines, line,
                 *self.under(location.guard, lambda: [*self.own_check(), f"reserve({location.at()}, {location.kind});"])]
 
@@ -455,10 +464,13 @@ class RandomPipe:
         return "".join("".join(map(str, row)) + "\n" for row in rows)
 
 
-def random_features(random):
-    """Some of the features, each one alone as often as together."""
-    return random.choice([(), ("delayed",), ("guess",), ("fork",), ("delayed", "guess"), ("delayed", "fork"),
-                          ("guess", "fork"), FEATURES, FEATURES])
+def random_features(random, forms=Forms(0)):
+    """Some of the features, each one alone as often as together; mostly with those that the forms are of use with."""
+    found = random.choice([(), ("delayed",), ("guess",), ("fork",), ("delayed", "guess"), ("delayed", "fork"),
+                           ("guess", "fork"), FEATURES, FEATURES])
+    of_use = {Forms.NESTED_FORKS: "fork", Forms.UPDATE: "guess", Forms.ADVISORY: "guess"}
+    wanted = {feature for form, feature in of_use.items() if form in forms and random.random() < 0.8}
+    return tuple(feature for feature in FEATURES if feature in found or feature in wanted)
 
 
 def random_forms(random, forms):

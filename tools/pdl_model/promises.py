@@ -16,7 +16,6 @@ from . import tree
 from .files import replies_of
 from .layout import Layout
 from .machine import Machine
-from .rules import kept
 from .sequential import Sequential
 from .sound import Sound
 
@@ -92,8 +91,8 @@ def watched(layout, image, rows, cycles):
 
 
 def without_updates(layout):
-    """The pipe with no update, which keeps all rules too."""
-    return kept(Layout(dataclasses.replace(layout.pipe, body=tree.without(layout.pipe.body, tree.Update)), layout.forms))
+    """The pipe with no update, which has to keep all rules too."""
+    return Layout(dataclasses.replace(layout.pipe, body=tree.without(layout.pipe.body, tree.Update)), layout.forms)
 
 
 def with_other_advice(layout, image, random):

@@ -109,8 +109,12 @@ class Sound:
                     for memory in thread.awaited()))
 
     def pending_right(self):
-        """4: a lock's list has an entry for each write that a live thread holds; a follower's is that of its turn."""
-        return all(self.list_right(memory, entries) for memory, entries in self.state.pending.items())
+        """4: a lock's list has an entry for each write that a live thread holds; a follower's is that of its turn.
+
+        Besides: there are no more entries than the lock has room for.
+        """
+        return all(self.list_right(memory, entries) and len(entries) <= self.layout.pipe.memory(memory).size
+                   for memory, entries in self.state.pending.items())
 
     def list_right(self, memory, entries):
         held = [(thread.number, variable) for _, thread in self.live for variable in self.held_of(thread, memory)]
