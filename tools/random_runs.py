@@ -207,8 +207,9 @@ def is_in_order(program, layout, cycles, delays, folder):
     return all(apart.get(memory, [])[: len(writes)] == writes for memory, writes in writes_of(ran).items())
 
 
-def differences(program, forms, source, image, delays, cycles, threads, folder):
-    """The commands whose answers differ; None where the source is refused, and rightly."""
+def differences(program, forms, texts, cycles, threads, folder):
+    """The commands whose answers differ, of a source, an image and delays; None where the source is refused, and rightly."""
+    source, image, delays = texts
     (folder / "pipe.pdl").write_text(source)
     (folder / "pipe.img").write_text(image)
     (folder / "pipe.delays").write_text(delays)
@@ -271,7 +272,7 @@ class Comparison:
 
     def differs(self, kind, source, image, delays="", cycles=CYCLES, threads=THREADS):
         """Whether an answer differs; then it is told."""
-        found = differences(self.program, self.forms, source, image, delays, cycles, threads, self.folder)
+        found = differences(self.program, self.forms, (source, image, delays), cycles, threads, self.folder)
         self.done[f"{kind} refused" if found is None else kind] += 1
         if found:
             print(f"{', '.join(found)}:\n{source}\nimage:\n{image}\ndelays:\n{delays}")

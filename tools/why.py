@@ -326,23 +326,11 @@ def happened(layout, rule, place, path):
         released = {(it.statement.memory, it.statement.address) for it in statements if isinstance(it.statement, tree.Release)}
         return [f"`{it.memory}[{it.address}]`, reserved in line {it.line}, is not released"
                 for it in taken if (it.memory, it.address) not in released][:1]
-    if rule == "S1":
-        calls = [it for it in statements if isinstance(it.statement, (tree.Call, tree.SpecCall))]
-        return [f"one was made in line {calls[0].statement.line}"] if calls else ["no `call` and no `spec_call`"]
+    if rule[0] == "S":
+        return [guess_said(layout, rule, place, statements)]
     statement = layout.statements[place[1]].statement
-    if rule == "S2":
-        again = [it for it in statements if isinstance(it.statement, tree.Verify) and it.statement.guess == statement.name]
-        return [f"it is verified in {' and '.join(f'line {it.statement.line}' for it in again)}" if again else
-                f"no `verify` of `{statement.name}`"]
-    stage = layout.statements[place[1]].stage
-    if rule == "S6":
-        return [update_said(layout, statements, layout.statements[place[1]])]
-    if rule in ("S4", "S5"):
-        first = next(it for it in layout.statements if isinstance(it.statement, tree.Verify))
-        wants = "`spec_barrier` before it" if rule == "S4" else f"`spec_check` before it in stage {stage}"
-        return [f"this is stage {stage}, the `verify` of line {first.statement.line} is in stage {first.stage}, "
-                f"and there is no {wants}"]
     if rule == "L8":
+        stage = layout.statements[place[1]].stage
         last = next(it for it in layout.statements if isinstance(it.statement, tree.Release)
                     and it.statement.memory == statement.memory)
         bound = layout.next_stage(stage, path) if isinstance(statement, tree.Ask) else stage
@@ -370,6 +358,24 @@ def happened(layout, rule, place, path):
             found.append(f"line {said_with(layout, statement)} reserves it on other paths: a path chooses for each condition by "
                          "itself, so both have to stand under one")
     return found
+
+
+def guess_said(layout, rule, place, statements):
+    """What a path did with its guess or call before it broke S1, S2, or one of S4 to S6."""
+    if rule == "S1":
+        calls = [it for it in statements if isinstance(it.statement, (tree.Call, tree.SpecCall))]
+        return f"one was made in line {calls[0].statement.line}" if calls else "no `call` and no `spec_call`"
+    it = layout.statements[place[1]]
+    if rule == "S2":
+        name = it.statement.name
+        again = [other for other in statements if isinstance(other.statement, tree.Verify) and other.statement.guess == name]
+        return (f"it is verified in {' and '.join(f'line {other.statement.line}' for other in again)}" if again else
+                f"no `verify` of `{name}`")
+    if rule == "S6":
+        return update_said(layout, statements, it)
+    first = next(other for other in layout.statements if isinstance(other.statement, tree.Verify))
+    wants = "`spec_barrier` before it" if rule == "S4" else f"`spec_check` before it in stage {it.stage}"
+    return f"this is stage {it.stage}, the `verify` of line {first.statement.line} is in stage {first.stage}, and there is no {wants}"
 
 
 def update_said(layout, statements, it):

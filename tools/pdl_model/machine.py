@@ -103,7 +103,7 @@ class Step:
                 self.commits[memory].append((entry.address, entry.value))
 
     def advise(self):
-        """Advisory writes change their words: of the greatest stage first, so that the youngest thread's stay."""
+        """Advisory writes change their words: of the greatest stage first, and within a stage in the order of the text."""
         for _, _, own in reversed(self.moved):
             for memory, address, value in own.advice:
                 self.state.arrays[memory][address] = value
