@@ -253,7 +253,8 @@ def stages(layout, rule, place):
         return [fork_said(layout, it)]
     if rule in ("F4", "F5"):
         memory = layout.pipe.memory(statement.memory)
-        return [f"`{memory.name}` is {'delayed' if memory.delayed else 'comb'}" if rule == "F4" else f"`{memory.name}` has no lock"]
+        kind = "delayed" if memory.delayed else "advisory" if memory.advisory else "comb"
+        return [f"`{memory.name}` is {kind}" if rule == "F4" else f"`{memory.name}` has no lock"]
     return []
 
 
