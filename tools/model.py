@@ -7,15 +7,17 @@
     model.py ports SRC IMG CYCLES [--delays FILE]
     model.py seq SRC IMG THREADS
 
-It takes the whole language. `check`, `run`, `view` and `seq` print what `pdl` has to print; `ports` prints all ports of
-each cycle. It needs nothing but Python, and is slow: a few thousand cycles in a second.
+Each call may end with `--forms FORMS`: the forms that the language has beside those that `pdl` takes, with commas between.
+They are two-writes, nested-forks, update and advisory; `all` is all of them, `none` none. Without it the language is that
+of `pdl`: `check`, `run`, `view` and `seq` print what it has to print. `ports` prints all ports of each cycle.
+It needs nothing but Python, and is slow: a few thousand cycles in a second.
 """
 
 import pathlib
 import sys
 
 import usage
-from pdl_model import files, rules
+from pdl_model import files, forms, rules
 from pdl_model.syntax import Refused
 
 
@@ -23,9 +25,9 @@ def text_of(name):
     return pathlib.Path(name).read_bytes().decode("latin-1")
 
 
-def lines_of(command, source, more, delays):
-    """What a command prints, as lines."""
-    layout = rules.checked(text_of(source))
+def lines_of(taken, command, source, more, delays):
+    """What a command prints, as lines, in the language with the forms that are taken."""
+    layout = rules.checked(text_of(source), taken)
     if command == "check":
         return [f"accepted stages {layout.count} depth {layout.depth()}"]
     image = files.read_image(layout.pipe, text_of(more[0]))
@@ -40,7 +42,10 @@ def lines_of(command, source, more, delays):
 
 
 def main():
-    words, delays = usage.words(__doc__, 2, 6), None
+    words, taken = forms.out_of(usage.words(__doc__, 2, 8))
+    delays = None
+    if taken is None:
+        usage.ends("--forms names a form that there isn't")
     if "--delays" in words[:-1]:
         at = words.index("--delays")
         delays = words[at + 1]
@@ -49,7 +54,7 @@ def main():
     if not words or needed.get(words[0]) != len(words):
         usage.ends(f"`{' '.join(words)}` is no call of it")
     try:
-        for line in lines_of(words[0], words[1], words[2:], delays):
+        for line in lines_of(taken, words[0], words[1], words[2:], delays):
             print(line)
     except (Refused, files.WrongFile) as refusal:
         print(refusal, file=sys.stderr)

@@ -64,7 +64,7 @@ def ways_on(layout, stage):
     """The stages to which threads go from a stage; none from the last one."""
     if stage == layout.count - 1:
         return []
-    fork = None if stage in layout.branch_stages else layout.fork_of(stage)
+    fork = layout.fork_of(stage)
     if fork is None:
         return [layout.next_stage(stage, {})]
     return [(fork.stages_of(taken) or [fork.merge])[0] for taken in (True, False)]

@@ -1,9 +1,12 @@
-"""Random pipes in PDL, each with an image: `source_and_image(random)`.
+"""Random pipes in PDL, each with an image: `source_and_image(random, forms)`.
 
 A pipe has one to six stages in a line, one to three memories with any lock, and expressions of every
 operator of the language. Most of what is made keeps all rules; ask `pdl check`, and take another where it
-doesn't. No shift is by a constant of 2^32 or more.
+doesn't. No shift is by a constant of 2^32 or more. Of the forms that a program may take or not it may have two
+writes of a memory, and advisory memories; updates and nested forks are made by random_whole.py.
 """
+
+from pdl_model.forms import Forms
 
 OPERATORS = ["+", "-", "*", "&", "|", "^"]
 COMPARISONS = ["==", "!=", "<"]
@@ -104,10 +107,10 @@ def guarded(guard, statements):
 
 
 class Pipe:
-    """A pipe that grows stage by stage."""
+    """A pipe that grows stage by stage. With advice it has an advisory memory `q`."""
 
-    def __init__(self, random):
-        self.random, self.scope = random, Scope(random)
+    def __init__(self, random, forms):
+        self.random, self.scope, self.forms = random, Scope(random), forms
         self.stages = random.randint(1, 6)
         self.memories = [Memory(random, k, self.stages) for k in range(random.randint(1, 3))]
         self.parameters = [(f"n{k}", random.choice([4, 8, 16, 33])) for k in range(random.randint(1, 3))]
@@ -130,8 +133,14 @@ class Pipe:
         if self.random.random() < 0.4:
             guard, third = self.bind("g", 1)
             lines.append(third)
-        self.uses[memory.name] = source, target, guard
-        return [*lines, f"reserve({memory.name}[{source}], R);", *guarded(guard, [f"reserve({memory.name}[{target}], W);"])]
+        targets = [target]
+        if Forms.TWO_WRITES in self.forms and memory.size > 1 and self.random.random() < 0.6:
+            another, fourth = self.bind("b", memory.address)
+            targets.append(another)
+            lines.append(fourth)
+        self.uses[memory.name] = source, targets, guard
+        return [*lines, f"reserve({memory.name}[{source}], R);",
+                *guarded(guard, [f"reserve({memory.name}[{it}], W);" for it in targets])]
 
     def read(self, memory):
         source, _, _ = self.uses[memory.name]
@@ -140,13 +149,24 @@ class Pipe:
         return [f"block({memory.name}[{source}]);", f"{value} = {memory.name}[{source}];"]
 
     def write(self, memory):
-        _, target, guard = self.uses[memory.name]
-        value, line = self.bind("y", memory.width)
-        return [line, *guarded(guard, [f"block({memory.name}[{target}]);", f"{memory.name}[{target}] <- {value};"])]
+        _, targets, guard = self.uses[memory.name]
+        lines, writes = [], []
+        for target in targets:
+            value, line = self.bind("y", memory.width)
+            lines.append(line)
+            writes += [f"block({memory.name}[{target}]);", f"{memory.name}[{target}] <- {value};"]
+        return [*lines, *guarded(guard, writes)]
 
     def release(self, memory):
-        source, target, guard = self.uses[memory.name]
-        return [f"release({memory.name}[{source}]);", *guarded(guard, [f"release({memory.name}[{target}]);"])]
+        source, targets, guard = self.uses[memory.name]
+        return [f"release({memory.name}[{source}]);",
+                *guarded(guard, [f"release({memory.name}[{it}]);" for it in reversed(targets)])]
+
+    def advise(self):
+        """A read of the advisory memory, whose word goes nowhere else than into it, and a write."""
+        address, line = self.bind("a", 2)
+        word = self.scope.fresh("k")
+        return [line, f"{word} = q[{address}];", f"q[{address}] <- {word} + {self.scope.expression(8, 1)};"]
 
     def look(self, memory):
         """A read of a memory without lock."""
@@ -170,6 +190,8 @@ class Pipe:
         lines = [self.bind("t", self.random.choice([1, 4, 8, 16, 33, 64]))[1] for _ in range(self.random.randint(0, 2))]
         for memory in self.memories:
             lines += self.memory_lines(memory, stage)
+        if Forms.ADVISORY in self.forms and self.random.random() < 0.5:
+            lines += self.advise()
         if stage == self.call_stage:
             arguments = ", ".join(self.scope.expression(width, 2) for _, width in self.parameters)
             lines.append(f"call({arguments});")
@@ -177,7 +199,8 @@ class Pipe:
 
     def source(self):
         parameters = ", ".join(f"{name}: uint<{width}>" for name, width in self.parameters)
-        memories = ", ".join(memory.declaration() for memory in self.memories)
+        advice = ["q: uint<8>[4] advisory"] if Forms.ADVISORY in self.forms else []
+        memories = ", ".join([*(memory.declaration() for memory in self.memories), *advice])
         body = "\n---\n".join("\n".join(self.stage_lines(stage)) for stage in range(self.stages))
         start = ", ".join(self.scope.literal(width) for _, width in self.parameters)
         return f"pipe p({parameters})[{memories}] {{\n{body}\n}} start p({start});\n"
@@ -191,7 +214,7 @@ class Pipe:
         return "\n".join(lines) + "\n"
 
 
-def source_and_image(random):
+def source_and_image(random, forms=Forms(0)):
     """The source of a pipe, which `pdl check` may still refuse, and an image for its memories."""
-    pipe = Pipe(random)
+    pipe = Pipe(random, forms)
     return pipe.source(), pipe.image()

@@ -1,9 +1,9 @@
 #!/usr/bin/env python3
 """Runs random pipes by the model in tools/pdl_model.
 
-    random_runs.py promises [PIPES [SEED]]
-    random_runs.py program PDL [PIPES [SEED]]
-    random_runs.py whole PDL [PIPES [SEED]]
+    random_runs.py promises [PIPES [SEED]] [--forms FORMS]
+    random_runs.py program PDL [PIPES [SEED]] [--forms FORMS]
+    random_runs.py whole PDL [PIPES [SEED]] [--forms FORMS]
 
 `promises` takes random pipes of the whole base language, with random images and replies, and asks of each cycle and of
 each whole run what has to hold (pdl_model/sound.py and promises.py). A pipe that fails is made smaller and printed.
@@ -13,6 +13,11 @@ each whole run what has to hold (pdl_model/sound.py and promises.py). A pipe tha
 once more with a line left out, said twice, moved or changed. `whole` does the same with pipes of the whole base language and
 with delay files, and what `pdl wave` says of each port in each cycle has to be what the model says too. Of each pipe the
 writes that a memory receives by `run` have to be the first ones that it receives by `seq`.
+
+FORMS are the forms that the language has beside those that `pdl` takes, with commas between: two-writes, nested-forks,
+update, advisory; `all` is all of them, `none` none. The pipes have some of them. A pipe with updates or advice is held
+against its run without them, or with other advice, too. Pipes with forms that aren't taken have to be refused as the
+model says; `whole` asks that as well.
 
 PIPES is 200 and SEED is 1 where they aren't given. A pipe runs for 100 cycles.
 """
@@ -29,6 +34,7 @@ import random_whole
 import usage
 from pdl_model import files, promises, rules
 from pdl_model.dump import NoDump, Wave
+from pdl_model.forms import ALL, Forms, out_of, word_of
 from pdl_model.syntax import Refused
 
 CYCLES = 100
@@ -39,19 +45,52 @@ EXAMPLES = pathlib.Path(__file__).resolve().parent.parent / "examples"
 # Promises
 
 
-def complaints(source, image, delays):
-    """What a run doesn't keep, an error of the model among it; and the run, where there is one."""
-    layout = rules.checked(source)
-    run = promises.Run(layout, files.read_image(layout.pipe, image), files.read_delays(layout.pipe, delays))
+def complaints(source, image, delays, forms):
+    """What a run doesn't keep, an error of the model among it; and the run.
+
+    It is held against the run of the pipe without its updates, and against that with other words in advisory memories.
+    """
+    layout = rules.checked(source, forms)
+    words, rows = files.read_image(layout.pipe, image), files.read_delays(layout.pipe, delays)
+    found, run = watched(layout, words, rows)
+    chance = random.Random(source)
+    if not found and layout.update_stage() is not None:
+        found = beside(run, promises.without_updates(layout), words, other_rows(rows, chance), "without updates")
+    if not found and any(memory.advisory for memory in layout.pipe.memories):
+        others = promises.with_other_advice(layout, words, chance)
+        found = beside(run, layout, others, other_rows(rows, chance), "with other advice")
+    return found, run
+
+
+def watched(layout, image, rows):
+    """What a run doesn't keep, and the run."""
+    run = promises.Run(layout, image, rows)
     try:
         return run.go(CYCLES), run
     except (AssertionError, AttributeError, IndexError, KeyError, StopIteration, TypeError) as error:
         return [f"cycle {run.cycles}: {error!r}"], run
 
 
-def still_fails(source, image, delays):
+def beside(run, layout, image, rows, how):
+    """What a second run doesn't keep, that its pipe is refused, or that it writes something else than the first one."""
     try:
-        return complaints(source, image, delays)[0] != []
+        rules.kept(layout)
+    except Refused as refusal:
+        return [f"{how}: {refusal}"]
+    found, second = watched(layout, image, rows)
+    if not found and not promises.write_the_same(run, second):
+        found = ["the writes are others"]
+    return [f"{how}: {it}" for it in found]
+
+
+def other_rows(rows, chance):
+    """Other replies: as they are, none for a while, or the same mixed."""
+    return chance.choice([rows, [], [set()] * 5 + rows, chance.sample(rows, len(rows))])
+
+
+def still_fails(source, image, delays, forms):
+    try:
+        return complaints(source, image, delays, forms)[0] != []
     except Refused:
         return False
 
@@ -70,42 +109,48 @@ def left_out(lines):
             opened.append(number)
 
 
-def smaller(source, image, delays):
+def smaller(source, image, delays, forms):
     """The same failure with as many lines left out as can be."""
     lines = source.splitlines(keepends=True)
     for out in left_out(lines):
         left = "".join(line for number, line in enumerate(lines) if number not in out)
-        if len(left) < len(source) and still_fails(left, image, delays):
-            return smaller(left, image, delays)
+        if len(left) < len(source) and still_fails(left, image, delays, forms):
+            return smaller(left, image, delays, forms)
     return source
 
 
-def watch(seed):
+def watch(seed, forms):
     """One random pipe: counts of what was seen, and its failure or None."""
-    chance = random.Random(seed)
-    pipe = random_whole.RandomPipe(chance, random_whole.random_features(chance))
-    source, image = pipe.source(), pipe.image()
-    delays = pipe.delay_rows(CYCLES)
+    source, image, delays = whole_pipe(random.Random(seed), forms)
     try:
-        found, run = complaints(source, image, delays)
+        found, run = complaints(source, image, delays, forms)
     except Refused as refusal:
         return Counter({str(refusal).split()[1]: 1, "refused": 1}), None
     seen = Counter(pipes=1, cycles=run.cycles, ended=run.ended, waits=run.waits, squashes=run.squashes,
                    commits=sum(map(len, run.commits.values())))
+    seen += Counter({f"pipes with {it}": 1 for it in forms_in(run.layout)})
     return seen, (source, image, delays) if found else None
 
 
-def watch_all(count, seed):
+def forms_in(layout):
+    """The forms that a pipe has."""
+    there = {Forms.TWO_WRITES: layout.written_twice, Forms.NESTED_FORKS: any(fork.inside for fork in layout.forks),
+             Forms.UPDATE: layout.update_stage() is not None,
+             Forms.ADVISORY: any(memory.advisory for memory in layout.pipe.memories)}
+    return [word_of(form) for form, is_there in there.items() if is_there]
+
+
+def watch_all(forms, count, seed):
     """Random pipes up to the first that fails."""
     seen = Counter()
     for number in range(count):
-        counts, failure = watch(f"{seed} {number}")
+        counts, failure = watch(f"{seed} {number}", forms)
         seen += counts
         if failure:
             source, image, delays = failure
-            source = smaller(source, image, delays)
+            source = smaller(source, image, delays, forms)
             print(f"pipe {number}:\n{source}\nimage:\n{image}\ndelays:\n{delays}")
-            print("\n".join(complaints(source, image, delays)[0]))
+            print("\n".join(complaints(source, image, delays, forms)[0]))
             return 1
     print(", ".join(f"{name} {count}" for name, count in seen.items()))
     return 0
@@ -162,20 +207,23 @@ def is_in_order(program, layout, cycles, delays, folder):
     return all(apart.get(memory, [])[: len(writes)] == writes for memory, writes in writes_of(ran).items())
 
 
-def differences(program, source, image, delays, cycles, threads, folder):
-    """The commands whose answers differ; None where the source is refused, and rightly."""
+def differences(program, forms, texts, cycles, threads, folder):
+    """The commands whose answers differ, of a source, an image and delays; None where the source is refused, and rightly."""
+    source, image, delays = texts
     (folder / "pipe.pdl").write_text(source)
     (folder / "pipe.img").write_text(image)
     (folder / "pipe.delays").write_text(delays)
     try:
-        layout = rules.checked(source)
+        layout = rules.checked(source, forms)
     except Refused as refusal:
         return None if answer(program, ["check", "pipe.pdl"], folder) == [str(refusal)] else ["check pipe.pdl"]
     found = [" ".join(command) for command, lines in due(layout, image, delays, cycles, threads)
              if answer(program, command, folder) != lines]
+    if found:
+        return found
     words, rows = files.read_image(layout.pipe, image), files.read_delays(layout.pipe, delays)
     ports = [files.port_line(layout, it) for it in files.turns(layout, words, cycles, rows)]
-    found += ["wave pipe.pdl"] if port_lines(program, cycles, delays, folder) != ports else []
+    found = ["wave pipe.pdl"] if port_lines(program, cycles, delays, folder) != ports else []
     return found + ([] if is_in_order(program, layout, cycles, delays, folder) else ["run and seq"])
 
 
@@ -203,56 +251,61 @@ def example_runs():
             yield (EXAMPLES / source).read_text(), (EXAMPLES / image).read_text(), delays, int(count)
 
 
-def plain_pipe(chance):
-    """A random pipe of the forms that the program compiles: source, image and delays."""
-    return *random_pipes.source_and_image(chance), ""
+def plain_pipe(chance, forms):
+    """A random pipe without delayed memories, guesses and forks: source, image and delays."""
+    return *random_pipes.source_and_image(chance, forms), ""
 
 
-def whole_pipe(chance):
-    """A random pipe of the whole base language."""
-    pipe = random_whole.RandomPipe(chance, random_whole.random_features(chance))
+def whole_pipe(chance, forms):
+    """A random pipe of the whole language, with some of these forms."""
+    chosen = random_whole.random_forms(chance, forms) if forms else forms
+    pipe = random_whole.RandomPipe(chance, random_whole.random_features(chance, chosen), chosen)
     return pipe.source(), pipe.image(), pipe.delay_rows(CYCLES)
 
 
 class Comparison:
-    """The program beside the model, in a folder for the files; `done` counts what was asked."""
+    """The program beside the model with some forms, in a folder for the files; `done` counts what was asked."""
 
-    def __init__(self, program, folder):
-        self.program, self.folder, self.done = str(pathlib.Path(program).resolve()), pathlib.Path(folder), Counter()
+    def __init__(self, program, forms, folder):
+        self.program, self.forms = str(pathlib.Path(program).resolve()), forms
+        self.folder, self.done = pathlib.Path(folder), Counter()
 
     def differs(self, kind, source, image, delays="", cycles=CYCLES, threads=THREADS):
         """Whether an answer differs; then it is told."""
-        found = differences(self.program, source, image, delays, cycles, threads, self.folder)
+        found = differences(self.program, self.forms, (source, image, delays), cycles, threads, self.folder)
         self.done[f"{kind} refused" if found is None else kind] += 1
         if found:
             print(f"{', '.join(found)}:\n{source}\nimage:\n{image}\ndelays:\n{delays}")
         return bool(found)
 
 
-def compare_all(program, make_pipe, count, seed):
+def compare_all(program, make_pipe, forms, count, seed):
     """The examples, random pipes and spoiled ones, until so many are accepted and run; ends at the first difference."""
-    chance = random.Random(seed)
+    chance, other_chance = random.Random(seed), random.Random(f"{seed} others")
     with tempfile.TemporaryDirectory() as folder:
-        beside = Comparison(program, folder)
+        beside = Comparison(program, forms, folder)
         wrong = any(beside.differs("examples", source, image, delays, number, number)
                     for source, image, delays, number in example_runs())
         while beside.done["pipes"] < count and not wrong:
-            source, image, delays = make_pipe(chance)
+            source, image, delays = make_pipe(chance, forms)
             wrong = (beside.differs("pipes", source, image, delays)
-                     or beside.differs("spoiled pipes", spoiled(chance, source), "image 1\n"))
+                     or beside.differs("spoiled pipes", spoiled(chance, source), "image 1\n")
+                     or make_pipe is whole_pipe and beside.differs("pipes of all forms", *whole_pipe(other_chance, ALL)))
     print(", ".join(f"{name} {count}" for name, count in beside.done.items()))
     return 1 if wrong else 0
 
 
 def main():
-    words = usage.words(__doc__, 1, 4)
+    words, forms = out_of(usage.words(__doc__, 1, 6))
+    if forms is None:
+        usage.ends("--forms names a form that there isn't")
     match words:
         case ["promises", *more] if len(more) <= 2:
-            return watch_all(*numbers(more))
+            return watch_all(forms, *numbers(more))
         case ["program", program, *more] if len(more) <= 2:
-            return compare_all(program, plain_pipe, *numbers(more))
+            return compare_all(program, plain_pipe, forms, *numbers(more))
         case ["whole", program, *more] if len(more) <= 2:
-            return compare_all(program, whole_pipe, *numbers(more))
+            return compare_all(program, whole_pipe, forms, *numbers(more))
     usage.ends(f"`{' '.join(words)}` is no call of it")
 
 

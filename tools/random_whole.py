@@ -1,7 +1,8 @@
-"""Random pipes of the whole base language: `RandomPipe(random, features).source()`, with `image()` and `delay_rows(..)`.
+"""Random pipes of the whole language: `RandomPipe(random, features, forms).source()`, with `image()` and `delay_rows(..)`.
 
-The features are some of `delayed`, `guess` and `fork`. What is made keeps the rules by its construction, but for few
-pipes; ask `pdl_model.rules.checked`, and take another where it doesn't.
+The features are some of `delayed`, `guess` and `fork`, the forms some of those that a program may take or not. Updates come
+with guesses, and nested forks with forks. What is made keeps the rules by its construction, but for few pipes; ask
+`pdl_model.rules.checked`, and take another where it doesn't.
 
 A pipe is made of *segments*, its trunk stages, and of forks: that of segment s stands at the segment's end, and its
 branches lead to segment s + 1. Each memory and each call has a plan first: its steps, each with a moment. Then the text is
@@ -9,83 +10,36 @@ written from the first moment to the last one, and the statements get their expr
 """
 
 from collections import defaultdict
-from typing import NamedTuple
 
+from pdl_model.forms import Forms
+from random_parts import Branch, Known, Location, Memory, Moment, Spot, bits
 from random_pipes import Scope
 
 FEATURES = ("delayed", "guess", "fork")
 MOST_GUARDS = 5
-
-
-class Moment(NamedTuple):
-    """When a step is done: in a segment, or in both branches of the fork at its end, so far on the way through them."""
-
-    segment: int
-    in_fork: bool = False
-    way: float = 0.0
-
-
-class Spot(NamedTuple):
-    """Where text is written: in a segment, or in a run of a branch. Run 0 of a branch belongs to the fork's stage."""
-
-    segment: int
-    side: bool | None = None
-    run: int = 0
-
-
-class Known(NamedTuple):
-    """A variable: it is there after a spot (at once, but for an answer), on the paths with these branches."""
-
-    name: str
-    width: int
-    branches: frozenset
-    answered_after: Spot | None
-
-
-class Memory:
-    """A memory's declaration."""
-
-    def __init__(self, random, number, delayed, locked):
-        self.name = f"{'d' if delayed else 'm'}{number}"
-        self.delayed = delayed
-        self.width = random.choice([1, 4, 8, 8, 16])
-        self.address = random.choice([1, 1, 2, 2, 3])
-        self.lock = random.choice(["queue"] if delayed else ["queue", "bypass", "rename"]) if locked else None
-        self.size = min(random.choice([1, 2, 4, 4, 8]), 1 << self.address if self.lock == "rename" else 8)
-        # Of a hot memory all threads use one word mostly.
-        self.hot = random.random() < 0.25
-
-    def text(self):
-        lock = f" lock {self.lock}({self.size})" if self.lock else ""
-        return f"{self.name}: uint<{self.width}>[{1 << self.address}] {'delayed' if self.delayed else 'comb'}{lock}"
-
-
-class Location:
-    """An address that a thread reserves, for reading or writing; `guard` is a variable on whose path it does, or None."""
-
-    def __init__(self, memory, kind):
-        self.memory, self.kind = memory, kind
-        self.address = self.guard = None
-
-    def at(self):
-        return f"{self.memory.name}[{self.address}]"
+MOST_LEVELS = 4
+MOST_INNER_FORKS = 3
 
 
 class RandomPipe:
     """A pipe: its plan, made at once, and the text, which `source` writes."""
 
-    def __init__(self, random, features):
-        self.random, self.scope = random, Scope(random)
+    def __init__(self, random, features, forms=Forms(0)):
+        self.random, self.scope, self.forms = random, Scope(random), forms
         self.segments = random.choice([2, 3, 4, 5, 6] if features else [1, 2, 3, 4, 5, 6])
+        if Forms.UPDATE in forms and "guess" in features:
+            self.segments = max(self.segments, 3)
         self.forks = self.make_forks() if "fork" in features else {}
         stages = range(1, self.segments)
         self.verify = max(random.choice(stages), random.choice(stages)) if "guess" in features else None
+        if Forms.UPDATE in forms and "guess" in features and self.chance(0.8):
+            self.verify = max(self.verify, 2)
         self.memories = self.make_memories("delayed" in features)
         self.parameters = [(f"n{k}", random.choice([2, 4, 4, 8])) for k in range(random.randint(1, 2))]
         self.known = [Known(name, width, frozenset(), None) for name, width in self.parameters]
         self.guards = []
         self.guard_count = 0
-        self.guess, self.guess_guard = [], None
+        self.guess, self.guess_guard, self.better = [], None, None
         self.branches = frozenset()
         self.spot = Spot(0)
         # Of each spot the steps of each memory, and of the calls, in order.
@@ -99,14 +53,28 @@ class RandomPipe:
         return self.random.random() < of_one
 
     def make_forks(self):
-        """Forks at the end of some segments: the numbers of stages of their branches, not both 0."""
+        """Forks at the end of some segments: their branches, of which not both are without a stage."""
         forks = {}
         while not forks:
             for segment in range(self.segments - 1):
                 lengths = self.random.randint(0, 3), self.random.randint(0, 3)
                 if self.chance(0.5) and lengths != (0, 0):
-                    forks[segment] = {True: lengths[0], False: lengths[1]}
+                    forks[segment] = {True: Branch(lengths[0], {}), False: Branch(lengths[1], {})}
+        if Forms.NESTED_FORKS in self.forms:
+            left = MOST_INNER_FORKS
+            for fork in forks.values():
+                left = self.make_inner_forks(fork, left, 2)
         return forks
+
+    def make_inner_forks(self, fork, left, level):
+        """Forks of this level in the branches of a fork, and in theirs; gives how many of those allowed are left."""
+        for branch in fork.values():
+            for run in range(1, branch.length):
+                lengths = self.random.randint(0, 3), self.random.randint(0, 2)
+                if left and level <= MOST_LEVELS and lengths != (0, 0) and self.chance(0.6):
+                    branch.forks[run] = {True: Branch(lengths[0], {}), False: Branch(lengths[1], {})}
+                    left = self.make_inner_forks(branch.forks[run], left - 1, level + 1)
+        return left
 
     def make_memories(self, with_delayed):
         kinds = [(False, True)] * self.random.randint(1, 2)
@@ -115,7 +83,10 @@ class RandomPipe:
         if with_delayed:
             kinds += [(True, self.chance(0.4)) for _ in range(self.random.choice([1, 1, 2, 3]))]
         self.random.shuffle(kinds)
-        return [Memory(self.random, number, delayed, locked) for number, (delayed, locked) in enumerate(kinds)]
+        memories = [Memory(self.random, number, delayed, locked) for number, (delayed, locked) in enumerate(kinds)]
+        if Forms.ADVISORY in self.forms:
+            memories += [Memory(self.random, number, False, False, True) for number in range(self.random.randint(1, 2))]
+        return memories
 
     # The plan
 
@@ -123,6 +94,8 @@ class RandomPipe:
         for memory in self.memories:
             if memory.lock:
                 self.plan_locked(memory)
+            elif memory.advisory:
+                self.plan_advice(memory)
             else:
                 self.plan_reads(memory)
         call = self.random.choice([0, 0, 0, self.random.randrange(self.segments)])
@@ -132,16 +105,27 @@ class RandomPipe:
         self.put(Moment(min(call, self.verify - 1)), "call", self.speculate)
         self.put(Moment(self.verify), "verify", self.check_guess)
         self.needs_check.add(min(call, self.verify - 1))
+        between = range(min(call, self.verify - 1) + 1, self.verify)
+        if Forms.UPDATE in self.forms and between and self.chance(0.9):
+            self.put(Moment(self.random.choice(between)), "update", self.better_guess)
 
     def put(self, moment, track, step, one_side=False):
         """Plans a step, in each branch where its moment is in a fork, or in one of them."""
         if not moment.in_fork:
             self.steps[Spot(moment.segment)][track].append(step)
             return
+        for inside in self.places(self.forks[moment.segment], moment.way, one_side):
+            self.steps[Spot(moment.segment, inside)][track].append(step)
+
+    def places(self, fork, way, one_side):
+        """Where a step so far on the way through a fork stands: in each branch, or in one of them."""
         sides = [self.random.choice([True, False])] if one_side else [True, False]
         for side in sides:
-            run = round(moment.way * self.forks[moment.segment][side])
-            self.steps[Spot(moment.segment, side, run)][track].append(step)
+            steps = fork[side].steps()
+            at = way * (len(steps) - 1)
+            run, is_fork = steps[round(at)]
+            within = self.places(fork[side].forks[run], at - round(at) + 0.5, one_side) if is_fork else [()]
+            yield from (((side, run), *rest) for rest in within)
 
     def moment(self, first, last):
         """A random moment from one to another."""
@@ -159,6 +143,12 @@ class RandomPipe:
         last = self.segments - 2 if self.verify is None or self.chance(0.3) else self.verify - 1
         moment = self.moment(Moment(0), Moment(last, last in self.forks, 1.0))
         self.put(moment, memory.name, lambda: self.ask(memory), True)
+
+    def plan_advice(self, memory):
+        """Reads and writes of an advisory memory, anywhere."""
+        for make in [self.look] * self.random.randint(1, 2) + [self.advise] * self.random.randint(1, 2):
+            moment = self.moment(Moment(0), Moment(self.segments - 1))
+            self.put(moment, memory.name, lambda make=make: make(memory), self.chance(0.5))
 
     def plan_locked(self, memory):
         """Reservations, blocks, reads, writes and releases of a locked memory, in an order that the rules allow."""
@@ -178,15 +168,26 @@ class RandomPipe:
         for location in writes:
             steps.append((self.moment(first, write), 2, lambda location=location: self.block(location)))
             steps.append((write, 4, lambda location=location: self.write(location)))
+        if Forms.TWO_WRITES in self.forms and writes and memory.size > 1 and self.chance(0.7):
+            writes.append(self.plan_second(writes[0], first, write, last, steps))
         for location in [*reads, *writes]:
             steps.append((first, 0, lambda location=location: self.reserve(location)))
-            steps.append((last, 5, lambda location=location: self.release(location)))
+            rank = self.random.choice([5, 6]) if len(writes) > 1 else 5
+            steps.append((last, rank, lambda location=location: self.release(location)))
         for moment, rank, step in sorted(steps, key=lambda it: it[:2]):
             self.put(moment, memory.name, step, rank == 3 and (memory.delayed or self.chance(0.4)))
         if self.verify is not None and reserve < self.verify:
             self.needs_check.add(reserve)
         if self.verify is not None and writes and release < self.verify:
             self.barriers.add(self.random.randint(0, release))
+
+    def plan_second(self, written, first, write, last, steps):
+        """The location of a second write, which comes after the first one."""
+        location = Location(written.memory, "W", written)
+        second = self.random.choice([write, self.moment(write, last)])
+        steps.append((self.moment(first, second), 2, lambda: self.block(location)))
+        steps.append((second, 4, lambda: self.write(location)))
+        return location
 
     def plan_read(self, location, first, before, last):
         """The block and the read of a location, up to the moment of the write; a delayed read is bound by the release."""
@@ -202,17 +203,17 @@ class RandomPipe:
 
     # Names
 
-    def see(self):
-        """Lets expressions use just the variables that are there."""
-        here = self.spot.segment, self.spot.run
+    def see(self, with_advice=False):
+        """Lets expressions use just the variables that are there: also those that hold advice, or not."""
+        here = self.spot.stage()
         self.scope.variables = [
             (it.name, it.width) for it in self.known
-            if it.branches <= self.branches
-            and (it.answered_after is None or (it.answered_after.segment, it.answered_after.run) < here)]
+            if it.branches <= self.branches and (with_advice or not it.is_advice)
+            and (it.answered_after is None or it.answered_after.stage() < here)]
 
-    def define(self, letter, width, is_answer=False):
+    def define(self, letter, width, is_answer=False, is_advice=False):
         name = self.scope.fresh(letter)
-        self.known.append(Known(name, width, self.branches, self.spot if is_answer else None))
+        self.known.append(Known(name, width, self.branches, self.spot if is_answer else None, is_advice))
         self.see()
         return name
 
@@ -222,6 +223,11 @@ class RandomPipe:
             name = self.define("a", memory.address)
             return name, f"{name} = {memory.address}'d1;"
         return self.bind("a", memory.address)
+
+    def same_address(self, location):
+        """A variable for the address that the first write has, and the line that binds it."""
+        name = self.define("a", location.memory.address)
+        return name, f"{name} = {location.first.address};"
 
     def bind(self, letter, width):
         """A new variable with an expression; an answer or read is taken often, so that values go on."""
@@ -263,8 +269,41 @@ class RandomPipe:
     # Steps of memories
 
     def look(self, memory):
-        address, line = self.address(memory)
-        return [line, f"{self.define('x', memory.width)} = {memory.name}[{address}];"]
+        address, line = self.advised_address(memory) if memory.advisory and self.chance(0.3) else self.address(memory)
+        return [line, f"{self.define('x', memory.width, is_advice=memory.advisory)} = {memory.name}[{address}];"]
+
+    def advise(self, memory):
+        address, line = self.advised_address(memory) if self.chance(0.3) else self.address(memory)
+        self.see(with_advice=self.chance(0.5))
+        value = self.scope.expression(memory.width, self.random.randint(0, 2))
+        self.see()
+        return [line, f"{memory.name}[{address}] <- {value};"]
+
+    def advised_address(self, memory):
+        """A variable for an address that may hang on advice, and the line that binds it."""
+        self.see(with_advice=True)
+        text = self.scope.expression(memory.address, self.random.randint(0, 1))
+        name = self.define("k", memory.address, is_advice=True)
+        return name, f"{name} = {text};"
+
+    def with_advice(self, arguments):
+        """The arguments, some of them by advice."""
+        if Forms.ADVISORY not in self.forms:
+            return arguments
+        self.see(with_advice=True)
+        found = [self.advised(text, width) if self.chance(0.4) else text for text, (_, width) in zip(arguments, self.parameters)]
+        self.see()
+        return found
+
+    def advised(self, text, width):
+        """An argument by a variable that holds advice, where one is there."""
+        there = {name for name, _ in self.scope.variables} & {it.name for it in self.known if it.is_advice}
+        fitting = [(name, bits) for name, bits in self.scope.variables if name in there]
+        if not fitting:
+            return text
+        name, bits = self.random.choice(fitting)
+        by = f"{name}[{width - 1}:0]" if bits > width else name if bits == width else f"zext({name}, {width})"
+        return self.random.choice([by, f"({text}) + {by}"])
 
     def ask(self, memory):
         guard, lines = self.new_guard() if self.chance(0.3) else (None, [])
@@ -281,7 +320,7 @@ class RandomPipe:
 
     def reserve(self, location):
         location.guard, lines = self.new_guard() if self.chance(0.3) else (None, [])
-        location.address, line = self.address(location.memory)
+        location.address, line = self.same_address(location) if location.first and self.chance(0.4) else self.address(location.memory)
         return [*lines, line,
                 *self.under(location.guard, lambda: [*self.own_check(), f"reserve({location.at()}, {location.kind});"])]
 
@@ -321,14 +360,26 @@ class RandomPipe:
 
         def guessed():
             self.guess = self.arguments()
-            return [*self.own_check(), f"s = spec_call({', '.join(self.guess)});"]
+            return [*self.own_check(), f"s = spec_call({', '.join(self.with_advice(self.guess))});"]
 
         lines += self.under(self.guess_guard, guessed)
         return [*lines[:-1], "} else {", *self.call(), "}"] if self.guess_guard else lines
 
+    def better_guess(self):
+        """An update: what the verify will find, mostly, or a guess as good as the first one."""
+
+        def guessed():
+            self.better = self.right_arguments()
+            return [f"update(s, {', '.join(self.with_advice(self.better))});"]
+
+        return self.under(self.guess_guard, guessed)
+
     def check_guess(self):
         """The verify: the guess is always right, always wrong, or right by chance."""
-        return self.under(self.guess_guard, lambda: [f"verify(s, {', '.join(self.right_arguments())});"])
+        return self.under(self.guess_guard, lambda: [f"verify(s, {', '.join(self.verified())});"])
+
+    def verified(self):
+        return self.better if self.better and self.chance(0.5) else self.right_arguments()
 
     def right_arguments(self):
         self.see()
@@ -366,23 +417,27 @@ class RandomPipe:
         elif segment in self.needs_check and segment not in self.checks_apart:
             lines.append("spec_check();")
         lines += self.lines_at(Spot(segment))
-        return lines + self.fork_lines(segment) if segment in self.forks else lines
+        return lines + self.fork_lines(Spot(segment), self.forks[segment]) if segment in self.forks else lines
 
-    def fork_lines(self, segment):
+    def fork_lines(self, spot, fork):
+        """A fork at the end of a spot."""
         guard, lines = self.new_guard()
         condition = guard
         if guard is None or self.chance(0.15):
             # A condition of its own, which no other `if` shares.
-            guard, condition = segment, f"{self.scope.leaf(1)} ^ 1'd{self.random.randint(0, 1)}"
-        first, second = (self.branch_lines(segment, guard, side) for side in (True, False))
+            guard, condition = spot, f"{self.scope.leaf(1)} ^ 1'd{self.random.randint(0, 1)}"
+        first, second = (self.branch_lines(spot, guard, side, fork[side]) for side in (True, False))
         return [*lines, f"if ({condition}) {{", *first, *(["} else {", *second] if second else []), "}"]
 
-    def branch_lines(self, segment, guard, side):
+    def branch_lines(self, spot, guard, side, branch):
         outside, self.branches = self.branches, self.branches | {(guard, side)}
-        lines = self.lines_at(Spot(segment, side, 0))
-        for run in range(1, self.forks[segment][side] + 1):
-            lines += ["---", *self.lines_at(Spot(segment, side, run))]
-        self.branches, self.spot = outside, Spot(segment)
+        lines = []
+        for run in range(branch.length + 1):
+            here = spot._replace(inside=(*spot.inside, (side, run)))
+            lines += [*(["---"] if run else []), *self.lines_at(here)]
+            if run in branch.forks:
+                lines += self.fork_lines(here, branch.forks[run])
+        self.branches, self.spot = outside, spot
         self.see()
         return lines
 
@@ -409,24 +464,21 @@ class RandomPipe:
         return "".join("".join(map(str, row)) + "\n" for row in rows)
 
 
-def bits(random, count, cycles):
-    """Reply bits: all ones, all zeros for a while, by a rate, in bursts, or a rate for each memory."""
-    kind = random.choice(["ones", "zeros", "half", "fifth", "bursts", "each"])
-    if kind == "ones":
-        return []
-    if kind == "zeros":
-        return [[0] * count] * random.choice([10, cycles])
-    if kind == "bursts":
-        rows, bit = [], 0
-        while len(rows) < cycles:
-            rows += [[bit] * count] * random.randint(1, 6)
-            bit = 1 - bit
-        return rows
-    rates = [{"half": 0.5, "fifth": 0.2}.get(kind) or random.choice([0.1, 0.3, 0.9, 1]) for _ in range(count)]
-    return [[int(random.random() < rate) for rate in rates] for _ in range(cycles)]
+def random_features(random, forms=Forms(0)):
+    """Some of the features, each one alone as often as together; mostly with those that the forms are of use with."""
+    found = random.choice([(), ("delayed",), ("guess",), ("fork",), ("delayed", "guess"), ("delayed", "fork"),
+                           ("guess", "fork"), FEATURES, FEATURES])
+    of_use = {Forms.NESTED_FORKS: "fork", Forms.UPDATE: "guess", Forms.ADVISORY: "guess"}
+    wanted = {feature for form, feature in of_use.items() if form in forms and random.random() < 0.8}
+    return tuple(feature for feature in FEATURES if feature in found or feature in wanted)
 
 
-def random_features(random):
-    """Some of the features, each one alone as often as together."""
-    return random.choice([(), ("delayed",), ("guess",), ("fork",), ("delayed", "guess"), ("delayed", "fork"),
-                          ("guess", "fork"), FEATURES, FEATURES])
+def random_forms(random, forms):
+    """Some of these forms, each one alone as often as together."""
+    among = list(forms)
+    kind = random.choice(["one", "some", "all"])
+    chosen = {"one": [random.choice(among)] if among else [], "all": among}.get(kind)
+    found = Forms(0)
+    for form in [form for form in among if random.random() < 0.5] if chosen is None else chosen:
+        found |= form
+    return found

@@ -13,125 +13,13 @@ import difflib
 import pathlib
 
 import usage
-from pdl_model import rule_guesses, rule_locks, rule_names, rules, syntax, tree
+from pdl_model import rule_advice, rule_guesses, rule_locks, rule_names, rules, syntax, tree
+from pdl_model.forms import TAKEN, Forms
 from pdl_model.layout import Layout, variable_widths
+from why_tokens import out_of_place
 
-# The most that a path names of its guards, and a list of what may stand at a token.
+# The most that a path names of its guards.
 MOST_GUARDS = 4
-MOST_WORDS = 8
-
-
-# Tokens out of place
-
-
-class Reader(syntax.Parser):
-    """Reads as the model does, and keeps for each token what would have been taken in its place."""
-
-    def __init__(self, text):
-        super().__init__(text)
-        self.wanted = {}
-
-    def want(self, what):
-        self.wanted.setdefault(self.at, []).append(what)
-
-    def sees(self, text):
-        self.want(f"`{text}`")
-        return super().sees(text)
-
-    def of_kind(self, kind):
-        self.want({"name": "a name", "number": "a number", "literal": "a literal as `1'd0`"}[kind])
-        return super().of_kind(kind)
-
-    def item(self):
-        self.want("a name")
-        return super().item()
-
-    def primary(self):
-        self.want("a value")
-        return super().primary()
-
-
-# Tokens that stand for something else in other languages, with what is written here.
-FOREIGN = {
-    ">": "there is no `>`: write `b < a`",
-    "=": "there is no `<=` and no `>=`: write `~(b < a)`",
-    "!": "`~` is not, `!=` is unequal",
-    "&": "`&` is the one for truth values too",
-    "|": "`|` is the one for truth values too",
-    "if": "an `if` after `else` stands in braces: `else { if (..) { .. } }`",
-    "/": "`//` begins a comment; there is no division",
-}
-VALUES = {"`cat`", "`lts`", "`zext`", "`sext`", "`(`", "`~`"}
-OPERATORS = {f"`{it}`" for level in syntax.LEVELS for it in level} | {"`?`"}
-
-
-def may_stand(wanted):
-    """What would have been taken, in few words."""
-    found = dict.fromkeys(wanted)
-    if "a value" in found:
-        found = [it for it in found if it not in VALUES]
-    if OPERATORS & set(found):
-        found = [it for it in found if it not in OPERATORS] + ["an operator"]
-    return ", ".join(list(found)[:MOST_WORDS])
-
-
-def hint(tokens, at, wanted):
-    """What may have been meant by the token of this number."""
-    token = tokens[at]
-    before = tokens[at - 1].text if at else ""
-    following = tokens[at + 1].text if at + 1 < len(tokens) else ""
-    if token.kind == "number" and following == "'" or at and tokens[at - 1].kind == "literal" and token.kind in ("bad", "name"):
-        return "a literal is a width, `'`, and `d` with decimal or `h` with lower case hexadecimal digits, as `8'hc8`"
-    if token.kind == "number" and "a value" in wanted:
-        return f"a number alone has no width: write it with one, as `8'd{token.text}`"
-    if token.kind in ("number", "literal") and wanted[-1] == "a name" and before == "[":
-        return "an address is a name: bind it before, as `a = 1'd0;`"
-    if token.text == "[" and before == ")":
-        return "only a name has bits: bind the expression to one first"
-    if token.kind == "name" and before == "[" and "a number" in wanted:
-        return "bits are told by two numbers, as `x[3:0]`; a memory is read by a statement of its own, as `x = m[a];`"
-    if token.text == "]" and "`:`" in wanted:
-        return "one bit is a slice of two numbers too, as `x[3:3]`"
-    if token.text == "," and before and "`)`" in wanted and "cat" in [it.text for it in tokens[max(0, at - 12):at]]:
-        return "`cat` and `lts` take two: `cat(a, cat(b, c))`"
-    if token.kind == "keyword" and "a name" in wanted and (wanted[-1] == "a name" or following == "="):
-        return f"`{token.text}` is a keyword, and no name"
-    if token.text == "[" and "`]`" in wanted:
-        return "an address is a name: bind the expression to one first"
-    if before == "]" and set(wanted) == {"`;`"}:
-        return "a read stands alone: bind it to a name, and use the name in an expression"
-    if token.text == ";" and before == "}":
-        return "no `;` stands after `}`"
-    if token.text == ":" and "`=`" in wanted:
-        return "`=` binds a name, and `<-` writes or asks a memory"
-    if token.kind == "bad" and token.text.isalpha():
-        return "a name begins with a lower case letter, goes on with these, digits and `_`, and has at most 32 characters"
-    if "`;`" in wanted and tokens[at].line > tokens[at - 1].line:
-        return f"a `;` may be missing in line {tokens[at - 1].line}"
-    if before in ("&", "|") and token.text == before:
-        return FOREIGN[before]
-    return FOREIGN.get(token.text, "") if token.text in (">", "!", "/") or before in ("<", ">", "else") else ""
-
-
-def out_of_place(text):
-    """Of a text that is no pipe: its first token out of place, what may stand there, and what may have been meant."""
-    reader = Reader(text)
-    try:
-        reader.pipe()
-        return []
-    except syntax.Refused:
-        token = reader.tokens[reader.at]
-    wanted = reader.wanted.get(reader.at, [])
-    here = "the end of the text" if token.kind == "end" else f"`{token.text}`"
-    said = [f"{here} is out of place"]
-    if token.text in ("(", "[", "{") and reader.open == syntax.MOST_BRACKETS:
-        return [f"{here} opens bracket {syntax.MOST_BRACKETS + 1}"]
-    if reader.operators > syntax.MOST_OPERATORS:
-        return [f"{here} is operator {syntax.MOST_OPERATORS + 1} of its statement"]
-    if wanted:
-        said[0] += f"; in its place may stand {may_stand(wanted)}"
-    meant = hint(reader.tokens, reader.at, wanted)
-    return said + ([meant] if meant else [])
 
 
 # Texts of expressions and statements
@@ -228,10 +116,10 @@ def names(layout, rule, place):
         unknown = [(it, variables) for it in sorted(used) if it not in variables]
         if isinstance(statement, rule_names.AT_MEMORY) and statement.memory not in memories:
             unknown.append((statement.memory, memories))
-        if isinstance(statement, tree.Verify) and statement.guess not in guesses:
+        if isinstance(statement, rule_names.OF_A_GUESS) and statement.guess not in guesses:
             unknown.append((statement.guess, guesses))
         return [f"`{it}` is no name of that kind" + near(it, known) for it, known in unknown]
-    used |= {statement.guess} if isinstance(statement, tree.Verify) else set()
+    used |= {statement.guess} if isinstance(statement, rule_names.OF_A_GUESS) else set()
     for name in sorted(used):
         where = defined.get(name)
         if where is None or where[0] != 2:
@@ -288,7 +176,7 @@ def widths(layout, rule, place):
     known = variable_widths(pipe)
     statement = layout.statements[place[1]].statement if place[0] == 2 else None
     expressions = rule_names.expressions_of(statement) if statement else pipe.start
-    for it in rule_names.nodes(expressions):
+    for it in tree.nodes(expressions):
         if rule in ("W1", "W2", "W3") and rule in set(rule_names.node_rules(it, known)):
             return [node_said(it, rule, known)]
     match statement:
@@ -336,7 +224,7 @@ def limits(layout, rule, place):
         return [f"{bits(layout.pipe.parameters[place[1]].width)}: a width is 1 to 64"]
     if place[0] != 1:
         expressions = rule_names.expressions_of(layout.statements[place[1]].statement) if place[0] == 2 else layout.pipe.start
-        return [f"a literal of {bits(it.bits)}: a width is 1 to 64" for it in rule_names.nodes(expressions)
+        return [f"a literal of {bits(it.bits)}: a width is 1 to 64" for it in tree.nodes(expressions)
                 if isinstance(it, tree.Literal) and not 1 <= it.bits <= 64][:1]
     it = layout.pipe.memories[place[1]]
     most = 6 if it.lock == "rename" else 16
@@ -362,15 +250,36 @@ def stages(layout, rule, place):
                       and x.branches and set(x.branches) & set(it.branches))
         return [f"its branch has a `---` in line {branch.statement.line}"]
     if rule == "F2":
-        return ["it stands in a branch" if it.branches else "no `---` stands right behind its `}`"]
+        return [fork_said(layout, it)]
     if rule in ("F4", "F5"):
         memory = layout.pipe.memory(statement.memory)
-        return [f"`{memory.name}` is {'delayed' if memory.delayed else 'comb'}" if rule == "F4" else f"`{memory.name}` has no lock"]
+        kind = "delayed" if memory.delayed else "advisory" if memory.advisory else "comb"
+        return [f"`{memory.name}` is {kind}" if rule == "F4" else f"`{memory.name}` has no lock"]
     return []
 
 
+def fork_said(layout, it):
+    """Why a fork may not stand where it does."""
+    if it.branches and Forms.NESTED_FORKS not in layout.forms:
+        return "it stands in a branch"
+    fork = layout.forks[[other.place for other in layout.statements if other.is_fork].index(it.place)]
+    if len(fork.inside) == rules.MOST_LEVELS:
+        return f"it stands in branches of {rules.MOST_LEVELS} forks"
+    if fork.inside and fork.stage == fork.inside[-1][0].stage:
+        return "no `---` of its branch stands before it"
+    return "no `---` stands right behind its `}`"
+
+
+def advice(layout, _, place):
+    """P1."""
+    statement = layout.statements[place[1]].statement
+    defined = dict(rule_names.defined_places(layout))
+    named = sorted(rule_advice.uses_that_count(layout.pipe, statement) & layout.advised)
+    return [f"`{it}`, bound in {at_line(layout, defined[it])}, holds advice, which only guesses may hang on" for it in named]
+
+
 def on_path(layout, rule, place):
-    """L1 to L8 and S1 to S5: a path on which the rule is broken at the place, and what it did before."""
+    """L1 to L8 and S1 to S7: a path on which the rule is broken at the place, and what it did before."""
     verifies = layout.verify_stage()
 
     def breaks(path):
@@ -378,15 +287,17 @@ def on_path(layout, rule, place):
         found = {
             "L1": lambda: [p for r, p in rule_locks.states(layout.pipe, statements) if r == "L1"],
             "L7": lambda: [p for r, p in rule_locks.states(layout.pipe, statements) if r == "L7"],
-            "L3": lambda: [(2, p) for p in rule_locks.reads_after_writes(statements)],
-            "L4": lambda: [p for r, p in rule_locks.reservations(statements) if r == "L4"],
-            "L5": lambda: [p for r, p in rule_locks.reservations(statements) if r == "L5"],
-            "L6": lambda: [(2, p) for p in rule_locks.unwritten_releases(statements)],
+            "L3": lambda: [(2, p) for p in rule_locks.reads_after_writes(layout.pipe, statements)],
+            "L4": lambda: [p for r, p in rule_locks.reservations(layout, statements) if r == "L4"],
+            "L5": lambda: [p for r, p in rule_locks.reservations(layout, statements) if r == "L5"],
+            "L6": lambda: [(2, p) for p in (*rule_locks.unwritten_releases(statements),
+                                            *rule_locks.second_writes_first(layout.pipe, statements))],
             "L8": lambda: [(2, p) for p in rule_locks.late_reads(layout, statements, path)],
             "S1": lambda: [p for _, p in rule_guesses.successors(statements)],
             "S2": lambda: [(2, p) for p in rule_guesses.unverified(statements)],
             "S4": lambda: [(2, p) for p in rule_guesses.uncertain_releases(statements, verifies)],
             "S5": lambda: [(2, p) for p in rule_guesses.unchecked(statements, verifies)],
+            "S6": lambda: [(2, p) for p in rule_guesses.misplaced_updates(statements, verifies)],
         }[rule]()
         return place in found
 
@@ -396,8 +307,9 @@ def on_path(layout, rule, place):
         first = next(x for x in layout.statements if isinstance(x.statement, kind) and x.statement.memory == memory)
         return [f"this is stage {it.stage}; the first of `{memory}` is in stage {first.stage}, "
                 f"{at_line(layout, (2, first.place))}"]
-    if rule == "S3":
-        first = next(x for x in layout.statements if isinstance(x.statement, tree.Verify))
+    if rule in ("S3", "S7"):
+        kind = tree.Verify if rule == "S3" else tree.Update
+        first = next(x for x in layout.statements if isinstance(x.statement, kind))
         return [f"this is stage {layout.statements[place[1]].stage}; the first is in stage {first.stage}, "
                 f"{at_line(layout, (2, first.place))}"]
     path, said = path_said(layout, breaks)
@@ -415,21 +327,11 @@ def happened(layout, rule, place, path):
         released = {(it.statement.memory, it.statement.address) for it in statements if isinstance(it.statement, tree.Release)}
         return [f"`{it.memory}[{it.address}]`, reserved in line {it.line}, is not released"
                 for it in taken if (it.memory, it.address) not in released][:1]
-    if rule == "S1":
-        calls = [it for it in statements if isinstance(it.statement, (tree.Call, tree.SpecCall))]
-        return [f"one was made in line {calls[0].statement.line}"] if calls else ["no `call` and no `spec_call`"]
+    if rule[0] == "S":
+        return [guess_said(layout, rule, place, statements)]
     statement = layout.statements[place[1]].statement
-    if rule == "S2":
-        again = [it for it in statements if isinstance(it.statement, tree.Verify) and it.statement.guess == statement.name]
-        return [f"it is verified in {' and '.join(f'line {it.statement.line}' for it in again)}" if again else
-                f"no `verify` of `{statement.name}`"]
-    stage = layout.statements[place[1]].stage
-    if rule in ("S4", "S5"):
-        first = next(it for it in layout.statements if isinstance(it.statement, tree.Verify))
-        wants = "`spec_barrier` before it" if rule == "S4" else f"`spec_check` before it in stage {stage}"
-        return [f"this is stage {stage}, the `verify` of line {first.statement.line} is in stage {first.stage}, "
-                f"and there is no {wants}"]
     if rule == "L8":
+        stage = layout.statements[place[1]].stage
         last = next(it for it in layout.statements if isinstance(it.statement, tree.Release)
                     and it.statement.memory == statement.memory)
         bound = layout.next_stage(stage, path) if isinstance(statement, tree.Ask) else stage
@@ -441,6 +343,10 @@ def happened(layout, rule, place, path):
                   and (isinstance(it.statement, tree.Write) == isinstance(statement, (tree.Read, tree.Ask)))
                   and getattr(it.statement, "kind", "W") == ("W" if rule == "L3" else statement.kind)]
         return [f"`{statement.memory}` was {NAMED[type(it.statement)]} in line {it.statement.line}" for it in others[-1:]]
+    if rule == "L6" and isinstance(statement, tree.Write):
+        first = next(it.statement for it in statements if isinstance(it.statement, tree.Reserve)
+                     and (it.statement.memory, it.statement.kind) == (statement.memory, "W"))
+        return [f"`{first.memory}[{first.address}]`, reserved first for W in line {first.line}, has to be written before it"]
     done = history(layout, path, place, statement.memory, statement.address)
     name = f"`{statement.memory}[{statement.address}]`"
     found = [f"{name} was {', '.join(done)}" if done else f"{name} was not reserved"]
@@ -455,20 +361,50 @@ def happened(layout, rule, place, path):
     return found
 
 
+def guess_said(layout, rule, place, statements):
+    """What a path did with its guess or call before it broke S1, S2, or one of S4 to S6."""
+    if rule == "S1":
+        calls = [it for it in statements if isinstance(it.statement, (tree.Call, tree.SpecCall))]
+        return f"one was made in line {calls[0].statement.line}" if calls else "no `call` and no `spec_call`"
+    it = layout.statements[place[1]]
+    if rule == "S2":
+        name = it.statement.name
+        again = [other for other in statements if isinstance(other.statement, tree.Verify) and other.statement.guess == name]
+        return (f"it is verified in {' and '.join(f'line {other.statement.line}' for other in again)}" if again else
+                f"no `verify` of `{name}`")
+    if rule == "S6":
+        return update_said(layout, statements, it)
+    first = next(other for other in layout.statements if isinstance(other.statement, tree.Verify))
+    wants = "`spec_barrier` before it" if rule == "S4" else f"`spec_check` before it in stage {it.stage}"
+    return f"this is stage {it.stage}, the `verify` of line {first.statement.line} is in stage {first.stage}, and there is no {wants}"
+
+
+def update_said(layout, statements, it):
+    """Why an update may not stand where it does."""
+    verifies = layout.verify_stage()
+    before = [other for other in statements if other.place < it.place]
+    guess = next(other for other in before if isinstance(other.statement, tree.SpecCall) and other.statement.name == it.statement.guess)
+    if it.stage <= guess.stage:
+        return f"this is stage {it.stage}, that of the `spec_call` in line {guess.statement.line}"
+    if verifies is not None and it.stage >= verifies:
+        return f"this is stage {it.stage}, which is not before stage {verifies}, that of the `verify`"
+    return next(f"a guess was updated in line {other.statement.line}" for other in before if isinstance(other.statement, tree.Update))
+
+
 def said_with(layout, statement):
     """The line in which another path reserves this location; None where none does."""
     return next((it.statement.line for it in layout.statements if isinstance(it.statement, tree.Reserve)
                  and (it.statement.memory, it.statement.address) == (statement.memory, statement.address)), None)
 
 
-def details(text, rule, line):
+def details(text, rule, line, forms=TAKEN):
     """What of a source text breaks the rule at the line; nothing where the model finds nothing there."""
     if rule == "G1":
-        return out_of_place(text)
-    layout = Layout(syntax.parse(text))
+        return out_of_place(text, forms)
+    layout = Layout(syntax.parse(text, forms), forms)
     asked = {"Z": rules.limits, "N": rule_names.names, "W": rule_names.widths, "F": rules.forks, "L": rule_locks.locks,
-             "S": rule_guesses.guesses}.get(rule[0])
-    said = {"Z": limits, "N": names, "W": widths, "F": stages, "L": on_path, "S": on_path}.get(rule[0])
+             "S": rule_guesses.guesses, "P": rule_advice.advice}.get(rule[0])
+    said = {"Z": limits, "N": names, "W": widths, "F": stages, "L": on_path, "S": on_path, "P": advice}.get(rule[0])
     found = sorted(place for broken, place in asked(layout) if broken == rule) if asked else []
     if not found or rules.line_of(layout, found[0]) != line:
         return []

@@ -5,6 +5,7 @@ docs/machine.md), and shares nothing with `pdl`. Read it in this order:
 
     words       numbers of a given width, and the operations on them
     tree        what a source text consists of
+    forms       forms of the language that the program may take or not, each behind a switch
     syntax      from the text to the tree
     layout      stages, guards and paths: the tree laid out as a list of statements
     sequential  the threads run wholly one after another
@@ -13,7 +14,7 @@ docs/machine.md), and shares nothing with `pdl`. Read it in this order:
     moves       which threads move
     machine     what a cycle does
     files       images and delay files, and the lines that a run prints
-    rules       which pipes are refused, with rule_names, rule_locks and rule_guesses
+    rules       which pipes are refused, with rule_names, rule_locks, rule_guesses and rule_advice
     sound       what holds in every state that a pipe can reach
-    promises    what a whole run has to keep
+    promises    what a whole run has to keep, and two runs that differ in guesses alone
 """

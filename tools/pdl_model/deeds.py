@@ -18,13 +18,14 @@ class Deeds:
     truths: dict
     held: dict
     guess: tuple | None
-    reserves: list = field(default_factory=list)  # memory and address of each write that it reserves
-    writes: list = field(default_factory=list)  # memory and value
-    releases: list = field(default_factory=list)  # the memories whose reserved write it releases
+    reserves: list = field(default_factory=list)  # memory, variable and address of each write that it reserves
+    writes: list = field(default_factory=list)  # memory, variable and value
+    releases: list = field(default_factory=list)  # the memory of each reserved write that it releases
+    advice: list = field(default_factory=list)  # memory, address and value of each advisory write
     asks: dict = field(default_factory=dict)  # of a delayed memory: the variable to bind, and the address
     at_barrier: bool = False
     successor: tuple | None = None  # the arguments of its call or speculative call
-    correction: tuple | None = None  # the arguments of a verify that fails
+    correction: tuple | None = None  # the arguments of a verify that fails, or of an update that changes the guess
 
 
 class NotReady(Exception):
@@ -44,9 +45,9 @@ def write_ready(state, memory, thread, address):
     return memory.lock != "queue" or state.older_write(memory.name, thread, address) is None
 
 
-def has_room(state, memory):
-    """Whether one more write can be reserved."""
-    return len(state.pending[memory.name]) < memory.size
+def has_room(state, memory, count):
+    """Whether so many more writes can be reserved."""
+    return len(state.pending[memory.name]) + count <= memory.size
 
 
 def word_for(state, memory, thread, address):
@@ -92,6 +93,12 @@ def do(pipe, state, number, deeds, placed):
         case tree.Verify(_, _, arguments):
             right = evaluated(arguments, deeds)
             deeds.correction = right if right != deeds.guess else None
+        case tree.Update(_, _, arguments):
+            better = evaluated(arguments, deeds)
+            deeds.correction = better if better != deeds.guess else None
+            deeds.guess = better
+        case tree.Write(_, memory, address, value) if pipe.memory(memory).advisory:
+            deeds.advice.append((memory, deeds.values[address].value, value.value(deeds.values).value))
         case tree.Reserve() | tree.Block() | tree.Write() | tree.Release():
             use_lock(pipe, state, number, deeds, placed.statement)
 
@@ -108,13 +115,13 @@ def use_lock(pipe, state, number, deeds, statement):
         case tree.Reserve(kind=kind):
             deeds.held[location] = kind
             if kind == "W":
-                deeds.reserves.append((statement.memory, address))
+                deeds.reserves.append((*location, address))
         case tree.Block():
             ready = read_ready if deeds.held[location] == "R" else write_ready
             if not ready(state, memory, number, address):
                 raise NotReady
         case tree.Write(value=value):
-            deeds.writes.append((statement.memory, value.value(deeds.values).value))
+            deeds.writes.append((*location, value.value(deeds.values).value))
         case tree.Release():
             if deeds.held.pop(location) == "W":
                 deeds.releases.append(statement.memory)

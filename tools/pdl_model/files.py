@@ -68,7 +68,7 @@ def run_lines(layout, image, cycles, rows=()):
         f"{cycle} {memory.name} {commit[0]} {digits(commit[1], memory.width)}"
         for cycle, ports in enumerate(seen, 1)
         for memory in layout.pipe.locked()
-        if (commit := ports.commits[memory.name]) is not None]
+        for commit in ports.commits[memory.name]]
     ended, waits, squashes = (sum(getattr(it, name) for it in seen) for name in ("ended", "waits", "squash"))
     return [*lines, f"end cycles {cycles} ended {ended} waits {waits} squashes {squashes}"]
 
@@ -95,9 +95,11 @@ def port_line(layout, ports):
     pairs = [pair for stage, (valid, moves) in enumerate(zip(ports.valid, ports.moves))
              for pair in ((f"v_{stage}", valid), (f"g_{stage}", moves))]
     for memory in layout.pipe.locked():
-        address, value = ports.commits[memory.name] or (0, 0)
-        pairs += [(f"c_{memory.name}", ports.commits[memory.name] is not None),
-                  (f"ca_{memory.name}", address), (f"cd_{memory.name}", value)]
+        for place in range(2 if memory.name in layout.written_twice else 1):
+            commits = ports.commits[memory.name][place:]
+            address, value = commits[0] if commits else (0, 0)
+            names = [f"{letters}{'2' * place}_{memory.name}" for letters in ("c", "ca", "cd")]
+            pairs += zip(names, (bool(commits), address, value))
     for memory in layout.pipe.delayed():
         address = ports.requests[memory.name]
         pairs += [(f"q_{memory.name}", address is not None), (f"qa_{memory.name}", address or 0)]

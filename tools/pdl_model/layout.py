@@ -1,9 +1,11 @@
 """Stages, guards and paths: the tree of a pipe laid out as a list of statements."""
 
+import functools
 import itertools
 from dataclasses import dataclass, field
 
 from . import tree
+from .forms import TAKEN
 
 
 @dataclass(frozen=True)
@@ -26,12 +28,17 @@ class Placed:
         return not self.branches or all(truths[guard] == taken for guard, taken in self.branches)
 
 
-@dataclass
+@dataclass(eq=False)
 class Fork:
-    """An `if` that holds separators: where the stages of its branches stand."""
+    """An `if` that holds separators: where the stages of its branches stand.
+
+    The stages of a branch are those that begin in no `if` of that branch. `inside` are the branches that the fork itself
+    stands in, each as a fork and whether it is the first branch, the outermost first.
+    """
 
     stage: int
     guard: int
+    inside: tuple = ()
     first: list = field(default_factory=list)
     second: list = field(default_factory=list)
     merge: int | None = None
@@ -41,64 +48,67 @@ class Fork:
 
 
 class Layout:
-    """A pipe's statements in text order, its stages, guards and forks."""
+    """A pipe's statements in text order, its stages, guards and forks, by the forms of the language that are taken."""
 
-    def __init__(self, pipe):
-        self.pipe = pipe
+    def __init__(self, pipe, forms=TAKEN):
+        self.pipe, self.forms = pipe, forms
         self.statements = []
         self.conditions = []
         self.forks = []
         self.count = 1
         self._stage = 0
         self._guards = {}
-        self._unmerged = []
-        self._walk(pipe.body, (), None)
+        self._walk(pipe.body, (), ())
         self.by_stage = [[it for it in self.statements if it.stage == stage] for stage in range(self.count)]
-        self.branch_stages = {
-            stage: (fork, taken) for fork in self.forks for taken in (True, False) for stage in fork.stages_of(taken)}
+        # Of each stage the branches round it, the outermost first.
+        self.inside = [()] * self.count
+        for fork in self.forks:
+            for taken in (True, False):
+                for stage in fork.stages_of(taken):
+                    self.inside[stage] = (*fork.inside, (fork, taken))
         self.merges = {fork.merge: fork for fork in self.forks if fork.merge is not None}
 
     # Laying out
 
-    def _walk(self, items, branches, branch):
-        """Places the statements of a list. `branch` is the list of stages of the fork's branch that it stands in."""
+    def _walk(self, items, branches, inside):
+        """Places the statements of a list. `inside` are the branches of forks that it stands in."""
+        unmerged = []
         for item in items:
             if isinstance(item, tree.If):
-                self._branching(item, branches, branch)
+                unmerged += self._branching(item, branches, inside)
             else:
                 if isinstance(item, tree.Separator):
-                    self._separate(branch)
+                    self._separate(inside, unmerged)
+                    unmerged = []
                 self._place(item, branches)
 
     def _place(self, item, branches, guard=None, is_fork=False):
         self.statements.append(Placed(len(self.statements), item, self._stage, branches, guard, is_fork))
 
-    def _separate(self, branch):
-        """A `---`: the next stage begins, of a branch or of the trunk."""
+    def _separate(self, inside, unmerged):
+        """A `---`: the next stage begins, of a branch or of the trunk. Forks before it in the same list merge there."""
         self._stage = self.count
         self.count += 1
-        if branch is not None:
-            branch.append(self._stage)
-            return
-        for fork in self._unmerged:
+        if inside:
+            fork, taken = inside[-1]
+            fork.stages_of(taken).append(self._stage)
+        for fork in unmerged:
             fork.merge = self._stage
-        self._unmerged = []
 
-    def _branching(self, item, branches, branch):
+    def _branching(self, item, branches, inside):
+        """Places an `if` with what stands in it; gives it as a fork where it is one."""
         guard = self._guard(item.condition)
-        is_fork = tree.holds_separator(item.first) or tree.holds_separator(item.second)
+        is_fork = tree.holds_separator([item])
         self._place(item, branches, guard, is_fork)
-        fork = Fork(self._stage, guard)
-        if is_fork and branch is None:
-            self.forks.append(fork)
         home = self._stage
+        fork = Fork(home, guard, inside)
+        if is_fork:
+            self.forks.append(fork)
         for taken, items in ((True, item.first), (False, item.second)):
             self._stage = home
-            inner = fork.stages_of(taken) if is_fork and branch is None else branch
-            self._walk(items, (*branches, (guard, taken)), inner)
-            self._stage = home if is_fork else self._stage
-        if is_fork and branch is None:
-            self._unmerged.append(fork)
+            self._walk(items, (*branches, (guard, taken)), (*inside, (fork, taken)) if is_fork else inside)
+        self._stage = home
+        return [fork] if is_fork else []
 
     def _guard(self, condition):
         """The number of a condition: `if`s on one plain variable share it."""
@@ -116,22 +126,23 @@ class Layout:
         """The next stage of a thread with these truth values, or None after the last stage."""
         if stage == self.count - 1:
             return None
-        if stage in self.branch_stages:
-            fork, taken = self.branch_stages[stage]
-            own = fork.stages_of(taken)
-            return fork.merge if stage == own[-1] else stage + 1
         fork = self.fork_of(stage)
-        if fork is None:
-            return stage + 1
-        inside = fork.stages_of(truths[fork.guard])
-        return inside[0] if inside else fork.merge
+        if fork is not None:
+            within = fork.stages_of(truths[fork.guard])
+            return within[0] if within else fork.merge
+        if self.inside[stage]:
+            outer, taken = self.inside[stage][-1]
+            own = outer.stages_of(taken)
+            return outer.merge if stage == own[-1] else own[own.index(stage) + 1]
+        return stage + 1
 
     def fork_of(self, stage):
         """The fork that stands in a stage, or None."""
         return next((fork for fork in self.forks if fork.stage == stage), None)
 
-    def is_trunk(self, stage):
-        return stage not in self.branch_stages
+    def branch_of(self, fork, stage):
+        """The branch of a fork that a stage stands in, at any depth: True is the first one. None outside."""
+        return next((taken for outer, taken in self.inside[stage] if outer is fork), None)
 
     # Paths
 
@@ -154,7 +165,7 @@ class Layout:
         """The greatest number of stages on a path."""
         return max(len(self.stages_on(path)) for path in self.paths())
 
-    # Stages of the locks and of the verifies
+    # Stages of the locks, the verifies and the updates
 
     def stage_of_first(self, kind, memory=None):
         """The stage of the first statement of a kind in the text, of this memory where one is named; else None."""
@@ -165,6 +176,27 @@ class Layout:
 
     def verify_stage(self):
         return self.stage_of_first(tree.Verify)
+
+    def update_stage(self):
+        return self.stage_of_first(tree.Update)
+
+    # What the whole text says
+
+    @functools.cached_property
+    def advised(self):
+        """The variables that hold advice."""
+        return self.pipe.advised()
+
+    @functools.cached_property
+    def written_twice(self):
+        """The locked memories that some path reserves twice for writing, by their names."""
+        return {memory.name for memory in self.pipe.locked()
+                if any(len(self.write_addresses(path, memory.name)) > 1 for path in self.paths())}
+
+    def write_addresses(self, path, memory):
+        """The variables by which a path reserves a memory for writing, in text order."""
+        return [it.statement.address for it in self.on_path(path) if isinstance(it.statement, tree.Reserve)
+                and (it.statement.memory, it.statement.kind) == (memory, "W")]
 
 
 def variable_widths(pipe):

@@ -12,10 +12,10 @@ class Ports:
     """What is seen of a cycle.
 
     valid, moves   for each stage whether it holds a thread at the start, and whether that moves
-    commits        of each locked memory the address and value of the write that is released, or None
+    commits        of each locked memory the address and value of each write that is released, the older first
     requests       of each delayed memory the address that is asked for, or None
     ended          whether a thread moved out of the last stage
-    squash         whether a failing verify moved
+    squash         whether a failing verify moved, or an update that changes the guess
     waits          whether a request was outstanding at the start and isn't answered in this cycle
     """
 
@@ -55,10 +55,11 @@ class Step:
 
     def __init__(self, layout, state, deeds, moves, answers):
         self.layout, self.state, self.answers = layout, state, answers
-        # The threads that move, each with its stage and its deeds.
+        # The threads that move, each with its stage and its deeds, from stage 0 on.
         self.moved = [(stage, state.stages[stage], deeds[stage]) for stage in range(layout.count) if moves[stage]]
-        self.squasher = next((thread for _, thread, own in self.moved if own.correction), None)
-        self.commits = dict.fromkeys(state.pending)
+        self.squash_stage, self.squasher = next(
+            ((stage, thread) for stage, thread, own in self.moved if own.correction), (None, None))
+        self.commits = {memory: [] for memory in state.pending}
         self.asked = dict.fromkeys(state.requests)
 
     def take(self):
@@ -66,6 +67,7 @@ class Step:
         self.reserve()
         self.write()
         self.release()
+        self.advise()
         self.pass_forks()
         self.answer()
         self.advance()
@@ -77,31 +79,41 @@ class Step:
     def reserve(self):
         """Reservations for writing append an entry without a value."""
         for _, thread, own in self.moved:
-            for memory, address in own.reserves:
-                self.state.pending[memory].append(Pending(thread.number, address))
+            for memory, variable, address in own.reserves:
+                self.state.pending[memory].append(Pending(thread.number, variable, address))
 
     def write(self):
-        """Writes put their value into their thread's entry."""
+        """Writes put their value into the entry of their own reservation."""
         for _, thread, own in self.moved:
-            for memory, value in own.writes:
-                entry = next(it for it in self.state.pending[memory] if it.thread == thread.number)
+            for memory, variable, value in own.writes:
+                mine = (thread.number, variable)
+                entry = next(it for it in self.state.pending[memory] if (it.thread, it.variable) == mine)
                 entry.value = value
 
     def release(self):
-        """A release takes the oldest entry out, which is the thread's own, and puts its value into the array."""
+        """A release takes the oldest entry out, which is the thread's own, and puts its value into the array.
+
+        Of two releases the second takes the next one, whatever their order in the text.
+        """
         for _, thread, own in self.moved:
             for memory in own.releases:
                 entry = self.state.pending[memory].pop(0)
                 assert entry.thread == thread.number and entry.value is not None
                 self.state.arrays[memory][entry.address] = entry.value
-                self.commits[memory] = entry.address, entry.value
+                self.commits[memory].append((entry.address, entry.value))
+
+    def advise(self):
+        """Advisory writes change their words: of the greatest stage first, and within a stage in the order of the text."""
+        for _, _, own in reversed(self.moved):
+            for memory, address, value in own.advice:
+                self.state.arrays[memory][address] = value
 
     def pass_forks(self):
         """Who goes from a fork into a branch stands last in the fork's list, and who comes to the merge leaves it."""
         for stage, _, own in self.moved:
-            following = self.layout.next_stage(stage, own.truths)
-            if following in self.layout.merges and not self.layout.is_trunk(stage):
-                self.state.branches[self.layout.forks.index(self.layout.merges[following])].pop(0)
+            fork = self.layout.merges.get(self.layout.next_stage(stage, own.truths))
+            if fork and self.layout.branch_of(fork, stage) is not None:
+                self.state.branches[self.layout.forks.index(fork)].pop(0)
         for stage, _, own in self.moved:
             fork = self.layout.fork_of(stage)
             if fork and fork.stages_of(own.truths[fork.guard]):
@@ -130,13 +142,13 @@ class Step:
                     asked={memory: name for memory, (name, _) in own.asks.items()})
 
     def squash(self):
-        """Every thread younger than the one whose guess was wrong is removed, and what it left behind."""
+        """Every thread younger than the one whose guess was wrong is removed, and what it left behind but its advice."""
         state, last = self.state, self.squasher.number
         state.stages = [thread if thread and thread.number <= last else None for thread in state.stages]
         for memory, entries in state.pending.items():
             state.pending[memory] = [entry for entry in entries if entry.thread <= last]
         for fork, inside in zip(self.layout.forks, state.branches):
-            if fork.merge <= self.layout.verify_stage():
+            if fork.merge <= self.squash_stage:
                 inside.clear()
         for request in state.requests.values():
             if request and request.owner is not None and request.owner > last:

@@ -29,13 +29,14 @@ def may_move(layout, state, deeds, answers, moves, stage):
 
 
 def fails_later(deeds, moves, stage):
-    """1: a thread in a later stage moves with a failing verify."""
+    """1: a thread in a later stage moves with a failing verify or an update that changes its guess."""
     return any(moves[later] and deeds[later].correction for later in range(stage + 1, len(moves)))
 
 
 def have_room(layout, state, own):
-    """3: each write reservation has room."""
-    return all(acts.has_room(state, layout.pipe.memory(memory)) for memory, _ in own.reserves)
+    """3: the write reservations of each memory have room together."""
+    reserved = [memory for memory, _, _ in own.reserves]
+    return all(acts.has_room(state, layout.pipe.memory(memory), reserved.count(memory)) for memory in reserved)
 
 
 def ports_free(state, answers, moves, own):
@@ -70,7 +71,6 @@ def merges_well(layout, state, own, stage):
     fork = layout.merges.get(layout.next_stage(stage, own.truths))
     if fork is None:
         return True
-    inside = state.branches[layout.forks.index(fork)]
-    if layout.is_trunk(stage):
-        return not inside
-    return inside[:1] == [layout.branch_stages[stage][1]]
+    there = state.branches[layout.forks.index(fork)]
+    branch = layout.branch_of(fork, stage)
+    return not there if branch is None else there[:1] == [branch]

@@ -3,11 +3,18 @@
 - The commits of a memory are the first writes of the threads run one after another: all those of the ended threads, and
   none of a thread that comes after the K threads that follow them, K being the number of stages.
 - In each cycle that is no wait the oldest live thread moves. So at least (cycles - waits) / depth threads end.
-- The arrays at the end are the image with the commits.
+- The arrays at the end are the image with the commits, those of advisory memories aside.
 - Every state on the way is sound.
+
+Two runs that differ in guesses alone have to write the same: those of a pipe with and without its updates, and those of two
+images that differ in advisory memories alone.
 """
 
+import dataclasses
+
+from . import tree
 from .files import replies_of
+from .layout import Layout
 from .machine import Machine
 from .sequential import Sequential
 from .sound import Sound
@@ -45,9 +52,8 @@ class Run:
         self.squashes += ports.squash
         if not ports.waits and not ports.moves[oldest]:
             self.complain("no wait, and the oldest thread doesn't move")
-        for memory, commit in ports.commits.items():
-            if commit is not None:
-                self.commits[memory].append(commit)
+        for memory, commits in ports.commits.items():
+            self.commits[memory] += commits
         for point in self.sound.complaints(self.machine.state, self.ended):
             self.complain(f"not sound afterwards: {point}")
 
@@ -67,7 +73,8 @@ class Run:
         for memory, commits in self.commits.items():
             for address, value in commits:
                 arrays[memory][address] = value
-        if arrays != self.machine.state.arrays:
+        if any(arrays[memory.name] != self.machine.state.arrays[memory.name]
+               for memory in self.layout.pipe.memories if not memory.advisory):
             self.complain("the arrays aren't the image with the commits")
         if self.ended < (self.cycles - self.waits) // self.layout.depth():
             self.complain("too few threads have ended")
@@ -78,3 +85,27 @@ def watched(layout, image, rows, cycles):
     run = Run(layout, image, rows)
     run.go(cycles)
     return run
+
+
+# Runs that differ in guesses alone
+
+
+def without_updates(layout):
+    """The pipe with no update, which has to keep all rules too."""
+    return Layout(dataclasses.replace(layout.pipe, body=tree.without(layout.pipe.body, tree.Update)), layout.forms)
+
+
+def with_other_advice(layout, image, random):
+    """The image with other words in the advisory memories."""
+    others = {memory.name: [random.getrandbits(memory.width) for _ in range(memory.depth)]
+              for memory in layout.pipe.memories if memory.advisory}
+    return image | others
+
+
+def write_the_same(first, second):
+    """Whether of each memory's commits in two runs one list begins with the other, and the threads' writes are the same."""
+    threads = max(first.ended, second.ended) + 1
+    return all(
+        first.writes(memory, threads) == second.writes(memory, threads)
+        and all(it == other for it, other in zip(commits, second.commits[memory]))
+        for memory, commits in first.commits.items())

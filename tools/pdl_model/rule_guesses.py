@@ -4,15 +4,18 @@ from . import tree
 
 
 def guesses(layout):
-    """The breaks of S1 to S5."""
+    """The breaks of S1 to S7."""
     verifies = layout.verify_stage()
     for placed in layout.statements:
         if isinstance(placed.statement, tree.Verify) and placed.stage != verifies:
             yield "S3", (2, placed.place)
+        if isinstance(placed.statement, tree.Update) and placed.stage != layout.update_stage():
+            yield "S7", (2, placed.place)
     for path in layout.paths():
         statements = layout.on_path(path)
         yield from successors(statements)
         yield from (("S2", (2, place)) for place in unverified(statements))
+        yield from (("S6", (2, place)) for place in misplaced_updates(statements, verifies))
         if verifies is not None:
             yield from (("S4", (2, place)) for place in uncertain_releases(statements, verifies))
             yield from (("S5", (2, place)) for place in unchecked(statements, verifies))
@@ -60,3 +63,17 @@ def unchecked(statements, verifies):
         elif isinstance(placed.statement, (tree.Reserve, tree.SpecCall)):
             if placed.stage < verifies and placed.stage not in checked:
                 yield placed.place
+
+
+def misplaced_updates(statements, verifies):
+    """On a path: updates that aren't in a later stage than their guess, or not before the verifies' stage; and a second (S6)."""
+    guessed, has_updated = {}, False
+    for placed in statements:
+        match placed.statement:
+            case tree.SpecCall(name=name):
+                guessed[name] = placed.stage
+            case tree.Update(guess=guess):
+                is_late = verifies is not None and placed.stage >= verifies
+                if placed.stage <= guessed[guess] or is_late or has_updated:
+                    yield placed.place
+                has_updated = True

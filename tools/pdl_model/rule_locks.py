@@ -1,6 +1,7 @@
 """The rules on locks (L)."""
 
 from . import tree
+from .forms import Forms
 
 
 def locks(layout):
@@ -9,9 +10,10 @@ def locks(layout):
     for path in layout.paths():
         statements = layout.on_path(path)
         yield from states(layout.pipe, statements)
-        yield from (("L3", (2, place)) for place in reads_after_writes(statements))
-        yield from reservations(statements)
+        yield from (("L3", (2, place)) for place in reads_after_writes(layout.pipe, statements))
+        yield from reservations(layout, statements)
         yield from (("L6", (2, place)) for place in unwritten_releases(statements))
+        yield from (("L6", (2, place)) for place in second_writes_first(layout.pipe, statements))
         yield from (("L8", (2, place)) for place in late_reads(layout, statements, path))
 
 
@@ -53,14 +55,14 @@ def scattered(layout):
                 yield placed.place
 
 
-def reads_after_writes(statements):
+def reads_after_writes(pipe, statements):
     """On a path: read reservations after the memory's write reservation, and reads after its write (L3)."""
     reserved, written = set(), set()
     for placed in statements:
         match placed.statement:
             case tree.Reserve(memory=memory, kind="W"):
                 reserved.add(memory)
-            case tree.Write(memory=memory):
+            case tree.Write(memory=memory) if pipe.memory(memory).lock:
                 written.add(memory)
             case tree.Reserve(memory=memory) if memory in reserved:
                 yield placed.place
@@ -68,14 +70,21 @@ def reads_after_writes(statements):
                 yield placed.place
 
 
-def reservations(statements):
+def most_reservations(layout, statement):
+    """How many reservations of the kind of this one a path may have: two for writing where the lock has room for them."""
+    if statement.kind == "R":
+        return 4
+    return 2 if Forms.TWO_WRITES in layout.forms and layout.pipe.memory(statement.memory).size > 1 else 1
+
+
+def reservations(layout, statements):
     """On a path: too many reservations of a memory (L4), and a variable reserved twice for one (L5)."""
     made = []
     for placed in statements:
         statement = placed.statement
         if isinstance(statement, tree.Reserve):
             same = sum(1 for it in made if (it.memory, it.kind) == (statement.memory, statement.kind))
-            if same == (1 if statement.kind == "W" else 4):
+            if same == most_reservations(layout, statement):
                 yield "L4", (2, placed.place)
             if location(statement) in {location(it) for it in made}:
                 yield "L5", (2, placed.place)
@@ -94,6 +103,20 @@ def unwritten_releases(statements):
         elif isinstance(statement, tree.Release) and kinds.get(location(statement)) == "W":
             if writes.count(location(statement)) != 1:
                 yield placed.place
+
+
+def second_writes_first(pipe, statements):
+    """On a path: writes through a memory's second write reservation before any through the first one (L6)."""
+    reserved = [location(it.statement) for it in statements
+                if isinstance(it.statement, tree.Reserve) and it.statement.kind == "W"]
+    written = set()
+    for placed in statements:
+        if isinstance(placed.statement, tree.Write) and pipe.memory(placed.statement.memory).lock:
+            own = location(placed.statement)
+            of_memory = [it for it in reserved if it[0] == own[0]]
+            if of_memory[1:2] == [own] and of_memory[0] not in written:
+                yield placed.place
+            written.add(own)
 
 
 def late_reads(layout, statements, path):

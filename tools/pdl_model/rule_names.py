@@ -4,13 +4,6 @@ from . import tree
 from .layout import variable_widths
 
 
-def nodes(expressions):
-    """Expressions and all their parts."""
-    for expression in expressions:
-        yield expression
-        yield from nodes(expression.parts())
-
-
 def expressions_of(statement):
     """The expressions of a statement."""
     match statement:
@@ -18,18 +11,18 @@ def expressions_of(statement):
             return (value,)
         case tree.If(condition=condition):
             return (condition,)
-        case tree.Call(arguments=arguments) | tree.SpecCall(arguments=arguments) | tree.Verify(arguments=arguments):
-            return arguments
-    return ()
+    return statement.arguments if isinstance(statement, WITH_ARGUMENTS) else ()
 
 
+WITH_ARGUMENTS = (tree.Call, tree.SpecCall, tree.Verify, tree.Update)
+OF_A_GUESS = (tree.Verify, tree.Update)
 AT_MEMORY = (tree.Read, tree.Ask, tree.Write, tree.Reserve, tree.Block, tree.Release)
 DEFINING = (tree.Bind, tree.Read, tree.Ask, tree.SpecCall)
 
 
 def variables_of(statement):
     """The variables that a statement uses."""
-    used = {it.name for it in nodes(expressions_of(statement)) if isinstance(it, (tree.Variable, tree.Slice))}
+    used = tree.names_in(*expressions_of(statement))
     return used | {statement.address} if isinstance(statement, AT_MEMORY) else used
 
 
@@ -56,7 +49,7 @@ def names(layout):
         known = (
             variables_of(statement) <= variables
             and (not isinstance(statement, AT_MEMORY) or statement.memory in memories)
-            and (not isinstance(statement, tree.Verify) or statement.guess in guesses))
+            and (not isinstance(statement, OF_A_GUESS) or statement.guess in guesses))
         if not known:
             yield "N1", (2, placed.place)
     if pipe.start_name != pipe.name:
@@ -81,7 +74,7 @@ def undefined(statements, parameters, on_path):
     there, to_come = set(parameters), set()
     for placed in statements:
         statement = placed.statement
-        used = variables_of(statement) | ({statement.guess} if isinstance(statement, tree.Verify) else set())
+        used = variables_of(statement) | ({statement.guess} if isinstance(statement, OF_A_GUESS) else set())
         if not used <= there:
             yield placed.place
         if isinstance(statement, tree.Separator):
@@ -100,7 +93,7 @@ def widths(layout):
     pipe = layout.pipe
     known = variable_widths(pipe)
     for placed in layout.statements:
-        found = {rule for it in nodes(expressions_of(placed.statement)) for rule in node_rules(it, known)}
+        found = {rule for it in tree.nodes(expressions_of(placed.statement)) for rule in node_rules(it, known)}
         yield from ((rule, (2, placed.place)) for rule in found)
         yield from ((rule, (2, placed.place)) for rule in statement_rules(pipe, placed.statement, known))
     yield from ((rule, (4, 0)) for it in pipe.start for rule in node_rules(it, known))
@@ -136,8 +129,8 @@ def statement_rules(pipe, statement, known):
         case tree.If(condition=condition):
             if condition.width(known) != 1:
                 yield "W3"
-        case tree.Call(arguments=arguments) | tree.SpecCall(arguments=arguments) | tree.Verify(arguments=arguments):
-            if arguments_differ(pipe, arguments, known):
+        case tree.Call() | tree.SpecCall() | tree.Verify() | tree.Update():
+            if arguments_differ(pipe, statement.arguments, known):
                 yield "W5"
     if isinstance(statement, AT_MEMORY):
         memory = pipe.memory(statement.memory)

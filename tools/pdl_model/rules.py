@@ -5,7 +5,8 @@ asked only where no earlier letter's is broken. Places are pairs that stand in t
 statements, the end and the start clause.
 """
 
-from . import rule_guesses, rule_locks, rule_names, tree
+from . import rule_advice, rule_guesses, rule_locks, rule_names, tree
+from .forms import TAKEN, Forms
 from .layout import Layout
 from .syntax import Refused, parse
 
@@ -37,13 +38,18 @@ def line_of(layout, place):
     return things[number].line
 
 
-def checked(text):
-    """The layout of a source text that keeps all rules; `Refused` of any other."""
-    pipe = parse(text)
+def checked(text, forms=TAKEN):
+    """The layout of a source text that keeps all rules of the language with these forms; `Refused` of any other."""
+    pipe = parse(text, forms)
     if len(text) > 1 << 20:
         raise Refused("Z1", 1)
-    layout = Layout(pipe)
-    for breaks in (limits, rule_names.names, rule_names.widths, forks, rule_locks.locks, rule_guesses.guesses):
+    return kept(Layout(pipe, forms))
+
+
+def kept(layout):
+    """A layout that keeps all rules but G1 and Z1; `Refused` of any other."""
+    for breaks in (limits, rule_names.names, rule_names.widths, forks, rule_locks.locks, rule_guesses.guesses,
+                   rule_advice.advice):
         found = sorted(breaks(layout))
         if found:
             rule, place = found[0]
@@ -86,19 +92,22 @@ def memory_fits(memory):
 
 def literals_fit(expressions):
     """Whether all literals in these expressions are of 1 to 64 bits."""
-    return all(1 <= it.bits <= 64 for it in rule_names.nodes(expressions) if isinstance(it, tree.Literal))
+    return all(1 <= it.bits <= 64 for it in tree.nodes(expressions) if isinstance(it, tree.Literal))
 
 
 # Forks
 
-KEPT_OUT = (tree.Reserve, tree.Release, tree.Call, tree.SpecCall, tree.Verify, tree.SpecCheck, tree.SpecBarrier)
+KEPT_OUT = (
+    tree.Reserve, tree.Release, tree.Call, tree.SpecCall, tree.Verify, tree.Update, tree.SpecCheck, tree.SpecBarrier)
+MOST_LEVELS = 4
 
 
 def forks(layout):
     """The breaks of F1 to F5."""
     places = {id(it.statement): statement_place(it.place) for it in layout.statements}
     yield from (("F1", places[id(it)]) for it in in_forking_branches(layout.pipe.body, False))
-    yield from (("F2", places[id(it)]) for it in ill_placed_forks(layout.pipe.body, False))
+    levels = MOST_LEVELS if Forms.NESTED_FORKS in layout.forms else 1
+    yield from (("F2", places[id(it)]) for it in ill_placed_forks(layout.pipe.body, levels, False))
     asked = set()
     for placed in layout.statements:
         yield from ((rule, statement_place(placed.place)) for rule in memory_rules(layout, placed, asked))
@@ -114,15 +123,19 @@ def in_forking_branches(items, inside):
                 yield from in_forking_branches(branch, inside or tree.holds_separator(branch))
 
 
-def ill_placed_forks(items, in_branch):
-    """The forks that no `---` follows directly, or that stand in a branch."""
+def ill_placed_forks(items, levels, in_branch):
+    """The forks of a list that no `---` follows directly, that stand deeper than so many levels, and those of a branch
+    that stand before its first `---`.
+    """
+    has_begun = not in_branch
     for item, following in zip(items, [*items[1:], None]):
-        if isinstance(item, tree.If):
-            is_fork = tree.holds_separator([item])
-            if is_fork and (in_branch or not isinstance(following, tree.Separator)):
+        if isinstance(item, tree.Separator):
+            has_begun = True
+        if isinstance(item, tree.If) and tree.holds_separator([item]):
+            if levels == 0 or not has_begun or not isinstance(following, tree.Separator):
                 yield item
-            yield from ill_placed_forks((*item.first, None), True)
-            yield from ill_placed_forks((*item.second, None), True)
+            yield from ill_placed_forks(item.first, max(levels - 1, 0), True)
+            yield from ill_placed_forks(item.second, max(levels - 1, 0), True)
 
 
 def memory_rules(layout, placed, asked):
@@ -136,5 +149,6 @@ def memory_rules(layout, placed, asked):
         if layout.pipe.memory(statement.memory).delayed != isinstance(statement, tree.Ask):
             yield "F4"
     if isinstance(statement, (tree.Reserve, tree.Block, tree.Write, tree.Release)):
-        if not layout.pipe.memory(statement.memory).lock:
+        memory = layout.pipe.memory(statement.memory)
+        if not memory.lock and not (memory.advisory and isinstance(statement, tree.Write)):
             yield "F5"

@@ -8,13 +8,15 @@ from .words import Word
 
 @dataclass
 class Turn:
-    """What one thread did: its values, its writes as memory, address and value, and what it passes on."""
+    """What one thread did: its values, its writes as memory, address and value, and what it passes on.
+
+    It knows nothing of advice: variables that hold some aren't bound, and advisory memories are neither read nor written.
+    """
 
     arguments: tuple
     values: dict
     truths: dict = field(default_factory=dict)
     writes: list = field(default_factory=list)
-    guess: tuple | None = None
     passed_on: tuple | None = None
 
 
@@ -45,6 +47,9 @@ class Sequential:
 
     def do(self, turn, placed):
         """One statement. Those that aren't named here do nothing."""
+        memory = self.layout.pipe.memory(getattr(placed.statement, "memory", None))
+        if memory and memory.advisory or getattr(placed.statement, "name", None) in self.layout.advised:
+            return
         match placed.statement:
             case tree.Bind(_, name, value):
                 turn.values[name] = value.value(turn.values)
@@ -57,7 +62,5 @@ class Sequential:
                 turn.writes.append((memory, at, written))
             case tree.If(_, condition, _, _):
                 turn.truths[placed.guard] = condition.value(turn.values).value == 1
-            case tree.SpecCall(_, _, arguments):
-                turn.guess = tuple(it.value(turn.values) for it in arguments)
             case tree.Call(_, arguments) | tree.Verify(_, _, arguments):
                 turn.passed_on = tuple(it.value(turn.values) for it in arguments)

@@ -79,11 +79,15 @@ class Sound:
     def in_order(self):
         """1: of two threads the older stands in the greater stage, or in another branch; the forks' lists are right."""
         pairs = itertools.combinations([stage for stage, _ in self.live], 2)
-        inside = self.layout.branch_stages
-        apart = all(older > younger or in_two_branches(inside.get(older), inside.get(younger)) for older, younger in pairs)
-        lists = [[taken for stage, _ in self.live for its, taken in [inside.get(stage, (None, None))] if its is fork]
+        apart = all(older > younger or self.are_in_two_branches(older, younger) for older, younger in pairs)
+        lists = [[taken for stage, _ in self.live if (taken := self.layout.branch_of(fork, stage)) is not None]
                  for fork in self.layout.forks]
         return apart and lists == self.state.branches
+
+    def are_in_two_branches(self, first, second):
+        """Whether two stages stand in the two branches of one fork, at any depth."""
+        return any({self.layout.branch_of(fork, stage) for stage in (first, second)} == {True, False}
+                   for fork in self.layout.forks)
 
     def are_linked(self):
         """2: at least one thread lives, and each but the youngest has made its successor."""
@@ -91,38 +95,55 @@ class Sound:
         return made != [] and made == [True] * (len(made) - 1) + [False]
 
     def follow_values(self):
-        """3: arguments, values, truth values, awaited addresses and kept answers are those of the turn."""
+        """3: arguments, values but advice, truth values, awaited addresses and kept answers are those of the turn."""
         return all(self.follows(thread, turn) for _, thread, turn in self.followers)
 
     def follows(self, thread, turn):
         asks = {it.statement.memory: it.statement for it in self.done[thread.number] if isinstance(it.statement, tree.Ask)}
         return (
-            thread.values.items() <= turn.values.items()
+            {name: value for name, value in thread.values.items() if name not in self.layout.advised}.items()
+            <= turn.values.items()
             and thread.truths.items() <= turn.truths.items()
             and all(turn.values[thread.asked[memory]].value == word for memory, word in thread.kept.items())
             and all(self.state.requests[memory].address == turn.values[asks[memory].address].value
                     for memory in thread.awaited()))
 
     def pending_right(self):
-        """4: a lock's list has an entry for each live thread that holds a write; a follower's is that of its turn."""
-        return all(self.list_right(memory, entries) for memory, entries in self.state.pending.items())
+        """4: a lock's list has an entry for each write that a live thread holds; a follower's is that of its turn.
+
+        Besides: there are no more entries than the lock has room for.
+        """
+        return all(self.list_right(memory, entries) and len(entries) <= self.layout.pipe.memory(memory).size
+                   for memory, entries in self.state.pending.items())
 
     def list_right(self, memory, entries):
-        holders = [thread.number for _, thread in self.live if self.holds(thread, memory)]
-        turns = {thread.number: (thread, turn) for _, thread, turn in self.followers}
-        return [it.thread for it in entries] == holders and all(
-            self.entry_right(memory, entry, *turns[entry.thread]) for entry in entries if entry.thread in turns)
+        held = [(thread.number, variable) for _, thread in self.live for variable in self.held_of(thread, memory)]
+        return [(it.thread, it.variable) for it in entries] == held and all(
+            self.entries_right(memory, [it for it in entries if it.thread == thread.number], thread, turn)
+            for _, thread, turn in self.followers)
 
-    def entry_right(self, memory, entry, thread, turn):
-        address, value = next((address, value) for name, address, value in turn.writes if name == memory)
-        return entry.address == address and entry.value == (value if self.has_done(thread, tree.Write, memory) else None)
+    def held_of(self, thread, memory):
+        """The variables by which a thread holds writes of a memory, in the order in which it reserved them."""
+        return [it.statement.address for it in self.done[thread.number]
+                if isinstance(it.statement, tree.Reserve) and it.statement.memory == memory and it.statement.kind == "W"
+                and (memory, it.statement.address) in thread.held]
+
+    def entries_right(self, memory, entries, thread, turn):
+        """Whether a follower's entries of a memory are the writes of its turn, in order, with the values written so far."""
+        writes = [(address, value) for name, address, value in turn.writes if name == memory]
+        written = {it.statement.address for it in self.done[thread.number]
+                   if isinstance(it.statement, tree.Write) and it.statement.memory == memory}
+        due = [(address, value if entry.variable in written else None)
+               for entry, (address, value) in zip(entries, writes)]
+        return not entries or [(it.address, it.value) for it in entries] == due and len(entries) == len(writes)
 
     def arrays_right(self):
-        """5: the arrays are the image with the writes of ended turns and the released ones of followers."""
+        """5: the arrays are the image with the writes of ended turns and the released ones of followers, advice aside."""
         due = {name: list(words) for name, words in self.ended_arrays.items()}
         for _, thread, turn in self.followers:
             apply(due, [it for it in turn.writes if self.has_released(thread, it[0])])
-        return due == self.state.arrays and not any(
+        lasting = [memory.name for memory in self.layout.pipe.memories if not memory.advisory]
+        return all(due[name] == self.state.arrays[name] for name in lasting) and not any(
             self.has_released(thread, memory) for _, thread in self.strays for memory in self.state.pending)
 
     def are_certain(self):
@@ -185,11 +206,6 @@ class Sound:
             and all(thread.values[condition.name].value == thread.truths[guard]
                     for guard, condition in enumerate(self.layout.conditions)
                     if isinstance(condition, tree.Variable) and guard in thread.truths))
-
-
-def in_two_branches(first, second):
-    """Whether two stages stand in the two branches of one fork."""
-    return first is not None and second is not None and first[0] is second[0] and first[1] != second[1]
 
 
 def apply(arrays, writes):

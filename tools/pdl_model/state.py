@@ -13,7 +13,7 @@ class Thread:
     values    its parameters and the variables that it has bound
     truths    of each guard that it has passed, whether the first branch was taken
     held      of each location (memory, variable) that it has reserved and not released, the kind, `R` or `W`
-    guess     the arguments of its speculative call, or None
+    guess     the arguments of its speculative call, or of its update after that, or None
     asked     of each delayed memory that it asked in its last stage, the variable to bind
     kept      of those that answered while it couldn't move, the word
     """
@@ -33,9 +33,10 @@ class Thread:
 
 @dataclass
 class Pending:
-    """A reserved write of a lock's list: whose it is, where, and what, once it is written."""
+    """A reserved write of a lock's list: whose it is, by which variable, where, and what, once it is written."""
 
     thread: int
+    variable: str
     address: int
     value: int | None = None
 
@@ -54,7 +55,7 @@ class State:
 
     stages     for each stage its thread, or None
     arrays     the words of each memory, by its name
-    pending    of each locked memory the pending writes, the oldest first
+    pending    of each locked memory the pending writes, the oldest first; of one thread's two the one that it reserved first
     branches   of each fork the branches that the threads inside have taken, the oldest first: True is the first branch
     requests   of each delayed memory what is outstanding, or None
     """

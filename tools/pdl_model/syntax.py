@@ -4,11 +4,14 @@ import re
 from typing import NamedTuple
 
 from . import tree
+from .forms import TAKEN, Forms
 
 KEYWORDS = set(
     "pipe start uint comb delayed lock queue bypass rename if else call spec_call verify spec_check spec_barrier "
     "reserve acquire block release cat zext sext lts R W".split()
 )
+# The keywords that come with a form. Without it they are names.
+FORM_KEYWORDS = {Forms.UPDATE: "update", Forms.ADVISORY: "advisory"}
 TOKEN = re.compile(
     r"(?P<space>[ \t\r\n]+|//[^\n]*)"
     r"|(?P<literal>[0-9]+'(?:d[0-9]+|h[0-9a-f]+))"
@@ -48,8 +51,9 @@ def is_too_long(kind, text):
     return False
 
 
-def tokens(text):
+def tokens(text, forms=TAKEN):
     """The tokens of a text; the last one is an `end`, or a `bad` one where the bytes begin no token."""
+    keywords = KEYWORDS | {word for form, word in FORM_KEYWORDS.items() if form in forms}
     found, at, line = [], 0, 1
     while at < len(text):
         match = TOKEN.match(text, at)
@@ -57,7 +61,7 @@ def tokens(text):
             return [*found, Token("bad", text[at], line)]
         kind, piece = match.lastgroup, match.group()
         if kind != "space":
-            found.append(Token("keyword" if piece in KEYWORDS else kind, piece, line))
+            found.append(Token("keyword" if piece in keywords else kind, piece, line))
         line += piece.count("\n")
         at = match.end()
     return [*found, Token("end", "", line)]
@@ -66,8 +70,9 @@ def tokens(text):
 class Parser:
     """Reads a text token by token. The first token that is out of place is refused as G1."""
 
-    def __init__(self, text):
-        self.tokens = tokens(text)
+    def __init__(self, text, forms=TAKEN):
+        self.forms = forms
+        self.tokens = tokens(text, forms)
         self.at = 0
         self.open = 0
         self.operators = 0
@@ -174,14 +179,14 @@ class Parser:
         self.take("[")
         depth = self.number()
         self.take("]")
-        delayed = self.one_of(["comb", "delayed"]) == "delayed"
+        kind = self.one_of(["comb", "delayed", *(["advisory"] if Forms.ADVISORY in self.forms else [])])
         lock, size = None, 0
-        if self.skip("lock"):
+        if kind != "advisory" and self.skip("lock"):
             lock = self.one_of(["queue", "bypass", "rename"])
             self.take("(")
             size = self.number()
             self.take(")")
-        return tree.Memory(line, name, width, depth, delayed, lock, size)
+        return tree.Memory(line, name, width, depth, kind == "delayed", lock, size, kind == "advisory")
 
     def items(self):
         """The statements between braces, and the line of the closing one."""
@@ -203,7 +208,8 @@ class Parser:
         if self.skip("if"):
             return [self.branching(line)]
         word = self.one_of(
-            ["reserve", "acquire", "block", "release", "call", "verify", "spec_check", "spec_barrier"])
+            ["reserve", "acquire", "block", "release", "call", "verify", "spec_check", "spec_barrier",
+             *(["update"] if Forms.UPDATE in self.forms else [])])
         self.take("(")
         found = self.keyword_item(line, word)
         self.take(")")
@@ -218,10 +224,10 @@ class Parser:
             return [tree.SpecBarrier(line)]
         if word == "call":
             return [tree.Call(line, self.arguments())]
-        if word == "verify":
+        if word in ("verify", "update"):
             guess = self.name()
             self.take(",")
-            return [tree.Verify(line, guess, self.arguments())]
+            return [{"verify": tree.Verify, "update": tree.Update}[word](line, guess, self.arguments())]
         memory, address = self.location()
         if word == "block":
             return [tree.Block(line, memory, address)]
@@ -348,6 +354,6 @@ class Parser:
         return found
 
 
-def parse(text):
+def parse(text, forms=TAKEN):
     """The pipe of a source text; `Refused` where the text isn't in the grammar."""
-    return Parser(text).pipe()
+    return Parser(text, forms).pipe()

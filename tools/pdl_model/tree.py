@@ -1,6 +1,6 @@
 """What a source text consists of: expressions, statements, and the pipe."""
 
-from dataclasses import dataclass
+from dataclasses import dataclass, replace
 
 from . import words
 
@@ -216,6 +216,13 @@ class Verify:
 
 
 @dataclass(frozen=True)
+class Update:
+    line: int
+    guess: str
+    arguments: tuple
+
+
+@dataclass(frozen=True)
 class SpecCheck:
     line: int
 
@@ -234,7 +241,10 @@ class Parameter:
 
 @dataclass(frozen=True)
 class Memory:
-    """A memory; `lock` is the lock's kind or None, `size` the greatest number of pending writes."""
+    """A memory; `lock` is the lock's kind or None, `size` the greatest number of pending writes.
+
+    An advisory one holds advice for guesses: it has no lock, and is read and written in any stage.
+    """
 
     line: int
     name: str
@@ -243,6 +253,7 @@ class Memory:
     delayed: bool
     lock: str | None
     size: int
+    advisory: bool = False
 
     def address_bits(self):
         return self.depth.bit_length() - 1
@@ -271,6 +282,26 @@ class Pipe:
         """The memories with a lock, in declared order."""
         return [memory for memory in self.memories if memory.lock]
 
+    def advised(self):
+        """The variables that hold advice: bound by a read of an advisory memory, or by an expression with such a variable."""
+        found = set()
+        for item in every(self.body):
+            if isinstance(item, Read) and self.memory(item.memory).advisory or isinstance(item, Bind) and found & names_in(item.value):
+                found.add(item.name)
+        return found
+
+
+def nodes(expressions):
+    """Expressions and all their parts."""
+    for expression in expressions:
+        yield expression
+        yield from nodes(expression.parts())
+
+
+def names_in(*expressions):
+    """The variables of expressions."""
+    return {it.name for it in nodes(expressions) if isinstance(it, (Variable, Slice))}
+
 
 def every(items):
     """All statements of a list in text order, those inside an `if` after it."""
@@ -279,6 +310,13 @@ def every(items):
         if isinstance(item, If):
             yield from every(item.first)
             yield from every(item.second)
+
+
+def without(items, kind):
+    """These statements with none of a kind among them, at any depth."""
+    inner = (replace(it, first=without(it.first, kind), second=without(it.second, kind)) if isinstance(it, If) else it
+             for it in items)
+    return tuple(it for it in inner if not isinstance(it, kind))
 
 
 def holds_separator(items):
