@@ -1,5 +1,5 @@
 // Variables by number.
-ghost use Rattle.std.specs.Prelude.{◌≡◌, ◌<◌, ◌≤◌, ◌||◌, [], ◌∷◌, ◌++◌, map, bytes_eq, IfOk, OnOk, OnErr, IsTrue, None, length, replicate, slice_index_or};
+ghost use Rattle.std.specs.Prelude.{◌≡◌, ◌<◌, ◌≤◌, ◌||◌, [], ◌∷◌, ◌++◌, map, bytes_eq, false, IfOk, OnOk, OnErr, IsTrue, None, length, replicate, slice_index_or};
 ghost use Rattle.pdl_semantics.specs.Flatten.{Var, var_of, var_width, is_advised_var};
 ghost use Rattle.pdl_rules.specs.Typed.{is_named};
 ghost use Rattle.pdl_rules_widths.specs.Variables.{number_among};
