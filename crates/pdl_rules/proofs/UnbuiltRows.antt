@@ -1,11 +1,11 @@
 -- Forms that have no circuit yet: the rules let each of these pipes pass, and it is refused; computed.
 use Rattle.std.specs.Prelude.{◌≡◌, ℕ, List, [], ◌∷◌, Option, Some, None, refl}
 use Rattle.pdl_kit.specs.declared.rule.Rule.{Rule}
-use Rattle.pdl_kit.specs.declared.rule.Rule.TheVariants.{F2, L4, S6, P1}
+use Rattle.pdl_kit.specs.declared.rule.Rule.TheVariants.{L4, S6, P1}
 use Rattle.pdl_semantics.specs.Tree.{ZeroExtend, W, Mem, Pipe}
 use Rattle.pdl_rules.specs.Refusal.{Refused, refusal}
 use Rattle.pdl_rules.proofs.Judged.{judged}
-use Rattle.pdl_rules.proofs.Texts.{number, literal, constant, variable, slice, plus, Line, separator, choice, bind, write, reserve, block, release, call, spec_call, verify, update, spec_check, queue, param, comb, advisory, whole}
+use Rattle.pdl_rules.proofs.Texts.{number, literal, constant, variable, slice, plus, Line, separator, bind, write, reserve, block, release, call, spec_call, verify, update, spec_check, queue, param, comb, advisory, whole}
 
 -- a short source with these memories and this body, which begins on line 3
 abbrev short : List Mem → List Line → Pipe
@@ -16,19 +16,6 @@ at_line r k = Some (record { rule = r; line = k })
 
 abbrev next : Line
 next = call (plus (variable "n") (constant 8 1) ∷ [])
-
--- a fork in a branch
-abbrev inner_fork : Pipe
-inner_fork =
-    short []
-    (bind "g" (slice "n" 0 0) ∷ next
-    ∷ choice "g" (separator ∷ choice "g" (separator ∷ []) [] ∷ separator ∷ []) [] ∷ separator ∷ [])
-
-inner_fork_judged : judged inner_fork ≡ None
-inner_fork_judged = refl
-
-inner_fork_refused : refusal [] inner_fork ≡ at_line F2 16
-inner_fork_refused = refl
 
 -- two write reservations of a memory
 abbrev two_writes : Pipe

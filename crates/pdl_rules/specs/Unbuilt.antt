@@ -2,23 +2,13 @@
 use Rattle.std.specs.Prelude.{◌≡◌, Bool, true, false, ◌&&◌, List, [], ◌∷◌, ◌++◌}
 use Rattle.std.specs.List.{list_any}
 use Rattle.pdl_kit.specs.declared.rule.Rule.{Rule}
-use Rattle.pdl_kit.specs.declared.rule.Rule.TheVariants.{F2, L4, S6, P1}
+use Rattle.pdl_kit.specs.declared.rule.Rule.TheVariants.{L4, S6, P1}
 use Rattle.pdl_semantics.specs.Tree.{W, Pipe}
 use Rattle.pdl_semantics.specs.Flat.{is_advisory}
-use Rattle.pdl_rules.specs.Places.{Place, Parameter, Memory, Statement, End, StartClause, Branch, at_statement, places, on_some_path}
+use Rattle.pdl_rules.specs.Places.{Place, Parameter, Memory, Statement, End, StartClause, at_statement, places, on_some_path}
 use Rattle.pdl_rules.specs.Forms.{reserves}
 use Rattle.pdl_rules.specs.Locks.{same_kind, is_reserve_of}
-use Rattle.pdl_rules.specs.Forks.{is_fork}
 use Rattle.pdl_rules.specs.Speculation.{is_update}
-
--- whether what has these branches around it stands in any
-abbrev pub is_in_branch : List Branch → Bool
-is_in_branch [] = false
-is_in_branch (b ∷ bs) = true
-
--- whether a place is a fork in a branch
-abbrev pub is_inner_fork : Place → Bool
-is_inner_fork x = at_statement false (λ s bs. is_fork s && is_in_branch bs) x
 
 -- whether a place reserves a memory for writing that an earlier one reserves for writing
 abbrev pub is_second_write : List Place → Place → Bool
@@ -33,9 +23,8 @@ is_advisory_memory (Statement _ _) = false
 is_advisory_memory (End _) = false
 is_advisory_memory (StartClause _) = false
 
--- whether the place has a form without circuit that is refused by this rule: a fork in a branch, on some path a second write of a memory, an `update`, an advisory memory
+-- whether the place has a form without circuit that is refused by this rule: on some path a second write of a memory, an `update`, an advisory memory
 abbrev pub lacks_circuit : Rule → Pipe → List Place → Place → Bool
-lacks_circuit F2 p before x = is_inner_fork x
 lacks_circuit L4 p before x = on_some_path (λ earlier. is_second_write earlier x) p before x
 lacks_circuit S6 p before x = is_update x
 lacks_circuit P1 p before x = is_advisory_memory x

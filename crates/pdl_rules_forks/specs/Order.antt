@@ -8,7 +8,6 @@ use Rattle.pdl_rules.specs.Limits.{is_separator}
 use Rattle.pdl_rules.specs.Stages.{branches_of, are_outer}
 use Rattle.pdl_rules.specs.Forks.{holds_separator, starts_with_separator, is_in_outer_stage, breaks_f1, breaks_f2, breaks_f3, breaks_f4}
 use Rattle.pdl_rules.specs.Locks.{breaks_f5}
-use Rattle.pdl_rules.specs.Unbuilt.{is_inner_fork}
 use Rattle.pdl_rules.specs.Refusal.{Refused, refused_at}
 use Rattle.pdl_rules_forks.specs.declared.scan.ForkRule.{ForkRule}
 use Rattle.pdl_rules_forks.specs.declared.scan.ForkRule.TheVariants.{F1, F2, F3, F4, F5}
@@ -39,10 +38,10 @@ rule_of F3 = rules.F3
 rule_of F4 = rules.F4
 rule_of F5 = rules.F5
 
--- whether the place breaks the rule, or has a form of its subject that has no circuit
+-- whether the place breaks the rule
 unfoldable pub breaks_fork_rule : ForkRule → Pipe → List Place → Place → Bool
 breaks_fork_rule F1 p before x = breaks_f1 x
-breaks_fork_rule F2 p before x = is_inner_fork x || breaks_f2 p before x
+breaks_fork_rule F2 p before x = breaks_f2 p before x
 breaks_fork_rule F3 p before x = breaks_f3 p before x
 breaks_fork_rule F4 p before x = breaks_f4 p x
 breaks_fork_rule F5 p before x = breaks_f5 p x

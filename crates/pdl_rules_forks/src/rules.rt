@@ -6,7 +6,6 @@ ghost use Rattle.pdl_syntax_tree.specs.View.{pipe_view, mem_view, stmts_view};
 ghost use Rattle.pdl_rules.specs.Places as spec;
 ghost use Rattle.pdl_rules.specs.Forks as forks;
 ghost use Rattle.pdl_rules.specs.Locks as locks;
-ghost use Rattle.pdl_rules.specs.Unbuilt.{is_in_branch as spec_in_branch, is_inner_fork as spec_inner_fork};
 ghost use Rattle.pdl_paths.specs.Actions.{place_view};
 ghost use Rattle.pdl_paths.specs.Guards.{branch_view};
 ghost use Rattle.pdl_rules_forks.specs.Order.{is_wrong_fork as spec_wrong_fork, is_unfollowed as spec_unfollowed, is_cut_in as spec_cut_in};
@@ -82,13 +81,6 @@ fn is_in_outer_stage(before: &[Place<'_>], branches: &[Branch<'_>]) -> bool
     stage_in(before, branches) == stage_in(before, &branches[..branches.len() - 1])
 }
 
-// Whether what has these branches around it stands in any.
-fn is_in_branch(branches: &[Branch<'_>]) -> bool
-    ensures { result ≡ spec_in_branch (map branch_view branches.now) }
-{
-    !branches.is_empty()
-}
-
 // Whether an `if` with these branches is a fork of the fifth level, one in the stage of the fork around it, or one that no separator follows.
 fn is_wrong_fork(
     when: &[Stmt],
@@ -122,24 +114,6 @@ pub fn breaks_f2(before: &[Place<'_>], place: &Place<'_>, later: &[Place<'_>]) -
         Action::Block(_) | Action::Release(_) | Action::Call(_) | Action::Verify(_, _) => false,
         Action::Update(_, _) => false,
         Action::SpecCheck | Action::SpecBarrier | Action::End | Action::StartClause(_) => false,
-    }
-}
-
-/// Whether the place is a fork in a branch, which has no circuit yet.
-pub fn is_inner_fork(place: &Place<'_>) -> bool
-    ensures { result ≡ spec_inner_fork (place_view place.now) }
-{
-    match place.action {
-        Action::If(_, when, otherwise) => {
-            (holds_separator(when) || holds_separator(otherwise))
-                && is_in_branch(place.branches.as_slice())
-        }
-        Action::Parameter(_) | Action::Memory(_) | Action::Separator => false,
-        Action::CombRead(_, _) | Action::Bind(_, _) | Action::SpecCall(_, _) => false,
-        Action::DelayedRead(_, _) | Action::Write(_, _) | Action::Reserve(_, _) => false,
-        Action::Block(_) | Action::Release(_) | Action::Call(_) | Action::Verify(_, _) => false,
-        Action::Update(_, _) | Action::SpecCheck | Action::SpecBarrier => false,
-        Action::End | Action::StartClause(_) => false,
     }
 }
 

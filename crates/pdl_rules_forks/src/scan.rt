@@ -8,7 +8,7 @@ ghost use Rattle.pdl_paths.specs.Actions.{place_view};
 ghost use Rattle.pdl_rules_on_texts.specs.Refused.{refused_of};
 ghost use Rattle.pdl_rules_forks.specs.Order as ordered;
 
-use crate::rules::{breaks_f1, breaks_f2, breaks_f3, breaks_f4, breaks_f5, is_inner_fork};
+use crate::rules::{breaks_f1, breaks_f2, breaks_f3, breaks_f4, breaks_f5};
 use pdl_kit::Rule;
 use pdl_paths::Place;
 use pdl_rules_on_texts::Broken;
@@ -44,7 +44,7 @@ fn rule_of(asked: ForkRule) -> Rule
     }
 }
 
-// Whether a place breaks the rule, or has a form of its subject without circuit, with these places before it and these after it.
+// Whether a place breaks the rule, with these places before it and these after it.
 #[tactic(auto, unfolding(crate::specs::Order::breaks_fork_rule))]
 fn breaks_rule(
     asked: ForkRule,
@@ -63,7 +63,7 @@ fn breaks_rule(
 {
     match asked {
         ForkRule::F1 => breaks_f1(place),
-        ForkRule::F2 => is_inner_fork(place) || breaks_f2(before, place, later),
+        ForkRule::F2 => breaks_f2(before, place, later),
         ForkRule::F3 => breaks_f3(place, before, all),
         ForkRule::F4 => breaks_f4(pipe, place),
         ForkRule::F5 => breaks_f5(pipe, place),
