@@ -1,5 +1,5 @@
 -- What a thread does but for its guess and its advisory writes doesn't hang on what advisory memories say: advised values reach nothing else.
-use Rattle.std.proofs.Common.{◌≡◌, refl, sym, ap, ap₂, ◌∙◌, ℕ, Bool, true, false, ◌&&◌, not, List, [], ◌∷◌, ◌++◌, Option, Some, cond, if◌then◌else◌, slice_index, slice_set}
+use Rattle.std.proofs.Common.{◌≡◌, refl, sym, ap, ap₂, ◌∙◌, ℕ, Bool, true, false, ◌&&◌, not, List, [], ◌∷◌, ◌++◌, Some, cond, if◌then◌else◌, slice_index, slice_set}
 use Rattle.pdl_semantics.specs.Flat.{is_advisory, list_all, Op, Bind, CombRead, DelayedRead, Write, ReserveRead, ReserveWrite, Block, Release, Call, SpecCall, Verify, SpecCheck, SpecBarrier, AdviceBind, AdviceRead, AdviceWrite, Stmt, Pipe, all_hold, value_of}
 use Rattle.pdl_semantics.specs.Stages.{in_stage, mem_at}
 use Rattle.pdl_semantics.specs.Machine.{Deeds, Thread, deeds_after, deeds_after_all, deeds_with, held_after, held_before, is_held, same_args, with_kept, checked_args}
