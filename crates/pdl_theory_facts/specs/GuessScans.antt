@@ -134,10 +134,10 @@ abbrev pub checks_apart : Option ℕ → List Stmt → Bool
 checks_apart g [] = true
 checks_apart g (x ∷ xs) = check_apart g x.stage x.op && checks_apart (guess_stage g x.stage x.op) xs
 
--- whether no second update is among these statements, where one stands before them or doesn't (S6)
-abbrev pub updates_once : Bool → List Stmt → Bool
-updates_once been [] = true
-updates_once been (x ∷ xs) = not (been && is_update x.op) && updates_once (been || is_update x.op) xs
+-- whether no second statement of a kind is among these, where one stands before them or doesn't; S6 asks it of updates
+abbrev pub once : (Op → Bool) → Bool → List Stmt → Bool
+once test been [] = true
+once test been (x ∷ xs) = not (been && test x.op) && once test (been || test x.op) xs
 
 -- CERTAINTY
 
