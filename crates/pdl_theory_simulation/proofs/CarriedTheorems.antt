@@ -19,10 +19,9 @@ use Rattle.pdl_theory_derived.proofs.Slots.{rev}
 use Rattle.pdl_theory_simulation.proofs.Seats.{Live, Falls, dacts, lacts, lact}
 use Rattle.pdl_theory_simulation.proofs.ThreadFacts.{sorted}
 use Rattle.pdl_theory_simulation.proofs.Orders.{acts_of, AllForetold}
-use Rattle.pdl_theory_simulation.proofs.ActOrder.{swaps_all, same_fold}
+use Rattle.pdl_theory_simulation.proofs.ActOrder.{same_fold}
 use Rattle.pdl_theory_simulation.proofs.CycleStarts.{swaps}
 use Rattle.pdl_theory_simulation.proofs.WholeSimulation.{acts_are, derived_acts_are, turn_same}
-use Rattle.pdl_theory_simulation.proofs.SimulatedRuns.{first_live, first_sim}
 use Rattle.pdl_theory_simulation.proofs.Foretold.{foretold_here, run_same}
 use Rattle.pdl_theory_simulation.proofs.SimulatedStates.{Sim}
 

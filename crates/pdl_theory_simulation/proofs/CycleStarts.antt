@@ -1,5 +1,5 @@
 -- What is known of each live thread at the start of a cycle of states that belong together, and the stated acts of the cycle in the order of the stages.
-use Rattle.std.proofs.Common.{◌≡◌, sym, ap, ◌∙◌, subst, ℕ, ◌<◌, Bool, List, length, zero-add}
+use Rattle.std.proofs.Common.{◌≡◌, sym, ap, ◌∙◌, subst, ◌<◌, Bool, List, length, zero-add}
 use Rattle.pdl_semantics.specs.Flat.{Pipe}
 use Rattle.pdl_semantics.specs.Machine.{State}
 use Rattle.pdl_semantics.specs.Locks

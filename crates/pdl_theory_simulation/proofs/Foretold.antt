@@ -9,19 +9,19 @@ use Rattle.pdl_semantics.specs.Cycle
 use Rattle.pdl_semantics.specs.Moves
 use Rattle.pdl_theory_derived.specs.Derived.{Work, around}
 use Rattle.pdl_theory_derived.specs.Derived
-use Rattle.pdl_theory_derived.specs.Simulation.{SameTurns, has_here, said_in, said_of, hint_of, made_hints, hints_of}
+use Rattle.pdl_theory_derived.specs.Simulation.{SameTurns, said_in, said_of, made_hints, hints_of}
 use Rattle.pdl_theory_facts.specs.Scans.{none_of, called}
 use Rattle.pdl_theory_facts.specs.GuessScans.{is_update, once}
 use Rattle.pdl_theory_simulation.proofs.FlowFacts.{Flows, stage_or}
 use Rattle.pdl_theory_simulation.proofs.Onces.{has_any, none_any, once_only, once_called}
 use Rattle.pdl_theory_simulation.proofs.Stretches.{has_done, done_then, once_here}
-use Rattle.pdl_theory_simulation.proofs.Seats.{Live, seat, each_map, advised, Falls, falls_each, dacts, did, now_of, work_of_live, deeds_of, sacts}
-use Rattle.pdl_theory_simulation.proofs.Choices.{Known, AllKnown, Foresees, Foretold, moves_in, like_here, keeps_now, none_foreseen, guess_foreseen, update_foreseen}
+use Rattle.pdl_theory_simulation.proofs.Seats.{Live, seat, advised, Falls, falls_each, dacts, did, now_of, work_of_live, deeds_of, sacts}
+use Rattle.pdl_theory_simulation.proofs.Choices.{Known, Foresees, Foretold, moves_in, like_here, keeps_now, none_foreseen, guess_foreseen, update_foreseen}
 use Rattle.pdl_theory_simulation.proofs.ThreadFacts.{Pair, pairs, sorted, lives_of, EachPair, pair_map, pair_both, pairs_each, sorted_each}
 use Rattle.pdl_theory_simulation.proofs.Orders.{acts_of, known_pairs, AllForetold}
 use Rattle.pdl_theory_simulation.proofs.LockLists.{stood, moved_one, next_live, go_on}
 use Rattle.pdl_theory_simulation.proofs.LiveThreads.{made, born_live, lives_next}
-use Rattle.pdl_theory_simulation.proofs.ThreadPlaces.{each_next, Becomes, becomes_on}
+use Rattle.pdl_theory_simulation.proofs.ThreadPlaces.{each_next, becomes_on}
 use Rattle.pdl_theory_simulation.proofs.SimulatedStates.{Sim}
 use Rattle.pdl_theory_simulation.proofs.CycleStarts.{known, stated_acts}
 use Rattle.pdl_theory_simulation.proofs.WholeSimulation.{acts_are, cycle_sim, turn_same}

@@ -5,7 +5,7 @@ use Rattle.pdl_semantics.specs.Stages.{onpath, is_check, is_verify}
 use Rattle.pdl_semantics.specs.Machine.{Ask, Blocked, Deeds, deeds_after_all, same_args, all_values}
 use Rattle.pdl_semantics.specs.Machine
 use Rattle.pdl_semantics.specs.Sound.{is_call, is_spec_call}
-use Rattle.pdl_theory_derived.specs.Derived.{Work, Around, work_after, do_all}
+use Rattle.pdl_theory_derived.specs.Derived.{Work, Around, work_after}
 use Rattle.pdl_theory_derived.proofs.Deeds.{AllFit, Guesses, AllGuesses, Loosely, loose_step}
 use Rattle.pdl_theory_derived.proofs.Writes.{and_left, and_right}
 use Rattle.pdl_theory_facts.specs.Scans.{none_of}

@@ -9,7 +9,6 @@ use Rattle.pdl_theory_turns.proofs.EntryCommits.{released}
 use Rattle.pdl_semantics.specs.Moves.{movers, next_stage}
 use Rattle.pdl_semantics.specs.Promises.{row, wrote, DifferInAdvice}
 use Rattle.pdl_semantics.specs.Cycle
-use Rattle.pdl_semantics.specs.Locks
 use Rattle.pdl_semantics.specs.Machine
 use Rattle.pdl_semantics.specs.Moves
 use Rattle.pdl_theory_derived.specs.Derived.{Work, commits_of, asks_of, asked_at, next_ask, next_asks, find_ask, stage_flags, still}
@@ -26,11 +25,11 @@ use Rattle.pdl_theory_derived.proofs.Lists.{pend}
 use Rattle.pdl_theory_turns.proofs.OwnEntries.{pend_own}
 use Rattle.pdl_theory_simulation.proofs.Stretches.{Keeps, Fetched, AllFetched, unknown}
 use Rattle.pdl_theory_simulation.proofs.StretchSteps.{AsksFrom}
-use Rattle.pdl_theory_simulation.proofs.Seats.{Live, each_map, Ordered, Rises, Falls, dacts, lacts, lact, did, work_of_live, acts_slots, acts_back, pends, pends_append}
-use Rattle.pdl_theory_simulation.proofs.Choices.{Matched, OwnedBy, AllOwned, Seated, Known, AllKnown, asks_here, AllForeseen, like_here, Foretold}
-use Rattle.pdl_theory_simulation.proofs.ThreadFacts.{sides, sorted, lives_of, find_sorted, rises_sorted, Pair, EachPair, pairs}
+use Rattle.pdl_theory_simulation.proofs.Seats.{Live, each_map, Ordered, Falls, dacts, lacts, lact, did, work_of_live, acts_back, pends, pends_append}
+use Rattle.pdl_theory_simulation.proofs.Choices.{Matched, OwnedBy, AllOwned, Seated, Known, AllKnown, asks_here, AllForeseen, like_here}
+use Rattle.pdl_theory_simulation.proofs.ThreadFacts.{sides, sorted, Pair}
 use Rattle.pdl_theory_simulation.proofs.Orders.{sides_none, acts_of, acts_sorted, AllForetold, foreseen_all}
-use Rattle.pdl_theory_simulation.proofs.ActOrder.{swaps_all, same_after, same_ports, Swaps, same_arrays}
+use Rattle.pdl_theory_simulation.proofs.ActOrder.{same_after, same_ports, Swaps, same_arrays}
 use Rattle.pdl_theory_simulation.proofs.ForkLists.{fork_next}
 use Rattle.pdl_theory_simulation.proofs.LockLists.{fell, next_live, go_on, Agrees, two, three, two_is, three_is, commits_here, unreleased, pends_on}
 use Rattle.pdl_theory_simulation.proofs.LiveThreads.{made, born_live, lives_next, child_is, survive, agrees, squashes, any_rev}

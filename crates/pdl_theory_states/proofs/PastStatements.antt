@@ -7,7 +7,7 @@ use Rattle.pdl_semantics.specs.Forms.{on_block}
 use Rattle.pdl_semantics.specs.Stages.{onpath, is_release}
 use Rattle.pdl_semantics.specs.Machine.{Ask, same_args}
 use Rattle.pdl_semantics.specs.Sound.{is_release_at, is_call}
-use Rattle.pdl_theory_derived.specs.Derived.{Entry, Work, Around, work_after, do_all, moved_up, without, with_entry_value, has_entry}
+use Rattle.pdl_theory_derived.specs.Derived.{Entry, Work, Around, work_after, do_all, moved_up, without, with_entry_value, has_entry, said}
 use Rattle.pdl_theory_facts.specs.Facts.{uses_in, mentions_var, asks_for, silent_on, unseen_op, is_unseen}
 use Rattle.pdl_theory_facts.specs.Scans.{is_dead}
 use Rattle.pdl_theory_derived.proofs.Writes.{and_left, and_right}
@@ -411,17 +411,17 @@ module _ (o : Around) (vars : ℕ) (kind : Kind o) where
       same_past (Call args ∷ past) w (work_after o (Call args) w) refl refl refl refl (still_step (Call args) past w silent tt h.guessed tt h)
   past_step (SpecCall args) past w new own silent calls ready h =
       guess_step (SpecCall args) o.guess past w silent refl tt tt (λ q k. mention_touch q.var (SpecCall args) k) h
-  past_step (Verify last args) past w new own silent calls ready h = at (same_args (values_of args w.env) w.guess) refl
+  past_step (Verify last args) past w new own silent calls ready h = at (same_args (said o last args w.env) w.guess) refl
     where
       at : (b : Bool)
-          → same_args (values_of args w.env) w.guess ≡ b
-          → Past o vars (Verify last args ∷ past) (cond b w (record w { child = Some (values_of args w.env); guess = (values_of args w.env); fails = true }))
-      at true e = still_step (Verify last args) past w silent tt (sym (same_args_eq (values_of args w.env) w.guess e)) tt h
+          → same_args (said o last args w.env) w.guess ≡ b
+          → Past o vars (Verify last args ∷ past) (cond b w (record w { child = Some (said o last args w.env); guess = (said o last args w.env); fails = true }))
+      at true e = still_step (Verify last args) past w silent tt (sym (same_args_eq (said o last args w.env) w.guess e)) tt h
       at false e =
           same_past (Verify last args ∷ past)
           (record w { child = Some (values_of args w.env); guess = values_of args w.env })
           (record w { child = Some (values_of args w.env); guess = (values_of args w.env); fails = true }) refl refl refl refl
-          (guess_step (Verify last args) (values_of args w.env) past w silent refl tt tt (λ q k. mention_touch q.var (Verify last args) k) h)
+          (guess_step (Verify last args) (said o last args w.env) past w silent refl tt tt (λ q k. mention_touch q.var (Verify last args) k) h)
   past_step SpecCheck past w new own silent calls ready h = still_step SpecCheck past w silent tt h.guessed tt h
   past_step (AdviceBind x' e') past w new own silent calls ready h = still_step (AdviceBind x' e') past w silent tt h.guessed tt h
   past_step (AdviceRead x' m' a') past w new own silent calls ready h = still_step (AdviceRead x' m' a') past w silent tt h.guessed tt h
@@ -439,11 +439,11 @@ module _ (o : Around) (vars : ℕ) (kind : Kind o) where
       → AllAsks (λ q. silent_on q.var ys ≡ true) w.asks
       → AllAsks (λ q. silent_on q.var ys ≡ true) (work_after o op w).asks
   asks_silent (DelayedRead x m a) w ys u h = all_snoc (λ q. silent_on q.var ys ≡ true) w.asks (record { mem = m; var = x; address = slice_index w.env a }) h u
-  asks_silent (Verify last args) w ys u h = at (same_args (values_of args w.env) w.guess)
+  asks_silent (Verify last args) w ys u h = at (same_args (said o last args w.env) w.guess)
     where
       at : (b : Bool)
           → AllAsks (λ q. silent_on q.var ys ≡ true)
-          (cond b w (record w { child = Some (values_of args w.env); guess = (values_of args w.env); fails = true })).asks
+          (cond b w (record w { child = Some (said o last args w.env); guess = (said o last args w.env); fails = true })).asks
       at true = h
       at false = h
   asks_silent (Bind x e) w ys u h = h
