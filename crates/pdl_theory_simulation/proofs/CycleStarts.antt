@@ -2,13 +2,16 @@
 use Rattle.std.proofs.Common.{◌≡◌, sym, ap, ◌∙◌, subst, ◌<◌, Bool, List, length, zero-add}
 use Rattle.pdl_semantics.specs.Flat.{Pipe}
 use Rattle.pdl_semantics.specs.Machine.{State}
+use Rattle.pdl_semantics.specs.Moves.{movers}
+use Rattle.pdl_semantics.specs.Cycle.{squasher}
+use Rattle.pdl_semantics.specs.Cycle
 use Rattle.pdl_semantics.specs.Locks
 use Rattle.pdl_semantics.specs.Machine
 use Rattle.pdl_semantics.specs.Moves
 use Rattle.pdl_theory_derived.specs.Derived
 use Rattle.pdl_theory_derived.proofs.Slots.{stages_same}
 use Rattle.pdl_theory_simulation.proofs.FlowFacts.{Flows}
-use Rattle.pdl_theory_simulation.proofs.Seats.{Live, each_map, Rises, sacts, acts_slots}
+use Rattle.pdl_theory_simulation.proofs.Seats.{Live, each_map, Rises, sacts, lacts, acts_slots}
 use Rattle.pdl_theory_simulation.proofs.Choices.{Seated, AllKnown}
 use Rattle.pdl_theory_simulation.proofs.ThreadFacts.{sorted, lives_of, find_sorted, rises_sorted}
 use Rattle.pdl_theory_simulation.proofs.Orders.{known_all}
@@ -38,3 +41,10 @@ module _ (p : Pipe) (flows : Flows p) (st : State) (d : Derived.State) (bits : L
   -- two live threads that stand in another order by age than by stage can be exchanged
   pub swaps : Swaps p flows st d bits sim.arrays ls
   swaps = swaps_all p flows st d bits sim.arrays st.next ls known sim.ordered sim.falls
+
+  -- the stated state after a cycle is that after the same acts by age
+  abbrev pub next_state : State
+  next_state =
+      record (Cycle.after_these p st bits (lacts p st d bits ls) (movers (lacts p st d bits ls)) (squasher (movers (lacts p st d bits ls)))) {
+        arrays = (Cycle.cycle p st bits).arrays;
+      }

@@ -71,14 +71,8 @@ module _ (p : Pipe) (flows : Flows p) where
     foreseen =
         foreseen_all p flows st d bits sim.arrays ls sim.matched st.next sim.seated sim.ordered sim.falls known sim.forks acts_are told
 
-    -- the stated state after a cycle is that after the same acts by age
-    abbrev pub next_state : State
-    next_state =
-        record
-        (Cycle.after_these p st bits (lacts p st d bits ls) (movers (lacts p st d bits ls)) (squasher (movers (lacts p st d bits ls)))) {
-          arrays =
-              (Cycle.cycle p st bits).arrays;
-        }
+    abbrev next_state : State
+    next_state = CycleStarts.next_state p flows st d bits ls sim
 
     -- the state after a cycle is that after the same acts by age
     pub after_is : Cycle.cycle p st bits ≡ next_state

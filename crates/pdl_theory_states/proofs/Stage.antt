@@ -92,6 +92,7 @@ abbrev pub look_at : Pipe → List Derived.Thread → Around
 look_at p ts =
     record {
       guess = [];
+      update = [];
       read = λ m a. 0;
       can_read = λ m a. read_ready (mem_at p m).lock (latest ts m a);
       can_write = λ m a. write_ready (mem_at p m).lock (latest ts m a);
