@@ -1,9 +1,9 @@
 -- What a stage's statements may do: they ask for the delayed reads of the stage, and only where the verifies stand does one fail.
 use Rattle.std.proofs.Common.{◌≡◌, refl, sym, ap, ◌∙◌, ℕ, suc, Bool, true, false, ◌&&◌, ◌||◌, not, List, [], ◌∷◌, Option, Some, None, ◌==◌, nat_le, arith, cond, if◌then◌else◌}
 use Rattle.std.proofs.lemmas.Bool.{and_parts, eqb-true, leb-true}
-use Rattle.pdl_semantics.specs.Flat.{Op, Bind, CombRead, DelayedRead, Write, ReserveRead, ReserveWrite, Block, Release, Call, SpecCall, Verify, SpecCheck, SpecBarrier, AdviceBind, AdviceRead, AdviceWrite, Stmt, Pipe, values_of, all_hold}
+use Rattle.pdl_semantics.specs.Flat.{Op, Bind, CombRead, DelayedRead, Write, ReserveRead, ReserveWrite, Block, Release, Call, SpecCall, Verify, SpecCheck, SpecBarrier, AdviceBind, AdviceRead, AdviceWrite, Stmt, Pipe, all_hold}
 use Rattle.pdl_semantics.specs.Stages.{list_any, in_stage, is_verify, verify_stage}
-use Rattle.pdl_semantics.specs.Machine.{State, Thread, Ask, Deeds, same_args, deeds_after, deeds_after_all, deeds, word_for}
+use Rattle.pdl_semantics.specs.Machine.{State, Thread, Ask, Deeds, same_args, deeds_after, deeds_after_all, deeds, word_for, checked_args}
 use Rattle.pdl_theory_facts.specs.Scans.{all_at}
 use Rattle.pdl_semantics.specs.Updates.{is_update}
 use Rattle.pdl_machine_inflight.specs.Readings.{reading, IsTheReading, Reads}
@@ -28,14 +28,13 @@ asks_op : (p : Pipe) (k s : ℕ) (read : ℕ → ℕ → ℕ) (x : Stmt) → IsT
     → x.stage ≡ k → (d : Deeds) → Each (AsksIn p k) d.asks → Each (AsksIn p k) (deeds_after read x.op d).asks
 asks_op p k s read x h e d r = by x.op h
   where
-    verified : (args : List Rattle.pdl_semantics.specs.Flat.Expr) (b : Bool)
-        → Each (AsksIn p k) (cond b d (record d { child = Some (values_of args d.env); guess = values_of args d.env; fails = true })).asks
+    verified : (args : List ℕ) (b : Bool) → Each (AsksIn p k) (cond b d (record d { child = Some args; guess = args; fails = true })).asks
     verified args true = r
     verified args false = r
 
     by : (op : Op) → IsTheReading p (record x { op = op }) → Each (AsksIn p k) (deeds_after read op d).asks
     by (DelayedRead y m a) g = each_push (AsksIn p k) d.asks _ r (g ∙ ap (λ j. Some (record { stage = j; var = y })) e)
-    by (Verify last args) g = verified args (same_args (values_of args d.env) d.guess)
+    by (Verify last args) g = verified (checked_args last args d) (same_args (checked_args last args d) d.guess)
     by (Bind y a) g = r
     by (CombRead y m a) g = r
     by (Write m a b) g = r

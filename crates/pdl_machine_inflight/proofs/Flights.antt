@@ -1,5 +1,5 @@
 -- What holds of the threads in flight in each state that a run comes to.
-use Rattle.std.proofs.Common.{◌≡◌, refl, sym, ap, ◌∙◌, subst, ℕ, inl, inr, Bool, true, false, ◌&&◌, ◌||◌, List, [], ◌∷◌, Some, ◌==◌, nat_lt}
+use Rattle.std.proofs.Common.{◌≡◌, refl, sym, ap, ◌∙◌, subst, ℕ, inl, inr, Bool, true, false, ◌&&◌, ◌||◌, List, [], ◌∷◌, Some, ◌==◌, nat_lt, ◌++◌}
 use Rattle.std.specs.Prelude.{if◌then◌else◌}
 use Rattle.std.proofs.lemmas.Bool.{eqb-true, and_parts}
 use Rattle.pdl_semantics.specs.Flat.{Arrays, Op, DelayedRead, Stmt, Pipe, all_hold}
@@ -165,6 +165,6 @@ module _ (p : Pipe) (ways : Ways p) (reads : Reads p) (st : State) (d : Derived.
 pub flights : (p : Pipe) → Sound p → Strict p → Reads p → (image : Arrays) (before : List (List Bool))
     → InFlight p (state_after p (first p image) before)
 flights p sound strict reads image before =
-    let r = reached p sound strict image before in
-    in_flight p (sound_flows p sound).graph reads (state_after p (first p image) before) (Derived.state_after p (Derived.first p image (hints_of p (first p image) before)) before)
-    r.0 r.1 r.2
+    let r = reached p sound strict image before [] in
+    in_flight p (sound_flows p sound).graph reads (state_after p (first p image) before)
+    (Derived.state_after p (Derived.first p image (hints_of p (first p image) (before ++ []))) before) r.live r.sim r.whole

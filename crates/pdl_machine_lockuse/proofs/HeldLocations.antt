@@ -1,9 +1,9 @@
 -- Locations that a thread has blocked for reading, and those that it holds for writing, as its statements go by.
 use Rattle.std.proofs.Common.{◌≡◌, refl, sym, ap, ◌∙◌, subst, ℕ, ◌≤◌, Bool, true, false, ◌&&◌, ◌||◌, not, List, [], ◌∷◌, Some, ◌==◌, cond, arith, slice_index, ◌+◌}
 use Rattle.std.proofs.lemmas.Bool.{or_right, eqb-true}
-use Rattle.pdl_semantics.specs.Flat.{Op, DelayedRead, Write, ReserveWrite, Block, Release, Verify, Pipe, values_of}
+use Rattle.pdl_semantics.specs.Flat.{Op, DelayedRead, Write, ReserveWrite, Block, Release, Verify, Pipe}
 use Rattle.pdl_semantics.specs.Stages.{commit_stage}
-use Rattle.pdl_semantics.specs.Machine.{HeldLocation, Deeds, deeds_after, is_held, let_go, held_after, same_args}
+use Rattle.pdl_semantics.specs.Machine.{HeldLocation, Deeds, deeds_after, is_held, let_go, held_after, same_args, checked_args}
 use Rattle.pdl_theory_derived.specs.Alone.{Location, answered_op}
 use Rattle.pdl_theory_facts.specs.Scans.{Phase, after_write, after_reserve, after_release, may_write, next_phase, Scan, has_location, scan_after, location}
 use Rattle.pdl_machine_lockuse.proofs.Reservations.{one_if, uses, Single, uses_reserve, uses_write, uses_release, single_op}
@@ -59,9 +59,9 @@ covers_op c _ hs f = f
 
 -- the deeds after a statement hold what the statement leaves held
 pub held_does : (read : ℕ → ℕ → ℕ) (op : Op) (d : Deeds) → (deeds_after read op d).held ≡ held_after op d.held
-held_does read (Verify last args) d = at (same_args (values_of args d.env) d.guess)
+held_does read (Verify last args) d = at (same_args (checked_args last args d) d.guess)
   where
-    at : (b : Bool) → (cond b d (record d { child = Some (values_of args d.env); guess = (values_of args d.env); fails = true })).held ≡ d.held
+    at : (b : Bool) → (cond b d (record d { child = Some (checked_args last args d); guess = (checked_args last args d); fails = true })).held ≡ d.held
     at true = refl
     at false = refl
 held_does read _ d = refl

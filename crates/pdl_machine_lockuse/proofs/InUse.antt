@@ -26,7 +26,7 @@ use Rattle.pdl_theory_simulation.proofs.ThreadFacts.{Pair, pairs, EachPair, pair
 use Rattle.pdl_theory_simulation.proofs.Choices.{Known, AllKnown, Seated}
 use Rattle.pdl_theory_simulation.proofs.LockLists.{two, Agrees, unreleased}
 use Rattle.pdl_theory_simulation.proofs.ActOrder.{Swaps, same_taken, same_squasher}
-use Rattle.pdl_theory_simulation.proofs.WholeSimulation.{known, acts_are, fit}
+use Rattle.pdl_theory_simulation.proofs.WholeSimulation.{acts_are, fit}
 use Rattle.pdl_theory_simulation.proofs.LockLists.{two_is}
 use Rattle.pdl_lockapi.specs.Forget as forget
 use Rattle.pdl_machine_facts.specs.Slots
@@ -59,6 +59,8 @@ use Rattle.pdl_theory_turns.proofs.TurnPath.{phase_append}
 use Rattle.pdl_semantics.specs.PendingLists.{AreOrdered, count_older, AreWritten}
 use Rattle.pdl_word.specs.Each.{Each}
 use Rattle.pdl_theory_simulation.proofs.SimulatedStates.{Sim}
+use Rattle.pdl_theory_simulation.proofs.CycleStarts.{known}
+use Rattle.pdl_theory_simulation.proofs.Orders.{AllForetold}
 
 -- STAGES
 
@@ -135,7 +137,7 @@ module _ (p : Pipe) (st : State) (bits : List Bool) where
 -- A STATE AND THE LIVE THREADS
 
 module _ (p : Pipe) (sound : Sound p) (strict : Strict p) (st : State) (d : Derived.State) (bits : List Bool)
-    (ls : List Live) (sim : Sim p st d ls) (whole : Whole p st ls) where
+    (ls : List Live) (sim : Sim p st d ls) (whole : Whole p st ls) (told : AllForetold p (sound_flows p sound) st d bits sim.arrays ls) where
   all_known : AllKnown p (sound_flows p sound) st d bits sim.arrays ls
   all_known = known p (sound_flows p sound) st d bits ls sim
 
@@ -163,17 +165,17 @@ module _ (p : Pipe) (sound : Sound p) (strict : Strict p) (st : State) (d : Deri
   by = by_stages p (leads_sound p sound) (sound_flows p sound).graph.some_stage st bits count
 
   swapped : Swaps p (sound_flows p sound) st d bits sim.arrays ls
-  swapped = swaps p sound st d bits ls sim 0
+  swapped = swaps p sound st d bits ls sim told 0
 
   -- in both orders
   taken_is : (m : ℕ) → taken_out st (moving p st bits) m ≡ taken_out st (movers (lacts p st d bits ls)) m
   taken_is m =
-      ap (λ these. taken_out st (movers these) m) (acts_are p (sound_flows p sound) st d bits ls sim)
+      ap (λ these. taken_out st (movers these) m) (acts_are p (sound_flows p sound) st d bits ls sim told)
       ∙ same_taken p (sound_flows p sound) st d bits sim.arrays m ls swapped
 
   squasher_is : squasher (moving p st bits) ≡ squasher (movers (lacts p st d bits ls))
   squasher_is =
-      ap (λ these. squasher (movers these)) (acts_are p (sound_flows p sound) st d bits ls sim)
+      ap (λ these. squasher (movers these)) (acts_are p (sound_flows p sound) st d bits ls sim told)
       ∙ same_squasher p (sound_flows p sound) st d bits sim.arrays ls swapped
 
   module _ (m : ℕ) where
@@ -199,12 +201,12 @@ module _ (p : Pipe) (sound : Sound p) (strict : Strict p) (st : State) (d : Deri
 
     -- what a thread that moves releases are its own pending writes, the oldest ones, which have their values
     pub owns : AllActs (ReleasesOwn p st bits m) (all_acts p st bits)
-    owns = all_each p sound st d bits ls sim m (ReleasesOwn p st bits m) owns_pairs
+    owns = all_each p sound st d bits ls sim told m (ReleasesOwn p st bits m) owns_pairs
 
     -- what is released has its value
     pub written : AreWritten (all_releases m (moving p st bits)) (with_values p st bits m)
     written =
-        subst (λ k. AreWritten k (with_values p st bits m)) (sym (releases_are p sound st d bits ls sim m))
+        subst (λ k. AreWritten k (with_values p st bits m)) (sym (releases_are p sound st d bits ls sim told m))
         (written_same (all_releases m (movers (lacts p st d bits ls))) (all_releases m (movers (lacts p st d bits ls)))
         (all_releases m (moving p st bits)) (two p (sound_flows p sound) st d bits sim.arrays m ls) (with_values p st bits m)
         (le_refl (all_releases m (movers (lacts p st d bits ls)))) fronts
@@ -218,19 +220,19 @@ module _ (p : Pipe) (sound : Sound p) (strict : Strict p) (st : State) (d : Deri
     shift_all P bars =
         pair_map
         (λ x h g. count_released (all_releases m (moving p st bits)) (suc x.live.number) m (moving p st bits) (with_new p st bits m)
-        (subst (λ k. LowFirst k (suc x.live.number) (with_new p st bits m)) (sym (releases_are p sound st d bits ls sim m))
-        (subst (LowFirst (all_releases m (movers (lacts p st d bits ls))) (suc x.live.number)) (sym (with_new_is p sound st d bits ls sim m)) (h g))))
+        (subst (λ k. LowFirst k (suc x.live.number) (with_new p st bits m)) (sym (releases_are p sound st d bits ls sim told m))
+        (subst (LowFirst (all_releases m (movers (lacts p st d bits ls))) (suc x.live.number)) (sym (with_new_is p sound st d bits ls sim told m)) (h g))))
         (pairs ls) (up_released p sound st d bits sim.arrays m P st.next ls bars sim.seated all_known sim.ordered sim.falls)
 
     -- what is released is no younger than a thread up to the stage of the memory's releases
     pub older_released : AllActs (ReleasesOlder p st bits m) (all_acts p st bits)
     older_released =
-        all_each p sound st d bits ls sim m (ReleasesOlder p st bits m)
+        all_each p sound st d bits ls sim told m (ReleasesOlder p st bits m)
         (shift_all (λ x. x.live.thread.stage ≤ commit_stage p m) (bars_commit p sound st d bits sim.arrays m ls all_known sim.ordered))
 
     -- what is released is no younger than a thread that awaits a read of the memory
     pub awaits_released : AllActs (AwaitsOlder p st bits m) (all_acts p st bits)
-    awaits_released = all_each p sound st d bits ls sim m (AwaitsOlder p st bits m)
+    awaits_released = all_each p sound st d bits ls sim told m (AwaitsOlder p st bits m)
         (pair_both (λ x g h i. h (g i)) (pairs ls) (pair_both (λ x k a. still_early p sound st x.older x.live k.seated a bits m) (pairs ls) knowns lastings)
         (shift_all (λ x. x.live.thread.stage ≤ commit_stage p m) (bars_commit p sound st d bits sim.arrays m ls all_known sim.ordered)))
 
@@ -252,21 +254,21 @@ module _ (p : Pipe) (sound : Sound p) (strict : Strict p) (st : State) (d : Deri
 
     -- up to V a thread's own and older pending writes become one fewer at each release
     pub tails : AllActs (ShiftsTail p st bits m) (all_acts p st bits)
-    tails = all_each p sound st d bits ls sim m (ShiftsTail p st bits m) (tails_at (verify_stage p.stmts) refl)
+    tails = all_each p sound st d bits ls sim told m (ShiftsTail p st bits m) (tails_at (verify_stage p.stmts) refl)
 
     -- up to the stage of the reserves all pending writes are a thread's own or older, those of this cycle included
     pub finds_all : AllActs (FindsAll p st bits m) (all_acts p st bits)
-    finds_all = all_each p sound st d bits ls sim m (FindsAll p st bits m)
+    finds_all = all_each p sound st d bits ls sim told m (FindsAll p st bits m)
         (pair_map
-        (λ x h g. ap (count_older (suc x.live.number)) (with_new_is p sound st d bits ls sim m) ∙ h g
-        ∙ ap length (sym (with_new_is p sound st d bits ls sim m)))
+        (λ x h g. ap (count_older (suc x.live.number)) (with_new_is p sound st d bits ls sim told m) ∙ h g
+        ∙ ap length (sym (with_new_is p sound st d bits ls sim told m)))
         (pairs ls) (all_own p sound st d bits sim.arrays m st.next ls all_known sim.seated sim.ordered sim.falls))
 
     -- past the stage of the reserves the cycle appends nothing to a thread's own and older pending writes
     pub tails_kept : AllActs (KeepsTail p st bits m) (all_acts p st bits)
-    tails_kept = all_each p sound st d bits ls sim m (KeepsTail p st bits m)
+    tails_kept = all_each p sound st d bits ls sim told m (KeepsTail p st bits m)
         (pair_map
-        (λ x h g. ap (count_older (suc x.live.number)) (with_new_is p sound st d bits ls sim m) ∙ h g
+        (λ x h g. ap (count_older (suc x.live.number)) (with_new_is p sound st d bits ls sim told m) ∙ h g
         ∙ ap (count_older (suc x.live.number)) (sym (sim.locks m)))
         (pairs ls) (tail_kept p sound st d bits sim.arrays m st.next ls (pends m ls) sim.ordered sim.falls))
 
@@ -281,7 +283,7 @@ module _ (p : Pipe) (sound : Sound p) (strict : Strict p) (st : State) (d : Deri
     release_ordered : AreOrdered 0 (with_release p st bits m)
     release_ordered =
         order_behind (all_releases m (moving p st bits)) 0 (with_values p st bits m)
-        (order_filled m 0 (moving p st bits) (with_new p st bits m) (reserves p sound st d bits ls sim m).ordered)
+        (order_filled m 0 (moving p st bits) (with_new p st bits m) (reserves p sound st d bits ls sim told m).ordered)
 
     -- a squash leaves of the pending writes a front, those of the squasher and of older threads
     pub cuts : Cuts p st bits m
@@ -300,7 +302,7 @@ module _ (p : Pipe) (sound : Sound p) (strict : Strict p) (st : State) (d : Deri
     own_new =
         pair_both
         (λ x g h i. ap (entries_by x.live.number)
-        (with_new_is p sound st d bits ls sim m ∙ ap (with_reserves m (movers (lacts p st d bits ls))) (sym (sim.locks m)))
+        (with_new_is p sound st d bits ls sim told m ∙ ap (with_reserves m (movers (lacts p st d bits ls))) (sym (sim.locks m)))
         ∙ h i ∙ ap (λ xs. xs ++ new_entries m x.live.number (deeds_of p st bits x.live).reserves) (g.listed m))
         (pairs ls) mines (by_new p sound st d bits sim.arrays m st.next (lock_of st m) ls sim.falls)
 
@@ -322,7 +324,7 @@ module _ (p : Pipe) (sound : Sound p) (strict : Strict p) (st : State) (d : Deri
 
     -- a thread that moves writes each of its pending writes at most once, in the order of its reservations
     pub once : AllActs (WritesOnce p st bits m) (all_acts p st bits)
-    once = all_each p sound st d bits ls sim m (WritesOnce p st bits m) once_pairs
+    once = all_each p sound st d bits ls sim told m (WritesOnce p st bits m) once_pairs
 
     -- a thread that moves and writes is in time and has a pending write
     abbrev Writes : ℕ → ℕ → Act → Type 0
@@ -332,7 +334,7 @@ module _ (p : Pipe) (sound : Sound p) (strict : Strict p) (st : State) (d : Deri
         × forget.IsOnce a.thread.number y (with_new p st bits m)
 
     writes_all : (y v : ℕ) → AllActs (Writes y v) (all_acts p st bits)
-    writes_all y v = all_each p sound st d bits ls sim m (Writes y v)
+    writes_all y v = all_each p sound st d bits ls sim told m (Writes y v)
         (pair_both (λ x k h i c. (
           writes_early p sound st d bits sim.arrays x.older x.live k strict m
               (contains_write m (deeds_of p st bits x.live).writes (record { mem = m; var = y; value = v }) refl c),
@@ -362,7 +364,7 @@ module _ (p : Pipe) (sound : Sound p) (strict : Strict p) (st : State) (d : Deri
         → has_room (mem_at p m).lock (length (forget.addresses m (moving p st bits))) (length (lock_of st m)) ≡ true
     room_reserved =
         sole_reserved (λ n. has_room (mem_at p m).lock n (length (lock_of st m)) ≡ true) m (moving p st bits)
-        (reserves p sound st d bits ls sim m).one (each_room (all_acts p st bits) (all_room p st bits))
+        (reserves p sound st d bits ls sim told m).one (each_room (all_acts p st bits) (all_room p st bits))
 
     -- at most two are reserved and released
     module _ (careful : Careful p) (there : m < length p.mems) where
@@ -382,13 +384,13 @@ module _ (p : Pipe) (sound : Sound p) (strict : Strict p) (st : State) (d : Deri
       -- at most two writes of m are reserved in a cycle
       pub two_reserved : length (forget.addresses m (moving p st bits)) ≤ 2
       two_reserved =
-          few_reserved m (moving p st bits) (reserves p sound st d bits ls sim m).one
-          (each_few (all_acts p st bits) (all_each p sound st d bits ls sim m (λ (a : Act). reserves_of m a.does.reserves ≤ 2) few_here))
+          few_reserved m (moving p st bits) (reserves p sound st d bits ls sim told m).one
+          (each_few (all_acts p st bits) (all_each p sound st d bits ls sim told m (λ (a : Act). reserves_of m a.does.reserves ≤ 2) few_here))
 
       -- at most two writes of m are released in a cycle
       pub two_released : all_releases m (moving p st bits) ≤ 2
       two_released =
-          subst (λ n. n ≤ 2) (sym (releases_are p sound st d bits ls sim m))
+          subst (λ n. n ≤ 2) (sym (releases_are p sound st d bits ls sim told m))
           (few_released p sound st d bits sim.arrays m ls all_known sim.ordered
           (pair_map (λ x k. few_releases p sound st d bits sim.arrays x.older x.live k careful m there) (pairs ls) knowns))
 
@@ -398,7 +400,7 @@ module _ (p : Pipe) (sound : Sound p) (strict : Strict p) (st : State) (d : Deri
 
     no_release : (mem_at p m).lock ≡ Plain → all_releases m (moving p st bits) ≡ 0
     no_release h =
-        releases_are p sound st d bits ls sim m
+        releases_are p sound st d bits ls sim told m
         ∙ unreleased p (sound_flows p sound) st d bits sim.arrays m ls all_known
         (let far = (sound.pathwise.paths []).plain_to m (ap is_plain h) in omega (arith, far))
 
@@ -424,7 +426,7 @@ module _ (p : Pipe) (sound : Sound p) (strict : Strict p) (st : State) (d : Deri
 
   -- no thread that moves is removed
   pub spared : AllActs (IsSpared p st bits) (all_acts p st bits)
-  spared = all_each p sound st d bits ls sim 0 (IsSpared p st bits) (spares ls (fit p (sound_flows p sound) st d bits ls sim))
+  spared = all_each p sound st d bits ls sim told 0 (IsSpared p st bits) (spares ls (fit p (sound_flows p sound) st d bits ls sim told))
 
   -- WHAT A THREAD HOLDS AS IT LEAVES
 
@@ -432,7 +434,7 @@ module _ (p : Pipe) (sound : Sound p) (strict : Strict p) (st : State) (d : Deri
   Holds q a = is_stage q (next_stage p a.stage a.does) ≡ true → a.does.held ≡ held_before q a.does.env p.stmts []
 
   holds_all : (q : ℕ) → AllActs (Holds q) (all_acts p st bits)
-  holds_all q = all_each p sound st d bits ls sim 0 (Holds q) (pair_map (λ x k. held_on p sound st d bits sim.arrays x.older x.live k q) (pairs ls) knowns)
+  holds_all q = all_each p sound st d bits ls sim told 0 (Holds q) (pair_map (λ x k. held_on p sound st d bits sim.arrays x.older x.live k q) (pairs ls) knowns)
 
   -- THE WHOLE
 
@@ -442,13 +444,13 @@ module _ (p : Pipe) (sound : Sound p) (strict : Strict p) (st : State) (d : Deri
 
     fine_each : AllActs Fine (all_acts p st bits)
     fine_each =
-        all_each p sound st d bits ls sim 0 Fine
+        all_each p sound st d bits ls sim told 0 Fine
         (pair_both (λ x k a. fine_here p sound st d bits sim.arrays x.older x.live k strict careful a) (pairs ls) knowns lastings)
 
     -- each read and each write of a thread's stage finds the block of its location ready
     pub lets_in : AllActs (IsLet p st) (all_acts p st bits)
     lets_in =
-        all_each p sound st d bits ls sim 0 (IsLet p st)
+        all_each p sound st d bits ls sim told 0 (IsLet p st)
         (pair_both (λ x k a. let_here p sound st d bits sim.arrays x.older x.live k strict careful a) (pairs ls) knowns lastings)
 
     -- by the movers of the stages
@@ -461,32 +463,32 @@ module _ (p : Pipe) (sound : Sound p) (strict : Strict p) (st : State) (d : Deri
       count = count;
       plain = no_pending;
       unreleased = λ m h. ap (all_releases m) (sym by.movers) ∙ no_release m h;
-      ordered = λ m. same_order 0 (lock_of st m) (list_ordered p sound st d bits ls sim m);
-      ordered_next = λ m. subst (AreOrdered 0) (sym (list_is m)) (same_order 0 (with_new p st bits m) (reserves p sound st d bits ls sim m).ordered);
+      ordered = λ m. same_order 0 (lock_of st m) (list_ordered p sound st d bits ls sim told m);
+      ordered_next = λ m. subst (AreOrdered 0) (sym (list_is m)) (same_order 0 (with_new p st bits m) (reserves p sound st d bits ls sim told m).ordered);
       two = λ m low. subst (λ ms. length (forget.addresses m ms) ≤ 2) by.movers (two_reserved m careful low);
       room = λ m. subst
           (λ ms. 1 ≤ length (forget.addresses m ms) → has_room (mem_at p m).lock (length (forget.addresses m ms)) (length (lock_of st m)) ≡ true)
           by.movers (room_reserved m);
       unreserved =
           λ k t m h low. sym (same_count t.number (lock_of st m))
-          ∙ at_slot p st bits (FindsOlder st m (reserve_stage p m)) (finds_older p sound st d bits ls sim m) k t h low;
+          ∙ at_slot p st bits (FindsOlder st m (reserve_stage p m)) (finds_older p sound st d bits ls sim told m) k t h low;
       writer = λ k t m y v h g c.
           let w = at_here p st bits (Writes m y v) (writes_all m y v) k t h g c in (
             w.0,
             ap (forget.has_place t.number y) (list_is m) ∙ w.1,
             subst (forget.IsOnce t.number y) (sym (list_is m)) w.2,
             ap (count_older t.number) (list_is m)
-                ∙ sole_older t.number y m (moving p st bits) (lock_of st m) (reserves p sound st d bits ls sim m).one
-                (reserves p sound st d bits ls sim m).ordered w.1,
+                ∙ sole_older t.number y m (moving p st bits) (lock_of st m) (reserves p sound st d bits ls sim told m).one
+                (reserves p sound st d bits ls sim told m).ordered w.1,
           );
       after =
           λ k t m h low. ap (count_older t.number) (list_is m) ∙ sym (same_count t.number (with_new p st bits m))
-          ∙ at_slot p st bits (KeepsPlace p st bits m) (places p sound st d bits ls sim m) k t h low ∙ same_count t.number (lock_of st m);
+          ∙ at_slot p st bits (KeepsPlace p st bits m) (places p sound st d bits ls sim told m) k t h low ∙ same_count t.number (lock_of st m);
       releaser = λ m. subst (λ ms. AreWritten (all_releases m ms) (list_two st ms m)) by.movers (written m);
       few = λ m low. subst (λ ms. all_releases m ms ≤ 2) by.movers (two_released m careful low);
       shifts = λ k t m h low early stands.
-          let s = at_slot p st bits (ShiftsPlace p st bits m) (shifts p sound st d bits ls sim m) k t h early stands in
-          let b = at_slot p st bits (KeepsPlace p st bits m) (places p sound st d bits ls sim m) k t h low in
+          let s = at_slot p st bits (ShiftsPlace p st bits m) (shifts p sound st d bits ls sim told m) k t h early stands in
+          let b = at_slot p st bits (KeepsPlace p st bits m) (places p sound st d bits ls sim told m) k t h low in
           ap (λ ms. count_older t.number (list_three st ms m) + all_releases m ms) (sym by.movers)
           ∙ sym (ap (λ x. x + all_releases m (moving p st bits)) (same_count t.number (with_release p st bits m)))
           ∙ s ∙ b ∙ same_count t.number (lock_of st m);

@@ -1,10 +1,10 @@
 -- A read and a write find the blocks of their locations ready: those of the stage since the thread moves, earlier ones since they stay so.
 use Rattle.std.proofs.Common.{◌≡◌, refl, sym, ap, ap₂, ◌∙◌, subst, ℕ, ◌≤◌, inl, inr, Bool, true, false, ◌&&◌, ◌||◌, not, List, [], ◌∷◌, ◌++◌, Some, ◌==◌, cond, slice_index}
 use Rattle.std.proofs.lemmas.Bool.{false≢true, leb-true, or_parts}
-use Rattle.pdl_semantics.specs.Flat.{list_all, Op, Bind, CombRead, DelayedRead, Write, ReserveWrite, Block, Verify, Stmt, Pipe, all_hold, value_of, values_of}
+use Rattle.pdl_semantics.specs.Flat.{list_all, Op, Bind, CombRead, DelayedRead, Write, ReserveWrite, Block, Verify, Stmt, Pipe, all_hold, value_of}
 use Rattle.pdl_semantics.specs.Stages.{onpath, mem_at, reserve_stage, commit_stage}
 use Rattle.pdl_semantics.specs.Locks.{read_ready, write_ready}
-use Rattle.pdl_semantics.specs.Machine.{State, Blocked, Deeds, deeds_after, is_held, older_write, word_for, same_args}
+use Rattle.pdl_semantics.specs.Machine.{State, Blocked, Deeds, deeds_after, is_held, older_write, word_for, same_args, checked_args}
 use Rattle.pdl_semantics.specs.Moves.{block_ready, blocks_ready, have_room}
 use Rattle.pdl_theory_derived.specs.Derived.{Around, Entry, has_entry}
 use Rattle.pdl_theory_derived.specs.Alone.{Location, answered_op}
@@ -78,9 +78,9 @@ module _ (p : Pipe) (st : State) (n : ℕ) where
   let_next vars s past (Bind x e) d h low r = λ k. right_set p s Let (blocks_of past) d.env x (value_of e d.env) (fresh vars x past h) (r k)
   let_next vars s past (CombRead x m a) d h low r =
       λ k. right_set p s Let (blocks_of past) d.env x (word_for st n m (slice_index d.env a)) (fresh vars x past h) (r k)
-  let_next vars s past (Verify last args) d h low r = at (same_args (values_of args d.env) d.guess)
+  let_next vars s past (Verify last args) d h low r = at (same_args (checked_args last args d) d.guess)
     where
-      at : (b : Bool) → LetIf s past (cond b d (record d { child = Some (values_of args d.env); guess = (values_of args d.env); fails = true }))
+      at : (b : Bool) → LetIf s past (cond b d (record d { child = Some (checked_args last args d); guess = (checked_args last args d); fails = true }))
       at true = r
       at false = r
   let_next vars s past (ReserveWrite m a) d h low r =

@@ -1,9 +1,9 @@
 -- What a thread's stage does to its pending writes of one memory: who writes has one, once, and what is released has its value.
 use Rattle.std.proofs.Common.{◌≡◌, refl, sym, ap, ap₂, ◌∙◌, subst, ℕ, suc, ◌+◌, ◌≤◌, ◌<◌, Bool, true, false, ◌&&◌, ◌||◌, not, List, [], ◌∷◌, ◌++◌, length, length-append, Option, Some, None, ◌==◌, cond, if◌then◌else◌, arith, eq-eqb, slice_index, append_assoc, append-nil, nat_le}
 use Rattle.std.proofs.lemmas.Bool.{false≢true, leb-true, eqb-true}
-use Rattle.pdl_semantics.specs.Flat.{Pipe, Op, Write, ReserveWrite, Release, Verify, Stmt, list_all, all_hold, value_of, values_of}
+use Rattle.pdl_semantics.specs.Flat.{Pipe, Op, Write, ReserveWrite, Release, Verify, Stmt, list_all, all_hold, value_of}
 use Rattle.pdl_semantics.specs.Stages.{onpath, in_stage, goes_to, stage_at, commit_stage}
-use Rattle.pdl_semantics.specs.Machine.{State, Pending, Blocked, Written, Ask, Deeds, deeds_after, deeds_after_all, reserves_of, held_before, same_args, word_for}
+use Rattle.pdl_semantics.specs.Machine.{State, Pending, Blocked, Written, Ask, Deeds, deeds_after, deeds_after_all, reserves_of, held_before, same_args, word_for, checked_args}
 use Rattle.pdl_semantics.specs.Moves.{block_ready, next_stage}
 use Rattle.pdl_semantics.specs.Promises.{DifferInAdvice}
 use Rattle.pdl_semantics.specs.Cycle.{new_entries, with_writes_of, releases_of, is_stage}
@@ -217,9 +217,9 @@ module _ (o : Around) (read : ℕ → ℕ → ℕ) (block : Blocked → Bool) (f
         turns = w.turns;
       }
       at false = record { single = w.single; named = w.named; made = w.made; turns = w.turns }
-  wrote_next (Verify last args) ph d v k g w = at (same_args (values_of args d.env) d.guess)
+  wrote_next (Verify last args) ph d v k g w = at (same_args (checked_args last args d) d.guess)
     where
-      at : (b : Bool) → Wrote ph (cond b d (record d { child = Some (values_of args d.env); guess = (values_of args d.env); fails = true }))
+      at : (b : Bool) → Wrote ph (cond b d (record d { child = Some (checked_args last args d); guess = (checked_args last args d); fails = true }))
       at true = w
       at false = record { single = w.single; named = w.named; made = w.made; turns = w.turns }
   wrote_next _ ph d v k g w = record { single = w.single; named = w.named; made = w.made; turns = w.turns }
@@ -282,10 +282,10 @@ module _ (p : Pipe) (k : ℕ) (read : ℕ → ℕ → ℕ) (path : List ℕ) whe
 
   one : (op : Op) (d : Deeds) → in_time p k op ≡ true → list_all is_timely d.writes ≡ true → list_all is_timely (deeds_after read op d).writes ≡ true
   one (Write m a e) d g h = all_last d.writes _ h g
-  one (Verify last args) d g h = at (same_args (values_of args d.env) d.guess)
+  one (Verify last args) d g h = at (same_args (checked_args last args d) d.guess)
     where
       at : (b : Bool)
-          → list_all is_timely (cond b d (record d { child = Some (values_of args d.env); guess = (values_of args d.env); fails = true })).writes ≡ true
+          → list_all is_timely (cond b d (record d { child = Some (checked_args last args d); guess = (checked_args last args d); fails = true })).writes ≡ true
       at true = h
       at false = h
   one _ d g h = h

@@ -1,9 +1,9 @@
 -- How often a phase has a variable: a location of a memory is reserved for writing at most once on a path.
 use Rattle.std.proofs.Common.{◌≡◌, refl, sym, ap, ap₂, ◌∙◌, subst, ℕ, suc, ◌+◌, ◌≤◌, Bool, true, false, ◌&&◌, ◌||◌, not, List, [], ◌∷◌, ◌++◌, length, Some, ◌==◌, cond, if◌then◌else◌, arith, slice_index}
 use Rattle.std.proofs.lemmas.Bool.{eqb-true}
-use Rattle.pdl_semantics.specs.Flat.{Op, Write, ReserveWrite, Release, Verify, Stmt, all_hold, values_of}
+use Rattle.pdl_semantics.specs.Flat.{Op, Write, ReserveWrite, Release, Verify, Stmt, all_hold}
 use Rattle.pdl_semantics.specs.Stages.{onpath}
-use Rattle.pdl_semantics.specs.Machine.{Reserved, Deeds, deeds_after, deeds_after_all, reserves_of, same_args}
+use Rattle.pdl_semantics.specs.Machine.{Reserved, Deeds, deeds_after, deeds_after_all, reserves_of, same_args, checked_args}
 use Rattle.pdl_semantics.specs.Sound.{is_write_reserve}
 use Rattle.pdl_theory_derived.specs.Alone.{is_among, is_oldest, drop_var, but_last}
 use Rattle.pdl_theory_derived.proofs.Writes.{and_left, and_right}
@@ -231,10 +231,10 @@ reserved_all m path read (x ∷ xs) d i =
                 ≡ cond b (suc (reserves_of m rs)) (reserves_of m rs) + one_if (j == m)
             by true e = omega (arith, e)
             by false e = e
-    one_op (Verify last args) = by (same_args (values_of args d.env) d.guess)
+    one_op (Verify last args) = by (same_args (checked_args last args d) d.guess)
       where
         by : (b : Bool)
-            → reserves_of m (cond b d (record d { child = Some (values_of args d.env); guess = values_of args d.env; fails = true })).reserves
+            → reserves_of m (cond b d (record d { child = Some (checked_args last args d); guess = checked_args last args d; fails = true })).reserves
             ≡ reserves_of m d.reserves + 0
         by true = plus (reserves_of m d.reserves)
         by false = plus (reserves_of m d.reserves)

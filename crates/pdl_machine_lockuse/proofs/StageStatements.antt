@@ -4,7 +4,7 @@ use Rattle.std.proofs.lemmas.Bool.{false≢true, leb-true, ltb-true, eqb-true}
 use Rattle.pdl_semantics.specs.Flat.{list_all, Op, Bind, CombRead, DelayedRead, ReserveWrite, Block, Release, Call, SpecCall, Verify, Stmt, Expr, Pipe, all_hold, value_of, values_of}
 use Rattle.pdl_semantics.specs.Stages.{onpath, mem_at, reserve_stage, commit_stage}
 use Rattle.pdl_semantics.specs.Locks.{read_ready, write_ready}
-use Rattle.pdl_semantics.specs.Machine.{State, Blocked, Deeds, all_values, deeds_after, is_held, older_write, word_for, same_args}
+use Rattle.pdl_semantics.specs.Machine.{State, Blocked, Deeds, all_values, deeds_after, is_held, older_write, word_for, same_args, checked_args}
 use Rattle.pdl_semantics.specs.Moves.{block_ready, blocks_ready, have_room}
 use Rattle.pdl_semantics.proofs.Readiness.{plain_ready}
 use Rattle.pdl_theory_derived.specs.Alone.{answered_op}
@@ -72,9 +72,9 @@ module _ (p : Pipe) (st : State) (n : ℕ) where
   right_next s c (CombRead x m a) d h f r =
       λ k. right_set p s Clean c.blocked d.env x (word_for st n m (slice_index d.env a)) (and_left (not (is_address c.blocked x)) _ h) (r k)
   right_next s c (DelayedRead x m a) d h f r = r
-  right_next s c (Verify last args) d h f r = at (same_args (values_of args d.env) d.guess)
+  right_next s c (Verify last args) d h f r = at (same_args (checked_args last args d) d.guess)
     where
-      at : (b : Bool) → RightIf s c (cond b d (record d { child = Some (values_of args d.env); guess = (values_of args d.env); fails = true }))
+      at : (b : Bool) → RightIf s c (cond b d (record d { child = Some (checked_args last args d); guess = (checked_args last args d); fails = true }))
       at true = r
       at false = r
   right_next s c (ReserveWrite m a) d h f r =
@@ -102,11 +102,11 @@ module _ (p : Pipe) (st : State) (n : ℕ) where
   guess_next size g (Call args) d h f i = absurd (false≢true i)
   guess_next size g (SpecCall args) d h f i = values_long args (all_values d) ∙ eqb-true (length args) size h
   guess_next size g (Verify true args) d h f i = absurd (false≢true i)
-  guess_next size g (Verify false args) d h f i = at (same_args (values_of args d.env) d.guess) refl
+  guess_next size g (Verify false args) d h f i = at (same_args (checked_args false args d) d.guess) refl
     where
-      at : (b : Bool) → same_args (values_of args d.env) d.guess ≡ b
-          → length (cond b d (record d { child = Some (values_of args d.env); guess = (values_of args d.env); fails = true })).guess ≡ size
-      at true e = ap length (sym (same_args_eq (values_of args d.env) d.guess e)) ∙ values_long args d.env ∙ eqb-true (length args) size h
+      at : (b : Bool) → same_args (checked_args false args d) d.guess ≡ b
+          → length (cond b d (record d { child = Some (checked_args false args d); guess = (checked_args false args d); fails = true })).guess ≡ size
+      at true e = ap length (sym (same_args_eq (checked_args false args d) d.guess e)) ∙ values_long args d.env ∙ eqb-true (length args) size h
       at false e = values_long args d.env ∙ eqb-true (length args) size h
   guess_next size g (DelayedRead x m a) d h f i = f i
   guess_next size g _ d h f i = f i

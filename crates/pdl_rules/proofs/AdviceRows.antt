@@ -1,7 +1,7 @@
 -- Advisory memories: pipes that are accepted, and for each rule on them some that break it; computed.
 use Rattle.std.specs.Prelude.{◌≡◌, ℕ, List, [], ◌∷◌, ◌++◌, Option, Some, None, refl}
 use Rattle.pdl_kit.specs.declared.rule.Rule.{Rule}
-use Rattle.pdl_kit.specs.declared.rule.Rule.TheVariants.{F4, F5, L1, S5, P1}
+use Rattle.pdl_kit.specs.declared.rule.Rule.TheVariants.{F4, F5, L1, P1}
 use Rattle.pdl_semantics.specs.Tree.{W}
 use Rattle.pdl_rules.specs.Refusal.{Refused}
 use Rattle.pdl_rules.proofs.Judged.{judged}
@@ -46,9 +46,12 @@ advised_address = refl
 advised_verify : predicted (verify "s" (plus (variable "u") (variable "g") ∷ [])) (guess ∷ []) (learn ∷ commit) ≡ at_line 10
 advised_verify = refl
 
--- in an update, which replaces the guess
-advised_update : predicted right (guess ∷ separator ∷ update "s" (variable "g" ∷ []) ∷ []) commit ≡ at_line 8
+-- in an update, which replaces the guess; the verify is refused as ever
+advised_update : predicted right (guess ∷ separator ∷ update "s" (variable "g" ∷ []) ∷ []) commit ≡ None
 advised_update = refl
+
+advised_update_and_verify : predicted (verify "s" (variable "g" ∷ [])) (guess ∷ separator ∷ update "s" (variable "g" ∷ []) ∷ []) commit ≡ at_line 12
+advised_update_and_verify = refl
 
 advised_condition : predicted right (bind "c" (slice "g" 0 0) ∷ choice "c" [] [] ∷ guess ∷ []) commit ≡ at_line 7
 advised_condition = refl

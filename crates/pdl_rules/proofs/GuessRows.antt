@@ -1,7 +1,7 @@
 -- Guesses: pipes that are accepted, and for each rule some that break it; computed.
 use Rattle.std.specs.Prelude.{◌≡◌, ℕ, List, [], ◌∷◌, ◌++◌, Option, Some, None, refl}
 use Rattle.pdl_kit.specs.declared.rule.Rule.{Rule}
-use Rattle.pdl_kit.specs.declared.rule.Rule.TheVariants.{N1, N3, S1, S2, S3, S4, S5, S6, S7}
+use Rattle.pdl_kit.specs.declared.rule.Rule.TheVariants.{N1, N2, N3, S1, S2, S3, S4, S5, S6, S7}
 use Rattle.pdl_semantics.specs.Tree.{ZeroExtend, R, W}
 use Rattle.pdl_rules.specs.Refusal.{Refused}
 use Rattle.pdl_rules.proofs.Judged.{judged}
@@ -138,3 +138,15 @@ updated_in_two_stages :
     of_body (g ∷ spec_check ∷ guess ∷ separator ∷ choice "g" (again ∷ []) [] ∷ separator ∷ choice "g" [] (again ∷ []) ∷ separator ∷ verified ∷ [])
     ≡ at_line S7 29
 updated_in_two_stages = refl
+
+-- a guess needs a name of its own
+guess_named_again : of_body (a ∷ spec_check ∷ spec_call "a" (plus (variable "n") (constant 4 1) ∷ []) ∷ separator ∷ verify "a" (variable "n" ∷ []) ∷ [])
+    ≡ at_line N2 5
+guess_named_again = refl
+
+-- what stands in a branch is checked on the paths through it alone
+checked_in_branch :
+    of_body (a ∷ g ∷ choice "g" (spec_check ∷ reserve "m" "a" R ∷ []) [] ∷ spec_check ∷ guess ∷ separator ∷ verified
+    ∷ choice "g" (block "m" "a" ∷ release "m" "a" ∷ []) [] ∷ [])
+    ≡ None
+checked_in_branch = refl

@@ -9,7 +9,7 @@ use Rattle.pdl_rules.specs.Limits.{breaks_z2, breaks_z3, breaks_z5}
 use Rattle.pdl_rules.specs.Stages.{breaks_l8}
 use Rattle.pdl_rules.specs.Refusal.{Refused}
 use Rattle.pdl_rules.proofs.Judged.{judged}
-use Rattle.pdl_rules.proofs.Texts.{number, literal, constant, variable, slice, plus, Line, separator, choice, bind, read, write, reserve, block, release, call, queue, param, comb, whole, pipe, from_line}
+use Rattle.pdl_rules.proofs.Texts.{ident, number, literal, constant, variable, slice, plus, Line, separator, choice, bind, read, write, reserve, block, release, call, queue, param, comb, whole, pipe, from_line}
 
 -- the refusal of a short source
 abbrev of_pipe : Pipe → Option Refused
@@ -323,3 +323,27 @@ lower_place_first = refl
 -- of two letters the earlier
 earlier_letter_first : of_pipe (pipe (bind "b" (constant 4 16) ∷ next ∷ bind "c" (variable "k") ∷ next ∷ [])) ≡ at_line N1 5
 earlier_letter_first = refl
+
+-- NO OTHER ROW
+
+-- a use on no path needs a definition before it in the text too
+used_on_no_path :
+    of_pipe (pipe (bind "g" (slice "n" 0 0) ∷ choice "g" (choice "g" [] (bind "x" (variable "y") ∷ []) ∷ []) [] ∷ bind "y" (variable "n") ∷ next ∷ []))
+    ≡ at_line N3 34
+used_on_no_path = refl
+
+-- a start clause stands where it begins, also with its name on another line
+abbrev wrong_start : Pipe
+wrong_start = whole (param "n" 4 ∷ []) [] (next ∷ []) (literal 4 16 ∷ [])
+
+start_over_two_lines : of_pipe (record wrong_start { start = record wrong_start.start { name = ident 6 "p" } }) ≡ at_line W2 5
+start_over_two_lines = refl
+
+-- a slice the wrong way, and bits side by side that are too many, have one bit, so that beside one bit they break W2 and no W1
+wrong_slice_has_a_bit : of_pipe (pipe (bind "b" (plus (slice "n" 1 2) (constant 1 1)) ∷ next ∷ [])) ≡ at_line W2 3
+wrong_slice_has_a_bit = refl
+
+wide_cat_has_a_bit :
+    of_pipe (pipe (bind "b" (ZeroExtend (variable "n") (number 64)) ∷ bind "c" (plus (Cat (variable "b") (variable "n")) (constant 1 1)) ∷ next ∷ []))
+    ≡ at_line W2 4
+wide_cat_has_a_bit = refl

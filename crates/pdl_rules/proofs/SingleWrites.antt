@@ -1,7 +1,7 @@
 -- A memory is written once: two writes would go to the one location that is reserved for them, and its release is after both or between them.
-use Rattle.std.proofs.Common.{◌≡◌, refl, sym, ap, ap₂, ◌∙◌, subst, ℕ, ◌≤◌, ◌<◌, Bool, true, false, not, ◌&&◌, ◌||◌, List, [], ◌∷◌, ◌++◌, fold, if◌then◌else◌, ◌==◌, bytes_eq, count_by, ◌⊎◌, arith, ⊎_elim, inl, inr}
+use Rattle.std.proofs.Common.{◌≡◌, refl, sym, ap, ap₂, ◌∙◌, ℕ, ◌≤◌, Bool, true, false, not, ◌&&◌, ◌||◌, List, [], ◌∷◌, ◌++◌, fold, if◌then◌else◌, ◌==◌, bytes_eq, count_by, arith, ⊎_elim}
 use mathlib.Core.Path.{fun_ext}
-use Rattle.std.proofs.lemmas.Bool.{false≢true, true≢false, and_parts, and_from, or_cases, or_left, or_right, cases_Bool, leb-false, eqb-true, not-false, both_ways}
+use Rattle.std.proofs.lemmas.Bool.{false≢true, true≢false, and_parts, and_from, or_cases, or_left, or_right, cases_Bool, eqb-true, not-false, both_ways}
 use Rattle.std.proofs.lemmas.List.Folds.{list_any-append, list_all-append}
 use Rattle.std.proofs.lemmas.List.Sums.{fold_push}
 use Rattle.std.proofs.lemmas.Slice.Eq.{bytes_eq-Decides}
@@ -9,7 +9,7 @@ use Rattle.std.specs.List.{list_any, list_all}
 use Rattle.pdl_semantics.specs.Tree.{Span, Expr, Location, R, W, Write, Reserve, Block, Release, Pipe}
 use Rattle.pdl_semantics.specs.Flatten.{is_advisory_mem}
 use Rattle.pdl_rules.specs.Places.{Place, Statement, End, Branch}
-use Rattle.pdl_rules.specs.Locks.{same_location, same_kind, Hold, Nothing, Reserved, Blocked, Released, after_block, after_place, hold_after, is_blocked_for, is_held_for, lacks_hold, is_late_read, is_reserve_of, is_write_of, is_one_too_many, is_reserved_again, is_not_written_once, ends_open, reserves_location, writes_location, leaves_open}
+use Rattle.pdl_rules.specs.Locks.{same_location, same_kind, Hold, Nothing, Reserved, Blocked, Released, after_block, after_place, hold_after, is_blocked_for, is_held_for, lacks_hold, is_late_read, is_reserve_of, is_one_too_many, is_reserved_again, is_not_written_once, ends_open, reserves_location, writes_location, leaves_open}
 use Rattle.pdl_rules.proofs.EachPlace.{Each}
 pub use Rattle.pdl_rules.proofs.Counts.{weight, count_push, count_cons, counted, count_none}
 use Rattle.pdl_rules.proofs.Counts.{weight, count_push, count_cons, counted}

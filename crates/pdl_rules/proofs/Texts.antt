@@ -1,6 +1,6 @@
 -- Short words to write out a tree with its lines.
 use Prim.Native.String.{String}
-use Rattle.std.specs.Prelude.{ℕ, ◌+◌, true, false, List, [], ◌∷◌, Option, Some, None, codes, length}
+use Rattle.std.specs.Prelude.{ℕ, ◌+◌, List, [], ◌∷◌, Option, Some, None, codes, length}
 use Rattle.pdl_semantics.specs.Tree.{Span, Ident, Number, Literal, Add, Expr, Constant, Variable, Slice, Binary, Location, Kind, Stmt, Separator, CombRead, Bind, SpecCall, DelayedRead, Write, Reserve, Block, Release, If, Call, Verify, Update, SpecCheck, SpecBarrier, stmts_of, Queue, LockDecl, Param, Mem, Pipe, Comb, Delayed, Advisory}
 
 -- the byte 0 of a line

@@ -2,10 +2,10 @@
 use Rattle.std.specs.Prelude.{◌≡◌, ℕ, List, [], ◌∷◌, Option, Some, None, refl}
 use Rattle.pdl_kit.specs.declared.rule.Rule.{Rule}
 use Rattle.pdl_kit.specs.declared.rule.Rule.TheVariants.{L4, S6, P1}
-use Rattle.pdl_semantics.specs.Tree.{ZeroExtend, W, Mem, Pipe}
+use Rattle.pdl_semantics.specs.Tree.{W, Mem, Pipe}
 use Rattle.pdl_rules.specs.Refusal.{Refused, refusal}
 use Rattle.pdl_rules.proofs.Judged.{judged}
-use Rattle.pdl_rules.proofs.Texts.{number, literal, constant, variable, slice, plus, Line, separator, bind, write, reserve, block, release, call, spec_call, verify, update, spec_check, queue, param, comb, advisory, whole}
+use Rattle.pdl_rules.proofs.Texts.{literal, constant, variable, slice, plus, Line, separator, bind, write, reserve, block, release, call, spec_call, verify, update, spec_check, queue, param, comb, advisory, whole}
 
 -- a short source with these memories and this body, which begins on line 3
 abbrev short : List Mem → List Line → Pipe

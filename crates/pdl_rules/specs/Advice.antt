@@ -14,7 +14,7 @@ has_advised_address p at = is_advised_var (variables p) at.address.name
 abbrev pub some_advised : Pipe → List Expr → Bool
 some_advised p es = list_any (is_advised (variables p)) es
 
--- whether a statement has an advised variable elsewhere than in a binding's expression, in a guess's arguments, in the address of a read of an advisory memory, or in the address or value of a write to one. An update is asked as a verify is
+-- whether a statement has an advised variable elsewhere than in a binding's expression, in the arguments of a guess or of an update, in the address of a read of an advisory memory, or in the address or value of a write to one
 abbrev pub uses_advice : Pipe → Stmt → Bool
 uses_advice p (Separator _) = false
 uses_advice p (CombRead _ _ at) = not (is_advisory_mem p.mems at.mem.name) && has_advised_address p at
@@ -28,7 +28,7 @@ uses_advice p (Release _ at) = has_advised_address p at
 uses_advice p (If _ c _ _) = is_advised (variables p) c
 uses_advice p (Call _ args) = some_advised p args
 uses_advice p (Verify _ _ args) = some_advised p args
-uses_advice p (Update _ _ args) = some_advised p args
+uses_advice p (Update _ _ args) = false
 uses_advice p (SpecCheck _) = false
 uses_advice p (SpecBarrier _) = false
 

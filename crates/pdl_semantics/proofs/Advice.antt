@@ -1,7 +1,7 @@
 -- What advisory memories hold changes no write.
-use Rattle.std.proofs.Common.{◌≡◌, refl, sym, ap, ap₂, ◌∙◌, subst, ℕ, zero, suc, ◌+◌, ◌≤◌, ◌-◌, ◌⊎◌, inl, inr, Bool, true, false, ◌&&◌, not, List, [], ◌∷◌, ◌++◌, ◌==◌, cond, if◌then◌else◌, arith, nat_le, leb-true, leb-false, slice_index, slice_set, append_assoc, length}
+use Rattle.std.proofs.Common.{◌≡◌, refl, sym, ap, ap₂, ◌∙◌, subst, ℕ, zero, suc, ◌+◌, ◌⊎◌, inl, inr, Bool, true, false, ◌&&◌, not, List, [], ◌∷◌, ◌++◌, ◌==◌, cond, if◌then◌else◌, arith, slice_index, slice_set, append_assoc, length}
 use Rattle.std.proofs.lemmas.Bool.{eqb-true}
-use Rattle.pdl_semantics.specs.Flat.{Arrays, Array, with_value, with_word, word_at, is_advisory, list_all, Op, Bind, CombRead, DelayedRead, Write, Call, Verify, Stmt, Pipe, Commit, of_mem, all_hold, value_of, values_of, start_env}
+use Rattle.pdl_semantics.specs.Flat.{Arrays, Array, with_value, word_at, is_advisory, list_all, Op, Bind, CombRead, DelayedRead, Write, Call, Verify, Stmt, Pipe, Commit, of_mem, all_hold, value_of, values_of}
 use Rattle.pdl_semantics.specs.Stages.{mem_at}
 use Rattle.pdl_semantics.specs.Sequential.{Run, run_after, run_all, thread, writes_from, seqwrites}
 use Rattle.pdl_semantics.specs.Cycle.{turns, commits, ended_in}

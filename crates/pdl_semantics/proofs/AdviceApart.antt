@@ -1,8 +1,8 @@
 -- What a thread does but for its guess and its advisory writes doesn't hang on what advisory memories say: advised values reach nothing else.
-use Rattle.std.proofs.Common.{◌≡◌, refl, sym, ap, ap₂, ◌∙◌, ℕ, Bool, true, false, ◌&&◌, not, List, [], ◌∷◌, ◌++◌, Option, Some, cond, if◌then◌else◌, slice_index, slice_set}
-use Rattle.pdl_semantics.specs.Flat.{is_advisory, list_all, Op, Bind, CombRead, DelayedRead, Write, ReserveRead, ReserveWrite, Block, Release, Call, SpecCall, Verify, SpecCheck, SpecBarrier, AdviceBind, AdviceRead, AdviceWrite, Stmt, Pipe, all_hold, value_of, values_of}
+use Rattle.std.proofs.Common.{◌≡◌, refl, sym, ap, ap₂, ◌∙◌, ℕ, Bool, true, false, ◌&&◌, not, List, [], ◌∷◌, ◌++◌, Some, cond, if◌then◌else◌, slice_index, slice_set}
+use Rattle.pdl_semantics.specs.Flat.{is_advisory, list_all, Op, Bind, CombRead, DelayedRead, Write, ReserveRead, ReserveWrite, Block, Release, Call, SpecCall, Verify, SpecCheck, SpecBarrier, AdviceBind, AdviceRead, AdviceWrite, Stmt, Pipe, all_hold, value_of}
 use Rattle.pdl_semantics.specs.Stages.{in_stage, mem_at}
-use Rattle.pdl_semantics.specs.Machine.{Deeds, Thread, deeds_after, deeds_after_all, deeds_with, held_after, held_before, is_held, same_args, with_kept, all_values}
+use Rattle.pdl_semantics.specs.Machine.{Deeds, Thread, deeds_after, deeds_after_all, deeds_with, held_after, held_before, is_held, same_args, with_kept, checked_args}
 use Rattle.pdl_semantics.specs.Promises.{fits_kind}
 
 -- the same but for advice, guesses, advisory writes and the successor
@@ -132,34 +132,34 @@ alike_op p read other w (Call args) r d e h =
     record { env = h.env; held = h.held; blocks = h.blocks; reserves = h.reserves; writes = h.writes; releases = h.releases; asks = h.asks; barrier = h.barrier }
 alike_op p read other w (SpecCall args) r d e h =
     record { env = h.env; held = h.held; blocks = h.blocks; reserves = h.reserves; writes = h.writes; releases = h.releases; asks = h.asks; barrier = h.barrier }
-alike_op p read other w (Verify last args) r d e h = at (same_args (values_of args d.env) d.guess) (same_args (values_of args e.env) e.guess)
+alike_op p read other w (Verify last args) r d e h = at (same_args (checked_args last args d) d.guess) (same_args (checked_args last args e) e.guess)
   where
     at : (b c : Bool)
-        → Alike (cond b d (record d { child = Some (values_of args d.env); guess = values_of args d.env; fails = true }))
-        (cond c e (record e { child = Some (values_of args e.env); guess = values_of args e.env; fails = true }))
+        → Alike (cond b d (record d { child = Some (checked_args last args d); guess = checked_args last args d; fails = true }))
+        (cond c e (record e { child = Some (checked_args last args e); guess = checked_args last args e; fails = true }))
     at true true = h
     at true false =
         still d d e
         (record e {
           child = Some
-              (values_of args e.env);
-          guess = values_of args e.env;
+              (checked_args last args e);
+          guess = checked_args last args e;
           fails = true;
         }) h refl refl refl refl refl refl refl refl refl refl refl refl refl refl refl refl
     at false true =
         still d
         (record d {
           child = Some
-              (values_of args d.env);
-          guess = values_of args d.env;
+              (checked_args last args d);
+          guess = checked_args last args d;
           fails = true;
         }) e e h refl refl refl refl refl refl refl refl refl refl refl refl refl refl refl refl
     at false false =
-        still d (record d { child = Some (values_of args d.env); guess = values_of args d.env; fails = true }) e
+        still d (record d { child = Some (checked_args last args d); guess = checked_args last args d; fails = true }) e
         (record e {
           child = Some
-              (values_of args e.env);
-          guess = values_of args e.env;
+              (checked_args last args e);
+          guess = checked_args last args e;
           fails = true;
         }) h refl refl refl refl refl refl refl refl refl refl refl refl refl refl refl refl
 alike_op p read other w SpecCheck r d e h = h

@@ -2,13 +2,13 @@
 use Rattle.std.proofs.Common.{◌≡◌, refl, ℕ, zero, suc, Bool, true, false, List, [], ◌∷◌, ◌++◌, codes, replicate, Option, Some, None}
 use Rattle.std.specs.Fmt.{digits}
 use Rattle.pdl_word.specs.Words.{add, slice, zext, complement}
-use Rattle.pdl_semantics.specs.Tree.{Queue, Bypass, Rename}
-use Rattle.pdl_semantics.proofs.Texts.{variable, constant, plus}
+use Rattle.pdl_semantics.specs.Tree.{Cat, Queue, Bypass, Rename, W, Pipe}
 use Rattle.pdl_semantics.specs.Lines.{run_lines, view_lines, accepted_line}
 use Rattle.pdl_semantics.specs.Flat.{arrays_of}
-use Rattle.pdl_semantics.specs.Flatten.{flat}
+use Rattle.pdl_semantics.specs.Flatten.{flat, width_of}
 use Rattle.pdl_semantics.specs.Cycle.{Turn, turns}
-use Rattle.pdl_semantics.proofs.Pipes.{two_writes, two_writes_apart, two_writes_read, one_write_or_two, one_stage, two_stages, under_guard, shared_guard, count_late, count_up, guess, guess_reserved, copy, copy_guessed, two_branches, one_branch, count_slow, barrier, nested, nested_straight, four_levels, nested_guess, guess_again, updated, guess_learnt, guess_kept}
+use Rattle.pdl_semantics.proofs.Texts.{constant, variable, slice as bits_from, plus, separator, delayed_read, write, reserve, block, release, spec_call, verify, spec_check, lock, comb, slow, pipe}
+use Rattle.pdl_semantics.proofs.Pipes.{two_writes, two_writes_apart, two_writes_read, one_write_or_two, one_stage, two_stages, under_guard, shared_guard, count_late, count_up, guess, guess_reserved, copy, copy_guessed, two_branches, one_branch, count_slow, barrier, nested, nested_straight, four_levels, nested_guess, guess_again, updated, guess_learnt, update_learnt, guess_kept}
 
 -- four words that are all 0
 abbrev pub zeros : List ℕ
@@ -208,6 +208,15 @@ updated_viewed : view_lines (updated 3) (zeros ∷ []) (idle 8) ≡ codes "1 M..
 unfolding digits add slice zext
 updated_viewed = refl
 
+-- an update to what is learnt: wrong at first, right once the word is there
+update_learns : run_lines update_learnt (zeros ∷ zeros ∷ []) (idle 12) ≡ codes "4 m 0 00\n8 m 2 02\n12 m 0 04\nend cycles 12 ended 3 waits 0 squashes 6\n"
+unfolding digits add slice zext
+update_learns = refl
+
+update_known : run_lines update_learnt ((2 ∷ 0 ∷ 2 ∷ 0 ∷ []) ∷ zeros ∷ []) (idle 8) ≡ codes "4 m 0 00\n6 m 2 02\n8 m 0 04\nend cycles 8 ended 3 waits 0 squashes 4\n"
+unfolding digits add slice zext
+update_known = refl
+
 guess_not_updated : run_lines (guess_again []) (zeros ∷ []) (idle 8) ≡ codes "4 m 0 00\n8 m 2 02\nend cycles 8 ended 2 waits 0 squashes 2\n"
 unfolding digits add slice zext
 guess_not_updated = refl
@@ -265,3 +274,23 @@ addresses_asked : asked (turns (flat copy_guessed) (arrays_of copied) (bits (1 �
     (Some 0 ∷ None ∷ []) ∷ (Some 1 ∷ None ∷ []) ∷ (None ∷ None ∷ []) ∷ (None ∷ None ∷ []) ∷ (Some 2 ∷ None ∷ []) ∷ (Some 3 ∷ None ∷ []) ∷ []
 unfolding add slice zext
 addresses_asked = refl
+
+-- a slice of no bits, and bits side by side that are too many, count as one
+slice_of_no_bits : width_of [] (bits_from "n" 1 2) ≡ 1
+slice_of_no_bits = refl
+
+too_many_together : width_of [] (Cat (constant 64 0) (constant 1 0)) ≡ 1
+too_many_together = refl
+
+-- the answer for a thread that has guessed wrong may be late
+abbrev answered_late : Pipe
+answered_late =
+    pipe 2 (slow "d" 4 None ∷ comb "m" 4 (lock Queue 1) ∷ [])
+    (separator ∷ spec_check ∷ spec_call "s" (plus (variable "n") (constant 2 1)) ∷ separator ∷ delayed_read "x" "d" "n"
+    ∷ separator ∷ verify "s" (plus (variable "n") (constant 2 2)) ∷ reserve "m" "n" W ∷ block "m" "n"
+    ∷ write "m" "n" (variable "x") ∷ release "m" "n" ∷ [])
+
+-- in cycle 4 a thread stands with a wrong guess, and the younger one moves
+wrong_guess_stands : view_lines answered_late copied (bits (1 ∷ 1 ∷ 1 ∷ 0 ∷ 1 ∷ 1 ∷ [])) ≡ codes "1 M...\n2 .M..\n3 M.M.\n4 .M.S\n5 S.SM\n6 M...\n"
+unfolding digits add slice zext
+wrong_guess_stands = refl

@@ -144,6 +144,15 @@ guess_kept =
     ∷ verify "s" (variable "u") ∷ write "t" "z" (constant 8 7) ∷ bind "a" (slice "n" 1 0)
     ∷ reserve "m" "a" W ∷ block "m" "a" ∷ write "m" "a" (variable "n") ∷ release "m" "a" ∷ [])
 
+-- a guess that is one more, replaced by what is learnt: word a of the advisory memory is how much more the next one's argument is
+abbrev pub update_learnt : Pipe
+update_learnt =
+    pipe 8 (advisory "t" 4 ∷ comb "m" 4 (lock Queue 1) ∷ [])
+    (spec_check ∷ spec_call "s" (plus (variable "n") (constant 8 1)) ∷ separator ∷ bind "u" (plus (variable "n") (constant 8 2))
+    ∷ bind "a" (slice "n" 1 0) ∷ comb_read "g" "t" "a" ∷ update "s" (plus (variable "n") (variable "g")) ∷ separator ∷ separator
+    ∷ verify "s" (variable "u") ∷ write "t" "a" (constant 8 2)
+    ∷ reserve "m" "a" W ∷ block "m" "a" ∷ write "m" "a" (variable "n") ∷ release "m" "a" ∷ [])
+
 -- a delayed memory is copied
 abbrev pub copy : Pipe
 copy =

@@ -9,7 +9,7 @@ use Rattle.pdl_semantics.specs.Machine.{Thread, Pending, State}
 use Rattle.pdl_semantics.specs.Moves.{all_acts}
 use Rattle.pdl_semantics.specs.Cycle.{first, after_acts, ports, state_after}
 use Rattle.pdl_semantics.specs.Sound.{is_sound}
-use Rattle.pdl_semantics.proofs.Pipes.{two_writes, two_writes_apart, one_stage, two_stages, under_guard, count_up, count_late, guess, guess_reserved, copy, copy_guessed, two_branches, one_branch, count_slow, barrier, far_barrier, without_barrier, nested, nested_straight, four_levels, nested_guess, guess_again, updated, guess_learnt, guess_kept}
+use Rattle.pdl_semantics.proofs.Pipes.{two_writes, two_writes_apart, one_stage, two_stages, under_guard, count_up, count_late, guess, guess_reserved, copy, copy_guessed, two_branches, one_branch, count_slow, barrier, far_barrier, without_barrier, nested, nested_straight, four_levels, nested_guess, updated, update_learnt, guess_learnt, guess_kept}
 use Rattle.pdl_semantics.proofs.Texts.{variable, constant, plus}
 use Rattle.pdl_semantics.proofs.Features.{queue_write_waits, youngest_write_is_read, kind_by_path, bits_by_delayed, port_of_a_stalled_owner, kept_answer, expressions, two_forks_on_one_guard, squash_empties_lists, squash_keeps_later_lists, port_of_an_owner_in_the_other_branch, barrier_up_to_v, barrier_without_v}
 use Rattle.pdl_semantics.proofs.FeatureRows.{words}
@@ -144,6 +144,10 @@ straight_sound = refl
 updated_sound : sound_run (updated 2) (zeros ∷ []) (idle 9) ≡ true
 unfolding add slice zext
 updated_sound = refl
+
+update_learnt_sound : sound_run update_learnt (zeros ∷ zeros ∷ []) (idle 13) ≡ true
+unfolding add slice zext
+update_learnt_sound = refl
 
 updated_wrong_sound : sound_run (updated 3) (zeros ∷ []) (idle 9) ≡ true
 unfolding add slice zext

@@ -1,7 +1,7 @@
 -- Short words to write a tree out; nothing stands anywhere in particular.
 use Prim.Native.String.{String}
-use Rattle.std.specs.Prelude.{ℕ, true, false, List, [], ◌∷◌, Option, Some, codes, None}
-use Rattle.pdl_semantics.specs.Tree.{Span, Ident, Number, Literal, Add, Expr, Constant, Variable, Slice, Binary, Location, Kind, Stmt, Separator, CombRead, Bind, SpecCall, DelayedRead, Write, Reserve, Block, Release, If, Call, Verify, Update, SpecCheck, SpecBarrier, stmts_of, LockKind, LockDecl, Mem, Pipe, MemKind, Comb, Delayed, Advisory}
+use Rattle.std.specs.Prelude.{ℕ, List, [], ◌∷◌, Option, Some, codes, None}
+use Rattle.pdl_semantics.specs.Tree.{Span, Ident, Number, Literal, Add, Expr, Constant, Variable, Slice, Binary, Location, Kind, Stmt, Separator, CombRead, Bind, SpecCall, DelayedRead, Write, Reserve, Block, Release, If, Call, Verify, Update, SpecCheck, SpecBarrier, stmts_of, LockKind, LockDecl, Mem, Pipe, Comb, Delayed, Advisory}
 
 -- the span of everything that is written out here
 abbrev pub nowhere : Span

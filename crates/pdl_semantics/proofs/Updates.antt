@@ -1,8 +1,8 @@
 -- A pipe without its updates writes the same in sequence; so where both refine it, what both commit begins one list.
-use Rattle.std.proofs.Common.{◌≡◌, refl, sym, ap, ap₂, ◌∙◌, subst, ℕ, zero, suc, ◌+◌, Bool, true, false, List, [], ◌∷◌, ◌++◌, if◌then◌else◌, ◌==◌, cond, length, append_assoc, arith}
+use Rattle.std.proofs.Common.{◌≡◌, refl, sym, ap, ◌∙◌, subst, ℕ, zero, suc, ◌+◌, Bool, true, false, List, [], ◌∷◌, ◌++◌, if◌then◌else◌, ◌==◌, cond, length, append_assoc, arith}
 use Rattle.pdl_semantics.specs.Flat.{Arrays, Op, Verify, Stmt, Pipe, Commit, all_hold, of_mem}
 use Rattle.pdl_semantics.specs.Sequential.{Run, run_after, run_all, thread, writes_from, seqwrites}
-use Rattle.pdl_semantics.specs.Cycle.{turns, commits, ended_in}
+use Rattle.pdl_semantics.specs.Cycle.{turns, ended_in}
 use Rattle.pdl_semantics.specs.Promises.{IsPrefix, Refines}
 use Rattle.pdl_semantics.specs.Updates.{is_update, without_updates, not_updated, WritesAlike, CommitsAlike}
 

@@ -1,6 +1,6 @@
 -- The state of the pipeline machine, and what a thread's stage does in it: a numbered thread in each stage, the pending writes of each lock, the branches taken in each fork, the requests.
 use Rattle.std.specs.Prelude.{ℕ, suc, Bool, true, false, ◌&&◌, ◌||◌, List, [], ◌∷◌, ◌++◌, Option, Some, None, is_some, if◌then◌else◌, nat_lt, ◌==◌, slice_index, slice_index_or, slice_set}
-use Rattle.pdl_semantics.specs.Flat.{Arrays, Op, Bind, CombRead, DelayedRead, Write, ReserveRead, ReserveWrite, Block, Release, Call, SpecCall, Verify, SpecCheck, SpecBarrier, AdviceBind, AdviceRead, AdviceWrite, Stmt, Pipe, value_of, values_of, all_hold, word_at}
+use Rattle.pdl_semantics.specs.Flat.{Arrays, Op, Bind, CombRead, DelayedRead, Write, ReserveRead, ReserveWrite, Block, Release, Call, SpecCall, Verify, SpecCheck, SpecBarrier, AdviceBind, AdviceRead, AdviceWrite, Expr, Stmt, Pipe, value_of, values_of, all_hold, word_at}
 use Rattle.pdl_semantics.specs.Stages.{in_stage, reply_place}
 use Rattle.pdl_semantics.specs.Locks.{Latest, Nothing, as_latest, value_or}
 
@@ -21,7 +21,7 @@ abbrev pub with_kept : List Kept → List ℕ → List ℕ
 with_kept [] env = env
 with_kept (k ∷ ks) env = with_kept ks (slice_set env k.var k.word)
 
--- a thread: its number, its values (arguments, bound variables and truth values of guards), those of advised variables, the arguments of its present guess, the reads that it still awaits, and its kept answers. Advised values stand apart: expressions find them in guesses, and in what is advisory itself, and nowhere else
+-- a thread: its number, its values (arguments, bound variables and truth values of guards), those of advised variables, the arguments of its present guess, the reads that it still awaits, and its kept answers. Advised values stand apart: expressions find them in guesses, in updates of guesses, and in what is advisory itself, and nowhere else
 pub record Thread : Type 0 where
   pub number : ℕ
   pub env : List ℕ
@@ -171,6 +171,11 @@ after_verify args d = if same_args args d.guess then d else record d { child = S
 abbrev pub all_values : Deeds → List ℕ
 all_values d = with_kept d.advice d.env
 
+-- the arguments of a verify, or of an update, which may use advised values as a guess may
+abbrev pub checked_args : Bool → List Expr → Deeds → List ℕ
+checked_args true args d = values_of args d.env
+checked_args false args d = values_of args (all_values d)
+
 -- the deeds with the value of one more advised variable
 abbrev pub with_advised : ℕ → ℕ → Deeds → Deeds
 with_advised x v d = record d { advice = d.advice ++ record { var = x; word = v } ∷ [] }
@@ -196,7 +201,7 @@ deeds_after read (Release m a) d =
     }
 deeds_after read (Call args) d = record d { child = Some (values_of args d.env) }
 deeds_after read (SpecCall args) d = record d { child = Some (values_of args (all_values d)); guess = values_of args (all_values d) }
-deeds_after read (Verify last args) d = after_verify (values_of args d.env) d
+deeds_after read (Verify last args) d = after_verify (checked_args last args d) d
 deeds_after read SpecCheck d = d
 deeds_after read SpecBarrier d = record d { barrier = true }
 deeds_after read (AdviceBind x e) d = with_advised x (value_of e (all_values d)) d

@@ -484,7 +484,8 @@ is_done st l (AdviceWrite m a e) = true
 -- the present guess is that of the last statement that gave one
 abbrev pub guess_after : Op → List Kept → List ℕ → List ℕ → List ℕ
 guess_after (SpecCall args) advice env guess = values_of args (with_kept advice env)
-guess_after (Verify last args) advice env guess = values_of args env
+guess_after (Verify true args) advice env guess = values_of args env
+guess_after (Verify false args) advice env guess = values_of args (with_kept advice env)
 guess_after (Bind x e) advice env guess = guess
 guess_after (CombRead x m a) advice env guess = guess
 guess_after (DelayedRead x m a) advice env guess = guess

@@ -17,6 +17,7 @@ pub mod PathScans
 pub mod GuessCounts
 pub mod Guesses
 pub mod GuessStages
+pub mod OneUpdate
 pub mod Memories
 pub mod StatementTests
 pub mod PathTests

@@ -27,7 +27,7 @@ use Rattle.pdl_rules.proofs.SingleWrites.{KeepsLocks, AreBacked, none_backed, ba
 use Rattle.pdl_theory_facts.specs.Scans.{is_plain, none_of, all_at, reads_ok, no_scan, phases_ok, phase_all, Fresh, is_over, write_reserves}
 use Rattle.pdl_theory_derived.specs.Alone
 use Rattle.pdl_theory_facts.specs.GuessScans
-use Rattle.pdl_theory_facts.specs.GuessScans.{Unmade, makings_ok, making_all, is_made, checks_apart, all_sure}
+use Rattle.pdl_theory_facts.specs.GuessScans.{Unmade, makings_ok, making_all, is_made, checks_apart, is_update, once, all_sure}
 use Rattle.pdl_theory_facts.specs.Checks.{knows_memory, mem_passes, path_passes, lock_passes, locks_pass}
 use Rattle.pdl_theory_facts.specs.Facts.{looked_all, at_once}
 use Rattle.pdl_theory_facts.proofs.Passes.{Parts}
@@ -55,6 +55,7 @@ use Rattle.pdl_source_paths.proofs.PathScans
 use Rattle.pdl_source_paths.proofs.PathScans.{Known, order_along, inside_along, reads_along, writes_along, makings_along, sure_along, ops_all}
 use Rattle.pdl_source_paths.proofs.Guesses
 use Rattle.pdl_source_paths.proofs.GuessStages
+use Rattle.pdl_source_paths.proofs.OneUpdate
 use Rattle.pdl_source_paths.proofs.Guesses.{all_asked, verified_end}
 use Rattle.pdl_source_paths.proofs.Memories.{at_number, mems_length, all_after, distinct, lock_tells, advisory_unlocked, rooms, stages_length, stage_at, first_none}
 use Rattle.pdl_source_paths.proofs.StatementTests
@@ -389,6 +390,11 @@ module _ (p : Pipe) (rules : KeepsRules p) where
         GuessStages.checks_along p rules v staged verify_home (sites_of p) (all_in_text p) told_all
         (subst (Guesses.Called p rules v staged verify_home) (sym front) called)
 
+    once_pass : once is_update false (seen p.mems ts) ≡ true
+    once_pass =
+        OneUpdate.one_update p rules v staged verify_home (sites_of p) (all_in_text p) told_all
+        (none_front p Speculation.is_update (λ a. refl) (λ m. refl))
+
     sure_pass : all_sure o false no_scan (seen p.mems ts) ≡ true
     sure_pass =
         sure_along p q lock_is o (params_of p.params) _ (front_of p) no_scan false ts known
@@ -414,9 +420,10 @@ module _ (p : Pipe) (rules : KeepsRules p) where
         (and_from _ _ (below_all (mem_passes q (seen p.mems ts)) (length q.mems) (λ m low. mem_pass m (subst (λ n. m < n) (mems_length p.mems) low)))
         (subst
         (λ w. (makings_ok w Unmade (seen p.mems ts)
-        && (is_made (making_all Unmade (seen p.mems ts)) && (checks_apart None (seen p.mems ts) && all_sure w false no_scan (seen p.mems ts)))) ≡ true)
+        && (is_made (making_all Unmade (seen p.mems ts)) && (checks_apart None (seen p.mems ts)
+        && (once is_update false (seen p.mems ts) && all_sure w false no_scan (seen p.mems ts))))) ≡ true)
         (sym (StatementTests.verify_looked (flat p).stmts))
-        (and_from _ _ makings_pass.0 (and_from _ _ makings_pass.1 (and_from _ _ apart_pass sure_pass)))))))))
+        (and_from _ _ makings_pass.0 (and_from _ _ makings_pass.1 (and_from _ _ apart_pass (and_from _ _ once_pass sure_pass))))))))))
 
   -- ALL TESTS
 

@@ -1,7 +1,7 @@
--- After a guess of a path none of its variables is bound.
-use Rattle.std.proofs.Common.{◌≡◌, refl, ap, ℕ, ◌+◌, ◌≤◌, ◌<◌, Bool, true, false, ◌&&◌, not, List, [], ◌∷◌, ◌++◌, length, arith}
+-- After a guess of a path, and after an update of one, none of its variables is bound.
+use Rattle.std.proofs.Common.{◌≡◌, refl, ap, ℕ, ◌≤◌, ◌<◌, Bool, true, false, ◌&&◌, not, List, [], ◌∷◌, ◌++◌, length, arith}
 use Rattle.std.proofs.lemmas.Bool.{and_parts, and_from}
-use Rattle.pdl_semantics.specs.Tree.{Expr, Variable, R, W, Stmt, CombRead, Bind, SpecCall, DelayedRead, Write, Reserve, If, Mem}
+use Rattle.pdl_semantics.specs.Tree.{Expr, Variable, R, W, Stmt, CombRead, Bind, SpecCall, Update, DelayedRead, Write, Reserve, If, Mem}
 use Rattle.pdl_semantics.specs.Flat
 use Rattle.pdl_semantics.specs.Flat.{list_all}
 use Rattle.pdl_semantics.specs.Flatten.{Var, flat_exprs, is_advisory_mem, is_advised}
@@ -67,6 +67,7 @@ site_keeps : (k : ℕ) (ms : List Mem) (vs : List Var) (s : Stmt)
     → Uses vs s → (rest : List Flat.Stmt) → ((args : List Flat.Expr) → AreLow (length vs) args → Spares args rest)
     → all_keep_guess rest ≡ true → all_keep_guess (seen_ops k (ops_of ms vs s) ++ rest) ≡ true
 site_keeps k ms vs (SpecCall sp g args) u rest later go = and_from _ _ (later (flat_exprs vs args) (exprs_low vs u.test u.named args u.expressions)) go
+site_keeps k ms vs (Update sp g args) u rest later go = and_from _ _ (later (flat_exprs vs args) (exprs_low vs u.test u.named args u.expressions)) go
 site_keeps k ms vs (CombRead sp x l) u rest later go =
     either_read (λ op. all_keep_guess (seen_ops k (op ∷ []) ++ rest) ≡ true) (is_advisory_mem ms l.mem.name) _ _ _ go go
 site_keeps k ms vs (Bind sp x e) u rest later go = either_bind (λ op. all_keep_guess (seen_ops k (op ∷ []) ++ rest) ≡ true) (is_advised vs e) _ _ go go

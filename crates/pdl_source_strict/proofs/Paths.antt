@@ -1,5 +1,5 @@
 -- Each path of an accepted pipe's flat form is strict.
-use Rattle.std.proofs.Common.{◌≡◌, refl, sym, ap, ap₂, ◌∙◌, ℕ, true, ◌&&◌, ◌||◌, not, List, [], ◌∷◌, Option, Some, None, nat_lt, le_refl}
+use Rattle.std.proofs.Common.{◌≡◌, refl, sym, ap, ap₂, ◌∙◌, ℕ, true, false, ◌&&◌, ◌||◌, not, List, [], ◌∷◌, Option, Some, None, nat_lt, le_refl}
 use Rattle.std.proofs.lemmas.Bool.{false≢true, or_parts}
 use Rattle.pdl_semantics.specs.Tree.{Location, Pipe}
 use Rattle.pdl_semantics.specs.Flat
@@ -115,7 +115,8 @@ keeps_looked (Flat.ReserveRead m a) xs = refl
 keeps_looked (Flat.ReserveWrite m a) xs = refl
 keeps_looked (Flat.Release m a) xs = refl
 keeps_looked (Flat.Call args) xs = refl
-keeps_looked (Flat.Verify last args) xs = refl
+keeps_looked (Flat.Verify true args) xs = refl
+keeps_looked (Flat.Verify false args) xs = spares_looked args xs
 keeps_looked Flat.SpecCheck xs = refl
 keeps_looked Flat.SpecBarrier xs = refl
 keeps_looked (Flat.AdviceBind x e) xs = refl

@@ -1,7 +1,7 @@
 -- In a pipe of one stage each cycle is a whole thread of the sequential run, and prints its lines.
 use Rattle.std.proofs.Common.{◌≡◌, refl, sym, ap, ap₂, ◌∙◌, subst, ℕ, suc, ◌+◌, ◌≤◌, ◌<◌, inl, Bool, true, false, ◌&&◌, ◌||◌, not, List, [], ◌∷◌, ◌++◌, length, Option, Some, None, ◌==◌, nat_lt, slice_index_or, cond, arith, append-nil, ltb-true}
 use Rattle.std.proofs.lemmas.Bool.{eqb-false}
-use Rattle.pdl_semantics.specs.Flat.{Arrays, Pipe, Op, DelayedRead, SpecCall, Verify, Call, Stmt, Mem, Commit, list_all, of_mem, arrays_of, all_hold, values_of}
+use Rattle.pdl_semantics.specs.Flat.{Arrays, Pipe, Op, DelayedRead, SpecCall, Verify, Call, Stmt, Mem, Commit, list_all, of_mem, arrays_of, all_hold}
 use Rattle.pdl_semantics.specs.Stages.{list_any, onpath, in_stage, stage_at, goes_to, onward, stages_on, verify_stage}
 use Rattle.pdl_semantics.specs.Sequential.{thread, threads, threads_from, writes_from, after_turns}
 use Rattle.pdl_semantics.specs.Cycle.{PortWrite, commits_shown, for_mems}
@@ -12,7 +12,7 @@ use Rattle.pdl_semantics.specs.Flatten.{flat, mems_of}
 use Rattle.pdl_semantics.specs.Tree
 use Rattle.pdl_semantics.specs.Cycle
 use Rattle.pdl_semantics.specs.Moves
-use Rattle.pdl_theory_derived.specs.Derived.{Around, Work, Thread, State, Act, do_all, work_after, work_of_stage, around, answered_thread, act, acts, all_acts, cycle, turns_from, first, is_wait, waits_from, next_ask, next_asks, nothing_asked, asks_of, commits_of}
+use Rattle.pdl_theory_derived.specs.Derived.{Hint, Around, Work, Thread, State, Act, do_all, work_after, work_of_stage, around, answered_thread, act, acts, all_acts, cycle, turns_from, first, is_wait, waits_from, next_ask, next_asks, nothing_asked, asks_of, commits_of, said}
 use Rattle.pdl_theory_derived.specs.Derived
 use Rattle.pdl_theory_derived.specs.Alone.{answered_op}
 use Rattle.pdl_theory_derived.specs.Simulation.{SameTurns, hints_of}
@@ -97,9 +97,9 @@ none_before (Some n) f s = at (nat_lt s n) refl
 -- a request is made by a delayed read alone
 asks_same : (o : Around) (op : Op) (w : Work) → not (is_fetch op) ≡ true → (work_after o op w).asks ≡ w.asks
 asks_same o (DelayedRead x m a) w h = absurd (clash h)
-asks_same o (Verify last args) w h = at (same_args (values_of args w.env) w.guess)
+asks_same o (Verify last args) w h = at (same_args (said o last args w.env) w.guess)
   where
-    at : (b : Bool) → (cond b w (record w { child = Some (values_of args w.env); guess = (values_of args w.env); fails = true })).asks ≡ w.asks
+    at : (b : Bool) → (cond b w (record w { child = Some (said o last args w.env); guess = (said o last args w.env); fails = true })).asks ≡ w.asks
     at true = refl
     at false = refl
 asks_same o _ w h = refl
@@ -286,7 +286,7 @@ module _ (p : Pipe) (sound : Sound p) (single : length p.stages ≡ 1) where
     carried ts us wss s.1 h.1,
   )
 
-  abbrev hints : Arrays → List (List Bool) → ℕ → List ℕ
+  abbrev hints : Arrays → List (List Bool) → ℕ → Hint
   hints image schedule = hints_of p (Cycle.first p image) schedule
 
   -- the cycles of a run of the stated machine are the threads of the sequential run, one after another

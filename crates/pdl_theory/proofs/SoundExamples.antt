@@ -7,6 +7,7 @@ use Rattle.pdl_semantics.specs.Flatten.{flat}
 use Rattle.pdl_semantics.proofs.Pipes.{two_writes, two_writes_apart, one_stage, shared_guard, count_queue, guess, far_barrier, copy, copy_guessed, count_slow, two_branches, one_branch, forked, everything, dead_read, nested, nested_straight, four_levels, nested_guess, updated, guess_learnt, guess_kept}
 use Rattle.pdl_semantics.proofs.Texts.{number, constant, variable, slice, plus, separator, bind, delayed_read, call, spec_barrier, if_else, slow, pipe, write, reserve, block, release, spec_call, verify, update, spec_check, lock, comb}
 use Rattle.pdl_semantics.specs.Flat.{Arrays, Pipe, CombRead}
+use Rattle.pdl_theory_derived.specs.Derived.{Hint}
 use Rattle.pdl_theory_derived.specs.Alone.{Refines, Advances, KeepsPace}
 use Rattle.pdl_theory_facts.specs.SoundChecks.{passes_tests}
 use Rattle.pdl_theory_turns.proofs.Courses.{Course}
@@ -156,16 +157,16 @@ branch_barrier_fails = refl
 abbrev whole : (p : Pipe) → passes_tests p ≡ true → Course p
 whole p h = course p (sounded p h)
 
-copy_guessed_refines : (image : Arrays) (hints : ℕ → List ℕ) (schedule : List (List Bool)) → Refines (flat copy_guessed) image hints schedule
+copy_guessed_refines : (image : Arrays) (hints : ℕ → Hint) (schedule : List (List Bool)) → Refines (flat copy_guessed) image hints schedule
 copy_guessed_refines = refines (flat copy_guessed) (whole (flat copy_guessed) copy_guessed_sounds)
 
-branches_refine : (image : Arrays) (hints : ℕ → List ℕ) (schedule : List (List Bool)) → Refines (flat two_branches) image hints schedule
+branches_refine : (image : Arrays) (hints : ℕ → Hint) (schedule : List (List Bool)) → Refines (flat two_branches) image hints schedule
 branches_refine = refines (flat two_branches) (whole (flat two_branches) two_branches_sound)
 
-slow_advances : (image : Arrays) (hints : ℕ → List ℕ) (schedule : List (List Bool)) (bits : List Bool) → Advances (flat count_slow) image hints schedule bits
+slow_advances : (image : Arrays) (hints : ℕ → Hint) (schedule : List (List Bool)) (bits : List Bool) → Advances (flat count_slow) image hints schedule bits
 slow_advances = advances (flat count_slow) (whole (flat count_slow) count_slow_sounds)
 
-branches_keep_pace : (image : Arrays) (hints : ℕ → List ℕ) (schedule : List (List Bool)) → KeepsPace (flat one_branch) image hints schedule
+branches_keep_pace : (image : Arrays) (hints : ℕ → Hint) (schedule : List (List Bool)) → KeepsPace (flat one_branch) image hints schedule
 branches_keep_pace = keeps_pace (flat one_branch) (sounded (flat one_branch) one_branch_sounds)
 
 -- every run of the stated machine on the pipe with guesses refines the sequential run

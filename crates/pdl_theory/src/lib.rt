@@ -17,6 +17,7 @@ ghost use Rattle.pdl_theory_facts.specs.SoundChecks.{passes_tests};
 ghost use Rattle.pdl_theory_derived.specs.Alone;
 ghost use Rattle.pdl_theory_derived.specs.Simulation.{SameTurns, hints_of};
 ghost use Rattle.pdl_theory_derived.specs.OneStage.{AreThreads};
+ghost use Rattle.pdl_theory_derived.specs.Derived.{Hint};
 ghost use Rattle.pdl_theory_derived.specs.Derived;
 
 /// Pipeline refinement and Progress in the whole language: guesses, delayed reads and forks.
@@ -53,12 +54,12 @@ pub fn updates()
 
 /// Both theorems for the machine that the proofs use, in the whole language, whatever its threads guess.
 pub fn derived_whole()
-    ensures refines { (p : Pipe) → Sound p → (image : Arrays) (hints : ℕ → List ℕ) (schedule : List (List Bool)) →
+    ensures refines { (p : Pipe) → Sound p → (image : Arrays) (hints : ℕ → Hint) (schedule : List (List Bool)) →
         Alone.Refines p image hints schedule }
     ensures oldest_moves { (p : Pipe) → Sound p →
-        (image : Arrays) (hints : ℕ → List ℕ) (schedule : List (List Bool)) (bits : List Bool) →
+        (image : Arrays) (hints : ℕ → Hint) (schedule : List (List Bool)) (bits : List Bool) →
         Alone.Advances p image hints schedule bits }
-    ensures keeps_pace { (p : Pipe) → Sound p → (image : Arrays) (hints : ℕ → List ℕ) (schedule : List (List Bool)) →
+    ensures keeps_pace { (p : Pipe) → Sound p → (image : Arrays) (hints : ℕ → Hint) (schedule : List (List Bool)) →
         Alone.KeepsPace p image hints schedule }
 {}
 

@@ -1,10 +1,11 @@
 -- The deeds of a stage's statements and the derived work of the same statements. Of the whole language.
-use Rattle.std.proofs.Common.{◌≡◌, refl, sym, ap, ◌∙◌, subst, ℕ, Bool, true, false, ◌&&◌, ◌||◌, not, List, [], ◌∷◌, ◌++◌, ◌==◌, cond, if◌then◌else◌, Option, Some, None, slice_index, slice_set}
+use Rattle.std.proofs.Common.{◌≡◌, refl, sym, ap, ◌∙◌, subst, ℕ, Bool, true, false, ◌&&◌, ◌||◌, not, List, [], ◌∷◌, ◌++◌, ◌==◌, cond, if◌then◌else◌, Option, Some, slice_index, slice_set}
 use Rattle.std.proofs.Math.Bool.{and_assoc}
 use Rattle.pdl_semantics.specs.Flat.{Commit, list_all, Op, Bind, CombRead, DelayedRead, Write, ReserveRead, ReserveWrite, Block, Release, Call, SpecCall, Verify, SpecCheck, SpecBarrier, AdviceBind, AdviceRead, AdviceWrite, Stmt, value_of, values_of, all_hold}
-use Rattle.pdl_semantics.specs.Machine.{Ask, same_args, all_values, HeldLocation, Blocked, Deeds, is_held, let_go, deeds_after_all}
+use Rattle.pdl_semantics.specs.Machine.{Ask, same_args, all_values, checked_args, HeldLocation, Blocked, Deeds, is_held, let_go, deeds_after_all}
 use Rattle.pdl_semantics.specs.Machine
-use Rattle.pdl_theory_derived.specs.Derived.{Entry, Work, Around, work_after, do_all, has_entry, moved_up, without, with_entry_value}
+use Rattle.pdl_theory_derived.specs.Derived
+use Rattle.pdl_theory_derived.specs.Derived.{said, Entry, Work, Around, work_after, do_all, has_entry, moved_up, without, with_entry_value}
 use Rattle.pdl_word.proofs.Bools.{and_swap}
 
 -- the locations of pending writes
@@ -126,12 +127,13 @@ module _ (o : Around) (read : ℕ → ℕ → ℕ) (block : Blocked → Bool) (f
   AllFit [] = Unit {0}
   AllFit (x ∷ xs) = Fits x.op × AllFit xs
 
-  -- a guess of these deeds is the one that the surroundings give
+  -- a guess of these deeds, or an update of one, is what the surroundings give
   abbrev pub Guesses : Op → Deeds → Type 0
   Guesses (SpecCall args) d = values_of args (all_values d) ≡ o.guess
+  Guesses (Verify false args) d = values_of args (all_values d) ≡ o.update
   Guesses _ d = Unit {0}
 
-  -- each guess of these statements, after these deeds, is the one that the surroundings give
+  -- each guess of these statements, after these deeds, and each update, is what the surroundings give
   abbrev pub AllGuesses : List Stmt → Deeds → Type 0
   AllGuesses [] d = Unit {0}
   AllGuesses (x ∷ xs) d =
@@ -146,6 +148,16 @@ module _ (o : Around) (read : ℕ → ℕ → ℕ) (block : Blocked → Bool) (f
       → cond b (o.can_write m n) (o.can_read m n) ≡ block (record { mem = m; address = n; writes = b })
   block_fits true m n h = h.0
   block_fits false m n h = h.1
+
+  told_check : (args : List ℕ) (d : Deeds) (es : List Entry) (cs : List Commit)
+      → places es ≡ d.held → Told (Machine.after_verify args d) (Derived.after_verify args (work_of d es cs))
+  told_check args d es cs h = at (same_args args d.guess)
+    where
+      at : (b : Bool)
+          → Told (cond b d (record d { child = Some args; guess = args; fails = true }))
+          (cond b (work_of d es cs) (record (work_of d es cs) { child = Some args; guess = args; fails = true }))
+      at true = told d es cs h
+      at false = told _ es cs h
 
   told_op : (op : Op) (d : Deeds) (es : List Entry) (cs : List Commit) → places es ≡ d.held → Fits op
       → Guesses op d → Told (Machine.deeds_after read op d) (work_after o op (work_of d es cs))
@@ -188,13 +200,10 @@ module _ (o : Around) (read : ℕ → ℕ → ℕ) (block : Blocked → Bool) (f
   told_op (AdviceBind x e) d es cs h f c = told _ es cs h
   told_op (AdviceRead x m a) d es cs h f c = told _ es cs h
   told_op (AdviceWrite m a e) d es cs h f c = told _ es cs h
-  told_op (Verify last args) d es cs h f c = at (same_args (values_of args d.env) d.guess)
-    where
-      at : (b : Bool)
-          → Told (cond b d (record d { child = Some (values_of args d.env); guess = (values_of args d.env); fails = true }))
-          (cond b (work_of d es cs) (record (work_of d es cs) { child = Some (values_of args d.env); guess = (values_of args d.env); fails = true }))
-      at true = told d es cs h
-      at false = told _ es cs h
+  told_op (Verify true args) d es cs h f c = told_check (values_of args d.env) d es cs h
+  told_op (Verify false args) d es cs h f c =
+      subst (λ (u : List ℕ). Told (Machine.deeds_after read (Verify false args) d) (Derived.after_verify u (work_of d es cs))) c
+      (told_check (values_of args (all_values d)) d es cs h)
   told_op SpecCheck d es cs h f c = told _ es cs h
   told_op SpecBarrier d es cs h f c =
       record {
@@ -223,16 +232,14 @@ module _ (o : Around) (read : ℕ → ℕ → ℕ) (block : Blocked → Bool) (f
       → Loosely (Machine.deeds_after read op d) (work_after o op (work_of (record d { guess = g; child = c; fails = f }) es cs))
   loose_op (Call args) d es cs g c f h k = record { held = h; is = refl }
   loose_op (SpecCall args) d es cs g c f h k = record { held = h; is = refl }
-  loose_op (Verify last args) d es cs g c f h k = at (same_args (values_of args d.env) d.guess) (same_args (values_of args d.env) g)
+  loose_op (Verify last args) d es cs g c f h k =
+      at (same_args (checked_args last args d) d.guess) (same_args (said o last args d.env) g)
     where
-      at : (a b : Bool) → Loosely (cond a d (record d { child = Some (values_of args d.env); guess = values_of args d.env; fails = true }))
-          (cond b (work_of (record d { guess = g; child = c; fails = f }) es cs)
-          (record (work_of (record d { guess = g; child = c; fails = f }) es cs) {
-            child = Some
-                (values_of args d.env);
-            guess = values_of args d.env;
-            fails = true;
-          }))
+      given : Work
+      given = work_of (record d { guess = g; child = c; fails = f }) es cs
+
+      at : (a b : Bool) → Loosely (cond a d (record d { child = Some (checked_args last args d); guess = checked_args last args d; fails = true }))
+          (cond b given (record given { child = Some (said o last args d.env); guess = said o last args d.env; fails = true }))
       at true true = record { held = h; is = refl }
       at true false = record { held = h; is = refl }
       at false true = record { held = h; is = refl }

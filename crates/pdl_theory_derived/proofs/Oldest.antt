@@ -1,13 +1,12 @@
 -- In a cycle that is no wait the oldest thread moves. Of any pipe of the whole language.
 use Rattle.std.proofs.Common.{◌≡◌, refl, sym, ap, ◌∙◌, subst, ℕ, zero, suc, ◌+◌, Bool, true, false, ◌&&◌, ◌||◌, not, List, [], ◌∷◌, Option, Some, None, is_none, is_some, cond, arith, slice_index, slice_index_or, zero-add, add-suc, suc-add}
 use Rattle.std.proofs.lemmas.Bool.{and_from}
-use Rattle.pdl_semantics.specs.Flat.{Op, DelayedRead, ReserveWrite, Block, Verify, SpecBarrier, Stmt, Pipe, all_hold, values_of}
+use Rattle.pdl_semantics.specs.Flat.{Op, DelayedRead, Block, Verify, SpecBarrier, Stmt, Pipe, all_hold}
 use Rattle.pdl_semantics.specs.Stages.{in_stage, mem_at, stage_at, verify_stage}
 use Rattle.pdl_semantics.specs.Machine.{Awaited, is_answered, same_args}
 use Rattle.pdl_semantics.specs.Moves.{is_empty}
-use Rattle.pdl_semantics.specs.Locks.{has_room}
 use Rattle.pdl_semantics.proofs.Readiness.{read_free, write_free}
-use Rattle.pdl_theory_derived.specs.Derived.{Work, Around, Thread, State, work_after, do_all, around, act, asked_at, still, has_entry, port_free, barrier_clear, can_enter, fork_clear, is_wait, waits_from, have_room}
+use Rattle.pdl_theory_derived.specs.Derived.{Work, Around, Thread, State, work_after, do_all, around, act, asked_at, still, has_entry, port_free, barrier_clear, can_enter, fork_clear, is_wait, waits_from, have_room, said}
 use Rattle.pdl_theory_derived.proofs.Stages.{step}
 
 -- surroundings that hold nobody up
@@ -25,9 +24,9 @@ ready_op : (o : Around) (op : Op) (w : Work) → AllTrue o → w.ready ≡ true 
 ready_op o (DelayedRead x m a) w f h = and_from w.ready (o.free m) h (f.free m)
 ready_op o (Block m a) w f h =
     and_from w.ready _ h (pick (has_entry w.entries m a) _ _ (f.can_write m (slice_index w.env a)) (f.can_read m (slice_index w.env a)))
-ready_op o (Verify last args) w f h = at (same_args (values_of args w.env) w.guess)
+ready_op o (Verify last args) w f h = at (same_args (said o last args w.env) w.guess)
   where
-    at : (b : Bool) → (cond b w (record w { child = Some (values_of args w.env); guess = (values_of args w.env); fails = true })).ready ≡ true
+    at : (b : Bool) → (cond b w (record w { child = Some (said o last args w.env); guess = (said o last args w.env); fails = true })).ready ≡ true
     at true = h
     at false = h
 ready_op o SpecBarrier w f h = and_from w.ready o.clear h f.clear

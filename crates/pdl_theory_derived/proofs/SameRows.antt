@@ -11,7 +11,7 @@ use Rattle.pdl_semantics.specs.Lines
 use Rattle.pdl_semantics.specs.Machine.{Ask}
 use Rattle.pdl_semantics.specs.Cycle.{PortWrite, commits_shown, turns}
 use Rattle.pdl_semantics.specs.Cycle
-use Rattle.pdl_semantics.proofs.Pipes.{two_writes, two_writes_apart, one_stage, two_stages, under_guard, shared_guard, count_queue, count_bypass, count_rename, count_late, guess, guess_learnt, guess_kept, guess_reserved, copy, copy_guessed, two_branches, one_branch, count_slow, barrier, far_barrier}
+use Rattle.pdl_semantics.proofs.Pipes.{two_writes, two_writes_apart, one_stage, two_stages, under_guard, shared_guard, count_queue, count_bypass, count_rename, count_late, guess, guess_learnt, update_learnt, guess_kept, guess_reserved, copy, copy_guessed, two_branches, one_branch, count_slow, barrier, far_barrier}
 use Rattle.pdl_semantics.proofs.Texts.{variable}
 use Rattle.pdl_semantics.proofs.MachineRows.{zeros, idle, bits, copied}
 use Rattle.pdl_theory_derived.specs.Derived
@@ -81,7 +81,8 @@ unfolding add slice zext
 guess_ports = refl
 
 advice_ports : all_true (both_agree guess_learnt (zeros ∷ zeros ∷ []) (idle 14) ∷ both_agree guess_learnt ((2 ∷ 0 ∷ 2 ∷ 0 ∷ []) ∷ zeros ∷ [])
-    (idle 12) ∷ both_agree guess_kept (zeros ∷ zeros ∷ []) (idle 14) ∷ both_agree guess_kept ((2 ∷ 0 ∷ 0 ∷ 0 ∷ []) ∷ zeros ∷ []) (idle 12) ∷ []) ≡ true
+    (idle 12) ∷ both_agree guess_kept (zeros ∷ zeros ∷ []) (idle 14) ∷ both_agree guess_kept ((2 ∷ 0 ∷ 0 ∷ 0 ∷ []) ∷ zeros ∷ []) (idle 12)
+    ∷ both_agree update_learnt (zeros ∷ zeros ∷ []) (idle 14) ∷ both_agree update_learnt ((2 ∷ 0 ∷ 2 ∷ 0 ∷ []) ∷ zeros ∷ []) (idle 12) ∷ []) ≡ true
 unfolding add slice zext
 advice_ports = refl
 

@@ -1,10 +1,10 @@
 -- A stage's work is a piece of the whole thread's.
 use Rattle.std.proofs.Common.{◌≡◌, refl, sym, ap, ◌∙◌, ℕ, suc, Bool, true, false, ◌&&◌, ◌||◌, List, [], ◌∷◌, ◌++◌, Option, Some, None, slice_index, slice_set, cond, if◌then◌else◌, append_assoc, append-nil}
 use Rattle.std.proofs.Math.Bool.{and_assoc, and-true}
-use Rattle.pdl_semantics.specs.Flat.{Arrays, Op, Bind, CombRead, DelayedRead, Write, ReserveRead, ReserveWrite, Block, Release, Call, SpecCall, Verify, SpecCheck, SpecBarrier, AdviceBind, AdviceRead, AdviceWrite, Stmt, Pipe, values_of, all_hold, word_at}
+use Rattle.pdl_semantics.specs.Flat.{Op, Bind, CombRead, DelayedRead, Write, ReserveRead, ReserveWrite, Block, Release, Call, SpecCall, Verify, SpecCheck, SpecBarrier, AdviceBind, AdviceRead, AdviceWrite, Stmt, Pipe, all_hold, word_at}
 use Rattle.pdl_semantics.specs.Stages.{in_stage}
 use Rattle.pdl_semantics.specs.Machine.{same_args}
-use Rattle.pdl_theory_derived.specs.Derived.{Work, Around, work_after, do_all, work_of_stage, has_entry, released_commits}
+use Rattle.pdl_theory_derived.specs.Derived.{said, after_verify, Work, Around, work_after, do_all, work_of_stage, has_entry, released_commits}
 use Rattle.pdl_theory_derived.specs.Alone.{World, alone, before, start_work, so_far, thread_at}
 use Rattle.pdl_theory_derived.proofs.Writes.{and_left}
 
@@ -69,7 +69,7 @@ does_joined o (Block m a) w v =
     { ready = and_assoc w.ready v.ready (if has_entry v.entries m a then o.can_write m (slice_index v.env a) else o.can_read m (slice_index v.env a)) i }
 does_joined o (Release m a) w v =
     λ i. record (joined w (work_after o (Release m a) v)) { commits = append_assoc w.commits v.commits (released_commits v.entries m a) i }
-does_joined o (Verify last args) w v = verified_joined (same_args (values_of args v.env) v.guess) (values_of args v.env) w v
+does_joined o (Verify last args) w v = verified_joined (same_args (said o last args v.env) v.guess) (said o last args v.env) w v
 does_joined o SpecBarrier w v = λ i. record (joined w (work_after o SpecBarrier v)) { ready = and_assoc w.ready v.ready o.clear i }
 does_joined o _ w v = refl
 
@@ -113,20 +113,21 @@ was_ready o xs w h =
 abbrev pub ReadsRight : Around → World → Op → List ℕ → Type 0
 ReadsRight o world (CombRead x m a) env = o.read m (slice_index env a) ≡ word_at world.words m (slice_index env a)
 ReadsRight o world (DelayedRead x m a) env = ⊥
-ReadsRight o world (SpecCall args) env = o.guess ≡ world.guess
+ReadsRight o world (SpecCall args) env = o.guess ≡ world.hint.guess
 ReadsRight o world (Bind x e) env = Unit {0}
-ReadsRight o arrays (Write m a e) env = Unit {0}
-ReadsRight o arrays (ReserveRead m a) env = Unit {0}
-ReadsRight o arrays (ReserveWrite m a) env = Unit {0}
-ReadsRight o arrays (Block m a) env = Unit {0}
-ReadsRight o arrays (Release m a) env = Unit {0}
-ReadsRight o arrays (Call args) env = Unit {0}
-ReadsRight o arrays (Verify last args) env = Unit {0}
-ReadsRight o arrays SpecCheck env = Unit {0}
-ReadsRight o arrays SpecBarrier env = Unit {0}
-ReadsRight o arrays (AdviceBind x e) env = Unit {0}
-ReadsRight o arrays (AdviceRead x m a) env = Unit {0}
-ReadsRight o arrays (AdviceWrite m a e) env = Unit {0}
+ReadsRight o world (Write m a e) env = Unit {0}
+ReadsRight o world (ReserveRead m a) env = Unit {0}
+ReadsRight o world (ReserveWrite m a) env = Unit {0}
+ReadsRight o world (Block m a) env = Unit {0}
+ReadsRight o world (Release m a) env = Unit {0}
+ReadsRight o world (Call args) env = Unit {0}
+ReadsRight o world (Verify true args) env = Unit {0}
+ReadsRight o world (Verify false args) env = o.update ≡ world.hint.update
+ReadsRight o world SpecCheck env = Unit {0}
+ReadsRight o world SpecBarrier env = Unit {0}
+ReadsRight o world (AdviceBind x e) env = Unit {0}
+ReadsRight o world (AdviceRead x m a) env = Unit {0}
+ReadsRight o world (AdviceWrite m a e) env = Unit {0}
 
 ready_same : (b c d : Bool) → (b && c) ≡ true → d ≡ true → (b && c) ≡ (b && d)
 ready_same true c d h e = h ∙ sym e
@@ -143,6 +144,8 @@ pub does_same : (o : Around) (world : World) (op : Op) (w : Work)
 does_same o world (CombRead x m a) w h r = λ i. record w { env = slice_set w.env x (r i) }
 does_same o world (DelayedRead x m a) w h r = absurd r
 does_same o world (SpecCall args) w h r = λ i. record w { child = Some (r i); guess = r i }
+does_same o world (Verify true args) w h r = refl
+does_same o world (Verify false args) w h r = ap (λ u. after_verify u w) r
 does_same o world (Block m a) w h r =
     λ i. record w {
       ready =

@@ -5,18 +5,19 @@ use Rattle.pdl_semantics.specs.Forms.{on_delayed_read}
 use Rattle.pdl_semantics.specs.Stages.{commit_stage, depth}
 use Rattle.pdl_semantics.specs.Sequential.{thread, seqwrites}
 use Rattle.pdl_semantics.specs.Promises.{IsPrefix}
-use Rattle.pdl_theory_derived.specs.Derived.{Thread, Work, Around, do_all, Act, all_acts, all_commits, turns, commits, ended_in, waits_in, is_wait, state_after, first}
+use Rattle.pdl_theory_derived.specs.Derived.{Hint, Thread, Work, Around, do_all, Act, all_acts, all_commits, turns, commits, ended_in, waits_in, is_wait, state_after, first}
 
--- what a thread runs on: the words of the arrays, and what it guesses
+-- what a thread runs on: the words of the arrays, and what it says of its successor
 pub record World : Type 0 where
   pub words : Arrays
-  pub guess : List ℕ
+  pub hint : Hint
 
 -- the surroundings of a thread that runs alone: nothing holds it up
 abbrev pub alone : World → Around
 alone world =
     record {
-      guess = world.guess;
+      guess = world.hint.guess;
+      update = world.hint.update;
       read = word_at world.words;
       can_read = λ m a. true;
       can_write = λ m a. true;
@@ -56,7 +57,7 @@ so_far p world args s = do_all (alone world) (before s p.stmts) (start_work p ar
 abbrev pub thread_at : Pipe → World → List ℕ → ℕ → Thread
 thread_at p world args s =
     let w = so_far p world args s in
-    record { stage = s; hint = world.guess; env = w.env; entries = w.entries; guess = w.guess; awaits = [] }
+    record { stage = s; hint = world.hint; env = w.env; entries = w.entries; guess = w.guess; awaits = [] }
 
 -- the writes to m of this turn that a thread in stage s has not released
 abbrev pub undone : Pipe → Arrays → List ℕ → ℕ → ℕ → List Commit
@@ -99,7 +100,7 @@ pub record Location : Type 0 where
 -- Pipeline refinement and Progress of a pipe
 
 -- each memory's commits are a prefix of the sequential writes, and have all writes of the threads that ended
-pub record Refines (p : Pipe) (image : Arrays) (hints : ℕ → List ℕ) (schedule : List (List Bool)) : Type 0 where
+pub record Refines (p : Pipe) (image : Arrays) (hints : ℕ → Hint) (schedule : List (List Bool)) : Type 0 where
   pub whole : (m : ℕ) → IsPrefix (seqwrites p image m (ended_in (turns p image hints schedule))) (commits m (turns p image hints schedule))
   pub prefix : (m : ℕ) → IsPrefix (commits m (turns p image hints schedule)) (seqwrites p image m (ended_in (turns p image hints schedule) + length p.stages))
   pub end : (state_after p (first p image hints) schedule).arrays ≡ after_commits image (all_commits (turns p image hints schedule))
@@ -110,12 +111,12 @@ oldest_moves [] = false
 oldest_moves (a ∷ these) = a.moves
 
 -- after any schedule, the oldest live thread moves in a cycle that isn't a wait
-abbrev pub Advances : Pipe → Arrays → (ℕ → List ℕ) → List (List Bool) → List Bool → Type 0
+abbrev pub Advances : Pipe → Arrays → (ℕ → Hint) → List (List Bool) → List Bool → Type 0
 Advances p image hints schedule bits =
     IsFalse (is_wait p (state_after p (first p image hints) schedule) bits)
     → IsTrue (oldest_moves (all_acts p (state_after p (first p image hints) schedule) bits))
 
 -- as many threads end as cycles that are no waits, divided by the depth
-abbrev pub KeepsPace : Pipe → Arrays → (ℕ → List ℕ) → List (List Bool) → Type 0
+abbrev pub KeepsPace : Pipe → Arrays → (ℕ → Hint) → List (List Bool) → Type 0
 KeepsPace p image hints schedule =
     (length schedule - waits_in (turns p image hints schedule)) / depth p ≤ ended_in (turns p image hints schedule)

@@ -1,38 +1,44 @@
 -- What it means that both machines do the same.
-use Rattle.std.specs.Prelude.{◌≡◌, ℕ, zero, suc, Bool, true, false, ◌&&◌, List, [], ◌∷◌, if◌then◌else◌, ◌==◌, slice_index_or}
-use Rattle.pdl_semantics.specs.Flat.{Pipe, of_mem}
+use Rattle.std.specs.Prelude.{◌≡◌, ℕ, zero, suc, Bool, ◌&&◌, List, [], ◌∷◌, if◌then◌else◌, ◌==◌, slice_index_or}
+use Rattle.pdl_semantics.specs.Flat.{Op, Pipe, of_mem}
 use Rattle.pdl_semantics.specs.Stages.{list_any, onpath, in_stage}
 use Rattle.pdl_semantics.specs.Sound.{is_spec_call}
+use Rattle.pdl_semantics.specs.Updates.{is_update}
 use Rattle.pdl_semantics.specs.Cycle.{for_mems, commits_shown}
 use Rattle.pdl_semantics.specs.Cycle
 use Rattle.pdl_semantics.specs.Machine.{State}
 use Rattle.pdl_semantics.specs.Moves.{Act, all_acts}
-use Rattle.pdl_theory_derived.specs.Derived.{find_ask}
+use Rattle.pdl_theory_derived.specs.Derived.{Hint, no_hint, find_ask}
 use Rattle.pdl_theory_derived.specs.Derived
 
--- whether a thread's stage makes a guess
-abbrev pub makes_guess : Pipe → Act → Bool
-makes_guess p a = list_any (λ x. is_spec_call x.op) (onpath a.does.env (in_stage a.stage p.stmts))
+-- whether a thread's stage has such a statement on its path
+abbrev pub has_here : (Op → Bool) → Pipe → Act → Bool
+has_here test p a = list_any (λ x. test x.op) (onpath a.does.env (in_stage a.stage p.stmts))
 
--- what the thread of this number guesses as it moves in a cycle, else `rest`
-abbrev pub guess_in : Pipe → List Act → ℕ → List ℕ → List ℕ
-guess_in p [] n rest = rest
-guess_in p (a ∷ these) n rest = if (a.thread.number == n) && (a.moves && makes_guess p a) then a.does.guess else guess_in p these n rest
+-- what the thread of this number then guesses, where it moves from a stage with such a statement in a cycle, else `rest`
+abbrev pub said_in : (Op → Bool) → Pipe → List Act → ℕ → List ℕ → List ℕ
+said_in test p [] n rest = rest
+said_in test p (a ∷ these) n rest =
+    if (a.thread.number == n) && (a.moves && has_here test p a) then a.does.guess else said_in test p these n rest
 
--- what it guesses in a run of the stated machine from this state on, nothing where it makes no guess
-abbrev pub guess_of : Pipe → State → List (List Bool) → ℕ → List ℕ
-guess_of p st [] n = []
-guess_of p st (bits ∷ schedule) n = guess_in p (all_acts p st bits) n (guess_of p (Cycle.cycle p st bits) schedule n)
+-- what it then guesses in a run of the stated machine from this state on, nothing where it never does
+abbrev pub said_of : (Op → Bool) → Pipe → State → List (List Bool) → ℕ → List ℕ
+said_of test p st [] n = []
+said_of test p st (bits ∷ schedule) n = said_in test p (all_acts p st bits) n (said_of test p (Cycle.cycle p st bits) schedule n)
 
--- what the threads guess that are made in each cycle of that run
-abbrev pub made_hints : Pipe → State → List (List Bool) → ℕ → List ℕ
-made_hints p st [] n = []
-made_hints p st (bits ∷ schedule) zero = guess_of p (Cycle.cycle p st bits) schedule st.next
+-- what a thread says in that run where it guesses, and where it updates its guess
+abbrev pub hint_of : Pipe → State → List (List Bool) → ℕ → Hint
+hint_of p st schedule n = record { guess = said_of is_spec_call p st schedule n; update = said_of is_update p st schedule n }
+
+-- what the threads say that are made in each cycle of that run
+abbrev pub made_hints : Pipe → State → List (List Bool) → ℕ → Hint
+made_hints p st [] n = no_hint
+made_hints p st (bits ∷ schedule) zero = hint_of p (Cycle.cycle p st bits) schedule st.next
 made_hints p st (bits ∷ schedule) (suc n) = made_hints p (Cycle.cycle p st bits) schedule n
 
--- and before them what the first thread guesses
-abbrev pub hints_of : Pipe → State → List (List Bool) → ℕ → List ℕ
-hints_of p st schedule zero = guess_of p st schedule 1
+-- and before them what the first thread says
+abbrev pub hints_of : Pipe → State → List (List Bool) → ℕ → Hint
+hints_of p st schedule zero = hint_of p st schedule 1
 hints_of p st schedule (suc n) = made_hints p st schedule n
 
 -- the ports of a cycle of each machine

@@ -7,7 +7,7 @@ use Rattle.pdl_semantics.specs.Locks.{has_room}
 use Rattle.pdl_semantics.specs.Sound.{all_below, stages_from, is_fetch}
 use Rattle.pdl_theory_derived.specs.Alone.{before}
 use Rattle.pdl_theory_facts.specs.Scans.{is_plain, none_of, all_at, reads_ok, no_scan, phases_ok, phase_all, Fresh, is_over, write_reserves, is_fixed}
-use Rattle.pdl_theory_facts.specs.GuessScans.{Unmade, makings_ok, making_all, is_made, checks_apart, all_sure}
+use Rattle.pdl_theory_facts.specs.GuessScans.{Unmade, makings_ok, making_all, is_made, checks_apart, is_update, once, all_sure}
 use Rattle.pdl_theory_facts.specs.Checks.{in_text_order, knows_memory, on_paths, guard_vars, mem_passes, path_passes, lock_passes, is_below, locks_pass, text_passes, paths_pass}
 use Rattle.pdl_theory_facts.specs.Accepted.{Accepted, Pathwise, along}
 use Rattle.pdl_theory_derived.proofs.Writes.{and_left, and_right}
@@ -136,7 +136,7 @@ module _ (p : Pipe) (h : Parts p) where
         && (all_below (mem_passes p xs) (length p.mems)
         &&
         (makings_ok (verify_stage p.stmts) Unmade xs
-        && (is_made (making_all Unmade xs) && (checks_apart None xs && all_sure (verify_stage p.stmts) false no_scan xs)))))))
+        && (is_made (making_all Unmade xs) && (checks_apart None xs && (once is_update false xs && all_sure (verify_stage p.stmts) false no_scan xs))))))))
         ≡ true
     after_order = and_right (in_text_order 0 xs) _ ok
 
@@ -146,7 +146,7 @@ module _ (p : Pipe) (h : Parts p) where
         && (all_below (mem_passes p xs) (length p.mems)
         &&
         (makings_ok (verify_stage p.stmts) Unmade xs
-        && (is_made (making_all Unmade xs) && (checks_apart None xs && all_sure (verify_stage p.stmts) false no_scan xs))))))
+        && (is_made (making_all Unmade xs) && (checks_apart None xs && (once is_update false xs && all_sure (verify_stage p.stmts) false no_scan xs)))))))
         ≡ true
     after_stages = and_right (list_all (λ x. nat_lt x.stage (length p.stages)) xs) _ after_order
 
@@ -160,7 +160,7 @@ module _ (p : Pipe) (h : Parts p) where
         (all_below (mem_passes p xs) (length p.mems)
         &&
         (makings_ok (verify_stage p.stmts) Unmade xs
-        && (is_made (making_all Unmade xs) && (checks_apart None xs && all_sure (verify_stage p.stmts) false no_scan xs))))
+        && (is_made (making_all Unmade xs) && (checks_apart None xs && (once is_update false xs && all_sure (verify_stage p.stmts) false no_scan xs)))))
         ≡ true
     after_reads = and_right (reads_ok p no_scan xs) _ (and_right (list_all (λ x. knows_memory (length p.mems) x.op) xs) _ after_stages)
 
@@ -227,7 +227,7 @@ module _ (p : Pipe) (h : Parts p) where
         (λ past. no_release m _ (onpath path p.stmts) path_known past)
 
     after_mems : (makings_ok (verify_stage p.stmts) Unmade xs && (is_made (making_all Unmade xs)
-        && (checks_apart None xs && all_sure (verify_stage p.stmts) false no_scan xs))) ≡ true
+        && (checks_apart None xs && (once is_update false xs && all_sure (verify_stage p.stmts) false no_scan xs)))) ≡ true
     after_mems = and_right (all_below (mem_passes p xs) (length p.mems)) _ after_reads
 
     -- a path makes the next thread in order: by one call, or by one guess and its verify
@@ -238,10 +238,17 @@ module _ (p : Pipe) (h : Parts p) where
     pub path_made : is_made (making_all Unmade (onpath path p.stmts)) ≡ true
     path_made = and_left _ _ (and_right (makings_ok (verify_stage p.stmts) Unmade xs) _ after_mems)
 
+    after_apart : (once is_update false xs && all_sure (verify_stage p.stmts) false no_scan xs) ≡ true
+    after_apart =
+        and_right (checks_apart None xs) _ (and_right (is_made (making_all Unmade xs)) _ (and_right (makings_ok (verify_stage p.stmts) Unmade xs) _ after_mems))
+
     -- each release on a path is certain: after a barrier, in V or later, or of what was not reserved for writing
     pub path_sure : all_sure (verify_stage p.stmts) false no_scan (onpath path p.stmts) ≡ true
-    path_sure =
-        and_right (checks_apart None xs) _ (and_right (is_made (making_all Unmade xs)) _ (and_right (makings_ok (verify_stage p.stmts) Unmade xs) _ after_mems))
+    path_sure = and_right (once is_update false xs) _ after_apart
+
+    -- a path has one update at most
+    pub path_updated : once is_update false (onpath path p.stmts) ≡ true
+    path_updated = and_left _ _ after_apart
 
     -- a check on a path stands in another stage than the guess
     pub path_apart : checks_apart None (onpath path p.stmts) ≡ true
@@ -285,6 +292,7 @@ module _ (p : Pipe) (h : Parts p) where
         paths = accepted;
         makings = path_makings;
         apart = path_apart;
+        updated = path_updated;
         made = path_made;
         sure = path_sure;
       }

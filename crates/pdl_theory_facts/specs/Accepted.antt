@@ -5,7 +5,7 @@ use Rattle.pdl_semantics.specs.Stages.{onpath, in_stage, mem_at, verify_stage, c
 use Rattle.pdl_semantics.specs.Locks.{has_room}
 use Rattle.pdl_theory_derived.specs.Alone.{before}
 use Rattle.pdl_theory_facts.specs.Scans.{is_plain, none_of, reads_ok, no_scan, phases_ok, phase_all, Fresh, is_over, write_reserves, all_at, is_fixed}
-use Rattle.pdl_theory_facts.specs.GuessScans.{Unmade, makings_ok, making_all, is_made, checks_apart, all_sure}
+use Rattle.pdl_theory_facts.specs.GuessScans.{Unmade, makings_ok, making_all, is_made, checks_apart, is_update, once, all_sure}
 use Rattle.pdl_semantics.specs.Sound.{stages_from}
 
 -- of a pipe without guards: what holds of the statements of one path
@@ -46,5 +46,7 @@ pub record Pathwise (p : Pipe) : Type 0 where
   pub paths : (path : List ℕ) → Accepted (along path p)
   pub makings : (path : List ℕ) → makings_ok (verify_stage p.stmts) Unmade (onpath path p.stmts) ≡ true
   pub apart : (path : List ℕ) → checks_apart None (onpath path p.stmts) ≡ true
+  -- S6
+  pub updated : (path : List ℕ) → once is_update false (onpath path p.stmts) ≡ true
   pub made : (path : List ℕ) → is_made (making_all Unmade (onpath path p.stmts)) ≡ true
   pub sure : (path : List ℕ) → all_sure (verify_stage p.stmts) false no_scan (onpath path p.stmts) ≡ true

@@ -6,7 +6,7 @@ use Rattle.pdl_semantics.specs.Stages.{in_stage, mem_at, commit_stage, reserve_s
 use Rattle.pdl_semantics.specs.Locks.{has_room}
 use Rattle.pdl_semantics.specs.Sound.{all_below, stages_from, is_fetch}
 use Rattle.pdl_theory_facts.specs.Scans.{is_plain, none_of, reads_ok, no_scan, phases_ok, phase_all, Fresh, is_over, write_reserves, all_at, is_fixed}
-use Rattle.pdl_theory_facts.specs.GuessScans.{Unmade, makings_ok, making_all, is_made, checks_apart, all_sure}
+use Rattle.pdl_theory_facts.specs.GuessScans.{Unmade, makings_ok, making_all, is_made, checks_apart, is_update, once, all_sure}
 
 -- statements stand in the order of their stages, the first in stage s or after it
 abbrev pub in_text_order : ℕ → List Stmt → Bool
@@ -87,7 +87,7 @@ path_passes p xs =
     && (all_below (mem_passes p xs) (length p.mems)
     &&
     (makings_ok (verify_stage p.stmts) Unmade xs
-    && (is_made (making_all Unmade xs) && (checks_apart None xs && all_sure (verify_stage p.stmts) false no_scan xs)))))))
+    && (is_made (making_all Unmade xs) && (checks_apart None xs && (once is_update false xs && all_sure (verify_stage p.stmts) false no_scan xs))))))))
 
 -- THE TEXT
 

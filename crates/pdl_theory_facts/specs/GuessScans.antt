@@ -3,6 +3,7 @@ use Rattle.std.specs.Prelude.{ℕ, Bool, true, false, ◌&&◌, ◌||◌, not, L
 use Rattle.pdl_semantics.specs.Flat.{Op, Bind, CombRead, DelayedRead, Write, ReserveRead, ReserveWrite, Block, Release, Call, SpecCall, Verify, SpecCheck, SpecBarrier, AdviceBind, AdviceRead, AdviceWrite, Stmt}
 use Rattle.pdl_semantics.specs.Forms.{on_release}
 pub use Rattle.pdl_semantics.specs.Sound.{is_barrier}
+pub use Rattle.pdl_semantics.specs.Updates.{is_update}
 use Rattle.pdl_theory_facts.specs.Scans.{has_location, scan_after, Scan}
 
 -- whether a stage is V
@@ -132,6 +133,11 @@ check_apart g s (AdviceWrite m a e) = true
 abbrev pub checks_apart : Option ℕ → List Stmt → Bool
 checks_apart g [] = true
 checks_apart g (x ∷ xs) = check_apart g x.stage x.op && checks_apart (guess_stage g x.stage x.op) xs
+
+-- whether no second statement of a kind is among these, where one stands before them or doesn't; S6 asks it of updates
+abbrev pub once : (Op → Bool) → Bool → List Stmt → Bool
+once test been [] = true
+once test been (x ∷ xs) = not (been && test x.op) && once test (been || test x.op) xs
 
 -- CERTAINTY
 

@@ -10,7 +10,7 @@ use Rattle.pdl_semantics.specs.Cycle.{awaited_of}
 use Rattle.pdl_semantics.specs.Moves.{is_empty}
 use Rattle.pdl_semantics.specs.Sequential.{thread}
 use Rattle.pdl_semantics.specs.Promises.{wrote, row}
-use Rattle.pdl_theory_derived.specs.Derived.{Work, Thread, State, Act, work_of_stage, around, act, acts, latest, latest_in, befores, can_enter, commits_of, asks_of, find_ask, next_asks, moved_to, fresh, answered_thread, awaits_mem}
+use Rattle.pdl_theory_derived.specs.Derived.{Hint, Work, Thread, State, Act, work_of_stage, around, act, acts, latest, latest_in, befores, can_enter, commits_of, asks_of, find_ask, next_asks, moved_to, fresh, answered_thread, awaits_mem}
 use Rattle.pdl_theory_derived.specs.Alone.{World, so_far, thread_at}
 use Rattle.pdl_theory_derived.proofs.Writes.{and_left, and_right, wrote_append}
 use Rattle.pdl_theory_turns.proofs.Marks.{seen, strips, Later, later_more, later_strips, later_ready, raised_refl, seen_append, strips_append}
@@ -56,10 +56,10 @@ moves_answered p st bits older t e = and_right _ _ (and_left _ _ e)
 -- where a turn stands after it moved from stage s
 abbrev pub moved_spot : Pipe → World → List ℕ → ℕ → Spot
 moved_spot p world args s =
-    record { stage = next_at p world args s; hint = world.guess; env = (stage_work p world args s).env; asks = (stage_work p world args s).asks }
+    record { stage = next_at p world args s; hint = world.hint; env = (stage_work p world args s).env; asks = (stage_work p world args s).asks }
 
 -- the spot where a turn begins
-abbrev pub start_spot : Pipe → List ℕ → List ℕ → Spot
+abbrev pub start_spot : Pipe → Hint → List ℕ → Spot
 start_spot p g args = record { stage = 0; hint = g; env = start_env p args; asks = [] }
 
 module _ (p : Pipe) (acc : Course p) where
@@ -135,24 +135,24 @@ module _ (p : Pipe) (acc : Course p) where
       none (Some x) = refl
 
   -- the thread after the youngest one's turn
-  start_waits : (asked : List (Option ℕ)) (v : Marks) (world : World) (args : List ℕ) → Waits p acc asked v world args (start_spot p world.guess args)
+  start_waits : (asked : List (Option ℕ)) (v : Marks) (world : World) (args : List ℕ) → Waits p acc asked v world args (start_spot p world.hint args)
   start_waits asked v world args = record { gets = ap (λ (w : Work). w.env) (sym (acc.start_so world args)); apart = tt; out = tt; sure = tt }
 
   -- a new thread is the thread of its turn on the start spot
-  pub born_seat : (world : World) (args : List ℕ) → fresh p world.guess args ≡ seat p world args (start_spot p world.guess args)
+  pub born_seat : (world : World) (args : List ℕ) → fresh p world.hint args ≡ seat p world args (start_spot p world.hint args)
   born_seat world args =
-      ap (λ (w : Work). record { stage = 0; hint = world.guess; env = start_env p args; entries = w.entries; guess = w.guess; awaits = [] })
+      ap (λ (w : Work). record { stage = 0; hint = world.hint; env = start_env p args; entries = w.entries; guess = w.guess; awaits = [] })
       (sym (acc.start_so world args))
 
   -- the thread that begins a turn stands on it, where the writes before the turn are the commits and the undone ones
   pub born_standing : (asked : List (Option ℕ)) (past w : Writes) (v : Marks) (world : World) (args : List ℕ) (ahead : List ℕ) → AllUnder p ahead 0
-      → ((m : ℕ) → w m ≡ past m ++ strips m (v m)) → Standing p acc asked past w v world.words args ahead (start_spot p world.guess args ∷ [])
+      → ((m : ℕ) → w m ≡ past m ++ strips m (v m)) → Standing p acc asked past w v world.words args ahead (start_spot p world.hint args ∷ [])
   born_standing asked past w v world args ahead under h = (
     record {
       under = under;
       on = acc.on_start world args;
       words = λ m c. h m;
-      calm = λ u. subst acc.stray (born_seat world args) (acc.stray_fresh world.guess args).0;
+      calm = λ u. subst acc.stray (born_seat world args) (acc.stray_fresh world.hint args).0;
       clean = subst (λ l. Right p 0 (Clean p v) l (so_far p world args 0).env) (sym (acc.start_blocked world args)) tt;
       linked = ap (λ (w : Work). right_guess w.child (thread p world.words args).next) (acc.start_so world args);
       waits = start_waits asked v world args;
@@ -175,13 +175,13 @@ module _ (p : Pipe) (acc : Course p) where
 
   -- where a thread stands after it moved
   moved_seat : (world : World) (args : List ℕ) (s : ℕ) → acc.on world args s → s < length p.stages
-      → onward (next_at p world args s) world.guess (stage_work p world args s) ≡ seat p world args (moved_spot p world args s)
+      → onward (next_at p world args s) world.hint (stage_work p world args s) ≡ seat p world args (moved_spot p world args s)
   moved_seat world args s on low =
       let n = acc.next_so world args s on low in
       ap₂
       (λ es g. record {
         stage = next_at p world args s;
-        hint = world.guess;
+        hint = world.hint;
         env = (stage_work p world args s).env;
         entries = es;
         guess = g;
@@ -190,15 +190,15 @@ module _ (p : Pipe) (acc : Course p) where
 
   -- a thread that did its turn's work of a stage is on its turn in the next one, and gone where that is past the last
   pub moved_thread : (world : World) (args : List ℕ) (s : ℕ) (w : Work) → acc.on world args s → s < length p.stages → w ≡ stage_work p world args s
-      → moved_to (goes_to (stage_at p s).next w.env) world.guess w
+      → moved_to (goes_to (stage_at p s).next w.env) world.hint w
       ≡ cond (nat_lt (next_at p world args s) (length p.stages)) (seat p world args (moved_spot p world args s) ∷ []) []
   moved_thread world args s w on low same =
-      ap (λ (k : Work). moved_to (goes_to (stage_at p s).next k.env) world.guess k) same
-      ∙ ap (λ o. moved_to o world.guess (stage_work p world args s)) (acc.graph.leaves s (stage_work p world args s).env low)
+      ap (λ (k : Work). moved_to (goes_to (stage_at p s).next k.env) world.hint k) same
+      ∙ ap (λ o. moved_to o world.hint (stage_work p world args s)) (acc.graph.leaves s (stage_work p world args s).env low)
       ∙ at (nat_lt (next_at p world args s) (length p.stages))
     where
       at : (b : Bool)
-          → moved_to (cond b (Some (next_at p world args s)) None) world.guess (stage_work p world args s)
+          → moved_to (cond b (Some (next_at p world args s)) None) world.hint (stage_work p world args s)
           ≡ cond b (seat p world args (moved_spot p world args s) ∷ []) []
       at true = ap (λ t. t ∷ []) (moved_seat world args s on low)
       at false = refl
@@ -317,37 +317,37 @@ module _ (p : Pipe) (acc : Course p) (image : Arrays) (st : State) (bits : List 
           whole_now p acc image st past rows bits older v v' d w asks world args ahead ahead' sp last rows' b h
           (moves_answered p st bits older (seat p world args sp) e)
 
-      alike_here : (work_of_stage p (around p st bits older sp.stage world.guess) (thread_at p world args sp.stage) ≡ stage_work p world args sp.stage)
+      alike_here : (work_of_stage p (around p st bits older sp.stage world.hint) (thread_at p world args sp.stage) ≡ stage_work p world args sp.stage)
           × Right p sp.stage (Clean p v) (blocked_at p world args (next_at p world args sp.stage)) (so_far p world args (next_at p world args sp.stage)).env
           × AllAsks (λ q. Clean p v q.mem q.address) (stage_work p world args sp.stage).asks
       alike_here =
-          acc.here_alike world args (around p st bits older sp.stage world.guess) sp.stage (Clean p v) h.on low_here
+          acc.here_alike world args (around p st bits older sp.stage world.hint) sp.stage (Clean p v) h.on low_here
           (surrounds p acc image st past rows bits older v v' d w asks world args ahead ahead' sp last rows' b h)
           (plain_clean p v)
-          (subst (λ t. (work_of_stage p (around p st bits older sp.stage world.guess) t).ready ≡ true) now_placed
+          (subst (λ t. (work_of_stage p (around p st bits older sp.stage world.hint) t).ready ≡ true) now_placed
           (moves_ready p st bits older (seat p world args sp) e)) h.clean
 
       -- where it moves, the thread does the work that its turn's stage does alone
       pub work_same : (act p st bits older (seat p world args sp)).work ≡ stage_work p world args sp.stage
-      work_same = ap (work_of_stage p (around p st bits older sp.stage world.guess)) now_placed ∙ alike_here.0
+      work_same = ap (work_of_stage p (around p st bits older sp.stage world.hint)) now_placed ∙ alike_here.0
 
       -- where it moves, the thread commits nothing to m unless it is in the stage of m's releases
       pub commits_quiet : (m : ℕ) → sp.stage ≢ commit_stage p m → of_mem m (act p st bits older (seat p world args sp)).work.commits ≡ []
-      commits_quiet = acc.quiet_at (around p st bits older sp.stage world.guess) (answered_thread p st bits (seat p world args sp))
+      commits_quiet = acc.quiet_at (around p st bits older sp.stage world.hint) (answered_thread p st bits (seat p world args sp))
 
       -- behind a thread that isn't sure it releases nothing, and passes no barrier
       pub calm_here : Unsure p acc.v ahead
           → Strayed p acc.stray acc.made (answered_thread p st bits (seat p world args sp)) (act p st bits older (seat p world args sp)).work
       calm_here u =
           let before = unsure_older p acc older ahead ahead' sp.stage b.moves h.under u in
-          acc.stray_step (around p st bits older sp.stage world.guess) (answered_thread p st bits (seat p world args sp))
+          acc.stray_step (around p st bits older sp.stage world.hint) (answered_thread p st bits (seat p world args sp))
           (acc.stray_answered st bits (seat p world args sp) (h.calm u)).0
           (none_left _ (moves_answered p st bits older (seat p world args sp) e)) before.0 before.1
           (moves_ready p st bits older (seat p world args sp) e)
 
       -- where it moves, the thread asks for m only in the stage of m's delayed reads
       pub asks_here : (m : ℕ) → is_some (find_ask (act p st bits older (seat p world args sp)).work.asks m) ≡ true → sp.stage ≡ acc.fetch m
-      asks_here = acc.asks_at (around p st bits older sp.stage world.guess) (answered_thread p st bits (seat p world args sp))
+      asks_here = acc.asks_at (around p st bits older sp.stage world.hint) (answered_thread p st bits (seat p world args sp))
 
       can_go : can_enter p older (goes_to (stage_at p sp.stage).next (act p st bits older (seat p world args sp)).work.env) ≡ true
       can_go = and_right _ _ e
@@ -378,7 +378,7 @@ module _ (p : Pipe) (acc : Course p) (image : Arrays) (st : State) (bits : List 
                 (silent m c) (quiet m (earlier m c)));
             calm =
                 λ u. subst acc.stray (moved_seat p acc world args sp.stage h.on low_here)
-                (subst (λ (k : Work). acc.stray (onward (next_of p sp.stage k.env) world.guess k)) work_same
+                (subst (λ (k : Work). acc.stray (onward (next_of p sp.stage k.env) world.hint k)) work_same
                 (calm_here (unsure_before p acc older ahead ahead' b.moves u)).goes_on);
             clean = right_weaken p sp.stage (next_at p world args sp.stage) v v' _ _ (le_of_lt more) (λ m x k. clean_later m x k) alike_here.1;
             linked = linked;

@@ -10,7 +10,7 @@ use Rattle.pdl_semantics.specs.Cycle.{awaited_of}
 use Rattle.pdl_semantics.specs.Machine.{Ask}
 use Rattle.pdl_semantics.specs.Sequential.{thread, writes_from, seqwrites, after_turns}
 use Rattle.pdl_semantics.specs.Promises.{wrote, row, IsPrefix}
-use Rattle.pdl_theory_derived.specs.Derived.{Work, Thread, State, Act, act, around, answered_thread, acts, all_acts, survivors, commits_of, asks_of, next_asks, cycle, after_acts, first, nothing_asked, turns, turns_from, state_after, all_commits, ended_in, is_wait}
+use Rattle.pdl_theory_derived.specs.Derived.{Hint, no_hint, Work, Thread, State, Act, act, around, answered_thread, acts, all_acts, survivors, commits_of, asks_of, next_asks, cycle, after_acts, first, nothing_asked, turns, turns_from, state_after, all_commits, ended_in, is_wait}
 use Rattle.pdl_theory_derived.specs.Alone.{World, so_far, Refines, Advances, oldest_moves}
 use Rattle.pdl_theory_facts.specs.Scans.{is_plain}
 use Rattle.pdl_theory_turns.proofs.Rooms.{room_alone}
@@ -27,7 +27,7 @@ use Rattle.pdl_theory_facts.proofs.Nested.{within_all, trunk_within}
 use Rattle.pdl_theory_turns.proofs.ThreadOrder.{Under, AllUnder}
 use Rattle.pdl_theory_derived.proofs.DelayedReads.{AllAsks, Out, requests_length}
 use Rattle.pdl_theory_refinement.proofs.Unsure.{Unsure}
-use Rattle.pdl_theory_refinement.proofs.Spots.{Spot, seat, seats, shown, is_nil, Here, Standing, Behind, Last, Tail, with_guess}
+use Rattle.pdl_theory_refinement.proofs.Spots.{Spot, seat, seats, shown, is_nil, Here, Standing, Behind, Last, Tail, with_hint}
 use Rattle.pdl_theory_refinement.proofs.Cycles.{start_spot, past_last, rows_next, born_standing, born_seat, not_self}
 use Rattle.pdl_theory_refinement.proofs.ThreadCycle.{Turned, turned}
 
@@ -69,7 +69,7 @@ module _ (p : Pipe) (acc : Course p) where
       waits = h.0.waits;
       calm = λ u. h.0.calm (g u);
     },
-    weaker asked past (λ n. w n ++ of_mem n (thread p arrays args).writes) (λ n. v n ++ marks p (with_guess arrays sp.hint) args sp.stage n)
+    weaker asked past (λ n. w n ++ of_mem n (thread p arrays args).writes) (λ n. v n ++ marks p (with_hint arrays sp.hint) args sp.stage n)
         (thread p arrays args).arrays (thread p arrays args).next (sp.stage ∷ ahead)
         (sp.stage ∷ ahead2) sps (λ s u. (u.0, f s u.1)) (λ u. u) h.1,
   )
@@ -93,9 +93,9 @@ module _ (p : Pipe) (acc : Course p) where
       → Standing p acc asked past w v arrays args ahead sps → shown p arrays args sps ≡ seats p arrays args sps
   shown_seats asked past w v arrays args ahead [] f h = refl
   shown_seats asked past w v arrays args ahead (sp ∷ sps) f h =
-      ap₂ (λ b xs. cond b (seat p (with_guess arrays sp.hint) args sp ∷ []) [] ++ xs) (lt-ltb sp.stage (length p.stages) (f sp.stage h.0.under))
+      ap₂ (λ b xs. cond b (seat p (with_hint arrays sp.hint) args sp ∷ []) [] ++ xs) (lt-ltb sp.stage (length p.stages) (f sp.stage h.0.under))
       (shown_seats asked past (λ n. w n ++ of_mem n (thread p arrays args).writes)
-      (λ n. v n ++ marks p (with_guess arrays sp.hint) args sp.stage n)
+      (λ n. v n ++ marks p (with_hint arrays sp.hint) args sp.stage n)
       (thread p arrays args).arrays (thread p arrays args).next (sp.stage ∷ ahead) sps (λ s u. f s u.1) h.1)
 
   -- who stands behind the end of the pipe is in one of its stages
@@ -114,7 +114,7 @@ module _ (p : Pipe) (acc : Course p) where
   pub rows_at : (image : Arrays) (n : ℕ) → RowsAt image (λ m. of_mem m (writes_from p n image p.start)) (after_turns p image n).arrays
   rows_at image zero m = refl
   rows_at image (suc n) m =
-      rows_next p acc image (λ k. of_mem k (writes_from p n image p.start)) (with_guess (after_turns p image n).arrays []) (after_turns p image n).next
+      rows_next p acc image (λ k. of_mem k (writes_from p n image p.start)) (with_hint (after_turns p image n).arrays no_hint) (after_turns p image n).next
       (rows_at image n) m
       ∙ ap (wrote (row image m)) (sym (of_mem_append m (writes_from p n image p.start) _) ∙ ap (of_mem m) (sym (writes_more p n image p.start)))
 
@@ -129,10 +129,10 @@ module _ (p : Pipe) (acc : Course p) where
       (λ v. Standing p acc asked past (λ m. of_mem m (writes_from p (suc n) image p.start)) v
       (after_turns p image (suc n)).arrays (after_turns p image (suc n)).next (length p.stages ∷ []) sps)
       (λ i m.
-      (ap (λ s. marks p (with_guess (after_turns p image n).arrays sp.hint) (after_turns p image n).next s m) e
-      ∙ acc.marks_end (with_guess (after_turns p image n).arrays sp.hint) (after_turns p image n).next m) i)
+      (ap (λ s. marks p (with_hint (after_turns p image n).arrays sp.hint) (after_turns p image n).next s m) e
+      ∙ acc.marks_end (with_hint (after_turns p image n).arrays sp.hint) (after_turns p image n).next m) i)
       (subst
-      (λ w. Standing p acc asked past w (λ m. [] ++ marks p (with_guess (after_turns p image n).arrays sp.hint) (after_turns p image n).next sp.stage m)
+      (λ w. Standing p acc asked past w (λ m. [] ++ marks p (with_hint (after_turns p image n).arrays sp.hint) (after_turns p image n).next sp.stage m)
       (after_turns p image (suc n)).arrays (after_turns p image (suc n)).next (length p.stages ∷ []) sps)
       (λ i m. (sym (of_mem_append m (writes_from p n image p.start) _) ∙ ap (of_mem m) (sym (writes_more p n image p.start))) i)
       (weaker asked past _ _ (after_turns p image (suc n)).arrays (after_turns p image (suc n)).next (sp.stage ∷ suc (length p.stages) ∷ [])
@@ -143,8 +143,8 @@ module _ (p : Pipe) (acc : Course p) where
       → Standing p acc asked past w v arrays args ahead (sp ∷ sps) → is_nil sps ≡ false
   dropped_live asked past w v arrays args ahead sp sps e h =
       at (is_nil sps)
-      (sym (acc.child_end (with_guess arrays sp.hint) args)
-      ∙ ap (λ s. right_guess (so_far p (with_guess arrays sp.hint) args s).child (thread p arrays args).next) (sym e) ∙ h.0.linked)
+      (sym (acc.child_end (with_hint arrays sp.hint) args)
+      ∙ ap (λ s. right_guess (so_far p (with_hint arrays sp.hint) args s).child (thread p arrays args).next) (sym e) ∙ h.0.linked)
     where
       at : (b : Bool) → true ≡ not b → b ≡ false
       at true f = absurd (cc f)
@@ -168,7 +168,7 @@ module _ (p : Pipe) (acc : Course p) where
       }
 
   -- the state after a cycle, by what its threads did
-  runs_after : (image : Arrays) (n : ℕ) (past : List Commit) (st' : State) (these : List Act) (hs : List ℕ)
+  runs_after : (image : Arrays) (n : ℕ) (past : List Commit) (st' : State) (these : List Act) (hs : Hint)
       → st'.threads ≡ survivors p hs these → st'.arrays ≡ after_commits image (past ++ commits_of these) → length st'.asked ≡ length p.mems
       → Turned p acc hs st'.asked (λ m. of_mem m (past ++ commits_of these))
       (λ m. of_mem m (writes_from p n image p.start)) (λ m. [])
@@ -198,7 +198,7 @@ module _ (p : Pipe) (acc : Course p) where
               (sp.stage ∷ length p.stages ∷ []) sps (λ s u. (u.0, (under_end sp.stage s (le_of_lt low) u.0, tt))) (λ u. u) h.1 in
               let here : Here p acc st'.asked (λ m. of_mem m (past ++ commits_of these))
               (λ m. of_mem m (writes_from p n image p.start)) (λ m. [])
-              (with_guess (after_turns p image n).arrays sp.hint) (after_turns p image n).next (length p.stages ∷ []) sp (is_nil sps) =
+              (with_hint (after_turns p image n).arrays sp.hint) (after_turns p image n).next (length p.stages ∷ []) sp (is_nil sps) =
               record {
                 under = (under_low sp.stage low, tt);
                 on = h.0.on;
@@ -239,7 +239,7 @@ module _ (p : Pipe) (acc : Course p) where
                     e ∙ g
                     ∙ ap
                     (λ b.
-                    (cond b (seat p (with_guess (after_turns p image n).arrays sp.hint) (after_turns p image n).next sp ∷ []) []
+                    (cond b (seat p (with_hint (after_turns p image n).arrays sp.hint) (after_turns p image n).next sp ∷ []) []
                     ++ shown p (after_turns p image (suc n)).arrays (after_turns p image (suc n)).next sps)
                     ++ strays) i
                     ∙ ap (λ l. l ++ strays)
@@ -304,23 +304,23 @@ module _ (p : Pipe) (acc : Course p) where
   none_length (m ∷ ms) = ap suc (none_length ms)
 
   -- the first state is one of a run, with no thread ended and nothing committed
-  pub runs_first : (image : Arrays) (hints : ℕ → List ℕ) → Runs p acc image 0 [] (first p image hints)
+  pub runs_first : (image : Arrays) (hints : ℕ → Hint) → Runs p acc image 0 [] (first p image hints)
   runs_first image hints =
       record {
         spots = start_spot p (hints 0) p.start ∷ [];
         strays = [];
-        tail = subst (λ c. Last p acc.stray acc.made 0 c []) (sym (ap (λ (w : Work). w.child) (acc.start_so (with_guess image (hints 0)) p.start))) refl;
-        threads = ap (λ t. t ∷ []) (born_seat p acc (with_guess image (hints 0)) p.start);
+        tail = subst (λ c. Last p acc.stray acc.made 0 c []) (sym (ap (λ (w : Work). w.child) (acc.start_so (with_hint image (hints 0)) p.start))) refl;
+        threads = ap (λ t. t ∷ []) (born_seat p acc (with_hint image (hints 0)) p.start);
         arrays = refl;
         standing =
             born_standing p acc (nothing_asked p.mems) (λ m. []) (λ m. [])
-            (λ m. []) (with_guess image (hints 0)) p.start (length p.stages ∷ []) (under_low 0 acc.graph.some_stage, tt) (λ m. refl);
+            (λ m. []) (with_hint image (hints 0)) p.start (length p.stages ∷ []) (under_low 0 acc.graph.some_stage, tt) (λ m. refl);
         live = refl;
         known = none_length p.mems;
       }
 
   -- the state after a schedule is one of a run, with the threads that ended in it and its commits
-  pub run_of : (image : Arrays) (hints : ℕ → List ℕ) (schedule : List (List Bool))
+  pub run_of : (image : Arrays) (hints : ℕ → Hint) (schedule : List (List Bool))
       → Runs p acc image (ended_in (turns p image hints schedule)) (all_commits (turns p image hints schedule)) (state_after p (first p image hints) schedule)
   run_of image hints schedule =
       subst (λ n. Runs p acc image n (all_commits (turns p image hints schedule)) (state_after p (first p image hints) schedule))
@@ -336,7 +336,7 @@ module _ (p : Pipe) (acc : Course p) where
   total m asked past w v arrays args ahead (sp ∷ sps) h =
       let k =
       total m asked past (λ n. w n ++ of_mem n (thread p arrays args).writes)
-      (λ n. v n ++ marks p (with_guess arrays sp.hint) args sp.stage n)
+      (λ n. v n ++ marks p (with_hint arrays sp.hint) args sp.stage n)
       (thread p arrays args).arrays (thread p arrays args).next (sp.stage ∷ ahead) sps h.1 in
       (k.0, k.1 ∙ append_assoc (w m) (of_mem m (thread p arrays args).writes) _ ∙ ap (λ l. w m ++ l) (sym (of_mem_append m (thread p arrays args).writes _)))
 
@@ -348,15 +348,15 @@ module _ (p : Pipe) (acc : Course p) where
   begun m asked past w v arrays args ahead (sp ∷ sps) e h =
       at (nat_lt (commit_stage p m) sp.stage) refl
       (λ f. begun m asked past (λ n. w n ++ of_mem n (thread p arrays args).writes)
-      (λ n. v n ++ marks p (with_guess arrays sp.hint) args sp.stage n)
+      (λ n. v n ++ marks p (with_hint arrays sp.hint) args sp.stage n)
       (thread p arrays args).arrays (thread p arrays args).next (sp.stage ∷ ahead) sps f h.1)
     where
       at : (b : Bool) → nat_lt (commit_stage p m) sp.stage ≡ b
-          → (v m ++ marks p (with_guess arrays sp.hint) args sp.stage m ≡ [] → (rest : List Commit)
+          → (v m ++ marks p (with_hint arrays sp.hint) args sp.stage m ≡ [] → (rest : List Commit)
           × ((w m ++ of_mem m (thread p arrays args).writes) ++ rest ≡ past m))
           → (rest : List Commit) × (w m ++ rest ≡ past m)
       at true f k =
-          let r = k (ap₂ (λ l c. l ++ c) e (acc.marks_late (with_guess arrays sp.hint) args sp.stage m (ltb-true _ _ f))) in
+          let r = k (ap₂ (λ l c. l ++ c) e (acc.marks_late (with_hint arrays sp.hint) args sp.stage m (ltb-true _ _ f))) in
           (of_mem m (thread p arrays args).writes ++ r.0, sym (append_assoc (w m) (of_mem m (thread p arrays args).writes) r.0) ∙ r.1)
       at false f k = ([], append-nil (w m) ∙ h.0.words m (inl (ltb-false _ _ f)) ∙ ap (λ l. past m ++ strips m l) e ∙ append-nil (past m))
 
@@ -372,7 +372,7 @@ module _ (p : Pipe) (acc : Course p) where
   apart_from b asked past w v arrays args ahead (sp ∷ sps) f h = (
     ne_eqb b sp.stage (λ e. not_self p acc sp.stage (subst (λ n. Under p n sp.stage) e (f sp.stage h.0.under))),
     apart_from b asked past (λ n. w n ++ of_mem n (thread p arrays args).writes)
-        (λ n. v n ++ marks p (with_guess arrays sp.hint) args sp.stage n)
+        (λ n. v n ++ marks p (with_hint arrays sp.hint) args sp.stage n)
         (thread p arrays args).arrays (thread p arrays args).next (sp.stage ∷ ahead) sps (λ s u. f s u.1) h.1,
   )
 
@@ -382,10 +382,10 @@ module _ (p : Pipe) (acc : Course p) where
   distinct asked past w v arrays args ahead [] h = tt
   distinct asked past w v arrays args ahead (sp ∷ sps) h = (
     apart_from sp.stage asked past (λ n. w n ++ of_mem n (thread p arrays args).writes)
-        (λ n. v n ++ marks p (with_guess arrays sp.hint) args sp.stage n)
+        (λ n. v n ++ marks p (with_hint arrays sp.hint) args sp.stage n)
         (thread p arrays args).arrays (thread p arrays args).next (sp.stage ∷ ahead) sps (λ s u. u.0) h.1,
     distinct asked past (λ n. w n ++ of_mem n (thread p arrays args).writes)
-        (λ n. v n ++ marks p (with_guess arrays sp.hint) args sp.stage n)
+        (λ n. v n ++ marks p (with_hint arrays sp.hint) args sp.stage n)
         (thread p arrays args).arrays (thread p arrays args).next (sp.stage ∷ ahead) sps h.1,
   )
 
@@ -396,7 +396,7 @@ module _ (p : Pipe) (acc : Course p) where
   low_ones asked past w v arrays args ahead (sp ∷ sps) f h q k =
       at (eqb q sp.stage) refl k
       (low_ones asked past (λ n. w n ++ of_mem n (thread p arrays args).writes)
-      (λ n. v n ++ marks p (with_guess arrays sp.hint) args sp.stage n)
+      (λ n. v n ++ marks p (with_hint arrays sp.hint) args sp.stage n)
       (thread p arrays args).arrays (thread p arrays args).next (sp.stage ∷ ahead) sps (λ s u. f s u.1) h.1 q)
     where
       at : (b : Bool) → eqb q sp.stage ≡ b → (b || list_any (eqb q) (stages_of sps)) ≡ true
@@ -440,7 +440,7 @@ module _ (p : Pipe) (acc : Course p) where
       l = longer p m n (length r.spots) k image p.start h
 
   -- every run of the derived machine refines the sequential run
-  pub refines : (image : Arrays) (hints : ℕ → List ℕ) (schedule : List (List Bool)) → Refines p image hints schedule
+  pub refines : (image : Arrays) (hints : ℕ → Hint) (schedule : List (List Bool)) → Refines p image hints schedule
   refines image hints schedule =
       let r = run_of image hints schedule in
       let h : length r.spots ≤ length p.stages = few _ _ _ _ _ _ r.spots r.standing in
@@ -459,7 +459,7 @@ module _ (p : Pipe) (acc : Course p) where
   plain_writes m zero arrays args h = refl
   plain_writes m (suc k) arrays args h =
       of_mem_append m (thread p arrays args).writes _
-      ∙ ap₂ (λ a b. a ++ b) (plain_turn m (with_guess arrays []) args h) (plain_writes m k (thread p arrays args).arrays (thread p arrays args).next h)
+      ∙ ap₂ (λ a b. a ++ b) (plain_turn m (with_hint arrays no_hint) args h) (plain_writes m k (thread p arrays args).arrays (thread p arrays args).next h)
 
   -- PROGRESS
 
@@ -478,12 +478,12 @@ module _ (p : Pipe) (acc : Course p) where
           → is_nil sps ≡ false → oldest_moves (acts p st bits [] (seats p (after_turns p image n).arrays (after_turns p image n).next sps ++ r.strays)) ≡ true
       at [] h l = absurd (cc l)
       at (sp ∷ sps) h l =
-          oldest p st bits (seat p (with_guess (after_turns p image n).arrays sp.hint) (after_turns p image n).next sp)
-          (room_alone p (act p st bits [] (seat p (with_guess (after_turns p image n).arrays sp.hint) (after_turns p image n).next sp)).work
+          oldest p st bits (seat p (with_hint (after_turns p image n).arrays sp.hint) (after_turns p image n).next sp)
+          (room_alone p (act p st bits [] (seat p (with_hint (after_turns p image n).arrays sp.hint) (after_turns p image n).next sp)).work
           (acc.rooms (around p st bits [] sp.stage sp.hint)
           (answered_thread p st bits
-          (seat p (with_guess (after_turns p image n).arrays sp.hint) (after_turns p image n).next sp)))) (asked_all st.asked sp.asks h.0.waits.out) k
+          (seat p (with_hint (after_turns p image n).arrays sp.hint) (after_turns p image n).next sp)))) (asked_all st.asked sp.asks h.0.waits.out) k
 
   -- after any schedule the oldest thread of the derived machine moves in a cycle that isn't a wait
-  pub advances : (image : Arrays) (hints : ℕ → List ℕ) (schedule : List (List Bool)) (bits : List Bool) → Advances p image hints schedule bits
+  pub advances : (image : Arrays) (hints : ℕ → Hint) (schedule : List (List Bool)) (bits : List Bool) → Advances p image hints schedule bits
   advances image hints schedule bits k = oldest_of image _ _ (state_after p (first p image hints) schedule) bits (run_of image hints schedule) k

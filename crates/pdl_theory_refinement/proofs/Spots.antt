@@ -9,7 +9,7 @@ use Rattle.pdl_semantics.specs.Moves.{is_empty}
 use Rattle.pdl_semantics.specs.Sequential.{thread}
 use Rattle.pdl_semantics.specs.Promises.{wrote, row}
 use Rattle.pdl_semantics.proofs.Readiness.{plain_ready, exact_none}
-use Rattle.pdl_theory_derived.specs.Derived.{Thread, State, Act, around, latest, befores, answered_thread, with_answers}
+use Rattle.pdl_theory_derived.specs.Derived.{Hint, Thread, State, Act, around, latest, befores, answered_thread, with_answers}
 use Rattle.pdl_theory_derived.specs.Alone.{World, so_far, thread_at}
 use Rattle.pdl_theory_derived.proofs.Writes.{wrote_append}
 use Rattle.pdl_theory_facts.specs.Scans.{is_plain}
@@ -27,20 +27,20 @@ use Rattle.pdl_theory_derived.proofs.DelayedReads.{caught, still_asks, still_awa
 -- where a thread stands, its values, and the requests whose answers it awaits
 pub record Spot : Type 0 where
   pub stage : ℕ
-  pub hint : List ℕ
+  pub hint : Hint
   pub env : List ℕ
   pub asks : List Ask
 
 -- the arrays with which a turn begins, and what its thread guesses
-abbrev pub with_guess : Arrays → List ℕ → World
-with_guess arrays g = record { words = arrays; guess = g }
+abbrev pub with_hint : Arrays → Hint → World
+with_hint arrays g = record { words = arrays; hint = g }
 
 -- the thread of a turn on a spot
 abbrev pub seat : Pipe → World → List ℕ → Spot → Thread
 seat p world args sp =
     record {
       stage = sp.stage;
-      hint = world.guess;
+      hint = world.hint;
       env = sp.env;
       entries = (so_far p world args sp.stage).entries;
       guess = (so_far p world args sp.stage).guess;
@@ -50,13 +50,13 @@ seat p world args sp =
 -- the threads of the turns that begin with these world and arguments, on these spots
 abbrev pub seats : Pipe → Arrays → List ℕ → List Spot → List Thread
 seats p arrays args [] = []
-seats p arrays args (sp ∷ sps) = seat p (with_guess arrays sp.hint) args sp ∷ seats p (thread p arrays args).arrays (thread p arrays args).next sps
+seats p arrays args (sp ∷ sps) = seat p (with_hint arrays sp.hint) args sp ∷ seats p (thread p arrays args).arrays (thread p arrays args).next sps
 
 -- without those that are past the last stage
 abbrev pub shown : Pipe → Arrays → List ℕ → List Spot → List Thread
 shown p arrays args [] = []
 shown p arrays args (sp ∷ sps) =
-    (if nat_lt sp.stage (length p.stages) then seat p (with_guess arrays sp.hint) args sp ∷ [] else [])
+    (if nat_lt sp.stage (length p.stages) then seat p (with_hint arrays sp.hint) args sp ∷ [] else [])
     ++ shown p (thread p arrays args).arrays (thread p arrays args).next sps
 
 -- whether there is no spot
@@ -74,7 +74,7 @@ pub now_seat : (p : Pipe) (st : State) (bits : List Bool) (world : World) (args 
 now_seat p st bits world args sp =
     ap (λ l. record {
       stage = sp.stage;
-      hint = world.guess;
+      hint = world.hint;
       env = with_answers p st bits (awaited_of sp.asks) sp.env;
       entries = (so_far p world args sp.stage).entries;
       guess = (so_far p world args sp.stage).guess;
@@ -112,9 +112,9 @@ pub record Here (p : Pipe) (acc : Course p) (asked : List (Option ℕ)) (past w 
 abbrev pub Standing : (p : Pipe) → Course p → List (Option ℕ) → Writes → Writes → Marks → Arrays → List ℕ → List ℕ → List Spot → Type 0
 Standing p acc asked past w v arrays args ahead [] = (m : ℕ) → w m ≡ past m ++ strips m (v m)
 Standing p acc asked past w v arrays args ahead (sp ∷ sps) =
-    Here p acc asked past w v (with_guess arrays sp.hint) args ahead sp (is_nil sps)
+    Here p acc asked past w v (with_hint arrays sp.hint) args ahead sp (is_nil sps)
     × Standing p acc asked past (λ m. w m ++ of_mem m (thread p arrays args).writes)
-    (λ m. v m ++ marks p (with_guess arrays sp.hint) args sp.stage m)
+    (λ m. v m ++ marks p (with_hint arrays sp.hint) args sp.stage m)
     (thread p arrays args).arrays (thread p arrays args).next (sp.stage ∷ ahead) sps
 
 -- what is known of the older threads: v is what they have undone at the start, d what they commit, v' what they have undone at the end, and what they ask for
@@ -148,10 +148,11 @@ module _ (p : Pipe) (acc : Course p) (image : Arrays) (st : State) (past : Write
       (world : World) (args : List ℕ) (ahead ahead' : List ℕ) (sp : Spot) (last : Bool)
       → RowsAt image w world.words → Behind p acc older v v' d asks ahead ahead'
       → Here p acc st.asked past w v world args ahead sp last
-      → Surrounds p (around p st bits older sp.stage world.guess) world sp.stage (Clean p v)
+      → Surrounds p (around p st bits older sp.stage world.hint) world sp.stage (Clean p v)
   surrounds bits older v v' d w asks world args ahead ahead' sp last rows' b h =
       record {
         guess = refl;
+        update = refl;
         plain = λ m a k. right m a (early m k) (late m k) (plain_ready (mem_at p m).lock _ k);
         readable = λ m a f c r. ap (read_ready (mem_at p m).lock) (sym (b.fits m a sp.stage h.under f)) ∙ r;
         right = right;
@@ -208,7 +209,7 @@ module _ (p : Pipe) (acc : Course p) (image : Arrays) (st : State) (past : Write
       now_seat p st bits world args sp
       ∙ ap₂ (λ x l. record {
         stage = sp.stage;
-        hint = world.guess;
+        hint = world.hint;
         env = x;
         entries = (so_far p world args sp.stage).entries;
         guess = (so_far p world args sp.stage).guess;
@@ -228,5 +229,5 @@ Last p stray made s (Some x) strays = Strays p stray made s strays
 -- the threads behind those of these turns are strays, none if the last one has made no successor
 abbrev pub Tail : (p : Pipe) → (Thread → Type 0) → (Thread → Bool) → Arrays → List ℕ → List Spot → List Thread → Type 0
 Tail p stray made arrays args [] strays = strays ≡ []
-Tail p stray made arrays args (sp ∷ []) strays = Last p stray made sp.stage (so_far p (with_guess arrays sp.hint) args sp.stage).child strays
+Tail p stray made arrays args (sp ∷ []) strays = Last p stray made sp.stage (so_far p (with_hint arrays sp.hint) args sp.stage).child strays
 Tail p stray made arrays args (sp ∷ sp' ∷ sps) strays = Tail p stray made (thread p arrays args).arrays (thread p arrays args).next (sp' ∷ sps) strays

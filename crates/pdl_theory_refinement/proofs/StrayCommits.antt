@@ -2,7 +2,7 @@
 use Rattle.std.proofs.Common.{◌≡◌, refl, sym, ap, ap₂, ◌∙◌, subst, ℕ, ◌≤◌, ◌<◌, inl, inr, Bool, true, false, ◌&&◌, ◌||◌, not, List, [], ◌∷◌, ◌++◌, length, Option, Some, None, is_none, is_some, nat_lt, cond, if◌then◌else◌, arith, le_of_lt, le_refl, ltb-true, ltb-false, lt_of_lt_of_le, lt-ltb}
 use Rattle.pdl_semantics.specs.Flat.{Pipe}
 use Rattle.pdl_semantics.specs.Stages.{list_any, verify_stage}
-use Rattle.pdl_theory_derived.specs.Derived.{Thread, State, Act, work_of_stage, around, act, acts, befores, survivors, commits_of, moved_to, born_threads, exit_of, barrier_clear, answered_thread}
+use Rattle.pdl_theory_derived.specs.Derived.{Hint, Thread, State, Act, work_of_stage, around, act, acts, befores, survivors, commits_of, moved_to, born_threads, exit_of, barrier_clear, answered_thread}
 use Rattle.pdl_theory_derived.proofs.Writes.{and_left, and_right}
 use Rattle.pdl_theory_turns.proofs.TurnFacts.{Below, Trunk, next_of}
 use Rattle.pdl_theory_facts.proofs.Nested.{within_all}
@@ -16,7 +16,7 @@ use Rattle.pdl_theory_refinement.proofs.Cycles.{none_left}
 use Rattle.pdl_word.proofs.Bools.{by_bool}
 
 -- what a cycle leaves of the threads after a wrong guess: nothing committed, none ended, all behind the one that guessed
-pub record StraysAfter (p : Pipe) (g : List ℕ) (stray : Thread → Type 0) (made : Thread → Bool) (bound' : ℕ) (none : Bool) (these : List Act) : Type 0 where
+pub record StraysAfter (p : Pipe) (g : Hint) (stray : Thread → Type 0) (made : Thread → Bool) (bound' : ℕ) (none : Bool) (these : List Act) : Type 0 where
   pub commits : commits_of these ≡ []
   pub strays : Strays p stray made bound' (survivors p g these)
   pub ended : list_any (λ a. a.moves && is_none (exit_of p a)) these ≡ false
@@ -32,7 +32,7 @@ ahead_next p v older bound bound' s s' a h low b up is moved =
     none false c e = refl
 
 -- a stray thread that stands
-stray_stands : (p : Pipe) (g : List ℕ) (f : Course p) (a : Act) (rest : List Act) (bound' : ℕ) (none : Bool)
+stray_stands : (p : Pipe) (g : Hint) (f : Course p) (a : Act) (rest : List Act) (bound' : ℕ) (none : Bool)
     → a.moves ≡ false → f.stray a.now → Below p [] bound' a.now.stage → f.made a.now ≡ not none
     → StraysAfter p g f.stray f.made a.now.stage none rest → StraysAfter p g f.stray f.made bound' false (a ∷ rest)
 stray_stands p g f a rest bound' none stays s low made r =
@@ -50,7 +50,7 @@ stray_stands p g f a rest bound' none stays s low made r =
         (a.now ∷ survivors p g rest)) stays
 
 -- one that moves
-stray_moves : (p : Pipe) (g : List ℕ) (f : Course p) (t : Thread) (a : Act) (rest : List Act) (bound' n : ℕ) (none : Bool)
+stray_moves : (p : Pipe) (g : Hint) (f : Course p) (t : Thread) (a : Act) (rest : List Act) (bound' n : ℕ) (none : Bool)
     → a.moves ≡ true → Strayed p f.stray f.made t a.work → exit_of p a ≡ Some n → n ≡ next_of p t.stage a.work.env
     → 0 < n → Below p [] bound' n → f.made t ≡ not none → a.now.hint ≡ t.hint
     → StraysAfter p g f.stray f.made n none rest
@@ -146,7 +146,7 @@ stray_moves p g f t a rest bound' n none goes h out is more low made hinted r =
         )
 
 -- a cycle of the threads after a wrong guess
-pub strays_cycle : (p : Pipe) (g : List ℕ) (f : Course p)
+pub strays_cycle : (p : Pipe) (g : Hint) (f : Course p)
     → verify_stage p.stmts ≡ Some f.v
     → (st : State) (bits : List Bool) (older : List Act) (bound bound' : ℕ) (ts : List Thread)
     → Ahead p f.v older bound bound' → Strays p f.stray f.made bound ts

@@ -2,11 +2,11 @@
 use Rattle.std.proofs.Common.{◌≡◌, refl, sym, ap, ap₂, ◌∙◌, subst, ℕ, suc, ◌≤◌, ◌<◌, ◌⊎◌, inl, inr, Bool, true, false, ◌&&◌, ◌||◌, not, List, [], ◌∷◌, ◌++◌, length, Some, None, ◌==◌, nat_lt, nat_le, cond, arith, ltb-true, ltb-false, leb-true, leb-false, le_refl, eq-eqb}
 use Rattle.std.proofs.lemmas.Bool.{eqb-true, eqb-false, ne_eqb}
 use Rattle.pdl_semantics.specs.Flat.{list_all, Pipe, Branch, Op, DelayedRead, Stmt, all_hold}
-use Rattle.pdl_semantics.specs.Stages.{onpath, in_stage, stage_at, goes_to, is_inside, commit_stage, verify_stage, is_check}
+use Rattle.pdl_semantics.specs.Stages.{onpath, in_stage, stage_at, goes_to, is_inside, commit_stage, verify_stage, is_check, is_verify}
 use Rattle.pdl_semantics.specs.Sound.{stages_before, stages_from, is_fetch, is_call, is_delayed_read, is_spec_call}
 use Rattle.pdl_theory_derived.specs.Alone.{before, answered_op}
 use Rattle.pdl_theory_facts.specs.Scans.{Phase, Fresh, next_phase, phase_all, is_over, none_of, binds_var, is_dead}
-use Rattle.pdl_theory_facts.specs.GuessScans.{Unmade, makings_ok, checks_apart}
+use Rattle.pdl_theory_facts.specs.GuessScans.{Unmade, makings_ok, checks_apart, is_update, once}
 use Rattle.pdl_theory_facts.specs.Graphs.{Home, Within, Below, Way, stage_or, next_of}
 use Rattle.pdl_theory_facts.proofs.Nested.{arrives}
 use Rattle.pdl_theory_facts.specs.Facts.{is_fetch_of, none_like, alone_op, fetch_apart, Found, FetchIf, AllFetches, looked_all, at_once, visits_stage, defined_by, late_for, Sound}
@@ -16,7 +16,7 @@ use Rattle.pdl_theory_turns.proofs.Paths.{dead_none, stage_path}
 use Rattle.pdl_theory_turns.proofs.Looks.{path_looked}
 use Rattle.pdl_theory_turns.proofs.StrayPaths.{fixed_looked}
 use Rattle.pdl_theory_turns.proofs.CourseOf.{all_at_looked}
-use Rattle.pdl_theory_simulation.proofs.FlowScans.{uses_of, calls_of, apart_of}
+use Rattle.pdl_theory_simulation.proofs.FlowScans.{uses_of, calls_of, apart_of, once_looked, update_or_verify}
 use Rattle.pdl_theory_simulation.proofs.RuleFacts.{all_map, before_path, from_path, flows_of_rules}
 use Rattle.pdl_word.proofs.Bools.{by_bool, by_or}
 use Rattle.pdl_word.proofs.Lists.{tail_same}
@@ -388,6 +388,13 @@ module _ (p : Pipe) (acc : Sound p) where
       (subst (λ l. makings_ok (verify_stage (at_once p).stmts) Unmade l ≡ true) (path_looked path p.stmts) (acc.pathwise.makings path))
       (subst (λ l. checks_apart None l ≡ true) (path_looked path p.stmts) (acc.pathwise.apart path)))
 
+  apart_update : (path : List ℕ) (s : ℕ)
+      → (none_of is_update (onpath path (in_stage s p.stmts)) ≡ true) ⊎ (none_of is_verify (onpath path (in_stage s p.stmts)) ≡ true)
+  apart_update path s =
+      subst (λ l. (none_of is_update l ≡ true) ⊎ (none_of is_verify l ≡ true)) (stage_path path s p.stmts)
+      (update_or_verify (verify_stage (at_once p).stmts) s Unmade (onpath path p.stmts)
+      (subst (λ l. makings_ok (verify_stage (at_once p).stmts) Unmade l ≡ true) (path_looked path p.stmts) (acc.pathwise.makings path)))
+
   -- the facts of the simulation
 
   -- a sound pipe has the facts that the simulation takes, in the form in which the rules give them
@@ -424,6 +431,9 @@ module _ (p : Pipe) (acc : Sound p) where
             ∙ calls_of (verify_stage (at_once p).stmts) Unmade (onpath path (at_once p).stmts) (acc.pathwise.makings path);
         advice = acc.advice;
         guess_apart = apart_guess;
+        updates =
+            λ path. sym (once_looked false (onpath path p.stmts)) ∙ ap (once is_update false) (sym (path_looked path p.stmts)) ∙ acc.pathwise.updated path;
+        update_apart = apart_update;
         one_fetch = λ m. one_there m (acc.fetch m) p.stmts (all_map (λ y f e. sym (f m e).0) p.stmts fetched) (acc.fetch_alone (acc.fetch m));
         fetch_inside = acc.fetch_inside;
       }

@@ -1,9 +1,9 @@
 -- Advisory writes leave every other memory as it is.
 use Rattle.std.proofs.Common.{◌≡◌, refl, sym, ap, ap₂, ◌∙◌, ℕ, Bool, true, false, ◌&&◌, List, [], ◌∷◌, ◌++◌, ◌==◌, cond, if◌then◌else◌, Some}
 use Rattle.std.proofs.lemmas.Bool.{eqb-true}
-use Rattle.pdl_semantics.specs.Flat.{Arrays, with_value, is_advisory, list_all, Op, AdviceWrite, Verify, Stmt, Pipe, values_of, all_hold}
+use Rattle.pdl_semantics.specs.Flat.{Arrays, with_value, is_advisory, list_all, Op, AdviceWrite, Verify, Stmt, Pipe, all_hold}
 use Rattle.pdl_semantics.specs.Stages.{in_stage, mem_at}
-use Rattle.pdl_semantics.specs.Machine.{Advised, Deeds, same_args, deeds_after_all}
+use Rattle.pdl_semantics.specs.Machine.{Advised, Deeds, same_args, deeds_after_all, checked_args}
 use Rattle.pdl_semantics.specs.Machine
 use Rattle.pdl_semantics.specs.Moves.{Act, movers}
 use Rattle.pdl_semantics.specs.Cycle.{with_advised, with_all_advised}
@@ -28,9 +28,9 @@ module _ (p : Pipe) where
   advises_op : (read : ℕ → ℕ → ℕ) (op : Op) (d : Deeds)
       → fits_kind p op ≡ true → AllAdvisory p d.advises → AllAdvisory p (Machine.deeds_after read op d).advises
   advises_op read (AdviceWrite m a e) d f h = one_more d.advises _ h f
-  advises_op read (Verify last args) d f h = at (same_args (values_of args d.env) d.guess)
+  advises_op read (Verify last args) d f h = at (same_args (checked_args last args d) d.guess)
     where
-      at : (b : Bool) → AllAdvisory p (cond b d (record d { child = Some (values_of args d.env); guess = values_of args d.env; fails = true })).advises
+      at : (b : Bool) → AllAdvisory p (cond b d (record d { child = Some (checked_args last args d); guess = checked_args last args d; fails = true })).advises
       at true = h
       at false = h
   advises_op read _ d f h = h

@@ -10,6 +10,7 @@ pub use Rattle.pdl_theory_facts.specs.Graphs.{Home, Within, Trunk, Below, Way, s
 use Rattle.pdl_theory_derived.specs.Alone.{is_among}
 use Rattle.pdl_theory_facts.specs.Scans.{Phase, Fresh, next_phase, may_write, is_new, is_over, phase_all, all_at, none_of, binds_var, is_fixed}
 pub use Rattle.pdl_theory_facts.specs.Facts.{trunk_only, binds_guard, is_fetch_of, comes_by, visits_stage}
+use Rattle.pdl_theory_facts.specs.GuessScans.{is_update, once}
 
 -- a statement that gives variable x its value in its own stage
 abbrev pub sets : ℕ → Op → Bool
@@ -147,6 +148,11 @@ pub record Flows (p : Pipe) : Type 0 where
   -- S2, S3: a stage of a path that makes a guess verifies none
   pub guess_apart : (path : List ℕ) (s : ℕ)
       → (none_of is_spec_call (onpath path (in_stage s p.stmts)) ≡ true) ⊎ (none_of is_check (onpath path (in_stage s p.stmts)) ≡ true)
+  -- S6: each path has one update at most
+  pub updates : (path : List ℕ) → once is_update false (onpath path p.stmts) ≡ true
+  -- S3, S6: a stage of a path that updates a guess verifies none
+  pub update_apart : (path : List ℕ) (s : ℕ)
+      → (none_of is_update (onpath path (in_stage s p.stmts)) ≡ true) ⊎ (none_of is_verify (onpath path (in_stage s p.stmts)) ≡ true)
   -- F3: no second delayed read statement of one memory, and none in the last stage
   pub one_fetch : (m : ℕ) → at_most_one (is_delayed_read m) p.stmts ≡ true
   pub fetch_inside : (s : ℕ) → suc s ≡ length p.stages → none_of is_fetch (in_stage s p.stmts) ≡ true
@@ -203,6 +209,11 @@ pub record FlowRules (p : Pipe) : Type 0 where
   -- S2, S3: a stage of a path that makes a guess verifies none
   pub guess_apart : (path : List ℕ) (s : ℕ)
       → (none_of is_spec_call (onpath path (in_stage s p.stmts)) ≡ true) ⊎ (none_of is_check (onpath path (in_stage s p.stmts)) ≡ true)
+  -- S6: each path has one update at most
+  pub updates : (path : List ℕ) → once is_update false (onpath path p.stmts) ≡ true
+  -- S3, S6: a stage of a path that updates a guess verifies none
+  pub update_apart : (path : List ℕ) (s : ℕ)
+      → (none_of is_update (onpath path (in_stage s p.stmts)) ≡ true) ⊎ (none_of is_verify (onpath path (in_stage s p.stmts)) ≡ true)
   -- F3
   pub one_fetch : (m : ℕ) → at_most_one (is_delayed_read m) p.stmts ≡ true
   pub fetch_inside : (s : ℕ) → suc s ≡ length p.stages → none_of is_fetch (in_stage s p.stmts) ≡ true

@@ -1,12 +1,12 @@
 -- What the scans of locks and calls tell the simulation.
-use Rattle.std.proofs.Common.{◌≡◌, refl, ap, ap₂, ◌∙◌, ℕ, ◌&&◌, ◌||◌, not, List, [], ◌∷◌, Option, true, false, sym, ◌⊎◌, inl, inr, Bool, Some, ◌==◌, cond, subst}
+use Rattle.std.proofs.Common.{◌≡◌, refl, ap, ap₂, ◌∙◌, ℕ, ◌&&◌, ◌||◌, not, List, [], ◌∷◌, Option, true, false, sym, ◌⊎◌, inl, inr, Bool, Some, ◌==◌, cond, subst, None, nat_lt, ◌<◌, arith, ltb-true}
 use Rattle.std.proofs.lemmas.Bool.{eqb-true}
-use Rattle.pdl_semantics.specs.Flat.{Op, Write, ReserveWrite, Release, SpecCall, Verify, Call, Stmt}
-use Rattle.pdl_semantics.specs.Stages.{in_stage, is_check}
+use Rattle.pdl_semantics.specs.Flat.{Op, Write, ReserveWrite, Release, SpecCall, Verify, Call, Stmt, DelayedRead}
+use Rattle.pdl_semantics.specs.Stages.{in_stage, is_check, is_verify}
 use Rattle.pdl_theory_derived.specs.Alone.{answered_op}
 use Rattle.pdl_theory_facts.specs.Scans.{Phase, phase_ok, phases_ok, next_phase, none_of}
 use Rattle.pdl_theory_facts.specs.Facts.{looked_all}
-use Rattle.pdl_theory_facts.specs.GuessScans.{Making, Unmade, Guessed, Made, next_making, is_unmade, is_guessed, making_ok, makings_ok, guess_stage, check_apart, checks_apart}
+use Rattle.pdl_theory_facts.specs.GuessScans.{Making, Unmade, Guessed, Made, next_making, is_unmade, is_guessed, making_ok, makings_ok, guess_stage, check_apart, checks_apart, is_update, once, stands_at, stands_before}
 use Rattle.pdl_theory_simulation.proofs.FlowFacts.{use_ok, uses_ok, call_ok, calls_ok}
 use Rattle.pdl_theory_derived.proofs.Writes.{and_left, and_right}
 use Rattle.pdl_semantics.specs.Sound.{is_call, is_spec_call}
@@ -164,3 +164,58 @@ apart_of v s k g (x ∷ xs) h c =
     by : (b : Bool) → is_unmade k ≡ b → Apart (in_stage s xs) → Apart (in_stage s (x ∷ xs))
     by true u r = first (is_spec_call x.op) refl u r
     by false u r = inl (unguessed v s k (x ∷ xs) u h)
+
+-- UPDATES
+
+is_update_looked : (op : Op) → is_update (answered_op op) ≡ is_update op
+is_update_looked (DelayedRead x m a) = refl
+is_update_looked _ = refl
+
+-- updates stand among statements as they do where delayed reads have their answers at once
+pub once_looked : (been : Bool) (xs : List Stmt) → once is_update been (looked_all xs) ≡ once is_update been xs
+once_looked been [] = refl
+once_looked been (x ∷ xs) =
+    ap (λ b. not (been && b) && once is_update (been || b) (looked_all xs)) (is_update_looked x.op)
+    ∙ ap (λ c. not (been && is_update x.op) && c) (once_looked (been || is_update x.op) xs)
+
+update_low : (v : Option ℕ) (k : Making) (s : ℕ) (op : Op)
+    → stands_before v s ≡ false → making_ok v k s (answered_op op) ≡ true → not (is_update op) ≡ true
+update_low v k s (Verify true args) e h = refl
+update_low v k s (Verify false args) e h = absurd (clash (sym e ∙ and_right (is_guessed k) _ h))
+update_low v k s _ e h = refl
+
+verify_there : (v : Option ℕ) (k : Making) (s : ℕ) (op : Op)
+    → stands_at v s ≡ false → making_ok v k s (answered_op op) ≡ true → not (is_verify op) ≡ true
+verify_there v k s (Verify true args) e h = absurd (clash (sym e ∙ and_right (is_guessed k) _ h))
+verify_there v k s (Verify false args) e h = refl
+verify_there v k s _ e h = refl
+
+-- a kind of statement that stage s of a path can't have has none there
+none_here : (test : Op → Bool) (v : Option ℕ) (s : ℕ) (k : Making) (xs : List Stmt)
+    → ((k : Making) (op : Op) → making_ok v k s (answered_op op) ≡ true → not (test op) ≡ true) → makings_ok v k (looked_all xs) ≡ true
+    → none_of test (in_stage s xs) ≡ true
+none_here test v s k [] f h = refl
+none_here test v s k (x ∷ xs) f h =
+    at (x.stage == s) refl (none_here test v s (next_making k (answered_op x.op)) xs f (and_right (making_ok v k x.stage (answered_op x.op)) _ h))
+  where
+    at : (b : Bool) → (x.stage == s) ≡ b → none_of test (in_stage s xs) ≡ true → none_of test (cond b (x ∷ in_stage s xs) (in_stage s xs)) ≡ true
+    at true e r =
+        ap₂ (λ a b. a && b) (f k x.op (subst (λ q. making_ok v k q (answered_op x.op) ≡ true) (eqb-true _ _ e) (and_left _ _ h))) r
+    at false e r = r
+
+-- a stage of a path that updates a guess verifies none
+pub update_or_verify : (v : Option ℕ) (s : ℕ) (k : Making) (xs : List Stmt) → makings_ok v k (looked_all xs) ≡ true
+    → (none_of is_update (in_stage s xs) ≡ true) ⊎ (none_of is_verify (in_stage s xs) ≡ true)
+update_or_verify v s k xs h = at (stands_at v s) refl
+  where
+    not_before : (w : Option ℕ) → stands_at w s ≡ true → stands_before w s ≡ false
+    not_before None e = absurd (clash e)
+    not_before (Some q) e = by (nat_lt s q) refl
+      where
+        by : (b : Bool) → nat_lt s q ≡ b → nat_lt s q ≡ false
+        by true i = absurd (let j : s ≡ q = eqb-true s q e in let u : s < q = ltb-true s q i in omega arith)
+        by false i = i
+
+    at : (b : Bool) → stands_at v s ≡ b → (none_of is_update (in_stage s xs) ≡ true) ⊎ (none_of is_verify (in_stage s xs) ≡ true)
+    at true e = inl (none_here is_update v s k xs (λ q op i. update_low v q s op (not_before v e) i) h)
+    at false e = inr (none_here is_verify v s k xs (λ q op i. verify_there v q s op e i) h)

@@ -17,7 +17,7 @@ use Rattle.pdl_theory_simulation.proofs.FlowFacts.{Home, Within, Trunk, Way, Flo
 use Rattle.pdl_theory_derived.proofs.Writes.{and_right}
 use Rattle.pdl_theory_simulation.proofs.Stretches.{Behind, left_trunk, fork_left, start_of}
 use Rattle.pdl_theory_simulation.proofs.Seats.{Live, each_map, Ordered, dacts, lacts, lact, did, now_of, deeds_of, work_of_live, advised}
-use Rattle.pdl_theory_simulation.proofs.Choices.{Known, AllKnown, like_here}
+use Rattle.pdl_theory_simulation.proofs.Choices.{Known, AllKnown, like_here, MovesForeseen, AllForeseen}
 use Rattle.pdl_theory_simulation.proofs.ThreadFacts.{someone, behind_someone, sides, sides_append}
 use Rattle.pdl_theory_simulation.proofs.Orders.{sides_none, sides_nobody}
 use Rattle.pdl_theory_simulation.proofs.LockLists.{fell, moved_live, stood, next_live, go_on}
@@ -387,10 +387,10 @@ module _ (p : Pipe) (flows : Flows p) (st : State) (d : Derived.State) (bits : L
         trunk (x ∷ c) e = absurd (cc (sym g ∙ quiet (unchecked_trunk (in_stage l.thread.stage p.stmts) (flows.branches x c l.thread.stage e))))
 
     fell_at : (ls : List Live)
-        → AllKnown p flows st d bits arrays ls → fell p d bits ls ≡ true
+        → AllKnown p flows st d bits arrays ls → AllForeseen p flows st d bits arrays ls → fell p d bits ls ≡ true
         → (v : ℕ) × (squash_stage (ms ls) ≡ Some v) × (someone v ls ≡ true) × Trunk p v × (v < length p.stages)
-    fell_at [] k h = absurd (cc h)
-    fell_at (l ∷ ls) k h = at ((did p d bits ls l).moves && (work_of_live p d bits ls l).fails) refl h (λ i. fell_at ls k.1 i)
+    fell_at [] k u h = absurd (cc h)
+    fell_at (l ∷ ls) k u h = at ((did p d bits ls l).moves && (work_of_live p d bits ls l).fails) refl h (λ i. fell_at ls k.1 u.1 i)
       where
         or_true : (b : Bool) → (b || true) ≡ true
         or_true true = refl
@@ -398,7 +398,7 @@ module _ (p : Pipe) (flows : Flows p) (st : State) (d : Derived.State) (bits : L
 
         is : squash_stage (ms (l ∷ ls)) ≡ (if (did p d bits ls l).moves
             && (work_of_live p d bits ls l).fails then Some l.thread.stage else squash_stage (ms ls))
-        is = squash_stage_is p flows st d bits arrays ls l k.0
+        is = squash_stage_is p flows st d bits arrays ls l k.0 u.0
 
         at : (b : Bool) → ((did p d bits ls l).moves && (work_of_live p d bits ls l).fails) ≡ b → (b || fell p d bits ls) ≡ true
             → (fell p d bits ls ≡ true → (v : ℕ) × (squash_stage (ms ls) ≡ Some v) × (someone v ls ≡ true) × Trunk p v × (v < length p.stages))
@@ -421,9 +421,10 @@ module _ (p : Pipe) (flows : Flows p) (st : State) (d : Derived.State) (bits : L
 
     -- who is behind the one that fails is not it
     same_squash : (ls : List Live) (l : Live)
-        → Known p flows st d bits arrays ls l → fell p d bits ls ≡ true → squash_stage (ms (l ∷ ls)) ≡ squash_stage (ms ls)
-    same_squash ls l k e =
-        squash_stage_is p flows st d bits arrays ls l k
+        → Known p flows st d bits arrays ls l → MovesForeseen p flows st d bits arrays ls l → fell p d bits ls ≡ true
+        → squash_stage (ms (l ∷ ls)) ≡ squash_stage (ms ls)
+    same_squash ls l k u e =
+        squash_stage_is p flows st d bits arrays ls l k u
         ∙ ap (λ b. if b && (work_of_live p d bits ls l).fails then Some l.thread.stage else squash_stage (ms ls)) (stuck_here p flows st d bits arrays ls l e)
 
     not_here : (b : ℕ) → (is_inside p f b ≡ true → ⊥) → is_inside p f b ≡ false
@@ -441,11 +442,12 @@ module _ (p : Pipe) (flows : Flows p) (st : State) (d : Derived.State) (bits : L
     one_side x h = sides_none p f (x ∷ []) (h, tt)
 
     -- a squash leaves the lists of later forks alone; r is its stage
-    pub unmerged_on : (r : Option ℕ) → merges_by p f r ≡ false → (ls : List Live) → AllKnown p flows st d bits arrays ls → Ordered p ls
+    pub unmerged_on : (r : Option ℕ) → merges_by p f r ≡ false → (ls : List Live) → AllKnown p flows st d bits arrays ls
+        → AllForeseen p flows st d bits arrays ls → Ordered p ls
         → (fell p d bits ls ≡ true → squash_stage (ms ls) ≡ r)
         → sides p f (go_on p st d bits ls) ≡ sides p f (all_on ls)
-    unmerged_on r u [] k o is = refl
-    unmerged_on r u (l ∷ ls) k o is = at (fell p d bits ls) refl (unmerged_on r u ls k.1 o.1 stage)
+    unmerged_on r u [] k w o is = refl
+    unmerged_on r u (l ∷ ls) k w o is = at (fell p d bits ls) refl (unmerged_on r u ls k.1 w.1 o.1 stage)
       where
         or_true : (b : Bool) → (b || true) ≡ true
         or_true true = refl
@@ -453,7 +455,7 @@ module _ (p : Pipe) (flows : Flows p) (st : State) (d : Derived.State) (bits : L
 
         stage : fell p d bits ls ≡ true → squash_stage (ms ls) ≡ r
         stage e =
-            sym (same_squash ls l k.0 e)
+            sym (same_squash ls l k.0 w.0 e)
             ∙ is
             (ap (λ b. ((did p d bits ls l).moves && (work_of_live p d bits ls l).fails) || b) e
             ∙ or_true ((did p d bits ls l).moves && (work_of_live p d bits ls l).fails))
@@ -461,7 +463,7 @@ module _ (p : Pipe) (flows : Flows p) (st : State) (d : Derived.State) (bits : L
         removed : fell p d bits ls ≡ true → is_inside p f l.thread.stage ≡ false
         removed e =
             not_here l.thread.stage (λ i.
-            let v = fell_at ls k.1 e in
+            let v = fell_at ls k.1 w.1 e in
             let behind : Behind p l.thread.stage v.0 = behind_someone p l.thread.stage v.0 ls o.0 v.2 in
             let before : f < l.thread.stage = fork_before l.thread.stage i in
             let no_less : v.0 ≤ f = flows.graph.unmerged v.0 f l.thread.stage v.4 v.3 i (subst (λ q. merges_by p f q ≡ false) (sym (stage e) ∙ v.1) u) in
@@ -485,10 +487,11 @@ module _ (p : Pipe) (flows : Flows p) (st : State) (d : Derived.State) (bits : L
             ∙ sym (sides_append p f (next_live p st d bits ls l) (all_on ls))
 
     -- after a squash the list of a fork that merges up to the stage of it is empty
-    pub merged_on : (r : Option ℕ) → merges_by p f r ≡ true → (ls : List Live) → AllKnown p flows st d bits arrays ls → Ordered p ls
+    pub merged_on : (r : Option ℕ) → merges_by p f r ≡ true → (ls : List Live) → AllKnown p flows st d bits arrays ls
+        → AllForeseen p flows st d bits arrays ls → Ordered p ls
         → fell p d bits ls ≡ true → squash_stage (ms ls) ≡ r → sides p f (go_on p st d bits ls) ≡ []
-    merged_on r u [] k o e is = refl
-    merged_on r u (l ∷ ls) k o e is = at (fell p d bits ls) refl (λ i. merged_on r u ls k.1 o.1 i (sym (same_squash ls l k.0 i) ∙ is))
+    merged_on r u [] k w o e is = refl
+    merged_on r u (l ∷ ls) k w o e is = at (fell p d bits ls) refl (λ i. merged_on r u ls k.1 w.1 o.1 i (sym (same_squash ls l k.0 w.0 i) ∙ is))
       where
         -- where no older thread fails a verify, the first one does
         here : fell p d bits ls ≡ false → ((did p d bits ls l).moves && (work_of_live p d bits ls l).fails) ≡ true
@@ -512,7 +515,7 @@ module _ (p : Pipe) (flows : Flows p) (st : State) (d : Derived.State) (bits : L
             trunk = fails_at ls l (and_right (did p d bits ls l).moves (work_of_live p d bits ls l).fails (here g))
 
             stage : r ≡ Some l.thread.stage
-            stage = sym is ∙ squash_stage_is p flows st d bits arrays ls l k.0 ∙ ap (λ b. if b then Some l.thread.stage else squash_stage (ms ls)) (here g)
+            stage = sym is ∙ squash_stage_is p flows st d bits arrays ls l k.0 w.0 ∙ ap (λ b. if b then Some l.thread.stage else squash_stage (ms ls)) (here g)
 
             outside : (b : ℕ) → l.thread.stage ≤ b → is_inside p f b ≡ false
             outside b h =
@@ -542,17 +545,18 @@ module _ (p : Pipe) (flows : Flows p) (st : State) (d : Derived.State) (bits : L
     born_side n (Some x) xs = ap (λ b. sides p f xs ++ sides_of f b) flows.graph.trunk_start ∙ append-nil _
 
     -- the list of fork f after the cycle
-    pub fork_next : (n : ℕ) (c : Option (List ℕ)) (ls : List Live) → AllKnown p flows st d bits arrays ls → Ordered p ls
+    pub fork_next : (n : ℕ) (c : Option (List ℕ)) (ls : List Live) → AllKnown p flows st d bits arrays ls
+        → AllForeseen p flows st d bits arrays ls → Ordered p ls
         → Cycle.branches_left p (squash_stage (ms ls)) f ((if has_left p f (ms ls) then but_first (sides p f ls) else sides p f ls)
         ++ entered_branches p f (ms ls))
         ≡ sides p f (born_live p (d.hints 0) n c ++ go_on p st d bits ls)
-    fork_next n c ls k o =
+    fork_next n c ls k w o =
         ap (λ l. if merges_by p f (squash_stage (ms ls)) then [] else l) (list_all_on ls k o)
         ∙ at (fell p d bits ls) refl (merges_by p f (squash_stage (ms ls))) refl ∙ sym (born_side n c (go_on p st d bits ls))
       where
         at : (g : Bool) → fell p d bits ls ≡ g → (b : Bool) → merges_by p f (squash_stage (ms ls)) ≡ b
             → (if b then [] else sides p f (all_on ls)) ≡ sides p f (go_on p st d bits ls)
-        at true e true i = sym (merged_on (squash_stage (ms ls)) i ls k o e refl)
-        at true e false i = sym (unmerged_on (squash_stage (ms ls)) i ls k o (λ _. refl))
-        at false e true i = absurd (cc (sym i ∙ ap (merges_by p f) (no_squash_stage p flows st d bits arrays ls k e)))
+        at true e true i = sym (merged_on (squash_stage (ms ls)) i ls k w o e refl)
+        at true e false i = sym (unmerged_on (squash_stage (ms ls)) i ls k w o (λ _. refl))
+        at false e true i = absurd (cc (sym i ∙ ap (merges_by p f) (no_squash_stage p flows st d bits arrays ls k w e)))
         at false e false i = sym (calm_on ls e)

@@ -1,5 +1,6 @@
 pub mod FlowFacts
 pub mod Shapes
+pub mod Onces
 pub mod Stretches
 pub mod StretchSteps
 pub mod Guessing
@@ -15,6 +16,7 @@ pub mod Requests
 pub mod PerMemory
 pub mod SimulatedStates
 pub mod Advising
+pub mod CycleStarts
 pub mod WholeSimulation
 pub mod SimulatedRuns
 pub mod Foretold

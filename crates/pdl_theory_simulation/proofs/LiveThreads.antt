@@ -69,7 +69,7 @@ none_fails p (x ∷ xs) h = at (x.moves && x.work.fails) h (none_fails p xs)
     at false h f = f h
 
 -- what follows a list of acts of which one fails
-survivors_more : (p : Pipe) (g : List ℕ) (xs : List Derived.Act) (b : Derived.Act)
+survivors_more : (p : Pipe) (g : Derived.Hint) (xs : List Derived.Act) (b : Derived.Act)
     → survivors p g (xs ++ b ∷ []) ≡ survivors p g xs
     ++ (if list_any (λ (o : Derived.Act). o.moves && o.work.fails) xs then [] else survivors p g (b ∷ []))
 survivors_more p g [] b = refl
@@ -92,7 +92,7 @@ survivors_more p g (a ∷ xs) b = at a.moves a.work.fails (survivors_more p g xs
     at false f h = ap (λ l. a.now ∷ l) h
 
 -- the new live thread, if one is made
-abbrev pub born_live : Pipe → List ℕ → ℕ → Option (List ℕ) → List Live
+abbrev pub born_live : Pipe → Derived.Hint → ℕ → Option (List ℕ) → List Live
 born_live p g n None = []
 born_live p g n (Some args) = record { number = n; thread = fresh p g args; env = (fresh p g args).env; kept = []; advice = [] } ∷ []
 
@@ -281,26 +281,27 @@ module _ (p : Pipe) (flows : Flows p) (st : State) (d : Derived.State) (bits : L
 
   -- THE SQUASHER
 
-  squash_is : (ls : List Live) → AllKnown p flows st d bits arrays ls → (l : Live) → Known p flows st d bits arrays ls l
+  squash_is : (ls : List Live) (l : Live) → Known p flows st d bits arrays ls l → MovesForeseen p flows st d bits arrays ls l
       → squasher (movers (lacts p st d bits (l ∷ ls)))
       ≡ (if (did p d bits ls l).moves && (work_of_live p d bits ls l).fails then Some l.number else squasher (movers (lacts p st d bits ls)))
-  squash_is ls k l h = at (did p d bits ls l).moves
+  squash_is ls l h u = at (did p d bits ls l).moves (fails_here p flows st d bits arrays ls l h u)
     where
-      at : (b : Bool)
+      at : (b : Bool) → (b && (deeds_of p st bits l).fails) ≡ (b && (work_of_live p d bits ls l).fails)
           → squasher (cond b (lact p st d bits ls l ∷ movers (lacts p st d bits ls)) (movers (lacts p st d bits ls)))
           ≡ (if b && (work_of_live p d bits ls l).fails then Some l.number else squasher (movers (lacts p st d bits ls)))
-      at true = ap (λ f. if f then Some l.number else squasher (movers (lacts p st d bits ls))) (fails_here p flows st d bits arrays ls l h)
-      at false = refl
+      at true e = ap (λ f. if f then Some l.number else squasher (movers (lacts p st d bits ls))) e
+      at false e = refl
 
   -- where a verify fails, a thread squashes, and its number is below n
-  squash_low : (n : ℕ) (ls : List Live) → AllKnown p flows st d bits arrays ls → Falls n ls → fell p d bits ls ≡ true
+  squash_low : (n : ℕ) (ls : List Live) → AllKnown p flows st d bits arrays ls → AllForeseen p flows st d bits arrays ls → Falls n ls
+      → fell p d bits ls ≡ true
       → (k : ℕ) × (squasher (movers (lacts p st d bits ls)) ≡ Some k) × (k < n)
-  squash_low n [] k f h = absurd (cc h)
-  squash_low n (l ∷ ls) k f h = at ((did p d bits ls l).moves && (work_of_live p d bits ls l).fails) refl h (λ i. squash_low l.number ls k.1 f.1 i)
+  squash_low n [] k u f h = absurd (cc h)
+  squash_low n (l ∷ ls) k u f h = at ((did p d bits ls l).moves && (work_of_live p d bits ls l).fails) refl h (λ i. squash_low l.number ls k.1 u.1 f.1 i)
     where
       is : squasher (movers (lacts p st d bits (l ∷ ls)))
           ≡ (if (did p d bits ls l).moves && (work_of_live p d bits ls l).fails then Some l.number else squasher (movers (lacts p st d bits ls)))
-      is = squash_is ls k.1 l k.0
+      is = squash_is ls l k.0 u.0
 
       at : (b : Bool) → ((did p d bits ls l).moves && (work_of_live p d bits ls l).fails) ≡ b → (b || fell p d bits ls) ≡ true
           → (fell p d bits ls ≡ true → (k : ℕ) × (squasher (movers (lacts p st d bits ls)) ≡ Some k) × (k < l.number))
@@ -309,9 +310,10 @@ module _ (p : Pipe) (flows : Flows p) (st : State) (d : Derived.State) (bits : L
       at false e g r = let s = r g in
           (s.0, is ∙ ap (λ b. if b then Some l.number else squasher (movers (lacts p st d bits ls))) e ∙ s.1, (let i = s.2 in let j = f.0 in omega arith))
 
-  squash_none : (ls : List Live) → AllKnown p flows st d bits arrays ls → fell p d bits ls ≡ false → squasher (movers (lacts p st d bits ls)) ≡ None
-  squash_none [] k h = refl
-  squash_none (l ∷ ls) k h = squash_is ls k.1 l k.0 ∙ at ((did p d bits ls l).moves && (work_of_live p d bits ls l).fails) h (squash_none ls k.1)
+  squash_none : (ls : List Live) → AllKnown p flows st d bits arrays ls → AllForeseen p flows st d bits arrays ls
+      → fell p d bits ls ≡ false → squasher (movers (lacts p st d bits ls)) ≡ None
+  squash_none [] k u h = refl
+  squash_none (l ∷ ls) k u h = squash_is ls l k.0 u.0 ∙ at ((did p d bits ls l).moves && (work_of_live p d bits ls l).fails) h (squash_none ls k.1 u.1)
     where
       at : (b : Bool) → (b || fell p d bits ls) ≡ false
           → (fell p d bits ls ≡ false → squasher (movers (lacts p st d bits ls)) ≡ None)
@@ -320,21 +322,22 @@ module _ (p : Pipe) (flows : Flows p) (st : State) (d : Derived.State) (bits : L
       at false g r = r g
 
   -- its stage
-  pub squash_stage_is : (ls : List Live) → (l : Live) → Known p flows st d bits arrays ls l
+  pub squash_stage_is : (ls : List Live) → (l : Live) → Known p flows st d bits arrays ls l → MovesForeseen p flows st d bits arrays ls l
       → squash_stage (movers (lacts p st d bits (l ∷ ls))) ≡ (if (did p d bits ls l).moves
       && (work_of_live p d bits ls l).fails then Some l.thread.stage else squash_stage (movers (lacts p st d bits ls)))
-  squash_stage_is ls l h = at (did p d bits ls l).moves
+  squash_stage_is ls l h u = at (did p d bits ls l).moves (fails_here p flows st d bits arrays ls l h u)
     where
-      at : (b : Bool)
+      at : (b : Bool) → (b && (deeds_of p st bits l).fails) ≡ (b && (work_of_live p d bits ls l).fails)
           → squash_stage (cond b (lact p st d bits ls l ∷ movers (lacts p st d bits ls)) (movers (lacts p st d bits ls)))
           ≡ (if b && (work_of_live p d bits ls l).fails then Some l.thread.stage else squash_stage (movers (lacts p st d bits ls)))
-      at true = ap (λ f. if f then Some l.thread.stage else squash_stage (movers (lacts p st d bits ls))) (fails_here p flows st d bits arrays ls l h)
-      at false = refl
+      at true e = ap (λ f. if f then Some l.thread.stage else squash_stage (movers (lacts p st d bits ls))) e
+      at false e = refl
 
   -- where no thread moves with a failing check there is no squash, so it has no stage
-  pub no_squash_stage : (ls : List Live) → AllKnown p flows st d bits arrays ls → fell p d bits ls ≡ false → squash_stage (movers (lacts p st d bits ls)) ≡ None
-  no_squash_stage [] k h = refl
-  no_squash_stage (l ∷ ls) k h = squash_stage_is ls l k.0 ∙ at ((did p d bits ls l).moves && (work_of_live p d bits ls l).fails) h (no_squash_stage ls k.1)
+  pub no_squash_stage : (ls : List Live) → AllKnown p flows st d bits arrays ls → AllForeseen p flows st d bits arrays ls
+      → fell p d bits ls ≡ false → squash_stage (movers (lacts p st d bits ls)) ≡ None
+  no_squash_stage [] k u h = refl
+  no_squash_stage (l ∷ ls) k u h = squash_stage_is ls l k.0 u.0 ∙ at ((did p d bits ls l).moves && (work_of_live p d bits ls l).fails) h (no_squash_stage ls k.1 u.1)
     where
       at : (b : Bool)
           → (b || fell p d bits ls) ≡ false → (fell p d bits ls ≡ false → squash_stage (movers (lacts p st d bits ls)) ≡ None)
@@ -343,13 +346,13 @@ module _ (p : Pipe) (flows : Flows p) (st : State) (d : Derived.State) (bits : L
       at false g r = r g
 
   -- both machines have a squash, or none
-  pub squashes : (n : ℕ) (ls : List Live) → AllKnown p flows st d bits arrays ls → Falls n ls
+  pub squashes : (n : ℕ) (ls : List Live) → AllKnown p flows st d bits arrays ls → AllForeseen p flows st d bits arrays ls → Falls n ls
       → is_some (squasher (movers (lacts p st d bits ls))) ≡ fell p d bits ls
-  squashes n ls k f = at (fell p d bits ls) refl
+  squashes n ls k u f = at (fell p d bits ls) refl
     where
       at : (b : Bool) → fell p d bits ls ≡ b → is_some (squasher (movers (lacts p st d bits ls))) ≡ b
-      at true e = ap is_some (squash_low n ls k f e).1
-      at false e = ap is_some (squash_none ls k e)
+      at true e = ap is_some (squash_low n ls k u f e).1
+      at false e = ap is_some (squash_none ls k u e)
 
   -- without a failing verify all of them stay
   agrees_all : (sq : Option ℕ) (ls : List Live) → Each (λ l. is_kept sq l.number ≡ true) ls → fell p d bits ls ≡ false → Agrees p d bits sq ls
@@ -376,13 +379,14 @@ module _ (p : Pipe) (flows : Flows p) (st : State) (d : Derived.State) (bits : L
   each_stays (l ∷ ls) = (refl, each_stays ls)
 
   -- the squash leaves those that the derived machine leaves
-  pub agrees : (n : ℕ) (ls : List Live) → AllKnown p flows st d bits arrays ls → Falls n ls → Agrees p d bits (squasher (movers (lacts p st d bits ls))) ls
-  agrees n [] k f = tt
-  agrees n (l ∷ ls) k f = at (fell p d bits ls) refl ((did p d bits ls l).moves && (work_of_live p d bits ls l).fails) refl (agrees l.number ls k.1 f.1)
+  pub agrees : (n : ℕ) (ls : List Live) → AllKnown p flows st d bits arrays ls → AllForeseen p flows st d bits arrays ls → Falls n ls
+      → Agrees p d bits (squasher (movers (lacts p st d bits ls))) ls
+  agrees n [] k u f = tt
+  agrees n (l ∷ ls) k u f = at (fell p d bits ls) refl ((did p d bits ls l).moves && (work_of_live p d bits ls l).fails) refl (agrees l.number ls k.1 u.1 f.1)
     where
       is : squasher (movers (lacts p st d bits (l ∷ ls)))
           ≡ (if (did p d bits ls l).moves && (work_of_live p d bits ls l).fails then Some l.number else squasher (movers (lacts p st d bits ls)))
-      is = squash_is ls k.1 l k.0
+      is = squash_is ls l k.0 u.0
 
       by : (b : Bool) → ((did p d bits ls l).moves && (work_of_live p d bits ls l).fails) ≡ b
           → squasher (movers (lacts p st d bits (l ∷ ls))) ≡ (if b then Some l.number else squasher (movers (lacts p st d bits ls)))
@@ -408,12 +412,12 @@ module _ (p : Pipe) (flows : Flows p) (st : State) (d : Derived.State) (bits : L
           → Agrees p d bits (squasher (movers (lacts p st d bits (l ∷ ls)))) (l ∷ ls)
       at true g true e r = absurd (cc (sym e ∙ ap (λ b. b && (work_of_live p d bits ls l).fails) (stuck_here ls l g)))
       at true g false e r =
-          let low = squash_low l.number ls k.1 f.1 g in
+          let low = squash_low l.number ls k.1 u.1 f.1 g in
           subst (λ s. Agrees p d bits s (l ∷ ls)) (sym (by false e)) (ap (λ s. is_kept s l.number) low.1 ∙ beyond low.0 low.2 ∙ ap not (sym g), r)
       at false g true e r =
           subst (λ s. Agrees p d bits s (l ∷ ls)) (sym (by true e)) (same ∙ ap not (sym g), agrees_all (Some l.number) ls (older_stay l.number ls f.1) g)
       at false g false e r =
-          subst (λ s. Agrees p d bits s (l ∷ ls)) (sym (by false e ∙ squash_none ls k.1 g)) (ap not (sym g), agrees_all None ls (each_stays ls) g)
+          subst (λ s. Agrees p d bits s (l ∷ ls)) (sym (by false e ∙ squash_none ls k.1 u.1 g)) (ap not (sym g), agrees_all None ls (each_stays ls) g)
 
   -- THE STAGES
 

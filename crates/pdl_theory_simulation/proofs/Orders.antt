@@ -19,9 +19,10 @@ use Rattle.pdl_theory_derived.proofs.Lists.{pend, youngest_append, youngest_othe
 use Rattle.pdl_theory_turns.proofs.OwnEntries.{pend_own}
 use Rattle.pdl_theory_simulation.proofs.Stretches.{Behind, left_trunk, fork_left, not_behind, early}
 use Rattle.pdl_theory_simulation.proofs.Seats.{Live, seat, each_map, Ordered, Rises, Falls, sacts, dacts, lacts, lact, did, deeds_of, befores_are, pends, youngest_all, length_pends}
-use Rattle.pdl_theory_simulation.proofs.Choices.{has_owner, Matched, Seated, fetched_of, one_stage, waits_are, env_is, port_is, Known, AllKnown, Tells, fails_here, act_is}
-use Rattle.pdl_theory_simulation.proofs.ThreadFacts.{someone, someone_more, behind_someone, sides, sides_append, Pair, pairs, sorted, lives_of, EachPair, pair_map, pair_both, sorted_each, each_sorted, pairs_each, rises_sorted, fails_none, all_pairs, later_older}
+use Rattle.pdl_theory_simulation.proofs.Choices.{has_owner, Matched, Seated, fetched_of, one_stage, waits_are, env_is, port_is, Known, AllKnown, Tells, moves_in, Foretold, MovesForeseen, AllForeseen, FailsAlike, fails_here, fails_unchecked, act_is}
+use Rattle.pdl_theory_simulation.proofs.ThreadFacts.{someone, someone_more, behind_someone, sides, sides_append, Pair, pairs, sorted, lives_of, EachPair, pair_map, pair_both, sorted_each, each_sorted, pairs_each, rises_sorted, fails_none, all_pairs, later_older, view_older}
 use Rattle.pdl_word.specs.Each.{Each}
+use Rattle.pdl_theory_simulation.proofs.ForkListSteps.{unchecked_trunk}
 
 -- THE OLDER PART
 
@@ -53,6 +54,10 @@ any_not test (x ∷ xs) = at (test x) (any_not test xs)
     at : (b : Bool) → list_any test xs ≡ not (list_all (λ x. not (test x)) xs) → (b || list_any test xs) ≡ not (not b && list_all (λ x. not (test x)) xs)
     at true h = refl
     at false h = h
+
+or_more : (b c : Bool) → c ≡ true → (b || c) ≡ true
+or_more true c e = refl
+or_more false c e = e
 
 -- FORK LISTS
 
@@ -138,9 +143,14 @@ module _ (p : Pipe) (flows : Flows p) (st : State) (d : Derived.State) (bits : L
     fails = false;
   }) (flows.branches x c l.thread.stage e)
 
-  known_pairs : (ls : List Live) → AllKnown p flows st d bits arrays ls → EachPair (λ x. Known p flows st d bits arrays x.older x.live) (pairs ls)
+  -- what is known of each live thread, behind the older ones
+  pub known_pairs : (ls : List Live) → AllKnown p flows st d bits arrays ls → EachPair (λ x. Known p flows st d bits arrays x.older x.live) (pairs ls)
   known_pairs [] k = tt
   known_pairs (l ∷ ls) k = (k.0, known_pairs ls k.1)
+
+  -- each live thread that moves in the stated machine says what it was given
+  abbrev pub AllForetold : List Live → Type 0
+  AllForetold ls = EachPair (λ y. Foretold p flows st d bits arrays y.older y.live) (pairs ls)
 
   older_known : (ys : List Live) (l : Live) (older : List Live) → AllKnown p flows st d bits arrays (ys ++ l ∷ older)
       → AllKnown p flows st d bits arrays (l ∷ older)
@@ -191,10 +201,10 @@ module _ (p : Pipe) (flows : Flows p) (st : State) (d : Derived.State) (bits : L
             h m i ∙ ap (λ x. pends m ls ++ x) (pend_own m l.number l.thread.entries ∙ ap (pend m l.number) (early p flows l.env l.thread s.0.keeps_on m j))
             ∙ append-nil (pends m ls)
 
-    no_failure : (ls : List Live) → AllKnown p flows st d bits arrays ls
+    no_failure : (ls : List Live) → EachPair (λ y. FailsAlike p flows st d bits arrays y.older y.live) (pairs ls)
         → Moves.no_failure (lacts p st d bits ls) ≡ list_all (λ (o : Derived.Act). not (o.moves && o.work.fails)) (dacts p d bits ls)
     no_failure [] k = refl
-    no_failure (l ∷ ls) k = ap₂ (λ x y. not ((did p d bits ls l).moves && x) && y) (fails_here p flows st d bits arrays ls l k.0) (no_failure ls k.1)
+    no_failure (l ∷ ls) k = ap₂ (λ x y. not x && y) k.0 (no_failure ls k.1)
 
     clear_is : (v s : ℕ) (ls : List Live) → Each (λ k. s < k.thread.stage) ls
         → Moves.none_up_to (Some v) (lacts p st d bits ls) ≡ Derived.barrier_clear (Some v) s (befores (dacts p d bits ls))
@@ -239,7 +249,8 @@ module _ (p : Pipe) (flows : Flows p) (st : State) (d : Derived.State) (bits : L
       module _ (ys : List Live) (l : Live) (older : List Live) (is : all ≡ ys ++ l ∷ older) (later : List Pair) (hi : ℕ)
           (rises : Rises (suc l.thread.stage) hi (lives_of later))
           (up : (A : Pair → Type 0) → EachPair A (pairs all) → EachPair A later)
-          (down : (A : Pair → Type 0) → EachPair A later → EachPair (λ y. suc l.thread.stage ≤ y.live.thread.stage → A y) (pairs all)) where
+          (down : (A : Pair → Type 0) → EachPair A later → EachPair (λ y. suc l.thread.stage ≤ y.live.thread.stage → A y) (pairs all))
+          (foreseen : EachPair (λ y. MovesForeseen p flows st d bits arrays y.older y.live) later) where
         mine : AllKnown p flows st d bits arrays (l ∷ older)
         mine = older_known ys l older (subst (λ x. AllKnown p flows st d bits arrays x) is known)
 
@@ -272,6 +283,30 @@ module _ (p : Pipe) (flows : Flows p) (st : State) (d : Derived.State) (bits : L
             at [] e = absurd (none e)
             at (x ∷ c) e = some x c e
 
+        -- each older thread fails alike in both machines: it stands in a later stage, or in a branch
+        fails_older : EachPair (λ y. FailsAlike p flows st d bits arrays y.older y.live) (pairs older)
+        fails_older =
+            pair_both (λ y f g. f g) (pairs older)
+            (pair_both alike (pairs older) (known_pairs older mine.1) (pairs_each (λ k. Behind p l.thread.stage k.thread.stage) older behind))
+            (view_older (λ y. suc l.thread.stage ≤ y.live.thread.stage → MovesForeseen p flows st d bits arrays y.older y.live) ys l older
+            (subst (λ x. EachPair (λ y. suc l.thread.stage ≤ y.live.thread.stage → MovesForeseen p flows st d bits arrays y.older y.live) (pairs x)) is
+            (down (λ y. MovesForeseen p flows st d bits arrays y.older y.live) foreseen)))
+          where
+            irreflexive : {s : ℕ} → s < s → ⊥
+            irreflexive i = omega arith
+
+            alike : (y : Pair) → Known p flows st d bits arrays y.older y.live → Behind p l.thread.stage y.live.thread.stage
+                → (suc l.thread.stage ≤ y.live.thread.stage → MovesForeseen p flows st d bits arrays y.older y.live)
+                → FailsAlike p flows st d bits arrays y.older y.live
+            alike y k b g = at (nat_le y.live.thread.stage l.thread.stage) refl
+              where
+                at : (c : Bool) → nat_le y.live.thread.stage l.thread.stage ≡ c → FailsAlike p flows st d bits arrays y.older y.live
+                at true e =
+                    branch_if _ y.live.thread.stage (λ t. irreflexive (left_trunk p _ _ b y.live.thread.stage t (leb-true _ _ e)))
+                    (λ x c h. fails_unchecked p flows st d bits arrays y.older y.live
+                    (unchecked_trunk (in_stage y.live.thread.stage p.stmts) (flows.branches x c y.live.thread.stage h)) (plain_branch y.live x c h).0)
+                at false e = fails_here p flows st d bits arrays y.older y.live k (g (leb-false _ _ e))
+
         fails_same : Moves.no_failure (acts_of later) ≡ list_all (λ (o : Derived.Act). not (o.moves && o.work.fails)) (dacts p d bits older)
         fails_same =
             tested (λ o. not (o.moves && o.does.fails))
@@ -282,7 +317,7 @@ module _ (p : Pipe) (flows : Flows p) (st : State) (d : Derived.State) (bits : L
                   (λ e. irreflexive (left_trunk p _ _ b y.live.thread.stage e i))
                   (λ x c e. calm (did p d bits y.older y.live).moves (plain_branch y.live x c e).0)),
             )) (pairs all) (known_pairs all known))
-            ∙ no_failure older mine.1
+            ∙ no_failure older fails_older
           where
             clash : {s q : ℕ} → s < q → q < s → ⊥
             clash i j = omega arith
@@ -519,15 +554,24 @@ module _ (p : Pipe) (flows : Flows p) (st : State) (d : Derived.State) (bits : L
       seen_all ys [] e = tt
       seen_all ys (x ∷ xs) e = ((ys, e), seen_all (ys ++ x ∷ []) xs (e ∙ sym (append_assoc ys (x ∷ []) xs)))
 
+      -- who moves among these threads moves by their acts
+      moves_among : (xs : List Pair)
+          → EachPair (λ y. (did p d bits y.older y.live).moves ≡ true → moves_in y.live.number (acts_of xs) ≡ true) xs
+      moves_among [] = tt
+      moves_among (x ∷ xs) = (
+        (λ e. ap₂ (λ b c. (b && c) || moves_in x.live.number (acts_of xs)) (eq-eqb x.live.number x.live.number refl) e),
+        pair_map (λ y f. λ e. or_more ((x.live.number == y.live.number) && (did p d bits x.older x.live).moves) _ (f e)) xs (moves_among xs),
+      )
+
       acts_from : (lo hi : ℕ) (xs : List Pair) → Rises lo hi (lives_of xs)
           → ((A : Pair → Type 0) → EachPair A (pairs all) → EachPair A xs)
           → ((A : Pair → Type 0) → EachPair A xs → EachPair (λ y. lo ≤ y.live.thread.stage → A y) (pairs all))
+          → ((test : Moves.Act → Bool) → list_any test (sacts p st bits (lives_of xs)) ≡ true → list_any test (Moves.all_acts p st bits) ≡ true)
+          → AllForetold all
           → sacts p st bits (lives_of xs) ≡ acts_of xs
-      acts_from lo hi [] r up down = refl
-      acts_from lo hi (x ∷ xs) r up down =
-          ap (λ later. Moves.act p st bits later x.live.thread.stage (with_answers p st bits (seat x.live)) ∷ later)
-          (acts_from (suc x.live.thread.stage) hi xs r.2 (λ A h. (up A h).1) below)
-          ∙ ap (λ a. a ∷ acts_of xs) (act_same seen.0 x.live x.older seen.1 xs hi r.2 (λ A h. (up A h).1) below)
+      acts_from lo hi [] r up down reach told = refl
+      acts_from lo hi (x ∷ xs) r up down reach told =
+          step (acts_from (suc x.live.thread.stage) hi xs r.2 (λ A h. (up A h).1) below within told)
         where
           seen : (ys : List Live) × (all ≡ ys ++ x.live ∷ x.older)
           seen = (up (λ x. (ys : List Live) × (all ≡ ys ++ x.live ∷ x.older)) (seen_all [] all refl)).0
@@ -537,8 +581,40 @@ module _ (p : Pipe) (flows : Flows p) (st : State) (d : Derived.State) (bits : L
               pair_map (λ y f. λ i. f (let j = r.0 in omega arith) i) (pairs all)
               (down (λ y. suc x.live.thread.stage ≤ y.live.thread.stage → A y) ((λ i. absurd (omega arith)), pair_map (λ y a. λ i. a) xs h))
 
+          within : (test : Moves.Act → Bool) → list_any test (sacts p st bits (lives_of xs)) ≡ true → list_any test (Moves.all_acts p st bits) ≡ true
+          within test e = reach test (or_more (test _) _ e)
+
+          -- where the threads in later stages move in both machines or in neither, they say what they were given
+          foreseen : sacts p st bits (lives_of xs) ≡ acts_of xs → EachPair (λ y. MovesForeseen p flows st d bits arrays y.older y.live) xs
+          foreseen same =
+              pair_both (λ y t m. λ e. t (within _ (subst (λ these. moves_in y.live.number these ≡ true) (sym same) (m e)))) xs
+              (up (λ y. Foretold p flows st d bits arrays y.older y.live) told).1 (moves_among xs)
+
+          step : sacts p st bits (lives_of xs) ≡ acts_of xs → sacts p st bits (x.live ∷ lives_of xs) ≡ acts_of (x ∷ xs)
+          step same =
+              ap (λ later. Moves.act p st bits later x.live.thread.stage (with_answers p st bits (seat x.live)) ∷ later) same
+              ∙ ap (λ a. a ∷ acts_of xs) (act_same seen.0 x.live x.older seen.1 xs hi r.2 (λ A h. (up A h).1) below (foreseen same))
+
       -- the stated acts are those that the derived machine decides, in the order of the stages
-      pub acts_sorted : (hi : ℕ) → Each (λ k. k.thread.stage < hi) all → sacts p st bits (lives_of (sorted all)) ≡ acts_of (sorted all)
-      acts_sorted hi inside =
+      pub acts_sorted : (hi : ℕ) → Each (λ k. k.thread.stage < hi) all
+          → Moves.all_acts p st bits ≡ sacts p st bits (lives_of (sorted all))
+          → AllForetold all
+          → sacts p st bits (lives_of (sorted all)) ≡ acts_of (sorted all)
+      acts_sorted hi inside begin told =
           acts_from 0 hi (sorted all) (rises_sorted p hi all inside ordered) (λ A h. sorted_each A all h)
           (λ A h. pair_map (λ y a. λ i. a) (pairs all) (each_sorted A all h))
+          (λ test e. ap (list_any test) begin ∙ e) told
+
+      pairs_foreseen : (ls : List Live)
+          → EachPair (λ y. MovesForeseen p flows st d bits arrays y.older y.live) (pairs ls) → AllForeseen p flows st d bits arrays ls
+      pairs_foreseen [] h = tt
+      pairs_foreseen (l ∷ ls) h = (h.0, pairs_foreseen ls h.1)
+
+      -- so each thread that moves in the derived machine says what it was given
+      pub foreseen_all : Moves.all_acts p st bits ≡ acts_of (sorted all)
+          → AllForetold all → AllForeseen p flows st d bits arrays all
+      foreseen_all is told =
+          pairs_foreseen all
+          (pair_both (λ y t m. λ e. t (ap (moves_in y.live.number) is ∙ m e)) (pairs all) told
+          (each_sorted (λ y. (did p d bits y.older y.live).moves ≡ true → moves_in y.live.number (acts_of (sorted all)) ≡ true) all
+          (moves_among (sorted all))))

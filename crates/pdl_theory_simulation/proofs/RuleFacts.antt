@@ -338,6 +338,8 @@ module _ (p : Pipe) (rules : FlowRules p) where
         calls = rules.calls;
         advice = rules.advice;
         guess_apart = rules.guess_apart;
+        updates = rules.updates;
+        update_apart = rules.update_apart;
         one_fetch = rules.one_fetch;
         fetch_inside = rules.fetch_inside;
       }

@@ -1,12 +1,12 @@
 -- What a live thread keeps on its own way through the stages, whatever stands around it: the locations that it holds, its pending writes, the reads that it awaits.
 use Rattle.std.proofs.Common.{◌≡◌, refl, sym, ap, ap₂, ◌∙◌, subst, ℕ, ◌≤◌, ◌<◌, Bool, true, false, ◌&&◌, ◌||◌, not, List, [], ◌∷◌, ◌++◌, Some, ◌==◌, nat_lt, cond, if◌then◌else◌, arith, eq-eqb, slice_index, append-nil, ltb-true}
 use Rattle.std.proofs.lemmas.Bool.{eqb-true}
-use Rattle.pdl_semantics.specs.Flat.{Commit, Op, Write, ReserveWrite, Release, Verify, Stmt, values_of, all_hold}
+use Rattle.pdl_semantics.specs.Flat.{Commit, Op, Write, ReserveWrite, Release, Verify, Stmt, all_hold}
 use Rattle.pdl_semantics.specs.Stages.{onpath, is_reserve, is_release}
 use Rattle.pdl_semantics.specs.Machine.{same_args, Pending, HeldLocation, held_after, held_before}
 use Rattle.pdl_semantics.specs.Sound.{stages_before, is_call}
 use Rattle.pdl_semantics.specs.Machine
-use Rattle.pdl_theory_derived.specs.Derived.{Entry, Work, Around, work_after, do_all}
+use Rattle.pdl_theory_derived.specs.Derived.{Entry, Work, Around, work_after, do_all, said}
 use Rattle.pdl_theory_facts.specs.Scans.{Phase, Fresh, after_write, after_reserve, after_release, next_phase, phase_all, is_over, none_of, all_at, is_fixed, called}
 use Rattle.pdl_theory_simulation.proofs.FlowFacts.{use_ok, uses_ok, calls_ok}
 use Rattle.pdl_theory_derived.proofs.Writes.{and_left, and_right}
@@ -251,10 +251,10 @@ held_path s path (x ∷ xs) ls = at (nat_lt x.stage s) (all_hold x.guards path) 
 held_op : (o : Around) (op : Op) (w : Work) → places (work_after o op w).entries ≡ held_after op (places w.entries)
 held_op o (Write j a e) w = places_filled w.entries j a _
 held_op o (Release j a) w = places_without w.entries j a
-held_op o (Verify last args) w = at (same_args (values_of args w.env) w.guess)
+held_op o (Verify last args) w = at (same_args (said o last args w.env) w.guess)
   where
     at : (b : Bool)
-        → places (cond b w (record w { child = Some (values_of args w.env); guess = (values_of args w.env); fails = true })).entries ≡ places w.entries
+        → places (cond b w (record w { child = Some (said o last args w.env); guess = (said o last args w.env); fails = true })).entries ≡ places w.entries
     at true = refl
     at false = refl
 held_op o _ w = refl

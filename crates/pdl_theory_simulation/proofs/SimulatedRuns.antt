@@ -53,11 +53,11 @@ module _ (p : Pipe) (flows : Flows p) where
       at false e false f = refl
 
   -- thread 1 in stage 0 with the start arguments
-  abbrev pub first_live : List ℕ → Live
+  abbrev pub first_live : Derived.Hint → Live
   first_live hint = record { number = 1; thread = Derived.fresh p hint p.start; env = (Derived.fresh p hint p.start).env; kept = []; advice = [] }
 
   -- the first states of both machines belong together, with thread 1 as the one live thread
-  pub first_sim : (image : Arrays) (hints : ℕ → List ℕ) → Sim p (Cycle.first p image) (Derived.first p image hints) (first_live (hints 0) ∷ [])
+  pub first_sim : (image : Arrays) (hints : ℕ → Derived.Hint) → Sim p (Cycle.first p image) (Derived.first p image hints) (first_live (hints 0) ∷ [])
   first_sim image hints =
       record {
         arrays = λ m plain. refl;

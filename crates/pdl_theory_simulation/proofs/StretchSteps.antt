@@ -4,11 +4,11 @@ use Rattle.std.proofs.lemmas.List.{get_or-set_other}
 use Rattle.std.proofs.lemmas.Bool.Decides.{eqb_tells}
 use Rattle.pdl_semantics.specs.Flat.{Commit, of_mem, Op, Bind, CombRead, DelayedRead, Write, ReserveWrite, Release, Call, SpecCall, Verify, Stmt, value_of, values_of, all_hold}
 use Rattle.pdl_semantics.specs.Stages.{onpath, is_reserve}
-use Rattle.pdl_semantics.specs.Machine.{Ask, Awaited, same_args, Pending, Blocked, Reserved, Deeds, deeds_after_all, is_held}
+use Rattle.pdl_semantics.specs.Machine.{Ask, Awaited, same_args, Pending, Blocked, Reserved, Deeds, deeds_after_all, is_held, checked_args}
 use Rattle.pdl_semantics.specs.Cycle.{awaited_of}
 use Rattle.pdl_semantics.specs.Sound.{is_call, is_delayed_read}
 use Rattle.pdl_semantics.specs.Machine
-use Rattle.pdl_theory_derived.specs.Derived.{Entry, Work, Around, work_after, do_all}
+use Rattle.pdl_theory_derived.specs.Derived.{Entry, Work, Around, work_after, do_all, said}
 use Rattle.pdl_theory_facts.specs.Scans.{Phase, next_phase, phase_all, none_of, called}
 use Rattle.pdl_theory_simulation.proofs.FlowFacts.{SameBut, sets, is_fetch_of, use_ok, uses_ok, call_ok, calls_ok}
 use Rattle.pdl_theory_derived.proofs.Writes.{and_left, and_right}
@@ -29,15 +29,15 @@ module _ (o : Around) (read : ℕ → ℕ → ℕ) (block : Blocked → Bool) (f
       step_reserve m n j a (slice_index d.env a) ph es (of_mem m cs) start d.reserves d.writes _ (j == m) refl k g
   step_op (Release j a) ph d es cs gu c f h k g =
       step_release m n j a ph es cs _ d.writes d.releases (is_held d.held j a) (ap (λ l. is_held l j a) (sym h) ∙ places_has es j a) (j == m) refl k g
-  step_op (Verify last args) ph d es cs gu c f h k g = at (same_args (values_of args d.env) d.guess) (same_args (values_of args d.env) gu)
+  step_op (Verify last args) ph d es cs gu c f h k g =
+      at (same_args (checked_args last args d) d.guess) (same_args (said o last args d.env) gu)
     where
       at : (b b' : Bool)
-          → Here o read block free m n start ph (cond b d (record d { child = Some (values_of args d.env); guess = values_of args d.env; fails = true }))
+          → Here o read block free m n start ph (cond b d (record d { child = Some (checked_args last args d); guess = checked_args last args d; fails = true }))
           (cond b' (work_of o read block free (record d { guess = gu; child = c; fails = f }) es cs)
           (record (work_of o read block free (record d { guess = gu; child = c; fails = f }) es cs) {
-            child = Some
-                (values_of args d.env);
-            guess = values_of args d.env;
+            child = Some (said o last args d.env);
+            guess = said o last args d.env;
             fails = true;
           }))
       at true true = g
@@ -96,10 +96,10 @@ set_stays env x g v h = sym (get_or-set_other env x g v 0 apart)
 op_sets : (g : ℕ) (o : Around) (op : Op) (w : Work) → not (sets g op) ≡ true → slice_index w.env g ≡ slice_index (work_after o op w).env g
 op_sets g o (Bind x e) w h = set_stays w.env x g _ h
 op_sets g o (CombRead x m a) w h = set_stays w.env x g _ h
-op_sets g o (Verify last args) w h = at (same_args (values_of args w.env) w.guess)
+op_sets g o (Verify last args) w h = at (same_args (said o last args w.env) w.guess)
   where
     at : (b : Bool)
-        → slice_index w.env g ≡ slice_index (cond b w (record w { child = Some (values_of args w.env); guess = values_of args w.env; fails = true })).env g
+        → slice_index w.env g ≡ slice_index (cond b w (record w { child = Some (said o last args w.env); guess = said o last args w.env; fails = true })).env g
     at true = refl
     at false = refl
 op_sets g o _ w h = refl
@@ -137,10 +137,10 @@ op_asks g o (DelayedRead x m a) w h = more w.asks
     more : (qs : List Ask) → awaits_var (awaited_of (qs ++ record { mem = m; var = x; address = slice_index w.env a } ∷ [])) g ≡ awaits_var (awaited_of qs) g
     more [] = off (x == g) h
     more (q ∷ qs) = ap (λ b. (q.var == g) || b) (more qs)
-op_asks g o (Verify last args) w h = at (same_args (values_of args w.env) w.guess)
+op_asks g o (Verify last args) w h = at (same_args (said o last args w.env) w.guess)
   where
     at : (b : Bool)
-        → awaits_var (awaited_of (cond b w (record w { child = Some (values_of args w.env); guess = values_of args w.env; fails = true })).asks) g
+        → awaits_var (awaited_of (cond b w (record w { child = Some (said o last args w.env); guess = said o last args w.env; fails = true })).asks) g
         ≡ awaits_var (awaited_of w.asks) g
     at true = refl
     at false = refl
@@ -175,9 +175,9 @@ reserved_op all read (ReserveWrite m a) d f h = more d.reserves h
     more : (rs : List Reserved) → ReservesFrom all rs → ReservesFrom all (rs ++ record { mem = m; var = a; address = slice_index d.env a } ∷ [])
     more [] g = (f m (ap not (eq-eqb m m refl)), tt)
     more (r ∷ rs) g = (g.0, more rs g.1)
-reserved_op all read (Verify last args) d f h = at (same_args (values_of args d.env) d.guess)
+reserved_op all read (Verify last args) d f h = at (same_args (checked_args last args d) d.guess)
   where
-    at : (b : Bool) → ReservesFrom all (cond b d (record d { child = Some (values_of args d.env); guess = values_of args d.env; fails = true })).reserves
+    at : (b : Bool) → ReservesFrom all (cond b d (record d { child = Some (checked_args last args d); guess = checked_args last args d; fails = true })).reserves
     at true = h
     at false = h
 reserved_op all read _ d f h = h
@@ -219,9 +219,9 @@ op_from all o (DelayedRead x m a) w f h = more w.asks h
     more : (qs : List Ask) → AsksFrom all qs → AsksFrom all (qs ++ record { mem = m; var = x; address = slice_index w.env a } ∷ [])
     more [] k = (f m (ap not same), tt)
     more (q ∷ qs) k = (k.0, more qs k.1)
-op_from all o (Verify last args) w f h = at (same_args (values_of args w.env) w.guess)
+op_from all o (Verify last args) w f h = at (same_args (said o last args w.env) w.guess)
   where
-    at : (b : Bool) → AsksFrom all (cond b w (record w { child = Some (values_of args w.env); guess = values_of args w.env; fails = true })).asks
+    at : (b : Bool) → AsksFrom all (cond b w (record w { child = Some (said o last args w.env); guess = said o last args w.env; fails = true })).asks
     at true = h
     at false = h
 op_from all o _ w f h = h
@@ -281,10 +281,10 @@ made_op been c o (SpecCall args) w h k = fresh_call c (and_left (not (c && true)
       where
         clash : false ≡ true → ⊥
         clash i = cc
-made_op been c o (Verify last args) w h k = at c (and_right (not (c && false)) _ h) k (same_args (values_of args w.env) w.guess)
+made_op been c o (Verify last args) w h k = at c (and_right (not (c && false)) _ h) k (same_args (said o last args w.env) w.guess)
   where
     at : (c : Bool) → (c || not true) ≡ true → Childed been c w → (b : Bool)
-        → Childed been (c || false) (cond b w (record w { child = Some (values_of args w.env); guess = values_of args w.env; fails = true }))
+        → Childed been (c || false) (cond b w (record w { child = Some (said o last args w.env); guess = said o last args w.env; fails = true }))
     at false h k b = absurd (cc h)
     at true h k true = k
     at true h k false = record { since = λ e. refl; called_it = λ e. refl; no_second = λ e f. absurd (clash f); squashes = λ e. refl }

@@ -1,12 +1,12 @@
 -- What a stage does to a thread: to its pending writes, its values and its successor.
 use Rattle.std.proofs.Common.{◌≡◌, refl, sym, ap, ap₂, ◌∙◌, subst, ℕ, ◌≤◌, ◌<◌, ◌⊎◌, inl, inr, Bool, true, false, ◌||◌, not, List, [], ◌∷◌, ◌++◌, length, Option, Some, None, ◌==◌, cond, if◌then◌else◌, arith, slice_index, slice_set, le_refl, le_of_lt}
 use Rattle.std.proofs.lemmas.Bool.{eqb-true, eqb-false}
-use Rattle.pdl_semantics.specs.Flat.{Stmt, Branch, Pipe}
+use Rattle.pdl_semantics.specs.Flat.{Stmt, Branch, Pipe, Op}
 use Rattle.pdl_semantics.specs.Stages.{onpath, in_stage, stage_at, goes_to, is_reserve, is_release, reserve_stage, commit_stage}
 use Rattle.pdl_semantics.specs.Machine.{Ask, Awaited, is_answered, Blocked, Deeds, held_before, deeds_after_all, Kept}
 use Rattle.pdl_semantics.specs.Cycle.{awaited_of, releases_of}
 use Rattle.pdl_semantics.specs.Sound.{stages_before, stages_from, is_delayed_read}
-use Rattle.pdl_theory_derived.specs.Derived.{Work, Around, work_of_stage, still, with_answers, answered_thread}
+use Rattle.pdl_theory_derived.specs.Derived.{Work, Around, work_of_stage, still, with_answers, answered_thread, Hint}
 use Rattle.pdl_theory_derived.specs.Derived
 use Rattle.pdl_theory_facts.specs.Scans.{Fresh, phase_all, is_over, none_of, called}
 use Rattle.pdl_theory_facts.proofs.Nested.{within_all, within_home, within_more}
@@ -22,6 +22,8 @@ use Rattle.pdl_theory_turns.proofs.TurnPath.{phase_append}
 use Rattle.pdl_theory_turns.proofs.OfStage.{fixed_stage}
 use Rattle.pdl_theory_turns.proofs.Turn.{none_from, none_in_stage}
 use Rattle.pdl_theory_simulation.proofs.StretchSteps.{steps_all, set_stays, only_sets, awaits_var, only_asks, AsksFrom, asks_from, Childed, made_all}
+use Rattle.pdl_theory_facts.specs.GuessScans.{once}
+use Rattle.pdl_theory_simulation.proofs.Onces.{has_any, any_append, once_front, once_back}
 
 -- THREADS
 
@@ -87,6 +89,10 @@ pub record Keeps (p : Pipe) (env : List ℕ) (t : Derived.Thread) : Type 0 where
 -- whether it made its successor
 abbrev pub has_made : Pipe → List ℕ → ℕ → Bool
 has_made p env s = called false (on_way p env s)
+
+-- whether it has carried out a statement of a kind
+abbrev pub has_done : (Op → Bool) → Pipe → List ℕ → ℕ → Bool
+has_done test p env s = has_any test (on_way p env s)
 
 -- ANSWERS
 
@@ -300,6 +306,22 @@ module _ (p : Pipe) (flows : Flows p) (env : List ℕ) (t : Derived.Thread) (k :
       (flows.all_pieces (work_of_stage p o t).env (next_of p t.stage (work_of_stage p o t).env))
       (flows.calls (work_of_stage p o t).env))))
 
+  -- by its next stage it has carried out a statement of a kind if it had before, or does in this stage
+  pub done_then : (test : Op → Bool) (o : Around)
+      → has_done test p (work_of_stage p o t).env (next_of p t.stage (work_of_stage p o t).env)
+      ≡ (has_done test p env t.stage || has_any test (onpath (work_of_stage p o t).env (in_stage t.stage p.stmts)))
+  done_then test o = ap (has_any test) (way_next o) ∙ any_append test (on_way p env t.stage) _
+
+  -- of a kind that stands on a path once at most its stage has none where it has carried one out, else one at most
+  pub once_here : (test : Op → Bool) → ((path : List ℕ) → once test false (onpath path p.stmts) ≡ true) → (o : Around)
+      → once test (has_done test p env t.stage) (onpath (work_of_stage p o t).env (in_stage t.stage p.stmts)) ≡ true
+  once_here test h o =
+      once_back test false (on_way p env t.stage) _ (subst (λ l. once test false l ≡ true) (way_next o)
+      (once_front test false (on_way p (work_of_stage p o t).env (next_of p t.stage (work_of_stage p o t).env)) _
+      (subst (λ l. once test false l ≡ true)
+      (flows.all_pieces (work_of_stage p o t).env (next_of p t.stage (work_of_stage p o t).env))
+      (h (work_of_stage p o t).env))))
+
   -- its successor
   pub stage_child : (o : Around)
       → Childed (has_made p env t.stage) (has_made p (work_of_stage p o t).env (next_of p t.stage (work_of_stage p o t).env)) (work_of_stage p o t)
@@ -368,7 +390,7 @@ module _ (p : Pipe) (flows : Flows p) (env : List ℕ) (t : Derived.Thread) (k :
       leads = ((work_of_stage p o t).env, goes, k.inside)
 
 -- a new thread keeps to its way
-pub keeps_fresh : (p : Pipe) → Flows p → (hint args : List ℕ) → Keeps p (Derived.fresh p hint args).env (Derived.fresh p hint args)
+pub keeps_fresh : (p : Pipe) → Flows p → (hint : Hint) (args : List ℕ) → Keeps p (Derived.fresh p hint args).env (Derived.fresh p hint args)
 keeps_fresh p flows hint args =
     record {
       inside = flows.graph.some_stage;

@@ -219,8 +219,8 @@ true_pairs : (h : Pair → Bool) (xs : List Pair) → EachPair (λ x. h x ≡ tr
 true_pairs h [] e = refl
 true_pairs h (x ∷ xs) e = ap₂ (λ a b. a && b) e.0 (true_pairs h xs e.1)
 
--- those behind a thread in age, itself, and the older ones
-view_older : (A : Pair → Type 0) (ys : List Live) (l : Live) (older : List Live) → EachPair A (pairs (ys ++ l ∷ older))
+-- what holds of each live thread holds of each that is older than one of them
+pub view_older : (A : Pair → Type 0) (ys : List Live) (l : Live) (older : List Live) → EachPair A (pairs (ys ++ l ∷ older))
     → EachPair A (pairs older)
 view_older A [] l older h = h.1
 view_older A (y ∷ ys) l older h = view_older A ys l older h.1

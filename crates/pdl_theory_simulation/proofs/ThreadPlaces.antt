@@ -165,7 +165,8 @@ module _ (p : Pipe) (flows : Flows p) where
     abbrev pub Becomes : (Live → Type 0) → List Live → Type 0
     Becomes A ls = EachPair (λ y. Each A (next_live p st d bits y.older y.live)) (pairs ls)
 
-    becomes_on : (A : Live → Type 0) (ls : List Live) → Becomes A ls → Each A (go_on p st d bits ls)
+    -- and so has each of those that live on
+    pub becomes_on : (A : Live → Type 0) (ls : List Live) → Becomes A ls → Each A (go_on p st d bits ls)
     becomes_on A [] h = tt
     becomes_on A (l ∷ ls) h = each_on A (fell p d bits ls) (next_live p st d bits ls l) (go_on p st d bits ls) h.0 (becomes_on A ls h.1)
 

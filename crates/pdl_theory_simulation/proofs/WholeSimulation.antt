@@ -9,7 +9,6 @@ use Rattle.pdl_theory_turns.proofs.EntryCommits.{released}
 use Rattle.pdl_semantics.specs.Moves.{movers, next_stage}
 use Rattle.pdl_semantics.specs.Promises.{row, wrote, DifferInAdvice}
 use Rattle.pdl_semantics.specs.Cycle
-use Rattle.pdl_semantics.specs.Locks
 use Rattle.pdl_semantics.specs.Machine
 use Rattle.pdl_semantics.specs.Moves
 use Rattle.pdl_theory_derived.specs.Derived.{Work, commits_of, asks_of, asked_at, next_ask, next_asks, find_ask, stage_flags, still}
@@ -26,11 +25,11 @@ use Rattle.pdl_theory_derived.proofs.Lists.{pend}
 use Rattle.pdl_theory_turns.proofs.OwnEntries.{pend_own}
 use Rattle.pdl_theory_simulation.proofs.Stretches.{Keeps, Fetched, AllFetched, unknown}
 use Rattle.pdl_theory_simulation.proofs.StretchSteps.{AsksFrom}
-use Rattle.pdl_theory_simulation.proofs.Seats.{Live, each_map, Ordered, Rises, Falls, dacts, lacts, lact, did, work_of_live, acts_slots, acts_back, pends, pends_append}
+use Rattle.pdl_theory_simulation.proofs.Seats.{Live, each_map, Ordered, Falls, dacts, lacts, lact, did, work_of_live, acts_back, pends, pends_append}
 use Rattle.pdl_theory_simulation.proofs.Choices.{Matched, OwnedBy, AllOwned, Seated, Known, AllKnown, asks_here, AllForeseen, like_here}
-use Rattle.pdl_theory_simulation.proofs.ThreadFacts.{sides, sorted, lives_of, find_sorted, rises_sorted, Pair}
-use Rattle.pdl_theory_simulation.proofs.Orders.{sides_none, known_all, acts_of, acts_sorted}
-use Rattle.pdl_theory_simulation.proofs.ActOrder.{swaps_all, same_after, same_ports, Swaps, same_arrays}
+use Rattle.pdl_theory_simulation.proofs.ThreadFacts.{sides, sorted, Pair}
+use Rattle.pdl_theory_simulation.proofs.Orders.{sides_none, acts_of, acts_sorted, AllForetold, foreseen_all}
+use Rattle.pdl_theory_simulation.proofs.ActOrder.{same_after, same_ports, Swaps, same_arrays}
 use Rattle.pdl_theory_simulation.proofs.ForkLists.{fork_next}
 use Rattle.pdl_theory_simulation.proofs.LockLists.{fell, next_live, go_on, Agrees, two, three, two_is, three_is, commits_here, unreleased, pends_on}
 use Rattle.pdl_theory_simulation.proofs.LiveThreads.{made, born_live, lives_next, child_is, survive, agrees, squashes, any_rev}
@@ -40,6 +39,7 @@ use Rattle.pdl_theory_turns.proofs.OfStage.{none_stage}
 use Rattle.pdl_word.specs.Each.{Each}
 use Rattle.pdl_word.proofs.Each.{each_append}
 use Rattle.pdl_theory_simulation.proofs.SimulatedStates.{Sim}
+use Rattle.pdl_theory_simulation.proofs.CycleStarts
 use Rattle.pdl_theory_simulation.proofs.Advising.{EachAdvisory, advises_all, fits_stage, advice_apart}
 
 module _ (p : Pipe) (flows : Flows p) where
@@ -51,38 +51,28 @@ module _ (p : Pipe) (flows : Flows p) where
       at true e = ltb-true _ _ e
       at false e = absurd (cc (sym h ∙ none_stage (is_delayed_read m) s p.stmts (flows.unfetched m (ltb-false _ _ e))))
 
-  module _ (st : State) (d : Derived.State) (bits : List Bool) (ls : List Live) (sim : Sim p st d ls) where
-    -- in states that belong together, what is needed at the start of a cycle is known of each live thread
-    pub known : AllKnown p flows st d bits sim.arrays ls
-    known =
-        known_all p flows st d bits sim.arrays ls sim.matched st.next ls sim.seated sim.ordered sim.falls
-        (λ m a k i. ap (λ q. Machine.youngest q k a Locks.Nothing) (sim.locks m)) (λ m i. sim.locks m)
+  module _ (st : State) (d : Derived.State) (bits : List Bool) (ls : List Live) (sim : Sim p st d ls)
+      (told : AllForetold p flows st d bits sim.arrays ls) where
+    known : AllKnown p flows st d bits sim.arrays ls
+    known = CycleStarts.known p flows st d bits ls sim
 
-    inside_all : (ks : List Live) → Each (Seated p st) ks → Each (λ k. k.thread.stage < length p.stages) ks
-    inside_all ks s = each_map (λ k h. h.keeps_on.inside) ks s
+    swaps : Swaps p flows st d bits sim.arrays ls
+    swaps = CycleStarts.swaps p flows st d bits ls sim
 
     -- the stated acts of a cycle are those that the derived machine decides, by stages
     pub acts_are : Moves.all_acts p st bits ≡ acts_of p flows st d bits sim.arrays (sorted ls)
     acts_are =
-        ap (Moves.acts p st bits 0) (sim.stages ∙ stages_same _ _ 0 p.stages (λ q i. sym (find_sorted p q ls sim.ordered)))
-        ∙ acts_slots p st bits p.stages 0 (lives_of (sorted ls))
-        (subst (λ h. Rises 0 h (lives_of (sorted ls))) (sym (zero-add (length p.stages)))
-        (rises_sorted p (length p.stages) ls (inside_all ls sim.seated) sim.ordered))
+        CycleStarts.stated_acts p flows st d bits ls sim
         ∙ acts_sorted p flows st d bits sim.arrays ls sim.matched st.next sim.seated sim.ordered sim.falls known sim.forks (length p.stages)
-        (inside_all ls sim.seated)
+        (CycleStarts.inside_all p flows st d bits ls sim ls sim.seated) (CycleStarts.stated_acts p flows st d bits ls sim) told
 
-    -- the stated state after a cycle is that after the same acts by age
-    abbrev pub next_state : State
-    next_state =
-        record
-        (Cycle.after_these p st bits (lacts p st d bits ls) (movers (lacts p st d bits ls)) (squasher (movers (lacts p st d bits ls)))) {
-          arrays =
-              (Cycle.cycle p st bits).arrays;
-        }
+    -- each thread that moves in the derived machine says what it was given
+    pub foreseen : AllForeseen p flows st d bits sim.arrays ls
+    foreseen =
+        foreseen_all p flows st d bits sim.arrays ls sim.matched st.next sim.seated sim.ordered sim.falls known sim.forks acts_are told
 
-    -- two live threads that stand in another order by age than by stage can be exchanged
-    pub swaps : Swaps p flows st d bits sim.arrays ls
-    swaps = swaps_all p flows st d bits sim.arrays st.next ls known sim.ordered sim.falls
+    abbrev next_state : State
+    next_state = CycleStarts.next_state p flows st d bits ls sim
 
     -- the state after a cycle is that after the same acts by age
     pub after_is : Cycle.cycle p st bits ≡ next_state
@@ -100,7 +90,7 @@ module _ (p : Pipe) (flows : Flows p) where
 
     -- a squash of the stated machine leaves just those threads that the derived machine leaves
     pub fit : Agrees p d bits (squasher (movers (lacts p st d bits ls))) ls
-    fit = agrees p flows st d bits sim.arrays st.next ls known sim.falls
+    fit = agrees p flows st d bits sim.arrays st.next ls known foreseen sim.falls
 
     -- THE LOCKS
 
@@ -427,15 +417,15 @@ module _ (p : Pipe) (flows : Flows p) where
             (λ l. Cycle.branches_left p (Cycle.squash_stage (movers (lacts p st d bits ls))) f
             ((if Cycle.has_left p f (movers (lacts p st d bits ls)) then Cycle.but_first l else l)
             ++ Cycle.entered_branches p f (movers (lacts p st d bits ls)))) (sim.forks f)
-            ∙ fork_next p flows st d bits sim.arrays f st.next (made p flows st d bits sim.arrays ls) ls known sim.ordered
+            ∙ fork_next p flows st d bits sim.arrays f st.next (made p flows st d bits sim.arrays ls) ls known foreseen sim.ordered
         at false e =
             past_stages _ 0 p.stages f [] (ltb-false _ _ e)
             ∙ sym (none_inside f (ltb-false _ _ e) (lives_next p flows st d bits sim.arrays ls) (ways_next p flows st d bits sim.arrays ls known))
 
     -- the next states belong together
-    next_sim : AllForeseen p flows st d bits sim.arrays ls → Sim p next_state
+    next_sim : Sim p next_state
         (Derived.after_acts p d bits (rev (dacts p d bits ls))) (lives_next p flows st d bits sim.arrays ls)
-    next_sim foreseen =
+    next_sim =
         record {
           arrays = arrays_next;
           threads = survive p flows st d bits sim.arrays ls known sim.have_made;
@@ -457,12 +447,11 @@ module _ (p : Pipe) (flows : Flows p) where
         }
 
     -- states that belong together belong together after a cycle of both machines
-    pub cycle_sim : AllForeseen p flows st d bits sim.arrays ls
-        → Sim p (Cycle.cycle p st bits) (Derived.cycle p d bits) (lives_next p flows st d bits sim.arrays ls)
-    cycle_sim foreseen =
+    pub cycle_sim : Sim p (Cycle.cycle p st bits) (Derived.cycle p d bits) (lives_next p flows st d bits sim.arrays ls)
+    cycle_sim =
         subst (λ s. Sim p s (Derived.cycle p d bits) (lives_next p flows st d bits sim.arrays ls)) (sym after_is)
         (subst (λ these. Sim p next_state (Derived.after_acts p d bits these) (lives_next p flows st d bits sim.arrays ls)) (sym derived_acts_are)
-        (next_sim foreseen))
+        next_sim)
 
     -- THE PORTS
 
@@ -545,7 +534,7 @@ module _ (p : Pipe) (flows : Flows p) where
               (λ ks l k. ap (λ (w : Work). (did p d bits ks l).moves && is_none (goes_to (stage_at p l.thread.stage).next w.env))
               (sym (like_here p flows st d bits sim.arrays ks l k).is))
               ∙ sym (any_rev _ (dacts p d bits ls));
-          squash = squashes p flows st d bits sim.arrays st.next ls known sim.falls ∙ sym (any_rev _ (dacts p d bits ls));
+          squash = squashes p flows st d bits sim.arrays st.next ls known foreseen sim.falls ∙ sym (any_rev _ (dacts p d bits ls));
           wait =
               ap (Cycle.waits_from p bits 0) sim.requests ∙ waits_are (request_of st) (asked_at d) outstanding 0 p.mems
               ∙ ap (Derived.waits_from p bits 0) (sym sim.asked);

@@ -17,7 +17,7 @@ use Rattle.pdl_theory_simulation.proofs.Stretches.{Behind, on_way, left_trunk}
 use Rattle.pdl_theory_simulation.proofs.Seats.{Live, each_map, Ordered, Falls, falls_each, pends, befores_are}
 use Rattle.pdl_theory_simulation.proofs.Choices.{AllKnown, Seated, Matched}
 use Rattle.pdl_theory_simulation.proofs.ThreadFacts.{sides}
-use Rattle.pdl_theory_simulation.proofs.WholeSimulation.{known}
+use Rattle.pdl_theory_simulation.proofs.CycleStarts.{known}
 use Rattle.pdl_theory_states.proofs.OldestFirst.{told, oldest_first, live_is, all_each, Pairwise, pairs_all}
 use Rattle.pdl_theory_states.proofs.Stage.{barred}
 use Rattle.pdl_theory_states.proofs.ThreadFacts.{Lasting, Along}

@@ -31,7 +31,7 @@ use Rattle.pdl_theory_turns.proofs.StageFacts.{caught_other}
 use Rattle.pdl_theory_turns.proofs.CourseOf.{course}
 use Rattle.pdl_theory_turns.proofs.Lives.{Writes, Marks, RowsAt}
 use Rattle.pdl_theory_refinement.proofs.Cycles.{rows_next}
-use Rattle.pdl_theory_refinement.proofs.Spots.{Spot, with_guess, seats, Sure, Here, Standing, Tail, Last}
+use Rattle.pdl_theory_refinement.proofs.Spots.{Spot, with_hint, seats, Sure, Here, Standing, Tail, Last}
 use Rattle.pdl_semantics.proofs.Readiness.{exact_none}
 use Rattle.pdl_theory_simulation.proofs.AcceptedFacts.{sound_flows}
 use Rattle.pdl_theory_derived.proofs.Entries.{entries_of}
@@ -226,14 +226,14 @@ module _ (p : Pipe) (sound : Sound p) (image : Arrays) (st : State) (d : Derived
     pub seated : Seated p st l
     pub mine : Mine p st l
     pub sp : Spot
-    pub thread : l.thread ≡ Spots.seat p (with_guess f.arrays sp.hint) f.args sp
+    pub thread : l.thread ≡ Spots.seat p (with_hint f.arrays sp.hint) f.args sp
     pub w : Writes
     pub v : Marks
     pub ahead : List ℕ
     pub last : Bool
     pub rows_now : RowsAt image w f.arrays
     pub plain : (m : ℕ) → is_plain (mem_at p m).lock ≡ true → v m ≡ []
-    pub here : Here p (course p sound) d.asked past w v (with_guess f.arrays sp.hint) f.args ahead sp last
+    pub here : Here p (course p sound) d.asked past w v (with_hint f.arrays sp.hint) f.args ahead sp last
 
   -- each of these is a thread on its turn
   abbrev pub AllGood : List Follower → Type 0
@@ -251,7 +251,7 @@ module _ (p : Pipe) (sound : Sound p) (image : Arrays) (st : State) (d : Derived
       subst (λ ks. AllGood (followers_of p arrays args (tells ks))) (sym (no_lives os (e ∙ t))) tt
   walk w v arrays args ahead [] (sp ∷ sps) strays rows_now plain h t e s mine = tt
   walk w v arrays args ahead (o ∷ os) (sp ∷ []) strays rows_now plain h t e s mine =
-      (good, at (so_far p (with_guess arrays sp.hint) args sp.stage).child refl t)
+      (good, at (so_far p (with_hint arrays sp.hint) args sp.stage).child refl t)
     where
       good : Good (record { live = told o; arrays = arrays; args = args })
       good =
@@ -276,7 +276,7 @@ module _ (p : Pipe) (sound : Sound p) (image : Arrays) (st : State) (d : Derived
       none false i = subst (λ ks. AllGood (followers_of p (thread p arrays args).arrays (thread p arrays args).next (tells ks))) (sym i) tt
 
       at : (c : Option (List ℕ))
-          → (so_far p (with_guess arrays sp.hint) args sp.stage).child ≡ c
+          → (so_far p (with_hint arrays sp.hint) args sp.stage).child ≡ c
           → Last p (course p sound).stray (course p sound).made sp.stage c strays
           → AllGood
           (if guessed_wrong p (thread p arrays args).next (told o) then []
@@ -284,7 +284,7 @@ module _ (p : Pipe) (sound : Sound p) (image : Arrays) (st : State) (d : Derived
       at None i k = none (guessed_wrong p (thread p arrays args).next (told o)) (no_lives os (cons_tail e ∙ k))
       at (Some x) i k =
           subst (λ b. AllGood (if b then [] else followers_of p (thread p arrays args).arrays (thread p arrays args).next (tells os)))
-          (sym (wrong_of p sound st (with_guess arrays sp.hint) args o sp (cons_head e) s.0 h.0.waits.gets true h.0.linked (ap is_some i))) tt
+          (sym (wrong_of p sound st (with_hint arrays sp.hint) args o sp (cons_head e) s.0 h.0.waits.gets true h.0.linked (ap is_some i))) tt
   walk w v arrays args ahead (o ∷ os) (sp ∷ sp' ∷ sps) strays rows_now plain h t e s mine = (
     record {
       l = o;
@@ -302,10 +302,10 @@ module _ (p : Pipe) (sound : Sound p) (image : Arrays) (st : State) (d : Derived
       here = h.0;
     },
     either (guessed_wrong p (thread p arrays args).next (told o))
-        (walk (λ m. w m ++ of_mem m (thread p arrays args).writes) (λ m. v m ++ marks p (with_guess arrays sp.hint) args sp.stage m)
+        (walk (λ m. w m ++ of_mem m (thread p arrays args).writes) (λ m. v m ++ marks p (with_hint arrays sp.hint) args sp.stage m)
         (thread p arrays args).arrays (thread p arrays args).next (sp.stage ∷ ahead) os (sp' ∷ sps) strays
-        (rows_next p (course p sound) image w (with_guess arrays sp.hint) args rows_now)
-        (λ m i. ap₂ (λ a b. a ++ b) (plain m i) ((course p sound).marks_plain (with_guess arrays sp.hint) args sp.stage m i)) h.1 t (cons_tail e) s.1 mine.1),
+        (rows_next p (course p sound) image w (with_hint arrays sp.hint) args rows_now)
+        (λ m i. ap₂ (λ a b. a ++ b) (plain m i) ((course p sound).marks_plain (with_hint arrays sp.hint) args sp.stage m i)) h.1 t (cons_tail e) s.1 mine.1),
   )
     where
       either : (b : Bool)
@@ -359,7 +359,7 @@ module _ (p : Pipe) (sound : Sound p) (image : Arrays) (st : State) (d : Derived
       (answers_right g.w g.v f.arrays g.rows_now g.plain g.sp.stage (λ m c. g.here.words m (inl c)) g.l.number g.sp.asks
       (subst (λ (t : Derived.Thread). AllFetched p t.stage t.awaits) g.thread g.seated.keeps_on.fetched)
       (subst (λ rs. AllOwned st g.l.number rs) (ap (λ (t : Derived.Thread). t.awaits) g.thread) g.seated.owned) g.here.waits.out g.here.waits.sure)
-      ∙ g.here.waits.gets ∙ turn_env p sound (with_guess f.arrays g.sp.hint) f.args g.sp.stage
+      ∙ g.here.waits.gets ∙ turn_env p sound (with_hint f.arrays g.sp.hint) f.args g.sp.stage
       ∙ ap (λ s. (Sequential.run_all (Sound.stages_before s p.stmts) (TurnPath.start_run p f.arrays f.args)).env)
       (ap (λ (t : Derived.Thread). t.stage) (sym g.thread) ∙ ap (λ (x : Sound.Live). x.stage) (sym g.is))
 
@@ -391,7 +391,7 @@ module _ (p : Pipe) (sound : Sound p) (image : Arrays) (st : State) (d : Derived
 
       way : on_way p g.l.env g.l.thread.stage ≡ on_way p (thread (at_once p) f.arrays f.args).env g.sp.stage
       way =
-          way_of p sound st (with_guess f.arrays g.sp.hint) f.args g.l g.sp g.thread g.seated g.here.waits.gets
+          way_of p sound st (with_hint f.arrays g.sp.hint) f.args g.l g.sp g.thread g.seated g.here.waits.gets
           ∙ ap (on_way p (thread (at_once p) f.arrays f.args).env) here
 
       at : (b : Bool) → nat_lt (reserve_stage p m) g.sp.stage ≡ b
@@ -401,7 +401,7 @@ module _ (p : Pipe) (sound : Sound p) (image : Arrays) (st : State) (d : Derived
           ap₂
           (λ xs (t : Derived.Thread). right_list (count (λ x. is_write m x.op) xs) (turn_writes m p f) (pend m g.l.number
           (entries_of m t.entries))) way g.thread
-          ∙ turn_entries p sound (with_guess f.arrays g.sp.hint) f.args g.sp.stage m g.l.number (ltb-true _ _ e)
+          ∙ turn_entries p sound (with_hint f.arrays g.sp.hint) f.args g.sp.stage m g.l.number (ltb-true _ _ e)
       at false e =
           ap (λ es. right_list (count (λ x. is_write m x.op) (on_way p g.l.env g.l.thread.stage)) (turn_writes m p f) (pend m g.l.number es))
           (early p (sound_flows p sound) g.l.env g.l.thread g.seated.keeps_on m (subst (λ s. s ≤ reserve_stage p m) (sym here) (ltb-false _ _ e)))

@@ -1,13 +1,13 @@
 -- What older threads' pending writes say of an address grows only more ready, where they are past the reserves.
 use Rattle.std.proofs.Common.{◌≡◌, ◌≢◌, refl, sym, ap, ◌∙◌, subst, ℕ, ◌≤◌, ◌<◌, Bool, true, false, ◌&&◌, ◌||◌, not, List, [], ◌∷◌, ◌++◌, length, Option, Some, None, is_none, ◌==◌, cond, if◌then◌else◌, arith, eq-eqb, slice_index}
 use Rattle.std.proofs.lemmas.Bool.{eqb-true, eqb-false}
-use Rattle.pdl_semantics.specs.Flat.{Pipe, Op, Bind, CombRead, DelayedRead, Write, ReserveRead, ReserveWrite, Block, Release, Call, SpecCall, Verify, SpecCheck, SpecBarrier, AdviceBind, AdviceRead, AdviceWrite, Stmt, value_of, values_of, all_hold}
+use Rattle.pdl_semantics.specs.Flat.{Pipe, Op, Bind, CombRead, DelayedRead, Write, ReserveRead, ReserveWrite, Block, Release, Call, SpecCall, Verify, SpecCheck, SpecBarrier, AdviceBind, AdviceRead, AdviceWrite, Stmt, value_of, all_hold}
 use Rattle.pdl_semantics.specs.Stages.{in_stage, stage_at, goes_to, is_reserve, is_release, reserve_stage, commit_stage}
 use Rattle.pdl_semantics.specs.Locks.{Latest, Nothing, as_latest}
 use Rattle.pdl_semantics.specs.Machine.{State, same_args}
 use Rattle.pdl_semantics.proofs.Readiness.{Calm, calm_nothing, calm_value}
 use Rattle.pdl_semantics.specs.Promises.{DifferInAdvice}
-use Rattle.pdl_theory_derived.specs.Derived.{Entry, Work, Around, work_after, do_all, with_entry_value, latest_in, latest, around}
+use Rattle.pdl_theory_derived.specs.Derived.{Entry, Work, Around, work_after, do_all, with_entry_value, latest_in, latest, around, said}
 use Rattle.pdl_theory_derived.specs.Derived
 use Rattle.pdl_theory_facts.specs.Scans.{none_of}
 use Rattle.pdl_theory_simulation.proofs.FlowFacts.{Flows, stage_or}
@@ -70,10 +70,10 @@ filled_op m start o (ReserveWrite n a) w r q h = at (n == m) r
         → Filled start (cond b (record { mem = n; var = a; address = slice_index w.env a; value = None } ∷ entries_of m w.entries) (entries_of m w.entries))
     at true i = absurd (cc i)
     at false i = h
-filled_op m start o (Verify last args) w r q h = at (same_args (values_of args w.env) w.guess)
+filled_op m start o (Verify last args) w r q h = at (same_args (said o last args w.env) w.guess)
   where
     at : (b : Bool)
-        → Filled start (entries_of m (cond b w (record w { child = Some (values_of args w.env); guess = values_of args w.env; fails = true })).entries)
+        → Filled start (entries_of m (cond b w (record w { child = Some (said o last args w.env); guess = said o last args w.env; fails = true })).entries)
     at true = h
     at false = h
 filled_op m start o (Bind x e) w r q h = h

@@ -2,12 +2,12 @@
 use Rattle.std.proofs.Common.{◌≡◌, refl, sym, ap, ap₂, ◌∙◌, subst, ℕ, ◌≤◌, ◌<◌, ◌⊎◌, inl, inr, Bool, true, false, ◌&&◌, ◌||◌, not, List, [], ◌∷◌, ◌++◌, length, Some, None, ◌==◌, nat_lt, cond, arith, slice_index, slice_set, eq-eqb, ltb-true}
 use Rattle.std.proofs.lemmas.List.{get_or-set_other, get_or-set_same, length-set}
 use Rattle.std.proofs.lemmas.Bool.{eqb-true, not-true, or_parts, or_right, or_left}
-use Rattle.pdl_semantics.specs.Flat.{Op, Bind, CombRead, DelayedRead, Write, ReserveRead, ReserveWrite, Block, Release, Call, SpecCall, Verify, SpecCheck, SpecBarrier, Stmt, value_of, values_of, all_hold, AdviceBind, AdviceRead, AdviceWrite}
+use Rattle.pdl_semantics.specs.Flat.{Op, Bind, CombRead, DelayedRead, Write, ReserveRead, ReserveWrite, Block, Release, Call, SpecCall, Verify, SpecCheck, SpecBarrier, Stmt, value_of, all_hold, AdviceBind, AdviceRead, AdviceWrite}
 use Rattle.pdl_semantics.specs.Forms.{on_block}
 use Rattle.pdl_semantics.specs.Stages.{onpath, is_release}
 use Rattle.pdl_semantics.specs.Machine.{Ask, same_args}
 use Rattle.pdl_semantics.specs.Sound.{is_release_at, is_call}
-use Rattle.pdl_theory_derived.specs.Derived.{Entry, Work, Around, work_after, do_all, moved_up, without, with_entry_value, has_entry}
+use Rattle.pdl_theory_derived.specs.Derived.{Entry, Work, Around, work_after, do_all, moved_up, without, with_entry_value, has_entry, said, Hint}
 use Rattle.pdl_theory_facts.specs.Facts.{uses_in, mentions_var, asks_for, silent_on, unseen_op, is_unseen}
 use Rattle.pdl_theory_facts.specs.Scans.{is_dead}
 use Rattle.pdl_theory_derived.proofs.Writes.{and_left, and_right}
@@ -20,12 +20,12 @@ use Rattle.pdl_theory_turns.proofs.Surroundings.{has_filled, has_moved}
 use Rattle.pdl_theory_derived.proofs.Entries.{entries_of}
 use Rattle.pdl_theory_turns.proofs.Guesses.{same_args_eq}
 use Rattle.pdl_word.proofs.Bools.{untrue}
-use Rattle.pdl_theory_states.proofs.UnusedValues.{AllOps, AnyOp, ops_map, ops_both, any_both, onto, touches, value_agree, Done, done_agrees, done_guess, guess_past, guess_agrees, mention_touch, untouched, set_agrees}
+use Rattle.pdl_theory_states.proofs.UnusedValues.{AllOps, AnyOp, ops_map, ops_both, any_both, onto, touches, value_agree, Done, done_agrees, done_guess, guess_past, guess_agrees, mention_touch, untouched, set_agrees, given, said_past}
 
 -- LISTS OF STATEMENTS
 
 -- the guess stays where a variable is set that no statement hangs on
-pub guess_set : (hint : List ℕ) (x v : ℕ) (env : List ℕ) (past : List Op) → AllOps (λ op. touches x op ≡ false) past
+pub guess_set : (hint : Hint) (x v : ℕ) (env : List ℕ) (past : List Op) → AllOps (λ op. touches x op ≡ false) past
     → guess_past hint past env ≡ guess_past hint past (slice_set env x v)
 guess_set hint x v env [] t = refl
 guess_set hint x v env (op ∷ past) t =
@@ -91,7 +91,7 @@ BlockOk o env es past op =
 pub record Past (o : Around) (vars : ℕ) (past : List Op) (w : Work) : Type 0 where
   pub long : vars ≤ length w.env
   pub done : AllOps (Done w.env w.guess) past
-  pub guessed : w.guess ≡ guess_past o.guess past w.env
+  pub guessed : w.guess ≡ guess_past (given o) past w.env
   pub placed : AllPlaced w.env past w.entries
   pub asked : AllAsks (AskedBy w.env past) w.asks
   pub unused : AllAsks (λ q. AllOps (λ op. touches q.var op ≡ false) past) w.asks
@@ -238,7 +238,7 @@ module _ (o : Around) (vars : ℕ) (kind : Kind o) where
   -- a statement that binds a variable
   bind_step : (x v : ℕ) (op : Op) (past : List Op) (w : Work) → is_new vars past (Some x) ≡ true
       → AllAsks (λ q. mentions_var q.var op ≡ false) w.asks → (Done (slice_set w.env x v) w.guess op)
-      → ((e : List ℕ) → guess_past o.guess (op ∷ past) e ≡ guess_past o.guess past e)
+      → ((e : List ℕ) → guess_past (given o) (op ∷ past) e ≡ guess_past (given o) past e)
       → BlockOk o (slice_set w.env x v) w.entries (op ∷ past) op → ((m a : ℕ) → is_release_at m a op ≡ false)
       → Past o vars past w → Past o vars (op ∷ past) (record w { env = slice_set w.env x v })
   bind_step x v op past w new silent mine calm block quiet h =
@@ -247,7 +247,7 @@ module _ (o : Around) (vars : ℕ) (kind : Kind o) where
       record {
         long = subst (λ n. vars ≤ n) (sym (length-set w.env x v)) h.long;
         done = (mine, ops_both (λ o' t' d. done_agrees w.env (slice_set w.env x v) w.guess o' (set_agrees x v o' w.env t') d) past t h.done);
-        guessed = h.guessed ∙ guess_set o.guess x v w.env past t ∙ sym (calm (slice_set w.env x v));
+        guessed = h.guessed ∙ guess_set (given o) x v w.env past t ∙ sym (calm (slice_set w.env x v));
         placed = placed_more (slice_set w.env x v) past op w.entries (placed_set x v w.env past w.entries (none_touched x past t) h.placed);
         asked = all_more (AskedBy w.env past) (AskedBy (slice_set w.env x v) (op ∷ past)) w.asks (λ q k. inr (asked_set x v w.env past q t k)) h.asked;
         unused =
@@ -259,7 +259,7 @@ module _ (o : Around) (vars : ℕ) (kind : Kind o) where
 
   -- one that only changes what is pending
   pend_step : (op : Op) (past : List Op) (w : Work) (es : List Entry)
-      → AllAsks (λ q. mentions_var q.var op ≡ false) w.asks → Done w.env w.guess op → w.guess ≡ guess_past o.guess (op ∷ past) w.env
+      → AllAsks (λ q. mentions_var q.var op ≡ false) w.asks → Done w.env w.guess op → w.guess ≡ guess_past (given o) (op ∷ past) w.env
       → AllPlaced w.env (op ∷ past) es
       → BlockOk o w.env es (op ∷ past) op
       → ((m a : ℕ)
@@ -284,7 +284,7 @@ module _ (o : Around) (vars : ℕ) (kind : Kind o) where
 
   -- one that leaves all that as it is
   still_step : (op : Op) (past : List Op) (w : Work) → AllAsks (λ q. mentions_var q.var op ≡ false) w.asks
-      → Done w.env w.guess op → w.guess ≡ guess_past o.guess (op ∷ past) w.env → BlockOk o w.env w.entries (op ∷ past) op → Past o vars past w
+      → Done w.env w.guess op → w.guess ≡ guess_past (given o) (op ∷ past) w.env → BlockOk o w.env w.entries (op ∷ past) op → Past o vars past w
       → Past o vars (op ∷ past) w
   still_step op past w silent mine guessed block h =
       pend_step op past w w.entries silent mine guessed (placed_more w.env past op w.entries h.placed) block (λ m a. inr (λ i. i)) h
@@ -311,7 +311,7 @@ module _ (o : Around) (vars : ℕ) (kind : Kind o) where
 
   -- one that gives the guess
   guess_step : (op : Op) (g : List ℕ) (past : List Op) (w : Work)
-      → AllAsks (λ q. mentions_var q.var op ≡ false) w.asks → g ≡ guess_past o.guess (op ∷ past) w.env
+      → AllAsks (λ q. mentions_var q.var op ≡ false) w.asks → g ≡ guess_past (given o) (op ∷ past) w.env
       → Done w.env g op → BlockOk o w.env w.entries (op ∷ past) op → ((q : Ask) → mentions_var q.var op ≡ false → touches q.var op ≡ false)
       → Past o vars past w
       → Past o vars (op ∷ past) (record w { child = Some g; guess = g })
@@ -340,7 +340,7 @@ module _ (o : Around) (vars : ℕ) (kind : Kind o) where
       record {
         long = subst (λ (l : List ℕ). vars ≤ length l) e h.long;
         done = subst (λ l. AllOps (Done v.env l) past) g (subst (λ l. AllOps (Done l w.guess) past) e h.done);
-        guessed = sym g ∙ h.guessed ∙ ap (guess_past o.guess past) e;
+        guessed = sym g ∙ h.guessed ∙ ap (guess_past (given o) past) e;
         placed = subst (λ l. AllPlaced v.env past l) s (subst (λ l. AllPlaced l past w.entries) e h.placed);
         asked = subst (λ l. AllAsks (AskedBy v.env past) l) a (subst (λ l. AllAsks (AskedBy l past) w.asks) e h.asked);
         unused = subst (λ l. AllAsks (λ q. AllOps (λ op. touches q.var op ≡ false) past) l) a h.unused;
@@ -411,17 +411,20 @@ module _ (o : Around) (vars : ℕ) (kind : Kind o) where
       same_past (Call args ∷ past) w (work_after o (Call args) w) refl refl refl refl (still_step (Call args) past w silent tt h.guessed tt h)
   past_step (SpecCall args) past w new own silent calls ready h =
       guess_step (SpecCall args) o.guess past w silent refl tt tt (λ q k. mention_touch q.var (SpecCall args) k) h
-  past_step (Verify last args) past w new own silent calls ready h = at (same_args (values_of args w.env) w.guess) refl
+  past_step (Verify last args) past w new own silent calls ready h = at (same_args (said o last args w.env) w.guess) refl
     where
       at : (b : Bool)
-          → same_args (values_of args w.env) w.guess ≡ b
-          → Past o vars (Verify last args ∷ past) (cond b w (record w { child = Some (values_of args w.env); guess = (values_of args w.env); fails = true }))
-      at true e = still_step (Verify last args) past w silent tt (sym (same_args_eq (values_of args w.env) w.guess e)) tt h
+          → same_args (said o last args w.env) w.guess ≡ b
+          → Past o vars (Verify last args ∷ past) (cond b w (record w { child = Some (said o last args w.env); guess = (said o last args w.env); fails = true }))
+      at true e =
+          still_step (Verify last args) past w silent tt
+          (sym (same_args_eq (said o last args w.env) w.guess e) ∙ said_past o last args past w.env) tt h
       at false e =
           same_past (Verify last args ∷ past)
-          (record w { child = Some (values_of args w.env); guess = values_of args w.env })
-          (record w { child = Some (values_of args w.env); guess = (values_of args w.env); fails = true }) refl refl refl refl
-          (guess_step (Verify last args) (values_of args w.env) past w silent refl tt tt (λ q k. mention_touch q.var (Verify last args) k) h)
+          (record w { child = Some (said o last args w.env); guess = said o last args w.env })
+          (record w { child = Some (said o last args w.env); guess = (said o last args w.env); fails = true }) refl refl refl refl
+          (guess_step (Verify last args) (said o last args w.env) past w silent
+          (said_past o last args past w.env) tt tt (λ q k. mention_touch q.var (Verify last args) k) h)
   past_step SpecCheck past w new own silent calls ready h = still_step SpecCheck past w silent tt h.guessed tt h
   past_step (AdviceBind x' e') past w new own silent calls ready h = still_step (AdviceBind x' e') past w silent tt h.guessed tt h
   past_step (AdviceRead x' m' a') past w new own silent calls ready h = still_step (AdviceRead x' m' a') past w silent tt h.guessed tt h
@@ -439,11 +442,11 @@ module _ (o : Around) (vars : ℕ) (kind : Kind o) where
       → AllAsks (λ q. silent_on q.var ys ≡ true) w.asks
       → AllAsks (λ q. silent_on q.var ys ≡ true) (work_after o op w).asks
   asks_silent (DelayedRead x m a) w ys u h = all_snoc (λ q. silent_on q.var ys ≡ true) w.asks (record { mem = m; var = x; address = slice_index w.env a }) h u
-  asks_silent (Verify last args) w ys u h = at (same_args (values_of args w.env) w.guess)
+  asks_silent (Verify last args) w ys u h = at (same_args (said o last args w.env) w.guess)
     where
       at : (b : Bool)
           → AllAsks (λ q. silent_on q.var ys ≡ true)
-          (cond b w (record w { child = Some (values_of args w.env); guess = (values_of args w.env); fails = true })).asks
+          (cond b w (record w { child = Some (said o last args w.env); guess = (said o last args w.env); fails = true })).asks
       at true = h
       at false = h
   asks_silent (Bind x e) w ys u h = h

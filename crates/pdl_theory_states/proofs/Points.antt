@@ -8,7 +8,7 @@ use Rattle.pdl_semantics.specs.Machine.{State, Awaited, Kept, Pending, HeldLocat
 use Rattle.pdl_semantics.specs.Moves.{block_ready}
 use Rattle.pdl_semantics.specs.Sound.{stages_before, are_linked, is_kept_or_awaited, asks_right, is_owner, is_release_at, stays_ready, on_path, is_done, right_place, is_fetch, held_places, has_done, is_call, guess_of, guess_after}
 use Rattle.pdl_semantics.specs.Sound
-use Rattle.pdl_theory_derived.specs.Derived.{Entry, has_entry, latest, awaits_mem}
+use Rattle.pdl_theory_derived.specs.Derived.{Entry, has_entry, latest, awaits_mem, Hint}
 use Rattle.pdl_theory_facts.specs.Scans.{called, none_of}
 use Rattle.pdl_theory_turns.proofs.Paths.{none_onpath}
 use Rattle.pdl_theory_simulation.proofs.Shapes.{none_till}
@@ -242,7 +242,7 @@ done_op st l (AdviceRead x m a) h = refl
 done_op st l (AdviceWrite m a e) h = refl
 
 -- the guess after statements that were carried out one after another is what these give, in the order of the text
-pub guess_onto : (hint : List ℕ) (advice : List Kept) (env : List ℕ) (xs : List Stmt) (past : List Op) → AllOps (GuessDone advice env hint) (onto xs past)
+pub guess_onto : (hint : Hint) (advice : List Kept) (env : List ℕ) (xs : List Stmt) (past : List Op) → AllOps (GuessDone advice env hint) (onto xs past)
     → guess_past hint (onto xs past) env ≡ guess_of xs advice env (guess_past hint past env)
 guess_onto hint advice env [] past h = refl
 guess_onto hint advice env (x ∷ xs) past h =
@@ -254,6 +254,8 @@ guess_onto hint advice env (x ∷ xs) past h =
 
     one : (op : Op) → GuessDone advice env hint op → guess_past hint (op ∷ past) env ≡ guess_after op advice env (guess_past hint past env)
     one (SpecCall args) k = k
+    one (Verify true args) k = refl
+    one (Verify false args) k = k
     one _ k = refl
 
 never_go : (m : ℕ) (xs : List Stmt) → none_of (is_release m) xs ≡ true → let_go m (onto xs []) ≡ true → ⊥

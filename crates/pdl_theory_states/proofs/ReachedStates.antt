@@ -23,9 +23,9 @@ use Rattle.pdl_theory_simulation.proofs.Choices.{AllForeseen, Known, AllKnown, k
 use Rattle.pdl_theory_simulation.proofs.LockLists.{fell, moved_live, stood, go_on, Agrees}
 use Rattle.pdl_theory_simulation.proofs.LiveThreads.{made, childed_here, born_live, lives_next}
 use Rattle.pdl_theory_simulation.proofs.Requests.{Asker, asking, one_asks, first_of}
-use Rattle.pdl_theory_simulation.proofs.WholeSimulation.{next_state, known, fit, after_is, cycle_sim}
+use Rattle.pdl_theory_simulation.proofs.WholeSimulation.{foreseen, fit, after_is, cycle_sim}
 use Rattle.pdl_theory_simulation.proofs.SimulatedRuns.{first_sim, first_live}
-use Rattle.pdl_theory_simulation.proofs.Foretold.{Foretells, foreseen_here, foretells_next, first_foretells, stays_called}
+use Rattle.pdl_theory_simulation.proofs.Foretold.{Foretells, foretold_here, foretells_next, first_foretells, stays_called}
 use Rattle.pdl_theory_states.specs.Strict.{Strict}
 use Rattle.pdl_theory_states.proofs.PastStatements.{BlockOk}
 use Rattle.pdl_theory_states.proofs.Guessed.{GuessDone}
@@ -35,6 +35,8 @@ use Rattle.pdl_theory_states.proofs.Stage.{barred, look_at, childless}
 use Rattle.pdl_theory_states.proofs.ThreadFacts.{Lasting, Along, lasting_stood, lasting_moved}
 use Rattle.pdl_semantics.specs.Sound.{is_call}
 use Rattle.pdl_theory_simulation.proofs.SimulatedStates.{Sim}
+use Rattle.pdl_theory_simulation.proofs.CycleStarts.{next_state, known}
+use Rattle.pdl_theory_simulation.proofs.Orders.{AllForetold}
 
 -- the youngest has not made its successor
 abbrev pub Youngest : Pipe → List Live → Type 0
@@ -78,7 +80,7 @@ module _ (p : Pipe) (sound : Sound p) (strict : Strict p) where
       at true e = e
       at false e = absurd (unmade (unmade_all (onpath path p.stmts) ((sound_flows p sound).calls path) e))
 
-  fresh_lasting : (st : State) (n : ℕ) (hint args : List ℕ) (older : List Live)
+  fresh_lasting : (st : State) (n : ℕ) (hint : Derived.Hint) (args : List ℕ) (older : List Live)
       → Lasting p st (record { number = n; thread = fresh p hint args; env = (fresh p hint args).env; kept = []; advice = [] }) older
   fresh_lasting st n hint args older =
       record {
@@ -94,7 +96,8 @@ module _ (p : Pipe) (sound : Sound p) (strict : Strict p) where
   fresh_young : (args : List ℕ) → has_made p (start_env p args) 0 ≡ false
   fresh_young args = ap (called false) ((sound_flows p sound).first_piece (start_env p args))
 
-  module _ (st : State) (d : Derived.State) (bits : List Bool) (ls : List Live) (sim : Sim p st d ls) where
+  module _ (st : State) (d : Derived.State) (bits : List Bool) (ls : List Live) (sim : Sim p st d ls)
+      (told : AllForetold p (sound_flows p sound) st d bits sim.arrays ls) where
     -- the threads that live on
     along_on : (ks : List Live)
         → AllKnown p (sound_flows p sound) st d bits sim.arrays ks → AllForeseen p (sound_flows p sound) st d bits sim.arrays ks
@@ -137,7 +140,7 @@ module _ (p : Pipe) (sound : Sound p) (strict : Strict p) where
             (moved_live r (advised p st bits l) (work_of_live p d bits ks l) ++ go_on p st d bits ks)
         out f i None e r = r
         out f i (Some q) e r =
-            (lasting_moved p sound strict st d bits ls sim ks l k.0 k.1 o.1 o.0 f (g.0 ∙ ap not f) a.0 i (fs.0 i) (λ m x u. h m _ (mine i m x u)) q e, r)
+            (lasting_moved p sound strict st d bits ls sim told ks l k.0 k.1 o.1 o.0 f (g.0 ∙ ap not f) a.0 i (fs.0 i) (λ m x u. h m _ (mine i m x u)) q e, r)
 
         at : (f : Bool) → fell p d bits ks ≡ f → (b : Bool) → (did p d bits ks l).moves ≡ b
             → Along (Lasting p (next_state p (sound_flows p sound) st d bits ls sim))
@@ -150,14 +153,14 @@ module _ (p : Pipe) (sound : Sound p) (strict : Strict p) where
             ++ go_on p st d bits ks)
         at true e b i r = r
         at false e true i r = out e i (goes_to (stage_at p l.thread.stage).next (work_of_live p d bits ks l).env) refl r
-        at false e false i r = (lasting_stood p sound strict st d bits ls sim ks l k.0 k.1 o.1 o.0 e (g.0 ∙ ap not e) a.0, r)
+        at false e false i r = (lasting_stood p sound strict st d bits ls sim told ks l k.0 k.1 o.1 o.0 e (g.0 ∙ ap not e) a.0, r)
 
     along_next : AllForeseen p (sound_flows p sound) st d bits sim.arrays ls → Along (Lasting p st) ls
         → Along (Lasting p (next_state p (sound_flows p sound) st d bits ls sim))
         (lives_next p (sound_flows p sound) st d bits sim.arrays ls)
     along_next fs a =
         at (made p (sound_flows p sound) st d bits sim.arrays ls)
-        (along_on ls (known p (sound_flows p sound) st d bits ls sim) fs sim.ordered (fit p (sound_flows p sound) st d bits ls sim) (λ m x e. e) a)
+        (along_on ls (known p (sound_flows p sound) st d bits ls sim) fs sim.ordered (fit p (sound_flows p sound) st d bits ls sim told) (λ m x e. e) a)
       where
         at : (c : Option (List ℕ))
             → Along (Lasting p (next_state p (sound_flows p sound) st d bits ls sim))
@@ -253,33 +256,39 @@ module _ (p : Pipe) (sound : Sound p) (strict : Strict p) where
         at None e = young_on ls (known p (sound_flows p sound) st d bits ls sim) e y
         at (Some x) e = fresh_young x
 
-    whole_next : AllForeseen p (sound_flows p sound) st d bits sim.arrays ls
-        → Whole p st ls → Whole p (cycle p st bits) (lives_next p (sound_flows p sound) st d bits sim.arrays ls)
-    whole_next fs w = record {
+    whole_next : Whole p st ls → Whole p (cycle p st bits) (lives_next p (sound_flows p sound) st d bits sim.arrays ls)
+    whole_next w = record {
       along =
           subst (λ s. Along (Lasting p s) (lives_next p (sound_flows p sound) st d bits sim.arrays ls))
-          (sym (after_is p (sound_flows p sound) st d bits ls sim)) (along_next fs w.along);
+          (sym (after_is p (sound_flows p sound) st d bits ls sim told)) (along_next (foreseen p (sound_flows p sound) st d bits ls sim told) w.along);
       youngest = young_next w.youngest;
     }
 
-  whole_run : (st : State) (d : Derived.State) (schedule : List (List Bool)) (ls : List Live) → Sim p st d ls
-      → Foretells p st d schedule ls → Whole p st ls
-      → (ks : List Live) × Sim p (state_after p st schedule) (Derived.state_after p d schedule) ks × Whole p (state_after p st schedule) ks
-  whole_run st d [] ls sim f w = (ls, sim, w)
-  whole_run st d (bits ∷ schedule) ls sim f w =
-      let fs = foreseen_here p (sound_flows p sound) st d bits ls sim schedule f in
+  -- a state of the stated machine that belongs to one of the derived machine, where all this holds of the live threads, and these were given what they say in the next cycles
+  pub record Reached (st : State) (d : Derived.State) (more : List (List Bool)) : Type 0 where
+    pub live : List Live
+    pub sim : Sim p st d live
+    pub whole : Whole p st live
+    pub foretells : Foretells p st d more live
+
+  whole_run : (st : State) (d : Derived.State) (schedule more : List (List Bool)) (ls : List Live) → Sim p st d ls
+      → Foretells p st d (schedule ++ more) ls → Whole p st ls
+      → Reached (state_after p st schedule) (Derived.state_after p d schedule) more
+  whole_run st d [] more ls sim f w = record { live = ls; sim = sim; whole = w; foretells = f }
+  whole_run st d (bits ∷ schedule) more ls sim f w =
+      let told = foretold_here p (sound_flows p sound) st d bits ls sim (schedule ++ more) f in
       whole_run (cycle p st bits)
-      (Derived.cycle p d bits) schedule (lives_next p (sound_flows p sound) st d bits sim.arrays ls)
-      (cycle_sim p (sound_flows p sound) st d bits ls sim fs) (foretells_next p (sound_flows p sound) st d bits ls sim schedule f)
-      (whole_next st d bits ls sim fs w)
+      (Derived.cycle p d bits) schedule more (lives_next p (sound_flows p sound) st d bits sim.arrays ls)
+      (cycle_sim p (sound_flows p sound) st d bits ls sim told)
+      (foretells_next p (sound_flows p sound) st d bits ls sim told (schedule ++ more) f) (whole_next st d bits ls sim told w)
 
   -- every state that a run comes to belongs to one of the derived machine, and all this holds of its live threads
-  pub reached : (image : Arrays) (schedule : List (List Bool))
-      → (ks : List Live)
-      × Sim p (state_after p (first p image) schedule) (Derived.state_after p (Derived.first p image (hints_of p (first p image) schedule)) schedule) ks
-      × Whole p (state_after p (first p image) schedule) ks
-  reached image schedule =
-      whole_run (first p image) (Derived.first p image (hints_of p (first p image) schedule)) schedule
-      (first_live p (sound_flows p sound) (hints_of p (first p image) schedule 0) ∷ [])
-      (first_sim p (sound_flows p sound) image (hints_of p (first p image) schedule)) (first_foretells p (sound_flows p sound) image schedule)
-      (record { along = (fresh_lasting (first p image) 1 (hints_of p (first p image) schedule 0) p.start [], tt); youngest = fresh_young p.start })
+  pub reached : (image : Arrays) (schedule more : List (List Bool))
+      → Reached (state_after p (first p image) schedule)
+      (Derived.state_after p (Derived.first p image (hints_of p (first p image) (schedule ++ more))) schedule) more
+  reached image schedule more =
+      whole_run (first p image) (Derived.first p image (hints_of p (first p image) (schedule ++ more))) schedule more
+      (first_live p (sound_flows p sound) (hints_of p (first p image) (schedule ++ more) 0) ∷ [])
+      (first_sim p (sound_flows p sound) image (hints_of p (first p image) (schedule ++ more)))
+      (first_foretells p (sound_flows p sound) image (schedule ++ more))
+      (record { along = (fresh_lasting (first p image) 1 (hints_of p (first p image) (schedule ++ more) 0) p.start [], tt); youngest = fresh_young p.start })

@@ -6,7 +6,7 @@ use Rattle.pdl_semantics.specs.Stages.{list_any, onpath, is_release, commit_stag
 use Rattle.pdl_semantics.specs.Machine.{State, HeldLocation}
 use Rattle.pdl_semantics.specs.Sequential.{Run, thread}
 use Rattle.pdl_semantics.specs.Sound.{stages_before, stages_from, is_write_reserve, has_released}
-use Rattle.pdl_theory_derived.specs.Derived.{Entry}
+use Rattle.pdl_theory_derived.specs.Derived.{Entry, no_hint}
 use Rattle.pdl_semantics.specs.Sound
 use Rattle.pdl_theory_derived.specs.Alone.{World, before, answered_op, is_nil, is_among, is_oldest, drop_var, but_last}
 use Rattle.pdl_theory_facts.specs.Scans.{Phase, Fresh, next_phase, phase_all, phase_ok, phases_ok, after_write, after_reserve, after_release, may_write, none_of, Scan, no_scan, has_location, scan_after, no_guards}
@@ -389,7 +389,7 @@ early_unreleased p sound st l seated v verifies low clear m = not_released p sou
     (ap is_done (sym (phases_looked m Fresh (on_way p l.env l.thread.stage)))
     ∙ ap (λ xs. is_done (phase_all m Fresh xs)) (sym (way_looked p l.env l.thread.stage))
     ∙ sure_done m v no_scan Fresh (before l.thread.stage (onpath l.env (looked_all p.stmts)))
-    (TurnPath.ok_before (along l.env (at_once p)) (sound.pathwise.paths l.env) (record { words = λ k a. 0; guess = [] }) [] l.thread.stage m)
+    (TurnPath.ok_before (along l.env (at_once p)) (sound.pathwise.paths l.env) (record { words = λ k a. 0; hint = no_hint }) [] l.thread.stage m)
     (subst (λ o. all_sure o false no_scan (before l.thread.stage (onpath l.env (looked_all p.stmts))) ≡ true) (verify_looked p.stmts ∙ verifies)
     (sure_first (verify_stage (looked_all p.stmts)) false no_scan (before l.thread.stage (onpath l.env (looked_all p.stmts)))
     (stages_from l.thread.stage (onpath l.env (looked_all p.stmts)))

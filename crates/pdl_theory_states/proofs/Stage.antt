@@ -1,12 +1,12 @@
 -- What a thread's stage tells of barriers, blocks and calls.
 use Rattle.std.proofs.Common.{◌≡◌, refl, sym, ap, ◌∙◌, subst, ℕ, ◌≤◌, ◌⊎◌, inl, inr, Bool, true, false, ◌&&◌, ◌||◌, List, [], ◌∷◌, Option, Some, None, is_some, nat_lt, cond, slice_index, slice_set, leb-true}
 use Rattle.std.proofs.lemmas.Bool.{or_cases}
-use Rattle.pdl_semantics.specs.Flat.{Op, Bind, CombRead, DelayedRead, Write, ReserveRead, ReserveWrite, Block, Release, Call, SpecCall, Verify, SpecCheck, SpecBarrier, AdviceBind, AdviceRead, AdviceWrite, Stmt, Pipe, values_of, all_hold}
+use Rattle.pdl_semantics.specs.Flat.{Op, Bind, CombRead, DelayedRead, Write, ReserveRead, ReserveWrite, Block, Release, Call, SpecCall, Verify, SpecCheck, SpecBarrier, AdviceBind, AdviceRead, AdviceWrite, Stmt, Pipe, all_hold}
 use Rattle.pdl_semantics.specs.Stages.{onpath, reserve_stage, mem_at}
 use Rattle.pdl_semantics.specs.Locks.{read_ready, write_ready}
 use Rattle.pdl_semantics.specs.Machine.{Kept, same_args, with_kept}
 use Rattle.pdl_semantics.specs.Sound.{stages_before, is_barrier, is_call}
-use Rattle.pdl_theory_derived.specs.Derived.{Entry, Work, Around, work_after, do_all, has_entry, latest}
+use Rattle.pdl_theory_derived.specs.Derived.{Entry, Work, Around, work_after, do_all, has_entry, latest, said}
 use Rattle.pdl_theory_derived.specs.Derived
 use Rattle.pdl_theory_derived.specs.Alone.{before, answered_op}
 use Rattle.pdl_theory_facts.specs.Scans.{Scan, no_scan, scan_after, op_ok, reads_ok, no_guards, called}
@@ -92,6 +92,7 @@ abbrev pub look_at : Pipe → List Derived.Thread → Around
 look_at p ts =
     record {
       guess = [];
+      update = [];
       read = λ m a. 0;
       can_read = λ m a. read_ready (mem_at p m).lock (latest ts m a);
       can_write = λ m a. write_ready (mem_at p m).lock (latest ts m a);
@@ -179,9 +180,9 @@ low_blocks p sound path s =
 -- CALLS
 
 child_op : (o : Around) (op : Op) (w : Work) → is_some w.child ≡ true → is_some (work_after o op w).child ≡ true
-child_op o (Verify last args) w h = at (same_args (values_of args w.env) w.guess)
+child_op o (Verify last args) w h = at (same_args (said o last args w.env) w.guess)
   where
-    at : (b : Bool) → is_some (cond b w (record w { child = Some (values_of args w.env); guess = (values_of args w.env); fails = true })).child ≡ true
+    at : (b : Bool) → is_some (cond b w (record w { child = Some (said o last args w.env); guess = (said o last args w.env); fails = true })).child ≡ true
     at true = h
     at false = refl
 child_op o (Call args) w h = refl

@@ -24,7 +24,7 @@ use Rattle.pdl_theory_simulation.proofs.Choices.{Known, AllKnown, Foresees, keep
 use Rattle.pdl_theory_simulation.proofs.LockLists.{fell, moved_one, stood, next_live, go_on}
 use Rattle.pdl_theory_simulation.proofs.ThreadPlaces.{each_next, leads_of}
 use Rattle.pdl_theory_simulation.proofs.Requests.{asking}
-use Rattle.pdl_theory_simulation.proofs.WholeSimulation.{next_state, fetch_low, request_stays, request_made}
+use Rattle.pdl_theory_simulation.proofs.WholeSimulation.{fetch_low, request_stays, request_made}
 use Rattle.pdl_theory_states.specs.Strict.{Strict, keeps_guess, all_keep_guess}
 use Rattle.pdl_theory_states.proofs.Guessed.{GuessDone, kept_guesses, guesses_all, keep_front, keep_back}
 use Rattle.pdl_theory_states.proofs.PastStatements.{BlockOk, Past, Kind}
@@ -37,6 +37,8 @@ use Rattle.pdl_semantics.proofs.Readiness.{calm_read, calm_write, read_write}
 use Rattle.pdl_word.specs.Each.{Each}
 use Rattle.pdl_word.proofs.Each.{each_append}
 use Rattle.pdl_theory_simulation.proofs.SimulatedStates.{Sim}
+use Rattle.pdl_theory_simulation.proofs.CycleStarts.{next_state}
+use Rattle.pdl_theory_simulation.proofs.Orders.{AllForetold}
 
 -- each awaited read is one of the requests, which are outstanding as its own
 abbrev pub Owns : State → ℕ → List Ask → List Awaited → Type 0
@@ -105,7 +107,8 @@ module _ (p : Pipe) (sound : Sound p) (strict : Strict p) where
       → Each (λ k. reserve_stage p m < k.thread.stage) ls
   past_reserve s m ls b h = each_map (λ k i. left_trunk p _ _ i (reserve_stage p m) ((sound_flows p sound).trunk_reserve m) h) ls b
 
-  module _ (st : State) (d : Derived.State) (bits : List Bool) (ls : List Live) (sim : Sim p st d ls) where
+  module _ (st : State) (d : Derived.State) (bits : List Bool) (ls : List Live) (sim : Sim p st d ls)
+      (told : AllForetold p (sound_flows p sound) st d bits sim.arrays ls) where
     -- the stated state after the cycle
     abbrev pub next : State
     next = next_state p (sound_flows p sound) st d bits ls sim
@@ -176,7 +179,7 @@ module _ (p : Pipe) (sound : Sound p) (strict : Strict p) where
               (cond b (still p bits rs) (r ∷ still p bits rs))
           at true e g = g
           at false e g = (
-            any_ask_map (λ q j. (j.0, j.1, request_stays p (sound_flows p sound) st d bits ls sim l stays_on r.mem (q.address, j.2) f.0 e)) h.local.asks i.0,
+            any_ask_map (λ q j. (j.0, j.1, request_stays p (sound_flows p sound) st d bits ls sim told l stays_on r.mem (q.address, j.2) f.0 e)) h.local.asks i.0,
             g,
           )
 
@@ -305,7 +308,7 @@ module _ (p : Pipe) (sound : Sound p) (strict : Strict p) where
                 ≡ Owned l.number q.address) qs
             each [] f a = tt
             each (q ∷ qs) f a = (
-              request_made p (sound_flows p sound) st d bits ls sim l stays_on q.mem q.address (fetch_low p (sound_flows p sound) q.mem l.thread.stage a.0)
+              request_made p (sound_flows p sound) st d bits ls sim told l stays_on q.mem q.address (fetch_low p (sound_flows p sound) q.mem l.thread.stage a.0)
                   (asked q.mem q.address f.0),
               each qs f.1 a.1,
             )

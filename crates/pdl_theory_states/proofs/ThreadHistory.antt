@@ -22,7 +22,7 @@ use Rattle.pdl_theory_simulation.proofs.Shapes.{calls_front, calls_back}
 use Rattle.pdl_theory_simulation.proofs.Stretches.{Keeps, on_way, start_of, fixed_here, way_next}
 use Rattle.pdl_theory_states.specs.Strict.{Strict, all_new}
 use Rattle.pdl_theory_states.proofs.PastStatements.{none_touched, guess_set, AskedBy, AllPlaced, placed_set, BlockOk, Past, Kind, past_all}
-use Rattle.pdl_theory_states.proofs.UnusedValues.{AllOps, ops_both, onto, onto_append, all_new_append, all_new_front, touches, Done, done_agrees, set_agrees, guess_past}
+use Rattle.pdl_theory_states.proofs.UnusedValues.{AllOps, ops_both, onto, onto_append, all_new_append, all_new_front, touches, Done, done_agrees, set_agrees, guess_past, given}
 use Rattle.pdl_theory_states.proofs.Trails.{AllStmts, stmts_append, stmts_map, stage_stmts, Trail, Among, Steady, trail_same, among_low, among_next}
 use Rattle.pdl_theory_states.proofs.FetchCounts.{fetches_of, asks_are, held_in, HeldOp, fetches_in, count, count_append, count_none, count_same, count_fetch}
 
@@ -217,7 +217,7 @@ start_long : (p : Pipe) (args : List ℕ) → p.vars ≤ length (start_env p arg
 start_long p args = subst (λ n. p.vars ≤ n) (sym (length-append args _ ∙ ap (λ n. length args + n) (length-replicate _ 0))) (omega arith)
 
 -- a new thread, with just its arguments, keeps to what a live thread keeps to on its own
-pub local_fresh : (p : Pipe) (flows : Flows p) (hint args : List ℕ) → Local p (start_env p args) [] (Derived.fresh p hint args)
+pub local_fresh : (p : Pipe) (flows : Flows p) (hint : Derived.Hint) (args : List ℕ) → Local p (start_env p args) [] (Derived.fresh p hint args)
 local_fresh p flows hint args =
     record {
       long = start_long p args;
@@ -262,7 +262,7 @@ kept_done guess past (k ∷ kept) env u h =
     kept_done guess past kept (slice_set env k.var k.word) u.1
     (ops_both (λ op t d. done_agrees env (slice_set env k.var k.word) guess op (set_agrees k.var k.word op env t) d) past u.0 h)
 
-kept_guess : (hint : List ℕ) (past : List Op) (kept : List Kept) (env : List ℕ)
+kept_guess : (hint : Derived.Hint) (past : List Op) (kept : List Kept) (env : List ℕ)
     → AllKept (λ k. AllOps (λ op. touches k.var op ≡ false) past) kept
     → guess_past hint past env ≡ guess_past hint past (with_kept kept env)
 kept_guess hint past [] env u = refl
@@ -307,7 +307,7 @@ kept_steady p env kept t loc =
 
 module _ (p : Pipe) (flows : Flows p) (sound : Sound p) (strict : Strict p) (o : Around) (kind : Kind o) (env : List ℕ)
     (kept : List Kept) (t : Derived.Thread) (kept_answer : Keeps p env t) (values : with_kept kept env ≡ t.env)
-    (loc : Local p env kept t) (ready : (work_of_stage p o t).ready ≡ true) (hinted : o.guess ≡ t.hint) where
+    (loc : Local p env kept t) (ready : (work_of_stage p o t).ready ≡ true) (hinted : given o ≡ t.hint) where
   -- the statements of the thread's stage that are on its path
   abbrev pub mine : List Stmt
   mine = onpath (work_of_stage p o t).env (in_stage t.stage p.stmts)

@@ -9,6 +9,7 @@ use Rattle.pdl_theory_facts.specs.Facts.{uses_in, uses_any, mentions_var}
 use Rattle.pdl_theory_derived.proofs.Writes.{and_left, and_right}
 use Rattle.pdl_theory_states.specs.Strict.{bound_by, uses_own, is_mentioned, is_new, all_new}
 use Rattle.pdl_word.proofs.Bools.{untrue}
+use Rattle.pdl_theory_derived.specs.Derived.{Hint, Around, said}
 
 -- each statement that was carried out has the property
 abbrev pub AllOps : (Op → Type 0) → List Op → Type 0
@@ -134,19 +135,31 @@ done_agrees env env' guess (AdviceBind x e) f h = tt
 done_agrees env env' guess (AdviceRead x m a) f h = tt
 done_agrees env env' guess (AdviceWrite m a e) f h = tt
 
--- the guess after these statements, the last one first: what the last statement gave that gives one, where a speculative call gives the hint
-abbrev pub guess_past : List ℕ → List Op → List ℕ → List ℕ
+-- what surroundings say of the successor
+abbrev pub given : Around → Hint
+given o = record { guess = o.guess; update = o.update }
+
+-- the guess after these statements, the last one first: what the last statement gave that gives one, where a speculative call and an update give what the hint says
+abbrev pub guess_past : Hint → List Op → List ℕ → List ℕ
 guess_past hint [] env = []
-guess_past hint (SpecCall args ∷ past) env = hint
-guess_past hint (Verify last args ∷ past) env = values_of args env
+guess_past hint (SpecCall args ∷ past) env = hint.guess
+guess_past hint (Verify true args ∷ past) env = values_of args env
+guess_past hint (Verify false args ∷ past) env = hint.update
 guess_past hint (_ ∷ past) env = guess_past hint past env
 
 -- by values that agree on all variables that a statement hangs on it is the same
-pub guess_agrees : (hint : List ℕ) (op : Op) (past : List Op) (env env' : List ℕ) → Agrees op env env' → guess_past hint past env ≡ guess_past hint past env'
+pub guess_agrees : (hint : Hint) (op : Op) (past : List Op) (env env' : List ℕ) → Agrees op env env' → guess_past hint past env ≡ guess_past hint past env'
     → guess_past hint (op ∷ past) env ≡ guess_past hint (op ∷ past) env'
 guess_agrees hint (SpecCall args) past env env' f h = refl
-guess_agrees hint (Verify last args) past env env' f h = values_agree args env env' f
+guess_agrees hint (Verify true args) past env env' f h = values_agree args env env' f
+guess_agrees hint (Verify false args) past env env' f h = refl
 guess_agrees hint _ past env env' f h = h
+
+-- after a check the guess is what this says
+pub said_past : (o : Around) (last : Bool) (args : List Expr) (past : List Op) (env : List ℕ)
+    → said o last args env ≡ guess_past (given o) (Verify last args ∷ past) env
+said_past o true args past env = refl
+said_past o false args past env = refl
 
 -- what a statement gave doesn't hang on the guess
 pub done_guess : (env guess guess' : List ℕ) (op : Op) → Done env guess op → Done env guess' op

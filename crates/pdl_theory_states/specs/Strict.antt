@@ -82,7 +82,7 @@ is_used_by args (Some x) = uses_any x args
 abbrev pub binds_used : List Expr → Op → Bool
 binds_used args op = is_used_by args (bound_of op)
 
--- after a guess none of its variables is bound
+-- after a guess, and after an update of one, none of its variables is bound
 abbrev pub keeps_guess : Op → List Stmt → Bool
 keeps_guess (SpecCall args) ys = list_all (λ z. not (binds_used args z.op)) ys
 keeps_guess (Bind x e) ys = true
@@ -94,14 +94,15 @@ keeps_guess (ReserveWrite m a) ys = true
 keeps_guess (Block m a) ys = true
 keeps_guess (Release m a) ys = true
 keeps_guess (Call args) ys = true
-keeps_guess (Verify last args) ys = true
+keeps_guess (Verify true args) ys = true
+keeps_guess (Verify false args) ys = list_all (λ z. not (binds_used args z.op)) ys
 keeps_guess SpecCheck ys = true
 keeps_guess SpecBarrier ys = true
 keeps_guess (AdviceBind x e) ys = true
 keeps_guess (AdviceRead x m a) ys = true
 keeps_guess (AdviceWrite m a e) ys = true
 
--- after each guess of these statements none of its variables is bound
+-- after each guess of these statements, and after each update of one, none of its variables is bound
 abbrev pub all_keep_guess : List Stmt → Bool
 all_keep_guess [] = true
 all_keep_guess (y ∷ ys) = keeps_guess y.op ys && all_keep_guess ys

@@ -1,11 +1,11 @@
 -- A sound pipe of the whole language has the facts that the pipeline's proof takes.
 use Rattle.std.proofs.Common.{◌≡◌, ◌≢◌, refl, sym, ap, ap₂, ◌∙◌, subst, ℕ, zero, suc, ◌≤◌, ◌<◌, inl, inr, Bool, true, false, ◌&&◌, ◌||◌, not, List, [], ◌∷◌, length, Option, Some, None, is_some, ◌==◌, cond, arith, slice_index, lt-ltb, eq-eqb}
 use Rattle.std.proofs.lemmas.Bool.{eqb-true, eqb-false, ne_eqb}
-use Rattle.pdl_semantics.specs.Flat.{Op, DelayedRead, Verify, SpecBarrier, Stmt, Pipe, Branch, values_of, all_hold}
+use Rattle.pdl_semantics.specs.Flat.{Op, DelayedRead, Verify, SpecBarrier, Stmt, Pipe, Branch, all_hold}
 use Rattle.pdl_semantics.specs.Stages.{onpath, in_stage, stage_at, commit_stage, is_release, is_verify, verify_stage}
 use Rattle.pdl_semantics.specs.Machine.{Ask, same_args}
 use Rattle.pdl_semantics.specs.Sequential.{Run, thread}
-use Rattle.pdl_theory_derived.specs.Derived.{Work, Around, Thread, work_of_stage, work_after, do_all, find_ask}
+use Rattle.pdl_theory_derived.specs.Derived.{no_hint, Work, Around, Thread, work_of_stage, work_after, do_all, find_ask, said}
 use Rattle.pdl_theory_derived.specs.Alone.{World, alone, before, start_work, so_far, thread_at}
 use Rattle.pdl_theory_facts.specs.Scans.{none_of, all_at, no_scan, scan_after_all}
 use Rattle.pdl_theory_facts.specs.GuessScans.{stands_at, stands_before, is_barrier}
@@ -61,11 +61,11 @@ apart_op o (DelayedRead x m a) ys w h p l = (
       (all_more _ (λ q. Later q ys) w.asks (λ q k. k.1) l)
       (later_like x m (record { mem = m; var = x; address = slice_index w.env a }) ys refl refl h),
 )
-apart_op o (Verify last args) ys w h p l = at (same_args (values_of args w.env) w.guess)
+apart_op o (Verify last args) ys w h p l = at (same_args (said o last args w.env) w.guess)
   where
     at : (b : Bool)
-        → Apart (cond b w (record w { child = Some (values_of args w.env); guess = (values_of args w.env); fails = true })).asks
-        × AllAsks (λ q. Later q ys) (cond b w (record w { child = Some (values_of args w.env); guess = (values_of args w.env); fails = true })).asks
+        → Apart (cond b w (record w { child = Some (said o last args w.env); guess = (said o last args w.env); fails = true })).asks
+        × AllAsks (λ q. Later q ys) (cond b w (record w { child = Some (said o last args w.env); guess = (said o last args w.env); fails = true })).asks
     at true = (p, all_more _ (λ q. Later q ys) w.asks (λ q k. k.1) l)
     at false = (p, all_more _ (λ q. Later q ys) w.asks (λ q k. k.1) l)
 apart_op o _ ys w h p l = (p, all_more _ (λ q. Later q ys) w.asks (λ q k. k.1) l)
@@ -298,7 +298,7 @@ module _ (p : Pipe) (acc : Sound p) where
             (found_one (λ n. acc.fetch n ≡ t.stage)
             (work_of_stage p o t).asks m
             (all_more _ (λ q. acc.fetch q.mem ≡ t.stage) (work_of_stage p o t).asks (λ q k. k.here)
-            (fetched (record { words = λ n a. 0; guess = [] }) [] o t)) h);
+            (fetched (record { words = λ n a. 0; hint = no_hint }) [] o t)) h);
         asks_ok =
             λ world args s on low. all_more _ (AskOk p acc.fetch s (next_at p world args s))
             (stage_work p world args s).asks

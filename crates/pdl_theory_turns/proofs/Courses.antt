@@ -7,7 +7,7 @@ use Rattle.pdl_semantics.specs.Machine.{Ask, same_args, reserves_of}
 use Rattle.pdl_semantics.specs.Cycle.{awaited_of}
 use Rattle.pdl_semantics.specs.Sequential.{thread}
 use Rattle.pdl_semantics.specs.Promises.{wrote, row}
-use Rattle.pdl_theory_derived.specs.Derived.{Work, Around, Thread, State, work_of_stage, latest_in, fresh, find_ask, answered_thread}
+use Rattle.pdl_theory_derived.specs.Derived.{Hint, Work, Around, Thread, State, work_of_stage, latest_in, fresh, find_ask, answered_thread}
 use Rattle.pdl_theory_derived.specs.Alone.{World, start_work, so_far, thread_at}
 use Rattle.pdl_theory_facts.specs.Scans.{is_plain}
 use Rattle.pdl_theory_facts.specs.Facts.{is_exact}
@@ -21,7 +21,7 @@ use Rattle.pdl_theory_turns.proofs.Guesses.{Changed}
 use Rattle.pdl_theory_derived.proofs.DelayedReads.{caught, Apart, AllAsks}
 
 -- a thread that moved to stage n, with what it awaits there
-abbrev pub onward : ℕ → List ℕ → Work → Thread
+abbrev pub onward : ℕ → Hint → Work → Thread
 onward n g w = record { stage = n; hint = g; env = w.env; entries = w.entries; guess = w.guess; awaits = awaited_of w.asks }
 
 -- a thread after a wrong guess moved in a cycle in which a barrier of its stage is not clear
@@ -29,7 +29,7 @@ pub record Strayed (p : Pipe) (stray : Thread → Type 0) (made : Thread → Boo
   pub commits : w.commits ≡ []
   pub goes_on : stray (onward (next_of p t.stage w.env) t.hint w)
   pub once : made t ≡ true → Changed w
-  pub born : (g x : List ℕ) → w.child ≡ Some x → stray (fresh p g x) × (made (fresh p g x) ≡ false)
+  pub born : (g : Hint) (x : List ℕ) → w.child ≡ Some x → stray (fresh p g x) × (made (fresh p g x) ≡ false)
   pub made_next : made (onward (next_of p t.stage w.env) t.hint w) ≡ (made t || is_some w.child)
 
 -- a delayed read of a turn in stage s
@@ -100,7 +100,7 @@ pub record Course (p : Pipe) : Type 1 where
   -- a thread after a wrong guess, which has passed no barrier
   pub stray : Thread → Type 0
   pub made : Thread → Bool
-  pub stray_fresh : (g args : List ℕ) → stray (fresh p g args) × (made (fresh p g args) ≡ false)
+  pub stray_fresh : (g : Hint) (args : List ℕ) → stray (fresh p g args) × (made (fresh p g args) ≡ false)
   pub stray_answered : (st : State) (bits : List Bool) (t : Thread) → stray t
       → stray (answered_thread p st bits t) × (made (answered_thread p st bits t) ≡ made t)
   pub stray_step : (o : Around) (t : Thread) → stray t → t.awaits ≡ [] → t.stage < v

@@ -6,7 +6,7 @@ use Rattle.pdl_semantics.specs.Sound.{stages_from}
 use Rattle.pdl_semantics.specs.Stages.{is_check}
 use Rattle.pdl_semantics.specs.Machine.{same_args}
 use Rattle.pdl_semantics.specs.Sequential.{Run, run_after, run_all}
-use Rattle.pdl_theory_derived.specs.Derived.{Work, Around, work_after, do_all}
+use Rattle.pdl_theory_derived.specs.Derived.{no_hint, Work, Around, work_after, do_all, said}
 use Rattle.pdl_theory_derived.specs.Alone.{World, alone}
 use Rattle.pdl_theory_facts.specs.Scans.{Phase, no_guards, phases_ok, none_of}
 use Rattle.pdl_theory_facts.specs.GuessScans.{Making, Unmade, Guessed, Made, next_making, making_all, is_unmade, is_guessed, making_ok, makings_ok}
@@ -141,7 +141,7 @@ pub run_settled : (v : Option ℕ) (k : Making) (xs : List Stmt) (r : Run)
     → is_unmade k ≡ false → makings_ok v k xs ≡ true → none_of is_check xs ≡ true → (run_all xs r).next ≡ r.next
 run_settled v k [] r u h n = refl
 run_settled v k (x ∷ xs) r u h n =
-    let here = settled_op (alone (record { words = r.arrays; guess = [] })) v k x.stage x.op
+    let here = settled_op (alone (record { words = r.arrays; hint = no_hint })) v k x.stage x.op
     (record { env = []; entries = []; guess = []; asks = []; reserves = []; commits = []; child = None; fails = false; ready = true }) u (and_left _ _ h)
     (and_left _ _ n) in
     run_settled v k xs (if all_hold x.guards r.env then run_after x.op r else r) u
@@ -181,20 +181,20 @@ begins_op : (o : Around) (v : Option ℕ) (k : Making) (s : ℕ) (op : Op) (w : 
     → is_unmade (next_making k op) ≡ not (is_some (work_after o op w).child)
 begins_op o v k s (Call args) w h e = refl
 begins_op o v k s (SpecCall args) w h e = refl
-begins_op o v k s (Verify true args) w h e = by k e (and_left _ _ h) (same_args (values_of args w.env) w.guess)
+begins_op o v k s (Verify true args) w h e = by k e (and_left _ _ h) (same_args (said o true args w.env) w.guess)
   where
     by : (k : Making)
         → is_unmade k ≡ not (is_some w.child) → is_guessed k ≡ true → (b : Bool)
-        → false ≡ not (is_some (cond b w (record w { child = Some (values_of args w.env); guess = (values_of args w.env); fails = true })).child)
+        → false ≡ not (is_some (cond b w (record w { child = Some (said o true args w.env); guess = (said o true args w.env); fails = true })).child)
     by Unmade e g b = absurd (cc g)
     by Guessed e g true = e
     by Guessed e g false = refl
     by Made e g b = absurd (cc g)
-begins_op o v k s (Verify false args) w h e = by k e (and_left _ _ h) (same_args (values_of args w.env) w.guess)
+begins_op o v k s (Verify false args) w h e = by k e (and_left _ _ h) (same_args (said o false args w.env) w.guess)
   where
     by : (k : Making)
         → is_unmade k ≡ not (is_some w.child) → is_guessed k ≡ true → (b : Bool)
-        → false ≡ not (is_some (cond b w (record w { child = Some (values_of args w.env); guess = (values_of args w.env); fails = true })).child)
+        → false ≡ not (is_some (cond b w (record w { child = Some (said o false args w.env); guess = (said o false args w.env); fails = true })).child)
     by Unmade e g b = absurd (cc g)
     by Guessed e g true = e
     by Guessed e g false = refl
@@ -227,8 +227,8 @@ calls_op o v k s (SpecCall args) w r h e c = refl
 calls_op o v k s (Verify true args) w r h e c = by k c (and_left _ _ h)
   where
     at : (b : Bool)
-        → same_args (values_of args w.env) w.guess ≡ b → w.child ≡ Some w.guess
-        → (cond b w (record w { child = Some (values_of args w.env); guess = (values_of args w.env); fails = true })).child ≡ Some (values_of args r.env)
+        → same_args (said o true args w.env) w.guess ≡ b → w.child ≡ Some w.guess
+        → (cond b w (record w { child = Some (said o true args w.env); guess = (said o true args w.env); fails = true })).child ≡ Some (values_of args r.env)
     at true i c = c ∙ ap Some (sym (same_args_eq _ _ i)) ∙ ap (λ l. Some (values_of args l)) e
     at false i c = ap (λ l. Some (values_of args l)) e
 
@@ -240,8 +240,8 @@ calls_op o v k s (Verify false args) w r h e c = by k c (and_left _ _ h)
   where
     at : (b : Bool)
         → w.child ≡ Some w.guess
-        → (cond b w (record w { child = Some (values_of args w.env); guess = (values_of args w.env); fails = true })).child
-        ≡ Some (cond b w (record w { child = Some (values_of args w.env); guess = (values_of args w.env); fails = true })).guess
+        → (cond b w (record w { child = Some (said o false args w.env); guess = (said o false args w.env); fails = true })).child
+        ≡ Some (cond b w (record w { child = Some (said o false args w.env); guess = (said o false args w.env); fails = true })).guess
     at true c = c
     at false c = refl
 
@@ -249,7 +249,7 @@ calls_op o v k s (Verify false args) w r h e c = by k c (and_left _ _ h)
         → Calls k w.child w.guess r.next → is_guessed k ≡ true
         → (work_after o (Verify false args) w).child ≡ Some (work_after o (Verify false args) w).guess
     by Unmade c i = absurd (cc i)
-    by Guessed c i = at (same_args (values_of args w.env) w.guess) c
+    by Guessed c i = at (same_args (said o false args w.env) w.guess) c
     by Made c i = absurd (cc i)
 calls_op o v k s _ w r h e c = c
 
@@ -289,16 +289,16 @@ changed_op o v k s (SpecCall args) w u h c = absurd (clash (sym u ∙ and_left _
   where
     clash : false ≡ true → ⊥
     clash i = cc
-changed_op o v k s (Verify true args) w u h c = (at (same_args (values_of args w.env) w.guess), refl)
+changed_op o v k s (Verify true args) w u h c = (at (same_args (said o true args w.env) w.guess), refl)
   where
-    at : (b : Bool) → Changed (cond b w (record w { child = Some (values_of args w.env); guess = (values_of args w.env); fails = true }))
+    at : (b : Bool) → Changed (cond b w (record w { child = Some (said o true args w.env); guess = (said o true args w.env); fails = true }))
     at true = c
-    at false = inr (values_of args w.env, refl, refl)
-changed_op o v k s (Verify false args) w u h c = (at (same_args (values_of args w.env) w.guess), refl)
+    at false = inr (said o true args w.env, refl, refl)
+changed_op o v k s (Verify false args) w u h c = (at (same_args (said o false args w.env) w.guess), refl)
   where
-    at : (b : Bool) → Changed (cond b w (record w { child = Some (values_of args w.env); guess = (values_of args w.env); fails = true }))
+    at : (b : Bool) → Changed (cond b w (record w { child = Some (said o false args w.env); guess = (said o false args w.env); fails = true }))
     at true = c
-    at false = inr (values_of args w.env, refl, refl)
+    at false = inr (said o false args w.env, refl, refl)
 changed_op o v k s _ w u h c = (c, u)
 
 -- once something is made, statements make nothing, or a new thread in its place

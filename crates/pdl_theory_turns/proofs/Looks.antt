@@ -8,7 +8,7 @@ use Rattle.pdl_semantics.specs.Stages.{onpath, in_stage}
 use Rattle.pdl_semantics.specs.Machine.{Ask, same_args}
 use Rattle.pdl_semantics.specs.Sequential.{Run, run_after, run_all}
 use Rattle.pdl_word.specs.Words
-use Rattle.pdl_theory_derived.specs.Derived.{Work, Around, work_after, do_all, with_entry_value}
+use Rattle.pdl_theory_derived.specs.Derived.{Work, Around, work_after, do_all, with_entry_value, said}
 use Rattle.pdl_theory_derived.specs.Alone.{World, alone, before, answered_op}
 use Rattle.pdl_theory_facts.specs.Facts.{uses_in, uses_any, mentions_var, asks_for, is_dead, silent_on, unseen_op, is_unseen, looked_all}
 use Rattle.pdl_theory_derived.proofs.Writes.{and_left, and_right}
@@ -76,6 +76,11 @@ taken_unused x v (g ∷ gs) env h = let n = not_or (g.var == x) (asks_for x gs) 
 abbrev pub with_set : Work → ℕ → ℕ → Work
 with_set w x v = record w { env = slice_set w.env x v }
 
+said_unused : (world : World) (x v : ℕ) (last : Bool) (args : List Expr) (env : List ℕ)
+    → not (uses_any x args) ≡ true → said (alone world) last args (slice_set env x v) ≡ said (alone world) last args env
+said_unused world x v true args env h = values_unused x v args env h
+said_unused world x v false args env h = refl
+
 does_set : (world : World) (x v : ℕ) (op : Op) (w : Work)
     → not (mentions_var x op) ≡ true
     → work_after (alone world) (answered_op op) (with_set w x v) ≡ with_set (work_after (alone world) (answered_op op) w) x v
@@ -107,12 +112,12 @@ does_set world x v (Block m a) w h = refl
 does_set world x v (Call args) w h = ap (λ k. record (with_set w x v) { child = Some k }) (values_unused x v args w.env h)
 does_set world x v (SpecCall args) w h = refl
 does_set world x v (Verify last args) w h =
-    ap (λ k. cond (same_args k w.guess) (with_set w x v) (record (with_set w x v) { child = Some k; guess = k; fails = true })) (values_unused x v args w.env h)
-    ∙ at (same_args (values_of args w.env) w.guess)
+    ap (λ k. cond (same_args k w.guess) (with_set w x v) (record (with_set w x v) { child = Some k; guess = k; fails = true })) (said_unused world x v last args w.env h)
+    ∙ at (same_args (said (alone world) last args w.env) w.guess)
   where
     at : (b : Bool)
-        → cond b (with_set w x v) (record (with_set w x v) { child = Some (values_of args w.env); guess = (values_of args w.env); fails = true })
-        ≡ with_set (cond b w (record w { child = Some (values_of args w.env); guess = (values_of args w.env); fails = true })) x v
+        → cond b (with_set w x v) (record (with_set w x v) { child = Some (said (alone world) last args w.env); guess = (said (alone world) last args w.env); fails = true })
+        ≡ with_set (cond b w (record w { child = Some (said (alone world) last args w.env); guess = (said (alone world) last args w.env); fails = true })) x v
     at true = refl
     at false = refl
 does_set world x v _ w h = refl
@@ -179,9 +184,9 @@ unasked_op : (x : ℕ) (o : Around) (op : Op) (w : Work)
     → AllAsks (λ q. q.var ≢ x) (work_after o op w).asks
 unasked_op x o (DelayedRead y m a) w h k =
     all_snoc (λ q. q.var ≢ x) w.asks (record { mem = m; var = y; address = slice_index w.env a }) k (λ e. apart x y (not_or (y == x) (a == x) h).0 (sym e))
-unasked_op x o (Verify last args) w h k = at (same_args (values_of args w.env) w.guess)
+unasked_op x o (Verify last args) w h k = at (same_args (said o last args w.env) w.guess)
   where
-    at : (b : Bool) → AllAsks (λ q. q.var ≢ x) (cond b w (record w { child = Some (values_of args w.env); guess = (values_of args w.env); fails = true })).asks
+    at : (b : Bool) → AllAsks (λ q. q.var ≢ x) (cond b w (record w { child = Some (said o last args w.env); guess = (said o last args w.env); fails = true })).asks
     at true = k
     at false = k
 unasked_op x o _ w h k = k
@@ -205,11 +210,11 @@ unasked_by x o (y ∷ ys) w h k =
 pub keeps_clear : (o : Around) (op : Op) (w : Work)
     → is_fetch op ≡ false → (answered_op op ≡ op) × (work_after o op (clear w) ≡ clear (work_after o op (clear w)))
 keeps_clear o (DelayedRead x m a) w h = absurd (cc h)
-keeps_clear o (Verify last args) w h = (refl, at (same_args (values_of args w.env) w.guess))
+keeps_clear o (Verify last args) w h = (refl, at (same_args (said o last args w.env) w.guess))
   where
     at : (b : Bool)
-        → cond b (clear w) (record (clear w) { child = Some (values_of args w.env); guess = (values_of args w.env); fails = true })
-        ≡ clear (cond b (clear w) (record (clear w) { child = Some (values_of args w.env); guess = (values_of args w.env); fails = true }))
+        → cond b (clear w) (record (clear w) { child = Some (said o last args w.env); guess = (said o last args w.env); fails = true })
+        ≡ clear (cond b (clear w) (record (clear w) { child = Some (said o last args w.env); guess = (said o last args w.env); fails = true }))
     at true = refl
     at false = refl
 keeps_clear o _ w h = (refl, refl)
@@ -270,13 +275,13 @@ raw_looked world (y ∷ ys) w h = at (all_hold y.guards w.env) (λ v. raw_looked
 env_op : (o : Around) (op : Op) (w v : Work) → w.env ≡ v.env → (work_after o op w).env ≡ (work_after o op v).env
 env_op o (Bind x e) w v h = ap (λ l. slice_set l x (value_of e l)) h
 env_op o (CombRead x m a) w v h = ap (λ l. slice_set l x (o.read m (slice_index l a))) h
-env_op o (Verify last args) w v h = at (same_args (values_of args w.env) w.guess) ∙ h ∙ sym (by (same_args (values_of args v.env) v.guess))
+env_op o (Verify last args) w v h = at (same_args (said o last args w.env) w.guess) ∙ h ∙ sym (by (same_args (said o last args v.env) v.guess))
   where
-    at : (b : Bool) → (cond b w (record w { child = Some (values_of args w.env); guess = (values_of args w.env); fails = true })).env ≡ w.env
+    at : (b : Bool) → (cond b w (record w { child = Some (said o last args w.env); guess = (said o last args w.env); fails = true })).env ≡ w.env
     at true = refl
     at false = refl
 
-    by : (b : Bool) → (cond b v (record v { child = Some (values_of args v.env); guess = (values_of args v.env); fails = true })).env ≡ v.env
+    by : (b : Bool) → (cond b v (record v { child = Some (said o last args v.env); guess = (said o last args v.env); fails = true })).env ≡ v.env
     by true = refl
     by false = refl
 env_op o _ w v h = h

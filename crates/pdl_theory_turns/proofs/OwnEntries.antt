@@ -1,8 +1,8 @@
 -- A thread's entries of one memory: what its stage does to them; and guards that keep their values over statements.
 use Rattle.std.proofs.Common.{◌≡◌, ◌||◌, ◌⊎◌, refl, sym, ap, ap₂, ◌∙◌, ℕ, ◌+◌, inl, inr, length, take, drop, Bool, true, false, ◌&&◌, not, List, [], ◌∷◌, ◌++◌, Some, None, ◌==◌, cond, if◌then◌else◌, slice_index, append-nil}
-use Rattle.pdl_semantics.specs.Flat.{of_mem, Op, ReserveWrite, Release, Verify, Stmt, Guard, values_of, all_hold}
+use Rattle.pdl_semantics.specs.Flat.{of_mem, Op, ReserveWrite, Release, Verify, Stmt, Guard, all_hold}
 use Rattle.pdl_semantics.specs.Stages.{is_reserve, is_release}
-use Rattle.pdl_semantics.specs.Machine.{same_args, is_held, Pending, Deeds, deeds_after_all}
+use Rattle.pdl_semantics.specs.Machine.{same_args, is_held, Pending, Deeds, deeds_after_all, checked_args}
 use Rattle.pdl_semantics.specs.Cycle.{new_entries, with_writes_of, releases_of}
 use Rattle.pdl_theory_turns.proofs.EntryCommits.{released}
 use Rattle.pdl_semantics.specs.Machine
@@ -137,9 +137,9 @@ quiet_op m n read (ReserveWrite j a) d h k =
     off : (b : Bool) → not b ≡ true → b ≡ false
     off true q = absurd (cc q)
     off false q = refl
-quiet_op m n read (Verify last args) d h k = at (same_args (values_of args d.env) d.guess)
+quiet_op m n read (Verify last args) d h k = at (same_args (checked_args last args d) d.guess)
   where
-    at : (b : Bool) → new_entries m n (cond b d (record d { child = Some (values_of args d.env); guess = (values_of args d.env); fails = true })).reserves ≡ []
+    at : (b : Bool) → new_entries m n (cond b d (record d { child = Some (checked_args last args d); guess = (checked_args last args d); fails = true })).reserves ≡ []
     at true = k
     at false = k
 quiet_op m n read _ d h k = k
@@ -156,9 +156,9 @@ quiet_release m read (Release j a) d h k = releases_more m d.releases _ ∙ ap�
         by true i = absurd (cc i)
         by false i = refl
     none false = refl
-quiet_release m read (Verify last args) d h k = at (same_args (values_of args d.env) d.guess)
+quiet_release m read (Verify last args) d h k = at (same_args (checked_args last args d) d.guess)
   where
-    at : (b : Bool) → releases_of m (cond b d (record d { child = Some (values_of args d.env); guess = values_of args d.env; fails = true })).releases ≡ 0
+    at : (b : Bool) → releases_of m (cond b d (record d { child = Some (checked_args last args d); guess = checked_args last args d; fails = true })).releases ≡ 0
     at true = k
     at false = k
 quiet_release m read _ d h k = k

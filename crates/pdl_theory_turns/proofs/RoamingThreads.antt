@@ -4,7 +4,7 @@ use Rattle.pdl_semantics.specs.Flat.{Stmt, Pipe, Branch, Next, Ends, Goes, Forks
 use Rattle.pdl_semantics.specs.Stages.{onpath, in_stage, stage_at, verify_stage}
 use Rattle.pdl_semantics.specs.Machine.{Ask, Awaited, is_answered}
 use Rattle.pdl_semantics.specs.Cycle.{awaited_of}
-use Rattle.pdl_theory_derived.specs.Derived.{Work, Around, Thread, State, do_all, work_of_stage, fresh, answered_thread, with_answers, still, word_of, asked_at}
+use Rattle.pdl_theory_derived.specs.Derived.{no_hint, Hint, Work, Around, Thread, State, do_all, work_of_stage, fresh, answered_thread, with_answers, still, word_of, asked_at}
 use Rattle.pdl_theory_derived.specs.Alone.{before}
 use Rattle.pdl_theory_facts.specs.Scans.{Scan, no_scan, scan_after_all, none_of, binds_var, is_fixed}
 use Rattle.pdl_theory_facts.specs.GuessScans.{stands_at, stands_before, Making, Unmade, Guessed, Made, making_all, is_unmade, makings_ok, all_sure}
@@ -95,7 +95,7 @@ not_asked x (q ∷ qs) h = ap₂ (λ a b. a || b) (not-true (q.var == x) h.0) (n
 
 module _ (p : Pipe) (acc : Sound p) where
   -- a new thread is on its path and has made no successor
-  pub fresh_roams : (g args : List ℕ) → Roams p (fresh p g args) × (has_made p (fresh p g args) ≡ false)
+  pub fresh_roams : (g : Hint) (args : List ℕ) → Roams p (fresh p g args) × (has_made p (fresh p g args) ≡ false)
   fresh_roams g args = (
     record {
       covers = λ m a h. absurd (cc h);
@@ -207,7 +207,7 @@ module _ (p : Pipe) (acc : Sound p) where
     ok_here =
         sym (ok_looked (verify_stage p.stmts) _ (onpath (work_of_stage p o t).env (in_stage t.stage p.stmts)))
         ∙ (λ i. makings_ok (sym vis i) (making_all Unmade (sym (before_on t.stage) i)) (sym stage_on i))
-        ∙ Makes.makings_stage (at_once p) acc.pathwise (work_of_stage p o t).env (record { words = λ m a. 0; guess = [] }) [] t.stage
+        ∙ Makes.makings_stage (at_once p) acc.pathwise (work_of_stage p o t).env (record { words = λ m a. 0; hint = no_hint }) [] t.stage
 
     -- what it makes
     makes_one : (has_made p t ≡ true → Changed (work_of_stage p o t))

@@ -1,12 +1,12 @@
 -- A thread's stage reserves no more of a memory for writing than its lock has room for.
 use Rattle.std.proofs.Common.{◌≡◌, refl, sym, ap, ap₂, ◌∙◌, subst, ℕ, suc, ◌+◌, ◌≤◌, Bool, true, false, List, [], ◌∷◌, ◌++◌, ◌==◌, cond, Some, arith, append-nil}
 use Rattle.std.proofs.lemmas.Bool.{and_from}
-use Rattle.pdl_semantics.specs.Flat.{list_all, Op, DelayedRead, ReserveWrite, Verify, Stmt, Pipe, all_hold, values_of}
+use Rattle.pdl_semantics.specs.Flat.{list_all, Op, DelayedRead, ReserveWrite, Verify, Stmt, Pipe, all_hold}
 use Rattle.pdl_semantics.specs.Stages.{onpath, in_stage, mem_at}
 use Rattle.pdl_semantics.specs.Locks.{has_room}
 use Rattle.pdl_semantics.specs.Machine.{Reserved, reserves_of, same_args}
 use Rattle.pdl_semantics.specs.Sound.{is_write_reserve}
-use Rattle.pdl_theory_derived.specs.Derived.{Work, Around, Thread, work_after, do_all, work_of_stage, have_room}
+use Rattle.pdl_theory_derived.specs.Derived.{Work, Around, Thread, work_after, do_all, work_of_stage, have_room, said}
 use Rattle.pdl_theory_derived.specs.Alone.{answered_op}
 use Rattle.pdl_semantics.proofs.Readiness.{room_fewer}
 use Rattle.pdl_theory_derived.proofs.Stages.{step}
@@ -39,10 +39,10 @@ plus_none n = omega arith
 counted_op : (m : ℕ) (o : Around) (op : Op) (w : Work)
     → reserves_of m (work_after o op w).reserves ≡ reserves_of m w.reserves + cond (is_write_reserve m op) 1 0
 counted_op m o (ReserveWrite n a) w = one_more m w.reserves _
-counted_op m o (Verify last args) w = at (same_args (values_of args w.env) w.guess)
+counted_op m o (Verify last args) w = at (same_args (said o last args w.env) w.guess)
   where
     at : (b : Bool)
-        → reserves_of m (cond b w (record w { child = Some (values_of args w.env); guess = values_of args w.env; fails = true })).reserves
+        → reserves_of m (cond b w (record w { child = Some (said o last args w.env); guess = said o last args w.env; fails = true })).reserves
         ≡ reserves_of m w.reserves + 0
     at true = plus_none (reserves_of m w.reserves)
     at false = plus_none (reserves_of m w.reserves)

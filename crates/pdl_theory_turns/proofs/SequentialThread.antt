@@ -1,10 +1,10 @@
 -- A thread that runs alone does what the sequential run does.
 use Rattle.std.proofs.Common.{◌≡◌, refl, sym, ap, ap₂, ◌∙◌, subst, ℕ, Bool, true, false, ◌||◌, not, List, [], ◌∷◌, ◌++◌, Some, None, ◌==◌, cond, eq-eqb, slice_index, slice_set, append-nil}
 use Rattle.std.proofs.lemmas.Bool.{eqb-true, eqb-false}
-use Rattle.pdl_semantics.specs.Flat.{Array, Op, Bind, CombRead, DelayedRead, Write, ReserveWrite, Release, Call, Verify, Stmt, value_of, values_of, all_hold, word_at, Commit, of_mem, after_commits, with_word}
+use Rattle.pdl_semantics.specs.Flat.{Array, Op, Bind, CombRead, DelayedRead, Write, ReserveWrite, Release, Call, Verify, Stmt, value_of, all_hold, word_at, Commit, of_mem, after_commits, with_word}
 use Rattle.pdl_semantics.specs.Sequential.{Run, run_after, run_all}
 use Rattle.pdl_semantics.specs.Promises.{wrote, row}
-use Rattle.pdl_theory_derived.specs.Derived.{Entry, Work, work_after, do_all, without, with_entry_value, released_commits}
+use Rattle.pdl_theory_derived.specs.Derived.{Entry, Work, work_after, do_all, without, with_entry_value, released_commits, said}
 use Rattle.pdl_theory_derived.specs.Alone.{World, alone}
 use Rattle.pdl_semantics.specs.Machine.{same_args}
 use Rattle.pdl_theory_derived.proofs.Writes.{and_left, and_right, of_mem_append, row_committed, committed_append}
@@ -137,17 +137,17 @@ related_step world ph (Call args) w r ok rel =
       arrays_now = rel.arrays_now;
       tied = rel.tied;
     }
-related_step world ph (Verify true args) w r ok rel = at (same_args (values_of args w.env) w.guess)
+related_step world ph (Verify true args) w r ok rel = at (same_args (said (alone world) true args w.env) w.guess)
   where
     at : (b : Bool)
-        → Related world ph (cond b w (record w { child = Some (values_of args w.env); guess = (values_of args w.env); fails = true }))
+        → Related world ph (cond b w (record w { child = Some (said (alone world) true args w.env); guess = (said (alone world) true args w.env); fails = true }))
         (run_after (Verify true args) r)
     at true = record { env = rel.env; arrays_now = rel.arrays_now; tied = rel.tied }
     at false = record { env = rel.env; arrays_now = rel.arrays_now; tied = rel.tied }
-related_step world ph (Verify false args) w r ok rel = at (same_args (values_of args w.env) w.guess)
+related_step world ph (Verify false args) w r ok rel = at (same_args (said (alone world) false args w.env) w.guess)
   where
     at : (b : Bool)
-        → Related world ph (cond b w (record w { child = Some (values_of args w.env); guess = (values_of args w.env); fails = true }))
+        → Related world ph (cond b w (record w { child = Some (said (alone world) false args w.env); guess = (said (alone world) false args w.env); fails = true }))
         (run_after (Verify false args) r)
     at true = record { env = rel.env; arrays_now = rel.arrays_now; tied = rel.tied }
     at false = record { env = rel.env; arrays_now = rel.arrays_now; tied = rel.tied }

@@ -2,13 +2,13 @@
 use Rattle.std.proofs.Common.{◌≡◌, refl, sym, ap, ap₂, ◌∙◌, subst, ℕ, suc, ◌≤◌, ◌<◌, Bool, true, false, ◌&&◌, not, List, [], ◌∷◌, length, Some, ◌==◌, nat_lt, nat_le, cond, if◌then◌else◌, arith, slice_index, ltb-true, ltb-false}
 use Rattle.std.proofs.lemmas.List.{get_or-set_other}
 use Rattle.std.proofs.lemmas.Bool.{eqb-false}
-use Rattle.pdl_semantics.specs.Flat.{Op, DelayedRead, Verify, values_of, Guard, Stmt, Pipe, Next, Ends, Goes, Forks, all_hold, of_mem}
+use Rattle.pdl_semantics.specs.Flat.{Op, DelayedRead, Verify, Guard, Stmt, Pipe, Next, Ends, Goes, Forks, all_hold, of_mem}
 use Rattle.pdl_semantics.specs.Stages.{onpath, in_stage, stage_at, mem_at, commit_stage, reserve_stage, goes_to}
 use Rattle.pdl_semantics.specs.Locks.{Latest}
 use Rattle.pdl_semantics.specs.Machine.{Ask, same_args}
 use Rattle.pdl_semantics.specs.Sequential.{Run, thread}
 use Rattle.pdl_semantics.specs.Promises.{wrote, row}
-use Rattle.pdl_theory_derived.specs.Derived.{Work, Around, Thread, work_of_stage, work_after, do_all, latest_in, has_entry}
+use Rattle.pdl_theory_derived.specs.Derived.{Work, Around, Thread, work_of_stage, work_after, do_all, latest_in, has_entry, said}
 use Rattle.pdl_theory_derived.specs.Alone.{World, alone, before, answered_op, start_work, so_far, thread_at}
 use Rattle.pdl_theory_facts.specs.Scans.{is_plain, none_of, binds_var, no_scan, scan_after_all, reads_ok, has_location}
 use Rattle.pdl_theory_facts.specs.Graphs.{stage_or, next_of}
@@ -56,9 +56,9 @@ asks_op : (P : Ask → Type 0) (o : Around) (op : Op) (w : Work)
     → ((x m a : ℕ) → op ≡ DelayedRead x m a → P (record { mem = m; var = x; address = slice_index w.env a }))
     → AllAsks P w.asks → AllAsks P (work_after o op w).asks
 asks_op P o (DelayedRead x m a) w f h = all_snoc P w.asks _ h (f x m a refl)
-asks_op P o (Verify last args) w f h = at (same_args (values_of args w.env) w.guess)
+asks_op P o (Verify last args) w f h = at (same_args (said o last args w.env) w.guess)
   where
-    at : (b : Bool) → AllAsks P (cond b w (record w { child = Some (values_of args w.env); guess = (values_of args w.env); fails = true })).asks
+    at : (b : Bool) → AllAsks P (cond b w (record w { child = Some (said o last args w.env); guess = (said o last args w.env); fails = true })).asks
     at true = h
     at false = h
 asks_op P o _ w f h = h

@@ -1,10 +1,10 @@
 -- A stage with delayed reads in surroundings that are right for its turn: what it does alone, and requests whose answers will be right.
 use Rattle.std.proofs.Common.{◌≡◌, refl, sym, ap, ◌∙◌, subst, ℕ, Bool, true, false, ◌&&◌, ◌||◌, not, List, [], ◌∷◌, ◌++◌, Some, ◌==◌, slice_index, slice_set, cond, nat_le}
 use Rattle.std.proofs.lemmas.Bool.{leb-true}
-use Rattle.pdl_semantics.specs.Flat.{Op, Bind, CombRead, DelayedRead, Write, ReserveRead, ReserveWrite, Block, Release, Call, SpecCall, Verify, SpecCheck, SpecBarrier, AdviceBind, AdviceRead, AdviceWrite, Stmt, Pipe, values_of, all_hold, word_at}
+use Rattle.pdl_semantics.specs.Flat.{Op, Bind, CombRead, DelayedRead, Write, ReserveRead, ReserveWrite, Block, Release, Call, SpecCall, Verify, SpecCheck, SpecBarrier, AdviceBind, AdviceRead, AdviceWrite, Stmt, Pipe, all_hold, word_at}
 use Rattle.pdl_semantics.specs.Stages.{onpath, mem_at, commit_stage}
 use Rattle.pdl_semantics.specs.Machine.{Ask, same_args}
-use Rattle.pdl_theory_derived.specs.Derived.{Work, Around, work_after, do_all}
+use Rattle.pdl_theory_derived.specs.Derived.{Work, Around, work_after, do_all, said}
 use Rattle.pdl_theory_derived.specs.Alone.{World, alone, answered_op, Location}
 use Rattle.pdl_theory_facts.specs.Scans.{is_plain, is_address, has_location, scan_after, scan_after_all, op_ok, reads_ok, Scan, location}
 use Rattle.pdl_theory_facts.specs.Facts.{mentions_var, asks_for, is_dead, silent_on, unseen_op, is_unseen, looked_all}
@@ -68,9 +68,9 @@ silent_rest y ys x h = and_right (is_dead y.guards || (not (asks_for x y.guards)
 -- requests over a statement that makes none
 asks_same : (o : Around) (op : Op) (w : Work) → is_fetch op ≡ false → (work_after o op w).asks ≡ w.asks
 asks_same o (DelayedRead x m a) w h = absurd (cc h)
-asks_same o (Verify last args) w h = at (same_args (values_of args w.env) w.guess)
+asks_same o (Verify last args) w h = at (same_args (said o last args w.env) w.guess)
   where
-    at : (b : Bool) → (cond b w (record w { child = Some (values_of args w.env); guess = (values_of args w.env); fails = true })).asks ≡ w.asks
+    at : (b : Bool) → (cond b w (record w { child = Some (said o last args w.env); guess = (said o last args w.env); fails = true })).asks ≡ w.asks
     at true = refl
     at false = refl
 asks_same o _ w h = refl

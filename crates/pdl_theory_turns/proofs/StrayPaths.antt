@@ -1,10 +1,10 @@
 -- A thread after a wrong guess in the whole language: it keeps to one path, whatever answers come, has passed no barrier, and so releases nothing.
 use Rattle.std.proofs.Common.{◌≡◌, refl, sym, ap, ap₂, ◌∙◌, subst, ℕ, ◌≤◌, ◌<◌, ◌⊎◌, inl, inr, Bool, true, false, ◌&&◌, ◌||◌, not, List, [], ◌∷◌, ◌++◌, Option, Some, ◌==◌, nat_lt, cond, if◌then◌else◌, slice_index, slice_set, append-nil, nat_le, arith, leb-false, ltb-true}
-use Rattle.pdl_semantics.specs.Flat.{Op, Guard, DelayedRead, Release, SpecBarrier, Verify, Stmt, Pipe, Branch, Next, Ends, Goes, Forks, values_of}
+use Rattle.pdl_semantics.specs.Flat.{Op, Guard, DelayedRead, Release, SpecBarrier, Verify, Stmt, Pipe, Branch, Next, Ends, Goes, Forks}
 use Rattle.pdl_semantics.specs.Stages.{in_stage, stage_at, is_verify, verify_stage}
 use Rattle.pdl_semantics.specs.Machine.{Ask, Awaited, is_answered, same_args}
 use Rattle.pdl_semantics.specs.Cycle.{awaited_of}
-use Rattle.pdl_theory_derived.specs.Derived.{Work, Around, State, work_after, do_all, has_entry, with_answers, still, word_of, asked_at}
+use Rattle.pdl_theory_derived.specs.Derived.{Work, Around, State, work_after, do_all, has_entry, with_answers, still, word_of, asked_at, said}
 use Rattle.pdl_theory_derived.specs.Alone.{before, answered_op}
 use Rattle.pdl_theory_facts.specs.Scans.{Scan, has_location, scan_after, scan_after_all, no_guards, none_of, binds_var, free_of, is_fixed}
 use Rattle.pdl_theory_facts.specs.GuessScans.{stands_before, Making, next_making, making_all, making_ok, makings_ok, is_barrier, is_sure, all_sure}
@@ -140,10 +140,10 @@ roam_op v o c s (Release m a) w clear low sure cover ready =
     unheld : (b : Bool) → has_entry w.entries m a ≡ b → has_entry w.entries m a ≡ false
     unheld true e = absurd (clash (sym unopened ∙ cover m a e))
     unheld false e = e
-roam_op v o c s (Verify last args) w clear low sure cover ready = at (same_args (values_of args w.env) w.guess)
+roam_op v o c s (Verify last args) w clear low sure cover ready = at (same_args (said o last args w.env) w.guess)
   where
     at : (b : Bool)
-        → ((cond b w (record w { child = Some (values_of args w.env); guess = (values_of args w.env); fails = true })).commits ≡ w.commits) × (false ≡ false)
+        → ((cond b w (record w { child = Some (said o last args w.env); guess = (said o last args w.env); fails = true })).commits ≡ w.commits) × (false ≡ false)
     at true = (refl, refl)
     at false = (refl, refl)
 roam_op v o c s SpecBarrier w (inl n) low sure cover ready = absurd (cc n)

@@ -2,10 +2,10 @@
 use Rattle.std.proofs.Common.{◌≡◌, ◌≢◌, refl, sym, ap, ◌∙◌, subst, ℕ, ◌≤◌, Bool, true, false, ◌&&◌, ◌||◌, not, List, [], ◌∷◌, Some, ◌==◌, slice_index, slice_set, cond, nat_le}
 use Rattle.std.proofs.lemmas.List.{get_or-set_other}
 use Rattle.std.proofs.lemmas.Bool.{eqb-true, eqb-false, leb-true, or_right as or_more}
-use Rattle.pdl_semantics.specs.Flat.{SpecCall, Op, Bind, CombRead, DelayedRead, Write, ReserveWrite, Block, Release, Verify, Stmt, Guard, Pipe, value_of, values_of, all_hold, word_at}
+use Rattle.pdl_semantics.specs.Flat.{SpecCall, Op, Bind, CombRead, DelayedRead, Write, ReserveWrite, Block, Release, Verify, Stmt, Guard, Pipe, value_of, all_hold, word_at}
 use Rattle.pdl_semantics.specs.Stages.{in_stage, mem_at, commit_stage, reserve_stage}
 use Rattle.pdl_semantics.specs.Machine.{same_args}
-use Rattle.pdl_theory_derived.specs.Derived.{Work, Around, Entry, work_after, do_all, has_entry, with_entry_value, without, moved_up}
+use Rattle.pdl_theory_derived.specs.Derived.{Work, Around, Entry, work_after, do_all, has_entry, with_entry_value, without, moved_up, said}
 use Rattle.pdl_theory_derived.specs.Alone.{World, Location}
 use Rattle.pdl_theory_derived.proofs.Writes.{and_left, and_right}
 use Rattle.pdl_theory_derived.proofs.Stages.{ReadsRight}
@@ -14,7 +14,8 @@ use Rattle.pdl_word.proofs.Bools.{or_map}
 
 -- what the surroundings of a thread in stage s give where they are right for its turn; clean is what makes a location read right
 pub record Surrounds (p : Pipe) (o : Around) (world : World) (s : ℕ) (clean : ℕ → ℕ → Type 0) : Type 0 where
-  pub guess : o.guess ≡ world.guess
+  pub guess : o.guess ≡ world.hint.guess
+  pub update : o.update ≡ world.hint.update
   pub plain : (m a : ℕ) → is_plain (mem_at p m).lock ≡ true → o.read m a ≡ word_at world.words m a
   pub readable : (m a : ℕ) → reserve_stage p m ≤ s → s ≤ commit_stage p m → o.can_read m a ≡ true → clean m a
   pub right : (m a : ℕ) → reserve_stage p m ≤ s → s ≤ commit_stage p m → clean m a → o.read m a ≡ word_at world.words m a
@@ -79,6 +80,8 @@ reads_right p o world s clean sc (CombRead x m a) env f h r =
     at false e false g d i t = cc
 reads_right p o world s clean sc (DelayedRead x m a) env f h r = cc
 reads_right p o world s clean sc (SpecCall args) env f h r = f.guess
+reads_right p o world s clean sc (Verify true args) env f h r = tt
+reads_right p o world s clean sc (Verify false args) env f h r = f.update
 reads_right p o world s clean sc _ env f h r = tt
 
 -- what is pending was reserved
@@ -133,7 +136,7 @@ covers_op o c (ReserveWrite m a) w f = λ n b h. or_map ((m == n) && (a == b)) _
 covers_op o c (Block m a) w f = covers_block (has_location c.held m a) c (location m a) w.entries f
 covers_op o c (Release m a) w f = λ n b h. f n b (has_without w.entries m a n b h)
 covers_op o c (Verify last args) w f =
-    subst (λ es. Covers c.held es) (sym (covers_verified (same_args (values_of args w.env) w.guess) (values_of args w.env) w)) f
+    subst (λ es. Covers c.held es) (sym (covers_verified (same_args (said o last args w.env) w.guess) (said o last args w.env) w)) f
 covers_op o c _ w f = f
 
 -- a ready block makes its location clean, if it is one for reading
@@ -160,9 +163,9 @@ right_after p o world s clean c (CombRead x m a) w f g h k r =
 right_after p o world s clean c (DelayedRead x m a) w f g h k r = absurd (cc h)
 right_after p o world s clean c (Block m a) w f g h k r =
     block_right p o world s clean c m a w f g (leb-true (reserve_stage p m) s h) (and_right w.ready _ k) r
-right_after p o world s clean c (Verify last args) w f g h k r = at (same_args (values_of args w.env) w.guess)
+right_after p o world s clean c (Verify last args) w f g h k r = at (same_args (said o last args w.env) w.guess)
   where
-    at : (b : Bool) → Right p s clean c.blocked (cond b w (record w { child = Some (values_of args w.env); guess = (values_of args w.env); fails = true })).env
+    at : (b : Bool) → Right p s clean c.blocked (cond b w (record w { child = Some (said o last args w.env); guess = (said o last args w.env); fails = true })).env
     at true = r
     at false = r
 right_after p o world s clean c _ w f g h k r = r

@@ -4,11 +4,11 @@ use Rattle.std.proofs.lemmas.List.{get_or-set_other}
 use Rattle.std.proofs.lemmas.Bool.{eqb-true, eqb-false}
 use Rattle.std.proofs.lemmas.Bool.Decides.{eqb_tells}
 use Rattle.std.proofs.Common.{leb-true, ltb-true}
-use Rattle.pdl_semantics.specs.Flat.{Op, Bind, CombRead, DelayedRead, Write, ReserveWrite, Release, Verify, Stmt, value_of, values_of, all_hold, Commit, of_mem}
+use Rattle.pdl_semantics.specs.Flat.{Op, Bind, CombRead, DelayedRead, Write, ReserveWrite, Release, Verify, Stmt, value_of, all_hold, Commit, of_mem}
 use Rattle.pdl_semantics.specs.Stages.{in_stage, is_release, is_reserve}
 use Rattle.pdl_semantics.specs.Machine.{same_args}
 use Rattle.pdl_semantics.specs.Sequential.{Run, run_after}
-use Rattle.pdl_theory_derived.specs.Derived.{Work, Around, work_after, do_all}
+use Rattle.pdl_theory_derived.specs.Derived.{Work, Around, work_after, do_all, said}
 use Rattle.pdl_theory_derived.specs.Alone.{World, alone, before, answered_op, is_among, is_oldest, drop_var, but_last}
 use Rattle.pdl_theory_derived.proofs.Writes.{and_left, and_right, of_mem_append}
 use Rattle.pdl_theory_derived.proofs.Entries.{released_other, write_of, places}
@@ -27,10 +27,10 @@ quiet_op m o (Release n a) w h =
   where
     apart : n ≢ m
     apart e = grind (arith, eqb_tells)
-quiet_op m o (Verify last args) w h = at (same_args (values_of args w.env) w.guess)
+quiet_op m o (Verify last args) w h = at (same_args (said o last args w.env) w.guess)
   where
     at : (b : Bool)
-        → of_mem m (cond b w (record w { child = Some (values_of args w.env); guess = (values_of args w.env); fails = true })).commits ≡ of_mem m w.commits
+        → of_mem m (cond b w (record w { child = Some (said o last args w.env); guess = (said o last args w.env); fails = true })).commits ≡ of_mem m w.commits
     at true = refl
     at false = refl
 quiet_op m o _ w h = refl
@@ -175,18 +175,18 @@ spots_op world m ph (Release n a) w r h ok rel = at (n == m) (is_among a (ph m).
     at true true = refl
     at true false = refl
     at false c = refl
-spots_op world m ph (Verify true args) w r h ok rel = at (same_args (values_of args w.env) w.guess)
+spots_op world m ph (Verify true args) w r h ok rel = at (same_args (said (alone world) true args w.env) w.guess)
   where
     at : (b : Bool)
-        → spots (ph m) (cond b w (record w { child = Some (values_of args w.env); guess = values_of args w.env; fails = true })).env
+        → spots (ph m) (cond b w (record w { child = Some (said (alone world) true args w.env); guess = said (alone world) true args w.env; fails = true })).env
         (of_mem m r.writes)
         ≡ spots (ph m) w.env (of_mem m r.writes)
     at true = refl
     at false = refl
-spots_op world m ph (Verify false args) w r h ok rel = at (same_args (values_of args w.env) w.guess)
+spots_op world m ph (Verify false args) w r h ok rel = at (same_args (said (alone world) false args w.env) w.guess)
   where
     at : (b : Bool)
-        → spots (ph m) (cond b w (record w { child = Some (values_of args w.env); guess = values_of args w.env; fails = true })).env
+        → spots (ph m) (cond b w (record w { child = Some (said (alone world) false args w.env); guess = said (alone world) false args w.env; fails = true })).env
         (of_mem m r.writes)
         ≡ spots (ph m) w.env (of_mem m r.writes)
     at true = refl

@@ -1,5 +1,5 @@
 -- One turn along its path, by stages.
-use Rattle.std.proofs.Common.{◌≡◌, ◌≢◌, refl, sym, ap, ap₂, ◌∙◌, subst, ℕ, suc, ◌+◌, ◌≤◌, ◌<◌, Bool, true, false, ◌&&◌, List, [], ◌∷◌, ◌++◌, length, nat_lt, cond, if◌then◌else◌, arith, append-nil}
+use Rattle.std.proofs.Common.{◌≡◌, ◌≢◌, refl, sym, ap, ap₂, ◌∙◌, subst, ℕ, suc, ◌≤◌, ◌<◌, Bool, true, false, ◌&&◌, List, [], ◌∷◌, ◌++◌, length, nat_lt, cond, if◌then◌else◌, arith, append-nil}
 use Rattle.std.proofs.Common.{ltb-true, ltb-false, le_of_eq}
 use Rattle.pdl_semantics.specs.Flat.{Arrays, Stmt, Pipe, all_hold, Commit, of_mem, start_env}
 use Rattle.pdl_semantics.specs.Stages.{in_stage, mem_at, is_release, is_reserve, commit_stage, reserve_stage}

@@ -188,8 +188,8 @@ module _ (p : Pipe) (acc : Pathwise p) (world : World) (args : List ℕ) where
   pub placed_next : (s : ℕ)
       → thread_at p world args (suc s)
       ≡ (let w = work_of_stage p (alone world) (thread_at p world args s) in
-      record { stage = suc s; hint = world.guess; env = w.env; entries = w.entries; guess = w.guess; awaits = [] })
-  placed_next s = ap (λ (w : Work). record { stage = suc s; hint = world.guess; env = w.env; entries = w.entries; guess = w.guess; awaits = [] }) (piece s)
+      record { stage = suc s; hint = world.hint; env = w.env; entries = w.entries; guess = w.guess; awaits = [] })
+  placed_next s = ap (λ (w : Work). record { stage = suc s; hint = world.hint; env = w.env; entries = w.entries; guess = w.guess; awaits = [] }) (piece s)
 
   -- the successor that a turn has by the following stage is the one that this stage makes, else the one that it had
   pub child_next : (s : ℕ)
