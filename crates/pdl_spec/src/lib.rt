@@ -10,6 +10,7 @@ pub mod one_call;
 pub mod plan;
 pub mod sure;
 pub mod updated;
+pub mod updated_once;
 pub mod verified;
 
 pub use check::{check_spec, plan_spec};
