@@ -1,5 +1,5 @@
 mod SingleNumber
 mod PathlessParts
 mod Updates
-mod EarlierPlaces
 mod FirstStages
+mod Guesses

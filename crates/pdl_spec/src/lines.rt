@@ -25,7 +25,7 @@ pub type SpecRules<'a, 'p> = Both<
         Both<Alone<OneCall>, Alone<VerifiedOnce<'a, 'p>>>,
         Both<Alone<ReleasedSure<'a, 'p>>, Alone<CheckedFirst<'a>>>,
     >,
-    Alone<UpdatedOnce<'a, 'p>>,
+    Alone<UpdatedOnce<'a>>,
 >;
 
 /// The lines at which a pipe breaks each of them, none where it keeps it.
@@ -81,24 +81,16 @@ pub fn spec_path_rules<'a, 'p>(
         → AreLines (pipe_view pipe.now) (named_lines lines) }
 {
     let stages = facts.stages.as_slice();
-    let all = all_true(guards);
     let verified_once = VerifiedOnce {
         pipe,
         guards,
-        all,
+        all: all_true(guards),
         places,
         stages,
     };
     let released_sure = ReleasedSure {
         places,
         first: facts.locations.as_slice(),
-        stages,
-        verified,
-    };
-    let updated_once = UpdatedOnce {
-        guards,
-        all,
-        places,
         stages,
         verified,
     };
@@ -112,6 +104,6 @@ pub fn spec_path_rules<'a, 'p>(
     };
     Both {
         first: Both { first, second },
-        second: Alone(updated_once),
+        second: Alone(UpdatedOnce { stages, verified }),
     }
 }

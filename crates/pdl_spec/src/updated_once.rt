@@ -1,59 +1,69 @@
 // Second guesses on paths: rule S6.
-ghost use Rattle.std.specs.Prelude.{◌≡◌, ◌≤◌, ◌&&◌, ◌||◌, [], List, true, map, take, length, nat_lt, not};
+ghost use Rattle.std.specs.Prelude.{◌≡◌, ◌++◌, ◌∷◌, ◌||◌, [], ℕ, List, false, not, nat_lt, bytes_eq, if◌then◌else◌, OnOk, MatchOption};
 ghost use Rattle.std.specs.List.{list_any};
-ghost use Rattle.pdl_rules.specs.Places.{Guard as SpecGuard, on_path};
 ghost use Rattle.pdl_rules.specs.Parts.{is_some_and};
 ghost use Rattle.pdl_rules.specs.Speculation as spec;
 ghost use Rattle.pdl_paths.specs.Actions.{place_view};
-ghost use Rattle.pdl_paths.specs.Masks.{IsMasked, are_distinct};
-ghost use Rattle.pdl_rules_stages.specs.PathBits.{HavePaths, IsPath};
 ghost use Rattle.pdl_rules_stages.specs.Stages.{stages_in};
-ghost use Rattle.pdl_spec.specs.Updated.{AreOfText, breaks_updated};
+ghost use Rattle.pdl_spec.specs.Updated.{AreGuessed, breaks_updated, passed_over, stages_of};
 
 use crate::updated::is_update;
 use pdl_kit::{Name, NoMemory};
-use pdl_paths::{Action, Guards, Path, Place};
+use pdl_paths::{Action, Path, Place};
 use pdl_rules_on_paths::PathRule;
-use pdl_rules_stages::{among, stage_at};
+use pdl_rules_stages::stage_at;
 use std::alloc::Global;
 
 /// A path has one `update`, in a later stage than its guess's `spec_call` and in a stage before the one that verifies guesses.
 #[derive(Clone, Copy)]
-pub struct UpdatedOnce<'a, 'p> {
-    pub guards: &'a Guards,
-    /// The path on which each guard is true.
-    pub all: Path,
-    /// The places of the pipe.
-    pub places: &'a [Place<'p>],
-    /// For each of them its stage.
+pub struct UpdatedOnce<'a> {
+    /// For each place of the pipe its stage.
     pub stages: &'a [usize],
     /// The stage that verifies guesses, none where nothing does.
     pub verified: Option<usize>,
 }
 
-impl PathRule for UpdatedOnce<'_, '_> {
-    // The path.
-    type State = Path;
+/// What a path did so far.
+#[derive(Drop)]
+pub struct Guessed {
+    // The guesses that it made.
+    guesses: Vec<Guess>,
+    // Whether it passed an `update`.
+    updated: bool,
+}
 
-    ghost suits = { λ rule gs xs. AreOfText rule.guards.now rule.all.bits rule.places.now
-        rule.stages.now gs xs };
+/// A guess, and the stage in which it was made.
+#[derive(Drop)]
+pub struct Guess {
+    name: Name,
+    stage: usize,
+}
+
+impl PathRule for UpdatedOnce<'_> {
+    type State = Guessed;
+
+    ghost suits = { λ rule gs xs. rule.stages.now ≡ stages_in xs };
 
     ghost breaks_on = { λ rule path before x. breaks_updated rule.verified path before x };
 
-    ghost stands = { λ rule path before state. IsPath rule.guards.now path state.bits };
+    ghost stands = { λ rule path before state.
+        AreGuessed path before state.guesses.items state.updated };
 
-    fn start(&self, _alloc: Global, path: Path) -> Result<Path, NoMemory> {
-        Ok(among(self.all, path))
+    fn start(&self, alloc: Global, _path: Path) -> Result<Guessed, NoMemory> {
+        Ok(Guessed {
+            guesses: Vec::new(alloc),
+            updated: false,
+        })
     }
 
-    fn breaks(&self, state: &Path, k: usize, place: &Place<'_>) -> bool {
+    fn breaks(&self, state: &Guessed, k: usize, place: &Place<'_>) -> bool {
         match place.action {
             Action::Update(guess, _) => {
                 let stage = stage_at(self.stages, k);
                 is_amiss(
-                    is_guessed_late(self.places, self.stages, *state, &guess.name, k, stage),
+                    is_guessed_late(state.guesses.as_slice(), &guess.name, stage),
                     is_past(self.verified, stage),
-                    is_updated(self.places, *state, k),
+                    state.updated,
                 )
             }
             Action::Parameter(_) | Action::Memory(_) | Action::Separator => false,
@@ -66,11 +76,14 @@ impl PathRule for UpdatedOnce<'_, '_> {
         }
     }
 
-    fn step(&self, _state: &mut Path, _k: usize, _place: &Place<'_>) -> Result<(), NoMemory> {
+    fn step(&self, state: &mut Guessed, k: usize, place: &Place<'_>) -> Result<(), NoMemory> {
+        remember(&mut state.guesses, place, stage_at(self.stages, k))?;
+        state.updated = state.updated || is_update(place);
         Ok(())
     }
 
-    ghost skips = { λ rule path before x state off stands. stands };
+    ghost skips = { λ rule path before x state off stands.
+        passed_over path before x state.guesses.items state.updated off stands };
 }
 
 fn is_amiss(guessed_late: bool, past: bool, second: bool) -> bool
@@ -89,78 +102,48 @@ fn is_past(verified: Option<usize>, stage: usize) -> bool
     }
 }
 
-// Whether a path makes a guess at one of the places before the k-th in this stage or a later one.
-fn is_guessed_late(
-    places: &[Place<'_>],
-    stages: &[usize],
-    path: Path,
-    guess: &Name,
-    k: usize,
-    stage: usize,
-) -> bool
-    ensures { (gs on : List SpecGuard) → HavePaths gs places.now → IsPath gs on path.bits →
-        stages.now ≡ stages_in (map place_view places.now) → k ≤ length places.now →
-        result ≡ list_any (λ j. not (nat_lt j stage)) (spec.guess_stages on
-        (take k (map place_view places.now)) guess.now) }
+// Whether this guess was made in this stage or a later one.
+fn is_guessed_late(guesses: &[Guess], name: &Name, stage: usize) -> bool
+    ensures { result ≡ list_any (λ j. not (nat_lt j stage)) (stages_of name.now guesses.now) }
 {
-    for j in 0..places.len().min(k) {
-        if is_late(is_guess_on(&places[j], path, guess), stage_at(stages, j), stage) {
+    for guess in guesses {
+        if guess.name == *name && guess.stage >= stage {
             return true;
         }
     }
     false
 }
 
-// Whether a guess is made, and in this stage or a later one.
-fn is_late(guessed: bool, guessed_in: usize, stage: usize) -> bool
-    ensures { result ≡ (guessed && not (nat_lt guessed_in stage)) }
+// Adds the guess that a place in this stage makes, if it makes one.
+fn remember(guesses: &mut Vec<Guess>, place: &Place<'_>, stage: usize) -> Result<(), NoMemory>
+    ensures { OnOk result ((name : List ℕ) → stages_of name guesses.new.items
+        ≡ stages_of name guesses.old.items
+        ++ (if spec.is_guess_of name (place_view place.now) then stage ∷ [] else [])) }
 {
-    guessed && guessed_in >= stage
-}
-
-// Whether a path has an `update` at one of the places before the k-th.
-fn is_updated(places: &[Place<'_>], path: Path, k: usize) -> bool
-    ensures { (gs on : List SpecGuard) → HavePaths gs places.now → IsPath gs on path.bits →
-        k ≤ length places.now → result ≡ list_any (λ y. on_path on y && spec.is_update y)
-        (take k (map place_view places.now)) }
-{
-    for j in 0..places.len().min(k) {
-        if is_update_on(&places[j], path) {
-            return true;
+    match guess_at(place) {
+        Some(guess) => {
+            let name = guess.clone()?;
+            guesses.push(Guess { name, stage })?;
+            Ok(())
         }
+        None => Ok(()),
     }
-    false
 }
 
-// Whether the path leads through the place, and it makes the guess.
-fn is_guess_on(place: &Place<'_>, path: Path, guess: &Name) -> bool
-    ensures { (gs on : List SpecGuard) → IsMasked gs place.now → are_distinct gs ≡ true →
-        length gs ≤ 10 → IsPath gs on path.bits →
-        result ≡ (on_path on (place_view place.now)
-        && spec.is_guess_of guess.now (place_view place.now)) }
-{
-    place.is_on(path) && is_guess_of(place, guess)
-}
-
-// Whether the path leads through the place, and it is an `update`.
-fn is_update_on(place: &Place<'_>, path: Path) -> bool
-    ensures { (gs on : List SpecGuard) → IsMasked gs place.now → are_distinct gs ≡ true →
-        length gs ≤ 10 → IsPath gs on path.bits →
-        result ≡ (on_path on (place_view place.now) && spec.is_update (place_view place.now)) }
-{
-    place.is_on(path) && is_update(place)
-}
-
-fn is_guess_of(place: &Place<'_>, guess: &Name) -> bool
-    ensures { result ≡ spec.is_guess_of guess.now (place_view place.now) }
+// The guess that a place makes.
+fn guess_at<'a>(place: &Place<'a>) -> Option<&'a Name>
+    ensures { MatchOption result
+        ((name : List ℕ) → spec.is_guess_of name (place_view place.now) ≡ false) (λ guess.
+        (name : List ℕ) →
+        spec.is_guess_of name (place_view place.now) ≡ bytes_eq guess.now name) }
 {
     match place.action {
-        Action::SpecCall(other, _) => other.name == *guess,
-        Action::Parameter(_) | Action::Memory(_) | Action::Separator => false,
-        Action::CombRead(_, _) | Action::Bind(_, _) | Action::DelayedRead(_, _) => false,
-        Action::Write(_, _) | Action::Verify(_, _) | Action::Reserve(_, _) => false,
-        Action::Block(_) | Action::Release(_) | Action::If(_, _, _) | Action::Call(_) => false,
-        Action::Update(_, _) | Action::SpecCheck | Action::SpecBarrier => false,
-        Action::End | Action::StartClause(_) => false,
+        Action::SpecCall(guess, _) => Some(&guess.name),
+        Action::Parameter(_) | Action::Memory(_) | Action::Separator => None,
+        Action::CombRead(_, _) | Action::Bind(_, _) | Action::DelayedRead(_, _) => None,
+        Action::Write(_, _) | Action::Verify(_, _) | Action::Reserve(_, _) => None,
+        Action::Block(_) | Action::Release(_) | Action::If(_, _, _) | Action::Call(_) => None,
+        Action::Update(_, _) | Action::SpecCheck | Action::SpecBarrier => None,
+        Action::End | Action::StartClause(_) => None,
     }
 }

@@ -8,7 +8,6 @@ use Rattle.pdl_paths.specs.Actions.{place_view}
 use Rattle.pdl_paths.specs.Masks.{are_distinct}
 use Rattle.pdl_paths.proofs.DistinctGuards.{guards_distinct}
 use Rattle.pdl_rules_on_paths.proofs.Lines.{rule_lines}
-use Rattle.pdl_rules_stages.specs.PathBits.{HavePaths}
 use Rattle.pdl_rules_walk.proofs.Lines.{at_places}
 use Rattle.pdl_locks.specs.declared.numbers.Keys.TheVariants.{Locations}
 use Rattle.pdl_locks.specs.Numbers.{AreNumbered}
@@ -22,13 +21,18 @@ use Rattle.pdl_spec.proofs.lines.spec_path_rules.Goals as goal
 pub returns-clause-suits : goal.returns-clause-suits
 returns-clause-suits c =
     let rows = c.args.places.now in
-    let by_text = c.as_slice-stages.ensures.value ∙ c.requires.facts.by_text in
-    let paths : HavePaths c.args.guards.now rows =
-    record { few = c.requires.few; distinct = ap are_distinct c.requires.own ∙ guards_distinct (map place_view rows); masks = c.requires.masks } in (
+    let by_text = c.as_slice-stages.ensures.value ∙ c.requires.facts.by_text in (
       (
         (
           tt,
-          record { own = refl; text = c.requires.of; seen = refl; bits = c.all_true-all.ensures; paths = paths; by_text = by_text },
+          record {
+            own = refl;
+            text = c.requires.of;
+            seen = refl;
+            bits = c.all_true.ensures;
+            paths = record { few = c.requires.few; distinct = ap are_distinct c.requires.own ∙ guards_distinct (map place_view rows); masks = c.requires.masks };
+            by_text = by_text;
+          },
         ),
         (
           record {
@@ -38,7 +42,7 @@ returns-clause-suits c =
           by_text,
         ),
       ),
-      record { own = refl; seen = refl; bits = c.all_true-all.ensures; paths = paths; by_text = by_text },
+      by_text,
     )
 
 pub returns-clause-lines : goal.returns-clause-lines
