@@ -78,7 +78,7 @@ impl PathRule for UpdatedOnce<'_> {
 
     fn step(&self, state: &mut Guessed, k: usize, place: &Place<'_>) -> Result<(), NoMemory> {
         remember(&mut state.guesses, place, stage_at(self.stages, k))?;
-        state.updated = state.updated || is_update(place);
+        state.updated = is_updated(state.updated, place);
         Ok(())
     }
 
@@ -112,6 +112,13 @@ fn is_guessed_late(guesses: &[Guess], name: &Name, stage: usize) -> bool
         }
     }
     false
+}
+
+// Whether an `update` was passed, with one place more.
+fn is_updated(before: bool, place: &Place<'_>) -> bool
+    ensures { result ≡ (before || spec.is_update (place_view place.now)) }
+{
+    before || is_update(place)
 }
 
 // Adds the guess that a place in this stage makes, if it makes one.
