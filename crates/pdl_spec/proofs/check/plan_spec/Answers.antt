@@ -34,7 +34,8 @@ returns-in_err-refuse-3 c =
     rw (e.1, e.2) (
     later S1 (S2 ∷ S3 ∷ S4 ∷ S5 ∷ S6 ∷ S7 ∷ []) p _ _ c.in_ok-refuse.ensures c.requires.lines.one_call (
     later S2 (S3 ∷ S4 ∷ S5 ∷ S6 ∷ S7 ∷ []) p _ _ c.in_ok-refuse-2.ensures c.requires.lines.verified_once (
-    told S3 (S4 ∷ S5 ∷ S6 ∷ S7 ∷ []) p _ _ c.in_err-refuse-3.ensures (c.astray_line.ensures ∙ ap (line_where (is_astray Verifies) []) c.requires.of ∙ rule_lines S3 p [] (places p)))))
+    told S3 (S4 ∷ S5 ∷ S6 ∷ S7 ∷ []) p _ _ c.in_err-refuse-3.ensures
+    (c.astray_line.ensures ∙ ap (line_where (is_astray Verifies) []) c.requires.of ∙ rule_lines S3 p [] (places p)))))
 
 pub returns-in_err-refuse-4 : goal.returns-in_err-refuse-4
 returns-in_err-refuse-4 c =
@@ -43,7 +44,9 @@ returns-in_err-refuse-4 c =
     rw (e.1, e.2) (
     later S1 (S2 ∷ S3 ∷ S4 ∷ S5 ∷ S6 ∷ S7 ∷ []) p _ _ c.in_ok-refuse.ensures c.requires.lines.one_call (
     later S2 (S3 ∷ S4 ∷ S5 ∷ S6 ∷ S7 ∷ []) p _ _ c.in_ok-refuse-2.ensures c.requires.lines.verified_once (
-    later S3 (S4 ∷ S5 ∷ S6 ∷ S7 ∷ []) p _ _ c.in_ok-refuse-3.ensures (c.astray_line.ensures ∙ ap (line_where (is_astray Verifies) []) c.requires.of ∙ rule_lines S3 p [] (places p)) (
+    later S3 (S4 ∷ S5 ∷ S6 ∷ S7 ∷ []) p _ _ c.in_ok-refuse-3.ensures
+    (c.astray_line.ensures ∙ ap (line_where (is_astray Verifies) []) c.requires.of ∙ rule_lines S3 p [] (places p))
+    (
     told S4 (S5 ∷ S6 ∷ S7 ∷ []) p _ _ c.in_err-refuse-4.ensures c.requires.lines.released_sure))))
 
 pub returns-in_err-refuse-5 : goal.returns-in_err-refuse-5
@@ -53,7 +56,9 @@ returns-in_err-refuse-5 c =
     rw (e.1, e.2) (
     later S1 (S2 ∷ S3 ∷ S4 ∷ S5 ∷ S6 ∷ S7 ∷ []) p _ _ c.in_ok-refuse.ensures c.requires.lines.one_call (
     later S2 (S3 ∷ S4 ∷ S5 ∷ S6 ∷ S7 ∷ []) p _ _ c.in_ok-refuse-2.ensures c.requires.lines.verified_once (
-    later S3 (S4 ∷ S5 ∷ S6 ∷ S7 ∷ []) p _ _ c.in_ok-refuse-3.ensures (c.astray_line.ensures ∙ ap (line_where (is_astray Verifies) []) c.requires.of ∙ rule_lines S3 p [] (places p)) (
+    later S3 (S4 ∷ S5 ∷ S6 ∷ S7 ∷ []) p _ _ c.in_ok-refuse-3.ensures
+    (c.astray_line.ensures ∙ ap (line_where (is_astray Verifies) []) c.requires.of ∙ rule_lines S3 p [] (places p))
+    (
     later S4 (S5 ∷ S6 ∷ S7 ∷ []) p _ _ c.in_ok-refuse-4.ensures c.requires.lines.released_sure (
     told S5 (S6 ∷ S7 ∷ []) p _ _ c.in_err-refuse-5.ensures c.requires.lines.checked_first)))))
 
@@ -64,7 +69,9 @@ returns-in_err-refuse-6 c =
     rw (e.1, e.2) (
     later S1 (S2 ∷ S3 ∷ S4 ∷ S5 ∷ S6 ∷ S7 ∷ []) p _ _ c.in_ok-refuse.ensures c.requires.lines.one_call (
     later S2 (S3 ∷ S4 ∷ S5 ∷ S6 ∷ S7 ∷ []) p _ _ c.in_ok-refuse-2.ensures c.requires.lines.verified_once (
-    later S3 (S4 ∷ S5 ∷ S6 ∷ S7 ∷ []) p _ _ c.in_ok-refuse-3.ensures (c.astray_line.ensures ∙ ap (line_where (is_astray Verifies) []) c.requires.of ∙ rule_lines S3 p [] (places p)) (
+    later S3 (S4 ∷ S5 ∷ S6 ∷ S7 ∷ []) p _ _ c.in_ok-refuse-3.ensures
+    (c.astray_line.ensures ∙ ap (line_where (is_astray Verifies) []) c.requires.of ∙ rule_lines S3 p [] (places p))
+    (
     later S4 (S5 ∷ S6 ∷ S7 ∷ []) p _ _ c.in_ok-refuse-4.ensures c.requires.lines.released_sure (
     later S5 (S6 ∷ S7 ∷ []) p _ _ c.in_ok-refuse-5.ensures c.requires.lines.checked_first (
     told S6 (S7 ∷ []) p _ _ c.in_err-refuse-6.ensures (c.update_line.ensures ∙ update_lines p _ c.requires.of)))))))
@@ -76,10 +83,13 @@ returns-in_err-refuse-7 c =
     rw (e.1, e.2) (
     later S1 (S2 ∷ S3 ∷ S4 ∷ S5 ∷ S6 ∷ S7 ∷ []) p _ _ c.in_ok-refuse.ensures c.requires.lines.one_call (
     later S2 (S3 ∷ S4 ∷ S5 ∷ S6 ∷ S7 ∷ []) p _ _ c.in_ok-refuse-2.ensures c.requires.lines.verified_once (
-    later S3 (S4 ∷ S5 ∷ S6 ∷ S7 ∷ []) p _ _ c.in_ok-refuse-3.ensures (c.astray_line.ensures ∙ ap (line_where (is_astray Verifies) []) c.requires.of ∙ rule_lines S3 p [] (places p)) (
+    later S3 (S4 ∷ S5 ∷ S6 ∷ S7 ∷ []) p _ _ c.in_ok-refuse-3.ensures
+    (c.astray_line.ensures ∙ ap (line_where (is_astray Verifies) []) c.requires.of ∙ rule_lines S3 p [] (places p))
+    (
     later S4 (S5 ∷ S6 ∷ S7 ∷ []) p _ _ c.in_ok-refuse-4.ensures c.requires.lines.released_sure (
     later S5 (S6 ∷ S7 ∷ []) p _ _ c.in_ok-refuse-5.ensures c.requires.lines.checked_first (
-    told S6 (S7 ∷ []) p _ _ c.in_err-refuse-7.ensures (c.requires.lines.updated_once ∙ broken_lines p _ c.requires.of (sym c.in_ok-refuse-6.ensures ∙ c.update_line.ensures))))))))
+    told S6 (S7 ∷ []) p _ _ c.in_err-refuse-7.ensures
+    (c.requires.lines.updated_once ∙ broken_lines p _ c.requires.of (sym c.in_ok-refuse-6.ensures ∙ c.update_line.ensures))))))))
 
 pub returns-in_err-refuse-8 : goal.returns-in_err-refuse-8
 returns-in_err-refuse-8 c =
@@ -88,21 +98,31 @@ returns-in_err-refuse-8 c =
     rw (e.1, e.2) (
     later S1 (S2 ∷ S3 ∷ S4 ∷ S5 ∷ S6 ∷ S7 ∷ []) p _ _ c.in_ok-refuse.ensures c.requires.lines.one_call (
     later S2 (S3 ∷ S4 ∷ S5 ∷ S6 ∷ S7 ∷ []) p _ _ c.in_ok-refuse-2.ensures c.requires.lines.verified_once (
-    later S3 (S4 ∷ S5 ∷ S6 ∷ S7 ∷ []) p _ _ c.in_ok-refuse-3.ensures (c.astray_line.ensures ∙ ap (line_where (is_astray Verifies) []) c.requires.of ∙ rule_lines S3 p [] (places p)) (
+    later S3 (S4 ∷ S5 ∷ S6 ∷ S7 ∷ []) p _ _ c.in_ok-refuse-3.ensures
+    (c.astray_line.ensures ∙ ap (line_where (is_astray Verifies) []) c.requires.of ∙ rule_lines S3 p [] (places p))
+    (
     later S4 (S5 ∷ S6 ∷ S7 ∷ []) p _ _ c.in_ok-refuse-4.ensures c.requires.lines.released_sure (
     later S5 (S6 ∷ S7 ∷ []) p _ _ c.in_ok-refuse-5.ensures c.requires.lines.checked_first (
-    later S6 (S7 ∷ []) p _ _ c.in_ok-refuse-7.ensures (c.requires.lines.updated_once ∙ broken_lines p _ c.requires.of (sym c.in_ok-refuse-6.ensures ∙ c.update_line.ensures)) (
-    told S7 [] p _ _ c.in_err-refuse-8.ensures (c.apart_line.ensures ∙ ap (line_where breaks_s7 []) c.requires.of ∙ rule_lines S7 p [] (places p)))))))))
+    later S6 (S7 ∷ []) p _ _ c.in_ok-refuse-7.ensures
+    (c.requires.lines.updated_once ∙ broken_lines p _ c.requires.of (sym c.in_ok-refuse-6.ensures ∙ c.update_line.ensures))
+    (
+    told S7 [] p _ _ c.in_err-refuse-8.ensures
+    (c.apart_line.ensures ∙ ap (line_where breaks_s7 []) c.requires.of ∙ rule_lines S7 p [] (places p)))))))))
 
 pub returns : goal.returns
 returns c =
     let p = pipe_view c.args.pipe.now in (
       none_more S1 (S2 ∷ S3 ∷ S4 ∷ S5 ∷ S6 ∷ S7 ∷ []) p _ c.in_ok-refuse.ensures c.requires.lines.one_call (
           none_more S2 (S3 ∷ S4 ∷ S5 ∷ S6 ∷ S7 ∷ []) p _ c.in_ok-refuse-2.ensures c.requires.lines.verified_once (
-          none_more S3 (S4 ∷ S5 ∷ S6 ∷ S7 ∷ []) p _ c.in_ok-refuse-3.ensures (c.astray_line.ensures ∙ ap (line_where (is_astray Verifies) []) c.requires.of ∙ rule_lines S3 p [] (places p)) (
+          none_more S3 (S4 ∷ S5 ∷ S6 ∷ S7 ∷ []) p _ c.in_ok-refuse-3.ensures
+          (c.astray_line.ensures ∙ ap (line_where (is_astray Verifies) []) c.requires.of ∙ rule_lines S3 p [] (places p))
+          (
           none_more S4 (S5 ∷ S6 ∷ S7 ∷ []) p _ c.in_ok-refuse-4.ensures c.requires.lines.released_sure (
           none_more S5 (S6 ∷ S7 ∷ []) p _ c.in_ok-refuse-5.ensures c.requires.lines.checked_first (
-          none_more S6 (S7 ∷ []) p _ c.in_ok-refuse-7.ensures (c.requires.lines.updated_once ∙ broken_lines p _ c.requires.of (sym c.in_ok-refuse-6.ensures ∙ c.update_line.ensures)) (
-          none_more S7 [] p _ c.in_ok-refuse-8.ensures (c.apart_line.ensures ∙ ap (line_where breaks_s7 []) c.requires.of ∙ rule_lines S7 p [] (places p)) refl)))))),
+          none_more S6 (S7 ∷ []) p _ c.in_ok-refuse-7.ensures
+          (c.requires.lines.updated_once ∙ broken_lines p _ c.requires.of (sym c.in_ok-refuse-6.ensures ∙ c.update_line.ensures))
+          (
+          none_more S7 [] p _ c.in_ok-refuse-8.ensures
+          (c.apart_line.ensures ∙ ap (line_where breaks_s7 []) c.requires.of ∙ rule_lines S7 p [] (places p)) refl)))))),
       c.new.ensures ∙ c.requires.verified,
     )

@@ -30,7 +30,12 @@ returns-clause-suits c =
             text = c.requires.of;
             seen = refl;
             bits = c.all_true.ensures;
-            paths = record { few = c.requires.few; distinct = ap are_distinct c.requires.own ∙ guards_distinct (map place_view rows); masks = c.requires.masks };
+            paths =
+                record {
+                  few = c.requires.few;
+                  distinct = ap are_distinct c.requires.own ∙ guards_distinct (map place_view rows);
+                  masks = c.requires.masks;
+                };
             by_text = by_text;
           },
         ),
