@@ -107,14 +107,14 @@ delayed_as_many p n f =
 
 -- ---- how many are delayed
 
-counted : (ms : List Mem) → count_by (λ (i : MemInfo). i.delayed) (infos_of ms) ≡ count_by (λ (x : Flat.Mem). x.delayed) (mems_of ms)
+counted : (ms : List Mem) → count_by (λ (i : MemInfo). i.delayed) (infos_of ms) ≡ count_by (λ (x : Flat.Mem). Flat.is_delayed x.kind) (mems_of ms)
 counted [] = refl
 counted (m ∷ ms) =
     sum_by-cons (λ (i : MemInfo). cond i.delayed 1 0) (info_of m) (infos_of ms)
-    ∙ ap (λ n. cond m.delayed 1 0 + n) (counted ms)
+    ∙ ap (λ n. cond (Flat.is_delayed m.kind) 1 0 + n) (counted ms)
     ∙ sym
-    (sum_by-cons (λ (x : Flat.Mem). cond x.delayed 1 0)
-    (record { width = m.width.value; depth = m.depth.value; delayed = m.delayed; lock = flat_lock m.lock })
+    (sum_by-cons (λ (x : Flat.Mem). cond (Flat.is_delayed x.kind) 1 0)
+    (record { width = m.width.value; depth = m.depth.value; kind = m.kind; lock = flat_lock m.lock })
     (mems_of ms))
 
 -- as many of the told memories are delayed as of the flat pipe's

@@ -1,3 +1,5 @@
 mod SingleNumber
 mod PathlessParts
-mod NoUpdates
+mod Updates
+mod FirstStages
+mod Guesses

@@ -13,7 +13,7 @@ ghost use Rattle.pdl_spec.specs.Plan.{spec_rules};
 
 use crate::lines::{SpecLines, spec_path_rules};
 use crate::plan::SpecPlan;
-use crate::updated::update_line;
+use crate::updated::{apart_line, update_line};
 use pdl_kit::{NoMemory, Refusal, Rule};
 use pdl_locks::{LockFacts, refuse};
 use pdl_paths::{Guards, Place};
@@ -91,5 +91,7 @@ pub fn plan_spec(
     refuse(Rule::S4, lines.released_sure)?;
     refuse(Rule::S5, lines.checked_first)?;
     refuse(Rule::S6, update_line(places))?;
+    refuse(Rule::S6, lines.updated_once)?;
+    refuse(Rule::S7, apart_line(places, stages))?;
     Ok(SpecPlan::new(verified))
 }
