@@ -1,5 +1,5 @@
 -- What a cycle does to a lock: the stages' ports do what the threads that move do, it is proper use, and it makes the lock of the next pending writes.
-use Rattle.std.proofs.Common.{◌≡◌, refl, sym, ap, ap₂, ◌∙◌, subst, ℕ, zero, suc, ◌+◌, ◌<◌, ◌≤◌, Bool, true, false, ◌&&◌, ◌||◌, List, [], ◌∷◌, ◌++◌, length, Option, Some, None, is_some, arith, ⊎_elim, length-append, append-nil, ◌==◌, ◌⊎◌, inl, inr, add-zero, le-ltb, lt-ltb, ltb-true}
+use Rattle.std.proofs.Common.{◌≡◌, refl, sym, ap, ap₂, ◌∙◌, subst, ℕ, zero, suc, ◌+◌, ◌<◌, ◌≤◌, Bool, true, false, ◌&&◌, List, [], ◌∷◌, ◌++◌, length, Option, Some, None, is_some, arith, ⊎_elim, length-append, append-nil, ◌==◌, ◌⊎◌, inl, inr, add-zero, le-ltb, lt-ltb, ltb-true}
 use Rattle.std.specs.Prelude.{if◌then◌else◌, nat_lt, ⊤, Contains}
 use Rattle.std.proofs.lemmas.Bool.{false≢true, and_parts, cases_lt}
 use Rattle.std.proofs.lemmas.List.{length-map, length-drop}
@@ -32,7 +32,7 @@ use Rattle.pdl_law_parts.proofs.Moves.{ready_of}
 use Rattle.pdl_law_parts.proofs.LockUse.{IsAlike, alike, all_new, appended_is, new_count, EachTo, each_to, each_map, HasTicket, write_acts, written_append, none_written, stage_written, place_below}
 use Rattle.pdl_lockapi.proofs.LockKinds.{room_there}
 use Rattle.pdl_law_parts.proofs.LockPorts.{asked_append, asked_stage, lets_stage, AreFitting, fitting_append, fitting_at, fitting_stage, AreDriven, driven_append, driven_count, driven_at, driven_stage, moves_or_not, no_mover, one_mover}
-use Rattle.pdl_semantics.specs.PendingLists.{AreOrdered, count_older, AreWritten}
+use Rattle.pdl_semantics.specs.PendingLists.{count_older, AreWritten}
 
 -- RELEASES
 

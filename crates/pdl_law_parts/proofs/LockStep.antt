@@ -17,7 +17,6 @@ use Rattle.pdl_net.specs.Circuit.{Circuit, State}
 use Rattle.pdl_net.specs.Signal.{Signal}
 use Rattle.pdl_net.specs.Growth.{Own}
 use Rattle.pdl_lockapi.specs.Lock.{Entry, LockState, entry_at, or_zero, committed, step}
-use Rattle.pdl_lockapi.specs.Lock as lock
 use Rattle.pdl_lockapi.specs.Laws.{IsNext, StepLaw}
 use Rattle.pdl_lockapi.specs.Forget.{forget, forgotten_entries, as_lock, lock_state_of}
 use Rattle.pdl_lockapi.proofs.Lengths.{left_long}

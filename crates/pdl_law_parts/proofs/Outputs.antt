@@ -1,5 +1,5 @@
 -- The outputs of a compiled netlist have the values of the machine's ports.
-use Rattle.std.proofs.Common.{◌≡◌, refl, sym, ap, ap₂, ◌∙◌, subst, ℕ, zero, suc, ◌+◌, ◌-◌, ◌<◌, Bool, true, false, List, [], ◌∷◌, ◌++◌, length, map, Some, is_some, arith, add-zero}
+use Rattle.std.proofs.Common.{◌≡◌, refl, sym, ap, ap₂, ◌∙◌, subst, ℕ, zero, suc, ◌+◌, ◌<◌, Bool, true, false, List, [], ◌∷◌, ◌++◌, length, map, Some, is_some, arith, add-zero}
 use Rattle.std.specs.Prelude.{if◌then◌else◌, slice_index_or, filter_map}
 use Rattle.std.proofs.lemmas.List.{map-append}
 use Rattle.pdl_semantics.specs.Flat.{Lock, Mem, Stmt, Stage, Pipe, has_lock}

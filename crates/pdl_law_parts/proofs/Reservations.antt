@@ -1,9 +1,9 @@
 -- How many writes of a memory a thread's statements reserve, and that there is room for them.
-use Rattle.std.proofs.Common.{◌≡◌, refl, sym, ap, ap₂, ◌∙◌, ℕ, suc, ◌+◌, ◌≤◌, Bool, true, false, ◌&&◌, List, [], ◌∷◌, ◌++◌, Some, ◌==◌, arith, le_refl, eq-eqb, add-zero, zero-add}
+use Rattle.std.proofs.Common.{◌≡◌, refl, sym, ap, ap₂, ◌∙◌, ℕ, suc, ◌+◌, ◌≤◌, Bool, true, false, ◌&&◌, List, [], ◌∷◌, ◌++◌, Some, ◌==◌, arith, le_refl, eq-eqb, add-zero}
 use Rattle.std.specs.Prelude.{if◌then◌else◌, slice_index}
-use Rattle.std.proofs.lemmas.Bool.{eqb-true, eqb-false, ne_eqb}
+use Rattle.std.proofs.lemmas.Bool.{eqb-false, ne_eqb}
 use Rattle.pdl_semantics.specs.Flat.{Op, Bind, CombRead, DelayedRead, Write, ReserveRead, ReserveWrite, Block, Release, Call, SpecCall, Verify, SpecCheck, SpecBarrier, AdviceBind, AdviceRead, AdviceWrite, Stmt, list_all, all_hold, values_of}
-use Rattle.pdl_semantics.specs.Machine.{Deeds, Reserved, reserves_of, same_args, after_verify, deeds_after, deeds_after_all}
+use Rattle.pdl_semantics.specs.Machine.{Deeds, Reserved, reserves_of, same_args, deeds_after, deeds_after_all}
 use Rattle.pdl_semantics.proofs.Facts.{all_push}
 
 -- one reservation more is of its memory, and of no other

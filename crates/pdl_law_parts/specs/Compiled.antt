@@ -11,7 +11,6 @@ use Rattle.pdl_net.specs.Meaning.{signal, write_signals}
 use Rattle.pdl_net.specs.Cycle.{next_regs}
 use Rattle.pdl_net.specs.Well.{Suits}
 use Rattle.pdl_net.specs.Growth.{Own}
-use Rattle.pdl_lockapi.specs.Lock.{start}
 use Rattle.pdl_lockapi.specs.Laws.{RoomLaw, TicketLaw, StepLaw}
 use Rattle.pdl_lockapi.specs.Forget.{as_lock}
 use Rattle.pdl_law_parts.specs.Lives.{lives_from, held_from, verifies_from}

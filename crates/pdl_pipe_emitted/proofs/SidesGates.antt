@@ -8,6 +8,7 @@ use Rattle.pdl_word.specs.Each.{Each}
 use Rattle.pdl_word.proofs.Each.{each_weaker}
 use Rattle.pdl_semantics.specs.Flat.{Branch, Pipe, Stage}
 use Rattle.pdl_semantics.specs.Stages as stages
+use Rattle.pdl_form.specs.Sides.{first_of}
 use Rattle.pdl_semantics.specs.Stages.{stage_at, last_stage, verify_stage}
 use Rattle.pdl_net.specs.Circuit.{Circuit}
 use Rattle.pdl_net.specs.Signal.{Signal}
@@ -74,7 +75,8 @@ module _ {T : Type 0} (l : Members T) (n : Nets T) (em : Emission l n) where
   turn_as None from = refl
   turn_as (Some f) from = at (stages.sides_of f from)
     where
-      at : (bs : List Bool) → turn_by (order_first em.d (some_at n.orders f)) (order_empty em.d (some_at n.orders f)) bs ≡ branch_turn (sides.order f) bs
+      at : (bs : List Bool)
+          → turn_by (order_first em.d (some_at n.orders f)) (order_empty em.d (some_at n.orders f)) (first_of bs) ≡ branch_turn (sides.order f) bs
       at [] = refl
       at (b ∷ bs) = refl
 

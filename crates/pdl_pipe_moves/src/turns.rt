@@ -3,7 +3,6 @@ ghost use Rattle.std.specs.Prelude.{◌≡◌, ◌<◌, true, IfOk, Some, is_som
 ghost use Rattle.pdl_form.specs.FormView.{form};
 ghost use Rattle.pdl_semantics.specs.Stages.{stage_at};
 ghost use Rattle.pdl_form.specs.View.{stage_view};
-ghost use Rattle.pdl_form.specs.Sides.{first_of};
 ghost use Rattle.pdl_net.specs.Signal.{mux_signal};
 ghost use Rattle.pdl_net.specs.Growth.{Extends};
 ghost use Rattle.pdl_net.specs.Meaning.{Means, signal};
@@ -47,9 +46,8 @@ pub fn branch_turn(
 ) -> Result<Net, NoMemory>
     requires bits { AreBits b.old bits }
     requires nets { HasOrderNets b.old order.now }
-    ensures on { (sides : List Bool) → side ≡ first_of sides →
-        IfOk result (λ y. IsBitFor b.new y (turn_by (signal b.old order.now.first)
-        (signal b.old order.now.empty) sides)) }
+    ensures on { IfOk result (λ y. IsBitFor b.new y (turn_by (signal b.old order.now.first)
+        (signal b.old order.now.empty) side)) }
     ensures extends { Extends b.old b.new }
     ensures regs { b.new.regs ≡ b.old.regs }
 {
