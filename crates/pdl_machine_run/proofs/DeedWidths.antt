@@ -11,7 +11,7 @@ use Rattle.pdl_form_values.specs.Widths.{Fit}
 use Rattle.pdl_form_values.proofs.ValueWidths.{fits_in, safe, all_safe, values_count}
 use Rattle.pdl_machine_pending.specs.Memory.{Memory}
 use Rattle.pdl_machine_pending.proofs.WordBounds.{read_fits}
-use Rattle.pdl_machine_run.specs.StageDeeds.{memory_at, word_of, IsSafeOp}
+use Rattle.pdl_machine_run.specs.StageDeeds.{memory_at, word_of, checked_values, IsSafeOp}
 use Rattle.pdl_machine_run.specs.Room.{Capacities, IsLarge}
 use Rattle.pdl_machine_run.specs.Typed.{AreReserved, AreWritten, AreAdvised, IsReadInto, AreAsked, AreWords, AreFit, AreMemories}
 use Rattle.pdl_form_types.proofs.Arguments.{args_count}
@@ -45,6 +45,10 @@ kept_fit f (x ∷ ks) env h k = kept_fit f ks _ h.2 (fit_set f.widths env x.var 
 -- the values of deeds that fit have their widths, together with the advised ones
 pub whole_fit : (f : Form) (d : Deeds) → AreFit f d → Fit f.widths (all_values d)
 whole_fit f d k = kept_fit f d.advice d.env k.advice k.env
+
+-- and so have the values from which a check of the guess takes its arguments
+pub checked_fit : (f : Form) (last : Bool) (d : Deeds) → AreFit f d → Fit f.widths (checked_values last d)
+checked_fit f last d k = k.env
 
 module _ (ws env : List ℕ) (wide : AreWidths ws) (f : Fit ws env) where
   values_below : (ns : List ℕ) (es : List Expr) → AreArguments ws ns es → (x : ℕ) → slice_index (values_of es env) x < 2 ^ slice_index ns x
@@ -209,8 +213,9 @@ module _ (f : Form) (wide : AreWidths f.widths) (xs : List Memory) (ms : AreMemo
         child = args_fit f.widths (all_values d) wide (whole_fit f d k) (param_widths f) args t;
       }
   fit_does thread (Verify last args) d t k =
-      fit_verify (same_args (values_of args d.env) d.guess) (values_of args d.env) d (args_fit f.widths d.env wide k.env (param_widths f) args t)
-      (few_values args d.env t) k
+      let env = checked_values last d in
+      fit_verify (same_args (values_of args env) d.guess) (values_of args env) d
+      (args_fit f.widths env wide (checked_fit f last d k) (param_widths f) args t) (few_values args env t) k
   fit_does thread SpecCheck d t k = k
   fit_does thread SpecBarrier d t k =
       record { env = k.env; advice = k.advice; guess = k.guess; reserves = k.reserves; writes = k.writes; asks = k.asks; advises = k.advises; child = k.child }
@@ -291,7 +296,7 @@ module _ (f : Form) (wide : AreWidths f.widths) (xs : List Memory) (ms : AreMemo
       let room = h.args in
       let kept = h.verified in
       let guessed = h.guess in
-      (all_safe f.widths d.env wide k.env (param_widths f) args t, omega arith, omega arith, omega arith)
+      (all_safe f.widths (checked_values last d) wide (checked_fit f last d k) (param_widths f) args t, omega arith, omega arith, omega arith, whole_room d c n k h)
   safe_op SpecCheck d c n t k h = tt
   safe_op SpecBarrier d c n t k h = tt
   safe_op (AdviceBind x e) d c n t k h = (safe f.widths (all_values d) wide (whole_fit f d k) e t.1, whole_room d c n k h)
