@@ -7,7 +7,7 @@ ghost use Rattle.pdl_form.specs.View.{expr_view, exprs_view, act_view, stmt_view
 ghost use Rattle.pdl_form_values.specs.Safe.{IsSafe, AreSafe};
 ghost use Rattle.pdl_machine_run.specs.View.{deeds_view};
 ghost use Rattle.pdl_machine_run.specs.Room.{capacities, HasRoomFor, IsLarge};
-ghost use Rattle.pdl_machine_run.specs.StageDeeds.{word_of, checked_values, IsSafeOp};
+ghost use Rattle.pdl_machine_run.specs.StageDeeds.{word_of, checked_values, checked_args, IsSafeOp};
 ghost use Rattle.pdl_form.specs.FormView.{form};
 ghost use Rattle.pdl_form_types.specs.Stmts.{IsTypedForm};
 ghost use Rattle.pdl_machine_run.specs.Typed.{AreFit, AreMemories};
@@ -205,7 +205,7 @@ fn check_args(last: bool, args: &[FlatExpr], deeds: &mut Deeds)
     requires whole { length deeds.old.values.items ≤ vec_capacity deeds.old.whole }
     requires room { length args.now ≤ vec_capacity deeds.old.verified }
     ensures verified { deeds.new.verified.items
-        ≡ spec_values_of (exprs_view args.now) (checked_values last (deeds_view deeds.old)) }
+        ≡ checked_args last (exprs_view args.now) (deeds_view deeds.old) }
     ensures deeds { deeds_view deeds.new ≡ deeds_view deeds.old }
     ensures capacities { capacities deeds.new ≡ capacities deeds.old }
     ensures room { (n : ℕ) → HasRoomFor n deeds.old → HasRoomFor n deeds.new }
@@ -238,8 +238,7 @@ fn verify(last: bool, args: &[FlatExpr], deeds: &mut Deeds)
     requires args_room { length args.now ≤ vec_capacity deeds.old.args }
     requires guess_room { length args.now ≤ vec_capacity deeds.old.guess }
     ensures deeds { deeds_view deeds.new ≡ after_verify
-        (spec_values_of (exprs_view args.now) (checked_values last (deeds_view deeds.old)))
-        (deeds_view deeds.old) }
+        (checked_args last (exprs_view args.now) (deeds_view deeds.old)) (deeds_view deeds.old) }
     ensures capacities { capacities deeds.new ≡ capacities deeds.old }
     ensures room { (n : ℕ) → HasRoomFor (suc n) deeds.old → HasRoomFor n deeds.new }
 {
