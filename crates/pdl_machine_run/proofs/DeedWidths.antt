@@ -11,7 +11,7 @@ use Rattle.pdl_form_values.specs.Widths.{Fit}
 use Rattle.pdl_form_values.proofs.ValueWidths.{fits_in, safe, all_safe, values_count}
 use Rattle.pdl_machine_pending.specs.Memory.{Memory}
 use Rattle.pdl_machine_pending.proofs.WordBounds.{read_fits}
-use Rattle.pdl_machine_run.specs.StageDeeds.{memory_at, word_of, IsSafeOp}
+use Rattle.pdl_machine_run.specs.StageDeeds.{memory_at, word_of, checked_values, checked_args, IsSafeOp}
 use Rattle.pdl_machine_run.specs.Room.{Capacities, IsLarge}
 use Rattle.pdl_machine_run.specs.Typed.{AreReserved, AreWritten, AreAdvised, IsReadInto, AreAsked, AreWords, AreFit, AreMemories}
 use Rattle.pdl_form_types.proofs.Arguments.{args_count}
@@ -46,6 +46,16 @@ kept_fit f (x ∷ ks) env h k = kept_fit f ks _ h.2 (fit_set f.widths env x.var 
 pub whole_fit : (f : Form) (d : Deeds) → AreFit f d → Fit f.widths (all_values d)
 whole_fit f d k = kept_fit f d.advice d.env k.advice k.env
 
+-- and so have the values from which a verify or an update takes its arguments
+checked_fit : (f : Form) (last : Bool) (d : Deeds) → AreFit f d → Fit f.widths (checked_values last d)
+checked_fit f true d k = k.env
+checked_fit f false d k = k.env
+
+-- there are as many of these arguments as expressions
+pub checked_count : (last : Bool) (args : List Expr) (d : Deeds) → length (checked_args last args d) ≡ length args
+checked_count true args d = values_count d.env args
+checked_count false args d = values_count d.env args
+
 module _ (ws env : List ℕ) (wide : AreWidths ws) (f : Fit ws env) where
   values_below : (ns : List ℕ) (es : List Expr) → AreArguments ws ns es → (x : ℕ) → slice_index (values_of es env) x < 2 ^ slice_index ns x
   values_below [] [] t x = omega arith
@@ -56,6 +66,12 @@ module _ (ws env : List ℕ) (wide : AreWidths ws) (f : Fit ws env) where
 
   args_fit : (ns : List ℕ) (es : List Expr) → AreArguments ws ns es → Fit ns (values_of es env)
   args_fit ns es t = record { count = values_count env es ∙ args_count ws ns es t; below = values_below ns es t }
+
+-- the arguments of a verify or an update have the widths of the parameters
+checked_fits : (f : Form) → AreWidths f.widths → (last : Bool) (args : List Expr) (d : Deeds) → AreArguments f.widths (param_widths f) args → AreFit f d
+    → Fit (param_widths f) (checked_args last args d)
+checked_fits f wide true args d t k = args_fit f.widths d.env wide k.env (param_widths f) args t
+checked_fits f wide false args d t k = args_fit f.widths d.env wide k.env (param_widths f) args t
 
 -- DEEDS
 
@@ -209,8 +225,10 @@ module _ (f : Form) (wide : AreWidths f.widths) (xs : List Memory) (ms : AreMemo
         child = args_fit f.widths (all_values d) wide (whole_fit f d k) (param_widths f) args t;
       }
   fit_does thread (Verify last args) d t k =
-      fit_verify (same_args (values_of args d.env) d.guess) (values_of args d.env) d (args_fit f.widths d.env wide k.env (param_widths f) args t)
-      (few_values args d.env t) k
+      let checked = checked_args last args d in
+      let count = checked_count last args d in
+      let few = few_args args t in
+      fit_verify (same_args checked d.guess) checked d (checked_fits f wide last args d t k) (omega arith) k
   fit_does thread SpecCheck d t k = k
   fit_does thread SpecBarrier d t k =
       record { env = k.env; advice = k.advice; guess = k.guess; reserves = k.reserves; writes = k.writes; asks = k.asks; advises = k.advises; child = k.child }
@@ -291,7 +309,7 @@ module _ (f : Form) (wide : AreWidths f.widths) (xs : List Memory) (ms : AreMemo
       let room = h.args in
       let kept = h.verified in
       let guessed = h.guess in
-      (all_safe f.widths d.env wide k.env (param_widths f) args t, omega arith, omega arith, omega arith)
+      (all_safe f.widths (checked_values last d) wide (checked_fit f last d k) (param_widths f) args t, omega arith, omega arith, omega arith, whole_room d c n k h)
   safe_op SpecCheck d c n t k h = tt
   safe_op SpecBarrier d c n t k h = tt
   safe_op (AdviceBind x e) d c n t k h = (safe f.widths (all_values d) wide (whole_fit f d k) e t.1, whole_room d c n k h)

@@ -1,6 +1,6 @@
 -- What a stage's statements find in the memories, and what they do.
-use Rattle.std.specs.Prelude.{ℕ, ◌≤◌, false, List, [], None, slice_index, slice_index_or, length, ⊤}
-use Rattle.pdl_semantics.specs.Flat.{Op, Bind, CombRead, DelayedRead, Write, ReserveRead, ReserveWrite, Block, Release, Call, SpecCall, Verify, SpecCheck, SpecBarrier, AdviceBind, AdviceRead, AdviceWrite, Plain}
+use Rattle.std.specs.Prelude.{ℕ, ◌≤◌, Bool, false, List, [], None, slice_index, slice_index_or, length, ⊤}
+use Rattle.pdl_semantics.specs.Flat.{Expr, Op, Bind, CombRead, DelayedRead, Write, ReserveRead, ReserveWrite, Block, Release, Call, SpecCall, Verify, SpecCheck, SpecBarrier, AdviceBind, AdviceRead, AdviceWrite, Plain, values_of}
 use Rattle.pdl_semantics.specs.Locks.{Latest, Nothing, value_or}
 use Rattle.pdl_semantics.specs.Machine.{Kept, Deeds, all_values, youngest}
 use Rattle.pdl_form_values.specs.Safe.{IsSafe, AreSafe}
@@ -42,6 +42,14 @@ nothing_done env advice guess =
       fails = false;
     }
 
+-- the values from which a verify, the last check of a guess, or an update takes its arguments
+abbrev pub checked_values : Bool → Deeds → List ℕ
+checked_values last d = d.env
+
+-- these arguments
+abbrev pub checked_args : Bool → List Expr → Deeds → List ℕ
+checked_args last args d = values_of args d.env
+
 -- an operation that can be carried out after these deeds, with room for its arguments and for the values with the advised ones
 abbrev pub IsSafeOp : Capacities → Op → Deeds → Type 0
 IsSafeOp c (Bind x e) d = IsSafe e d.env
@@ -54,7 +62,8 @@ IsSafeOp c (Block m a) d = ⊤
 IsSafeOp c (Release m a) d = ⊤
 IsSafeOp c (Call args) d = AreSafe args d.env × (length args ≤ c.args)
 IsSafeOp c (SpecCall args) d = AreSafe args (all_values d) × (length args ≤ c.args) × (length args ≤ c.guess) × (length d.env ≤ c.whole)
-IsSafeOp c (Verify last args) d = AreSafe args d.env × (length args ≤ c.args) × (length args ≤ c.verified) × (length args ≤ c.guess)
+IsSafeOp c (Verify last args) d =
+    AreSafe args (checked_values last d) × (length args ≤ c.args) × (length args ≤ c.verified) × (length args ≤ c.guess) × (length d.env ≤ c.whole)
 IsSafeOp c SpecCheck d = ⊤
 IsSafeOp c SpecBarrier d = ⊤
 IsSafeOp c (AdviceBind x e) d = IsSafe e (all_values d) × (length d.env ≤ c.whole)

@@ -276,7 +276,6 @@ fn merges_well(pipe: &FlatPipe, beside: &Beside, k: usize, to: Option<usize>) ->
 }
 
 // Whether the locks of these memories let a thread of this number move that does this.
-#[tactic(auto, using(crate::proofs::LocksReady::roomy_is))]
 fn locks_in(memories: &[Memory], thread: u64, deeds: &Deeds) -> bool
     ensures { (p : Pipe) (b : r_beside.Beside) → AreMemories p b.memories.items →
         memories.now ≡ b.memories.items →

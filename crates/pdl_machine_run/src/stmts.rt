@@ -7,7 +7,7 @@ ghost use Rattle.pdl_form.specs.View.{expr_view, exprs_view, act_view, stmt_view
 ghost use Rattle.pdl_form_values.specs.Safe.{IsSafe, AreSafe};
 ghost use Rattle.pdl_machine_run.specs.View.{deeds_view};
 ghost use Rattle.pdl_machine_run.specs.Room.{capacities, HasRoomFor, IsLarge};
-ghost use Rattle.pdl_machine_run.specs.StageDeeds.{word_of, IsSafeOp};
+ghost use Rattle.pdl_machine_run.specs.StageDeeds.{word_of, checked_values, checked_args, IsSafeOp};
 ghost use Rattle.pdl_form.specs.FormView.{form};
 ghost use Rattle.pdl_form_types.specs.Stmts.{IsTypedForm};
 ghost use Rattle.pdl_machine_run.specs.Typed.{AreFit, AreMemories};
@@ -199,25 +199,51 @@ fn same_args(these: &[u64], those: &[u64]) -> bool
     true
 }
 
-// A guess is verified, or updated: where it was wrong, a thread is called with the right arguments, and they are kept as the guess.
-fn verify(args: &[FlatExpr], deeds: &mut Deeds)
-    requires safe { AreSafe (exprs_view args.now) (deeds_view deeds.old).env }
+// The arguments of a check of the guess, which is a verify where it is the last one, else an update, are in the room for them.
+fn check_args(last: bool, args: &[FlatExpr], deeds: &mut Deeds)
+    requires safe { AreSafe (exprs_view args.now) (checked_values last (deeds_view deeds.old)) }
+    requires whole { length deeds.old.values.items ≤ vec_capacity deeds.old.whole }
     requires room { length args.now ≤ vec_capacity deeds.old.verified }
-    requires args_room { length args.now ≤ vec_capacity deeds.old.args }
-    requires guess_room { length args.now ≤ vec_capacity deeds.old.guess }
-    ensures deeds { deeds_view deeds.new
-        ≡ after_verify (spec_values_of (exprs_view args.now) (deeds_view deeds.old).env)
-        (deeds_view deeds.old) }
+    ensures verified { deeds.new.verified.items
+        ≡ checked_args last (exprs_view args.now) (deeds_view deeds.old) }
+    ensures deeds { deeds_view deeds.new ≡ deeds_view deeds.old }
     ensures capacities { capacities deeds.new ≡ capacities deeds.old }
-    ensures room { (n : ℕ) → HasRoomFor (suc n) deeds.old → HasRoomFor n deeds.new }
+    ensures room { (n : ℕ) → HasRoomFor n deeds.old → HasRoomFor n deeds.new }
 {
     values_of(args, deeds.values.as_slice(), &mut deeds.verified);
+}
+
+// The checked arguments are kept as the guess where this was another, and a thread is called with them.
+fn settle(deeds: &mut Deeds)
+    requires args { length deeds.old.verified.items ≤ vec_capacity deeds.old.args }
+    requires guess { length deeds.old.verified.items ≤ vec_capacity deeds.old.guess }
+    ensures deeds { deeds_view deeds.new
+        ≡ after_verify deeds.old.verified.items (deeds_view deeds.old) }
+    ensures capacities { capacities deeds.new ≡ capacities deeds.old }
+    ensures room { (n : ℕ) → HasRoomFor n deeds.old → HasRoomFor n deeds.new }
+{
     if !same_args(deeds.verified.as_slice(), deeds.guess.as_slice()) {
         copy_words(deeds.verified.as_slice(), &mut deeds.args);
         copy_words(deeds.verified.as_slice(), &mut deeds.guess);
         deeds.called = true;
         deeds.fails = true;
     }
+}
+
+// A guess is verified, or updated: where it was wrong, a thread is called with the right arguments, and they are kept as the guess.
+fn verify(last: bool, args: &[FlatExpr], deeds: &mut Deeds)
+    requires safe { AreSafe (exprs_view args.now) (checked_values last (deeds_view deeds.old)) }
+    requires whole { length deeds.old.values.items ≤ vec_capacity deeds.old.whole }
+    requires room { length args.now ≤ vec_capacity deeds.old.verified }
+    requires args_room { length args.now ≤ vec_capacity deeds.old.args }
+    requires guess_room { length args.now ≤ vec_capacity deeds.old.guess }
+    ensures deeds { deeds_view deeds.new ≡ after_verify
+        (checked_args last (exprs_view args.now) (deeds_view deeds.old)) (deeds_view deeds.old) }
+    ensures capacities { capacities deeds.new ≡ capacities deeds.old }
+    ensures room { (n : ℕ) → HasRoomFor (suc n) deeds.old → HasRoomFor n deeds.new }
+{
+    check_args(last, args, deeds);
+    settle(deeds);
 }
 
 // What an operation does for a thread.
@@ -241,7 +267,7 @@ fn act(memories: &[Memory], thread: u64, op: &Op, deeds: &mut Deeds)
         Op::Release { m, a } => release(*m, *a, deeds),
         Op::Call(args) => call(args.as_slice(), deeds),
         Op::SpecCall(args) => guess(args.as_slice(), deeds),
-        Op::Verify { last: _, args } => verify(args.as_slice(), deeds),
+        Op::Verify { last, args } => verify(*last, args.as_slice(), deeds),
         Op::SpecBarrier => deeds.barrier = true,
         Op::AdviceBind { x, e } => bind_advice(*x, e, deeds),
         Op::AdviceRead { x, m, a } => read_advice(memories, thread, *x, *m, *a, deeds),

@@ -1,4 +1,4 @@
-use Rattle.std.proofs.Common.{◌≡◌, ◌∙◌, ap, ap₂, ℕ, List, drop}
+use Rattle.std.proofs.Common.{◌≡◌, ◌∙◌, ap, ap₂, ℕ, List, drop, length}
 use Rattle.std.specs.Prelude.{None}
 use Rattle.pdl_semantics.specs.Machine.{Pending}
 use Rattle.pdl_machine_pending.specs.Memory.{Memory}
@@ -7,7 +7,7 @@ use Rattle.pdl_machine_run.proofs.TakenOut.{oldest_in, one_word, one_out}
 use Rattle.pdl_machine_run.proofs.step.take_one.Goals as goal
 
 pub release-first-requires : goal.release-first-requires
-release-first-requires c = oldest_in _ _ c.requires
+release-first-requires c = oldest_in (length c.args.memory.now.words) c.args.memory.now.pending c.requires.within
 
 pub returns-clause-memory : goal.returns-clause-memory
 returns-clause-memory c =

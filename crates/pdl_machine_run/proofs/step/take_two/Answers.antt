@@ -6,14 +6,14 @@ use Rattle.pdl_machine_run.proofs.TakenOut.{oldest_in, rest_in, two_words, two_l
 use Rattle.pdl_machine_run.proofs.step.take_two.Goals as goal
 
 pub release-first-requires : goal.release-first-requires
-release-first-requires c = oldest_in _ _ c.requires
+release-first-requires c = oldest_in (length c.args.memory.now.words) c.args.memory.now.pending c.requires.within
 
 pub release-second-requires : goal.release-second-requires
 release-second-requires c =
     let x = c.args.memory.now in
     let within : AreWithin (length c.release-first.new.self.words) c.release-first.new.self.pending =
-    subst (λ (y : Memory). AreWithin (length y.words) y.pending) (sym c.release-first.ensures.memory) (rest_in x.words x.pending c.requires) in
-    oldest_in _ _ within
+    subst (λ (y : Memory). AreWithin (length y.words) y.pending) (sym c.release-first.ensures.memory) (rest_in x.words x.pending c.requires.within) in
+    oldest_in (length c.release-first.new.self.words) c.release-first.new.self.pending within
 
 pub returns-clause-memory : goal.returns-clause-memory
 returns-clause-memory c =
