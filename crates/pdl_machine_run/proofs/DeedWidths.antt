@@ -208,9 +208,12 @@ module _ (f : Form) (wide : AreWidths f.widths) (xs : List Memory) (ms : AreMemo
         advises = k.advises;
         child = args_fit f.widths (all_values d) wide (whole_fit f d k) (param_widths f) args t;
       }
-  fit_does thread (Verify last args) d t k =
+  fit_does thread (Verify true args) d t k =
       fit_verify (same_args (values_of args d.env) d.guess) (values_of args d.env) d (args_fit f.widths d.env wide k.env (param_widths f) args t)
       (few_values args d.env t) k
+  fit_does thread (Verify false args) d t k =
+      fit_verify (same_args (values_of args (all_values d)) d.guess) (values_of args (all_values d)) d
+      (args_fit f.widths (all_values d) wide (whole_fit f d k) (param_widths f) args t) (few_values args (all_values d) t) k
   fit_does thread SpecCheck d t k = k
   fit_does thread SpecBarrier d t k =
       record { env = k.env; advice = k.advice; guess = k.guess; reserves = k.reserves; writes = k.writes; asks = k.asks; advises = k.advises; child = k.child }
@@ -286,12 +289,18 @@ module _ (f : Form) (wide : AreWidths f.widths) (xs : List Memory) (ms : AreMemo
       let room = h.args in
       let kept = h.guess in
       (all_safe f.widths (all_values d) wide (whole_fit f d k) (param_widths f) args t, omega arith, omega arith, whole_room d c n k h)
-  safe_op (Verify last args) d c n t k h =
+  safe_op (Verify true args) d c n t k h =
       let few = few_args args t in
       let room = h.args in
       let kept = h.verified in
       let guessed = h.guess in
       (all_safe f.widths d.env wide k.env (param_widths f) args t, omega arith, omega arith, omega arith)
+  safe_op (Verify false args) d c n t k h =
+      let few = few_args args t in
+      let room = h.args in
+      let kept = h.verified in
+      let guessed = h.guess in
+      (all_safe f.widths (all_values d) wide (whole_fit f d k) (param_widths f) args t, omega arith, omega arith, omega arith, whole_room d c n k h)
   safe_op SpecCheck d c n t k h = tt
   safe_op SpecBarrier d c n t k h = tt
   safe_op (AdviceBind x e) d c n t k h = (safe f.widths (all_values d) wide (whole_fit f d k) e t.1, whole_room d c n k h)

@@ -1,5 +1,5 @@
 -- What a stage's statements find in the memories, and what they do.
-use Rattle.std.specs.Prelude.{ℕ, ◌≤◌, false, List, [], None, slice_index, slice_index_or, length, ⊤}
+use Rattle.std.specs.Prelude.{ℕ, ◌≤◌, true, false, List, [], None, slice_index, slice_index_or, length, ⊤}
 use Rattle.pdl_semantics.specs.Flat.{Op, Bind, CombRead, DelayedRead, Write, ReserveRead, ReserveWrite, Block, Release, Call, SpecCall, Verify, SpecCheck, SpecBarrier, AdviceBind, AdviceRead, AdviceWrite, Plain}
 use Rattle.pdl_semantics.specs.Locks.{Latest, Nothing, value_or}
 use Rattle.pdl_semantics.specs.Machine.{Kept, Deeds, all_values, youngest}
@@ -54,7 +54,9 @@ IsSafeOp c (Block m a) d = ⊤
 IsSafeOp c (Release m a) d = ⊤
 IsSafeOp c (Call args) d = AreSafe args d.env × (length args ≤ c.args)
 IsSafeOp c (SpecCall args) d = AreSafe args (all_values d) × (length args ≤ c.args) × (length args ≤ c.guess) × (length d.env ≤ c.whole)
-IsSafeOp c (Verify last args) d = AreSafe args d.env × (length args ≤ c.args) × (length args ≤ c.verified) × (length args ≤ c.guess)
+IsSafeOp c (Verify true args) d = AreSafe args d.env × (length args ≤ c.args) × (length args ≤ c.verified) × (length args ≤ c.guess)
+IsSafeOp c (Verify false args) d =
+    AreSafe args (all_values d) × (length args ≤ c.args) × (length args ≤ c.verified) × (length args ≤ c.guess) × (length d.env ≤ c.whole)
 IsSafeOp c SpecCheck d = ⊤
 IsSafeOp c SpecBarrier d = ⊤
 IsSafeOp c (AdviceBind x e) d = IsSafe e (all_values d) × (length d.env ≤ c.whole)

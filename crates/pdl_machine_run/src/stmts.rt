@@ -199,7 +199,24 @@ fn same_args(these: &[u64], those: &[u64]) -> bool
     true
 }
 
-// A guess is verified, or updated: where it was wrong, a thread is called with the right arguments, and they are kept as the guess.
+// The arguments of a verify, or of an update, take the place of the guess where that is another, and a thread is called with them.
+fn correct(deeds: &mut Deeds)
+    requires args_room { length deeds.old.verified.items ≤ vec_capacity deeds.old.args }
+    requires guess_room { length deeds.old.verified.items ≤ vec_capacity deeds.old.guess }
+    ensures deeds { deeds_view deeds.new
+        ≡ after_verify deeds.old.verified.items (deeds_view deeds.old) }
+    ensures capacities { capacities deeds.new ≡ capacities deeds.old }
+    ensures room { (n : ℕ) → HasRoomFor n deeds.old → HasRoomFor n deeds.new }
+{
+    if !same_args(deeds.verified.as_slice(), deeds.guess.as_slice()) {
+        copy_words(deeds.verified.as_slice(), &mut deeds.args);
+        copy_words(deeds.verified.as_slice(), &mut deeds.guess);
+        deeds.called = true;
+        deeds.fails = true;
+    }
+}
+
+// A guess is verified: where it was wrong, a thread is called with the right arguments, and they are kept as the guess.
 fn verify(args: &[FlatExpr], deeds: &mut Deeds)
     requires safe { AreSafe (exprs_view args.now) (deeds_view deeds.old).env }
     requires room { length args.now ≤ vec_capacity deeds.old.verified }
@@ -212,12 +229,26 @@ fn verify(args: &[FlatExpr], deeds: &mut Deeds)
     ensures room { (n : ℕ) → HasRoomFor (suc n) deeds.old → HasRoomFor n deeds.new }
 {
     values_of(args, deeds.values.as_slice(), &mut deeds.verified);
-    if !same_args(deeds.verified.as_slice(), deeds.guess.as_slice()) {
-        copy_words(deeds.verified.as_slice(), &mut deeds.args);
-        copy_words(deeds.verified.as_slice(), &mut deeds.guess);
-        deeds.called = true;
-        deeds.fails = true;
-    }
+    correct(deeds);
+}
+
+// A guess is updated, where the new one is another, by arguments that may name advised variables.
+fn update(args: &[FlatExpr], deeds: &mut Deeds)
+    requires safe { AreSafe (exprs_view args.now) (all_values (deeds_view deeds.old)) }
+    requires whole { length deeds.old.values.items ≤ vec_capacity deeds.old.whole }
+    requires room { length args.now ≤ vec_capacity deeds.old.verified }
+    requires args_room { length args.now ≤ vec_capacity deeds.old.args }
+    requires guess_room { length args.now ≤ vec_capacity deeds.old.guess }
+    ensures deeds { deeds_view deeds.new
+        ≡ after_verify
+        (spec_values_of (exprs_view args.now) (all_values (deeds_view deeds.old)))
+        (deeds_view deeds.old) }
+    ensures capacities { capacities deeds.new ≡ capacities deeds.old }
+    ensures room { (n : ℕ) → HasRoomFor (suc n) deeds.old → HasRoomFor n deeds.new }
+{
+    deeds.lay_over();
+    values_of(args, deeds.whole.as_slice(), &mut deeds.verified);
+    correct(deeds);
 }
 
 // What an operation does for a thread.
@@ -241,7 +272,8 @@ fn act(memories: &[Memory], thread: u64, op: &Op, deeds: &mut Deeds)
         Op::Release { m, a } => release(*m, *a, deeds),
         Op::Call(args) => call(args.as_slice(), deeds),
         Op::SpecCall(args) => guess(args.as_slice(), deeds),
-        Op::Verify { last: _, args } => verify(args.as_slice(), deeds),
+        Op::Verify { last: true, args } => verify(args.as_slice(), deeds),
+        Op::Verify { last: false, args } => update(args.as_slice(), deeds),
         Op::SpecBarrier => deeds.barrier = true,
         Op::AdviceBind { x, e } => bind_advice(*x, e, deeds),
         Op::AdviceRead { x, m, a } => read_advice(memories, thread, *x, *m, *a, deeds),
