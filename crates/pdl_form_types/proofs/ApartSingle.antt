@@ -155,14 +155,7 @@ module _ (p : Pipe) (rules : KeepsRules p) (before : List Place) (bs : List Bran
     ),
     tt,
   )
-  apart_single (Update sp h es) i e begins gs g = (
-    (
-      g,
-      its_arguments (Update sp h es) e begins es (fits p rules before (Update sp h es) bs later e)
-          (not-false _ (rules W5 before (Statement (Update sp h es) bs) later e)) (rules P1 before (Statement (Update sp h es) bs) later e),
-    ),
-    tt,
-  )
+  apart_single (Update sp h es) i e begins gs g = ((g, tt), tt)
   apart_single (SpecCheck sp) i e begins gs g = ((g, tt), tt)
   apart_single (SpecBarrier sp) i e begins gs g = ((g, tt), tt)
 

@@ -1,4 +1,4 @@
--- A flat form whose plain statements use no advised variable: what an advisory memory says reaches guesses alone.
+-- A flat form whose plain statements use no advised variable: what an advisory memory says reaches guesses, and updates of these, alone.
 use Rattle.std.specs.Prelude.{◌≡◌, ℕ, Bool, true, false, ◌||◌, List, [], ◌∷◌, slice_index_or, ⊤}
 use Rattle.pdl_semantics.specs.Flat.{Expr, Constant, Variable, Slice, Not, Binary, Cat, LessSigned, ZeroExtend, SignExtend, Choose, Op, Bind, CombRead, DelayedRead, Write, ReserveRead, ReserveWrite, Block, Release, Call, SpecCall, Verify, SpecCheck, SpecBarrier, AdviceBind, AdviceRead, AdviceWrite, Guard, Stmt, Next, Ends, Goes, Forks, Stage, Pipe}
 
@@ -28,7 +28,7 @@ some_flagged fs (e ∷ es) = uses_flagged fs e || some_flagged fs es
 abbrev pub IsPlain : List Bool → ℕ → Type 0
 IsPlain fs x = flag_at fs x ≡ false
 
--- what is advised is bound by the statements on advice, and used by these and by the guesses of calls alone
+-- what is advised is bound by the statements on advice, and used by these, by the guesses of calls and by their updates alone
 abbrev pub IsApartOp : List Bool → Op → Type 0
 IsApartOp fs (Bind x e) = IsPlain fs x × (uses_flagged fs e ≡ false)
 IsApartOp fs (CombRead x m a) = IsPlain fs x × IsPlain fs a
@@ -40,7 +40,8 @@ IsApartOp fs (Block m a) = IsPlain fs a
 IsApartOp fs (Release m a) = IsPlain fs a
 IsApartOp fs (Call args) = some_flagged fs args ≡ false
 IsApartOp fs (SpecCall args) = ⊤
-IsApartOp fs (Verify last args) = some_flagged fs args ≡ false
+IsApartOp fs (Verify true args) = some_flagged fs args ≡ false
+IsApartOp fs (Verify false args) = ⊤
 IsApartOp fs SpecCheck = ⊤
 IsApartOp fs SpecBarrier = ⊤
 IsApartOp fs (AdviceBind x e) = flag_at fs x ≡ true

@@ -28,7 +28,9 @@ use Rattle.pdl_theory_simulation.proofs.Seats.{Live, Falls, did, lact, lacts, de
 use Rattle.pdl_theory_simulation.proofs.Shapes.{Shape}
 use Rattle.pdl_theory_simulation.proofs.SimulatedStates.{Sim}
 use Rattle.pdl_theory_simulation.proofs.ThreadFacts.{pairs, EachPair, pair_map, pair_both, pairs_each}
-use Rattle.pdl_theory_simulation.proofs.WholeSimulation as whole_simulation
+use Rattle.pdl_theory_simulation.proofs.CycleStarts as cycle_starts
+use Rattle.pdl_theory_simulation.proofs.Orders.{AllForetold}
+use Rattle.pdl_theory_simulation.proofs.Foretold.{foretold_here}
 use Rattle.pdl_theory_states.specs.Strict.{Strict}
 use Rattle.pdl_theory_states.specs.Use.{AllActs, moving, with_new}
 use Rattle.pdl_theory_states.proofs.LockUse.{all_each, with_new_is, releases_are}
@@ -166,14 +168,15 @@ module _ (p : Pipe) (sound : Sound p) (st : State) (d : Derived.State) (bits : L
 -- ---- ALL LIVE THREADS
 
 module _ (p : Pipe) (sound : Sound p) (st : State) (d : Derived.State) (bits : List Bool)
-    (ls : List Live) (sim : Sim p st d ls) (alike : Whole p st ls) (single : IsSingle p) (m : ℕ) (low : m < length p.mems) where
+    (ls : List Live) (sim : Sim p st d ls) (alike : Whole p st ls) (told : AllForetold p (sound_flows p sound) st d bits sim.arrays ls)
+    (single : IsSingle p) (m : ℕ) (low : m < length p.mems) where
   known_pairs : (ks : List Live) → AllKnown p (sound_flows p sound) st d bits sim.arrays ks
       → EachPair (λ x. Known p (sound_flows p sound) st d bits sim.arrays x.older x.live) (pairs ks)
   known_pairs [] k = tt
   known_pairs (l ∷ ks) k = (k.0, known_pairs ks k.1)
 
   all_known : AllKnown p (sound_flows p sound) st d bits sim.arrays ls
-  all_known = whole_simulation.known p (sound_flows p sound) st d bits ls sim
+  all_known = cycle_starts.known p (sound_flows p sound) st d bits ls sim
 
   knowns : EachPair (λ x. Known p (sound_flows p sound) st d bits sim.arrays x.older x.live) (pairs ls)
   knowns = known_pairs ls all_known
@@ -184,7 +187,7 @@ module _ (p : Pipe) (sound : Sound p) (st : State) (d : Derived.State) (bits : L
   -- each thread reserves at most one write
   pub all_one : AllActs OneReserved (all_acts p st bits)
   all_one =
-      all_each p sound st d bits ls sim m OneReserved
+      all_each p sound st d bits ls sim told m OneReserved
       (pair_map (λ x k. one_reserved p sound st d bits sim.arrays x.older x.live k single m low) (pairs ls) knowns)
 
   abbrev OnePending : Act → Type 0
@@ -197,7 +200,7 @@ module _ (p : Pipe) (sound : Sound p) (st : State) (d : Derived.State) (bits : L
   own_new =
       pair_both
       (λ x g h i. ap (entries_by x.live.number)
-      (with_new_is p sound st d bits ls sim m ∙ ap (with_reserves m (movers (lacts p st d bits ls))) (sym (sim.locks m)))
+      (with_new_is p sound st d bits ls sim told m ∙ ap (with_reserves m (movers (lacts p st d bits ls))) (sym (sim.locks m)))
       ∙ h i ∙ ap (λ xs. xs ++ new_entries m x.live.number (deeds_of p st bits x.live).reserves) (g.listed m))
       (pairs ls) (pairs_each (Mine p st) ls (each_mine p st ls sim.falls alike.along sim.locks))
       (by_new p sound st d bits sim.arrays m st.next (lock_of st m) ls sim.falls)
@@ -205,7 +208,7 @@ module _ (p : Pipe) (sound : Sound p) (st : State) (d : Derived.State) (bits : L
   -- a thread that moves has at most one pending, with what the cycle appends
   pub all_pending : AllActs OnePending (all_acts p st bits)
   all_pending =
-      all_each p sound st d bits ls sim m OnePending
+      all_each p sound st d bits ls sim told m OnePending
       (pair_both
       (λ x k e i. subst (λ es. length es ≤ 1) (sym (e i)) (one_pending p sound st d bits sim.arrays x.older x.live k single m low))
       (pairs ls) knowns own_new)
@@ -256,7 +259,7 @@ module _ (p : Pipe) (sound : Sound p) (st : State) (d : Derived.State) (bits : L
   -- a cycle releases at most one write
   pub one_gone : all_releases m (moving p st bits) ≤ 1
   one_gone =
-      subst (λ n. n ≤ 1) (sym (releases_are p sound st d bits ls sim m))
+      subst (λ n. n ≤ 1) (sym (releases_are p sound st d bits ls sim told m))
       (at_most (few_gone (two p (sound_flows p sound) st d bits sim.arrays m ls) st.next ls sim.falls
       (own_two p sound st d bits sim.arrays m ls all_known sim.ordered)
       (pair_map (λ x k. one_released p sound st d bits sim.arrays x.older x.live k single m low) (pairs ls) knowns)))
@@ -274,22 +277,23 @@ pub served_here : (p : Pipe) → Sound p → Strict p → IsSingle p → (image 
     → IsByStages p (state_after p (first p image) before) bits → IsInUse p (state_after p (first p image) before) bits
     → IsServed p (state_after p (first p image) before) bits
 served_here p sound strict single image before bits by used =
-    let r = reached p sound strict image before in
+    let r = reached p sound strict image before (bits ∷ []) in
     let st = state_after p (first p image) before in
+    let told = foretold_here p (sound_flows p sound) st _ bits r.live r.sim [] r.foretells in
     record {
       once = single;
       in_use = used;
       one = λ k t m h low.
-          at_here p st bits (λ (a : Act). reserves_of m a.does.reserves ≤ 1) (all_one p sound st _ bits r.0 r.1 r.2 single m low) k t h;
+          at_here p st bits (λ (a : Act). reserves_of m a.does.reserves ≤ 1) (all_one p sound st _ bits r.live r.sim r.whole told single m low) k t h;
       first = λ k t m y v h g low c.
           let w = used.writer k t m y v h g c in
           let es = with_reserves m (Slots.moving p st bits) (lock_of st m) in
           let own = place_is_own 0 t.number y es (used.ordered_next m) w.1 in
           let few = subst (λ ms. length (entries_by t.number (with_reserves m ms (lock_of st m))) ≤ 1) by.movers
           (at_here p st bits (λ (a : Act). a.moves ≡ true → length (entries_by a.thread.number (with_new p st bits m)) ≤ 1)
-          (all_pending p sound st _ bits r.0 r.1 r.2 single m low) k t h g) in
+          (all_pending p sound st _ bits r.live r.sim r.whole told single m low) k t h g) in
           own.1 ∙ plus (count_older t.number es) (place_zero t.number y (entries_by t.number es) few own.0);
-      single = λ m low. subst (λ ms. all_releases m ms ≤ 1) by.movers (one_gone p sound st _ bits r.0 r.1 r.2 single m low);
+      single = λ m low. subst (λ ms. all_releases m ms ≤ 1) by.movers (one_gone p sound st _ bits r.live r.sim r.whole told single m low);
     }
   where
     plus : (i : ℕ) {j : ℕ} → j ≡ 0 → i + j ≡ i

@@ -1,9 +1,9 @@
 -- How many writes of a memory a thread's statements reserve, and that there is room for them.
-use Rattle.std.proofs.Common.{◌≡◌, refl, sym, ap, ap₂, ◌∙◌, ℕ, suc, ◌+◌, ◌≤◌, Bool, true, false, ◌&&◌, List, [], ◌∷◌, ◌++◌, Some, ◌==◌, arith, le_refl, eq-eqb, add-zero}
+use Rattle.std.proofs.Common.{◌≡◌, refl, sym, ap, ap₂, ◌∙◌, ℕ, suc, ◌+◌, ◌≤◌, Bool, true, false, ◌&&◌, List, [], ◌∷◌, ◌++◌, Some, ◌==◌, arith, le_refl, eq-eqb, add-zero, zero-add}
 use Rattle.std.specs.Prelude.{if◌then◌else◌, slice_index}
-use Rattle.std.proofs.lemmas.Bool.{eqb-false, ne_eqb}
-use Rattle.pdl_semantics.specs.Flat.{Op, Bind, CombRead, DelayedRead, Write, ReserveRead, ReserveWrite, Block, Release, Call, SpecCall, Verify, SpecCheck, SpecBarrier, AdviceBind, AdviceRead, AdviceWrite, Stmt, list_all, all_hold, values_of}
-use Rattle.pdl_semantics.specs.Machine.{Deeds, Reserved, reserves_of, same_args, deeds_after, deeds_after_all}
+use Rattle.std.proofs.lemmas.Bool.{eqb-true, eqb-false, ne_eqb}
+use Rattle.pdl_semantics.specs.Flat.{Op, Bind, CombRead, DelayedRead, Write, ReserveRead, ReserveWrite, Block, Release, Call, SpecCall, Verify, SpecCheck, SpecBarrier, AdviceBind, AdviceRead, AdviceWrite, Stmt, list_all, all_hold}
+use Rattle.pdl_semantics.specs.Machine.{Deeds, Reserved, reserves_of, same_args, after_verify, deeds_after, deeds_after_all, checked_args}
 use Rattle.pdl_semantics.proofs.Facts.{all_push}
 
 -- one reservation more is of its memory, and of no other
@@ -68,10 +68,10 @@ op_grows read m (Block n a) d = le_refl (reserves_of m d.reserves)
 op_grows read m (Release n a) d = le_refl (reserves_of m d.reserves)
 op_grows read m (Call args) d = le_refl (reserves_of m d.reserves)
 op_grows read m (SpecCall args) d = le_refl (reserves_of m d.reserves)
-op_grows read m (Verify last args) d = at (same_args (values_of args d.env) d.guess)
+op_grows read m (Verify last args) d = at (same_args (checked_args last args d) d.guess)
   where
     at : (b : Bool) → reserves_of m d.reserves
-        ≤ reserves_of m (if b then d else record d { child = Some (values_of args d.env); guess = values_of args d.env; fails = true }).reserves
+        ≤ reserves_of m (if b then d else record d { child = Some (checked_args last args d); guess = checked_args last args d; fails = true }).reserves
     at true = le_refl (reserves_of m d.reserves)
     at false = le_refl (reserves_of m d.reserves)
 op_grows read m SpecCheck d = le_refl (reserves_of m d.reserves)

@@ -185,7 +185,7 @@ guess_op : (size : ℕ) (advice : List Kept) (env guess : List ℕ) (g : Making)
 guess_op size advice env guess g (SpecCall args) y f i = values_long args (with_kept advice env) ∙ eqb-true (length args) size y
 guess_op size advice env guess g (Call args) y f i = absurd (false≢true i)
 guess_op size advice env guess g (Verify true args) y f i = absurd (false≢true i)
-guess_op size advice env guess g (Verify false args) y f i = values_long args env ∙ eqb-true (length args) size y
+guess_op size advice env guess g (Verify false args) y f i = values_long args (with_kept advice env) ∙ eqb-true (length args) size y
 guess_op size advice env guess g (DelayedRead x m a) y f i = f i
 guess_op size advice env guess g _ y f i = f i
 

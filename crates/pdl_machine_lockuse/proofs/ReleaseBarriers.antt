@@ -7,7 +7,7 @@ use Rattle.pdl_semantics.specs.Machine.{State}
 use Rattle.pdl_semantics.specs.Sound
 use Rattle.pdl_semantics.specs.Cycle.{releases_of}
 use Rattle.pdl_theory_derived.specs.Derived
-use Rattle.pdl_theory_derived.specs.Derived.{Around, around, befores}
+use Rattle.pdl_theory_derived.specs.Derived.{Around, around, befores, no_hint}
 use Rattle.pdl_theory_facts.specs.Scans.{Fresh, phase_all, phases_ok, no_scan, none_of}
 use Rattle.pdl_theory_facts.specs.GuessScans.{all_sure}
 use Rattle.pdl_theory_facts.specs.Facts.{Sound, trunk_only, looked_all, at_once}
@@ -102,7 +102,7 @@ module _ (p : Pipe) (sound : Sound p) (st : State) (d : Derived.State) (bits : L
       ap is_done (sym (phases_looked m Fresh way))
       ∙ sure_done m v no_scan Fresh (looked_all way)
       (subst (λ xs. phases_ok m Fresh xs ≡ true) looked_way
-      (TurnPath.ok_before (along q (at_once p)) (sound.pathwise.paths q) (record { words = λ k a. 0; guess = [] }) [] n m))
+      (TurnPath.ok_before (along q (at_once p)) (sound.pathwise.paths q) (record { words = λ k a. 0; hint = no_hint }) [] n m))
       (subst (λ o. all_sure o false no_scan (looked_all way) ≡ true) (verify_looked p.stmts ∙ verifies)
       (subst (λ xs. all_sure (verify_stage (looked_all p.stmts)) false no_scan xs ≡ true) looked_way
       (sure_first (verify_stage (looked_all p.stmts)) false no_scan (Rattle.pdl_theory_derived.specs.Alone.before n (onpath q (looked_all p.stmts)))

@@ -106,8 +106,8 @@ module _ (p : Pipe) (st : State) (n : ℕ) where
     where
       at : (b : Bool) → same_args (checked_args false args d) d.guess ≡ b
           → length (cond b d (record d { child = Some (checked_args false args d); guess = (checked_args false args d); fails = true })).guess ≡ size
-      at true e = ap length (sym (same_args_eq (checked_args false args d) d.guess e)) ∙ values_long args d.env ∙ eqb-true (length args) size h
-      at false e = values_long args d.env ∙ eqb-true (length args) size h
+      at true e = ap length (sym (same_args_eq (checked_args false args d) d.guess e)) ∙ values_long args (all_values d) ∙ eqb-true (length args) size h
+      at false e = values_long args (all_values d) ∙ eqb-true (length args) size h
   guess_next size g (DelayedRead x m a) d h f i = f i
   guess_next size g _ d h f i = f i
 

@@ -4,10 +4,10 @@ use Rattle.std.specs.Prelude.{⊤, IfSome}
 use Rattle.std.proofs.lemmas.List.{length-set}
 use Rattle.std.proofs.lemmas.Nat.{pow_pos}
 use Rattle.std.proofs.lemmas.Bool.{eqb-true}
-use Rattle.pdl_semantics.specs.Flat.{Op, Bind, CombRead, DelayedRead, Write, ReserveRead, ReserveWrite, Block, Release, Call, SpecCall, Verify, SpecCheck, SpecBarrier, AdviceBind, AdviceRead, AdviceWrite, Stmt, list_all, all_hold, values_of, Pipe}
+use Rattle.pdl_semantics.specs.Flat.{Op, Bind, CombRead, DelayedRead, Write, ReserveRead, ReserveWrite, Block, Release, Call, SpecCall, Verify, SpecCheck, SpecBarrier, AdviceBind, AdviceRead, AdviceWrite, Stmt, list_all, all_hold, Pipe}
 use Rattle.pdl_semantics.specs.Stages.{in_stage, mem_at}
 use Rattle.pdl_semantics.specs.Locks.{has_room, commit_value}
-use Rattle.pdl_semantics.specs.Machine.{Thread, Pending, Reserved, Written, State, Deeds, lock_of, with_answers, deeds, word_for, same_args, deeds_after, deeds_after_all}
+use Rattle.pdl_semantics.specs.Machine.{Thread, Pending, Reserved, Written, State, Deeds, lock_of, with_answers, deeds, word_for, same_args, deeds_after, deeds_after_all, checked_args}
 use Rattle.pdl_semantics.specs.Moves.{Act, blocks_ready, have_room}
 use Rattle.pdl_semantics.specs.Cycle.{new_entries, with_reserves, with_value_of, with_writes_of, with_all_writes, all_releases, is_kept, entries_left}
 use Rattle.pdl_theory_derived.proofs.Writes.{and_left, and_right}
@@ -46,7 +46,7 @@ asked_op read (Block m a) d = omega arith
 asked_op read (Release m a) d = omega arith
 asked_op read (Call args) d = omega arith
 asked_op read (SpecCall args) d = omega arith
-asked_op read (Verify last args) d = let same = asked_verify (same_args (values_of args d.env) d.guess) (values_of args d.env) d in omega (arith, same)
+asked_op read (Verify last args) d = let same = asked_verify (same_args (checked_args last args d) d.guess) (checked_args last args d) d in omega (arith, same)
 asked_op read SpecCheck d = omega arith
 asked_op read SpecBarrier d = omega arith
 asked_op read (AdviceBind x e) d = omega arith

@@ -4,14 +4,14 @@ use Rattle.std.proofs.lemmas.List.{length-set, get_or-set_same, get_or-set_other
 use Rattle.std.proofs.lemmas.Bool.{eqb-true}
 use Rattle.pdl_semantics.specs.Flat.{Expr, Op, Bind, CombRead, DelayedRead, Write, ReserveRead, ReserveWrite, Block, Release, Call, SpecCall, Verify, SpecCheck, SpecBarrier, AdviceBind, AdviceRead, AdviceWrite, Stmt, Pipe, all_hold, value_of, values_of}
 use Rattle.pdl_semantics.specs.Stages.{in_stage, mem_at}
-use Rattle.pdl_semantics.specs.Machine.{Kept, Ask, Advised, Deeds, Reserved, Written, with_kept, all_values, same_args, deeds_after, deeds_after_all}
+use Rattle.pdl_semantics.specs.Machine.{Kept, Ask, Advised, Deeds, Reserved, Written, with_kept, all_values, same_args, checked_args, deeds_after, deeds_after_all}
 use Rattle.pdl_form.specs.Form.{Form, stmt_at}
 use Rattle.pdl_form_types.specs.Stmts.{param_widths, AreWidths, AreArguments, IsTypedOp, AreTypedStmts}
 use Rattle.pdl_form_values.specs.Widths.{Fit}
 use Rattle.pdl_form_values.proofs.ValueWidths.{fits_in, safe, all_safe, values_count}
 use Rattle.pdl_machine_pending.specs.Memory.{Memory}
 use Rattle.pdl_machine_pending.proofs.WordBounds.{read_fits}
-use Rattle.pdl_machine_run.specs.StageDeeds.{memory_at, word_of, checked_values, checked_args, IsSafeOp}
+use Rattle.pdl_machine_run.specs.StageDeeds.{memory_at, word_of, checked_values, IsSafeOp}
 use Rattle.pdl_machine_run.specs.Room.{Capacities, IsLarge}
 use Rattle.pdl_machine_run.specs.Typed.{AreReserved, AreWritten, AreAdvised, IsReadInto, AreAsked, AreWords, AreFit, AreMemories}
 use Rattle.pdl_form_types.proofs.Arguments.{args_count}
@@ -49,12 +49,12 @@ whole_fit f d k = kept_fit f d.advice d.env k.advice k.env
 -- and so have the values from which a verify or an update takes its arguments
 checked_fit : (f : Form) (last : Bool) (d : Deeds) → AreFit f d → Fit f.widths (checked_values last d)
 checked_fit f true d k = k.env
-checked_fit f false d k = k.env
+checked_fit f false d k = whole_fit f d k
 
 -- there are as many of these arguments as expressions
 pub checked_count : (last : Bool) (args : List Expr) (d : Deeds) → length (checked_args last args d) ≡ length args
 checked_count true args d = values_count d.env args
-checked_count false args d = values_count d.env args
+checked_count false args d = values_count (all_values d) args
 
 module _ (ws env : List ℕ) (wide : AreWidths ws) (f : Fit ws env) where
   values_below : (ns : List ℕ) (es : List Expr) → AreArguments ws ns es → (x : ℕ) → slice_index (values_of es env) x < 2 ^ slice_index ns x
@@ -71,7 +71,7 @@ module _ (ws env : List ℕ) (wide : AreWidths ws) (f : Fit ws env) where
 checked_fits : (f : Form) → AreWidths f.widths → (last : Bool) (args : List Expr) (d : Deeds) → AreArguments f.widths (param_widths f) args → AreFit f d
     → Fit (param_widths f) (checked_args last args d)
 checked_fits f wide true args d t k = args_fit f.widths d.env wide k.env (param_widths f) args t
-checked_fits f wide false args d t k = args_fit f.widths d.env wide k.env (param_widths f) args t
+checked_fits f wide false args d t k = args_fit f.widths (all_values d) wide (whole_fit f d k) (param_widths f) args t
 
 -- DEEDS
 

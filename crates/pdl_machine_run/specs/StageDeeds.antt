@@ -1,6 +1,6 @@
 -- What a stage's statements find in the memories, and what they do.
-use Rattle.std.specs.Prelude.{ℕ, ◌≤◌, Bool, false, List, [], None, slice_index, slice_index_or, length, ⊤}
-use Rattle.pdl_semantics.specs.Flat.{Expr, Op, Bind, CombRead, DelayedRead, Write, ReserveRead, ReserveWrite, Block, Release, Call, SpecCall, Verify, SpecCheck, SpecBarrier, AdviceBind, AdviceRead, AdviceWrite, Plain, values_of}
+use Rattle.std.specs.Prelude.{ℕ, ◌≤◌, Bool, true, false, List, [], None, slice_index, slice_index_or, length, ⊤}
+use Rattle.pdl_semantics.specs.Flat.{Op, Bind, CombRead, DelayedRead, Write, ReserveRead, ReserveWrite, Block, Release, Call, SpecCall, Verify, SpecCheck, SpecBarrier, AdviceBind, AdviceRead, AdviceWrite, Plain}
 use Rattle.pdl_semantics.specs.Locks.{Latest, Nothing, value_or}
 use Rattle.pdl_semantics.specs.Machine.{Kept, Deeds, all_values, youngest}
 use Rattle.pdl_form_values.specs.Safe.{IsSafe, AreSafe}
@@ -44,11 +44,8 @@ nothing_done env advice guess =
 
 -- the values from which a verify, the last check of a guess, or an update takes its arguments
 abbrev pub checked_values : Bool → Deeds → List ℕ
-checked_values last d = d.env
-
--- these arguments
-abbrev pub checked_args : Bool → List Expr → Deeds → List ℕ
-checked_args last args d = values_of args d.env
+checked_values true d = d.env
+checked_values false d = all_values d
 
 -- an operation that can be carried out after these deeds, with room for its arguments and for the values with the advised ones
 abbrev pub IsSafeOp : Capacities → Op → Deeds → Type 0

@@ -54,7 +54,7 @@ pub struct Deeds {
     pub called: bool,
     pub args: Vec<u64>,
     pub fails: bool,
-    // Room for the arguments of a verify.
+    // Room for the arguments of a verify or of an update.
     pub verified: Vec<u64>,
     // Room for the values together with the advised ones.
     pub whole: Vec<u64>,

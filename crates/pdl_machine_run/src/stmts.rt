@@ -2,12 +2,12 @@
 ghost use Rattle.std.specs.Prelude.{◌≡◌, ◌≤◌, ◌<◌, ◌∷◌, [], ◌++◌, ℕ, suc, Some, true, if◌then◌else◌, length, slice_index, slice_set, vec_capacity};
 ghost use Rattle.pdl_semantics.specs.Flat.{all_hold, value_of as spec_value_of, values_of as spec_values_of};
 ghost use Rattle.pdl_semantics.specs.Stages.{in_stage};
-ghost use Rattle.pdl_semantics.specs.Machine.{deeds_after, deeds_after_all, after_verify, all_values, same_args as spec_same_args, is_held as spec_is_held, let_go as spec_let_go};
+ghost use Rattle.pdl_semantics.specs.Machine.{deeds_after, deeds_after_all, after_verify, all_values, checked_args, same_args as spec_same_args, is_held as spec_is_held, let_go as spec_let_go};
 ghost use Rattle.pdl_form.specs.View.{expr_view, exprs_view, act_view, stmt_view};
 ghost use Rattle.pdl_form_values.specs.Safe.{IsSafe, AreSafe};
 ghost use Rattle.pdl_machine_run.specs.View.{deeds_view};
 ghost use Rattle.pdl_machine_run.specs.Room.{capacities, HasRoomFor, IsLarge};
-ghost use Rattle.pdl_machine_run.specs.StageDeeds.{word_of, checked_values, checked_args, IsSafeOp};
+ghost use Rattle.pdl_machine_run.specs.StageDeeds.{word_of, checked_values, IsSafeOp};
 ghost use Rattle.pdl_form.specs.FormView.{form};
 ghost use Rattle.pdl_form_types.specs.Stmts.{IsTypedForm};
 ghost use Rattle.pdl_machine_run.specs.Typed.{AreFit, AreMemories};
@@ -210,7 +210,12 @@ fn check_args(last: bool, args: &[FlatExpr], deeds: &mut Deeds)
     ensures capacities { capacities deeds.new ≡ capacities deeds.old }
     ensures room { (n : ℕ) → HasRoomFor n deeds.old → HasRoomFor n deeds.new }
 {
-    values_of(args, deeds.values.as_slice(), &mut deeds.verified);
+    if last {
+        values_of(args, deeds.values.as_slice(), &mut deeds.verified);
+    } else {
+        deeds.lay_over();
+        values_of(args, deeds.whole.as_slice(), &mut deeds.verified);
+    }
 }
 
 // The checked arguments are kept as the guess where this was another, and a thread is called with them.

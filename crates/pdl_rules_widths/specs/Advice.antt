@@ -20,7 +20,7 @@ uses_advice vs ms (Release _ at) = is_advised_var vs at.address.name
 uses_advice vs ms (If _ c _ _) = is_advised vs c
 uses_advice vs ms (Call _ args) = list_any (is_advised vs) args
 uses_advice vs ms (Verify _ _ args) = list_any (is_advised vs) args
-uses_advice vs ms (Update _ _ args) = list_any (is_advised vs) args
+uses_advice vs ms (Update _ _ args) = false
 uses_advice vs ms (SpecCheck _) = false
 uses_advice vs ms (SpecBarrier _) = false
 

@@ -85,10 +85,9 @@ fn breaks_advice(variables: &Variables, mems: &[Mem], place: &Place<'_>) -> bool
             variables.is_advised(&at.address.name)
         }
         Action::If(condition, _, _) => is_advised(variables, condition),
-        Action::Call(args) => is_some_advised(variables, args),
-        Action::Verify(_, args) | Action::Update(_, args) => is_some_advised(variables, args),
+        Action::Call(args) | Action::Verify(_, args) => is_some_advised(variables, args),
         Action::Parameter(_) | Action::Memory(_) | Action::Separator => false,
-        Action::Bind(_, _) | Action::SpecCall(_, _) => false,
+        Action::Bind(_, _) | Action::SpecCall(_, _) | Action::Update(_, _) => false,
         Action::SpecCheck | Action::SpecBarrier | Action::End | Action::StartClause(_) => false,
     }
 }
