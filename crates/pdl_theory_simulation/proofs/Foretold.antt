@@ -222,7 +222,8 @@ module _ (p : Pipe) (flows : Flows p) where
       later test word schedule y k o h j e =
           h j
           ∙ said_now test y (said_of test p (Cycle.cycle p st bits) schedule y.live.number) o
-          ∙ ap (λ b. cond b (deeds_of p st bits y.live).guess (said_of test p (Cycle.cycle p st bits) schedule y.live.number)) (at (did p d bits y.older y.live).moves refl e)
+          ∙ ap (λ b. cond b (deeds_of p st bits y.live).guess (said_of test p (Cycle.cycle p st bits) schedule y.live.number))
+          (at (did p d bits y.older y.live).moves refl e)
         where
           at : (b : Bool) → (did p d bits y.older y.live).moves ≡ b → (b && has_any test (here y)) ≡ false
               → (moves_in y.live.number (Moves.all_acts p st bits) && has_any test (stated_here y.live)) ≡ false

@@ -337,7 +337,8 @@ module _ (p : Pipe) (flows : Flows p) (st : State) (d : Derived.State) (bits : L
   pub no_squash_stage : (ls : List Live) → AllKnown p flows st d bits arrays ls → AllForeseen p flows st d bits arrays ls
       → fell p d bits ls ≡ false → squash_stage (movers (lacts p st d bits ls)) ≡ None
   no_squash_stage [] k u h = refl
-  no_squash_stage (l ∷ ls) k u h = squash_stage_is ls l k.0 u.0 ∙ at ((did p d bits ls l).moves && (work_of_live p d bits ls l).fails) h (no_squash_stage ls k.1 u.1)
+  no_squash_stage (l ∷ ls) k u h =
+      squash_stage_is ls l k.0 u.0 ∙ at ((did p d bits ls l).moves && (work_of_live p d bits ls l).fails) h (no_squash_stage ls k.1 u.1)
     where
       at : (b : Bool)
           → (b || fell p d bits ls) ≡ false → (fell p d bits ls ≡ false → squash_stage (movers (lacts p st d bits ls)) ≡ None)

@@ -264,7 +264,7 @@ module _ (p : Pipe) (sound : Sound p) (strict : Strict p) where
       youngest = young_next w.youngest;
     }
 
-  -- a state of the stated machine that belongs to one of the derived machine, where all this holds of the live threads, and these were given what they say in the next cycles
+  -- a state of the stated machine that belongs to one of the derived machine; all this holds of the live threads, and they were given what they say next
   pub record Reached (st : State) (d : Derived.State) (more : List (List Bool)) : Type 0 where
     pub live : List Live
     pub sim : Sim p st d live

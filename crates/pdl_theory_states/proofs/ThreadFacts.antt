@@ -179,7 +179,8 @@ module _ (p : Pipe) (sound : Sound p) (strict : Strict p) where
               (cond b (still p bits rs) (r ∷ still p bits rs))
           at true e g = g
           at false e g = (
-            any_ask_map (λ q j. (j.0, j.1, request_stays p (sound_flows p sound) st d bits ls sim told l stays_on r.mem (q.address, j.2) f.0 e)) h.local.asks i.0,
+            any_ask_map
+                (λ q j. (j.0, j.1, request_stays p (sound_flows p sound) st d bits ls sim told l stays_on r.mem (q.address, j.2) f.0 e)) h.local.asks i.0,
             g,
           )
 
