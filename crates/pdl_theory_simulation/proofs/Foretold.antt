@@ -16,7 +16,8 @@ use Rattle.pdl_theory_simulation.proofs.FlowFacts.{Flows, stage_or}
 use Rattle.pdl_theory_simulation.proofs.Onces.{has_any, none_any, once_only, once_called}
 use Rattle.pdl_theory_simulation.proofs.Stretches.{has_done, done_then, once_here}
 use Rattle.pdl_theory_simulation.proofs.Seats.{Live, seat, advised, Falls, falls_each, dacts, did, now_of, work_of_live, deeds_of, sacts}
-use Rattle.pdl_theory_simulation.proofs.Choices.{Known, Foresees, Foretold, moves_in, like_here, keeps_now, none_foreseen, guess_foreseen, update_foreseen}
+use Rattle.pdl_theory_simulation.proofs.Choices.{Known, like_here, keeps_now}
+use Rattle.pdl_theory_simulation.proofs.Sayings.{Foresees, Foretold, moves_in, none_foreseen, guess_foreseen, update_foreseen}
 use Rattle.pdl_theory_simulation.proofs.ThreadFacts.{Pair, pairs, sorted, lives_of, EachPair, pair_map, pair_both, pairs_each, sorted_each}
 use Rattle.pdl_theory_simulation.proofs.Orders.{acts_of, known_pairs, AllForetold}
 use Rattle.pdl_theory_simulation.proofs.LockLists.{stood, moved_one, next_live, go_on}

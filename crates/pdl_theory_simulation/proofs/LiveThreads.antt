@@ -16,7 +16,8 @@ use Rattle.pdl_theory_derived.proofs.Slots.{rev}
 use Rattle.pdl_theory_simulation.proofs.Stretches.{has_made, stage_child}
 use Rattle.pdl_theory_simulation.proofs.StretchSteps.{Childed}
 use Rattle.pdl_theory_simulation.proofs.Seats.{advised, Live, seat, find, threads_of, each_map, Falls, falls_each, dacts, lacts, lact, did, now_of, work_of_live, deeds_of}
-use Rattle.pdl_theory_simulation.proofs.Choices.{Known, AllKnown, Foresees, MovesForeseen, AllForeseen, like_here, told_here, fails_here, keeps_now}
+use Rattle.pdl_theory_simulation.proofs.Choices.{Known, AllKnown, like_here, keeps_now}
+use Rattle.pdl_theory_simulation.proofs.Sayings.{Foresees, MovesForeseen, AllForeseen, told_here, fails_here}
 use Rattle.pdl_theory_simulation.proofs.LockLists.{fell, moved_live, stood, next_live, go_on, Agrees}
 use Rattle.pdl_word.specs.Each.{Each}
 
