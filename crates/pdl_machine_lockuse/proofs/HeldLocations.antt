@@ -61,7 +61,7 @@ covers_op c _ hs f = f
 pub held_does : (read : ℕ → ℕ → ℕ) (op : Op) (d : Deeds) → (deeds_after read op d).held ≡ held_after op d.held
 held_does read (Verify last args) d = at (same_args (checked_args last args d) d.guess)
   where
-    at : (b : Bool) → (cond b d (record d { child = Some (checked_args last args d); guess = (checked_args last args d); fails = true })).held ≡ d.held
+    at : (b : Bool) → (cond b d (record d { child = Some (checked_args last args d); guess = checked_args last args d; fails = true })).held ≡ d.held
     at true = refl
     at false = refl
 held_does read _ d = refl

@@ -80,7 +80,7 @@ module _ (p : Pipe) (st : State) (n : ℕ) where
       λ k. right_set p s Let (blocks_of past) d.env x (word_for st n m (slice_index d.env a)) (fresh vars x past h) (r k)
   let_next vars s past (Verify last args) d h low r = at (same_args (checked_args last args d) d.guess)
     where
-      at : (b : Bool) → LetIf s past (cond b d (record d { child = Some (checked_args last args d); guess = (checked_args last args d); fails = true }))
+      at : (b : Bool) → LetIf s past (cond b d (record d { child = Some (checked_args last args d); guess = checked_args last args d; fails = true }))
       at true = r
       at false = r
   let_next vars s past (ReserveWrite m a) d h low r =

@@ -219,7 +219,7 @@ module _ (o : Around) (read : ℕ → ℕ → ℕ) (block : Blocked → Bool) (f
       at false = record { single = w.single; named = w.named; made = w.made; turns = w.turns }
   wrote_next (Verify last args) ph d v k g w = at (same_args (checked_args last args d) d.guess)
     where
-      at : (b : Bool) → Wrote ph (cond b d (record d { child = Some (checked_args last args d); guess = (checked_args last args d); fails = true }))
+      at : (b : Bool) → Wrote ph (cond b d (record d { child = Some (checked_args last args d); guess = checked_args last args d; fails = true }))
       at true = w
       at false = record { single = w.single; named = w.named; made = w.made; turns = w.turns }
   wrote_next _ ph d v k g w = record { single = w.single; named = w.named; made = w.made; turns = w.turns }
@@ -285,7 +285,7 @@ module _ (p : Pipe) (k : ℕ) (read : ℕ → ℕ → ℕ) (path : List ℕ) whe
   one (Verify last args) d g h = at (same_args (checked_args last args d) d.guess)
     where
       at : (b : Bool)
-          → list_all is_timely (cond b d (record d { child = Some (checked_args last args d); guess = (checked_args last args d); fails = true })).writes ≡ true
+          → list_all is_timely (cond b d (record d { child = Some (checked_args last args d); guess = checked_args last args d; fails = true })).writes ≡ true
       at true = h
       at false = h
   one _ d g h = h

@@ -74,7 +74,7 @@ module _ (p : Pipe) (st : State) (n : ℕ) where
   right_next s c (DelayedRead x m a) d h f r = r
   right_next s c (Verify last args) d h f r = at (same_args (checked_args last args d) d.guess)
     where
-      at : (b : Bool) → RightIf s c (cond b d (record d { child = Some (checked_args last args d); guess = (checked_args last args d); fails = true }))
+      at : (b : Bool) → RightIf s c (cond b d (record d { child = Some (checked_args last args d); guess = checked_args last args d; fails = true }))
       at true = r
       at false = r
   right_next s c (ReserveWrite m a) d h f r =
@@ -105,7 +105,7 @@ module _ (p : Pipe) (st : State) (n : ℕ) where
   guess_next size g (Verify false args) d h f i = at (same_args (checked_args false args d) d.guess) refl
     where
       at : (b : Bool) → same_args (checked_args false args d) d.guess ≡ b
-          → length (cond b d (record d { child = Some (checked_args false args d); guess = (checked_args false args d); fails = true })).guess ≡ size
+          → length (cond b d (record d { child = Some (checked_args false args d); guess = checked_args false args d; fails = true })).guess ≡ size
       at true e = ap length (sym (same_args_eq (checked_args false args d) d.guess e)) ∙ values_long args (all_values d) ∙ eqb-true (length args) size h
       at false e = values_long args (all_values d) ∙ eqb-true (length args) size h
   guess_next size g (DelayedRead x m a) d h f i = f i

@@ -75,7 +75,8 @@ advised_op read (Block m a) d = omega arith
 advised_op read (Release m a) d = omega arith
 advised_op read (Call args) d = omega arith
 advised_op read (SpecCall args) d = omega arith
-advised_op read (Verify last args) d = let same = advised_verify (same_args (checked_args last args d) d.guess) (checked_args last args d) d in omega (arith, same)
+advised_op read (Verify last args) d =
+    let same = advised_verify (same_args (checked_args last args d) d.guess) (checked_args last args d) d in omega (arith, same)
 advised_op read SpecCheck d = omega arith
 advised_op read SpecBarrier d = omega arith
 advised_op read (AdviceBind x e) d = let sum = length-append d.advice (record { var = x; word = value_of e (all_values d) } ∷ []) in omega (arith, sum)

@@ -213,7 +213,8 @@ update_learns : run_lines update_learnt (zeros ∷ zeros ∷ []) (idle 12) ≡ c
 unfolding digits add slice zext
 update_learns = refl
 
-update_known : run_lines update_learnt ((2 ∷ 0 ∷ 2 ∷ 0 ∷ []) ∷ zeros ∷ []) (idle 8) ≡ codes "4 m 0 00\n6 m 2 02\n8 m 0 04\nend cycles 8 ended 3 waits 0 squashes 4\n"
+update_known : run_lines update_learnt ((2 ∷ 0 ∷ 2 ∷ 0 ∷ []) ∷ zeros ∷ [])
+    (idle 8) ≡ codes "4 m 0 00\n6 m 2 02\n8 m 0 04\nend cycles 8 ended 3 waits 0 squashes 4\n"
 unfolding digits add slice zext
 update_known = refl
 

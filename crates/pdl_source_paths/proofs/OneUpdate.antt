@@ -94,7 +94,8 @@ module _ (p : Pipe) (rules : KeepsRules p) (v : Guard → Bool) (staged : All St
   -- whether an update is on the path, with one more place that is one or isn't
   updates_next : (front : List Place) (x : Place) (b d : Bool) → list_any updates front ≡ b → updates x ≡ d → list_any updates (front ++ x ∷ []) ≡ (b || d)
   updates_next front x b d e f =
-      list_any-append updates front (x ∷ []) ∙ ap (λ i. list_any updates front || (i || false)) f ∙ ap (λ i. i || (d || false)) e ∙ ap (λ i. b || i) (or_false d)
+      list_any-append updates front (x ∷ [])
+      ∙ ap (λ i. list_any updates front || (i || false)) f ∙ ap (λ i. i || (d || false)) e ∙ ap (λ i. b || i) (or_false d)
     where
       or_false : (b : Bool) → (b || false) ≡ b
       or_false true = refl

@@ -37,7 +37,8 @@ module _ (p : Pipe) (sound : Sound p) where
   -- after any schedule the oldest thread of the stated machine moves in a cycle that isn't a wait
   pub whole_advances : (image : Arrays) (schedule : List (List Bool)) (bits : List Bool) → Advances p image schedule bits
   whole_advances image schedule bits =
-      carries_advances p (sound_flows p sound) image schedule bits (Follows.advances p (course p sound) image (hints image (schedule ++ bits ∷ [])) schedule bits)
+      carries_advances p (sound_flows p sound) image schedule bits
+      (Follows.advances p (course p sound) image (hints image (schedule ++ bits ∷ [])) schedule bits)
 
   -- at least as many threads end in a run of the stated machine as its cycles that are no waits, divided by the depth
   pub whole_paces : (image : Arrays) (schedule : List (List Bool)) → KeepsPace p image schedule

@@ -262,7 +262,7 @@ unasked_op o (DelayedRead x n a) w m h r = at (n == m) refl
 unasked_op o (Verify last args) w m h r = at (same_args (said o last args w.env) w.guess)
   where
     at : (b : Bool)
-        → find_ask (cond b w (record w { child = Some (said o last args w.env); guess = (said o last args w.env); fails = true })).asks m ≡ find_ask w.asks m
+        → find_ask (cond b w (record w { child = Some (said o last args w.env); guess = said o last args w.env; fails = true })).asks m ≡ find_ask w.asks m
     at true = refl
     at false = refl
 unasked_op o _ w m h r = refl

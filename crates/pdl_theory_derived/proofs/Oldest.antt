@@ -26,7 +26,7 @@ ready_op o (Block m a) w f h =
     and_from w.ready _ h (pick (has_entry w.entries m a) _ _ (f.can_write m (slice_index w.env a)) (f.can_read m (slice_index w.env a)))
 ready_op o (Verify last args) w f h = at (same_args (said o last args w.env) w.guess)
   where
-    at : (b : Bool) → (cond b w (record w { child = Some (said o last args w.env); guess = (said o last args w.env); fails = true })).ready ≡ true
+    at : (b : Bool) → (cond b w (record w { child = Some (said o last args w.env); guess = said o last args w.env; fails = true })).ready ≡ true
     at true = h
     at false = h
 ready_op o SpecBarrier w f h = and_from w.ready o.clear h f.clear

@@ -16,7 +16,8 @@ use Rattle.pdl_theory_simulation.proofs.FlowFacts.{Flows, stage_or}
 use Rattle.pdl_theory_simulation.proofs.Onces.{has_any, none_any, once_only, once_called}
 use Rattle.pdl_theory_simulation.proofs.Stretches.{has_done, done_then, once_here}
 use Rattle.pdl_theory_simulation.proofs.Seats.{Live, seat, advised, Falls, falls_each, dacts, did, now_of, work_of_live, deeds_of, sacts}
-use Rattle.pdl_theory_simulation.proofs.Choices.{Known, Foresees, Foretold, moves_in, like_here, keeps_now, none_foreseen, guess_foreseen, update_foreseen}
+use Rattle.pdl_theory_simulation.proofs.Choices.{Known, like_here, keeps_now}
+use Rattle.pdl_theory_simulation.proofs.Sayings.{Foresees, Foretold, moves_in, none_foreseen, guess_foreseen, update_foreseen}
 use Rattle.pdl_theory_simulation.proofs.ThreadFacts.{Pair, pairs, sorted, lives_of, EachPair, pair_map, pair_both, pairs_each, sorted_each}
 use Rattle.pdl_theory_simulation.proofs.Orders.{acts_of, known_pairs, AllForetold}
 use Rattle.pdl_theory_simulation.proofs.LockLists.{stood, moved_one, next_live, go_on}
@@ -222,7 +223,8 @@ module _ (p : Pipe) (flows : Flows p) where
       later test word schedule y k o h j e =
           h j
           ∙ said_now test y (said_of test p (Cycle.cycle p st bits) schedule y.live.number) o
-          ∙ ap (λ b. cond b (deeds_of p st bits y.live).guess (said_of test p (Cycle.cycle p st bits) schedule y.live.number)) (at (did p d bits y.older y.live).moves refl e)
+          ∙ ap (λ b. cond b (deeds_of p st bits y.live).guess (said_of test p (Cycle.cycle p st bits) schedule y.live.number))
+          (at (did p d bits y.older y.live).moves refl e)
         where
           at : (b : Bool) → (did p d bits y.older y.live).moves ≡ b → (b && has_any test (here y)) ≡ false
               → (moves_in y.live.number (Moves.all_acts p st bits) && has_any test (stated_here y.live)) ≡ false

@@ -17,7 +17,8 @@ use Rattle.pdl_theory_simulation.proofs.FlowFacts.{Home, Within, Trunk, Way, Flo
 use Rattle.pdl_theory_derived.proofs.Writes.{and_right}
 use Rattle.pdl_theory_simulation.proofs.Stretches.{Behind, left_trunk, fork_left, start_of}
 use Rattle.pdl_theory_simulation.proofs.Seats.{Live, each_map, Ordered, dacts, lacts, lact, did, now_of, deeds_of, work_of_live, advised}
-use Rattle.pdl_theory_simulation.proofs.Choices.{Known, AllKnown, like_here, MovesForeseen, AllForeseen}
+use Rattle.pdl_theory_simulation.proofs.Choices.{Known, AllKnown, like_here}
+use Rattle.pdl_theory_simulation.proofs.Sayings.{MovesForeseen, AllForeseen}
 use Rattle.pdl_theory_simulation.proofs.ThreadFacts.{someone, behind_someone, sides, sides_append}
 use Rattle.pdl_theory_simulation.proofs.Orders.{sides_none, sides_nobody}
 use Rattle.pdl_theory_simulation.proofs.LockLists.{fell, moved_live, stood, next_live, go_on}

@@ -6,6 +6,7 @@ pub mod StretchSteps
 pub mod Guessing
 pub mod Seats
 pub mod Choices
+pub mod Sayings
 pub mod ThreadFacts
 pub mod Orders
 pub mod LockRemovals

@@ -16,7 +16,8 @@ use Rattle.pdl_theory_derived.proofs.Slots.{rev}
 use Rattle.pdl_theory_simulation.proofs.Stretches.{has_made, stage_child}
 use Rattle.pdl_theory_simulation.proofs.StretchSteps.{Childed}
 use Rattle.pdl_theory_simulation.proofs.Seats.{advised, Live, seat, find, threads_of, each_map, Falls, falls_each, dacts, lacts, lact, did, now_of, work_of_live, deeds_of}
-use Rattle.pdl_theory_simulation.proofs.Choices.{Known, AllKnown, Foresees, MovesForeseen, AllForeseen, like_here, told_here, fails_here, keeps_now}
+use Rattle.pdl_theory_simulation.proofs.Choices.{Known, AllKnown, like_here, keeps_now}
+use Rattle.pdl_theory_simulation.proofs.Sayings.{Foresees, MovesForeseen, AllForeseen, told_here, fails_here}
 use Rattle.pdl_theory_simulation.proofs.LockLists.{fell, moved_live, stood, next_live, go_on, Agrees}
 use Rattle.pdl_word.specs.Each.{Each}
 
@@ -337,7 +338,8 @@ module _ (p : Pipe) (flows : Flows p) (st : State) (d : Derived.State) (bits : L
   pub no_squash_stage : (ls : List Live) → AllKnown p flows st d bits arrays ls → AllForeseen p flows st d bits arrays ls
       → fell p d bits ls ≡ false → squash_stage (movers (lacts p st d bits ls)) ≡ None
   no_squash_stage [] k u h = refl
-  no_squash_stage (l ∷ ls) k u h = squash_stage_is ls l k.0 u.0 ∙ at ((did p d bits ls l).moves && (work_of_live p d bits ls l).fails) h (no_squash_stage ls k.1 u.1)
+  no_squash_stage (l ∷ ls) k u h =
+      squash_stage_is ls l k.0 u.0 ∙ at ((did p d bits ls l).moves && (work_of_live p d bits ls l).fails) h (no_squash_stage ls k.1 u.1)
     where
       at : (b : Bool)
           → (b || fell p d bits ls) ≡ false → (fell p d bits ls ≡ false → squash_stage (movers (lacts p st d bits ls)) ≡ None)

@@ -19,7 +19,8 @@ use Rattle.pdl_theory_derived.proofs.Lists.{pend, youngest_append, youngest_othe
 use Rattle.pdl_theory_turns.proofs.OwnEntries.{pend_own}
 use Rattle.pdl_theory_simulation.proofs.Stretches.{Behind, left_trunk, fork_left, not_behind, early}
 use Rattle.pdl_theory_simulation.proofs.Seats.{Live, seat, each_map, Ordered, Rises, Falls, sacts, dacts, lacts, lact, did, deeds_of, befores_are, pends, youngest_all, length_pends}
-use Rattle.pdl_theory_simulation.proofs.Choices.{has_owner, Matched, Seated, fetched_of, one_stage, waits_are, env_is, port_is, Known, AllKnown, Tells, moves_in, Foretold, MovesForeseen, AllForeseen, FailsAlike, fails_here, fails_unchecked, act_is}
+use Rattle.pdl_theory_simulation.proofs.Choices.{has_owner, Matched, Seated, fetched_of, one_stage, waits_are, env_is, port_is, Known, AllKnown, Tells, act_is}
+use Rattle.pdl_theory_simulation.proofs.Sayings.{moves_in, Foretold, MovesForeseen, AllForeseen, FailsAlike, fails_here, fails_unchecked}
 use Rattle.pdl_theory_simulation.proofs.ThreadFacts.{someone, someone_more, behind_someone, sides, sides_append, Pair, pairs, sorted, lives_of, EachPair, pair_map, pair_both, sorted_each, each_sorted, pairs_each, rises_sorted, fails_none, all_pairs, later_older, view_older}
 use Rattle.pdl_word.specs.Each.{Each}
 use Rattle.pdl_theory_simulation.proofs.ForkListSteps.{unchecked_trunk}

@@ -254,7 +254,7 @@ held_op o (Release j a) w = places_without w.entries j a
 held_op o (Verify last args) w = at (same_args (said o last args w.env) w.guess)
   where
     at : (b : Bool)
-        → places (cond b w (record w { child = Some (said o last args w.env); guess = (said o last args w.env); fails = true })).entries ≡ places w.entries
+        → places (cond b w (record w { child = Some (said o last args w.env); guess = said o last args w.env; fails = true })).entries ≡ places w.entries
     at true = refl
     at false = refl
 held_op o _ w = refl

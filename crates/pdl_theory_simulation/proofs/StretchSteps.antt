@@ -33,7 +33,8 @@ module _ (o : Around) (read : ℕ → ℕ → ℕ) (block : Blocked → Bool) (f
       at (same_args (checked_args last args d) d.guess) (same_args (said o last args d.env) gu)
     where
       at : (b b' : Bool)
-          → Here o read block free m n start ph (cond b d (record d { child = Some (checked_args last args d); guess = checked_args last args d; fails = true }))
+          → Here o read block free m n start ph
+          (cond b d (record d { child = Some (checked_args last args d); guess = checked_args last args d; fails = true }))
           (cond b' (work_of o read block free (record d { guess = gu; child = c; fails = f }) es cs)
           (record (work_of o read block free (record d { guess = gu; child = c; fails = f }) es cs) {
             child = Some (said o last args d.env);
@@ -177,7 +178,8 @@ reserved_op all read (ReserveWrite m a) d f h = more d.reserves h
     more (r ∷ rs) g = (g.0, more rs g.1)
 reserved_op all read (Verify last args) d f h = at (same_args (checked_args last args d) d.guess)
   where
-    at : (b : Bool) → ReservesFrom all (cond b d (record d { child = Some (checked_args last args d); guess = checked_args last args d; fails = true })).reserves
+    at : (b : Bool)
+        → ReservesFrom all (cond b d (record d { child = Some (checked_args last args d); guess = checked_args last args d; fails = true })).reserves
     at true = h
     at false = h
 reserved_op all read _ d f h = h

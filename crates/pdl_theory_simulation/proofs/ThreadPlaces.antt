@@ -16,7 +16,8 @@ use Rattle.pdl_theory_derived.proofs.Writes.{and_left, and_right}
 use Rattle.pdl_theory_facts.proofs.Nested.{same_head, same_tail, within_home, Came, came_way}
 use Rattle.pdl_theory_simulation.proofs.Stretches.{Behind, left_trunk, less_home, fork_left, Keeps, has_made, keeps_next, keeps_fresh}
 use Rattle.pdl_theory_simulation.proofs.Seats.{Live, seat, find, each_map, Ordered, Falls, falls_up, dacts, lacts, did, now_of, work_of_live, advised}
-use Rattle.pdl_theory_simulation.proofs.Choices.{Known, AllKnown, keeps_now, fit_all, AllForeseen}
+use Rattle.pdl_theory_simulation.proofs.Choices.{Known, AllKnown, keeps_now, fit_all}
+use Rattle.pdl_theory_simulation.proofs.Sayings.{AllForeseen}
 use Rattle.pdl_theory_simulation.proofs.ThreadFacts.{EachPair, pairs}
 use Rattle.pdl_theory_simulation.proofs.LockLists.{fell, moved_one, moved_live, stood, next_live, go_on, Agrees}
 use Rattle.pdl_theory_simulation.proofs.LiveThreads.{stuck_here, childed_here, Made, MadeBehind, made, made_none, born_live, lives_next, comes_is, find_append}

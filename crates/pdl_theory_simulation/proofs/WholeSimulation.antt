@@ -26,7 +26,8 @@ use Rattle.pdl_theory_turns.proofs.OwnEntries.{pend_own}
 use Rattle.pdl_theory_simulation.proofs.Stretches.{Keeps, Fetched, AllFetched, unknown}
 use Rattle.pdl_theory_simulation.proofs.StretchSteps.{AsksFrom}
 use Rattle.pdl_theory_simulation.proofs.Seats.{Live, each_map, Ordered, Falls, dacts, lacts, lact, did, work_of_live, acts_back, pends, pends_append}
-use Rattle.pdl_theory_simulation.proofs.Choices.{Matched, OwnedBy, AllOwned, Seated, Known, AllKnown, asks_here, AllForeseen, like_here}
+use Rattle.pdl_theory_simulation.proofs.Choices.{Matched, OwnedBy, AllOwned, Seated, Known, AllKnown, asks_here, like_here}
+use Rattle.pdl_theory_simulation.proofs.Sayings.{AllForeseen}
 use Rattle.pdl_theory_simulation.proofs.ThreadFacts.{sides, sorted, Pair}
 use Rattle.pdl_theory_simulation.proofs.Orders.{sides_none, acts_of, acts_sorted, AllForetold, foreseen_all}
 use Rattle.pdl_theory_simulation.proofs.ActOrder.{same_after, same_ports, Swaps, same_arrays}

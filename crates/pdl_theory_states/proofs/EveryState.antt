@@ -120,7 +120,8 @@ module _ (p : Pipe) (sound : Sound p) (strict : Strict p) (image : Arrays) (sche
   rows_now : RowsAt image (λ m. of_mem m (Derived.all_commits (Derived.turns p image (hints_of p (first p image) (schedule ++ [])) schedule)))
       (Derived.state_after p (Derived.first p image (hints_of p (first p image) (schedule ++ []))) schedule).arrays
   rows_now m =
-      ap (λ l. row l m) runs_here.arrays ∙ row_committed m (Derived.all_commits (Derived.turns p image (hints_of p (first p image) (schedule ++ [])) schedule)) image
+      ap (λ l. row l m) runs_here.arrays
+      ∙ row_committed m (Derived.all_commits (Derived.turns p image (hints_of p (first p image) (schedule ++ [])) schedule)) image
 
   all_good : AllGood p sound image (state_after p (first p image) schedule)
       (Derived.state_after p (Derived.first p image (hints_of p (first p image) (schedule ++ []))) schedule) sim_here.arrays

@@ -30,7 +30,8 @@ asks_op o (DelayedRead x m a) w = awaited_snoc w.asks _
 asks_op o (Verify last args) w = at (same_args (said o last args w.env) w.guess)
   where
     at : (b : Bool)
-        → awaited_of (cond b w (record w { child = Some (said o last args w.env); guess = said o last args w.env; fails = true })).asks ≡ awaited_of w.asks ++ []
+        → awaited_of (cond b w (record w { child = Some (said o last args w.env); guess = said o last args w.env; fails = true })).asks
+        ≡ awaited_of w.asks ++ []
     at true = sym (append-nil _)
     at false = sym (append-nil _)
 asks_op o (Bind x e) w = sym (append-nil _)

@@ -415,14 +415,14 @@ module _ (o : Around) (vars : ℕ) (kind : Kind o) where
     where
       at : (b : Bool)
           → same_args (said o last args w.env) w.guess ≡ b
-          → Past o vars (Verify last args ∷ past) (cond b w (record w { child = Some (said o last args w.env); guess = (said o last args w.env); fails = true }))
+          → Past o vars (Verify last args ∷ past) (cond b w (record w { child = Some (said o last args w.env); guess = said o last args w.env; fails = true }))
       at true e =
           still_step (Verify last args) past w silent tt
           (sym (same_args_eq (said o last args w.env) w.guess e) ∙ said_past o last args past w.env) tt h
       at false e =
           same_past (Verify last args ∷ past)
           (record w { child = Some (said o last args w.env); guess = said o last args w.env })
-          (record w { child = Some (said o last args w.env); guess = (said o last args w.env); fails = true }) refl refl refl refl
+          (record w { child = Some (said o last args w.env); guess = said o last args w.env; fails = true }) refl refl refl refl
           (guess_step (Verify last args) (said o last args w.env) past w silent
           (said_past o last args past w.env) tt tt (λ q k. mention_touch q.var (Verify last args) k) h)
   past_step SpecCheck past w new own silent calls ready h = still_step SpecCheck past w silent tt h.guessed tt h
@@ -446,7 +446,7 @@ module _ (o : Around) (vars : ℕ) (kind : Kind o) where
     where
       at : (b : Bool)
           → AllAsks (λ q. silent_on q.var ys ≡ true)
-          (cond b w (record w { child = Some (said o last args w.env); guess = (said o last args w.env); fails = true })).asks
+          (cond b w (record w { child = Some (said o last args w.env); guess = said o last args w.env; fails = true })).asks
       at true = h
       at false = h
   asks_silent (Bind x e) w ys u h = h

@@ -19,7 +19,8 @@ use Rattle.pdl_theory_turns.proofs.StrayPaths.{making_looked}
 use Rattle.pdl_theory_simulation.proofs.Shapes.{called_append}
 use Rattle.pdl_theory_simulation.proofs.Stretches.{on_way, has_made, way_next, fixed_here, start_of}
 use Rattle.pdl_theory_simulation.proofs.Seats.{advised, Live, threads_of, Ordered, dacts, lacts, did, now_of, work_of_live}
-use Rattle.pdl_theory_simulation.proofs.Choices.{AllForeseen, Known, AllKnown, keeps_now}
+use Rattle.pdl_theory_simulation.proofs.Choices.{Known, AllKnown, keeps_now}
+use Rattle.pdl_theory_simulation.proofs.Sayings.{AllForeseen}
 use Rattle.pdl_theory_simulation.proofs.LockLists.{fell, moved_live, stood, go_on, Agrees}
 use Rattle.pdl_theory_simulation.proofs.LiveThreads.{made, childed_here, born_live, lives_next}
 use Rattle.pdl_theory_simulation.proofs.Requests.{Asker, asking, one_asks, first_of}
@@ -264,7 +265,7 @@ module _ (p : Pipe) (sound : Sound p) (strict : Strict p) where
       youngest = young_next w.youngest;
     }
 
-  -- a state of the stated machine that belongs to one of the derived machine, where all this holds of the live threads, and these were given what they say in the next cycles
+  -- a state of the stated machine that belongs to one of the derived machine; all this holds of the live threads, and they were given what they say next
   pub record Reached (st : State) (d : Derived.State) (more : List (List Bool)) : Type 0 where
     pub live : List Live
     pub sim : Sim p st d live

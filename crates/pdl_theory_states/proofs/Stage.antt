@@ -182,7 +182,7 @@ low_blocks p sound path s =
 child_op : (o : Around) (op : Op) (w : Work) → is_some w.child ≡ true → is_some (work_after o op w).child ≡ true
 child_op o (Verify last args) w h = at (same_args (said o last args w.env) w.guess)
   where
-    at : (b : Bool) → is_some (cond b w (record w { child = Some (said o last args w.env); guess = (said o last args w.env); fails = true })).child ≡ true
+    at : (b : Bool) → is_some (cond b w (record w { child = Some (said o last args w.env); guess = said o last args w.env; fails = true })).child ≡ true
     at true = h
     at false = refl
 child_op o (Call args) w h = refl

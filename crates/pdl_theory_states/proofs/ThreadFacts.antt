@@ -20,7 +20,8 @@ use Rattle.pdl_theory_turns.proofs.CourseOf.{apart_asks}
 use Rattle.pdl_theory_simulation.proofs.Stretches.{Behind, AllFetched, fixed_here, start_of, on_way, Keeps, left_trunk}
 use Rattle.pdl_theory_simulation.proofs.StretchSteps.{AsksFrom}
 use Rattle.pdl_theory_simulation.proofs.Seats.{deeds_of, advised, Live, threads_of, each_map, Ordered, dacts, lacts, did, now_of, work_of_live, befores_are}
-use Rattle.pdl_theory_simulation.proofs.Choices.{Known, AllKnown, Foresees, keeps_now, like_here, told_here, asks_here, deeds_are, starts_here, fixed_way, fit_all}
+use Rattle.pdl_theory_simulation.proofs.Choices.{Known, AllKnown, keeps_now, like_here, asks_here, deeds_are, starts_here, fixed_way, fit_all}
+use Rattle.pdl_theory_simulation.proofs.Sayings.{Foresees, told_here}
 use Rattle.pdl_theory_simulation.proofs.LockLists.{fell, moved_one, stood, next_live, go_on}
 use Rattle.pdl_theory_simulation.proofs.ThreadPlaces.{each_next, leads_of}
 use Rattle.pdl_theory_simulation.proofs.Requests.{asking}
@@ -179,7 +180,8 @@ module _ (p : Pipe) (sound : Sound p) (strict : Strict p) where
               (cond b (still p bits rs) (r ∷ still p bits rs))
           at true e g = g
           at false e g = (
-            any_ask_map (λ q j. (j.0, j.1, request_stays p (sound_flows p sound) st d bits ls sim told l stays_on r.mem (q.address, j.2) f.0 e)) h.local.asks i.0,
+            any_ask_map
+                (λ q j. (j.0, j.1, request_stays p (sound_flows p sound) st d bits ls sim told l stays_on r.mem (q.address, j.2) f.0 e)) h.local.asks i.0,
             g,
           )
 

@@ -64,8 +64,8 @@ apart_op o (DelayedRead x m a) ys w h p l = (
 apart_op o (Verify last args) ys w h p l = at (same_args (said o last args w.env) w.guess)
   where
     at : (b : Bool)
-        → Apart (cond b w (record w { child = Some (said o last args w.env); guess = (said o last args w.env); fails = true })).asks
-        × AllAsks (λ q. Later q ys) (cond b w (record w { child = Some (said o last args w.env); guess = (said o last args w.env); fails = true })).asks
+        → Apart (cond b w (record w { child = Some (said o last args w.env); guess = said o last args w.env; fails = true })).asks
+        × AllAsks (λ q. Later q ys) (cond b w (record w { child = Some (said o last args w.env); guess = said o last args w.env; fails = true })).asks
     at true = (p, all_more _ (λ q. Later q ys) w.asks (λ q k. k.1) l)
     at false = (p, all_more _ (λ q. Later q ys) w.asks (λ q k. k.1) l)
 apart_op o _ ys w h p l = (p, all_more _ (λ q. Later q ys) w.asks (λ q k. k.1) l)

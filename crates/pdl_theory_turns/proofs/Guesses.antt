@@ -185,7 +185,7 @@ begins_op o v k s (Verify true args) w h e = by k e (and_left _ _ h) (same_args 
   where
     by : (k : Making)
         → is_unmade k ≡ not (is_some w.child) → is_guessed k ≡ true → (b : Bool)
-        → false ≡ not (is_some (cond b w (record w { child = Some (said o true args w.env); guess = (said o true args w.env); fails = true })).child)
+        → false ≡ not (is_some (cond b w (record w { child = Some (said o true args w.env); guess = said o true args w.env; fails = true })).child)
     by Unmade e g b = absurd (cc g)
     by Guessed e g true = e
     by Guessed e g false = refl
@@ -194,7 +194,7 @@ begins_op o v k s (Verify false args) w h e = by k e (and_left _ _ h) (same_args
   where
     by : (k : Making)
         → is_unmade k ≡ not (is_some w.child) → is_guessed k ≡ true → (b : Bool)
-        → false ≡ not (is_some (cond b w (record w { child = Some (said o false args w.env); guess = (said o false args w.env); fails = true })).child)
+        → false ≡ not (is_some (cond b w (record w { child = Some (said o false args w.env); guess = said o false args w.env; fails = true })).child)
     by Unmade e g b = absurd (cc g)
     by Guessed e g true = e
     by Guessed e g false = refl
@@ -228,7 +228,7 @@ calls_op o v k s (Verify true args) w r h e c = by k c (and_left _ _ h)
   where
     at : (b : Bool)
         → same_args (said o true args w.env) w.guess ≡ b → w.child ≡ Some w.guess
-        → (cond b w (record w { child = Some (said o true args w.env); guess = (said o true args w.env); fails = true })).child ≡ Some (values_of args r.env)
+        → (cond b w (record w { child = Some (said o true args w.env); guess = said o true args w.env; fails = true })).child ≡ Some (values_of args r.env)
     at true i c = c ∙ ap Some (sym (same_args_eq _ _ i)) ∙ ap (λ l. Some (values_of args l)) e
     at false i c = ap (λ l. Some (values_of args l)) e
 
@@ -240,8 +240,8 @@ calls_op o v k s (Verify false args) w r h e c = by k c (and_left _ _ h)
   where
     at : (b : Bool)
         → w.child ≡ Some w.guess
-        → (cond b w (record w { child = Some (said o false args w.env); guess = (said o false args w.env); fails = true })).child
-        ≡ Some (cond b w (record w { child = Some (said o false args w.env); guess = (said o false args w.env); fails = true })).guess
+        → (cond b w (record w { child = Some (said o false args w.env); guess = said o false args w.env; fails = true })).child
+        ≡ Some (cond b w (record w { child = Some (said o false args w.env); guess = said o false args w.env; fails = true })).guess
     at true c = c
     at false c = refl
 
@@ -291,12 +291,12 @@ changed_op o v k s (SpecCall args) w u h c = absurd (clash (sym u ∙ and_left _
     clash i = cc
 changed_op o v k s (Verify true args) w u h c = (at (same_args (said o true args w.env) w.guess), refl)
   where
-    at : (b : Bool) → Changed (cond b w (record w { child = Some (said o true args w.env); guess = (said o true args w.env); fails = true }))
+    at : (b : Bool) → Changed (cond b w (record w { child = Some (said o true args w.env); guess = said o true args w.env; fails = true }))
     at true = c
     at false = inr (said o true args w.env, refl, refl)
 changed_op o v k s (Verify false args) w u h c = (at (same_args (said o false args w.env) w.guess), refl)
   where
-    at : (b : Bool) → Changed (cond b w (record w { child = Some (said o false args w.env); guess = (said o false args w.env); fails = true }))
+    at : (b : Bool) → Changed (cond b w (record w { child = Some (said o false args w.env); guess = said o false args w.env; fails = true }))
     at true = c
     at false = inr (said o false args w.env, refl, refl)
 changed_op o v k s _ w u h c = (c, u)

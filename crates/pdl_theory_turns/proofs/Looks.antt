@@ -112,12 +112,14 @@ does_set world x v (Block m a) w h = refl
 does_set world x v (Call args) w h = ap (λ k. record (with_set w x v) { child = Some k }) (values_unused x v args w.env h)
 does_set world x v (SpecCall args) w h = refl
 does_set world x v (Verify last args) w h =
-    ap (λ k. cond (same_args k w.guess) (with_set w x v) (record (with_set w x v) { child = Some k; guess = k; fails = true })) (said_unused world x v last args w.env h)
+    ap (λ k. cond (same_args k w.guess) (with_set w x v) (record (with_set w x v) { child = Some k; guess = k; fails = true }))
+    (said_unused world x v last args w.env h)
     ∙ at (same_args (said (alone world) last args w.env) w.guess)
   where
     at : (b : Bool)
-        → cond b (with_set w x v) (record (with_set w x v) { child = Some (said (alone world) last args w.env); guess = (said (alone world) last args w.env); fails = true })
-        ≡ with_set (cond b w (record w { child = Some (said (alone world) last args w.env); guess = (said (alone world) last args w.env); fails = true })) x v
+        → cond b (with_set w x v)
+        (record (with_set w x v) { child = Some (said (alone world) last args w.env); guess = said (alone world) last args w.env; fails = true })
+        ≡ with_set (cond b w (record w { child = Some (said (alone world) last args w.env); guess = said (alone world) last args w.env; fails = true })) x v
     at true = refl
     at false = refl
 does_set world x v _ w h = refl
@@ -186,7 +188,8 @@ unasked_op x o (DelayedRead y m a) w h k =
     all_snoc (λ q. q.var ≢ x) w.asks (record { mem = m; var = y; address = slice_index w.env a }) k (λ e. apart x y (not_or (y == x) (a == x) h).0 (sym e))
 unasked_op x o (Verify last args) w h k = at (same_args (said o last args w.env) w.guess)
   where
-    at : (b : Bool) → AllAsks (λ q. q.var ≢ x) (cond b w (record w { child = Some (said o last args w.env); guess = (said o last args w.env); fails = true })).asks
+    at : (b : Bool)
+        → AllAsks (λ q. q.var ≢ x) (cond b w (record w { child = Some (said o last args w.env); guess = said o last args w.env; fails = true })).asks
     at true = k
     at false = k
 unasked_op x o _ w h k = k
@@ -213,8 +216,8 @@ keeps_clear o (DelayedRead x m a) w h = absurd (cc h)
 keeps_clear o (Verify last args) w h = (refl, at (same_args (said o last args w.env) w.guess))
   where
     at : (b : Bool)
-        → cond b (clear w) (record (clear w) { child = Some (said o last args w.env); guess = (said o last args w.env); fails = true })
-        ≡ clear (cond b (clear w) (record (clear w) { child = Some (said o last args w.env); guess = (said o last args w.env); fails = true }))
+        → cond b (clear w) (record (clear w) { child = Some (said o last args w.env); guess = said o last args w.env; fails = true })
+        ≡ clear (cond b (clear w) (record (clear w) { child = Some (said o last args w.env); guess = said o last args w.env; fails = true }))
     at true = refl
     at false = refl
 keeps_clear o _ w h = (refl, refl)
@@ -277,11 +280,11 @@ env_op o (Bind x e) w v h = ap (λ l. slice_set l x (value_of e l)) h
 env_op o (CombRead x m a) w v h = ap (λ l. slice_set l x (o.read m (slice_index l a))) h
 env_op o (Verify last args) w v h = at (same_args (said o last args w.env) w.guess) ∙ h ∙ sym (by (same_args (said o last args v.env) v.guess))
   where
-    at : (b : Bool) → (cond b w (record w { child = Some (said o last args w.env); guess = (said o last args w.env); fails = true })).env ≡ w.env
+    at : (b : Bool) → (cond b w (record w { child = Some (said o last args w.env); guess = said o last args w.env; fails = true })).env ≡ w.env
     at true = refl
     at false = refl
 
-    by : (b : Bool) → (cond b v (record v { child = Some (said o last args v.env); guess = (said o last args v.env); fails = true })).env ≡ v.env
+    by : (b : Bool) → (cond b v (record v { child = Some (said o last args v.env); guess = said o last args v.env; fails = true })).env ≡ v.env
     by true = refl
     by false = refl
 env_op o _ w v h = h

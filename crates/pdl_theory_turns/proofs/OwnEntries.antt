@@ -139,7 +139,8 @@ quiet_op m n read (ReserveWrite j a) d h k =
     off false q = refl
 quiet_op m n read (Verify last args) d h k = at (same_args (checked_args last args d) d.guess)
   where
-    at : (b : Bool) → new_entries m n (cond b d (record d { child = Some (checked_args last args d); guess = (checked_args last args d); fails = true })).reserves ≡ []
+    at : (b : Bool)
+        → new_entries m n (cond b d (record d { child = Some (checked_args last args d); guess = checked_args last args d; fails = true })).reserves ≡ []
     at true = k
     at false = k
 quiet_op m n read _ d h k = k
@@ -158,7 +159,8 @@ quiet_release m read (Release j a) d h k = releases_more m d.releases _ ∙ ap�
     none false = refl
 quiet_release m read (Verify last args) d h k = at (same_args (checked_args last args d) d.guess)
   where
-    at : (b : Bool) → releases_of m (cond b d (record d { child = Some (checked_args last args d); guess = checked_args last args d; fails = true })).releases ≡ 0
+    at : (b : Bool)
+        → releases_of m (cond b d (record d { child = Some (checked_args last args d); guess = checked_args last args d; fails = true })).releases ≡ 0
     at true = k
     at false = k
 quiet_release m read _ d h k = k

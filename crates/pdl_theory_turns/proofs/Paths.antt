@@ -35,7 +35,7 @@ op_stays g o (CombRead x m a) w h = set_stays w.env x g _ h
 op_stays g o (Verify last args) w h = at (same_args (said o last args w.env) w.guess)
   where
     at : (b : Bool)
-        → slice_index (cond b w (record w { child = Some (said o last args w.env); guess = (said o last args w.env); fails = true })).env g ≡ slice_index w.env g
+        → slice_index (cond b w (record w { child = Some (said o last args w.env); guess = said o last args w.env; fails = true })).env g ≡ slice_index w.env g
     at true = refl
     at false = refl
 op_stays g o _ w h = refl

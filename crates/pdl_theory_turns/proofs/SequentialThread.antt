@@ -140,14 +140,15 @@ related_step world ph (Call args) w r ok rel =
 related_step world ph (Verify true args) w r ok rel = at (same_args (said (alone world) true args w.env) w.guess)
   where
     at : (b : Bool)
-        → Related world ph (cond b w (record w { child = Some (said (alone world) true args w.env); guess = (said (alone world) true args w.env); fails = true }))
+        → Related world ph (cond b w (record w { child = Some (said (alone world) true args w.env); guess = said (alone world) true args w.env; fails = true }))
         (run_after (Verify true args) r)
     at true = record { env = rel.env; arrays_now = rel.arrays_now; tied = rel.tied }
     at false = record { env = rel.env; arrays_now = rel.arrays_now; tied = rel.tied }
 related_step world ph (Verify false args) w r ok rel = at (same_args (said (alone world) false args w.env) w.guess)
   where
     at : (b : Bool)
-        → Related world ph (cond b w (record w { child = Some (said (alone world) false args w.env); guess = (said (alone world) false args w.env); fails = true }))
+        → Related world ph
+        (cond b w (record w { child = Some (said (alone world) false args w.env); guess = said (alone world) false args w.env; fails = true }))
         (run_after (Verify false args) r)
     at true = record { env = rel.env; arrays_now = rel.arrays_now; tied = rel.tied }
     at false = record { env = rel.env; arrays_now = rel.arrays_now; tied = rel.tied }

@@ -58,7 +58,7 @@ asks_op : (P : Ask → Type 0) (o : Around) (op : Op) (w : Work)
 asks_op P o (DelayedRead x m a) w f h = all_snoc P w.asks _ h (f x m a refl)
 asks_op P o (Verify last args) w f h = at (same_args (said o last args w.env) w.guess)
   where
-    at : (b : Bool) → AllAsks P (cond b w (record w { child = Some (said o last args w.env); guess = (said o last args w.env); fails = true })).asks
+    at : (b : Bool) → AllAsks P (cond b w (record w { child = Some (said o last args w.env); guess = said o last args w.env; fails = true })).asks
     at true = h
     at false = h
 asks_op P o _ w f h = h

@@ -70,7 +70,7 @@ asks_same : (o : Around) (op : Op) (w : Work) → is_fetch op ≡ false → (wor
 asks_same o (DelayedRead x m a) w h = absurd (cc h)
 asks_same o (Verify last args) w h = at (same_args (said o last args w.env) w.guess)
   where
-    at : (b : Bool) → (cond b w (record w { child = Some (said o last args w.env); guess = (said o last args w.env); fails = true })).asks ≡ w.asks
+    at : (b : Bool) → (cond b w (record w { child = Some (said o last args w.env); guess = said o last args w.env; fails = true })).asks ≡ w.asks
     at true = refl
     at false = refl
 asks_same o _ w h = refl

@@ -143,7 +143,7 @@ roam_op v o c s (Release m a) w clear low sure cover ready =
 roam_op v o c s (Verify last args) w clear low sure cover ready = at (same_args (said o last args w.env) w.guess)
   where
     at : (b : Bool)
-        → ((cond b w (record w { child = Some (said o last args w.env); guess = (said o last args w.env); fails = true })).commits ≡ w.commits) × (false ≡ false)
+        → ((cond b w (record w { child = Some (said o last args w.env); guess = said o last args w.env; fails = true })).commits ≡ w.commits) × (false ≡ false)
     at true = (refl, refl)
     at false = (refl, refl)
 roam_op v o c s SpecBarrier w (inl n) low sure cover ready = absurd (cc n)

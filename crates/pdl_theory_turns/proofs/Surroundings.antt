@@ -165,7 +165,8 @@ right_after p o world s clean c (Block m a) w f g h k r =
     block_right p o world s clean c m a w f g (leb-true (reserve_stage p m) s h) (and_right w.ready _ k) r
 right_after p o world s clean c (Verify last args) w f g h k r = at (same_args (said o last args w.env) w.guess)
   where
-    at : (b : Bool) → Right p s clean c.blocked (cond b w (record w { child = Some (said o last args w.env); guess = (said o last args w.env); fails = true })).env
+    at : (b : Bool)
+        → Right p s clean c.blocked (cond b w (record w { child = Some (said o last args w.env); guess = said o last args w.env; fails = true })).env
     at true = r
     at false = r
 right_after p o world s clean c _ w f g h k r = r

@@ -30,7 +30,7 @@ quiet_op m o (Release n a) w h =
 quiet_op m o (Verify last args) w h = at (same_args (said o last args w.env) w.guess)
   where
     at : (b : Bool)
-        → of_mem m (cond b w (record w { child = Some (said o last args w.env); guess = (said o last args w.env); fails = true })).commits ≡ of_mem m w.commits
+        → of_mem m (cond b w (record w { child = Some (said o last args w.env); guess = said o last args w.env; fails = true })).commits ≡ of_mem m w.commits
     at true = refl
     at false = refl
 quiet_op m o _ w h = refl
@@ -186,7 +186,8 @@ spots_op world m ph (Verify true args) w r h ok rel = at (same_args (said (alone
 spots_op world m ph (Verify false args) w r h ok rel = at (same_args (said (alone world) false args w.env) w.guess)
   where
     at : (b : Bool)
-        → spots (ph m) (cond b w (record w { child = Some (said (alone world) false args w.env); guess = said (alone world) false args w.env; fails = true })).env
+        → spots (ph m)
+        (cond b w (record w { child = Some (said (alone world) false args w.env); guess = said (alone world) false args w.env; fails = true })).env
         (of_mem m r.writes)
         ≡ spots (ph m) w.env (of_mem m r.writes)
     at true = refl
