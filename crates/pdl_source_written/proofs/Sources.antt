@@ -31,7 +31,7 @@ lock_rest l a r unlocked t = t
 lock_rest l a r locked t = t.1.1.1.1.1
 
 memory_named : (m : Mem) (a r : Row) → Memory m a r → AreNamed a → (is_name m.name.name ≡ true) × AreNamed r
-memory_named m a r (memory k) t = (t.0 refl, lock_rest _ _ _ k t.1.1.1.1.1.1.1.1.1.1)
+memory_named m a r (memory d k) t = (t.0 refl, lock_rest _ _ _ k t.1.1.1.1.1.1.1.1.1.1)
 
 memories_named : (c : Mark) (ms : List Mem) (a r : Row) → Listed Memory c ms a r → AreNamed a → HaveNames ms
 memories_named c ms a r (last k) t = ((memory_named _ _ _ k t).0, tt)

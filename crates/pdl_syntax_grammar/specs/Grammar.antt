@@ -208,7 +208,7 @@ pace_kind false = Comb
 
 -- a memory
 pub data Memory : Mem → Row → Row → Type 0 where
-  memory : {x c u o w g p d z k : Word} {n size : ℕ} {delayed : Bool} {lock : Option LockDecl} {a r : Row} → Lock lock a r →
+  memory : {x c u o w g p d z k : Word} {n size : ℕ} (delayed : Bool) {lock : Option LockDecl} {a r : Row} → Lock lock a r →
       Memory (record { name = ident x; width = number w n; depth = number d size; kind = pace_kind delayed; lock = lock })
       (type_row x c u o w n g (at p mark.OpenSquare ∷ on d (kind.Number size) ∷ at z mark.CloseSquare ∷ at k (pace_mark delayed) ∷ a)) r
 
