@@ -1,10 +1,10 @@
 -- A source without forms that lack a circuit has no advisory memory, no advised variable and no update.
-use Rattle.std.proofs.Common.{◌≡◌, refl, sym, ap, ap₂, ◌∙◌, subst, ℕ, Bool, true, false, ◌||◌, List, [], ◌∷◌, ◌++◌, map, bytes_eq, if◌then◌else◌, append_assoc}
+use Rattle.std.proofs.Common.{◌≡◌, refl, sym, ap₂, ◌∙◌, subst, ℕ, Bool, true, false, ◌||◌, List, [], ◌∷◌, ◌++◌, map, bytes_eq, if◌then◌else◌, append_assoc}
 use Rattle.pdl_kit.specs.declared.rule.Rule.TheVariants.{P1}
 use Rattle.pdl_semantics.specs.Tree as tree
 use Rattle.pdl_semantics.specs.Tree.{Expr, Constant, Variable, Slice, Not, Binary, Cat, LessSigned, ZeroExtend, SignExtend, Choose, Stmt, Stmts, Nil, Cons, Separator, CombRead, Bind, SpecCall, DelayedRead, Write, Reserve, Block, Release, If, Call, Verify, Update, SpecCheck, SpecBarrier, Param, Mem}
 use Rattle.pdl_semantics.specs.Flat.{is_advisory}
-use Rattle.pdl_semantics.specs.Flatten.{Var, Position, mem_width, width_of, is_advisory_mem, is_advised_var, is_advised, with_guard, past, past_all, params_of, at_start}
+use Rattle.pdl_semantics.specs.Flatten.{Var, Position, is_advisory_mem, is_advised_var, is_advised, with_guard, past, past_all, params_of, at_start}
 use Rattle.pdl_semantics.proofs.Facts.{all_vars}
 use Rattle.pdl_rules.specs.Places.{Place, Parameter, Memory, End, StartClause, places, statements}
 use Rattle.pdl_rules.specs.Unbuilt.{IsBuilt}

@@ -1,5 +1,5 @@
 -- A netlist is made of pipes only that replace no guess: no row stands for an `update`.
-use Rattle.std.proofs.Common.{◌≡◌, refl, sym, ap, subst, ℕ, ◌<◌, Bool, true, false, List, [], ◌∷◌, ◌==◌, nat_lt, length, eq-eqb}
+use Rattle.std.proofs.Common.{◌≡◌, refl, subst, ℕ, ◌<◌, Bool, true, false, List, [], ◌∷◌, ◌==◌, nat_lt, length, eq-eqb}
 use Rattle.std.specs.Prelude.{if◌then◌else◌}
 use Rattle.std.proofs.lemmas.Bool.{and_parts, ltb-true}
 use Rattle.pdl_word.specs.Each.{Each}

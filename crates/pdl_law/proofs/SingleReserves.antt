@@ -1,5 +1,5 @@
 -- No path of a source without forms that lack a circuit reserves a memory twice for writing.
-use Rattle.std.proofs.Common.{◌≡◌, refl, sym, ap, ap₂, ◌∙◌, subst, ℕ, suc, ◌+◌, ◌<◌, ◌≤◌, Bool, true, false, ◌&&◌, ◌||◌, List, [], ◌∷◌, ◌++◌, filter, length, map, Some, ◌==◌, if◌then◌else◌, bytes_eq, zero-add, arith}
+use Rattle.std.proofs.Common.{◌≡◌, refl, sym, ap, ap₂, ◌∙◌, subst, ℕ, suc, ◌+◌, ◌<◌, ◌≤◌, Bool, true, false, ◌||◌, List, [], ◌∷◌, ◌++◌, filter, length, map, Some, if◌then◌else◌, bytes_eq, zero-add, arith}
 use Rattle.std.specs.List.{list_any}
 use Rattle.std.proofs.lemmas.Bool.{false≢true}
 use Rattle.std.proofs.lemmas.List.Folds.{list_any-append}
@@ -7,11 +7,11 @@ use Rattle.pdl_kit.specs.declared.rule.Rule.TheVariants.{L4}
 use Rattle.pdl_semantics.specs.Tree as tree
 use Rattle.pdl_semantics.specs.Tree.{R, W, Variable, Separator, CombRead, Bind, SpecCall, DelayedRead, Write, Reserve, Block, Release, If, Call, Verify, Update, SpecCheck, SpecBarrier, Location, Stmt}
 use Rattle.pdl_semantics.specs.Flat
-use Rattle.pdl_semantics.specs.Flatten.{Var, flat, mem_of, var_of, flat_expr, is_advisory_mem, is_advised, params_of}
+use Rattle.pdl_semantics.specs.Flatten.{Var, flat, mem_of, var_of, flat_expr, is_advisory_mem, is_advised}
 use Rattle.pdl_semantics.specs.Sound.{is_write_reserve}
 use Rattle.pdl_semantics.specs.SecondWrites.{write_reserves}
 use Rattle.pdl_semantics.specs.Stages.{onpath}
-use Rattle.pdl_rules.specs.Places.{Place, Parameter, Statement, Branch, Guard, places, on_path}
+use Rattle.pdl_rules.specs.Places.{Place, Parameter, Statement, Branch, Guard, on_path}
 use Rattle.pdl_rules.specs.Parts.{location_of}
 use Rattle.pdl_rules.specs.Typed.{is_memory}
 use Rattle.pdl_rules.specs.Locks.{is_reserve_of}
@@ -27,8 +27,8 @@ use Rattle.pdl_source_paths.proofs.Choices.{path_of, unbroken_on}
 use Rattle.pdl_source_paths.proofs.FlatPaths.{value, all_alike}
 use Rattle.pdl_source_paths.proofs.Memories.{at_number, mems_length, all_after, distinct}
 use Rattle.pdl_source_paths.proofs.Numbers.{mem_is}
-use Rattle.pdl_source_paths.proofs.PathStatements.{ops, ops_of, seen_ops, seen, on_sites, path_is}
-use Rattle.pdl_source_paths.proofs.Variables.{Here, all_here, IsNamed, located}
+use Rattle.pdl_source_paths.proofs.PathStatements.{ops_of, seen_ops, seen, on_sites, path_is}
+use Rattle.pdl_source_paths.proofs.Variables.{Here, all_here, located}
 use Rattle.pdl_source_paths.proofs.Walk.{OnPath, all_on, all_in_text, on_the_path}
 use Rattle.pdl_law.specs.StandingStates.{IsSingle}
 use Rattle.pdl_law.proofs.TwicePaths.{never_twice}

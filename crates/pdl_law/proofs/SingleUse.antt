@@ -1,13 +1,12 @@
 -- Where no path reserves a memory twice for writing, a thread has at most one pending write of it, and a cycle releases at most one.
-use Rattle.std.proofs.Common.{◌≡◌, refl, sym, ap, ap₂, ◌∙◌, subst, ℕ, zero, suc, ◌+◌, ◌≤◌, ◌<◌, ◌⊎◌, inl, inr, Bool, true, false, ◌&&◌, List, [], ◌∷◌, ◌++◌, length, length-append, append-nil, Some, None, ◌==◌, if◌then◌else◌, arith, eq-eqb}
-use Rattle.std.specs.Prelude.{Contains, ⊤}
+use Rattle.std.proofs.Common.{◌≡◌, refl, sym, ap, ◌∙◌, subst, ℕ, zero, suc, ◌+◌, ◌≤◌, ◌<◌, ◌⊎◌, inl, inr, Bool, true, false, ◌&&◌, List, [], ◌∷◌, ◌++◌, length, length-append, Some, None, ◌==◌, if◌then◌else◌, arith, eq-eqb}
 use Rattle.std.proofs.lemmas.Bool.{false≢true}
 use Rattle.pdl_semantics.specs.Flat.{Pipe, Stmt, Arrays}
-use Rattle.pdl_semantics.specs.Stages.{onpath, in_stage}
-use Rattle.pdl_semantics.specs.Machine.{State, Thread, Pending, Reserved, Deeds, reserves_of, lock_of, deeds, word_for, deeds_after_all}
+use Rattle.pdl_semantics.specs.Stages.{in_stage}
+use Rattle.pdl_semantics.specs.Machine.{State, Pending, Reserved, Deeds, reserves_of, lock_of, word_for, deeds_after_all}
 use Rattle.pdl_semantics.specs.Moves.{Act, all_acts, movers}
-use Rattle.pdl_semantics.specs.Cycle.{first, state_after, new_entries, with_reserves, with_all_writes, releases_of, all_releases}
-use Rattle.pdl_semantics.specs.PendingLists.{AreOrdered, count_older}
+use Rattle.pdl_semantics.specs.Cycle.{first, state_after, new_entries, with_reserves, releases_of, all_releases}
+use Rattle.pdl_semantics.specs.PendingLists.{count_older}
 use Rattle.pdl_semantics.specs.Promises.{DifferInAdvice}
 use Rattle.pdl_semantics.specs.Sound.{entries_by}
 use Rattle.pdl_semantics.specs.SecondWrites.{write_reserves}
@@ -39,7 +38,6 @@ use Rattle.pdl_theory_states.proofs.ReachedStates.{Whole, reached}
 use Rattle.pdl_lockapi.specs.Forget.{has_place, place_of}
 use Rattle.pdl_lockapi.proofs.Threads.{place_is_own}
 use Rattle.pdl_machine_facts.specs.Slots
-use Rattle.pdl_machine_facts.specs.Slots.{here, stage_moves}
 use Rattle.pdl_machine_facts.specs.Cycle.{IsByStages}
 use Rattle.pdl_machine_facts.specs.Use.{IsInUse}
 use Rattle.pdl_machine_lockuse.specs.Use.{AreOwn}

@@ -1,10 +1,10 @@
 -- A stage that merges a fork names a stage of the pipe.
-use Rattle.std.proofs.Common.{◌≡◌, refl, ap, ◌∙◌, ℕ, zero, suc, ◌+◌, ◌≤◌, ◌<◌, ◌==◌, Bool, true, false, List, [], ◌∷◌, ◌++◌, length, slice_index_or, Option, Some, None, if◌then◌else◌, arith}
+use Rattle.std.proofs.Common.{◌≡◌, ℕ, zero, suc, ◌+◌, ◌≤◌, ◌<◌, ◌==◌, Bool, true, false, List, [], ◌∷◌, ◌++◌, length, slice_index_or, Some, if◌then◌else◌, arith}
 use Rattle.pdl_word.specs.Each.{Each}
 use Rattle.pdl_semantics.specs.Tree as tree
 use Rattle.pdl_semantics.specs.Tree.{Separator, If, Stmt, Stmts, Nil, Cons, Mem}
 use Rattle.pdl_semantics.specs.Flat.{Branch, Goes, Next, Stage}
-use Rattle.pdl_semantics.specs.Flatten.{flat, Position, Graph, graph, graph_before, graph_with_fork, with_merge, side, guard_of, with_guard, at_otherwise, past, past_all, at_start, separators, separators_in}
+use Rattle.pdl_semantics.specs.Flatten.{flat, Position, Graph, graph, graph_before, graph_with_fork, with_merge, side, guard_of, with_guard, at_otherwise, past, at_start, separators, separators_in}
 use Rattle.pdl_semantics.specs.Flat as Flat
 use Rattle.pdl_semantics.specs.Stages.{stage_at, last_stage}
 use Rattle.pdl_rules.specs.Refusal.{KeepsRules}
