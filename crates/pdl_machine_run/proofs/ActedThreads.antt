@@ -1,17 +1,16 @@
 -- Threads that have acted do what fits; memories keep their widths and their room.
 use Rattle.std.proofs.Common.{◌≡◌, refl, sym, ap, ap₂, ◌∙◌, subst, ℕ, zero, suc, ◌+◌, ◌^◌, ◌<◌, ◌≤◌, Bool, true, false, if◌then◌else◌, ◌==◌, List, [], ◌∷◌, ◌++◌, Option, Some, None, length, get_or, slice_index, slice_set, ◌⊎◌, inl, inr, arith, ◌&&◌, drop, take}
-use Rattle.std.specs.Prelude.{⊤, IfSome}
+use Rattle.std.specs.Prelude.{⊤}
 use Rattle.std.proofs.lemmas.List.{length-set}
 use Rattle.std.proofs.lemmas.Nat.{pow_pos}
 use Rattle.std.proofs.lemmas.Bool.{eqb-true}
-use Rattle.pdl_semantics.specs.Flat.{Op, Bind, CombRead, DelayedRead, Write, ReserveRead, ReserveWrite, Block, Release, Call, SpecCall, Verify, SpecCheck, SpecBarrier, AdviceBind, AdviceRead, AdviceWrite, Stmt, list_all, all_hold, Pipe}
+use Rattle.pdl_semantics.specs.Flat.{Op, Bind, CombRead, DelayedRead, Write, ReserveRead, ReserveWrite, Block, Release, Call, SpecCall, Verify, SpecCheck, SpecBarrier, AdviceBind, AdviceRead, AdviceWrite, Stmt, all_hold, Pipe}
 use Rattle.pdl_semantics.specs.Stages.{in_stage, mem_at}
-use Rattle.pdl_semantics.specs.Locks.{has_room, commit_value}
-use Rattle.pdl_semantics.specs.Machine.{Thread, Pending, Reserved, Written, State, Deeds, lock_of, with_answers, deeds, word_for, same_args, deeds_after, deeds_after_all, checked_args}
-use Rattle.pdl_semantics.specs.Moves.{Act, blocks_ready, have_room}
+use Rattle.pdl_semantics.specs.Locks.{commit_value}
+use Rattle.pdl_semantics.specs.Machine.{Thread, Pending, Reserved, Written, Deeds, with_answers, deeds, word_for, same_args, deeds_after, deeds_after_all, checked_args}
+use Rattle.pdl_semantics.specs.Moves.{Act}
 use Rattle.pdl_semantics.specs.Cycle.{new_entries, with_reserves, with_value_of, with_writes_of, with_all_writes, all_releases, is_kept, entries_left}
-use Rattle.pdl_theory_derived.proofs.Writes.{and_left, and_right}
-use Rattle.pdl_lockapi.specs.Forget.{addresses_of, addresses}
+use Rattle.pdl_lockapi.specs.Forget.{addresses}
 use Rattle.pdl_lockapi.proofs.Lengths.{appended_long, filled_long, left_long}
 use Rattle.pdl_machine_facts.specs.Use.{before_stage}
 use Rattle.pdl_form.specs.Form.{Form}
@@ -22,7 +21,7 @@ use Rattle.pdl_machine_run.specs.declared.beside.Beside as r_beside
 use Rattle.pdl_machine_run.specs.View.{deeds_view, thread_of, thread_if, thread_in}
 use Rattle.pdl_machine_run.specs.Outside.{outside}
 use Rattle.pdl_machine_run.specs.Typed.{IsFine, AreReserved, AreWritten, AreAdvised, AreFit, count_before}
-use Rattle.pdl_machine_run.specs.Acts.{act_of, acts_of, IsCarried, goes, AreDecided, both, left_of, out_of, memory_after}
+use Rattle.pdl_machine_run.specs.Acts.{act_of, acts_of, IsCarried, both, left_of, out_of, memory_after}
 use Rattle.pdl_machine_run.proofs.DeedWidths.{stage_few}
 use Rattle.pdl_machine_run.proofs.AdviceCounts.{count_next, advised_few}
 

@@ -1,9 +1,9 @@
 -- How many advised values a thread has: no more than there are statements in the stages that it has been in.
-use Rattle.std.proofs.Common.{◌≡◌, refl, ℕ, suc, ◌+◌, ◌≤◌, Bool, true, false, if◌then◌else◌, ◌==◌, nat_lt, List, [], ◌∷◌, ◌++◌, length, length-append, Some, slice_index, arith}
+use Rattle.std.proofs.Common.{◌≡◌, refl, ℕ, suc, ◌+◌, ◌≤◌, Bool, true, false, if◌then◌else◌, ◌==◌, nat_lt, List, [], ◌∷◌, length, length-append, Some, slice_index, arith}
 use Rattle.std.proofs.lemmas.Bool.{eqb-true, eqb-false, ltb-true, ltb-false}
 use Rattle.pdl_semantics.specs.Flat.{Op, Bind, CombRead, DelayedRead, Write, ReserveRead, ReserveWrite, Block, Release, Call, SpecCall, Verify, SpecCheck, SpecBarrier, AdviceBind, AdviceRead, AdviceWrite, Stmt, all_hold, value_of}
 use Rattle.pdl_semantics.specs.Stages.{in_stage}
-use Rattle.pdl_semantics.specs.Machine.{Kept, Deeds, all_values, same_args, deeds_after, deeds_after_all, checked_args}
+use Rattle.pdl_semantics.specs.Machine.{Deeds, all_values, same_args, deeds_after, deeds_after_all, checked_args}
 use Rattle.pdl_machine_run.specs.Typed.{count_before}
 
 -- STATEMENTS BEFORE A STAGE

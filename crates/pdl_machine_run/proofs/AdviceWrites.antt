@@ -1,5 +1,5 @@
 -- One write of an advisory memory, as the program makes it.
-use Rattle.std.proofs.Common.{◌≡◌, sym, ap, ◌∙◌, ℕ, ◌<◌, ◌≤◌, List, length, get_or, set}
+use Rattle.std.proofs.Common.{◌≡◌, sym, ap, ◌∙◌, ◌<◌, ◌≤◌, List, length, get_or, set}
 use Rattle.std.proofs.lemmas.List.{get_or_default, set_past}
 use Rattle.pdl_semantics.specs.Machine.{Advised}
 use Rattle.pdl_machine_pending.specs.Memory.{Memory}

@@ -5,9 +5,8 @@ use Rattle.std.proofs.lemmas.Nat.{pow_pos}
 use Rattle.pdl_semantics.specs.Flat.{Pipe, word_at}
 use Rattle.pdl_semantics.specs.Stages.{in_stage, mem_at}
 use Rattle.pdl_semantics.specs.Locks.{Nothing, value_or}
-use Rattle.pdl_semantics.specs.Machine.{Awaited, Kept, Thread, Request, NoRequest, Owned, Orphan, Pending, Deeds, youngest, answer_to, answer_for, kept_answer, unanswered_reads, answered_reads, with_answers, with_kept, request_of, is_answered, word_for, deeds, deeds_after_all}
+use Rattle.pdl_semantics.specs.Machine.{Awaited, Kept, Thread, Request, NoRequest, Owned, Orphan, Pending, Deeds, youngest, answer_to, answer_for, kept_answer, unanswered_reads, answered_reads, with_answers, request_of, is_answered, word_for, deeds, deeds_after_all}
 use Rattle.pdl_form.specs.Form.{Form}
-use Rattle.pdl_form_values.specs.Widths.{Fit}
 use Rattle.pdl_machine_pending.specs.Memory.{Memory}
 use Rattle.pdl_machine_facts.specs.Use.{before_stage}
 use Rattle.pdl_machine_run.specs.declared.beside.Beside as r_beside

@@ -68,8 +68,8 @@ module _ (ws env : List ℕ) (wide : AreWidths ws) (f : Fit ws env) where
   args_fit ns es t = record { count = values_count env es ∙ args_count ws ns es t; below = values_below ns es t }
 
 -- the arguments of a verify or an update have the widths of the parameters
-checked_fits : (f : Form) → AreWidths f.widths → (last : Bool) (args : List Expr) (d : Deeds) → AreArguments f.widths (param_widths f) args → AreFit f d
-    → Fit (param_widths f) (checked_args last args d)
+checked_fits : (f : Form) → AreWidths f.widths → (last : Bool) (args : List Expr) (d : Deeds)
+    → AreArguments f.widths (param_widths f) args → AreFit f d → Fit (param_widths f) (checked_args last args d)
 checked_fits f wide true args d t k = args_fit f.widths d.env wide k.env (param_widths f) args t
 checked_fits f wide false args d t k = args_fit f.widths (all_values d) wide (whole_fit f d k) (param_widths f) args t
 
@@ -309,7 +309,8 @@ module _ (f : Form) (wide : AreWidths f.widths) (xs : List Memory) (ms : AreMemo
       let room = h.args in
       let kept = h.verified in
       let guessed = h.guess in
-      (all_safe f.widths (checked_values last d) wide (checked_fit f last d k) (param_widths f) args t, omega arith, omega arith, omega arith, whole_room d c n k h)
+      let checked = checked_values last d in
+      (all_safe f.widths checked wide (checked_fit f last d k) (param_widths f) args t, omega arith, omega arith, omega arith, whole_room d c n k h)
   safe_op SpecCheck d c n t k h = tt
   safe_op SpecBarrier d c n t k h = tt
   safe_op (AdviceBind x e) d c n t k h = (safe f.widths (all_values d) wide (whole_fit f d k) e t.1, whole_room d c n k h)

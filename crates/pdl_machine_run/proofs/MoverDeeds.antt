@@ -3,7 +3,7 @@ use Rattle.std.proofs.Common.{◌≡◌, refl, sym, ap, ◌∙◌, ℕ, zero, su
 use Rattle.std.proofs.lemmas.List.{drop_more}
 use Rattle.pdl_semantics.specs.Machine.{Pending}
 use Rattle.pdl_semantics.specs.Moves.{Act}
-use Rattle.pdl_semantics.specs.Cycle.{new_entries, with_reserves, all_releases, releases_of}
+use Rattle.pdl_semantics.specs.Cycle.{new_entries, with_reserves, all_releases}
 use Rattle.pdl_machine_run.specs.declared.stage.Stage as r_stage
 use Rattle.pdl_machine_run.specs.Acts.{mover_of, act_of, acts_of}
 

@@ -1,5 +1,5 @@
 -- The memories and the orders of forks before a cycle can take it, and have their widths and their room after it.
-use Rattle.std.proofs.Common.{◌≡◌, refl, sym, ap, ap₂, ◌∙◌, subst, ℕ, zero, suc, ◌+◌, ◌^◌, ◌<◌, ◌≤◌, Bool, true, false, if◌then◌else◌, List, [], ◌∷◌, ◌++◌, Option, is_some, take, map, length, get_or, slice_index_or, ◌⊎◌, inl, inr, arith}
+use Rattle.std.proofs.Common.{◌≡◌, refl, sym, ap, ap₂, ◌∙◌, subst, ℕ, zero, suc, ◌+◌, ◌^◌, ◌<◌, ◌≤◌, Bool, true, List, [], ◌∷◌, ◌++◌, Option, take, map, length, get_or, slice_index_or, ◌⊎◌, inl, inr, arith}
 use Rattle.std.specs.Prelude.{vec_capacity}
 use Rattle.pdl_semantics.specs.Flat.{Lock, Plain, Pipe}
 use Rattle.pdl_semantics.specs.Stages.{mem_at}
@@ -19,7 +19,7 @@ use Rattle.pdl_machine_run.specs.declared.stage.Stage as r_stage
 use Rattle.pdl_machine_run.specs.declared.beside.Beside as r_beside
 use Rattle.pdl_machine_run.specs.declared.beside.Order as r_order
 use Rattle.pdl_machine_run.specs.View.{seats, thread_in}
-use Rattle.pdl_machine_run.specs.Outside.{state_of, outside}
+use Rattle.pdl_machine_run.specs.Outside.{state_of}
 use Rattle.pdl_machine_run.specs.StageDeeds.{memory_at}
 use Rattle.pdl_machine_run.specs.Acts.{acts_of, IsCarried, AreDecided, both, left_of, memory_after, memories_after}
 use Rattle.pdl_machine_run.specs.Orders.{order_after}

@@ -1,5 +1,5 @@
 -- How many outputs a pipe has.
-use Rattle.std.specs.Prelude.{ℕ, Bool, ◌+◌, ◌*◌, if◌then◌else◌, List, [], ◌∷◌, length}
+use Rattle.std.specs.Prelude.{ℕ, Bool, ◌+◌, ◌*◌, if◌then◌else◌, List, ◌∷◌, length}
 use Rattle.pdl_semantics.specs.Flat.{Lock, Mem, Pipe, has_lock, is_delayed}
 use Rattle.pdl_semantics.specs.SecondWrites.{all_twice}
 

@@ -1,4 +1,4 @@
-use Rattle.std.proofs.Common.{◌≡◌, ◌∙◌, ap, List, map}
+use Rattle.std.proofs.Common.{◌∙◌, ap, List, map}
 use Rattle.pdl_semantics.specs.Flat.{list_all}
 use Rattle.pdl_semantics.specs.Machine.{Blocked, Reserved, reserves_of}
 use Rattle.pdl_machine_pending.specs.View.{reserved_view}

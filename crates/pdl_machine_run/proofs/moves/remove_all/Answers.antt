@@ -1,4 +1,4 @@
-use Rattle.std.proofs.Common.{◌≡◌, ◌<◌, ◌∙◌, length, arith}
+use Rattle.std.proofs.Common.{◌<◌, ◌∙◌, length, arith}
 use Rattle.std.proofs.lemmas.List.{get_or-set_other}
 use Rattle.pdl_machine_run.proofs.StageMoves.{stages_set, removed_more}
 use Rattle.pdl_machine_run.proofs.moves.remove_all.Goals as goal

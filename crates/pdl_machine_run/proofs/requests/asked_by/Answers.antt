@@ -1,4 +1,4 @@
-use Rattle.std.proofs.Common.{◌≡◌, ◌<◌, ◌+◌, ◌-◌, ◌∙◌, sym, ap, drop, length, arith}
+use Rattle.std.proofs.Common.{◌≡◌, ◌<◌, ◌+◌, ◌-◌, ◌∙◌, ap, drop, length, arith}
 use Rattle.pdl_semantics.specs.Cycle.{asked_by}
 use Rattle.pdl_machine_run.specs.View.{request_view}
 use Rattle.pdl_machine_run.specs.Acts.{acts_of}

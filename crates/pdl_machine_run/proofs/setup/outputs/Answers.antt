@@ -1,4 +1,4 @@
-use Rattle.std.proofs.Common.{◌≡◌, ◌∙◌, sym, ap, Bool, List, length}
+use Rattle.std.proofs.Common.{◌∙◌, sym, ap, Bool, List, length}
 use Rattle.std.proofs.lemmas.List.{length-map}
 use Rattle.pdl_semantics.specs.Flat.{Mem}
 use Rattle.pdl_form.specs.View.{mem_view}

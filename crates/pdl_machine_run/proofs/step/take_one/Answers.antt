@@ -1,7 +1,5 @@
-use Rattle.std.proofs.Common.{◌≡◌, ◌∙◌, ap, ap₂, ℕ, List, drop, length}
+use Rattle.std.proofs.Common.{◌∙◌, ap, ℕ, List, drop, length}
 use Rattle.std.specs.Prelude.{None}
-use Rattle.pdl_semantics.specs.Machine.{Pending}
-use Rattle.pdl_machine_pending.specs.Memory.{Memory}
 use Rattle.pdl_machine_run.specs.Acts.{given_by}
 use Rattle.pdl_machine_run.proofs.TakenOut.{oldest_in, one_word, one_out}
 use Rattle.pdl_machine_run.proofs.step.take_one.Goals as goal

@@ -1,4 +1,4 @@
-use Rattle.std.proofs.Common.{◌≡◌, ◌∙◌, sym, ap, ap₂, subst, ℕ, List, drop, length}
+use Rattle.std.proofs.Common.{◌∙◌, sym, ap, ap₂, subst, ℕ, List, drop, length}
 use Rattle.pdl_semantics.specs.Machine.{Pending}
 use Rattle.pdl_machine_pending.specs.Memory.{Memory, oldest, committed_to, AreWithin}
 use Rattle.pdl_machine_run.specs.Acts.{given_by}

@@ -9,7 +9,8 @@ use Rattle.pdl_machine_run.proofs.stmts.verify.Goals as goal
 
 pub settle-requires-clause-args : goal.settle-requires-clause-args
 settle-requires-clause-args c =
-    let room : vec_capacity c.check_args.new.deeds.args ≡ vec_capacity c.args.deeds.now.args = ap (λ (r : Capacities). r.args) c.check_args.ensures.capacities in
+    let room : vec_capacity c.check_args.new.deeds.args ≡ vec_capacity c.args.deeds.now.args =
+    ap (λ (r : Capacities). r.args) c.check_args.ensures.capacities in
     let long : length c.check_args.new.deeds.verified.items ≡ length c.args.args.now =
     ap (λ (ws : List ℕ). length ws) c.check_args.ensures.verified
     ∙ checked_count c.args.last (exprs_view c.args.args.now) (deeds_view c.args.deeds.now)
@@ -19,7 +20,8 @@ settle-requires-clause-args c =
 
 pub settle-requires-clause-guess : goal.settle-requires-clause-guess
 settle-requires-clause-guess c =
-    let room : vec_capacity c.check_args.new.deeds.guess ≡ vec_capacity c.args.deeds.now.guess = ap (λ (r : Capacities). r.guess) c.check_args.ensures.capacities in
+    let room : vec_capacity c.check_args.new.deeds.guess ≡ vec_capacity c.args.deeds.now.guess =
+    ap (λ (r : Capacities). r.guess) c.check_args.ensures.capacities in
     let long : length c.check_args.new.deeds.verified.items ≡ length c.args.args.now =
     ap (λ (ws : List ℕ). length ws) c.check_args.ensures.verified
     ∙ checked_count c.args.last (exprs_view c.args.args.now) (deeds_view c.args.deeds.now)
