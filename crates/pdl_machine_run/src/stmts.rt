@@ -206,7 +206,7 @@ fn correct(deeds: &mut Deeds)
     ensures deeds { deeds_view deeds.new
         ≡ after_verify deeds.old.verified.items (deeds_view deeds.old) }
     ensures capacities { capacities deeds.new ≡ capacities deeds.old }
-    ensures room { (n : ℕ) → HasRoomFor n deeds.old → HasRoomFor n deeds.new }
+    ensures room { (n : ℕ) → HasRoomFor (suc n) deeds.old → HasRoomFor n deeds.new }
 {
     if !same_args(deeds.verified.as_slice(), deeds.guess.as_slice()) {
         copy_words(deeds.verified.as_slice(), &mut deeds.args);
