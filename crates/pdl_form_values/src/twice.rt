@@ -1,8 +1,7 @@
 // Which memories some path reserves twice to write.
 ghost use Rattle.std.specs.Prelude.{◌≡◌, ◌&&◌, ◌++◌, IfOk};
 ghost use Rattle.pdl_semantics.specs.Flat.{list_all};
-ghost use Rattle.pdl_semantics.specs.Stages.{list_any};
-ghost use Rattle.pdl_semantics.specs.Sound.{is_write_reserve};
+ghost use Rattle.pdl_semantics.specs.Stages.{list_any, is_write_reserve};
 ghost use Rattle.pdl_form.specs.View.{act_view, guard_view, guards_view, stmt_view, stmts_view};
 ghost use Rattle.pdl_form.specs.FormView.{form};
 ghost use Rattle.pdl_semantics.specs.SecondWrites as writes;

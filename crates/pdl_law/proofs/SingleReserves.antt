@@ -8,9 +8,8 @@ use Rattle.pdl_semantics.specs.Tree as tree
 use Rattle.pdl_semantics.specs.Tree.{R, W, Variable, Separator, CombRead, Bind, SpecCall, DelayedRead, Write, Reserve, Block, Release, If, Call, Verify, Update, SpecCheck, SpecBarrier, Location, Stmt}
 use Rattle.pdl_semantics.specs.Flat
 use Rattle.pdl_semantics.specs.Flatten.{Var, flat, mem_of, var_of, flat_expr, is_advisory_mem, is_advised}
-use Rattle.pdl_semantics.specs.Sound.{is_write_reserve}
 use Rattle.pdl_semantics.specs.SecondWrites.{write_reserves}
-use Rattle.pdl_semantics.specs.Stages.{onpath}
+use Rattle.pdl_semantics.specs.Stages.{onpath, is_write_reserve}
 use Rattle.pdl_rules.specs.Places.{Place, Parameter, Statement, Branch, Guard, on_path}
 use Rattle.pdl_rules.specs.Parts.{location_of}
 use Rattle.pdl_rules.specs.Typed.{is_memory}

@@ -2,8 +2,7 @@
 use Rattle.std.proofs.Common.{◌≡◌, refl, sym, ap, ap₂, ◌∙◌, ℕ, suc, ◌≤◌, Bool, true, false, ◌&&◌, ◌||◌, not, List, [], ◌∷◌, ◌++◌, ◌==◌, cond, slice_index, arith}
 use Rattle.std.proofs.lemmas.Bool.{eqb-true}
 use Rattle.pdl_semantics.specs.Flat.{Guard, Stmt, list_all, takes_branch, all_hold}
-use Rattle.pdl_semantics.specs.Stages.{list_any, onpath}
-use Rattle.pdl_semantics.specs.Sound.{is_write_reserve}
+use Rattle.pdl_semantics.specs.Stages.{list_any, onpath, is_write_reserve}
 use Rattle.pdl_semantics.specs.SecondWrites.{write_reserves, same_truth, agrees_with, are_consistent, reserves_too, reserves_twice}
 
 both : (b c : Bool) → (b && c) ≡ true → (b ≡ true) × (c ≡ true)

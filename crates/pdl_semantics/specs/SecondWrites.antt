@@ -1,8 +1,7 @@
 -- Which memories some path reserves twice for writing: of these a cycle can commit two writes.
 use Rattle.std.specs.Prelude.{ℕ, suc, Bool, true, false, ◌&&◌, ◌||◌, not, List, [], ◌∷◌, ◌++◌, if◌then◌else◌, ◌==◌}
 use Rattle.pdl_semantics.specs.Flat.{Guard, Stmt, Mem, list_all}
-use Rattle.pdl_semantics.specs.Stages.{list_any}
-use Rattle.pdl_semantics.specs.Sound.{is_write_reserve}
+use Rattle.pdl_semantics.specs.Stages.{list_any, is_write_reserve}
 
 -- how many of these statements reserve memory m for writing
 abbrev pub write_reserves : ℕ → List Stmt → ℕ

@@ -2,7 +2,7 @@
 use Rattle.std.specs.Prelude.{IsTrue, ℕ, zero, suc, ◌+◌, ◌-◌, count_by, Bool, true, false, ◌&&◌, ◌||◌, not, List, [], ◌∷◌, ◌++◌, Option, Some, None, is_none, if◌then◌else◌, nat_lt, nat_le, ◌==◌, slice_index, length}
 use Rattle.pdl_semantics.specs.Flat.{is_advisory, Arrays, list_all, Op, Bind, CombRead, DelayedRead, Write, ReserveRead, ReserveWrite, Block, Release, Call, SpecCall, Verify, SpecCheck, SpecBarrier, AdviceBind, AdviceRead, AdviceWrite, Stmt, Mem, Branch, Pipe, value_of, values_of, start_env, word_at, Commit, of_mem}
 use Rattle.pdl_semantics.specs.Forms.{on_delayed_read, on_block, on_release}
-use Rattle.pdl_semantics.specs.Stages.{list_any, onpath, stage_at, sides_of, goes_to, is_verify, verify_stage}
+use Rattle.pdl_semantics.specs.Stages.{list_any, onpath, stage_at, sides_of, goes_to, is_verify, verify_stage, is_write_reserve}
 use Rattle.pdl_semantics.specs.Sequential.{Run, run_all, thread, seqwrites, after_turns}
 use Rattle.pdl_semantics.specs.Machine.{Awaited, Kept, Thread, Pending, Request, NoRequest, Owned, Orphan, State, lock_of, fork_of, request_of, HeldLocation, is_held, held_before, same_args, with_kept}
 use Rattle.pdl_semantics.specs.Moves.{block_ready}
@@ -152,25 +152,6 @@ is_write m SpecBarrier = false
 is_write m (AdviceBind x e) = false
 is_write m (AdviceRead x _ a) = false
 is_write m (AdviceWrite _ a e) = false
-
--- a reservation of memory m for writing
-abbrev pub is_write_reserve : ℕ → Op → Bool
-is_write_reserve m (ReserveWrite n a) = n == m
-is_write_reserve m (Bind x e) = false
-is_write_reserve m (CombRead x n a) = false
-is_write_reserve m (DelayedRead x n a) = false
-is_write_reserve m (Write n a e) = false
-is_write_reserve m (ReserveRead n a) = false
-is_write_reserve m (Block n a) = false
-is_write_reserve m (Release n a) = false
-is_write_reserve m (Call args) = false
-is_write_reserve m (SpecCall args) = false
-is_write_reserve m (Verify last args) = false
-is_write_reserve m SpecCheck = false
-is_write_reserve m SpecBarrier = false
-is_write_reserve m (AdviceBind x e) = false
-is_write_reserve m (AdviceRead x _ a) = false
-is_write_reserve m (AdviceWrite _ a e) = false
 
 -- the release of the location in memory m whose address is variable a
 abbrev pub is_release_at : ℕ → ℕ → Op → Bool

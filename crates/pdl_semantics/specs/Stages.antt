@@ -86,6 +86,25 @@ is_reserve m (AdviceBind x e) = false
 is_reserve m (AdviceRead x _ a) = false
 is_reserve m (AdviceWrite _ a e) = false
 
+-- a reservation of memory m for writing
+abbrev pub is_write_reserve : ℕ → Op → Bool
+is_write_reserve m (ReserveWrite n a) = n == m
+is_write_reserve m (Bind x e) = false
+is_write_reserve m (CombRead x n a) = false
+is_write_reserve m (DelayedRead x n a) = false
+is_write_reserve m (Write n a e) = false
+is_write_reserve m (ReserveRead n a) = false
+is_write_reserve m (Block n a) = false
+is_write_reserve m (Release n a) = false
+is_write_reserve m (Call args) = false
+is_write_reserve m (SpecCall args) = false
+is_write_reserve m (Verify last args) = false
+is_write_reserve m SpecCheck = false
+is_write_reserve m SpecBarrier = false
+is_write_reserve m (AdviceBind x e) = false
+is_write_reserve m (AdviceRead x _ a) = false
+is_write_reserve m (AdviceWrite _ a e) = false
+
 -- the release of a location in memory m
 abbrev pub is_release : ℕ → Op → Bool
 is_release m op = on_release (λ n a. n == m) false op

@@ -1,8 +1,7 @@
 -- How often a path reserves a memory for writing, where each delayed read has its answer at once.
 use Rattle.std.proofs.Common.{◌≡◌, refl, ap, ℕ, suc, ◌==◌, Bool, true, false, cond, if◌then◌else◌, List, [], ◌∷◌}
 use Rattle.pdl_semantics.specs.Flat.{Op, Bind, CombRead, DelayedRead, Write, ReserveRead, ReserveWrite, Block, Release, Call, SpecCall, Verify, SpecCheck, SpecBarrier, AdviceBind, AdviceRead, AdviceWrite, Stmt, all_hold}
-use Rattle.pdl_semantics.specs.Stages.{onpath}
-use Rattle.pdl_semantics.specs.Sound.{is_write_reserve}
+use Rattle.pdl_semantics.specs.Stages.{onpath, is_write_reserve}
 use Rattle.pdl_theory_derived.specs.Alone.{answered_op}
 use Rattle.pdl_theory_facts.specs.Scans.{write_reserves}
 use Rattle.pdl_theory_facts.specs.Facts.{looked_all}

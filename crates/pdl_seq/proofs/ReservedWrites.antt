@@ -3,7 +3,7 @@ use Rattle.std.proofs.Common.{◌≡◌, refl, sym, ap, ◌∙◌, subst, ℕ, �
 use Rattle.std.proofs.lemmas.Bool.{false≢true}
 use Rattle.pdl_semantics.specs.Flat.{Op, Bind, CombRead, DelayedRead, Write, ReserveRead, ReserveWrite, Block, Release, Call, SpecCall, Verify, SpecCheck, SpecBarrier, AdviceBind, AdviceRead, AdviceWrite, Stmt, Commit, of_mem, all_hold}
 use Rattle.pdl_semantics.specs.Sequential.{Run, run_after, run_all}
-use Rattle.pdl_semantics.specs.Sound.{is_write_reserve}
+use Rattle.pdl_semantics.specs.Stages.{is_write_reserve}
 use Rattle.pdl_theory_derived.specs.Alone.{is_among, is_oldest, drop_var, but_last}
 use Rattle.pdl_theory_derived.proofs.Writes.{and_left, and_right, of_mem_append}
 use Rattle.pdl_theory_facts.specs.Scans.{Phase, after_write, after_reserve, after_release, next_phase, may_write, phase_ok, phases_ok, write_reserves}

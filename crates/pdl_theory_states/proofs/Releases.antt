@@ -2,10 +2,10 @@
 use Rattle.std.proofs.Common.{◌≡◌, refl, sym, ap, ap₂, ◌∙◌, subst, ℕ, ◌<◌, Bool, true, false, ◌&&◌, ◌||◌, not, List, [], ◌∷◌, ◌++◌, Some, ◌==◌, nat_lt, cond, arith, ltb-true, ltb-false, lt-ltb}
 use Rattle.std.proofs.lemmas.Bool.{eqb-true, not-true, or_right}
 use Rattle.pdl_semantics.specs.Flat.{Pipe, Op, Bind, CombRead, DelayedRead, Write, ReserveRead, ReserveWrite, Block, Release, Call, SpecCall, Verify, SpecCheck, SpecBarrier, AdviceBind, AdviceRead, AdviceWrite, Stmt, Commit, all_hold, of_mem}
-use Rattle.pdl_semantics.specs.Stages.{list_any, onpath, is_release, commit_stage, verify_stage}
+use Rattle.pdl_semantics.specs.Stages.{list_any, onpath, is_release, commit_stage, verify_stage, is_write_reserve}
 use Rattle.pdl_semantics.specs.Machine.{State, HeldLocation}
 use Rattle.pdl_semantics.specs.Sequential.{Run, thread}
-use Rattle.pdl_semantics.specs.Sound.{stages_before, stages_from, is_write_reserve, has_released}
+use Rattle.pdl_semantics.specs.Sound.{stages_before, stages_from, has_released}
 use Rattle.pdl_theory_derived.specs.Derived.{Entry, no_hint}
 use Rattle.pdl_semantics.specs.Sound
 use Rattle.pdl_theory_derived.specs.Alone.{World, before, answered_op, is_nil, is_among, is_oldest, drop_var, but_last}

@@ -2,10 +2,9 @@
 use Rattle.std.proofs.Common.{◌≡◌, refl, sym, ap, ap₂, ◌∙◌, subst, ℕ, suc, ◌+◌, ◌≤◌, Bool, true, false, List, [], ◌∷◌, ◌++◌, ◌==◌, cond, Some, arith, append-nil}
 use Rattle.std.proofs.lemmas.Bool.{and_from}
 use Rattle.pdl_semantics.specs.Flat.{list_all, Op, DelayedRead, ReserveWrite, Verify, Stmt, Pipe, all_hold}
-use Rattle.pdl_semantics.specs.Stages.{onpath, in_stage, mem_at}
+use Rattle.pdl_semantics.specs.Stages.{onpath, in_stage, mem_at, is_write_reserve}
 use Rattle.pdl_semantics.specs.Locks.{has_room}
 use Rattle.pdl_semantics.specs.Machine.{Reserved, reserves_of, same_args}
-use Rattle.pdl_semantics.specs.Sound.{is_write_reserve}
 use Rattle.pdl_theory_derived.specs.Derived.{Work, Around, Thread, work_after, do_all, work_of_stage, have_room, said}
 use Rattle.pdl_theory_derived.specs.Alone.{answered_op}
 use Rattle.pdl_semantics.proofs.Readiness.{room_fewer}
