@@ -15,8 +15,8 @@ parts : (test : Place → Bool) (before xs ys : List Place)
     → first_stage test before (xs ++ ys) ≡ earlier_of (first_stage test before xs) (first_stage test (before ++ xs) ys)
 parts test before [] ys = ap (λ b. first_stage test b ys) (sym (append-nil before))
 parts test before (x ∷ xs) ys = at (test x) (
-      parts test (before ++ x ∷ []) xs ys
-      ∙ ap (λ b. earlier_of (first_stage test (before ++ x ∷ []) xs) (first_stage test b ys)) (append_assoc before (x ∷ []) xs))
+    parts test (before ++ x ∷ []) xs ys
+    ∙ ap (λ b. earlier_of (first_stage test (before ++ x ∷ []) xs) (first_stage test b ys)) (append_assoc before (x ∷ []) xs))
   where
     at : (b : Bool)
         → first_stage test (before ++ x ∷ []) (xs ++ ys)

@@ -50,7 +50,7 @@ loop-k-preserved c =
           let is : is_update x ≡ false = sym c.is_update.ensures ∙ w.if-is_update.false in (
             w.first-is ∙ c.loop-k.invariant.0 ∙ sym (first_passed is_update xs k x got is),
             one_place (breaks_at breaks_s7 xs) k c.loop-k.invariant.1
-            (ap (is_some_and (breaks_s7 (take k xs))) got ∙ ap (λ a. a && is_elsewhere is_update (take k xs) (stage_of (take k xs) x)) is),
+                (ap (is_some_and (breaks_s7 (take k xs))) got ∙ ap (λ a. a && is_elsewhere is_update (take k xs) (stage_of (take k xs) x)) is),
           )
     ]
 
