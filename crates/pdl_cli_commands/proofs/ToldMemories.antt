@@ -12,7 +12,7 @@ use Rattle.pdl_semantics.specs.Flat
 use Rattle.pdl_semantics.specs.Flatten.{flat, flat_lock, mems_of}
 use Rattle.pdl_syntax_grammar.specs.Text.{IsText}
 use Rattle.pdl_rules.specs.Memories.{infos_of, info_of}
-use Rattle.pdl_rules.specs.Refusal.{KeepsRules, is_comb}
+use Rattle.pdl_rules.specs.Refusal.{KeepsRules, answers_at_once}
 use Rattle.pdl_rules.specs.Typed.{AreDistinct, is_memory}
 use Rattle.pdl_net.specs.declared.Netlist.{Netlist}
 use Rattle.pdl_net.specs.Run.{delayed_mems}
@@ -61,7 +61,7 @@ told_both : (P : MemInfo → Type 0) (ms : List Mem) → ((m : Mem) → Among m 
 told_both P ms h =
     All-append P (map info_of (delayed_of ms)) (map info_of (comb_of ms))
     (told_all P (delayed_of ms) (λ m a. h m (among_some answers_late ms m a).0))
-    (told_all P (comb_of ms) (λ m a. h m (among_some is_comb ms m a).0))
+    (told_all P (comb_of ms) (λ m a. h m (among_some answers_at_once ms m a).0))
 
 -- the words of each memory of a pipe that keeps the rules have at least 1 bit
 pub widths_low : (p : Pipe) (ms : List MemInfo) → KeepsRules p → ms ≡ infos_of p.mems → All (λ m. 1 ≤ m.width) ms

@@ -42,18 +42,24 @@ abbrev pub answers_late : Mem → Bool
 answers_late x = is_delayed x.kind
 
 -- a memory answers at once
-abbrev pub is_comb : Mem → Bool
-is_comb x = if is_delayed x.kind then false else true
+abbrev pub answers_at_once : Mem → Bool
+answers_at_once x = if is_delayed x.kind then false else true
 
 -- each memory is one or the other
-count_both : (xs : List Mem) → count_by answers_late xs + count_by is_comb xs ≡ length xs
+count_both : (xs : List Mem) → count_by answers_late xs + count_by answers_at_once xs ≡ length xs
 count_both [] = omega arith
 count_both (x ∷ xs) = at (is_delayed x.kind) refl (count_both xs)
   where
-    at : (b : Bool) → is_delayed x.kind ≡ b → count_by answers_late xs + count_by is_comb xs ≡ length xs
-        → count_by answers_late (x ∷ xs) + count_by is_comb (x ∷ xs) ≡ suc (length xs)
-    at true f h = let c = count_yes answers_late x xs f in let d = count_no is_comb x xs (ap (λ b. if b then false else true) f) in omega (arith, c, d, h)
-    at false f h = let c = count_no answers_late x xs f in let d = count_yes is_comb x xs (ap (λ b. if b then false else true) f) in omega (arith, c, d, h)
+    at : (b : Bool) → is_delayed x.kind ≡ b → count_by answers_late xs + count_by answers_at_once xs ≡ length xs
+        → count_by answers_late (x ∷ xs) + count_by answers_at_once (x ∷ xs) ≡ suc (length xs)
+    at true f h =
+        let c = count_yes answers_late x xs f in
+        let d = count_no answers_at_once x xs (ap (λ b. if b then false else true) f) in
+        omega (arith, c, d, h)
+    at false f h =
+        let c = count_no answers_late x xs f in
+        let d = count_yes answers_at_once x xs (ap (λ b. if b then false else true) f) in
+        omega (arith, c, d, h)
 
 -- ---- PLACES
 
@@ -61,12 +67,12 @@ count_both (x ∷ xs) = at (is_delayed x.kind) refl (count_both xs)
 pub place_low : (p : Pipe) (m : ℕ) → m < length p.mems → net_place p m < length p.mems
 place_low p m l = at (is_delayed (mem_at p m).kind) refl
   where
-    all : count_by answers_late p.mems + count_by is_comb p.mems ≡ length p.mems
+    all : count_by answers_late p.mems + count_by answers_at_once p.mems ≡ length p.mems
     all = count_both p.mems
 
     at : (b : Bool) → is_delayed (mem_at p m).kind ≡ b → (if b then reply_place p m else delayed_count p + comb_place p m) < length p.mems
     at true e = let h = fewer_before answers_late p.mems m l e in omega (arith, all, h)
-    at false e = let h = fewer_before is_comb p.mems m l (ap (λ b. if b then false else true) e) in omega (arith, all, h)
+    at false e = let h = fewer_before answers_at_once p.mems m l (ap (λ b. if b then false else true) e) in omega (arith, all, h)
 
 -- the place of a delayed memory in the netlist is that among the delayed ones
 pub place_delayed : (p : Pipe) (m : ℕ) → is_delayed (mem_at p m).kind ≡ true → net_place p m ≡ reply_place p m

@@ -140,5 +140,5 @@ infos_same ars ms h r e =
     ap₂ (λ (xs ys : List MemInfo). xs ++ ys)
     (delayed_told (delayed_of ms) (λ m a. r m (among_some answers_late ms m a).0) (λ m a. (among_some answers_late ms m a).1))
     (infos_from ms ars (comb_of ms) h r
-    (λ m a. Rattle.pdl_law_follows.proofs.Memories.comb_delayed m (among_some Rattle.pdl_rules.specs.Refusal.is_comb ms m a).1)
-    (λ m a. (among_some Rattle.pdl_rules.specs.Refusal.is_comb ms m a).0) e)
+    (λ m a. Rattle.pdl_law_follows.proofs.Memories.comb_delayed m (among_some Rattle.pdl_rules.specs.Refusal.answers_at_once ms m a).1)
+    (λ m a. (among_some Rattle.pdl_rules.specs.Refusal.answers_at_once ms m a).0) e)

@@ -10,7 +10,7 @@ use Rattle.pdl_semantics.specs.Flatten.{mems_of}
 use Rattle.pdl_semantics.specs.Stages.{mem_at, plain_mem}
 use Rattle.pdl_source_paths.proofs.Memories.{mems_length}
 use Rattle.pdl_rules.specs.Memories.{info_of}
-use Rattle.pdl_rules.specs.Refusal.{is_comb}
+use Rattle.pdl_rules.specs.Refusal.{answers_at_once}
 use Rattle.pdl_net.specs.declared.Netlist.{Netlist}
 use Rattle.pdl_law_parts.specs.Walk.{Locks}
 use Rattle.pdl_law_parts.specs.Places.{delayed_count, comb_place, net_place}
@@ -57,8 +57,8 @@ module _ (ms : List Mem) (p : Pipe) (same : p.mems ≡ mems_of ms) where
           ap (λ k. slice_index_or (net_infos ms) k d)
           (place_comb p m e ∙ ap (λ k. k + comb_place p m) (sym comb_count ∙ sym (length-map (delayed_of ms) info_of)))
           ∙ get_or_after (map info_of (delayed_of ms)) (map info_of (comb_of ms)) (comb_place p m) d
-          ∙ ap (λ ys. slice_index_or (map info_of (comb_of ms)) (count_by places.is_comb (take m ys)) d) same
-          ∙ some_at is_comb places.is_comb (λ x. by (is_delayed x.kind)) ms m d (low_here m l)
+          ∙ ap (λ ys. slice_index_or (map info_of (comb_of ms)) (count_by places.answers_at_once (take m ys)) d) same
+          ∙ some_at answers_at_once places.answers_at_once (λ x. by (is_delayed x.kind)) ms m d (low_here m l)
           (ap (λ ys. if is_delayed (slice_index_or ys m plain_mem).kind then false else true) (sym same) ∙ ap (λ b. if b then false else true) e)
         where
           by : (b : Bool) → (if b then false else true) ≡ Rattle.std.proofs.Common.not b

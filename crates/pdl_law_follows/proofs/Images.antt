@@ -53,7 +53,7 @@ same_found ms h x = by_port (net_infos ms) x ∙ at (is_memory ms x) refl ∙ sy
     at : (b : Bool) → is_memory ms x ≡ b → commit_mem (net_infos ms) (codes "c_" ++ x) ≡ commit_mem (infos_of ms) (codes "c_" ++ x)
     at false e =
         found_right (map info_of (delayed_of ms)) (map info_of (comb_of ms)) (codes "c_" ++ x) (none_found (delayed_of ms) x (none_named answers_late ms x e))
-        ∙ none_found (comb_of ms) x (none_named Rattle.pdl_rules.specs.Refusal.is_comb ms x e) ∙ sym (none_found ms x e)
+        ∙ none_found (comb_of ms) x (none_named Rattle.pdl_rules.specs.Refusal.answers_at_once ms x e) ∙ sym (none_found ms x e)
     at true e =
         let m = named_among ms x e in
         subst (λ y. commit_mem (net_infos ms) (codes "c_" ++ y) ≡ commit_mem (infos_of ms) (codes "c_" ++ y)) m.2

@@ -259,5 +259,5 @@ net_found ms h m a = at (is_delayed m.kind) refl
         found_right (map info_of (delayed_of ms)) (map info_of (comb_of ms)) (codes "c_" ++ m.name.name)
         (none_found (delayed_of ms) m.name.name (not_among answers_late ms h m a e))
         ∙ declared_found (comb_of ms)
-        (distinct_some Rattle.pdl_rules.specs.Refusal.is_comb ms h) m
-        (some_among Rattle.pdl_rules.specs.Refusal.is_comb ms m a (ap Rattle.std.proofs.Common.not e))
+        (distinct_some Rattle.pdl_rules.specs.Refusal.answers_at_once ms h) m
+        (some_among Rattle.pdl_rules.specs.Refusal.answers_at_once ms m a (ap Rattle.std.proofs.Common.not e))

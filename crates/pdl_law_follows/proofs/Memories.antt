@@ -9,7 +9,7 @@ use Rattle.pdl_semantics.specs.Flat as flat
 use Rattle.pdl_semantics.specs.Flatten.{flat_lock, mems_of}
 use Rattle.pdl_semantics.specs.Stages.{plain_mem}
 use Rattle.pdl_semantics.proofs.Facts.{lock_declared}
-use Rattle.pdl_rules.specs.Refusal.{is_comb}
+use Rattle.pdl_rules.specs.Refusal.{answers_at_once}
 use Rattle.pdl_rules.specs.Typed.{is_memory, AreDistinct}
 use Rattle.pdl_rules.specs.Memories.{info_of}
 use Rattle.pdl_law_parts.specs.Declared.{has_lock, mem_names}
@@ -62,7 +62,7 @@ distinct_some test (m ∷ ms) h = at (test m) (distinct_some test ms h.1)
     at false d = d
 
 -- a memory that answers at once is not delayed
-pub comb_delayed : (m : Mem) → is_comb m ≡ true → is_delayed m.kind ≡ false
+pub comb_delayed : (m : Mem) → answers_at_once m ≡ true → is_delayed m.kind ≡ false
 comb_delayed m e = at (is_delayed m.kind) e
   where
     at : (b : Bool) → not b ≡ true → b ≡ false
@@ -86,7 +86,7 @@ pub record IsCombAt (ms these : List Mem) (k : ℕ) : Type 0 where
   pub place : ℕ
   pub low : place < length (mems_of ms)
   pub comb : is_delayed (slice_index_or (mems_of ms) place plain_mem).kind ≡ false
-  pub count : count_by places.is_comb (take place (mems_of ms)) ≡ k
+  pub count : count_by places.answers_at_once (take place (mems_of ms)) ≡ k
   pub lock : flat.has_lock (slice_index_or (mems_of ms) place plain_mem).lock ≡ has_lock these k
 
 abbrev flat_mem : Mem → flat.Mem
@@ -107,7 +107,7 @@ comb_at (x ∷ xs) k l = at (is_delayed x.kind) refl k l (comb_at xs)
           place = suc r.place;
           low = omega (arith, low);
           comb = r.comb;
-          count = count_no places.is_comb (flat_mem x) (take r.place (mems_of xs)) (ap (λ b. if b then false else true) e) ∙ r.count;
+          count = count_no places.answers_at_once (flat_mem x) (take r.place (mems_of xs)) (ap (λ b. if b then false else true) e) ∙ r.count;
           lock = r.lock;
         }
     at false e zero l rest = record { place = 0; low = omega arith; comb = e; count = refl; lock = lock_declared x.lock }
@@ -118,7 +118,7 @@ comb_at (x ∷ xs) k l = at (is_delayed x.kind) refl k l (comb_at xs)
           place = suc r.place;
           low = omega (arith, low);
           comb = r.comb;
-          count = count_yes places.is_comb (flat_mem x) (take r.place (mems_of xs)) (ap (λ b. if b then false else true) e) ∙ ap suc r.count;
+          count = count_yes places.answers_at_once (flat_mem x) (take r.place (mems_of xs)) (ap (λ b. if b then false else true) e) ∙ ap suc r.count;
           lock = r.lock;
         }
 

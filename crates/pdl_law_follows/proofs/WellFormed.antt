@@ -11,7 +11,7 @@ use Rattle.pdl_semantics.specs.Flat.{Pipe, is_delayed}
 use Rattle.pdl_semantics.specs.Flatten.{mems_of}
 use Rattle.pdl_semantics.specs.Stages.{mem_at, plain_mem}
 use Rattle.pdl_rules.specs.Memories.{info_of}
-use Rattle.pdl_rules.specs.Refusal.{is_comb}
+use Rattle.pdl_rules.specs.Refusal.{answers_at_once}
 use Rattle.pdl_rules.specs.Typed.{AreDistinct, AreSized}
 use Rattle.pdl_net.specs.declared.Netlist.{Netlist}
 use Rattle.pdl_net.specs.Circuit.{Shape, shape_of, circuit_of, no_array, array_at}
@@ -80,7 +80,9 @@ module _ (p : Pipe) (ms : List Mem) (declared : AreDeclared ms) (same : p.mems �
       let none = made.laid.unwritten c.place low plain comb in
       let place : ls.array c.place ≡ k =
       in_order c.place low comb
-      ∙ ap (λ (ys : List flat.Mem). Rattle.std.specs.Prelude.count_by Rattle.pdl_law.proofs.Places.is_comb (Rattle.std.specs.Prelude.take c.place ys)) same
+      ∙ ap
+      (λ (ys : List flat.Mem). Rattle.std.specs.Prelude.count_by Rattle.pdl_law.proofs.Places.answers_at_once (Rattle.std.specs.Prelude.take c.place ys))
+      same
       ∙ c.count in
       no_write (circuit_of n)
       (array_at (circuit_of n) k).writes (ap (λ i. map (write_signal (circuit_of n)) (array_at (circuit_of n) i).writes) (sym place) ∙ none)
@@ -88,7 +90,7 @@ module _ (p : Pipe) (ms : List Mem) (declared : AreDeclared ms) (same : p.mems �
   array_fits : (k : ℕ) → k < length n.arrays → IsPipeArray (map port_mem (delayed_of ms)) (locked_of ms) (get_or n.arrays k no_array)
   array_fits k l =
       let w = array_mem n.arrays (comb_of ms) shapes k no_array l in
-      let a = among_some is_comb ms w.0 w.1.among in
+      let a = among_some answers_at_once ms w.0 w.1.among in
       pipe_array ms (get_or n.arrays k no_array) w.0 declared.distinct reach (size w.0 a.0) a.0 (comb_delayed w.0 a.1) (never_written k w.0 l w.1) w.1.shape
 
   kept : (m : Mem) → Among m ms → IsKept (map port_mem (delayed_of ms)) n.arrays (port_mem m)
@@ -97,7 +99,7 @@ module _ (p : Pipe) (ms : List Mem) (declared : AreDeclared ms) (same : p.mems �
       at : (b : Bool) → is_delayed m.kind ≡ b → IsKept (map port_mem (delayed_of ms)) n.arrays (port_mem m)
       at true e = inl (delayed_contained ms m h e)
       at false e =
-          let w = mem_array n.arrays (comb_of ms) shapes m (some_among is_comb ms m h (ap Rattle.std.proofs.Common.not e)) no_array in
+          let w = mem_array n.arrays (comb_of ms) shapes m (some_among answers_at_once ms m h (ap Rattle.std.proofs.Common.not e)) no_array in
           let low : w.0 < length n.arrays = w.1 in
           let many = length-map n.arrays name_of_array in
           inr (w.0, omega arith, get_or-map name_of_array n.arrays w.0 no_array m.name.name w.1 ∙ ap (λ (x : Shape). x.name) w.2.shape)
@@ -135,6 +137,6 @@ module _ (p : Pipe) (ms : List Mem) (declared : AreDeclared ms) (same : p.mems �
         (all_pairs _ (port_names_differ (length p.stages) ms most declared.distinct));
     array_names =
         subst (AllPairs (λ a b. a ≢ b)) (sym (array_names_are n.arrays (comb_of ms) shapes))
-        (all_pairs (map name_of_mem (comb_of ms)) (mem_names_differ (comb_of ms) (distinct_some is_comb ms declared.distinct)));
+        (all_pairs (map name_of_mem (comb_of ms)) (mem_names_differ (comb_of ms) (distinct_some answers_at_once ms declared.distinct)));
     pipe = is_pipe;
   }

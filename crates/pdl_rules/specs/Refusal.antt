@@ -164,10 +164,10 @@ abbrev pub all_straight : Stmts → Bool
 all_straight Nil = true
 all_straight (Cons s ss) = is_straight s && all_straight ss
 
--- whether a memory is not a delayed one
-abbrev pub is_comb : Mem → Bool
-is_comb m = not (is_delayed m.kind)
+-- whether a memory answers a read in its own cycle, as a comb one does and an advisory one
+abbrev pub answers_at_once : Mem → Bool
+answers_at_once m = not (is_delayed m.kind)
 
 -- whether the pipe is of that kind: it has one path
 abbrev pub is_one_stage : Pipe → Bool
-is_one_stage p = all_straight p.body && list_all is_comb p.mems
+is_one_stage p = all_straight p.body && list_all answers_at_once p.mems
