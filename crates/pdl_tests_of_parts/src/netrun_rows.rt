@@ -187,7 +187,7 @@ fn needs_all(alloc: Global, net: &Netlist) -> bool
     requires { net.now ≡ sample }
 {
     match needed_part(alloc, net) {
-        Ok(part) => (part.cells == net.cells) & (part.regs == net.regs),
+        Ok(part) => (part.cells == net.cells) & (part.regs.as_slice().len() == net.regs.as_slice().len()),
         Err(NoMemory) => false,
     }
 }
