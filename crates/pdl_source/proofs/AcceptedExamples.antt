@@ -6,8 +6,7 @@ use Rattle.pdl_semantics.specs.Flatten.{flat}
 use Rattle.pdl_semantics.specs.Promises.{Refines}
 use Rattle.pdl_semantics.proofs.Texts.{constant, variable, slice, separator, bind, call, if_else, pipe}
 use Rattle.pdl_semantics.proofs.Pipes.{shared_guard, copy_guessed, count_slow, two_branches, guess_learnt, guess_kept}
-use Rattle.pdl_rules.specs.Refusal.{first_broken, limits, after_limits}
-use Rattle.pdl_rules.proofs.Judged.{judged}
+use Rattle.pdl_rules.specs.Refusal.{breaks_rule, first_broken, first_by, limits, after_limits}
 use Rattle.pdl_rules.proofs.Unbroken.{keeps_accepted, keeps_unbroken}
 use Rattle.pdl_theory_facts.specs.SoundChecks.{passes_tests}
 use Rattle.pdl_theory.proofs.SoundExamples.{passed_by}
@@ -21,7 +20,7 @@ rules_of p = (first_broken (limits ++ after_limits) p ≡ None) × (is_source p 
 
 -- it keeps the rules and is as sources are; it may have forms that are refused for want of a circuit
 abbrev keeps_rules : Pipe → Type 0
-keeps_rules p = (judged p ≡ None) × (is_source p ≡ true) × (is_named p ≡ true)
+keeps_rules p = (first_by breaks_rule (limits ++ after_limits) p ≡ None) × (is_source p ≡ true) × (is_named p ≡ true)
 
 guards_keep : rules_of shared_guard
 guards_keep = (refl, refl, refl)
