@@ -4,7 +4,7 @@
     gate.py [--sizes]
 
 To be run at the top of a clone, on a machine with nothing else to do. It runs `rt ci` from nothing, looks once a second at
-the provers that this starts, and adds up the processor seconds of each crate: of its proof, of that of its tests, and
+the provers that this starts, and no others, and adds up the processor seconds of each crate: of its proof, of that of its tests, and
 of its edits with the checks that these begin and end with. With --sizes nothing is proved: the lines and edits are
 counted anew, and the seconds stay as they stand in the table. docs/measured.md has the time of the whole.
 """
@@ -48,12 +48,13 @@ def crate_and_kind(words):
     return crate, "edits" if is_edit else "proof"
 
 
-def told_by_ancestors(process, found):
-    """What the nearest of a process and those that started it is at work on."""
+def told_by_ancestors(process, found, gate):
+    """What the nearest of a process and those that started it is at work on, where the gate started it."""
+    told = None
     while process in found:
-        told = crate_and_kind(found[process][1])
-        if told:
+        if process == gate:
             return told
+        told = told or crate_and_kind(found[process][1])
         process = found[process][0]
     return None
 
@@ -72,7 +73,7 @@ def run_gate():
     while gate.poll() is None:
         found = processes()
         for process, (_, _, seconds, start) in found.items():
-            told = told_by_ancestors(process, found)
+            told = told_by_ancestors(process, found, gate.pid)
             if told:
                 seen[process, start] = told, seconds
         time.sleep(1)
