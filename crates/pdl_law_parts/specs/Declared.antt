@@ -10,7 +10,7 @@ use Rattle.pdl_rules.specs.Widths.{address_bits}
 use Rattle.pdl_net.specs.Circuit.{Shape}
 use Rattle.pdl_net.specs.Pipe.{PortMem}
 use Rattle.pdl_net.specs.Signal.{Signal}
-use Rattle.pdl_law_parts.specs.Ports.{Commit}
+use Rattle.pdl_law_parts.specs.Ports.{Commit, Commits}
 use Rattle.pdl_law_parts.specs.Views.{View, Gates}
 
 -- the name of a memory by its number
@@ -34,18 +34,18 @@ array_words (Some l) d = words_of l.kind d
 abbrev pub shape_of_mem : Mem → Shape
 shape_of_mem m = record { name = m.name.name; width = m.width.value; depth = array_words m.lock m.depth.value }
 
--- a memory as its ports tell it
-abbrev pub port_mem : Mem → PortMem
-port_mem m = record { name = m.name.name; width = m.width.value; bits = address_bits m.depth.value }
+-- a memory as its ports tell it, where this says whether some path reserves it twice for writing
+abbrev pub port_mem : Bool → Mem → PortMem
+port_mem twice m = record { name = m.name.name; width = m.width.value; bits = address_bits m.depth.value; twice = twice }
 
 -- what stands for a memory in a list of the locked ones
 abbrev pub if_locked : {X : Type 0} → Mem → List X → List X
 if_locked m xs = if is_some m.lock then xs else []
 
--- the memories with a lock, in order
-abbrev pub locked_of : List Mem → List PortMem
-locked_of [] = []
-locked_of (m ∷ ms) = if_locked m (port_mem m ∷ []) ++ locked_of ms
+-- the memories with a lock, in order, where this says of each memory by its number whether some path reserves it twice; the first has the number k
+abbrev pub locked_of : (ℕ → Bool) → ℕ → List Mem → List PortMem
+locked_of twice k [] = []
+locked_of twice k (m ∷ ms) = if_locked m (port_mem (twice k) m ∷ []) ++ locked_of twice (suc k) ms
 
 -- memories that keep the rules on names and sizes, of which none is delayed
 pub record AreDeclared (ms : List Mem) : Type 0 where
@@ -62,9 +62,10 @@ pub record FitsMem (m : Mem) (x : Commit) : Type 0 where
   pub value : x.value.width ≡ m.width.value
 
 -- what each of these memories that has a lock commits fits it; the first has the number k
-abbrev pub CommitsFit : (ℕ → Commit) → ℕ → List Mem → Type 0
+abbrev pub CommitsFit : (ℕ → Commits) → ℕ → List Mem → Type 0
 CommitsFit commits k [] = Rattle.std.specs.Prelude.⊤
-CommitsFit commits k (m ∷ ms) = (is_some m.lock ≡ true → FitsMem m (commits k)) × CommitsFit commits (suc k) ms
+CommitsFit commits k (m ∷ ms) =
+    (is_some m.lock ≡ true → FitsMem m (commits k).first × FitsMem m (commits k).second) × CommitsFit commits (suc k) ms
 
 -- each stage's outputs have one bit, and so has that of squashes
 pub record AreBitsWide (vs : ℕ → View) (gates : Gates) (moves : ℕ → Signal) (n : ℕ) : Type 0 where
