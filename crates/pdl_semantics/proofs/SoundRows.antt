@@ -264,7 +264,7 @@ after_two p = state_after (flat p) (first (flat p) (arrays_of (zeros ∷ []))) (
 abbrev is_sound_with : (State → State) → Tree.Pipe → Bool
 is_sound_with change p = is_sound (flat p) (arrays_of (zeros ∷ [])) 0 (change (after_two p))
 
--- thread 2 and its pending write get the number of thread 1
+-- thread 2 gets the number of thread 1, also in pending writes
 abbrev as_first : ℕ → ℕ
 as_first n = if n == 2 then 1 else n
 
@@ -279,7 +279,7 @@ renumbered st =
       locks = map all_owned st.locks;
     }
 
-same_number_unsound : is_sound_with renumbered (count_up Bypass 4) ≡ false
+same_number_unsound : is_sound_with renumbered (guess 1) ≡ false
 unfolding add slice zext
 same_number_unsound = refl
 

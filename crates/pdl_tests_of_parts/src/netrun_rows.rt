@@ -189,7 +189,11 @@ fn are_same(one: Reg, other: Reg) -> bool {
 
 // Whether two lists hold the same registers.
 fn have_same(ones: &[Reg], others: &[Reg]) -> bool {
-    (ones.len() == others.len()) & ones.iter().zip(others).all(|(one, other)| are_same(*one, *other))
+    (ones.len() == others.len())
+        & ones
+            .iter()
+            .zip(others)
+            .all(|(one, other)| are_same(*one, *other))
 }
 
 // Whether its part that is needed is the whole.
@@ -197,7 +201,8 @@ fn needs_all(alloc: Global, net: &Netlist) -> bool
     requires { net.now ≡ sample }
 {
     match needed_part(alloc, net) {
-        Ok(part) => (part.cells == net.cells) & have_same(part.regs.as_slice(), net.regs.as_slice()),
+        Ok(part) => (part.cells == net.cells)
+            & have_same(part.regs.as_slice(), net.regs.as_slice()),
         Err(NoMemory) => false,
     }
 }
