@@ -48,7 +48,8 @@ pub record IsStage (p : Pipe) (ls : Locks) (c : Circuit) (vs : ℕ → View) (ga
   pub guess : (i : ℕ) → i < length p.start → verifies_from p k ≡ true
       → Becomes c (slice_index_or (vs k).begun.guess i no_signal)
       (first_coming (λ (o : Comer). o.guess i) (comers p vs moves k) (slice_index_or (vs k).begun.guess i no_signal))
-  -- a thread's ticket of a lock is the next one up to the stage of the reserves, and goes with it up to that of the releases
+  -- a thread's ticket of a lock, with the bits of tickets, is the next one up to the stage of the reserves, and goes with it up to that of the releases
+  pub tickets_wide : (m : ℕ) → is_locked p m ≡ true → ((vs k).tickets m).width ≡ ls.bits m
   pub tickets_first : (m : ℕ) → is_locked p m ≡ true → k ≤ reserve_stage p m → Same c ((vs k).tickets m) (ls.ticket m)
   pub tickets : (m : ℕ) → is_locked p m ≡ true → reserve_stage p m < k → k ≤ commit_stage p m
       → Becomes c ((vs k).tickets m) (first_coming (λ (o : Comer). o.tickets m) (comers p vs moves k) ((vs k).tickets m))
