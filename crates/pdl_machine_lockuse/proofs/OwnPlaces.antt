@@ -12,6 +12,7 @@ use Rattle.pdl_theory_derived.proofs.Entries.{entry, Open, waiting, open_vars}
 use Rattle.pdl_theory_derived.proofs.Lists.{own, pend}
 use Rattle.pdl_theory_turns.proofs.Steps.{AreGiven, AllUsed, is_used}
 use Rattle.pdl_lockapi.specs.Forget.{has_place, place_of, IsOnce}
+use Rattle.pdl_lockapi.proofs.Places.{place_front}
 use Rattle.pdl_theory_states.proofs.FetchCounts.{any_front}
 use Rattle.pdl_machine_lockuse.specs.Use.{written_in, is_open, AreOwn}
 use Rattle.pdl_machine_lockuse.proofs.Reservations.{one_if}
@@ -48,34 +49,6 @@ turn_more m n es k (x ∷ ws) w t h = (t.0, turn_more m n es (cond (x.mem == m) 
     at : (b : Bool) → k + cond b (suc (written_in m ws)) (written_in m ws) ≡ cond b (suc k) k + written_in m ws
     at true = omega arith
     at false = refl
-
--- entries put behind a list leave the place of what has one in it
-place_front : (n y : ℕ) (xs ys : List Pending) → has_place n y xs ≡ true
-    → (has_place n y (xs ++ ys) ≡ true) × (place_of n y (xs ++ ys) ≡ place_of n y xs)
-place_front n y [] ys h = absurd (cc h)
-place_front n y (x ∷ xs) ys h = at ((x.thread == n) && (x.var == y)) h (place_front n y xs ys)
-  where
-    at : (b : Bool) → cond b true (has_place n y xs) ≡ true
-        → (has_place n y xs ≡ true → (has_place n y (xs ++ ys) ≡ true) × (place_of n y (xs ++ ys) ≡ place_of n y xs))
-        → (cond b true (has_place n y (xs ++ ys)) ≡ true) × (cond b 0 (suc (place_of n y (xs ++ ys))) ≡ cond b 0 (suc (place_of n y xs)))
-    at true k f = (refl, refl)
-    at false k f = let i = f k in (i.0, ap suc i.1)
-
--- what has no place in a list has its place behind it as many later
-pub place_behind : (n y : ℕ) (xs ys : List Pending) → has_place n y xs ≡ false
-    → (has_place n y (xs ++ ys) ≡ has_place n y ys) × (place_of n y (xs ++ ys) ≡ length xs + place_of n y ys)
-place_behind n y [] ys h = (refl, zero (place_of n y ys))
-  where
-    zero : (k : ℕ) → k ≡ 0 + k
-    zero k = omega arith
-place_behind n y (x ∷ xs) ys h = at ((x.thread == n) && (x.var == y)) h (place_behind n y xs ys)
-  where
-    at : (b : Bool) → cond b true (has_place n y xs) ≡ false
-        → (has_place n y xs ≡ false
-        → (has_place n y (xs ++ ys) ≡ has_place n y ys) × (place_of n y (xs ++ ys) ≡ length xs + place_of n y ys))
-        → (cond b true (has_place n y (xs ++ ys)) ≡ has_place n y ys) × (cond b 0 (suc (place_of n y (xs ++ ys))) ≡ suc (length xs) + place_of n y ys)
-    at true k f = absurd (cc k)
-    at false k f = let i = f k in (i.0, let j = i.1 in omega (arith, j))
 
 -- writes stay in turn as the list grows
 pub turn_grow : (m n : ℕ) (es ys : List Pending) (k : ℕ) (ws : List Written) → InTurn m n es k ws → InTurn m n (es ++ ys) k ws

@@ -39,7 +39,8 @@ use Rattle.pdl_machine_lockuse.specs.Use.{written_in, is_open, AreOwn}
 use Rattle.pdl_machine_lockuse.proofs.Reservations.{one_if, times, uses, Single, single_fresh, single_all, single_op, uses_reserve, uses_write, uses_release, total_all, gone_few, reserves_append, reserved_all}
 use Rattle.pdl_machine_lockuse.proofs.Paths.{path, mine, passed, rest, whole, passed_uses, mine_uses, mine_early}
 use Rattle.pdl_machine_lockuse.proofs.Begins.{begun, begun_is, along_here}
-use Rattle.pdl_machine_lockuse.proofs.OwnPlaces.{InTurn, written_more, turn_more, turn_grow, place_behind, puts_place, opens_back, oldest_first, pend_length, unused_place, names, names_append, given_own}
+use Rattle.pdl_lockapi.proofs.Places.{place_behind}
+use Rattle.pdl_machine_lockuse.proofs.OwnPlaces.{InTurn, written_more, turn_more, turn_grow, puts_place, opens_back, oldest_first, pend_length, unused_place, names, names_append, given_own}
 
 -- what a stage does with a memory where start was pending before it, and in which phase it ends
 pub record Used (m n : ℕ) (start : List Pending) (d : Deeds) (ph : Phase) : Type 0 where
