@@ -16,7 +16,7 @@ use Rattle.pdl_net.specs.Well.{Suits}
 use Rattle.pdl_lockapi.specs.Laws.{RoomLaw, holds_ticket}
 use Rattle.pdl_lockapi.specs.Second.{Room2Law}
 use Rattle.pdl_lockapi.specs.Forget.{as_lock, has_place}
-use Rattle.pdl_lockapi.proofs.Places.{none_own}
+use Rattle.pdl_lockapi.proofs.Places.{own_none}
 use Rattle.pdl_machine_facts.specs.Slots.{here}
 use Rattle.pdl_machine_facts.specs.Use.{before_stage, AreFine}
 use Rattle.pdl_law_parts.proofs.AnsweredThreads.{stood}
@@ -143,7 +143,7 @@ module _ (c : Circuit) (p : Pipe) (ls : Locks) (vs : ℕ → View) (s : State) (
           (λ (l : reserve_stage p m < k). subst
           (λ n. TellsLate s ((vs k).begun.marks Late m y) n y (entries_by n (machine.lock_of st m))) u.number
           ((stands.locks m e).late (twice m low ∙ two) k u.thread u.slot l early y mark))
-          (λ (l : k ≤ reserve_stage p m). none (none_own t.number (machine.lock_of st m)
+          (λ (l : k ≤ reserve_stage p m). none (own_none t.number (machine.lock_of st m)
           (subst (λ n. count_older n (machine.lock_of st m) ≡ length (machine.lock_of st m)) u.number (used.in_use.unreserved k u.thread m u.slot l))))
           (cases_lt (reserve_stage p m) k)
 

@@ -52,14 +52,14 @@ once_behind n y (x ∷ xs) ys o h = at ((x.thread == n) && (x.var == y)) o.0 (on
     at false f i = i
 
 -- who finds all pending writes older has none of them
-pub none_own : (n : ℕ) (es : List Pending) → count_older n es ≡ length es → entries_by n es ≡ []
-none_own n [] h = refl
-none_own n (e ∷ es) h = ⊎_elim
+pub own_none : (n : ℕ) (es : List Pending) → count_older n es ≡ length es → entries_by n es ≡ []
+own_none n [] h = refl
+own_none n (e ∷ es) h = ⊎_elim
     (λ (l : e.thread < n).
     let k : suc (count_older n es) ≡ suc (length es) =
     sym (ap (λ b. cond b (suc (count_older n es)) (count_older n es)) (lt-ltb e.thread n l)) ∙ h in
     ap (λ b. cond b (e ∷ entries_by n es) (entries_by n es)) (ne_eqb e.thread n (λ i. omega (arith, i, l)))
-    ∙ none_own n es (omega (arith, k)))
+    ∙ own_none n es (omega (arith, k)))
     (λ (l : n ≤ e.thread).
     let k : count_older n es ≡ suc (length es) = sym (ap (λ b. cond b (suc (count_older n es)) (count_older n es)) (le-ltb e.thread n l)) ∙ h in
     let t = ticket_covered n es in absurd (omega (arith, k, t)))

@@ -8,7 +8,7 @@ use Rattle.pdl_semantics.specs.Cycle.{with_value_of, with_writes_of}
 use Rattle.pdl_theory_derived.specs.Alone.{is_oldest}
 use Rattle.pdl_theory_facts.specs.Scans.{Phase}
 use Rattle.pdl_theory_derived.proofs.Writes.{and_right}
-use Rattle.pdl_theory_derived.proofs.Entries.{entry, Open, waiting, open_vars}
+use Rattle.pdl_theory_derived.proofs.Entries.{entry, Open, Full, waiting, known, open_vars, full_vars}
 use Rattle.pdl_theory_derived.proofs.Lists.{own, pend}
 use Rattle.pdl_theory_turns.proofs.Steps.{AreGiven, AllUsed, is_used}
 use Rattle.pdl_lockapi.specs.Forget.{has_place, place_of, IsOnce}
@@ -157,6 +157,16 @@ pend_length m n (o ∷ os) =
     ∙ length-append (pend m n (waiting m os)) (own n (entry m o.var o.address None) ∷ []) ∙ one (pend_length m n os)
   where
     one : length (pend m n (waiting m os)) ≡ length (open_vars os) → length (pend m n (waiting m os)) + 1 ≡ suc (length (open_vars os))
+    one h = omega (arith, h)
+
+-- and as many as its locations that have their values
+pub known_length : (m n : ℕ) (fs : List Full) → length (pend m n (known m fs)) ≡ length (full_vars fs)
+known_length m n [] = refl
+known_length m n (f ∷ fs) =
+    ap (λ b. length (pend m n (known m fs) ++ cond b (own n (entry m f.var f.address (Some f.value)) ∷ []) [])) (eq-eqb m m refl)
+    ∙ length-append (pend m n (known m fs)) (own n (entry m f.var f.address (Some f.value)) ∷ []) ∙ one (known_length m n fs)
+  where
+    one : length (pend m n (known m fs)) ≡ length (full_vars fs) → length (pend m n (known m fs)) + 1 ≡ suc (length (full_vars fs))
     one h = omega (arith, h)
 
 -- a location that no entry uses has no place
