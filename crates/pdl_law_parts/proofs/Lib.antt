@@ -12,6 +12,8 @@ pub mod StageLocks
 pub mod StageCalls
 pub mod StageStep
 pub mod LockUse
+pub mod AskedWrites
+pub mod Tickets
 pub mod StageLaw
 pub mod Moves
 pub mod LockPorts

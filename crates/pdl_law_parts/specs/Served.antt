@@ -1,5 +1,5 @@
 -- How the threads use the locks in a cycle, as circuits serve them that commit at most two writes of a memory in a cycle, and one where no path reserves it twice.
-use Rattle.std.specs.Prelude.{◌≡◌, ℕ, ◌<◌, ◌≤◌, Bool, true, if◌then◌else◌, List, [], ◌++◌, Some, length}
+use Rattle.std.specs.Prelude.{◌≡◌, ℕ, ◌<◌, ◌≤◌, Bool, true, false, if◌then◌else◌, List, [], ◌++◌, Some, length}
 use Rattle.pdl_semantics.specs.Flat.{Pipe}
 use Rattle.pdl_semantics.specs.Machine.{Thread, Pending, State, lock_of, reserves_of, deeds}
 use Rattle.pdl_semantics.specs.Cycle.{with_reserves, new_entries, all_releases}
@@ -26,6 +26,9 @@ pub record IsServed (p : Pipe) (st : State) (bits : List Bool) : Type 0 where
   -- of the pending writes with those that this cycle appends a thread that moves has its own, and no more
   pub own : (k : ℕ) (t : Thread) (m : ℕ) → here p st bits k ≡ Some t → stage_moves p st bits k ≡ true → m < length p.mems
       → entries_by t.number (with_reserves m (moving p st bits) (lock_of st m)) ≡ own_with p st k t m
+  -- a thread that stays has what it had
+  pub kept : (k : ℕ) (t : Thread) (m : ℕ) → here p st bits k ≡ Some t → stage_moves p st bits k ≡ false → m < length p.mems
+      → entries_by t.number (with_reserves m (moving p st bits) (lock_of st m)) ≡ entries_by t.number (lock_of st m)
   pub few : (k : ℕ) (t : Thread) (m : ℕ) → here p st bits k ≡ Some t → stage_moves p st bits k ≡ true → m < length p.mems
       → length (own_with p st k t m) ≤ at_most p m
   pub released : (m : ℕ) → m < length p.mems → all_releases m (moving p st bits) ≤ at_most p m
