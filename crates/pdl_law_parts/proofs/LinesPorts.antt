@@ -114,11 +114,13 @@ second_if twice e = if twice then flag_of (later e) ∷ addr_of (later e) ∷ wo
 abbrev pub commit_if : Bool → Bool → List PortWrite → List ℕ
 commit_if b twice e = if b then flag_of e ∷ addr_of e ∷ word_of e ∷ second_if twice e else []
 
-shown_is : (e : List PortWrite) → shown_values e ≡ flag_of e ∷ addr_of e ∷ word_of e ∷ []
+-- the values of a first commit are those of its three ports
+pub shown_is : (e : List PortWrite) → shown_values e ≡ flag_of e ∷ addr_of e ∷ word_of e ∷ []
 shown_is [] = refl
 shown_is (w ∷ ws) = refl
 
-second_is : (e : List PortWrite) → second_values e ≡ flag_of (later e) ∷ addr_of (later e) ∷ word_of (later e) ∷ []
+-- and those of a second commit
+pub second_is : (e : List PortWrite) → second_values e ≡ flag_of (later e) ∷ addr_of (later e) ∷ word_of (later e) ∷ []
 second_is [] = refl
 second_is (w ∷ ws) = shown_is ws
 

@@ -64,7 +64,8 @@ step_by (suc (suc zero)) l base (e ∷ []) words h = absurd (omega (arith, h))
 step_by (suc (suc zero)) l base (e ∷ f ∷ es) words h = refl
 step_by (suc (suc (suc k))) l base es words h = absurd (omega (arith, l))
 
-or_zero_is : (o : Option ℕ) → or_zero o ≡ commit_value o
+-- what a lock takes for a value that is not there is what the machine commits
+pub or_zero_is : (o : Option ℕ) → or_zero o ≡ commit_value o
 or_zero_is None = refl
 or_zero_is (Some v) = refl
 
@@ -100,7 +101,7 @@ commit_as k n l twice ws e =
     ∙ ap (λ (b : Bool). if b then shown_values ws ++ (if twice then second_values ws else []) else []) (locked_is k n)
 
 -- one value more in a memory's array
-word_by : (m depth : ℕ) (arrays : Arrays) (e : Pending) (words : List ℕ) → depth ≤ length words
+pub word_by : (m depth : ℕ) (arrays : Arrays) (e : Pending) (words : List ℕ) → depth ≤ length words
     → ((a : ℕ) → a < depth → arrays m a ≡ slice_index words a) → (a : ℕ) → a < depth
     → with_word arrays m e.address (commit_value e.value) m a ≡ slice_index (slice_set words e.address (or_zero e.value)) a
 word_by m depth arrays e words long h a l =
