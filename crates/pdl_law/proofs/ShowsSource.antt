@@ -69,7 +69,7 @@ pub known_source : (p : tree.Pipe) → KeepsRules p → IsBuilt p
     → IsKnown (flat p) (state_after (flat p) (first (flat p) image) before) bits
 known_source p rules built source named =
     let lawful = lawful_source p rules built source named in
-    known_here (flat p) lawful.sound (paths_strict p rules source) (careful_source p rules source) lawful.single lawful.reads
+    known_here (flat p) lawful.sound (paths_strict p rules source) (careful_source p rules source) lawful.reads
 
 module _ (p : tree.Pipe) (rules : KeepsRules p) (built : IsBuilt p) (source : is_source p ≡ true) (named : is_named p ≡ true) (ls : Locks)
     (vs : ℕ → View) (gates : Gates) (moves : ℕ → Signal) (sides : Sides) (n : Netlist)

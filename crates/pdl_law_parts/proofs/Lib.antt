@@ -5,6 +5,7 @@ pub mod WellFormedStages
 pub mod WellFormedArrays
 pub mod Signals
 pub mod Reservations
+pub mod LateLocations
 pub mod StageLooks
 pub mod StageRow
 pub mod StageLocks

@@ -131,12 +131,16 @@ pub record IsSo (p : Pipe) (k : ℕ) (s : State) (w : Walk) (d : Deeds) : Type 0
 abbrev pub own_entries : machine.State → ℕ → Deeds → ℕ → List Pending
 own_entries st thread d m = entries_by thread (machine.lock_of st m) ++ new_entries m thread d.reserves
 
+-- the walk's marks tell which locations of the thread are late, of each memory that some path reserves twice, up to the stage of its releases
+abbrev pub MarksLate : Pipe → ℕ → State → machine.State → ℕ → Walk → Deeds → Type 0
+MarksLate p k s st thread w d = (m : ℕ) → m < length p.mems → reserves_twice m p.stmts ≡ true → k ≤ commit_stage p m
+    → AreLate p k s w.marks thread m (own_entries st thread d m)
+
 -- the walk tells whether the locks let the thread move, and as long as they do what it does
 pub record Follows (p : Pipe) (k : ℕ) (s : State) (st : machine.State) (thread : ℕ) (w : Walk) (d : Deeds) : Type 0 where
   pub ready : w.ready.value s ≡ bit (locks_ready p st thread d)
   pub so : locks_ready p st thread d ≡ true → IsSo p k s w d
-  pub late : locks_ready p st thread d ≡ true → (m : ℕ) → m < length p.mems → reserves_twice m p.stmts ≡ true → k ≤ commit_stage p m
-      → AreLate p k s w.marks thread m (own_entries st thread d m)
+  pub late : locks_ready p st thread d ≡ true → MarksLate p k s st thread w d
 
 -- a stage in a state: whether it holds a thread, whether that moves, and what it does
 pub record IsSeen (p : Pipe) (vs : ℕ → View) (moves : ℕ → Signal) (s : State) (st : machine.State) (bits : List Bool) (k : ℕ) : Type 0 where
