@@ -45,14 +45,15 @@ delayed_all P ms h = All-from_recursion P (map (port_mem false) (delayed_of ms))
 all_contained : {X : Type 0} (P : X → Type 0) (xs : List X) (x : X) → All P xs → Contains xs x → P x
 all_contained P xs x h c = subst P c.2 (h c.0 x c.1)
 
--- a memory is contained among its like
-contained : (ms : List Mem) (m : Mem) → Among m ms → Contains (map (port_mem false) ms) (port_mem false m)
+-- a memory's name is one of theirs
+contained : (ms : List Mem) (m : Mem) → Among m ms → Contains (map (λ (d : PortMem). d.name) (map (port_mem false) ms)) m.name.name
 contained [] m a = absurd a
-contained (x ∷ xs) m (inl s) = (0, (omega arith), ap (port_mem false) s)
+contained (x ∷ xs) m (inl s) = (0, (omega arith), ap (λ (y : Mem). y.name.name) s)
 contained (x ∷ xs) m (inr a) = let r = contained xs m a in let l = r.1 in (suc r.0, (omega (arith, l)), r.2)
 
--- a delayed memory is one of the delayed ones, as ports tell them
-pub delayed_contained : (ms : List Mem) (m : Mem) → Among m ms → is_delayed m.kind ≡ true → Contains (map (port_mem false) (delayed_of ms)) (port_mem false m)
+-- the name of a delayed memory is one of the delayed ones', as ports tell them
+pub delayed_contained : (ms : List Mem) (m : Mem) → Among m ms → is_delayed m.kind ≡ true
+    → Contains (map (λ (d : PortMem). d.name) (map (port_mem false) (delayed_of ms))) m.name.name
 delayed_contained ms m a d = contained (delayed_of ms) m (some_among answers_late ms m a d)
 
 -- ---- the array of a memory
