@@ -43,7 +43,7 @@ names_first : (b twice : Bool) (m : Mem) (ls : List PortMem) (names : List (List
 names_first true twice m ls names = refl
 names_first false twice m ls names = refl
 
--- a look-up passes the ports of a memory without lock, and those of another name
+-- what a port of a name tells is, with one more memory before the others, by that memory's lock and name; where it has no second ports the others tell as much of its later writes
 abbrev pub IsStep : (List ℕ → List ℕ) → (List PortWrite → ℕ) → Type 0
 IsStep port g =
     (b twice : Bool) (y : List ℕ) (e rest : List PortWrite) (ns : List (List ℕ)) (vals x : List ℕ)
@@ -51,16 +51,19 @@ IsStep port g =
     → named_value ns vals (port x) ≡ g rest
     → named_value (names_if b twice y ns) (commit_if b twice e ++ vals) (port x) ≡ g (if bytes_eq y x && b then e else rest)
 
+-- the port `c_` of a name tells whether that memory commits
 pub flag_step : IsStep (λ x. codes "c_" ++ x) flag_of
 flag_step true true y e rest ns vals x s h = ap (λ n. if bytes_eq y x then flag_of e else n) h ∙ if_both flag_of (bytes_eq y x) e rest
 flag_step true false y e rest ns vals x s h = ap (λ n. if bytes_eq y x then flag_of e else n) h ∙ if_both flag_of (bytes_eq y x) e rest
 flag_step false twice y e rest ns vals x s h = h ∙ if_none flag_of (bytes_eq y x) e rest
 
+-- the port `ca_` of a name tells that memory's commit address
 pub addr_step : IsStep (λ x. codes "ca_" ++ x) addr_of
 addr_step true true y e rest ns vals x s h = ap (λ n. if bytes_eq y x then addr_of e else n) h ∙ if_both addr_of (bytes_eq y x) e rest
 addr_step true false y e rest ns vals x s h = ap (λ n. if bytes_eq y x then addr_of e else n) h ∙ if_both addr_of (bytes_eq y x) e rest
 addr_step false twice y e rest ns vals x s h = h ∙ if_none addr_of (bytes_eq y x) e rest
 
+-- the port `cd_` of a name tells that memory's committed word
 pub word_step : IsStep (λ x. codes "cd_" ++ x) word_of
 word_step true true y e rest ns vals x s h = ap (λ n. if bytes_eq y x then word_of e else n) h ∙ if_both word_of (bytes_eq y x) e rest
 word_step true false y e rest ns vals x s h = ap (λ n. if bytes_eq y x then word_of e else n) h ∙ if_both word_of (bytes_eq y x) e rest
@@ -72,18 +75,21 @@ passed : (g : List PortWrite → ℕ) (b : Bool) (e rest : List PortWrite) → (
 passed g true e rest s = ap g (sym (s refl))
 passed g false e rest s = refl
 
+-- the port `c2_` of a name tells whether that memory commits a second write
 pub flag2_step : IsStep (λ x. codes "c2_" ++ x) (λ e. flag_of (later e))
 flag2_step true true y e rest ns vals x s h =
     ap (λ n. if bytes_eq y x then flag_of (later e) else n) h ∙ if_both (λ o. flag_of (later o)) (bytes_eq y x) e rest
 flag2_step true false y e rest ns vals x s h = h ∙ passed flag_of (bytes_eq y x) e rest (s refl)
 flag2_step false twice y e rest ns vals x s h = h ∙ if_none (λ o. flag_of (later o)) (bytes_eq y x) e rest
 
+-- the port `ca2_` of a name tells the address of that memory's second commit
 pub addr2_step : IsStep (λ x. codes "ca2_" ++ x) (λ e. addr_of (later e))
 addr2_step true true y e rest ns vals x s h =
     ap (λ n. if bytes_eq y x then addr_of (later e) else n) h ∙ if_both (λ o. addr_of (later o)) (bytes_eq y x) e rest
 addr2_step true false y e rest ns vals x s h = h ∙ passed addr_of (bytes_eq y x) e rest (s refl)
 addr2_step false twice y e rest ns vals x s h = h ∙ if_none (λ o. addr_of (later o)) (bytes_eq y x) e rest
 
+-- the port `cd2_` of a name tells the word of that memory's second commit
 pub word2_step : IsStep (λ x. codes "cd2_" ++ x) (λ e. word_of (later e))
 word2_step true true y e rest ns vals x s h =
     ap (λ n. if bytes_eq y x then word_of (later e) else n) h ∙ if_both (λ o. word_of (later o)) (bytes_eq y x) e rest
