@@ -61,6 +61,6 @@ shaped q st bits by used = record {
       ∙ ap (λ k. take k (list_two st (moving q st bits) i)) (used.in_use.unreleased i (plain_is (mem_at q i).lock e))))
       (λ i l. let z : 0 + i ≡ i = omega arith in
       let long = writes_long (all_releases (0 + i) (moving q st bits)) (list_two st (moving q st bits) (0 + i)) in
-      let few = subst (λ n. all_releases n (moving q st bits) ≤ at_most q n) (sym z) (used.released i l) in
+      let few = subst (λ (n : ℕ). all_releases n (moving q st bits) ≤ at_most q n) (sym z) (used.released i l) in
       omega (arith, long, few)));
 }

@@ -253,7 +253,7 @@ module _ (p : Pipe) (ls : Locks) (vs : ℕ → View) (moves : ℕ → Signal) (s
         let u = stood k t h in
         let thread =
         subst
-        (λ n. holds_ticket (ls.bits m) ((vs k).tickets m) s (base + count_older n (machine.lock_of st m))) u.number
+        (λ (n : ℕ). holds_ticket (ls.bits m) ((vs k).tickets m) s (base + count_older n (machine.lock_of st m))) u.number
         (stand.tickets k u.thread u.slot o.early) in
         let there : base + count_older t.number (machine.lock_of st m) + own_place k t y ≡ base + place_of t.number y pending =
         (let z = o.place in omega (arith, z)) in

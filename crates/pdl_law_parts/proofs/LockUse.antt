@@ -136,15 +136,15 @@ older_drop (suc k) u (e ∷ es) = at (nat_lt e.thread u) (older_drop k u es)
 pub own_dropped : (k u : ℕ) (es : List Pending) → count_older u (drop k es) + k ≡ count_older u es → entries_by u (drop k es) ≡ entries_by u es
 own_dropped zero u es h = refl
 own_dropped (suc k) u [] h = refl
-own_dropped (suc k) u (e ∷ es) h = at (nat_lt e.thread u) refl h
+own_dropped (suc k) u (e ∷ es) h = at (nat_lt e.thread u) refl h (own_dropped k u es)
   where
     at : (b : Bool) → nat_lt e.thread u ≡ b → count_older u (drop k es) + suc k ≡ (if b then suc (count_older u es) else count_older u es)
+        → (count_older u (drop k es) + k ≡ count_older u es → entries_by u (drop k es) ≡ entries_by u es)
         → entries_by u (drop k es) ≡ (if e.thread == u then e ∷ entries_by u es else entries_by u es)
-    at true i h =
+    at true i h rest =
         let older = ltb-true e.thread u i in
-        own_dropped k u es (omega (arith, h))
-        ∙ sym (ap (λ c. if c then e ∷ entries_by u es else entries_by u es) (ne_eqb e.thread u (λ z. absurd (omega (arith, older, z)))))
-    at false i h = absurd (let z = older_drop k u es in omega (arith, h, z))
+        rest (omega (arith, h)) ∙ sym (ap (λ c. if c then e ∷ entries_by u es else entries_by u es) (ne_eqb e.thread u (λ z. omega (arith, older, z))))
+    at false i h rest = absurd (let z = older_drop k u es in omega (arith, h, z))
 
 -- a squash leaves the own pending writes of a thread that it keeps
 pub own_left : (sq : Option ℕ) (u : ℕ) (es : List Pending) → is_kept sq u ≡ true → entries_by u (entries_left sq es) ≡ entries_by u es

@@ -89,9 +89,9 @@ pub record IsPipeArray (delayed locked : List PortMem) (a : Array) : Type 0 wher
   pub depth : All (λ m. m.name ≡ a.name → (a.depth ≡ 2 ^ m.bits) ⊎ (a.depth ≡ 2 * 2 ^ m.bits)) locked
   pub unlocked : All (λ m. m.name ≢ a.name) locked → (a.depth ≤ 65536) × (a.writes ≡ [])
 
--- a locked memory is delayed or has an array
+-- a locked memory has the name of a delayed one or of an array
 abbrev pub IsKept : List PortMem → List Array → PortMem → Type 0
-IsKept delayed arrays m = Contains delayed m ⊎ Contains (map (λ a. a.name) arrays) m.name
+IsKept delayed arrays m = Contains (map (λ d. d.name) delayed) m.name ⊎ Contains (map (λ a. a.name) arrays) m.name
 
 -- a delayed memory, as its ports tell it
 abbrev pub delayed_info : PortMem → MemInfo

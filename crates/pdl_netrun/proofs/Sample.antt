@@ -1,5 +1,5 @@
 -- The netlist of the tests breaks no rule.
-use Rattle.std.proofs.Common.{◌≡◌, ◌≢◌, ◌⊎◌, inl, inr, ℕ, zero, suc, ◌*◌, ◌^◌, ◌<◌, Bool, true, ◌&&◌, not, List, [], ◌∷◌, length, get_or, map, All, AllPairs, Some, codes, bytes_eq, refl, sym, ap, subst, arith, lit<, lit≤}
+use Rattle.std.proofs.Common.{◌≡◌, ◌≢◌, ◌⊎◌, inl, inr, ℕ, zero, suc, ◌*◌, ◌^◌, ◌<◌, Bool, true, false, ◌&&◌, not, List, [], ◌∷◌, length, get_or, map, All, AllPairs, Some, codes, bytes_eq, refl, sym, ap, subst, arith, lit<, lit≤}
 use Rattle.std.specs.Prelude.{slice_get}
 use Rattle.std.specs.List.{list_all}
 use Rattle.std.proofs.lemmas.Slice.Eq.{bytes_eq-Decides}
@@ -103,7 +103,7 @@ arrays_well zero h = array_well
 arrays_well (suc m) h = absurd (omega arith)
 
 abbrev locked : PortMem
-locked = record { name = codes "m"; width = 4; bits = 1 }
+locked = record { name = codes "m"; width = 4; bits = 1; twice = false }
 
 each_all : {X : Type 0} (P : X → Type 0) (xs : List X) → Each P xs → All P xs
 each_all P [] h k d l = absurd (omega arith)

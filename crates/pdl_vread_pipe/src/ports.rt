@@ -2,7 +2,7 @@
 ghost use Rattle.std.specs.Prelude.{◌≡◌, ◌++◌, ◌∷◌, [], bytes_eq, flat_map};
 ghost use Rattle.std.specs.List.{range_with_len};
 ghost use Rattle.std.specs.Option.{option_copied, option_map};
-ghost use Rattle.pdl_net.specs.Pipe.{head_of, is_input, pipe_ports, reply_ports, stage_ports, commit_ports, request_ports};
+ghost use Rattle.pdl_net.specs.Pipe.{head_of, is_input, pipe_ports, reply_ports, stage_ports, first_ports, second_ports, commit_ports, request_ports};
 ghost use Rattle.pdl_vread_pipe.specs.ExpectedPorts.{after, heads, same, Leaves};
 ghost use Rattle.pdl_vread_pipe.specs.Tests as spec;
 
@@ -112,15 +112,39 @@ fn stages<'a>(ports: &'a [Port], count: usize) -> Option<&'a [Port]>
     Some(left)
 }
 
-// The ports after those of a locked memory that commit.
+// The ports after those of a locked memory's first commit.
 #[tactic(auto, using(crate::proofs::Strips::one_by_one))]
-fn commit<'a>(ports: &'a [Port], mem: &PortMem) -> Option<&'a [Port]>
-    ensures { Leaves (commit_ports mem.now) ports.now result }
+fn first<'a>(ports: &'a [Port], mem: &PortMem) -> Option<&'a [Port]>
+    ensures { Leaves (first_ports mem.now) ports.now result }
 {
     let name = mem.name().as_bytes();
     let left = expect(ports, b"c_", name, 1, false)?;
     let left = expect(left, b"ca_", name, mem.bits(), false)?;
     expect(left, b"cd_", name, mem.width(), false)
+}
+
+// The ports after those of its second one.
+#[tactic(auto, using(crate::proofs::Strips::one_by_one))]
+fn second<'a>(ports: &'a [Port], mem: &PortMem) -> Option<&'a [Port]>
+    ensures { Leaves (second_ports mem.now) ports.now result }
+{
+    let name = mem.name().as_bytes();
+    let left = expect(ports, b"c2_", name, 1, false)?;
+    let left = expect(left, b"ca2_", name, mem.bits(), false)?;
+    expect(left, b"cd2_", name, mem.width(), false)
+}
+
+// The ports after those of a locked memory that commit.
+#[tactic(auto, using(crate::proofs::Strips::committing))]
+fn commit<'a>(ports: &'a [Port], mem: &PortMem) -> Option<&'a [Port]>
+    ensures { Leaves (commit_ports mem.now) ports.now result }
+{
+    let left = first(ports, mem)?;
+    if mem.commits_twice() {
+        second(left, mem)
+    } else {
+        Some(left)
+    }
 }
 
 #[tactic(auto, using(crate::proofs::Strips::all_of_them))]
