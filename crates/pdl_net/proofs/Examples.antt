@@ -128,15 +128,18 @@ second = record {
 }
 
 -- the second value holds
-second_holds : map (λ s. slice_index s.ports 11) (nports second ((5 ∷ 6 ∷ []) ∷ []) (1 ∷ 1 ∷ [])) ≡ 0 ∷ 9 ∷ []
+second_holds : map (λ s. slice_index s.ports 9) (nports second ((5 ∷ 6 ∷ []) ∷ []) (1 ∷ 1 ∷ [])) ≡ 0 ∷ 9 ∷ []
 unfolding output_values next_regs next_arrays signal signals input_value reg_value const_value not_value bin_value mux_value slice_value cat_value rep_value read_value words.add words.sub words.xor words.less words.shl words.shr words.complement words.mux words.slice words.cat words.rep
 second_holds = refl
 
--- both are told, in their order
-both_told : map (λ s. (committed_by second s 0, committed2_by second s 0)) (nports second ((5 ∷ 6 ∷ []) ∷ []) (0 ∷ []))
-    ≡ (Some (1, 8), Some (1, 9)) ∷ []
+-- both are told, each by its own ports
+first_told : map (λ s. committed_by second s 0) (nports second ((5 ∷ 6 ∷ []) ∷ []) (0 ∷ [])) ≡ Some (1, 8) ∷ []
 unfolding output_values next_regs next_arrays signal signals input_value reg_value const_value not_value bin_value mux_value slice_value cat_value rep_value read_value words.add words.sub words.xor words.less words.shl words.shr words.complement words.mux words.slice words.cat words.rep
-both_told = refl
+first_told = refl
+
+second_told : map (λ s. committed2_by second s 0) (nports second ((5 ∷ 6 ∷ []) ∷ []) (0 ∷ [])) ≡ Some (1, 9) ∷ []
+unfolding output_values next_regs next_arrays signal signals input_value reg_value const_value not_value bin_value mux_value slice_value cat_value rep_value read_value words.add words.sub words.xor words.less words.shl words.shr words.complement words.mux words.slice words.cat words.rep
+second_told = refl
 
 -- a memory without second ports commits nothing second
 none_second : map (λ s. committed2_by asked s 0) (nports asked ((5 ∷ 6 ∷ []) ∷ []) (0 ∷ [])) ≡ None ∷ []
