@@ -77,7 +77,8 @@ turns_have p image known before st (bits ∷ schedule) e = (
 
 module _ (p : Pipe) (ms : List Mem) (same : p.mems ≡ mems_of ms) (n : Netlist) (distinct : AreDistinct ms)
     (there : AreFound ms n.mems)
-    (named : map name_of_output (outputs_of (circuit_of n)) ≡ output_names (length p.stages) (map (port_mem false) (delayed_of ms)) (locked_from p.stmts 0 ms)) where
+    (named : map name_of_output (outputs_of (circuit_of n))
+    ≡ output_names (length p.stages) (map (port_mem false) (delayed_of ms)) (locked_from p.stmts 0 ms)) where
   -- ---- one cycle
 
   module _ (o : Ports) (has : HasPorts p o) where
@@ -100,7 +101,8 @@ module _ (p : Pipe) (ms : List Mem) (same : p.mems ≡ mems_of ms) (n : Netlist)
     requests : length o.requests ≡ length ms
     requests = has.requests ∙ ap length same ∙ mems_length ms
 
-    asked_same : length (requests_then ms o.requests (bit o.ended ∷ bit o.squash ∷ [])) ≡ length (request_names (map (port_mem false) (delayed_of ms)) last_names)
+    asked_same : length (requests_then ms o.requests (bit o.ended ∷ bit o.squash ∷ []))
+        ≡ length (request_names (map (port_mem false) (delayed_of ms)) last_names)
     asked_same = requests_same ms o.requests last_names (bit o.ended ∷ bit o.squash ∷ []) requests refl
 
     rest_same : length rest ≡ length (commit_names (locked_from p.stmts 0 ms) (request_names (map (port_mem false) (delayed_of ms)) last_names))
@@ -268,7 +270,8 @@ module _ (p : Pipe) (ms : List Mem) (same : p.mems ≡ mems_of ms) (n : Netlist)
 pub shows_turns : (p : tree.Pipe) → KeepsRules p → IsBuilt p → is_source p ≡ true → is_named p ≡ true → (n : Netlist) → Follows p n → ShowsTurns p n
 shows_turns p rules built source named n follows =
     let distinct = (declared p rules).distinct in
-    let names = outputs_are (circuit_of n) (length (flat p).stages) (map (port_mem false) (delayed_of p.mems)) (locked_from (flat p).stmts 0 p.mems) follows.ports in
+    let names =
+    outputs_are (circuit_of n) (length (flat p).stages) (map (port_mem false) (delayed_of p.mems)) (locked_from (flat p).stmts 0 p.mems) follows.ports in
     let found = subst (AreFound p.mems) (sym follows.mems) (net_found p.mems distinct) in
     let have : (image : List (List ℕ)) (schedule : List (List Bool)) → AllHave (flat p) (turns (flat p) (arrays_of image) schedule) =
     λ image schedule. turns_have (flat p) (arrays_of image) (known_source p rules built source named (arrays_of image)) []

@@ -187,7 +187,8 @@ past_requests x f g (m ∷ ms) (q ∷ qs) names vals l = at (is_delayed m.kind) 
         (f m.name.name)
         ∙ ap (λ t. if t then b else named_value (request_names (map (port_mem false) (delayed_of ms)) names) (requests_then ms qs vals) x) (g m.name.name) ∙ h
 
-    at : (b : Bool) (o : Option ℕ) → named_value (request_names (map (port_mem false) (delayed_of ms)) names) (requests_then ms qs vals) x ≡ named_value names vals x
+    at : (b : Bool) (o : Option ℕ)
+        → named_value (request_names (map (port_mem false) (delayed_of ms)) names) (requests_then ms qs vals) x ≡ named_value names vals x
         → named_value (request_names (map (port_mem false) (if b then m ∷ delayed_of ms else delayed_of ms)) names)
         (((if b then request_values o else []) ++ all_request_values (mems_of ms) qs) ++ vals) x
         ≡ named_value names vals x

@@ -305,4 +305,5 @@ port_names_differ n twice ms l h =
 
     commits_none : (a : ℕ) (x : List ℕ) → a ≢ 99 → a ≢ 113 → a ≢ 101 → a ≢ 115
         → IsNone (a ∷ x) (commit_names (locked_of twice 0 ms) (request_names (map (port_mem false) (delayed_of ms)) last_names))
-    commits_none a x c q e s = commit_none a x (locked_of twice 0 ms) _ c (request_none a x (map (port_mem false) (delayed_of ms)) last_names q (last_none a x e s))
+    commits_none a x c q e s =
+        commit_none a x (locked_of twice 0 ms) _ c (request_none a x (map (port_mem false) (delayed_of ms)) last_names q (last_none a x e s))

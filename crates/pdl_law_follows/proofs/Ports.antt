@@ -80,7 +80,8 @@ request_heads names asks k (m ∷ ms) h r f =
         let reach : 2 ^ (asks k).addr.width ≡ m.depth.value = ap (λ j. 2 ^ (asks j).addr.width) (sym z) ∙ w.1 in
         ap₂ (λ n l. output (codes "q_" ++ n) (asks k).enable.width ∷ output (codes "qa_" ++ n) (asks k).addr.width ∷ l) (first_named names k m ms h) g
         ∙ ap₂
-        (λ v a. output (codes "q_" ++ m.name.name) v ∷ output (codes "qa_" ++ m.name.name) a ∷ flat_map request_ports (map (port_mem false) (delayed_of ms))) enable
+        (λ v a. output (codes "q_" ++ m.name.name) v ∷ output (codes "qa_" ++ m.name.name) a
+        ∷ flat_map request_ports (map (port_mem false) (delayed_of ms))) enable
         (power_one _ _ (reach ∙ sym (r m (inl refl))))
 
 -- ---- all

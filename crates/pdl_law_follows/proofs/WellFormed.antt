@@ -96,7 +96,8 @@ module _ (p : Pipe) (ms : List Mem) (declared : AreDeclared ms) (same : p.mems �
   array_fits k l =
       let w = array_mem n.arrays (comb_of ms) shapes k no_array l in
       let a = among_some answers_at_once ms w.0 w.1.among in
-      pipe_array twice ms (get_or n.arrays k no_array) w.0 declared.distinct reach (size w.0 a.0) a.0 (comb_delayed w.0 a.1) (never_written k w.0 l w.1) w.1.shape
+      pipe_array twice ms (get_or n.arrays k no_array) w.0 declared.distinct reach (size w.0 a.0) a.0 (comb_delayed w.0 a.1)
+      (never_written k w.0 l w.1) w.1.shape
 
   kept : (t : Bool) (m : Mem) → Among m ms → IsKept (map (port_mem false) (delayed_of ms)) n.arrays (port_mem t m)
   kept t m h = at (is_delayed m.kind) refl

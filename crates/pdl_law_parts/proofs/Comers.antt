@@ -329,8 +329,8 @@ module _ (p : Pipe) (ls : Locks) (vs : ℕ → View) (moves : ℕ → Signal) (s
           spared.kept j t h g,
         );
         late = λ m e twice r high.
-            let known =
-            ((seen j l).follows t h).late (ready_of p st bits j t by l h g) m (lock_there p m e) twice (let z : j ≤ commit_stage p m = omega (arith, low, high) in z) in (
+            let early : j ≤ commit_stage p m = omega (arith, low, high) in
+            let known = ((seen j l).follows t h).late (ready_of p st bits j t by l h g) m (lock_there p m e) twice early in (
               subst
                   (λ n. count_older n (with_reserves m (moving p st bits) (machine.lock_of st m)) ≡ count_older n (machine.lock_of st m)) u.number
                   (used.in_use.after j u.thread m u.slot (leads.over j q m d.env l to r)),

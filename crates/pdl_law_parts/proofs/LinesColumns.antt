@@ -68,7 +68,8 @@ none_of_stages infos k (suc n) names =
     ∙ skipped infos (codes "g_" ++ decimal k) (stage_names (suc k) n names) (λ x. refl)
     ∙ none_of_stages infos (suc k) n names
 
-none_of_second : (infos : List MemInfo) (twice : Bool) (x : List ℕ) (names : List (List ℕ)) → with_port infos (second_names twice x names) ≡ with_port infos names
+none_of_second : (infos : List MemInfo) (twice : Bool) (x : List ℕ) (names : List (List ℕ))
+    → with_port infos (second_names twice x names) ≡ with_port infos names
 none_of_second infos true x names =
     skipped infos (codes "c2_" ++ x) ((codes "ca2_" ++ x) ∷ (codes "cd2_" ++ x) ∷ names) (λ y. refl)
     ∙ skipped infos (codes "ca2_" ++ x) ((codes "cd2_" ++ x) ∷ names) (λ y. refl)

@@ -433,7 +433,8 @@ module _ (p : Pipe) (ls : Locks) (vs : ℕ → View) (gates : Gates) (moves : �
               (λ (n : ℕ). count_older n (list_three st (moving p st bits) m) + all_releases m (moving p st bits)
               ≡ count_older n (machine.lock_of st m)) w.number
               (used.in_use.shifts q w.thread m w.slot reserved high (λ z. g)) in
-              let after = subst (λ (n : ℕ). count_older n pending ≡ count_older n (machine.lock_of st m)) w.number (used.in_use.after q w.thread m w.slot reserved) in
+              let after =
+              subst (λ (n : ℕ). count_older n pending ≡ count_older n (machine.lock_of st m)) w.number (used.in_use.after q w.thread m w.slot reserved) in
               moved mine n (entries_by n (machine.lock_of st m)) (mark_now q l Late m a live ∙ ap (brought s (λ (o : Comer). o.marks Late m a) mine) f)
               (own_alike n shifts after r ∙ ap as_reserved (used.kept q u m i g (lock_there p m e)))
               (subst (λ n. TellsLate s mine n a (entries_by n (machine.lock_of st m))) w.number (stand.late twice q w.thread w.slot low high a live))
