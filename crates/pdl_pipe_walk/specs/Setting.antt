@@ -1,6 +1,7 @@
 -- What the statements of a stage are made nets in.
-use Rattle.std.specs.Prelude.{ℕ, List}
+use Rattle.std.specs.Prelude.{◌≡◌, ℕ, List}
 use Rattle.pdl_semantics.specs.Flat.{Stmt}
+use Rattle.pdl_semantics.specs.SecondWrites.{all_twice}
 use Rattle.pdl_form.specs.FormView.{form}
 use Rattle.pdl_net.specs.Circuit.{Circuit}
 use Rattle.pdl_net.specs.Signal.{Signal}
@@ -17,6 +18,10 @@ HasLocks l c s = AreLocked l c (form s.pipe.now).pipe s.locks.now
 -- a setting has a ticket for each memory
 abbrev pub HasTickets : {T : Type 0} → Members T → Circuit → Setting T → Type 0
 HasTickets l c s = AreTickets l c s.locks.now s.tickets.now
+
+-- a setting says of each memory whether some path reserves it twice to write
+abbrev pub HasTwice : {T : Type 0} → Setting T → Type 0
+HasTwice s = s.twice.now ≡ all_twice (form s.pipe.now).pipe.stmts 0 (form s.pipe.now).pipe.mems
 
 -- the locks of a setting as a circuit has them
 abbrev pub set_locks : {T : Type 0} → Members T → Circuit → Setting T → Locks

@@ -11,4 +11,4 @@ pub mod update;
 pub mod vars;
 
 pub use locks::{MemLock, Setting};
-pub use nets::{AskNet, BirthNet, HeldNet, LettingNet, PutNet, ReserveNet, WalkNets};
+pub use nets::{AskNet, BirthNet, LettingNet, MarkNet, PutNet, ReserveNet, WalkNets};
