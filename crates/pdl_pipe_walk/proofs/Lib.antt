@@ -1,4 +1,5 @@
 pub mod Lists
+pub mod TwiceFlags
 pub mod NetGrowth
 pub mod Arguments
 pub mod Updates

@@ -7,6 +7,7 @@ mod guesses;
 pub mod locks;
 pub mod nets;
 pub mod rows;
+pub mod tickets;
 pub mod update;
 pub mod vars;
 
