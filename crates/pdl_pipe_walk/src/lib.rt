@@ -6,6 +6,7 @@
 mod guesses;
 pub mod locks;
 pub mod nets;
+mod reserves;
 pub mod rows;
 pub mod tickets;
 pub mod update;
