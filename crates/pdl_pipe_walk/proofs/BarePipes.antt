@@ -1,7 +1,8 @@
 -- Pipes without variables and memories, as tests take them.
-use Rattle.std.proofs.Common.{◌≡◌, ℕ, zero, suc, true, List, [], ◌∷◌, map, length, refl, sym, ap, ◌∙◌, subst, arith}
+use Rattle.std.proofs.Common.{◌≡◌, ℕ, zero, suc, Bool, true, List, [], ◌∷◌, map, length, refl, sym, ap, ◌∙◌, subst, arith}
 use Rattle.std.specs.Prelude.{Option, take}
-use Rattle.pdl_semantics.specs.Flat.{Call, SpecCall, Verify, SpecBarrier, Stmt, Pipe}
+use Rattle.pdl_semantics.specs.Flat.{Call, SpecCall, Verify, SpecBarrier, Stmt, Mem, Pipe}
+use Rattle.pdl_semantics.specs.SecondWrites.{all_twice}
 use Rattle.pdl_form.specs.Form.{Form}
 use Rattle.pdl_form_types.specs.Stmts.{AreArguments}
 use Rattle.pdl_net.specs.declared.Net.{Net}
@@ -61,6 +62,10 @@ no_tickets l c xs ts e n = record {
   count = ap length n ∙ sym (ap length e);
   wide = λ m x low s. absurd (omega (arith, low, ap length e));
 }
+
+-- nor flags of whether some path reserves one twice
+pub no_flags : (ys : List Stmt) (ms : List Mem) (xs : List Bool) → ms ≡ [] → xs ≡ [] → xs ≡ all_twice ys 0 ms
+no_flags ys ms xs n e = e ∙ sym (ap (all_twice ys 0) n)
 
 take_none : (n : ℕ) → take {A = ℕ} n [] ≡ []
 take_none zero = refl
