@@ -17,14 +17,14 @@ use Rattle.pdl_net.proofs.KeptWidths.{width_keeps}
 use Rattle.pdl_lockapi.specs.Laws.{ReserveSignal, asked_addresses}
 use Rattle.pdl_law_parts.specs.Walk.{Reservation, both}
 use Rattle.pdl_law_parts.specs.Views.{View}
-use Rattle.pdl_law_parts.specs.Ports.{reserves_to, all_reserves}
+use Rattle.pdl_law_parts.specs.Ports.{one_more, reserves_to, all_reserves}
 use Rattle.pdl_law_parts.proofs.Signals.{mux_by}
 use Rattle.pdl_law_parts.proofs.LockPorts.{asked_append}
 use Rattle.pdl_semantics.specs.Flat.{Pipe}
 use Rattle.pdl_pipe_walk.specs.declared.nets.ReserveNet.{ReserveNet}
 use Rattle.pdl_pipe_walk.specs.Parts.{reservation_in}
 use Rattle.pdl_pipe_walk.specs.Sized.{IsSizedReserve}
-use Rattle.pdl_pipe_tails.specs.Reserved.{one_more, IsReserve, IsAfter}
+use Rattle.pdl_pipe_tails.specs.Reserved.{IsReserve, IsAfter}
 
 -- ---- how many are asked
 
