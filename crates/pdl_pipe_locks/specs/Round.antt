@@ -1,5 +1,6 @@
 -- What the steps of the locks go round.
-use Rattle.std.specs.Prelude.{ℕ}
+use Rattle.std.specs.Prelude.{◌≡◌, ℕ, Bool, false, slice_index_or}
+use Rattle.pdl_semantics.specs.SecondWrites.{all_twice}
 use Rattle.pdl_form.specs.FormView.{form}
 use Rattle.pdl_net.specs.Circuit.{Circuit}
 use Rattle.pdl_lockapi.specs.Laws.{StepSignals}
@@ -21,9 +22,17 @@ HasRoundDeeds l c r = AreDeeds l c (form r.pipe.now).pipe (form r.pipe.now).widt
 abbrev pub HasRoundSquash : {T : Type 0} → Members T → Circuit → Round T → Type 0
 HasRoundSquash l c r = AreSquashNets l c r.locks.now r.squash r.tails.now
 
+-- the flags of a round say of each memory whether some path reserves it twice for writing
+abbrev pub HasRoundTwice : {T : Type 0} → Round T → Type 0
+HasRoundTwice r = r.twice.now ≡ all_twice (form r.pipe.now).pipe.stmts 0 (form r.pipe.now).pipe.mems
+
+-- the flag of memory m
+abbrev pub is_twice : {T : Type 0} → Round T → ℕ → Bool
+is_twice r m = slice_index_or r.twice.now m false
+
 -- what the stages do to the lock of a memory, by the nets of its ports
 abbrev pub round_signals : {T : Type 0} → Circuit → Round T → ℕ → StepSignals
-round_signals c r m = signals_of c r.deeds.now m (signal c r.squash) (tickets_in c r.tails.now m)
+round_signals c r m = signals_of c (is_twice r m) r.deeds.now m (signal c r.squash) (tickets_in c r.tails.now m)
 
 -- what the stages do to the lock of each memory, by their deeds
 abbrev pub round_steps : {T : Type 0} → Circuit → Round T → ℕ → StepSignals
