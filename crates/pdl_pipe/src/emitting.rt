@@ -17,6 +17,7 @@ use crate::deeds::{stage_ends, stage_ports};
 use crate::steps::{Standing, set_registers};
 use pdl_build::Builder;
 use pdl_form::FlatPipe;
+use pdl_form_values::all_twice;
 use pdl_kit::{NoMemory, Seq};
 use pdl_lockapi::LockModule;
 use pdl_net::Net;
@@ -54,9 +55,12 @@ fn emit_steps<L: LockModule>(
         ends: ends.as_slice(),
     };
     let asked = requests(alloc, b, &round)?;
+    let twice = all_twice(alloc, line.pipe)?;
+    let flags = twice.as_slice();
     let all = Standing {
         line,
         locks,
+        twice: flags,
         orders,
         squash: moves.squash,
     };
@@ -65,6 +69,7 @@ fn emit_steps<L: LockModule>(
     let outs = all_outputs(
         alloc,
         line.pipe,
+        flags,
         shown.as_slice(),
         steps.commits.as_slice(),
         asked.as_slice(),

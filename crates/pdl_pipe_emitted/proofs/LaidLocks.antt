@@ -94,7 +94,7 @@ module _ {T : Type 0} (l : Members T) (stays : Stays l) (n : Nets T) (em : Emiss
     }
 
     -- what a memory with a lock commits has the memory's widths
-    pub fits_at : law.CommitFits (mem_at p m) (commits m).first × law.CommitFits (mem_at p m) (commits m).second
+    pub fits_at : law.BothFit (mem_at p m) (commits m)
     fits_at =
         law.commit_fits l stays p n.locks n.deeds n.moves.squash n.tails.cut n.commits vs gates goes em.a em.h em.i em.d
         em.layout.locked em.layout.lawful (deeds_count l n em) (are_of l n em)

@@ -63,6 +63,10 @@ step_is s p ds squash tails vs gates goes m count low of beside =
 abbrev pub CommitFits : Mem → Commit → Type 0
 CommitFits mem y = (y.enable.width ≡ 1) × (2 ^ y.addr.width ≡ mem.depth) × (y.value.width ≡ mem.width)
 
+-- so have both commits of a cycle
+abbrev pub BothFit : Mem → Commits → Type 0
+BothFit mem y = CommitFits mem y.first × CommitFits mem y.second
+
 -- the locks' signals as they are in the circuit a, their steps begun in s and made in b, and the whole netlist c
 module _ {T : Type 0} (l : Members T) (stays : Stays l) (p : Pipe) (xs : List (Option (MemLock T)))
     (ds : List StageDeeds) (squash : Net) (tails : List Net) (ns : List (Option LockNets)) (vs : ℕ → View)
@@ -191,16 +195,15 @@ module _ {T : Type 0} (l : Members T) (stays : Stays l) (p : Pipe) (xs : List (O
 
   -- what the memory commits has the memory's widths
   fits_of : (x : MemLock T) (n : LockNets) → some_at xs m ≡ Some x → some_at ns m ≡ Some n
-      → CommitFits (mem_at p m) (commits_in c ns m).first × CommitFits (mem_at p m) (commits_in c ns m).second
+      → BothFit (mem_at p m) (commits_in c ns m)
   fits_of x n e q =
       let it = (stepped.each m low).lock x n e q in
-      let P : Commits → Type 0 = λ y. CommitFits (mem_at p m) y.first × CommitFits (mem_at p m) y.second in
-      let here : P (commit_of c (Some n)) =
+      let here : BothFit (mem_at p m) (commit_of c (Some n)) =
       (fits_nets (mem_at p m) n.commit n.addr n.value it.nets, fits_nets (mem_at p m) n.commit2 n.addr2 n.value2 it.nets2) in
-      subst P (ap (commit_of c) (sym q)) here
+      subst (BothFit (mem_at p m)) (ap (commit_of c) (sym q)) here
 
   -- the condition of each of a memory's commits has 1 bit, its address reaches each word and no more, and its value has a word's width
-  pub commit_fits : is_locked p m ≡ true → CommitFits (mem_at p m) (commits_in c ns m).first × CommitFits (mem_at p m) (commits_in c ns m).second
+  pub commit_fits : is_locked p m ≡ true → BothFit (mem_at p m) (commits_in c ns m)
   commit_fits h =
       let (x, e) = some_of (some_at xs m) (locked.locked m low ∙ h) in
       let (n, q) = some_of (some_at ns m) ((stepped.each m low).has ∙ locked.locked m low ∙ h) in
