@@ -7,6 +7,7 @@ use Rattle.pdl_net.specs.Circuit.{Circuit}
 use Rattle.pdl_net.specs.Signal.{Signal, mux_signal}
 use Rattle.pdl_net.specs.Meaning.{signal, Means}
 use Rattle.pdl_net.specs.Growth.{Keeps, Extends}
+use Rattle.pdl_net.proofs.KeptWidths.{width_keeps}
 use Rattle.pdl_pipe_exprs.specs.declared.bits.Bits.{Bits}
 use Rattle.pdl_pipe_exprs.specs.Conditions.{AreBits}
 use Rattle.pdl_law_parts.specs.Walk.{Letting, one, zero_bit, both}
@@ -83,6 +84,10 @@ have_releases c x t h w = record {
   first = record { there = h.first.there; width = ap (λ (f : Signal). f.width) h.first.same ∙ w.0 };
   second = record { there = h.second.there; width = ap (λ (f : Signal). f.width) h.second.same ∙ w.1 };
 }
+
+-- they stay there in a circuit that grew
+pub releases_kept : (a b : Circuit) (x : ReleaseNets) → Keeps a b → HaveReleases a x → HaveReleases b x
+releases_kept a b x k h = record { first = width_keeps a b x.first 1 k h.first; second = width_keeps a b x.second 1 k h.second }
 
 -- ---- one release
 

@@ -1,12 +1,11 @@
-use Rattle.std.proofs.Common.{◌≡◌, ◌==◌, ◌∙◌, true, sym, ap, ap₂, subst, eq-eqb}
+use Rattle.std.proofs.Common.{sym, subst, eq-eqb}
 use Rattle.std.proofs.lemmas.Bool.{ne_eqb}
-use Rattle.pdl_net.specs.Signal.{mux_signal}
 use Rattle.pdl_net.specs.Meaning.{signal}
-use Rattle.pdl_net.proofs.Keeps.{extends_keeps, extends_trans, means_keeps}
+use Rattle.pdl_net.proofs.Keeps.{extends_keeps, keeps_trans}
 use Rattle.pdl_pipe_walk.specs.Parts.{letting_in}
-use Rattle.pdl_law_parts.specs.Walk.{one, both}
-use Rattle.pdl_pipe_locks.specs.Ports.{releases_signal, AreReleases, second_with}
-use Rattle.pdl_pipe_locks.proofs.Releases.{told_same, other_release, own_release, with_release}
+use Rattle.pdl_law_parts.specs.Walk.{both}
+use Rattle.pdl_pipe_locks.specs.Ports.{releases_signal, AreReleases}
+use Rattle.pdl_pipe_locks.proofs.Releases.{releases_kept, told_same, other_release, own_release, with_release}
 use Rattle.pdl_pipe_locks.proofs.ports.release_or.Goals as goal
 
 pub returns-then-x-m-clause-means : goal.returns-then-x-m-clause-means
@@ -16,6 +15,12 @@ returns-then-x-m-clause-means c =
     subst (AreReleases a c.args.rest)
     (sym (other_release c.args.twice c.args.m (signal a c.args.moves) x (releases_signal a c.args.rest) (ne_eqb x.mem c.args.m c.if-x-m.true)))
     (told_same a c.args.rest c.requires.rest)
+
+pub second_or-requires-clause-rest : goal.second_or-requires-clause-rest
+second_or-requires-clause-rest c =
+    let k = keeps_trans c.args.b.now c.both.new.b c.mux.new.b (extends_keeps c.args.b.now c.both.new.b c.in_ok-on.ensures.extends)
+    (extends_keeps c.both.new.b c.mux.new.b c.in_ok-first.ensures.extends) in
+    releases_kept c.args.b.now c.mux.new.b c.args.rest k c.requires.rest
 
 pub returns-clause-means : goal.returns-clause-means
 returns-clause-means c =
