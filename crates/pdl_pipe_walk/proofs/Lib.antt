@@ -13,4 +13,5 @@ pub mod MadeGuesses
 pub mod Arrays
 pub mod MadeLocks
 pub mod RowSteps
+pub mod Reserved
 pub mod BarePipes
