@@ -1,7 +1,6 @@
 -- The parts of a netlist of a pipe, from its inputs to its outputs.
-use Rattle.std.specs.Prelude.{◌≡◌, ℕ, ◌<◌, ◌≤◌, Bool, List, length, map, Option, Some, slice_index_or}
+use Rattle.std.specs.Prelude.{◌≡◌, ℕ, ◌<◌, ◌≤◌, List, length, map, Option, Some, slice_index_or}
 use Rattle.pdl_semantics.specs.Stages.{verify_stage}
-use Rattle.pdl_semantics.specs.SecondWrites.{all_twice}
 use Rattle.pdl_form.specs.Form.{Form}
 use Rattle.pdl_net.specs.declared.Net.{Net}
 use Rattle.pdl_net.specs.declared.Net.TheVariants.{Reg as RegNet}
@@ -49,10 +48,6 @@ pub record AreShownOf (x : StageLine) (ss : List ShownNets) : Type 0 where
   pub count : length ss ≡ length x.stages.now
   pub valid : (k : ℕ) (s : StageNets) (y : ShownNets) → k < length ss → IsAt x.stages.now k s → slice_index_or ss k y ≡ y → y.valid ≡ RegNet s.regs.valid
   pub moves : (k : ℕ) (z : Net) (y : ShownNets) → k < length ss → slice_index_or x.moves.now k z ≡ z → slice_index_or ss k y ≡ y → y.moves ≡ z
-
--- these say of each memory whether some path reserves it twice for writing
-abbrev pub IsToldTwice : StageLine → List Bool → Type 0
-IsToldTwice x ts = ts ≡ all_twice (line_pipe x).stmts 0 (line_pipe x).mems
 
 -- ---- in order
 

@@ -2,6 +2,7 @@
 ghost use Rattle.std.specs.Prelude.{◌≡◌, IfOk, length};
 ghost use Rattle.pdl_pipe_answers.specs.Ports.{IsBit};
 ghost use Rattle.pdl_pipe_walk.specs.Locked.{members, AreLocked, AreTickets};
+ghost use Rattle.pdl_pipe_walk.specs.Setting.{TellsTwice};
 ghost use Rattle.pdl_pipe_beside.specs.Ends.{AreEnds};
 ghost use Rattle.pdl_pipe_beside.specs.Ports.{StandPorts};
 ghost use Rattle.pdl_pipe_beside.specs.Orders.{StandOrders};
@@ -10,7 +11,7 @@ ghost use Rattle.pdl_pipe_exprs.specs.Nets.{signals_in};
 ghost use Rattle.pdl_pipe_nexts.specs.Lines.{line_pipe, line_form, IsLineIn};
 ghost use Rattle.pdl_pipe_locks.specs.Lawful.{AreLawful, AreUnwritten};
 ghost use Rattle.pdl_pipe_emitted.specs.Emitted.{CanEmit};
-ghost use Rattle.pdl_pipe.specs.Emitted.{HasLockSteps, HasSteps, IsToldTwice};
+ghost use Rattle.pdl_pipe.specs.Emitted.{HasLockSteps, HasSteps};
 
 use crate::deeds::deeds;
 use pdl_build::Builder;
@@ -55,7 +56,7 @@ fn lock_steps<L: LockModule>(
     requires lawful { AreLawful (members L.LockModule) b.old
         (line_pipe all.now.line.now) all.now.locks.now }
     requires unwritten { AreUnwritten b.old (line_pipe all.now.line.now) }
-    requires twice { IsToldTwice all.now.line.now all.now.twice.now }
+    requires twice { TellsTwice (line_form all.now.line.now) all.now.twice.now }
     requires next { signals_in b.old all.now.line.now.shared.now.next
         ≡ next_signals b.old all.now.locks.now }
     requires squash { IsBit b.old all.now.squash }
@@ -96,7 +97,7 @@ pub fn set_registers<L: LockModule>(
     requires lawful { AreLawful (members L.LockModule) b.old
         (line_pipe all.now.line.now) all.now.locks.now }
     requires unwritten { AreUnwritten b.old (line_pipe all.now.line.now) }
-    requires twice { IsToldTwice all.now.line.now all.now.twice.now }
+    requires twice { TellsTwice (line_form all.now.line.now) all.now.twice.now }
     requires next { signals_in b.old all.now.line.now.shared.now.next
         ≡ next_signals b.old all.now.locks.now }
     requires squash { IsBit b.old all.now.squash }

@@ -1,11 +1,11 @@
 -- What the steps of the locks go round.
-use Rattle.std.specs.Prelude.{◌≡◌, ℕ, Bool, false, slice_index_or}
-use Rattle.pdl_semantics.specs.SecondWrites.{all_twice}
+use Rattle.std.specs.Prelude.{ℕ, Bool, false, slice_index_or}
 use Rattle.pdl_form.specs.FormView.{form}
 use Rattle.pdl_net.specs.Circuit.{Circuit}
 use Rattle.pdl_lockapi.specs.Laws.{StepSignals}
 use Rattle.pdl_net.specs.Meaning.{signal}
 use Rattle.pdl_pipe_walk.specs.Locked.{Members, AreLocked, tickets_in}
+use Rattle.pdl_pipe_walk.specs.Setting.{TellsTwice}
 use Rattle.pdl_pipe_locks.specs.declared.steps.Round.{Round}
 use Rattle.pdl_pipe_locks.specs.Ports.{signals_of}
 use Rattle.pdl_pipe_locks.specs.Deeds.{steps_in, AreDeeds, AreSquashNets}
@@ -24,7 +24,7 @@ HasRoundSquash l c r = AreSquashNets l c r.locks.now r.squash r.tails.now
 
 -- the flags of a round say of each memory whether some path reserves it twice for writing
 abbrev pub HasRoundTwice : {T : Type 0} → Round T → Type 0
-HasRoundTwice r = r.twice.now ≡ all_twice (form r.pipe.now).pipe.stmts 0 (form r.pipe.now).pipe.mems
+HasRoundTwice r = TellsTwice (form r.pipe.now) r.twice.now
 
 -- the flag of memory m
 abbrev pub is_twice : {T : Type 0} → Round T → ℕ → Bool

@@ -1,11 +1,11 @@
 // What the netlist shows.
 ghost use Rattle.std.specs.Prelude.{◌≡◌, ◌<◌, ◌≤◌, ◌∷◌, ◌++◌, [], Some, IfOk, OnOk, map, length, slice_index_or, codes, decimal};
-ghost use Rattle.pdl_semantics.specs.SecondWrites.{all_twice};
 ghost use Rattle.pdl_form.specs.FormView.{form};
 ghost use Rattle.pdl_form.specs.View.{mem_names};
 ghost use Rattle.pdl_net.specs.Circuit.{Circuit};
 ghost use Rattle.pdl_net.specs.Growth.{ExtendsPorts};
 ghost use Rattle.pdl_law_parts.specs.Compiled.{port_in};
+ghost use Rattle.pdl_pipe_walk.specs.Setting.{TellsTwice};
 ghost use Rattle.pdl_pipe_outputs.specs.ToldOutputs.{AreTold, output_of, OutsThere, ShowAll};
 ghost use Rattle.pdl_pipe_outputs.specs.OutputList.{stages_outs, first_outs, second_outs, commit_outs, commits_outs, request_outs, requests_outs, last_moves, all_outs};
 
@@ -299,7 +299,7 @@ pub fn all_outputs(
 ) -> Result<Seq<OutNet>, NoMemory>
     requires some { 1 ≤ length stages.now }
     requires count { length stages.now ≡ length (form pipe.now).pipe.stages }
-    requires twice { twice.now ≡ all_twice (form pipe.now).pipe.stmts 0 (form pipe.now).pipe.mems }
+    requires twice { TellsTwice (form pipe.now) twice.now }
     requires mems { length nets.now ≡ length (form pipe.now).pipe.mems }
     requires asks { length requests.now ≡ length (form pipe.now).pipe.mems }
     // In each circuit in which what is told is there, so are the outputs, and they show it.

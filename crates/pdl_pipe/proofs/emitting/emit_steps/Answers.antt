@@ -199,12 +199,6 @@ set_registers-requires-clause-squash g c =
     let ar = keeps_trans a b r ab br in
     bit_keep b r c.args.moves.now.squash br moved.moved.squash
 
-pub set_registers-requires-clause-twice : goal.set_registers-requires-clause-twice
-set_registers-requires-clause-twice g c = c.as_slice-flags.ensures.value ∙ c.in_ok-twice.ensures
-
-pub all_outputs-requires-clause-twice : goal.all_outputs-requires-clause-twice
-all_outputs-requires-clause-twice g c = c.as_slice-flags.ensures.value ∙ c.in_ok-twice.ensures
-
 pub show-requires : goal.show-requires
 show-requires g c =
     let b = c.args.b.now in
