@@ -21,7 +21,7 @@ use Rattle.pdl_image.specs.Images.{IsImage}
 use Rattle.pdl_machine_facts.proofs.Requests.{none_requested}
 use Rattle.pdl_law_parts.specs.Walk.{Locks}
 use Rattle.pdl_law_parts.specs.Views.{View, Gates}
-use Rattle.pdl_law_parts.specs.Declared.{mem_names}
+use Rattle.pdl_law_parts.specs.DeclaredMems.{mem_names}
 use Rattle.pdl_law_sides.specs.Sides.{Sides}
 use Rattle.pdl_law.specs.StandingStates.{IsLawful, IsKnown}
 use Rattle.pdl_law_sides.specs.WholeNetlist.{in_order, ShowsWhole}

@@ -14,7 +14,7 @@ use Rattle.pdl_net.specs.declared.Array.{Array}
 use Rattle.pdl_net.specs.Circuit.{Shape, shape_of}
 use Rattle.pdl_net.specs.Pipe.{PortMem, IsPipeArray, comb_info, delayed_info}
 use Rattle.pdl_lockapi.proofs.LockKinds.{once_or_twice}
-use Rattle.pdl_law_parts.specs.Declared.{port_mem, locked_of, array_words, shape_of_mem}
+use Rattle.pdl_law_parts.specs.DeclaredMems.{port_mem, locked_of, array_words, shape_of_mem}
 use Rattle.pdl_law_parts.proofs.WellFormedNames.{Among, among_one}
 use Rattle.pdl_law_parts.proofs.WellFormedPorts.{locked_named, found}
 use Rattle.pdl_law_parts.proofs.WellFormedMems.{Reaches, IsAddressed}

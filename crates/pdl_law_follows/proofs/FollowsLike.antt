@@ -8,7 +8,7 @@ use Rattle.pdl_net.specs.Circuit.{circuit_of, outputs_of, shape_of}
 use Rattle.pdl_net.specs.Pipe.{PortMem, head_of, IsWellFormed}
 use Rattle.pdl_net.specs.Run.{nports}
 use Rattle.pdl_image.specs.Images.{IsImage}
-use Rattle.pdl_law_parts.specs.Declared.{port_mem, locked_of}
+use Rattle.pdl_law_parts.specs.DeclaredMems.{port_mem, locked_of}
 use Rattle.pdl_law_parts.specs.Runs.{seen_of, output_count}
 use Rattle.pdl_law_parts.proofs.LinesNames.{name_of_output, some_stages}
 use Rattle.pdl_law_follows.specs.Memories.{delayed_of}

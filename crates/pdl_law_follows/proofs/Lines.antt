@@ -25,7 +25,7 @@ use Rattle.pdl_net.specs.Run.{Shown, nports, commit_of, port_value}
 use Rattle.pdl_machine_facts.specs.Ports.{stage_values, all_commit_values}
 use Rattle.pdl_machine_facts.specs.Cycle.{ports_of, IsByStages}
 use Rattle.pdl_law_parts.specs.Served.{IsServed}
-use Rattle.pdl_law_parts.specs.Declared.{port_mem, locked_of}
+use Rattle.pdl_law_parts.specs.DeclaredMems.{port_mem, locked_of}
 use Rattle.pdl_law_parts.specs.Runs.{Seen, seen_of, column_of, puts_of, output_count, cycle_by, cycle_of, commit_mems}
 use Rattle.pdl_law_parts.proofs.WellFormedPorts.{stage_names}
 use Rattle.pdl_law_parts.proofs.LinesMachine.{AreCommits, none_twice, IsShaped, shaped}

@@ -14,7 +14,7 @@ use Rattle.pdl_net.specs.declared.Netlist.{Netlist}
 use Rattle.pdl_net.specs.Circuit.{circuit_of, outputs_of}
 use Rattle.pdl_net.specs.Pipe.{PortMem}
 use Rattle.pdl_machine_facts.specs.Ports.{commit_values, all_commit_values}
-use Rattle.pdl_law_parts.specs.Declared.{port_mem, locked_of}
+use Rattle.pdl_law_parts.specs.DeclaredMems.{port_mem, locked_of}
 use Rattle.pdl_law_parts.specs.Runs.{commit_mem, commit_mems}
 use Rattle.pdl_law_parts.proofs.WellFormedNames.{Among, name_turned, among_other}
 use Rattle.pdl_law_parts.proofs.LinesMachine.{AreCommits, none_twice}

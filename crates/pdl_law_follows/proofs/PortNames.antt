@@ -4,7 +4,7 @@ use Rattle.std.specs.Prelude.{filter}
 use Rattle.pdl_semantics.specs.Tree.{Mem}
 use Rattle.pdl_rules.specs.Typed.{AreDistinct}
 use Rattle.pdl_net.specs.Pipe.{PortMem}
-use Rattle.pdl_law_parts.specs.Declared.{port_mem, locked_of}
+use Rattle.pdl_law_parts.specs.DeclaredMems.{port_mem, locked_of}
 use Rattle.pdl_law_parts.proofs.WellFormedNames.{IsNone, AllDiffer, name_of_mem, mem_none}
 use Rattle.pdl_law_parts.proofs.WellFormedPorts.{heads_apart, tails_apart, IsFree, AreFree, stage_names, stages_differ, all_free}
 use Rattle.pdl_law_follows.specs.Memories.{delayed_of}

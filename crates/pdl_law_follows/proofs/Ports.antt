@@ -14,7 +14,7 @@ use Rattle.pdl_net.specs.Circuit.{Circuit, outputs_of, port_output}
 use Rattle.pdl_net.specs.Pipe.{Head, PortMem, head_of, input, output, reply_ports, stage_ports, commit_ports, request_ports, pipe_ports}
 use Rattle.pdl_net.specs.Signal.{Signal}
 use Rattle.pdl_law_parts.specs.Views.{View, Gates}
-use Rattle.pdl_law_parts.specs.Declared.{port_mem, locked_of, mem_names, CommitsFit, AreBitsWide}
+use Rattle.pdl_law_parts.specs.DeclaredMems.{port_mem, locked_of, mem_names, CommitsFit, AreBitsWide}
 use Rattle.pdl_law_parts.specs.Ports.{Commit, stages_shown, commits_shown}
 use Rattle.pdl_law_parts.proofs.WellFormedNames.{Among}
 use Rattle.pdl_law_parts.proofs.WellFormedMems.{Reaches, power_one}

@@ -22,7 +22,7 @@ use Rattle.pdl_net.specs.Pipe.{IsAddress, IsPipeArray, IsKept, IsPipe, IsWellFor
 use Rattle.pdl_law_parts.specs.Walk.{Locks}
 use Rattle.pdl_law_parts.specs.Views.{Gates, View}
 use Rattle.pdl_law_parts.specs.Places.{comb_place}
-use Rattle.pdl_law_parts.specs.Declared.{port_mem, locked_of, mem_names, shape_of_mem, CommitsFit, AreBitsWide}
+use Rattle.pdl_law_parts.specs.DeclaredMems.{port_mem, locked_of, mem_names, shape_of_mem, CommitsFit, AreBitsWide}
 use Rattle.pdl_law_parts.proofs.WellFormedNames.{Among, name_of_mem, all_pairs, mem_names_differ}
 use Rattle.pdl_law_parts.proofs.WellFormedPorts.{heads_of, head_shown}
 use Rattle.pdl_law_parts.proofs.WellFormedMems.{Reaches, reaches_all, sized_among, IsAddressed, addressed}

@@ -13,7 +13,7 @@ use Rattle.pdl_net.specs.Pipe.{head_of, pipe_ports, IsWellFormed}
 use Rattle.pdl_law_parts.specs.Walk.{Locks}
 use Rattle.pdl_law_parts.specs.Views.{View, Gates}
 use Rattle.pdl_law_parts.specs.Places.{comb_place}
-use Rattle.pdl_law_parts.specs.Declared.{locked_of, port_mem, mem_names, shape_of_mem, AreBitsWide, CommitsFit}
+use Rattle.pdl_law_parts.specs.DeclaredMems.{locked_of, port_mem, mem_names, shape_of_mem, AreBitsWide, CommitsFit}
 use Rattle.pdl_law_sides.specs.Sides.{Sides}
 use Rattle.pdl_law_sides.specs.WholeNetlist.{IsWhole, ShowsWhole}
 use Rattle.pdl_law_follows.specs.Memories.{delayed_of, comb_of, net_infos}

@@ -11,7 +11,7 @@ use Rattle.pdl_semantics.specs.Lines.{column, columns, cycle_lines, mem_lines, p
 use Rattle.pdl_rules.specs.Typed.{AreDistinct}
 use Rattle.pdl_rules.specs.Memories.{info_of}
 use Rattle.pdl_net.specs.Circuit.{Output}
-use Rattle.pdl_law_parts.specs.Declared.{if_locked}
+use Rattle.pdl_law_parts.specs.DeclaredMems.{if_locked}
 use Rattle.pdl_law_parts.specs.Runs.{column_of, commit_mem}
 use Rattle.pdl_law_parts.proofs.WellFormedNames.{Among, name_turned, among_other}
 use Rattle.pdl_law_parts.proofs.WellFormedPorts.{stage_names}

@@ -12,7 +12,7 @@ use Rattle.pdl_net.specs.declared.WritePort.{WritePort}
 use Rattle.pdl_net.specs.Circuit.{Circuit, Shape, shape_of}
 use Rattle.pdl_net.specs.Meaning.{write_signal}
 use Rattle.pdl_net.specs.Pipe.{PortMem, comb_info}
-use Rattle.pdl_law_parts.specs.Declared.{port_mem, locked_of, has_lock, array_words, shape_of_mem}
+use Rattle.pdl_law_parts.specs.DeclaredMems.{port_mem, locked_of, has_lock, array_words, shape_of_mem}
 use Rattle.pdl_law_parts.proofs.WellFormedNames.{Among, name_of_mem}
 use Rattle.pdl_law_parts.proofs.WellFormedMems.{Reaches}
 use Rattle.pdl_rules.specs.Memories.{info_of}

@@ -13,7 +13,7 @@ use Rattle.pdl_net.specs.Circuit.{Circuit, Output}
 use Rattle.pdl_net.specs.Pipe.{Head, PortMem, head_of, output, stage_ports, commit_ports}
 use Rattle.pdl_net.specs.Signal.{Signal}
 use Rattle.pdl_law_parts.specs.Views.{Gates, View}
-use Rattle.pdl_law_parts.specs.Declared.{port_mem, locked_of, mem_names, FitsMem, CommitsFit, AreBitsWide}
+use Rattle.pdl_law_parts.specs.DeclaredMems.{port_mem, locked_of, mem_names, FitsMem, CommitsFit, AreBitsWide}
 use Rattle.pdl_law_parts.proofs.WellFormedMems.{Reaches, power_one}
 use Rattle.pdl_law_parts.specs.Ports.{Shown, Commit, stages_shown, commit_shown, commits_shown}
 use Rattle.pdl_law_parts.specs.Compiled.{shown_in, port_in}

@@ -14,7 +14,7 @@ use Rattle.pdl_law_parts.specs.Views.{View, Gates}
 use Rattle.pdl_law_parts.specs.Ports.{step_of}
 use Rattle.pdl_law_parts.specs.Places.{comb_place}
 use Rattle.pdl_law_parts.specs.Compiled.{port_in}
-use Rattle.pdl_law_parts.specs.Declared.{AreBitsWide}
+use Rattle.pdl_law_parts.specs.DeclaredMems.{AreBitsWide}
 use Rattle.pdl_law_sides.specs.Sides.{Sides}
 use Rattle.pdl_law_sides.specs.WholeNetlist.{IsWhole}
 use Rattle.pdl_pipe_walk.specs.declared.locks.MemLock.{MemLock}

@@ -12,7 +12,7 @@ use Rattle.pdl_rules.specs.Memories.{infos_of, info_of}
 use Rattle.pdl_net.specs.Circuit.{Shape}
 use Rattle.pdl_form.specs.Form.{names_of}
 use Rattle.pdl_law_parts.specs.Ports.{Commits}
-use Rattle.pdl_law_parts.specs.Declared.{array_words, shape_of_mem, mem_names, CommitsFit}
+use Rattle.pdl_law_parts.specs.DeclaredMems.{array_words, shape_of_mem, mem_names, CommitsFit}
 use Rattle.pdl_lockapi.specs.Sizes.{words_in}
 use Rattle.pdl_lockapi.proofs.LockKinds.{lock_is, words_are}
 use Rattle.pdl_pipe_locks.specs.Suited.{shapes_in}

@@ -24,7 +24,7 @@ use Rattle.pdl_machine_facts.specs.Cycle.{IsByStages}
 use Rattle.pdl_machine_facts.proofs.StagewisePorts.{at_stage}
 use Rattle.pdl_law_parts.specs.Walk.{Locks, is_locked}
 use Rattle.pdl_law_parts.specs.Views.{View, Gates}
-use Rattle.pdl_law_parts.specs.Declared.{mem_names}
+use Rattle.pdl_law_parts.specs.DeclaredMems.{mem_names}
 use Rattle.pdl_law_parts.specs.Places.{delayed_count}
 use Rattle.pdl_law_parts.specs.States.{held_after}
 use Rattle.pdl_law_parts.specs.Stands.{IsSeen, IsSquashed, StandsLock}

@@ -17,7 +17,7 @@ use Rattle.pdl_net.specs.declared.Dir.{Dir}
 use Rattle.pdl_net.specs.declared.Dir.TheVariants.{In, Out}
 use Rattle.pdl_net.specs.declared.Port.{Port}
 use Rattle.pdl_net.specs.Pipe.{Head, head_of, output, reply_ports, stage_ports, commit_ports, request_ports, pipe_ports}
-use Rattle.pdl_law_parts.specs.Declared.{port_mem, locked_of}
+use Rattle.pdl_law_parts.specs.DeclaredMems.{port_mem, locked_of}
 use Rattle.pdl_law_follows.specs.Memories.{delayed_of, comb_of, net_infos}
 use Rattle.pdl_law_follows.proofs.Memories.{as_many}
 use Rattle.pdl_wave.specs.declared.port.WavePort.{WavePort}
