@@ -18,7 +18,6 @@ use Rattle.pdl_lockapi.proofs.Places.{place_front, place_behind, once_front, onc
 use Rattle.pdl_theory_turns.proofs.Steps.{new_more}
 use Rattle.pdl_law_parts.specs.declared.Mark.{Mark}
 use Rattle.pdl_law_parts.specs.declared.Mark.TheVariants.{Late}
-use Rattle.pdl_law_parts.specs.Lives.{mark_from}
 use Rattle.pdl_law_parts.specs.Walk.{Locks, Reservation, with_mark, reserved_signal, late_after}
 use Rattle.pdl_law_parts.specs.Stands.{TellsLate, AreLate, reserved_in, own_entries}
 use Rattle.pdl_law_parts.proofs.Signals.{mux_at, reserved_is}

@@ -3,7 +3,7 @@ use Rattle.std.proofs.Common.{◌≡◌, refl, sym, ap, ap₂, ◌∙◌, subst,
 use Rattle.std.specs.Prelude.{if◌then◌else◌, slice_index}
 use Rattle.std.proofs.lemmas.Bool.{eqb-true, eqb-false, ne_eqb}
 use Rattle.pdl_semantics.specs.Flat.{Op, Bind, CombRead, DelayedRead, Write, ReserveRead, ReserveWrite, Block, Release, Call, SpecCall, Verify, SpecCheck, SpecBarrier, AdviceBind, AdviceRead, AdviceWrite, Stmt, list_all, all_hold}
-use Rattle.pdl_semantics.specs.Machine.{Deeds, Reserved, reserves_of, same_args, after_verify, deeds_after, deeds_after_all, checked_args}
+use Rattle.pdl_semantics.specs.Machine.{Deeds, Reserved, reserves_of, same_args, deeds_after, deeds_after_all, checked_args}
 use Rattle.pdl_semantics.specs.Cycle.{new_entries}
 use Rattle.pdl_semantics.proofs.Facts.{all_push}
 

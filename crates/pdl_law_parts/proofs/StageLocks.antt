@@ -1,5 +1,5 @@
 -- Rows that use the locks: reservations, writes, blocks and releases.
-use Rattle.std.proofs.Common.{◌≡◌, ℕ, suc, Bool, true, false, ◌&&◌, ◌||◌, [], ◌∷◌, ◌++◌, length, ◌≤◌, refl, sym, ap, ap₂, ◌∙◌, subst, append-nil, arith}
+use Rattle.std.proofs.Common.{◌≡◌, ℕ, suc, Bool, true, false, ◌&&◌, ◌||◌, List, [], ◌∷◌, ◌++◌, length, ◌≤◌, refl, sym, ap, ap₂, ◌∙◌, subst, append-nil, arith}
 use Rattle.std.specs.Prelude.{slice_index, ◌==◌, if◌then◌else◌}
 use Rattle.std.proofs.lemmas.Bool.{or_right, or_left}
 use Rattle.std.proofs.Math.Bool.{and_assoc}
@@ -17,7 +17,7 @@ use Rattle.pdl_machine_facts.specs.Slots.{locks_ready}
 use Rattle.pdl_law_parts.specs.declared.Mark.{Mark}
 use Rattle.pdl_law_parts.specs.declared.Mark.TheVariants.{Held, Late}
 use Rattle.pdl_law_parts.specs.Lives.{uses_var, guards_use, lives_from, mark_from}
-use Rattle.pdl_law_parts.specs.Walk.{Locks, Walk, is_on, one, zero_bit, both, with_mark, reserved_signal, room_after, late_after, walk_after}
+use Rattle.pdl_law_parts.specs.Walk.{Locks, Walk, is_on, one, zero_bit, both, with_mark, reserved_signal, room_after, walk_after}
 use Rattle.pdl_law_parts.specs.Views.{View}
 use Rattle.pdl_law_parts.specs.Stands.{IsSo, MarksLate, IsHolding, reserved_in, written_in, let_in}
 use Rattle.pdl_law_parts.specs.Served.{at_most}
@@ -271,7 +271,7 @@ module _ (c : Circuit) (p : Pipe) (ls : Locks) (vs : ℕ → View) (s : State) (
   pub follows_block : (m a : ℕ) → FollowsOp c p ls vs s st k thread around (Block m a)
   follows_block m a j gs r w d live on row here fine sole q =
       asking c p ls vs s st k thread around gs r w d glive on q (Block m a)
-      (walk_after (Block m a) r ls w) r.value found refl (λ b f. split b) told (λ h b f. so h b)
+      (walk_after (Block m a) r ls w) r.value found refl (λ b f. split b) told (λ h b f. so h b) (λ h l b f. lates l b)
     where
       glive : (z : ℕ) → guards_use gs z ≡ true → lives_from p k z ≡ true
       glive z u = live.vars z (or_left (guards_use gs z) (a == z) u)
