@@ -1,6 +1,7 @@
 -- A pipe without its updates, which replace a guess by a better one: it does the same, only later.
-use Rattle.std.specs.Prelude.{◌≡◌, ℕ, Bool, false, not, List, [], ◌∷◌, if◌then◌else◌}
+use Rattle.std.specs.Prelude.{◌≡◌, ℕ, Bool, false, not, List, [], ◌∷◌, ◌++◌, Option, Some, None, if◌then◌else◌}
 use Rattle.pdl_semantics.specs.Flat.{Arrays, Op, Bind, CombRead, DelayedRead, Write, ReserveRead, ReserveWrite, Block, Release, Call, SpecCall, Verify, SpecCheck, SpecBarrier, AdviceBind, AdviceRead, AdviceWrite, Stmt, Pipe, Commit}
+use Rattle.pdl_semantics.specs.Stages.{verify_stage}
 use Rattle.pdl_semantics.specs.Sequential.{seqwrites}
 use Rattle.pdl_semantics.specs.Cycle.{turns, commits}
 use Rattle.pdl_semantics.specs.Promises.{IsPrefix}
@@ -23,6 +24,20 @@ is_update SpecBarrier = false
 is_update (AdviceBind x e) = false
 is_update (AdviceRead x m a) = false
 is_update (AdviceWrite m a e) = false
+
+-- U as the stage of the first `update`, where there is one
+abbrev pub update_stage : List Stmt → Option ℕ
+update_stage [] = None
+update_stage (x ∷ xs) = if is_update x.op then Some x.stage else update_stage xs
+
+-- a stage as a list, where there is one
+abbrev pub listed : Option ℕ → List ℕ
+listed None = []
+listed (Some s) = s ∷ []
+
+-- the stages in which a thread may squash: V and U
+abbrev pub squash_stages : List Stmt → List ℕ
+squash_stages xs = listed (verify_stage xs) ++ listed (update_stage xs)
 
 -- the statements but for the updates
 abbrev pub without_updates : List Stmt → List Stmt
