@@ -77,11 +77,11 @@ puts_shown s x twice ws h = (
     word = ap (λ l. slice_index l 2) all;
   },
   λ t. (let both = sym (ap (λ b. first ++ (if b then second else [])) t) ∙ all ∙ ap (λ b. put ++ (if b then next else [])) t in
-    record {
-      flag = ap (λ l. slice_index l 3) both;
-      addr = ap (λ l. slice_index l 4) both;
-      word = ap (λ l. slice_index l 5) both;
-    }),
+      record {
+        flag = ap (λ l. slice_index l 3) both;
+        addr = ap (λ l. slice_index l 4) both;
+        word = ap (λ l. slice_index l 5) both;
+      }),
 )
   where
     first : List ℕ
