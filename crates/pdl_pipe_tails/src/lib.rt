@@ -4,6 +4,7 @@
 #![tactic(auto)]
 
 pub mod carried;
+pub mod cut;
 pub mod reserved;
 pub mod whole;
 

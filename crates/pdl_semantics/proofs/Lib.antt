@@ -12,3 +12,4 @@ pub mod Updates
 pub mod SecondWrites
 pub mod Advice
 pub mod AdviceApart
+pub mod SquashStages

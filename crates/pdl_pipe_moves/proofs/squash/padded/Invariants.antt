@@ -1,5 +1,5 @@
-use Rattle.pdl_pipe_moves.specs.Passed.{ArePadded}
-use Rattle.pdl_pipe_moves.proofs.whole.padded.Given as goal
+use Rattle.pdl_pipe_moves.specs.StageSquashes.{ArePadded}
+use Rattle.pdl_pipe_moves.proofs.squash.padded.Given as goal
 
 -- the first of them
 abbrev pub invariant-loop-k : goal.invariant-loop-k

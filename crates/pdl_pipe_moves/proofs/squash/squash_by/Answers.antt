@@ -5,7 +5,7 @@ use Rattle.pdl_law_parts.specs.Views.{View}
 use Rattle.pdl_pipe_registers.proofs.Lists.{view_at}
 use Rattle.pdl_pipe_nexts.specs.Lines.{line_views}
 use Rattle.pdl_pipe_moves.proofs.AllMoves.{squash_as, valid_bits, valid_is}
-use Rattle.pdl_pipe_moves.proofs.whole.squash_by.Goals as goal
+use Rattle.pdl_pipe_moves.proofs.squash.squash_by.Goals as goal
 
 pub emit_squash-requires-clause-valid : goal.emit_squash-requires-clause-valid
 emit_squash-requires-clause-valid c = valid_bits c.args.b.now c.args.line.now c.in_ok-valid.valid c.requires.line c.in_ok-valid.ensures

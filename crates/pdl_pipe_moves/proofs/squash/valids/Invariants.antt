@@ -3,7 +3,7 @@ use Rattle.pdl_net.specs.declared.Net.TheVariants.{Reg as RegNet}
 use Rattle.pdl_squash.specs.Laws.{net_at}
 use Rattle.pdl_pipe_registers.specs.declared.nets.StageNets.{StageNets}
 use Rattle.pdl_pipe_registers.specs.Stages.{IsAt}
-use Rattle.pdl_pipe_moves.proofs.whole.valids.Given as goal
+use Rattle.pdl_pipe_moves.proofs.squash.valids.Given as goal
 
 -- those of the first stages
 abbrev pub invariant-loop-k : goal.invariant-loop-k
