@@ -2,7 +2,6 @@
 use Rattle.std.specs.Prelude.{ℕ, Bool, false, ◌==◌, ◌&&◌, ◌||◌, List, [], ◌∷◌, nat_le, drop}
 use Rattle.pdl_semantics.specs.Flat.{Expr, Op, Bind, CombRead, DelayedRead, Write, ReserveRead, ReserveWrite, Block, Release, Call, SpecCall, Verify, SpecCheck, SpecBarrier, AdviceBind, AdviceRead, AdviceWrite, Guard, Stmt, Next, Ends, Goes, Forks, Stage, Pipe}
 use Rattle.pdl_semantics.specs.Stages.{list_any, is_verify}
-use Rattle.pdl_semantics.specs.Updates.{is_update}
 use Rattle.pdl_theory_facts.specs.Facts.{uses_in, uses_any}
 use Rattle.pdl_law_parts.specs.declared.Mark.{Mark}
 use Rattle.pdl_law_parts.specs.declared.Mark.TheVariants.{Held, Late}
@@ -100,6 +99,6 @@ asks_mark Late op m a = asks_late op m a
 abbrev pub mark_from : Pipe → ℕ → Mark → ℕ → ℕ → Bool
 mark_from p k mark m a = list_any (λ (r : Stmt). nat_le k r.stage && asks_mark mark r.op m a) p.stmts
 
--- a row of a stage from k on compares its arguments with the guess
+-- a row of a stage from k on verifies the guess; an update of it stands before that
 abbrev pub verifies_from : Pipe → ℕ → Bool
-verifies_from p k = list_any (λ (r : Stmt). nat_le k r.stage && (is_verify r.op || is_update r.op)) p.stmts
+verifies_from p k = list_any (λ (r : Stmt). nat_le k r.stage && is_verify r.op) p.stmts

@@ -36,7 +36,7 @@ TellsLate s late thread a es = has_place thread a es ≡ true → IsOnce thread 
 abbrev pub AreLate : Pipe → ℕ → State → (Mark → ℕ → ℕ → Signal) → ℕ → ℕ → List Pending → Type 0
 AreLate p k s marks thread m es = (a : ℕ) → mark_from p k Late m a ≡ true → TellsLate s (marks Late m a) thread a es
 
--- where a verify or an update is still to come, and a guess was made, its arguments are those of the signals
+-- where a verify is still to come, and a guess was made, its arguments are those of the signals
 abbrev pub IsGuess : Pipe → ℕ → State → List Signal → List ℕ → Type 0
 IsGuess p k s guess args = verifies_from p k ≡ true → length args ≡ length p.start → args ≡ values_at s guess
 
@@ -123,7 +123,7 @@ pub record IsSo (p : Pipe) (k : ℕ) (s : State) (w : Walk) (d : Deeds) : Type 0
   pub short : AreShort p w.births
   pub asks : d.asks ≡ asked_in s w.asks
   pub guess_long : length w.guess ≡ length p.start
-  -- in the stage of a verify that failed nobody asks the guess any more
+  -- after a verify that failed nobody asks for the guess any more
   pub guess : (d.fails ≡ true → verify_stage p.stmts ≡ Some k → ⊥) → IsGuess p k s w.guess d.guess
   pub fails : w.fails.value s ≡ bit d.fails
   pub barrier : w.barrier.value s ≡ bit d.barrier

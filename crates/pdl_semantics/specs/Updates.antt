@@ -1,5 +1,5 @@
 -- A pipe without its updates, which replace a guess by a better one: it does the same, only later.
-use Rattle.std.specs.Prelude.{◌≡◌, ℕ, Bool, false, not, List, [], ◌∷◌, ◌++◌, Option, Some, None, if◌then◌else◌}
+use Rattle.std.specs.Prelude.{◌≡◌, ℕ, Bool, false, not, List, [], ◌∷◌, ◌++◌, Option, Some, None, if◌then◌else◌, nat_lt}
 use Rattle.pdl_semantics.specs.Flat.{Arrays, Op, Bind, CombRead, DelayedRead, Write, ReserveRead, ReserveWrite, Block, Release, Call, SpecCall, Verify, SpecCheck, SpecBarrier, AdviceBind, AdviceRead, AdviceWrite, Stmt, Pipe, Commit}
 use Rattle.pdl_semantics.specs.Stages.{verify_stage}
 use Rattle.pdl_semantics.specs.Sequential.{seqwrites}
@@ -25,10 +25,20 @@ is_update (AdviceBind x e) = false
 is_update (AdviceRead x m a) = false
 is_update (AdviceWrite m a e) = false
 
--- U as the stage of the first `update`, where there is one
+-- the stage of the first `update`, where there is one
+abbrev pub first_update : List Stmt → Option ℕ
+first_update [] = None
+first_update (x ∷ xs) = if is_update x.op then Some x.stage else first_update xs
+
+-- the second one of two stages, where it is before the first one
+abbrev pub earlier : Option ℕ → Option ℕ → Option ℕ
+earlier None u = None
+earlier (Some v) None = None
+earlier (Some v) (Some u) = if nat_lt u v then Some u else None
+
+-- U as the stage of the first `update`, where that is before V; elsewhere an update stands on no path
 abbrev pub update_stage : List Stmt → Option ℕ
-update_stage [] = None
-update_stage (x ∷ xs) = if is_update x.op then Some x.stage else update_stage xs
+update_stage xs = earlier (verify_stage xs) (first_update xs)
 
 -- a stage as a list, where there is one
 abbrev pub listed : Option ℕ → List ℕ
