@@ -17,7 +17,7 @@ use Rattle.pdl_law_parts.specs.Views.{View, Gates, Comer, comers, first_coming}
 use Rattle.pdl_law_parts.specs.Ports.{all_reserves}
 use Rattle.pdl_law_parts.specs.Compiled.{Same, Becomes}
 use Rattle.pdl_machine_inflight.specs.Readings.{Reading, reading, places, place_at, branch_stages}
-use Rattle.pdl_law_sides.specs.Sides.{Sides, answers_of, with_answer, gate_where, any_squash, any_removes, of_squasher, port_step, order_step, with_tickets}
+use Rattle.pdl_law_sides.specs.Sides.{Sides, answers_of, with_answer, gate_where, any_of, any_removes, of_squasher, port_step, order_step, with_tickets}
 
 -- a fragment without array has its own registers
 pub record HasOwn (c : Circuit) (own : Own) : Type 0 where
@@ -38,7 +38,7 @@ pub record HasOrder (p : Pipe) (c : Circuit) (vs : ℕ → View) (gates : Gates)
   pub owned : HasOwn c own
   pub starts : order_laws.StartLaw (sides.order f).stands c own
   pub first : order_laws.FirstLaw (sides.order f).stands (sides.order f).first (sides.order f).empty
-  pub step : order_laws.StepLaw (sides.order f).stands (branch_stages p f) own c (order_step p vs sides moves f)
+  pub step : order_laws.StepLaw (sides.order f).stands (branch_stages p f) own c (order_step p vs sides.squash moves f)
 
 -- the nets by which a stage squashes
 abbrev pub squash_of : (ℕ → View) → (ℕ → Signal) → ℕ → squash_laws.SquashSignals
@@ -47,7 +47,7 @@ squash_of vs moves z = record { valid = λ k. (vs k).valid; stage = z; moves = m
 -- squashes, by V and by U of the stages before them: each has its law, and of all stages one squashes or removes where one of the two does
 pub record HasRemovals (p : Pipe) (c : Circuit) (vs : ℕ → View) (gates : Gates) (moves : ℕ → Signal) (sides : Sides) : Type 0 where
   pub law : (z : ℕ) → Contains (squash_stages p.stmts) z → squash_laws.SquashLaw (squash_of vs moves z) (sides.squash z) (sides.removed z) (sides.clear z)
-  pub squash : Same c gates.squash (any_squash (squash_stages p.stmts) sides.squash)
+  pub squash : Same c gates.squash (any_of (squash_stages p.stmts) sides.squash)
   pub kill : (k : ℕ) → k < length p.stages → Same c (gates.kill k) (any_removes (squash_stages p.stmts) sides.removed k)
 
 -- where a squash cuts each lock: up to the stage of its reserves after all that this cycle reserves, and from there on up to V where it did before

@@ -1,5 +1,5 @@
 -- What stands beside the stages, in signals: the ports of delayed memories, the orders of forks, and speculation; and what the stages ask of them.
-use Rattle.std.specs.Prelude.{ℕ, zero, suc, ◌==◌, Bool, List, [], ◌∷◌, Option, Some, None, if◌then◌else◌, nat_lt, length}
+use Rattle.std.specs.Prelude.{ℕ, zero, suc, ◌==◌, Bool, List, [], ◌∷◌, Option, Some, None, if◌then◌else◌, nat_lt, length, filter}
 use Rattle.pdl_semantics.specs.Flat.{Next, Ends, Goes, Forks, Branch, Pipe}
 use Rattle.pdl_semantics.specs.Stages.{stage_at, is_inside, sides_of, merges_fork, verify_stage}
 use Rattle.pdl_semantics.specs.Updates.{squash_stages}
@@ -84,15 +84,15 @@ abbrev pub unsquashed : List ℕ → ℕ → (ℕ → Signal) → Signal
 unsquashed [] k squash = one
 unsquashed (z ∷ zs) k squash = if nat_lt k z then mux_signal (squash z) zero_bit (unsquashed zs k squash) else unsquashed zs k squash
 
--- whether one of these stages squashes
-abbrev pub any_squash : List ℕ → (ℕ → Signal) → Signal
-any_squash [] squash = zero_bit
-any_squash (z ∷ zs) squash = mux_signal (squash z) one (any_squash zs squash)
+-- whether one of these stages has a bit that is 1
+abbrev pub any_of : List ℕ → (ℕ → Signal) → Signal
+any_of [] f = zero_bit
+any_of (z ∷ []) f = f z
+any_of (z ∷ y ∷ zs) f = mux_signal (f z) one (any_of (y ∷ zs) f)
 
 -- whether one of these stages, as far as they are later, removes who stands in stage k
 abbrev pub any_removes : List ℕ → (ℕ → ℕ → Signal) → ℕ → Signal
-any_removes [] removed k = zero_bit
-any_removes (z ∷ zs) removed k = if nat_lt k z then mux_signal (removed z k) one (any_removes zs removed k) else any_removes zs removed k
+any_removes zs removed k = any_of (filter (nat_lt k) zs) (λ z. removed z k)
 
 -- of these stages the one that squashes has this signal; the last one, where none before it does
 abbrev pub of_squasher : List ℕ → (ℕ → Signal) → (ℕ → Signal) → Signal → Signal
@@ -202,16 +202,15 @@ leaves_fork p vs moves f (suc n) k =
 
 -- whether one of these stages squashes, in which or before which the fork merges
 abbrev pub emptied_by : Pipe → ℕ → List ℕ → (ℕ → Signal) → Signal
-emptied_by p f [] squash = zero_bit
-emptied_by p f (z ∷ zs) squash = if merges_by p f (Some z) then mux_signal (squash z) one (emptied_by p f zs squash) else emptied_by p f zs squash
+emptied_by p f zs squash = any_of (filter (λ z. merges_by p f (Some z)) zs) squash
 
--- what a cycle does to the order of a fork
-abbrev pub order_step : Pipe → (ℕ → View) → Sides → (ℕ → Signal) → ℕ → order_laws.StepSignals
-order_step p vs sides moves f = record {
+-- what a cycle does to the order of a fork, where stages squash so
+abbrev pub order_step : Pipe → (ℕ → View) → (ℕ → Signal) → (ℕ → Signal) → ℕ → order_laws.StepSignals
+order_step p vs squash moves f = record {
   entered_first = both (moves f) (into_first p f (stage_at p f).next (vs f).ended);
   entered_second = both (moves f) (into_second p f (stage_at p f).next (vs f).ended);
   left = leaves_fork p vs moves f (length p.stages) 0;
-  emptied = emptied_by p f (squash_stages p.stmts) sides.squash;
+  emptied = emptied_by p f (squash_stages p.stmts) squash;
 }
 
 -- ---- tails
