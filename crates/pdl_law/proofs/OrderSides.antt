@@ -176,7 +176,7 @@ module _ (p : Pipe) (c : Circuit) (vs : ℕ → View) (gates : Gates) (moves : �
             ∙ merge_is (vs k).ended (stage_at p k).next (deeds p st k t).env (agrees_at k t l i h)) r
 
     -- the nets of the order's step do what the cycle does to the fork's list
-    pub order_driven : Drives (order_step p vs sides moves f) s (order_act p st bits f)
+    pub order_driven : Drives (order_step p vs sides.squash moves f) s (order_act p st bits f)
     order_driven = record {
       entered_first =
           moves_so f low (into_first p f (stage_at p f).next (vs f).ended) (goes_first p f (stage_at p f).next)

@@ -30,7 +30,7 @@ use Rattle.pdl_machine_inflight.proofs.SquashStages.{MaySquash, v_low, squash_lo
 use Rattle.pdl_machine_inflight.proofs.Squashes.{stood_in, failing, squashing, any_squashing, some_squash, told_later, emptied_where, kept_where, clear_high, clear_where, not_clear}
 use Rattle.pdl_law_sides.specs.Sides.{Sides, unsquashed, clear_to, barrier_open, emptied_by}
 use Rattle.pdl_law_sides.specs.HasSides.{HasRemovals, squash_of}
-use Rattle.pdl_law.proofs.SquashFolds.{Tells, any_squash_at, any_removes_at, emptied_by_at, unsquashed_at, any_both}
+use Rattle.pdl_law.proofs.SquashFolds.{Tells, any_told, some_told, unsquashed_at, any_both}
 
 -- whether this squasher removes who stands in a stage
 abbrev pub removes : Option ℕ → Option Thread → Bool
@@ -159,13 +159,13 @@ module _ (p : Pipe) (sound : Sound p) (together : UpdatesTogether p) (c : Circui
     pub squash_is : gates.squash.value s ≡ bit (is_some (squasher (moving p st bits)))
     squash_is =
         removals.squash s suits
-        ∙ any_squash_at s (squashing p st bits) sides.squash (squash_stages p.stmts) squashes_told
+        ∙ some_told s (squashing p st bits) sides.squash (squash_stages p.stmts) squashes_told
         ∙ ap bit (sym (some_squash p sound together st bits flight))
 
     -- whether a squash empties the list of a fork
     pub emptied_told : (f : ℕ) → (emptied_by p f (squash_stages p.stmts) sides.squash).value s ≡ bit (merges_by p f (squash_stage (moving p st bits)))
     emptied_told f =
-        emptied_by_at s (squashing p st bits) p f sides.squash (squash_stages p.stmts)
+        any_told s (squashing p st bits) (λ z. merges_by p f (Some z)) sides.squash (squash_stages p.stmts)
         (each_of (λ z. merges_by p f (Some z) ≡ true → (sides.squash z).value s ≡ bit (squashing p st bits z)) (squash_stages p.stmts)
         (λ z is e. squash_at z is (seen z (low_z z is))))
         ∙ ap bit (sym (emptied_where p sound together st bits flight f))
@@ -174,7 +174,7 @@ module _ (p : Pipe) (sound : Sound p) (together : UpdatesTogether p) (c : Circui
     pub kill_is : (k : ℕ) → k < length p.stages → (gates.kill k).value s ≡ bit (removes (squasher (moving p st bits)) (slot st k))
     kill_is k l =
         removals.kill k l s suits
-        ∙ any_removes_at s (λ z. squashing p st bits z && is_some (slot st k)) sides.removed k (squash_stages p.stmts)
+        ∙ any_told s (λ z. squashing p st bits z && is_some (slot st k)) (nat_lt k) (λ z. sides.removed z k) (squash_stages p.stmts)
         (each_of (λ z. nat_lt k z ≡ true → (sides.removed z k).value s ≡ bit (squashing p st bits z && is_some (slot st k))) (squash_stages p.stmts)
         (λ z is e. removed_at z is (seen z (low_z z is)) k (ltb-true k z e)))
         ∙ ap bit (any_both (nat_lt k) (squashing p st bits) (is_some (slot st k)) (squash_stages p.stmts) ∙ at (slot st k) refl)

@@ -1,30 +1,19 @@
 -- What stands in a signal for each of the stages that may squash, taken together: whether one of them squashes or removes, and what the one that squashes has.
-use Rattle.std.proofs.Common.{◌≡◌, refl, sym, ap, ap₂, ◌∙◌, ℕ, inl, inr, Bool, true, false, ◌&&◌, ◌||◌, not, List, [], ◌∷◌, ◌==◌, Some, nat_lt}
-use Rattle.std.specs.Prelude.{if◌then◌else◌}
+use Rattle.std.proofs.Common.{◌≡◌, refl, sym, ap, ap₂, ◌∙◌, ℕ, inl, inr, Bool, true, false, ◌&&◌, ◌||◌, not, List, [], ◌∷◌, ◌==◌, nat_lt}
+use Rattle.std.specs.Prelude.{if◌then◌else◌, filter}
 use Rattle.std.proofs.lemmas.Bool.{eqb-true, eqb-false, false≢true}
 use Rattle.pdl_word.specs.Words.{bit}
 use Rattle.pdl_word.specs.Each.{Each}
-use Rattle.pdl_semantics.specs.Flat.{Pipe}
+use Rattle.pdl_word.proofs.Each.{each_weaker}
 use Rattle.pdl_semantics.specs.Stages.{list_any}
-use Rattle.pdl_semantics.specs.Cycle.{merges_by}
 use Rattle.pdl_net.specs.Circuit.{State}
 use Rattle.pdl_net.specs.Signal.{Signal, mux_signal}
 use Rattle.pdl_law_parts.specs.Walk.{one, zero_bit}
 use Rattle.pdl_law_parts.proofs.Signals.{mux_at, one_is, zero_is}
 use Rattle.pdl_machine_inflight.specs.InFlight.{Some-of}
-use Rattle.pdl_law_sides.specs.Sides.{unsquashed, any_squash, any_removes, of_squasher, emptied_by}
+use Rattle.pdl_law_sides.specs.Sides.{unsquashed, any_of, of_squasher}
 
--- whether one of two is so, where the first counts
-one_more : (s : State) (b : Bool) (f rest : Signal) (q r : Bool) → (b ≡ true → f.value s ≡ bit q) → rest.value s ≡ bit r
-    → (if b then mux_signal f one rest else rest).value s ≡ bit ((b && q) || r)
-one_more s false f rest q r h e = e
-one_more s true f rest q r h e = mux_at s f one rest q (h refl) ∙ ap₂ (λ x y. if q then x else y) (one_is s) e ∙ either q
-  where
-    either : (q : Bool) → (if q then 1 else bit r) ≡ bit (q || r)
-    either true = refl
-    either false = refl
-
--- and whether none is
+-- whether none of some is so, where the first counts or not
 none_more : (s : State) (b : Bool) (f rest : Signal) (q r : Bool) → (b ≡ true → f.value s ≡ bit q) → rest.value s ≡ bit (not r)
     → (if b then mux_signal f zero_bit rest else rest).value s ≡ bit (not ((b && q) || r))
 none_more s false f rest q r h e = e
@@ -34,28 +23,51 @@ none_more s true f rest q r h e = mux_at s f zero_bit rest q (h refl) ∙ ap₂ 
     neither true = refl
     neither false = refl
 
+each_passed : (test : ℕ → Bool) (P : ℕ → Type 0) (zs : List ℕ) → Each (λ z. test z ≡ true → P z) zs → Each P (filter test zs)
+each_passed test P [] h = tt
+each_passed test P (z ∷ zs) h = at (test z) refl (each_passed test P zs h.1)
+  where
+    at : (b : Bool) → test z ≡ b → Each P (filter test zs) → Each P (if b then z ∷ filter test zs else filter test zs)
+    at true e r = (h.0 e, r)
+    at false e r = r
+
+any_passed : (test q : ℕ → Bool) (zs : List ℕ) → list_any q (filter test zs) ≡ list_any (λ (z : ℕ). test z && q z) zs
+any_passed test q [] = refl
+any_passed test q (z ∷ zs) = at (test z) (any_passed test q zs)
+  where
+    at : (b : Bool) → list_any q (filter test zs) ≡ list_any (λ (y : ℕ). test y && q y) zs
+        → list_any q (if b then z ∷ filter test zs else filter test zs) ≡ ((b && q z) || list_any (λ (y : ℕ). test y && q y) zs)
+    at true r = ap (λ c. q z || c) r
+    at false r = r
+
 module _ (s : State) (q : ℕ → Bool) where
   -- of each of these stages that passes a test a signal tells whether it is so
   abbrev pub Tells : (ℕ → Bool) → (ℕ → Signal) → List ℕ → Type 0
   Tells test f zs = Each (λ z. test z ≡ true → (f z).value s ≡ bit (q z)) zs
 
-  -- whether one of these stages squashes
-  pub any_squash_at : (squash : ℕ → Signal) (zs : List ℕ) → Tells (λ z. true) squash zs → (any_squash zs squash).value s ≡ bit (list_any (λ (z : ℕ). true && q z) zs)
-  any_squash_at squash [] h = zero_is s
-  any_squash_at squash (z ∷ zs) h = one_more s true (squash z) (any_squash zs squash) (q z) _ h.0 (any_squash_at squash zs h.1)
+  all_told : (f : ℕ → Signal) (zs : List ℕ) → Each (λ z. (f z).value s ≡ bit (q z)) zs → (any_of zs f).value s ≡ bit (list_any q zs)
+  all_told f [] h = zero_is s
+  all_told f (z ∷ []) h = h.0 ∙ ap bit (alone (q z))
+    where
+      alone : (b : Bool) → b ≡ (b || false)
+      alone true = refl
+      alone false = refl
+  all_told f (z ∷ y ∷ zs) h =
+      mux_at s (f z) one (any_of (y ∷ zs) f) (q z) h.0 ∙ ap₂ (λ m n. if q z then m else n) (one_is s) (all_told f (y ∷ zs) h.1) ∙ either (q z)
+    where
+      either : (b : Bool) → (if b then 1 else bit (list_any q (y ∷ zs))) ≡ bit (b || list_any q (y ∷ zs))
+      either true = refl
+      either false = refl
 
-  -- whether one of those that are later removes who stands in stage k
-  pub any_removes_at : (removed : ℕ → ℕ → Signal) (k : ℕ) (zs : List ℕ) → Tells (nat_lt k) (λ z. removed z k) zs
-      → (any_removes zs removed k).value s ≡ bit (list_any (λ (z : ℕ). nat_lt k z && q z) zs)
-  any_removes_at removed k [] h = zero_is s
-  any_removes_at removed k (z ∷ zs) h = one_more s (nat_lt k z) (removed z k) (any_removes zs removed k) (q z) _ h.0 (any_removes_at removed k zs h.1)
+  -- whether it is so of one of those that pass the test
+  pub any_told : (test : ℕ → Bool) (f : ℕ → Signal) (zs : List ℕ) → Tells test f zs
+      → (any_of (filter test zs) f).value s ≡ bit (list_any (λ (z : ℕ). test z && q z) zs)
+  any_told test f zs h =
+      all_told f (filter test zs) (each_passed test (λ z. (f z).value s ≡ bit (q z)) zs h) ∙ ap bit (any_passed test q zs)
 
-  -- whether one of those squashes in which, or before which, a fork merges
-  pub emptied_by_at : (p : Pipe) (f : ℕ) (squash : ℕ → Signal) (zs : List ℕ) → Tells (λ z. merges_by p f (Some z)) squash zs
-      → (emptied_by p f zs squash).value s ≡ bit (list_any (λ (z : ℕ). merges_by p f (Some z) && q z) zs)
-  emptied_by_at p f squash [] h = zero_is s
-  emptied_by_at p f squash (z ∷ zs) h =
-      one_more s (merges_by p f (Some z)) (squash z) (emptied_by p f zs squash) (q z) _ h.0 (emptied_by_at p f squash zs h.1)
+  -- and of all
+  pub some_told : (f : ℕ → Signal) (zs : List ℕ) → Tells (λ z. true) f zs → (any_of zs f).value s ≡ bit (list_any (λ (z : ℕ). true && q z) zs)
+  some_told f zs h = all_told f zs (each_weaker (λ z. true ≡ true → (f z).value s ≡ bit (q z)) (λ z. (f z).value s ≡ bit (q z)) (λ z k. k refl) zs h)
 
   -- whether none of those that are later squashes
   pub unsquashed_at : (squash : ℕ → Signal) (k : ℕ) (zs : List ℕ) → Tells (nat_lt k) squash zs
