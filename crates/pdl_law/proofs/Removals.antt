@@ -79,11 +79,6 @@ module _ (p : Pipe) (sound : Sound p) (together : UpdatesTogether p) (c : Circui
     removed_at seen k low =
         (removals.law z is).removes s (λ i. is_some (slot st i)) (stage_moves p st bits z)
         (failing p st z (here p st bits z)) (drives seen) k low
-        ∙ ap bit (grouped (stage_moves p st bits z) (failing p st z (here p st bits z)) (is_some (slot st k)))
-      where
-        grouped : (a b o : Bool) → (a && (b && o)) ≡ ((a && b) && o)
-        grouped true b o = refl
-        grouped false b o = refl
 
   module _ (v : ℕ) (is : verify_stage p.stmts ≡ Some v) where
     -- up to V nobody stands

@@ -1,7 +1,7 @@
 -- Who squashes, whom a squash removes, and for whom a barrier waits. In a cycle nobody squashes, or the thread of one stage does: where two would, the later one keeps the other from moving.
 use Rattle.std.proofs.Common.{◌≡◌, refl, sym, ap, ◌∙◌, subst, ℕ, zero, suc, ◌+◌, ◌≤◌, ◌<◌, ◌⊎◌, inl, inr, ⊎_elim, Bool, true, false, ◌&&◌, ◌||◌, not, List, [], ◌∷◌, ◌++◌, length, Option, Some, None, is_some, arith, ◌==◌, nat_lt, nat_le, lt-ltb, le-leb}
 use Rattle.std.specs.Prelude.{if◌then◌else◌}
-use Rattle.std.proofs.lemmas.Bool.{eqb-true, eqb-false, cases_lt, le-ltb, lt-leb, and_left, ltb-true, ltb-false, and_parts, false≢true, not-false, false_from_ne_true}
+use Rattle.std.proofs.lemmas.Bool.{eqb-true, eqb-false, cases_lt, le-ltb, lt-leb, ltb-true, ltb-false, and_parts, false≢true, not-false, false_from_ne_true}
 use Rattle.std.proofs.lemmas.List.{get_or_past}
 use Rattle.pdl_word.proofs.Bools.{by_bool, by_or, same_bools}
 use Rattle.pdl_semantics.specs.Flat.{Pipe}
@@ -9,7 +9,7 @@ use Rattle.pdl_semantics.specs.Stages.{list_any, verify_stage}
 use Rattle.pdl_semantics.specs.Updates.{squash_stages}
 use Rattle.pdl_theory_facts.specs.Graphs.{Trunk}
 use Rattle.pdl_semantics.specs.Machine.{Thread, State, deeds, with_answers}
-use Rattle.pdl_semantics.specs.Moves.{Act, no_failure, none_up_to}
+use Rattle.pdl_semantics.specs.Moves.{Act, next_stage, no_failure, blocks_ready, have_room, is_empty, ports_free, none_up_to, barrier_clear, can_enter, merges_well}
 use Rattle.pdl_semantics.specs.Cycle.{squasher, squash_stage, is_kept, merges_by}
 use Rattle.pdl_theory_facts.specs.Facts.{Sound}
 use Rattle.pdl_machine_facts.specs.Slots.{slot, with_now, here, slot_moves, later_acts, stage_moves, mover, movers_from, moving}
@@ -124,7 +124,13 @@ module _ (p : Pipe) (st : State) (bits : List Bool) where
       where
         at : (o : Option Thread) → here p st bits j ≡ o → stage_moves p st bits j ≡ false
         at None f = ap (slot_moves p st bits j) f
-        at (Some t) f = ap (slot_moves p st bits j) f ∙ and_left (no_failure (later_acts p st bits j)) _ (fails_later j z low e)
+        at (Some t) f =
+            let d = deeds p st j t in
+            let later = later_acts p st bits j in
+            ap (slot_moves p st bits j) f
+            ∙ ap (λ b. b && blocks_ready p st t.number d && have_room p st d && is_empty t.awaits && ports_free p st bits later d
+            && barrier_clear p later d && can_enter (next_stage p j d) later && merges_well p st j (next_stage p j d))
+            (fails_later j z low e)
 
     -- WHO SQUASHES
 
