@@ -1,4 +1,4 @@
-use Rattle.std.proofs.Common.{◌∙◌, refl, ap, ap₂, [], ◌∷◌}
+use Rattle.std.proofs.Common.{◌∙◌, refl, ap, ap₂, ℕ, [], ◌∷◌, Option}
 use Rattle.std.proofs.lemmas.Result.{err_from_is_err_and}
 use Rattle.pdl_kit.specs.declared.rule.Rule.TheVariants.{S1, S2, S3, S4, S5, S6, S7}
 use Rattle.pdl_syntax_tree.specs.View.{pipe_view}
@@ -12,6 +12,10 @@ use Rattle.pdl_rules_stages.specs.Astray.{is_astray}
 use Rattle.pdl_locks.proofs.LowestRule.{told, later, none_more}
 use Rattle.pdl_spec.specs.declared.plan.SpecPlan.{SpecPlan}
 use Rattle.pdl_spec.proofs.check.plan_spec.Goals as goal
+
+-- the plan of these stages
+abbrev planned : Option ℕ → Option ℕ → SpecPlan
+planned v u = record { verified = v; updated = u }
 
 pub returns-in_err-refuse : goal.returns-in_err-refuse
 returns-in_err-refuse c =
@@ -106,5 +110,5 @@ returns c =
           none_more S6 (S7 ∷ []) p _ c.in_ok-refuse-6.ensures c.requires.lines.updated_once (
           none_more S7 [] p _ c.in_ok-refuse-7.ensures
           (c.astray_line-2.ensures ∙ ap (line_where (is_astray Updates) []) c.requires.of ∙ rule_lines S7 p [] (places p)) refl)))))),
-      ap₂ (λ v u. record { verified = v; updated = u } : SpecPlan) c.requires.verified (c.first_stage.ensures ∙ ap (first_stage is_update []) c.requires.of),
+      ap₂ planned c.requires.verified (c.first_stage.ensures ∙ ap (first_stage is_update []) c.requires.of),
     )
