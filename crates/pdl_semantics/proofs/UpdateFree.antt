@@ -129,7 +129,6 @@ mutual
   graph_free_if ms branches span c when otherwise at' rest =
       let inside = side at'.stage true ∷ branches in
       let outside = side at'.stage false ∷ branches in
-      let first = λ (to : flat.Next). graph ms inside to when (with_guard c at') in
       let second = λ (to : flat.Next). graph ms outside to (update_free otherwise) (at_otherwise ms c (update_free when) at') in
       let merge = flat.Goes (suc (at'.begun + separators when + separators otherwise)) in
       ap₂ (λ a b. graph_if ms branches c at' rest a b (λ to. graph ms inside to (update_free when) (with_guard c at')) second) (begun_free when) (begun_free otherwise)
