@@ -104,7 +104,8 @@ mutual
   begun_alone (Separator span) rest = refl
   begun_alone _ rest = refl
 
-  begun_free : (ss : Stmts) → separators (update_free ss) ≡ separators ss
+  -- as many stages begin
+  pub begun_free : (ss : Stmts) → separators (update_free ss) ≡ separators ss
   begun_free Nil = refl
   begun_free (Cons s ss) = begun_alone s (update_free ss) ∙ ap (λ n. separators_in s + n) (begun_free ss)
 
