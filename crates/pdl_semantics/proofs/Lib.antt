@@ -9,6 +9,7 @@ mod SoundRows
 pub mod Readiness
 pub mod Facts
 pub mod Updates
+pub mod UpdateFree
 pub mod SecondWrites
 pub mod Advice
 pub mod AdviceApart
