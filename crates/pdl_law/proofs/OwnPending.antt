@@ -1,11 +1,11 @@
 -- What each thread of a run has pending of its own of a memory, and how many writes of it a cycle releases: no more than a path reserves.
-use Rattle.std.proofs.Common.{◌≡◌, refl, sym, ap, ap₂, ◌∙◌, subst, ℕ, ◌+◌, ◌≤◌, ◌<◌, Bool, true, false, List, [], ◌∷◌, ◌++◌, length, length-append, append-nil, Some, if◌then◌else◌, arith, ⊎_elim}
+use Rattle.std.proofs.Common.{◌≡◌, refl, sym, ap, ◌∙◌, subst, ℕ, ◌+◌, ◌≤◌, ◌<◌, Bool, true, false, List, [], ◌∷◌, ◌++◌, length, length-append, append-nil, Some, if◌then◌else◌, arith, ⊎_elim}
 use Rattle.std.proofs.lemmas.Bool.{cases_lt}
 use Rattle.pdl_semantics.specs.Flat.{Pipe, Arrays}
 use Rattle.pdl_semantics.specs.Stages.{onpath, reserve_stage}
 use Rattle.pdl_semantics.specs.Machine.{Thread, State, reserves_of, lock_of, deeds}
 use Rattle.pdl_semantics.specs.Moves.{Act, all_acts, movers}
-use Rattle.pdl_semantics.specs.Cycle.{first, state_after, new_entries, with_reserves, releases_of, all_releases}
+use Rattle.pdl_semantics.specs.Cycle.{first, state_after, new_entries, with_reserves, all_releases}
 use Rattle.pdl_semantics.specs.PendingLists.{count_older}
 use Rattle.pdl_semantics.specs.Promises.{DifferInAdvice}
 use Rattle.pdl_semantics.specs.Sound.{entries_by}
@@ -108,8 +108,10 @@ module _ (p : Pipe) (sound : Sound p) (st : State) (d : Derived.State) (bits : L
       (λ (h : l.thread.stage ≤ reserve_stage p m). h)
       (cases_lt (reserve_stage p m) l.thread.stage)
 
-  all_early : AllActs ReservesEarly (all_acts p st bits)
-  all_early = all_each p sound st d bits ls sim told m ReservesEarly (pair_map (λ x k some. early x.live some) (pairs ls) knowns)
+  early_at : (k : ℕ) (t : Thread) → Slots.here p st bits k ≡ Some t → 1 ≤ reserves_of m (deeds p st k t).reserves → k ≤ reserve_stage p m
+  early_at =
+      at_here p st bits ReservesEarly
+      (all_each p sound st d bits ls sim told m ReservesEarly (pair_map (λ x k some. early x.live some) (pairs ls) knowns))
 
   -- of the pending writes with those that the cycle appends each thread has its own, and what it reserves where it moves
   abbrev HasOwn : Act → Type 0
@@ -117,35 +119,43 @@ module _ (p : Pipe) (sound : Sound p) (st : State) (d : Derived.State) (bits : L
       entries_by a.thread.number (with_new p st bits m)
       ≡ entries_by a.thread.number (lock_of st m) ++ (if a.moves then new_entries m a.thread.number a.does.reserves else [])
 
-  all_own : AllActs HasOwn (all_acts p st bits)
-  all_own =
+  own_all : AllActs HasOwn (all_acts p st bits)
+  own_all =
       all_each p sound st d bits ls sim told m HasOwn
       (pair_map
       (λ x h. ap (entries_by x.live.number)
       (with_new_is p sound st d bits ls sim told m ∙ ap (with_reserves m (movers (lacts p st d bits ls))) (sym (sim.locks m))) ∙ h)
       (pairs ls) (by_new p sound st d bits sim.arrays m st.next (lock_of st m) ls sim.falls))
 
+  own_at : IsByStages p st bits → (k : ℕ) (t : Thread) → Slots.here p st bits k ≡ Some t
+      → entries_by t.number (with_reserves m (Slots.moving p st bits) (lock_of st m))
+      ≡ entries_by t.number (lock_of st m) ++ (if Slots.stage_moves p st bits k then new_entries m t.number (deeds p st k t).reserves else [])
+  own_at by k t h = ap (λ ms. entries_by t.number (with_reserves m ms (lock_of st m))) (sym by.movers) ∙ at_here p st bits HasOwn own_all k t h
+
   module _ (n : ℕ) (each : (path : List ℕ) → write_reserves m (onpath path p.stmts) ≤ n) where
     -- each thread reserves no more writes than a path
     abbrev FewReserved : Act → Type 0
     FewReserved a = reserves_of m a.does.reserves ≤ n
 
-    all_reserved : AllActs FewReserved (all_acts p st bits)
-    all_reserved =
-        all_each p sound st d bits ls sim told m FewReserved
-        (pair_map (λ x k. few_reserves p sound st d bits sim.arrays x.older x.live k m n each) (pairs ls) knowns)
+    reserved_at : (k : ℕ) (t : Thread) → Slots.here p st bits k ≡ Some t → reserves_of m (deeds p st k t).reserves ≤ n
+    reserved_at =
+        at_here p st bits FewReserved
+        (all_each p sound st d bits ls sim told m FewReserved
+        (pair_map (λ x k. few_reserves p sound st d bits sim.arrays x.older x.live k m n each) (pairs ls) knowns))
 
     -- and has no more pending, with those that it reserves
     abbrev FewPending : Act → Type 0
     FewPending a = length (entries_by a.thread.number (lock_of st m) ++ new_entries m a.thread.number a.does.reserves) ≤ n
 
-    all_pending : AllActs FewPending (all_acts p st bits)
-    all_pending =
-        all_each p sound st d bits ls sim told m FewPending
+    pending_at : (k : ℕ) (t : Thread) → Slots.here p st bits k ≡ Some t
+        → length (entries_by t.number (lock_of st m) ++ new_entries m t.number (deeds p st k t).reserves) ≤ n
+    pending_at =
+        at_here p st bits FewPending
+        (all_each p sound st d bits ls sim told m FewPending
         (pair_both
         (λ x k g. subst (λ es. length (es ++ new_entries m x.live.number (deeds_of p st bits x.live).reserves) ≤ n) (sym (g.listed m))
         (few_pending p sound st d bits sim.arrays x.older x.live k m n each))
-        (pairs ls) knowns (pairs_each (Mine p st) ls (each_mine p st ls sim.falls whole.along sim.locks)))
+        (pairs ls) knowns (pairs_each (Mine p st) ls (each_mine p st ls sim.falls whole.along sim.locks))))
 
     -- a cycle releases no more
     few_gone : all_releases m (moving p st bits) ≤ n
@@ -166,27 +176,20 @@ served_here p sound strict careful image before bits by used =
     let told = foretold_here p (sound_flows p sound) st _ bits r.live r.sim [] r.foretells in
     record {
       in_use = used;
-      most = λ k t m h low.
-          at_here p st bits (λ (a : Act). reserves_of m a.does.reserves ≤ at_most p m)
-          (all_reserved p sound st _ bits r.live r.sim r.whole told m (at_most p m) (bound m low)) k t h;
+      most = λ k t m h low. reserved_at p sound st _ bits r.live r.sim r.whole told m (at_most p m) (bound m low) k t h;
       fresh = λ k t m h low some.
-          let early =
-          at_here p st bits (λ (a : Act). 1 ≤ reserves_of m a.does.reserves → a.stage ≤ reserve_stage p m)
-          (all_early p sound st _ bits r.live r.sim r.whole told m) k t h some in
+          let early = early_at p sound st _ bits r.live r.sim r.whole told m k t h some in
           let u = stood p st bits k t h in
           own_none t.number (lock_of st m)
           (subst (λ n. count_older n (lock_of st m) ≡ length (lock_of st m)) u.number (used.unreserved k u.thread m u.slot early));
       own = λ k t m h g low.
-          has_own k t m h (all_own p sound st _ bits r.live r.sim r.whole told m)
+          own_at p sound st _ bits r.live r.sim r.whole told m by k t h
           ∙ ap (λ b. entries_by t.number (lock_of st m) ++ (if b then new_entries m t.number (deeds p st k t).reserves else [])) g;
       kept = λ k t m h g low.
-          has_own k t m h (all_own p sound st _ bits r.live r.sim r.whole told m)
+          own_at p sound st _ bits r.live r.sim r.whole told m by k t h
           ∙ ap (λ b. entries_by t.number (lock_of st m) ++ (if b then new_entries m t.number (deeds p st k t).reserves else [])) g
           ∙ append-nil (entries_by t.number (lock_of st m));
-      few = λ k t m h g low.
-          at_here p st bits
-          (λ (a : Act). length (entries_by a.thread.number (lock_of st m) ++ new_entries m a.thread.number a.does.reserves) ≤ at_most p m)
-          (all_pending p sound st _ bits r.live r.sim r.whole told m (at_most p m) (bound m low)) k t h;
+      few = λ k t m h g low. pending_at p sound st _ bits r.live r.sim r.whole told m (at_most p m) (bound m low) k t h;
       released = λ m low.
           subst (λ ms. all_releases m ms ≤ at_most p m) by.movers
           (few_gone p sound st _ bits r.live r.sim r.whole told m (at_most p m) (bound m low));
@@ -199,19 +202,3 @@ served_here p sound strict careful image before bits by used =
         at : (b : Bool) → reserves_twice m p.stmts ≡ b → write_reserves m (onpath path p.stmts) ≤ (if b then 2 else 1)
         at true e = careful.few path m low
         at false e = single_reserve m path p.stmts e
-
-    has_own : (k : ℕ) (t : Thread) (m : ℕ) → Slots.here p (state_after p (first p image) before) bits k ≡ Some t
-        → AllActs (λ (a : Act). entries_by a.thread.number (with_new p (state_after p (first p image) before) bits m)
-        ≡ entries_by a.thread.number (lock_of (state_after p (first p image) before) m)
-        ++ (if a.moves then new_entries m a.thread.number a.does.reserves else [])) (all_acts p (state_after p (first p image) before) bits)
-        → entries_by t.number (with_reserves m (Slots.moving p (state_after p (first p image) before) bits) (lock_of (state_after p (first p image) before) m))
-        ≡ entries_by t.number (lock_of (state_after p (first p image) before) m)
-        ++ (if Slots.stage_moves p (state_after p (first p image) before) bits k
-        then new_entries m t.number (deeds p (state_after p (first p image) before) k t).reserves
-        else [])
-    has_own k t m h all =
-        let st = state_after p (first p image) before in
-        ap (λ ms. entries_by t.number (with_reserves m ms (lock_of st m))) (sym by.movers)
-        ∙ at_here p st bits
-        (λ (a : Act). entries_by a.thread.number (with_new p st bits m)
-        ≡ entries_by a.thread.number (lock_of st m) ++ (if a.moves then new_entries m a.thread.number a.does.reserves else [])) all k t h

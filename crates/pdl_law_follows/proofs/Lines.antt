@@ -43,7 +43,7 @@ use Rattle.pdl_law_follows.specs.Follows.{Follows}
 use Rattle.pdl_law_follows.specs.Runs.{ShowsTurns}
 use Rattle.pdl_law_follows.proofs.PortNames.{commit_names, request_names, last_names, output_names}
 use Rattle.pdl_law_follows.proofs.Ports.{outputs_are}
-use Rattle.pdl_law_follows.proofs.LinesPorts.{locked_from, IsStep, flag_step, addr_step, word_step, flag2_step, addr2_step, word2_step, commits_then, port_told, commits_same, past_requests, requests_same, locked_shown, net_found}
+use Rattle.pdl_law_follows.proofs.LinesPorts.{locked_from, IsStep, flag_step, addr_step, word_step, flag2_step, addr2_step, word2_step, commits_then, requests_then, port_told, commits_same, past_requests, requests_same, locked_shown, net_found}
 use Rattle.pdl_law_follows.proofs.FollowsMade.{declared}
 use Rattle.pdl_semantics.proofs.Facts.{after_more}
 

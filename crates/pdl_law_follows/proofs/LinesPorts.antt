@@ -1,5 +1,5 @@
 -- What the values of the ports of a pipe with delayed memories say of each memory's commits, by the names of the ports.
-use Rattle.std.proofs.Common.{◌≡◌, inl, inr, ℕ, suc, ◌≤◌, Bool, true, false, ◌&&◌, if◌then◌else◌, List, [], ◌∷◌, ◌++◌, length, map, Option, Some, None, codes, bytes_eq, refl, sym, ap, ap₂, ◌∙◌, arith, append_assoc}
+use Rattle.std.proofs.Common.{◌≡◌, inl, inr, ℕ, suc, ◌≤◌, Bool, true, false, ◌&&◌, if◌then◌else◌, List, [], ◌∷◌, ◌++◌, length, map, Option, Some, None, codes, bytes_eq, refl, sym, ap, ap₂, ◌∙◌, subst, arith, append_assoc}
 use Rattle.std.specs.Prelude.{filter}
 use Rattle.std.specs.Option.{is_some}
 use Rattle.std.proofs.lemmas.Bool.{or_parts}
@@ -113,7 +113,7 @@ module _ (ss : List Stmt) where
       → is_memory ms m.name.name ≡ false → length e ≤ (if reserves_twice k ss then 2 else 1)
       → reserves_twice k ss ≡ false → bytes_eq m.name.name x ≡ true → later e ≡ later (found ms es x)
   second_none k m ms e es x d l once named =
-      at e (let most : (if reserves_twice k ss then 2 else 1) ≡ 1 = ap (λ (b : Bool). if b then 2 else 1) once in omega (arith, l, most))
+      at e (subst (λ (b : Bool). length e ≤ (if b then 2 else 1)) once l)
       ∙ ap later (sym (found_none ms es x (ap (is_memory ms) (sym ((bytes_eq-Decides m.name.name x).0 named)) ∙ d)))
     where
       at : (o : List PortWrite) → length o ≤ 1 → later o ≡ []

@@ -20,7 +20,7 @@ use Rattle.pdl_word.proofs.Numbers.{eqb_self}
 module _ (c : Circuit) (p : Pipe) (ls : Locks) (vs : ℕ → View) (s : State) (st : machine.State) (k thread : ℕ) (around : IsAround c p ls vs s st k thread) where
   -- a row that calls: the new thread has the values of its arguments
   pub follows_call : (args : List Expr) → FollowsOp c p ls vs s st k thread around (Call args)
-  follows_call args j gs r w d live on row here fine sole q =
+  follows_call args j gs r w d live on row here fine may q =
       quiet c p ls vs s st k thread around gs r w d glive on q (Call args) (walk_after (Call args) r ls w) refl refl (λ b. same b) (λ h z b f. so h b f)
     where
       glive : (z : ℕ) → guards_use gs z ≡ true → lives_from p k z ≡ true
@@ -89,7 +89,7 @@ module _ (c : Circuit) (p : Pipe) (ls : Locks) (vs : ℕ → View) (s : State) (
 
   -- a row that reads delayed: it asks the memory for the word at the location's address
   pub follows_fetch : (y m a : ℕ) → FollowsOp c p ls vs s st k thread around (DelayedRead y m a)
-  follows_fetch y m a j gs r w d live on row here fine sole q =
+  follows_fetch y m a j gs r w d live on row here fine may q =
       quiet c p ls vs s st k thread around gs r w d glive on q (DelayedRead y m a)
       (walk_after (DelayedRead y m a) r ls w) refl refl (λ b. same b) (λ h z b f. so h b f)
     where
@@ -160,7 +160,7 @@ module _ (c : Circuit) (p : Pipe) (ls : Locks) (vs : ℕ → View) (s : State) (
 
   -- a row that calls with a guess: the new thread has these arguments, and they are kept as the guess
   pub follows_spec_call : (args : List Expr) → FollowsOp c p ls vs s st k thread around (SpecCall args)
-  follows_spec_call args j gs r w d live on row here fine sole q =
+  follows_spec_call args j gs r w d live on row here fine may q =
       quiet c p ls vs s st k thread around gs r w d glive on q (SpecCall args) (walk_after (SpecCall args) r ls w) refl refl (λ b. same b) (λ h z b f. so h b f)
     where
       glive : (z : ℕ) → guards_use gs z ≡ true → lives_from p k z ≡ true
@@ -238,7 +238,7 @@ module _ (c : Circuit) (p : Pipe) (ls : Locks) (vs : ℕ → View) (s : State) (
 
   -- a row that verifies: the guess fails where the arguments differ from it, and then a new thread has them
   pub follows_verify : (args : List Expr) → FollowsOp c p ls vs s st k thread around (Verify true args)
-  follows_verify args j gs r w d live on row here fine sole q =
+  follows_verify args j gs r w d live on row here fine may q =
       quiet c p ls vs s st k thread around gs r w d glive on q (Verify true args) (walk_after (Verify true args) r ls w) refl refl (λ b. same b)
       (λ h z b f. so h z b f)
     where
@@ -329,7 +329,7 @@ module _ (c : Circuit) (p : Pipe) (ls : Locks) (vs : ℕ → View) (s : State) (
 
   -- a row with `spec_check`: it does nothing and waits for nothing
   pub follows_check : FollowsOp c p ls vs s st k thread around SpecCheck
-  follows_check j gs r w d live on row here fine sole q =
+  follows_check j gs r w d live on row here fine may q =
       quiet c p ls vs s st k thread around gs r w d glive on q SpecCheck w refl refl (λ b. same b) (λ h z b f. so h b)
     where
       glive : (z : ℕ) → guards_use gs z ≡ true → lives_from p k z ≡ true
@@ -346,7 +346,7 @@ module _ (c : Circuit) (p : Pipe) (ls : Locks) (vs : ℕ → View) (s : State) (
 
   -- a row with `spec_barrier`: the thread is to wait at the barrier
   pub follows_barrier : FollowsOp c p ls vs s st k thread around SpecBarrier
-  follows_barrier j gs r w d live on row here fine sole q =
+  follows_barrier j gs r w d live on row here fine may q =
       quiet c p ls vs s st k thread around gs r w d glive on q SpecBarrier (walk_after SpecBarrier r ls w) refl refl (λ b. same b) (λ h z b f. so h b f)
     where
       glive : (z : ℕ) → guards_use gs z ≡ true → lives_from p k z ≡ true

@@ -82,10 +82,10 @@ module _ (c : Circuit) (p : Pipe) (ls : Locks) (vs : ℕ → View) (s : State) (
   follows_all : (xs : List Stmt) (w end : Walk) (d : Deeds) → AllLive p k xs → AreRows c p ls (vs k).tickets xs w end
       → AreFine p st thread xs d → MayReserve p st thread (deeds_after_all (word_for st thread) xs d) → Follows p k s st thread w d
       → Follows p k s st thread end (deeds_after_all (word_for st thread) xs d)
-  follows_all [] w end d live rows fine sole q = subst (λ (x : Walk). Follows p k s st thread x d) (sym rows) q
-  follows_all (x ∷ xs) w end d live rows fine sole q =
+  follows_all [] w end d live rows fine may q = subst (λ (x : Walk). Follows p k s st thread x d) (sym rows) q
+  follows_all (x ∷ xs) w end d live rows fine may q =
       follows_all xs (walk_after x.op rows.0 ls w) end
-      (if all_hold x.guards d.env then deeds_after (word_for st thread) x.op d else d) live.1 rows.2 fine.1 sole
+      (if all_hold x.guards d.env then deeds_after (word_for st thread) x.op d else d) live.1 rows.2 fine.1 may
       (follows_row c p ls vs s st k thread around x rows.0 w d live.0.0 rows.1 live.0.1 fine.0 sooner q)
     where
       grow : (m : ℕ) → reserves_of m (done st thread (all_hold x.guards d.env) x.op d).reserves
@@ -94,8 +94,8 @@ module _ (c : Circuit) (p : Pipe) (ls : Locks) (vs : ℕ → View) (s : State) (
 
       sooner : MayReserve p st thread (done st thread (all_hold x.guards d.env) x.op d)
       sooner = record {
-        few = λ m e. let i = grow m in let j = sole.few m e in omega (arith, i, j);
-        fresh = λ m e o. sole.fresh m e (let i = grow m in omega (arith, i, o));
+        few = λ m e. let i = grow m in let j = may.few m e in omega (arith, i, j);
+        fresh = λ m e o. may.fresh m e (let i = grow m in omega (arith, i, o));
       }
 
 -- THE WHOLE STAGE

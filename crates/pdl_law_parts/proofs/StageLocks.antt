@@ -34,7 +34,7 @@ use Rattle.pdl_law_parts.proofs.LateLocations.{same_late, late_more}
 module _ (c : Circuit) (p : Pipe) (ls : Locks) (vs : ℕ → View) (s : State) (st : machine.State) (k thread : ℕ) (around : IsAround c p ls vs s st k thread) where
   -- a row that writes: the write has the expression's value
   pub follows_write : (m a : ℕ) (e : Expr) → FollowsOp c p ls vs s st k thread around (Write m a e)
-  follows_write m a e j gs r w d live on row here fine sole q =
+  follows_write m a e j gs r w d live on row here fine may q =
       quiet c p ls vs s st k thread around gs r w d glive on q (Write m a e) (walk_after (Write m a e) r ls w) refl refl (λ b. same b) (λ h z b f. so h b f)
     where
       glive : (z : ℕ) → guards_use gs z ≡ true → lives_from p k z ≡ true
@@ -110,7 +110,7 @@ module _ (c : Circuit) (p : Pipe) (ls : Locks) (vs : ℕ → View) (s : State) (
 
   -- a row that reserves for reading: it does nothing and waits for nothing
   pub follows_reserve_read : (m a : ℕ) → FollowsOp c p ls vs s st k thread around (ReserveRead m a)
-  follows_reserve_read m a j gs r w d live on row here fine sole q =
+  follows_reserve_read m a j gs r w d live on row here fine may q =
       quiet c p ls vs s st k thread around gs r w d glive on q (ReserveRead m a) w refl refl (λ b. same b) (λ h z b f. so h b)
     where
       glive : (z : ℕ) → guards_use gs z ≡ true → lives_from p k z ≡ true
@@ -127,7 +127,7 @@ module _ (c : Circuit) (p : Pipe) (ls : Locks) (vs : ℕ → View) (s : State) (
 
   -- a row that reserves for writing: it waits for room, holds the location and reserves its address
   pub follows_reserve_write : (m a : ℕ) → FollowsOp c p ls vs s st k thread around (ReserveWrite m a)
-  follows_reserve_write m a j gs r w d live on row here fine sole q =
+  follows_reserve_write m a j gs r w d live on row here fine may q =
       asking c p ls vs s st k thread around gs r w d glive on q (ReserveWrite m a)
       new (room_after ls m w.reserves) roomy refl (λ b f. split b f) (λ h z f. told h f) (λ h b f. so h b f) (λ h l b f. lates h l b f)
     where
@@ -163,7 +163,7 @@ module _ (c : Circuit) (p : Pipe) (ls : Locks) (vs : ℕ → View) (s : State) (
       few : all_hold gs d.env ≡ true → count ≤ at_most p m
       few f =
           subst (λ n. n ≤ at_most p m) (one_more_of d.reserves mine)
-          (subst (λ b. reserves_of m (done st thread b (ReserveWrite m a) d).reserves ≤ at_most p m) f (sole.few m row.0))
+          (subst (λ b. reserves_of m (done st thread b (ReserveWrite m a) d).reserves ≤ at_most p m) f (may.few m row.0))
 
       told : IsSo p k s w d → all_hold gs d.env ≡ true → (room_after ls m w.reserves).value s ≡ bit roomy
       told h f =
@@ -208,7 +208,7 @@ module _ (c : Circuit) (p : Pipe) (ls : Locks) (vs : ℕ → View) (s : State) (
           late_more p ls k s st thread m a (slice_index d.env a) r.on w.reserves marks d
           (on_at c p ls vs s st k thread around gs r w d glive on q h ∙ ap bit f) h.reserves
           (λ t. around.twice m (lock_there p m row.0) ∙ t)
-          (sole.fresh m row.0
+          (may.fresh m row.0
           (subst (λ b. 1 ≤ reserves_of m (done st thread b (ReserveWrite m a) d).reserves) (sym f)
           (subst (λ n. 1 ≤ n) (sym (one_more_of d.reserves mine)) (omega arith))))
           n two (l n low two early) y mark
@@ -269,7 +269,7 @@ module _ (c : Circuit) (p : Pipe) (ls : Locks) (vs : ℕ → View) (s : State) (
 
   -- a row that blocks: it waits until the look for its location is ready
   pub follows_block : (m a : ℕ) → FollowsOp c p ls vs s st k thread around (Block m a)
-  follows_block m a j gs r w d live on row here fine sole q =
+  follows_block m a j gs r w d live on row here fine may q =
       asking c p ls vs s st k thread around gs r w d glive on q (Block m a)
       (walk_after (Block m a) r ls w) r.value found refl (λ b f. split b) told (λ h b f. so h b) (λ h l b f. lates l b)
     where
@@ -348,7 +348,7 @@ module _ (c : Circuit) (p : Pipe) (ls : Locks) (vs : ℕ → View) (s : State) (
 
   -- a row that releases: the location is held no more, and its reservation for writing is let go where it had one
   pub follows_release : (m a : ℕ) → FollowsOp c p ls vs s st k thread around (Release m a)
-  follows_release m a j gs r w d live on row here fine sole q =
+  follows_release m a j gs r w d live on row here fine may q =
       quiet c p ls vs s st k thread around gs r w d glive on q (Release m a) new refl refl (λ b. same b) (λ h z b f. so h z b f)
     where
       new : Walk

@@ -1,5 +1,5 @@
 -- What a thread's stage does to its pending writes of one memory: who writes has one, once, and what is released has its value.
-use Rattle.std.proofs.Common.{◌≡◌, refl, sym, ap, ap₂, ◌∙◌, subst, ℕ, suc, ◌+◌, ◌≤◌, ◌<◌, Bool, true, false, ◌&&◌, ◌||◌, not, List, [], ◌∷◌, ◌++◌, length, length-append, Option, Some, None, ◌==◌, cond, if◌then◌else◌, arith, eq-eqb, slice_index, append_assoc, append-nil, nat_le}
+use Rattle.std.proofs.Common.{◌≡◌, refl, sym, ap, ap₂, ◌∙◌, subst, ℕ, suc, ◌+◌, ◌≤◌, Bool, true, false, ◌&&◌, ◌||◌, not, List, [], ◌∷◌, ◌++◌, length, length-append, Option, Some, None, ◌==◌, cond, if◌then◌else◌, arith, eq-eqb, slice_index, append_assoc, append-nil, nat_le}
 use Rattle.std.proofs.lemmas.Bool.{false≢true, leb-true, eqb-true}
 use Rattle.pdl_semantics.specs.Flat.{Pipe, Op, Write, ReserveWrite, Release, Verify, Stmt, list_all, all_hold, value_of}
 use Rattle.pdl_semantics.specs.Stages.{onpath, in_stage, goes_to, stage_at, commit_stage}
