@@ -278,8 +278,9 @@ module _ (p : Pipe) (names : ℕ → List ℕ) (apart : Apart names (length p.me
     -- without the port of this condition none is found
     none_named : (on : ℕ → Bool) (value : ℕ → ℕ) (m : ℕ) → m < length p.mems → (is_locked p m && on m) ≡ false
         → (f a w : ℕ) → f ≡ pick (λ i z. has_lock z.lock && on i) value names 0 p.mems (names m) 0
-        → (if f == 1 then Some (a, w) else None) ≡ None
-    none_named on value m l e f a w h = ap (λ n. if n == 1 then Some (a, w) else None) (h ∙ unpicked on value m l e)
+        → (if f == 1 then Some (a, w) else None) ≡ put_in []
+    none_named on value m l e f a w h =
+        let put : ℕ → Option (ℕ × ℕ) = λ n. if n == 1 then Some (a, w) else None in ap put (h ∙ unpicked on value m l e)
 
     -- what it commits second, by its name
     pub commit2_named : (m : ℕ) → m < length p.mems → is_locked p m ≡ true

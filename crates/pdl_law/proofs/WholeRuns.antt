@@ -265,8 +265,7 @@ module _ (p : Pipe) (names : ℕ → List ℕ) (apart : Apart names (length p.me
               each (e ∷ f ∷ []) first false twice second few = absurd (omega (arith, few))
               each (e ∷ f ∷ []) first true twice second few = (
                 fits_net (made.laid.commits m).first.value (commit_value e.value) (fits.word g).0 (fits.wide g).0 first.word,
-                fits_net (made.laid.commits m).second.value (commit_value f.value) (fits.word g).1 (fits.wide g).1 (second twice).word,
-                tt,
+                (fits_net (made.laid.commits m).second.value (commit_value f.value) (fits.word g).1 (fits.wide g).1 (second twice).word, tt),
               )
               each (e ∷ f ∷ k ∷ es) first false twice second few = absurd (omega (arith, few))
               each (e ∷ f ∷ k ∷ es) first true twice second few = absurd (omega (arith, few))
