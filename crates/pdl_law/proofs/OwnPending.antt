@@ -1,11 +1,11 @@
 -- What each thread of a run has pending of its own of a memory, and how many writes of it a cycle releases: no more than a path reserves.
-use Rattle.std.proofs.Common.{◌≡◌, refl, sym, ap, ap₂, ◌∙◌, subst, ℕ, ◌+◌, ◌≤◌, ◌<◌, Bool, true, false, List, [], ◌∷◌, ◌++◌, length, length-append, append-nil, Some, if◌then◌else◌, arith, ⊎_elim}
+use Rattle.std.proofs.Common.{◌≡◌, refl, sym, ap, ◌∙◌, subst, ℕ, ◌+◌, ◌≤◌, ◌<◌, Bool, true, false, List, [], ◌∷◌, ◌++◌, length, length-append, append-nil, Some, if◌then◌else◌, arith, ⊎_elim}
 use Rattle.std.proofs.lemmas.Bool.{cases_lt}
 use Rattle.pdl_semantics.specs.Flat.{Pipe, Arrays}
 use Rattle.pdl_semantics.specs.Stages.{onpath, reserve_stage}
 use Rattle.pdl_semantics.specs.Machine.{Thread, State, reserves_of, lock_of, deeds}
 use Rattle.pdl_semantics.specs.Moves.{Act, all_acts, movers}
-use Rattle.pdl_semantics.specs.Cycle.{first, state_after, new_entries, with_reserves, releases_of, all_releases}
+use Rattle.pdl_semantics.specs.Cycle.{first, state_after, new_entries, with_reserves, all_releases}
 use Rattle.pdl_semantics.specs.PendingLists.{count_older}
 use Rattle.pdl_semantics.specs.Promises.{DifferInAdvice}
 use Rattle.pdl_semantics.specs.Sound.{entries_by}

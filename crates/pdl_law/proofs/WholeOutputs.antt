@@ -26,7 +26,7 @@ use Rattle.pdl_law_parts.specs.Compiled.{shown_in, port_in}
 use Rattle.pdl_law_parts.specs.Stands.{StandsFor, IsSeen, IsSquashed}
 use Rattle.pdl_law_parts.proofs.AnsweredThreads.{stood}
 use Rattle.pdl_law_parts.proofs.LinesNames.{name_of_output}
-use Rattle.pdl_law_parts.proofs.LinesPorts.{named_value, port_is, flag_of, addr_of, word_of, later, second_if, shown_is, second_is, put_in, put_cases}
+use Rattle.pdl_law_parts.proofs.LinesPorts.{named_value, port_is, flag_of, addr_of, word_of, later, shown_is, second_is, put_in, put_cases}
 use Rattle.pdl_law_parts.proofs.Outputs.{shown_value, outputs_all, values_shown, stages_are, all_words, commits_are, commit_laid}
 use Rattle.pdl_law_sides.specs.Sides.{Sides}
 use Rattle.pdl_law.specs.StandingStates.{IsLawful, IsKnown}
@@ -76,7 +76,7 @@ puts_shown s x twice ws h = (
     addr = ap (λ l. slice_index l 1) all;
     word = ap (λ l. slice_index l 2) all;
   },
-  λ t. (let both = sym (ap (λ b. first ++ (if b then second else [])) t) ∙ all ∙ ap (λ b. flag_of ws ∷ addr_of ws ∷ word_of ws ∷ second_if b ws) t in
+  λ t. (let both = sym (ap (λ b. first ++ (if b then second else [])) t) ∙ all ∙ ap (λ b. put ++ (if b then next else [])) t in
     record {
       flag = ap (λ l. slice_index l 3) both;
       addr = ap (λ l. slice_index l 4) both;
@@ -90,7 +90,13 @@ puts_shown s x twice ws h = (
     second : List ℕ
     second = x.second.enable.value s ∷ x.second.addr.value s ∷ x.second.value.value s ∷ []
 
-    all : first ++ (if twice then second else []) ≡ flag_of ws ∷ addr_of ws ∷ word_of ws ∷ second_if twice ws
+    put : List ℕ
+    put = flag_of ws ∷ addr_of ws ∷ word_of ws ∷ []
+
+    next : List ℕ
+    next = flag_of (later ws) ∷ addr_of (later ws) ∷ word_of (later ws) ∷ []
+
+    all : first ++ (if twice then second else []) ≡ put ++ (if twice then next else [])
     all = h ∙ ap₂ (λ a b. a ++ (if twice then b else [])) (shown_is ws) (second_is ws)
 
 -- of at most one write none comes later
