@@ -106,13 +106,12 @@ abbrev pub later : List PortWrite → List PortWrite
 later [] = []
 later (w ∷ ws) = ws
 
--- the values of its ports for the second commit, where there are such ports
-abbrev pub second_if : Bool → List PortWrite → List ℕ
-second_if twice e = if twice then flag_of (later e) ∷ addr_of (later e) ∷ word_of (later e) ∷ [] else []
-
--- the values of its ports, if it has a lock
+-- the values of its ports, if it has a lock, and of those for the second commit where there are such
 abbrev pub commit_if : Bool → Bool → List PortWrite → List ℕ
-commit_if b twice e = if b then flag_of e ∷ addr_of e ∷ word_of e ∷ second_if twice e else []
+commit_if b twice e =
+    if b
+    then flag_of e ∷ addr_of e ∷ word_of e ∷ (if twice then flag_of (later e) ∷ addr_of (later e) ∷ word_of (later e) ∷ [] else [])
+    else []
 
 -- the values of a first commit are those of its three ports
 pub shown_is : (e : List PortWrite) → shown_values e ≡ flag_of e ∷ addr_of e ∷ word_of e ∷ []
