@@ -39,8 +39,11 @@ place_behind n y (x ∷ xs) ys h = at ((x.thread == n) && (x.var == y)) h (place
 -- what is at most once in a list is at most once in its front
 pub once_front : (n y : ℕ) (xs ys : List Pending) → IsOnce n y (xs ++ ys) → IsOnce n y xs
 once_front n y [] ys o = tt
-once_front n y (x ∷ xs) ys o = (λ e. by_bool (has_place n y xs) (has_place n y xs ≡ false)
-    (λ f. absurd (cc (sym (place_front n y xs ys f).0 ∙ o.0 e))) (λ f. f), once_front n y xs ys o.1)
+once_front n y (x ∷ xs) ys o = (
+  λ e. by_bool (has_place n y xs) (has_place n y xs ≡ false)
+      (λ f. absurd (cc (sym (place_front n y xs ys f).0 ∙ o.0 e))) (λ f. f),
+  once_front n y xs ys o.1,
+)
 
 -- and what has a place behind a front has none in it
 pub once_behind : (n y : ℕ) (xs ys : List Pending) → IsOnce n y (xs ++ ys) → has_place n y ys ≡ true → has_place n y xs ≡ false
