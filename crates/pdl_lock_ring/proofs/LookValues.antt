@@ -76,7 +76,7 @@ module _ (l : RingLayout) (g : ℕ → Signal) (s : State) (x : LockState) (a t 
       omega (arith, b, p)
 
   -- the slot of the i-th pending write
-  slot : ℕ → ℕ
+  abbrev slot : ℕ → ℕ
   slot i = (x.base + i) % l.size
 
   slot_in : (i : ℕ) → slot i < l.size
@@ -146,7 +146,7 @@ module _ (l : RingLayout) (g : ℕ → Signal) (s : State) (x : LockState) (a t 
   near_few = and_below l.size ((same_slots l a).value s) ((near_slots l t).value s) same_few
 
   -- the younger hits than slot j
-  hidden : ℕ → ℕ
+  abbrev hidden : ℕ → ℕ
   hidden j = words.and ((near_hits l a t).value s) ((younger_slots l j).value s)
 
   hidden_bit : (i m : ℕ) → i < l.size → m < l.size

@@ -5,7 +5,8 @@ use Rattle.pdl_build.proofs.Extensions.{zext_width}
 use Rattle.pdl_lock_ring.specs.declared.layout.RingLayout.{RingLayout}
 use Rattle.pdl_lock_ring.specs.Slots.{IsSized}
 
-power_above : (n : ℕ) → n < 2 ^ n
+-- a number is below its power of two
+pub power_above : (n : ℕ) → n < 2 ^ n
 power_above zero = omega arith
 power_above (suc n) = let h = power_above n in let t = two-pow-succ n in omega (arith, h, t)
 

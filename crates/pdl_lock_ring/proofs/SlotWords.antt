@@ -1,11 +1,12 @@
 -- What the words of a look are, that have a bit for each slot.
-use Rattle.std.proofs.Common.{◌≡◌, ◌≢◌, ℕ, zero, suc, ◌+◌, ◌-◌, ◌*◌, ◌/◌, ◌%◌, ◌^◌, ◌<◌, ◌≤◌, ◌⊎◌, inl, inr, min, max, length, refl, sym, ap, ap₂, ◌∙◌, arith, ⊎_elim, pow_mono, pow_pos, ne_eqb}
+use Rattle.std.proofs.Common.{◌≡◌, ◌≢◌, ℕ, zero, suc, ◌+◌, ◌-◌, ◌*◌, ◌/◌, ◌%◌, ◌^◌, ◌<◌, ◌≤◌, ◌⊎◌, inl, inr, min, max, length, refl, sym, ap, ap₂, ◌∙◌, arith, ⊎_elim, pow_pos, ne_eqb}
 use Rattle.std.specs.Prelude.{nat_lt, not, bit_and, bit_or, bit_xor}
 use Rattle.std.specs.Int.{bit_at}
 use Rattle.std.proofs.lemmas.Bool.{cases_lt, cases_eq}
 use Rattle.std.proofs.lemmas.Nat.{mod_below, field_of, one_shl}
 use Rattle.std.proofs.lemmas.Nat.Bits.{bit_at_and, bit_at_or, bit_at-lt, bit_at-zero, bit_at-pow_same, bit_at-pow_other, ones_shl, bit_at_mask_inside, bit_at_mask_below, bit_at_ones, bit_at_ones_above}
 use Rattle.std.proofs.Math.Nat.{mod-mod}
+use Rattle.std.proofs.Math.Pow.{pow_mono}
 use Rattle.pdl_word.specs.Words as words
 use Rattle.pdl_word.specs.Words.{bit}
 use Rattle.pdl_word.proofs.Shifts.{shl_within}
@@ -51,7 +52,7 @@ round_bit w n v t low p e =
     ap (λ m. v / 2 ^ (w - 1) % 2 ^ m) one ∙ ap (λ m. m % 2 ^ 1) top ∙ mod-mod (t / 2 ^ (w - 1)) (2 ^ 1) ∙ ap (λ m. t / m % 2) (sym p)
 
 low_word : (n v f : ℕ) → v ≤ n → f ≡ 2 ^ n - 2 ^ v → 2 ^ n - 1 - f ≡ 2 ^ v - 1
-low_word n v f le e = let p = pow_mono {2} le in let q = pow_pos v in omega (arith, p, q, e)
+low_word n v f le e = let p : 2 ^ v ≤ 2 ^ n = pow_mono le in let q = pow_pos v in omega (arith, p, q, e)
 
 -- a ticket's word
 turns_value : (l : RingLayout) (f : Signal) (s : State) (t : ℕ) → IsSized l → f.value s ≡ t % 2 ^ l.ticket

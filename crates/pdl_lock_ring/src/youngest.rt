@@ -1,7 +1,7 @@
 //! The youngest older pending write of an address: the slot that is hit where no younger one is.
 ghost use Rattle.std.specs.Prelude.{◌≡◌, ℕ, ◌+◌, ◌-◌, ◌*◌, ◌^◌, ◌<◌, ◌≤◌, IfOk};
 ghost use Rattle.pdl_net.specs.declared.BinOp.TheVariants.{Ne};
-ghost use Rattle.pdl_net.specs.Signal.{bin_signal};
+ghost use Rattle.pdl_net.specs.Signal.{const_signal, bin_signal, mux_signal};
 ghost use Rattle.pdl_net.specs.Meaning.{IsThere, Means, signal};
 ghost use Rattle.pdl_net.specs.HasWidth.{HasWidth};
 ghost use Rattle.pdl_net.specs.Growth.{Extends};
@@ -65,6 +65,22 @@ fn emit_wins(b: &mut Builder, l: RingLayout, h: Hits, k: usize) -> Result<Net, N
     b.mux(shown, hit, zero)
 }
 
+/// A net where another one is 1, else 0.
+#[tactic(auto)]
+fn emit_gated(b: &mut Builder, on: Net, net: Net, width: u8) -> Result<Net, NoMemory>
+    requires low { 1 ≤ width }
+    requires high { width ≤ 64 }
+    requires on { HasWidth b.old on 1 }
+    requires net { HasWidth b.old net width }
+    ensures means { IfOk result (λ x. Means b.new x
+        (mux_signal (signal b.old on) (signal b.old net) (const_signal width 0))) }
+    ensures wide { IfOk result (λ x. (signal b.new x).width ≡ width) }
+    ensures extends { Extends b.old b.new }
+{
+    let zero = b.constant(width, 0)?;
+    b.mux(on, net, zero)
+}
+
 /// What slot k holds where it wins, else 0.
 #[tactic(auto, using(crate::proofs::Trees::either, crate::proofs::RingGrowth::slots_kept))]
 fn emit_won(b: &mut Builder, l: RingLayout, h: Hits, k: usize) -> Result<Won, NoMemory>
@@ -78,10 +94,8 @@ fn emit_won(b: &mut Builder, l: RingLayout, h: Hits, k: usize) -> Result<Won, No
     ensures extends { Extends b.old b.new }
 {
     let wins = emit_wins(b, l, h, k)?;
-    let zero = b.constant(1, 0)?;
-    let nothing = b.constant(l.kept, 0)?;
-    let has = b.mux(wins, Net::Reg(l.from + 2 + l.size + k), zero)?;
-    let content = b.mux(wins, Net::Reg(l.from + 2 + 2 * l.size + k), nothing)?;
+    let has = emit_gated(b, wins, Net::Reg(l.from + 2 + l.size + k), 1)?;
+    let content = emit_gated(b, wins, Net::Reg(l.from + 2 + 2 * l.size + k), l.kept)?;
     Ok(Won { has, content })
 }
 
