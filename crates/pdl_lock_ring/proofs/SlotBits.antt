@@ -42,7 +42,7 @@ bits_few f s a (suc k) =
     let w = bits_width f a.one k in
     let r = cat_below 1 (k + 1) ((f (suc k)).value s) ((bits_signal f k).value s) (a.few (suc k)) (bits_few f s a k) in
     let e : words.cat (bits_signal f k).width ((f (suc k)).value s) ((bits_signal f k).value s)
-        ≡ words.cat (k + 1) ((f (suc k)).value s) ((bits_signal f k).value s) = ap (λ v. words.cat v ((f (suc k)).value s) ((bits_signal f k).value s)) w in
+    ≡ words.cat (k + 1) ((f (suc k)).value s) ((bits_signal f k).value s) = ap (λ v. words.cat v ((f (suc k)).value s) ((bits_signal f k).value s)) w in
     let p : 1 + (k + 1) ≡ suc k + 1 = omega arith in
     let q : 2 ^ (1 + (k + 1)) ≡ 2 ^ (suc k + 1) = ap (λ v. 2 ^ v) p in
     omega (arith, r, e, q)

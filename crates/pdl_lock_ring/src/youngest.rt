@@ -36,7 +36,10 @@ fn emit_younger(b: &mut Builder, l: RingLayout, k: usize) -> Result<Net, NoMemor
     let place = k as u8;
     let from = emit_from(b, l, Net::Reg(l.from))?;
     let second = b.not(from)?;
-    let after = b.constant(l.size as u8, power(l.size as u8) as u64 - power(place + 1) as u64)?;
+    let after = b.constant(
+        l.size as u8,
+        power(l.size as u8) as u64 - power(place + 1) as u64,
+    )?;
     let first = b.slice(from, place, place)?;
     let either = b.bin(BinOp::Or, after, second)?;
     let both = b.bin(BinOp::And, after, second)?;
