@@ -19,8 +19,8 @@ class Forms(enum.Flag):
 
 
 ALL = Forms.TWO_WRITES | Forms.NESTED_FORKS | Forms.UPDATE | Forms.ADVISORY
-# Those that the program takes today. A form that isn't taken is refused: by L4, by F2, and as a word that there isn't.
-TAKEN = Forms(0)
+# Those that the program takes today. Of the others two writes are refused by L4, and the rest as words that there aren't.
+TAKEN = Forms.NESTED_FORKS
 
 
 def word_of(form):

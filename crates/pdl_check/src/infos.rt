@@ -29,6 +29,6 @@ fn info_of(mem: &Mem) -> Result<MemInfo, NoMemory>
         name,
         width: mem.width.value as u8,
         depth: mem.depth.value as u32,
-        delayed: mem.delayed,
+        delayed: mem.kind.is_delayed(),
     })
 }

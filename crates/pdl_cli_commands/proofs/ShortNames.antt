@@ -93,7 +93,7 @@ lock_rest l a r unlocked t = t
 lock_rest l a r locked t = t.1.1.1.1.1
 
 memory_short : (m : Mem) (a r : Row) → Memory m a r → AreShort a → (length m.name.name ≤ 32) × AreShort r
-memory_short m a r (memory k) t = (t.0 refl, lock_rest _ _ _ k t.1.1.1.1.1.1.1.1.1.1)
+memory_short m a r (memory d k) t = (t.0 refl, lock_rest _ _ _ k t.1.1.1.1.1.1.1.1.1.1)
 
 memories_short : (c : Mark) (ms : List Mem) (a r : Row) → Listed Memory c ms a r → AreShort a → HaveShortNames ms
 memories_short c ms a r (last k) t = ((memory_short _ _ _ k t).0, tt)

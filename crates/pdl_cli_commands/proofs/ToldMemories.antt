@@ -12,7 +12,7 @@ use Rattle.pdl_semantics.specs.Flat
 use Rattle.pdl_semantics.specs.Flatten.{flat, flat_lock, mems_of}
 use Rattle.pdl_syntax_grammar.specs.Text.{IsText}
 use Rattle.pdl_rules.specs.Memories.{infos_of, info_of}
-use Rattle.pdl_rules.specs.Refusal.{KeepsRules, is_comb}
+use Rattle.pdl_rules.specs.Refusal.{KeepsRules, answers_at_once}
 use Rattle.pdl_rules.specs.Typed.{AreDistinct, is_memory}
 use Rattle.pdl_net.specs.declared.Netlist.{Netlist}
 use Rattle.pdl_net.specs.Run.{delayed_mems}
@@ -20,7 +20,7 @@ use Rattle.pdl_law_parts.specs.Places.{delayed_count}
 use Rattle.pdl_law_parts.proofs.WellFormedNames.{Among, name_apart}
 use Rattle.pdl_law_parts.proofs.WellFormedMems.{sized_among, few_mems}
 use Rattle.pdl_law.proofs.Places as places
-use Rattle.pdl_law_follows.specs.Memories.{is_delayed, delayed_of, comb_of, net_infos}
+use Rattle.pdl_law_follows.specs.Memories.{answers_late, delayed_of, comb_of, net_infos}
 use Rattle.pdl_law_follows.specs.Follows.{Follows}
 use Rattle.pdl_law_follows.proofs.Memories.{among_some, some_count, told_delayed, all_told, none_told}
 use Rattle.pdl_law_follows.proofs.FollowsMade.{declared}
@@ -60,8 +60,8 @@ told_all P ms h = All-from_recursion P (map info_of ms) (each_told P ms h)
 told_both : (P : MemInfo → Type 0) (ms : List Mem) → ((m : Mem) → Among m ms → P (info_of m)) → All P (net_infos ms)
 told_both P ms h =
     All-append P (map info_of (delayed_of ms)) (map info_of (comb_of ms))
-    (told_all P (delayed_of ms) (λ m a. h m (among_some is_delayed ms m a).0))
-    (told_all P (comb_of ms) (λ m a. h m (among_some is_comb ms m a).0))
+    (told_all P (delayed_of ms) (λ m a. h m (among_some answers_late ms m a).0))
+    (told_all P (comb_of ms) (λ m a. h m (among_some answers_at_once ms m a).0))
 
 -- the words of each memory of a pipe that keeps the rules have at least 1 bit
 pub widths_low : (p : Pipe) (ms : List MemInfo) → KeepsRules p → ms ≡ infos_of p.mems → All (λ m. 1 ≤ m.width) ms
@@ -103,18 +103,18 @@ delayed_as_many p n f =
     ap (λ l. length (filter told_delayed l)) f.mems
     ∙ ap length (delayed_told p.mems)
     ∙ length-map (delayed_of p.mems) info_of
-    ∙ some_count is_delayed places.is_delayed (λ m. refl) p.mems
+    ∙ some_count answers_late places.answers_late (λ m. refl) p.mems
 
 -- ---- how many are delayed
 
-counted : (ms : List Mem) → count_by (λ (i : MemInfo). i.delayed) (infos_of ms) ≡ count_by (λ (x : Flat.Mem). x.delayed) (mems_of ms)
+counted : (ms : List Mem) → count_by (λ (i : MemInfo). i.delayed) (infos_of ms) ≡ count_by (λ (x : Flat.Mem). Flat.is_delayed x.kind) (mems_of ms)
 counted [] = refl
 counted (m ∷ ms) =
     sum_by-cons (λ (i : MemInfo). cond i.delayed 1 0) (info_of m) (infos_of ms)
-    ∙ ap (λ n. cond m.delayed 1 0 + n) (counted ms)
+    ∙ ap (λ n. cond (Flat.is_delayed m.kind) 1 0 + n) (counted ms)
     ∙ sym
-    (sum_by-cons (λ (x : Flat.Mem). cond x.delayed 1 0)
-    (record { width = m.width.value; depth = m.depth.value; delayed = m.delayed; lock = flat_lock m.lock })
+    (sum_by-cons (λ (x : Flat.Mem). cond (Flat.is_delayed x.kind) 1 0)
+    (record { width = m.width.value; depth = m.depth.value; kind = m.kind; lock = flat_lock m.lock })
     (mems_of ms))
 
 -- as many of the told memories are delayed as of the flat pipe's

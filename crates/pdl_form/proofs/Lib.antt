@@ -1,1 +1,2 @@
 pub mod StageRows
+mod SideLists

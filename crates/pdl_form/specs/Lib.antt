@@ -1,3 +1,4 @@
 pub mod View
 pub mod Form
 pub mod FormView
+pub mod Sides

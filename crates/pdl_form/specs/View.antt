@@ -1,6 +1,6 @@
 -- The flat form that values of the program stand for.
-use Rattle.std.specs.Prelude.{ℕ, List, map, Option, Some, None}
-use Rattle.pdl_syntax_tree.specs.View.{op_view}
+use Rattle.std.specs.Prelude.{ℕ, List, [], ◌∷◌, ◌++◌, map, Option, Some, None}
+use Rattle.pdl_syntax_tree.specs.View.{op_view, mem_kind_view}
 use Rattle.pdl_form.specs.declared.form.FlatExpr as r_expr
 use Rattle.pdl_form.specs.declared.form.FlatExpr.TheOpen.{FlatExpr-F}
 use Rattle.pdl_form.specs.declared.form.Op as r_op
@@ -13,6 +13,7 @@ use Rattle.pdl_form.specs.declared.form.FlatMem as r_mem
 use Rattle.pdl_form.specs.declared.form.Next as r_next
 use Rattle.pdl_form.specs.declared.form.Next.TheVariants as r_nexts
 use Rattle.pdl_form.specs.declared.form.FlatBranch as r_branch
+use Rattle.pdl_form.specs.declared.form.FlatBranches as r_branches
 use Rattle.pdl_form.specs.declared.form.FlatStage as r_stage
 use Rattle.pdl_semantics.specs.Flat as flat
 use Rattle.pdl_semantics.specs.Flat.{Expr, Op, Guard, Stmt, Lock, Mem, Next, Branch, Stage}
@@ -50,9 +51,12 @@ act_view (r_ops.Block m a) = flat.Block m a
 act_view (r_ops.Release m a) = flat.Release m a
 act_view (r_ops.Call args) = flat.Call (exprs_view args)
 act_view (r_ops.SpecCall args) = flat.SpecCall (exprs_view args)
-act_view (r_ops.Verify args) = flat.Verify (exprs_view args)
+act_view (r_ops.Verify last args) = flat.Verify last (exprs_view args)
 act_view r_ops.SpecCheck = flat.SpecCheck
 act_view r_ops.SpecBarrier = flat.SpecBarrier
+act_view (r_ops.AdviceBind x e) = flat.AdviceBind x (expr_view e)
+act_view (r_ops.AdviceRead x m a) = flat.AdviceRead x m a
+act_view (r_ops.AdviceWrite m a e) = flat.AdviceWrite m a (expr_view e)
 
 -- the guard that a guard of the program stands for
 abbrev pub guard_view : r_guard.FlatGuard → Guard
@@ -79,7 +83,7 @@ lock_view (r_locks.Rename size) = flat.Rename size
 
 -- the memory that a memory of the program stands for
 abbrev pub mem_view : r_mem.FlatMem → Mem
-mem_view m = record { width = m.width; depth = m.depth; delayed = m.delayed; lock = lock_view m.lock }
+mem_view m = record { width = m.width; depth = m.depth; kind = mem_kind_view m.kind; lock = lock_view m.lock }
 
 -- the memories that memories of the program stand for
 abbrev pub mems_view : List r_mem.FlatMem → List Mem
@@ -92,13 +96,17 @@ next_view (r_nexts.Goes to) = flat.Goes to
 next_view (r_nexts.Forks x first second) = flat.Forks x first second
 
 -- the branch of a fork that a branch of the program stands for, where there is one
-abbrev pub branch_view : Option r_branch.FlatBranch → Option Branch
-branch_view None = None
-branch_view (Some b) = Some (record { fork = b.fork; first = b.first })
+abbrev pub branch_view : Option r_branch.FlatBranch → List Branch
+branch_view None = []
+branch_view (Some b) = record { fork = b.fork; first = b.first } ∷ []
+
+-- the branches that those of the program stand for
+abbrev pub branches_view : r_branches.FlatBranches → List Branch
+branches_view bs = branch_view bs.first ++ (branch_view bs.second ++ (branch_view bs.third ++ branch_view bs.fourth))
 
 -- the stage that a stage of the program stands for
 abbrev pub stage_view : r_stage.FlatStage → Stage
-stage_view s = record { next = next_view s.next; branch = branch_view s.branch; merges = s.merges }
+stage_view s = record { next = next_view s.next; branches = branches_view s.branches; merges = s.merges }
 
 -- the stages that stages of the program stand for
 abbrev pub stages_view : List r_stage.FlatStage → List Stage

@@ -1,6 +1,6 @@
 // The parts of a flat form. Variables, memories and stages are numbers, counted from 0.
 use pdl_kit::{Boxed, Name, Seq};
-use pdl_syntax_tree::BinaryOp;
+use pdl_syntax_tree::{BinaryOp, MemKind};
 
 /// An expression over numbered variables, with the widths in bits that its value needs: `width` is that of the operands, in `Constant` that of the value, and `wide` that of an extended value. In `Cat` it is that of `b`, the lower part.
 #[derive(Drop)]
@@ -51,7 +51,7 @@ pub enum FlatExpr {
     },
 }
 
-/// What a statement does, with the variable `x` that it binds, its memory `m` and the variable `a` of its address. An `if` on an expression binds its guard.
+/// What a statement does, with the variable `x` that it binds, its memory `m` and the variable `a` of its address. An `if` on an expression binds its guard, and an `update` is a verify that isn't the last. The last three bind an advised variable, by an expression or by a read of an advisory memory, and write such a memory.
 #[derive(Drop)]
 pub enum Op {
     Bind { x: usize, e: FlatExpr },
@@ -64,9 +64,12 @@ pub enum Op {
     Release { m: usize, a: usize },
     Call(Seq<FlatExpr>),
     SpecCall(Seq<FlatExpr>),
-    Verify(Seq<FlatExpr>),
+    Verify { last: bool, args: Seq<FlatExpr> },
     SpecCheck,
     SpecBarrier,
+    AdviceBind { x: usize, e: FlatExpr },
+    AdviceRead { x: usize, m: usize, a: usize },
+    AdviceWrite { m: usize, a: usize, e: FlatExpr },
 }
 
 /// A branch of an `if`, with the variable of its truth value: the first branch is taken where that is 1, the second where it isn't.
@@ -93,13 +96,13 @@ pub enum Lock {
     Rename(u8),
 }
 
-/// A memory, with the width of its words in bits, how many words it has, and whether it answers in a later cycle.
+/// A memory, with the width of its words in bits, how many words it has, and its kind.
 #[derive(Drop)]
 pub struct FlatMem {
     pub name: Name,
     pub width: u8,
     pub depth: u32,
-    pub delayed: bool,
+    pub kind: MemKind,
     pub lock: Lock,
 }
 
@@ -122,10 +125,27 @@ pub struct FlatBranch {
     pub first: bool,
 }
 
-/// A stage: where it leads, the branch that it stands in, and the fork stage whose branches meet in it.
+/// The branches that a stage stands in, the innermost first; those that there are come before those that there aren't.
+#[derive(Clone, Copy)]
+pub struct FlatBranches {
+    pub first: Option<FlatBranch>,
+    pub second: Option<FlatBranch>,
+    pub third: Option<FlatBranch>,
+    pub fourth: Option<FlatBranch>,
+}
+
+/// The branches of a stage that stands in none.
+pub const NO_BRANCHES: FlatBranches = FlatBranches {
+    first: None,
+    second: None,
+    third: None,
+    fourth: None,
+};
+
+/// A stage: where it leads, the branches that it stands in, and the fork stage whose branches meet in it.
 #[derive(Clone, Copy)]
 pub struct FlatStage {
     pub next: Next,
-    pub branch: Option<FlatBranch>,
+    pub branches: FlatBranches,
     pub merges: Option<usize>,
 }

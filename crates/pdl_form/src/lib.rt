@@ -7,7 +7,12 @@ pub mod flat;
 pub mod form;
 pub mod pipe;
 pub mod rows;
+pub mod sides;
 pub mod stmts;
 
 pub use flat::FlatPipe;
-pub use form::{FlatBranch, FlatExpr, FlatGuard, FlatMem, FlatStage, FlatStmt, Lock, Next, Op};
+pub use form::{
+    FlatBranch, FlatBranches, FlatExpr, FlatGuard, FlatMem, FlatStage, FlatStmt, Lock, NO_BRANCHES,
+    Next, Op,
+};
+pub use sides::{side_in, side_of};

@@ -29,7 +29,9 @@ fn is_reserve_of(op: &Op, mem: usize) -> bool
         Op::ReserveRead { m, .. } | Op::ReserveWrite { m, .. } => *m == mem,
         Op::Bind { .. } | Op::CombRead { .. } | Op::DelayedRead { .. } | Op::Write { .. } => false,
         Op::Block { .. } | Op::Release { .. } => false,
-        Op::Call(_) | Op::SpecCall(_) | Op::Verify(_) | Op::SpecCheck | Op::SpecBarrier => false,
+        Op::Call(_) | Op::SpecCall(_) | Op::Verify { .. } | Op::SpecCheck => false,
+        Op::SpecBarrier | Op::AdviceBind { .. } | Op::AdviceRead { .. } => false,
+        Op::AdviceWrite { .. } => false,
     }
 }
 
@@ -40,14 +42,23 @@ fn is_release_of(op: &Op, mem: usize) -> bool
         Op::Release { m, .. } => *m == mem,
         Op::Bind { .. } | Op::CombRead { .. } | Op::DelayedRead { .. } | Op::Write { .. } => false,
         Op::ReserveRead { .. } | Op::ReserveWrite { .. } | Op::Block { .. } => false,
-        Op::Call(_) | Op::SpecCall(_) | Op::Verify(_) | Op::SpecCheck | Op::SpecBarrier => false,
+        Op::Call(_) | Op::SpecCall(_) | Op::Verify { .. } | Op::SpecCheck => false,
+        Op::SpecBarrier | Op::AdviceBind { .. } | Op::AdviceRead { .. } => false,
+        Op::AdviceWrite { .. } => false,
     }
 }
 
 fn is_verify(op: &Op) -> bool
     ensures { result ≡ stages.is_verify (act_view op.now) }
 {
-    matches!(op, Op::Verify(_))
+    match op {
+        Op::Verify { last, .. } => *last,
+        Op::Bind { .. } | Op::CombRead { .. } | Op::DelayedRead { .. } | Op::Write { .. } => false,
+        Op::ReserveRead { .. } | Op::ReserveWrite { .. } | Op::Block { .. } => false,
+        Op::Release { .. } | Op::Call(_) | Op::SpecCall(_) | Op::SpecCheck => false,
+        Op::SpecBarrier | Op::AdviceBind { .. } | Op::AdviceRead { .. } => false,
+        Op::AdviceWrite { .. } => false,
+    }
 }
 
 /// The stage of a memory's reserves: that of the first one in the text.

@@ -1,5 +1,5 @@
 -- The graph of an `if`, as the walk comes to it: first the stages of the one branch, then those of the other.
-use Rattle.std.proofs.Common.{◌≡◌, ℕ, zero, suc, ◌+◌, ◌≤◌, ◌<◌, ◌==◌, Bool, true, false, if◌then◌else◌, List, [], ◌∷◌, ◌++◌, length, refl, ap, ap₂, sym, ◌∙◌, Option, arith, append_assoc, append-nil, length-append, eqb-true}
+use Rattle.std.proofs.Common.{◌≡◌, ℕ, zero, suc, ◌+◌, ◌≤◌, ◌<◌, ◌==◌, Bool, true, false, if◌then◌else◌, List, [], ◌∷◌, ◌++◌, length, refl, ap, ap₂, sym, ◌∙◌, arith, append_assoc, append-nil, length-append, eqb-true}
 use Rattle.std.proofs.Common.{inl, inr}
 use Rattle.std.proofs.lemmas.Bool.Decides.{eqb_tells}
 use Rattle.pdl_semantics.specs.Tree.{Span, Expr, Variable, Stmt, Separator, If, Stmts, Nil, Cons, Mem}
@@ -23,20 +23,20 @@ if_step false f x a b first second rest z ha hb =
     ∙ ap₂ (λ u v. u + v) (length-append first.later second.later ∙ ap₂ (λ u v. u + v) ha hb) (length-merging f rest.later)
 
 mutual
-  later_in : (ms : List Mem) (b : Option Branch) (s : Stmt) (at' : Position) (rest : Graph)
+  later_in : (ms : List Mem) (b : List Branch) (s : Stmt) (at' : Position) (rest : Graph)
       → length (graph_before ms b s at' rest).later ≡ separators_in s + length rest.later
   later_in ms b (Separator _) at' rest = omega arith
   later_in ms b (If sp c when otherwise) at' rest =
       if_step (separators when + separators otherwise == 0) at'.stage (guard_of at'.vars c) (separators when) (separators otherwise)
-      (graph ms (side at'.stage true) (Goes (suc (at'.begun + separators when + separators otherwise))) when (with_guard c at'))
-      (graph ms (side at'.stage false) (Goes (suc (at'.begun + separators when + separators otherwise))) otherwise (at_otherwise ms c when at'))
+      (graph ms (side at'.stage true ∷ b) (Goes (suc (at'.begun + separators when + separators otherwise))) when (with_guard c at'))
+      (graph ms (side at'.stage false ∷ b) (Goes (suc (at'.begun + separators when + separators otherwise))) otherwise (at_otherwise ms c when at'))
       rest (eqb-true (separators when + separators otherwise) 0)
-      (later_all ms (side at'.stage true) (Goes (suc (at'.begun + separators when + separators otherwise))) when (with_guard c at'))
-      (later_all ms (side at'.stage false) (Goes (suc (at'.begun + separators when + separators otherwise))) otherwise (at_otherwise ms c when at'))
+      (later_all ms (side at'.stage true ∷ b) (Goes (suc (at'.begun + separators when + separators otherwise))) when (with_guard c at'))
+      (later_all ms (side at'.stage false ∷ b) (Goes (suc (at'.begun + separators when + separators otherwise))) otherwise (at_otherwise ms c when at'))
   later_in ms b s at' rest = omega arith
 
   -- as many stages begin in some statements as separators stand in them
-  pub later_all : (ms : List Mem) (b : Option Branch) (exit : Next) (ss : Stmts) (at' : Position) → length (graph ms b exit ss at').later ≡ separators ss
+  pub later_all : (ms : List Mem) (b : List Branch) (exit : Next) (ss : Stmts) (at' : Position) → length (graph ms b exit ss at').later ≡ separators ss
   later_all ms b exit Nil at' = refl
   later_all ms b exit (Cons s ss) at' =
       later_in ms b s at' (graph ms b exit ss (past ms s at')) ∙ ap (λ n. separators_in s + n) (later_all ms b exit ss (past ms s at'))
@@ -97,12 +97,12 @@ module _ (k begun more : ℕ) (s0 s1 s2 : List Stage) (first second : Graph)
 -- AN `IF` OF THE TEXT
 
 -- the same graph of a branch
-graph_same : (ms : List Mem) (first : Bool) (ss : Stmts) (k i m n : ℕ) (p q : Position) → k ≡ i → m ≡ n → p ≡ q
-    → graph ms (side k first) (Goes m) ss p ≡ graph ms (side i first) (Goes n) ss q
-graph_same ms first ss k i m n p q e f g =
-    ap (λ j. graph ms (side j first) (Goes m) ss p) e
-    ∙ ap (λ j. graph ms (side i first) (Goes j) ss p) f
-    ∙ ap (λ w. graph ms (side i first) (Goes n) ss w) g
+graph_same : (ms : List Mem) (bs : List Branch) (first : Bool) (ss : Stmts) (k i m n : ℕ) (p q : Position) → k ≡ i → m ≡ n → p ≡ q
+    → graph ms (side k first ∷ bs) (Goes m) ss p ≡ graph ms (side i first ∷ bs) (Goes n) ss q
+graph_same ms bs first ss k i m n p q e f g =
+    ap (λ j. graph ms (side j first ∷ bs) (Goes m) ss p) e
+    ∙ ap (λ j. graph ms (side i first ∷ bs) (Goes j) ss p) f
+    ∙ ap (λ w. graph ms (side i first ∷ bs) (Goes n) ss w) g
 
 -- no stage has begun
 none_begun : (n m more : ℕ) → n ≡ m + more → (n == m) ≡ (more == 0)
@@ -117,32 +117,32 @@ some_begun zero h = cc
 some_begun (suc n) h = omega arith
 
 -- an `if` at a place, as the walk comes to it: in stage k, where it led so before, with the guard x and the entries of both branches, to which it comes at p and q
-module _ (ms : List Mem) (b : Option Branch) (sp : Span) (c : Expr) (when otherwise : Stmts) (at' : Position) (k begun merge x u v n : ℕ)
+module _ (ms : List Mem) (b : List Branch) (sp : Span) (c : Expr) (when otherwise : Stmts) (at' : Position) (k begun merge x u v n : ℕ)
     (s0 s1 s2 : List Stage) (before : Next) (p q : Position)
     (ek : k ≡ at'.stage) (eb : begun ≡ at'.begun) (em : merge ≡ suc (at'.begun + (separators when + separators otherwise))) (ex : x ≡ guard_of at'.vars c)
     (en : before ≡ next_at at'.stage s0) (ep : p ≡ with_guard c at') (eq : q ≡ at_otherwise ms c when at') (whole : length s0 ≡ suc at'.begun)
     (within : at'.stage ≤ at'.begun)
-    (e1 : s1 ≡ closed_stages k false s0 (graph ms (side k true) (Goes merge) when p))
-    (e2 : s2 ≡ closed_stages k false s1 (graph ms (side k false) (Goes merge) otherwise q))
-    (eu : u ≡ entry (graph ms (side k true) (Goes merge) when p).next) (ev : v ≡ entry (graph ms (side k false) (Goes merge) otherwise q).next)
+    (e1 : s1 ≡ closed_stages k false s0 (graph ms (side k true ∷ b) (Goes merge) when p))
+    (e2 : s2 ≡ closed_stages k false s1 (graph ms (side k false ∷ b) (Goes merge) otherwise q))
+    (eu : u ≡ entry (graph ms (side k true ∷ b) (Goes merge) when p).next) (ev : v ≡ entry (graph ms (side k false ∷ b) (Goes merge) otherwise q).next)
     (count : n ≡ at'.begun + (separators when + separators otherwise)) where
   abbrev exit : ℕ
   exit = suc (at'.begun + separators when + separators otherwise)
 
   abbrev first : Graph
-  first = graph ms (side at'.stage true) (Goes exit) when (with_guard c at')
+  first = graph ms (side at'.stage true ∷ b) (Goes exit) when (with_guard c at')
 
   abbrev second : Graph
-  second = graph ms (side at'.stage false) (Goes exit) otherwise (at_otherwise ms c when at')
+  second = graph ms (side at'.stage false ∷ b) (Goes exit) otherwise (at_otherwise ms c when at')
 
   meets : merge ≡ exit
   meets = em ∙ ap suc (omega arith)
 
-  is_first : graph ms (side k true) (Goes merge) when p ≡ first
-  is_first = graph_same ms true when k at'.stage merge exit p (with_guard c at') ek meets ep
+  is_first : graph ms (side k true ∷ b) (Goes merge) when p ≡ first
+  is_first = graph_same ms b true when k at'.stage merge exit p (with_guard c at') ek meets ep
 
-  is_second : graph ms (side k false) (Goes merge) otherwise q ≡ second
-  is_second = graph_same ms false otherwise k at'.stage merge exit q (at_otherwise ms c when at') ek meets eq
+  is_second : graph ms (side k false ∷ b) (Goes merge) otherwise q ≡ second
+  is_second = graph_same ms b false otherwise k at'.stage merge exit q (at_otherwise ms c when at') ek meets eq
 
   test : (n == begun) ≡ (separators when + separators otherwise == 0)
   test = ap (λ m. n == m) eb ∙ none_begun n at'.begun (separators when + separators otherwise) count
@@ -163,26 +163,70 @@ module _ (ms : List Mem) (b : Option Branch) (sp : Span) (c : Expr) (when otherw
       (ap (λ i. Forks i u v) ex ∙ ap (λ i. Forks (guard_of at'.vars c) i v) (eu ∙ ap (λ (g : Graph). entry g.next) is_first)
       ∙ ap (λ i. Forks (guard_of at'.vars c) (entry first.next) i) (ev ∙ ap (λ (g : Graph). entry g.next) is_second))
       ∙ choice_closed at'.stage at'.begun (separators when + separators otherwise) s0 s1 s2 first second whole within
-      (e1 ∙ ap (λ i. closed_stages i false s0 (graph ms (side k true) (Goes merge) when p)) ek ∙ ap (closed_stages at'.stage false s0) is_first)
-      (e2 ∙ ap (λ i. closed_stages i false s1 (graph ms (side k false) (Goes merge) otherwise q)) ek ∙ ap (closed_stages at'.stage false s1) is_second)
-      (ap₂ (λ i j. i + j) (later_all ms (side at'.stage true) (Goes exit) when (with_guard c at'))
-      (later_all ms (side at'.stage false) (Goes exit) otherwise (at_otherwise ms c when at')))
+      (e1 ∙ ap (λ i. closed_stages i false s0 (graph ms (side k true ∷ b) (Goes merge) when p)) ek ∙ ap (closed_stages at'.stage false s0) is_first)
+      (e2 ∙ ap (λ i. closed_stages i false s1 (graph ms (side k false ∷ b) (Goes merge) otherwise q)) ek ∙ ap (closed_stages at'.stage false s1) is_second)
+      (ap₂ (λ i j. i + j) (later_all ms (side at'.stage true ∷ b) (Goes exit) when (with_guard c at'))
+      (later_all ms (side at'.stage false ∷ b) (Goes exit) otherwise (at_otherwise ms c when at')))
       (n == begun) (separators when + separators otherwise == 0) forked (guard_of at'.vars c) rest
       (λ t. eqb-true (separators when + separators otherwise) 0 (sym test ∙ t))
       (λ t. some_begun (separators when + separators otherwise) (sym test ∙ t))
       test
 
--- the stage that a branch enters first, as its `if`'s stage shows it
-pub entry_seen : (ms : List Mem) (b : Option Branch) (n : Next) (first : Bool) (k i merge : ℕ) (ss : Stmts)
+-- NO STAGE BEGINS
+
+none_if : (f x : ℕ) (t : Bool) (a b c d rest : Graph) → t ≡ true → (if t then rest else graph_with_fork f x a b rest) ≡ (if t then rest else graph_with_fork f x c d rest)
+none_if f x true a b c d rest h = refl
+none_if f x false a b c d rest h = cc
+
+mutual
+  flat_in : (ms : List Mem) (b c : List Branch) (s : Stmt) (at' : Position) (rest : Graph) → separators_in s ≡ 0
+      → graph_before ms b s at' rest ≡ graph_before ms c s at' rest
+  flat_in ms b c (Separator _) at' rest h = absurd (omega (arith, h))
+  flat_in ms b c (If sp e when otherwise) at' rest h =
+      none_if at'.stage (guard_of at'.vars e) (separators when + separators otherwise == 0)
+      (graph ms (side at'.stage true ∷ b) (Goes (suc (at'.begun + separators when + separators otherwise))) when (with_guard e at'))
+      (graph ms (side at'.stage false ∷ b) (Goes (suc (at'.begun + separators when + separators otherwise))) otherwise (at_otherwise ms e when at'))
+      (graph ms (side at'.stage true ∷ c) (Goes (suc (at'.begun + separators when + separators otherwise))) when (with_guard e at'))
+      (graph ms (side at'.stage false ∷ c) (Goes (suc (at'.begun + separators when + separators otherwise))) otherwise (at_otherwise ms e when at'))
+      rest (ap (λ n. n == 0) h)
+  flat_in ms b c s at' rest h = refl
+
+  -- where no stage begins the branches around don't matter
+  flat_all : (ms : List Mem) (b c : List Branch) (exit : Next) (ss : Stmts) (at' : Position) → separators ss ≡ 0
+      → graph ms b exit ss at' ≡ graph ms c exit ss at'
+  flat_all ms b c exit Nil at' h = refl
+  flat_all ms b c exit (Cons s ss) at' h =
+      flat_in ms b c s at' (graph ms b exit ss (past ms s at')) (omega (arith, h))
+      ∙ ap (graph_before ms c s at') (flat_all ms b c exit ss (past ms s at') (omega (arith, h)))
+
+-- the graph of a branch, with the branches of the stages that begin in it, if any do
+branch_graph : (ms : List Mem) (b bs : List Branch) (s : Branch) (n : Next) (ss : Stmts) (p : Position)
+    → b ≡ (if separators ss == 0 then bs else s ∷ bs) → graph ms b n ss p ≡ graph ms (s ∷ bs) n ss p
+branch_graph ms b bs s n ss p h = at (separators ss == 0) refl h
+  where
+    at : (t : Bool) → (separators ss == 0) ≡ t → b ≡ (if t then bs else s ∷ bs) → graph ms b n ss p ≡ graph ms (s ∷ bs) n ss p
+    at true e f = flat_all ms b (s ∷ bs) n ss p (eqb-true (separators ss) 0 e)
+    at false e f = ap (λ c. graph ms c n ss p) f
+
+-- the stages after a branch
+pub branch_seen : (ms : List Mem) (b bs : List Branch) (n : Next) (first : Bool) (k i merge : ℕ) (ss : Stmts)
     (p : Position) (s0 s1 : List Stage)
-    → s1 ≡ closed_stages i false s0 (graph ms b n ss p) → b ≡ side k first → n ≡ Goes merge → i ≡ k → i < length s0
-    → entry (next_at k s1) ≡ entry (graph ms (side k first) (Goes merge) ss p).next
-entry_seen ms b n first k i merge ss p s0 s1 h eb en ei low =
+    → s1 ≡ closed_stages i false s0 (graph ms b n ss p) → b ≡ (if separators ss == 0 then bs else side k first ∷ bs) → n ≡ Goes merge → i ≡ k
+    → s1 ≡ closed_stages k false s0 (graph ms (side k first ∷ bs) (Goes merge) ss p)
+branch_seen ms b bs n first k i merge ss p s0 s1 h eb en ei =
+    h
+    ∙ ap (λ j. closed_stages j false s0 (graph ms b n ss p)) ei
+    ∙ ap (λ m. closed_stages k false s0 (graph ms b m ss p)) en
+    ∙ ap (closed_stages k false s0) (branch_graph ms b bs (side k first) (Goes merge) ss p eb)
+
+-- the stage that a branch enters first, as its `if`'s stage shows it
+pub entry_seen : (ms : List Mem) (bs : List Branch) (first : Bool) (k merge : ℕ) (ss : Stmts)
+    (p : Position) (s0 s1 : List Stage)
+    → s1 ≡ closed_stages k false s0 (graph ms (side k first ∷ bs) (Goes merge) ss p) → k < length s0
+    → entry (next_at k s1) ≡ entry (graph ms (side k first ∷ bs) (Goes merge) ss p).next
+entry_seen ms bs first k merge ss p s0 s1 h low =
     ap (λ ys. entry (next_at k ys)) h
-    ∙ ap (λ j. entry (next_at j (closed_stages i false s0 (graph ms b n ss p)))) (sym ei)
-    ∙ ap entry (next-leading i (graph ms b n ss p).next s0 (graph ms b n ss p).later low)
-    ∙ ap (λ c. entry (graph ms c n ss p).next) eb
-    ∙ ap (λ m. entry (graph ms (side k first) m ss p).next) en
+    ∙ ap entry (next-leading k (graph ms (side k first ∷ bs) (Goes merge) ss p).next s0 (graph ms (side k first ∷ bs) (Goes merge) ss p).later low)
 
 -- the guard of an `if` begins no stage
 pub guard_begun : (c : Expr) (at' : Position) → (with_guard c at').begun ≡ at'.begun

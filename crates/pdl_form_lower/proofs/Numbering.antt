@@ -2,7 +2,7 @@
 use Rattle.std.proofs.Common.{◌≡◌, ◌≢◌, ℕ, zero, suc, ◌≤◌, ◌<◌, Bool, true, false, if◌then◌else◌, ◌||◌, List, [], ◌∷◌, ◌++◌, length, map, get_or, set, replicate, slice_get, Option, Some, None, unwrap_or, is_some, refl, ap, sym, ◌∙◌, subst, arith, bytes_eq, option_map}
 use Rattle.std.specs.Prelude.{IsTrue}
 use Rattle.std.proofs.lemmas.Option.{get_or_from_slice_get, slice_get_within}
-use Rattle.pdl_semantics.specs.Flatten.{Var, var_of, var_width}
+use Rattle.pdl_semantics.specs.Flatten.{Var, var_of, var_width, is_advised_var}
 use Rattle.pdl_rules.specs.Typed.{is_named}
 use Rattle.pdl_rules_widths.specs.Variables.{number_among}
 use Rattle.pdl_form_lower.specs.declared.vars.NumberedVariable.{NumberedVariable}
@@ -79,6 +79,33 @@ width_found us [] x n d h = cc
 width_found us (v ∷ vs) x n d h =
     width_step (bytes_eq (name_at us v.place) x) (number_among (vars_of us vs) x) n (var_width (vars_of us vs) x) v vs d
     (λ m e. width_found us vs x m d e) h
+
+advised_step : (b : Bool) (o : Option ℕ) (n : ℕ) (w : Bool) (v : NumberedVariable) (vs : List NumberedVariable) (d : NumberedVariable)
+    → ((m : ℕ) → o ≡ Some m → (get_or vs m d).advised ≡ w) → (if b then Some 0 else option_map suc o) ≡ Some n
+    → (get_or (v ∷ vs) n d).advised ≡ (if b then v.advised else w)
+advised_step true o n w v vs d ih h = let e : 0 ≡ n = cc in subst (λ k. (get_or (v ∷ vs) k d).advised ≡ v.advised) e refl
+advised_step false None n w v vs d ih h = cc
+advised_step false (Some m) n w v vs d ih h = let e : suc m ≡ n = cc in subst (λ k. (get_or (v ∷ vs) k d).advised ≡ w) e (ih m refl)
+
+-- the variable of a name's number is advised exactly if the name is
+pub advised_found : (us : List Var) (vs : List NumberedVariable) (x : List ℕ) (n : ℕ) (d : NumberedVariable)
+    → number_among (vars_of us vs) x ≡ Some n → (get_or vs n d).advised ≡ is_advised_var (vars_of us vs) x
+advised_found us [] x n d h = cc
+advised_found us (v ∷ vs) x n d h =
+    advised_step (bytes_eq (name_at us v.place) x) (number_among (vars_of us vs) x) n (is_advised_var (vars_of us vs) x) v vs d
+    (λ m e. advised_found us vs x m d e) h
+
+unadvised_step : (b : Bool) (o : Option ℕ) (v w : Bool)
+    → (o ≡ None → w ≡ false) → (if b then Some 0 else option_map suc o) ≡ None → (if b then v else w) ≡ false
+unadvised_step true o v w ih h = cc
+unadvised_step false None v w ih h = ih refl
+unadvised_step false (Some m) v w ih h = cc
+
+-- a name that no variable has isn't advised
+pub advised_missing : (vs : List Var) (x : List ℕ) → number_among vs x ≡ None → is_advised_var vs x ≡ false
+advised_missing [] x h = refl
+advised_missing (v ∷ vs) x h =
+    unadvised_step (bytes_eq v.name x) (number_among vs x) v.advised (is_advised_var vs x) (λ e. advised_missing vs x e) h
 
 none_step : (b : Bool) (o : Option ℕ) (v w : ℕ)
     → (o ≡ None → w ≡ 0) → (if b then Some 0 else option_map suc o) ≡ None → (if b then v else w) ≡ 0
@@ -245,37 +272,37 @@ name_placed us vs s x None v e h =
     sym (bytes_same x [] (unnamed_step (bytes_eq x []) (is_named us x) known (name_missing us x (sym e))))
 name_placed us vs s x (Some k) v e h = name_found us x k (sym e)
 
-more : (us : List Var) (vs ws : List NumberedVariable) (s : Scope) (x : List ℕ) (w : ℕ) (o : Option ℕ)
+more : (us : List Var) (vs ws : List NumberedVariable) (s : Scope) (x : List ℕ) (w : ℕ) (b : Bool) (o : Option ℕ)
     → record { table = us; vars = vars_of us vs } ≡ s → o ≡ number_among us x
-    → IsTrue (bytes_eq x [] || is_named s.table x) → ws ≡ vs ++ record { place = o; width = w } ∷ []
-    → vars_of us ws ≡ vars_of us vs ++ record { name = x; width = w } ∷ []
-more us vs ws s x w o v e h g =
-    ap (vars_of us) g ∙ vars_push us vs (record { place = o; width = w })
-    ∙ ap (λ n. vars_of us vs ++ record { name = n; width = w } ∷ []) (name_placed us (vars_of us vs) s x o v e h)
+    → IsTrue (bytes_eq x [] || is_named s.table x) → ws ≡ vs ++ record { place = o; width = w; advised = b } ∷ []
+    → vars_of us ws ≡ vars_of us vs ++ record { name = x; width = w; advised = b } ∷ []
+more us vs ws s x w b o v e h g =
+    ap (vars_of us) g ∙ vars_push us vs (record { place = o; width = w; advised = b })
+    ∙ ap (λ n. vars_of us vs ++ record { name = n; width = w; advised = b } ∷ []) (name_placed us (vars_of us vs) s x o v e h)
 
 -- with a variable more, the variables stand for those before and it
-pub vars_more : (us : List Var) (vs ws : List NumberedVariable) (s : Scope) (x : List ℕ) (w : ℕ) (o : Option ℕ)
+pub vars_more : (us : List Var) (vs ws : List NumberedVariable) (s : Scope) (x : List ℕ) (w : ℕ) (b : Bool) (o : Option ℕ)
     → record { table = us; vars = vars_of us vs } ≡ s → o ≡ number_among us x
-    → IsTrue (bytes_eq x [] || is_named s.table x) → ws ≡ vs ++ record { place = o; width = w } ∷ []
-    → vars_of us ws ≡ s.vars ++ record { name = x; width = w } ∷ []
-vars_more us vs ws s x w o v e h g = more us vs ws s x w o v e h g ∙ ap (λ (z : Scope). z.vars ++ record { name = x; width = w } ∷ []) v
+    → IsTrue (bytes_eq x [] || is_named s.table x) → ws ≡ vs ++ record { place = o; width = w; advised = b } ∷ []
+    → vars_of us ws ≡ s.vars ++ record { name = x; width = w; advised = b } ∷ []
+vars_more us vs ws s x w b o v e h g = more us vs ws s x w b o v e h g ∙ ap (λ (z : Scope). z.vars ++ record { name = x; width = w; advised = b } ∷ []) v
 
 -- with a variable of the table more, the numbers are right
-pub more_known : (us : List Var) (ns os : List (Option ℕ)) (vs ws : List NumberedVariable) (s : Scope) (x : List ℕ) (w k n : ℕ) (o : Option ℕ)
+pub more_known : (us : List Var) (ns os : List (Option ℕ)) (vs ws : List NumberedVariable) (s : Scope) (x : List ℕ) (w k n : ℕ) (b : Bool) (o : Option ℕ)
     → record { table = us; vars = vars_of us vs } ≡ s → o ≡ number_among us x → IsTrue (bytes_eq x [] || is_named s.table x)
-    → ws ≡ vs ++ record { place = o; width = w } ∷ [] → AreNumbered us ns (vars_of us vs) → w ≤ 64
+    → ws ≡ vs ++ record { place = o; width = w; advised = b } ∷ [] → AreNumbered us ns (vars_of us vs) → w ≤ 64
     → o ≡ Some k → n ≡ length vs → os ≡ with_number ns k n → AreNumbered us os (vars_of us ws)
-more_known us ns os vs ws s x w k n o v e h g a small at' long i =
-    subst (AreNumbered us os) (sym (more us vs ws s x w o v e h g))
-    (subst (λ ms. AreNumbered us ms (vars_of us vs ++ record { name = x; width = w } ∷ []))
+more_known us ns os vs ws s x w k n b o v e h g a small at' long i =
+    subst (AreNumbered us os) (sym (more us vs ws s x w b o v e h g))
+    (subst (λ ms. AreNumbered us ms (vars_of us vs ++ record { name = x; width = w; advised = b } ∷ []))
     (sym (i ∙ ap (with_number ns k) (long ∙ sym (length_vars us vs))))
-    (numbered_known us ns (vars_of us vs) (record { name = x; width = w }) k a small (sym e ∙ at')))
+    (numbered_known us ns (vars_of us vs) (record { name = x; width = w; advised = b }) k a small (sym e ∙ at')))
 
 -- with a guard more, the numbers stay right
-pub more_unknown : (us : List Var) (ns : List (Option ℕ)) (vs ws : List NumberedVariable) (s : Scope) (x : List ℕ) (w : ℕ) (o : Option ℕ)
+pub more_unknown : (us : List Var) (ns : List (Option ℕ)) (vs ws : List NumberedVariable) (s : Scope) (x : List ℕ) (w : ℕ) (b : Bool) (o : Option ℕ)
     → record { table = us; vars = vars_of us vs } ≡ s → o ≡ number_among us x → IsTrue (bytes_eq x [] || is_named s.table x)
-    → ws ≡ vs ++ record { place = o; width = w } ∷ [] → AreNumbered us ns (vars_of us vs) → w ≤ 64
+    → ws ≡ vs ++ record { place = o; width = w; advised = b } ∷ [] → AreNumbered us ns (vars_of us vs) → w ≤ 64
     → o ≡ None → AreNumbered us ns (vars_of us ws)
-more_unknown us ns vs ws s x w o v e h g a small at' =
-    subst (AreNumbered us ns) (sym (more us vs ws s x w o v e h g))
-    (numbered_unknown us ns (vars_of us vs) (record { name = x; width = w }) a small (sym e ∙ at'))
+more_unknown us ns vs ws s x w b o v e h g a small at' =
+    subst (AreNumbered us ns) (sym (more us vs ws s x w b o v e h g))
+    (numbered_unknown us ns (vars_of us vs) (record { name = x; width = w; advised = b }) a small (sym e ∙ at'))

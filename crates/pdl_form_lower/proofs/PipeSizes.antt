@@ -5,8 +5,9 @@ use Rattle.std.proofs.lemmas.Bool.{or_parts, or_left, or_right, and_parts, and_c
 use Rattle.std.proofs.lemmas.List.Sums.{sum_by-append}
 use Rattle.std.specs.List.{list_any}
 use Rattle.pdl_kit.specs.declared.rule.Rule.TheVariants.{Z3, Z7, N2, N3, W1, W2, W3}
-use Rattle.pdl_semantics.specs.Tree.{Expr, Location, Stmt, Separator, CombRead, Bind, SpecCall, DelayedRead, Write, Reserve, Block, Release, If, Call, Verify, SpecCheck, SpecBarrier, Stmts, Nil, Cons, Param, LockDecl, Mem, Pipe}
-use Rattle.pdl_semantics.specs.Flatten.{Var, width_of, mem_width, params_of, separators, separators_in}
+use Rattle.pdl_semantics.specs.Tree.{Expr, Location, Stmt, Separator, CombRead, Bind, SpecCall, DelayedRead, Write, Reserve, Block, Release, If, Call, Verify, Update, SpecCheck, SpecBarrier, Stmts, Nil, Cons, Param, LockDecl, Mem, Pipe}
+use Rattle.pdl_semantics.specs.Flatten.{Var, width_of, mem_width, is_advisory_mem, is_advised, params_of, separators, separators_in}
+use Rattle.pdl_semantics.specs.Flat.{is_delayed, is_advisory}
 use Rattle.pdl_rules.specs.Places.{Place, Parameter, Memory, Statement, End, StartClause, Branch, guard_of, with_inner, statements, places, on_some_path}
 use Rattle.pdl_rules.specs.Parts.{some_part, some_expr_of, location_of, of_constant, is_some_and}
 use Rattle.pdl_rules.specs.Limits.{is_separator, depths, is_depth, is_size, is_width, allows_lock, is_wrong_lock, is_wrong_literal, breaks_z7}
@@ -29,7 +30,8 @@ use Rattle.pdl_word.proofs.Bytes.{bytes_refl}
 sized_lock : (m : Mem) (l : Option LockDecl) → is_some_and (is_wrong_lock m) l ≡ false → IsSizedLock l
 sized_lock m None e = tt
 sized_lock m (Some l) e =
-    let fine = and_parts (is_size l.size.value) (allows_lock m.depth.value m.delayed l.kind l.size.value) (not-false _ e) in
+    let plain = (or_parts (is_advisory m.kind) _ e).1 in
+    let fine = and_parts (is_size l.size.value) (allows_lock m.depth.value (is_delayed m.kind) l.kind l.size.value) (not-false _ plain) in
     leb-true _ 16 (of_each (λ n. nat_le n 16) (1 ∷ 2 ∷ 4 ∷ 8 ∷ 16 ∷ []) l.size.value refl fine.0)
 
 sized_mem : (m : Mem) → breaks_z7 (Memory m) ≡ false → IsSizedMem m
@@ -128,6 +130,7 @@ lowerable_here all vs early r (Release _ at) bs d h f = known_address all vs ear
 lowerable_here all vs early r (If _ c when otherwise) bs d h f = (lowerable_one all vs early r c f).0
 lowerable_here all vs early r (Call _ es) bs d h f = lowerable_all all vs early r es f
 lowerable_here all vs early r (Verify _ g es) bs d h f = lowerable_all all vs early r es f
+lowerable_here all vs early r (Update _ g es) bs d h f = lowerable_all all vs early r es f
 lowerable_here all vs early r (SpecCheck _) bs d h f = tt
 lowerable_here all vs early r (SpecBarrier _) bs d h f = tt
 
@@ -175,8 +178,8 @@ module _ (p : Pipe) (rules : KeepsRules p) where
   next ms vs before (Parameter a) later e b = (
     tt,
     (
-      vs ++ record { name = a.name.name; width = a.width.value } ∷ [],
-      more p vs before (Parameter a) _ (known_more p vs before (Parameter a) a.name.name a.width.value refl refl refl
+      vs ++ record { name = a.name.name; width = a.width.value; advised = false } ∷ [],
+      more p vs before (Parameter a) _ (known_more p vs before (Parameter a) a.name.name a.width.value false refl refl refl
           (rules N2 before (Parameter a) later e) b.known) (width_is a.width.value (rules Z7 before (Parameter a) later e)).1 b,
     ),
   )
@@ -193,20 +196,21 @@ module _ (p : Pipe) (rules : KeepsRules p) where
     where
       after : (s : Stmt) → places p ≡ before ++ Statement s bs ∷ later → (us : List Var) × After p us (before ++ Statement s bs ∷ [])
       after (CombRead sp x at) e = (
-        vs ++ record { name = x.name; width = mem_width p.mems at.mem.name } ∷ [],
-        more p vs before _ _ (known_more p vs before (Statement (CombRead sp x at) bs) x.name (mem_width p.mems at.mem.name) refl refl refl
+        vs ++ record { name = x.name; width = mem_width p.mems at.mem.name; advised = is_advisory_mem p.mems at.mem.name } ∷ [],
+        more p vs before _ _ (known_more p vs before (Statement (CombRead sp x at) bs) x.name (mem_width p.mems at.mem.name)
+            (is_advisory_mem p.mems at.mem.name) refl refl refl
             (rules N2 before _ later e) b.known) (small_mem p.mems at.mem.name ms) b,
       )
       after (DelayedRead sp x at) e = (
-        vs ++ record { name = x.name; width = mem_width p.mems at.mem.name } ∷ [],
-        more p vs before _ _ (known_more p vs before (Statement (DelayedRead sp x at) bs) x.name (mem_width p.mems at.mem.name) refl refl refl
+        vs ++ record { name = x.name; width = mem_width p.mems at.mem.name; advised = false } ∷ [],
+        more p vs before _ _ (known_more p vs before (Statement (DelayedRead sp x at) bs) x.name (mem_width p.mems at.mem.name) false refl refl refl
             (rules N2 before _ later e) b.known) (small_mem p.mems at.mem.name ms) b,
       )
       after (Bind sp x v) e =
           let wide = lowerable_one (variables p) vs (is_too_early p before (Statement (Bind sp x v) bs))
           (ready p vs before (Statement (Bind sp x v) bs) later e b) v (fits_here p rules before (Bind sp x v) bs later e) in (
-            vs ++ record { name = x.name; width = width_of vs v } ∷ [],
-            more p vs before _ _ (known_more p vs before (Statement (Bind sp x v) bs) x.name (width_of vs v) refl refl refl
+            vs ++ record { name = x.name; width = width_of vs v; advised = is_advised vs v } ∷ [],
+            more p vs before _ _ (known_more p vs before (Statement (Bind sp x v) bs) x.name (width_of vs v) (is_advised vs v) refl refl refl
                 (rules N2 before _ later e) b.known) wide.1 b,
           )
       after (Separator sp) e = (vs, same p vs before _ (known_same p vs before (Statement (Separator sp) bs) refl refl b.known) b)
@@ -218,6 +222,7 @@ module _ (p : Pipe) (rules : KeepsRules p) where
       after (If sp c when otherwise) e = (vs, same p vs before _ (known_same p vs before (Statement (If sp c when otherwise) bs) refl refl b.known) b)
       after (Call sp es) e = (vs, same p vs before _ (known_same p vs before (Statement (Call sp es) bs) refl refl b.known) b)
       after (Verify sp g es) e = (vs, same p vs before _ (known_same p vs before (Statement (Verify sp g es) bs) refl refl b.known) b)
+      after (Update sp g es) e = (vs, same p vs before _ (known_same p vs before (Statement (Update sp g es) bs) refl refl b.known) b)
       after (SpecCheck sp) e = (vs, same p vs before _ (known_same p vs before (Statement (SpecCheck sp) bs) refl refl b.known) b)
       after (SpecBarrier sp) e = (vs, same p vs before _ (known_same p vs before (Statement (SpecBarrier sp) bs) refl refl b.known) b)
 
@@ -240,10 +245,10 @@ module _ (p : Pipe) (rules : KeepsRules p) where
         (sym (append-nil vs)) small,
   )
   params_known (a ∷ ps) vs before later e k small =
-      let v : Var = record { name = a.name.name; width = a.width.value } in
+      let v : Var = record { name = a.name.name; width = a.width.value; advised = false } in
       let rest =
       params_known ps (vs ++ v ∷ []) (before ++ Parameter a ∷ []) later (e ∙ sym (append_assoc before (Parameter a ∷ []) (map Parameter ps ++ later)))
-      (known_more p vs before (Parameter a) a.name.name a.width.value refl refl refl (rules N2 before (Parameter a) _ e) k)
+      (known_more p vs before (Parameter a) a.name.name a.width.value false refl refl refl (rules N2 before (Parameter a) _ e) k)
       (small_more vs v small (width_is a.width.value (rules Z7 before (Parameter a) _ e)).1) in (
         subst₂ (λ us xs. AreKnown p us xs) (append_assoc vs (v ∷ []) (params_of ps)) (append_assoc before (Parameter a ∷ []) (map Parameter ps)) rest.0,
         subst Small (append_assoc vs (v ∷ []) (params_of ps)) rest.1,
@@ -324,6 +329,7 @@ mutual
       (a.0, (tree_stmts us _ when inner.0, tree_stmts us _ otherwise inner.1))
   tree_stmt us bs (Call _ es) a = a.0
   tree_stmt us bs (Verify _ g es) a = a.0
+  tree_stmt us bs (Update _ g es) a = a.0
   tree_stmt us bs (SpecCheck _) a = a.0
   tree_stmt us bs (SpecBarrier _) a = a.0
 

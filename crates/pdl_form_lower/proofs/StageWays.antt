@@ -1,5 +1,5 @@
 -- Lists of stages of which one leads elsewhere.
-use Rattle.std.proofs.Common.{◌≡◌, ℕ, zero, suc, ◌<◌, false, List, [], ◌∷◌, ◌++◌, length, get_or, set, Option, Some, None, refl, ap, sym, ◌∙◌, arith, append_assoc}
+use Rattle.std.proofs.Common.{◌≡◌, ℕ, zero, suc, ◌<◌, false, List, [], ◌∷◌, ◌++◌, length, get_or, set, Some, None, refl, ap, sym, ◌∙◌, arith, append_assoc}
 use Rattle.pdl_semantics.specs.Flat.{Next, Ends, Goes, Stage, Branch}
 use Rattle.pdl_semantics.specs.Flatten.{Graph, with_merge}
 use Rattle.pdl_form.specs.declared.form.FlatStage as r_stage
@@ -13,7 +13,7 @@ use Rattle.pdl_form_lower.specs.Walking.{leading, with_merge_at, next_at, closed
 pub led : (xs : List r_stage.FlatStage) (k : ℕ) (x : r_stage.FlatStage) (n : r_next.Next) → k < length xs
     → x ≡ get_or xs k x → stages_view (set xs k (record x { next = n })) ≡ leading k (next_view n) (stages_view xs)
 led [] k x n h e = absurd (omega arith)
-led (y ∷ ys) zero x n h e = ap (λ (z : r_stage.FlatStage). record { next = next_view n; branch = (stage_view z).branch; merges = z.merges } ∷ stages_view ys) e
+led (y ∷ ys) zero x n h e = ap (λ (z : r_stage.FlatStage). record { next = next_view n; branches = (stage_view z).branches; merges = z.merges } ∷ stages_view ys) e
 led (y ∷ ys) (suc k) x n h e = ap (λ zs. stage_view y ∷ zs) (led ys k x n (omega arith) e)
 
 -- a stage of the program that is marked as a fork's merge stands for one that is marked so
@@ -21,7 +21,7 @@ pub marked_one : (xs : List r_stage.FlatStage) (k : ℕ) (x : r_stage.FlatStage)
     → x ≡ get_or xs k x → stages_view (set xs k (record x { merges = Some f })) ≡ with_merge_at k f (stages_view xs)
 marked_one [] k x f h e = absurd (omega arith)
 marked_one (y ∷ ys) zero x f h e =
-    ap (λ (z : r_stage.FlatStage). record { next = next_view z.next; branch = (stage_view z).branch; merges = Some f } ∷ stages_view ys) e
+    ap (λ (z : r_stage.FlatStage). record { next = next_view z.next; branches = (stage_view z).branches; merges = Some f } ∷ stages_view ys) e
 marked_one (y ∷ ys) (suc k) x f h e = ap (λ zs. stage_view y ∷ zs) (marked_one ys k x f (omega arith) e)
 
 -- where a stage of the program leads is where the stage leads that it stands for
@@ -86,24 +86,24 @@ leading-last [] x n = refl
 leading-last (y ∷ xs) x n = ap (λ zs. y ∷ zs) (leading-last xs x n)
 
 -- a stage that begins after stage k is the one to which that leads, and goes on as the rest does
-pub begun_after : (k m n : ℕ) (b : Option Branch) (xs : List Stage) (rest : Graph) → m ≡ length xs → n ≡ m → k < length xs
-    → closed_stages m false (leading k (Goes m) (xs ++ record { next = Ends; branch = b; merges = None } ∷ [])) rest
-    ≡ leading k (Goes n) xs ++ record { next = rest.next; branch = b; merges = None } ∷ rest.later
+pub begun_after : (k m n : ℕ) (b : List Branch) (xs : List Stage) (rest : Graph) → m ≡ length xs → n ≡ m → k < length xs
+    → closed_stages m false (leading k (Goes m) (xs ++ record { next = Ends; branches = b; merges = None } ∷ [])) rest
+    ≡ leading k (Goes n) xs ++ record { next = rest.next; branches = b; merges = None } ∷ rest.later
 begun_after k m n b xs rest e f h =
-    let x : Stage = record { next = Ends; branch = b; merges = None } in
+    let x : Stage = record { next = Ends; branches = b; merges = None } in
     let long : m ≡ length (leading k (Goes m) xs) = e ∙ sym (length-leading k (Goes m) xs) in
     ap (λ ys. leading m rest.next ys ++ rest.later) (leading-append k (Goes m) xs (x ∷ []) h)
     ∙ ap (λ j. leading j rest.next (leading k (Goes m) xs ++ x ∷ []) ++ rest.later) long
     ∙ ap (λ ys. ys ++ rest.later) (leading-last (leading k (Goes m) xs) x rest.next)
     ∙ append_assoc (leading k (Goes m) xs) (record x { next = rest.next } ∷ []) rest.later
-    ∙ ap (λ j. leading k (Goes j) xs ++ record { next = rest.next; branch = b; merges = None } ∷ rest.later) (sym f)
+    ∙ ap (λ j. leading k (Goes j) xs ++ record { next = rest.next; branches = b; merges = None } ∷ rest.later) (sym f)
 
 -- a stage that begins after the fork in stage k merges it, and goes on as the rest does
-pub begun_merge : (k m : ℕ) (b : Option Branch) (xs : List Stage) (rest : Graph) → m ≡ length xs
-    → closed_stages m false (xs ++ record { next = Ends; branch = b; merges = Some k } ∷ []) rest
-    ≡ xs ++ record { next = rest.next; branch = b; merges = Some k } ∷ rest.later
+pub begun_merge : (k m : ℕ) (b : List Branch) (xs : List Stage) (rest : Graph) → m ≡ length xs
+    → closed_stages m false (xs ++ record { next = Ends; branches = b; merges = Some k } ∷ []) rest
+    ≡ xs ++ record { next = rest.next; branches = b; merges = Some k } ∷ rest.later
 begun_merge k m b xs rest e =
-    let x : Stage = record { next = Ends; branch = b; merges = Some k } in
+    let x : Stage = record { next = Ends; branches = b; merges = Some k } in
     ap (λ j. leading j rest.next (xs ++ x ∷ []) ++ rest.later) e
     ∙ ap (λ ys. ys ++ rest.later) (leading-last xs x rest.next)
     ∙ append_assoc xs (record x { next = rest.next } ∷ []) rest.later

@@ -1,6 +1,6 @@
 -- What lets a pipe be lowered: each variable that it uses or defines is one of its table, and the widths and sizes that its text tells are in bounds, as its limits and rules want.
 use Rattle.std.specs.Prelude.{◌≤◌, List, [], ◌∷◌, IsTrue}
-use Rattle.pdl_semantics.specs.Tree.{Ident, Expr, Constant, Variable, Slice, Not, Binary, Cat, LessSigned, ZeroExtend, SignExtend, Choose, Stmt, Separator, CombRead, Bind, SpecCall, DelayedRead, Write, Reserve, Block, Release, If, Call, Verify, SpecCheck, SpecBarrier, Stmts, Nil, Cons, Param, Pipe}
+use Rattle.pdl_semantics.specs.Tree.{Ident, Expr, Constant, Variable, Slice, Not, Binary, Cat, LessSigned, ZeroExtend, SignExtend, Choose, Stmt, Separator, CombRead, Bind, SpecCall, DelayedRead, Write, Reserve, Block, Release, If, Call, Verify, Update, SpecCheck, SpecBarrier, Stmts, Nil, Cons, Param, Pipe}
 use Rattle.pdl_semantics.specs.Flatten.{Var}
 use Rattle.pdl_rules.specs.Typed.{is_named}
 use Rattle.pdl_form_lower.specs.Sized.{AreSizedMems}
@@ -42,6 +42,7 @@ abbrev mutual
   IsLowerableStmt us (If _ c when otherwise) = IsLowerable us c × (AreLowerableStmts us when × AreLowerableStmts us otherwise)
   IsLowerableStmt us (Call _ args) = AreLowerable us args
   IsLowerableStmt us (Verify _ guess args) = AreLowerable us args
+  IsLowerableStmt us (Update _ guess args) = AreLowerable us args
   IsLowerableStmt us (SpecCheck _) = Unit {0}
   IsLowerableStmt us (SpecBarrier _) = Unit {0}
 

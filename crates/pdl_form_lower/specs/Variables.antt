@@ -22,7 +22,7 @@ name_at us (Some k) = name_in us k
 
 -- the variable that a variable of the program stands for
 abbrev pub var_view : List Var → NumberedVariable → Var
-var_view us v = record { name = name_at us v.place; width = v.width }
+var_view us v = record { name = name_at us v.place; width = v.width; advised = v.advised }
 
 -- the variables that variables of the program stand for
 abbrev pub vars_of : List Var → List NumberedVariable → List Var

@@ -1,8 +1,7 @@
 -- A walk over the statements of a pipe: what it has made, and how the stages that it has begun are closed.
 use Rattle.std.specs.Prelude.{◌≡◌, ℕ, zero, suc, ◌≤◌, Bool, true, false, List, [], ◌∷◌, ◌++◌, Some, length, slice_index_or}
-use Rattle.pdl_semantics.specs.Tree.{Stmt, Separator, CombRead, Bind, SpecCall, DelayedRead, Write, Reserve, Block, Release, If, Call, Verify, SpecCheck, SpecBarrier}
-use Rattle.pdl_semantics.specs.Flat as flat
-use Rattle.pdl_semantics.specs.Flat.{Op, Next, Stage}
+use Rattle.pdl_semantics.specs.Tree.{Stmt, Separator, CombRead, Bind, SpecCall, DelayedRead, Write, Reserve, Block, Release, If, Call, Verify, Update, SpecCheck, SpecBarrier}
+use Rattle.pdl_semantics.specs.Flat.{Next, Stage}
 use Rattle.pdl_semantics.specs.Flatten.{Position, Graph, with_merge}
 use Rattle.pdl_semantics.specs.Stages.{last_stage}
 use Rattle.pdl_form_lower.specs.declared.walk.Walk.{Walk}
@@ -57,6 +56,7 @@ is_plain (Release _ _) = true
 is_plain (If _ _ _ _) = false
 is_plain (Call _ _) = true
 is_plain (Verify _ _ _) = true
+is_plain (Update _ _ _) = true
 is_plain (SpecCheck _) = true
 is_plain (SpecBarrier _) = true
 
@@ -74,10 +74,6 @@ is_act (Release _ _) = true
 is_act (If _ _ _ _) = false
 is_act (Call _ _) = true
 is_act (Verify _ _ _) = true
+is_act (Update _ _ _) = true
 is_act (SpecCheck _) = true
 is_act (SpecBarrier _) = true
-
--- a read, delayed or not
-abbrev pub read_op : Bool → ℕ → ℕ → ℕ → Op
-read_op true x m a = flat.DelayedRead x m a
-read_op false x m a = flat.CombRead x m a

@@ -3,7 +3,7 @@ ghost use Rattle.std.specs.Prelude.{◌≡◌, ◌≤◌, ◌<◌, ◌++◌, ◌
 ghost use Rattle.pdl_semantics.specs.Flat as flat;
 ghost use Rattle.pdl_semantics.specs.Flatten as spec;
 ghost use Rattle.pdl_syntax_tree.specs.View as tree;
-ghost use Rattle.pdl_form.specs.View.{guards_view, stmts_view, stages_view, next_view, branch_view};
+ghost use Rattle.pdl_form.specs.View.{guards_view, stmts_view, stages_view, next_view, branches_view};
 ghost use Rattle.pdl_form_lower.specs.Sized.{AreSizedMems};
 ghost use Rattle.pdl_form_lower.specs.Lowerable.{IsLowerable, IsLowerableStmt, AreLowerableStmts};
 ghost use Rattle.pdl_form_lower.specs.Walking.{place_of, IsWhole, closed_stages, next_at, settled_stages};
@@ -12,7 +12,7 @@ use crate::count::separators;
 use crate::expr::flat_expr;
 use crate::row::{add, row};
 use crate::walk::{StmtContext, Walk, begin, lead, mark};
-use pdl_form::{FlatBranch, FlatGuard, FlatStage, Next, Op};
+use pdl_form::{FlatBranch, FlatBranches, FlatGuard, FlatStage, Next, Op};
 use pdl_kit::{NoMemory, Seq};
 use pdl_syntax_tree::{Expr, Mem, Stmt};
 use std::alloc::Global;
@@ -101,28 +101,67 @@ fn enter(
     })
 }
 
-// What stands round a branch.
+// Branches with one more before them. There is room for it, as rule F2 allows no fork of the fifth level.
+fn within(branches: FlatBranches, fork: usize, first: bool) -> Result<FlatBranches, NoMemory>
+    ensures { IfOk result (λ r.
+        branches_view r ≡ spec.side fork first ∷ branches_view branches) }
+{
+    if branches.fourth.is_some() {
+        return Err(NoMemory);
+    }
+    Ok(FlatBranches {
+        first: Some(FlatBranch { fork, first }),
+        second: branches.first,
+        third: branches.second,
+        fourth: branches.third,
+    })
+}
+
+// The branches of the stages that begin in a branch, if any do.
+fn branches_in(
+    branches: FlatBranches,
+    fork: usize,
+    first: bool,
+    ss: &[Stmt],
+) -> Result<FlatBranches, NoMemory>
+    requires few { spec.separators (tree.stmts_view ss.now) ≤ 63 }
+    ensures { IfOk result (λ r. branches_view r
+        ≡ (if spec.separators (tree.stmts_view ss.now) == 0 then branches_view branches
+        else spec.side fork first ∷ branches_view branches)) }
+{
+    if separators(ss) == 0 {
+        Ok(branches)
+    } else {
+        within(branches, fork, first)
+    }
+}
+
+// What stands round a branch of these statements.
 fn inside(
     alloc: Global,
-    guards: &[FlatGuard],
+    round: &StmtContext,
     choice: Choice,
     first: bool,
+    ss: &[Stmt],
 ) -> Result<StmtContext, NoMemory>
+    requires few { spec.separators (tree.stmts_view ss.now) ≤ 63 }
     ensures guards { IfOk result (λ r.
-        guards_view r.guards ≡ guards_view guards.now ++ record {
+        guards_view r.guards ≡ guards_view round.now.guards ++ record {
           var = choice.var;
           first = first;
         } ∷ []) }
-    ensures branch { IfOk result (λ r. branch_view r.branch ≡ spec.side choice.stage first) }
+    ensures branches { IfOk result (λ r. branches_view r.branches
+        ≡ (if spec.separators (tree.stmts_view ss.now) == 0 then branches_view round.now.branches
+        else spec.side choice.stage first ∷ branches_view round.now.branches)) }
     ensures exit { IfOk result (λ r. next_view r.exit ≡ flat.Goes choice.merge) }
 {
-    let mut guards = Seq::copy_of(alloc, guards)?;
+    let mut guards = Seq::copy_of(alloc, round.guards.as_slice())?;
     let var = choice.var;
     guards.push(FlatGuard { var, first })?;
-    let fork = choice.stage;
+    let branches = branches_in(round.branches, choice.stage, first, ss)?;
     Ok(StmtContext {
         guards,
-        branch: Some(FlatBranch { fork, first }),
+        branches,
         exit: Next::Goes(choice.merge),
     })
 }
@@ -174,7 +213,7 @@ fn branch(
     alloc: Global,
     walk: &mut Walk<'_>,
     mems: &[Mem],
-    guards: &[FlatGuard],
+    around: &StmtContext,
     choice: Choice,
     first: bool,
     ss: &[Stmt],
@@ -189,21 +228,23 @@ fn branch(
         (spec.past_all (map tree.mem_view mems.now) (tree.stmts_view ss.now) (place_of walk.old))) }
     ensures stmts { OnOk result (stmts_view walk.new.stmts.items
         ≡ stmts_view walk.old.stmts.items ++ spec.flat_stmts (map tree.mem_view mems.now)
-        (guards_view guards.now ++ record { var = choice.var; first = first } ∷ [])
+        (guards_view around.now.guards ++ record { var = choice.var; first = first } ∷ [])
         (tree.stmts_view ss.now) (place_of walk.old)) }
     ensures graph { OnOk result (stages_view walk.new.stages.items
         ≡ closed_stages choice.stage false (stages_view walk.old.stages.items)
-        (spec.graph (map tree.mem_view mems.now) (spec.side choice.stage first)
+        (spec.graph (map tree.mem_view mems.now)
+        (spec.side choice.stage first ∷ branches_view around.now.branches)
         (flat.Goes choice.merge) (tree.stmts_view ss.now) (place_of walk.old))) }
     ensures entry { IfOk result (λ k.
-        k ≡ spec.entry (spec.graph (map tree.mem_view mems.now) (spec.side choice.stage first)
+        k ≡ spec.entry (spec.graph (map tree.mem_view mems.now)
+        (spec.side choice.stage first ∷ branches_view around.now.branches)
         (flat.Goes choice.merge) (tree.stmts_view ss.now) (place_of walk.old)).next) }
     ensures table { OnOk result (walk.new.vars.table ≡ walk.old.vars.table) }
     ensures whole { OnOk result (IsWhole walk.new) }
     ensures count { OnOk result (walk.new.begun
         ≡ walk.old.begun + spec.separators (tree.stmts_view ss.now)) }
 {
-    let round = inside(alloc, guards, choice, first)?;
+    let round = inside(alloc, around, choice, first, ss)?;
     statements(alloc, walk, mems, &round, ss)?;
     walk.stage = choice.stage;
     Ok(entry(walk.stages.as_slice(), choice.stage))
@@ -231,7 +272,7 @@ pub fn statement(
     ensures graph { IfOk result (λ after. (rest : spec.Graph) →
         closed_stages walk.new.stage after (stages_view walk.new.stages.items) rest
         ≡ closed_stages walk.old.stage forked (stages_view walk.old.stages.items)
-        (spec.graph_before (map tree.mem_view mems.now) (branch_view round.now.branch)
+        (spec.graph_before (map tree.mem_view mems.now) (branches_view round.now.branches)
         (tree.stmt_view s.now) (place_of walk.old) rest)) }
     ensures table { OnOk result (walk.new.vars.table ≡ walk.old.vars.table) }
     ensures whole { OnOk result (IsWhole walk.new) }
@@ -240,7 +281,7 @@ pub fn statement(
 {
     match s {
         Stmt::Separator { .. } => {
-            begin(walk, round.branch, forked)?;
+            begin(walk, round.branches, forked)?;
             Ok(false)
         }
         Stmt::If {
@@ -254,8 +295,8 @@ pub fn statement(
             let other = otherwise.as_slice();
             let more = separators(when) + separators(other);
             let choice = enter(alloc, walk, guards, condition, more)?;
-            let first = branch(alloc, walk, mems, guards, choice, true, when)?;
-            let second = branch(alloc, walk, mems, guards, choice, false, other)?;
+            let first = branch(alloc, walk, mems, round, choice, true, when)?;
+            let second = branch(alloc, walk, mems, round, choice, false, other)?;
             Ok(leave(walk, choice, first, second, forked))
         }
         _ => {
@@ -285,7 +326,7 @@ pub fn statements(
         (guards_view round.now.guards) (tree.stmts_view ss.now) (place_of walk.old)) }
     ensures graph { OnOk result (stages_view walk.new.stages.items
         ≡ closed_stages walk.old.stage false (stages_view walk.old.stages.items)
-        (spec.graph (map tree.mem_view mems.now) (branch_view round.now.branch)
+        (spec.graph (map tree.mem_view mems.now) (branches_view round.now.branches)
         (next_view round.now.exit) (tree.stmts_view ss.now) (place_of walk.old))) }
     ensures table { OnOk result (walk.new.vars.table ≡ walk.old.vars.table) }
     ensures whole { OnOk result (IsWhole walk.new) }

@@ -21,7 +21,8 @@ pub fn separators_in(s: &Stmt) -> usize
         Stmt::CombRead { .. } | Stmt::Bind { .. } | Stmt::SpecCall { .. } => 0,
         Stmt::DelayedRead { .. } | Stmt::Write { .. } | Stmt::Reserve { .. } => 0,
         Stmt::Block { .. } | Stmt::Release { .. } | Stmt::Call { .. } => 0,
-        Stmt::Verify { .. } | Stmt::SpecCheck { .. } | Stmt::SpecBarrier { .. } => 0,
+        Stmt::Verify { .. } | Stmt::Update { .. } | Stmt::SpecCheck { .. } => 0,
+        Stmt::SpecBarrier { .. } => 0,
     }
 }
 

@@ -3,6 +3,7 @@
 //! The layers above may use `lower`, and the lemma that a pipe which keeps the rules can be lowered.
 #![tactic(auto)]
 
+mod advised;
 mod append;
 mod body;
 mod both;

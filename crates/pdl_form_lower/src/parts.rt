@@ -26,7 +26,7 @@ pub fn params<'v>(
 {
     let mut vars = Vars::new(alloc, table)?;
     for param in params {
-        vars.define(&param.name.name, param.width.value as u8)?;
+        vars.define(&param.name.name, param.width.value as u8, false)?;
     }
     Ok(vars)
 }
@@ -54,7 +54,7 @@ fn memory(mem: &Tree) -> Result<FlatMem, NoMemory>
         mem_view m ≡ record {
           width = mem.now.width.value;
           depth = mem.now.depth.value;
-          delayed = mem.now.delayed;
+          kind = tree.mem_kind_view mem.now.kind;
           lock = spec.flat_lock (tree.maybe_lock_view mem.now.lock);
         }) }
     ensures name { IfOk result (λ m. m.name ≡ mem.now.name.name) }
@@ -64,7 +64,7 @@ fn memory(mem: &Tree) -> Result<FlatMem, NoMemory>
         name: mem.name.name.clone()?,
         width: mem.width.value as u8,
         depth: mem.depth.value as u32,
-        delayed: mem.delayed,
+        kind: mem.kind,
         lock,
     })
 }

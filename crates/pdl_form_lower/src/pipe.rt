@@ -13,7 +13,7 @@ use crate::body::statements;
 use crate::parts::{memories, params, start};
 use crate::vars::Vars;
 use crate::walk::{StmtContext, Walk};
-use pdl_form::{FlatMem, FlatPipe, FlatStage, Next};
+use pdl_form::{FlatMem, FlatPipe, FlatStage, NO_BRANCHES, Next};
 use pdl_kit::{NoMemory, Seq};
 use pdl_rules_widths::Variables;
 use pdl_syntax_tree::Pipe;
@@ -61,12 +61,12 @@ fn walk_body(alloc: Global, walk: &mut Walk<'_>, pipe: &Pipe) -> Result<(), NoMe
 {
     walk.stages.push(FlatStage {
         next: Next::Ends,
-        branch: None,
+        branches: NO_BRANCHES,
         merges: None,
     })?;
     let round = StmtContext {
         guards: Seq::new(alloc),
-        branch: None,
+        branches: NO_BRANCHES,
         exit: Next::Ends,
     };
     statements(

@@ -1,6 +1,6 @@
 // Variables by number.
-ghost use Rattle.std.specs.Prelude.{◌≡◌, ◌<◌, ◌≤◌, ◌||◌, [], ◌∷◌, ◌++◌, map, bytes_eq, IfOk, OnOk, OnErr, IsTrue, None, length, replicate, slice_index_or};
-ghost use Rattle.pdl_semantics.specs.Flatten.{Var, var_of, var_width};
+ghost use Rattle.std.specs.Prelude.{◌≡◌, ◌<◌, ◌≤◌, ◌||◌, [], ◌∷◌, ◌++◌, map, bytes_eq, false, IfOk, OnOk, OnErr, IsTrue, None, length, replicate, slice_index_or};
+ghost use Rattle.pdl_semantics.specs.Flatten.{Var, var_of, var_width, is_advised_var};
 ghost use Rattle.pdl_rules.specs.Typed.{is_named};
 ghost use Rattle.pdl_rules_widths.specs.Variables.{number_among};
 ghost use Rattle.pdl_form_lower.specs.Variables.{with_number};
@@ -12,11 +12,12 @@ use pdl_rules_widths::Variables;
 use std::alloc::{AllocError, Global};
 use std::marker::Model;
 
-/// A variable with its width in bits, and the place of its name in the table; the guard of an `if` on an expression has no name.
+/// A variable with its width in bits, the place of its name in the table, and whether it is advised; the guard of an `if` on an expression has no name.
 #[derive(Clone, Copy)]
 pub struct NumberedVariable {
     pub place: Option<usize>,
     pub width: u8,
+    pub advised: bool,
 }
 
 /// The variables that a walk over a pipe has defined, in their order; of a name that is defined twice the first definition holds.
@@ -59,37 +60,50 @@ impl<'v> Vars<'v> {
     }
 
     /// Adds a variable of the table.
-    pub fn define(&mut self, name: &Name, width: u8) -> Result<(), NoMemory>
+    pub fn define(&mut self, name: &Name, width: u8, advised: bool) -> Result<(), NoMemory>
         requires known { IsTrue (is_named self.old.table name.now) }
         requires small { width ≤ 64 }
         ensures vars { OnOk result (self.new.vars
-            ≡ self.old.vars ++ record { name = name.now; width = width } ∷ []) }
+            ≡ self.old.vars ++ record {
+              name = name.now;
+              width = width;
+              advised = advised;
+            } ∷ []) }
         ensures table { OnOk result (self.new.table ≡ self.old.table) }
     {
-        self.add(name, width)
+        self.add(name, width, advised)
     }
 
     /// Adds the guard of an `if` on an expression, which has 1 bit and no name.
     pub fn define_guard(&mut self, alloc: Global) -> Result<(), NoMemory>
         ensures vars { OnOk result (self.new.vars
-            ≡ self.old.vars ++ record { name = []; width = 1 } ∷ []) }
+            ≡ self.old.vars ++ record { name = []; width = 1; advised = false } ∷ []) }
         ensures table { OnOk result (self.new.table ≡ self.old.table) }
     {
         let unnamed = Name::copy_of(alloc, b"")?;
-        self.add(&unnamed, 1)
+        self.add(&unnamed, 1, false)
     }
 
     // Adds a variable of the table, or one with the empty name, which no variable of a source has.
-    fn add(&mut self, name: &Name, width: u8) -> Result<(), NoMemory>
+    fn add(&mut self, name: &Name, width: u8, advised: bool) -> Result<(), NoMemory>
         requires known { IsTrue (bytes_eq name.now [] || is_named self.old.table name.now) }
         requires small { width ≤ 64 }
         ensures vars { OnOk result (self.new.vars
-            ≡ self.old.vars ++ record { name = name.now; width = width } ∷ []) }
+            ≡ self.old.vars ++ record {
+              name = name.now;
+              width = width;
+              advised = advised;
+            } ∷ []) }
         ensures table { OnOk result (self.new.table ≡ self.old.table) }
     {
         let place = self.table.position(name);
         let number = self.vars.len();
-        append(&mut self.vars, NumberedVariable { place, width })?;
+        let variable = NumberedVariable {
+            place,
+            width,
+            advised,
+        };
+        append(&mut self.vars, variable)?;
         if let Some(place) = place {
             enter(&mut self.numbers, place, number);
         }
@@ -116,6 +130,17 @@ impl<'v> Vars<'v> {
         match self.find(name) {
             Some(number) => width_at(self.vars.as_slice(), number),
             None => 0,
+        }
+    }
+
+    /// Whether a variable of the table is advised; one that isn't defined yet isn't.
+    pub fn is_advised(&self, name: &Name) -> bool
+        requires { IsTrue (is_named self.now.table name.now) }
+        ensures { result ≡ is_advised_var self.now.vars name.now }
+    {
+        match self.find(name) {
+            Some(number) => is_advised_at(self.vars.as_slice(), number),
+            None => false,
         }
     }
 
@@ -162,6 +187,13 @@ fn width_at(vars: &[NumberedVariable], number: usize) -> u8
     ensures { (d : NumberedVariable) → result ≡ (slice_index_or vars.now number d).width }
 {
     vars[number].width
+}
+
+fn is_advised_at(vars: &[NumberedVariable], number: usize) -> bool
+    requires { number < length vars.now }
+    ensures { (d : NumberedVariable) → result ≡ (slice_index_or vars.now number d).advised }
+{
+    vars[number].advised
 }
 
 fn widths_of(alloc: Global, vars: &[NumberedVariable]) -> Result<Vec<u8>, AllocError>

@@ -1,11 +1,11 @@
 // What a walk over the statements of a pipe makes, and how it goes from stage to stage.
 ghost use Rattle.std.specs.Prelude.{◌≡◌, ◌<◌, true, false, length, OnOk};
 ghost use Rattle.pdl_semantics.specs.Flatten as spec;
-ghost use Rattle.pdl_form.specs.View.{stages_view, next_view, branch_view};
+ghost use Rattle.pdl_form.specs.View.{stages_view, next_view, branches_view};
 ghost use Rattle.pdl_form_lower.specs.Walking.{place_of, IsWhole, closed_stages, leading, with_merge_at};
 
 use crate::vars::Vars;
-use pdl_form::{FlatBranch, FlatGuard, FlatStage, FlatStmt, Next};
+use pdl_form::{FlatBranches, FlatGuard, FlatStage, FlatStmt, Next};
 use pdl_kit::{NoMemory, Seq};
 
 /// What a walk has made: the variables, statements and stages so far. It stands in `stage`, and `begun` is the last stage that has begun.
@@ -18,11 +18,11 @@ pub struct Walk<'v> {
     pub begun: usize,
 }
 
-/// What stands round some statements: their guards, the branch of a fork, and where their last stage leads.
+/// What stands round some statements: their guards, the branches of forks, and where their last stage leads.
 #[derive(Drop)]
 pub struct StmtContext {
     pub guards: Seq<FlatGuard>,
-    pub branch: Option<FlatBranch>,
+    pub branches: FlatBranches,
     pub exit: Next,
 }
 
@@ -51,7 +51,7 @@ pub fn mark(stages: &mut Vec<FlatStage>, k: usize, fork: usize)
 }
 
 // Begins a stage after the one in which the walk stands.
-fn begin_after(walk: &mut Walk<'_>, branch: Option<FlatBranch>) -> Result<(), NoMemory>
+fn begin_after(walk: &mut Walk<'_>, branches: FlatBranches) -> Result<(), NoMemory>
     requires { IsWhole walk.old }
     ensures place { OnOk result (place_of walk.new ≡ spec.next_position (place_of walk.old)) }
     ensures table { OnOk result (walk.new.vars.table ≡ walk.old.vars.table) }
@@ -59,14 +59,14 @@ fn begin_after(walk: &mut Walk<'_>, branch: Option<FlatBranch>) -> Result<(), No
     ensures graph { OnOk result ((rest : spec.Graph) →
         closed_stages walk.new.stage false (stages_view walk.new.stages.items) rest
         ≡ closed_stages walk.old.stage false (stages_view walk.old.stages.items)
-        (spec.graph_with_stage (branch_view branch) (place_of walk.old) rest)) }
+        (spec.graph_with_stage (branches_view branches) (place_of walk.old) rest)) }
     ensures whole { OnOk result (IsWhole walk.new) }
 {
     let last = walk.stage;
     let next = walk.stages.len();
     walk.stages.push(FlatStage {
         next: Next::Ends,
-        branch,
+        branches,
         merges: None,
     })?;
     lead(&mut walk.stages, last, Next::Goes(next));
@@ -76,7 +76,7 @@ fn begin_after(walk: &mut Walk<'_>, branch: Option<FlatBranch>) -> Result<(), No
 }
 
 // Begins the stage after the fork in the one in which the walk stands.
-fn begin_merge(walk: &mut Walk<'_>, branch: Option<FlatBranch>) -> Result<(), NoMemory>
+fn begin_merge(walk: &mut Walk<'_>, branches: FlatBranches) -> Result<(), NoMemory>
     requires { IsWhole walk.old }
     ensures place { OnOk result (place_of walk.new ≡ spec.next_position (place_of walk.old)) }
     ensures table { OnOk result (walk.new.vars.table ≡ walk.old.vars.table) }
@@ -84,14 +84,14 @@ fn begin_merge(walk: &mut Walk<'_>, branch: Option<FlatBranch>) -> Result<(), No
     ensures graph { OnOk result ((rest : spec.Graph) →
         closed_stages walk.new.stage false (stages_view walk.new.stages.items) rest
         ≡ closed_stages walk.old.stage true (stages_view walk.old.stages.items)
-        (spec.graph_with_stage (branch_view branch) (place_of walk.old) rest)) }
+        (spec.graph_with_stage (branches_view branches) (place_of walk.old) rest)) }
     ensures whole { OnOk result (IsWhole walk.new) }
 {
     let fork = walk.stage;
     let next = walk.stages.len();
     walk.stages.push(FlatStage {
         next: Next::Ends,
-        branch,
+        branches,
         merges: Some(fork),
     })?;
     walk.stage = next;
@@ -100,7 +100,7 @@ fn begin_merge(walk: &mut Walk<'_>, branch: Option<FlatBranch>) -> Result<(), No
 }
 
 /// Begins a stage after the one in which the walk stands, or after the fork in it.
-pub fn begin(walk: &mut Walk<'_>, branch: Option<FlatBranch>, forked: bool) -> Result<(), NoMemory>
+pub fn begin(walk: &mut Walk<'_>, branches: FlatBranches, forked: bool) -> Result<(), NoMemory>
     requires { IsWhole walk.old }
     ensures place { OnOk result (place_of walk.new ≡ spec.next_position (place_of walk.old)) }
     ensures table { OnOk result (walk.new.vars.table ≡ walk.old.vars.table) }
@@ -108,12 +108,12 @@ pub fn begin(walk: &mut Walk<'_>, branch: Option<FlatBranch>, forked: bool) -> R
     ensures graph { OnOk result ((rest : spec.Graph) →
         closed_stages walk.new.stage false (stages_view walk.new.stages.items) rest
         ≡ closed_stages walk.old.stage forked (stages_view walk.old.stages.items)
-        (spec.graph_with_stage (branch_view branch) (place_of walk.old) rest)) }
+        (spec.graph_with_stage (branches_view branches) (place_of walk.old) rest)) }
     ensures whole { OnOk result (IsWhole walk.new) }
 {
     if forked {
-        begin_merge(walk, branch)
+        begin_merge(walk, branches)
     } else {
-        begin_after(walk, branch)
+        begin_after(walk, branches)
     }
 }

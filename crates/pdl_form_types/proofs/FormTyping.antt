@@ -9,7 +9,7 @@ use Rattle.pdl_rules.specs.Names.{OfVariable, is_undefined}
 use Rattle.pdl_rules.specs.Refusal.{KeepsRules}
 use Rattle.pdl_rules.proofs.EachPlace.{closing}
 use Rattle.pdl_form_types.specs.Stmts.{AreTypedMems, IsTypedForm}
-use Rattle.pdl_form_types.proofs.VariableNames.{long_widths}
+use Rattle.pdl_form_types.proofs.VariableNames.{long_widths, flags_of}
 use Rattle.pdl_form_types.proofs.Memories.{typed_mems}
 use Rattle.pdl_form_types.proofs.VariableFacts.{by_params, by_body, after_front}
 use Rattle.pdl_form_types.proofs.Parameters.{params_few, start_below}
@@ -25,7 +25,7 @@ module _ (p : Pipe) (rules : KeepsRules p) where
     body : AllWalked p (map Parameter p.params ++ map Memory p.mems) [] [] p.body (at_start p)
     body =
         all_walked p rules named mems (map Parameter p.params ++ map Memory p.mems) (closing p) [] [] p.body (at_start p)
-        (by_body p rules) (after_front p rules) (begins_same (all_vars p)) tt
+        (by_body p rules) (after_front p rules) (begins_same (all_vars p)) tt tt
 
     -- the flat form of a pipe that keeps the rules is typed, where no variable has the empty name
     pub typed_whole : IsTypedForm (form_of p)
@@ -37,4 +37,5 @@ module _ (p : Pipe) (rules : KeepsRules p) where
       mems = mems;
       stmts = body.typed;
       forks = body.forked _ flat.Ends tt;
+      apart = let stages = body.plain [] flat.Ends tt in record { flags = flags_of (all_vars p); stmts = body.apart; stages = (stages.0, stages.1) };
     }

@@ -1,12 +1,14 @@
 pub mod SameForms
 pub mod VariableNames
 pub mod Values
+pub mod Advised
 pub mod Memories
 pub mod VariableFacts
 pub mod StatementFacts
 pub mod VariableGrowth
 pub mod Parameters
 pub mod Single
+pub mod ApartSingle
 pub mod StatementWalk
 pub mod FormTyping
 pub mod Arguments

@@ -34,7 +34,7 @@ has_bits d = nat_le 1 (address_bits d) && nat_le (address_bits d) 16
 
 typed_mem : (m : Mem)
     → breaks_z7 (Memory m) ≡ false
-    → IsTypedMem (record { width = m.width.value; depth = m.depth.value; delayed = m.delayed; lock = flat_lock m.lock })
+    → IsTypedMem (record { width = m.width.value; depth = m.depth.value; kind = m.kind; lock = flat_lock m.lock })
 typed_mem m e =
     let both = shape m e in
     let width = and_parts (nat_le 1 m.width.value) (nat_le m.width.value 64) both.0 in

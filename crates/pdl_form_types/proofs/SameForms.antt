@@ -2,10 +2,10 @@
 use Rattle.std.proofs.Common.{◌≡◌, refl, sym, ap, ◌∙◌, ℕ, Bool, true, false, ◌&&◌, ◌==◌, List, [], ◌∷◌, Option, Some, None, if◌then◌else◌, bytes_eq, eqb-true, eq-eqb}
 use Rattle.std.proofs.lemmas.Bool.{and_parts, and_from, false≢true}
 use Rattle.std.proofs.lemmas.Slice.Eq.{bytes_eq-Decides}
-use Rattle.pdl_semantics.specs.Tree.{BinaryOp, Add, Sub, Mul, And, Or, Xor, Equal, Differ, Less, ShiftLeft, ShiftRight}
-use Rattle.pdl_semantics.specs.Flat.{Expr, Constant, Variable, Slice, Not, Binary, Cat, LessSigned, ZeroExtend, SignExtend, Choose, Op, Bind, CombRead, DelayedRead, Write, ReserveRead, ReserveWrite, Block, Release, Call, SpecCall, Verify, SpecCheck, SpecBarrier, Guard, Stmt, Lock, Plain, Queue, Bypass, Rename, Mem, Next, Ends, Goes, Forks, Branch, Stage, Pipe}
+use Rattle.pdl_semantics.specs.Tree.{MemKind, Comb, Delayed, Advisory, BinaryOp, Add, Sub, Mul, And, Or, Xor, Equal, Differ, Less, ShiftLeft, ShiftRight}
+use Rattle.pdl_semantics.specs.Flat.{Expr, Constant, Variable, Slice, Not, Binary, Cat, LessSigned, ZeroExtend, SignExtend, Choose, Op, Bind, CombRead, DelayedRead, Write, ReserveRead, ReserveWrite, Block, Release, Call, SpecCall, Verify, SpecCheck, SpecBarrier, AdviceBind, AdviceRead, AdviceWrite, Guard, Stmt, Lock, Plain, Queue, Bypass, Rename, Mem, Next, Ends, Goes, Forks, Branch, Stage, Pipe}
 use Rattle.pdl_form.specs.Form.{Form}
-use Rattle.pdl_form_types.specs.Same.{same_list, same_option, same_bool, same_number, number_of, same_expr, same_op, same_guard, same_stmt, same_lock, same_mem, same_next, same_branch, same_stage, same_pipe, same_form}
+use Rattle.pdl_form_types.specs.Same.{same_list, same_option, same_bool, same_number, number_of, same_expr, same_op, same_guard, same_stmt, same_kind, same_lock, same_mem, same_next, same_branch, same_stage, same_pipe, same_form}
 
 -- a test that passes only where two are the same, and one that passes wherever they are
 abbrev Tells : {X : Type 0} → (X → X → Bool) → Type 0
@@ -231,9 +231,32 @@ op_tells (Release m a) (Release m' a') e0 =
     cc
 op_tells (Call es) (Call es') e0 = ap Call (list_tells same_expr expr_tells _ _ e0)
 op_tells (SpecCall es) (SpecCall es') e0 = ap SpecCall (list_tells same_expr expr_tells _ _ e0)
-op_tells (Verify es) (Verify es') e0 = ap Verify (list_tells same_expr expr_tells _ _ e0)
+op_tells (Verify l es) (Verify l' es') e0 =
+    let s0 = and_parts _ _ e0 in
+    let h0 : l ≡ l' = bool_tells _ _ s0.0 in
+    let h1 : es ≡ es' = list_tells same_expr expr_tells _ _ s0.1 in
+    cc
 op_tells SpecCheck SpecCheck e0 = refl
 op_tells SpecBarrier SpecBarrier e0 = refl
+op_tells (AdviceBind x e) (AdviceBind x' e') e0 =
+    let s0 = and_parts _ _ e0 in
+    let h0 : x ≡ x' = eqb-true _ _ s0.0 in
+    let h1 : e ≡ e' = expr_tells _ _ s0.1 in
+    cc
+op_tells (AdviceRead x m a) (AdviceRead x' m' a') e0 =
+    let s0 = and_parts _ _ e0 in
+    let s1 = and_parts _ _ s0.1 in
+    let h0 : x ≡ x' = eqb-true _ _ s0.0 in
+    let h1 : m ≡ m' = eqb-true _ _ s1.0 in
+    let h2 : a ≡ a' = eqb-true _ _ s1.1 in
+    cc
+op_tells (AdviceWrite m a e) (AdviceWrite m' a' e') e0 =
+    let s0 = and_parts _ _ e0 in
+    let s1 = and_parts _ _ s0.1 in
+    let h0 : m ≡ m' = eqb-true _ _ s0.0 in
+    let h1 : a ≡ a' = eqb-true _ _ s1.0 in
+    let h2 : e ≡ e' = expr_tells _ _ s1.1 in
+    cc
 op_tells (Bind _ _) _ e0 = absurd (false≢true e0)
 op_tells (CombRead _ _ _) _ e0 = absurd (false≢true e0)
 op_tells (DelayedRead _ _ _) _ e0 = absurd (false≢true e0)
@@ -244,9 +267,12 @@ op_tells (Block _ _) _ e0 = absurd (false≢true e0)
 op_tells (Release _ _) _ e0 = absurd (false≢true e0)
 op_tells (Call _) _ e0 = absurd (false≢true e0)
 op_tells (SpecCall _) _ e0 = absurd (false≢true e0)
-op_tells (Verify _) _ e0 = absurd (false≢true e0)
+op_tells (Verify _ _) _ e0 = absurd (false≢true e0)
 op_tells SpecCheck _ e0 = absurd (false≢true e0)
 op_tells SpecBarrier _ e0 = absurd (false≢true e0)
+op_tells (AdviceBind _ _) _ e0 = absurd (false≢true e0)
+op_tells (AdviceRead _ _ _) _ e0 = absurd (false≢true e0)
+op_tells (AdviceWrite _ _ _) _ e0 = absurd (false≢true e0)
 
 op_knows : Knows same_op
 op_knows (Bind x e) = and_from _ _ (number_knows x) (expr_knows e)
@@ -259,9 +285,12 @@ op_knows (Block m a) = and_from _ _ (number_knows m) (number_knows a)
 op_knows (Release m a) = and_from _ _ (number_knows m) (number_knows a)
 op_knows (Call es) = list_knows same_expr expr_knows es
 op_knows (SpecCall es) = list_knows same_expr expr_knows es
-op_knows (Verify es) = list_knows same_expr expr_knows es
+op_knows (Verify l es) = and_from _ _ (bool_knows l) (list_knows same_expr expr_knows es)
 op_knows SpecCheck = refl
 op_knows SpecBarrier = refl
+op_knows (AdviceBind x e) = and_from _ _ (number_knows x) (expr_knows e)
+op_knows (AdviceRead x m a) = and_from _ _ (number_knows x) (and_from _ _ (number_knows m) (number_knows a))
+op_knows (AdviceWrite m a e) = and_from _ _ (number_knows m) (and_from _ _ (number_knows a) (expr_knows e))
 
 abbrev guard_of : ℕ → Bool → Guard
 guard_of a0 a1 = record { var = a0; first = a1 }
@@ -311,8 +340,21 @@ lock_knows (Queue n) = number_knows n
 lock_knows (Bypass n) = number_knows n
 lock_knows (Rename n) = number_knows n
 
-abbrev mem_of : ℕ → ℕ → Bool → Lock → Mem
-mem_of a0 a1 a2 a3 = record { width = a0; depth = a1; delayed = a2; lock = a3 }
+kind_tells : Tells same_kind
+kind_tells Comb Comb e0 = refl
+kind_tells Delayed Delayed e0 = refl
+kind_tells Advisory Advisory e0 = refl
+kind_tells Comb _ e0 = absurd (false≢true e0)
+kind_tells Delayed _ e0 = absurd (false≢true e0)
+kind_tells Advisory _ e0 = absurd (false≢true e0)
+
+kind_knows : Knows same_kind
+kind_knows Comb = refl
+kind_knows Delayed = refl
+kind_knows Advisory = refl
+
+abbrev mem_of : ℕ → ℕ → MemKind → Lock → Mem
+mem_of a0 a1 a2 a3 = record { width = a0; depth = a1; kind = a2; lock = a3 }
 
 mem_tells : Tells same_mem
 mem_tells x y e0 =
@@ -321,13 +363,13 @@ mem_tells x y e0 =
     let s2 = and_parts _ _ s1.1 in
     let h0 : x.width ≡ y.width = eqb-true _ _ s0.0 in
     let h1 : x.depth ≡ y.depth = eqb-true _ _ s1.0 in
-    let h2 : x.delayed ≡ y.delayed = bool_tells _ _ s2.0 in
+    let h2 : x.kind ≡ y.kind = kind_tells _ _ s2.0 in
     let h3 : x.lock ≡ y.lock = lock_tells _ _ s2.1 in
-    let whole : mem_of x.width x.depth x.delayed x.lock ≡ mem_of y.width y.depth y.delayed y.lock = cc in
+    let whole : mem_of x.width x.depth x.kind x.lock ≡ mem_of y.width y.depth y.kind y.lock = cc in
     whole
 
 mem_knows : Knows same_mem
-mem_knows x = and_from _ _ (number_knows x.width) (and_from _ _ (number_knows x.depth) (and_from _ _ (bool_knows x.delayed) (lock_knows x.lock)))
+mem_knows x = and_from _ _ (number_knows x.width) (and_from _ _ (number_knows x.depth) (and_from _ _ (kind_knows x.kind) (lock_knows x.lock)))
 
 -- STAGES
 
@@ -364,22 +406,22 @@ branch_tells x y e0 =
 branch_knows : Knows same_branch
 branch_knows x = and_from _ _ (number_knows x.fork) (bool_knows x.first)
 
-abbrev stage_of : Next → Option Branch → Option ℕ → Stage
-stage_of a0 a1 a2 = record { next = a0; branch = a1; merges = a2 }
+abbrev stage_of : Next → List Branch → Option ℕ → Stage
+stage_of a0 a1 a2 = record { next = a0; branches = a1; merges = a2 }
 
 stage_tells : Tells same_stage
 stage_tells x y e0 =
     let s0 = and_parts _ _ e0 in
     let s1 = and_parts _ _ s0.1 in
     let h0 : x.next ≡ y.next = next_tells _ _ s0.0 in
-    let h1 : x.branch ≡ y.branch = option_tells same_branch branch_tells _ _ s1.0 in
+    let h1 : x.branches ≡ y.branches = list_tells same_branch branch_tells _ _ s1.0 in
     let h2 : x.merges ≡ y.merges = option_tells same_number number_tells _ _ s1.1 in
-    let whole : stage_of x.next x.branch x.merges ≡ stage_of y.next y.branch y.merges = cc in
+    let whole : stage_of x.next x.branches x.merges ≡ stage_of y.next y.branches y.merges = cc in
     whole
 
 stage_knows : Knows same_stage
 stage_knows x =
-    and_from _ _ (next_knows x.next) (and_from _ _ (option_knows same_branch branch_knows x.branch) (option_knows same_number number_knows x.merges))
+    and_from _ _ (next_knows x.next) (and_from _ _ (list_knows same_branch branch_knows x.branches) (option_knows same_number number_knows x.merges))
 
 -- THE WHOLE
 

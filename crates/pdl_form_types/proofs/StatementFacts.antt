@@ -70,7 +70,8 @@ module _ (p : Pipe) (rules : KeepsRules p) (before : List Place) (s : Stmt) (bs 
           let named = (or_parts (names_another_pipe p (Statement s bs)) (some_use undefined (Statement s bs)) (rules N1 before (Statement s bs) later e)).1 in
           memory_there p at.mem.name (or_parts (undefined (OfMemory at.mem.name)) _ (uses undefined named)).0
 
-      address : IsTrue (tree.is_named b.us at.address.name)
+      -- the variable of its address is one of those so far
+      pub address : IsTrue (tree.is_named b.us at.address.name)
       address =
           let early = is_too_early p before (Statement s bs) in
           knows p before vs b (Statement s bs) at.address.name

@@ -1,5 +1,5 @@
 -- What is known after some places of a pipe that keeps the rules: which variables the rules know, and where they are among those of the flat form.
-use Rattle.std.proofs.Common.{◌≡◌, refl, sym, ap, ◌∙◌, subst₂, ℕ, true, false, ◌||◌, not, List, [], ◌∷◌, ◌++◌, map, Some, None, bytes_eq, append_assoc, append-nil, ⊎_elim, arith}
+use Rattle.std.proofs.Common.{◌≡◌, refl, sym, ap, ◌∙◌, subst₂, ℕ, Bool, true, false, ◌||◌, not, List, [], ◌∷◌, ◌++◌, map, Some, None, bytes_eq, append_assoc, append-nil, ⊎_elim, arith}
 use Rattle.std.specs.Prelude.{IsTrue}
 use Rattle.std.specs.List.{list_any}
 use Rattle.std.proofs.lemmas.Bool.{and_cases, or_parts, or_cases, or_left, or_right, both_ways, not-false, not-true, false_from_ne_true}
@@ -56,16 +56,16 @@ module _ (p : Pipe) (before : List Place) (vs : List Var) where
   }
 
   -- the variables stay known to the rules with a guard more, which has no name
-  pub after_guard : After p before vs → After p before (vs ++ record { name = []; width = 1 } ∷ [])
+  pub after_guard : After p before vs → After p before (vs ++ record { name = []; width = 1; advised = false } ∷ [])
   after_guard b = record {
     us = b.us;
     known = b.known;
-    stays = stays_after b.us vs (record { name = []; width = 1 }) b.stays;
+    stays = stays_after b.us vs (record { name = []; width = 1; advised = false }) b.stays;
     only =
         λ x e h. ⊎_elim (b.only x e) (λ t. absurd (both_ways (bytes_eq [] x) e t))
-        (any_split (λ (v : Var). bytes_eq v.name x) vs (record { name = []; width = 1 }) h);
+        (any_split (λ (v : Var). bytes_eq v.name x) vs (record { name = []; width = 1; advised = false }) h);
     params = b.params;
-    wide = wide_more vs (record { name = []; width = 1 }) b.wide (record { low = omega arith; high = omega arith });
+    wide = wide_more vs (record { name = []; width = 1; advised = false }) b.wide (record { low = omega arith; high = omega arith });
   }
 
   -- a name that breaks no rule is new
@@ -76,19 +76,19 @@ module _ (p : Pipe) (before : List Place) (vs : List Var) where
       free = (or_parts (bytes_eq x p.name.name) (list_any (takes_name x) before) (sym (ap (is_some_and (is_taken_name p before)) name) ∙ unbroken)).1
 
   -- after a place that defines this variable, with this width
-  pub after_more : (b : After p before vs) (d : Place) (x : List ℕ) (w : ℕ) → variable_at d ≡ Some x → name_at d ≡ Some x
-      → after_place p.mems b.us d ≡ with_variable b.us x w → breaks_n2 p before d ≡ false → bytes_eq [] x ≡ false → IsWide w
-      → After p (before ++ d ∷ []) (vs ++ record { name = x; width = w } ∷ [])
-  after_more b d x w variable name after unbroken letters wide = record {
-    us = b.us ++ record { name = x; width = w } ∷ [];
-    known = known_more p b.us before d x w variable name after unbroken b.known;
-    stays = stays_both b.us vs (record { name = x; width = w }) new other b.stays;
+  pub after_more : (b : After p before vs) (d : Place) (x : List ℕ) (w : ℕ) (advised : Bool) → variable_at d ≡ Some x → name_at d ≡ Some x
+      → after_place p.mems b.us d ≡ with_variable b.us x w advised → breaks_n2 p before d ≡ false → bytes_eq [] x ≡ false → IsWide w
+      → After p (before ++ d ∷ []) (vs ++ record { name = x; width = w; advised = advised } ∷ [])
+  after_more b d x w advised variable name after unbroken letters wide = record {
+    us = b.us ++ record { name = x; width = w; advised = advised } ∷ [];
+    known = known_more p b.us before d x w advised variable name after unbroken b.known;
+    stays = stays_both b.us vs (record { name = x; width = w; advised = advised }) new other b.stays;
     only = λ y e h. ⊎_elim
-        (λ t. (stays_more b.us (record { name = x; width = w } ∷ []) y (b.only y e t)).0)
+        (λ t. (stays_more b.us (record { name = x; width = w; advised = advised } ∷ []) y (b.only y e t)).0)
         (λ t. last y t)
-        (any_split (λ (v : Var). bytes_eq v.name y) vs (record { name = x; width = w }) h);
-    params = λ y e. (stays_more b.us (record { name = x; width = w } ∷ []) y (b.params y e)).0;
-    wide = wide_more vs (record { name = x; width = w }) b.wide wide;
+        (any_split (λ (v : Var). bytes_eq v.name y) vs (record { name = x; width = w; advised = advised }) h);
+    params = λ y e. (stays_more b.us (record { name = x; width = w; advised = advised } ∷ []) y (b.params y e)).0;
+    wide = wide_more vs (record { name = x; width = w; advised = advised }) b.wide wide;
   }
     where
       new : is_named b.us x ≡ false
@@ -97,9 +97,9 @@ module _ (p : Pipe) (before : List Place) (vs : List Var) where
       other : is_named vs x ≡ false
       other = false_from_ne_true (is_named vs x) (λ t. both_ways (is_named b.us x) new (b.only x letters t))
 
-      last : (y : List ℕ) → bytes_eq x y ≡ true → IsTrue (is_named (b.us ++ record { name = x; width = w } ∷ []) y)
+      last : (y : List ℕ) → bytes_eq x y ≡ true → IsTrue (is_named (b.us ++ record { name = x; width = w; advised = advised } ∷ []) y)
       last y t =
-          list_any-append (λ (v : Var). bytes_eq v.name y) b.us (record { name = x; width = w } ∷ [])
+          list_any-append (λ (v : Var). bytes_eq v.name y) b.us (record { name = x; width = w; advised = advised } ∷ [])
           ∙ or_right (is_named b.us y) _ (ap (λ c. c || false) t)
 
   -- a variable whose use breaks no rule is among those that the rules know
@@ -119,11 +119,11 @@ module _ (p : Pipe) (rules : KeepsRules p) where
   params_known [] vs before later e k = subst₂ (λ us xs. AreKnown p us xs) (sym (append-nil vs)) (sym (append-nil before)) k
   params_known (a ∷ ps) vs before later e k =
       subst₂ (λ us xs. AreKnown p us xs)
-      (append_assoc vs (record { name = a.name.name; width = a.width.value } ∷ []) (params_of ps))
+      (append_assoc vs (record { name = a.name.name; width = a.width.value; advised = false } ∷ []) (params_of ps))
       (append_assoc before (Parameter a ∷ []) (map Parameter ps))
-      (params_known ps (vs ++ record { name = a.name.name; width = a.width.value } ∷ []) (before ++ Parameter a ∷ []) later
+      (params_known ps (vs ++ record { name = a.name.name; width = a.width.value; advised = false } ∷ []) (before ++ Parameter a ∷ []) later
       (e ∙ sym (append_assoc before (Parameter a ∷ []) (map Parameter ps ++ later)))
-      (known_more p vs before (Parameter a) a.name.name a.width.value refl refl refl (rules N2 before (Parameter a) _ e) k))
+      (known_more p vs before (Parameter a) a.name.name a.width.value false refl refl refl (rules N2 before (Parameter a) _ e) k))
 
   params_wide : (ps : List Param) (before later : List Place) → places p ≡ before ++ (map Parameter ps ++ later) → AreWidths (widths_of (params_of ps))
   params_wide [] before later e = tt
@@ -146,7 +146,7 @@ module _ (p : Pipe) (rules : KeepsRules p) where
   after_front = record {
     us = params_of p.params;
     known = known_mems p p.mems (params_of p.params) (map Parameter p.params) (params_known p.params [] [] _ by_params (none_known p));
-    stays = λ x h. (h, refl);
+    stays = λ x h. (h, refl, refl);
     only = λ x e h. h;
     params = params_named p.params;
     wide = params_wide p.params [] _ by_params;

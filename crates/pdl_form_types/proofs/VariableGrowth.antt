@@ -2,7 +2,8 @@
 use Rattle.std.proofs.Common.{◌≡◌, sym, ap, ◌∙◌, subst, ◌<◌, List, [], ◌∷◌, ◌++◌, length, slice_index, append-nil}
 use Rattle.pdl_semantics.specs.Tree.{Expr, Variable, Stmt, CombRead, Bind, DelayedRead, If, Stmts, Nil, Cons, Mem}
 use Rattle.pdl_semantics.specs.Flatten.{Var, Position, with_guard, past, past_all}
-use Rattle.pdl_form_types.proofs.VariableNames.{Begins, begins_self, begins_then, widths_of, last_low, last_width}
+use Rattle.pdl_form_types.proofs.VariableNames.{Begins, begins_self, begins_then, widths_of, flags_of, last_low, last_width, last_flag}
+use Rattle.pdl_form_types.specs.Apart.{flag_at}
 
 -- variables are the first of themselves
 pub begins_same : (vs : List Var) → Begins vs vs
@@ -15,6 +16,10 @@ new_last vs all v h = (
   subst (λ l. length vs < length (widths_of l)) (sym h.1) (last_low vs h.0 v),
   ap (λ l. slice_index (widths_of l) (length vs)) h.1 ∙ last_width vs h.0 v,
 )
+
+-- so is its flag
+pub new_flag : (vs all : List Var) (v : Var) → Begins (vs ++ v ∷ []) all → flag_at (flags_of all) (length vs) ≡ v.advised
+new_flag vs all v h = ap (λ l. flag_at (flags_of l) (length vs)) h.1 ∙ last_flag vs h.0 v
 
 -- the guard of an `if` comes after the variables that are there
 pub guard_begins : (c : Expr) (w : Position) → Begins w.vars (with_guard c w).vars

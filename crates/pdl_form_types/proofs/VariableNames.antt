@@ -2,8 +2,9 @@
 use Rattle.std.proofs.Common.{◌≡◌, refl, sym, ap, ◌∙◌, subst, ℕ, suc, ◌<◌, Bool, true, false, ◌||◌, if◌then◌else◌, List, [], ◌∷◌, ◌++◌, map, length, slice_index, bytes_eq, append_assoc, arith, ⊎_elim}
 use Rattle.std.specs.Prelude.{IsTrue}
 use Rattle.std.proofs.lemmas.Bool.{false≢true, true≢false, both_ways}
-use Rattle.pdl_semantics.specs.Flatten.{Var, var_of, var_width}
+use Rattle.pdl_semantics.specs.Flatten.{Var, var_of, var_width, is_advised_var}
 use Rattle.pdl_rules.specs.Typed.{is_named}
+use Rattle.pdl_form_types.specs.Apart.{flag_at}
 use Rattle.pdl_rules.proofs.SingleWrites.{any_last}
 use Rattle.pdl_rules.proofs.KnownVariables.{Stays, stays_more, any_split}
 use Rattle.pdl_word.proofs.Bytes.{bytes_same}
@@ -98,6 +99,47 @@ found us vs all stays begins = record {
     wide : (x : List ℕ) → IsTrue (is_named us x) → var_width all x ≡ var_width vs x
     wide x h = ap (λ l. var_width l x) begins.1 ∙ (stays_more vs begins.0 x (stays x h).0).1
 
+-- which of some variables are advised
+abbrev pub flags_of : List Var → List Bool
+flags_of vs = map (λ (v : Var). v.advised) vs
+
+flag_step : (b w u : Bool) (k : ℕ) (fs : List Bool)
+    → (b ≡ false → flag_at fs k ≡ u) → flag_at (w ∷ fs) (if b then 0 else suc k) ≡ (if b then w else u)
+flag_step true w u k fs h = refl
+flag_step false w u k fs h = h refl
+
+flag_of_name : (vs : List Var) (x : List ℕ) → IsTrue (is_named vs x) → flag_at (flags_of vs) (var_of vs x) ≡ is_advised_var vs x
+flag_of_name [] x h = absurd (false≢true h)
+flag_of_name (v ∷ vs) x h =
+    flag_step (bytes_eq v.name x) v.advised (is_advised_var vs x) (var_of vs x) (flags_of vs)
+    (λ e. flag_of_name vs x (rest_named _ _ h e))
+
+-- the flag of the variable after some stands at their count
+pub last_flag : (vs more : List Var) (v : Var) → flag_at (flags_of ((vs ++ v ∷ []) ++ more)) (length vs) ≡ v.advised
+last_flag [] more v = refl
+last_flag (u ∷ vs) more v = last_flag vs more v
+
+-- where the names of some variables are found among others, by number in a list of flags
+pub record Flagged (us vs : List Var) (fs : List Bool) : Type 0 where
+  pub flag : (x : List ℕ) → IsTrue (is_named us x) → flag_at fs (var_of vs x) ≡ is_advised_var us x
+  pub same : (x : List ℕ) → IsTrue (is_named us x) → is_advised_var vs x ≡ is_advised_var us x
+
+-- the names of variables that stay among the first of some are found in the flags of these
+pub flagged : (us vs all : List Var) → Stays us vs → Begins vs all → Flagged us vs (flags_of all)
+flagged us vs all stays begins = record {
+  flag = λ x h. ap (flag_at (flags_of all)) (sym (numbered x h)) ∙ flag_of_name all x (there x h) ∙ advised x h ∙ (stays x h).2;
+  same = λ x h. (stays x h).2;
+}
+  where
+    numbered : (x : List ℕ) → IsTrue (is_named us x) → var_of all x ≡ var_of vs x
+    numbered x h = ap (λ l. var_of l x) begins.1 ∙ number_more vs begins.0 x (stays x h).0
+
+    there : (x : List ℕ) → IsTrue (is_named us x) → IsTrue (is_named all x)
+    there x h = ap (λ l. is_named l x) begins.1 ∙ (stays_more vs begins.0 x (stays x h).0).0
+
+    advised : (x : List ℕ) → IsTrue (is_named us x) → is_advised_var all x ≡ is_advised_var vs x
+    advised x h = ap (λ l. is_advised_var l x) begins.1 ∙ (stays_more vs begins.0 x (stays x h).0).2
+
 -- ONE VARIABLE MORE
 
 -- variables that stay among some stay among these with one more
@@ -105,7 +147,7 @@ pub stays_after : (us vs : List Var) (v : Var) → Stays us vs → Stays us (vs 
 stays_after us vs v h x e =
     let here = h x e in
     let all = stays_more vs (v ∷ []) x here.0 in
-    (all.0, all.1 ∙ here.1)
+    (all.0, all.1 ∙ here.1, all.2 ∙ here.2)
 
 new_step : (b c : Bool) (w u n : ℕ) → (b || c) ≡ false → (c ≡ false → u ≡ n) → (if b then w else u) ≡ n
 new_step true c w u n h f = absurd (true≢false h)
@@ -120,18 +162,35 @@ new_width [] v x new e = end_width (bytes_eq v.name x) v.width e
 new_width (u ∷ vs) v x new e =
     new_step (bytes_eq u.name x) (is_named vs x) u.width (var_width (vs ++ v ∷ []) x) v.width new (λ f. new_width vs v x f e)
 
+new_advised_step : (b c w u n : Bool) → (b || c) ≡ false → (c ≡ false → u ≡ n) → (if b then w else u) ≡ n
+new_advised_step true c w u n h f = absurd (true≢false h)
+new_advised_step false c w u n h f = f h
+
+end_advised : (b w : Bool) → b ≡ true → (if b then w else false) ≡ w
+end_advised true w h = refl
+end_advised false w h = absurd (false≢true h)
+
+new_advised : (vs : List Var) (v : Var) (x : List ℕ)
+    → is_named vs x ≡ false → bytes_eq v.name x ≡ true → is_advised_var (vs ++ v ∷ []) x ≡ v.advised
+new_advised [] v x new e = end_advised (bytes_eq v.name x) v.advised e
+new_advised (u ∷ vs) v x new e =
+    new_advised_step (bytes_eq u.name x) (is_named vs x) u.advised (is_advised_var (vs ++ v ∷ []) x) v.advised new (λ f. new_advised vs v x f e)
+
 -- variables stay in a longer list with a variable more in both, of a name that neither has
 pub stays_both : (us vs : List Var) (v : Var)
     → is_named us v.name ≡ false → is_named vs v.name ≡ false → Stays us vs → Stays (us ++ v ∷ []) (vs ++ v ∷ [])
 stays_both us vs v fresh new h x e = at (is_named us x) refl
   where
-    at : (b : Bool) → is_named us x ≡ b → IsTrue (is_named (vs ++ v ∷ []) x) × (var_width (vs ++ v ∷ []) x ≡ var_width (us ++ v ∷ []) x)
+    at : (b : Bool) → is_named us x ≡ b
+        → IsTrue (is_named (vs ++ v ∷ []) x) × (var_width (vs ++ v ∷ []) x ≡ var_width (us ++ v ∷ []) x)
+        × (is_advised_var (vs ++ v ∷ []) x ≡ is_advised_var (us ++ v ∷ []) x)
     at true t =
         let there = stays_after us vs v h x t in
-        (there.0, there.1 ∙ sym (stays_more us (v ∷ []) x t).1)
+        (there.0, there.1 ∙ sym (stays_more us (v ∷ []) x t).1, there.2 ∙ sym (stays_more us (v ∷ []) x t).2)
     at false t =
         let it : bytes_eq v.name x ≡ true = ⊎_elim (λ k. absurd (both_ways (is_named us x) t k)) (λ k. k) (any_split (λ (u : Var). bytes_eq u.name x) us v e) in
         let other : is_named vs x ≡ false = ap (is_named vs) (sym (bytes_same v.name x it)) ∙ new in (
           any_last (λ (u : Var). bytes_eq u.name x) vs v it,
           new_width vs v x other it ∙ sym (new_width us v x t it),
+          new_advised vs v x other it ∙ sym (new_advised us v x t it),
         )

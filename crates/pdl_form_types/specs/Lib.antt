@@ -1,3 +1,4 @@
 pub mod Exprs
+pub mod Apart
 pub mod Stmts
 pub mod Same

@@ -1,7 +1,7 @@
 -- Whether two flat forms are the same.
 use Rattle.std.specs.Prelude.{ℕ, Bool, true, false, ◌&&◌, ◌==◌, List, [], ◌∷◌, Option, Some, None, bytes_eq}
-use Rattle.pdl_semantics.specs.Tree.{BinaryOp, Add, Sub, Mul, And, Or, Xor, Equal, Differ, Less, ShiftLeft, ShiftRight}
-use Rattle.pdl_semantics.specs.Flat.{Expr, Constant, Variable, Slice, Not, Binary, Cat, LessSigned, ZeroExtend, SignExtend, Choose, Op, Bind, CombRead, DelayedRead, Write, ReserveRead, ReserveWrite, Block, Release, Call, SpecCall, Verify, SpecCheck, SpecBarrier, Guard, Stmt, Lock, Plain, Queue, Bypass, Rename, Mem, Next, Ends, Goes, Forks, Branch, Stage, Pipe}
+use Rattle.pdl_semantics.specs.Tree.{MemKind, Comb, Delayed, Advisory, BinaryOp, Add, Sub, Mul, And, Or, Xor, Equal, Differ, Less, ShiftLeft, ShiftRight}
+use Rattle.pdl_semantics.specs.Flat.{Expr, Constant, Variable, Slice, Not, Binary, Cat, LessSigned, ZeroExtend, SignExtend, Choose, Op, Bind, CombRead, DelayedRead, Write, ReserveRead, ReserveWrite, Block, Release, Call, SpecCall, Verify, SpecCheck, SpecBarrier, AdviceBind, AdviceRead, AdviceWrite, Guard, Stmt, Lock, Plain, Queue, Bypass, Rename, Mem, Next, Ends, Goes, Forks, Branch, Stage, Pipe}
 use Rattle.pdl_form.specs.Form.{Form}
 
 -- whether two lists are the same, element by element
@@ -85,12 +85,18 @@ same_op (Call es) (Call es') = same_list same_expr es es'
 same_op (Call _) _ = false
 same_op (SpecCall es) (SpecCall es') = same_list same_expr es es'
 same_op (SpecCall _) _ = false
-same_op (Verify es) (Verify es') = same_list same_expr es es'
-same_op (Verify _) _ = false
+same_op (Verify l es) (Verify l' es') = same_bool l l' && same_list same_expr es es'
+same_op (Verify _ _) _ = false
 same_op SpecCheck SpecCheck = true
 same_op SpecCheck _ = false
 same_op SpecBarrier SpecBarrier = true
 same_op SpecBarrier _ = false
+same_op (AdviceBind x e) (AdviceBind x' e') = (x == x') && same_expr e e'
+same_op (AdviceBind _ _) _ = false
+same_op (AdviceRead x m a) (AdviceRead x' m' a') = (x == x') && ((m == m') && (a == a'))
+same_op (AdviceRead _ _ _) _ = false
+same_op (AdviceWrite m a e) (AdviceWrite m' a' e') = (m == m') && ((a == a') && same_expr e e')
+same_op (AdviceWrite _ _ _) _ = false
 
 -- two guards are the same
 abbrev pub same_guard : Guard → Guard → Bool
@@ -111,9 +117,16 @@ same_lock (Bypass _) _ = false
 same_lock (Rename n) (Rename n') = n == n'
 same_lock (Rename _) _ = false
 
--- two memories have the same width and depth, answer alike and have the same lock
+-- two memories are of one kind
+abbrev pub same_kind : MemKind → MemKind → Bool
+same_kind Comb Comb = true
+same_kind Delayed Delayed = true
+same_kind Advisory Advisory = true
+same_kind _ _ = false
+
+-- two memories have the same width and depth, are of one kind and have the same lock
 abbrev pub same_mem : Mem → Mem → Bool
-same_mem x y = (x.width == y.width) && ((x.depth == y.depth) && (same_bool x.delayed y.delayed && same_lock x.lock y.lock))
+same_mem x y = (x.width == y.width) && ((x.depth == y.depth) && (same_kind x.kind y.kind && same_lock x.lock y.lock))
 
 -- two stages lead to the same
 abbrev pub same_next : Next → Next → Bool
@@ -128,9 +141,9 @@ same_next (Forks _ _ _) _ = false
 abbrev pub same_branch : Branch → Branch → Bool
 same_branch x y = (x.fork == y.fork) && same_bool x.first y.first
 
--- two stages lead to the same, in the same branch, and merge the same fork
+-- two stages lead to the same, in the same branches, and merge the same fork
 abbrev pub same_stage : Stage → Stage → Bool
-same_stage x y = same_next x.next y.next && (same_option same_branch x.branch y.branch && same_option same_number x.merges y.merges)
+same_stage x y = same_next x.next y.next && (same_list same_branch x.branches y.branches && same_option same_number x.merges y.merges)
 
 -- two pipes are the same
 abbrev pub same_pipe : Pipe → Pipe → Bool

@@ -1,9 +1,10 @@
 -- A flat form whose statements find variables, memories and locks, with the widths that they want.
 use Rattle.std.specs.Prelude.{◌≡◌, ℕ, ◌^◌, ◌<◌, ◌≤◌, Bool, true, false, List, [], ◌∷◌, length, take, slice_index, ⊤}
-use Rattle.pdl_semantics.specs.Flat.{Expr, Op, Bind, CombRead, DelayedRead, Write, ReserveRead, ReserveWrite, Block, Release, Call, SpecCall, Verify, SpecCheck, SpecBarrier, Guard, Stmt, has_lock, Mem, Next, Ends, Goes, Forks, Stage, Pipe}
+use Rattle.pdl_semantics.specs.Flat.{Expr, Op, Bind, CombRead, DelayedRead, Write, ReserveRead, ReserveWrite, Block, Release, Call, SpecCall, Verify, SpecCheck, SpecBarrier, AdviceBind, AdviceRead, AdviceWrite, Guard, Stmt, has_lock, Mem, Next, Ends, Goes, Forks, Stage, Pipe}
 use Rattle.pdl_semantics.specs.Stages.{mem_at}
 use Rattle.pdl_form.specs.Form.{Form}
 use Rattle.pdl_form_types.specs.Exprs.{width_in, IsTyped}
+use Rattle.pdl_form_types.specs.Apart.{IsApart}
 
 -- the widths of the parameters
 abbrev pub param_widths : Form → List ℕ
@@ -51,9 +52,12 @@ IsTypedOp f (Block m a) = IsLocked f.pipe f.widths m a
 IsTypedOp f (Release m a) = IsLocked f.pipe f.widths m a
 IsTypedOp f (Call args) = AreArguments f.widths (param_widths f) args
 IsTypedOp f (SpecCall args) = AreArguments f.widths (param_widths f) args
-IsTypedOp f (Verify args) = AreArguments f.widths (param_widths f) args
+IsTypedOp f (Verify last args) = AreArguments f.widths (param_widths f) args
 IsTypedOp f SpecCheck = ⊤
 IsTypedOp f SpecBarrier = ⊤
+IsTypedOp f (AdviceBind x e) = (x < length f.widths) × IsTyped f.widths e × (width_in f.widths e ≡ slice_index f.widths x)
+IsTypedOp f (AdviceRead x m a) = IsReadOf f.pipe f.widths x m a
+IsTypedOp f (AdviceWrite m a e) = IsLocation f.pipe f.widths m a × IsTyped f.widths e × (width_in f.widths e ≡ (mem_at f.pipe m).width)
 
 -- a statement under guards by variables of 1 bit that finds what it wants
 abbrev pub IsTypedStmt : Form → Stmt → Type 0
@@ -100,7 +104,7 @@ abbrev pub AreForks : List ℕ → List Stage → Type 0
 AreForks ws [] = ⊤
 AreForks ws (x ∷ xs) = IsFork ws x.next × AreForks ws xs
 
--- a flat form is typed: its variables, start, memories, statements and forks are
+-- a flat form is typed: its variables, start, memories, statements and forks are, and what is advised stands apart
 pub record IsTypedForm (f : Form) : Type 0 where
   pub vars : f.pipe.vars ≡ length f.widths
   pub params : length f.pipe.start ≤ length f.widths
@@ -109,3 +113,4 @@ pub record IsTypedForm (f : Form) : Type 0 where
   pub mems : AreTypedMems f.pipe.mems
   pub stmts : AreTypedStmts f f.pipe.stmts
   pub forks : AreForks f.widths f.pipe.stages
+  pub apart : IsApart f.pipe

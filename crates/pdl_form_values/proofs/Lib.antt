@@ -1,1 +1,2 @@
 pub mod ValueWidths
+mod SecondWrites

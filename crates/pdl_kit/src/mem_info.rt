@@ -2,7 +2,7 @@
 use crate::name::Name;
 
 /// A memory as it is declared: its name, the bits of a word (1 to 64), how many words it has, and whether its replies may be late.
-#[derive(Drop, Clone, PartialEq, Eq)]
+#[derive(Drop, Clone)]
 pub struct MemInfo {
     pub name: Name,
     pub width: u8,

@@ -42,6 +42,9 @@ pub enum Rule {
     S3,
     S4,
     S5,
+    S6,
+    S7,
+    P1,
     I1,
     I2,
     I3,
@@ -90,7 +93,8 @@ impl Rule {
             W1 | W2 | W3 | W4 | W5 | W6 => b'W',
             F1 | F2 | F3 | F4 | F5 => b'F',
             L1 | L2 | L3 | L4 | L5 | L6 | L7 | L8 => b'L',
-            S1 | S2 | S3 | S4 | S5 => b'S',
+            S1 | S2 | S3 | S4 | S5 | S6 | S7 => b'S',
+            P1 => b'P',
             I1 | I2 | I3 | I4 | I5 | I6 => b'I',
             Y1 | Y2 | Y3 => b'Y',
             V1 | V2 | V3 | V4 | V5 => b'V',
@@ -104,13 +108,13 @@ impl Rule {
         ensures { drop 1 (text_of self) ≡ result ∷ [] }
     {
         match self {
-            G1 | Z1 | N1 | W1 | F1 | L1 | S1 | I1 | Y1 | V1 | B1 | A1 => b'1',
+            G1 | Z1 | N1 | W1 | F1 | L1 | S1 | P1 | I1 | Y1 | V1 | B1 | A1 => b'1',
             Z2 | N2 | W2 | F2 | L2 | S2 | I2 | Y2 | V2 | B2 | A2 => b'2',
             Z3 | N3 | W3 | F3 | L3 | S3 | I3 | Y3 | V3 | B3 | A3 => b'3',
             Z4 | W4 | F4 | L4 | S4 | I4 | V4 | B4 | A4 => b'4',
             Z5 | W5 | F5 | L5 | S5 | I5 | V5 | B5 | A5 => b'5',
-            Z6 | W6 | L6 | I6 | A6 => b'6',
-            Z7 | L7 | A7 => b'7',
+            Z6 | W6 | L6 | S6 | I6 | A6 => b'6',
+            Z7 | L7 | S7 | A7 => b'7',
             L8 | A8 => b'8',
         }
     }

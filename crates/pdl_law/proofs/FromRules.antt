@@ -3,28 +3,33 @@ use Rattle.std.proofs.Common.{◌≡◌, refl, sym, ap, subst, ℕ, suc, ◌<◌
 use Rattle.std.specs.Prelude.{⊤}
 use Rattle.std.proofs.lemmas.Bool.{false≢true, not-false, and_parts, ltb-true}
 use Rattle.pdl_semantics.specs.Tree as tree
-use Rattle.pdl_semantics.specs.Tree.{R, W, Variable, Separator, CombRead, DelayedRead, Reserve, If, Mem}
+use Rattle.pdl_semantics.specs.Tree.{R, W, Variable, Separator, CombRead, Bind, DelayedRead, Write, Reserve, If, Update, Mem}
 use Rattle.pdl_semantics.specs.Flat
-use Rattle.pdl_semantics.specs.Flat.{list_all, Op, Stmt, Pipe}
+use Rattle.pdl_semantics.specs.Flat.{is_delayed, list_all, Op, Stmt, Pipe}
 use Rattle.pdl_semantics.specs.Forms.{on_delayed_read}
 use Rattle.pdl_semantics.specs.Stages.{mem_at, plain_mem}
-use Rattle.pdl_semantics.specs.Flatten.{Var, flat, mem_of, mems_of, params_of}
+use Rattle.pdl_semantics.specs.Flatten.{Var, flat, flat_expr, mem_of, var_of, mems_of, params_of, at_position, is_advisory_mem, is_advised, read_op, bind_op, write_op}
 use Rattle.pdl_semantics.specs.Flatten
 use Rattle.pdl_semantics.proofs.Facts.{all_vars}
-use Rattle.pdl_kit.specs.declared.rule.Rule.TheVariants.{F4}
+use Rattle.pdl_kit.specs.declared.rule.Rule.TheVariants.{F4, S6}
 use Rattle.pdl_rules.specs.Forks.{is_delayed_memory, is_wrong_read}
+use Rattle.pdl_rules.specs.Places.{Branch, Statement}
 use Rattle.pdl_rules.specs.Refusal.{KeepsRules}
+use Rattle.pdl_rules.specs.Speculation.{is_update}
+use Rattle.pdl_rules.specs.Unbuilt.{IsBuilt}
 use Rattle.pdl_theory_facts.specs.Facts.{Sound}
-use Rattle.pdl_source_stages.proofs.Sites.{Site, sites_of, place_of, owns, stmts_are}
-use Rattle.pdl_source_stages.proofs.SiteFacts.{op_of, rows_of, own_is, each_fine}
+use Rattle.pdl_source_stages.proofs.Sites.{Site, All, sites_of, place_of, owns, stmts_are}
+use Rattle.pdl_source_stages.proofs.SiteFacts.{Fine, AtSite, op_of, rows_of, own_is, all_fine, each_stmt, each_fine, either_read, either_bind, either_write}
 use Rattle.pdl_source_paths.specs.Source.{is_source, is_named}
 use Rattle.pdl_source_paths.proofs.Growth.{Grows, vars_past, past_grown, grows_all}
 use Rattle.pdl_source_paths.proofs.PipeFacts.{of_source}
 use Rattle.pdl_machine_lockuse.proofs.InUse.{leads_sound}
-use Rattle.pdl_law_parts.specs.Reads.{IsAtOnce}
+use Rattle.pdl_law_parts.specs.Rows.{HasRow, HaveRows}
 use Rattle.pdl_machine_inflight.specs.Readings.{ReadsAtOnce, Reads}
 use Rattle.pdl_law.specs.StandingStates.{IsLawful}
+use Rattle.pdl_law.proofs.BuiltForms.{ArePlain, none_advisory, expr_plain, sites_plain}
 use Rattle.pdl_law.proofs.DelayedReads.{RisesIn, rises_from, reading_has, risen, reads_apart, each_reading}
+use Rattle.pdl_law.proofs.SingleReserves.{single_source}
 use Rattle.pdl_word.specs.Each.{Each}
 use Rattle.pdl_word.proofs.Each.{each_weaker}
 
@@ -33,25 +38,25 @@ use Rattle.pdl_word.proofs.Each.{each_weaker}
 -- a memory that the rules take for delayed is there, and delayed; one that they don't is not
 delayed_there : (ms : List Mem) (n : List ℕ)
     → is_delayed_memory ms n ≡ true
-    → (mem_of ms n < length (mems_of ms)) × ((slice_index_or (mems_of ms) (mem_of ms n) plain_mem).delayed ≡ true)
+    → (mem_of ms n < length (mems_of ms)) × (is_delayed (slice_index_or (mems_of ms) (mem_of ms n) plain_mem).kind ≡ true)
 delayed_there [] n e = absurd (false≢true e)
 delayed_there (x ∷ xs) n e = at (bytes_eq x.name.name n) e (delayed_there xs n)
   where
-    at : (b : Bool) → (if b then x.delayed else is_delayed_memory xs n) ≡ true
-        → (is_delayed_memory xs n ≡ true → (mem_of xs n < length (mems_of xs)) × ((slice_index_or (mems_of xs) (mem_of xs n) plain_mem).delayed ≡ true))
+    at : (b : Bool) → (if b then is_delayed x.kind else is_delayed_memory xs n) ≡ true
+        → (is_delayed_memory xs n ≡ true → (mem_of xs n < length (mems_of xs)) × (is_delayed (slice_index_or (mems_of xs) (mem_of xs n) plain_mem).kind ≡ true))
         → ((if b then 0 else suc (mem_of xs n)) < suc (length (mems_of xs)))
-        × ((slice_index_or (mems_of (x ∷ xs)) (if b then 0 else suc (mem_of xs n)) plain_mem).delayed ≡ true)
+        × (is_delayed (slice_index_or (mems_of (x ∷ xs)) (if b then 0 else suc (mem_of xs n)) plain_mem).kind ≡ true)
     at true f rest = (omega arith, f)
     at false f rest = let r = rest f in (let l = r.0 in omega (arith, l), r.1)
 
 comb_there : (ms : List Mem) (n : List ℕ)
-    → is_delayed_memory ms n ≡ false → (slice_index_or (mems_of ms) (mem_of ms n) plain_mem).delayed ≡ false
+    → is_delayed_memory ms n ≡ false → is_delayed (slice_index_or (mems_of ms) (mem_of ms n) plain_mem).kind ≡ false
 comb_there [] n e = refl
 comb_there (x ∷ xs) n e = at (bytes_eq x.name.name n) e (comb_there xs n)
   where
-    at : (b : Bool) → (if b then x.delayed else is_delayed_memory xs n) ≡ false
-        → (is_delayed_memory xs n ≡ false → (slice_index_or (mems_of xs) (mem_of xs n) plain_mem).delayed ≡ false)
-        → (slice_index_or (mems_of (x ∷ xs)) (if b then 0 else suc (mem_of xs n)) plain_mem).delayed ≡ false
+    at : (b : Bool) → (if b then is_delayed x.kind else is_delayed_memory xs n) ≡ false
+        → (is_delayed_memory xs n ≡ false → is_delayed (slice_index_or (mems_of xs) (mem_of xs n) plain_mem).kind ≡ false)
+        → is_delayed (slice_index_or (mems_of (x ∷ xs)) (if b then 0 else suc (mem_of xs n)) plain_mem).kind ≡ false
     at true f rest = f
     at false f rest = rest f
 
@@ -62,23 +67,62 @@ OnSome P (Some op) = P op
 
 -- each form of read is of a memory of its kind
 abbrev IsOfKind : Pipe → Op → Type 0
-IsOfKind p op = IsAtOnce p op × ReadsAtOnce p op × on_delayed_read (λ y m a. (m < length p.mems) × ((mem_at p m).delayed ≡ true)) ⊤ op
+IsOfKind p op = ReadsAtOnce p op × on_delayed_read (λ y m a. (m < length p.mems) × (is_delayed (mem_at p m).kind ≡ true)) ⊤ op
 
 kind_at : (p : tree.Pipe) (s : tree.Stmt) (vs : List Var) → is_wrong_read p.mems s ≡ false → OnSome (IsOfKind (flat p)) (op_of p.mems vs s)
-kind_at p (CombRead sp x from) vs e = (comb_there p.mems from.mem.name e, comb_there p.mems from.mem.name e, tt)
-kind_at p (DelayedRead sp x from) vs e = (tt, tt, delayed_there p.mems from.mem.name (not-false _ e))
-kind_at p (Reserve sp at R) vs e = (tt, tt, tt)
-kind_at p (Reserve sp at W) vs e = (tt, tt, tt)
+kind_at p (CombRead sp x from) vs e =
+    either_read (IsOfKind (flat p)) (is_advisory_mem p.mems from.mem.name) (length vs) (mem_of p.mems from.mem.name) (var_of vs from.address.name)
+    (tt, tt) (comb_there p.mems from.mem.name e, tt)
+kind_at p (Bind sp x a) vs e = either_bind (IsOfKind (flat p)) (is_advised vs a) (length vs) (flat_expr vs a) (tt, tt) (tt, tt)
+kind_at p (DelayedRead sp x from) vs e = (tt, delayed_there p.mems from.mem.name (not-false _ e))
+kind_at p (Write sp to a) vs e =
+    either_write (IsOfKind (flat p)) (is_advisory_mem p.mems to.mem.name) (mem_of p.mems to.mem.name) (var_of vs to.address.name) (flat_expr vs a)
+    (tt, tt) (tt, tt)
+kind_at p (Reserve sp at R) vs e = (tt, tt)
+kind_at p (Reserve sp at W) vs e = (tt, tt)
 kind_at p (If sp (Variable x) when otherwise) vs e = tt
-kind_at p (If sp c when otherwise) vs e = (tt, tt, tt)
+kind_at p (If sp c when otherwise) vs e = (tt, tt)
 kind_at p (Separator sp) vs e = tt
-kind_at p _ vs e = (tt, tt, tt)
+kind_at p _ vs e = (tt, tt)
 
 -- each read of a pipe that keeps the rules is of a memory of its kind, delayed or at once
 pub kinds : (p : tree.Pipe) → KeepsRules p → Each (λ (x : Stmt). IsOfKind (flat p) x.op) (flat p).stmts
 kinds p rules =
     each_fine p rules (λ (x : Stmt). IsOfKind (flat p) x.op)
     (λ t h op e. subst (OnSome (IsOfKind (flat p))) e (kind_at p t.stmt t.walk.vars (rules F4 t.front (place_of t) h.later h.whole)))
+
+-- ---- ROWS
+
+row_of : (p : tree.Pipe) (s : tree.Stmt) (vs : List Var) (bs : List Branch) → is_wrong_read p.mems s ≡ false → is_update (Statement s bs) ≡ false
+    → ((n : List ℕ) → is_advisory_mem p.mems n ≡ false) → ArePlain vs → OnSome (HasRow (flat p)) (op_of p.mems vs s)
+row_of p (CombRead sp x from) vs bs e u none plain =
+    subst (λ b. HasRow (flat p) (read_op b (length vs) (mem_of p.mems from.mem.name) (var_of vs from.address.name))) (sym (none from.mem.name))
+    (comb_there p.mems from.mem.name e)
+row_of p (Bind sp x a) vs bs e u none plain = subst (λ b. HasRow (flat p) (bind_op b (length vs) (flat_expr vs a))) (sym (expr_plain vs a plain)) tt
+row_of p (Write sp to a) vs bs e u none plain =
+    subst (λ b. HasRow (flat p) (write_op b (mem_of p.mems to.mem.name) (var_of vs to.address.name) (flat_expr vs a))) (sym (none to.mem.name)) tt
+row_of p (Update sp x args) vs bs e u none plain = absurd (false≢true (sym u))
+row_of p (Reserve sp at R) vs bs e u none plain = tt
+row_of p (Reserve sp at W) vs bs e u none plain = tt
+row_of p (If sp (Variable x) when otherwise) vs bs e u none plain = tt
+row_of p (If sp c when otherwise) vs bs e u none plain = tt
+row_of p (Separator sp) vs bs e u none plain = tt
+row_of p _ vs bs e u none plain = tt
+
+rows_at : (p : tree.Pipe) → KeepsRules p → IsBuilt p → (ts : List Site) → All (Fine p) ts → All (λ t. ArePlain t.walk.vars) ts
+    → All (AtSite (λ (x : Stmt). HasRow (flat p) x.op) p.mems) ts
+rows_at p rules built [] fine plain = tt
+rows_at p rules built (t ∷ ts) fine plain = (
+  λ op e. subst (OnSome (HasRow (flat p))) e
+      (row_of p t.stmt t.walk.vars t.branches (rules F4 t.front (place_of t) fine.0.later fine.0.whole)
+      (built S6 t.front (place_of t) fine.0.later fine.0.whole) (none_advisory p built) plain.0),
+  rows_at p rules built ts fine.1 plain.1,
+)
+
+-- a row stands for each statement of a pipe without forms that lack a circuit
+have_rows : (p : tree.Pipe) → KeepsRules p → IsBuilt p → HaveRows (flat p)
+have_rows p rules built =
+    each_stmt p (λ (x : Stmt). HasRow (flat p) x.op) (rows_at p rules built (sites_of p) (all_fine p rules) (sites_plain p built))
 
 -- ---- VARIABLES
 
@@ -96,9 +140,18 @@ rises_row ms gs w s lo hi rest l h = at s h past
     at (DelayedRead sp x from) i k = (
       l,
       subst (λ n. RisesIn n hi rest)
-          (let e = length-append w.vars (record { name = x.name; width = Flatten.mem_width ms from.mem.name } ∷ []) in
+          (let e = length-append w.vars (record { name = x.name; width = Flatten.mem_width ms from.mem.name; advised = false } ∷ []) in
           let z : length (vars_past ms w.vars (DelayedRead sp x from)) ≡ suc (length w.vars) = omega (arith, e) in z) i,
     )
+    at (CombRead sp x from) i k =
+        either_read (λ op. RisesIn lo hi (at_position gs w op ++ rest)) (is_advisory_mem ms from.mem.name) (length w.vars)
+        (mem_of ms from.mem.name) (var_of w.vars from.address.name) (rises_from lo _ hi rest k i) (rises_from lo _ hi rest k i)
+    at (Bind sp x e) i k =
+        either_bind (λ op. RisesIn lo hi (at_position gs w op ++ rest)) (is_advised w.vars e) (length w.vars) (flat_expr w.vars e)
+        (rises_from lo _ hi rest k i) (rises_from lo _ hi rest k i)
+    at (Write sp to e) i k =
+        either_write (λ op. RisesIn lo hi (at_position gs w op ++ rest)) (is_advisory_mem ms to.mem.name)
+        (mem_of ms to.mem.name) (var_of w.vars to.address.name) (flat_expr w.vars e) (rises_from lo _ hi rest k i) (rises_from lo _ hi rest k i)
     at (Reserve sp place R) i k = rises_from lo (length w.vars) hi rest k i
     at (Reserve sp place W) i k = rises_from lo (length w.vars) hi rest k i
     at (If sp (Variable x) when otherwise) i k = rises_from lo (length w.vars) hi rest k i
@@ -142,25 +195,26 @@ reads_source p rules sound = record {
   apart = reads_apart (length (params_of p.params)) (flat p).vars (flat p).stmts (rises p);
   known =
       λ m r e.
-      (let k = reading_has (λ n q. (n < length (flat p).mems) × ((mem_at (flat p) n).delayed ≡ true))
-      (flat p).stmts (each_weaker (λ (x : Stmt). IsOfKind (flat p) x.op) _ (λ x h. h.2) (flat p).stmts (kinds p rules)) m r e in (
+      (let k = reading_has (λ n q. (n < length (flat p).mems) × (is_delayed (mem_at (flat p) n).kind ≡ true))
+      (flat p).stmts (each_weaker (λ (x : Stmt). IsOfKind (flat p) x.op) _ (λ x h. h.1) (flat p).stmts (kinds p rules)) m r e in (
         k.0,
         k.1,
         (reading_has (λ n q. (length (params_of p.params) ≤ q.var) × (q.var < (flat p).vars))
             (flat p).stmts (risen (length (params_of p.params)) (flat p).vars (flat p).stmts (rises p)).0 m r e).1,
       ));
-  at_once = each_weaker (λ (x : Stmt). IsOfKind (flat p) x.op) (λ (x : Stmt). ReadsAtOnce (flat p) x.op) (λ x h. h.1) (flat p).stmts (kinds p rules);
+  at_once = each_weaker (λ (x : Stmt). IsOfKind (flat p) x.op) (λ (x : Stmt). ReadsAtOnce (flat p) x.op) (λ x h. h.0) (flat p).stmts (kinds p rules);
 }
 
--- a source that breaks no rule has what its netlist hangs on
-pub lawful_source : (p : tree.Pipe) → KeepsRules p → is_source p ≡ true → is_named p ≡ true → IsLawful (flat p)
-lawful_source p rules source named =
+-- a source that breaks no rule and has no form without circuit has what its netlist hangs on
+pub lawful_source : (p : tree.Pipe) → KeepsRules p → IsBuilt p → is_source p ≡ true → is_named p ≡ true → IsLawful (flat p)
+lawful_source p rules built source named =
     let sound = of_source p rules source named in
     record {
       sound = sound;
       leads = leads_sound (flat p) sound;
       some = (let h = sound.graph.some_stage in omega (arith, h));
       reads = reads_source p rules sound;
-      at_once = each_weaker (λ (x : Stmt). IsOfKind (flat p) x.op) (λ (x : Stmt). IsAtOnce (flat p) x.op) (λ x h. h.0) (flat p).stmts (kinds p rules);
+      rows = have_rows p rules built;
+      single = single_source p rules built source;
       inside = reading_has (λ n q. q.stage < length (flat p).stages) (flat p).stmts (each_low (length (flat p).stages) (flat p).stmts sound.inside);
     }

@@ -7,6 +7,7 @@ pub mod Removals
 pub mod OrderSides
 pub mod Tails
 pub mod SquashSides
+mod NoUpdates
 pub mod WholeCycle
 pub mod Stores
 pub mod Requests
@@ -15,7 +16,11 @@ pub mod WholeOutputs
 pub mod NextStores
 pub mod WholeRuns
 pub mod DelayedReads
+mod TwicePaths
+mod SingleReserves
+mod BuiltForms
 pub mod FromRules
+mod SingleUse
 pub mod CycleFacts
 pub mod Places
 pub mod WholeStart

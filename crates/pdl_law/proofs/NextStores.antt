@@ -2,15 +2,15 @@
 use Rattle.std.proofs.Common.{◌≡◌, refl, sym, ap, ap₂, ◌∙◌, subst, ℕ, suc, ◌+◌, ◌^◌, ◌/◌, ◌<◌, ◌≤◌, Bool, true, false, ◌&&◌, ◌||◌, not, List, [], ◌∷◌, ◌++◌, length, map, take, Option, Some, None, arith, ◌==◌, eq-eqb}
 use Rattle.std.specs.Prelude.{if◌then◌else◌, slice_index, slice_index_or, slice_set}
 use Rattle.std.proofs.lemmas.Bool.{eqb-true, eqb-false}
-use Rattle.std.proofs.lemmas.List.{get_or-set_same, get_or-set_other, get_or_past, length-set}
+use Rattle.std.proofs.lemmas.List.{get_or-set_same, get_or-set_other, get_or_past, length-set, length-take}
 use Rattle.std.proofs.lemmas.Nat.{pow_pos}
 use Rattle.pdl_kit.specs.declared.mem_info.MemInfo.{MemInfo}
-use Rattle.pdl_semantics.specs.Flat.{Mem, Pipe}
+use Rattle.pdl_semantics.specs.Flat.{Arrays, Mem, Pipe, is_delayed}
 use Rattle.pdl_semantics.specs.Stages.{plain_mem, mem_at}
 use Rattle.pdl_semantics.specs.Locks.{commit_value}
 use Rattle.pdl_semantics.specs.Machine as machine
 use Rattle.pdl_semantics.specs.Machine.{Pending, Request, NoRequest, Owned, Orphan, is_answered, request_of}
-use Rattle.pdl_semantics.specs.Cycle.{cycle, squasher, taken_out, port_write, with_commit, asked_in, request_next, request_left, is_outstanding, waits_from, for_mems}
+use Rattle.pdl_semantics.specs.Cycle.{cycle, squasher, all_releases, list_two, taken_out, port_writes, with_commit, with_all_advised, asked_in, request_next, request_left, is_outstanding, waits_from, for_mems}
 use Rattle.pdl_theory_simulation.proofs.PerMemory.{at_mem}
 use Rattle.pdl_net.specs.Circuit.{Circuit, State}
 use Rattle.pdl_net.specs.Run.{Store, reply, committed_words, outstanding, next_stores, commit_of, is_waiting, some_waits}
@@ -23,7 +23,7 @@ use Rattle.pdl_law.specs.StandingStates.{IsLawful, IsKnown}
 use Rattle.pdl_law.specs.Outside.{address_asked, IsStore, StoreThen, AreStores}
 use Rattle.pdl_law_sides.specs.WholeNetlist.{replies_of, names_delayed}
 use Rattle.pdl_law.proofs.Requests.{or_old, address_next, never_asked}
-use Rattle.pdl_law.proofs.WholeOutputs.{write_of}
+use Rattle.pdl_law_parts.proofs.LinesPorts.{put_in}
 use Rattle.pdl_law.proofs.Stores.{delayed_in}
 
 -- WAITS
@@ -39,12 +39,12 @@ waits_one (Orphan a) o false e = ap (λ o. is_waiting o false) e
 -- the reply bits of these memories, of which the first has the number m
 abbrev pub Replied : Pipe → List Bool → ℕ → List Mem → ℕ → Type 0
 Replied p bits m xs b =
-    (i : ℕ) → i < length xs → (slice_index_or xs i plain_mem).delayed ≡ true
+    (i : ℕ) → i < length xs → is_delayed (slice_index_or xs i plain_mem).kind ≡ true
     → is_answered p bits (m + i) ≡ slice_index_or (replies_of (delayed_in xs) b) (delayed_in (take i xs)) false
 
 -- those of the rest
 replied_after : (p : Pipe) (bits : List Bool) (m : ℕ) (x : Mem) (xs : List Mem) (b : ℕ) (t : Bool)
-    → x.delayed ≡ t → Replied p bits m (x ∷ xs) b → Replied p bits (suc m) xs (if t then b / 2 else b)
+    → is_delayed x.kind ≡ t → Replied p bits m (x ∷ xs) b → Replied p bits (suc m) xs (if t then b / 2 else b)
 replied_after p bits m x xs b false e h i l d =
     ap (is_answered p bits) (let z : suc m + i ≡ m + suc i = omega arith in z) ∙ h (suc i) (omega (arith, l)) d
     ∙ ap
@@ -57,7 +57,7 @@ replied_after p bits m x xs b true e h i l d =
     (if t then suc (delayed_in (take i xs)) else delayed_in (take i xs)) false) e
 
 replied_here : (p : Pipe) (bits : List Bool) (m : ℕ) (x : Mem) (xs : List Mem) (b : ℕ)
-    → x.delayed ≡ true → Replied p bits m (x ∷ xs) b → is_answered p bits m ≡ reply b
+    → is_delayed x.kind ≡ true → Replied p bits m (x ∷ xs) b → is_answered p bits m ≡ reply b
 replied_here p bits m x xs b e h =
     ap (is_answered p bits) (let z : m ≡ m + 0 = omega arith in z) ∙ h 0 (omega arith) e
     ∙ ap (λ t. slice_index_or (replies_of (if t then suc (delayed_in xs) else delayed_in xs) b) 0 false) e
@@ -65,16 +65,16 @@ replied_here p bits m x xs b e h =
 -- a request is left unanswered outside where one of the machine's requests is, and only there
 pub waits_are : (p : Pipe) (st : machine.State) (bits : List Bool) (m : ℕ) (xs : List Mem) (ys : List Store) (b : ℕ)
     → AreStores st m xs ys → Replied p bits m xs b
-    → ((i : ℕ) → i < length xs → (slice_index_or xs i plain_mem).delayed ≡ false → request_of st (m + i) ≡ NoRequest)
+    → ((i : ℕ) → i < length xs → is_delayed (slice_index_or xs i plain_mem).kind ≡ false → request_of st (m + i) ≡ NoRequest)
     → some_waits ys b ≡ waits_from p bits m (for_mems (request_of st) m xs)
 waits_are p st bits m [] [] b h r n = refl
 waits_are p st bits m [] (y ∷ ys) b h r n = absurd h
 waits_are p st bits m (x ∷ xs) ys b h r n =
-    at x.delayed refl ys h
+    at (is_delayed x.kind) refl ys h
     (λ zs k c q. waits_are p st bits (suc m) xs zs c k q
     (λ i l d. ap (request_of st) (let z : suc m + i ≡ m + suc i = omega arith in z) ∙ n (suc i) (omega (arith, l)) d))
   where
-    at : (t : Bool) → x.delayed ≡ t → (ys : List Store) → StoreThen (AreStores st (suc m) xs) t st m x ys
+    at : (t : Bool) → is_delayed x.kind ≡ t → (ys : List Store) → StoreThen (AreStores st (suc m) xs) t st m x ys
         → ((zs : List Store) → AreStores st (suc m) xs zs → (c : ℕ) → Replied p bits (suc m) xs c
         → some_waits zs c ≡ waits_from p bits (suc m) (for_mems (request_of st) (suc m) xs))
         → some_waits ys b
@@ -92,7 +92,9 @@ waits_are p st bits m (x ∷ xs) ys b h r n =
 
 -- ONE MEMORY
 
-module _ (p : Pipe) (lawful : IsLawful p) (st : machine.State) (bits : List Bool) (known : IsKnown p st bits) where
+-- in a cycle in which no advisory memory is written
+module _ (p : Pipe) (lawful : IsLawful p) (st : machine.State) (bits : List Bool) (known : IsKnown p st bits)
+    (calm : (arrays : Arrays) → with_all_advised (moving p st bits) arrays ≡ arrays) where
   -- the request after the cycle
   request_after : (m : ℕ) → m < length p.mems
       → address_asked (request_of (cycle p st bits) m)
@@ -126,14 +128,15 @@ module _ (p : Pipe) (lawful : IsLawful p) (st : machine.State) (bits : List Bool
 
   -- its words and its request, by what it commits and is asked
   module _ (m : ℕ) (l : m < length p.mems) (y : Store) (h : IsStore st m (mem_at p m) y)
-      (wide : (e : Pending) → taken_out st (moving p st bits) m ≡ Some e → commit_value e.value < 2 ^ (mem_at p m).width)
+      (wide : (e : Pending) (es : List Pending) → taken_out st (moving p st bits) m ≡ e ∷ es → commit_value e.value < 2 ^ (mem_at p m).width)
       (low : (a : ℕ) → asked_in (moving p st bits) m ≡ Some a → a < (mem_at p m).depth) where
-    words_for : (o : Option Pending) → taken_out st (moving p st bits) m ≡ o
-        → (length (committed_words y.words (write_of (port_write o))) ≡ (mem_at p m).depth)
-        × ((a : ℕ) → slice_index (committed_words y.words (write_of (port_write o))) a < 2 ^ (mem_at p m).width)
-        × ((a : ℕ) → a < (mem_at p m).depth → slice_index (committed_words y.words (write_of (port_write o))) a ≡ with_commit st.arrays m o m a)
-    words_for None e = (h.long, h.bounded, h.same)
-    words_for (Some e) f = (length-set y.words e.address (commit_value e.value) ∙ h.long, bounded, same)
+    words_for : (o : List Pending) → taken_out st (moving p st bits) m ≡ o → length o ≤ 1
+        → (length (committed_words y.words (put_in (port_writes o))) ≡ (mem_at p m).depth)
+        × ((a : ℕ) → slice_index (committed_words y.words (put_in (port_writes o))) a < 2 ^ (mem_at p m).width)
+        × ((a : ℕ) → a < (mem_at p m).depth → slice_index (committed_words y.words (put_in (port_writes o))) a ≡ with_commit st.arrays m o m a)
+    words_for (e ∷ g ∷ es) f l = absurd (omega (arith, l))
+    words_for [] e l = (h.long, h.bounded, h.same)
+    words_for (e ∷ []) f l = (length-set y.words e.address (commit_value e.value) ∙ h.long, bounded, same)
       where
         bounded : (a : ℕ) → slice_index (slice_set y.words e.address (commit_value e.value)) a < 2 ^ (mem_at p m).width
         bounded a = at (e.address == a) refl
@@ -143,7 +146,7 @@ module _ (p : Pipe) (lawful : IsLawful p) (st : machine.State) (bits : List Bool
                 let w = h.bounded a in omega (arith, z, w)
             at true g = Rattle.std.proofs.Common.⊎_elim
                 (λ (i : e.address < length y.words).
-                (let z = get_or-set_same y.words e.address (commit_value e.value) 0 i in let w = wide e f in
+                (let z = get_or-set_same y.words e.address (commit_value e.value) 0 i in let w = wide e [] f in
                 let k = ap (λ j. slice_index (slice_set y.words e.address (commit_value e.value)) j) (eqb-true e.address a g) in
                 omega (arith, z, w, k)))
                 (λ (i : length y.words ≤ e.address).
@@ -154,7 +157,7 @@ module _ (p : Pipe) (lawful : IsLawful p) (st : machine.State) (bits : List Bool
                 omega (arith, z, w, k)))
                 (Rattle.std.proofs.lemmas.Bool.cases_lt e.address (length y.words))
 
-        same : (a : ℕ) → a < (mem_at p m).depth → slice_index (slice_set y.words e.address (commit_value e.value)) a ≡ with_commit st.arrays m (Some e) m a
+        same : (a : ℕ) → a < (mem_at p m).depth → slice_index (slice_set y.words e.address (commit_value e.value)) a ≡ with_commit st.arrays m (e ∷ []) m a
         same a i =
             at (a == e.address) refl
             ∙ sym
@@ -175,15 +178,19 @@ module _ (p : Pipe) (lawful : IsLawful p) (st : machine.State) (bits : List Bool
     -- a delayed memory's words with its commit, and its request with what it is asked, stand for the machine's next state
     pub store_next : IsStore (cycle p st bits) m (mem_at p m)
         (record {
-          words = committed_words y.words (write_of (port_write (taken_out st (moving p st bits) m)));
+          words = committed_words y.words (put_in (port_writes (taken_out st (moving p st bits) m)));
           request = outstanding y.request (is_answered p bits m) (asked_in (moving p st bits) m);
         })
     store_next =
-        let w = words_for (taken_out st (moving p st bits) m) refl in
+        let few = known.used.single m l in
+        let all = length-take (all_releases m (moving p st bits)) (list_two st (moving p st bits) m) in
+        let w = words_for (taken_out st (moving p st bits) m) refl (omega (arith, few, all)) in
         record {
           long = w.0;
           bounded = w.1;
-          same = λ a i. w.2 a i ∙ sym (ap (λ (f : ℕ → ℕ). f a) (known.by.arrays m l));
+          same = λ a i. w.2 a i
+              ∙ sym (ap (λ (f : ℕ → ℕ). f a) (known.by.arrays m l)
+              ∙ ap (λ (x : Arrays). x m a) (calm (with_commit st.arrays m (taken_out st (moving p st bits) m))));
           request = outstanding_is m y.request (is_answered p bits m) h.request (asked_in (moving p st bits) m) ∙ sym (request_after m l);
           reach = λ a e. at (asked_in (moving p st bits) m) refl (is_answered p bits m) a e;
         }
@@ -200,22 +207,22 @@ module _ (p : Pipe) (lawful : IsLawful p) (st : machine.State) (bits : List Bool
 
   -- a memory's step, where it is delayed: what it commits and is asked by its name
   pub record StepsTo (c : Circuit) (s : State) (names : ℕ → List ℕ) (m : ℕ) : Type 0 where
-    pub commit : commit_of c (output_values c s) (names m) ≡ write_of (port_write (taken_out st (moving p st bits) m))
+    pub commit : commit_of c (output_values c s) (names m) ≡ put_in (port_writes (taken_out st (moving p st bits) m))
     pub request : net_run.request_of c (output_values c s) (names m) ≡ asked_in (moving p st bits) m
-    pub wide : (e : Pending) → taken_out st (moving p st bits) m ≡ Some e → commit_value e.value < 2 ^ (mem_at p m).width
+    pub wide : (e : Pending) (es : List Pending) → taken_out st (moving p st bits) m ≡ e ∷ es → commit_value e.value < 2 ^ (mem_at p m).width
     pub low : (a : ℕ) → asked_in (moving p st bits) m ≡ Some a → a < (mem_at p m).depth
 
   -- all delayed memories outside stand for the machine's next state, where each has its step and the machine's reply bit
   pub stores_next : (c : Circuit) (s : State) (names : ℕ → List ℕ) (m : ℕ) (xs : List Mem) (infos : List MemInfo) (ys : List Store) (b : ℕ)
       → m + length xs ≡ length p.mems → ((i : ℕ) → i < length xs → mem_at p (m + i) ≡ slice_index_or xs i plain_mem)
       → map (λ (i : MemInfo). i.name) infos ≡ names_delayed names m xs → AreStores st m xs ys → Replied p bits m xs b
-      → ((i : ℕ) → i < length xs → (slice_index_or xs i plain_mem).delayed ≡ true → StepsTo c s names (m + i))
+      → ((i : ℕ) → i < length xs → is_delayed (slice_index_or xs i plain_mem).kind ≡ true → StepsTo c s names (m + i))
       → AreStores (cycle p st bits) m xs (next_stores c (output_values c s) infos ys b)
   stores_next c s names m [] [] [] b e f g h r k = tt
   stores_next c s names m [] (i ∷ infos) ys b e f g h r k = absurd (cc g)
   stores_next c s names m [] [] (y ∷ ys) b e f g h r k = absurd h
   stores_next c s names m (x ∷ xs) infos ys b e f g h r k =
-      at x.delayed refl infos ys g h
+      at (is_delayed x.kind) refl infos ys g h
       (λ is zs u c' w q. stores_next c s names (suc m) xs is zs c' (omega (arith, e))
       (λ i l. ap (mem_at p) (let z : suc m + i ≡ m + suc i = omega arith in z) ∙ f (suc i) (omega (arith, l))) u w q
       (λ i l d. subst (StepsTo c s names) (let z : m + suc i ≡ suc m + i = omega arith in z) (k (suc i) (omega (arith, l)) d)))
@@ -223,7 +230,7 @@ module _ (p : Pipe) (lawful : IsLawful p) (st : machine.State) (bits : List Bool
       same_name : {u v : List ℕ} {us vs : List (List ℕ)} → (u ∷ us) ≡ (v ∷ vs) → (u ≡ v) × (us ≡ vs)
       same_name z = (cc z, cc z)
 
-      at : (t : Bool) → x.delayed ≡ t → (infos : List MemInfo) (ys : List Store)
+      at : (t : Bool) → is_delayed x.kind ≡ t → (infos : List MemInfo) (ys : List Store)
           → map (λ (i : MemInfo). i.name) infos ≡ (if t then names m ∷ [] else []) ++ names_delayed names (suc m) xs
           → StoreThen (AreStores st (suc m) xs) t st m x ys
           → ((is : List MemInfo) (zs : List Store) → map (λ (i : MemInfo). i.name) is ≡ names_delayed names (suc m) xs
@@ -239,7 +246,7 @@ module _ (p : Pipe) (lawful : IsLawful p) (st : machine.State) (bits : List Bool
           let mem : mem_at p m ≡ x = ap (mem_at p) (let z : m ≡ m + 0 = omega arith in z) ∙ f 0 (omega arith) in
           let mine = store_next m (omega (arith, e)) y (subst (λ z. IsStore st m z y) (sym mem) w.0) q.wide q.low in
           let told : record {
-            words = committed_words y.words (write_of (port_write (taken_out st (moving p st bits) m)));
+            words = committed_words y.words (put_in (port_writes (taken_out st (moving p st bits) m)));
             request = outstanding y.request (is_answered p bits m) (asked_in (moving p st bits) m);
           }
           ≡ record {
@@ -254,7 +261,7 @@ module _ (p : Pipe) (lawful : IsLawful p) (st : machine.State) (bits : List Bool
                 (subst
                 (λ z. IsStore (cycle p st bits) m z
                 (record {
-                  words = committed_words y.words (write_of (port_write (taken_out st (moving p st bits) m)));
+                  words = committed_words y.words (put_in (port_writes (taken_out st (moving p st bits) m)));
                   request = outstanding y.request (is_answered p bits m) (asked_in (moving p st bits) m);
                 })) mem mine),
             go is ys n.1 (b / 2) w.1 (replied_after p bits m x xs b true d r),

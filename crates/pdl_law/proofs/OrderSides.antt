@@ -4,13 +4,13 @@ use Rattle.std.specs.Prelude.{if◌then◌else◌, slice_index}
 use Rattle.std.proofs.lemmas.Bool.{false≢true}
 use Rattle.pdl_word.specs.Words.{bit}
 use Rattle.pdl_semantics.specs.Flat.{Next, Ends, Goes, Forks, Branch, Pipe, Arrays}
-use Rattle.pdl_semantics.specs.Stages.{stage_at, goes_to, is_inside, merges_fork, verify_stage}
+use Rattle.pdl_semantics.specs.Stages.{stage_at, goes_to, is_inside, sides_of, merges_fork, verify_stage}
 use Rattle.pdl_semantics.specs.Machine as machine
 use Rattle.pdl_semantics.specs.Machine.{Thread, Deeds, fork_of, deeds}
-use Rattle.pdl_semantics.specs.Moves.{next_stage, merges_well, may_merge, is_first, is_nobody}
-use Rattle.pdl_semantics.specs.Cycle.{cycle, first, squasher, goes_out, has_left, merges_by}
+use Rattle.pdl_semantics.specs.Moves.{next_stage, merges_well, may_merge, is_its_turn}
+use Rattle.pdl_semantics.specs.Cycle.{cycle, first, squasher, squash_stage, goes_out, has_left, merges_by}
 use Rattle.pdl_theory_facts.specs.Facts.{Sound}
-use Rattle.pdl_theory_facts.specs.Graphs.{next_of, stage_or, In, Trunk}
+use Rattle.pdl_theory_facts.specs.Graphs.{Within, next_of, stage_or}
 use Rattle.pdl_net.specs.declared.Reg.{Reg}
 use Rattle.pdl_net.specs.Circuit.{Circuit, State}
 use Rattle.pdl_net.specs.Signal.{Signal, mux_signal}
@@ -198,13 +198,14 @@ module _ (p : Pipe) (c : Circuit) (vs : ℕ → View) (gates : Gates) (moves : �
 
     -- an order that stands for the fork's list stands for the next one
     pub order_kept : Sound p → LeadsOn p → length st.stages ≡ length p.stages → InFlight p (cycle p st bits)
+        → squash_stage (moving p st bits) ≡ (if is_some (squasher (moving p st bits)) then verify_stage p.stmts else None)
         → (sides.order f).stands s (fork_of st f) → (t : State) → t.regs ≡ next_regs c s → t.arrays ≡ next_arrays c s
         → (sides.order f).stands t (fork_of (cycle p st bits) f)
-    order_kept sound leads count flight stands t regs arrays =
+    order_kept sound leads count flight staged stands t regs arrays =
         let none = order.owned.none in
-        subst ((sides.order f).stands t) (step_is p sound st bits f low leads sound.graph.some_stage count by)
+        subst ((sides.order f).stands t) (step_is p sound st bits f low leads sound.graph.some_stage count by staged)
         (order.step.next s t (fork_of st f)
-        (order_act p st bits f) stands order_driven (proper_order p sound st bits f low leads sound.graph.some_stage count by flight)
+        (order_act p st bits f) stands order_driven (proper_order p sound st bits f low leads sound.graph.some_stage count by staged flight)
         (is_next own c c s t
         (record {
           has_reg = order.owned.regs;
@@ -217,17 +218,13 @@ module _ (p : Pipe) (c : Circuit) (vs : ℕ → View) (gates : Gates) (moves : �
 
 -- whether a thread may go into a merge, where the fork's order stands for its list
 pub turn_is : (p : Pipe) (c : Circuit) (vs : ℕ → View) (gates : Gates) (moves : ℕ → Signal) (sides : Sides) (own : Own) (f : ℕ)
-    → HasOrder p c vs gates moves sides own f → (s : State) (st : machine.State) (from : Option Branch)
+    → HasOrder p c vs gates moves sides own f → (s : State) (st : machine.State) (from : List Branch)
     → (sides.order f).stands s (fork_of st f)
-    → (branch_turn (sides.order f) from).value s ≡ bit (may_merge st (Some f) from)
-turn_is p c vs gates moves sides own f order s st from stands = at from (fork_of st f) stands
+    → (branch_turn (sides.order f) (sides_of f from)).value s ≡ bit (may_merge st (Some f) from)
+turn_is p c vs gates moves sides own f order s st from stands = at (sides_of f from) (fork_of st f) stands
   where
     o : OrderNets
     o = sides.order f
-
-    may : List Bool → Option Branch → Bool
-    may xs None = is_nobody xs
-    may xs (Some b) = is_first b.first xs
 
     not_at : (x : Bool) → o.first.value s ≡ bit x → (mux_signal o.first zero_bit one).value s ≡ bit (not x)
     not_at x e = mux_at s o.first zero_bit one x e ∙ which x
@@ -243,14 +240,14 @@ turn_is p c vs gates moves sides own f order s st from stands = at from (fork_of
     not_empty : (xs : List Bool) → (suc (length xs) == 0) ≡ false
     not_empty xs = ne_eqb (suc (length xs)) 0 (λ e. absurd (omega (arith, e)))
 
-    at : (from : Option Branch) (xs : List Bool) → o.stands s xs → (branch_turn o from).value s ≡ bit (may xs from)
-    at None [] h = order.first.empties s [] h
-    at None (x ∷ xs) h = order.first.empties s (x ∷ xs) h ∙ ap bit (not_empty xs)
-    at (Some b) [] h = mux_at s o.empty zero_bit (if b.first then o.first else mux_signal o.first zero_bit one) true (order.first.empties s [] h) ∙ zero_is s
-    at (Some b) (x ∷ xs) h =
-        mux_at s o.empty zero_bit (if b.first then o.first else mux_signal o.first zero_bit one) false
+    at : (bs : List Bool) (xs : List Bool) → o.stands s xs → (branch_turn o bs).value s ≡ bit (is_its_turn bs xs)
+    at [] [] h = order.first.empties s [] h
+    at [] (x ∷ xs) h = order.first.empties s (x ∷ xs) h ∙ ap bit (not_empty xs)
+    at (b ∷ bs) [] h = mux_at s o.empty zero_bit (if b then o.first else mux_signal o.first zero_bit one) true (order.first.empties s [] h) ∙ zero_is s
+    at (b ∷ bs) (x ∷ xs) h =
+        mux_at s o.empty zero_bit (if b then o.first else mux_signal o.first zero_bit one) false
         (order.first.empties s (x ∷ xs) h ∙ ap bit (not_empty xs))
-        ∙ side b.first x (order.first.leads s x xs h)
+        ∙ side b x (order.first.leads s x xs h)
 
 module _ (p : Pipe) (sound : Sound p) (c : Circuit) (vs : ℕ → View) (gates : Gates) (moves : ℕ → Signal) (sides : Sides)
     (owns : ℕ → Own)
@@ -260,11 +257,16 @@ module _ (p : Pipe) (sound : Sound p) (c : Circuit) (vs : ℕ → View) (gates :
   fork_low : (k q f : ℕ) (env : List ℕ) → k < length p.stages → goes_to (stage_at p k).next env ≡ Some q → (stage_at p q).merges ≡ Some f → f < length p.stages
   fork_low k q f env l e m =
       let n : next_of p k env ≡ q = ap (stage_or (length p.stages)) e in
-      at (sound.branches.merge k env f l (ap (λ j. (stage_at p j).merges) n ∙ m)).1
+      at (next_of p k env) (sound.branches.merge k env f l (ap (λ j. (stage_at p j).merges) n ∙ m))
     where
-      at : ((k ≡ f) × Trunk p k) ⊎ ((b : Branch) × In p b k × (b.fork ≡ f) × ((j : ℕ) → In p b j → j ≤ k)) → f < length p.stages
-      at (inl h) = let same = h.0 in omega (arith, same, l)
-      at (inr h) = let below = (sound.branches.fork_trunk h.0 k h.1).1 in let same = h.2 in omega (arith, below, same, l)
+      at : (r : ℕ) → ((k ≡ f) × ((stage_at p r).branches ≡ (stage_at p k).branches))
+          ⊎ ((x : Branch) × ((stage_at p k).branches ≡ x ∷ (stage_at p r).branches) × (x.fork ≡ f)
+          × ((b : ℕ) → Within p (x ∷ (stage_at p r).branches) b → b ≤ k)) → f < length p.stages
+      at r (inl h) = let same = h.0 in omega (arith, same, l)
+      at r (inr h) =
+          let below = (sound.branches.fork h.0 (stage_at p r).branches k ([], h.1)).1 in
+          let same = h.2 in
+          omega (arith, below, same, l)
 
   -- condition 8: a thread is told whether it is its turn at a merge
   pub merges_is : (k : ℕ) (w : Walk) (d : Deeds) → k < length p.stages → Agrees s w (stage_at p k).next d.env
@@ -274,11 +276,11 @@ module _ (p : Pipe) (sound : Sound p) (c : Circuit) (vs : ℕ → View) (gates :
       one_turn : (q : ℕ) → goes_to (stage_at p k).next d.env ≡ Some q → (turn p sides k q).value s ≡ bit (merges_well p st k (Some q))
       one_turn q e = at (stage_at p q).merges refl
         where
-          at : (o : Option ℕ) → (stage_at p q).merges ≡ o → (merge_turn sides o (stage_at p k).branch).value s ≡ bit (may_merge st o (stage_at p k).branch)
+          at : (o : Option ℕ) → (stage_at p q).merges ≡ o → (merge_turn sides o (stage_at p k).branches).value s ≡ bit (may_merge st o (stage_at p k).branches)
           at None m = one_is s
           at (Some f) m =
               let low = fork_low k q f d.env l e m in
-              turn_is p c vs gates moves sides (owns f) f (orders f q low m) s st (stage_at p k).branch (stands f q low m)
+              turn_is p c vs gates moves sides (owns f) f (orders f q low m) s st (stage_at p k).branches (stands f q low m)
 
 -- ---- ALL FORKS
 
@@ -296,11 +298,13 @@ module _ (p : Pipe) (ls : Locks) (c : Circuit) (vs : ℕ → View) (gates : Gate
   pub orders_next : Sound p → LeadsOn p → (s t : State) (st : machine.State) (bits : List Bool) → IsByStages p st bits
       → ((j : ℕ) → j < length p.stages → IsSeen p vs moves s st bits j)
       → gates.squash.value s ≡ bit (is_some (squasher (moving p st bits)))
-      → InFlight p st → InFlight p (cycle p st bits) → OrdersStand p sides s st → t.regs ≡ next_regs c s
+      → InFlight p st → InFlight p (cycle p st bits)
+      → squash_stage (moving p st bits) ≡ (if is_some (squasher (moving p st bits)) then verify_stage p.stmts else None)
+      → OrdersStand p sides s st → t.regs ≡ next_regs c s
       → t.arrays ≡ next_arrays c s → OrdersStand p sides t (cycle p st bits)
-  orders_next sound leads s t st bits by seen squash flight flight' stands regs arrays f q low m =
+  orders_next sound leads s t st bits by seen squash flight flight' staged stands regs arrays f q low m =
       order_kept p c vs gates moves sides (has.order_owns f) f low
-      (has.orders f q low m) s st bits by seen squash sound leads flight.count flight'
+      (has.orders f q low m) s st bits by seen squash sound leads flight.count flight' staged
       (stands f q low m) t regs arrays
 
   -- whether it is a thread's turn at a merge

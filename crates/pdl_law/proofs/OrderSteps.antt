@@ -1,14 +1,15 @@
 -- A fork's list over a cycle is its order's step, properly used.
-use Rattle.std.proofs.Common.{◌≡◌, refl, sym, ap, ap₂, ◌∙◌, subst, ℕ, zero, suc, ◌+◌, ◌≤◌, ◌<◌, Bool, true, false, ◌&&◌, ◌||◌, not, List, [], ◌∷◌, ◌++◌, length, drop, Option, Some, None, is_some, arith, ◌==◌, append-nil}
+use Rattle.std.proofs.Common.{◌≡◌, refl, sym, ap, ap₂, ◌∙◌, subst, ℕ, zero, suc, ◌+◌, ◌≤◌, ◌<◌, ◌⊎◌, inl, inr, Bool, true, false, ◌&&◌, ◌||◌, not, List, [], ◌∷◌, ◌++◌, length, drop, Option, Some, None, is_some, arith, ◌==◌, append-nil}
 use Rattle.std.specs.Prelude.{if◌then◌else◌, slice_index}
-use Rattle.std.proofs.lemmas.Bool.{eqb-true, eqb-false, and_parts}
+use Rattle.std.proofs.lemmas.Bool.{false≢true, eqb-true, eqb-false, and_parts, or_parts}
 use Rattle.pdl_semantics.specs.Flat.{Next, Ends, Goes, Forks, Branch, Pipe}
-use Rattle.pdl_semantics.specs.Stages.{stage_at, goes_to, is_branch_of, is_inside, merges_fork, verify_stage}
+use Rattle.pdl_semantics.specs.Stages.{list_any, stage_at, goes_to, is_inside, sides_of, merges_fork, verify_stage}
 use Rattle.pdl_semantics.specs.Machine.{Thread, State, Deeds, fork_of, deeds}
-use Rattle.pdl_semantics.specs.Moves.{Act, next_stage, no_failure, ports_free, barrier_clear, merges_well, may_merge, is_first, is_empty}
-use Rattle.pdl_semantics.specs.Cycle.{cycle, squasher, goes_into, entered_branches, goes_out, has_left, but_first, fork_next, merges_by, branches_left}
+use Rattle.pdl_semantics.specs.Moves.{Act, next_stage, no_failure, ports_free, barrier_clear, merges_well, may_merge, is_its_turn, is_first, is_empty}
+use Rattle.pdl_semantics.specs.Cycle.{cycle, squasher, squash_stage, goes_into, entered_branches, goes_out, has_left, but_first, fork_next, merges_by, branches_left}
 use Rattle.pdl_theory_facts.specs.Facts.{Sound}
-use Rattle.pdl_theory_facts.specs.Graphs.{next_of, goes_by}
+use Rattle.pdl_theory_facts.specs.Graphs.{Home, Within, Way, next_of, stage_or, on_side}
+use Rattle.pdl_theory_facts.proofs.Nested.{inside_of, sides_outside, outside_self, sides_inside}
 use Rattle.pdl_machine_facts.specs.Slots.{LeadsOn, here, later_acts, locks_ready, may_pass, stage_moves, mover, movers_from, moving}
 use Rattle.pdl_machine_facts.specs.Cycle.{IsByStages}
 use Rattle.pdl_machine_facts.proofs.Stagewise.{next_is}
@@ -48,74 +49,91 @@ order_act p st bits f = record {
 abbrev entered_list : Bool → Bool → List Bool
 entered_list a b = if a then true ∷ [] else (if b then false ∷ [] else [])
 
+first_some : (b : Bool) (xs : List Bool) → is_first b xs ≡ true → 1 ≤ length xs
+first_some b [] i = absurd (cc i)
+first_some b (x ∷ xs) i = omega arith
+
+-- who has its turn in a fork that it is in finds a list that isn't empty
+some_in : (f : ℕ) (bs : List Branch) → list_any (λ (b : Branch). b.fork == f) bs ≡ true → (xs : List Bool)
+    → is_its_turn (sides_of f bs) xs ≡ true → 1 ≤ length xs
+some_in f [] i xs j = absurd (cc i)
+some_in f (b ∷ bs) i xs j = at (b.fork == f) i j (λ i j. some_in f bs i xs j)
+  where
+    at : (t : Bool) → (t || list_any (λ (y : Branch). y.fork == f) bs) ≡ true
+        → is_its_turn ((if t then b.first ∷ [] else []) ++ sides_of f bs) xs ≡ true
+        → (list_any (λ (y : Branch). y.fork == f) bs ≡ true → is_its_turn (sides_of f bs) xs ≡ true → 1 ≤ length xs) → 1 ≤ length xs
+    at true i j rest = first_some b.first xs j
+    at false i j rest = rest i j
+
 module _ (p : Pipe) (sound : Sound p) (st : State) (bits : List Bool) (f : ℕ) (low : f < length p.stages) where
-  -- the side of a branch is that by which it is entered
-  side_is : (q : ℕ) (env : List ℕ) (b : Branch) → goes_to (stage_at p f).next env ≡ Some q → q < length p.stages
-      → (stage_at p q).branch ≡ Some b → b.fork ≡ f → goes_by p b env ≡ true
-  side_is q env b e l h same =
-      let n : next_of p b.fork env ≡ q = ap (λ g. next_of p g env) same ∙ ap (λ o. Rattle.pdl_theory_facts.specs.Graphs.stage_or (length p.stages) o) e in
-      sound.branches.side b env (omega (arith, low, same)) (ap (λ k. (stage_at p k).branch) n ∙ h)
+  -- a thread that goes from the fork comes to one of its sides, that of its values, or to none
+  side_to : (q : ℕ) (env : List ℕ) → goes_to (stage_at p f).next env ≡ Some q
+      → ((sides_of f (stage_at p q).branches ≡ []) × (is_inside p f q ≡ false))
+      ⊎ ((x : Branch) × (sides_of f (stage_at p q).branches ≡ x.first ∷ []) × (is_inside p f q ≡ true)
+      × (on_side (stage_at p f).next x.first env ≡ true))
+  side_to q env e = at (subst (Way p f) n (sound.branches.way f env low))
+    where
+      n : next_of p f env ≡ q
+      n = ap (stage_or (length p.stages)) e
+
+      own : is_inside p f f ≡ false
+      own = outside_self p sound.branches.fork f
+
+      at : Way p f q
+          → ((sides_of f (stage_at p q).branches ≡ []) × (is_inside p f q ≡ false))
+          ⊎ ((x : Branch) × (sides_of f (stage_at p q).branches ≡ x.first ∷ []) × (is_inside p f q ≡ true)
+          × (on_side (stage_at p f).next x.first env ≡ true))
+      at (inl h) = inl (ap (sides_of f) h ∙ sides_outside f (stage_at p f).branches own, ap (list_any (λ (b : Branch). b.fork == f)) h ∙ own)
+      at (inr (inl h)) =
+          let here : Within p (h.0 ∷ (stage_at p f).branches) q = ([], h.1) in
+          let there : Home p (h.0 ∷ (stage_at p f).branches) (next_of p h.0.fork env) =
+          ap (λ k. (stage_at p k).branches) (ap (λ g. next_of p g env) h.2 ∙ n) ∙ h.1 in
+          let goes = sound.branches.side h.0 (stage_at p f).branches env (let same = h.2 in omega (arith, low, same)) there in
+          inr (
+            h.0,
+            sides_inside p sound.branches.fork f h.0 (stage_at p f).branches q here h.2,
+            inside_of p f q h.0 (stage_at p f).branches here h.2,
+            ap (λ k. on_side (stage_at p k).next h.0.first env) (sym h.2) ∙ goes,
+          )
+      at (inr (inr h)) =
+          let off = (or_parts _ _ (ap (list_any (λ (b : Branch). b.fork == f)) (sym h.1) ∙ own)).1 in
+          inl (sides_outside f (stage_at p q).branches off, off)
 
   -- the branch that a thread appends
   into_is : (n : Next) → (stage_at p f).next ≡ n → (env : List ℕ)
-      → ((q : ℕ) → goes_to n env ≡ Some q → q < length p.stages)
       → goes_into p f (goes_to n env) ≡ entered_list (goes_first p f n env) (goes_second p f n env)
-  into_is Ends same env up = refl
-  into_is (Goes to) same env up = at (stage_at p to).branch refl
+  into_is Ends same env = refl
+  into_is (Goes to) same env = at (side_to to env (ap (λ n. goes_to n env) same))
     where
-      at : (o : Option Branch) → (stage_at p to).branch ≡ o → goes_into p f (Some to) ≡ []
-      at None e = ap (λ (o : Option Branch). into o) e
-        where
-          into : Option Branch → List Bool
-          into None = []
-          into (Some b) = if b.fork == f then b.first ∷ [] else []
-      at (Some b) e = ap into e ∙ by (b.fork == f) refl
-        where
-          into : Option Branch → List Bool
-          into None = []
-          into (Some b) = if b.fork == f then b.first ∷ [] else []
-
-          by : (c : Bool) → (b.fork == f) ≡ c → (if c then b.first ∷ [] else []) ≡ []
-          by false g = refl
-          by true g =
-              let s = side_is to env b (ap (λ n. goes_to n env) same) (up to refl) e (eqb-true b.fork f g) in
-              absurd
-              (cc
-              (sym
-              (ap (λ k. Rattle.pdl_theory_facts.specs.Graphs.on_side (stage_at p k).next b.first env) (eqb-true b.fork f g)
-              ∙ ap (λ n. Rattle.pdl_theory_facts.specs.Graphs.on_side n b.first env) same)
-              ∙ s))
-  into_is (Forks x a b) same env up = at (slice_index env x == 1) refl
+      at : ((sides_of f (stage_at p to).branches ≡ []) × (is_inside p f to ≡ false))
+          ⊎ ((x : Branch) × (sides_of f (stage_at p to).branches ≡ x.first ∷ []) × (is_inside p f to ≡ true)
+          × (on_side (stage_at p f).next x.first env ≡ true))
+          → goes_into p f (Some to) ≡ []
+      at (inl h) = h.0
+      at (inr h) = absurd (false≢true (ap (λ n. on_side n h.0.first env) (sym same) ∙ h.3))
+  into_is (Forks x a b) same env = at (slice_index env x == 1) refl
     where
-      into : Option Branch → List Bool
-      into None = []
-      into (Some c) = if c.fork == f then c.first ∷ [] else []
+      right : (u v : Bool) → (if u then v else not v) ≡ true → u ≡ v
+      right true true i = refl
+      right true false i = absurd (cc i)
+      right false true i = absurd (cc i)
+      right false false i = refl
 
       -- of the stage to which it goes
       to : (q : ℕ) (first : Bool) → (slice_index env x == 1) ≡ first → goes_to (Forks x a b) env ≡ Some q
-          → into (stage_at p q).branch ≡ (if is_inside p f q then first ∷ [] else [])
-      to q first e g = by (stage_at p q).branch refl
+          → sides_of f (stage_at p q).branches ≡ (if is_inside p f q then first ∷ [] else [])
+      to q first e g = by (side_to q env (ap (λ n. goes_to n env) same ∙ g))
         where
-          by : (o : Option Branch) → (stage_at p q).branch ≡ o → into (stage_at p q).branch ≡ (if is_inside p f q then first ∷ [] else [])
-          by None h = ap into h ∙ sym (ap (λ o. if is_branch_of o f then first ∷ [] else []) h)
-          by (Some c) h = ap into h ∙ mine (c.fork == f) refl ∙ sym (ap (λ o. if is_branch_of o f then first ∷ [] else []) h)
-            where
-              right : (u v : Bool) → (if u then v else not v) ≡ true → u ≡ v
-              right true true i = refl
-              right true false i = absurd (cc i)
-              right false true i = absurd (cc i)
-              right false false i = refl
-
-              mine : (d : Bool) → (c.fork == f) ≡ d → (if d then c.first ∷ [] else []) ≡ (if d then first ∷ [] else [])
-              mine false i = refl
-              mine true i =
-                  let s = side_is q env c (ap (λ n. goes_to n env) same ∙ g) (up q g) h (eqb-true c.fork f i) in
-                  let t : (if c.first then slice_index env x == 1 else not (slice_index env x == 1)) ≡ true =
-                  sym
-                  (ap (λ k. Rattle.pdl_theory_facts.specs.Graphs.on_side (stage_at p k).next c.first env) (eqb-true c.fork f i)
-                  ∙ ap (λ n. Rattle.pdl_theory_facts.specs.Graphs.on_side n c.first env) same)
-                  ∙ s in
-                  ap (λ u. u ∷ []) (right c.first first (sym (ap (λ w. if c.first then w else not w) e) ∙ t))
+          by : ((sides_of f (stage_at p q).branches ≡ []) × (is_inside p f q ≡ false))
+              ⊎ ((y : Branch) × (sides_of f (stage_at p q).branches ≡ y.first ∷ []) × (is_inside p f q ≡ true)
+              × (on_side (stage_at p f).next y.first env ≡ true))
+              → sides_of f (stage_at p q).branches ≡ (if is_inside p f q then first ∷ [] else [])
+          by (inl h) = h.0 ∙ sym (ap (λ t. if t then first ∷ [] else []) h.1)
+          by (inr h) =
+              let goes : (if h.0.first then slice_index env x == 1 else not (slice_index env x == 1)) ≡ true =
+              ap (λ n. on_side n h.0.first env) (sym same) ∙ h.3 in
+              let side : h.0.first ≡ first = right h.0.first first (ap (λ w. if h.0.first then w else not w) (sym e) ∙ goes) in
+              h.1 ∙ ap (λ u. u ∷ []) side ∙ sym (ap (λ t. if t then first ∷ [] else []) h.2)
 
       first_list : (u : Bool) → (if u then true ∷ [] else []) ≡ entered_list (u && true) false
       first_list true = refl
@@ -130,14 +148,15 @@ module _ (p : Pipe) (sound : Sound p) (st : State) (bits : List Bool) (f : ℕ) 
       second_list false = refl
 
       at : (w : Bool) → (slice_index env x == 1) ≡ w
-          → into (stage_at p (if slice_index env x == 1 then a else b)).branch
+          → sides_of f (stage_at p (if slice_index env x == 1 then a else b)).branches
           ≡ entered_list (is_inside p f a && (slice_index env x == 1)) (is_inside p f b && not (slice_index env x == 1))
       at true e =
-          ap (λ w. into (stage_at p (if w then a else b)).branch) e ∙ to a true e (ap (λ w. Some (if w then a else b)) e) ∙ first_list (is_inside p f a)
+          ap (λ w. sides_of f (stage_at p (if w then a else b)).branches) e ∙ to a true e (ap (λ w. Some (if w then a else b)) e) ∙ first_list (is_inside p f a)
           ∙ ap (entered_list (is_inside p f a && true)) (sym (no (is_inside p f b)))
           ∙ ap (λ w. entered_list (is_inside p f a && w) (is_inside p f b && not w)) (sym e)
       at false e =
-          ap (λ w. into (stage_at p (if w then a else b)).branch) e ∙ to b false e (ap (λ w. Some (if w then a else b)) e) ∙ second_list (is_inside p f b)
+          ap (λ w. sides_of f (stage_at p (if w then a else b)).branches) e ∙ to b false e (ap (λ w. Some (if w then a else b)) e)
+          ∙ second_list (is_inside p f b)
           ∙ ap (λ u. entered_list u (is_inside p f b && true)) (sym (no (is_inside p f a)))
           ∙ ap (λ w. entered_list (is_inside p f a && w) (is_inside p f b && not w)) (sym e)
 
@@ -164,7 +183,7 @@ module _ (p : Pipe) (sound : Sound p) (st : State) (bits : List Bool) (f : ℕ) 
     entered_here true None rest h = h
     entered_here true (Some t) rest h =
         ap₂ (λ l c. l ++ (if c then goes_into p f (next_stage p f (deeds p st f t)) else [])) h (Rattle.std.proofs.Common.eq-eqb f f refl)
-        ∙ into_is (stage_at p f).next refl (deeds p st f t).env (λ q e. (leads.up f q (deeds p st f t).env low e).1)
+        ∙ into_is (stage_at p f).next refl (deeds p st f t).env
 
     entered_from : (n k : ℕ) → k ≤ f → f < k + n
         → entered_branches p f (movers_from p st bits n k) ≡ entered_list (order_act p st bits f).entered_first (order_act p st bits f).entered_second
@@ -190,12 +209,13 @@ module _ (p : Pipe) (sound : Sound p) (st : State) (bits : List Bool) (f : ℕ) 
 
     -- A CYCLE
 
-    module _ (some : 0 < length p.stages) (count : length st.stages ≡ length p.stages) (by : IsByStages p st bits) where
-      list_next : fork_of (cycle p st bits) f ≡ branches_left p (squasher (moving p st bits)) f (fork_next p st (moving p st bits) f)
+    module _ (some : 0 < length p.stages) (count : length st.stages ≡ length p.stages) (by : IsByStages p st bits)
+        (staged : squash_stage (moving p st bits) ≡ (if is_some (squasher (moving p st bits)) then verify_stage p.stmts else None)) where
+      list_next : fork_of (cycle p st bits) f ≡ branches_left p (squash_stage (moving p st bits)) f (fork_next p st (moving p st bits) f)
       list_next =
           ap (λ (s : State). fork_of s f) (next_is p leads some st bits count)
-          ∙ at_stage (λ g. branches_left p (squasher (moving p st bits)) g (fork_next p st (moving p st bits) g)) 0 p.stages f [] low
-          ∙ ap (λ g. branches_left p (squasher (moving p st bits)) g (fork_next p st (moving p st bits) g)) (let z : 0 + f ≡ f = omega arith in z)
+          ∙ at_stage (λ g. branches_left p (squash_stage (moving p st bits)) g (fork_next p st (moving p st bits) g)) 0 p.stages f [] low
+          ∙ ap (λ g. branches_left p (squash_stage (moving p st bits)) g (fork_next p st (moving p st bits) g)) (let z : 0 + f ≡ f = omega arith in z)
 
       but_is : (xs : List Bool) → but_first xs ≡ drop 1 xs
       but_is [] = refl
@@ -215,6 +235,13 @@ module _ (p : Pipe) (sound : Sound p) (st : State) (bits : List Bool) (f : ℕ) 
           at false true = refl
           at false false = sym (append-nil ys)
 
+      emptied_is : merges_by p f (squash_stage (moving p st bits)) ≡ (order_act p st bits f).emptied
+      emptied_is = ap (merges_by p f) staged ∙ at (is_some (squasher (moving p st bits)))
+        where
+          at : (b : Bool) → merges_by p f (if b then verify_stage p.stmts else None) ≡ (b && merges_by p f (verify_stage p.stmts))
+          at true = refl
+          at false = refl
+
       -- the list after the cycle is the order's step
       pub step_is : step (fork_of st f) (order_act p st bits f) ≡ fork_of (cycle p st bits) f
       step_is =
@@ -222,6 +249,7 @@ module _ (p : Pipe) (sound : Sound p) (st : State) (bits : List Bool) (f : ℕ) 
           step_of_list a.left a.emptied a.entered_first a.entered_second (fork_of st f)
           ∙ ap (λ es. if a.emptied then [] else ((if a.left then but_first (fork_of st f) else fork_of st f) ++ es))
           (sym (entered_from (length p.stages) 0 (omega arith) (omega (arith, low))))
+          ∙ ap (λ b. if b then [] else fork_next p st (moving p st bits) f) (sym emptied_is)
           ∙ sym list_next
 
       -- who leaves is the first
@@ -229,19 +257,15 @@ module _ (p : Pipe) (sound : Sound p) (st : State) (bits : List Bool) (f : ℕ) 
       left_some zero k e h = absurd (cc h)
       left_some (suc n) k e h = at (stage_moves p st bits k) (here p st bits k) refl refl h (left_some n (suc k) (omega (arith, e)))
         where
-          first_some : (b : Bool) (xs : List Bool) → is_first b xs ≡ true → 1 ≤ length xs
-          first_some b [] i = absurd (cc i)
-          first_some b (x ∷ xs) i = omega arith
-
-          merged : (m : Option ℕ) (from : Option Branch) → merges_fork m f ≡ true → is_branch_of from f ≡ true
+          merged : (m : Option ℕ) (from : List Branch) → merges_fork m f ≡ true → list_any (λ (b : Branch). b.fork == f) from ≡ true
               → may_merge st m from ≡ true → 1 ≤ length (fork_of st f)
           merged None from g i j = absurd (cc g)
-          merged (Some g') None g i j = absurd (cc i)
-          merged (Some g') (Some b) g i j = subst (λ k. 1 ≤ length (fork_of st k)) (eqb-true g' f g) (first_some b.first (fork_of st g') j)
+          merged (Some g') from g i j =
+              some_in f from i (fork_of st f) (subst (λ k. is_its_turn (sides_of k from) (fork_of st k) ≡ true) (eqb-true g' f g) j)
 
-          well : (q : Option ℕ) → goes_out p f q ≡ true → is_branch_of (stage_at p k).branch f ≡ true → merges_well p st k q ≡ true → 1 ≤ length (fork_of st f)
+          well : (q : Option ℕ) → goes_out p f q ≡ true → is_inside p f k ≡ true → merges_well p st k q ≡ true → 1 ≤ length (fork_of st f)
           well None g i j = absurd (cc g)
-          well (Some q) g i j = merged (stage_at p q).merges (stage_at p k).branch g i j
+          well (Some q) g i j = merged (stage_at p q).merges (stage_at p k).branches g i j
 
           last : (a b c d e' f' : Bool) → ((a && b) && ((c && (d && (e' && f'))) && true)) ≡ true → f' ≡ true
           last true true true true true true i = refl
@@ -263,7 +287,7 @@ module _ (p : Pipe) (sound : Sound p) (st : State) (bits : List Bool) (f : ℕ) 
               → 1 ≤ length (fork_of st f)
           at false o g i h rest = rest h
           at true None g i h rest = rest h
-          at true (Some t) g i h rest = by' (is_branch_of (stage_at p k).branch f && goes_out p f (next_stage p k (deeds p st k t))) refl h
+          at true (Some t) g i h rest = by' (is_inside p f k && goes_out p f (next_stage p k (deeds p st k t))) refl h
             where
               d : Deeds
               d = deeds p st k t
@@ -277,10 +301,10 @@ module _ (p : Pipe) (sound : Sound p) (st : State) (bits : List Bool) (f : ℕ) 
                   let u = and_parts (ports_free p st bits (later_acts p st bits k) d) _ z.1 in
                   (and_parts (barrier_clear p (later_acts p st bits k) d) _ u.1).1
 
-              by' : (c : Bool) → (is_branch_of (stage_at p k).branch f && goes_out p f (next_stage p k d)) ≡ c
+              by' : (c : Bool) → (is_inside p f k && goes_out p f (next_stage p k d)) ≡ c
                   → (c || has_left p f (movers_from p st bits n (suc k))) ≡ true → 1 ≤ length (fork_of st f)
               by' false j h = rest h
-              by' true j h = let parts = and_parts (is_branch_of (stage_at p k).branch f) _ j in well (next_stage p k d) parts.1 parts.0 passes
+              by' true j h = let parts = and_parts (is_inside p f k) _ j in well (next_stage p k d) parts.1 parts.0 passes
 
       one_side : (n : Next) (env : List ℕ) → (goes_first p f n env && goes_second p f n env) ≡ false
       one_side Ends env = refl

@@ -3,7 +3,7 @@ use Rattle.std.proofs.Common.{◌≡◌, refl, sym, ap, ap₂, ◌∙◌, subst,
 use Rattle.std.specs.Prelude.{if◌then◌else◌, slice_index_or}
 use Rattle.std.proofs.lemmas.Bool.{false≢true}
 use Rattle.pdl_word.proofs.Bytes.{bytes_refl}
-use Rattle.pdl_semantics.specs.Flat.{Mem, has_lock}
+use Rattle.pdl_semantics.specs.Flat.{Mem, has_lock, is_delayed}
 use Rattle.pdl_semantics.specs.Stages.{plain_mem}
 use Rattle.pdl_net.specs.Circuit.{State}
 use Rattle.pdl_net.specs.Signal.{Signal}
@@ -142,36 +142,36 @@ commit_word s names commits m (x ∷ xs) y rest = at (has_lock x.lock) (commit_w
 -- the port `q_` of a name shows whether the first delayed memory of this name is asked
 pub request_flag : (s : State) (names : ℕ → List ℕ) (asks : ℕ → Request) (m : ℕ) (xs : List Mem) (y : List ℕ) (rest : List Shown)
     → look s (requests_shown names asks m xs ++ rest) (codes "q_" ++ y)
-    ≡ pick (λ (x : Mem). x.delayed) (λ i. (asks i).enable.value s) names m xs y (look s rest (codes "q_" ++ y))
+    ≡ pick (λ (x : Mem). is_delayed x.kind) (λ i. (asks i).enable.value s) names m xs y (look s rest (codes "q_" ++ y))
 request_flag s names asks m [] y rest = refl
-request_flag s names asks m (x ∷ xs) y rest = at x.delayed (request_flag s names asks (suc m) xs y rest)
+request_flag s names asks m (x ∷ xs) y rest = at (is_delayed x.kind) (request_flag s names asks (suc m) xs y rest)
   where
     at : (b : Bool)
         → look s (requests_shown names asks (suc m) xs ++ rest) (codes "q_" ++ y)
-        ≡ pick (λ (x : Mem). x.delayed) (λ i. (asks i).enable.value s) names (suc m) xs y (look s rest (codes "q_" ++ y))
+        ≡ pick (λ (x : Mem). is_delayed x.kind) (λ i. (asks i).enable.value s) names (suc m) xs y (look s rest (codes "q_" ++ y))
         → look s (((if b then request_shown (names m) (asks m) else []) ++ requests_shown names asks (suc m) xs) ++ rest) (codes "q_" ++ y)
         ≡ (if b
         then (if bytes_eq (names m) y then (asks m).enable.value s
-        else pick (λ (x : Mem). x.delayed) (λ i. (asks i).enable.value s) names (suc m) xs y (look s rest (codes "q_" ++ y)))
-        else pick (λ (x : Mem). x.delayed) (λ i. (asks i).enable.value s) names (suc m) xs y (look s rest (codes "q_" ++ y)))
+        else pick (λ (x : Mem). is_delayed x.kind) (λ i. (asks i).enable.value s) names (suc m) xs y (look s rest (codes "q_" ++ y)))
+        else pick (λ (x : Mem). is_delayed x.kind) (λ i. (asks i).enable.value s) names (suc m) xs y (look s rest (codes "q_" ++ y)))
     at false go = go
     at true go = ap (λ n. if bytes_eq (names m) y then (asks m).enable.value s else n) go
 
 -- the port `qa_` of a name shows the asked address of the first delayed memory of this name
 pub request_addr : (s : State) (names : ℕ → List ℕ) (asks : ℕ → Request) (m : ℕ) (xs : List Mem) (y : List ℕ) (rest : List Shown)
     → look s (requests_shown names asks m xs ++ rest) (codes "qa_" ++ y)
-    ≡ pick (λ (x : Mem). x.delayed) (λ i. (asks i).addr.value s) names m xs y (look s rest (codes "qa_" ++ y))
+    ≡ pick (λ (x : Mem). is_delayed x.kind) (λ i. (asks i).addr.value s) names m xs y (look s rest (codes "qa_" ++ y))
 request_addr s names asks m [] y rest = refl
-request_addr s names asks m (x ∷ xs) y rest = at x.delayed (request_addr s names asks (suc m) xs y rest)
+request_addr s names asks m (x ∷ xs) y rest = at (is_delayed x.kind) (request_addr s names asks (suc m) xs y rest)
   where
     at : (b : Bool)
         → look s (requests_shown names asks (suc m) xs ++ rest) (codes "qa_" ++ y)
-        ≡ pick (λ (x : Mem). x.delayed) (λ i. (asks i).addr.value s) names (suc m) xs y (look s rest (codes "qa_" ++ y))
+        ≡ pick (λ (x : Mem). is_delayed x.kind) (λ i. (asks i).addr.value s) names (suc m) xs y (look s rest (codes "qa_" ++ y))
         → look s (((if b then request_shown (names m) (asks m) else []) ++ requests_shown names asks (suc m) xs) ++ rest) (codes "qa_" ++ y)
         ≡ (if b
         then (if bytes_eq (names m) y then (asks m).addr.value s
-        else pick (λ (x : Mem). x.delayed) (λ i. (asks i).addr.value s) names (suc m) xs y (look s rest (codes "qa_" ++ y)))
-        else pick (λ (x : Mem). x.delayed) (λ i. (asks i).addr.value s) names (suc m) xs y (look s rest (codes "qa_" ++ y)))
+        else pick (λ (x : Mem). is_delayed x.kind) (λ i. (asks i).addr.value s) names (suc m) xs y (look s rest (codes "qa_" ++ y)))
+        else pick (λ (x : Mem). is_delayed x.kind) (λ i. (asks i).addr.value s) names (suc m) xs y (look s rest (codes "qa_" ++ y)))
     at false go = go
     at true go = ap (λ n. if bytes_eq (names m) y then (asks m).addr.value s else n) go
 
@@ -203,7 +203,7 @@ past_commits_qa s names commits m (x ∷ xs) y rest = at (has_lock x.lock) (past
 pub past_requests_c : (s : State) (names : ℕ → List ℕ) (asks : ℕ → Request) (m : ℕ) (xs : List Mem) (y : List ℕ) (rest : List Shown)
     → look s (requests_shown names asks m xs ++ rest) (codes "c_" ++ y) ≡ look s rest (codes "c_" ++ y)
 past_requests_c s names asks m [] y rest = refl
-past_requests_c s names asks m (x ∷ xs) y rest = at x.delayed (past_requests_c s names asks (suc m) xs y rest)
+past_requests_c s names asks m (x ∷ xs) y rest = at (is_delayed x.kind) (past_requests_c s names asks (suc m) xs y rest)
   where
     at : (b : Bool) → look s (requests_shown names asks (suc m) xs ++ rest) (codes "c_" ++ y) ≡ look s rest (codes "c_" ++ y)
         → look s (((if b then request_shown (names m) (asks m) else []) ++ requests_shown names asks (suc m) xs) ++ rest) (codes "c_" ++ y)
@@ -215,7 +215,7 @@ past_requests_c s names asks m (x ∷ xs) y rest = at x.delayed (past_requests_c
 pub past_requests_ca : (s : State) (names : ℕ → List ℕ) (asks : ℕ → Request) (m : ℕ) (xs : List Mem) (y : List ℕ) (rest : List Shown)
     → look s (requests_shown names asks m xs ++ rest) (codes "ca_" ++ y) ≡ look s rest (codes "ca_" ++ y)
 past_requests_ca s names asks m [] y rest = refl
-past_requests_ca s names asks m (x ∷ xs) y rest = at x.delayed (past_requests_ca s names asks (suc m) xs y rest)
+past_requests_ca s names asks m (x ∷ xs) y rest = at (is_delayed x.kind) (past_requests_ca s names asks (suc m) xs y rest)
   where
     at : (b : Bool) → look s (requests_shown names asks (suc m) xs ++ rest) (codes "ca_" ++ y) ≡ look s rest (codes "ca_" ++ y)
         → look s (((if b then request_shown (names m) (asks m) else []) ++ requests_shown names asks (suc m) xs) ++ rest) (codes "ca_" ++ y)
@@ -227,7 +227,7 @@ past_requests_ca s names asks m (x ∷ xs) y rest = at x.delayed (past_requests_
 pub past_requests_cd : (s : State) (names : ℕ → List ℕ) (asks : ℕ → Request) (m : ℕ) (xs : List Mem) (y : List ℕ) (rest : List Shown)
     → look s (requests_shown names asks m xs ++ rest) (codes "cd_" ++ y) ≡ look s rest (codes "cd_" ++ y)
 past_requests_cd s names asks m [] y rest = refl
-past_requests_cd s names asks m (x ∷ xs) y rest = at x.delayed (past_requests_cd s names asks (suc m) xs y rest)
+past_requests_cd s names asks m (x ∷ xs) y rest = at (is_delayed x.kind) (past_requests_cd s names asks (suc m) xs y rest)
   where
     at : (b : Bool) → look s (requests_shown names asks (suc m) xs ++ rest) (codes "cd_" ++ y) ≡ look s rest (codes "cd_" ++ y)
         → look s (((if b then request_shown (names m) (asks m) else []) ++ requests_shown names asks (suc m) xs) ++ rest) (codes "cd_" ++ y)

@@ -21,7 +21,7 @@ use Rattle.pdl_law_parts.specs.Views.{View, Gates}
 use Rattle.pdl_law_parts.specs.Stands.{IsSeen}
 use Rattle.pdl_law_parts.proofs.Signals.{mux_at, if_on_at, one_is, zero_is}
 use Rattle.pdl_law_parts.proofs.Moves.{ready_of}
-use Rattle.pdl_machine_inflight.specs.InFlight.{InFlight}
+use Rattle.pdl_machine_inflight.specs.InFlight.{InFlight, ReplacesNone}
 use Rattle.pdl_machine_inflight.proofs.Squashes.{stood_in, failing, no_squasher, none_fails, v_low, some_squash, fails_high, fails_low, removed_low, kept_high, clear_high, clear_where, not_clear}
 use Rattle.pdl_law_sides.specs.Sides.{Sides, unsquashed, barrier_open}
 use Rattle.pdl_law_sides.specs.HasSides.{HasRemovals, squash_of}
@@ -31,7 +31,7 @@ abbrev pub removes : Option ℕ → Option Thread → Bool
 removes sq None = false
 removes sq (Some t) = not (is_kept sq t.number)
 
-module _ (p : Pipe) (sound : Sound p) (c : Circuit) (vs : ℕ → View) (gates : Gates) (moves : ℕ → Signal) (sides : Sides)
+module _ (p : Pipe) (sound : Sound p) (still : ReplacesNone p) (c : Circuit) (vs : ℕ → View) (gates : Gates) (moves : ℕ → Signal) (sides : Sides)
     (removals : HasRemovals p c vs gates moves sides)
     (s : State) (st : machine.State) (bits : List Bool) (suits : Suits c s) (flight : InFlight p st)
     (by : IsByStages p st bits)
@@ -42,7 +42,7 @@ module _ (p : Pipe) (sound : Sound p) (c : Circuit) (vs : ℕ → View) (gates :
     squashing = stage_moves p st bits v && failing p st v (here p st bits v)
 
     low_v : v < length p.stages
-    low_v = v_low p sound st bits flight v is
+    low_v = v_low p sound still st bits flight v is
 
     drives : IsSeen p vs moves s st bits v
         → Drives (squash_of vs moves v) s (λ k. is_some (slot st k)) (stage_moves p st bits v) (failing p st v (here p st bits v))
@@ -62,7 +62,7 @@ module _ (p : Pipe) (sound : Sound p) (c : Circuit) (vs : ℕ → View) (gates :
     -- up to V nobody stands
     none_from : (k n j : ℕ) → k < j → j + n ≡ v + 1 → ((i : ℕ) → k < i → i < j → slot st i ≡ None)
         → none_held (λ i. is_some (slot st i)) n j ≡ none_up_to (Some v) (later_acts p st bits k)
-    none_from k zero j low e h = sym (clear_where p sound st bits flight v is k (λ i l r. h i l (omega (arith, r, e))))
+    none_from k zero j low e h = sym (clear_where p sound still st bits flight v is k (λ i l r. h i l (omega (arith, r, e))))
     none_from k (suc n) j low e h = at (slot st j) refl (λ f. none_from k n (j + 1) (omega (arith, low)) (omega (arith, e)) (λ i l r. ⊎_elim
         (λ (same : i ≡ j). ap (slot st) same ∙ f)
         (λ (apart : i ≡ j → ⊥). h i l (omega (arith, r, apart)))
@@ -73,7 +73,7 @@ module _ (p : Pipe) (sound : Sound p) (c : Circuit) (vs : ℕ → View) (gates :
             → (if is_some (slot st j) then false else none_held (λ i. is_some (slot st i)) n (j + 1)) ≡ none_up_to (Some v) (later_acts p st bits k)
         at (Some t) f rest =
             ap (λ (o : Option Thread). if is_some o then false else none_held (λ i. is_some (slot st i)) n (j + 1)) f
-            ∙ sym (not_clear p sound st bits flight v is k j t low (omega (arith, e)) f)
+            ∙ sym (not_clear p sound still st bits flight v is k j t low (omega (arith, e)) f)
         at None f rest = ap (λ (o : Option Thread). if is_some o then false else none_held (λ i. is_some (slot st i)) n (j + 1)) f ∙ rest f
 
     clear_at : IsSeen p vs moves s st bits v → (k : ℕ) → k < v → (sides.clear k).value s ≡ bit (none_up_to (Some v) (later_acts p st bits k))
@@ -88,7 +88,7 @@ module _ (p : Pipe) (sound : Sound p) (c : Circuit) (vs : ℕ → View) (gates :
   unsquashed_is k later = at (verify_stage p.stmts) refl
     where
       at : (o : Option ℕ) → verify_stage p.stmts ≡ o → (unsquashed o k gates.squash).value s ≡ bit (no_failure (later_acts p st bits k))
-      at None e = one_is s ∙ ap bit (sym (none_fails p e st bits flight.count k))
+      at None e = one_is s ∙ ap bit (sym (none_fails p e still st bits flight.count k))
       at (Some v) e = side (nat_lt k v) refl
         where
           table : (b : Bool) → (if b then 0 else 1) ≡ bit (not b)
@@ -101,8 +101,8 @@ module _ (p : Pipe) (sound : Sound p) (c : Circuit) (vs : ℕ → View) (gates :
               mux_at s gates.squash zero_bit one (squashing v e) (squash_at v e (later v low (low_v v e)))
               ∙ ap₂ (λ x y. if squashing v e then x else y) (zero_is s) (one_is s)
               ∙ table (squashing v e)
-              ∙ ap bit (sym (fails_low p sound st bits flight v e k low))
-          side false f = one_is s ∙ ap bit (sym (fails_high p sound st bits flight v e k (ltb-false k v f)))
+              ∙ ap bit (sym (fails_low p sound still st bits flight v e k low))
+          side false f = one_is s ∙ ap bit (sym (fails_high p sound still st bits flight v e k (ltb-false k v f)))
 
   -- condition 6: at a barrier it is told whether all is clear up to V
   pub barrier_is : (k : ℕ) (d : Deeds) (barrier : Signal) → barrier.value s ≡ bit d.barrier
@@ -128,7 +128,8 @@ module _ (p : Pipe) (sound : Sound p) (c : Circuit) (vs : ℕ → View) (gates :
               ≡ bit (if d.barrier then none_up_to (Some v) (later_acts p st bits k) else true)
           side true f = let low = ltb-true k v f in
               if_on_at s barrier (sides.clear k) d.barrier (none_up_to (Some v) (later_acts p st bits k)) on (λ g. clear_at v e (later v low (low_v v e)) k low)
-          side false f = one_is s ∙ all d.barrier (none_up_to (Some v) (later_acts p st bits k)) (clear_high p sound st bits flight v e k (ltb-false k v f))
+          side false f = one_is s ∙ all d.barrier (none_up_to (Some v) (later_acts p st bits k))
+              (clear_high p sound still st bits flight v e k (ltb-false k v f))
 
   module _ (seen : (j : ℕ) → j < length p.stages → IsSeen p vs moves s st bits j) where
     -- the signal of a squash tells whether the machine has one
@@ -136,8 +137,8 @@ module _ (p : Pipe) (sound : Sound p) (c : Circuit) (vs : ℕ → View) (gates :
     squash_is = at (verify_stage p.stmts) refl
       where
         at : (o : Option ℕ) → verify_stage p.stmts ≡ o → gates.squash.value s ≡ bit (is_some (squasher (moving p st bits)))
-        at None e = removals.never e s suits ∙ zero_is s ∙ ap (λ (o : Option ℕ). bit (is_some o)) (sym (no_squasher p e st bits))
-        at (Some v) e = squash_at v e (seen v (low_v v e)) ∙ ap bit (sym (some_squash p sound st bits flight v e))
+        at None e = removals.never e s suits ∙ zero_is s ∙ ap (λ (o : Option ℕ). bit (is_some o)) (sym (no_squasher p e still st bits))
+        at (Some v) e = squash_at v e (seen v (low_v v e)) ∙ ap bit (sym (some_squash p sound still st bits flight v e))
 
     -- whether it removes who stands in a stage
     pub kill_is : (k : ℕ) → k < length p.stages → (gates.kill k).value s ≡ bit (removes (squasher (moving p st bits)) (slot st k))
@@ -153,7 +154,7 @@ module _ (p : Pipe) (sound : Sound p) (c : Circuit) (vs : ℕ → View) (gates :
         at None e =
             removals.spared k l (λ v f. absurd (none_some v (sym e ∙ f))) s suits
             ∙ zero_is s
-            ∙ spared (slot st k) refl (λ t f. ap (λ o. is_kept o t.number) (no_squasher p e st bits))
+            ∙ spared (slot st k) refl (λ t f. ap (λ o. is_kept o t.number) (no_squasher p e still st bits))
           where
             none_some : (v : ℕ) → None ≡ Some v → ⊥
             none_some v i = cc i
@@ -168,7 +169,7 @@ module _ (p : Pipe) (sound : Sound p) (c : Circuit) (vs : ℕ → View) (gates :
                 none : (b : Bool) → (b && false) ≡ false
                 none true = refl
                 none false = refl
-            below (Some t) f low = ap bit (twice (squashing v e) ∙ ap not (sym (removed_low p sound st bits flight v e k t low f)))
+            below (Some t) f low = ap bit (twice (squashing v e) ∙ ap not (sym (removed_low p sound still st bits flight v e k t low f)))
               where
                 twice : (b : Bool) → (b && true) ≡ not (not b)
                 twice true = refl
@@ -183,7 +184,7 @@ module _ (p : Pipe) (sound : Sound p) (c : Circuit) (vs : ℕ → View) (gates :
             side false f =
                 removals.spared k l (λ w g. let i = same w (sym e ∙ g) in let high = ltb-false k v f in omega (arith, i, high)) s suits
                 ∙ zero_is s
-                ∙ spared (slot st k) refl (λ t g. kept_high p sound st bits flight v e k t (ltb-false k v f) g)
+                ∙ spared (slot st k) refl (λ t g. kept_high p sound still st bits flight v e k t (ltb-false k v f) g)
 
     -- the kill of a stage tells whether the squash removes the thread that stands there with this cycle's answers
     pub kill_here : (k : ℕ) (t : Thread) → k < length p.stages → here p st bits k ≡ Some t

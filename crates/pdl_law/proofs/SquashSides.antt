@@ -2,13 +2,12 @@
 use Rattle.std.proofs.Common.{◌≡◌, refl, sym, ◌∙◌, ℕ, suc, ◌+◌, ◌<◌, ◌≤◌, ⊎_elim, Bool, true, List, length, Option, Some, None, arith}
 use Rattle.std.proofs.lemmas.Bool.{cases_lt}
 use Rattle.std.proofs.lemmas.List.{get_or_past}
-use Rattle.pdl_word.specs.Words.{bit}
 use Rattle.pdl_semantics.specs.Flat.{Pipe, Arrays}
 use Rattle.pdl_semantics.specs.Stages.{verify_stage}
 use Rattle.pdl_semantics.specs.Machine as machine
 use Rattle.pdl_semantics.specs.Machine.{Thread}
 use Rattle.pdl_semantics.specs.PendingLists.{count_older}
-use Rattle.pdl_semantics.specs.Cycle.{cycle, first, squasher, has_release, list_three}
+use Rattle.pdl_semantics.specs.Cycle.{cycle, first, squasher, all_releases, list_three}
 use Rattle.pdl_theory_facts.specs.Facts.{Sound}
 use Rattle.pdl_net.specs.Circuit.{Circuit, State}
 use Rattle.pdl_net.specs.Signal.{Signal}
@@ -17,14 +16,14 @@ use Rattle.pdl_net.specs.Well.{Suits}
 use Rattle.pdl_lockapi.specs.Laws.{holds_ticket}
 use Rattle.pdl_machine_facts.specs.Slots.{LeadsOn, slot, moving}
 use Rattle.pdl_machine_facts.specs.Cycle.{IsByStages}
-use Rattle.pdl_machine_facts.specs.Use.{IsInUse}
+use Rattle.pdl_law_parts.specs.Served.{IsServed}
 use Rattle.pdl_machine_lockuse.specs.Cut.{IsCut}
 use Rattle.pdl_law_parts.specs.Walk.{Locks, is_locked}
 use Rattle.pdl_law_parts.specs.Views.{View, Gates}
 use Rattle.pdl_law_parts.specs.Compiled.{IsLaid}
 use Rattle.pdl_law_parts.specs.Stands.{StandsLock, IsSeen, IsSquashed}
 use Rattle.pdl_law_parts.proofs.AnsweredThreads.{stood}
-use Rattle.pdl_machine_inflight.specs.InFlight.{InFlight}
+use Rattle.pdl_machine_inflight.specs.InFlight.{InFlight, ReplacesNone}
 use Rattle.pdl_machine_inflight.proofs.Squashes.{stood_in, no_squasher}
 use Rattle.pdl_law_sides.specs.Sides.{Sides}
 use Rattle.pdl_law_sides.specs.HasSides.{HasSides}
@@ -40,11 +39,11 @@ pub tails_start : (p : Pipe) (ls : Locks) (vs : ℕ → View) (sides : Sides) (i
     → TailsStand p ls vs sides s (first p image)
 tails_start p ls vs sides image s v is = tails_first p ls vs sides v image s
 
-module _ (p : Pipe) (sound : Sound p) (leads : LeadsOn p) (ls : Locks) (c : Circuit) (vs : ℕ → View) (gates : Gates)
+module _ (p : Pipe) (sound : Sound p) (still : ReplacesNone p) (leads : LeadsOn p) (ls : Locks) (c : Circuit) (vs : ℕ → View) (gates : Gates)
     (moves : ℕ → Signal) (made : IsLaid p ls vs gates moves c) (sides : Sides)
     (has : HasSides p ls c vs gates moves sides)
     (s : State) (st : machine.State) (bits : List Bool) (suits : Suits c s) (flight : InFlight p st)
-    (by : IsByStages p st bits) (used : IsInUse p st bits) (cut : IsCut p st bits)
+    (by : IsByStages p st bits) (used : IsServed p st bits) (cut : IsCut p st bits)
     (seen : (j : ℕ) → j < length p.stages → IsSeen p vs moves s st bits j) (tails : TailsStand p ls vs sides s st) where
   stage_there : (k : ℕ) (t : Thread) → slot st k ≡ Some t → k < length p.stages
   stage_there k t e = ⊎_elim
@@ -61,19 +60,19 @@ module _ (p : Pipe) (sound : Sound p) (leads : LeadsOn p) (ls : Locks) (c : Circ
     kill =
         λ k t h g.
         (let l = (let u = stood_in p st bits k t h in stage_there k u.0 u.1) in
-        kill_here p sound c vs gates moves sides has.removals s st bits suits flight by (λ j i. (seen j i).valid) seen k t l h);
-    squash = squash_is p sound c vs gates moves sides has.removals s st bits suits flight by (λ j i. (seen j i).valid) seen;
+        kill_here p sound still c vs gates moves sides has.removals s st bits suits flight by (λ j i. (seen j i).valid) seen k t l h);
+    squash = squash_is p sound still c vs gates moves sides has.removals s st bits suits flight by (λ j i. (seen j i).valid) seen;
     tail = λ m n locked stand e. cut_at m n locked stand e (verify_stage p.stmts) refl;
   }
     where
       cut_at : (m n : ℕ) → is_locked p m ≡ true → (stand : StandsLock p ls vs s st m)
           → squasher (moving p st bits) ≡ Some n → (o : Option ℕ) → verify_stage p.stmts ≡ o
           → holds_ticket (ls.bits m)
-          (gates.tail m) s (stand.base + bit (has_release m (moving p st bits)) + count_older (suc n) (list_three st (moving p st bits) m))
+          (gates.tail m) s (stand.base + all_releases m (moving p st bits) + count_older (suc n) (list_three st (moving p st bits) m))
       cut_at m n locked stand e (Some v) is =
-          tail_is p sound leads ls c vs gates moves made sides v is (has.tails v is) s st bits suits flight by used cut seen (stood p st bits)
+          tail_is p sound still leads ls c vs gates moves made sides v is (has.tails v is) s st bits suits flight by used cut seen (stood p st bits)
           (tails v is) m locked stand n e
-      cut_at m n locked stand e None is = absurd (none_some (sym (no_squasher p is st bits) ∙ e))
+      cut_at m n locked stand e None is = absurd (none_some (sym (no_squasher p is still st bits) ∙ e))
         where
           none_some : None ≡ Some n → ⊥
           none_some i = cc i
@@ -82,5 +81,5 @@ module _ (p : Pipe) (sound : Sound p) (leads : LeadsOn p) (ls : Locks) (c : Circ
   pub tails_next : ((m : ℕ) → is_locked p m ≡ true → StandsLock p ls vs s st m) → (t : State) → t.regs ≡ next_regs c s
       → t.arrays ≡ next_arrays c s → TailsStand p ls vs sides t (cycle p st bits)
   tails_next locks t regs arrays v is =
-      tails_kept p sound leads ls c vs gates moves made sides v is (has.tails v is) s st bits suits flight by used cut seen (stood p st bits)
+      tails_kept p sound still leads ls c vs gates moves made sides v is (has.tails v is) s st bits suits flight by used cut seen (stood p st bits)
       (tails v is) locks squashed_is t regs arrays

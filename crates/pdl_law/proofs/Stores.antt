@@ -4,7 +4,7 @@ use Rattle.std.specs.Prelude.{if◌then◌else◌, slice_index, slice_index_or, 
 use Rattle.std.proofs.lemmas.List.Recursion.{is_count_by}
 use Rattle.std.proofs.lemmas.Nat.{pow_pos}
 use Rattle.pdl_word.specs.Words.{bit}
-use Rattle.pdl_semantics.specs.Flat.{Mem, word_at}
+use Rattle.pdl_semantics.specs.Flat.{Mem, word_at, is_delayed}
 use Rattle.pdl_semantics.specs.Stages.{plain_mem}
 use Rattle.pdl_semantics.specs.Machine.{Request, NoRequest, Owned, Orphan, State, request_of}
 use Rattle.pdl_semantics.specs.Cycle.{is_outstanding}
@@ -19,11 +19,11 @@ use Rattle.pdl_law_sides.specs.WholeNetlist.{replies_of}
 -- how many of these are delayed
 abbrev pub delayed_in : List Mem → ℕ
 delayed_in [] = 0
-delayed_in (x ∷ xs) = if x.delayed then suc (delayed_in xs) else delayed_in xs
+delayed_in (x ∷ xs) = if is_delayed x.kind then suc (delayed_in xs) else delayed_in xs
 
 -- how many memories are delayed is the count of those that pass the test for it
-pub counted : (xs : List Mem) → delayed_in xs ≡ count_by (λ (x : Mem). x.delayed) xs
-counted xs = is_count_by delayed_in (λ (x : Mem). x.delayed) refl (λ x ys. at x.delayed (delayed_in ys)) xs
+pub counted : (xs : List Mem) → delayed_in xs ≡ count_by (λ (x : Mem). is_delayed x.kind) xs
+counted xs = is_count_by delayed_in (λ (x : Mem). is_delayed x.kind) refl (λ x ys. at (is_delayed x.kind) (delayed_in ys)) xs
   where
     at : (b : Bool) (n : ℕ) → (if b then suc n else n) ≡ cond b (1 + n) n
     at true n = omega arith
@@ -78,15 +78,15 @@ pair_after words None b rest i = refl
 
 -- the netlist reads of each delayed memory whether it replies, and the word that was asked for
 pub inputs_read : (st : State) (m : ℕ) (xs : List Mem) (ys : List Store) (b : ℕ) → AreStores st m xs ys → (i : ℕ)
-    → i < length xs → (slice_index_or xs i plain_mem).delayed ≡ true
+    → i < length xs → is_delayed (slice_index_or xs i plain_mem).kind ≡ true
     → ReadsStore st (m + i) (replies_of (delayed_in xs) b) (answers ys b) (delayed_in (take i xs))
 inputs_read st m [] ys b h i l d = absurd (omega (arith, l))
-inputs_read st m (x ∷ xs) ys b h i l d = at x.delayed refl ys h i l d (λ zs k c j n e. inputs_read st (suc m) xs zs c k j n e)
+inputs_read st m (x ∷ xs) ys b h i l d = at (is_delayed x.kind) refl ys h i l d (λ zs k c j n e. inputs_read st (suc m) xs zs c k j n e)
   where
-    at : (t : Bool) → x.delayed ≡ t → (ys : List Store) → StoreThen (AreStores st (suc m) xs) t st m x ys → (i : ℕ)
-        → i < suc (length xs) → (slice_index_or (x ∷ xs) i plain_mem).delayed ≡ true
+    at : (t : Bool) → is_delayed x.kind ≡ t → (ys : List Store) → StoreThen (AreStores st (suc m) xs) t st m x ys → (i : ℕ)
+        → i < suc (length xs) → is_delayed (slice_index_or (x ∷ xs) i plain_mem).kind ≡ true
         → ((zs : List Store) → AreStores st (suc m) xs zs → (c : ℕ) → (j : ℕ) → j < length xs
-        → (slice_index_or xs j plain_mem).delayed ≡ true
+        → is_delayed (slice_index_or xs j plain_mem).kind ≡ true
         → ReadsStore st (suc m + j) (replies_of (delayed_in xs) c) (answers zs c) (delayed_in (take j xs)))
         → ReadsStore st (m + i) (replies_of (if t then suc (delayed_in xs) else delayed_in xs) b) (answers ys b) (delayed_in (take i (x ∷ xs)))
     at false e ys h zero l d go = absurd (cc (sym e ∙ d))
@@ -121,7 +121,7 @@ inputs_read st m (x ∷ xs) ys b h i l d = at x.delayed refl ys h i l d (λ zs k
 -- the widths of the inputs of the delayed memories
 abbrev pub input_widths : List Mem → List ℕ
 input_widths [] = []
-input_widths (x ∷ xs) = (if x.delayed then 1 ∷ x.width ∷ [] else []) ++ input_widths xs
+input_widths (x ∷ xs) = (if is_delayed x.kind then 1 ∷ x.width ∷ [] else []) ++ input_widths xs
 
 pair_bound : (x : Mem) (st : State) (m : ℕ) (y : Store) → IsStore st m x y → (b : Bool) (rest : List ℕ) (ws : List ℕ)
     → ((i : ℕ) → i < length ws → slice_index rest i < 2 ^ slice_index ws i) → length rest ≡ length ws
@@ -160,7 +160,7 @@ pub inputs_fit : (st : State) (m : ℕ) (xs : List Mem) (ys : List Store) (b : �
     × ((i : ℕ) → i < length (input_widths xs) → slice_index (answers ys b) i < 2 ^ slice_index (input_widths xs) i)
 inputs_fit st m [] [] b h = (refl, λ i l. absurd (omega (arith, l)))
 inputs_fit st m [] (y ∷ ys) b h = absurd h
-inputs_fit st m (x ∷ xs) ys b h = at x.delayed ys h (λ zs k c. inputs_fit st (suc m) xs zs c k)
+inputs_fit st m (x ∷ xs) ys b h = at (is_delayed x.kind) ys h (λ zs k c. inputs_fit st (suc m) xs zs c k)
   where
     at : (t : Bool) (ys : List Store) → StoreThen (AreStores st (suc m) xs) t st m x ys
         → ((zs : List Store) → AreStores st (suc m) xs zs → (c : ℕ)

@@ -12,7 +12,7 @@ use Rattle.pdl_semantics.specs.Machine as machine
 use Rattle.pdl_semantics.specs.Machine.{Thread, Pending, deeds}
 use Rattle.pdl_semantics.specs.Moves.{next_stage}
 use Rattle.pdl_semantics.specs.PendingLists.{count_older}
-use Rattle.pdl_semantics.specs.Cycle.{cycle, first, squasher, is_kept, if_kept, or_then, is_stage, born_thread, child_of, thread_after, has_release, list_three, entries_left, with_reserves}
+use Rattle.pdl_semantics.specs.Cycle.{cycle, first, squasher, is_kept, if_kept, or_then, is_stage, born_thread, child_of, thread_after, all_releases, list_three, entries_left, with_reserves}
 use Rattle.pdl_theory_facts.specs.Facts.{Sound}
 use Rattle.pdl_net.specs.Circuit.{Circuit, State}
 use Rattle.pdl_net.specs.Signal.{Signal}
@@ -23,12 +23,12 @@ use Rattle.pdl_lockapi.specs.Forget.{forget, lock_state_of}
 use Rattle.pdl_lockapi.proofs.NextState.{is_next}
 use Rattle.pdl_machine_facts.specs.Slots.{LeadsOn, slot, here, stage_moves, moving, ways, ways_from, leads_to, act_at, thread_into, passing_thread, first_of, arriving_thread, staying_thread}
 use Rattle.pdl_machine_facts.specs.Cycle.{IsByStages}
-use Rattle.pdl_machine_facts.specs.Use.{IsInUse}
 use Rattle.pdl_machine_facts.proofs.StagewisePorts.{at_stage, past_stage}
 use Rattle.pdl_machine_lockuse.specs.Cut.{IsCut}
 use Rattle.pdl_law_parts.specs.Walk.{Locks, Walk, is_locked, is_on, one, zero_bit}
 use Rattle.pdl_law_parts.specs.Views.{View, Gates, Comer, branch, out_of, new_from, comers}
 use Rattle.pdl_law_parts.specs.Compiled.{IsLaid}
+use Rattle.pdl_law_parts.specs.Served.{IsServed}
 use Rattle.pdl_law_parts.specs.Stands.{StandsLock, IsSeen, IsSquashed}
 use Rattle.pdl_law_parts.proofs.Signals.{one_is, zero_is, on_is}
 use Rattle.pdl_law_parts.proofs.AnsweredThreads.{Stood}
@@ -37,8 +37,8 @@ use Rattle.pdl_law_parts.proofs.LockActs.{reserves_are, pending_count}
 use Rattle.pdl_law_parts.proofs.LockStep.{words_next, stands_next}
 use Rattle.pdl_law_parts.proofs.LockPorts.{both_is, moves_or_not}
 use Rattle.pdl_law_parts.proofs.Comers.{first_come, brought, picked_is}
-use Rattle.pdl_law_parts.proofs.NextState.{lock_there}
-use Rattle.pdl_machine_inflight.specs.InFlight.{InFlight}
+use Rattle.pdl_law_parts.proofs.StageLooks.{lock_there}
+use Rattle.pdl_machine_inflight.specs.InFlight.{InFlight, ReplacesNone}
 use Rattle.pdl_machine_inflight.proofs.Squashes.{stood_in, squasher_in}
 use Rattle.pdl_machine_inflight.proofs.Comings.{stage_low}
 use Rattle.pdl_law_sides.specs.Sides.{Sides, with_tickets}
@@ -111,11 +111,11 @@ if_kept_is sq (Some t) u e = at (is_kept sq t.number) refl e
     at true f g = let same : t ≡ u = cc g in (g, subst (λ (x : Thread). is_kept sq x.number ≡ true) same f)
     at false f g = absurd (cc g)
 
-module _ (p : Pipe) (sound : Sound p) (leads : LeadsOn p) (ls : Locks) (c : Circuit) (vs : ℕ → View) (gates : Gates)
+module _ (p : Pipe) (sound : Sound p) (still : ReplacesNone p) (leads : LeadsOn p) (ls : Locks) (c : Circuit) (vs : ℕ → View) (gates : Gates)
     (moves : ℕ → Signal) (made : IsLaid p ls vs gates moves c) (sides : Sides) (v : ℕ)
     (is : verify_stage p.stmts ≡ Some v) (has : HasTails p ls c vs gates moves sides v)
     (s : State) (st : machine.State) (bits : List Bool) (suits : Suits c s) (flight : InFlight p st)
-    (by : IsByStages p st bits) (used : IsInUse p st bits) (cut : IsCut p st bits)
+    (by : IsByStages p st bits) (used : IsServed p st bits) (cut : IsCut p st bits)
     (seen : (j : ℕ) → j < length p.stages → IsSeen p vs moves s st bits j)
     (stood : (k : ℕ) (t : Thread) → here p st bits k ≡ Some t → Stood st k t)
     (stands : StandTails p ls vs sides v s st) where
@@ -125,7 +125,7 @@ module _ (p : Pipe) (sound : Sound p) (leads : LeadsOn p) (ls : Locks) (c : Circ
     pending = with_reserves m (moving p st bits) (machine.lock_of st m)
 
     abbrev released : ℕ
-    released = bit (has_release m (moving p st bits))
+    released = all_releases m (moving p st bits)
 
     -- a thread's second ticket is where its squash cuts what the cycle has appended
     tail_now : (k : ℕ) (t : Thread) → slot st k ≡ Some t → k ≤ v
@@ -151,7 +151,7 @@ module _ (p : Pipe) (sound : Sound p) (leads : LeadsOn p) (ls : Locks) (c : Circ
     pub tail_is : (n : ℕ) → squasher (moving p st bits) ≡ Some n
         → holds_ticket (ls.bits m) (gates.tail m) s (stand.base + released + count_older (suc n) (list_three st (moving p st bits) m))
     tail_is n e =
-        let u = squasher_in p sound st bits flight v is n e in
+        let u = squasher_in p sound still st bits flight v is n e in
         has.tail m locked s suits
         ∙ tail_now v u.0 u.1 (omega arith)
         ∙ ap (λ x. x % 2 ^ ls.bits m) (sym (shifts v u.0 u.1 (omega arith)))
@@ -293,7 +293,7 @@ module _ (p : Pipe) (sound : Sound p) (leads : LeadsOn p) (ls : Locks) (c : Circ
       left_list : machine.lock_of (cycle p st bits) m ≡ entries_left (squasher (moving p st bits)) (list_three st (moving p st bits) m)
       left_list = by.locks m (lock_there p m locked)
 
-      -- the oldest pending write's number shifts with the release
+      -- the oldest pending write's number shifts with the releases
       base_next : (stand.base + released + length (map forget (machine.lock_of (cycle p st bits) m))) % 2 ^ ls.bits m
           ≡ (stand'.base + length (map forget (machine.lock_of (cycle p st bits) m))) % 2 ^ ls.bits m
       base_next =

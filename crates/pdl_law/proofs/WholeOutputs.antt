@@ -4,17 +4,18 @@ use Rattle.std.specs.Prelude.{if◌then◌else◌, slice_index, slice_index_or, 
 use Rattle.std.proofs.lemmas.List.{map-append, length-map}
 use Rattle.std.proofs.lemmas.List.Elements.{filter_map-append}
 use Rattle.pdl_word.specs.Words.{bit}
-use Rattle.pdl_semantics.specs.Flat.{Mem, Pipe, has_lock}
+use Rattle.pdl_semantics.specs.Flat.{Mem, Pipe, has_lock, is_delayed}
 use Rattle.pdl_semantics.specs.Stages.{plain_mem, mem_at}
 use Rattle.pdl_semantics.specs.Machine as machine
-use Rattle.pdl_semantics.specs.Cycle.{PortWrite, for_mems, taken_out, port_write, asked_in}
+use Rattle.pdl_semantics.specs.Cycle.{PortWrite, for_mems, taken_out, port_writes, asked_in}
+use Rattle.pdl_semantics.specs.SecondWrites.{reserves_twice, all_twice}
 use Rattle.pdl_net.specs.Circuit.{Circuit, State, Output, port_output, outputs_of}
 use Rattle.pdl_net.specs.Signal.{Signal}
 use Rattle.pdl_net.specs.Cycle.{net_value, output_values}
 use Rattle.pdl_net.specs.Run.{port_value, commit_of, request_of}
 use Rattle.pdl_net.specs.Well.{Suits}
 use Rattle.pdl_machine_facts.specs.Slots.{moving}
-use Rattle.pdl_machine_facts.specs.Ports.{stage_values, commit_values, shown_values, all_commit_values}
+use Rattle.pdl_machine_facts.specs.Ports.{stage_values, commit_values, shown_values, second_values, all_commit_values}
 use Rattle.pdl_machine_facts.specs.Cycle.{ports_of}
 use Rattle.pdl_law_parts.specs.Walk.{Locks, is_locked}
 use Rattle.pdl_law_parts.specs.Views.{View, Gates}
@@ -23,7 +24,7 @@ use Rattle.pdl_law_parts.specs.Compiled.{shown_in, port_in}
 use Rattle.pdl_law_parts.specs.Stands.{StandsFor, IsSeen, IsSquashed}
 use Rattle.pdl_law_parts.proofs.AnsweredThreads.{stood}
 use Rattle.pdl_law_parts.proofs.LinesNames.{name_of_output}
-use Rattle.pdl_law_parts.proofs.LinesPorts.{named_value, port_is}
+use Rattle.pdl_law_parts.proofs.LinesPorts.{named_value, port_is, put_in}
 use Rattle.pdl_law_parts.proofs.Outputs.{shown_value, outputs_all, values_shown, stages_are, commit_words, commits_are, commit_laid}
 use Rattle.pdl_law_sides.specs.Sides.{Sides}
 use Rattle.pdl_law.specs.StandingStates.{IsLawful, IsKnown}
@@ -35,7 +36,7 @@ use Rattle.pdl_law.proofs.OutputNames.{look, Apart, past_stages, pick, pick_at, 
 -- the ports of replies are no outputs
 no_outputs : (names : ℕ → List ℕ) (m : ℕ) (xs : List Mem) → filter_map port_output (reply_ports names m xs) ≡ []
 no_outputs names m [] = refl
-no_outputs names m (x ∷ xs) = at x.delayed (no_outputs names (suc m) xs)
+no_outputs names m (x ∷ xs) = at (is_delayed x.kind) (no_outputs names (suc m) xs)
   where
     at : (b : Bool) → filter_map port_output (reply_ports names (suc m) xs) ≡ []
         → filter_map port_output
@@ -54,11 +55,6 @@ named_look : (c : Circuit) (s : State) (outs : List Output) (x : List ℕ)
     → named_value (map name_of_output outs) (map (shown_value s) (map (shown_in c) outs)) x ≡ look s (map (shown_in c) outs) x
 named_look c s [] x = refl
 named_look c s (o ∷ outs) x = ap (λ n. if Rattle.std.proofs.Common.bytes_eq o.name x then (shown_in c o).signal.value s else n) (named_look c s outs x)
-
--- what is committed, by its three values
-abbrev pub write_of : Option PortWrite → Option (ℕ × ℕ)
-write_of None = None
-write_of (Some w) = Some (w.address, w.value)
 
 module _ (p : Pipe) (names : ℕ → List ℕ) (apart : Apart names (length p.mems)) (lawful : IsLawful p) (ls : Locks)
     (vs : ℕ → View) (gates : Gates) (moves : ℕ → Signal) (sides : Sides) (c : Circuit)
@@ -121,7 +117,7 @@ module _ (p : Pipe) (names : ℕ → List ℕ) (apart : Apart names (length p.me
       (past_requests_cd s names made.asks 0 p.mems y ends)
 
   ask_is : (s : State) (y : List ℕ)
-      → port_value c (output_values c s) (codes "q_" ++ y) ≡ pick (λ (x : Mem). x.delayed) (λ i. (made.asks i).enable.value s) names 0 p.mems y 0
+      → port_value c (output_values c s) (codes "q_" ++ y) ≡ pick (λ (x : Mem). is_delayed x.kind) (λ i. (made.asks i).enable.value s) names 0 p.mems y 0
   ask_is s y =
       named_is s (codes "q_" ++ y)
       ∙ past_stages s vs moves (codes "q_" ++ y) (λ j. refl) (λ j. refl)
@@ -130,7 +126,7 @@ module _ (p : Pipe) (names : ℕ → List ℕ) (apart : Apart names (length p.me
       ∙ request_flag s names made.asks 0 p.mems y ends
 
   ask_addr_is : (s : State) (y : List ℕ)
-      → port_value c (output_values c s) (codes "qa_" ++ y) ≡ pick (λ (x : Mem). x.delayed) (λ i. (made.asks i).addr.value s) names 0 p.mems y 0
+      → port_value c (output_values c s) (codes "qa_" ++ y) ≡ pick (λ (x : Mem). is_delayed x.kind) (λ i. (made.asks i).addr.value s) names 0 p.mems y 0
   ask_addr_is s y =
       named_is s (codes "qa_" ++ y)
       ∙ past_stages s vs moves (codes "qa_" ++ y) (λ j. refl) (λ j. refl)
@@ -143,11 +139,12 @@ module _ (p : Pipe) (names : ℕ → List ℕ) (apart : Apart names (length p.me
       (squashed : IsSquashed p ls vs gates s st bits) where
     -- the signals of a locked memory's commit have the values of what the machine commits
     pub commit_at : (m : ℕ) → is_locked p m ≡ true
-        → commit_words names s st (made.laid.commits m) ≡ commit_values (mem_at p m).lock (port_write (taken_out st (moving p st bits) m))
+        → commit_words names s st (made.laid.commits m)
+        ≡ commit_values (mem_at p m).lock (reserves_twice m p.stmts) (port_writes (taken_out st (moving p st bits) m))
     commit_at = commit_laid p names ls vs gates moves c made.laid s st bits stands known.used known.by seen (stood p st bits) squashed
 
     -- the signals of a delayed memory's request tell whether the machine asks it, and at which address
-    pub request_at : (m : ℕ) → m < length p.mems → (mem_at p m).delayed ≡ true
+    pub request_at : (m : ℕ) → m < length p.mems → is_delayed (mem_at p m).kind ≡ true
         → ((made.asks m).enable.value s ≡ bit (is_some (asked_in (moving p st bits) m)))
         × ((made.asks m).addr.value s ≡ address_or (asked_in (moving p st bits) m))
     request_at m l d =
@@ -155,7 +152,7 @@ module _ (p : Pipe) (names : ℕ → List ℕ) (apart : Apart names (length p.me
 
     -- what a memory commits, by its name
     pub commit_named : (m : ℕ) → m < length p.mems → is_locked p m ≡ true
-        → commit_of c (output_values c s) (names m) ≡ write_of (port_write (taken_out st (moving p st bits) m))
+        → commit_of c (output_values c s) (names m) ≡ put_in (port_writes (taken_out st (moving p st bits) m))
     commit_named m l e =
         let value : (g : Commit → Signal)
         → pick (λ (x : Mem). has_lock x.lock) (λ i. (g (made.laid.commits i)).value s) names 0 p.mems (names m) 0 ≡ (g (made.laid.commits m)).value s =
@@ -171,21 +168,23 @@ module _ (p : Pipe) (names : ℕ → List ℕ) (apart : Apart names (length p.me
         ∙ ap₂ (λ a b. if (made.laid.commits m).enable.value s == 1 then Some (a, b) else None)
         (addr_is s (names m) ∙ value (λ (x : Commit). x.addr))
         (word_is s (names m) ∙ value (λ (x : Commit). x.value))
-        ∙ at (mem_at p m).lock e (port_write (taken_out st (moving p st bits) m)) (commit_at m e)
+        ∙ at (mem_at p m).lock e (port_writes (taken_out st (moving p st bits) m)) (reserves_twice m p.stmts) (commit_at m e)
       where
-        at : (l : Rattle.pdl_semantics.specs.Flat.Lock) → has_lock l ≡ true → (o : Option PortWrite)
-            → commit_words names s st (made.laid.commits m) ≡ commit_values l o
+        at : (l : Rattle.pdl_semantics.specs.Flat.Lock) → has_lock l ≡ true → (o : List PortWrite) (twice : Bool)
+            → commit_words names s st (made.laid.commits m) ≡ commit_values l twice o
             → (if (made.laid.commits m).enable.value s == 1 then Some ((made.laid.commits m).addr.value s, (made.laid.commits m).value.value s) else None)
-            ≡ write_of o
-        at l e o h = told o (h ∙ ap (λ (b : Bool). if b then shown_values o else []) e)
+            ≡ put_in o
+        at l e o twice h =
+            told o (if twice then second_values o else [])
+            (h ∙ ap (λ (b : Bool). if b then shown_values o ++ (if twice then second_values o else []) else []) e)
           where
-            told : (o : Option PortWrite) → commit_words names s st (made.laid.commits m) ≡ shown_values o
+            told : (o : List PortWrite) (more : List ℕ) → commit_words names s st (made.laid.commits m) ≡ shown_values o ++ more
                 → (if (made.laid.commits m).enable.value s == 1 then Some ((made.laid.commits m).addr.value s, (made.laid.commits m).value.value s) else None)
-                ≡ write_of o
-            told None g =
+                ≡ put_in o
+            told [] more g =
                 ap (λ n. if n == 1 then Some ((made.laid.commits m).addr.value s, (made.laid.commits m).value.value s) else None)
                 (ap (λ ws. slice_index ws 0) g)
-            told (Some w) g =
+            told (w ∷ ws) more g =
                 ap (λ n. if n == 1 then Some ((made.laid.commits m).addr.value s, (made.laid.commits m).value.value s) else None)
                 (ap (λ ws. slice_index ws 0) g)
                 ∙ ap₂ (λ a b. Some (a, b)) (ap (λ ws. slice_index ws 1) g) (ap (λ ws. slice_index ws 2) g)
@@ -203,13 +202,14 @@ module _ (p : Pipe) (names : ℕ → List ℕ) (apart : Apart names (length p.me
         (λ j f. ap (λ i. has_lock (slice_index_or p.mems i plain_mem).lock) (let z : j ≡ m = omega (arith, f) in z) ∙ e))
 
     -- the request that is found by a delayed memory's name is what the machine asks it
-    pub request_named : (m : ℕ) → m < length p.mems → (mem_at p m).delayed ≡ true → request_of c (output_values c s) (names m) ≡ asked_in (moving p st bits) m
+    pub request_named : (m : ℕ) → m < length p.mems → is_delayed (mem_at p m).kind ≡ true
+        → request_of c (output_values c s) (names m) ≡ asked_in (moving p st bits) m
     request_named m l d =
         let value : (g : Request → Signal)
-        → pick (λ (x : Mem). x.delayed) (λ i. (g (made.asks i)).value s) names 0 p.mems (names m) 0 ≡ (g (made.asks m)).value s =
-        λ g. subst (λ j. pick (λ (x : Mem). x.delayed) (λ i. (g (made.asks i)).value s) names 0 p.mems (names j) 0 ≡ (g (made.asks j)).value s)
+        → pick (λ (x : Mem). is_delayed x.kind) (λ i. (g (made.asks i)).value s) names 0 p.mems (names m) 0 ≡ (g (made.asks m)).value s =
+        λ g. subst (λ j. pick (λ (x : Mem). is_delayed x.kind) (λ i. (g (made.asks i)).value s) names 0 p.mems (names j) 0 ≡ (g (made.asks j)).value s)
         (let z : 0 + m ≡ m = omega arith in z)
-        (pick_at (λ (x : Mem). x.delayed) (λ i. (g (made.asks i)).value s) names (length p.mems) 0 p.mems m 0 (omega arith) apart l d) in
+        (pick_at (λ (x : Mem). is_delayed x.kind) (λ i. (g (made.asks i)).value s) names (length p.mems) 0 p.mems m 0 (omega arith) apart l d) in
         ap₂ (λ f a. if f == 1 then Some a else None)
         (ask_is s (names m) ∙ value (λ (q : Request). q.enable) ∙ (request_at m l d).0)
         (ask_addr_is s (names m) ∙ value (λ (q : Request). q.addr) ∙ (request_at m l d).1)
@@ -222,14 +222,14 @@ module _ (p : Pipe) (names : ℕ → List ℕ) (apart : Apart names (length p.me
     -- ALL VALUES
 
     requests_are : (m : ℕ) (xs : List Mem)
-        → ((i : ℕ) → i < length xs → (slice_index_or xs i plain_mem).delayed ≡ true
+        → ((i : ℕ) → i < length xs → is_delayed (slice_index_or xs i plain_mem).kind ≡ true
         → ((made.asks (m + i)).enable.value s ≡ bit (is_some (asked_in (moving p st bits) (m + i))))
         × ((made.asks (m + i)).addr.value s ≡ address_or (asked_in (moving p st bits) (m + i))))
         → map (shown_value s) (requests_shown names made.asks m xs) ≡ all_request_values xs (for_mems (λ i. asked_in (moving p st bits) i) m xs)
     requests_are m [] h = refl
     requests_are m (x ∷ xs) h =
-        map-append (shown_value s) (if x.delayed then request_shown (names m) (made.asks m) else []) (requests_shown names made.asks (suc m) xs)
-        ∙ ap₂ (λ a b. a ++ b) (mine x.delayed (λ e. h 0 (omega arith) e))
+        map-append (shown_value s) (if is_delayed x.kind then request_shown (names m) (made.asks m) else []) (requests_shown names made.asks (suc m) xs)
+        ∙ ap₂ (λ a b. a ++ b) (mine (is_delayed x.kind) (λ e. h 0 (omega arith) e))
         (requests_are (suc m) xs
         (λ i l e.
         (let z : m + suc i ≡ suc m + i = omega arith in
@@ -267,13 +267,14 @@ module _ (p : Pipe) (names : ℕ → List ℕ) (apart : Apart names (length p.me
         let asks = requests_shown names made.asks 0 p.mems in
         let valids = stages_are p vs moves s st bits seen n 0 p.stages (omega arith) refl ∙ ap₂ stage_values (sym known.by.valid) (sym known.by.moves) in
         let taken =
-        commits_are names s st (moving p st bits) made.laid.commits 0 p.mems
+        commits_are names s st (moving p st bits) p.stmts made.laid.commits 0 p.mems
         (λ i l e.
         (let z : i ≡ 0 + i = omega arith in
         subst
-        (λ j. commit_words names s st (made.laid.commits j) ≡ commit_values (mem_at p i).lock (port_write (taken_out st (moving p st bits) j))) z
+        (λ j. commit_words names s st (made.laid.commits j)
+        ≡ commit_values (mem_at p i).lock (reserves_twice j p.stmts) (port_writes (taken_out st (moving p st bits) j))) z
         (commit_at i e)))
-        ∙ ap (all_commit_values p.mems) (sym known.by.commits) in
+        ∙ ap (all_commit_values (all_twice p.stmts 0 p.mems) p.mems) (sym known.by.commits) in
         let asked =
         requests_are 0 p.mems
         (λ i l d.

@@ -2,14 +2,15 @@
 use Rattle.std.proofs.Common.{◌≡◌, refl, sym, ap, ap₂, ◌∙◌, subst, ℕ, suc, ◌+◌, ◌^◌, ◌<◌, Bool, true, false, List, [], ◌∷◌, ◌++◌, length, map, take, Option, Some, None, codes, arith}
 use Rattle.std.specs.Prelude.{if◌then◌else◌, slice_index, slice_index_or, filter_map}
 use Rattle.std.proofs.lemmas.List.Elements.{filter_map-append}
-use Rattle.pdl_semantics.specs.Flat.{Arrays, Mem, Pipe, Lock, arrays_of, has_lock}
+use Rattle.pdl_semantics.specs.Flat.{Arrays, Mem, Pipe, Lock, arrays_of, has_lock, is_delayed}
 use Rattle.pdl_semantics.specs.Stages.{mem_at, reply_place}
 use Rattle.pdl_semantics.specs.Locks.{commit_value}
 use Rattle.pdl_semantics.specs.Machine as machine
 use Rattle.pdl_semantics.specs.Machine.{Pending, NoRequest, is_answered, request_of}
 use Rattle.pdl_semantics.specs.Moves.{all_acts}
-use Rattle.pdl_semantics.specs.Cycle.{first, cycle, state_after, turns_from, is_wait, taken_out, port_write, oldest, list_two, asked_in, waits_from}
+use Rattle.pdl_semantics.specs.Cycle.{first, cycle, state_after, turns_from, is_wait, with_all_advised, taken_out, port_writes, list_two, asked_in, waits_from}
 use Rattle.pdl_semantics.specs.Cycle as stated
+use Rattle.pdl_semantics.specs.SecondWrites.{reserves_twice}
 use Rattle.pdl_net.specs.declared.Netlist.{Netlist}
 use Rattle.pdl_net.specs.declared.Dir.TheVariants.{In}
 use Rattle.pdl_net.specs.Circuit.{Circuit, State, Output, circuit_of, inputs_of, port_input}
@@ -29,6 +30,7 @@ use Rattle.pdl_law_parts.specs.Compiled.{port_in}
 use Rattle.pdl_law_parts.specs.Runs.{Seen, seen_of}
 use Rattle.pdl_law_parts.specs.Stands.{IsSeen, IsSquashed}
 use Rattle.pdl_law_parts.proofs.StageLooks.{plain_is}
+use Rattle.pdl_law_parts.proofs.LinesPorts.{put_in}
 use Rattle.pdl_law_parts.proofs.Outputs.{commit_words}
 use Rattle.pdl_machine_inflight.specs.Readings.{reading}
 use Rattle.pdl_law_sides.specs.Sides.{Sides}
@@ -38,10 +40,10 @@ use Rattle.pdl_law_sides.specs.WholeNetlist.{IsWhole, reply_ports, in_order, rep
 use Rattle.pdl_law_parts.specs.Places.{delayed_count}
 use Rattle.pdl_law.proofs.PortSides.{IsGiven}
 use Rattle.pdl_law.proofs.PortsNext.{address_or}
-use Rattle.pdl_law.proofs.WholeCycle.{WholeStands, seen_whole, squashed_whole, whole_next}
+use Rattle.pdl_law.proofs.WholeCycle.{WholeStands, seen_whole, squashed_whole, calm_whole, whole_next}
 use Rattle.pdl_law.proofs.Stores.{delayed_in, counted, ReadsStore, inputs_read, input_widths, inputs_fit}
 use Rattle.pdl_law.proofs.OutputNames.{Apart}
-use Rattle.pdl_law.proofs.WholeOutputs.{write_of, commit_at, request_at, commit_named, no_commit, request_named, whole_shows}
+use Rattle.pdl_law.proofs.WholeOutputs.{commit_at, request_at, commit_named, no_commit, request_named, whole_shows}
 use Rattle.pdl_law.proofs.NextStores.{Replied, waits_are, quiet_next, StepsTo, stores_next}
 use Rattle.pdl_semantics.proofs.Facts.{after_more}
 
@@ -49,7 +51,7 @@ use Rattle.pdl_semantics.proofs.Facts.{after_more}
 
 widths_of : (names : ℕ → List ℕ) (m : ℕ) (xs : List Mem) → filter_map port_input (reply_ports names m xs) ≡ input_widths xs
 widths_of names m [] = refl
-widths_of names m (x ∷ xs) = at x.delayed (widths_of names (suc m) xs)
+widths_of names m (x ∷ xs) = at (is_delayed x.kind) (widths_of names (suc m) xs)
   where
     at : (b : Bool) → filter_map port_input (reply_ports names (suc m) xs) ≡ input_widths xs
         → filter_map port_input
@@ -124,7 +126,7 @@ module _ (p : Pipe) (names : ℕ → List ℕ) (apart : Apart names (length p.me
       pub knows : IsKnown p st (replies_of (delayed_count p) b)
       knows = subst (λ y. IsKnown p y (replies_of (delayed_count p) b)) (sym x.reached) (known image x.before (replies_of (delayed_count p) b))
 
-      reads_at : (m : ℕ) → m < length p.mems → (mem_at p m).delayed ≡ true
+      reads_at : (m : ℕ) → m < length p.mems → is_delayed (mem_at p m).kind ≡ true
           → ReadsStore st m (replies_of (delayed_count p) b) (Rattle.pdl_net.specs.Run.answers h.stores b) (reply_place p m)
       reads_at m l d =
           let r = inputs_read st 0 p.mems h.stores b x.stores m l d in
@@ -156,6 +158,12 @@ module _ (p : Pipe) (names : ℕ → List ℕ) (apart : Apart names (length p.me
           squashed_whole p lawful ls vs gates moves sides (circuit_of n) made.laid made.beside (state_in h b) st
           (replies_of (delayed_count p) b) suits knows (x.whole b suits) given
 
+      -- no advisory memory is written
+      calm : (arrays : Arrays) → with_all_advised (moving p st (replies_of (delayed_count p) b)) arrays ≡ arrays
+      calm =
+          calm_whole p lawful ls vs gates moves sides (circuit_of n) made.laid made.beside (state_in h b) st
+          (replies_of (delayed_count p) b) suits knows (x.whole b suits) given
+
       -- the cycle is a wait of both
       waits : net_run.some_waits h.stores b ≡ is_wait p st (replies_of (delayed_count p) b)
       waits =
@@ -163,7 +171,7 @@ module _ (p : Pipe) (names : ℕ → List ℕ) (apart : Apart names (length p.me
           (λ i l d. ap (request_of st) (let z : 0 + i ≡ i = omega arith in z) ∙ x.quiet i l (unread i l d))
           ∙ ap (waits_from p (replies_of (delayed_count p) b) 0) (sym knows.flight.listed)
         where
-          unread : (i : ℕ) → i < length p.mems → (mem_at p i).delayed ≡ false → reading p i ≡ None
+          unread : (i : ℕ) → i < length p.mems → is_delayed (mem_at p i).kind ≡ false → reading p i ≡ None
           unread i l d = at (reading p i) refl
             where
               at : (o : Option Rattle.pdl_machine_inflight.specs.Readings.Reading) → reading p i ≡ o → reading p i ≡ None
@@ -180,44 +188,44 @@ module _ (p : Pipe) (names : ℕ → List ℕ) (apart : Apart names (length p.me
           (replies_of (delayed_count p) b) suits knows (x.whole b suits).stands seen squashed) waits
 
       -- what each delayed memory commits and is asked
-      steps : (m : ℕ) → m < length p.mems → (mem_at p m).delayed ≡ true
-          → StepsTo p lawful st (replies_of (delayed_count p) b) knows (circuit_of n) (state_in h b) names m
+      steps : (m : ℕ) → m < length p.mems → is_delayed (mem_at p m).kind ≡ true
+          → StepsTo p lawful st (replies_of (delayed_count p) b) knows calm (circuit_of n) (state_in h b) names m
       steps m l d = record {
         commit = at (is_locked p m) refl;
         request =
             request_named p names apart lawful ls vs gates moves sides (circuit_of n) made (state_in h b) st
             (replies_of (delayed_count p) b) suits knows (x.whole b suits).stands seen squashed m l d;
-        wide = λ e f. wide (is_locked p m) refl e f;
+        wide = λ e es f. wide (is_locked p m) refl e es f;
         low = λ a f. low a f;
       }
         where
-          none : is_locked p m ≡ false → taken_out st (moving p st (replies_of (delayed_count p) b)) m ≡ None
-          none e =
-              ap (λ t. if t then oldest (list_two st (moving p st (replies_of (delayed_count p) b)) m) else None) (knows.used.unreleased m (plain_is p m e))
+          none : is_locked p m ≡ false → taken_out st (moving p st (replies_of (delayed_count p) b)) m ≡ []
+          none e = ap (λ k. take k (list_two st (moving p st (replies_of (delayed_count p) b)) m)) (knows.used.in_use.unreleased m (plain_is p m e))
 
           at : (t : Bool) → is_locked p m ≡ t
               → net_run.commit_of (circuit_of n) (output_values (circuit_of n) (state_in h b)) (names m)
-              ≡ write_of (port_write (taken_out st (moving p st (replies_of (delayed_count p) b)) m))
+              ≡ put_in (port_writes (taken_out st (moving p st (replies_of (delayed_count p) b)) m))
           at true e =
               commit_named p names apart lawful ls vs gates moves sides (circuit_of n) made (state_in h b) st
               (replies_of (delayed_count p) b) suits knows (x.whole b suits).stands seen squashed m l e
           at false e =
               no_commit p names apart lawful ls vs gates moves sides (circuit_of n) made (state_in h b) st
               (replies_of (delayed_count p) b) suits knows (x.whole b suits).stands seen squashed m l e
-              ∙ ap (λ o. write_of (port_write o)) (sym (none e))
+              ∙ ap (λ o. put_in (port_writes o)) (sym (none e))
 
-          wide : (t : Bool) → is_locked p m ≡ t → (e : Pending)
-              → taken_out st (moving p st (replies_of (delayed_count p) b)) m ≡ Some e
+          wide : (t : Bool) → is_locked p m ≡ t → (e : Pending) (es : List Pending)
+              → taken_out st (moving p st (replies_of (delayed_count p) b)) m ≡ e ∷ es
               → commit_value e.value < 2 ^ (mem_at p m).width
-          wide false g e f = absurd (cc (sym (none g) ∙ f))
-          wide true g e f =
+          wide false g e es f = absurd (cc (sym (none g) ∙ f))
+          wide true g e es f =
               let fits = made.fits m l d in
               let net = fits.word g in
               let words =
               commit_at p names apart lawful ls vs gates moves sides (circuit_of n) made (state_in h b) st
               (replies_of (delayed_count p) b) suits knows (x.whole b suits).stands seen squashed m g in
               let value : (made.laid.commits m).value.value (state_in h b) ≡ commit_value e.value =
-              value_is (mem_at p m).lock g (words ∙ ap (λ o. Rattle.pdl_machine_facts.specs.Ports.commit_values (mem_at p m).lock (port_write o)) f) in
+              value_is (mem_at p m).lock g (reserves_twice m p.stmts)
+              (words ∙ ap (λ o. Rattle.pdl_machine_facts.specs.Ports.commit_values (mem_at p m).lock (reserves_twice m p.stmts) (port_writes o)) f) in
               let bound = (bounded (circuit_of n) (state_in h b) well suits net.0 net.1).fits in
               let bound' : (made.laid.commits m).value.value (state_in h b) < 2 ^ (made.laid.commits m).value.width =
               subst (λ (y : Signal). y.value (state_in h b) < 2 ^ y.width) net.2 bound in
@@ -225,10 +233,18 @@ module _ (p : Pipe) (names : ℕ → List ℕ) (apart : Apart names (length p.me
               subst (λ k. (made.laid.commits m).value.value (state_in h b) < 2 ^ k) (fits.wide g) bound' in
               subst (λ k. k < 2 ^ (mem_at p m).width) value bound''
             where
-              value_is : (k : Lock) → has_lock k ≡ true
-                  → commit_words names (state_in h b) st (made.laid.commits m) ≡ Rattle.pdl_machine_facts.specs.Ports.commit_values k (port_write (Some e))
+              value_is : (k : Lock) → has_lock k ≡ true → (twice : Bool)
+                  → commit_words names (state_in h b) st (made.laid.commits m)
+                  ≡ Rattle.pdl_machine_facts.specs.Ports.commit_values k twice (port_writes (e ∷ es))
                   → (made.laid.commits m).value.value (state_in h b) ≡ commit_value e.value
-              value_is k i j = ap (λ ws. slice_index ws 2) (j ∙ ap (λ (t : Bool). if t then 1 ∷ e.address ∷ commit_value e.value ∷ [] else []) i)
+              value_is k i twice j =
+                  ap (λ ws. slice_index ws 2)
+                  (j
+                  ∙ ap
+                  (λ (t : Bool). if t
+                  then (1 ∷ e.address ∷ commit_value e.value ∷ [])
+                  ++ (if twice then Rattle.pdl_machine_facts.specs.Ports.second_values (port_writes (e ∷ es)) else [])
+                  else []) i)
 
           low : (a : ℕ) → asked_in (moving p st (replies_of (delayed_count p) b)) m ≡ Some a → a < (mem_at p m).depth
           low a f =
@@ -250,12 +266,12 @@ module _ (p : Pipe) (names : ℕ → List ℕ) (apart : Apart names (length p.me
         reached = ap (λ y. cycle p y (replies_of (delayed_count p) b)) x.reached ∙ sym (after_more p (first p image) x.before (replies_of (delayed_count p) b));
         holds = next_holds (circuit_of n) (state_in h b) well suits;
         stores =
-            stores_next p lawful st (replies_of (delayed_count p) b) knows (circuit_of n)
+            stores_next p lawful st (replies_of (delayed_count p) b) knows calm (circuit_of n)
             (state_in h b) names 0 p.mems (delayed_mems n) h.stores b (omega arith)
             (λ i l. ap (mem_at p) (let z : 0 + i ≡ i = omega arith in z)) mems.named x.stores (replied b)
-            (λ i l d. subst (StepsTo p lawful st (replies_of (delayed_count p) b) knows (circuit_of n) (state_in h b) names)
+            (λ i l d. subst (StepsTo p lawful st (replies_of (delayed_count p) b) knows calm (circuit_of n) (state_in h b) names)
             (let z : i ≡ 0 + i = omega arith in z) (steps i l d));
-        quiet = λ m l e. quiet_next p lawful st (replies_of (delayed_count p) b) knows m l e (x.quiet m l e);
+        quiet = λ m l e. quiet_next p lawful st (replies_of (delayed_count p) b) knows calm m l e (x.quiet m l e);
         whole =
             λ k fits. whole_next p lawful ls vs gates moves sides (circuit_of n) made.laid made.beside (state_in h b) st
             (replies_of (delayed_count p) b) suits knows (x.whole b suits) given

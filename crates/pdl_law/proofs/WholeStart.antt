@@ -5,7 +5,7 @@ use Rattle.std.proofs.lemmas.List.{get_or-map, get_or-take, get_or-drop, length-
 use Rattle.std.proofs.lemmas.List.Elements.{filter-append}
 use Rattle.pdl_kit.specs.declared.mem_info.MemInfo.{MemInfo}
 use Rattle.pdl_semantics.specs.Flat as model
-use Rattle.pdl_semantics.specs.Flat.{Mem, Pipe}
+use Rattle.pdl_semantics.specs.Flat.{Mem, Pipe, is_delayed}
 use Rattle.pdl_semantics.specs.Stages.{mem_at, plain_mem, reply_place}
 use Rattle.pdl_semantics.specs.Machine as machine
 use Rattle.pdl_semantics.specs.Cycle.{first}
@@ -28,12 +28,13 @@ use Rattle.pdl_law_parts.specs.Walk.{Locks, is_locked}
 use Rattle.pdl_law_parts.specs.Views.{View, Gates}
 use Rattle.pdl_law_parts.specs.Compiled.{IsLaid}
 use Rattle.pdl_law_parts.specs.Stands.{StandsFor}
-use Rattle.pdl_law_parts.proofs.NextState.{mem_there, lock_there}
+use Rattle.pdl_law_parts.proofs.NextState.{mem_there}
+use Rattle.pdl_law_parts.proofs.StageLooks.{lock_there}
 use Rattle.pdl_law_parts.proofs.FirstState.{padded_at, StartsWith, stands_at_first}
 use Rattle.pdl_law.specs.Outside.{IsStore, StoreThen, AreStores}
 use Rattle.pdl_law_parts.specs.Places.{comb_place, net_place}
 use Rattle.pdl_law_sides.specs.WholeNetlist.{StartsLock, in_order, HasWholeMems}
-use Rattle.pdl_law.proofs.Places.{is_delayed, count_yes, count_no, place_low, place_delayed, place_comb, reply_low, part_is, delayed_as_many}
+use Rattle.pdl_law.proofs.Places.{answers_late, count_yes, count_no, place_low, place_delayed, place_comb, reply_low, part_is, delayed_as_many}
 
 -- ---- STORES
 
@@ -42,36 +43,36 @@ empty = record { words = []; request = None }
 
 -- stores in the order of the delayed memories
 stores_from : (st : machine.State) (m : ℕ) (xs : List Mem) (ys : List Store)
-    → length ys ≡ count_by is_delayed xs
-    → ((i : ℕ) → i < length xs → (slice_index_or xs i plain_mem).delayed ≡ true
-    → IsStore st (m + i) (slice_index_or xs i plain_mem) (slice_index_or ys (count_by is_delayed (take i xs)) empty))
+    → length ys ≡ count_by answers_late xs
+    → ((i : ℕ) → i < length xs → is_delayed (slice_index_or xs i plain_mem).kind ≡ true
+    → IsStore st (m + i) (slice_index_or xs i plain_mem) (slice_index_or ys (count_by answers_late (take i xs)) empty))
     → AreStores st m xs ys
 stores_from st m [] [] e h = tt
 stores_from st m [] (y ∷ ys) e h = absurd (let z : suc (length ys) ≡ 0 = e in omega (arith, z))
-stores_from st m (x ∷ xs) ys e h = at x.delayed refl ys e h (λ zs f g. stores_from st (suc m) xs zs f g)
+stores_from st m (x ∷ xs) ys e h = at (is_delayed x.kind) refl ys e h (λ zs f g. stores_from st (suc m) xs zs f g)
   where
     Each : ℕ → List Mem → List Store → Type 0
     Each k us zs =
-        (i : ℕ) → i < length us → (slice_index_or us i plain_mem).delayed ≡ true
-        → IsStore st (k + i) (slice_index_or us i plain_mem) (slice_index_or zs (count_by is_delayed (take i us)) empty)
+        (i : ℕ) → i < length us → is_delayed (slice_index_or us i plain_mem).kind ≡ true
+        → IsStore st (k + i) (slice_index_or us i plain_mem) (slice_index_or zs (count_by answers_late (take i us)) empty)
 
     later : (i : ℕ) → m + suc i ≡ suc m + i
     later i = omega arith
 
-    at : (b : Bool) → x.delayed ≡ b → (zs : List Store) → length zs ≡ count_by is_delayed (x ∷ xs) → Each m (x ∷ xs) zs
-        → ((us : List Store) → length us ≡ count_by is_delayed xs → Each (suc m) xs us → AreStores st (suc m) xs us)
+    at : (b : Bool) → is_delayed x.kind ≡ b → (zs : List Store) → length zs ≡ count_by answers_late (x ∷ xs) → Each m (x ∷ xs) zs
+        → ((us : List Store) → length us ≡ count_by answers_late xs → Each (suc m) xs us → AreStores st (suc m) xs us)
         → StoreThen (AreStores st (suc m) xs) b st m x zs
-    at false d zs f g go = go zs (f ∙ count_no is_delayed x xs d)
-        (λ i l k. subst (λ j. IsStore st j (slice_index_or xs i plain_mem) (slice_index_or zs (count_by is_delayed (take i xs)) empty)) (later i)
+    at false d zs f g go = go zs (f ∙ count_no answers_late x xs d)
+        (λ i l k. subst (λ j. IsStore st j (slice_index_or xs i plain_mem) (slice_index_or zs (count_by answers_late (take i xs)) empty)) (later i)
         (subst (λ c. IsStore st (m + suc i) (slice_index_or xs i plain_mem) (slice_index_or zs c empty))
-        (count_no is_delayed x (take i xs) d) (g (suc i) (omega (arith, l)) k)))
-    at true d [] f g go = let c = count_yes is_delayed x xs d in absurd (omega (arith, f, c))
+        (count_no answers_late x (take i xs) d) (g (suc i) (omega (arith, l)) k)))
+    at true d [] f g go = let c = count_yes answers_late x xs d in absurd (omega (arith, f, c))
     at true d (z ∷ zs) f g go = (
       subst (λ j. IsStore st j x z) (let k : m + 0 ≡ m = omega arith in k) (g 0 (omega arith) d),
-      go zs (let c = count_yes is_delayed x xs d in omega (arith, f, c))
-          (λ i l k. subst (λ j. IsStore st j (slice_index_or xs i plain_mem) (slice_index_or zs (count_by is_delayed (take i xs)) empty)) (later i)
+      go zs (let c = count_yes answers_late x xs d in omega (arith, f, c))
+          (λ i l k. subst (λ j. IsStore st j (slice_index_or xs i plain_mem) (slice_index_or zs (count_by answers_late (take i xs)) empty)) (later i)
           (subst (λ c. IsStore st (m + suc i) (slice_index_or xs i plain_mem) (slice_index_or (z ∷ zs) c empty))
-          (count_yes is_delayed x (take i xs) d) (g (suc i) (omega (arith, l)) k))),
+          (count_yes answers_late x (take i xs) d) (g (suc i) (omega (arith, l)) k))),
     )
 
 module _ (p : Pipe) (names : ℕ → List ℕ) (ls : Locks) (n : Netlist) (mems : HasWholeMems p names ls n)
@@ -125,7 +126,7 @@ module _ (p : Pipe) (names : ℕ → List ℕ) (ls : Locks) (n : Netlist) (mems 
       small : Rattle.std.specs.Prelude.min (length (delayed_mems n)) (length image) ≡ length (delayed_mems n)
       small = let f = few in omega (arith, f)
 
-      found : (i : ℕ) → i < length p.mems → (mem_at p i).delayed ≡ true
+      found : (i : ℕ) → i < length p.mems → is_delayed (mem_at p i).kind ≡ true
           → slice_index_or (map as_store (take (length (delayed_mems n)) image)) (reply_place p i) empty ≡ as_store (slice_index_or image (net_place p i) [])
       found i l d =
           let low = reply_low p i l d in
@@ -143,7 +144,7 @@ module _ (p : Pipe) (names : ℕ → List ℕ) (ls : Locks) (n : Netlist) (mems 
   rest = drop (length (delayed_mems n)) image
 
   -- the part of a memory that answers at once
-  part_rest : (m : ℕ) → (mem_at p m).delayed ≡ false → slice_index_or rest (comb_place p m) [] ≡ slice_index_or image (net_place p m) []
+  part_rest : (m : ℕ) → is_delayed (mem_at p m).kind ≡ false → slice_index_or rest (comb_place p m) [] ≡ slice_index_or image (net_place p m) []
   part_rest m d =
       get_or-drop (length (delayed_mems n)) image (comb_place p m) []
       ∙ ap (λ k. slice_index_or image k []) (ap (λ k. k + comb_place p m) (delayed_as_many p names ls n mems) ∙ sym (place_comb p m d))
@@ -151,12 +152,12 @@ module _ (p : Pipe) (names : ℕ → List ℕ) (ls : Locks) (n : Netlist) (mems 
   module _ (vs : ℕ → View) (gates : Gates) (moves : ℕ → Signal) (laid : IsLaid p ls vs gates moves (circuit_of n))
       (begins : (m : ℕ) → is_locked p m ≡ true → StartsLock p ls (circuit_of n) (laid.owns m).from (laid.owns m).to m)
       (s : State) (suits : Suits (circuit_of n) s) (regs : s.regs ≡ map (λ (r : Reg). r.reset) n.regs) (arrays : s.arrays ≡ loaded_arrays n.arrays rest) where
-    array_there : (m : ℕ) → m < length p.mems → (mem_at p m).delayed ≡ false → comb_place p m < length n.arrays
+    array_there : (m : ℕ) → m < length p.mems → is_delayed (mem_at p m).kind ≡ false → comb_place p m < length n.arrays
     unfolding HasArray
     array_there m l d = subst (λ i. i < length n.arrays) (mems.in_order m l d) (laid.arrays m l d)
 
     -- its array holds it in front
-    array_holds : (m : ℕ) → m < length p.mems → (mem_at p m).delayed ≡ false
+    array_holds : (m : ℕ) → m < length p.mems → is_delayed (mem_at p m).kind ≡ false
         → slice_index_or s.arrays (ls.array m) []
         ≡ filled_words (slice_index_or n.arrays (comb_place p m) no_array).depth (slice_index_or image (net_place p m) [])
     array_holds m l d =
@@ -165,7 +166,7 @@ module _ (p : Pipe) (names : ℕ → List ℕ) (ls : Locks) (n : Netlist) (mems 
         ∙ loaded_at n.arrays rest (comb_place p m) (array_there m l d)
         ∙ ap (filled_words (slice_index_or n.arrays (comb_place p m) no_array).depth) (part_rest m d)
 
-    word_first : (m a : ℕ) → m < length p.mems → (mem_at p m).delayed ≡ false
+    word_first : (m a : ℕ) → m < length p.mems → is_delayed (mem_at p m).kind ≡ false
         → model.arrays_of (in_order p image) m a ≡ slice_index (slice_index_or s.arrays (ls.array m) []) a
     word_first m a l d =
         sym (part_first m l a)
@@ -174,7 +175,7 @@ module _ (p : Pipe) (names : ℕ → List ℕ) (ls : Locks) (n : Netlist) (mems 
         ((slice_index_or n.arrays (comb_place p m) no_array).depth - length (slice_index_or image (net_place p m) [])) a)
         ∙ ap (λ ws. slice_index ws a) (sym (array_holds m l d))
 
-    image_there : (m : ℕ) → is_locked p m ≡ true → (mem_at p m).delayed ≡ false
+    image_there : (m : ℕ) → is_locked p m ≡ true → is_delayed (mem_at p m).kind ≡ false
         → HasImage (ls.kind m) (Some (ls.array m)) s (slice_index_or image (net_place p m) [])
     unfolding array_depth
     image_there m e d =

@@ -1,6 +1,6 @@
 -- The environment of a netlist, which keeps the delayed memories, stands for the machine's arrays and requests.
 use Rattle.std.specs.Prelude.{◌≡◌, ℕ, suc, ◌^◌, ◌<◌, Bool, true, false, List, [], ◌∷◌, Option, Some, None, length, slice_index, ⊤}
-use Rattle.pdl_semantics.specs.Flat.{Mem}
+use Rattle.pdl_semantics.specs.Flat.{Mem, is_delayed}
 use Rattle.pdl_semantics.specs.Machine.{Request, NoRequest, Owned, Orphan, State, request_of}
 use Rattle.pdl_net.specs.Run.{Store}
 
@@ -28,4 +28,4 @@ StoreThen rest true st m x (y ∷ ys) = IsStore st m x y × rest ys
 abbrev pub AreStores : State → ℕ → List Mem → List Store → Type 0
 AreStores st m [] [] = ⊤
 AreStores st m [] (y ∷ ys) = ⊥
-AreStores st m (x ∷ xs) ys = StoreThen (AreStores st (suc m) xs) x.delayed st m x ys
+AreStores st m (x ∷ xs) ys = StoreThen (AreStores st (suc m) xs) (is_delayed x.kind) st m x ys

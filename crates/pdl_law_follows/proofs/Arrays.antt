@@ -7,6 +7,7 @@ use Rattle.std.proofs.lemmas.Bool.{false≢true}
 use Rattle.std.proofs.lemmas.List.Elements.{All-from_recursion, recursion_from_All}
 use Rattle.pdl_kit.specs.declared.mem_info.MemInfo.{MemInfo}
 use Rattle.pdl_semantics.specs.Tree.{LockDecl, Mem}
+use Rattle.pdl_semantics.specs.Flat.{is_delayed}
 use Rattle.pdl_rules.specs.Typed.{AreDistinct}
 use Rattle.pdl_rules.specs.Memories.{info_of}
 use Rattle.pdl_net.specs.declared.Array.{Array}
@@ -18,7 +19,7 @@ use Rattle.pdl_law_parts.proofs.WellFormedNames.{Among, among_one}
 use Rattle.pdl_law_parts.proofs.WellFormedPorts.{locked_named, found}
 use Rattle.pdl_law_parts.proofs.WellFormedMems.{Reaches, IsAddressed}
 use Rattle.pdl_law_parts.proofs.WellFormedArrays.{locked_all, locked_at, shallow, info_same, info_if}
-use Rattle.pdl_law_follows.specs.Memories.{is_delayed, delayed_of, comb_of}
+use Rattle.pdl_law_follows.specs.Memories.{answers_late, delayed_of, comb_of}
 use Rattle.pdl_law_follows.proofs.Memories.{among_some, some_among}
 
 -- ---- delayed memories
@@ -36,8 +37,8 @@ some_rec P test (m ∷ ms) h = at (test m) refl (some_rec P test ms (λ k a t. h
 
 -- what holds of each delayed memory, as ports tell it, holds of all of them
 pub delayed_all : (P : PortMem → Type 0) (ms : List Mem)
-    → ((m : Mem) → Among m ms → m.delayed ≡ true → P (port_mem m)) → All P (map port_mem (delayed_of ms))
-delayed_all P ms h = All-from_recursion P (map port_mem (delayed_of ms)) (some_rec P is_delayed ms h)
+    → ((m : Mem) → Among m ms → is_delayed m.kind ≡ true → P (port_mem m)) → All P (map port_mem (delayed_of ms))
+delayed_all P ms h = All-from_recursion P (map port_mem (delayed_of ms)) (some_rec P answers_late ms h)
 
 -- one of these holds what all do
 all_contained : {X : Type 0} (P : X → Type 0) (xs : List X) (x : X) → All P xs → Contains xs x → P x
@@ -50,17 +51,17 @@ contained (x ∷ xs) m (inl s) = (0, (omega arith), ap port_mem s)
 contained (x ∷ xs) m (inr a) = let r = contained xs m a in let l = r.1 in (suc r.0, (omega (arith, l)), r.2)
 
 -- a delayed memory is one of the delayed ones, as ports tell them
-pub delayed_contained : (ms : List Mem) (m : Mem) → Among m ms → m.delayed ≡ true → Contains (map port_mem (delayed_of ms)) (port_mem m)
-delayed_contained ms m a d = contained (delayed_of ms) m (some_among is_delayed ms m a d)
+pub delayed_contained : (ms : List Mem) (m : Mem) → Among m ms → is_delayed m.kind ≡ true → Contains (map port_mem (delayed_of ms)) (port_mem m)
+delayed_contained ms m a d = contained (delayed_of ms) m (some_among answers_late ms m a d)
 
 -- ---- the array of a memory
 
 -- an array of a memory that answers at once is one of a pipe
 pub pipe_array : (ms : List Mem) (a : Array) (m : Mem) → AreDistinct ms → ((y : Mem) → Among y ms → Reaches y)
-    → IsAddressed m → Among m ms → m.delayed ≡ false → (is_some m.lock ≡ false → a.writes ≡ [])
+    → IsAddressed m → Among m ms → is_delayed m.kind ≡ false → (is_some m.lock ≡ false → a.writes ≡ [])
     → shape_of a ≡ shape_of_mem m → IsPipeArray (map port_mem (delayed_of ms)) (locked_of ms) a
 pipe_array ms a m distinct reach size among at_once free shape = record {
-  inside = delayed_all (λ l. l.name ≢ a.name) ms (λ y h d e. false≢true (sym at_once ∙ ap (λ (x : Mem). x.delayed) (sym (same y h e)) ∙ d));
+  inside = delayed_all (λ l. l.name ≢ a.name) ms (λ y h d e. false≢true (sym at_once ∙ ap (λ (x : Mem). is_delayed x.kind) (sym (same y h e)) ∙ d));
   width = locked_all (λ l. l.name ≡ a.name → a.width ≡ l.width) ms (λ y h e. width ∙ ap (λ (x : Mem). x.width.value) (sym (same y h e)));
   depth =
       locked_all (λ l. l.name ≡ a.name → (a.depth ≡ 2 ^ l.bits) ⊎ (a.depth ≡ 2 * 2 ^ l.bits)) ms
@@ -107,15 +108,15 @@ agree_all ms distinct d l h i e =
 -- ---- as they are told
 
 delayed_told : (ms : List Mem) → ((m : Mem) → Among m ms → Reaches m)
-    → ((m : Mem) → Among m ms → m.delayed ≡ true) → map info_of ms ≡ map delayed_info (map port_mem ms)
+    → ((m : Mem) → Among m ms → is_delayed m.kind ≡ true) → map info_of ms ≡ map delayed_info (map port_mem ms)
 delayed_told [] r d = refl
 delayed_told (m ∷ ms) r d =
     ap₂ (λ (x : MemInfo) xs. x ∷ xs)
-    (info_same m.name.name m.name.name m.width.value m.width.value m.depth.value _ m.delayed true refl refl (sym (r m (inl refl))) (d m (inl refl)))
+    (info_same m.name.name m.name.name m.width.value m.width.value m.depth.value _ (is_delayed m.kind) true refl refl (sym (r m (inl refl))) (d m (inl refl)))
     (delayed_told ms (λ k a. r k (inr a)) (λ k a. d k (inr a)))
 
 infos_from : (all : List Mem) (ars : List Array) (ms : List Mem) → AreDistinct all
-    → ((m : Mem) → Among m all → Reaches m) → ((m : Mem) → Among m ms → m.delayed ≡ false)
+    → ((m : Mem) → Among m all → Reaches m) → ((m : Mem) → Among m ms → is_delayed m.kind ≡ false)
     → ((m : Mem) → Among m ms → Among m all) → map shape_of ars ≡ map shape_of_mem ms
     → map info_of ms ≡ map (λ (a : Array). comb_info a (locked_named all a.name)) ars
 infos_from all [] [] h r d i e = refl
@@ -137,7 +138,7 @@ pub infos_same : (ars : List Array) (ms : List Mem) → AreDistinct ms → ((m :
     ++ map (λ (a : Array). comb_info a (locked_named ms a.name)) ars
 infos_same ars ms h r e =
     ap₂ (λ (xs ys : List MemInfo). xs ++ ys)
-    (delayed_told (delayed_of ms) (λ m a. r m (among_some is_delayed ms m a).0) (λ m a. (among_some is_delayed ms m a).1))
+    (delayed_told (delayed_of ms) (λ m a. r m (among_some answers_late ms m a).0) (λ m a. (among_some answers_late ms m a).1))
     (infos_from ms ars (comb_of ms) h r
-    (λ m a. Rattle.pdl_law_follows.proofs.Memories.comb_delayed m (among_some Rattle.pdl_rules.specs.Refusal.is_comb ms m a).1)
-    (λ m a. (among_some Rattle.pdl_rules.specs.Refusal.is_comb ms m a).0) e)
+    (λ m a. Rattle.pdl_law_follows.proofs.Memories.comb_delayed m (among_some Rattle.pdl_rules.specs.Refusal.answers_at_once ms m a).1)
+    (λ m a. (among_some Rattle.pdl_rules.specs.Refusal.answers_at_once ms m a).0) e)

@@ -5,12 +5,12 @@ use Rattle.std.proofs.lemmas.List.{length-map, length-append, get_or_append_left
 use Rattle.std.proofs.lemmas.List.Elements.{filter-append}
 use Rattle.pdl_kit.specs.declared.mem_info.MemInfo.{MemInfo}
 use Rattle.pdl_semantics.specs.Tree.{Mem}
-use Rattle.pdl_semantics.specs.Flat.{Pipe}
+use Rattle.pdl_semantics.specs.Flat.{Pipe, is_delayed}
 use Rattle.pdl_semantics.specs.Flatten.{mems_of}
 use Rattle.pdl_semantics.specs.Stages.{mem_at, plain_mem}
 use Rattle.pdl_source_paths.proofs.Memories.{mems_length}
 use Rattle.pdl_rules.specs.Memories.{info_of}
-use Rattle.pdl_rules.specs.Refusal.{is_comb}
+use Rattle.pdl_rules.specs.Refusal.{answers_at_once}
 use Rattle.pdl_net.specs.declared.Netlist.{Netlist}
 use Rattle.pdl_law_parts.specs.Walk.{Locks}
 use Rattle.pdl_law_parts.specs.Places.{delayed_count, comb_place, net_place}
@@ -18,7 +18,7 @@ use Rattle.pdl_law_parts.specs.Declared.{mem_names}
 use Rattle.pdl_law_sides.specs.WholeNetlist.{names_delayed, HasWholeMems}
 use Rattle.pdl_law.proofs.Places as places
 use Rattle.pdl_law.proofs.Places.{fewer_before, place_delayed, place_comb}
-use Rattle.pdl_law_follows.specs.Memories.{is_delayed, delayed_of, comb_of, net_infos}
+use Rattle.pdl_law_follows.specs.Memories.{answers_late, delayed_of, comb_of, net_infos}
 use Rattle.pdl_law_follows.proofs.Memories.{some_count, some_at, told_at, told_delayed, all_told, none_told, names_told, as_many}
 
 -- an element after others
@@ -30,35 +30,36 @@ get_or_after (x ∷ xs) ys k d =
 -- the memory of a number stands at its place
 module _ (ms : List Mem) (p : Pipe) (same : p.mems ≡ mems_of ms) where
   comb_count : length (delayed_of ms) ≡ delayed_count p
-  comb_count = some_count is_delayed places.is_delayed (λ m. refl) ms ∙ ap (count_by places.is_delayed) (sym same)
+  comb_count = some_count answers_late places.answers_late (λ m. refl) ms ∙ ap (count_by places.answers_late) (sym same)
 
   low_here : (m : ℕ) → m < length p.mems → m < length ms
   low_here m l = let e = ap length same ∙ mems_length ms in omega (arith, l, e)
 
   -- at the place of memory m the netlist's memories have what is told of memory m
   pub told_here : (m : ℕ) (d : MemInfo) → m < length p.mems → slice_index_or (net_infos ms) (net_place p m) d ≡ slice_index_or (map info_of ms) m d
-  told_here m d l = at (mem_at p m).delayed refl
+  told_here m d l = at (is_delayed (mem_at p m).kind) refl
     where
-      delayed_low : (mem_at p m).delayed ≡ true → count_by places.is_delayed (take m p.mems) < length (map info_of (delayed_of ms))
+      delayed_low : is_delayed (mem_at p m).kind ≡ true → count_by places.answers_late (take m p.mems) < length (map info_of (delayed_of ms))
       delayed_low e =
-          let h = fewer_before places.is_delayed p.mems m l e in
+          let h = fewer_before places.answers_late p.mems m l e in
           let count = comb_count in
           let many = length-map (delayed_of ms) info_of in
           omega (arith, h, count, many)
 
-      at : (b : Bool) → (mem_at p m).delayed ≡ b → slice_index_or (net_infos ms) (net_place p m) d ≡ slice_index_or (map info_of ms) m d
+      at : (b : Bool) → is_delayed (mem_at p m).kind ≡ b → slice_index_or (net_infos ms) (net_place p m) d ≡ slice_index_or (map info_of ms) m d
       at true e =
           ap (λ k. slice_index_or (net_infos ms) k d) (place_delayed p m e)
-          ∙ get_or_append_left (map info_of (delayed_of ms)) (map info_of (comb_of ms)) d (count_by places.is_delayed (take m p.mems)) (delayed_low e)
-          ∙ ap (λ ys. slice_index_or (map info_of (delayed_of ms)) (count_by places.is_delayed (take m ys)) d) same
-          ∙ some_at is_delayed places.is_delayed (λ x. refl) ms m d (low_here m l) (ap (λ ys. (slice_index_or ys m plain_mem).delayed) (sym same) ∙ e)
+          ∙ get_or_append_left (map info_of (delayed_of ms)) (map info_of (comb_of ms)) d (count_by places.answers_late (take m p.mems)) (delayed_low e)
+          ∙ ap (λ ys. slice_index_or (map info_of (delayed_of ms)) (count_by places.answers_late (take m ys)) d) same
+          ∙ some_at answers_late places.answers_late (λ x. refl) ms m d (low_here m l)
+          (ap (λ ys. is_delayed (slice_index_or ys m plain_mem).kind) (sym same) ∙ e)
       at false e =
           ap (λ k. slice_index_or (net_infos ms) k d)
           (place_comb p m e ∙ ap (λ k. k + comb_place p m) (sym comb_count ∙ sym (length-map (delayed_of ms) info_of)))
           ∙ get_or_after (map info_of (delayed_of ms)) (map info_of (comb_of ms)) (comb_place p m) d
-          ∙ ap (λ ys. slice_index_or (map info_of (comb_of ms)) (count_by places.is_comb (take m ys)) d) same
-          ∙ some_at is_comb places.is_comb (λ x. by x.delayed) ms m d (low_here m l)
-          (ap (λ ys. if (slice_index_or ys m plain_mem).delayed then false else true) (sym same) ∙ ap (λ b. if b then false else true) e)
+          ∙ ap (λ ys. slice_index_or (map info_of (comb_of ms)) (count_by places.answers_at_once (take m ys)) d) same
+          ∙ some_at answers_at_once places.answers_at_once (λ x. by (is_delayed x.kind)) ms m d (low_here m l)
+          (ap (λ ys. if is_delayed (slice_index_or ys m plain_mem).kind then false else true) (sym same) ∙ ap (λ b. if b then false else true) e)
         where
           by : (b : Bool) → (if b then false else true) ≡ Rattle.std.proofs.Common.not b
           by true = refl
@@ -67,7 +68,7 @@ module _ (ms : List Mem) (p : Pipe) (same : p.mems ≡ mems_of ms) where
 -- a netlist with a pipe's memories has each at its place, where the arrays are in the memories' order
 pub has_mems : (p : Pipe) (ms : List Mem)
     → p.mems ≡ mems_of ms → (ls : Locks) (n : Netlist)
-    → ((m : ℕ) → m < length p.mems → (mem_at p m).delayed ≡ false → ls.array m ≡ comb_place p m) → n.mems ≡ net_infos ms
+    → ((m : ℕ) → m < length p.mems → is_delayed (mem_at p m).kind ≡ false → ls.array m ≡ comb_place p m) → n.mems ≡ net_infos ms
     → HasWholeMems p (mem_names ms) ls n
 has_mems p ms same ls n in_order mems = record {
   named =
@@ -94,7 +95,7 @@ has_mems p ms same ls n in_order mems = record {
       ∙ ap (λ ys. (slice_index_or ys m plain_mem).width) (sym same);
   delayed =
       λ m d l. ap (λ (i : MemInfo). i.delayed) (place m d l) ∙ (told_at ms m d (low_here ms p same m l)).2
-      ∙ ap (λ ys. (slice_index_or ys m plain_mem).delayed) (sym same);
+      ∙ ap (λ ys. is_delayed (slice_index_or ys m plain_mem).kind) (sym same);
 }
   where
     place : (m : ℕ) (d : MemInfo) → m < length p.mems → slice_index_or n.mems (net_place p m) d ≡ slice_index_or (map info_of ms) m d

@@ -24,7 +24,7 @@ use Rattle.pdl_law_parts.proofs.WellFormedNames.{Among}
 use Rattle.pdl_law_parts.proofs.LinesColumns.{declared_found}
 use Rattle.pdl_law_sides.specs.WholeNetlist.{in_order}
 use Rattle.pdl_law.proofs.Places.{place_low}
-use Rattle.pdl_law_follows.specs.Memories.{is_delayed, delayed_of, comb_of, net_infos, taken_in_order}
+use Rattle.pdl_law_follows.specs.Memories.{answers_late, delayed_of, comb_of, net_infos, taken_in_order}
 use Rattle.pdl_law_follows.proofs.Memories.{none_named, as_many}
 use Rattle.pdl_law_follows.proofs.HasMems.{told_here}
 use Rattle.pdl_law_follows.proofs.LinesPorts.{found_right, none_found, net_found}
@@ -52,8 +52,8 @@ same_found ms h x = by_port (net_infos ms) x ∙ at (is_memory ms x) refl ∙ sy
   where
     at : (b : Bool) → is_memory ms x ≡ b → commit_mem (net_infos ms) (codes "c_" ++ x) ≡ commit_mem (infos_of ms) (codes "c_" ++ x)
     at false e =
-        found_right (map info_of (delayed_of ms)) (map info_of (comb_of ms)) (codes "c_" ++ x) (none_found (delayed_of ms) x (none_named is_delayed ms x e))
-        ∙ none_found (comb_of ms) x (none_named Rattle.pdl_rules.specs.Refusal.is_comb ms x e) ∙ sym (none_found ms x e)
+        found_right (map info_of (delayed_of ms)) (map info_of (comb_of ms)) (codes "c_" ++ x) (none_found (delayed_of ms) x (none_named answers_late ms x e))
+        ∙ none_found (comb_of ms) x (none_named Rattle.pdl_rules.specs.Refusal.answers_at_once ms x e) ∙ sym (none_found ms x e)
     at true e =
         let m = named_among ms x e in
         subst (λ y. commit_mem (net_infos ms) (codes "c_" ++ y) ≡ commit_mem (infos_of ms) (codes "c_" ++ y)) m.2

@@ -11,9 +11,11 @@ use Rattle.pdl_semantics.specs.Flat
 use Rattle.pdl_semantics.specs.Flatten.{flat, mems_of}
 use Rattle.pdl_semantics.specs.Machine.{State}
 use Rattle.pdl_semantics.specs.Cycle.{Ports, Turn, turns, turns_from, first, cycle, state_after, for_mems}
-use Rattle.pdl_semantics.specs.Lines.{Put, cycle_lines, lines_from, lines, columns, put_of, puts_in, turn_cycle, turn_cycles}
+use Rattle.pdl_semantics.specs.SecondWrites.{all_twice}
+use Rattle.pdl_semantics.specs.Lines.{Put, cycle_lines, lines_from, lines, columns, puts_for, puts_in, turn_cycle, turn_cycles}
 use Rattle.pdl_rules.specs.Typed.{AreDistinct}
 use Rattle.pdl_rules.specs.Refusal.{KeepsRules}
+use Rattle.pdl_rules.specs.Unbuilt.{IsBuilt}
 use Rattle.pdl_rules.specs.Memories.{info_of}
 use Rattle.pdl_source_paths.specs.Source.{is_source, is_named}
 use Rattle.pdl_source_paths.proofs.Memories.{mems_length}
@@ -22,13 +24,13 @@ use Rattle.pdl_net.specs.Circuit.{circuit_of, outputs_of}
 use Rattle.pdl_net.specs.Run.{Shown, nports, commit_of, port_value}
 use Rattle.pdl_machine_facts.specs.Ports.{stage_values, all_commit_values}
 use Rattle.pdl_machine_facts.specs.Cycle.{ports_of, IsByStages}
-use Rattle.pdl_machine_facts.specs.Use.{IsInUse}
+use Rattle.pdl_law_parts.specs.Served.{IsServed}
 use Rattle.pdl_law_parts.specs.Declared.{port_mem, locked_of}
 use Rattle.pdl_law_parts.specs.Runs.{Seen, seen_of, column_of, puts_of, output_count, cycle_by, cycle_of, commit_mems}
 use Rattle.pdl_law_parts.proofs.WellFormedPorts.{stage_names}
-use Rattle.pdl_law_parts.proofs.LinesMachine.{AreCommits, IsShaped, shaped}
+use Rattle.pdl_law_parts.proofs.LinesMachine.{AreCommits, none_twice, IsShaped, shaped}
 use Rattle.pdl_law_parts.proofs.LinesNames.{name_of_output}
-use Rattle.pdl_law_parts.proofs.LinesPorts.{named_value, port_is, past_stages, stages_same, found, put_in, put_cases, same_put, each_found}
+use Rattle.pdl_law_parts.proofs.LinesPorts.{named_value, port_is, past_stages, stages_same, found, put_in, put_cases, same_put, found_short, each_found}
 use Rattle.pdl_law_parts.proofs.LinesColumns.{AreFound, locked_infos, locked_lines}
 use Rattle.pdl_law_parts.proofs.LinesEnds.{map_same, bit_one, last_two, end_of, same_end}
 use Rattle.pdl_law_parts.proofs.LinesEnds as line
@@ -59,7 +61,7 @@ mems_long : {X : Type 0} (f : ℕ → X) (k : ℕ) (xs : List Flat.Mem) → leng
 mems_long f k [] = refl
 mems_long f k (x ∷ xs) = ap suc (mems_long f (suc k) xs)
 
-has_ports : (p : Pipe) (st : State) (bits : List Bool) → IsByStages p st bits → IsInUse p st bits → HasPorts p (ports_of p st bits)
+has_ports : (p : Pipe) (st : State) (bits : List Bool) → IsByStages p st bits → IsServed p st bits → HasPorts p (ports_of p st bits)
 has_ports p st bits by used = record { shape = shaped p st bits by used; requests = mems_long _ 0 p.mems }
 
 turns_have : (p : Pipe) (image : Arrays)
@@ -105,9 +107,11 @@ module _ (p : Pipe) (ms : List Mem) (same : p.mems ≡ mems_of ms) (n : Netlist)
 
     values : whole_values p o ≡ stage_values o.valid o.moves ++ rest
     values =
-        ap
+        ap (λ ts. stage_values o.valid o.moves
+        ++ (all_commit_values ts p.mems o.commits ++ (all_request_values p.mems o.requests ++ bit o.ended ∷ bit o.squash ∷ []))) has.shape.single
+        ∙ ap
         (λ (l : List Flat.Mem). stage_values o.valid o.moves
-        ++ (all_commit_values l o.commits ++ (all_request_values l o.requests ++ bit o.ended ∷ bit o.squash ∷ []))) same
+        ++ (all_commit_values (none_twice l) l o.commits ++ (all_request_values l o.requests ++ bit o.ended ∷ bit o.squash ∷ []))) same
 
     count : length (whole_values p o) ≡ length (outputs_of (circuit_of n))
     count =
@@ -156,10 +160,10 @@ module _ (p : Pipe) (ms : List Mem) (same : p.mems ≡ mems_of ms) (n : Netlist)
     by_ports m = puts_of (commit_of (circuit_of n) (whole_values p o) m.name)
 
     abbrev by_turn : MemInfo → List Put
-    by_turn m = put_of (found ms o.commits m.name)
+    by_turn m = puts_for (found ms o.commits m.name)
 
     by_name : (m : MemInfo) → by_ports m ≡ by_turn m
-    by_name m = ap puts_of (commit_found m.name) ∙ same_put (found ms o.commits m.name)
+    by_name m = ap puts_of (commit_found m.name) ∙ same_put (found ms o.commits m.name) (found_short ms o.commits m.name commits)
 
     -- and memory by memory
     commits_are : map by_ports (map info_of ms) ≡ puts_in o.commits
@@ -180,16 +184,18 @@ module _ (p : Pipe) (ms : List Mem) (same : p.mems ≡ mems_of ms) (n : Netlist)
         (last_two front (bit o.ended) (bit o.squash) (output_count n) (ap length ends ∙ count))
       where
         front : List ℕ
-        front = stage_values o.valid o.moves ++ (all_commit_values p.mems o.commits ++ all_request_values p.mems o.requests)
+        front = stage_values o.valid o.moves ++ (all_commit_values (all_twice p.stmts 0 p.mems) p.mems o.commits ++ all_request_values p.mems o.requests)
 
-        ends : (stage_values o.valid o.moves ++ (all_commit_values p.mems o.commits ++ all_request_values p.mems o.requests)) ++ bit o.ended ∷ bit o.squash ∷ []
+        ends : (stage_values o.valid o.moves
+            ++ (all_commit_values (all_twice p.stmts 0 p.mems) p.mems o.commits ++ all_request_values p.mems o.requests)) ++ bit o.ended ∷ bit o.squash ∷ []
             ≡ whole_values p o
         ends =
             append_assoc (stage_values o.valid o.moves)
-            (all_commit_values p.mems o.commits ++ all_request_values p.mems o.requests)
+            (all_commit_values (all_twice p.stmts 0 p.mems) p.mems o.commits ++ all_request_values p.mems o.requests)
             (bit o.ended ∷ bit o.squash ∷ [])
             ∙ ap (λ l. stage_values o.valid o.moves ++ l)
-            (append_assoc (all_commit_values p.mems o.commits) (all_request_values p.mems o.requests) (bit o.ended ∷ bit o.squash ∷ []))
+            (append_assoc (all_commit_values (all_twice p.stmts 0 p.mems) p.mems o.commits) (all_request_values p.mems o.requests)
+            (bit o.ended ∷ bit o.squash ∷ []))
 
   -- what is seen of a cycle is the machine's
   cycle_is : (x : Shown) (t : Turn) → HasPorts p t.ports → seen_of x ≡ whole_had p t → cycle_by n (map info_of ms) x ≡ turn_cycle t
@@ -246,13 +252,13 @@ module _ (p : Pipe) (ms : List Mem) (same : p.mems ≡ mems_of ms) (n : Netlist)
       (same_end n (commit_mems n) (map info_of ms) xs ∙ ap end_of (cycles_are xs ts h e))
 
 -- a netlist that follows an accepted source has the turns of its machine
-pub shows_turns : (p : tree.Pipe) → KeepsRules p → is_source p ≡ true → is_named p ≡ true → (n : Netlist) → Follows p n → ShowsTurns p n
-shows_turns p rules source named n follows =
+pub shows_turns : (p : tree.Pipe) → KeepsRules p → IsBuilt p → is_source p ≡ true → is_named p ≡ true → (n : Netlist) → Follows p n → ShowsTurns p n
+shows_turns p rules built source named n follows =
     let distinct = (declared p rules).distinct in
     let names = outputs_are (circuit_of n) (length (flat p).stages) (map port_mem (delayed_of p.mems)) (locked_of p.mems) follows.ports in
     let found = subst (AreFound p.mems) (sym follows.mems) (net_found p.mems distinct) in
     let have : (image : List (List ℕ)) (schedule : List (List Bool)) → AllHave (flat p) (turns (flat p) (arrays_of image) schedule) =
-    λ image schedule. turns_have (flat p) (arrays_of image) (known_source p rules source named (arrays_of image)) []
+    λ image schedule. turns_have (flat p) (arrays_of image) (known_source p rules built source named (arrays_of image)) []
     (first (flat p) (arrays_of image)) schedule refl in
     record {
       cycles =

@@ -5,6 +5,7 @@ use Rattle.std.specs.Option.{is_some}
 use Rattle.std.proofs.lemmas.Bool.{or_parts}
 use Rattle.pdl_kit.specs.declared.mem_info.MemInfo.{MemInfo}
 use Rattle.pdl_semantics.specs.Tree.{Mem}
+use Rattle.pdl_semantics.specs.Flat.{is_delayed}
 use Rattle.pdl_semantics.specs.Flatten.{mems_of, flat_lock}
 use Rattle.pdl_semantics.specs.Cycle.{PortWrite}
 use Rattle.pdl_rules.specs.Typed.{is_memory, AreDistinct}
@@ -16,12 +17,12 @@ use Rattle.pdl_machine_facts.specs.Ports.{commit_values, all_commit_values}
 use Rattle.pdl_law_parts.specs.Declared.{port_mem, locked_of}
 use Rattle.pdl_law_parts.specs.Runs.{commit_mem, commit_mems}
 use Rattle.pdl_law_parts.proofs.WellFormedNames.{Among, name_turned, among_other}
-use Rattle.pdl_law_parts.proofs.LinesMachine.{AreCommits}
+use Rattle.pdl_law_parts.proofs.LinesMachine.{AreCommits, none_twice}
 use Rattle.pdl_law_parts.proofs.LinesNames.{name_of_output}
 use Rattle.pdl_law_parts.proofs.LinesPorts.{named_value, found, flag_of, addr_of, word_of, commit_if, commit_is, if_both, if_none}
 use Rattle.pdl_law_parts.proofs.LinesColumns.{locked_infos, AreFound, declared_found, with_port, skipped, none_of_stages, one_of_locked, by_names}
 use Rattle.pdl_law_sides.specs.WholeNetlist.{request_values, all_request_values}
-use Rattle.pdl_law_follows.specs.Memories.{is_delayed, delayed_of, comb_of, net_infos}
+use Rattle.pdl_law_follows.specs.Memories.{answers_late, delayed_of, comb_of, net_infos}
 use Rattle.pdl_law_follows.proofs.Memories.{none_named, distinct_some, some_among}
 use Rattle.pdl_law_follows.proofs.PortNames.{commit_names, request_names, last_names, output_names}
 
@@ -31,21 +32,21 @@ use Rattle.pdl_law_follows.proofs.PortNames.{commit_names, request_names, last_n
 abbrev names_if : Bool → Mem → List Mem → List (List ℕ) → List (List ℕ)
 names_if b m ms names = commit_names ((if b then port_mem m ∷ [] else []) ++ locked_of ms) names
 
-flag_step : (m : Mem) (ms : List Mem) (names : List (List ℕ)) (b : Bool) (e rest : Option PortWrite) (vals : List ℕ) (x : List ℕ)
+flag_step : (m : Mem) (ms : List Mem) (names : List (List ℕ)) (b : Bool) (e rest : List PortWrite) (vals : List ℕ) (x : List ℕ)
     → named_value (commit_names (locked_of ms) names) vals (codes "c_" ++ x) ≡ flag_of rest
     → named_value (names_if b m ms names) (commit_if b e ++ vals) (codes "c_" ++ x)
     ≡ flag_of (if bytes_eq m.name.name x && b then e else rest)
 flag_step m ms names true e rest vals x h = ap (λ n. if bytes_eq m.name.name x then flag_of e else n) h ∙ if_both flag_of (bytes_eq m.name.name x) e rest
 flag_step m ms names false e rest vals x h = h ∙ if_none flag_of (bytes_eq m.name.name x) e rest
 
-addr_step : (m : Mem) (ms : List Mem) (names : List (List ℕ)) (b : Bool) (e rest : Option PortWrite) (vals : List ℕ) (x : List ℕ)
+addr_step : (m : Mem) (ms : List Mem) (names : List (List ℕ)) (b : Bool) (e rest : List PortWrite) (vals : List ℕ) (x : List ℕ)
     → named_value (commit_names (locked_of ms) names) vals (codes "ca_" ++ x) ≡ addr_of rest
     → named_value (names_if b m ms names) (commit_if b e ++ vals) (codes "ca_" ++ x)
     ≡ addr_of (if bytes_eq m.name.name x && b then e else rest)
 addr_step m ms names true e rest vals x h = ap (λ n. if bytes_eq m.name.name x then addr_of e else n) h ∙ if_both addr_of (bytes_eq m.name.name x) e rest
 addr_step m ms names false e rest vals x h = h ∙ if_none addr_of (bytes_eq m.name.name x) e rest
 
-word_step : (m : Mem) (ms : List Mem) (names : List (List ℕ)) (b : Bool) (e rest : Option PortWrite) (vals : List ℕ) (x : List ℕ)
+word_step : (m : Mem) (ms : List Mem) (names : List (List ℕ)) (b : Bool) (e rest : List PortWrite) (vals : List ℕ) (x : List ℕ)
     → named_value (commit_names (locked_of ms) names) vals (codes "cd_" ++ x) ≡ word_of rest
     → named_value (names_if b m ms names) (commit_if b e ++ vals) (codes "cd_" ++ x)
     ≡ word_of (if bytes_eq m.name.name x && b then e else rest)
@@ -53,17 +54,18 @@ word_step m ms names true e rest vals x h = ap (λ n. if bytes_eq m.name.name x 
 word_step m ms names false e rest vals x h = h ∙ if_none word_of (bytes_eq m.name.name x) e rest
 
 -- the values of the ports of the memories' commits, and others after them
-abbrev pub commits_then : List Mem → List (Option PortWrite) → List ℕ → List ℕ
-commits_then ms es vals = all_commit_values (mems_of ms) es ++ vals
+abbrev pub commits_then : List Mem → List (List PortWrite) → List ℕ → List ℕ
+commits_then ms es vals = all_commit_values (none_twice (mems_of ms)) (mems_of ms) es ++ vals
 
 -- those of the first memory come first
-commits_first : (m : Mem) (ms : List Mem) (e : Option PortWrite) (es : List (Option PortWrite)) (vals : List ℕ)
+commits_first : (m : Mem) (ms : List Mem) (e : List PortWrite) (es : List (List PortWrite)) (vals : List ℕ)
     → commits_then (m ∷ ms) (e ∷ es) vals ≡ commit_if (is_some m.lock) e ++ commits_then ms es vals
 commits_first m ms e es vals =
-    append_assoc (commit_values (flat_lock m.lock) e) (all_commit_values (mems_of ms) es) vals ∙ ap (λ l. l ++ commits_then ms es vals) (commit_is m.lock e)
+    append_assoc (commit_values (flat_lock m.lock) false e) (all_commit_values (none_twice (mems_of ms)) (mems_of ms) es) vals
+    ∙ ap (λ l. l ++ commits_then ms es vals) (commit_is m.lock e)
 
 -- the port `c_` of a name tells whether that memory commits, where the ports after have 0 for the name
-pub flag_is : (ms : List Mem) (es : List (Option PortWrite)) (names : List (List ℕ)) (vals x : List ℕ)
+pub flag_is : (ms : List Mem) (es : List (List PortWrite)) (names : List (List ℕ)) (vals x : List ℕ)
     → AreCommits (mems_of ms) es → named_value names vals (codes "c_" ++ x) ≡ 0
     → named_value (commit_names (locked_of ms) names) (commits_then ms es vals) (codes "c_" ++ x) ≡ flag_of (found ms es x)
 flag_is [] [] names vals x h z = z
@@ -71,10 +73,10 @@ flag_is [] (e ∷ es) names vals x h z = absurd h
 flag_is (m ∷ ms) [] names vals x h z = absurd h
 flag_is (m ∷ ms) (e ∷ es) names vals x h z =
     ap (λ l. named_value (commit_names (locked_of (m ∷ ms)) names) l (codes "c_" ++ x)) (commits_first m ms e es vals)
-    ∙ flag_step m ms names (is_some m.lock) e (found ms es x) (commits_then ms es vals) x (flag_is ms es names vals x h.1 z)
+    ∙ flag_step m ms names (is_some m.lock) e (found ms es x) (commits_then ms es vals) x (flag_is ms es names vals x h.2 z)
 
 -- the port `ca_` of a name tells that memory's commit address, where the ports after have 0 for the name
-pub addr_is : (ms : List Mem) (es : List (Option PortWrite)) (names : List (List ℕ)) (vals x : List ℕ)
+pub addr_is : (ms : List Mem) (es : List (List PortWrite)) (names : List (List ℕ)) (vals x : List ℕ)
     → AreCommits (mems_of ms) es → named_value names vals (codes "ca_" ++ x) ≡ 0
     → named_value (commit_names (locked_of ms) names) (commits_then ms es vals) (codes "ca_" ++ x) ≡ addr_of (found ms es x)
 addr_is [] [] names vals x h z = z
@@ -82,10 +84,10 @@ addr_is [] (e ∷ es) names vals x h z = absurd h
 addr_is (m ∷ ms) [] names vals x h z = absurd h
 addr_is (m ∷ ms) (e ∷ es) names vals x h z =
     ap (λ l. named_value (commit_names (locked_of (m ∷ ms)) names) l (codes "ca_" ++ x)) (commits_first m ms e es vals)
-    ∙ addr_step m ms names (is_some m.lock) e (found ms es x) (commits_then ms es vals) x (addr_is ms es names vals x h.1 z)
+    ∙ addr_step m ms names (is_some m.lock) e (found ms es x) (commits_then ms es vals) x (addr_is ms es names vals x h.2 z)
 
 -- the port `cd_` of a name tells that memory's committed word, where the ports after have 0 for the name
-pub word_is : (ms : List Mem) (es : List (Option PortWrite)) (names : List (List ℕ)) (vals x : List ℕ)
+pub word_is : (ms : List Mem) (es : List (List PortWrite)) (names : List (List ℕ)) (vals x : List ℕ)
     → AreCommits (mems_of ms) es → named_value names vals (codes "cd_" ++ x) ≡ 0
     → named_value (commit_names (locked_of ms) names) (commits_then ms es vals) (codes "cd_" ++ x) ≡ word_of (found ms es x)
 word_is [] [] names vals x h z = z
@@ -93,24 +95,24 @@ word_is [] (e ∷ es) names vals x h z = absurd h
 word_is (m ∷ ms) [] names vals x h z = absurd h
 word_is (m ∷ ms) (e ∷ es) names vals x h z =
     ap (λ l. named_value (commit_names (locked_of (m ∷ ms)) names) l (codes "cd_" ++ x)) (commits_first m ms e es vals)
-    ∙ word_step m ms names (is_some m.lock) e (found ms es x) (commits_then ms es vals) x (word_is ms es names vals x h.1 z)
+    ∙ word_step m ms names (is_some m.lock) e (found ms es x) (commits_then ms es vals) x (word_is ms es names vals x h.2 z)
 
 -- as many values as names
-same_step : (b : Bool) (m : Mem) (ms : List Mem) (names : List (List ℕ)) (e : Option PortWrite) (vals : List ℕ)
+same_step : (b : Bool) (m : Mem) (ms : List Mem) (names : List (List ℕ)) (e : List PortWrite) (vals : List ℕ)
     → length vals ≡ length (commit_names (locked_of ms) names)
     → length (commit_if b e ++ vals) ≡ length (names_if b m ms names)
 same_step true m ms names e vals h = ap (λ i. suc (suc (suc i))) h
 same_step false m ms names e vals h = h
 
 -- with the commit ports before others, there are as many values as names
-pub commits_same : (ms : List Mem) (es : List (Option PortWrite)) (names : List (List ℕ)) (vals : List ℕ)
+pub commits_same : (ms : List Mem) (es : List (List PortWrite)) (names : List (List ℕ)) (vals : List ℕ)
     → AreCommits (mems_of ms) es → length vals ≡ length names
     → length (commits_then ms es vals) ≡ length (commit_names (locked_of ms) names)
 commits_same [] [] names vals h l = l
 commits_same [] (e ∷ es) names vals h l = absurd h
 commits_same (m ∷ ms) [] names vals h l = absurd h
 commits_same (m ∷ ms) (e ∷ es) names vals h l =
-    ap length (commits_first m ms e es vals) ∙ same_step (is_some m.lock) m ms names e (commits_then ms es vals) (commits_same ms es names vals h.1 l)
+    ap length (commits_first m ms e es vals) ∙ same_step (is_some m.lock) m ms names e (commits_then ms es vals) (commits_same ms es names vals h.2 l)
 
 -- ---- requests
 
@@ -126,7 +128,7 @@ pub past_requests : (x : List ℕ)
 past_requests x f g [] [] names vals l = refl
 past_requests x f g [] (q ∷ qs) names vals l = absurd (cc l)
 past_requests x f g (m ∷ ms) [] names vals l = absurd (cc l)
-past_requests x f g (m ∷ ms) (q ∷ qs) names vals l = at m.delayed q (past_requests x f g ms qs names vals (omega (arith, l)))
+past_requests x f g (m ∷ ms) (q ∷ qs) names vals l = at (is_delayed m.kind) q (past_requests x f g ms qs names vals (omega (arith, l)))
   where
     pair : (a b : ℕ) → named_value (request_names (map port_mem (delayed_of ms)) names) (requests_then ms qs vals) x ≡ named_value names vals x
         → (if bytes_eq (codes "q_" ++ m.name.name) x
@@ -157,7 +159,7 @@ pub requests_same : (ms : List Mem) (qs : List (Option ℕ)) (names : List (List
 requests_same [] [] names vals l e = e
 requests_same [] (q ∷ qs) names vals l e = absurd (cc l)
 requests_same (m ∷ ms) [] names vals l e = absurd (cc l)
-requests_same (m ∷ ms) (q ∷ qs) names vals l e = at m.delayed q (requests_same ms qs names vals (omega (arith, l)) e)
+requests_same (m ∷ ms) (q ∷ qs) names vals l e = at (is_delayed m.kind) q (requests_same ms qs names vals (omega (arith, l)) e)
   where
     at : (b : Bool) (o : Option ℕ) → length (requests_then ms qs vals) ≡ length (request_names (map port_mem (delayed_of ms)) names)
         → length (((if b then request_values o else []) ++ all_request_values (mems_of ms) qs) ++ vals)
@@ -247,15 +249,15 @@ not_among test (x ∷ xs) h m (inr a) t = at (test x) (not_among test xs h.1 m a
 
 -- each memory of a pipe is found in the netlist by its commit port, where names differ
 pub net_found : (ms : List Mem) → AreDistinct ms → AreFound ms (net_infos ms)
-net_found ms h m a = at m.delayed refl
+net_found ms h m a = at (is_delayed m.kind) refl
   where
-    at : (b : Bool) → m.delayed ≡ b → commit_mem (net_infos ms) (codes "c_" ++ m.name.name) ≡ Some (info_of m)
+    at : (b : Bool) → is_delayed m.kind ≡ b → commit_mem (net_infos ms) (codes "c_" ++ m.name.name) ≡ Some (info_of m)
     at true e =
         found_left (map info_of (delayed_of ms)) (map info_of (comb_of ms)) (codes "c_" ++ m.name.name) (info_of m)
-        (declared_found (delayed_of ms) (distinct_some is_delayed ms h) m (some_among is_delayed ms m a e))
+        (declared_found (delayed_of ms) (distinct_some answers_late ms h) m (some_among answers_late ms m a e))
     at false e =
         found_right (map info_of (delayed_of ms)) (map info_of (comb_of ms)) (codes "c_" ++ m.name.name)
-        (none_found (delayed_of ms) m.name.name (not_among is_delayed ms h m a e))
+        (none_found (delayed_of ms) m.name.name (not_among answers_late ms h m a e))
         ∙ declared_found (comb_of ms)
-        (distinct_some Rattle.pdl_rules.specs.Refusal.is_comb ms h) m
-        (some_among Rattle.pdl_rules.specs.Refusal.is_comb ms m a (ap Rattle.std.proofs.Common.not e))
+        (distinct_some Rattle.pdl_rules.specs.Refusal.answers_at_once ms h) m
+        (some_among Rattle.pdl_rules.specs.Refusal.answers_at_once ms m a (ap Rattle.std.proofs.Common.not e))

@@ -4,11 +4,12 @@ use Rattle.std.specs.Prelude.{if◌then◌else◌, slice_index_or, count_by, fil
 use Rattle.std.proofs.lemmas.Bool.{or_parts}
 use Rattle.pdl_kit.specs.declared.mem_info.MemInfo.{MemInfo}
 use Rattle.pdl_semantics.specs.Tree.{Mem}
+use Rattle.pdl_semantics.specs.Flat.{is_delayed}
 use Rattle.pdl_semantics.specs.Flat as flat
 use Rattle.pdl_semantics.specs.Flatten.{flat_lock, mems_of}
 use Rattle.pdl_semantics.specs.Stages.{plain_mem}
 use Rattle.pdl_semantics.proofs.Facts.{lock_declared}
-use Rattle.pdl_rules.specs.Refusal.{is_comb}
+use Rattle.pdl_rules.specs.Refusal.{answers_at_once}
 use Rattle.pdl_rules.specs.Typed.{is_memory, AreDistinct}
 use Rattle.pdl_rules.specs.Memories.{info_of}
 use Rattle.pdl_law_parts.specs.Declared.{has_lock, mem_names}
@@ -61,8 +62,8 @@ distinct_some test (m ∷ ms) h = at (test m) (distinct_some test ms h.1)
     at false d = d
 
 -- a memory that answers at once is not delayed
-pub comb_delayed : (m : Mem) → is_comb m ≡ true → m.delayed ≡ false
-comb_delayed m e = at m.delayed e
+pub comb_delayed : (m : Mem) → answers_at_once m ≡ true → is_delayed m.kind ≡ false
+comb_delayed m e = at (is_delayed m.kind) e
   where
     at : (b : Bool) → not b ≡ true → b ≡ false
     at false h = refl
@@ -71,7 +72,7 @@ comb_delayed m e = at m.delayed e
 -- the delayed memories and those that answer at once are as many as all
 pub as_many : (ms : List Mem) → length (delayed_of ms) + length (comb_of ms) ≡ length ms
 as_many [] = omega arith
-as_many (m ∷ ms) = at m.delayed (as_many ms)
+as_many (m ∷ ms) = at (is_delayed m.kind) (as_many ms)
   where
     at : (b : Bool) → length (delayed_of ms) + length (comb_of ms) ≡ length ms
         → length (if b then m ∷ delayed_of ms else delayed_of ms) + length (if not b then m ∷ comb_of ms else comb_of ms) ≡ suc (length ms)
@@ -84,19 +85,19 @@ as_many (m ∷ ms) = at m.delayed (as_many ms)
 pub record IsCombAt (ms these : List Mem) (k : ℕ) : Type 0 where
   pub place : ℕ
   pub low : place < length (mems_of ms)
-  pub comb : (slice_index_or (mems_of ms) place plain_mem).delayed ≡ false
-  pub count : count_by places.is_comb (take place (mems_of ms)) ≡ k
+  pub comb : is_delayed (slice_index_or (mems_of ms) place plain_mem).kind ≡ false
+  pub count : count_by places.answers_at_once (take place (mems_of ms)) ≡ k
   pub lock : flat.has_lock (slice_index_or (mems_of ms) place plain_mem).lock ≡ has_lock these k
 
 abbrev flat_mem : Mem → flat.Mem
-flat_mem m = record { width = m.width.value; depth = m.depth.value; delayed = m.delayed; lock = flat_lock m.lock }
+flat_mem m = record { width = m.width.value; depth = m.depth.value; kind = m.kind; lock = flat_lock m.lock }
 
 -- each memory that answers at once has its place in the pipe
 pub comb_at : (ms : List Mem) (k : ℕ) → k < length (comb_of ms) → IsCombAt ms (comb_of ms) k
 comb_at [] k l = absurd (omega (arith, l))
-comb_at (x ∷ xs) k l = at x.delayed refl k l (comb_at xs)
+comb_at (x ∷ xs) k l = at (is_delayed x.kind) refl k l (comb_at xs)
   where
-    at : (b : Bool) → x.delayed ≡ b → (k : ℕ) → k < length (if not b then x ∷ comb_of xs else comb_of xs)
+    at : (b : Bool) → is_delayed x.kind ≡ b → (k : ℕ) → k < length (if not b then x ∷ comb_of xs else comb_of xs)
         → ((j : ℕ) → j < length (comb_of xs) → IsCombAt xs (comb_of xs) j)
         → IsCombAt (x ∷ xs) (if not b then x ∷ comb_of xs else comb_of xs) k
     at true e k l rest =
@@ -106,7 +107,7 @@ comb_at (x ∷ xs) k l = at x.delayed refl k l (comb_at xs)
           place = suc r.place;
           low = omega (arith, low);
           comb = r.comb;
-          count = count_no places.is_comb (flat_mem x) (take r.place (mems_of xs)) (ap (λ b. if b then false else true) e) ∙ r.count;
+          count = count_no places.answers_at_once (flat_mem x) (take r.place (mems_of xs)) (ap (λ b. if b then false else true) e) ∙ r.count;
           lock = r.lock;
         }
     at false e zero l rest = record { place = 0; low = omega arith; comb = e; count = refl; lock = lock_declared x.lock }
@@ -117,7 +118,7 @@ comb_at (x ∷ xs) k l = at x.delayed refl k l (comb_at xs)
           place = suc r.place;
           low = omega (arith, low);
           comb = r.comb;
-          count = count_yes places.is_comb (flat_mem x) (take r.place (mems_of xs)) (ap (λ b. if b then false else true) e) ∙ ap suc r.count;
+          count = count_yes places.answers_at_once (flat_mem x) (take r.place (mems_of xs)) (ap (λ b. if b then false else true) e) ∙ ap suc r.count;
           lock = r.lock;
         }
 
@@ -154,7 +155,7 @@ module _ (test : Mem → Bool) (other : flat.Mem → Bool) (same : (m : Mem) →
 pub told_at : (ms : List Mem) (m : ℕ) (d : MemInfo) → m < length ms
     → ((slice_index_or (map info_of ms) m d).depth ≡ (slice_index_or (mems_of ms) m plain_mem).depth)
     × ((slice_index_or (map info_of ms) m d).width ≡ (slice_index_or (mems_of ms) m plain_mem).width)
-    × ((slice_index_or (map info_of ms) m d).delayed ≡ (slice_index_or (mems_of ms) m plain_mem).delayed)
+    × ((slice_index_or (map info_of ms) m d).delayed ≡ is_delayed (slice_index_or (mems_of ms) m plain_mem).kind)
 told_at [] m d l = absurd (omega (arith, l))
 told_at (x ∷ xs) zero d l = (refl, refl, refl)
 told_at (x ∷ xs) (suc m) d l = told_at xs m d (omega (arith, l))
@@ -166,9 +167,9 @@ told_delayed i = i.delayed
 -- the delayed ones are told as delayed, and no others
 pub all_told : (ms : List Mem) → filter told_delayed (map info_of (delayed_of ms)) ≡ map info_of (delayed_of ms)
 all_told [] = refl
-all_told (m ∷ ms) = at m.delayed refl (all_told ms)
+all_told (m ∷ ms) = at (is_delayed m.kind) refl (all_told ms)
   where
-    at : (b : Bool) → m.delayed ≡ b → filter told_delayed (map info_of (delayed_of ms)) ≡ map info_of (delayed_of ms)
+    at : (b : Bool) → is_delayed m.kind ≡ b → filter told_delayed (map info_of (delayed_of ms)) ≡ map info_of (delayed_of ms)
         → filter told_delayed (map info_of (if b then m ∷ delayed_of ms else delayed_of ms)) ≡ map info_of (if b then m ∷ delayed_of ms else delayed_of ms)
     at true e h =
         ap (λ b. if b then info_of m ∷ filter told_delayed (map info_of (delayed_of ms)) else filter told_delayed (map info_of (delayed_of ms))) e
@@ -178,9 +179,9 @@ all_told (m ∷ ms) = at m.delayed refl (all_told ms)
 -- no memory that answers at once is told as delayed
 pub none_told : (ms : List Mem) → filter told_delayed (map info_of (comb_of ms)) ≡ []
 none_told [] = refl
-none_told (m ∷ ms) = at m.delayed refl (none_told ms)
+none_told (m ∷ ms) = at (is_delayed m.kind) refl (none_told ms)
   where
-    at : (b : Bool) → m.delayed ≡ b → filter told_delayed (map info_of (comb_of ms)) ≡ []
+    at : (b : Bool) → is_delayed m.kind ≡ b → filter told_delayed (map info_of (comb_of ms)) ≡ []
         → filter told_delayed (map info_of (if not b then m ∷ comb_of ms else comb_of ms)) ≡ []
     at true e h = h
     at false e h = ap (λ b. if b then info_of m ∷ filter told_delayed (map info_of (comb_of ms)) else filter told_delayed (map info_of (comb_of ms))) e ∙ h
@@ -191,7 +192,7 @@ pub names_told : (names : ℕ → List ℕ) (k : ℕ) (ms : List Mem)
     → map (λ (i : MemInfo). i.name) (map info_of (delayed_of ms)) ≡ names_delayed names k (mems_of ms)
 names_told names k [] h = refl
 names_told names k (m ∷ ms) h =
-    at m.delayed (names_told names (suc k) ms (λ i l. ap names (let z : suc k + i ≡ k + suc i = omega arith in z) ∙ h (suc i) (omega (arith, l))))
+    at (is_delayed m.kind) (names_told names (suc k) ms (λ i l. ap names (let z : suc k + i ≡ k + suc i = omega arith in z) ∙ h (suc i) (omega (arith, l))))
   where
     here : names k ≡ m.name.name
     here = ap names (let z : k ≡ k + 0 = omega arith in z) ∙ h 0 (omega arith)

@@ -196,7 +196,7 @@ port_names_differ n ms l h =
     commits = commit_names (locked_of ms) (request_names delayed last_names)
 
     free : AreFree (map port_mem (delayed_of ms))
-    free = are_free Rattle.pdl_law_follows.specs.Memories.is_delayed ms h
+    free = are_free Rattle.pdl_law_follows.specs.Memories.answers_late ms h
 
     commits_none : (a : ℕ) (x : List ℕ) → a ≢ 99 → a ≢ 113 → a ≢ 101 → a ≢ 115
         → IsNone (a ∷ x) (commit_names (locked_of ms) (request_names (map port_mem (delayed_of ms)) last_names))

@@ -4,7 +4,7 @@ use Rattle.std.specs.Prelude.{if◌then◌else◌, flat_map, filter_map, slice_i
 use Rattle.std.specs.List.{range_with_len}
 use Rattle.std.proofs.lemmas.List.{map-append}
 use Rattle.pdl_semantics.specs.Tree.{Mem}
-use Rattle.pdl_semantics.specs.Flat.{Pipe}
+use Rattle.pdl_semantics.specs.Flat.{Pipe, is_delayed}
 use Rattle.pdl_semantics.specs.Flatten.{mems_of}
 use Rattle.pdl_semantics.specs.Stages.{plain_mem}
 use Rattle.pdl_net.specs.declared.Dir.{Dir}
@@ -40,7 +40,7 @@ rest_named names k m ms h i l = ap names (let z : suc k + i ≡ k + suc i = omeg
 reply_heads : (names : ℕ → List ℕ) (k : ℕ) (ms : List Mem) → AreNamed names k ms
     → map head_of (whole.reply_ports names k (mems_of ms)) ≡ flat_map reply_ports (map port_mem (delayed_of ms))
 reply_heads names k [] h = refl
-reply_heads names k (m ∷ ms) h = at m.delayed (reply_heads names (suc k) ms (rest_named names k m ms h))
+reply_heads names k (m ∷ ms) h = at (is_delayed m.kind) (reply_heads names (suc k) ms (rest_named names k m ms h))
   where
     at : (b : Bool) → map head_of (whole.reply_ports names (suc k) (mems_of ms)) ≡ flat_map reply_ports (map port_mem (delayed_of ms))
         → map head_of
@@ -55,7 +55,7 @@ reply_heads names k (m ∷ ms) h = at m.delayed (reply_heads names (suc k) ms (r
 -- what is asked of each delayed memory has 1 bit, and addresses that reach each of its words and no more
 abbrev pub AreAsked : (ℕ → Request) → ℕ → List Mem → Type 0
 AreAsked asks k ms =
-    (i : ℕ) → i < length ms → (slice_index_or (mems_of ms) i plain_mem).delayed ≡ true
+    (i : ℕ) → i < length ms → is_delayed (slice_index_or (mems_of ms) i plain_mem).kind ≡ true
     → ((asks (k + i)).enable.width ≡ 1) × (2 ^ (asks (k + i)).addr.width ≡ (slice_index_or (mems_of ms) i plain_mem).depth)
 
 request_heads : (names : ℕ → List ℕ) (asks : ℕ → Request) (k : ℕ) (ms : List Mem) → AreNamed names k ms
@@ -63,11 +63,12 @@ request_heads : (names : ℕ → List ℕ) (asks : ℕ → Request) (k : ℕ) (m
     → map head_shown (requests_shown names asks k (mems_of ms)) ≡ flat_map request_ports (map port_mem (delayed_of ms))
 request_heads names asks k [] h r f = refl
 request_heads names asks k (m ∷ ms) h r f =
-    at m.delayed refl
+    at (is_delayed m.kind) refl
     (request_heads names asks (suc k) ms (rest_named names k m ms h) (λ x a. r x (inr a))
     (λ i l d. (let z : k + suc i ≡ suc k + i = omega arith in rw (sym z) (f (suc i) (omega (arith, l)) d))))
   where
-    at : (b : Bool) → m.delayed ≡ b → map head_shown (requests_shown names asks (suc k) (mems_of ms)) ≡ flat_map request_ports (map port_mem (delayed_of ms))
+    at : (b : Bool) → is_delayed m.kind ≡ b
+        → map head_shown (requests_shown names asks (suc k) (mems_of ms)) ≡ flat_map request_ports (map port_mem (delayed_of ms))
         → map head_shown ((if b then request_shown (names k) (asks k) else []) ++ requests_shown names asks (suc k) (mems_of ms))
         ≡ flat_map request_ports (map port_mem (if b then m ∷ delayed_of ms else delayed_of ms))
     at false e g = g

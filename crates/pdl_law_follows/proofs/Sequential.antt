@@ -1,5 +1,5 @@
 -- A netlist that follows an accepted source writes what its machine writes, and so the writes of the threads one after another; its oldest thread moves, and enough threads end.
-use Rattle.std.proofs.Common.{◌≡◌, refl, sym, ap, ap₂, ◌∙◌, subst, ℕ, zero, suc, ◌+◌, ◌-◌, ◌≤◌, Bool, true, false, List, [], ◌∷◌, ◌++◌, length, map, slice_index_or, Option, Some, None, arith}
+use Rattle.std.proofs.Common.{◌≡◌, refl, sym, ap, ap₂, ◌∙◌, subst, ℕ, zero, suc, ◌+◌, ◌-◌, ◌≤◌, Bool, true, false, List, [], ◌∷◌, ◌++◌, length, map, slice_index_or, arith}
 use Rattle.std.specs.Prelude.{if◌then◌else◌, count_by, ◌/◌, take, slice_index}
 use Rattle.std.proofs.lemmas.List.{length-map}
 use Rattle.std.proofs.lemmas.List.Sums.{sum_by-cons}
@@ -8,14 +8,15 @@ use Rattle.pdl_semantics.specs.Flat.{Pipe, Arrays, arrays_of}
 use Rattle.pdl_semantics.specs.Flatten.{flat}
 use Rattle.pdl_semantics.specs.Stages.{depth}
 use Rattle.pdl_semantics.specs.Machine.{State}
-use Rattle.pdl_semantics.specs.Cycle.{PortWrite, Turn, turns, turns_from, first, state_after, is_wait, commit_shown, commits}
+use Rattle.pdl_semantics.specs.Cycle.{PortWrite, Turn, turns, turns_from, first, state_after, is_wait, commits_shown, commits}
 use Rattle.pdl_semantics.specs.Cycle as stated
-use Rattle.pdl_semantics.specs.Lines.{Cycle, put_of, puts_in, turn_cycle, turn_cycles}
+use Rattle.pdl_semantics.specs.Lines.{Cycle, puts_for, puts_in, turn_cycle, turn_cycles}
 use Rattle.pdl_semantics.specs.Promises.{Refines}
 use Rattle.pdl_theory.proofs.StatedTheorems.{whole_refines, whole_advances, whole_paces}
 use Rattle.pdl_source_paths.specs.Source.{is_source, is_named}
 use Rattle.pdl_source_paths.proofs.PipeFacts.{of_source}
 use Rattle.pdl_rules.specs.Refusal.{KeepsRules}
+use Rattle.pdl_rules.specs.Unbuilt.{IsBuilt}
 use Rattle.pdl_net.specs.declared.Netlist.{Netlist}
 use Rattle.pdl_image.specs.Images.{IsImage}
 use Rattle.pdl_net.specs.Run.{Held, start, next, nports_from, some_waits}
@@ -32,14 +33,14 @@ use Rattle.pdl_law_follows.proofs.Lines.{shows_turns}
 
 -- ---- what is written
 
-one_write : (m : ℕ) (o : Option PortWrite) → writes_to m (put_of o) ≡ commit_shown m o
-one_write m None = refl
-one_write m (Some w) = refl
+puts_shown : (m : ℕ) (ws : List PortWrite) → writes_to m (puts_for ws) ≡ commits_shown m ws
+puts_shown m [] = refl
+puts_shown m (w ∷ ws) = ap (λ cs. record { mem = m; address = w.address; value = w.value } ∷ cs) (puts_shown m ws)
 
-puts_at : (m : ℕ) (es : List (Option PortWrite)) (k : ℕ)
-    → writes_to m (slice_index_or (puts_in es) k []) ≡ commit_shown m (slice_index_or es k None)
+puts_at : (m : ℕ) (es : List (List PortWrite)) (k : ℕ)
+    → writes_to m (slice_index_or (puts_in es) k []) ≡ commits_shown m (slice_index_or es k [])
 puts_at m [] k = refl
-puts_at m (e ∷ es) zero = one_write m e
+puts_at m (e ∷ es) zero = puts_shown m e
 puts_at m (e ∷ es) (suc k) = puts_at m es k
 
 commits_same : (m : ℕ) (ts : List Turn) → commits_in m (turn_cycles ts) ≡ commits m ts
@@ -74,7 +75,7 @@ machine_sequential p image schedule r =
       whole = λ m. rw (ended_same ts) (rw (commits_same m ts) (r.whole m));
       prefix = λ m. rw (ended_same ts) (rw (commits_same m ts) (r.prefix m));
       unlocked = λ m plain. commits_same m ts ∙ r.unlocked m plain;
-      end = λ m. rw (commits_same m ts) (r.end m);
+      end = λ m plain. rw (commits_same m ts) (r.end m plain);
     }
 
 -- ---- waits
@@ -98,9 +99,10 @@ last_wait p n bits (b ∷ schedule) h st e =
 
 -- ---- netlists
 
-module _ (p : tree.Pipe) (rules : KeepsRules p) (source : is_source p ≡ true) (named : is_named p ≡ true) (n : Netlist) (follows : Follows p n) where
+module _ (p : tree.Pipe) (rules : KeepsRules p) (built : IsBuilt p) (source : is_source p ≡ true) (named : is_named p ≡ true) (n : Netlist)
+    (follows : Follows p n) where
   turned : ShowsTurns p n
-  turned = shows_turns p rules source named n follows
+  turned = shows_turns p rules built source named n follows
 
   -- the netlist writes what the threads write one after another
   pub refines : RefinesThreads p n

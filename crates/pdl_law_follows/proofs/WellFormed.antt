@@ -7,11 +7,11 @@ use Rattle.std.proofs.lemmas.List.{length-map, length-append, get_or-map, map-ap
 use Rattle.std.proofs.lemmas.List.Elements.{All-from_get_or}
 use Rattle.pdl_semantics.specs.Tree.{Mem}
 use Rattle.pdl_semantics.specs.Flat as flat
-use Rattle.pdl_semantics.specs.Flat.{Pipe}
+use Rattle.pdl_semantics.specs.Flat.{Pipe, is_delayed}
 use Rattle.pdl_semantics.specs.Flatten.{mems_of}
 use Rattle.pdl_semantics.specs.Stages.{mem_at, plain_mem}
 use Rattle.pdl_rules.specs.Memories.{info_of}
-use Rattle.pdl_rules.specs.Refusal.{is_comb}
+use Rattle.pdl_rules.specs.Refusal.{answers_at_once}
 use Rattle.pdl_rules.specs.Typed.{AreDistinct, AreSized}
 use Rattle.pdl_net.specs.declared.Netlist.{Netlist}
 use Rattle.pdl_net.specs.Circuit.{Shape, shape_of, circuit_of, no_array, array_at}
@@ -46,7 +46,7 @@ module _ (p : Pipe) (ms : List Mem) (declared : AreDeclared ms) (same : p.mems �
     (some : 1 ≤ length p.stages) (most : length p.stages ≤ 64) (ls : Locks) (vs : ℕ → View) (gates : Gates)
     (moves : ℕ → Signal) (sides : Sides) (n : Netlist)
     (well : IsWell (circuit_of n)) (made : IsWhole p (mem_names ms) ls vs gates moves sides (circuit_of n))
-    (in_order : (m : ℕ) → m < length p.mems → (mem_at p m).delayed ≡ false → ls.array m ≡ comb_place p m)
+    (in_order : (m : ℕ) → m < length p.mems → is_delayed (mem_at p m).kind ≡ false → ls.array m ≡ comb_place p m)
     (shapes : map shape_of n.arrays ≡ map shape_of_mem (comb_of ms))
     (wide : AreBitsWide vs gates moves (length p.stages)) (fit : CommitsFit made.laid.commits 0 ms)
     (asked : AreAsked made.asks 0 ms) (mems : n.mems ≡ net_infos ms) where
@@ -74,12 +74,15 @@ module _ (p : Pipe) (ms : List Mem) (declared : AreDeclared ms) (same : p.mems �
       let count = sym (length-map n.arrays shape_of) ∙ ap length shapes ∙ length-map (comb_of ms) shape_of_mem in
       let c = comb_at ms k (omega (arith, l, count)) in
       let low : c.place < length p.mems = subst (λ (ys : List flat.Mem). c.place < length ys) (sym same) c.low in
-      let comb : (mem_at p c.place).delayed ≡ false = ap (λ (ys : List flat.Mem). (slice_index_or ys c.place plain_mem).delayed) same ∙ c.comb in
+      let comb : is_delayed (mem_at p c.place).kind ≡ false = ap (λ (ys : List flat.Mem). is_delayed (slice_index_or ys c.place plain_mem).kind) same
+      ∙ c.comb in
       let plain = ap (λ (ys : List flat.Mem). flat.has_lock (slice_index_or ys c.place plain_mem).lock) same ∙ c.lock ∙ h.lock ∙ e in
       let none = made.laid.unwritten c.place low plain comb in
       let place : ls.array c.place ≡ k =
       in_order c.place low comb
-      ∙ ap (λ (ys : List flat.Mem). Rattle.std.specs.Prelude.count_by Rattle.pdl_law.proofs.Places.is_comb (Rattle.std.specs.Prelude.take c.place ys)) same
+      ∙ ap
+      (λ (ys : List flat.Mem). Rattle.std.specs.Prelude.count_by Rattle.pdl_law.proofs.Places.answers_at_once (Rattle.std.specs.Prelude.take c.place ys))
+      same
       ∙ c.count in
       no_write (circuit_of n)
       (array_at (circuit_of n) k).writes (ap (λ i. map (write_signal (circuit_of n)) (array_at (circuit_of n) i).writes) (sym place) ∙ none)
@@ -87,16 +90,16 @@ module _ (p : Pipe) (ms : List Mem) (declared : AreDeclared ms) (same : p.mems �
   array_fits : (k : ℕ) → k < length n.arrays → IsPipeArray (map port_mem (delayed_of ms)) (locked_of ms) (get_or n.arrays k no_array)
   array_fits k l =
       let w = array_mem n.arrays (comb_of ms) shapes k no_array l in
-      let a = among_some is_comb ms w.0 w.1.among in
+      let a = among_some answers_at_once ms w.0 w.1.among in
       pipe_array ms (get_or n.arrays k no_array) w.0 declared.distinct reach (size w.0 a.0) a.0 (comb_delayed w.0 a.1) (never_written k w.0 l w.1) w.1.shape
 
   kept : (m : Mem) → Among m ms → IsKept (map port_mem (delayed_of ms)) n.arrays (port_mem m)
-  kept m h = at m.delayed refl
+  kept m h = at (is_delayed m.kind) refl
     where
-      at : (b : Bool) → m.delayed ≡ b → IsKept (map port_mem (delayed_of ms)) n.arrays (port_mem m)
+      at : (b : Bool) → is_delayed m.kind ≡ b → IsKept (map port_mem (delayed_of ms)) n.arrays (port_mem m)
       at true e = inl (delayed_contained ms m h e)
       at false e =
-          let w = mem_array n.arrays (comb_of ms) shapes m (some_among is_comb ms m h (ap Rattle.std.proofs.Common.not e)) no_array in
+          let w = mem_array n.arrays (comb_of ms) shapes m (some_among answers_at_once ms m h (ap Rattle.std.proofs.Common.not e)) no_array in
           let low : w.0 < length n.arrays = w.1 in
           let many = length-map n.arrays name_of_array in
           inr (w.0, omega arith, get_or-map name_of_array n.arrays w.0 no_array m.name.name w.1 ∙ ap (λ (x : Shape). x.name) w.2.shape)
@@ -134,6 +137,6 @@ module _ (p : Pipe) (ms : List Mem) (declared : AreDeclared ms) (same : p.mems �
         (all_pairs _ (port_names_differ (length p.stages) ms most declared.distinct));
     array_names =
         subst (AllPairs (λ a b. a ≢ b)) (sym (array_names_are n.arrays (comb_of ms) shapes))
-        (all_pairs (map name_of_mem (comb_of ms)) (mem_names_differ (comb_of ms) (distinct_some is_comb ms declared.distinct)));
+        (all_pairs (map name_of_mem (comb_of ms)) (mem_names_differ (comb_of ms) (distinct_some answers_at_once ms declared.distinct)));
     pipe = is_pipe;
   }

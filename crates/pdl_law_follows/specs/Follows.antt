@@ -1,6 +1,7 @@
 -- A netlist that follows a pipe, and what a compiler establishes for that.
 use Rattle.std.specs.Prelude.{◌≡◌, ℕ, ◌<◌, true, false, map, length}
 use Rattle.pdl_semantics.specs.Tree as tree
+use Rattle.pdl_semantics.specs.Flat.{is_delayed}
 use Rattle.pdl_semantics.specs.Flatten.{flat}
 use Rattle.pdl_semantics.specs.Stages.{mem_at}
 use Rattle.pdl_net.specs.declared.Netlist.{Netlist}
@@ -37,8 +38,8 @@ pub record IsMade (p : tree.Pipe) (ls : Locks) (vs : ℕ → View) (gates : Gate
   pub well : IsWell (circuit_of n)
   pub wide : AreBitsWide vs gates moves (length (flat p).stages)
   pub commits : CommitsFit compiled.laid.commits 0 p.mems
-  pub requests : (m : ℕ) → m < length (flat p).mems → (mem_at (flat p) m).delayed ≡ true → (compiled.asks m).enable.width ≡ 1
+  pub requests : (m : ℕ) → m < length (flat p).mems → is_delayed (mem_at (flat p) m).kind ≡ true → (compiled.asks m).enable.width ≡ 1
   -- a memory that answers at once has the array of its place among these
-  pub in_order : (m : ℕ) → m < length (flat p).mems → (mem_at (flat p) m).delayed ≡ false → ls.array m ≡ comb_place (flat p) m
+  pub in_order : (m : ℕ) → m < length (flat p).mems → is_delayed (mem_at (flat p) m).kind ≡ false → ls.array m ≡ comb_place (flat p) m
   pub mems : n.mems ≡ net_infos p.mems
   pub arrays : map shape_of n.arrays ≡ map shape_of_mem (comb_of p.mems)

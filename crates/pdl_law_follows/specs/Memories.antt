@@ -2,23 +2,23 @@
 use Rattle.std.specs.Prelude.{ℕ, Bool, List, ◌++◌, map, filter, Result, Ok, Err}
 use Rattle.pdl_kit.specs.declared.mem_info.MemInfo.{MemInfo}
 use Rattle.pdl_semantics.specs.Tree.{Mem}
-use Rattle.pdl_semantics.specs.Flat.{Pipe}
-use Rattle.pdl_rules.specs.Refusal.{is_comb}
+use Rattle.pdl_semantics.specs.Flat.{Pipe, is_delayed}
+use Rattle.pdl_rules.specs.Refusal.{answers_at_once}
 use Rattle.pdl_rules.specs.Memories.{info_of}
 use Rattle.pdl_law_parts.specs.Places.{delayed_count}
 use Rattle.pdl_law_sides.specs.WholeNetlist.{in_order, replies_of}
 
 -- a memory is delayed
-abbrev pub is_delayed : Mem → Bool
-is_delayed m = m.delayed
+abbrev pub answers_late : Mem → Bool
+answers_late m = is_delayed m.kind
 
 -- the delayed memories, which stand in the environment
 abbrev pub delayed_of : List Mem → List Mem
-delayed_of ms = filter is_delayed ms
+delayed_of ms = filter answers_late ms
 
 -- the memories that answer at once, each of which has an array
 abbrev pub comb_of : List Mem → List Mem
-comb_of ms = filter is_comb ms
+comb_of ms = filter answers_at_once ms
 
 -- the memories of a netlist
 abbrev pub net_infos : List Mem → List MemInfo

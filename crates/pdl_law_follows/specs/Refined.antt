@@ -1,7 +1,7 @@
 -- What a netlist writes to its memories, and what the threads of its pipe write that run one after another; and how fast they end.
 use Rattle.std.specs.Prelude.{◌≡◌, IsTrue, ℕ, ◌+◌, ◌-◌, ◌/◌, ◌≤◌, Bool, false, List, [], ◌∷◌, ◌++◌, map, count_by, length, slice_index_or}
 use Rattle.pdl_semantics.specs.Tree as tree
-use Rattle.pdl_semantics.specs.Flat.{Commit, Plain, Pipe, Arrays, arrays_of}
+use Rattle.pdl_semantics.specs.Flat.{Commit, Plain, is_advisory, Pipe, Arrays, arrays_of}
 use Rattle.pdl_semantics.specs.Flatten.{flat}
 use Rattle.pdl_semantics.specs.Sequential.{seqwrites}
 use Rattle.pdl_semantics.specs.Stages.{mem_at, depth}
@@ -47,7 +47,8 @@ pub record AreSequential (p : Pipe) (image : Arrays) (schedule : List (List Bool
   pub whole : (m : ℕ) → IsPrefix (seqwrites p image m (ended_in cs)) (commits_in m cs)
   pub prefix : (m : ℕ) → IsPrefix (commits_in m cs) (seqwrites p image m (ended_in cs + length p.stages))
   pub unlocked : (m : ℕ) → (mem_at p m).lock ≡ Plain → commits_in m cs ≡ []
-  pub end : (m : ℕ) → row (state_after p (first p image) schedule).arrays m ≡ wrote (row image m) (commits_in m cs)
+  pub end : (m : ℕ) → is_advisory (mem_at p m).kind ≡ false
+      → row (state_after p (first p image) schedule).arrays m ≡ wrote (row image m) (commits_in m cs)
 
 -- from each image, with each schedule of replies, the memories receive the sequential writes
 abbrev pub RefinesThreads : tree.Pipe → Netlist → Type 0

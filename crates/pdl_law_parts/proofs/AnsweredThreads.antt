@@ -4,12 +4,13 @@ use Rattle.pdl_semantics.specs.Flat.{Pipe}
 use Rattle.pdl_semantics.specs.Machine.{Thread, State, with_answers}
 use Rattle.pdl_machine_facts.specs.Slots.{slot, with_now, here}
 
--- a thread stands in stage k with the number, the values and the guess of this one
+-- a thread stands in stage k with the number, the values, the advice and the guess of this one
 pub record Stood (st : State) (k : ℕ) (t : Thread) : Type 0 where
   pub thread : Thread
   pub slot : slot st k ≡ Some thread
   pub number : thread.number ≡ t.number
   pub env : thread.env ≡ t.env
+  pub advice : thread.advice ≡ t.advice
   pub guess : thread.guess ≡ t.guess
 
 -- a thread with this cycle's answers stands in its stage, with the same number, values and guess
@@ -23,5 +24,6 @@ stood p st bits k t h = at (slot st k) refl h
       slot = e;
       number = Rattle.std.proofs.Common.ap (λ (v : Thread). v.number) same;
       env = Rattle.std.proofs.Common.ap (λ (v : Thread). v.env) same;
+      advice = Rattle.std.proofs.Common.ap (λ (v : Thread). v.advice) same;
       guess = Rattle.std.proofs.Common.ap (λ (v : Thread). v.guess) same;
     }

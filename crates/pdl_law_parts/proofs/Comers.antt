@@ -4,22 +4,22 @@ use Rattle.std.specs.Prelude.{if◌then◌else◌, slice_index, slice_index_or, 
 use Rattle.std.proofs.lemmas.Bool.{false≢true, eqb-true, leb-true}
 use Rattle.std.proofs.lemmas.List.{length-replicate, length-map}
 use Rattle.pdl_word.specs.Words.{bit}
-use Rattle.pdl_semantics.specs.Flat.{Next, Ends, Goes, Forks, Stmt, Stage, Pipe, start_env}
+use Rattle.pdl_semantics.specs.Flat.{Arrays, Next, Ends, Goes, Forks, Stmt, Stage, Pipe, start_env}
 use Rattle.pdl_semantics.specs.Stages.{stage_at, goes_to, list_any, reserve_stage, commit_stage, is_verify}
 use Rattle.pdl_semantics.specs.Machine as machine
 use Rattle.pdl_semantics.specs.Machine.{Thread, deeds, held_before, is_held, with_kept}
 use Rattle.pdl_semantics.specs.Moves.{next_stage}
-use Rattle.pdl_semantics.specs.Cycle.{is_stage, born_thread, child_of, thread_after, or_then, has_release, list_three, is_kept, squasher}
+use Rattle.pdl_semantics.specs.Cycle.{is_stage, born_thread, child_of, thread_after, or_then, all_releases, list_three, is_kept, squasher, with_advised, with_all_advised}
 use Rattle.pdl_net.specs.Circuit.{State}
 use Rattle.pdl_net.specs.Signal.{Signal, no_signal}
 use Rattle.pdl_lockapi.specs.Laws.{holds_ticket}
 use Rattle.pdl_machine_facts.specs.Slots.{LeadsOn, here, stage_moves, movers_from, moving, leads_to, ways_from, ways, passing_thread, thread_into, first_of, arriving_thread, act_at}
 use Rattle.pdl_machine_facts.specs.Cycle.{newborn, IsByStages}
-use Rattle.pdl_machine_facts.specs.Use.{IsInUse}
 use Rattle.pdl_law_parts.proofs.AnsweredThreads.{Stood}
 use Rattle.pdl_law_parts.specs.Lives.{row_uses, asks_held, forks_by, lives_from, held_from, verifies_from}
 use Rattle.pdl_law_parts.specs.Walk.{Locks, Birth, Walk, is_locked, one, zero_bit, both, is_on, values_at}
 use Rattle.pdl_law_parts.specs.Views.{View, Comer, branch, out_of, new_by, new_from, comers, first_coming}
+use Rattle.pdl_law_parts.specs.Served.{IsServed}
 use Rattle.pdl_law_parts.specs.Stands.{IsEnv, IsHolding, StandsFor, AreShort, IsSo, IsSeen, child_in}
 use Rattle.pdl_law_parts.proofs.Signals.{mux_by, one_is, zero_is}
 use Rattle.pdl_law_parts.proofs.Moves.{ready_of, lives_fork}
@@ -29,8 +29,10 @@ use Rattle.pdl_semantics.proofs.Facts.{held_first}
 use Rattle.pdl_semantics.specs.PendingLists.{count_older}
 
 -- no thread that moves is removed by a squash
-abbrev pub Spares : Pipe → machine.State → List Bool → Type 0
-Spares p st bits = (k : ℕ) (t : Thread) → here p st bits k ≡ Some t → stage_moves p st bits k ≡ true → is_kept (squasher (moving p st bits)) t.number ≡ true
+pub record Spares (p : Pipe) (st : machine.State) (bits : List Bool) : Type 0 where
+  pub kept : (k : ℕ) (t : Thread) → here p st bits k ≡ Some t → stage_moves p st bits k ≡ true → is_kept (squasher (moving p st bits)) t.number ≡ true
+  -- no guess has failed that a later stage verifies
+  pub calm : (k : ℕ) (t : Thread) → here p st bits k ≡ Some t → verifies_from p (suc k) ≡ true → (deeds p st k t).fails ≡ false
 
 -- WHAT LIVES ON LIVED BEFORE
 
@@ -136,18 +138,19 @@ args_at s (f ∷ fs) n zero = refl
 args_at s (f ∷ fs) n (suc x) = args_at s fs n x
 
 module _ (p : Pipe) (ls : Locks) (vs : ℕ → View) (moves : ℕ → Signal) (s : State) (st : machine.State)
-    (bits : List Bool) (leads : LeadsOn p) (by : IsByStages p st bits) (used : IsInUse p st bits)
+    (bits : List Bool) (leads : LeadsOn p) (by : IsByStages p st bits) (used : IsServed p st bits)
     (stands : StandsFor p ls vs s st) (seen : (j : ℕ) → j < length p.stages → IsSeen p vs moves s st bits j)
     (stood : (k : ℕ) (t : Thread) → here p st bits k ≡ Some t → Stood st k t) (spared : Spares p st bits) where
   -- a thread that comes into stage q with what this brings
   pub record Brings (q : ℕ) (c : Comer) (u : Thread) : Type 0 where
     pub long : length u.env ≡ p.vars
     pub env : IsEnv p q s c.vars (with_kept u.kept u.env)
+    pub advice : u.advice ≡ []
     pub held : IsHolding p q s c.held (held_before q u.env p.stmts [])
     pub guess : verifies_from p q ≡ true → length u.guess ≡ length p.start → (i : ℕ) → i < length p.start → slice_index u.guess i ≡ (c.guess i).value s
     pub tickets : (m : ℕ) (e : is_locked p m ≡ true) → reserve_stage p m < q → q ≤ commit_stage p m
         → holds_ticket (ls.bits m) (c.tickets m) s ((stands.locks m e).base + count_older u.number (machine.lock_of st m))
-        × (count_older u.number (list_three st (moving p st bits) m) + bit (has_release m (moving p st bits)) ≡ count_older u.number (machine.lock_of st m))
+        × (count_older u.number (list_three st (moving p st bits) m) + all_releases m (moving p st bits) ≡ count_older u.number (machine.lock_of st m))
         × (is_kept (squasher (moving p st bits)) u.number ≡ true)
 
   -- either both come into stage q and the comer brings what the thread has, or neither comes
@@ -172,6 +175,21 @@ module _ (p : Pipe) (ls : Locks) (vs : ℕ → View) (moves : ℕ → Signal) (s
   so_at : (k : ℕ) (t : Thread) → k < length p.stages → here p st bits k ≡ Some t → stage_moves p st bits k ≡ true → IsSo p k s (vs k).ended (deeds p st k t)
   so_at k t l h g = ((seen k l).follows t h).so (ready_of p st bits k t by l h g)
 
+  -- nobody who moves writes an advisory memory
+  pub none_advised : (n k : ℕ) (arrays : Arrays) → k + n ≡ length p.stages → with_all_advised (movers_from p st bits n k) arrays ≡ arrays
+  none_advised zero k arrays e = refl
+  none_advised (suc n) k arrays e =
+      let l : k < length p.stages = omega (arith, e) in
+      let rest = movers_from p st bits n (suc k) in
+      let more = none_advised n (suc k) arrays (omega (arith, e)) in
+      ⊎_elim
+      (λ (f : stage_moves p st bits k ≡ false). ap (λ ms. with_all_advised (ms ++ rest) arrays) (no_mover p st bits k f) ∙ more)
+      (λ (f : (t : Thread) × (here p st bits k ≡ Some t) × (stage_moves p st bits k ≡ true)).
+      ap (λ ms. with_all_advised (ms ++ rest) arrays) (one_mover p st bits k f.0 f.1 f.2)
+      ∙ ap (λ ws. with_advised ws (with_all_advised rest arrays)) (so_at k f.0 l f.1 f.2).advises
+      ∙ more)
+      (moves_or_not p st bits k)
+
   -- NEW THREADS
 
   born_brings : (number : ℕ) (moves : Signal) (b : Birth) → length b.args ≤ p.vars
@@ -184,6 +202,7 @@ module _ (p : Pipe) (ls : Locks) (vs : ℕ → View) (moves : ℕ → Signal) (s
             (let e = length-append vals (replicate (p.vars - length vals) 0) in
             let z = length-replicate {A = ℕ} (p.vars - length vals) 0 in omega (arith, e, z, n, short));
         env = λ x live. args_at s b.args (p.vars - length vals) x;
+        advice = refl;
         held = λ m a live. zero_is s ∙ ap (λ l. bit (is_held l m a)) (sym (held_first (start_env p vals) p.stmts []));
         guess = λ v e i l. absurd (omega (arith, e, l));
         tickets = λ m e low high. absurd (omega (arith, low));
@@ -284,18 +303,20 @@ module _ (p : Pipe) (ls : Locks) (vs : ℕ → View) (moves : ℕ → Signal) (s
       record {
         long = so.long;
         env = λ x live. so.env x (lives_down p j q x (omega (arith, low)) live);
-        held = λ m a live. so.held m a (holds_down p j q m a (omega (arith, low)) live) ∙ ap (λ ps. bit (is_held ps m a)) (used.held j q t h on);
+        advice = so.advice;
+        held = λ m a live. so.held m a (holds_down p j q m a (omega (arith, low)) live) ∙ ap (λ ps. bit (is_held ps m a)) (used.in_use.held j q t h on);
         guess =
-            λ v e i m. ap (λ l'. slice_index l' i) (so.guess (verifies_down p j q (omega (arith, low)) v) e)
+            λ v e i m. ap (λ l'. slice_index l' i)
+            (so.guess (spared.calm j t h (verifies_down p (suc j) q (omega (arith, low)) v)) (verifies_down p j q (omega (arith, low)) v) e)
             ∙ signal_at s (vs j).ended.guess i (let z = so.guess_long in omega (arith, m, z));
         tickets = λ m e r high. (
           subst
               (λ n. holds_ticket (ls.bits m) ((vs j).tickets m) s ((stands.locks m e).base + count_older n (machine.lock_of st m))) u.number
               ((stands.locks m e).tickets j u.thread u.slot (omega (arith, low, high))),
           subst
-              (λ n. count_older n (list_three st (moving p st bits) m) + bit (has_release m (moving p st bits)) ≡ count_older n (machine.lock_of st m)) u.number
-              (used.shifts j u.thread m u.slot (leads.over j q m d.env l to r) (omega (arith, low, high)) (λ c. absurd (omega (arith, c, low, high)))),
-          spared j t h g,
+              (λ n. count_older n (list_three st (moving p st bits) m) + all_releases m (moving p st bits) ≡ count_older n (machine.lock_of st m)) u.number
+              (used.in_use.shifts j u.thread m u.slot (leads.over j q m d.env l to r) (omega (arith, low, high)) (λ c. absurd (omega (arith, c, low, high)))),
+          spared.kept j t h g,
         );
       }
     where

@@ -59,7 +59,7 @@ holds_first q false = refl
 -- a thread in it is the first one
 is_first : (q : Pipe) (image : model.Arrays) (k : ℕ) (u : Thread)
     → slot (first q image) k ≡ Some u
-    → (k ≡ 0) × (u.env ≡ start_env q q.start) × (0 < length q.stages) × (u.guess ≡ []) × (u.kept ≡ [])
+    → (k ≡ 0) × (u.env ≡ start_env q q.start) × (0 < length q.stages) × (u.guess ≡ []) × (u.kept ≡ []) × (u.advice ≡ [])
 is_first q image k u e = ⊎_elim
     (λ (l : k < length q.stages). at k l e)
     (λ (l : length q.stages ≤ k). absurd (none_some (sym (past_stage (λ i. if i == 0 then born_thread q 1 (Some q.start) else None) 0 q.stages k None l) ∙ e)))
@@ -69,8 +69,8 @@ is_first q image k u e = ⊎_elim
     none_some h = cc h
 
     at : (k : ℕ) → k < length q.stages → slot (first q image) k ≡ Some u
-        → (k ≡ 0) × (u.env ≡ start_env q q.start) × (0 < length q.stages) × (u.guess ≡ []) × (u.kept ≡ [])
-    at zero l e = let z = sym (slot_first q image 0 l) ∙ e in (refl, cc z, omega (arith, l), cc z, cc z)
+        → (k ≡ 0) × (u.env ≡ start_env q q.start) × (0 < length q.stages) × (u.guess ≡ []) × (u.kept ≡ []) × (u.advice ≡ [])
+    at zero l e = let z = sym (slot_first q image 0 l) ∙ e in (refl, cc z, omega (arith, l), cc z, cc z, cc z)
     at (suc k) l e =
         let n : (suc k == 0) ≡ false = ne_eqb (suc k) 0 (λ h. omega (arith, h)) in
         absurd (none_some (ap (λ b. if b then born_thread q 1 (Some q.start) else None) (sym n) ∙ sym (slot_first q image (suc k) l) ∙ e))
@@ -86,7 +86,7 @@ pub record StartsWith (p : Pipe) (ls : Locks) (image : model.Arrays) (s : State)
 module _ (p : Pipe) (ls : Locks) (vs : ℕ → View) (gates : Gates) (moves : ℕ → Signal) (c : Circuit)
     (made : IsLaid p ls vs gates moves c) (image : model.Arrays) (s : State) (suits : Suits c s)
     (regs : s.regs ≡ map (λ (r : Reg). r.reset) c.regs)
-    (words : (m : ℕ) → is_locked p m ≡ false → (mem_at p m).delayed ≡ false → (a : ℕ) → a < (mem_at p m).depth
+    (words : (m : ℕ) → is_locked p m ≡ false → model.is_delayed (mem_at p m).kind ≡ false → (a : ℕ) → a < (mem_at p m).depth
     → image m a ≡ slice_index (slice_index_or s.arrays (ls.array m) []) a)
     (starts : (m : ℕ) → is_locked p m ≡ true → StartsWith p ls image s m) where
   abbrev first_state : machine.State
@@ -153,6 +153,7 @@ module _ (p : Pipe) (ls : Locks) (vs : ℕ → View) (gates : Gates) (moves : �
     valid = valid_first;
     long = long_first;
     env = env_first;
+    advice = λ k u h. (is_first p image k u h).5;
     held = held_at_first;
     guess = guess_first;
     words = words;

@@ -4,6 +4,7 @@ pub mod WellFormedPorts
 pub mod WellFormedStages
 pub mod WellFormedArrays
 pub mod Signals
+pub mod Reservations
 pub mod StageLooks
 pub mod StageRow
 pub mod StageLocks

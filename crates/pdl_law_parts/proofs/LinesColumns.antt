@@ -1,5 +1,5 @@
 -- The memories with a commit port are those with a lock, in declared order, and the lines of a cycle are those of all memories.
-use Rattle.std.proofs.Common.{◌≡◌, inl, inr, ℕ, zero, suc, Bool, true, false, ◌&&◌, if◌then◌else◌, List, [], ◌∷◌, ◌++◌, map, Option, Some, None, codes, decimal, bytes_eq, refl, sym, ap, ap₂, ◌∙◌, subst}
+use Rattle.std.proofs.Common.{◌≡◌, inl, inr, ℕ, zero, suc, Bool, true, false, ◌&&◌, if◌then◌else◌, List, [], ◌∷◌, ◌++◌, map, Some, None, codes, decimal, bytes_eq, refl, sym, ap, ap₂, ◌∙◌, subst}
 use Rattle.std.specs.Prelude.{filter_map}
 use Rattle.std.specs.List.{cons_option}
 use Rattle.std.specs.Option.{is_some}
@@ -7,7 +7,7 @@ use Rattle.pdl_kit.specs.declared.mem_info.MemInfo.{MemInfo}
 use Rattle.pdl_semantics.specs.Tree.{Mem}
 use Rattle.pdl_semantics.specs.Flatten.{mems_of}
 use Rattle.pdl_semantics.specs.Cycle.{PortWrite}
-use Rattle.pdl_semantics.specs.Lines.{column, columns, cycle_lines, mem_lines, put_of, puts_in}
+use Rattle.pdl_semantics.specs.Lines.{column, columns, cycle_lines, mem_lines, puts_for, puts_in}
 use Rattle.pdl_rules.specs.Typed.{AreDistinct}
 use Rattle.pdl_rules.specs.Memories.{info_of}
 use Rattle.pdl_net.specs.Circuit.{Output}
@@ -83,27 +83,27 @@ by_names infos (o ∷ outs) = ap (cons_option (commit_mem infos o.name)) (by_nam
 -- ---- the lines of a cycle
 
 -- the lines of what the locked memories commit are those of what all commit
-pub locked_lines : (f : List ℕ → Option PortWrite) (number : ℕ) (ms : List Mem) (es : List (Option PortWrite))
+pub locked_lines : (f : List ℕ → List PortWrite) (number : ℕ) (ms : List Mem) (es : List (List PortWrite))
     → AreDistinct ms → AreCommits (mems_of ms) es → ((m : Mem) → Among m ms → f m.name.name ≡ found ms es m.name.name)
-    → cycle_lines number (map column_of (locked_infos ms)) (map (λ (i : MemInfo). put_of (f i.name)) (locked_infos ms))
+    → cycle_lines number (map column_of (locked_infos ms)) (map (λ (i : MemInfo). puts_for (f i.name)) (locked_infos ms))
     ≡ cycle_lines number (columns ms) (puts_in es)
 locked_lines f number [] [] d h g = refl
 locked_lines f number [] (e ∷ es) d h g = absurd h
 locked_lines f number (m ∷ ms) [] d h g = absurd h
 locked_lines f number (m ∷ ms) (e ∷ es) d h g =
     go (is_some m.lock) (λ n. h.0 (lock_declared m.lock ∙ n))
-    (locked_lines f number ms es d.1 h.1
+    (locked_lines f number ms es d.1 h.2
     (λ k a. g k (inr a)
     ∙ ap (λ t. if t && is_some m.lock then e else found ms es k.name.name) (name_turned k.name.name m.name.name (among_other m.name.name ms k d.0 a))))
   where
     here : f m.name.name ≡ e
     here = g m (inl refl) ∙ found_first m ms e es d.0 h.0
 
-    go : (b : Bool) → (b ≡ false → e ≡ None)
-        → cycle_lines number (map column_of (locked_infos ms)) (map (λ (i : MemInfo). put_of (f i.name)) (locked_infos ms))
+    go : (b : Bool) → (b ≡ false → e ≡ [])
+        → cycle_lines number (map column_of (locked_infos ms)) (map (λ (i : MemInfo). puts_for (f i.name)) (locked_infos ms))
         ≡ cycle_lines number (columns ms) (puts_in es)
         → cycle_lines number (map column_of ((if b then info_of m ∷ [] else []) ++ locked_infos ms))
-        (map (λ (i : MemInfo). put_of (f i.name)) ((if b then info_of m ∷ [] else []) ++ locked_infos ms))
+        (map (λ (i : MemInfo). puts_for (f i.name)) ((if b then info_of m ∷ [] else []) ++ locked_infos ms))
         ≡ cycle_lines number (columns (m ∷ ms)) (puts_in (e ∷ es))
-    go true n rest = ap₂ (λ o l. mem_lines number (column m) (put_of o) ++ l) here rest
-    go false n rest = rest ∙ ap (λ o. mem_lines number (column m) (put_of o) ++ cycle_lines number (columns ms) (puts_in es)) (sym (n refl))
+    go true n rest = ap₂ (λ o l. mem_lines number (column m) (puts_for o) ++ l) here rest
+    go false n rest = rest ∙ ap (λ o. mem_lines number (column m) (puts_for o) ++ cycle_lines number (columns ms) (puts_in es)) (sym (n refl))

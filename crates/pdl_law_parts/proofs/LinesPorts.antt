@@ -1,5 +1,5 @@
 -- What the values of the ports of a pipe say of each memory, by the names of the ports.
-use Rattle.std.proofs.Common.{◌≡◌, inl, inr, ℕ, zero, suc, ◌+◌, Bool, true, false, ◌&&◌, if◌then◌else◌, cond, List, [], ◌∷◌, ◌++◌, length, map, Option, Some, None, codes, decimal, bytes_eq, refl, sym, ap, ap₂, ◌∙◌, arith}
+use Rattle.std.proofs.Common.{◌≡◌, inl, inr, ℕ, zero, suc, ◌+◌, ◌≤◌, Bool, true, false, ◌&&◌, if◌then◌else◌, cond, List, [], ◌∷◌, ◌++◌, length, map, Option, Some, None, codes, decimal, bytes_eq, refl, sym, ap, ap₂, ◌∙◌, arith}
 use Rattle.std.specs.Prelude.{slice_index, ◌==◌}
 use Rattle.std.specs.List.{position_from}
 use Rattle.std.specs.Option.{is_some}
@@ -10,7 +10,7 @@ use Rattle.pdl_semantics.specs.Tree.{LockDecl, Mem}
 use Rattle.pdl_semantics.specs.Flat.{has_lock}
 use Rattle.pdl_semantics.specs.Flatten.{mems_of, flat_lock}
 use Rattle.pdl_semantics.specs.Cycle.{PortWrite}
-use Rattle.pdl_semantics.specs.Lines.{Put, put_of, puts_in}
+use Rattle.pdl_semantics.specs.Lines.{Put, puts_for, puts_in}
 use Rattle.pdl_rules.specs.Typed.{is_memory, AreDistinct}
 use Rattle.pdl_net.specs.Circuit.{Circuit, Output, outputs_of}
 use Rattle.pdl_net.specs.Run.{value_at, port_value}
@@ -86,69 +86,70 @@ stages_same k (suc n) names (a ∷ valid) (b ∷ moves) vals e f l =
 -- ---- commits
 
 -- whether, where and what a memory commits
-abbrev pub flag_of : Option PortWrite → ℕ
-flag_of None = 0
-flag_of (Some e) = 1
+abbrev pub flag_of : List PortWrite → ℕ
+flag_of [] = 0
+flag_of (w ∷ ws) = 1
 
--- where a memory commits, 0 where it does not
-abbrev pub addr_of : Option PortWrite → ℕ
-addr_of None = 0
-addr_of (Some e) = e.address
+-- where a memory commits first, 0 where it does not
+abbrev pub addr_of : List PortWrite → ℕ
+addr_of [] = 0
+addr_of (w ∷ ws) = w.address
 
--- what a memory commits, 0 where it commits nothing
-abbrev pub word_of : Option PortWrite → ℕ
-word_of None = 0
-word_of (Some e) = e.value
+-- what a memory commits first, 0 where it commits nothing
+abbrev pub word_of : List PortWrite → ℕ
+word_of [] = 0
+word_of (w ∷ ws) = w.value
 
 -- the values of its ports, if it has a lock
-abbrev pub commit_if : Bool → Option PortWrite → List ℕ
+abbrev pub commit_if : Bool → List PortWrite → List ℕ
 commit_if b e = if b then flag_of e ∷ addr_of e ∷ word_of e ∷ [] else []
 
--- the values of a memory's commit ports are those of its ports, if it has a lock
-pub commit_is : (l : Option LockDecl) (e : Option PortWrite) → commit_values (flat_lock l) e ≡ commit_if (is_some l) e
-commit_is l e = ap (λ (b : Bool). if b then shown_values e else []) (lock_declared l) ∙ at (is_some l) e
+-- the values of a memory's commit ports, of which there are no second ones, are those of its ports, if it has a lock
+pub commit_is : (l : Option LockDecl) (e : List PortWrite) → commit_values (flat_lock l) false e ≡ commit_if (is_some l) e
+commit_is l e = ap (λ (b : Bool). if b then shown_values e ++ [] else []) (lock_declared l) ∙ at (is_some l) e
   where
-    at : (b : Bool) (w : Option PortWrite) → (if b then shown_values w else []) ≡ commit_if b w
-    at false w = refl
-    at true None = refl
-    at true (Some w) = refl
+    at : (b : Bool) (ws : List PortWrite) → (if b then shown_values ws ++ [] else []) ≡ commit_if b ws
+    at false ws = refl
+    at true [] = refl
+    at true (w ∷ ws) = refl
 
 -- what is committed by the memory of this name, where that memory has a lock
-abbrev pub found : List Mem → List (Option PortWrite) → List ℕ → Option PortWrite
+abbrev pub found : List Mem → List (List PortWrite) → List ℕ → List PortWrite
 found (m ∷ ms) (e ∷ es) x = if bytes_eq m.name.name x && is_some m.lock then e else found ms es x
-found _ _ x = None
+found _ _ x = []
 
 -- a function's values of two commits are chosen as the commits are, where the second condition holds
-pub if_both : (g : Option PortWrite → ℕ) (t : Bool) (e rest : Option PortWrite)
+pub if_both : (g : List PortWrite → ℕ) (t : Bool) (e rest : List PortWrite)
     → (if t then g e else g rest) ≡ g (if t && true then e else rest)
 if_both g true e rest = refl
 if_both g false e rest = refl
 
 -- where the second condition does not hold, a function has the value of the other commit
-pub if_none : (g : Option PortWrite → ℕ) (t : Bool) (e rest : Option PortWrite) → g rest ≡ g (if t && false then e else rest)
+pub if_none : (g : List PortWrite → ℕ) (t : Bool) (e rest : List PortWrite) → g rest ≡ g (if t && false then e else rest)
 if_none g true e rest = refl
 if_none g false e rest = refl
 
 -- ---- all memories
 
--- an address and a word, where there is a commit
-abbrev pub put_in : Option PortWrite → Option (ℕ × ℕ)
-put_in None = None
-put_in (Some e) = Some (e.address, e.value)
+-- the address and the word of the first commit, where there is one
+abbrev pub put_in : List PortWrite → Option (ℕ × ℕ)
+put_in [] = None
+put_in (w ∷ ws) = Some (w.address, w.value)
 
 -- the values of a memory's three commit ports tell its commit's address and word, where it has one
-pub put_cases : (o : Option PortWrite) (f a w : ℕ)
+pub put_cases : (o : List PortWrite) (f a w : ℕ)
     → f ≡ flag_of o → a ≡ addr_of o → w ≡ word_of o → (if f == 1 then Some (a, w) else None) ≡ put_in o
-put_cases None f a w e i j = rw e refl
-put_cases (Some x) f a w e i j = rw (e, i, j) refl
+put_cases [] f a w e i j = rw e refl
+put_cases (x ∷ xs) f a w e i j = rw (e, i, j) refl
 
--- a commit by its address and word is shown as the commit is
-pub same_put : (o : Option PortWrite) → puts_of (put_in o) ≡ put_of o
-same_put None = refl
-same_put (Some e) = refl
+-- at most one commit by its address and word is shown as the commit is
+pub same_put : (o : List PortWrite) → length o ≤ 1 → puts_of (put_in o) ≡ puts_for o
+same_put [] l = refl
+same_put (w ∷ []) l = refl
+same_put (w ∷ x ∷ ws) l = absurd (omega (arith, l))
 
 -- no memory has the name
-found_none : (ms : List Mem) (es : List (Option PortWrite)) (x : List ℕ) → is_memory ms x ≡ false → found ms es x ≡ None
+found_none : (ms : List Mem) (es : List (List PortWrite)) (x : List ℕ) → is_memory ms x ≡ false → found ms es x ≡ []
 found_none [] es x e = refl
 found_none (m ∷ ms) [] x e = refl
 found_none (m ∷ ms) (k ∷ es) x e =
@@ -156,29 +157,39 @@ found_none (m ∷ ms) (k ∷ es) x e =
     ap (λ t. if t && is_some m.lock then k else found ms es x) parts.0 ∙ found_none ms es x parts.1
 
 -- the first memory commits what is found by its name
-found_if : (l : Option LockDecl) (e rest : Option PortWrite)
-    → (has_lock (flat_lock l) ≡ false → e ≡ None) → rest ≡ None → (if is_some l then e else rest) ≡ e
+found_if : (l : Option LockDecl) (e rest : List PortWrite)
+    → (has_lock (flat_lock l) ≡ false → e ≡ []) → rest ≡ [] → (if is_some l then e else rest) ≡ e
 found_if None e rest h r = r ∙ sym (h refl)
 found_if (Some l) e rest h r = refl
 
 -- the first memory commits what is found by its name, where no other memory has that name
-pub found_first : (m : Mem) (ms : List Mem) (e : Option PortWrite) (es : List (Option PortWrite))
-    → is_memory ms m.name.name ≡ false → (has_lock (flat_lock m.lock) ≡ false → e ≡ None)
+pub found_first : (m : Mem) (ms : List Mem) (e : List PortWrite) (es : List (List PortWrite))
+    → is_memory ms m.name.name ≡ false → (has_lock (flat_lock m.lock) ≡ false → e ≡ [])
     → found (m ∷ ms) (e ∷ es) m.name.name ≡ e
 found_first m ms e es d h =
     ap (λ t. if t && is_some m.lock then e else found ms es m.name.name) (bytes_refl m.name.name)
     ∙ found_if m.lock e (found ms es m.name.name) h (found_none ms es m.name.name d)
 
+-- what is found by a name is at most one commit
+pub found_short : (ms : List Mem) (es : List (List PortWrite)) (x : List ℕ) → AreCommits (mems_of ms) es → length (found ms es x) ≤ 1
+found_short [] es x h = omega arith
+found_short (m ∷ ms) [] x h = omega arith
+found_short (m ∷ ms) (e ∷ es) x h = at (bytes_eq m.name.name x && is_some m.lock) (found_short ms es x h.2)
+  where
+    at : (b : Bool) → length (found ms es x) ≤ 1 → length (if b then e else found ms es x) ≤ 1
+    at true l = h.1
+    at false l = l
+
 -- what is found by the names of memories, which differ, is what they commit, memory by memory
-pub each_found : (f : List ℕ → Option PortWrite) (ms : List Mem) (es : List (Option PortWrite)) → AreDistinct ms
+pub each_found : (f : List ℕ → List PortWrite) (ms : List Mem) (es : List (List PortWrite)) → AreDistinct ms
     → AreCommits (mems_of ms) es → ((m : Mem) → Among m ms → f m.name.name ≡ found ms es m.name.name)
-    → map (λ (i : MemInfo). put_of (f i.name)) (map info_of ms) ≡ puts_in es
+    → map (λ (i : MemInfo). puts_for (f i.name)) (map info_of ms) ≡ puts_in es
 each_found f [] [] d h g = refl
 each_found f [] (e ∷ es) d h g = absurd h
 each_found f (m ∷ ms) [] d h g = absurd h
 each_found f (m ∷ ms) (e ∷ es) d h g =
     ap₂ (λ (x : List Put) (xs : List (List Put)). x ∷ xs)
-    (ap put_of (g m (inl refl) ∙ found_first m ms e es d.0 h.0))
-    (each_found f ms es d.1 h.1
+    (ap puts_for (g m (inl refl) ∙ found_first m ms e es d.0 h.0))
+    (each_found f ms es d.1 h.2
     (λ k a. g k (inr a)
     ∙ ap (λ t. if t && is_some m.lock then e else found ms es k.name.name) (name_turned k.name.name m.name.name (among_other m.name.name ms k d.0 a))))

@@ -1,43 +1,65 @@
 -- What a cycle does to a lock: the stages' ports do what the threads that move do, it is proper use, and it makes the lock of the next pending writes.
-use Rattle.std.proofs.Common.{◌≡◌, refl, sym, ap, ap₂, ◌∙◌, subst, ℕ, zero, suc, ◌+◌, ◌<◌, ◌≤◌, Bool, true, false, ◌&&◌, ◌||◌, List, [], ◌∷◌, ◌++◌, length, Option, Some, None, is_some, arith, ⊎_elim, length-append, append-nil, ◌==◌, ◌⊎◌, inl, inr}
-use Rattle.std.specs.Prelude.{if◌then◌else◌, ⊤, Contains}
+use Rattle.std.proofs.Common.{◌≡◌, refl, sym, ap, ap₂, ◌∙◌, subst, ℕ, zero, suc, ◌+◌, ◌<◌, ◌≤◌, Bool, true, false, ◌&&◌, List, [], ◌∷◌, ◌++◌, length, Option, Some, None, is_some, arith, ⊎_elim, length-append, append-nil, ◌==◌, ◌⊎◌, inl, inr, add-zero, le-ltb, lt-ltb, ltb-true}
+use Rattle.std.specs.Prelude.{if◌then◌else◌, nat_lt, ⊤, Contains}
 use Rattle.std.proofs.lemmas.Bool.{false≢true, and_parts, cases_lt}
-use Rattle.std.proofs.lemmas.List.{length-map}
+use Rattle.std.proofs.lemmas.List.{length-map, length-drop}
 use Rattle.pdl_word.specs.Words.{bit}
 use Rattle.pdl_semantics.specs.Flat.{Pipe}
-use Rattle.pdl_semantics.specs.Stages.{mem_at, commit_stage, list_any}
+use Rattle.pdl_semantics.specs.Stages.{mem_at, commit_stage}
 use Rattle.pdl_semantics.specs.Locks as locks
 use Rattle.pdl_semantics.specs.Machine as machine
 use Rattle.pdl_semantics.specs.Machine.{Thread, Pending, Written, deeds}
-use Rattle.pdl_semantics.specs.Moves.{Act as Mover, blocks_ready, have_room}
-use Rattle.pdl_semantics.specs.Cycle.{with_reserves, with_all_writes, with_writes_of, has_release, list_two, list_three, but_oldest, squasher}
+use Rattle.pdl_semantics.specs.Moves.{Act as Mover}
+use Rattle.pdl_semantics.specs.Cycle.{with_reserves, with_all_writes, with_writes_of, releases_of, all_releases, list_two, list_three, squasher}
 use Rattle.pdl_net.specs.Circuit.{State}
 use Rattle.pdl_net.specs.Signal.{Signal}
 use Rattle.pdl_lockapi.specs.Lock.{WriteAct, LockAct, LockState, with_writes, entry_at, Proper}
 use Rattle.pdl_lockapi.specs.Lock as lock
 use Rattle.pdl_lockapi.specs.Laws.{holds_ticket, asked_addresses, Drives}
-use Rattle.pdl_lockapi.specs.Forget.{forget, forgotten_entries, as_lock, has_thread, lock_state_of, addresses, addresses_of}
+use Rattle.pdl_lockapi.specs.Forget.{forget, forgotten_entries, as_lock, has_place, place_of, IsOnce, lock_state_of, addresses, addresses_of}
 use Rattle.pdl_lockapi.proofs.Threads.{same_append, ticket_covered}
-use Rattle.pdl_lockapi.proofs.Single.{single_is_proper}
 use Rattle.pdl_machine_facts.specs.Slots.{here, stage_moves, movers_from, moving}
 use Rattle.pdl_machine_facts.specs.Cycle.{IsByStages}
-use Rattle.pdl_machine_facts.specs.Use.{IsInUse}
 use Rattle.pdl_law_parts.proofs.AnsweredThreads.{Stood}
 use Rattle.pdl_law_parts.specs.Walk.{Locks, is_locked, Put, is_on}
 use Rattle.pdl_law_parts.specs.Views.{Gates, View}
 use Rattle.pdl_law_parts.specs.Ports.{reserves_to, all_reserves, puts_to, all_puts, release_signal, step_of}
+use Rattle.pdl_law_parts.specs.Served.{IsServed}
 use Rattle.pdl_law_parts.specs.Stands.{StandsLock, IsSo, IsSeen, IsSquashed, reserved_in, written_in, let_in}
 use Rattle.pdl_law_parts.proofs.Signals.{zero_is}
+use Rattle.pdl_law_parts.proofs.StageLooks.{lock_there}
 use Rattle.pdl_law_parts.proofs.Moves.{ready_of}
-use Rattle.pdl_law_parts.proofs.LockUse.{IsAlike, alike, same_count, all_new, appended_is, new_count, writes_to, write_among, write_acts, written_append, none_written, stage_written, count_below}
+use Rattle.pdl_law_parts.proofs.LockUse.{IsAlike, alike, all_new, appended_is, new_count, EachTo, each_to, each_map, HasTicket, write_acts, written_append, none_written, stage_written, place_below}
 use Rattle.pdl_lockapi.proofs.LockKinds.{room_there}
-use Rattle.pdl_law_parts.proofs.LockPorts.{asked_append, asked_stage, lets_stage, AreFitting, fitting_append, fitting_at, fitting_stage, AreDriven, driven_append, driven_count, driven_at, driven_stage, room_of, moves_or_not, no_mover, one_mover}
-use Rattle.pdl_semantics.specs.PendingLists.{AreOrdered, count_older}
+use Rattle.pdl_law_parts.proofs.LockPorts.{asked_append, asked_stage, lets_stage, AreFitting, fitting_append, fitting_at, fitting_stage, AreDriven, driven_append, driven_count, driven_at, driven_stage, moves_or_not, no_mover, one_mover}
+use Rattle.pdl_semantics.specs.PendingLists.{count_older, AreWritten}
+
+-- RELEASES
+
+-- there are as many pending writes as are released
+pub written_long : (k : ℕ) (es : List Pending) → AreWritten k es → k ≤ length es
+written_long zero es h = omega arith
+written_long (suc k) [] h = absurd h
+written_long (suc k) (e ∷ es) h = let i = written_long k es h.2 in omega (arith, i)
+
+-- what is released has its value
+entries_done : (k : ℕ) (es : List Pending) → AreWritten k es → (i : ℕ) → i < k → is_some (entry_at (forgotten_entries es) i).value ≡ true
+entries_done zero es h i l = absurd (omega (arith, l))
+entries_done (suc k) [] h i l = absurd h
+entries_done (suc k) (e ∷ es) h zero l = ap is_some h.1
+entries_done (suc k) (e ∷ es) h (suc i) l = entries_done k es h.2 i (omega (arith, l))
+
+-- the ticket of the oldest pending write after at most two releases
+pub base_after : (base k : ℕ) → k ≤ 2 → (if nat_lt 1 k then base + 2 else if nat_lt 0 k then base + 1 else base) ≡ base + k
+base_after base zero l = sym (add-zero base)
+base_after base (suc zero) l = refl
+base_after base (suc (suc zero)) l = refl
+base_after base (suc (suc (suc k))) l = absurd (omega (arith, l))
 
 -- OF ALL STAGES
 
 module _ (p : Pipe) (ls : Locks) (vs : ℕ → View) (moves : ℕ → Signal) (s : State) (st : machine.State)
-    (bits : List Bool) (by : IsByStages p st bits) (used : IsInUse p st bits)
+    (bits : List Bool) (by : IsByStages p st bits) (used : IsServed p st bits)
     (seen : (j : ℕ) → j < length p.stages → IsSeen p vs moves s st bits j)
     (stood : (k : ℕ) (t : Thread) → here p st bits k ≡ Some t → Stood st k t) (m : ℕ) where
   -- a stage's signals tell what its thread does, where that moves
@@ -76,40 +98,24 @@ module _ (p : Pipe) (ls : Locks) (vs : ℕ → View) (moves : ℕ → Signal) (s
         | inr f ↦ (so_at k f.0 l f.1 f.2).fits
       ]))
 
-  release_is : (n k : ℕ) → k + n ≡ length p.stages → (release_signal m vs moves n k).value s ≡ bit (has_release m (movers_from p st bits n k))
+  release_is : (n k : ℕ) → k + n ≡ length p.stages
+      → (release_signal m vs moves n k).value s ≡ bit (nat_lt 0 (all_releases m (movers_from p st bits n k)))
   release_is zero k e = zero_is s
   release_is (suc n) k e =
       let l : k < length p.stages = omega (arith, e) in
       let rest = movers_from p st bits n (suc k) in
       let i = release_is n (suc k) (omega (arith, e)) in
-      lets_stage s m (moves k) (stage_moves p st bits k) (seen k l).leaves (vs k).ended.lettings (release_signal m vs moves n (suc k)) (has_release m rest) i
-      ∙ ap bit (⊎_elim
+      let let_go = releases_of m (let_in s (vs k).ended.lettings) in
+      lets_stage s m (moves k) (stage_moves p st bits k) (seen k l).leaves (vs k).ended.lettings (release_signal m vs moves n (suc k)) (all_releases m rest) i
+      ∙ ap (λ c. bit (nat_lt 0 c)) (⊎_elim
       (λ (f : stage_moves p st bits k ≡ false).
-      ap (λ b. (b && list_any (λ n. n == m) (let_in s (vs k).ended.lettings)) || has_release m rest) f
-      ∙ ap (λ ms. has_release m (ms ++ rest)) (sym (no_mover p st bits k f)))
+      ap (λ b. all_releases m rest + (if b then let_go else 0)) f ∙ add-zero (all_releases m rest)
+      ∙ ap (λ ms. all_releases m (ms ++ rest)) (sym (no_mover p st bits k f)))
       (λ (f : (t : Thread) × (here p st bits k ≡ Some t) × (stage_moves p st bits k ≡ true)).
-      ap (λ b. (b && list_any (λ n. n == m) (let_in s (vs k).ended.lettings)) || has_release m rest) f.2
-      ∙ ap (λ ns. list_any (λ n. n == m) ns || has_release m rest) (sym (so_at k f.0 l f.1 f.2).releases)
-      ∙ ap (λ ms. has_release m (ms ++ rest)) (sym (one_mover p st bits k f.0 f.1 f.2)))
+      ap (λ b. all_releases m rest + (if b then let_go else 0)) f.2
+      ∙ ap (λ ns. all_releases m rest + releases_of m ns) (sym (so_at k f.0 l f.1 f.2).releases)
+      ∙ ap (λ ms. all_releases m (ms ++ rest)) (sym (one_mover p st bits k f.0 f.1 f.2)))
       (moves_or_not p st bits k))
-
-  room_from : (n k : ℕ) → k + n ≡ length p.stages → 1 ≤ length (addresses m (movers_from p st bits n k))
-      → locks.has_room (mem_at p m).lock (length (machine.lock_of st m)) ≡ true
-  room_from zero k e l = absurd (omega (arith, l))
-  room_from (suc n) k e l =
-      let rest = movers_from p st bits n (suc k) in
-      ⊎_elim
-      (λ (f : stage_moves p st bits k ≡ false). room_from n (suc k) (omega (arith, e))
-      (let e = ap (λ ms. length (addresses m (ms ++ rest))) (no_mover p st bits k f) in omega (arith, e, l)))
-      (λ (f : (t : Thread) × (here p st bits k ≡ Some t) × (stage_moves p st bits k ≡ true)).
-      let d = deeds p st k f.0 in
-      let g = ap (λ ms. length (addresses m (ms ++ rest))) (one_mover p st bits k f.0 f.1 f.2) ∙ length-append (addresses m rest) (addresses_of m d.reserves) in
-      let room = (and_parts (blocks_ready p st f.0.number d) (have_room p st d) (ready_of p st bits k f.0 by (omega (arith, e)) f.1 f.2)).1 in
-      ⊎_elim
-      (λ (i : 0 < length (addresses m rest)). room_from n (suc k) (omega (arith, e)) (omega (arith, i)))
-      (λ (i : length (addresses m rest) ≤ 0). room_of p st m d.reserves room (omega (arith, i, g, l)))
-      (cases_lt 0 (length (addresses m rest))))
-      (moves_or_not p st bits k)
 
   -- THE ACT
 
@@ -117,9 +123,10 @@ module _ (p : Pipe) (ls : Locks) (vs : ℕ → View) (moves : ℕ → Signal) (s
   abbrev pub pending : List Pending
   pending = with_reserves m (moving p st bits) (machine.lock_of st m)
 
-  abbrev older_of : Option Thread → ℕ
-  older_of None = 0
-  older_of (Some t) = count_older t.number (machine.lock_of st m)
+  -- the place of a thread's pending write of a variable
+  abbrev place_in : Option Thread → ℕ → ℕ
+  place_in None y = 0
+  place_in (Some t) y = place_of t.number y pending
 
   -- as many pending writes as before, and those that are reserved
   pub pending_count : length pending ≡ length (machine.lock_of st m) + length (addresses m (moving p st bits))
@@ -128,50 +135,52 @@ module _ (p : Pipe) (ls : Locks) (vs : ℕ → View) (moves : ℕ → Signal) (s
       ∙ length-append (machine.lock_of st m) (all_new m (moving p st bits))
       ∙ ap (λ n. length (machine.lock_of st m) + n) (new_count m (moving p st bits))
 
-  -- a thread with a pending write finds no more older ones among those that are appended
-  older_same : (t : ℕ) → has_thread t pending ≡ true → count_older t pending ≡ count_older t (machine.lock_of st m)
-  older_same t h =
-      let new = all_new m (moving p st bits) in
-      let es = machine.lock_of st m in
-      let e = appended_is m (moving p st bits) es in
-      let few = used.one m in
-      ap (count_older t) e
-      ∙ same_count t 0 es new (subst (AreOrdered 0) e (used.ordered_next m))
-      (let n = new_count m (moving p st bits) in omega (arith, n, few)) (ap (has_thread t) (sym e) ∙ h)
-
-  -- a thread that moves and writes has a pending write, and is in time
-  has_written : (k : ℕ) (t : Thread) → k < length p.stages → here p st bits k ≡ Some t → stage_moves p st bits k ≡ true
-      → writes_to m (written_in s (vs k).ended.puts) ≡ true
-      → (k ≤ commit_stage p m) × (has_thread t.number pending ≡ true)
-  has_written k t l h g w =
-      let c = write_among m (written_in s (vs k).ended.puts) w in
-      used.writer k t m c.0 h g
-      (let P : List Written → Type 0 = λ ws. Contains ws (record { mem = m; value = c.0 }) in subst P (sym (so_at k t l h g).writes) c.1)
-
   module _ (e : is_locked p m ≡ true) (stand : StandsLock p ls vs s st m) (gates : Gates) (squashed : IsSquashed p ls vs gates s st bits) where
     abbrev base : ℕ
     base = stand.base
 
+    -- how many writes are released
+    abbrev pub gone : ℕ
+    gone = all_releases m (moving p st bits)
+
     -- the ticket from which on a squash drops
     abbrev pub tail_with : Option ℕ → ℕ
     tail_with None = 0
-    tail_with (Some n) = base + bit (has_release m (moving p st bits)) + count_older (suc n) (list_three st (moving p st bits) m)
+    tail_with (Some n) = base + gone + count_older (suc n) (list_three st (moving p st bits) m)
 
     -- what the write ports of these stages do
     abbrev pub acts_of : ℕ → ℕ → List WriteAct
     acts_of zero k = []
-    acts_of (suc n) k = acts_of n (suc k) ++ write_acts s m (stage_moves p st bits k) (base + older_of (here p st bits k)) (vs k).ended.puts
+    acts_of (suc n) k = acts_of n (suc k) ++ write_acts s m (stage_moves p st bits k) (λ y. base + place_in (here p st bits k) y) (vs k).ended.puts
 
-    -- what the cycle does to the lock: its reservations, writes, release and squash, by the machine's threads
+    -- what the cycle does to the lock: its reservations, writes, releases and squash, by the machine's threads
     abbrev pub act_of : LockAct
     act_of = record {
       reserves = addresses m (moving p st bits);
       writes = acts_of (length p.stages) 0;
-      release = has_release m (moving p st bits);
-      release2 = false;
+      release = nat_lt 0 gone;
+      release2 = nat_lt 1 gone;
       squash = is_some (squasher (moving p st bits));
       tail = tail_with (squasher (moving p st bits));
     }
+
+    -- a thread that writes has one pending write of the variable, and is in time; the first one behind those of older threads
+    record IsOwn (k : ℕ) (t : Thread) (y : ℕ) : Type 0 where
+      early : k ≤ commit_stage p m
+      has : has_place t.number y pending ≡ true
+      once : IsOnce t.number y pending
+      place : place_of t.number y pending ≡ count_older t.number (machine.lock_of st m)
+
+    -- so has each thread that moves and writes
+    own_at : (k : ℕ) (t : Thread) → k < length p.stages → here p st bits k ≡ Some t → stage_moves p st bits k ≡ true
+        → EachTo m (IsOwn k t) (written_in s (vs k).ended.puts)
+    own_at k t l h g =
+        each_to m (IsOwn k t) (written_in s (vs k).ended.puts)
+        (λ y v c.
+        let P : List Written → Type 0 = λ ws. Contains ws (record { mem = m; var = y; value = v }) in
+        let d = subst P (sym (so_at k t l h g).writes) c in
+        let w = used.in_use.writer k t m y v h g d in
+        record { early = w.0; has = w.1; once = w.2; place = used.first k t m y v h g (lock_there p m e) d ∙ w.3 })
 
     tail_told : (q : Option ℕ) → squasher (moving p st bits) ≡ q → is_some q ≡ true → holds_ticket (ls.bits m) (gates.tail m) s (tail_with q)
     tail_told None f g = absurd (false≢true g)
@@ -183,19 +192,21 @@ module _ (p : Pipe) (ls : Locks) (vs : ℕ → View) (moves : ℕ → Signal) (s
         let l : k < length p.stages = omega (arith, e) in
         let xs = (vs k).ended.puts in
         driven_append (ls.bits m) s (acts_of n (suc k))
-        (write_acts s m (stage_moves p st bits k) (base + older_of (here p st bits k)) xs)
+        (write_acts s m (stage_moves p st bits k) (λ y. base + place_in (here p st bits k) y) xs)
         (all_puts m vs moves n (suc k)) (puts_to m (moves k) ((vs k).tickets m) xs)
         (driven n (suc k) (omega (arith, e)))
-        (driven_stage (ls.bits m) s m (base + older_of (here p st bits k)) (moves k) ((vs k).tickets m) (stage_moves p st bits k) xs (seen k l).leaves
+        (driven_stage (ls.bits m) s m (λ y. base + place_in (here p st bits k) y) (moves k) ((vs k).tickets m) (stage_moves p st bits k) xs (seen k l).leaves
         (λ g. at (moves_or_not p st bits k) g (λ t h g. (so_at k t l h g).bits))
-        (λ g w. at (moves_or_not p st bits k) g (λ t h g.
-        let low = (has_written k t l h g w).0 in
-        let P : Option Thread → Type 0 = λ o. holds_ticket (ls.bits m) ((vs k).tickets m) s (base + older_of o) in
+        (λ g. at (moves_or_not p st bits k) g (λ t h g.
+        let P : Option Thread → Type 0 = λ o. EachTo m (λ y. holds_ticket (ls.bits m) ((vs k).tickets m) s (base + place_in o y)) (written_in s xs) in
         let u = stood k t h in
         subst P (sym h)
+        (each_map m (IsOwn k t) (λ y. holds_ticket (ls.bits m) ((vs k).tickets m) s (base + place_of t.number y pending)) (written_in s xs)
+        (λ y o. subst (λ n. holds_ticket (ls.bits m) ((vs k).tickets m) s (base + n)) (sym o.place)
         (subst
         (λ n. holds_ticket (ls.bits m) ((vs k).tickets m) s (base + count_older n (machine.lock_of st m))) u.number
-        (stand.tickets k u.thread u.slot low)))))
+        (stand.tickets k u.thread u.slot o.early)))
+        (own_at k t l h g)))))
       where
         at : {R : Type 0}
             → (stage_moves p st bits k ≡ false) ⊎ ((t : Thread) × (here p st bits k ≡ Some t) × (stage_moves p st bits k ≡ true))
@@ -217,7 +228,7 @@ module _ (p : Pipe) (ls : Locks) (vs : ℕ → View) (moves : ℕ → Signal) (s
           ticket = λ k l. (driven_at (ls.bits m) s (acts_of (length p.stages) 0) (all_puts m vs moves (length p.stages) 0) d k l).ticket;
           value = λ k l. (driven_at (ls.bits m) s (acts_of (length p.stages) 0) (all_puts m vs moves (length p.stages) 0) d k l).value;
           release = release_is (length p.stages) 0 z;
-          release2 = zero_is s;
+          release2 = zero_is s ∙ ap bit (sym (le-ltb 1 gone (used.single m (lock_there p m e))));
           squash = squashed.squash;
           tail = λ g. tail_told (squasher (moving p st bits)) refl g;
         }
@@ -226,12 +237,12 @@ module _ (p : Pipe) (ls : Locks) (vs : ℕ → View) (moves : ℕ → Signal) (s
     pub all_written : (n k : ℕ) → k + n ≡ length p.stages
         → (forgotten_entries (with_all_writes m (movers_from p st bits n k) pending) ≡ with_writes base (acts_of n k) (forgotten_entries pending))
         × IsAlike (with_all_writes m (movers_from p st bits n k) pending) pending
-    all_written zero k e = (refl, alike pending (used.ordered_next m))
+    all_written zero k e = (refl, alike pending (used.in_use.ordered_next m))
     all_written (suc n) k e =
         let l : k < length p.stages = omega (arith, e) in
         let rest = movers_from p st bits n (suc k) in
         let i = all_written n (suc k) (omega (arith, e)) in
-        let ticket = base + older_of (here p st bits k) in
+        let ticket = λ (y : ℕ). base + place_in (here p st bits k) y in
         let xs = (vs k).ended.puts in
         let now = written_append base (acts_of n (suc k)) (write_acts s m (stage_moves p st bits k) ticket xs) (forgotten_entries pending) in
         let before = with_writes base (acts_of n (suc k)) (forgotten_entries pending) in
@@ -247,11 +258,9 @@ module _ (p : Pipe) (ls : Locks) (vs : ℕ → View) (moves : ℕ → Signal) (s
         (λ (f : (t : Thread) × (here p st bits k ≡ Some t) × (stage_moves p st bits k ≡ true)).
         let t = f.0.number in
         let es = with_all_writes m rest pending in
-        let j = stage_written s m base t ticket pending xs es i.1 (λ to.
-        let has = (has_written k f.0 l f.1 f.2 to).1 in (
-          has,
-          ap (λ o. base + older_of o) f.1 ∙ ap (λ c. base + c) (sym (older_same t has)),
-        )) in
+        let j = stage_written s m base t ticket pending xs es i.1
+        (each_map m (IsOwn k f.0) (λ y. HasTicket base t (ticket y) pending y) (written_in s xs)
+        (λ y o. record { has = o.has; once = o.once; told = ap (λ u. base + place_in u y) f.1 }) (own_at k f.0 l f.1 f.2)) in
         let writes = (so_at k f.0 l f.1 f.2).writes in
         let Q : List Written → Type 0 =
         λ ws. (forgotten_entries (with_writes_of m t ws es) ≡ with_writes base (write_acts s m true ticket xs) (forgotten_entries es))
@@ -278,24 +287,23 @@ module _ (p : Pipe) (ls : Locks) (vs : ℕ → View) (moves : ℕ → Signal) (s
     within_at high (a ∷ as') h zero l o = h.0 o
     within_at high (a ∷ as') h (suc k) l o = within_at high as' h.1 k (omega arith) o
 
-    within_stage : (high : ℕ) (g : Bool) (ticket : ℕ) (xs : List Put)
-        → (g ≡ true → writes_to m (written_in s xs) ≡ true → (base ≤ ticket) × (ticket < high))
-        → AreWithin high (write_acts s m g ticket xs)
+    within_stage : (high : ℕ) (g : Bool) (ticket : ℕ → ℕ) (xs : List Put)
+        → (g ≡ true → EachTo m (λ y. (base ≤ ticket y) × (ticket y < high)) (written_in s xs)) → AreWithin high (write_acts s m g ticket xs)
     within_stage high g ticket [] h = tt
     within_stage high g ticket (x ∷ xs) h = at (is_on x.on s) refl (x.mem == m) refl h (λ f. within_stage high g ticket xs f)
       where
+        Within : List Written → Type 0
+        Within ws = EachTo m (λ y. (base ≤ ticket y) × (ticket y < high)) ws
+
         at : (o : Bool) → is_on x.on s ≡ o → (c : Bool) → (x.mem == m) ≡ c
-            → (g ≡ true
-            → writes_to m (if o then record { mem = x.mem; value = x.value.value s } ∷ written_in s xs else written_in s xs) ≡ true
-            → (base ≤ ticket) × (ticket < high))
-            → ((g ≡ true → writes_to m (written_in s xs) ≡ true → (base ≤ ticket) × (ticket < high)) → AreWithin high (write_acts s m g ticket xs))
+            → (g ≡ true → Within (if o then record { mem = x.mem; var = x.var; value = x.value.value s } ∷ written_in s xs else written_in s xs))
+            → ((g ≡ true → Within (written_in s xs)) → AreWithin high (write_acts s m g ticket xs))
             → AreWithin high
             (if c
-            then record { on = g && is_on x.on s; ticket = ticket; value = x.value.value s } ∷ write_acts s m g ticket xs
+            then record { on = g && is_on x.on s; ticket = ticket x.var; value = x.value.value s } ∷ write_acts s m g ticket xs
             else write_acts s m g ticket xs)
-        at true f true i h rest = let k = ap (λ c. if c then true else writes_to m (written_in s xs)) i in
-            ((λ z. h (and_parts g (is_on x.on s) z).0 k), rest (λ z y. h z k))
-        at true f false i h rest = rest (λ z y. h z (ap (λ c. if c then true else writes_to m (written_in s xs)) i ∙ y))
+        at true f true i h rest = ((λ z. (h (and_parts g (is_on x.on s) z).0).0 i), rest (λ z. (h z).1))
+        at true f false i h rest = rest (λ z. (h z).1)
         at false f true i h rest = ((λ z. absurd (false≢true (sym f ∙ (and_parts g (is_on x.on s) z).1))), rest h)
         at false f false i h rest = rest h
 
@@ -303,17 +311,19 @@ module _ (p : Pipe) (ls : Locks) (vs : ℕ → View) (moves : ℕ → Signal) (s
     all_within zero k e = tt
     all_within (suc n) k e =
         within_append (base + length pending) (acts_of n (suc k))
-        (write_acts s m (stage_moves p st bits k) (base + older_of (here p st bits k)) (vs k).ended.puts)
+        (write_acts s m (stage_moves p st bits k) (λ y. base + place_in (here p st bits k) y) (vs k).ended.puts)
         (all_within n (suc k) (omega (arith, e)))
-        (within_stage (base + length pending) (stage_moves p st bits k) (base + older_of (here p st bits k)) (vs k).ended.puts
-        (λ g w. elim (moves_or_not p st bits k) [
+        (within_stage (base + length pending) (stage_moves p st bits k) (λ y. base + place_in (here p st bits k) y) (vs k).ended.puts
+        (λ g. elim (moves_or_not p st bits k) [
           | inl f ↦ absurd (false≢true (sym f ∙ g))
-          | inr f ↦ (
-              let has = (has_written k f.0 (omega (arith, e)) f.1 f.2 w).1 in
-              let below = count_below f.0.number pending (used.ordered_next m) has in
-              let same = older_same f.0.number has in
-              let here' : older_of (here p st bits k) ≡ count_older f.0.number (machine.lock_of st m) = ap older_of f.1 in
-              (omega arith, omega (arith, below, same, here')))
+          | inr f ↦
+              let P : Option Thread → Type 0 =
+              λ o. EachTo m (λ y. (base ≤ base + place_in o y) × (base + place_in o y < base + length pending)) (written_in s (vs k).ended.puts) in
+              subst P (sym f.1)
+              (each_map m (IsOwn k f.0) (λ y. (base ≤ base + place_of f.0.number y pending) × (base + place_of f.0.number y pending < base + length pending))
+              (written_in s (vs k).ended.puts)
+              (λ y o. let below = place_below f.0.number y pending o.once o.has in (omega arith, omega (arith, below)))
+              (own_at k f.0 (omega (arith, e)) f.1 f.2))
         ]))
 
     abbrev before : LockState
@@ -325,55 +335,52 @@ module _ (p : Pipe) (ls : Locks) (vs : ℕ → View) (moves : ℕ → Signal) (s
         ap (with_writes base (acts_of (length p.stages) 0)) (sym (same_append m (moving p st bits) (machine.lock_of st m)))
         ∙ sym (all_written (length p.stages) 0 (omega arith)).0
 
+    -- at most two are released, and these are there
+    few : gone ≤ 2
+    few = used.in_use.few m (lock_there p m e)
+
+    gone_there : gone ≤ length (list_two st (moving p st bits) m)
+    gone_there = written_long gone (list_two st (moving p st bits) m) (used.in_use.releaser m)
+
     -- a squash keeps a front of what is left
-    next_low : (b : Bool) (c : ℕ) → (if b then base + 1 else base) ≤ base + bit b + c
-    next_low true c = omega arith
-    next_low false c = omega arith
-
-    tail_low : (q : Option ℕ) → is_some q ≡ true → (if has_release m (moving p st bits) then base + 1 else base) ≤ tail_with q
+    tail_low : (q : Option ℕ) → is_some q ≡ true → lock.next_base before act_of ≤ tail_with q
     tail_low None g = absurd (false≢true g)
-    tail_low (Some n) g = next_low (has_release m (moving p st bits)) (count_older (suc n) (list_three st (moving p st bits) m))
-
-    three_long : (b : Bool) (es : List Pending) → (b ≡ true → 1 ≤ length es) → length (if b then but_oldest es else es) + bit b ≤ length es
-    three_long true [] h = h refl
-    three_long true (x ∷ es) h = omega arith
-    three_long false es h = omega arith
+    tail_low (Some n) g = let b = base_after base gone few in omega (arith, b)
 
     tail_high : (q : Option ℕ) → tail_with q ≤ base + length pending
     tail_high None = omega arith
     tail_high (Some n) =
         let two = (all_written (length p.stages) 0 (omega arith)).1.long in
-        let three =
-        three_long (has_release m (moving p st bits)) (list_two st (moving p st bits) m)
-        (λ g. let r = ap length (used.releaser m g).3 in omega (arith, r)) in
-        let few = ticket_covered (suc n) (list_three st (moving p st bits) m) in
-        omega (arith, two, three, few)
+        let three = length-drop gone (list_two st (moving p st bits) m) in
+        let some = gone_there in
+        let older = ticket_covered (suc n) (list_three st (moving p st bits) m) in
+        omega (arith, two, three, some, older)
 
     -- what the cycle does to the lock is proper use, where the memory declares its kind and size
     pub proper : (mem_at p m).lock ≡ as_lock (ls.kind m) (ls.size m) → Proper (ls.size m) before act_of
     proper kind =
         let es = machine.lock_of st m in
         let ms = moving p st bits in
-        let few = stand.few in
+        let small = stand.few in
         let long = length-map es forget in
         let count = pending_count in
         let within = all_within (length p.stages) 0 (omega arith) in
-        single_is_proper (ls.size m) before act_of refl (record {
-          one = used.one m;
+        let done = entries_done gone (list_two st ms m) (used.in_use.releaser m) in
+        record {
+          two = used.in_use.two m (lock_there p m e);
           room = ⊎_elim
               (λ (i : 0 < length (addresses m ms)).
               let room =
-              room_there (ls.kind m) (length es) (ls.size m)
-              (ap (λ l. locks.has_room l (length es)) (sym kind) ∙ room_from (length p.stages) 0 (omega arith) (omega (arith, i))) in
-              let one = used.one m in
-              omega (arith, long, room, one))
-              (λ (i : length (addresses m ms) ≤ 0). omega (arith, long, few, i))
+              room_there (ls.kind m) (length (addresses m ms)) (length es) (ls.size m)
+              (ap (λ l. locks.has_room l (length (addresses m ms)) (length es)) (sym kind) ∙ used.in_use.room m (omega (arith, i))) in
+              omega (arith, long, room))
+              (λ (i : length (addresses m ms) ≤ 0). omega (arith, long, small, i))
               (cases_lt 0 (length (addresses m ms)));
           from = λ k l o. (within_at (base + length pending) (acts_of (length p.stages) 0) within k l o).0;
           below = λ k l o. let b = (within_at (base + length pending) (acts_of (length p.stages) 0) within k l o).1 in omega (arith, b, count, long);
-          done = λ e.
-              let r = used.releaser m e in
-              ap (λ xs. is_some (entry_at xs 0).value) (filled_is ∙ ap forgotten_entries r.3) ∙ ap is_some r.4;
+          done = λ f. ap (λ xs. is_some (entry_at xs 0).value) filled_is ∙ done 0 (ltb-true 0 gone f);
+          both = λ f. let i = ltb-true 1 gone f in lt-ltb 0 gone (omega (arith, i));
+          done2 = λ f. ap (λ xs. is_some (entry_at xs 1).value) filled_is ∙ done 1 (ltb-true 1 gone f);
           tail_from = λ g. tail_low (squasher (moving p st bits)) g;
           tail_to = λ g. let z = tail_high (squasher (moving p st bits)) in omega (arith, z, count, long);
-        })
+        }

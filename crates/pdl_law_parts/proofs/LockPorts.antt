@@ -1,13 +1,12 @@
 -- The ports of a lock that one stage drives: what they ask where its thread moves, and that they ask nothing where it doesn't.
-use Rattle.std.proofs.Common.{◌≡◌, refl, sym, ap, ap₂, ◌∙◌, ℕ, zero, suc, ◌<◌, ◌≤◌, Bool, true, false, ◌&&◌, ◌||◌, List, [], ◌∷◌, ◌++◌, length, Option, Some, None, arith, ◌==◌, ◌⊎◌, inl, inr}
-use Rattle.std.specs.Prelude.{if◌then◌else◌, ⊤}
-use Rattle.std.proofs.lemmas.Bool.{false≢true, and_parts, eqb-true}
+use Rattle.std.proofs.Common.{◌≡◌, refl, sym, ap, ap₂, ◌∙◌, ℕ, zero, suc, ◌+◌, ◌<◌, Bool, true, false, ◌&&◌, List, [], ◌∷◌, ◌++◌, length, Option, Some, None, arith, ◌==◌, ◌⊎◌, inl, inr, add-zero, lt-ltb}
+use Rattle.std.specs.Prelude.{if◌then◌else◌, nat_lt, ⊤}
+use Rattle.std.proofs.lemmas.Bool.{false≢true, and_parts}
 use Rattle.pdl_word.specs.Words.{bit}
-use Rattle.pdl_semantics.specs.Flat.{Pipe, list_all}
-use Rattle.pdl_semantics.specs.Stages.{mem_at, list_any}
-use Rattle.pdl_semantics.specs.Locks as locks
+use Rattle.pdl_semantics.specs.Flat.{Pipe}
 use Rattle.pdl_semantics.specs.Machine as machine
-use Rattle.pdl_semantics.specs.Machine.{Thread, Reserved}
+use Rattle.pdl_semantics.specs.Machine.{Thread, Written}
+use Rattle.pdl_semantics.specs.Cycle.{releases_of}
 use Rattle.pdl_net.specs.Circuit.{State}
 use Rattle.pdl_net.specs.Signal.{Signal, mux_signal}
 use Rattle.pdl_lockapi.specs.Lock.{WriteAct}
@@ -19,7 +18,7 @@ use Rattle.pdl_law_parts.specs.Walk.{Reservation, Put, Letting, both, one, zero_
 use Rattle.pdl_law_parts.specs.Ports.{reserves_to, puts_to, release_moves}
 use Rattle.pdl_law_parts.specs.Stands.{AddressesFit, AreBits, reserved_in, written_in, let_in}
 use Rattle.pdl_law_parts.proofs.Signals.{mux_at, mux_by, both_at, one_is, zero_is}
-use Rattle.pdl_law_parts.proofs.LockUse.{writes_to, write_acts}
+use Rattle.pdl_law_parts.proofs.LockUse.{EachTo, write_acts}
 
 -- PORTS OF ONE STAGE
 
@@ -60,7 +59,7 @@ asked_stage s m moves true e (r ∷ rs) = at (is_on r.on s) (both_is s moves r.o
     rest = reserves_to m moves rs
 
     at : (o : Bool) → ((both moves r.on).value s == 1) ≡ o → addresses_of m (reserved_in s rs) ≡ asked_addresses s rest
-        → addresses_of m (if o then record { mem = r.mem; address = r.addr.value s } ∷ reserved_in s rs else reserved_in s rs)
+        → addresses_of m (if o then record { mem = r.mem; var = r.var; address = r.addr.value s } ∷ reserved_in s rs else reserved_in s rs)
         ≡ asked_addresses s (if r.mem == m then record { enable = both moves r.on; addr = r.addr } ∷ rest else rest)
     at true f i = by (r.mem == m)
       where
@@ -110,40 +109,42 @@ fitting_stage s m moves g e (r ∷ rs) h = at (fitting_stage s m moves g e rs (�
     at i true = (made, i)
     at i false = i
 
--- whether a stage releases the memory, else what the rest tells
+-- whether a stage releases the memory, beside so many releases of other stages
 pub lets_stage : (s : State) (m : ℕ) (moves : Signal) (g : Bool)
-    → moves.value s ≡ bit g → (ls : List Letting) (rest : Signal) (b : Bool) → rest.value s ≡ bit b
-    → (release_moves m moves ls rest).value s ≡ bit ((g && list_any (λ n. n == m) (let_in s ls)) || b)
-lets_stage s m moves true e [] rest b h = h
-lets_stage s m moves false e [] rest b h = h
-lets_stage s m moves false e (l ∷ ls) rest b h = at (l.mem == m) (lets_stage s m moves false e ls rest b h)
+    → moves.value s ≡ bit g → (ls : List Letting) (rest : Signal) (n : ℕ) → rest.value s ≡ bit (nat_lt 0 n)
+    → (release_moves m moves ls rest).value s ≡ bit (nat_lt 0 (n + (if g then releases_of m (let_in s ls) else 0)))
+lets_stage s m moves true e [] rest n h = h ∙ ap (λ k. bit (nat_lt 0 k)) (sym (add-zero n))
+lets_stage s m moves false e [] rest n h = h ∙ ap (λ k. bit (nat_lt 0 k)) (sym (add-zero n))
+lets_stage s m moves false e (l ∷ ls) rest n h = at (l.mem == m) (lets_stage s m moves false e ls rest n h)
   where
-    at : (t : Bool) → (release_moves m moves ls rest).value s ≡ bit b
-        → (if t then mux_signal (both moves l.on) one (release_moves m moves ls rest) else release_moves m moves ls rest).value s ≡ bit b
+    at : (t : Bool) → (release_moves m moves ls rest).value s ≡ bit (nat_lt 0 (n + 0))
+        → (if t then mux_signal (both moves l.on) one (release_moves m moves ls rest) else release_moves m moves ls rest).value s ≡ bit (nat_lt 0 (n + 0))
     at true i =
         mux_by s (both moves l.on) one (release_moves m moves ls rest)
         ∙ ap (λ t. if t then one.value s else (release_moves m moves ls rest).value s) (both_is s moves l.on false e)
         ∙ i
     at false i = i
-lets_stage s m moves true e (l ∷ ls) rest b h = at (is_on l.on s) (both_is s moves l.on true e) (lets_stage s m moves true e ls rest b h)
+lets_stage s m moves true e (l ∷ ls) rest n h = at (is_on l.on s) (both_is s moves l.on true e) (lets_stage s m moves true e ls rest n h)
   where
     more : Signal
     more = release_moves m moves ls rest
 
-    left : Bool
-    left = list_any (λ n. n == m) (let_in s ls)
+    left : ℕ
+    left = releases_of m (let_in s ls)
 
-    at : (o : Bool) → ((both moves l.on).value s == 1) ≡ o → more.value s ≡ bit (left || b)
+    at : (o : Bool) → ((both moves l.on).value s == 1) ≡ o → more.value s ≡ bit (nat_lt 0 (n + left))
         → (if l.mem == m then mux_signal (both moves l.on) one more else more).value s
-        ≡ bit (list_any (λ n. n == m) (if o then l.mem ∷ let_in s ls else let_in s ls) || b)
+        ≡ bit (nat_lt 0 (n + releases_of m (if o then l.mem ∷ let_in s ls else let_in s ls)))
     at true f i = by (l.mem == m)
       where
-        by : (t : Bool) → (if t then mux_signal (both moves l.on) one more else more).value s ≡ bit ((t || left) || b)
-        by true = mux_by s (both moves l.on) one more ∙ ap (λ t. if t then one.value s else more.value s) f ∙ one_is s
+        by : (t : Bool) → (if t then mux_signal (both moves l.on) one more else more).value s ≡ bit (nat_lt 0 (n + (if t then suc left else left)))
+        by true =
+            mux_by s (both moves l.on) one more ∙ ap (λ t. if t then one.value s else more.value s) f ∙ one_is s
+            ∙ ap bit (sym (lt-ltb 0 (n + suc left) (omega arith)))
         by false = i
     at false f i = by (l.mem == m)
       where
-        by : (t : Bool) → (if t then mux_signal (both moves l.on) one more else more).value s ≡ bit (left || b)
+        by : (t : Bool) → (if t then mux_signal (both moves l.on) one more else more).value s ≡ bit (nat_lt 0 (n + left))
         by true = mux_by s (both moves l.on) one more ∙ ap (λ t. if t then one.value s else more.value s) f ∙ i
         by false = i
 
@@ -183,14 +184,17 @@ driven_at w s (a ∷ as') (f ∷ fs) h zero l = h.0
 driven_at w s (a ∷ as') (f ∷ fs) h (suc k) l = driven_at w s as' fs h.1 k (omega arith)
 
 -- the write ports of a stage, with the ticket of its thread
-pub driven_stage : (w : ℕ) (s : State) (m number : ℕ) (moves ticket : Signal) (g : Bool) (xs : List Put)
+pub driven_stage : (w : ℕ) (s : State) (m : ℕ) (number : ℕ → ℕ) (moves ticket : Signal) (g : Bool) (xs : List Put)
     → moves.value s ≡ bit g → (g ≡ true → AreBits s xs)
-    → (g ≡ true → writes_to m (written_in s xs) ≡ true → holds_ticket w ticket s number)
+    → (g ≡ true → EachTo m (λ y. holds_ticket w ticket s (number y)) (written_in s xs))
     → AreDriven w s (write_acts s m g number xs) (puts_to m moves ticket xs)
 driven_stage w s m number moves ticket g [] e b h = tt
 driven_stage w s m number moves ticket g (x ∷ xs) e b h =
-    at (is_on x.on s) refl (x.mem == m) refl (h) (λ f. driven_stage w s m number moves ticket g xs e (λ z. (b z).1) f)
+    at (is_on x.on s) refl (x.mem == m) refl h (λ f. driven_stage w s m number moves ticket g xs e (λ z. (b z).1) f)
   where
+    Holds : List Written → Type 0
+    Holds ws = EachTo m (λ y. holds_ticket w ticket s (number y)) ws
+
     Tail : Type 0
     Tail = AreDriven w s (write_acts s m g number xs) (puts_to m moves ticket xs)
 
@@ -198,42 +202,25 @@ driven_stage w s m number moves ticket g (x ∷ xs) e b h =
     on = both_at s moves x.on g (is_on x.on s) e (λ z. (b z).0)
 
     at : (o : Bool) → is_on x.on s ≡ o → (c : Bool) → (x.mem == m) ≡ c
-        → (g ≡ true
-        → writes_to m (if o then record { mem = x.mem; value = x.value.value s } ∷ written_in s xs else written_in s xs) ≡ true
-        → holds_ticket w ticket s number)
-        → ((g ≡ true → writes_to m (written_in s xs) ≡ true → holds_ticket w ticket s number) → Tail)
+        → (g ≡ true → Holds (if o then record { mem = x.mem; var = x.var; value = x.value.value s } ∷ written_in s xs else written_in s xs))
+        → ((g ≡ true → Holds (written_in s xs)) → Tail)
         → AreDriven w s
-        (if c then record { on = g && is_on x.on s; ticket = number; value = x.value.value s } ∷ write_acts s m g number xs else write_acts s m g number xs)
+        (if c
+        then record { on = g && is_on x.on s; ticket = number x.var; value = x.value.value s } ∷ write_acts s m g number xs
+        else write_acts s m g number xs)
         (if c then record { enable = both moves x.on; ticket = ticket; value = x.value } ∷ puts_to m moves ticket xs else puts_to m moves ticket xs)
     at true f true i h rest = (
-      record { on = on; ticket = λ z. h (and_parts g (is_on x.on s) z).0 (ap (λ c. if c then true else writes_to m (written_in s xs)) i); value = refl },
-      rest (λ z y. h z (ap (λ c. if c then true else writes_to m (written_in s xs)) i)),
+      record { on = on; ticket = λ z. (h (and_parts g (is_on x.on s) z).0).0 i; value = refl },
+      rest (λ z. (h z).1),
     )
-    at true f false i h rest = rest (λ z y. h z (ap (λ c. if c then true else writes_to m (written_in s xs)) i ∙ y))
+    at true f false i h rest = rest (λ z. (h z).1)
     at false f true i h rest = (
       record { on = on; ticket = λ z. absurd (false≢true (sym f ∙ (and_parts g (is_on x.on s) z).1)); value = refl },
       rest h,
     )
     at false f false i h rest = rest h
 
--- ROOM
-
--- who reserves a memory finds room
-pub room_of : (q : Pipe) (st : machine.State) (m : ℕ) (rs : List Reserved)
-    → list_all (λ (r : Reserved). locks.has_room (mem_at q r.mem).lock (length (machine.lock_of st r.mem))) rs ≡ true
-    → 1 ≤ length (addresses_of m rs) → locks.has_room (mem_at q m).lock (length (machine.lock_of st m)) ≡ true
-room_of q st m [] h l = absurd (omega (arith, l))
-room_of q st m (r ∷ rs) h l =
-    let test : Reserved → Bool = λ r. locks.has_room (mem_at q r.mem).lock (length (machine.lock_of st r.mem)) in
-    let parts = and_parts (test r) (list_all test rs) h in
-    at (λ i. room_of q st m rs parts.1 i) parts.0 (r.mem == m) refl l
-  where
-    at : (1 ≤ length (addresses_of m rs) → locks.has_room (mem_at q m).lock (length (machine.lock_of st m)) ≡ true)
-        → locks.has_room (mem_at q r.mem).lock (length (machine.lock_of st r.mem)) ≡ true
-        → (b : Bool) → (r.mem == m) ≡ b → 1 ≤ length ((if b then r.address ∷ [] else []) ++ addresses_of m rs)
-        → locks.has_room (mem_at q m).lock (length (machine.lock_of st m)) ≡ true
-    at rest here true e i = ap (λ n. locks.has_room (mem_at q n).lock (length (machine.lock_of st n))) (sym (eqb-true r.mem m e)) ∙ here
-    at rest here false e i = rest i
+-- WHO MOVES
 
 -- nobody moves out of a stage, or its thread does
 pub moves_or_not : (p : Pipe) (st : machine.State) (bits : List Bool) (k : ℕ)

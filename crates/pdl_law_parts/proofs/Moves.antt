@@ -13,13 +13,13 @@ use Rattle.pdl_net.specs.Signal.{Signal}
 use Rattle.pdl_net.specs.Well.{Suits}
 use Rattle.pdl_machine_facts.specs.Slots.{LeadsOn, slot, here, later_acts, locks_ready, may_pass, slot_moves, stage_moves, may_enter}
 use Rattle.pdl_machine_facts.specs.Cycle.{IsByStages}
-use Rattle.pdl_machine_facts.specs.Use.{IsInUse}
 use Rattle.pdl_machine_facts.proofs.StagewiseActs.{some_here}
 use Rattle.pdl_law_parts.specs.Lives.{forks_by, lives_from}
 use Rattle.pdl_law_parts.specs.Walk.{Locks, one, both}
 use Rattle.pdl_law_parts.specs.Views.{Gates, View, free, way_on, moves_where}
 use Rattle.pdl_law_parts.specs.Compiled.{IsLaid}
-use Rattle.pdl_law_parts.specs.Reads.{AreAtOnce}
+use Rattle.pdl_law_parts.specs.Rows.{HaveRows}
+use Rattle.pdl_law_parts.specs.Served.{IsServed}
 use Rattle.pdl_law_parts.specs.Stands.{StandsFor, IsEnv, IsSo, Follows, IsSeen}
 use Rattle.pdl_law_parts.specs.Beside.{TellsGate}
 use Rattle.pdl_law_parts.proofs.Signals.{mux_at, mux_by, both_at, one_is}
@@ -55,16 +55,16 @@ ready_of p st bits k t by l h g = second (is_empty t.awaits) (locks_ready p st t
 
 -- each stage in a cycle, where the walks begin with the answers of the cycle and the gates tell what they should
 module _ (p : Pipe) (ls : Locks) (vs : ℕ → View) (gates : Gates) (moves : ℕ → Signal) (c : Circuit)
-    (made : IsLaid p ls vs gates moves c) (once : AreAtOnce p) (leads : LeadsOn p)
+    (made : IsLaid p ls vs gates moves c) (all : HaveRows p) (leads : LeadsOn p)
     (s : State) (st : machine.State) (bits : List Bool) (suits : Suits c s) (stands : StandsFor p ls vs s st)
-    (used : IsInUse p st bits) (by : IsByStages p st bits)
+    (used : IsServed p st bits) (by : IsByStages p st bits)
     (answers : (k : ℕ) (t : Thread) → k < length p.stages → here p st bits k ≡ Some t → IsEnv p k s (vs k).begun.vars (with_kept t.kept t.env))
     (tells : (k : ℕ) (t : Thread) → k < length p.stages → here p st bits k ≡ Some t → TellsGate p vs gates moves s st bits k t) where
   follows_at : (k : ℕ) (t : Thread) → k < length p.stages → here p st bits k ≡ Some t → Follows p k s st t.number (vs k).ended (deeds p st k t)
   follows_at k t l h =
       let x = made.stages k l in
       stage_follows c p ls vs s st bits suits (λ m e. (made.locks m e).kind)
-      (λ m e. (made.locks m e).room) stands used once k t x.rows x.fresh x.guess_long (answers k t l h) h
+      (λ m e. (made.locks m e).room) stands used all k t x.rows x.fresh x.guess_long (answers k t l h) h
 
   module _ (k : ℕ) (l : k < length p.stages) (later : (j : ℕ) → k < j → j < length p.stages → IsSeen p vs moves s st bits j) where
     free_is : (q : ℕ) → k < q → q < length p.stages → (free vs moves q).value s ≡ bit (is_none (slot st q) || stage_moves p st bits q)

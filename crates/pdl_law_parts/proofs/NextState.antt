@@ -1,15 +1,15 @@
 -- After a cycle the state of a compiled netlist stands for the machine's next state.
-use Rattle.std.proofs.Common.{◌≡◌, refl, sym, ap, ap₂, ◌∙◌, subst, ℕ, suc, ◌+◌, ◌%◌, ◌^◌, ◌<◌, ◌≤◌, Bool, true, false, List, [], ◌∷◌, length, Option, Some, None, is_some, arith, ⊎_elim, ltb-true, le-leb}
+use Rattle.std.proofs.Common.{◌≡◌, refl, sym, ap, ap₂, ◌∙◌, subst, ℕ, suc, ◌+◌, ◌%◌, ◌^◌, ◌<◌, ◌≤◌, Bool, true, false, List, [], ◌∷◌, length, take, Option, Some, None, is_some, arith, ⊎_elim, ltb-true, le-leb}
 use Rattle.std.specs.Prelude.{if◌then◌else◌, slice_index, slice_index_or, nat_lt, nat_le, not, ◌==◌}
-use Rattle.std.proofs.lemmas.Bool.{false≢true, cases_lt, leb-true}
+use Rattle.std.proofs.lemmas.Bool.{cases_lt, leb-true}
 use Rattle.std.proofs.lemmas.List.{length-map, get_or_past}
 use Rattle.pdl_word.specs.Words.{bit}
-use Rattle.pdl_semantics.specs.Flat.{Pipe}
+use Rattle.pdl_semantics.specs.Flat.{Arrays, Pipe, is_delayed}
 use Rattle.pdl_semantics.specs.Stages.{plain_mem, mem_at, reserve_stage, commit_stage}
 use Rattle.pdl_semantics.specs.Machine as machine
 use Rattle.pdl_semantics.specs.Machine.{Thread, Pending, held_before, is_held, with_kept}
 use Rattle.pdl_semantics.specs.Moves.{next_stage}
-use Rattle.pdl_semantics.specs.Cycle.{cycle, or_then, if_kept, is_stage, thread_after, squasher, is_kept as removed, has_release, list_two, list_three, with_commit, oldest, entries_left}
+use Rattle.pdl_semantics.specs.Cycle.{cycle, or_then, if_kept, is_stage, thread_after, squasher, is_kept as removed, all_releases, list_two, list_three, taken_out, with_commit, with_all_advised, entries_left}
 use Rattle.pdl_net.specs.Circuit.{Circuit, State, HasArray, HasReg}
 use Rattle.pdl_net.specs.Signal.{Signal, no_signal, mux_signal}
 use Rattle.pdl_net.specs.Cycle.{next_regs, next_arrays}
@@ -28,11 +28,12 @@ use Rattle.pdl_law_parts.proofs.AnsweredThreads.{Stood}
 use Rattle.pdl_law_parts.specs.Walk.{Locks, is_locked, one, zero_bit}
 use Rattle.pdl_law_parts.specs.Views.{Gates, View, Comer, comers, first_coming}
 use Rattle.pdl_law_parts.specs.Compiled.{IsLaid, Becomes}
+use Rattle.pdl_law_parts.specs.Served.{IsServed}
 use Rattle.pdl_law_parts.specs.Stands.{IsEnv, IsHolding, StandsLock, StandsFor, IsSeen, IsSquashed, IsGuess}
 use Rattle.pdl_law_parts.proofs.Signals.{mux_at, mux_by, one_is, zero_is}
-use Rattle.pdl_law_parts.proofs.StageLooks.{plain_is}
+use Rattle.pdl_law_parts.proofs.StageLooks.{plain_is, lock_there}
 use Rattle.pdl_law_parts.proofs.LockStep.{words_next, words_long, words_same, few_next, stands_next}
-use Rattle.pdl_law_parts.proofs.Comers.{first_come, brought, picked_is, AreAlike, Brings, comers_alike, signal_at, signals_are, Spares}
+use Rattle.pdl_law_parts.proofs.Comers.{first_come, brought, picked_is, AreAlike, Brings, none_advised, comers_alike, signal_at, signals_are, Spares}
 use Rattle.pdl_semantics.specs.PendingLists.{count_older}
 
 -- a memory that has words, or a lock, is there
@@ -41,15 +42,6 @@ mem_there p m a l = ⊎_elim
     (λ (h : m < length p.mems). h)
     (λ (h : length p.mems ≤ m). absurd
     (let z = ap (λ (x : Rattle.pdl_semantics.specs.Flat.Mem). x.depth) (get_or_past p.mems m plain_mem h) in omega (arith, z, l)))
-    (cases_lt m (length p.mems))
-
--- the number of a memory that has a lock is below the count of memories
-pub lock_there : (p : Pipe) (m : ℕ) → is_locked p m ≡ true → m < length p.mems
-lock_there p m e = ⊎_elim
-    (λ (h : m < length p.mems). h)
-    (λ (h : length p.mems ≤ m). absurd
-    (false≢true
-    (sym (ap (λ (x : Rattle.pdl_semantics.specs.Flat.Mem). Rattle.pdl_semantics.specs.Flat.has_lock x.lock) (get_or_past p.mems m plain_mem h)) ∙ e)))
     (cases_lt m (length p.mems))
 
 -- who comes isn't removed
@@ -90,7 +82,7 @@ count_left sq n (e ∷ es) h = at sq (nat_lt e.thread n) refl h (count_left sq n
 
 module _ (p : Pipe) (ls : Locks) (vs : ℕ → View) (gates : Gates) (moves : ℕ → Signal) (c : Circuit) (made : IsLaid p ls vs gates moves c) (leads : LeadsOn p)
     (s : State) (st : machine.State) (bits : List Bool) (suits : Suits c s) (stands : StandsFor p ls vs s st)
-    (used : IsInUse p st bits) (by : IsByStages p st bits) (spared : Spares p st bits)
+    (used : IsServed p st bits) (by : IsByStages p st bits) (spared : Spares p st bits)
     (seen : (j : ℕ) → j < length p.stages → IsSeen p vs moves s st bits j)
     (stood : (k : ℕ) (t : Thread) → here p st bits k ≡ Some t → Stood st k t)
     (squashed : IsSquashed p ls vs gates s st bits)
@@ -123,7 +115,9 @@ module _ (p : Pipe) (ls : Locks) (vs : ℕ → View) (gates : Gates) (moves : �
           taken : (b : Bool)
               → or_then (if b then Some (thread_after (slots.act_at p st j t)) else None) (slots.first_of p st bits q js) ≡ Some u
               → removed sq u.number ≡ true
-          taken true k = let same : thread_after (slots.act_at p st j t) ≡ u = cc k in subst (λ (v : Thread). removed sq v.number ≡ true) same (spared j t h f)
+          taken true k =
+              let same : thread_after (slots.act_at p st j t) ≡ u = cc k in
+              subst (λ (v : Thread). removed sq v.number ≡ true) same (spared.kept j t h f)
           taken false k = go k
 
   slot_next : (q : ℕ) → q < length p.stages → slot next q ≡ or_then (coming q) (stays q)
@@ -246,6 +240,13 @@ module _ (p : Pipe) (ls : Locks) (vs : ℕ → View) (gates : Gates) (moves : �
         at (came o f b) = b.env x live ∙ ap (brought s (λ (o : Comer). o.vars x) ((vs q).begun.vars x)) (sym f) ∙ sym now
         at (stayed f g h r) = answers q u l h x live ∙ ap (brought s (λ (o : Comer). o.vars x) ((vs q).begun.vars x)) (sym f) ∙ sym now
 
+    advice_next : (q : ℕ) (u : Thread) → slot next q ≡ Some u → u.advice ≡ []
+    advice_next q u e = at (came_how q u (stage_low q u e) e)
+      where
+        at : Came q u → u.advice ≡ []
+        at (came o f b) = b.advice
+        at (stayed f g h r) = let v = stood q u h in sym v.advice ∙ stands.advice q v.thread v.slot
+
     held_next : (q : ℕ) (u : Thread) → slot next q ≡ Some u → IsHolding p q t (vs q).begun.held (held_before q u.env p.stmts [])
     held_next q u e m a live = at (came_how q u l e)
       where
@@ -287,6 +288,9 @@ module _ (p : Pipe) (ls : Locks) (vs : ℕ → View) (gates : Gates) (moves : �
 
     -- MEMORIES
 
+    unadvised : (arrays : Arrays) → with_all_advised (moving p st bits) arrays ≡ arrays
+    unadvised arrays = none_advised p ls vs moves s st bits leads by used stands seen stood spared (length p.stages) 0 arrays (omega arith)
+
     own_next : (own : Own) → ((r : ℕ) → own.from ≤ r → r < own.to → HasReg c r) → ((i : ℕ) → own.first ≤ i → i < own.last → HasArray c i) → IsNext c own s t
     own_next own has has_array =
         is_next own c c s t (record { has_reg = has; nexts = λ k lo hi. refl; has_array = has_array; writes = λ i lo hi. refl }) regs arrays
@@ -296,7 +300,7 @@ module _ (p : Pipe) (ls : Locks) (vs : ℕ → View) (gates : Gates) (moves : �
       stand = stands.locks m e
 
       abbrev base : ℕ
-      base = stand.base + bit (has_release m (moving p st bits))
+      base = stand.base + all_releases m (moving p st bits)
 
       abbrev words : List ℕ
       words = words_next p ls vs moves s st bits by used seen stood m e stand gates squashed
@@ -330,7 +334,7 @@ module _ (p : Pipe) (ls : Locks) (vs : ℕ → View) (gates : Gates) (moves : �
 
               thread_after : (f : Signal)
                   → holds_ticket (ls.bits m) f s (stand.base + count_older u.number (machine.lock_of st m))
-                  → count_older u.number (list_three st (moving p st bits) m) + bit (has_release m (moving p st bits))
+                  → count_older u.number (list_three st (moving p st bits) m) + all_releases m (moving p st bits)
                   ≡ count_older u.number (machine.lock_of st m)
                   → removed sq u.number ≡ true
                   → f.value s ≡ (base + count_older u.number es) % 2 ^ ls.bits m
@@ -355,9 +359,9 @@ module _ (p : Pipe) (ls : Locks) (vs : ℕ → View) (gates : Gates) (moves : �
                   (λ n. holds_ticket (ls.bits m) ((vs q).tickets m) s (stand.base + count_older n (machine.lock_of st m))) w.number
                   (stand.tickets q w.thread w.slot high))
                   (subst
-                  (λ n. count_older n (list_three st (moving p st bits) m) + bit (has_release m (moving p st bits))
+                  (λ n. count_older n (list_three st (moving p st bits) m) + all_releases m (moving p st bits)
                   ≡ count_older n (machine.lock_of st m)) w.number
-                  (used.shifts q w.thread m w.slot (let z : reserve_stage p m ≤ q = omega (arith, low) in z) high (λ z. g))) r)
+                  (used.in_use.shifts q w.thread m w.slot (let z : reserve_stage p m ≤ q = omega (arith, low) in z) high (λ z. g))) r)
 
           after : q ≤ reserve_stage p m → holds_ticket (ls.bits m) ((vs q).tickets m) t (base + count_older u.number es)
           after low =
@@ -377,6 +381,7 @@ module _ (p : Pipe) (ls : Locks) (vs : ℕ → View) (gates : Gates) (moves : �
             long = (let z = stand.long in omega (arith, long, z));
             same =
                 λ a low. ap (λ (f : ℕ → ℕ). f a) (by.arrays m (lock_there p m e))
+                ∙ ap (λ (x : Arrays). x m a) (unadvised (with_commit st.arrays m (taken_out st (moving p st bits) m)))
                 ∙ words_same p ls vs moves s st bits by used seen stood m e stand gates squashed a low;
             stands = stands';
             few = subst (λ es. length es ≤ ls.size m) (sym list) (few_next p ls vs moves s st bits by used seen stood m e stand gates squashed x.kind);
@@ -384,7 +389,7 @@ module _ (p : Pipe) (ls : Locks) (vs : ℕ → View) (gates : Gates) (moves : �
           }
 
     -- a memory without lock keeps its words
-    word_next : (m : ℕ) → is_locked p m ≡ false → (mem_at p m).delayed ≡ false → (a : ℕ) → a < (mem_at p m).depth
+    word_next : (m : ℕ) → is_locked p m ≡ false → is_delayed (mem_at p m).kind ≡ false → (a : ℕ) → a < (mem_at p m).depth
         → next.arrays m a ≡ slice_index (slice_index_or t.arrays (ls.array m) []) a
     word_next m e comb a low =
         let l = mem_there p m a low in
@@ -395,7 +400,8 @@ module _ (p : Pipe) (ls : Locks) (vs : ℕ → View) (gates : Gates) (moves : �
         (ls.array m)
         (omega arith) (omega arith) in
         ap (λ (f : ℕ → ℕ). f a) (by.arrays m l)
-        ∙ ap (λ b. with_commit st.arrays m (if b then oldest (list_two st (moving p st bits) m) else None) m a) (used.unreleased m (plain_is p m e))
+        ∙ ap (λ (x : Arrays). x m a) (unadvised (with_commit st.arrays m (taken_out st (moving p st bits) m)))
+        ∙ ap (λ k. with_commit st.arrays m (take k (list_two st (moving p st bits) m)) m a) (used.in_use.unreleased m (plain_is p m e))
         ∙ stands.words m e comb a low
         ∙ sym (ap (λ ws. slice_index ws a) (kept ∙ ap (λ ws. after_writes s ws (slice_index_or s.arrays (ls.array m) [])) (made.unwritten m l e comb)))
 
@@ -405,6 +411,7 @@ module _ (p : Pipe) (ls : Locks) (vs : ℕ → View) (gates : Gates) (moves : �
       valid = valid_next;
       long = long_next;
       env = env_next;
+      advice = advice_next;
       held = held_next;
       guess = guess_next;
       words = word_next;

@@ -1,27 +1,29 @@
 -- The outputs of a compiled netlist have the values of the machine's ports.
-use Rattle.std.proofs.Common.{◌≡◌, refl, sym, ap, ap₂, ◌∙◌, subst, ℕ, zero, suc, ◌+◌, ◌-◌, ◌<◌, Bool, true, false, List, [], ◌∷◌, ◌++◌, length, map, Some, is_some, arith, add-zero}
+use Rattle.std.proofs.Common.{◌≡◌, refl, sym, ap, ap₂, ◌∙◌, subst, ℕ, zero, suc, ◌+◌, ◌<◌, Bool, true, false, List, [], ◌∷◌, ◌++◌, length, map, Some, is_some, arith, add-zero}
 use Rattle.std.specs.Prelude.{if◌then◌else◌, slice_index_or, filter_map}
 use Rattle.std.proofs.lemmas.List.{map-append}
-use Rattle.pdl_semantics.specs.Flat.{Lock, Mem, Stage, Pipe, has_lock}
+use Rattle.pdl_semantics.specs.Flat.{Lock, Mem, Stmt, Stage, Pipe, has_lock}
 use Rattle.pdl_semantics.specs.Stages.{plain_mem, mem_at}
 use Rattle.pdl_semantics.specs.Machine as machine
 use Rattle.pdl_semantics.specs.Machine.{Thread}
 use Rattle.pdl_semantics.specs.Moves.{Act}
-use Rattle.pdl_semantics.specs.Cycle.{for_stages, for_mems, taken_out, port_write}
+use Rattle.pdl_semantics.specs.Cycle.{for_stages, for_mems, taken_out, port_writes}
+use Rattle.pdl_semantics.specs.SecondWrites.{reserves_twice, all_twice}
 use Rattle.pdl_net.specs.Circuit.{Circuit, State, Output, port_output}
 use Rattle.pdl_net.specs.Signal.{Signal}
 use Rattle.pdl_net.specs.Cycle.{net_value}
 use Rattle.pdl_machine_facts.specs.Slots.{slot, here, stage_moves, moving}
 use Rattle.pdl_machine_facts.specs.Ports.{stage_values, commit_values, all_commit_values}
 use Rattle.pdl_machine_facts.specs.Cycle.{IsByStages}
-use Rattle.pdl_machine_facts.specs.Use.{IsInUse}
 use Rattle.pdl_lockapi.proofs.LockKinds.{plain_is}
 use Rattle.pdl_law_parts.proofs.AnsweredThreads.{Stood}
 use Rattle.pdl_law_parts.specs.Walk.{Locks, is_locked}
 use Rattle.pdl_law_parts.specs.Views.{Gates, View}
 use Rattle.pdl_law_parts.specs.Ports.{Shown, Commit, stages_shown, commit_shown, commits_shown}
 use Rattle.pdl_law_parts.specs.Compiled.{shown_in, port_in, IsLaid}
+use Rattle.pdl_law_parts.specs.Served.{IsServed}
 use Rattle.pdl_law_parts.specs.Stands.{StandsFor, IsSeen, IsSquashed}
+use Rattle.pdl_law_parts.proofs.StageLooks.{lock_there}
 use Rattle.pdl_law_parts.proofs.LockStep.{commit_as, commit_is}
 
 -- the outputs of a circuit with these ports
@@ -60,45 +62,51 @@ module _ (names : ℕ → List ℕ) (s : State) (st : machine.State) where
   commit_words x = x.enable.value s ∷ x.addr.value s ∷ x.value.value s ∷ []
 
   -- the commit outputs of these memories have the values of what is taken out, where the commit of each locked one has
-  pub commits_are : (ms : List Act) (commits : ℕ → Commit) (m : ℕ) (xs : List Mem)
+  pub commits_are : (ms : List Act) (ss : List Stmt) (commits : ℕ → Commit) (m : ℕ) (xs : List Mem)
       → ((i : ℕ) → i < length xs → has_lock (slice_index_or xs i plain_mem).lock ≡ true
-      → commit_words (commits (m + i)) ≡ commit_values (slice_index_or xs i plain_mem).lock (port_write (taken_out st ms (m + i))))
-      → map (shown_value s) (commits_shown names commits m xs) ≡ all_commit_values xs (for_mems (λ i. port_write (taken_out st ms i)) m xs)
-  commits_are ms commits m [] h = refl
-  commits_are ms commits m (x ∷ xs) h =
+      → commit_words (commits (m + i)) ≡ commit_values (slice_index_or xs i plain_mem).lock (reserves_twice (m + i) ss) (port_writes (taken_out st ms (m + i))))
+      → map (shown_value s) (commits_shown names commits m xs) ≡ all_commit_values (all_twice ss m xs) xs (for_mems (λ i. port_writes (taken_out st ms i)) m xs)
+  commits_are ms ss commits m [] h = refl
+  commits_are ms ss commits m (x ∷ xs) h =
       map-append (shown_value s) (if has_lock x.lock then commit_shown (names m) (commits m) else []) (commits_shown names commits (suc m) xs)
       ∙ ap₂ (λ a b. a ++ b) (mine x.lock (λ e. at (h 0 (omega arith) e)))
-      (commits_are ms commits (suc m) xs (λ i l e. later i (h (suc i) (omega (arith, l)) e)))
+      (commits_are ms ss commits (suc m) xs (λ i l e. later i (h (suc i) (omega (arith, l)) e)))
     where
-      at : commit_words (commits (m + 0)) ≡ commit_values x.lock (port_write (taken_out st ms (m + 0)))
-          → commit_words (commits m) ≡ commit_values x.lock (port_write (taken_out st ms m))
-      at e = ap (λ i. commit_words (commits i)) (sym (add-zero m)) ∙ e ∙ ap (λ i. commit_values x.lock (port_write (taken_out st ms i))) (add-zero m)
+      at : commit_words (commits (m + 0)) ≡ commit_values x.lock (reserves_twice (m + 0) ss) (port_writes (taken_out st ms (m + 0)))
+          → commit_words (commits m) ≡ commit_values x.lock (reserves_twice m ss) (port_writes (taken_out st ms m))
+      at e = ap (λ i. commit_words (commits i)) (sym (add-zero m)) ∙ e
+          ∙ ap (λ i. commit_values x.lock (reserves_twice i ss) (port_writes (taken_out st ms i))) (add-zero m)
 
       mine : (l : Lock)
-          → (has_lock l ≡ true → commit_words (commits m) ≡ commit_values l (port_write (taken_out st ms m)))
-          → map (shown_value s) (if has_lock l then commit_shown (names m) (commits m) else []) ≡ commit_values l (port_write (taken_out st ms m))
+          → (has_lock l ≡ true → commit_words (commits m) ≡ commit_values l (reserves_twice m ss) (port_writes (taken_out st ms m)))
+          → map (shown_value s) (if has_lock l then commit_shown (names m) (commits m) else [])
+          ≡ commit_values l (reserves_twice m ss) (port_writes (taken_out st ms m))
       mine l g = told (has_lock l) refl
         where
           told : (b : Bool) → has_lock l ≡ b
-              → map (shown_value s) (if b then commit_shown (names m) (commits m) else []) ≡ commit_values l (port_write (taken_out st ms m))
-          told false e = ap (λ (x : Lock). commit_values x (port_write (taken_out st ms m))) (sym (plain_is l e))
+              → map (shown_value s) (if b then commit_shown (names m) (commits m) else [])
+              ≡ commit_values l (reserves_twice m ss) (port_writes (taken_out st ms m))
+          told false e = ap (λ (x : Lock). commit_values x (reserves_twice m ss) (port_writes (taken_out st ms m))) (sym (plain_is l e))
           told true e = g e
 
       later : (i : ℕ)
-          → commit_words (commits (m + suc i)) ≡ commit_values (slice_index_or xs i plain_mem).lock (port_write (taken_out st ms (m + suc i)))
-          → commit_words (commits (suc m + i)) ≡ commit_values (slice_index_or xs i plain_mem).lock (port_write (taken_out st ms (suc m + i)))
+          → commit_words (commits (m + suc i))
+          ≡ commit_values (slice_index_or xs i plain_mem).lock (reserves_twice (m + suc i) ss) (port_writes (taken_out st ms (m + suc i)))
+          → commit_words (commits (suc m + i))
+          ≡ commit_values (slice_index_or xs i plain_mem).lock (reserves_twice (suc m + i) ss) (port_writes (taken_out st ms (suc m + i)))
       later i e = let z : m + suc i ≡ suc m + i = omega arith in
-          subst (λ j. commit_words (commits j) ≡ commit_values (slice_index_or xs i plain_mem).lock (port_write (taken_out st ms j))) z e
+          subst (λ j. commit_words (commits j) ≡ commit_values (slice_index_or xs i plain_mem).lock (reserves_twice j ss) (port_writes (taken_out st ms j))) z e
 
 -- the signals of a lock's commit have the values of what the machine commits
 pub commit_laid : (p : Pipe) (names : ℕ → List ℕ) (ls : Locks) (vs : ℕ → View) (gates : Gates) (moves : ℕ → Signal)
     (c : Circuit) (laid : IsLaid p ls vs gates moves c) (s : State) (st : machine.State) (bits : List Bool)
-    → StandsFor p ls vs s st → IsInUse p st bits → IsByStages p st bits
+    → StandsFor p ls vs s st → IsServed p st bits → IsByStages p st bits
     → ((j : ℕ) → j < length p.stages → IsSeen p vs moves s st bits j)
     → ((k : ℕ) (t : Thread) → here p st bits k ≡ Some t → Stood st k t) → IsSquashed p ls vs gates s st bits → (m : ℕ)
     → is_locked p m ≡ true
-    → commit_words names s st (laid.commits m) ≡ commit_values (mem_at p m).lock (port_write (taken_out st (moving p st bits) m))
+    → commit_words names s st (laid.commits m) ≡ commit_values (mem_at p m).lock (reserves_twice m p.stmts) (port_writes (taken_out st (moving p st bits) m))
 commit_laid p names ls vs gates moves c laid s st bits stands used by seen stood squashed m e =
     let x = laid.locks m e in
     commit_is p ls vs moves s st bits by used seen stood m e (stands.locks m e) gates squashed x.kind (laid.owns m) c (laid.commits m) x.step
-    ∙ sym (commit_as (ls.kind m) (ls.size m) (mem_at p m).lock (taken_out st (moving p st bits) m) x.kind)
+    ∙ sym (commit_as (ls.kind m) (ls.size m) (mem_at p m).lock (port_writes (taken_out st (moving p st bits) m)) x.kind)
+    ∙ ap (λ b. commit_values (mem_at p m).lock b (port_writes (taken_out st (moving p st bits) m))) (sym (used.once m (lock_there p m e)))

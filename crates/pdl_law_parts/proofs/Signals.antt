@@ -59,17 +59,17 @@ on_is s f b e = ap (λ n. n == 1) e ∙ at b
 -- with a reservation more, what is reserved is that of the others, and its own where its condition is 1
 pub reserved_more : (s : State) (rs : List Reservation) (r : Reservation)
     → reserved_in s (rs ++ r ∷ []) ≡ reserved_in s rs
-    ++ (if is_on r.on s then record { mem = r.mem; address = r.addr.value s } ∷ [] else [])
+    ++ (if is_on r.on s then record { mem = r.mem; var = r.var; address = r.addr.value s } ∷ [] else [])
 reserved_more s [] r = refl
 reserved_more s (x ∷ rs) r = at (is_on x.on s) (reserved_more s rs r)
   where
     more : List Reserved
-    more = if is_on r.on s then record { mem = r.mem; address = r.addr.value s } ∷ [] else []
+    more = if is_on r.on s then record { mem = r.mem; var = r.var; address = r.addr.value s } ∷ [] else []
 
     at : (b : Bool) → reserved_in s (rs ++ r ∷ []) ≡ reserved_in s rs ++ more
-        → (if b then record { mem = x.mem; address = x.addr.value s } ∷ reserved_in s (rs ++ r ∷ []) else reserved_in s (rs ++ r ∷ []))
-        ≡ (if b then record { mem = x.mem; address = x.addr.value s } ∷ reserved_in s rs else reserved_in s rs) ++ more
-    at true e = ap (λ l. record { mem = x.mem; address = x.addr.value s } ∷ l) e
+        → (if b then record { mem = x.mem; var = x.var; address = x.addr.value s } ∷ reserved_in s (rs ++ r ∷ []) else reserved_in s (rs ++ r ∷ []))
+        ≡ (if b then record { mem = x.mem; var = x.var; address = x.addr.value s } ∷ reserved_in s rs else reserved_in s rs) ++ more
+    at true e = ap (λ l. record { mem = x.mem; var = x.var; address = x.addr.value s } ∷ l) e
     at false e = e
 
 -- with a reservation more whose address fits where it is made, the addresses of all fit
@@ -80,17 +80,17 @@ fits_more s (x ∷ rs) r h f = (h.0, fits_more s rs r h.1 f)
 
 -- with a write more, what is written is that of the others, and its own where its condition is 1
 pub written_more : (s : State) (xs : List Put) (y : Put)
-    → written_in s (xs ++ y ∷ []) ≡ written_in s xs ++ (if is_on y.on s then record { mem = y.mem; value = y.value.value s } ∷ [] else [])
+    → written_in s (xs ++ y ∷ []) ≡ written_in s xs ++ (if is_on y.on s then record { mem = y.mem; var = y.var; value = y.value.value s } ∷ [] else [])
 written_more s [] y = refl
 written_more s (x ∷ xs) y = at (is_on x.on s) (written_more s xs y)
   where
     more : List Written
-    more = if is_on y.on s then record { mem = y.mem; value = y.value.value s } ∷ [] else []
+    more = if is_on y.on s then record { mem = y.mem; var = y.var; value = y.value.value s } ∷ [] else []
 
     at : (b : Bool) → written_in s (xs ++ y ∷ []) ≡ written_in s xs ++ more
-        → (if b then record { mem = x.mem; value = x.value.value s } ∷ written_in s (xs ++ y ∷ []) else written_in s (xs ++ y ∷ []))
-        ≡ (if b then record { mem = x.mem; value = x.value.value s } ∷ written_in s xs else written_in s xs) ++ more
-    at true e = ap (λ l. record { mem = x.mem; value = x.value.value s } ∷ l) e
+        → (if b then record { mem = x.mem; var = x.var; value = x.value.value s } ∷ written_in s (xs ++ y ∷ []) else written_in s (xs ++ y ∷ []))
+        ≡ (if b then record { mem = x.mem; var = x.var; value = x.value.value s } ∷ written_in s xs else written_in s xs) ++ more
+    at true e = ap (λ l. record { mem = x.mem; var = x.var; value = x.value.value s } ∷ l) e
     at false e = e
 
 -- with a release more, the memories let go are those of the others, and its own where its condition is 1

@@ -1,11 +1,11 @@
 -- Rows that make threads, requests and guesses.
 use Rattle.std.proofs.Common.{◌≡◌, ℕ, Bool, true, false, List, [], ◌∷◌, ◌++◌, map, refl, sym, ap, ap₂, ◌∙◌, append-nil}
 use Rattle.std.specs.Prelude.{Some, ◌==◌, if◌then◌else◌, not}
-use Rattle.std.proofs.lemmas.Bool.{or_right, or_left}
+use Rattle.std.proofs.lemmas.Bool.{false≢true, or_right, or_left}
 use Rattle.pdl_word.specs.Words.{bit}
 use Rattle.pdl_semantics.specs.Flat.{Expr, Call, Pipe, all_hold, values_of, DelayedRead, SpecCall, Verify, SpecCheck, SpecBarrier}
 use Rattle.pdl_semantics.specs.Machine as machine
-use Rattle.pdl_semantics.specs.Machine.{Deeds, same_args}
+use Rattle.pdl_semantics.specs.Machine.{Deeds, with_kept, all_values, same_args}
 use Rattle.pdl_net.specs.Circuit.{Circuit, State}
 use Rattle.pdl_net.specs.Signal.{Signal}
 use Rattle.pdl_machine_facts.specs.Slots.{locks_ready}
@@ -20,7 +20,7 @@ use Rattle.pdl_word.proofs.Numbers.{eqb_self}
 module _ (c : Circuit) (p : Pipe) (ls : Locks) (vs : ℕ → View) (s : State) (st : machine.State) (k thread : ℕ) (around : IsAround c p ls vs s st k thread) where
   -- a row that calls: the new thread has the values of its arguments
   pub follows_call : (args : List Expr) → FollowsOp c p ls vs s st k thread around (Call args)
-  follows_call args j gs r w d live on row here fine q =
+  follows_call args j gs r w d live on row here fine sole q =
       quiet c p ls vs s st k thread around gs r w d glive on q (Call args) (walk_after (Call args) r ls w) refl (λ b. same b) (λ h z b f. so h b f)
     where
       glive : (z : ℕ) → guards_use gs z ≡ true → lives_from p k z ≡ true
@@ -58,6 +58,8 @@ module _ (c : Circuit) (p : Pipe) (ls : Locks) (vs : ℕ → View) (s : State) (
             child = child_at h true f;
             short = (row.0, h.short);
             asks = h.asks;
+            advice = h.advice;
+            advises = h.advises;
             guess_long = h.guess_long;
             guess = h.guess;
             fails = h.fails;
@@ -76,6 +78,8 @@ module _ (c : Circuit) (p : Pipe) (ls : Locks) (vs : ℕ → View) (s : State) (
             child = child_at h false f;
             short = (row.0, h.short);
             asks = h.asks;
+            advice = h.advice;
+            advises = h.advises;
             guess_long = h.guess_long;
             guess = h.guess;
             fails = h.fails;
@@ -84,7 +88,7 @@ module _ (c : Circuit) (p : Pipe) (ls : Locks) (vs : ℕ → View) (s : State) (
 
   -- a row that reads delayed: it asks the memory for the word at the location's address
   pub follows_fetch : (y m a : ℕ) → FollowsOp c p ls vs s st k thread around (DelayedRead y m a)
-  follows_fetch y m a j gs r w d live on row here fine q =
+  follows_fetch y m a j gs r w d live on row here fine sole q =
       quiet c p ls vs s st k thread around gs r w d glive on q (DelayedRead y m a)
       (walk_after (DelayedRead y m a) r ls w) refl (λ b. same b) (λ h z b f. so h b f)
     where
@@ -124,6 +128,8 @@ module _ (c : Circuit) (p : Pipe) (ls : Locks) (vs : ℕ → View) (s : State) (
             child = h.child;
             short = h.short;
             asks = asks_at h true f;
+            advice = h.advice;
+            advises = h.advises;
             guess_long = h.guess_long;
             guess = h.guess;
             fails = h.fails;
@@ -142,6 +148,8 @@ module _ (c : Circuit) (p : Pipe) (ls : Locks) (vs : ℕ → View) (s : State) (
             child = h.child;
             short = h.short;
             asks = asks_at h false f;
+            advice = h.advice;
+            advises = h.advises;
             guess_long = h.guess_long;
             guess = h.guess;
             fails = h.fails;
@@ -150,7 +158,7 @@ module _ (c : Circuit) (p : Pipe) (ls : Locks) (vs : ℕ → View) (s : State) (
 
   -- a row that calls with a guess: the new thread has these arguments, and they are kept as the guess
   pub follows_spec_call : (args : List Expr) → FollowsOp c p ls vs s st k thread around (SpecCall args)
-  follows_spec_call args j gs r w d live on row here fine q =
+  follows_spec_call args j gs r w d live on row here fine sole q =
       quiet c p ls vs s st k thread around gs r w d glive on q (SpecCall args) (walk_after (SpecCall args) r ls w) refl (λ b. same b) (λ h z b f. so h b f)
     where
       glive : (z : ℕ) → guards_use gs z ≡ true → lives_from p k z ≡ true
@@ -160,9 +168,10 @@ module _ (c : Circuit) (p : Pipe) (ls : Locks) (vs : ℕ → View) (s : State) (
       same true = refl
       same false = refl
 
-      values : IsSo p k s w d → all_hold gs d.env ≡ true → values_of args d.env ≡ values_at s r.args
+      values : IsSo p k s w d → all_hold gs d.env ≡ true → values_of args (all_values d) ≡ values_at s r.args
       values h f =
-          values_same c p ls vs s st k thread around args r.args w d.env
+          ap (λ ks. values_of args (with_kept ks d.env)) h.advice
+          ∙ values_same c p ls vs s st k thread around args r.args w d.env
           (row.1 s around.suits (is_taken c p ls vs s st k thread around gs r w d glive on q h f))
           (λ e i y u. h.env y (live.vars y (or_right (guards_use gs y) (are_using args y) (i y u))))
 
@@ -177,9 +186,10 @@ module _ (c : Circuit) (p : Pipe) (ls : Locks) (vs : ℕ → View) (s : State) (
           ∙ ap (λ c. if c then Some (map (λ (f : Signal). f.value s) r.args) else child_in s w.births)
           (sym (on_is s r.on false (on_at c p ls vs s st k thread around gs r w d glive on q h ∙ ap bit f)))
 
-      guess_at : IsSo p k s w d → (b : Bool) → all_hold gs d.env ≡ b → IsGuess p k s r.guess (done st thread b (SpecCall args) d).guess
-      guess_at h true f v l = values h f ∙ sym (row.3 s around.suits (is_taken c p ls vs s st k thread around gs r w d glive on q h f))
-      guess_at h false f v l = h.guess v l ∙ sym (row.4 s around.suits (is_not c p ls vs s st k thread around gs r w d glive on q h f))
+      guess_at : IsSo p k s w d → (b : Bool) → all_hold gs d.env ≡ b → (done st thread b (SpecCall args) d).fails ≡ false
+          → IsGuess p k s r.guess (done st thread b (SpecCall args) d).guess
+      guess_at h true f z v l = values h f ∙ sym (row.3 s around.suits (is_taken c p ls vs s st k thread around gs r w d glive on q h f))
+      guess_at h false f z v l = h.guess z v l ∙ sym (row.4 s around.suits (is_not c p ls vs s st k thread around gs r w d glive on q h f))
 
       so : IsSo p k s w d → (b : Bool) → all_hold gs d.env ≡ b → IsSo p k s (walk_after (SpecCall args) r ls w) (done st thread b (SpecCall args) d)
       so h true f =
@@ -195,6 +205,8 @@ module _ (c : Circuit) (p : Pipe) (ls : Locks) (vs : ℕ → View) (s : State) (
             child = child_at h true f;
             short = (row.0, h.short);
             asks = h.asks;
+            advice = h.advice;
+            advises = h.advises;
             guess_long = row.2 ∙ h.guess_long;
             guess = guess_at h true f;
             fails = h.fails;
@@ -213,6 +225,8 @@ module _ (c : Circuit) (p : Pipe) (ls : Locks) (vs : ℕ → View) (s : State) (
             child = child_at h false f;
             short = (row.0, h.short);
             asks = h.asks;
+            advice = h.advice;
+            advises = h.advises;
             guess_long = row.2 ∙ h.guess_long;
             guess = guess_at h false f;
             fails = h.fails;
@@ -220,17 +234,18 @@ module _ (c : Circuit) (p : Pipe) (ls : Locks) (vs : ℕ → View) (s : State) (
           }
 
   -- a row that verifies: the guess fails where the arguments differ from it, and then a new thread has them
-  pub follows_verify : (args : List Expr) → FollowsOp c p ls vs s st k thread around (Verify args)
-  follows_verify args j gs r w d live on row here fine q =
-      quiet c p ls vs s st k thread around gs r w d glive on q (Verify args) (walk_after (Verify args) r ls w) refl (λ b. same b) (λ h z b f. so h z b f)
+  pub follows_verify : (args : List Expr) → FollowsOp c p ls vs s st k thread around (Verify true args)
+  follows_verify args j gs r w d live on row here fine sole q =
+      quiet c p ls vs s st k thread around gs r w d glive on q (Verify true args) (walk_after (Verify true args) r ls w) refl (λ b. same b)
+      (λ h z b f. so h z b f)
     where
       glive : (z : ℕ) → guards_use gs z ≡ true → lives_from p k z ≡ true
       glive z u = live.vars z (or_left (guards_use gs z) (are_using args z) u)
 
       failed : Deeds
-      failed = record d { child = Some (values_of args d.env); fails = true }
+      failed = record d { child = Some (values_of args d.env); guess = values_of args d.env; fails = true }
 
-      same : (b : Bool) → locks_ready p st thread (done st thread b (Verify args) d) ≡ locks_ready p st thread d
+      same : (b : Bool) → locks_ready p st thread (done st thread b (Verify true args) d) ≡ locks_ready p st thread d
       same true = at (same_args (values_of args d.env) d.guess)
         where
           at : (b : Bool) → locks_ready p st thread (if b then d else failed) ≡ locks_ready p st thread d
@@ -242,7 +257,7 @@ module _ (c : Circuit) (p : Pipe) (ls : Locks) (vs : ℕ → View) (s : State) (
       wrong = both r.on r.value
 
       new : Walk
-      new = walk_after (Verify args) r ls w
+      new = walk_after (Verify true args) r ls w
 
       -- after a verify of which this says whether it fails
       after : IsSo p k s w d → (b : Bool) → wrong.value s ≡ bit b
@@ -260,8 +275,10 @@ module _ (c : Circuit) (p : Pipe) (ls : Locks) (vs : ℕ → View) (s : State) (
             ap (λ l. Some l) (v refl) ∙ ap (λ c. if c then Some (map (λ (f : Signal). f.value s) r.args) else child_in s w.births) (sym (on_is s wrong true e));
         short = (row.0, h.short);
         asks = h.asks;
+        advice = h.advice;
+        advises = h.advises;
         guess_long = h.guess_long;
-        guess = h.guess;
+        guess = λ z. absurd (false≢true (sym z));
         fails = mux_at s wrong one w.fails true e ∙ one_is s;
         barrier = h.barrier;
       }
@@ -277,13 +294,15 @@ module _ (c : Circuit) (p : Pipe) (ls : Locks) (vs : ℕ → View) (s : State) (
         child = h.child ∙ ap (λ c. if c then Some (map (λ (f : Signal). f.value s) r.args) else child_in s w.births) (sym (on_is s wrong false e));
         short = (row.0, h.short);
         asks = h.asks;
+        advice = h.advice;
+        advises = h.advises;
         guess_long = h.guess_long;
         guess = h.guess;
         fails = mux_at s wrong one w.fails false e ∙ h.fails;
         barrier = h.barrier;
       }
 
-      so : IsSo p k s w d → locks_ready p st thread d ≡ true → (b : Bool) → all_hold gs d.env ≡ b → IsSo p k s new (done st thread b (Verify args) d)
+      so : IsSo p k s w d → locks_ready p st thread d ≡ true → (b : Bool) → all_hold gs d.env ≡ b → IsSo p k s new (done st thread b (Verify true args) d)
       so h z false f =
           after h false (both_at s r.on r.value false true (on_at c p ls vs s st k thread around gs r w d glive on q h ∙ ap bit f) (λ e. absurd (cc e)))
           (λ e. absurd (cc e))
@@ -292,7 +311,7 @@ module _ (c : Circuit) (p : Pipe) (ls : Locks) (vs : ℕ → View) (s : State) (
           let v : values_of args d.env ≡ values_at s r.args =
           values_same c p ls vs s st k thread around args r.args w d.env (row.1 s around.suits t)
           (λ e i y u. h.env y (live.vars y (or_right (guards_use gs y) (are_using args y) (i y u)))) in
-          let g : d.guess ≡ values_at s w.guess = h.guess (live.verify refl) ((fine f z).1 ∙ sym row.2 ∙ h.guess_long) in
+          let g : d.guess ≡ values_at s w.guess = h.guess (fine f z).1.calm (live.verify refl) ((fine f z).1.long ∙ sym row.2 ∙ h.guess_long) in
           let e : r.value.value s ≡ bit (not (same_args (values_of args d.env) d.guess)) =
           row.3 s around.suits t ∙ ap₂ (λ x y. bit (not (same_args x y))) (sym v) (sym g) in
           at (same_args (values_of args d.env) d.guess)
@@ -305,7 +324,7 @@ module _ (c : Circuit) (p : Pipe) (ls : Locks) (vs : ℕ → View) (s : State) (
 
   -- a row with `spec_check`: it does nothing and waits for nothing
   pub follows_check : FollowsOp c p ls vs s st k thread around SpecCheck
-  follows_check j gs r w d live on row here fine q =
+  follows_check j gs r w d live on row here fine sole q =
       quiet c p ls vs s st k thread around gs r w d glive on q SpecCheck w refl (λ b. same b) (λ h z b f. so h b)
     where
       glive : (z : ℕ) → guards_use gs z ≡ true → lives_from p k z ≡ true
@@ -321,7 +340,7 @@ module _ (c : Circuit) (p : Pipe) (ls : Locks) (vs : ℕ → View) (s : State) (
 
   -- a row with `spec_barrier`: the thread is to wait at the barrier
   pub follows_barrier : FollowsOp c p ls vs s st k thread around SpecBarrier
-  follows_barrier j gs r w d live on row here fine q =
+  follows_barrier j gs r w d live on row here fine sole q =
       quiet c p ls vs s st k thread around gs r w d glive on q SpecBarrier (walk_after SpecBarrier r ls w) refl (λ b. same b) (λ h z b f. so h b f)
     where
       glive : (z : ℕ) → guards_use gs z ≡ true → lives_from p k z ≡ true
@@ -345,6 +364,8 @@ module _ (c : Circuit) (p : Pipe) (ls : Locks) (vs : ℕ → View) (s : State) (
             child = h.child;
             short = h.short;
             asks = h.asks;
+            advice = h.advice;
+            advises = h.advises;
             guess_long = h.guess_long;
             guess = h.guess;
             fails = h.fails;
@@ -363,6 +384,8 @@ module _ (c : Circuit) (p : Pipe) (ls : Locks) (vs : ℕ → View) (s : State) (
             child = h.child;
             short = h.short;
             asks = h.asks;
+            advice = h.advice;
+            advises = h.advises;
             guess_long = h.guess_long;
             guess = h.guess;
             fails = h.fails;

@@ -1,5 +1,5 @@
 -- Rows that use the locks: reservations, writes, blocks and releases.
-use Rattle.std.proofs.Common.{◌≡◌, ℕ, Bool, true, false, ◌&&◌, ◌||◌, [], ◌∷◌, ◌++◌, length, refl, sym, ap, ap₂, ◌∙◌, append-nil}
+use Rattle.std.proofs.Common.{◌≡◌, ℕ, Bool, true, false, ◌&&◌, ◌||◌, [], ◌∷◌, ◌++◌, length, ◌≤◌, refl, sym, ap, ap₂, ◌∙◌, subst, append-nil}
 use Rattle.std.specs.Prelude.{slice_index, ◌==◌, if◌then◌else◌}
 use Rattle.std.proofs.lemmas.Bool.{or_right, or_left}
 use Rattle.std.proofs.Math.Bool.{and_assoc}
@@ -8,7 +8,7 @@ use Rattle.pdl_semantics.specs.Flat.{Expr, Write, ReserveRead, ReserveWrite, Blo
 use Rattle.pdl_semantics.specs.Stages.{mem_at, commit_stage}
 use Rattle.pdl_semantics.specs.Locks.{has_room}
 use Rattle.pdl_semantics.specs.Machine as machine
-use Rattle.pdl_semantics.specs.Machine.{Blocked, Reserved, is_held, let_go}
+use Rattle.pdl_semantics.specs.Machine.{Blocked, reserves_of, is_held, let_go}
 use Rattle.pdl_semantics.specs.Moves.{block_ready, blocks_ready, have_room}
 use Rattle.pdl_net.specs.Circuit.{Circuit, State}
 use Rattle.pdl_net.specs.Signal.{mux_signal}
@@ -24,11 +24,12 @@ use Rattle.pdl_law_parts.proofs.StageRow.{other_held, IsAround, done, quiet, ask
 use Rattle.pdl_word.proofs.Bools.{and_true, and_swap}
 use Rattle.pdl_word.proofs.Numbers.{eqb_self}
 use Rattle.pdl_semantics.proofs.Facts.{all_push}
+use Rattle.pdl_law_parts.proofs.Reservations.{pushed_room}
 
 module _ (c : Circuit) (p : Pipe) (ls : Locks) (vs : ℕ → View) (s : State) (st : machine.State) (k thread : ℕ) (around : IsAround c p ls vs s st k thread) where
   -- a row that writes: the write has the expression's value
   pub follows_write : (m a : ℕ) (e : Expr) → FollowsOp c p ls vs s st k thread around (Write m a e)
-  follows_write m a e j gs r w d live on row here fine q =
+  follows_write m a e j gs r w d live on row here fine sole q =
       quiet c p ls vs s st k thread around gs r w d glive on q (Write m a e) (walk_after (Write m a e) r ls w) refl (λ b. same b) (λ h z b f. so h b f)
     where
       glive : (z : ℕ) → guards_use gs z ≡ true → lives_from p k z ≡ true
@@ -39,20 +40,20 @@ module _ (c : Circuit) (p : Pipe) (ls : Locks) (vs : ℕ → View) (s : State) (
       same false = refl
 
       writes_at : IsSo p k s w d → (b : Bool) → all_hold gs d.env ≡ b
-          → (done st thread b (Write m a e) d).writes ≡ written_in s (w.puts ++ record { mem = m; on = r.on; value = r.value } ∷ [])
+          → (done st thread b (Write m a e) d).writes ≡ written_in s (w.puts ++ record { mem = m; var = a; on = r.on; value = r.value } ∷ [])
       writes_at h true f =
-          ap₂ (λ l v. l ++ record { mem = m; value = v } ∷ []) h.writes
+          ap₂ (λ l v. l ++ record { mem = m; var = a; value = v } ∷ []) h.writes
           (sym
           (row s around.suits (is_taken c p ls vs s st k thread around gs r w d glive on q h f) d.env
           (λ z u. h.env z (live.vars z (or_right (guards_use gs z) (uses_var e z) u)))))
-          ∙ ap (λ c. written_in s w.puts ++ (if c then record { mem = m; value = r.value.value s } ∷ [] else []))
+          ∙ ap (λ c. written_in s w.puts ++ (if c then record { mem = m; var = a; value = r.value.value s } ∷ [] else []))
           (sym (on_is s r.on true (on_at c p ls vs s st k thread around gs r w d glive on q h ∙ ap bit f)))
-          ∙ sym (written_more s w.puts (record { mem = m; on = r.on; value = r.value }))
+          ∙ sym (written_more s w.puts (record { mem = m; var = a; on = r.on; value = r.value }))
       writes_at h false f =
           h.writes ∙ sym (append-nil (written_in s w.puts))
-          ∙ ap (λ c. written_in s w.puts ++ (if c then record { mem = m; value = r.value.value s } ∷ [] else []))
+          ∙ ap (λ c. written_in s w.puts ++ (if c then record { mem = m; var = a; value = r.value.value s } ∷ [] else []))
           (sym (on_is s r.on false (on_at c p ls vs s st k thread around gs r w d glive on q h ∙ ap bit f)))
-          ∙ sym (written_more s w.puts (record { mem = m; on = r.on; value = r.value }))
+          ∙ sym (written_more s w.puts (record { mem = m; var = a; on = r.on; value = r.value }))
 
       bit_on : IsSo p k s w d → r.on.value s ≡ bit (is_on r.on s)
       bit_on h =
@@ -73,6 +74,8 @@ module _ (c : Circuit) (p : Pipe) (ls : Locks) (vs : ℕ → View) (s : State) (
             child = h.child;
             short = h.short;
             asks = h.asks;
+            advice = h.advice;
+            advises = h.advises;
             guess_long = h.guess_long;
             guess = h.guess;
             fails = h.fails;
@@ -91,6 +94,8 @@ module _ (c : Circuit) (p : Pipe) (ls : Locks) (vs : ℕ → View) (s : State) (
             child = h.child;
             short = h.short;
             asks = h.asks;
+            advice = h.advice;
+            advises = h.advises;
             guess_long = h.guess_long;
             guess = h.guess;
             fails = h.fails;
@@ -99,7 +104,7 @@ module _ (c : Circuit) (p : Pipe) (ls : Locks) (vs : ℕ → View) (s : State) (
 
   -- a row that reserves for reading: it does nothing and waits for nothing
   pub follows_reserve_read : (m a : ℕ) → FollowsOp c p ls vs s st k thread around (ReserveRead m a)
-  follows_reserve_read m a j gs r w d live on row here fine q =
+  follows_reserve_read m a j gs r w d live on row here fine sole q =
       quiet c p ls vs s st k thread around gs r w d glive on q (ReserveRead m a) w refl (λ b. same b) (λ h z b f. so h b)
     where
       glive : (z : ℕ) → guards_use gs z ≡ true → lives_from p k z ≡ true
@@ -115,9 +120,9 @@ module _ (c : Circuit) (p : Pipe) (ls : Locks) (vs : ℕ → View) (s : State) (
 
   -- a row that reserves for writing: it waits for room, holds the location and reserves its address
   pub follows_reserve_write : (m a : ℕ) → FollowsOp c p ls vs s st k thread around (ReserveWrite m a)
-  follows_reserve_write m a j gs r w d live on row here fine q =
+  follows_reserve_write m a j gs r w d live on row here fine sole q =
       asking c p ls vs s st k thread around gs r w d glive on q (ReserveWrite m a)
-      (walk_after (ReserveWrite m a) r ls w) (ls.room m) roomy refl (λ b. split b)
+      (walk_after (ReserveWrite m a) r ls w) (ls.room m) roomy refl (λ b f. split b f)
       (λ h z f. room_is p ls vs s st m (around.kind m row.0) (around.locks m row.0) (around.ordered m) (around.room m row.0))
       (λ h b f. so h b f)
     where
@@ -125,26 +130,27 @@ module _ (c : Circuit) (p : Pipe) (ls : Locks) (vs : ℕ → View) (s : State) (
       glive z u = live.vars z (or_left (guards_use gs z) (a == z) u)
 
       roomy : Bool
-      roomy = has_room (mem_at p m).lock (length (machine.lock_of st m))
+      roomy = has_room (mem_at p m).lock 1 (length (machine.lock_of st m))
 
       new : Walk
       new = walk_after (ReserveWrite m a) r ls w
 
-      split : (b : Bool) → locks_ready p st thread (done st thread b (ReserveWrite m a) d) ≡ (locks_ready p st thread d && (if b then roomy else true))
-      split true =
+      split : (b : Bool) → all_hold gs d.env ≡ b
+          → locks_ready p st thread (done st thread b (ReserveWrite m a) d) ≡ (locks_ready p st thread d && (if b then roomy else true))
+      split true f =
           ap (λ b. blocks_ready p st thread d && b)
-          (all_push
-          (λ (r : Reserved). has_room (mem_at p r.mem).lock (length (machine.lock_of st r.mem))) d.reserves
-          (record { mem = m; address = slice_index d.env a }))
+          (pushed_room (λ n k. has_room (mem_at p n).lock k (length (machine.lock_of st n))) d.reserves
+          (record { mem = m; var = a; address = slice_index d.env a })
+          (subst (λ b. reserves_of m (done st thread b (ReserveWrite m a) d).reserves ≤ 1) f (sole m row.0)))
           ∙ sym (and_assoc (blocks_ready p st thread d) (have_room p st d) roomy)
-      split false = and_true (locks_ready p st thread d)
+      split false f = and_true (locks_ready p st thread d)
 
       more : IsSo p k s w d → (b : Bool) → all_hold gs d.env ≡ b
-          → reserved_in s (w.reserves ++ record { mem = m; on = r.on; addr = w.vars a } ∷ [])
-          ≡ reserved_in s w.reserves ++ (if b then record { mem = m; address = (w.vars a).value s } ∷ [] else [])
+          → reserved_in s (w.reserves ++ record { mem = m; var = a; on = r.on; addr = w.vars a } ∷ [])
+          ≡ reserved_in s w.reserves ++ (if b then record { mem = m; var = a; address = (w.vars a).value s } ∷ [] else [])
       more h b f =
-          reserved_more s w.reserves (record { mem = m; on = r.on; addr = w.vars a })
-          ∙ ap (λ c. reserved_in s w.reserves ++ (if c then record { mem = m; address = (w.vars a).value s } ∷ [] else []))
+          reserved_more s w.reserves (record { mem = m; var = a; on = r.on; addr = w.vars a })
+          ∙ ap (λ c. reserved_in s w.reserves ++ (if c then record { mem = m; var = a; address = (w.vars a).value s } ∷ [] else []))
           (on_is s r.on b (on_at c p ls vs s st k thread around gs r w d glive on q h ∙ ap bit f))
 
       mine : (b : Bool) → IsSo p k s w d → all_hold gs d.env ≡ b → held_from p k m a ≡ true
@@ -164,7 +170,8 @@ module _ (c : Circuit) (p : Pipe) (ls : Locks) (vs : ℕ → View) (s : State) (
             (λ l. mine true h f l ∙ ap bit (sym (or_left ((m == m) && (a == a)) (is_held d.held m a) (ap₂ (λ x y. x && y) (eqb_self m) (eqb_self a)))))
             (λ n b e. ap (λ x. x || is_held d.held n b) e) h.held;
         reserves =
-            ap₂ (λ l v. l ++ record { mem = m; address = v } ∷ []) h.reserves (h.env a (live.vars a (or_right (guards_use gs a) (a == a) (eqb_self a))))
+            ap₂ (λ l v. l ++ record { mem = m; var = a; address = v } ∷ []) h.reserves
+            (h.env a (live.vars a (or_right (guards_use gs a) (a == a) (eqb_self a))))
             ∙ sym (more h true f);
         fits = fits_more s w.reserves _ h.fits (fits_new h true f);
         writes = h.writes;
@@ -173,6 +180,8 @@ module _ (c : Circuit) (p : Pipe) (ls : Locks) (vs : ℕ → View) (s : State) (
         child = h.child;
         short = h.short;
         asks = h.asks;
+        advice = h.advice;
+        advises = h.advises;
         guess_long = h.guess_long;
         guess = h.guess;
         fails = h.fails;
@@ -192,6 +201,8 @@ module _ (c : Circuit) (p : Pipe) (ls : Locks) (vs : ℕ → View) (s : State) (
         child = h.child;
         short = h.short;
         asks = h.asks;
+        advice = h.advice;
+        advises = h.advises;
         guess_long = h.guess_long;
         guess = h.guess;
         fails = h.fails;
@@ -200,9 +211,9 @@ module _ (c : Circuit) (p : Pipe) (ls : Locks) (vs : ℕ → View) (s : State) (
 
   -- a row that blocks: it waits until the look for its location is ready
   pub follows_block : (m a : ℕ) → FollowsOp c p ls vs s st k thread around (Block m a)
-  follows_block m a j gs r w d live on row here fine q =
+  follows_block m a j gs r w d live on row here fine sole q =
       asking c p ls vs s st k thread around gs r w d glive on q (Block m a)
-      (walk_after (Block m a) r ls w) r.value found refl (λ b. split b) told (λ h b f. so h b)
+      (walk_after (Block m a) r ls w) r.value found refl (λ b f. split b) told (λ h b f. so h b)
     where
       glive : (z : ℕ) → guards_use gs z ≡ true → lives_from p k z ≡ true
       glive z u = live.vars z (or_left (guards_use gs z) (a == z) u)
@@ -245,6 +256,8 @@ module _ (c : Circuit) (p : Pipe) (ls : Locks) (vs : ℕ → View) (s : State) (
             child = h.child;
             short = h.short;
             asks = h.asks;
+            advice = h.advice;
+            advises = h.advises;
             guess_long = h.guess_long;
             guess = h.guess;
             fails = h.fails;
@@ -263,6 +276,8 @@ module _ (c : Circuit) (p : Pipe) (ls : Locks) (vs : ℕ → View) (s : State) (
             child = h.child;
             short = h.short;
             asks = h.asks;
+            advice = h.advice;
+            advises = h.advises;
             guess_long = h.guess_long;
             guess = h.guess;
             fails = h.fails;
@@ -271,7 +286,7 @@ module _ (c : Circuit) (p : Pipe) (ls : Locks) (vs : ℕ → View) (s : State) (
 
   -- a row that releases: the location is held no more, and its reservation for writing is let go where it had one
   pub follows_release : (m a : ℕ) → FollowsOp c p ls vs s st k thread around (Release m a)
-  follows_release m a j gs r w d live on row here fine q =
+  follows_release m a j gs r w d live on row here fine sole q =
       quiet c p ls vs s st k thread around gs r w d glive on q (Release m a) new refl (λ b. same b) (λ h z b f. so h z b f)
     where
       new : Walk
@@ -312,6 +327,8 @@ module _ (c : Circuit) (p : Pipe) (ls : Locks) (vs : ℕ → View) (s : State) (
         child = h.child;
         short = h.short;
         asks = h.asks;
+        advice = h.advice;
+        advises = h.advises;
         guess_long = h.guess_long;
         guess = h.guess;
         fails = h.fails;
@@ -332,6 +349,8 @@ module _ (c : Circuit) (p : Pipe) (ls : Locks) (vs : ℕ → View) (s : State) (
         child = h.child;
         short = h.short;
         asks = h.asks;
+        advice = h.advice;
+        advises = h.advises;
         guess_long = h.guess_long;
         guess = h.guess;
         fails = h.fails;

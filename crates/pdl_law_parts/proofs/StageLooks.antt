@@ -1,10 +1,11 @@
 -- What the looks of a stage find: the machine's pending writes and words, through the lock that stands for them.
-use Rattle.std.proofs.Common.{◌≡◌, ℕ, ◌+◌, Bool, true, false, [], length, sym, ap, ◌∙◌, arith}
+use Rattle.std.proofs.Common.{◌≡◌, ℕ, ◌+◌, ◌<◌, ◌≤◌, Bool, true, false, [], length, sym, ap, ◌∙◌, arith, ⊎_elim}
 use Rattle.std.specs.Prelude.{slice_index, slice_index_or, if◌then◌else◌}
-use Rattle.std.proofs.lemmas.List.{length-map}
+use Rattle.std.proofs.lemmas.Bool.{false≢true, cases_lt}
+use Rattle.std.proofs.lemmas.List.{length-map, get_or_past}
 use Rattle.pdl_word.specs.Words.{bit}
-use Rattle.pdl_semantics.specs.Flat.{Plain, Pipe}
-use Rattle.pdl_semantics.specs.Stages.{mem_at}
+use Rattle.pdl_semantics.specs.Flat.{Plain, Mem, Pipe, has_lock}
+use Rattle.pdl_semantics.specs.Stages.{plain_mem, mem_at}
 use Rattle.pdl_semantics.specs.Locks.{Nothing, read_ready, write_ready, has_room, value_or}
 use Rattle.pdl_semantics.specs.Machine as machine
 use Rattle.pdl_semantics.specs.Machine.{older_write, word_for}
@@ -23,6 +24,15 @@ use Rattle.pdl_semantics.specs.PendingLists.{AreOrdered, count_older}
 -- a memory that is not locked has no lock
 pub plain_is : (p : Pipe) (m : ℕ) → is_locked p m ≡ false → (mem_at p m).lock ≡ Plain
 plain_is p m e = kinds.plain_is (mem_at p m).lock e
+
+-- the number of a memory that has a lock is below the count of memories
+pub lock_there : (p : Pipe) (m : ℕ) → is_locked p m ≡ true → m < length p.mems
+lock_there p m e = ⊎_elim
+    (λ (h : m < length p.mems). h)
+    (λ (h : length p.mems ≤ m). absurd
+    (false≢true
+    (sym (ap (λ (x : Mem). has_lock x.lock) (get_or_past p.mems m plain_mem h)) ∙ e)))
+    (cases_lt m (length p.mems))
 
 -- what a look finds of the machine's pending writes: for writing, or for reading
 abbrev pub finds : Pipe → machine.State → ℕ → ℕ → Bool → ℕ → Bool
@@ -46,12 +56,12 @@ module _ (p : Pipe) (ls : Locks) (vs : ℕ → View) (s : State) (st : machine.S
       record { from = omega arith; to = omega (arith, l, e) }
 
   -- the lock's net of room tells whether there is room for one more of the machine's pending writes
-  pub room_is : RoomLaw (ls.stands m) (ls.size m) (ls.room m) → (ls.room m).value s ≡ bit (has_room (mem_at p m).lock (length (machine.lock_of st m)))
+  pub room_is : RoomLaw (ls.stands m) (ls.size m) (ls.room m) → (ls.room m).value s ≡ bit (has_room (mem_at p m).lock 1 (length (machine.lock_of st m)))
   room_is law =
       law.holds s state_of stands.stands
       ∙ ap bit
       ((same_meaning (ls.kind m) (ls.size m) stands.base 0 0 0 (machine.lock_of st m) stands.words ordered).3
-      ∙ ap (λ l. has_room l (length (machine.lock_of st m))) (sym kind))
+      ∙ ap (λ l. has_room l 1 (length (machine.lock_of st m))) (sym kind))
 
   module _ (thread : ℕ) (ticket : Signal) (mine : holds_ticket (ls.bits m) ticket s (stands.base + count_older thread (machine.lock_of st m))) where
     look_same : (u : Bool) (a : ℕ) → look_ready (ls.kind m) (look_of u) state_of (number_of thread) a ≡ finds p st thread m u a

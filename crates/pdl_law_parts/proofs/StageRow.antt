@@ -4,11 +4,11 @@ use Rattle.std.specs.Prelude.{nat_le, slice_index, slice_set, slice_index_or, �
 use Rattle.std.proofs.lemmas.Bool.{or_left, or_right, and_parts, eqb-true, eqb-false, leb-true}
 use Rattle.std.proofs.lemmas.List.{get_or-set_same, get_or-set_other}
 use Rattle.pdl_word.specs.Words.{bit}
-use Rattle.pdl_semantics.specs.Flat.{Expr, Op, Guard, Stmt, Pipe, all_hold, takes_branch, values_of}
+use Rattle.pdl_semantics.specs.Flat.{Expr, Op, Guard, Stmt, Pipe, is_delayed, all_hold, takes_branch, values_of}
 use Rattle.pdl_semantics.specs.Stages.{mem_at, commit_stage, is_verify}
 use Rattle.pdl_semantics.specs.Locks.{read_ready}
 use Rattle.pdl_semantics.specs.Machine as machine
-use Rattle.pdl_semantics.specs.Machine.{HeldLocation, Deeds, deeds_after, is_held, let_go, older_write, word_for}
+use Rattle.pdl_semantics.specs.Machine.{HeldLocation, Deeds, reserves_of, deeds_after, is_held, let_go, older_write, word_for}
 use Rattle.pdl_net.specs.Circuit.{Circuit, State}
 use Rattle.pdl_net.specs.Signal.{Signal}
 use Rattle.pdl_net.specs.Well.{Suits}
@@ -18,7 +18,7 @@ use Rattle.pdl_machine_facts.specs.Slots.{locks_ready}
 use Rattle.pdl_machine_facts.specs.Use.{is_early, IsOpFine}
 use Rattle.pdl_law_parts.specs.Lives.{uses_var, are_using, guards_use, row_uses, asks_held, lives_from, held_from, verifies_from}
 use Rattle.pdl_law_parts.specs.Walk.{Locks, Row, Walk, is_locked, taken_in, AgreeOn, HaveValues, IsWord, IsOp, both, if_on, with_var, with_held, walk_after}
-use Rattle.pdl_law_parts.specs.Reads.{IsAtOnce}
+use Rattle.pdl_law_parts.specs.Rows.{HasRow}
 use Rattle.pdl_law_parts.specs.Views.{View}
 use Rattle.pdl_law_parts.specs.Stands.{IsEnv, IsHolding, StandsLock, IsSo, Follows}
 use Rattle.pdl_law_parts.proofs.Signals.{both_at, if_on_at}
@@ -45,7 +45,7 @@ pub record IsLive (p : Pipe) (k : ℕ) (x : Stmt) : Type 0 where
   pub vars : (y : ℕ) → row_uses x y ≡ true → lives_from p k y ≡ true
   pub held : (m a : ℕ) → asks_held x.op m a ≡ true → held_from p k m a ≡ true
   pub verify : is_verify x.op ≡ true → verifies_from p k ≡ true
-  pub at_once : IsAtOnce p x.op
+  pub row : HasRow p x.op
 
 -- the thread of a stage, in a state of the netlist that stands for the machine's
 pub record IsAround (c : Circuit) (p : Pipe) (ls : Locks) (vs : ℕ → View) (s : State) (st : machine.State) (k thread : ℕ) : Type 0 where
@@ -54,11 +54,15 @@ pub record IsAround (c : Circuit) (p : Pipe) (ls : Locks) (vs : ℕ → View) (s
   pub room : (m : ℕ) → is_locked p m ≡ true → RoomLaw (ls.stands m) (ls.size m) (ls.room m)
   pub ordered : (m : ℕ) → Rattle.pdl_semantics.specs.PendingLists.AreOrdered 0 (machine.lock_of st m)
   pub unlocked : (m : ℕ) → is_locked p m ≡ false → machine.lock_of st m ≡ []
-  pub words : (m : ℕ) → is_locked p m ≡ false → (mem_at p m).delayed ≡ false → (a : ℕ) → a < (mem_at p m).depth
+  pub words : (m : ℕ) → is_locked p m ≡ false → is_delayed (mem_at p m).kind ≡ false → (a : ℕ) → a < (mem_at p m).depth
       → st.arrays m a ≡ slice_index (slice_index_or s.arrays (ls.array m) []) a
   pub locks : (m : ℕ) → is_locked p m ≡ true → StandsLock p ls vs s st m
   pub tickets : (m : ℕ) (e : is_locked p m ≡ true) → k ≤ commit_stage p m
       → holds_ticket (ls.bits m) ((vs k).tickets m) s ((locks m e).base + count_older thread (machine.lock_of st m))
+
+-- of each memory with a lock at most one write is reserved
+abbrev pub HasSingles : Pipe → Deeds → Type 0
+HasSingles p d = (m : ℕ) → is_locked p m ≡ true → reserves_of m d.reserves ≤ 1
 
 -- guards are taken as the signals say
 taken_same : (gs : List Guard) (w : Walk) (s : State) (env : List ℕ)
@@ -105,7 +109,7 @@ module _ (c : Circuit) (p : Pipe) (ls : Locks) (vs : ℕ → View) (s : State) (
 
     -- a row that asks this of them where it is on the path
     pub asking : (op : Op) (w' : Walk) (f : Signal) (y : Bool) → w'.ready ≡ both w.ready (if_on r.on f)
-        → ((b : Bool) → locks_ready p st thread (done st thread b op d) ≡ (locks_ready p st thread d && (if b then y else true)))
+        → ((b : Bool) → all_hold gs d.env ≡ b → locks_ready p st thread (done st thread b op d) ≡ (locks_ready p st thread d && (if b then y else true)))
         → (IsSo p k s w d → locks_ready p st thread d ≡ true → all_hold gs d.env ≡ true → f.value s ≡ bit y)
         → (IsSo p k s w d → (b : Bool) → all_hold gs d.env ≡ b → IsSo p k s w' (done st thread b op d))
         → Follows p k s st thread w' (done st thread (all_hold gs d.env) op d)
@@ -116,8 +120,8 @@ module _ (c : Circuit) (p : Pipe) (ls : Locks) (vs : ℕ → View) (s : State) (
               ap (λ (h : Signal). h.value s) e
               ∙ both_at s w.ready (if_on r.on f) (locks_ready p st thread d)
               (if b then y else true) q.ready (λ z. if_on_at s r.on f b y (on_at (q.so z)) (told (q.so z) z))
-              ∙ ap bit (sym (split b));
-          so = λ z. g (q.so (and_parts (locks_ready p st thread d) (if b then y else true) (sym (split b) ∙ z)).0) b refl;
+              ∙ ap bit (sym (split b refl));
+          so = λ z. g (q.so (and_parts (locks_ready p st thread d) (if b then y else true) (sym (split b refl) ∙ z)).0) b refl;
         }
 
     -- VARIABLES
@@ -155,7 +159,7 @@ module _ (c : Circuit) (p : Pipe) (ls : Locks) (vs : ℕ → View) (s : State) (
         at false g = h n b live ∙ ap bit (sym (other n b g))
 
     -- a memory's word that a row reads is the word that the thread finds
-    pub word_at : (m a : ℕ) → (mem_at p m).delayed ≡ false → IsWord p ls m (w.vars a) ((vs k).tickets m) r.value s
+    pub word_at : (m a : ℕ) → is_delayed (mem_at p m).kind ≡ false → IsWord p ls m (w.vars a) ((vs k).tickets m) r.value s
         → k ≤ commit_stage p m → IsTrue (read_ready (mem_at p m).lock (older_write st thread m ((w.vars a).value s)))
         → r.value.value s ≡ word_for st thread m ((w.vars a).value s)
     word_at m a comb word low ready = at (is_locked p m) refl
@@ -191,4 +195,5 @@ module _ (c : Circuit) (p : Pipe) (ls : Locks) (vs : ℕ → View) (s : State) (
       → ((s : State) → Suits c s → r.on.value s ≡ bit (taken_in gs w s)) → IsOp c p ls (vs k).tickets gs op w r → j ≡ k
       → (all_hold gs d.env ≡ true → locks_ready p st thread d ≡ true
       → (is_early p (record { stage = j; guards = gs; op = op }) ≡ true) × IsOpFine p st thread op d)
-      → Follows p k s st thread w d → Follows p k s st thread (walk_after op r ls w) (done st thread (all_hold gs d.env) op d)
+      → HasSingles p (done st thread (all_hold gs d.env) op d) → Follows p k s st thread w d
+      → Follows p k s st thread (walk_after op r ls w) (done st thread (all_hold gs d.env) op d)

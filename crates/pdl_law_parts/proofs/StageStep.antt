@@ -3,7 +3,7 @@ use Rattle.std.proofs.Common.{◌≡◌, ℕ, ◌<◌, Bool, true, false, IsTrue
 use Rattle.std.specs.Prelude.{slice_index, ◌==◌}
 use Rattle.std.proofs.lemmas.List.{length-set}
 use Rattle.std.proofs.lemmas.Bool.{or_right, or_left}
-use Rattle.pdl_semantics.specs.Flat.{Expr, Op, Bind, CombRead, Write, ReserveRead, ReserveWrite, Block, Release, Call, Stmt, Pipe, all_hold, value_of, DelayedRead, SpecCall, Verify, SpecCheck, SpecBarrier}
+use Rattle.pdl_semantics.specs.Flat.{Expr, Op, Bind, CombRead, Write, ReserveRead, ReserveWrite, Block, Release, Call, Stmt, Pipe, all_hold, value_of, DelayedRead, SpecCall, Verify, SpecCheck, SpecBarrier, AdviceBind, AdviceRead, AdviceWrite}
 use Rattle.pdl_semantics.specs.Stages.{mem_at, commit_stage}
 use Rattle.pdl_semantics.specs.Locks.{read_ready}
 use Rattle.pdl_semantics.specs.Machine as machine
@@ -15,7 +15,7 @@ use Rattle.pdl_law_parts.specs.Lives.{uses_var, guards_use, lives_from}
 use Rattle.pdl_law_parts.specs.Walk.{Locks, Row, Walk, IsRow, with_var, walk_after}
 use Rattle.pdl_law_parts.specs.Views.{View}
 use Rattle.pdl_law_parts.specs.Stands.{IsSo, Follows}
-use Rattle.pdl_law_parts.proofs.StageRow.{IsLive, IsAround, done, quiet, set_env, keep_env, word_at, is_taken, is_not, early, FollowsOp}
+use Rattle.pdl_law_parts.proofs.StageRow.{IsLive, IsAround, done, quiet, set_env, keep_env, word_at, is_taken, is_not, early, FollowsOp, HasSingles}
 use Rattle.pdl_law_parts.proofs.StageLocks.{follows_write, follows_reserve_read, follows_reserve_write, follows_block, follows_release}
 use Rattle.pdl_law_parts.proofs.StageCalls.{follows_call, follows_fetch, follows_spec_call, follows_verify, follows_check, follows_barrier}
 use Rattle.pdl_word.proofs.Numbers.{eqb_self}
@@ -23,7 +23,7 @@ use Rattle.pdl_word.proofs.Numbers.{eqb_self}
 module _ (c : Circuit) (p : Pipe) (ls : Locks) (vs : ℕ → View) (s : State) (st : machine.State) (k thread : ℕ) (around : IsAround c p ls vs s st k thread) where
   -- a row that binds: the variable gets the expression's value
   pub follows_bind : (y : ℕ) (e : Expr) → FollowsOp c p ls vs s st k thread around (Bind y e)
-  follows_bind y e j gs r w d live on row here fine q =
+  follows_bind y e j gs r w d live on row here fine sole q =
       quiet c p ls vs s st k thread around gs r w d glive on q (Bind y e) (with_var y r.value w) refl (λ b. same b) (λ h z b f. so h b f)
     where
       glive : (z : ℕ) → guards_use gs z ≡ true → lives_from p k z ≡ true
@@ -49,6 +49,8 @@ module _ (c : Circuit) (p : Pipe) (ls : Locks) (vs : ℕ → View) (s : State) (
         child = h.child;
         short = h.short;
         asks = h.asks;
+        advice = h.advice;
+        advises = h.advises;
         guess_long = h.guess_long;
         guess = h.guess;
         fails = h.fails;
@@ -68,6 +70,8 @@ module _ (c : Circuit) (p : Pipe) (ls : Locks) (vs : ℕ → View) (s : State) (
         child = h.child;
         short = h.short;
         asks = h.asks;
+        advice = h.advice;
+        advises = h.advises;
         guess_long = h.guess_long;
         guess = h.guess;
         fails = h.fails;
@@ -76,7 +80,7 @@ module _ (c : Circuit) (p : Pipe) (ls : Locks) (vs : ℕ → View) (s : State) (
 
   -- a row that reads at once: the variable gets the word that the thread finds
   pub follows_read : (y m a : ℕ) → FollowsOp c p ls vs s st k thread around (CombRead y m a)
-  follows_read y m a j gs r w d live on row here fine q =
+  follows_read y m a j gs r w d live on row here fine sole q =
       quiet c p ls vs s st k thread around gs r w d glive on q (CombRead y m a) (with_var y r.value w) refl (λ b. same b) (λ h z b f. so h z b f)
     where
       glive : (z : ℕ) → guards_use gs z ≡ true → lives_from p k z ≡ true
@@ -98,7 +102,7 @@ module _ (c : Circuit) (p : Pipe) (ls : Locks) (vs : ℕ → View) (s : State) (
             env =
                 set_env c p ls vs s st k thread around gs r w d glive on q y
                 (word_for st thread m (slice_index d.env a)) r.value (subst (λ n. y < n) (sym h.long) row.0)
-                (word_at c p ls vs s st k thread around gs r w d glive on q m a live.at_once word
+                (word_at c p ls vs s st k thread around gs r w d glive on q m a live.row word
                 (early c p ls vs s st k thread around j (commit_stage p m) here g.0)
                 (subst P addr g.1)
                 ∙ ap (word_for st thread m) (sym addr)) h.env;
@@ -111,6 +115,8 @@ module _ (c : Circuit) (p : Pipe) (ls : Locks) (vs : ℕ → View) (s : State) (
             child = h.child;
             short = h.short;
             asks = h.asks;
+            advice = h.advice;
+            advises = h.advises;
             guess_long = h.guess_long;
             guess = h.guess;
             fails = h.fails;
@@ -130,6 +136,8 @@ module _ (c : Circuit) (p : Pipe) (ls : Locks) (vs : ℕ → View) (s : State) (
         child = h.child;
         short = h.short;
         asks = h.asks;
+        advice = h.advice;
+        advises = h.advises;
         guess_long = h.guess_long;
         guess = h.guess;
         fails = h.fails;
@@ -147,13 +155,18 @@ module _ (c : Circuit) (p : Pipe) (ls : Locks) (vs : ℕ → View) (s : State) (
   follows_op (Call args) = follows_call c p ls vs s st k thread around args
   follows_op (DelayedRead y m a) = follows_fetch c p ls vs s st k thread around y m a
   follows_op (SpecCall args) = follows_spec_call c p ls vs s st k thread around args
-  follows_op (Verify args) = follows_verify c p ls vs s st k thread around args
+  follows_op (Verify true args) = follows_verify c p ls vs s st k thread around args
+  follows_op (Verify false args) = λ j gs r w d live on row here fine sole q. absurd row
   follows_op SpecCheck = follows_check c p ls vs s st k thread around
   follows_op SpecBarrier = follows_barrier c p ls vs s st k thread around
+  follows_op (AdviceBind y e) = λ j gs r w d live on row here fine sole q. absurd row
+  follows_op (AdviceRead y m a) = λ j gs r w d live on row here fine sole q. absurd row
+  follows_op (AdviceWrite m a e) = λ j gs r w d live on row here fine sole q. absurd row
 
   -- the deeds follow after each row
   pub follows_row : (x : Stmt) (r : Row) (w : Walk) (d : Deeds) → IsLive p k x → IsRow c p ls (vs k).tickets x w r
       → x.stage ≡ k
       → (all_hold x.guards d.env ≡ true → locks_ready p st thread d ≡ true → (is_early p x ≡ true) × IsOpFine p st thread x.op d)
+      → HasSingles p (done st thread (all_hold x.guards d.env) x.op d)
       → Follows p k s st thread w d → Follows p k s st thread (walk_after x.op r ls w) (done st thread (all_hold x.guards d.env) x.op d)
-  follows_row x r w d live row here fine q = follows_op x.op x.stage x.guards r w d live row.on row.op here fine q
+  follows_row x r w d live row here fine sole q = follows_op x.op x.stage x.guards r w d live row.on row.op here fine sole q

@@ -1,12 +1,12 @@
 -- The arrays of a compiled pipe: one for each memory, with its name and sizes, written only where the memory has a lock.
-use Rattle.std.proofs.Common.{◌≡◌, ◌≢◌, inl, inr, ℕ, zero, suc, ◌<◌, Bool, true, false, if◌then◌else◌, List, [], ◌∷◌, ◌++◌, length, get_or, map, All, Option, Some, None, refl, sym, ap, ap₂, ◌∙◌, subst, arith}
+use Rattle.std.proofs.Common.{◌≡◌, inl, inr, ℕ, zero, suc, ◌<◌, Bool, true, false, if◌then◌else◌, List, [], ◌∷◌, ◌++◌, length, get_or, map, All, Option, Some, None, refl, sym, ap, ap₂, ◌∙◌, subst, arith}
 use Rattle.std.specs.Option.{is_some}
 use Rattle.std.specs.List.{AllByRecursion}
 use Rattle.std.proofs.lemmas.Bool.{false≢true}
 use Rattle.std.proofs.lemmas.List.Elements.{All-from_recursion}
 use Rattle.pdl_kit.specs.declared.mem_info.MemInfo.{MemInfo}
 use Rattle.pdl_semantics.specs.Tree.{LockDecl, Mem}
-use Rattle.pdl_semantics.specs.Flat as flat
+use Rattle.pdl_semantics.specs.Flat.{is_delayed}
 use Rattle.pdl_net.specs.declared.Array.{Array}
 use Rattle.pdl_net.specs.declared.WritePort.{WritePort}
 use Rattle.pdl_net.specs.Circuit.{Circuit, Shape, shape_of}
@@ -121,10 +121,10 @@ info_same x y a b c d s t e f g h = cc
 
 -- a memory that answers at once is told as its array tells it, and its ports where it has a lock
 pub info_if : (b : Bool) (a : Array) (m : Mem)
-    → is_some m.lock ≡ b → shape_of a ≡ shape_of_mem m → Reaches m → m.delayed ≡ false
+    → is_some m.lock ≡ b → shape_of a ≡ shape_of_mem m → Reaches m → is_delayed m.kind ≡ false
     → info_of m ≡ comb_info a (if b then Some (port_mem m) else None)
 info_if true a m l e r d =
-    info_same m.name.name a.name m.width.value m.width.value m.depth.value _ m.delayed false (sym (ap (λ (s : Shape). s.name) e)) refl (sym r) d
+    info_same m.name.name a.name m.width.value m.width.value m.depth.value _ (is_delayed m.kind) false (sym (ap (λ (s : Shape). s.name) e)) refl (sym r) d
 info_if false a m l e r d =
-    info_same m.name.name a.name m.width.value a.width m.depth.value a.depth m.delayed false (sym (ap (λ (s : Shape). s.name) e))
+    info_same m.name.name a.name m.width.value a.width m.depth.value a.depth (is_delayed m.kind) false (sym (ap (λ (s : Shape). s.name) e))
     (sym (ap (λ (s : Shape). s.width) e)) (sym (ap (λ (s : Shape). s.depth) e ∙ shallow m.lock m.depth.value l)) d

@@ -10,8 +10,7 @@ use Rattle.pdl_rules.specs.Refusal.{KeepsRules}
 use Rattle.pdl_rules.proofs.EachPlace.{Each, each_from}
 use Rattle.pdl_rules.proofs.SingleWrites.{weight, count_push}
 use Rattle.pdl_source_stages.proofs.Walks.{cut, cut_append, cut_all}
-use Rattle.pdl_source_stages.proofs.BodyShape.{body_forked}
-use Rattle.pdl_source_stages.proofs.SiteFacts.{stage_count}
+use Rattle.pdl_source_stages.proofs.BodyShape.{body_forked, stage_count}
 
 -- a place that is not a 64th separator
 abbrev IsShort : List Place → Place → Type 0

@@ -1,6 +1,6 @@
 -- The netlist of a pipe, in signals.
 use Rattle.std.specs.Prelude.{◌≡◌, ℕ, ◌==◌, ◌<◌, ◌≤◌, true, false, [], map, length, slice_index, slice_index_or, if◌then◌else◌}
-use Rattle.pdl_semantics.specs.Flat.{Pipe, start_env}
+use Rattle.pdl_semantics.specs.Flat.{Pipe, is_delayed, start_env}
 use Rattle.pdl_semantics.specs.Stages.{in_stage, mem_at, reserve_stage, commit_stage}
 use Rattle.pdl_net.specs.declared.Dir.TheVariants.{Out}
 use Rattle.pdl_net.specs.declared.Port.{Port}
@@ -11,7 +11,6 @@ use Rattle.pdl_net.specs.Meaning.{signal, write_signals}
 use Rattle.pdl_net.specs.Cycle.{next_regs}
 use Rattle.pdl_net.specs.Well.{Suits}
 use Rattle.pdl_net.specs.Growth.{Own}
-use Rattle.pdl_lockapi.specs.Lock.{start}
 use Rattle.pdl_lockapi.specs.Laws.{RoomLaw, TicketLaw, StepLaw}
 use Rattle.pdl_lockapi.specs.Forget.{as_lock}
 use Rattle.pdl_law_parts.specs.Lives.{lives_from, held_from, verifies_from}
@@ -74,8 +73,8 @@ pub record IsLaid (p : Pipe) (ls : Locks) (vs : ℕ → View) (gates : Gates) (m
   pub owns : ℕ → Own
   pub commits : ℕ → Commit
   pub locks : (m : ℕ) → is_locked p m ≡ true → GoesOn p ls c vs gates moves (owns m) (commits m) m
-  pub arrays : (m : ℕ) → m < length p.mems → (mem_at p m).delayed ≡ false → HasArray c (ls.array m)
-  pub unwritten : (m : ℕ) → m < length p.mems → is_locked p m ≡ false → (mem_at p m).delayed ≡ false → write_signals c (ls.array m) ≡ []
+  pub arrays : (m : ℕ) → m < length p.mems → is_delayed (mem_at p m).kind ≡ false → HasArray c (ls.array m)
+  pub unwritten : (m : ℕ) → m < length p.mems → is_locked p m ≡ false → is_delayed (mem_at p m).kind ≡ false → write_signals c (ls.array m) ≡ []
 
 -- an output of a circuit with the signal of its net
 abbrev pub shown_in : Circuit → Output → Shown

@@ -4,7 +4,7 @@ use Rattle.std.specs.Option.{is_some}
 use Rattle.std.specs.List.{list_all}
 use Rattle.pdl_semantics.specs.Tree.{LockDecl, Mem}
 use Rattle.pdl_lockapi.specs.Laws.{words_of}
-use Rattle.pdl_rules.specs.Refusal.{is_comb}
+use Rattle.pdl_rules.specs.Refusal.{answers_at_once}
 use Rattle.pdl_rules.specs.Typed.{AreDistinct, AreSized}
 use Rattle.pdl_rules.specs.Widths.{address_bits}
 use Rattle.pdl_net.specs.Circuit.{Shape}
@@ -52,7 +52,7 @@ pub record AreDeclared (ms : List Mem) : Type 0 where
   pub distinct : AreDistinct ms
   pub sized : AreSized ms
   pub reach : list_all (λ (m : Mem). Rattle.pdl_rules.specs.Limits.is_depth m.depth.value) ms ≡ true
-  pub comb : list_all is_comb ms ≡ true
+  pub comb : list_all answers_at_once ms ≡ true
   pub few : length ms ≤ 16
 
 -- what the m-th memory commits has 1 bit, addresses that reach each of its words and no more, and a word's width; the first has the number k

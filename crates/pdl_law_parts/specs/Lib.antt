@@ -1,11 +1,12 @@
 pub mod Lives
 pub mod Walk
 pub mod Places
-pub mod Reads
+pub mod Rows
 pub mod Views
 pub mod Ports
 pub mod Compiled
 pub mod Stands
+pub mod Served
 pub mod Beside
 pub mod Declared
 pub mod Runs

@@ -1,6 +1,6 @@
 -- Which variables, and which held locations, the rows from a stage on still use.
 use Rattle.std.specs.Prelude.{ℕ, Bool, false, ◌==◌, ◌&&◌, ◌||◌, List, [], ◌∷◌, nat_le, drop}
-use Rattle.pdl_semantics.specs.Flat.{Expr, Op, Bind, CombRead, DelayedRead, Write, ReserveRead, ReserveWrite, Block, Release, Call, SpecCall, Verify, SpecCheck, SpecBarrier, Guard, Stmt, Next, Ends, Goes, Forks, Stage, Pipe}
+use Rattle.pdl_semantics.specs.Flat.{Expr, Op, Bind, CombRead, DelayedRead, Write, ReserveRead, ReserveWrite, Block, Release, Call, SpecCall, Verify, SpecCheck, SpecBarrier, AdviceBind, AdviceRead, AdviceWrite, Guard, Stmt, Next, Ends, Goes, Forks, Stage, Pipe}
 use Rattle.pdl_semantics.specs.Stages.{list_any, is_verify}
 use Rattle.pdl_theory_facts.specs.Facts.{uses_in, uses_any}
 
@@ -12,7 +12,7 @@ uses_var e x = uses_in x e
 abbrev pub are_using : List Expr → ℕ → Bool
 are_using es x = uses_any x es
 
--- whether a statement uses a variable; a write and a release find their location without its address
+-- whether a statement uses a variable; a write and a release find their location without its address, an advised write doesn't
 abbrev pub op_uses : Op → ℕ → Bool
 op_uses (Bind y e) x = uses_var e x
 op_uses (CombRead y m a) x = a == x
@@ -24,9 +24,12 @@ op_uses (Block m a) x = a == x
 op_uses (Release _ _) x = false
 op_uses (Call args) x = are_using args x
 op_uses (SpecCall args) x = are_using args x
-op_uses (Verify args) x = are_using args x
+op_uses (Verify last args) x = are_using args x
 op_uses SpecCheck x = false
 op_uses SpecBarrier x = false
+op_uses (AdviceBind y e) x = uses_var e x
+op_uses (AdviceRead y m a) x = a == x
+op_uses (AdviceWrite m a e) x = (a == x) || uses_var e x
 
 -- one of these guards is by the variable
 abbrev pub guards_use : List Guard → ℕ → Bool
@@ -59,9 +62,12 @@ asks_held (Block n b) m a = (n == m) && (b == a)
 asks_held (Release n b) m a = (n == m) && (b == a)
 asks_held (Call _) m a = false
 asks_held (SpecCall _) m a = false
-asks_held (Verify _) m a = false
+asks_held (Verify _ _) m a = false
 asks_held SpecCheck m a = false
 asks_held SpecBarrier m a = false
+asks_held (AdviceBind _ _) m a = false
+asks_held (AdviceRead _ _ _) m a = false
+asks_held (AdviceWrite _ _ _) m a = false
 
 -- one of a stage from k on does
 abbrev pub held_from : Pipe → ℕ → ℕ → ℕ → Bool

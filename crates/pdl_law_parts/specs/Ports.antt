@@ -39,7 +39,7 @@ abbrev pub release_signal : ℕ → (ℕ → View) → (ℕ → Signal) → ℕ 
 release_signal m vs moves zero k = zero_bit
 release_signal m vs moves (suc n) k = release_moves m (moves k) (vs k).ended.lettings (release_signal m vs moves n (suc k))
 
--- all that a cycle does to a lock: of each memory a thread makes one reservation, so there is no second release
+-- all that a cycle does to a lock: no path reserves a memory twice for writing, so there is no second release
 abbrev pub step_of : Pipe → (ℕ → View) → Gates → (ℕ → Signal) → ℕ → StepSignals
 step_of p vs gates moves m = record {
   reserves = all_reserves m vs moves (length p.stages) 0;

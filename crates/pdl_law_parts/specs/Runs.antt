@@ -1,7 +1,6 @@
 -- A netlist shows what the machine of a pipe shows.
 use Rattle.std.specs.Prelude.{ℕ, ◌-◌, ◌==◌, Bool, List, [], ◌∷◌, ◌++◌, Option, Some, None, map, filter_map, find, length, slice_index, codes, bytes_eq}
 use Rattle.pdl_kit.specs.declared.mem_info.MemInfo.{MemInfo}
-use Rattle.pdl_semantics.specs.Tree as tree
 use Rattle.pdl_semantics.specs.Lines.{Column, Put, Cycle, lines}
 use Rattle.pdl_net.specs.declared.Netlist.{Netlist}
 use Rattle.pdl_net.specs.Circuit.{Output, circuit_of, outputs_of}

@@ -1,11 +1,11 @@
 -- A state of the netlist that stands for a state of the machine, and what the signals of a stage then are.
 use Rattle.std.specs.Prelude.{◌≡◌, ℕ, suc, ◌+◌, ◌<◌, ◌≤◌, Bool, true, false, not, List, [], ◌∷◌, map, length, slice_index, slice_index_or, Option, Some, None, is_some, if◌then◌else◌, ⊤}
 use Rattle.pdl_word.specs.Words.{bit}
-use Rattle.pdl_semantics.specs.Flat.{Pipe}
+use Rattle.pdl_semantics.specs.Flat.{Pipe, is_delayed}
 use Rattle.pdl_semantics.specs.Stages.{mem_at, commit_stage}
 use Rattle.pdl_semantics.specs.Machine as machine
 use Rattle.pdl_semantics.specs.Machine.{Thread, Reserved, Written, Deeds, deeds, held_before, is_held, with_kept}
-use Rattle.pdl_semantics.specs.Cycle.{is_kept, squasher, has_release, list_three}
+use Rattle.pdl_semantics.specs.Cycle.{is_kept, squasher, all_releases, list_three}
 use Rattle.pdl_net.specs.Circuit.{State}
 use Rattle.pdl_net.specs.Signal.{Signal}
 use Rattle.pdl_lockapi.specs.Laws.{FitsIn, holds_ticket}
@@ -44,21 +44,23 @@ pub record StandsFor (p : Pipe) (ls : Locks) (vs : ℕ → View) (s : State) (st
   pub valid : (k : ℕ) → k < length p.stages → (vs k).valid.value s ≡ bit (is_some (slot st k))
   pub long : (k : ℕ) (t : Thread) → slot st k ≡ Some t → length t.env ≡ p.vars
   pub env : (k : ℕ) (t : Thread) → slot st k ≡ Some t → IsEnv p k s (vs k).kept (with_kept t.kept t.env)
+  -- no value is advised
+  pub advice : (k : ℕ) (t : Thread) → slot st k ≡ Some t → t.advice ≡ []
   pub held : (k : ℕ) (t : Thread) → slot st k ≡ Some t → IsHolding p k s (vs k).begun.held (held_before k t.env p.stmts [])
   pub guess : (k : ℕ) (t : Thread) → slot st k ≡ Some t → IsGuess p k s (vs k).begun.guess t.guess
-  pub words : (m : ℕ) → is_locked p m ≡ false → (mem_at p m).delayed ≡ false → (a : ℕ) → a < (mem_at p m).depth
+  pub words : (m : ℕ) → is_locked p m ≡ false → is_delayed (mem_at p m).kind ≡ false → (a : ℕ) → a < (mem_at p m).depth
       → st.arrays m a ≡ slice_index (slice_index_or s.arrays (ls.array m) []) a
   pub locks : (m : ℕ) → is_locked p m ≡ true → StandsLock p ls vs s st m
 
 -- what a stage's reservations, writes, releases and calls are in a state: those whose condition is 1
 abbrev pub reserved_in : State → List Reservation → List Reserved
 reserved_in s [] = []
-reserved_in s (r ∷ rs) = if is_on r.on s then record { mem = r.mem; address = r.addr.value s } ∷ reserved_in s rs else reserved_in s rs
+reserved_in s (r ∷ rs) = if is_on r.on s then record { mem = r.mem; var = r.var; address = r.addr.value s } ∷ reserved_in s rs else reserved_in s rs
 
 -- the writes whose condition is 1 in a state, with their values
 abbrev pub written_in : State → List Put → List Written
 written_in s [] = []
-written_in s (x ∷ xs) = if is_on x.on s then record { mem = x.mem; value = x.value.value s } ∷ written_in s xs else written_in s xs
+written_in s (x ∷ xs) = if is_on x.on s then record { mem = x.mem; var = x.var; value = x.value.value s } ∷ written_in s xs else written_in s xs
 
 -- the memories of the releases whose condition is 1 in a state
 abbrev pub let_in : State → List Letting → List ℕ
@@ -94,6 +96,8 @@ AreShort p (b ∷ bs) = (length b.args ≤ p.vars) × AreShort p bs
 pub record IsSo (p : Pipe) (k : ℕ) (s : State) (w : Walk) (d : Deeds) : Type 0 where
   pub long : length d.env ≡ p.vars
   pub env : IsEnv p k s w.vars d.env
+  pub advice : d.advice ≡ []
+  pub advises : d.advises ≡ []
   pub held : IsHolding p k s w.held d.held
   pub reserves : d.reserves ≡ reserved_in s w.reserves
   pub fits : AddressesFit s w.reserves
@@ -104,7 +108,7 @@ pub record IsSo (p : Pipe) (k : ℕ) (s : State) (w : Walk) (d : Deeds) : Type 0
   pub short : AreShort p w.births
   pub asks : d.asks ≡ asked_in s w.asks
   pub guess_long : length w.guess ≡ length p.start
-  pub guess : IsGuess p k s w.guess d.guess
+  pub guess : d.fails ≡ false → IsGuess p k s w.guess d.guess
   pub fails : w.fails.value s ≡ bit d.fails
   pub barrier : w.barrier.value s ≡ bit d.barrier
 
@@ -126,4 +130,4 @@ pub record IsSquashed (p : Pipe) (ls : Locks) (vs : ℕ → View) (gates : Gates
   pub squash : gates.squash.value s ≡ bit (is_some (squasher (moving p st bits)))
   pub tail : (m n : ℕ) → is_locked p m ≡ true → (stand : StandsLock p ls vs s st m) → squasher (moving p st bits) ≡ Some n
       → holds_ticket (ls.bits m)
-      (gates.tail m) s (stand.base + bit (has_release m (moving p st bits)) + count_older (suc n) (list_three st (moving p st bits) m))
+      (gates.tail m) s (stand.base + all_releases m (moving p st bits) + count_older (suc n) (list_three st (moving p st bits) m))

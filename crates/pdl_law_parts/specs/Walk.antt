@@ -2,7 +2,7 @@
 use Rattle.std.specs.Prelude.{◌≡◌, ℕ, ◌<◌, ◌≤◌, Bool, true, false, ◌==◌, ◌&&◌, List, [], ◌∷◌, ◌++◌, if◌then◌else◌, slice_index, slice_index_or, length, map, ⊤, not}
 use Rattle.pdl_word.specs.Words.{bit}
 use Rattle.pdl_semantics.specs.Tree.{LockKind}
-use Rattle.pdl_semantics.specs.Flat.{Expr, Op, Bind, CombRead, DelayedRead, Write, ReserveRead, ReserveWrite, Block, Release, Call, SpecCall, Verify, SpecCheck, SpecBarrier, Guard, Stmt, Pipe, has_lock, takes_branch, value_of}
+use Rattle.pdl_semantics.specs.Flat.{Expr, Op, Bind, CombRead, DelayedRead, Write, ReserveRead, ReserveWrite, Block, Release, Call, SpecCall, Verify, SpecCheck, SpecBarrier, AdviceBind, AdviceRead, AdviceWrite, Guard, Stmt, Pipe, has_lock, takes_branch, value_of}
 use Rattle.pdl_semantics.specs.Stages.{mem_at}
 use Rattle.pdl_semantics.specs.Machine.{same_args}
 use Rattle.pdl_net.specs.Circuit.{Circuit, State}
@@ -44,15 +44,17 @@ both a b = mux_signal a b zero_bit
 abbrev pub is_on : Signal → State → Bool
 is_on f s = f.value s == 1
 
--- a reservation for writing: its condition and its address
+-- a reservation for writing: the variable of its location, its condition and its address
 pub record Reservation : Type 0 where
   pub mem : ℕ
+  pub var : ℕ
   pub on : Signal
   pub addr : Signal
 
--- a write of a memory: its condition and its value
+-- a write of a memory: the variable of its location, its condition and its value
 pub record Put : Type 0 where
   pub mem : ℕ
+  pub var : ℕ
   pub on : Signal
   pub value : Signal
 
@@ -158,7 +160,7 @@ pub record IsWord (p : Pipe) (ls : Locks) (m : ℕ) (addr ticket f : Signal) (s 
   pub locked : is_locked p m ≡ true
       → ThroughLock ls m ticket s (λ x t. look_ready (ls.kind m) look_kind.R x t (addr.value s) ≡ true → f.value s ≡ look_value x t (addr.value s))
 
--- what a row's signals say, by its guards, where the thread has these tickets; the address of a reservation for writing fits
+-- what a row's signals say, by its guards, where the thread has these tickets; the address of a reservation for writing fits. No row stands for an update, nor for what is advised
 abbrev pub IsOp : Circuit → Pipe → Locks → (ℕ → Signal) → List Guard → Op → Walk → Row → Type 0
 IsOp c p ls tickets gs (Bind x e) w r = (x < p.vars) × WhereTaken c gs w (HasValue e w r.value) × WhereNot c gs w (λ s. r.value.value s ≡ (w.vars x).value s)
 IsOp c p ls tickets gs (CombRead x m a) w r =
@@ -177,11 +179,15 @@ IsOp c p ls tickets gs (SpecCall args) w r =
     (length r.args ≤ p.vars) × WhereTaken c gs w (HaveValues args w r.args)
     × (length r.guess ≡ length w.guess) × WhereTaken c gs w (λ s. values_at s r.guess ≡ values_at s r.args)
     × WhereNot c gs w (λ s. values_at s r.guess ≡ values_at s w.guess)
-IsOp c p ls tickets gs (Verify args) w r =
+IsOp c p ls tickets gs (Verify false args) w r = ⊥
+IsOp c p ls tickets gs (Verify true args) w r =
     (length r.args ≤ p.vars) × WhereTaken c gs w (HaveValues args w r.args)
     × (length w.guess ≡ length args) × WhereTaken c gs w (λ s. r.value.value s ≡ bit (not (same_args (values_at s r.args) (values_at s w.guess))))
 IsOp c p ls tickets gs SpecCheck w r = ⊤
 IsOp c p ls tickets gs SpecBarrier w r = ⊤
+IsOp c p ls tickets gs (AdviceBind _ _) w r = ⊥
+IsOp c p ls tickets gs (AdviceRead _ _ _) w r = ⊥
+IsOp c p ls tickets gs (AdviceWrite _ _ _) w r = ⊥
 
 -- the signals of a statement's row: its condition tells whether the guards are taken, and the others are as its operation asks
 pub record IsRow (c : Circuit) (p : Pipe) (ls : Locks) (tickets : ℕ → Signal) (x : Stmt) (w : Walk) (r : Row) : Type 0 where
@@ -206,12 +212,12 @@ if_on on f = mux_signal on f one
 abbrev pub walk_after : Op → Row → Locks → Walk → Walk
 walk_after (Bind x e) r ls w = with_var x r.value w
 walk_after (CombRead x m a) r ls w = with_var x r.value w
-walk_after (Write m a e) r ls w = record w { puts = w.puts ++ record { mem = m; on = r.on; value = r.value } ∷ [] }
+walk_after (Write m a e) r ls w = record w { puts = w.puts ++ record { mem = m; var = a; on = r.on; value = r.value } ∷ [] }
 walk_after (ReserveWrite m a) r ls w =
     record w {
       held = with_held m a (mux_signal r.on one (w.held m a)) w.held;
       ready = both w.ready (if_on r.on (ls.room m));
-      reserves = w.reserves ++ record { mem = m; on = r.on; addr = w.vars a } ∷ [];
+      reserves = w.reserves ++ record { mem = m; var = a; on = r.on; addr = w.vars a } ∷ [];
     }
 walk_after (Block m a) r ls w = record w { ready = both w.ready (if_on r.on r.value) }
 walk_after (Release m a) r ls w =
@@ -222,11 +228,15 @@ walk_after (Release m a) r ls w =
 walk_after (Call args) r ls w = record w { births = record { on = r.on; args = r.args } ∷ w.births }
 walk_after (DelayedRead x m a) r ls w = record w { asks = w.asks ++ record { mem = m; var = x; on = r.on; addr = w.vars a } ∷ [] }
 walk_after (SpecCall args) r ls w = record w { births = record { on = r.on; args = r.args } ∷ w.births; guess = r.guess }
-walk_after (Verify args) r ls w =
+walk_after (Verify false args) r ls w = w
+walk_after (Verify true args) r ls w =
     record w { births = record { on = both r.on r.value; args = r.args } ∷ w.births; fails = mux_signal (both r.on r.value) one w.fails }
 walk_after SpecBarrier r ls w = record w { barrier = mux_signal r.on one w.barrier }
 walk_after (ReserveRead _ _) r ls w = w
 walk_after SpecCheck r ls w = w
+walk_after (AdviceBind _ _) r ls w = w
+walk_after (AdviceRead _ _ _) r ls w = w
+walk_after (AdviceWrite _ _ _) r ls w = w
 
 -- rows lead from one walk to another
 abbrev pub AreRows : Circuit → Pipe → Locks → (ℕ → Signal) → List Stmt → Walk → Walk → Type 0

@@ -1,7 +1,7 @@
 -- What stands beside the stages, in signals: the ports of delayed memories, the orders of forks, and speculation; and what the stages ask of them.
 use Rattle.std.specs.Prelude.{ℕ, zero, suc, ◌==◌, Bool, List, [], ◌∷◌, Option, Some, None, if◌then◌else◌, nat_lt, length}
 use Rattle.pdl_semantics.specs.Flat.{Next, Ends, Goes, Forks, Branch, Pipe}
-use Rattle.pdl_semantics.specs.Stages.{stage_at, is_inside, merges_fork, verify_stage}
+use Rattle.pdl_semantics.specs.Stages.{stage_at, is_inside, sides_of, merges_fork, verify_stage}
 use Rattle.pdl_semantics.specs.Cycle.{merges_by}
 use Rattle.pdl_net.specs.Circuit.{State}
 use Rattle.pdl_net.specs.Signal.{Signal, mux_signal}
@@ -91,19 +91,19 @@ abbrev pub barrier_open : Option ℕ → ℕ → Signal → Signal → Signal
 barrier_open None k barrier clear = one
 barrier_open (Some v) k barrier clear = if nat_lt k v then if_on barrier clear else one
 
--- into a merge from a branch that is the first of the fork's list, and straight from the fork where that is empty
-abbrev pub branch_turn : OrderNets → Option Branch → Signal
-branch_turn o None = o.empty
-branch_turn o (Some b) = mux_signal o.empty zero_bit (if b.first then o.first else mux_signal o.first zero_bit one)
+-- into a merge from the side of the fork that is the first of its list, and straight from the fork where that is empty
+abbrev pub branch_turn : OrderNets → List Bool → Signal
+branch_turn o [] = o.empty
+branch_turn o (b ∷ bs) = mux_signal o.empty zero_bit (if b then o.first else mux_signal o.first zero_bit one)
 
--- whether a thread of this branch may go into a stage, which merges this fork or none
-abbrev pub merge_turn : Sides → Option ℕ → Option Branch → Signal
+-- whether a thread of these branches may go into a stage, which merges this fork or none
+abbrev pub merge_turn : Sides → Option ℕ → List Branch → Signal
 merge_turn sides None from = one
-merge_turn sides (Some f) from = branch_turn (sides.order f) from
+merge_turn sides (Some f) from = branch_turn (sides.order f) (sides_of f from)
 
 -- whether the thread of stage k may go into stage q by the order of the fork that q merges
 abbrev pub turn : Pipe → Sides → ℕ → ℕ → Signal
-turn p sides k q = merge_turn sides (stage_at p q).merges (stage_at p k).branch
+turn p sides k q = merge_turn sides (stage_at p q).merges (stage_at p k).branches
 
 -- the whole gate of stage k, by what stands beside the stages
 abbrev pub gate_where : Pipe → (ℕ → View) → Gates → Sides → ℕ → Signal

@@ -1,7 +1,7 @@
 -- The netlist of a pipe of the whole language, in signals, and what it shows with its delayed memories outside.
 use Rattle.std.specs.Prelude.{◌≡◌, ℕ, suc, ◌+◌, ◌*◌, ◌-◌, ◌^◌, ◌<◌, true, false, List, [], ◌∷◌, ◌++◌, Option, Some, None, if◌then◌else◌, length, map, codes, slice_index_or}
 use Rattle.pdl_kit.specs.declared.mem_info.MemInfo.{MemInfo}
-use Rattle.pdl_semantics.specs.Flat.{Mem, Pipe, arrays_of}
+use Rattle.pdl_semantics.specs.Flat.{Mem, Pipe, is_delayed, arrays_of}
 use Rattle.pdl_semantics.specs.Stages.{mem_at, reply_place}
 use Rattle.pdl_semantics.specs.Cycle.{Turn, turns, for_mems}
 use Rattle.pdl_net.specs.declared.Dir.TheVariants.{In}
@@ -66,7 +66,7 @@ request_shown name q = shown_signal (codes "q_" ++ name) q.enable ∷ shown_sign
 -- the outputs of what is asked of each delayed memory; the first memory has the number m
 abbrev pub requests_shown : (ℕ → List ℕ) → (ℕ → Request) → ℕ → List Mem → List Shown
 requests_shown names asks m [] = []
-requests_shown names asks m (x ∷ xs) = (if x.delayed then request_shown (names m) (asks m) else []) ++ requests_shown names asks (suc m) xs
+requests_shown names asks m (x ∷ xs) = (if is_delayed x.kind then request_shown (names m) (asks m) else []) ++ requests_shown names asks (suc m) xs
 
 -- all outputs: of the stages, the commits and the requests, and the last two
 abbrev pub whole_shown : Pipe → (ℕ → List ℕ) → (ℕ → Commit) → (ℕ → Request) → (ℕ → View) → Gates → (ℕ → Signal) → List Shown
@@ -79,16 +79,16 @@ whole_shown p names commits asks vs gates moves =
 abbrev pub reply_ports : (ℕ → List ℕ) → ℕ → List Mem → List Port
 reply_ports names m [] = []
 reply_ports names m (x ∷ xs) =
-    (if x.delayed
+    (if is_delayed x.kind
     then record { name = codes "p_" ++ names m; width = 1; dir = In } ∷ record { name = codes "pd_" ++ names m; width = x.width; dir = In } ∷ []
     else [])
     ++ reply_ports names (suc m) xs
 
 -- a memory's lock at the start: its array, where the memory answers at once, has the image in front
 pub record StartsLock (p : Pipe) (ls : Locks) (c : Circuit) (from to m : ℕ) : Type 0 where
-  pub deep : (mem_at p m).delayed ≡ false → array_depth c (ls.array m) ≡ words_of (ls.kind m) (mem_at p m).depth
+  pub deep : is_delayed (mem_at p m).kind ≡ false → array_depth c (ls.array m) ≡ words_of (ls.kind m) (mem_at p m).depth
   pub starts : (s : State) (image : List ℕ) → IsReset c from to s → length image ≡ (mem_at p m).depth
-      → ((mem_at p m).delayed ≡ false → HasImage (ls.kind m) (Some (ls.array m)) s image) → ls.stands m s (start image)
+      → (is_delayed (mem_at p m).kind ≡ false → HasImage (ls.kind m) (Some (ls.array m)) s image) → ls.stands m s (start image)
 
 -- the whole netlist: stages and locks, what stands beside them, what delayed memories are asked, and all ports
 pub record IsWhole (p : Pipe) (names : ℕ → List ℕ) (ls : Locks) (vs : ℕ → View) (gates : Gates) (moves : ℕ → Signal)
@@ -97,8 +97,8 @@ pub record IsWhole (p : Pipe) (names : ℕ → List ℕ) (ls : Locks) (vs : ℕ 
   pub starts : (m : ℕ) → is_locked p m ≡ true → StartsLock p ls c (laid.owns m).from (laid.owns m).to m
   pub beside : HasSides p ls c vs gates moves sides
   pub asks : ℕ → Request
-  pub outside : (m : ℕ) → m < length p.mems → (mem_at p m).delayed ≡ true → IsOutside p c vs moves sides (asks m) m
-  pub fits : (m : ℕ) → m < length p.mems → (mem_at p m).delayed ≡ true → FitsOutside p c (asks m) (laid.commits m) m
+  pub outside : (m : ℕ) → m < length p.mems → is_delayed (mem_at p m).kind ≡ true → IsOutside p c vs moves sides (asks m) m
+  pub fits : (m : ℕ) → m < length p.mems → is_delayed (mem_at p m).kind ≡ true → FitsOutside p c (asks m) (laid.commits m) m
   -- ports: the inputs of the delayed memories, and outputs
   pub outs : List Output
   pub ports : c.ports ≡ reply_ports names 0 p.mems ++ map (port_in c) outs
@@ -117,16 +117,16 @@ whole_had p t = record { ports = whole_values p t.ports; wait = t.wait }
 -- the names of the delayed ones among these, of which the first has the number m
 abbrev pub names_delayed : (ℕ → List ℕ) → ℕ → List Mem → List (List ℕ)
 names_delayed names m [] = []
-names_delayed names m (x ∷ xs) = (if x.delayed then names m ∷ [] else []) ++ names_delayed names (suc m) xs
+names_delayed names m (x ∷ xs) = (if is_delayed x.kind then names m ∷ [] else []) ++ names_delayed names (suc m) xs
 
 -- the netlist's memories are the pipe's, the delayed ones first, each with its width and depth
 pub record HasWholeMems (p : Pipe) (names : ℕ → List ℕ) (ls : Locks) (n : Netlist) : Type 0 where
   pub named : map (λ (i : MemInfo). i.name) (delayed_mems n) ≡ names_delayed names 0 p.mems
-  pub in_order : (m : ℕ) → m < length p.mems → (mem_at p m).delayed ≡ false → ls.array m ≡ comb_place p m
+  pub in_order : (m : ℕ) → m < length p.mems → is_delayed (mem_at p m).kind ≡ false → ls.array m ≡ comb_place p m
   pub count : length n.mems ≡ length p.mems
   pub depth : (m : ℕ) (d : MemInfo) → m < length p.mems → (slice_index_or n.mems (net_place p m) d).depth ≡ (mem_at p m).depth
   pub width : (m : ℕ) (d : MemInfo) → m < length p.mems → (slice_index_or n.mems (net_place p m) d).width ≡ (mem_at p m).width
-  pub delayed : (m : ℕ) (d : MemInfo) → m < length p.mems → (slice_index_or n.mems (net_place p m) d).delayed ≡ (mem_at p m).delayed
+  pub delayed : (m : ℕ) (d : MemInfo) → m < length p.mems → (slice_index_or n.mems (net_place p m) d).delayed ≡ is_delayed (mem_at p m).kind
 
 -- from each image and with each schedule of replies each port of each cycle is the machine's
 abbrev pub ShowsWhole : Pipe → Netlist → Type 0

@@ -1,6 +1,6 @@
 -- The locks that the memories of a pipe ask for, by their kinds and sizes.
 use Rattle.std.specs.Prelude.{◌≡◌, false, List, [], ◌∷◌, map, Option, ⊤}
-use Rattle.pdl_semantics.specs.Flat.{Lock, Plain, Queue, Bypass, Rename, Mem}
+use Rattle.pdl_semantics.specs.Flat.{Lock, Plain, Queue, Bypass, Rename, Mem, is_delayed}
 use Rattle.pdl_lock_any.specs.declared.AnyLock.{AnyLock}
 use Rattle.pdl_lock_any.specs.AskedLock.{lock_asked, IsSizedLock}
 
@@ -12,8 +12,8 @@ locks_asked ms = map (λ (m : Mem). lock_asked m.lock) ms
 abbrev pub IsInTime : Lock → Mem → Type 0
 IsInTime Plain m = ⊤
 IsInTime (Queue n) m = ⊤
-IsInTime (Bypass n) m = m.delayed ≡ false
-IsInTime (Rename n) m = m.delayed ≡ false
+IsInTime (Bypass n) m = is_delayed m.kind ≡ false
+IsInTime (Rename n) m = is_delayed m.kind ≡ false
 
 -- each lock that gives values is of a memory that answers at once
 abbrev pub AreInTime : List Mem → Type 0

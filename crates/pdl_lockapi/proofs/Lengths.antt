@@ -1,8 +1,9 @@
 -- How many writes are pending after reserves, writes and a release.
-use Rattle.std.proofs.Common.{◌≡◌, refl, ap, ◌∙◌, ℕ, suc, ◌+◌, ◌≤◌, Bool, true, false, if◌then◌else◌, ◌==◌, List, [], ◌∷◌, ◌++◌, length, length-append, None, arith}
+use Rattle.std.proofs.Common.{◌≡◌, refl, ap, ◌∙◌, ℕ, suc, ◌+◌, ◌≤◌, Bool, true, false, if◌then◌else◌, ◌==◌, List, [], ◌∷◌, ◌++◌, length, drop, length-append, None, arith}
+use Rattle.std.proofs.lemmas.List.{length-drop}
 use Rattle.pdl_semantics.specs.Machine.{Pending, Reserved}
 use Rattle.pdl_semantics.specs.Moves.{Act}
-use Rattle.pdl_semantics.specs.Cycle.{new_entries, with_reserves, with_all_writes, but_oldest}
+use Rattle.pdl_semantics.specs.Cycle.{new_entries, with_reserves, with_all_writes}
 use Rattle.pdl_semantics.proofs.Facts.{put_all_length}
 use Rattle.pdl_lockapi.specs.Forget.{addresses_of, addresses}
 
@@ -12,7 +13,7 @@ new_long m t [] = refl
 new_long m t (r ∷ rs) = at (r.mem == m) (new_long m t rs)
   where
     at : (b : Bool) → length (new_entries m t rs) ≡ length (addresses_of m rs)
-        → length ((if b then record { thread = t; address = r.address; value = None } ∷ [] else []) ++ new_entries m t rs)
+        → length ((if b then record { thread = t; var = r.var; address = r.address; value = None } ∷ [] else []) ++ new_entries m t rs)
         ≡ length ((if b then r.address ∷ [] else []) ++ addresses_of m rs)
     at true h = ap suc h
     at false h = h
@@ -32,8 +33,6 @@ pub filled_long : (m : ℕ) (ms : List Act) (es : List Pending) → length (with
 filled_long m [] es = refl
 filled_long m (a ∷ ms) es = put_all_length m a.thread.number a.does.writes (with_all_writes m ms es) ∙ filled_long m ms es
 
--- a release leaves no more pending writes than there were
-pub left_long : (b : Bool) (es : List Pending) → length (if b then but_oldest es else es) ≤ length es
-left_long true [] = omega arith
-left_long true (e ∷ es) = omega arith
-left_long false es = omega arith
+-- releases leave no more pending writes than there were
+pub left_long : (k : ℕ) (es : List Pending) → length (drop k es) ≤ length es
+left_long k es = let e = length-drop k es in omega arith

@@ -107,4 +107,5 @@ same_signals a b p x y =
     (λ k q h e. same_ticket a b q (y.kept q.enable (x.enable k q h e)) (y.kept q.ticket (x.ticket k q h e)) (y.kept q.value (x.value k q h e))) in
     cc (e1, e2, y.kept p.release x.release, y.kept p.release2 x.release2, y.kept p.squash x.squash, y.kept p.tail x.tail)
 
+-- what carries the ports of a lock over to a grown circuit
 pub ruleset ports = (extends_keeps, ports_there, ports_fit, same_signals)

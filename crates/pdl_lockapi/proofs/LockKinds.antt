@@ -1,5 +1,5 @@
 -- What holds of a lock by its kind. Proofs on the machine and on netlists name no kind: what they need of the kinds is here.
-use Rattle.std.proofs.Common.{◌≡◌, refl, sym, ap, ◌∙◌, ℕ, ◌+◌, ◌*◌, ◌<◌, nat_lt, true, false, [], Some, ◌⊎◌, inl, inr, ltb-true, arith}
+use Rattle.std.proofs.Common.{◌≡◌, refl, sym, ap, ◌∙◌, ℕ, ◌+◌, ◌*◌, ◌≤◌, nat_le, true, false, [], Some, ◌⊎◌, inl, inr, leb-true, arith}
 use Rattle.std.specs.Prelude.{slice_index_or}
 use Rattle.pdl_semantics.specs.Tree.{LockKind, Queue, Bypass, Rename, LockDecl}
 use Rattle.pdl_semantics.specs.Flat as flat
@@ -37,22 +37,22 @@ lock_is l = at l.kind
 
 -- ROOM
 
--- there is room below the size
-pub room_is : (k : LockKind) (size n : ℕ) → has_room (as_lock k size) n ≡ nat_lt n size
-room_is Queue size n = refl
-room_is Bypass size n = refl
-room_is Rename size n = refl
+-- there is room for more up to the size
+pub room_is : (k : LockKind) (size more n : ℕ) → has_room (as_lock k size) more n ≡ nat_le (more + n) size
+room_is Queue size more n = refl
+room_is Bypass size more n = refl
+room_is Rename size more n = refl
 
--- where a lock has room, fewer writes are pending than its size
-pub room_there : (k : LockKind) (n size : ℕ) → has_room (as_lock k size) n ≡ true → n < size
-room_there k n size e = ltb-true n size (sym (room_is k size n) ∙ e)
+-- where a lock has room for more, these and what is pending are no more than its size
+pub room_there : (k : LockKind) (more n size : ℕ) → has_room (as_lock k size) more n ≡ true → more + n ≤ size
+room_there k more n size e = leb-true (more + n) size (sym (room_is k size more n) ∙ e)
 
--- where there is room, the memory has no lock, or fewer writes are pending than its size
-pub room_size : (l : Lock) (n : ℕ) → has_room l n ≡ true → (l ≡ flat.Plain) ⊎ (n < size_of l)
-room_size flat.Plain n e = inl refl
-room_size (flat.Queue size) n e = inr (ltb-true n size e)
-room_size (flat.Bypass size) n e = inr (ltb-true n size e)
-room_size (flat.Rename size) n e = inr (ltb-true n size e)
+-- where there is room for more, the memory has no lock, or these and what is pending are no more than its size
+pub room_size : (l : Lock) (more n : ℕ) → has_room l more n ≡ true → (l ≡ flat.Plain) ⊎ (more + n ≤ size_of l)
+room_size flat.Plain more n e = inl refl
+room_size (flat.Queue size) more n e = inr (leb-true (more + n) size e)
+room_size (flat.Bypass size) more n e = inr (leb-true (more + n) size e)
+room_size (flat.Rename size) more n e = inr (leb-true (more + n) size e)
 
 -- THE WORDS OF THE MEMORY'S ARRAY
 

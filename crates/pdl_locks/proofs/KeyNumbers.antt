@@ -61,7 +61,8 @@ first_same keys l m xs x e within =
 
 -- PLACES WITH NUMBERS
 
-one_before : (keys : Keys) (l : Location) (y : Place) (xs : List Place)
+-- one that stands at one of the places stands at one of them and one more before
+pub one_before : (keys : Keys) (l : Location) (y : Place) (xs : List Place)
     → first_place keys l xs < length xs → first_place keys l (y ∷ xs) < length (y ∷ xs)
 one_before keys l y xs h = at (is_at keys l y) refl
   where

@@ -65,7 +65,8 @@ location_laws = record {
 
 -- WITH A MEMORY
 
-unreserved_memory : (k : Kind) (l : Location) (x : Place) → is_at Memories l x ≡ false → is_reserve_of k l.mem.name x ≡ false
+-- a place with another memory reserves none of it
+pub unreserved_memory : (k : Kind) (l : Location) (x : Place) → is_at Memories l x ≡ false → is_reserve_of k l.mem.name x ≡ false
 unreserved_memory k l (Statement (Reserve s m j) bs) e = and_right (same_kind k j) _ e
 unreserved_memory k l _ e = refl
 
@@ -78,12 +79,12 @@ pub memory_laws : HasLaws Memories IsUsedMemory
 memory_laws = record {
   alike = λ used l m earlier j h. let same = bytes_same m.mem.name l.mem.name j in record {
     reads = h.reads ∙ ap (λ name. min 4 (count_by (is_reserve_of R name) earlier)) same;
-    reserved = h.reserved ∙ ap (λ name. list_any (is_reserve_of W name) earlier) same;
+    reserves = h.reserves ∙ ap (λ name. min 2 (count_by (is_reserve_of W name) earlier)) same;
     written = h.written ∙ ap (λ name. list_any (is_write_of name) earlier) same;
   };
   aside = λ used l earlier x e h. record {
     reads = h.reads ∙ ap (min 4) (count_same (is_reserve_of R l.mem.name) earlier x (unreserved_memory R l x e));
-    reserved = h.reserved ∙ any_same (is_reserve_of W l.mem.name) earlier x (unreserved_memory W l x e);
+    reserves = h.reserves ∙ ap (min 2) (count_same (is_reserve_of W l.mem.name) earlier x (unreserved_memory W l x e));
     written = h.written ∙ any_same (is_write_of l.mem.name) earlier x (unwritten_memory l x e);
   };
 }

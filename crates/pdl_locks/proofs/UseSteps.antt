@@ -41,6 +41,14 @@ pub own : {T : Type 0} (keys : Keys) (Is : T → Location → List Place → Typ
 own keys Is places first before later x k uses none used earlier s e h is l at =
     subst (λ u. Is u l earlier) (sym is) (read keys Is places first before later x k uses none earlier s e h l at)
 
+-- the number at a place is that of its own location, or of its memory
+pub own_number : (keys : Keys) (places : List r_place.Place) (first : List ℕ) (before later : List Place) (x : Place) (k : ℕ) (l : Location)
+    → AreNumbered keys places first (before ++ x ∷ later) → k ≡ length before → location_at x ≡ Some l
+    → get_or first k 0 ≡ first_place keys l (map place_view places)
+own_number keys places first before later x k l s e own =
+    ap (λ ns. get_or ns k 0) s.numbers ∙ nth_told (number_at keys (before ++ x ∷ later)) before later x k 0 e
+    ∙ ap (λ o. first_of keys o (before ++ x ∷ later)) own ∙ ap (first_place keys l) s.own
+
 changed : {T : Type 0} (keys : Keys) (Is : T → Location → List Place → Type 0) (laws : HasLaws keys Is)
     (all earlier : List Place) (x : Place) (n : ℕ) (uses : List T) (new old : T)
     → n ≡ number_at keys all x → AreKept keys Is all earlier uses → n < length uses → old ≡ get_or uses n old

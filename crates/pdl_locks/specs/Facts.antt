@@ -23,7 +23,7 @@ pub record AreFacts (p : Pipe) (rows : List r_place.Place) (known : facts.LockFa
 
 -- the lines of the rules that are asked on paths
 abbrev pub Lines : Type 0
-Lines = PerRule (Option ℕ) (Option ℕ) (Option ℕ)
+Lines = PerRule (Option ℕ) (Option ℕ) (Option ℕ) (Option ℕ)
 
 -- the line is that at which the pipe breaks the rule
 abbrev pub IsLine : Pipe → Rule → Option ℕ → Type 0

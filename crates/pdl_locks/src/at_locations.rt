@@ -1,7 +1,7 @@
-// Rules on what is done at a location: L1, L5, L6 and L7.
+// Rules on what is done at a location: L1, L5 and L7.
 ghost use Rattle.std.specs.Prelude.{◌≡◌, ◌&&◌, true, [], ◌∷◌, ◌++◌, List, filter, map, length};
 ghost use Rattle.std.specs.List.{list_any};
-ghost use Rattle.pdl_syntax_tree.specs.View.{mem_view, pipe_view};
+ghost use Rattle.pdl_syntax_tree.specs.View.{maybe_lock_view, mem_view, pipe_view};
 ghost use Rattle.pdl_rules.specs.Places as rules;
 ghost use Rattle.pdl_rules.specs.Places.{on_path};
 ghost use Rattle.pdl_rules.specs.Locks as spec;
@@ -18,7 +18,7 @@ use crate::uses::{LocationUse, use_at};
 use pdl_kit::{Name, NoMemory};
 use pdl_paths::{Action, Path, Place};
 use pdl_rules_on_paths::PathRule;
-use pdl_syntax_tree::{AccessKind, Mem, Pipe};
+use pdl_syntax_tree::{AccessKind, LockDecl, Mem, Pipe, is_advisory};
 use std::alloc::Global;
 
 /// What is asked of the places at one location.
@@ -28,8 +28,6 @@ pub enum LocationRule {
     Held,
     /// L5: it is reserved once.
     ReservedOnce,
-    /// L6: a reservation to write is released after exactly one write.
-    WrittenOnce,
     /// L7: at the end it is released, if it was reserved.
     Released,
 }
@@ -67,7 +65,6 @@ impl PathRule for AtLocations<'_, '_> {
         match self.rule {
             LocationRule::Held => lacks_hold(self.pipe, used, place),
             LocationRule::ReservedOnce => is_reserved_again(used, place),
-            LocationRule::WrittenOnce => is_not_written_once(used, place),
             LocationRule::Released => is_end(place) && is_some_open(self.first, state),
         }
     }
@@ -119,11 +116,13 @@ fn lacks_hold(pipe: &Pipe, used: LocationUse, place: &Place<'_>) -> bool
         Action::DelayedRead(_, at) => {
             is_locked(mems, &at.mem.name) && !hold.is_blocked_for(AccessKind::R)
         }
-        Action::Write(_, _) => !hold.is_blocked_for(AccessKind::W),
+        Action::Write(at, _) => {
+            !is_advisory(mems, &at.mem.name) && !hold.is_blocked_for(AccessKind::W)
+        }
         Action::Release(_) => !hold.is_blocked(),
         Action::Parameter(_) | Action::Memory(_) | Action::Separator | Action::Bind(_, _) => false,
         Action::SpecCall(_, _) | Action::Reserve(_, _) | Action::If(_, _, _) => false,
-        Action::Call(_) | Action::Verify(_, _) | Action::SpecCheck => false,
+        Action::Call(_) | Action::Verify(_, _) | Action::Update(_, _) | Action::SpecCheck => false,
         Action::SpecBarrier | Action::End | Action::StartClause(_) => false,
     }
 }
@@ -137,21 +136,8 @@ fn is_reserved_again(used: LocationUse, place: &Place<'_>) -> bool
         Action::Parameter(_) | Action::Memory(_) | Action::Separator | Action::Bind(_, _) => false,
         Action::CombRead(_, _) | Action::DelayedRead(_, _) | Action::Write(_, _) => false,
         Action::SpecCall(_, _) | Action::Block(_) | Action::Release(_) => false,
-        Action::If(_, _, _) | Action::Call(_) | Action::Verify(_, _) | Action::SpecCheck => false,
-        Action::SpecBarrier | Action::End | Action::StartClause(_) => false,
-    }
-}
-
-fn is_not_written_once(used: LocationUse, place: &Place<'_>) -> bool
-    ensures { (earlier : List rules.Place) → IsOwn IsUsed used earlier (place_view place.now) →
-        result ≡ spec.is_not_written_once earlier (place_view place.now) }
-{
-    match place.action {
-        Action::Release(_) => used.hold.is_held_for(AccessKind::W) && used.writes != 1,
-        Action::Parameter(_) | Action::Memory(_) | Action::Separator | Action::Bind(_, _) => false,
-        Action::CombRead(_, _) | Action::DelayedRead(_, _) | Action::Write(_, _) => false,
-        Action::SpecCall(_, _) | Action::Block(_) | Action::Reserve(_, _) => false,
-        Action::If(_, _, _) | Action::Call(_) | Action::Verify(_, _) | Action::SpecCheck => false,
+        Action::If(_, _, _) | Action::Call(_) | Action::Verify(_, _) => false,
+        Action::Update(_, _) | Action::SpecCheck => false,
         Action::SpecBarrier | Action::End | Action::StartClause(_) => false,
     }
 }
@@ -167,6 +153,7 @@ fn is_end(place: &Place<'_>) -> bool
         Action::CombRead(_, _) | Action::DelayedRead(_, _) | Action::Write(_, _) => false,
         Action::SpecCall(_, _) | Action::Block(_) | Action::Reserve(_, _) => false,
         Action::Release(_) | Action::If(_, _, _) | Action::Call(_) | Action::Verify(_, _) => false,
+        Action::Update(_, _) => false,
         Action::SpecCheck | Action::SpecBarrier | Action::StartClause(_) => false,
     }
 }
@@ -189,6 +176,28 @@ fn is_open(uses: &[LocationUse], number: usize) -> bool
     match uses.get(number) {
         Some(used) => used.hold.is_unreleased(),
         None => false,
+    }
+}
+
+/// The size of a memory's lock, 0 where it has none.
+pub fn lock_size(mems: &[Mem], name: &Name) -> u64
+    ensures { result ≡ spec.lock_size (map mem_view mems.now) name.now }
+{
+    for mem in mems {
+        if mem.name.name == *name {
+            return declared_size(&mem.lock);
+        }
+    }
+    0
+}
+
+// The size that a lock is declared with, 0 without lock.
+fn declared_size(lock: &Option<LockDecl>) -> u64
+    ensures { result ≡ spec.declared_size (maybe_lock_view lock.now) }
+{
+    match lock {
+        None => 0,
+        Some(lock) => lock.size.value,
     }
 }
 

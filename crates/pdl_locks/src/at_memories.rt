@@ -1,8 +1,12 @@
 // Rules on what is done with a memory: L3 and L4.
-ghost use Rattle.std.specs.Prelude.{◌≡◌, List, filter, map};
+ghost use Rattle.std.specs.Prelude.{◌≡◌, not, ◌&&◌, ◌||◌, List, filter, map};
+ghost use Rattle.pdl_semantics.specs.Tree.{W};
+ghost use Rattle.pdl_semantics.specs.Flatten.{is_advisory_mem};
+ghost use Rattle.pdl_syntax_tree.specs.View.{mem_view, pipe_view};
 ghost use Rattle.pdl_rules.specs.Places as rules;
 ghost use Rattle.pdl_rules.specs.Places.{on_path};
 ghost use Rattle.pdl_rules.specs.Locks as spec;
+ghost use Rattle.pdl_rules.specs.Unbuilt.{is_second_write};
 ghost use Rattle.pdl_paths.specs.Actions.{place_view};
 ghost use Rattle.pdl_locks.specs.declared.numbers.Keys.TheVariants as keys;
 ghost use Rattle.pdl_locks.specs.Uses.{AreKept, IsOwn, IsUsedMemory};
@@ -10,12 +14,13 @@ ghost use Rattle.pdl_locks.specs.Numbers.{AreNumbered};
 ghost use Rattle.pdl_locks.specs.PassedPlaces.{passed_by};
 ghost use Rattle.pdl_locks.specs.RuleQuestions.{breaks_at_memory};
 
+use crate::at_locations::lock_size;
 use crate::numbers::number_of;
 use crate::uses::{MemoryUse, use_at};
-use pdl_kit::NoMemory;
+use pdl_kit::{Name, NoMemory};
 use pdl_paths::{Action, Path, Place};
 use pdl_rules_on_paths::PathRule;
-use pdl_syntax_tree::AccessKind;
+use pdl_syntax_tree::{AccessKind, Location, Mem, Pipe, is_advisory};
 use std::alloc::Global;
 
 /// What is asked of the places of one memory.
@@ -23,13 +28,14 @@ use std::alloc::Global;
 pub enum MemoryRule {
     /// L3: it is reserved to read before it is reserved to write, and read before it is written.
     ReadFirst,
-    /// L4: it is reserved to write once, and to read at most four times.
+    /// L4: it is reserved to write at most twice, or once where its lock has room for one, and to read at most four times.
     FewReserves,
 }
 
 /// A rule on the places of each memory of a pipe.
 #[derive(Clone, Copy)]
 pub struct AtMemories<'a, 'p> {
+    pub pipe: &'a Pipe,
     /// The places of the pipe.
     pub places: &'a [Place<'p>],
     /// For each of them the number of the first one at a location of its memory.
@@ -44,7 +50,7 @@ impl PathRule for AtMemories<'_, '_> {
     ghost suits = { λ rule gs xs. AreNumbered keys.Memories rule.places.now rule.first.now xs };
 
     ghost breaks_on = { λ rule path before x.
-        breaks_at_memory rule.rule (filter (on_path path) before) x };
+        breaks_at_memory rule.rule (pipe_view rule.pipe.now) (filter (on_path path) before) x };
 
     ghost stands = { λ rule path before state.
         AreKept keys.Memories IsUsedMemory (map place_view rule.places.now)
@@ -57,8 +63,8 @@ impl PathRule for AtMemories<'_, '_> {
     fn breaks(&self, state: &Vec<MemoryUse>, k: usize, place: &Place<'_>) -> bool {
         let used = use_at(state, number_of(self.first, k), MemoryUse::none());
         match self.rule {
-            MemoryRule::ReadFirst => is_late_read(used, place),
-            MemoryRule::FewReserves => is_one_too_many(used, place),
+            MemoryRule::ReadFirst => is_late_read(self.pipe, used, place),
+            MemoryRule::FewReserves => are_too_many(self.pipe, used, place),
         }
     }
 
@@ -80,41 +86,88 @@ impl PathRule for AtMemories<'_, '_> {
         (map place_view rule.places.now) path before x state.items off stands };
 }
 
-// Whether a place with this use of its memory reads, or reserves to read, too late.
-fn is_late_read(used: MemoryUse, place: &Place<'_>) -> bool
+// Whether a place with this use of its memory reads, or reserves to read, too late; an advisory one is read at any time.
+fn is_late_read(pipe: &Pipe, used: MemoryUse, place: &Place<'_>) -> bool
     ensures { (earlier : List rules.Place) →
         IsOwn IsUsedMemory used earlier (place_view place.now) →
-        result ≡ spec.is_late_read earlier (place_view place.now) }
+        result ≡ spec.is_late_read (pipe_view pipe.now) earlier (place_view place.now) }
 {
     match place.action {
         Action::Reserve(_, kind) => match kind {
-            AccessKind::R => used.reserved,
+            AccessKind::R => used.reserves >= 1,
             AccessKind::W => false,
         },
-        Action::CombRead(_, _) => used.written,
+        Action::CombRead(_, at) => reads_written(pipe.mems.as_slice(), used, at),
         Action::DelayedRead(_, _) => used.written,
         Action::Parameter(_) | Action::Memory(_) | Action::Separator | Action::Bind(_, _) => false,
         Action::Write(_, _) | Action::SpecCall(_, _) => false,
         Action::Block(_) | Action::Release(_) | Action::If(_, _, _) | Action::Call(_) => false,
-        Action::Verify(_, _) | Action::SpecCheck | Action::SpecBarrier => false,
+        Action::Verify(_, _) | Action::Update(_, _) | Action::SpecCheck => false,
+        Action::SpecBarrier => false,
         Action::End | Action::StartClause(_) => false,
     }
 }
 
-fn is_one_too_many(used: MemoryUse, place: &Place<'_>) -> bool
+// Whether a comb read of a memory with this use is one after a write, where the memory isn't advisory.
+fn reads_written(mems: &[Mem], used: MemoryUse, at: &Location) -> bool
+    ensures { result ≡ (not (is_advisory_mem (map mem_view mems.now) at.now.mem.name)
+        && used.written) }
+{
+    !is_advisory(mems, &at.mem.name) && used.written
+}
+
+// Whether a place with this use of its memory reserves it once too often, or a second time to write.
+fn are_too_many(pipe: &Pipe, used: MemoryUse, place: &Place<'_>) -> bool
     ensures { (earlier : List rules.Place) →
         IsOwn IsUsedMemory used earlier (place_view place.now) →
-        result ≡ spec.is_one_too_many earlier (place_view place.now) }
+        result ≡ (is_second_write earlier (place_view place.now)
+        || spec.is_one_too_many (pipe_view pipe.now) earlier (place_view place.now)) }
+{
+    reserves_second(used, place) || is_one_too_many(pipe, used, place)
+}
+
+// Whether a place with this use of its memory reserves it a second time to write, which has no circuit yet.
+fn reserves_second(used: MemoryUse, place: &Place<'_>) -> bool
+    ensures { (earlier : List rules.Place) →
+        IsOwn IsUsedMemory used earlier (place_view place.now) →
+        result ≡ is_second_write earlier (place_view place.now) }
 {
     match place.action {
         Action::Reserve(_, kind) => match kind {
-            AccessKind::R => used.reads >= 4,
-            AccessKind::W => used.reserved,
+            AccessKind::R => false,
+            AccessKind::W => used.reserves >= 1,
         },
         Action::Parameter(_) | Action::Memory(_) | Action::Separator | Action::Bind(_, _) => false,
         Action::CombRead(_, _) | Action::DelayedRead(_, _) | Action::Write(_, _) => false,
         Action::SpecCall(_, _) | Action::Block(_) | Action::Release(_) => false,
-        Action::If(_, _, _) | Action::Call(_) | Action::Verify(_, _) | Action::SpecCheck => false,
+        Action::If(_, _, _) | Action::Call(_) | Action::Verify(_, _) => false,
+        Action::Update(_, _) => false,
+        Action::SpecCheck | Action::SpecBarrier | Action::End | Action::StartClause(_) => false,
+    }
+}
+
+// How many write reservations of a memory there may be on a path: one where its lock has size 1.
+fn most_reserves(mems: &[Mem], name: &Name) -> u8
+    ensures { result ≡ spec.most_reservations (map mem_view mems.now) W name.now }
+{
+    if lock_size(mems, name) == 1 { 1 } else { 2 }
+}
+
+fn is_one_too_many(pipe: &Pipe, used: MemoryUse, place: &Place<'_>) -> bool
+    ensures { (earlier : List rules.Place) →
+        IsOwn IsUsedMemory used earlier (place_view place.now) →
+        result ≡ spec.is_one_too_many (pipe_view pipe.now) earlier (place_view place.now) }
+{
+    match place.action {
+        Action::Reserve(at, kind) => match kind {
+            AccessKind::R => used.reads >= 4,
+            AccessKind::W => used.reserves >= most_reserves(pipe.mems.as_slice(), &at.mem.name),
+        },
+        Action::Parameter(_) | Action::Memory(_) | Action::Separator | Action::Bind(_, _) => false,
+        Action::CombRead(_, _) | Action::DelayedRead(_, _) | Action::Write(_, _) => false,
+        Action::SpecCall(_, _) | Action::Block(_) | Action::Release(_) => false,
+        Action::If(_, _, _) | Action::Call(_) | Action::Verify(_, _) => false,
+        Action::Update(_, _) | Action::SpecCheck => false,
         Action::SpecBarrier | Action::End | Action::StartClause(_) => false,
     }
 }

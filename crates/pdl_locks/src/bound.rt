@@ -58,6 +58,7 @@ impl PathRule for BoundInTime<'_, '_> {
             Action::Bind(_, _) | Action::SpecCall(_, _) | Action::Write(_, _) => false,
             Action::Reserve(_, _) | Action::Block(_) | Action::Release(_) => false,
             Action::If(_, _, _) | Action::Call(_) | Action::Verify(_, _) => false,
+            Action::Update(_, _) => false,
             Action::SpecCheck | Action::SpecBarrier => false,
             Action::End | Action::StartClause(_) => false,
         }

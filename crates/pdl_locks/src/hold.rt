@@ -108,7 +108,8 @@ impl Hold {
             Action::Parameter(_) | Action::Memory(_) | Action::Separator => self,
             Action::CombRead(_, _) | Action::Bind(_, _) | Action::SpecCall(_, _) => self,
             Action::DelayedRead(_, _) | Action::Write(_, _) | Action::If(_, _, _) => self,
-            Action::Call(_) | Action::Verify(_, _) | Action::SpecCheck => self,
+            Action::Call(_) | Action::Verify(_, _) | Action::Update(_, _) => self,
+            Action::SpecCheck => self,
             Action::SpecBarrier | Action::End | Action::StartClause(_) => self,
         }
     }

@@ -11,6 +11,7 @@ pub mod facts;
 pub mod hold;
 pub mod numbers;
 pub mod plan;
+pub mod turns;
 pub mod uses;
 pub mod walk;
 
@@ -22,5 +23,6 @@ pub use facts::LockFacts;
 pub use hold::Hold;
 pub use numbers::{Keys, first_places, number_of};
 pub use plan::LockPlan;
+pub use turns::{Turns, WrittenInTurn};
 pub use uses::{LocationUse, MemoryUse, use_at};
 pub use walk::{LockLines, LockRules, PerRule, lock_path_rules};

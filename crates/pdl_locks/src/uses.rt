@@ -45,12 +45,12 @@ impl LocationUse {
     }
 }
 
-/// What was done so far with a memory. Read reservations count up to four.
+/// What was done so far with a memory. Read reservations count up to four, write reservations up to two.
 #[derive(Clone, Copy)]
 pub struct MemoryUse {
     pub reads: u8,
-    /// Whether it was reserved to write.
-    pub reserved: bool,
+    /// How often it was reserved to write.
+    pub reserves: u8,
     pub written: bool,
 }
 
@@ -61,7 +61,7 @@ impl MemoryUse {
     {
         MemoryUse {
             reads: 0,
-            reserved: false,
+            reserves: 0,
             written: false,
         }
     }
@@ -74,7 +74,7 @@ impl MemoryUse {
     {
         MemoryUse {
             reads: up_to(4, self.reads, is_reserve_for(place, AccessKind::R)),
-            reserved: self.reserved || is_reserve_for(place, AccessKind::W),
+            reserves: up_to(2, self.reserves, is_reserve_for(place, AccessKind::W)),
             written: self.written || is_write(place),
         }
     }
@@ -101,11 +101,13 @@ fn is_reserve(place: &Place<'_>) -> bool
         Action::CombRead(_, _) | Action::Bind(_, _) | Action::DelayedRead(_, _) => false,
         Action::Write(_, _) | Action::SpecCall(_, _) | Action::Block(_) => false,
         Action::Release(_) | Action::If(_, _, _) | Action::Call(_) | Action::Verify(_, _) => false,
+        Action::Update(_, _) => false,
         Action::SpecCheck | Action::SpecBarrier | Action::End | Action::StartClause(_) => false,
     }
 }
 
-fn is_reserve_for(place: &Place<'_>, kind: AccessKind) -> bool
+/// Whether a place reserves its location for this kind.
+pub fn is_reserve_for(place: &Place<'_>, kind: AccessKind) -> bool
     ensures { (l : SpecLocation) → spec_location_at (place_view place.now) ≡ Some l →
         result ≡ spec.is_reserve_of (kind_view kind) l.mem.name (place_view place.now) }
 {
@@ -115,6 +117,7 @@ fn is_reserve_for(place: &Place<'_>, kind: AccessKind) -> bool
         Action::CombRead(_, _) | Action::Bind(_, _) | Action::DelayedRead(_, _) => false,
         Action::Write(_, _) | Action::SpecCall(_, _) | Action::Block(_) => false,
         Action::Release(_) | Action::If(_, _, _) | Action::Call(_) | Action::Verify(_, _) => false,
+        Action::Update(_, _) => false,
         Action::SpecCheck | Action::SpecBarrier | Action::End | Action::StartClause(_) => false,
     }
 }
@@ -131,6 +134,7 @@ fn is_write(place: &Place<'_>) -> bool
         Action::CombRead(_, _) | Action::Bind(_, _) | Action::DelayedRead(_, _) => false,
         Action::Reserve(_, _) | Action::SpecCall(_, _) | Action::Block(_) => false,
         Action::Release(_) | Action::If(_, _, _) | Action::Call(_) | Action::Verify(_, _) => false,
+        Action::Update(_, _) => false,
         Action::SpecCheck | Action::SpecBarrier | Action::End | Action::StartClause(_) => false,
     }
 }

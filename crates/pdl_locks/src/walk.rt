@@ -12,12 +12,13 @@ ghost use Rattle.pdl_locks.specs.declared.numbers.Keys.TheVariants as keys;
 ghost use Rattle.pdl_locks.specs.Bound.{AreOfPipe};
 ghost use Rattle.pdl_locks.specs.Facts.{AreFacts, AreLines, Lines};
 ghost use Rattle.pdl_locks.specs.Numbers.{AreNumbered};
-ghost use Rattle.pdl_locks.specs.Walk.{StandsAt, StandsOf, StandsBound, at_location, of_memory, aside_at, aside_of, aside_bound};
+ghost use Rattle.pdl_locks.specs.Walk.{StandsAt, StandsOf, StandsInTurn, StandsBound, at_location, of_memory, in_turn, aside_at, aside_of, aside_turn, aside_bound};
 
 use crate::at_locations::{AtLocations, LocationRule};
 use crate::at_memories::{AtMemories, MemoryRule};
 use crate::bound::BoundInTime;
 use crate::facts::LockFacts;
+use crate::turns::{Turns, WrittenInTurn};
 use crate::uses::{LocationUse, MemoryUse};
 use pdl_kit::NoMemory;
 use pdl_paths::{Guards, Path, Place};
@@ -40,7 +41,7 @@ pub struct LockRules<'a, 'p> {
 
 /// What is known of each of them.
 #[derive(Drop)]
-pub struct PerRule<A, M, B> {
+pub struct PerRule<A, M, W, B> {
     /// Of L1.
     pub held: A,
     /// Of L3.
@@ -50,7 +51,7 @@ pub struct PerRule<A, M, B> {
     /// Of L5.
     pub reserved_once: A,
     /// Of L6.
-    pub written_once: A,
+    pub written_once: W,
     /// Of L7.
     pub released: A,
     /// Of L8.
@@ -58,15 +59,15 @@ pub struct PerRule<A, M, B> {
 }
 
 /// The lines at which a pipe breaks them, none where it keeps one.
-pub type LockLines = PerRule<Option<u32>, Option<u32>, Option<u32>>;
+pub type LockLines = PerRule<Option<u32>, Option<u32>, Option<u32>, Option<u32>>;
 
 type Used = Course<Vec<LocationUse>>;
 
 type UsedMemory = Course<Vec<MemoryUse>>;
 
-type Courses = PerRule<Used, UsedMemory, Course<Path>>;
+type Courses = PerRule<Used, UsedMemory, Course<Turns>, Course<Path>>;
 
-type Lowest = PerRule<usize, usize, usize>;
+type Lowest = PerRule<usize, usize, usize, usize>;
 
 impl LockRules<'_, '_> {
     // One rule on locations, before the first place of a path.
@@ -128,11 +129,12 @@ impl LockRules<'_, '_> {
     ) -> Result<UsedMemory, NoMemory>
         ensures { IfOk result (λ course. (gs : List spec.Guard) (xs : List spec.Place)
             → AreNumbered keys.Memories self.now.bound.places.now self.now.memories.now xs
-            → IsFound (of_memory rule) gs xs path.bits lowest
-            → StandsOf self.now.bound.places.now rule gs xs path.bits 0 course.state.items
+            → IsFound (of_memory (pipe_view self.now.bound.pipe.now) rule) gs xs path.bits lowest
+            → StandsOf (pipe_view self.now.bound.pipe.now) self.now.bound.places.now rule gs xs path.bits 0 course.state.items
             course.lowest) }
     {
         let asked = AtMemories {
+            pipe: self.bound.pipe,
             places: self.bound.places,
             first: self.memories,
             rule,
@@ -152,15 +154,65 @@ impl LockRules<'_, '_> {
             → AreNumbered keys.Memories self.now.bound.places.now self.now.memories.now xs
             → slice_get xs k ≡ Some (place_view place.now) → spec.on_path (path_of gs bits)
             (place_view place.now) ≡ true
-            → StandsOf self.now.bound.places.now rule gs xs bits k course.old.state.items
+            → StandsOf (pipe_view self.now.bound.pipe.now) self.now.bound.places.now rule gs xs bits k course.old.state.items
             course.old.lowest
-            → StandsOf self.now.bound.places.now rule gs xs bits (k + 1) course.new.state.items
+            → StandsOf (pipe_view self.now.bound.pipe.now) self.now.bound.places.now rule gs xs bits (k + 1) course.new.state.items
             course.new.lowest) }
     {
         let asked = AtMemories {
+            pipe: self.bound.pipe,
             places: self.bound.places,
             first: self.memories,
             rule,
+        };
+        Alone(asked).pass(course, k, place)
+    }
+}
+
+impl LockRules<'_, '_> {
+    // L6, before the first place of a path.
+    fn start_turn(
+        &self,
+        alloc: Global,
+        path: Path,
+        lowest: usize,
+    ) -> Result<Course<Turns>, NoMemory>
+        ensures { IfOk result (λ course. (gs : List spec.Guard) (xs : List spec.Place)
+            → AreNumbered keys.Locations self.now.bound.places.now self.now.locations.now xs
+            → AreNumbered keys.Memories self.now.bound.places.now self.now.memories.now xs
+            → IsFound in_turn gs xs path.bits lowest
+            → StandsInTurn self.now.bound.places.now gs xs path.bits 0
+            course.state.uses.items course.state.first.items course.lowest) }
+    {
+        let asked = WrittenInTurn {
+            places: self.bound.places,
+            locations: self.locations,
+            memories: self.memories,
+        };
+        Alone(asked).start(alloc, path, lowest)
+    }
+
+    // It passes a place.
+    fn pass_turn(
+        &self,
+        course: &mut Course<Turns>,
+        k: usize,
+        place: &Place<'_>,
+    ) -> Result<(), NoMemory>
+        ensures { OnOk result ((gs : List spec.Guard) (xs : List spec.Place) (bits : ℕ)
+            → AreNumbered keys.Locations self.now.bound.places.now self.now.locations.now xs
+            → AreNumbered keys.Memories self.now.bound.places.now self.now.memories.now xs
+            → slice_get xs k ≡ Some (place_view place.now) → spec.on_path (path_of gs bits)
+            (place_view place.now) ≡ true
+            → StandsInTurn self.now.bound.places.now gs xs bits k course.old.state.uses.items
+            course.old.state.first.items course.old.lowest
+            → StandsInTurn self.now.bound.places.now gs xs bits (k + 1) course.new.state.uses.items
+            course.new.state.first.items course.new.lowest) }
+    {
+        let asked = WrittenInTurn {
+            places: self.bound.places,
+            locations: self.locations,
+            memories: self.memories,
         };
         Alone(asked).pass(course, k, place)
     }
@@ -181,23 +233,23 @@ impl PathRules for LockRules<'_, '_> {
 
     ghost found = { λ rules gs xs paths lowest. let p = pipe_view rules.bound.pipe.now in
         (IsFound (at_location p at.Held) gs xs paths lowest.held)
-        × (IsFound (of_memory of.ReadFirst) gs xs paths lowest.read_first)
-        × (IsFound (of_memory of.FewReserves) gs xs paths lowest.few_reserves)
+        × (IsFound (of_memory p of.ReadFirst) gs xs paths lowest.read_first)
+        × (IsFound (of_memory p of.FewReserves) gs xs paths lowest.few_reserves)
         × (IsFound (at_location p at.ReservedOnce) gs xs paths lowest.reserved_once)
-        × (IsFound (at_location p at.WrittenOnce) gs xs paths lowest.written_once)
+        × (IsFound in_turn gs xs paths lowest.written_once)
         × (IsFound (at_location p at.Released) gs xs paths lowest.released)
         × (IsFound (bound_late p) gs xs paths lowest.bound) };
 
     ghost stand = { λ rules gs xs bits k now.
         let p = pipe_view rules.bound.pipe.now in let rows = rules.bound.places.now in
         (StandsAt p rows at.Held gs xs bits k now.held.state.items now.held.lowest)
-        × (StandsOf rows of.ReadFirst gs xs bits k now.read_first.state.items now.read_first.lowest)
-        × (StandsOf rows of.FewReserves gs xs bits k now.few_reserves.state.items
+        × (StandsOf p rows of.ReadFirst gs xs bits k now.read_first.state.items now.read_first.lowest)
+        × (StandsOf p rows of.FewReserves gs xs bits k now.few_reserves.state.items
         now.few_reserves.lowest)
         × (StandsAt p rows at.ReservedOnce gs xs bits k now.reserved_once.state.items
         now.reserved_once.lowest)
-        × (StandsAt p rows at.WrittenOnce gs xs bits k now.written_once.state.items
-        now.written_once.lowest)
+        × (StandsInTurn rows gs xs bits k now.written_once.state.uses.items
+        now.written_once.state.first.items now.written_once.lowest)
         × (StandsAt p rows at.Released gs xs bits k now.released.state.items now.released.lowest)
         × (StandsBound p rules.bound.guards.now gs xs bits k now.bound.state.bits
         now.bound.lowest) };
@@ -219,13 +271,12 @@ impl PathRules for LockRules<'_, '_> {
 
     fn start(&self, alloc: Global, path: Path, lowest: Lowest) -> Result<Courses, NoMemory> {
         let again = lowest.reserved_once;
-        let written = lowest.written_once;
         Ok(PerRule {
             held: self.start_at(alloc, path, LocationRule::Held, lowest.held)?,
             read_first: self.start_of(alloc, path, MemoryRule::ReadFirst, lowest.read_first)?,
             few_reserves: self.start_of(alloc, path, MemoryRule::FewReserves, lowest.few_reserves)?,
             reserved_once: self.start_at(alloc, path, LocationRule::ReservedOnce, again)?,
-            written_once: self.start_at(alloc, path, LocationRule::WrittenOnce, written)?,
+            written_once: self.start_turn(alloc, path, lowest.written_once)?,
             released: self.start_at(alloc, path, LocationRule::Released, lowest.released)?,
             bound: Alone(self.bound).start(alloc, path, lowest.bound)?,
         })
@@ -241,12 +292,7 @@ impl PathRules for LockRules<'_, '_> {
             k,
             place,
         )?;
-        self.pass_at(
-            LocationRule::WrittenOnce,
-            &mut courses.written_once,
-            k,
-            place,
-        )?;
+        self.pass_turn(&mut courses.written_once, k, place)?;
         self.pass_at(LocationRule::Released, &mut courses.released, k, place)?;
         Alone(self.bound).pass(&mut courses.bound, k, place)?;
         Ok(())
@@ -279,14 +325,14 @@ impl PathRules for LockRules<'_, '_> {
     ghost skip = { λ rules gs xs bits k x now got off h. (
       aside_at (pipe_view rules.bound.pipe.now) rules.bound.places.now at.Held gs xs bits k x
           now.held.state.items now.held.lowest got off h.0,
-      aside_of rules.bound.places.now of.ReadFirst gs xs bits k x now.read_first.state.items
+      aside_of (pipe_view rules.bound.pipe.now) rules.bound.places.now of.ReadFirst gs xs bits k x now.read_first.state.items
           now.read_first.lowest got off h.1,
-      aside_of rules.bound.places.now of.FewReserves gs xs bits k x now.few_reserves.state.items
+      aside_of (pipe_view rules.bound.pipe.now) rules.bound.places.now of.FewReserves gs xs bits k x now.few_reserves.state.items
           now.few_reserves.lowest got off h.2,
       aside_at (pipe_view rules.bound.pipe.now) rules.bound.places.now at.ReservedOnce gs xs bits k
           x now.reserved_once.state.items now.reserved_once.lowest got off h.3,
-      aside_at (pipe_view rules.bound.pipe.now) rules.bound.places.now at.WrittenOnce gs xs bits k x
-          now.written_once.state.items now.written_once.lowest got off h.4,
+      aside_turn rules.bound.places.now gs xs bits k x now.written_once.state.uses.items
+          now.written_once.state.first.items now.written_once.lowest got off h.4,
       aside_at (pipe_view rules.bound.pipe.now) rules.bound.places.now at.Released gs xs bits k x
           now.released.state.items now.released.lowest got off h.5,
       aside_bound (pipe_view rules.bound.pipe.now) rules.bound.guards.now gs xs bits k x

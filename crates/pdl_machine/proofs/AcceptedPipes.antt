@@ -1,15 +1,16 @@
 -- The machine runs each accepted pipe, with each image of it.
-use Rattle.std.proofs.Common.{◌≡◌, refl, sym, ◌∙◌, subst, ℕ, zero, suc, ◌^◌, ◌<◌, ◌≤◌, false, Bool, List, [], ◌∷◌, length, slice_index, slice_index_or, arith}
+use Rattle.std.proofs.Common.{◌≡◌, refl, sym, ◌∙◌, subst, ℕ, zero, suc, ◌^◌, ◌<◌, ◌≤◌, ◌==◌, false, Bool, List, [], ◌∷◌, length, slice_index, slice_index_or, arith, ◌++◌}
 use Rattle.std.specs.Prelude.{IsTrue}
 use Rattle.std.proofs.lemmas.List.Sums.{count_by-le-length}
 use Rattle.pdl_semantics.specs.Tree.{Mem, Pipe}
 use Rattle.pdl_semantics.specs.Flat as Flats
 use Rattle.pdl_semantics.specs.Flat.{Arrays}
 use Rattle.pdl_semantics.specs.Flatten.{mems_of, flat}
-use Rattle.pdl_semantics.specs.Stages.{plain_mem, is_branch_of}
+use Rattle.pdl_semantics.specs.Stages.{plain_mem, list_any}
 use Rattle.pdl_semantics.specs.Machine.{fork_of}
 use Rattle.pdl_semantics.specs.Cycle.{first, state_after}
 use Rattle.pdl_theory_derived.specs.Derived
+use Rattle.pdl_theory_derived.specs.Simulation.{hints_of}
 use Rattle.pdl_theory_facts.specs.Facts.{Sound}
 use Rattle.pdl_theory_states.specs.Strict.{Strict}
 use Rattle.pdl_theory_states.proofs.ReachedStates.{reached}
@@ -29,6 +30,7 @@ use Rattle.pdl_image.specs.Images.{IsImage}
 use Rattle.pdl_machine_run.specs.Running.{IsRunnable, AreImages}
 use Rattle.pdl_rules.specs.Memories.{infos_of}
 use Rattle.pdl_rules.proofs.ToldMemories.{infos_count}
+use Rattle.pdl_theory_derived.specs.Derived.{Hint}
 
 -- THE PIPE
 
@@ -36,9 +38,11 @@ use Rattle.pdl_rules.proofs.ToldMemories.{infos_count}
 few_inside : (p : Flats.Pipe) → Sound p → Strict p → (image : Arrays) (before : List (List Bool)) (f : ℕ)
     → length (fork_of (state_after p (first p image) before) f) ≤ length p.stages
 few_inside p sound strict image before f =
-    let r = reached p sound strict image before in
-    let few = list_few p (state_after p (first p image) before) (Derived.state_after p (Derived.first p image) before) r.0 r.1 f in
-    let most = count_by-le-length (λ (x : Flats.Stage). is_branch_of x.branch f) p.stages in
+    let r = reached p sound strict image before [] in
+    let hints : ℕ → Hint = hints_of p (first p image) (before ++ []) in
+    let few =
+    list_few p (sound_flows p sound).graph (state_after p (first p image) before) (Derived.state_after p (Derived.first p image hints) before) r.live r.sim f in
+    let most = count_by-le-length (λ (x : Flats.Stage). list_any (λ b. b.fork == f) x.branches) p.stages in
     omega (arith, few, most)
 
 -- the form of a pipe that keeps the rules, and is as sources are, can run where it is typed

@@ -112,7 +112,7 @@ impl<'a> Machine<'a> {
         self.cycles += 1;
     }
 
-    /// How many output ports there are: two for each stage, three for each memory with a lock, two for each delayed memory, and two more.
+    /// How many output ports there are: two for each stage, three for each memory with a lock, or six where a path reserves it twice to write, two for each delayed memory, and two more.
     pub fn port_count(&self) -> usize
         ensures count { result ≡ output_count (flat_of self.now) }
         ensures shown { result ≡ length self.now.shown }

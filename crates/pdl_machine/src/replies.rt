@@ -11,11 +11,11 @@ use std::alloc::Global;
 /// Room for a reply of each delayed memory.
 pub fn no_replies(alloc: Global, mems: &[FlatMem]) -> Result<Vec<bool>, NoMemory>
     ensures { IfOk result (λ v.
-        length v.items ≡ count_by (λ (x : flat.Mem). x.delayed) (mems_view mems.now)) }
+        length v.items ≡ count_by (λ (x : flat.Mem). flat.is_delayed x.kind) (mems_view mems.now)) }
 {
     let mut replies = Vec::new(alloc);
     for mem in mems {
-        if mem.delayed {
+        if mem.kind.is_delayed() {
             replies.push(false)?;
         }
     }

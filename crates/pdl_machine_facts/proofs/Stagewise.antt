@@ -1,12 +1,12 @@
 -- What a cycle does stage by stage, in a pipe whose threads go on to later stages.
-use Rattle.std.proofs.Common.{◌≡◌, refl, sym, ap, ap₂, ◌∙◌, subst, ℕ, zero, suc, ◌+◌, ◌-◌, ◌<◌, Bool, List, [], ◌∷◌, length, Option, Some, None, is_some, is_none, ◌==◌, cond, if◌then◌else◌, arith}
-use Rattle.std.proofs.lemmas.Bool.{ne_eqb}
-use Rattle.pdl_semantics.specs.Flat.{Arrays, with_value, Mem, Pipe}
+use Rattle.std.proofs.Common.{◌≡◌, refl, sym, ap, ap₂, ◌∙◌, subst, ℕ, zero, suc, ◌+◌, ◌-◌, ◌<◌, Bool, List, [], ◌∷◌, length, None, is_some, is_none, ◌==◌, cond, if◌then◌else◌, true, false, arith}
+use Rattle.std.proofs.lemmas.Bool.{ne_eqb, eqb-true}
+use Rattle.pdl_semantics.specs.Flat.{Arrays, with_value, with_word, Mem, Pipe}
 use Rattle.pdl_semantics.specs.Stages.{list_any}
-use Rattle.pdl_semantics.specs.Machine.{State, Pending, lock_of}
+use Rattle.pdl_semantics.specs.Machine.{Advised, State, Pending, lock_of}
 use Rattle.pdl_semantics.specs.Locks.{commit_value}
 use Rattle.pdl_semantics.specs.Moves.{Act, next_stage, all_acts, movers}
-use Rattle.pdl_semantics.specs.Cycle.{after_these, cycle, for_mems, list_three, taken_out, port_write, with_commit, with_commits, entries_left, or_then, if_kept, born_thread, child_of, squasher, stage_next}
+use Rattle.pdl_semantics.specs.Cycle.{after_these, cycle, for_mems, list_three, taken_out, port_writes, with_commit, with_commits, with_advised, with_all_advised, entries_left, or_then, if_kept, born_thread, child_of, squasher, stage_next}
 use Rattle.pdl_theory_simulation.proofs.PerMemory.{at_mem, other_commit, before_commits}
 use Rattle.pdl_machine_facts.specs.Slots
 use Rattle.pdl_machine_facts.specs.Slots.{LeadsOn, slot, stage_moves, movers_from, moving, arriving_thread}
@@ -16,10 +16,27 @@ use Rattle.pdl_machine_facts.proofs.StagewisePorts.{stages_below, stages_count, 
 
 -- MEMORIES
 
--- a commit looks only at its own memory's words
-same_commit : (m : ℕ) (o : Option Pending) (a b : Arrays) → a m ≡ b m → with_commit a m o m ≡ with_commit b m o m
-same_commit m None a b h = h
-same_commit m (Some e) a b h = ap (λ w. cond (m == m) (with_value w e.address (commit_value e.value)) w) h
+-- commits look only at their own memory's words
+same_commit : (m : ℕ) (es : List Pending) (a b : Arrays) → a m ≡ b m → with_commit a m es m ≡ with_commit b m es m
+same_commit m [] a b h = h
+same_commit m (e ∷ es) a b h =
+    same_commit m es (with_word a m e.address (commit_value e.value)) (with_word b m e.address (commit_value e.value))
+    (ap (λ w. cond (m == m) (with_value w e.address (commit_value e.value)) w) h)
+
+-- and so do advisory writes
+same_words : (m : ℕ) (ws : List Advised) (a b : Arrays) → a m ≡ b m → with_advised ws a m ≡ with_advised ws b m
+same_words m [] a b h = h
+same_words m (w ∷ ws) a b h =
+    same_words m ws (with_word a w.mem w.address w.value) (with_word b w.mem w.address w.value) (at (m == w.mem) refl)
+  where
+    at : (c : Bool) → (m == w.mem) ≡ c
+        → cond c (with_value (a w.mem) w.address w.value) (a m) ≡ cond c (with_value (b w.mem) w.address w.value) (b m)
+    at true e = ap (λ l. with_value l w.address w.value) (subst (λ n. a n ≡ b n) (eqb-true m w.mem e) h)
+    at false e = h
+
+same_advice : (m : ℕ) (ms : List Act) (a b : Arrays) → a m ≡ b m → with_all_advised ms a m ≡ with_all_advised ms b m
+same_advice m [] a b h = h
+same_advice m (x ∷ ms) a b h = same_words m x.does.advises (with_all_advised ms a) (with_all_advised ms b) (same_advice m ms a b h)
 
 commits_at : (st : State) (ms : List Act) (k n : ℕ) (xs : List Mem) (arrays : Arrays)
     → n < length xs
@@ -90,7 +107,7 @@ module _ (p : Pipe) (leads : LeadsOn p) (some : 0 < length p.stages) (st : State
         goes_where = λ k t l e. goes_is p st bits leads count k t l e;
         valid = stages_below _ _ 0 p.stages (λ s h i. ap (list_any (λ (a : Act). a.stage == s)) these_are ∙ valid_at p st bits (length p.stages) 0 s h i);
         moves = stages_below _ _ 0 p.stages (λ s h i. ap (list_any (λ (a : Act). a.stage == s)) movers_here ∙ moves_at p st bits (length p.stages) 0 s h i);
-        commits = ap (λ ms. for_mems (λ m. port_write (taken_out st ms m)) 0 p.mems) movers_here;
+        commits = ap (λ ms. for_mems (λ m. port_writes (taken_out st ms m)) 0 p.mems) movers_here;
         ended = ended_is;
         squash = ap (λ ms. is_some (squasher ms)) movers_here;
         count = stages_count _ 0 p.stages;
@@ -101,7 +118,9 @@ module _ (p : Pipe) (leads : LeadsOn p) (some : 0 < length p.stages) (st : State
             ∙ ap (λ i. entries_left (squasher (moving p st bits)) (list_three st (moving p st bits) i)) (let e : 0 + m ≡ m = omega arith in e);
         arrays = λ m h.
             ap (λ (s : State). s.arrays m) next_is
-            ∙ (let e : 0 + m ≡ m = omega arith in
+            ∙ same_advice m (moving p st bits)
+            (with_commits st (moving p st bits) 0 p.mems st.arrays) (with_commit st.arrays m (taken_out st (moving p st bits) m))
+            (let e : 0 + m ≡ m = omega arith in
             subst
             (λ j. with_commits st (moving p st bits) 0 p.mems st.arrays j ≡ with_commit st.arrays j (taken_out st (moving p st bits) j) j) e
             (commits_at st (moving p st bits) 0 m p.mems st.arrays h));

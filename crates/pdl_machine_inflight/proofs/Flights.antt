@@ -1,5 +1,5 @@
 -- What holds of the threads in flight in each state that a run comes to.
-use Rattle.std.proofs.Common.{◌≡◌, refl, sym, ap, ◌∙◌, subst, ℕ, inl, inr, Bool, true, false, ◌&&◌, ◌||◌, List, [], ◌∷◌, Some, ◌==◌, nat_lt}
+use Rattle.std.proofs.Common.{◌≡◌, refl, sym, ap, ◌∙◌, subst, ℕ, inl, inr, Bool, true, false, ◌&&◌, ◌||◌, List, [], ◌∷◌, Some, ◌==◌, nat_lt, ◌++◌}
 use Rattle.std.specs.Prelude.{if◌then◌else◌}
 use Rattle.std.proofs.lemmas.Bool.{eqb-true, and_parts}
 use Rattle.pdl_semantics.specs.Flat.{Arrays, Op, DelayedRead, Stmt, Pipe, all_hold}
@@ -17,6 +17,7 @@ use Rattle.pdl_theory_simulation.proofs.Choices
 use Rattle.pdl_theory_simulation.proofs.SimulatedStates.{Sim}
 use Rattle.pdl_theory_states.specs.Strict.{Strict}
 use Rattle.pdl_theory_states.proofs.PastStatements.{AskedBy}
+use Rattle.pdl_theory_derived.specs.Simulation.{hints_of}
 use Rattle.pdl_theory_states.proofs.UnusedValues.{AnyOp, onto}
 use Rattle.pdl_theory_states.proofs.ThreadHistory.{AnyAsk, past_of, any_of}
 use Rattle.pdl_theory_states.proofs.ThreadFacts.{Owns, Lasting, Along}
@@ -27,6 +28,8 @@ use Rattle.pdl_machine_inflight.specs.InFlight.{Some-of, Awaits, IsAwaited, InFl
 use Rattle.pdl_machine_inflight.proofs.Seats.{Among, each_among, seated_in, seat_of, stage_count, same_stage, number_given, behind_older}
 use Rattle.pdl_machine_inflight.proofs.ReadingFacts.{read_in, is_place}
 use Rattle.pdl_machine_inflight.proofs.ForkLists.{list_few}
+use Rattle.pdl_theory_simulation.proofs.FlowFacts.{Ways}
+use Rattle.pdl_theory_simulation.proofs.AcceptedFacts.{sound_flows}
 use Rattle.pdl_word.specs.Each.{Each}
 
 -- STATEMENTS
@@ -62,7 +65,7 @@ read_among p v m R Goal found (x ∷ xs) past h rest i = read_among p v m R Goal
     at (inl e) = found x.stage (subst (λ op. IsTheReading p (record x { op = op })) e.1 h.0)
     at (inr e) = rest e
 
-module _ (p : Pipe) (reads : Reads p) (st : State) (d : Derived.State) (ls : List Live) (sim : Sim p st d ls) (whole : Whole p st ls) where
+module _ (p : Pipe) (ways : Ways p) (reads : Reads p) (st : State) (d : Derived.State) (ls : List Live) (sim : Sim p st d ls) (whole : Whole p st ls) where
   lasting_of : (l : Live) (ks : List Live) → Along (Lasting p st) ks → Among l ks → (older : List Live) × Lasting p st l older
   lasting_of l [] h i = absurd i
   lasting_of l (k ∷ ks) h (inl e) = (ks, subst (λ (j : Live). Lasting p st j ks) e h.0)
@@ -155,12 +158,13 @@ module _ (p : Pipe) (reads : Reads p) (st : State) (d : Derived.State) (ls : Lis
     awaited = awaited_here;
     owner = owner_here;
     listed = sim.requests;
-    forked = list_few p st d ls sim;
+    forked = list_few p ways st d ls sim;
   }
 
 -- in each state of a run all holds that holds of threads in flight
 pub flights : (p : Pipe) → Sound p → Strict p → Reads p → (image : Arrays) (before : List (List Bool))
     → InFlight p (state_after p (first p image) before)
 flights p sound strict reads image before =
-    let r = reached p sound strict image before in
-    in_flight p reads (state_after p (first p image) before) (Derived.state_after p (Derived.first p image) before) r.0 r.1 r.2
+    let r = reached p sound strict image before [] in
+    in_flight p (sound_flows p sound).graph reads (state_after p (first p image) before)
+    (Derived.state_after p (Derived.first p image (hints_of p (first p image) (before ++ []))) before) r.live r.sim r.whole

@@ -2,7 +2,7 @@
 use Rattle.std.proofs.Common.{◌≡◌, refl, sym, ap, ◌∙◌, subst, ℕ, zero, suc, ◌<◌, inl, inr, Bool, true, false, ◌&&◌, List, [], ◌∷◌, length, Some, ◌==◌, arith}
 use Rattle.std.specs.Prelude.{if◌then◌else◌, not, slice_index}
 use Rattle.std.proofs.lemmas.Bool.{eqb-true, false≢true}
-use Rattle.pdl_semantics.specs.Flat.{Op, Bind, CombRead, DelayedRead, Write, ReserveRead, ReserveWrite, Block, Release, Call, SpecCall, Verify, SpecCheck, SpecBarrier, Stmt, Next, Ends, Goes, Forks, Pipe}
+use Rattle.pdl_semantics.specs.Flat.{Op, Bind, CombRead, DelayedRead, Write, ReserveRead, ReserveWrite, Block, Release, Call, SpecCall, Verify, SpecCheck, SpecBarrier, AdviceBind, AdviceRead, AdviceWrite, Stmt, Next, Ends, Goes, Forks, Pipe}
 use Rattle.pdl_semantics.specs.Stages.{in_stage, goes_to}
 use Rattle.pdl_semantics.specs.Sound.{is_delayed_read}
 use Rattle.pdl_theory_facts.specs.Scans.{none_of}
@@ -38,9 +38,12 @@ read_in p k m (y ∷ ys) h e = at (y.stage == k) refl e (read_in p k m ys h.1)
     op_is (Release n a) g s f rest = rest f
     op_is (Call as') g s f rest = rest f
     op_is (SpecCall as') g s f rest = rest f
-    op_is (Verify as') g s f rest = rest f
+    op_is (Verify _ as') g s f rest = rest f
     op_is SpecCheck g s f rest = rest f
     op_is SpecBarrier g s f rest = rest f
+    op_is (AdviceBind x a) g s f rest = rest f
+    op_is (AdviceRead x n a) g s f rest = rest f
+    op_is (AdviceWrite n a b) g s f rest = rest f
 
     at : (b : Bool) → (y.stage == k) ≡ b
         → none_of (is_delayed_read m) (if b then y ∷ in_stage k ys else in_stage k ys) ≡ false

@@ -6,7 +6,8 @@ use Rattle.pdl_semantics.specs.Flat.{Pipe}
 use Rattle.pdl_semantics.specs.Stages.{stage_at}
 use Rattle.pdl_semantics.specs.Machine.{State, Thread}
 use Rattle.pdl_theory_derived.specs.Derived
-use Rattle.pdl_theory_simulation.proofs.Stretches.{Behind}
+use Rattle.pdl_theory_simulation.proofs.Stretches.{Behind, less_home, left_trunk}
+use Rattle.pdl_theory_facts.specs.Graphs.{Trunk}
 use Rattle.pdl_theory_simulation.proofs.Seats.{Live, seat, find, Ordered, Falls, falls_each}
 use Rattle.pdl_theory_simulation.proofs.SimulatedStates.{Sim}
 use Rattle.pdl_machine_facts.specs.Slots.{slot}
@@ -48,7 +49,7 @@ stands_alone p l (k ∷ ks) o (inr i) =
     other : k.thread.stage ≡ l.thread.stage → ⊥
     other e =
         let b : Behind p k.thread.stage l.thread.stage = each_among _ l ks o.0 i in
-        let low = b.branch (ap (λ s. (stage_at p s).branch) e) in
+        let low = less_home p _ _ b (ap (λ s. (stage_at p s).branches) e) in
         omega (arith, low, e)
 
 -- two with one number are one
@@ -113,12 +114,13 @@ module _ (p : Pipe) (st : State) (d : Derived.State) (ls : List Live) (sim : Sim
 
   -- each trunk stage that a thread has reached is one that an older thread has left
   pub behind_older : (j k : ℕ) (t u : Thread) → slot st j ≡ Some t → slot st k ≡ Some u → u.number < t.number → (r : ℕ)
-      → (stage_at p r).branch ≡ None → r ≤ j → r < k
+      → Trunk p r → r ≤ j → r < k
   behind_older j k t u e f g r trunk low =
       let a = seated_in j t e in
       let b = seated_in k u f in
       let x = ap (λ (v : Thread). v.number) a.3 in
       let y = ap (λ (v : Thread). v.number) b.3 in
       let h =
-      (stands_behind p st.next a.0 b.0 ls sim.falls sim.ordered a.1 b.1 (omega (arith, g, x, y))).trunk r trunk (let z = a.2 in omega (arith, low, z)) in
+      left_trunk p _ _ (stands_behind p st.next a.0 b.0 ls sim.falls sim.ordered a.1 b.1 (omega (arith, g, x, y))) r trunk
+      (let z = a.2 in omega (arith, low, z)) in
       let z = b.2 in omega (arith, h, z)

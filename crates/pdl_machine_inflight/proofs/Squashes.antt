@@ -3,14 +3,15 @@ use Rattle.std.proofs.Common.{◌≡◌, refl, sym, ap, ◌∙◌, subst, ℕ, z
 use Rattle.std.specs.Prelude.{if◌then◌else◌}
 use Rattle.std.proofs.lemmas.Bool.{eqb-true, eqb-false, cases_lt, le-ltb, and_parts, ltb-true}
 use Rattle.pdl_semantics.specs.Flat.{Stmt, Pipe, list_all}
-use Rattle.pdl_semantics.specs.Stages.{stage_at, is_verify, verify_stage}
+use Rattle.pdl_semantics.specs.Stages.{is_verify, verify_stage}
+use Rattle.pdl_theory_facts.specs.Graphs.{Trunk}
 use Rattle.pdl_semantics.specs.Machine.{Thread, State, deeds, with_answers}
 use Rattle.pdl_semantics.specs.Moves.{Act, no_failure, none_up_to}
-use Rattle.pdl_semantics.specs.Cycle.{squasher, is_kept}
+use Rattle.pdl_semantics.specs.Cycle.{squasher, squash_stage, is_kept}
 use Rattle.pdl_theory_facts.specs.Facts.{Sound}
 use Rattle.pdl_theory_turns.proofs.CourseOf
 use Rattle.pdl_machine_facts.specs.Slots.{slot, with_now, here, later_acts, stage_moves, mover, movers_from, moving}
-use Rattle.pdl_machine_inflight.specs.InFlight.{InFlight}
+use Rattle.pdl_machine_inflight.specs.InFlight.{InFlight, ReplacesNone}
 use Rattle.pdl_machine_inflight.proofs.DeedsIn.{fails_not, fails_never}
 use Rattle.pdl_machine_inflight.proofs.LaterActs.{all_later, not_all_later}
 
@@ -55,9 +56,21 @@ some_squasher p st k true (Some t) = at (deeds p st k t).fails
     at true = refl
     at false = refl
 
+stage_past : (p : Pipe) (st : State) (k : ℕ) (b : Bool) (o : Option Thread) (rest : List Act)
+    → failing p st k o ≡ false → squash_stage (mover p st k b o ++ rest) ≡ squash_stage rest
+stage_past p st k false o rest h = refl
+stage_past p st k true None rest h = refl
+stage_past p st k true (Some t) rest h = ap (λ c. if c then Some k else squash_stage rest) h
+
+stage_here : (p : Pipe) (st : State) (k : ℕ) (b : Bool) (o : Option Thread) (rest : List Act)
+    → squash_stage rest ≡ None → squash_stage (mover p st k b o ++ rest) ≡ (if b && failing p st k o then Some k else None)
+stage_here p st k false o rest h = h
+stage_here p st k true None rest h = h
+stage_here p st k true (Some t) rest h = ap (λ r. if (deeds p st k t).fails then Some k else r) h
+
 -- WHERE NOTHING IS VERIFIED
 
-module _ (p : Pipe) (none : verify_stage p.stmts ≡ None) (st : State) (bits : List Bool) where
+module _ (p : Pipe) (none : verify_stage p.stmts ≡ None) (still : ReplacesNone p) (st : State) (bits : List Bool) where
   never : (n k : ℕ) → squasher (movers_from p st bits n k) ≡ None
   never zero k = refl
   never (suc n) k =
@@ -65,17 +78,32 @@ module _ (p : Pipe) (none : verify_stage p.stmts ≡ None) (st : State) (bits : 
     where
       at : (o : Option Thread) → failing p st k o ≡ false
       at None = refl
-      at (Some t) = fails_never p none st k t
+      at (Some t) = fails_never p none still st k t
 
   -- where nothing is verified nobody squashes
   pub no_squasher : squasher (moving p st bits) ≡ None
   no_squasher = never (length p.stages) 0
 
+  never_staged : (n k : ℕ) → squash_stage (movers_from p st bits n k) ≡ None
+  never_staged zero k = refl
+  never_staged (suc n) k =
+      stage_past p st k (stage_moves p st bits k) (here p st bits k) (movers_from p st bits n (suc k)) (at (here p st bits k)) ∙ never_staged n (suc k)
+    where
+      at : (o : Option Thread) → failing p st k o ≡ false
+      at None = refl
+      at (Some t) = fails_never p none still st k t
+
+  -- nor is there a stage of a squash
+  pub none_staged : squash_stage (moving p st bits) ≡ (if is_some (squasher (moving p st bits)) then verify_stage p.stmts else None)
+  none_staged =
+      never_staged (length p.stages) 0
+      ∙ sym (ap (λ (o : Option ℕ). if is_some o then verify_stage p.stmts else None) no_squasher)
+
   -- where nothing is verified no thread in a later stage moves with a failing verify
   pub none_fails : length st.stages ≡ length p.stages → (k : ℕ) → no_failure (later_acts p st bits k) ≡ true
   none_fails count k =
       all_later p st bits (λ (o : Act). not (o.moves && o.does.fails)) count k
-      (λ j t low high e. ap (λ b. not (stage_moves p st bits j && b)) (fails_never p none st j t) ∙ no (stage_moves p st bits j))
+      (λ j t low high e. ap (λ b. not (stage_moves p st bits j && b)) (fails_never p none still st j t) ∙ no (stage_moves p st bits j))
     where
       no : (b : Bool) → not (b && false) ≡ true
       no true = refl
@@ -92,21 +120,22 @@ verify_low n v (x ∷ xs) h e = at (is_verify x.op) e (verify_low n v xs (and_pa
     at true f rest = let same : x.stage ≡ v = cc f in subst (λ j. j < n) same (ltb-true x.stage n (and_parts (nat_lt x.stage n) _ h).0)
     at false f rest = rest f
 
-module _ (p : Pipe) (sound : Sound p) (st : State) (bits : List Bool) (flight : InFlight p st) (v : ℕ) (is : verify_stage p.stmts ≡ Some v) where
+module _ (p : Pipe) (sound : Sound p) (still : ReplacesNone p) (st : State) (bits : List Bool) (flight : InFlight p st) (v : ℕ)
+    (is : verify_stage p.stmts ≡ Some v) where
   v_is : (o : Option ℕ) → o ≡ Some v → CourseOf.v_of p sound o ≡ v
   v_is None i = absurd (cc i)
   v_is (Some w) i = cc i
 
   -- V stands in the trunk
-  pub v_trunk : (stage_at p v).branch ≡ None
-  v_trunk = subst (λ n. (stage_at p n).branch ≡ None) (v_is (verify_stage p.stmts) is) (CourseOf.v_trunk p sound (verify_stage p.stmts) refl)
+  pub v_trunk : Trunk p v
+  v_trunk = subst (λ n. Trunk p n) (v_is (verify_stage p.stmts) is) (CourseOf.v_trunk p sound (verify_stage p.stmts) refl)
 
   -- V is one of the pipe's stages
   pub v_low : v < length p.stages
   v_low = verify_low (length p.stages) v p.stmts sound.inside is
 
   fails_apart : (k : ℕ) (t : Thread) → (k ≡ v → ⊥) → (deeds p st k t).fails ≡ false
-  fails_apart k t n = fails_not p v (sound.verifies v is) st k t n
+  fails_apart k t n = fails_not p v (sound.verifies v is) still st k t n
 
   failing_apart : (k : ℕ) (o : Option Thread) → (k ≡ v → ⊥) → failing p st k o ≡ false
   failing_apart k None n = refl
@@ -147,6 +176,39 @@ module _ (p : Pipe) (sound : Sound p) (st : State) (bits : List Bool) (flight : 
   -- there is a squash just where the thread in V moves with a failing verify
   pub some_squash : is_some (squasher (moving p st bits)) ≡ (stage_moves p st bits v && failing p st v (here p st bits v))
   some_squash = ap (λ (o : Option ℕ). is_some o) squasher_is ∙ some_squasher p st v (stage_moves p st bits v) (here p st bits v)
+
+  stage_none : (n k : ℕ) → ((j : ℕ) → k ≤ j → j < k + n → j ≡ v → ⊥) → squash_stage (movers_from p st bits n k) ≡ None
+  stage_none zero k h = refl
+  stage_none (suc n) k h =
+      stage_past p st k (stage_moves p st bits k) (here p st bits k) (movers_from p st bits n (suc k))
+      (failing_apart k (here p st bits k) (h k (omega arith) (omega arith)))
+      ∙ stage_none n (suc k) (λ j low high. h j (omega (arith, low)) (omega (arith, high)))
+
+  stage_from : (n k : ℕ) → k ≤ v → v < k + n
+      → squash_stage (movers_from p st bits n k) ≡ (if stage_moves p st bits v && failing p st v (here p st bits v) then Some v else None)
+  stage_from zero k low high = absurd (omega (arith, low, high))
+  stage_from (suc n) k low high = at (k == v) refl (λ i. stage_from n (suc k) i (omega (arith, high)))
+    where
+      at : (b : Bool) → (k == v) ≡ b
+          → (suc k ≤ v → squash_stage (movers_from p st bits n (suc k))
+          ≡ (if stage_moves p st bits v && failing p st v (here p st bits v) then Some v else None))
+          → squash_stage (movers_from p st bits (suc n) k) ≡ (if stage_moves p st bits v && failing p st v (here p st bits v) then Some v else None)
+      at true e rest =
+          let same = eqb-true k v e in
+          stage_here p st k (stage_moves p st bits k) (here p st bits k) (movers_from p st bits n (suc k))
+          (stage_none n (suc k) (λ j l h i. omega (arith, l, i, same)))
+          ∙ ap (λ j. if stage_moves p st bits j && failing p st j (here p st bits j) then Some j else None) same
+      at false e rest =
+          let apart = eqb-false k v e in
+          stage_past p st k (stage_moves p st bits k) (here p st bits k) (movers_from p st bits n (suc k)) (failing_apart k (here p st bits k) apart)
+          ∙ rest (omega (arith, low, apart))
+
+  -- the stage of a squash is V
+  pub staged : squash_stage (moving p st bits) ≡ (if is_some (squasher (moving p st bits)) then verify_stage p.stmts else None)
+  staged =
+      stage_from (length p.stages) 0 (omega arith) (let l = v_low in omega (arith, l))
+      ∙ ap (λ (o : Option ℕ). if stage_moves p st bits v && failing p st v (here p st bits v) then o else None) (sym is)
+      ∙ ap (λ b. if b then verify_stage p.stmts else None) (sym some_squash)
 
   -- condition 1, before V and from V on
   no_more : (b : Bool) → not (b && false) ≡ true

@@ -1,12 +1,17 @@
 -- What holds of the threads in flight, by their stages, in each state that a run comes to.
-use Rattle.std.specs.Prelude.{◌≡◌, ℕ, ◌<◌, ◌≤◌, List, [], ◌∷◌, Some, None, length, ◌⊎◌}
+use Rattle.std.specs.Prelude.{◌≡◌, ℕ, ◌<◌, ◌≤◌, false, List, [], ◌∷◌, Some, length, ◌⊎◌}
 use Rattle.pdl_word.specs.Each.{Each}
-use Rattle.pdl_semantics.specs.Flat.{Pipe}
-use Rattle.pdl_semantics.specs.Stages.{stage_at}
+use Rattle.pdl_semantics.specs.Flat.{Stmt, Pipe}
+use Rattle.pdl_semantics.specs.Updates.{is_update}
+use Rattle.pdl_theory_facts.specs.Graphs.{Trunk}
 use Rattle.pdl_semantics.specs.Machine.{Awaited, Thread, Owned, State, request_of, fork_of}
 use Rattle.pdl_semantics.specs.Cycle.{for_mems}
 use Rattle.pdl_machine_facts.specs.Slots.{slot}
 use Rattle.pdl_machine_inflight.specs.Readings.{Reading, reading, places, branch_stages}
+
+-- no statement of the pipe replaces a guess
+abbrev pub ReplacesNone : Pipe → Type 0
+ReplacesNone p = Each (λ (x : Stmt). is_update x.op ≡ false) p.stmts
 
 -- one of some elements has a property
 abbrev pub Some-of : {X : Type 0} → (X → Type 0) → List X → Type 0
@@ -33,7 +38,8 @@ pub record InFlight (p : Pipe) (st : State) : Type 0 where
   pub same : (j k : ℕ) (t u : Thread) → slot st j ≡ Some t → slot st k ≡ Some u → t.number ≡ u.number → j ≡ k
   pub given : (k : ℕ) (t : Thread) → slot st k ≡ Some t → t.number < st.next
   -- a younger thread has reached no stage outside the forks that the older one hasn't left
-  pub behind : (j k : ℕ) (t u : Thread) → slot st j ≡ Some t → slot st k ≡ Some u → u.number < t.number → (r : ℕ) → (stage_at p r).branch ≡ None → r ≤ j → r < k
+  pub behind : (j k : ℕ) (t u : Thread) → slot st j ≡ Some t → slot st k ≡ Some u → u.number < t.number → (r : ℕ)
+      → Trunk p r → r ≤ j → r < k
   -- what a thread awaits, and whose a request is
   pub awaited : (k : ℕ) (t : Thread) → slot st k ≡ Some t → Each (IsAwaited p st k t.number) t.awaits
   pub owner : (m n a : ℕ) → request_of st m ≡ Owned n a → (k : ℕ) × (t : Thread) × (slot st k ≡ Some t) × (t.number ≡ n) × Awaits t m

@@ -1,9 +1,9 @@
 -- The delayed reads of a pipe: of each memory the stage and the variable, and the places to which the threads that read go on.
 use Rattle.std.specs.Prelude.{◌≡◌, ℕ, ◌<◌, true, false, List, [], ◌∷◌, Option, Some, None, if◌then◌else◌, ◌==◌, slice_index, length, count_by, ⊤}
 use Rattle.pdl_word.specs.Each.{Each}
-use Rattle.pdl_semantics.specs.Flat.{Op, Bind, CombRead, DelayedRead, Write, ReserveRead, ReserveWrite, Block, Release, Call, SpecCall, Verify, SpecCheck, SpecBarrier, Stmt, Next, Ends, Goes, Forks, Stage, Pipe}
+use Rattle.pdl_semantics.specs.Flat.{Op, Bind, CombRead, DelayedRead, Write, ReserveRead, ReserveWrite, Block, Release, Call, SpecCall, Verify, SpecCheck, SpecBarrier, AdviceBind, AdviceRead, AdviceWrite, Stmt, Next, Ends, Goes, Forks, Stage, Pipe, is_delayed}
 use Rattle.pdl_semantics.specs.Forms.{on_delayed_read}
-use Rattle.pdl_semantics.specs.Stages.{stage_at, mem_at, is_branch_of}
+use Rattle.pdl_semantics.specs.Stages.{stage_at, mem_at, list_any}
 
 -- the stage of a delayed read, and the variable that it binds
 pub record Reading : Type 0 where
@@ -43,9 +43,9 @@ place_to (Forks x first second) env = if slice_index env x == 1 then 0 else 1
 abbrev pub IsTheReading : Pipe → Stmt → Type 0
 IsTheReading p x = on_delayed_read (λ y m a. reading p m ≡ Some (record { stage = x.stage; var = y })) ⊤ x.op
 
--- a statement that reads at once reads a memory that answers at once
+-- a statement that reads at once reads a memory that answers at once; an advisory memory does by its kind
 abbrev pub ReadsAtOnce : Pipe → Op → Type 0
-ReadsAtOnce p (CombRead x m a) = (mem_at p m).delayed ≡ false
+ReadsAtOnce p (CombRead x m a) = is_delayed (mem_at p m).kind ≡ false
 ReadsAtOnce p (Bind x e) = ⊤
 ReadsAtOnce p (DelayedRead x m a) = ⊤
 ReadsAtOnce p (Write m a e) = ⊤
@@ -55,17 +55,20 @@ ReadsAtOnce p (Block m a) = ⊤
 ReadsAtOnce p (Release m a) = ⊤
 ReadsAtOnce p (Call args) = ⊤
 ReadsAtOnce p (SpecCall args) = ⊤
-ReadsAtOnce p (Verify args) = ⊤
+ReadsAtOnce p (Verify last args) = ⊤
 ReadsAtOnce p SpecCheck = ⊤
 ReadsAtOnce p SpecBarrier = ⊤
+ReadsAtOnce p (AdviceBind x e) = ⊤
+ReadsAtOnce p (AdviceRead x m a) = ⊤
+ReadsAtOnce p (AdviceWrite m a e) = ⊤
 
 -- what the rules give of reads: each memory is read delayed by one statement at most, no two of these bind one variable, and each form of read is of a memory of its kind
 pub record Reads (p : Pipe) : Type 0 where
   pub one : Each (IsTheReading p) p.stmts
   pub apart : (m n : ℕ) (r q : Reading) → reading p m ≡ Some r → reading p n ≡ Some q → r.var ≡ q.var → m ≡ n
-  pub known : (m : ℕ) (r : Reading) → reading p m ≡ Some r → (m < length p.mems) × ((mem_at p m).delayed ≡ true) × (r.var < p.vars)
+  pub known : (m : ℕ) (r : Reading) → reading p m ≡ Some r → (m < length p.mems) × (is_delayed (mem_at p m).kind ≡ true) × (r.var < p.vars)
   pub at_once : Each (λ (x : Stmt). ReadsAtOnce p x.op) p.stmts
 
 -- how many stages the branches of a fork have
 abbrev pub branch_stages : Pipe → ℕ → ℕ
-branch_stages p f = count_by (λ (x : Stage). is_branch_of x.branch f) p.stages
+branch_stages p f = count_by (λ (x : Stage). list_any (λ b. b.fork == f) x.branches) p.stages

@@ -1,36 +1,37 @@
--- What holds of a thread as its stage begins: its blocks for reading are ready, it holds at most one location of a memory, and a guess has as many arguments as it should. So the statements of its stage are fine.
-use Rattle.std.proofs.Common.{◌≡◌, refl, sym, ap, ap₂, ◌∙◌, subst, ℕ, suc, ◌≤◌, ◌<◌, inl, inr, Bool, true, false, ◌&&◌, ◌||◌, not, List, [], ◌∷◌, ◌++◌, length, None, ◌==◌, cond, if◌then◌else◌, arith, slice_index}
+-- What holds of a thread as its stage begins: its blocks for reading are ready, it holds each location at most once, and a guess has as many arguments as it should. So the statements of its stage are fine.
+use Rattle.std.proofs.Common.{◌≡◌, refl, sym, ap, ap₂, ◌∙◌, subst, ℕ, ◌+◌, ◌≤◌, ◌<◌, inl, inr, Bool, true, false, ◌&&◌, ◌||◌, not, List, [], ◌∷◌, ◌++◌, length, None, ◌==◌, cond, if◌then◌else◌, arith, eq-eqb, slice_index}
 use Rattle.std.proofs.lemmas.Bool.{false≢true, eqb-true, or_parts, not-true}
-use Rattle.pdl_semantics.specs.Flat.{list_all, Op, Bind, CombRead, DelayedRead, Write, ReserveRead, ReserveWrite, Block, Release, Call, SpecCall, Verify, SpecCheck, SpecBarrier, Stmt, Pipe, Commit, all_hold}
+use Rattle.pdl_semantics.specs.Flat.{list_all, Op, Bind, CombRead, DelayedRead, Write, ReserveRead, ReserveWrite, Block, Release, Call, SpecCall, Verify, SpecCheck, SpecBarrier, AdviceBind, AdviceRead, AdviceWrite, Stmt, Pipe, all_hold}
 use Rattle.pdl_semantics.specs.Stages.{onpath, in_stage, mem_at, reserve_stage, commit_stage, is_release, verify_stage}
 use Rattle.pdl_semantics.specs.Locks.{read_ready, write_ready}
-use Rattle.pdl_semantics.specs.Machine.{State, HeldLocation, Blocked, Reserved, Ask, Deeds, deeds_after, is_held, let_go, held_after, held_before, word_for, with_answers}
+use Rattle.pdl_semantics.specs.Machine.{State, HeldLocation, Blocked, Ask, Kept, Deeds, deeds_after, is_held, let_go, held_after, held_before, with_kept, word_for, with_answers}
 use Rattle.pdl_semantics.specs.Machine
-use Rattle.pdl_semantics.specs.Sound.{stages_before, is_release_at}
+use Rattle.pdl_semantics.specs.Sound.{stages_before, is_release_at, guess_after, guess_of}
 use Rattle.pdl_semantics.specs.Moves.{block_ready}
-use Rattle.pdl_semantics.specs.Locks.{has_room}
-use Rattle.pdl_semantics.specs.Machine.{lock_of}
+use Rattle.pdl_semantics.specs.Promises.{DifferInAdvice}
 use Rattle.pdl_theory_derived.specs.Derived.{Entry, Work, Around, has_entry, latest, around, port_free}
 use Rattle.pdl_theory_derived.specs.Derived
 use Rattle.pdl_theory_derived.specs.Alone.{answered_op}
-use Rattle.pdl_theory_facts.specs.Scans.{no_guards, Phase, Fresh, Held, Written, Done, phase_all, Scan, no_scan, has_location, scan_after, scan_after_all, op_ok, reads_ok, none_of, location}
+use Rattle.pdl_theory_facts.specs.Scans.{no_guards, Phase, Fresh, phase_all, Scan, no_scan, has_location, scan_after, scan_after_all, op_ok, reads_ok, none_of, location}
 use Rattle.pdl_theory_facts.specs.GuessScans.{Making, Unmade, next_making, making_all, is_guessed}
 use Rattle.pdl_theory_facts.specs.Facts.{Sound, looked_all}
 use Rattle.pdl_theory_derived.proofs.Writes.{and_left, and_right}
-use Rattle.pdl_theory_derived.proofs.Entries.{entries_of}
-use Rattle.pdl_theory_derived.proofs.Deeds.{places, places_has, work_of, AllFit, told_step}
+use Rattle.pdl_theory_derived.proofs.Entries.{entries_of, Open, Full, waiting, known, open_vars, full_vars}
+use Rattle.pdl_theory_derived.proofs.Deeds.{places, places_has, AllFit, Loosely, loose_step}
 use Rattle.pdl_theory_turns.proofs.Paths.{Fixed, none_onpath}
 use Rattle.pdl_theory_turns.proofs.Surroundings.{Right, in_stage_all}
 use Rattle.pdl_theory_simulation.proofs.AcceptedFacts.{sound_flows}
 use Rattle.pdl_theory_simulation.proofs.Shapes.{Shape, none_till, held_ops, held_path}
-use Rattle.pdl_theory_simulation.proofs.Stretches.{Keeps, start_deeds, fixed_here}
+use Rattle.pdl_theory_simulation.proofs.FlowFacts.{uses_ok}
+use Rattle.pdl_theory_simulation.proofs.Stretches.{Keeps, start_of, start_deeds, fixed_here}
 use Rattle.pdl_theory_simulation.proofs.Seats.{Live, seat, threads_of, dacts, now_of, befores_are}
-use Rattle.pdl_theory_simulation.proofs.Choices.{Known, keeps_now, fit_all}
+use Rattle.pdl_theory_simulation.proofs.Choices.{Known, keeps_now, fit_all, starts_here}
 use Rattle.pdl_machine_facts.specs.Use.{before_stage, AreFine}
 use Rattle.pdl_machine_facts.proofs.StatementUses.{IsAlong}
 use Rattle.pdl_theory_states.specs.Strict.{Strict}
 use Rattle.pdl_theory_states.proofs.PastStatements.{BlockOk, is_released}
-use Rattle.pdl_theory_states.proofs.UnusedValues.{AllOps, onto, Done as DoneOp}
+use Rattle.pdl_theory_states.proofs.UnusedValues.{AllOps, onto}
+use Rattle.pdl_theory_states.proofs.Points.{guess_onto}
 use Rattle.pdl_theory_states.proofs.Trails.{AllStmts, stmts_ops, ops_stmts}
 use Rattle.pdl_theory_states.proofs.ThreadHistory.{Local, past_of, local_answered, kept_unused}
 use Rattle.pdl_semantics.proofs.Readiness.{read_write}
@@ -38,11 +39,12 @@ use Rattle.pdl_theory_states.proofs.Releases.{low_stages}
 use Rattle.pdl_theory_states.proofs.Stage.{look_at, kept_blocks, LowBlock, low_blocks}
 use Rattle.pdl_theory_states.proofs.ThreadFacts.{Lasting, any_ask_map, awaited_map}
 use Rattle.pdl_machine_lockuse.specs.Careful.{Careful, reserves_at, keeps_kind, all_keep_kind, passes_on}
-use Rattle.pdl_machine_lockuse.proofs.HeldLocations.{Covers, covers_op, count_mem, IsOnce}
+use Rattle.pdl_machine_lockuse.proofs.Reservations.{one_if, times, Single, single_fresh, single_all}
+use Rattle.pdl_machine_lockuse.proofs.HeldLocations.{Covers, covers_op, count_at, HeldOnce}
 use Rattle.pdl_machine_lockuse.proofs.StageStatements.{Clean, values_long, fine_all}
 use Rattle.pdl_machine_lockuse.specs.Use.{AreLetIn}
 use Rattle.pdl_machine_lockuse.proofs.LetIn.{blocks_of, Let, let_all, let_start}
-use Rattle.pdl_machine_lockuse.proofs.Paths.{path, mine, passed, mine_new, mine_let_in, mine_reads, mine_uses, mine_makings, mine_early, passed_kinds, all_way, all_here}
+use Rattle.pdl_machine_lockuse.proofs.Paths.{path, mine, passed, mine_new, mine_let_in, mine_reads, mine_uses, mine_makings, mine_early, passed_kinds, all_way, all_here, passed_uses}
 
 -- STATEMENTS THAT WENT BY
 
@@ -131,43 +133,69 @@ covers_all : (c : Scan) (hs : List HeldLocation) (xs : List Stmt) → Covers c.h
 covers_all c hs [] f = f
 covers_all c hs (x ∷ xs) f = covers_all (scan_after (answered_op x.op) c) (held_after x.op hs) xs (covers_op c x.op hs f)
 
--- ONE LOCATION OF A MEMORY
+-- EACH LOCATION OF A MEMORY ONCE
 
-count_places : (m : ℕ) (es : List Entry) → count_mem m (places es) ≡ length (entries_of m es)
-count_places m [] = refl
-count_places m (e ∷ es) = at (e.mem == m) (count_places m es)
+count_own : (m a : ℕ) (es : List Entry) → count_at m a (places es) ≡ count_at m a (places (entries_of m es))
+count_own m a [] = refl
+count_own m a (e ∷ es) = at (e.mem == m) refl (count_own m a es)
   where
-    at : (b : Bool) → count_mem m (places es) ≡ length (entries_of m es)
-        → cond b (suc (count_mem m (places es))) (count_mem m (places es)) ≡ length (cond b (e ∷ entries_of m es) (entries_of m es))
-    at true h = ap suc h
-    at false h = h
+    zero : (n : ℕ) → 0 + n ≡ n
+    zero n = omega arith
 
-once_shape : (m : ℕ) (ph : Phase) (es : List Entry) → Shape m ph (entries_of m es) → IsOnce m ph (places es)
-once_shape m Fresh es h = let z : count_mem m (places es) ≡ 0 = count_places m es ∙ ap length h in record { none = λ e. z; one = omega (arith, z) }
-once_shape m (Held x) es h =
-    let z : count_mem m (places es) ≡ 1 = count_places m es ∙ ap length h.1 in record { none = λ e. absurd (false≢true e); one = omega (arith, z) }
-once_shape m (Written x) es h =
-    let z : count_mem m (places es) ≡ 1 = count_places m es ∙ ap length h.2 in record { none = λ e. absurd (false≢true e); one = omega (arith, z) }
-once_shape m Done es h =
-    let z : count_mem m (places es) ≡ 0 = count_places m es ∙ ap length h in record { none = λ e. absurd (false≢true e); one = omega (arith, z) }
+    at : (b : Bool) → (e.mem == m) ≡ b → count_at m a (places es) ≡ count_at m a (places (entries_of m es))
+        → one_if ((e.mem == m) && (e.var == a)) + count_at m a (places es)
+        ≡ count_at m a (places (cond b (e ∷ entries_of m es) (entries_of m es)))
+    at true i h = ap (λ n. one_if ((e.mem == m) && (e.var == a)) + n) h
+    at false i h = ap (λ b. one_if (b && (e.var == a)) + count_at m a (places es)) i ∙ zero (count_at m a (places es)) ∙ h
+
+count_known : (m a : ℕ) (fs : List Full) → count_at m a (places (known m fs)) ≡ times a (full_vars fs)
+count_known m a [] = refl
+count_known m a (f ∷ fs) =
+    ap₂ (λ b n. one_if (b && (f.var == a)) + n) (eq-eqb m m refl) (count_known m a fs)
+
+count_waiting : (m a : ℕ) (os : List Open) (fs : List Full)
+    → count_at m a (places (waiting m os ++ known m fs)) ≡ times a (open_vars os) + times a (full_vars fs)
+count_waiting m a [] fs = count_known m a fs ∙ zero (times a (full_vars fs))
+  where
+    zero : (n : ℕ) → n ≡ 0 + n
+    zero n = omega arith
+count_waiting m a (o ∷ os) fs =
+    ap₂ (λ b n. one_if (b && (o.var == a)) + n) (eq-eqb m m refl) (count_waiting m a os fs)
+    ∙ front (one_if (o.var == a)) (times a (open_vars os)) (times a (full_vars fs))
+  where
+    front : (i j k : ℕ) → i + (j + k) ≡ (i + j) + k
+    front i j k = omega arith
+
+once_shape : (m : ℕ) (ph : Phase) (es : List Entry) → Single ph → Shape m ph (entries_of m es) → HeldOnce m ph (places es)
+once_shape m ph es single s = record {
+  few = λ a. low (times a ph.unwritten) (times a ph.full) (times a ph.gone) (count_at m a (places es))
+      (count_own m a es ∙ ap (λ l. count_at m a (places l)) s.entries ∙ count_waiting m a s.opens s.fulls
+      ∙ ap₂ (λ k l. times a k + times a l) s.at_open s.at_full);
+  single = single;
+}
+  where
+    low : (i j k n : ℕ) → n ≡ i + j → n ≤ i + (j + k)
+    low i j k n e = omega (arith, e)
 
 -- THE GUESS
 
-guess_op : (size : ℕ) (env guess : List ℕ) (g : Making) (op : Op) → DoneOp env guess op → passes_on size op ≡ true
-    → (is_guessed g ≡ true → length guess ≡ size) → is_guessed (next_making g (answered_op op)) ≡ true → length guess ≡ size
-guess_op size env guess g (SpecCall args) h y f i = ap length h ∙ values_long args env ∙ eqb-true (length args) size y
-guess_op size env guess g (Call args) h y f i = absurd (false≢true i)
-guess_op size env guess g (Verify args) h y f i = absurd (false≢true i)
-guess_op size env guess g (DelayedRead x m a) h y f i = f i
-guess_op size env guess g _ h y f i = f i
+guess_op : (size : ℕ) (advice : List Kept) (env guess : List ℕ) (g : Making) (op : Op) → passes_on size op ≡ true
+    → (is_guessed g ≡ true → length guess ≡ size)
+    → is_guessed (next_making g (answered_op op)) ≡ true → length (guess_after op advice env guess) ≡ size
+guess_op size advice env guess g (SpecCall args) y f i = values_long args (with_kept advice env) ∙ eqb-true (length args) size y
+guess_op size advice env guess g (Call args) y f i = absurd (false≢true i)
+guess_op size advice env guess g (Verify true args) y f i = absurd (false≢true i)
+guess_op size advice env guess g (Verify false args) y f i = values_long args (with_kept advice env) ∙ eqb-true (length args) size y
+guess_op size advice env guess g (DelayedRead x m a) y f i = f i
+guess_op size advice env guess g _ y f i = f i
 
-guess_all : (size : ℕ) (env guess : List ℕ) (g : Making) (xs : List Stmt) → AllStmts (λ z. DoneOp env guess z.op) xs
-    → list_all (λ (x : Stmt). passes_on size x.op) xs ≡ true → (is_guessed g ≡ true → length guess ≡ size)
-    → is_guessed (making_all g (looked_all xs)) ≡ true → length guess ≡ size
-guess_all size env guess g [] h y f i = f i
-guess_all size env guess g (x ∷ xs) h y f i =
-    guess_all size env guess (next_making g (answered_op x.op)) xs h.1 (and_right (passes_on size x.op) _ y)
-    (guess_op size env guess g x.op h.0 (and_left _ _ y) f) i
+guess_all : (size : ℕ) (advice : List Kept) (env guess : List ℕ) (g : Making) (xs : List Stmt)
+    → list_all (λ (x : Stmt). passes_on size x.op) xs ≡ true
+    → (is_guessed g ≡ true → length guess ≡ size) → is_guessed (making_all g (looked_all xs)) ≡ true → length (guess_of xs advice env guess) ≡ size
+guess_all size advice env guess g [] y f i = f i
+guess_all size advice env guess g (x ∷ xs) y f i =
+    guess_all size advice env (guess_after x.op advice env guess) (next_making g (answered_op x.op)) xs (and_right (passes_on size x.op) _ y)
+    (guess_op size advice env guess g x.op (and_left _ _ y) f) i
 
 -- READS OF ONE PATH ARE READS OF THE PIPE
 
@@ -182,34 +210,35 @@ op_same p zs s c (Block m a) = refl
 op_same p zs s c (Release m a) = refl
 op_same p zs s c (Call args) = refl
 op_same p zs s c (SpecCall args) = refl
-op_same p zs s c (Verify args) = refl
+op_same p zs s c (Verify last args) = refl
 op_same p zs s c SpecCheck = refl
 op_same p zs s c SpecBarrier = refl
+op_same p zs s c (AdviceBind x e) = refl
+op_same p zs s c (AdviceRead x m a) = refl
+op_same p zs s c (AdviceWrite m a e) = refl
 
 reads_same : (p : Pipe) (zs : List Stmt) (c : Scan) (xs : List Stmt) → reads_ok (record p { stmts = zs }) c xs ≡ reads_ok p c xs
 reads_same p zs c [] = refl
 reads_same p zs c (x ∷ xs) = ap₂ (λ a b. (no_guards x.guards && a) && b) (op_same p zs x.stage c x.op) (reads_same p zs (scan_after x.op c) xs)
 
 -- a stage's statements are carried out as the path at their end tells
-module _ (o : Around) (read : ℕ → ℕ → ℕ) (block : Blocked → Bool) (room : Reserved → Bool) (free : Ask → Bool) where
+module _ (o : Around) (read : ℕ → ℕ → ℕ) (block : Blocked → Bool) (free : Ask → Bool) where
   -- where the work on fitting statements takes each just where a path does, so do the deeds of these statements
-  pub along_of : (path : List ℕ) (xs : List Stmt) (d : Deeds) (es : List Entry) (cs : List Commit) → places es ≡ d.held → AllFit o read block room free xs
-      → Fixed path o xs (work_of o read block room free d es cs) → IsAlong path read xs d
-  along_of path [] d es cs h f q = tt
-  along_of path (x ∷ xs) d es cs h f q =
-      let t = told_step o read block room free (all_hold x.guards d.env) x.op d es cs h f.0 in
-      let w : Work =
-      cond (all_hold x.guards d.env) (Derived.work_after o x.op (work_of o read block room free d es cs)) (work_of o read block room free d es cs) in (
-        q.0,
-        along_of path xs
-            (if all_hold x.guards d.env then deeds_after read x.op d else d) w.entries w.commits t.held f.1
-            (subst (λ v. Fixed path o xs v) t.is q.1),
-      )
+  pub along_of : (path : List ℕ) (xs : List Stmt) (d : Deeds) (w : Work) → Loosely o read block free d w → AllFit o read block free xs
+      → Fixed path o xs w → IsAlong path read xs d
+  along_of path [] d w l f q = tt
+  along_of path (x ∷ xs) d w l f q = (
+    ap (λ (v : Work). all_hold x.guards v.env) (sym l.is) ∙ q.0,
+    along_of path xs (if all_hold x.guards d.env then deeds_after read x.op d else d)
+        (if all_hold x.guards w.env then Derived.work_after o x.op w else w)
+        (subst (λ b. Loosely o read block free (if all_hold x.guards d.env then deeds_after read x.op d else d) (cond b (Derived.work_after o x.op w) w))
+        (ap (λ (v : Work). all_hold x.guards v.env) (sym l.is)) (loose_step o read block free (all_hold x.guards d.env) x.op d w f.0 l)) f.1 q.1,
+  )
 
 -- A LIVE THREAD
 
 module _ (p : Pipe) (sound : Sound p) (st : State) (d : Derived.State) (bits : List Bool)
-    (arrays : st.arrays ≡ d.arrays) (older : List Live) (l : Live)
+    (arrays : DifferInAdvice p st.arrays d.arrays) (older : List Live) (l : Live)
     (k : Known p (sound_flows p sound) st d bits arrays older l) where
   abbrev way : List ℕ
   way = path p sound st d bits arrays older l k
@@ -224,16 +253,17 @@ module _ (p : Pipe) (sound : Sound p) (st : State) (d : Derived.State) (bits : L
   keeps = keeps_now p (sound_flows p sound) st d bits arrays l k.seated
 
   abbrev o : Around
-  o = around p d bits (dacts p d bits older) l.thread.stage
+  o = around p d bits (dacts p d bits older) l.thread.stage l.thread.hint
 
   -- the deeds with which its stage begins
   abbrev pub begun : Deeds
-  begun = start_deeds p (sound_flows p sound) l.env (now_of p d bits l) (keeps_now p (sound_flows p sound) st d bits arrays l k.seated)
+  begun = start_deeds p (sound_flows p sound) l.env (now_of p d bits l) (keeps_now p (sound_flows p sound) st d bits arrays l k.seated) l.advice
 
   -- before the statements of its stage the thread in the stated machine has these deeds
   pub begun_is : before_stage p l.thread.stage (with_answers p st bits (seat l)) ≡ begun
   begun_is = λ i. record {
     env = k.values i;
+    advice = l.advice;
     guess = l.thread.guess;
     held = held_before l.thread.stage l.env p.stmts [];
     blocks = [];
@@ -241,6 +271,7 @@ module _ (p : Pipe) (sound : Sound p) (st : State) (d : Derived.State) (bits : L
     writes = [];
     releases = [];
     asks = [];
+    advises = [];
     barrier = false;
     child = None;
     fails = false;
@@ -249,11 +280,15 @@ module _ (p : Pipe) (sound : Sound p) (st : State) (d : Derived.State) (bits : L
   -- the statements of its stage are carried out just where its path takes them
   pub along_here : IsAlong (path p sound st d bits arrays older l k) (word_for st l.number) (in_stage l.thread.stage p.stmts) begun
   along_here =
-      along_of o (word_for st l.number) (λ b. block_ready p st l.number b) (λ r. has_room (mem_at p r.mem).lock (length (lock_of st r.mem)))
+      along_of o (word_for st l.number) (λ b. block_ready p st l.number b)
       (λ q. port_free p d bits (dacts p d bits older) q.mem)
-      way (in_stage l.thread.stage p.stmts) begun l.thread.entries [] k.seated.keeps_on.held
+      way (in_stage l.thread.stage p.stmts) begun (start_of (now_of p d bits l)) (starts_here p (sound_flows p sound) st d bits arrays older l k)
       (fit_all p (sound_flows p sound) st d bits arrays older l k)
       (fixed_here p (sound_flows p sound) l.env (now_of p d bits l) keeps o)
+
+  -- the statements of the earlier stages use each memory in order
+  done_uses : (m : ℕ) → uses_ok m Fresh done ≡ true
+  done_uses m = passed_uses p sound st d bits arrays older l k m
 
   passed_held : held_before l.thread.stage l.env p.stmts [] ≡ held_ops done []
   passed_held = held_path l.thread.stage l.env p.stmts []
@@ -316,10 +351,10 @@ module _ (p : Pipe) (sound : Sound p) (st : State) (d : Derived.State) (bits : L
         (k.seated.keeps_on.held ∙ passed_held) tt
 
     guess_start : is_guessed (making_all Unmade (looked_all done)) ≡ true → length l.thread.guess ≡ length p.start
-    guess_start =
-        guess_all (length p.start) l.env l.thread.guess Unmade done
-        (stmts_ops (DoneOp l.env l.thread.guess) done [] lasting.local.done).0
-        (all_way (passes_on (length p.start)) l.env l.thread.stage p.stmts careful.args) (λ e. absurd (false≢true e))
+    guess_start i =
+        ap length (lasting.local.guessed ∙ guess_onto l.thread.hint l.advice l.env done [] lasting.guessed)
+        ∙ guess_all (length p.start) l.advice l.env [] Unmade done (all_way (passes_on (length p.start)) l.env l.thread.stage p.stmts careful.args)
+        (λ e. absurd (false≢true e)) i
 
     let_begin : Right p l.thread.stage (Let p st l.number) (blocks_of (past_of p l.env l.thread.stage)) (now_of p d bits l).env
     let_begin =
@@ -353,6 +388,6 @@ module _ (p : Pipe) (sound : Sound p) (st : State) (d : Derived.State) (bits : L
         (mine_uses p sound st d bits arrays older l k) (mine_makings p sound st d bits arrays older l k)
         (all_here (passes_on (length p.start)) way l.thread.stage p.stmts careful.args)
         (mine_early p sound st d bits arrays older l k strict)
-        (λ m. subst (IsOnce m (phase_all m Fresh done)) k.seated.keeps_on.held
-        (once_shape m (phase_all m Fresh done) l.thread.entries (k.seated.keeps_on.shape m)))
-        covers_start guess_start (λ e. right_start))
+        (λ m. subst (HeldOnce m (phase_all m Fresh done)) k.seated.keeps_on.held
+        (once_shape m (phase_all m Fresh done) l.thread.entries (single_all m Fresh done (done_uses m) single_fresh) (k.seated.keeps_on.shape m)))
+        covers_start guess_start (λ a b. refl) (λ e. right_start))

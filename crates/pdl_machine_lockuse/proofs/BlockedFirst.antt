@@ -1,10 +1,10 @@
 -- On each path of an accepted source the location of a write was blocked before.
-use Rattle.std.proofs.Common.{◌≡◌, refl, sym, ap, ap₂, ◌∙◌, subst, ℕ, ◌⊎◌, inl, inr, Bool, true, false, ◌&&◌, ◌||◌, List, [], ◌∷◌, ◌++◌, map, filter, fold, if◌then◌else◌, Some, bytes_eq, eq-eqb}
+use Rattle.std.proofs.Common.{◌≡◌, refl, sym, ap, ap₂, ◌∙◌, subst, ℕ, ◌⊎◌, inl, inr, Bool, true, false, ◌&&◌, ◌||◌, not, List, [], ◌∷◌, ◌++◌, map, filter, fold, if◌then◌else◌, Some, bytes_eq, eq-eqb}
 use Rattle.std.proofs.lemmas.Bool.{false≢true, and_parts, and_from, or_left, or_right, not-false}
 use Rattle.std.proofs.lemmas.List.Folds.{list_any-append}
-use Rattle.pdl_semantics.specs.Tree.{Span, Location, R, W, Stmt, Separator, CombRead, Bind, SpecCall, DelayedRead, Write, Reserve, Block, Release, If, Call, Verify, SpecCheck, SpecBarrier, Expr, Variable, Param, Mem, Pipe}
+use Rattle.pdl_semantics.specs.Tree.{Span, Location, R, W, Stmt, Separator, CombRead, Bind, SpecCall, DelayedRead, Write, Reserve, Block, Release, If, Call, Verify, Update, SpecCheck, SpecBarrier, Expr, Variable, Param, Mem, Pipe}
 use Rattle.pdl_semantics.specs.Flat
-use Rattle.pdl_semantics.specs.Flatten.{Var, var_of, mem_of}
+use Rattle.pdl_semantics.specs.Flatten.{Var, var_of, mem_of, flat_expr, is_advisory_mem, is_advised, write_op}
 use Rattle.pdl_rules.specs.Places.{Place, Parameter, Memory, Statement, Branch}
 use Rattle.pdl_rules.specs.Parts.{location_of}
 use Rattle.pdl_rules.specs.Locks
@@ -15,6 +15,7 @@ use Rattle.pdl_rules.proofs.SingleWrites.{KeepsLocks}
 use Rattle.pdl_theory_derived.specs.Alone.{answered_op}
 use Rattle.pdl_theory_facts.specs.Facts.{looked_all}
 use Rattle.pdl_source_stages.proofs.Sites.{Site, front_of, place_of, All}
+use Rattle.pdl_source_stages.proofs.SiteFacts.{either_read, either_bind}
 use Rattle.pdl_source_paths.proofs.Numbers.{var_stays}
 use Rattle.pdl_source_paths.proofs.PathStatements.{ops_of, seen_ops, seen}
 use Rattle.pdl_source_paths.proofs.Growth.{Grown, Grows, grown_more, past_grown, vars_past}
@@ -140,19 +141,31 @@ sites_let p vs us before past (t ∷ ts) g each named i =
     (onto (seen_ops t.walk.stage (ops_of p.mems t.walk.vars t.stmt)) past) ts g.1 each.1 named.1
     (step p.mems t.walk.stage before past vs t.walk.vars t.stmt t.branches g.0 named.0 i))
   where
-    write : (sp : Span) (at : Location) (v : Expr) → t.stmt ≡ Write sp at v
+    write : (sp : Span) (at : Location) (v : Expr) → t.stmt ≡ Write sp at v → is_advisory_mem p.mems at.mem.name ≡ false
         → was_blocked (mem_of p.mems at.mem.name) (var_of t.walk.vars at.address.name) past ≡ true
-    write sp at v e =
+    write sp at v e plain =
         (carry p.mems vs t.walk.vars [] past at g.0
         (i at
-        (blocked_some p.mems (hold_after at before) (not-false _ (subst (λ s. Locks.lacks_hold p before (Statement s t.branches) ≡ false) e each.0.l1))))).1
+        (blocked_some p.mems (hold_after at before) (not-false _
+        (ap (λ b. not b && not (is_blocked_for W (hold_after at before))) (sym plain)
+        ∙ subst (λ s. Locks.lacks_hold p before (Statement s t.branches) ≡ false) e each.0.l1))))).1
+
+    Passes : Flat.Op → Type 0
+    Passes op =
+        all_let_in (onto (seen_ops t.walk.stage (op ∷ [])) past) (seen p.mems ts) ≡ true
+        → all_let_in past (seen_ops t.walk.stage (op ∷ []) ++ seen p.mems ts) ≡ true
 
     here : (s : Stmt) → t.stmt ≡ s → all_let_in (onto (seen_ops t.walk.stage (ops_of p.mems t.walk.vars s)) past) (seen p.mems ts) ≡ true
         → all_let_in past (seen_ops t.walk.stage (ops_of p.mems t.walk.vars s) ++ seen p.mems ts) ≡ true
-    here (Write sp at v) e rest = and_from _ _ (write sp at v e) rest
+    here (Write sp at v) e rest = by (is_advisory_mem p.mems at.mem.name) refl rest
+      where
+        by : (b : Bool) → is_advisory_mem p.mems at.mem.name ≡ b
+            → Passes (write_op b (mem_of p.mems at.mem.name) (var_of t.walk.vars at.address.name) (flat_expr t.walk.vars v))
+        by true j r = r
+        by false j r = and_from _ _ (write sp at v e j) r
     here (Separator sp) e rest = rest
-    here (CombRead sp x from) e rest = rest
-    here (Bind sp x v) e rest = rest
+    here (CombRead sp x from) e rest = either_read Passes (is_advisory_mem p.mems from.mem.name) _ _ _ (λ r. r) (λ r. r) rest
+    here (Bind sp x v) e rest = either_bind Passes (is_advised t.walk.vars v) _ _ (λ r. r) (λ r. r) rest
     here (SpecCall sp x args) e rest = rest
     here (DelayedRead sp x from) e rest = rest
     here (Reserve sp at R) e rest = rest
@@ -163,6 +176,7 @@ sites_let p vs us before past (t ∷ ts) g each named i =
     here (If sp c when otherwise) e rest = rest
     here (Call sp args) e rest = rest
     here (Verify sp x args) e rest = rest
+    here (Update sp x args) e rest = rest
     here (SpecCheck sp) e rest = rest
     here (SpecBarrier sp) e rest = rest
 

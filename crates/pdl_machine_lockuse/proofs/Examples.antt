@@ -5,7 +5,7 @@ use Rattle.pdl_semantics.specs.Flatten.{flat}
 use Rattle.pdl_semantics.proofs.Pipes.{one_stage, two_stages, under_guard, shared_guard, count_queue, count_late, guess, guess_reserved, far_barrier, copy, copy_guessed, count_slow, two_branches, one_branch}
 use Rattle.pdl_semantics.specs.Flat.{Pipe}
 use Rattle.pdl_semantics.specs.Machine.{State, lock_of}
-use Rattle.pdl_semantics.specs.Cycle.{squasher, has_release, cycle, first, state_after}
+use Rattle.pdl_semantics.specs.Cycle.{squasher, all_releases, cycle, first, state_after}
 use Rattle.pdl_theory_states.specs.Use.{moving, with_new, with_release}
 use Rattle.pdl_machine_lockuse.specs.Careful.{is_careful}
 use Rattle.pdl_semantics.specs.PendingLists.{count_older}
@@ -65,7 +65,7 @@ squashes : squasher (moving guessed at_squash []) ≡ Some 1
 unfolding add
 squashes = refl
 
-lets_go : has_release 0 (moving guessed at_squash []) ≡ true
+lets_go : all_releases 0 (moving guessed at_squash []) ≡ 1
 unfolding add
 lets_go = refl
 

@@ -1,15 +1,15 @@
 -- Behind each block of a path of an accepted source its location is not reserved again; and guesses and verifies pass as many arguments as the start.
-use Rattle.std.proofs.Common.{◌≡◌, refl, sym, ap, ap₂, ◌∙◌, subst, ℕ, suc, Bool, true, false, ◌&&◌, not, List, [], ◌∷◌, ◌++◌, length, map, Some, ◌==◌, eq-eqb, append_assoc}
+use Rattle.std.proofs.Common.{◌≡◌, refl, sym, ap, ap₂, ◌∙◌, subst, ℕ, suc, ◌≤◌, ◌<◌, if◌then◌else◌, Bool, true, false, ◌&&◌, not, List, [], ◌∷◌, ◌++◌, length, map, Some, ◌==◌, eq-eqb, append_assoc}
 use Rattle.std.proofs.lemmas.Bool.{false≢true, and_parts, and_from, both_ways, not-false, eqb-true}
 use Rattle.std.specs.List.{list_any}
 use Rattle.std.specs.Cmp.Lexicographic.{pointwise}
 use Rattle.std.proofs.lemmas.List.{length-map}
 use Rattle.std.specs.Prelude.{nat_eq, bytes_eq}
 use Rattle.pdl_kit.specs.declared.rule.Rule.TheVariants.{W5}
-use Rattle.pdl_semantics.specs.Tree.{Span, Location, R, W, Stmt, Separator, CombRead, Bind, SpecCall, DelayedRead, Write, Reserve, Block, Release, If, Call, Verify, SpecCheck, SpecBarrier, Expr, Variable, Literal, Param, Pipe}
+use Rattle.pdl_semantics.specs.Tree.{Span, Location, R, W, Stmt, Separator, CombRead, Bind, SpecCall, DelayedRead, Write, Reserve, Block, Release, If, Call, Verify, Update, SpecCheck, SpecBarrier, Expr, Variable, Literal, Param, Pipe}
 use Rattle.pdl_semantics.specs.Flat
-use Rattle.pdl_semantics.specs.Flatten.{Var, var_of, mem_of, flat, flat_exprs, start_of, params_of, width_of}
-use Rattle.pdl_semantics.specs.Stages.{onpath}
+use Rattle.pdl_semantics.specs.Flatten.{Var, var_of, mem_of, flat, flat_exprs, start_of, params_of, width_of, is_advisory_mem, is_advised}
+use Rattle.pdl_semantics.specs.Stages.{onpath, is_write_reserve}
 use Rattle.pdl_rules.specs.Places.{on_path, Place, Statement, StartClause, End}
 use Rattle.pdl_rules.specs.Parts.{location_of}
 use Rattle.pdl_rules.specs.Locks
@@ -20,10 +20,13 @@ use Rattle.pdl_rules.proofs.EachPlace.{Each, closing}
 use Rattle.pdl_rules.proofs.SingleWrites.{KeepsLocks, any_weaker, any_front, reserves_alike}
 use Rattle.pdl_theory_derived.specs.Alone.{answered_op}
 use Rattle.pdl_theory_derived.proofs.Writes.{and_left, and_right}
-use Rattle.pdl_theory_facts.specs.Scans.{none_of}
+use Rattle.pdl_theory_facts.specs.Scans.{none_of, write_reserves}
+use Rattle.pdl_source_paths.proofs.Memories.{mems_length}
+use Rattle.pdl_source_paths.proofs.PathTests.{few_ok}
 use Rattle.pdl_theory_facts.specs.Facts.{looked_all}
 use Rattle.pdl_theory_turns.proofs.Looks.{path_looked}
 use Rattle.pdl_source_stages.proofs.Sites.{Site, sites_of, front_of, place_of, own, owns, All, stmts_are}
+use Rattle.pdl_source_stages.proofs.SiteFacts.{either_read, either_bind, either_write}
 use Rattle.pdl_source_stages.proofs.SiteStages.{all_map}
 use Rattle.pdl_source_paths.specs.Source.{is_source}
 use Rattle.pdl_source_paths.proofs.Choices.{path_of}
@@ -34,6 +37,7 @@ use Rattle.pdl_source_paths.proofs.ReadsKept.{open_reserved, reserved_open}
 use Rattle.pdl_source_paths.proofs.Variables.{Here, all_here, IsNamed, located}
 use Rattle.pdl_source_paths.proofs.Walk.{all_on, keeps_all, text_places}
 use Rattle.pdl_source_paths.proofs.FlatPaths.{value, all_alike}
+use Rattle.pdl_theory_turns.proofs.StageFacts.{none_looked}
 use Rattle.pdl_machine_lockuse.specs.Careful.{Careful, reserves_at, keeps_kind, all_keep_kind, all_let_in, passes_on}
 use Rattle.pdl_machine_lockuse.proofs.BlockedFirst.{named_grown, lets_looked, sites_let, none_blocked}
 use Rattle.pdl_word.proofs.Bytes.{bytes_refl}
@@ -46,12 +50,8 @@ reserves_looked : (m a : ℕ) (op : Flat.Op) → reserves_at m a (answered_op op
 reserves_looked m a (Flat.DelayedRead x n b) = refl
 reserves_looked m a _ = refl
 
-none_looked : (m a : ℕ) (xs : List Flat.Stmt) → none_of (reserves_at m a) (looked_all xs) ≡ none_of (reserves_at m a) xs
-none_looked m a [] = refl
-none_looked m a (x ∷ xs) = ap₂ (λ b c. not b && c) (reserves_looked m a x.op) (none_looked m a xs)
-
 keeps_looked : (op : Flat.Op) (xs : List Flat.Stmt) → keeps_kind (answered_op op) (looked_all xs) ≡ keeps_kind op xs
-keeps_looked (Flat.Block m a) xs = none_looked m a xs
+keeps_looked (Flat.Block m a) xs = none_looked (reserves_at m a) (reserves_looked m a) xs
 keeps_looked (Flat.DelayedRead x n b) xs = refl
 keeps_looked (Flat.Bind x e) xs = refl
 keeps_looked (Flat.CombRead x m a) xs = refl
@@ -61,9 +61,12 @@ keeps_looked (Flat.ReserveWrite m a) xs = refl
 keeps_looked (Flat.Release m a) xs = refl
 keeps_looked (Flat.Call args) xs = refl
 keeps_looked (Flat.SpecCall args) xs = refl
-keeps_looked (Flat.Verify args) xs = refl
+keeps_looked (Flat.Verify last args) xs = refl
 keeps_looked Flat.SpecCheck xs = refl
 keeps_looked Flat.SpecBarrier xs = refl
+keeps_looked (Flat.AdviceBind x e) xs = refl
+keeps_looked (Flat.AdviceRead x m a) xs = refl
+keeps_looked (Flat.AdviceWrite m a e) xs = refl
 
 kinds_looked : (xs : List Flat.Stmt) → all_keep_kind (looked_all xs) ≡ all_keep_kind xs
 kinds_looked [] = refl
@@ -105,17 +108,21 @@ module _ (p : Pipe) (at : Location) (vs : List Var) (there : IsNamed p.mems vs a
   one_site before k ws (Reserve sp l W) bs g n r keeps = and_from _ _ (ap not (other before l ws g (n l refl) r keeps.l5)) refl
   one_site before k ws (Reserve sp l R) bs g n r keeps = refl
   one_site before k ws (Separator sp) bs g n r keeps = refl
-  one_site before k ws (CombRead sp x l) bs g n r keeps = refl
-  one_site before k ws (Bind sp x e) bs g n r keeps = refl
+  one_site before k ws (CombRead sp x l) bs g n r keeps = either_read (λ op. none_of (reserves_at m0 a0) (seen_ops k (op ∷ [])) ≡ true)
+      (is_advisory_mem p.mems l.mem.name) _ _ _ refl refl
+  one_site before k ws (Bind sp x e) bs g n r keeps = either_bind (λ op. none_of (reserves_at m0 a0) (seen_ops k (op ∷ [])) ≡ true)
+      (is_advised ws e) _ _ refl refl
   one_site before k ws (SpecCall sp x args) bs g n r keeps = refl
   one_site before k ws (DelayedRead sp x l) bs g n r keeps = refl
-  one_site before k ws (Write sp l e) bs g n r keeps = refl
+  one_site before k ws (Write sp l e) bs g n r keeps = either_write (λ op. none_of (reserves_at m0 a0) (seen_ops k (op ∷ [])) ≡ true)
+      (is_advisory_mem p.mems l.mem.name) _ _ _ refl refl
   one_site before k ws (Block sp l) bs g n r keeps = refl
   one_site before k ws (Release sp l) bs g n r keeps = refl
   one_site before k ws (If sp (Variable x) when otherwise) bs g n r keeps = refl
   one_site before k ws (If sp c when otherwise) bs g n r keeps = refl
   one_site before k ws (Call sp args) bs g n r keeps = refl
   one_site before k ws (Verify sp x args) bs g n r keeps = refl
+  one_site before k ws (Update sp x args) bs g n r keeps = refl
   one_site before k ws (SpecCheck sp) bs g n r keeps = refl
   one_site before k ws (SpecBarrier sp) bs g n r keeps = refl
 
@@ -154,11 +161,14 @@ sites_kinds p vs us before (t ∷ ts) g each named =
         → all_keep_kind (seen_ops t.walk.stage (ops_of p.mems t.walk.vars s) ++ seen p.mems ts) ≡ true
     here (Block sp at) e rest = and_from _ _ (block sp at e) rest
     here (Separator sp) e rest = rest
-    here (CombRead sp x from) e rest = rest
-    here (Bind sp x v) e rest = rest
+    here (CombRead sp x from) e rest = either_read (λ op. all_keep_kind (seen_ops t.walk.stage (op ∷ []) ++ seen p.mems ts) ≡ true)
+        (is_advisory_mem p.mems from.mem.name) _ _ _ rest rest
+    here (Bind sp x v) e rest = either_bind (λ op. all_keep_kind (seen_ops t.walk.stage (op ∷ []) ++ seen p.mems ts) ≡ true)
+        (is_advised t.walk.vars v) _ _ rest rest
     here (SpecCall sp x args) e rest = rest
     here (DelayedRead sp x from) e rest = rest
-    here (Write sp to v) e rest = rest
+    here (Write sp to v) e rest = either_write (λ op. all_keep_kind (seen_ops t.walk.stage (op ∷ []) ++ seen p.mems ts) ≡ true)
+        (is_advisory_mem p.mems to.mem.name) _ _ _ rest rest
     here (Reserve sp at R) e rest = rest
     here (Reserve sp at W) e rest = rest
     here (Release sp at) e rest = rest
@@ -166,6 +176,7 @@ sites_kinds p vs us before (t ∷ ts) g each named =
     here (If sp c when otherwise) e rest = rest
     here (Call sp args) e rest = rest
     here (Verify sp x args) e rest = rest
+    here (Update sp x args) e rest = rest
     here (SpecCheck sp) e rest = rest
     here (SpecBarrier sp) e rest = rest
 
@@ -209,11 +220,18 @@ module _ (p : Pipe) (rules : KeepsRules p) where
       → Flat.list_all (λ (x : Flat.Stmt). passes_on (length (flat p).start) x.op) (stmts_at k gs (ops_of p.mems vs s)) ≡ true
   site_passes k gs vs (SpecCall sp x args) bs h = and_from _ _ (args_right vs args h) refl
   site_passes k gs vs (Verify sp x args) bs h = and_from _ _ (args_right vs args h) refl
+  site_passes k gs vs (Update sp x args) bs h = and_from _ _ (args_right vs args h) refl
   site_passes k gs vs (Separator sp) bs h = refl
-  site_passes k gs vs (CombRead sp x l) bs h = refl
-  site_passes k gs vs (Bind sp x e) bs h = refl
+  site_passes k gs vs (CombRead sp x l) bs h =
+      either_read (λ op. Flat.list_all (λ (x : Flat.Stmt). passes_on (length (flat p).start) x.op) (stmts_at k gs (op ∷ [])) ≡ true)
+      (is_advisory_mem p.mems l.mem.name) _ _ _ refl refl
+  site_passes k gs vs (Bind sp x e) bs h =
+      either_bind (λ op. Flat.list_all (λ (x : Flat.Stmt). passes_on (length (flat p).start) x.op) (stmts_at k gs (op ∷ [])) ≡ true)
+      (is_advised vs e) _ _ refl refl
   site_passes k gs vs (DelayedRead sp x l) bs h = refl
-  site_passes k gs vs (Write sp l e) bs h = refl
+  site_passes k gs vs (Write sp l e) bs h =
+      either_write (λ op. Flat.list_all (λ (x : Flat.Stmt). passes_on (length (flat p).start) x.op) (stmts_at k gs (op ∷ [])) ≡ true)
+      (is_advisory_mem p.mems l.mem.name) _ _ _ refl refl
   site_passes k gs vs (Reserve sp l R) bs h = refl
   site_passes k gs vs (Reserve sp l W) bs h = refl
   site_passes k gs vs (Block sp l) bs h = refl
@@ -269,11 +287,25 @@ module _ (p : Pipe) (rules : KeepsRules p) where
         (grows_on p.mems (path_of p (value p path)) (params_of p.params) (all_vars p) (sites_of p) (grows_all p)) (keeps_all p rules (value p path)) locations
         (λ l h. absurd (false≢true (sym (none_blocked p (on_path (path_of p (value p path))) l) ∙ h)))
 
+    reserve_looked : (m : ℕ) (op : Flat.Op) → is_write_reserve m (answered_op op) ≡ is_write_reserve m op
+    reserve_looked m (Flat.DelayedRead x n b) = refl
+    reserve_looked m _ = refl
+
+    few_looked : (m : ℕ) (xs : List Flat.Stmt) → write_reserves m (looked_all xs) ≡ write_reserves m xs
+    few_looked m [] = refl
+    few_looked m (x ∷ xs) = ap₂ (λ b n. if b then suc n else n) (reserve_looked m x.op) (few_looked m xs)
+
+    few : (m : ℕ) → m < length (flat p).mems → write_reserves m (onpath path (flat p).stmts) ≤ 2
+    few m low =
+        subst (λ n. n ≤ 2) (ap (write_reserves m) (path_looked path (flat p).stmts) ∙ few_looked m (onpath path (flat p).stmts))
+        (few_ok p rules source path m (subst (λ n. m < n) (mems_length p.mems) low))
+
   -- the flat form of an accepted source is careful with its blocks, its writes and the arguments of its guesses
   pub careful_source : is_source p ≡ true → Careful (flat p)
   careful_source source =
       record {
         kinds = kinds source;
         writes = writes source;
+        few = few source;
         args = ap (Flat.list_all (λ (x : Flat.Stmt). passes_on (length (flat p).start) x.op)) (stmts_are p) ∙ sites_pass (sites_of p) (all_here p);
       }

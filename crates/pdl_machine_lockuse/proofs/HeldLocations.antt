@@ -1,12 +1,12 @@
 -- Locations that a thread has blocked for reading, and those that it holds for writing, as its statements go by.
-use Rattle.std.proofs.Common.{◌≡◌, ◌≢◌, refl, sym, ap, ◌∙◌, subst, ℕ, suc, ◌≤◌, Bool, true, false, ◌&&◌, ◌||◌, not, List, [], ◌∷◌, Some, ◌==◌, cond, if◌then◌else◌, arith, slice_index}
-use Rattle.std.proofs.lemmas.Bool.{false≢true, or_right, eqb-true}
-use Rattle.pdl_semantics.specs.Flat.{Op, DelayedRead, Write, ReserveWrite, Block, Release, Verify, Pipe, values_of}
+use Rattle.std.proofs.Common.{◌≡◌, refl, sym, ap, ◌∙◌, subst, ℕ, ◌≤◌, Bool, true, false, ◌&&◌, ◌||◌, not, List, [], ◌∷◌, Some, ◌==◌, cond, arith, slice_index, ◌+◌}
+use Rattle.std.proofs.lemmas.Bool.{or_right, eqb-true}
+use Rattle.pdl_semantics.specs.Flat.{Op, DelayedRead, Write, ReserveWrite, Block, Release, Verify, Pipe}
 use Rattle.pdl_semantics.specs.Stages.{commit_stage}
-use Rattle.pdl_semantics.specs.Machine.{HeldLocation, Deeds, deeds_after, is_held, let_go, held_after, same_args}
+use Rattle.pdl_semantics.specs.Machine.{HeldLocation, Deeds, deeds_after, is_held, let_go, held_after, same_args, checked_args}
 use Rattle.pdl_theory_derived.specs.Alone.{Location, answered_op}
-use Rattle.pdl_theory_facts.specs.Scans.{Phase, Fresh, Held, Written, Done, after_release, next_phase, is_fresh, Scan, has_location, scan_after, location}
-use Rattle.pdl_theory_derived.proofs.Writes.{and_left}
+use Rattle.pdl_theory_facts.specs.Scans.{Phase, after_write, after_reserve, after_release, may_write, next_phase, Scan, has_location, scan_after, location}
+use Rattle.pdl_machine_lockuse.proofs.Reservations.{one_if, uses, Single, uses_reserve, uses_write, uses_release, single_op}
 use Rattle.pdl_theory_turns.proofs.Surroundings.{Right}
 use Rattle.pdl_theory_simulation.proofs.FlowFacts.{use_ok}
 use Rattle.pdl_word.proofs.Bools.{or_map}
@@ -59,98 +59,95 @@ covers_op c _ hs f = f
 
 -- the deeds after a statement hold what the statement leaves held
 pub held_does : (read : ℕ → ℕ → ℕ) (op : Op) (d : Deeds) → (deeds_after read op d).held ≡ held_after op d.held
-held_does read (Verify args) d = at (same_args (values_of args d.env) d.guess)
+held_does read (Verify last args) d = at (same_args (checked_args last args d) d.guess)
   where
-    at : (b : Bool) → (cond b d (record d { child = Some (values_of args d.env); fails = true })).held ≡ d.held
+    at : (b : Bool) → (cond b d (record d { child = Some (checked_args last args d); guess = checked_args last args d; fails = true })).held ≡ d.held
     at true = refl
     at false = refl
 held_does read _ d = refl
 
--- AT MOST ONE LOCATION OF A MEMORY
+-- EACH LOCATION AT MOST ONCE
 
--- how many locations of a memory are held
-abbrev pub count_mem : ℕ → List HeldLocation → ℕ
-count_mem m [] = 0
-count_mem m (l ∷ ls) = if l.mem == m then suc (count_mem m ls) else count_mem m ls
+-- how often a location is held
+abbrev pub count_at : ℕ → ℕ → List HeldLocation → ℕ
+count_at m a [] = 0
+count_at m a (l ∷ ls) = one_if ((l.mem == m) && (l.var == a)) + count_at m a ls
 
--- at most one place of a memory, and none before its reservation
-pub record IsOnce (m : ℕ) (ph : Phase) (ls : List HeldLocation) : Type 0 where
-  pub none : is_fresh ph ≡ true → count_mem m ls ≡ 0
-  pub one : count_mem m ls ≤ 1
+-- what is held of a memory are variables of its phase, each once
+pub record HeldOnce (m : ℕ) (ph : Phase) (ls : List HeldLocation) : Type 0 where
+  pub few : (a : ℕ) → count_at m a ls ≤ uses ph a
+  pub single : Single ph
 
-none_held : (m a : ℕ) (hs : List HeldLocation) → count_mem m hs ≡ 0 → is_held hs m a ≡ false
-none_held m a [] e = refl
-none_held m a (g ∷ hs) e = by (g.mem == m) e (none_held m a hs)
+-- so each location is held at most once
+pub held_once : (m : ℕ) (ph : Phase) (ls : List HeldLocation) → HeldOnce m ph ls → (a : ℕ) → count_at m a ls ≤ 1
+held_once m ph ls o a = less (o.few a) (o.single a)
   where
-    by : (b : Bool) → cond b (suc (count_mem m hs)) (count_mem m hs) ≡ 0 → (count_mem m hs ≡ 0 → is_held hs m a ≡ false)
-        → ((b && (g.var == a)) || is_held hs m a) ≡ false
+    less : {i j : ℕ} → i ≤ j → j ≤ 1 → i ≤ 1
+    less e f = omega (arith, e, f)
+
+none_held : (m a : ℕ) (hs : List HeldLocation) → count_at m a hs ≡ 0 → is_held hs m a ≡ false
+none_held m a [] e = refl
+none_held m a (g ∷ hs) e = by ((g.mem == m) && (g.var == a)) e (none_held m a hs)
+  where
+    by : (b : Bool) → one_if b + count_at m a hs ≡ 0 → (count_at m a hs ≡ 0 → is_held hs m a ≡ false) → (b || is_held hs m a) ≡ false
     by true e go = absurd (omega (arith, e))
-    by false e go = go e
+    by false e go = go (zero e)
+      where
+        zero : 0 + count_at m a hs ≡ 0 → count_at m a hs ≡ 0
+        zero i = omega (arith, i)
 
 -- what is released is held no more
-pub released_here : (m a : ℕ) (ls : List HeldLocation) → count_mem m ls ≤ 1 → is_held (let_go ls m a) m a ≡ false
+pub released_here : (m a : ℕ) (ls : List HeldLocation) → count_at m a ls ≤ 1 → is_held (let_go ls m a) m a ≡ false
 released_here m a [] h = refl
-released_here m a (l ∷ ls) h = at ((l.mem == m) && (l.var == a)) refl (released_here m a ls (lower (l.mem == m) h))
+released_here m a (l ∷ ls) h = at ((l.mem == m) && (l.var == a)) refl h (λ i. released_here m a ls i)
   where
-    lower : (b : Bool) → cond b (suc (count_mem m ls)) (count_mem m ls) ≤ 1 → count_mem m ls ≤ 1
-    lower true i = omega (arith, i)
-    lower false i = i
+    at : (t : Bool) → ((l.mem == m) && (l.var == a)) ≡ t → one_if t + count_at m a ls ≤ 1
+        → (count_at m a ls ≤ 1 → is_held (let_go ls m a) m a ≡ false) → is_held (cond t ls (l ∷ let_go ls m a)) m a ≡ false
+    at true e i rest = none_held m a ls (omega (arith, i))
+    at false e i rest = ap (λ b. b || is_held (let_go ls m a) m a) e ∙ rest (omega (arith, i))
 
-    zero_left : (b : Bool) → b ≡ true → cond b (suc (count_mem m ls)) (count_mem m ls) ≤ 1 → count_mem m ls ≡ 0
-    zero_left true e i = omega (arith, i)
-    zero_left false e i = absurd (false≢true e)
-
-    at : (t : Bool) → ((l.mem == m) && (l.var == a)) ≡ t → is_held (let_go ls m a) m a ≡ false → is_held (cond t ls (l ∷ let_go ls m a)) m a ≡ false
-    at true e rest = none_held m a ls (zero_left (l.mem == m) (and_left (l.mem == m) _ e) h)
-    at false e rest = ap (λ b. b || is_held (let_go ls m a) m a) e ∙ rest
-
-fewer : (m j a : ℕ) (ls : List HeldLocation) → count_mem m (let_go ls j a) ≤ count_mem m ls
-fewer m j a [] = omega arith
-fewer m j a (l ∷ ls) = at ((l.mem == j) && (l.var == a)) (l.mem == m) refl (fewer m j a ls)
+fewer : (m x j a : ℕ) (ls : List HeldLocation) → count_at m x (let_go ls j a) ≤ count_at m x ls
+fewer m x j a [] = omega arith
+fewer m x j a (l ∷ ls) = at ((l.mem == j) && (l.var == a)) (one_if ((l.mem == m) && (l.var == x))) (fewer m x j a ls)
   where
-    at : (t b : Bool) → (l.mem == m) ≡ b → count_mem m (let_go ls j a) ≤ count_mem m ls
-        → count_mem m (cond t ls (l ∷ let_go ls j a)) ≤ cond b (suc (count_mem m ls)) (count_mem m ls)
-    at true true e h = omega arith
-    at true false e h = omega arith
-    at false true e h = subst (λ b. cond b (suc (count_mem m (let_go ls j a))) (count_mem m (let_go ls j a)) ≤ suc (count_mem m ls)) (sym e) (omega (arith, h))
-    at false false e h = subst (λ b. cond b (suc (count_mem m (let_go ls j a))) (count_mem m (let_go ls j a)) ≤ count_mem m ls) (sym e) h
-
--- at most one location of a memory is held after one statement more that uses it in order
-pub once_op : (m : ℕ) (ph : Phase) (op : Op) (hs : List HeldLocation)
-    → use_ok m ph op ≡ true → IsOnce m ph hs → IsOnce m (next_phase m ph op) (held_after op hs)
-once_op m ph (ReserveWrite j a) hs k o = at (j == m) refl k
-  where
-    at : (b : Bool) → (j == m) ≡ b → (not b || is_fresh ph) ≡ true → IsOnce m (cond b (Held a) ph) (record { mem = j; var = a } ∷ hs)
-    at true e i =
-        record {
-          none = λ f. absurd (false≢true f);
-          one = subst (λ b. cond b (suc (count_mem m hs)) (count_mem m hs) ≤ 1) (sym e) (let z = o.none i in omega (arith, z));
-        }
-    at false e i = record {
-      none = λ f. ap (λ b. cond b (suc (count_mem m hs)) (count_mem m hs)) e ∙ o.none f;
-      one = subst (λ b. cond b (suc (count_mem m hs)) (count_mem m hs) ≤ 1) (sym e) o.one;
-    }
-once_op m ph (Write j a e) hs k o = at (j == m)
-  where
-    at : (b : Bool) → IsOnce m (cond b (Written a) ph) hs
-    at true = record { none = λ f. absurd (false≢true f); one = o.one }
-    at false = o
-once_op m ph (Release j a) hs k o = at (j == m)
-  where
-    less : count_mem m (let_go hs j a) ≤ count_mem m hs
-    less = fewer m j a hs
-
-    released : (ph : Phase) → IsOnce m ph hs → IsOnce m (after_release ph a) (let_go hs j a)
-    released Fresh o = record { none = λ f. (let z = o.none refl in omega (arith, z, less)); one = (let z = o.one in omega (arith, z, less)) }
-    released (Held x) o = record { none = λ f. absurd (false≢true f); one = (let z = o.one in omega (arith, z, less)) }
-    released (Written x) o = by (x == a)
+    at : (t : Bool) (n : ℕ) → count_at m x (let_go ls j a) ≤ count_at m x ls
+        → count_at m x (cond t ls (l ∷ let_go ls j a)) ≤ one_if ((l.mem == m) && (l.var == x)) + count_at m x ls
+    at true n h = more (one_if ((l.mem == m) && (l.var == x))) (count_at m x ls)
       where
-        by : (b : Bool) → IsOnce m (cond b Done (Written x)) (let_go hs j a)
-        by true = record { none = λ f. absurd (false≢true f); one = (let z = o.one in omega (arith, z, less)) }
-        by false = record { none = λ f. absurd (false≢true f); one = (let z = o.one in omega (arith, z, less)) }
-    released Done o = record { none = λ f. absurd (false≢true f); one = (let z = o.one in omega (arith, z, less)) }
+        more : (i k : ℕ) → k ≤ i + k
+        more i k = omega arith
+    at false n h = both (one_if ((l.mem == m) && (l.var == x))) (count_at m x (let_go ls j a)) (count_at m x ls) h
+      where
+        both : (i k c : ℕ) → k ≤ c → i + k ≤ i + c
+        both i k c e = omega (arith, e)
 
-    at : (b : Bool) → IsOnce m (cond b (after_release ph a) ph) (let_go hs j a)
-    at true = released ph o
-    at false = record { none = λ f. (let z = o.none f in omega (arith, z, less)); one = (let z = o.one in omega (arith, z, less)) }
+-- what is held of a memory are variables of its phase, each once, after one statement more that uses it in order
+pub once_op : (m : ℕ) (ph : Phase) (op : Op) (hs : List HeldLocation)
+    → use_ok m ph op ≡ true → HeldOnce m ph hs → HeldOnce m (next_phase m ph op) (held_after op hs)
+once_op m ph (ReserveWrite j a) hs k o = record { few = λ x. at x (j == m) refl; single = single_op m ph (ReserveWrite j a) k o.single }
+  where
+    both : (i k c : ℕ) → k ≤ c → i + k ≤ i + c
+    both i k c e = omega (arith, e)
+
+    at : (x : ℕ) (b : Bool) → (j == m) ≡ b → one_if ((j == m) && (a == x)) + count_at m x hs ≤ uses (cond b (after_reserve ph a) ph) x
+    at x true e =
+        subst (λ c. one_if (c && (a == x)) + count_at m x hs ≤ uses (after_reserve ph a) x) (sym e)
+        (subst (λ n. one_if (a == x) + count_at m x hs ≤ n) (sym (uses_reserve ph a x)) (both (one_if (a == x)) (count_at m x hs) (uses ph x) (o.few x)))
+    at x false e = subst (λ c. one_if (c && (a == x)) + count_at m x hs ≤ uses ph x) (sym e) (none (count_at m x hs) (uses ph x) (o.few x))
+      where
+        none : (i c : ℕ) → i ≤ c → 0 + i ≤ c
+        none i c f = omega (arith, f)
+once_op m ph (Write j a e) hs k o = record { few = λ x. at x (j == m) k; single = single_op m ph (Write j a e) k o.single }
+  where
+    at : (x : ℕ) (b : Bool) → (not b || may_write ph a) ≡ true → count_at m x hs ≤ uses (cond b (after_write ph a) ph) x
+    at x true i = subst (λ n. count_at m x hs ≤ n) (sym (uses_write ph a x i)) (o.few x)
+    at x false i = o.few x
+once_op m ph (Release j a) hs k o = record { few = λ x. at x (j == m); single = single_op m ph (Release j a) k o.single }
+  where
+    less : (i n c : ℕ) → i ≤ n → n ≤ c → i ≤ c
+    less i n c e f = omega (arith, e, f)
+
+    at : (x : ℕ) (b : Bool) → count_at m x (let_go hs j a) ≤ uses (cond b (after_release ph a) ph) x
+    at x true = subst (λ n. count_at m x (let_go hs j a) ≤ n) (sym (uses_release ph a x)) (less _ _ _ (fewer m x j a hs) (o.few x))
+    at x false = less _ _ _ (fewer m x j a hs) (o.few x)
 once_op m ph _ hs k o = o

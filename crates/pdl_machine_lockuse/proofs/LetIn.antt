@@ -1,10 +1,10 @@
 -- A read and a write find the blocks of their locations ready: those of the stage since the thread moves, earlier ones since they stay so.
 use Rattle.std.proofs.Common.{◌≡◌, refl, sym, ap, ap₂, ◌∙◌, subst, ℕ, ◌≤◌, inl, inr, Bool, true, false, ◌&&◌, ◌||◌, not, List, [], ◌∷◌, ◌++◌, Some, ◌==◌, cond, slice_index}
 use Rattle.std.proofs.lemmas.Bool.{false≢true, leb-true, or_parts}
-use Rattle.pdl_semantics.specs.Flat.{list_all, Op, Bind, CombRead, DelayedRead, Write, ReserveWrite, Block, Verify, Stmt, Pipe, all_hold, value_of, values_of}
+use Rattle.pdl_semantics.specs.Flat.{list_all, Op, Bind, CombRead, DelayedRead, Write, ReserveWrite, Block, Verify, Stmt, Pipe, all_hold, value_of}
 use Rattle.pdl_semantics.specs.Stages.{onpath, mem_at, reserve_stage, commit_stage}
 use Rattle.pdl_semantics.specs.Locks.{read_ready, write_ready}
-use Rattle.pdl_semantics.specs.Machine.{State, Blocked, Deeds, deeds_after, is_held, older_write, word_for, same_args}
+use Rattle.pdl_semantics.specs.Machine.{State, Blocked, Deeds, deeds_after, is_held, older_write, word_for, same_args, checked_args}
 use Rattle.pdl_semantics.specs.Moves.{block_ready, blocks_ready, have_room}
 use Rattle.pdl_theory_derived.specs.Derived.{Around, Entry, has_entry}
 use Rattle.pdl_theory_derived.specs.Alone.{Location, answered_op}
@@ -20,6 +20,7 @@ use Rattle.pdl_theory_states.proofs.PastStatements.{BlockOk, is_released}
 use Rattle.pdl_theory_states.proofs.UnusedValues.{AllOps}
 use Rattle.pdl_semantics.proofs.Readiness.{read_write}
 use Rattle.pdl_theory_states.proofs.Stage.{LowBlock}
+use Rattle.pdl_machine_lockuse.proofs.FewerReserves.{room_before}
 use Rattle.pdl_machine_lockuse.specs.Careful.{is_block_at, was_blocked, is_let_in, all_let_in}
 use Rattle.pdl_machine_lockuse.specs.Use.{IsLetIn, AreLetIn}
 use Rattle.pdl_machine_lockuse.proofs.HeldLocations.{right_at, Covers, covers_op, held_does}
@@ -77,13 +78,14 @@ module _ (p : Pipe) (st : State) (n : ℕ) where
   let_next vars s past (Bind x e) d h low r = λ k. right_set p s Let (blocks_of past) d.env x (value_of e d.env) (fresh vars x past h) (r k)
   let_next vars s past (CombRead x m a) d h low r =
       λ k. right_set p s Let (blocks_of past) d.env x (word_for st n m (slice_index d.env a)) (fresh vars x past h) (r k)
-  let_next vars s past (Verify args) d h low r = at (same_args (values_of args d.env) d.guess)
+  let_next vars s past (Verify last args) d h low r = at (same_args (checked_args last args d) d.guess)
     where
-      at : (b : Bool) → LetIf s past (cond b d (record d { child = Some (values_of args d.env); fails = true }))
+      at : (b : Bool) → LetIf s past (cond b d (record d { child = Some (checked_args last args d); guess = checked_args last args d; fails = true }))
       at true = r
       at false = r
   let_next vars s past (ReserveWrite m a) d h low r =
-      λ k. r (ap₂ (λ x y. x && y) (and_left (blocks_ready p st n d) _ k) (all_last _ d.reserves _ (and_right (blocks_ready p st n d) _ k)).0)
+      λ k. r (ap₂ (λ x y. x && y) (and_left (blocks_ready p st n d) _ k)
+      (room_before p st d (deeds_after (word_for st n) (ReserveWrite m a) d) _ refl (and_right (blocks_ready p st n d) _ k)))
   let_next vars s past (Block m a) d h low r = λ k.
       let b : Blocked = record { mem = m; address = slice_index d.env a; writes = is_held d.held m a } in
       let q = all_last (λ b. block_ready p st n b) d.blocks b (and_left (list_all (λ b. block_ready p st n b) (d.blocks ++ b ∷ [])) _ k) in (

@@ -1,9 +1,12 @@
 pub mod Acts
 pub mod Paths
+pub mod Reservations
 pub mod HeldLocations
+pub mod FewerReserves
 pub mod StageStatements
 pub mod LetIn
 pub mod Begins
+pub mod OwnPlaces
 pub mod OwnWrite
 pub mod ReleaseBarriers
 pub mod Tails

@@ -1,247 +1,274 @@
 -- What a thread's stage does to its pending writes of one memory: who writes has one, once, and what is released has its value.
-use Rattle.std.proofs.Common.{◌≡◌, refl, sym, ap, ap₂, ◌∙◌, subst, ℕ, suc, ◌+◌, ◌≤◌, inl, inr, Bool, true, false, ◌&&◌, ◌||◌, not, List, [], ◌∷◌, ◌++◌, length, Option, Some, None, ◌==◌, cond, arith, eq-eqb, slice_index, append_assoc, nat_le}
+use Rattle.std.proofs.Common.{◌≡◌, refl, sym, ap, ap₂, ◌∙◌, subst, ℕ, suc, ◌+◌, ◌≤◌, ◌<◌, Bool, true, false, ◌&&◌, ◌||◌, not, List, [], ◌∷◌, ◌++◌, length, length-append, Option, Some, None, ◌==◌, cond, if◌then◌else◌, arith, eq-eqb, slice_index, append_assoc, append-nil, nat_le}
 use Rattle.std.proofs.lemmas.Bool.{false≢true, leb-true, eqb-true}
-use Rattle.pdl_semantics.specs.Flat.{Pipe, Op, Write, ReserveWrite, Release, Verify, Stmt, Commit, of_mem, list_all, all_hold, value_of, values_of}
-use Rattle.pdl_semantics.specs.Stages.{list_any, onpath, in_stage, mem_at, goes_to, stage_at, commit_stage}
-use Rattle.pdl_semantics.specs.Locks.{has_room}
-use Rattle.pdl_semantics.specs.Machine.{State, Pending, Blocked, Reserved, Written, Ask, Deeds, deeds_after, deeds_after_all, is_held, held_before, lock_of, same_args, word_for}
+use Rattle.pdl_semantics.specs.Flat.{Pipe, Op, Write, ReserveWrite, Release, Verify, Stmt, list_all, all_hold, value_of}
+use Rattle.pdl_semantics.specs.Stages.{onpath, in_stage, goes_to, stage_at, commit_stage}
+use Rattle.pdl_semantics.specs.Machine.{State, Pending, Blocked, Written, Ask, Deeds, deeds_after, deeds_after_all, reserves_of, held_before, same_args, word_for, checked_args}
 use Rattle.pdl_semantics.specs.Moves.{block_ready, next_stage}
-use Rattle.pdl_semantics.specs.Cycle.{new_entries, with_value_of, with_writes_of, is_stage}
+use Rattle.pdl_semantics.specs.Promises.{DifferInAdvice}
+use Rattle.pdl_semantics.specs.Cycle.{new_entries, with_writes_of, releases_of, is_stage}
+use Rattle.pdl_semantics.proofs.Facts.{put_all_length}
+use Rattle.pdl_theory_derived.specs.Alone.{is_nil, is_among, is_oldest, drop_var, but_last}
 use Rattle.pdl_theory_derived.specs.Derived
 use Rattle.pdl_theory_derived.specs.Derived.{Entry, Work, Around, around, port_free}
-use Rattle.pdl_theory_facts.specs.Scans.{Phase, Fresh, Held, Written as Filled, Done, after_release, next_phase, phase_all, holds_location, is_fresh}
+use Rattle.pdl_theory_facts.specs.Scans.{Phase, Fresh, after_write, after_reserve, after_release, may_write, is_new, next_phase, phase_all, write_reserves}
 use Rattle.pdl_theory_facts.specs.Facts.{Sound}
+use Rattle.pdl_theory_facts.proofs.Apart.{total, oldest_length, oldest_among}
 use Rattle.pdl_theory_derived.proofs.Writes.{and_left, and_right}
-use Rattle.pdl_theory_derived.proofs.Entries.{entry}
-use Rattle.pdl_theory_derived.proofs.Deeds.{places, places_has, work_of, AllFit, told_step}
+use Rattle.pdl_theory_derived.proofs.Entries.{entries_of, entry, Open, Full, waiting, known, open_vars, full_vars}
+use Rattle.pdl_theory_derived.proofs.Deeds.{AllFit, Loosely, loose_step}
 use Rattle.pdl_theory_derived.proofs.Lists.{own, pend}
-use Rattle.pdl_theory_turns.proofs.Steps.{Gone, Staged, Here, step_write, step_reserve, step_release, new_more}
+use Rattle.pdl_theory_turns.proofs.Steps.{is_used, Here, new_more, pend_append}
+use Rattle.pdl_theory_turns.proofs.OwnEntries.{pend_own}
 use Rattle.pdl_theory_turns.proofs.Surroundings.{AllIn, in_stage_all}
 use Rattle.pdl_theory_simulation.proofs.FlowFacts.{use_ok, uses_ok}
 use Rattle.pdl_theory_simulation.proofs.AcceptedFacts.{sound_flows}
-use Rattle.pdl_theory_simulation.proofs.Shapes.{shape_start}
-use Rattle.pdl_theory_simulation.proofs.Stretches.{Keeps, keeps_next}
+use Rattle.pdl_theory_simulation.proofs.Shapes.{Shape, shape_start}
+use Rattle.pdl_theory_simulation.proofs.Stretches.{Keeps, start_of, keeps_next}
+use Rattle.pdl_theory_simulation.proofs.StretchSteps.{step_if}
 use Rattle.pdl_theory_simulation.proofs.Seats.{Live, dacts, now_of, work_of_live, deeds_of}
-use Rattle.pdl_theory_simulation.proofs.Choices.{Known, keeps_now, fit_all, told_here}
+use Rattle.pdl_theory_simulation.proofs.Choices.{Known, keeps_now, fit_all, starts_here, like_here}
+use Rattle.pdl_lockapi.specs.Forget.{has_place, place_of}
 use Rattle.pdl_machine_facts.specs.Use.{in_time, is_early}
 use Rattle.pdl_machine_facts.proofs.StatementUses.{IsAlong, writes_to}
 use Rattle.pdl_theory_states.specs.Strict.{Strict}
-use Rattle.pdl_machine_lockuse.specs.Use.{written_in, is_open}
-use Rattle.pdl_machine_lockuse.proofs.Paths.{path, mine, passed, mine_uses, mine_early}
+use Rattle.pdl_theory_states.proofs.Releases.{is_done}
+use Rattle.pdl_theory_states.proofs.FetchCounts.{any_append}
+use Rattle.pdl_machine_lockuse.specs.Careful.{Careful}
+use Rattle.pdl_machine_lockuse.specs.Use.{written_in, is_open, AreOwn}
+use Rattle.pdl_machine_lockuse.proofs.Reservations.{one_if, times, uses, Single, single_fresh, single_all, single_op, uses_reserve, uses_write, uses_release, total_all, gone_few, reserves_append, reserved_all}
+use Rattle.pdl_machine_lockuse.proofs.Paths.{path, mine, passed, rest, whole, passed_uses, mine_uses, mine_early}
 use Rattle.pdl_machine_lockuse.proofs.Begins.{begun, begun_is, along_here}
-use Rattle.pdl_theory_states.proofs.FetchCounts.{any_front}
-
--- LISTS
-
-written_none : (m : ℕ) (ws : List Written) → writes_to m ws ≡ false → written_in m ws ≡ 0
-written_none m [] h = refl
-written_none m (w ∷ ws) h = at (w.mem == m) h (written_none m ws)
-  where
-    at : (b : Bool) → (b || writes_to m ws) ≡ false → (writes_to m ws ≡ false → written_in m ws ≡ 0) → cond b (suc (written_in m ws)) (written_in m ws) ≡ 0
-    at true i f = absurd (cc i)
-    at false i f = f i
-
-written_more : (m : ℕ) (ws : List Written) (w : Written) → written_in m (ws ++ w ∷ []) ≡ written_in m ws + written_in m (w ∷ [])
-written_more m [] w = omega arith
-written_more m (x ∷ ws) w = at (x.mem == m) (written_more m ws w)
-  where
-    at : (b : Bool) → written_in m (ws ++ w ∷ []) ≡ written_in m ws + written_in m (w ∷ [])
-        → cond b (suc (written_in m (ws ++ w ∷ []))) (written_in m (ws ++ w ∷ [])) ≡ cond b (suc (written_in m ws)) (written_in m ws) + written_in m (w ∷ [])
-    at true h = omega (arith, h)
-    at false h = h
-
--- what isn't written stays
-put_none : (m n : ℕ) (ws : List Written) (xs : List Pending) → writes_to m ws ≡ false → with_writes_of m n ws xs ≡ xs
-put_none m n [] xs h = refl
-put_none m n (w ∷ ws) xs h = at (w.mem == m) h (put_none m n ws xs)
-  where
-    at : (b : Bool) → (b || writes_to m ws) ≡ false → (writes_to m ws ≡ false → with_writes_of m n ws xs ≡ xs)
-        → with_writes_of m n ws (cond b (with_value_of n w.value xs) xs) ≡ xs
-    at true i f = absurd (cc i)
-    at false i f = f i
-
-last_write : (m : ℕ) (ws : List Written) (w : Written) (R : Type 0) → writes_to m (ws ++ w ∷ []) ≡ true → (writes_to m ws ≡ true → R)
-    → ((w.mem == m) ≡ true → R) → R
-last_write m [] w R h f g = g (or_false (w.mem == m) ∙ h)
-  where
-    or_false : (b : Bool) → b ≡ (b || false)
-    or_false true = refl
-    or_false false = refl
-last_write m (x ∷ ws) w R h f g = at (x.mem == m) h f (λ k l. last_write m ws w R k l g)
-  where
-    at : (b : Bool) → (b || writes_to m (ws ++ w ∷ [])) ≡ true → ((b || writes_to m ws) ≡ true → R)
-        → (writes_to m (ws ++ w ∷ []) ≡ true → (writes_to m ws ≡ true → R) → R) → R
-    at true k l r = l refl
-    at false k l r = r k l
-
--- where start was pending before, at most one write, into a pending write without value
-pub record Once (m n : ℕ) (start : List Pending) (d : Deeds) : Type 0 where
-  pub few : written_in m d.writes ≤ 1
-  pub unfilled : writes_to m d.writes ≡ true → is_open n (start ++ new_entries m n d.reserves) ≡ true
-
--- before the write there is none
-abbrev is_unwritten : Phase → Bool
-is_unwritten Fresh = true
-is_unwritten (Held x) = true
-is_unwritten _ = false
+use Rattle.pdl_machine_lockuse.proofs.OwnPlaces.{InTurn, written_more, turn_more, turn_grow, place_behind, puts_place, opens_back, oldest_first, pend_length, unused_place, names, names_append, given_own}
 
 -- what a stage does with a memory where start was pending before it, and in which phase it ends
 pub record Used (m n : ℕ) (start : List Pending) (d : Deeds) (ph : Phase) : Type 0 where
-  pub once : Once m n start d
-  pub gives : list_any (λ k. k == m) d.releases ≡ true
-      → (a : ℕ) × (v : ℕ) × (with_writes_of m n d.writes (start ++ new_entries m n d.reserves) ≡ own n (entry m 0 a (Some v)) ∷ [])
-  pub done : list_any (λ k. k == m) d.releases ≡ true → ph ≡ Done
+  pub before : ℕ
+  pub turns : InTurn m n (start ++ new_entries m n d.reserves) before d.writes
+  pub once : (y : ℕ) → names n y (start ++ new_entries m n d.reserves) ≤ 1
+  pub gives : AreOwn (releases_of m d.releases) n (with_writes_of m n d.writes (start ++ new_entries m n d.reserves))
+  pub done : (releases_of m d.releases ≡ 0 → ⊥) → is_done ph ≡ true
+  pub short : releases_of m d.releases ≤ length ph.gone
 
-module _ (o : Around) (read : ℕ → ℕ → ℕ) (block : Blocked → Bool) (room : Reserved → Bool) (free : Ask → Bool) (m n : ℕ) (start : List Pending) where
-  abbrev W : Deeds → List Entry → List Commit → Work
-  W d es cs = work_of o read block room free d es cs
-
+module _ (o : Around) (read : ℕ → ℕ → ℕ) (block : Blocked → Bool) (free : Ask → Bool) (m n : ℕ) (start : List Pending) (before : ℕ) where
   abbrev At : Phase → Deeds → Work → Type 0
-  At ph d w = Here o read block room free m n start ph d w
+  At ph d w = Here o read block free m n start ph d w
 
-  step_op : (op : Op) (ph : Phase) (d : Deeds) (es : List Entry) (cs : List Commit) → places es ≡ d.held → use_ok m ph op ≡ true → At ph d (W d es cs)
-      → At (next_phase m ph op) (deeds_after read op d) (Derived.work_after o op (W d es cs))
-  step_op (Write j a e) ph d es cs h k g = step_write m n j a (value_of e d.env) ph es (of_mem m cs) _ d.writes _ (j == m) refl k g
-  step_op (ReserveWrite j a) ph d es cs h k g = step_reserve m n j a (slice_index d.env a) ph es (of_mem m cs) start d.reserves d.writes _ (j == m) refl k g
-  step_op (Release j a) ph d es cs h k g =
-      step_release m n j a ph es cs _ d.writes d.releases (is_held d.held j a) (ap (λ l. is_held l j a) (sym h) ∙ places_has es j a) (j == m) refl k g
-  step_op (Verify args) ph d es cs h k g = at (same_args (values_of args d.env) d.guess)
-    where
-      at : (b : Bool)
-          → At ph (cond b d (record d { child = Some (values_of args d.env); fails = true }))
-          (cond b (W d es cs) (record (W d es cs) { child = Some (values_of args d.env); fails = true }))
-      at true = g
-      at false = g
-  step_op _ ph d es cs h k g = g
+  -- a thread's pending writes of m, those of this stage's reservations included
+  abbrev all : Deeds → List Pending
+  all d = start ++ new_entries m n d.reserves
 
-  -- a thread that has written to m has done so once
+  -- each location has one pending write, and the writes went into them one after the other
   pub record Wrote (ph : Phase) (d : Deeds) : Type 0 where
-    pub none : is_unwritten ph ≡ true → writes_to m d.writes ≡ false
-    pub once : Once m n start d
+    pub single : Single ph
+    pub named : (y : ℕ) → names n y (all d) ≤ uses ph y
+    pub made : length ph.unwritten + (before + written_in m d.writes) ≡ length (all d)
+    pub turns : InTurn m n (all d) before d.writes
 
-  -- the pending write that is held has no value
-  held_open : (ph : Phase) (a : ℕ) (es : List Entry) (cs : List Commit) (new : List Pending) (ws : List Written) (rel : Bool) → holds_location ph a ≡ true
-      → (is_unwritten ph ≡ true → writes_to m ws ≡ false) → Staged m n ph es cs new ws rel
-      → (writes_to m ws ≡ false) × (is_open n new ≡ true)
-  held_open Fresh a es cs new ws rel h f g = absurd (false≢true h)
-  held_open (Held x) a es cs new ws rel h f g =
-      (f refl, ap (is_open n) (sym (put_none m n ws new (f refl)) ∙ g.3) ∙ ap (λ b. (b && true) || false) (eq-eqb n n refl))
-  held_open (Filled x) a es cs new ws rel h f g = absurd (false≢true h)
-  held_open Done a es cs new ws rel h f g = absurd (false≢true h)
+  puts_length : (ws : List Written) (es : List Pending) → length (with_writes_of m n ws es) ≡ length es
+  puts_length ws es = put_all_length m n ws es
 
-  write_next : (j a v : ℕ) (ph : Phase) (d : Deeds) (es : List Entry) (cs : List Commit) → (b : Bool) → (j == m) ≡ b → (not b || holds_location ph a) ≡ true
-      → At ph d (W d es cs) → Wrote ph d → Wrote (cond b (Filled a) ph) (record d { writes = d.writes ++ record { mem = j; value = v } ∷ [] })
-  write_next j a v ph d es cs true e k g w =
-      let h = held_open ph a _ _ _ _ _ k w.none g in
-      let many = written_more m d.writes (record { mem = j; value = v }) in
-      let before = written_none m d.writes h.0 in
-      let mine : written_in m (record { mem = j; value = v } ∷ []) ≡ 1 = ap (λ b. cond b 1 0) e in
-      record { none = λ i. absurd (false≢true i); once = record { few = omega (arith, many, before, mine); unfilled = λ i. h.1 } }
-  write_next j a v ph d es cs false e k g w =
-      let many = written_more m d.writes (record { mem = j; value = v }) in
-      let mine : written_in m (record { mem = j; value = v } ∷ []) ≡ 0 = ap (λ b. cond b 1 0) e in
-      let few = w.once.few in
-      record {
-        none = λ i. off (writes_to m (d.writes ++ record { mem = j; value = v } ∷ [])) refl (w.none i);
-        once = record { few = omega (arith, many, mine, few); unfilled = λ i. w.once.unfilled (last i) };
-      }
+  -- the location that is written has the first pending write without value
+  next_place : (a : ℕ) (ph : Phase) (d : Deeds) (v : Work) → may_write ph a ≡ true → At ph d v → Wrote ph d
+      → (is_open n a (all d) ≡ true) × (has_place n a (all d) ≡ true) × (place_of n a (all d) ≡ before + written_in m d.writes)
+  next_place a ph d v h g w = (
+    opens_back m n a n d.writes (all d)
+        (ap (is_open n a) two ∙ any_append _ (g.out ++ g.rest) (pend m n (waiting m g.opens)) first.0),
+    sym (puts_place m n a n d.writes (all d)).0 ∙ ap (has_place n a) two ∙ behind.0 ∙ first.1,
+    sym (puts_place m n a n d.writes (all d)).1 ∙ ap (place_of n a) two ∙ behind.1 ∙ counted first.2,
+  )
     where
-      last : writes_to m (d.writes ++ record { mem = j; value = v } ∷ []) ≡ true → writes_to m d.writes ≡ true
-      last i = last_write m d.writes (record { mem = j; value = v }) (writes_to m d.writes ≡ true) i (λ r. r) (λ r. absurd (false≢true (sym e ∙ r)))
+      two : with_writes_of m n d.writes (all d) ≡ (g.out ++ g.rest) ++ pend m n (waiting m g.opens)
+      two = g.two ∙ sym (append_assoc g.out g.rest (pend m n (waiting m g.opens)))
 
-      off : (b : Bool) → writes_to m (d.writes ++ record { mem = j; value = v } ∷ []) ≡ b → writes_to m d.writes ≡ false
-          → writes_to m (d.writes ++ record { mem = j; value = v } ∷ []) ≡ false
-      off true i r = absurd (false≢true (sym r ∙ last i))
-      off false i r = i
+      first : (is_open n a (pend m n (waiting m g.opens)) ≡ true) × (has_place n a (pend m n (waiting m g.opens)) ≡ true)
+          × (place_of n a (pend m n (waiting m g.opens)) ≡ 0)
+      first = oldest_first m n a g.opens (ap (is_oldest a) g.at_open ∙ h)
 
-  -- the other statements write nothing
-  wrote_same : (ph ph' : Phase) (d : Deeds) → (is_unwritten ph' ≡ true → is_unwritten ph ≡ true) → Wrote ph d → Wrote ph' d
-  wrote_same ph ph' d f w = record { none = λ i. w.none (f i); once = w.once }
+      unused : is_used ph a ≡ false
+      unused = let i = g.apart a (oldest_among a ph.unwritten h) in ap₂ (λ b c. b || c) i.0 i.1
 
-  release_back : (ph : Phase) (a : ℕ) → is_unwritten (after_release ph a) ≡ true → is_unwritten ph ≡ true
-  release_back Fresh a h = refl
-  release_back (Held x) a h = refl
-  release_back (Filled x) a h = by (x == a) h
-    where
-      by : (b : Bool) → is_unwritten (cond b Done (Filled x)) ≡ true → false ≡ true
-      by true i = i
-      by false i = i
-  release_back Done a h = h
+      behind : (has_place n a ((g.out ++ g.rest) ++ pend m n (waiting m g.opens)) ≡ has_place n a (pend m n (waiting m g.opens)))
+          × (place_of n a ((g.out ++ g.rest) ++ pend m n (waiting m g.opens))
+          ≡ length (g.out ++ g.rest) + place_of n a (pend m n (waiting m g.opens)))
+      behind = place_behind n a (g.out ++ g.rest) (pend m n (waiting m g.opens)) (unused_place ph n a (g.out ++ g.rest) unused g.used)
 
-  wrote_next : (op : Op) (ph : Phase) (d : Deeds) (es : List Entry) (cs : List Commit) → use_ok m ph op ≡ true → At ph d (W d es cs) → Wrote ph d
-      → Wrote (next_phase m ph op) (deeds_after read op d)
-  wrote_next (Write j a e) ph d es cs k g w = write_next j a (value_of e d.env) ph d es cs (j == m) refl k g w
-  wrote_next (ReserveWrite j a) ph d es cs k g w = record {
-    none = λ i. w.none (at (j == m) k i);
-    once = record {
-      few = w.once.few;
-      unfilled =
-          λ i. ap (λ l. is_open n (start ++ l)) (new_more m n d.reserves (record { mem = j; address = slice_index d.env a }))
-          ∙ ap (is_open n) (sym (append_assoc start (new_entries m n d.reserves) _)) ∙ any_front _ (start ++ new_entries m n d.reserves) _ (w.once.unfilled i);
-    };
+      counted : place_of n a (pend m n (waiting m g.opens)) ≡ 0
+          → length (g.out ++ g.rest) + place_of n a (pend m n (waiting m g.opens)) ≡ before + written_in m d.writes
+      counted z =
+          sums (length (g.out ++ g.rest)) (place_of n a (pend m n (waiting m g.opens))) (length ph.unwritten) (before + written_in m d.writes)
+          (length (all d)) z w.made
+          (sym (puts_length d.writes (all d)) ∙ ap length two ∙ length-append (g.out ++ g.rest) (pend m n (waiting m g.opens))
+          ∙ ap (λ k. length (g.out ++ g.rest) + k) (pend_length m n g.opens ∙ ap length g.at_open))
+        where
+          sums : (i j u b l : ℕ) → j ≡ 0 → u + b ≡ l → l ≡ i + u → i + j ≡ b
+          sums i j u b l e f k = omega (arith, e, f, k)
+
+  write_next : (j a v : ℕ) (ph : Phase) (d : Deeds) (q : Work) → (b : Bool) → (j == m) ≡ b → (not b || may_write ph a) ≡ true
+      → At ph d q → Wrote ph d
+      → Wrote (cond b (after_write ph a) ph) (record d { writes = d.writes ++ record { mem = j; var = a; value = v } ∷ [] })
+  write_next j a v ph d q true e k g w = record {
+    single = λ x. subst (λ i. i ≤ 1) (sym (uses_write ph a x k)) (w.single x);
+    named = λ y. subst (λ i. names n y (all d) ≤ i) (sym (uses_write ph a y k)) (w.named y);
+    made =
+        one (length (but_last ph.unwritten)) (length ph.unwritten) (written_in m d.writes)
+        (written_in m (d.writes ++ record { mem = j; var = a; value = v } ∷ []))
+        (length (all d)) (oldest_length a ph.unwritten k)
+        (written_more m d.writes (record { mem = j; var = a; value = v }) ∙ ap (λ c. written_in m d.writes + one_if c) e)
+        w.made;
+    turns = turn_more m n (all d) before d.writes (record { mem = j; var = a; value = v }) w.turns (λ i. next_place a ph d q k g w);
   }
     where
-      fresh : (q : Phase) → is_fresh q ≡ true → is_unwritten q ≡ true
-      fresh Fresh i = refl
-      fresh (Held x) i = refl
-      fresh (Filled x) i = i
-      fresh Done i = i
+      one : (i u f t l : ℕ) → i + 1 ≡ u → t ≡ f + 1 → u + (before + f) ≡ l → i + (before + t) ≡ l
+      one i u f t l q r s = omega (arith, q, r, s)
+  write_next j a v ph d q false e k g w = record {
+    single = w.single;
+    named = w.named;
+    made =
+        none (length ph.unwritten) (written_in m d.writes) (written_in m (d.writes ++ record { mem = j; var = a; value = v } ∷ [])) (length (all d))
+        (written_more m d.writes (record { mem = j; var = a; value = v }) ∙ ap (λ c. written_in m d.writes + one_if c) e) w.made;
+    turns = turn_more m n (all d) before d.writes (record { mem = j; var = a; value = v }) w.turns (λ i. absurd (false≢true (sym e ∙ i)));
+  }
+    where
+      none : (u f t l : ℕ) → t ≡ f + 0 → u + (before + f) ≡ l → u + (before + t) ≡ l
+      none u f t l r s = omega (arith, r, s)
 
-      at : (b : Bool) → (not b || is_fresh ph) ≡ true → is_unwritten (cond b (Held a) ph) ≡ true → is_unwritten ph ≡ true
-      at true i j = fresh ph i
-      at false i j = j
-  wrote_next (Release j a) ph d es cs k g w = record { none = λ i. w.none (at (j == m) i); once = record { few = w.once.few; unfilled = w.once.unfilled } }
+  reserve_next : (j a : ℕ) (ph : Phase) (d : Deeds) → (b : Bool) → (j == m) ≡ b → (not b || is_new ph a) ≡ true → Wrote ph d
+      → Wrote (cond b (after_reserve ph a) ph) (deeds_after read (ReserveWrite j a) d)
+  reserve_next j a ph d b e k w = at b e k
     where
-      at : (b : Bool) → is_unwritten (cond b (after_release ph a) ph) ≡ true → is_unwritten ph ≡ true
-      at true i = release_back ph a i
-      at false i = i
-  wrote_next (Verify args) ph d es cs k g w = at (same_args (values_of args d.env) d.guess)
+      single_new : (m : ℕ) (ph : Phase) (a : ℕ) → is_new ph a ≡ true → Single ph → Single (after_reserve ph a)
+      single_new m ph a h s =
+          subst (λ b. Single (cond b (after_reserve ph a) ph)) (eq-eqb m m refl)
+          (single_op m ph (ReserveWrite m a) (ap (λ b. not b || is_new ph a) (eq-eqb m m refl) ∙ h) s)
+
+      more : List Pending
+      more = cond (j == m) (record { thread = n; var = a; address = slice_index d.env a; value = None } ∷ []) []
+
+      grown : all (deeds_after read (ReserveWrite j a) d) ≡ all d ++ more
+      grown =
+          ap (λ l. start ++ l) (new_more m n d.reserves (record { mem = j; var = a; address = slice_index d.env a }))
+          ∙ sym (append_assoc start (new_entries m n d.reserves) more)
+
+      named_more : (y : ℕ) → names n y (all (deeds_after read (ReserveWrite j a) d)) ≡ names n y (all d) + names n y more
+      named_more y = ap (names n y) grown ∙ names_append n y (all d) more
+
+      long_more : length (all (deeds_after read (ReserveWrite j a) d)) ≡ length (all d) + length more
+      long_more = ap length grown ∙ length-append (all d) more
+
+      turns_more : InTurn m n (all (deeds_after read (ReserveWrite j a) d)) before d.writes
+      turns_more = subst (λ l. InTurn m n l before d.writes) (sym grown) (turn_grow m n (all d) more before d.writes w.turns)
+
+      at : (b : Bool) → (j == m) ≡ b → (not b || is_new ph a) ≡ true → Wrote (cond b (after_reserve ph a) ph) (deeds_after read (ReserveWrite j a) d)
+      at true e k = record {
+        single = single_new m ph a k w.single;
+        named = λ y. subst (λ i. names n y (all (deeds_after read (ReserveWrite j a) d)) ≤ i) (sym (uses_reserve ph a y))
+            (add (names n y (all (deeds_after read (ReserveWrite j a) d))) (names n y (all d)) (names n y more) (one_if (a == y)) (uses ph y)
+            (named_more y) (one y) (w.named y));
+        made =
+            longer (length (all (deeds_after read (ReserveWrite j a) d))) (length (all d)) (length more) (length ph.unwritten) (before + written_in m d.writes)
+            long_more (ap (λ c. length {A = Pending} (cond c (record { thread = n; var = a; address = slice_index d.env a; value = None } ∷ []) [])) e) w.made;
+        turns = turns_more;
+      }
+        where
+          one : (y : ℕ) → names n y more ≡ one_if (a == y) + 0
+          one y =
+              ap (λ c. names n y (cond c (record { thread = n; var = a; address = slice_index d.env a; value = None } ∷ []) [])) e
+              ∙ ap (λ c. one_if (c && (a == y)) + 0) (eq-eqb n n refl)
+
+          add : (t i j u s : ℕ) → t ≡ i + j → j ≡ u + 0 → i ≤ s → t ≤ u + s
+          add t i j u s e f h = omega (arith, e, f, h)
+
+          longer : (t i j u s : ℕ) → t ≡ i + j → j ≡ 1 → u + s ≡ i → suc u + s ≡ t
+          longer t i j u s e f h = omega (arith, e, f, h)
+      at false e k = record {
+        single = w.single;
+        named = λ y. same (names n y (all (deeds_after read (ReserveWrite j a) d))) (names n y (all d)) (names n y more) (uses ph y)
+            (named_more y)
+            (ap (λ c. names n y (cond c (record { thread = n; var = a; address = slice_index d.env a; value = None } ∷ []) [])) e) (w.named y);
+        made =
+            still (length (all (deeds_after read (ReserveWrite j a) d))) (length (all d)) (length more) (length ph.unwritten + (before + written_in m d.writes))
+            long_more (ap (λ c. length {A = Pending} (cond c (record { thread = n; var = a; address = slice_index d.env a; value = None } ∷ []) [])) e) w.made;
+        turns = turns_more;
+      }
+        where
+          same : (t i j s : ℕ) → t ≡ i + j → j ≡ 0 → i ≤ s → t ≤ s
+          same t i j s e f h = omega (arith, e, f, h)
+
+          still : (t i j s : ℕ) → t ≡ i + j → j ≡ 0 → s ≡ i → s ≡ t
+          still t i j s e f h = omega (arith, e, f, h)
+
+  wrote_next : (op : Op) (ph : Phase) (d : Deeds) (v : Work) → use_ok m ph op ≡ true → At ph d v → Wrote ph d
+      → Wrote (next_phase m ph op) (deeds_after read op d)
+  wrote_next (Write j a e) ph d v k g w = write_next j a (value_of e d.env) ph d v (j == m) refl k g w
+  wrote_next (ReserveWrite j a) ph d v k g w = reserve_next j a ph d (j == m) refl k w
+  wrote_next (Release j a) ph d v k g w = at (j == m)
     where
-      at : (b : Bool) → Wrote ph (cond b d (record d { child = Some (values_of args d.env); fails = true }))
+      opens : (b : Bool)
+          → (if b then record { unwritten = ph.unwritten; full = drop_var a ph.full; gone = a ∷ ph.gone } else ph).unwritten ≡ ph.unwritten
+      opens true = refl
+      opens false = refl
+
+      at : (b : Bool) → Wrote (cond b (after_release ph a) ph) (deeds_after read (Release j a) d)
+      at true = record {
+        single = λ x. subst (λ i. i ≤ 1) (sym (uses_release ph a x)) (w.single x);
+        named = λ y. subst (λ i. names n y (all d) ≤ i) (sym (uses_release ph a y)) (w.named y);
+        made = ap (λ l. length l + (before + written_in m d.writes)) (opens (is_among a ph.full)) ∙ w.made;
+        turns = w.turns;
+      }
+      at false = record { single = w.single; named = w.named; made = w.made; turns = w.turns }
+  wrote_next (Verify last args) ph d v k g w = at (same_args (checked_args last args d) d.guess)
+    where
+      at : (b : Bool) → Wrote ph (cond b d (record d { child = Some (checked_args last args d); guess = checked_args last args d; fails = true }))
       at true = w
-      at false = record { none = w.none; once = record { few = w.once.few; unfilled = w.once.unfilled } }
-  wrote_next _ ph d es cs k g w = record { none = w.none; once = record { few = w.once.few; unfilled = w.once.unfilled } }
+      at false = record { single = w.single; named = w.named; made = w.made; turns = w.turns }
+  wrote_next _ ph d v k g w = record { single = w.single; named = w.named; made = w.made; turns = w.turns }
 
   -- at the end
   in_end : (ph : Phase) (d : Deeds) (w : Work) → At ph d w → Wrote ph d → Used m n start d ph
-  in_end Fresh d w g h = record { once = h.once; gives = λ e. absurd (false≢true (sym g.4 ∙ e)); done = λ e. absurd (false≢true (sym g.4 ∙ e)) }
-  in_end (Held x) d w g h = record { once = h.once; gives = λ e. absurd (false≢true (sym g.4 ∙ e)); done = λ e. absurd (false≢true (sym g.4 ∙ e)) }
-  in_end (Filled x) d w g h = record { once = h.once; gives = λ e. absurd (false≢true (sym g.5 ∙ e)); done = λ e. absurd (false≢true (sym g.5 ∙ e)) }
-  in_end Done d w g h = by g.1
+  in_end ph d w g h = record {
+    before = before;
+    turns = h.turns;
+    once = λ y. low (h.named y) (h.single y);
+    gives = subst (λ xs. AreOwn (releases_of m d.releases) n xs) (sym g.two)
+        (subst (λ k. AreOwn k n (g.out ++ (g.rest ++ pend m n (waiting m g.opens)))) g.outs
+        (given_own n g.out (g.rest ++ pend m n (waiting m g.opens)) g.given));
+    short = subst (λ k. k ≤ length ph.gone) g.outs g.let_go;
+    done = λ f. gone ph.gone (λ e. f (sym g.outs ∙ e)) g.let_go;
+  }
     where
-      by : Gone m n (of_mem m w.commits) (with_writes_of m n d.writes (start ++ new_entries m n d.reserves)) (list_any (λ k. k == m) d.releases)
-          → Used m n start d Done
-      by (inl q) = record { once = h.once; gives = λ e. absurd (false≢true (sym q.2 ∙ e)); done = λ e. refl }
-      by (inr q) = record { once = h.once; gives = λ e. (q.0, q.1, q.3); done = λ e. refl }
+      low : {i j : ℕ} → i ≤ j → j ≤ 1 → i ≤ 1
+      low e f = omega (arith, e, f)
+
+      gone : (xs : List ℕ) → (length g.out ≡ 0 → ⊥) → length g.out ≤ length xs → not (is_nil xs) ≡ true
+      gone [] f e = absurd (f (omega (arith, e)))
+      gone (x ∷ xs) f e = refl
 
   -- statements that write and release a memory in order on a path use it as they should, up to the phase after all of them
-  pub used_all : (path : List ℕ) (xs : List Stmt) (ph : Phase) (d : Deeds) (es : List Entry) (cs : List Commit)
-      → places es ≡ d.held → AllFit o read block room free xs → IsAlong path read xs d
-      → uses_ok m ph (onpath path xs) ≡ true → At ph d (W d es cs) → Wrote ph d
+  pub used_all : (path : List ℕ) (xs : List Stmt) (ph : Phase) (d : Deeds) (v : Work)
+      → Loosely o read block free d v → AllFit o read block free xs → IsAlong path read xs d
+      → uses_ok m ph (onpath path xs) ≡ true → At ph d v → Wrote ph d
       → Used m n start (deeds_after_all read xs d) (phase_all m ph (onpath path xs))
-  used_all path [] ph d es cs h i f k g w = in_end ph d (W d es cs) g w
-  used_all path (x ∷ xs) ph d es cs h i f k g w =
-      at (all_hold x.guards d.env) (all_hold x.guards path) f.0 f.1 k (λ ph d es cs h f k g w. used_all path xs ph d es cs h i.1 f k g w)
+  used_all path [] ph d v l i f k g w = in_end ph d v g w
+  used_all path (x ∷ xs) ph d v l i f k g w =
+      at (all_hold x.guards d.env) (all_hold x.guards path) f.0 f.1 k (λ ph d v l f k g w. used_all path xs ph d v l i.1 f k g w)
     where
       at : (b c : Bool) → b ≡ c → IsAlong path read xs (cond b (deeds_after read x.op d) d)
           → uses_ok m ph (cond c (record x { guards = [] } ∷ onpath path xs) (onpath path xs)) ≡ true
           →
-          ((ph : Phase) (d : Deeds) (es : List Entry) (cs : List Commit) → places es ≡ d.held → IsAlong path read xs d
-          → uses_ok m ph (onpath path xs) ≡ true → At ph d (W d es cs) → Wrote ph d
+          ((ph : Phase) (d : Deeds) (v : Work) → Loosely o read block free d v → IsAlong path read xs d
+          → uses_ok m ph (onpath path xs) ≡ true → At ph d v → Wrote ph d
           → Used m n start (deeds_after_all read xs d) (phase_all m ph (onpath path xs)))
           → Used m n start (deeds_after_all read xs (cond b (deeds_after read x.op d) d))
           (phase_all m ph (cond c (record x { guards = [] } ∷ onpath path xs) (onpath path xs)))
       at true false e f k go = absurd (cc e)
       at false true e f k go = absurd (cc e)
-      at false false e f k go = go ph d es cs h f k g w
+      at false false e f k go = go ph d v l f k g w
       at true true e f k go =
-          let t = told_step o read block room free true x.op d es cs h i.0 in
           let ok : use_ok m ph x.op ≡ true = and_left (use_ok m ph x.op) (uses_ok m (next_phase m ph x.op) (onpath path xs)) k in
-          let w' : Work = Derived.work_after o x.op (W d es cs) in
-          let g' : At (next_phase m ph x.op) (deeds_after read x.op d) (W (deeds_after read x.op d) w'.entries w'.commits) =
-          subst (λ v. At (next_phase m ph x.op) (deeds_after read x.op d) v) t.is (step_op x.op ph d es cs h ok g) in
-          go (next_phase m ph x.op) (deeds_after read x.op d) w'.entries w'.commits t.held f
-          (and_right (use_ok m ph x.op) (uses_ok m (next_phase m ph x.op) (onpath path xs)) k) g' (wrote_next x.op ph d es cs ok g w)
+          go (next_phase m ph x.op) (deeds_after read x.op d) (Derived.work_after o x.op v) (loose_step o read block free true x.op d v i.0 l) f
+          (and_right (use_ok m ph x.op) (uses_ok m (next_phase m ph x.op) (onpath path xs)) k)
+          (step_if o read block free m n start true x.op ph d v l (λ _. ok) g) (wrote_next x.op ph d v ok g w)
 
 -- WRITES IN TIME
 
@@ -255,9 +282,10 @@ module _ (p : Pipe) (k : ℕ) (read : ℕ → ℕ → ℕ) (path : List ℕ) whe
 
   one : (op : Op) (d : Deeds) → in_time p k op ≡ true → list_all is_timely d.writes ≡ true → list_all is_timely (deeds_after read op d).writes ≡ true
   one (Write m a e) d g h = all_last d.writes _ h g
-  one (Verify args) d g h = at (same_args (values_of args d.env) d.guess)
+  one (Verify last args) d g h = at (same_args (checked_args last args d) d.guess)
     where
-      at : (b : Bool) → list_all is_timely (cond b d (record d { child = Some (values_of args d.env); fails = true })).writes ≡ true
+      at : (b : Bool)
+          → list_all is_timely (cond b d (record d { child = Some (checked_args last args d); guess = checked_args last args d; fails = true })).writes ≡ true
       at true = h
       at false = h
   one _ d g h = h
@@ -292,7 +320,7 @@ module _ (p : Pipe) (k : ℕ) (read : ℕ → ℕ → ℕ) (path : List ℕ) whe
 -- A LIVE THREAD
 
 module _ (p : Pipe) (sound : Sound p) (st : State) (d : Derived.State) (bits : List Bool)
-    (arrays : st.arrays ≡ d.arrays) (older : List Live) (l : Live)
+    (arrays : DifferInAdvice p st.arrays d.arrays) (older : List Live) (l : Live)
     (k : Known p (sound_flows p sound) st d bits arrays older l) where
   abbrev way : List ℕ
   way = path p sound st d bits arrays older l k
@@ -307,7 +335,7 @@ module _ (p : Pipe) (sound : Sound p) (st : State) (d : Derived.State) (bits : L
   keeps = keeps_now p (sound_flows p sound) st d bits arrays l k.seated
 
   abbrev o : Around
-  o = around p d bits (dacts p d bits older) l.thread.stage
+  o = around p d bits (dacts p d bits older) l.thread.stage l.thread.hint
 
   did_is : deeds_of p st bits l ≡ deeds_after_all (word_for st l.number) (in_stage l.thread.stage p.stmts) (begun p sound st d bits arrays older l k)
   did_is = ap (deeds_after_all (word_for st l.number) (in_stage l.thread.stage p.stmts)) (begun_is p sound st d bits arrays older l k)
@@ -321,14 +349,121 @@ module _ (p : Pipe) (sound : Sound p) (st : State) (d : Derived.State) (bits : L
       (λ e. Used m l.number (pend m l.number l.thread.entries) e (phase_all m (phase_all m Fresh done) mine_here))
       (sym did_is)
       (used_all o (word_for st l.number) (λ b. block_ready p st l.number b)
-      (λ r. has_room (mem_at p r.mem).lock (length (lock_of st r.mem)))
-      (λ q. port_free p d bits (dacts p d bits older) q.mem) m l.number (pend m l.number l.thread.entries)
+      (λ q. port_free p d bits (dacts p d bits older) q.mem) m l.number (pend m l.number l.thread.entries) (length (phase_all m Fresh done).full)
       way (in_stage l.thread.stage p.stmts) (phase_all m Fresh done)
-      (begun p sound st d bits arrays older l k) l.thread.entries []
-      k.seated.keeps_on.held (fit_all p (sound_flows p sound) st d bits arrays older l k) (along_here p sound st d bits arrays older l k)
+      (begun p sound st d bits arrays older l k) (start_of (now_of p d bits l))
+      (starts_here p (sound_flows p sound) st d bits arrays older l k) (fit_all p (sound_flows p sound) st d bits arrays older l k)
+      (along_here p sound st d bits arrays older l k)
       (mine_uses p sound st d bits arrays older l k m)
       (shape_start m l.number (phase_all m Fresh done) l.thread.entries (k.seated.keeps_on.shape m))
-      (record { none = λ h. refl; once = record { few = omega arith; unfilled = λ h. absurd (false≢true h) } }))
+      (record {
+        single = started;
+        named = λ y. start_names (phase_all m Fresh done) l.thread.entries y (k.seated.keeps_on.shape m);
+        made = start_length (phase_all m Fresh done) l.thread.entries (k.seated.keeps_on.shape m);
+        turns = tt;
+      }))
+    where
+      started : Single (phase_all m Fresh done)
+      started = single_all m Fresh done (passed_uses p sound st d bits arrays older l k m) single_fresh
+
+      front : (i j k : ℕ) → i + (j + k) ≡ (i + j) + k
+      front i j k = omega arith
+
+      known_names : (fs : List Full) (y : ℕ) → names l.number y (pend m l.number (known m fs)) ≡ times y (full_vars fs)
+      known_names [] y = refl
+      known_names (f ∷ fs) y =
+          ap (λ b. names l.number y (pend m l.number (known m fs) ++ cond b (own l.number (entry m f.var f.address (Some f.value)) ∷ []) [])) (eq-eqb m m refl)
+          ∙ names_append l.number y (pend m l.number (known m fs)) (own l.number (entry m f.var f.address (Some f.value)) ∷ [])
+          ∙ ap₂ (λ i b. i + (one_if (b && (f.var == y)) + 0)) (known_names fs y) (eq-eqb l.number l.number refl)
+          ∙ turn (times y (full_vars fs)) (one_if (f.var == y))
+        where
+          turn : (i j : ℕ) → i + (j + 0) ≡ j + i
+          turn i j = omega arith
+
+      waiting_names : (os : List Open) (fs : List Full) (y : ℕ)
+          → names l.number y (pend m l.number (waiting m os ++ known m fs)) ≡ times y (open_vars os) + times y (full_vars fs)
+      waiting_names [] fs y = known_names fs y ∙ zero (times y (full_vars fs))
+        where
+          zero : (i : ℕ) → i ≡ 0 + i
+          zero i = omega arith
+      waiting_names (o ∷ os) fs y =
+          ap (λ b. names l.number y (pend m l.number (waiting m os ++ known m fs) ++ cond b (own l.number (entry m o.var o.address None) ∷ []) []))
+          (eq-eqb m m refl)
+          ∙ names_append l.number y (pend m l.number (waiting m os ++ known m fs)) (own l.number (entry m o.var o.address None) ∷ [])
+          ∙ ap₂ (λ i b. i + (one_if (b && (o.var == y)) + 0)) (waiting_names os fs y) (eq-eqb l.number l.number refl)
+          ∙ turn (times y (open_vars os)) (times y (full_vars fs)) (one_if (o.var == y))
+        where
+          turn : (i j k : ℕ) → (i + j) + (k + 0) ≡ (k + i) + j
+          turn i j k = omega arith
+
+      start_names : (ph : Phase) (es : List Entry) (y : ℕ) → Shape m ph (entries_of m es)
+          → names l.number y (pend m l.number es ++ []) ≤ uses ph y
+      start_names ph es y s =
+          low (times y ph.unwritten) (times y ph.full) (times y ph.gone) (names l.number y (pend m l.number es ++ []))
+          (ap (names l.number y) (append-nil (pend m l.number es) ∙ pend_own m l.number es ∙ ap (pend m l.number) s.entries)
+          ∙ waiting_names s.opens s.fulls y ∙ ap₂ (λ a b. times y a + times y b) s.at_open s.at_full)
+        where
+          low : (i j k n : ℕ) → n ≡ i + j → n ≤ i + (j + k)
+          low i j k n e = omega (arith, e)
+
+      known_length : (fs : List Full) → length (pend m l.number (known m fs)) ≡ length (full_vars fs)
+      known_length [] = refl
+      known_length (f ∷ fs) =
+          ap (λ b. length (pend m l.number (known m fs) ++ cond b (own l.number (entry m f.var f.address (Some f.value)) ∷ []) [])) (eq-eqb m m refl)
+          ∙ length-append (pend m l.number (known m fs)) (own l.number (entry m f.var f.address (Some f.value)) ∷ [])
+          ∙ one (length (pend m l.number (known m fs))) (length (full_vars fs)) (known_length fs)
+        where
+          one : (i j : ℕ) → i ≡ j → i + 1 ≡ suc j
+          one i j e = omega (arith, e)
+
+      start_length : (ph : Phase) (es : List Entry) → Shape m ph (entries_of m es)
+          → length ph.unwritten + (length ph.full + 0) ≡ length (pend m l.number es ++ [])
+      start_length ph es s =
+          sym
+          (ap length (append-nil (pend m l.number es) ∙ pend_own m l.number es ∙ ap (pend m l.number) s.entries
+          ∙ pend_append m l.number (waiting m s.opens) (known m s.fulls))
+          ∙ length-append (pend m l.number (known m s.fulls)) (pend m l.number (waiting m s.opens))
+          ∙ ap₂ (λ i j. i + j) (known_length s.fulls ∙ ap length s.at_full) (pend_length m l.number s.opens ∙ ap length s.at_open)
+          ∙ turn (length ph.full) (length ph.unwritten))
+        where
+          turn : (i j : ℕ) → i + j ≡ j + (i + 0)
+          turn i j = omega arith
+
+  -- the statements of its path reserve a memory for writing at most twice
+  all_few : Careful p → (m : ℕ) → m < length p.mems → write_reserves m done + (write_reserves m mine_here) ≤ 2
+  all_few careful m low =
+      let few = careful.few way m low in
+      let all = ap (write_reserves m) (whole p sound st d bits arrays older l k) in
+      let first = reserves_append m done (mine_here ++ rest p sound st d bits arrays older l k) in
+      let second = reserves_append m mine_here (rest p sound st d bits arrays older l k) in
+      omega (arith, few, all, first, second)
+
+  -- so the thread reserves at most two
+  pub few_reserves : Careful p → (m : ℕ) → m < length p.mems → reserves_of m (deeds_of p st bits l).reserves ≤ 2
+  few_reserves careful m low =
+      let all = all_few careful m low in
+      let here = ap (λ (e : Deeds). reserves_of m e.reserves) did_is
+      ∙ reserved_all m way (word_for st l.number) (in_stage l.thread.stage p.stmts) (begun p sound st d bits arrays older l k)
+      (along_here p sound st d bits arrays older l k) in
+      low_of (write_reserves m done) (write_reserves m mine_here) (reserves_of m (deeds_of p st bits l).reserves) here all
+    where
+      low_of : (i j r : ℕ) → r ≡ 0 + j → i + j ≤ 2 → r ≤ 2
+      low_of i j r e h = omega (arith, e, h)
+
+  -- and releases at most two
+  pub few_releases : Careful p → (m : ℕ) → m < length p.mems → releases_of m (deeds_of p st bits l).releases ≤ 2
+  few_releases careful m low =
+      let all = all_few careful m low in
+      let gone = (used_here m).short in
+      let more = gone_few (phase_all m (phase_all m Fresh done) mine_here) in
+      let second = total_all m (phase_all m Fresh done) mine_here (mine_uses p sound st d bits arrays older l k m) in
+      let first = total_all m Fresh done (passed_uses p sound st d bits arrays older l k m) in
+      low_of (write_reserves m done) (write_reserves m mine_here) (total (phase_all m Fresh done))
+      (total (phase_all m (phase_all m Fresh done) mine_here)) (length (phase_all m (phase_all m Fresh done) mine_here).gone)
+      (releases_of m (deeds_of p st bits l).releases) first second more gone all
+    where
+      low_of : (i j a b g r : ℕ) → a ≡ 0 + i → b ≡ a + j → g ≤ b → r ≤ g → i + j ≤ 2 → r ≤ 2
+      low_of i j a b g r e f h k l = omega (arith, e, f, h, k, l)
 
   -- a thread writes no later than the releases
   pub writes_early : Strict p → (m : ℕ) → writes_to m (deeds_of p st bits l).writes ≡ true → l.thread.stage ≤ commit_stage p m
@@ -348,7 +483,7 @@ module _ (p : Pipe) (sound : Sound p) (st : State) (d : Derived.State) (bits : L
       (ap (λ (env : List ℕ). is_stage q (goes_to (stage_at p l.thread.stage).next env)) env_is ∙ e)
     where
       env_is : (work_of_live p d bits older l).env ≡ (deeds_of p st bits l).env
-      env_is = ap (λ (w : Work). w.env) (told_here p (sound_flows p sound) st d bits arrays older l k).is
+      env_is = ap (λ (w : Work). w.env) (like_here p (sound_flows p sound) st d bits arrays older l k).is
 
       at : (r : Option ℕ) → goes_to (stage_at p l.thread.stage).next (work_of_live p d bits older l).env ≡ r → is_stage q r ≡ true
           → (deeds_of p st bits l).held ≡ held_before q (deeds_of p st bits l).env p.stmts []
@@ -356,7 +491,7 @@ module _ (p : Pipe) (sound : Sound p) (st : State) (d : Derived.State) (bits : L
       at (Some r) f g =
           let next =
           keeps_next p (sound_flows p sound) l.env (now_of p d bits l) keeps o (word_for st l.number)
-          (λ b. block_ready p st l.number b) (λ r. has_room (mem_at p r.mem).lock (length (lock_of st r.mem)))
+          (λ b. block_ready p st l.number b)
           (λ q. port_free p d bits (dacts p d bits older) q.mem) (fit_all p (sound_flows p sound) st d bits arrays older l k) r f in
-          sym (told_here p (sound_flows p sound) st d bits arrays older l k).held ∙ next.held
+          sym (like_here p (sound_flows p sound) st d bits arrays older l k).held ∙ next.held
           ∙ ap₂ (λ s env. held_before s env p.stmts []) (eqb-true r q g) env_is

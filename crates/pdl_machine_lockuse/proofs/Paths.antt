@@ -5,10 +5,11 @@ use Rattle.pdl_semantics.specs.Flat.{Pipe, Op, CombRead, DelayedRead, Write, Blo
 use Rattle.pdl_semantics.specs.Stages.{list_any, onpath, in_stage, mem_at, is_release, commit_stage, verify_stage}
 use Rattle.pdl_semantics.specs.Machine.{State}
 use Rattle.pdl_semantics.specs.Sound.{stages_before, stages_from, is_release_at}
+use Rattle.pdl_semantics.specs.Promises.{DifferInAdvice}
 use Rattle.pdl_theory_derived.specs.Derived
 use Rattle.pdl_theory_derived.specs.Derived.{Around, around}
-use Rattle.pdl_theory_derived.specs.Alone.{answered_op}
-use Rattle.pdl_theory_facts.specs.Scans.{no_guards, is_plain, Phase, Fresh, Written, next_phase, phase_all, is_over, Scan, no_scan, has_location, is_address, scan_after, scan_after_all, op_ok, reads_ok, none_of}
+use Rattle.pdl_theory_derived.specs.Alone.{but_last, is_nil, answered_op}
+use Rattle.pdl_theory_facts.specs.Scans.{after_write, no_guards, is_plain, Phase, Fresh, next_phase, phase_all, is_over, Scan, no_scan, has_location, is_address, scan_after, scan_after_all, op_ok, reads_ok, none_of}
 use Rattle.pdl_theory_facts.specs.GuessScans.{Unmade, making_all, makings_ok}
 use Rattle.pdl_theory_facts.specs.Facts.{Sound, looked_all, at_once}
 use Rattle.pdl_theory_facts.specs.Accepted.{along}
@@ -32,8 +33,13 @@ use Rattle.pdl_theory_states.proofs.StillLooks.{let_go_behind}
 use Rattle.pdl_theory_turns.proofs.StrayPaths.{looked_append}
 use Rattle.pdl_theory_turns.proofs.Guesses.{makings_first, makings_second}
 use Rattle.pdl_theory_turns.proofs.OwnEntries.{none_first}
-use Rattle.pdl_theory_turns.proofs.UndoneWrites.{phase_append}
+use Rattle.pdl_theory_turns.proofs.TurnPath.{phase_append}
 use Rattle.pdl_theory_turns.proofs.Paths.{none_onpath}
+
+-- nothing and false is false
+pub and_false : (b : Bool) → (b && false) ≡ false
+and_false true = refl
+and_false false = refl
 
 -- PARTS OF A LIST OF STATEMENTS
 
@@ -126,12 +132,15 @@ module _ (p q : Pipe) (same : (m : ℕ) → commit_stage q m ≡ commit_stage p 
       (and_right (lets_go x.op (xs ++ rest)) _ go) behind over)
     where
       left_open : (m a : ℕ) (e : Expr) → x.op ≡ Write m a e → false ≡ is_over (next_phase m (ph m) x.op)
-      left_open m a e w = sym (ap (λ o. is_over (next_phase m (ph m) o)) w ∙ ap (λ b. is_over (cond b (Written a) (ph m))) (eq-eqb m m refl))
+      left_open m a e w =
+          sym
+          (ap (λ o. is_over (next_phase m (ph m) o)) w ∙ ap (λ b. is_over (cond b (after_write (ph m) a) (ph m))) (eq-eqb m m refl)
+          ∙ and_false (is_nil (but_last (ph m).unwritten)))
 
 -- A THREAD IN ITS STAGE
 
 module _ (p : Pipe) (sound : Sound p) (st : State) (d : Derived.State) (bits : List Bool)
-    (arrays : st.arrays ≡ d.arrays) (older : List Live) (l : Live)
+    (arrays : DifferInAdvice p st.arrays d.arrays) (older : List Live) (l : Live)
     (k : Known p (sound_flows p sound) st d bits arrays older l) where
   -- the path that the thread takes, by the values with which its stage ends
   abbrev pub path : List ℕ
@@ -148,14 +157,15 @@ module _ (p : Pipe) (sound : Sound p) (st : State) (d : Derived.State) (bits : L
   abbrev next : ℕ
   next = next_of p l.thread.stage path
 
-  abbrev rest : List Stmt
+  -- what is still to come on its path
+  abbrev pub rest : List Stmt
   rest = onpath path (stages_from next p.stmts)
 
   keeps : Keeps p l.env (now_of p d bits l)
   keeps = keeps_now p (sound_flows p sound) st d bits arrays l k.seated
 
   abbrev o : Around
-  o = around p d bits (dacts p d bits older) l.thread.stage
+  o = around p d bits (dacts p d bits older) l.thread.stage l.thread.hint
 
   -- before its next stage it has done what it did before its stage, and then the statements of this
   pub way_is : on_way p path (next_of p l.thread.stage path) ≡ passed ++ mine
@@ -176,6 +186,10 @@ module _ (p : Pipe) (sound : Sound p) (st : State) (d : Derived.State) (bits : L
       (subst (λ xs. reads_ok (along path (at_once p)) no_scan xs ≡ true)
       (way_looked p path next ∙ ap looked_all way_is ∙ looked_append passed mine)
       ((sound.pathwise.paths path).reads next))
+
+  -- the statements that it has passed use each memory in order
+  pub passed_uses : (m : ℕ) → uses_ok m Fresh passed ≡ true
+  passed_uses m = uses_front m passed (mine ++ rest) Fresh (subst (λ xs. uses_ok m Fresh xs ≡ true) whole ((sound_flows p sound).uses path m))
 
   -- after those that it has passed, the statements of its stage write and release each memory in order
   pub mine_uses : (m : ℕ) → uses_ok m (phase_all m Fresh passed) mine ≡ true

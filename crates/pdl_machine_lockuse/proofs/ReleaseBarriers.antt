@@ -1,12 +1,13 @@
 -- A thread that releases a write before V has passed a barrier, so that all older ones stand after V.
-use Rattle.std.proofs.Common.{◌≡◌, refl, sym, ap, ◌∙◌, subst, ℕ, ◌<◌, Bool, true, false, ◌&&◌, ◌||◌, not, List, [], ◌∷◌, ◌++◌, Option, Some, None, ◌==◌, nat_lt, nat_le, cond, arith, le_refl, ltb-true, leb-true, lt-ltb}
+use Rattle.std.proofs.Common.{◌≡◌, refl, sym, ap, ◌∙◌, subst, ℕ, ◌<◌, Bool, true, false, ◌&&◌, ◌||◌, not, List, [], ◌∷◌, ◌++◌, Some, nat_lt, nat_le, cond, arith, le_refl, ltb-true, leb-true, lt-ltb, ◌≢◌}
 use Rattle.std.proofs.lemmas.Bool.{false≢true}
 use Rattle.pdl_semantics.specs.Flat.{list_all, Pipe, Branch, Op, Block, SpecBarrier, Stmt, all_hold}
 use Rattle.pdl_semantics.specs.Stages.{list_any, onpath, in_stage, stage_at, verify_stage}
 use Rattle.pdl_semantics.specs.Machine.{State}
 use Rattle.pdl_semantics.specs.Sound
+use Rattle.pdl_semantics.specs.Cycle.{releases_of}
 use Rattle.pdl_theory_derived.specs.Derived
-use Rattle.pdl_theory_derived.specs.Derived.{Around, around, befores}
+use Rattle.pdl_theory_derived.specs.Derived.{Around, around, befores, no_hint}
 use Rattle.pdl_theory_facts.specs.Scans.{Fresh, phase_all, phases_ok, no_scan, none_of}
 use Rattle.pdl_theory_facts.specs.GuessScans.{all_sure}
 use Rattle.pdl_theory_facts.specs.Facts.{Sound, trunk_only, looked_all, at_once}
@@ -17,7 +18,7 @@ use Rattle.pdl_theory_turns.proofs.StrayPaths.{verify_looked}
 use Rattle.pdl_theory_turns.proofs.TurnPath
 use Rattle.pdl_theory_simulation.proofs.FlowFacts.{next_of}
 use Rattle.pdl_theory_simulation.proofs.AcceptedFacts.{sound_flows, phases_looked}
-use Rattle.pdl_theory_simulation.proofs.Stretches.{Behind, Keeps, start_of, fixed_here}
+use Rattle.pdl_theory_simulation.proofs.Stretches.{Behind, Keeps, start_of, fixed_here, left_trunk}
 use Rattle.pdl_theory_simulation.proofs.Seats.{Live, each_map, threads_of, dacts, did, now_of, work_of_live, deeds_of, befores_are}
 use Rattle.pdl_theory_simulation.proofs.Choices.{Known, keeps_now}
 use Rattle.pdl_theory_states.proofs.Trails.{stmts_append, stmts_map, stage_stmts}
@@ -28,8 +29,9 @@ use Rattle.pdl_theory_states.proofs.ThreadFacts.{Lasting}
 use Rattle.pdl_theory_states.proofs.Releases.{is_done, sure_done, low_stages, stages_looked, unbarred}
 use Rattle.pdl_machine_lockuse.proofs.Paths.{path, mine, passed, way_is}
 use Rattle.pdl_machine_lockuse.proofs.OwnWrite.{used_here}
-use Rattle.pdl_theory_turns.proofs.UndoneWrites.{phase_append}
+use Rattle.pdl_theory_turns.proofs.TurnPath.{phase_append}
 use Rattle.pdl_semantics.specs.Sound.{stages_from}
+use Rattle.pdl_semantics.specs.Promises.{DifferInAdvice}
 use Rattle.pdl_word.specs.Each.{Each}
 
 -- barriers stand in the trunk alone
@@ -69,7 +71,7 @@ any_append (x ∷ xs) ys h k = at (Sound.is_barrier x.op) h (λ i. any_append xs
     at false e f = f e
 
 module _ (p : Pipe) (sound : Sound p) (st : State) (d : Derived.State) (bits : List Bool)
-    (arrays : st.arrays ≡ d.arrays) (older : List Live) (l : Live)
+    (arrays : DifferInAdvice p st.arrays d.arrays) (older : List Live) (l : Live)
     (k : Known p (sound_flows p sound) st d bits arrays older l) where
   abbrev route : List ℕ
   route = path p sound st d bits arrays older l k
@@ -99,7 +101,8 @@ module _ (p : Pipe) (sound : Sound p) (st : State) (d : Derived.State) (bits : L
       let looked_way = way_looked p q n ∙ ap looked_all way_here in
       ap is_done (sym (phases_looked m Fresh way))
       ∙ sure_done m v no_scan Fresh (looked_all way)
-      (subst (λ xs. phases_ok m Fresh xs ≡ true) looked_way (TurnPath.ok_before (along q (at_once p)) (sound.pathwise.paths q) (λ k a. 0) [] n m))
+      (subst (λ xs. phases_ok m Fresh xs ≡ true) looked_way
+      (TurnPath.ok_before (along q (at_once p)) (sound.pathwise.paths q) (record { words = λ k a. 0; hint = no_hint }) [] n m))
       (subst (λ o. all_sure o false no_scan (looked_all way) ≡ true) (verify_looked p.stmts ∙ verifies)
       (subst (λ xs. all_sure (verify_stage (looked_all p.stmts)) false no_scan xs ≡ true) looked_way
       (sure_first (verify_stage (looked_all p.stmts)) false no_scan (Rattle.pdl_theory_derived.specs.Alone.before n (onpath q (looked_all p.stmts)))
@@ -110,16 +113,16 @@ module _ (p : Pipe) (sound : Sound p) (st : State) (d : Derived.State) (bits : L
       (stmts_append (λ x. nat_lt x.stage v ≡ true) gone own
       (stmts_map (λ z i. lt-ltb _ _ (let j = i in omega (arith, j, low))) gone (low_stages l.env l.thread.stage p.stmts))
       (stmts_map (λ z i. lt-ltb _ _ (let j = i in omega (arith, j, low))) own (stage_stmts q l.thread.stage p.stmts))))
-      tt refl
+      (record { unwritten = λ x i. absurd (cc i); full = λ x i. absurd (cc i) }) refl
 
   -- a barrier of the stage found nobody before V
   barrier_here : (v : ℕ) → verify_stage p.stmts ≡ Some v → Each (λ j. Behind p l.thread.stage j.thread.stage) older
       → (work_of_live p d bits older l).ready ≡ true → stage.some_barrier own ≡ true
       → Each (λ j. v < j.thread.stage) older
-  barrier_here v e behind ready b = at (stage_at p l.thread.stage).branch refl
+  barrier_here v e behind ready b = at (stage_at p l.thread.stage).branches refl
     where
       o : Around
-      o = around p d bits (dacts p d bits older) l.thread.stage
+      o = around p d bits (dacts p d bits older) l.thread.stage l.thread.hint
 
       clear : Derived.barrier_clear (Some v) l.thread.stage (threads_of older) ≡ true
       clear =
@@ -141,14 +144,14 @@ module _ (p : Pipe) (sound : Sound p) (st : State) (d : Derived.State) (bits : L
           one true i u = absurd (let w = leb-true _ _ i in let y = s.0 in omega (arith, w, y))
           one false i u = ltb-true _ _ u
 
-      at : (c : Option Branch) → (stage_at p l.thread.stage).branch ≡ c → Each (λ j. v < j.thread.stage) older
-      at None i = each older (each_map (λ j g. g.trunk l.thread.stage i (le_refl l.thread.stage)) older behind) clear
-      at (Some x) i =
-          absurd (not_barred (in_stage l.thread.stage p.stmts) (work_of_live p d bits older l).env ((sound_flows p sound).branches l.thread.stage x i) b)
+      at : (c : List Branch) → (stage_at p l.thread.stage).branches ≡ c → Each (λ j. v < j.thread.stage) older
+      at [] i = each older (each_map (λ j g. left_trunk p _ _ g l.thread.stage i (le_refl l.thread.stage)) older behind) clear
+      at (x ∷ c) i =
+          absurd (not_barred (in_stage l.thread.stage p.stmts) (work_of_live p d bits older l).env ((sound_flows p sound).branches x c l.thread.stage i) b)
 
   -- so who releases before V has only older threads that stand after V
   pub certain_here : Lasting p st l older → Each (λ j. Behind p l.thread.stage j.thread.stage) older → (did p d bits older l).moves ≡ true → (m v : ℕ)
-      → verify_stage p.stmts ≡ Some v → l.thread.stage < v → list_any (λ j. j == m) (deeds_of p st bits l).releases ≡ true
+      → verify_stage p.stmts ≡ Some v → l.thread.stage < v → releases_of m (deeds_of p st bits l).releases ≢ 0
       → Each (λ j. v < j.thread.stage) older
   certain_here lasting behind moves m v e low h =
       at (list_any (λ (x : Stmt). Sound.is_barrier x.op) gone) refl
@@ -157,12 +160,12 @@ module _ (p : Pipe) (sound : Sound p) (st : State) (d : Derived.State) (bits : L
       ready : (work_of_live p d bits older l).ready ≡ true
       ready =
           and_right (list_all (λ (o : Derived.Act). not (o.moves && o.work.fails)) (dacts p d bits older)) (work_of_live p d bits older l).ready
-          (and_left _ _ (and_left _ _ moves))
+          (and_left _ _ (and_left _ _ (and_left _ _ moves)))
 
       done : is_done (phase_all m Fresh way) ≡ true
       done =
-          ap is_done
-          (phase_append m gone own Fresh ∙ (used_here p sound st d bits arrays older l k m).done h)
+          ap is_done (phase_append m gone own Fresh)
+          ∙ (used_here p sound st d bits arrays older l k m).done h
 
       at : (b : Bool) → list_any (λ (x : Stmt). Sound.is_barrier x.op) gone ≡ b → (c : Bool)
           → stage.some_barrier own ≡ c → Each (λ j. v < j.thread.stage) older

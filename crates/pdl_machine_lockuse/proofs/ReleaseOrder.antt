@@ -5,8 +5,8 @@ use Rattle.pdl_semantics.specs.Flat.{Pipe, Op, CombRead, DelayedRead, Write, Blo
 use Rattle.pdl_semantics.specs.Stages.{list_any, onpath, is_release, commit_stage}
 use Rattle.pdl_semantics.specs.Machine.{State}
 use Rattle.pdl_semantics.specs.Moves.{Act}
-use Rattle.pdl_theory_derived.specs.Alone.{before, answered_op}
-use Rattle.pdl_theory_facts.specs.Scans.{no_guards, Phase, Fresh, Written, next_phase, phase_all, is_over, Scan, no_scan, scan_after, op_ok, reads_ok, all_at, none_of}
+use Rattle.pdl_theory_derived.specs.Alone.{but_last, is_nil, before, answered_op}
+use Rattle.pdl_theory_facts.specs.Scans.{after_write, no_guards, Phase, Fresh, next_phase, phase_all, is_over, Scan, no_scan, scan_after, op_ok, reads_ok, all_at, none_of}
 use Rattle.pdl_theory_facts.specs.Facts.{Sound, looked_all, at_once}
 use Rattle.pdl_theory_facts.specs.Accepted.{Accepted, along}
 use Rattle.pdl_theory_derived.proofs.Writes.{and_left, and_right}
@@ -18,7 +18,7 @@ use Rattle.pdl_theory_states.specs.Strict.{Strict, lets_go, all_let_go}
 use Rattle.pdl_theory_states.specs.Use.{AllActs}
 use Rattle.pdl_theory_states.proofs.Trails.{AllStmts, stmts_map}
 use Rattle.pdl_machine_lockuse.specs.Use.{ReleasesOlder, UsesOlder, uses_mem}
-use Rattle.pdl_machine_lockuse.proofs.Paths.{one}
+use Rattle.pdl_machine_lockuse.proofs.Paths.{and_false, one}
 use Rattle.pdl_semantics.specs.Sound.{stages_from}
 
 -- THE ORDER OF A PATH
@@ -159,7 +159,10 @@ module _ (p : Pipe) (sound : Sound p) (path : List ℕ) where
       (and_right (lets_go x.op xs) _ go) r.1 rest over (and_right (nat_lt x.stage (length p.stages)) _ inside))
     where
       left_open : (m a : ℕ) (e : Expr) → x.op ≡ Write m a e → false ≡ is_over (next_phase m (ph m) x.op)
-      left_open m a e w = sym (ap (λ o. is_over (next_phase m (ph m) o)) w ∙ ap (λ b. is_over (cond b (Written a) (ph m))) (eq-eqb m m refl))
+      left_open m a e w =
+          sym
+          (ap (λ o. is_over (next_phase m (ph m) o)) w ∙ ap (λ b. is_over (cond b (after_write (ph m) a) (ph m))) (eq-eqb m m refl)
+          ∙ and_false (is_nil (but_last (ph m).unwritten)))
 
   all_path : (test : Stmt → Bool) → ((x : Stmt) → test (record x { guards = [] }) ≡ test x) → (xs : List Stmt) → list_all test xs ≡ true
       → list_all test (onpath path xs) ≡ true

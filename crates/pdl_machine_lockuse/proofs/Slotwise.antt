@@ -1,17 +1,15 @@
 -- Where a squash cuts a lock's list, stage by stage.
 use Rattle.std.proofs.Common.{◌≡◌, sym, ap, ap₂, ◌∙◌, ℕ, suc, ◌+◌, Bool, List, length, take, Some}
-use Rattle.pdl_word.specs.Words
 use Rattle.pdl_semantics.specs.Flat.{Arrays, Pipe}
 use Rattle.pdl_semantics.specs.Machine.{State, lock_of}
-use Rattle.pdl_semantics.specs.Cycle.{with_reserves, has_release, list_three, entries_left, squasher, first, state_after}
+use Rattle.pdl_semantics.specs.Cycle.{with_reserves, all_releases, list_three, entries_left, squasher, first, state_after}
 use Rattle.pdl_theory_facts.specs.Facts.{Sound}
-use Rattle.pdl_lockapi.specs.Forget as forget
 use Rattle.pdl_machine_facts.specs.Slots
 use Rattle.pdl_theory_states.specs.Strict.{Strict}
 use Rattle.pdl_theory_states.specs.Use.{moving, with_new, with_release, ShiftsTail}
 use Rattle.pdl_machine_lockuse.specs.Use.{FindsAll, KeepsTail}
 use Rattle.pdl_machine_lockuse.specs.Cut.{IsCut}
-use Rattle.pdl_machine_lockuse.proofs.Acts.{at_slot, same_count, same_bit}
+use Rattle.pdl_machine_lockuse.proofs.Acts.{at_slot, same_count}
 use Rattle.pdl_machine_lockuse.proofs.Cuts.{tail_left}
 use Rattle.pdl_machine_lockuse.proofs.InRuns.{stages_here, all_here, kept_here, tails_here, cuts_here}
 use Rattle.pdl_semantics.specs.PendingLists.{count_older}
@@ -46,7 +44,7 @@ module _ (p : Pipe) (sound : Sound p) (strict : Strict p) (image : Arrays) (befo
         ∙ same_count (suc t.number) (lock_of now m);
     shifts = λ k t m v h e low.
         ap₂ (λ x y. x + y) (count_three (suc t.number) m)
-        (ap (λ ms. Words.bit (has_release m ms)) (sym movers) ∙ sym (same_bit (has_release m (moving p now bits))))
+        (ap (all_releases m) (sym movers))
         ∙ at_slot p now bits (ShiftsTail p now bits m) (tails_here p sound strict image before bits m) k t h v e low ∙ sym (count_new (suc t.number) m);
     left = λ m n h.
         let sq = squasher (Slots.moving p now bits) in

@@ -1,16 +1,17 @@
 -- Places among the pending writes of a lock in a cycle: what is appended and what is released is no younger than a thread, up to the stages where that matters.
-use Rattle.std.proofs.Common.{◌≡◌, refl, sym, ap, ◌∙◌, subst, ℕ, suc, ◌≤◌, ◌<◌, inl, inr, Bool, true, false, ◌||◌, List, [], ◌∷◌, ◌++◌, length, Option, Some, None, ◌==◌, nat_le, cond, arith, le_refl, leb-true, leb-false, append-nil}
+use Rattle.std.proofs.Common.{◌≡◌, ◌≢◌, refl, sym, ap, ◌∙◌, subst, ℕ, zero, suc, ◌+◌, ◌≤◌, ◌<◌, inl, inr, Bool, true, false, List, [], ◌∷◌, ◌++◌, length, Option, Some, None, nat_le, cond, arith, le_refl, leb-true, leb-false, append-nil}
 use Rattle.pdl_semantics.specs.Flat.{Pipe}
-use Rattle.pdl_semantics.specs.Stages.{list_any, stage_at, reserve_stage, commit_stage, verify_stage}
+use Rattle.pdl_semantics.specs.Stages.{reserve_stage, commit_stage, verify_stage}
 use Rattle.pdl_semantics.specs.Machine.{State, Pending}
 use Rattle.pdl_semantics.specs.Moves.{movers}
-use Rattle.pdl_semantics.specs.Cycle.{with_reserves, has_release}
+use Rattle.pdl_semantics.specs.Cycle.{with_reserves, releases_of, all_releases}
 use Rattle.pdl_theory_derived.specs.Derived
 use Rattle.pdl_theory_facts.specs.Facts.{Sound}
 use Rattle.pdl_theory_turns.proofs.CourseOf
 use Rattle.pdl_theory_derived.proofs.Lists.{pend}
+use Rattle.pdl_theory_facts.specs.Graphs.{Trunk}
 use Rattle.pdl_theory_simulation.proofs.AcceptedFacts.{sound_flows}
-use Rattle.pdl_theory_simulation.proofs.Stretches.{Behind}
+use Rattle.pdl_theory_simulation.proofs.Stretches.{Behind, left_trunk}
 use Rattle.pdl_theory_simulation.proofs.Seats.{Live, Falls, falls_each, Ordered, pends, lact, lacts, did, deeds_of}
 use Rattle.pdl_theory_simulation.proofs.ThreadFacts.{Pair, pairs, EachPair, pair_map, pair_both, pairs_each}
 use Rattle.pdl_theory_simulation.proofs.Choices.{Seated, AllKnown}
@@ -19,21 +20,23 @@ use Rattle.pdl_theory_states.proofs.ThreadFacts.{Lasting, Along}
 use Rattle.pdl_theory_states.proofs.PendingLists.{within_count}
 use Rattle.pdl_theory_states.proofs.LockCycle.{NoOlder, movers_no_older, count_appended, quiet_new, past_new, older_past, within_new, appended_more}
 use Rattle.pdl_theory_states.proofs.OwnWrites.{none_pending}
-use Rattle.pdl_theory_states.proofs.LockRelease.{some_pending, first_low}
+use Rattle.pdl_theory_states.proofs.LockRelease.{LowFirst, low_append, low_within, enough}
 use Rattle.pdl_machine_lockuse.proofs.ReleaseBarriers.{certain_here}
 use Rattle.pdl_semantics.specs.PendingLists.{count_older}
+use Rattle.pdl_semantics.specs.Promises.{DifferInAdvice}
 use Rattle.pdl_word.specs.Each.{Each}
 
 -- V is a trunk stage
-verify_trunk : (p : Pipe) → Sound p → (v : ℕ) → verify_stage p.stmts ≡ Some v → (stage_at p v).branch ≡ None
-verify_trunk p sound v e = subst (λ n. (stage_at p n).branch ≡ None) (v_is (verify_stage p.stmts) e) (CourseOf.v_trunk p sound (verify_stage p.stmts) refl)
+verify_trunk : (p : Pipe) → Sound p → (v : ℕ) → verify_stage p.stmts ≡ Some v → Trunk p v
+verify_trunk p sound v e = subst (λ n. Trunk p n) (v_is (verify_stage p.stmts) e) (CourseOf.v_trunk p sound (verify_stage p.stmts) refl)
   where
     v_is : (o : Option ℕ) → o ≡ Some v → CourseOf.v_of p sound o ≡ v
     v_is None i = absurd (cc i)
     v_is (Some w) i = cc i
 
 -- a thread before the stage of the reserves leaves the list of the older ones as it is
-quiet_same : (p : Pipe) (sound : Sound p) (st : State) (d : Derived.State) (bits : List Bool) (arrays : st.arrays ≡ d.arrays) (m : ℕ) (ls : List Live)
+quiet_same : (p : Pipe) (sound : Sound p) (st : State) (d : Derived.State) (bits : List Bool) (arrays : DifferInAdvice p st.arrays d.arrays)
+    (m : ℕ) (ls : List Live)
     (l : Live)
     → Seated p st l → l.thread.stage < reserve_stage p m
     → with_reserves m (movers (lacts p st d bits (l ∷ ls))) (pends m (l ∷ ls)) ≡ with_reserves m (movers (lacts p st d bits ls)) (pends m ls)
@@ -53,69 +56,60 @@ quiet_same p sound st d bits arrays m ls l s low =
         ∙ append-nil (with_reserves m (movers (lacts p st d bits ls)) (pends m ls))
     at false = refl
 
-module _ (p : Pipe) (sound : Sound p) (st : State) (d : Derived.State) (bits : List Bool) (arrays : st.arrays ≡ d.arrays) (m : ℕ) where
+module _ (p : Pipe) (sound : Sound p) (st : State) (d : Derived.State) (bits : List Bool) (arrays : DifferInAdvice p st.arrays d.arrays) (m : ℕ) where
   abbrev new : List Live → List Pending
   new ls = with_reserves m (movers (lacts p st d bits ls)) (pends m ls)
 
-  abbrev lets : Live → Bool
-  lets l = list_any (λ j. j == m) (deeds_of p st bits l).releases
+  abbrev takes : Live → ℕ
+  takes l = releases_of m (deeds_of p st bits l).releases
 
   -- WHAT IS RELEASED
 
   -- who releases has no older thread of a kind
   abbrev pub Bars : (Pair → Type 0) → List Live → Type 0
   Bars P [] = Unit {0}
-  Bars P (l ∷ ls) = ((did p d bits ls l).moves ≡ true → lets l ≡ true → EachPair (λ x. P x → ⊥) (pairs ls)) × Bars P ls
+  Bars P (l ∷ ls) = ((did p d bits ls l).moves ≡ true → takes l ≢ 0 → EachPair (λ x. P x → ⊥) (pairs ls)) × Bars P ls
 
   -- where who releases has no older thread of a kind, what is released is no younger than a thread of that kind
   pub up_released : (P : Pair → Type 0) (n : ℕ) (ls : List Live) → Bars P ls → Each (Seated p st) ls → AllKnown p (sound_flows p sound) st d bits arrays ls
-      → Ordered p ls → Falls n ls → has_release m (movers (lacts p st d bits ls)) ≡ true
-      → EachPair
-      (λ x. P x → (e : Pending) (rest : List Pending) → with_reserves m (movers (lacts p st d bits ls)) (pends m ls) ≡ e ∷ rest → e.thread < suc x.live.number)
-      (pairs ls)
-  up_released P n [] bars s k o f h = tt
-  up_released P n (l ∷ ls) bars s k o f h = (
-    (λ g e rest i. first_low p (sound_flows p sound) st d bits arrays m 0 (suc l.number)
-        (new (l ∷ ls)) e rest i (within_new p (sound_flows p sound) st d bits arrays m (suc l.number) (l ∷ ls) k o (le_refl (suc l.number), f.1))),
-    at (did p d bits ls l).moves refl (lets l) refl h (appended_more p (sound_flows p sound) st d bits arrays m ls l s.0 o.0)
-        (λ i. (up_released P l.number ls bars.1 s.1 k.1 o.1 f.1 i, some_pending p (sound_flows p sound) st d bits arrays m l.number ls s.1 k.1 o.1 f.1 i)),
+      → Ordered p ls → Falls n ls
+      → EachPair (λ x. P x → LowFirst (all_releases m (movers (lacts p st d bits ls))) (suc x.live.number) (new ls)) (pairs ls)
+  up_released P n [] bars s k o f = tt
+  up_released P n (l ∷ ls) bars s k o f = (
+    (λ g. low_within (all_releases m (movers (lacts p st d bits (l ∷ ls)))) 0 (suc l.number) (new (l ∷ ls))
+        (within_new p (sound_flows p sound) st d bits arrays m (suc l.number) (l ∷ ls) k o (le_refl (suc l.number), f.1))
+        (enough p (sound_flows p sound) st d bits arrays m n (l ∷ ls) s k o f)),
+    at (did p d bits ls l).moves refl (takes l) refl (appended_more p (sound_flows p sound) st d bits arrays m ls l s.0 o.0)
+        (up_released P l.number ls bars.1 s.1 k.1 o.1 f.1),
   )
     where
-      -- another one releases
-      other : (all : List Pending) → ((tail : List Pending) × (all ≡ new ls ++ tail))
-          → EachPair (λ x. P x → (e : Pending) (rest : List Pending) → new ls ≡ e ∷ rest → e.thread < suc x.live.number) (pairs ls) ×
-          ((x : Pending) × (xs : List Pending) × (new ls ≡ x ∷ xs))
-          → EachPair (λ x. P x → (e : Pending) (rest : List Pending) → all ≡ e ∷ rest → e.thread < suc x.live.number) (pairs ls)
-      other all t g = pair_map (λ x h i e rest j. subst (λ (y : Pending). y.thread < suc x.live.number) (same e rest j) (h i g.1.0 g.1.1 g.1.2)) (pairs ls) g.0
-        where
-          first : {x y : Pending} {xs ys : List Pending} → x ∷ xs ≡ y ∷ ys → x ≡ y
-          first h = cc
+      -- another one releases, or none
+      other : (j : ℕ) → j ≡ all_releases m (movers (lacts p st d bits ls)) → (all : List Pending) → ((tail : List Pending) × (all ≡ new ls ++ tail))
+          → EachPair (λ x. P x → LowFirst (all_releases m (movers (lacts p st d bits ls))) (suc x.live.number) (new ls)) (pairs ls)
+          → EachPair (λ x. P x → LowFirst j (suc x.live.number) all) (pairs ls)
+      other j e all t g =
+          pair_map (λ x h i.
+          subst (λ k. LowFirst k (suc x.live.number) all) (sym e)
+          (subst (LowFirst (all_releases m (movers (lacts p st d bits ls))) (suc x.live.number)) (sym t.1)
+          (low_append (all_releases m (movers (lacts p st d bits ls))) (suc x.live.number) (new ls) t.0 (h i))))
+          (pairs ls) g
 
-          same : (e : Pending) (rest : List Pending) → all ≡ e ∷ rest → g.1.0 ≡ e
-          same e rest j = first (ap (λ l. l ++ t.0) (sym g.1.2) ∙ sym t.1 ∙ j)
-
-      at : (b : Bool) → (did p d bits ls l).moves ≡ b → (c : Bool) → lets l ≡ c
-          → has_release m (cond b (lact p st d bits ls l ∷ movers (lacts p st d bits ls)) (movers (lacts p st d bits ls))) ≡ true
-          →
-          ((b : Bool)
+      at : (b : Bool) → (did p d bits ls l).moves ≡ b → (c : ℕ) → takes l ≡ c
+          → ((b : Bool)
           → (tail : List Pending)
           × (with_reserves m (cond b (lact p st d bits ls l ∷ movers (lacts p st d bits ls)) (movers (lacts p st d bits ls)))
           (pends m ls ++ pend m l.number l.thread.entries)
           ≡ new ls ++ tail))
-          →
-          (has_release m (movers (lacts p st d bits ls)) ≡ true
-          → EachPair (λ x. P x → (e : Pending) (rest : List Pending) → new ls ≡ e ∷ rest → e.thread < suc x.live.number) (pairs ls)
-          × ((x : Pending) × (xs : List Pending) × (new ls ≡ x ∷ xs)))
+          → EachPair (λ x. P x → LowFirst (all_releases m (movers (lacts p st d bits ls))) (suc x.live.number) (new ls)) (pairs ls)
           → EachPair
-          (λ x. P x → (e : Pending) (rest : List Pending)
-          → with_reserves m (cond b (lact p st d bits ls l ∷ movers (lacts p st d bits ls)) (movers (lacts p st d bits ls)))
-          (pends m ls ++ pend m l.number l.thread.entries)
-          ≡ e ∷ rest
-          → e.thread < suc x.live.number)
+          (λ x. P x
+          → LowFirst (all_releases m (cond b (lact p st d bits ls l ∷ movers (lacts p st d bits ls)) (movers (lacts p st d bits ls)))) (suc x.live.number)
+          (with_reserves m (cond b (lact p st d bits ls l ∷ movers (lacts p st d bits ls)) (movers (lacts p st d bits ls)))
+          (pends m ls ++ pend m l.number l.thread.entries)))
           (pairs ls)
-      at true i true j h t r = pair_map (λ x g i. absurd (g i)) (pairs ls) (bars.0 i j)
-      at true i false j h t r = other _ (t true) (r (sym (ap (λ c. c || has_release m (movers (lacts p st d bits ls))) j) ∙ h))
-      at false i c j h t r = other _ (t false) (r h)
+      at true i zero j t g = other (all_releases m (movers (lacts p st d bits ls)) + takes l) (let h = j in omega (arith, h)) _ (t true) g
+      at true i (suc c) j t g = pair_map (λ x h i. absurd (h i)) (pairs ls) (bars.0 i (λ z. cc (sym j ∙ z)))
+      at false i c j t g = other (all_releases m (movers (lacts p st d bits ls))) refl _ (t false) g
 
   -- no older thread stands up to the stage of the releases
   pub bars_commit : (ls : List Live) → AllKnown p (sound_flows p sound) st d bits arrays ls → Ordered p ls
@@ -125,7 +119,8 @@ module _ (p : Pipe) (sound : Sound p) (st : State) (d : Derived.State) (bits : L
     (λ i j. pair_map
         (λ x b g. absurd
         (let here = release_here p (sound_flows p sound) st d bits arrays ls l k.0 m j in
-        let u : commit_stage p m < x.live.thread.stage = b.trunk (commit_stage p m) ((sound_flows p sound).trunk_commit m) (let v = here in omega arith) in
+        let u : commit_stage p m < x.live.thread.stage = left_trunk p _ _ b (commit_stage p m) ((sound_flows p sound).trunk_commit m)
+        (let v = here in omega arith) in
         let v = g in omega arith))
         (pairs ls) (pairs_each (λ k. Behind p l.thread.stage k.thread.stage) ls o.0)),
     bars_commit ls k.1 o.1,
@@ -137,12 +132,13 @@ module _ (p : Pipe) (sound : Sound p) (st : State) (d : Derived.State) (bits : L
   bars_verify v e [] k o a = tt
   bars_verify v e (l ∷ ls) k o a = ((λ i j. at (nat_le v l.thread.stage) refl i j), bars_verify v e ls k.1 o.1 a.1)
     where
-      trunk : (stage_at p v).branch ≡ None
+      trunk : Trunk p v
       trunk = verify_trunk p sound v e
 
-      at : (b : Bool) → nat_le v l.thread.stage ≡ b → (did p d bits ls l).moves ≡ true → lets l ≡ true → EachPair (λ x. x.live.thread.stage ≤ v → ⊥) (pairs ls)
+      at : (b : Bool) → nat_le v l.thread.stage ≡ b → (did p d bits ls l).moves ≡ true → takes l ≢ 0 → EachPair (λ x. x.live.thread.stage ≤ v → ⊥) (pairs ls)
       at true f i j =
-          pair_map (λ x b g. let u : v < x.live.thread.stage = b.trunk v trunk (leb-true _ _ f) in absurd (let w = g in omega (arith, u, w))) (pairs ls)
+          pair_map (λ x b g. let u : v < x.live.thread.stage = left_trunk p _ _ b v trunk (leb-true _ _ f) in absurd (let w = g in omega (arith, u, w)))
+          (pairs ls)
           (pairs_each (λ k. Behind p l.thread.stage k.thread.stage) ls o.0)
       at false f i j =
           pair_map (λ x b g. absurd (let u = b in let w = g in omega (arith, u, w))) (pairs ls)
@@ -173,7 +169,8 @@ module _ (p : Pipe) (sound : Sound p) (st : State) (d : Derived.State) (bits : L
           low : (c : Bool) → nat_le (reserve_stage p m) l.thread.stage ≡ c → l.thread.stage < reserve_stage p m
           low true e =
               absurd
-              (let u : reserve_stage p m < x.live.thread.stage = b.trunk (reserve_stage p m) ((sound_flows p sound).trunk_reserve m) (leb-true _ _ e) in
+              (let u : reserve_stage p m < x.live.thread.stage = left_trunk p _ _ b (reserve_stage p m) ((sound_flows p sound).trunk_reserve m)
+              (leb-true _ _ e) in
               omega (arith, u, h))
           low false e = leb-false _ _ e
 

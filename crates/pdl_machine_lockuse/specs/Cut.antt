@@ -1,10 +1,9 @@
 -- The same of squashes, stage by stage, as the law of a netlist takes the use of the locks.
 use Rattle.std.specs.Prelude.{◌≡◌, ℕ, suc, ◌+◌, ◌≤◌, ◌<◌, Bool, true, List, Some, length, take}
-use Rattle.pdl_word.specs.Words.{bit}
 use Rattle.pdl_semantics.specs.Flat.{Pipe}
 use Rattle.pdl_semantics.specs.Stages.{reserve_stage, verify_stage}
 use Rattle.pdl_semantics.specs.Machine.{Thread, State, lock_of}
-use Rattle.pdl_semantics.specs.Cycle.{with_reserves, has_release, list_three, is_kept, entries_left, squasher}
+use Rattle.pdl_semantics.specs.Cycle.{with_reserves, all_releases, list_three, is_kept, entries_left, squasher}
 use Rattle.pdl_machine_facts.specs.Slots.{slot, moving}
 use Rattle.pdl_semantics.specs.PendingLists.{count_older}
 
@@ -16,9 +15,9 @@ pub record IsCut (p : Pipe) (st : State) (bits : List Bool) : Type 0 where
   -- later reservations stand after it
   pub kept : (k : ℕ) (t : Thread) (m : ℕ) → slot st k ≡ Some t → reserve_stage p m < k
       → count_older (suc t.number) (with_reserves m (moving p st bits) (lock_of st m)) ≡ count_older (suc t.number) (lock_of st m)
-  -- up to V it shifts at each release
+  -- up to V it shifts by what is released
   pub shifts : (k : ℕ) (t : Thread) (m v : ℕ) → slot st k ≡ Some t → verify_stage p.stmts ≡ Some v → k ≤ v
-      → count_older (suc t.number) (list_three st (moving p st bits) m) + bit (has_release m (moving p st bits))
+      → count_older (suc t.number) (list_three st (moving p st bits) m) + all_releases m (moving p st bits)
       ≡ count_older (suc t.number) (with_reserves m (moving p st bits) (lock_of st m))
   -- a squash that leaves the thread keeps it, and the thread's own cuts there
   pub left : (m n : ℕ) → is_kept (squasher (moving p st bits)) n ≡ true

@@ -32,7 +32,7 @@ pub fn in_use()
     ensures { (p : Pipe) → Sound p → Strict p → Careful p → InEachCycle p (IsInUse p) }
 {}
 
-/// A thread that moves has room for what it reserves, writes at most once to a memory, into its own pending write without value, and its reads and writes find the blocks of their locations ready.
+/// A thread that moves has room for what it reserves, writes into its own pending writes without value, each once and in the order of its reservations, and its reads and writes find the blocks of their locations ready.
 pub fn writes()
     ensures room { (p : Pipe) → OfEachAct p (λ st bits. HasRoom p st) }
     ensures once { (p : Pipe) → Sound p → Strict p → (m : ℕ) →
@@ -41,7 +41,7 @@ pub fn writes()
         OfEachAct p (λ st bits. IsLet p st) }
 {}
 
-/// A release is of the releasing thread's own write, the oldest pending one, whose value is there or comes in this cycle; and it is no younger than a thread with a block, a read or a write of the memory still to come, or that awaits one.
+/// Releases are of the releasing thread's own writes, the oldest pending ones, whose values are there or come in this cycle; and it is no younger than a thread with a block, a read or a write of the memory still to come, or that awaits one.
 pub fn releases()
     ensures own { (p : Pipe) → Sound p → Strict p → (m : ℕ) →
         OfEachAct p (λ st bits. ReleasesOwn p st bits m) }
@@ -55,7 +55,7 @@ pub fn releases()
         OfEachAct p (λ st bits. AwaitsOlder p st bits m) }
 {}
 
-/// Where a thread's squash cuts the pending writes of a lock, after its own and older ones: up to the stage of the reserves after all of them; from there on reservations, and squashes that leave the thread, keep that place, and up to V each release shifts it by one.
+/// Where a thread's squash cuts the pending writes of a lock, after its own and older ones: up to the stage of the reserves after all of them; from there on reservations, and squashes that leave the thread, keep that place, and up to V releases shift it by as many.
 pub fn squashes()
     ensures all { (p : Pipe) → Sound p → Strict p → (m : ℕ) →
         OfEachAct p (λ st bits. FindsAll p st bits m) }

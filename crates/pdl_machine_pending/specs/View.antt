@@ -10,20 +10,20 @@ use Rattle.pdl_machine_pending.specs.declared.latest.Latest.TheVariants as r_lat
 
 -- the pending write that an entry stands for
 abbrev pub pending_view : r_pending.Pending → Pending
-pending_view e = record { thread = e.thread; address = e.address; value = e.value }
+pending_view e = record { thread = e.thread; var = e.var; address = e.address; value = e.value }
 
 -- an entry, if there is one
 abbrev pub entry_view : Option r_pending.Pending → Option Pending
 entry_view None = None
 entry_view (Some e) = Some (pending_view e)
 
--- a reservation: the memory and the address
+-- a reservation: the memory, its variable and the address
 abbrev pub reserved_view : r_reserved.Reserved → Reserved
-reserved_view r = record { mem = r.mem; address = r.address }
+reserved_view r = record { mem = r.mem; var = r.var; address = r.address }
 
--- a write: the memory and the value
+-- a write: the memory, its variable and the value
 abbrev pub written_view : r_written.Written → Written
-written_view w = record { mem = w.mem; value = w.value }
+written_view w = record { mem = w.mem; var = w.var; value = w.value }
 
 -- what the pending writes of older threads say of an address
 abbrev pub latest_view : r_latest.Latest → locks.Latest

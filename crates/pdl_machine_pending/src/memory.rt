@@ -1,12 +1,12 @@
 // A memory as it runs.
-ghost use Rattle.std.specs.Prelude.{◌≡◌, ◌≤◌, ◌<◌, ◌+◌, ◌++◌, [], Some, if◌then◌else◌, length, map, slice_index, IfOk, IfSome};
+ghost use Rattle.std.specs.Prelude.{◌≡◌, ◌≤◌, ◌<◌, ◌+◌, ◌++◌, [], Some, drop, if◌then◌else◌, length, map, slice_index, slice_set, IfOk, IfSome};
 ghost use Rattle.pdl_semantics.specs.Locks as locks;
 ghost use Rattle.pdl_semantics.specs.Machine as machine;
 ghost use Rattle.pdl_semantics.specs.Cycle as cycle;
 ghost use Rattle.pdl_form.specs.View.{lock_view};
 ghost use Rattle.pdl_machine_pending.specs.View.{latest_view, entry_view, reserved_view, written_view};
 ghost use Rattle.pdl_semantics.specs.Flat.{has_lock};
-ghost use Rattle.pdl_machine_pending.specs.Memory.{committed_to};
+ghost use Rattle.pdl_machine_pending.specs.Memory.{oldest, committed_to};
 
 use crate::latest::{Latest, youngest};
 use crate::pending::{Pending, Reserved, Written, append, drop_younger, fill};
@@ -96,14 +96,15 @@ impl Memory {
         }
     }
 
-    /// Whether there is room for one more pending write.
-    pub fn has_room(&self) -> bool
-        ensures { result ≡ locks.has_room self.now.lock (length self.now.pending) }
+    /// Whether there is room for so many more pending writes.
+    pub fn has_room(&self, more: usize) -> bool
+        ensures { result ≡ locks.has_room self.now.lock more (length self.now.pending) }
     {
         match self.lock {
             Lock::Plain => true,
             Lock::Queue(size) | Lock::Bypass(size) | Lock::Rename(size) => {
-                self.pending.len() < usize::from(size)
+                let size = usize::from(size);
+                more <= size && self.pending.len() <= size - more
             }
         }
     }
@@ -142,11 +143,11 @@ impl Memory {
 
     /// Takes the oldest pending write out and puts its value into the array, 0 where it has none.
     pub fn release(&mut self) -> Option<Pending>
-        requires { IfSome (cycle.oldest self.old.pending) (λ e. e.address < length self.old.words) }
-        ensures result { entry_view result ≡ cycle.oldest self.old.pending }
+        requires { IfSome (oldest self.old.pending) (λ e. e.address < length self.old.words) }
+        ensures result { entry_view result ≡ oldest self.old.pending }
         ensures memory { self.new ≡ record self.old {
-          words = committed_to self.old.words (cycle.oldest self.old.pending);
-          pending = cycle.but_oldest self.old.pending;
+          words = committed_to self.old.words (oldest self.old.pending);
+          pending = drop 1 self.old.pending;
         } }
     {
         if self.pending.is_empty() {
@@ -155,6 +156,17 @@ impl Memory {
         let entry = self.pending.remove(0);
         self.words[entry.address as usize] = entry.value.unwrap_or(0);
         Some(entry)
+    }
+
+    /// Sets the array's word at an address, where there is one, as an advisory write does.
+    pub fn set_word(&mut self, address: u64, word: u64)
+        ensures { self.new ≡ record self.old
+            { words = slice_set self.old.words address word } }
+    {
+        let address = address as usize;
+        if address < self.words.len() {
+            self.words[address] = word;
+        }
     }
 
     /// Drops the pending writes of threads younger than this one, as its squash does.

@@ -3,25 +3,28 @@ ghost use Rattle.std.specs.Prelude.{◌≡◌, ◌≤◌, ◌+◌, ◌++◌, ◌
 ghost use Rattle.pdl_semantics.specs.Cycle as cycle;
 ghost use Rattle.pdl_machine_pending.specs.View.{pending_view, reserved_view, written_view};
 
-/// A pending write: the number of its thread, its address, and its value or none.
+/// A pending write: the numbers of its thread and of the variable by which that reserved it, its address, and its value or none.
 #[derive(Clone, Copy)]
 pub struct Pending {
     pub thread: u64,
+    pub var: usize,
     pub address: u64,
     pub value: Option<u64>,
 }
 
-/// A reservation for writing: the numbers of its memory and of the word.
+/// A reservation for writing: the numbers of its memory, of the variable of its address and of the word.
 #[derive(Clone, Copy)]
 pub struct Reserved {
     pub mem: usize,
+    pub var: usize,
     pub address: u64,
 }
 
-/// A value that is written through a reservation of a memory.
+/// A value that is written through the reservation of a memory by this variable.
 #[derive(Clone, Copy)]
 pub struct Written {
     pub mem: usize,
+    pub var: usize,
     pub value: u64,
 }
 
@@ -37,6 +40,7 @@ fn append_one(pending: &mut Vec<Pending>, m: usize, thread: u64, reserved: Reser
     if reserved.mem == m {
         pending.push_reserved(Pending {
             thread,
+            var: reserved.var,
             address: reserved.address,
             value: None,
         });
@@ -57,14 +61,15 @@ pub fn append(pending: &mut Vec<Pending>, m: usize, thread: u64, reserves: &[Res
     }
 }
 
-// The entry, with the value where it is the thread's.
-fn with_value(entry: Pending, thread: u64, value: u64) -> Pending
+// The entry, with the value where it is the thread's, reserved by this variable.
+fn with_value(entry: Pending, thread: u64, var: usize, value: u64) -> Pending
     ensures { pending_view result ∷ []
-        ≡ cycle.with_value_of thread value (pending_view entry ∷ []) }
+        ≡ cycle.with_value_of thread var value (pending_view entry ∷ []) }
 {
-    if entry.thread == thread {
+    if entry.thread == thread && entry.var == var {
         Pending {
             thread: entry.thread,
+            var: entry.var,
             address: entry.address,
             value: Some(value),
         }
@@ -73,13 +78,13 @@ fn with_value(entry: Pending, thread: u64, value: u64) -> Pending
     }
 }
 
-// Puts a value into the entries of a thread.
-fn put_value(pending: &mut [Pending], thread: u64, value: u64)
+// Puts a value into the entries of a thread that this variable reserved.
+fn put_value(pending: &mut [Pending], thread: u64, var: usize, value: u64)
     ensures { map pending_view pending.new
-        ≡ cycle.with_value_of thread value (map pending_view pending.old) }
+        ≡ cycle.with_value_of thread var value (map pending_view pending.old) }
 {
     for i in 0..pending.len() {
-        let entry = with_value(pending[i], thread, value);
+        let entry = with_value(pending[i], thread, var, value);
         pending[i] = entry;
     }
 }
@@ -87,11 +92,11 @@ fn put_value(pending: &mut [Pending], thread: u64, value: u64)
 // The same where the write is to memory m.
 fn fill_one(pending: &mut [Pending], m: usize, thread: u64, written: Written)
     ensures { map pending_view pending.new
-        ≡ (if written.mem == m then cycle.with_value_of thread written.value
+        ≡ (if written.mem == m then cycle.with_value_of thread written.var written.value
         (map pending_view pending.old) else map pending_view pending.old) }
 {
     if written.mem == m {
-        put_value(pending, thread, written.value);
+        put_value(pending, thread, written.var, written.value);
     }
 }
 

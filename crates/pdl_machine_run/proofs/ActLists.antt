@@ -1,8 +1,10 @@
 -- Lists of acts, and what depends on one of them.
-use Rattle.std.proofs.Common.{◌≡◌, refl, sym, ap, ap₂, ◌∙◌, ℕ, zero, suc, ◌+◌, ◌<◌, Bool, true, false, if◌then◌else◌, ◌==◌, List, [], ◌∷◌, ◌++◌, map, Option, Some, None, length, get_or, arith, append-nil, ne_eqb}
+use Rattle.std.proofs.Common.{◌≡◌, refl, sym, ap, ap₂, ◌∙◌, ℕ, zero, suc, ◌+◌, ◌<◌, Bool, true, false, if◌then◌else◌, ◌==◌, List, [], ◌∷◌, ◌++◌, map, Option, Some, None, length, drop, get_or, arith, append-nil, ne_eqb}
+use Rattle.std.proofs.lemmas.List.{drop_more}
 use Rattle.pdl_semantics.specs.Flat.{Pipe}
+use Rattle.pdl_semantics.specs.Machine.{Request}
 use Rattle.pdl_semantics.specs.Moves.{Act, is_empty}
-use Rattle.pdl_semantics.specs.Cycle.{squasher, entered_branches, address_of, asked_in}
+use Rattle.pdl_semantics.specs.Cycle.{squasher, squash_stage, entered_branches, asked_of, asked_by, address_of, asked_in}
 use Rattle.pdl_machine_run.specs.declared.stage.Awaited as r_awaited
 use Rattle.pdl_machine_run.specs.declared.stage.Stage as r_stage
 use Rattle.pdl_machine_run.specs.View.{awaited_view}
@@ -24,10 +26,37 @@ squasher_on k (Some n) x more e = at x.deeds.fails e
     at true e = absurd (cc e)
     at false e = refl
 
+-- the same of the stage of the thread that does
+pub squash_stage_on : (k : ℕ) (o : Option ℕ) (x : r_stage.Stage) (more : List Act)
+    → squash_stage (act_of k o x) ≡ None → squash_stage (act_of k o x ++ more) ≡ squash_stage more
+squash_stage_on k None x more e = refl
+squash_stage_on k (Some n) x more e = at x.deeds.fails e
+  where
+    at : (b : Bool) → (if b then Some k else None) ≡ None → (if b then Some k else squash_stage more) ≡ squash_stage more
+    at true e = absurd (cc e)
+    at false e = refl
+
 -- the address that is asked for is that of the port
 pub address_is : (m : ℕ) (ms : List Act) → address_by m ms None ≡ asked_in ms m
 address_is m [] = refl
 address_is m (a ∷ ms) = ap (address_of m a.does.asks) (address_is m ms)
+
+asked_both : (m : ℕ) (as' bs : List Act) (old : Request) → asked_by m (as' ++ bs) old ≡ asked_by m as' (asked_by m bs old)
+asked_both m [] bs old = refl
+asked_both m (a ∷ as') bs old = ap (asked_of m a.thread.number a.does.asks) (asked_both m as' bs old)
+
+-- the request after those of a stage and of the later ones
+pub asked_here : (m j : ℕ) (xs : List r_stage.Stage) (x : r_stage.Stage) (old now new : Request) → j < length xs → x ≡ get_or xs j x
+    → now ≡ asked_by m (acts_of (j + 1) (drop (j + 1) xs)) old → new ≡ asked_by m (act_of j (mover_of x) x) now
+    → new ≡ asked_by m (acts_of j (drop j xs)) old
+asked_here m j xs x old now new there is done e =
+    let up : suc j ≡ j + 1 = omega arith in
+    let split : acts_of j (drop j xs) ≡ act_of j (mover_of x) x ++ acts_of (j + 1) (drop (j + 1) xs) =
+    ap (acts_of j) (drop_more xs j x there) ∙ ap (λ (y : r_stage.Stage). act_of j (mover_of y) y ++ acts_of (suc j) (drop (j + 1) xs)) (sym is)
+    ∙ ap (λ k. act_of j (mover_of x) x ++ acts_of k (drop (j + 1) xs)) up in
+    e
+    ∙ ap (asked_by m (act_of j (mover_of x) x)) done
+    ∙ sym (ap (λ (ms : List Act). asked_by m ms old) split ∙ asked_both m (act_of j (mover_of x) x) (acts_of (j + 1) (drop (j + 1) xs)) old)
 
 -- WHO GOES INTO A FORK'S BRANCHES
 

@@ -5,9 +5,8 @@ use Rattle.std.proofs.lemmas.Nat.{pow_pos}
 use Rattle.pdl_semantics.specs.Flat.{Pipe, word_at}
 use Rattle.pdl_semantics.specs.Stages.{in_stage, mem_at}
 use Rattle.pdl_semantics.specs.Locks.{Nothing, value_or}
-use Rattle.pdl_semantics.specs.Machine.{Awaited, Kept, Thread, Request, NoRequest, Owned, Orphan, Pending, Deeds, youngest, answer_to, answer_for, kept_answer, unanswered_reads, answered_reads, with_answers, with_kept, request_of, is_answered, word_for, deeds, deeds_after_all}
+use Rattle.pdl_semantics.specs.Machine.{Awaited, Kept, Thread, Request, NoRequest, Owned, Orphan, Pending, Deeds, youngest, answer_to, answer_for, kept_answer, unanswered_reads, answered_reads, with_answers, request_of, is_answered, word_for, deeds, deeds_after_all}
 use Rattle.pdl_form.specs.Form.{Form}
-use Rattle.pdl_form_values.specs.Widths.{Fit}
 use Rattle.pdl_machine_pending.specs.Memory.{Memory}
 use Rattle.pdl_machine_facts.specs.Use.{before_stage}
 use Rattle.pdl_machine_run.specs.declared.beside.Beside as r_beside
@@ -15,8 +14,8 @@ use Rattle.pdl_machine_run.specs.declared.deeds.Deeds as r_deeds
 use Rattle.pdl_machine_run.specs.Outside.{outside, arrays_in}
 use Rattle.pdl_machine_run.specs.StageDeeds.{memory_at, word_of}
 use Rattle.pdl_machine_run.specs.Room.{HasRoomFor}
-use Rattle.pdl_machine_run.specs.Typed.{IsReadInto, AreAwaited, AreAnswers, IsFine, AreFit, AreMemories}
-use Rattle.pdl_machine_run.proofs.DeedWidths.{fit_set}
+use Rattle.pdl_machine_run.specs.Typed.{IsReadInto, AreAwaited, AreWords, IsFine, AreFit, AreMemories}
+use Rattle.pdl_machine_run.proofs.DeedWidths.{kept_fit}
 
 -- WORDS
 
@@ -52,26 +51,43 @@ carried_deeds p b xs thread k t d e n h =
 -- room for the deeds of some statements is room for those of fewer
 pub room_less : (n m : ℕ) (r : r_deeds.Deeds) → n ≤ m → HasRoomFor m r → HasRoomFor n r
 room_less n m r less h =
-    let a = h.held in
-    let b = h.blocks in
-    let c = h.reserves in
-    let d = h.writes in
-    let e = h.releases in
-    let g = h.asks in
-    record { held = omega arith; blocks = omega arith; reserves = omega arith; writes = omega arith; releases = omega arith; asks = omega arith }
+    let advice = h.advice in
+    let held = h.held in
+    let blocks = h.blocks in
+    let reserves = h.reserves in
+    let writes = h.writes in
+    let releases = h.releases in
+    let asks = h.asks in
+    let advises = h.advises in
+    record {
+      advice = omega arith;
+      held = omega arith;
+      blocks = omega arith;
+      reserves = omega arith;
+      writes = omega arith;
+      releases = omega arith;
+      asks = omega arith;
+      advises = omega arith;
+    }
 
 -- ANSWERS
 
 module _ (f : Form) where
-  kept_fit : (ks : List Kept) (env : List ℕ) → AreAnswers f ks → Fit f.widths env → Fit f.widths (with_kept ks env)
-  kept_fit [] env h k = k
-  kept_fit (x ∷ ks) env h k = kept_fit ks _ h.2 (fit_set f.widths env x.var x.word k h.1 (subst (λ n. x.var < n) (sym k.count) h.0))
-
   -- a thread that fits begins a stage with deeds that fit
-  pub begun_fit : (k : ℕ) (t : Thread) → IsFine f t → AreFit f (before_stage f.pipe k t)
-  begun_fit k t h = record { env = kept_fit t.kept t.env h.kept h.env; guess = h.guess; reserves = tt; writes = tt; asks = tt; child = tt }
+  pub begun_fit : (k : ℕ) (t : Thread) → IsFine f k t → AreFit f (before_stage f.pipe k t)
+  begun_fit k t h =
+      record {
+        env = kept_fit f t.kept t.env h.kept h.env;
+        advice = h.advice;
+        guess = h.guess;
+        reserves = tt;
+        writes = tt;
+        asks = tt;
+        advises = tt;
+        child = tt;
+      }
 
-  answers_append : (ks js : List Kept) → AreAnswers f ks → AreAnswers f js → AreAnswers f (ks ++ js)
+  answers_append : (ks js : List Kept) → AreWords f ks → AreWords f js → AreWords f (ks ++ js)
   answers_append [] js h g = g
   answers_append (k ∷ ks) js h g = (h.0, h.1, answers_append ks js h.2 g)
 
@@ -100,16 +116,16 @@ module _ (f : Form) where
             let none = no_words b.memories.items m a (omega (arith, count, past)) in
             subst (λ w. w < 2 ^ (mem_at f.pipe m).width) (sym (word_listed b.memories.items m a ∙ none)) (pow_pos (mem_at f.pipe m).width)
 
-    answered_fit : (x m : ℕ) (q : Request) (bit : Bool) → IsReadInto f x m → AreAnswers f (kept_answer x (answer_to (outside b) thread m q bit))
+    answered_fit : (x m : ℕ) (q : Request) (bit : Bool) → IsReadInto f x m → AreWords f (kept_answer x (answer_to (outside b) thread m q bit))
     answered_fit x m NoRequest bit h = tt
     answered_fit x m (Orphan a) bit h = tt
     answered_fit x m (Owned owner a) bit h = at (bit && (owner == thread))
       where
-        at : (c : Bool) → AreAnswers f (kept_answer x (if c then Some (word_at (arrays_in b.memories.items) m a) else None))
+        at : (c : Bool) → AreWords f (kept_answer x (if c then Some (word_at (arrays_in b.memories.items) m a) else None))
         at true = (h.there, subst (λ w. arrays_in b.memories.items m a < 2 ^ w) (sym h.width) (word_below m a), tt)
         at false = tt
 
-    all_answered_fit : (rs : List Awaited) → AreAwaited f rs → AreAnswers f (answered_reads f.pipe (outside b) bits thread rs)
+    all_answered_fit : (rs : List Awaited) → AreAwaited f rs → AreWords f (answered_reads f.pipe (outside b) bits thread rs)
     all_answered_fit [] h = tt
     all_answered_fit (r ∷ rs) h =
         answers_append (kept_answer r.var (answer_for f.pipe (outside b) bits thread r.mem)) (answered_reads f.pipe (outside b) bits thread rs)
@@ -139,14 +155,16 @@ module _ (f : Form) where
         at (Some w) g = omega (arith, g)
 
   -- a thread with its answers fits
-  pub answers_fine : (b : r_beside.Beside) (bits : List Bool) → AreMemories f.pipe b.memories.items → (t : Thread)
-      → IsFine f t → IsFine f (with_answers f.pipe (outside b) bits t)
-  answers_fine b bits memories t h =
+  pub answers_fine : (b : r_beside.Beside) (bits : List Bool) → AreMemories f.pipe b.memories.items → (k : ℕ) (t : Thread)
+      → IsFine f k t → IsFine f k (with_answers f.pipe (outside b) bits t)
+  answers_fine b bits memories k t h =
       let count = reads_counted b bits memories t.number t.awaits in
       let sum = length-append t.kept (answered_reads f.pipe (outside b) bits t.number t.awaits) in
       let few = h.few in
       record {
         env = h.env;
+        advice = h.advice;
+        advised = h.advised;
         guess = h.guess;
         awaits = unanswered_fit b bits memories t.number t.awaits h.awaits;
         kept = answers_append t.kept _ h.kept (all_answered_fit b bits memories t.number t.awaits h.awaits);

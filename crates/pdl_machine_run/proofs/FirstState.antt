@@ -221,12 +221,12 @@ module _ (f : Form) (run : IsRunnable f) (image : List (List ℕ)) (images : Are
       up (inl h) = inl (omega arith)
       up (inr h) = inr (omega arith)
 
-  -- the memories have room for what may be pending and one reservation more
+  -- the memories have room for what may be pending and two reservations more
   pub first_roomy : AreRoomy p xs
   first_roomy =
       record {
         memories = record { count = count; kept = kept; kinds = λ m. kinds_by m (below_or m (length p.mems)) };
-        room = λ m less. subst (λ (l : Lock). size_of l + 1 ≤ (memory_at xs m).capacity) (sym (each m less).lock) (each m less).room;
+        room = λ m less. subst (λ (l : Lock). size_of l + 2 ≤ (memory_at xs m).capacity) (sym (each m less).lock) (each m less).room;
         few = λ m less. subst (λ (es : List Pending). length es ≤ size_of (memory_at xs m).lock) (sym (each m less).pending) (omega arith);
       }
     where
@@ -248,20 +248,20 @@ module _ (f : Form) (run : IsRunnable f) (image : List (List ℕ)) (images : Are
       let os = ap (λ (l : List (List Bool)). length l) begun.orders in
       let oa = length-map b.orders.items (λ (o : r_order.Order). o.branches.items) in
       let ob = length-replicate {A = List Bool} (length p.stages) [] in
-      record { roomy = first_roomy; requests = omega (arith, rs, ra, rb); orders = omega (arith, os, oa, ob); long = begun.long }
+      record { roomy = first_roomy; twice = begun.twice; requests = omega (arith, rs, ra, rb); orders = omega (arith, os, oa, ob); long = begun.long }
 
   abbrev none_at : ℕ → Option Thread
   none_at k = None
 
-  none_fine : (n : ℕ) (k : ℕ) → IfSome (slice_index_or (replicate n (none_at 0)) k None) (IsFine f)
-  none_fine zero k = tt
-  none_fine (suc n) zero = tt
-  none_fine (suc n) (suc k) = none_fine n k
+  none_fine : (n k j : ℕ) → IfSome (slice_index_or (replicate n (none_at 0)) k None) (IsFine f j)
+  none_fine zero k j = tt
+  none_fine (suc n) zero j = tt
+  none_fine (suc n) (suc k) j = none_fine n k j
 
-  first_fine : (n k : ℕ) → IfSome (slice_index_or (seats_first p n) k None) (IsFine f)
+  first_fine : (n k : ℕ) → IfSome (slice_index_or (seats_first p n) k None) (IsFine f k)
   first_fine zero k = tt
   first_fine (suc n) zero = born_fine f run.typed.vars 1 (Some p.start) (start_fit f run)
-  first_fine (suc n) (suc k) = none_fine n k
+  first_fine (suc n) (suc k) = none_fine n k (suc k)
 
   first_count : (n : ℕ) → length (seats_first p n) ≡ n
   first_count zero = refl
@@ -282,7 +282,7 @@ module _ (f : Form) (run : IsRunnable f) (image : List (List ℕ)) (images : Are
         count = omega arith;
         wide = wide;
         fine = λ k d less.
-            subst (λ (o : Option Thread). IfSome o (IsFine f))
+            subst (λ (o : Option Thread). IfSome o (IsFine f k))
             (ap (λ (os : List (Option Thread)). slice_index_or os k None) (sym e) ∙ seat_at zs k d less)
             (first_fine (length p.stages) k);
       }

@@ -2,12 +2,13 @@
 use Rattle.std.proofs.Common.{◌≡◌, refl, sym, ap, ap₂, ◌∙◌, subst, ℕ, zero, suc, ◌+◌, ◌<◌, Bool, true, false, ◌&&◌, ◌||◌, if◌then◌else◌, ◌==◌, List, [], ◌∷◌, ◌++◌, map, Option, Some, None, is_some, length, slice_index_or, get_or, arith, ne_eqb, eq-eqb}
 use Rattle.std.proofs.lemmas.List.{length-map}
 use Rattle.pdl_word.specs.Words.{bit}
-use Rattle.pdl_semantics.specs.Flat.{Mem, Stage, Pipe}
+use Rattle.pdl_semantics.specs.Flat.{Mem, Stage, Pipe, is_delayed}
 use Rattle.pdl_semantics.specs.Stages.{plain_mem, list_any}
 use Rattle.pdl_semantics.specs.Machine.{Thread, Request, NoRequest, State, lock_of}
 use Rattle.pdl_semantics.specs.Moves.{Act, all_acts, movers}
-use Rattle.pdl_semantics.specs.Cycle.{for_mems, for_stages, or_then, if_kept, born_thread, child_of, squasher, next_thread, stage_next, with_commits, entries_left, list_three, taken_out, port_write, fork_next, branches_left, request_next, request_left, after_these, after_acts, cycle, ports_these, asked_in}
+use Rattle.pdl_semantics.specs.Cycle.{for_mems, for_stages, or_then, if_kept, born_thread, child_of, squasher, squash_stage, next_thread, stage_next, with_commits, with_all_advised, entries_left, list_three, taken_out, port_writes, fork_next, branches_left, request_next, request_left, after_these, after_acts, cycle, ports_these, asked_in}
 use Rattle.pdl_semantics.specs.Cycle as stated
+use Rattle.pdl_semantics.specs.SecondWrites.{all_twice}
 use Rattle.pdl_machine_facts.specs.Ports.{stage_values, all_commit_values, request_values, all_request_values, whole_values}
 use Rattle.pdl_form.specs.Form.{Form}
 use Rattle.pdl_machine_pending.specs.Memory.{Memory}
@@ -19,9 +20,11 @@ use Rattle.pdl_machine_run.specs.StageDeeds.{memory_at}
 use Rattle.pdl_machine_run.specs.Acts.{act_here, all_of, acts_of, are_held, are_moving, goes, AreDecided, IsCarried, one_ends, memories_after, commits_shown}
 use Rattle.pdl_machine_run.specs.Orders.{order_after, orders_after}
 use Rattle.pdl_machine_run.specs.Requests.{request_after, requests_after, requests_shown}
+use Rattle.pdl_machine_run.specs.Advice.{after_all_writes}
 use Rattle.pdl_machine_run.specs.Running.{IsBeside}
 use Rattle.pdl_machine_run.proofs.CarriedDeeds.{lock_listed, word_listed}
 use Rattle.pdl_machine_run.proofs.Movers.{acts_are, movers_are}
+use Rattle.pdl_machine_run.proofs.AdvisedMemories.{pending_kept}
 use Rattle.pdl_machine_run.proofs.Memories.{locks_after, words_after, commits_after, arrays_listed, Within}
 
 -- states with equal parts are equal
@@ -62,13 +65,13 @@ flags_listed g k (b ∷ bs) (s ∷ ss) n h =
 module _ (p : Pipe) (st : State) (bits : List Bool) (ms : List Act) (sq : Option ℕ) where
   orders_listed : (k : ℕ) (lists : List (List Bool)) (ss : List Stage) → length lists ≡ length ss
       → ((i : ℕ) → slice_index_or lists i [] ≡ slice_index_or st.forks (k + i) [])
-      → orders_after p ms (is_some sq) k lists ≡ for_stages (λ f. branches_left p sq f (fork_next p st ms f)) k ss
+      → orders_after p ms k lists ≡ for_stages (λ f. branches_left p (squash_stage ms) f (fork_next p st ms f)) k ss
   orders_listed k [] [] n h = refl
   orders_listed k [] (s ∷ ss) n h = absurd (omega arith)
   orders_listed k (l ∷ ls) [] n h = absurd (omega arith)
   orders_listed k (l ∷ ls) (s ∷ ss) n h =
       let here : k + 0 ≡ k = omega arith in
-      ap₂ (λ (a : List Bool) (as' : List (List Bool)). order_after p ms (is_some sq) k a ∷ as') (h 0 ∙ ap (λ i. slice_index_or st.forks i []) here)
+      ap₂ (λ (a : List Bool) (as' : List (List Bool)). order_after p ms k a ∷ as') (h 0 ∙ ap (λ i. slice_index_or st.forks i []) here)
       (orders_listed (suc k) ls ss (omega arith)
       (λ i. let same : k + suc i ≡ suc k + i = omega arith in h (suc i) ∙ ap (λ j. slice_index_or st.forks j []) same))
 
@@ -90,7 +93,7 @@ module _ (p : Pipe) (st : State) (bits : List Bool) (ms : List Act) (sq : Option
 
 requests_are : (ms : List Act) (k : ℕ) (ds : List Mem) → requests_shown k ms ds ≡ all_request_values ds (for_mems (λ m. asked_in ms m) k ds)
 requests_are ms k [] = refl
-requests_are ms k (d ∷ ds) = ap (λ (vs : List ℕ). (if d.delayed then request_values (asked_in ms k) else []) ++ vs) (requests_are ms (suc k) ds)
+requests_are ms k (d ∷ ds) = ap (λ (vs : List ℕ). (if is_delayed d.kind then request_values (asked_in ms k) else []) ++ vs) (requests_are ms (suc k) ds)
 
 -- WHO STANDS WHERE, AND MOVES
 
@@ -245,13 +248,14 @@ module _ (f : Form) (b : r_beside.Beside) (bits : List Bool) (next : ℕ) (ys zs
   module _ (news : List r_stage.Stage) (c : r_beside.Beside) (called : Bool) (sq : Option ℕ) (born : Option Thread) where
     -- where stages, memories, orders and requests become what these acts make of them, the state is the one after the cycle
     pub next_state : length news ≡ length zs → sq ≡ squasher ms → born ≡ born_thread p next (child_of ms) → called ≡ is_some (child_of ms) → Within st ms 0 xs
+        → arrays_in (after_all_writes ms (memories_after 0 ms sq xs)) ≡ with_all_advised ms (arrays_in (memories_after 0 ms sq xs))
         → ((q : ℕ) (d : r_stage.Stage) → q < length zs
         → thread_in (get_or news q d).slot ≡ or_then (if q == 0 then born else None) (if_kept sq (next_thread p q (all_of 0 zs))))
-        → c.memories.items ≡ memories_after 0 ms sq xs
-        → order_views c.orders.items ≡ orders_after p ms (is_some sq) 0 (order_views b.orders.items)
+        → c.memories.items ≡ after_all_writes ms (memories_after 0 ms sq xs)
+        → order_views c.orders.items ≡ orders_after p ms 0 (order_views b.orders.items)
         → map request_view c.requests.items ≡ requests_after p bits ms sq 0 (map request_view b.requests.items)
         → state_of (seats news) c (if called then suc next else next) ≡ cycle p st bits
-    next_state same squashed bears calls within threads memories orders requests =
+    next_state same squashed bears calls within advised threads memories orders requests =
         same_state (state_of (seats news) c (if called then suc next else next))
         (after_these p st bits (all_of 0 zs) ms (squasher ms)) stages_are arrays_next locks_next forks_next requests_next
         (ap (λ (t : Bool). if t then suc next else next) calls)
@@ -269,20 +273,21 @@ module _ (f : Form) (b : r_beside.Beside) (bits : List Bool) (next : ℕ) (ys zs
             (bears ∙ ap (born_thread p next) children) squashed
             ∙ ap (λ q. stage_next p st (all_of 0 zs) (squasher ms) q) (sym (zero_on i)))
 
-        arrays_next : arrays_in c.memories.items ≡ with_commits st ms 0 p.mems st.arrays
-        arrays_next = ap arrays_in memories ∙ sym (arrays_are within sq)
+        arrays_next : arrays_in c.memories.items ≡ with_all_advised ms (with_commits st ms 0 p.mems st.arrays)
+        arrays_next = ap arrays_in memories ∙ advised ∙ sym (ap (with_all_advised ms) (arrays_are within sq))
 
         locks_next : map (λ (x : Memory). x.pending) c.memories.items ≡ for_mems (λ m. entries_left (squasher ms) (list_three st ms m)) 0 p.mems
         locks_next =
-            ap (λ (ns : List Memory). map (λ (x : Memory). x.pending) ns) memories ∙ sym (locks_after st ms sq 0 p.mems xs mems locked)
+            ap (λ (ns : List Memory). map (λ (x : Memory). x.pending) ns) memories
+            ∙ pending_kept ms (memories_after 0 ms sq xs)
+            ∙ sym (locks_after st ms sq 0 p.mems xs mems locked)
             ∙ ap (λ (s : Option ℕ). for_mems (λ m. entries_left s (list_three st ms m)) 0 p.mems) squashed
 
-        forks_next : order_views c.orders.items ≡ for_stages (λ i. branches_left p (squasher ms) i (fork_next p st ms i)) 0 p.stages
+        forks_next : order_views c.orders.items ≡ for_stages (λ i. branches_left p (squash_stage ms) i (fork_next p st ms i)) 0 p.stages
         forks_next =
             orders
             ∙ orders_listed p st bits ms sq 0 (order_views b.orders.items) p.stages (length-map b.orders.items _ ∙ beside.orders)
             (λ i. ap (λ j. slice_index_or st.forks j []) (sym (zero_on i)))
-            ∙ ap (λ (s : Option ℕ). for_stages (λ i. branches_left p s i (fork_next p st ms i)) 0 p.stages) squashed
 
         requests_next : map request_view c.requests.items ≡ for_mems (λ m. request_left (squasher ms) (request_next p st bits ms m)) 0 p.mems
         requests_next =
@@ -328,17 +333,18 @@ module _ (f : Form) (b : r_beside.Beside) (bits : List Bool) (next : ℕ) (ys zs
 
   -- what is shown of stages, commits, requests, the end and the squash are the stated ports
   pub next_ports : (sq : Option ℕ) → sq ≡ squasher ms
-      → stage_values (are_held zs) (are_moving zs) ++ (commits_shown 0 ms xs ++ (requests_shown 0 ms p.mems ++ bit (one_ends p ms) ∷ bit (is_some sq) ∷ []))
+      → stage_values (are_held zs) (are_moving zs)
+      ++ (commits_shown b.twice.items 0 ms xs ++ (requests_shown 0 ms p.mems ++ bit (one_ends p ms) ∷ bit (is_some sq) ∷ []))
       ≡ whole_values p (stated.ports p st (all_acts p st bits))
   next_ports sq squashed =
       ap₂
       (λ (u v : List Bool). stage_values u v
-      ++ (commits_shown 0 ms xs ++ (requests_shown 0 ms p.mems ++ bit (one_ends p ms) ∷ bit (is_some sq) ∷ []))) held_are moving_are
+      ++ (commits_shown b.twice.items 0 ms xs ++ (requests_shown 0 ms p.mems ++ bit (one_ends p ms) ∷ bit (is_some sq) ∷ []))) held_are moving_are
       ∙ ap₂ (λ (u v : List ℕ). stage_values valid moves ++ (u ++ (v ++ bit (one_ends p ms) ∷ bit (is_some sq) ∷ [])))
-      (sym (commits_after st ms 0 p.mems xs mems locked kinds)) (requests_are ms 0 p.mems)
+      (ap (λ (ts : List Bool). commits_shown ts 0 ms xs) beside.twice ∙ sym (commits_after st ms told 0 p.mems xs mems locked kinds)) (requests_are ms 0 p.mems)
       ∙ ap
       (λ (s : Option ℕ). stage_values valid moves
-      ++ (all_commit_values p.mems commits ++ (all_request_values p.mems asked ++ bit (one_ends p ms) ∷ bit (is_some s) ∷ []))) squashed
+      ++ (all_commit_values told p.mems commits ++ (all_request_values p.mems asked ++ bit (one_ends p ms) ∷ bit (is_some s) ∷ []))) squashed
       ∙ ap (λ (as' : List Act). whole_values p (ports_these p st (all_of 0 zs) as')) (sym (movers_are 0 zs))
       ∙ ap (λ (as' : List Act). whole_values p (stated.ports p st as')) these_are
     where
@@ -348,8 +354,11 @@ module _ (f : Form) (b : r_beside.Beside) (bits : List Bool) (next : ℕ) (ys zs
       moves : List Bool
       moves = for_stages (λ s. list_any (λ (a : Act). a.stage == s) ms) 0 p.stages
 
-      commits : List (Option stated.PortWrite)
-      commits = for_mems (λ m. port_write (taken_out st ms m)) 0 p.mems
+      told : List Bool
+      told = all_twice p.stmts 0 p.mems
+
+      commits : List (List stated.PortWrite)
+      commits = for_mems (λ m. port_writes (taken_out st ms m)) 0 p.mems
 
       asked : List (Option ℕ)
       asked = for_mems (λ m. asked_in ms m) 0 p.mems

@@ -1,9 +1,9 @@
--- Reservations and writes of those who move, stage by stage.
+-- Reservations and releases of those who move, stage by stage.
 use Rattle.std.proofs.Common.{◌≡◌, refl, sym, ap, ◌∙◌, ℕ, zero, suc, ◌+◌, ◌<◌, ◌≤◌, List, [], ◌∷◌, ◌++◌, drop, length, length-append, Option, Some, None, get_or, arith}
 use Rattle.std.proofs.lemmas.List.{drop_more}
 use Rattle.pdl_semantics.specs.Machine.{Pending}
 use Rattle.pdl_semantics.specs.Moves.{Act}
-use Rattle.pdl_semantics.specs.Cycle.{new_entries, with_reserves}
+use Rattle.pdl_semantics.specs.Cycle.{new_entries, with_reserves, all_releases}
 use Rattle.pdl_machine_run.specs.declared.stage.Stage as r_stage
 use Rattle.pdl_machine_run.specs.Acts.{mover_of, act_of, acts_of}
 
@@ -58,4 +58,46 @@ room_here m i j xs x d list most there is room =
     ap (λ (as' : List Act). length (with_reserves m as' list)) split
     ∙ ap (λ (es : List Pending). length es)
     (appended_both m (act_of j (mover_of x) x) (acts_of (j + 1) (drop (j + 1) xs)) list ∙ appended_anywhere m j i (mover_of x) x later) in
+    omega arith
+
+-- RELEASES
+
+released_both : (m : ℕ) (as' bs : List Act) → all_releases m (as' ++ bs) ≡ all_releases m bs + all_releases m as'
+released_both m [] bs = omega arith
+released_both m (a ∷ as') bs = let rest = released_both m as' bs in omega arith
+
+-- the number of its stage makes no difference
+released_anywhere : (m j k : ℕ) (o : Option ℕ) (x : r_stage.Stage) → all_releases m (act_of j o x) ≡ all_releases m (act_of k o x)
+released_anywhere m j k None x = refl
+released_anywhere m j k (Some n) x = refl
+
+-- the stages from j on release no more than all
+released_part : (m k j : ℕ) (xs : List r_stage.Stage) → all_releases m (acts_of (k + j) (drop j xs)) ≤ all_releases m (acts_of k xs)
+released_part m k zero xs =
+    let same : k + 0 ≡ k = omega arith in
+    let equal = ap (λ i. all_releases m (acts_of i xs)) same in
+    omega arith
+released_part m k (suc j) [] = omega arith
+released_part m k (suc j) (x ∷ xs) =
+    let same : k + suc j ≡ suc k + j = omega arith in
+    let rest = released_part m (suc k) j xs in
+    let equal = ap (λ i. all_releases m (acts_of i (drop j xs))) same in
+    let both = released_both m (act_of k (mover_of x) x) (acts_of (suc k) xs) in
+    omega arith
+
+-- with the stage before them they release no more than all
+pub few_here : (m i j : ℕ) (xs : List r_stage.Stage) (x d : r_stage.Stage)
+    → j < length xs → x ≡ get_or xs j d
+    → all_releases m (acts_of (j + 1) (drop (j + 1) xs)) + all_releases m (act_of i (mover_of x) x) ≤ all_releases m (acts_of 0 xs)
+few_here m i j xs x d there is =
+    let part = released_part m 0 j xs in
+    let same : 0 + j ≡ j = omega arith in
+    let up : suc j ≡ j + 1 = omega arith in
+    let at = ap (λ k. all_releases m (acts_of k (drop j xs))) same in
+    let split : acts_of j (drop j xs) ≡ act_of j (mover_of x) x ++ acts_of (j + 1) (drop (j + 1) xs) =
+    ap (acts_of j) (drop_more xs j d there) ∙ ap (λ (y : r_stage.Stage). act_of j (mover_of y) y ++ acts_of (suc j) (drop (j + 1) xs)) (sym is)
+    ∙ ap (λ k. act_of j (mover_of x) x ++ acts_of k (drop (j + 1) xs)) up in
+    let whole : all_releases m (acts_of j (drop j xs)) ≡ all_releases m (acts_of (j + 1) (drop (j + 1) xs)) + all_releases m (act_of j (mover_of x) x) =
+    ap (all_releases m) split ∙ released_both m (act_of j (mover_of x) x) (acts_of (j + 1) (drop (j + 1) xs)) in
+    let anywhere = released_anywhere m j i (mover_of x) x in
     omega arith

@@ -1,24 +1,25 @@
 -- The memories and the orders of forks before a cycle can take it, and have their widths and their room after it.
-use Rattle.std.proofs.Common.{◌≡◌, refl, sym, ap, ap₂, ◌∙◌, subst, ℕ, zero, suc, ◌+◌, ◌^◌, ◌<◌, ◌≤◌, Bool, true, false, if◌then◌else◌, List, [], ◌∷◌, ◌++◌, Option, None, is_some, map, length, get_or, slice_index_or, ◌⊎◌, inl, inr, arith}
-use Rattle.std.specs.Prelude.{IfSome, vec_capacity}
+use Rattle.std.proofs.Common.{◌≡◌, refl, sym, ap, ap₂, ◌∙◌, subst, ℕ, zero, suc, ◌+◌, ◌^◌, ◌<◌, ◌≤◌, Bool, true, List, [], ◌∷◌, ◌++◌, Option, take, map, length, get_or, slice_index_or, ◌⊎◌, inl, inr, arith}
+use Rattle.std.specs.Prelude.{vec_capacity}
 use Rattle.pdl_semantics.specs.Flat.{Lock, Plain, Pipe}
 use Rattle.pdl_semantics.specs.Stages.{mem_at}
+use Rattle.pdl_semantics.specs.Locks.{has_room}
 use Rattle.pdl_semantics.specs.Machine.{Pending, State, lock_of, fork_of}
 use Rattle.pdl_semantics.specs.Moves.{Act}
-use Rattle.pdl_semantics.specs.Cycle.{has_release, oldest, entries_left, list_three, cycle, first, squasher, branches_left, fork_next}
+use Rattle.pdl_semantics.specs.Cycle.{entries_left, list_three, cycle, first, squasher, squash_stage, branches_left, fork_next, all_releases}
 use Rattle.pdl_lockapi.specs.Forget.{addresses}
 use Rattle.pdl_machine_facts.specs.Slots.{moving}
 use Rattle.pdl_machine_facts.specs.Cycle.{IsByStages}
 use Rattle.pdl_machine_facts.specs.Use.{IsInUse}
 use Rattle.pdl_machine_facts.proofs.StagewisePorts.{at_stage}
 use Rattle.pdl_form.specs.Form.{Form}
-use Rattle.pdl_machine_pending.specs.Memory.{Memory}
+use Rattle.pdl_machine_pending.specs.Memory.{Memory, AreWithin}
 use Rattle.pdl_machine_pending.specs.KeptWords.{IsKept}
 use Rattle.pdl_machine_run.specs.declared.stage.Stage as r_stage
 use Rattle.pdl_machine_run.specs.declared.beside.Beside as r_beside
 use Rattle.pdl_machine_run.specs.declared.beside.Order as r_order
 use Rattle.pdl_machine_run.specs.View.{seats, thread_in}
-use Rattle.pdl_machine_run.specs.Outside.{state_of, outside}
+use Rattle.pdl_machine_run.specs.Outside.{state_of}
 use Rattle.pdl_machine_run.specs.StageDeeds.{memory_at}
 use Rattle.pdl_machine_run.specs.Acts.{acts_of, IsCarried, AreDecided, both, left_of, memory_after, memories_after}
 use Rattle.pdl_machine_run.specs.Orders.{order_after}
@@ -29,7 +30,7 @@ use Rattle.pdl_machine_run.proofs.Memories.{Within}
 use Rattle.pdl_lockapi.proofs.LockKinds.{room_size}
 use Rattle.pdl_lockapi.proofs.Lengths.{appended_long}
 use Rattle.pdl_machine_run.proofs.CarriedDeeds.{lock_listed}
-use Rattle.pdl_machine_run.proofs.ActedThreads.{AllActed, all_acted, acts_sized, kept_both, oldest_within, kept_after, left_count, entries_few, room_acts, HasRoom, AllSized}
+use Rattle.pdl_machine_run.proofs.ActedThreads.{AllActed, all_acted, acts_sized, kept_both, each_within, kept_after, left_count, entries_few, AllSized}
 use Rattle.pdl_machine_run.proofs.MachineCycles.{movers_known, cycle_is}
 use Rattle.pdl_semantics.proofs.Facts.{after_more}
 
@@ -99,13 +100,14 @@ module _ (f : Form) (run : IsRunnable f) (b : r_beside.Beside) (bits : List Bool
   xs = b.memories.items
 
   -- each thread in the stages fits, and so does what it does
-  pub acted : AllActed f zs
+  pub acted : AllActed f 0 zs
   acted =
       all_acted f b bits 0 ys zs long
       (λ i d less. let same : i ≡ 0 + i = omega arith in
       subst (λ j. IsCarried f b bits j (thread_in (get_or ys i d).slot) (get_or zs i d)) same (carried i d less))
 
-  sized : AllSized p ms
+  -- what those who move reserve and write is of words that are there, and of their widths
+  pub sized : AllSized p ms
   sized = acts_sized f 0 zs acted
 
   by : IsByStages p st bits
@@ -114,8 +116,19 @@ module _ (f : Form) (run : IsRunnable f) (b : r_beside.Beside) (bits : List Bool
   moving_is : moving p st bits ≡ ms
   moving_is = sym by.movers ∙ movers_known f b bits next ys zs beside count long carried decided
 
-  one : (m : ℕ) → length (addresses m ms) ≤ 1
-  one m = subst (λ (as' : List Act). length (addresses m as') ≤ 1) moving_is ((used_run f run st bits reached).one m)
+  used : IsInUse p st bits
+  used = used_run f run st bits reached
+
+  two : (m : ℕ) → m < length p.mems → length (addresses m ms) ≤ 2
+  two m there = subst (λ (as' : List Act). length (addresses m as') ≤ 2) moving_is (used.two m there)
+
+  few_out : (m : ℕ) → m < length p.mems → all_releases m ms ≤ 2
+  few_out m there = subst (λ (as' : List Act). all_releases m as' ≤ 2) moving_is (used.few m there)
+
+  room_for : (m : ℕ) → 1 ≤ length (addresses m ms) → has_room (mem_at p m).lock (length (addresses m ms)) (length (lock_of st m)) ≡ true
+  room_for m = subst
+      (λ (as' : List Act). 1 ≤ length (addresses m as') → has_room (mem_at p m).lock (length (addresses m as')) (length (lock_of st m)) ≡ true)
+      moving_is (used.room m)
 
   step_one : (m : ℕ) → m < length xs → CanStep m ms (memory_at xs m)
   step_one m less =
@@ -124,27 +137,29 @@ module _ (f : Form) (run : IsRunnable f) (b : r_beside.Beside) (bits : List Bool
       let depth = has.count in
       let few = beside.roomy.few m there in
       let room = beside.roomy.room m there in
-      let most = one m in
+      let most = two m there in
       let sum = appended_long m ms (memory_at xs m).pending in
       record {
         room = omega arith;
         within =
-            subst (λ n. IfSome (oldest (both m ms (memory_at xs m).pending)) (λ e. e.address < n)) (sym depth)
-            (oldest_within p m (both m ms (memory_at xs m).pending) (kept_both p m ms (memory_at xs m).pending sized has.pending));
+            subst (λ n. AreWithin n (both m ms (memory_at xs m).pending)) (sym depth)
+            (each_within p m (both m ms (memory_at xs m).pending) (kept_both p m ms (memory_at xs m).pending sized has.pending));
+        few = few_out m there;
       }
 
   -- each memory has room for what the acts reserve, and a word for what they release
   pub can_step : AllCanStep 0 ms xs
   can_step = all_step ms 0 xs (λ i less. let same : i ≡ 0 + i = omega arith in subst (λ j. CanStep j ms (memory_at xs i)) same (step_one i less))
 
-  -- what is released is of a word that is there
-  out_within : (c : Bool) (n : ℕ) (es : List Pending) → IfSome (oldest es) (λ e. e.address < n) → IfSome (if c then oldest es else None) (λ e. e.address < n)
-  out_within true n es h = h
-  out_within false n es h = tt
+  -- what is released is of words that are there
+  out_within : (k n : ℕ) (es : List Pending) → AreWithin n es → AreWithin n (take k es)
+  out_within zero n es h = tt
+  out_within (suc k) n [] h = tt
+  out_within (suc k) n (e ∷ es) h = (h.0, out_within k n es h.1)
 
   all_within : (k : ℕ) (ns : List Memory) → AllCanStep k ms ns → Within st ms k ns
   all_within k [] h = tt
-  all_within k (x ∷ ns) h = (out_within (has_release k ms) (length x.words) (both k ms x.pending) h.0.within, all_within (suc k) ns h.1)
+  all_within k (x ∷ ns) h = (out_within (all_releases k ms) (length x.words) (both k ms x.pending) h.0.within, all_within (suc k) ns h.1)
 
   -- what the acts release of each memory is of a word that is there
   pub within : Within st ms 0 xs
@@ -162,7 +177,7 @@ module _ (f : Form) (run : IsRunnable f) (b : r_beside.Beside) (bits : List Bool
         ∙ ap₂ (λ (q : Option ℕ) (es : List Pending). entries_left q (left_of m ms es)) (sym squashed) (lock_listed xs m)
 
     few_by : (m : ℕ) → m < length p.mems
-        → ((mem_at p m).lock ≡ Plain) ⊎ (length (memory_at xs m).pending < size_of (memory_at xs m).lock)
+        → ((mem_at p m).lock ≡ Plain) ⊎ (length (addresses m ms) + length (memory_at xs m).pending ≤ size_of (memory_at xs m).lock)
         → length (after m) ≤ size_of (memory_at xs m).lock
     few_by m less (inl plain) =
         let used = used_run f run (cycle p st bits) bits (reached_next p st bits reached) in
@@ -170,31 +185,31 @@ module _ (f : Form) (run : IsRunnable f) (b : r_beside.Beside) (bits : List Bool
         let empty = ap (λ (es : List Pending). length es) none in
         omega (arith, empty)
     few_by m less (inr room) =
-        let most = one m in
         let left = left_count m ms (memory_at xs m).pending in
         let few = entries_few sq (left_of m ms (memory_at xs m).pending) in
-        omega (arith, most, left, few, room)
-
-    few_room : (m : ℕ) → m < length p.mems → (addresses m ms ≡ []) ⊎ (HasRoom p b bits m) → length (after m) ≤ size_of (memory_at xs m).lock
-    few_room m less (inl none) =
-        let empty = ap (λ (ns : List ℕ). length ns) none in
-        let left = left_count m ms (memory_at xs m).pending in
-        let fewer = entries_few sq (left_of m ms (memory_at xs m).pending) in
-        let few = beside.roomy.few m less in
-        omega (arith, empty, left, fewer, few)
-    few_room m less (inr room) = few_by m less (sized_by (room_size (mem_at p m).lock (length (lock_of (outside b) m)) room))
-      where
-        sized_by : ((mem_at p m).lock ≡ Plain) ⊎ (length (lock_of (outside b) m) < size_of (mem_at p m).lock)
-            → ((mem_at p m).lock ≡ Plain) ⊎ (length (memory_at xs m).pending < size_of (memory_at xs m).lock)
-        sized_by (inl e) = inl e
-        sized_by (inr h) =
-            inr (subst (λ (l : Lock). length (memory_at xs m).pending < size_of l) (beside.roomy.memories.kinds m)
-            (subst (λ (es : List Pending). length es < size_of (mem_at p m).lock) (lock_listed xs m) h))
+        omega (arith, left, few, room)
 
     few_after : (m : ℕ) → m < length p.mems → length (after m) ≤ size_of (memory_at xs m).lock
-    few_after m less = few_room m less (room_acts p b bits m 0 zs decided)
+    few_after m less = at (length (addresses m ms)) refl
+      where
+        sized_by : ((mem_at p m).lock ≡ Plain) ⊎ (length (addresses m ms) + length (lock_of st m) ≤ size_of (mem_at p m).lock)
+            → ((mem_at p m).lock ≡ Plain) ⊎ (length (addresses m ms) + length (memory_at xs m).pending ≤ size_of (memory_at xs m).lock)
+        sized_by (inl e) = inl e
+        sized_by (inr h) =
+            inr (subst (λ (l : Lock). length (addresses m ms) + length (memory_at xs m).pending ≤ size_of l) (beside.roomy.memories.kinds m)
+            (subst (λ (es : List Pending). length (addresses m ms) + length es ≤ size_of (mem_at p m).lock) (lock_listed xs m) h))
 
-    -- the memories after the cycle have room for what may be pending and one reservation more
+        at : (n : ℕ) → length (addresses m ms) ≡ n → length (after m) ≤ size_of (memory_at xs m).lock
+        at zero e =
+            let left = left_count m ms (memory_at xs m).pending in
+            let fewer = entries_few sq (left_of m ms (memory_at xs m).pending) in
+            let few = beside.roomy.few m less in
+            omega (arith, e, left, fewer, few)
+        at (suc n) e =
+            few_by m less
+            (sized_by (room_size (mem_at p m).lock (length (addresses m ms)) (length (lock_of st m)) (room_for m (omega (arith, e)))))
+
+    -- the memories after the cycle have room for what may be pending and two reservations more
     pub roomy_after : AreRoomy p (memories_after 0 ms sq xs)
     roomy_after =
         record {
@@ -205,7 +220,7 @@ module _ (f : Form) (run : IsRunnable f) (b : r_beside.Beside) (bits : List Bool
                 (kept_after p m ms sq (memory_at xs m) sized (beside.roomy.memories.kept m less));
             kinds = λ m. beside.roomy.memories.kinds m ∙ sym (lock_same 0 m xs);
           };
-          room = λ m less. subst (λ (x : Memory). size_of x.lock + 1 ≤ x.capacity) (sym (at m less)) (beside.roomy.room m less);
+          room = λ m less. subst (λ (x : Memory). size_of x.lock + 2 ≤ x.capacity) (sym (at m less)) (beside.roomy.room m less);
           few = λ m less. subst (λ (x : Memory). length x.pending ≤ size_of x.lock) (sym (at m less)) (few_after m less);
         }
       where
@@ -228,15 +243,14 @@ module _ (f : Form) (run : IsRunnable f) (b : r_beside.Beside) (bits : List Bool
 
     -- a fork's order has room for the branches of the threads that are inside after the cycle
     pub orders_room : (i : ℕ) (d : r_order.Order) → i < length b.orders.items
-        → length (order_after p ms (is_some sq) i (get_or b.orders.items i d).branches.items) ≤ vec_capacity (get_or b.orders.items i d).branches
+        → length (order_after p ms i (get_or b.orders.items i d).branches.items) ≤ vec_capacity (get_or b.orders.items i d).branches
     orders_room i d less =
         let there : i < length p.stages = subst (λ n. i < n) beside.orders less in
-        let now : fork_of (cycle p st bits) i ≡ order_after p ms (is_some sq) i (get_or b.orders.items i d).branches.items =
+        let now : fork_of (cycle p st bits) i ≡ order_after p ms i (get_or b.orders.items i d).branches.items =
         ap (λ (s : State). fork_of s i) (cycle_is f b bits next ys zs beside count long carried decided)
-        ∙ at_stage (λ j. branches_left p (squasher ms) j (fork_next p st ms j)) 0 p.stages i [] there
-        ∙ ap (λ j. branches_left p (squasher ms) j (fork_next p st ms j)) (let same : 0 + i ≡ i = omega arith in same)
-        ∙ ap (λ (q : Option ℕ). branches_left p q i (fork_next p st ms i)) (sym squashed)
-        ∙ ap (order_after p ms (is_some sq) i) (order_at b.orders.items i d less) in
+        ∙ at_stage (λ j. branches_left p (squash_stage ms) j (fork_next p st ms j)) 0 p.stages i [] there
+        ∙ ap (λ j. branches_left p (squash_stage ms) j (fork_next p st ms j)) (let same : 0 + i ≡ i = omega arith in same)
+        ∙ ap (order_after p ms i) (order_at b.orders.items i d less) in
         let few = forked_run f run (cycle p st bits) bits (reached_next p st bits reached) i in
         let room = beside.long i d less in
         let same = ap (λ (l : List Bool). length l) now in

@@ -1,13 +1,13 @@
 -- Stages of which some change places.
 use Rattle.std.proofs.Common.{◌≡◌, refl, sym, ap, ap₂, ◌∙◌, subst, ℕ, zero, suc, ◌+◌, ◌<◌, ◌≤◌, Bool, true, false, ◌==◌, if◌then◌else◌, List, [], ◌∷◌, ◌++◌, map, Option, Some, None, is_none, drop, length, get_or, set, ◌⊎◌, inl, inr, arith, ne_eqb, eq-eqb}
 use Rattle.std.proofs.lemmas.Bool.{eqb-true, eqb-false}
-use Rattle.std.proofs.lemmas.List.{length-set, length-drop, drop_more, get_or-set_same, get_or-set_other}
+use Rattle.std.proofs.lemmas.List.{length-set, length-drop, drop_more, get_or_default, get_or-set_same, get_or-set_other}
 use Rattle.std.proofs.lemmas.List.Edits.{swapped_from_swap, length-swap}
 use Rattle.std.specs.List.{swap}
 use Rattle.pdl_semantics.specs.Flat.{Pipe}
 use Rattle.pdl_semantics.specs.Machine.{Thread, Deeds}
 use Rattle.pdl_semantics.specs.Moves.{Act, next_stage}
-use Rattle.pdl_semantics.specs.Cycle.{is_stage, thread_after, or_then, next_thread}
+use Rattle.pdl_semantics.specs.Cycle.{is_stage, thread_after, or_then, next_thread, if_kept}
 use Rattle.pdl_machine_facts.specs.Slots.{LeadsOn}
 use Rattle.pdl_form.specs.Form.{Form}
 use Rattle.pdl_machine_run.specs.declared.stage.Stage as r_stage
@@ -36,6 +36,22 @@ stages_set f xs k y h here i d less = at (same_or i k)
     at : (i ≡ k) ⊎ (i ≡ k → ⊥) → IsStage f (get_or (set xs k y) i d)
     at (inl e) = let there : k < length xs = omega (arith, long, less, e) in subst (IsStage f) (sym (set_at xs k i y d e there)) here
     at (inr n) = subst (IsStage f) (sym (get_or-set_other xs k i y d n)) (h i d (omega (arith, long, less)))
+
+-- where those before a stage are left as a squash leaves them, and the others as they were, so they are with this stage
+pub removed_more : (sq : Option ℕ) (init now : List r_stage.Stage) (k : ℕ) (x y : r_stage.Stage) → k < length now
+    → ((i : ℕ) (d : r_stage.Stage) → i < k → thread_in (get_or now i d).slot ≡ if_kept sq (thread_in (get_or init i d).slot))
+    → ((i : ℕ) (d : r_stage.Stage) → k ≤ i → get_or now i d ≡ get_or init i d)
+    → thread_in y.slot ≡ if_kept sq (thread_in (get_or now k x).slot)
+    → (i : ℕ) (d : r_stage.Stage) → i < k + 1 → thread_in (get_or (set now k y) i d).slot ≡ if_kept sq (thread_in (get_or init i d).slot)
+removed_more sq init now k x y there done left e i d low = at (same_or i k)
+  where
+    at : (i ≡ k) ⊎ (i ≡ k → ⊥) → thread_in (get_or (set now k y) i d).slot ≡ if_kept sq (thread_in (get_or init i d).slot)
+    at (inl same) =
+        ap (λ (z : r_stage.Stage). thread_in z.slot) (set_at now k i y d same there)
+        ∙ e
+        ∙ ap (λ (z : r_stage.Stage). if_kept sq (thread_in z.slot))
+        (get_or_default now k x d there ∙ left k d (omega arith) ∙ ap (λ j. get_or init j d) (sym same))
+    at (inr n) = ap (λ (z : r_stage.Stage). thread_in z.slot) (get_or-set_other now k i y d n) ∙ done i d (omega (arith, low, n))
 
 module _ (xs : List r_stage.Stage) (k q : ℕ) (hk : k < length xs) (hq : q < length xs) where
   -- after stages k and q change places, q has what stood at k

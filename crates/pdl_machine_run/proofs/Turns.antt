@@ -22,11 +22,14 @@ use Rattle.pdl_machine_run.specs.Typed.{IsFine, AreFit}
 use Rattle.pdl_machine_run.specs.Acts.{acts_of, all_of, are_held, are_moving, IsCarried, AreDecided, one_ends, memories_after, commits_shown}
 use Rattle.pdl_machine_run.specs.Orders.{order_after, orders_after}
 use Rattle.pdl_machine_run.specs.Requests.{requests_after, requests_shown}
+use Rattle.pdl_machine_run.specs.Advice.{after_all_writes}
 use Rattle.pdl_machine_run.specs.Ready.{IsWide, IsStage, AreStages, AreOrders, AllCanStep, HasAwaits}
 use Rattle.pdl_machine_run.specs.Running.{IsRunnable, IsReached, IsBeside, AreRoomy, AreReady}
 use Rattle.pdl_machine_run.proofs.MachineCycles.{next_state, next_ports}
 use Rattle.pdl_machine_run.proofs.ThreadInvariants.{born_fine, args_room, child_fits, stage_fine, awaits_room}
-use Rattle.pdl_machine_run.proofs.Roomy.{acted, can_step, within, roomy_after, orders_room}
+use Rattle.pdl_machine_run.proofs.ActedThreads.{AllActed, AllSized}
+use Rattle.pdl_machine_run.proofs.AdvisedMemories.{all_roomy, all_arrays}
+use Rattle.pdl_machine_run.proofs.Roomy.{acted, sized, can_step, within, roomy_after, orders_room}
 
 -- stages with the threads of these, which have acted and of which it is decided who moves
 pub record Turn (f : Form) (b : r_beside.Beside) (bits : List Bool) (next : ℕ) (ys zs : List r_stage.Stage) : Type 0 where
@@ -87,9 +90,9 @@ requests_count : (p : Pipe) (bits : List Bool) (ms : List Act) (sq : Option ℕ)
 requests_count p bits ms sq m [] = refl
 requests_count p bits ms sq m (r ∷ rs) = ap suc (requests_count p bits ms sq (suc m) rs)
 
-orders_count : (p : Pipe) (ms : List Act) (b : Bool) (k : ℕ) (ls : List (List Bool)) → length (orders_after p ms b k ls) ≡ length ls
-orders_count p ms b k [] = refl
-orders_count p ms b k (l ∷ ls) = ap suc (orders_count p ms b (suc k) ls)
+orders_count : (p : Pipe) (ms : List Act) (k : ℕ) (ls : List (List Bool)) → length (orders_after p ms k ls) ≡ length ls
+orders_count p ms k [] = refl
+orders_count p ms k (l ∷ ls) = ap suc (orders_count p ms (suc k) ls)
 
 module _ (f : Form) (b : r_beside.Beside) (bits : List Bool) (next : ℕ) (ys zs : List r_stage.Stage) (t : Turn f b bits next ys zs) where
   -- the pipe of the form
@@ -108,11 +111,14 @@ module _ (f : Form) (b : r_beside.Beside) (bits : List Bool) (next : ℕ) (ys zs
 
   -- each fork's order has room for the branches of the threads that are inside after the cycle
   pub turn_orders : (sq : Option ℕ) → sq ≡ squasher ms → (i : ℕ) (d : r_order.Order) → i < length b.orders.items
-      → length (order_after p ms (is_some sq) i (get_or b.orders.items i d).branches.items) ≤ vec_capacity (get_or b.orders.items i d).branches
+      → length (order_after p ms i (get_or b.orders.items i d).branches.items) ≤ vec_capacity (get_or b.orders.items i d).branches
   turn_orders sq e = orders_room f t.run b bits next ys zs t.beside t.count t.long t.carried t.decided t.reached sq e
 
-  turn_acted : Rattle.pdl_machine_run.proofs.ActedThreads.AllActed f zs
+  turn_acted : AllActed f 0 zs
   turn_acted = acted f t.run b bits next ys zs t.beside t.count t.long t.carried t.decided t.reached
+
+  turn_sized : AllSized p ms
+  turn_sized = sized f t.run b bits next ys zs t.beside t.count t.long t.carried t.decided t.reached
 
   -- a slot that is wide enough has as many values as the new thread has arguments, or more
   pub turn_child : (way : r_slot.ThreadSlot) → IsWide f way → IfSome (child_of ms) (λ args. length args ≤ length way.values.items)
@@ -127,7 +133,7 @@ module _ (f : Form) (b : r_beside.Beside) (bits : List Bool) (next : ℕ) (ys zs
   -- what is shown of stages, commits, requests, the end and the squash are the stated ports
   pub turn_ports : (sq : Option ℕ) → sq ≡ squasher ms
       → stage_values (are_held zs) (are_moving zs)
-      ++ (commits_shown 0 ms b.memories.items ++ (requests_shown 0 ms p.mems ++ bit (one_ends p ms) ∷ bit (is_some sq) ∷ []))
+      ++ (commits_shown b.twice.items 0 ms b.memories.items ++ (requests_shown 0 ms p.mems ++ bit (one_ends p ms) ∷ bit (is_some sq) ∷ []))
       ≡ whole_values p (stated.ports p (state_of (seats ys) b next) (all_acts p (state_of (seats ys) b next) bits))
   turn_ports sq e = next_ports f b bits next ys zs t.beside t.count t.long t.carried t.decided sq e
 
@@ -142,21 +148,26 @@ module _ (f : Form) (b : r_beside.Beside) (bits : List Bool) (next : ℕ) (ys zs
           count = same ∙ sym t.long ∙ t.count;
           wide = wide;
           fine = λ k d less.
-              subst (λ (o : Option Thread). IfSome o (IsFine f)) (sym (threads k d (omega (arith, less, same))))
-              (stage_fine f k sq born zs turn_acted
-              (subst (λ (o : Option Thread). IfSome o (IsFine f)) (sym bears)
+              subst (λ (o : Option Thread). IfSome o (IsFine f k)) (sym (threads k d (omega (arith, less, same))))
+              (stage_fine f t.run.leads k sq born zs (omega (arith, t.long, t.count)) turn_acted
+              (subst (λ (o : Option Thread). IfSome o (IsFine f 0)) (sym bears)
               (born_fine f t.run.typed.vars next (child_of ms) (child_fits f 0 zs turn_acted))));
         }
 
-    module _ (c : r_beside.Beside) (memories : c.memories.items ≡ memories_after 0 ms sq b.memories.items)
-        (orders : order_views c.orders.items ≡ orders_after p ms (is_some sq) 0 (order_views b.orders.items))
+    module _ (c : r_beside.Beside) (twice : c.twice.items ≡ b.twice.items)
+        (memories : c.memories.items ≡ after_all_writes ms (memories_after 0 ms sq b.memories.items))
+        (orders : order_views c.orders.items ≡ orders_after p ms 0 (order_views b.orders.items))
         (requests : map request_view c.requests.items ≡ requests_after p bits ms sq 0 (map request_view b.requests.items)) where
+      turn_roomy : AreRoomy p (memories_after 0 ms sq b.memories.items)
+      turn_roomy = roomy_after f t.run b bits next ys zs t.beside t.count t.long t.carried t.decided t.reached sq squashed
+
       -- what the program holds after the cycle is the stated state after it
       pub turn_state : (called : Bool) → called ≡ is_some (child_of ms)
           → state_of (seats news) c (if called then suc next else next) ≡ cycle p (state_of (seats ys) b next) bits
       turn_state called calls =
           next_state f b bits next ys zs t.beside t.count t.long t.carried t.decided news c called sq born same squashed bears calls
-          (within f t.run b bits next ys zs t.beside t.count t.long t.carried t.decided t.reached) threads memories orders requests
+          (within f t.run b bits next ys zs t.beside t.count t.long t.carried t.decided t.reached)
+          (all_arrays p ms (memories_after 0 ms sq b.memories.items) turn_sized turn_roomy) threads memories orders requests
 
       -- what stands beside the stages has room for the next cycle, where the orders of forks have
       pub turn_beside : AreOrders (length p.stages) c.orders.items → IsBeside p c
@@ -168,11 +179,12 @@ module _ (f : Form) (b : r_beside.Beside) (bits : List Bool) (next : ℕ) (ys zs
           let os = ap (λ (l : List (List Bool)). length l) orders in
           let oa = length-map c.orders.items (λ (o : r_order.Order). o.branches.items) in
           let ob = length-map b.orders.items (λ (o : r_order.Order). o.branches.items) in
-          let oc = orders_count p ms (is_some sq) 0 (order_views b.orders.items) in
+          let oc = orders_count p ms 0 (order_views b.orders.items) in
           let wr = t.beside.requests in
           let wo = t.beside.orders in
           record {
-            roomy = subst (AreRoomy p) (sym memories) (roomy_after f t.run b bits next ys zs t.beside t.count t.long t.carried t.decided t.reached sq squashed);
+            roomy = subst (AreRoomy p) (sym memories) (all_roomy p ms (memories_after 0 ms sq b.memories.items) turn_sized turn_roomy);
+            twice = twice ∙ t.beside.twice;
             requests = omega (arith, rs, ra, rb, rc, wr);
             orders = omega (arith, os, oa, ob, oc, wo);
             long = long;

@@ -1,16 +1,19 @@
 -- The threads in the stages: what they do, which move, and what stands in each stage after them.
-use Rattle.std.specs.Prelude.{◌≡◌, ℕ, suc, Bool, true, false, ◌&&◌, if◌then◌else◌, ◌==◌, List, [], ◌∷◌, ◌++◌, map, length, Option, Some, None, is_none, is_some, ⊤}
+use Rattle.std.specs.Prelude.{◌≡◌, ℕ, suc, Bool, true, false, ◌&&◌, if◌then◌else◌, ◌==◌, List, [], ◌∷◌, ◌++◌, map, length, take, drop, Option, Some, None, is_none, is_some, ⊤}
 use Rattle.pdl_semantics.specs.Flat.{Pipe}
 use Rattle.pdl_semantics.specs.Stages.{list_any}
 use Rattle.pdl_semantics.specs.Locks.{read_ready, write_ready, has_room}
 use Rattle.pdl_semantics.specs.Machine.{Thread, Pending, Blocked, Deeds, State, deeds, with_answers}
 use Rattle.pdl_semantics.specs.Moves.{Act, next_stage, no_failure, is_empty, ports_free, barrier_clear, can_enter, merges_well, blocks_ready, have_room}
-use Rattle.pdl_semantics.specs.Cycle.{with_reserves, with_all_writes, has_release, but_oldest, oldest, port_write, entries_left, is_stage, thread_after}
+use Rattle.pdl_semantics.specs.Cycle.{with_reserves, with_all_writes, all_releases, port_writes, entries_left, is_stage, thread_after}
 use Rattle.pdl_form.specs.Form.{Form}
-use Rattle.pdl_machine_pending.specs.Memory.{Memory, committed_to}
+use Rattle.pdl_machine_pending.specs.Memory.{Memory, all_committed_to}
+use Rattle.pdl_machine_pending.specs.View.{pending_view}
 use Rattle.pdl_machine_facts.specs.Ports.{commit_values}
 use Rattle.pdl_machine_run.specs.declared.stage.Stage as r_stage
 use Rattle.pdl_machine_run.specs.declared.beside.Beside as r_beside
+use Rattle.pdl_machine_run.specs.declared.step.Taken as r_taken
+use Rattle.pdl_machine_run.specs.declared.step.Taken.TheVariants as r_takens
 use Rattle.pdl_machine_run.specs.View.{deeds_view, thread_of, thread_in}
 use Rattle.pdl_machine_run.specs.Outside.{outside}
 use Rattle.pdl_machine_run.specs.StageDeeds.{memory_at, latest_in}
@@ -58,7 +61,7 @@ IsCarried f b bits k None x = x.slot.number ≡ None
 IsCarried f b bits k (Some t) x =
     (thread_in x.slot ≡ Some (with_answers f.pipe (outside b) bits t))
     × (deeds_view x.deeds ≡ deeds f.pipe (outside b) k (with_answers f.pipe (outside b) bits t))
-    × IsFine f (with_answers f.pipe (outside b) bits t)
+    × IsFine f k (with_answers f.pipe (outside b) bits t)
     × AreFit f (deeds_view x.deeds)
 
 -- WHO MOVES
@@ -70,9 +73,9 @@ block_in xs thread b =
     then write_ready (memory_at xs b.mem).lock (latest_in xs thread b.mem b.address)
     else read_ready (memory_at xs b.mem).lock (latest_in xs thread b.mem b.address)
 
--- whether a memory has room for a reservation
-abbrev pub is_roomy : List Memory → ℕ → Bool
-is_roomy xs m = has_room (memory_at xs m).lock (length (memory_at xs m).pending)
+-- whether a memory has room for so many reservations more
+abbrev pub is_roomy : List Memory → ℕ → ℕ → Bool
+is_roomy xs more m = has_room (memory_at xs m).lock more (length (memory_at xs m).pending)
 
 -- whether a thread of this number moves
 abbrev pub is_mover : ℕ → List Act → Bool
@@ -106,31 +109,48 @@ one_ends p ms = list_any (λ (a : Act). is_none (next_stage p a.stage a.does)) m
 
 -- MEMORIES
 
--- the pending writes of memory m with the reservations and writes of these acts, those that are left after a release and a squash, and the one that is released
+-- the pending writes of memory m with the reservations and writes of these acts
 abbrev pub both : ℕ → List Act → List Pending → List Pending
 both m ms list = with_all_writes m ms (with_reserves m ms list)
 
--- the pending writes of memory m that are left after these acts and their release
+-- the pending writes of memory m that are left after these acts and their releases
 abbrev pub left_of : ℕ → List Act → List Pending → List Pending
-left_of m ms list = if has_release m ms then but_oldest (both m ms list) else both m ms list
+left_of m ms list = drop (all_releases m ms) (both m ms list)
 
--- the pending write of memory m that these acts release
-abbrev pub out_of : ℕ → List Act → List Pending → Option Pending
-out_of m ms list = if has_release m ms then oldest (both m ms list) else None
+-- the pending writes of memory m that these acts release, the oldest first
+abbrev pub out_of : ℕ → List Act → List Pending → List Pending
+out_of m ms list = take (all_releases m ms) (both m ms list)
+
+-- the pending write that there is, alone
+abbrev pub entries_of : Option Pending → List Pending
+entries_of None = []
+entries_of (Some e) = e ∷ []
+
+-- the pending writes that two releases gave, one after the other
+abbrev pub given_by : Option Pending → Option Pending → List Pending
+given_by None second = []
+given_by (Some e) None = e ∷ []
+given_by (Some e) (Some f) = e ∷ f ∷ []
+
+-- the pending writes that were taken out of a memory
+abbrev pub taken_view : r_taken.Taken → List Pending
+taken_view r_takens.Nothing = []
+taken_view (r_takens.One e) = pending_view e ∷ []
+taken_view (r_takens.Two e f) = pending_view e ∷ pending_view f ∷ []
 
 -- memory m after these acts and a squash
 abbrev pub memory_after : ℕ → List Act → Option ℕ → Memory → Memory
-memory_after m ms sq x = record x { words = committed_to x.words (out_of m ms x.pending); pending = entries_left sq (left_of m ms x.pending) }
+memory_after m ms sq x = record x { words = all_committed_to x.words (out_of m ms x.pending); pending = entries_left sq (left_of m ms x.pending) }
 
 -- the memories from m on after these acts and a squash
 abbrev pub memories_after : ℕ → List Act → Option ℕ → List Memory → List Memory
 memories_after m ms sq [] = []
 memories_after m ms sq (x ∷ xs) = memory_after m ms sq x ∷ memories_after (suc m) ms sq xs
 
--- what the ports show of their commits
-abbrev pub commits_shown : ℕ → List Act → List Memory → List ℕ
-commits_shown m ms [] = []
-commits_shown m ms (x ∷ xs) = commit_values x.lock (port_write (out_of m ms x.pending)) ++ commits_shown (suc m) ms xs
+-- what the ports show of their commits, where it is told of each memory whether it shows two
+abbrev pub commits_shown : List Bool → ℕ → List Act → List Memory → List ℕ
+commits_shown (t ∷ ts) m ms (x ∷ xs) = commit_values x.lock t (port_writes (out_of m ms x.pending)) ++ commits_shown ts (suc m) ms xs
+commits_shown _ m ms _ = []
 
 -- STAGES
 

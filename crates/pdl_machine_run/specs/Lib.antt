@@ -10,5 +10,6 @@ pub mod Running
 pub mod Outputs
 pub mod Requests
 pub mod Orders
+pub mod Advice
 pub mod Firsts
 pub mod Runs

@@ -1,6 +1,6 @@
 -- The requests of memories, as acts change and show them.
 use Rattle.std.specs.Prelude.{ℕ, suc, Bool, if◌then◌else◌, List, [], ◌∷◌, ◌++◌, Option}
-use Rattle.pdl_semantics.specs.Flat.{Mem, Pipe}
+use Rattle.pdl_semantics.specs.Flat.{Mem, Pipe, is_delayed}
 use Rattle.pdl_semantics.specs.Machine.{Request, NoRequest, is_answered}
 use Rattle.pdl_semantics.specs.Moves.{Act}
 use Rattle.pdl_semantics.specs.Cycle.{asked_by, request_left, address_of, asked_in}
@@ -23,4 +23,4 @@ address_by m (a ∷ ms) rest = address_of m a.does.asks (address_by m ms rest)
 -- what the ports show of the requests of these memories, of which the first is m
 abbrev pub requests_shown : ℕ → List Act → List Mem → List ℕ
 requests_shown m ms [] = []
-requests_shown m ms (x ∷ xs) = (if x.delayed then request_values (asked_in ms m) else []) ++ requests_shown (suc m) ms xs
+requests_shown m ms (x ∷ xs) = (if is_delayed x.kind then request_values (asked_in ms m) else []) ++ requests_shown (suc m) ms xs

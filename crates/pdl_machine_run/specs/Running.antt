@@ -8,6 +8,7 @@ use Rattle.pdl_lockapi.specs.Sizes.{size_of}
 use Rattle.pdl_machine_facts.specs.Slots.{LeadsOn}
 use Rattle.pdl_machine_facts.specs.Cycle.{IsByStages}
 use Rattle.pdl_machine_facts.specs.Use.{IsInUse}
+use Rattle.pdl_semantics.specs.SecondWrites.{all_twice}
 use Rattle.pdl_form.specs.Form.{Form}
 use Rattle.pdl_form_types.specs.Stmts.{IsTypedForm}
 use Rattle.pdl_machine_pending.specs.Memory.{Memory}
@@ -31,10 +32,10 @@ pub record IsRunnable (f : Form) : Type 0 where
 abbrev pub IsReached : Pipe → State → Type 0
 IsReached p st = (image : Arrays) × (schedule : List (List Bool)) × (st ≡ state_after p (first p image) schedule)
 
--- memories with room for what may be pending and one reservation more
+-- memories with room for what may be pending and two reservations more
 pub record AreRoomy (p : Pipe) (xs : List Memory) : Type 0 where
   pub memories : AreMemories p xs
-  pub room : (m : ℕ) → m < length p.mems → size_of (memory_at xs m).lock + 1 ≤ (memory_at xs m).capacity
+  pub room : (m : ℕ) → m < length p.mems → size_of (memory_at xs m).lock + 2 ≤ (memory_at xs m).capacity
   pub few : (m : ℕ) → m < length p.mems → length (memory_at xs m).pending ≤ size_of (memory_at xs m).lock
 
 -- an image of a pipe: for each memory as many words as it has, of its width
@@ -43,16 +44,17 @@ pub record AreImages (p : Pipe) (image : List (List ℕ)) : Type 0 where
   pub depth : (m : ℕ) → m < length p.mems → length (slice_index_or image m []) ≡ (mem_at p m).depth
   pub words : (m a : ℕ) → m < length p.mems → slice_index (slice_index_or image m []) a < 2 ^ (mem_at p m).width
 
--- a memory with these words and this lock, nothing pending, and room for what may be pending and one reservation more
+-- a memory with these words and this lock, nothing pending, and room for what may be pending and two reservations more
 pub record IsFirst (l : Lock) (words : List ℕ) (x : Memory) : Type 0 where
   pub words_are : x.words ≡ words
   pub lock : x.lock ≡ l
   pub pending : x.pending ≡ []
-  pub room : size_of l + 1 ≤ x.capacity
+  pub room : size_of l + 2 ≤ x.capacity
 
 -- what stands beside the stages of a pipe, with room for a cycle
 pub record IsBeside (p : Pipe) (b : r_beside.Beside) : Type 0 where
   pub roomy : AreRoomy p b.memories.items
+  pub twice : b.twice.items ≡ all_twice p.stmts 0 p.mems
   pub requests : length b.requests.items ≡ length p.mems
   pub orders : length b.orders.items ≡ length p.stages
   pub long : AreOrders (length p.stages) b.orders.items
@@ -61,4 +63,4 @@ pub record IsBeside (p : Pipe) (b : r_beside.Beside) : Type 0 where
 pub record AreReady (f : Form) (zs : List r_stage.Stage) : Type 0 where
   pub count : length zs ≡ length f.pipe.stages
   pub wide : AreStages f zs
-  pub fine : (k : ℕ) (d : r_stage.Stage) → k < length zs → IfSome (thread_in (slice_index_or zs k d).slot) (IsFine f)
+  pub fine : (k : ℕ) (d : r_stage.Stage) → k < length zs → IfSome (thread_in (slice_index_or zs k d).slot) (IsFine f k)

@@ -19,5 +19,5 @@ pub record IsRunning (f : Form) (r : Run) : Type 0 where
   pub ahead : IsWide f r.way
   pub beside : IsBeside f.pipe r.beside
   pub reached : IsReached f.pipe (state_in r)
-  pub room : 2 * length r.stages.items + 5 * length r.beside.memories.items + 2 ≤ vec_capacity r.shown
+  pub room : 2 * length r.stages.items + 8 * length r.beside.memories.items + 2 ≤ vec_capacity r.shown
   pub outputs : length r.shown.items ≡ output_count f.pipe

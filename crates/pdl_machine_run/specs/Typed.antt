@@ -1,8 +1,8 @@
--- Threads and deeds whose values, answers, reservations, writes, requests and arguments have their widths; memories of the widths and kinds of a pipe.
-use Rattle.std.specs.Prelude.{◌≡◌, ℕ, ◌+◌, ◌^◌, ◌<◌, ◌≤◌, List, [], ◌∷◌, length, slice_index, IfSome, ⊤}
-use Rattle.pdl_semantics.specs.Flat.{Pipe}
+-- Threads and deeds whose values, advised ones, answers, reservations, writes, requests and arguments have their widths; memories of the widths and kinds of a pipe.
+use Rattle.std.specs.Prelude.{◌≡◌, ℕ, suc, ◌+◌, ◌^◌, ◌<◌, ◌≤◌, List, [], ◌∷◌, length, slice_index, IfSome, if◌then◌else◌, nat_lt, ⊤}
+use Rattle.pdl_semantics.specs.Flat.{Stmt, Pipe}
 use Rattle.pdl_semantics.specs.Stages.{mem_at}
-use Rattle.pdl_semantics.specs.Machine.{Awaited, Kept, Thread, Ask, Deeds, Reserved, Written}
+use Rattle.pdl_semantics.specs.Machine.{Awaited, Kept, Thread, Ask, Advised, Deeds, Reserved, Written}
 use Rattle.pdl_form.specs.Form.{Form}
 use Rattle.pdl_form_types.specs.Stmts.{param_widths}
 use Rattle.pdl_form_values.specs.Widths.{Fit}
@@ -20,12 +20,17 @@ abbrev pub AreWritten : Pipe → List Written → Type 0
 AreWritten p [] = ⊤
 AreWritten p (w ∷ ws) = (w.value < 2 ^ (mem_at p w.mem).width) × AreWritten p ws
 
+-- writes of words that are there, with values of the width of their memory
+abbrev pub AreAdvised : Pipe → List Advised → Type 0
+AreAdvised p [] = ⊤
+AreAdvised p (w ∷ ws) = (w.mem < length p.mems) × (w.address < (mem_at p w.mem).depth) × (w.value < 2 ^ (mem_at p w.mem).width) × AreAdvised p ws
+
 -- a variable of the width of a memory's words
 pub record IsReadInto (f : Form) (x m : ℕ) : Type 0 where
   pub there : x < length f.widths
   pub width : slice_index f.widths x ≡ (mem_at f.pipe m).width
 
--- delayed reads, and reads that are awaited, of variables of the width of their memory; answers of the width of their variable
+-- delayed reads of variables of the width of their memory
 abbrev pub AreAsked : Form → List Ask → Type 0
 AreAsked f [] = ⊤
 AreAsked f (q ∷ qs) = IsReadInto f q.var q.mem × AreAsked f qs
@@ -35,26 +40,35 @@ abbrev pub AreAwaited : Form → List Awaited → Type 0
 AreAwaited f [] = ⊤
 AreAwaited f (r ∷ rs) = IsReadInto f r.var r.mem × AreAwaited f rs
 
--- answers of the width of their variable
-abbrev pub AreAnswers : Form → List Kept → Type 0
-AreAnswers f [] = ⊤
-AreAnswers f (k ∷ ks) = (k.var < length f.widths) × (k.word < 2 ^ slice_index f.widths k.var) × AreAnswers f ks
+-- words of the width of their variable
+abbrev pub AreWords : Form → List Kept → Type 0
+AreWords f [] = ⊤
+AreWords f (k ∷ ks) = (k.var < length f.widths) × (k.word < 2 ^ slice_index f.widths k.var) × AreWords f ks
 
--- a thread whose values, guess and answers fit, and that has no more reads than there are statements
-pub record IsFine (f : Form) (t : Thread) : Type 0 where
+-- how many of these statements stand before a stage
+abbrev pub count_before : ℕ → List Stmt → ℕ
+count_before k [] = 0
+count_before k (x ∷ xs) = if nat_lt x.stage k then suc (count_before k xs) else count_before k xs
+
+-- a thread in a stage, whose values, guess and answers fit, and that has no more advised values than there are statements before the stage, and no more reads than there are statements
+pub record IsFine (f : Form) (k : ℕ) (t : Thread) : Type 0 where
   pub env : Fit f.widths t.env
+  pub advice : AreWords f t.advice
+  pub advised : length t.advice ≤ count_before k f.pipe.stmts
   pub guess : length t.guess ≤ length f.pipe.start
   pub awaits : AreAwaited f t.awaits
-  pub kept : AreAnswers f t.kept
+  pub kept : AreWords f t.kept
   pub few : length t.kept + length t.awaits ≤ length f.pipe.stmts
 
--- deeds whose values, reservations, writes, requests and arguments have their widths
+-- deeds whose values, advised ones, reservations, writes, requests and arguments have their widths
 pub record AreFit (f : Form) (d : Deeds) : Type 0 where
   pub env : Fit f.widths d.env
+  pub advice : AreWords f d.advice
   pub guess : length d.guess ≤ length f.pipe.start
   pub reserves : AreReserved f.pipe d.reserves
   pub writes : AreWritten f.pipe d.writes
   pub asks : AreAsked f d.asks
+  pub advises : AreAdvised f.pipe d.advises
   pub child : IfSome d.child (λ args. Fit (param_widths f) args)
 
 -- a memory for each of the pipe, of its width, depth and kind of lock

@@ -1,13 +1,14 @@
 -- What values of the program stand for: what a thread holds, what a stage does, who stands in it, and what stands beside the stages.
 use Rattle.std.specs.Prelude.{ℕ, Bool, true, false, List, map, Option, Some, None}
-use Rattle.pdl_semantics.specs.Machine.{Awaited, Kept, Thread, HeldLocation, Blocked, Ask, Deeds, Request, NoRequest, Owned, Orphan}
+use Rattle.pdl_semantics.specs.Machine.{Awaited, Kept, Thread, HeldLocation, Blocked, Ask, Advised, Deeds, Request, NoRequest, Owned, Orphan}
 use Rattle.pdl_machine_pending.specs.View.{reserved_view, written_view}
 use Rattle.pdl_machine_run.specs.declared.place.LocationNumbers as r_place
 use Rattle.pdl_machine_run.specs.declared.deeds.Blocked as r_blocked
 use Rattle.pdl_machine_run.specs.declared.deeds.Ask as r_ask
+use Rattle.pdl_machine_run.specs.declared.deeds.Advised as r_advised
 use Rattle.pdl_machine_run.specs.declared.deeds.Deeds as r_deeds
 use Rattle.pdl_machine_run.specs.declared.stage.Awaited as r_awaited
-use Rattle.pdl_machine_run.specs.declared.stage.KeptAnswer as r_kept
+use Rattle.pdl_machine_run.specs.declared.stage.KeptWord as r_kept
 use Rattle.pdl_machine_run.specs.declared.stage.ThreadSlot as r_slot
 use Rattle.pdl_machine_run.specs.declared.stage.Stage as r_stage
 use Rattle.pdl_machine_run.specs.declared.beside.Request as r_request
@@ -28,6 +29,14 @@ blocked_view b = record { mem = b.mem; address = b.address; writes = b.writes }
 abbrev pub ask_view : r_ask.Ask → Ask
 ask_view q = record { mem = q.mem; var = q.var; address = q.address }
 
+-- a write of an advisory memory: the memory, the address, the value
+abbrev pub advised_view : r_advised.Advised → Advised
+advised_view w = record { mem = w.mem; address = w.address; value = w.value }
+
+-- a word for a variable: the variable and the word
+abbrev pub kept_view : r_kept.KeptWord → Kept
+kept_view k = record { var = k.var; word = k.word }
+
 -- the arguments of a call, if there was one
 abbrev pub child_arguments : Bool → List ℕ → Option (List ℕ)
 child_arguments false args = None
@@ -38,6 +47,7 @@ abbrev pub deeds_view : r_deeds.Deeds → Deeds
 deeds_view r =
     record {
       env = r.values.items;
+      advice = map kept_view r.advice.items;
       guess = r.guess.items;
       held = map place_view r.held.items;
       blocks = map blocked_view r.blocks.items;
@@ -45,6 +55,7 @@ deeds_view r =
       writes = map written_view r.writes.items;
       releases = r.releases.items;
       asks = map ask_view r.asks.items;
+      advises = map advised_view r.advises.items;
       barrier = r.barrier;
       child = child_arguments r.called r.args.items;
       fails = r.fails;
@@ -56,14 +67,17 @@ deeds_view r =
 abbrev pub awaited_view : r_awaited.Awaited → Awaited
 awaited_view r = record { mem = r.mem; var = r.var }
 
--- an answer that is kept: the variable and the word
-abbrev pub kept_view : r_kept.KeptAnswer → Kept
-kept_view k = record { var = k.var; word = k.word }
-
 -- the thread that stands there, of this number
 abbrev pub thread_of : ℕ → r_slot.ThreadSlot → Thread
 thread_of number s =
-    record { number = number; env = s.values.items; guess = s.guess.items; awaits = map awaited_view s.awaits.items; kept = map kept_view s.kept.items }
+    record {
+      number = number;
+      env = s.values.items;
+      advice = map kept_view s.advice.items;
+      guess = s.guess.items;
+      awaits = map awaited_view s.awaits.items;
+      kept = map kept_view s.kept.items;
+    }
 
 -- the thread that stands there, if there is one
 abbrev pub thread_if : Option ℕ → r_slot.ThreadSlot → Option Thread

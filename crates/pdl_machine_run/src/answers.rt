@@ -1,18 +1,17 @@
 // Answers of delayed memories.
 ghost use Rattle.std.specs.Prelude.{◌≡◌, ◌≤◌, ◌+◌, ◌++◌, take, map, count_by, length, vec_len, vec_capacity};
 ghost use Rattle.pdl_semantics.specs.Flat as flat;
-ghost use Rattle.pdl_semantics.specs.Flat.{word_at};
 ghost use Rattle.pdl_semantics.specs.Stages as stages;
 ghost use Rattle.pdl_semantics.specs.Machine as machine;
 ghost use Rattle.pdl_form.specs.View.{mems_view};
 ghost use Rattle.pdl_form.specs.FormView.{form};
 ghost use Rattle.pdl_machine_run.specs.View.{awaited_view, kept_view, thread_of};
-ghost use Rattle.pdl_machine_run.specs.Outside.{arrays_in, outside};
+ghost use Rattle.pdl_machine_run.specs.Outside.{outside};
 
 use crate::beside::{Beside, Request, request_of};
-use crate::stage::{Awaited, KeptAnswer, ThreadSlot};
+use crate::stage::{Awaited, KeptWord, ThreadSlot};
+use crate::words::word;
 use pdl_form::{FlatMem, FlatPipe};
-use pdl_machine_pending::Memory;
 
 // The first n of these, or all where there are fewer.
 fn front(mems: &[FlatMem], n: usize) -> &[FlatMem]
@@ -23,12 +22,12 @@ fn front(mems: &[FlatMem], n: usize) -> &[FlatMem]
 
 // How many of these are delayed.
 fn delayed_count(mems: &[FlatMem]) -> usize
-    ensures value { result ≡ count_by (λ (x : flat.Mem). x.delayed) (mems_view mems.now) }
+    ensures value { result ≡ count_by (λ (x : flat.Mem). flat.is_delayed x.kind) (mems_view mems.now) }
     ensures most { result ≤ length mems.now }
 {
     let mut count = 0;
     for mem in mems {
-        if mem.delayed {
+        if mem.kind.is_delayed() {
             count += 1;
         }
     }
@@ -43,16 +42,6 @@ pub fn is_answered(pipe: &FlatPipe, replies: &[bool], m: usize) -> bool
     match replies.get(place) {
         None => false,
         Some(reply) => *reply,
-    }
-}
-
-// The word of a memory's array, 0 where there is none.
-fn word(memories: &[Memory], m: usize, address: u64) -> u64
-    ensures { result ≡ word_at (arrays_in memories.now) m address }
-{
-    match memories.get(m) {
-        None => 0,
-        Some(memory) => memory.word(address),
     }
 }
 
@@ -80,7 +69,7 @@ fn keep_answers(
     replies: &[bool],
     thread: u64,
     awaits: &[Awaited],
-    kept: &mut Vec<KeptAnswer>,
+    kept: &mut Vec<KeptWord>,
 )
     requires { vec_len kept.old + length awaits.now ≤ vec_capacity kept.old }
     ensures kept { map kept_view kept.new.items
@@ -90,7 +79,7 @@ fn keep_answers(
 {
     for read in awaits {
         if let Some(word) = answer(pipe, beside, replies, thread, read.mem) {
-            kept.push_reserved(KeptAnswer {
+            kept.push_reserved(KeptWord {
                 var: read.var,
                 word,
             });
@@ -128,6 +117,7 @@ pub fn give_answers(
         (thread_of thread slot.old) }
     ensures number { slot.new.number ≡ slot.old.number }
     ensures values { slot.new.values ≡ slot.old.values }
+    ensures advice { slot.new.advice ≡ slot.old.advice }
     ensures guess { slot.new.guess ≡ slot.old.guess }
     ensures awaits { vec_capacity slot.new.awaits ≡ vec_capacity slot.old.awaits }
     ensures kept { vec_capacity slot.new.kept ≡ vec_capacity slot.old.kept }

@@ -20,10 +20,11 @@ pub struct Order {
     pub branches: Vec<bool>,
 }
 
-/// The memories with their pending writes, their requests, and for each stage the order of those inside the fork that it begins.
+/// The memories with their pending writes, whether some path reserves each twice to write, their requests, and for each stage the order of those inside the fork that it begins.
 #[derive(Drop)]
 pub struct Beside {
     pub memories: Vec<Memory>,
+    pub twice: Vec<bool>,
     pub requests: Vec<Request>,
     pub orders: Vec<Order>,
 }

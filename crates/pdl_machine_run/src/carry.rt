@@ -20,7 +20,7 @@ fn carry_out(pipe: &FlatPipe, beside: &Beside, replies: &[bool], k: usize, stage
     requires typed { IsTypedForm (form pipe.now) }
     requires memories { AreMemories (form pipe.now).pipe beside.now.memories.items }
     requires wide { IsStage (form pipe.now) stage.old }
-    requires fine { IfSome (thread_in stage.old.slot) (IsFine (form pipe.now)) }
+    requires fine { IfSome (thread_in stage.old.slot) (IsFine (form pipe.now) k) }
     ensures carried { IsCarried (form pipe.now) beside.now replies.now k (thread_in stage.old.slot)
         stage.new }
     ensures wide { IsStage (form pipe.now) stage.new }
@@ -45,7 +45,7 @@ pub fn carry_out_all(pipe: &FlatPipe, beside: &Beside, replies: &[bool], stages:
     requires memories { AreMemories (form pipe.now).pipe beside.now.memories.items }
     requires wide { AreStages (form pipe.now) stages.old }
     requires fine { (k : ℕ) (d : r_stage.Stage) → k < length stages.old →
-        IfSome (thread_in (slice_index_or stages.old k d).slot) (IsFine (form pipe.now)) }
+        IfSome (thread_in (slice_index_or stages.old k d).slot) (IsFine (form pipe.now) k) }
     ensures carried { (k : ℕ) (d : r_stage.Stage) → k < length stages.old →
         IsCarried (form pipe.now) beside.now replies.now k
         (thread_in (slice_index_or stages.old k d).slot) (slice_index_or stages.new k d) }

@@ -1,5 +1,5 @@
 // A cycle, on what the machine holds.
-ghost use Rattle.std.specs.Prelude.{◌≡◌, ◌≤◌, ◌<◌, ◌+◌, ◌*◌, ◌++◌, ◌==◌, None, ℕ, suc, if◌then◌else◌, is_some, map, length, slice_index_or, vec_len, vec_capacity};
+ghost use Rattle.std.specs.Prelude.{◌≡◌, ◌≤◌, ◌<◌, ◌+◌, ◌*◌, ◌++◌, ◌==◌, None, ℕ, suc, if◌then◌else◌, map, length, slice_index_or, vec_len, vec_capacity};
 ghost use Rattle.pdl_semantics.specs.Moves.{all_acts};
 ghost use Rattle.pdl_semantics.specs.Cycle as stated;
 ghost use Rattle.pdl_machine_facts.specs.Slots.{LeadsOn};
@@ -8,6 +8,7 @@ ghost use Rattle.pdl_form.specs.FormView.{form};
 ghost use Rattle.pdl_machine_run.specs.View.{thread_in, seats, request_view, order_views};
 ghost use Rattle.pdl_machine_run.specs.Outside.{state_of};
 ghost use Rattle.pdl_machine_run.specs.Acts.{acts_of, all_of, memories_after, commits_shown};
+ghost use Rattle.pdl_machine_run.specs.Advice.{after_all_writes};
 ghost use Rattle.pdl_machine_run.specs.Orders.{orders_after, order_after};
 ghost use Rattle.pdl_machine_run.specs.Requests.{requests_after, requests_shown};
 ghost use Rattle.pdl_machine_facts.specs.Ports.{whole_values};
@@ -16,16 +17,39 @@ ghost use Rattle.pdl_machine_run.specs.Running.{IsRunnable, IsReached, IsBeside,
 ghost use Rattle.pdl_machine_run.specs.declared.stage.Stage as r_stage;
 ghost use Rattle.pdl_machine_run.specs.declared.beside.Order as r_order;
 
+use crate::advice::make_all_writes;
 use crate::beside::Beside;
 use crate::carry::carry_out_all;
 use crate::decide::decide;
-use crate::moves::{call, come_in, move_on, remove_all, squasher};
+use crate::moves::{call, come_in, move_on, remove_all, squash_stage, squasher};
 use crate::orders::step_orders;
 use crate::requests::{show_requests, step_requests};
 use crate::shown::{show_end, show_stages};
 use crate::stage::{Stage, ThreadSlot};
 use crate::step::step_memories;
 use pdl_form::FlatPipe;
+use pdl_machine_pending::Memory;
+
+// What the threads that move do to the memories, whose commits are shown: writes of advisory memories come last.
+fn change_memories(
+    memories: &mut [Memory],
+    twice: &[bool],
+    stages: &[Stage],
+    squasher: Option<u64>,
+    shown: &mut Vec<u64>,
+)
+    requires step { AllCanStep 0 (acts_of 0 stages.now) memories.old }
+    requires told { length twice.now ≡ length memories.old }
+    requires room { vec_len shown.old + 6 * length memories.old ≤ vec_capacity shown.old }
+    ensures memories { memories.new ≡ after_all_writes (acts_of 0 stages.now)
+        (memories_after 0 (acts_of 0 stages.now) squasher memories.old) }
+    ensures shown { shown.new.items
+        ≡ shown.old.items ++ commits_shown twice.now 0 (acts_of 0 stages.now) memories.old }
+    ensures capacity { vec_capacity shown.new ≡ vec_capacity shown.old }
+{
+    step_memories(memories, twice, stages, squasher, shown);
+    make_all_writes(memories, stages);
+}
 
 // What stands beside the stages after a cycle, whose commits and requests are shown.
 fn step_beside(
@@ -38,34 +62,43 @@ fn step_beside(
 )
     requires memories { AllCanStep 0 (acts_of 0 stages.now) beside.old.memories.items }
     requires count { length beside.old.orders.items ≡ length stages.now }
+    requires told { length beside.old.twice.items ≡ length beside.old.memories.items }
     requires mems { length beside.old.memories.items ≡ length (form pipe.now).pipe.mems }
     requires orders { (f : ℕ) (d : r_order.Order) → f < length beside.old.orders.items →
-        length (order_after (form pipe.now).pipe (acts_of 0 stages.now) (is_some squasher) f
+        length (order_after (form pipe.now).pipe (acts_of 0 stages.now) f
         (slice_index_or beside.old.orders.items f d).branches.items)
         ≤ vec_capacity (slice_index_or beside.old.orders.items f d).branches }
-    requires room { vec_len shown.old + 5 * length beside.old.memories.items
+    requires room { vec_len shown.old + 8 * length beside.old.memories.items
         ≤ vec_capacity shown.old }
     ensures memories { beside.new.memories.items
-        ≡ memories_after 0 (acts_of 0 stages.now) squasher beside.old.memories.items }
+        ≡ after_all_writes (acts_of 0 stages.now)
+        (memories_after 0 (acts_of 0 stages.now) squasher beside.old.memories.items) }
     ensures orders { order_views beside.new.orders.items
-        ≡ orders_after (form pipe.now).pipe (acts_of 0 stages.now) (is_some squasher) 0
+        ≡ orders_after (form pipe.now).pipe (acts_of 0 stages.now) 0
         (order_views beside.old.orders.items) }
     ensures requests { map request_view beside.new.requests.items
         ≡ requests_after (form pipe.now).pipe replies.now (acts_of 0 stages.now) squasher 0
         (map request_view beside.old.requests.items) }
+    ensures twice { beside.new.twice.items ≡ beside.old.twice.items }
     ensures long { (n : ℕ) → AreOrders n beside.old.orders.items →
         AreOrders n beside.new.orders.items }
     ensures shown { shown.new.items ≡ shown.old.items ++
-        (commits_shown 0 (acts_of 0 stages.now) beside.old.memories.items ++
+        (commits_shown beside.old.twice.items 0 (acts_of 0 stages.now) beside.old.memories.items ++
         requests_shown 0 (acts_of 0 stages.now) (form pipe.now).pipe.mems) }
     ensures capacity { vec_capacity shown.new ≡ vec_capacity shown.old }
 {
-    step_memories(beside.memories.as_mut_slice(), stages, squasher, shown);
+    change_memories(
+        beside.memories.as_mut_slice(),
+        beside.twice.as_slice(),
+        stages,
+        squasher,
+        shown,
+    );
     show_requests(pipe.mems(), stages, shown);
     step_orders(
         pipe,
         stages,
-        squasher.is_some(),
+        squash_stage(stages),
         beside.orders.as_mut_slice(),
     );
     step_requests(
@@ -113,7 +146,7 @@ pub fn cycle(
     requires beside { IsBeside (form pipe.now).pipe beside.old }
     requires reached { IsReached (form pipe.now).pipe
         (state_of (seats stages.old) beside.old next) }
-    requires room { 2 * length stages.old + 5 * length beside.old.memories.items + 2
+    requires room { 2 * length stages.old + 8 * length beside.old.memories.items + 2
         ≤ vec_capacity shown.old }
     ensures state { state_of (seats stages.new) beside.new (if result then suc next else next)
         ≡ stated.cycle (form pipe.now).pipe (state_of (seats stages.old) beside.old next)

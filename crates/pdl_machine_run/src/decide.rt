@@ -1,14 +1,15 @@
 // Which threads move. Those in later stages are decided already.
-ghost use Rattle.std.specs.Prelude.{◌≡◌, ◌<◌, ◌≤◌, ◌+◌, ◌&&◌, ℕ, Some, map, length, drop, slice_index_or};
+ghost use Rattle.std.specs.Prelude.{◌≡◌, ◌<◌, ◌≤◌, ◌+◌, ◌&&◌, ℕ, Bool, List, Some, map, length, drop, slice_index_or};
 ghost use Rattle.pdl_semantics.specs.Flat.{Pipe, list_all};
 ghost use Rattle.pdl_semantics.specs.Machine as machine;
 ghost use Rattle.pdl_semantics.specs.Moves as moves;
-ghost use Rattle.pdl_form.specs.View.{branch_view};
+ghost use Rattle.pdl_form.specs.View.{branches_view};
 ghost use Rattle.pdl_form.specs.FormView.{form};
 ghost use Rattle.pdl_machine_pending.specs.View.{reserved_view};
 ghost use Rattle.pdl_machine_run.specs.View.{awaited_view, blocked_view, ask_view, deeds_view, thread_of, request_view};
 ghost use Rattle.pdl_machine_run.specs.Outside.{outside};
 ghost use Rattle.pdl_machine_run.specs.Acts.{act_here, all_of, block_in, is_roomy, AreDecided, is_mover, passes_beside, passes_later, goes};
+ghost use Rattle.pdl_form.specs.Sides.{first_of};
 ghost use Rattle.pdl_machine_run.specs.Typed.{AreMemories};
 ghost use Rattle.pdl_machine_run.specs.declared.stage.Stage as r_stage;
 ghost use Rattle.pdl_machine_run.specs.declared.beside.Beside as r_beside;
@@ -18,7 +19,7 @@ use crate::beside::{Beside, Request, fork_of, request_of};
 use crate::deeds::{Ask, Blocked, Deeds};
 use crate::stage::{Stage, ThreadSlot};
 use crate::ways::{next_stage, stage_at};
-use pdl_form::{FlatBranch, FlatPipe};
+use pdl_form::{FlatBranches, FlatPipe, side_in};
 use pdl_machine_pending::{Memory, Reserved};
 
 // Whether the thread in a stage, if there is one, doesn't move with a failing verify.
@@ -67,23 +68,38 @@ fn blocks_ready(memories: &[Memory], thread: u64, blocks: &[Blocked]) -> bool
     true
 }
 
-// Whether a memory has room for one more pending write.
-fn has_room(memories: &[Memory], m: usize) -> bool
-    ensures { result ≡ is_roomy memories.now m }
+// Whether a memory has room for so many more pending writes.
+fn has_room(memories: &[Memory], m: usize, more: usize) -> bool
+    ensures { result ≡ is_roomy memories.now more m }
 {
     match memories.get(m) {
         None => true,
-        Some(memory) => memory.has_room(),
+        Some(memory) => memory.has_room(more),
     }
 }
 
-// Whether there is room for each of these reservations.
+// How many of these reservations are of memory m.
+fn reserves_of(reserves: &[Reserved], m: usize) -> usize
+    ensures { result ≡ machine.reserves_of m (map reserved_view reserves.now) }
+{
+    let mut count = 0;
+    for reserved in reserves {
+        if reserved.mem == m {
+            count += 1;
+        }
+    }
+    count
+}
+
+// Whether there is room for these reservations, for those of each memory together.
 fn have_room(memories: &[Memory], reserves: &[Reserved]) -> bool
-    ensures { result ≡ list_all (λ r. is_roomy memories.now r.mem)
+    ensures { result ≡ list_all
+        (λ r. is_roomy memories.now (machine.reserves_of r.mem (map reserved_view reserves.now))
+        r.mem)
         (map reserved_view reserves.now) }
 {
     for reserved in reserves {
-        if !has_room(memories, reserved.mem) {
+        if !has_room(memories, reserved.mem, reserves_of(reserves, reserved.mem)) {
             return false;
         }
     }
@@ -229,13 +245,23 @@ fn is_first(first: bool, list: &[bool]) -> bool
 }
 
 // Whether it is a thread's turn to come into a stage with this merge: out of a branch where that is the first of the list, straight from the fork where the list is empty.
-fn may_merge(beside: &Beside, merges: Option<usize>, from: Option<FlatBranch>) -> bool
-    ensures { result ≡ moves.may_merge (outside beside.now) merges (branch_view from) }
+fn may_merge(beside: &Beside, merges: Option<usize>, from: FlatBranches) -> bool
+    ensures { result ≡ moves.may_merge (outside beside.now) merges (branches_view from) }
 {
-    match (merges, from) {
-        (None, _) => true,
-        (Some(f), None) => fork_of(beside.orders.as_slice(), f).is_empty(),
-        (Some(f), Some(branch)) => is_first(branch.first, fork_of(beside.orders.as_slice(), f)),
+    match merges {
+        None => true,
+        Some(f) => is_its_turn(side_in(from, f), fork_of(beside.orders.as_slice(), f)),
+    }
+}
+
+// Whether it is the turn of a thread of this side of a fork with this list, or of one straight from the fork.
+fn is_its_turn(side: Option<bool>, list: &[bool]) -> bool
+    ensures { (sides : List Bool) → side ≡ first_of sides →
+        result ≡ moves.is_its_turn sides list.now }
+{
+    match side {
+        None => list.is_empty(),
+        Some(first) => is_first(first, list),
     }
 }
 
@@ -245,7 +271,7 @@ fn merges_well(pipe: &FlatPipe, beside: &Beside, k: usize, to: Option<usize>) ->
 {
     match to {
         None => true,
-        Some(q) => may_merge(beside, stage_at(pipe, q).merges, stage_at(pipe, k).branch),
+        Some(q) => may_merge(beside, stage_at(pipe, q).merges, stage_at(pipe, k).branches),
     }
 }
 

@@ -9,7 +9,7 @@ ghost use Rattle.pdl_machine_run.specs.Room.{capacities, IsLarge, HasRoomFor, Is
 ghost use Rattle.pdl_machine_run.specs.StageDeeds.{nothing_done};
 
 use crate::place::{LocationNumbers, hold, let_go};
-use crate::stage::{KeptAnswer, ThreadSlot};
+use crate::stage::{KeptWord, ThreadSlot};
 use pdl_form::{FlatPipe, FlatStmt, Op};
 use pdl_form_values::are_taken;
 use pdl_machine_pending::{Reserved, Written};
@@ -30,9 +30,18 @@ pub struct Ask {
     pub address: u64,
 }
 
-/// What the statements of a stage on its thread's path have done so far: its values, its guess and what it holds; the blocks, the reservations, the writes, the memories whose write reservation was released, and the delayed reads; whether there was a barrier, the arguments of the thread that it called, if it did, and whether a verify failed.
+/// A write of an advisory memory: the number of that, the address and the value.
+#[derive(Clone, Copy)]
+pub struct Advised {
+    pub mem: usize,
+    pub address: u64,
+    pub value: u64,
+}
+
+/// What the statements of a stage on its thread's path have done so far: its values and its advised ones, its guess and what it holds; the blocks, the reservations, the writes, the memories whose write reservation was released, the delayed reads, and the writes of advisory memories; whether there was a barrier, the arguments of the thread that it called, if it did, and whether a verify failed.
 pub struct Deeds {
     pub values: Vec<u64>,
+    pub advice: Vec<KeptWord>,
     pub guess: Vec<u64>,
     pub held: Vec<LocationNumbers>,
     pub blocks: Vec<Blocked>,
@@ -40,12 +49,15 @@ pub struct Deeds {
     pub writes: Vec<Written>,
     pub releases: Vec<usize>,
     pub asks: Vec<Ask>,
+    pub advises: Vec<Advised>,
     pub barrier: bool,
     pub called: bool,
     pub args: Vec<u64>,
     pub fails: bool,
-    // Room for the arguments of a verify.
+    // Room for the arguments of a verify or of an update.
     pub verified: Vec<u64>,
+    // Room for the values together with the advised ones.
+    pub whole: Vec<u64>,
 }
 
 // As the derive would, but by a call of its owners: docs/DECISIONS.md says why.
@@ -53,6 +65,7 @@ impl Drop for Deeds {
     fn drop(self) {
         let Deeds {
             values: _,
+            advice: _,
             guess: _,
             held: _,
             blocks: _,
@@ -60,11 +73,13 @@ impl Drop for Deeds {
             writes: _,
             releases: _,
             asks: _,
+            advises: _,
             barrier: _,
             called: _,
             args: _,
             fails: _,
             verified: _,
+            whole: _,
         } = self;
     }
 }
@@ -90,12 +105,25 @@ pub fn set_variable(values: &mut [u64], x: usize, word: u64)
     }
 }
 
-// Puts the answers of delayed reads into their variables.
-fn put_answers(kept: &[KeptAnswer], values: &mut [u64])
+// Copies words for variables into a vector in place of what it held.
+fn copy_kept(from: &[KeptWord], to: &mut Vec<KeptWord>)
+    requires { length from.now ≤ vec_capacity to.old }
+    ensures items { to.new.items ≡ from.now }
+    ensures count { vec_len to.new ≡ length from.now }
+    ensures capacity { vec_capacity to.new ≡ vec_capacity to.old }
+{
+    to.clear();
+    for kept in from {
+        to.push_reserved(*kept);
+    }
+}
+
+// Puts words into their variables, as answers of delayed reads.
+fn put_kept(kept: &[KeptWord], values: &mut [u64])
     ensures { values.new ≡ machine.with_kept (map kept_view kept.now) values.old }
 {
-    for answer in kept {
-        set_variable(values, answer.var, answer.word);
+    for word in kept {
+        set_variable(values, word.var, word.word);
     }
 }
 
@@ -112,7 +140,8 @@ fn hold_after(op: &Op, held: &mut Vec<LocationNumbers>)
         Op::Release { m, a } => let_go(held, *m, *a),
         Op::Bind { .. } | Op::CombRead { .. } | Op::DelayedRead { .. } | Op::Write { .. } => {}
         Op::ReserveRead { .. } | Op::Block { .. } | Op::SpecCheck | Op::SpecBarrier => {}
-        Op::Call(_) | Op::SpecCall(_) | Op::Verify(_) => {}
+        Op::Call(_) | Op::SpecCall(_) | Op::Verify { .. } => {}
+        Op::AdviceBind { .. } | Op::AdviceRead { .. } | Op::AdviceWrite { .. } => {}
     }
 }
 
@@ -136,7 +165,8 @@ impl Deeds {
     // Nothing is done yet, and nothing is held.
     fn clear(&mut self)
         ensures deeds { deeds_view self.new
-            ≡ nothing_done self.old.values.items self.old.guess.items }
+            ≡ nothing_done self.old.values.items (map kept_view self.old.advice.items)
+            self.old.guess.items }
         ensures empty { IsEmpty self.new }
         ensures capacities { capacities self.new ≡ capacities self.old }
     {
@@ -146,17 +176,32 @@ impl Deeds {
         self.writes.clear();
         self.releases.clear();
         self.asks.clear();
+        self.advises.clear();
         self.args.clear();
         self.barrier = false;
         self.called = false;
         self.fails = false;
     }
 
+    /// The values together with the advised ones are in the room for them.
+    pub fn lay_over(&mut self)
+        requires { length self.old.values.items ≤ vec_capacity self.old.whole }
+        ensures whole { self.new.whole.items ≡ machine.all_values (deeds_view self.old) }
+        ensures deeds { deeds_view self.new ≡ deeds_view self.old }
+        ensures capacities { capacities self.new ≡ capacities self.old }
+        ensures room { (n : ℕ) → HasRoomFor n self.old → HasRoomFor n self.new }
+    {
+        copy_words(self.values.as_slice(), &mut self.whole);
+        put_kept(self.advice.as_slice(), self.whole.as_mut_slice());
+    }
+
     /// Nothing is done yet for the thread of a stage, of any number.
     pub fn begin(&mut self, pipe: &FlatPipe, stage: usize, slot: &ThreadSlot)
         requires values { length self.old.values.items ≡ length slot.now.values.items }
         requires large { IsLarge (length (form pipe.now).pipe.stmts)
-            (length (form pipe.now).pipe.start) (capacities self.old) }
+            (length (form pipe.now).pipe.start) (length (form pipe.now).widths)
+            (capacities self.old) }
+        requires advice { vec_len slot.now.advice ≤ length (form pipe.now).pipe.stmts }
         requires guess { vec_len slot.now.guess ≤ length (form pipe.now).pipe.start }
         ensures deeds { (number : ℕ) → deeds_view self.new
             ≡ before_stage (form pipe.now).pipe stage (thread_of number slot.now) }
@@ -165,7 +210,8 @@ impl Deeds {
     {
         self.clear();
         self.values.copy_from_slice(slot.values.as_slice());
-        put_answers(slot.kept.as_slice(), self.values.as_mut_slice());
+        put_kept(slot.kept.as_slice(), self.values.as_mut_slice());
+        copy_kept(slot.advice.as_slice(), &mut self.advice);
         copy_words(slot.guess.as_slice(), &mut self.guess);
         hold_before(pipe.stmts(), stage, slot.values.as_slice(), &mut self.held);
     }

@@ -1,8 +1,9 @@
-//! Runs of pipes in flat form, cycle by cycle as the stated machine says: with delayed memories, guesses, forks and any locks.
+//! Runs of pipes in flat form, cycle by cycle as the stated machine says: with delayed and advisory memories, guesses, forks and any locks.
 //!
 //! The layer above may use `Run`, which it begins with `new`, steps with `cycle` and reads with `shown` and `waited`.
 #![tactic(auto)]
 
+mod advice;
 mod answers;
 mod beside;
 mod carry;
@@ -20,5 +21,6 @@ mod stage;
 mod step;
 mod stmts;
 mod ways;
+mod words;
 
 pub use running::Run;

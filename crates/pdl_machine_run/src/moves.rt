@@ -33,7 +33,7 @@ fn await_asks(asks: &[Ask], awaits: &mut Vec<Awaited>)
     }
 }
 
-// The thread of a stage, of any number, is as it leaves: with the values and the guess that the statements of its stage left, awaiting what they asked for.
+// The thread of a stage, of any number, is as it leaves: with the values, the advised ones and the guess that the statements of its stage left, awaiting what they asked for.
 fn leave(stage: &mut Stage)
     requires room { vec_len stage.old.deeds.asks ≤ vec_capacity stage.old.slot.awaits }
     ensures thread { (k number : ℕ) → thread_of number stage.new.slot
@@ -47,6 +47,7 @@ fn leave(stage: &mut Stage)
     ensures wide { (f : Form) → IsStage f stage.old → IsStage f stage.new }
 {
     swap(&mut stage.slot.values, &mut stage.deeds.values);
+    swap(&mut stage.slot.advice, &mut stage.deeds.advice);
     swap(&mut stage.slot.guess, &mut stage.deeds.guess);
     await_asks(stage.deeds.asks.as_slice(), &mut stage.slot.awaits);
     stage.slot.kept.clear();
@@ -151,6 +152,27 @@ pub fn squasher(stages: &[Stage]) -> Option<u64>
     None
 }
 
+/// The stage of the thread that squashes, if one does.
+#[tactic(auto, using(crate::proofs::ActLists::squash_stage_on))]
+pub fn squash_stage(stages: &[Stage]) -> Option<usize>
+    ensures { result ≡ stated.squash_stage (acts_of 0 stages.now) }
+{
+    for k in 0..stages.len() {
+        if squashes_in(k, &stages[k]) {
+            return Some(k);
+        }
+    }
+    None
+}
+
+// Whether the thread of stage k squashes.
+fn squashes_in(k: usize, stage: &Stage) -> bool
+    ensures { stated.squash_stage (act_of k (mover_of stage.now) stage.now)
+        ≡ (if result then Some k else None) }
+{
+    stage.deeds.fails && mover(stage).is_some()
+}
+
 // The same of the thread of a stage.
 fn squashes(stage: &Stage) -> Option<u64>
     ensures { (k : ℕ) → result ≡ stated.squasher (act_of k (mover_of stage.now) stage.now) }
@@ -206,6 +228,7 @@ pub fn begin(place: &mut ThreadSlot, thread: u64, args: &[u64])
 {
     place.number = Some(thread);
     fill(place.values.as_mut_slice(), args);
+    place.advice.clear();
     place.guess.clear();
     place.awaits.clear();
     place.kept.clear();

@@ -1,14 +1,15 @@
 // The orders of forks.
-ghost use Rattle.std.specs.Prelude.{◌≡◌, ◌≤◌, ◌<◌, ◌+◌, ◌++◌, ◌&&◌, ℕ, suc, if◌then◌else◌, is_some, length, take, vec_len, vec_capacity, slice_index_or};
+ghost use Rattle.std.specs.Prelude.{◌≡◌, ◌≤◌, ◌<◌, ◌+◌, ◌++◌, ℕ, suc, if◌then◌else◌, length, take, vec_len, vec_capacity, slice_index_or};
 ghost use Rattle.pdl_semantics.specs.Flat as flat;
 ghost use Rattle.pdl_semantics.specs.Stages as stages;
 ghost use Rattle.pdl_semantics.specs.Stages.{list_any, merges_fork};
 ghost use Rattle.pdl_semantics.specs.Cycle as stated;
-ghost use Rattle.pdl_form.specs.View.{branch_view, stages_view};
+ghost use Rattle.pdl_form.specs.View.{branches_view, stages_view};
 ghost use Rattle.pdl_form.specs.FormView.{form};
 ghost use Rattle.pdl_machine_run.specs.View.{order_views};
 ghost use Rattle.pdl_machine_run.specs.Acts.{mover_of, act_of, acts_of};
-ghost use Rattle.pdl_machine_run.specs.Orders.{listed, into, order_passed, order_after, orders_after};
+ghost use Rattle.pdl_form.specs.Sides.{listed};
+ghost use Rattle.pdl_machine_run.specs.Orders.{order_passed, order_after, orders_after};
 ghost use Rattle.pdl_machine_run.specs.Ready.{AreOrders};
 ghost use Rattle.pdl_machine_run.specs.declared.beside.Order as r_order;
 
@@ -16,37 +17,28 @@ use crate::beside::Order;
 use crate::stage::Stage;
 use crate::step::mover;
 use crate::ways::{next_stage, stage_at};
-use pdl_form::{FlatBranch, FlatPipe, FlatStage};
+use pdl_form::{FlatBranches, FlatPipe, FlatStage, NO_BRANCHES, side_in, side_of};
 
-// The branch of fork f that a thread comes into as it goes to a stage, if it does.
-fn branch_into(pipe: &FlatPipe, f: usize, to: Option<usize>) -> Option<bool>
-    ensures { listed result ≡ stated.goes_into (form pipe.now).pipe f to }
+// The branches of the stage to which a thread goes, if it goes to one.
+fn branches_to(pipe: &FlatPipe, to: Option<usize>) -> FlatBranches
+    ensures { (f : ℕ) →
+        stages.sides_of f (branches_view result) ≡ stated.goes_into (form pipe.now).pipe f to }
 {
     match to {
-        None => None,
-        Some(q) => branch_of(stage_at(pipe, q).branch, f),
+        None => NO_BRANCHES,
+        Some(q) => stage_at(pipe, q).branches,
     }
 }
 
-// Which of the branches of fork f this is, if it is one.
-fn branch_of(branch: Option<FlatBranch>, f: usize) -> Option<bool>
-    ensures value { listed result ≡ into f (branch_view branch) }
-    ensures is { is_some result ≡ stages.is_branch_of (branch_view branch) f }
-{
-    match branch {
-        Some(branch) if branch.fork == f => Some(branch.first),
-        Some(_) | None => None,
-    }
-}
-
-// The branch of fork f that the thread which moves out of its stage comes into, if one does.
-fn entered(pipe: &FlatPipe, f: usize, stage: &Stage) -> Option<bool>
-    ensures { listed result ≡ stated.entered_branches (form pipe.now).pipe f
+// The branches of the stage to which the thread goes that moves out of stage f, if one does.
+fn entered(pipe: &FlatPipe, f: usize, stage: &Stage) -> FlatBranches
+    ensures { stages.sides_of f (branches_view result)
+        ≡ stated.entered_branches (form pipe.now).pipe f
         (act_of f (mover_of stage.now) stage.now) }
 {
     match mover(stage) {
-        None => None,
-        Some(_) => branch_into(pipe, f, next_stage(pipe, f, &stage.deeds)),
+        None => NO_BRANCHES,
+        Some(_) => branches_to(pipe, next_stage(pipe, f, &stage.deeds)),
     }
 }
 
@@ -65,7 +57,7 @@ fn leaves(pipe: &FlatPipe, f: usize, k: usize, stage: &Stage) -> bool
     ensures { result ≡ stated.has_left (form pipe.now).pipe f
         (act_of k (mover_of stage.now) stage.now) }
 {
-    if mover(stage).is_none() || branch_of(stage_at(pipe, k).branch, f).is_none() {
+    if mover(stage).is_none() || side_in(stage_at(pipe, k).branches, f).is_none() {
         return false;
     }
     match next_stage(pipe, k, &stage.deeds) {
@@ -131,15 +123,28 @@ fn leave_first(left: bool, branches: &mut Vec<bool>)
     }
 }
 
-// A branch is appended, if one is entered.
-fn enter(branch: Option<bool>, branches: &mut Vec<bool>)
-    requires { vec_len branches.old + length (listed branch) ≤ vec_capacity branches.old }
-    ensures branches { branches.new.items ≡ branches.old.items ++ listed branch }
-    ensures capacity { vec_capacity branches.new ≡ vec_capacity branches.old }
+// A side is appended, if there is one.
+fn add(side: Option<bool>, list: &mut Vec<bool>)
+    requires { vec_len list.old + length (listed side) ≤ vec_capacity list.old }
+    ensures list { list.new.items ≡ list.old.items ++ listed side }
+    ensures capacity { vec_capacity list.new ≡ vec_capacity list.old }
 {
-    if let Some(first) = branch {
-        branches.push_reserved(first);
+    if let Some(first) = side {
+        list.push_reserved(first);
     }
+}
+
+// The side of fork f that is entered with these branches is appended, if one is.
+fn enter(entered: FlatBranches, f: usize, list: &mut Vec<bool>)
+    requires { vec_len list.old + length (stages.sides_of f (branches_view entered))
+        ≤ vec_capacity list.old }
+    ensures list { list.new.items ≡ list.old.items ++ stages.sides_of f (branches_view entered) }
+    ensures capacity { vec_capacity list.new ≡ vec_capacity list.old }
+{
+    add(side_of(entered.first, f), list);
+    add(side_of(entered.second, f), list);
+    add(side_of(entered.third, f), list);
+    add(side_of(entered.fourth, f), list);
 }
 
 // The order of fork f after the moves of a cycle.
@@ -152,47 +157,41 @@ fn pass_through(pipe: &FlatPipe, stages: &[Stage], f: usize, branches: &mut Vec<
     ensures capacity { vec_capacity branches.new ≡ vec_capacity branches.old }
 {
     leave_first(has_left(pipe, stages, f), branches);
-    enter(entered(pipe, f, &stages[f]), branches);
+    enter(entered(pipe, f, &stages[f]), f, branches);
 }
 
-// Whether a squash, if there is one, empties the order of fork f: its branches meet in the stage of the verifies or before.
-fn is_emptied(pipe: &FlatPipe, squashed: bool, f: usize) -> bool
-    ensures { result ≡ (squashed && stated.merges_by (form pipe.now).pipe f
-        (stages.verify_stage (form pipe.now).pipe.stmts)) }
-{
-    squashed && merges_by(pipe, f, pipe.verify_stage())
-}
-
-// The order of fork f after a cycle, with a squash or without.
-fn step_order(pipe: &FlatPipe, stages: &[Stage], squashed: bool, f: usize, order: &mut Order)
+// The order of fork f after a cycle, with a squash in this stage or without.
+fn step_order(pipe: &FlatPipe, stages: &[Stage], squash: Option<usize>, f: usize, order: &mut Order)
     requires stage { f < length stages.now }
-    requires room { length (order_after (form pipe.now).pipe (acts_of 0 stages.now) squashed f
+    requires squash { squash ≡ stated.squash_stage (acts_of 0 stages.now) }
+    requires room { length (order_after (form pipe.now).pipe (acts_of 0 stages.now) f
         order.old.branches.items) ≤ vec_capacity order.old.branches }
     ensures branches { order.new.branches.items
-        ≡ order_after (form pipe.now).pipe (acts_of 0 stages.now) squashed f
+        ≡ order_after (form pipe.now).pipe (acts_of 0 stages.now) f
         order.old.branches.items }
     ensures capacity { vec_capacity order.new.branches ≡ vec_capacity order.old.branches }
 {
-    if is_emptied(pipe, squashed, f) {
+    if merges_by(pipe, f, squash) {
         order.branches.clear();
     } else {
         pass_through(pipe, stages, f, &mut order.branches);
     }
 }
 
-/// The orders of all forks after a cycle, with a squash or without.
-pub fn step_orders(pipe: &FlatPipe, stages: &[Stage], squashed: bool, orders: &mut [Order])
+/// The orders of all forks after a cycle, with a squash in this stage or without.
+pub fn step_orders(pipe: &FlatPipe, stages: &[Stage], squash: Option<usize>, orders: &mut [Order])
     requires count { length orders.old ≡ length stages.now }
+    requires squash { squash ≡ stated.squash_stage (acts_of 0 stages.now) }
     requires room { (f : ℕ) (d : r_order.Order) → f < length orders.old →
-        length (order_after (form pipe.now).pipe (acts_of 0 stages.now) squashed f
+        length (order_after (form pipe.now).pipe (acts_of 0 stages.now) f
         (slice_index_or orders.old f d).branches.items)
         ≤ vec_capacity (slice_index_or orders.old f d).branches }
     ensures orders { order_views orders.new
-        ≡ orders_after (form pipe.now).pipe (acts_of 0 stages.now) squashed 0
+        ≡ orders_after (form pipe.now).pipe (acts_of 0 stages.now) 0
         (order_views orders.old) }
     ensures long { (n : ℕ) → AreOrders n orders.old → AreOrders n orders.new }
 {
     for f in 0..orders.len() {
-        step_order(pipe, stages, squashed, f, &mut orders[f]);
+        step_order(pipe, stages, squash, f, &mut orders[f]);
     }
 }

@@ -1,7 +1,8 @@
 // The requests of delayed memories.
 ghost use Rattle.std.specs.Prelude.{◌≡◌, ℕ, None, ◌++◌, [], ◌≤◌, ◌+◌, ◌*◌, length, map, vec_len, vec_capacity, if◌then◌else◌};
 ghost use Rattle.pdl_semantics.specs.Cycle as stated;
-ghost use Rattle.pdl_form.specs.View.{mems_view};
+ghost use Rattle.pdl_semantics.specs.Flat.{is_delayed};
+ghost use Rattle.pdl_form.specs.View.{mem_view, mems_view};
 ghost use Rattle.pdl_form.specs.FormView.{form};
 ghost use Rattle.pdl_machine_run.specs.View.{ask_view, request_view};
 ghost use Rattle.pdl_machine_run.specs.Acts.{mover_of, act_of, acts_of};
@@ -146,11 +147,11 @@ fn address_asked(m: usize, stages: &[Stage]) -> Option<u64>
 fn show_request(mem: &FlatMem, address: Option<u64>, shown: &mut Vec<u64>)
     requires room { vec_len shown.old + 2 ≤ vec_capacity shown.old }
     ensures shown { shown.new.items
-        ≡ shown.old.items ++ (if mem.now.delayed then request_values address else []) }
+        ≡ shown.old.items ++ (if is_delayed (mem_view mem.now).kind then request_values address else []) }
     ensures count { vec_len shown.new ≤ vec_len shown.old + 2 }
     ensures capacity { vec_capacity shown.new ≡ vec_capacity shown.old }
 {
-    if mem.delayed {
+    if mem.kind.is_delayed() {
         shown.push_reserved(u64::from(address.is_some()));
         shown.push_reserved(address.unwrap_or(0));
     }

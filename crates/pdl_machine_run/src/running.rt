@@ -56,9 +56,9 @@ impl Run {
             r.shown.items ≡ replicate (output_count (form pipe.now).pipe) 0) }
         ensures next { IfOk result (λ r. r.next ≡ 2) }
     {
-        let count = outputs(pipe);
-        let room = 2 * pipe.stages().len() + 5 * pipe.mems().len() + 2;
+        let room = 2 * pipe.stages().len() + 8 * pipe.mems().len() + 2;
         let beside = first_beside(alloc, pipe, image)?;
+        let count = outputs(pipe, beside.twice.as_slice());
         let stages = first_stages(alloc, pipe)?;
         let way = slot(alloc, pipe)?;
         let shown = zeros(alloc, count, room)?;

@@ -13,6 +13,7 @@ ghost use Rattle.pdl_machine_run.specs.Ready.{IsWide, IsStage, AreStages, AreOrd
 ghost use Rattle.pdl_lockapi.specs.Sizes.{size_of};
 ghost use Rattle.pdl_machine_run.specs.Running.{AreImages, IsFirst, IsBeside};
 ghost use Rattle.pdl_machine_run.specs.Firsts.{seats_first, IsFirstBeside};
+ghost use Rattle.pdl_semantics.specs.SecondWrites as writes;
 ghost use Rattle.pdl_machine_run.specs.Outputs.{memory_count, all_memory_count, output_count};
 
 use crate::beside::{Beside, Order, Request};
@@ -20,6 +21,7 @@ use crate::deeds::Deeds;
 use crate::moves::begin;
 use crate::stage::{Stage, ThreadSlot};
 use pdl_form::{FlatMem, FlatPipe, Lock};
+use pdl_form_values::all_twice;
 use pdl_image::Image;
 use pdl_kit::NoMemory;
 use pdl_machine_pending::Memory;
@@ -48,15 +50,14 @@ fn size(lock: Lock) -> usize
     }
 }
 
-// A memory with these words, and room for what may be pending and one reservation more.
+// A memory with these words, and room for what may be pending and two reservations more.
 fn memory(alloc: Global, words: &[u64], lock: Lock) -> Result<Memory, NoMemory>
     ensures { IfOk result (λ x. IsFirst (lock_view lock) words.now x) }
 {
-    Memory::new(alloc, words, lock, size(lock) + 1)
+    Memory::new(alloc, words, lock, size(lock) + 2)
 }
 
 /// The memories with the words of an image.
-
 pub fn memories(alloc: Global, pipe: &FlatPipe, image: &Image) -> Result<Vec<Memory>, NoMemory>
     requires { length image.now ≡ length (form pipe.now).pipe.mems }
     ensures count { IfOk result (λ v. length v.items ≡ length (form pipe.now).pipe.mems) }
@@ -82,6 +83,7 @@ pub fn slot(alloc: Global, pipe: &FlatPipe) -> Result<ThreadSlot, NoMemory>
     Ok(ThreadSlot {
         number: None,
         values: zeros(alloc, vars, vars)?,
+        advice: Vec::with_capacity(alloc, 2 * count)?,
         guess: Vec::with_capacity(alloc, pipe.start().len())?,
         awaits: Vec::with_capacity(alloc, count)?,
         kept: Vec::with_capacity(alloc, count)?,
@@ -93,13 +95,14 @@ fn deeds(alloc: Global, pipe: &FlatPipe) -> Result<Deeds, NoMemory>
     ensures count { IfOk result (λ r. length r.values.items ≡ length (form pipe.now).widths) }
     ensures large { IfOk result (λ r.
         IsLarge (length (form pipe.now).pipe.stmts) (length (form pipe.now).pipe.start)
-        (capacities r)) }
+        (length (form pipe.now).widths) (capacities r)) }
 {
     let vars = pipe.vars();
     let args = pipe.start().len();
     let count = pipe.stmts().len();
     Ok(Deeds {
         values: zeros(alloc, vars, vars)?,
+        advice: Vec::with_capacity(alloc, 2 * count)?,
         guess: Vec::with_capacity(alloc, args)?,
         held: Vec::with_capacity(alloc, 2 * count)?,
         blocks: Vec::with_capacity(alloc, count)?,
@@ -107,11 +110,13 @@ fn deeds(alloc: Global, pipe: &FlatPipe) -> Result<Deeds, NoMemory>
         writes: Vec::with_capacity(alloc, count)?,
         releases: Vec::with_capacity(alloc, count)?,
         asks: Vec::with_capacity(alloc, count)?,
+        advises: Vec::with_capacity(alloc, count)?,
         barrier: false,
         called: false,
         args: Vec::with_capacity(alloc, args)?,
         fails: false,
         verified: Vec::with_capacity(alloc, args)?,
+        whole: Vec::with_capacity(alloc, vars)?,
     })
 }
 
@@ -141,7 +146,6 @@ fn first_stage(alloc: Global, pipe: &FlatPipe) -> Result<Stage, NoMemory>
 }
 
 /// Stages of which the first holds thread 1.
-
 pub fn first_stages(alloc: Global, pipe: &FlatPipe) -> Result<Vec<Stage>, NoMemory>
     requires some { 1 ≤ length (form pipe.now).pipe.stages }
     requires vars { (form pipe.now).pipe.vars ≡ length (form pipe.now).widths }
@@ -189,42 +193,50 @@ pub fn first_beside(alloc: Global, pipe: &FlatPipe, image: &Image) -> Result<Bes
     ensures { IfOk result (IsFirstBeside (form pipe.now).pipe image.now) }
 {
     let memories = memories(alloc, pipe, image)?;
+    let twice = all_twice(alloc, pipe)?;
     let requests = no_requests(alloc, pipe.mems().len())?;
     let orders = no_orders(alloc, pipe.stages().len())?;
     Ok(Beside {
         memories,
+        twice,
         requests,
         orders,
     })
 }
 
-// How many outputs show a memory: its commits where it has a lock, and its requests where it is delayed.
-fn memory_output(mem: &FlatMem) -> usize
-    ensures value { result ≡ memory_count (mem_view mem.now) }
-    ensures most { result ≤ 5 }
+// How many outputs show a memory: its commits where it has a lock, twice where a path reserves it twice, and its requests where it is delayed.
+fn memory_output(mem: &FlatMem, twice: bool) -> usize
+    ensures value { result ≡ memory_count twice (mem_view mem.now) }
+    ensures most { result ≤ 8 }
 {
     let commits = match mem.lock {
         Lock::Plain => 0,
-        Lock::Queue(_) | Lock::Bypass(_) | Lock::Rename(_) => 3,
+        Lock::Queue(_) | Lock::Bypass(_) | Lock::Rename(_) => { if twice { 6 } else { 3 } }
     };
-    if mem.delayed { commits + 2 } else { commits }
+    if mem.kind.is_delayed() {
+        commits + 2
+    } else {
+        commits
+    }
 }
 
-// How many outputs show memories.
-fn memory_outputs(mems: &[FlatMem]) -> usize
-    ensures value { result ≡ all_memory_count (mems_view mems.now) }
-    ensures most { result ≤ 5 * length mems.now }
+// How many outputs show memories, of each of which it is told whether a path reserves it twice.
+fn memory_outputs(mems: &[FlatMem], twice: &[bool]) -> usize
+    requires { length twice.now ≡ length mems.now }
+    ensures value { result ≡ all_memory_count twice.now (mems_view mems.now) }
+    ensures most { result ≤ 8 * length mems.now }
 {
     let mut count = 0;
-    for mem in mems {
-        count += memory_output(mem);
+    for m in 0..mems.len() {
+        count += memory_output(&mems[m], twice[m]);
     }
     count
 }
 
-/// How many outputs there are.
-pub fn outputs(pipe: &FlatPipe) -> usize
+/// How many outputs there are, where it is told of each memory whether a path reserves it twice.
+pub fn outputs(pipe: &FlatPipe, twice: &[bool]) -> usize
+    requires { twice.now ≡ writes.all_twice (form pipe.now).pipe.stmts 0 (form pipe.now).pipe.mems }
     ensures { result ≡ output_count (form pipe.now).pipe }
 {
-    2 * pipe.stages().len() + memory_outputs(pipe.mems()) + 2
+    2 * pipe.stages().len() + memory_outputs(pipe.mems(), twice) + 2
 }

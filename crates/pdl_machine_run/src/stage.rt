@@ -8,21 +8,22 @@ pub struct Awaited {
     pub var: usize,
 }
 
-/// An answer that came while its thread couldn't move: the number of the variable that it is for, and its word.
+/// A word for a variable, which isn't among its thread's values: an answer that came while the thread couldn't move, or an advised value.
 #[derive(Clone, Copy)]
-pub struct KeptAnswer {
+pub struct KeptWord {
     pub var: usize,
     pub word: u64,
 }
 
-/// A place for a thread: its number or none, its values, the arguments of its guess, the reads that it awaits, and its kept answers.
+/// A place for a thread: its number or none, its values and its advised ones, the arguments of its guess, the reads that it awaits, and its kept answers.
 #[derive(Drop)]
 pub struct ThreadSlot {
     pub number: Option<u64>,
     pub values: Vec<u64>,
+    pub advice: Vec<KeptWord>,
     pub guess: Vec<u64>,
     pub awaits: Vec<Awaited>,
-    pub kept: Vec<KeptAnswer>,
+    pub kept: Vec<KeptWord>,
 }
 
 /// A stage: who stands in it, what its statements do in this cycle, and whether its thread moves.

@@ -7,7 +7,7 @@ ghost use Rattle.pdl_form.specs.FormView.{form};
 ghost use Rattle.pdl_machine_run.specs.View.{deeds_view};
 
 use crate::deeds::Deeds;
-use pdl_form::{FlatPipe, FlatStage, Next};
+use pdl_form::{FlatPipe, FlatStage, NO_BRANCHES, Next};
 use pdl_form_values::variable;
 
 /// The stage of a number, past the end one that leads out of the pipe.
@@ -17,7 +17,7 @@ pub fn stage_at(pipe: &FlatPipe, k: usize) -> FlatStage
     match pipe.stages().get(k) {
         None => FlatStage {
             next: Next::Ends,
-            branch: None,
+            branches: NO_BRANCHES,
             merges: None,
         },
         Some(stage) => *stage,

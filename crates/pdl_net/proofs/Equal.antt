@@ -1,15 +1,13 @@
--- What `==` says of nets, write ports and cells.
+-- What `==` says of nets and cells.
 use Rattle.std.proofs.Common.{◌≡◌, Bool, ◌&&◌, rules}
 use Rattle.std.specs.Bool.{Decides}
 use Rattle.std.proofs.lemmas.Bool.Decides.{Decides-and, Decides-like}
 use Rattle.pdl_net.specs.declared.Net.{Net}
 use Rattle.pdl_net.specs.declared.BinOp.{BinOp}
-use Rattle.pdl_net.specs.declared.WritePort.{WritePort}
 use Rattle.pdl_net.specs.declared.Cell.{Cell}
 use Rattle.pdl_net.specs.declared.Cell.TheVariants.{Const, Not, Bin, Mux, Slice, Cat, Rep, Read}
 use Rattle.pdl_net.specs.contracts.NetPartialEq.TheImpl as net
 use Rattle.pdl_net.specs.contracts.BinOpPartialEq.TheImpl as op
-use Rattle.pdl_net.specs.contracts.WritePortPartialEq.TheImpl as write
 use Rattle.pdl_net.specs.contracts.CellPartialEq.TheImpl as cell
 
 -- `==` of two nets passes where they are equal, and fails where they are not
@@ -18,10 +16,6 @@ net_equal x y = search rules
 
 op_equal : (x y : BinOp) → Decides (op.ghosts.eq x y) (x ≡ y)
 op_equal x y = search rules
-
--- `==` of two write ports passes where they are equal, and fails where they are not
-pub write_equal : (x y : WritePort) → Decides (write.ghosts.eq x y) (x ≡ y)
-write_equal x y = search (rules, net_equal)
 
 -- three tests that decide what a fact says decide the fact
 three_equal : {P Q R S : Type 0} (x y z : Bool) → (P × (Q × R) → S) → (S → P × (Q × R)) → Decides x P → Decides y Q

@@ -118,3 +118,28 @@ ports_stand : map (λ h. h.name)
     ∷ (codes "g_" ++ decimal 1) ∷ codes "c_m" ∷ codes "ca_m" ∷ codes "cd_m" ∷ codes "q_d" ∷ codes "qa_d"
     ∷ codes "ended" ∷ codes "squash" ∷ []
 ports_stand = refl
+
+-- two delayed memories: d is asked in each cycle, e in the first one alone
+abbrev asked_once : Netlist
+asked_once = record {
+  name = codes "asked_once";
+  ports =
+      into (codes "p_d") 1 ∷ into (codes "pd_d") 4 ∷ into (codes "p_e") 1 ∷ into (codes "pd_e") 4
+      ∷ out (codes "q_d") 1 (CellNet 0) ∷ out (codes "qa_d") 1 (CellNet 3)
+      ∷ out (codes "q_e") 1 (CellNet 2) ∷ out (codes "qa_e") 1 (CellNet 0)
+      ∷ out (codes "x") 4 (Input 1) ∷ out (codes "y") 4 (Input 3) ∷ [];
+  regs = record { width = 2; reset = 0; next = CellNet 4 } ∷ [];
+  arrays = [];
+  cells = Const 1 1 ∷ Const 2 1 ∷ Bin Lt (RegNet 0) (CellNet 1) ∷ Slice (RegNet 0) 0 0 ∷ Bin Add (RegNet 0) (CellNet 1) ∷ [];
+  mems = record { name = codes "d"; width = 4; depth = 2; delayed = true } ∷ record { name = codes "e"; width = 4; depth = 2; delayed = true } ∷ [];
+}
+
+-- a request waits for its own memory's bit and is answered once; one of a later cycle takes the place of one that waits
+answers_wait : nports asked_once ((5 ∷ 6 ∷ []) ∷ (7 ∷ 8 ∷ []) ∷ []) (0 ∷ 1 ∷ 2 ∷ 3 ∷ []) ≡
+    record { ports = 1 ∷ 0 ∷ 1 ∷ 1 ∷ 0 ∷ 0 ∷ []; waited = false }
+    ∷ record { ports = 1 ∷ 1 ∷ 0 ∷ 1 ∷ 5 ∷ 0 ∷ []; waited = true }
+    ∷ record { ports = 1 ∷ 0 ∷ 0 ∷ 1 ∷ 0 ∷ 8 ∷ []; waited = true }
+    ∷ record { ports = 1 ∷ 1 ∷ 0 ∷ 1 ∷ 5 ∷ 0 ∷ []; waited = false }
+    ∷ []
+unfolding output_values next_regs next_arrays signal signals input_value reg_value const_value not_value bin_value mux_value slice_value cat_value rep_value read_value words.add words.sub words.xor words.less words.shl words.shr words.complement words.mux words.slice words.cat words.rep
+answers_wait = refl

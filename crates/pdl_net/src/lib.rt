@@ -57,7 +57,7 @@ pub enum Cell {
 }
 
 /// Whether a port is an input, or an output with the net that drives it.
-#[derive(Clone, Copy, PartialEq, Eq)]
+#[derive(Clone, Copy)]
 pub enum Dir {
     In,
     Out(Net),
@@ -72,7 +72,7 @@ pub struct Port {
 }
 
 /// A register, with its width in bits, 1 to 64, its value in the first cycle, and the net whose value it takes after each cycle.
-#[derive(Clone, Copy, PartialEq, Eq)]
+#[derive(Clone, Copy)]
 pub struct Reg {
     pub width: u8,
     pub reset: u64,
@@ -80,7 +80,7 @@ pub struct Reg {
 }
 
 /// A write port of an array: after a cycle in which `enable` is 1, the word at `addr` is `value`.
-#[derive(Clone, Copy, PartialEq, Eq)]
+#[derive(Clone, Copy)]
 pub struct WritePort {
     pub enable: Net,
     pub addr: Net,

@@ -26,6 +26,7 @@ place_at s bs (actions.Release at) = Statement (tree.Release s (location_view at
 place_at s bs (actions.If c a b) = Statement (tree.If s (expr_view c.now) (stmts_view a.now) (stmts_view b.now)) bs
 place_at s bs (actions.Call args) = Statement (tree.Call s (exprs_view args.now)) bs
 place_at s bs (actions.Verify g args) = Statement (tree.Verify s (ident_view g.now) (exprs_view args.now)) bs
+place_at s bs (actions.Update g args) = Statement (tree.Update s (ident_view g.now) (exprs_view args.now)) bs
 place_at s bs actions.SpecCheck = Statement (tree.SpecCheck s) bs
 place_at s bs actions.SpecBarrier = Statement (tree.SpecBarrier s) bs
 place_at s bs actions.End = End s

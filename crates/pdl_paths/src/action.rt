@@ -23,6 +23,7 @@ pub enum Action<'a> {
     If(&'a Expr, &'a [Stmt], &'a [Stmt]),
     Call(&'a [Expr]),
     Verify(&'a Ident, &'a [Expr]),
+    Update(&'a Ident, &'a [Expr]),
     SpecCheck,
     SpecBarrier,
     End,
@@ -61,6 +62,11 @@ pub fn action_of(stmt: &Stmt) -> Action<'_>
             guess,
             args,
         } => Action::Verify(guess, args.as_slice()),
+        Stmt::Update {
+            span: _,
+            guess,
+            args,
+        } => Action::Update(guess, args.as_slice()),
         Stmt::SpecCheck { span: _ } => Action::SpecCheck,
         Stmt::SpecBarrier { span: _ } => Action::SpecBarrier,
     }
@@ -75,6 +81,7 @@ pub fn span_of(stmt: &Stmt) -> Span
         Stmt::SpecCall { span, .. } | Stmt::DelayedRead { span, .. } => *span,
         Stmt::Write { span, .. } | Stmt::Reserve { span, .. } | Stmt::Block { span, .. } => *span,
         Stmt::Release { span, .. } | Stmt::If { span, .. } | Stmt::Call { span, .. } => *span,
-        Stmt::Verify { span, .. } | Stmt::SpecCheck { span } | Stmt::SpecBarrier { span } => *span,
+        Stmt::Verify { span, .. } | Stmt::Update { span, .. } | Stmt::SpecCheck { span } => *span,
+        Stmt::SpecBarrier { span } => *span,
     }
 }

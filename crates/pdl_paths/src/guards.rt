@@ -69,9 +69,8 @@ impl Guards {
             Action::Parameter(_) | Action::Memory(_) | Action::Separator => Ok(()),
             Action::CombRead(_, _) | Action::Bind(_, _) | Action::SpecCall(_, _) => Ok(()),
             Action::DelayedRead(_, _) | Action::Write(_, _) | Action::Reserve(_, _) => Ok(()),
-            Action::Block(_) | Action::Release(_) | Action::Call(_) | Action::Verify(_, _) => Ok(
-                (),
-            ),
+            Action::Block(_) | Action::Release(_) | Action::Call(_) => Ok(()),
+            Action::Verify(_, _) | Action::Update(_, _) => Ok(()),
             Action::SpecCheck | Action::SpecBarrier | Action::End | Action::StartClause(_) => Ok(
                 (),
             ),

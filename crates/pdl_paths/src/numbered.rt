@@ -92,7 +92,7 @@ fn search(guards: &Guards, mask: Mask, stmt: &Stmt, number: usize) -> Found
         Stmt::Reserve { .. } | Stmt::Block { .. } | Stmt::Release { .. } => {
             Found::After(number - 1)
         }
-        Stmt::Call { .. } | Stmt::Verify { .. } | Stmt::SpecCheck { .. } => {
+        Stmt::Call { .. } | Stmt::Verify { .. } | Stmt::Update { .. } | Stmt::SpecCheck { .. } => {
             Found::After(number - 1)
         }
         Stmt::SpecBarrier { .. } => Found::After(number - 1),

@@ -35,7 +35,8 @@ impl Place<'_> {
             Action::SpecCall(_, _) | Action::DelayedRead(_, _) => self.span.line,
             Action::Write(_, _) | Action::Reserve(_, _) | Action::Block(_) => self.span.line,
             Action::Release(_) | Action::If(_, _, _) | Action::Call(_) => self.span.line,
-            Action::Verify(_, _) | Action::SpecCheck | Action::SpecBarrier => self.span.line,
+            Action::Verify(_, _) | Action::Update(_, _) | Action::SpecCheck => self.span.line,
+            Action::SpecBarrier => self.span.line,
             Action::End => self.span.line,
         }
     }

@@ -27,7 +27,7 @@ pub fn branches_at<'a, 'b>(place: &'b Place<'a>) -> &'b [Branch<'a>]
         Action::SpecCall(_, _) | Action::DelayedRead(_, _) => place.branches.as_slice(),
         Action::Write(_, _) | Action::Reserve(_, _) => place.branches.as_slice(),
         Action::Block(_) | Action::Release(_) | Action::If(_, _, _) => place.branches.as_slice(),
-        Action::Call(_) | Action::Verify(_, _) => place.branches.as_slice(),
+        Action::Call(_) | Action::Verify(_, _) | Action::Update(_, _) => place.branches.as_slice(),
         Action::SpecCheck | Action::SpecBarrier => place.branches.as_slice(),
     }
 }
@@ -41,7 +41,8 @@ pub fn variable_at<'a>(place: &Place<'a>) -> Option<&'a Name>
         Action::CombRead(x, _) | Action::Bind(x, _) | Action::DelayedRead(x, _) => Some(&x.name),
         Action::Memory(_) | Action::Separator | Action::SpecCall(_, _) => None,
         Action::Write(_, _) | Action::Reserve(_, _) | Action::Block(_) | Action::Release(_) => None,
-        Action::If(_, _, _) | Action::Call(_) | Action::Verify(_, _) | Action::SpecCheck => None,
+        Action::If(_, _, _) | Action::Call(_) | Action::Verify(_, _) => None,
+        Action::Update(_, _) | Action::SpecCheck => None,
         Action::SpecBarrier | Action::End | Action::StartClause(_) => None,
     }
 }
@@ -55,7 +56,8 @@ pub fn memory_at<'a>(place: &Place<'a>) -> Option<&'a Name>
         Action::Parameter(_) | Action::Separator | Action::CombRead(_, _) => None,
         Action::Bind(_, _) | Action::SpecCall(_, _) | Action::DelayedRead(_, _) => None,
         Action::Write(_, _) | Action::Reserve(_, _) | Action::Block(_) | Action::Release(_) => None,
-        Action::If(_, _, _) | Action::Call(_) | Action::Verify(_, _) | Action::SpecCheck => None,
+        Action::If(_, _, _) | Action::Call(_) | Action::Verify(_, _) => None,
+        Action::Update(_, _) | Action::SpecCheck => None,
         Action::SpecBarrier | Action::End | Action::StartClause(_) => None,
     }
 }
@@ -69,7 +71,8 @@ pub fn guess_at<'a>(place: &Place<'a>) -> Option<&'a Name>
         Action::Parameter(_) | Action::Memory(_) | Action::Separator => None,
         Action::CombRead(_, _) | Action::Bind(_, _) | Action::DelayedRead(_, _) => None,
         Action::Write(_, _) | Action::Reserve(_, _) | Action::Block(_) | Action::Release(_) => None,
-        Action::If(_, _, _) | Action::Call(_) | Action::Verify(_, _) | Action::SpecCheck => None,
+        Action::If(_, _, _) | Action::Call(_) | Action::Verify(_, _) => None,
+        Action::Update(_, _) | Action::SpecCheck => None,
         Action::SpecBarrier | Action::End | Action::StartClause(_) => None,
     }
 }
@@ -85,6 +88,7 @@ pub fn name_at<'a>(place: &Place<'a>) -> Option<&'a Name>
         Action::SpecCall(guess, _) => Some(&guess.name),
         Action::Separator | Action::Write(_, _) | Action::Reserve(_, _) | Action::Block(_) => None,
         Action::Release(_) | Action::If(_, _, _) | Action::Call(_) | Action::Verify(_, _) => None,
+        Action::Update(_, _) => None,
         Action::SpecCheck | Action::SpecBarrier | Action::End | Action::StartClause(_) => None,
     }
 }
@@ -99,7 +103,8 @@ pub fn location_at<'a>(place: &Place<'a>) -> Option<&'a Location>
         Action::Reserve(at, _) | Action::Block(at) | Action::Release(at) => Some(at),
         Action::Parameter(_) | Action::Memory(_) | Action::Separator | Action::Bind(_, _) => None,
         Action::SpecCall(_, _) | Action::If(_, _, _) | Action::Call(_) => None,
-        Action::Verify(_, _) | Action::SpecCheck | Action::SpecBarrier => None,
+        Action::Verify(_, _) | Action::Update(_, _) | Action::SpecCheck => None,
+        Action::SpecBarrier => None,
         Action::End | Action::StartClause(_) => None,
     }
 }
@@ -114,7 +119,8 @@ pub fn is_separator(place: &Place<'_>) -> bool
         Action::Bind(_, _) | Action::SpecCall(_, _) | Action::DelayedRead(_, _) => false,
         Action::Write(_, _) | Action::Reserve(_, _) | Action::Block(_) | Action::Release(_) =>
             false,
-        Action::If(_, _, _) | Action::Call(_) | Action::Verify(_, _) | Action::SpecCheck => false,
+        Action::If(_, _, _) | Action::Call(_) | Action::Verify(_, _) => false,
+        Action::Update(_, _) | Action::SpecCheck => false,
         Action::SpecBarrier | Action::End | Action::StartClause(_) => false,
     }
 }
@@ -129,7 +135,8 @@ pub fn is_call(place: &Place<'_>) -> bool
         Action::CombRead(_, _) | Action::Bind(_, _) | Action::DelayedRead(_, _) => false,
         Action::Write(_, _) | Action::Reserve(_, _) | Action::Block(_) | Action::Release(_) =>
             false,
-        Action::If(_, _, _) | Action::Verify(_, _) | Action::SpecCheck => false,
+        Action::If(_, _, _) | Action::Verify(_, _) | Action::Update(_, _) => false,
+        Action::SpecCheck => false,
         Action::SpecBarrier | Action::End | Action::StartClause(_) => false,
     }
 }

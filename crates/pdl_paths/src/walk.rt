@@ -103,7 +103,8 @@ fn add_stmt<'a>(
         Stmt::Separator { .. } | Stmt::CombRead { .. } | Stmt::Bind { .. } => Ok(()),
         Stmt::SpecCall { .. } | Stmt::DelayedRead { .. } | Stmt::Write { .. } => Ok(()),
         Stmt::Reserve { .. } | Stmt::Block { .. } | Stmt::Release { .. } => Ok(()),
-        Stmt::Call { .. } | Stmt::Verify { .. } | Stmt::SpecCheck { .. } => Ok(()),
+        Stmt::Call { .. } | Stmt::Verify { .. } | Stmt::Update { .. } => Ok(()),
+        Stmt::SpecCheck { .. } => Ok(()),
         Stmt::SpecBarrier { .. } => Ok(()),
     }
 }

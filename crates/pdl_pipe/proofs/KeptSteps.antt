@@ -1,7 +1,7 @@
 -- Locks, ports and orders as they stand while registers are told what they take next.
 use Rattle.std.proofs.Common.{◌≡◌, ◌<◌, ◌≤◌, ℕ, false, sym, ap, ◌∙◌, length, List, arith}
 use Rattle.std.specs.Prelude.{Option}
-use Rattle.pdl_semantics.specs.Flat.{Pipe}
+use Rattle.pdl_semantics.specs.Flat.{Pipe, is_delayed}
 use Rattle.pdl_semantics.specs.Stages.{mem_at}
 use Rattle.pdl_law_parts.specs.Places.{comb_place}
 use Rattle.pdl_net.specs.declared.Net.{Net}
@@ -41,7 +41,7 @@ cut_fits l a b c p xs ts ns e locked there wide same is =
 -- nothing writes arrays while registers alone are told
 pub unwritten_kept : (a b : Circuit) (p : Pipe)
     → ((k : ℕ) → HasArray a k → write_signals b k ≡ write_signals a k)
-    → ((m : ℕ) → m < length p.mems → (mem_at p m).delayed ≡ false → HasArray a (comb_place p m)) → AreUnwritten a p
+    → ((m : ℕ) → m < length p.mems → is_delayed (mem_at p m).kind ≡ false → HasArray a (comb_place p m)) → AreUnwritten a p
     → AreUnwritten b p
 unwritten_kept a b p same has h m low once = same (comb_place p m) (has m low once) ∙ h m low once
 

@@ -7,6 +7,7 @@ use Rattle.pdl_kit.specs.declared.rule.Rule.TheVariants.{Z7}
 use Rattle.pdl_semantics.specs.Tree as tree
 use Rattle.pdl_semantics.specs.Tree.{LockKind, LockDecl, Mem, Pipe}
 use Rattle.pdl_semantics.specs.Flat as flat
+use Rattle.pdl_semantics.specs.Flat.{is_delayed, is_advisory}
 use Rattle.pdl_semantics.specs.Flatten.{flat_lock, mems_of}
 use Rattle.pdl_rules.specs.Places.{Place, Parameter, Memory, End, StartClause, places, statements}
 use Rattle.pdl_rules.specs.Parts.{is_some_and}
@@ -56,21 +57,23 @@ size_of s h =
 lock_fits : (m : Mem) (l : Option LockDecl) → is_some_and (is_wrong_lock m) l ≡ false → IsSizedLock (flat_lock l) m.depth.value
 lock_fits m None e = tt
 lock_fits m (Some l) e =
-    let parts = and_parts (is_size l.size.value) (allows_lock m.depth.value m.delayed l.kind l.size.value) (not-false _ e) in
+    let parts = and_parts (is_size l.size.value) (allows_lock m.depth.value (is_delayed m.kind) l.kind l.size.value)
+    (not-false _ (or_parts (is_advisory m.kind) _ e).1) in
     subst (λ x. IsSizedLock x m.depth.value) (sym (lock_is l))
-    (sized_allowed l.kind l.size.value m.depth.value m.delayed (size_of l.size.value parts.0) parts.1)
+    (sized_allowed l.kind l.size.value m.depth.value (is_delayed m.kind) (size_of l.size.value parts.0) parts.1)
 
 -- a lock that gives values is one of a memory that answers at once
-time_allowed : (k : LockKind) (size depth : ℕ) (m : flat.Mem) → allows_lock depth m.delayed k size ≡ true → IsInTime (as_lock k size) m
+time_allowed : (k : LockKind) (size depth : ℕ) (m : flat.Mem) → allows_lock depth (is_delayed m.kind) k size ≡ true → IsInTime (as_lock k size) m
 time_allowed tree.Queue size depth m e = tt
-time_allowed tree.Bypass size depth m e = not-true m.delayed e
-time_allowed tree.Rename size depth m e = not-true m.delayed (and_parts (not m.delayed) _ e).0
+time_allowed tree.Bypass size depth m e = not-true (is_delayed m.kind) e
+time_allowed tree.Rename size depth m e = not-true (is_delayed m.kind) (and_parts (not (is_delayed m.kind)) _ e).0
 
-lock_in_time : (m : Mem) (l : Option LockDecl) (x : flat.Mem) → x.delayed ≡ m.delayed → is_some_and (is_wrong_lock m) l ≡ false
+lock_in_time : (m : Mem) (l : Option LockDecl) (x : flat.Mem) → is_delayed x.kind ≡ is_delayed m.kind → is_some_and (is_wrong_lock m) l ≡ false
     → IsInTime (flat_lock l) x
 lock_in_time m None x d e = tt
 lock_in_time m (Some l) x d e =
-    let parts = and_parts (is_size l.size.value) (allows_lock m.depth.value m.delayed l.kind l.size.value) (not-false _ e) in
+    let parts = and_parts (is_size l.size.value) (allows_lock m.depth.value (is_delayed m.kind) l.kind l.size.value)
+    (not-false _ (or_parts (is_advisory m.kind) _ e).1) in
     subst (λ k. IsInTime k x) (sym (lock_is l))
     (time_allowed l.kind l.size.value m.depth.value x (ap (λ b. allows_lock m.depth.value b l.kind l.size.value) d ∙ parts.1))
 

@@ -1,7 +1,7 @@
 -- A circuit that all nets of a form are emitted into keeps the law of a netlist.
 use Rattle.std.proofs.Common.{◌≡◌, refl, sym, subst, ℕ, ◌<◌, true, false, List, length, map}
 use Rattle.std.specs.Prelude.{Option}
-use Rattle.pdl_semantics.specs.Flat.{Pipe}
+use Rattle.pdl_semantics.specs.Flat.{Pipe, is_delayed}
 use Rattle.pdl_semantics.specs.Stages.{mem_at}
 use Rattle.pdl_form.specs.Form.{Form}
 use Rattle.pdl_net.specs.Circuit.{Circuit, shapes_of}
@@ -44,8 +44,8 @@ pub record KeepsLaw {T : Type 0} (l : Members T) (f : Form) (names : ℕ → Lis
   pub compiled : IsWhole f.pipe names ls vs gates moves sides d
   pub wide : AreBitsWide vs gates moves (length f.pipe.stages)
   pub commits : (m : ℕ) → is_locked f.pipe m ≡ true → Fits (mem_at f.pipe m) (compiled.laid.commits m)
-  pub requests : (m : ℕ) → m < length f.pipe.mems → (mem_at f.pipe m).delayed ≡ true → (compiled.asks m).enable.width ≡ 1
-  pub in_order : (m : ℕ) → m < length f.pipe.mems → (mem_at f.pipe m).delayed ≡ false → ls.array m ≡ comb_place f.pipe m
+  pub requests : (m : ℕ) → m < length f.pipe.mems → is_delayed (mem_at f.pipe m).kind ≡ true → (compiled.asks m).enable.width ≡ 1
+  pub in_order : (m : ℕ) → m < length f.pipe.mems → is_delayed (mem_at f.pipe m).kind ≡ false → ls.array m ≡ comb_place f.pipe m
   pub shapes : shapes_of d ≡ shapes_in f.names f.pipe.mems
   pub locked : AreLocked l d f.pipe locks
   pub lawful : AreLawful l d f.pipe locks

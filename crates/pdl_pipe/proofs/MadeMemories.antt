@@ -4,7 +4,7 @@ use Rattle.std.specs.Prelude.{Option, Some, None, slice_index_or, if◌then◌el
 use Rattle.pdl_kit.specs.declared.mem_info.MemInfo.{MemInfo}
 use Rattle.pdl_semantics.specs.Tree.{LockDecl, Mem}
 use Rattle.pdl_semantics.specs.Flat as flat
-use Rattle.pdl_semantics.specs.Flat.{has_lock}
+use Rattle.pdl_semantics.specs.Flat.{has_lock, is_delayed}
 use Rattle.pdl_semantics.specs.Flatten.{flat_lock, mems_of}
 use Rattle.pdl_semantics.specs.Stages.{plain_mem}
 use Rattle.pdl_semantics.proofs.Facts.{lock_declared}
@@ -28,7 +28,7 @@ same_words (Some l) d = ap (λ x. words_in x d) (lock_is l) ∙ words_are l.kind
 -- the shapes of the arrays are those of the memories that answer at once
 pub same_shapes : (ms : List Mem) → shapes_in (names_of ms) (mems_of ms) ≡ map shape_of_mem (comb_of ms)
 same_shapes [] = refl
-same_shapes (m ∷ ms) = at m.delayed (same_shapes ms)
+same_shapes (m ∷ ms) = at (is_delayed m.kind) (same_shapes ms)
   where
     rest : List Shape
     rest = shapes_in (names_of ms) (mems_of ms)
@@ -54,7 +54,7 @@ same_names (x ∷ xs) (suc m) = same_names xs m
 
 told_delayed : (ms : List Mem) → filter (is_told true) (infos_of ms) ≡ map info_of (delayed_of ms)
 told_delayed [] = refl
-told_delayed (m ∷ ms) = at m.delayed (told_delayed ms)
+told_delayed (m ∷ ms) = at (is_delayed m.kind) (told_delayed ms)
   where
     rest : List MemInfo
     rest = filter (is_told true) (infos_of ms)
@@ -66,7 +66,7 @@ told_delayed (m ∷ ms) = at m.delayed (told_delayed ms)
 
 told_comb : (ms : List Mem) → filter (is_told false) (infos_of ms) ≡ map info_of (comb_of ms)
 told_comb [] = refl
-told_comb (m ∷ ms) = at m.delayed (told_comb ms)
+told_comb (m ∷ ms) = at (is_delayed m.kind) (told_comb ms)
   where
     rest : List MemInfo
     rest = filter (is_told false) (infos_of ms)

@@ -2,7 +2,7 @@
 use Rattle.std.proofs.Common.{◌≡◌, refl, sym, ap, ◌∙◌, subst, ℕ, ◌^◌, ◌<◌, true, List, length, arith}
 use Rattle.std.specs.Prelude.{Option, Some, None, is_some}
 use Rattle.std.proofs.lemmas.Bool.{false≢true}
-use Rattle.pdl_semantics.specs.Flat.{Pipe}
+use Rattle.pdl_semantics.specs.Flat.{Pipe, is_delayed}
 use Rattle.pdl_semantics.specs.Stages.{mem_at}
 use Rattle.pdl_net.specs.declared.Net.{Net}
 use Rattle.pdl_net.specs.Circuit.{Circuit}
@@ -105,7 +105,7 @@ module _ {T : Type 0} (l : Members T) (n : Nets T) (em : Emission l n) where
 
   -- ---- each delayed memory
 
-  module _ (m : ℕ) (low : m < length p.mems) (delayed : (mem_at p m).delayed ≡ true) where
+  module _ (m : ℕ) (low : m < length p.mems) (delayed : is_delayed (mem_at p m).kind ≡ true) where
     some_request : (o : Option RequestNets) → is_some o ≡ true → (x : RequestNets) × (o ≡ Some x)
     some_request None e = absurd (false≢true e)
     some_request (Some x) e = (x, refl)

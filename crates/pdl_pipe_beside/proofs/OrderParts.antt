@@ -1,11 +1,11 @@
 -- The orders of forks, as they are made and while the circuit grows.
-use Rattle.std.proofs.Common.{◌≡◌, ℕ, zero, suc, ◌+◌, ◌-◌, ◌≤◌, ◌∙◌, Bool, true, false, ◌||◌, List, [], ◌∷◌, length, refl, sym, ap, subst, arith}
+use Rattle.std.proofs.Common.{◌≡◌, ℕ, zero, suc, ◌+◌, ◌-◌, ◌≤◌, ◌==◌, ◌∙◌, Bool, true, false, ◌||◌, List, [], ◌∷◌, length, refl, sym, ap, subst, arith}
 use Rattle.std.specs.Prelude.{Option, Some, slice_index_or}
 use Rattle.std.proofs.lemmas.List.Sums.{count_by-le-length}
 use Rattle.std.proofs.lemmas.Bool.{false≢true}
 use Rattle.pdl_word.proofs.Numbers.{eqb_self}
 use Rattle.pdl_semantics.specs.Flat.{Stage, Pipe}
-use Rattle.pdl_semantics.specs.Stages.{stage_at, last_stage, is_branch_of, merges_fork}
+use Rattle.pdl_semantics.specs.Stages.{stage_at, last_stage, list_any, merges_fork}
 use Rattle.pdl_net.specs.Circuit.{Circuit, HasReg}
 use Rattle.pdl_net.specs.Signal.{Signal}
 use Rattle.pdl_net.specs.Meaning.{signal}
@@ -51,7 +51,7 @@ is_merged_by p f q e = at_merged p.stages f q e
 
 -- a pipe of 64 stages at most has no longer branches
 pub forks_fit : (p : Pipe) → length p.stages ≤ 64 → ForksFit p
-forks_fit p h = record { few = λ f q e. let z = count_by-le-length (λ (x : Stage). is_branch_of x.branch f) p.stages in omega (arith, z, h) }
+forks_fit p h = record { few = λ f q e. let z = count_by-le-length (λ (x : Stage). list_any (λ b. b.fork == f) x.branches) p.stages in omega (arith, z, h) }
 
 -- ---- a new order
 

@@ -26,9 +26,12 @@ bound_fetches m (flat.Block n a) x h = absurd (cc h)
 bound_fetches m (flat.Release n a) x h = absurd (cc h)
 bound_fetches m (flat.Call args) x h = absurd (cc h)
 bound_fetches m (flat.SpecCall args) x h = absurd (cc h)
-bound_fetches m (flat.Verify args) x h = absurd (cc h)
+bound_fetches m (flat.Verify last args) x h = absurd (cc h)
 bound_fetches m flat.SpecCheck x h = absurd (cc h)
 bound_fetches m flat.SpecBarrier x h = absurd (cc h)
+bound_fetches m (flat.AdviceBind y e) x h = absurd (cc h)
+bound_fetches m (flat.AdviceRead y n a) x h = absurd (cc h)
+bound_fetches m (flat.AdviceWrite n a e) x h = absurd (cc h)
 
 none_later : (k : ℕ) (s : Stmt) (ss : List Stmt) → none_of is_fetch (in_stage k (s ∷ ss)) ≡ true → none_of is_fetch (in_stage k ss) ≡ true
 none_later k s ss h = at (s.stage == k) h

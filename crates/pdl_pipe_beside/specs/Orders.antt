@@ -1,7 +1,7 @@
 -- The orders of forks.
-use Rattle.std.specs.Prelude.{◌≡◌, ℕ, ◌<◌, ◌≤◌, Bool, List, length, Option, Some, is_some, count_by}
+use Rattle.std.specs.Prelude.{◌≡◌, ℕ, ◌<◌, ◌≤◌, ◌==◌, Bool, List, length, Option, Some, is_some, count_by}
 use Rattle.pdl_semantics.specs.Flat.{Stage, Pipe}
-use Rattle.pdl_semantics.specs.Stages.{stage_at, is_branch_of, list_any, merges_fork}
+use Rattle.pdl_semantics.specs.Stages.{stage_at, list_any, merges_fork}
 use Rattle.pdl_net.specs.Circuit.{Circuit}
 use Rattle.pdl_net.specs.Meaning.{signal}
 use Rattle.pdl_order.specs.declared.OrderRegs.{OrderRegs}
@@ -21,7 +21,7 @@ is_merged p f = merged_in p.stages f
 
 -- how many of these stages stand in the branches of a fork
 abbrev pub branches_in : List Stage → ℕ → ℕ
-branches_in ss f = count_by (λ (s : Stage). is_branch_of s.branch f) ss
+branches_in ss f = count_by (λ (s : Stage). list_any (λ b. b.fork == f) s.branches) ss
 
 -- the branches of a fork that is merged have no more than 64 stages
 pub record ForksFit (p : Pipe) : Type 0 where

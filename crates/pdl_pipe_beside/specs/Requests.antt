@@ -1,6 +1,6 @@
 -- What the netlist asks of delayed memories.
 use Rattle.std.specs.Prelude.{◌≡◌, ℕ, ◌^◌, ◌<◌, ◌==◌, List, [], ◌∷◌, length, Option, Some, is_some, if◌then◌else◌}
-use Rattle.pdl_semantics.specs.Flat.{Pipe}
+use Rattle.pdl_semantics.specs.Flat.{Pipe, is_delayed}
 use Rattle.pdl_semantics.specs.Stages.{mem_at}
 use Rattle.pdl_net.specs.Circuit.{Circuit, State}
 use Rattle.pdl_net.specs.Signal.{Signal, mux_signal}
@@ -40,7 +40,7 @@ pub record IsRequest (a c : Circuit) (p : Pipe) (es : List StageEnd) (m : ℕ) (
 
 -- a delayed memory has them, and no other
 pub record HasRequest (a c : Circuit) (p : Pipe) (es : List StageEnd) (m : ℕ) (o : Option RequestNets) : Type 0 where
-  pub some : is_some o ≡ (mem_at p m).delayed
+  pub some : is_some o ≡ is_delayed (mem_at p m).kind
   pub asks : (x : RequestNets) → o ≡ Some x → IsRequest a c p es m x
 
 -- of the first n memories the delayed ones have the nets of what is asked of them

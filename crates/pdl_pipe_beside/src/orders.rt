@@ -1,8 +1,9 @@
 // The registers of the orders of forks.
-ghost use Rattle.std.specs.Prelude.{◌≡◌, ◌≤◌, ℕ, true, IfOk, length};
-ghost use Rattle.pdl_semantics.specs.Stages.{is_branch_of, merges_fork};
+ghost use Rattle.std.specs.Prelude.{◌≡◌, ◌≤◌, ◌==◌, ℕ, true, IfOk, length};
+ghost use Rattle.pdl_semantics.specs.Flat.{Branch};
+ghost use Rattle.pdl_semantics.specs.Stages.{list_any, merges_fork};
 ghost use Rattle.pdl_form.specs.FormView.{form};
-ghost use Rattle.pdl_form.specs.View.{branch_view, stages_view};
+ghost use Rattle.pdl_form.specs.View.{branches_view, stages_view};
 ghost use Rattle.pdl_net.specs.Growth.{Extends};
 ghost use Rattle.pdl_order.specs.Laws.{own as order_own};
 ghost use Rattle.pdl_machine_inflight.specs.Readings.{branch_stages};
@@ -10,7 +11,7 @@ ghost use Rattle.pdl_pipe_beside.specs.Parts.{AreParts, IsNewPart};
 ghost use Rattle.pdl_pipe_beside.specs.Orders.{merged_in, is_merged as merged, branches_in, ForksFit, HasOrderOf};
 
 use pdl_build::Builder;
-use pdl_form::{FlatPipe, FlatStage};
+use pdl_form::{FlatPipe, FlatStage, side_in};
 use pdl_kit::NoMemory;
 use pdl_order::{OrderRegs, emit_order_state};
 use std::alloc::Global;
@@ -27,12 +28,10 @@ pub(crate) fn merges(stage: &FlatStage, fork: usize) -> bool
 
 // Whether a stage stands in a branch of a fork.
 pub(crate) fn stands_in(stage: &FlatStage, fork: usize) -> bool
-    ensures { result ≡ is_branch_of (branch_view stage.now.branch) fork }
+    ensures { result ≡ list_any (λ (b : Branch). b.fork == fork)
+        (branches_view stage.now.branches) }
 {
-    match stage.branch {
-        Some(branch) => branch.fork == fork,
-        None => false,
-    }
+    side_in(stage.branches, fork).is_some()
 }
 
 // Whether some stage merges a fork.

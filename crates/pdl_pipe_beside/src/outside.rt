@@ -168,7 +168,7 @@ fn memory_request(
         HasRequest b.old b.new (form round.now.pipe.now).pipe round.now.ends.now m o) }
     ensures extends { Extends b.old b.new }
 {
-    if !memory(round.pipe, m).delayed {
+    if !memory(round.pipe, m).kind.is_delayed() {
         return Ok(None);
     }
     let asked = request(b, round, m)?;

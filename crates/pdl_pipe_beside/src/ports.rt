@@ -47,7 +47,7 @@ fn info(mem: &FlatMem) -> Result<MemInfo, NoMemory>
         name,
         width: mem.width,
         depth: mem.depth,
-        delayed: mem.delayed,
+        delayed: mem.kind.is_delayed(),
     })
 }
 

@@ -5,13 +5,14 @@ use Rattle.pdl_semantics.specs.Flat.{Op, Stmt}
 use Rattle.pdl_semantics.specs.Flatten.{flat, first_stages, mems_of}
 use Rattle.pdl_semantics.specs.Stages.{is_reserve, is_release}
 use Rattle.pdl_rules.specs.Refusal.{KeepsRules}
+use Rattle.pdl_rules.specs.Unbuilt.{IsBuilt}
 use Rattle.pdl_source_stages.proofs.Facts.{stage_facts}
 use Rattle.pdl_source_paths.specs.Source.{is_source, is_named}
 use Rattle.pdl_source_paths.proofs.Memories.{mems_length, stages_length}
 use Rattle.pdl_form.specs.Form.{Form, form_of}
 use Rattle.pdl_form_types.specs.Stmts.{AreTypedStmts, IsTypedForm}
 use Rattle.pdl_form_types.proofs.FormTyping.{typed_whole}
-use Rattle.pdl_law_parts.specs.Reads.{IsAtOnce}
+use Rattle.pdl_law_parts.specs.Rows.{HasRow}
 use Rattle.pdl_law_parts.proofs.WellFormedStages.{few_stages}
 use Rattle.pdl_law.specs.StandingStates.{IsLawful}
 use Rattle.pdl_law.proofs.FromRules.{lawful_source}
@@ -27,16 +28,16 @@ use Rattle.pdl_word.specs.Each.{Each}
 one_each : (test : ℕ → Op → Bool) (xs : List Stmt) (ms : List Mem) → length (first_stages test xs 0 ms) ≡ length (mems_of ms)
 one_each test xs ms = stages_length test xs 0 ms ∙ sym (mems_length ms)
 
--- statements that are typed, and read at once where they say so
-both_walked : (f : Form) (xs : List Stmt) → AreTypedStmts f xs → Each (λ (x : Stmt). IsAtOnce f.pipe x.op) xs → AreWalked f xs
+-- statements that are typed, and for each of which a row stands
+both_walked : (f : Form) (xs : List Stmt) → AreTypedStmts f xs → Each (λ (x : Stmt). HasRow f.pipe x.op) xs → AreWalked f xs
 both_walked f [] t h = tt
 both_walked f (x ∷ xs) t h = ((t.0, h.0), both_walked f xs t.1 h.1)
 
--- nets can be emitted of a source that breaks no rule and has no variable with the empty name
-pub can_emit : (p : Pipe) → KeepsRules p → is_source p ≡ true → is_named p ≡ true → CanEmit (form_of p)
-can_emit p rules source named = record {
+-- nets can be emitted of a source that breaks no rule, has no form without circuit and no variable with the empty name
+pub can_emit : (p : Pipe) → KeepsRules p → IsBuilt p → is_source p ≡ true → is_named p ≡ true → CanEmit (form_of p)
+can_emit p rules built source named = record {
   typed = typed;
-  walked = both_walked (form_of p) (flat p).stmts typed.stmts lawful.at_once;
+  walked = both_walked (form_of p) (flat p).stmts typed.stmts lawful.rows;
   reserves = one_each is_reserve (flat p).stmts p.mems;
   releases = one_each is_release (flat p).stmts p.mems;
   leads = lawful.leads;
@@ -54,4 +55,4 @@ can_emit p rules source named = record {
     typed = typed_whole p rules named
 
     lawful : IsLawful (flat p)
-    lawful = lawful_source p rules source named
+    lawful = lawful_source p rules built source named

@@ -1,7 +1,7 @@
 -- The circuits of an emission: each keeps what those before it have, and most registers and arrays take next what they took.
 use Rattle.std.proofs.Common.{◌≡◌, refl, sym, subst, ℕ, ◌<◌, ◌≤◌, ◌∙◌, false, List, [], length, inr, arith}
 use Rattle.std.specs.Prelude.{Option, Some, None}
-use Rattle.pdl_semantics.specs.Flat.{Pipe}
+use Rattle.pdl_semantics.specs.Flat.{Pipe, is_delayed}
 use Rattle.pdl_semantics.specs.Stages.{mem_at}
 use Rattle.pdl_net.specs.Circuit.{HasArray}
 use Rattle.pdl_net.specs.Meaning.{next_signal, write_signals}
@@ -153,7 +153,7 @@ module _ {T : Type 0} (l : Members T) (n : Nets T) (em : Emission l n) where
   -- ---- arrays
 
   -- nothing writes an array before the steps of the locks
-  pub unwritten_before : (m : ℕ) → m < length p.mems → (mem_at p m).delayed ≡ false → write_signals em.h (comb_place p m) ≡ []
+  pub unwritten_before : (m : ℕ) → m < length p.mems → is_delayed (mem_at p m).kind ≡ false → write_signals em.h (comb_place p m) ≡ []
   unwritten_before m low once =
       let i = comb_place p m in
       let has = em.layout.locked.has_array m low once in
@@ -166,7 +166,7 @@ module _ {T : Type 0} (l : Members T) (n : Nets T) (em : Emission l n) where
       ∙ em.layout.unwritten m low once
 
   -- nor after them that of a memory without lock
-  pub unwritten_after : (m : ℕ) → m < length p.mems → is_locked p m ≡ false → (mem_at p m).delayed ≡ false → write_signals em.d (comb_place p m) ≡ []
+  pub unwritten_after : (m : ℕ) → m < length p.mems → is_locked p m ≡ false → is_delayed (mem_at p m).kind ≡ false → write_signals em.d (comb_place p m) ≡ []
   unwritten_after m low free once =
       em.writes (comb_place p m) (keeps_ai.has_array (comb_place p m) (em.layout.locked.has_array m low once))
       ∙ plain_unwritten l em.a p n.locks em.layout.locked em.layout.lawful em.h em.i m keeps_ah em.to_locks once (unwritten_before m low once) low free

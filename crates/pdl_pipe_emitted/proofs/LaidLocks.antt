@@ -8,7 +8,7 @@ use Rattle.pdl_law_parts.specs.Walk.{Locks, is_locked}
 use Rattle.pdl_law_parts.specs.Views.{View, Gates}
 use Rattle.pdl_law_parts.specs.Ports.{Commit, step_of}
 use Rattle.pdl_law_parts.specs.Compiled.{GoesOn}
-use Rattle.pdl_law_parts.proofs.NextState.{lock_there}
+use Rattle.pdl_law_parts.proofs.StageLooks.{lock_there}
 use Rattle.pdl_law_sides.specs.WholeNetlist.{StartsLock, IsNet}
 use Rattle.pdl_pipe_walk.specs.Locked.{Members, some_at, locks_in, AreLocked}
 use Rattle.pdl_pipe_walk.proofs.MadeLocks.{locks_same}

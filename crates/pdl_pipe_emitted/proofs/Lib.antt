@@ -1,4 +1,3 @@
-pub mod RemainingWrites
 pub mod LockRuns
 pub mod LockCycles
 pub mod Begins

@@ -15,7 +15,7 @@ use Rattle.pdl_net.proofs.Keeps.{keeps_trans}
 use Rattle.pdl_pipe_exprs.specs.Nets.{signals_in}
 use Rattle.pdl_port.specs.Laws.{AnswerSignals}
 use Rattle.pdl_law_parts.specs.Walk.{Locks}
-use Rattle.pdl_law_parts.proofs.NextState.{lock_there}
+use Rattle.pdl_law_parts.proofs.StageLooks.{lock_there}
 use Rattle.pdl_pipe_walk.specs.declared.locks.MemLock.{MemLock}
 use Rattle.pdl_pipe_walk.specs.Locked.{Members, AreLocked, locks_in}
 use Rattle.pdl_pipe_walk.proofs.Lists.{map_each}

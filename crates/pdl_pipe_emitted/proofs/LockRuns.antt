@@ -1,6 +1,6 @@
 -- In each cycle of each run of a netlist that is made of an accepted source each stage is as the machine's, and each lock is used as the machine's threads use it.
 use Rattle.std.proofs.Common.{◌≡◌, refl, sym, ap, ◌∙◌, ℕ, ◌+◌, ◌<◌, ◌==◌, Bool, true, false, List, [], ◌∷◌, length, arith}
-use Rattle.std.specs.Prelude.{is_some, slice_index_or}
+use Rattle.std.specs.Prelude.{is_some, nat_lt, slice_index_or}
 use Rattle.pdl_word.specs.Words.{bit}
 use Rattle.pdl_semantics.specs.Tree as tree
 use Rattle.pdl_semantics.specs.Flat.{Pipe, arrays_of}
@@ -8,15 +8,16 @@ use Rattle.pdl_semantics.specs.Flatten.{flat}
 use Rattle.pdl_semantics.specs.Stages.{mem_at, list_any}
 use Rattle.pdl_semantics.specs.Machine as machine
 use Rattle.pdl_semantics.specs.Moves.{Act, all_acts, movers}
-use Rattle.pdl_semantics.specs.Cycle.{first, cycle, state_after, has_release, list_two, squasher}
+use Rattle.pdl_semantics.specs.Cycle.{first, cycle, state_after, all_releases, list_two, squasher}
 use Rattle.pdl_rules.specs.Refusal.{KeepsRules}
+use Rattle.pdl_rules.specs.Unbuilt.{IsBuilt}
 use Rattle.pdl_source_paths.specs.Source.{is_source, is_named}
 use Rattle.pdl_net.specs.declared.Netlist.{Netlist}
 use Rattle.pdl_net.specs.Circuit.{State}
 use Rattle.pdl_net.specs.Signal.{Signal}
 use Rattle.pdl_net.specs.Run.{Held, start, next, state_in}
 use Rattle.pdl_image.specs.Images.{IsImage}
-use Rattle.pdl_lockapi.specs.Lock.{LockAct, filled_entries, step}
+use Rattle.pdl_lockapi.specs.Lock.{LockAct, LockState, filled_entries, step}
 use Rattle.pdl_lockapi.specs.Forget.{as_lock, forgotten_entries, lock_state_of}
 use Rattle.pdl_machine_facts.specs.Slots.{stage_moves, moving}
 use Rattle.pdl_machine_facts.specs.Cycle.{IsByStages}
@@ -28,8 +29,9 @@ use Rattle.pdl_law_parts.specs.Places.{delayed_count}
 use Rattle.pdl_law_parts.specs.States.{held_after}
 use Rattle.pdl_law_parts.specs.Stands.{IsSeen, IsSquashed, StandsLock}
 use Rattle.pdl_law_parts.proofs.AnsweredThreads.{stood}
-use Rattle.pdl_law_parts.proofs.NextState.{lock_there}
-use Rattle.pdl_law_parts.proofs.LockActs.{tail_with, act_of, drives, filled_is, proper}
+use Rattle.pdl_law_parts.proofs.StageLooks.{lock_there}
+use Rattle.pdl_law_parts.proofs.LockActs.{act_of, drives, filled_is, proper}
+use Rattle.pdl_law_parts.proofs.LockStep.{step_is}
 use Rattle.pdl_law_sides.specs.Sides.{Sides}
 use Rattle.pdl_law_sides.specs.WholeNetlist.{in_order, replies_of}
 use Rattle.pdl_law.specs.StandingStates.{IsLawful, IsKnown}
@@ -44,7 +46,6 @@ use Rattle.pdl_law_follows.specs.Refined.{machine_after}
 use Rattle.pdl_law_follows.proofs.FollowsMade.{follows}
 use Rattle.pdl_law_follows.proofs.HasMems.{has_mems}
 use Rattle.pdl_pipe_emitted.specs.Used.{IsUsedLock, IsStageAs}
-use Rattle.pdl_pipe_emitted.proofs.RemainingWrites.{left}
 
 -- ---- a cycle
 
@@ -63,10 +64,7 @@ module _ (p : Pipe) (ls : Locks) (vs : ℕ → View) (gates : Gates) (moves : �
 
   left_is : (step (lock_state_of stand.base (machine.lock_of st m) stand.words) act).entries ≡ forgotten_entries (machine.lock_of (cycle p st bits) m)
   left_is =
-      left (has_release m (moving p st bits))
-      (squasher (moving p st bits)) act.tail stand.base (filled_entries (lock_state_of stand.base (machine.lock_of st m) stand.words) act)
-      (list_two st (moving p st bits) m) filled
-      (λ n e. (ap (tail_with p ls vs moves s st bits known.by known.used seen (stood p st bits) m locked stand gates squashed) e, known.cut.cuts m n e))
+      ap (λ (x : LockState). x.entries) (step_is p ls vs moves s st bits known.by known.used seen (stood p st bits) m locked stand gates squashed)
       ∙ ap forgotten_entries (sym (known.by.locks m (lock_there p m locked)))
 
   -- the lock of a memory that declares its kind and size is used in this cycle as the machine's threads use it
@@ -80,7 +78,8 @@ module _ (p : Pipe) (ls : Locks) (vs : ℕ → View) (gates : Gates) (moves : �
     drives = drives p ls vs moves s st bits known.by known.used seen (stood p st bits) m locked stand gates squashed;
     proper = proper p ls vs moves s st bits known.by known.used seen (stood p st bits) m locked stand gates squashed kind;
     fills = filled ∙ ap (λ (ms : List Act). forgotten_entries (list_two st ms m)) (sym known.by.movers);
-    releases = ap (has_release m) (sym known.by.movers);
+    releases = ap (λ (ms : List Act). nat_lt 0 (all_releases m ms)) (sym known.by.movers);
+    seconds = ap (λ (ms : List Act). nat_lt 1 (all_releases m ms)) (sym known.by.movers);
     squashes = ap (λ (ms : List Act). is_some (squasher ms)) (sym known.by.movers);
     left = left_is;
   }
@@ -104,41 +103,41 @@ stage_here p vs moves s st bits by k low seen = record {
 
 -- ---- runs
 
-module _ (p : tree.Pipe) (rules : KeepsRules p) (source : is_source p ≡ true) (named : is_named p ≡ true) (ls : Locks)
+module _ (p : tree.Pipe) (rules : KeepsRules p) (built : IsBuilt p) (source : is_source p ≡ true) (named : is_named p ≡ true) (ls : Locks)
     (vs : ℕ → View) (gates : Gates) (moves : ℕ → Signal) (sides : Sides) (n : Netlist) where
   module _ (made : IsMadeWhole p ls vs gates moves sides n) (image : List (List ℕ)) where
     abbrev far : Apart (mem_names p.mems) (length (flat p).mems)
-    far = apart p rules source named ls vs gates moves sides n made
+    far = apart p rules built source named ls vs gates moves sides n made
 
     abbrev law : IsLawful (flat p)
-    law = lawful p rules source named ls vs gates moves sides n made
+    law = lawful p rules built source named ls vs gates moves sides n made
 
     -- each state that a run comes to stands for the machine's
-    stands_from : (schedule : List ℕ) (h : Held) (st : machine.State) → IsStandingFor p rules source named ls vs gates moves sides n made image h st
-        → IsStandingFor p rules source named ls vs gates moves sides n made image (held_after n h schedule)
+    stands_from : (schedule : List ℕ) (h : Held) (st : machine.State) → IsStandingFor p rules built source named ls vs gates moves sides n made image h st
+        → IsStandingFor p rules built source named ls vs gates moves sides n made image (held_after n h schedule)
         (state_after (flat p) st (replies_in (flat p) schedule))
     stands_from [] h st x = x
     stands_from (b ∷ schedule) h st x =
         stands_from schedule (next n h b) (cycle (flat p) st (replies_of (delayed_count (flat p)) b))
         (stands_next (flat p)
         (mem_names p.mems) far law
-        (known_source p rules source named) ls vs gates moves sides n made.compiled made.formed.well made.mems
+        (known_source p rules built source named) ls vs gates moves sides n made.compiled made.formed.well made.mems
         (arrays_of (in_order (flat p) image)) h st x b)
 
     -- a cycle from such a state
-    module _ (h : Held) (st : machine.State) (x : IsStandingFor p rules source named ls vs gates moves sides n made image h st) (b : ℕ) where
+    module _ (h : Held) (st : machine.State) (x : IsStandingFor p rules built source named ls vs gates moves sides n made image h st) (b : ℕ) where
       knows : IsKnown (flat p) st (replies_of (delayed_count (flat p)) b)
       knows =
           runs.knows (flat p)
           (mem_names p.mems) far law
-          (known_source p rules source named) ls vs gates moves sides n made.compiled made.formed.well made.mems
+          (known_source p rules built source named) ls vs gates moves sides n made.compiled made.formed.well made.mems
           (arrays_of (in_order (flat p) image)) h st x b
 
       seen : (j : ℕ) → j < length (flat p).stages → IsSeen (flat p) vs moves (state_in h b) st (replies_of (delayed_count (flat p)) b) j
       seen =
           runs.seen (flat p)
           (mem_names p.mems) far law
-          (known_source p rules source named) ls vs gates moves sides n made.compiled made.formed.well made.mems
+          (known_source p rules built source named) ls vs gates moves sides n made.compiled made.formed.well made.mems
           (arrays_of (in_order (flat p) image)) h st x b
 
       used_standing : (m : ℕ) → is_locked (flat p) m ≡ true → IsUsedLock (flat p) ls vs gates moves (state_in h b) st (replies_of (delayed_count (flat p)) b) m
@@ -146,12 +145,12 @@ module _ (p : tree.Pipe) (rules : KeepsRules p) (source : is_source p ≡ true) 
           let suits =
           runs.suits (flat p)
           (mem_names p.mems) far law
-          (known_source p rules source named) ls vs gates moves sides n made.compiled made.formed.well made.mems
+          (known_source p rules built source named) ls vs gates moves sides n made.compiled made.formed.well made.mems
           (arrays_of (in_order (flat p) image)) h st x b in
           used_here (flat p) ls vs gates moves (state_in h b) st (replies_of (delayed_count (flat p)) b) knows seen
           (runs.squashed (flat p)
           (mem_names p.mems) far law
-          (known_source p rules source named) ls vs gates moves sides n made.compiled made.formed.well made.mems
+          (known_source p rules built source named) ls vs gates moves sides n made.compiled made.formed.well made.mems
           (arrays_of (in_order (flat p) image)) h st x b)
           m locked ((x.whole b suits).stands.locks m locked) (made.compiled.laid.locks m locked).kind
 
@@ -162,19 +161,20 @@ module _ (p : tree.Pipe) (rules : KeepsRules p) (source : is_source p ≡ true) 
     whole : IsMadeWhole p ls vs gates moves sides n
     whole = record {
       compiled = made.compiled;
-      formed = (follows p rules source named ls vs gates moves sides n made).well_formed;
+      formed = (follows p rules built source named ls vs gates moves sides n made).well_formed;
       mems = has_mems (flat p) p.mems refl ls n made.in_order made.mems;
     }
 
     -- what the netlist holds after a schedule stands for the machine's state
     abbrev Reached : (image : List (List ℕ)) → List ℕ → Type 0
     Reached image schedule =
-        IsStandingFor p rules source named ls vs gates moves sides n whole image (held_after n (start n image) schedule) (machine_after (flat p) image schedule)
+        IsStandingFor p rules built source named ls vs gates moves sides n whole image (held_after n (start n image) schedule)
+        (machine_after (flat p) image schedule)
 
     reached : (image : List (List ℕ)) (schedule : List ℕ) → IsImage n.mems image → Reached image schedule
     reached image schedule is_image =
         stands_from whole image schedule (start n image) (first (flat p) (arrays_of (in_order (flat p) image)))
-        (stands_source p rules source named ls vs gates moves sides n whole image is_image)
+        (stands_source p rules built source named ls vs gates moves sides n whole image is_image)
 
     -- from each image, after each schedule, whatever is replied next, a memory's lock is used as the machine's threads use it
     pub used_made : (image : List (List ℕ)) (schedule : List ℕ) (bits m : ℕ) → IsImage n.mems image → is_locked (flat p) m ≡ true

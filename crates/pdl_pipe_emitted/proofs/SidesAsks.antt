@@ -4,7 +4,7 @@ use Rattle.std.specs.Prelude.{if◌then◌else◌}
 use Rattle.std.proofs.lemmas.Bool.{eqb-true}
 use Rattle.pdl_word.specs.Each.{Each}
 use Rattle.pdl_word.proofs.Each.{each_push}
-use Rattle.pdl_semantics.specs.Flat.{Op, Bind, CombRead, DelayedRead, Write, ReserveRead, ReserveWrite, Block, Release, Call, SpecCall, Verify, SpecCheck, SpecBarrier, Stmt, Pipe}
+use Rattle.pdl_semantics.specs.Flat.{Op, Bind, CombRead, DelayedRead, Write, ReserveRead, ReserveWrite, Block, Release, Call, SpecCall, Verify, SpecCheck, SpecBarrier, AdviceBind, AdviceRead, AdviceWrite, Stmt, Pipe}
 use Rattle.pdl_semantics.specs.Stages.{in_stage}
 use Rattle.pdl_net.specs.Circuit.{Circuit}
 use Rattle.pdl_net.specs.Signal.{Signal}
@@ -36,7 +36,8 @@ asks_row p ls k x h e r w so = by x.op h
   where
     by : (op : Op) → IsTheReading p (record x { op = op }) → Each (AsksOf p k) (walk_after op r ls w).asks
     by (DelayedRead y m a) g = each_push (AsksOf p k) w.asks _ so (g ∙ ap (λ j. Some (record { stage = j; var = y })) e)
-    by (Verify args) g = so
+    by (Verify true args) g = so
+    by (Verify false args) g = so
     by (Bind y a) g = so
     by (CombRead y m a) g = so
     by (Write m a b) g = so
@@ -48,6 +49,9 @@ asks_row p ls k x h e r w so = by x.op h
     by (SpecCall args) g = so
     by SpecCheck g = so
     by SpecBarrier g = so
+    by (AdviceBind y a) g = so
+    by (AdviceRead y m a) g = so
+    by (AdviceWrite m a b) g = so
 
 asks_rows : (c : Circuit) (p : Pipe) (ls : Locks) (tickets : ℕ → Signal) (k : ℕ) (xs : List Stmt) → EachIn (IsTheReading p) k xs
     → (w w' : Walk) → Each (AsksOf p k) w.asks → AreRows c p ls tickets xs w w' → Each (AsksOf p k) w'.asks

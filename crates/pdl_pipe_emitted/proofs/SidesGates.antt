@@ -1,5 +1,5 @@
 -- The gates of an emission by what stands beside the stages.
-use Rattle.std.proofs.Common.{◌≡◌, refl, sym, ap, ap₂, ◌∙◌, subst, ℕ, zero, suc, ◌<◌, ◌≤◌, ◌⊎◌, inl, inr, List, length, arith}
+use Rattle.std.proofs.Common.{◌≡◌, refl, sym, ap, ap₂, ◌∙◌, subst, ℕ, zero, suc, ◌<◌, ◌≤◌, ◌⊎◌, inl, inr, Bool, List, [], ◌∷◌, length, arith}
 use mathlib.Core.Path.{fun_ext}
 use Rattle.std.specs.Prelude.{Option, Some, None, is_some, true}
 use Rattle.std.proofs.lemmas.Bool.{cases_lt, false≢true}
@@ -7,6 +7,8 @@ use Rattle.std.proofs.lemmas.List.{get_or_past}
 use Rattle.pdl_word.specs.Each.{Each}
 use Rattle.pdl_word.proofs.Each.{each_weaker}
 use Rattle.pdl_semantics.specs.Flat.{Branch, Pipe, Stage}
+use Rattle.pdl_semantics.specs.Stages as stages
+use Rattle.pdl_form.specs.Sides.{first_of}
 use Rattle.pdl_semantics.specs.Stages.{stage_at, last_stage, verify_stage}
 use Rattle.pdl_net.specs.Circuit.{Circuit}
 use Rattle.pdl_net.specs.Signal.{Signal}
@@ -18,15 +20,16 @@ use Rattle.pdl_order.specs.declared.OrderRegs.{OrderRegs}
 use Rattle.pdl_port.specs.declared.PortRegs.{PortRegs}
 use Rattle.pdl_law_parts.specs.Walk.{Ask, both}
 use Rattle.pdl_law_parts.specs.Views.{View, way_on}
-use Rattle.pdl_law_sides.specs.Sides.{Sides, answers_of, all_answered, unsquashed, barrier_open, ports_open, merge_turn, turn}
+use Rattle.pdl_law_sides.specs.Sides.{Sides, branch_turn, answers_of, all_answered, unsquashed, barrier_open, ports_open, merge_turn, turn}
 use Rattle.pdl_pipe_walk.specs.Locked.{Members, some_at, locks_in}
 use Rattle.pdl_pipe_answers.specs.Ports.{answers_in, HasAnswers}
 use Rattle.pdl_pipe_answers.proofs.PortAnswers.{answers_keep}
 use Rattle.pdl_pipe_answers.proofs.Bits.{memory_answered_same}
+use Rattle.pdl_pipe_beside.specs.Beside.{order_first, order_empty}
 use Rattle.pdl_pipe_beside.proofs.OrderParts.{is_merged_by}
 use Rattle.pdl_pipe_registers.proofs.Lists.{view_at}
 use Rattle.pdl_pipe_nexts.specs.Lines.{line_pipe}
-use Rattle.pdl_pipe_moves.specs.Gates.{opens_by, merge_by, turn_in, HasTurns, IsOrderThere}
+use Rattle.pdl_pipe_moves.specs.Gates.{opens_by, turn_by, merge_by, turn_in, HasTurns, IsOrderThere}
 use Rattle.pdl_pipe_moves.specs.Signs.{signs_in, gate_by}
 use Rattle.pdl_pipe_moves.specs.Passed.{frees_at}
 use Rattle.pdl_pipe_moves.proofs.TurnGrowth.{turn_same}
@@ -68,10 +71,14 @@ module _ {T : Type 0} (l : Members T) (n : Nets T) (em : Emission l n) where
       by (Some r) at e = (em.layout.stand_orders.each f r (em.can.forks q f low merges) at).nets
 
   -- by the orders as what stands beside has them
-  turn_as : (o : Option ℕ) (from : Option Branch) → merge_by em.d n.orders o from ≡ merge_turn sides o from
+  turn_as : (o : Option ℕ) (from : List Branch) → merge_by em.d n.orders o from ≡ merge_turn sides o from
   turn_as None from = refl
-  turn_as (Some f) None = refl
-  turn_as (Some f) (Some b) = refl
+  turn_as (Some f) from = at (stages.sides_of f from)
+    where
+      at : (bs : List Bool)
+          → turn_by (order_first em.d (some_at n.orders f)) (order_empty em.d (some_at n.orders f)) (first_of bs) ≡ branch_turn (sides.order f) bs
+      at [] = refl
+      at (b ∷ bs) = refl
 
   turn_is : (k q : ℕ) → turn_in em.b p n.orders k q ≡ turn p sides k q
   turn_is k q = at (cases_lt q (length p.stages))
@@ -80,11 +87,11 @@ module _ {T : Type 0} (l : Members T) (n : Nets T) (em : Emission l n) where
       at (inl low) =
           turn_same em.a em.b (keeps_ab l n em) p n.orders k q low orders_there
           ∙ sym (turn_same em.a em.d (keeps_ad l n em) p n.orders k q low orders_there)
-          ∙ turn_as (stage_at p q).merges (stage_at p k).branch
+          ∙ turn_as (stage_at p q).merges (stage_at p k).branches
       at (inr high) =
           let past = get_or_past p.stages q last_stage high in
-          ap (λ (s : Stage). merge_by em.b n.orders s.merges (stage_at p k).branch) past
-          ∙ sym (ap (λ (s : Stage). merge_turn sides s.merges (stage_at p k).branch) past)
+          ap (λ (s : Stage). merge_by em.b n.orders s.merges (stage_at p k).branches) past
+          ∙ sym (ap (λ (s : Stage). merge_turn sides s.merges (stage_at p k).branches) past)
 
   -- ---- ports
 

@@ -16,7 +16,7 @@ use Rattle.pdl_pipe_exprs.proofs.NetLists.{signals_keep}
 use Rattle.pdl_squash.specs.Laws.{SquashLaw}
 use Rattle.pdl_law_parts.specs.Walk.{Locks, is_locked, zero_bit}
 use Rattle.pdl_law_parts.specs.Views.{View, Gates}
-use Rattle.pdl_law_parts.proofs.NextState.{lock_there}
+use Rattle.pdl_law_parts.proofs.StageLooks.{lock_there}
 use Rattle.pdl_law_sides.specs.Sides.{Sides}
 use Rattle.pdl_law_sides.specs.HasSides.{squash_of, HasRemovals, HasTails}
 use Rattle.pdl_pipe_walk.specs.declared.locks.MemLock.{MemLock}

@@ -1,12 +1,12 @@
 -- The locks and the stages of a netlist in one cycle, as the machine's threads use and go through them.
-use Rattle.std.specs.Prelude.{◌≡◌, ℕ, ◌<◌, ◌==◌, Bool, List, None, slice_index, slice_index_or, is_some}
+use Rattle.std.specs.Prelude.{◌≡◌, ℕ, ◌<◌, ◌==◌, Bool, List, None, slice_index, slice_index_or, is_some, nat_lt}
 use Rattle.pdl_word.specs.Words.{bit}
 use Rattle.pdl_semantics.specs.Flat.{Pipe}
 use Rattle.pdl_semantics.specs.Stages.{mem_at, list_any}
 use Rattle.pdl_semantics.specs.Machine as machine
 use Rattle.pdl_semantics.specs.Machine.{lock_of}
 use Rattle.pdl_semantics.specs.Moves.{all_acts, movers}
-use Rattle.pdl_semantics.specs.Cycle.{cycle, has_release, list_two, squasher}
+use Rattle.pdl_semantics.specs.Cycle.{cycle, all_releases, list_two, squasher}
 use Rattle.pdl_net.specs.Circuit.{State}
 use Rattle.pdl_net.specs.Signal.{Signal}
 use Rattle.pdl_lockapi.specs.Lock.{LockState, LockAct, filled_entries, step, Proper}
@@ -29,9 +29,10 @@ pub record IsUsedAs (for_state : State → LockState → Type 0) (size bits : �
   pub act : LockAct
   pub drives : Drives bits ports s act
   pub proper : Proper size (lock_state_of base (lock_of st m) words) act
-  -- the pending writes after this cycle's reservations and writes, and whether one is released
+  -- the pending writes after this cycle's reservations and writes, and whether one is released, and a second one
   pub fills : filled_entries (lock_state_of base (lock_of st m) words) act ≡ forgotten_entries (list_two st (movers (all_acts p st replies)) m)
-  pub releases : act.release ≡ has_release m (movers (all_acts p st replies))
+  pub releases : act.release ≡ nat_lt 0 (all_releases m (movers (all_acts p st replies)))
+  pub seconds : act.release2 ≡ nat_lt 1 (all_releases m (movers (all_acts p st replies)))
   -- whether there is a squash, and the pending writes that are left at the end
   pub squashes : act.squash ≡ is_some (squasher (movers (all_acts p st replies)))
   pub left : (step (lock_state_of base (lock_of st m) words) act).entries ≡ forgotten_entries (lock_of (cycle p st replies) m)

@@ -1,8 +1,11 @@
 -- Last stages of variables, as one use after another is marked.
-use Rattle.std.proofs.Common.{◌≡◌, ◌∙◌, ℕ, zero, suc, ◌+◌, ◌-◌, ◌<◌, ◌≤◌, Bool, true, false, List, ◌∷◌, drop, replicate, None, refl, sym, ap, ap₂, subst, inl, inr, arith}
+use Rattle.std.proofs.Common.{◌≡◌, ◌∙◌, ℕ, zero, suc, ◌+◌, ◌-◌, ◌<◌, ◌≤◌, Bool, true, false, List, ◌∷◌, length, drop, get_or, replicate, None, refl, sym, ap, ap₂, subst, inl, inr, arith}
 use Rattle.std.specs.Prelude.{◌&&◌, ◌||◌, ◌⊎◌, Option, nat_le}
 use Rattle.std.proofs.lemmas.Bool.Decides.{leb_tells}
+use Rattle.std.proofs.lemmas.List.{at_drop_more}
 use Rattle.pdl_semantics.specs.Flat.{Stage}
+use Rattle.pdl_form.specs.declared.form.FlatStage.{FlatStage}
+use Rattle.pdl_form.specs.View.{stage_view, stages_view}
 use Rattle.pdl_law_parts.specs.Lives.{forks_by}
 use Rattle.pdl_pipe_lives.specs.Needs.{any_forks_by, lasts_at, AreMarked, IsMarked, AreMarkedBut}
 
@@ -52,7 +55,7 @@ module _ (a b c : List (Option ℕ)) (u rest more whole : ℕ → ℕ → Bool) 
   }
 
 -- a stage and those after it, of which the stage is the i-th, fork from the k-th on where the stage does, if k is not higher, or a later one
-pub forks_more : (k i x : ℕ) (s : Stage) (ss : List Stage)
+forks_more : (k i x : ℕ) (s : Stage) (ss : List Stage)
     → any_forks_by x (drop (k - i) (s ∷ ss)) ≡ ((nat_le k i && forks_by s.next x) || any_forks_by x (drop (k - (i + 1)) ss))
 forks_more k i x s ss = by (leb_tells k i)
   where
@@ -69,3 +72,11 @@ forks_more k i x s ss = by (leb_tells k i)
         let here : k - i ≡ suc (k - (i + 1)) = omega arith in
         ap (λ n. any_forks_by x (drop n (s ∷ ss))) here
         ∙ sym (ap (λ t. (t && forks_by s.next x) || any_forks_by x (drop (k - (i + 1)) ss)) q.0)
+
+-- the stages from the i-th on fork from the k-th on where the i-th does, if k is not higher, or a later one
+pub forks_next : (k i x : ℕ) (ss : List FlatStage) (d : FlatStage) → i < length ss
+    → any_forks_by x (drop (k - i) (stages_view (drop i ss)))
+    ≡ ((nat_le k i && forks_by (stage_view (get_or ss i d)).next x) || any_forks_by x (drop (k - (i + 1)) (stages_view (drop (i + 1) ss))))
+forks_next k i x ss d low =
+    at_drop_more (λ (l : List FlatStage). any_forks_by x (drop (k - i) (stages_view l))) ss i d low
+    ∙ forks_more k i x (stage_view (get_or ss i d)) (stages_view (drop (i + 1) ss))

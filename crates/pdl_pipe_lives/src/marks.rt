@@ -78,7 +78,13 @@ fn mark_operation(last: &mut [Option<usize>], stage: usize, op: &Op)
         Op::Block { a, .. } => mark(last, stage, *a),
         Op::Call(args) => mark_expressions(last, stage, args.as_slice()),
         Op::SpecCall(args) => mark_expressions(last, stage, args.as_slice()),
-        Op::Verify(args) => mark_expressions(last, stage, args.as_slice()),
+        Op::Verify { args, .. } => mark_expressions(last, stage, args.as_slice()),
+        Op::AdviceBind { e, .. } => mark_expression(last, stage, e),
+        Op::AdviceRead { a, .. } => mark(last, stage, *a),
+        Op::AdviceWrite { a, e, .. } => {
+            mark(last, stage, *a);
+            mark_expression(last, stage, e);
+        }
         Op::ReserveRead { .. } => {}
         Op::Release { .. } => {}
         Op::SpecCheck => {}

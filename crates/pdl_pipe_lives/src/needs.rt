@@ -55,11 +55,12 @@ fn verifies(op: &Op) -> bool
     ensures { result ≡ is_verify (act_view op.now) }
 {
     match op {
-        Op::Verify(_) => true,
+        Op::Verify { last, .. } => *last,
         Op::Bind { .. } | Op::CombRead { .. } | Op::DelayedRead { .. } | Op::Write { .. } => false,
         Op::ReserveRead { .. } | Op::ReserveWrite { .. } | Op::Block { .. } => false,
-        Op::Release { .. } | Op::Call(_) | Op::SpecCall(_) | Op::SpecCheck | Op::SpecBarrier =>
-            false,
+        Op::Release { .. } | Op::Call(_) | Op::SpecCall(_) => false,
+        Op::SpecCheck | Op::SpecBarrier => false,
+        Op::AdviceBind { .. } | Op::AdviceRead { .. } | Op::AdviceWrite { .. } => false,
     }
 }
 
@@ -162,7 +163,9 @@ fn asks_held(op: &Op, mem: usize, var: usize) -> bool
         Op::Release { m, a } => *m == mem && *a == var,
         Op::Bind { .. } | Op::CombRead { .. } | Op::DelayedRead { .. } | Op::Write { .. } => false,
         Op::ReserveRead { .. } | Op::ReserveWrite { .. } => false,
-        Op::Call(_) | Op::SpecCall(_) | Op::Verify(_) | Op::SpecCheck | Op::SpecBarrier => false,
+        Op::Call(_) | Op::SpecCall(_) | Op::Verify { .. } => false,
+        Op::SpecCheck | Op::SpecBarrier => false,
+        Op::AdviceBind { .. } | Op::AdviceRead { .. } | Op::AdviceWrite { .. } => false,
     }
 }
 

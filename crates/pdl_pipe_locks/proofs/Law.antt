@@ -2,7 +2,7 @@
 use Rattle.std.proofs.Common.{◌≡◌, ℕ, ◌+◌, ◌^◌, ◌<◌, ◌≤◌, ◌∙◌, true, false, List, [], length, refl, sym, ap, ap₂, subst, arith, inl, inr}
 use Rattle.std.specs.Prelude.{Option, Some, None, is_some}
 use Rattle.std.proofs.lemmas.Bool.{cases_lt, false≢true}
-use Rattle.pdl_semantics.specs.Flat.{Pipe}
+use Rattle.pdl_semantics.specs.Flat.{Pipe, is_delayed}
 use Rattle.pdl_semantics.specs.Stages.{mem_at}
 use Rattle.pdl_net.specs.declared.Net.{Net}
 use Rattle.pdl_net.specs.Circuit.{Circuit, State, HasReg, HasArray, array_depth}
@@ -115,7 +115,8 @@ module _ {T : Type 0} (l : Members T) (stays : Stays l) (p : Pipe) (xs : List (O
   -- it stands for the lock at its start where its registers have their reset values, and its array, where it has one, the image
   starts_of : (x : MemLock T) → some_at xs m ≡ Some x → (t : State) (image : List ℕ)
       → IsReset c (own_of (some_at xs m)).from (own_of (some_at xs m)).to t → length image ≡ (mem_at p m).depth
-      → ((mem_at p m).delayed ≡ false → HasImage ((locks_in l p a xs).kind m) (Some (comb_place p m)) t image) → (locks_in l p a xs).stands m t (start image)
+      → (is_delayed (mem_at p m).kind ≡ false → HasImage ((locks_in l p a xs).kind m) (Some (comb_place p m)) t image)
+      → (locks_in l p a xs).stands m t (start image)
   starts_of x e t image reset long words =
       let ls = locks_in l p a xs in
       let it = locked.locks m x low e in
@@ -132,11 +133,13 @@ module _ {T : Type 0} (l : Members T) (stays : Stays l) (p : Pipe) (xs : List (O
   -- with its registers at reset, and the image in its array where it has one, a memory's lock stands for the lock at its start
   pub starts : is_locked p m ≡ true → (t : State) (image : List ℕ)
       → IsReset c (own_of (some_at xs m)).from (own_of (some_at xs m)).to t → length image ≡ (mem_at p m).depth
-      → ((mem_at p m).delayed ≡ false → HasImage ((locks_in l p a xs).kind m) (Some (comb_place p m)) t image) → (locks_in l p a xs).stands m t (start image)
+      → (is_delayed (mem_at p m).kind ≡ false → HasImage ((locks_in l p a xs).kind m) (Some (comb_place p m)) t image)
+      → (locks_in l p a xs).stands m t (start image)
   starts h = let (x, e) = some_of (some_at xs m) (locked.locked m low ∙ h) in starts_of x e
 
   -- the array of a locked memory that answers at once has as many words as its lock keeps
-  pub deep : is_locked p m ≡ true → (mem_at p m).delayed ≡ false → array_depth c (comb_place p m) ≡ words_of ((locks_in l p a xs).kind m) (mem_at p m).depth
+  pub deep : is_locked p m ≡ true → is_delayed (mem_at p m).kind ≡ false
+      → array_depth c (comb_place p m) ≡ words_of ((locks_in l p a xs).kind m) (mem_at p m).depth
   deep h once =
       let (x, e) = some_of (some_at xs m) (locked.locked m low ∙ h) in
       (laws_kept l a c p xs whole locked lawful).deep m x low once e ∙ ap (λ k. words_of k (mem_at p m).depth) (ap (kind_in l) (sym e))
@@ -200,7 +203,7 @@ module _ {T : Type 0} (l : Members T) (a : Circuit) (p : Pipe) (xs : List (Optio
 
   -- nothing writes the array of a memory without lock
   pub plain_unwritten : (b c : Circuit) (m : ℕ) → Keeps a b → ExtendsLocks xs (length p.mems) b c
-      → (mem_at p m).delayed ≡ false → write_signals b (comb_place p m) ≡ [] → m < length p.mems → is_locked p m ≡ false
+      → is_delayed (mem_at p m).kind ≡ false → write_signals b (comb_place p m) ≡ [] → m < length p.mems → is_locked p m ≡ false
       → write_signals c (comb_place p m) ≡ []
   plain_unwritten b c m k x once e low h =
       x.writes (comb_place p m) (k.has_array (comb_place p m) (locked.has_array m low once)) (λ j u. outside j u (some_at xs j) refl) ∙ e

@@ -2,7 +2,7 @@
 use Rattle.std.proofs.Common.{◌≡◌, ℕ, ◌+◌, ◌^◌, ◌<◌, ◌≤◌, ◌∙◌, false, List, [], ◌∷◌, ◌++◌, length, length-append, refl, sym, ap, subst, arith, inl, inr}
 use borrow.Author.Count.{below_more}
 use Rattle.std.specs.Prelude.{Option, Some, None, is_some}
-use Rattle.pdl_semantics.specs.Flat.{Mem, Pipe}
+use Rattle.pdl_semantics.specs.Flat.{Mem, Pipe, is_delayed}
 use Rattle.pdl_semantics.specs.Stages.{mem_at}
 use Rattle.pdl_net.specs.Circuit.{Circuit, State, HasArray}
 use Rattle.pdl_net.specs.Signal.{Signal}
@@ -133,7 +133,7 @@ module _ {T : Type 0} (l : Members T) (a : Circuit) (p : Pipe) (xs : List (Optio
       at None f = inr (omega arith)
       at (Some y) f = let d = lawful.apart j m x y h low e f in inl (omega (arith, hi, d))
 
-  array_apart : (j m : ℕ) → j < m → m < length p.mems → (mem_at p j).delayed ≡ false
+  array_apart : (j m : ℕ) → j < m → m < length p.mems → is_delayed (mem_at p j).kind ≡ false
       → Outside (own_of (some_at xs m)).first (own_of (some_at xs m)).last (comb_place p j)
   array_apart j m h low once = at (some_at xs m) refl
     where
@@ -189,7 +189,7 @@ module _ {T : Type 0} (l : Members T) (a : Circuit) (p : Pipe) (xs : List (Optio
       }
 
   -- nothing writes the array of the next lock yet
-  pub still_unwritten : (m : ℕ) (b : Circuit) → m < length p.mems → (mem_at p m).delayed ≡ false → ExtendsLocks xs m a b
+  pub still_unwritten : (m : ℕ) (b : Circuit) → m < length p.mems → is_delayed (mem_at p m).kind ≡ false → ExtendsLocks xs m a b
       → write_signals a (comb_place p m) ≡ [] → write_signals b (comb_place p m) ≡ []
   still_unwritten m b low once x e = x.writes (comb_place p m) (locked.has_array m low once) (λ j h. outside j h (some_at xs j) refl) ∙ e
     where

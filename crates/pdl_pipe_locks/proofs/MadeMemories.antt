@@ -4,7 +4,7 @@ use borrow.Author.Count.{below_more}
 use Rattle.std.specs.Prelude.{Option, Some, is_some}
 use Rattle.std.proofs.lemmas.List.{get_or-map, drop_more, drop_all, length-map}
 use Rattle.pdl_kit.specs.declared.mem_info.MemInfo.{MemInfo}
-use Rattle.pdl_semantics.specs.Flat.{Mem, Pipe, has_lock}
+use Rattle.pdl_semantics.specs.Flat.{Mem, Pipe, has_lock, is_delayed}
 use Rattle.pdl_semantics.specs.Stages.{plain_mem, mem_at}
 use Rattle.pdl_net.specs.Circuit.{Circuit, Shape, shapes_of, HasArray, array_width, array_depth}
 use Rattle.pdl_net.specs.Meaning.{write_signals}
@@ -57,7 +57,7 @@ typed_at (m ∷ ms) zero h s = s.0
 typed_at (m ∷ ms) (suc i) h s = typed_at ms i (omega (arith, h)) s.1
 
 -- the i-th of some memories that answer at once does so
-pub comb_at : (ms : List Mem) (i : ℕ) → i < length ms → AreComb ms → (get_or ms i plain_mem).delayed ≡ false
+pub comb_at : (ms : List Mem) (i : ℕ) → i < length ms → AreComb ms → is_delayed (get_or ms i plain_mem).kind ≡ false
 comb_at [] i h s = absurd (omega (arith, h))
 comb_at (m ∷ ms) zero h s = s.0
 comb_at (m ∷ ms) (suc i) h s = comb_at ms i (omega (arith, h)) s.1
@@ -92,7 +92,7 @@ pub record IsMadeArray (c : Circuit) (i : ℕ) (mem : Mem) : Type 0 where
 
 -- a memory that was made: its array where it answers at once, and a lock where it should have one
 pub record IsMadeMemory {T : Type 0} (l : Members T) (a c : Circuit) (i : ℕ) (mem : Mem) (o : Option (MemLock T)) : Type 0 where
-  pub array : mem.delayed ≡ false → IsMadeArray c i mem
+  pub array : is_delayed mem.kind ≡ false → IsMadeArray c i mem
   pub locked : is_some o ≡ has_lock mem.lock
   pub lock : (x : MemLock T) → o ≡ Some x → IsMadeLock l a c i mem x
 
@@ -147,7 +147,7 @@ module _ {T : Type 0} (l : Members T) (stays : Stays l) (a b c : Circuit) (names
     (xs : List (Option (MemLock T))) (i : ℕ) (name : List ℕ) (mem : Mem) (o : Option (MemLock T))
     (low : i < length p.mems) (named : i < length names) (name_at : name ≡ get_or names i []) (at_mem : mem ≡ mem_at p i)
     (grows : ExtendsArrays b c (arrays_in name mem))
-    (free : mem.delayed ≡ false → write_signals c (length b.arrays) ≡ []) (new : IsNewMemory l b c mem o)
+    (free : is_delayed mem.kind ≡ false → write_signals c (length b.arrays) ≡ []) (new : IsNewMemory l b c mem o)
     (h : AreMadeTo l a b names p xs i) where
   keeps : Keeps b c
   keeps = arrays_keeps b c (arrays_in name mem) grows
@@ -175,7 +175,7 @@ module _ {T : Type 0} (l : Members T) (stays : Stays l) (a b c : Circuit) (names
         above = let g = regs_grow a b (arrays_keeps a b h.added h.extends) in omega (arith, g, n.above);
       }
 
-  array_here : mem.delayed ≡ false → IsMadeArray c (comb_place p i) mem
+  array_here : is_delayed mem.kind ≡ false → IsMadeArray c (comb_place p i) mem
   array_here e =
       let one : ExtendsArrays b c (shape_in name mem ∷ []) = subst (λ (fs : List Shape). ExtendsArrays b c fs) (one_array name mem e) grows in
       let made : IsMadeArray c (length b.arrays) mem = record {

@@ -3,7 +3,7 @@ use Rattle.std.proofs.Common.{◌≡◌, ℕ, ◌+◌, ◌^◌, ◌<◌, ◌∙�
 use Rattle.std.specs.Prelude.{Option, Some, None, is_some, not, if◌then◌else◌}
 use Rattle.std.proofs.lemmas.List.{get_or-map, get_or_push, length-map}
 use Rattle.pdl_semantics.specs.Tree.{LockKind}
-use Rattle.pdl_semantics.specs.Flat.{Mem}
+use Rattle.pdl_semantics.specs.Flat.{Mem, is_delayed}
 use Rattle.pdl_net.specs.Circuit.{Circuit, Shape, shape_of, shapes_of, no_array, HasArray, array_width, array_depth}
 use Rattle.pdl_net.specs.Meaning.{signal, write_signals}
 use Rattle.pdl_net.specs.Growth.{ExtendsArrays}
@@ -46,14 +46,14 @@ depth_by_shape c m d h = sym (ap (λ (s : Shape). s.depth) (get_or-map shape_of 
 -- the arrays that a memory's lock takes are those of the memory
 pub arrays_are : (k : LockKind) (n : ℕ) (name : List ℕ) (m : Mem) → m.lock ≡ as_lock k n → arrays_of k (info_of name m) ≡ arrays_in name m
 arrays_are k n name m h =
-    ap (λ d. if m.delayed then [] else record { name = name; width = m.width; depth = d } ∷ [])
+    ap (λ d. if is_delayed m.kind then [] else record { name = name; width = m.width; depth = d } ∷ [])
     (sym (words_are k n m.depth) ∙ ap (λ x. words_in x m.depth) (sym h))
 
 -- a memory that answers at once has one array, of its shape
-pub one_array : (name : List ℕ) (m : Mem) → m.delayed ≡ false → arrays_in name m ≡ shape_in name m ∷ []
+pub one_array : (name : List ℕ) (m : Mem) → is_delayed m.kind ≡ false → arrays_in name m ≡ shape_in name m ∷ []
 one_array name m e = ap (λ (b : Bool). if b then [] else shape_in name m ∷ []) e
 
-no_array_of : (name : List ℕ) (m : Mem) → m.delayed ≡ true → arrays_in name m ≡ []
+no_array_of : (name : List ℕ) (m : Mem) → is_delayed m.kind ≡ true → arrays_in name m ≡ []
 no_array_of name m e = ap (λ (b : Bool). if b then [] else shape_in name m ∷ []) e
 
 -- an array that is new, of this shape
@@ -80,12 +80,12 @@ module _ (b c : Circuit) (x : Shape) (e : ExtendsArrays b c (x ∷ [])) where
 
 -- the one array that is new, where there is one
 new_array : (old new : Circuit) (name : List ℕ) (mem : Mem) (r : LockRegs)
-    → is_some r.array ≡ not mem.delayed → ExtendsArrays old new (arrays_in name mem) → IsFragment old new r
+    → is_some r.array ≡ not (is_delayed mem.kind) → ExtendsArrays old new (arrays_in name mem) → IsFragment old new r
     → r.array ≡ array_of mem (length old.arrays)
 unfolding HasArray
-new_array old new name mem r e grows f = at r.array refl mem.delayed refl
+new_array old new name mem r e grows f = at r.array refl (is_delayed mem.kind) refl
   where
-    at : (x : Option ℕ) → r.array ≡ x → (b : Bool) → mem.delayed ≡ b → r.array ≡ array_of mem (length old.arrays)
+    at : (x : Option ℕ) → r.array ≡ x → (b : Bool) → is_delayed mem.kind ≡ b → r.array ≡ array_of mem (length old.arrays)
     at None h true d = h ∙ sym (ap (λ (b : Bool). if b then None else Some (length old.arrays)) d)
     at (Some m) h true d = absurd (cc (e, h, d))
     at None h false d = absurd (cc (e, h, d))
@@ -100,7 +100,7 @@ new_array old new name mem r e grows f = at r.array refl mem.delayed refl
 -- what a lock's module has made with the next array is a new lock of the memory
 pub new_lock : {T : Type 0} (l : Members T) (old new : Circuit) (name : List ℕ) (mem : Mem) (x : MemLock T)
     → mem.lock ≡ as_lock (l.kind x.lock) (l.size x.lock) → ExtendsArrays old new (arrays_in name mem)
-    → x.regs.width ≡ mem.width → 2 ^ x.regs.bits ≡ mem.depth → is_some x.regs.array ≡ not mem.delayed
+    → x.regs.width ≡ mem.width → 2 ^ x.regs.bits ≡ mem.depth → is_some x.regs.array ≡ not (is_delayed mem.kind)
     → l.placed x.lock new x.regs → IsFragment old new x.regs → HasRegNets (l.tickets x.lock) new x.regs
     → StartLaw (l.stands x.lock x.regs) (l.kind x.lock) new x.regs
     → PlacesLaw (l.stands x.lock x.regs) (l.kind x.lock) x.regs
@@ -122,7 +122,7 @@ new_lock l old new name mem x kind grows w d a placed f nets start places room t
 
 -- nothing writes the array of a new lock
 pub new_unwritten : (old new : Circuit) (name : List ℕ) (mem : Mem) (r : LockRegs)
-    → mem.delayed ≡ false → ExtendsArrays old new (arrays_in name mem) → is_some r.array ≡ not mem.delayed
+    → is_delayed mem.kind ≡ false → ExtendsArrays old new (arrays_in name mem) → is_some r.array ≡ not (is_delayed mem.kind)
     → IsFragment old new r → HasNoPorts r.array new → write_signals new (length old.arrays) ≡ []
 new_unwritten old new name mem r comb grows a f h =
     subst (λ a. HasNoPorts a new) (some_place mem (length old.arrays) r.array (new_array old new name mem r a grows f) comb) h

@@ -75,7 +75,7 @@ module _ (a b : Circuit) (k : Keeps a b) where
   pub reservations_same : (rs : List ReserveNet) → Each (IsGivenReserve a) rs → map (reservation_in b) rs ≡ map (reservation_in a) rs
   reservations_same rs g =
       map_each (reservation_in b) (reservation_in a) (IsGivenReserve a)
-      (λ r t. ap₂ (λ f h. record { mem = r.mem; on = f; addr = h }) (k.kept r.on t.on.there) (k.kept r.addr t.addr)) rs g
+      (λ r t. ap₂ (λ f h. record { mem = r.mem; var = r.var; on = f; addr = h }) (k.kept r.on t.on.there) (k.kept r.addr t.addr)) rs g
 
   given_put : (x : PutNet) → IsGivenPut a x → IsGivenPut b x
   given_put x g = record { on = width_keeps a b x.on 1 k g.on; value = k.there x.value g.value }
@@ -88,7 +88,7 @@ module _ (a b : Circuit) (k : Keeps a b) where
   pub puts_same : (xs : List PutNet) → Each (IsGivenPut a) xs → map (put_in b) xs ≡ map (put_in a) xs
   puts_same xs g =
       map_each (put_in b) (put_in a) (IsGivenPut a)
-      (λ x t. ap₂ (λ f h. record { mem = x.mem; on = f; value = h }) (k.kept x.on t.on.there) (k.kept x.value t.value)) xs g
+      (λ x t. ap₂ (λ f h. record { mem = x.mem; var = x.var; on = f; value = h }) (k.kept x.on t.on.there) (k.kept x.value t.value)) xs g
 
   given_letting : (x : LettingNet) → IsGivenLetting a x → IsGivenLetting b x
   given_letting x g = record { on = width_keeps a b x.on 1 k g.on }
@@ -179,7 +179,7 @@ reserves_step a b c ps qs us m moves rs i d r k t l e g h x =
     let back = map (reservation_in a) (drop (i + 1) rs) in
     let same : reserves_to m (signal b moves) (reservation_in b r ∷ []) ≡ reserves_to m f (reservation_in a r ∷ []) =
     ap₂ (λ u (v : Reservation). reserves_to m u (v ∷ [])) (k.kept moves t)
-    (ap₂ (λ u v. record { mem = r.mem; on = u; addr = v }) (k.kept r.on g.on.there) (k.kept r.addr g.addr)) in
+    (ap₂ (λ u v. record { mem = r.mem; var = r.var; on = u; addr = v }) (k.kept r.on g.on.there) (k.kept r.addr g.addr)) in
     let split : map (reservation_in a) (drop i rs) ≡ reservation_in a r ∷ back =
     ap (map (reservation_in a)) (drop_more rs i d l) ∙ ap (λ (y : ReserveNet). reservation_in a y ∷ back) (sym e) in
     let front = map (reserve_signal b) qs in
@@ -201,7 +201,7 @@ writes_step a b c ps qs us m moves ticket xs i d y k t q l e g h x =
     let f = signal a moves in
     let u = signal a ticket in
     let back = map (put_in a) (drop (i + 1) xs) in
-    let put : put_in b y ≡ put_in a y = ap₂ (λ u v. record { mem = y.mem; on = u; value = v }) (k.kept y.on g.on.there) (k.kept y.value g.value) in
+    let put : put_in b y ≡ put_in a y = ap₂ (λ u v. record { mem = y.mem; var = y.var; on = u; value = v }) (k.kept y.on g.on.there) (k.kept y.value g.value) in
     let same : puts_to m (signal b moves) (signal b ticket) (put_in b y ∷ []) ≡ puts_to m f u (put_in a y ∷ []) =
     ap₂ (λ v (w : Put). puts_to m v (signal b ticket) (w ∷ [])) (k.kept moves t) put ∙ ap (λ v. puts_to m f v (put_in a y ∷ [])) (k.kept ticket q) in
     let split : map (put_in a) (drop i xs) ≡ put_in a y ∷ back = ap (map (put_in a)) (drop_more xs i d l) ∙ ap (λ (z : PutNet). put_in a z ∷ back) (sym e) in

@@ -1,7 +1,7 @@
 -- The laws of the locks in a circuit, which hold as they are made and stay as it grows.
 use Rattle.std.specs.Prelude.{◌≡◌, ℕ, ◌<◌, ◌≤◌, false, List, [], length, Option, Some}
 use Rattle.pdl_semantics.specs.Tree.{LockKind}
-use Rattle.pdl_semantics.specs.Flat.{Pipe}
+use Rattle.pdl_semantics.specs.Flat.{Pipe, is_delayed}
 use Rattle.pdl_semantics.specs.Stages.{mem_at}
 use Rattle.pdl_net.specs.Circuit.{Circuit, State, HasReg, array_depth}
 use Rattle.pdl_net.specs.Meaning.{signal, write_signals}
@@ -30,7 +30,7 @@ IsLawfulLock l c x = IsLawful (l.stands x.lock x.regs) (l.kind x.lock) (l.size x
 pub record AreLawful {T : Type 0} (l : Members T) (c : Circuit) (p : Pipe) (xs : List (Option (MemLock T))) : Type 0 where
   pub laws : (m : ℕ) (x : MemLock T) → m < length p.mems → some_at xs m ≡ Some x → IsLawfulLock l c x
   pub kinds : (m : ℕ) (x : MemLock T) → m < length p.mems → some_at xs m ≡ Some x → (mem_at p m).lock ≡ as_lock (l.kind x.lock) (l.size x.lock)
-  pub deep : (m : ℕ) (x : MemLock T) → m < length p.mems → (mem_at p m).delayed ≡ false → some_at xs m ≡ Some x
+  pub deep : (m : ℕ) (x : MemLock T) → m < length p.mems → is_delayed (mem_at p m).kind ≡ false → some_at xs m ≡ Some x
       → array_depth c (comb_place p m) ≡ words_of (l.kind x.lock) (mem_at p m).depth
   pub apart : (m n : ℕ) (x y : MemLock T) → m < n → n < length p.mems → some_at xs m ≡ Some x → some_at xs n ≡ Some y → end_reg x.regs ≤ first_reg y.regs
 
@@ -40,4 +40,4 @@ AreAbove {T} c p xs = (m : ℕ) (x : MemLock T) → m < length p.mems → some_a
 
 -- no port writes the memories' arrays
 abbrev pub AreUnwritten : Circuit → Pipe → Type 0
-AreUnwritten c p = (m : ℕ) → m < length p.mems → (mem_at p m).delayed ≡ false → write_signals c (comb_place p m) ≡ []
+AreUnwritten c p = (m : ℕ) → m < length p.mems → is_delayed (mem_at p m).kind ≡ false → write_signals c (comb_place p m) ≡ []

@@ -1,7 +1,7 @@
 -- Memories as their locks and arrays take them, and locks that suit them.
 use Rattle.std.specs.Prelude.{◌≡◌, ℕ, ◌<◌, false, List, [], ◌∷◌, ◌++◌, if◌then◌else◌, length, slice_index_or, Option, Some, is_some, ⊤}
 use Rattle.pdl_kit.specs.declared.mem_info.MemInfo.{MemInfo}
-use Rattle.pdl_semantics.specs.Flat.{Mem}
+use Rattle.pdl_semantics.specs.Flat.{Mem, is_delayed}
 use Rattle.pdl_semantics.specs.Stages.{mem_at}
 use Rattle.pdl_net.specs.Circuit.{Shape}
 use Rattle.pdl_lockapi.specs.Forget.{as_lock}
@@ -12,7 +12,7 @@ use Rattle.pdl_pipe_walk.specs.Locked.{Members, some_at}
 
 -- a memory as it is told to its lock, by its name
 abbrev pub info_of : List ℕ → Mem → MemInfo
-info_of name m = record { name = name; width = m.width; depth = m.depth; delayed = m.delayed }
+info_of name m = record { name = name; width = m.width; depth = m.depth; delayed = is_delayed m.kind }
 
 -- memory m of a form as it is told to its lock
 abbrev pub info_at : Form → ℕ → MemInfo
@@ -24,7 +24,7 @@ shape_in name m = record { name = name; width = m.width; depth = words_in m.lock
 
 -- the array of a memory; a delayed one has none
 abbrev pub arrays_in : List ℕ → Mem → List Shape
-arrays_in name m = if m.delayed then [] else shape_in name m ∷ []
+arrays_in name m = if is_delayed m.kind then [] else shape_in name m ∷ []
 
 -- the arrays of memories with these names
 abbrev pub shapes_in : List (List ℕ) → List Mem → List Shape
@@ -34,7 +34,7 @@ shapes_in _ _ = []
 -- memories that answer at once
 abbrev pub AreComb : List Mem → Type 0
 AreComb [] = ⊤
-AreComb (m ∷ ms) = (m.delayed ≡ false) × AreComb ms
+AreComb (m ∷ ms) = (is_delayed m.kind ≡ false) × AreComb ms
 
 -- a lock for each memory that should have one, of its kind and size, that serves it
 pub record AreSuited {T : Type 0} (suits : T → MemInfo → Type 0) (l : Members T) (f : Form) (ls : List (Option T)) : Type 0 where

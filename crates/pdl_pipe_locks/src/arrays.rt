@@ -1,5 +1,7 @@
 // The arrays of the memories, and the registers of their locks.
 ghost use Rattle.std.specs.Prelude.{◌≡◌, ℕ, ◌<◌, ◌∷◌, [], Some, None, false, IfOk, OnOk, map, length, slice_index_or};
+ghost use Rattle.pdl_semantics.specs.Flat.{is_delayed};
+ghost use Rattle.pdl_syntax_tree.specs.View.{mem_kind_view};
 ghost use Rattle.pdl_form.specs.FormView.{form};
 ghost use Rattle.pdl_form.specs.View.{mem_view};
 ghost use Rattle.pdl_form_types.specs.Stmts.{IsTypedMem, AreTypedMems};
@@ -28,7 +30,7 @@ pub fn info(m: &FlatMem) -> Result<MemInfo, NoMemory>
         name,
         width: m.width,
         depth: m.depth,
-        delayed: m.delayed,
+        delayed: m.kind.is_delayed(),
     })
 }
 
@@ -54,7 +56,7 @@ fn lock_registers<L: LockModule + Copy>(
     requires served { IsServed L.suits (members L.LockModule) m.now.name (mem_view m.now) lock.now }
     ensures lock { IfOk result (λ x.
         IsNewLock (members L.LockModule) b.old b.new (mem_view m.now) x) }
-    ensures unwritten { m.now.delayed ≡ false →
+    ensures unwritten { is_delayed (mem_kind_view m.now.kind) ≡ false →
         OnOk result (write_signals b.new (length b.old.arrays) ≡ []) }
     ensures extends { OnOk result (ExtendsArrays b.old b.new
         (arrays_in m.now.name (mem_view m.now))) }
@@ -77,7 +79,7 @@ fn memory<L: LockModule + Copy>(
         (mem_view m.now) lock.now }
     ensures memory { IfOk result (λ x.
         IsNewMemory (members L.LockModule) b.old b.new (mem_view m.now) x) }
-    ensures unwritten { m.now.delayed ≡ false →
+    ensures unwritten { is_delayed (mem_kind_view m.now.kind) ≡ false →
         OnOk result (write_signals b.new (length b.old.arrays) ≡ []) }
     ensures extends { OnOk result (ExtendsArrays b.old b.new
         (arrays_in m.now.name (mem_view m.now))) }
@@ -85,7 +87,7 @@ fn memory<L: LockModule + Copy>(
 {
     match lock {
         None => {
-            if !m.delayed {
+            if !m.kind.is_delayed() {
                 plain(b, m)?;
             }
             Ok(None)

@@ -1,5 +1,6 @@
 // What the locks of the memories take next.
 ghost use Rattle.std.specs.Prelude.{◌≡◌, ℕ, ◌<◌, [], Some, false, IfOk, OnOk, length};
+ghost use Rattle.pdl_semantics.specs.Flat.{is_delayed};
 ghost use Rattle.pdl_semantics.specs.Stages.{mem_at};
 ghost use Rattle.pdl_form.specs.FormView.{form};
 ghost use Rattle.pdl_net.specs.Circuit.{HasArray};
@@ -93,7 +94,7 @@ fn memory_step<L: LockModule>(
     requires low { m < length (form round.now.pipe.now).pipe.mems }
     requires bits { AreBits b.old round.now.bits }
     requires locked { HasRoundLocks (members L.LockModule) b.old round.now }
-    requires unwritten { (mem_at (form round.now.pipe.now).pipe m).delayed ≡ false →
+    requires unwritten { is_delayed (mem_at (form round.now.pipe.now).pipe m).kind ≡ false →
         write_signals b.old (comb_place (form round.now.pipe.now).pipe m) ≡ [] }
     requires deeds { HasRoundDeeds (members L.LockModule) b.old round.now }
     requires squash { HasRoundSquash (members L.LockModule) b.old round.now }

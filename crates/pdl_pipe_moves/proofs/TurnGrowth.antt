@@ -1,8 +1,9 @@
 -- Turns stay while the circuit grows.
 use Rattle.std.proofs.Common.{◌≡◌, ◌==◌, ◌<◌, ℕ, Bool, refl, sym, ap, ap₂, ◌∙◌, length, List}
 use Rattle.std.specs.Prelude.{Option, Some, None, if◌then◌else◌}
-use Rattle.pdl_semantics.specs.Flat.{Branch, Pipe}
-use Rattle.pdl_semantics.specs.Stages.{stage_at}
+use Rattle.pdl_semantics.specs.Flat.{Pipe}
+use Rattle.pdl_semantics.specs.Stages.{stage_at, sides_of}
+use Rattle.pdl_form.specs.Sides.{first_of}
 use Rattle.pdl_net.specs.Circuit.{Circuit, State}
 use Rattle.pdl_net.specs.Signal.{Signal, mux_signal}
 use Rattle.pdl_net.specs.Growth.{Keeps}
@@ -28,7 +29,7 @@ module _ (a b : Circuit) (e : Keeps a b) where
   pub turns_keep : (p : Pipe) (rs : List (Option OrderRegs)) → HasTurns a p rs → HasTurns b p rs
   turns_keep p rs h = λ q f l is. ((h q f l is).0, there_keep (some_at rs f) (h q f l is).1)
 
-  by_same : (o : Option OrderRegs) (from : Option Branch) → IsOrderThere a o
+  by_same : (o : Option OrderRegs) (from : Option Bool) → IsOrderThere a o
       → turn_by (order_first b o) (order_empty b o) from ≡ turn_by (order_first a o) (order_empty a o) from
   by_same None from h = refl
   by_same (Some r) from h = ap₂ (λ f g. turn_by f g from) (e.kept r.first h.first.there) (e.kept r.empty h.empty.there)
@@ -37,9 +38,9 @@ module _ (a b : Circuit) (e : Keeps a b) where
   pub turn_same : (p : Pipe) (rs : List (Option OrderRegs)) (k q : ℕ) → q < length p.stages → HasTurns a p rs → turn_in b p rs k q ≡ turn_in a p rs k q
   turn_same p rs k q l h = at (stage_at p q).merges refl
     where
-      at : (o : Option ℕ) → (stage_at p q).merges ≡ o → merge_by b rs o (stage_at p k).branch ≡ merge_by a rs o (stage_at p k).branch
+      at : (o : Option ℕ) → (stage_at p q).merges ≡ o → merge_by b rs o (stage_at p k).branches ≡ merge_by a rs o (stage_at p k).branches
       at None is = refl
-      at (Some f) is = by_same (some_at rs f) (stage_at p k).branch (h q f l is).1
+      at (Some f) is = by_same (some_at rs f) (first_of (sides_of f (stage_at p k).branches)) (h q f l is).1
 
 mux_on : (c f g : Signal) (s : State) → is_on (mux_signal c f g) s ≡ (if is_on c s then is_on f s else is_on g s)
 mux_on c f g s = ap (λ n. n == 1) (mux_by s c f g) ∙ at_bit (is_on c s) (f.value s) (g.value s)

@@ -1,7 +1,8 @@
 -- What stands beside the stages and lets a thread move, by what it is.
-use Rattle.std.specs.Prelude.{◌≡◌, ℕ, ◌<◌, List, [], ◌∷◌, length, Option, Some, None, if◌then◌else◌}
+use Rattle.std.specs.Prelude.{◌≡◌, ℕ, Bool, ◌<◌, List, [], ◌∷◌, length, Option, Some, None, if◌then◌else◌}
 use Rattle.pdl_semantics.specs.Flat.{Branch, Pipe}
-use Rattle.pdl_semantics.specs.Stages.{stage_at}
+use Rattle.pdl_semantics.specs.Stages.{stage_at, sides_of}
+use Rattle.pdl_form.specs.Sides.{first_of}
 use Rattle.pdl_order.specs.declared.OrderRegs.{OrderRegs}
 use Rattle.pdl_order.specs.Laws.{HasOrderNets}
 use Rattle.pdl_pipe_beside.specs.Beside.{order_first, order_empty}
@@ -23,19 +24,19 @@ pub record IsAsked (c : Circuit) (frees : List Net) (q : AskNet) : Type 0 where
   pub on : IsBit c q.on
   pub mem : q.mem < length frees
 
--- into a merge from a branch that is the first of the fork's list, and straight from the fork where that is empty
-abbrev pub turn_by : Signal → Signal → Option Branch → Signal
+-- into a merge from the side of the fork that is the first of its list, and straight from the fork where that is empty
+abbrev pub turn_by : Signal → Signal → Option Bool → Signal
 turn_by first empty None = empty
-turn_by first empty (Some b) = mux_signal empty zero_bit (if b.first then first else mux_signal first zero_bit one)
+turn_by first empty (Some b) = mux_signal empty zero_bit (if b then first else mux_signal first zero_bit one)
 
 -- into stage q out of stage k, by the orders of the forks
-abbrev pub merge_by : Circuit → List (Option OrderRegs) → Option ℕ → Option Branch → Signal
+abbrev pub merge_by : Circuit → List (Option OrderRegs) → Option ℕ → List Branch → Signal
 merge_by c rs None from = one
-merge_by c rs (Some f) from = turn_by (order_first c (some_at rs f)) (order_empty c (some_at rs f)) from
+merge_by c rs (Some f) from = turn_by (order_first c (some_at rs f)) (order_empty c (some_at rs f)) (first_of (sides_of f from))
 
 -- whether it is the turn of the thread of stage k to go into stage q
 abbrev pub turn_in : Circuit → Pipe → List (Option OrderRegs) → ℕ → ℕ → Signal
-turn_in c p rs k q = merge_by c rs (stage_at p q).merges (stage_at p k).branch
+turn_in c p rs k q = merge_by c rs (stage_at p q).merges (stage_at p k).branches
 
 -- a fork whose branches meet has its order
 abbrev pub IsOrderThere : Circuit → Option OrderRegs → Type 0

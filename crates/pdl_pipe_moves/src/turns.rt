@@ -2,7 +2,7 @@
 ghost use Rattle.std.specs.Prelude.{◌≡◌, ◌<◌, true, IfOk, Some, is_some, length, if◌then◌else◌};
 ghost use Rattle.pdl_form.specs.FormView.{form};
 ghost use Rattle.pdl_semantics.specs.Stages.{stage_at};
-ghost use Rattle.pdl_form.specs.View.{branch_view, stage_view};
+ghost use Rattle.pdl_form.specs.View.{stage_view};
 ghost use Rattle.pdl_net.specs.Signal.{mux_signal};
 ghost use Rattle.pdl_net.specs.Growth.{Extends};
 ghost use Rattle.pdl_net.specs.Meaning.{Means, signal};
@@ -14,7 +14,7 @@ ghost use Rattle.pdl_pipe_moves.specs.Gates.{turn_by, turn_in, HasTurns};
 ghost use Rattle.pdl_pipe_walk.specs.Locked.{some_at};
 
 use pdl_build::Builder;
-use pdl_form::{FlatBranch, FlatPipe, FlatStage};
+use pdl_form::{FlatPipe, FlatStage, side_in};
 use pdl_kit::NoMemory;
 use pdl_net::Net;
 use pdl_order::OrderRegs;
@@ -37,24 +37,24 @@ fn took(b: &mut Builder, bits: Bits, order: &OrderRegs, first: bool) -> Result<N
     Ok(net)
 }
 
-/// Whether a thread that comes from this branch of a fork, or straight from it, may go into the merge: it is the oldest of those that the fork sent on.
+/// Whether a thread that comes from this side of a fork, or straight from it, may go into the merge: it is the oldest of those that the fork sent on.
 pub fn branch_turn(
     b: &mut Builder,
     bits: Bits,
     order: &OrderRegs,
-    from: Option<FlatBranch>,
+    side: Option<bool>,
 ) -> Result<Net, NoMemory>
     requires bits { AreBits b.old bits }
     requires nets { HasOrderNets b.old order.now }
     ensures on { IfOk result (λ y. IsBitFor b.new y (turn_by (signal b.old order.now.first)
-        (signal b.old order.now.empty) (branch_view from))) }
+        (signal b.old order.now.empty) side)) }
     ensures extends { Extends b.old b.new }
     ensures regs { b.new.regs ≡ b.old.regs }
 {
-    match from {
+    match side {
         None => Ok(order.empty),
-        Some(branch) => {
-            let own = took(b, bits, order, branch.first)?;
+        Some(first) => {
+            let own = took(b, bits, order, first)?;
             let net = b.mux(order.empty, bits.zero, own)?;
             Ok(net)
         }
@@ -102,7 +102,8 @@ pub fn turn(
     match pipe_stage(pipe, q).merges {
         None => Ok(bits.one),
         Some(f) => {
-            let net = branch_turn(b, bits, order_of(orders, f), pipe_stage(pipe, k).branch)?;
+            let side = side_in(pipe_stage(pipe, k).branches, f);
+            let net = branch_turn(b, bits, order_of(orders, f), side)?;
             Ok(net)
         }
     }

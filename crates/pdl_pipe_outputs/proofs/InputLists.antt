@@ -6,7 +6,8 @@ use Rattle.std.proofs.lemmas.List.Elements.{filter_map-append}
 use Rattle.std.proofs.lemmas.List.Sums.{count_by_more_yes, count_by_more_no}
 use Rattle.std.proofs.lemmas.Grind.{flat_map-append}
 use Rattle.std.specs.Prelude.{Option}
-use Rattle.pdl_semantics.specs.Flat.{Mem, Pipe}
+use Rattle.pdl_semantics.specs.Flat.{Mem, Pipe, is_delayed}
+use Rattle.pdl_syntax_tree.specs.View.{mem_kind_view}
 use Rattle.pdl_semantics.specs.Stages.{plain_mem, mem_at, reply_place}
 use Rattle.pdl_form.specs.Form.{Form}
 use Rattle.pdl_form.specs.declared.form.FlatMem as r_mem
@@ -87,7 +88,7 @@ ports_as k [] names h = refl
 ports_as k (m ∷ ms) names h =
     let e : m.name ≡ names k = sym (h 0 k (omega arith) (omega arith)) in
     ap₂ (λ (ps qs : List Port). ps ++ qs)
-    (ap (λ (x : List ℕ). if m.delayed then input_port (codes "p_" ++ x) 1 ∷ input_port (codes "pd_" ++ x) m.width ∷ [] else []) e)
+    (ap (λ (x : List ℕ). if is_delayed (mem_kind_view m.kind) then input_port (codes "p_" ++ x) 1 ∷ input_port (codes "pd_" ++ x) m.width ∷ [] else []) e)
     (ports_as (suc k) ms names (λ i j u l. h (suc i) j (omega (arith, u)) (omega (arith, l))))
 
 -- the inputs of all memories, with their names, are the ports that the law of a netlist asks for
@@ -110,12 +111,12 @@ one_if true = 1
 one_if false = 0
 
 -- the next place counts one memory more, where that is delayed
-place_more : (p : Pipe) (i : ℕ) → i < length p.mems → reply_place p (i + 1) ≡ reply_place p i + one_if (mem_at p i).delayed
-place_more p i l = by (mem_at p i).delayed refl
+place_more : (p : Pipe) (i : ℕ) → i < length p.mems → reply_place p (i + 1) ≡ reply_place p i + one_if (is_delayed (mem_at p i).kind)
+place_more p i l = by (is_delayed (mem_at p i).kind) refl
   where
-    by : (b : Bool) → (mem_at p i).delayed ≡ b → reply_place p (i + 1) ≡ reply_place p i + one_if b
-    by true e = count_by_more_yes (λ (x : Mem). x.delayed) p.mems i plain_mem l e
-    by false e = count_by_more_no (λ (x : Mem). x.delayed) p.mems i plain_mem l e ∙ (omega arith)
+    by : (b : Bool) → is_delayed (mem_at p i).kind ≡ b → reply_place p (i + 1) ≡ reply_place p i + one_if b
+    by true e = count_by_more_yes (λ (x : Mem). is_delayed x.kind) p.mems i plain_mem l e
+    by false e = count_by_more_no (λ (x : Mem). is_delayed x.kind) p.mems i plain_mem l e ∙ (omega arith)
 
 -- with one memory more there are two inputs for each delayed memory so far
 pub inputs_place : (p : Pipe) (a b : Circuit) (m : r_mem.FlatMem) (i : ℕ)
@@ -124,8 +125,8 @@ pub inputs_place : (p : Pipe) (a b : Circuit) (m : r_mem.FlatMem) (i : ℕ)
 inputs_place p a b m i l is e h =
     let more = place_more p i l in
     let long = inputs_more a b (mem_ports m) e in
-    let two = by m.delayed in
-    let one = ap (λ (x : Mem). one_if x.delayed) is in
+    let two = by (is_delayed (mem_kind_view m.kind)) in
+    let one = ap (λ (x : Mem). one_if (is_delayed x.kind)) is in
     omega (arith, more, long, two, one, h)
   where
     by : (b : Bool) → length (filter_map port_input (if b then reply_pair m else [])) ≡ 2 * one_if b

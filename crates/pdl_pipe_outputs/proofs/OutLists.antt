@@ -2,7 +2,7 @@
 use Rattle.std.proofs.Common.{◌≡◌, ℕ, suc, ◌+◌, ◌-◌, ◌<◌, ◌≤◌, Bool, true, false, List, [], ◌∷◌, ◌++◌, map, length, get_or, if◌then◌else◌, codes, decimal, refl, sym, ap, ap₂, ◌∙◌, arith, append_assoc}
 use Rattle.std.specs.Prelude.{Option, Some, None, is_some}
 use Rattle.std.proofs.lemmas.List.{map-append}
-use Rattle.pdl_semantics.specs.Flat.{Mem, Pipe, has_lock}
+use Rattle.pdl_semantics.specs.Flat.{Mem, Pipe, has_lock, is_delayed}
 use Rattle.pdl_semantics.specs.Stages.{plain_mem}
 use Rattle.pdl_net.specs.declared.Net.{Net}
 use Rattle.pdl_net.specs.Circuit.{Circuit}
@@ -115,7 +115,7 @@ requests_show : (c : Circuit) (k : ℕ) (names : List (List ℕ)) (ms : List Mem
     → length names ≡ length ms → length rs ≡ length ms
     → ((i j : ℕ) → j ≡ k + i → i < length ms → name j ≡ get_or names i [])
     → ((i j : ℕ) → j ≡ k + i → asks j ≡ ask_of c (get_or rs i None))
-    → ((i : ℕ) → i < length ms → is_some (get_or rs i None) ≡ (get_or ms i plain_mem).delayed)
+    → ((i : ℕ) → i < length ms → is_some (get_or rs i None) ≡ is_delayed (get_or ms i plain_mem).kind)
     → shown_by c (requests_outs names rs) ≡ requests_shown name asks k ms
 requests_show c k [] [] rs name asks a b e f g = refl
 requests_show c k (x ∷ names) [] rs name asks a b e f g = absurd (omega (arith, a))
@@ -126,7 +126,7 @@ requests_show c k (x ∷ names) (m ∷ ms) (r ∷ rs) name asks a b e f g =
     let q : ask_of c r ≡ asks k = sym (f 0 k (omega arith)) in
     shown_more c (request_outs x r) (requests_outs names rs)
     ∙ ap₂ (λ (fs gs : List Shown). fs ++ gs)
-    (request_shows c x r m.delayed (g 0 (omega arith)) ∙ ap₂ (λ y z. if m.delayed then request_shown y z else []) h q)
+    (request_shows c x r (is_delayed m.kind) (g 0 (omega arith)) ∙ ap₂ (λ y z. if is_delayed m.kind then request_shown y z else []) h q)
     (requests_show c (suc k) names ms rs name asks (omega (arith, a)) (omega (arith, b))
     (λ i j u l. e (suc i) j (omega (arith, u)) (omega (arith, l))) (λ i j u. f (suc i) j (omega (arith, u)))
     (λ i l. g (suc i) (omega (arith, l))))

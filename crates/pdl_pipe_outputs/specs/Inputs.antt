@@ -1,6 +1,7 @@
 -- Inputs of a pipe's netlist: what comes from its delayed memories.
 use Rattle.std.specs.Prelude.{◌≡◌, ℕ, ◌+◌, ◌*◌, ◌<◌, true, List, [], ◌∷◌, ◌++◌, length, Option, Some, None, is_some, if◌then◌else◌, codes}
-use Rattle.pdl_semantics.specs.Flat.{Mem, Pipe}
+use Rattle.pdl_semantics.specs.Flat.{Mem, Pipe, is_delayed}
+use Rattle.pdl_syntax_tree.specs.View.{mem_kind_view}
 use Rattle.pdl_semantics.specs.Stages.{mem_at, reply_place}
 use Rattle.pdl_form.specs.Form.{Form}
 use Rattle.pdl_form.specs.declared.form.FlatMem as r_mem
@@ -23,11 +24,11 @@ reply_pair m = input_port (codes "p_" ++ m.name) 1 ∷ input_port (codes "pd_" +
 
 -- the inputs of a memory: both of them where it is delayed, else none
 abbrev pub mem_ports : r_mem.FlatMem → List Port
-mem_ports m = if m.delayed then reply_pair m else []
+mem_ports m = if is_delayed (mem_kind_view m.kind) then reply_pair m else []
 
 -- what comes from a memory where that is delayed; its reply has this number among the inputs, and its word the next one
 pub record IsReplyOf (c : Circuit) (mem : Mem) (place : ℕ) (o : Option PortInput) : Type 0 where
-  pub some : is_some o ≡ mem.delayed
+  pub some : is_some o ≡ is_delayed mem.kind
   pub reply : (i : PortInput) → o ≡ Some i → Means c i.reply (input_signal 1 place)
   pub word : (i : PortInput) → o ≡ Some i → Means c i.word (input_signal mem.width (place + 1))
 
@@ -62,4 +63,4 @@ pub record AreWhereRead (p : Pipe) (ins xs : List (Option PortInput)) (n : ℕ) 
 
 -- only delayed memories of the pipe are read delayed
 abbrev pub AreReadDelayed : Pipe → Type 0
-AreReadDelayed p = (m : ℕ) (r : Reading) → reading p m ≡ Some r → (m < length p.mems) × ((mem_at p m).delayed ≡ true)
+AreReadDelayed p = (m : ℕ) (r : Reading) → reading p m ≡ Some r → (m < length p.mems) × (is_delayed (mem_at p m).kind ≡ true)

@@ -1,6 +1,6 @@
 -- What outputs are told, and what they show of it.
 use Rattle.std.specs.Prelude.{◌≡◌, ℕ, ◌<◌, List, [], ◌∷◌, map, length, slice_index_or, Option, Some, None, is_some, ⊤}
-use Rattle.pdl_semantics.specs.Flat.{Pipe}
+use Rattle.pdl_semantics.specs.Flat.{Pipe, is_delayed}
 use Rattle.pdl_semantics.specs.Stages.{mem_at}
 use Rattle.pdl_form.specs.Form.{Form}
 use Rattle.pdl_net.specs.declared.Net.{Net}
@@ -44,7 +44,7 @@ IsThereRequest c (Some r) = IsThere c r.enable × IsThere c r.addr
 -- the delayed memories have the nets of what is asked of them
 pub record AreAsked (c : Circuit) (p : Pipe) (rs : List (Option RequestNets)) : Type 0 where
   pub count : length rs ≡ length p.mems
-  pub delayed : (m : ℕ) → m < length p.mems → is_some (slice_index_or rs m None) ≡ (mem_at p m).delayed
+  pub delayed : (m : ℕ) → m < length p.mems → is_some (slice_index_or rs m None) ≡ is_delayed (mem_at p m).kind
   pub there : (m : ℕ) → m < length p.mems → IsThereRequest c (slice_index_or rs m None)
 
 -- all nets that are told are there

@@ -47,7 +47,7 @@ fn memory_input(
     ensures extends { OnOk result (ExtendsPorts b.old b.new (mem_ports mem.now)) }
     ensures regs { b.new.regs ≡ b.old.regs }
 {
-    if !mem.delayed {
+    if !mem.kind.is_delayed() {
         return Ok(None);
     }
     let input = delayed_input(alloc, b, mem)?;

@@ -22,7 +22,7 @@ use Rattle.pdl_port.specs.Laws.{AnswerSignals}
 use Rattle.pdl_law_parts.specs.Lives.{lives_from, held_from, verifies_from}
 use Rattle.pdl_law_parts.specs.Walk.{Letting, is_locked, one, zero_bit}
 use Rattle.pdl_law_parts.specs.Views.{View}
-use Rattle.pdl_law_parts.proofs.NextState.{lock_there}
+use Rattle.pdl_law_parts.proofs.StageLooks.{lock_there}
 use Rattle.pdl_pipe_lives.specs.Needs.{goes_with}
 use Rattle.pdl_pipe_walk.specs.declared.nets.HeldNet.{HeldNet}
 use Rattle.pdl_pipe_walk.specs.declared.nets.ReserveNet.{ReserveNet}

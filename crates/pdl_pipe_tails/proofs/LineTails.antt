@@ -18,7 +18,7 @@ use Rattle.pdl_law_parts.specs.Walk.{Locks, is_locked}
 use Rattle.pdl_law_parts.specs.Views.{View, Gates, Comer, comers, first_coming}
 use Rattle.pdl_law_parts.specs.Ports.{all_reserves}
 use Rattle.pdl_law_parts.specs.Compiled.{Becomes}
-use Rattle.pdl_law_parts.proofs.NextState.{lock_there}
+use Rattle.pdl_law_parts.proofs.StageLooks.{lock_there}
 use Rattle.pdl_law_sides.specs.Sides.{Sides, with_tickets}
 use Rattle.pdl_law_sides.specs.HasSides.{HasTails}
 use Rattle.pdl_pipe_nexts.specs.declared.line.StageLine.{StageLine}

@@ -126,7 +126,7 @@ reserves_of c p [] h k = tt
 reserves_of c p (r ∷ rs) h k = ((record { there = h.0.0; width = k.0.1 }, h.0.1), reserves_of c p rs h.1 k.1)
 
 reservation_keep : (a b : Circuit) (r : ReserveNet) → Keeps a b → IsReserve a r → reservation_in b r ≡ reservation_in a r
-reservation_keep a b r e h = ap₂ (λ f g. record { mem = r.mem; on = f; addr = g }) (e.kept r.on h.0.there) (e.kept r.addr h.1)
+reservation_keep a b r e h = ap₂ (λ f g. record { mem = r.mem; var = r.var; on = f; addr = g }) (e.kept r.on h.0.there) (e.kept r.addr h.1)
 
 -- after one reservation more of a stage, the ticket is the one after the reservations so far
 pub stage_more : (a b d : Circuit) (m : ℕ) (moves : Net) (f g h : Signal) (rs : List ReserveNet) (i : ℕ) (r : ReserveNet)

@@ -1,5 +1,5 @@
 -- Pipes without variables and memories, as tests take them.
-use Rattle.std.proofs.Common.{◌≡◌, ℕ, zero, suc, List, [], ◌∷◌, map, length, refl, sym, ap, ◌∙◌, subst, arith}
+use Rattle.std.proofs.Common.{◌≡◌, ℕ, zero, suc, true, List, [], ◌∷◌, map, length, refl, sym, ap, ◌∙◌, subst, arith}
 use Rattle.std.specs.Prelude.{Option, take}
 use Rattle.pdl_semantics.specs.Flat.{Call, SpecCall, Verify, SpecBarrier, Stmt, Pipe}
 use Rattle.pdl_form.specs.Form.{Form}
@@ -33,7 +33,7 @@ call_walked f k xs e s =
 -- a guess without arguments, which is verified, and a barrier
 pub guess_walked : (f : Form) (xs : List Stmt)
     → xs
-    ≡ record { stage = 0; guards = []; op = SpecCall [] } ∷ record { stage = 0; guards = []; op = Verify [] }
+    ≡ record { stage = 0; guards = []; op = SpecCall [] } ∷ record { stage = 0; guards = []; op = Verify true [] }
     ∷ record { stage = 0; guards = []; op = SpecBarrier } ∷ []
     → f.pipe.start ≡ [] → AreWalked f xs
 guess_walked f xs e s =

@@ -172,10 +172,10 @@ module _ (a b : Circuit) (e : Extends a b) (p : Pipe) (ws : List ℕ) (w : WalkN
 -- one more of each kind, in the same circuit
 module _ (b : Circuit) (p : Pipe) (ws : List ℕ) (w : WalkNets) (h : IsWalk b p ws w) where
   -- the nets of the walk with one more write are there, with their widths
-  pub put_walk : (m : ℕ) (on value : Net) → IsThere b on → IsThere b value → m < length p.mems → (signal b on).width ≡ 1
+  pub put_walk : (m a : ℕ) (on value : Net) → IsThere b on → IsThere b value → m < length p.mems → (signal b on).width ≡ 1
       → (signal b value).width ≡ (mem_at p m).width
-      → IsWalk b p ws (record w { puts = w.puts ++ record { mem = m; on = on; value = value } ∷ [] })
-  put_walk m on value t u l o k = let n : PutNet = record { mem = m; on = on; value = value } in let s = h.there in record {
+      → IsWalk b p ws (record w { puts = w.puts ++ record { mem = m; var = a; on = on; value = value } ∷ [] })
+  put_walk m a on value t u l o k = let n : PutNet = record { mem = m; var = a; on = on; value = value } in let s = h.there in record {
     there =
         record {
           vars = s.vars;
@@ -192,15 +192,15 @@ module _ (b : Circuit) (p : Pipe) (ws : List ℕ) (w : WalkNets) (h : IsWalk b p
         };
     sized =
         as_sized p ws (parts_in b (record w { puts = w.puts ++ n ∷ [] }))
-        (with_put m (signal b on) (signal b value) (parts_in b w)) (put_parts b w n)
-        (sized_put p ws (parts_in b w) h.sized m (signal b on) (signal b value) l o k);
+        (with_put m a (signal b on) (signal b value) (parts_in b w)) (put_parts b w n)
+        (sized_put p ws (parts_in b w) h.sized m a (signal b on) (signal b value) l o k);
   }
 
   -- the nets of the walk with one more reservation are there, with their widths
-  pub reserve_walk : (m : ℕ) (on addr : Net) → IsThere b on → IsThere b addr → m < length p.mems
+  pub reserve_walk : (m a : ℕ) (on addr : Net) → IsThere b on → IsThere b addr → m < length p.mems
       → (signal b on).width ≡ 1 → 2 ^ (signal b addr).width ≡ (mem_at p m).depth
-      → IsWalk b p ws (record w { reserves = w.reserves ++ record { mem = m; on = on; addr = addr } ∷ [] })
-  reserve_walk m on addr t u l o k = let n : ReserveNet = record { mem = m; on = on; addr = addr } in let s = h.there in record {
+      → IsWalk b p ws (record w { reserves = w.reserves ++ record { mem = m; var = a; on = on; addr = addr } ∷ [] })
+  reserve_walk m a on addr t u l o k = let n : ReserveNet = record { mem = m; var = a; on = on; addr = addr } in let s = h.there in record {
     there =
         record {
           vars = s.vars;
@@ -218,7 +218,7 @@ module _ (b : Circuit) (p : Pipe) (ws : List ℕ) (w : WalkNets) (h : IsWalk b p
     sized =
         as_sized p ws (parts_in b (record w { reserves = w.reserves ++ n ∷ [] }))
         (record (parts_in b w) { reserves = (parts_in b w).reserves ++ reservation_in b n ∷ [] }) (reserve_parts b w n)
-        (sized_reserve p ws (parts_in b w) h.sized m (signal b on) (signal b addr) l o k);
+        (sized_reserve p ws (parts_in b w) h.sized m a (signal b on) (signal b addr) l o k);
   }
 
   -- the nets of the walk with one more release are there, with their widths
@@ -277,8 +277,8 @@ pub var_same : (x : ℕ) (o o' f f' : Signal) (q q' : Parts) → o ≡ o' → f 
 var_same x o o' f f' q q' e g h = ap₂ (λ i k. with_var x i k q) e g ∙ ap (with_var x o' f') h
 
 -- equal parts with one write more, of equal signals under equal conditions, are equal again
-pub put_same : (m : ℕ) (o o' f f' : Signal) (q q' : Parts) → o ≡ o' → f ≡ f' → q ≡ q' → with_put m o f q ≡ with_put m o' f' q'
-put_same m o o' f f' q q' e g h = ap₂ (λ i k. with_put m i k q) e g ∙ ap (with_put m o' f') h
+pub put_same : (m a : ℕ) (o o' f f' : Signal) (q q' : Parts) → o ≡ o' → f ≡ f' → q ≡ q' → with_put m a o f q ≡ with_put m a o' f' q'
+put_same m a o o' f f' q q' e g h = ap₂ (λ i k. with_put m a i k q) e g ∙ ap (with_put m a o' f') h
 
 -- a choice between a new net and the old one
 pub set_means : (a b : Circuit) (n : Net) (on f old known : Signal)
@@ -336,7 +336,7 @@ release_same m a o o' z lets lets' q q' e l h =
 pub reserve_made : (m a : ℕ) (q3 q2 q1 q0 : Parts) (o1 o2 o3 on r room bit addr : Signal)
     → q3 ≡ record q2 { ready = both q2.ready (if_on o2 r) } → q2 ≡ with_held m a o1 bit q1 → q1 ≡ q0 → o1 ≡ on → o2 ≡ on
     → o3 ≡ on → r ≡ room → bit ≡ one → addr ≡ signal_at q0.vars a
-    → record q3 { reserves = q3.reserves ++ record { mem = m; on = o3; addr = addr } ∷ [] } ≡ with_reserve m a on room q0
+    → record q3 { reserves = q3.reserves ++ record { mem = m; var = a; on = o3; addr = addr } ∷ [] } ≡ with_reserve m a on room q0
 reserve_made m a q3 q2 q1 q0 o1 o2 o3 on r room bit addr h3 h2 h1 e1 e2 e3 er eb ea = rw (h3, h2, h1, e1, e2, e3, er, eb, ea) refl
 
 -- one more request with the address of a location makes a delayed read

@@ -1,5 +1,5 @@
 -- What requests, guesses and barriers change is a step of the walk.
-use Rattle.std.proofs.Common.{◌≡◌, ℕ, ◌≤◌, List, [], length, refl, sym, ap, ◌∙◌, subst, arith}
+use Rattle.std.proofs.Common.{◌≡◌, ℕ, ◌≤◌, true, List, [], length, refl, sym, ap, ◌∙◌, subst, arith}
 use Rattle.std.proofs.lemmas.List.{length-map}
 use Rattle.pdl_word.specs.Words.{bit}
 use Rattle.pdl_semantics.specs.Flat as flat
@@ -73,7 +73,7 @@ module _ (c : Circuit) (p : Pipe) (ws : List ℕ) (ls : Locks) (tickets : ℕ �
 
     -- a `verify` makes a call, and the guess fails, where the arguments differ from the guess
     pub verify_step : (w' : Parts) → w' ≡ with_verify (taken_signal w.vars gs) (value_signals w.vars es) w
-        → IsStep c p ls tickets gs (flat.Verify es) (walk_of w) (walk_of w')
+        → IsStep c p ls tickets gs (flat.Verify true es) (walk_of w) (walk_of w')
     verify_step w' h =
         let fs = value_signals w.vars es in
         let same = same_length fs w.guess wide in

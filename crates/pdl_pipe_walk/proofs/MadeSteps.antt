@@ -112,7 +112,7 @@ module _ (c : Circuit) (p : Pipe) (ws : List ℕ) (ls : Locks) (tickets : ℕ �
 
   -- a write adds a write with the value of the expression
   pub write_step : (m a : ℕ) (e : Expr) (w' : Parts) → IsTyped ws e
-      → w' ≡ with_put m (taken_signal w.vars gs) (value_signal w.vars e) w
+      → w' ≡ with_put m a (taken_signal w.vars gs) (value_signal w.vars e) w
       → IsStep c p ls tickets gs (flat.Write m a e) (walk_of w) (walk_of w')
   write_step m a e w' t h =
       let typed = subst (λ l. IsTyped l e) (sym sized.vars) t in

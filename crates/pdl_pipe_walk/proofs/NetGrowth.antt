@@ -42,12 +42,12 @@ module _ (a b : Circuit) (e : Keeps a b) where
       → map (reservation_in b) rs ≡ map (reservation_in a) rs
   reserves_keep rs t =
       map_each (reservation_in b) (reservation_in a) (λ r. IsThere a r.on × IsThere a r.addr)
-      (λ r k. ap₂ (λ f g. record { mem = r.mem; on = f; addr = g }) (e.kept r.on k.0) (e.kept r.addr k.1)) rs t
+      (λ r k. ap₂ (λ f g. record { mem = r.mem; var = r.var; on = f; addr = g }) (e.kept r.on k.0) (e.kept r.addr k.1)) rs t
 
   puts_keep : (xs : List PutNet) → Each (λ (x : PutNet). IsThere a x.on × IsThere a x.value) xs → map (put_in b) xs ≡ map (put_in a) xs
   puts_keep xs t =
       map_each (put_in b) (put_in a) (λ x. IsThere a x.on × IsThere a x.value)
-      (λ x k. ap₂ (λ f g. record { mem = x.mem; on = f; value = g }) (e.kept x.on k.0) (e.kept x.value k.1)) xs t
+      (λ x k. ap₂ (λ f g. record { mem = x.mem; var = x.var; on = f; value = g }) (e.kept x.on k.0) (e.kept x.value k.1)) xs t
 
   lettings_keep : (xs : List LettingNet) → Each (λ (x : LettingNet). IsThere a x.on) xs → map (letting_in b) xs ≡ map (letting_in a) xs
   lettings_keep xs t = map_each (letting_in b) (letting_in a) (λ x. IsThere a x.on) (λ x k. ap (λ f. record { mem = x.mem; on = f }) (e.kept x.on k)) xs t

@@ -191,8 +191,8 @@ module _ (p : Pipe) (ws : List ℕ) (w : Parts) (s : IsSized p ws w) where
       }
 
   -- the widths stay as they should with one write more, of a word's width
-  pub sized_put : (m : ℕ) (on f : Signal) → m < length p.mems → on.width ≡ 1 → f.width ≡ (mem_at p m).width → IsSized p ws (with_put m on f w)
-  sized_put m on f l o e = record {
+  pub sized_put : (m a : ℕ) (on f : Signal) → m < length p.mems → on.width ≡ 1 → f.width ≡ (mem_at p m).width → IsSized p ws (with_put m a on f w)
+  sized_put m a on f l o e = record {
     vars = s.vars;
     held = s.held;
     ready = s.ready;
@@ -203,13 +203,13 @@ module _ (p : Pipe) (ws : List ℕ) (w : Parts) (s : IsSized p ws w) where
     guess = s.guess;
     fails = s.fails;
     barrier = s.barrier;
-    puts = each_push (IsSizedPut p) w.puts (record { mem = m; on = on; value = f }) s.puts (l, o, e);
+    puts = each_push (IsSizedPut p) w.puts (record { mem = m; var = a; on = on; value = f }) s.puts (l, o, e);
   }
 
   -- the widths stay as they should with one reservation more, whose address reaches each word and no more
-  pub sized_reserve : (m : ℕ) (on f : Signal) → m < length p.mems → on.width ≡ 1 → 2 ^ f.width ≡ (mem_at p m).depth
-      → IsSized p ws (record w { reserves = w.reserves ++ record { mem = m; on = on; addr = f } ∷ [] })
-  sized_reserve m on f l o e = record {
+  pub sized_reserve : (m a : ℕ) (on f : Signal) → m < length p.mems → on.width ≡ 1 → 2 ^ f.width ≡ (mem_at p m).depth
+      → IsSized p ws (record w { reserves = w.reserves ++ record { mem = m; var = a; on = on; addr = f } ∷ [] })
+  sized_reserve m a on f l o e = record {
     vars = s.vars;
     held = s.held;
     ready = s.ready;
@@ -220,7 +220,7 @@ module _ (p : Pipe) (ws : List ℕ) (w : Parts) (s : IsSized p ws w) where
     guess = s.guess;
     fails = s.fails;
     barrier = s.barrier;
-    reserves = each_push (IsSizedReserve p) w.reserves (record { mem = m; on = on; addr = f }) s.reserves (l, o, e);
+    reserves = each_push (IsSizedReserve p) w.reserves (record { mem = m; var = a; on = on; addr = f }) s.reserves (l, o, e);
   }
 
   -- the widths stay as they should with one release more, whose condition has 1 bit

@@ -1,7 +1,7 @@
 -- The locks of a pipe in a circuit, by the numbers of their memories.
 use Rattle.std.specs.Prelude.{◌≡◌, ℕ, ◌^◌, ◌<◌, false, List, length, slice_index_or, Option, Some, None, is_some, if◌then◌else◌}
 use Rattle.pdl_semantics.specs.Tree.{LockKind, Queue}
-use Rattle.pdl_semantics.specs.Flat.{Mem, Pipe}
+use Rattle.pdl_semantics.specs.Flat.{Mem, Pipe, is_delayed}
 use Rattle.pdl_semantics.specs.Stages.{mem_at}
 use Rattle.pdl_net.specs.declared.Net.{Net}
 use Rattle.pdl_net.specs.declared.Net.TheVariants.{Input}
@@ -62,7 +62,7 @@ locks_in l p c xs =
 
 -- the array of a memory whose place among those that answer at once is i; a delayed one has none
 abbrev pub array_of : Mem → ℕ → Option ℕ
-array_of mem i = if mem.delayed then None else Some i
+array_of mem i = if is_delayed mem.kind then None else Some i
 
 -- a memory's lock that is in a circuit, and its array
 pub record IsLockIn {T : Type 0} (l : Members T) (c : Circuit) (i : ℕ) (mem : Mem) (x : MemLock T) : Type 0 where
@@ -78,9 +78,9 @@ pub record AreLocked {T : Type 0} (l : Members T) (c : Circuit) (p : Pipe) (xs :
   pub count : length xs ≡ length p.mems
   pub locked : (m : ℕ) → m < length p.mems → is_some (some_at xs m) ≡ is_locked p m
   pub locks : (m : ℕ) (x : MemLock T) → m < length p.mems → some_at xs m ≡ Some x → IsLockIn l c (comb_place p m) (mem_at p m) x
-  pub has_array : (m : ℕ) → m < length p.mems → (mem_at p m).delayed ≡ false → HasArray c (comb_place p m)
-  pub width : (m : ℕ) → m < length p.mems → (mem_at p m).delayed ≡ false → array_width c (comb_place p m) ≡ (mem_at p m).width
-  pub depth : (m : ℕ) → m < length p.mems → is_locked p m ≡ false → (mem_at p m).delayed ≡ false → array_depth c (comb_place p m) ≡ (mem_at p m).depth
+  pub has_array : (m : ℕ) → m < length p.mems → is_delayed (mem_at p m).kind ≡ false → HasArray c (comb_place p m)
+  pub width : (m : ℕ) → m < length p.mems → is_delayed (mem_at p m).kind ≡ false → array_width c (comb_place p m) ≡ (mem_at p m).width
+  pub depth : (m : ℕ) → m < length p.mems → is_locked p m ≡ false → is_delayed (mem_at p m).kind ≡ false → array_depth c (comb_place p m) ≡ (mem_at p m).depth
 
 -- a ticket for each memory, which has the bits of its lock's tickets
 pub record AreTickets {T : Type 0} (l : Members T) (c : Circuit) (xs : List (Option (MemLock T))) (ts : List Net) : Type 0 where

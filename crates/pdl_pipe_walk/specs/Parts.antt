@@ -69,11 +69,11 @@ held_in c h = record { mem = h.mem; var = h.var; signal = signal c h.net }
 
 -- a reservation by its nets in a circuit
 abbrev pub reservation_in : Circuit → ReserveNet → Reservation
-reservation_in c r = record { mem = r.mem; on = signal c r.on; addr = signal c r.addr }
+reservation_in c r = record { mem = r.mem; var = r.var; on = signal c r.on; addr = signal c r.addr }
 
 -- a write by its nets in a circuit
 abbrev pub put_in : Circuit → PutNet → Put
-put_in c x = record { mem = x.mem; on = signal c x.on; value = signal c x.value }
+put_in c x = record { mem = x.mem; var = x.var; on = signal c x.on; value = signal c x.value }
 
 -- a release by its net in a circuit
 abbrev pub letting_in : Circuit → LettingNet → Letting

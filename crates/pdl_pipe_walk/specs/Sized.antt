@@ -7,7 +7,7 @@ use Rattle.pdl_form_types.specs.Stmts.{IsTypedStmt}
 use Rattle.pdl_net.specs.Circuit.{Circuit}
 use Rattle.pdl_pipe_exprs.specs.Nets.{widths_of}
 use Rattle.pdl_law_parts.specs.Walk.{Reservation, Put, Letting, Birth, Ask}
-use Rattle.pdl_law_parts.specs.Reads.{IsAtOnce}
+use Rattle.pdl_law_parts.specs.Rows.{HasRow}
 use Rattle.pdl_pipe_walk.specs.declared.nets.WalkNets.{WalkNets}
 use Rattle.pdl_pipe_walk.specs.Parts.{Held, Parts, parts_in, IsThereWalk}
 use Rattle.pdl_word.specs.Each.{Each}
@@ -53,11 +53,11 @@ IsWalkOf f c w = IsWalk c f.pipe f.widths w
 
 -- ---- statements
 
--- a typed statement; one that reads at once reads a memory that answers at once
+-- a typed statement for which a row stands
 abbrev pub IsWalked : Form → Stmt → Type 0
-IsWalked f x = IsTypedStmt f x × IsAtOnce f.pipe x.op
+IsWalked f x = IsTypedStmt f x × HasRow f.pipe x.op
 
--- nets can be made of each of these statements: it is typed, and reads at once only what answers at once
+-- nets can be made of each of these statements: it is typed, and a row stands for it
 abbrev pub AreWalked : Form → List Stmt → Type 0
 AreWalked f xs = Each (IsWalked f) xs
 

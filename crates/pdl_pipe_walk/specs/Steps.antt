@@ -21,9 +21,9 @@ use Rattle.pdl_pipe_walk.specs.Locked.{Members, locks_in, tickets_in}
 abbrev pub with_var : ℕ → Signal → Signal → Parts → Parts
 with_var x on f w = record w { vars = slice_set w.vars x (mux_signal on f (signal_at w.vars x)) }
 
--- a value is written to a memory
-abbrev pub with_put : ℕ → Signal → Signal → Parts → Parts
-with_put m on f w = record w { puts = w.puts ++ record { mem = m; on = on; value = f } ∷ [] }
+-- a value is written to a location of a memory
+abbrev pub with_put : ℕ → ℕ → Signal → Signal → Parts → Parts
+with_put m a on f w = record w { puts = w.puts ++ record { mem = m; var = a; on = on; value = f } ∷ [] }
 
 -- a location becomes held or not
 abbrev pub with_held : ℕ → ℕ → Signal → Signal → Parts → Parts
@@ -34,7 +34,7 @@ abbrev pub with_reserve : ℕ → ℕ → Signal → Signal → Parts → Parts
 with_reserve m a on room w =
     record (with_held m a on one w) {
       ready = both w.ready (if_on on room);
-      reserves = w.reserves ++ record { mem = m; on = on; addr = signal_at w.vars a } ∷ [];
+      reserves = w.reserves ++ record { mem = m; var = a; on = on; addr = signal_at w.vars a } ∷ [];
     }
 
 -- a location is released, where it is held

@@ -1,7 +1,9 @@
 // Looks at the locks, and words of memories.
 ghost use Rattle.std.specs.Prelude.{◌≡◌, ◌^◌, ◌<◌, ◌≤◌, true, false, not, Some, IfOk, length, count_by, is_some, option_map};
 ghost use Rattle.pdl_form.specs.FormView.{form};
+ghost use Rattle.pdl_semantics.specs.Flat.{is_delayed};
 ghost use Rattle.pdl_semantics.specs.Stages.{mem_at};
+ghost use Rattle.pdl_syntax_tree.specs.View.{mem_kind_view};
 ghost use Rattle.pdl_net.specs.Meaning.{IsThere, Means, signal};
 ghost use Rattle.pdl_net.specs.HasWidth.{HasWidth};
 ghost use Rattle.pdl_net.specs.Growth.{Extends};
@@ -71,9 +73,9 @@ fn value_of(look: LookNets) -> Net
 
 // How many memories answer at once.
 fn count_at_once(mems: &[FlatMem]) -> usize
-    ensures { result ≡ count_by (λ (x : FlatMem). not x.delayed) mems.now }
+    ensures { result ≡ count_by (λ (x : FlatMem). not (is_delayed (mem_kind_view x.kind))) mems.now }
 {
-    mems.iter().filter(|mem| !mem.delayed).count()
+    mems.iter().filter(|mem| !mem.kind.is_delayed()).count()
 }
 
 /// The number of a memory's array: memories that answer at once have theirs in order.
@@ -103,7 +105,7 @@ pub(crate) fn look<L: LockModule>(
         ((set_locks (members L.LockModule) b.old setting.now).bits m) }
     ensures ready { IfOk result (λ l. HasWidth b.new l.ready 1) }
     ensures has_value { IfOk result (λ l.
-        is_some l.value ≡ not (mem_at (form setting.now.pipe.now).pipe m).delayed) }
+        is_some l.value ≡ not (is_delayed (mem_at (form setting.now.pipe.now).pipe m).kind)) }
     ensures value { IfOk result (λ l.
         HasValueNet b.new (mem_at (form setting.now.pipe.now).pipe m).width l.value) }
     ensures law { IfOk result (λ l.
@@ -125,7 +127,7 @@ pub(crate) fn word<L: LockModule>(
 ) -> Result<Net, NoMemory>
     requires locks { HasLocks (members L.LockModule) b.old setting.now }
     requires low { m < length (form setting.now.pipe.now).pipe.mems }
-    requires at_once { (mem_at (form setting.now.pipe.now).pipe m).delayed ≡ false }
+    requires at_once { is_delayed (mem_at (form setting.now.pipe.now).pipe m).kind ≡ false }
     requires addr_there { IsThere b.old addr }
     requires addr_reach { 2 ^ (signal b.old addr).width
         ≡ (mem_at (form setting.now.pipe.now).pipe m).depth }

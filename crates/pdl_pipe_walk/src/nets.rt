@@ -10,18 +10,20 @@ pub struct HeldNet {
     pub net: Net,
 }
 
-/// A reservation for writing: whether it is made, 1 bit, and its address.
+/// A reservation for writing: the variable of its location, whether it is made, 1 bit, and its address.
 #[derive(Clone, Copy)]
 pub struct ReserveNet {
     pub mem: usize,
+    pub var: usize,
     pub on: Net,
     pub addr: Net,
 }
 
-/// A write: whether it is made, 1 bit, and its value.
+/// A write: the variable of its location, whether it is made, 1 bit, and its value.
 #[derive(Clone, Copy)]
 pub struct PutNet {
     pub mem: usize,
+    pub var: usize,
     pub on: Net,
     pub value: Net,
 }

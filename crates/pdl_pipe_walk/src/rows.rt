@@ -1,5 +1,6 @@
 // The statements of a stage, one after another.
 ghost use Rattle.std.specs.Prelude.{◌≡◌, ◌==◌, ◌<◌, ◌≤◌, ◌^◌, ◌++◌, ◌∷◌, [], true, false, IfOk, OnOk, length, map, slice_index};
+ghost use Rattle.pdl_semantics.specs.Flat.{is_delayed};
 ghost use Rattle.pdl_semantics.specs.Stages.{mem_at, in_stage};
 ghost use Rattle.pdl_form.specs.FormView.{form};
 ghost use Rattle.pdl_form.specs.Form.{stmt_at};
@@ -20,7 +21,7 @@ ghost use Rattle.pdl_pipe_walk.specs.Words.{IsLooked, IsRead, IsBlocked};
 ghost use Rattle.pdl_pipe_walk.specs.Steps.{with_var, with_put, with_reserve, with_release, with_call, with_ask, IsStep};
 
 use crate::locks::{Setting, look_held, room, word};
-use crate::nets::{AskNet, HeldNet, WalkNets};
+use crate::nets::{AskNet, HeldNet, PutNet, ReserveNet, WalkNets};
 use pdl_build::Builder;
 use pdl_form::{FlatExpr, FlatGuard, FlatPipe, FlatStmt, Op};
 use pdl_kit::NoMemory;
@@ -87,7 +88,7 @@ impl WalkNets {
             ≡ (mem_at (form setting.now.pipe.now).pipe m).width }
         requires at { IsLocation (form setting.now.pipe.now).pipe
             (form setting.now.pipe.now).widths m a }
-        requires at_once { (mem_at (form setting.now.pipe.now).pipe m).delayed ≡ false }
+        requires at_once { is_delayed (mem_at (form setting.now.pipe.now).pipe m).kind ≡ false }
         ensures walk { OnOk result (IsWalkOf (form setting.now.pipe.now) b.new self.new) }
         ensures parts { OnOk result (IsRead (form setting.now.pipe.now).pipe
             (set_locks (members L.LockModule) b.old setting.now) (set_tickets b.old setting.now)
@@ -133,31 +134,36 @@ impl WalkNets {
     }
 
     /// A write.
-    pub(crate) fn write(
+    pub(crate) fn write<L: LockModule>(
         &mut self,
         b: &mut Builder,
-        pipe: &FlatPipe,
-        bits: Bits,
+        setting: &Setting<'_, L>,
         guards: &[FlatGuard],
         m: usize,
+        a: usize,
         e: &FlatExpr,
     ) -> Result<(), NoMemory>
-        requires walk { IsWalkOf (form pipe.now) b.old self.old }
-        requires bits { AreBits b.old bits }
-        requires guards { AreGuards (form pipe.now).widths (guards_view guards.now) }
-        requires low { m < length (form pipe.now).pipe.mems }
-        requires typed { IsTyped (form pipe.now).widths (expr_view e.now) }
-        requires wide { width_in (form pipe.now).widths (expr_view e.now)
-            ≡ (mem_at (form pipe.now).pipe m).width }
-        ensures walk { OnOk result (IsWalkOf (form pipe.now) b.new self.new) }
+        requires walk { IsWalkOf (form setting.now.pipe.now) b.old self.old }
+        requires bits { AreBits b.old setting.now.bits }
+        requires guards { AreGuards (form setting.now.pipe.now).widths (guards_view guards.now) }
+        requires low { m < length (form setting.now.pipe.now).pipe.mems }
+        requires typed { IsTyped (form setting.now.pipe.now).widths (expr_view e.now) }
+        requires wide { width_in (form setting.now.pipe.now).widths (expr_view e.now)
+            ≡ (mem_at (form setting.now.pipe.now).pipe m).width }
+        ensures walk { OnOk result (IsWalkOf (form setting.now.pipe.now) b.new self.new) }
         ensures parts { OnOk result (parts_in b.new self.new
-            ≡ with_put m (taken_by b.old self.old guards.now) (value_by b.old self.old e.now)
+            ≡ with_put m a (taken_by b.old self.old guards.now) (value_by b.old self.old e.now)
             (parts_in b.old self.old)) }
         ensures extends { Extends b.old b.new }
     {
-        let on = self.all_taken(b, pipe, bits, guards)?;
-        let net = self.value(b, pipe, e)?;
-        self.push_put(m, on, net)
+        let on = self.all_taken(b, setting.pipe, setting.bits, guards)?;
+        let value = self.value(b, setting.pipe, e)?;
+        self.push_put(PutNet {
+            mem: m,
+            var: a,
+            on,
+            value,
+        })
     }
 
     /// A reservation for writing: it waits for room.
@@ -192,7 +198,12 @@ impl WalkNets {
         };
         self.hold(b, setting.pipe, setting.bits, on, held)?;
         self.wait(b, setting.pipe, setting.bits, on, room(setting.locks, m))?;
-        self.push_reserve(m, on, addr)
+        self.push_reserve(ReserveNet {
+            mem: m,
+            var: a,
+            on,
+            addr,
+        })
     }
 
     // Whether a location is ready for its block.
@@ -334,7 +345,7 @@ impl WalkNets {
         match &s.op {
             Op::Bind { x, e } => self.bind(b, pipe, bits, guards, *x, e),
             Op::CombRead { x, m, a } => self.read(b, setting, guards, *x, *m, *a),
-            Op::Write { m, e, .. } => self.write(b, pipe, bits, guards, *m, e),
+            Op::Write { m, a, e } => self.write(b, setting, guards, *m, *a, e),
             Op::ReserveRead { .. } => Ok(()),
             Op::ReserveWrite { m, a } => self.reserve(b, setting, guards, *m, *a),
             Op::Block { m, a } => self.block(b, setting, guards, *m, *a),
@@ -342,9 +353,15 @@ impl WalkNets {
             Op::Call(args) => self.call(alloc, b, pipe, bits, guards, args.as_slice()),
             Op::DelayedRead { x, m, a } => self.delayed_read(b, setting, guards, *x, *m, *a),
             Op::SpecCall(args) => self.spec_call(alloc, b, pipe, bits, guards, args.as_slice()),
-            Op::Verify(args) => self.verify(alloc, b, pipe, bits, guards, args.as_slice()),
+            Op::Verify { args, .. } => {
+                self.verify(alloc, b, pipe, bits, guards, args.as_slice())
+            }
             Op::SpecCheck => Ok(()),
             Op::SpecBarrier => self.spec_barrier(b, pipe, bits, guards),
+            // (no row stands for what is advised)
+            Op::AdviceBind { .. } => unreachable!(),
+            Op::AdviceRead { .. } => unreachable!(),
+            Op::AdviceWrite { .. } => unreachable!(),
         }
     }
 

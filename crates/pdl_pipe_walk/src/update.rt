@@ -142,31 +142,18 @@ impl WalkNets {
     }
 
     /// One more reservation for writing.
-    pub(crate) fn push_reserve(&mut self, mem: usize, on: Net, addr: Net) -> Result<(), NoMemory>
+    pub(crate) fn push_reserve(&mut self, reserve: ReserveNet) -> Result<(), NoMemory>
         ensures { OnOk result (self.new
-            ≡ record self.old {
-              reserves = self.old.reserves ++ record {
-                mem = mem;
-                on = on;
-                addr = addr;
-              } ∷ [];
-            }) }
+            ≡ record self.old { reserves = self.old.reserves ++ reserve ∷ [] }) }
     {
-        self.reserves.push(ReserveNet { mem, on, addr })
+        self.reserves.push(reserve)
     }
 
     /// One more write.
-    pub(crate) fn push_put(&mut self, mem: usize, on: Net, value: Net) -> Result<(), NoMemory>
-        ensures { OnOk result (self.new
-            ≡ record self.old {
-              puts = self.old.puts ++ record {
-                mem = mem;
-                on = on;
-                value = value;
-              } ∷ [];
-            }) }
+    pub(crate) fn push_put(&mut self, put: PutNet) -> Result<(), NoMemory>
+        ensures { OnOk result (self.new ≡ record self.old { puts = self.old.puts ++ put ∷ [] }) }
     {
-        self.puts.push(PutNet { mem, on, value })
+        self.puts.push(put)
     }
 
     /// One more request of a delayed memory.

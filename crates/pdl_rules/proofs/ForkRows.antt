@@ -3,13 +3,14 @@ use Rattle.std.specs.Prelude.{◌≡◌, ℕ, List, [], ◌∷◌, Option, Some,
 use Rattle.pdl_kit.specs.declared.rule.Rule.{Rule}
 use Rattle.pdl_kit.specs.declared.rule.Rule.TheVariants.{N3, F1, F2, F3, F4, L2, L8}
 use Rattle.pdl_semantics.specs.Tree.{ZeroExtend, R, W}
-use Rattle.pdl_rules.specs.Refusal.{Refused, refusal}
+use Rattle.pdl_rules.specs.Refusal.{Refused}
+use Rattle.pdl_rules.proofs.Judged.{judged}
 use Rattle.pdl_rules.proofs.Texts.{number, literal, constant, variable, slice, plus, Line, separator, choice, bind, read, delayed_read, write, reserve, block, release, call, spec_check, queue, param, comb, slow, whole}
 
 -- the refusal of a short source with this body, which begins on line 3; m is a comb memory with a lock, t one without, d and q are delayed, q with a lock
 abbrev of_body : List Line → Option Refused
 of_body body =
-    refusal []
+    judged
     (whole (param "n" 4 ∷ [])
     (comb 2 "m" 8 4 (queue 4) ∷ comb 2 "t" 8 4 None ∷ slow 2 "d" 8 4 None ∷ slow 2 "q" 8 4 (queue 4) ∷ []) body (literal 4 0 ∷ []))
 
@@ -58,6 +59,26 @@ not_followed = refl
 
 fork_at_end : of_body (g ∷ next ∷ choice "g" [] (separator ∷ []) ∷ []) ≡ at_line F2 5
 fork_at_end = refl
+
+-- a fork in a branch of another, after the branch's first separator
+abbrev inner : List Line → List Line
+inner body = choice "g" (separator ∷ body) [] ∷ separator ∷ []
+
+fork_after_separator : of_body (g ∷ next ∷ inner (inner [])) ≡ None
+fork_after_separator = refl
+
+fork_of_level_four : of_body (g ∷ next ∷ inner (inner (inner (inner [])))) ≡ None
+fork_of_level_four = refl
+
+fork_of_level_five : of_body (g ∷ next ∷ inner (inner (inner (inner (inner []))))) ≡ at_line F2 49
+fork_of_level_five = refl
+
+-- the separator after the outer fork doesn't follow the inner one, nor does one in the other branch
+inner_fork_not_followed : of_body (g ∷ next ∷ choice "g" (separator ∷ choice "g" (separator ∷ []) [] ∷ []) [] ∷ separator ∷ []) ≡ at_line F2 16
+inner_fork_not_followed = refl
+
+followed_in_other_branch : of_body (g ∷ next ∷ choice "g" (separator ∷ choice "g" (separator ∷ []) [] ∷ []) (separator ∷ []) ∷ separator ∷ []) ≡ at_line F2 16
+followed_in_other_branch = refl
 
 fork_in_branch : of_body (g ∷ next ∷ choice "g" (choice "g" (separator ∷ []) [] ∷ separator ∷ []) [] ∷ separator ∷ []) ≡ at_line F2 15
 fork_in_branch = refl

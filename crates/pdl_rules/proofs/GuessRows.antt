@@ -1,14 +1,15 @@
 -- Guesses: pipes that are accepted, and for each rule some that break it; computed.
 use Rattle.std.specs.Prelude.{◌≡◌, ℕ, List, [], ◌∷◌, ◌++◌, Option, Some, None, refl}
 use Rattle.pdl_kit.specs.declared.rule.Rule.{Rule}
-use Rattle.pdl_kit.specs.declared.rule.Rule.TheVariants.{N1, N3, S1, S2, S3, S4, S5}
+use Rattle.pdl_kit.specs.declared.rule.Rule.TheVariants.{N1, N2, N3, S1, S2, S3, S4, S5, S6, S7}
 use Rattle.pdl_semantics.specs.Tree.{ZeroExtend, R, W}
-use Rattle.pdl_rules.specs.Refusal.{Refused, refusal}
-use Rattle.pdl_rules.proofs.Texts.{number, constant, variable, slice, plus, Line, separator, choice, bind, write, reserve, block, release, call, spec_call, verify, spec_check, spec_barrier, pipe}
+use Rattle.pdl_rules.specs.Refusal.{Refused}
+use Rattle.pdl_rules.proofs.Judged.{judged}
+use Rattle.pdl_rules.proofs.Texts.{number, constant, variable, slice, plus, Line, separator, choice, bind, write, reserve, block, release, call, spec_call, verify, update, spec_check, spec_barrier, pipe}
 
 -- the refusal of a short source with this body, which begins on line 3
 abbrev of_body : List Line → Option Refused
-of_body body = refusal [] (pipe body)
+of_body body = judged (pipe body)
 
 abbrev at_line : Rule → ℕ → Option Refused
 at_line r k = Some (record { rule = r; line = k })
@@ -107,3 +108,45 @@ checked_on_one_path = refl
 
 checked_after : of_body (guess ∷ spec_check ∷ separator ∷ verified ∷ []) ≡ at_line S5 3
 checked_after = refl
+
+-- UPDATES
+
+abbrev again : Line
+again = update "s" (plus (variable "n") (constant 4 2) ∷ [])
+
+updated : of_body (spec_check ∷ guess ∷ separator ∷ again ∷ separator ∷ verified ∷ []) ≡ None
+updated = refl
+
+updated_nothing : of_body (spec_check ∷ again ∷ guess ∷ separator ∷ verified ∷ []) ≡ at_line N3 4
+updated_nothing = refl
+
+-- an update in the stage of its guess, and one in the stage of the verify
+updated_at_once : of_body (spec_check ∷ guess ∷ again ∷ separator ∷ verified ∷ []) ≡ at_line S6 5
+updated_at_once = refl
+
+updated_with_verify : of_body (spec_check ∷ guess ∷ separator ∷ again ∷ verified ∷ []) ≡ at_line S6 6
+updated_with_verify = refl
+
+updated_twice : of_body (spec_check ∷ guess ∷ separator ∷ again ∷ again ∷ separator ∷ verified ∷ []) ≡ at_line S6 7
+updated_twice = refl
+
+updated_on_each_path : of_body (g ∷ spec_check ∷ guess ∷ separator ∷ choice "g" (again ∷ []) (again ∷ []) ∷ separator ∷ verified ∷ []) ≡ None
+updated_on_each_path = refl
+
+-- updates of two paths in two stages
+updated_in_two_stages :
+    of_body (g ∷ spec_check ∷ guess ∷ separator ∷ choice "g" (again ∷ []) [] ∷ separator ∷ choice "g" [] (again ∷ []) ∷ separator ∷ verified ∷ [])
+    ≡ at_line S7 29
+updated_in_two_stages = refl
+
+-- a guess needs a name of its own
+guess_named_again : of_body (a ∷ spec_check ∷ spec_call "a" (plus (variable "n") (constant 4 1) ∷ []) ∷ separator ∷ verify "a" (variable "n" ∷ []) ∷ [])
+    ≡ at_line N2 5
+guess_named_again = refl
+
+-- what stands in a branch is checked on the paths through it alone
+checked_in_branch :
+    of_body (a ∷ g ∷ choice "g" (spec_check ∷ reserve "m" "a" R ∷ []) [] ∷ spec_check ∷ guess ∷ separator ∷ verified
+    ∷ choice "g" (block "m" "a" ∷ release "m" "a" ∷ []) [] ∷ [])
+    ≡ None
+checked_in_branch = refl

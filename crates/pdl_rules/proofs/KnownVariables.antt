@@ -1,4 +1,4 @@
--- The variables after some places of a pipe that breaks no rule: each is new, so their widths are those of the whole pipe.
+-- The variables after some places of a pipe that breaks no rule: each is new, so their widths are those of the whole pipe, and they are advised where they are in the whole pipe.
 use Rattle.std.proofs.Common.{◌≡◌, refl, sym, ap, ◌∙◌, subst, ℕ, Bool, true, false, ◌||◌, List, [], ◌∷◌, ◌++◌, map, fold, if◌then◌else◌, Some, None, bytes_eq, ◌⊎◌, inl, inr, ⊎_elim, append_assoc, append-nil}
 use Rattle.std.specs.Prelude.{IsTrue}
 use Rattle.std.proofs.lemmas.Bool.{false≢true, or_parts, or_cases, or_left, or_right, both_ways, false_from_ne_true}
@@ -6,7 +6,7 @@ use Rattle.std.proofs.lemmas.List.Folds.{list_any-append}
 use Rattle.std.proofs.lemmas.List.Sums.{fold-append, fold_push}
 use Rattle.std.specs.List.{list_any}
 use Rattle.pdl_semantics.specs.Tree.{CombRead, Bind, DelayedRead, Param, Mem, Pipe}
-use Rattle.pdl_semantics.specs.Flatten.{Var, var_width, mem_width, width_of, params_of}
+use Rattle.pdl_semantics.specs.Flatten.{Var, var_width, mem_width, width_of, is_advisory_mem, is_advised_var, is_advised, params_of}
 use Rattle.pdl_rules.specs.Places.{Place, Parameter, Memory, Statement, places}
 use Rattle.pdl_rules.specs.Parts.{is_some_and}
 use Rattle.pdl_rules.specs.Names.{variable_at, name_at, is_taken_name, breaks_n2, defines_use, OfMemory}
@@ -16,9 +16,10 @@ use Rattle.pdl_rules.proofs.SingleWrites.{any_front, any_last, bytes_sym}
 
 -- WIDTHS THAT STAY
 
--- each variable of the first is one of the others, with the same width
+-- each variable of the first is one of the others, with the same width, and advised alike
 abbrev pub Stays : List Var → List Var → Type 0
-Stays vs us = (x : List ℕ) → IsTrue (is_named vs x) → IsTrue (is_named us x) × (var_width us x ≡ var_width vs x)
+Stays vs us =
+    (x : List ℕ) → IsTrue (is_named vs x) → IsTrue (is_named us x) × (var_width us x ≡ var_width vs x) × (is_advised_var us x ≡ is_advised_var vs x)
 
 named_more : (vs more : List Var) (x : List ℕ) → IsTrue (is_named vs x) → IsTrue (is_named (vs ++ more) x)
 named_more vs more x e = list_any-append (λ (v : Var). bytes_eq v.name x) vs more ∙ or_left _ _ e
@@ -32,32 +33,42 @@ width_more (v ∷ vs) more x e = go (bytes_eq v.name x) e (width_more vs more x)
     go true e h = refl
     go false e h = h e
 
+advised_more : (vs more : List Var) (x : List ℕ) → IsTrue (is_named vs x) → is_advised_var (vs ++ more) x ≡ is_advised_var vs x
+advised_more [] more x e = absurd (false≢true e)
+advised_more (v ∷ vs) more x e = go (bytes_eq v.name x) e (advised_more vs more x)
+  where
+    go : (b : Bool) → (b || is_named vs x) ≡ true → (IsTrue (is_named vs x) → is_advised_var (vs ++ more) x ≡ is_advised_var vs x)
+        → (if b then v.advised else is_advised_var (vs ++ more) x) ≡ (if b then v.advised else is_advised_var vs x)
+    go true e h = refl
+    go false e h = h e
+
 -- variables stay, with their widths, when more are added after them
 pub stays_more : (vs more : List Var) → Stays vs (vs ++ more)
-stays_more vs more x e = (named_more vs more x e, width_more vs more x e)
+stays_more vs more x e = (named_more vs more x e, width_more vs more x e, advised_more vs more x e)
 
-stays_variable : (vs : List Var) (y : List ℕ) (w : ℕ) → Stays vs (with_variable vs y w)
-stays_variable vs y w x e = go (list_any (λ (v : Var). bytes_eq y v.name) vs)
+stays_variable : (vs : List Var) (y : List ℕ) (w : ℕ) (advised : Bool) → Stays vs (with_variable vs y w advised)
+stays_variable vs y w advised x e = go (list_any (λ (v : Var). bytes_eq y v.name) vs)
   where
     go : (b : Bool)
-        → IsTrue (is_named (if b then vs else vs ++ record { name = y; width = w } ∷ []) x)
-        × (var_width (if b then vs else vs ++ record { name = y; width = w } ∷ []) x ≡ var_width vs x)
-    go true = (e, refl)
-    go false = stays_more vs (record { name = y; width = w } ∷ []) x e
+        → IsTrue (is_named (if b then vs else vs ++ record { name = y; width = w; advised = advised } ∷ []) x)
+        × (var_width (if b then vs else vs ++ record { name = y; width = w; advised = advised } ∷ []) x ≡ var_width vs x)
+        × (is_advised_var (if b then vs else vs ++ record { name = y; width = w; advised = advised } ∷ []) x ≡ is_advised_var vs x)
+    go true = (e, refl, refl)
+    go false = stays_more vs (record { name = y; width = w; advised = advised } ∷ []) x e
 
 stays_place : (ms : List Mem) (vs : List Var) (d : Place) → Stays vs (after_place ms vs d)
-stays_place ms vs (Parameter a) = stays_variable vs a.name.name a.width.value
-stays_place ms vs (Statement (CombRead s x at) bs) = stays_variable vs x.name (mem_width ms at.mem.name)
-stays_place ms vs (Statement (Bind s x e) bs) = stays_variable vs x.name (width_of vs e)
-stays_place ms vs (Statement (DelayedRead s x at) bs) = stays_variable vs x.name (mem_width ms at.mem.name)
-stays_place ms vs _ = λ x e. (e, refl)
+stays_place ms vs (Parameter a) = stays_variable vs a.name.name a.width.value false
+stays_place ms vs (Statement (CombRead s x at) bs) = stays_variable vs x.name (mem_width ms at.mem.name) (is_advisory_mem ms at.mem.name)
+stays_place ms vs (Statement (Bind s x e) bs) = stays_variable vs x.name (width_of vs e) (is_advised vs e)
+stays_place ms vs (Statement (DelayedRead s x at) bs) = stays_variable vs x.name (mem_width ms at.mem.name) false
+stays_place ms vs _ = λ x e. (e, refl, refl)
 
 stays_places : (ms : List Mem) (xs : List Place) (vs : List Var) → Stays vs (fold (after_place ms) vs xs)
-stays_places ms [] vs x e = (e, refl)
+stays_places ms [] vs x e = (e, refl, refl)
 stays_places ms (d ∷ xs) vs x e =
     let one = stays_place ms vs d x e in
     let all = stays_places ms xs (after_place ms vs d) x one.0 in
-    (all.0, all.1 ∙ one.1)
+    (all.0, all.1 ∙ one.1, all.2 ∙ one.2)
 
 -- VARIABLES SO FAR
 
@@ -97,14 +108,14 @@ known_same p vs before d none same k = record {
 }
 
 -- a place that defines this variable, with this width
-pub known_more : (p : Pipe) (vs : List Var) (before : List Place) (d : Place) (x : List ℕ) (w : ℕ)
-    → variable_at d ≡ Some x → name_at d ≡ Some x → after_place p.mems vs d ≡ with_variable vs x w
+pub known_more : (p : Pipe) (vs : List Var) (before : List Place) (d : Place) (x : List ℕ) (w : ℕ) (advised : Bool)
+    → variable_at d ≡ Some x → name_at d ≡ Some x → after_place p.mems vs d ≡ with_variable vs x w advised
     → breaks_n2 p before d ≡ false → AreKnown p vs before
-    → AreKnown p (vs ++ record { name = x; width = w } ∷ []) (before ++ d ∷ [])
-known_more p vs before d x w variable name after unbroken k = record {
+    → AreKnown p (vs ++ record { name = x; width = w; advised = advised } ∷ []) (before ++ d ∷ [])
+known_more p vs before d x w advised variable name after unbroken k = record {
   vars =
       fold_push (after_place p.mems) [] before d ∙ ap (λ us. after_place p.mems us d) k.vars ∙ after
-      ∙ ap (λ b. if b then vs else vs ++ record { name = x; width = w } ∷ []) fresh;
+      ∙ ap (λ b. if b then vs else vs ++ record { name = x; width = w; advised = advised } ∷ []) fresh;
   named = λ y e. ⊎_elim
       (λ a. named_more vs _ y (k.named y a))
       (λ a. any_last (λ (v : Var). bytes_eq v.name y) vs _ (bytes_sym y x (sym (ap (is_some_and (bytes_eq y)) variable) ∙ a)))

@@ -2,8 +2,12 @@ pub mod Texts
 mod Rows
 mod ForkRows
 mod GuessRows
+mod AdviceRows
+mod UnbuiltRows
+mod Judged
 pub mod Counts
 pub mod SingleWrites
+pub mod FirstReserves
 pub mod TypedExpressions
 pub mod KnownVariables
 pub mod Memories

@@ -7,12 +7,13 @@ use Rattle.pdl_semantics.specs.Tree.{ZeroExtend, SignExtend, Cat, Choose, R, W, 
 use Rattle.pdl_rules.specs.Places.{Parameter, Statement}
 use Rattle.pdl_rules.specs.Limits.{breaks_z2, breaks_z3, breaks_z5}
 use Rattle.pdl_rules.specs.Stages.{breaks_l8}
-use Rattle.pdl_rules.specs.Refusal.{Refused, refusal}
-use Rattle.pdl_rules.proofs.Texts.{number, literal, constant, variable, slice, plus, Line, separator, choice, bind, read, write, reserve, block, release, call, queue, param, comb, whole, pipe, from_line}
+use Rattle.pdl_rules.specs.Refusal.{Refused}
+use Rattle.pdl_rules.proofs.Judged.{judged}
+use Rattle.pdl_rules.proofs.Texts.{ident, number, literal, constant, variable, slice, plus, Line, separator, choice, bind, read, write, reserve, block, release, call, queue, param, comb, whole, pipe, from_line}
 
 -- the refusal of a short source
 abbrev of_pipe : Pipe → Option Refused
-of_pipe p = refusal [] p
+of_pipe p = judged p
 
 abbrev at_line : Rule → ℕ → Option Refused
 at_line r k = Some (record { rule = r; line = k })
@@ -178,6 +179,46 @@ two_writes :
     ≡ at_line L4 10
 two_writes = refl
 
+-- a pipe with room for this many writes, two of which each thread makes: b is the second address
+abbrev two_words : ℕ → List Line → Pipe
+two_words size body = whole (param "n" 2 ∷ []) (comb 2 "m" 8 4 (queue size) ∷ []) body (literal 2 0 ∷ [])
+
+abbrev to_both : List Line
+to_both =
+    bind "b" (plus (variable "n") (constant 2 1)) ∷ bind "z" (ZeroExtend (variable "n") (number 8)) ∷ reserve "m" "n" W
+    ∷ reserve "m" "b" W ∷ block "m" "n" ∷ block "m" "b" ∷ []
+
+abbrev into_first : Line
+into_first = write "m" "n" (variable "z")
+
+abbrev into_second : Line
+into_second = write "m" "b" (plus (variable "z") (constant 8 4))
+
+abbrev after_both : List Line
+after_both = release "m" "n" ∷ release "m" "b" ∷ call (plus (variable "n") (constant 2 2) ∷ []) ∷ []
+
+two_words_accepted : of_pipe (two_words 2 (to_both ++ into_first ∷ into_second ∷ after_both)) ≡ None
+two_words_accepted = refl
+
+writes_exchanged : of_pipe (two_words 2 (to_both ++ into_second ∷ into_first ∷ after_both)) ≡ at_line L6 9
+writes_exchanged = refl
+
+room_for_one : of_pipe (two_words 1 (to_both ++ into_first ∷ into_second ∷ after_both)) ≡ at_line L4 6
+room_for_one = refl
+
+third_reserved : of_pipe (two_words 4 (bind "c" (plus (variable "n") (constant 2 3)) ∷ to_both ++ reserve "m" "c" W ∷ into_first ∷ into_second ∷ after_both)) ≡ at_line L4 10
+third_reserved = refl
+
+-- the releases may stand in the other order, and the second reservation may follow the first one's release
+released_exchanged : of_pipe (two_words 2 (to_both ++ into_first ∷ into_second ∷ release "m" "b" ∷ release "m" "n" ∷ call (plus (variable "n") (constant 2 2) ∷ []) ∷ [])) ≡ None
+released_exchanged = refl
+
+one_after_the_other :
+    of_pipe (two_words 2 (bind "b" (plus (variable "n") (constant 2 1)) ∷ bind "z" (ZeroExtend (variable "n") (number 8))
+    ∷ reserve "m" "n" W ∷ block "m" "n" ∷ into_first ∷ release "m" "n" ∷ reserve "m" "b" W ∷ block "m" "b" ∷ into_second
+    ∷ release "m" "b" ∷ call (plus (variable "n") (constant 2 2) ∷ []) ∷ [])) ≡ None
+one_after_the_other = refl
+
 reserved_again : of_pipe (pipe (address ∷ reserve "m" "a" R ∷ reserve "m" "a" R ∷ block "m" "a" ∷ release "m" "a" ∷ next ∷ []))
     ≡ at_line L5 5
 reserved_again = refl
@@ -282,3 +323,27 @@ lower_place_first = refl
 -- of two letters the earlier
 earlier_letter_first : of_pipe (pipe (bind "b" (constant 4 16) ∷ next ∷ bind "c" (variable "k") ∷ next ∷ [])) ≡ at_line N1 5
 earlier_letter_first = refl
+
+-- NO OTHER ROW
+
+-- a use on no path needs a definition before it in the text too
+used_on_no_path :
+    of_pipe (pipe (bind "g" (slice "n" 0 0) ∷ choice "g" (choice "g" [] (bind "x" (variable "y") ∷ []) ∷ []) [] ∷ bind "y" (variable "n") ∷ next ∷ []))
+    ≡ at_line N3 34
+used_on_no_path = refl
+
+-- a start clause stands where it begins, also with its name on another line
+abbrev wrong_start : Pipe
+wrong_start = whole (param "n" 4 ∷ []) [] (next ∷ []) (literal 4 16 ∷ [])
+
+start_over_two_lines : of_pipe (record wrong_start { start = record wrong_start.start { name = ident 6 "p" } }) ≡ at_line W2 5
+start_over_two_lines = refl
+
+-- a slice the wrong way, and bits side by side that are too many, have one bit, so that beside one bit they break W2 and no W1
+wrong_slice_has_a_bit : of_pipe (pipe (bind "b" (plus (slice "n" 1 2) (constant 1 1)) ∷ next ∷ [])) ≡ at_line W2 3
+wrong_slice_has_a_bit = refl
+
+wide_cat_has_a_bit :
+    of_pipe (pipe (bind "b" (ZeroExtend (variable "n") (number 64)) ∷ bind "c" (plus (Cat (variable "b") (variable "n")) (constant 1 1)) ∷ next ∷ []))
+    ≡ at_line W2 4
+wide_cat_has_a_bit = refl

@@ -1,14 +1,15 @@
 -- A memory is written once: two writes would go to the one location that is reserved for them, and its release is after both or between them.
-use Rattle.std.proofs.Common.{◌≡◌, refl, sym, ap, ap₂, ◌∙◌, subst, ℕ, ◌≤◌, ◌<◌, Bool, true, false, not, ◌&&◌, List, [], ◌∷◌, ◌++◌, fold, if◌then◌else◌, ◌==◌, bytes_eq, count_by, ◌⊎◌, arith, ⊎_elim, inl, inr}
+use Rattle.std.proofs.Common.{◌≡◌, refl, sym, ap, ap₂, ◌∙◌, ℕ, ◌≤◌, Bool, true, false, not, ◌&&◌, ◌||◌, List, [], ◌∷◌, ◌++◌, fold, if◌then◌else◌, ◌==◌, bytes_eq, count_by, arith, ⊎_elim}
 use mathlib.Core.Path.{fun_ext}
-use Rattle.std.proofs.lemmas.Bool.{false≢true, true≢false, and_parts, and_from, or_cases, or_left, or_right, cases_Bool, leb-false, eqb-true, not-false, both_ways}
+use Rattle.std.proofs.lemmas.Bool.{false≢true, true≢false, and_parts, and_from, or_cases, or_left, or_right, cases_Bool, eqb-true, not-false, both_ways}
 use Rattle.std.proofs.lemmas.List.Folds.{list_any-append, list_all-append}
 use Rattle.std.proofs.lemmas.List.Sums.{fold_push}
 use Rattle.std.proofs.lemmas.Slice.Eq.{bytes_eq-Decides}
 use Rattle.std.specs.List.{list_any, list_all}
 use Rattle.pdl_semantics.specs.Tree.{Span, Expr, Location, R, W, Write, Reserve, Block, Release, Pipe}
+use Rattle.pdl_semantics.specs.Flatten.{is_advisory_mem}
 use Rattle.pdl_rules.specs.Places.{Place, Statement, End, Branch}
-use Rattle.pdl_rules.specs.Locks.{same_location, same_kind, Hold, Nothing, Reserved, Blocked, Released, after_block, after_place, hold_after, is_blocked_for, is_held_for, lacks_hold, is_late_read, is_reserve_of, is_write_of, is_one_too_many, is_reserved_again, is_not_written_once, ends_open, reserves_location, writes_location, leaves_open}
+use Rattle.pdl_rules.specs.Locks.{same_location, same_kind, Hold, Nothing, Reserved, Blocked, Released, after_block, after_place, hold_after, is_blocked_for, is_held_for, lacks_hold, is_late_read, is_reserve_of, is_one_too_many, is_reserved_again, is_not_written_once, ends_open, reserves_location, writes_location, leaves_open}
 use Rattle.pdl_rules.proofs.EachPlace.{Each}
 pub use Rattle.pdl_rules.proofs.Counts.{weight, count_push, count_cons, counted, count_none}
 use Rattle.pdl_rules.proofs.Counts.{weight, count_push, count_cons, counted}
@@ -18,8 +19,8 @@ use Rattle.pdl_word.proofs.Lists.{all_weaker}
 -- what the rules of locks say of a place, with the places before it on a path
 pub record KeepsLocks (p : Pipe) (before : List Place) (x : Place) : Type 0 where
   pub l1 : lacks_hold p before x ≡ false
-  pub l3 : is_late_read before x ≡ false
-  pub l4 : is_one_too_many before x ≡ false
+  pub l3 : is_late_read p before x ≡ false
+  pub l4 : is_one_too_many p before x ≡ false
   pub l5 : is_reserved_again before x ≡ false
   pub l6 : is_not_written_once before x ≡ false
   pub l7 : ends_open before x ≡ false
@@ -143,63 +144,26 @@ reserved_if_held l (x ∷ xs) h f e =
     (λ t. or_right _ _ (reserved_if_held l xs (after_place l h x) (unheld l h x t f) e))
     (cases_Bool (reserves_to_write l x))
 
--- of one write reservation a memory there is one location
-pub unique : (l a : Location)
-    → l.mem.name ≡ a.mem.name → (xs : List Place) → count_by (is_reserve_of W a.mem.name) xs ≤ 1
-    → list_any (reserves_to_write l) xs ≡ true → list_any (reserves_to_write a) xs ≡ true → same_location l a ≡ true
-unique l a same [] n e f = absurd (false≢true e)
-unique l a same (x ∷ xs) n e f = by_place (or_cases _ _ e) (or_cases _ _ f) (unique l a same xs fewer)
-  where
-    fewer : count_by (is_reserve_of W a.mem.name) xs ≤ 1
-    fewer = let sum = count_cons (is_reserve_of W a.mem.name) x xs in omega arith
-
-    of_l : (y : Place) → reserves_to_write l y ≡ true → is_reserve_of W a.mem.name y ≡ true
-    of_l y t = subst (λ m. is_reserve_of W m y ≡ true) same (reserves_mem l y t)
-
-    more : is_reserve_of W a.mem.name x ≡ true → list_any (is_reserve_of W a.mem.name) xs ≡ true → ⊥
-    more t u =
-        let one : 1 ≤ count_by (is_reserve_of W a.mem.name) xs = counted (is_reserve_of W a.mem.name) xs u in
-        let here : weight (is_reserve_of W a.mem.name x) ≡ 1 = ap weight t in
-        let sum = count_cons (is_reserve_of W a.mem.name) x xs in
-        omega arith
-
-    by_place : (reserves_to_write l x ≡ true) ⊎ (list_any (reserves_to_write l) xs ≡ true)
-        → (reserves_to_write a x ≡ true) ⊎ (list_any (reserves_to_write a) xs ≡ true)
-        → (list_any (reserves_to_write l) xs ≡ true → list_any (reserves_to_write a) xs ≡ true → same_location l a ≡ true) → same_location l a ≡ true
-    by_place (inl t) (inl u) rest = one_place l a x t u
-    by_place (inl t) (inr u) rest = absurd (more (of_l x t) (any_weaker _ _ (reserves_mem a) xs u))
-    by_place (inr t) (inl u) rest = absurd (more (reserves_mem a x u) (any_weaker _ _ of_l xs t))
-    by_place (inr t) (inr u) rest = rest t u
-
 -- THE PLACES SO FAR
 
--- whether a write goes to a location that one of these places reserves for it
-abbrev is_backed : List Place → Place → Bool
-is_backed before (Statement (Write _ l _) _) = list_any (reserves_to_write l) before
-is_backed before _ = true
+-- whether a write that isn't one of an advisory memory goes to a location that one of these places reserves for it
+abbrev is_backed : Pipe → List Place → Place → Bool
+is_backed p before (Statement (Write _ l _) _) = is_advisory_mem p.mems l.mem.name || list_any (reserves_to_write l) before
+is_backed p before _ = true
 
--- a memory has one write reservation at most, and each write has its location reserved
-pub record AreBacked (before : List Place) : Type 0 where
-  pub single : (m : List ℕ) → count_by (is_reserve_of W m) before ≤ 1
-  pub backed : list_all (is_backed before) before ≡ true
+-- each such write has its location reserved
+pub record AreBacked (p : Pipe) (before : List Place) : Type 0 where
+  pub backed : list_all (is_backed p before) before ≡ true
 
 -- where there are no places, no memory is reserved twice, and no write lacks its reservation
-pub none_backed : AreBacked []
-none_backed = record { single = λ m. omega arith; backed = refl }
+pub none_backed : (p : Pipe) → AreBacked p []
+none_backed p = record { backed = refl }
 
-first_reserve : (before : List Place) (x : Place)
-    → is_one_too_many before x ≡ false → (m : List ℕ) → is_reserve_of W m x ≡ true
-    → count_by (is_reserve_of W m) before ≡ 0
-first_reserve before (Statement (Reserve s l W) bs) few m e =
-    let none : count_by (is_reserve_of W l.mem.name) before < 1 = leb-false 1 _ few in
-    let zero_count : count_by (is_reserve_of W l.mem.name) before ≡ 0 = omega arith in
-    subst (λ n. count_by (is_reserve_of W n) before ≡ 0) (bytes_same l.mem.name m e) zero_count
-first_reserve before (Statement (Reserve s l R) bs) few m e = absurd (false≢true e)
-first_reserve before _ few m e = absurd (false≢true e)
-
-backed_more : (before : List Place) (y x : Place) → is_backed before x ≡ true → is_backed (before ++ y ∷ []) x ≡ true
-backed_more before y (Statement (Write s l v) bs) e = any_front (reserves_to_write l) before y e
-backed_more before y _ e = refl
+backed_more : (p : Pipe) (before : List Place) (y x : Place) → is_backed p before x ≡ true → is_backed p (before ++ y ∷ []) x ≡ true
+backed_more p before y (Statement (Write s l v) bs) e =
+    ⊎_elim (λ t. or_left _ (list_any (reserves_to_write l) (before ++ y ∷ [])) t)
+    (λ t. or_right (is_advisory_mem p.mems l.mem.name) _ (any_front (reserves_to_write l) before y t)) (or_cases (is_advisory_mem p.mems l.mem.name) _ e)
+backed_more p before y _ e = refl
 
 -- what is blocked to be written is held as `Blocked W`
 pub held_if_blocked : (h : Hold) → is_blocked_for W h ≡ true → h ≡ Blocked W
@@ -214,46 +178,59 @@ pub reserved_if_blocked : (l : Location) (before : List Place)
     → hold_after l before ≡ Blocked W → list_any (reserves_to_write l) before ≡ true
 reserved_if_blocked l before e = reserved_if_held l before Nothing refl (ap (is_held_for W) e)
 
-backed_here : (p : Pipe) (before : List Place) (x : Place) → lacks_hold p before x ≡ false → is_backed before x ≡ true
-backed_here p before (Statement (Write s l v) bs) e = reserved_if_blocked l before (held_if_blocked _ (not-false _ e))
+-- a write of a memory that isn't advisory has its location blocked
+pub blocked_here : (p : Pipe) (before : List Place) (l : Location)
+    → is_advisory_mem p.mems l.mem.name ≡ false
+    → (not (is_advisory_mem p.mems l.mem.name) && not (is_blocked_for W (hold_after l before))) ≡ false → hold_after l before ≡ Blocked W
+blocked_here p before l plain e = held_if_blocked _ (not-false _ (sym (ap (λ a. not a && not (is_blocked_for W (hold_after l before))) plain) ∙ e))
+
+backed_here : (p : Pipe) (before : List Place) (x : Place) → lacks_hold p before x ≡ false → is_backed p before x ≡ true
+backed_here p before (Statement (Write s l v) bs) e = go (is_advisory_mem p.mems l.mem.name) refl
+  where
+    go : (b : Bool) → is_advisory_mem p.mems l.mem.name ≡ b → (is_advisory_mem p.mems l.mem.name || list_any (reserves_to_write l) before) ≡ true
+    go true a = or_left _ (list_any (reserves_to_write l) before) a
+    go false a = or_right (is_advisory_mem p.mems l.mem.name) _ (reserved_if_blocked l before (blocked_here p before l a e))
 backed_here p before _ e = refl
 
 -- after a place that keeps the rules on locks, too, each write has its location reserved
-pub backed_next : (p : Pipe) (before : List Place) (x : Place) → KeepsLocks p before x → AreBacked before → AreBacked (before ++ x ∷ [])
+pub backed_next : (p : Pipe) (before : List Place) (x : Place) → KeepsLocks p before x → AreBacked p before → AreBacked p (before ++ x ∷ [])
 backed_next p before x k b = record {
-  single = λ m. single m (is_reserve_of W m x) refl;
   backed = list_all-append _ before (x ∷ []) ∙ and_from _ _
-      (all_weaker _ _ (backed_more before x) before b.backed)
-      (and_from _ _ (backed_more before x x (backed_here p before x k.l1)) refl);
+      (all_weaker _ _ (backed_more p before x) before b.backed)
+      (and_from _ _ (backed_more p before x x (backed_here p before x k.l1)) refl);
 }
-  where
-    single : (m : List ℕ) (c : Bool) → is_reserve_of W m x ≡ c → count_by (is_reserve_of W m) (before ++ x ∷ []) ≤ 1
-    single m true e =
-        let none : count_by (is_reserve_of W m) before ≡ 0 = first_reserve before x k.l4 m e in
-        let here : weight (is_reserve_of W m x) ≡ 1 = ap weight e in
-        omega (arith, count_push (is_reserve_of W m) before x)
-    single m false e =
-        let few : count_by (is_reserve_of W m) before ≤ 1 = b.single m in
-        let here : weight (is_reserve_of W m x) ≡ 0 = ap weight e in
-        omega (arith, count_push (is_reserve_of W m) before x)
 
--- a write of the memory after which another stands to one location, goes to that location too
-written_there : (before : List Place) (a : Location) → AreBacked before
-    → list_any (reserves_to_write a) before ≡ true → (x : Place) → is_backed before x ≡ true
-    → is_write_of a.mem.name x ≡ true → writes_location a x ≡ true
-written_there before a b r (Statement (Write s l v) bs) e w = unique l a (bytes_same _ _ w) before (b.single a.mem.name) e r
-written_there before a b r _ e w = absurd (false≢true w)
+-- what is written is reserved
+reserved_alike : (a b : Location) → same_location a b ≡ true → (x : Place) → reserves_to_write a x ≡ reserves_to_write b x
+reserved_alike a b e (Statement (Reserve s l k) bs) = ap (λ c. same_kind W k && c) (same_right l a b e)
+reserved_alike a b e _ = refl
 
-all_there : (before : List Place) (a : Location) → AreBacked before
-    → list_any (reserves_to_write a) before ≡ true → (xs : List Place) → list_all (is_backed before) xs ≡ true
-    → list_any (is_write_of a.mem.name) xs ≡ true → list_any (writes_location a) xs ≡ true
-all_there before a b r [] e w = absurd (false≢true w)
-all_there before a b r (x ∷ xs) e w =
-    let parts = and_parts (is_backed before x) (list_all (is_backed before) xs) e in
+same_advisory : (p : Pipe) (a b : Location) → same_location a b ≡ true → is_advisory_mem p.mems a.mem.name ≡ is_advisory_mem p.mems b.mem.name
+same_advisory p a b e = ap (is_advisory_mem p.mems) (bytes_same a.mem.name b.mem.name (and_parts (bytes_eq a.mem.name b.mem.name) _ e).0)
+
+written_here : (p : Pipe) (before : List Place) (a : Location) (x : Place) → is_advisory_mem p.mems a.mem.name ≡ false → is_backed p before x ≡ true
+    → writes_location a x ≡ true → list_any (reserves_to_write a) before ≡ true
+written_here p before a (Statement (Write s l v) bs) plain e w =
+    sym (ap (λ f. list_any f before) (fun_ext (reserved_alike l a w)))
+    ∙ sym (ap (λ b. b || list_any (reserves_to_write l) before) (same_advisory p l a w ∙ plain)) ∙ e
+written_here p before a _ plain e w = absurd (false≢true w)
+
+written_among : (p : Pipe) (before : List Place) (a : Location) (xs : List Place)
+    → is_advisory_mem p.mems a.mem.name ≡ false → list_all (is_backed p before) xs ≡ true
+    → list_any (writes_location a) xs ≡ true → list_any (reserves_to_write a) before ≡ true
+written_among p before a [] plain e w = absurd (false≢true w)
+written_among p before a (x ∷ xs) plain e w =
+    let parts = and_parts (is_backed p before x) (list_all (is_backed p before) xs) e in
     ⊎_elim
-    (λ t. or_left _ _ (written_there before a b r x parts.0 t))
-    (λ t. or_right _ _ (all_there before a b r xs parts.1 t))
-    (or_cases (is_write_of a.mem.name x) (list_any (is_write_of a.mem.name) xs) w)
+    (λ t. written_here p before a x plain parts.0 t)
+    (λ t. written_among p before a xs plain parts.1 t)
+    (or_cases (writes_location a x) (list_any (writes_location a) xs) w)
+
+-- what is written was reserved
+pub written_reserved : (p : Pipe) (before : List Place) (a : Location)
+    → is_advisory_mem p.mems a.mem.name ≡ false → AreBacked p before → list_any (writes_location a) before ≡ true
+    → list_any (reserves_to_write a) before ≡ true
+written_reserved p before a plain b w = written_among p before a before plain b.backed w
 
 -- WRITTEN TWICE
 
@@ -311,28 +288,29 @@ stuck_at_end : (p : Pipe) (l : Location) (xs later before : List Place) (s : Spa
 stuck_at_end p l [] later before s stuck each = both_ways _ each.0.l7 (any_weaker _ _ (left_open before l stuck.holds) before stuck.reserved)
 stuck_at_end p l (x ∷ xs) later before s stuck each = stuck_at_end p l xs later (before ++ x ∷ []) s (stuck_next p l before x each.0 stuck) each.1
 
--- no write of a memory stands after a write of it
+-- no write through a location stands after a write through it
 pub written_once : (p : Pipe) (s : Span) (l : Location) (v : Expr) (bs : List Branch) (before xs later : List Place) (end : Span)
-    → AreBacked before → Each (KeepsLocks p) before (Statement (Write s l v) bs ∷ (xs ++ End end ∷ later))
-    → list_any (is_write_of l.mem.name) before ≡ false
-written_once p s l v bs before xs later end b each = go (list_any (is_write_of l.mem.name) before) refl
+    → is_advisory_mem p.mems l.mem.name ≡ false
+    → Each (KeepsLocks p) before (Statement (Write s l v) bs ∷ (xs ++ End end ∷ later))
+    → list_any (writes_location l) before ≡ false
+written_once p s l v bs before xs later end plain each = go (list_any (writes_location l) before) refl
   where
     here : hold_after l before ≡ Blocked W
-    here = held_if_blocked _ (not-false _ each.0.l1)
+    here = blocked_here p before l plain each.0.l1
 
     asked : list_any (reserves_to_write l) before ≡ true
     asked = reserved_if_blocked l before here
 
-    stuck : list_any (is_write_of l.mem.name) before ≡ true → IsStuck l (before ++ Statement (Write s l v) bs ∷ [])
+    stuck : list_any (writes_location l) before ≡ true → IsStuck l (before ++ Statement (Write s l v) bs ∷ [])
     stuck e = record {
       holds = fold_push (after_place l) Nothing before (Statement (Write s l v) bs) ∙ here;
       reserved = any_front (reserves_location l) before _ (any_weaker _ _ (reserves_some l) before asked);
       many =
-          let one : 1 ≤ count_by (writes_location l) before = counted (writes_location l) before (all_there before l b asked before b.backed e) in
+          let one : 1 ≤ count_by (writes_location l) before = counted (writes_location l) before e in
           let this : weight (writes_location l (Statement (Write s l v) bs)) ≡ 1 = ap weight (location_refl l) in
           omega (arith, count_push (writes_location l) before (Statement (Write s l v) bs));
     }
 
-    go : (b : Bool) → list_any (is_write_of l.mem.name) before ≡ b → b ≡ false
+    go : (b : Bool) → list_any (writes_location l) before ≡ b → b ≡ false
     go true e = absurd (stuck_at_end p l xs later _ end (stuck e) each.1)
     go false e = refl

@@ -1,7 +1,7 @@
 -- Short words to write out a tree with its lines.
 use Prim.Native.String.{String}
-use Rattle.std.specs.Prelude.{ℕ, ◌+◌, true, false, List, [], ◌∷◌, Option, Some, None, codes, length}
-use Rattle.pdl_semantics.specs.Tree.{Span, Ident, Number, Literal, Add, Expr, Constant, Variable, Slice, Binary, Location, Kind, Stmt, Separator, CombRead, Bind, SpecCall, DelayedRead, Write, Reserve, Block, Release, If, Call, Verify, SpecCheck, SpecBarrier, stmts_of, Queue, LockDecl, Param, Mem, Pipe}
+use Rattle.std.specs.Prelude.{ℕ, ◌+◌, List, [], ◌∷◌, Option, Some, None, codes, length}
+use Rattle.pdl_semantics.specs.Tree.{Span, Ident, Number, Literal, Add, Expr, Constant, Variable, Slice, Binary, Location, Kind, Stmt, Separator, CombRead, Bind, SpecCall, DelayedRead, Write, Reserve, Block, Release, If, Call, Verify, Update, SpecCheck, SpecBarrier, stmts_of, Queue, LockDecl, Param, Mem, Pipe, Comb, Delayed, Advisory}
 
 -- the byte 0 of a line
 abbrev on_line : ℕ → Span
@@ -89,6 +89,10 @@ spec_call s args k = SpecCall (on_line k) (ident k s) args
 abbrev pub verify : String → List Expr → Line
 verify s args k = Verify (on_line k) (ident k s) args
 
+-- an `update` of a guess
+abbrev pub update : String → List Expr → Line
+update s args k = Update (on_line k) (ident k s) args
+
 -- a `spec_check`
 abbrev pub spec_check : Line
 spec_check k = SpecCheck (on_line k)
@@ -119,12 +123,17 @@ param x width = record { name = ident 1 x; width = number width }
 -- a comb memory on line k, with its width, depth and lock
 abbrev pub comb : ℕ → String → ℕ → ℕ → Option LockDecl → Mem
 comb k m width depth lock =
-    record { name = ident k m; width = number width; depth = number depth; delayed = false; lock = lock }
+    record { name = ident k m; width = number width; depth = number depth; kind = Comb; lock = lock }
 
 -- a delayed memory on line k, with its width, depth and lock
 abbrev pub slow : ℕ → String → ℕ → ℕ → Option LockDecl → Mem
 slow k m width depth lock =
-    record { name = ident k m; width = number width; depth = number depth; delayed = true; lock = lock }
+    record { name = ident k m; width = number width; depth = number depth; kind = Delayed; lock = lock }
+
+-- an advisory memory
+abbrev pub advisory : ℕ → String → ℕ → ℕ → Mem
+advisory k m width depth =
+    record { name = ident k m; width = number width; depth = number depth; kind = Advisory; lock = None }
 
 -- a pipe p with its parameters on line 1, its memories, its body from line 3 on, and its end and start clause on the lines after it
 abbrev pub whole : List Param → List Mem → List Line → List Literal → Pipe

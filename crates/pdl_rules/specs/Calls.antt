@@ -1,7 +1,7 @@
 -- The call of the next thread: rule S1.
 use Rattle.std.specs.Prelude.{Bool, true, false, not, List}
 use Rattle.std.specs.List.{list_any}
-use Rattle.pdl_semantics.specs.Tree.{Stmt, Separator, CombRead, Bind, SpecCall, DelayedRead, Write, Reserve, Block, Release, If, Call, Verify, SpecCheck, SpecBarrier, Pipe}
+use Rattle.pdl_semantics.specs.Tree.{Stmt, Separator, CombRead, Bind, SpecCall, DelayedRead, Write, Reserve, Block, Release, If, Call, Verify, Update, SpecCheck, SpecBarrier, Pipe}
 use Rattle.pdl_rules.specs.Places.{Place, Parameter, Memory, Statement, End, StartClause, at_statement, on_some_path}
 
 -- whether a statement calls the next thread, on a guess or not
@@ -18,6 +18,7 @@ calls (Release _ _) = false
 calls (If _ _ _ _) = false
 calls (Call _ _) = true
 calls (Verify _ _ _) = false
+calls (Update _ _ _) = false
 calls (SpecCheck _) = false
 calls (SpecBarrier _) = false
 
@@ -39,6 +40,7 @@ calls_again earlier (Release _ _) = false
 calls_again earlier (If _ _ _ _) = false
 calls_again earlier (Call _ _) = list_any is_call earlier
 calls_again earlier (Verify _ _ _) = false
+calls_again earlier (Update _ _ _) = false
 calls_again earlier (SpecCheck _) = false
 calls_again earlier (SpecBarrier _) = false
 

@@ -1,13 +1,14 @@
 -- Forks and delayed reads: rules F1 to F4. A fork is an `if` that holds a separator.
-use Rattle.std.specs.Prelude.{ℕ, ◌+◌, Bool, true, false, not, ◌&&◌, ◌||◌, ◌==◌, List, [], ◌∷◌, drop, length, if◌then◌else◌, bytes_eq}
+use Rattle.std.specs.Prelude.{ℕ, ◌+◌, Bool, true, false, not, ◌&&◌, ◌||◌, ◌==◌, List, [], ◌∷◌, drop, take, length, if◌then◌else◌, bytes_eq}
 use Rattle.std.specs.List.{list_any}
-use Rattle.pdl_semantics.specs.Tree.{Stmt, Separator, CombRead, Bind, SpecCall, DelayedRead, Write, Reserve, Block, Release, If, Call, Verify, SpecCheck, SpecBarrier, Stmts, Location, Mem, Pipe}
+use Rattle.pdl_semantics.specs.Tree.{Stmt, Separator, CombRead, Bind, SpecCall, DelayedRead, Write, Reserve, Block, Release, If, Call, Verify, Update, SpecCheck, SpecBarrier, Stmts, Location, Mem, Pipe}
+use Rattle.pdl_semantics.specs.Flat.{is_delayed}
 use Rattle.pdl_semantics.specs.Flatten.{separators}
 use Rattle.pdl_rules.specs.Places.{Place, Branch, at_statement, statements, places, places_after}
 use Rattle.pdl_rules.specs.Forms.{fetches}
 use Rattle.pdl_rules.specs.Parts.{parts_of}
 use Rattle.pdl_rules.specs.Limits.{is_separator}
-use Rattle.pdl_rules.specs.Stages.{stage_after, stage_in}
+use Rattle.pdl_rules.specs.Stages.{stage_after, stage_in, branches_of, are_outer}
 
 -- whether a separator stands somewhere in these statements
 abbrev pub holds_separator : Stmts → Bool
@@ -27,6 +28,7 @@ is_trunk_only (Release _ _) = true
 is_trunk_only (If _ _ _ _) = false
 is_trunk_only (Call _ _) = true
 is_trunk_only (Verify _ _ _) = true
+is_trunk_only (Update _ _ _) = true
 is_trunk_only (SpecCheck _) = true
 is_trunk_only (SpecBarrier _) = true
 
@@ -43,24 +45,24 @@ abbrev pub places_in : List Stmts → ℕ
 places_in [] = 0
 places_in (ss ∷ rest) = length (statements [] ss) + places_in rest
 
--- whether the first of these places is a separator
-abbrev pub starts_with_separator : List Place → Bool
-starts_with_separator [] = false
-starts_with_separator (x ∷ xs) = is_separator x
+-- whether a separator that stands in just these branches comes first
+abbrev pub starts_with_separator : List Branch → List Place → Bool
+starts_with_separator bs [] = false
+starts_with_separator bs (x ∷ xs) = is_separator x && (are_outer (branches_of x) bs && are_outer bs (branches_of x))
 
--- whether what has these branches around it stands in any
-abbrev pub is_in_branch : List Branch → Bool
-is_in_branch [] = false
-is_in_branch (b ∷ bs) = true
+-- whether what stands in these branches stands in the stage of the fork around it
+abbrev pub is_in_outer_stage : List Place → List Branch → Bool
+is_in_outer_stage before [] = false
+is_in_outer_stage before (b ∷ bs) = stage_in before (b ∷ bs) == stage_in before (take (length bs) (b ∷ bs))
 
--- whether a statement in these branches, with these places after it, is a fork in a branch, or one that no separator follows directly
-abbrev pub is_wrong_fork : List Place → Stmt → List Branch → Bool
-is_wrong_fork later s bs =
-    is_fork s && (is_in_branch bs || not (starts_with_separator (drop (places_in (parts_of s).branches) later)))
+-- whether a statement in these branches, with these places before and after it, is a fork of the fifth level, one in a branch of another before that branch's first separator, and so in the stage of the other one, or one that no separator follows directly
+abbrev pub is_wrong_fork : List Place → List Place → Stmt → List Branch → Bool
+is_wrong_fork before later s bs =
+    is_fork s && (length bs == 4 || is_in_outer_stage before bs || not (starts_with_separator bs (drop (places_in (parts_of s).branches) later)))
 
--- F2 at a place: a fork in a branch, or one that no separator follows directly
+-- F2 at a place: a fork of the fifth level, one in the stage of the fork around it, or one that no separator follows directly
 abbrev pub breaks_f2 : Pipe → List Place → Place → Bool
-breaks_f2 p before x = at_statement false (λ s bs. is_wrong_fork (places_after p before) s bs) x
+breaks_f2 p before x = at_statement false (λ s bs. is_wrong_fork before (places_after p before) s bs) x
 
 -- whether a place is a delayed read of this memory
 abbrev pub breaks_fetch_order : List ℕ → Place → Bool
@@ -77,7 +79,7 @@ breaks_f3 p before x = at_statement false (λ s bs. fetches (is_wrong_fetch p be
 -- whether the memory of this name is delayed
 abbrev pub is_delayed_memory : List Mem → List ℕ → Bool
 is_delayed_memory [] m = false
-is_delayed_memory (x ∷ xs) m = if bytes_eq x.name.name m then x.delayed else is_delayed_memory xs m
+is_delayed_memory (x ∷ xs) m = if bytes_eq x.name.name m then is_delayed x.kind else is_delayed_memory xs m
 
 -- whether a statement is a comb read of a delayed memory, or a delayed read of a comb one
 abbrev pub is_wrong_read : List Mem → Stmt → Bool
@@ -93,6 +95,7 @@ is_wrong_read ms (Release _ _) = false
 is_wrong_read ms (If _ _ _ _) = false
 is_wrong_read ms (Call _ _) = false
 is_wrong_read ms (Verify _ _ _) = false
+is_wrong_read ms (Update _ _ _) = false
 is_wrong_read ms (SpecCheck _) = false
 is_wrong_read ms (SpecBarrier _) = false
 

@@ -1,6 +1,6 @@
 -- Statements of one form, asked by a test of what stands there. Each form is named: a new one has to be spoken of here.
 use Rattle.std.specs.Prelude.{Bool, true, false}
-use Rattle.pdl_semantics.specs.Tree.{Span, Ident, Expr, Location, Kind, Stmt, Separator, CombRead, Bind, SpecCall, DelayedRead, Write, Reserve, Block, Release, If, Call, Verify, SpecCheck, SpecBarrier}
+use Rattle.pdl_semantics.specs.Tree.{Span, Ident, Expr, Location, Kind, Stmt, Separator, CombRead, Bind, SpecCall, DelayedRead, Write, Reserve, Block, Release, If, Call, Verify, Update, SpecCheck, SpecBarrier}
 
 -- what is told of an `if`, by its span and its condition; of any other statement the same
 abbrev pub of_if : {T : Type 0} → T → (Span → Expr → T) → Stmt → T
@@ -16,6 +16,7 @@ of_if other told (Release _ _) = other
 of_if other told (If s c _ _) = told s c
 of_if other told (Call _ _) = other
 of_if other told (Verify _ _ _) = other
+of_if other told (Update _ _ _) = other
 of_if other told (SpecCheck _) = other
 of_if other told (SpecBarrier _) = other
 
@@ -33,6 +34,7 @@ separates (Release _ _) = false
 separates (If _ _ _ _) = false
 separates (Call _ _) = false
 separates (Verify _ _ _) = false
+separates (Update _ _ _) = false
 separates (SpecCheck _) = false
 separates (SpecBarrier _) = false
 
@@ -50,6 +52,7 @@ fetches test (Release _ _) = false
 fetches test (If _ _ _ _) = false
 fetches test (Call _ _) = false
 fetches test (Verify _ _ _) = false
+fetches test (Update _ _ _) = false
 fetches test (SpecCheck _) = false
 fetches test (SpecBarrier _) = false
 
@@ -67,6 +70,7 @@ writes test (Release _ _) = false
 writes test (If _ _ _ _) = false
 writes test (Call _ _) = false
 writes test (Verify _ _ _) = false
+writes test (Update _ _ _) = false
 writes test (SpecCheck _) = false
 writes test (SpecBarrier _) = false
 
@@ -84,6 +88,7 @@ reserves test (Release _ _) = false
 reserves test (If _ _ _ _) = false
 reserves test (Call _ _) = false
 reserves test (Verify _ _ _) = false
+reserves test (Update _ _ _) = false
 reserves test (SpecCheck _) = false
 reserves test (SpecBarrier _) = false
 
@@ -101,6 +106,7 @@ releases test (Release _ at) = test at
 releases test (If _ _ _ _) = false
 releases test (Call _ _) = false
 releases test (Verify _ _ _) = false
+releases test (Update _ _ _) = false
 releases test (SpecCheck _) = false
 releases test (SpecBarrier _) = false
 
@@ -118,6 +124,7 @@ guesses test (Release _ _) = false
 guesses test (If _ _ _ _) = false
 guesses test (Call _ _) = false
 guesses test (Verify _ _ _) = false
+guesses test (Update _ _ _) = false
 guesses test (SpecCheck _) = false
 guesses test (SpecBarrier _) = false
 
@@ -135,8 +142,27 @@ verifies test (Release _ _) = false
 verifies test (If _ _ _ _) = false
 verifies test (Call _ _) = false
 verifies test (Verify _ g _) = test g
+verifies test (Update _ _ _) = false
 verifies test (SpecCheck _) = false
 verifies test (SpecBarrier _) = false
+
+-- whether a statement is the `update` of a guess whose name passes the test
+abbrev pub updates : (Ident → Bool) → Stmt → Bool
+updates test (Separator _) = false
+updates test (CombRead _ _ _) = false
+updates test (Bind _ _ _) = false
+updates test (SpecCall _ _ _) = false
+updates test (DelayedRead _ _ _) = false
+updates test (Write _ _ _) = false
+updates test (Reserve _ _ _) = false
+updates test (Block _ _) = false
+updates test (Release _ _) = false
+updates test (If _ _ _ _) = false
+updates test (Call _ _) = false
+updates test (Verify _ _ _) = false
+updates test (Update _ g _) = test g
+updates test (SpecCheck _) = false
+updates test (SpecBarrier _) = false
 
 -- what waits until the thread is known to be wanted
 abbrev pub bars : Stmt → Bool
@@ -152,5 +178,6 @@ bars (Release _ _) = false
 bars (If _ _ _ _) = false
 bars (Call _ _) = false
 bars (Verify _ _ _) = false
+bars (Update _ _ _) = false
 bars (SpecCheck _) = false
 bars (SpecBarrier _) = true

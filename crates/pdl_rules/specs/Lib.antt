@@ -12,3 +12,5 @@ pub mod Speculation
 pub mod Refusal
 pub mod Typed
 pub mod Memories
+pub mod Advice
+pub mod Unbuilt

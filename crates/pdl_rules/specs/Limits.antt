@@ -3,6 +3,7 @@ use Rattle.std.specs.Prelude.{ℕ, Bool, true, false, not, ◌&&◌, ◌||◌, �
 use Rattle.std.specs.List.{list_any}
 use Rattle.std.specs.Option.{is_some}
 use Rattle.pdl_semantics.specs.Tree.{Literal, Stmt, Mem, LockKind, Queue, Bypass, Rename, LockDecl}
+use Rattle.pdl_semantics.specs.Flat.{is_delayed, is_advisory}
 use Rattle.pdl_rules.specs.Places.{Guard, Place, Parameter, Memory, Statement, End, StartClause, at_statement, guard_of, is_among, guards}
 use Rattle.pdl_rules.specs.Forms.{of_if, separates}
 use Rattle.pdl_rules.specs.Parts.{parts_of, some_literal, is_some_and}
@@ -79,7 +80,7 @@ is_depth d = list_any (λ n. n == d) depths
 abbrev pub is_size : ℕ → Bool
 is_size s = list_any (λ n. n == s) (1 ∷ 2 ∷ 4 ∷ 8 ∷ 16 ∷ [])
 
--- whether a memory of this depth, delayed or not, can have the kind of lock with this size
+-- whether a memory of this depth that isn't advisory, delayed or not, can have the kind of lock with this size
 abbrev pub allows_lock : ℕ → Bool → LockKind → ℕ → Bool
 allows_lock d delayed Queue s = true
 allows_lock d delayed Bypass s = not delayed
@@ -87,7 +88,7 @@ allows_lock d delayed Rename s = not delayed && (nat_le d 64 && nat_le s d)
 
 -- whether a lock has no allowed size, or is none that this memory can have
 abbrev pub is_wrong_lock : Mem → LockDecl → Bool
-is_wrong_lock m l = not (is_size l.size.value && allows_lock m.depth.value m.delayed l.kind l.size.value)
+is_wrong_lock m l = is_advisory m.kind || not (is_size l.size.value && allows_lock m.depth.value (is_delayed m.kind) l.kind l.size.value)
 
 -- whether a memory has a width, a depth or a lock that is not allowed
 abbrev pub is_wrong_memory : Mem → Bool

@@ -1,7 +1,7 @@
 -- The parts of a place that rules look at.
 use Rattle.std.specs.Prelude.{Bool, false, ◌||◌, List, [], ◌∷◌, Option, Some, None}
 use Rattle.std.specs.List.{list_any}
-use Rattle.pdl_semantics.specs.Tree.{Ident, Literal, Expr, Constant, Variable, Slice, Not, Binary, Cat, LessSigned, ZeroExtend, SignExtend, Choose, Location, Stmt, Separator, CombRead, Bind, SpecCall, DelayedRead, Write, Reserve, Block, Release, If, Call, Verify, SpecCheck, SpecBarrier, Stmts}
+use Rattle.pdl_semantics.specs.Tree.{Ident, Literal, Expr, Constant, Variable, Slice, Not, Binary, Cat, LessSigned, ZeroExtend, SignExtend, Choose, Location, Stmt, Separator, CombRead, Bind, SpecCall, DelayedRead, Write, Reserve, Block, Release, If, Call, Verify, Update, SpecCheck, SpecBarrier, Stmts}
 use Rattle.pdl_rules.specs.Places.{Place, Parameter, Memory, Statement, End, StartClause, at_statement}
 
 -- whether an expression or a part of it passes the test
@@ -29,7 +29,7 @@ pub data Expressions : Type 0 where
 pub record StmtParts : Type 0 where
   pub variable : Option Ident  -- that it binds
   pub guess : Option Ident  -- that it makes
-  pub verified : Option Ident  -- the guess that it verifies
+  pub verified : Option Ident  -- the guess that it verifies or replaces
   pub location : Option Location
   pub expressions : Expressions
   pub branches : List Stmts  -- what stands inside it
@@ -52,6 +52,7 @@ parts_of (Release _ at) = record no_parts { location = Some at }
 parts_of (If _ c when otherwise) = record no_parts { expressions = One c; branches = when ∷ otherwise ∷ [] }
 parts_of (Call _ args) = record no_parts { expressions = Arguments args }
 parts_of (Verify _ g args) = record no_parts { verified = Some g; expressions = Arguments args }
+parts_of (Update _ g args) = record no_parts { verified = Some g; expressions = Arguments args }
 parts_of (SpecCheck _) = no_parts
 parts_of (SpecBarrier _) = no_parts
 

@@ -1,7 +1,7 @@
 -- The places of a source in text order, and its paths: the ways in which its `if`s can go.
 use Rattle.std.specs.Prelude.{ℕ, suc, Bool, true, false, not, ◌&&◌, List, [], ◌∷◌, ◌++◌, map, filter, fold, drop, length, if◌then◌else◌, ◌==◌, bytes_eq}
 use Rattle.std.specs.List.{list_any, list_all}
-use Rattle.pdl_semantics.specs.Tree.{Span, Expr, Constant, Variable, Slice, Not, Binary, Cat, LessSigned, ZeroExtend, SignExtend, Choose, Stmt, Separator, CombRead, Bind, SpecCall, DelayedRead, Write, Reserve, Block, Release, If, Call, Verify, SpecCheck, SpecBarrier, Stmts, Nil, Cons, Param, Mem, Start, Pipe}
+use Rattle.pdl_semantics.specs.Tree.{Span, Expr, Constant, Variable, Slice, Not, Binary, Cat, LessSigned, ZeroExtend, SignExtend, Choose, Stmt, Separator, CombRead, Bind, SpecCall, DelayedRead, Write, Reserve, Block, Release, If, Call, Verify, Update, SpecCheck, SpecBarrier, Stmts, Nil, Cons, Param, Mem, Start, Pipe}
 use Rattle.pdl_rules.specs.Forms.{of_if}
 
 -- GUARDS
@@ -77,6 +77,7 @@ abbrev mutual
       ++ statements (bs ++ record { guard = guard_of s c; truth = false; inside = otherwise } ∷ []) otherwise)
   with_inner bs (Call s args) = Statement (Call s args) bs ∷ []
   with_inner bs (Verify s g args) = Statement (Verify s g args) bs ∷ []
+  with_inner bs (Update s g args) = Statement (Update s g args) bs ∷ []
   with_inner bs (SpecCheck s) = Statement (SpecCheck s) bs ∷ []
   with_inner bs (SpecBarrier s) = Statement (SpecBarrier s) bs ∷ []
 
@@ -111,6 +112,7 @@ span_of (Release s _) = s
 span_of (If s _ _ _) = s
 span_of (Call s _) = s
 span_of (Verify s _ _) = s
+span_of (Update s _ _) = s
 span_of (SpecCheck s) = s
 span_of (SpecBarrier s) = s
 

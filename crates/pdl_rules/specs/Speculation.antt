@@ -1,9 +1,9 @@
--- Guesses: rules S2 to S5. V is the stage of the first `verify` in the text.
-use Rattle.std.specs.Prelude.{ℕ, Bool, true, false, not, ◌&&◌, ◌==◌, nat_lt, List, [], ◌∷◌, bytes_eq, Option}
+-- Guesses: rules S2 to S7. V is the stage of the first `verify` in the text.
+use Rattle.std.specs.Prelude.{ℕ, Bool, true, false, not, ◌&&◌, ◌||◌, ◌==◌, nat_lt, List, [], ◌∷◌, bytes_eq, Option}
 use Rattle.std.specs.List.{list_any}
-use Rattle.pdl_semantics.specs.Tree.{W, Stmt, Separator, CombRead, Bind, SpecCall, DelayedRead, Write, Reserve, Block, Release, If, Call, Verify, SpecCheck, SpecBarrier, Pipe}
+use Rattle.pdl_semantics.specs.Tree.{W, Stmt, Separator, CombRead, Bind, SpecCall, DelayedRead, Write, Reserve, Block, Release, If, Call, Verify, Update, SpecCheck, SpecBarrier, Pipe}
 use Rattle.pdl_rules.specs.Places.{Place, Guard, at_statement, on_path, paths, on_some_path, places}
-use Rattle.pdl_rules.specs.Forms.{releases, guesses, verifies, bars}
+use Rattle.pdl_rules.specs.Forms.{releases, guesses, verifies, updates, bars}
 use Rattle.pdl_rules.specs.Parts.{is_some_and}
 use Rattle.pdl_rules.specs.Locks.{hold_after, is_held_for}
 use Rattle.pdl_rules.specs.Stages.{stage_in, stage_of, first_stage, stages_that, is_elsewhere}
@@ -73,6 +73,7 @@ acts_unsure (Release _ _) = false
 acts_unsure (If _ _ _ _) = false
 acts_unsure (Call _ _) = false
 acts_unsure (Verify _ _ _) = false
+acts_unsure (Update _ _ _) = false
 acts_unsure (SpecCheck _) = false
 acts_unsure (SpecBarrier _) = false
 
@@ -94,6 +95,7 @@ checks (Release _ _) = false
 checks (If _ _ _ _) = false
 checks (Call _ _) = false
 checks (Verify _ _ _) = false
+checks (Update _ _ _) = false
 checks (SpecCheck _) = true
 checks (SpecBarrier _) = true
 
@@ -110,3 +112,34 @@ abbrev pub breaks_s5 : Pipe → List Place → Place → Bool
 breaks_s5 p before x =
     needs_check x && is_before_verify p (stage_of before x)
     && list_any (λ path. on_path path x && not (is_checked path before (stage_of before x))) (paths p)
+
+-- whether a place is an `update`
+abbrev pub is_update : Place → Bool
+is_update x = at_statement false (λ s bs. updates (λ g. true) s) x
+
+-- whether a place is the `spec_call` of this guess
+abbrev pub is_guess_of : List ℕ → Place → Bool
+is_guess_of guess x = at_statement false (λ s bs. guesses (λ g. bytes_eq g.name guess) s) x
+
+-- the stages in which a path has made a guess, by each `spec_call` of it before
+abbrev pub guess_stages : List Guard → List Place → List ℕ → List ℕ
+guess_stages path before guess = stages_that (λ y. on_path path y && is_guess_of guess y) [] before
+
+-- whether an `update` of a guess, in stage k, isn't after the stage of its `spec_call`, isn't before V, or is the path's second one
+abbrev pub updates_amiss : Pipe → List Guard → List Place → ℕ → List ℕ → Bool
+updates_amiss p path before k guess =
+    list_any (λ j. not (nat_lt j k)) (guess_stages path before guess)
+    || is_some_and (λ v. not (nat_lt k v)) (verify_stage p)
+    || list_any (λ y. on_path path y && is_update y) before
+
+-- whether a place is such an `update` on the path
+abbrev pub is_amiss : Pipe → List Guard → List Place → Place → Bool
+is_amiss p path before x = at_statement false (λ s bs. updates (λ g. updates_amiss p path before (stage_in before bs) g.name) s) x
+
+-- S6 at a place: an `update` that on some path isn't in a later stage than its guess's `spec_call`, isn't in a stage before V, or is the second one
+abbrev pub breaks_s6 : Pipe → List Place → Place → Bool
+breaks_s6 p before x = list_any (λ path. on_path path x && is_amiss p path before x) (paths p)
+
+-- S7: an `update` in another stage than the first one
+abbrev pub breaks_s7 : List Place → Place → Bool
+breaks_s7 before x = is_update x && is_elsewhere is_update before (stage_of before x)

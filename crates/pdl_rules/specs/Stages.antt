@@ -1,7 +1,7 @@
 -- Stages: rules L2 and L8. The stage of a place goes by the text: the k-th separator begins stage k.
 use Rattle.std.specs.Prelude.{ℕ, suc, Bool, true, false, not, ◌&&◌, ◌==◌, nat_lt, List, [], ◌∷◌, ◌++◌, count_by, if◌then◌else◌, bytes_eq, Option, Some, None}
 use Rattle.std.specs.List.{list_any}
-use Rattle.pdl_semantics.specs.Tree.{Stmt, Separator, CombRead, Bind, SpecCall, DelayedRead, Write, Reserve, Block, Release, If, Call, Verify, SpecCheck, SpecBarrier, Pipe}
+use Rattle.pdl_semantics.specs.Tree.{Stmt, Separator, CombRead, Bind, SpecCall, DelayedRead, Write, Reserve, Block, Release, If, Call, Verify, Update, SpecCheck, SpecBarrier, Pipe}
 use Rattle.pdl_rules.specs.Places.{Place, Guard, Branch, at_statement, same_guard, same_truth, on_path, paths, places, places_after}
 use Rattle.pdl_rules.specs.Forms.{reserves, releases}
 use Rattle.pdl_rules.specs.Parts.{is_some_and}
@@ -79,6 +79,7 @@ moves_stage before k (Release _ at) = is_elsewhere (releases_memory at.mem.name)
 moves_stage before k (If _ _ _ _) = false
 moves_stage before k (Call _ _) = false
 moves_stage before k (Verify _ _ _) = false
+moves_stage before k (Update _ _ _) = false
 moves_stage before k (SpecCheck _) = false
 moves_stage before k (SpecBarrier _) = false
 
@@ -110,6 +111,7 @@ binds_late p k l (Release _ _) = false
 binds_late p k l (If _ _ _ _) = false
 binds_late p k l (Call _ _) = false
 binds_late p k l (Verify _ _ _) = false
+binds_late p k l (Update _ _ _) = false
 binds_late p k l (SpecCheck _) = false
 binds_late p k l (SpecBarrier _) = false
 

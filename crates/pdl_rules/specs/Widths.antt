@@ -2,8 +2,8 @@
 use Rattle.std.specs.Prelude.{ℕ, ◌+◌, ◌^◌, Bool, true, false, not, ◌||◌, ◌==◌, nat_eq, nat_lt, nat_le, List, [], ◌∷◌, ◌++◌, map, fold, count_by, if◌then◌else◌, bytes_eq, Option, Some, None}
 use Rattle.std.specs.Cmp.Lexicographic.{pointwise}
 use Rattle.std.specs.List.{list_any}
-use Rattle.pdl_semantics.specs.Tree.{Literal, Expr, Constant, Variable, Slice, Not, Binary, Cat, LessSigned, ZeroExtend, SignExtend, Choose, Location, Stmt, Separator, CombRead, Bind, SpecCall, DelayedRead, Write, Reserve, Block, Release, If, Call, Verify, SpecCheck, SpecBarrier, Param, Mem, Pipe}
-use Rattle.pdl_semantics.specs.Flatten.{Var, var_width, mem_width, width_of}
+use Rattle.pdl_semantics.specs.Tree.{Literal, Expr, Constant, Variable, Slice, Not, Binary, Cat, LessSigned, ZeroExtend, SignExtend, Choose, Location, Stmt, Separator, CombRead, Bind, SpecCall, DelayedRead, Write, Reserve, Block, Release, If, Call, Verify, Update, SpecCheck, SpecBarrier, Param, Mem, Pipe}
+use Rattle.pdl_semantics.specs.Flatten.{Var, var_width, mem_width, width_of, is_advisory_mem, is_advised}
 use Rattle.pdl_rules.specs.Places.{Place, Parameter, Memory, Statement, End, StartClause, at_statement, places}
 use Rattle.pdl_rules.specs.Forms.{of_if, writes}
 use Rattle.pdl_rules.specs.Parts.{NoExpressions, One, Arguments, Expressions, parts_of, some_part, some_expr, some_literal, some_location}
@@ -12,16 +12,16 @@ use Rattle.pdl_rules.specs.Limits.{depths}
 -- VARIABLES
 
 -- the variables and one more, unless it is defined already
-abbrev pub with_variable : List Var → List ℕ → ℕ → List Var
-with_variable vs x w = if list_any (λ (v : Var). bytes_eq x v.name) vs then vs else vs ++ record { name = x; width = w } ∷ []
+abbrev pub with_variable : List Var → List ℕ → ℕ → Bool → List Var
+with_variable vs x w advised = if list_any (λ (v : Var). bytes_eq x v.name) vs then vs else vs ++ record { name = x; width = w; advised = advised } ∷ []
 
 -- the variables after a statement: a binding has its expression's width, a read its memory's
 abbrev pub after_statement : List Mem → List Var → Stmt → List Var
 after_statement ms vs (Separator _) = vs
-after_statement ms vs (CombRead _ x at) = with_variable vs x.name (mem_width ms at.mem.name)
-after_statement ms vs (Bind _ x e) = with_variable vs x.name (width_of vs e)
+after_statement ms vs (CombRead _ x at) = with_variable vs x.name (mem_width ms at.mem.name) (is_advisory_mem ms at.mem.name)
+after_statement ms vs (Bind _ x e) = with_variable vs x.name (width_of vs e) (is_advised vs e)
 after_statement ms vs (SpecCall _ _ _) = vs
-after_statement ms vs (DelayedRead _ x at) = with_variable vs x.name (mem_width ms at.mem.name)
+after_statement ms vs (DelayedRead _ x at) = with_variable vs x.name (mem_width ms at.mem.name) false
 after_statement ms vs (Write _ _ _) = vs
 after_statement ms vs (Reserve _ _ _) = vs
 after_statement ms vs (Block _ _) = vs
@@ -29,12 +29,13 @@ after_statement ms vs (Release _ _) = vs
 after_statement ms vs (If _ _ _ _) = vs
 after_statement ms vs (Call _ _) = vs
 after_statement ms vs (Verify _ _ _) = vs
+after_statement ms vs (Update _ _ _) = vs
 after_statement ms vs (SpecCheck _) = vs
 after_statement ms vs (SpecBarrier _) = vs
 
 -- the variables after a place
 abbrev pub after_place : List Mem → List Var → Place → List Var
-after_place ms vs (Parameter a) = with_variable vs a.name.name a.width.value
+after_place ms vs (Parameter a) = with_variable vs a.name.name a.width.value false
 after_place ms vs (Memory _) = vs
 after_place ms vs (Statement s _) = after_statement ms vs s
 after_place ms vs (End _) = vs

@@ -1,10 +1,13 @@
 -- Counts of separators and of places inside branches.
-use Rattle.std.proofs.Common.{◌≡◌, refl, sym, ap, ap₂, ◌∙◌, ℕ, zero, suc, ◌+◌, ◌-◌, ◌==◌, Bool, true, false, ◌||◌, ◌<◌, List, [], ◌∷◌, ◌++◌, map, drop, get_or, length, arith, length-append}
+use Rattle.std.proofs.Common.{◌≡◌, refl, sym, ap, ap₂, ◌∙◌, ℕ, zero, suc, ◌+◌, ◌-◌, ◌==◌, Bool, true, false, ◌||◌, ◌<◌, List, [], ◌∷◌, ◌++◌, map, take, drop, get_or, length, arith, length-append}
 use Rattle.std.specs.List.{list_any}
+use Rattle.std.proofs.lemmas.Bool.{true≢false}
+use Rattle.std.proofs.lemmas.List.{length-map}
 use Rattle.pdl_semantics.specs.Tree.{Span, Expr, Stmt, If, Stmts, Nil, Cons}
 use Rattle.pdl_rules.specs.Places.{Place, Branch, guard_of, with_inner, statements}
-use Rattle.pdl_rules.specs.Limits.{is_separator}
-use Rattle.pdl_rules.specs.Forks.{starts_with_separator}
+use Rattle.pdl_rules.specs.Stages.{stage_in}
+use Rattle.pdl_rules.specs.Forks.{starts_with_separator, is_in_outer_stage}
+use Rattle.pdl_rules_forks.specs.Order.{is_cut_in}
 use Rattle.pdl_word.proofs.Lists.{drop_next}
 
 -- PLACES
@@ -40,23 +43,45 @@ left_if sp c when otherwise left =
 -- THE PLACE AFTER
 
 -- the n-th place is the first of those after
-first_after : {A : Type 0} (f : A → Place) (xs : List A) (n : ℕ) (x : A) → n < length xs → x ≡ get_or xs n x
-    → starts_with_separator (drop n (map f xs)) ≡ is_separator (f x)
-first_after f [] n x h e = absurd (omega arith)
-first_after f (y ∷ ys) zero x h e = ap (λ z. is_separator (f z)) (sym e)
-first_after f (y ∷ ys) (suc n) x h e = first_after f ys n x (omega arith) e
+first_after : {A : Type 0} (f : A → Place) (bs : List Branch) (xs : List A) (n : ℕ) (x : A) → n < length xs → x ≡ get_or xs n x
+    → starts_with_separator bs (drop n (map f xs)) ≡ is_cut_in bs (f x)
+first_after f bs [] n x h e = absurd (omega arith)
+first_after f bs (y ∷ ys) zero x h e = ap (λ z. is_cut_in bs (f z)) (sym e)
+first_after f bs (y ∷ ys) (suc n) x h e = first_after f bs ys n x (omega arith) e
 
--- the places that are left, where there are any, start with a separator exactly if the first of them is one
-pub next_is : {A : Type 0} (f : A → Place) (xs : List A) (n left : ℕ) (x : A)
+-- the places that are left, where there are any, start with a separator in these branches exactly if the first of them is one
+pub next_is : {A : Type 0} (f : A → Place) (bs : List Branch) (xs : List A) (n left : ℕ) (x : A)
     → left ≡ length xs - n → (left ≡ 0 → ⊥) → x ≡ get_or xs (length xs - left) x
-    → starts_with_separator (drop n (map f xs)) ≡ is_separator (f x)
-next_is f xs n left x is other e = first_after f xs n x low (e ∙ ap (λ k. get_or xs k x) same)
+    → starts_with_separator bs (drop n (map f xs)) ≡ is_cut_in bs (f x)
+next_is f bs xs n left x is other e = first_after f bs xs n x low (e ∙ ap (λ k. get_or xs k x) same)
   where
     low : n < length xs
     low = grind (arith, other, is)
 
     same : length xs - left ≡ n
     same = omega (arith, is, low)
+
+-- OUTER BRANCHES
+
+-- the first elements, each viewed, are the first of the viewed ones
+pub take_map : {A B : Type 0} (f : A → B) (n : ℕ) (xs : List A) → map f (take n xs) ≡ take n (map f xs)
+take_map f zero xs = refl
+take_map f (suc n) [] = refl
+take_map f (suc n) (x ∷ xs) = ap (λ ys. f x ∷ ys) (take_map f n xs)
+
+-- all elements but the last, as views
+pub all_but_last : {A B : Type 0} (f : A → B) (x : A) (xs : List A) → map f (take (length (x ∷ xs) - 1) (x ∷ xs)) ≡ take (length (map f xs)) (map f (x ∷ xs))
+all_but_last f x xs =
+    take_map f (length (x ∷ xs) - 1) (x ∷ xs)
+    ∙ ap (λ n. take n (map f (x ∷ xs))) (let e = length-map xs f in let same : length (x ∷ xs) - 1 ≡ length (map f xs) = omega (arith, e) in same)
+
+-- whether what stands in some branches stands in the stage of the fork around it, where it stands in one at least
+pub outer_stage : {A : Type 0} (f : A → Branch) (before : List Place) (xs : List A) (empty : Bool) (m n : ℕ)
+    → empty ≡ (length xs == 0) → empty ≡ false
+    → m ≡ stage_in before (map f xs) → n ≡ stage_in before (map f (take (length xs - 1) xs))
+    → (m == n) ≡ is_in_outer_stage before (map f xs)
+outer_stage f before [] empty m n e g em en = absurd (true≢false (sym e ∙ g))
+outer_stage f before (x ∷ xs) empty m n e g em en = ap₂ (λ i j. i == j) em (en ∙ ap (stage_in before) (all_but_last f x xs))
 
 -- ONE OF SOME
 

@@ -1,23 +1,30 @@
 -- Rules F1 to F5 in their order.
-use Rattle.std.specs.Prelude.{ℕ, ◌+◌, Bool, not, ◌&&◌, ◌||◌, List, [], ◌∷◌, ◌++◌, if◌then◌else◌, drop, length, Option, Some, None}
+use Rattle.std.specs.Prelude.{ℕ, ◌+◌, Bool, not, ◌&&◌, ◌||◌, ◌==◌, List, [], ◌∷◌, ◌++◌, if◌then◌else◌, drop, length, Option, Some, None}
 use Rattle.pdl_kit.specs.declared.rule.Rule.{Rule}
 use Rattle.pdl_kit.specs.declared.rule.Rule.TheVariants as rules
 use Rattle.pdl_semantics.specs.Tree.{Stmts, Pipe}
 use Rattle.pdl_rules.specs.Places.{Place, Branch, line_of, statements}
-use Rattle.pdl_rules.specs.Forks.{holds_separator, starts_with_separator, is_in_branch, breaks_f1, breaks_f2, breaks_f3, breaks_f4}
+use Rattle.pdl_rules.specs.Limits.{is_separator}
+use Rattle.pdl_rules.specs.Stages.{branches_of, are_outer}
+use Rattle.pdl_rules.specs.Forks.{holds_separator, starts_with_separator, is_in_outer_stage, breaks_f1, breaks_f2, breaks_f3, breaks_f4}
 use Rattle.pdl_rules.specs.Locks.{breaks_f5}
 use Rattle.pdl_rules.specs.Refusal.{Refused, refused_at}
 use Rattle.pdl_rules_forks.specs.declared.scan.ForkRule.{ForkRule}
 use Rattle.pdl_rules_forks.specs.declared.scan.ForkRule.TheVariants.{F1, F2, F3, F4, F5}
 
--- no separator follows what stands in both branches of an `if`, where these places stand after the `if`
-abbrev pub is_unfollowed : Stmts → Stmts → List Place → Bool
-is_unfollowed when otherwise later = not (starts_with_separator (drop (length (statements [] when) + (length (statements [] otherwise) + 0)) later))
+-- whether a place is a separator that stands in just these branches
+abbrev pub is_cut_in : List Branch → Place → Bool
+is_cut_in bs x = is_separator x && (are_outer (branches_of x) bs && are_outer bs (branches_of x))
 
--- an `if` with these branches is a fork inside a branch, or an unfollowed one
-abbrev pub is_wrong_fork : Stmts → Stmts → List Branch → List Place → Bool
-is_wrong_fork when otherwise bs later =
-    (holds_separator when || holds_separator otherwise) && (is_in_branch bs || is_unfollowed when otherwise later)
+-- no separator in these branches follows what stands in both branches of an `if`, where these places stand after the `if`
+abbrev pub is_unfollowed : Stmts → Stmts → List Branch → List Place → Bool
+is_unfollowed when otherwise bs later =
+    not (starts_with_separator bs (drop (length (statements [] when) + (length (statements [] otherwise) + 0)) later))
+
+-- an `if` with these branches, with these places before and after it, is a fork of the fifth level, one in the stage of the fork around it, or an unfollowed one
+abbrev pub is_wrong_fork : Stmts → Stmts → List Place → List Branch → List Place → Bool
+is_wrong_fork when otherwise before bs later =
+    (holds_separator when || holds_separator otherwise) && (length bs == 4 || is_in_outer_stage before bs || is_unfollowed when otherwise bs later)
 
 -- the rules F1 to F5, the lowest first
 abbrev pub order : List ForkRule

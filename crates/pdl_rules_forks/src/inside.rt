@@ -22,7 +22,8 @@ fn is_cut(s: &Stmt) -> bool
         Stmt::CombRead { .. } | Stmt::Bind { .. } | Stmt::SpecCall { .. } => false,
         Stmt::DelayedRead { .. } | Stmt::Write { .. } | Stmt::Reserve { .. } => false,
         Stmt::Block { .. } | Stmt::Release { .. } | Stmt::Call { .. } => false,
-        Stmt::Verify { .. } | Stmt::SpecCheck { .. } | Stmt::SpecBarrier { .. } => false,
+        Stmt::Verify { .. } | Stmt::Update { .. } | Stmt::SpecCheck { .. } => false,
+        Stmt::SpecBarrier { .. } => false,
     }
 }
 
@@ -57,7 +58,8 @@ fn left_after_one(s: &Stmt, left: usize) -> usize
         Stmt::Separator { .. } | Stmt::CombRead { .. } | Stmt::Bind { .. } => after,
         Stmt::SpecCall { .. } | Stmt::DelayedRead { .. } | Stmt::Write { .. } => after,
         Stmt::Reserve { .. } | Stmt::Block { .. } | Stmt::Release { .. } => after,
-        Stmt::Call { .. } | Stmt::Verify { .. } | Stmt::SpecCheck { .. } => after,
+        Stmt::Call { .. } | Stmt::Verify { .. } | Stmt::Update { .. } => after,
+        Stmt::SpecCheck { .. } => after,
         Stmt::SpecBarrier { .. } => after,
     }
 }

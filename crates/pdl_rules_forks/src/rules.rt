@@ -8,13 +8,13 @@ ghost use Rattle.pdl_rules.specs.Forks as forks;
 ghost use Rattle.pdl_rules.specs.Locks as locks;
 ghost use Rattle.pdl_paths.specs.Actions.{place_view};
 ghost use Rattle.pdl_paths.specs.Guards.{branch_view};
-ghost use Rattle.pdl_rules_forks.specs.Order.{is_wrong_fork as spec_wrong_fork, is_unfollowed as spec_unfollowed};
+ghost use Rattle.pdl_rules_forks.specs.Order.{is_wrong_fork as spec_wrong_fork, is_unfollowed as spec_unfollowed, is_cut_in as spec_cut_in};
 
 use crate::inside::{holds_separator, left_after};
 use pdl_kit::Name;
-use pdl_paths::{Action, Branch, Place, is_separator};
-use pdl_rules_stages::{begun_before, stage_in};
-use pdl_syntax_tree::{Mem, Pipe, Stmt};
+use pdl_paths::{Action, Branch, Place, branches_at, is_separator};
+use pdl_rules_stages::{are_outer, begun_before, stage_in};
+use pdl_syntax_tree::{Mem, Pipe, Stmt, is_advisory};
 
 // Whether one of these branches holds a separator.
 fn is_some_cut(branches: &[Branch<'_>]) -> bool
@@ -33,13 +33,11 @@ fn is_some_cut(branches: &[Branch<'_>]) -> bool
 pub fn breaks_f1(place: &Place<'_>) -> bool
     ensures { result ≡ forks.breaks_f1 (place_view place.now) }
 {
+    let branches = place.branches.as_slice();
     match place.action {
-        Action::SpecCall(_, _) | Action::Reserve(_, _) | Action::Release(_) => {
-            is_some_cut(place.branches.as_slice())
-        }
-        Action::Call(_) | Action::Verify(_, _) | Action::SpecCheck | Action::SpecBarrier => {
-            is_some_cut(place.branches.as_slice())
-        }
+        Action::SpecCall(_, _) | Action::Reserve(_, _) => is_some_cut(branches),
+        Action::Release(_) | Action::Call(_) | Action::Verify(_, _) => is_some_cut(branches),
+        Action::Update(_, _) | Action::SpecCheck | Action::SpecBarrier => is_some_cut(branches),
         Action::Parameter(_) | Action::Memory(_) | Action::Separator => false,
         Action::CombRead(_, _) | Action::Bind(_, _) | Action::DelayedRead(_, _) => false,
         Action::Write(_, _) | Action::Block(_) | Action::If(_, _, _) => false,
@@ -47,46 +45,74 @@ pub fn breaks_f1(place: &Place<'_>) -> bool
     }
 }
 
-// Whether no separator follows what stands inside an `if`, where `later` are the places after the `if`.
-fn is_unfollowed(when: &[Stmt], otherwise: &[Stmt], later: &[Place<'_>]) -> bool
-    ensures { result ≡ spec_unfollowed (stmts_view when.now) (stmts_view otherwise.now)
-        (map place_view later.now) }
+// Whether a place is a separator that stands in just these branches.
+fn is_cut_in(branches: &[Branch<'_>], place: &Place<'_>) -> bool
+    ensures { result ≡ spec_cut_in (map branch_view branches.now) (place_view place.now) }
 {
-    let left = left_after(otherwise, left_after(when, later.len()));
-    if left == 0 {
-        return true;
-    }
-    !is_separator(&later[later.len() - left])
+    is_separator(place)
+        && (are_outer(branches_at(place), branches) && are_outer(branches, branches_at(place)))
 }
 
-// Whether an `if` with these branches is a fork that stands inside a branch, or that no separator follows.
-fn is_wrong_fork(
+// Whether no separator in these branches follows what stands inside an `if`, where `later` are the places after the `if`.
+fn is_unfollowed(
     when: &[Stmt],
     otherwise: &[Stmt],
     branches: &[Branch<'_>],
     later: &[Place<'_>],
 ) -> bool
-    ensures { result ≡ spec_wrong_fork (stmts_view when.now) (stmts_view otherwise.now)
+    ensures { result ≡ spec_unfollowed (stmts_view when.now) (stmts_view otherwise.now)
         (map branch_view branches.now) (map place_view later.now) }
 {
-    (holds_separator(when) || holds_separator(otherwise))
-        && (!branches.is_empty() || is_unfollowed(when, otherwise, later))
+    let left = left_after(otherwise, left_after(when, later.len()));
+    if left == 0 {
+        return true;
+    }
+    !is_cut_in(branches, &later[later.len() - left])
 }
 
-/// Whether the place, with these places after it, is a fork inside a branch, or one that no separator follows directly.
-pub fn breaks_f2(place: &Place<'_>, later: &[Place<'_>]) -> bool
-    ensures { (p : tree.Pipe) (before : List spec.Place) →
-        spec.places_after p before ≡ map place_view later.now →
-        result ≡ forks.breaks_f2 p before (place_view place.now) }
+// Whether what stands in these branches stands in the stage of the fork around it.
+fn is_in_outer_stage(before: &[Place<'_>], branches: &[Branch<'_>]) -> bool
+    ensures { result ≡ forks.is_in_outer_stage (map place_view before.now)
+        (map branch_view branches.now) }
+{
+    if branches.is_empty() {
+        return false;
+    }
+    stage_in(before, branches) == stage_in(before, &branches[..branches.len() - 1])
+}
+
+// Whether an `if` with these branches is a fork of the fifth level, one in the stage of the fork around it, or one that no separator follows.
+fn is_wrong_fork(
+    when: &[Stmt],
+    otherwise: &[Stmt],
+    before: &[Place<'_>],
+    branches: &[Branch<'_>],
+    later: &[Place<'_>],
+) -> bool
+    ensures { result ≡ spec_wrong_fork (stmts_view when.now) (stmts_view otherwise.now)
+        (map place_view before.now) (map branch_view branches.now) (map place_view later.now) }
+{
+    (holds_separator(when) || holds_separator(otherwise))
+        && (branches.len() == 4
+            || is_in_outer_stage(before, branches)
+            || is_unfollowed(when, otherwise, branches, later))
+}
+
+/// Whether the place, with these places before and after it, is a fork of the fifth level, one in the stage of the fork around it, or one that no separator follows directly.
+pub fn breaks_f2(before: &[Place<'_>], place: &Place<'_>, later: &[Place<'_>]) -> bool
+    ensures { (p : tree.Pipe) →
+        spec.places_after p (map place_view before.now) ≡ map place_view later.now →
+        result ≡ forks.breaks_f2 p (map place_view before.now) (place_view place.now) }
 {
     match place.action {
         Action::If(_, when, otherwise) => {
-            is_wrong_fork(when, otherwise, place.branches.as_slice(), later)
+            is_wrong_fork(when, otherwise, before, place.branches.as_slice(), later)
         }
         Action::Parameter(_) | Action::Memory(_) | Action::Separator => false,
         Action::CombRead(_, _) | Action::Bind(_, _) | Action::SpecCall(_, _) => false,
         Action::DelayedRead(_, _) | Action::Write(_, _) | Action::Reserve(_, _) => false,
         Action::Block(_) | Action::Release(_) | Action::Call(_) | Action::Verify(_, _) => false,
+        Action::Update(_, _) => false,
         Action::SpecCheck | Action::SpecBarrier | Action::End | Action::StartClause(_) => false,
     }
 }
@@ -101,6 +127,7 @@ fn is_fetch_of(memory: &Name, place: &Place<'_>) -> bool
         Action::CombRead(_, _) | Action::Bind(_, _) | Action::SpecCall(_, _) => false,
         Action::Write(_, _) | Action::Reserve(_, _) | Action::If(_, _, _) => false,
         Action::Block(_) | Action::Release(_) | Action::Call(_) | Action::Verify(_, _) => false,
+        Action::Update(_, _) => false,
         Action::SpecCheck | Action::SpecBarrier | Action::End | Action::StartClause(_) => false,
     }
 }
@@ -130,6 +157,7 @@ pub fn breaks_f3(place: &Place<'_>, before: &[Place<'_>], all: &[Place<'_>]) -> 
         Action::CombRead(_, _) | Action::Bind(_, _) | Action::SpecCall(_, _) => false,
         Action::Write(_, _) | Action::Reserve(_, _) | Action::If(_, _, _) => false,
         Action::Block(_) | Action::Release(_) | Action::Call(_) | Action::Verify(_, _) => false,
+        Action::Update(_, _) => false,
         Action::SpecCheck | Action::SpecBarrier | Action::End | Action::StartClause(_) => false,
     }
 }
@@ -140,7 +168,7 @@ fn is_delayed(mems: &[Mem], name: &Name) -> bool
 {
     for mem in mems {
         if mem.name.name == *name {
-            return mem.delayed;
+            return mem.kind.is_delayed();
         }
     }
     false
@@ -158,6 +186,7 @@ pub fn breaks_f4(pipe: &Pipe, place: &Place<'_>) -> bool
         Action::Bind(_, _) | Action::SpecCall(_, _) | Action::Write(_, _) => false,
         Action::Reserve(_, _) | Action::If(_, _, _) => false,
         Action::Block(_) | Action::Release(_) | Action::Call(_) | Action::Verify(_, _) => false,
+        Action::Update(_, _) => false,
         Action::SpecCheck | Action::SpecBarrier | Action::End | Action::StartClause(_) => false,
     }
 }
@@ -174,20 +203,22 @@ fn is_locked(mems: &[Mem], name: &Name) -> bool
     false
 }
 
-/// Whether the place reserves, blocks, writes or releases a memory without lock.
+/// Whether the place reserves, blocks, writes or releases a memory without lock; one that is advisory is written without.
 pub fn breaks_f5(pipe: &Pipe, place: &Place<'_>) -> bool
     ensures { result ≡ locks.breaks_f5 (pipe_view pipe.now) (place_view place.now) }
 {
     let mems = pipe.mems.as_slice();
     match place.action {
-        Action::Write(at, _) => !is_locked(mems, &at.mem.name),
+        Action::Write(at, _) => {
+            !(is_locked(mems, &at.mem.name) || is_advisory(mems, &at.mem.name))
+        }
         Action::Reserve(at, _) | Action::Block(at) | Action::Release(at) => {
             !is_locked(mems, &at.mem.name)
         }
         Action::Parameter(_) | Action::Memory(_) | Action::Separator => false,
         Action::CombRead(_, _) | Action::DelayedRead(_, _) | Action::Bind(_, _) => false,
         Action::SpecCall(_, _) | Action::If(_, _, _) => false,
-        Action::Call(_) | Action::Verify(_, _) => false,
+        Action::Call(_) | Action::Verify(_, _) | Action::Update(_, _) => false,
         Action::SpecCheck | Action::SpecBarrier | Action::End | Action::StartClause(_) => false,
     }
 }

@@ -63,7 +63,7 @@ fn breaks_rule(
 {
     match asked {
         ForkRule::F1 => breaks_f1(place),
-        ForkRule::F2 => breaks_f2(place, later),
+        ForkRule::F2 => breaks_f2(before, place, later),
         ForkRule::F3 => breaks_f3(place, before, all),
         ForkRule::F4 => breaks_f4(pipe, place),
         ForkRule::F5 => breaks_f5(pipe, place),

@@ -1,7 +1,7 @@
 -- What is told of a pipe by rules in their order.
 use Rattle.std.specs.Prelude.{◌≡◌, List, [], ◌∷◌, ◌++◌, None, Result, Ok, Err}
 use Rattle.pdl_kit.specs.declared.rule.Rule.{Rule}
-use Rattle.pdl_kit.specs.declared.rule.Rule.TheVariants.{F1, F2, F3, F4, F5}
+use Rattle.pdl_kit.specs.declared.rule.Rule.TheVariants.{F1, F2, F3, F4, F5, P1}
 use Rattle.pdl_kit.specs.declared.refusal.Refusal.{Refusal}
 use Rattle.pdl_semantics.specs.Tree.{Pipe}
 use Rattle.pdl_rules.specs.Refusal.{first_broken}
@@ -13,11 +13,19 @@ use Rattle.pdl_spec.specs.Plan.{spec_rules}
 abbrev pub fork_rules : List Rule
 fork_rules = F1 ∷ F2 ∷ F3 ∷ F4 ∷ F5 ∷ []
 
--- the rules after those on forks, on widths, and on names
-abbrev pub after_forks : List Rule
-after_forks = lock_rules ++ spec_rules
+-- the rule on advised variables
+abbrev pub advice_rules : List Rule
+advice_rules = P1 ∷ []
 
--- the rules after those on widths: those on forks, locks and guesses
+-- the rules after those on locks: those on guesses and on advised variables
+abbrev pub after_locks : List Rule
+after_locks = spec_rules ++ advice_rules
+
+-- the rules after those on forks: those on locks and all after them
+abbrev pub after_forks : List Rule
+after_forks = lock_rules ++ after_locks
+
+-- the rules after those on widths: those on forks and all after them
 abbrev pub after_widths : List Rule
 after_widths = fork_rules ++ after_forks
 

@@ -12,9 +12,8 @@ ghost use Rattle.pdl_rules_widths.specs.Order.{width_rules};
 ghost use Rattle.pdl_locks.specs.Facts.{AreLines as AreLockLines};
 ghost use Rattle.pdl_locks.specs.Plan.{plan_of};
 ghost use Rattle.pdl_spec.specs.WalkLines.{AreLines as AreSpecLines};
-ghost use Rattle.pdl_spec.specs.Plan.{spec_rules};
 ghost use Rattle.pdl_rules_judge.specs.Known.{AreFindings, IsKnown};
-ghost use Rattle.pdl_rules_judge.specs.OrderedRules.{Answers, fork_rules, after_names, after_widths, after_forks};
+ghost use Rattle.pdl_rules_judge.specs.OrderedRules.{Answers, fork_rules, advice_rules, after_names, after_widths, after_forks, after_locks};
 
 use pdl_kit::{NoMemory, Refusal, Rule};
 use pdl_locks::{LockFacts, LockLines, LockPlan, lock_path_rules, plan_locks};
@@ -24,7 +23,7 @@ use pdl_rules_limits::check_limits;
 use pdl_rules_names::check_names;
 use pdl_rules_stages::{SoughtPlace, first_stage};
 use pdl_rules_walk::{Both, broken_lines};
-use pdl_rules_widths::{Variables, widths_broken};
+use pdl_rules_widths::{Variables, advice_broken, widths_broken};
 use pdl_spec::{SpecLines, SpecPlan, plan_spec, spec_path_rules};
 use pdl_syntax_tree::Pipe;
 use std::alloc::Global;
@@ -45,7 +44,7 @@ pub struct Findings {
     pub plans: Plans,
 }
 
-/// Asks a pipe all rules of the tree, Z2 to S5: the lowest that it breaks, at its lowest place, or what was found of it.
+/// Asks a pipe all rules of the tree, Z2 to P1: the lowest that it breaks, at its lowest place, or what was found of it.
 pub fn judge(alloc: Global, pipe: &Pipe) -> Result<Findings, Refusal>
     ensures answers { Answers (limits ++ after_limits) (pipe_view pipe.now) result }
     ensures found { IfOk result (AreFindings (pipe_view pipe.now)) }
@@ -210,7 +209,7 @@ fn from_lines(
     }
 }
 
-// Refuses by the rules on calls and guesses a pipe whose locks are planned so.
+// Refuses by the rules on calls and guesses, and those after them, a pipe whose locks are planned so.
 fn from_calls(
     pipe: &Pipe,
     known: Known<'_, '_>,
@@ -220,13 +219,28 @@ fn from_calls(
     requires known { IsKnown (pipe_view pipe.now) known }
     requires calls { AreSpecLines (pipe_view pipe.now) on_calls.now }
     requires locks { locks ≡ plan_of (pipe_view pipe.now) }
-    ensures answers { Answers spec_rules (pipe_view pipe.now) result }
+    ensures answers { Answers after_locks (pipe_view pipe.now) result }
     ensures locks { IfOk result (λ plans. plans.locks ≡ plan_of (pipe_view pipe.now)) }
     ensures spec { IfOk result (λ plans. plans.spec ≡ verify_stage (pipe_view pipe.now)) }
 {
     match plan_spec(pipe, known.places, known.facts, known.verified, on_calls) {
-        Ok(spec) => Ok(Plans { locks, spec }),
+        Ok(spec) => from_advice(pipe, known, Plans { locks, spec }),
         Err(refusal) => Err(refusal),
+    }
+}
+
+// Refuses by the rule on advised variables a pipe that is planned so.
+fn from_advice(pipe: &Pipe, known: Known<'_, '_>, plans: Plans) -> Result<Plans, Refusal>
+    requires known { IsKnown (pipe_view pipe.now) known }
+    requires locks { plans.locks ≡ plan_of (pipe_view pipe.now) }
+    requires spec { plans.spec ≡ verify_stage (pipe_view pipe.now) }
+    ensures answers { Answers advice_rules (pipe_view pipe.now) result }
+    ensures locks { IfOk result (λ plans. plans.locks ≡ plan_of (pipe_view pipe.now)) }
+    ensures spec { IfOk result (λ plans. plans.spec ≡ verify_stage (pipe_view pipe.now)) }
+{
+    match advice_broken(pipe, known.variables, known.places) {
+        Some(broken) => Err(refusal_at(broken.rule, broken.line)),
+        None => Ok(plans),
     }
 }
 

@@ -62,7 +62,7 @@ pub fn is_statement(place: &Place<'_>) -> bool
         Action::Separator | Action::CombRead(_, _) | Action::Bind(_, _) => true,
         Action::SpecCall(_, _) | Action::DelayedRead(_, _) | Action::Write(_, _) => true,
         Action::Reserve(_, _) | Action::Block(_) | Action::Release(_) => true,
-        Action::If(_, _, _) | Action::Call(_) | Action::Verify(_, _) => true,
+        Action::If(_, _, _) | Action::Call(_) | Action::Verify(_, _) | Action::Update(_, _) => true,
         Action::SpecCheck | Action::SpecBarrier => true,
     }
 }
@@ -77,7 +77,8 @@ pub fn is_memory(place: &Place<'_>) -> bool
         Action::Bind(_, _) | Action::SpecCall(_, _) | Action::DelayedRead(_, _) => false,
         Action::Write(_, _) | Action::Reserve(_, _) | Action::Block(_) => false,
         Action::Release(_) | Action::If(_, _, _) | Action::Call(_) => false,
-        Action::Verify(_, _) | Action::SpecCheck | Action::SpecBarrier => false,
+        Action::Verify(_, _) | Action::Update(_, _) | Action::SpecCheck => false,
+        Action::SpecBarrier => false,
         Action::End | Action::StartClause(_) => false,
     }
 }
@@ -92,6 +93,7 @@ pub fn is_binding(place: &Place<'_>) -> bool
         Action::Memory(_) | Action::Separator | Action::Write(_, _) => false,
         Action::Reserve(_, _) | Action::Block(_) | Action::Release(_) => false,
         Action::If(_, _, _) | Action::Call(_) | Action::Verify(_, _) => false,
+        Action::Update(_, _) => false,
         Action::SpecCheck | Action::SpecBarrier | Action::End | Action::StartClause(_) => false,
     }
 }

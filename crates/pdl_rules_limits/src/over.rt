@@ -55,6 +55,7 @@ fn is_new_guard(guards: &Guards, place: &Place<'_>) -> bool
         Action::CombRead(_, _) | Action::Bind(_, _) | Action::SpecCall(_, _) => false,
         Action::DelayedRead(_, _) | Action::Write(_, _) | Action::Reserve(_, _) => false,
         Action::Block(_) | Action::Release(_) | Action::Call(_) | Action::Verify(_, _) => false,
+        Action::Update(_, _) => false,
         Action::SpecCheck | Action::SpecBarrier | Action::End | Action::StartClause(_) => false,
     }
 }
@@ -75,6 +76,7 @@ fn has_wrong_size(place: &Place<'_>) -> bool
         Action::Memory(mem) => is_wrong_memory(mem),
         Action::Bind(_, e) | Action::Write(_, e) | Action::If(e, _, _) => in_expr(e),
         Action::SpecCall(_, args) | Action::Call(args) | Action::Verify(_, args) => in_args(args),
+        Action::Update(_, args) => in_args(args),
         Action::StartClause(start) => has_wrong_literal(start.args.as_slice()),
         Action::Separator | Action::CombRead(_, _) | Action::DelayedRead(_, _) => false,
         Action::Reserve(_, _) | Action::Block(_) | Action::Release(_) => false,

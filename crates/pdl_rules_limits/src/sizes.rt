@@ -43,8 +43,14 @@ fn has_wrong_lock(mem: &Mem) -> bool
 fn is_wrong_lock(mem: &Mem, lock: &LockDecl) -> bool
     ensures { result ≡ spec.is_wrong_lock (mem_view mem.now) (lock_view lock.now) }
 {
-    !(is_size(lock.size.value)
-        && allows_lock(mem.depth.value, mem.delayed, lock.kind, lock.size.value))
+    mem.kind.is_advisory()
+        || !(is_size(lock.size.value)
+            && allows_lock(
+                mem.depth.value,
+                mem.kind.is_delayed(),
+                lock.kind,
+                lock.size.value,
+            ))
 }
 
 // How many writes may be pending.
@@ -56,7 +62,7 @@ fn is_size(size: u64) -> bool
     SIZES.iter().any(|n| *n == size)
 }
 
-// Whether a memory can have the lock.
+// Whether a memory that isn't advisory can have the lock.
 fn allows_lock(depth: u64, delayed: bool, kind: LockKind, size: u64) -> bool
     ensures { result ≡ spec.allows_lock depth delayed (lock_kind_view kind) size }
 {

@@ -32,7 +32,8 @@ fn branches_of<'a, 'b>(place: &'a Place<'b>) -> &'a [Branch<'b>]
         Action::SpecCall(_, _) | Action::DelayedRead(_, _) => place.branches.as_slice(),
         Action::Write(_, _) | Action::Reserve(_, _) | Action::Block(_) => place.branches.as_slice(),
         Action::Release(_) | Action::If(_, _, _) | Action::Call(_) => place.branches.as_slice(),
-        Action::Verify(_, _) | Action::SpecCheck | Action::SpecBarrier => place.branches.as_slice(),
+        Action::Verify(_, _) | Action::Update(_, _) => place.branches.as_slice(),
+        Action::SpecCheck | Action::SpecBarrier => place.branches.as_slice(),
     }
 }
 

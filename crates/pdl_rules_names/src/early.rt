@@ -137,7 +137,8 @@ fn is_delayed(place: &Place<'_>) -> bool
         Action::CombRead(_, _) | Action::Bind(_, _) | Action::SpecCall(_, _) => false,
         Action::Write(_, _) | Action::Reserve(_, _) | Action::Block(_) => false,
         Action::Release(_) | Action::If(_, _, _) | Action::Call(_) => false,
-        Action::Verify(_, _) | Action::SpecCheck | Action::SpecBarrier => false,
+        Action::Verify(_, _) | Action::Update(_, _) | Action::SpecCheck => false,
+        Action::SpecBarrier => false,
         Action::End | Action::StartClause(_) => false,
     }
 }

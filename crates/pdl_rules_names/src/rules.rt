@@ -110,7 +110,8 @@ fn names_another_pipe(pipe: &Pipe, place: &Place<'_>) -> bool
         Action::CombRead(_, _) | Action::Bind(_, _) | Action::SpecCall(_, _) => false,
         Action::DelayedRead(_, _) | Action::Write(_, _) | Action::Reserve(_, _) => false,
         Action::Block(_) | Action::Release(_) | Action::If(_, _, _) | Action::Call(_) => false,
-        Action::Verify(_, _) | Action::SpecCheck | Action::SpecBarrier | Action::End => false,
+        Action::Verify(_, _) | Action::Update(_, _) | Action::SpecCheck => false,
+        Action::SpecBarrier | Action::End => false,
     }
 }
 

@@ -43,7 +43,8 @@ pub fn some_use<T: UseTest>(test: &T, place: &Place<'_>) -> bool
         Action::Bind(_, e) | Action::If(e, _, _) => in_expr(test, e),
         Action::Write(at, e) => in_location(test, at) || in_expr(test, e),
         Action::SpecCall(_, args) | Action::Call(args) => in_args(test, args),
-        Action::Verify(guess, args) => test.of_guess(&guess.name) || in_args(test, args),
+        Action::Verify(guess, args) | Action::Update(guess, args) => test.of_guess(&guess.name)
+            || in_args(test, args),
         Action::Parameter(_) | Action::Memory(_) | Action::Separator => false,
         Action::SpecCheck | Action::SpecBarrier | Action::End | Action::StartClause(_) => false,
     }

@@ -1,18 +1,19 @@
 -- The line of the lowest place.
-use Rattle.std.proofs.Common.{◌≡◌, refl, sym, ap, ◌∙◌, subst, ℕ, zero, suc, ◌<◌, Bool, true, false, List, [], ◌∷◌, ◌++◌, take, length, slice_get, Some, None, if◌then◌else◌, arith, append_assoc, append-nil, option_map, ◌⊎◌, inl, inr}
+use Rattle.std.proofs.Common.{◌≡◌, refl, sym, ap, ◌∙◌, subst, ℕ, zero, suc, ◌+◌, ◌<◌, Bool, true, false, List, [], ◌∷◌, ◌++◌, map, take, drop, length, get_or, slice_get, Option, Some, None, if◌then◌else◌, arith, append_assoc, append-nil, option_map, ◌⊎◌, inl, inr}
+use Rattle.std.proofs.lemmas.List.{drop_more}
 use Rattle.std.proofs.Math.Nat.{eq-or-lt_of_le}
 use Rattle.pdl_kit.specs.declared.rule.Rule.{Rule}
 use Rattle.pdl_semantics.specs.Tree.{Pipe}
 use Rattle.pdl_rules.specs.Places.{Place, line_of}
 use Rattle.pdl_rules.specs.Parts.{is_some_and}
-use Rattle.pdl_rules.specs.Refusal.{breaks_rule, broken_line}
-use Rattle.pdl_rules_on_paths.specs.Lowest.{line_where, breaks_at, nth_line, IsLowest}
+use Rattle.pdl_rules.specs.Refusal.{is_refused, broken_line}
+use Rattle.pdl_rules_on_paths.specs.Lowest.{line_where, first_line, breaks_at, nth_line, IsLowest}
 use Rattle.pdl_rules_on_paths.proofs.Nth.{past_last}
 
 -- the lines of a rule of the definitions
-pub rule_lines : (r : Rule) (p : Pipe) (before xs : List Place) → line_where (breaks_rule r p) before xs ≡ broken_line r p before xs
+pub rule_lines : (r : Rule) (p : Pipe) (before xs : List Place) → line_where (is_refused r p) before xs ≡ broken_line r p before xs
 rule_lines r p before [] = refl
-rule_lines r p before (x ∷ xs) = ap (λ later. if breaks_rule r p before x then Some (line_of x) else later) (rule_lines r p (before ++ x ∷ []) xs)
+rule_lines r p before (x ∷ xs) = ap (λ later. if is_refused r p before x then Some (line_of x) else later) (rule_lines r p (before ++ x ∷ []) xs)
 
 -- two tests that agree at every place have the same first line
 pub same_lines : (f g : List Place → Place → Bool)
@@ -22,6 +23,37 @@ same_lines f g same before [] = refl
 same_lines f g same before (x ∷ xs) =
     ap (λ b. if b then Some (line_of x) else line_where f (before ++ x ∷ []) xs) (same before x)
     ∙ ap (λ later. if g before x then Some (line_of x) else later) (same_lines f g same (before ++ x ∷ []) xs)
+
+-- a rule that asks nothing of the places before has the line of the first place that breaks it
+pub first_lines : (f : List Place → Place → Bool) (test : Place → Bool)
+    → ((before : List Place) (x : Place) → f before x ≡ test x) → (before xs : List Place)
+    → first_line test xs ≡ line_where f before xs
+first_lines f test same before [] = refl
+first_lines f test same before (x ∷ xs) =
+    ap (λ b. if b then Some (line_of x) else first_line test xs) (sym (same before x))
+    ∙ ap (λ later. if f before x then Some (line_of x) else later) (first_lines f test same (before ++ x ∷ []) xs)
+
+-- the elements from the k-th on are it and those after it
+from_here : {A : Type 0} (xs : List A) (k : ℕ) (x : A) → k < length xs → x ≡ get_or xs k x → drop k xs ≡ x ∷ drop (k + 1) xs
+from_here xs k x h e = drop_more xs k x h ∙ ap (λ z. z ∷ drop (k + 1) xs) (sym e)
+
+-- where the k-th place passes a test, and none before it does, its line is the first
+pub first_found : {A : Type 0} (test : Place → Bool) (view : A → Place) (xs : List A) (k : ℕ) (x : A) (whole : Option ℕ)
+    → k < length xs → x ≡ get_or xs k x → test (view x) ≡ true → first_line test (map view (drop k xs)) ≡ whole
+    → Some (line_of (view x)) ≡ whole
+first_found test view xs k x whole h e is inv =
+    sym (ap (λ b. if b then Some (line_of (view x)) else first_line test (map view (drop (k + 1) xs))) is)
+    ∙ sym (ap (λ ys. first_line test (map view ys)) (from_here xs k x h e))
+    ∙ inv
+
+-- where the k-th place fails a test, the first line from it on is that after it
+pub first_passed : {A : Type 0} (test : Place → Bool) (view : A → Place) (xs : List A) (k : ℕ) (x : A) (whole : Option ℕ)
+    → k < length xs → x ≡ get_or xs k x → test (view x) ≡ false → first_line test (map view (drop k xs)) ≡ whole
+    → first_line test (map view (drop (k + 1) xs)) ≡ whole
+first_passed test view xs k x whole h e is inv =
+    sym (ap (λ b. if b then Some (line_of (view x)) else first_line test (map view (drop (k + 1) xs))) is)
+    ∙ sym (ap (λ ys. first_line test (map view ys)) (from_here xs k x h e))
+    ∙ inv
 
 -- places after others
 abbrev at_from : (List Place → Place → Bool) → List Place → List Place → ℕ → Bool

@@ -9,6 +9,11 @@ abbrev pub line_where : (List Place → Place → Bool) → List Place → List 
 line_where test before [] = None
 line_where test before (x ∷ xs) = if test before x then Some (line_of x) else line_where test (before ++ x ∷ []) xs
 
+-- the line of the first of these places that passes a test of its own
+abbrev pub first_line : (Place → Bool) → List Place → Option ℕ
+first_line test [] = None
+first_line test (x ∷ xs) = if test x then Some (line_of x) else first_line test xs
+
 -- whether a place breaks a rule on this path; the rule is asked of the path, the places before it and of it
 abbrev pub on_this : (List Guard → List Place → Place → Bool) → List Guard → List Place → Place → Bool
 on_this breaks path before x = on_path path x && breaks path before x

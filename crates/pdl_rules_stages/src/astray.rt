@@ -72,7 +72,7 @@ fn lock_at<'a>(place: &Place<'a>) -> Option<SoughtPlace<'a>>
         Action::Parameter(_) | Action::Memory(_) | Action::Separator => None,
         Action::CombRead(_, _) | Action::Bind(_, _) | Action::DelayedRead(_, _) => None,
         Action::Write(_, _) | Action::SpecCall(_, _) | Action::Block(_) => None,
-        Action::If(_, _, _) | Action::Call(_) | Action::Verify(_, _) => None,
+        Action::If(_, _, _) | Action::Call(_) | Action::Verify(_, _) | Action::Update(_, _) => None,
         Action::SpecCheck | Action::SpecBarrier | Action::End | Action::StartClause(_) => None,
     }
 }
@@ -87,7 +87,7 @@ fn verify_at<'a>(place: &Place<'a>) -> Option<SoughtPlace<'a>>
         Action::CombRead(_, _) | Action::Bind(_, _) | Action::DelayedRead(_, _) => None,
         Action::Write(_, _) | Action::SpecCall(_, _) | Action::Block(_) => None,
         Action::If(_, _, _) | Action::Call(_) | Action::Reserve(_, _) => None,
-        Action::Release(_) | Action::SpecCheck | Action::SpecBarrier => None,
-        Action::End | Action::StartClause(_) => None,
+        Action::Release(_) | Action::Update(_, _) | Action::SpecCheck => None,
+        Action::SpecBarrier | Action::End | Action::StartClause(_) => None,
     }
 }

@@ -50,6 +50,7 @@ fn is_reserve_of(place: &Place<'_>, name: &Name) -> bool
         Action::CombRead(_, _) | Action::Bind(_, _) | Action::DelayedRead(_, _) => false,
         Action::Write(_, _) | Action::SpecCall(_, _) | Action::Block(_) => false,
         Action::Release(_) | Action::If(_, _, _) | Action::Call(_) | Action::Verify(_, _) => false,
+        Action::Update(_, _) => false,
         Action::SpecCheck | Action::SpecBarrier | Action::End | Action::StartClause(_) => false,
     }
 }
@@ -63,7 +64,8 @@ fn is_release_of(place: &Place<'_>, name: &Name) -> bool
         Action::CombRead(_, _) | Action::Bind(_, _) | Action::DelayedRead(_, _) => false,
         Action::Write(_, _) | Action::SpecCall(_, _) | Action::Block(_) => false,
         Action::Reserve(_, _) | Action::If(_, _, _) | Action::Call(_) => false,
-        Action::Verify(_, _) | Action::SpecCheck | Action::SpecBarrier => false,
+        Action::Verify(_, _) | Action::Update(_, _) | Action::SpecCheck => false,
+        Action::SpecBarrier => false,
         Action::End | Action::StartClause(_) => false,
     }
 }
@@ -77,6 +79,7 @@ fn is_verify(place: &Place<'_>) -> bool
         Action::CombRead(_, _) | Action::Bind(_, _) | Action::DelayedRead(_, _) => false,
         Action::Write(_, _) | Action::SpecCall(_, _) | Action::Reserve(_, _) => false,
         Action::Block(_) | Action::Release(_) | Action::If(_, _, _) | Action::Call(_) => false,
-        Action::SpecCheck | Action::SpecBarrier | Action::End | Action::StartClause(_) => false,
+        Action::Update(_, _) | Action::SpecCheck | Action::SpecBarrier => false,
+        Action::End | Action::StartClause(_) => false,
     }
 }

@@ -1,3 +1,4 @@
 pub mod Literals
 pub mod Entries
 pub mod LowestRule
+pub mod AdvisedPlaces

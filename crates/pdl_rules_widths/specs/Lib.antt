@@ -2,3 +2,4 @@ pub mod Variables
 pub mod Rules
 pub mod Order
 pub mod Lines
+pub mod Advice

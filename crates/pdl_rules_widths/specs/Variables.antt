@@ -2,13 +2,14 @@
 use Rattle.std.specs.Prelude.{ℕ, suc, List, [], ◌∷◌, map, bytes_eq, if◌then◌else◌, Option, Some, None}
 use Rattle.std.specs.Option.{option_map}
 use Rattle.pdl_semantics.specs.Flatten.{Var}
+use Rattle.pdl_rules_widths.specs.declared.variables.VariableType.{VariableType}
 
--- the variable of an entry: its name with its width
-abbrev pub var_of : List ℕ × ℕ → Var
-var_of e = record { name = e.0; width = e.1 }
+-- the variable of an entry: its name with its width, and whether it is advised
+abbrev pub var_of : List ℕ × VariableType → Var
+var_of e = record { name = e.0; width = e.1.width; advised = e.1.advised }
 
--- the variables of entries, each with its width
-abbrev pub vars_of : List (List ℕ × ℕ) → List Var
+-- the variables of entries
+abbrev pub vars_of : List (List ℕ × VariableType) → List Var
 vars_of es = map var_of es
 
 -- the width of a variable by its name, none where there is none

@@ -50,7 +50,7 @@ pub fn faults_at(variables: &Variables, mems: &[Mem], params: &[Param], place: &
         Action::Write(at, e) => in_write(variables, mems, at, e),
         Action::If(condition, _, _) => in_condition(variables, condition),
         Action::SpecCall(_, args) | Action::Call(args) => in_call(variables, params, args),
-        Action::Verify(_, args) => in_call(variables, params, args),
+        Action::Verify(_, args) | Action::Update(_, args) => in_call(variables, params, args),
         Action::StartClause(start) => in_start(params, start.args.as_slice()),
         Action::Parameter(_) | Action::Memory(_) | Action::Separator => NONE,
         Action::SpecCheck | Action::SpecBarrier | Action::End => NONE,

@@ -1,29 +1,37 @@
 // The variables of a pipe.
 ghost use Rattle.std.specs.Prelude.{◌≡◌, List, [], OnOk, IfOk, map, fold, length};
-ghost use Rattle.pdl_semantics.specs.Flatten.{Var, var_width};
+ghost use Rattle.pdl_semantics.specs.Flatten.{Var, var_width, is_advised_var};
 ghost use Rattle.pdl_syntax_tree.specs.View.{mem_view};
 ghost use Rattle.pdl_rules.specs.Widths.{with_variable, after_place};
 ghost use Rattle.pdl_paths.specs.Actions.{place_view};
 ghost use Rattle.pdl_rules_widths.specs.Variables.{vars_of, width_among, number_among};
 
+use crate::advised::is_advised;
 use crate::memories::mem_width;
 use crate::width::width_of;
 use indexmap::IndexMap;
 use pdl_kit::{Name, NoMemory};
 use pdl_paths::{Action, Place};
-use pdl_syntax_tree::Mem;
+use pdl_syntax_tree::{Mem, is_advisory};
 use std::alloc::Global;
 use std::marker::Model;
 
-/// Variables, each by its first definition, with its width in bits.
+/// What is known of a variable: its width in bits, and whether it is advised.
+#[derive(Clone, Copy)]
+pub struct VariableType {
+    pub width: u128,
+    pub advised: bool,
+}
+
+/// Variables, each by its first definition, with its width in bits, and whether it is advised.
 pub struct Variables {
-    widths: IndexMap<Name, u128>,
+    types: IndexMap<Name, VariableType>,
 }
 
 // As the derive would, but by a call of its owners: docs/DECISIONS.md says why.
 impl Drop for Variables {
     fn drop(self) {
-        let Variables { widths: _ } = self;
+        let Variables { types: _ } = self;
     }
 }
 
@@ -34,7 +42,7 @@ impl Model for Variables {
 
     ghost Value = { List Var };
 
-    ghost view = { λ s. vars_of s.widths.entries };
+    ghost view = { λ s. vars_of s.types.entries };
 }
 
 impl Variables {
@@ -43,7 +51,7 @@ impl Variables {
         ensures { result ≡ [] }
     {
         Variables {
-            widths: IndexMap::new(alloc),
+            types: IndexMap::new(alloc),
         }
     }
 
@@ -65,30 +73,39 @@ impl Variables {
             ≡ after_place (map mem_view mems.now) self.old (place_view place.now)) }
     {
         match place.action {
-            Action::Parameter(param) => self.define(&param.name.name, param.width.value as u128),
-            Action::CombRead(x, at) => self.define(&x.name, mem_width(mems, &at.mem.name)),
-            Action::DelayedRead(x, at) => self.define(&x.name, mem_width(mems, &at.mem.name)),
+            Action::Parameter(param) => {
+                self.define(&param.name.name, param.width.value as u128, false)
+            }
+            Action::CombRead(x, at) => {
+                let mem = &at.mem.name;
+                self.define(&x.name, mem_width(mems, mem), is_advisory(mems, mem))
+            }
+            Action::DelayedRead(x, at) => {
+                self.define(&x.name, mem_width(mems, &at.mem.name), false)
+            }
             Action::Bind(x, e) => {
                 let width = width_of(self, e);
-                self.define(&x.name, width)
+                let advised = is_advised(self, e);
+                self.define(&x.name, width, advised)
             }
             Action::Memory(_) | Action::Separator | Action::SpecCall(_, _) => Ok(()),
             Action::Write(_, _) | Action::Reserve(_, _) | Action::Block(_) => Ok(()),
             Action::Release(_) | Action::If(_, _, _) | Action::Call(_) => Ok(()),
-            Action::Verify(_, _) | Action::SpecCheck | Action::SpecBarrier => Ok(()),
+            Action::Verify(_, _) | Action::Update(_, _) | Action::SpecCheck => Ok(()),
+            Action::SpecBarrier => Ok(()),
             Action::End | Action::StartClause(_) => Ok(()),
         }
     }
 
     // Adds a variable, unless it is there.
-    fn define(&mut self, name: &Name, width: u128) -> Result<(), NoMemory>
-        ensures ok { OnOk result (self.new ≡ with_variable self.old name.now width) }
+    fn define(&mut self, name: &Name, width: u128, advised: bool) -> Result<(), NoMemory>
+        ensures ok { OnOk result (self.new ≡ with_variable self.old name.now width advised) }
     {
-        if self.widths.get(name).is_some() {
+        if self.types.get(name).is_some() {
             return Ok(());
         }
         let name = name.clone()?;
-        self.widths.insert(name, width)?;
+        self.types.insert(name, VariableType { width, advised })?;
         Ok(())
     }
 
@@ -96,9 +113,19 @@ impl Variables {
     pub fn width(&self, name: &Name) -> u128
         ensures { result ≡ var_width self.now name.now }
     {
-        match self.widths.get(name) {
-            Some(width) => *width,
+        match self.types.get(name) {
+            Some(of) => of.width,
             None => 0,
+        }
+    }
+
+    /// Whether a variable is advised; none of that name isn't.
+    pub fn is_advised(&self, name: &Name) -> bool
+        ensures { result ≡ is_advised_var self.now name.now }
+    {
+        match self.types.get(name) {
+            Some(of) => of.advised,
+            None => false,
         }
     }
 
@@ -106,8 +133,8 @@ impl Variables {
     pub fn find(&self, name: &Name) -> Option<u128>
         ensures { result ≡ width_among self.now name.now }
     {
-        match self.widths.get(name) {
-            Some(width) => Some(*width),
+        match self.types.get(name) {
+            Some(of) => Some(of.width),
             None => None,
         }
     }
@@ -116,13 +143,13 @@ impl Variables {
     pub fn len(&self) -> usize
         ensures { result ≡ length self.now }
     {
-        self.widths.len()
+        self.types.len()
     }
 
     /// The place of a variable among them, none where there is none of that name.
     pub fn position(&self, name: &Name) -> Option<usize>
         ensures { result ≡ number_among self.now name.now }
     {
-        self.widths.get_index_of(name)
+        self.types.get_index_of(name)
     }
 }

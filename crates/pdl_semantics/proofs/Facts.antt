@@ -30,22 +30,22 @@ held_first path (x ∷ xs) ls =
     low n = le-ltb n 0 (omega arith)
 
 -- a value put into a thread's entries in two lists, one after the other, is put into those of each
-pub put_append : (n v : ℕ) (xs ys : List Pending) → with_value_of n v (xs ++ ys) ≡ with_value_of n v xs ++ with_value_of n v ys
-put_append n v [] ys = refl
-put_append n v (x ∷ xs) ys = ap (λ l. (if x.thread == n then record x { value = Some v } else x) ∷ l) (put_append n v xs ys)
+pub put_append : (n y v : ℕ) (xs ys : List Pending) → with_value_of n y v (xs ++ ys) ≡ with_value_of n y v xs ++ with_value_of n y v ys
+put_append n y v [] ys = refl
+put_append n y v (x ∷ xs) ys = ap (λ l. (if (x.thread == n) && (x.var == y) then record x { value = Some v } else x) ∷ l) (put_append n y v xs ys)
 
 -- writes keep how many entries there are
-pub put_length : (n v : ℕ) (xs : List Pending) → length (with_value_of n v xs) ≡ length xs
-put_length n v [] = refl
-put_length n v (x ∷ xs) = ap suc (put_length n v xs)
+pub put_length : (n y v : ℕ) (xs : List Pending) → length (with_value_of n y v xs) ≡ length xs
+put_length n y v [] = refl
+put_length n y v (x ∷ xs) = ap suc (put_length n y v xs)
 
 -- the writes of a thread keep how many entries a lock's list has
 pub put_all_length : (m n : ℕ) (ws : List Written) (xs : List Pending) → length (with_writes_of m n ws xs) ≡ length xs
 put_all_length m n [] xs = refl
-put_all_length m n (w ∷ ws) xs = put_all_length m n ws (if w.mem == m then with_value_of n w.value xs else xs) ∙ at (w.mem == m)
+put_all_length m n (w ∷ ws) xs = put_all_length m n ws (if w.mem == m then with_value_of n w.var w.value xs else xs) ∙ at (w.mem == m)
   where
-    at : (b : Bool) → length (if b then with_value_of n w.value xs else xs) ≡ length xs
-    at true = put_length n w.value xs
+    at : (b : Bool) → length (if b then with_value_of n w.var w.value xs else xs) ≡ length xs
+    at true = put_length n w.var w.value xs
     at false = refl
 
 -- no operator makes a word wider than 64 bits
@@ -56,9 +56,9 @@ op_narrow Less w h = omega arith
 op_narrow _ w h = h
 
 -- writes keep how many entries are older
-pub put_older : (t n v : ℕ) (xs : List Pending) → count_older t (with_value_of n v xs) ≡ count_older t xs
-put_older t n v [] = refl
-put_older t n v (x ∷ xs) = ap₂ (λ b k. cond b (suc k) k) (at (x.thread == n)) (put_older t n v xs)
+pub put_older : (t n y v : ℕ) (xs : List Pending) → count_older t (with_value_of n y v xs) ≡ count_older t xs
+put_older t n y v [] = refl
+put_older t n y v (x ∷ xs) = ap₂ (λ b k. cond b (suc k) k) (at ((x.thread == n) && (x.var == y))) (put_older t n y v xs)
   where
     at : (b : Bool) → nat_lt (cond b (record x { value = Some v }) x).thread t ≡ nat_lt x.thread t
     at true = refl

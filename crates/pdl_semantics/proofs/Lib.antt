@@ -8,3 +8,7 @@ pub mod FeatureRows
 mod SoundRows
 pub mod Readiness
 pub mod Facts
+pub mod Updates
+pub mod SecondWrites
+pub mod Advice
+pub mod AdviceApart

@@ -1,7 +1,7 @@
 -- When reads and writes through a lock are ready, and what they find: all that proofs need of the kinds of lock, so that no proof above tells them apart.
-use Rattle.std.proofs.Common.{◌≡◌, refl, ap, ℕ, Bool, true, false, not, Option, Some, None, is_none}
+use Rattle.std.proofs.Common.{◌≡◌, refl, ap, ℕ, ◌+◌, ◌≤◌, Bool, true, false, not, Option, Some, None, is_none, arith, leb-true, le-leb}
 use Rattle.pdl_semantics.specs.Flat.{Lock, Plain, Queue, Bypass, Rename}
-use Rattle.pdl_semantics.specs.Locks.{Latest, Nothing, Coming, Known, as_latest, is_nothing, is_coming, read_ready, write_ready, is_plain, is_exact}
+use Rattle.pdl_semantics.specs.Locks.{Latest, Nothing, Coming, Known, as_latest, is_nothing, is_coming, read_ready, write_ready, is_plain, is_exact, has_room}
 
 -- WHAT PENDING WRITES SAY AS TIME GOES ON
 
@@ -91,3 +91,12 @@ read_write Plain l h = refl
 read_write (Queue n) l h = h
 read_write (Bypass n) l h = refl
 read_write (Rename n) l h = refl
+
+-- ROOM
+
+-- where there is room for some beside n pending writes, there is room for fewer
+pub room_fewer : (l : Lock) (i j n : ℕ) → j ≤ i → has_room l i n ≡ true → has_room l j n ≡ true
+room_fewer Plain i j n low h = refl
+room_fewer (Queue s) i j n low h = le-leb (j + n) s (let e : i + n ≤ s = leb-true (i + n) s h in omega (arith, e, low))
+room_fewer (Bypass s) i j n low h = le-leb (j + n) s (let e : i + n ≤ s = leb-true (i + n) s h in omega (arith, e, low))
+room_fewer (Rename s) i j n low h = le-leb (j + n) s (let e : i + n ≤ s = leb-true (i + n) s h in omega (arith, e, low))

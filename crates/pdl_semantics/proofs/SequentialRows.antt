@@ -3,7 +3,7 @@ use Rattle.std.proofs.Common.{◌≡◌, refl, ℕ, List, [], ◌∷◌, ◌++�
 use Rattle.std.specs.Fmt.{digits}
 use Rattle.pdl_word.specs.Words.{add, slice, zext}
 use Rattle.pdl_semantics.specs.Lines.{sequential_lines, seq_lines}
-use Rattle.pdl_semantics.proofs.Pipes.{one_stage, guess, copy, two_branches}
+use Rattle.pdl_semantics.proofs.Pipes.{one_stage, guess, guess_learnt, copy, two_branches}
 
 -- four words that are all 0
 abbrev pub zeros : List ℕ
@@ -34,6 +34,11 @@ two_threads = refl
 three_guesses : seq_lines (guess 2) (zeros ∷ []) 3 ≡ codes "1 m 0 00\n2 m 2 02\n3 m 0 04\nend threads 3\n"
 unfolding digits add slice zext
 three_guesses = refl
+
+-- nor does advice
+three_learnt : seq_lines guess_learnt ((2 ∷ 0 ∷ 7 ∷ 0 ∷ []) ∷ zeros ∷ []) 3 ≡ codes "1 m 0 00\n2 m 2 02\n3 m 0 04\nend threads 3\n"
+unfolding digits add slice zext
+three_learnt = refl
 
 three_copies : seq_lines copy ((10 ∷ 11 ∷ 12 ∷ 0 ∷ []) ∷ zeros ∷ []) 3 ≡ codes "1 m 0 0a\n2 m 1 0b\n3 m 2 0c\nend threads 3\n"
 unfolding digits add slice zext

@@ -9,7 +9,8 @@ use Rattle.pdl_semantics.specs.Machine.{Thread, Pending, State}
 use Rattle.pdl_semantics.specs.Moves.{all_acts}
 use Rattle.pdl_semantics.specs.Cycle.{first, after_acts, ports, state_after}
 use Rattle.pdl_semantics.specs.Sound.{is_sound}
-use Rattle.pdl_semantics.proofs.Pipes.{one_stage, two_stages, under_guard, count_up, count_late, guess, guess_reserved, copy, copy_guessed, two_branches, one_branch, count_slow, barrier, far_barrier, without_barrier}
+use Rattle.pdl_semantics.proofs.Pipes.{two_writes, two_writes_apart, one_stage, two_stages, under_guard, count_up, count_late, guess, guess_reserved, copy, copy_guessed, two_branches, one_branch, count_slow, barrier, far_barrier, without_barrier, nested, nested_straight, four_levels, nested_guess, updated, update_learnt, guess_learnt, guess_kept}
+use Rattle.pdl_semantics.proofs.Texts.{variable, constant, plus}
 use Rattle.pdl_semantics.proofs.Features.{queue_write_waits, youngest_write_is_read, kind_by_path, bits_by_delayed, port_of_a_stalled_owner, kept_answer, expressions, two_forks_on_one_guard, squash_empties_lists, squash_keeps_later_lists, port_of_an_owner_in_the_other_branch, barrier_up_to_v, barrier_without_v}
 use Rattle.pdl_semantics.proofs.FeatureRows.{words}
 use Rattle.pdl_semantics.proofs.WrongMachines.{Decides, GoesOn, decides_by, keeps_entries, any_branch, sees_younger, looks_one_stage, asks_at_once, gives_late}
@@ -43,6 +44,26 @@ two_stages_sound = refl
 guard_sound : sound_run under_guard (zeros ∷ []) (idle 6) ≡ true
 unfolding add slice zext
 guard_sound = refl
+
+two_words_sound : sound_run (two_writes (plus (variable "n") (constant 2 1))) (zeros ∷ []) (idle 4) ≡ true
+unfolding add slice zext
+two_words_sound = refl
+
+two_writes_sound : sound_run (two_writes_apart Bypass 4) (zeros ∷ []) (idle 9) ≡ true
+unfolding add slice zext
+two_writes_sound = refl
+
+two_writes_queued : sound_run (two_writes_apart Queue 2) (zeros ∷ []) (idle 9) ≡ true
+unfolding add slice zext
+two_writes_queued = refl
+
+learnt_sound : sound_run guess_learnt (zeros ∷ zeros ∷ []) (idle 10) ≡ true
+unfolding add slice zext
+learnt_sound = refl
+
+counted_sound : sound_run guess_kept (zeros ∷ zeros ∷ []) (idle 10) ≡ true
+unfolding add slice zext
+counted_sound = refl
 
 queue_sound : sound_run (count_up Queue 2) (zeros ∷ []) (idle 9) ≡ true
 unfolding add slice zext
@@ -119,6 +140,34 @@ branches_sound = refl
 straight_sound : sound_run one_branch (zeros ∷ []) (idle 12) ≡ true
 unfolding add slice zext
 straight_sound = refl
+
+updated_sound : sound_run (updated 2) (zeros ∷ []) (idle 9) ≡ true
+unfolding add slice zext
+updated_sound = refl
+
+update_learnt_sound : sound_run update_learnt (zeros ∷ zeros ∷ []) (idle 13) ≡ true
+unfolding add slice zext
+update_learnt_sound = refl
+
+updated_wrong_sound : sound_run (updated 3) (zeros ∷ []) (idle 9) ≡ true
+unfolding add slice zext
+updated_wrong_sound = refl
+
+nested_sound : sound_run nested (zeros ∷ []) (idle 16) ≡ true
+unfolding add slice zext
+nested_sound = refl
+
+nested_straight_sound : sound_run nested_straight (zeros ∷ []) (idle 16) ≡ true
+unfolding add slice zext
+nested_straight_sound = refl
+
+four_levels_sound : sound_run four_levels (zeros ∷ []) (idle 16) ≡ true
+unfolding add slice zext
+four_levels_sound = refl
+
+nested_guess_sound : sound_run nested_guess (zeros ∷ []) (idle 16) ≡ true
+unfolding add slice zext
+nested_guess_sound = refl
 
 queue_write_waits_sound : sound_run queue_write_waits (words 1) (idle 14) ≡ true
 unfolding add slice zext
@@ -215,7 +264,7 @@ after_two p = state_after (flat p) (first (flat p) (arrays_of (zeros ∷ []))) (
 abbrev is_sound_with : (State → State) → Tree.Pipe → Bool
 is_sound_with change p = is_sound (flat p) (arrays_of (zeros ∷ [])) 0 (change (after_two p))
 
--- thread 2 and its pending write get the number of thread 1
+-- thread 2 gets the number of thread 1, also in pending writes
 abbrev as_first : ℕ → ℕ
 as_first n = if n == 2 then 1 else n
 
@@ -230,7 +279,7 @@ renumbered st =
       locks = map all_owned st.locks;
     }
 
-same_number_unsound : is_sound_with renumbered (count_up Bypass 4) ≡ false
+same_number_unsound : is_sound_with renumbered (guess 1) ≡ false
 unfolding add slice zext
 same_number_unsound = refl
 

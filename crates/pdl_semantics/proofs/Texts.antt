@@ -1,7 +1,7 @@
 -- Short words to write a tree out; nothing stands anywhere in particular.
 use Prim.Native.String.{String}
-use Rattle.std.specs.Prelude.{ℕ, true, false, List, [], ◌∷◌, Option, Some, codes}
-use Rattle.pdl_semantics.specs.Tree.{Span, Ident, Number, Literal, Add, Expr, Constant, Variable, Slice, Binary, Location, Kind, Stmt, Separator, CombRead, Bind, SpecCall, DelayedRead, Write, Reserve, Block, Release, If, Call, Verify, SpecCheck, SpecBarrier, stmts_of, LockKind, LockDecl, Mem, Pipe}
+use Rattle.std.specs.Prelude.{ℕ, List, [], ◌∷◌, Option, Some, codes, None}
+use Rattle.pdl_semantics.specs.Tree.{Span, Ident, Number, Literal, Add, Expr, Constant, Variable, Slice, Binary, Location, Kind, Stmt, Separator, CombRead, Bind, SpecCall, DelayedRead, Write, Reserve, Block, Release, If, Call, Verify, Update, SpecCheck, SpecBarrier, stmts_of, LockKind, LockDecl, Mem, Pipe, Comb, Delayed, Advisory}
 
 -- the span of everything that is written out here
 abbrev pub nowhere : Span
@@ -83,6 +83,10 @@ spec_call s e = SpecCall nowhere (ident s) (e ∷ [])
 abbrev pub verify : String → Expr → Stmt
 verify s e = Verify nowhere (ident s) (e ∷ [])
 
+-- an `update` of a guess, with one argument
+abbrev pub update : String → Expr → Stmt
+update g e = Update nowhere (ident g) (e ∷ [])
+
 -- a `spec_check`
 abbrev pub spec_check : Stmt
 spec_check = SpecCheck nowhere
@@ -102,12 +106,16 @@ lock kind size = Some (record { kind = kind; size = number size })
 -- a comb memory and a delayed one of words of 8 bits
 abbrev pub comb : String → ℕ → Option LockDecl → Mem
 comb m depth with_lock =
-    record { name = ident m; width = number 8; depth = number depth; delayed = false; lock = with_lock }
+    record { name = ident m; width = number 8; depth = number depth; kind = Comb; lock = with_lock }
 
 -- a delayed memory of words of 8 bits
 abbrev pub slow : String → ℕ → Option LockDecl → Mem
 slow m depth with_lock =
-    record { name = ident m; width = number 8; depth = number depth; delayed = true; lock = with_lock }
+    record { name = ident m; width = number 8; depth = number depth; kind = Delayed; lock = with_lock }
+
+-- an advisory memory of words of 8 bits
+abbrev pub advisory : String → ℕ → Mem
+advisory m depth = record { name = ident m; width = number 8; depth = number depth; kind = Advisory; lock = None }
 
 -- a pipe p with one parameter n of this width, started with 0
 abbrev pub pipe : ℕ → List Mem → List Stmt → Pipe

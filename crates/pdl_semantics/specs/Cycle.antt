@@ -1,16 +1,16 @@
 -- What a cycle does, its ports, and whole runs. `these` are the acts of all threads, `ms` those of the threads that move.
-use Rattle.std.specs.Prelude.{ℕ, suc, Bool, true, false, ◌&&◌, ◌||◌, not, List, [], ◌∷◌, ◌++◌, Option, Some, None, is_some, is_none, if◌then◌else◌, nat_le, ◌==◌, slice_index_or, take}
-use Rattle.pdl_semantics.specs.Flat.{Arrays, Mem, Branch, Stage, Pipe, start_env, with_word, Commit}
-use Rattle.pdl_semantics.specs.Stages.{list_any, stage_at, is_branch_of, merges_fork, verify_stage}
+use Rattle.std.specs.Prelude.{ℕ, suc, Bool, true, false, ◌&&◌, ◌||◌, not, List, [], ◌∷◌, ◌++◌, Option, Some, None, is_some, is_none, if◌then◌else◌, nat_le, ◌==◌, ◌+◌, slice_index_or, take, drop}
+use Rattle.pdl_semantics.specs.Flat.{Arrays, Mem, Stage, Pipe, start_env, with_word, Commit}
+use Rattle.pdl_semantics.specs.Stages.{list_any, stage_at, merges_fork, is_inside, sides_of}
 use Rattle.pdl_semantics.specs.Locks.{commit_value}
-use Rattle.pdl_semantics.specs.Machine.{Ask, Awaited, Thread, Pending, Request, NoRequest, Owned, Orphan, State, lock_of, fork_of, request_of, Reserved, Written, is_answered}
+use Rattle.pdl_semantics.specs.Machine.{Advised, Ask, Awaited, Thread, Pending, Request, NoRequest, Owned, Orphan, State, lock_of, fork_of, request_of, Reserved, Written, is_answered}
 use Rattle.pdl_semantics.specs.Moves.{Act, next_stage, all_acts, movers}
 
 -- 1. reservations for writing append an entry without a value
 abbrev pub new_entries : ℕ → ℕ → List Reserved → List Pending
 new_entries m thread [] = []
 new_entries m thread (r ∷ rs) =
-    (if r.mem == m then record { thread = thread; address = r.address; value = None } ∷ [] else [])
+    (if r.mem == m then record { thread = thread; var = r.var; address = r.address; value = None } ∷ [] else [])
     ++ new_entries m thread rs
 
 -- a lock's list with the entries of all write reservations that are made
@@ -18,34 +18,31 @@ abbrev pub with_reserves : ℕ → List Act → List Pending → List Pending
 with_reserves m [] list = list
 with_reserves m (a ∷ ms) list = with_reserves m ms list ++ new_entries m a.thread.number a.does.reserves
 
--- 2. writes put their value into their thread's entry
-abbrev pub with_value_of : ℕ → ℕ → List Pending → List Pending
-with_value_of thread v [] = []
-with_value_of thread v (e ∷ es) = (if e.thread == thread then record e { value = Some v } else e) ∷ with_value_of thread v es
+-- 2. each write puts its value into the entry of its own reservation
+abbrev pub with_value_of : ℕ → ℕ → ℕ → List Pending → List Pending
+with_value_of thread x v [] = []
+with_value_of thread x v (e ∷ es) =
+    (if (e.thread == thread) && (e.var == x) then record e { value = Some v } else e) ∷ with_value_of thread x v es
 
 -- a lock's list with the values that one thread writes
 abbrev pub with_writes_of : ℕ → ℕ → List Written → List Pending → List Pending
 with_writes_of m thread [] list = list
-with_writes_of m thread (w ∷ ws) list = with_writes_of m thread ws (if w.mem == m then with_value_of thread w.value list else list)
+with_writes_of m thread (w ∷ ws) list = with_writes_of m thread ws (if w.mem == m then with_value_of thread w.var w.value list else list)
 
 -- a lock's list with the values that all threads write which move
 abbrev pub with_all_writes : ℕ → List Act → List Pending → List Pending
 with_all_writes m [] list = list
 with_all_writes m (a ∷ ms) list = with_writes_of m a.thread.number a.does.writes (with_all_writes m ms list)
 
--- 3. a release of a write reservation takes the oldest entry out
-abbrev pub has_release : ℕ → List Act → Bool
-has_release m ms = list_any (λ a. list_any (λ n. n == m) a.does.releases) ms
+-- 3. the releases of write reservations take as many of the oldest entries out: how many of these releases are of m
+abbrev pub releases_of : ℕ → List ℕ → ℕ
+releases_of m [] = 0
+releases_of m (n ∷ ns) = if n == m then suc (releases_of m ns) else releases_of m ns
 
--- the oldest entry of a lock's list, where it has one
-abbrev pub oldest : List Pending → Option Pending
-oldest [] = None
-oldest (e ∷ es) = Some e
-
--- a lock's list without its oldest entry
-abbrev pub but_oldest : List Pending → List Pending
-but_oldest [] = []
-but_oldest (e ∷ es) = es
+-- how many write reservations of m the threads release which move
+abbrev pub all_releases : ℕ → List Act → ℕ
+all_releases m [] = 0
+all_releases m (a ∷ ms) = all_releases m ms + releases_of m a.does.releases
 
 -- a lock's list after steps 1 and 2
 abbrev pub list_two : State → List Act → ℕ → List Pending
@@ -53,30 +50,36 @@ list_two st ms m = with_all_writes m ms (with_reserves m ms (lock_of st m))
 
 -- a lock's list after step 3
 abbrev pub list_three : State → List Act → ℕ → List Pending
-list_three st ms m = if has_release m ms then but_oldest (list_two st ms m) else list_two st ms m
+list_three st ms m = drop (all_releases m ms) (list_two st ms m)
 
--- the entry that step 3 takes out, where there is a release
-abbrev pub taken_out : State → List Act → ℕ → Option Pending
-taken_out st ms m = if has_release m ms then oldest (list_two st ms m) else None
+-- the entries that step 3 takes out, the oldest first
+abbrev pub taken_out : State → List Act → ℕ → List Pending
+taken_out st ms m = take (all_releases m ms) (list_two st ms m)
 
--- the arrays, with the value of the write that is taken out of the lock of m, if one is
-abbrev pub with_commit : Arrays → ℕ → Option Pending → Arrays
-with_commit arrays m None = arrays
-with_commit arrays m (Some e) = with_word arrays m e.address (commit_value e.value)
+-- the arrays, with the values of the writes that are taken out of the lock of m, one after the other
+abbrev pub with_commit : Arrays → ℕ → List Pending → Arrays
+with_commit arrays m [] = arrays
+with_commit arrays m (e ∷ es) = with_commit (with_word arrays m e.address (commit_value e.value)) m es
 
 -- the arrays with what the releases put into them, of the memories from number m on
 abbrev pub with_commits : State → List Act → ℕ → List Mem → Arrays → Arrays
 with_commits st ms m [] arrays = arrays
 with_commits st ms m (x ∷ xs) arrays = with_commits st ms (suc m) xs (with_commit arrays m (taken_out st ms m))
 
+-- the arrays after these advisory writes of one thread, in text order
+abbrev pub with_advised : List Advised → Arrays → Arrays
+with_advised [] arrays = arrays
+with_advised (w ∷ ws) arrays = with_advised ws (with_word arrays w.mem w.address w.value)
+
+-- then the advisory writes come, those of the greatest stage first and within a stage in text order: of two writes of one word the last one holds
+abbrev pub with_all_advised : List Act → Arrays → Arrays
+with_all_advised [] arrays = arrays
+with_all_advised (a ∷ ms) arrays = with_advised a.does.advises (with_all_advised ms arrays)
+
 -- 4. who moves from a fork into a branch appends it to the fork's list; who moves from a branch into the merge takes the first out
 abbrev pub goes_into : Pipe → ℕ → Option ℕ → List Bool
 goes_into p f None = []
-goes_into p f (Some q) = into (stage_at p q).branch
-  where
-    into : Option Branch → List Bool
-    into None = []
-    into (Some b) = if b.fork == f then b.first ∷ [] else []
+goes_into p f (Some q) = sides_of f (stage_at p q).branches
 
 -- the branches of fork f that are entered by the threads which move from it
 abbrev pub entered_branches : Pipe → ℕ → List Act → List Bool
@@ -90,7 +93,7 @@ goes_out p f (Some q) = merges_fork (stage_at p q).merges f
 
 -- whether a thread moves from a branch of fork f into the merge
 abbrev pub has_left : Pipe → ℕ → List Act → Bool
-has_left p f ms = list_any (λ a. is_branch_of (stage_at p a.stage).branch f && goes_out p f (next_stage p a.stage a.does)) ms
+has_left p f ms = list_any (λ a. is_inside p f a.stage && goes_out p f (next_stage p a.stage a.does)) ms
 
 -- a fork's list without its first branch
 abbrev pub but_first : List Bool → List Bool
@@ -109,7 +112,7 @@ awaited_of (q ∷ qs) = record { mem = q.mem; var = q.var } ∷ awaited_of qs
 -- a thread that has moved, as it stands in its next stage
 abbrev pub thread_after : Act → Thread
 thread_after a =
-    record { number = a.thread.number; env = a.does.env; guess = a.does.guess; awaits = awaited_of a.does.asks; kept = [] }
+    record { number = a.thread.number; env = a.does.env; advice = a.does.advice; guess = a.does.guess; awaits = awaited_of a.does.asks; kept = [] }
 
 -- whether a next stage is there and is stage q
 abbrev pub is_stage : ℕ → Option ℕ → Bool
@@ -147,10 +150,15 @@ asked_by m (a ∷ ms) old = asked_of m a.thread.number a.does.asks (asked_by m m
 abbrev pub request_next : Pipe → State → List Bool → List Act → ℕ → Request
 request_next p st bits ms m = asked_by m ms (if is_answered p bits m then NoRequest else request_of st m)
 
--- 6. a squash: the number of the thread that moves with a failing verify
+-- 6. a squash: the number of the thread that moves with a failing verify or a changing update
 abbrev pub squasher : List Act → Option ℕ
 squasher [] = None
 squasher (a ∷ ms) = if a.does.fails then Some a.thread.number else squasher ms
+
+-- and its stage
+abbrev pub squash_stage : List Act → Option ℕ
+squash_stage [] = None
+squash_stage (a ∷ ms) = if a.does.fails then Some a.stage else squash_stage ms
 
 -- whether a squash keeps a thread: it removes every younger one
 abbrev pub is_kept : Option ℕ → ℕ → Bool
@@ -167,14 +175,14 @@ abbrev pub entries_left : Option ℕ → List Pending → List Pending
 entries_left sq [] = []
 entries_left sq (e ∷ es) = if is_kept sq e.thread then e ∷ entries_left sq es else entries_left sq es
 
--- the lists of forks whose merge stage is V or before V become empty
+-- the lists of forks whose merge is its stage or before it become empty
 abbrev pub merges_by : Pipe → ℕ → Option ℕ → Bool
 merges_by p f None = false
 merges_by p f (Some v) = list_any (λ x. merges_fork x.merges f) (take (suc v) p.stages)
 
 -- what a squash leaves of the list of fork f
 abbrev pub branches_left : Pipe → Option ℕ → ℕ → List Bool → List Bool
-branches_left p sq f list = if is_some sq && merges_by p f (verify_stage p.stmts) then [] else list
+branches_left p at f list = if merges_by p f at then [] else list
 
 -- an unanswered request of a removed thread becomes an orphan
 abbrev pub request_left : Option ℕ → Request → Request
@@ -190,7 +198,7 @@ child_of (a ∷ ms) = if is_some a.does.child then a.does.child else child_of ms
 abbrev pub born_thread : Pipe → ℕ → Option (List ℕ) → Option Thread
 born_thread p number None = None
 born_thread p number (Some args) =
-    Some (record { number = number; env = start_env p args; guess = []; awaits = []; kept = [] })
+    Some (record { number = number; env = start_env p args; advice = []; guess = []; awaits = []; kept = [] })
 
 -- the thread in stage q after a cycle: in stage 0 the new one, else one that the squash keeps
 abbrev pub stage_next : Pipe → State → List Act → Option ℕ → ℕ → Option Thread
@@ -212,9 +220,9 @@ abbrev pub after_these : Pipe → State → List Bool → List Act → List Act 
 after_these p st bits these ms sq =
     record {
       stages = for_stages (λ q. stage_next p st these sq q) 0 p.stages;
-      arrays = with_commits st ms 0 p.mems st.arrays;
+      arrays = with_all_advised ms (with_commits st ms 0 p.mems st.arrays);
       locks = for_mems (λ m. entries_left sq (list_three st ms m)) 0 p.mems;
-      forks = for_stages (λ f. branches_left p sq f (fork_next p st ms f)) 0 p.stages;
+      forks = for_stages (λ f. branches_left p (squash_stage ms) f (fork_next p st ms f)) 0 p.stages;
       requests = for_mems (λ m. request_left sq (request_next p st bits ms m)) 0 p.mems;
       next = if is_some (child_of ms) then suc st.next else st.next;
     }
@@ -247,18 +255,18 @@ pub record PortWrite : Type 0 where
   pub value : ℕ
 
 -- a write that is released, as a port shows it
-abbrev pub port_write : Option Pending → Option PortWrite
-port_write None = None
-port_write (Some e) = Some (record { address = e.address; value = commit_value e.value })
+abbrev pub port_writes : List Pending → List PortWrite
+port_writes [] = []
+port_writes (e ∷ es) = record { address = e.address; value = commit_value e.value } ∷ port_writes es
 
 -- what is seen of a cycle from outside
 pub record Ports : Type 0 where
   pub valid : List Bool  -- for each stage: it holds a thread at the start
   pub moves : List Bool  -- for each stage: its thread moves
-  pub commits : List (Option PortWrite)  -- for each memory: the write that is released
+  pub commits : List (List PortWrite)  -- for each memory the writes that are released, the oldest first: at most two
   pub requests : List (Option ℕ)  -- for each memory: the address of the request
   pub ended : Bool  -- a thread moved out of the last stage
-  pub squash : Bool  -- a failing verify moved
+  pub squash : Bool  -- a failing verify or a changing update moved
 
 -- the address of the first of these requests that is of memory m, else what the rest gives
 abbrev pub address_of : ℕ → List Ask → Option ℕ → Option ℕ
@@ -276,7 +284,7 @@ ports_these p st these ms =
     record {
       valid = for_stages (λ s. list_any (λ a. a.stage == s) these) 0 p.stages;
       moves = for_stages (λ s. list_any (λ a. a.stage == s) ms) 0 p.stages;
-      commits = for_mems (λ m. port_write (taken_out st ms m)) 0 p.mems;
+      commits = for_mems (λ m. port_writes (taken_out st ms m)) 0 p.mems;
       requests = for_mems (λ m. asked_in ms m) 0 p.mems;
       ended = list_any (λ a. is_none (next_stage p a.stage a.does)) ms;
       squash = is_some (squasher ms);
@@ -337,14 +345,14 @@ abbrev pub waits_in : List Turn → ℕ
 waits_in ts = count (λ t. t.wait) ts
 
 -- the commits of a memory, in cycle order
-abbrev pub commit_shown : ℕ → Option PortWrite → List Commit
-commit_shown m None = []
-commit_shown m (Some w) = record { mem = m; address = w.address; value = w.value } ∷ []
+abbrev pub commits_shown : ℕ → List PortWrite → List Commit
+commits_shown m [] = []
+commits_shown m (w ∷ ws) = record { mem = m; address = w.address; value = w.value } ∷ commits_shown m ws
 
 -- what these cycles commit to memory m, in their order
 abbrev pub commits : ℕ → List Turn → List Commit
 commits m [] = []
-commits m (t ∷ ts) = commit_shown m (slice_index_or t.ports.commits m None) ++ commits m ts
+commits m (t ∷ ts) = commits_shown m (slice_index_or t.ports.commits m []) ++ commits m ts
 
 -- the letters of `view`: no thread, one that moves, one that stands
 abbrev pub letter : Bool → Bool → ℕ

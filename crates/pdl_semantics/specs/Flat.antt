@@ -1,7 +1,7 @@
 -- A pipe in flat form: its statements in text order, each with its stage and the guards that it stands under, where variables and memories are numbers.
 use Rattle.std.specs.Prelude.{ℕ, ◌-◌, Bool, true, false, ◌&&◌, not, List, [], ◌∷◌, ◌++◌, Option, if◌then◌else◌, ◌==◌, slice_index, slice_index_or, length, replicate}
 use Rattle.pdl_word.specs.Words
-use Rattle.pdl_semantics.specs.Tree.{BinaryOp, Add, Sub, Mul, And, Or, Xor, Equal, Differ, Less, ShiftLeft, ShiftRight}
+use Rattle.pdl_semantics.specs.Tree.{MemKind, Comb, Delayed, Advisory, BinaryOp, Add, Sub, Mul, And, Or, Xor, Equal, Differ, Less, ShiftLeft, ShiftRight}
 
 -- an expression over numbered variables, with the widths of its parts: `width` is that of the operands, in `Constant` that of the value, and `wide` that of an extended value; in `Cat` it is that of b, the lower part
 pub data Expr : Type 0 where
@@ -48,7 +48,7 @@ abbrev pub values_of : List Expr → List ℕ → List ℕ
 values_of [] env = []
 values_of (e ∷ es) env = value_of e env ∷ values_of es env
 
--- what a statement does, with the variable x that it binds, its memory m and the variable a of its address; an `if` on an expression binds its guard
+-- what a statement does, with the variable x that it binds, its memory m and the variable a of its address; an `if` on an expression binds its guard, and an update is a verify that isn't the last. The last three bind an advised variable, by an expression or by a read of an advisory memory, and write such a memory
 pub data Op : Type 0 where
   Bind : (x : ℕ) (e : Expr) → Op
   CombRead : (x m a : ℕ) → Op
@@ -60,9 +60,12 @@ pub data Op : Type 0 where
   Release : (m a : ℕ) → Op
   Call : (args : List Expr) → Op
   SpecCall : (args : List Expr) → Op
-  Verify : (args : List Expr) → Op
+  Verify : (last : Bool) (args : List Expr) → Op
   SpecCheck : Op
   SpecBarrier : Op
+  AdviceBind : (x : ℕ) (e : Expr) → Op
+  AdviceRead : (x m a : ℕ) → Op
+  AdviceWrite : (m a : ℕ) (e : Expr) → Op
 
 -- a branch of an `if`, with the variable of its truth value: the first branch is taken where that is 1, the second where it isn't
 pub record Guard : Type 0 where
@@ -93,8 +96,20 @@ has_lock (Rename size) = true
 pub record Mem : Type 0 where
   pub width : ℕ
   pub depth : ℕ
-  pub delayed : Bool
+  pub kind : MemKind
   pub lock : Lock
+
+-- whether a memory's answers come in a later cycle
+abbrev pub is_delayed : MemKind → Bool
+is_delayed Comb = false
+is_delayed Delayed = true
+is_delayed Advisory = false
+
+-- whether what a memory says reaches guesses alone
+abbrev pub is_advisory : MemKind → Bool
+is_advisory Comb = false
+is_advisory Delayed = false
+is_advisory Advisory = true
 
 -- where a thread goes from a stage: out of the pipe, to one stage, or where x is 1 to the first stage, else to the second
 pub data Next : Type 0 where
@@ -107,10 +122,10 @@ pub record Branch : Type 0 where
   pub fork : ℕ
   pub first : Bool
 
--- a stage: where it leads, the branch that it stands in, and the fork stage whose branches meet in it
+-- a stage: where it leads, the branches that it stands in, the innermost first, and the fork stage whose branches meet in it
 pub record Stage : Type 0 where
   pub next : Next
-  pub branch : Option Branch
+  pub branches : List Branch
   pub merges : Option ℕ
 
 -- a pipe in flat form

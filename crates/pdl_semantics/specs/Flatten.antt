@@ -1,6 +1,6 @@
 -- The flat form of a tree: names become numbers, each statement gets its stage and its guards, and the separators give the stage graph. Total; a tree that breaks a rule of the language gets a flat form that nobody uses.
-use Rattle.std.specs.Prelude.{ℕ, suc, ◌+◌, ◌-◌, Bool, true, false, List, [], ◌∷◌, ◌++◌, Option, Some, None, unwrap_or, if◌then◌else◌, ◌==◌, nat_lt, bytes_eq, length}
-use Rattle.pdl_semantics.specs.Tree.{Literal, BinaryOp, Add, Sub, Mul, And, Or, Xor, Equal, Differ, Less, ShiftLeft, ShiftRight, Expr, Constant, Variable, Slice, Not, Binary, Cat, LessSigned, ZeroExtend, SignExtend, Choose, Kind, R, W, Stmt, Separator, CombRead, Bind, SpecCall, DelayedRead, Write, Reserve, Block, Release, If, Call, Verify, SpecCheck, SpecBarrier, Stmts, Nil, Cons, Param, LockKind, Queue, Bypass, Rename, LockDecl, Mem, Pipe}
+use Rattle.std.specs.Prelude.{ℕ, suc, ◌+◌, ◌-◌, Bool, true, false, List, [], ◌∷◌, ◌++◌, Option, Some, None, unwrap_or, if◌then◌else◌, ◌==◌, nat_lt, bytes_eq, length, ◌||◌}
+use Rattle.pdl_semantics.specs.Tree.{Literal, BinaryOp, Add, Sub, Mul, And, Or, Xor, Equal, Differ, Less, ShiftLeft, ShiftRight, Expr, Constant, Variable, Slice, Not, Binary, Cat, LessSigned, ZeroExtend, SignExtend, Choose, Kind, R, W, Stmt, Separator, CombRead, Bind, SpecCall, DelayedRead, Write, Reserve, Block, Release, If, Call, Verify, Update, SpecCheck, SpecBarrier, Stmts, Nil, Cons, Param, LockKind, Queue, Bypass, Rename, LockDecl, Mem, Pipe}
 use Rattle.pdl_semantics.specs.Flat
 use Rattle.pdl_semantics.specs.Stages.{is_reserve, is_release}
 
@@ -8,10 +8,11 @@ use Rattle.pdl_semantics.specs.Stages.{is_reserve, is_release}
 abbrev pub widest : ℕ
 widest = 64
 
--- a variable with its width; the guard of an `if` on an expression is a variable without name
+-- a variable with its width, and whether it is advised; the guard of an `if` on an expression is a variable without name
 pub record Var : Type 0 where
   pub name : List ℕ
   pub width : ℕ
+  pub advised : Bool
 
 -- the number of the first variable of this name, how many there are where there is none
 abbrev pub var_of : List Var → List ℕ → ℕ
@@ -32,6 +33,31 @@ mem_of (x ∷ xs) m = if bytes_eq x.name.name m then 0 else suc (mem_of xs m)
 abbrev pub mem_width : List Mem → List ℕ → ℕ
 mem_width [] m = 0
 mem_width (x ∷ xs) m = if bytes_eq x.name.name m then x.width.value else mem_width xs m
+
+-- whether a memory is advisory
+abbrev pub is_advisory_mem : List Mem → List ℕ → Bool
+is_advisory_mem [] m = false
+is_advisory_mem (x ∷ xs) m = if bytes_eq x.name.name m then Flat.is_advisory x.kind else is_advisory_mem xs m
+
+-- ADVISED VARIABLES: those bound by a read of an advisory memory, and by an expression that uses one
+
+-- whether the variable of this name is advised
+abbrev pub is_advised_var : List Var → List ℕ → Bool
+is_advised_var [] x = false
+is_advised_var (v ∷ vs) x = if bytes_eq v.name x then v.advised else is_advised_var vs x
+
+-- whether an expression uses an advised variable
+abbrev pub is_advised : List Var → Expr → Bool
+is_advised vs (Constant l) = false
+is_advised vs (Variable x) = is_advised_var vs x.name
+is_advised vs (Slice x high low) = is_advised_var vs x.name
+is_advised vs (Not a) = is_advised vs a
+is_advised vs (Binary op a b) = is_advised vs a || is_advised vs b
+is_advised vs (Cat a b) = is_advised vs a || is_advised vs b
+is_advised vs (LessSigned a b) = is_advised vs a || is_advised vs b
+is_advised vs (ZeroExtend a width) = is_advised vs a
+is_advised vs (SignExtend a width) = is_advised vs a
+is_advised vs (Choose c a b) = is_advised vs c || (is_advised vs a || is_advised vs b)
 
 -- EXPRESSIONS
 
@@ -89,8 +115,8 @@ pub record Position : Type 0 where
   pub begun : ℕ
 
 -- the position with one more variable
-abbrev pub with_var : List ℕ → ℕ → Position → Position
-with_var x width at' = record at' { vars = at'.vars ++ record { name = x; width = width } ∷ [] }
+abbrev pub with_var : List ℕ → ℕ → Bool → Position → Position
+with_var x width advised at' = record at' { vars = at'.vars ++ record { name = x; width = width; advised = advised } ∷ [] }
 
 -- the position in the stage that begins next
 abbrev pub next_position : Position → Position
@@ -119,15 +145,15 @@ guard_of vs e = on_variable (var_of vs) (length vs) e
 
 -- the position after a condition: one that is no plain variable has a variable of 1 bit of its own
 abbrev pub with_guard : Expr → Position → Position
-with_guard e at' = on_variable (λ x. at') (with_var [] 1 at') e
+with_guard e at' = on_variable (λ x. at') (with_var [] 1 false at') e
 
 abbrev mutual
   -- the position after a statement; a branch begins in the stage of its `if`
   pub past : List Mem → Stmt → Position → Position
   past ms (Separator _) at' = next_position at'
-  past ms (CombRead _ x from) at' = with_var x.name (mem_width ms from.mem.name) at'
-  past ms (Bind _ x e) at' = with_var x.name (width_of at'.vars e) at'
-  past ms (DelayedRead _ x from) at' = with_var x.name (mem_width ms from.mem.name) at'
+  past ms (CombRead _ x from) at' = with_var x.name (mem_width ms from.mem.name) (is_advisory_mem ms from.mem.name) at'
+  past ms (Bind _ x e) at' = with_var x.name (width_of at'.vars e) (is_advised at'.vars e) at'
+  past ms (DelayedRead _ x from) at' = with_var x.name (mem_width ms from.mem.name) false at'
   past ms (If _ c when otherwise) at' =
       back_in at'.stage (past_all ms otherwise (back_in at'.stage (past_all ms when (with_guard c at'))))
   past ms (SpecCall _ guess args) at' = at'
@@ -137,6 +163,7 @@ abbrev mutual
   past ms (Release _ at) at' = at'
   past ms (Call _ args) at' = at'
   past ms (Verify _ guess args) at' = at'
+  past ms (Update _ guess args) at' = at'
   past ms (SpecCheck _) at' = at'
   past ms (SpecBarrier _) at' = at'
 
@@ -163,6 +190,21 @@ binds_guard gs at' e = on_variable (λ x. []) (at_position gs at' (Flat.Bind (le
 abbrev pub under : List Flat.Guard → List Var → Expr → Bool → List Flat.Guard
 under gs vs c first = gs ++ record { var = guard_of vs c; first = first } ∷ []
 
+-- a binding, by whether its expression is advised
+abbrev pub bind_op : Bool → ℕ → Flat.Expr → Flat.Op
+bind_op true x e = Flat.AdviceBind x e
+bind_op false x e = Flat.Bind x e
+
+-- a comb read, by whether its memory is advisory
+abbrev pub read_op : Bool → ℕ → ℕ → ℕ → Flat.Op
+read_op true x m a = Flat.AdviceRead x m a
+read_op false x m a = Flat.CombRead x m a
+
+-- a write, by whether its memory is advisory
+abbrev pub write_op : Bool → ℕ → ℕ → Flat.Expr → Flat.Op
+write_op true m a e = Flat.AdviceWrite m a e
+write_op false m a e = Flat.Write m a e
+
 -- a reservation in flat form, by its kind
 abbrev pub reserve_op : Kind → ℕ → ℕ → Flat.Op
 reserve_op R m a = Flat.ReserveRead m a
@@ -173,13 +215,13 @@ abbrev mutual
   pub flat_stmt : List Mem → List Flat.Guard → Stmt → Position → List Flat.Stmt
   flat_stmt ms gs (Separator _) at' = []
   flat_stmt ms gs (CombRead _ x from) at' =
-      at_position gs at' (Flat.CombRead (length at'.vars) (mem_of ms from.mem.name) (var_of at'.vars from.address.name))
-  flat_stmt ms gs (Bind _ x e) at' = at_position gs at' (Flat.Bind (length at'.vars) (flat_expr at'.vars e))
+      at_position gs at' (read_op (is_advisory_mem ms from.mem.name) (length at'.vars) (mem_of ms from.mem.name) (var_of at'.vars from.address.name))
+  flat_stmt ms gs (Bind _ x e) at' = at_position gs at' (bind_op (is_advised at'.vars e) (length at'.vars) (flat_expr at'.vars e))
   flat_stmt ms gs (SpecCall _ guess args) at' = at_position gs at' (Flat.SpecCall (flat_exprs at'.vars args))
   flat_stmt ms gs (DelayedRead _ x from) at' =
       at_position gs at' (Flat.DelayedRead (length at'.vars) (mem_of ms from.mem.name) (var_of at'.vars from.address.name))
   flat_stmt ms gs (Write _ to e) at' =
-      at_position gs at' (Flat.Write (mem_of ms to.mem.name) (var_of at'.vars to.address.name) (flat_expr at'.vars e))
+      at_position gs at' (write_op (is_advisory_mem ms to.mem.name) (mem_of ms to.mem.name) (var_of at'.vars to.address.name) (flat_expr at'.vars e))
   flat_stmt ms gs (Reserve _ at kind) at' =
       at_position gs at' (reserve_op kind (mem_of ms at.mem.name) (var_of at'.vars at.address.name))
   flat_stmt ms gs (Block _ at) at' = at_position gs at' (Flat.Block (mem_of ms at.mem.name) (var_of at'.vars at.address.name))
@@ -189,7 +231,8 @@ abbrev mutual
       ++ flat_stmts ms (under gs at'.vars c true) when (with_guard c at')
       ++ flat_stmts ms (under gs at'.vars c false) otherwise (at_otherwise ms c when at')
   flat_stmt ms gs (Call _ args) at' = at_position gs at' (Flat.Call (flat_exprs at'.vars args))
-  flat_stmt ms gs (Verify _ guess args) at' = at_position gs at' (Flat.Verify (flat_exprs at'.vars args))
+  flat_stmt ms gs (Verify _ guess args) at' = at_position gs at' (Flat.Verify true (flat_exprs at'.vars args))
+  flat_stmt ms gs (Update _ guess args) at' = at_position gs at' (Flat.Verify false (flat_exprs at'.vars args))
   flat_stmt ms gs (SpecCheck _) at' = at_position gs at' Flat.SpecCheck
   flat_stmt ms gs (SpecBarrier _) at' = at_position gs at' Flat.SpecBarrier
 
@@ -215,6 +258,7 @@ abbrev mutual
   separators_in (Release _ at) = 0
   separators_in (Call _ args) = 0
   separators_in (Verify _ guess args) = 0
+  separators_in (Update _ guess args) = 0
   separators_in (SpecCheck _) = 0
   separators_in (SpecBarrier _) = 0
 
@@ -240,15 +284,15 @@ with_merge f [] = []
 with_merge f (x ∷ xs) = record x { merges = Some f } ∷ xs
 
 -- a branch of fork f, the first one or the second
-abbrev pub side : ℕ → Bool → Option Flat.Branch
-side f first = Some (record { fork = f; first = first })
+abbrev pub side : ℕ → Bool → Flat.Branch
+side f first = record { fork = f; first = first }
 
 -- a new stage before the rest of the graph
-abbrev pub graph_with_stage : Option Flat.Branch → Position → Graph → Graph
-graph_with_stage branch at' rest =
+abbrev pub graph_with_stage : List Flat.Branch → Position → Graph → Graph
+graph_with_stage branches at' rest =
     record {
       next = Flat.Goes (suc at'.begun);
-      later = record { next = rest.next; branch = branch; merges = None } ∷ rest.later;
+      later = record { next = rest.next; branches = branches; merges = None } ∷ rest.later;
     }
 
 -- a fork on the variable x with these branches
@@ -257,42 +301,43 @@ graph_with_fork f x first second rest =
     record { next = Flat.Forks x (entry first.next) (entry second.next); later = first.later ++ second.later ++ with_merge f rest.later }
 
 abbrev mutual
-  -- the graph of a statement in this branch with the graph after it; the branches of a fork lead to the stage that begins after both, the merge
-  pub graph_before : List Mem → Option Flat.Branch → Stmt → Position → Graph → Graph
-  graph_before ms branch (Separator _) at' rest = graph_with_stage branch at' rest
-  graph_before ms branch (If _ c when otherwise) at' rest =
+  -- the graph of a statement in these branches with the graph after it; the branches of a fork lead to the stage that begins after both, the merge
+  pub graph_before : List Mem → List Flat.Branch → Stmt → Position → Graph → Graph
+  graph_before ms branches (Separator _) at' rest = graph_with_stage branches at' rest
+  graph_before ms branches (If _ c when otherwise) at' rest =
       if separators when + separators otherwise == 0
       then rest
       else
       (let merge = Flat.Goes (suc (at'.begun + separators when + separators otherwise)) in
       graph_with_fork at'.stage (guard_of at'.vars c)
-      (graph ms (side at'.stage true) merge when (with_guard c at'))
-      (graph ms (side at'.stage false) merge otherwise (at_otherwise ms c when at'))
+      (graph ms (side at'.stage true ∷ branches) merge when (with_guard c at'))
+      (graph ms (side at'.stage false ∷ branches) merge otherwise (at_otherwise ms c when at'))
       rest)
-  graph_before ms branch (CombRead _ x from) at' rest = rest
-  graph_before ms branch (Bind _ x e) at' rest = rest
-  graph_before ms branch (SpecCall _ guess args) at' rest = rest
-  graph_before ms branch (DelayedRead _ x from) at' rest = rest
-  graph_before ms branch (Write _ to e) at' rest = rest
-  graph_before ms branch (Reserve _ at kind) at' rest = rest
-  graph_before ms branch (Block _ at) at' rest = rest
-  graph_before ms branch (Release _ at) at' rest = rest
-  graph_before ms branch (Call _ args) at' rest = rest
-  graph_before ms branch (Verify _ guess args) at' rest = rest
-  graph_before ms branch (SpecCheck _) at' rest = rest
-  graph_before ms branch (SpecBarrier _) at' rest = rest
+  graph_before ms branches (CombRead _ x from) at' rest = rest
+  graph_before ms branches (Bind _ x e) at' rest = rest
+  graph_before ms branches (SpecCall _ guess args) at' rest = rest
+  graph_before ms branches (DelayedRead _ x from) at' rest = rest
+  graph_before ms branches (Write _ to e) at' rest = rest
+  graph_before ms branches (Reserve _ at kind) at' rest = rest
+  graph_before ms branches (Block _ at) at' rest = rest
+  graph_before ms branches (Release _ at) at' rest = rest
+  graph_before ms branches (Call _ args) at' rest = rest
+  graph_before ms branches (Verify _ guess args) at' rest = rest
+  graph_before ms branches (Update _ guess args) at' rest = rest
+  graph_before ms branches (SpecCheck _) at' rest = rest
+  graph_before ms branches (SpecBarrier _) at' rest = rest
 
   -- the graph of some statements, one after another
-  pub graph : List Mem → Option Flat.Branch → Flat.Next → Stmts → Position → Graph
-  graph ms branch exit Nil at' = record { next = exit; later = [] }
-  graph ms branch exit (Cons s ss) at' = graph_before ms branch s at' (graph ms branch exit ss (past ms s at'))
+  pub graph : List Mem → List Flat.Branch → Flat.Next → Stmts → Position → Graph
+  graph ms branches exit Nil at' = record { next = exit; later = [] }
+  graph ms branches exit (Cons s ss) at' = graph_before ms branches s at' (graph ms branches exit ss (past ms s at'))
 
 -- THE WHOLE
 
 -- the parameters as variables
 abbrev pub params_of : List Param → List Var
 params_of [] = []
-params_of (x ∷ xs) = record { name = x.name.name; width = x.width.value } ∷ params_of xs
+params_of (x ∷ xs) = record { name = x.name.name; width = x.width.value; advised = false } ∷ params_of xs
 
 -- a memory's lock in flat form, with its size
 abbrev pub flat_lock : Option LockDecl → Flat.Lock
@@ -307,7 +352,7 @@ flat_lock (Some l) = of_kind l.kind l.size.value
 -- memories in flat form
 abbrev pub mems_of : List Mem → List Flat.Mem
 mems_of [] = []
-mems_of (m ∷ ms) = record { width = m.width.value; depth = m.depth.value; delayed = m.delayed; lock = flat_lock m.lock } ∷ mems_of ms
+mems_of (m ∷ ms) = record { width = m.width.value; depth = m.depth.value; kind = m.kind; lock = flat_lock m.lock } ∷ mems_of ms
 
 -- the start arguments
 abbrev pub start_of : List Literal → List ℕ
@@ -321,8 +366,8 @@ at_start p = record { vars = params_of p.params; stage = 0; begun = 0 }
 -- the stages of a pipe: stage 0, and those that its separators begin
 abbrev pub stages_of : Pipe → List Flat.Stage
 stages_of p =
-    let g = graph p.mems None Flat.Ends p.body (at_start p) in
-    record { next = g.next; branch = None; merges = None } ∷ g.later
+    let g = graph p.mems [] Flat.Ends p.body (at_start p) in
+    record { next = g.next; branches = []; merges = None } ∷ g.later
 
 -- the stage of the first statement of this kind, where there is one
 abbrev pub first_stage : (Flat.Op → Bool) → List Flat.Stmt → Option ℕ

@@ -1,6 +1,6 @@
 -- Statements by what they have to do with. Each definition names every form, so that a new one must be spoken of here before what stands on it checks.
 use Rattle.std.specs.Prelude.{ℕ}
-use Rattle.pdl_semantics.specs.Flat.{Op, Bind, CombRead, DelayedRead, Write, ReserveRead, ReserveWrite, Block, Release, Call, SpecCall, Verify, SpecCheck, SpecBarrier}
+use Rattle.pdl_semantics.specs.Flat.{Op, Bind, CombRead, DelayedRead, Write, ReserveRead, ReserveWrite, Block, Release, Call, SpecCall, Verify, SpecCheck, SpecBarrier, AdviceBind, AdviceRead, AdviceWrite}
 
 -- of the variable that a statement binds; of a statement that binds none the rest
 abbrev pub on_binding {ℓ} : {X : Type ℓ} → (ℕ → X) → X → Op → X
@@ -14,9 +14,12 @@ on_binding f rest (Block m a) = rest
 on_binding f rest (Release m a) = rest
 on_binding f rest (Call args) = rest
 on_binding f rest (SpecCall args) = rest
-on_binding f rest (Verify args) = rest
+on_binding f rest (Verify last args) = rest
 on_binding f rest SpecCheck = rest
 on_binding f rest SpecBarrier = rest
+on_binding f rest (AdviceBind x e) = rest
+on_binding f rest (AdviceRead x m a) = rest
+on_binding f rest (AdviceWrite m a e) = rest
 
 -- of a delayed read's variable, its memory and the variable of its address; of any other statement the rest
 abbrev pub on_delayed_read {ℓ} : {X : Type ℓ} → (ℕ → ℕ → ℕ → X) → X → Op → X
@@ -30,9 +33,12 @@ on_delayed_read f rest (Block m a) = rest
 on_delayed_read f rest (Release m a) = rest
 on_delayed_read f rest (Call args) = rest
 on_delayed_read f rest (SpecCall args) = rest
-on_delayed_read f rest (Verify args) = rest
+on_delayed_read f rest (Verify last args) = rest
 on_delayed_read f rest SpecCheck = rest
 on_delayed_read f rest SpecBarrier = rest
+on_delayed_read f rest (AdviceBind x e) = rest
+on_delayed_read f rest (AdviceRead x m a) = rest
+on_delayed_read f rest (AdviceWrite m a e) = rest
 
 -- of a block's memory and the variable of its address; of any other statement the rest
 abbrev pub on_block {ℓ} : {X : Type ℓ} → (ℕ → ℕ → X) → X → Op → X
@@ -46,9 +52,12 @@ on_block f rest (Block m a) = f m a
 on_block f rest (Release m a) = rest
 on_block f rest (Call args) = rest
 on_block f rest (SpecCall args) = rest
-on_block f rest (Verify args) = rest
+on_block f rest (Verify last args) = rest
 on_block f rest SpecCheck = rest
 on_block f rest SpecBarrier = rest
+on_block f rest (AdviceBind x e) = rest
+on_block f rest (AdviceRead x m a) = rest
+on_block f rest (AdviceWrite m a e) = rest
 
 -- of a release's memory and the variable of its address; of any other statement the rest
 abbrev pub on_release {ℓ} : {X : Type ℓ} → (ℕ → ℕ → X) → X → Op → X
@@ -62,6 +71,9 @@ on_release f rest (Block m a) = rest
 on_release f rest (Release m a) = f m a
 on_release f rest (Call args) = rest
 on_release f rest (SpecCall args) = rest
-on_release f rest (Verify args) = rest
+on_release f rest (Verify last args) = rest
 on_release f rest SpecCheck = rest
 on_release f rest SpecBarrier = rest
+on_release f rest (AdviceBind x e) = rest
+on_release f rest (AdviceRead x m a) = rest
+on_release f rest (AdviceWrite m a e) = rest

@@ -12,3 +12,5 @@ pub mod Cycle
 pub mod Promises
 pub mod Sound
 pub mod PendingLists
+pub mod Updates
+pub mod SecondWrites

@@ -1,5 +1,5 @@
 -- The text that runs print, as bytes.
-use Rattle.std.specs.Prelude.{ℕ, zero, suc, ◌+◌, ◌/◌, Bool, true, false, List, [], ◌∷◌, ◌++◌, Option, Some, None, codes, decimal, length, count_by, flat_map}
+use Rattle.std.specs.Prelude.{ℕ, zero, suc, ◌+◌, ◌/◌, Bool, true, false, List, [], ◌∷◌, ◌++◌, codes, decimal, length, count_by, flat_map}
 use Rattle.pdl_semantics.specs.Tree.{Mem, Pipe}
 use Rattle.pdl_semantics.specs.Flat.{Commit, of_mem, arrays_of}
 use Rattle.pdl_semantics.specs.Flatten.{flat}
@@ -117,15 +117,15 @@ seq_lines p image k =
 
 -- RUNS OF THE MACHINE
 
--- the word that a release puts into its array
-abbrev pub put_of : Option PortWrite → List Put
-put_of None = []
-put_of (Some w) = record { address = w.address; value = w.value } ∷ []
+-- the words that releases put into their arrays
+abbrev pub puts_for : List PortWrite → List Put
+puts_for [] = []
+puts_for (w ∷ ws) = record { address = w.address; value = w.value } ∷ puts_for ws
 
 -- the words that releases put into the array of each memory
-abbrev pub puts_in : List (Option PortWrite) → List (List Put)
+abbrev pub puts_in : List (List PortWrite) → List (List Put)
 puts_in [] = []
-puts_in (e ∷ es) = put_of e ∷ puts_in es
+puts_in (ws ∷ rest) = puts_for ws ∷ puts_in rest
 
 -- a cycle of the machine, as lines show it
 abbrev pub turn_cycle : Turn → Cycle

@@ -1,5 +1,5 @@
 -- What the kinds of lock make of the pending writes of older threads.
-use Rattle.std.specs.Prelude.{ℕ, Bool, true, false, not, Option, Some, None, nat_lt}
+use Rattle.std.specs.Prelude.{ℕ, Bool, true, false, not, Option, Some, None, ◌+◌, nat_le}
 use Rattle.pdl_semantics.specs.Flat.{Lock, Plain, Queue, Bypass, Rename}
 
 -- what the youngest of these pending writes says of an address: there is none, its value is still to come, or its value
@@ -57,12 +57,12 @@ is_exact (Queue size) = true
 is_exact (Bypass size) = false
 is_exact (Rename size) = false
 
--- whether there is room beside n pending writes
-abbrev pub has_room : Lock → ℕ → Bool
-has_room Plain n = true
-has_room (Queue size) n = nat_lt n size
-has_room (Bypass size) n = nat_lt n size
-has_room (Rename size) n = nat_lt n size
+-- whether there is room for k more beside n pending writes
+abbrev pub has_room : Lock → ℕ → ℕ → Bool
+has_room Plain k n = true
+has_room (Queue size) k n = nat_le (k + n) size
+has_room (Bypass size) k n = nat_le (k + n) size
+has_room (Rename size) k n = nat_le (k + n) size
 
 -- the value that a release puts into the array
 abbrev pub commit_value : Option ℕ → ℕ

@@ -1,6 +1,6 @@
 -- The state of the pipeline machine, and what a thread's stage does in it: a numbered thread in each stage, the pending writes of each lock, the branches taken in each fork, the requests.
-use Rattle.std.specs.Prelude.{ℕ, Bool, true, false, ◌&&◌, ◌||◌, List, [], ◌∷◌, ◌++◌, Option, Some, None, is_some, if◌then◌else◌, nat_lt, ◌==◌, slice_index, slice_index_or, slice_set}
-use Rattle.pdl_semantics.specs.Flat.{Arrays, Op, Bind, CombRead, DelayedRead, Write, ReserveRead, ReserveWrite, Block, Release, Call, SpecCall, Verify, SpecCheck, SpecBarrier, Stmt, Pipe, value_of, values_of, all_hold, word_at}
+use Rattle.std.specs.Prelude.{ℕ, suc, Bool, true, false, ◌&&◌, ◌||◌, List, [], ◌∷◌, ◌++◌, Option, Some, None, is_some, if◌then◌else◌, nat_lt, ◌==◌, slice_index, slice_index_or, slice_set}
+use Rattle.pdl_semantics.specs.Flat.{Arrays, Op, Bind, CombRead, DelayedRead, Write, ReserveRead, ReserveWrite, Block, Release, Call, SpecCall, Verify, SpecCheck, SpecBarrier, AdviceBind, AdviceRead, AdviceWrite, Expr, Stmt, Pipe, value_of, values_of, all_hold, word_at}
 use Rattle.pdl_semantics.specs.Stages.{in_stage, reply_place}
 use Rattle.pdl_semantics.specs.Locks.{Latest, Nothing, as_latest, value_or}
 
@@ -11,22 +11,29 @@ pub record Awaited : Type 0 where
   pub mem : ℕ
   pub var : ℕ
 
--- an answer that came while its thread couldn't move: the variable that it is for, and its word
+-- a value for a variable that isn't among the others: an answer that came while its thread couldn't move, or an advised value
 pub record Kept : Type 0 where
   pub var : ℕ
   pub word : ℕ
 
--- a thread: its number, its values (arguments, bound variables and truth values of guards), the arguments of its guess, the reads that it still awaits, and its kept answers
+-- the values with these
+abbrev pub with_kept : List Kept → List ℕ → List ℕ
+with_kept [] env = env
+with_kept (k ∷ ks) env = with_kept ks (slice_set env k.var k.word)
+
+-- a thread: its number, its values (arguments, bound variables and truth values of guards), those of advised variables, the arguments of its present guess, the reads that it still awaits, and its kept answers. Advised values stand apart: expressions find them in guesses, in updates of guesses, and in what is advisory itself, and nowhere else
 pub record Thread : Type 0 where
   pub number : ℕ
   pub env : List ℕ
+  pub advice : List Kept
   pub guess : List ℕ
   pub awaits : List Awaited
   pub kept : List Kept
 
--- a pending write: its thread, its address, and its value or none
+-- a pending write: its thread, the variable by which that reserved it, its address, and its value or none
 pub record Pending : Type 0 where
   pub thread : ℕ
+  pub var : ℕ
   pub address : ℕ
   pub value : Option ℕ
 
@@ -98,9 +105,12 @@ held_after (ReserveRead m a) ls = ls
 held_after (Block m a) ls = ls
 held_after (Call args) ls = ls
 held_after (SpecCall args) ls = ls
-held_after (Verify args) ls = ls
+held_after (Verify last args) ls = ls
 held_after SpecCheck ls = ls
 held_after SpecBarrier ls = ls
+held_after (AdviceBind x e) ls = ls
+held_after (AdviceRead x m a) ls = ls
+held_after (AdviceWrite m a e) ls = ls
 
 -- the locations that are held for writing after the statements of the path in the stages before s
 abbrev pub held_before : ℕ → List ℕ → List Stmt → List HeldLocation → List HeldLocation
@@ -117,42 +127,70 @@ pub record Blocked : Type 0 where
 -- a write reservation: its memory and its address
 pub record Reserved : Type 0 where
   pub mem : ℕ
+  pub var : ℕ
   pub address : ℕ
 
 -- a value that a thread writes to a memory
 pub record Written : Type 0 where
   pub mem : ℕ
+  pub var : ℕ
   pub value : ℕ
+
+-- a write of an advisory memory
+pub record Advised : Type 0 where
+  pub mem : ℕ
+  pub address : ℕ
+  pub value : ℕ
+
+-- how many of these reservations are of m
+abbrev pub reserves_of : ℕ → List Reserved → ℕ
+reserves_of m [] = 0
+reserves_of m (r ∷ rs) = if r.mem == m then suc (reserves_of m rs) else reserves_of m rs
 
 -- what the statements of a stage on the thread's path do, in text order
 pub record Deeds : Type 0 where
   pub env : List ℕ  -- the values after them
+  pub advice : List Kept
   pub guess : List ℕ
   pub held : List HeldLocation
   pub blocks : List Blocked
   pub reserves : List Reserved
   pub writes : List Written
-  pub releases : List ℕ  -- the memories whose write reservation is released
+  pub releases : List ℕ  -- the memories whose write reservations are released, each as often as one of its own is
   pub asks : List Ask  -- the delayed reads
+  pub advises : List Advised  -- the writes of advisory memories
   pub barrier : Bool  -- whether there is a spec_barrier
   pub child : Option (List ℕ)  -- the new thread's arguments
-  pub fails : Bool  -- whether a verify fails
+  pub fails : Bool  -- whether a verify fails or an update changes the guess: a squash
 
--- what a `verify` does: other arguments than the guess's make a new thread and fail
+-- a verify or an update of these arguments: where the present guess is another, they replace it, and a thread with them the younger ones
 abbrev pub after_verify : List ℕ → Deeds → Deeds
-after_verify args d = if same_args args d.guess then d else record d { child = Some args; fails = true }
+after_verify args d = if same_args args d.guess then d else record d { child = Some args; guess = args; fails = true }
+
+-- the values with the advised ones
+abbrev pub all_values : Deeds → List ℕ
+all_values d = with_kept d.advice d.env
+
+-- the arguments of a verify, or of an update, which may use advised values as a guess may
+abbrev pub checked_args : Bool → List Expr → Deeds → List ℕ
+checked_args true args d = values_of args d.env
+checked_args false args d = values_of args (all_values d)
+
+-- the deeds with the value of one more advised variable
+abbrev pub with_advised : ℕ → ℕ → Deeds → Deeds
+with_advised x v d = record d { advice = d.advice ++ record { var = x; word = v } ∷ [] }
 
 -- one statement, where `read` gives the words that reads find
 abbrev pub deeds_after : (ℕ → ℕ → ℕ) → Op → Deeds → Deeds
 deeds_after read (Bind x e) d = record d { env = slice_set d.env x (value_of e d.env) }
 deeds_after read (CombRead x m a) d = record d { env = slice_set d.env x (read m (slice_index d.env a)) }
 deeds_after read (DelayedRead x m a) d = record d { asks = d.asks ++ record { mem = m; var = x; address = slice_index d.env a } ∷ [] }
-deeds_after read (Write m a e) d = record d { writes = d.writes ++ record { mem = m; value = value_of e d.env } ∷ [] }
+deeds_after read (Write m a e) d = record d { writes = d.writes ++ record { mem = m; var = a; value = value_of e d.env } ∷ [] }
 deeds_after read (ReserveRead m a) d = d
 deeds_after read (ReserveWrite m a) d =
     record d {
       held = held_after (ReserveWrite m a) d.held;
-      reserves = d.reserves ++ record { mem = m; address = slice_index d.env a } ∷ [];
+      reserves = d.reserves ++ record { mem = m; var = a; address = slice_index d.env a } ∷ [];
     }
 deeds_after read (Block m a) d =
     record d { blocks = d.blocks ++ record { mem = m; address = slice_index d.env a; writes = is_held d.held m a } ∷ [] }
@@ -162,10 +200,14 @@ deeds_after read (Release m a) d =
       releases = d.releases ++ (if is_held d.held m a then m ∷ [] else []);
     }
 deeds_after read (Call args) d = record d { child = Some (values_of args d.env) }
-deeds_after read (SpecCall args) d = record d { child = Some (values_of args d.env); guess = values_of args d.env }
-deeds_after read (Verify args) d = after_verify (values_of args d.env) d
+deeds_after read (SpecCall args) d = record d { child = Some (values_of args (all_values d)); guess = values_of args (all_values d) }
+deeds_after read (Verify last args) d = after_verify (checked_args last args d) d
 deeds_after read SpecCheck d = d
 deeds_after read SpecBarrier d = record d { barrier = true }
+deeds_after read (AdviceBind x e) d = with_advised x (value_of e (all_values d)) d
+deeds_after read (AdviceRead x m a) d = with_advised x (read m (slice_index (all_values d) a)) d
+deeds_after read (AdviceWrite m a e) d =
+    record d { advises = d.advises ++ record { mem = m; address = slice_index (all_values d) a; value = value_of e (all_values d) } ∷ [] }
 
 -- what statements do in text order, those whose guards hold
 abbrev pub deeds_after_all : (ℕ → ℕ → ℕ) → List Stmt → Deeds → Deeds
@@ -225,16 +267,12 @@ with_answers p st bits t =
       kept = t.kept ++ answered_reads p st bits t.number t.awaits;
     }
 
--- the values with the answers
-abbrev pub with_kept : List Kept → List ℕ → List ℕ
-with_kept [] env = env
-with_kept (k ∷ ks) env = with_kept ks (slice_set env k.var k.word)
-
 -- what a thread's stage does where reads find these words
 abbrev pub deeds_with : (ℕ → ℕ → ℕ) → Pipe → ℕ → Thread → Deeds
 deeds_with read p s t =
     deeds_after_all read (in_stage s p.stmts) (record {
       env = with_kept t.kept t.env;
+      advice = t.advice;
       guess = t.guess;
       held = held_before s t.env p.stmts [];
       blocks = [];
@@ -242,6 +280,7 @@ deeds_with read p s t =
       writes = [];
       releases = [];
       asks = [];
+      advises = [];
       barrier = false;
       child = None;
       fails = false;

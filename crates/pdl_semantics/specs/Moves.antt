@@ -1,9 +1,9 @@
 -- Which threads move in a cycle. It is decided from the stage with the greatest number down to stage 0; `later` are the acts of the threads in later stages.
 use Rattle.std.specs.Prelude.{ℕ, suc, Bool, true, false, ◌&&◌, ◌||◌, not, List, [], ◌∷◌, Option, Some, None, if◌then◌else◌, nat_lt, ◌==◌, length}
 use Rattle.pdl_semantics.specs.Flat.{list_all, Branch, Pipe}
-use Rattle.pdl_semantics.specs.Stages.{list_any, mem_at, stage_at, verify_stage, goes_to}
+use Rattle.pdl_semantics.specs.Stages.{list_any, mem_at, stage_at, sides_of, verify_stage, goes_to}
 use Rattle.pdl_semantics.specs.Locks.{read_ready, write_ready, has_room}
-use Rattle.pdl_semantics.specs.Machine.{Awaited, Thread, Request, NoRequest, Owned, Orphan, State, lock_of, fork_of, request_of, Blocked, Deeds, deeds, older_write, with_answers, is_answered}
+use Rattle.pdl_semantics.specs.Machine.{Awaited, Thread, Request, NoRequest, Owned, Orphan, State, lock_of, fork_of, request_of, Blocked, reserves_of, Deeds, deeds, older_write, with_answers, is_answered}
 
 -- a thread in a cycle: its stage, itself with this cycle's answers, what its stage's statements do, and whether it moves
 pub record Act : Type 0 where
@@ -16,7 +16,7 @@ pub record Act : Type 0 where
 abbrev pub next_stage : Pipe → ℕ → Deeds → Option ℕ
 next_stage p s d = goes_to (stage_at p s).next d.env
 
--- 1. no thread in a later stage moves with a failing verify
+-- 1. no thread in a later stage moves with a failing verify or a changing update
 abbrev pub no_failure : List Act → Bool
 no_failure later = list_all (λ o. not (o.moves && o.does.fails)) later
 
@@ -31,9 +31,9 @@ block_ready p st thread b =
 abbrev pub blocks_ready : Pipe → State → ℕ → Deeds → Bool
 blocks_ready p st thread d = list_all (λ b. block_ready p st thread b) d.blocks
 
--- 3. each write reservation has room
+-- 3. there is room for the thread's write reservations of each memory, together
 abbrev pub have_room : Pipe → State → Deeds → Bool
-have_room p st d = list_all (λ r. has_room (mem_at p r.mem).lock (length (lock_of st r.mem))) d.reserves
+have_room p st d = list_all (λ r. has_room (mem_at p r.mem).lock (reserves_of r.mem d.reserves) (length (lock_of st r.mem))) d.reserves
 
 -- 4. each read that it awaits was answered before or is answered now
 abbrev pub is_empty : List Awaited → Bool
@@ -64,7 +64,7 @@ abbrev pub can_enter : Option ℕ → List Act → Bool
 can_enter None later = true
 can_enter (Some q) later = list_all (λ o. not (o.stage == q) || o.moves) later
 
--- 8. into a merge: from a branch, that is the first of the fork's list; straight from the fork, the list is empty
+-- 8. into the merge of a fork: from one of its branches, that is the first of the fork's list; straight from the fork, the list is empty
 abbrev pub is_first : Bool → List Bool → Bool
 is_first b [] = false
 is_first b (c ∷ cs) = if b then c else not c
@@ -74,16 +74,20 @@ abbrev pub is_nobody : List Bool → Bool
 is_nobody [] = true
 is_nobody (c ∷ cs) = false
 
--- whether a thread from this branch, or from none, may enter a stage that merges this fork, or none
-abbrev pub may_merge : State → Option ℕ → Option Branch → Bool
+-- whether a thread from this branch of a fork, or straight from the fork, may enter the merge, by the fork's list
+abbrev pub is_its_turn : List Bool → List Bool → Bool
+is_its_turn [] list = is_nobody list
+is_its_turn (b ∷ bs) list = is_first b list
+
+-- whether a thread from these branches may enter a stage that merges this fork, or none
+abbrev pub may_merge : State → Option ℕ → List Branch → Bool
 may_merge st None from = true
-may_merge st (Some f) None = is_nobody (fork_of st f)
-may_merge st (Some f) (Some b) = is_first b.first (fork_of st f)
+may_merge st (Some f) from = is_its_turn (sides_of f from) (fork_of st f)
 
 -- whether a thread in stage s may enter this next stage, as a merge
 abbrev pub merges_well : Pipe → State → ℕ → Option ℕ → Bool
 merges_well p st s None = true
-merges_well p st s (Some q) = may_merge st (stage_at p q).merges (stage_at p s).branch
+merges_well p st s (Some q) = may_merge st (stage_at p q).merges (stage_at p s).branches
 
 -- a thread moves where all eight hold
 abbrev pub may_move : Pipe → State → List Bool → List Act → ℕ → Thread → Deeds → Bool

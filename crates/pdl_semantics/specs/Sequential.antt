@@ -1,6 +1,6 @@
 -- The sequential meaning of a pipe (PLDI 2022, "PDL: a high-level hardware design language for pipelined processors"): threads one after another on plain arrays, with no stages, locks, guesses or clock.
-use Rattle.std.specs.Prelude.{ℕ, zero, suc, List, [], ◌∷◌, ◌++◌, if◌then◌else◌, slice_index, slice_set}
-use Rattle.pdl_semantics.specs.Flat.{Arrays, Op, Bind, CombRead, DelayedRead, Write, ReserveRead, ReserveWrite, Block, Release, Call, SpecCall, Verify, SpecCheck, SpecBarrier, Stmt, Pipe, value_of, values_of, all_hold, start_env, word_at, with_word, Commit, of_mem}
+use Rattle.std.specs.Prelude.{ℕ, zero, suc, true, false, List, [], ◌∷◌, ◌++◌, if◌then◌else◌, slice_index, slice_set}
+use Rattle.pdl_semantics.specs.Flat.{Arrays, Op, Bind, CombRead, DelayedRead, Write, ReserveRead, ReserveWrite, Block, Release, Call, SpecCall, Verify, SpecCheck, SpecBarrier, Stmt, Pipe, value_of, values_of, all_hold, start_env, word_at, with_word, Commit, of_mem, AdviceBind, AdviceRead, AdviceWrite}
 
 -- a thread on its way: the arrays, its variables, its writes so far, and the next thread's arguments
 pub record Run : Type 0 where
@@ -20,7 +20,8 @@ run_after (Write m a e) r =
       writes = r.writes ++ record { mem = m; address = slice_index r.env a; value = value_of e r.env } ∷ [];
     }
 run_after (Call args) r = record r { next = values_of args r.env }
-run_after (Verify args) r = record r { next = values_of args r.env }
+run_after (Verify true args) r = record r { next = values_of args r.env }
+run_after (Verify false args) r = r
 run_after (ReserveRead m a) r = r
 run_after (ReserveWrite m a) r = r
 run_after (Block m a) r = r
@@ -28,6 +29,9 @@ run_after (Release m a) r = r
 run_after (SpecCall args) r = r
 run_after SpecCheck r = r
 run_after SpecBarrier r = r
+run_after (AdviceBind x e) r = r
+run_after (AdviceRead x m a) r = r
+run_after (AdviceWrite m a e) r = r
 
 -- the statements in text order, those whose guards hold
 abbrev pub run_all : List Stmt → Run → Run

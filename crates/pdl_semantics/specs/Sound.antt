@@ -1,8 +1,8 @@
 -- Sound state: what holds, between cycles, in every state that a run of an accepted pipe comes to. Each point is a test, so that it computes. A turn is a thread of the sequential run.
-use Rattle.std.specs.Prelude.{IsTrue, ℕ, zero, suc, ◌+◌, count_by, Bool, true, false, ◌&&◌, ◌||◌, not, List, [], ◌∷◌, ◌++◌, Option, Some, None, is_none, if◌then◌else◌, nat_lt, nat_le, ◌==◌, slice_index, length}
-use Rattle.pdl_semantics.specs.Flat.{Arrays, list_all, Op, Bind, CombRead, DelayedRead, Write, ReserveRead, ReserveWrite, Block, Release, Call, SpecCall, Verify, SpecCheck, SpecBarrier, Stmt, Mem, Branch, Pipe, value_of, values_of, start_env, word_at, Commit, of_mem}
+use Rattle.std.specs.Prelude.{IsTrue, ℕ, zero, suc, ◌+◌, ◌-◌, count_by, Bool, true, false, ◌&&◌, ◌||◌, not, List, [], ◌∷◌, ◌++◌, Option, Some, None, is_none, if◌then◌else◌, nat_lt, nat_le, ◌==◌, slice_index, length}
+use Rattle.pdl_semantics.specs.Flat.{is_advisory, Arrays, list_all, Op, Bind, CombRead, DelayedRead, Write, ReserveRead, ReserveWrite, Block, Release, Call, SpecCall, Verify, SpecCheck, SpecBarrier, AdviceBind, AdviceRead, AdviceWrite, Stmt, Mem, Branch, Pipe, value_of, values_of, start_env, word_at, Commit, of_mem}
 use Rattle.pdl_semantics.specs.Forms.{on_delayed_read, on_block, on_release}
-use Rattle.pdl_semantics.specs.Stages.{list_any, onpath, stage_at, goes_to, is_verify, verify_stage}
+use Rattle.pdl_semantics.specs.Stages.{list_any, onpath, stage_at, sides_of, goes_to, is_verify, verify_stage, is_write_reserve}
 use Rattle.pdl_semantics.specs.Sequential.{Run, run_all, thread, seqwrites, after_turns}
 use Rattle.pdl_semantics.specs.Machine.{Awaited, Kept, Thread, Pending, Request, NoRequest, Owned, Orphan, State, lock_of, fork_of, request_of, HeldLocation, is_held, held_before, same_args, with_kept}
 use Rattle.pdl_semantics.specs.Moves.{block_ready}
@@ -89,9 +89,12 @@ is_call (ReserveRead m a) = false
 is_call (ReserveWrite m a) = false
 is_call (Block m a) = false
 is_call (Release m a) = false
-is_call (Verify args) = false
+is_call (Verify last args) = false
 is_call SpecCheck = false
 is_call SpecBarrier = false
+is_call (AdviceBind x e) = false
+is_call (AdviceRead x m a) = false
+is_call (AdviceWrite m a e) = false
 
 -- whether a statement is a call on a guess
 abbrev pub is_spec_call : Op → Bool
@@ -105,13 +108,19 @@ is_spec_call (ReserveWrite m a) = false
 is_spec_call (Block m a) = false
 is_spec_call (Release m a) = false
 is_spec_call (Call args) = false
-is_spec_call (Verify args) = false
+is_spec_call (Verify last args) = false
 is_spec_call SpecCheck = false
 is_spec_call SpecBarrier = false
+is_spec_call (AdviceBind x e) = false
+is_spec_call (AdviceRead x m a) = false
+is_spec_call (AdviceWrite m a e) = false
 
 -- whether a statement is a `spec_barrier`
 abbrev pub is_barrier : Op → Bool
 is_barrier SpecBarrier = true
+is_barrier (AdviceBind x e) = false
+is_barrier (AdviceRead x m a) = false
+is_barrier (AdviceWrite m a e) = false
 is_barrier (Bind x e) = false
 is_barrier (CombRead x m a) = false
 is_barrier (DelayedRead x m a) = false
@@ -122,7 +131,7 @@ is_barrier (Block m a) = false
 is_barrier (Release m a) = false
 is_barrier (Call args) = false
 is_barrier (SpecCall args) = false
-is_barrier (Verify args) = false
+is_barrier (Verify last args) = false
 is_barrier SpecCheck = false
 
 -- whether a statement is a write of memory m
@@ -137,25 +146,12 @@ is_write m (Block n a) = false
 is_write m (Release n a) = false
 is_write m (Call args) = false
 is_write m (SpecCall args) = false
-is_write m (Verify args) = false
+is_write m (Verify last args) = false
 is_write m SpecCheck = false
 is_write m SpecBarrier = false
-
--- a reservation of memory m for writing
-abbrev pub is_write_reserve : ℕ → Op → Bool
-is_write_reserve m (ReserveWrite n a) = n == m
-is_write_reserve m (Bind x e) = false
-is_write_reserve m (CombRead x n a) = false
-is_write_reserve m (DelayedRead x n a) = false
-is_write_reserve m (Write n a e) = false
-is_write_reserve m (ReserveRead n a) = false
-is_write_reserve m (Block n a) = false
-is_write_reserve m (Release n a) = false
-is_write_reserve m (Call args) = false
-is_write_reserve m (SpecCall args) = false
-is_write_reserve m (Verify args) = false
-is_write_reserve m SpecCheck = false
-is_write_reserve m SpecBarrier = false
+is_write m (AdviceBind x e) = false
+is_write m (AdviceRead x _ a) = false
+is_write m (AdviceWrite _ a e) = false
 
 -- the release of the location in memory m whose address is variable a
 abbrev pub is_release_at : ℕ → ℕ → Op → Bool
@@ -173,9 +169,12 @@ looks_at m (ReserveWrite n a) = false
 looks_at m (Release n a) = false
 looks_at m (Call args) = false
 looks_at m (SpecCall args) = false
-looks_at m (Verify args) = false
+looks_at m (Verify last args) = false
 looks_at m SpecCheck = false
 looks_at m SpecBarrier = false
+looks_at m (AdviceBind x e) = false
+looks_at m (AdviceRead x _ a) = false
+looks_at m (AdviceWrite _ a e) = false
 
 -- a thread has released a write of m
 abbrev pub has_released : ℕ → Pipe → Live → Bool
@@ -189,7 +188,7 @@ pub record Follower : Type 0 where
   pub arrays : Arrays
   pub args : List ℕ
 
--- whether a thread has guessed other arguments than its turn passes on, and hasn't verified them
+-- its present guess is other arguments than its turn passes on, and it hasn't verified them
 abbrev pub guessed_wrong : Pipe → List ℕ → Live → Bool
 guessed_wrong p next l = has_done is_spec_call p l && not (has_done is_verify p l) && not (same_args l.thread.guess next)
 
@@ -228,27 +227,25 @@ turn_so_far p f =
     run_all (stages_before f.live.stage p.stmts)
     (record { arrays = f.arrays; env = start_env p f.args; writes = []; next = [] })
 
--- 1. ORDER. Of two live threads the older stands in the greater stage, or they stand in the two branches of one fork
+-- 1. ORDER. Of two live threads the older stands in the greater stage, or they stand in the two branches of some fork
 
--- the branches that two stages stand in are the two of one fork
-abbrev pub other_branch : Option Branch → Option Branch → Bool
-other_branch (Some a) (Some b) = (a.fork == b.fork) && (if a.first then not b.first else b.first)
-other_branch _ _ = false
+-- whether two branches are the two of one fork
+abbrev pub other_branch : Branch → Branch → Bool
+other_branch a b = (a.fork == b.fork) && (if a.first then not b.first else b.first)
+
+-- whether two stages stand in the two branches of some fork, by the branches that each stands in
+abbrev pub are_apart : List Branch → List Branch → Bool
+are_apart older younger = list_any (λ a. list_any (other_branch a) younger) older
 
 -- the younger thread stands in an earlier stage, or in the other branch of a fork
 abbrev pub is_behind : Pipe → Live → Live → Bool
 is_behind p older younger =
-    nat_lt younger.stage older.stage || other_branch (stage_at p older.stage).branch (stage_at p younger.stage).branch
+    nat_lt younger.stage older.stage || are_apart (stage_at p older.stage).branches (stage_at p younger.stage).branches
 
 -- a fork's list holds the branches of just the threads inside, oldest first
-abbrev pub side_in : ℕ → Option Branch → List Bool
-side_in f None = []
-side_in f (Some b) = if b.fork == f then b.first ∷ [] else []
-
--- the branches of fork f that these threads stand in
 abbrev pub sides_in : Pipe → ℕ → List Live → List Bool
 sides_in p f [] = []
-sides_in p f (l ∷ ls) = side_in f (stage_at p l.stage).branch ++ sides_in p f ls
+sides_in p f (l ∷ ls) = sides_of f (stage_at p l.stage).branches ++ sides_in p f ls
 
 -- two lists of branches are the same
 abbrev pub same_sides : List Bool → List Bool → Bool
@@ -270,7 +267,7 @@ are_linked p [] = false
 are_linked p (l ∷ []) = not (has_done is_call p l)
 are_linked p (l ∷ k ∷ ls) = has_done is_call p l && are_linked p (k ∷ ls)
 
--- 3. VALUES. A follower's values, once its awaited reads are answered, are those of its turn, and so are the addresses that it awaits
+-- 3. VALUES. A follower's values, the advised ones apart, once its awaited reads are answered, are those of its turn, and so are the addresses that it awaits
 
 -- the address of a request, 0 where there is none
 abbrev pub request_address : Request → ℕ
@@ -318,28 +315,43 @@ abbrev pub owners : List Pending → List ℕ
 owners [] = []
 owners (e ∷ es) = e.thread ∷ owners es
 
--- a follower's entries have its turn's address and, once written, its value
+-- a thread's entries, in order
+abbrev pub entries_by : ℕ → List Pending → List Pending
+entries_by thread [] = []
+entries_by thread (e ∷ es) = if e.thread == thread then e ∷ entries_by thread es else entries_by thread es
+
+-- whether an entry's value, where it has one, is this
 abbrev pub has_value : Option ℕ → ℕ → Bool
 has_value None v = false
 has_value (Some w) v = w == v
 
--- an entry has the address of the first of these writes and, once written, its value
-abbrev pub is_right_entry : Bool → List Commit → Pending → Bool
-is_right_entry written [] e = false
-is_right_entry written (c ∷ cs) e =
+-- whether an entry has the address of a write and, once that is made, its value
+abbrev pub is_right_entry : Bool → Commit → Pending → Bool
+is_right_entry written c e =
     (e.address == c.address) && (if written then has_value e.value c.value else is_none e.value)
 
--- each entry of a follower in the list of memory m is right
+-- whether entries are those of these writes, of which the first k are made
+abbrev pub are_right : ℕ → List Commit → List Pending → Bool
+are_right k (c ∷ cs) (e ∷ es) = is_right_entry (nat_lt 0 k) c e && are_right (k - 1) cs es
+are_right k [] [] = true
+are_right k _ _ = false
+
+-- how many writes of m a thread has made in its earlier stages
+abbrev pub writes_done : ℕ → Pipe → Live → ℕ
+writes_done m p l = count_by (λ (x : Stmt). is_write m x.op) (past_stmts p l)
+
+-- whether a follower that has entries of memory m has those of its turn's writes
 abbrev pub right_entries : Pipe → State → ℕ → Follower → Bool
 right_entries p st m f =
-    list_all (λ e. not (e.thread == f.live.thread.number) || is_right_entry (has_done (is_write m) p f.live) (turn_writes m p f) e) (lock_of st m)
+    (length (entries_by f.live.thread.number (lock_of st m)) == 0)
+    || are_right (writes_done m p f.live) (turn_writes m p f) (entries_by f.live.thread.number (lock_of st m))
 
 -- point 4 of memory m: its list has an entry for each location held, and those of followers are right
 abbrev pub pending_right : Pipe → Arrays → ℕ → State → ℕ → Bool
 pending_right p image n st m =
     same_args (owners (lock_of st m)) (holders p m (live st)) && list_all (right_entries p st m) (followers p image n st)
 
--- 5. ARRAYS. An array is the image with, in order, the writes of the ended turns and the released ones of followers; no later thread has released a write
+-- 5. ARRAYS. An array that isn't advisory is the image with, in order, the writes of the ended turns and the released ones of followers; no later thread has released a write
 
 -- the writes to m that followers have released, in order
 abbrev pub released_by : ℕ → Pipe → List Follower → List Commit
@@ -355,7 +367,7 @@ array_right p image n st m depth =
 -- point 5 of the memories from number m on
 abbrev pub arrays_right : Pipe → Arrays → ℕ → State → ℕ → List Mem → Bool
 arrays_right p image n st m [] = true
-arrays_right p image n st m (x ∷ xs) = array_right p image n st m x.depth && arrays_right p image n st (suc m) xs
+arrays_right p image n st m (x ∷ xs) = (is_advisory x.kind || array_right p image n st m x.depth) && arrays_right p image n st (suc m) xs
 
 -- 6. CERTAINTY. A thread that has moved on from a barrier, or stands after V, has only older threads that stand after V
 
@@ -431,10 +443,9 @@ abbrev pub comes_to : Pipe → List ℕ → ℕ → ℕ → ℕ → Bool
 comes_to p path q zero s = false
 comes_to p path q (suc limit) s = (s == q) || one_of (comes_to p path q limit) (goes_to (stage_at p s).next path)
 
--- what a binding or a call on a guess says is so in the thread's values; any other statement passes
+-- what a binding says is so in the thread's values; any other statement passes
 abbrev pub is_done : State → Live → Op → Bool
 is_done st l (Bind x e) = slice_index l.thread.env x == value_of e l.thread.env
-is_done st l (SpecCall args) = same_args l.thread.guess (values_of args l.thread.env)
 is_done st l (CombRead x m a) = true
 is_done st l (DelayedRead x m a) = true
 is_done st l (Write m a e) = true
@@ -443,18 +454,48 @@ is_done st l (ReserveWrite m a) = true
 is_done st l (Block m a) = true
 is_done st l (Release m a) = true
 is_done st l (Call args) = true
-is_done st l (Verify args) = true
+is_done st l (SpecCall args) = true
+is_done st l (Verify last args) = true
 is_done st l SpecCheck = true
 is_done st l SpecBarrier = true
+is_done st l (AdviceBind x e) = true
+is_done st l (AdviceRead x m a) = true
+is_done st l (AdviceWrite m a e) = true
+
+-- the present guess is that of the last statement that gave one
+abbrev pub guess_after : Op → List Kept → List ℕ → List ℕ → List ℕ
+guess_after (SpecCall args) advice env guess = values_of args (with_kept advice env)
+guess_after (Verify true args) advice env guess = values_of args env
+guess_after (Verify false args) advice env guess = values_of args (with_kept advice env)
+guess_after (Bind x e) advice env guess = guess
+guess_after (CombRead x m a) advice env guess = guess
+guess_after (DelayedRead x m a) advice env guess = guess
+guess_after (Write m a e) advice env guess = guess
+guess_after (ReserveRead m a) advice env guess = guess
+guess_after (ReserveWrite m a) advice env guess = guess
+guess_after (Block m a) advice env guess = guess
+guess_after (Release m a) advice env guess = guess
+guess_after (Call args) advice env guess = guess
+guess_after SpecCheck advice env guess = guess
+guess_after SpecBarrier advice env guess = guess
+guess_after (AdviceBind x e) advice env guess = guess
+guess_after (AdviceRead x m a) advice env guess = guess
+guess_after (AdviceWrite m a e) advice env guess = guess
+
+-- the present guess after these statements
+abbrev pub guess_of : List Stmt → List Kept → List ℕ → List ℕ → List ℕ
+guess_of [] advice env guess = guess
+guess_of (x ∷ xs) advice env guess = guess_of xs advice env (guess_after x.op advice env guess)
 
 -- the memory of a location that a thread holds has a pending write of the thread at its address
 abbrev pub right_place : State → Live → HeldLocation → Bool
-right_place st l h = list_any (λ e. (e.thread == l.thread.number) && (e.address == slice_index l.thread.env h.var)) (lock_of st h.mem)
+right_place st l h = list_any (λ e. (e.thread == l.thread.number) && ((e.var == h.var) && (e.address == slice_index l.thread.env h.var))) (lock_of st h.mem)
 
 -- a thread stands on a stage of its path, and has done what the statements of its earlier stages say
 abbrev pub on_path : Pipe → State → Live → Bool
 on_path p st l =
     comes_to p l.thread.env l.stage (length p.stages) 0 && list_all (λ x. is_done st l x.op) (past_stmts p l)
+    && same_args l.thread.guess (guess_of (past_stmts p l) l.thread.advice l.thread.env [])
     && list_all (right_place st l) (held_places p l) && nat_lt l.thread.number st.next
 
 -- THE WHOLE, of a state that a run from this image comes to, in which n threads have ended

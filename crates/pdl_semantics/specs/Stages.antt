@@ -1,6 +1,7 @@
 -- Stages and paths of a pipe in flat form. A path is a truth value for each guard: a list of values of all variables, of which those of guards count.
 use Rattle.std.specs.Prelude.{ℕ, zero, suc, max, Bool, true, false, ◌||◌, List, [], ◌∷◌, ◌++◌, Option, Some, None, if◌then◌else◌, ◌==◌, slice_index, slice_index_or, slice_set, length, take, count_by, unwrap_or}
-use Rattle.pdl_semantics.specs.Flat.{Op, Bind, CombRead, DelayedRead, Write, ReserveRead, ReserveWrite, Block, Release, Call, SpecCall, Verify, SpecCheck, SpecBarrier, Stmt, Plain, Mem, Next, Ends, Goes, Forks, Branch, Stage, Pipe, all_hold, start_env}
+use Rattle.pdl_semantics.specs.Tree.{Comb}
+use Rattle.pdl_semantics.specs.Flat.{is_delayed, Op, Bind, CombRead, DelayedRead, Write, ReserveRead, ReserveWrite, Block, Release, Call, SpecCall, Verify, SpecCheck, SpecBarrier, AdviceBind, AdviceRead, AdviceWrite, Stmt, Plain, Mem, Next, Ends, Goes, Forks, Branch, Stage, Pipe, all_hold, start_env}
 use Rattle.pdl_semantics.specs.Forms.{on_release}
 
 -- whether some element passes the test
@@ -20,7 +21,7 @@ in_stage s (x ∷ xs) = if x.stage == s then x ∷ in_stage s xs else in_stage s
 
 -- a memory without words and without lock, for a number past those of the memories
 abbrev pub plain_mem : Mem
-plain_mem = record { width = 0; depth = 0; delayed = false; lock = Plain }
+plain_mem = record { width = 0; depth = 0; kind = Comb; lock = Plain }
 
 -- the memory of this number
 abbrev pub mem_at : Pipe → ℕ → Mem
@@ -28,7 +29,7 @@ mem_at p m = slice_index_or p.mems m plain_mem
 
 -- a stage from which threads leave the pipe, in no branch
 abbrev pub last_stage : Stage
-last_stage = record { next = Ends; branch = None; merges = None }
+last_stage = record { next = Ends; branches = []; merges = None }
 
 -- the stage of this number
 abbrev pub stage_at : Pipe → ℕ → Stage
@@ -40,14 +41,14 @@ goes_to Ends env = None
 goes_to (Goes to) env = Some to
 goes_to (Forks x first second) env = Some (if slice_index env x == 1 then first else second)
 
--- whether a stage stands in a branch of this fork
-abbrev pub is_branch_of : Option Branch → ℕ → Bool
-is_branch_of None f = false
-is_branch_of (Some b) f = b.fork == f
-
--- whether stage s of the pipe stands in a branch of fork f
+-- whether stage s of the pipe stands in a branch of fork f, perhaps in a fork inside it
 abbrev pub is_inside : Pipe → ℕ → ℕ → Bool
-is_inside p f s = is_branch_of (stage_at p s).branch f
+is_inside p f s = list_any (λ b. b.fork == f) (stage_at p s).branches
+
+-- of these branches those of fork f, at most one: whether it is the first one
+abbrev pub sides_of : ℕ → List Branch → List Bool
+sides_of f [] = []
+sides_of f (b ∷ bs) = (if b.fork == f then b.first ∷ [] else []) ++ sides_of f bs
 
 -- whether it merges this fork
 abbrev pub merges_fork : Option ℕ → ℕ → Bool
@@ -56,7 +57,7 @@ merges_fork (Some g) f = g == f
 
 -- the place of a delayed memory among the delayed ones
 abbrev pub reply_place : Pipe → ℕ → ℕ
-reply_place p m = count_by (λ x. x.delayed) (take m p.mems)
+reply_place p m = count_by (λ x. is_delayed x.kind) (take m p.mems)
 
 -- R(m), the stage of m's reserves, 0 where it has none
 abbrev pub reserve_stage : Pipe → ℕ → ℕ
@@ -78,9 +79,31 @@ is_reserve m (Block n a) = false
 is_reserve m (Release n a) = false
 is_reserve m (Call args) = false
 is_reserve m (SpecCall args) = false
-is_reserve m (Verify args) = false
+is_reserve m (Verify last args) = false
 is_reserve m SpecCheck = false
 is_reserve m SpecBarrier = false
+is_reserve m (AdviceBind x e) = false
+is_reserve m (AdviceRead x _ a) = false
+is_reserve m (AdviceWrite _ a e) = false
+
+-- a reservation of memory m for writing
+abbrev pub is_write_reserve : ℕ → Op → Bool
+is_write_reserve m (ReserveWrite n a) = n == m
+is_write_reserve m (Bind x e) = false
+is_write_reserve m (CombRead x n a) = false
+is_write_reserve m (DelayedRead x n a) = false
+is_write_reserve m (Write n a e) = false
+is_write_reserve m (ReserveRead n a) = false
+is_write_reserve m (Block n a) = false
+is_write_reserve m (Release n a) = false
+is_write_reserve m (Call args) = false
+is_write_reserve m (SpecCall args) = false
+is_write_reserve m (Verify last args) = false
+is_write_reserve m SpecCheck = false
+is_write_reserve m SpecBarrier = false
+is_write_reserve m (AdviceBind x e) = false
+is_write_reserve m (AdviceRead x _ a) = false
+is_write_reserve m (AdviceWrite _ a e) = false
 
 -- the release of a location in memory m
 abbrev pub is_release : ℕ → Op → Bool
@@ -88,7 +111,7 @@ is_release m op = on_release (λ n a. n == m) false op
 
 -- V, the stage of the verifies
 abbrev pub is_verify : Op → Bool
-is_verify (Verify args) = true
+is_verify (Verify last args) = last
 is_verify (Bind x e) = false
 is_verify (CombRead x m a) = false
 is_verify (DelayedRead x m a) = false
@@ -101,6 +124,28 @@ is_verify (Call args) = false
 is_verify (SpecCall args) = false
 is_verify SpecCheck = false
 is_verify SpecBarrier = false
+is_verify (AdviceBind x e) = false
+is_verify (AdviceRead x m a) = false
+is_verify (AdviceWrite m a e) = false
+
+-- a verify or an update, which asks whether the present guess is another
+abbrev pub is_check : Op → Bool
+is_check (Verify last args) = true
+is_check (Bind x e) = false
+is_check (CombRead x m a) = false
+is_check (DelayedRead x m a) = false
+is_check (Write m a e) = false
+is_check (ReserveRead m a) = false
+is_check (ReserveWrite m a) = false
+is_check (Block m a) = false
+is_check (Release m a) = false
+is_check (Call args) = false
+is_check (SpecCall args) = false
+is_check SpecCheck = false
+is_check SpecBarrier = false
+is_check (AdviceBind x e) = false
+is_check (AdviceRead x m a) = false
+is_check (AdviceWrite m a e) = false
 
 -- V as the stage of the first `verify`, where there is one
 abbrev pub verify_stage : List Stmt → Option ℕ

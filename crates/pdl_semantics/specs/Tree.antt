@@ -1,5 +1,5 @@
 -- A source text as a tree: one constructor for each alternative of the grammar, with the places where its words stand.
-use Rattle.std.specs.Prelude.{ℕ, Bool, List, [], ◌∷◌, Option}
+use Rattle.std.specs.Prelude.{ℕ, List, [], ◌∷◌, Option}
 
 -- where words stand in the source: the bytes from `start` up to `end`, counted from 0, the last one left out, and the line of the first, counted from 1
 pub record Span : Type 0 where
@@ -64,6 +64,7 @@ mutual
     If : (span : Span) (condition : Expr) (yes otherwise : Stmts) → Stmt
     Call : (span : Span) (args : List Expr) → Stmt
     Verify : (span : Span) (guess : Ident) (args : List Expr) → Stmt
+    Update : (span : Span) (guess : Ident) (args : List Expr) → Stmt
     SpecCheck : (span : Span) → Stmt
     SpecBarrier : (span : Span) → Stmt
 
@@ -91,12 +92,16 @@ pub record LockDecl : Type 0 where
   pub kind : LockKind
   pub size : Number
 
--- a memory: the width of its words in bits, how many words it has, whether it answers in a later cycle, and its lock or none
+-- a memory answers in the same cycle, or in a later one, or in the same one but only as a hint: what an advisory memory says reaches guesses alone
+pub data MemKind : Type 0 where
+  Comb Delayed Advisory : MemKind
+
+-- a memory: the width of its words in bits, how many words it has, its kind, and its lock or none
 pub record Mem : Type 0 where
   pub name : Ident
   pub width : Number
   pub depth : Number
-  pub delayed : Bool
+  pub kind : MemKind
   pub lock : Option LockDecl
 
 -- the start clause: the pipe that it names and the first thread's arguments; its span begins at `start`

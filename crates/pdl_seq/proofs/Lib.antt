@@ -1,4 +1,5 @@
-pub mod SingleWrites
+pub mod ReservedWrites
+pub mod LookedReserves
 pub mod WriteCounts
 pub mod WriteLimit
 pub mod StatementWidths

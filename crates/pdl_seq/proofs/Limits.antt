@@ -1,17 +1,22 @@
--- A pipe that keeps the rules has at most 16 memories.
-use Rattle.std.proofs.Common.{◌≡◌, ◌≢◌, refl, sym, ap, ◌∙◌, ℕ, ◌+◌, ◌≤◌, List, [], ◌∷◌, ◌++◌, map, length, append_assoc, arith}
+-- A pipe that keeps the rules has at most 16 memories, and a path reserves one for writing at most twice.
+use Rattle.std.proofs.Common.{◌≡◌, ◌≢◌, refl, sym, ap, ◌∙◌, subst, ℕ, ◌+◌, ◌<◌, ◌≤◌, true, List, [], ◌∷◌, ◌++◌, map, length, append_assoc, arith}
 use Rattle.std.specs.Prelude.{count_by}
 use Rattle.std.proofs.lemmas.Bool.{eqb-false}
 use Rattle.pdl_kit.specs.declared.rule.Rule.TheVariants.{Z4}
 use Rattle.pdl_semantics.specs.Tree.{Param, Mem, Pipe}
-use Rattle.pdl_semantics.specs.Flatten.{mems_of}
+use Rattle.pdl_semantics.specs.Flatten.{mems_of, flat}
 use Rattle.pdl_rules.specs.Places.{Place, Parameter, Memory, statements, places}
 use Rattle.pdl_rules.specs.Limits.{is_memory}
 use Rattle.pdl_rules.specs.Refusal.{KeepsRules}
 use Rattle.pdl_rules.proofs.Counts.{count_push, count_cons}
 use Rattle.pdl_rules.proofs.EachPlace.{closing}
 use Rattle.pdl_form_types.proofs.VariableFacts.{by_params}
+use Rattle.pdl_source_paths.specs.Source.{is_source}
 use Rattle.pdl_source_paths.proofs.Memories.{mems_length}
+use Rattle.pdl_source_paths.proofs.PathTests.{few_ok}
+use Rattle.pdl_semantics.specs.Stages.{onpath}
+use Rattle.pdl_theory_facts.specs.Scans.{write_reserves}
+use Rattle.pdl_seq.proofs.LookedReserves.{looked_reserves}
 
 no_params : (ps : List Param) → count_by is_memory (map Parameter ps) ≡ 0
 no_params [] = refl
@@ -35,3 +40,8 @@ module _ (p : Pipe) (rules : KeepsRules p) where
       let few : 0 + length p.mems ≤ 16 =
       few_from p.mems (map Parameter p.params) (statements [] p.body ++ closing p) 0 (by_params p rules) (no_params p.params) (omega arith) in
       omega arith
+
+  -- a path of it reserves a memory for writing at most twice
+  pub two_writes : is_source p ≡ true → (path : List ℕ) (m : ℕ) → m < length (flat p).mems → write_reserves m (onpath path (flat p).stmts) ≤ 2
+  two_writes source path m low =
+      subst (λ n. n ≤ 2) (looked_reserves path m (flat p).stmts) (few_ok p rules source path m (subst (λ n. m < n) (mems_length p.mems) low))

@@ -1,7 +1,7 @@
 -- A statement that is typed can be carried out on what fits.
 use Rattle.std.proofs.Common.{◌≡◌, sym, subst, ℕ, zero, suc, ◌^◌, ◌<◌, ◌≤◌, List, [], ◌∷◌, length, slice_index, arith}
 use Rattle.std.proofs.Math.Pow.{pow_mono}
-use Rattle.pdl_semantics.specs.Flat.{Op, Bind, CombRead, DelayedRead, Write, ReserveRead, ReserveWrite, Block, Release, Call, SpecCall, Verify, SpecCheck, SpecBarrier, Mem, Pipe}
+use Rattle.pdl_semantics.specs.Flat.{Op, Bind, CombRead, DelayedRead, Write, ReserveRead, ReserveWrite, Block, Release, Call, SpecCall, Verify, SpecCheck, SpecBarrier, AdviceBind, AdviceRead, AdviceWrite, Mem, Pipe}
 use Rattle.pdl_semantics.specs.Stages.{mem_at}
 use Rattle.pdl_semantics.specs.Sequential.{Run}
 use Rattle.pdl_form.specs.Form.{Form}
@@ -51,6 +51,9 @@ module _ (f : Form) (typed : IsTypedForm f) (lists : List (List ℕ)) (s : IsSha
   safe_op (Release m a) t = tt
   safe_op (Call args) t = let few = few_args f args t in (all_safe f.widths r.env typed.wide k.values (param_widths f) args t, omega arith)
   safe_op (SpecCall args) t = tt
-  safe_op (Verify args) t = let few = few_args f args t in (all_safe f.widths r.env typed.wide k.values (param_widths f) args t, omega arith)
+  safe_op (Verify last args) t = let few = few_args f args t in (all_safe f.widths r.env typed.wide k.values (param_widths f) args t, omega arith)
   safe_op SpecCheck t = tt
   safe_op SpecBarrier t = tt
+  safe_op (AdviceBind x e) t = tt
+  safe_op (AdviceRead x m a) t = tt
+  safe_op (AdviceWrite m a e) t = tt

@@ -4,7 +4,7 @@ use Rattle.std.proofs.lemmas.List.{length-set, get_or-set_same, get_or-set_other
 use Rattle.std.proofs.lemmas.List.Elements.{All-push}
 use Rattle.std.proofs.lemmas.Bool.{eqb-true, eqb-false}
 use Rattle.std.proofs.lemmas.Nat.{pow_pos}
-use Rattle.pdl_semantics.specs.Flat.{Expr, Op, Bind, CombRead, DelayedRead, Write, ReserveRead, ReserveWrite, Block, Release, Call, SpecCall, Verify, SpecCheck, SpecBarrier, Arrays, Commit, Pipe, value_of, values_of, with_value, with_word, word_at}
+use Rattle.pdl_semantics.specs.Flat.{Expr, Op, Bind, CombRead, DelayedRead, Write, ReserveRead, ReserveWrite, Block, Release, Call, SpecCall, Verify, SpecCheck, SpecBarrier, AdviceBind, AdviceRead, AdviceWrite, Arrays, Commit, Pipe, value_of, values_of, with_value, with_word, word_at}
 use Rattle.pdl_semantics.specs.Stages.{mem_at}
 use Rattle.pdl_semantics.specs.Sequential.{Run, run_after}
 use Rattle.pdl_form.specs.Form.{Form}
@@ -129,9 +129,13 @@ module _ (f : Form) where
     fits_runs (Release m a) r t k = k
     fits_runs (Call args) r t k = record { words = k.words; values = k.values; next_args = are_args r.env args k.values t; commits = k.commits }
     fits_runs (SpecCall args) r t k = k
-    fits_runs (Verify args) r t k = record { words = k.words; values = k.values; next_args = are_args r.env args k.values t; commits = k.commits }
+    fits_runs (Verify true args) r t k = record { words = k.words; values = k.values; next_args = are_args r.env args k.values t; commits = k.commits }
+    fits_runs (Verify false args) r t k = k
     fits_runs SpecCheck r t k = k
     fits_runs SpecBarrier r t k = k
+    fits_runs (AdviceBind x e) r t k = k
+    fits_runs (AdviceRead x m a) r t k = k
+    fits_runs (AdviceWrite m a e) r t k = k
 
     -- all of a run fits after a typed statement, whether it is carried out or not
     pub fits_if : (b : Bool) (op : Op) (r : Run) → IsTypedOp f op → AreFitting f r → AreFitting f (if b then run_after op r else r)

@@ -3,7 +3,7 @@ use Rattle.std.proofs.Common.{◌≡◌, refl, sym, ap, ap₂, ◌∙◌, ℕ, z
 use Rattle.pdl_semantics.specs.Flat.{Arrays, Pipe}
 use Rattle.pdl_semantics.specs.Sequential.{Run, thread, threads_from, threads, turn_at, after_turns}
 use Rattle.pdl_seq.specs.declared.commit.Write as r_write
-use Rattle.pdl_seq.specs.Runs.{numbered_write, numbered_writes, forgotten, told_writes}
+use Rattle.pdl_seq.specs.Runs.{numbered_write, numbered_writes, told_writes}
 use Rattle.pdl_semantics.proofs.Facts.{turn_front}
 
 -- the writes of one thread more

@@ -1,7 +1,7 @@
 -- Statement by statement through a turn.
 use Rattle.std.proofs.Common.{◌≡◌, sym, ap, ◌∙◌, subst, ℕ, zero, suc, ◌+◌, ◌<◌, ◌≤◌, Bool, true, false, if◌then◌else◌, List, [], ◌∷◌, drop, length, get_or, length-append, arith}
 use Rattle.std.proofs.lemmas.List.{drop_more}
-use Rattle.pdl_semantics.specs.Flat.{Op, Bind, CombRead, DelayedRead, Write, ReserveRead, ReserveWrite, Block, Release, Call, SpecCall, Verify, SpecCheck, SpecBarrier, Stmt, Commit, all_hold}
+use Rattle.pdl_semantics.specs.Flat.{Op, Bind, CombRead, DelayedRead, Write, ReserveRead, ReserveWrite, Block, Release, Call, SpecCall, Verify, SpecCheck, SpecBarrier, AdviceBind, AdviceRead, AdviceWrite, Stmt, Commit, all_hold}
 use Rattle.pdl_semantics.specs.Sequential.{Run, run_after, run_all}
 use Rattle.pdl_form.specs.declared.form.FlatStmt as r_stmt
 use Rattle.pdl_form.specs.View.{stmt_view, stmts_view}
@@ -21,9 +21,13 @@ grow_op (Block m a) r = omega arith
 grow_op (Release m a) r = omega arith
 grow_op (Call args) r = omega arith
 grow_op (SpecCall args) r = omega arith
-grow_op (Verify args) r = omega arith
+grow_op (Verify true args) r = omega arith
+grow_op (Verify false args) r = omega arith
 grow_op SpecCheck r = omega arith
 grow_op SpecBarrier r = omega arith
+grow_op (AdviceBind x e) r = omega arith
+grow_op (AdviceRead x m a) r = omega arith
+grow_op (AdviceWrite m a e) r = omega arith
 
 grow_if : (b : Bool) (op : Op) (r : Run) → length r.writes ≤ length (if b then run_after op r else r).writes
 grow_if true op r = grow_op op r

@@ -1,5 +1,5 @@
 -- Writes to so many memories, counted memory by memory.
-use Rattle.std.proofs.Common.{◌≡◌, ◌≢◌, refl, ap, ◌∙◌, ℕ, zero, suc, ◌+◌, ◌<◌, ◌≤◌, Bool, true, false, cond, if◌then◌else◌, ◌==◌, List, [], ◌∷◌, length, arith}
+use Rattle.std.proofs.Common.{◌≡◌, ◌≢◌, refl, ap, ◌∙◌, ℕ, zero, suc, ◌+◌, ◌*◌, ◌<◌, ◌≤◌, Bool, true, false, cond, if◌then◌else◌, ◌==◌, List, [], ◌∷◌, length, arith}
 use Rattle.std.proofs.lemmas.Bool.{eqb-true, eqb-false}
 use Rattle.std.specs.Prelude.{⊤}
 use Rattle.pdl_semantics.specs.Flat.{Commit, of_mem}
@@ -58,16 +58,16 @@ all_counted n (c ∷ cs) k =
     let one = counted_more c cs n k.0 in
     omega arith
 
-few_counted : (n : ℕ) (cs : List Commit) → ((m : ℕ) → length (of_mem m cs) ≤ 1) → counted n cs ≤ n
-few_counted zero cs h = omega arith
-few_counted (suc n) cs h =
-    let rest = few_counted n cs h in
-    let one = h n in
+few_counted : (n k : ℕ) (cs : List Commit) → n ≤ k → ((m : ℕ) → m < k → length (of_mem m cs) ≤ 2) → counted n cs ≤ 2 * n
+few_counted zero k cs l h = omega arith
+few_counted (suc n) k cs l h =
+    let rest = few_counted n k cs (omega arith) h in
+    let two = h n (omega arith) in
     omega arith
 
--- writes to n memories, at most one to each, are at most n
-pub few_writes : (n : ℕ) (cs : List Commit) → AreKnown n cs → ((m : ℕ) → length (of_mem m cs) ≤ 1) → length cs ≤ n
+-- writes to n memories, at most two to each, are at most twice as many
+pub few_writes : (n : ℕ) (cs : List Commit) → AreKnown n cs → ((m : ℕ) → m < n → length (of_mem m cs) ≤ 2) → length cs ≤ 2 * n
 few_writes n cs k h =
     let all = all_counted n cs k in
-    let few = few_counted n cs h in
+    let few = few_counted n n cs (omega arith) h in
     omega arith

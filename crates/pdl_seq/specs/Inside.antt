@@ -21,15 +21,15 @@ running r =
 
 -- room for the writes of the threads that are left after those that are told, or of one thread where a run streams
 abbrev pub HasRoom : Bool → ℕ → ℕ → ℕ → Type 0
-HasRoom true told left room = 16 ≤ room
-HasRoom false told left room = told + 16 * left ≤ room
+HasRoom true told left room = 32 ≤ room
+HasRoom false told left room = told + 32 * left ≤ room
 
 -- its pipe can be run, and there is room for the threads that are left
 pub record IsReady (r : Inside) : Type 0 where
   pub runnable : IsRunnable (form r.pipe.now)
   pub fit : IsFit (form r.pipe.now) r.turn
   pub next : length (form r.pipe.now).pipe.start ≤ (rooms r.turn).next
-  pub commits : 16 ≤ (rooms r.turn).commits
+  pub commits : 32 ≤ (rooms r.turn).commits
   pub writes : HasRoom r.streams (vec_len r.writes) (r.threads - r.run) (vec_capacity r.writes)
   pub count : r.run ≤ r.threads
   pub told : AreWrites (form r.pipe.now).pipe r.writes.items

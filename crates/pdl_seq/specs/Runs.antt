@@ -1,7 +1,9 @@
 -- What a sequential run has done after some threads.
-use Rattle.std.specs.Prelude.{◌≡◌, ℕ, suc, ◌-◌, ◌≤◌, Bool, true, false, List, [], ◌∷◌, ◌++◌, drop, map, length}
+use Rattle.std.specs.Prelude.{◌≡◌, ℕ, suc, ◌-◌, ◌<◌, ◌≤◌, Bool, true, false, List, [], ◌∷◌, ◌++◌, drop, map, length}
 use Rattle.pdl_semantics.specs.Flat.{Arrays, Commit, Pipe, arrays_of}
 use Rattle.pdl_semantics.specs.Sequential.{threads, after_turns}
+use Rattle.pdl_semantics.specs.Stages.{onpath}
+use Rattle.pdl_theory_facts.specs.Scans.{write_reserves}
 use Rattle.pdl_semantics.specs.Lines.{Column, column_at, put_line}
 use Rattle.pdl_theory_facts.specs.Facts.{Sound}
 use Rattle.pdl_form.specs.Form.{Form}
@@ -10,10 +12,11 @@ use Rattle.pdl_form.specs.FormView.{form}
 use Rattle.pdl_form_types.specs.Stmts.{IsTypedForm}
 use Rattle.pdl_seq.specs.declared.commit.Write as r_write
 
--- a pipe that can be run thread by thread: its flat form is typed and has the facts of an accepted pipe, and it has at most 16 memories
+-- a pipe that can be run thread by thread: its flat form is typed and has the facts of an accepted pipe, a path reserves a memory for writing at most twice, and it has at most 16 memories
 pub record IsRunnable (f : Form) : Type 0 where
   pub typed : IsTypedForm f
   pub sound : Sound f.pipe
+  pub twice : (path : List ℕ) (m : ℕ) → m < length f.pipe.mems → write_reserves m (onpath path f.pipe.stmts) ≤ 2
   pub few : length f.pipe.mems ≤ 16
 
 -- a write with the number of its thread

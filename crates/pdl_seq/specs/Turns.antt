@@ -1,6 +1,6 @@
 -- A turn as the sequential meaning sees it, and which operations can be carried out in it.
 use Rattle.std.specs.Prelude.{ℕ, ◌^◌, ◌<◌, ◌≤◌, List, [], map, length, slice_index, slice_index_or, vec_capacity, ⊤}
-use Rattle.pdl_semantics.specs.Flat.{Op, Bind, CombRead, DelayedRead, Write, ReserveRead, ReserveWrite, Block, Release, Call, SpecCall, Verify, SpecCheck, SpecBarrier, Commit, Pipe, arrays_of, start_env}
+use Rattle.pdl_semantics.specs.Flat.{Op, Bind, CombRead, DelayedRead, Write, ReserveRead, ReserveWrite, Block, Release, Call, SpecCall, Verify, SpecCheck, SpecBarrier, AdviceBind, AdviceRead, AdviceWrite, Commit, Pipe, arrays_of, start_env}
 use Rattle.pdl_semantics.specs.Sequential.{Run}
 use Rattle.pdl_form_values.specs.Safe.{IsSafe, AreSafe}
 use Rattle.pdl_seq.specs.declared.commit.Commit as r_commit
@@ -58,6 +58,9 @@ IsSafeOp lists room (Block m a) env = ⊤
 IsSafeOp lists room (Release m a) env = ⊤
 IsSafeOp lists room (Call args) env = AreSafe args env × (length args ≤ room)
 IsSafeOp lists room (SpecCall args) env = ⊤
-IsSafeOp lists room (Verify args) env = AreSafe args env × (length args ≤ room)
+IsSafeOp lists room (Verify last args) env = AreSafe args env × (length args ≤ room)
 IsSafeOp lists room SpecCheck env = ⊤
 IsSafeOp lists room SpecBarrier env = ⊤
+IsSafeOp lists room (AdviceBind x e) env = ⊤
+IsSafeOp lists room (AdviceRead x m a) env = ⊤
+IsSafeOp lists room (AdviceWrite m a e) env = ⊤

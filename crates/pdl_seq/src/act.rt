@@ -98,7 +98,7 @@ pub fn act(op: &Op, turn: &mut Turn)
             );
         }
         Op::Write { m, a, e } => write(*m, *a, e, turn),
-        Op::Call(args) | Op::Verify(args) => {
+        Op::Call(args) | Op::Verify { last: true, args } => {
             values_of(args.as_slice(), turn.values.as_slice(), &mut turn.next);
         }
         Op::ReserveRead { .. }
@@ -106,7 +106,11 @@ pub fn act(op: &Op, turn: &mut Turn)
         | Op::Block { .. }
         | Op::Release { .. }
         | Op::SpecCall(_)
+        | Op::Verify { last: false, .. }
         | Op::SpecCheck
-        | Op::SpecBarrier => {}
+        | Op::SpecBarrier
+        | Op::AdviceBind { .. }
+        | Op::AdviceRead { .. }
+        | Op::AdviceWrite { .. } => {}
     }
 }

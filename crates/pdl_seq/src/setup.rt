@@ -11,11 +11,11 @@ use pdl_kit::NoMemory;
 use std::alloc::Global;
 
 /// How many writes a thread has at most.
-pub const MOST_WRITES: usize = 16;
+pub const MOST_WRITES: usize = 32;
 
 /// For how many writes a run of so many threads has room: for those of one thread where it streams, and of all where it doesn't.
 pub fn room_for(threads: u32, streams: bool) -> usize
-    ensures { result ≡ (if streams then 16 else 16 * threads) }
+    ensures { result ≡ (if streams then 32 else 32 * threads) }
 {
     if streams {
         MOST_WRITES
@@ -61,7 +61,7 @@ pub fn before_all(alloc: Global, pipe: &FlatPipe, image: &Image) -> Result<Turn,
     ensures next { IfOk result (λ t. t.next.items ≡ (form pipe.now).pipe.start) }
     ensures args { IfOk result (λ t. length (form pipe.now).pipe.start ≤ (rooms t).next) }
     ensures none { IfOk result (λ t. t.commits.items ≡ []) }
-    ensures commits { IfOk result (λ t. 16 ≤ (rooms t).commits) }
+    ensures commits { IfOk result (λ t. 32 ≤ (rooms t).commits) }
 {
     let memories = memories(alloc, image, pipe.mems().len())?;
     let values = zeros(alloc, pipe.vars())?;

@@ -34,7 +34,7 @@ unfolding piece_at
 its_tree = (
   _,
   record {
-    text = text (last parameter) (last (memory {delayed = false} unlocked))
+    text = text (last parameter) (last (memory false unlocked))
         (more (branching (alone (inverted variable)) none) (more (branching (alone (inverted variable)) none) (more (calling (last (alone variable))) none)))
         (starting (last given));
     within = within_of at_start (tokens two_alike) refl;

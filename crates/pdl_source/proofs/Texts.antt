@@ -28,8 +28,8 @@ after_lock lock a r locked n h = later 5 h
 
 memories_ordered : (close : Mark) (ms : List Mem) (a r : Row) → Listed Memory close ms a r → (xs : List Place)
     → Follows r xs → Follows a (map place.Memory ms ++ xs)
-memories_ordered close ms a r (last (memory l)) xs f n h = (refl, f n (later 1 (after_lock _ _ _ l n (later 10 h))))
-memories_ordered close ms a r (further (memory l) ls) xs f n h = (refl, memories_ordered _ _ _ _ ls xs f n (later 1 (after_lock _ _ _ l n (later 10 h))))
+memories_ordered close ms a r (last (memory d l)) xs f n h = (refl, f n (later 1 (after_lock _ _ _ l n (later 10 h))))
+memories_ordered close ms a r (further (memory d l) ls) xs f n h = (refl, memories_ordered _ _ _ _ ls xs f n (later 1 (after_lock _ _ _ l n (later 10 h))))
 
 -- ---- texts
 

@@ -9,13 +9,13 @@ ghost use Rattle.std.specs.Prelude.{ℕ, Bool, IsTrue, List};
 ghost use Rattle.pdl_semantics.specs.Tree.{Pipe};
 ghost use Rattle.pdl_semantics.specs.Flat.{Arrays};
 ghost use Rattle.pdl_semantics.specs.Flatten.{flat};
-ghost use Rattle.pdl_semantics.specs.Promises.{Refines, Advances, KeepsPace};
+ghost use Rattle.pdl_semantics.specs.Promises.{Refines, Advances, KeepsPace, DifferInAdvice, AdviceIsIdle};
 ghost use Rattle.pdl_semantics.specs.Cycle.{first, state_after, turns, ended_in};
 ghost use Rattle.pdl_semantics.specs.Sound.{is_sound};
 ghost use Rattle.pdl_syntax_grammar.specs.Text.{IsText};
 ghost use Rattle.pdl_rules.specs.Refusal.{KeepsRules};
 ghost use Rattle.pdl_theory_derived.specs.Derived;
-ghost use Rattle.pdl_theory_derived.specs.Simulation.{SameTurns};
+ghost use Rattle.pdl_theory_derived.specs.Simulation.{SameTurns, hints_of};
 ghost use Rattle.pdl_theory_facts.specs.Facts.{Sound};
 ghost use Rattle.pdl_theory_states.specs.Strict.{Strict};
 ghost use Rattle.pdl_source_paths.specs.Source.{is_source, is_named};
@@ -38,7 +38,7 @@ pub fn facts()
     pdl_source_strict::strict();
 }
 
-/// The promises of each text that keeps the rules, with guards, any locks, guesses, delayed reads and forks: each run commits what the sequential run writes, the oldest thread moves, enough threads end, and the machine that the proofs use has the same ports and waits.
+/// The promises of each text that keeps the rules, with guards, any locks, guesses, delayed reads and forks: each run commits what the sequential run writes, the oldest thread moves, enough threads end, and the machine that the proofs use, whose threads are given what they guess, has the same ports and waits. What advisory memories hold changes no write.
 pub fn promises()
     ensures refines { (text : List ℕ) (p : Pipe) → IsText text p → KeepsRules p →
         (image : Arrays) (schedule : List (List Bool)) → Refines (flat p) image schedule }
@@ -49,7 +49,11 @@ pub fn promises()
         (image : Arrays) (schedule : List (List Bool)) → KeepsPace (flat p) image schedule }
     ensures simulation { (text : List ℕ) (p : Pipe) → IsText text p → KeepsRules p →
         (image : Arrays) (schedule : List (List Bool)) →
-        SameTurns (flat p) (turns (flat p) image schedule) (Derived.turns (flat p) image schedule) }
+        SameTurns (flat p) (turns (flat p) image schedule)
+        (Derived.turns (flat p) image (hints_of (flat p) (first (flat p) image) schedule) schedule) }
+    ensures advice { (text : List ℕ) (p : Pipe) → IsText text p → KeepsRules p →
+        (image other : Arrays) (schedule replies : List (List Bool)) →
+        DifferInAdvice (flat p) image other → AdviceIsIdle (flat p) image other schedule replies }
 {
     trees();
     accepted();

@@ -4,14 +4,14 @@ ghost use Rattle.pdl_semantics.specs.Tree.{Pipe};
 ghost use Rattle.pdl_semantics.specs.Flat.{Arrays};
 ghost use Rattle.pdl_semantics.specs.Flatten.{flat};
 ghost use Rattle.pdl_semantics.specs.Lines.{run_lines, sequential_lines};
-ghost use Rattle.pdl_semantics.specs.Promises.{Refines, Advances, KeepsPace};
-ghost use Rattle.pdl_semantics.specs.Cycle.{turns};
+ghost use Rattle.pdl_semantics.specs.Promises.{Refines, Advances, KeepsPace, DifferInAdvice, AdviceIsIdle};
+ghost use Rattle.pdl_semantics.specs.Cycle.{first, turns};
 ghost use Rattle.pdl_rules.specs.Refusal.{KeepsRules, is_one_stage};
 ghost use Rattle.pdl_theory_derived.specs.Derived;
-ghost use Rattle.pdl_theory_derived.specs.Simulation.{SameTurns};
+ghost use Rattle.pdl_theory_derived.specs.Simulation.{SameTurns, hints_of};
 ghost use Rattle.pdl_source_paths.specs.Source.{is_source, is_named};
 
-/// All accepted pipes, with guards, any locks, guesses, delayed reads and forks: each run commits what the sequential run writes, the oldest thread moves, enough threads end, and the machine that the proofs use has the same ports and waits.
+/// All accepted pipes, with guards, any locks, guesses, delayed reads and forks: each run commits what the sequential run writes, the oldest thread moves, enough threads end, and the machine that the proofs use, whose threads are given what they guess, has the same ports and waits. What advisory memories hold changes no write.
 pub fn accepted()
     ensures refines { (p : Pipe) → KeepsRules p → IsTrue (is_source p) → IsTrue (is_named p) →
         (image : Arrays) (schedule : List (List Bool)) → Refines (flat p) image schedule }
@@ -22,7 +22,11 @@ pub fn accepted()
         (image : Arrays) (schedule : List (List Bool)) → KeepsPace (flat p) image schedule }
     ensures simulation { (p : Pipe) → KeepsRules p → IsTrue (is_source p) → IsTrue (is_named p) →
         (image : Arrays) (schedule : List (List Bool)) →
-        SameTurns (flat p) (turns (flat p) image schedule) (Derived.turns (flat p) image schedule) }
+        SameTurns (flat p) (turns (flat p) image schedule)
+        (Derived.turns (flat p) image (hints_of (flat p) (first (flat p) image) schedule) schedule) }
+    ensures advice { (p : Pipe) → KeepsRules p → IsTrue (is_source p) → IsTrue (is_named p) →
+        (image other : Arrays) (schedule replies : List (List Bool)) →
+        DifferInAdvice (flat p) image other → AdviceIsIdle (flat p) image other schedule replies }
 {}
 
 /// Accepted pipes of one stage: the lines of each run are those of the sequential run.

@@ -1,11 +1,12 @@
 -- On each path the next thread is made once: by a call, or by a guess that is verified once after it.
-use Rattle.std.proofs.Common.{◌≡◌, refl, sym, ap₂, ◌∙◌, subst, ℕ, Bool, true, false, ◌&&◌, ◌||◌, List, [], ◌∷◌, ◌++◌, bytes_eq, Option, ⊎_elim}
+use Rattle.std.proofs.Common.{◌≡◌, refl, sym, ap₂, ◌∙◌, subst, ℕ, Bool, true, false, ◌&&◌, ◌||◌, List, [], ◌∷◌, ◌++◌, bytes_eq, Option, ⊎_elim, length}
 use Rattle.std.proofs.lemmas.Bool.{false≢true, and_parts, and_from, both_ways}
 use Rattle.std.proofs.lemmas.List.Folds.{list_any-append}
 use Rattle.std.specs.List.{list_any}
-use Rattle.pdl_semantics.specs.Tree.{Span, Ident, Expr, Variable, R, W, Stmt, Separator, CombRead, Bind, SpecCall, DelayedRead, Write, Reserve, Block, Release, If, Call, Verify, SpecCheck, SpecBarrier, Mem}
+use Rattle.pdl_semantics.specs.Tree.{Span, Ident, Expr, Variable, R, W, Stmt, Separator, CombRead, Bind, SpecCall, DelayedRead, Write, Reserve, Block, Release, If, Call, Verify, Update, SpecCheck, SpecBarrier, Mem}
 use Rattle.pdl_semantics.specs.Flat
-use Rattle.pdl_semantics.specs.Flatten.{Var}
+use Rattle.pdl_semantics.specs.Flatten.{Var, var_of, mem_of, flat_expr, is_advisory_mem, is_advised}
+use Rattle.pdl_source_stages.proofs.SiteFacts.{either_read, either_bind, either_write}
 use Rattle.pdl_rules.specs.Places.{Place, Statement, Branch}
 use Rattle.pdl_rules.specs.Names.{OfGuess, defines_use}
 use Rattle.pdl_rules.specs.Calls.{is_call}
@@ -69,11 +70,13 @@ guess_calls g (Statement (Block _ _) bs) e = absurd (false≢true e)
 guess_calls g (Statement (Release _ _) bs) e = absurd (false≢true e)
 guess_calls g (Statement (If _ _ _ _) bs) e = absurd (false≢true e)
 guess_calls g (Statement (Verify _ _ _) bs) e = absurd (false≢true e)
+guess_calls g (Statement (Update _ _ _) bs) e = absurd (false≢true e)
 guess_calls g (Statement (SpecCheck _) bs) e = absurd (false≢true e)
 guess_calls g (Statement (SpecBarrier _) bs) e = absurd (false≢true e)
 guess_calls g _ e = absurd (false≢true e)
 
-verifies_one : (g : List ℕ) (x : Place) → is_verify_of g x ≡ true → is_verify x ≡ true
+-- the verify of a guess is a verify
+pub verifies_one : (g : List ℕ) (x : Place) → is_verify_of g x ≡ true → is_verify x ≡ true
 verifies_one g (Statement (Verify _ _ _) bs) e = refl
 verifies_one g _ e = absurd (false≢true e)
 
@@ -147,6 +150,15 @@ module _ (ms : List Mem) (v : Option ℕ) (before : List Place) (bs : List Branc
     guessed Guessed i = refl
     guessed Made i = absurd (both_ways _ unverified (i.1 g.name there))
 
+    updated : (k : Making) → Stood k before → stands_before v s ≡ true
+        → (((is_guessed k && stands_before v s) && true) ≡ true) × Stood Guessed (before ++ Statement (Update sp g args) bs ∷ [])
+    updated k i low = (and_from _ _ (and_from _ _ (guessed k i) low) refl, on k i (guessed k i))
+      where
+        on : (k : Making) → Stood k before → is_guessed k ≡ true → Stood Guessed (before ++ Statement (Update sp g args) bs ∷ [])
+        on Unmade i e = absurd (false≢true e)
+        on Guessed i e = stood_next Guessed before (Statement (Update sp g args) bs) refl refl i
+        on Made i e = absurd (false≢true e)
+
     verified : (k : Making) → Stood k before → stands_at v s ≡ true
         → (((is_guessed k && stands_at v s) && true) ≡ true) × Stood Made (before ++ Statement (Verify sp g args) bs ∷ [])
     verified k i at = (
@@ -174,6 +186,10 @@ module _ (ms : List Mem) (v : Option ℕ) (before : List Place) (bs : List Branc
       (list_any (defines_use (OfGuess g.name)) before ≡ true)
       × ((n : List ℕ) → list_any (defines_use (OfGuess n)) before ≡ true → n ≡ g.name)
       × (list_any (is_verify_of g.name) before ≡ false) × (stands_at v s ≡ true)
+  Asked (Update sp g args) =
+      (list_any (defines_use (OfGuess g.name)) before ≡ true)
+      × ((n : List ℕ) → list_any (defines_use (OfGuess n)) before ≡ true → n ≡ g.name)
+      × (list_any (is_verify_of g.name) before ≡ false) × (stands_before v s ≡ true)
   Asked _ = Unit {0}
 
   -- a statement that keeps the rules of calls makes the next thread in order, and with it the places are as far as its operations say
@@ -181,11 +197,18 @@ module _ (ms : List Mem) (v : Option ℕ) (before : List Place) (bs : List Branc
   stood_by k (Call sp args) a i = calls k sp args i a
   stood_by k (SpecCall sp g args) a i = guesses k sp g args i a.0 a.1
   stood_by k (Verify sp g args) a i = verified sp g args a.0 a.1 a.2 k i a.3
+  stood_by k (Update sp g args) a i = updated sp g args a.0 a.1 a.2 k i a.3
   stood_by k (Separator sp) a i = still k (Separator sp) refl refl i
-  stood_by k (CombRead sp x at) a i = still k (CombRead sp x at) refl refl i
-  stood_by k (Bind sp x e) a i = still k (Bind sp x e) refl refl i
+  stood_by k (CombRead sp x at) a i =
+      either_read (λ op. Goes k (CombRead sp x at) (op ∷ [])) (is_advisory_mem ms at.mem.name) (length vs) (mem_of ms at.mem.name) (var_of vs at.address.name)
+      (still k (CombRead sp x at) refl refl i) (still k (CombRead sp x at) refl refl i)
+  stood_by k (Bind sp x e) a i =
+      either_bind (λ op. Goes k (Bind sp x e) (op ∷ [])) (is_advised vs e) (length vs) (flat_expr vs e) (still k (Bind sp x e) refl refl i)
+      (still k (Bind sp x e) refl refl i)
   stood_by k (DelayedRead sp x at) a i = still k (DelayedRead sp x at) refl refl i
-  stood_by k (Write sp at e) a i = still k (Write sp at e) refl refl i
+  stood_by k (Write sp at e) a i =
+      either_write (λ op. Goes k (Write sp at e) (op ∷ [])) (is_advisory_mem ms at.mem.name) (mem_of ms at.mem.name) (var_of vs at.address.name)
+      (flat_expr vs e) (still k (Write sp at e) refl refl i) (still k (Write sp at e) refl refl i)
   stood_by k (Reserve sp at R) a i = still k (Reserve sp at R) refl refl i
   stood_by k (Reserve sp at W) a i = still k (Reserve sp at W) refl refl i
   stood_by k (Block sp at) a i = still k (Block sp at) refl refl i

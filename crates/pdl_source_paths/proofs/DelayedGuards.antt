@@ -1,6 +1,6 @@
 -- What a stage reads delayed decides no guard, on a path, of a statement before the stage where it is bound.
-use Rattle.std.proofs.Common.{◌≡◌, refl, sym, ap, ap₂, ◌∙◌, subst, ℕ, suc, ◌<◌, Bool, true, false, ◌&&◌, List, [], ◌∷◌, ◌++◌, length, Some, cond, if◌then◌else◌, ◌==◌, nat_lt, slice_index, arith, ltb-true, lt-ltb}
-use Rattle.std.proofs.lemmas.Bool.{false≢true, and_parts, both_ways}
+use Rattle.std.proofs.Common.{◌≡◌, refl, sym, ap, ap₂, ◌∙◌, subst, ℕ, suc, ◌<◌, Bool, true, false, ◌&&◌, List, [], ◌∷◌, length, Some, cond, if◌then◌else◌, ◌==◌, nat_lt, arith, ltb-true, lt-ltb}
+use Rattle.std.proofs.lemmas.Bool.{false≢true, both_ways}
 use Rattle.std.specs.List.{list_any}
 use Rattle.pdl_semantics.specs.Tree.{Pipe}
 use Rattle.pdl_semantics.specs.Flat
@@ -12,16 +12,17 @@ use Rattle.pdl_rules.specs.Names.{OfVariable, defines_use}
 use Rattle.pdl_rules.specs.Refusal.{KeepsRules}
 use Rattle.pdl_theory_derived.specs.Alone.{before, answered_op}
 use Rattle.pdl_theory_facts.specs.Scans.{none_of, binds_var}
-use Rattle.pdl_theory_facts.specs.Graphs.{stage_or, next_of, on_side}
-use Rattle.pdl_theory_facts.specs.Facts.{is_fetch_of, DifferIn, comes_by, visits_stage}
+use Rattle.pdl_theory_facts.specs.Graphs.{stage_or, next_of}
+use Rattle.pdl_theory_facts.specs.Facts.{is_fetch_of, DifferIn, visits_stage}
 use Rattle.pdl_source_stages.specs.StageFacts.{StageFacts}
 use Rattle.pdl_source_stages.proofs.Facts.{stage_facts}
 use Rattle.pdl_source_stages.proofs.Sites.{Site, sites_of}
-use Rattle.pdl_source_stages.proofs.SiteStages.{Standing, OnTrunk, OnBranch, all_map}
+use Rattle.pdl_source_stages.proofs.SiteStages.{all_map}
+use Rattle.pdl_source_stages.proofs.Trunks.{guarded_comes}
 use Rattle.pdl_source_stages.proofs.SiteFacts.{each_stmt, each_in_stage, none_each, AtSite, op_of, from_op, row_at}
 use Rattle.pdl_source_paths.specs.Source.{are_apart}
 use Rattle.pdl_source_paths.proofs.GuardPaths.{AllGuards, guards_map}
-use Rattle.pdl_source_paths.proofs.SiteFacts.{Known}
+use Rattle.pdl_source_paths.proofs.SiteFacts.{Known, fork_seen}
 use Rattle.pdl_source_paths.proofs.SiteGuards.{Guarded}
 use Rattle.pdl_source_paths.proofs.GuardFacts.{Told, no_cut, fetch_delayed, all_told}
 use Rattle.pdl_semantics.specs.Sound.{is_fetch}
@@ -29,26 +30,9 @@ use Rattle.pdl_word.specs.Each.{Each}
 
 -- A SITE ON A PATH
 
-taken_in : (g : Flat.Guard) (outer inner : List Flat.Guard) (env : List ℕ)
-    → all_hold (outer ++ g ∷ inner) env ≡ true → takes_branch g.first (slice_index env g.var) ≡ true
-taken_in g [] inner env h = (and_parts (takes_branch g.first (slice_index env g.var)) (all_hold inner env) h).0
-taken_in g (k ∷ outer) inner env h =
-    taken_in g outer inner env (and_parts (takes_branch k.first (slice_index env k.var)) (all_hold (outer ++ g ∷ inner) env) h).1
-
 -- the path comes to its stage
 pub visited : (p : Pipe) (t : Site) → Known p t → (env : List ℕ) → all_hold t.gs env ≡ true → visits_stage (flat p) env t.walk.stage ≡ true
-visited p t h env tk = at h.fine.standing
-  where
-    side : (n : Flat.Next) (first : Bool) (x a b : ℕ) → n ≡ Flat.Forks x a b → takes_branch first (slice_index env x) ≡ true → on_side n first env ≡ true
-    side n true x a b f e = ap (λ m. on_side m true env) f ∙ e
-    side n false x a b f e = ap (λ m. on_side m false env) f ∙ e
-
-    at : Standing (flat p) t → visits_stage (flat p) env t.walk.stage ≡ true
-    at (OnTrunk e) = ap (comes_by (flat p) env) e
-    at (OnBranch c x a b forked here has inside) =
-        ap (comes_by (flat p) env) here
-        ∙ side (stage_at (flat p) c.fork).next c.first x _ _ forked.next
-        (taken_in (record { var = x; first = c.first }) has.0 has.1 env (ap (λ l. all_hold l env) (sym has.2) ∙ tk))
+visited p t h env tk = guarded_comes (flat p) t.gs env (stage_at (flat p) t.walk.stage).branches h.fine.standing.guarded tk
 
 -- STATEMENTS THAT A PATH PASSES OVER
 
@@ -135,7 +119,7 @@ module _ (p : Pipe) (rules : KeepsRules p) (apart : are_apart (places p) ≡ tru
 
   -- so it has no guard there that the stage's delayed reads decide
   clear : (t : Site) → Told p t → (op : Flat.Op) → op_of p.mems t.walk.vars t.stmt ≡ Some op → Passed (row_at t op)
-      → (env : List ℕ) → all_hold t.gs env ≡ true → t.walk.stage < next_of (flat p) s env
+      → (env : List ℕ) → all_hold t.gs env ≡ true → (visits_stage (flat p) env s ≡ true → t.walk.stage < next_of (flat p) s env)
       → AllGuards (λ g. none_of (is_fetch_of g.var) (in_stage s (flat p).stmts) ≡ true) t.gs
   clear t h op e passed env tk low = guards_map (Guarded p t) (λ g. none_of (is_fetch_of g.var) (in_stage s (flat p).stmts) ≡ true) one t.gs h.guards
     where
@@ -155,20 +139,21 @@ module _ (p : Pipe) (rules : KeepsRules p) (apart : are_apart (places p) ≡ tru
               let q = fetch_both g.var o i in
               let r = k.bound env (no_cut p.mems t.walk.vars t.stmt t.branches op e) tk y j.known (ap (from_op (binds_var g.var)) f ∙ q.0) in
               let earlier = r.2 (fetch_delayed p.mems y.walk.vars y.stmt y.branches o f q.1) in
-              let last =
-              passed (subst (λ n. n < length (flat p).stages) here j.known.fine.inside) env
-              (subst (λ n. visits_stage (flat p) env n ≡ true) here (visited p y j.known env r.1)) tk low in
+              let on = subst (λ n. visits_stage (flat p) env n ≡ true) here (visited p y j.known env r.1) in
+              let last = passed (subst (λ n. n < length (flat p).stages) here j.known.fine.inside) env on tk (low on) in
               absurd (omega arith)
 
-  -- the next stage hangs on none of them either
-  next_same : (env env' : List ℕ) → DifferIn (in_stage s (flat p).stmts) env env' → next_of (flat p) s env' ≡ next_of (flat p) s env
-  next_same env env' d = ap (stage_or (length (flat p).stages)) (at (stage_at (flat p) s).next refl)
+  -- the next stage hangs on none of them either, where a path comes to stage s
+  next_same : (env env' : List ℕ) → DifferIn (in_stage s (flat p).stmts) env env' → visits_stage (flat p) env' s ≡ true
+      → next_of (flat p) s env' ≡ next_of (flat p) s env
+  next_same env env' d on = ap (stage_or (length (flat p).stages)) (at (stage_at (flat p) s).next refl)
     where
       at : (n : Flat.Next) → (stage_at (flat p) s).next ≡ n → goes_to (stage_at (flat p) s).next env' ≡ goes_to (stage_at (flat p) s).next env
       at Flat.Ends e = ap (λ n. goes_to n env') e ∙ sym (ap (λ n. goes_to n env) e)
       at (Flat.Goes to) e = ap (λ n. goes_to n env') e ∙ sym (ap (λ n. goes_to n env) e)
       at (Flat.Forks x a b) e =
-          ap (λ n. goes_to n env') e ∙ ap (λ v. Some (if v == 1 then a else b)) (d x (facts.fork_seen s x a b e)) ∙ sym (ap (λ n. goes_to n env) e)
+          ap (λ n. goes_to n env') e ∙ ap (λ v. Some (if v == 1 then a else b)) (d x (fork_seen p rules apart env' s x a b on e))
+          ∙ sym (ap (λ n. goes_to n env) e)
 
   abbrev Alike : Flat.Stmt → Type 0
   Alike z =
@@ -183,10 +168,10 @@ module _ (p : Pipe) (rules : KeepsRules p) (apart : are_apart (places p) ≡ tru
       one t h op e passed env env' d low = at (all_hold t.gs env) refl (all_hold t.gs env') refl
         where
           at : (a : Bool) → all_hold t.gs env ≡ a → (b : Bool) → all_hold t.gs env' ≡ b → all_hold t.gs env' ≡ all_hold t.gs env
-          at true f b g = taken_alike (in_stage s (flat p).stmts) t.gs env env' (clear t h op e passed env f low) d
+          at true f b g = taken_alike (in_stage s (flat p).stmts) t.gs env env' (clear t h op e passed env f (λ on. low)) d
           at false f true g =
               taken_alike (in_stage s (flat p).stmts) t.gs env env'
-              (clear t h op e passed env' g (subst (λ n. t.walk.stage < n) (sym (next_same env env' d)) low)) d
+              (clear t h op e passed env' g (λ on. subst (λ n. t.walk.stage < n) (sym (next_same env env' d on)) low)) d
           at false f false g = g ∙ sym f
 
   -- values that differ only in what stage s reads delayed have the same statements on their paths before the next stage

@@ -3,10 +3,10 @@ use Rattle.std.proofs.Common.{◌≡◌, refl, sym, ap, ◌∙◌, subst, ℕ, s
 use Rattle.std.proofs.lemmas.Bool.{false≢true, and_from, or_parts, or_left, or_right, eqb-true, both_ways}
 use Rattle.std.proofs.lemmas.List.Folds.{list_any-append}
 use Rattle.std.specs.List.{list_any}
-use Rattle.pdl_semantics.specs.Tree.{R, W, Variable, Stmt, DelayedRead, Reserve, If, Mem, Pipe}
+use Rattle.pdl_semantics.specs.Tree.{R, W, Variable, Stmt, CombRead, Bind, Write, DelayedRead, Reserve, If, Mem, Pipe}
 use Rattle.pdl_semantics.specs.Flat
 use Rattle.pdl_semantics.specs.Flat.{all_hold}
-use Rattle.pdl_semantics.specs.Flatten.{Var, mem_width, flat, params_of}
+use Rattle.pdl_semantics.specs.Flatten.{Var, mem_width, flat, params_of, var_of, mem_of, flat_expr, is_advisory_mem, is_advised}
 use Rattle.pdl_semantics.specs.Stages.{in_stage}
 use Rattle.pdl_kit.specs.declared.rule.Rule.TheVariants.{N3, F3}
 use Rattle.pdl_rules.specs.Places.{Statement, places}
@@ -18,7 +18,7 @@ use Rattle.pdl_theory_facts.specs.Scans.{binds_var, is_dead}
 use Rattle.pdl_theory_facts.specs.Facts.{asks_for, mentions_var, silent_on, unseen_op, is_unseen, fetches_no, none_like, alone_op, fetch_apart}
 use Rattle.pdl_source_stages.proofs.Sites.{Site, sites_of, place_of, owns, All, stmts_are}
 use Rattle.pdl_source_stages.proofs.Walks.{names, names_append}
-use Rattle.pdl_source_stages.proofs.SiteFacts.{op_of, rows_of, own_is, from_op, row_at}
+use Rattle.pdl_source_stages.proofs.SiteFacts.{op_of, rows_of, own_is, from_op, row_at, read_none, bind_none, write_none}
 use Rattle.pdl_source_stages.proofs.Firsts.{known_one}
 use Rattle.pdl_source_stages.proofs.ForkSites.{Order, Before, Same, After, order}
 use Rattle.pdl_source_stages.proofs.ForkVars
@@ -114,11 +114,21 @@ fetch_grows : (ms : List Mem) (t : Site) (x m a : ℕ)
 fetch_grows ms t x m a e = (ForkVars.bound_last ms t.walk.vars t.stmt x (ap (from_op (binds_var x)) e ∙ eq-eqb x x refl), at t.stmt (ap (from_op is_fetch) e))
   where
     at : (s : Stmt) → from_op is_fetch (op_of ms t.walk.vars s) ≡ true → length (vars_past ms t.walk.vars s) ≡ suc (length t.walk.vars)
-    at (DelayedRead sp y l) f = let a = length-append t.walk.vars (record { name = y.name; width = mem_width ms l.mem.name } ∷ []) in omega arith
+    at (DelayedRead sp y l) f =
+        let a = length-append t.walk.vars (record { name = y.name; width = mem_width ms l.mem.name; advised = false } ∷ []) in omega arith
     at (If sp (Variable y) when otherwise) f = absurd (false≢true f)
     at (If sp c when otherwise) f = absurd (false≢true f)
     at (Reserve sp l R) f = absurd (false≢true f)
     at (Reserve sp l W) f = absurd (false≢true f)
+    at (CombRead sp x l) f =
+        absurd
+        (false≢true (sym (read_none is_fetch (is_advisory_mem ms l.mem.name) (length t.walk.vars) (mem_of ms l.mem.name)
+        (var_of t.walk.vars l.address.name) refl refl) ∙ f))
+    at (Bind sp x v) f = absurd (false≢true (sym (bind_none is_fetch (is_advised t.walk.vars v) (length t.walk.vars) (flat_expr t.walk.vars v) refl refl) ∙ f))
+    at (Write sp l v) f =
+        absurd
+        (false≢true (sym (write_none is_fetch (is_advisory_mem ms l.mem.name) (mem_of ms l.mem.name) (var_of t.walk.vars l.address.name)
+        (flat_expr t.walk.vars v) refl refl) ∙ f))
     at _ f = absurd (false≢true f)
 
 module _ (p : Pipe) (rules : KeepsRules p) (apart : are_apart (places p) ≡ true)

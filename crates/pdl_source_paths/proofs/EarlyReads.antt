@@ -3,10 +3,10 @@ use Rattle.std.proofs.Common.{◌≡◌, refl, sym, ap, ap₂, ◌∙◌, subst,
 use Rattle.std.proofs.lemmas.Bool.{false≢true, and_parts, or_parts, both_ways}
 use Rattle.std.proofs.lemmas.List.Folds.{list_any-append}
 use Rattle.std.specs.List.{list_any}
-use Rattle.pdl_semantics.specs.Tree.{Span, Ident, Location, R, W, Variable, Stmt, Separator, DelayedRead, Reserve, Release, If, Stmts, Nil, Cons, Pipe}
+use Rattle.pdl_semantics.specs.Tree.{Span, Ident, Location, R, W, Variable, Stmt, Separator, CombRead, Bind, Write, DelayedRead, Reserve, Release, If, Stmts, Nil, Cons, Pipe}
 use Rattle.pdl_semantics.specs.Flat
 use Rattle.pdl_semantics.specs.Flat.{all_hold}
-use Rattle.pdl_semantics.specs.Flatten.{flat, mem_of}
+use Rattle.pdl_semantics.specs.Flatten.{flat, mem_of, var_of, flat_expr, is_advisory_mem, is_advised}
 use Rattle.pdl_semantics.specs.Stages.{is_release, commit_stage}
 use Rattle.pdl_kit.specs.declared.rule.Rule.TheVariants.{F3, F5, L8}
 use Rattle.pdl_rules.specs.Places.{Place, Parameter, Memory, Statement, Guard, Branch, with_inner, statements, places, places_after, guards, on_path}
@@ -22,12 +22,13 @@ use Rattle.pdl_rules.specs.Refusal.{KeepsRules}
 use Rattle.pdl_theory_facts.specs.Scans.{none_of, is_dead}
 use Rattle.pdl_source_stages.proofs.Sites.{Site, sites_of, front_of, place_of, All, stmts_are}
 use Rattle.pdl_source_stages.proofs.Walks.{cut, cut_append, cut_in, at_front}
-use Rattle.pdl_source_stages.proofs.Shapes.{is_whole, is_forked, fork_fits, begins_stage}
+use Rattle.pdl_source_stages.proofs.Shapes.{is_whole, is_forked, is_late, begins_stage}
 use Rattle.pdl_source_stages.proofs.SiteStages.{all_map, none_of_whole}
 use Rattle.pdl_source_stages.proofs.BodyShape.{body_forked}
-use Rattle.pdl_source_stages.proofs.StatementStages.{from_append, from_none, all_staged}
+use Rattle.pdl_source_stages.proofs.StatementStages.{all_staged}
+use Rattle.pdl_source_stages.proofs.TextStages.{from_append, from_none}
 use Rattle.pdl_source_stages.proofs.Firsts.{any_params, any_mems}
-use Rattle.pdl_source_stages.proofs.SiteFacts.{each_stmt, AtSite, op_of, from_op}
+use Rattle.pdl_source_stages.proofs.SiteFacts.{each_stmt, AtSite, op_of, from_op, read_none, bind_none, write_none}
 use Rattle.pdl_source_paths.specs.Source.{are_apart}
 use Rattle.pdl_source_paths.proofs.Choices.{by_choice}
 use Rattle.pdl_source_paths.proofs.PathStatements.{ops}
@@ -74,11 +75,11 @@ full_body front (Cons (Separator sp) ss) h r =
     (full_body (front ++ Statement (Separator sp) [] ∷ []) ss h (inl (full_cut front sp)))
 full_body front (Cons (If sp c when otherwise) ss) h (inr e) = absurd (false≢true e)
 full_body front (Cons (If sp c when otherwise) ss) h (inl f) =
-    let parts = and_parts (fork_fits (is_whole when otherwise) when otherwise ss) (is_forked ss) h in
+    let parts = and_parts (is_whole when otherwise || (begins_stage ss && (is_late when && is_late otherwise))) (is_forked ss) h in
     subst Full (append_assoc front (with_inner [] (If sp c when otherwise)) (statements [] ss))
     (full_body (front ++ with_inner [] (If sp c when otherwise)) ss parts.1 (by (is_whole when otherwise) refl parts.0))
   where
-    by : (b : Bool) → is_whole when otherwise ≡ b → fork_fits b when otherwise ss ≡ true
+    by : (b : Bool) → is_whole when otherwise ≡ b → (b || (begins_stage ss && (is_late when && is_late otherwise))) ≡ true
         → Full (front ++ with_inner [] (If sp c when otherwise)) ⊎ (begins_stage ss ≡ true)
     by true e g = inl (full_none front (with_inner [] (If sp c when otherwise)) (cut_in [] (If sp c when otherwise) ∙ none_of_whole when otherwise e) f)
     by false e g = inr (and_parts (begins_stage ss) _ g).0
@@ -337,4 +338,16 @@ module _ (p : Pipe) (rules : KeepsRules p) where
             at (If sp c when otherwise) g i = absurd (false≢true (sym (ap (λ s. from_op is_fetch (op_of p.mems t.walk.vars s)) g) ∙ wrong))
             at (Reserve sp l R) g i = absurd (false≢true (sym (ap (λ s. from_op is_fetch (op_of p.mems t.walk.vars s)) g) ∙ wrong))
             at (Reserve sp l W) g i = absurd (false≢true (sym (ap (λ s. from_op is_fetch (op_of p.mems t.walk.vars s)) g) ∙ wrong))
+            at (CombRead sp x l) g i =
+                absurd
+                (false≢true (sym (read_none is_fetch (is_advisory_mem p.mems l.mem.name) (length t.walk.vars) (mem_of p.mems l.mem.name)
+                (var_of t.walk.vars l.address.name) refl refl) ∙ (sym (ap (λ s. from_op is_fetch (op_of p.mems t.walk.vars s)) g) ∙ wrong)))
+            at (Bind sp x v) g i =
+                absurd
+                (false≢true (sym (bind_none is_fetch (is_advised t.walk.vars v) (length t.walk.vars) (flat_expr t.walk.vars v) refl refl)
+                ∙ (sym (ap (λ s. from_op is_fetch (op_of p.mems t.walk.vars s)) g) ∙ wrong)))
+            at (Write sp l v) g i =
+                absurd
+                (false≢true (sym (write_none is_fetch (is_advisory_mem p.mems l.mem.name) (mem_of p.mems l.mem.name) (var_of t.walk.vars l.address.name)
+                (flat_expr t.walk.vars v) refl refl) ∙ (sym (ap (λ s. from_op is_fetch (op_of p.mems t.walk.vars s)) g) ∙ wrong)))
             at s g i = absurd (false≢true (sym (ap (λ s. from_op is_fetch (op_of p.mems t.walk.vars s)) g) ∙ wrong))

@@ -2,7 +2,7 @@
 use Rattle.std.proofs.Common.{◌≡◌, refl, sym, ap, ◌∙◌, subst, Bool, true, false, List, [], ◌∷◌, ◌++◌, if◌then◌else◌, append_assoc, append-nil}
 use Rattle.pdl_semantics.specs.Tree.{Expr, Variable, Stmt, CombRead, Bind, DelayedRead, If, Stmts, Nil, Cons, Mem, Pipe}
 use Rattle.pdl_semantics.specs.Flat
-use Rattle.pdl_semantics.specs.Flatten.{Var, mem_width, width_of, at_start, params_of, with_guard, past, past_all, at_otherwise, under}
+use Rattle.pdl_semantics.specs.Flatten.{Var, mem_width, width_of, at_start, params_of, with_guard, past, past_all, at_otherwise, under, is_advisory_mem, is_advised}
 use Rattle.pdl_semantics.specs.Flatten
 use Rattle.pdl_rules.specs.Places.{Place, Statement, Guard, Branch, with_inner, statements, on_path}
 use Rattle.pdl_source_stages.proofs.Sites.{Site, branch, sites_in, sites, sites_of, front_of, place_of}
@@ -12,13 +12,13 @@ use Rattle.pdl_semantics.proofs.Facts.{all_vars}
 -- the variables after a statement alone
 abbrev pub if_past : List Var → Expr → List Var
 if_past vs (Variable x) = vs
-if_past vs _ = vs ++ record { name = []; width = 1 } ∷ []
+if_past vs _ = vs ++ record { name = []; width = 1; advised = false } ∷ []
 
 -- the variables after a statement by itself: those before it, and the one that it binds
 abbrev pub vars_past : List Mem → List Var → Stmt → List Var
-vars_past ms vs (CombRead _ x from) = vs ++ record { name = x.name; width = mem_width ms from.mem.name } ∷ []
-vars_past ms vs (Bind _ x e) = vs ++ record { name = x.name; width = width_of vs e } ∷ []
-vars_past ms vs (DelayedRead _ x from) = vs ++ record { name = x.name; width = mem_width ms from.mem.name } ∷ []
+vars_past ms vs (CombRead _ x from) = vs ++ record { name = x.name; width = mem_width ms from.mem.name; advised = is_advisory_mem ms from.mem.name } ∷ []
+vars_past ms vs (Bind _ x e) = vs ++ record { name = x.name; width = width_of vs e; advised = is_advised vs e } ∷ []
+vars_past ms vs (DelayedRead _ x from) = vs ++ record { name = x.name; width = mem_width ms from.mem.name; advised = false } ∷ []
 vars_past ms vs (If _ c _ _) = if_past vs c
 vars_past ms vs _ = vs
 

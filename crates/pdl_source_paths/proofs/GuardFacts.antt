@@ -2,10 +2,10 @@
 use Rattle.std.proofs.Common.{◌≡◌, refl, sym, ap, ◌∙◌, ℕ, ◌≤◌, ◌<◌, Bool, true, false, ◌||◌, not, List, [], ◌∷◌, ◌++◌, length, length-append, Option, Some, None, nat_lt, nat_le, arith, le-leb, lt-ltb}
 use Rattle.std.proofs.lemmas.Bool.{false≢true, and_from, or_right}
 use Rattle.std.specs.List.{list_any}
-use Rattle.pdl_semantics.specs.Tree.{R, W, Variable, Stmt, Separator, DelayedRead, Reserve, If, Mem, Pipe}
+use Rattle.pdl_semantics.specs.Tree.{R, W, Variable, Stmt, Separator, CombRead, Bind, Write, DelayedRead, Reserve, If, Mem, Pipe}
 use Rattle.pdl_semantics.specs.Flat
 use Rattle.pdl_semantics.specs.Flat.{list_all}
-use Rattle.pdl_semantics.specs.Flatten.{Var, flat, params_of}
+use Rattle.pdl_semantics.specs.Flatten.{Var, flat, params_of, var_of, mem_of, flat_expr, is_advisory_mem, is_advised}
 use Rattle.pdl_rules.specs.Places.{Statement, Branch, places}
 use Rattle.pdl_rules.specs.Limits.{is_separator}
 use Rattle.pdl_rules.specs.Names.{OfVariable, defines_use, is_delayed}
@@ -14,7 +14,7 @@ use Rattle.pdl_theory_facts.specs.Scans.{none_of, binds_var, free_of, is_dead, i
 use Rattle.pdl_theory_facts.specs.Facts.{binds_guard, defined_by, late_for}
 use Rattle.pdl_source_stages.proofs.Sites.{Site, sites_of, own, owns, All, stmts_are}
 use Rattle.pdl_source_stages.proofs.SiteStages.{all_both, all_map}
-use Rattle.pdl_source_stages.proofs.SiteFacts.{each_stmt, AtSite, op_of, rows_of, own_is, from_op, row_at}
+use Rattle.pdl_source_stages.proofs.SiteFacts.{each_stmt, AtSite, op_of, rows_of, own_is, from_op, row_at, read_none, bind_none, write_none}
 use Rattle.pdl_source_stages.proofs.ForkVars
 use Rattle.pdl_source_paths.specs.Source.{are_apart}
 use Rattle.pdl_source_paths.proofs.Growth.{Grown, Grows, vars_past, past_grown, grown_same, grows_all}
@@ -52,6 +52,14 @@ fetch_delayed ms vs s bs op e f = at s (ap (from_op is_fetch) e ∙ f)
     at (If sp c when otherwise) g = absurd (false≢true g)
     at (Reserve sp l R) g = absurd (false≢true g)
     at (Reserve sp l W) g = absurd (false≢true g)
+    at (CombRead sp x l) g =
+        absurd
+        (false≢true (sym (read_none is_fetch (is_advisory_mem ms l.mem.name) (length vs) (mem_of ms l.mem.name) (var_of vs l.address.name) refl refl) ∙ g))
+    at (Bind sp x v) g = absurd (false≢true (sym (bind_none is_fetch (is_advised vs v) (length vs) (flat_expr vs v) refl refl) ∙ g))
+    at (Write sp l v) g =
+        absurd
+        (false≢true (sym (write_none is_fetch (is_advisory_mem ms l.mem.name) (mem_of ms l.mem.name) (var_of vs l.address.name) (flat_expr vs v) refl refl)
+        ∙ g))
     at _ g = absurd (false≢true g)
 
 -- the guard that a statement binds

@@ -1,19 +1,20 @@
 -- What the rules of calls, guesses and releases ask of each site on a path.
-use Rattle.std.proofs.Common.{◌≡◌, refl, sym, ap, ap₂, ◌∙◌, subst, ℕ, suc, ◌+◌, ◌≤◌, ◌<◌, ◌⊎◌, inl, inr, Bool, true, false, ◌&&◌, ◌||◌, not, List, [], ◌∷◌, ◌++◌, length, map, filter, cond, if◌then◌else◌, nat_lt, count_by, Option, Some, None, arith, append_assoc, append-nil, ltb-true, lt-ltb, eq-eqb, ⊎_elim}
-use Rattle.std.proofs.lemmas.Bool.{false≢true, and_parts, and_from, or_parts, or_cases, or_left, or_right, false_from_ne_true, not-false, cases_Bool}
+use Rattle.std.proofs.Common.{◌≡◌, refl, sym, ap, ap₂, ◌∙◌, subst, ℕ, suc, ◌≤◌, ◌<◌, ◌⊎◌, inl, inr, Bool, true, false, ◌&&◌, ◌||◌, not, List, [], ◌∷◌, ◌++◌, length, map, filter, nat_lt, count_by, Option, Some, None, is_some, arith, append_assoc, append-nil, ltb-true, lt-ltb, eq-eqb, le_refl, ⊎_elim}
+use Rattle.std.proofs.lemmas.Bool.{false≢true, and_parts, and_from, or_parts, or_cases, false_from_ne_true, not-false, cases_Bool, both_ways}
 use Rattle.std.proofs.lemmas.List.Folds.{list_any-append}
-use Rattle.std.proofs.lemmas.List.Sums.{sum_by-append}
 use Rattle.std.specs.List.{list_any}
-use Rattle.pdl_semantics.specs.Tree.{Span, Ident, Expr, Variable, R, W, Stmt, Separator, CombRead, Bind, SpecCall, DelayedRead, Write, Reserve, Block, Release, If, Call, Verify, SpecCheck, SpecBarrier, Param, Mem, Pipe}
+use Rattle.pdl_semantics.specs.Tree.{Span, Ident, Expr, Variable, R, W, Stmt, Separator, CombRead, Bind, SpecCall, DelayedRead, Write, Reserve, Block, Release, If, Call, Verify, Update, SpecCheck, SpecBarrier, Param, Mem, Pipe}
 use Rattle.pdl_semantics.specs.Stages
-use Rattle.pdl_kit.specs.declared.rule.Rule.TheVariants.{N3, S2, S4}
+use Rattle.pdl_kit.specs.declared.rule.Rule.TheVariants.{N3, S2, S4, S6}
+use Rattle.pdl_semantics.specs.Flatten.{is_advisory_mem, is_advised}
+use Rattle.pdl_source_stages.proofs.SiteFacts.{either_read, either_bind, either_write}
 use Rattle.pdl_rules.specs.Places.{Place, Parameter, Memory, Statement, Guard, places, guards, on_path}
 use Rattle.pdl_rules.specs.Parts.{is_some_and, location_of, some_expr_of, some_part}
-use Rattle.pdl_rules.specs.Names.{OfGuess, Use, defines_use, is_given, is_undefined, is_too_early, is_delayed, in_location, in_verify, reads_some}
+use Rattle.pdl_rules.specs.Names.{OfGuess, Use, defines_use, is_given, is_undefined, is_too_early, in_location, in_verify, reads_some}
 use Rattle.pdl_rules.specs.Limits.{is_separator}
 use Rattle.pdl_rules.specs.Calls.{is_call, is_wrong_call}
 use Rattle.pdl_rules.specs.Stages.{stage_of, first_stage, stages_that}
-use Rattle.pdl_rules.specs.Speculation.{is_verify, is_verify_of, verify_stages, is_once_after, is_unverified, releases_unsure, is_before_verify}
+use Rattle.pdl_rules.specs.Speculation.{is_verify, is_verify_of, verify_stages, is_once_after, is_unverified, releases_unsure, is_before_verify, guess_stages, updates_amiss, is_amiss}
 use Rattle.pdl_rules.specs.Speculation
 use Rattle.pdl_rules.specs.Refusal.{KeepsRules}
 use Rattle.pdl_rules.proofs.SingleWrites.{any_weaker, counted, count_push, count_cons, count_none, weight}
@@ -30,93 +31,12 @@ use Rattle.pdl_source_paths.proofs.PathStatements.{ops}
 use Rattle.pdl_source_paths.proofs.Variables.{Here}
 use Rattle.pdl_source_paths.proofs.Walk.{all_in_text, OnPath, calls_right, text_places}
 use Rattle.pdl_source_paths.proofs.SiteStages.{first_skip, first_sited, each_sited, some_op, none_sited}
-use Rattle.pdl_source_paths.proofs.Calls.{Asked, guess_calls}
+use Rattle.pdl_source_paths.proofs.Calls.{Asked, verifies_one}
+use Rattle.pdl_source_paths.proofs.GuessCounts.{count_stages, count_append, stages_past, any_on, one_guess, given_any}
+use Rattle.pdl_source_paths.proofs.Order.{Next, Rises}
 use Rattle.pdl_source_paths.proofs.PathScans.{AllAsked, AllSure}
 use Rattle.pdl_word.proofs.Bytes.{bytes_same, bytes_refl}
 use Rattle.pdl_rules.proofs.EachPlace.{closing}
-
--- COUNTS
-
--- as many stages as places that pass
-count_stages : (test : Place → Bool) (before xs : List Place) → length (stages_that test before xs) ≡ count_by test xs
-count_stages test before [] = refl
-count_stages test before (x ∷ xs) = at (test x) refl (count_stages test (before ++ x ∷ []) xs)
-  where
-    at : (b : Bool) → test x ≡ b → length (stages_that test (before ++ x ∷ []) xs) ≡ count_by test xs
-        → length (if b then stage_of before x ∷ stages_that test (before ++ x ∷ []) xs else stages_that test (before ++ x ∷ []) xs) ≡ count_by test (x ∷ xs)
-    at true e h = let f = count_cons test x xs in let g : weight (test x) ≡ 1 = ap weight e in omega arith
-    at false e h = let f = count_cons test x xs in let g : weight (test x) ≡ 0 = ap weight e in omega arith
-
-count_append : (test : Place → Bool) (xs ys : List Place) → count_by test (xs ++ ys) ≡ count_by test xs + count_by test ys
-count_append test xs ys = sum_by-append (λ x. weight (test x)) xs ys
-
-stages_past : (test : Place → Bool) (before xs ys : List Place)
-    → list_any test xs ≡ false → stages_that test before (xs ++ ys) ≡ stages_that test (before ++ xs) ys
-stages_past test before [] ys h = ap (λ l. stages_that test l ys) (sym (append-nil before))
-stages_past test before (x ∷ xs) ys h =
-    let parts = or_parts (test x) (list_any test xs) h in
-    ap (λ b. if b then stage_of before x ∷ stages_that test (before ++ x ∷ []) (xs ++ ys) else stages_that test (before ++ x ∷ []) (xs ++ ys)) parts.0
-    ∙ stages_past test (before ++ x ∷ []) xs ys parts.1
-    ∙ ap (λ l. stages_that test l ys) (append_assoc before (x ∷ []) xs)
-
--- a test of the places on a path
-any_on : (f test : Place → Bool) (xs : List Place) → list_any (λ y. f y && test y) xs ≡ list_any test (filter f xs)
-any_on f test [] = refl
-any_on f test (x ∷ xs) = at (f x) (any_on f test xs)
-  where
-    at : (b : Bool) → list_any (λ y. f y && test y) xs ≡ list_any test (filter f xs)
-        → ((b && test x) || list_any (λ y. f y && test y) xs) ≡ list_any test (cond b (x ∷ filter f xs) (filter f xs))
-    at true h = ap (λ b. test x || b) h
-    at false h = h
-
--- of one call there is one guess
-one_name : (n g : List ℕ) (x : Place) → defines_use (OfGuess n) x ≡ true → defines_use (OfGuess g) x ≡ true → n ≡ g
-one_name n g (Statement (SpecCall _ y _) bs) e f = bytes_same n y.name e ∙ sym (bytes_same g y.name f)
-one_name n g (Statement (Call _ _) bs) e f = absurd (false≢true e)
-one_name n g (Statement (Separator _) bs) e f = absurd (false≢true e)
-one_name n g (Statement (CombRead _ _ _) bs) e f = absurd (false≢true e)
-one_name n g (Statement (Bind _ _ _) bs) e f = absurd (false≢true e)
-one_name n g (Statement (DelayedRead _ _ _) bs) e f = absurd (false≢true e)
-one_name n g (Statement (Write _ _ _) bs) e f = absurd (false≢true e)
-one_name n g (Statement (Reserve _ _ _) bs) e f = absurd (false≢true e)
-one_name n g (Statement (Block _ _) bs) e f = absurd (false≢true e)
-one_name n g (Statement (Release _ _) bs) e f = absurd (false≢true e)
-one_name n g (Statement (If _ _ _ _) bs) e f = absurd (false≢true e)
-one_name n g (Statement (Verify _ _ _) bs) e f = absurd (false≢true e)
-one_name n g (Statement (SpecCheck _) bs) e f = absurd (false≢true e)
-one_name n g (Statement (SpecBarrier _) bs) e f = absurd (false≢true e)
-one_name n g _ e f = absurd (false≢true e)
-
-one_guess : (n g : List ℕ) (xs : List Place)
-    → count_by is_call xs ≤ 1 → list_any (defines_use (OfGuess n)) xs ≡ true
-    → list_any (defines_use (OfGuess g)) xs ≡ true → n ≡ g
-one_guess n g [] few e f = absurd (false≢true e)
-one_guess n g (x ∷ xs) few e f = by (or_cases (defines_use (OfGuess n) x) _ e) (or_cases (defines_use (OfGuess g) x) _ f) (one_guess n g xs fewer)
-  where
-    fewer : count_by is_call xs ≤ 1
-    fewer = let sum = count_cons is_call x xs in omega arith
-
-    more : (l : List ℕ) → is_call x ≡ true → list_any (defines_use (OfGuess l)) xs ≡ true → ⊥
-    more l t u =
-        let one : 1 ≤ count_by is_call xs = counted is_call xs (any_weaker _ _ (guess_calls l) xs u) in
-        let here : weight (is_call x) ≡ 1 = ap weight t in
-        let sum = count_cons is_call x xs in
-        omega arith
-
-    by : (defines_use (OfGuess n) x ≡ true) ⊎ (list_any (defines_use (OfGuess n)) xs ≡ true)
-        → (defines_use (OfGuess g) x ≡ true) ⊎ (list_any (defines_use (OfGuess g)) xs ≡ true)
-        → (list_any (defines_use (OfGuess n)) xs ≡ true → list_any (defines_use (OfGuess g)) xs ≡ true → n ≡ g) → n ≡ g
-    by (inl a) (inl b) r = one_name n g x a b
-    by (inl a) (inr b) r = absurd (more g (guess_calls n x a) b)
-    by (inr a) (inl b) r = absurd (more n (guess_calls g x b) a)
-    by (inr a) (inr b) r = r a b
-
--- a name that is given after some places is defined by one of them
-pub given_any : (u : Use) (xs : List Place) → is_given xs u ≡ true → list_any (defines_use u) xs ≡ true
-given_any u [] e = absurd (false≢true e)
-given_any u (x ∷ xs) e =
-    ⊎_elim (λ a. or_left _ _ (and_parts (defines_use u x) _ a).0) (λ a. or_right (defines_use u x) _ (given_any u xs a))
-    (or_cases (defines_use u x && (not (is_delayed x) || list_any is_separator xs)) _ e)
 
 -- THE RULES
 
@@ -169,7 +89,8 @@ module _ (p : Pipe) (rules : KeepsRules p) (v : Guard → Bool) (staged : All St
       ap (stages_that (verified_on g) []) (text_places p)
       ∙ stages_past (verified_on g) [] (front_of p) (map place_of (sites_of p) ++ closing p) (none_front (verified_on g) (λ a. refl) (λ m. refl))
 
-  guess_before : (t : Site) → Here p t → Staged t → on_path c (place_of t) ≡ true
+  -- a guess on the path is made before V and verified once
+  pub guess_before : (t : Site) → Here p t → Staged t → on_path c (place_of t) ≡ true
       → (sp : Span) (g : Ident) (args : List Expr) → t.stmt ≡ SpecCall sp g args
       → (stands_before o t.walk.stage ≡ true) × Once g.name
   guess_before t h st on sp g args e = (stands, sym (count_stages (verified_on g.name) [] (places p)) ∙ ap length one.1)
@@ -203,17 +124,83 @@ module _ (p : Pipe) (rules : KeepsRules p) (v : Guard → Bool) (staged : All St
       stands : stands_before o t.walk.stage ≡ true
       stands = by o refl
 
+  -- V of the flat form is V of the rules
+  v_is : (V : ℕ) → o ≡ Some V → Speculation.verify_stage p ≡ Some V
+  v_is V i =
+      found (first_sited is_verify V (front_of p) (closing p) (sites_of p) (all_in_text p) staged (in_v (sites_of p) verify_at) (λ front. refl))
+    where
+      same : {n : ℕ} → Some V ≡ Some n → n ≡ V
+      same z = cc z
+
+      in_v : (ts : List Site) → All (λ t. is_verify (place_of t) ≡ true → o ≡ Some t.walk.stage) ts
+          → All (λ t. is_verify (place_of t) ≡ true → t.walk.stage ≡ V) ts
+      in_v [] h = tt
+      in_v (t ∷ ts) h = ((λ k. same (sym i ∙ h.0 k)), in_v ts h.1)
+
+      skip : Speculation.verify_stage p ≡ first_stage is_verify (front_of p) (map place_of (sites_of p) ++ closing p)
+      skip =
+          ap (first_stage is_verify []) (text_places p)
+          ∙ first_skip is_verify [] (front_of p) (map place_of (sites_of p) ++ closing p) (none_front is_verify (λ a. refl) (λ m. refl))
+
+      unverified : (ts : List Site) → list_any is_verify (map place_of ts) ≡ false → All (λ t. some_op Stages.is_verify (ops p.mems t) ≡ false) ts
+      unverified [] h = tt
+      unverified (t ∷ ts) h = let parts = or_parts (is_verify (place_of t)) (list_any is_verify (map place_of ts)) h in
+          (none t t.stmt refl parts.0, unverified ts parts.1)
+        where
+          none : (u : Site) (x : Stmt) → u.stmt ≡ x → is_verify (place_of u) ≡ false → some_op Stages.is_verify (ops p.mems u) ≡ false
+          none u x j h =
+              ap (λ y. some_op Stages.is_verify (PathStatements.ops_of p.mems u.walk.vars y)) j
+              ∙ of_stmt x (sym (ap (λ y. is_verify (Statement y u.branches)) j) ∙ h)
+            where
+              of_if : (d : Expr) → some_op Stages.is_verify (PathStatements.if_ops u.walk.vars d) ≡ false
+              of_if (Variable y) = refl
+              of_if _ = refl
+
+              of_stmt : (y : Stmt) → is_verify (Statement y u.branches) ≡ false
+                  → some_op Stages.is_verify (PathStatements.ops_of p.mems u.walk.vars y) ≡ false
+              of_stmt (Verify sp g args) k = absurd (false≢true (sym k))
+              of_stmt (If sp d a b) k = of_if d
+              of_stmt (Reserve sp l R) k = refl
+              of_stmt (Reserve sp l W) k = refl
+              of_stmt (CombRead sp x at) k = either_read (λ op. some_op Stages.is_verify (op ∷ []) ≡ false) (is_advisory_mem p.mems at.mem.name) _ _ _ refl refl
+              of_stmt (Bind sp x e) k = either_bind (λ op. some_op Stages.is_verify (op ∷ []) ≡ false) (is_advised u.walk.vars e) _ _ refl refl
+              of_stmt (Write sp at e) k = either_write (λ op. some_op Stages.is_verify (op ∷ []) ≡ false) (is_advisory_mem p.mems at.mem.name) _ _ _ refl refl
+              of_stmt _ k = refl
+
+      found :
+          ((first_stage is_verify (front_of p) (map place_of (sites_of p) ++ closing p) ≡ None) × (list_any is_verify (map place_of (sites_of p)) ≡ false))
+          ⊎ (first_stage is_verify (front_of p) (map place_of (sites_of p) ++ closing p) ≡ Some V)
+          → Speculation.verify_stage p ≡ Some V
+      found (inl r) =
+          absurd
+          (clash
+          (sym
+          (no_verify (flat p).stmts
+          (ap (Scans.none_of Stages.is_verify) (stmts_are p) ∙ none_sited Stages.is_verify p.mems (sites_of p) (unverified (sites_of p) r.1)))
+          ∙ i))
+        where
+          clash : None ≡ Some V → ⊥
+          clash z = cc z
+      found (inr r) = skip ∙ r
+
   -- what is known of the calls before a site
   pub record Called (before : List Place) : Type 0 where
     pub few : count_by is_call before ≤ 1
     pub once : (g : List ℕ) → list_any (defines_use (OfGuess g)) before ≡ true → Once g
+    pub some : (g : List ℕ) → list_any (defines_use (OfGuess g)) before ≡ true → is_some o ≡ true
 
-  called_next : (before : List Place) (t : Site) → Here p t → Staged t → filter (on_path c) t.front ≡ before
+  -- where one of these places is a verify, V is no later than stage k
+  abbrev pub Verified : ℕ → List Place → Type 0
+  Verified k before = (V : ℕ) → o ≡ Some V → list_any is_verify before ≡ true → V ≤ k
+
+  -- what is known of the calls before the next site
+  pub called_next : (before : List Place) (t : Site) → Here p t → Staged t → filter (on_path c) t.front ≡ before
       → on_path c (place_of t) ≡ true → Called before → Called (before ++ place_of t ∷ [])
   called_next before t h st same on k =
       record {
         few = few (is_call (place_of t)) refl;
-        once = λ g e. ⊎_elim (k.once g) (here t.stmt refl g) (any_split (defines_use (OfGuess g)) before (place_of t) e);
+        once = λ g e. ⊎_elim (k.once g) (λ d. (here t.stmt refl g d).0) (any_split (defines_use (OfGuess g)) before (place_of t) e);
+        some = λ g e. ⊎_elim (k.some g) (λ d. (here t.stmt refl g d).1) (any_split (defines_use (OfGuess g)) before (place_of t) e);
       }
     where
       wrong : is_wrong_call before (place_of t) ≡ false
@@ -234,8 +221,13 @@ module _ (p : Pipe) (rules : KeepsRules p) (v : Guard → Bool) (staged : All St
           let w : weight (is_call (place_of t)) ≡ 0 = ap weight e in
           omega (arith, count_push is_call before (place_of t))
 
-      here : (s : Stmt) → t.stmt ≡ s → (g : List ℕ) → defines_use (OfGuess g) (Statement s t.branches) ≡ true → Once g
-      here (SpecCall sp y args) i g e = subst Once (sym (bytes_same g y.name e)) (guess_before t h st on sp y args i).1
+      there_is : (x : Option ℕ) → stands_before x t.walk.stage ≡ true → is_some x ≡ true
+      there_is None e = absurd (false≢true e)
+      there_is (Some V) e = refl
+
+      here : (s : Stmt) → t.stmt ≡ s → (g : List ℕ) → defines_use (OfGuess g) (Statement s t.branches) ≡ true → Once g × (is_some o ≡ true)
+      here (SpecCall sp y args) i g e =
+          let r = guess_before t h st on sp y args i in (subst Once (sym (bytes_same g y.name e)) r.1, there_is o r.0)
       here (Separator _) i g e = absurd (false≢true e)
       here (CombRead _ _ _) i g e = absurd (false≢true e)
       here (Bind _ _ _) i g e = absurd (false≢true e)
@@ -247,29 +239,21 @@ module _ (p : Pipe) (rules : KeepsRules p) (v : Guard → Bool) (staged : All St
       here (If _ _ _ _) i g e = absurd (false≢true e)
       here (Call _ _) i g e = absurd (false≢true e)
       here (Verify _ _ _) i g e = absurd (false≢true e)
+      here (Update _ _ _) i g e = absurd (false≢true e)
       here (SpecCheck _) i g e = absurd (false≢true e)
       here (SpecBarrier _) i g e = absurd (false≢true e)
 
-  asked_here : (before : List Place) (t : Site) → Here p t → Staged t → filter (on_path c) t.front ≡ before
-      → on_path c (place_of t) ≡ true → (is_verify (place_of t) ≡ true → o ≡ Some t.walk.stage) → Called before
-      → (s : Stmt) → t.stmt ≡ s → Asked p.mems o before t.branches t.walk.vars t.walk.stage s
-  asked_here before t h st same on at k (Call sp args) e =
-      ap (λ x. is_wrong_call before (Statement x t.branches)) (sym e)
-      ∙ subst (λ l. is_wrong_call l (place_of t) ≡ false) same (calls_right p rules v t.front h.later (place_of t) h.whole on)
-  asked_here before t h st same on at k (SpecCall sp g args) e = (
-    ap (λ x. is_wrong_call before (Statement x t.branches)) (sym e)
-        ∙ subst (λ l. is_wrong_call l (place_of t) ≡ false) same (calls_right p rules v t.front h.later (place_of t) h.whole on),
-    (guess_before t h st on sp g args e).0,
-  )
-  asked_here before t h st same on at k (Verify sp g args) e =
-      (there, (λ n d. one_guess n g.name before k.few d there), unverified, ap (λ x. stands_at x t.walk.stage) is_v ∙ eq-eqb t.walk.stage t.walk.stage refl)
+  -- N3: the guess that a statement verifies or replaces was made before on the path
+  pub guess_there : (before : List Place) (t : Site) → Here p t → filter (on_path c) t.front ≡ before → on_path c (place_of t) ≡ true → (g : Ident)
+      → ((u : Use → Bool) → in_verify u t.stmt ≡ u (OfGuess g.name)) → list_any (defines_use (OfGuess g.name)) before ≡ true
+  guess_there before t h same on g is = given_any (OfGuess g.name) before given
     where
       early : Use → Bool
       early = is_too_early p t.front (place_of t)
 
       used : early (OfGuess g.name) ≡ false
       used =
-          sym (ap (in_verify early) e)
+          sym (is early)
           ∙ (or_parts (in_verify early t.stmt) (some_expr_of (some_part (reads_some early)) t.stmt)
           (or_parts (is_some_and (in_location early) (location_of t.stmt)) _ (rules N3 t.front (place_of t) h.later h.whole)).1).0
 
@@ -280,8 +264,32 @@ module _ (p : Pipe) (rules : KeepsRules p) (v : Guard → Bool) (staged : All St
           (unbroken_on (λ earlier. not (is_given earlier (OfGuess g.name))) p v t.front (place_of t)
           (or_parts (is_undefined t.front (OfGuess g.name)) _ used).1 on))
 
+  -- S6: an update on the path is after its guess, before V, and the only one
+  pub update_right : (t : Site) → Here p t → Staged t → on_path c (place_of t) ≡ true → (sp : Span) (g : Ident) (args : List Expr)
+      → t.stmt ≡ Update sp g args → updates_amiss p c t.front t.walk.stage g.name ≡ false
+  update_right t h st on sp g args e =
+      ap (λ k. updates_amiss p c t.front k g.name) (sym st) ∙ ap (λ s. is_amiss p c t.front (Statement s t.branches)) (sym e)
+      ∙ ap (λ b. b && is_amiss p c t.front (place_of t)) (sym on)
+      ∙ by_choice (λ path. on_path path (place_of t) && is_amiss p path t.front (place_of t)) v (guards (places p))
+      (rules S6 t.front (place_of t) h.later h.whole)
+
+  asked_here : (before : List Place) (t : Site) → Here p t → Staged t → filter (on_path c) t.front ≡ before
+      → on_path c (place_of t) ≡ true → (is_verify (place_of t) ≡ true → o ≡ Some t.walk.stage)
+      → (is_separator (place_of t) ≡ false → Verified t.walk.stage before) → Called before
+      → (s : Stmt) → t.stmt ≡ s → Asked p.mems o before t.branches t.walk.vars t.walk.stage s
+  asked_here before t h st same on at late k (Call sp args) e =
+      ap (λ x. is_wrong_call before (Statement x t.branches)) (sym e)
+      ∙ subst (λ l. is_wrong_call l (place_of t) ≡ false) same (calls_right p rules v t.front h.later (place_of t) h.whole on)
+  asked_here before t h st same on at late k (SpecCall sp g args) e = (
+    ap (λ x. is_wrong_call before (Statement x t.branches)) (sym e)
+        ∙ subst (λ l. is_wrong_call l (place_of t) ≡ false) same (calls_right p rules v t.front h.later (place_of t) h.whole on),
+    (guess_before t h st on sp g args e).0,
+  )
+  asked_here before t h st same on at late k (Verify sp g args) e =
+      (there, (λ n d. one_guess n g.name before k.few d there), unverified, ap (λ x. stands_at x t.walk.stage) is_v ∙ eq-eqb t.walk.stage t.walk.stage refl)
+    where
       there : list_any (defines_use (OfGuess g.name)) before ≡ true
-      there = given_any (OfGuess g.name) before given
+      there = guess_there before t h same on g (λ u. ap (λ x. in_verify u x) e)
 
       is_v : o ≡ Some t.walk.stage
       is_v = at (ap (λ x. is_verify (Statement x t.branches)) e)
@@ -301,17 +309,52 @@ module _ (p : Pipe) (rules : KeepsRules p) (v : Guard → Bool) (staged : All St
               let sum = ap (count_by (verified_on g.name)) h.whole ∙ count_append (verified_on g.name) t.front (place_of t ∷ h.later) in
               let rest = count_cons (verified_on g.name) (place_of t) h.later in
               omega arith
-  asked_here before t h st same on at k (Separator sp) e = tt
-  asked_here before t h st same on at k (CombRead sp x l) e = tt
-  asked_here before t h st same on at k (Bind sp x l) e = tt
-  asked_here before t h st same on at k (DelayedRead sp x l) e = tt
-  asked_here before t h st same on at k (Write sp l x) e = tt
-  asked_here before t h st same on at k (Reserve sp l x) e = tt
-  asked_here before t h st same on at k (Block sp l) e = tt
-  asked_here before t h st same on at k (Release sp l) e = tt
-  asked_here before t h st same on at k (If sp x a b) e = tt
-  asked_here before t h st same on at k (SpecCheck sp) e = tt
-  asked_here before t h st same on at k (SpecBarrier sp) e = tt
+  asked_here before t h st same on at late k (Update sp g args) e =
+      (there, (λ n d. one_guess n g.name before k.few d there), unverified (list_any (is_verify_of g.name) before) refl, stands)
+    where
+      there : list_any (defines_use (OfGuess g.name)) before ≡ true
+      there = guess_there before t h same on g (λ u. ap (λ x. in_verify u x) e)
+
+      early : (V : ℕ) → o ≡ Some V → t.walk.stage < V
+      early V i =
+          let rest =
+          (or_parts
+          (list_any (λ j. not (nat_lt j t.walk.stage)) (guess_stages c t.front g.name)
+          || is_some_and (λ w. not (nat_lt t.walk.stage w)) (Speculation.verify_stage p)) _ (update_right t h st on sp g args e)).0
+          in
+          let low = (or_parts (list_any (λ j. not (nat_lt j t.walk.stage)) (guess_stages c t.front g.name)) _ rest).1 in
+          ltb-true t.walk.stage V
+          (not-false (nat_lt t.walk.stage V) (ap (is_some_and (λ w. not (nat_lt t.walk.stage w))) (sym (v_is V i)) ∙ low))
+
+      stands : stands_before o t.walk.stage ≡ true
+      stands = by o refl (k.some g.name there)
+        where
+          by : (x : Option ℕ) → o ≡ x → is_some x ≡ true → stands_before x t.walk.stage ≡ true
+          by None i f = absurd (false≢true f)
+          by (Some V) i f = lt-ltb t.walk.stage V (early V i)
+
+      unverified : (b : Bool) → list_any (is_verify_of g.name) before ≡ b → b ≡ false
+      unverified false i = refl
+      unverified true i = by o refl (k.some g.name there)
+        where
+          by : (x : Option ℕ) → o ≡ x → is_some x ≡ true → true ≡ false
+          by None j f = absurd (false≢true f)
+          by (Some V) j f =
+              absurd
+              (let l = early V j in
+              let m = late (ap (λ s. is_separator (Statement s t.branches)) e) V j (any_weaker _ _ (verifies_one g.name) before i) in
+              omega arith)
+  asked_here before t h st same on at late k (Separator sp) e = tt
+  asked_here before t h st same on at late k (CombRead sp x l) e = tt
+  asked_here before t h st same on at late k (Bind sp x l) e = tt
+  asked_here before t h st same on at late k (DelayedRead sp x l) e = tt
+  asked_here before t h st same on at late k (Write sp l x) e = tt
+  asked_here before t h st same on at late k (Reserve sp l x) e = tt
+  asked_here before t h st same on at late k (Block sp l) e = tt
+  asked_here before t h st same on at late k (Release sp l) e = tt
+  asked_here before t h st same on at late k (If sp x a b) e = tt
+  asked_here before t h st same on at late k (SpecCheck sp) e = tt
+  asked_here before t h st same on at late k (SpecBarrier sp) e = tt
 
   -- ALONG THE PATH
 
@@ -322,15 +365,44 @@ module _ (p : Pipe) (rules : KeepsRules p) (v : Guard → Bool) (staged : All St
     pub verify : is_verify (place_of t) ≡ true → o ≡ Some t.walk.stage
 
   -- each site along a path is as the rules of calls ask, and what is known of the calls before holds after the last one
-  pub all_asked : (before : List Place) (ts : List Site) → OnPath c before ts → All Told ts → Called before
+  pub all_asked : (n end : ℕ) (before : List Place) (ts : List Site) → Rises n ts end → OnPath c before ts → All Told ts → Verified n before → Called before
       → AllAsked p o before ts × Called (before ++ map place_of ts)
-  all_asked before [] on h k = (tt, subst Called (sym (append-nil before)) k)
-  all_asked before (t ∷ ts) on h k =
-      let next = called_next before t h.0.here h.0.stage on.0 on.1 k in
-      let rest = all_asked (before ++ place_of t ∷ []) ts on.2 h.1 next in (
-        (asked_here before t h.0.here h.0.stage on.0 on.1 h.0.verify k t.stmt refl, rest.0),
+  all_asked n end before [] rise on h late k = (tt, subst Called (sym (append-nil before)) k)
+  all_asked n end before (t ∷ ts) rise on h late k =
+      at (is_separator (place_of t)) refl rise
+      (λ m r w. all_asked m end (before ++ place_of t ∷ []) ts r on.2 h.1 w (called_next before t h.0.here h.0.stage on.0 on.1 k))
+    where
+      more : (m : ℕ) → n ≤ m → (is_verify (place_of t) ≡ true → t.walk.stage ≤ m) → Verified m (before ++ place_of t ∷ [])
+      more m low here V i e =
+          ⊎_elim (λ f. let l = late V i f in let z : V ≤ m = omega arith in z)
+          (λ f. let l = here f in let same : V ≡ t.walk.stage = some_same (sym i ∙ h.0.verify f) in let z : V ≤ m = omega arith in z)
+          (any_split is_verify before (place_of t) e)
+        where
+          some_same : {a b : ℕ} → Some a ≡ Some b → a ≡ b
+          some_same z = cc z
+
+      both : AllAsked p o (before ++ place_of t ∷ []) ts × Called ((before ++ place_of t ∷ []) ++ map place_of ts)
+          → (is_separator (place_of t) ≡ false → Verified t.walk.stage before)
+          → AllAsked p o before (t ∷ ts) × Called (before ++ map place_of (t ∷ ts))
+      both rest w = (
+        (asked_here before t h.0.here h.0.stage on.0 on.1 h.0.verify w k t.stmt refl, rest.0),
         subst Called (append_assoc before (place_of t ∷ []) (map place_of ts)) rest.1,
       )
+
+      no_verify_cut : (x : Place) → is_separator x ≡ true → is_verify x ≡ false
+      no_verify_cut (Statement (Separator _) bs) e = refl
+      no_verify_cut _ e = absurd (false≢true e)
+
+      at : (b : Bool) → is_separator (place_of t) ≡ b → Next b n t.walk.stage (λ m. Rises m ts end)
+          → ((m : ℕ) → Rises m ts end → Verified m (before ++ place_of t ∷ [])
+          → AllAsked p o (before ++ place_of t ∷ []) ts × Called ((before ++ place_of t ∷ []) ++ map place_of ts))
+          → AllAsked p o before (t ∷ ts) × Called (before ++ map place_of (t ∷ ts))
+      at true e r go =
+          both (go (suc n) r (more (suc n) (let z : n ≤ suc n = omega arith in z) (λ f. absurd (both_ways _ (no_verify_cut (place_of t) e) f))))
+          (λ f. absurd (both_ways _ f e))
+      at false e r go =
+          both (go t.walk.stage r.1 (more t.walk.stage r.0 (λ f. le_refl t.walk.stage)))
+          (λ f V i u. let l = late V i u in let m = r.0 in let z : V ≤ t.walk.stage = omega arith in z)
 
   -- at the end each guess is verified on the path
   pub verified_end : (before : List Place) → filter (on_path c) (places p) ≡ before ++ closing p → Called before
@@ -346,67 +418,13 @@ module _ (p : Pipe) (rules : KeepsRules p) (v : Guard → Bool) (staged : All St
 
   -- RELEASES
 
-  -- V of the flat form is V of the rules
+  -- a stage before V of the flat form is before V of the rules
   before_verify : (s : ℕ) → stands_before o s ≡ true → is_before_verify p s ≡ true
   before_verify s e = by o refl e
     where
       by : (x : Option ℕ) → o ≡ x → stands_before x s ≡ true → is_before_verify p s ≡ true
       by None i f = absurd (false≢true f)
-      by (Some V) i f =
-          ap (is_some_and (λ k. nat_lt s k))
-          (found (first_sited is_verify V (front_of p) (closing p) (sites_of p) (all_in_text p) staged (in_v (sites_of p) verify_at) (λ front. refl)))
-          ∙ f
-        where
-          same : {n : ℕ} → Some V ≡ Some n → n ≡ V
-          same z = cc z
-
-          in_v : (ts : List Site) → All (λ t. is_verify (place_of t) ≡ true → o ≡ Some t.walk.stage) ts
-              → All (λ t. is_verify (place_of t) ≡ true → t.walk.stage ≡ V) ts
-          in_v [] h = tt
-          in_v (t ∷ ts) h = ((λ k. same (sym i ∙ h.0 k)), in_v ts h.1)
-
-          skip : Speculation.verify_stage p ≡ first_stage is_verify (front_of p) (map place_of (sites_of p) ++ closing p)
-          skip =
-              ap (first_stage is_verify []) (text_places p)
-              ∙ first_skip is_verify [] (front_of p) (map place_of (sites_of p) ++ closing p) (none_front is_verify (λ a. refl) (λ m. refl))
-
-          unverified : (ts : List Site) → list_any is_verify (map place_of ts) ≡ false → All (λ t. some_op Stages.is_verify (ops p.mems t) ≡ false) ts
-          unverified [] h = tt
-          unverified (t ∷ ts) h = let parts = or_parts (is_verify (place_of t)) (list_any is_verify (map place_of ts)) h in
-              (none t t.stmt refl parts.0, unverified ts parts.1)
-            where
-              none : (u : Site) (x : Stmt) → u.stmt ≡ x → is_verify (place_of u) ≡ false → some_op Stages.is_verify (ops p.mems u) ≡ false
-              none u x j h =
-                  ap (λ y. some_op Stages.is_verify (PathStatements.ops_of p.mems u.walk.vars y)) j
-                  ∙ of_stmt x (sym (ap (λ y. is_verify (Statement y u.branches)) j) ∙ h)
-                where
-                  of_if : (d : Expr) → some_op Stages.is_verify (PathStatements.if_ops u.walk.vars d) ≡ false
-                  of_if (Variable y) = refl
-                  of_if _ = refl
-
-                  of_stmt : (y : Stmt) → is_verify (Statement y u.branches) ≡ false
-                      → some_op Stages.is_verify (PathStatements.ops_of p.mems u.walk.vars y) ≡ false
-                  of_stmt (Verify sp g args) k = absurd (false≢true (sym k))
-                  of_stmt (If sp d a b) k = of_if d
-                  of_stmt (Reserve sp l R) k = refl
-                  of_stmt (Reserve sp l W) k = refl
-                  of_stmt _ k = refl
-
-          found :
-              ((first_stage is_verify (front_of p) (map place_of (sites_of p) ++ closing p) ≡ None) × (list_any is_verify (map place_of (sites_of p)) ≡ false))
-              ⊎ (first_stage is_verify (front_of p) (map place_of (sites_of p) ++ closing p) ≡ Some V)
-              → Speculation.verify_stage p ≡ Some V
-          found (inl r) =
-              absurd
-              (clash
-              (sym
-              (no_verify (flat p).stmts
-              (ap (Scans.none_of Stages.is_verify) (stmts_are p) ∙ none_sited Stages.is_verify p.mems (sites_of p) (unverified (sites_of p) r.1)))
-              ∙ i))
-            where
-              clash : None ≡ Some V → ⊥
-              clash z = cc z
-          found (inr r) = skip ∙ r
+      by (Some V) i f = ap (is_some_and (λ k. nat_lt s k)) (v_is V i) ∙ f
 
   -- no site along a path that stands before V releases a write reservation with no barrier before it
   pub all_sure : (before : List Place) (ts : List Site) → OnPath c before ts → All Told ts → AllSure o before ts

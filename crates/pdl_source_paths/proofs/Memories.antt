@@ -1,11 +1,11 @@
 -- The memories of a source that breaks no rule: their locks, their names, and the stages of their reserves and releases.
-use Rattle.std.proofs.Common.{◌≡◌, refl, sym, ap, ◌∙◌, subst, ℕ, zero, suc, ◌+◌, ◌<◌, Bool, true, false, ◌&&◌, not, List, [], ◌∷◌, ◌++◌, length, map, Option, None, Some, cond, if◌then◌else◌, nat_lt, bytes_eq, slice_index_or, arith, lt-ltb, append_assoc}
+use Rattle.std.proofs.Common.{◌≡◌, refl, sym, ap, ◌∙◌, subst, ℕ, zero, suc, ◌+◌, ◌≤◌, ◌<◌, ◌==◌, nat_le, le-leb, ltb-true, Bool, true, false, ◌&&◌, not, List, [], ◌∷◌, ◌++◌, length, map, Option, None, Some, cond, if◌then◌else◌, nat_lt, bytes_eq, slice_index_or, arith, lt-ltb, append_assoc}
 use Rattle.std.specs.Option.{is_some}
-use Rattle.std.proofs.lemmas.Bool.{false≢true, and_parts, or_parts, or_left, or_right, or_from, not-false, both_ways, false_from_ne_true}
+use Rattle.std.proofs.lemmas.Bool.{false≢true, and_parts, or_parts, or_left, or_right, or_from, not-false, eqb-true, eqb-false, both_ways, false_from_ne_true}
 use Rattle.std.specs.List.{list_any}
-use Rattle.pdl_semantics.specs.Tree.{LockKind, Queue, Bypass, Rename, LockDecl, Mem, Pipe}
+use Rattle.pdl_semantics.specs.Tree.{W, LockKind, Queue, Bypass, Rename, LockDecl, Mem, Pipe}
 use Rattle.pdl_semantics.specs.Flat
-use Rattle.pdl_semantics.specs.Flatten.{mem_of, mems_of, flat_lock, first_stage, first_stages}
+use Rattle.pdl_semantics.specs.Flatten.{mem_of, mems_of, flat_lock, first_stage, first_stages, is_advisory_mem}
 use Rattle.pdl_semantics.specs.Stages.{plain_mem}
 use Rattle.pdl_semantics.specs.Locks.{has_room}
 use Rattle.pdl_kit.specs.declared.rule.Rule.TheVariants.{Z7, N2}
@@ -13,7 +13,7 @@ use Rattle.pdl_rules.specs.Places.{Place, Parameter, Memory, statements, places}
 use Rattle.pdl_rules.specs.Parts
 use Rattle.pdl_rules.specs.Limits
 use Rattle.pdl_rules.specs.Limits.{is_size, is_width, is_depth, allows_lock}
-use Rattle.pdl_rules.specs.Locks.{is_locked}
+use Rattle.pdl_rules.specs.Locks.{is_locked, declared_size, lock_size, most_reservations}
 use Rattle.pdl_rules.specs.Refusal.{KeepsRules}
 use Rattle.pdl_rules.specs.Typed.{is_memory, AreDistinct}
 use Rattle.pdl_rules.proofs.SingleWrites.{any_front, any_last}
@@ -106,31 +106,75 @@ sized : (n : ℕ) → is_size n ≡ true → nat_lt 0 n ≡ true
 sized zero h = absurd (false≢true h)
 sized (suc n) h = lt-ltb 0 (suc n) (omega arith)
 
-room_lock : (l : Option LockDecl) → ((d : LockDecl) → l ≡ Some d → is_size d.size.value ≡ true) → has_room (flat_lock l) 0 ≡ true
-room_lock None f = refl
-room_lock (Some l) f = at l.kind (sized l.size.value (f l refl))
+-- a lock has room for as many writes as a path may reserve
+abbrev most : ℕ → ℕ
+most n = if n == 1 then 1 else 2
+
+room_size : (n k : ℕ) → nat_lt 0 n ≡ true → k ≤ most n → nat_le (k + 0) n ≡ true
+room_size n k h low = at (n == 1) refl low
   where
-    at : (k : LockKind) → nat_lt 0 l.size.value ≡ true → has_room (flat_lock (Some (record l { kind = k }))) 0 ≡ true
+    at : (b : Bool) → (n == 1) ≡ b → k ≤ (if b then 1 else 2) → nat_le (k + 0) n ≡ true
+    at true e l = le-leb (k + 0) n (let i = eqb-true n 1 e in omega arith)
+    at false e l = le-leb (k + 0) n (let i = eqb-false n 1 e in let j = ltb-true 0 n h in omega arith)
+
+room_lock : (l : Option LockDecl)
+    → ((d : LockDecl) → l ≡ Some d → is_size d.size.value ≡ true) → (k : ℕ) → k ≤ most (declared_size l) → has_room (flat_lock l) k 0 ≡ true
+room_lock None f k low = refl
+room_lock (Some l) f k low = at l.kind (room_size l.size.value k (sized l.size.value (f l refl)) low)
+  where
+    at : (j : LockKind) → nat_le (k + 0) l.size.value ≡ true → has_room (flat_lock (Some (record l { kind = j }))) k 0 ≡ true
     at Queue h = h
     at Bypass h = h
     at Rename h = h
 
 -- each lock of a source that breaks no rule has room for a write where none is pending
-pub rooms : (p : Pipe) → KeepsRules p → (ms : List Mem) (before : List Place) (i : ℕ) → After p before ms
-    → has_room (slice_index_or (mems_of ms) i plain_mem).lock 0 ≡ true
-rooms p rules [] before i b = refl
-rooms p rules (m ∷ ms) before zero b = room_lock m.lock size_of
+pub rooms : (p : Pipe) → KeepsRules p → (ms : List Mem) (before : List Place) (m : List ℕ) → After p before ms
+    → (k : ℕ) → k ≤ most_reservations ms W m → has_room (slice_index_or (mems_of ms) (mem_of ms m) plain_mem).lock k 0 ≡ true
+rooms p rules [] before m b k low = refl
+rooms p rules (x ∷ ms) before m b k low = at (bytes_eq x.name.name m) low (rooms p rules ms (before ++ Memory x ∷ []) m (after_next p before x ms b) k)
   where
-    size_of : (d : LockDecl) → m.lock ≡ Some d → is_size d.size.value ≡ true
-    size_of d e =
-        let wrong =
-        (or_parts (not (is_width m.width.value && is_depth m.depth.value))
-        (Parts.is_some_and (Limits.is_wrong_lock m) m.lock)
-        (rules Z7 before (Memory m) (map Memory ms ++ b.0) b.1)).1 in
-        let h : not (is_size d.size.value && allows_lock m.depth.value m.delayed d.kind d.size.value) ≡ false =
-        sym (ap (Parts.is_some_and (Limits.is_wrong_lock m)) e) ∙ wrong in
+    known : (d : LockDecl) → x.lock ≡ Some d → is_size d.size.value ≡ true
+    known d e =
+        let wrong = (or_parts (not (is_width x.width.value && is_depth x.depth.value))
+        (Parts.is_some_and (Limits.is_wrong_lock x) x.lock)
+        (rules Z7 before (Memory x) (map Memory ms ++ b.0) b.1)).1 in
+        let h =
+        (or_parts (Flat.is_advisory x.kind) (not (is_size d.size.value && allows_lock x.depth.value (Flat.is_delayed x.kind) d.kind d.size.value))
+        (sym (ap (Parts.is_some_and (Limits.is_wrong_lock x)) e) ∙ wrong)).1 in
         (and_parts (is_size d.size.value) _ (not-false _ h)).0
-rooms p rules (m ∷ ms) before (suc i) b = rooms p rules ms (before ++ Memory m ∷ []) i (after_next p before m ms b)
+
+    at : (c : Bool)
+        → k ≤ most (cond c (declared_size x.lock) (lock_size ms m))
+        → (k ≤ most (lock_size ms m) → has_room (slice_index_or (mems_of ms) (mem_of ms m) plain_mem).lock k 0 ≡ true)
+        → has_room (slice_index_or (mems_of (x ∷ ms)) (cond c 0 (suc (mem_of ms m))) plain_mem).lock k 0 ≡ true
+    at true l f = room_lock x.lock known k l
+    at false l f = f l
+
+-- an advisory memory has no lock
+pub advisory_unlocked : (p : Pipe)
+    → KeepsRules p → (ms : List Mem) (before : List Place) (m : List ℕ) → After p before ms → is_advisory_mem ms m ≡ true
+    → is_locked ms m ≡ false
+advisory_unlocked p rules [] before m b h = refl
+advisory_unlocked p rules (x ∷ ms) before m b h =
+    at (bytes_eq x.name.name m) h (advisory_unlocked p rules ms (before ++ Memory x ∷ []) m (after_next p before x ms b))
+  where
+    wrong : Parts.is_some_and (Limits.is_wrong_lock x) x.lock ≡ false
+    wrong =
+        (or_parts (not (is_width x.width.value && is_depth x.depth.value)) (Parts.is_some_and (Limits.is_wrong_lock x) x.lock)
+        (rules Z7 before (Memory x) (map Memory ms ++ b.0) b.1)).1
+
+    none : (l : Option LockDecl) → Parts.is_some_and (Limits.is_wrong_lock x) l ≡ false → Flat.is_advisory x.kind ≡ true → is_some l ≡ false
+    none None w a = refl
+    none (Some d) w a =
+        absurd
+        (false≢true (sym (or_parts (Flat.is_advisory x.kind)
+        (not (is_size d.size.value && allows_lock x.depth.value (Flat.is_delayed x.kind) d.kind d.size.value)) w).0 ∙ a))
+
+    at : (c : Bool)
+        → cond c (Flat.is_advisory x.kind) (is_advisory_mem ms m) ≡ true → (is_advisory_mem ms m ≡ true → is_locked ms m ≡ false)
+        → cond c (is_some x.lock) (is_locked ms m) ≡ false
+    at true a f = none x.lock wrong a
+    at false a f = f a
 
 -- STAGES
 

@@ -1,5 +1,5 @@
 -- On a path the sites stand in the order of their stages, and each separator begins a later one.
-use Rattle.std.proofs.Common.{◌≡◌, refl, sym, ap, ◌∙◌, subst, ℕ, suc, ◌+◌, ◌≤◌, ◌⊎◌, inl, inr, Bool, true, false, ◌&&◌, not, List, [], ◌∷◌, ◌++◌, cond, if◌then◌else◌, arith}
+use Rattle.std.proofs.Common.{◌≡◌, refl, sym, ap, ◌∙◌, subst, ℕ, suc, ◌+◌, ◌≤◌, ◌⊎◌, inl, inr, Bool, true, false, ◌&&◌, ◌||◌, not, List, [], ◌∷◌, ◌++◌, cond, if◌then◌else◌, arith}
 use Rattle.std.proofs.lemmas.Bool.{false≢true, and_parts, eqb-true}
 use Rattle.std.proofs.lemmas.List.Folds.{list_all-append}
 use Rattle.std.specs.List.{list_all}
@@ -12,7 +12,7 @@ use Rattle.pdl_rules.specs.Limits.{is_separator}
 use Rattle.pdl_source_stages.proofs.Sites
 use Rattle.pdl_source_stages.proofs.Sites.{Site, branch, sites_in, sites, sites_of, front_of, place_of, All}
 use Rattle.pdl_source_stages.proofs.Walks.{holds_all, guard_stage, guard_begun, past_begun, past_all_begun}
-use Rattle.pdl_source_stages.proofs.Shapes.{is_whole, is_plain, is_forked, fork_fits, begins_stage}
+use Rattle.pdl_source_stages.proofs.Shapes.{is_whole, is_forked, is_late, begins_stage, late_forked}
 use Rattle.pdl_source_paths.proofs.PathStatements.{on_sites}
 
 -- after stage k, which a separator leaves after
@@ -180,27 +180,7 @@ module _ (ms : List Mem) (c : List Guard) where
       at false =
           rises_from k (suc k) end (on_sites c (sites ms (front ++ Statement (Separator sp) bs ∷ []) (past ms (Separator sp) w) gs bs ss)) (omega arith) rest
 
-  -- statements that hold no fork
-  plain_rises : (k : ℕ) (front : List Place) (w : Flatten.Position) (gs : List Flat.Guard) (bs : List Branch) (ss : Stmts)
-      → is_plain ss ≡ true → k ≤ w.stage → w.stage ≤ w.begun
-      → Rises k (on_sites c (sites ms front w gs bs ss)) (past_all ms ss w).begun
-  plain_rises k front w gs bs Nil h low up = omega arith
-  plain_rises k front w gs bs (Cons (Separator sp) ss) h low up =
-      cut_then k (past_all ms ss (past ms (Separator sp) w)).begun front w gs bs sp ss
-      (plain_rises (suc k) (front ++ Statement (Separator sp) bs ∷ []) (past ms (Separator sp) w) gs bs ss h (omega arith) (omega arith))
-  plain_rises k front w gs bs (Cons (If sp e when otherwise) ss) h low up =
-      let parts = and_parts (is_whole when otherwise) (is_plain ss) h in
-      let none = eqb-true (separators when + separators otherwise) 0 parts.0 in
-      let f = past_begun ms (If sp e when otherwise) w in
-      flat_then k (past_all ms ss (past ms (If sp e when otherwise) w)).begun front w gs bs (If sp e when otherwise) ss none low
-      (plain_rises w.stage (front ++ with_inner bs (If sp e when otherwise))
-      (past ms (If sp e when otherwise) w) gs bs ss parts.1 (let i : w.stage ≤ w.stage = omega arith in i)
-      (omega arith))
-  plain_rises k front w gs bs (Cons s ss) h low up =
-      flat_then k (past_all ms ss (past ms s w)).begun front w gs bs s ss refl low
-      (plain_rises w.stage (front ++ with_inner bs s) (past ms s w) gs bs ss h (let i : w.stage ≤ w.stage = omega arith in i) up)
-
-  -- a body: where a fork stands before, a separator follows
+  -- statements in form: where a fork stands before, a separator follows
   abbrev Ready : ℕ → Flatten.Position → Stmts → Type 0
   Ready k w ss = (k ≤ w.stage) ⊎ ((k ≤ w.begun) × (begins_stage ss ≡ true))
 
@@ -214,9 +194,17 @@ module _ (ms : List Mem) (c : List Guard) where
 
   -- the branches of a fork
   branch_rises : (front : List Place) (w : Flatten.Position) (gs : List Flat.Guard) (bs : List Branch) (sp : Span) (e : Expr) (when otherwise : Stmts)
-      → is_plain when ≡ true → is_plain otherwise ≡ true → w.stage ≤ w.begun
+      → Rises w.stage
+      (on_sites c (sites ms (front ++ Statement (If sp e when otherwise) bs ∷ []) (with_guard e w) (under gs w.vars e true)
+      (bs ++ branch sp e true when ∷ []) when))
+      (past_all ms when (with_guard e w)).begun
+      → Rises w.stage
+      (on_sites c
+      (sites ms (front ++ Statement (If sp e when otherwise) bs ∷ statements (bs ++ branch sp e true when ∷ []) when)
+      (at_otherwise ms e when w) (under gs w.vars e false) (bs ++ branch sp e false otherwise ∷ []) otherwise))
+      (past ms (If sp e when otherwise) w).begun
       → Rises w.stage (on_sites c (sites_in ms front w gs bs (If sp e when otherwise))) (past ms (If sp e when otherwise) w).begun
-  branch_rises front w gs bs sp e when otherwise h i up =
+  branch_rises front w gs bs sp e when otherwise first second =
       subst (λ l. Rises w.stage l end)
       (sym
       (on_append c (Sites.site front w gs bs (If sp e when otherwise) ∷ []) (xs ++ ys)
@@ -236,22 +224,6 @@ module _ (ms : List Mem) (c : List Guard) where
       end : ℕ
       end = (past ms (If sp e when otherwise) w).begun
 
-      first : Rises w.stage (on_sites c xs) (past_all ms when (with_guard e w)).begun
-      first =
-          let f = guard_stage e w in
-          let g = guard_begun e w in
-          plain_rises w.stage (front ++ Statement (If sp e when otherwise) bs ∷ []) (with_guard e w)
-          (under gs w.vars e true) (bs ++ branch sp e true when ∷ []) when h (omega arith) (omega arith)
-
-      second : Rises w.stage (on_sites c ys) end
-      second =
-          let f = past_all_begun ms when (with_guard e w) in
-          let g = guard_begun e w in
-          plain_rises w.stage (front ++ Statement (If sp e when otherwise) bs ∷ statements (bs ++ branch sp e true when ∷ []) when)
-          (at_otherwise ms e when w) (under gs w.vars e false)
-          (bs ++ branch sp e false otherwise ∷ []) otherwise i (let j : w.stage ≤ w.stage = omega arith in j)
-          (omega arith)
-
       high : (past_all ms when (with_guard e w)).begun ≤ end
       high = let f = past_all_begun ms otherwise (at_otherwise ms e when w) in omega arith
 
@@ -270,47 +242,64 @@ module _ (ms : List Mem) (c : List Guard) where
           (at_otherwise ms e when w) (under gs w.vars e false)
           (bs ++ branch sp e false otherwise ∷ []) otherwise f)) high)
 
-  body_rises : (k : ℕ) (front : List Place) (w : Flatten.Position) (ss : Stmts) → is_forked ss ≡ true → Ready k w ss
-      → w.stage ≤ w.begun → Rises k (on_sites c (sites ms front w [] [] ss)) (past_all ms ss w).begun
-  body_rises k front w Nil h low up = low_begun k w Nil low up
-  body_rises k front w (Cons (Separator sp) ss) h low up =
-      cut_then k (past_all ms ss (past ms (Separator sp) w)).begun front w [] [] sp ss
-      (body_rises (suc k) (front ++ Statement (Separator sp) [] ∷ [])
-      (past ms (Separator sp) w) ss h (inl (let i = low_begun k w (Cons (Separator sp) ss) low up in omega arith))
+  forked_rises : (k : ℕ) (front : List Place) (w : Flatten.Position) (gs : List Flat.Guard) (bs : List Branch) (ss : Stmts) → is_forked ss ≡ true → Ready k w ss
+      → w.stage ≤ w.begun → Rises k (on_sites c (sites ms front w gs bs ss)) (past_all ms ss w).begun
+  forked_rises k front w gs bs Nil h low up = low_begun k w Nil low up
+  forked_rises k front w gs bs (Cons (Separator sp) ss) h low up =
+      cut_then k (past_all ms ss (past ms (Separator sp) w)).begun front w gs bs sp ss
+      (forked_rises (suc k) (front ++ Statement (Separator sp) bs ∷ [])
+      (past ms (Separator sp) w) gs bs ss h (inl (let i = low_begun k w (Cons (Separator sp) ss) low up in omega arith))
       (omega arith))
-  body_rises k front w (Cons (If sp e when otherwise) ss) h low up =
-      let parts = and_parts (fork_fits (is_whole when otherwise) when otherwise ss) (is_forked ss) h in
+  forked_rises k front w gs bs (Cons (If sp e when otherwise) ss) h low up =
+      let parts = and_parts (is_whole when otherwise || (begins_stage ss && (is_late when && is_late otherwise))) (is_forked ss) h in
       let f = past_begun ms (If sp e when otherwise) w in
       by (is_whole when otherwise) refl parts.0 (low_stage k w (Cons (If sp e when otherwise) ss) low refl)
-      (λ l r. body_rises l (front ++ with_inner [] (If sp e when otherwise)) (past ms (If sp e when otherwise) w) ss parts.1 r (omega arith))
+      (λ i. forked_rises w.stage (front ++ Statement (If sp e when otherwise) bs ∷ []) (with_guard e w)
+      (under gs w.vars e true) (bs ++ branch sp e true when ∷ []) when (late_forked when i)
+      (inl (let a = guard_stage e w in omega arith)) (let a = guard_stage e w in let b = guard_begun e w in omega arith))
+      (λ i. forked_rises w.stage (front ++ Statement (If sp e when otherwise) bs ∷ statements (bs ++ branch sp e true when ∷ []) when)
+      (at_otherwise ms e when w) (under gs w.vars e false)
+      (bs ++ branch sp e false otherwise ∷ []) otherwise (late_forked otherwise i)
+      (inl (let j : w.stage ≤ w.stage = omega arith in j))
+      (let a = past_all_begun ms when (with_guard e w) in let b = guard_begun e w in omega arith))
+      (λ l r. forked_rises l (front ++ with_inner bs (If sp e when otherwise)) (past ms (If sp e when otherwise) w) gs bs ss parts.1 r (omega arith))
     where
       w2 : Flatten.Position
       w2 = past ms (If sp e when otherwise) w
 
       rest : List Site
-      rest = on_sites c (sites ms (front ++ with_inner [] (If sp e when otherwise)) w2 [] [] ss)
+      rest = on_sites c (sites ms (front ++ with_inner bs (If sp e when otherwise)) w2 gs bs ss)
 
-      by : (b : Bool) → is_whole when otherwise ≡ b → fork_fits b when otherwise ss ≡ true → k ≤ w.stage
+      by : (b : Bool) → is_whole when otherwise ≡ b → (b || (begins_stage ss && (is_late when && is_late otherwise))) ≡ true → k ≤ w.stage
+          → (is_late when ≡ true → Rises w.stage
+          (on_sites c (sites ms (front ++ Statement (If sp e when otherwise) bs ∷ []) (with_guard e w) (under gs w.vars e true)
+          (bs ++ branch sp e true when ∷ []) when))
+          (past_all ms when (with_guard e w)).begun)
+          → (is_late otherwise ≡ true → Rises w.stage
+          (on_sites c
+          (sites ms (front ++ Statement (If sp e when otherwise) bs ∷ statements (bs ++ branch sp e true when ∷ []) when)
+          (at_otherwise ms e when w) (under gs w.vars e false) (bs ++ branch sp e false otherwise ∷ []) otherwise))
+          (past ms (If sp e when otherwise) w).begun)
           → ((l : ℕ) → Ready l w2 ss → Rises l rest (past_all ms ss w2).begun)
-          → Rises k (on_sites c (sites ms front w [] [] (Cons (If sp e when otherwise) ss))) (past_all ms ss w2).begun
-      by true i fits lo go =
-          flat_then k (past_all ms ss w2).begun front w [] []
+          → Rises k (on_sites c (sites ms front w gs bs (Cons (If sp e when otherwise) ss))) (past_all ms ss w2).begun
+      by true i fits lo one two go =
+          flat_then k (past_all ms ss w2).begun front w gs bs
           (If sp e when otherwise) ss (eqb-true (separators when + separators otherwise) 0 i) lo
           (go w.stage (inl (let j : w.stage ≤ w.stage = omega arith in j)))
-      by false i fits lo go =
-          let parts = and_parts (begins_stage ss) (is_plain when && is_plain otherwise) fits in
-          let plain = and_parts (is_plain when) (is_plain otherwise) parts.1 in
+      by false i fits lo one two go =
+          let parts = and_parts (begins_stage ss) (is_late when && is_late otherwise) fits in
+          let late = and_parts (is_late when) (is_late otherwise) parts.1 in
           subst (λ l. Rises k l (past_all ms ss w2).begun)
-          (sym (on_append c (sites_in ms front w [] [] (If sp e when otherwise)) (sites ms (front ++ with_inner [] (If sp e when otherwise)) w2 [] [] ss)))
-          (rises_append k w2.begun (past_all ms ss w2).begun (on_sites c (sites_in ms front w [] [] (If sp e when otherwise))) rest
-          (rises_from k w.stage w2.begun (on_sites c (sites_in ms front w [] [] (If sp e when otherwise))) lo
-          (branch_rises front w [] [] sp e when otherwise plain.0 plain.1 up))
+          (sym (on_append c (sites_in ms front w gs bs (If sp e when otherwise)) (sites ms (front ++ with_inner bs (If sp e when otherwise)) w2 gs bs ss)))
+          (rises_append k w2.begun (past_all ms ss w2).begun (on_sites c (sites_in ms front w gs bs (If sp e when otherwise))) rest
+          (rises_from k w.stage w2.begun (on_sites c (sites_in ms front w gs bs (If sp e when otherwise))) lo
+          (branch_rises front w gs bs sp e when otherwise (one late.0) (two late.1)))
           (go w2.begun (inr ((let j : w2.begun ≤ w2.begun = omega arith in j), parts.0))))
-  body_rises k front w (Cons s ss) h low up =
-      flat_then k (past_all ms ss (past ms s w)).begun front w [] [] s ss refl (low_stage k w (Cons s ss) low refl)
-      (body_rises w.stage (front ++ with_inner [] s) (past ms s w) ss h (inl (let i : w.stage ≤ w.stage = omega arith in i)) up)
+  forked_rises k front w gs bs (Cons s ss) h low up =
+      flat_then k (past_all ms ss (past ms s w)).begun front w gs bs s ss refl (low_stage k w (Cons s ss) low refl)
+      (forked_rises w.stage (front ++ with_inner bs s) (past ms s w) gs bs ss h (inl (let i : w.stage ≤ w.stage = omega arith in i)) up)
 
 -- each path of a source whose forks are in form
 pub all_rise : (p : Pipe) (c : List Guard)
     → is_forked p.body ≡ true → Rises 0 (on_sites c (sites_of p)) (past_all p.mems p.body (at_start p)).begun
-all_rise p c h = body_rises p.mems c 0 (front_of p) (at_start p) p.body h (inl (let i : 0 ≤ 0 = omega arith in i)) (let i : 0 ≤ 0 = omega arith in i)
+all_rise p c h = forked_rises p.mems c 0 (front_of p) (at_start p) [] [] p.body h (inl (let i : 0 ≤ 0 = omega arith in i)) (let i : 0 ≤ 0 = omega arith in i)

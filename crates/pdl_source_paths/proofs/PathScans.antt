@@ -4,12 +4,13 @@ use Rattle.std.proofs.lemmas.Bool.{false≢true, and_parts, and_from, or_left}
 use Rattle.std.specs.List.{list_any}
 use Rattle.pdl_semantics.specs.Tree.{Location, R, W, Stmt, Separator, Reserve, Mem, Pipe}
 use Rattle.pdl_semantics.specs.Flat
-use Rattle.pdl_semantics.specs.Flatten.{Var, mem_of}
+use Rattle.pdl_semantics.specs.Flatten.{Var, mem_of, is_advisory_mem}
 use Rattle.pdl_semantics.specs.Stages.{mem_at, is_reserve, reserve_stage, commit_stage}
 use Rattle.pdl_rules.specs.Places.{Place, Statement, Branch}
 use Rattle.pdl_rules.specs.Parts.{location_of}
 use Rattle.pdl_rules.specs.Limits.{is_separator}
-use Rattle.pdl_rules.specs.Locks.{is_locked}
+use Rattle.pdl_rules.specs.Locks.{is_locked, most_reservations}
+use Rattle.pdl_theory_facts.proofs.Apart.{total}
 use Rattle.pdl_rules.specs.Stages.{reserves_memory}
 use Rattle.pdl_rules.specs.Speculation.{releases_unsure}
 use Rattle.pdl_rules.specs.Speculation
@@ -27,7 +28,8 @@ use Rattle.pdl_source_paths.proofs.Growth.{vars_past, Grows}
 use Rattle.pdl_source_paths.proofs.Order.{Next, Rises}
 use Rattle.pdl_source_paths.proofs.SiteStages.{some_op}
 use Rattle.pdl_source_paths.proofs.ReadsKept.{Scanned, scanned_grown, scanned_next, scan_ok, reads_append, reads_at, opens_ops}
-use Rattle.pdl_source_paths.proofs.WritesKept.{Stands, stands_grown, stands_next, ends_over, phases_append, phase_append, phase_ops}
+use Rattle.pdl_source_paths.proofs.Standing.{Stands}
+use Rattle.pdl_source_paths.proofs.WritesKept.{stands_grown, stands_next, ends_over, phases_append, phase_append, phase_ops}
 use Rattle.pdl_source_paths.proofs.Calls.{Stood, Asked, stood_by, makings_append, making_append, making_ops}
 use Rattle.pdl_source_paths.proofs.ReleaseBarriers.{sure_by, sures_append, barred_ops}
 use Rattle.pdl_word.proofs.Bytes.{bytes_same}
@@ -185,19 +187,22 @@ module _ (p : Pipe) (q : Flat.Pipe) (lock_is : (m : List ℕ) → is_plain (mem_
 
   -- the flat statements of sites along a path write memory m in order, and at the end its write isn't begun or is done
   pub writes_along : (m : List ℕ) → is_memory p.mems m ≡ true
-      → (vs us : List Var) (before : List Place) (ph : Phase) (ts : List Site) → All (Known p q) ts
+      → is_advisory_mem p.mems m ≡ false → (vs us : List Var) (before : List Place) (ph : Phase) (ts : List Site) → All (Known p q) ts
       → Grows p.mems vs ts us → Each (KeepsLocks p) before (map place_of ts ++ closing p)
-      → AreBacked before → Stands vs before m ph
+      → AreBacked p before → Stands p vs before m ph
       → (phases_ok (mem_of p.mems m) ph (seen p.mems ts) ≡ true) × (is_over (phase_all (mem_of p.mems m) ph (seen p.mems ts)) ≡ true)
-  writes_along m there vs us before ph [] h g each b i = (refl, ends_over p m there [] vs before ph each.0 i)
-  writes_along m there vs us before ph (t ∷ ts) h g each b i =
-      let here =
-      stands_next p m there t.branches t.walk.vars before (map place_of ts) ph t.stmt h.0.located b each (stands_grown vs t.walk.vars before m ph g.0 i) in
+      × (total (phase_all (mem_of p.mems m) ph (seen p.mems ts)) ≤ most_reservations p.mems W m)
+  writes_along m there plain vs us before ph [] h g each b i =
+      (refl, ends_over p m there plain [] vs before ph each.0 i, subst (λ n. n ≤ most_reservations p.mems W m) i.count i.few)
+  writes_along m there plain vs us before ph (t ∷ ts) h g each b i =
+      let here = stands_next p m there plain t.branches t.walk.vars before (map place_of ts) ph t.stmt h.0.located b each
+      (stands_grown p vs t.walk.vars before m ph g.0 i) in
       let rest =
-      writes_along m there (vars_past p.mems t.walk.vars t.stmt) us (before ++ place_of t ∷ [])
+      writes_along m there plain (vars_past p.mems t.walk.vars t.stmt) us (before ++ place_of t ∷ [])
       (phase_ops (mem_of p.mems m) ph (ops p.mems t)) ts h.1 g.1 each.1 (backed_next p before (place_of t) each.0 b) here.1 in (
         phases_append (mem_of p.mems m) t.walk.stage ph (ops p.mems t) (seen p.mems ts) here.0 rest.0,
         ap is_over (phase_append (mem_of p.mems m) t.walk.stage ph (ops p.mems t) (seen p.mems ts)) ∙ rest.1,
+        subst (λ k. total k ≤ most_reservations p.mems W m) (sym (phase_append (mem_of p.mems m) t.walk.stage ph (ops p.mems t) (seen p.mems ts))) rest.2,
       )
 
   -- the flat statements of sites along a path make the next thread in order, and after them the places are as far as they say

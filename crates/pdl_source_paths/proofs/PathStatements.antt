@@ -1,9 +1,9 @@
 -- The sites on a path, and the flat statements there: guards are gone, and delayed reads are reads.
 use Rattle.std.proofs.Common.{◌≡◌, refl, ap, ap₂, ◌∙◌, ℕ, Bool, true, false, List, [], ◌∷◌, ◌++◌, length, if◌then◌else◌, cond}
-use Rattle.pdl_semantics.specs.Tree.{Expr, Variable, Stmt, Separator, CombRead, Bind, SpecCall, DelayedRead, Write, Reserve, Block, Release, If, Call, Verify, SpecCheck, SpecBarrier, Mem}
+use Rattle.pdl_semantics.specs.Tree.{Expr, Variable, Stmt, Separator, CombRead, Bind, SpecCall, DelayedRead, Write, Reserve, Block, Release, If, Call, Verify, Update, SpecCheck, SpecBarrier, Mem}
 use Rattle.pdl_semantics.specs.Flat
 use Rattle.pdl_semantics.specs.Flat.{all_hold}
-use Rattle.pdl_semantics.specs.Flatten.{Var, var_of, mem_of, flat_expr, flat_exprs, reserve_op}
+use Rattle.pdl_semantics.specs.Flatten.{Var, var_of, mem_of, flat_expr, flat_exprs, reserve_op, is_advisory_mem, is_advised, bind_op, read_op, write_op}
 use Rattle.pdl_semantics.specs.Flatten
 use Rattle.pdl_semantics.specs.Stages.{onpath}
 use Rattle.pdl_rules.specs.Places.{Guard, on_path}
@@ -21,17 +21,18 @@ if_ops vs c = Flat.Bind (length vs) (flat_expr vs c) ∷ []
 -- what a statement does in flat form, where these are the variables before it
 abbrev pub ops_of : List Mem → List Var → Stmt → List Flat.Op
 ops_of ms vs (Separator _) = []
-ops_of ms vs (CombRead _ x from) = Flat.CombRead (length vs) (mem_of ms from.mem.name) (var_of vs from.address.name) ∷ []
-ops_of ms vs (Bind _ x e) = Flat.Bind (length vs) (flat_expr vs e) ∷ []
+ops_of ms vs (CombRead _ x from) = read_op (is_advisory_mem ms from.mem.name) (length vs) (mem_of ms from.mem.name) (var_of vs from.address.name) ∷ []
+ops_of ms vs (Bind _ x e) = bind_op (is_advised vs e) (length vs) (flat_expr vs e) ∷ []
 ops_of ms vs (SpecCall _ guess args) = Flat.SpecCall (flat_exprs vs args) ∷ []
 ops_of ms vs (DelayedRead _ x from) = Flat.DelayedRead (length vs) (mem_of ms from.mem.name) (var_of vs from.address.name) ∷ []
-ops_of ms vs (Write _ to e) = Flat.Write (mem_of ms to.mem.name) (var_of vs to.address.name) (flat_expr vs e) ∷ []
+ops_of ms vs (Write _ to e) = write_op (is_advisory_mem ms to.mem.name) (mem_of ms to.mem.name) (var_of vs to.address.name) (flat_expr vs e) ∷ []
 ops_of ms vs (Reserve _ at kind) = reserve_op kind (mem_of ms at.mem.name) (var_of vs at.address.name) ∷ []
 ops_of ms vs (Block _ at) = Flat.Block (mem_of ms at.mem.name) (var_of vs at.address.name) ∷ []
 ops_of ms vs (Release _ at) = Flat.Release (mem_of ms at.mem.name) (var_of vs at.address.name) ∷ []
 ops_of ms vs (If _ c _ _) = if_ops vs c
 ops_of ms vs (Call _ args) = Flat.Call (flat_exprs vs args) ∷ []
-ops_of ms vs (Verify _ guess args) = Flat.Verify (flat_exprs vs args) ∷ []
+ops_of ms vs (Verify _ guess args) = Flat.Verify true (flat_exprs vs args) ∷ []
+ops_of ms vs (Update _ guess args) = Flat.Verify false (flat_exprs vs args) ∷ []
 ops_of ms vs (SpecCheck _) = Flat.SpecCheck ∷ []
 ops_of ms vs (SpecBarrier _) = Flat.SpecBarrier ∷ []
 

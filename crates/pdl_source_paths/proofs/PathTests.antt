@@ -1,17 +1,22 @@
 -- Each path of a source that breaks no rule passes the tests of paths.
-use Rattle.std.proofs.Common.{◌≡◌, refl, sym, ap, ◌∙◌, subst, ℕ, zero, suc, ◌≤◌, ◌<◌, Bool, true, false, ◌&&◌, ◌||◌, not, List, [], ◌∷◌, ◌++◌, length, map, filter, ◌==◌, nat_lt, unwrap_or, Option, Some, None, arith, append_assoc, append-nil, eq-eqb, le-leb, ⊎_elim}
+use Rattle.std.proofs.Common.{◌≡◌, refl, sym, ap, ◌∙◌, subst, ℕ, zero, suc, ◌+◌, ◌≤◌, ◌<◌, Bool, true, false, ◌&&◌, ◌||◌, not, List, [], ◌∷◌, ◌++◌, length, map, filter, ◌==◌, nat_lt, unwrap_or, Option, Some, None, arith, append_assoc, append-nil, eq-eqb, le-leb, ⊎_elim, if◌then◌else◌}
 use Rattle.std.proofs.lemmas.Bool.{false≢true, and_parts, and_from, or_left, or_right, both_ways, not-false, cases_Bool, ne_eqb}
 use Rattle.std.specs.List.{list_any}
 use Rattle.pdl_semantics.specs.Tree.{Location, W, Stmt, Reserve, Release, Verify, Param, Mem, Pipe}
 use Rattle.pdl_semantics.specs.Flat
-use Rattle.pdl_semantics.specs.Flatten.{flat, params_of, mem_of}
+use Rattle.pdl_semantics.specs.Flatten.{flat, params_of, mem_of, is_advisory_mem}
 use Rattle.pdl_semantics.specs.Stages
 use Rattle.pdl_semantics.specs.Stages.{mem_at, reserve_stage, commit_stage, is_reserve, is_release, onpath}
 use Rattle.pdl_semantics.specs.Sound.{all_below}
 use Rattle.pdl_kit.specs.declared.rule.Rule.TheVariants.{F5}
 use Rattle.pdl_rules.specs.Places.{Place, Parameter, Memory, Statement, End, StartClause, Guard, statements, places, on_path}
+use Rattle.pdl_rules.specs.Typed.{is_memory}
 use Rattle.pdl_rules.specs.Locks
-use Rattle.pdl_rules.specs.Locks.{is_locked, is_reserve_of, is_write_of, reserves_location}
+use Rattle.pdl_rules.specs.Locks.{is_locked, lock_size, most_reservations, reserves_location}
+use Rattle.pdl_theory_facts.proofs.Apart.{total, total_all}
+use Rattle.pdl_source_paths.proofs.WritesKept.{stands_first}
+use Rattle.pdl_source_paths.proofs.Quiet.{touches, quiet_seen, untouched}
+use Rattle.pdl_semantics.specs.Locks.{has_room}
 use Rattle.pdl_rules.specs.Stages.{reserves_memory, releases_memory}
 use Rattle.pdl_rules.specs.Names.{OfGuess, defines_use}
 use Rattle.pdl_rules.specs.Calls.{is_call, is_wrong_call}
@@ -19,18 +24,18 @@ use Rattle.pdl_rules.specs.Speculation
 use Rattle.pdl_rules.specs.Refusal.{KeepsRules}
 use Rattle.pdl_rules.proofs.EachPlace.{Each, closing}
 use Rattle.pdl_rules.proofs.SingleWrites.{KeepsLocks, AreBacked, none_backed, backed_next, reserves_to_write, count_none}
-use Rattle.pdl_theory_facts.specs.Scans.{is_plain, none_of, all_at, reads_ok, no_scan, phases_ok, phase_all, Fresh, is_over}
+use Rattle.pdl_theory_facts.specs.Scans.{is_plain, none_of, all_at, reads_ok, no_scan, phases_ok, phase_all, Fresh, is_over, write_reserves}
 use Rattle.pdl_theory_derived.specs.Alone
 use Rattle.pdl_theory_facts.specs.GuessScans
-use Rattle.pdl_theory_facts.specs.GuessScans.{Unmade, makings_ok, making_all, is_made, all_sure}
+use Rattle.pdl_theory_facts.specs.GuessScans.{Unmade, makings_ok, making_all, is_made, checks_apart, is_update, once, all_sure}
 use Rattle.pdl_theory_facts.specs.Checks.{knows_memory, mem_passes, path_passes, lock_passes, locks_pass}
 use Rattle.pdl_theory_facts.specs.Facts.{looked_all, at_once}
 use Rattle.pdl_theory_facts.proofs.Passes.{Parts}
 use Rattle.pdl_source_stages.proofs.Sites.{Site, sites_of, front_of, place_of, owns, All, stmts_are}
 use Rattle.pdl_source_stages.proofs.StatementStages.{Staged, all_staged}
 use Rattle.pdl_source_stages.proofs.SiteStages.{all_both, all_map}
-use Rattle.pdl_source_stages.proofs.BodyShape.{body_forked}
-use Rattle.pdl_source_stages.proofs.SiteFacts.{Fine, all_fine, stage_count}
+use Rattle.pdl_source_stages.proofs.BodyShape.{body_forked, stage_count}
+use Rattle.pdl_source_stages.proofs.SiteFacts.{Fine, all_fine}
 use Rattle.pdl_source_stages.proofs.Firsts.{none_front}
 use Rattle.pdl_source_stages.proofs.Homes.{reserves_in, releases_in, verifies_in}
 use Rattle.pdl_source_paths.specs.Source.{are_apart}
@@ -49,8 +54,10 @@ use Rattle.pdl_source_paths.proofs.Calls.{Stood, made_end}
 use Rattle.pdl_source_paths.proofs.PathScans
 use Rattle.pdl_source_paths.proofs.PathScans.{Known, order_along, inside_along, reads_along, writes_along, makings_along, sure_along, ops_all}
 use Rattle.pdl_source_paths.proofs.Guesses
+use Rattle.pdl_source_paths.proofs.GuessStages
+use Rattle.pdl_source_paths.proofs.OneUpdate
 use Rattle.pdl_source_paths.proofs.Guesses.{all_asked, verified_end}
-use Rattle.pdl_source_paths.proofs.Memories.{at_number, mems_length, all_after, distinct, lock_tells, rooms, stages_length, stage_at, first_none}
+use Rattle.pdl_source_paths.proofs.Memories.{at_number, mems_length, all_after, distinct, lock_tells, advisory_unlocked, rooms, stages_length, stage_at, first_none}
 use Rattle.pdl_source_paths.proofs.StatementTests
 use Rattle.pdl_word.proofs.Bytes.{bytes_same}
 
@@ -62,17 +69,17 @@ front_on c [] [] = refl
 front_on c [] (m ∷ ms) = ap (λ l. Memory m ∷ l) (front_on c [] ms)
 front_on c (a ∷ ps) ms = ap (λ l. Parameter a ∷ l) (front_on c ps ms)
 
-backed_params : (p : Pipe) (ps : List Param) (before : List Place) → AreBacked before → AreBacked (before ++ map Parameter ps)
-backed_params p [] before b = subst AreBacked (sym (append-nil before)) b
+backed_params : (p : Pipe) (ps : List Param) (before : List Place) → AreBacked p before → AreBacked p (before ++ map Parameter ps)
+backed_params p [] before b = subst (AreBacked p) (sym (append-nil before)) b
 backed_params p (a ∷ ps) before b =
-    subst AreBacked (append_assoc before (Parameter a ∷ []) (map Parameter ps))
+    subst (AreBacked p) (append_assoc before (Parameter a ∷ []) (map Parameter ps))
     (backed_params p ps (before ++ Parameter a ∷ [])
     (backed_next p before (Parameter a) (record { l1 = refl; l3 = refl; l4 = refl; l5 = refl; l6 = refl; l7 = refl }) b))
 
-backed_mems : (p : Pipe) (ms : List Mem) (before : List Place) → AreBacked before → AreBacked (before ++ map Memory ms)
-backed_mems p [] before b = subst AreBacked (sym (append-nil before)) b
+backed_mems : (p : Pipe) (ms : List Mem) (before : List Place) → AreBacked p before → AreBacked p (before ++ map Memory ms)
+backed_mems p [] before b = subst (AreBacked p) (sym (append-nil before)) b
 backed_mems p (m ∷ ms) before b =
-    subst AreBacked (append_assoc before (Memory m ∷ []) (map Memory ms))
+    subst (AreBacked p) (append_assoc before (Memory m ∷ []) (map Memory ms))
     (backed_mems p ms (before ++ Memory m ∷ [])
     (backed_next p before (Memory m) (record { l1 = refl; l3 = refl; l4 = refl; l5 = refl; l6 = refl; l7 = refl }) b))
 
@@ -230,21 +237,23 @@ module _ (p : Pipe) (rules : KeepsRules p) where
         (StatementTests.all_numbers (λ i t. some_op (is_reserve i) (ops p.mems t) ≡ true → t.walk.stage ≡ reserve_stage q i) (sites_of p) reserve_home)))
         late
 
-    told : All (Guesses.Told p rules v staged verify_home) ts
-    told =
-        all_on (Guesses.Told p rules v staged verify_home) c (sites_of p)
-        (all_both (λ t. Both t)
+    told_all : All (Guesses.Told p rules v staged verify_home) (sites_of p)
+    told_all =
+        all_both (λ t. Both t)
         (λ t. Staged t × (Speculation.is_verify (place_of t) ≡ true → Stages.verify_stage (flat p).stmts ≡ Some t.walk.stage))
         (Guesses.Told p rules v staged verify_home) (λ t a b. record { here = a.1; stage = b.0; verify = b.1 })
         (sites_of p) both
         (all_both Staged (λ t. Speculation.is_verify (place_of t) ≡ true → Stages.verify_stage (flat p).stmts ≡ Some t.walk.stage)
         (λ t. Staged t × (Speculation.is_verify (place_of t) ≡ true → Stages.verify_stage (flat p).stmts ≡ Some t.walk.stage))
-        (λ t a b. (a, b)) (sites_of p) staged verify_home))
+        (λ t a b. (a, b)) (sites_of p) staged verify_home)
+
+    told : All (Guesses.Told p rules v staged verify_home) ts
+    told = all_on (Guesses.Told p rules v staged verify_home) c (sites_of p) told_all
 
     -- THE LOCKS SO FAR
 
-    backed : AreBacked (front_of p)
-    backed = backed_mems p p.mems (map Parameter p.params) (backed_params p p.params [] none_backed)
+    backed : AreBacked p (front_of p)
+    backed = backed_mems p p.mems (map Parameter p.params) (backed_params p p.params [] (none_backed p))
 
     scanned : ReadsKept.Scanned p (params_of p.params) (front_of p) no_scan
     scanned =
@@ -256,6 +265,7 @@ module _ (p : Pipe) (rules : KeepsRules p) where
     called = record {
       few = let z = count_none is_call (front_of p) (none_front p is_call (λ a. refl) (λ m. refl)) in omega arith;
       once = λ g e. absurd (both_ways _ (none_front p (defines_use (OfGuess g)) (λ a. refl) (λ m. refl)) e);
+      some = λ g e. absurd (both_ways _ (none_front p (defines_use (OfGuess g)) (λ a. refl) (λ m. refl)) e);
     }
 
     -- THE SCANS
@@ -266,13 +276,60 @@ module _ (p : Pipe) (rules : KeepsRules p) where
         (all_rise p c (body_forked p rules)) each
         (λ m there e. absurd (both_ways _ (none_front p (reserves_memory m) (λ a. refl) (λ m. refl)) e)) scanned
 
-    writes_pass : (i : ℕ) → i < length p.mems → (phases_ok i Fresh (seen p.mems ts) ≡ true) × (is_over (phase_all i Fresh (seen p.mems ts)) ≡ true)
+    writes_pass : (i : ℕ) → i < length p.mems
+        → (phases_ok i Fresh (seen p.mems ts) ≡ true) × (is_over (phase_all i Fresh (seen p.mems ts)) ≡ true)
+        × (has_room (mem_at q i).lock (write_reserves i (seen p.mems ts)) 0 ≡ true) × (write_reserves i (seen p.mems ts) ≤ 2)
     writes_pass i low =
         let n = at_number p.mems i (distinct p rules p.mems (map Parameter p.params) (all_after p)) low in
-        subst (λ k. (phases_ok k Fresh (seen p.mems ts) ≡ true) × (is_over (phase_all k Fresh (seen p.mems ts)) ≡ true)) n.2
-        (writes_along p q lock_is n.0 n.1 (params_of p.params) _ (front_of p) Fresh ts known
-        (grows_on p.mems c (params_of p.params) _ (sites_of p) (grows_all p)) each backed
-        (none_front p (is_reserve_of W n.0) (λ a. refl) (λ m. refl), none_front p (is_write_of n.0) (λ a. refl) (λ m. refl)))
+        subst
+        (λ k. (phases_ok k Fresh (seen p.mems ts) ≡ true) × (is_over (phase_all k Fresh (seen p.mems ts)) ≡ true)
+        × (has_room (mem_at q k).lock (write_reserves k (seen p.mems ts)) 0 ≡ true) × (write_reserves k (seen p.mems ts) ≤ 2)) n.2
+        (let w = scanned_writes n.0 n.1 (is_advisory_mem p.mems n.0) refl in (
+          w.0,
+          w.1,
+          rooms p rules p.mems (map Parameter p.params) n.0 (all_after p) (write_reserves (mem_of p.mems n.0) (seen p.mems ts))
+              (many n.0 w.0 w.2),
+          at_most_two n.0 (many n.0 w.0 w.2),
+        ))
+      where
+        Writes : List ℕ → Type 0
+        Writes m =
+            (phases_ok (mem_of p.mems m) Fresh (seen p.mems ts) ≡ true) × (is_over (phase_all (mem_of p.mems m) Fresh (seen p.mems ts)) ≡ true)
+            × (total (phase_all (mem_of p.mems m) Fresh (seen p.mems ts)) ≤ most_reservations p.mems W m)
+
+        scanned_writes : (m : List ℕ) → is_memory p.mems m ≡ true → (b : Bool) → is_advisory_mem p.mems m ≡ b → Writes m
+        scanned_writes m there false a =
+            writes_along p q lock_is m there a (params_of p.params) _ (front_of p) Fresh ts known
+            (grows_on p.mems c (params_of p.params) _ (sites_of p) (grows_all p)) each backed
+            (stands_first p (params_of p.params) (front_of p) m (λ f g h. none_front p f g h))
+        scanned_writes m there true a =
+            let k = quiet_seen (mem_of p.mems m) p.mems ts
+            (all_on (λ t. some_op (touches (mem_of p.mems m)) (ops p.mems t) ≡ false) c (sites_of p)
+            (all_map (Here p) (λ t. some_op (touches (mem_of p.mems m)) (ops p.mems t) ≡ false)
+            (λ t h. untouched p m there a (advisory_unlocked p rules p.mems (map Parameter p.params) m (all_after p) a) t.walk.vars t.stmt t.branches
+            (located p rules t h) (rules F5 t.front (place_of t) h.later h.whole)) (sites_of p) (all_here p))) in
+            (k.0, ap is_over k.1, subst (λ ph. total ph ≤ most_reservations p.mems W m) (sym k.1) (let l : 0 ≤ most_reservations p.mems W m = omega arith in l))
+
+        none_more : (n : ℕ) → 0 + n ≡ n
+        none_more n = omega arith
+
+        many : (n : List ℕ) → phases_ok (mem_of p.mems n) Fresh (seen p.mems ts) ≡ true
+            → total (phase_all (mem_of p.mems n) Fresh (seen p.mems ts)) ≤ most_reservations p.mems W n
+            → write_reserves (mem_of p.mems n) (seen p.mems ts) ≤ most_reservations p.mems W n
+        many n ok w =
+            subst (λ k. k ≤ most_reservations p.mems W n)
+            (total_all (mem_of p.mems n) Fresh (seen p.mems ts) ok ∙ none_more (write_reserves (mem_of p.mems n) (seen p.mems ts))) w
+
+        at_most_two : (n : List ℕ) {k : ℕ} → k ≤ most_reservations p.mems W n → k ≤ 2
+        at_most_two n = by (lock_size p.mems n == 1)
+          where
+            by : {k : ℕ} (b : Bool) → k ≤ (if b then 1 else 2) → k ≤ 2
+            by true h = omega (arith, h)
+            by false h = h
+
+    -- a path reserves each memory for writing at most twice
+    pub few_ok : (i : ℕ) → i < length p.mems → write_reserves i (onpath path q.stmts) ≤ 2
+    few_ok i low = subst (λ xs. write_reserves i xs ≤ 2) (sym xs_are) (writes_pass i low).3
 
     plain_or : (m : ℕ) (b : Bool) → (is_plain (mem_at q m).lock ≡ true → b ≡ true) → (not (is_plain (mem_at q m).lock) || b) ≡ true
     plain_or m b f =
@@ -283,8 +340,8 @@ module _ (p : Pipe) (rules : KeepsRules p) where
     mem_pass i low =
         and_from _ _ (writes_pass i low).0
         (and_from _ _ (writes_pass i low).1
-        (and_from _ _
-        (StatementTests.at_seen (is_reserve i) (StatementTests.reserve_blind i)
+        (and_from _ _ (writes_pass i low).2
+        (and_from _ _ (StatementTests.at_seen (is_reserve i) (StatementTests.reserve_blind i)
         (reserve_stage q i) p.mems ts
         (all_on (λ t. some_op (is_reserve i) (ops p.mems t) ≡ true → t.walk.stage ≡ reserve_stage q i) c (sites_of p) (reserve_home i)))
         (and_from _ _
@@ -293,7 +350,7 @@ module _ (p : Pipe) (rules : KeepsRules p) where
         (all_on (λ t. some_op (is_release i) (ops p.mems t) ≡ true → t.walk.stage ≡ commit_stage q i) c (sites_of p) (release_home i)))
         (plain_or i _
         (λ e. StatementTests.none_seen (is_release i)
-        (StatementTests.release_blind i) p.mems ts (all_on (λ t. some_op (is_release i) (ops p.mems t) ≡ false) c (sites_of p) (plain_releases i e)))))))
+        (StatementTests.release_blind i) p.mems ts (all_on (λ t. some_op (is_release i) (ops p.mems t) ≡ false) c (sites_of p) (plain_releases i e))))))))
 
     abbrev o : Option ℕ
     o = Stages.verify_stage (flat p).stmts
@@ -307,7 +364,8 @@ module _ (p : Pipe) (rules : KeepsRules p) where
     )
       where
         asked : PathScans.AllAsked p o (front_of p) ts × Guesses.Called p rules v staged verify_home (front_of p ++ map place_of ts)
-        asked = all_asked p rules v staged verify_home (front_of p) ts on told called
+        asked = all_asked p rules v staged verify_home 0 _ (front_of p) ts (all_rise p c (body_forked p rules)) on told
+            (λ V i e. absurd (both_ways _ (none_front p Speculation.is_verify (λ a. refl) (λ m. refl)) e)) called
 
         makes : (makings_ok o Unmade (seen p.mems ts) ≡ true) × (j : GuessScans.Making)
             × (making_all Unmade (seen p.mems ts) ≡ j) × Stood j (front_of p ++ map place_of ts)
@@ -326,6 +384,16 @@ module _ (p : Pipe) (rules : KeepsRules p) where
 
         all_places : filter (on_path c) (places p) ≡ (front_of p ++ map place_of ts) ++ closing p
         all_places = filter_append (on_path c) (front_of p ++ statements [] p.body) (closing p) ∙ ap (λ l. l ++ closing p) text
+
+    apart_pass : checks_apart None (seen p.mems ts) ≡ true
+    apart_pass =
+        GuessStages.checks_along p rules v staged verify_home (sites_of p) (all_in_text p) told_all
+        (subst (Guesses.Called p rules v staged verify_home) (sym front) called)
+
+    once_pass : once is_update false (seen p.mems ts) ≡ true
+    once_pass =
+        OneUpdate.one_update p rules v staged verify_home (sites_of p) (all_in_text p) told_all
+        (none_front p Speculation.is_update (λ a. refl) (λ m. refl))
 
     sure_pass : all_sure o false no_scan (seen p.mems ts) ≡ true
     sure_pass =
@@ -351,16 +419,17 @@ module _ (p : Pipe) (rules : KeepsRules p) where
         (and_from _ _ reads_pass
         (and_from _ _ (below_all (mem_passes q (seen p.mems ts)) (length q.mems) (λ m low. mem_pass m (subst (λ n. m < n) (mems_length p.mems) low)))
         (subst
-        (λ w. (makings_ok w Unmade (seen p.mems ts) && (is_made (making_all Unmade (seen p.mems ts)) && all_sure w false no_scan (seen p.mems ts))) ≡ true)
+        (λ w. (makings_ok w Unmade (seen p.mems ts)
+        && (is_made (making_all Unmade (seen p.mems ts)) && (checks_apart None (seen p.mems ts)
+        && (once is_update false (seen p.mems ts) && all_sure w false no_scan (seen p.mems ts))))) ≡ true)
         (sym (StatementTests.verify_looked (flat p).stmts))
-        (and_from _ _ makings_pass.0 (and_from _ _ makings_pass.1 sure_pass))))))))
+        (and_from _ _ makings_pass.0 (and_from _ _ makings_pass.1 (and_from _ _ apart_pass (and_from _ _ once_pass sure_pass))))))))))
 
   -- ALL TESTS
 
   lock_ok : (m : ℕ) → m < length p.mems → lock_passes q m ≡ true
   lock_ok m low =
-      and_from _ _ (rooms p rules p.mems (map Parameter p.params) m (all_after p))
-      (and_from _ _ (StatementTests.all_looked (is_reserve m) (StatementTests.reserve_blind m) (reserve_stage q m) (flat p).stmts ∙ reserves_in p rules m)
+      and_from _ _ (StatementTests.all_looked (is_reserve m) (StatementTests.reserve_blind m) (reserve_stage q m) (flat p).stmts ∙ reserves_in p rules m)
       (and_from _ _ (StatementTests.all_looked (is_release m) (StatementTests.release_blind m) (commit_stage q m) (flat p).stmts ∙ releases_in p rules m)
       (⊎_elim
       (λ t. or_right (not (is_plain (mem_at q m).lock)) _ (and_from _ _
@@ -375,7 +444,7 @@ module _ (p : Pipe) (rules : KeepsRules p) where
       ∙ first_none (is_release m)
       (flat p).stmts (ap (none_of (is_release m)) (stmts_are p) ∙ none_sited (is_release m) p.mems (sites_of p) (plain_releases m t)))))))
       (λ t. or_left (not (is_plain (mem_at q m).lock)) _ (ap not t))
-      (cases_Bool (is_plain (mem_at q m).lock)))))
+      (cases_Bool (is_plain (mem_at q m).lock))))
 
   locks_ok : locks_pass q ≡ true
   locks_ok =

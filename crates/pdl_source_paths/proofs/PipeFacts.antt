@@ -12,11 +12,13 @@ use Rattle.pdl_rules.specs.Refusal.{KeepsRules}
 use Rattle.pdl_theory_derived.specs.Alone.{answered_op}
 use Rattle.pdl_theory_facts.specs.Scans.{is_dead, is_fixed}
 use Rattle.pdl_theory_facts.specs.Graphs.{Graph, next_of}
+use Rattle.pdl_theory_facts.proofs.Nested.{within_all}
 use Rattle.pdl_theory_facts.specs.Facts.{binds_guard, FetchIf, AllFetches, looked_all, at_once, Sound}
 use Rattle.pdl_theory_facts.proofs.Passes
 use Rattle.pdl_theory_turns.proofs.StrayPaths.{fixed_looked}
 use Rattle.pdl_source_stages.specs.StageFacts.{FoundIf, AllFound, StageFacts}
 use Rattle.pdl_source_stages.proofs.Facts.{stage_facts}
+use Rattle.pdl_source_paths.proofs.SiteFacts.{fork_seen}
 use Rattle.pdl_source_stages.proofs.SiteFacts.{each_in_stage}
 use Rattle.pdl_source_paths.specs.Source.{are_apart, is_source, is_named}
 use Rattle.pdl_source_paths.proofs.PathTests.{parts}
@@ -54,7 +56,7 @@ bound_early p g s m env low early = at (cases_lt (commit_stage p m) (next_of p s
   where
     at : (commit_stage p m < next_of p s env) ⊎ (next_of p s env ≤ commit_stage p m) → next_of p s env ≤ commit_stage p m
     at (inr l) = l
-    at (inl l) = let e = g.jump s env (commit_stage p m) low (g.trunk_commit m) early (omega arith) in omega arith
+    at (inl l) = let e = g.jump [] s env (commit_stage p m) low (within_all p s) (g.trunk_commit m) early (omega arith) in omega arith
 
 fetches_all : (p : Flat.Pipe) → Graph p → (fetch : ℕ → ℕ) (s : ℕ) (ys : List Flat.Stmt) → AllFound p fetch s ys
     → Each (Before p s) ys → AllFetches p fetch s ys
@@ -105,7 +107,7 @@ module _ (p : Pipe) (rules : KeepsRules p) (apart : are_apart (places p) ≡ tru
     skips = facts.skips;
     fork_bound = facts.fork_bound;
     fork_known = facts.fork_known;
-    fork_seen = facts.fork_seen;
+    fork_seen = fork_seen p rules apart;
     fetch = facts.fetch;
     fetch_ok = λ s.
         fetches_all (flat p) facts.graph facts.fetch s (in_stage s (flat p).stmts) (facts.found s)
@@ -115,6 +117,7 @@ module _ (p : Pipe) (rules : KeepsRules p) (apart : are_apart (places p) ≡ tru
     fetch_blind = fetch_blind p rules apart named;
     fetch_unseen = fetch_unseen p rules apart named;
     fetch_alone = fetch_alone p rules apart named;
+    advice = facts.advice;
     fetch_inside = facts.fetch_inside;
   }
 

@@ -5,9 +5,10 @@ use Rattle.std.proofs.lemmas.List.Folds.{list_any-append}
 use Rattle.std.specs.List.{list_any}
 use Rattle.std.proofs.lemmas.List.Sums.{fold_push}
 use mathlib.Core.Path.{fun_ext}
-use Rattle.pdl_semantics.specs.Tree.{Span, Expr, Variable, Location, Kind, R, W, Stmt, Separator, CombRead, Bind, SpecCall, DelayedRead, Write, Reserve, Block, Release, If, Call, Verify, SpecCheck, SpecBarrier, Mem, Pipe}
+use Rattle.pdl_semantics.specs.Tree.{Span, Expr, Variable, Location, Kind, R, W, Stmt, Separator, CombRead, Bind, SpecCall, DelayedRead, Write, Reserve, Block, Release, If, Call, Verify, Update, SpecCheck, SpecBarrier, Mem, Pipe}
 use Rattle.pdl_semantics.specs.Flat
-use Rattle.pdl_semantics.specs.Flatten.{Var, var_of, mem_of}
+use Rattle.pdl_semantics.specs.Flatten.{Var, var_of, mem_of, flat_expr, is_advisory_mem, is_advised}
+use Rattle.pdl_source_stages.proofs.SiteFacts.{either_read, either_bind, either_write}
 use Rattle.pdl_semantics.specs.Stages.{mem_at, reserve_stage, commit_stage}
 use Rattle.pdl_rules.specs.Places.{Place, Statement, Branch}
 use Rattle.pdl_rules.specs.Locks.{is_locked, same_location, same_kind, Hold, Nothing, Reserved, Blocked, Released, after_block, after_place, hold_after, is_reserved, is_blocked_for, is_held_for, is_unreleased, reserves_location}
@@ -426,11 +427,22 @@ module _ (p : Pipe) (q : Flat.Pipe) (lock_is : (m : List ℕ) → is_plain (mem_
       → ((at : Location) → location_of s ≡ Some at → IsNamed p.mems vs at)
       → Scanned p (vars_past p.mems vs s) (before ++ Statement s bs ∷ []) (opens_ops (ops_of p.mems vs s) c)
   scanned_next (Separator sp) k there = same_next p vs before (Statement (Separator sp) bs) c (λ l h. refl) (λ l. refl) (λ l. refl) i
-  scanned_next (CombRead sp x at) k there = plain_next p vs _ before (Statement (CombRead sp x at) bs) c (λ l h. refl) (λ l. refl) (λ l. refl) i
-  scanned_next (Bind sp x v) k there = plain_next p vs _ before (Statement (Bind sp x v) bs) c (λ l h. refl) (λ l. refl) (λ l. refl) i
+  scanned_next (CombRead sp x at) k there =
+      either_read (λ op. Scanned p (vars_past p.mems vs (CombRead sp x at)) (before ++ Statement (CombRead sp x at) bs ∷ []) (opens_ops (op ∷ []) c))
+      (is_advisory_mem p.mems at.mem.name) (length vs) (mem_of p.mems at.mem.name) (var_of vs at.address.name)
+      (plain_next p vs _ before (Statement (CombRead sp x at) bs) c (λ l h. refl) (λ l. refl) (λ l. refl) i)
+      (plain_next p vs _ before (Statement (CombRead sp x at) bs) c (λ l h. refl) (λ l. refl) (λ l. refl) i)
+  scanned_next (Bind sp x v) k there =
+      either_bind (λ op. Scanned p (vars_past p.mems vs (Bind sp x v)) (before ++ Statement (Bind sp x v) bs ∷ []) (opens_ops (op ∷ []) c)) (is_advised vs v)
+      (length vs) (flat_expr vs v) (plain_next p vs _ before (Statement (Bind sp x v) bs) c (λ l h. refl) (λ l. refl) (λ l. refl) i)
+      (plain_next p vs _ before (Statement (Bind sp x v) bs) c (λ l h. refl) (λ l. refl) (λ l. refl) i)
   scanned_next (SpecCall sp x v) k there = same_next p vs before (Statement (SpecCall sp x v) bs) c (λ l h. refl) (λ l. refl) (λ l. refl) i
   scanned_next (DelayedRead sp x at) k there = plain_next p vs _ before (Statement (DelayedRead sp x at) bs) c (λ l h. refl) (λ l. refl) (λ l. refl) i
-  scanned_next (Write sp at v) k there = same_next p vs before (Statement (Write sp at v) bs) c (λ l h. refl) (λ l. refl) (λ l. refl) i
+  scanned_next (Write sp at v) k there =
+      either_write (λ op. Scanned p (vars_past p.mems vs (Write sp at v)) (before ++ Statement (Write sp at v) bs ∷ []) (opens_ops (op ∷ []) c))
+      (is_advisory_mem p.mems at.mem.name) (mem_of p.mems at.mem.name) (var_of vs at.address.name) (flat_expr vs v)
+      (same_next p vs before (Statement (Write sp at v) bs) c (λ l h. refl) (λ l. refl) (λ l. refl) i)
+      (same_next p vs before (Statement (Write sp at v) bs) c (λ l h. refl) (λ l. refl) (λ l. refl) i)
   scanned_next (Reserve sp at R) k there = read_next p vs before c sp at bs (there at refl) i k
   scanned_next (Reserve sp at W) k there = write_next p vs before c sp at bs (there at refl) i k
   scanned_next (Block sp at) k there = block_next p vs before c sp at bs (there at refl) i k
@@ -438,6 +450,7 @@ module _ (p : Pipe) (q : Flat.Pipe) (lock_is : (m : List ℕ) → is_plain (mem_
   scanned_next (If sp e when otherwise) k there = scanned_if e (Statement (If sp e when otherwise) bs) (λ l h. refl) (λ l. refl) (λ l. refl) sp
   scanned_next (Call sp args) k there = same_next p vs before (Statement (Call sp args) bs) c (λ l h. refl) (λ l. refl) (λ l. refl) i
   scanned_next (Verify sp g args) k there = same_next p vs before (Statement (Verify sp g args) bs) c (λ l h. refl) (λ l. refl) (λ l. refl) i
+  scanned_next (Update sp g args) k there = same_next p vs before (Statement (Update sp g args) bs) c (λ l h. refl) (λ l. refl) (λ l. refl) i
   scanned_next (SpecCheck sp) k there = same_next p vs before (Statement (SpecCheck sp) bs) c (λ l h. refl) (λ l. refl) (λ l. refl) i
   scanned_next (SpecBarrier sp) k there = same_next p vs before (Statement (SpecBarrier sp) bs) c (λ l h. refl) (λ l. refl) (λ l. refl) i
 
@@ -472,9 +485,15 @@ module _ (p : Pipe) (q : Flat.Pipe) (lock_is : (m : List ℕ) → is_plain (mem_
     pub scan_ok : (s : Stmt) → KeepsLocks p before (Statement s bs) → ((at : Location) → location_of s ≡ Some at → IsNamed p.mems vs at)
         → ((at : Location) → reads_at s ≡ Some at → is_locked p.mems at.mem.name ≡ true → k ≤ commit_stage q (mem_of p.mems at.mem.name))
         → ops_ok q k c (ops_of p.mems vs s) ≡ true
-    scan_ok (CombRead sp x at) h there late = read_ok at h.l1 (late at refl)
+    scan_ok (CombRead sp x at) h there late =
+        either_read (λ op. ops_ok q k c (op ∷ []) ≡ true) (is_advisory_mem p.mems at.mem.name) (length vs) (mem_of p.mems at.mem.name)
+        (var_of vs at.address.name) (refl) (read_ok at h.l1 (late at refl))
     scan_ok (DelayedRead sp x at) h there late = read_ok at h.l1 (late at refl)
-    scan_ok (Bind sp x v) h there late = and_from _ _ unbound refl
+    scan_ok (Bind sp x v) h there late =
+        either_bind (λ op. ops_ok q k c (op ∷ []) ≡ true) (is_advised vs v) (length vs) (flat_expr vs v) (refl) (and_from _ _ unbound refl)
+    scan_ok (Write sp at v) h there late =
+        either_write (λ op. ops_ok q k c (op ∷ []) ≡ true) (is_advisory_mem p.mems at.mem.name) (mem_of p.mems at.mem.name) (var_of vs at.address.name)
+        (flat_expr vs v) (refl) (refl)
     scan_ok (If sp e when otherwise) h there late = if_ok e
     scan_ok (Reserve sp at R) h there late = refl
     scan_ok (Reserve sp at W) h there late = refl

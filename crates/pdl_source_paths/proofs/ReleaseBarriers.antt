@@ -1,11 +1,12 @@
 -- On each path no write reservation is released before the verifies' stage, unless after a barrier.
-use Rattle.std.proofs.Common.{◌≡◌, refl, sym, ap, ap₂, ◌∙◌, ℕ, Bool, true, false, ◌&&◌, ◌||◌, not, List, [], ◌∷◌, ◌++◌, Option, Some}
+use Rattle.std.proofs.Common.{◌≡◌, refl, sym, ap, ap₂, ◌∙◌, ℕ, Bool, true, false, ◌&&◌, ◌||◌, not, List, [], ◌∷◌, ◌++◌, Option, Some, length}
 use Rattle.std.proofs.lemmas.Bool.{false≢true, and_parts, and_from, both_ways, not-false}
 use Rattle.std.proofs.lemmas.List.Folds.{list_any-append}
 use Rattle.std.specs.List.{list_any}
-use Rattle.pdl_semantics.specs.Tree.{Span, Expr, Variable, Location, R, W, Stmt, Separator, CombRead, Bind, SpecCall, DelayedRead, Write, Reserve, Block, Release, If, Call, Verify, SpecCheck, SpecBarrier, Pipe}
+use Rattle.pdl_semantics.specs.Tree.{Span, Expr, Variable, Location, R, W, Stmt, Separator, CombRead, Bind, SpecCall, DelayedRead, Write, Reserve, Block, Release, If, Call, Verify, Update, SpecCheck, SpecBarrier, Pipe}
 use Rattle.pdl_semantics.specs.Flat
-use Rattle.pdl_semantics.specs.Flatten.{Var, var_of, mem_of}
+use Rattle.pdl_semantics.specs.Flatten.{Var, var_of, mem_of, flat_expr, is_advisory_mem, is_advised}
+use Rattle.pdl_source_stages.proofs.SiteFacts.{either_read, either_bind, either_write}
 use Rattle.pdl_rules.specs.Places.{Place, Statement, Branch}
 use Rattle.pdl_rules.specs.Parts.{location_of}
 use Rattle.pdl_rules.specs.Locks.{Hold, Nothing, Reserved, Blocked, Released, hold_after, is_blocked, is_held_for}
@@ -89,11 +90,17 @@ module _ (p : Pipe) (v : Option ℕ) (vs : List Var) (before : List Place) (c : 
       → ((at : Location) → location_of t ≡ Some at → IsNamed p.mems vs at)
       → (stands_before v s ≡ true → releases_unsure before (Statement t bs) ≡ false) → Goes t (ops_of p.mems vs t)
   sure_by (Separator sp) k h a = (refl, still (Statement (Separator sp) bs) refl)
-  sure_by (CombRead sp x at) k h a = (refl, still_bind (Statement (CombRead sp x at) bs) refl)
-  sure_by (Bind sp x e) k h a = (refl, still_bind (Statement (Bind sp x e) bs) refl)
+  sure_by (CombRead sp x at) k h a =
+      either_read (λ op. Goes (CombRead sp x at) (op ∷ [])) (is_advisory_mem p.mems at.mem.name) (length vs) (mem_of p.mems at.mem.name)
+      (var_of vs at.address.name) ((refl, still_bind (Statement (CombRead sp x at) bs) refl)) ((refl, still_bind (Statement (CombRead sp x at) bs) refl))
+  sure_by (Bind sp x e) k h a =
+      either_bind (λ op. Goes (Bind sp x e) (op ∷ [])) (is_advised vs e) (length vs) (flat_expr vs e) ((refl, still_bind (Statement (Bind sp x e) bs) refl))
+      ((refl, still_bind (Statement (Bind sp x e) bs) refl))
   sure_by (SpecCall sp g args) k h a = (refl, still_bind (Statement (SpecCall sp g args) bs) refl)
   sure_by (DelayedRead sp x at) k h a = (refl, still_bind (Statement (DelayedRead sp x at) bs) refl)
-  sure_by (Write sp at e) k h a = (refl, still_bind (Statement (Write sp at e) bs) refl)
+  sure_by (Write sp at e) k h a =
+      either_write (λ op. Goes (Write sp at e) (op ∷ [])) (is_advisory_mem p.mems at.mem.name) (mem_of p.mems at.mem.name) (var_of vs at.address.name)
+      (flat_expr vs e) ((refl, still_bind (Statement (Write sp at e) bs) refl)) ((refl, still_bind (Statement (Write sp at e) bs) refl))
   sure_by (Reserve sp at R) k h a = (refl, still_bind (Statement (Reserve sp at R) bs) refl)
   sure_by (Reserve sp at W) k h a = (refl, still_bind (Statement (Reserve sp at W) bs) refl)
   sure_by (Block sp at) k h a = (refl, still_bind (Statement (Block sp at) bs) refl)
@@ -101,5 +108,6 @@ module _ (p : Pipe) (v : Option ℕ) (vs : List Var) (before : List Place) (c : 
   sure_by (If sp e when otherwise) k h a = if_next (If sp e when otherwise) e refl
   sure_by (Call sp args) k h a = (refl, still_bind (Statement (Call sp args) bs) refl)
   sure_by (Verify sp g args) k h a = (refl, still_bind (Statement (Verify sp g args) bs) refl)
+  sure_by (Update sp g args) k h a = (refl, still_bind (Statement (Update sp g args) bs) refl)
   sure_by (SpecCheck sp) k h a = (refl, still_bind (Statement (SpecCheck sp) bs) refl)
   sure_by (SpecBarrier sp) k h a = (refl, list_any-append Speculation.is_barrier before (Statement (SpecBarrier sp) bs ∷ []) ∙ ap (λ x. x || true) barred)

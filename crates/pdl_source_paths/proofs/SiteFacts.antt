@@ -5,8 +5,10 @@ use Rattle.std.proofs.lemmas.List.Folds.{list_any-append}
 use Rattle.std.specs.List.{list_any}
 use Rattle.pdl_semantics.specs.Tree.{R, W, Variable, Stmt, Separator, CombRead, Bind, DelayedRead, Reserve, If, Mem, Pipe}
 use Rattle.pdl_semantics.specs.Tree
+use Rattle.pdl_semantics.specs.Flat
 use Rattle.pdl_semantics.specs.Flat.{all_hold}
-use Rattle.pdl_semantics.specs.Flatten.{Var, var_of}
+use Rattle.pdl_semantics.specs.Flatten.{Var, var_of, flat, mem_of, flat_expr, is_advisory_mem}
+use Rattle.pdl_semantics.specs.Stages.{stage_at, in_stage}
 use Rattle.pdl_rules.specs.Places.{Place, Parameter, Memory, Statement, Guard, places, on_path}
 use Rattle.pdl_rules.specs.Parts.{is_some_and}
 use Rattle.pdl_rules.specs.Limits.{is_separator}
@@ -14,17 +16,18 @@ use Rattle.pdl_rules.specs.Names.{Use, OfVariable, defines_use, name_at, is_dela
 use Rattle.pdl_rules.specs.Stages.{stage_in, branches_of}
 use Rattle.pdl_rules.specs.Refusal.{KeepsRules}
 use Rattle.pdl_rules.proofs.SingleWrites.{bytes_sym}
-use Rattle.pdl_theory_facts.specs.Scans.{binds_var}
+use Rattle.pdl_theory_facts.specs.Scans.{binds_var, none_of}
+use Rattle.pdl_theory_facts.specs.Facts.{is_fetch_of, visits_stage}
 use Rattle.pdl_source_stages.proofs.Sites.{Site, sites_of, front_of, place_of, All}
 use Rattle.pdl_source_stages.proofs.Walks.{names, names_by, names_append}
 use Rattle.pdl_source_stages.proofs.SiteStages.{all_both, all_map}
 use Rattle.pdl_source_stages.proofs.BodyShape.{body_forked}
-use Rattle.pdl_source_stages.proofs.SiteFacts.{Fine, all_fine, op_of, from_op}
+use Rattle.pdl_source_stages.proofs.SiteFacts.{Fine, all_fine, op_of, from_op, write_none}
 use Rattle.pdl_source_stages.proofs.ForkSites.{Order, Before, Same, After, order}
 use Rattle.pdl_source_stages.proofs.ForkVars
 use Rattle.pdl_source_stages.proofs.ForkFacts
 use Rattle.pdl_source_paths.specs.Source.{begins_at, are_apart}
-use Rattle.pdl_source_paths.proofs.Choices.{path_of}
+use Rattle.pdl_source_paths.proofs.Choices.{path_of, unbroken_on}
 use Rattle.pdl_source_paths.proofs.PathStatements.{Alike, on_sites}
 use Rattle.pdl_source_paths.proofs.Numbers.{is_in, var_low}
 use Rattle.pdl_source_paths.proofs.Variables
@@ -34,7 +37,7 @@ use Rattle.pdl_source_paths.proofs.Order.{all_rise}
 use Rattle.pdl_source_paths.proofs.FlatPaths.{value, all_alike, apart_before}
 use Rattle.pdl_source_paths.proofs.DefinitionOrder.{IsIt, Came, Gives, came_along, off_path}
 use Rattle.pdl_word.proofs.Bytes.{bytes_refl}
-use Rattle.pdl_source_paths.proofs.Guesses.{given_any}
+use Rattle.pdl_source_paths.proofs.GuessCounts.{given_any}
 use Rattle.pdl_word.proofs.Lists.{some_filtered}
 
 -- the path of the rules that these values take
@@ -65,6 +68,15 @@ all_known p rules apart =
     (λ t. (t.walk.stage ≤ t.walk.begun) × ((env : List ℕ) → Alike env (way p env) t)) (λ t a b. (a.0, b))
     (sites_of p) (ForkVars.all_low p)
     (all_any (λ env t. Alike env (way p env) t) (sites_of p) (all_alike p rules apart)))
+
+-- a fork's stage that a path comes to has no delayed read into the fork's variable
+pub fork_seen : (p : Pipe) (rules : KeepsRules p) → are_apart (places p) ≡ true → (path : List ℕ) (s x a b : ℕ) → visits_stage (flat p) path s ≡ true
+    → (stage_at (flat p) s).next ≡ Flat.Forks x a b → none_of (is_fetch_of x) (in_stage s (flat p).stmts) ≡ true
+fork_seen p rules apart path s x a b on e =
+    ForkFacts.fork_seen p rules path
+    (all_map (Known p) (λ u. all_hold u.gs path ≡ true → ForkFacts.IsOnSome p rules u)
+    (λ u h t test f. (way p path, unbroken_on test p (value p path) u.front (place_of u) f (sym (h.alike path) ∙ t)))
+    (sites_of p) (all_known p rules apart)) s x a b on e
 
 -- GIVEN
 
@@ -136,6 +148,10 @@ bound_name ms vs (If sp (Variable y) when otherwise) i e = absurd (false≢true 
 bound_name ms vs (If sp c when otherwise) i e = ([], refl, λ m f g. absurd (both_ways (bytes_eq [] m) g f))
 bound_name ms vs (Reserve sp l R) i e = absurd (false≢true e)
 bound_name ms vs (Reserve sp l W) i e = absurd (false≢true e)
+bound_name ms vs (Tree.Write sp l v) i e =
+    absurd
+    (false≢true (sym (write_none (binds_var i) (is_advisory_mem ms l.mem.name) (mem_of ms l.mem.name) (var_of vs l.address.name) (flat_expr vs v) refl refl)
+    ∙ e))
 bound_name ms vs _ i e = absurd (false≢true e)
 
 -- the site y is bound on the path, in a stage no later, and in an earlier one where it is a delayed read

@@ -1,9 +1,10 @@
 -- Tests of the flat statements on a path, and of those of a text where delayed reads are reads, from tests of the sites.
 use Rattle.std.proofs.Common.{◌≡◌, refl, ap, ap₂, ◌∙◌, ℕ, ◌<◌, Bool, true, false, ◌&&◌, ◌||◌, not, List, [], ◌∷◌, ◌++◌, length, ◌==◌, nat_lt, Some, if◌then◌else◌, eq-eqb, lt-ltb}
 use Rattle.std.proofs.lemmas.Bool.{and_parts, and_from, or_parts, or_left, or_right}
-use Rattle.pdl_semantics.specs.Tree.{Span, Variable, Location, Kind, R, W, Stmt, CombRead, DelayedRead, Write, Reserve, Block, Release, If, Mem}
+use Rattle.pdl_semantics.specs.Tree.{Span, Variable, Location, Kind, R, W, Stmt, CombRead, Bind, DelayedRead, Write, Reserve, Block, Release, If, Mem}
 use Rattle.pdl_semantics.specs.Flat
-use Rattle.pdl_semantics.specs.Flatten.{Var, mem_of}
+use Rattle.pdl_semantics.specs.Flatten.{Var, mem_of, var_of, flat_expr, is_advisory_mem, is_advised}
+use Rattle.pdl_source_stages.proofs.SiteFacts.{either_read, either_bind, either_write}
 use Rattle.pdl_semantics.specs.Stages.{is_reserve, is_release, is_verify, verify_stage}
 use Rattle.pdl_rules.specs.Parts.{location_of}
 use Rattle.pdl_rules.specs.Typed.{is_memory}
@@ -169,6 +170,9 @@ no_reserve ms i vs (Reserve sp at R) f = ap (λ b. b || false) (f sp at R refl)
 no_reserve ms i vs (Reserve sp at W) f = ap (λ b. b || false) (f sp at W refl)
 no_reserve ms i vs (If sp (Variable x) a b) f = refl
 no_reserve ms i vs (If sp _ a b) f = refl
+no_reserve ms i vs (CombRead sp x at) f = either_read (λ op. some_op (is_reserve i) (op ∷ []) ≡ false) (is_advisory_mem ms at.mem.name) _ _ _ refl refl
+no_reserve ms i vs (Bind sp x e) f = either_bind (λ op. some_op (is_reserve i) (op ∷ []) ≡ false) (is_advised vs e) _ _ refl refl
+no_reserve ms i vs (Write sp at e) f = either_write (λ op. some_op (is_reserve i) (op ∷ []) ≡ false) (is_advisory_mem ms at.mem.name) _ _ _ refl refl
 no_reserve ms i vs _ f = refl
 
 -- a statement that doesn't release memory i has no flat form that does
@@ -180,6 +184,9 @@ no_release ms i vs (Reserve sp at R) f = refl
 no_release ms i vs (Reserve sp at W) f = refl
 no_release ms i vs (If sp (Variable x) a b) f = refl
 no_release ms i vs (If sp _ a b) f = refl
+no_release ms i vs (CombRead sp x at) f = either_read (λ op. some_op (is_release i) (op ∷ []) ≡ false) (is_advisory_mem ms at.mem.name) _ _ _ refl refl
+no_release ms i vs (Bind sp x e) f = either_bind (λ op. some_op (is_release i) (op ∷ []) ≡ false) (is_advised vs e) _ _ refl refl
+no_release ms i vs (Write sp at e) f = either_write (λ op. some_op (is_release i) (op ∷ []) ≡ false) (is_advisory_mem ms at.mem.name) _ _ _ refl refl
 no_release ms i vs _ f = refl
 
 -- where the memory of a statement's location is there, each of its operations has a memory that is there
@@ -193,9 +200,14 @@ knows_all ms vs s f = here s f
 
     here : (t : Stmt) → ((at : Location) → location_of t ≡ Some at → is_memory ms at.mem.name ≡ true)
         → ops_all (λ op. knows_memory (length ms) (answered_op op)) (ops_of ms vs t) ≡ true
-    here (CombRead sp x at) g = low at.mem.name (g at refl)
+    here (CombRead sp x at) g =
+        either_read (λ op. ops_all (λ o. knows_memory (length ms) (answered_op o)) (op ∷ []) ≡ true) (is_advisory_mem ms at.mem.name) (length vs)
+        (mem_of ms at.mem.name) (var_of vs at.address.name) refl (low at.mem.name (g at refl))
+    here (Bind sp x e) g = either_bind (λ op. ops_all (λ o. knows_memory (length ms) (answered_op o)) (op ∷ []) ≡ true) (is_advised vs e) _ _ refl refl
     here (DelayedRead sp x at) g = low at.mem.name (g at refl)
-    here (Write sp at v) g = low at.mem.name (g at refl)
+    here (Write sp at v) g =
+        either_write (λ op. ops_all (λ o. knows_memory (length ms) (answered_op o)) (op ∷ []) ≡ true) (is_advisory_mem ms at.mem.name) (mem_of ms at.mem.name)
+        (var_of vs at.address.name) (flat_expr vs v) refl (low at.mem.name (g at refl))
     here (Reserve sp at R) g = low at.mem.name (g at refl)
     here (Reserve sp at W) g = low at.mem.name (g at refl)
     here (Block sp at) g = low at.mem.name (g at refl)

@@ -1,14 +1,14 @@
 -- The variables that a flat statement uses have names, which its place uses.
-use Rattle.std.proofs.Common.{◌≡◌, ℕ, ◌⊎◌, inl, inr, Bool, true, false, ◌||◌, List, [], ◌∷◌, length, ◌==◌, ⊎_elim}
+use Rattle.std.proofs.Common.{◌≡◌, ℕ, ◌⊎◌, inl, inr, Bool, true, false, ◌||◌, List, [], ◌∷◌, length, ◌==◌, ⊎_elim, Some}
 use Rattle.std.proofs.lemmas.Bool.{false≢true, or_cases, or_left, or_right, eqb-true}
 use Rattle.std.specs.List.{list_any}
-use Rattle.pdl_semantics.specs.Tree.{R, W, Expr, Constant, Variable, Slice, Not, Binary, Cat, LessSigned, ZeroExtend, SignExtend, Choose, Location, Stmt, Separator, CombRead, Bind, SpecCall, DelayedRead, Write, Reserve, Block, Release, If, Call, Verify, SpecCheck, SpecBarrier, Mem}
-use Rattle.pdl_semantics.specs.Flatten.{Var, var_of, flat_expr, flat_exprs}
+use Rattle.pdl_semantics.specs.Tree.{R, W, Expr, Constant, Variable, Slice, Not, Binary, Cat, LessSigned, ZeroExtend, SignExtend, Choose, Location, Stmt, Separator, CombRead, Bind, SpecCall, DelayedRead, Write, Reserve, Block, Release, If, Call, Verify, Update, SpecCheck, SpecBarrier, Mem}
+use Rattle.pdl_semantics.specs.Flatten.{Var, var_of, flat_expr, flat_exprs, mem_of, is_advisory_mem, is_advised}
 use Rattle.pdl_rules.specs.Places.{Statement, Branch}
 use Rattle.pdl_rules.specs.Parts.{some_part}
 use Rattle.pdl_rules.specs.Names.{Use, OfVariable, OfMemory, OfGuess, reads_some, some_use}
 use Rattle.pdl_theory_facts.specs.Facts.{uses_in, uses_any, mentions_var}
-use Rattle.pdl_source_stages.proofs.SiteFacts.{op_of, from_op}
+use Rattle.pdl_source_stages.proofs.SiteFacts.{op_of, from_op, either_read, either_bind, either_write}
 
 -- a name with this number, whose use by an expression a test finds
 abbrev pub InExpr : List Var → ℕ → Expr → Type 0
@@ -92,20 +92,30 @@ bound_or vs x s b h f = ⊎_elim (λ t. inl (eqb-true (length vs) x t)) f (or_ca
 pub mention : (ms : List Mem) (vs : List Var) (s : Stmt) (x : ℕ) → from_op (mentions_var x) (op_of ms vs s) ≡ true → AtStmt vs x s
 mention ms vs (Separator sp) x h = absurd (false≢true h)
 mention ms vs (CombRead sp y l) x h =
+    either_read (λ op. from_op (mentions_var x) (Some op) ≡ true → AtStmt vs x (CombRead sp y l)) (is_advisory_mem ms l.mem.name) (length vs)
+    (mem_of ms l.mem.name) (var_of vs l.address.name) (λ h. absurd (false≢true h))
+    (λ h.
     bound_or vs x (CombRead sp y l)
-    (var_of vs l.address.name == x) h (λ t. inr (l.address.name, eqb-true (var_of vs l.address.name) x t, λ test bs e. at_address test l false e))
+    (var_of vs l.address.name == x) h (λ t. inr (l.address.name, eqb-true (var_of vs l.address.name) x t, λ test bs e. at_address test l false e))) h
 mention ms vs (Bind sp y v) x h =
-    bound_or vs x (Bind sp y v) (uses_in x (flat_expr vs v)) h (λ t. let r = in_expr vs x v t in inr (r.0, r.1, λ test bs e. r.2 test e))
+    either_bind (λ op. from_op (mentions_var x) (Some op) ≡ true → AtStmt vs x (Bind sp y v)) (is_advised vs v) (length vs) (flat_expr vs v)
+    (λ h. absurd (false≢true h))
+    (λ h.
+    bound_or vs x (Bind sp y v) (uses_in x (flat_expr vs v)) h (λ t. let r = in_expr vs x v t in inr (r.0, r.1, λ test bs e. r.2 test e))) h
 mention ms vs (SpecCall sp g args) x h = let r = in_exprs vs x args h in inr (r.0, r.1, λ test bs e. r.2 test e)
 mention ms vs (DelayedRead sp y l) x h =
     bound_or vs x (DelayedRead sp y l)
     (var_of vs l.address.name == x) h (λ t. inr (l.address.name, eqb-true (var_of vs l.address.name) x t, λ test bs e. at_address test l false e))
 mention ms vs (Write sp l v) x h =
+    either_write (λ op. from_op (mentions_var x) (Some op) ≡ true → AtStmt vs x (Write sp l v)) (is_advisory_mem ms l.mem.name) (mem_of ms l.mem.name)
+    (var_of vs l.address.name) (flat_expr vs v) (λ h. absurd (false≢true h))
+    (λ h.
     ⊎_elim
     (λ t. inr (l.address.name, eqb-true (var_of vs l.address.name) x t, λ test bs e. at_address test l (some_part (reads_some test) v) e))
     (λ t. let r = in_expr vs x v t in
     inr (r.0, r.1, λ test bs e. or_right (test (OfMemory l.mem.name) || test (OfVariable l.address.name)) (some_part (reads_some test) v) (r.2 test e)))
-    (or_cases (var_of vs l.address.name == x) (uses_in x (flat_expr vs v)) h)
+    (or_cases (var_of vs l.address.name == x) (uses_in x (flat_expr vs v)) h))
+    h
 mention ms vs (Reserve sp l R) x h = absurd (false≢true h)
 mention ms vs (Reserve sp l W) x h = inr (l.address.name, eqb-true (var_of vs l.address.name) x h, λ test bs e. at_address test l false e)
 mention ms vs (Block sp l) x h = inr (l.address.name, eqb-true (var_of vs l.address.name) x h, λ test bs e. at_address test l false e)
@@ -115,6 +125,8 @@ mention ms vs (If sp c when otherwise) x h =
     bound_or vs x (If sp c when otherwise) (uses_in x (flat_expr vs c)) h (λ t. let r = in_expr vs x c t in inr (r.0, r.1, λ test bs e. r.2 test e))
 mention ms vs (Call sp args) x h = let r = in_exprs vs x args h in inr (r.0, r.1, λ test bs e. r.2 test e)
 mention ms vs (Verify sp g args) x h = let r = in_exprs vs x args h in
+    inr (r.0, r.1, λ test bs e. or_right (test (OfGuess g.name)) (list_any (some_part (reads_some test)) args) (r.2 test e))
+mention ms vs (Update sp g args) x h = let r = in_exprs vs x args h in
     inr (r.0, r.1, λ test bs e. or_right (test (OfGuess g.name)) (list_any (some_part (reads_some test)) args) (r.2 test e))
 mention ms vs (SpecCheck sp) x h = absurd (false≢true h)
 mention ms vs (SpecBarrier sp) x h = absurd (false≢true h)

@@ -3,7 +3,7 @@ use Rattle.std.proofs.Common.{◌≡◌, refl, sym, ap, ap₂, ◌∙◌, ℕ, B
 use Rattle.std.proofs.lemmas.Bool.{false≢true, and_cases, or_parts, or_cases, or_left, or_right, not-false}
 use Rattle.std.proofs.lemmas.List.Folds.{list_any-append}
 use Rattle.std.specs.List.{list_any}
-use Rattle.pdl_semantics.specs.Tree.{Location, Stmt, Separator, CombRead, Bind, SpecCall, DelayedRead, Write, Reserve, Block, Release, If, Call, Verify, SpecCheck, SpecBarrier, Stmts, Nil, Cons, Param, Mem, Pipe}
+use Rattle.pdl_semantics.specs.Tree.{Location, Stmt, Separator, CombRead, Bind, SpecCall, DelayedRead, Write, Reserve, Block, Release, If, Call, Verify, Update, SpecCheck, SpecBarrier, Stmts, Nil, Cons, Param, Mem, Pipe}
 use Rattle.pdl_semantics.specs.Flatten.{Var, at_start}
 use Rattle.pdl_semantics.specs.Flatten
 use Rattle.pdl_kit.specs.declared.rule.Rule.TheVariants.{N1, N3}
@@ -45,6 +45,7 @@ defined_here x (Statement (Release _ _) bs) e = absurd (false≢true e)
 defined_here x (Statement (If _ _ _ _) bs) e = absurd (false≢true e)
 defined_here x (Statement (Call _ _) bs) e = absurd (false≢true e)
 defined_here x (Statement (Verify _ _ _) bs) e = absurd (false≢true e)
+defined_here x (Statement (Update _ _ _) bs) e = absurd (false≢true e)
 defined_here x (Statement (SpecCheck _) bs) e = absurd (false≢true e)
 defined_here x (Statement (SpecBarrier _) bs) e = absurd (false≢true e)
 defined_here x (Memory m) e = absurd (false≢true e)

@@ -139,8 +139,8 @@ module _ (p : Pipe) (rules : KeepsRules p) (v : Guard → Bool) where
   pub keeps : (before later : List Place) (x : Place) → places p ≡ before ++ x ∷ later → on_path c x ≡ true → KeepsLocks p (filter (on_path c) before) x
   keeps before later x e on = record {
     l1 = unbroken_on (λ earlier. lacks_hold p earlier x) p v before x (rules L1 before x later e) on;
-    l3 = unbroken_on (λ earlier. is_late_read earlier x) p v before x (rules L3 before x later e) on;
-    l4 = unbroken_on (λ earlier. is_one_too_many earlier x) p v before x (rules L4 before x later e) on;
+    l3 = unbroken_on (λ earlier. is_late_read p earlier x) p v before x (rules L3 before x later e) on;
+    l4 = unbroken_on (λ earlier. is_one_too_many p earlier x) p v before x (rules L4 before x later e) on;
     l5 = unbroken_on (λ earlier. is_reserved_again earlier x) p v before x (rules L5 before x later e) on;
     l6 = unbroken_on (λ earlier. is_not_written_once earlier x) p v before x (rules L6 before x later e) on;
     l7 = unbroken_on (λ earlier. ends_open earlier x) p v before x (rules L7 before x later e) on;

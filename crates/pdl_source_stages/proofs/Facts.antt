@@ -60,8 +60,8 @@ module _ (p : Pipe) (rules : KeepsRules p) where
     skips = Trunks.skips p rules;
     fork_bound = ForkFacts.fork_bound p rules;
     fork_known = ForkFacts.fork_known p rules;
-    fork_seen = ForkFacts.fork_seen p rules;
     fetch = Homes.fetch_at p rules;
     found = found;
     fetch_inside = Homes.fetch_inside p rules;
+    advice = Homes.advice p rules;
   }

@@ -1,5 +1,5 @@
 -- The first statement of a kind: its place in the text and its flat form are one, so the rules that all of a kind stand in one stage hold of the flat statements.
-use Rattle.std.proofs.Common.{◌≡◌, refl, sym, ap, ap₂, ◌∙◌, subst, ℕ, suc, ◌<◌, Bool, true, false, ◌&&◌, ◌||◌, not, List, [], ◌∷◌, ◌++◌, map, length, append_assoc, append-nil, Option, Some, None, arith, if◌then◌else◌, ◌==◌, bytes_eq, eqb-true}
+use Rattle.std.proofs.Common.{◌≡◌, refl, sym, ap, ap₂, ◌∙◌, subst, ℕ, suc, ◌<◌, Bool, true, false, ◌||◌, not, List, [], ◌∷◌, ◌++◌, map, length, append_assoc, append-nil, Option, Some, None, arith, if◌then◌else◌, ◌==◌, bytes_eq, eqb-true}
 use Rattle.std.proofs.lemmas.Bool.{false≢true, or_parts, not-false}
 use Rattle.std.proofs.lemmas.List.Folds.{list_any-append}
 use Rattle.std.specs.List.{list_any}

@@ -1,23 +1,30 @@
--- The `if` of each fork, and its variable: bound before the fork's stage ends, and by no delayed read of that stage.
-use Rattle.std.proofs.Common.{◌≡◌, refl, sym, ap, ap₂, ◌∙◌, ℕ, zero, suc, ◌+◌, ◌≤◌, ◌<◌, ◌⊎◌, inl, inr, Bool, true, false, List, [], ◌∷◌, ◌++◌, length, Option, Some, None, unwrap_or, arith}
-use Rattle.std.proofs.lemmas.Bool.{and_parts, cases_lt}
+-- The `if` of each fork: where it stands, and under which guards.
+use Rattle.std.proofs.Common.{◌≡◌, refl, sym, ap, ap₂, ◌∙◌, ℕ, suc, ◌+◌, ◌≤◌, ◌<◌, ◌⊎◌, inl, inr, Bool, true, false, ◌&&◌, ◌||◌, not, List, [], ◌∷◌, ◌++◌, length, Option, Some, None, unwrap_or, arith, if◌then◌else◌, ◌==◌, slice_index}
+use Rattle.std.proofs.lemmas.Bool.{and_parts, and_from, cases_lt}
 use Rattle.pdl_semantics.specs.Tree.{Span, Expr, Separator, If, Stmts, Nil, Cons, Mem, Pipe}
 use Rattle.pdl_semantics.specs.Flat
-use Rattle.pdl_semantics.specs.Flatten.{guard_of, past, separators}
+use Rattle.pdl_semantics.specs.Flat.{all_hold, takes_branch}
+use Rattle.pdl_semantics.specs.Flatten.{guard_of, with_guard, past, at_otherwise, under, side, separators}
 use Rattle.pdl_semantics.specs.Flatten
 use Rattle.pdl_semantics.specs.Stages.{stage_at}
-use Rattle.pdl_rules.specs.Places.{Place, Statement, with_inner}
-use Rattle.pdl_source_stages.proofs.Sites.{Site, sites_in, sites, place_of, All}
-use Rattle.pdl_source_stages.proofs.Walks.{past_begun}
-use Rattle.pdl_source_stages.proofs.Shapes.{is_whole, is_forked, fork_fits, shape, leads}
-use Rattle.pdl_source_stages.proofs.Spots.{merge_at, Groups, group_fork, Forked, between_in, past_trunk}
+use Rattle.pdl_theory_facts.specs.Graphs.{goes_by, on_side}
+use Rattle.pdl_theory_facts.specs.Facts.{comes_by}
+use Rattle.pdl_rules.specs.Places.{Place, Statement, Branch, with_inner, statements}
+use Rattle.pdl_source_stages.proofs.Sites.{Site, branch, sites_in, sites, place_of, All}
+use Rattle.pdl_source_stages.proofs.Walks.{guard_begun, past_begun, past_all_begun}
+use Rattle.pdl_source_stages.proofs.Shapes.{is_whole, is_forked, is_late, begins_stage, size, long, merge_at, shape, side_shape, long_is}
+use Rattle.pdl_source_stages.proofs.Spots.{Groups, Sides, group_fork, Forked}
 use Rattle.pdl_source_stages.proofs.SiteStages.{none_of_whole, fitting, rest_shape, either_shape}
 use Rattle.pdl_source_stages.proofs.SiteFacts.{Fine}
 
 -- THE IFS OF FORKS
 
--- the `if` that makes stage s a fork on x
-pub record ForkSite (s x : ℕ) (t : Site) : Type 0 where
+-- on each path that comes by these branches the guards are taken
+abbrev pub Shown : Flat.Pipe → List Flat.Guard → List Flat.Branch → Type 0
+Shown p gs d = (path : List ℕ) → comes_by p path d ≡ true → all_hold gs path ≡ true
+
+-- the `if` that makes stage s a fork on x, under guards that are taken on each path that comes to the stage
+pub record ForkSite (p : Flat.Pipe) (s x : ℕ) (t : Site) : Type 0 where
   pub span : Span
   pub condition : Expr
   pub when : Stmts
@@ -26,12 +33,17 @@ pub record ForkSite (s x : ℕ) (t : Site) : Type 0 where
   pub stage : t.walk.stage ≡ s
   pub begun : t.walk.begun ≡ s
   pub var : guard_of t.walk.vars condition ≡ x
-  pub top : t.branches ≡ []
+  pub shown : Shown p t.gs (stage_at p s).branches
 
 -- something that holds of some site
 abbrev pub Some_site : (Site → Type 0) → List Site → Type 0
 Some_site P [] = ⊥
 Some_site P (t ∷ ts) = P t ⊎ Some_site P ts
+
+some_left : (P : Site → Type 0) (xs ys : List Site) → Some_site P xs → Some_site P (xs ++ ys)
+some_left P [] ys h = absurd h
+some_left P (x ∷ xs) ys (inl h) = inl h
+some_left P (x ∷ xs) ys (inr h) = inr (some_left P xs ys h)
 
 some_right : (P : Site → Type 0) (xs ys : List Site) → Some_site P ys → Some_site P (xs ++ ys)
 some_right P [] ys h = h
@@ -50,104 +62,206 @@ fork_var (Flat.Goes to) = None
 fork_var (Flat.Forks x a b) = Some x
 
 none_one : (x : ℕ) → None ≡ Some x → ⊥
-none_one x e = at None refl e
+none_one x e = cc
+
+-- the guard of a branch is taken on each path that goes by the branch
+shown_side : (p : Flat.Pipe) (gs : List Flat.Guard) (d : List Flat.Branch) (k x a b : ℕ) (first : Bool) → Forked p d k x a b → Shown p gs d
+    → Shown p (gs ++ record { var = x; first = first } ∷ []) (side k first ∷ d)
+shown_side p gs d k x a b first fork h path on =
+    let parts = and_parts (goes_by p (side k first) path) (comes_by p path d) on in
+    both gs (h path parts.1) (turn first (slice_index path x) (sym (ap (λ n. on_side n first path) fork.next) ∙ parts.0))
   where
-    at : (o : Option ℕ) → o ≡ None → o ≡ Some x → ⊥
-    at None e f = cc
-    at (Some y) e f = cc
+    both : (gs : List Flat.Guard) → all_hold gs path ≡ true → takes_branch first (slice_index path x) ≡ true
+        → all_hold (gs ++ record { var = x; first = first } ∷ []) path ≡ true
+    both [] i j = and_from (takes_branch first (slice_index path x)) true j refl
+    both (g ∷ gs) i j =
+        let parts = and_parts (takes_branch g.first (slice_index path g.var)) (all_hold gs path) i in
+        and_from (takes_branch g.first (slice_index path g.var)) (all_hold (gs ++ record { var = x; first = first } ∷ []) path) parts.0 (both gs parts.1 j)
 
-leads_none : (s m n : ℕ) → fork_var (leads s (Flat.Goes m) n) ≡ None
-leads_none s m zero = refl
-leads_none s m (suc n) = refl
+    turn : (first : Bool) (v : ℕ) → (if first then v == 1 else not (v == 1)) ≡ true → takes_branch first v ≡ true
+    turn true v e = e
+    turn false v e = e
 
--- Fork sites from stage k on
-pub fork_sites : (p : Flat.Pipe) (ms : List Mem) (k : ℕ) (merges : Option ℕ) (front : List Place) (w : Flatten.Position) (ss : Stmts)
-    → w.stage ≡ w.begun → w.begun ≡ k → is_forked ss ≡ true → Groups p k merges (shape ms ss w) → (s x : ℕ) → k ≤ s
-    → fork_var (stage_at p s).next ≡ Some x → Some_site (ForkSite s x) (sites ms front w [] [] ss)
-fork_sites p ms k merges front w Nil e i h g s x low f = at (cases_lt k s)
-  where
-    at : (k < s) ⊎ (s ≤ k) → ⊥
-    at (inl l) = none_one x (ap (λ (y : Flat.Stage). fork_var y.next) (sym (past_trunk p s (let z = g.1 in omega arith))) ∙ f)
-    at (inr l) = none_one x (ap (λ (y : Flat.Stage). fork_var y.next) (sym g.0) ∙ ap (λ n. fork_var (stage_at p n).next) (let z : k ≡ s = omega arith in z) ∙ f)
-fork_sites p ms k merges front w (Cons (Separator sp) ss) e i h g s x low f =
-    inr
-    (at (cases_lt k s)
-    (λ l. fork_sites p ms (suc k) None (front ++ Statement (Separator sp) [] ∷ []) (past ms (Separator sp) w) ss refl (ap suc i) h g.1 s x l f))
-  where
-    at : (k < s) ⊎ (s ≤ k)
-        → (suc k ≤ s → Some_site (ForkSite s x) (sites ms (front ++ Statement (Separator sp) [] ∷ []) (past ms (Separator sp) w) [] [] ss))
-        → Some_site (ForkSite s x) (sites ms (front ++ Statement (Separator sp) [] ∷ []) (past ms (Separator sp) w) [] [] ss)
-    at (inl l) more = more (omega arith)
-    at (inr l) more =
-        absurd (none_one x (ap (λ (y : Flat.Stage). fork_var y.next) (sym g.0) ∙ ap (λ n. fork_var (stage_at p n).next) (let z : k ≡ s = omega arith in z) ∙ f))
-fork_sites p ms k merges front w (Cons (If sp c when otherwise) (Cons (Separator sq) ss)) e i h g s x low f =
-    at (is_whole when otherwise) refl g
-    (λ j merge begun shapes l. fork_sites p ms j merge ((front ++ with_inner [] (If sp c when otherwise)) ++ Statement (Separator sq) [] ∷ [])
-    (past ms (Separator sq) (past ms (If sp c when otherwise) w)) ss refl begun
-    (and_parts (fork_fits (is_whole when otherwise) when otherwise (Cons (Separator sq) ss)) (is_forked ss) h).1 shapes s x l f)
-  where
-    begun : (past ms (If sp c when otherwise) w).begun ≡ w.begun + (separators when + separators otherwise)
-    begun = past_begun ms (If sp c when otherwise) w
+mutual
+  -- a stage of statements that begin stage k, which forks on x, has such an `if`
+  pub fork_sites : (p : Flat.Pipe) (ms : List Mem) (d : List Flat.Branch) (exit : Flat.Next) (k : ℕ) (merges : Option ℕ)
+      (front : List Place) (w : Flatten.Position)
+      (gs : List Flat.Guard) (bs : List Branch) (ss : Stmts)
+      → w.stage ≡ w.begun → w.begun ≡ k → is_forked ss ≡ true → Groups p d exit k merges (shape ms ss w)
+      → k + size (shape ms ss w) ≤ length p.stages → fork_var exit ≡ None → Shown p gs d → (s x : ℕ) → k ≤ s → s < k + size (shape ms ss w)
+      → fork_var (stage_at p s).next ≡ Some x → Some_site (ForkSite p s x) (sites ms front w gs bs ss)
+  fork_sites p ms d exit k merges front w gs bs Nil e i h g l z q s x low high f =
+      none_one x (sym z ∙ ap (λ (y : Flat.Stage). fork_var y.next) (sym g) ∙ ap (λ n. fork_var (stage_at p n).next) (let y : k ≡ s = omega arith in y) ∙ f)
+  fork_sites p ms d exit k merges front w gs bs (Cons (Separator sp) ss) e i h g l z q s x low high f =
+      inr
+      (at (cases_lt k s)
+      (λ m. fork_sites p ms d exit (suc k) None (front ++ Statement (Separator sp) bs ∷ []) (past ms (Separator sp) w) gs bs ss
+      refl (ap suc i) h g.1 (omega arith) z q s x m (omega arith) f))
+    where
+      at : (k < s) ⊎ (s ≤ k)
+          → (suc k ≤ s → Some_site (ForkSite p s x) (sites ms (front ++ Statement (Separator sp) bs ∷ []) (past ms (Separator sp) w) gs bs ss))
+          → Some_site (ForkSite p s x) (sites ms (front ++ Statement (Separator sp) bs ∷ []) (past ms (Separator sp) w) gs bs ss)
+      at (inl m) more = more (omega arith)
+      at (inr m) more =
+          absurd
+          (none_one x (ap (λ (y : Flat.Stage). fork_var y.next) (sym g.0) ∙ ap (λ n. fork_var (stage_at p n).next) (let y : k ≡ s = omega arith in y) ∙ f))
+  fork_sites p ms d exit k merges front w gs bs (Cons (If sp c when otherwise) (Cons (Separator sq) ss)) e i h g l z q s x low high f =
+      at (is_whole when otherwise) refl parts.0 g l high
+      (λ fork late sides inside m n. fork_side p ms (side k true ∷ d)
+      (Flat.Goes (merge_at k (long (side_shape ms when (with_guard c w))) (long (side_shape ms otherwise (at_otherwise ms c when w))))) k
+      (front ++ Statement (If sp c when otherwise) bs ∷ []) (with_guard c w)
+      (under gs w.vars c true) (bs ++ branch sp c true when ∷ []) when (guard_begun c w ∙ i) late sides inside refl
+      (shown_side p gs d k (guard_of w.vars c) (long (side_shape ms when (with_guard c w)))
+      (long (side_shape ms otherwise (at_otherwise ms c when w))) true fork q) s x m n f)
+      (λ fork late sides inside begun m n. fork_side p ms (side k false ∷ d)
+      (Flat.Goes (merge_at k (long (side_shape ms when (with_guard c w))) (long (side_shape ms otherwise (at_otherwise ms c when w)))))
+      (k + long (side_shape ms when (with_guard c w)))
+      (front ++ Statement (If sp c when otherwise) bs ∷ statements (bs ++ branch sp c true when ∷ []) when) (at_otherwise ms c when w)
+      (under gs w.vars c false) (bs ++ branch sp c false otherwise ∷ []) otherwise begun late sides inside refl
+      (shown_side p gs d k (guard_of w.vars c) (long (side_shape ms when (with_guard c w)))
+      (long (side_shape ms otherwise (at_otherwise ms c when w))) false fork q) s x m n f)
+      (λ j merge begun groups inside m n. fork_sites p ms d exit j merge ((front ++ with_inner bs (If sp c when otherwise)) ++ Statement (Separator sq) bs ∷ [])
+      (past ms (Separator sq) (past ms (If sp c when otherwise) w)) gs bs ss refl begun parts.1 groups inside z q s x m n f)
+    where
+      parts : ((is_whole when otherwise || (true && (is_late when && is_late otherwise))) ≡ true) × (is_forked ss ≡ true)
+      parts = and_parts (is_whole when otherwise || (true && (is_late when && is_late otherwise))) (is_forked ss) h
 
-    after : Some_site (ForkSite s x)
-        (sites ms ((front ++ with_inner [] (If sp c when otherwise)) ++ Statement (Separator sq) [] ∷ [])
-        (past ms (Separator sq) (past ms (If sp c when otherwise) w)) [] [] ss)
-        → Some_site (ForkSite s x) (sites ms front w [] [] (Cons (If sp c when otherwise) (Cons (Separator sq) ss)))
-    after r = some_right (ForkSite s x) (sites_in ms front w [] [] (If sp c when otherwise)) _ (inr r)
+      begun : (past ms (If sp c when otherwise) w).begun ≡ w.begun + (separators when + separators otherwise)
+      begun = past_begun ms (If sp c when otherwise) w
 
-    at : (b : Bool) → is_whole when otherwise ≡ b → Groups p k merges (either_shape ms sp c when otherwise sq ss w b)
-        → ((j : ℕ) (merge : Option ℕ) → suc (past ms (If sp c when otherwise) w).begun ≡ j
-        → Groups p j merge (rest_shape ms sp c when otherwise sq ss w) → j ≤ s
-        → Some_site (ForkSite s x)
-        (sites ms ((front ++ with_inner [] (If sp c when otherwise)) ++ Statement (Separator sq) [] ∷ [])
-        (past ms (Separator sq) (past ms (If sp c when otherwise) w)) [] [] ss))
-        → Some_site (ForkSite s x) (sites ms front w [] [] (Cons (If sp c when otherwise) (Cons (Separator sq) ss)))
-    at true whole g more = turn (cases_lt k s)
-      where
-        turn : (k < s) ⊎ (s ≤ k) → Some_site (ForkSite s x) (sites ms front w [] [] (Cons (If sp c when otherwise) (Cons (Separator sq) ss)))
-        turn (inl l) = after (more (suc k) None (let none = none_of_whole when otherwise whole in let z = begun in omega arith) g.1 (omega arith))
-        turn (inr l) =
-            absurd
-            (none_one x (ap (λ (y : Flat.Stage). fork_var y.next) (sym g.0) ∙ ap (λ n. fork_var (stage_at p n).next) (let z : k ≡ s = omega arith in z) ∙ f))
-    at false some g more = turn (cases_lt k s)
-      where
-        fork : Forked p k (guard_of w.vars c) (separators when) (separators otherwise)
-        fork = group_fork p k merges (guard_of w.vars c) (separators when) (separators otherwise) (rest_shape ms sp c when otherwise sq ss w) g
+      after : Some_site (ForkSite p s x) (sites ms ((front ++ with_inner bs (If sp c when otherwise)) ++ Statement (Separator sq) bs ∷ [])
+          (past ms (Separator sq) (past ms (If sp c when otherwise) w)) gs bs ss)
+          → Some_site (ForkSite p s x) (sites ms front w gs bs (Cons (If sp c when otherwise) (Cons (Separator sq) ss)))
+      after r = some_right (ForkSite p s x) (sites_in ms front w gs bs (If sp c when otherwise)) _ (inr r)
 
-        later : k < s
-            → (s < merge_at k (separators when) (separators otherwise)) ⊎ (merge_at k (separators when) (separators otherwise) ≤ s)
-            → Some_site (ForkSite s x) (sites ms front w [] [] (Cons (If sp c when otherwise) (Cons (Separator sq) ss)))
-        later l (inl m) =
-            let r = between_in p k (guard_of w.vars c) (separators when) (separators otherwise) s fork l m in
-            absurd
-            (none_one x
-            (sym (leads_none _ _ r.2) ∙ ap (λ (y : Flat.Stage). fork_var y.next) (sym (fork.chain r.0 r.1 r.2 r.3))
-            ∙ ap (λ n. fork_var (stage_at p n).next) (sym r.4) ∙ f))
-        later l (inr m) = after (more (merge_at k (separators when) (separators otherwise)) (Some k) (let z = begun in omega arith) g.4 m)
+      at : (b : Bool) → is_whole when otherwise ≡ b → (b || (true && (is_late when && is_late otherwise))) ≡ true
+          → Groups p d exit k merges (either_shape ms sp c when otherwise sq ss w b)
+          → k + size (either_shape ms sp c when otherwise sq ss w b) ≤ length p.stages
+          → s < k + size (either_shape ms sp c when otherwise sq ss w b)
+          →
+          (Forked p d k (guard_of w.vars c) (long (side_shape ms when (with_guard c w))) (long (side_shape ms otherwise (at_otherwise ms c when w)))
+          → is_late when ≡ true
+          → Sides p (side k true ∷ d) (Flat.Goes (merge_at k (long (side_shape ms when (with_guard c w)))
+          (long (side_shape ms otherwise (at_otherwise ms c when w))))) k (side_shape ms when (with_guard c w))
+          → suc (k + long (side_shape ms when (with_guard c w))) ≤ length p.stages → k < s → s ≤ k + long (side_shape ms when (with_guard c w)) → Some_site
+          (ForkSite p s x)
+          (sites ms (front ++ Statement (If sp c when otherwise) bs ∷ []) (with_guard c w) (under gs w.vars c true) (bs ++ branch sp c true when ∷ []) when))
+          →
+          (Forked p d k (guard_of w.vars c) (long (side_shape ms when (with_guard c w))) (long (side_shape ms otherwise (at_otherwise ms c when w)))
+          → is_late otherwise ≡ true
+          → Sides p (side k false ∷ d) (Flat.Goes (merge_at k (long (side_shape ms when (with_guard c w)))
+          (long (side_shape ms otherwise (at_otherwise ms c when w))))) (k + long (side_shape ms when (with_guard c w)))
+          (side_shape ms otherwise (at_otherwise ms c when w))
+          → suc (k + long (side_shape ms when (with_guard c w)) + long (side_shape ms otherwise (at_otherwise ms c when w))) ≤ length p.stages
+          → (at_otherwise ms c when w).begun ≡ k + long (side_shape ms when (with_guard c w))
+          → k + long (side_shape ms when (with_guard c w)) < s
+          → s ≤ k + long (side_shape ms when (with_guard c w)) + long (side_shape ms otherwise (at_otherwise ms c when w))
+          → Some_site (ForkSite p s x) (sites ms (front ++ Statement (If sp c when otherwise) bs ∷ statements (bs ++ branch sp c true when ∷ []) when)
+          (at_otherwise ms c when w) (under gs w.vars c false) (bs ++ branch sp c false otherwise ∷ []) otherwise))
+          → ((j : ℕ) (merge : Option ℕ) → suc (past ms (If sp c when otherwise) w).begun ≡ j
+          → Groups p d exit j merge (rest_shape ms sp c when otherwise sq ss w)
+          → j + size (rest_shape ms sp c when otherwise sq ss w) ≤ length p.stages
+          → j ≤ s → s < j + size (rest_shape ms sp c when otherwise sq ss w) → Some_site (ForkSite p s x)
+          (sites ms ((front ++ with_inner bs (If sp c when otherwise)) ++ Statement (Separator sq) bs ∷ [])
+          (past ms (Separator sq) (past ms (If sp c when otherwise) w)) gs bs ss))
+          → Some_site (ForkSite p s x) (sites ms front w gs bs (Cons (If sp c when otherwise) (Cons (Separator sq) ss)))
+      at true whole fits g l high one two more = turn (cases_lt k s)
+        where
+          turn : (k < s) ⊎ (s ≤ k) → Some_site (ForkSite p s x) (sites ms front w gs bs (Cons (If sp c when otherwise) (Cons (Separator sq) ss)))
+          turn (inl m) =
+              after
+              (more (suc k) None (let none = none_of_whole when otherwise whole in let y = begun in omega arith) g.1 (omega arith) (omega arith) (omega arith))
+          turn (inr m) =
+              absurd
+              (none_one x (ap (λ (y : Flat.Stage). fork_var y.next) (sym g.0) ∙ ap (λ n. fork_var (stage_at p n).next) (let y : k ≡ s = omega arith in y) ∙ f))
+      at false some fits g l high one two more =
+          turn (cases_lt k s) (cases_lt (k + long (side_shape ms when (with_guard c w))) s)
+          (cases_lt s (merge_at k (long (side_shape ms when (with_guard c w))) (long (side_shape ms otherwise (at_otherwise ms c when w)))))
+        where
+          late : (is_late when ≡ true) × (is_late otherwise ≡ true)
+          late = and_parts (is_late when) (is_late otherwise) fits
 
-        turn : (k < s) ⊎ (s ≤ k) → Some_site (ForkSite s x) (sites ms front w [] [] (Cons (If sp c when otherwise) (Cons (Separator sq) ss)))
-        turn (inl l) = later l (cases_lt s (merge_at k (separators when) (separators otherwise)))
-        turn (inr l) =
-            let same : k ≡ s = omega arith in
-            inl (record {
-              span = sp;
-              condition = c;
-              when = when;
-              otherwise = otherwise;
-              is = refl;
-              stage = e ∙ i ∙ same;
-              begun = i ∙ same;
-              var = ap (λ o. unwrap_or o 0) (ap (λ (y : Flat.Stage). fork_var y.next) (sym g.0) ∙ ap (λ n. fork_var (stage_at p n).next) same ∙ f);
-              top = refl;
-            })
-fork_sites p ms k merges front w (Cons (If sp c when otherwise) ss) e i h g s x low f =
-    let parts = and_parts (fork_fits (is_whole when otherwise) when otherwise ss) (is_forked ss) h in
-    let none = none_of_whole when otherwise (fitting when otherwise ss refl (is_whole when otherwise) parts.0) in
-    let z = past_begun ms (If sp c when otherwise) w in
-    some_right (ForkSite s x) (sites_in ms front w [] [] (If sp c when otherwise)) _
-    (fork_sites p ms k merges (front ++ with_inner [] (If sp c when otherwise))
-    (past ms (If sp c when otherwise) w) ss (omega arith) (omega arith) parts.1 g s x low f)
-fork_sites p ms k merges front w (Cons t ss) e i h g s x low f = inr (fork_sites p ms k merges (front ++ with_inner [] t) (past ms t w) ss e i h g s x low f)
+          fork : Forked p d k (guard_of w.vars c) (long (side_shape ms when (with_guard c w))) (long (side_shape ms otherwise (at_otherwise ms c when w)))
+          fork =
+              group_fork p d exit k merges (guard_of w.vars c) (side_shape ms when (with_guard c w)) (side_shape ms otherwise (at_otherwise ms c when w))
+              (rest_shape ms sp c when otherwise sq ss w) g l
+
+          second : (at_otherwise ms c when w).begun ≡ k + long (side_shape ms when (with_guard c w))
+          second =
+              let l1 = long_is ms when (with_guard c w) late.0 in
+              let b1 = guard_begun c w in
+              let b2 = past_all_begun ms when (with_guard c w) in
+              omega arith
+
+          merged : suc (past ms (If sp c when otherwise) w).begun ≡ (merge_at k (long (side_shape ms when (with_guard c w)))
+              (long (side_shape ms otherwise (at_otherwise ms c when w))))
+          merged =
+              let l1 = long_is ms when (with_guard c w) late.0 in
+              let l2 = long_is ms otherwise (at_otherwise ms c when w) late.1 in
+              let b = begun in
+              omega arith
+
+          turn : (k < s) ⊎ (s ≤ k)
+              → (k + long (side_shape ms when (with_guard c w)) < s) ⊎ (s ≤ k + long (side_shape ms when (with_guard c w)))
+              → (s < (merge_at k (long (side_shape ms when (with_guard c w))) (long (side_shape ms otherwise (at_otherwise ms c when w)))))
+              ⊎ ((merge_at k (long (side_shape ms when (with_guard c w))) (long (side_shape ms otherwise (at_otherwise ms c when w)))) ≤ s)
+              → Some_site (ForkSite p s x) (sites ms front w gs bs (Cons (If sp c when otherwise) (Cons (Separator sq) ss)))
+          turn (inl m) (inr n) o =
+              some_left (ForkSite p s x) (sites_in ms front w gs bs (If sp c when otherwise)) _
+              (inr (some_left (ForkSite p s x)
+              (sites ms (front ++ Statement (If sp c when otherwise) bs ∷ []) (with_guard c w) (under gs w.vars c true)
+              (bs ++ branch sp c true when ∷ []) when) _ (one fork late.0 g.2 (omega arith) m n)))
+          turn (inl m) (inl n) (inl o) =
+              some_left (ForkSite p s x) (sites_in ms front w gs bs (If sp c when otherwise)) _
+              (inr (some_right (ForkSite p s x)
+              (sites ms (front ++ Statement (If sp c when otherwise) bs ∷ []) (with_guard c w) (under gs w.vars c true)
+              (bs ++ branch sp c true when ∷ []) when) _ (two fork late.1 g.3 (omega arith) second n (omega arith))))
+          turn (inl m) (inl n) (inr o) =
+              after
+              (more (merge_at k (long (side_shape ms when (with_guard c w))) (long (side_shape ms otherwise (at_otherwise ms c when w)))) (Some k) merged g.4
+              (omega arith) o (omega arith))
+          turn (inr m) n o =
+              let same : k ≡ s = omega arith in
+              inl (record {
+                span = sp;
+                condition = c;
+                when = when;
+                otherwise = otherwise;
+                is = refl;
+                stage = e ∙ i ∙ same;
+                begun = i ∙ same;
+                var = ap (λ o. unwrap_or o 0) (ap (λ (y : Flat.Stage). fork_var y.next) (sym g.0) ∙ ap (λ n. fork_var (stage_at p n).next) same ∙ f);
+                shown = λ path on. q path (ap (comes_by p path) (sym fork.home ∙ ap (λ n. (stage_at p n).branches) same) ∙ on);
+              })
+  fork_sites p ms d exit k merges front w gs bs (Cons (If sp c when otherwise) ss) e i h g l z q s x low high f =
+      let parts = and_parts (is_whole when otherwise || (begins_stage ss && (is_late when && is_late otherwise))) (is_forked ss) h in
+      let none = none_of_whole when otherwise (fitting when otherwise ss refl (is_whole when otherwise) parts.0) in
+      let y = past_begun ms (If sp c when otherwise) w in
+      some_right (ForkSite p s x) (sites_in ms front w gs bs (If sp c when otherwise)) _
+      (fork_sites p ms d exit k merges (front ++ with_inner bs (If sp c when otherwise))
+      (past ms (If sp c when otherwise) w) gs bs ss (omega arith) (omega arith) parts.1 g l z q s x low high f)
+  fork_sites p ms d exit k merges front w gs bs (Cons t ss) e i h g l z q s x low high f =
+      inr (fork_sites p ms d exit k merges (front ++ with_inner bs t) (past ms t w) gs bs ss e i h g l z q s x low high f)
+
+  fork_side : (p : Flat.Pipe) (ms : List Mem) (d : List Flat.Branch) (exit : Flat.Next) (j : ℕ) (front : List Place) (w : Flatten.Position)
+      (gs : List Flat.Guard) (bs : List Branch) (ss : Stmts)
+      → w.begun ≡ j → is_late ss ≡ true → Sides p d exit j (side_shape ms ss w)
+      → suc (j + long (side_shape ms ss w)) ≤ length p.stages → fork_var exit ≡ None → Shown p gs d → (s x : ℕ) → j < s → s ≤ j + long (side_shape ms ss w)
+      → fork_var (stage_at p s).next ≡ Some x → Some_site (ForkSite p s x) (sites ms front w gs bs ss)
+  fork_side p ms d exit j front w gs bs Nil i h g l z q s x low high f = absurd (omega arith)
+  fork_side p ms d exit j front w gs bs (Cons (Separator sp) ss) i h g l z q s x low high f =
+      inr
+      (fork_sites p ms d exit (suc j) None (front ++ Statement (Separator sp) bs ∷ []) (past ms (Separator sp) w) gs bs ss refl (ap suc i) h g
+      (omega arith) z q s x low (omega arith) f)
+  fork_side p ms d exit j front w gs bs (Cons (If sp c when otherwise) ss) i h g l z q s x low high f =
+      let parts = and_parts (is_whole when otherwise) (is_late ss) h in
+      let none = none_of_whole when otherwise parts.0 in
+      let y = past_begun ms (If sp c when otherwise) w in
+      some_right (ForkSite p s x) (sites_in ms front w gs bs (If sp c when otherwise)) _
+      (fork_side p ms d exit j (front ++ with_inner bs (If sp c when otherwise))
+      (past ms (If sp c when otherwise) w) gs bs ss (omega arith) parts.1 g l z q s x low high f)
+  fork_side p ms d exit j front w gs bs (Cons t ss) i h g l z q s x low high f =
+      inr (fork_side p ms d exit j (front ++ with_inner bs t) (past ms t w) gs bs ss i h g l z q s x low high f)
 
 -- ORDER IN THE TEXT
 

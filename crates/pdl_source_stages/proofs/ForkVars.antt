@@ -4,11 +4,11 @@ use Rattle.std.proofs.lemmas.Bool.{false≢true, and_from, or_parts, or_left, or
 use Rattle.std.proofs.lemmas.List.Folds.{list_any-append}
 use Rattle.std.specs.List.{list_any}
 use Rattle.pdl_kit.specs.declared.rule.Rule.TheVariants.{N2}
-use Rattle.pdl_semantics.specs.Tree.{R, W, Variable, Stmt, Separator, CombRead, Bind, DelayedRead, Reserve, If, Mem, Pipe}
+use Rattle.pdl_semantics.specs.Tree.{Write, R, W, Variable, Stmt, Separator, CombRead, Bind, DelayedRead, Reserve, If, Mem, Pipe}
 use Rattle.pdl_semantics.specs.Flat
-use Rattle.pdl_semantics.specs.Flatten.{Var, var_of, with_guard, past, at_otherwise, at_start}
+use Rattle.pdl_semantics.specs.Flatten.{Var, var_of, with_guard, past, at_otherwise, at_start, is_advisory_mem, is_advised, read_op, bind_op, mem_of, flat_expr}
 use Rattle.pdl_semantics.specs.Flatten
-use Rattle.pdl_rules.specs.Places.{Place, Parameter, Memory, Statement, End, StartClause, Guard, with_inner, statements, places, choices}
+use Rattle.pdl_rules.specs.Places.{Place, Parameter, Memory, Statement, End, StartClause, with_inner, statements, places}
 use Rattle.pdl_rules.specs.Parts.{is_some_and}
 use Rattle.pdl_rules.specs.Limits.{is_separator}
 use Rattle.pdl_rules.specs.Names.{Use, OfVariable, defines_use, name_at, is_taken_name, is_delayed, is_given}
@@ -16,7 +16,7 @@ use Rattle.pdl_rules.specs.Refusal.{KeepsRules}
 use Rattle.pdl_theory_facts.specs.Scans.{none_of, binds_var}
 use Rattle.pdl_source_stages.proofs.Sites.{branch, sites_of, front_of, All}
 use Rattle.pdl_source_stages.proofs.Walks.{holds_all, guard_begun, guard_stage, past_begun, past_all_begun, cut, cut_append, names, names_at, told}
-use Rattle.pdl_source_stages.proofs.SiteFacts.{op_of, from_op}
+use Rattle.pdl_source_stages.proofs.SiteFacts.{op_of, from_op, write_none}
 use Rattle.pdl_word.proofs.Bytes.{bytes_same, bytes_swap}
 use Rattle.pdl_word.proofs.Lists.{some_filtered}
 use Rattle.pdl_semantics.specs.Sound.{stages_from}
@@ -121,8 +121,20 @@ defined_named x (d ∷ ds) e = list_any-append (bytes_eq x) (names_at d) (names 
 
 -- each statement binds the next variable
 pub bound_last : (ms : List Mem) (vs : List Var) (s : Stmt) (x : ℕ) → from_op (binds_var x) (op_of ms vs s) ≡ true → length vs ≡ x
-bound_last ms vs (CombRead sp y l) x e = eqb-true (length vs) x e
-bound_last ms vs (Bind sp y v) x e = eqb-true (length vs) x e
+bound_last ms vs (CombRead sp y l) x e = at (is_advisory_mem ms l.mem.name) e
+  where
+    at : (b : Bool) → binds_var x (read_op b (length vs) (mem_of ms l.mem.name) (var_of vs l.address.name)) ≡ true → length vs ≡ x
+    at true f = absurd (false≢true f)
+    at false f = eqb-true (length vs) x f
+bound_last ms vs (Bind sp y v) x e = at (is_advised vs v) e
+  where
+    at : (b : Bool) → binds_var x (bind_op b (length vs) (flat_expr vs v)) ≡ true → length vs ≡ x
+    at true f = absurd (false≢true f)
+    at false f = eqb-true (length vs) x f
+bound_last ms vs (Write sp l v) x e =
+    absurd
+    (false≢true (sym (write_none (binds_var x) (is_advisory_mem ms l.mem.name) (mem_of ms l.mem.name) (var_of vs l.address.name) (flat_expr vs v) refl refl)
+    ∙ e))
 bound_last ms vs (DelayedRead sp y l) x e = eqb-true (length vs) x e
 bound_last ms vs (If sp (Variable y) when otherwise) x e = absurd (false≢true e)
 bound_last ms vs (If sp c when otherwise) x e = eqb-true (length vs) x e
@@ -145,11 +157,6 @@ none_from test s (y ∷ ys) h = at (nat_le s y.stage) refl (none_from test s ys 
     at false e k = k
 
 -- PATHS AND DEFINITIONS
-
--- the path on which no guard is true is one of all
-pub empty_path : (test : List Guard → Bool) (gs : List Guard) → list_any test (choices gs) ≡ false → test [] ≡ false
-empty_path test [] e = (or_parts (test []) false e).0
-empty_path test (g ∷ gs) e = empty_path test gs (or_parts (list_any test (choices gs)) _ (sym (list_any-append test (choices gs) _) ∙ e)).0
 
 -- places none of which defines something give it on no path
 none_given : (u : Use) (test : Place → Bool) (xs : List Place) → list_any (defines_use u) xs ≡ false → is_given (filter test xs) u ≡ false

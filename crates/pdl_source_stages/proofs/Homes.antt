@@ -3,9 +3,11 @@ use Rattle.std.proofs.Common.{◌≡◌, refl, sym, ap, ap₂, ◌∙◌, subst,
 use Rattle.std.proofs.lemmas.Bool.{false≢true, and_parts, or_parts, not-false, eqb-false}
 use Rattle.std.specs.List.{list_any}
 use Rattle.pdl_kit.specs.declared.rule.Rule.TheVariants.{Z7, L2, S3, F3, F4}
-use Rattle.pdl_semantics.specs.Tree.{R, W, Variable, Stmt, DelayedRead, Reserve, Release, If, Mem, LockDecl, LockKind, Queue, Bypass, Rename, Pipe}
+use Rattle.pdl_semantics.specs.Tree.{R, W, Variable, Stmt, CombRead, Bind, Write, MemKind, Comb, Delayed, Advisory, DelayedRead, Reserve, Release, If, Mem, LockDecl, LockKind, Queue, Bypass, Rename, Pipe}
 use Rattle.pdl_semantics.specs.Flat
-use Rattle.pdl_semantics.specs.Flatten.{mem_of, mems_of, flat_lock, separators, first_stages, flat}
+use Rattle.pdl_semantics.specs.Flat.{is_delayed, is_advisory, list_all}
+use Rattle.pdl_semantics.specs.Promises.{fits_kind}
+use Rattle.pdl_semantics.specs.Flatten.{var_of, flat_expr, is_advisory_mem, is_advised, mem_of, mems_of, flat_lock, separators, first_stages, flat}
 use Rattle.pdl_semantics.specs.Flatten
 use Rattle.pdl_semantics.specs.Stages.{is_reserve, is_release, is_verify, verify_stage, reserve_stage, commit_stage, plain_mem, mem_at, in_stage}
 use Rattle.pdl_rules.specs.Places.{Place, Parameter, Memory, Statement, places, statements}
@@ -19,9 +21,9 @@ use Rattle.pdl_theory_facts.specs.Scans.{none_of, all_at}
 use Rattle.pdl_theory_facts.specs.Facts.{is_exact}
 use Rattle.pdl_source_stages.proofs.Sites.{Site, sites_of, place_of, All, front_of}
 use Rattle.pdl_source_stages.proofs.Walks.{cut, cut_append, cut_all, at_front}
-use Rattle.pdl_source_stages.proofs.BodyShape.{body_forked}
+use Rattle.pdl_source_stages.proofs.BodyShape.{body_forked, stage_count}
 use Rattle.pdl_source_stages.proofs.SiteStages.{all_both}
-use Rattle.pdl_source_stages.proofs.SiteFacts.{Fine, all_fine, AtSite, each_stmt, each_fine, each_in_stage, all_at_each, none_each, op_of, from_op, stage_count}
+use Rattle.pdl_source_stages.proofs.SiteFacts.{Fine, all_fine, AtSite, each_stmt, each_fine, each_in_stage, all_at_each, none_each, op_of, from_op, read_none, bind_none, write_none}
 use Rattle.pdl_source_stages.proofs.Trunks.{first_index, first_past, verify_first}
 use Rattle.pdl_source_stages.proofs.Firsts.{Alike, one_stage, none_elsewhere, is_known, known_low, known_one, located}
 use Rattle.pdl_word.proofs.Bytes.{bytes_same, bytes_refl}
@@ -58,6 +60,13 @@ reserve_alike p n k rules t h = at t.stmt refl
     at (Reserve sp l W) e = same_memory p.mems n l.mem.name k (located p rules t h l (ap location_of e))
     at (If sp (Variable x) when otherwise) e = refl
     at (If sp c when otherwise) e = refl
+    at (CombRead sp x l) e =
+        read_none (is_reserve (mem_of p.mems n)) (is_advisory_mem p.mems l.mem.name) (length t.walk.vars) (mem_of p.mems l.mem.name)
+        (var_of t.walk.vars l.address.name) refl refl
+    at (Bind sp x v) e = bind_none (is_reserve (mem_of p.mems n)) (is_advised t.walk.vars v) (length t.walk.vars) (flat_expr t.walk.vars v) refl refl
+    at (Write sp l v) e =
+        write_none (is_reserve (mem_of p.mems n)) (is_advisory_mem p.mems l.mem.name) (mem_of p.mems l.mem.name) (var_of t.walk.vars l.address.name)
+        (flat_expr t.walk.vars v) refl refl
     at s e = refl
 
 reserve_elsewhere : (p : Pipe) (n : List ℕ) → KeepsRules p → (t : Site) → Fine p t
@@ -81,6 +90,13 @@ release_alike p n k rules t h = at t.stmt refl
     at (Reserve sp l W) e = refl
     at (If sp (Variable x) when otherwise) e = refl
     at (If sp c when otherwise) e = refl
+    at (CombRead sp x l) e =
+        read_none (is_release (mem_of p.mems n)) (is_advisory_mem p.mems l.mem.name) (length t.walk.vars) (mem_of p.mems l.mem.name)
+        (var_of t.walk.vars l.address.name) refl refl
+    at (Bind sp x v) e = bind_none (is_release (mem_of p.mems n)) (is_advised t.walk.vars v) (length t.walk.vars) (flat_expr t.walk.vars v) refl refl
+    at (Write sp l v) e =
+        write_none (is_release (mem_of p.mems n)) (is_advisory_mem p.mems l.mem.name) (mem_of p.mems l.mem.name) (var_of t.walk.vars l.address.name)
+        (flat_expr t.walk.vars v) refl refl
     at s e = refl
 
 release_elsewhere : (p : Pipe) (n : List ℕ) → KeepsRules p → (t : Site) → Fine p t
@@ -147,6 +163,16 @@ module _ (p : Pipe) (rules : KeepsRules p) where
       at (Reserve sp l W) i g = (l.mem.name, located p rules t h l (ap location_of i), eqb-true (mem_of p.mems l.mem.name) m g, bytes_refl l.mem.name)
       at (If sp (Variable x) when otherwise) i g = absurd (false≢true g)
       at (If sp c when otherwise) i g = absurd (false≢true g)
+      at (CombRead sp x l) i g =
+          absurd
+          (false≢true (sym (read_none (is_reserve m) (is_advisory_mem p.mems l.mem.name) (length t.walk.vars) (mem_of p.mems l.mem.name)
+          (var_of t.walk.vars l.address.name) refl refl) ∙ g))
+      at (Bind sp x v) i g =
+          absurd (false≢true (sym (bind_none (is_reserve m) (is_advised t.walk.vars v) (length t.walk.vars) (flat_expr t.walk.vars v) refl refl) ∙ g))
+      at (Write sp l v) i g =
+          absurd
+          (false≢true (sym (write_none (is_reserve m) (is_advisory_mem p.mems l.mem.name) (mem_of p.mems l.mem.name) (var_of t.walk.vars l.address.name)
+          (flat_expr t.walk.vars v) refl refl) ∙ g))
       at s i g = absurd (false≢true g)
 
   release_named : (t : Site) → Fine p t → (m : ℕ) (op : Flat.Op) → op_of p.mems t.walk.vars t.stmt ≡ Some op
@@ -161,6 +187,16 @@ module _ (p : Pipe) (rules : KeepsRules p) where
       at (Reserve sp l W) i g = absurd (false≢true g)
       at (If sp (Variable x) when otherwise) i g = absurd (false≢true g)
       at (If sp c when otherwise) i g = absurd (false≢true g)
+      at (CombRead sp x l) i g =
+          absurd
+          (false≢true (sym (read_none (is_release m) (is_advisory_mem p.mems l.mem.name) (length t.walk.vars) (mem_of p.mems l.mem.name)
+          (var_of t.walk.vars l.address.name) refl refl) ∙ g))
+      at (Bind sp x v) i g =
+          absurd (false≢true (sym (bind_none (is_release m) (is_advised t.walk.vars v) (length t.walk.vars) (flat_expr t.walk.vars v) refl refl) ∙ g))
+      at (Write sp l v) i g =
+          absurd
+          (false≢true (sym (write_none (is_release m) (is_advisory_mem p.mems l.mem.name) (mem_of p.mems l.mem.name) (var_of t.walk.vars l.address.name)
+          (flat_expr t.walk.vars v) refl refl) ∙ g))
       at s i g = absurd (false≢true g)
 
   -- L2
@@ -241,6 +277,13 @@ module _ (p : Pipe) (rules : KeepsRules p) where
       at (Reserve sp l W) = refl
       at (If sp (Variable x) when otherwise) = refl
       at (If sp c when otherwise) = refl
+      at (CombRead sp x l) =
+          read_none (is_verify) (is_advisory_mem p.mems l.mem.name) (length t.walk.vars) (mem_of p.mems l.mem.name)
+          (var_of t.walk.vars l.address.name) refl refl
+      at (Bind sp x v) = bind_none (is_verify) (is_advised t.walk.vars v) (length t.walk.vars) (flat_expr t.walk.vars v) refl refl
+      at (Write sp l v) =
+          write_none (is_verify) (is_advisory_mem p.mems l.mem.name) (mem_of p.mems l.mem.name) (var_of t.walk.vars l.address.name)
+          (flat_expr t.walk.vars v) refl refl
       at s = refl
 
   verify_elsewhere : (t : Site) → Fine p t → Speculation.is_verify (place_of t) ≡ true → is_elsewhere Speculation.is_verify t.front t.walk.stage ≡ false
@@ -282,6 +325,13 @@ module _ (p : Pipe) (rules : KeepsRules p) where
       at (Reserve sp l W) e = refl
       at (If sp (Variable x) when otherwise) e = refl
       at (If sp c when otherwise) e = refl
+      at (CombRead sp x l) e =
+          read_none (is_fetch_of (mem_of p.mems n)) (is_advisory_mem p.mems l.mem.name) (length t.walk.vars) (mem_of p.mems l.mem.name)
+          (var_of t.walk.vars l.address.name) refl refl
+      at (Bind sp x v) e = bind_none (is_fetch_of (mem_of p.mems n)) (is_advised t.walk.vars v) (length t.walk.vars) (flat_expr t.walk.vars v) refl refl
+      at (Write sp l v) e =
+          write_none (is_fetch_of (mem_of p.mems n)) (is_advisory_mem p.mems l.mem.name) (mem_of p.mems l.mem.name) (var_of t.walk.vars l.address.name)
+          (flat_expr t.walk.vars v) refl refl
       at s e = refl
 
   fetch_elsewhere : (n : List ℕ) (t : Site) → Fine p t → breaks_fetch_order n (place_of t) ≡ true
@@ -309,6 +359,16 @@ module _ (p : Pipe) (rules : KeepsRules p) where
       at (Reserve sp l W) i g = absurd (false≢true g)
       at (If sp (Variable x) when otherwise) i g = absurd (false≢true g)
       at (If sp c when otherwise) i g = absurd (false≢true g)
+      at (CombRead sp x l) i g =
+          absurd
+          (false≢true (sym (read_none (is_fetch_of m) (is_advisory_mem p.mems l.mem.name) (length t.walk.vars) (mem_of p.mems l.mem.name)
+          (var_of t.walk.vars l.address.name) refl refl) ∙ g))
+      at (Bind sp x v) i g =
+          absurd (false≢true (sym (bind_none (is_fetch_of m) (is_advised t.walk.vars v) (length t.walk.vars) (flat_expr t.walk.vars v) refl refl) ∙ g))
+      at (Write sp l v) i g =
+          absurd
+          (false≢true (sym (write_none (is_fetch_of m) (is_advisory_mem p.mems l.mem.name) (mem_of p.mems l.mem.name) (var_of t.walk.vars l.address.name)
+          (flat_expr t.walk.vars v) refl refl) ∙ g))
       at s i g = absurd (false≢true g)
 
   each_fetch : Each (λ y. (m : ℕ) → is_fetch_of m y.op ≡ true → (m < length p.mems) × (Some y.stage ≡ Flatten.first_stage (is_fetch_of m) (flat p).stmts))
@@ -361,6 +421,16 @@ module _ (p : Pipe) (rules : KeepsRules p) where
       at t h (Reserve sp l W) e f g = false≢true f
       at t h (If sp (Variable x) when otherwise) e f g = false≢true f
       at t h (If sp c when otherwise) e f g = false≢true f
+      at t h (CombRead sp x l) e f g =
+          false≢true
+          (sym (read_none (is_fetch) (is_advisory_mem p.mems l.mem.name) (length t.walk.vars) (mem_of p.mems l.mem.name)
+          (var_of t.walk.vars l.address.name) refl refl) ∙ f)
+      at t h (Bind sp x v) e f g =
+          false≢true (sym (bind_none (is_fetch) (is_advised t.walk.vars v) (length t.walk.vars) (flat_expr t.walk.vars v) refl refl) ∙ f)
+      at t h (Write sp l v) e f g =
+          false≢true
+          (sym (write_none (is_fetch) (is_advisory_mem p.mems l.mem.name) (mem_of p.mems l.mem.name) (var_of t.walk.vars l.address.name)
+          (flat_expr t.walk.vars v) refl refl) ∙ f)
       at t h s e f g = false≢true f
 
   -- no delayed read stands in the last stage
@@ -392,14 +462,16 @@ module _ (p : Pipe) (rules : KeepsRules p) where
       kind Bypass d s i = absurd (false≢true i)
       kind Rename d s i = absurd (false≢true i)
 
-      lock : (o : Option LockDecl) → is_some_and (is_wrong_lock m) o ≡ false → m.delayed ≡ true → is_exact (flat_lock o) ≡ true
+      lock : (o : Option LockDecl) → is_some_and (is_wrong_lock m) o ≡ false → is_delayed m.kind ≡ true → is_exact (flat_lock o) ≡ true
       lock None i j = refl
       lock (Some l) i j =
           kind l.kind m.depth.value l.size.value
           (ap (λ b. allows_lock m.depth.value b l.kind l.size.value) (sym j)
-          ∙ (and_parts (is_size l.size.value) (allows_lock m.depth.value m.delayed l.kind l.size.value) (not-false _ i)).1)
+          ∙
+          (and_parts (is_size l.size.value) (allows_lock m.depth.value (is_delayed m.kind) l.kind l.size.value)
+          (not-false _ (or_parts (is_advisory m.kind) _ i).1)).1)
 
-      at : (b : Bool) → (if b then m.delayed else is_delayed_memory ms n) ≡ true
+      at : (b : Bool) → (if b then is_delayed m.kind else is_delayed_memory ms n) ≡ true
           → (is_delayed_memory ms n ≡ true → is_exact (slice_index_or (mems_of ms) (mem_of ms n) plain_mem).lock ≡ true)
           → is_exact (slice_index_or (mems_of (m ∷ ms)) (if b then 0 else suc (mem_of ms n)) plain_mem).lock ≡ true
       at true i k =
@@ -429,4 +501,87 @@ module _ (p : Pipe) (rules : KeepsRules p) where
       at t h (Reserve sp l W) e m f = absurd (false≢true f)
       at t h (If sp (Variable x) when otherwise) e m f = absurd (false≢true f)
       at t h (If sp c when otherwise) e m f = absurd (false≢true f)
+      at t h (CombRead sp x l) e m f =
+          absurd
+          (false≢true (sym (read_none (is_fetch_of m) (is_advisory_mem p.mems l.mem.name) (length t.walk.vars) (mem_of p.mems l.mem.name)
+          (var_of t.walk.vars l.address.name) refl refl) ∙ f))
+      at t h (Bind sp x v) e m f =
+          absurd (false≢true (sym (bind_none (is_fetch_of m) (is_advised t.walk.vars v) (length t.walk.vars) (flat_expr t.walk.vars v) refl refl) ∙ f))
+      at t h (Write sp l v) e m f =
+          absurd
+          (false≢true (sym (write_none (is_fetch_of m) (is_advisory_mem p.mems l.mem.name) (mem_of p.mems l.mem.name) (var_of t.walk.vars l.address.name)
+          (flat_expr t.walk.vars v) refl refl) ∙ f))
       at t h s e m f = absurd (false≢true f)
+
+  -- F4: a statement takes a memory by its kind
+  advisory_is : (ms : List Mem) (n : List ℕ) → is_advisory (slice_index_or (mems_of ms) (mem_of ms n) plain_mem).kind ≡ Flatten.is_advisory_mem ms n
+  advisory_is [] n = refl
+  advisory_is (m ∷ ms) n = at (bytes_eq m.name.name n) (advisory_is ms n)
+    where
+      at : (b : Bool) → is_advisory (slice_index_or (mems_of ms) (mem_of ms n) plain_mem).kind ≡ Flatten.is_advisory_mem ms n
+          → is_advisory (slice_index_or (mems_of (m ∷ ms)) (if b then 0 else suc (mem_of ms n)) plain_mem).kind
+          ≡ (if b then is_advisory m.kind else Flatten.is_advisory_mem ms n)
+      at true k = refl
+      at false k = k
+
+  slow_plain : (ms : List Mem) (n : List ℕ) → is_delayed_memory ms n ≡ true → Flatten.is_advisory_mem ms n ≡ false
+  slow_plain [] n h = absurd (false≢true h)
+  slow_plain (m ∷ ms) n h = at (bytes_eq m.name.name n) h (slow_plain ms n)
+    where
+      kind : (k : MemKind) → is_delayed k ≡ true → is_advisory k ≡ false
+      kind Comb i = refl
+      kind Delayed i = refl
+      kind Advisory i = absurd (false≢true i)
+
+      at : (b : Bool)
+          → (if b then is_delayed m.kind else is_delayed_memory ms n) ≡ true
+          → (is_delayed_memory ms n ≡ true → Flatten.is_advisory_mem ms n ≡ false)
+          → (if b then is_advisory m.kind else Flatten.is_advisory_mem ms n) ≡ false
+      at true i k = kind m.kind i
+      at false i k = k i
+
+  -- of what a site does
+  abbrev fits_some : Option Flat.Op → Bool
+  fits_some None = true
+  fits_some (Some op) = fits_kind (flat p) op
+
+  -- each flat statement takes its memory by its kind
+  pub advice_fits : Each (λ y. fits_kind (flat p) y.op ≡ true) (flat p).stmts
+  advice_fits = each_fine p rules (λ y. fits_kind (flat p) y.op ≡ true) (λ t h op e. sym (ap fits_some e) ∙ at t h t.stmt refl)
+    where
+      read : (b : Bool) (n : List ℕ) (x a : ℕ) → Flatten.is_advisory_mem p.mems n ≡ b → fits_kind (flat p) (Flatten.read_op b x (mem_of p.mems n) a) ≡ true
+      read true n x a i = refl
+      read false n x a i = ap not (advisory_is p.mems n ∙ i)
+
+      written : (b : Bool) (n : List ℕ) (a : ℕ) (v : Flat.Expr)
+          → Flatten.is_advisory_mem p.mems n ≡ b → fits_kind (flat p) (Flatten.write_op b (mem_of p.mems n) a v) ≡ true
+      written true n a v i = advisory_is p.mems n ∙ i
+      written false n a v i = refl
+
+      bound : (b : Bool) (x : ℕ) (v : Flat.Expr) → fits_kind (flat p) (Flatten.bind_op b x v) ≡ true
+      bound true x v = refl
+      bound false x v = refl
+
+      at : (t : Site) → Fine p t → (s : Stmt) → t.stmt ≡ s → fits_some (op_of p.mems t.walk.vars s) ≡ true
+      at t h (CombRead sp x l) e = read (Flatten.is_advisory_mem p.mems l.mem.name) l.mem.name _ _ refl
+      at t h (Bind sp x v) e = bound (Flatten.is_advised t.walk.vars v) _ _
+      at t h (Write sp l v) e = written (Flatten.is_advisory_mem p.mems l.mem.name) l.mem.name _ _ refl
+      at t h (DelayedRead sp x l) e =
+          ap not
+          (advisory_is p.mems l.mem.name
+          ∙ slow_plain p.mems l.mem.name
+          (not-false _ (rules F4 t.front (Statement (DelayedRead sp x l) t.branches) h.later
+          (h.whole ∙ ap (λ s. t.front ++ Statement s t.branches ∷ h.later) e))))
+      at t h (Reserve sp l R) e = refl
+      at t h (Reserve sp l W) e = refl
+      at t h (If sp (Variable x) when otherwise) e = refl
+      at t h (If sp c when otherwise) e = refl
+      at t h s e = refl
+
+  -- so the flat form does
+  pub advice : list_all (λ y. fits_kind (flat p) y.op) (flat p).stmts ≡ true
+  advice = all_each (flat p).stmts advice_fits
+    where
+      all_each : (ys : List Flat.Stmt) → Each (λ y. fits_kind (flat p) y.op ≡ true) ys → list_all (λ y. fits_kind (flat p) y.op) ys ≡ true
+      all_each [] h = refl
+      all_each (y ∷ ys) h = ap₂ (λ a b. a && b) h.0 (all_each ys h.1)

@@ -3,6 +3,7 @@ pub mod Walks
 pub mod Shapes
 pub mod Spots
 pub mod Ways
+pub mod TextStages
 pub mod BodyShape
 pub mod SiteStages
 pub mod StatementStages

@@ -1,26 +1,20 @@
 -- On each path the stages visited are 0 and then those begun by the separators of that path, in text order.
-use Rattle.std.proofs.Common.{◌≡◌, refl, sym, ap, ap₂, ◌∙◌, ℕ, zero, suc, ◌+◌, ◌-◌, ◌≤◌, Bool, true, false, List, [], ◌∷◌, ◌++◌, length, Option, Some, None, arith, if◌then◌else◌, ◌==◌, slice_index}
-use Rattle.std.proofs.lemmas.Bool.{false≢true, and_parts}
+use Rattle.std.proofs.Common.{◌≡◌, refl, sym, ap, ap₂, ◌∙◌, ℕ, zero, suc, ◌+◌, ◌-◌, ◌≤◌, Bool, true, false, ◌&&◌, ◌||◌, List, [], ◌∷◌, ◌++◌, length, length-append, append_assoc, append-nil, Option, Some, None, arith, if◌then◌else◌, ◌==◌, slice_index}
+use Rattle.std.proofs.lemmas.Bool.{and_parts}
 use Rattle.pdl_semantics.specs.Tree.{Stmt, Separator, If, Stmts, Nil, Cons, Mem, Pipe}
 use Rattle.pdl_semantics.specs.Flat
-use Rattle.pdl_semantics.specs.Flatten.{with_guard, past, past_all, at_otherwise, guard_of, separators_in, separators, entry, side, at_start, flat}
+use Rattle.pdl_semantics.specs.Flatten.{with_guard, past, at_otherwise, guard_of, separators_in, separators, entry, side, at_start, flat}
 use Rattle.pdl_semantics.specs.Flatten
 use Rattle.pdl_semantics.specs.Stages.{stage_at, goes_to}
 use Rattle.pdl_rules.specs.Refusal.{KeepsRules}
 use Rattle.pdl_source_stages.specs.Visits.{onward, visited_stages, begun_in, begun_by}
 use Rattle.pdl_source_stages.proofs.Walks.{guard_begun, past_begun, past_all_begun}
-use Rattle.pdl_source_stages.proofs.Shapes.{is_whole, is_plain, is_forked, fork_fits, shape, leads}
-use Rattle.pdl_source_stages.proofs.Spots.{merge_at, start, long, Chain, Groups, group_fork, Forked}
-use Rattle.pdl_source_stages.proofs.BodyShape.{body_forked, body_groups}
+use Rattle.pdl_source_stages.proofs.Shapes.{is_whole, is_forked, is_late, begins_stage, Side, Straight, Runs, long, merge_at, side_leads, shape, side_shape, long_is}
+use Rattle.pdl_source_stages.proofs.Spots.{Groups, Sides}
+use Rattle.pdl_source_stages.proofs.BodyShape.{body_forked, body_groups, stage_count}
 use Rattle.pdl_source_stages.proofs.SiteStages.{none_of_whole, fitting, rest_shape, either_shape}
-use Rattle.pdl_source_stages.proofs.SiteFacts.{stage_count}
 
--- the stages after b, so many
-abbrev up : ℕ → ℕ → List ℕ
-up b zero = []
-up b (suc n) = suc b ∷ up (suc b) n
-
--- BRANCHES
+-- STATEMENTS
 
 -- statements that begin no stage
 mutual
@@ -41,175 +35,255 @@ mutual
   none_begun env ms Nil w e = refl
   none_begun env ms (Cons s ss) w e = ap₂ (λ a b. a ++ b) (none_begun_in env ms s w (omega arith)) (none_begun env ms ss (past ms s w) (omega arith))
 
--- those of a branch are the next ones
-plain_begun : (env : List ℕ) (ms : List Mem) (ss : Stmts) (w : Flatten.Position)
-    → is_plain ss ≡ true → begun_by env ms ss w ≡ up w.begun (separators ss)
-plain_begun env ms Nil w h = refl
-plain_begun env ms (Cons (Separator sp) ss) w h =
-    ap (λ l. suc w.begun ∷ l) (plain_begun env ms ss (past ms (Separator sp) w) h)
-    ∙ ap (up w.begun) (let e : suc (separators ss) ≡ 1 + separators ss = omega arith in e)
-plain_begun env ms (Cons (If sp c when otherwise) ss) w h =
-    let parts = and_parts (is_whole when otherwise) (is_plain ss) h in
-    let none = none_of_whole when otherwise parts.0 in
-    let f = past_begun ms (If sp c when otherwise) w in
-    ap₂ (λ a b. a ++ b) (none_begun_in env ms (If sp c when otherwise) w none) (plain_begun env ms ss (past ms (If sp c when otherwise) w) parts.1)
-    ∙ ap₂ up (let e : (past ms (If sp c when otherwise) w).begun ≡ w.begun = omega arith in e)
-    (let e : separators ss ≡ separators_in (If sp c when otherwise) + separators ss = omega arith in e)
-plain_begun env ms (Cons s ss) w h = plain_begun env ms ss (past ms s w) h ∙ ap (up w.begun) (let e : separators ss ≡ 0 + separators ss = omega arith in e)
+mutual
+  -- a path begins no more stages in a statement than it has separators
+  few_in : (env : List ℕ) (ms : List Mem) (s : Stmt) (w : Flatten.Position) → length (begun_in env ms s w) ≤ separators_in s
+  few_in env ms (Separator sp) w = omega arith
+  few_in env ms (If sp c when otherwise) w =
+      at (slice_index env (guard_of w.vars c) == 1) (few_by env ms when (with_guard c w)) (few_by env ms otherwise (at_otherwise ms c when w))
+    where
+      at : (b : Bool) → length (begun_by env ms when (with_guard c w)) ≤ separators when
+          → length (begun_by env ms otherwise (at_otherwise ms c when w)) ≤ separators otherwise
+          → length (if b then begun_by env ms when (with_guard c w) else begun_by env ms otherwise (at_otherwise ms c when w))
+          ≤ separators_in (If sp c when otherwise)
+      at true f g = omega arith
+      at false f g = omega arith
+  few_in env ms _ w = omega arith
 
--- a thread goes through a branch to its merge
-through : (p : Flat.Pipe) (env : List ℕ) (branch : Option Flat.Branch) (m s n : ℕ) → Chain p branch (Flat.Goes m) s n
-    → (d j : ℕ) → d + j ≡ n → (fuel rest : ℕ) → fuel ≡ j + rest
-    → onward (visited_stages p env fuel) (goes_to (leads (s + d) (Flat.Goes m) j) env) ≡ up (s + d) j ++ visited_stages p env rest m
-through p env branch m s n c d zero e fuel rest f = ap (λ n. visited_stages p env n m) (let z : fuel ≡ rest = omega arith in z)
-through p env branch m s n c d (suc j) e zero rest f = absurd (omega arith)
-through p env branch m s n c d (suc j) e (suc fuel) rest f =
-    ap (λ l. suc (s + d) ∷ l)
-    (ap (λ (y : Flat.Stage). onward (visited_stages p env fuel) (goes_to y.next env)) (c d j e)
-    ∙ ap (λ k. onward (visited_stages p env fuel) (goes_to (leads k (Flat.Goes m) j) env)) (let z : suc (s + d) ≡ s + suc d = omega arith in z)
-    ∙ through p env branch m s n c (suc d) j (omega arith) fuel rest (omega arith)
-    ∙ ap (λ k. up k j ++ visited_stages p env rest m) (let z : s + suc d ≡ suc (s + d) = omega arith in z))
+  few_by : (env : List ℕ) (ms : List Mem) (ss : Stmts) (w : Flatten.Position) → length (begun_by env ms ss w) ≤ separators ss
+  few_by env ms Nil w = omega arith
+  few_by env ms (Cons s ss) w =
+      let f = few_in env ms s w in
+      let g = few_by env ms ss (past ms s w) in
+      let e = length-append (begun_in env ms s w) (begun_by env ms ss (past ms s w)) in
+      omega arith
 
--- the stage that a branch enters first
-entry_goes : (s m n : ℕ) (env : List ℕ) → Some (entry (leads s (Flat.Goes m) n)) ≡ goes_to (leads s (Flat.Goes m) n) env
-entry_goes s m zero env = refl
-entry_goes s m (suc n) env = refl
+-- THE STAGES
 
--- from a fork through the branch that is taken
-from_fork : (p : Flat.Pipe) (env : List ℕ) (k x a b : ℕ) → Forked p k x a b → (first : Bool)
-    → (slice_index env x == 1) ≡ first → (fuel rest : ℕ) → fuel ≡ long a b first + rest
-    → onward (visited_stages p env fuel) (goes_to (stage_at p k).next env) ≡ up (start k a first) (long a b first)
-    ++ visited_stages p env rest (merge_at k a b)
-from_fork p env k x a b fork first v fuel rest e =
-    ap (onward (visited_stages p env fuel)) (ap (λ n. goes_to n env) fork.next ∙ at (slice_index env x == 1) first v)
-    ∙ ap (λ n. onward (visited_stages p env fuel) (goes_to (leads n (Flat.Goes (merge_at k a b)) (long a b first)) env))
-    (let z : start k a first ≡ start k a first + 0 = omega arith in z)
-    ∙ through p env (side k first) (merge_at k a b) (start k a first) (long a b first)
-    (fork.chain first) 0 (long a b first)
-    (let z : 0 + long a b first ≡ long a b first = omega arith in z) fuel rest e
-    ∙ ap (λ n. up n (long a b first) ++ visited_stages p env rest (merge_at k a b)) (let z : start k a first + 0 ≡ start k a first = omega arith in z)
-  where
-    at : (c f : Bool) → c ≡ f
-        → Some (if c then entry (leads k (Flat.Goes (merge_at k a b)) a) else entry (leads (k + a) (Flat.Goes (merge_at k a b)) b))
-        ≡ goes_to (leads (start k a f) (Flat.Goes (merge_at k a b)) (long a b f)) env
-    at true true i = entry_goes k (merge_at k a b) a env
-    at false false i = entry_goes (k + a) (merge_at k a b) b env
-    at true false i = absurd (false≢true (sym i))
-    at false true i = absurd (false≢true i)
+-- a branch leads to the stage that it enters
+entry_goes : (m j : ℕ) (sd : Side) (env : List ℕ) → Some (entry (side_leads (Flat.Goes m) j sd)) ≡ goes_to (side_leads (Flat.Goes m) j sd) env
+entry_goes m j Straight env = refl
+entry_goes m j (Runs sh) env = refl
 
--- THE TRUNK
+mutual
+  -- from stage k on a path visits the stages that its separators begin in these statements, and then what the last one leads to
+  visits_from : (p : Flat.Pipe) (env : List ℕ) (ms : List Mem) (d : List Flat.Branch) (exit : Flat.Next) (k : ℕ) (merges : Option ℕ)
+      (w : Flatten.Position) (ss : Stmts)
+      → w.begun ≡ k → is_forked ss ≡ true → Groups p d exit k merges (shape ms ss w) → (fuel rest : ℕ) → fuel ≡ length (begun_by env ms ss w) + rest
+      → visited_stages p env (suc fuel) k ≡ k ∷ (begun_by env ms ss w ++ onward (visited_stages p env rest) (goes_to exit env))
+  visits_from p env ms d exit k merges w Nil i h g fuel rest f =
+      ap (λ (y : Flat.Stage). k ∷ onward (visited_stages p env fuel) (goes_to y.next env)) g
+      ∙ ap (λ n. k ∷ onward (visited_stages p env n) (goes_to exit env)) (let z : fuel ≡ rest = omega arith in z)
+  visits_from p env ms d exit k merges w (Cons (Separator sp) ss) i h g zero rest f = absurd (omega arith)
+  visits_from p env ms d exit k merges w (Cons (Separator sp) ss) i h g (suc fuel) rest f =
+      ap (λ (y : Flat.Stage). k ∷ onward (visited_stages p env (suc fuel)) (goes_to y.next env)) g.0
+      ∙ ap (λ r. k ∷ r)
+      (visits_from p env ms d exit (suc k) None (past ms (Separator sp) w) ss (ap suc i) h g.1 fuel rest (omega arith)
+      ∙ ap (λ n. suc n ∷ (begun_by env ms ss (past ms (Separator sp) w) ++ onward (visited_stages p env rest) (goes_to exit env))) (sym i))
+  visits_from p env ms d exit k merges w (Cons (If sp c when otherwise) (Cons (Separator sq) ss)) i h g fuel rest f =
+      at (is_whole when otherwise) refl parts.0 g
+      (λ j merge e shapes n r q. visits_from p env ms d exit j merge (past ms (Separator sq) (past ms (If sp c when otherwise) w)) ss e parts.1 shapes n r q)
+      (λ j m e late sides n r q. visits_side p env ms (side k true ∷ d) (Flat.Goes m) j (with_guard c w) when e late sides n r q)
+      (λ j m e late sides n r q. visits_side p env ms (side k false ∷ d) (Flat.Goes m) j (at_otherwise ms c when w) otherwise e late sides n r q)
+    where
+      parts : ((is_whole when otherwise || (true && (is_late when && is_late otherwise))) ≡ true) × (is_forked ss ≡ true)
+      parts = and_parts (is_whole when otherwise || (true && (is_late when && is_late otherwise))) (is_forked ss) h
 
-visits_from : (p : Flat.Pipe) (env : List ℕ) (ms : List Mem) (k : ℕ) (merges : Option ℕ) (w : Flatten.Position) (ss : Stmts)
-    → w.begun ≡ k → is_forked ss ≡ true → Groups p k merges (shape ms ss w) → (fuel : ℕ) → separators ss ≤ fuel
-    → visited_stages p env (suc fuel) k ≡ k ∷ begun_by env ms ss w
-visits_from p env ms k merges w Nil i h g fuel l = ap (λ (y : Flat.Stage). k ∷ onward (visited_stages p env fuel) (goes_to y.next env)) g.0
-visits_from p env ms k merges w (Cons (Separator sp) ss) i h g zero l = absurd (omega arith)
-visits_from p env ms k merges w (Cons (Separator sp) ss) i h g (suc fuel) l =
-    ap (λ (y : Flat.Stage). k ∷ onward (visited_stages p env (suc fuel)) (goes_to y.next env)) g.0
-    ∙ ap (λ r. k ∷ r)
-    (visits_from p env ms (suc k) None (past ms (Separator sp) w) ss (ap suc i) h g.1 fuel (omega arith)
-    ∙ ap (λ n. suc n ∷ begun_by env ms ss (past ms (Separator sp) w)) (sym i))
-visits_from p env ms k merges w (Cons (If sp c when otherwise) (Cons (Separator sq) ss)) i h g fuel l =
-    at (is_whole when otherwise) refl parts.0 g
-    (λ j merge e shapes n m. visits_from p env ms j merge (past ms (Separator sq) (past ms (If sp c when otherwise) w)) ss e parts.1 shapes n m)
-  where
-    parts : (fork_fits (is_whole when otherwise) when otherwise (Cons (Separator sq) ss) ≡ true) × (is_forked ss ≡ true)
-    parts = and_parts (fork_fits (is_whole when otherwise) when otherwise (Cons (Separator sq) ss)) (is_forked ss) h
+      begun : (past ms (If sp c when otherwise) w).begun ≡ w.begun + (separators when + separators otherwise)
+      begun = past_begun ms (If sp c when otherwise) w
 
-    begun : (past ms (If sp c when otherwise) w).begun ≡ w.begun + (separators when + separators otherwise)
-    begun = past_begun ms (If sp c when otherwise) w
+      -- how many stages these are
+      many : length (begun_by env ms (Cons (If sp c when otherwise) (Cons (Separator sq) ss)) w)
+          ≡ length (begun_in env ms (If sp c when otherwise) w) + suc
+          (length (begun_by env ms ss (past ms (Separator sq) (past ms (If sp c when otherwise) w))))
+      many = length-append (begun_in env ms (If sp c when otherwise) w)
+          (suc (past ms (If sp c when otherwise) w).begun ∷ begun_by env ms ss (past ms (Separator sq) (past ms (If sp c when otherwise) w)))
 
-    at : (b : Bool) → is_whole when otherwise ≡ b → fork_fits b when otherwise (Cons (Separator sq) ss) ≡ true
-        → Groups p k merges (either_shape ms sp c when otherwise sq ss w b)
-        → ((j : ℕ) (merge : Option ℕ) → suc (past ms (If sp c when otherwise) w).begun ≡ j
-        → Groups p j merge (rest_shape ms sp c when otherwise sq ss w) → (n : ℕ) → separators ss ≤ n
-        → visited_stages p env (suc n) j ≡ j ∷ begun_by env ms ss (past ms (Separator sq) (past ms (If sp c when otherwise) w)))
-        → visited_stages p env (suc fuel) k
-        ≡ k
-        ∷ (begun_in env ms (If sp c when otherwise) w
-        ++ (suc (past ms (If sp c when otherwise) w).begun ∷ begun_by env ms ss (past ms (Separator sq) (past ms (If sp c when otherwise) w))))
-    at true whole fits g more = turn fuel l
-      where
-        none : separators when + separators otherwise ≡ 0
-        none = none_of_whole when otherwise whole
+      at : (b : Bool) → is_whole when otherwise ≡ b → (b || (true && (is_late when && is_late otherwise))) ≡ true
+          → Groups p d exit k merges (either_shape ms sp c when otherwise sq ss w b)
+          → ((j : ℕ) (merge : Option ℕ) → suc (past ms (If sp c when otherwise) w).begun ≡ j
+          → Groups p d exit j merge (rest_shape ms sp c when otherwise sq ss w) → (n r : ℕ)
+          → n ≡ length (begun_by env ms ss (past ms (Separator sq) (past ms (If sp c when otherwise) w))) + r
+          → visited_stages p env (suc n) j
+          ≡ j ∷ (begun_by env ms ss (past ms (Separator sq) (past ms (If sp c when otherwise) w)) ++ onward (visited_stages p env r) (goes_to exit env)))
+          →
+          ((j m : ℕ) → (with_guard c w).begun ≡ j → is_late when
+          ≡ true → Sides p (side k true ∷ d) (Flat.Goes m) j (side_shape ms when (with_guard c w)) → (n r : ℕ)
+          → n ≡ length (begun_by env ms when (with_guard c w)) + r
+          → onward (visited_stages p env n) (goes_to (side_leads (Flat.Goes m) j (side_shape ms when (with_guard c w))) env)
+          ≡ begun_by env ms when (with_guard c w) ++ visited_stages p env r m)
+          →
+          ((j m : ℕ) → (at_otherwise ms c when w).begun ≡ j → is_late otherwise
+          ≡ true → Sides p (side k false ∷ d) (Flat.Goes m) j (side_shape ms otherwise (at_otherwise ms c when w)) → (n r : ℕ)
+          → n ≡ length (begun_by env ms otherwise (at_otherwise ms c when w)) + r
+          → onward (visited_stages p env n) (goes_to (side_leads (Flat.Goes m) j (side_shape ms otherwise (at_otherwise ms c when w))) env)
+          ≡ begun_by env ms otherwise (at_otherwise ms c when w) ++ visited_stages p env r m)
+          → visited_stages p env (suc fuel) k
+          ≡ k ∷ (begun_by env ms (Cons (If sp c when otherwise) (Cons (Separator sq) ss)) w ++ onward (visited_stages p env rest) (goes_to exit env))
+      at true whole fits g more one two = turn fuel f
+        where
+          none : separators when + separators otherwise ≡ 0
+          none = none_of_whole when otherwise whole
 
-        here : suc k ≡ suc (past ms (If sp c when otherwise) w).begun
-        here = let a = begun in let b = none in omega arith
+          nothing : begun_in env ms (If sp c when otherwise) w ≡ []
+          nothing = none_begun_in env ms (If sp c when otherwise) w none
 
-        turn : (n : ℕ) → separators (Cons (If sp c when otherwise) (Cons (Separator sq) ss)) ≤ n
-            → visited_stages p env (suc n) k
-            ≡ k
-            ∷ (begun_in env ms (If sp c when otherwise) w
-            ++ (suc (past ms (If sp c when otherwise) w).begun ∷ begun_by env ms ss (past ms (Separator sq) (past ms (If sp c when otherwise) w))))
-        turn zero m = absurd (omega arith)
-        turn (suc n) m =
-            ap (λ (y : Flat.Stage). k ∷ onward (visited_stages p env (suc n)) (goes_to y.next env)) g.0
-            ∙ ap (λ r. k ∷ r)
-            (more (suc k) None (sym here) g.1 n (omega arith)
-            ∙ ap (λ q. q ∷ begun_by env ms ss (past ms (Separator sq) (past ms (If sp c when otherwise) w))) here
-            ∙ ap (λ r. r ++ (suc (past ms (If sp c when otherwise) w).begun ∷ begun_by env ms ss (past ms (Separator sq) (past ms (If sp c when otherwise) w))))
-            (sym (none_begun_in env ms (If sp c when otherwise) w none)))
-    at false some fits g more = turn (slice_index env (guard_of w.vars c) == 1) refl
-      where
-        fork : Forked p k (guard_of w.vars c) (separators when) (separators otherwise)
-        fork = group_fork p k merges (guard_of w.vars c) (separators when) (separators otherwise) (rest_shape ms sp c when otherwise sq ss w) g
+          here : suc k ≡ suc (past ms (If sp c when otherwise) w).begun
+          here = let a = begun in let b = none in omega arith
 
-        plain : (is_plain when ≡ true) × (is_plain otherwise ≡ true)
-        plain = and_parts (is_plain when) (is_plain otherwise) fits
+          turn : (n : ℕ) → n ≡ length (begun_by env ms (Cons (If sp c when otherwise) (Cons (Separator sq) ss)) w) + rest
+              → visited_stages p env (suc n) k
+              ≡ k ∷ (begun_by env ms (Cons (If sp c when otherwise) (Cons (Separator sq) ss)) w ++ onward (visited_stages p env rest) (goes_to exit env))
+          turn zero m = absurd (let a = many in omega arith)
+          turn (suc n) m =
+              let a = many in
+              let b = ap length nothing in
+              let z : length {A = ℕ} [] ≡ 0 = refl in
+              ap (λ (y : Flat.Stage). k ∷ onward (visited_stages p env (suc n)) (goes_to y.next env)) g.0
+              ∙ ap (λ r. k ∷ r)
+              (more (suc k) None (sym here) g.1 n rest (omega arith)
+              ∙ ap
+              (λ q. q ∷ (begun_by env ms ss (past ms (Separator sq) (past ms (If sp c when otherwise) w))
+              ++ onward (visited_stages p env rest) (goes_to exit env)))
+              here
+              ∙ ap
+              (λ r. (r
+              ++ (suc (past ms (If sp c when otherwise) w).begun ∷ begun_by env ms ss (past ms (Separator sq) (past ms (If sp c when otherwise) w))))
+              ++ onward (visited_stages p env rest) (goes_to exit env)) (sym nothing))
+      at false some fits g more one two = turn (slice_index env (guard_of w.vars c) == 1) refl
+        where
+          late : (is_late when ≡ true) × (is_late otherwise ≡ true)
+          late = and_parts (is_late when) (is_late otherwise) fits
 
-        merged : merge_at k (separators when) (separators otherwise) ≡ suc (past ms (If sp c when otherwise) w).begun
-        merged = let a = begun in omega arith
+          l1 : long (side_shape ms when (with_guard c w)) ≡ separators when
+          l1 = long_is ms when (with_guard c w) late.0
 
-        rest : (n : ℕ) → suc (separators ss) ≤ n
-            → visited_stages p env n (merge_at k (separators when) (separators otherwise))
-            ≡ suc (past ms (If sp c when otherwise) w).begun ∷ begun_by env ms ss (past ms (Separator sq) (past ms (If sp c when otherwise) w))
-        rest zero m = absurd (omega arith)
-        rest (suc n) m =
-            more (merge_at k (separators when) (separators otherwise)) (Some k) (sym merged) g.4 n (omega arith)
-            ∙ ap (λ q. q ∷ begun_by env ms ss (past ms (Separator sq) (past ms (If sp c when otherwise) w))) merged
+          l2 : long (side_shape ms otherwise (at_otherwise ms c when w)) ≡ separators otherwise
+          l2 = long_is ms otherwise (at_otherwise ms c when w) late.1
 
-        side_begun : (first : Bool) → (slice_index env (guard_of w.vars c) == 1) ≡ first
-            → begun_in env ms (If sp c when otherwise) w ≡ up (start k (separators when) first) (long (separators when) (separators otherwise) first)
-        side_begun true v =
-            ap (λ b. if b then begun_by env ms when (with_guard c w) else begun_by env ms otherwise (at_otherwise ms c when w)) v
-            ∙ plain_begun env ms when (with_guard c w) plain.0
-            ∙ ap (λ n. up n (separators when)) (guard_begun c w ∙ i)
-        side_begun false v =
-            ap (λ b. if b then begun_by env ms when (with_guard c w) else begun_by env ms otherwise (at_otherwise ms c when w)) v
-            ∙ plain_begun env ms otherwise (at_otherwise ms c when w) plain.1
-            ∙ ap (λ n. up n (separators otherwise))
-            (let a = guard_begun c w in let b = past_all_begun ms when (with_guard c w) in
-            let z : (at_otherwise ms c when w).begun ≡ k + separators when = omega arith in z)
+          merged : (merge_at k (long (side_shape ms when (with_guard c w))) (long (side_shape ms otherwise (at_otherwise ms c when w))))
+              ≡ suc (past ms (If sp c when otherwise) w).begun
+          merged = let a = begun in let x = l1 in let y = l2 in omega arith
 
-        low : (first : Bool) → long (separators when) (separators otherwise) first + suc (separators ss) ≤ fuel
-        low true = omega arith
-        low false = omega arith
+          -- from the merge on
+          on : (n : ℕ) → n ≡ suc (length (begun_by env ms ss (past ms (Separator sq) (past ms (If sp c when otherwise) w)))) + rest
+              → visited_stages p env n (merge_at k (long (side_shape ms when (with_guard c w))) (long (side_shape ms otherwise (at_otherwise ms c when w))))
+              ≡ suc (past ms (If sp c when otherwise) w).begun
+              ∷ (begun_by env ms ss (past ms (Separator sq) (past ms (If sp c when otherwise) w)) ++ onward (visited_stages p env rest) (goes_to exit env))
+          on zero m = absurd (omega arith)
+          on (suc n) m =
+              more (merge_at k (long (side_shape ms when (with_guard c w))) (long (side_shape ms otherwise (at_otherwise ms c when w)))) (Some k)
+              (sym merged) g.4 n rest (omega arith)
+              ∙ ap
+              (λ q. q ∷ (begun_by env ms ss (past ms (Separator sq) (past ms (If sp c when otherwise) w))
+              ++ onward (visited_stages p env rest) (goes_to exit env)))
+              merged
 
-        turn : (first : Bool) → (slice_index env (guard_of w.vars c) == 1) ≡ first
-            → visited_stages p env (suc fuel) k
-            ≡ k
-            ∷ (begun_in env ms (If sp c when otherwise) w
-            ++ (suc (past ms (If sp c when otherwise) w).begun ∷ begun_by env ms ss (past ms (Separator sq) (past ms (If sp c when otherwise) w))))
-        turn first v =
-            let m = low first in
-            ap (λ r. k ∷ r)
-            (from_fork p env k (guard_of w.vars c) (separators when)
-            (separators otherwise) fork first v fuel (fuel - long (separators when) (separators otherwise) first)
-            (omega arith)
-            ∙ ap₂ (λ a b. a ++ b) (sym (side_begun first v)) (rest (fuel - long (separators when) (separators otherwise) first) (omega arith)))
-visits_from p env ms k merges w (Cons (If sp c when otherwise) ss) i h g fuel l =
-    let parts = and_parts (fork_fits (is_whole when otherwise) when otherwise ss) (is_forked ss) h in
-    let none = none_of_whole when otherwise (fitting when otherwise ss refl (is_whole when otherwise) parts.0) in
-    let f = past_begun ms (If sp c when otherwise) w in
-    visits_from p env ms k merges (past ms (If sp c when otherwise) w) ss (omega arith) parts.1 g fuel (omega arith)
-    ∙ ap (λ r. k ∷ (r ++ begun_by env ms ss (past ms (If sp c when otherwise) w))) (sym (none_begun_in env ms (If sp c when otherwise) w none))
-visits_from p env ms k merges w (Cons s ss) i h g fuel l = visits_from p env ms k merges (past ms s w) ss i h g fuel (omega arith)
+          -- the stages of the branch that is taken
+          taken : (b : Bool) → (slice_index env (guard_of w.vars c) == 1) ≡ b
+              → begun_in env ms (If sp c when otherwise) w ≡ (if b then begun_by env ms when (with_guard c w) else begun_by env ms otherwise
+              (at_otherwise ms c when w))
+          taken b v = ap (λ t. if t then begun_by env ms when (with_guard c w) else begun_by env ms otherwise (at_otherwise ms c when w)) v
+
+          through : (b : Bool) → (slice_index env (guard_of w.vars c) == 1) ≡ b → (n r : ℕ) → n ≡ length (begun_in env ms (If sp c when otherwise) w) + r
+              → onward (visited_stages p env n) (goes_to (stage_at p k).next env) ≡ begun_in env ms (If sp c when otherwise) w
+              ++ visited_stages p env r (merge_at k (long (side_shape ms when (with_guard c w)))
+              (long (side_shape ms otherwise (at_otherwise ms c when w))))
+          through true v n r q =
+              let z = ap length (taken true v) in
+              let b1 = guard_begun c w in
+              ap (λ (y : Flat.Stage). onward (visited_stages p env n) (goes_to y.next env)) g.0
+              ∙ ap
+              (λ t. onward (visited_stages p env n)
+              (Some
+              (if t then entry (side_leads
+              (Flat.Goes (merge_at k (long (side_shape ms when (with_guard c w))) (long (side_shape ms otherwise (at_otherwise ms c when w))))) k
+              (side_shape ms when (with_guard c w)))
+              else entry
+              (side_leads (Flat.Goes (merge_at k (long (side_shape ms when (with_guard c w))) (long (side_shape ms otherwise (at_otherwise ms c when w)))))
+              (k + long (side_shape ms when (with_guard c w))) (side_shape ms otherwise (at_otherwise ms c when w)))))) v
+              ∙ ap (onward (visited_stages p env n))
+              (entry_goes (merge_at k (long (side_shape ms when (with_guard c w))) (long (side_shape ms otherwise (at_otherwise ms c when w)))) k
+              (side_shape ms when (with_guard c w)) env)
+              ∙ one k (merge_at k (long (side_shape ms when (with_guard c w))) (long (side_shape ms otherwise (at_otherwise ms c when w))))
+              (omega arith) late.0 g.2 n r (omega arith)
+              ∙ ap
+              (λ l. l ++ visited_stages p env r
+              (merge_at k (long (side_shape ms when (with_guard c w))) (long (side_shape ms otherwise (at_otherwise ms c when w))))) (sym (taken true v))
+          through false v n r q =
+              let z = ap length (taken false v) in
+              let b1 = guard_begun c w in
+              let b2 = past_all_begun ms when (with_guard c w) in
+              let x = l1 in
+              ap (λ (y : Flat.Stage). onward (visited_stages p env n) (goes_to y.next env)) g.0
+              ∙ ap
+              (λ t. onward (visited_stages p env n)
+              (Some
+              (if t then entry (side_leads
+              (Flat.Goes (merge_at k (long (side_shape ms when (with_guard c w))) (long (side_shape ms otherwise (at_otherwise ms c when w))))) k
+              (side_shape ms when (with_guard c w)))
+              else entry
+              (side_leads (Flat.Goes (merge_at k (long (side_shape ms when (with_guard c w))) (long (side_shape ms otherwise (at_otherwise ms c when w)))))
+              (k + long (side_shape ms when (with_guard c w))) (side_shape ms otherwise (at_otherwise ms c when w)))))) v
+              ∙ ap (onward (visited_stages p env n))
+              (entry_goes (merge_at k (long (side_shape ms when (with_guard c w))) (long (side_shape ms otherwise (at_otherwise ms c when w))))
+              (k + long (side_shape ms when (with_guard c w))) (side_shape ms otherwise (at_otherwise ms c when w)) env)
+              ∙ two (k + long (side_shape ms when (with_guard c w)))
+              (merge_at k (long (side_shape ms when (with_guard c w))) (long (side_shape ms otherwise (at_otherwise ms c when w)))) (omega arith) late.1 g.3 n r
+              (omega arith)
+              ∙ ap
+              (λ l. l ++ visited_stages p env r
+              (merge_at k (long (side_shape ms when (with_guard c w))) (long (side_shape ms otherwise (at_otherwise ms c when w))))) (sym (taken false v))
+
+          turn : (b : Bool) → (slice_index env (guard_of w.vars c) == 1) ≡ b
+              → visited_stages p env (suc fuel) k
+              ≡ k ∷ (begun_by env ms (Cons (If sp c when otherwise) (Cons (Separator sq) ss)) w ++ onward (visited_stages p env rest) (goes_to exit env))
+          turn b v =
+              let a = many in
+              ap (λ r. k ∷ r)
+              (through b v fuel (suc (length (begun_by env ms ss (past ms (Separator sq) (past ms (If sp c when otherwise) w)))) + rest) (omega arith)
+              ∙ ap (λ l. begun_in env ms (If sp c when otherwise) w ++ l)
+              (on (suc (length (begun_by env ms ss (past ms (Separator sq) (past ms (If sp c when otherwise) w)))) + rest) refl)
+              ∙ sym
+              (append_assoc (begun_in env ms (If sp c when otherwise) w)
+              (suc (past ms (If sp c when otherwise) w).begun ∷ begun_by env ms ss (past ms (Separator sq) (past ms (If sp c when otherwise) w)))
+              (onward (visited_stages p env rest) (goes_to exit env))))
+  visits_from p env ms d exit k merges w (Cons (If sp c when otherwise) ss) i h g fuel rest f =
+      let parts = and_parts (is_whole when otherwise || (begins_stage ss && (is_late when && is_late otherwise))) (is_forked ss) h in
+      let none = none_of_whole when otherwise (fitting when otherwise ss refl (is_whole when otherwise) parts.0) in
+      let b = past_begun ms (If sp c when otherwise) w in
+      let nothing = none_begun_in env ms (If sp c when otherwise) w none in
+      let e = ap (λ l. length (l ++ begun_by env ms ss (past ms (If sp c when otherwise) w))) nothing in
+      visits_from p env ms d exit k merges (past ms (If sp c when otherwise) w) ss (omega arith) parts.1 g fuel rest (omega arith)
+      ∙ ap (λ r. k ∷ ((r ++ begun_by env ms ss (past ms (If sp c when otherwise) w)) ++ onward (visited_stages p env rest) (goes_to exit env))) (sym nothing)
+  visits_from p env ms d exit k merges w (Cons s ss) i h g fuel rest f = visits_from p env ms d exit k merges (past ms s w) ss i h g fuel rest f
+
+  -- through a branch a path visits the stages that its separators begin there, and then what the branch leads to
+  visits_side : (p : Flat.Pipe) (env : List ℕ) (ms : List Mem) (d : List Flat.Branch) (exit : Flat.Next) (j : ℕ) (w : Flatten.Position) (ss : Stmts)
+      → w.begun ≡ j → is_late ss ≡ true → Sides p d exit j (side_shape ms ss w) → (fuel rest : ℕ) → fuel ≡ length (begun_by env ms ss w) + rest
+      → onward (visited_stages p env fuel) (goes_to (side_leads exit j (side_shape ms ss w)) env)
+      ≡ begun_by env ms ss w ++ onward (visited_stages p env rest) (goes_to exit env)
+  visits_side p env ms d exit j w Nil i h g fuel rest f = ap (λ n. onward (visited_stages p env n) (goes_to exit env)) (let z : fuel ≡ rest = omega arith in z)
+  visits_side p env ms d exit j w (Cons (Separator sp) ss) i h g zero rest f = absurd (omega arith)
+  visits_side p env ms d exit j w (Cons (Separator sp) ss) i h g (suc fuel) rest f =
+      visits_from p env ms d exit (suc j) None (past ms (Separator sp) w) ss (ap suc i) h g fuel rest (omega arith)
+      ∙ ap (λ n. suc n ∷ (begun_by env ms ss (past ms (Separator sp) w) ++ onward (visited_stages p env rest) (goes_to exit env))) (sym i)
+  visits_side p env ms d exit j w (Cons (If sp c when otherwise) ss) i h g fuel rest f =
+      let parts = and_parts (is_whole when otherwise) (is_late ss) h in
+      let none = none_of_whole when otherwise parts.0 in
+      let b = past_begun ms (If sp c when otherwise) w in
+      let nothing = none_begun_in env ms (If sp c when otherwise) w none in
+      let e = ap (λ l. length (l ++ begun_by env ms ss (past ms (If sp c when otherwise) w))) nothing in
+      visits_side p env ms d exit j (past ms (If sp c when otherwise) w) ss (omega arith) parts.1 g fuel rest (omega arith)
+      ∙ ap (λ r. (r ++ begun_by env ms ss (past ms (If sp c when otherwise) w)) ++ onward (visited_stages p env rest) (goes_to exit env)) (sym nothing)
+  visits_side p env ms d exit j w (Cons s ss) i h g fuel rest f = visits_side p env ms d exit j (past ms s w) ss i h g fuel rest f
 
 -- a path visits stage 0 and then the stages that the separators on it begin
 pub visits_all : (p : Pipe) → KeepsRules p → (env : List ℕ)
     → visited_stages (flat p) env (length (flat p).stages) 0 ≡ 0 ∷ begun_by env p.mems p.body (at_start p)
 visits_all p rules env =
+    let few = few_by env p.mems p.body (at_start p) in
     ap (λ n. visited_stages (flat p) env n 0) (stage_count p (body_forked p rules))
-    ∙ visits_from (flat p) env p.mems 0 None (at_start p) p.body refl (body_forked p rules)
-    (body_groups p (body_forked p rules)) (separators p.body)
-    (let z : separators p.body ≤ separators p.body = omega arith in z)
+    ∙ visits_from (flat p) env p.mems [] Flat.Ends 0 None (at_start p) p.body refl (body_forked p rules)
+    (body_groups p (body_forked p rules)) (separators p.body) (separators p.body - length (begun_by env p.mems p.body (at_start p))) (omega arith)
+    ∙ ap (λ l. 0 ∷ l) (append-nil (begun_by env p.mems p.body (at_start p)))

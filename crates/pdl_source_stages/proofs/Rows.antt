@@ -2,7 +2,7 @@
 use Rattle.std.proofs.Common.{◌≡◌, refl, ℕ, List, [], ◌∷◌}
 use Rattle.pdl_semantics.specs.Tree.{Pipe}
 use Rattle.pdl_semantics.specs.Flatten.{flat, at_start}
-use Rattle.pdl_semantics.proofs.Pipes.{one_stage, two_stages, two_branches, one_branch}
+use Rattle.pdl_semantics.proofs.Pipes.{one_stage, two_stages, two_branches, one_branch, nested}
 use Rattle.pdl_source_stages.specs.Visits.{visited_stages, begun_by}
 
 -- the stages that the separators of a path begin, where the variables have these values
@@ -38,3 +38,16 @@ straight_begun = refl
 
 straight_visited : visited_stages (flat one_branch) (0 ∷ 1 ∷ 0 ∷ []) 5 0 ≡ 0 ∷ 4 ∷ []
 straight_visited = refl
+
+-- a fork in the second branch of another, on the third variable: a stage before it, one stage in its first branch, two in its second, and its merge
+inner_first_begun : begun nested (0 ∷ 0 ∷ 1 ∷ 0 ∷ []) ≡ 2 ∷ 3 ∷ 6 ∷ 7 ∷ []
+inner_first_begun = refl
+
+inner_first_visited : visited_stages (flat nested) (0 ∷ 0 ∷ 1 ∷ 0 ∷ []) 8 0 ≡ 0 ∷ 2 ∷ 3 ∷ 6 ∷ 7 ∷ []
+inner_first_visited = refl
+
+inner_second_visited : visited_stages (flat nested) (0 ∷ 0 ∷ 0 ∷ 0 ∷ []) 8 0 ≡ 0 ∷ 2 ∷ 4 ∷ 5 ∷ 6 ∷ 7 ∷ []
+inner_second_visited = refl
+
+outer_first_visited : visited_stages (flat nested) (0 ∷ 1 ∷ 0 ∷ 0 ∷ []) 8 0 ≡ 0 ∷ 1 ∷ 7 ∷ []
+outer_first_visited = refl

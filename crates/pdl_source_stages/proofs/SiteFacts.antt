@@ -1,9 +1,9 @@
 -- What holds at each site of a source that breaks no rule, and how facts of sites become facts of the flat statements.
-use Rattle.std.proofs.Common.{◌≡◌, refl, sym, ap, ◌∙◌, subst, ℕ, suc, ◌+◌, ◌<◌, Bool, true, false, ◌||◌, not, List, [], ◌∷◌, ◌++◌, length, Option, Some, None, arith, if◌then◌else◌, ◌==◌, eq-eqb, eqb-true}
-use Rattle.std.proofs.lemmas.Bool.{false≢true, and_parts, and_from}
-use Rattle.pdl_semantics.specs.Tree.{Variable, Stmt, Separator, CombRead, Bind, SpecCall, DelayedRead, Write, Reserve, Block, Release, If, Call, Verify, SpecCheck, SpecBarrier, Stmts, Nil, Cons, Mem, Pipe}
+use Rattle.std.proofs.Common.{◌≡◌, refl, sym, ap, ◌∙◌, subst, ℕ, ◌+◌, ◌<◌, Bool, true, false, ◌||◌, not, List, [], ◌∷◌, ◌++◌, length, Option, Some, None, arith, if◌then◌else◌, ◌==◌, eq-eqb, eqb-true}
+use Rattle.std.proofs.lemmas.Bool.{false≢true, and_from}
+use Rattle.pdl_semantics.specs.Tree.{Variable, Stmt, Separator, CombRead, Bind, SpecCall, DelayedRead, Write, Reserve, Block, Release, If, Call, Verify, Update, SpecCheck, SpecBarrier, Mem, Pipe}
 use Rattle.pdl_semantics.specs.Flat
-use Rattle.pdl_semantics.specs.Flatten.{Var, var_of, mem_of, flat_expr, flat_exprs, reserve_op, at_position, past, separators, at_start, flat}
+use Rattle.pdl_semantics.specs.Flatten.{Var, var_of, mem_of, flat_expr, flat_exprs, reserve_op, at_position, at_start, flat, is_advisory_mem, is_advised, bind_op, read_op, write_op}
 use Rattle.pdl_semantics.specs.Flatten
 use Rattle.pdl_rules.specs.Places.{Place, places}
 use Rattle.pdl_rules.specs.Forks.{is_trunk_only}
@@ -12,54 +12,14 @@ use Rattle.pdl_theory_facts.specs.Scans.{none_of, all_at}
 use Rattle.pdl_theory_facts.specs.Facts.{trunk_only}
 use Rattle.pdl_semantics.specs.Stages.{in_stage}
 use Rattle.pdl_source_stages.proofs.Sites.{Site, sites_of, front_of, place_of, own_of, own, owns, All, Stands, all_stand, stmts_are}
-use Rattle.pdl_source_stages.proofs.Walks.{At, past_begun}
+use Rattle.pdl_source_stages.proofs.Walks.{At}
 use Rattle.pdl_source_stages.proofs.Walks
-use Rattle.pdl_source_stages.proofs.Shapes.{is_whole, is_forked, fork_fits, shape}
-use Rattle.pdl_source_stages.proofs.Spots.{Groups, merge_at}
-use Rattle.pdl_source_stages.proofs.BodyShape.{body_forked, body_groups}
-use Rattle.pdl_source_stages.proofs.SiteStages.{Standing, all_standing, all_both, all_map, stages_all, none_of_whole, fitting, rest_shape, either_shape}
+use Rattle.pdl_source_stages.proofs.Shapes.{is_forked}
+use Rattle.pdl_source_stages.proofs.BodyShape.{body_forked, stage_count}
+use Rattle.pdl_source_stages.proofs.SiteStages.{Standing, all_standing, all_both, all_map, stages_all}
 use Rattle.pdl_source_stages.proofs.StatementStages.{Staged, all_staged}
 use Rattle.pdl_word.specs.Each.{Each}
 use Rattle.pdl_word.proofs.Each.{each_append}
-
--- HOW MANY STAGES
-
-stages_from : (p : Flat.Pipe) (ms : List Mem) (k : ℕ) (merges : Option ℕ) (w : Flatten.Position) (ss : Stmts)
-    → w.begun ≡ k → is_forked ss ≡ true → Groups p k merges (shape ms ss w) → suc (k + separators ss) ≡ length p.stages
-stages_from p ms k merges w Nil i h g = let e = g.1 in omega arith
-stages_from p ms k merges w (Cons (Separator sp) ss) i h g = let f = stages_from p ms (suc k) None (past ms (Separator sp) w) ss (ap suc i) h g.1 in omega arith
-stages_from p ms k merges w (Cons (If sp c when otherwise) (Cons (Separator sq) ss)) i h g =
-    at (is_whole when otherwise) refl g
-    (λ j merge e. stages_from p ms j merge (past ms (Separator sq) (past ms (If sp c when otherwise) w)) ss e
-    (and_parts (fork_fits (is_whole when otherwise) when otherwise (Cons (Separator sq) ss)) (is_forked ss) h).1)
-  where
-    begun : (past ms (If sp c when otherwise) w).begun ≡ w.begun + (separators when + separators otherwise)
-    begun = past_begun ms (If sp c when otherwise) w
-
-    at : (b : Bool) → is_whole when otherwise ≡ b → Groups p k merges (either_shape ms sp c when otherwise sq ss w b)
-        → ((j : ℕ) (merge : Option ℕ) → suc (past ms (If sp c when otherwise) w).begun ≡ j
-        → Groups p j merge (rest_shape ms sp c when otherwise sq ss w) → suc (j + separators ss) ≡ length p.stages)
-        → suc (k + separators (Cons (If sp c when otherwise) (Cons (Separator sq) ss))) ≡ length p.stages
-    at true whole g more =
-        let none = none_of_whole when otherwise whole in
-        let f = begun in
-        let r = more (suc k) None (omega arith) g.1 in
-        omega arith
-    at false some g more =
-        let f = begun in
-        let r = more (merge_at k (separators when) (separators otherwise)) (Some k) (omega arith) g.4 in
-        omega arith
-stages_from p ms k merges w (Cons (If sp c when otherwise) ss) i h g =
-    let parts = and_parts (fork_fits (is_whole when otherwise) when otherwise ss) (is_forked ss) h in
-    let none = none_of_whole when otherwise (fitting when otherwise ss refl (is_whole when otherwise) parts.0) in
-    let f = past_begun ms (If sp c when otherwise) w in
-    let r = stages_from p ms k merges (past ms (If sp c when otherwise) w) ss (omega arith) parts.1 g in
-    omega arith
-stages_from p ms k merges w (Cons s ss) i h g = let r = stages_from p ms k merges (past ms s w) ss i h g in omega arith
-
--- there is one stage more than there are separators
-pub stage_count : (p : Pipe) → is_forked p.body ≡ true → length (flat p).stages ≡ suc (separators p.body)
-stage_count p h = let e = stages_from (flat p) p.mems 0 None (at_start p) p.body refl h (body_groups p h) in omega arith
 
 -- AT EACH SITE
 
@@ -98,18 +58,19 @@ all_fine p rules =
 -- what a statement's flat form does, where it has one
 abbrev pub op_of : List Mem → List Var → Stmt → Option Flat.Op
 op_of ms vs (Separator _) = None
-op_of ms vs (CombRead _ x from) = Some (Flat.CombRead (length vs) (mem_of ms from.mem.name) (var_of vs from.address.name))
-op_of ms vs (Bind _ x e) = Some (Flat.Bind (length vs) (flat_expr vs e))
+op_of ms vs (CombRead _ x from) = Some (read_op (is_advisory_mem ms from.mem.name) (length vs) (mem_of ms from.mem.name) (var_of vs from.address.name))
+op_of ms vs (Bind _ x e) = Some (bind_op (is_advised vs e) (length vs) (flat_expr vs e))
 op_of ms vs (SpecCall _ guess args) = Some (Flat.SpecCall (flat_exprs vs args))
 op_of ms vs (DelayedRead _ x from) = Some (Flat.DelayedRead (length vs) (mem_of ms from.mem.name) (var_of vs from.address.name))
-op_of ms vs (Write _ to e) = Some (Flat.Write (mem_of ms to.mem.name) (var_of vs to.address.name) (flat_expr vs e))
+op_of ms vs (Write _ to e) = Some (write_op (is_advisory_mem ms to.mem.name) (mem_of ms to.mem.name) (var_of vs to.address.name) (flat_expr vs e))
 op_of ms vs (Reserve _ at kind) = Some (reserve_op kind (mem_of ms at.mem.name) (var_of vs at.address.name))
 op_of ms vs (Block _ at) = Some (Flat.Block (mem_of ms at.mem.name) (var_of vs at.address.name))
 op_of ms vs (Release _ at) = Some (Flat.Release (mem_of ms at.mem.name) (var_of vs at.address.name))
 op_of ms vs (If _ (Variable x) when otherwise) = None
 op_of ms vs (If _ c when otherwise) = Some (Flat.Bind (length vs) (flat_expr vs c))
 op_of ms vs (Call _ args) = Some (Flat.Call (flat_exprs vs args))
-op_of ms vs (Verify _ guess args) = Some (Flat.Verify (flat_exprs vs args))
+op_of ms vs (Verify _ guess args) = Some (Flat.Verify true (flat_exprs vs args))
+op_of ms vs (Update _ guess args) = Some (Flat.Verify false (flat_exprs vs args))
 op_of ms vs (SpecCheck _) = Some Flat.SpecCheck
 op_of ms vs (SpecBarrier _) = Some Flat.SpecBarrier
 
@@ -128,6 +89,41 @@ own_is ms gs w _ = refl
 abbrev pub from_op : (Flat.Op → Bool) → Option Flat.Op → Bool
 from_op test None = false
 from_op test (Some op) = test op
+
+-- of a read, a binding and a write, advisory or not
+pub read_none : (test : Flat.Op → Bool) (b : Bool) (x m a : ℕ)
+    → test (Flat.AdviceRead x m a) ≡ false → test (Flat.CombRead x m a) ≡ false → test (read_op b x m a) ≡ false
+read_none test true x m a h k = h
+read_none test false x m a h k = k
+
+-- what holds of neither binding doesn't hold of the one that is made
+pub bind_none : (test : Flat.Op → Bool) (b : Bool) (x : ℕ) (e : Flat.Expr)
+    → test (Flat.AdviceBind x e) ≡ false → test (Flat.Bind x e) ≡ false → test (bind_op b x e) ≡ false
+bind_none test true x e h k = h
+bind_none test false x e h k = k
+
+-- what holds of neither write doesn't hold of the one that is made
+pub write_none : (test : Flat.Op → Bool) (b : Bool) (m a : ℕ) (e : Flat.Expr)
+    → test (Flat.AdviceWrite m a e) ≡ false → test (Flat.Write m a e) ≡ false → test (write_op b m a e) ≡ false
+write_none test true m a e h k = h
+write_none test false m a e h k = k
+
+-- what holds of both statements holds of the one that is made
+pub either_read : (P : Flat.Op → Type 0) (b : Bool) (x m a : ℕ) → P (Flat.AdviceRead x m a) → P (Flat.CombRead x m a) → P (read_op b x m a)
+either_read P true x m a h k = h
+either_read P false x m a h k = k
+
+-- the same of bindings
+pub either_bind : (P : Flat.Op → Type 0) (b : Bool) (x : ℕ) (e : Flat.Expr) → P (Flat.AdviceBind x e) → P (Flat.Bind x e) → P (bind_op b x e)
+either_bind P true x e h k = h
+either_bind P false x e h k = k
+
+-- the same of writes
+pub either_write : (P : Flat.Op → Type 0) (b : Bool) (m a : ℕ) (e : Flat.Expr) → P (Flat.AdviceWrite m a e) → P (Flat.Write m a e) → P (write_op b m a e)
+either_write P true m a e h k = h
+either_write P false m a e h k = k
+
+-- the flat statement of a site that does this
 
 -- the flat statement that has this operation at a site
 abbrev pub row_at : Site → Flat.Op → Flat.Stmt
@@ -187,10 +183,17 @@ each_in_stage P s (y ∷ ys) h = at (y.stage == s) refl (each_in_stage P s ys h.
 pub op_trunk_only : (ms : List Mem) (vs : List Var) (s : Stmt) (op : Flat.Op)
     → op_of ms vs s ≡ Some op → trunk_only op ≡ true → is_trunk_only s ≡ true
 op_trunk_only ms vs (Separator _) op e h = cc
-op_trunk_only ms vs (CombRead _ x from) op e h = absurd (false≢true (ap (from_op trunk_only) e ∙ h))
-op_trunk_only ms vs (Bind _ x f) op e h = absurd (false≢true (ap (from_op trunk_only) e ∙ h))
+op_trunk_only ms vs (CombRead _ x from) op e h =
+    absurd
+    (false≢true (sym (read_none (trunk_only) (is_advisory_mem ms from.mem.name) (length vs) (mem_of ms from.mem.name) (var_of vs from.address.name) refl refl)
+    ∙ ap (from_op trunk_only) e ∙ h))
+op_trunk_only ms vs (Bind _ x f) op e h =
+    absurd (false≢true (sym (bind_none (trunk_only) (is_advised vs f) (length vs) (flat_expr vs f) refl refl) ∙ ap (from_op trunk_only) e ∙ h))
 op_trunk_only ms vs (DelayedRead _ x from) op e h = absurd (false≢true (ap (from_op trunk_only) e ∙ h))
-op_trunk_only ms vs (Write _ to f) op e h = absurd (false≢true (ap (from_op trunk_only) e ∙ h))
+op_trunk_only ms vs (Write _ to f) op e h =
+    absurd
+    (false≢true (sym (write_none (trunk_only) (is_advisory_mem ms to.mem.name) (mem_of ms to.mem.name) (var_of vs to.address.name) (flat_expr vs f) refl refl)
+    ∙ ap (from_op trunk_only) e ∙ h))
 op_trunk_only ms vs (Block _ at) op e h = absurd (false≢true (ap (from_op trunk_only) e ∙ h))
 op_trunk_only ms vs (If _ (Variable x) when otherwise) op e h = cc
 op_trunk_only ms vs (If _ c when otherwise) op e h = absurd (false≢true (ap (from_op trunk_only) e ∙ h))

@@ -1,31 +1,34 @@
--- Where a stage stands in the graph of a shape: in the trunk, at a fork, or in a branch of one; and where a thread goes from it.
-use Rattle.std.proofs.Common.{◌≡◌, refl, sym, ap, ap₂, ◌∙◌, subst, ℕ, zero, suc, ◌+◌, ◌-◌, ◌≤◌, ◌<◌, ◌⊎◌, inl, inr, Bool, true, false, List, [], ◌∷◌, ◌++◌, length, append_assoc, length-append, Option, Some, None, arith, cond, slice_index_or}
+-- Where a stage stands in the graph of a shape: what its fork is, in each branch around it, and where it leads.
+use Rattle.std.proofs.Common.{◌≡◌, refl, sym, ap, ap₂, ◌∙◌, subst, ℕ, zero, suc, ◌+◌, ◌≤◌, ◌<◌, ◌⊎◌, inl, inr, Bool, true, false, List, [], ◌∷◌, ◌++◌, length, append_assoc, length-append, Option, Some, None, unwrap_or, arith, cond, slice_index_or, le_refl}
 use Rattle.std.proofs.Math.Seq.{get_or-append_seam}
-use Rattle.std.proofs.lemmas.List.{get_or_past}
 use Rattle.std.proofs.lemmas.Bool.{cases_lt}
 use Rattle.pdl_semantics.specs.Flat
 use Rattle.pdl_semantics.specs.Flatten.{entry, side}
 use Rattle.pdl_semantics.specs.Stages.{last_stage, stage_at}
-use Rattle.pdl_theory_facts.specs.Graphs.{Trunk, In}
-use Rattle.pdl_source_stages.proofs.Shapes.{Shape, Last, Cut, Fork, stage, leads, row, leads_on, after}
+use Rattle.pdl_theory_facts.specs.Graphs.{Home, Within, Trunk}
+use Rattle.pdl_theory_facts.proofs.Nested.{within_home}
+use Rattle.pdl_source_stages.proofs.Shapes.{Shape, Last, Cut, Fork, Side, Straight, Runs, size, long, stage, merge_at, side_leads, leads_on, after, side_after}
 
 -- each fork has a branch stage
-abbrev pub Proper : Shape → Type 0
-Proper Last = Unit {0}
-Proper (Cut rest) = Proper rest
-Proper (Fork x a b rest) = (0 < a + b) × Proper rest
+abbrev mutual
+  -- of a shape
+  pub Proper : Shape → Type 0
+  Proper Last = Unit {0}
+  Proper (Cut rest) = Proper rest
+  Proper (Fork x a b rest) = (0 < long a + long b) × ProperSide a × ProperSide b × Proper rest
 
--- the merge of a fork in stage f
-abbrev pub merge_at : ℕ → ℕ → ℕ → ℕ
-merge_at f a b = suc (f + a + b)
+  -- of a branch
+  pub ProperSide : Side → Type 0
+  ProperSide Straight = Unit {0}
+  ProperSide (Runs sh) = Proper sh
 
 -- after which stage a branch begins, and how many stages it has
 abbrev pub start : ℕ → ℕ → Bool → ℕ
 start f a first = cond first f (f + a)
 
--- how many stages a fork's first branch has, or its second
-abbrev pub long : ℕ → ℕ → Bool → ℕ
-long a b first = cond first a b
+-- how many stages this branch of the two has
+abbrev pub many : ℕ → ℕ → Bool → ℕ
+many a b first = cond first a b
 
 -- THE LIST OF STAGES
 
@@ -44,255 +47,273 @@ rest_tail p k x xs h = (
   let e = h.2 in let f = length-append h.0 (x ∷ []) in let g : length (x ∷ []) ≡ 1 = refl in omega arith,
 )
 
--- the stages of a branch after stage s
-abbrev pub Chain : Flat.Pipe → Option Flat.Branch → Flat.Next → ℕ → ℕ → Type 0
-Chain p branch exit s n = (d j : ℕ) → d + suc j ≡ n → stage_at p (suc (s + d)) ≡ stage (leads (suc (s + d)) exit j) branch None
-
-chain : (p : Flat.Pipe) (branch : Option Flat.Branch) (exit : Flat.Next) (s n : ℕ) (ys : List Flat.Stage)
-    → Rest p (suc s) (row branch exit s n ++ ys) → Chain p branch exit s n × Rest p (suc (s + n)) ys
-chain p branch exit s zero ys h = ((λ d j e. absurd (omega arith)), subst (λ k. Rest p k ys) (let e : suc s ≡ suc (s + 0) = omega arith in e) h)
-chain p branch exit s (suc n) ys h =
-    let more = chain p branch exit (suc s) n ys (rest_tail p (suc s) _ (row branch exit (suc s) n ++ ys) h) in (
-      each more.0,
-      subst (λ k. Rest p k ys) (let e : suc (suc s + n) ≡ suc (s + suc n) = omega arith in e) more.1,
-    )
-  where
-    each : Chain p branch exit (suc s) n → Chain p branch exit s (suc n)
-    each c zero j e =
-        let same : n ≡ j = omega arith in
-        subst (λ k. stage_at p (suc k) ≡ stage (leads (suc k) exit j) branch None) (let f : s ≡ s + 0 = omega arith in f)
-        (subst (λ i. stage_at p (suc s) ≡ stage (leads (suc s) exit i) branch None) same (rest_head p (suc s) _ (row branch exit (suc s) n ++ ys) h))
-    each c (suc d) j e =
-        subst (λ k. stage_at p (suc k) ≡ stage (leads (suc k) exit j) branch None) (let f : suc s + d ≡ s + suc d = omega arith in f) (c d j (omega arith))
-
 -- GROUPS
 
--- the stages of a pipe from k on have this shape, and stage k merges this fork, if it merges one
-abbrev pub Groups : Flat.Pipe → ℕ → Option ℕ → Shape → Type 0
-Groups p k merges Last = (stage_at p k ≡ stage Flat.Ends None merges) × (suc k ≡ length p.stages)
-Groups p k merges (Cut rest) = (stage_at p k ≡ stage (Flat.Goes (suc k)) None merges) × Groups p (suc k) None rest
-Groups p k merges (Fork x a b rest) =
-    (stage_at p k ≡ stage (leads_on k (Fork x a b rest)) None merges)
-    × (0 < a + b)
-    × Chain p (side k true) (Flat.Goes (merge_at k a b)) k a
-    × Chain p (side k false) (Flat.Goes (merge_at k a b)) (k + a) b
-    × Groups p (merge_at k a b) (Some k) rest
+abbrev mutual
+  -- the stages from k on are those of this shape, in these branches
+  pub Groups : Flat.Pipe → List Flat.Branch → Flat.Next → ℕ → Option ℕ → Shape → Type 0
+  Groups p c exit k merges Last = stage_at p k ≡ stage exit c merges
+  Groups p c exit k merges (Cut rest) = (stage_at p k ≡ stage (Flat.Goes (suc k)) c merges) × Groups p c exit (suc k) None rest
+  Groups p c exit k merges (Fork x a b rest) =
+      (stage_at p k ≡ stage (leads_on exit k (Fork x a b rest)) c merges)
+      × (0 < long a + long b)
+      × Sides p (side k true ∷ c) (Flat.Goes (merge_at k (long a) (long b))) k a
+      × Sides p (side k false ∷ c) (Flat.Goes (merge_at k (long a) (long b))) (k + long a) b
+      × Groups p c exit (merge_at k (long a) (long b)) (Some k) rest
 
--- stages that are listed by a shape from k on have that shape, where each of its forks has a branch stage
-pub groups : (p : Flat.Pipe) (k : ℕ) (merges : Option ℕ) (sh : Shape) → Proper sh
-    → Rest p k (stage (leads_on k sh) None merges ∷ after k sh) → Groups p k merges sh
-groups p k merges Last proper h = (
-  rest_head p k _ [] h,
-  let e = h.2 in let f = ap length h.1 in let g = length-append h.0 (stage Flat.Ends None merges ∷ []) in
-      let i : length (stage Flat.Ends None merges ∷ []) ≡ 1 = refl in omega arith,
-)
-groups p k merges (Cut rest) proper h = (rest_head p k _ _ h, groups p (suc k) None rest proper (rest_tail p k _ _ h))
-groups p k merges (Fork x a b rest) proper h =
-    let tail =
-    subst (λ l. Rest p (suc k) l)
-    (append_assoc (row (side k true) (Flat.Goes (merge_at k a b)) k a)
-    (row (side k false) (Flat.Goes (merge_at k a b)) (k + a) b)
-    (stage (leads_on (merge_at k a b) rest) None (Some k) ∷ after (merge_at k a b) rest))
-    (rest_tail p k _ _ h) in
-    let one = chain p (side k true) (Flat.Goes (merge_at k a b)) k a _ tail in
-    let two = chain p (side k false) (Flat.Goes (merge_at k a b)) (k + a) b _ one.1 in
-    (rest_head p k _ _ h, proper.0, one.0, two.0, groups p (merge_at k a b) (Some k) rest proper.1 two.1)
+  -- the stages after k are those of this branch
+  pub Sides : Flat.Pipe → List Flat.Branch → Flat.Next → ℕ → Side → Type 0
+  Sides p c exit k Straight = Unit {0}
+  Sides p c exit k (Runs sh) = Groups p c exit (suc k) None sh
 
--- the stage in which a shape begins stands in the trunk
-pub group_trunk : (p : Flat.Pipe) (k : ℕ) (merges : Option ℕ) (sh : Shape) → Groups p k merges sh → Trunk p k
-group_trunk p k merges Last g = ap (λ (x : Flat.Stage). x.branch) g.0
-group_trunk p k merges (Cut rest) g = ap (λ (x : Flat.Stage). x.branch) g.0
-group_trunk p k merges (Fork x a b rest) g = ap (λ (x : Flat.Stage). x.branch) g.0
+mutual
+  -- where the list of stages goes on with those of a shape, they are its stages
+  pub groups : (p : Flat.Pipe) (c : List Flat.Branch) (exit : Flat.Next) (k : ℕ) (merges : Option ℕ) (sh : Shape) (ys : List Flat.Stage)
+      → Proper sh → Rest p k (stage (leads_on exit k sh) c merges ∷ (after c exit k sh ++ ys))
+      → Groups p c exit k merges sh × Rest p (k + size sh) ys
+  groups p c exit k merges Last ys proper h = (rest_head p k _ _ h, subst (λ n. Rest p n ys) (let e : suc k ≡ k + 1 = omega arith in e) (rest_tail p k _ _ h))
+  groups p c exit k merges (Cut rest) ys proper h =
+      let more = groups p c exit (suc k) None rest ys proper (rest_tail p k _ _ h) in
+      ((rest_head p k _ _ h, more.0), subst (λ n. Rest p n ys) (let e : suc k + size rest ≡ k + suc (size rest) = omega arith in e) more.1)
+  groups p c exit k merges (Fork x a b rest) ys proper h =
+      let m = merge_at k (long a) (long b) in
+      let one' = side_after (side k true ∷ c) (Flat.Goes m) k a in
+      let two' = side_after (side k false ∷ c) (Flat.Goes m) (k + long a) b in
+      let third = stage (leads_on exit m rest) c (Some k) ∷ after c exit m rest in
+      let tail = subst (λ l. Rest p (suc k) l) (append_assoc (one' ++ two') third ys ∙ append_assoc one' two' (third ++ ys)) (rest_tail p k _ _ h) in
+      let one = sides p (side k true ∷ c) (Flat.Goes m) k a (two' ++ (third ++ ys)) proper.1 tail in
+      let two = sides p (side k false ∷ c) (Flat.Goes m) (k + long a) b (third ++ ys) proper.2 one.1 in
+      let more = groups p c exit m (Some k) rest ys proper.3 two.1 in (
+        (rest_head p k _ _ h, proper.0, one.0, two.0, more.0),
+        subst (λ n. Rest p n ys)
+            (let e : merge_at k (long a) (long b) + size rest ≡ k + suc (long a + long b + size rest) = omega arith in e) more.1,
+      )
 
--- the stage in which a shape begins merges the fork that is said to be merged there, if one is
-pub group_merge : (p : Flat.Pipe) (k : ℕ) (merges : Option ℕ) (sh : Shape) → Groups p k merges sh → (stage_at p k).merges ≡ merges
-group_merge p k merges Last g = ap (λ (x : Flat.Stage). x.merges) g.0
-group_merge p k merges (Cut rest) g = ap (λ (x : Flat.Stage). x.merges) g.0
-group_merge p k merges (Fork x a b rest) g = ap (λ (x : Flat.Stage). x.merges) g.0
+  -- and with those of a branch
+  pub sides : (p : Flat.Pipe) (c : List Flat.Branch) (exit : Flat.Next) (k : ℕ) (sd : Side) (ys : List Flat.Stage)
+      → ProperSide sd → Rest p (suc k) (side_after c exit k sd ++ ys) → Sides p c exit k sd × Rest p (suc (k + long sd)) ys
+  sides p c exit k Straight ys proper h = (tt, subst (λ n. Rest p n ys) (let e : suc k ≡ suc (k + 0) = omega arith in e) h)
+  sides p c exit k (Runs sh) ys proper h =
+      let more = groups p c exit (suc k) None sh ys proper h in
+      (more.0, subst (λ n. Rest p n ys) (let e : suc k + size sh ≡ suc (k + size sh) = omega arith in e) more.1)
 
--- the stage in which a shape begins is one of the pipe's
-pub group_inside : (p : Flat.Pipe) (k : ℕ) (merges : Option ℕ) (sh : Shape) → Groups p k merges sh → k < length p.stages
-group_inside p k merges Last g = let e = g.1 in omega arith
-group_inside p k merges (Cut rest) g = let e = group_inside p (suc k) None rest g.1 in omega arith
-group_inside p k merges (Fork x a b rest) g = let e = group_inside p (merge_at k a b) (Some k) rest g.4 in omega arith
+-- the first stage of a shape stands in just its branches
+pub group_home : (p : Flat.Pipe) (c : List Flat.Branch) (exit : Flat.Next) (k : ℕ) (merges : Option ℕ) (sh : Shape) → Groups p c exit k merges sh → Home p c k
+group_home p c exit k merges Last g = ap (λ (x : Flat.Stage). x.branches) g
+group_home p c exit k merges (Cut rest) g = ap (λ (x : Flat.Stage). x.branches) g.0
+group_home p c exit k merges (Fork x a b rest) g = ap (λ (x : Flat.Stage). x.branches) g.0
+
+-- and merges what is told
+pub group_merge : (p : Flat.Pipe) (c : List Flat.Branch) (exit : Flat.Next) (k : ℕ) (merges : Option ℕ) (sh : Shape)
+    → Groups p c exit k merges sh → (stage_at p k).merges ≡ merges
+group_merge p c exit k merges Last g = ap (λ (x : Flat.Stage). x.merges) g
+group_merge p c exit k merges (Cut rest) g = ap (λ (x : Flat.Stage). x.merges) g.0
+group_merge p c exit k merges (Fork x a b rest) g = ap (λ (x : Flat.Stage). x.merges) g.0
+
+some_size : (sh : Shape) → 0 < size sh
+some_size Last = omega arith
+some_size (Cut rest) = omega arith
+some_size (Fork x a b rest) = omega arith
+
+more_within : (p : Flat.Pipe) (c d : List Flat.Branch) (x : Flat.Branch) (r : ℕ) → d ≡ x ∷ c → Within p d r → Within p c r
+more_within p c d x r e h = (h.0 ++ x ∷ [], h.1 ∙ ap (λ l. h.0 ++ l) e ∙ sym (append_assoc h.0 (x ∷ []) c))
+
+-- all stages of a shape stand within its branches
+mutual
+  -- those of a shape
+  pub group_within : (p : Flat.Pipe) (c : List Flat.Branch) (exit : Flat.Next) (k : ℕ) (merges : Option ℕ) (sh : Shape)
+      → Groups p c exit k merges sh → (r : ℕ) → k ≤ r → r < k + size sh → Within p c r
+  group_within p c exit k merges Last g r low high =
+      subst (Within p c) (let e : k ≡ r = omega arith in e) (within_home p c k (group_home p c exit k merges Last g))
+  group_within p c exit k merges (Cut rest) g r low high = at (cases_lt k r) (λ l. group_within p c exit (suc k) None rest g.1 r l (omega arith))
+    where
+      at : (k < r) ⊎ (r ≤ k) → (suc k ≤ r → Within p c r) → Within p c r
+      at (inl l) more = more (omega arith)
+      at (inr l) more = subst (Within p c) (let e : k ≡ r = omega arith in e) (within_home p c k (group_home p c exit k merges (Cut rest) g))
+  group_within p c exit k merges (Fork x a b rest) g r low high =
+      at (cases_lt k r) (cases_lt (k + long a) r) (cases_lt r (merge_at k (long a) (long b)))
+      (λ l m. more_within p c (side k true ∷ c) (side k true) r refl (side_within p (side k true ∷ c) (Flat.Goes (merge_at k (long a) (long b))) k a g.2 r l m))
+      (λ l m. more_within p c (side k false ∷ c) (side k false) r refl
+      (side_within p (side k false ∷ c) (Flat.Goes (merge_at k (long a) (long b))) (k + long a) b g.3 r l m))
+      (λ l. group_within p c exit (merge_at k (long a) (long b)) (Some k) rest g.4 r l (omega arith))
+    where
+      at : (k < r) ⊎ (r ≤ k) → (k + long a < r) ⊎ (r ≤ k + long a) → (r < merge_at k (long a) (long b)) ⊎ (merge_at k (long a) (long b) ≤ r)
+          → (k < r → r ≤ k + long a → Within p c r) → (k + long a < r → r ≤ k + long a + long b → Within p c r)
+          → (merge_at k (long a) (long b) ≤ r → Within p c r) → Within p c r
+      at (inr l) m n one two three =
+          subst (Within p c) (let e : k ≡ r = omega arith in e) (within_home p c k (group_home p c exit k merges (Fork x a b rest) g))
+      at (inl l) (inr m) n one two three = one l m
+      at (inl l) (inl m) (inl n) one two three = two m (omega arith)
+      at (inl l) (inl m) (inr n) one two three = three n
+
+  -- and those of a branch
+  pub side_within : (p : Flat.Pipe) (c : List Flat.Branch) (exit : Flat.Next) (k : ℕ) (sd : Side)
+      → Sides p c exit k sd → (r : ℕ) → k < r → r ≤ k + long sd → Within p c r
+  side_within p c exit k Straight g r low high = absurd (omega arith)
+  side_within p c exit k (Runs sh) g r low high = group_within p c exit (suc k) None sh g r (omega arith) (omega arith)
 
 -- SPOTS
 
--- stage f forks on x, with so many stages in each branch
-pub record Forked (p : Flat.Pipe) (f x a b : ℕ) : Type 0 where
-  pub next : (stage_at p f).next ≡ Flat.Forks x (entry (leads f (Flat.Goes (merge_at f a b)) a)) (entry (leads (f + a) (Flat.Goes (merge_at f a b)) b))
-  pub trunk : Trunk p f
+-- where a branch of so many stages after stage k is entered
+abbrev pub enters : ℕ → ℕ → ℕ → ℕ
+enters k m zero = m
+enters k m (suc n) = suc k
+
+-- stage f forks on x, with a and b stages in its branches
+pub record Forked (p : Flat.Pipe) (c : List Flat.Branch) (f x a b : ℕ) : Type 0 where
+  pub home : Home p c f
+  pub next : (stage_at p f).next ≡ Flat.Forks x (enters f (merge_at f a b) a) (enters (f + a) (merge_at f a b) b)
   pub some : 0 < a + b
-  pub chain : (first : Bool) → Chain p (side f first) (Flat.Goes (merge_at f a b)) (start f a first) (long a b first)
-  pub merge_trunk : Trunk p (merge_at f a b)
+  pub within : (first : Bool) (r : ℕ) → start f a first < r → r ≤ start f a first + many a b first → Within p (side f first ∷ c) r
+  pub begins : (first : Bool) → 0 < many a b first → Home p (side f first ∷ c) (suc (start f a first)) × ((stage_at p (suc (start f a first))).merges ≡ None)
+  pub merge_home : Home p c (merge_at f a b)
   pub merge : (stage_at p (merge_at f a b)).merges ≡ Some f
   pub inside : merge_at f a b < length p.stages
 
--- the last stage, one that leads to the next, a fork, or one in a branch with d branch stages before it and j after it
+-- the last stage; one that leads to the next; a fork; or the last one of a branch
 pub data Spot (p : Flat.Pipe) (s : ℕ) : Type 0 where
   Final : (stage_at p s).next ≡ Flat.Ends → Trunk p s → suc s ≡ length p.stages → Spot p s
-  Line : (stage_at p s).next ≡ Flat.Goes (suc s) → Trunk p s → Trunk p (suc s) → (stage_at p (suc s)).merges ≡ None → suc s < length p.stages → Spot p s
-  AtFork : (x a b : ℕ) → Forked p s x a b → Spot p s
-  Inner : (f x a b : ℕ) (first : Bool) (d j : ℕ) → Forked p f x a b → d + suc j ≡ long a b first → s ≡ suc (start f a first + d) → Spot p s
+  Line : (c : List Flat.Branch)
+      → (stage_at p s).next ≡ Flat.Goes (suc s) → Home p c s → Home p c (suc s) → (stage_at p (suc s)).merges ≡ None
+      → suc s < length p.stages → Spot p s
+  AtFork : (c : List Flat.Branch) (x a b : ℕ) → Forked p c s x a b → Spot p s
+  Leaves : (c : List Flat.Branch) (f x a b : ℕ) (first : Bool)
+      → Forked p c f x a b → Home p (side f first ∷ c) s → s ≡ start f a first + many a b first
+      → (stage_at p s).next ≡ Flat.Goes (merge_at f a b) → Spot p s
 
--- a shape that begins with a fork begins in a stage with that fork, its branches and its merge
-pub group_fork : (p : Flat.Pipe) (k : ℕ) (merges : Option ℕ) (x a b : ℕ) (rest : Shape)
-    → Groups p k merges (Fork x a b rest) → Forked p k x a b
-group_fork p k merges x a b rest g = record {
-  next = ap (λ (x : Flat.Stage). x.next) g.0;
-  trunk = ap (λ (x : Flat.Stage). x.branch) g.0;
-  some = g.1;
-  chain = chains;
-  merge_trunk = group_trunk p (merge_at k a b) (Some k) rest g.4;
-  merge = group_merge p (merge_at k a b) (Some k) rest g.4;
-  inside = group_inside p (merge_at k a b) (Some k) rest g.4;
-}
-  where
-    chains : (first : Bool) → Chain p (side k first) (Flat.Goes (merge_at k a b)) (start k a first) (long a b first)
-    chains true = g.2
-    chains false = g.3
-
--- each stage from k on is the last, one in line, a fork or one in a branch, where they have a shape
-pub spot : (p : Flat.Pipe) (k : ℕ) (merges : Option ℕ) (sh : Shape) → Groups p k merges sh → (s : ℕ)
-    → k ≤ s → s < length p.stages → Spot p s
-spot p k merges Last g s low high =
-    let e = g.1 in
-    subst (Spot p) (let f : k ≡ s = omega arith in f) (Final (ap (λ (x : Flat.Stage). x.next) g.0) (ap (λ (x : Flat.Stage). x.branch) g.0) g.1)
-spot p k merges (Cut rest) g s low high = at (λ l. spot p (suc k) None rest g.1 s l high) (cases_lt k s)
-  where
-    at : (suc k ≤ s → Spot p s) → (k < s) ⊎ (s ≤ k) → Spot p s
-    at after (inl l) = after (omega arith)
-    at after (inr l) =
-        subst (Spot p) (let f : k ≡ s = omega arith in f)
-        (Line (ap (λ (x : Flat.Stage). x.next) g.0) (ap (λ (x : Flat.Stage). x.branch) g.0)
-        (group_trunk p (suc k) None rest g.1) (group_merge p (suc k) None rest g.1)
-        (group_inside p (suc k) None rest g.1))
-spot p k merges (Fork x a b rest) g s low high = at (λ l. spot p (merge_at k a b) (Some k) rest g.4 s l high) (cases_lt k s)
-  where
-    third : (merge_at k a b ≤ s → Spot p s) → (k + a < s) → (merge_at k a b ≤ s) ⊎ (s < merge_at k a b) → Spot p s
-    third after l (inl m) = after m
-    third after l (inr m) = Inner k x a b false (s - suc (k + a)) (k + a + b - s) (group_fork p k merges x a b rest g) (omega arith) (omega arith)
-
-    either : (merge_at k a b ≤ s) ⊎ (s < merge_at k a b)
-    either = turn (cases_lt s (merge_at k a b))
-      where
-        turn : (s < merge_at k a b) ⊎ (merge_at k a b ≤ s) → (merge_at k a b ≤ s) ⊎ (s < merge_at k a b)
-        turn (inl l) = inr l
-        turn (inr l) = inl l
-
-    second : (merge_at k a b ≤ s → Spot p s) → (k < s) → (k + a < s) ⊎ (s ≤ k + a) → Spot p s
-    second after l (inl m) = third after m either
-    second after l (inr m) = Inner k x a b true (s - suc k) (k + a - s) (group_fork p k merges x a b rest g) (omega arith) (omega arith)
-
-    at : (merge_at k a b ≤ s → Spot p s) → (k < s) ⊎ (s ≤ k) → Spot p s
-    at after (inl l) = second after l (cases_lt (k + a) s)
-    at after (inr l) = subst (Spot p) (let f : k ≡ s = omega arith in f) (AtFork x a b (group_fork p k merges x a b rest g))
-
--- BRANCHES
-
--- every stage between a fork and its merge stands in a branch of it
-pub between_in : (p : Flat.Pipe) (f x a b r : ℕ) → Forked p f x a b
-    → f < r → r < merge_at f a b
-    → (first : Bool) × (d : ℕ) × (j : ℕ) × (d + suc j ≡ long a b first) × (r ≡ suc (start f a first + d))
-    × In p (record { fork = f; first = first }) r
-between_in p f x a b r fork low high = at (cases_lt (f + a) r)
-  where
-    here : (first : Bool) (d j : ℕ) → d + suc j ≡ long a b first → r ≡ suc (start f a first + d) → In p (record { fork = f; first = first }) r
-    here first d j e i = ap (λ k. (stage_at p k).branch) i ∙ ap (λ (y : Flat.Stage). y.branch) (fork.chain first d j e)
-
-    at : (f + a < r) ⊎ (r ≤ f + a)
-        → (first : Bool) × (d : ℕ) × (j : ℕ) × (d + suc j ≡ long a b first) × (r ≡ suc (start f a first + d)) × In p (record { fork = f; first = first }) r
-    at (inl l) =
-        let e : (r - suc (f + a)) + suc (f + a + b - r) ≡ b = omega arith in
-        let i : r ≡ suc (f + a + (r - suc (f + a))) = omega arith in
-        (false, r - suc (f + a), f + a + b - r, e, i, here false (r - suc (f + a)) (f + a + b - r) e i)
-    at (inr l) =
-        let e : (r - suc f) + suc (f + a - r) ≡ a = omega arith in
-        let i : r ≡ suc (f + (r - suc f)) = omega arith in
-        (true, r - suc f, f + a - r, e, i, here true (r - suc f) (f + a - r) e i)
-
--- where there is nothing, there isn't something
-pub none_some : (A : Type 0) (x : A) (o : Option A) → o ≡ None → o ≡ Some x → ⊥
-none_some A x o e i = cc
-
--- a stage in the trunk stands in no branch
-pub not_trunk : (p : Flat.Pipe) (c : Flat.Branch) (r : ℕ) → Trunk p r → In p c r → ⊥
-not_trunk p c r t i = none_some Flat.Branch c (stage_at p r).branch t i
-
--- past the end there is no branch
-pub past_trunk : (p : Flat.Pipe) (r : ℕ) → length p.stages ≤ r → stage_at p r ≡ last_stage
-past_trunk p r h = get_or_past p.stages r last_stage h
-
--- the stage of a branch's fork, 0 where there is no branch
-abbrev pub fork_in : Option Flat.Branch → ℕ
-fork_in None = 0
-fork_in (Some c) = c.fork
-
--- whether a branch is the first of its fork, true where there is no branch
-abbrev pub first_in : Option Flat.Branch → Bool
-first_in None = true
-first_in (Some c) = c.first
-
--- what a stage in a branch is
-pub record Inside (p : Flat.Pipe) (c : Flat.Branch) (s : ℕ) : Type 0 where
+-- the fork of a branch around a stage
+pub record Around (p : Flat.Pipe) (y : Flat.Branch) (c : List Flat.Branch) (s : ℕ) : Type 0 where
   pub x : ℕ
   pub a : ℕ
   pub b : ℕ
-  pub d : ℕ
-  pub j : ℕ
-  pub fork : Forked p c.fork x a b
-  pub place : d + suc j ≡ long a b c.first
-  pub number : s ≡ suc (start c.fork a c.first + d)
+  pub fork : Forked p c y.fork x a b
+  pub low : start y.fork a y.first < s
+  pub high : s ≤ start y.fork a y.first + many a b y.first
 
--- a stage that stands in a branch is one of the branch's stages between its fork and its merge
-pub inside_of : (p : Flat.Pipe) → ((s : ℕ) → s < length p.stages → Spot p s) → (c : Flat.Branch) (s : ℕ) → In p c s → Inside p c s
-inside_of p spots c s h = at (cases_lt s (length p.stages))
+-- of each branch of these
+abbrev pub AllAround : Flat.Pipe → List Flat.Branch → ℕ → Type 0
+AllAround p [] s = Unit {0}
+AllAround p (y ∷ c) s = Around p y c s × AllAround p c s
+
+-- a stage is the merge of this fork
+abbrev pub Merges : Flat.Pipe → ℕ → ℕ → Type 0
+Merges p f s = (c : List Flat.Branch) × (x : ℕ) × (a : ℕ) × (b : ℕ) × Forked p c f x a b × (s ≡ merge_at f a b)
+
+-- what is shown of a stage: where it stands, each fork around it, and which fork it merges
+pub record Known (p : Flat.Pipe) (s : ℕ) : Type 0 where
+  pub spot : Spot p s
+  pub around : AllAround p (stage_at p s).branches s
+  pub merges : (f : ℕ) → (stage_at p s).merges ≡ Some f → Merges p f s
+
+none_some : {f : ℕ} → None ≡ Some f → ⊥
+none_some e = cc
+
+entry_side : (exit k m : ℕ) (sd : Side) → exit ≡ m → entry (side_leads (Flat.Goes exit) k sd) ≡ enters k m (long sd)
+entry_side exit k m Straight e = e
+entry_side exit k m (Runs sh) e = at (size sh) (some_size sh)
   where
-    by : Spot p s → Inside p c s
-    by (Final n t e) = absurd (not_trunk p c s t h)
-    by (Line n t u m l) = absurd (not_trunk p c s t h)
-    by (AtFork x a b k) = absurd (not_trunk p c s k.trunk h)
-    by (Inner f x a b first d j k e i) =
-        let same = sym (ap (λ n. (stage_at p n).branch) i ∙ ap (λ (y : Flat.Stage). y.branch) (k.chain first d j e)) ∙ h in
-        subst (λ g. Inside p (record { fork = g; first = c.first }) s) (ap fork_in same)
-        (subst (λ q. Inside p (record { fork = f; first = q }) s) (ap first_in same)
-        (record { x = x; a = a; b = b; d = d; j = j; fork = k; place = e; number = i }))
+    at : (n : ℕ) → 0 < n → suc k ≡ enters k m n
+    at zero l = absurd (omega arith)
+    at (suc n) l = refl
 
-    at : (s < length p.stages) ⊎ (length p.stages ≤ s) → Inside p c s
-    at (inl l) = by (spots s l)
-    at (inr l) = absurd (not_trunk p c s (ap (λ (y : Flat.Stage). y.branch) (past_trunk p s l)) h)
-
--- the branches of a fork have one length each, however the fork is described
-pub fork_same : (p : Flat.Pipe) (f x a b y c d : ℕ) → Forked p f x a b → Forked p f y c d → (a ≡ c) × (b ≡ d)
-fork_same p f x a b y c d k l =
-    let one = no_less p f x a b y c d k l in
-    let two = no_less p f y c d x a b l k in
-    let three = no_first p f x a b y c d k l in
-    let four = no_first p f y c d x a b l k in
-    (omega arith, omega arith)
+-- what is known of a fork in a shape
+pub group_fork : (p : Flat.Pipe) (c : List Flat.Branch) (exit : Flat.Next) (k : ℕ) (merges : Option ℕ) (x : ℕ) (a b : Side) (rest : Shape)
+    → Groups p c exit k merges (Fork x a b rest) → k + size (Fork x a b rest) ≤ length p.stages → Forked p c k x (long a) (long b)
+group_fork p c exit k merges x a b rest g inside = record {
+  home = ap (λ (y : Flat.Stage). y.branches) g.0;
+  next =
+      ap (λ (y : Flat.Stage). y.next) g.0
+      ∙ ap₂ (λ i j. Flat.Forks x i j) (entry_side (merge_at k (long a) (long b)) k (merge_at k (long a) (long b)) a refl)
+      (entry_side (merge_at k (long a) (long b)) (k + long a) (merge_at k (long a) (long b)) b refl);
+  some = g.1;
+  within = ins;
+  begins = firsts;
+  merge_home = group_home p c exit (merge_at k (long a) (long b)) (Some k) rest g.4;
+  merge = group_merge p c exit (merge_at k (long a) (long b)) (Some k) rest g.4;
+  inside = let n = some_size rest in omega arith;
+}
   where
-    no_less : (p : Flat.Pipe) (f x a b y c d : ℕ) → Forked p f x a b → Forked p f y c d → a + b ≤ c + d
-    no_less p f x a b y c d k l = at (cases_lt (c + d) (a + b))
-      where
-        at : (c + d < a + b) ⊎ (a + b ≤ c + d) → a + b ≤ c + d
-        at (inl m) = let h = between_in p f x a b (merge_at f c d) k (omega arith) (omega arith) in absurd (not_trunk p _ (merge_at f c d) l.merge_trunk h.5)
-        at (inr m) = m
+    ins : (first : Bool) (r : ℕ) → start k (long a) first < r → r ≤ start k (long a) first + many (long a) (long b) first → Within p (side k first ∷ c) r
+    ins true r low high = side_within p (side k true ∷ c) (Flat.Goes (merge_at k (long a) (long b))) k a g.2 r low high
+    ins false r low high = side_within p (side k false ∷ c) (Flat.Goes (merge_at k (long a) (long b))) (k + long a) b g.3 r low high
 
-    no_first : (p : Flat.Pipe) (f x a b y c d : ℕ) → Forked p f x a b → Forked p f y c d → a ≤ c
-    no_first p f x a b y c d k l = at (cases_lt c a)
-      where
-        clash : (o : Option Flat.Branch) → o ≡ side f true → o ≡ side f false → ⊥
-        clash o e i = sides (ap first_in (sym e ∙ i))
-          where
-            sides : true ≡ false → ⊥
-            sides z = cc
+    one : (d : List Flat.Branch) (m : Flat.Next) (j : ℕ) (sd : Side) → Sides p d m j sd → 0 < long sd → Home p d (suc j) × ((stage_at p (suc j)).merges ≡ None)
+    one d m j Straight h l = absurd (omega arith)
+    one d m j (Runs sh) h l = (group_home p d m (suc j) None sh h, group_merge p d m (suc j) None sh h)
 
-        at : (c < a) ⊎ (a ≤ c) → a ≤ c
-        at (inl m) =
-            let q = no_less p f x a b y c d k l in
-            let e : 0 + suc (d - 1) ≡ d = omega arith in
-            let i : c + suc (a - suc c) ≡ a = omega arith in
-            absurd (clash ((stage_at p (suc (f + c))).branch) (ap (λ (z : Flat.Stage). z.branch) (k.chain true c (a - suc c) i))
-            (subst (λ n. (stage_at p (suc n)).branch ≡ side f false) (let z : f + c + 0 ≡ f + c = omega arith in z)
-            (ap (λ (z : Flat.Stage). z.branch) (l.chain false 0 (d - 1) e))))
-        at (inr m) = m
+    firsts : (first : Bool)
+        → 0 < many (long a) (long b) first
+        → Home p (side k first ∷ c) (suc (start k (long a) first)) × ((stage_at p (suc (start k (long a) first))).merges ≡ None)
+    firsts true l = one (side k true ∷ c) (Flat.Goes (merge_at k (long a) (long b))) k a g.2 l
+    firsts false l = one (side k false ∷ c) (Flat.Goes (merge_at k (long a) (long b))) (k + long a) b g.3 l
+
+-- each stage of a shape, where the last one is known, and the forks around the shape
+mutual
+  -- of a shape
+  pub known : (p : Flat.Pipe) (c : List Flat.Branch) (exit : Flat.Next) (k : ℕ) (merges : Option ℕ) (sh : Shape)
+      → Groups p c exit k merges sh → k + size sh ≤ length p.stages
+      → ((n : ℕ) → suc n ≡ k + size sh → (stage_at p n).next ≡ exit → Home p c n → Spot p n) → ((n : ℕ) → k ≤ n → n < k + size sh → AllAround p c n)
+      → ((f : ℕ) → merges ≡ Some f → Merges p f k) → (s : ℕ) → k ≤ s → s < k + size sh → Known p s
+  known p c exit k merges Last g inside last around merge s low high =
+      subst (Known p) (let e : k ≡ s = omega arith in e)
+      (record {
+        spot = last k (omega arith) (ap (λ (x : Flat.Stage). x.next) g) (group_home p c exit k merges Last g);
+        around = subst (λ l. AllAround p l k) (sym (group_home p c exit k merges Last g)) (around k (le_refl k) (omega arith));
+        merges = λ f e. merge f (sym (group_merge p c exit k merges Last g) ∙ e);
+      })
+  known p c exit k merges (Cut rest) g inside last around merge s low high =
+      at (cases_lt k s)
+      (λ l. known p c exit (suc k) None rest g.1 (omega arith) (λ n e. last n (omega arith)) (λ n i j. around n (omega arith) (omega arith))
+      (λ f e. absurd (none_some e)) s l (omega arith))
+    where
+      at : (k < s) ⊎ (s ≤ k) → (suc k ≤ s → Known p s) → Known p s
+      at (inl l) more = more (omega arith)
+      at (inr l) more =
+          subst (Known p) (let e : k ≡ s = omega arith in e)
+          (record {
+            spot =
+                Line c (ap (λ (x : Flat.Stage). x.next) g.0) (ap (λ (x : Flat.Stage). x.branches) g.0) (group_home p c exit (suc k) None rest g.1)
+                (group_merge p c exit (suc k) None rest g.1) (let n = some_size rest in omega arith);
+            around = subst (λ l. AllAround p l k) (sym (ap (λ (x : Flat.Stage). x.branches) g.0)) (around k (le_refl k) (omega arith));
+            merges = λ f e. merge f (sym (group_merge p c exit k merges (Cut rest) g) ∙ e);
+          })
+  known p c exit k merges (Fork x a b rest) g inside last around merge s low high =
+      at (cases_lt k s) (cases_lt (k + long a) s) (cases_lt s (merge_at k (long a) (long b)))
+      (λ l m. known_side p c k x (long a) (long b) true fork a k refl g.2 (omega arith) (λ n i j. around n (omega arith) (omega arith)) s l m refl)
+      (λ l m. known_side p c k x (long a) (long b) false fork b (k + long a) refl g.3 (omega arith) (λ n i j. around n (omega arith) (omega arith)) s l m refl)
+      (λ l. known p c exit (merge_at k (long a) (long b)) (Some k) rest g.4 (omega arith) (λ n e. last n (omega arith))
+      (λ n i j. around n (omega arith) (omega arith))
+      (λ f e. subst (λ n. Merges p n (merge_at k (long a) (long b))) (some_is k f e) (c, x, long a, long b, fork, refl)) s l (omega arith))
+    where
+      some_is : (m n : ℕ) → Some m ≡ Some n → m ≡ n
+      some_is m n e = ap (λ o. unwrap_or o 0) e
+
+      fork : Forked p c k x (long a) (long b)
+      fork = group_fork p c exit k merges x a b rest g inside
+
+      at : (k < s) ⊎ (s ≤ k) → (k + long a < s) ⊎ (s ≤ k + long a) → (s < merge_at k (long a) (long b)) ⊎ (merge_at k (long a) (long b) ≤ s)
+          → (k < s → s ≤ k + long a → Known p s) → (k + long a < s → s ≤ k + long a + long b → Known p s)
+          → (merge_at k (long a) (long b) ≤ s → Known p s) → Known p s
+      at (inr l) m n one two three =
+          subst (Known p) (let e : k ≡ s = omega arith in e)
+          (record {
+            spot = AtFork c x (long a) (long b) fork;
+            around = subst (λ l. AllAround p l k) (sym fork.home)
+                (around k (le_refl k) (omega arith));
+            merges = λ f e. merge f (sym (group_merge p c exit k merges (Fork x a b rest) g) ∙ e);
+          })
+      at (inl l) (inr m) n one two three = one l m
+      at (inl l) (inl m) (inl n) one two three = two m (omega arith)
+      at (inl l) (inl m) (inr n) one two three = three n
+
+  known_side : (p : Flat.Pipe) (c : List Flat.Branch) (f x a b : ℕ) (first : Bool)
+      → Forked p c f x a b → (sd : Side) (k : ℕ) → k ≡ start f a first → Sides p (side f first ∷ c) (Flat.Goes (merge_at f a b)) k sd
+      → suc (k + long sd) ≤ length p.stages
+      → ((n : ℕ) → k < n → n ≤ k + long sd → AllAround p c n) → (s : ℕ) → k < s → s ≤ k + long sd → long sd ≡ many a b first → Known p s
+  known_side p c f x a b first fork Straight k at_start g inside around s low high is = absurd (omega arith)
+  known_side p c f x a b first fork (Runs sh) k at_start g inside around s low high is =
+      known p (side f first ∷ c) (Flat.Goes (merge_at f a b)) (suc k) None sh g (omega arith)
+      (λ n e i h. Leaves c f x a b first fork h (omega arith) i)
+      (λ n i j. (record { x = x; a = a; b = b; fork = fork; low = omega arith; high = omega arith }, around n (omega arith) (omega arith)))
+      (λ h e. absurd (none_some e))
+      s (omega arith) (omega arith)

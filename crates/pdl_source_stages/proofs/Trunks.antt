@@ -1,114 +1,39 @@
--- What stands in the trunk: the stages of reserves, releases and verifies; and a branch's statements under the guard of their branch.
-use Rattle.std.proofs.Common.{◌≡◌, refl, sym, ap, ◌∙◌, subst, ℕ, zero, suc, ◌+◌, ◌≤◌, ◌<◌, ◌⊎◌, inl, inr, Bool, true, false, ◌||◌, not, List, [], ◌∷◌, ◌++◌, length, Option, Some, None, unwrap_or, arith, if◌then◌else◌, ◌==◌, nat_lt, slice_index, slice_index_or, take, eq-eqb, eqb-true, ltb-true, ltb-false}
-use Rattle.std.proofs.lemmas.Bool.{false≢true, and_parts, and_from, or_left, or_right, cases_lt}
+-- What stands in the trunk: the stages of reserves, releases and verifies; and a branch's statements under the guards of the branches around it.
+use Rattle.std.proofs.Common.{◌≡◌, refl, sym, ap, ◌∙◌, subst, ℕ, zero, suc, ◌+◌, ◌≤◌, ◌<◌, ◌⊎◌, inl, inr, Bool, true, false, not, List, [], ◌∷◌, ◌++◌, length, Option, Some, None, unwrap_or, arith, if◌then◌else◌, ◌==◌, nat_lt, slice_index, slice_index_or, ltb-true, ltb-false}
+use Rattle.std.proofs.lemmas.Bool.{false≢true, and_parts, and_from, cases_lt}
 use Rattle.pdl_kit.specs.declared.rule.Rule.TheVariants.{F1}
 use Rattle.pdl_semantics.specs.Tree.{Mem, Pipe}
 use Rattle.pdl_semantics.specs.Flat
 use Rattle.pdl_semantics.specs.Flat.{all_hold, takes_branch}
-use Rattle.pdl_semantics.specs.Flatten.{first_stage, first_stages, flat}
-use Rattle.pdl_semantics.specs.Stages.{last_stage, stage_at, in_stage, onpath, is_inside, is_branch_of, merges_fork, is_reserve, is_release, is_verify, verify_stage, list_any}
+use Rattle.pdl_semantics.specs.Flatten.{first_stage, first_stages, side, flat}
+use Rattle.pdl_semantics.specs.Stages.{stage_at, in_stage, onpath, is_inside, is_reserve, is_release, is_verify, verify_stage}
 use Rattle.pdl_semantics.specs.Cycle.{merges_by}
 use Rattle.pdl_rules.specs.Forks.{is_trunk_only}
 use Rattle.pdl_rules.specs.Refusal.{KeepsRules}
 use Rattle.pdl_theory_derived.specs.Alone.{before, answered_op}
 use Rattle.pdl_theory_facts.specs.Scans.{none_of}
-use Rattle.pdl_theory_facts.specs.Graphs.{Trunk, In, next_of, stage_or, goes_by, on_side, Graph, Branches}
+use Rattle.pdl_theory_facts.specs.Graphs.{Home, Trunk, next_of, stage_or, goes_by, on_side, Graph, Branches}
 use Rattle.pdl_theory_facts.specs.Facts.{trunk_only, visits_stage, comes_by}
+use Rattle.pdl_theory_facts.proofs.Nested.{not_empty}
 use Rattle.pdl_source_stages.proofs.Sites.{Site, place_of}
-use Rattle.pdl_source_stages.proofs.Shapes.{Shape, Last, Cut, Fork}
-use Rattle.pdl_source_stages.proofs.Spots.{merge_at, start, long, Groups, group_trunk, group_merge, group_fork, group_inside, Forked, Spot, between_in, not_trunk, none_some, past_trunk, inside_of, fork_same}
-use Rattle.pdl_source_stages.proofs.Ways.{Way, Ends, Steps, Enters, Skips, Stays, Leaves, way, start_low, start_high, graph_of, branches_of}
-use Rattle.pdl_source_stages.proofs.BodyShape.{body_forked, body_shape, body_groups, spots}
-use Rattle.pdl_source_stages.proofs.SiteStages.{Standing, OnTrunk, OnBranch, HasGuard, in_fork}
+use Rattle.pdl_source_stages.proofs.Shapes.{merge_at}
+use Rattle.pdl_source_stages.proofs.Spots.{start, many, group_home, Forked, Known}
+use Rattle.pdl_source_stages.proofs.Ways.{Step, Ends, Steps, Enters, Skips, Out, step, start_low, start_high, between_in}
+use Rattle.pdl_source_stages.proofs.Ways
+use Rattle.pdl_source_stages.proofs.BodyShape.{body_forked, body_shape, body_groups, stage_count, knows}
+use Rattle.pdl_source_stages.proofs.SiteStages.{AllGuarded, InFork, HasGuard, in_fork}
 use Rattle.pdl_source_stages.proofs.SiteFacts.{Fine, each_fine, each_in_stage, none_each, op_of, op_trunk_only}
 use Rattle.pdl_word.specs.Each.{Each}
 use Rattle.pdl_word.proofs.Each.{each_weaker}
-use Rattle.pdl_semantics.proofs.Facts.{merges_some}
-
--- MERGES
-
--- a stage that merges a fork is that fork's merge
-merge_group : (p : Flat.Pipe) (k : ℕ) (merges : Option ℕ) (sh : Shape) (i f : ℕ) → Groups p k merges sh
-    → (merges ≡ Some f → (x : ℕ) × (a : ℕ) × (b : ℕ) × Forked p f x a b × (k ≡ merge_at f a b)) → k ≤ i
-    → (stage_at p i).merges ≡ Some f → (x : ℕ) × (a : ℕ) × (b : ℕ) × Forked p f x a b × (i ≡ merge_at f a b)
-merge_group p k merges Last i f g h low e = at (cases_lt k i)
-  where
-    at : (k < i) ⊎ (i ≤ k) → (x : ℕ) × (a : ℕ) × (b : ℕ) × Forked p f x a b × (i ≡ merge_at f a b)
-    at (inl l) = absurd (none_some ℕ f (stage_at p i).merges (ap (λ (y : Flat.Stage). y.merges) (past_trunk p i (let q = g.1 in omega arith))) e)
-    at (inr l) =
-        let same : k ≡ i = omega arith in
-        let r = h (sym (group_merge p k merges Last g) ∙ ap (λ n. (stage_at p n).merges) same ∙ e) in
-        (r.0, r.1, r.2, r.3, sym same ∙ r.4)
-merge_group p k merges (Cut rest) i f g h low e = at (cases_lt k i) (λ l. merge_group p (suc k) None rest i f g.1 (λ z. absurd (none_some ℕ f None refl z)) l e)
-  where
-    at : (k < i) ⊎ (i ≤ k) → (suc k ≤ i → (x : ℕ) × (a : ℕ) × (b : ℕ) × Forked p f x a b × (i ≡ merge_at f a b))
-        → (x : ℕ) × (a : ℕ) × (b : ℕ) × Forked p f x a b × (i ≡ merge_at f a b)
-    at (inl l) more = more (omega arith)
-    at (inr l) more =
-        let same : k ≡ i = omega arith in
-        let r = h (sym (group_merge p k merges (Cut rest) g) ∙ ap (λ n. (stage_at p n).merges) same ∙ e) in
-        (r.0, r.1, r.2, r.3, sym same ∙ r.4)
-merge_group p k merges (Fork x a b rest) i f g h low e =
-    at (cases_lt k i)
-    (λ l. merge_group p (merge_at k a b)
-    (Some k) rest i f g.4 (λ z. (x, a, b, subst (λ n. Forked p n x a b) (number z) fork, ap (λ n. merge_at n a b) (number z))) l e)
-  where
-    fork : Forked p k x a b
-    fork = group_fork p k merges x a b rest g
-
-    number : Some k ≡ Some f → k ≡ f
-    number z = ap (λ o. unwrap_or o 0) z
-
-    inner : k < i → i < merge_at k a b → ⊥
-    inner l m =
-        let r = between_in p k x a b i fork l m in
-        none_some ℕ f (stage_at p i).merges (ap (λ n. (stage_at p n).merges) r.4 ∙ ap (λ (y : Flat.Stage). y.merges) (fork.chain r.0 r.1 r.2 r.3)) e
-
-    after : k < i → (i < merge_at k a b) ⊎ (merge_at k a b ≤ i)
-        → (merge_at k a b ≤ i → (x : ℕ) × (a : ℕ) × (b : ℕ) × Forked p f x a b × (i ≡ merge_at f a b))
-        → (x : ℕ) × (a : ℕ) × (b : ℕ) × Forked p f x a b × (i ≡ merge_at f a b)
-    after l (inl m) more = absurd (inner l m)
-    after l (inr m) more = more m
-
-    at : (k < i) ⊎ (i ≤ k)
-        → (merge_at k a b ≤ i → (x : ℕ) × (a : ℕ) × (b : ℕ) × Forked p f x a b × (i ≡ merge_at f a b))
-        → (x : ℕ) × (a : ℕ) × (b : ℕ) × Forked p f x a b × (i ≡ merge_at f a b)
-    at (inl l) more = after l (cases_lt i (merge_at k a b)) more
-    at (inr l) more =
-        let same : k ≡ i = omega arith in
-        let r = h (sym (group_merge p k merges (Fork x a b rest) g) ∙ ap (λ n. (stage_at p n).merges) same ∙ e) in
-        (r.0, r.1, r.2, r.3, sym same ∙ r.4)
-
--- a test of the first stages
-some_taken : (test : Flat.Stage → Bool) (d : Flat.Stage) (n i : ℕ) (xs : List Flat.Stage)
-    → i < n → i < length xs → test (slice_index_or xs i d) ≡ true → list_any test (take n xs) ≡ true
-some_taken test d n i [] l m h = absurd (omega arith)
-some_taken test d zero i (x ∷ xs) l m h = absurd (omega arith)
-some_taken test d (suc n) zero (x ∷ xs) l m h = or_left (test x) _ h
-some_taken test d (suc n) (suc i) (x ∷ xs) l m h = or_right (test x) _ (some_taken test d n i xs (omega arith) (omega arith) h)
-
-taken_some : (test : Flat.Stage → Bool) (d : Flat.Stage) (n : ℕ) (xs : List Flat.Stage)
-    → list_any test (take n xs) ≡ true → (i : ℕ) × (i < n) × (test (slice_index_or xs i d) ≡ true)
-taken_some test d zero [] h = absurd (false≢true h)
-taken_some test d (suc n) [] h = absurd (false≢true h)
-taken_some test d zero (x ∷ xs) h = absurd (false≢true h)
-taken_some test d (suc n) (x ∷ xs) h = at (test x) refl h (taken_some test d n xs)
-  where
-    at : (b : Bool) → test x ≡ b → (b || list_any test (take n xs)) ≡ true
-        → (list_any test (take n xs) ≡ true → (i : ℕ) × (i < n) × (test (slice_index_or xs i d) ≡ true))
-        → (i : ℕ) × (i < suc n) × (test (slice_index_or (x ∷ xs) i d) ≡ true)
-    at true e k more = (0, omega arith, e)
-    at false e k more = let r = more k in (suc r.0, (let l = r.1 in omega arith), r.2)
-
-branch_inside : (o : Option Flat.Branch) (f : ℕ) → is_branch_of o f ≡ true → (c : Flat.Branch) × (o ≡ Some c) × (c.fork ≡ f)
-branch_inside None f h = absurd (false≢true h)
-branch_inside (Some c) f h = (c, refl, eqb-true c.fork f h)
 
 -- THE FIRST STATEMENT OF A KIND
 
+no_stage : (s : ℕ) → None ≡ Some s → ⊥
+no_stage s e = cc
+
 first_good : (Good : ℕ → Type 0) (test : Flat.Op → Bool) (ys : List Flat.Stmt) (s : ℕ)
     → Each (λ y. test y.op ≡ true → Good y.stage) ys → first_stage test ys ≡ Some s → Good s
-first_good Good test [] s h e = absurd (none_some ℕ s None refl e)
+first_good Good test [] s h e = absurd (no_stage s e)
 first_good Good test (y ∷ ys) s h e = at (test y.op) refl e (first_good Good test ys s h.1)
   where
     at : (b : Bool) → test y.op ≡ b → (if b then Some y.stage else first_stage test ys) ≡ Some s → (first_stage test ys ≡ Some s → Good s) → Good s
@@ -146,7 +71,7 @@ release_trunk m (Flat.Release n a) h = refl
 release_trunk m _ h = absurd (false≢true h)
 
 verify_trunk : (op : Flat.Op) → is_verify op ≡ true → trunk_only op ≡ true
-verify_trunk (Flat.Verify args) h = refl
+verify_trunk (Flat.Verify last args) h = refl
 verify_trunk _ h = absurd (false≢true h)
 
 -- GUARDS
@@ -180,20 +105,40 @@ before_same path a b (y ∷ ys) l h = at (all_hold y.guards path) refl (before_s
     at true e k = here (nat_lt y.stage b) (nat_lt y.stage a) refl refl e k
     at false e k = k
 
+-- a path on which guards are taken comes by all branches whose guards are among them
+pub guarded_comes : (p : Flat.Pipe) (gs : List Flat.Guard) (path : List ℕ) (c : List Flat.Branch) → AllGuarded p gs c → all_hold gs path ≡ true
+    → comes_by p path c ≡ true
+guarded_comes p gs path [] h t = refl
+guarded_comes p gs path (y ∷ c) h t =
+    and_from (goes_by p y path) (comes_by p path c)
+    (ap (λ n. on_side n y.first path) h.0.3.next
+    ∙ turn y.first (slice_index path h.0.0) (has_taken (record { var = h.0.0; first = y.first }) gs path h.0.4 t))
+    (guarded_comes p gs path c h.1 t)
+  where
+    turn : (first : Bool) (v : ℕ) → takes_branch first v ≡ true → (if first then v == 1 else not (v == 1)) ≡ true
+    turn true v e = e
+    turn false v e = e
+
+-- a path that comes by some branches goes by each of them
+comes_within : (p : Flat.Pipe) (path : List ℕ) (inner : List Flat.Branch) (y : Flat.Branch) (c : List Flat.Branch)
+    → comes_by p path (inner ++ y ∷ c) ≡ true → goes_by p y path ≡ true
+comes_within p path [] y c h = (and_parts (goes_by p y path) (comes_by p path c) h).0
+comes_within p path (z ∷ zs) y c h = comes_within p path zs y c (and_parts (goes_by p z path) (comes_by p path (zs ++ y ∷ c)) h).1
+
 -- THE FACTS
 
 module _ (p : Pipe) (rules : KeepsRules p) where
-  -- each stage is the last one, leads to the next, is a fork, or stands in a branch
-  pub at_spot : (s : ℕ) → s < length (flat p).stages → Spot (flat p) s
-  at_spot = spots p (body_forked p rules)
+  -- what is known of each stage
+  pub known_at : (s : ℕ) → s < length (flat p).stages → Known (flat p) s
+  known_at = knows p (body_forked p rules)
 
   -- F1: what only the trunk holds stands in the trunk
   only_trunk : (t : Site) → Fine p t → (op : Flat.Op) → op_of p.mems t.walk.vars t.stmt ≡ Some op → trunk_only op ≡ true → Trunk (flat p) t.walk.stage
-  only_trunk t h op e o = at h.standing
+  only_trunk t h op e o = at h.standing.inner
     where
-      at : Standing (flat p) t → Trunk (flat p) t.walk.stage
-      at (OnTrunk u) = u
-      at (OnBranch c x a b k i g f) =
+      at : InFork (stage_at (flat p) t.walk.stage).branches t.branches → Trunk (flat p) t.walk.stage
+      at (inl u) = u
+      at (inr f) =
           let rule = rules F1 t.front (place_of t) h.later h.whole in
           absurd (false≢true (sym rule ∙ and_from (is_trunk_only t.stmt) (in_fork t.branches) (op_trunk_only p.mems t.walk.vars t.stmt op e o) f))
 
@@ -202,8 +147,8 @@ module _ (p : Pipe) (rules : KeepsRules p) where
   each_trunk = each_fine p rules (λ y. trunk_only y.op ≡ true → Trunk (flat p) y.stage) (λ t h op e. only_trunk t h op e)
 
   -- a stage in a branch has no statement that no branch may hold
-  pub trunk_holds : (s : ℕ) (c : Flat.Branch) → In (flat p) c s → none_of trunk_only (in_stage s (flat p).stmts) ≡ true
-  trunk_holds s c i =
+  pub trunk_holds : (x : Flat.Branch) (c : List Flat.Branch) (s : ℕ) → Home (flat p) (x ∷ c) s → none_of trunk_only (in_stage s (flat p).stmts) ≡ true
+  trunk_holds x c s i =
       none_each trunk_only (in_stage s (flat p).stmts)
       (each_in_stage (λ y. trunk_only y.op ≡ false) s (flat p).stmts
       (each_weaker (λ y. trunk_only y.op ≡ true → Trunk (flat p) y.stage) (λ y. y.stage ≡ s → trunk_only y.op ≡ false) at (flat p).stmts each_trunk))
@@ -212,7 +157,7 @@ module _ (p : Pipe) (rules : KeepsRules p) where
       at y h e = by (trunk_only y.op) refl
         where
           by : (b : Bool) → trunk_only y.op ≡ b → b ≡ false
-          by true f = absurd (not_trunk (flat p) c s (subst (Trunk (flat p)) e (h f)) i)
+          by true f = not_empty x c (sym i ∙ subst (Trunk (flat p)) e (h f))
           by false f = refl
 
   -- the first statement of a kind that only the trunk holds
@@ -224,10 +169,10 @@ module _ (p : Pipe) (rules : KeepsRules p) where
       (λ y. test y.op ≡ true → Trunk (flat p) y.stage) (λ y h k. h (f y.op k)) (flat p).stmts each_trunk) e
 
   some_stage : 0 < length (flat p).stages
-  some_stage = group_inside (flat p) 0 None (body_shape p) (body_groups p (body_forked p rules))
+  some_stage = let e = stage_count p (body_forked p rules) in omega arith
 
   trunk_start : Trunk (flat p) 0
-  trunk_start = group_trunk (flat p) 0 None (body_shape p) (body_groups p (body_forked p rules))
+  trunk_start = group_home (flat p) [] Flat.Ends 0 None (body_shape p) (body_groups p (body_forked p rules))
 
   trunk_or : (test : ℕ → Flat.Op → Bool) → ((m : ℕ) (op : Flat.Op) → test m op ≡ true → trunk_only op ≡ true)
       → (d m : ℕ) → Trunk (flat p) d
@@ -246,16 +191,16 @@ module _ (p : Pipe) (rules : KeepsRules p) where
   -- the facts of the stage graph hold of a source that breaks no rule
   pub graph : Graph (flat p)
   graph =
-      graph_of (flat p) at_spot some_stage trunk_start (λ m. trunk_or is_reserve reserve_trunk 0 m trunk_start)
+      Ways.graph_of (flat p) known_at some_stage trunk_start (λ m. trunk_or is_reserve reserve_trunk 0 m trunk_start)
       (λ m. trunk_or is_release release_trunk (length (flat p).stages) m
-      (ap (λ (y : Flat.Stage). y.branch) (past_trunk (flat p) (length (flat p).stages) (omega arith))))
+      (Ways.trunk_past (flat p) known_at (length (flat p).stages) (let e : length (flat p).stages ≤ length (flat p).stages = omega arith in e)))
 
   -- the facts of the branches of forks hold of a source that breaks no rule
   pub branches : Branches (flat p)
-  branches = branches_of (flat p) at_spot
+  branches = Ways.branches_of (flat p) known_at
 
-  -- F1: forks and the verifies' stage
-  verify_in_trunk : (v : ℕ) → verify_stage (flat p).stmts ≡ Some v → Trunk (flat p) v
+  -- V stands in the trunk
+  pub verify_in_trunk : (v : ℕ) → verify_stage (flat p).stmts ≡ Some v → Trunk (flat p) v
   verify_in_trunk v e = first_trunk is_verify verify_trunk v (sym (verify_first (flat p).stmts) ∙ e)
 
   -- each flat statement stands in one of the pipe's stages
@@ -270,75 +215,25 @@ module _ (p : Pipe) (rules : KeepsRules p) where
       (λ y. is_verify y.op ≡ true → y.stage < length (flat p).stages) (λ y h k. h) (flat p).stmts each_inside)
       (sym (verify_first (flat p).stmts) ∙ e)
 
-  -- a stage inside a fork
-  of_fork : (f b : ℕ) → is_inside (flat p) f b ≡ true → (x : ℕ) × (a : ℕ) × (c : ℕ) × Forked (flat p) f x a c × (f < b) × (b < merge_at f a c)
-  of_fork f b h =
-      let r = branch_inside (stage_at (flat p) b).branch f h in
-      let i = inside_of (flat p) at_spot r.0 b r.1 in
-      let low = start_low r.0.fork i.a r.0.first in
-      let high = start_high r.0.fork i.a i.b i.d i.j r.0.first i.place in
-      let e = i.number in
-      let same = r.2 in
-      (i.x, i.a, i.b, subst (λ n. Forked (flat p) n i.x i.a i.b) same i.fork, omega arith, omega arith)
+  -- of a fork that merges in a trunk stage or before, all stages in its branches stand before that stage
+  pub merged : (v f b : ℕ) → v < length (flat p).stages → Trunk (flat p) v → is_inside (flat p) f b ≡ true → merges_by (flat p) f (Some v) ≡ true → b < v
+  merged v f b low t i m = Ways.merged (flat p) known_at v f b t low i m
 
-  -- of a fork that merges in V or before, all stages in its branches stand before V
-  pub merged : (v f b : ℕ) → verify_stage (flat p).stmts ≡ Some v → is_inside (flat p) f b ≡ true → merges_by (flat p) f (Some v) ≡ true → b < v
-  merged v f b e i m =
-      let here = of_fork f b i in
-      let some = taken_some (λ x. merges_fork x.merges f) last_stage (suc v) (flat p).stages m in
-      let it =
-      merge_group (flat p) 0 None (body_shape p) some.0 f (body_groups p (body_forked p rules))
-      (λ z. absurd (none_some ℕ f None refl z)) (omega arith) (merges_some _ f some.2) in
-      let same = fork_same (flat p) f here.0 here.1 here.2 it.0 it.1 it.2 here.3 it.3 in
-      let at = it.4 in
-      let l = some.1 in
-      let k = here.5 in
-      let s0 = same.0 in
-      let s1 = same.1 in
-      omega arith
-
-  -- a fork with a stage in a branch that doesn't merge in V or before stands no earlier than V
-  pub unmerged : (v f b : ℕ) → verify_stage (flat p).stmts ≡ Some v → is_inside (flat p) f b ≡ true → merges_by (flat p) f (Some v) ≡ false → v ≤ f
-  unmerged v f b e i m = at (cases_lt f v)
-    where
-      here : (x : ℕ) × (a : ℕ) × (c : ℕ) × Forked (flat p) f x a c × (f < b) × (b < merge_at f a c)
-      here = of_fork f b i
-
-      late : f < v → (v < merge_at f here.1 here.2) ⊎ (merge_at f here.1 here.2 ≤ v) → ⊥
-      late l (inl k) = let r = between_in (flat p) f here.0 here.1 here.2 v here.3 l k in not_trunk (flat p) _ v (verify_in_trunk v e) r.5
-      late l (inr k) =
-          let merge = here.3.merge in
-          false≢true
-          (sym m
-          ∙ some_taken (λ x. merges_fork x.merges f) last_stage (suc v) (merge_at f here.1 here.2)
-          (flat p).stages (omega arith) here.3.inside (ap (λ o. merges_fork o f) merge ∙ eq-eqb f f refl))
-
-      at : (f < v) ⊎ (v ≤ f) → v ≤ f
-      at (inl l) = absurd (late l (cases_lt v (merge_at f here.1 here.2)))
-      at (inr l) = l
+  -- a fork with a stage in a branch that doesn't merge in a trunk stage or before stands no earlier than that stage
+  pub unmerged : (v f b : ℕ) → v < length (flat p).stages → Trunk (flat p) v → is_inside (flat p) f b ≡ true → merges_by (flat p) f (Some v) ≡ false → v ≤ f
+  unmerged v f b low t i m = Ways.unmerged (flat p) known_at v f b t low i m
 
   -- PATHS
 
-  -- a statement of a path that stands in a branch is on the path's side
-  pub each_side : (path : List ℕ)
-      → Each (λ y. all_hold y.guards path ≡ true → (c : Flat.Branch) → In (flat p) c y.stage → goes_by (flat p) c path ≡ true) (flat p).stmts
-  each_side path =
-      each_fine p rules (λ y. all_hold y.guards path ≡ true → (c : Flat.Branch) → In (flat p) c y.stage → goes_by (flat p) c path ≡ true)
-      (λ t h op e. at t h.standing)
-    where
-      side : (first : Bool) (v : ℕ) → takes_branch first v ≡ true → (if first then v == 1 else not (v == 1)) ≡ true
-      side true v h = h
-      side false v h = h
+  -- a statement of a path stands in a stage that the path comes to
+  pub each_visited : (path : List ℕ) → Each (λ y. all_hold y.guards path ≡ true → visits_stage (flat p) path y.stage ≡ true) (flat p).stmts
+  each_visited path =
+      each_fine p rules (λ y. all_hold y.guards path ≡ true → visits_stage (flat p) path y.stage ≡ true)
+      (λ t h op e k. guarded_comes (flat p) t.gs path (stage_at (flat p) t.walk.stage).branches h.standing.guarded k)
 
-      at : (t : Site) → Standing (flat p) t → all_hold t.gs path ≡ true → (c : Flat.Branch) → In (flat p) c t.walk.stage → goes_by (flat p) c path ≡ true
-      at t (OnTrunk u) k c i = absurd (not_trunk (flat p) c t.walk.stage u i)
-      at t (OnBranch d x a b fork j g f) k c i =
-          let same = sym j ∙ i in
-          let on = side d.first (slice_index path x) (has_taken (record { var = x; first = d.first }) t.gs path g k) in
-          ap (λ (o : Option Flat.Branch). goes_by (flat p) (unwrap_or o d) path) (sym same) ∙ ap (λ n. on_side n d.first path) fork.next ∙ on
-
-  side_of : (c : Flat.Branch) (path : List ℕ) (x a b : ℕ) → Forked (flat p) c.fork x a b → goes_by (flat p) c path ≡ true → (slice_index path x == 1) ≡ c.first
-  side_of c path x a b k h = by c.first (slice_index path x == 1) (sym (ap (λ n. on_side n c.first path) k.next) ∙ h)
+  side_of : (y : Flat.Branch) (path : List ℕ) (c : List Flat.Branch) (x a b : ℕ) → Forked (flat p) c y.fork x a b
+      → goes_by (flat p) y path ≡ true → (slice_index path x == 1) ≡ y.first
+  side_of y path c x a b k h = by y.first (slice_index path x == 1) (sym (ap (λ n. on_side n y.first path) k.next) ∙ h)
     where
       by : (first v : Bool) → (if first then v else not v) ≡ true → v ≡ first
       by true v e = e
@@ -348,51 +243,44 @@ module _ (p : Pipe) (rules : KeepsRules p) where
   -- a path has no statement between a stage that it comes to and the next stage on it
   pub skips : (path : List ℕ) (s : ℕ) → s < length (flat p).stages → visits_stage (flat p) path s ≡ true
       → before (next_of (flat p) s path) (onpath path (flat p).stmts) ≡ before (suc s) (onpath path (flat p).stmts)
-  skips path s low on = at (way (flat p) s path (at_spot s low))
+  skips path s low on = at (step (flat p) s path (known_at s low).spot)
     where
       near : next_of (flat p) s path ≡ suc s → before (next_of (flat p) s path) (onpath path (flat p).stmts) ≡ before (suc s) (onpath path (flat p).stmts)
       near e = ap (λ n. before n (onpath path (flat p).stmts)) e
 
-      far : (n f x a b : ℕ) (first : Bool) → Forked (flat p) f x a b → next_of (flat p) s path ≡ n → f ≤ s → suc s ≤ n
+      far : (n f : ℕ) (c : List Flat.Branch) (x a b : ℕ) (first : Bool) → Forked (flat p) c f x a b → next_of (flat p) s path ≡ n → f ≤ s → suc s ≤ n
           → n ≤ merge_at f a b → (slice_index path x == 1) ≡ first
-          → ((d j : ℕ) → d + suc j ≡ long a b first → suc s ≤ suc (start f a first + d) → suc (start f a first + d) < n → ⊥)
+          → ((r : ℕ) → start f a first < r → r ≤ start f a first + many a b first → suc s ≤ r → r < n → ⊥)
           → before (next_of (flat p) s path) (onpath path (flat p).stmts) ≡ before (suc s) (onpath path (flat p).stmts)
-      far n f x a b first k e l m u v none =
+      far n f c x a b first k e l m u v none =
           ap (λ i. before i (onpath path (flat p).stmts)) e
           ∙ before_same path (suc s) n (flat p).stmts m
-          (each_weaker (λ y. all_hold y.guards path ≡ true → (c : Flat.Branch) → In (flat p) c y.stage → goes_by (flat p) c path ≡ true)
-          (λ y. all_hold y.guards path ≡ true → suc s ≤ y.stage → y.stage < n → ⊥) by (flat p).stmts (each_side path))
+          (each_weaker (λ y. all_hold y.guards path ≡ true → visits_stage (flat p) path y.stage ≡ true)
+          (λ y. all_hold y.guards path ≡ true → suc s ≤ y.stage → y.stage < n → ⊥) by (flat p).stmts (each_visited path))
         where
-          by : (y : Flat.Stmt)
-              → (all_hold y.guards path ≡ true → (c : Flat.Branch) → In (flat p) c y.stage → goes_by (flat p) c path ≡ true)
+          by : (y : Flat.Stmt) → (all_hold y.guards path ≡ true → visits_stage (flat p) path y.stage ≡ true)
               → all_hold y.guards path ≡ true → suc s ≤ y.stage → y.stage < n → ⊥
           by y h t q r =
-              let i = between_in (flat p) f x a b y.stage k (omega arith) (omega arith) in
-              let same : i.0 ≡ first = sym (side_of (record { fork = f; first = i.0 }) path x a b k (h t _ i.5)) ∙ v in
-              let number : y.stage ≡ suc (start f a first + i.1) = i.4 ∙ ap (λ z. suc (start f a z + i.1)) same in
-              none i.1 i.2 (i.3 ∙ ap (long a b) same) (omega arith) (omega arith)
+              let i = between_in (flat p) c f x a b y.stage k (omega arith) (omega arith) in
+              let same : i.0 ≡ first =
+              sym (side_of (side f i.0) path c x a b k (comes_within (flat p) path i.3.0 (side f i.0) c (ap (comes_by (flat p) path) (sym i.3.1) ∙ h t))) ∙ v
+              in
+              none y.stage (subst (λ o. start f a o < y.stage) same i.1) (subst (λ o. y.stage ≤ start f a o + many a b o) same i.2) q r
 
-      at : Way (flat p) s path → before (next_of (flat p) s path) (onpath path (flat p).stmts) ≡ before (suc s) (onpath path (flat p).stmts)
+      at : Step (flat p) s path → before (next_of (flat p) s path) (onpath path (flat p).stmts) ≡ before (suc s) (onpath path (flat p).stmts)
       at (Ends t e g) = near (ap (stage_or (length (flat p).stages)) g ∙ sym e)
-      at (Steps t u m l g) = near (ap (stage_or (length (flat p).stages)) g)
-      at (Enters x a b first j k e v g) =
-          let h = start_high s a b 0 j first (let w : 0 + suc j ≡ long a b first = omega arith in w) in
+      at (Steps c t u m l g) = near (ap (stage_or (length (flat p).stages)) g)
+      at (Enters c x a b first k l v g) =
+          let h = start_high s a b first in
           let y = start_low s a first in
-          far (suc (start s a first)) s x a b first k (ap (stage_or (length (flat p).stages)) g) (omega arith)
-          (omega arith) (omega arith) v (λ d i q r z. omega arith)
-      at (Skips x a b first k e v g) =
-          far (merge_at s a b) s x a b first k (ap (stage_or (length (flat p).stages)) g) (omega arith) (omega arith) (omega arith) v (λ d i q r z. omega arith)
-      at (Stays f x a b first d j k e i g) = near (ap (stage_or (length (flat p).stages)) g)
-      at (Leaves f x a b first d k e i g) =
+          far (suc (start s a first)) s c x a b first k (ap (stage_or (length (flat p).stages)) g) (omega arith)
+          (omega arith) (omega arith) v (λ r i j q z. omega arith)
+      at (Skips c x a b first k e v g) =
+          far (merge_at s a b) s c x a b first k (ap (stage_or (length (flat p).stages)) g) (omega arith) (omega arith) (omega arith) v
+          (λ r i j q z. omega arith)
+      at (Out c f x a b first k h e g) =
           let y = start_low f a first in
-          let h = start_high f a b d 0 first (let w : d + suc 0 ≡ long a b first = omega arith in w) in
-          far (merge_at f a b) f x a b first k (ap (stage_or (length (flat p).stages)) g) (omega arith) (omega arith)
-          (omega arith) (value f x a b first d k e i) (λ c j q r z. omega arith)
-        where
-          value : (f x a b : ℕ) (first : Bool) (d : ℕ) → Forked (flat p) f x a b → d + 1 ≡ long a b first
-              → s ≡ suc (start f a first + d) → (slice_index path x == 1) ≡ first
-          value f x a b first d k e i =
-              let inner : In (flat p) (record { fork = f; first = first }) s =
-              ap (λ n. (stage_at (flat p) n).branch) i
-              ∙ ap (λ (y : Flat.Stage). y.branch) (k.chain first d 0 (let w : d + suc 0 ≡ long a b first = omega arith in w)) in
-              side_of (record { fork = f; first = first }) path x a b k (ap (comes_by (flat p) path) (sym inner) ∙ on)
+          let z = start_high f a b first in
+          far (merge_at f a b) f c x a b first k (ap (stage_or (length (flat p).stages)) g) (omega arith) (omega arith) (omega arith)
+          (side_of (side f first) path c x a b k (comes_within (flat p) path [] (side f first) c (ap (comes_by (flat p) path) (sym h) ∙ on)))
+          (λ r i j q w. omega arith)

@@ -2,7 +2,7 @@
 use Rattle.std.proofs.Common.{◌≡◌, refl, sym, ap, ap₂, ◌∙◌, ℕ, ◌+◌, Bool, true, false, List, [], ◌∷◌, ◌++◌, map, append_assoc, append-nil, arith, count_by, cond, if◌then◌else◌}
 use Rattle.std.proofs.lemmas.List.Sums.{sum_by-append}
 use Rattle.std.proofs.lemmas.List.{map_push}
-use Rattle.pdl_semantics.specs.Tree.{Span, Expr, Variable, Stmt, Separator, CombRead, Bind, SpecCall, DelayedRead, Write, Reserve, Block, Release, If, Call, Verify, SpecCheck, SpecBarrier, Stmts, Nil, Cons, Param, Mem, Pipe}
+use Rattle.pdl_semantics.specs.Tree.{Span, Expr, Variable, Stmt, Separator, CombRead, Bind, SpecCall, DelayedRead, Write, Reserve, Block, Release, If, Call, Verify, Update, SpecCheck, SpecBarrier, Stmts, Nil, Cons, Param, Mem, Pipe}
 use Rattle.pdl_semantics.specs.Flat
 use Rattle.pdl_semantics.specs.Flatten.{Var, with_guard, back_in, past, past_all, at_otherwise, under, at_start, params_of, separators_in, separators}
 use Rattle.pdl_semantics.specs.Flatten
@@ -23,7 +23,8 @@ module _ (ms : List Mem) (I : List Place → Flatten.Position → List Flat.Guar
     → I (front ++ Statement (If sp c when otherwise) bs ∷ statements (bs ++ branch sp c true when ∷ []) when)
     (at_otherwise ms c when w) (under gs w.vars c false) (bs ++ branch sp c false otherwise ∷ [])) where
   mutual
-    holds_in : (front : List Place) (w : Flatten.Position) (gs : List Flat.Guard) (bs : List Branch) (s : Stmt)
+    -- what holds before a statement holds at each site of it
+    pub holds_in : (front : List Place) (w : Flatten.Position) (gs : List Flat.Guard) (bs : List Branch) (s : Stmt)
         → I front w gs bs → All (λ t. I t.front t.walk t.gs t.branches) (sites_in ms front w gs bs s)
     holds_in front w gs bs (If sp c when otherwise) h = (
       h,
@@ -77,6 +78,7 @@ mutual
   past_begun ms (Release _ x) w = omega arith
   past_begun ms (Call _ x) w = omega arith
   past_begun ms (Verify _ x e) w = omega arith
+  past_begun ms (Update _ x e) w = omega arith
   past_begun ms (SpecCheck _) w = omega arith
   past_begun ms (SpecBarrier _) w = omega arith
 

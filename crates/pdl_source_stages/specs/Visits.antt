@@ -1,6 +1,6 @@
 -- The stages of a path: those that a thread comes to, and those that the separators of the path begin.
 use Rattle.std.specs.Prelude.{ℕ, zero, suc, List, [], ◌∷◌, ◌++◌, Option, Some, None, if◌then◌else◌, ◌==◌, slice_index}
-use Rattle.pdl_semantics.specs.Tree.{Stmt, Separator, CombRead, Bind, SpecCall, DelayedRead, Write, Reserve, Block, Release, If, Call, Verify, SpecCheck, SpecBarrier, Stmts, Nil, Cons, Mem}
+use Rattle.pdl_semantics.specs.Tree.{Stmt, Separator, CombRead, Bind, SpecCall, DelayedRead, Write, Reserve, Block, Release, If, Call, Verify, Update, SpecCheck, SpecBarrier, Stmts, Nil, Cons, Mem}
 use Rattle.pdl_semantics.specs.Flat.{Pipe}
 use Rattle.pdl_semantics.specs.Stages.{stage_at, goes_to}
 use Rattle.pdl_semantics.specs.Flatten.{Position, guard_of, with_guard, past, at_otherwise}
@@ -32,6 +32,7 @@ abbrev mutual
       if slice_index env (guard_of w.vars c) == 1 then begun_by env ms when (with_guard c w) else begun_by env ms otherwise (at_otherwise ms c when w)
   begun_in env ms (Call _ _) w = []
   begun_in env ms (Verify _ _ _) w = []
+  begun_in env ms (Update _ _ _) w = []
   begun_in env ms (SpecCheck _) w = []
   begun_in env ms (SpecBarrier _) w = []
 

@@ -2,14 +2,15 @@
 use Rattle.std.proofs.Common.{◌≡◌, refl, ap, ◌∙◌, subst, ℕ, ◌+◌, ◌≤◌, ◌<◌, ◌⊎◌, inl, inr, Bool, true, false, ◌||◌, not, List, [], ◌∷◌, ◌++◌, length, Some, None, ◌==◌, arith, length-append, lt-ltb}
 use Rattle.std.proofs.lemmas.Bool.{false≢true, and_from, or_parts, or_cases, eqb-true, ne_eqb}
 use Rattle.std.specs.List.{list_any}
-use Rattle.pdl_semantics.specs.Tree.{Expr, Constant, Variable, Slice, Not, Binary, Cat, LessSigned, ZeroExtend, SignExtend, Choose, Location, R, W, Stmt, Separator, CombRead, Bind, SpecCall, DelayedRead, Write, Reserve, Block, Release, If, Call, Verify, SpecCheck, SpecBarrier, Mem}
+use Rattle.pdl_semantics.specs.Tree.{Expr, Constant, Variable, Slice, Not, Binary, Cat, LessSigned, ZeroExtend, SignExtend, Choose, Location, R, W, Stmt, Separator, CombRead, Bind, SpecCall, DelayedRead, Write, Reserve, Block, Release, If, Call, Verify, Update, SpecCheck, SpecBarrier, Mem}
 use Rattle.pdl_semantics.specs.Flat
-use Rattle.pdl_semantics.specs.Flatten.{Var, var_of, mem_of, mem_width, width_of, flat_expr, flat_exprs}
+use Rattle.pdl_semantics.specs.Flatten.{Var, var_of, mem_of, mem_width, width_of, flat_expr, flat_exprs, is_advisory_mem, is_advised}
 use Rattle.pdl_rules.specs.Parts.{some_part, some_expr_of, location_of}
 use Rattle.pdl_rules.specs.Names.{OfVariable, Use, reads_some}
 use Rattle.pdl_rules.specs.Typed.{is_named}
 use Rattle.pdl_theory_facts.specs.Facts.{uses_in, uses_any, mentions_var}
 use Rattle.pdl_source_stages.proofs.Sites.{Site, All}
+use Rattle.pdl_source_stages.proofs.SiteFacts.{either_read, either_bind, either_write}
 use Rattle.pdl_source_paths.proofs.Numbers.{var_low}
 use Rattle.pdl_source_paths.proofs.PathStatements.{ops_of, seen_ops, seen}
 use Rattle.pdl_source_paths.proofs.Growth.{Grows, vars_past, past_grown}
@@ -126,6 +127,14 @@ module _ (vars k : ℕ) (ms : List Mem) (vs : List Var) (rest : List Flat.Stmt) 
         (ne_eqb a (length vs) (λ e. absurd (omega arith)))
         (λ y h. low_or y (a == y) (λ e. subst (λ n. n < length vs) (eqb-true a y e) low) h) (subst (λ n. Follows vars n rest) (one_more v) go)
 
+  -- one that binds an advised variable
+  advice_new : (v : Var) (op : Flat.Op)
+      → bound_by op ≡ None → uses_own op ≡ false → ((x : ℕ) → mentions_var x op ≡ true → x < length vs)
+      → Follows vars (length (vs ++ v ∷ [])) rest → Follows vars (length vs) (record { stage = k; guards = []; op = op } ∷ rest)
+  advice_new v op none own f go =
+      uses_old vars (length vs) k op rest none own f
+      (λ past low. go past (past_more (length vs) (length (vs ++ v ∷ [])) past (let i = one_more v in omega arith) low))
+
   low_var : (a y : ℕ) → a < length vs → (a == y) ≡ true → y < length vs
   low_var a y low e = subst (λ n. n < length vs) (eqb-true a y e) low
 
@@ -134,19 +143,34 @@ module _ (vars k : ℕ) (ms : List Mem) (vs : List Var) (rest : List Flat.Stmt) 
       → Follows vars (length (vars_past ms vs s)) rest → Follows vars (length vs) (seen_ops k (ops_of ms vs s) ++ rest)
   site_new (Separator sp) u room go = go
   site_new (CombRead sp x from) u room go =
-      read_new (record { name = x.name; width = mem_width ms from.mem.name }) room go (mem_of ms from.mem.name)
-      (var_of vs from.address.name) (var_low vs from.address.name (u.address from refl))
+      either_read (λ op. Follows vars (length vs) (seen_ops k (op ∷ []) ++ rest)) (is_advisory_mem ms from.mem.name) (length vs) (mem_of ms from.mem.name)
+      (var_of vs from.address.name)
+      (advice_new (record { name = x.name; width = mem_width ms from.mem.name; advised = is_advisory_mem ms from.mem.name })
+      (Flat.AdviceRead (length vs) (mem_of ms from.mem.name) (var_of vs from.address.name)) refl refl (λ y h. absurd (false≢true h)) go)
+      (
+      read_new (record { name = x.name; width = mem_width ms from.mem.name; advised = is_advisory_mem ms from.mem.name }) room go (mem_of ms from.mem.name)
+      (var_of vs from.address.name) (var_low vs from.address.name (u.address from refl)))
   site_new (Bind sp x e) u room go =
-      bind_new (record { name = x.name; width = width_of vs e }) room go (flat_expr vs e) (expr_low vs u.test u.named e u.expressions)
+      either_bind (λ op. Follows vars (length vs) (seen_ops k (op ∷ []) ++ rest)) (is_advised vs e) (length vs) (flat_expr vs e)
+      (advice_new (record { name = x.name; width = width_of vs e; advised = is_advised vs e }) (Flat.AdviceBind (length vs) (flat_expr vs e)) refl refl
+      (λ y h. absurd (false≢true h)) go)
+      (
+      bind_new (record { name = x.name; width = width_of vs e; advised = is_advised vs e }) room go (flat_expr vs e)
+      (expr_low vs u.test u.named e u.expressions))
   site_new (SpecCall sp g args) u room go =
       uses_old vars (length vs) k (Flat.SpecCall (flat_exprs vs args)) rest refl refl (exprs_low vs u.test u.named args u.expressions) go
   site_new (DelayedRead sp x from) u room go =
-      read_new (record { name = x.name; width = mem_width ms from.mem.name }) room go (mem_of ms from.mem.name)
+      read_new (record { name = x.name; width = mem_width ms from.mem.name; advised = false }) room go (mem_of ms from.mem.name)
       (var_of vs from.address.name) (var_low vs from.address.name (u.address from refl))
   site_new (Write sp to e) u room go =
+      either_write (λ op. Follows vars (length vs) (seen_ops k (op ∷ []) ++ rest)) (is_advisory_mem ms to.mem.name) (mem_of ms to.mem.name)
+      (var_of vs to.address.name) (flat_expr vs e)
+      (uses_old vars (length vs) k (Flat.AdviceWrite (mem_of ms to.mem.name) (var_of vs to.address.name) (flat_expr vs e)) rest refl refl
+      (λ y h. absurd (false≢true h)) go)
+      (
       uses_old vars (length vs) k
       (Flat.Write (mem_of ms to.mem.name) (var_of vs to.address.name) (flat_expr vs e)) rest refl refl
-      (λ y h. at y (or_cases (var_of vs to.address.name == y) (uses_in y (flat_expr vs e)) h)) go
+      (λ y h. at y (or_cases (var_of vs to.address.name == y) (uses_in y (flat_expr vs e)) h)) go)
     where
       at : (y : ℕ) → ((var_of vs to.address.name == y) ≡ true) ⊎ (uses_in y (flat_expr vs e) ≡ true) → y < length vs
       at y (inl i) = low_var (var_of vs to.address.name) y (var_low vs to.address.name (u.address to refl)) i
@@ -163,27 +187,35 @@ module _ (vars k : ℕ) (ms : List Mem) (vs : List Var) (rest : List Flat.Stmt) 
       uses_old vars (length vs) k (Flat.Release (mem_of ms at.mem.name) (var_of vs at.address.name)) rest refl refl (λ y h. absurd (false≢true h)) go
   site_new (If sp (Variable x) when otherwise) u room go = go
   site_new (If sp (Constant l) when otherwise) u room go =
-      bind_new (record { name = []; width = 1 }) room go (flat_expr vs (Constant l)) (expr_low vs u.test u.named (Constant l) u.expressions)
+      bind_new (record { name = []; width = 1; advised = false }) room go (flat_expr vs (Constant l)) (expr_low vs u.test u.named (Constant l) u.expressions)
   site_new (If sp (Slice x high low) when otherwise) u room go =
-      bind_new (record { name = []; width = 1 }) room go (flat_expr vs (Slice x high low)) (expr_low vs u.test u.named (Slice x high low) u.expressions)
+      bind_new (record { name = []; width = 1; advised = false }) room go (flat_expr vs (Slice x high low))
+      (expr_low vs u.test u.named (Slice x high low) u.expressions)
   site_new (If sp (Not a) when otherwise) u room go =
-      bind_new (record { name = []; width = 1 }) room go (flat_expr vs (Not a)) (expr_low vs u.test u.named (Not a) u.expressions)
+      bind_new (record { name = []; width = 1; advised = false }) room go (flat_expr vs (Not a)) (expr_low vs u.test u.named (Not a) u.expressions)
   site_new (If sp (Binary op a b) when otherwise) u room go =
-      bind_new (record { name = []; width = 1 }) room go (flat_expr vs (Binary op a b)) (expr_low vs u.test u.named (Binary op a b) u.expressions)
+      bind_new (record { name = []; width = 1; advised = false }) room go (flat_expr vs (Binary op a b))
+      (expr_low vs u.test u.named (Binary op a b) u.expressions)
   site_new (If sp (Cat a b) when otherwise) u room go =
-      bind_new (record { name = []; width = 1 }) room go (flat_expr vs (Cat a b)) (expr_low vs u.test u.named (Cat a b) u.expressions)
+      bind_new (record { name = []; width = 1; advised = false }) room go (flat_expr vs (Cat a b)) (expr_low vs u.test u.named (Cat a b) u.expressions)
   site_new (If sp (LessSigned a b) when otherwise) u room go =
-      bind_new (record { name = []; width = 1 }) room go (flat_expr vs (LessSigned a b)) (expr_low vs u.test u.named (LessSigned a b) u.expressions)
+      bind_new (record { name = []; width = 1; advised = false }) room go (flat_expr vs (LessSigned a b))
+      (expr_low vs u.test u.named (LessSigned a b) u.expressions)
   site_new (If sp (ZeroExtend a n) when otherwise) u room go =
-      bind_new (record { name = []; width = 1 }) room go (flat_expr vs (ZeroExtend a n)) (expr_low vs u.test u.named (ZeroExtend a n) u.expressions)
+      bind_new (record { name = []; width = 1; advised = false }) room go (flat_expr vs (ZeroExtend a n))
+      (expr_low vs u.test u.named (ZeroExtend a n) u.expressions)
   site_new (If sp (SignExtend a n) when otherwise) u room go =
-      bind_new (record { name = []; width = 1 }) room go (flat_expr vs (SignExtend a n)) (expr_low vs u.test u.named (SignExtend a n) u.expressions)
+      bind_new (record { name = []; width = 1; advised = false }) room go (flat_expr vs (SignExtend a n))
+      (expr_low vs u.test u.named (SignExtend a n) u.expressions)
   site_new (If sp (Choose c a b) when otherwise) u room go =
-      bind_new (record { name = []; width = 1 }) room go (flat_expr vs (Choose c a b)) (expr_low vs u.test u.named (Choose c a b) u.expressions)
+      bind_new (record { name = []; width = 1; advised = false }) room go (flat_expr vs (Choose c a b))
+      (expr_low vs u.test u.named (Choose c a b) u.expressions)
   site_new (Call sp args) u room go =
       uses_old vars (length vs) k (Flat.Call (flat_exprs vs args)) rest refl refl (exprs_low vs u.test u.named args u.expressions) go
   site_new (Verify sp g args) u room go =
-      uses_old vars (length vs) k (Flat.Verify (flat_exprs vs args)) rest refl refl (exprs_low vs u.test u.named args u.expressions) go
+      uses_old vars (length vs) k (Flat.Verify true (flat_exprs vs args)) rest refl refl (exprs_low vs u.test u.named args u.expressions) go
+  site_new (Update sp g args) u room go =
+      uses_old vars (length vs) k (Flat.Verify false (flat_exprs vs args)) rest refl refl (exprs_low vs u.test u.named args u.expressions) go
   site_new (SpecCheck sp) u room go = uses_old vars (length vs) k (Flat.SpecCheck) rest refl refl (λ y h. absurd (false≢true h)) go
   site_new (SpecBarrier sp) u room go = uses_old vars (length vs) k (Flat.SpecBarrier) rest refl refl (λ y h. absurd (false≢true h)) go
 

@@ -1,9 +1,10 @@
 -- After each block of a path stands a release of its location.
 use Rattle.std.proofs.Common.{◌≡◌, refl, sym, ap, ◌∙◌, subst, ℕ, ◌⊎◌, inl, inr, Bool, true, false, List, [], ◌∷◌, ◌++◌, map, if◌then◌else◌, Some, bytes_eq, eq-eqb}
 use Rattle.std.proofs.lemmas.Bool.{false≢true, and_parts, and_from, or_left, or_right, both_ways, not-false}
-use Rattle.pdl_semantics.specs.Tree.{Span, Location, R, W, Stmt, Separator, CombRead, Bind, SpecCall, DelayedRead, Write, Reserve, Block, Release, If, Call, Verify, SpecCheck, SpecBarrier, Variable, Mem, Pipe}
+use Rattle.pdl_semantics.specs.Tree.{Span, Location, R, W, Stmt, Separator, CombRead, Bind, SpecCall, DelayedRead, Write, Reserve, Block, Release, If, Call, Verify, Update, SpecCheck, SpecBarrier, Variable, Mem, Pipe}
 use Rattle.pdl_semantics.specs.Flat
-use Rattle.pdl_semantics.specs.Flatten.{Var, var_of, mem_of}
+use Rattle.pdl_semantics.specs.Flatten.{Var, var_of, mem_of, is_advisory_mem, is_advised}
+use Rattle.pdl_source_stages.proofs.SiteFacts.{either_read, either_bind, either_write}
 use Rattle.pdl_semantics.specs.Stages.{list_any}
 use Rattle.pdl_semantics.specs.Sound.{is_release_at}
 use Rattle.pdl_rules.specs.Places.{Place, Statement, Branch}
@@ -138,11 +139,13 @@ sites_let_go p ms vs us before (t ∷ ts) g each named =
     here : (s : Stmt) → t.stmt ≡ s → all_let_go (seen ms ts) ≡ true → all_let_go (seen_ops t.walk.stage (ops_of ms t.walk.vars s) ++ seen ms ts) ≡ true
     here (Block sp at) e rest = and_from _ _ (block sp at e) rest
     here (Separator sp) e rest = rest
-    here (CombRead sp x from) e rest = rest
-    here (Bind sp x v) e rest = rest
+    here (CombRead sp x from) e rest =
+        either_read (λ op. all_let_go (seen_ops t.walk.stage (op ∷ []) ++ seen ms ts) ≡ true) (is_advisory_mem ms from.mem.name) _ _ _ rest rest
+    here (Bind sp x v) e rest = either_bind (λ op. all_let_go (seen_ops t.walk.stage (op ∷ []) ++ seen ms ts) ≡ true) (is_advised t.walk.vars v) _ _ rest rest
     here (SpecCall sp x args) e rest = rest
     here (DelayedRead sp x from) e rest = rest
-    here (Write sp to v) e rest = rest
+    here (Write sp to v) e rest =
+        either_write (λ op. all_let_go (seen_ops t.walk.stage (op ∷ []) ++ seen ms ts) ≡ true) (is_advisory_mem ms to.mem.name) _ _ _ rest rest
     here (Reserve sp at R) e rest = rest
     here (Reserve sp at W) e rest = rest
     here (Release sp at) e rest = rest
@@ -150,5 +153,6 @@ sites_let_go p ms vs us before (t ∷ ts) g each named =
     here (If sp c when otherwise) e rest = rest
     here (Call sp args) e rest = rest
     here (Verify sp x args) e rest = rest
+    here (Update sp x args) e rest = rest
     here (SpecCheck sp) e rest = rest
     here (SpecBarrier sp) e rest = rest

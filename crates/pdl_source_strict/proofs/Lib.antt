@@ -1,3 +1,4 @@
 mod FreshVariables
+mod Guesses
 mod LetGo
 pub mod Paths

@@ -1,9 +1,9 @@
 -- Each path of an accepted pipe's flat form is strict.
-use Rattle.std.proofs.Common.{◌≡◌, refl, sym, ap, ap₂, ◌∙◌, ℕ, true, ◌&&◌, ◌||◌, not, List, [], ◌∷◌, Option, Some, None, nat_lt, le_refl}
+use Rattle.std.proofs.Common.{◌≡◌, refl, sym, ap, ap₂, ◌∙◌, ℕ, true, false, ◌&&◌, ◌||◌, not, List, [], ◌∷◌, Option, Some, None, nat_lt, le_refl}
 use Rattle.std.proofs.lemmas.Bool.{false≢true, or_parts}
 use Rattle.pdl_semantics.specs.Tree.{Location, Pipe}
 use Rattle.pdl_semantics.specs.Flat
-use Rattle.pdl_semantics.specs.Flat.{DelayedRead, Block}
+use Rattle.pdl_semantics.specs.Flat.{DelayedRead, Block, list_all}
 use Rattle.pdl_semantics.specs.Flatten.{flat, params_of}
 use Rattle.pdl_semantics.specs.Stages.{list_any, onpath}
 use Rattle.pdl_semantics.specs.Sound.{is_release_at}
@@ -24,7 +24,8 @@ use Rattle.pdl_source_paths.proofs.Variables.{Here, all_here, located, known}
 use Rattle.pdl_source_paths.proofs.Walk.{all_on, keeps_all}
 use Rattle.pdl_source_paths.proofs.Growth.{grows_all, grows_on}
 use Rattle.pdl_source_paths.proofs.FlatPaths.{value, all_alike}
-use Rattle.pdl_theory_states.specs.Strict.{Strict, bound_by, uses_own, is_mentioned, is_new, all_new, lets_go, all_let_go}
+use Rattle.pdl_theory_states.specs.Strict.{Strict, bound_by, uses_own, is_mentioned, is_new, all_new, bound_of, is_used_by, binds_used, keeps_guess, all_keep_guess, lets_go, all_let_go}
+use Rattle.pdl_source_strict.proofs.Guesses.{sites_keep}
 use Rattle.pdl_source_strict.proofs.FreshVariables.{Uses, sites_new}
 use Rattle.pdl_source_strict.proofs.LetGo.{sites_let_go}
 use Rattle.pdl_semantics.proofs.Facts.{all_vars}
@@ -83,13 +84,48 @@ lets_looked (Flat.ReserveWrite m a) xs = refl
 lets_looked (Flat.Release m a) xs = refl
 lets_looked (Flat.Call args) xs = refl
 lets_looked (Flat.SpecCall args) xs = refl
-lets_looked (Flat.Verify args) xs = refl
+lets_looked (Flat.Verify last args) xs = refl
 lets_looked Flat.SpecCheck xs = refl
 lets_looked Flat.SpecBarrier xs = refl
+lets_looked (Flat.AdviceBind x e) xs = refl
+lets_looked (Flat.AdviceRead x m a) xs = refl
+lets_looked (Flat.AdviceWrite m a e) xs = refl
 
 let_looked : (xs : List Flat.Stmt) → all_let_go (looked_all xs) ≡ all_let_go xs
 let_looked [] = refl
 let_looked (x ∷ xs) = ap₂ (λ a b. a && b) (lets_looked x.op xs) (let_looked xs)
+
+bound_of_looked : (op : Flat.Op) → bound_of (answered_op op) ≡ bound_of op
+bound_of_looked (DelayedRead y m a) = refl
+bound_of_looked _ = refl
+
+spares_looked : (args : List Flat.Expr) (xs : List Flat.Stmt)
+    → list_all (λ z. not (binds_used args z.op)) (looked_all xs) ≡ list_all (λ z. not (binds_used args z.op)) xs
+spares_looked args [] = refl
+spares_looked args (x ∷ xs) = ap₂ (λ a b. not (is_used_by args a) && b) (bound_of_looked x.op) (spares_looked args xs)
+
+keeps_looked : (op : Flat.Op) (xs : List Flat.Stmt) → keeps_guess (answered_op op) (looked_all xs) ≡ keeps_guess op xs
+keeps_looked (Flat.SpecCall args) xs = spares_looked args xs
+keeps_looked (DelayedRead x m a) xs = refl
+keeps_looked (Block m a) xs = refl
+keeps_looked (Flat.Bind x e) xs = refl
+keeps_looked (Flat.CombRead x m a) xs = refl
+keeps_looked (Flat.Write m a e) xs = refl
+keeps_looked (Flat.ReserveRead m a) xs = refl
+keeps_looked (Flat.ReserveWrite m a) xs = refl
+keeps_looked (Flat.Release m a) xs = refl
+keeps_looked (Flat.Call args) xs = refl
+keeps_looked (Flat.Verify true args) xs = refl
+keeps_looked (Flat.Verify false args) xs = spares_looked args xs
+keeps_looked Flat.SpecCheck xs = refl
+keeps_looked Flat.SpecBarrier xs = refl
+keeps_looked (Flat.AdviceBind x e) xs = refl
+keeps_looked (Flat.AdviceRead x m a) xs = refl
+keeps_looked (Flat.AdviceWrite m a e) xs = refl
+
+keep_looked : (xs : List Flat.Stmt) → all_keep_guess (looked_all xs) ≡ all_keep_guess xs
+keep_looked [] = refl
+keep_looked (x ∷ xs) = ap₂ (λ a b. a && b) (keeps_looked x.op xs) (keep_looked xs)
 
 -- A PATH
 
@@ -128,6 +164,12 @@ module _ (p : Pipe) (rules : KeepsRules p) where
         (all_vars p) ts (grows_on p.mems (path_of p (value p path)) (params_of p.params) (all_vars p) (sites_of p) (grows_all p))
         (le_refl (flat p).vars) uses [] (λ x h. absurd (false≢true h))
 
+    guesses : all_keep_guess (onpath path (flat p).stmts) ≡ true
+    guesses =
+        sym (keep_looked (onpath path (flat p).stmts)) ∙ ap all_keep_guess seen_is
+        ∙ sites_keep p.mems (params_of p.params) (all_vars p) ts
+        (grows_on p.mems (path_of p (value p path)) (params_of p.params) (all_vars p) (sites_of p) (grows_all p)) uses
+
     blocks : all_let_go (onpath path (flat p).stmts) ≡ true
     blocks =
         sym (let_looked (onpath path (flat p).stmts)) ∙ ap all_let_go seen_is
@@ -140,4 +182,4 @@ module _ (p : Pipe) (rules : KeepsRules p) where
 
   -- on each path of an accepted source each variable is bound anew, and the location of each block is released after it
   pub paths_strict : is_source p ≡ true → Strict (flat p)
-  paths_strict source = record { names = names source; blocks = blocks source }
+  paths_strict source = record { names = names source; guesses = guesses source; blocks = blocks source }

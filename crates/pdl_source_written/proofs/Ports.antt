@@ -10,6 +10,7 @@ use Rattle.pdl_kit.specs.declared.mem_info.MemInfo.{MemInfo}
 use Rattle.pdl_word.specs.Each.{Each}
 use Rattle.pdl_word.proofs.Each.{each_append}
 use Rattle.pdl_semantics.specs.Tree.{LockDecl, Mem}
+use Rattle.pdl_semantics.specs.Flat.{is_delayed}
 use Rattle.pdl_rules.specs.Memories.{info_of}
 use Rattle.pdl_vread_text.specs.Words.{is_name}
 use Rattle.pdl_net.specs.declared.Dir.{Dir}
@@ -94,7 +95,7 @@ last_named (m ∷ ms) h = (All-head IsTold (info_of m) (map info_of ms) h, last_
 -- each memory is a delayed one, or answers at once
 both_named : (ms : List Mem) → Each IsNamed (delayed_of ms) → Each IsNamed (comb_of ms) → Each IsNamed ms
 both_named [] h k = tt
-both_named (m ∷ ms) h k = at m.delayed (λ a b. both_named ms a b) h k
+both_named (m ∷ ms) h k = at (is_delayed m.kind) (λ a b. both_named ms a b) h k
   where
     at : (b : Bool) → (Each IsNamed (delayed_of ms) → Each IsNamed (comb_of ms) → Each IsNamed ms)
         → Each IsNamed (if b then m ∷ delayed_of ms else delayed_of ms)

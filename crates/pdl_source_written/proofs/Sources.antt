@@ -10,8 +10,8 @@ use Rattle.pdl_syntax_tokens.specs.Tokens.{Row, tokens}
 use Rattle.pdl_syntax_grammar.specs.Grammar.{Listed, last, further, Memory, memory, Parameter, parameter, Lock, unlocked, locked, Text, text}
 use Rattle.pdl_syntax_grammar.specs.Text.{IsText}
 use Rattle.pdl_net.specs.declared.Netlist.{Netlist}
-use Rattle.pdl_rules.specs.Refusal.{is_comb}
-use Rattle.pdl_law_follows.specs.Memories.{is_delayed}
+use Rattle.pdl_rules.specs.Refusal.{answers_at_once}
+use Rattle.pdl_law_follows.specs.Memories.{answers_late}
 use Rattle.pdl_law_follows.specs.Follows.{Follows}
 use Rattle.pdl_vread_text.specs.Words.{is_name}
 use Rattle.pdl_vlog.specs.Layout.{verilog}
@@ -31,7 +31,7 @@ lock_rest l a r unlocked t = t
 lock_rest l a r locked t = t.1.1.1.1.1
 
 memory_named : (m : Mem) (a r : Row) → Memory m a r → AreNamed a → (is_name m.name.name ≡ true) × AreNamed r
-memory_named m a r (memory k) t = (t.0 refl, lock_rest _ _ _ k t.1.1.1.1.1.1.1.1.1.1)
+memory_named m a r (memory d k) t = (t.0 refl, lock_rest _ _ _ k t.1.1.1.1.1.1.1.1.1.1)
 
 memories_named : (c : Mark) (ms : List Mem) (a r : Row) → Listed Memory c ms a r → AreNamed a → HaveNames ms
 memories_named c ms a r (last k) t = ((memory_named _ _ _ k t).0, tt)
@@ -72,7 +72,7 @@ names source p n t f =
       netlist = ap is_name f.name ∙ h.0;
       mems =
           All-from_recursion IsTold n.mems
-          (subst (AllByRecursion IsTold) (sym f.mems) (both_named _ _ (some_named is_delayed p.mems h.1) (some_named is_comb p.mems h.1)));
+          (subst (AllByRecursion IsTold) (sym f.mems) (both_named _ _ (some_named answers_late p.mems h.1) (some_named answers_at_once p.mems h.1)));
     }
 
 -- what is written of a netlist that follows a source's pipe reads as it

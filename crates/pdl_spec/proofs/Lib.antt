@@ -1,2 +1,5 @@
 mod SingleNumber
 mod PathlessParts
+mod Updates
+mod FirstStages
+mod Guesses

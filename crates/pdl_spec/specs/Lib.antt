@@ -4,3 +4,4 @@ pub mod Sure
 pub mod Checked
 pub mod WalkLines
 pub mod Plan
+pub mod Updated

@@ -13,6 +13,7 @@ ghost use Rattle.pdl_spec.specs.Plan.{spec_rules};
 
 use crate::lines::{SpecLines, spec_path_rules};
 use crate::plan::SpecPlan;
+use crate::updated::{apart_line, update_line};
 use pdl_kit::{NoMemory, Refusal, Rule};
 use pdl_locks::{LockFacts, refuse};
 use pdl_paths::{Guards, Place};
@@ -21,7 +22,7 @@ use pdl_rules_walk::broken_lines;
 use pdl_syntax_tree::Pipe;
 use std::alloc::Global;
 
-/// The stage that verifies the guesses of a pipe that keeps the rules on calls and guesses, S1 to S5; else the lowest that it breaks, at its lowest place.
+/// The stage that verifies the guesses of a pipe that keeps the rules on calls and guesses, S1 to S7; else the lowest that it breaks, at its lowest place.
 ///
 /// The guards are those of the places, at most ten, and the places are those of the pipe, with their masks.
 pub fn check_spec(
@@ -89,5 +90,8 @@ pub fn plan_spec(
     refuse(Rule::S3, astray_line(places, stages, Kinds::Verifies))?;
     refuse(Rule::S4, lines.released_sure)?;
     refuse(Rule::S5, lines.checked_first)?;
+    refuse(Rule::S6, update_line(places))?;
+    refuse(Rule::S6, lines.updated_once)?;
+    refuse(Rule::S7, apart_line(places, stages))?;
     Ok(SpecPlan::new(verified))
 }

@@ -11,6 +11,7 @@ ghost use Rattle.pdl_spec.specs.WalkLines.{AreLines, Lines, named_lines};
 use crate::checked::CheckedFirst;
 use crate::one_call::OneCall;
 use crate::sure::ReleasedSure;
+use crate::updated_once::UpdatedOnce;
 use crate::verified::VerifiedOnce;
 use pdl_locks::LockFacts;
 use pdl_paths::{Guards, Place};
@@ -18,10 +19,13 @@ use pdl_rules_stages::all_true;
 use pdl_rules_walk::{Alone, Both, PathRules};
 use pdl_syntax_tree::Pipe;
 
-/// The rules on calls and guesses that are asked on paths: S1 and S2, S4 and S5.
+/// The rules on calls and guesses that are asked on paths: S1 and S2, S4 and S5, and S6.
 pub type SpecRules<'a, 'p> = Both<
-    Both<Alone<OneCall>, Alone<VerifiedOnce<'a, 'p>>>,
-    Both<Alone<ReleasedSure<'a, 'p>>, Alone<CheckedFirst<'a>>>,
+    Both<
+        Both<Alone<OneCall>, Alone<VerifiedOnce<'a, 'p>>>,
+        Both<Alone<ReleasedSure<'a, 'p>>, Alone<CheckedFirst<'a>>>,
+    >,
+    Alone<UpdatedOnce<'a>>,
 >;
 
 /// The lines at which a pipe breaks each of them, none where it keeps it.
@@ -35,6 +39,8 @@ pub struct SpecLines {
     pub released_sure: Option<u32>,
     /// S5.
     pub checked_first: Option<u32>,
+    /// S6 by itself: that no `update` has a circuit yet is asked of the text.
+    pub updated_once: Option<u32>,
 }
 
 impl SpecLines {
@@ -44,10 +50,11 @@ impl SpecLines {
     {
         let Both { first, second } = lines;
         SpecLines {
-            one_call: first.first,
-            verified_once: first.second,
-            released_sure: second.first,
-            checked_first: second.second,
+            one_call: first.first.first,
+            verified_once: first.first.second,
+            released_sure: first.second.first,
+            checked_first: first.second.second,
+            updated_once: second,
         }
     }
 }
@@ -87,14 +94,16 @@ pub fn spec_path_rules<'a, 'p>(
         stages,
         verified,
     };
+    let first = Both {
+        first: Alone(OneCall),
+        second: Alone(verified_once),
+    };
+    let second = Both {
+        first: Alone(released_sure),
+        second: Alone(CheckedFirst { stages, verified }),
+    };
     Both {
-        first: Both {
-            first: Alone(OneCall),
-            second: Alone(verified_once),
-        },
-        second: Both {
-            first: Alone(released_sure),
-            second: Alone(CheckedFirst { stages, verified }),
-        },
+        first: Both { first, second },
+        second: Alone(UpdatedOnce { stages, verified }),
     }
 }

@@ -38,6 +38,7 @@ impl PathRule for OneCall {
             Action::CombRead(_, _) | Action::Bind(_, _) | Action::DelayedRead(_, _) => false,
             Action::Write(_, _) | Action::Reserve(_, _) | Action::Block(_) => false,
             Action::Release(_) | Action::If(_, _, _) | Action::Verify(_, _) => false,
+            Action::Update(_, _) => false,
             Action::SpecCheck | Action::SpecBarrier | Action::StartClause(_) => false,
         }
     }

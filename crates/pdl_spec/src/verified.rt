@@ -58,7 +58,8 @@ impl PathRule for VerifiedOnce<'_, '_> {
             Action::CombRead(_, _) | Action::Bind(_, _) | Action::DelayedRead(_, _) => false,
             Action::Write(_, _) | Action::Reserve(_, _) | Action::Block(_) => false,
             Action::Release(_) | Action::If(_, _, _) | Action::Call(_) => false,
-            Action::Verify(_, _) | Action::SpecCheck | Action::SpecBarrier => false,
+            Action::Verify(_, _) | Action::Update(_, _) | Action::SpecCheck => false,
+            Action::SpecBarrier => false,
             Action::End | Action::StartClause(_) => false,
         }
     }
@@ -117,6 +118,7 @@ fn is_verify_of(place: &Place<'_>, guess: &Name) -> bool
         Action::CombRead(_, _) | Action::Bind(_, _) | Action::DelayedRead(_, _) => false,
         Action::Write(_, _) | Action::SpecCall(_, _) | Action::Reserve(_, _) => false,
         Action::Block(_) | Action::Release(_) | Action::If(_, _, _) | Action::Call(_) => false,
-        Action::SpecCheck | Action::SpecBarrier | Action::End | Action::StartClause(_) => false,
+        Action::Update(_, _) | Action::SpecCheck | Action::SpecBarrier => false,
+        Action::End | Action::StartClause(_) => false,
     }
 }

@@ -1,5 +1,5 @@
 // The stages of a pipe.
-ghost use Rattle.std.specs.Prelude.{◌≡◌, ◌<◌, length, slice_index, slice_index_or, is_none, IfOk};
+ghost use Rattle.std.specs.Prelude.{◌≡◌, ◌<◌, ◌==◌, length, slice_index, slice_index_or, IfOk};
 ghost use Rattle.pdl_semantics.specs.Stages.{last_stage};
 ghost use Rattle.pdl_form.specs.FormView.{form};
 ghost use Rattle.pdl_form.specs.View.{stages_view, next_view};
@@ -103,9 +103,14 @@ impl StageGraph {
     /// Whether a stage stands in no branch.
     pub fn is_trunk(&self, stage: usize) -> bool
         requires { stage < length self.now.stages }
-        ensures { result ≡ is_none (slice_index_or self.now.stages stage last_stage).branch }
+        ensures { result
+            ≡ (length (slice_index_or self.now.stages stage last_stage).branches == 0) }
     {
-        self.stages[stage].branch.is_none()
+        let branches = self.stages[stage].branches;
+        branches.first.is_none()
+            && branches.second.is_none()
+            && branches.third.is_none()
+            && branches.fourth.is_none()
     }
 
     /// The stage of a place, by its number among all places counted from 0. Of a `---` it is the stage that it ends.

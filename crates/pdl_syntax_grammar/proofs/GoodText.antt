@@ -120,7 +120,7 @@ unfolding mem
 mem_good ts =
     then _ _ (name_good ts) (λ x r1 p1 _.
     then [] _ (shape_good r1) (λ s r2 p2 _.
-    reads (rw (p1, p2.is) (memory p2.lock)) (omega arith) (λ below. refl)))
+    reads (rw (p1, p2.is) (memory s.2 p2.lock)) (omega arith) (λ below. refl)))
 
 given_good : (ts : Row) → Good (λ x r. Given x ts r) (first_of literals) (more literals ∷ []) (literal ts) ts
 given_good ts = go (literal_good ts)

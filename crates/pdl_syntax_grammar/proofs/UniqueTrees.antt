@@ -73,7 +73,7 @@ shorter_lock unlocked = omega arith
 shorter_lock locked = omega arith
 
 mem_shorter : (x : Mem) (ts r : Row) → Memory x ts r → length r < length ts
-mem_shorter x ts r (memory h) = let k = shorter_lock h in omega arith
+mem_shorter x ts r (memory d h) = let k = shorter_lock h in omega arith
 
 given_shorter : (x : Literal) (ts r : Row) → Given x ts r → length r < length ts
 given_shorter x ts r given = omega arith
@@ -332,7 +332,7 @@ only_lock (locked {how = k}) f = rw only_lock_kind refl
 
 only_mem : {x : Mem} {ts r : Row} → Memory x ts r → is_mark mark.Lock (first_kind r) ≡ false → spec.mem ts ≡ Ok (x, r)
 unfolding spec.mem spec.shape spec.width spec.name spec.take spec.number
-only_mem (memory {delayed = d} h) f = rw only_pace (rw (only_lock h f) refl)
+only_mem (memory d h) f = rw only_pace (rw (only_lock h f) refl)
 
 only_given : {x : Literal} {ts r : Row} → Given x ts r → spec.literal ts ≡ Ok (x, r)
 unfolding spec.literal

@@ -1,6 +1,6 @@
 -- The grammar. `Rule value before after` says that the tokens `before` are a spelling of the value, and then `after`; each constructor is an alternative.
 use Rattle.std.specs.Prelude.{◌≡◌, ℕ, suc, Bool, true, false, List, [], ◌∷◌, Option, Some, None}
-use Rattle.pdl_semantics.specs.Tree.{Span, Ident, Number, Literal, BinaryOp, Add, Sub, Mul, And, Or, Xor, Equal, Differ, Less, ShiftLeft, ShiftRight, Expr, Constant, Variable, Slice, Not, Binary, Cat, LessSigned, ZeroExtend, SignExtend, Choose, Location, Kind, R, W, Stmt, Separator, CombRead, Bind, SpecCall, DelayedRead, Write, Reserve, Block, Release, If, Call, Verify, SpecCheck, SpecBarrier, Stmts, Nil, Cons, Param, LockKind, Queue, Bypass, Rename, LockDecl, Mem, Start, Pipe}
+use Rattle.pdl_semantics.specs.Tree.{Span, Ident, Number, Literal, BinaryOp, Add, Sub, Mul, And, Or, Xor, Equal, Differ, Less, ShiftLeft, ShiftRight, Expr, Constant, Variable, Slice, Not, Binary, Cat, LessSigned, ZeroExtend, SignExtend, Choose, Location, Kind, R, W, Stmt, Separator, CombRead, Bind, SpecCall, DelayedRead, Write, Reserve, Block, Release, If, Call, Verify, SpecCheck, SpecBarrier, Stmts, Nil, Cons, Param, LockKind, Queue, Bypass, Rename, LockDecl, MemKind, Comb, Delayed, Mem, Start, Pipe}
 use Rattle.pdl_syntax_tokens.specs.declared.token.Mark.{Mark}
 use Rattle.pdl_syntax_tokens.specs.declared.token.Mark.TheVariants as mark
 use Rattle.pdl_syntax_tokens.specs.declared.token.TokenKind.{TokenKind}
@@ -201,10 +201,15 @@ abbrev pub pace_mark : Bool → Mark
 pace_mark true = mark.Delayed
 pace_mark false = mark.Comb
 
+-- the kind of a memory by whether it answers in a later cycle
+abbrev pub pace_kind : Bool → MemKind
+pace_kind true = Delayed
+pace_kind false = Comb
+
 -- a memory
 pub data Memory : Mem → Row → Row → Type 0 where
-  memory : {x c u o w g p d z k : Word} {n size : ℕ} {delayed : Bool} {lock : Option LockDecl} {a r : Row} → Lock lock a r →
-      Memory (record { name = ident x; width = number w n; depth = number d size; delayed = delayed; lock = lock })
+  memory : {x c u o w g p d z k : Word} {n size : ℕ} (delayed : Bool) {lock : Option LockDecl} {a r : Row} → Lock lock a r →
+      Memory (record { name = ident x; width = number w n; depth = number d size; kind = pace_kind delayed; lock = lock })
       (type_row x c u o w n g (at p mark.OpenSquare ∷ on d (kind.Number size) ∷ at z mark.CloseSquare ∷ at k (pace_mark delayed) ∷ a)) r
 
 -- an argument of the first thread

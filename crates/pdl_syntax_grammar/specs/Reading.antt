@@ -7,7 +7,7 @@ use Rattle.pdl_syntax_tokens.specs.declared.token.TokenKind.TheVariants as kind
 use Rattle.pdl_syntax_tokens.specs.Cursor.{next, first_kind, first_span, first_name}
 use Rattle.pdl_syntax_cursor.specs.Looks.{is_mark, begins_place}
 use Rattle.pdl_syntax_tokens.specs.Tokens.{Row}
-use Rattle.pdl_syntax_grammar.specs.Grammar.{across, prepend}
+use Rattle.pdl_syntax_grammar.specs.Grammar.{across, prepend, pace_kind}
 pub use Rattle.pdl_syntax_grammar.specs.ReadingExprs.{Outcome, Parser, and_then, ◌>>=◌, pure, refuse, name_by, number_by, first_literal, literal_by, access_by, goes_on, listed_by, slice_of, after_name, bracketed_expr, sized_expr, pair, Inner, inverted, catenated, compared, extended, sign_extended, operand_by, op_by, op_in, joined_expr, arms, choose, nothing_inside, expr, args}
 unfoldable pub use Rattle.pdl_syntax_grammar.specs.ReadingExprs.{
   take,
@@ -308,7 +308,7 @@ unfoldable pub mem : Parser Mem
 mem = do
   x ← name
   s ← shape
-  pure (record { name = x; width = s.0; depth = s.1; delayed = s.2; lock = s.3 })
+  pure (record { name = x; width = s.0; depth = s.1; kind = pace_kind s.2; lock = s.3 })
 
 -- the start clause
 unfoldable pub start : ℕ → Parser Start

@@ -2,7 +2,8 @@
 ghost use Rattle.std.specs.Prelude.{◌≡◌, map};
 ghost use Rattle.pdl_syntax_grammar.specs.Read.{Reads, shape_view};
 ghost use Rattle.pdl_syntax_grammar.specs.Reading as spec;
-ghost use Rattle.pdl_syntax_tree.specs.View.{number_view, param_view, mem_view, maybe_lock_view};
+ghost use Rattle.pdl_syntax_tree.specs.View.{number_view, param_view, mem_kind_view, mem_view, maybe_lock_view};
+ghost use Rattle.pdl_syntax_grammar.specs.Grammar.{pace_kind};
 ghost use Rattle.pdl_syntax_tokens.specs.declared.token.Mark.TheVariants as mark;
 
 use crate::item::MemShape;
@@ -11,7 +12,7 @@ use crate::words::{goes_on, lock_kind, name, number, pace, take};
 use pdl_kit::Seq;
 use pdl_syntax_cursor::Cursor;
 use pdl_syntax_tokens::Mark;
-use pdl_syntax_tree::{LockDecl, Mem, Number, Param};
+use pdl_syntax_tree::{LockDecl, Mem, MemKind, Number, Param};
 use std::alloc::Global;
 
 // The width of a type.
@@ -104,6 +105,17 @@ fn shape(tokens: &mut Cursor<'_>) -> Result<MemShape, Stop>
     })
 }
 
+// The kind of a memory by whether it answers in a later cycle.
+fn kind_of(delayed: bool) -> MemKind
+    ensures { mem_kind_view result ≡ pace_kind delayed }
+{
+    if delayed {
+        MemKind::Delayed
+    } else {
+        MemKind::Comb
+    }
+}
+
 #[tactic(auto, unfolding(crate::specs::Reading::mem))]
 fn mem(alloc: Global, tokens: &mut Cursor<'_>) -> Result<Mem, Stop>
     ensures { Reads mem_view (spec.mem tokens.old) result tokens.new }
@@ -114,7 +126,7 @@ fn mem(alloc: Global, tokens: &mut Cursor<'_>) -> Result<Mem, Stop>
         name,
         width: shape.width,
         depth: shape.depth,
-        delayed: shape.delayed,
+        kind: kind_of(shape.delayed),
         lock: shape.lock,
     })
 }

@@ -17,11 +17,13 @@ use Rattle.pdl_syntax_tree.specs.declared.tree.Param as r_param
 use Rattle.pdl_syntax_tree.specs.declared.tree.LockKind as r_lock_kind
 use Rattle.pdl_syntax_tree.specs.declared.tree.LockKind.TheVariants as r_lock_kinds
 use Rattle.pdl_syntax_tree.specs.declared.tree.LockDecl as r_lock
+use Rattle.pdl_syntax_tree.specs.declared.tree.MemKind as r_mem_kind
+use Rattle.pdl_syntax_tree.specs.declared.tree.MemKind.TheVariants as r_mem_kinds
 use Rattle.pdl_syntax_tree.specs.declared.tree.Mem as r_mem
 use Rattle.pdl_syntax_tree.specs.declared.tree.Start as r_start
 use Rattle.pdl_syntax_tree.specs.declared.tree.Pipe as r_pipe
 use Rattle.pdl_semantics.specs.Tree as tree
-use Rattle.pdl_semantics.specs.Tree.{Span, Ident, Number, Literal, BinaryOp, Expr, Location, Kind, Stmt, Stmts, stmts_of, Param, LockKind, LockDecl, Mem, Start, Pipe}
+use Rattle.pdl_semantics.specs.Tree.{Span, Ident, Number, Literal, BinaryOp, Expr, Location, Kind, Stmt, Stmts, stmts_of, Param, LockKind, LockDecl, MemKind, Mem, Start, Pipe}
 
 -- the span that a value of the program stands for
 abbrev pub span_view : r_span.Span → Span
@@ -102,6 +104,7 @@ stmt_step (Stmt-F.Release s l) = tree.Release (span_view s) (location_view l)
 stmt_step (Stmt-F.If s c a b) = tree.If (span_view s) (expr_view c) (stmts_of a) (stmts_of b)
 stmt_step (Stmt-F.Call s args) = tree.Call (span_view s) (exprs_view args)
 stmt_step (Stmt-F.Verify s g args) = tree.Verify (span_view s) (ident_view g) (exprs_view args)
+stmt_step (Stmt-F.Update s g args) = tree.Update (span_view s) (ident_view g) (exprs_view args)
 stmt_step (Stmt-F.SpecCheck s) = tree.SpecCheck (span_view s)
 stmt_step (Stmt-F.SpecBarrier s) = tree.SpecBarrier (span_view s)
 
@@ -132,9 +135,22 @@ abbrev pub maybe_lock_view : Option r_lock.LockDecl → Option LockDecl
 maybe_lock_view (Some l) = Some (lock_view l)
 maybe_lock_view None = None
 
+-- the kind of memory that a value of the program stands for
+abbrev pub mem_kind_view : r_mem_kind.MemKind → MemKind
+mem_kind_view r_mem_kinds.Comb = tree.Comb
+mem_kind_view r_mem_kinds.Delayed = tree.Delayed
+mem_kind_view r_mem_kinds.Advisory = tree.Advisory
+
 -- the memory that a value of the program stands for
 abbrev pub mem_view : r_mem.Mem → Mem
-mem_view m = record { name = ident_view m.name; width = number_view m.width; depth = number_view m.depth; delayed = m.delayed; lock = maybe_lock_view m.lock }
+mem_view m =
+    record {
+      name = ident_view m.name;
+      width = number_view m.width;
+      depth = number_view m.depth;
+      kind = mem_kind_view m.kind;
+      lock = maybe_lock_view m.lock;
+    }
 
 -- the start clause that a value of the program stands for
 abbrev pub start_view : r_start.Start → Start

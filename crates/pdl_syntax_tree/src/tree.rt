@@ -1,4 +1,8 @@
 // The syntax tree, with the places where its words stand.
+ghost use Rattle.std.specs.Prelude.{◌≡◌};
+ghost use Rattle.pdl_semantics.specs.Flat.{is_delayed, is_advisory};
+ghost use Rattle.pdl_syntax_tree.specs.View.{mem_kind_view};
+
 use pdl_kit::{Boxed, Name, Seq};
 
 /// Where words stand in the source: the bytes from `start` up to `end`, counted from 0, the last one left out, and the line of the first, counted from 1.
@@ -143,6 +147,11 @@ pub enum Stmt {
         guess: Ident,
         args: Seq<Expr>,
     },
+    Update {
+        span: Span,
+        guess: Ident,
+        args: Seq<Expr>,
+    },
     SpecCheck {
         span: Span,
     },
@@ -173,13 +182,43 @@ pub struct LockDecl {
     pub size: Number,
 }
 
-/// A memory: the width of its words in bits, how many words it has, whether it answers in a later cycle, and its lock or none.
+/// A memory answers in the same cycle, or in a later one, or in the same one but only as a hint: what an advisory memory says reaches guesses alone.
+#[derive(Clone, Copy)]
+pub enum MemKind {
+    Comb,
+    Delayed,
+    Advisory,
+}
+
+impl MemKind {
+    /// Whether the answer comes in a later cycle.
+    pub fn is_delayed(self) -> bool
+        ensures { result ≡ is_delayed (mem_kind_view self) }
+    {
+        match self {
+            MemKind::Delayed => true,
+            MemKind::Comb | MemKind::Advisory => false,
+        }
+    }
+
+    /// Whether the answer is only a hint.
+    pub fn is_advisory(self) -> bool
+        ensures { result ≡ is_advisory (mem_kind_view self) }
+    {
+        match self {
+            MemKind::Advisory => true,
+            MemKind::Comb | MemKind::Delayed => false,
+        }
+    }
+}
+
+/// A memory: the width of its words in bits, how many words it has, its kind, and its lock or none.
 #[derive(Drop)]
 pub struct Mem {
     pub name: Ident,
     pub width: Number,
     pub depth: Number,
-    pub delayed: bool,
+    pub kind: MemKind,
     pub lock: Option<LockDecl>,
 }
 

@@ -2,9 +2,13 @@
 ghost use Rattle.std.specs.Prelude.{◌≡◌, length, IfOk};
 ghost use Rattle.pdl_form.specs.FormView.{form};
 
-use pdl_form::{FlatBranch, FlatExpr, FlatMem, FlatPipe, FlatStage, FlatStmt, Lock, Next, Op};
+use pdl_form::{
+    FlatBranch, FlatBranches, FlatExpr, FlatMem, FlatPipe, FlatStage, FlatStmt, Lock, NO_BRANCHES,
+    Next, Op,
+};
 use pdl_kit::{Name, NoMemory, Seq};
 use pdl_stages::{Fork, StageGraph, stage_graph};
+use pdl_syntax_tree::MemKind;
 use std::alloc::Global;
 
 // A fork on the variable 0 in the stage 0 into the stage 1 on its first branch, and the merge in the stage 2.
@@ -15,20 +19,25 @@ const STAGES: [FlatStage; 3] = [
             first: 1,
             second: 2,
         },
-        branch: None,
+        branches: NO_BRANCHES,
         merges: None,
     },
     FlatStage {
         next: Next::Goes(2),
-        branch: Some(FlatBranch {
-            fork: 0,
-            first: true,
-        }),
+        branches: FlatBranches {
+            first: Some(FlatBranch {
+                fork: 0,
+                first: true,
+            }),
+            second: None,
+            third: None,
+            fourth: None,
+        },
         merges: None,
     },
     FlatStage {
         next: Next::Ends,
-        branch: None,
+        branches: NO_BRANCHES,
         merges: Some(0),
     },
 ];
@@ -39,7 +48,7 @@ pub fn memory(alloc: Global) -> Result<FlatMem, NoMemory> {
         name: Name::copy_of(alloc, b"m")?,
         width: 8,
         depth: 8,
-        delayed: false,
+        kind: MemKind::Comb,
         lock: Lock::Queue(2),
     })
 }

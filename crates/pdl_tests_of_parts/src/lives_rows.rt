@@ -4,7 +4,7 @@ ghost use Rattle.pdl_form.specs.FormView.{form};
 ghost use Rattle.pdl_pipe_lives.specs.Needs.{AreNeeds};
 
 use crate::form_rows::{memory, statements};
-use pdl_form::{FlatPipe, FlatStage, Next};
+use pdl_form::{FlatPipe, FlatStage, NO_BRANCHES, Next};
 use pdl_kit::NoMemory;
 use pdl_pipe_lives::{Needs, held_from, keeps_ticket};
 use std::alloc::Global;
@@ -13,12 +13,12 @@ use std::mem::drop;
 const STAGES: [FlatStage; 2] = [
     FlatStage {
         next: Next::Goes(1),
-        branch: None,
+        branches: NO_BRANCHES,
         merges: None,
     },
     FlatStage {
         next: Next::Ends,
-        branch: None,
+        branches: NO_BRANCHES,
         merges: None,
     },
 ];

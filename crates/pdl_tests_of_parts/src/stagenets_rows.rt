@@ -6,7 +6,7 @@ ghost use Rattle.pdl_pipe_exprs.specs.Conditions.{AreBits};
 ghost use Rattle.pdl_pipe_walk.specs.Sized.{IsWalkOf, AreWalked};
 
 use pdl_build::Builder;
-use pdl_form::{FlatPipe, FlatStage, FlatStmt, Next, Op};
+use pdl_form::{FlatPipe, FlatStage, FlatStmt, NO_BRANCHES, Next, Op};
 use pdl_kit::{NoMemory, Seq};
 use pdl_pipe_exprs::Bits;
 use pdl_pipe_walk::{Setting, WalkNets};
@@ -47,7 +47,8 @@ fn guesser(alloc: Global) -> Result<FlatPipe, NoMemory>
 {
     let mut stmts = Vec::new(alloc);
     stmts.push(statement(alloc, Op::SpecCall(Seq::new(alloc))))?;
-    stmts.push(statement(alloc, Op::Verify(Seq::new(alloc))))?;
+    let args = Seq::new(alloc);
+    stmts.push(statement(alloc, Op::Verify { last: true, args }))?;
     stmts.push(statement(alloc, Op::SpecBarrier))?;
     one_stage(alloc, stmts)
 }
@@ -63,7 +64,7 @@ fn one_stage(alloc: Global, stmts: Vec<FlatStmt>) -> Result<FlatPipe, NoMemory>
     let mut stages = Vec::new(alloc);
     stages.push(FlatStage {
         next: Next::Ends,
-        branch: None,
+        branches: NO_BRANCHES,
         merges: None,
     })?;
     let flat = FlatPipe::new(

@@ -158,6 +158,7 @@ fn span_of(stmt: &Stmt) -> Span {
         Stmt::If { span, .. } => *span,
         Stmt::Call { span, .. } => *span,
         Stmt::Verify { span, .. } => *span,
+        Stmt::Update { span, .. } => *span,
         Stmt::SpecCheck { span } => *span,
         Stmt::SpecBarrier { span } => *span,
     }

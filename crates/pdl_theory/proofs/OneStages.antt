@@ -1,21 +1,21 @@
 -- In a pipe of one stage each cycle is a whole thread of the sequential run, and prints its lines.
-use Rattle.std.proofs.Common.{◌≡◌, refl, sym, ap, ap₂, ◌∙◌, subst, ℕ, suc, ◌+◌, ◌≤◌, ◌<◌, Bool, true, false, ◌&&◌, ◌||◌, not, List, [], ◌∷◌, ◌++◌, length, Option, Some, None, ◌==◌, nat_lt, slice_index_or, cond, arith, append-nil, ltb-true}
+use Rattle.std.proofs.Common.{◌≡◌, refl, sym, ap, ap₂, ◌∙◌, subst, ℕ, suc, ◌+◌, ◌≤◌, ◌<◌, inl, Bool, true, false, ◌&&◌, ◌||◌, not, List, [], ◌∷◌, ◌++◌, length, Option, Some, None, ◌==◌, nat_lt, slice_index_or, cond, arith, append-nil, ltb-true}
 use Rattle.std.proofs.lemmas.Bool.{eqb-false}
-use Rattle.pdl_semantics.specs.Flat.{Arrays, Pipe, Op, DelayedRead, SpecCall, Verify, Call, Stmt, Mem, Commit, list_all, of_mem, arrays_of, all_hold, values_of}
-use Rattle.pdl_semantics.specs.Stages.{list_any, onpath, in_stage, stage_at, goes_to, onward, stages_on, is_verify, verify_stage}
+use Rattle.pdl_semantics.specs.Flat.{Arrays, Pipe, Op, DelayedRead, SpecCall, Verify, Call, Stmt, Mem, Commit, list_all, of_mem, arrays_of, all_hold}
+use Rattle.pdl_semantics.specs.Stages.{list_any, onpath, in_stage, stage_at, goes_to, onward, stages_on, verify_stage}
 use Rattle.pdl_semantics.specs.Sequential.{thread, threads, threads_from, writes_from, after_turns}
-use Rattle.pdl_semantics.specs.Cycle.{PortWrite, commit_shown, for_mems}
+use Rattle.pdl_semantics.specs.Cycle.{PortWrite, commits_shown, for_mems}
 use Rattle.pdl_semantics.specs.Machine.{same_args, is_answered}
 use Rattle.pdl_semantics.specs.Machine
-use Rattle.pdl_semantics.specs.Lines.{puts_of, put_of, puts_in, by_mem, columns, lines, turn_cycle, turn_cycles, thread_cycle, thread_cycles, run_lines, sequential_lines}
+use Rattle.pdl_semantics.specs.Lines.{puts_of, puts_for, puts_in, by_mem, columns, lines, turn_cycle, turn_cycles, thread_cycle, thread_cycles, run_lines, sequential_lines}
 use Rattle.pdl_semantics.specs.Flatten.{flat, mems_of}
 use Rattle.pdl_semantics.specs.Tree
 use Rattle.pdl_semantics.specs.Cycle
 use Rattle.pdl_semantics.specs.Moves
-use Rattle.pdl_theory_derived.specs.Derived.{Around, Work, Thread, State, Act, do_all, work_after, work_of_stage, around, answered_thread, act, acts, all_acts, cycle, turns_from, first, is_wait, waits_from, next_ask, next_asks, nothing_asked, asks_of, commits_of}
+use Rattle.pdl_theory_derived.specs.Derived.{Hint, Around, Work, Thread, State, Act, do_all, work_after, work_of_stage, around, answered_thread, act, acts, all_acts, cycle, turns_from, first, is_wait, waits_from, next_ask, next_asks, nothing_asked, asks_of, commits_of, said}
 use Rattle.pdl_theory_derived.specs.Derived
 use Rattle.pdl_theory_derived.specs.Alone.{answered_op}
-use Rattle.pdl_theory_derived.specs.Simulation.{SameTurns}
+use Rattle.pdl_theory_derived.specs.Simulation.{SameTurns, hints_of}
 use Rattle.pdl_theory_derived.specs.OneStage.{IsThread, AreThreads}
 use Rattle.pdl_theory_derived.proofs.Stages.{step}
 use Rattle.pdl_theory_derived.proofs.Writes.{and_left, and_right, of_mem_append}
@@ -24,6 +24,7 @@ use Rattle.pdl_theory_facts.specs.GuessScans.{Making, Unmade, is_unmade, is_gues
 use Rattle.pdl_theory_facts.specs.Facts.{looked_all, Sound}
 use Rattle.pdl_theory_turns.proofs.CourseOf.{course}
 use Rattle.pdl_theory_turns.proofs.Guesses
+use Rattle.pdl_semantics.specs.Stages.{is_check}
 use Rattle.pdl_theory_turns.proofs.Paths.{stage_path}
 use Rattle.pdl_theory_refinement.proofs.Cycle.{ends_one}
 use Rattle.pdl_theory_refinement.proofs.Refine.{writes_more}
@@ -39,19 +40,19 @@ use Rattle.pdl_semantics.specs.Sound.{is_fetch}
 
 -- statements of which no path verifies let nothing fail
 unfailed : (o : Around) (xs : List Stmt) (w : Work)
-    → ((path : List ℕ) → none_of is_verify (onpath path xs) ≡ true) → (do_all o xs w).fails ≡ w.fails
+    → ((path : List ℕ) → none_of is_check (onpath path xs) ≡ true) → (do_all o xs w).fails ≡ w.fails
 unfailed o [] w h = refl
 unfailed o (x ∷ xs) w h = unfailed o xs (step o x w) (λ path. later path (all_hold x.guards path) (h path)) ∙ at (all_hold x.guards w.env) (h w.env)
   where
     later : (path : List ℕ) (b : Bool)
-        → none_of is_verify (cond b (record x { guards = [] } ∷ onpath path xs) (onpath path xs)) ≡ true
-        → none_of is_verify (onpath path xs) ≡ true
-    later path true k = and_right (not (is_verify x.op)) _ k
+        → none_of is_check (cond b (record x { guards = [] } ∷ onpath path xs) (onpath path xs)) ≡ true
+        → none_of is_check (onpath path xs) ≡ true
+    later path true k = and_right (not (is_check x.op)) _ k
     later path false k = k
 
-    at : (b : Bool) → none_of is_verify (cond b (record x { guards = [] } ∷ onpath w.env xs) (onpath w.env xs)) ≡ true
+    at : (b : Bool) → none_of is_check (cond b (record x { guards = [] } ∷ onpath w.env xs) (onpath w.env xs)) ≡ true
         → (cond b (work_after o x.op w) w).fails ≡ w.fails
-    at true k = Guesses.unfailed o (record x { guards = [] } ∷ []) w (ap (λ b. b && true) (and_left (not (is_verify x.op)) _ k))
+    at true k = Guesses.unfailed o (record x { guards = [] } ∷ []) w (ap (λ b. b && true) (and_left (not (is_check x.op)) _ k))
     at false k = refl
 
 clash : false ≡ true → ⊥
@@ -60,22 +61,23 @@ clash e = cc
 -- in stages before the verifies' nothing is guessed, and without a guess nothing is verified
 one_certain : (v : Option ℕ) (s : ℕ) (k : Making) (op : Op)
     → stands_before v s ≡ false → is_guessed k ≡ false → making_ok v k s (answered_op op) ≡ true
-    → (not (is_verify op) ≡ true) × (is_guessed (next_making k (answered_op op)) ≡ false)
+    → (not (is_check op) ≡ true) × (is_guessed (next_making k (answered_op op)) ≡ false)
 one_certain v s k (Call args) b g h = (refl, refl)
 one_certain v s k (SpecCall args) b g h = absurd (clash (sym b ∙ and_right (is_unmade k) _ h))
-one_certain v s k (Verify args) b g h = absurd (clash (sym g ∙ and_left (is_guessed k) _ h))
+one_certain v s k (Verify true args) b g h = absurd (clash (sym g ∙ and_left (is_guessed k) _ h))
+one_certain v s k (Verify false args) b g h = absurd (clash (sym g ∙ and_left (is_guessed k) _ h))
 one_certain v s k _ b g h = (refl, g)
 
 unverified : (v : Option ℕ) (path : List ℕ) (xs : List Stmt) (k : Making)
     → ((s : ℕ) → stands_before v s ≡ false) → is_guessed k ≡ false → makings_ok v k (onpath path (looked_all xs)) ≡ true
-    → none_of is_verify (onpath path xs) ≡ true
+    → none_of is_check (onpath path xs) ≡ true
 unverified v path [] k b g h = refl
 unverified v path (x ∷ xs) k b g h = at (all_hold x.guards path) h (λ j. unverified v path xs j b)
   where
     at : (t : Bool)
         → makings_ok v k (cond t (record x { op = answered_op x.op; guards = [] } ∷ onpath path (looked_all xs)) (onpath path (looked_all xs))) ≡ true
-        → ((j : Making) → is_guessed j ≡ false → makings_ok v j (onpath path (looked_all xs)) ≡ true → none_of is_verify (onpath path xs) ≡ true)
-        → none_of is_verify (cond t (record x { guards = [] } ∷ onpath path xs) (onpath path xs)) ≡ true
+        → ((j : Making) → is_guessed j ≡ false → makings_ok v j (onpath path (looked_all xs)) ≡ true → none_of is_check (onpath path xs) ≡ true)
+        → none_of is_check (cond t (record x { guards = [] } ∷ onpath path xs) (onpath path xs)) ≡ true
     at true m go =
         let one = one_certain v x.stage k x.op (b x.stage) g (and_left (making_ok v k x.stage (answered_op x.op)) _ m) in
         ap₂ (λ c d. c && d) one.0 (go (next_making k (answered_op x.op)) one.1 (and_right (making_ok v k x.stage (answered_op x.op)) _ m))
@@ -95,9 +97,9 @@ none_before (Some n) f s = at (nat_lt s n) refl
 -- a request is made by a delayed read alone
 asks_same : (o : Around) (op : Op) (w : Work) → not (is_fetch op) ≡ true → (work_after o op w).asks ≡ w.asks
 asks_same o (DelayedRead x m a) w h = absurd (clash h)
-asks_same o (Verify args) w h = at (same_args (values_of args w.env) w.guess)
+asks_same o (Verify last args) w h = at (same_args (said o last args w.env) w.guess)
   where
-    at : (b : Bool) → (cond b w (record w { child = Some (values_of args w.env); fails = true })).asks ≡ w.asks
+    at : (b : Bool) → (cond b w (record w { child = Some (said o last args w.env); guess = said o last args w.env; fails = true })).asks ≡ w.asks
     at true = refl
     at false = refl
 asks_same o _ w h = refl
@@ -159,7 +161,7 @@ same_rest [] ys zs h = h
 same_rest (x ∷ xs) ys zs h = same_rest xs ys zs (ap behind_first h)
 
 module _ (p : Pipe) (sound : Sound p) (single : length p.stages ≡ 1) where
-  certain : (path : List ℕ) → none_of is_verify (onpath path p.stmts) ≡ true
+  certain : (path : List ℕ) → none_of is_check (onpath path p.stmts) ≡ true
   certain path =
       unverified (verify_stage (looked_all p.stmts)) path p.stmts Unmade
       (none_before _ (λ n e. let low = sound.pathwise.verify_inside n e in omega (arith, low, single))) refl (sound.pathwise.makings path)
@@ -171,7 +173,7 @@ module _ (p : Pipe) (sound : Sound p) (single : length p.stages ≡ 1) where
   fails_none : (o : Around) (t : Thread) → (work_of_stage p o t).fails ≡ false
   fails_none o t =
       unfailed o (in_stage t.stage p.stmts) _
-      (λ path. subst (λ l. none_of is_verify l ≡ true) (stage_path path t.stage p.stmts) (none_stage is_verify t.stage (onpath path p.stmts) (certain path)))
+      (λ path. subst (λ l. none_of is_check l ≡ true) (stage_path path t.stage p.stmts) (none_stage is_check t.stage (onpath path p.stmts) (certain path)))
 
   asks_none : (o : Around) (t : Thread) → (work_of_stage p o t).asks ≡ []
   asks_none o t = unasked o (in_stage t.stage p.stmts) _ (none_stage is_fetch t.stage p.stmts answered_here)
@@ -181,7 +183,7 @@ module _ (p : Pipe) (sound : Sound p) (single : length p.stages ≡ 1) where
   none_fail st bits older [] = refl
   none_fail st bits older (t ∷ ts) =
       ap₂ (λ c d. c || d)
-      (ap (λ f. (act p st bits older t).moves && f) (fails_none (around p st bits older t.stage) (answered_thread p st bits t))
+      (ap (λ f. (act p st bits older t).moves && f) (fails_none (around p st bits older t.stage t.hint) (answered_thread p st bits t))
       ∙ at (act p st bits older t).moves)
       (none_fail st bits (act p st bits older t ∷ older) ts)
     where
@@ -197,7 +199,7 @@ module _ (p : Pipe) (sound : Sound p) (single : length p.stages ≡ 1) where
           → cond b ((act p st bits older t).work.asks ++ asks_of (acts p st bits (act p st bits older t ∷ older) ts))
           (asks_of (acts p st bits (act p st bits older t ∷ older) ts))
           ≡ []
-      at true h = ap₂ (λ c d. c ++ d) (asks_none (around p st bits older t.stage) (answered_thread p st bits t)) h
+      at true h = ap₂ (λ c d. c ++ d) (asks_none (around p st bits older t.stage t.hint) (answered_thread p st bits t)) h
       at false h = h
 
   -- between cycles the commits are the writes of the threads that ended
@@ -212,7 +214,7 @@ module _ (p : Pipe) (sound : Sound p) (single : length p.stages ≡ 1) where
       at [] h l = absurd (cc l)
       at (sp ∷ sps) h l =
           let low : sp.stage < length p.stages = low_end p (course p sound) sp.stage h.0.under in
-          h.0.words m (omega (arith, low, single)) ∙ append-nil (of_mem m past)
+          h.0.words m (inl (omega (arith, low, single))) ∙ append-nil (of_mem m past)
 
   -- from a stage no path has more than one left
   short : (path : List ℕ) (s : ℕ) → stages_on p path (length p.stages) s ≤ 1
@@ -284,27 +286,31 @@ module _ (p : Pipe) (sound : Sound p) (single : length p.stages ≡ 1) where
     carried ts us wss s.1 h.1,
   )
 
+  abbrev hints : Arrays → List (List Bool) → ℕ → Hint
+  hints image schedule = hints_of p (Cycle.first p image) schedule
+
   -- the cycles of a run of the stated machine are the threads of the sequential run, one after another
   pub whole_threads : (image : Arrays) (schedule : List (List Bool)) → AreThreads (Cycle.turns p image schedule) (threads p image (length schedule))
   whole_threads image schedule =
-      carried _ _ _ (whole_same p sound image schedule) (from_here image 0 [] (first p image) schedule (runs_first p (course p sound) image) refl)
+      carried _ _ _ (whole_same p sound image schedule)
+      (from_here image 0 [] (first p image (hints image schedule)) schedule (runs_first p (course p sound) image (hints image schedule)) refl)
 
 -- LINES
 
-puts_alike : (m : ℕ) (o : Option PortWrite) → puts_of (commit_shown m o) ≡ put_of o
-puts_alike m None = refl
-puts_alike m (Some e) = refl
+puts_alike : (m : ℕ) (es : List PortWrite) → puts_of (commits_shown m es) ≡ puts_for es
+puts_alike m [] = refl
+puts_alike m (e ∷ es) = ap (λ l. record { address = e.address; value = e.value } ∷ l) (puts_alike m es)
 
 -- what each memory of a cycle shows
-puts_same : (f : ℕ → Option PortWrite) (ws : List Commit) (k : ℕ) (ms : List Tree.Mem)
-    → ((j : ℕ) → j < length (mems_of ms) → commit_shown (k + j) (f (k + j)) ≡ of_mem (k + j) ws)
+puts_same : (f : ℕ → List PortWrite) (ws : List Commit) (k : ℕ) (ms : List Tree.Mem)
+    → ((j : ℕ) → j < length (mems_of ms) → commits_shown (k + j) (f (k + j)) ≡ of_mem (k + j) ws)
     → puts_in (for_mems f k (mems_of ms)) ≡ by_mem k (columns ms) ws
 puts_same f ws k [] h = refl
 puts_same f ws k (m ∷ ms) h =
     ap₂ (λ a l. a ∷ l)
-    (sym (puts_alike k (f k)) ∙ ap puts_of (subst (λ i. commit_shown i (f i) ≡ of_mem i ws) (let e : k + 0 ≡ k = omega arith in e) (h 0 (omega arith))))
+    (sym (puts_alike k (f k)) ∙ ap puts_of (subst (λ i. commits_shown i (f i) ≡ of_mem i ws) (let e : k + 0 ≡ k = omega arith in e) (h 0 (omega arith))))
     (puts_same f ws (suc k) ms
-    (λ j low. subst (λ i. commit_shown i (f i) ≡ of_mem i ws) (let e : k + suc j ≡ suc k + j = omega arith in e) (h (suc j) (omega arith))))
+    (λ j low. subst (λ i. commits_shown i (f i) ≡ of_mem i ws) (let e : k + suc j ≡ suc k + j = omega arith in e) (h (suc j) (omega arith))))
 
 -- a cycle that is a thread
 cycle_same : (p : Tree.Pipe) (st : Machine.State) (bits : List Bool) (ws : List Commit)
@@ -312,21 +318,21 @@ cycle_same : (p : Tree.Pipe) (st : Machine.State) (bits : List Bool) (ws : List 
     → turn_cycle (record { ports = Cycle.ports (flat p) st (Moves.all_acts (flat p) st bits); wait = Cycle.is_wait (flat p) st bits })
     ≡ thread_cycle (columns p.mems) ws
 cycle_same p st bits ws h = λ i. record {
-  puts = puts_same (λ m. Cycle.port_write (Cycle.taken_out st (Moves.movers (Moves.all_acts (flat p) st bits)) m)) ws 0 p.mems each i;
+  puts = puts_same (λ m. Cycle.port_writes (Cycle.taken_out st (Moves.movers (Moves.all_acts (flat p) st bits)) m)) ws 0 p.mems each i;
   ended = h.ended i;
   wait = h.wait i;
   squash = h.squash i;
 }
   where
     each : (j : ℕ) → j < length (mems_of p.mems)
-        → commit_shown (0 + j) (Cycle.port_write (Cycle.taken_out st (Moves.movers (Moves.all_acts (flat p) st bits)) (0 + j))) ≡ of_mem (0 + j) ws
+        → commits_shown (0 + j) (Cycle.port_writes (Cycle.taken_out st (Moves.movers (Moves.all_acts (flat p) st bits)) (0 + j))) ≡ of_mem (0 + j) ws
     each j low =
-        ap (commit_shown (0 + j))
-        (sym (at_mem (λ m. Cycle.port_write (Cycle.taken_out st (Moves.movers (Moves.all_acts (flat p) st bits)) m)) 0 (mems_of p.mems) j None low))
+        ap (commits_shown (0 + j))
+        (sym (at_mem (λ m. Cycle.port_writes (Cycle.taken_out st (Moves.movers (Moves.all_acts (flat p) st bits)) m)) 0 (mems_of p.mems) j [] low))
         ∙ subst
-        (λ k. commit_shown k
+        (λ k. commits_shown k
         (slice_index_or
-        (for_mems (λ m. Cycle.port_write (Cycle.taken_out st (Moves.movers (Moves.all_acts (flat p) st bits)) m)) 0 (mems_of p.mems)) j None)
+        (for_mems (λ m. Cycle.port_writes (Cycle.taken_out st (Moves.movers (Moves.all_acts (flat p) st bits)) m)) 0 (mems_of p.mems)) j [])
         ≡ of_mem k ws)
         (let e : j ≡ 0 + j = omega arith in e) (h.commits j)
 

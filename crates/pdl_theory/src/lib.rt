@@ -9,13 +9,15 @@ ghost use Rattle.pdl_semantics.specs.Tree;
 ghost use Rattle.pdl_semantics.specs.Flatten.{flat};
 ghost use Rattle.pdl_semantics.specs.Sequential.{threads};
 ghost use Rattle.pdl_semantics.specs.Lines.{run_lines, sequential_lines};
-ghost use Rattle.pdl_semantics.specs.Cycle.{turns};
-ghost use Rattle.pdl_semantics.specs.Promises.{Refines, Advances, KeepsPace};
+ghost use Rattle.pdl_semantics.specs.Cycle.{first, turns};
+ghost use Rattle.pdl_semantics.specs.Promises.{Refines, Advances, KeepsPace, DifferInAdvice, AdviceIsIdle};
+ghost use Rattle.pdl_semantics.specs.Updates.{WritesAlike, CommitsAlike, not_updated};
 ghost use Rattle.pdl_theory_facts.specs.Facts.{Sound};
 ghost use Rattle.pdl_theory_facts.specs.SoundChecks.{passes_tests};
 ghost use Rattle.pdl_theory_derived.specs.Alone;
-ghost use Rattle.pdl_theory_derived.specs.Simulation.{SameTurns};
+ghost use Rattle.pdl_theory_derived.specs.Simulation.{SameTurns, hints_of};
 ghost use Rattle.pdl_theory_derived.specs.OneStage.{AreThreads};
+ghost use Rattle.pdl_theory_derived.specs.Derived.{Hint};
 ghost use Rattle.pdl_theory_derived.specs.Derived;
 
 /// Pipeline refinement and Progress in the whole language: guesses, delayed reads and forks.
@@ -29,21 +31,36 @@ pub fn whole_language()
         KeepsPace p image schedule }
 {}
 
-/// The simulation: the machine that the proofs use has the same ports and waits in every cycle, of any pipe of the whole language.
+/// The simulation: the machine that the proofs use, whose threads are given what they guess, has the same ports and waits in every cycle, of any pipe of the whole language.
 pub fn simulation()
     ensures { (p : Pipe) → Sound p → (image : Arrays) (schedule : List (List Bool)) →
-        SameTurns p (turns p image schedule) (Derived.turns p image schedule) }
+        SameTurns p (turns p image schedule)
+        (Derived.turns p image (hints_of p (first p image) schedule) schedule) }
 {}
 
-/// Both theorems for the machine that the proofs use, in the whole language.
+/// What advisory memories hold changes no write: threads write the same, and of two runs one's commits begin with those of the other.
+pub fn advice()
+    ensures { (p : Pipe) → Sound p → (image other : Arrays) (schedule replies : List (List Bool)) →
+        DifferInAdvice p image other → AdviceIsIdle p image other schedule replies }
+{}
+
+/// Updates change nothing but how soon: without them the threads of a pipe write the same, and what is committed with them and without them, each with any replies, begins one list.
+pub fn updates()
+    ensures writes { (p : Pipe) → (image : Arrays) → WritesAlike p image }
+    ensures commits { (p : Pipe) → Sound p → Sound (not_updated p) →
+        (image : Arrays) (schedule replies : List (List Bool)) →
+        CommitsAlike p image schedule replies }
+{}
+
+/// Both theorems for the machine that the proofs use, in the whole language, whatever its threads guess.
 pub fn derived_whole()
-    ensures refines { (p : Pipe) → Sound p → (image : Arrays) (schedule : List (List Bool)) →
-        Alone.Refines p image schedule }
+    ensures refines { (p : Pipe) → Sound p → (image : Arrays) (hints : ℕ → Hint) (schedule : List (List Bool)) →
+        Alone.Refines p image hints schedule }
     ensures oldest_moves { (p : Pipe) → Sound p →
-        (image : Arrays) (schedule : List (List Bool)) (bits : List Bool) →
-        Alone.Advances p image schedule bits }
-    ensures keeps_pace { (p : Pipe) → Sound p → (image : Arrays) (schedule : List (List Bool)) →
-        Alone.KeepsPace p image schedule }
+        (image : Arrays) (hints : ℕ → Hint) (schedule : List (List Bool)) (bits : List Bool) →
+        Alone.Advances p image hints schedule bits }
+    ensures keeps_pace { (p : Pipe) → Sound p → (image : Arrays) (hints : ℕ → Hint) (schedule : List (List Bool)) →
+        Alone.KeepsPace p image hints schedule }
 {}
 
 /// A pipe that passes the tests has the facts that the theorems take.

@@ -2,12 +2,12 @@
 use Rattle.std.proofs.Common.{◌≡◌, ◌≢◌, refl, sym, ap, ap₂, ◌∙◌, ℕ, zero, suc, ◌+◌, ◌<◌, Bool, true, false, ◌&&◌, ◌||◌, not, List, [], ◌∷◌, ◌++◌, length, Option, Some, None, is_none, ◌==◌, cond, if◌then◌else◌, arith, eq-eqb, slice_index, slice_index_or, slice_set, zero-add, add-suc, suc-add}
 use Rattle.std.proofs.lemmas.List.{set_comm}
 use Rattle.std.proofs.lemmas.Bool.{eqb-true, ne_eqb}
-use Rattle.pdl_semantics.specs.Flat.{Arrays, Op, DelayedRead, Verify, Stmt, Pipe, list_all, values_of, all_hold, word_at}
+use Rattle.pdl_semantics.specs.Flat.{Arrays, Op, DelayedRead, Verify, Stmt, Pipe, list_all, all_hold, word_at}
 use Rattle.pdl_semantics.specs.Stages.{in_stage}
 use Rattle.pdl_semantics.specs.Machine.{Ask, is_answered, same_args}
 use Rattle.pdl_semantics.specs.Cycle.{awaited_of}
 use Rattle.pdl_semantics.specs.Moves.{is_empty}
-use Rattle.pdl_theory_derived.specs.Derived.{Work, Around, Thread, State, Act, work_after, do_all, around, act, acts, asked_at, word_of, still, with_answers, awaits_mem, port_free, asks_of, find_ask, next_ask, next_asks}
+use Rattle.pdl_theory_derived.specs.Derived.{Work, Around, Thread, State, Act, work_after, do_all, around, act, acts, asked_at, word_of, still, with_answers, awaits_mem, port_free, asks_of, find_ask, next_ask, next_asks, said}
 use Rattle.pdl_theory_derived.proofs.Writes.{and_left, and_right}
 use Rattle.pdl_theory_derived.proofs.Stages.{step, was_ready}
 
@@ -259,9 +259,10 @@ unasked_op o (DelayedRead x n a) w m h r = at (n == m) refl
         find_append w.asks (record { mem = n; var = x; address = slice_index w.env a } ∷ []) m
         ∙ ap (λ b. or_ask (find_ask w.asks m) (cond b (Some (slice_index w.env a)) None)) e
         ∙ no_more (find_ask w.asks m)
-unasked_op o (Verify args) w m h r = at (same_args (values_of args w.env) w.guess)
+unasked_op o (Verify last args) w m h r = at (same_args (said o last args w.env) w.guess)
   where
-    at : (b : Bool) → find_ask (cond b w (record w { child = Some (values_of args w.env); fails = true })).asks m ≡ find_ask w.asks m
+    at : (b : Bool)
+        → find_ask (cond b w (record w { child = Some (said o last args w.env); guess = said o last args w.env; fails = true })).asks m ≡ find_ask w.asks m
     at true = refl
     at false = refl
 unasked_op o _ w m h r = refl
@@ -303,5 +304,6 @@ held_port p st bits older (t ∷ ts) m h =
         ≡ None
     at true e k =
         find_append (act p st bits older t).work.asks (asks_of (acts p st bits (act p st bits older t ∷ older) ts)) m
-        ∙ ap₂ or_ask (unasked (around p st bits older t.stage) (in_stage t.stage p.stmts) _ m h (and_right _ _ (and_left _ _ (and_left _ _ e)))) k
+        ∙ ap₂ or_ask
+        (unasked (around p st bits older t.stage t.hint) (in_stage t.stage p.stmts) _ m h (and_right _ _ (and_left _ _ (and_left _ _ (and_left _ _ e))))) k
     at false e k = k

@@ -10,7 +10,7 @@ use Rattle.pdl_semantics.proofs.Facts.{put_append}
 
 -- a pending write of thread n, as it stands in the lock's list
 abbrev pub own : ℕ → Entry → Pending
-own n e = record { thread = n; address = e.address; value = e.value }
+own n e = record { thread = n; var = e.var; address = e.address; value = e.value }
 
 -- a thread's entries of m in its lock's list
 abbrev pub pend : ℕ → ℕ → List Entry → List Pending
@@ -59,33 +59,37 @@ abbrev pub Foreign : ℕ → List Pending → Type 0
 Foreign n [] = Unit {0}
 Foreign n (x ∷ xs) = ((x.thread == n) ≡ false) × Foreign n xs
 
-put_foreign : (n v : ℕ) (xs : List Pending) → Foreign n xs → with_value_of n v xs ≡ xs
-put_foreign n v [] h = refl
-put_foreign n v (x ∷ xs) h = ap₂ (λ b l. (cond b (record x { value = Some v }) x) ∷ l) h.0 (put_foreign n v xs h.1)
+put_foreign : (n y v : ℕ) (xs : List Pending) → Foreign n xs → with_value_of n y v xs ≡ xs
+put_foreign n y v [] h = refl
+put_foreign n y v (x ∷ xs) h = ap₂ (λ b l. (cond (b && (x.var == y)) (record x { value = Some v }) x) ∷ l) h.0 (put_foreign n y v xs h.1)
 
 -- a thread's writes leave the entries of others before its own alone
 put_all_front : (m n : ℕ) (ws : List Machine.Written) (xs ys : List Pending) → Foreign n xs
     → with_writes_of m n ws (xs ++ ys) ≡ xs ++ with_writes_of m n ws ys
 put_all_front m n [] xs ys h = refl
-put_all_front m n (w ∷ ws) xs ys h = at (w.mem == m) (put_all_front m n ws xs (with_value_of n w.value ys) h) (put_all_front m n ws xs ys h)
+put_all_front m n (w ∷ ws) xs ys h = at (w.mem == m) (put_all_front m n ws xs (with_value_of n w.var w.value ys) h) (put_all_front m n ws xs ys h)
   where
     at : (b : Bool)
-        → with_writes_of m n ws (xs ++ with_value_of n w.value ys) ≡ xs ++ with_writes_of m n ws (with_value_of n w.value ys)
+        → with_writes_of m n ws (xs ++ with_value_of n w.var w.value ys) ≡ xs ++ with_writes_of m n ws (with_value_of n w.var w.value ys)
         → with_writes_of m n ws (xs ++ ys) ≡ xs ++ with_writes_of m n ws ys
-        → with_writes_of m n ws (cond b (with_value_of n w.value (xs ++ ys)) (xs ++ ys)) ≡ xs ++ with_writes_of m n ws (cond b (with_value_of n w.value ys) ys)
-    at true f g = ap (with_writes_of m n ws) (put_append n w.value xs ys ∙ ap (λ l. l ++ with_value_of n w.value ys) (put_foreign n w.value xs h)) ∙ f
+        → with_writes_of m n ws (cond b (with_value_of n w.var w.value (xs ++ ys)) (xs ++ ys)) ≡ xs ++ with_writes_of m n ws
+        (cond b (with_value_of n w.var w.value ys) ys)
+    at true f g =
+        ap (with_writes_of m n ws) (put_append n w.var w.value xs ys ∙ ap (λ l. l ++ with_value_of n w.var w.value ys) (put_foreign n w.var w.value xs h)) ∙ f
     at false f g = g
 
 put_all_back : (m n : ℕ) (ws : List Machine.Written) (xs ys : List Pending) → Foreign n ys
     → with_writes_of m n ws (xs ++ ys) ≡ with_writes_of m n ws xs ++ ys
 put_all_back m n [] xs ys h = refl
-put_all_back m n (w ∷ ws) xs ys h = at (w.mem == m) (put_all_back m n ws (with_value_of n w.value xs) ys h) (put_all_back m n ws xs ys h)
+put_all_back m n (w ∷ ws) xs ys h = at (w.mem == m) (put_all_back m n ws (with_value_of n w.var w.value xs) ys h) (put_all_back m n ws xs ys h)
   where
     at : (b : Bool)
-        → with_writes_of m n ws (with_value_of n w.value xs ++ ys) ≡ with_writes_of m n ws (with_value_of n w.value xs) ++ ys
+        → with_writes_of m n ws (with_value_of n w.var w.value xs ++ ys) ≡ with_writes_of m n ws (with_value_of n w.var w.value xs) ++ ys
         → with_writes_of m n ws (xs ++ ys) ≡ with_writes_of m n ws xs ++ ys
-        → with_writes_of m n ws (cond b (with_value_of n w.value (xs ++ ys)) (xs ++ ys)) ≡ with_writes_of m n ws (cond b (with_value_of n w.value xs) xs) ++ ys
-    at true f g = ap (with_writes_of m n ws) (put_append n w.value xs ys ∙ ap (λ l. with_value_of n w.value xs ++ l) (put_foreign n w.value ys h)) ∙ f
+        → with_writes_of m n ws (cond b (with_value_of n w.var w.value (xs ++ ys)) (xs ++ ys)) ≡ with_writes_of m n ws
+        (cond b (with_value_of n w.var w.value xs) xs) ++ ys
+    at true f g =
+        ap (with_writes_of m n ws) (put_append n w.var w.value xs ys ∙ ap (λ l. with_value_of n w.var w.value xs ++ l) (put_foreign n w.var w.value ys h)) ∙ f
     at false f g = g
 
 -- movers of smaller numbers leave these entries alone

@@ -1,20 +1,18 @@
 -- In a cycle that is no wait the oldest thread moves. Of any pipe of the whole language.
 use Rattle.std.proofs.Common.{◌≡◌, refl, sym, ap, ◌∙◌, subst, ℕ, zero, suc, ◌+◌, Bool, true, false, ◌&&◌, ◌||◌, not, List, [], ◌∷◌, Option, Some, None, is_none, is_some, cond, arith, slice_index, slice_index_or, zero-add, add-suc, suc-add}
 use Rattle.std.proofs.lemmas.Bool.{and_from}
-use Rattle.pdl_semantics.specs.Flat.{Op, DelayedRead, ReserveWrite, Block, Verify, SpecBarrier, Stmt, Pipe, all_hold, values_of}
+use Rattle.pdl_semantics.specs.Flat.{Op, DelayedRead, Block, Verify, SpecBarrier, Stmt, Pipe, all_hold}
 use Rattle.pdl_semantics.specs.Stages.{in_stage, mem_at, stage_at, verify_stage}
 use Rattle.pdl_semantics.specs.Machine.{Awaited, is_answered, same_args}
 use Rattle.pdl_semantics.specs.Moves.{is_empty}
-use Rattle.pdl_semantics.specs.Locks.{has_room}
 use Rattle.pdl_semantics.proofs.Readiness.{read_free, write_free}
-use Rattle.pdl_theory_derived.specs.Derived.{Work, Around, Thread, State, work_after, do_all, around, act, asked_at, still, has_entry, port_free, barrier_clear, can_enter, fork_clear, is_wait, waits_from}
+use Rattle.pdl_theory_derived.specs.Derived.{Work, Around, Thread, State, work_after, do_all, around, act, asked_at, still, has_entry, port_free, barrier_clear, can_enter, fork_clear, is_wait, waits_from, have_room, said}
 use Rattle.pdl_theory_derived.proofs.Stages.{step}
 
 -- surroundings that hold nobody up
 pub record AllTrue (o : Around) : Type 0 where
   pub can_read : (m a : ℕ) → o.can_read m a ≡ true
   pub can_write : (m a : ℕ) → o.can_write m a ≡ true
-  pub room : (m : ℕ) → o.room m ≡ true
   pub free : (m : ℕ) → o.free m ≡ true
   pub clear : o.clear ≡ true
 
@@ -24,12 +22,11 @@ pick false x y h k = k
 
 ready_op : (o : Around) (op : Op) (w : Work) → AllTrue o → w.ready ≡ true → (work_after o op w).ready ≡ true
 ready_op o (DelayedRead x m a) w f h = and_from w.ready (o.free m) h (f.free m)
-ready_op o (ReserveWrite m a) w f h = and_from w.ready (o.room m) h (f.room m)
 ready_op o (Block m a) w f h =
     and_from w.ready _ h (pick (has_entry w.entries m a) _ _ (f.can_write m (slice_index w.env a)) (f.can_read m (slice_index w.env a)))
-ready_op o (Verify args) w f h = at (same_args (values_of args w.env) w.guess)
+ready_op o (Verify last args) w f h = at (same_args (said o last args w.env) w.guess)
   where
-    at : (b : Bool) → (cond b w (record w { child = Some (values_of args w.env); fails = true })).ready ≡ true
+    at : (b : Bool) → (cond b w (record w { child = Some (said o last args w.env); guess = said o last args w.env; fails = true })).ready ≡ true
     at true = h
     at false = h
 ready_op o SpecBarrier w f h = and_from w.ready o.clear h f.clear
@@ -42,10 +39,6 @@ ready_step false o op w f h = h
 ready_all : (o : Around) (xs : List Stmt) (w : Work) → AllTrue o → w.ready ≡ true → (do_all o xs w).ready ≡ true
 ready_all o [] w f h = h
 ready_all o (x ∷ xs) w f h = ready_all o xs (step o x w) f (ready_step (all_hold x.guards w.env) o x.op w f h)
-
--- each lock has room for one
-abbrev pub HasRoom : Pipe → Type 0
-HasRoom p = (m : ℕ) → has_room (mem_at p m).lock 0 ≡ true
 
 -- a cycle that is no wait answers each outstanding request
 answered_at : (p : Pipe) (bits : List Bool) (k : ℕ) (asked : List (Option ℕ)) (j : ℕ)
@@ -102,17 +95,16 @@ enter_alone p None = refl
 enter_alone p (Some q) = fork_alone p (stage_at p q).merges
 
 -- the oldest thread moves in a cycle that is no wait, where locks have room and its awaited reads are outstanding
-pub oldest : (p : Pipe) (st : State) (bits : List Bool) (t : Thread) → HasRoom p → Asked st.asked t.awaits
+pub oldest : (p : Pipe) (st : State) (bits : List Bool) (t : Thread) → have_room p [] (act p st bits [] t).work ≡ true → Asked st.asked t.awaits
     → is_wait p st bits ≡ false → (act p st bits [] t).moves ≡ true
 oldest p st bits t room a h =
     and_from _ _
-    (and_from _ _ (ready_all (around p st bits [] t.stage) (in_stage t.stage p.stmts) _
+    (and_from _ _ (and_from _ _ (ready_all (around p st bits [] t.stage t.hint) (in_stage t.stage p.stmts) _
     (record {
       can_read = λ m x. read_free (mem_at p m).lock;
       can_write = λ m x. write_free (mem_at p m).lock;
-      room = room;
       free = λ m. free_port p st bits m h;
       clear = clear_alone (verify_stage p.stmts) t.stage;
-    }) refl)
+    }) refl) room)
     (none_still p st bits t.awaits h a))
     (enter_alone p _)

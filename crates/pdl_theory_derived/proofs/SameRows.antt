@@ -3,16 +3,19 @@ use Rattle.std.proofs.Common.{◌≡◌, refl, ℕ, suc, Bool, true, false, ◌&
 use Rattle.std.specs.Fmt.{digits}
 use Rattle.pdl_word.specs.Words.{add, slice, zext, complement}
 use Rattle.pdl_semantics.specs.Tree
+use Rattle.pdl_semantics.specs.Tree.{Queue, Bypass}
 use Rattle.pdl_semantics.specs.Flat.{Commit, of_mem, arrays_of}
 use Rattle.pdl_semantics.specs.Flatten.{flat}
 use Rattle.pdl_semantics.specs.Lines.{Column, columns, lines, by_mem, run_lines}
 use Rattle.pdl_semantics.specs.Lines
 use Rattle.pdl_semantics.specs.Machine.{Ask}
-use Rattle.pdl_semantics.specs.Cycle.{PortWrite, commit_shown, turns}
+use Rattle.pdl_semantics.specs.Cycle.{PortWrite, commits_shown, turns}
 use Rattle.pdl_semantics.specs.Cycle
-use Rattle.pdl_semantics.proofs.Pipes.{one_stage, two_stages, under_guard, shared_guard, count_queue, count_bypass, count_rename, count_late, guess, guess_reserved, copy, copy_guessed, two_branches, one_branch, count_slow, barrier, far_barrier}
+use Rattle.pdl_semantics.proofs.Pipes.{two_writes, two_writes_apart, one_stage, two_stages, under_guard, shared_guard, count_queue, count_bypass, count_rename, count_late, guess, guess_learnt, update_learnt, guess_kept, guess_reserved, copy, copy_guessed, two_branches, one_branch, count_slow, barrier, far_barrier}
+use Rattle.pdl_semantics.proofs.Texts.{variable}
 use Rattle.pdl_semantics.proofs.MachineRows.{zeros, idle, bits, copied}
 use Rattle.pdl_theory_derived.specs.Derived
+use Rattle.pdl_theory_derived.specs.Simulation.{hints_of}
 
 -- PORTS
 
@@ -30,9 +33,9 @@ same_commits (a ∷ xs) (b ∷ ys) = (a.mem == b.mem) && (a.address == b.address
 same_commits _ _ = false
 
 -- memory by memory
-abbrev each_commits : ℕ → List (Option PortWrite) → List Commit → Bool
+abbrev each_commits : ℕ → List (List PortWrite) → List Commit → Bool
 each_commits m [] cs = true
-each_commits m (x ∷ xs) cs = same_commits (commit_shown m x) (of_mem m cs) && each_commits (suc m) xs cs
+each_commits m (x ∷ xs) cs = same_commits (commits_shown m x) (of_mem m cs) && each_commits (suc m) xs cs
 
 abbrev same_requests : ℕ → List (Option ℕ) → List Ask → Bool
 same_requests m [] [] = true
@@ -50,7 +53,9 @@ agree (a ∷ ts) (b ∷ us) =
 agree _ _ = false
 
 abbrev both_agree : Tree.Pipe → List (List ℕ) → List (List Bool) → Bool
-both_agree p image schedule = agree (turns (flat p) (arrays_of image) schedule) (Derived.turns (flat p) (arrays_of image) schedule)
+both_agree p image schedule =
+    agree (turns (flat p) (arrays_of image) schedule)
+    (Derived.turns (flat p) (arrays_of image) (hints_of (flat p) (Cycle.first (flat p) (arrays_of image)) schedule) schedule)
 
 -- some replies late, some prompt
 abbrev mixed : List (List Bool)
@@ -63,6 +68,8 @@ all_true (b ∷ bs) = b && all_true bs
 
 trunk_ports : all_true (both_agree one_stage (zeros ∷ []) (idle 6) ∷ both_agree two_stages (zeros ∷ []) (idle 8) ∷ both_agree under_guard (zeros ∷ []) (idle 8)
     ∷ both_agree shared_guard (zeros ∷ []) (idle 8) ∷ both_agree (count_queue 1) (zeros ∷ []) (idle 12) ∷ both_agree (count_bypass 4) (zeros ∷ []) (idle 12)
+    ∷ both_agree (two_writes (variable "n")) (zeros ∷ []) (idle 4) ∷ both_agree (two_writes_apart Bypass 4) (zeros ∷ []) (idle 12)
+    ∷ both_agree (two_writes_apart Queue 2) (zeros ∷ []) (idle 12)
     ∷ both_agree (count_rename 2) (zeros ∷ []) (idle 12) ∷ both_agree count_late (zeros ∷ []) (idle 12) ∷ []) ≡ true
 unfolding add slice zext complement
 trunk_ports = refl
@@ -72,6 +79,12 @@ guess_ports : all_true
     ∷ both_agree barrier (zeros ∷ []) (idle 6) ∷ both_agree far_barrier (zeros ∷ []) (idle 12) ∷ []) ≡ true
 unfolding add slice zext
 guess_ports = refl
+
+advice_ports : all_true (both_agree guess_learnt (zeros ∷ zeros ∷ []) (idle 14) ∷ both_agree guess_learnt ((2 ∷ 0 ∷ 2 ∷ 0 ∷ []) ∷ zeros ∷ [])
+    (idle 12) ∷ both_agree guess_kept (zeros ∷ zeros ∷ []) (idle 14) ∷ both_agree guess_kept ((2 ∷ 0 ∷ 0 ∷ 0 ∷ []) ∷ zeros ∷ []) (idle 12)
+    ∷ both_agree update_learnt (zeros ∷ zeros ∷ []) (idle 14) ∷ both_agree update_learnt ((2 ∷ 0 ∷ 2 ∷ 0 ∷ []) ∷ zeros ∷ []) (idle 12) ∷ []) ≡ true
+unfolding add slice zext
+advice_ports = refl
 
 delayed_ports : all_true (both_agree copy copied mixed ∷ both_agree copy_guessed copied mixed ∷ both_agree count_slow ((0 ∷ 0 ∷ []) ∷ []) mixed ∷ [])
     ≡ true
@@ -92,7 +105,9 @@ derived_cycles ms [] = []
 derived_cycles ms (t ∷ ts) = derived_cycle ms t ∷ derived_cycles ms ts
 
 abbrev derived_lines : Tree.Pipe → List (List ℕ) → List (List Bool) → List ℕ
-derived_lines p image schedule = lines (columns p.mems) (derived_cycles (columns p.mems) (Derived.turns (flat p) (arrays_of image) schedule))
+derived_lines p image schedule =
+    lines (columns p.mems)
+    (derived_cycles (columns p.mems) (Derived.turns (flat p) (arrays_of image) (hints_of (flat p) (Cycle.first (flat p) (arrays_of image)) schedule) schedule))
 
 abbrev prints_alike : Tree.Pipe → List (List ℕ) → List (List Bool) → Bool
 prints_alike p image schedule = bytes_eq (derived_lines p image schedule) (run_lines p image schedule)

@@ -1,2 +1,4 @@
 pub mod Texts
 pub mod Passes
+pub mod Apart
+pub mod Nested

@@ -6,8 +6,8 @@ use Rattle.pdl_semantics.specs.Stages.{onpath, in_stage, mem_at, plain_mem, comm
 use Rattle.pdl_semantics.specs.Locks.{has_room}
 use Rattle.pdl_semantics.specs.Sound.{all_below, stages_from, is_fetch}
 use Rattle.pdl_theory_derived.specs.Alone.{before}
-use Rattle.pdl_theory_facts.specs.Scans.{is_plain, none_of, all_at, reads_ok, no_scan, phases_ok, phase_all, Fresh, is_over, is_fixed}
-use Rattle.pdl_theory_facts.specs.GuessScans.{Unmade, makings_ok, making_all, is_made, all_sure}
+use Rattle.pdl_theory_facts.specs.Scans.{is_plain, none_of, all_at, reads_ok, no_scan, phases_ok, phase_all, Fresh, is_over, write_reserves, is_fixed}
+use Rattle.pdl_theory_facts.specs.GuessScans.{Unmade, makings_ok, making_all, is_made, checks_apart, is_update, once, all_sure}
 use Rattle.pdl_theory_facts.specs.Checks.{in_text_order, knows_memory, on_paths, guard_vars, mem_passes, path_passes, lock_passes, is_below, locks_pass, text_passes, paths_pass}
 use Rattle.pdl_theory_facts.specs.Accepted.{Accepted, Pathwise, along}
 use Rattle.pdl_theory_derived.proofs.Writes.{and_left, and_right}
@@ -70,19 +70,12 @@ module _ (p : Pipe) (h : Parts p) where
       (and_left (nat_le (length p.releases_at) (length p.mems)) _ (and_right (nat_le (length p.reserves_at) (length p.mems)) _ locks_ok)) in
       omega arith))
 
-  -- each lock has room where no write is pending
-  pub locks : (m : ℕ) → has_room (mem_at p m).lock 0 ≡ true
-  locks m =
-      by_bound (length p.mems) m (has_room (mem_at p m).lock 0 ≡ true) (λ low. and_left (has_room (mem_at p m).lock 0) _ (lock_ok m low))
-      (λ past. ap (λ (x : Mem). has_room x.lock 0) (past_end p.mems m plain_mem past))
-
-  -- the tests of a lock after the first one
   lock_rest : (m : ℕ) → m < length p.mems
       → (all_at (is_reserve m) (reserve_stage p m) p.stmts
       && (all_at (is_release m) (commit_stage p m) p.stmts
       && (not (is_plain (mem_at p m).lock) || ((reserve_stage p m == 0) && (commit_stage p m == length p.stages)))))
       ≡ true
-  lock_rest m low = and_right (has_room (mem_at p m).lock 0) _ (lock_ok m low)
+  lock_rest m low = lock_ok m low
 
   plain_at : (m : ℕ) → m < length p.mems → is_plain (mem_at p m).lock ≡ true → ((reserve_stage p m == 0) && (commit_stage p m == length p.stages)) ≡ true
   plain_at m low e =
@@ -141,7 +134,9 @@ module _ (p : Pipe) (h : Parts p) where
         && (list_all (λ x. knows_memory (length p.mems) x.op) xs
         && (reads_ok p no_scan xs
         && (all_below (mem_passes p xs) (length p.mems)
-        && (makings_ok (verify_stage p.stmts) Unmade xs && (is_made (making_all Unmade xs) && all_sure (verify_stage p.stmts) false no_scan xs))))))
+        &&
+        (makings_ok (verify_stage p.stmts) Unmade xs
+        && (is_made (making_all Unmade xs) && (checks_apart None xs && (once is_update false xs && all_sure (verify_stage p.stmts) false no_scan xs))))))))
         ≡ true
     after_order = and_right (in_text_order 0 xs) _ ok
 
@@ -149,7 +144,9 @@ module _ (p : Pipe) (h : Parts p) where
         (list_all (λ x. knows_memory (length p.mems) x.op) xs
         && (reads_ok p no_scan xs
         && (all_below (mem_passes p xs) (length p.mems)
-        && (makings_ok (verify_stage p.stmts) Unmade xs && (is_made (making_all Unmade xs) && all_sure (verify_stage p.stmts) false no_scan xs)))))
+        &&
+        (makings_ok (verify_stage p.stmts) Unmade xs
+        && (is_made (making_all Unmade xs) && (checks_apart None xs && (once is_update false xs && all_sure (verify_stage p.stmts) false no_scan xs)))))))
         ≡ true
     after_stages = and_right (list_all (λ x. nat_lt x.stage (length p.stages)) xs) _ after_order
 
@@ -161,7 +158,9 @@ module _ (p : Pipe) (h : Parts p) where
 
     after_reads :
         (all_below (mem_passes p xs) (length p.mems)
-        && (makings_ok (verify_stage p.stmts) Unmade xs && (is_made (making_all Unmade xs) && all_sure (verify_stage p.stmts) false no_scan xs)))
+        &&
+        (makings_ok (verify_stage p.stmts) Unmade xs
+        && (is_made (making_all Unmade xs) && (checks_apart None xs && (once is_update false xs && all_sure (verify_stage p.stmts) false no_scan xs)))))
         ≡ true
     after_reads = and_right (reads_ok p no_scan xs) _ (and_right (list_all (λ x. knows_memory (length p.mems) x.op) xs) _ after_stages)
 
@@ -187,11 +186,26 @@ module _ (p : Pipe) (h : Parts p) where
         (λ past. ap is_over (stays_fresh p m (length p.mems) no_scan (onpath path p.stmts) path_known path_reads past).1)
 
     -- a memory's tests after the phases
+    after_over : (m : ℕ)
+        → m < length p.mems
+        →
+        (has_room (mem_at p m).lock (write_reserves m xs) 0
+        &&
+        (all_at (is_reserve m) (reserve_stage p m) xs
+        && (all_at (is_release m) (commit_stage p m) xs && (not (is_plain (mem_at p m).lock) || none_of (is_release m) xs)))) ≡ true
+    after_over m low = and_right (is_over (phase_all m Fresh xs)) _ (and_right (phases_ok m Fresh xs) _ (mem_ok m low))
+
+    path_locks : (m : ℕ) → has_room (mem_at p m).lock (write_reserves m (onpath path p.stmts)) 0 ≡ true
+    path_locks m =
+        by_bound (length p.mems) m (has_room (mem_at p m).lock (write_reserves m (onpath path p.stmts)) 0 ≡ true)
+        (λ low. and_left (has_room (mem_at p m).lock (write_reserves m xs) 0) _ (after_over m low))
+        (λ past. ap (λ (x : Mem). has_room x.lock (write_reserves m (onpath path p.stmts)) 0) (past_end p.mems m plain_mem past))
+
     mem_rest : (m : ℕ) → m < length p.mems
         → (all_at (is_reserve m) (reserve_stage p m) xs
         && (all_at (is_release m) (commit_stage p m) xs && (not (is_plain (mem_at p m).lock) || none_of (is_release m) xs)))
         ≡ true
-    mem_rest m low = and_right (is_over (phase_all m Fresh xs)) _ (and_right (phases_ok m Fresh xs) _ (mem_ok m low))
+    mem_rest m low = and_right (has_room (mem_at p m).lock (write_reserves m xs) 0) _ (after_over m low)
 
     path_reserves : (m : ℕ) → all_at (is_reserve m) (reserve_stage p m) (onpath path p.stmts) ≡ true
     path_reserves m =
@@ -212,7 +226,8 @@ module _ (p : Pipe) (h : Parts p) where
         (and_right (all_at (is_release m) (commit_stage p m) xs) _ (and_right (all_at (is_reserve m) (reserve_stage p m) xs) _ (mem_rest m low))) e)
         (λ past. no_release m _ (onpath path p.stmts) path_known past)
 
-    after_mems : (makings_ok (verify_stage p.stmts) Unmade xs && (is_made (making_all Unmade xs) && all_sure (verify_stage p.stmts) false no_scan xs)) ≡ true
+    after_mems : (makings_ok (verify_stage p.stmts) Unmade xs && (is_made (making_all Unmade xs)
+        && (checks_apart None xs && (once is_update false xs && all_sure (verify_stage p.stmts) false no_scan xs)))) ≡ true
     after_mems = and_right (all_below (mem_passes p xs) (length p.mems)) _ after_reads
 
     -- a path makes the next thread in order: by one call, or by one guess and its verify
@@ -223,9 +238,21 @@ module _ (p : Pipe) (h : Parts p) where
     pub path_made : is_made (making_all Unmade (onpath path p.stmts)) ≡ true
     path_made = and_left _ _ (and_right (makings_ok (verify_stage p.stmts) Unmade xs) _ after_mems)
 
+    after_apart : (once is_update false xs && all_sure (verify_stage p.stmts) false no_scan xs) ≡ true
+    after_apart =
+        and_right (checks_apart None xs) _ (and_right (is_made (making_all Unmade xs)) _ (and_right (makings_ok (verify_stage p.stmts) Unmade xs) _ after_mems))
+
     -- each release on a path is certain: after a barrier, in V or later, or of what was not reserved for writing
     pub path_sure : all_sure (verify_stage p.stmts) false no_scan (onpath path p.stmts) ≡ true
-    path_sure = and_right (is_made (making_all Unmade xs)) _ (and_right (makings_ok (verify_stage p.stmts) Unmade xs) _ after_mems)
+    path_sure = and_right (once is_update false xs) _ after_apart
+
+    -- a path has one update at most
+    pub path_updated : once is_update false (onpath path p.stmts) ≡ true
+    path_updated = and_left _ _ after_apart
+
+    -- a check on a path stands in another stage than the guess
+    pub path_apart : checks_apart None (onpath path p.stmts) ≡ true
+    path_apart = and_left _ _ (and_right (is_made (making_all Unmade xs)) _ (and_right (makings_ok (verify_stage p.stmts) Unmade xs) _ after_mems))
 
     -- the statements of a path, as a pipe of their own, have the facts of an accepted pipe
     pub accepted : Accepted (along path p)
@@ -236,7 +263,7 @@ module _ (p : Pipe) (h : Parts p) where
           start_first = none_before 0 0 (onpath path p.stmts) path_order (omega arith);
           whole = whole (length p.stages) (onpath path p.stmts) (and_left _ _ after_order) path_unfetched;
           some_stage = some_stage;
-          locks = locks;
+          locks = path_locks;
           plain = path_plain;
           plain_from = plain_from;
           plain_to = plain_to;
@@ -264,6 +291,8 @@ module _ (p : Pipe) (h : Parts p) where
         verify_inside = verify_low;
         paths = accepted;
         makings = path_makings;
+        apart = path_apart;
+        updated = path_updated;
         made = path_made;
         sure = path_sure;
       }

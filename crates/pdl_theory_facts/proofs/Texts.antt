@@ -1,12 +1,11 @@
 -- What tests of statements tell: their order, what they make, which memories they know, and each path.
 use Rattle.std.proofs.Common.{◌≡◌, refl, sym, ap, ap₂, ◌∙◌, subst, ℕ, zero, suc, ◌<◌, ◌≤◌, Bool, true, false, ◌&&◌, ◌||◌, not, List, [], ◌∷◌, ◌++◌, length, Option, Some, None, is_none, nat_lt, ◌==◌, cond, arith, slice_index, slice_index_or, ltb-true, ltb-false, le-ltb, leb-true, le-leb}
 use Rattle.std.proofs.lemmas.Bool.{eqb-true, eqb-false, ne_eqb, lt-leb, and_from, or_left, or_right}
-use Rattle.pdl_semantics.specs.Flat.{list_all, takes_branch, all_hold, Op, Bind, CombRead, DelayedRead, Write, ReserveRead, ReserveWrite, Block, Release, Call, SpecCall, Verify, SpecCheck, SpecBarrier, Stmt, Guard, Pipe}
+use Rattle.pdl_semantics.specs.Flat.{list_all, takes_branch, all_hold, Op, CombRead, DelayedRead, Write, ReserveRead, ReserveWrite, Release, Stmt, Guard, Pipe}
 use Rattle.pdl_semantics.specs.Stages.{onpath, in_stage, is_reserve, is_release, is_verify, verify_stage}
 use Rattle.pdl_semantics.specs.Sound.{all_below, stages_from, is_fetch}
 use Rattle.pdl_theory_derived.specs.Alone.{before, answered_op}
-use Rattle.pdl_theory_facts.specs.Scans.{no_guards, none_of, all_at, Scan, scan_after, op_ok, reads_ok, Fresh, next_phase, phase_ok, phases_ok, phase_all}
-use Rattle.pdl_theory_facts.specs.Scans
+use Rattle.pdl_theory_facts.specs.Scans.{no_guards, none_of, all_at, Scan, scan_after, op_ok, reads_ok, Fresh, after_write, after_reserve, may_write, next_phase, phase_ok, phases_ok, phase_all}
 use Rattle.pdl_theory_facts.specs.Checks.{in_text_order, knows_memory, alike, agrees_with, without, choose, on_paths}
 use Rattle.pdl_theory_derived.proofs.Writes.{and_left, and_right}
 
@@ -118,19 +117,8 @@ no_fetch p c [] h = refl
 no_fetch p c (x ∷ xs) h = and_from _ _ (here x.op (and_right _ _ (and_left _ _ h))) (no_fetch p (scan_after x.op c) xs (and_right _ _ h))
   where
     here : (op : Op) → op_ok p x.stage c op ≡ true → not (is_fetch op) ≡ true
-    here (Bind y e) k = refl
-    here (CombRead y m a) k = refl
     here (DelayedRead y m a) k = k
-    here (Write m a e) k = refl
-    here (ReserveRead m a) k = refl
-    here (ReserveWrite m a) k = refl
-    here (Block m a) k = refl
-    here (Release m a) k = refl
-    here (Call args) k = refl
-    here (SpecCall args) k = refl
-    here (Verify args) k = refl
-    here SpecCheck k = refl
-    here SpecBarrier k = refl
+    here _ k = refl
 
 -- without a verify there is no stage of the verifies
 pub no_verify : (xs : List Stmt) → none_of is_verify xs ≡ true → verify_stage xs ≡ None
@@ -177,8 +165,9 @@ fresh_op : (p : Pipe) (s m n : ℕ) (c : Scan) (op : Op)
     → (phase_ok m Fresh op ≡ true) × (next_phase m Fresh op ≡ Fresh)
 fresh_op p s m n c (CombRead x j a) h k low = (or_right (not (j == m)) true refl, refl)
 fresh_op p s m n c (DelayedRead x j a) h k low = absurd (cc k)
-fresh_op p s m n c (Write j a e) h k low = (ap (λ b. not b || false) (apart m n j h low), ap (λ b. cond b (Scans.Written a) Fresh) (apart m n j h low))
-fresh_op p s m n c (ReserveWrite j a) h k low = (or_right (not (j == m)) true refl, ap (λ b. cond b (Scans.Held a) Fresh) (apart m n j h low))
+fresh_op p s m n c (Write j a e) h k low =
+    (ap (λ b. not b || may_write Fresh a) (apart m n j h low), ap (λ b. cond b (after_write Fresh a) Fresh) (apart m n j h low))
+fresh_op p s m n c (ReserveWrite j a) h k low = (or_right (not (j == m)) true refl, ap (λ b. cond b (after_reserve Fresh a) Fresh) (apart m n j h low))
 fresh_op p s m n c (Release j a) h k low = (or_right (not (j == m)) true refl, ap (λ b. cond b Fresh Fresh) (apart m n j h low))
 fresh_op p s m n c _ h k low = (refl, refl)
 

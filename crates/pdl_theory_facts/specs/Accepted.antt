@@ -1,11 +1,11 @@
 -- What is taken of the text and the paths of an accepted pipe, with guards, calls, guesses, comb memories and any locks: facts that the rules of the language give.
-use Rattle.std.specs.Prelude.{◌≡◌, ℕ, suc, ◌<◌, true, false, List, [], ◌++◌, Some, length}
+use Rattle.std.specs.Prelude.{◌≡◌, ℕ, suc, ◌<◌, true, false, List, [], ◌++◌, Some, length, None}
 use Rattle.pdl_semantics.specs.Flat.{Pipe}
 use Rattle.pdl_semantics.specs.Stages.{onpath, in_stage, mem_at, verify_stage, commit_stage, reserve_stage, is_reserve, is_release}
 use Rattle.pdl_semantics.specs.Locks.{has_room}
 use Rattle.pdl_theory_derived.specs.Alone.{before}
-use Rattle.pdl_theory_facts.specs.Scans.{is_plain, none_of, reads_ok, no_scan, phases_ok, phase_all, Fresh, is_over, all_at, is_fixed}
-use Rattle.pdl_theory_facts.specs.GuessScans.{Unmade, makings_ok, making_all, is_made, all_sure}
+use Rattle.pdl_theory_facts.specs.Scans.{is_plain, none_of, reads_ok, no_scan, phases_ok, phase_all, Fresh, is_over, write_reserves, all_at, is_fixed}
+use Rattle.pdl_theory_facts.specs.GuessScans.{Unmade, makings_ok, making_all, is_made, checks_apart, is_update, once, all_sure}
 use Rattle.pdl_semantics.specs.Sound.{stages_from}
 
 -- of a pipe without guards: what holds of the statements of one path
@@ -16,8 +16,8 @@ pub record Accepted (p : Pipe) : Type 0 where
   pub start_first : before 0 p.stmts ≡ []
   pub whole : before (length p.stages) p.stmts ≡ p.stmts
   pub some_stage : 0 < length p.stages
-  -- the locks
-  pub locks : (m : ℕ) → has_room (mem_at p m).lock 0 ≡ true
+  -- L4: each lock has room for the thread's write reservations
+  pub locks : (m : ℕ) → has_room (mem_at p m).lock (write_reserves m p.stmts) 0 ≡ true
   -- F5
   pub plain : (m : ℕ) → is_plain (mem_at p m).lock ≡ true → none_of (is_release m) p.stmts ≡ true
   pub plain_from : (m : ℕ) → is_plain (mem_at p m).lock ≡ true → reserve_stage p m ≡ 0
@@ -45,5 +45,8 @@ pub record Pathwise (p : Pipe) : Type 0 where
   pub verify_inside : (v : ℕ) → verify_stage p.stmts ≡ Some v → v < length p.stages
   pub paths : (path : List ℕ) → Accepted (along path p)
   pub makings : (path : List ℕ) → makings_ok (verify_stage p.stmts) Unmade (onpath path p.stmts) ≡ true
+  pub apart : (path : List ℕ) → checks_apart None (onpath path p.stmts) ≡ true
+  -- S6
+  pub updated : (path : List ℕ) → once is_update false (onpath path p.stmts) ≡ true
   pub made : (path : List ℕ) → is_made (making_all Unmade (onpath path p.stmts)) ≡ true
   pub sure : (path : List ℕ) → all_sure (verify_stage p.stmts) false no_scan (onpath path p.stmts) ≡ true

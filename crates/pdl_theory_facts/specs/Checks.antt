@@ -1,12 +1,12 @@
 -- The facts of an accepted pipe's text and of each of its paths, as tests that compute.
 use Rattle.std.specs.Prelude.{ℕ, suc, Bool, true, false, ◌&&◌, ◌||◌, not, List, [], ◌∷◌, ◌++◌, Option, Some, None, if◌then◌else◌, nat_lt, nat_le, ◌==◌, length}
-use Rattle.pdl_semantics.specs.Flat.{list_all, Op, Bind, CombRead, DelayedRead, Write, ReserveRead, ReserveWrite, Block, Release, Call, SpecCall, Verify, SpecCheck, SpecBarrier, Stmt, Guard, Pipe}
+use Rattle.pdl_semantics.specs.Flat.{list_all, Op, Bind, CombRead, DelayedRead, Write, ReserveRead, ReserveWrite, Block, Release, Call, SpecCall, Verify, SpecCheck, SpecBarrier, AdviceBind, AdviceRead, AdviceWrite, Stmt, Guard, Pipe}
 use Rattle.pdl_theory_derived.specs.Alone.{before}
-use Rattle.pdl_semantics.specs.Stages.{in_stage, mem_at, commit_stage, reserve_stage, is_reserve, is_release, is_verify, verify_stage}
+use Rattle.pdl_semantics.specs.Stages.{in_stage, mem_at, commit_stage, reserve_stage, is_reserve, is_release, verify_stage}
 use Rattle.pdl_semantics.specs.Locks.{has_room}
-use Rattle.pdl_semantics.specs.Sound.{all_below, stages_from, is_fetch, is_spec_call}
-use Rattle.pdl_theory_facts.specs.Scans.{is_plain, none_of, reads_ok, no_scan, phases_ok, phase_all, Fresh, is_over, all_at, is_fixed}
-use Rattle.pdl_theory_facts.specs.GuessScans.{Unmade, makings_ok, making_all, is_made, all_sure}
+use Rattle.pdl_semantics.specs.Sound.{all_below, stages_from, is_fetch}
+use Rattle.pdl_theory_facts.specs.Scans.{is_plain, none_of, reads_ok, no_scan, phases_ok, phase_all, Fresh, is_over, write_reserves, all_at, is_fixed}
+use Rattle.pdl_theory_facts.specs.GuessScans.{Unmade, makings_ok, making_all, is_made, checks_apart, is_update, once, all_sure}
 
 -- statements stand in the order of their stages, the first in stage s or after it
 abbrev pub in_text_order : ℕ → List Stmt → Bool
@@ -25,13 +25,12 @@ knows_memory n (Release m a) = nat_lt m n
 knows_memory n (Bind x e) = true
 knows_memory n (Call args) = true
 knows_memory n (SpecCall args) = true
-knows_memory n (Verify args) = true
+knows_memory n (Verify last args) = true
 knows_memory n SpecCheck = true
 knows_memory n SpecBarrier = true
-
--- whether a statement makes a guess or verifies it
-abbrev pub is_guess : Op → Bool
-is_guess op = is_spec_call op || is_verify op
+knows_memory n (AdviceBind x e) = true
+knows_memory n (AdviceRead x m a) = true
+knows_memory n (AdviceWrite m a e) = true
 
 -- PATHS
 
@@ -74,8 +73,9 @@ abbrev pub mem_passes : Pipe → List Stmt → ℕ → Bool
 mem_passes p xs m =
     phases_ok m Fresh xs
     && (is_over (phase_all m Fresh xs)
+    && (has_room (mem_at p m).lock (write_reserves m xs) 0
     && (all_at (is_reserve m) (reserve_stage p m) xs
-    && (all_at (is_release m) (commit_stage p m) xs && (not (is_plain (mem_at p m).lock) || none_of (is_release m) xs))))
+    && (all_at (is_release m) (commit_stage p m) xs && (not (is_plain (mem_at p m).lock) || none_of (is_release m) xs)))))
 
 -- the statements of a path pass all tests of a path
 abbrev pub path_passes : Pipe → List Stmt → Bool
@@ -85,17 +85,18 @@ path_passes p xs =
     && (list_all (λ x. knows_memory (length p.mems) x.op) xs
     && (reads_ok p no_scan xs
     && (all_below (mem_passes p xs) (length p.mems)
-    && (makings_ok (verify_stage p.stmts) Unmade xs && (is_made (making_all Unmade xs) && all_sure (verify_stage p.stmts) false no_scan xs))))))
+    &&
+    (makings_ok (verify_stage p.stmts) Unmade xs
+    && (is_made (making_all Unmade xs) && (checks_apart None xs && (once is_update false xs && all_sure (verify_stage p.stmts) false no_scan xs))))))))
 
 -- THE TEXT
 
--- the lock of m has room, and the reserves of m stand in one stage, and so do its releases
+-- the reserves of m stand in one stage, and so do its releases
 abbrev pub lock_passes : Pipe → ℕ → Bool
 lock_passes p m =
-    has_room (mem_at p m).lock 0
-    && (all_at (is_reserve m) (reserve_stage p m) p.stmts
+    all_at (is_reserve m) (reserve_stage p m) p.stmts
     && (all_at (is_release m) (commit_stage p m) p.stmts
-    && (not (is_plain (mem_at p m).lock) || ((reserve_stage p m == 0) && (commit_stage p m == length p.stages)))))
+    && (not (is_plain (mem_at p m).lock) || ((reserve_stage p m == 0) && (commit_stage p m == length p.stages))))
 
 -- a stage, if there is one, is one of k
 abbrev pub is_below : ℕ → Option ℕ → Bool

@@ -1,6 +1,6 @@
 -- WHAT IS TAKEN OF AN ACCEPTED PIPE OF THE WHOLE LANGUAGE: facts that the rules of the language give, of its text, of its stage graph, and of the statements of each path.
-use Rattle.std.specs.Prelude.{◌≡◌, ℕ, suc, ◌≤◌, ◌<◌, Bool, true, false, ◌&&◌, ◌||◌, not, List, [], ◌∷◌, Option, Some, None, ◌==◌, length, nat_lt, nat_le, slice_index}
-use Rattle.pdl_semantics.specs.Flat.{list_all, Op, Bind, CombRead, DelayedRead, Write, ReserveRead, ReserveWrite, Block, Release, Call, SpecCall, Verify, SpecCheck, SpecBarrier, Expr, Constant, Variable, Slice, Not, Binary, Cat, LessSigned, ZeroExtend, SignExtend, Choose, Guard, Stmt, Forks, Branch, Pipe}
+use Rattle.std.specs.Prelude.{◌≡◌, ℕ, suc, ◌≤◌, ◌<◌, Bool, true, false, ◌&&◌, ◌||◌, not, List, [], ◌∷◌, Some, ◌==◌, length, nat_lt, nat_le, slice_index}
+use Rattle.pdl_semantics.specs.Flat.{list_all, Op, Bind, CombRead, DelayedRead, Write, ReserveRead, ReserveWrite, Block, Release, Call, SpecCall, Verify, SpecCheck, SpecBarrier, AdviceBind, AdviceRead, AdviceWrite, Expr, Constant, Variable, Slice, Not, Binary, Cat, LessSigned, ZeroExtend, SignExtend, Choose, Guard, Stmt, Forks, Branch, Pipe}
 use Rattle.pdl_semantics.specs.Forms.{on_delayed_read}
 use Rattle.pdl_semantics.specs.Stages.{is_inside, is_reserve, is_verify, onpath, in_stage, stage_at, mem_at, verify_stage, commit_stage, reserve_stage}
 pub use Rattle.pdl_semantics.specs.Locks.{is_exact}
@@ -8,7 +8,8 @@ use Rattle.pdl_theory_derived.specs.Alone.{before, answered_op}
 use Rattle.pdl_theory_facts.specs.Scans.{none_of, all_at, binds_var}
 pub use Rattle.pdl_theory_facts.specs.Scans.{against, is_dead}
 use Rattle.pdl_semantics.specs.Cycle.{merges_by}
-use Rattle.pdl_theory_facts.specs.Graphs.{next_of, Graph, In, Branches, goes_by}
+use Rattle.pdl_theory_facts.specs.Graphs.{Trunk, next_of, Graph, Home, Branches, goes_by}
+use Rattle.pdl_semantics.specs.Promises.{KeepsAdvice}
 use Rattle.pdl_theory_facts.specs.Accepted.{Pathwise}
 use Rattle.pdl_semantics.specs.Sound.{stages_from, is_fetch}
 
@@ -32,7 +33,7 @@ abbrev pub uses_any : ℕ → List Expr → Bool
 uses_any x [] = false
 uses_any x (e ∷ es) = uses_in x e || uses_any x es
 
--- whether a statement binds a variable or uses its value
+-- whether a statement binds a variable or uses its value; advisory statements, by which no path and no lock is told, are left out
 abbrev pub mentions_var : ℕ → Op → Bool
 mentions_var x (Bind y e) = (y == x) || uses_in x e
 mentions_var x (CombRead y m a) = (y == x) || (a == x)
@@ -42,11 +43,14 @@ mentions_var x (ReserveWrite m a) = a == x
 mentions_var x (Block m a) = a == x
 mentions_var x (Call args) = uses_any x args
 mentions_var x (SpecCall args) = uses_any x args
-mentions_var x (Verify args) = uses_any x args
+mentions_var x (Verify last args) = uses_any x args
 mentions_var x (ReserveRead m a) = false
 mentions_var x (Release m a) = false
 mentions_var x SpecCheck = false
 mentions_var x SpecBarrier = false
+mentions_var x (AdviceBind _ e) = false
+mentions_var x (AdviceRead _ m a) = false
+mentions_var x (AdviceWrite m a e) = false
 
 -- whether one of these guards is on variable x
 abbrev pub asks_for : ℕ → List Guard → Bool
@@ -67,9 +71,12 @@ trunk_only (ReserveWrite m a) = true
 trunk_only (Release m a) = true
 trunk_only (Call args) = true
 trunk_only (SpecCall args) = true
-trunk_only (Verify args) = true
+trunk_only (Verify last args) = true
 trunk_only SpecCheck = true
 trunk_only SpecBarrier = true
+trunk_only (AdviceBind x e) = false
+trunk_only (AdviceRead x m a) = false
+trunk_only (AdviceWrite m a e) = false
 trunk_only (Bind x e) = false
 trunk_only (CombRead x m a) = false
 trunk_only (DelayedRead x m a) = false
@@ -162,14 +169,14 @@ looked_all (x ∷ xs) = record x { op = answered_op x.op } ∷ looked_all xs
 abbrev pub at_once : Pipe → Pipe
 at_once p = record p { stmts = looked_all p.stmts }
 
--- whether a path comes to a stage
-abbrev pub comes_by : Pipe → List ℕ → Option Branch → Bool
-comes_by p path None = true
-comes_by p path (Some c) = goes_by p c path
+-- whether a path comes to a stage: at each fork around it it takes this branch
+abbrev pub comes_by : Pipe → List ℕ → List Branch → Bool
+comes_by p path [] = true
+comes_by p path (c ∷ cs) = goes_by p c path && comes_by p path cs
 
--- whether a path comes to stage s, by the branch that this stands in
+-- whether a path comes to stage s, by the branches that this stands in
 abbrev pub visits_stage : Pipe → List ℕ → ℕ → Bool
-visits_stage p path s = comes_by p path (stage_at p s).branch
+visits_stage p path s = comes_by p path (stage_at p s).branches
 
 -- what is taken of an accepted pipe of the whole language: of its stages, paths, forks, locks and delayed reads
 pub record Sound (p : Pipe) : Type 0 where
@@ -179,10 +186,10 @@ pub record Sound (p : Pipe) : Type 0 where
   -- the rules of each path, where delayed reads are reads: N2, N3, L1 to L8, S1 to S4, and of the locks: Z7, F5
   pub pathwise : Pathwise (at_once p)
   -- F1: a branch holds no reserve, release, call or statement of guesses
-  pub trunk_holds : (s : ℕ) (c : Branch) → In p c s → none_of trunk_only (in_stage s p.stmts) ≡ true
-  -- F1: a fork whose merge is no later than the verifies' stage is wholly before it, any other is not before it
-  pub merged : (v f b : ℕ) → verify_stage p.stmts ≡ Some v → is_inside p f b ≡ true → merges_by p f (Some v) ≡ true → b < v
-  pub unmerged : (v f b : ℕ) → verify_stage p.stmts ≡ Some v → is_inside p f b ≡ true → merges_by p f (Some v) ≡ false → v ≤ f
+  pub trunk_holds : (x : Branch) (c : List Branch) (s : ℕ) → Home p (x ∷ c) s → none_of trunk_only (in_stage s p.stmts) ≡ true
+  -- F1: a fork whose merge is no later than a trunk stage v is wholly before it, any other is not before it
+  pub merged : (v f b : ℕ) → v < length p.stages → Trunk p v → is_inside p f b ≡ true → merges_by p f (Some v) ≡ true → b < v
+  pub unmerged : (v f b : ℕ) → v < length p.stages → Trunk p v → is_inside p f b ≡ true → merges_by p f (Some v) ≡ false → v ≤ f
   -- part C: statements stand in the pipe's stages
   pub inside : list_all (λ y. nat_lt y.stage (length p.stages)) p.stmts ≡ true
   -- L2, S3: a memory's reserves stand in one stage, and so do the verifies
@@ -196,10 +203,11 @@ pub record Sound (p : Pipe) : Type 0 where
   -- part C: a path has no statement in the stages that it passes over
   pub skips : (path : List ℕ) (s : ℕ) → s < length p.stages → visits_stage p path s ≡ true
       → before (next_of p s path) (onpath path p.stmts) ≡ before (suc s) (onpath path p.stmts)
-  -- N2, N3: a fork's variable is bound before its stage ends, and read at once
+  -- N2, N3: a fork's variable is bound before its stage ends, and read at once where some path comes to the fork
   pub fork_bound : (s x a b : ℕ) → (stage_at p s).next ≡ Forks x a b → none_of (binds_var x) (stages_from (suc s) p.stmts) ≡ true
   pub fork_known : (s x a b : ℕ) → (stage_at p s).next ≡ Forks x a b → x < p.vars
-  pub fork_seen : (s x a b : ℕ) → (stage_at p s).next ≡ Forks x a b → none_of (is_fetch_of x) (in_stage s p.stmts) ≡ true
+  pub fork_seen : (path : List ℕ) (s x a b : ℕ) → visits_stage p path s ≡ true → (stage_at p s).next ≡ Forks x a b
+      → none_of (is_fetch_of x) (in_stage s p.stmts) ≡ true
   -- delayed reads
   pub fetch : ℕ → ℕ
   pub fetch_ok : (s : ℕ) → AllFetches p fetch s (in_stage s p.stmts)
@@ -208,5 +216,7 @@ pub record Sound (p : Pipe) : Type 0 where
       → onpath env' (before (next_of p s env) p.stmts) ≡ onpath env (before (next_of p s env) p.stmts)
   pub fetch_unseen : (s : ℕ) → is_unseen (in_stage s p.stmts) ≡ true
   pub fetch_alone : (s : ℕ) → fetch_apart (in_stage s p.stmts) ≡ true
+  -- F4, F5: a statement takes a memory by its kind
+  pub advice : KeepsAdvice p
   -- F3: none stands in the last stage
   pub fetch_inside : (s : ℕ) → suc s ≡ length p.stages → none_of is_fetch (in_stage s p.stmts) ≡ true

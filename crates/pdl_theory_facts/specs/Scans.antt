@@ -1,10 +1,11 @@
 -- Scans over the statements of one path, and over a text, that tell whether locks and values are used as the rules of the language say.
 use Rattle.std.specs.Prelude.{ℕ, Bool, true, false, ◌&&◌, ◌||◌, not, List, [], ◌∷◌, if◌then◌else◌, ◌==◌, nat_le}
-use Rattle.pdl_semantics.specs.Flat.{Op, Bind, CombRead, DelayedRead, Write, ReserveRead, ReserveWrite, Block, Release, Call, SpecCall, Verify, SpecCheck, SpecBarrier, Stmt, Guard, Pipe}
+use Rattle.pdl_semantics.specs.Flat.{Op, Bind, CombRead, DelayedRead, Write, ReserveRead, ReserveWrite, Block, Release, Call, SpecCall, Verify, SpecCheck, SpecBarrier, AdviceBind, AdviceRead, AdviceWrite, Stmt, Guard, Pipe}
 use Rattle.pdl_semantics.specs.Forms.{on_binding}
 use Rattle.pdl_semantics.specs.Stages.{mem_at, commit_stage, reserve_stage}
 pub use Rattle.pdl_semantics.specs.Locks.{is_plain}
-use Rattle.pdl_theory_derived.specs.Alone.{Location}
+pub use Rattle.pdl_semantics.specs.SecondWrites.{write_reserves}
+use Rattle.pdl_theory_derived.specs.Alone.{Location, is_nil, is_among, is_oldest, drop_var, but_last}
 use Rattle.pdl_semantics.specs.Sound.{is_call}
 
 -- whether there is no guard
@@ -47,9 +48,12 @@ scan_after (ReserveRead m a) c = c
 scan_after (Release m a) c = c
 scan_after (Call args) c = c
 scan_after (SpecCall args) c = c
-scan_after (Verify args) c = c
+scan_after (Verify last args) c = c
 scan_after SpecCheck c = c
 scan_after SpecBarrier c = c
+scan_after (AdviceBind x e) c = c
+scan_after (AdviceRead x m a) c = c
+scan_after (AdviceWrite m a e) c = c
 
 -- a scan after these statements
 abbrev pub scan_after_all : List Stmt → Scan → Scan
@@ -69,9 +73,12 @@ op_ok p s c (ReserveWrite m a) = true
 op_ok p s c (Release m a) = true
 op_ok p s c (Call args) = true
 op_ok p s c (SpecCall args) = true
-op_ok p s c (Verify args) = true
+op_ok p s c (Verify last args) = true
 op_ok p s c SpecCheck = true
 op_ok p s c SpecBarrier = true
+op_ok p s c (AdviceBind x e) = true
+op_ok p s c (AdviceRead x m a) = true
+op_ok p s c (AdviceWrite m a e) = true
 
 -- each of these statements is without guards, and its binding, read or block is in order
 abbrev pub reads_ok : Pipe → Scan → List Stmt → Bool
@@ -88,24 +95,32 @@ abbrev pub none_of : (Op → Bool) → List Stmt → Bool
 none_of test [] = true
 none_of test (x ∷ xs) = not (test x.op) && none_of test xs
 
--- how far a thread is with its write to a memory; x is the location's variable
-pub data Phase : Type 0 where
-  Fresh : Phase
-  Held : (x : ℕ) → Phase
-  Written : (x : ℕ) → Phase
-  Done : Phase
+-- how far a thread is with its writes to a memory: the variables of the locations that it reserved for writing, the youngest first
+pub record Phase : Type 0 where
+  pub unwritten : List ℕ  -- those without a value
+  pub full : List ℕ  -- those with one
+  pub gone : List ℕ  -- those that it released
+
+-- before the first reservation
+abbrev pub Fresh : Phase
+Fresh = record { unwritten = []; full = []; gone = [] }
+
+-- the phase after a write through the location of variable a, which is the oldest one without a value
+abbrev pub after_write : Phase → ℕ → Phase
+after_write ph a = record { unwritten = but_last ph.unwritten; full = a ∷ ph.full; gone = ph.gone }
 
 -- the phase after the release of the location of variable a
 abbrev pub after_release : Phase → ℕ → Phase
-after_release Fresh a = Fresh
-after_release (Held x) a = Held x
-after_release (Written x) a = if x == a then Done else Written x
-after_release Done a = Done
+after_release ph a = if is_among a ph.full then record { unwritten = ph.unwritten; full = drop_var a ph.full; gone = a ∷ ph.gone } else ph
+
+-- the phase after the location of variable a is reserved for writing
+abbrev pub after_reserve : Phase → ℕ → Phase
+after_reserve ph a = record { unwritten = a ∷ ph.unwritten; full = ph.full; gone = ph.gone }
 
 -- the phase of m's write after one more statement
 abbrev pub next_phase : ℕ → Phase → Op → Phase
-next_phase m ph (ReserveWrite n a) = if n == m then Held a else ph
-next_phase m ph (Write n a e) = if n == m then Written a else ph
+next_phase m ph (ReserveWrite n a) = if n == m then after_reserve ph a else ph
+next_phase m ph (Write n a e) = if n == m then after_write ph a else ph
 next_phase m ph (Release n a) = if n == m then after_release ph a else ph
 next_phase m ph (Bind x e) = ph
 next_phase m ph (CombRead x n a) = ph
@@ -114,41 +129,43 @@ next_phase m ph (ReserveRead n a) = ph
 next_phase m ph (Block n a) = ph
 next_phase m ph (Call args) = ph
 next_phase m ph (SpecCall args) = ph
-next_phase m ph (Verify args) = ph
+next_phase m ph (Verify last args) = ph
 next_phase m ph SpecCheck = ph
 next_phase m ph SpecBarrier = ph
+next_phase m ph (AdviceBind x e) = ph
+next_phase m ph (AdviceRead x _ a) = ph
+next_phase m ph (AdviceWrite _ a e) = ph
 
--- whether the location of variable x is held and not written yet
-abbrev pub holds_location : Phase → ℕ → Bool
-holds_location (Held y) x = y == x
-holds_location _ x = false
-
--- whether m may be read: it isn't written yet
+-- whether m may be read: no location of it is written yet
 abbrev pub may_read : Phase → Bool
-may_read Fresh = true
-may_read (Held x) = true
-may_read _ = false
+may_read ph = is_nil ph.full && is_nil ph.gone
 
--- whether m isn't reserved for writing yet
-abbrev pub is_fresh : Phase → Bool
-is_fresh Fresh = true
-is_fresh _ = false
+-- whether the location of variable a may be written: writes come in the order of their reservations
+abbrev pub may_write : Phase → ℕ → Bool
+may_write ph a = is_oldest a ph.unwritten
 
--- a statement in this phase of m: a location's variable is not bound again before the write, a read precedes it, at most one reservation, one write through it, and no release before it
+-- whether the location of variable a isn't reserved yet
+abbrev pub is_new : Phase → ℕ → Bool
+is_new ph a = not (is_among a ph.unwritten) && (not (is_among a ph.full) && not (is_among a ph.gone))
+
+-- a statement in this phase of m: a location's variable is not bound again before the write, a read precedes the writes, and a release comes after its write
 abbrev pub phase_ok : ℕ → Phase → Op → Bool
-phase_ok m ph (Bind x e) = not (holds_location ph x)
-phase_ok m ph (CombRead x n a) = not (holds_location ph x) && (not (n == m) || may_read ph)
+phase_ok m ph (Bind x e) = not (is_among x ph.unwritten)
+phase_ok m ph (CombRead x n a) = not (is_among x ph.unwritten) && (not (n == m) || may_read ph)
 phase_ok m ph (DelayedRead x n a) = false
-phase_ok m ph (Write n a e) = not (n == m) || holds_location ph a
-phase_ok m ph (ReserveWrite n a) = not (n == m) || is_fresh ph
-phase_ok m ph (Release n a) = not (n == m) || not (holds_location ph a)
+phase_ok m ph (Write n a e) = not (n == m) || may_write ph a
+phase_ok m ph (ReserveWrite n a) = not (n == m) || is_new ph a
+phase_ok m ph (Release n a) = not (n == m) || not (is_among a ph.unwritten)
 phase_ok m ph (ReserveRead n a) = true
 phase_ok m ph (Block n a) = true
 phase_ok m ph (Call args) = true
 phase_ok m ph (SpecCall args) = true
-phase_ok m ph (Verify args) = true
+phase_ok m ph (Verify last args) = true
 phase_ok m ph SpecCheck = true
 phase_ok m ph SpecBarrier = true
+phase_ok m ph (AdviceBind x e) = true
+phase_ok m ph (AdviceRead x _ a) = true
+phase_ok m ph (AdviceWrite _ a e) = true
 
 -- each of these statements, without guards, is in order in its phase of m's write
 abbrev pub phases_ok : ℕ → Phase → List Stmt → Bool
@@ -160,11 +177,9 @@ abbrev pub phase_all : ℕ → Phase → List Stmt → Phase
 phase_all m ph [] = ph
 phase_all m ph (x ∷ xs) = phase_all m (next_phase m ph x.op) xs
 
--- whether m's write isn't begun, or is done
+-- whether each location that is reserved for writing is released
 abbrev pub is_over : Phase → Bool
-is_over Fresh = true
-is_over Done = true
-is_over _ = false
+is_over ph = is_nil ph.unwritten && is_nil ph.full
 
 -- whether the next thread is called, before or by these statements
 abbrev pub called : Bool → List Stmt → Bool

@@ -1,3 +1,4 @@
 pub mod Rates
+pub mod Outer
 pub mod SoundTests
 pub mod TestedPaths

@@ -6,16 +6,16 @@ use Rattle.std.proofs.lemmas.Bool.{eqb-true, eqb-false}
 use Rattle.pdl_semantics.specs.Flat.{Arrays, Pipe, Stage, Next, Ends, Goes, Forks, Commit, start_env, of_mem}
 use Rattle.pdl_semantics.specs.Stages.{last_stage, stage_at, goes_to, onward, stages_on, guard_of_fork, fork_guards, longest, depth}
 use Rattle.pdl_semantics.specs.Sequential.{thread, writes_from, after_turns}
-use Rattle.pdl_theory_derived.specs.Derived.{Work, Thread, State, Act, act, acts, all_acts, survivors, moved_to, born_threads, exit_of, cycle, turns_from, ended_in, waits_in, is_wait, commits_of, first, turns}
+use Rattle.pdl_theory_derived.specs.Derived.{Hint, Work, Thread, State, Act, act, acts, all_acts, survivors, moved_to, born_threads, exit_of, cycle, turns_from, ended_in, waits_in, is_wait, commits_of, first, turns}
 use Rattle.pdl_theory_derived.specs.Alone.{KeepsPace, oldest_moves}
 use Rattle.pdl_theory_facts.specs.Graphs.{stage_or, next_of}
 use Rattle.pdl_theory_facts.specs.Facts.{at_once, Sound}
 use Rattle.pdl_theory_refinement.proofs.Cycle.{ends_one}
-use Rattle.pdl_theory_refinement.proofs.Spots.{Spot, seat, seats, is_nil, Standing}
+use Rattle.pdl_theory_refinement.proofs.Spots.{with_hint, Spot, seat, seats, is_nil, Standing}
 use Rattle.pdl_theory_refinement.proofs.Cycles.{work_same}
 use Rattle.pdl_theory_derived.proofs.Writes.{row_committed}
 use Rattle.pdl_theory_refinement.proofs.Follows.{Runs, runs_cycle, runs_first, oldest_of, behind_none, rows_at, low_end}
-use Rattle.pdl_theory_turns.proofs.CourseOf.{course, walk, Reached, on_reached}
+use Rattle.pdl_theory_turns.proofs.CourseOf.{course, walk, Reached, on_reached, on_visited}
 use Rattle.pdl_theory_turns.proofs.StageFacts
 
 -- THE LONGEST PATH
@@ -253,7 +253,8 @@ module _ (p : Pipe) (acc : Sound p) where
           let low : sp.stage < length p.stages = low_end p (course p acc) sp.stage h.0.under in
           subst (λ ts. (lead ts < length p.stages) × (left (turn_path image n) (lead ts) ≤ depth p)) (sym e) (
             low,
-            reached_left (turn_path image n) sp.stage low (on_reached p acc (after_turns p image n).arrays (after_turns p image n).next sp.stage h.0.on),
+            reached_left (turn_path image n) sp.stage low
+                (on_reached p acc (with_hint (after_turns p image n).arrays sp.hint) (after_turns p image n).next sp.stage h.0.on),
           )
 
   -- a cycle that no thread ends in takes the oldest one stage further, unless it is a wait
@@ -271,26 +272,26 @@ module _ (p : Pipe) (acc : Sound p) where
       at (sp ∷ sps) e h l =
           subst
           (λ ts. (if is_wait p st bits then 0 else 1) + left (turn_path image n)
-          (lead (survivors p (acts p st bits [] ts))) ≤ left (turn_path image n) (lead ts))
+          (lead (survivors p (st.hints 0) (acts p st bits [] ts))) ≤ left (turn_path image n) (lead ts))
           (sym e)
           (by (act p st bits [] t).moves refl)
         where
           t : Thread
-          t = seat p (after_turns p image n).arrays (after_turns p image n).next sp
+          t = seat p (with_hint (after_turns p image n).arrays sp.hint) (after_turns p image n).next sp
 
           low : sp.stage < length p.stages
           low = low_end p (course p acc) sp.stage h.0.under
 
           rest : List Act
           rest =
-              acts p st bits (act p st bits [] (seat p (after_turns p image n).arrays (after_turns p image n).next sp) ∷ [])
+              acts p st bits (act p st bits [] (seat p (with_hint (after_turns p image n).arrays sp.hint) (after_turns p image n).next sp) ∷ [])
               (seats p (thread p (after_turns p image n).arrays (after_turns p image n).next).arrays
               (thread p (after_turns p image n).arrays (after_turns p image n).next).next sps
               ++ r.strays)
 
           unended :
-              ((act p st bits [] (seat p (after_turns p image n).arrays (after_turns p image n).next sp)).moves
-              && is_none (exit_of p (act p st bits [] (seat p (after_turns p image n).arrays (after_turns p image n).next sp))))
+              ((act p st bits [] (seat p (with_hint (after_turns p image n).arrays sp.hint) (after_turns p image n).next sp)).moves
+              && is_none (exit_of p (act p st bits [] (seat p (with_hint (after_turns p image n).arrays sp.hint) (after_turns p image n).next sp))))
               ≡ false
           unended = first_false _ _ (subst (λ ts. ends_one p (acts p st bits [] ts) ≡ false) e none)
             where
@@ -298,24 +299,27 @@ module _ (p : Pipe) (acc : Sound p) where
               first_false true b k = absurd (cc k)
               first_false false b k = refl
 
-          moves_on : is_wait p st bits ≡ false → (act p st bits [] (seat p (after_turns p image n).arrays (after_turns p image n).next sp)).moves ≡ true
+          moves_on : is_wait p st bits ≡ false
+              → (act p st bits [] (seat p (with_hint (after_turns p image n).arrays sp.hint) (after_turns p image n).next sp)).moves ≡ true
           moves_on k = subst (λ ts. oldest_moves (acts p st bits [] ts) ≡ true) e (oldest_of p (course p acc) image n past st bits r k)
 
-          by : (b : Bool) → (act p st bits [] (seat p (after_turns p image n).arrays (after_turns p image n).next sp)).moves ≡ b
+          by : (b : Bool) → (act p st bits [] (seat p (with_hint (after_turns p image n).arrays sp.hint) (after_turns p image n).next sp)).moves ≡ b
               → (if is_wait p st bits then 0 else 1) + left (turn_path image n)
-              (lead (survivors p (act p st bits [] (seat p (after_turns p image n).arrays (after_turns p image n).next sp) ∷ rest))) ≤ left
+              (lead (survivors p (st.hints 0)
+              (act p st bits [] (seat p (with_hint (after_turns p image n).arrays sp.hint) (after_turns p image n).next sp) ∷ rest))) ≤ left
               (turn_path image n) sp.stage
           by false f =
               subst
               (λ c. (if is_wait p st bits then 0 else 1) + left (turn_path image n)
               (lead
-              (cond c (moved_to (exit_of p a) a.work ++ (born_threads p a.work.child ++ (if a.work.fails then [] else survivors p rest)))
-              (a.now ∷ survivors p rest))) ≤ left
+              (cond c (moved_to (exit_of p a) a.now.hint a.work
+              ++ (born_threads p (st.hints 0) a.work.child ++ (if a.work.fails then [] else survivors p (st.hints 0) rest)))
+              (a.now ∷ survivors p (st.hints 0) rest))) ≤ left
               (turn_path image n) sp.stage)
               (sym f) (waits (is_wait p st bits) refl)
             where
               a : Act
-              a = act p st bits [] (seat p (after_turns p image n).arrays (after_turns p image n).next sp)
+              a = act p st bits [] (seat p (with_hint (after_turns p image n).arrays sp.hint) (after_turns p image n).next sp)
 
               waits : (w : Bool) → is_wait p st bits ≡ w → (if w then 0 else 1) + left (turn_path image n) sp.stage ≤ left (turn_path image n) sp.stage
               waits true i = omega arith
@@ -324,33 +328,36 @@ module _ (p : Pipe) (acc : Sound p) where
               subst
               (λ c. (if is_wait p st bits then 0 else 1) + left (turn_path image n)
               (lead
-              (cond c (moved_to (exit_of p a) a.work ++ (born_threads p a.work.child ++ (if a.work.fails then [] else survivors p rest)))
-              (a.now ∷ survivors p rest))) ≤ left
+              (cond c (moved_to (exit_of p a) a.now.hint a.work
+              ++ (born_threads p (st.hints 0) a.work.child ++ (if a.work.fails then [] else survivors p (st.hints 0) rest)))
+              (a.now ∷ survivors p (st.hints 0) rest))) ≤ left
               (turn_path image n) sp.stage)
               (sym f)
               (subst
               (λ o. (if is_wait p st bits then 0 else 1) + left (turn_path image n)
-              (lead (moved_to o a.work ++ (born_threads p a.work.child ++ (if a.work.fails then [] else survivors p rest)))) ≤ left
+              (lead (moved_to o a.now.hint a.work
+              ++ (born_threads p (st.hints 0) a.work.child ++ (if a.work.fails then [] else survivors p (st.hints 0) rest)))) ≤ left
               (turn_path image n) sp.stage)
               (sym exit)
               (less (is_wait p st bits)))
             where
               a : Act
-              a = act p st bits [] (seat p (after_turns p image n).arrays (after_turns p image n).next sp)
+              a = act p st bits [] (seat p (with_hint (after_turns p image n).arrays sp.hint) (after_turns p image n).next sp)
 
-              same : next_of p sp.stage (act p st bits [] (seat p (after_turns p image n).arrays (after_turns p image n).next sp)).work.env
+              same : next_of p sp.stage (act p st bits [] (seat p (with_hint (after_turns p image n).arrays sp.hint) (after_turns p image n).next sp)).work.env
                   ≡ next_of p sp.stage (turn_path image n)
               same =
                   ap (λ (w : Work). next_of p sp.stage w.env)
                   (work_same p (course p acc) image st bits (λ m. of_mem m past) (λ m. []) []
                   (λ m. ap (λ k. k m) r.arrays ∙ row_committed m past image) r.known [] (λ m. []) (λ m. [])
                   (λ m. []) (λ m. of_mem m (writes_from p n image p.start)) (λ m. None)
-                  (after_turns p image n).arrays (after_turns p image n).next (length p.stages ∷ [])
+                  (with_hint (after_turns p image n).arrays sp.hint) (after_turns p image n).next (length p.stages ∷ [])
                   (suc (length p.stages) ∷ []) sp (is_nil sps) (rows_at p (course p acc) image n)
                   (behind_none p (course p acc)) h.0 f)
-                  ∙ StageFacts.path_next p acc (after_turns p image n).arrays (after_turns p image n).next sp.stage
+                  ∙ StageFacts.path_next p acc (with_hint (after_turns p image n).arrays sp.hint) (after_turns p image n).next sp.stage
+                  (on_visited p acc (with_hint (after_turns p image n).arrays sp.hint) (after_turns p image n).next sp.stage h.0.on)
 
-              leaving : exit_of p (act p st bits [] (seat p (after_turns p image n).arrays (after_turns p image n).next sp))
+              leaving : exit_of p (act p st bits [] (seat p (with_hint (after_turns p image n).arrays sp.hint) (after_turns p image n).next sp))
                   ≡ cond (nat_lt (next_of p sp.stage (turn_path image n)) (length p.stages)) (Some (next_of p sp.stage (turn_path image n))) None
               leaving = acc.graph.leaves sp.stage _ low ∙ ap (λ k. cond (nat_lt k (length p.stages)) (Some k) None) same
 
@@ -364,7 +371,7 @@ module _ (p : Pipe) (acc : Sound p) where
                       absurd
                       (cc (sym (ap₂ (λ m o. m && is_none o) f (leaving ∙ ap (λ b. cond b (Some (next_of p sp.stage (turn_path image n))) None) i)) ∙ unended))
 
-              exit : exit_of p (act p st bits [] (seat p (after_turns p image n).arrays (after_turns p image n).next sp))
+              exit : exit_of p (act p st bits [] (seat p (with_hint (after_turns p image n).arrays sp.hint) (after_turns p image n).next sp))
                   ≡ Some (next_of p sp.stage (turn_path image n))
               exit = leaving ∙ ap (λ b. cond b (Some (next_of p sp.stage (turn_path image n))) None) (lt-ltb _ _ inside)
 
@@ -396,15 +403,15 @@ module _ (p : Pipe) (acc : Sound p) where
       (cycle p st bits) schedule (runs_cycle p (course p acc) image n past st bits r))
 
   -- at least as many threads end in a run as its cycles that are no waits, divided by the depth of the pipe
-  pub keeps_pace : (image : Arrays) (schedule : List (List Bool)) → KeepsPace p image schedule
-  keeps_pace image schedule =
-      let r = runs_first p (course p acc) image in
-      let h = runs_pace image 0 [] (first p image) schedule r in
-      let l = leads image 0 [] (first p image) r in
-      let some = left_some (turn_path image 0) (lead (first p image).threads) l.0 in
+  pub keeps_pace : (image : Arrays) (hints : ℕ → Hint) (schedule : List (List Bool)) → KeepsPace p image hints schedule
+  keeps_pace image hints schedule =
+      let r = runs_first p (course p acc) image hints in
+      let h = runs_pace image 0 [] (first p image hints) schedule r in
+      let l = leads image 0 [] (first p image hints) r in
+      let some = left_some (turn_path image 0) (lead (first p image hints).threads) l.0 in
       let low = l.1 in
-      let e = suc-mul (ended_in (turns p image schedule)) (depth p) in
+      let e = suc-mul (ended_in (turns p image hints schedule)) (depth p) in
       let deep : 0 < depth p = omega arith in
-      let less : (length schedule - waits_in (turns p image schedule)) / depth p < suc (ended_in (turns p image schedule)) =
+      let less : (length schedule - waits_in (turns p image hints schedule)) / depth p < suc (ended_in (turns p image hints schedule)) =
       (div-lt_iff_lt-mul deep).1 (omega arith) in
       omega arith

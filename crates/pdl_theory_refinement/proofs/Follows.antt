@@ -1,18 +1,19 @@
 -- Every run of the derived machine refines the sequential run, and its oldest thread moves, in the whole language.
-use Rattle.std.proofs.Common.{◌≡◌, refl, sym, ap, ap₂, ◌∙◌, subst, ℕ, zero, suc, ◌+◌, ◌≤◌, ◌<◌, Bool, true, false, ◌||◌, not, List, [], ◌∷◌, ◌++◌, length, Option, Some, None, is_some, nat_lt, cond, if◌then◌else◌, arith, append-nil, append_assoc, add-zero, le_refl, le_of_lt, zero-add, ltb-true, ltb-false, lt-ltb}
+use Rattle.std.proofs.Common.{◌≡◌, refl, sym, ap, ap₂, ◌∙◌, subst, ℕ, zero, suc, ◌+◌, ◌≤◌, ◌<◌, ◌⊎◌, inl, inr, Bool, true, false, ◌||◌, not, List, [], ◌∷◌, ◌++◌, length, Option, None, is_some, nat_lt, cond, if◌then◌else◌, arith, append-nil, append_assoc, add-zero, le_refl, le_of_lt, zero-add, ltb-true, ltb-false, lt-ltb}
 use Rattle.std.specs.List.{AllByRecursion, IsDistinct, list_any}
 use Rattle.std.proofs.lemmas.Map.Steps.{length-le_from_distinct_below}
 use Rattle.std.proofs.lemmas.Bool.{eqb-true, ne_eqb}
 use Rattle.std.proofs.Common.{eqb}
-use Rattle.pdl_semantics.specs.Flat.{Arrays, Pipe, Mem, Branch, Commit, of_mem, after_commits}
+use Rattle.pdl_semantics.specs.Flat.{Arrays, Pipe, Mem, Commit, of_mem, after_commits}
 use Rattle.pdl_semantics.specs.Stages.{mem_at, commit_stage}
 use Rattle.pdl_semantics.specs.Cycle.{awaited_of}
 use Rattle.pdl_semantics.specs.Machine.{Ask}
 use Rattle.pdl_semantics.specs.Sequential.{thread, writes_from, seqwrites, after_turns}
 use Rattle.pdl_semantics.specs.Promises.{wrote, row, IsPrefix}
-use Rattle.pdl_theory_derived.specs.Derived.{Work, Thread, State, Act, acts, all_acts, survivors, commits_of, asks_of, next_asks, cycle, after_acts, first, nothing_asked, turns, turns_from, state_after, all_commits, ended_in, is_wait}
-use Rattle.pdl_theory_derived.specs.Alone.{so_far, Refines, Advances, oldest_moves}
+use Rattle.pdl_theory_derived.specs.Derived.{Hint, no_hint, Work, Thread, State, Act, act, around, answered_thread, acts, all_acts, survivors, commits_of, asks_of, next_asks, cycle, after_acts, first, nothing_asked, turns, turns_from, state_after, all_commits, ended_in, is_wait}
+use Rattle.pdl_theory_derived.specs.Alone.{World, so_far, Refines, Advances, oldest_moves}
 use Rattle.pdl_theory_facts.specs.Scans.{is_plain}
+use Rattle.pdl_theory_turns.proofs.Rooms.{room_alone}
 use Rattle.pdl_theory_derived.proofs.Oldest.{oldest, Asked}
 use Rattle.pdl_theory_derived.proofs.Writes.{of_mem_append, row_committed, committed_append}
 use Rattle.pdl_theory_turns.proofs.Marks.{strips, later_none}
@@ -22,9 +23,11 @@ use Rattle.pdl_theory_turns.proofs.Lives.{Writes, Marks, RowsAt}
 use Rattle.pdl_theory_refinement.proofs.Cycle.{ends_one}
 use Rattle.pdl_theory_refinement.proofs.Refine.{writes_more, writes_add, longer}
 use Rattle.pdl_theory_turns.proofs.Courses.{Course}
+use Rattle.pdl_theory_facts.proofs.Nested.{within_all, trunk_within}
 use Rattle.pdl_theory_turns.proofs.ThreadOrder.{Under, AllUnder}
 use Rattle.pdl_theory_derived.proofs.DelayedReads.{AllAsks, Out, requests_length}
-use Rattle.pdl_theory_refinement.proofs.Spots.{Spot, seat, seats, shown, is_nil, Here, Standing, Behind, Last, Tail}
+use Rattle.pdl_theory_refinement.proofs.Unsure.{Unsure}
+use Rattle.pdl_theory_refinement.proofs.Spots.{Spot, seat, seats, shown, is_nil, Here, Standing, Behind, Last, Tail, with_hint}
 use Rattle.pdl_theory_refinement.proofs.Cycles.{start_spot, past_last, rows_next, born_standing, born_seat, not_self}
 use Rattle.pdl_theory_refinement.proofs.ThreadCycle.{Turned, turned}
 
@@ -43,43 +46,56 @@ pub record Runs (p : Pipe) (acc : Course p) (image : Arrays) (n : ℕ) (past : L
 module _ (p : Pipe) (acc : Course p) where
   -- the end of the pipe is behind whoever is in it
   under_end : (b s : ℕ) → b ≤ length p.stages → Under p b s → Under p (length p.stages) s
-  under_end b s low u = record {
-    below = λ r t k. let i : r < b = u.below r t k in omega arith;
-    branch = λ c i j. absurd (clash (sym (acc.graph.trunk_past (length p.stages) (le_refl _)) ∙ i));
-  }
-    where
-      clash : {c : Branch} → None ≡ Some c → ⊥
-      clash k = cc
+  under_end b s low u [] i j r t k = let l : r < b = u [] (within_all p b) j r t k in omega arith
+  under_end b s low u (x ∷ c) i j r t k = trunk_within p x c _ (acc.graph.trunk_past (length p.stages) (le_refl _)) i
 
   under_low : (s : ℕ) → s < length p.stages → Under p (length p.stages) s
-  under_low s low = record {
-    below = λ r t k. omega arith;
-    branch = λ c i j. absurd (clash (sym (acc.graph.trunk_past (length p.stages) (le_refl _)) ∙ i));
-  }
-    where
-      clash : {c : Branch} → None ≡ Some c → ⊥
-      clash k = cc
+  under_low s low [] i j r t k = omega arith
+  under_low s low (x ∷ c) i j r t k = trunk_within p x c _ (acc.graph.trunk_past (length p.stages) (le_refl _)) i
 
   -- threads behind all of some stages are behind others
   weaker : (asked : List (Option ℕ)) (past w : Writes) (v : Marks) (arrays : Arrays) (args : List ℕ) (ahead ahead2 : List ℕ) (sps : List Spot)
-      → ((s : ℕ) → AllUnder p ahead s → AllUnder p ahead2 s)
+      → ((s : ℕ) → AllUnder p ahead s → AllUnder p ahead2 s) → (Unsure p acc.v ahead2 → Unsure p acc.v ahead)
       → Standing p acc asked past w v arrays args ahead sps → Standing p acc asked past w v arrays args ahead2 sps
-  weaker asked past w v arrays args ahead ahead2 [] f h = h
-  weaker asked past w v arrays args ahead ahead2 (sp ∷ sps) f h = (
-    record { under = f sp.stage h.0.under; on = h.0.on; words = h.0.words; clean = h.0.clean; linked = h.0.linked; waits = h.0.waits },
-    weaker asked past (λ n. w n ++ of_mem n (thread p arrays args).writes) (λ n. v n ++ marks p arrays args sp.stage n)
+  weaker asked past w v arrays args ahead ahead2 [] f g h = h
+  weaker asked past w v arrays args ahead ahead2 (sp ∷ sps) f g h = (
+    record {
+      under = f sp.stage h.0.under;
+      on = h.0.on;
+      words = λ m c. h.0.words m
+          (at m c);
+      clean = h.0.clean;
+      linked = h.0.linked;
+      waits = h.0.waits;
+      calm = λ u. h.0.calm (g u);
+    },
+    weaker asked past (λ n. w n ++ of_mem n (thread p arrays args).writes) (λ n. v n ++ marks p (with_hint arrays sp.hint) args sp.stage n)
         (thread p arrays args).arrays (thread p arrays args).next (sp.stage ∷ ahead)
-        (sp.stage ∷ ahead2) sps (λ s u. (u.0, f s u.1)) h.1,
+        (sp.stage ∷ ahead2) sps (λ s u. (u.0, f s u.1)) (λ u. u) h.1,
   )
+    where
+      at : (m : ℕ) → (sp.stage ≤ commit_stage p m) ⊎ Unsure p acc.v ahead2 → (sp.stage ≤ commit_stage p m) ⊎ Unsure p acc.v ahead
+      at m (inl c) = inl c
+      at m (inr u) = inr (g u)
+
+  -- nobody guesses past the last stage
+  sure_end : Unsure p acc.v (length p.stages ∷ []) → ⊥
+  sure_end u = let i : length p.stages ≤ acc.v = u.1 in let j : acc.v < length p.stages = acc.v_inside in omega arith
+
+  at_end : (sp : Spot) (m : ℕ)
+      → (sp.stage ≤ commit_stage p m) ⊎ Unsure p acc.v (length p.stages ∷ [])
+      → (sp.stage ≤ commit_stage p m) ⊎ Unsure p acc.v (suc (length p.stages) ∷ [])
+  at_end sp m (inl c) = inl c
+  at_end sp m (inr u) = absurd (sure_end u)
 
   shown_seats : (asked : List (Option ℕ)) (past w : Writes) (v : Marks) (arrays : Arrays) (args : List ℕ) (ahead : List ℕ) (sps : List Spot)
       → ((s : ℕ) → AllUnder p ahead s → s < length p.stages)
       → Standing p acc asked past w v arrays args ahead sps → shown p arrays args sps ≡ seats p arrays args sps
   shown_seats asked past w v arrays args ahead [] f h = refl
   shown_seats asked past w v arrays args ahead (sp ∷ sps) f h =
-      ap₂ (λ b xs. cond b (seat p arrays args sp ∷ []) [] ++ xs) (lt-ltb sp.stage (length p.stages) (f sp.stage h.0.under))
+      ap₂ (λ b xs. cond b (seat p (with_hint arrays sp.hint) args sp ∷ []) [] ++ xs) (lt-ltb sp.stage (length p.stages) (f sp.stage h.0.under))
       (shown_seats asked past (λ n. w n ++ of_mem n (thread p arrays args).writes)
-      (λ n. v n ++ marks p arrays args sp.stage n)
+      (λ n. v n ++ marks p (with_hint arrays sp.hint) args sp.stage n)
       (thread p arrays args).arrays (thread p arrays args).next (sp.stage ∷ ahead) sps (λ s u. f s u.1) h.1)
 
   -- who stands behind the end of the pipe is in one of its stages
@@ -90,14 +106,16 @@ module _ (p : Pipe) (acc : Course p) where
       at true e = ltb-true _ _ e
       at false e =
           absurd
-          (let i : length p.stages < length p.stages = u.0.below (length p.stages) (acc.graph.trunk_past (length p.stages) (le_refl _)) (ltb-false _ _ e) in
+          (let i : length p.stages < length p.stages = u.0 [] (within_all p _) (within_all p _) (length p.stages)
+          (acc.graph.trunk_past (length p.stages) (le_refl _)) (ltb-false _ _ e) in
           omega arith)
 
   -- the sequential array at a turn
   pub rows_at : (image : Arrays) (n : ℕ) → RowsAt image (λ m. of_mem m (writes_from p n image p.start)) (after_turns p image n).arrays
   rows_at image zero m = refl
   rows_at image (suc n) m =
-      rows_next p acc image (λ k. of_mem k (writes_from p n image p.start)) (after_turns p image n).arrays (after_turns p image n).next (rows_at image n) m
+      rows_next p acc image (λ k. of_mem k (writes_from p n image p.start)) (with_hint (after_turns p image n).arrays no_hint) (after_turns p image n).next
+      (rows_at image n) m
       ∙ ap (wrote (row image m)) (sym (of_mem_append m (writes_from p n image p.start) _) ∙ ap (of_mem m) (sym (writes_more p n image p.start)))
 
   -- the next threads where the oldest ends
@@ -111,20 +129,22 @@ module _ (p : Pipe) (acc : Course p) where
       (λ v. Standing p acc asked past (λ m. of_mem m (writes_from p (suc n) image p.start)) v
       (after_turns p image (suc n)).arrays (after_turns p image (suc n)).next (length p.stages ∷ []) sps)
       (λ i m.
-      (ap (λ s. marks p (after_turns p image n).arrays (after_turns p image n).next s m) e
-      ∙ acc.marks_end (after_turns p image n).arrays (after_turns p image n).next m) i)
+      (ap (λ s. marks p (with_hint (after_turns p image n).arrays sp.hint) (after_turns p image n).next s m) e
+      ∙ acc.marks_end (with_hint (after_turns p image n).arrays sp.hint) (after_turns p image n).next m) i)
       (subst
-      (λ w. Standing p acc asked past w (λ m. [] ++ marks p (after_turns p image n).arrays (after_turns p image n).next sp.stage m)
+      (λ w. Standing p acc asked past w (λ m. [] ++ marks p (with_hint (after_turns p image n).arrays sp.hint) (after_turns p image n).next sp.stage m)
       (after_turns p image (suc n)).arrays (after_turns p image (suc n)).next (length p.stages ∷ []) sps)
       (λ i m. (sym (of_mem_append m (writes_from p n image p.start) _) ∙ ap (of_mem m) (sym (writes_more p n image p.start))) i)
       (weaker asked past _ _ (after_turns p image (suc n)).arrays (after_turns p image (suc n)).next (sp.stage ∷ suc (length p.stages) ∷ [])
-      (length p.stages ∷ []) sps (λ s u. (subst (λ b. Under p b s) e u.0, tt)) h.1))
+      (length p.stages ∷ []) sps (λ s u. (subst (λ b. Under p b s) e u.0, tt)) (λ u. absurd (sure_end u)) h.1))
 
   dropped_live : (asked : List (Option ℕ)) (past w : Writes) (v : Marks) (arrays : Arrays) (args : List ℕ) (ahead : List ℕ) (sp : Spot) (sps : List Spot)
       → sp.stage ≡ length p.stages
       → Standing p acc asked past w v arrays args ahead (sp ∷ sps) → is_nil sps ≡ false
   dropped_live asked past w v arrays args ahead sp sps e h =
-      at (is_nil sps) (sym (acc.child_end arrays args) ∙ ap (λ s. right_guess (so_far p arrays args s).child (thread p arrays args).next) (sym e) ∙ h.0.linked)
+      at (is_nil sps)
+      (sym (acc.child_end (with_hint arrays sp.hint) args)
+      ∙ ap (λ s. right_guess (so_far p (with_hint arrays sp.hint) args s).child (thread p arrays args).next) (sym e) ∙ h.0.linked)
     where
       at : (b : Bool) → true ≡ not b → b ≡ false
       at true f = absurd (cc f)
@@ -148,16 +168,16 @@ module _ (p : Pipe) (acc : Course p) where
       }
 
   -- the state after a cycle, by what its threads did
-  runs_after : (image : Arrays) (n : ℕ) (past : List Commit) (st' : State) (these : List Act)
-      → st'.threads ≡ survivors p these → st'.arrays ≡ after_commits image (past ++ commits_of these) → length st'.asked ≡ length p.mems
-      → Turned p acc st'.asked (λ m. of_mem m (past ++ commits_of these))
+  runs_after : (image : Arrays) (n : ℕ) (past : List Commit) (st' : State) (these : List Act) (hs : Hint)
+      → st'.threads ≡ survivors p hs these → st'.arrays ≡ after_commits image (past ++ commits_of these) → length st'.asked ≡ length p.mems
+      → Turned p acc hs st'.asked (λ m. of_mem m (past ++ commits_of these))
       (λ m. of_mem m (writes_from p n image p.start)) (λ m. [])
       (after_turns p image n).arrays (after_turns p image n).next (length p.stages ∷ [])
       (suc (length p.stages) ∷ []) these
       → Runs p acc image (if ends_one p these then suc n else n) (past ++ commits_of these) st'
-  runs_after image n past st' these e f known t = at t.spots t.strays t.threads t.standing t.tail t.some t.ended
+  runs_after image n past st' these hs e f known t = at t.spots t.strays t.threads t.standing t.tail t.some t.ended
     where
-      at : (sps : List Spot) (strays : List Thread) → survivors p these ≡ shown p (after_turns p image n).arrays (after_turns p image n).next sps ++ strays
+      at : (sps : List Spot) (strays : List Thread) → survivors p hs these ≡ shown p (after_turns p image n).arrays (after_turns p image n).next sps ++ strays
           → Standing p acc st'.asked (λ m. of_mem m (past ++ commits_of these))
           (λ m. of_mem m (writes_from p n image p.start)) (λ m. [])
           (after_turns p image n).arrays (after_turns p image n).next (suc (length p.stages) ∷ []) sps
@@ -175,11 +195,20 @@ module _ (p : Pipe) (acc : Course p) where
               (sp.stage ∷ length p.stages ∷ []) sps =
               weaker st'.asked (λ m. of_mem m (past ++ commits_of these)) _ _ (after_turns p image (suc n)).arrays
               (after_turns p image (suc n)).next (sp.stage ∷ suc (length p.stages) ∷ [])
-              (sp.stage ∷ length p.stages ∷ []) sps (λ s u. (u.0, (under_end sp.stage s (le_of_lt low) u.0, tt))) h.1 in
+              (sp.stage ∷ length p.stages ∷ []) sps (λ s u. (u.0, (under_end sp.stage s (le_of_lt low) u.0, tt))) (λ u. u) h.1 in
               let here : Here p acc st'.asked (λ m. of_mem m (past ++ commits_of these))
               (λ m. of_mem m (writes_from p n image p.start)) (λ m. [])
-              (after_turns p image n).arrays (after_turns p image n).next (length p.stages ∷ []) sp (is_nil sps) =
-              record { under = (under_low sp.stage low, tt); on = h.0.on; words = h.0.words; clean = h.0.clean; linked = h.0.linked; waits = h.0.waits } in
+              (with_hint (after_turns p image n).arrays sp.hint) (after_turns p image n).next (length p.stages ∷ []) sp (is_nil sps) =
+              record {
+                under = (under_low sp.stage low, tt);
+                on = h.0.on;
+                words = λ m c. h.0.words m
+                    (at_end sp m c);
+                clean = h.0.clean;
+                linked = h.0.linked;
+                waits = h.0.waits;
+                calm = λ u. absurd (sure_end u);
+              } in
               subst (λ c. Runs p acc image (cond c (suc n) n) (past ++ commits_of these) st') (sym (l ∙ ap not i))
               (record {
                 spots = sp ∷ sps;
@@ -198,7 +227,8 @@ module _ (p : Pipe) (acc : Course p) where
               })
           by_last false i =
               let past_it : sp.stage ≡ length p.stages =
-              exact (ltb-false _ _ i) (h.0.under.0.below sp.stage (acc.graph.trunk_past sp.stage (ltb-false _ _ i)) (le_refl sp.stage)) in
+              exact (ltb-false _ _ i)
+              (h.0.under.0 [] (within_all p _) (within_all p _) sp.stage (acc.graph.trunk_past sp.stage (ltb-false _ _ i)) (le_refl sp.stage)) in
               let h'' = dropped st'.asked (λ m. of_mem m (past ++ commits_of these)) image n sp sps past_it h in
               subst (λ c. Runs p acc image (cond c (suc n) n) (past ++ commits_of these) st') (sym (l ∙ ap not i))
               (record {
@@ -209,7 +239,7 @@ module _ (p : Pipe) (acc : Course p) where
                     e ∙ g
                     ∙ ap
                     (λ b.
-                    (cond b (seat p (after_turns p image n).arrays (after_turns p image n).next sp ∷ []) []
+                    (cond b (seat p (with_hint (after_turns p image n).arrays sp.hint) (after_turns p image n).next sp ∷ []) []
                     ++ shown p (after_turns p image (suc n)).arrays (after_turns p image (suc n)).next sps)
                     ++ strays) i
                     ∙ ap (λ l. l ++ strays)
@@ -230,11 +260,11 @@ module _ (p : Pipe) (acc : Course p) where
       → Runs p acc image (if ends_one p (all_acts p st bits) then suc n else n)
       (past ++ commits_of (all_acts p st bits)) (after_acts p st bits (all_acts p st bits))
   runs_cycle image n past st bits r =
-      runs_after image n past (after_acts p st bits (all_acts p st bits)) (all_acts p st bits) refl
+      runs_after image n past (after_acts p st bits (all_acts p st bits)) (all_acts p st bits) (st.hints 0) refl
       (ap (λ l. after_commits l (commits_of (all_acts p st bits))) r.arrays ∙ sym (committed_append past (commits_of (all_acts p st bits)) image))
       (requests_length p bits (asks_of (all_acts p st bits)) 0 st.asked ∙ r.known)
       (subst
-      (λ ts. Turned p acc (next_asks p bits (asks_of (acts p st bits [] ts)) 0 st.asked)
+      (λ ts. Turned p acc (st.hints 0) (next_asks p bits (asks_of (acts p st bits [] ts)) 0 st.asked)
       (λ m. of_mem m (past ++ commits_of (acts p st bits [] ts))) (λ m. of_mem m (writes_from p n image p.start))
       (λ m. []) (after_turns p image n).arrays (after_turns p image n).next (length p.stages ∷ [])
       (suc (length p.stages) ∷ []) (acts p st bits [] ts))
@@ -274,27 +304,27 @@ module _ (p : Pipe) (acc : Course p) where
   none_length (m ∷ ms) = ap suc (none_length ms)
 
   -- the first state is one of a run, with no thread ended and nothing committed
-  pub runs_first : (image : Arrays) → Runs p acc image 0 [] (first p image)
-  runs_first image =
+  pub runs_first : (image : Arrays) (hints : ℕ → Hint) → Runs p acc image 0 [] (first p image hints)
+  runs_first image hints =
       record {
-        spots = start_spot p p.start ∷ [];
+        spots = start_spot p (hints 0) p.start ∷ [];
         strays = [];
-        tail = subst (λ c. Last p acc.stray acc.made 0 c []) (sym (ap (λ (w : Work). w.child) (acc.start_so image p.start))) refl;
-        threads = ap (λ t. t ∷ []) (born_seat p acc image p.start);
+        tail = subst (λ c. Last p acc.stray acc.made 0 c []) (sym (ap (λ (w : Work). w.child) (acc.start_so (with_hint image (hints 0)) p.start))) refl;
+        threads = ap (λ t. t ∷ []) (born_seat p acc (with_hint image (hints 0)) p.start);
         arrays = refl;
         standing =
             born_standing p acc (nothing_asked p.mems) (λ m. []) (λ m. [])
-            (λ m. []) image p.start (length p.stages ∷ []) (under_low 0 acc.graph.some_stage, tt) (λ m. refl);
+            (λ m. []) (with_hint image (hints 0)) p.start (length p.stages ∷ []) (under_low 0 acc.graph.some_stage, tt) (λ m. refl);
         live = refl;
         known = none_length p.mems;
       }
 
   -- the state after a schedule is one of a run, with the threads that ended in it and its commits
-  pub run_of : (image : Arrays) (schedule : List (List Bool))
-      → Runs p acc image (ended_in (turns p image schedule)) (all_commits (turns p image schedule)) (state_after p (first p image) schedule)
-  run_of image schedule =
-      subst (λ n. Runs p acc image n (all_commits (turns p image schedule)) (state_after p (first p image) schedule))
-      (zero-add (ended_in (turns p image schedule))) (runs_run image 0 [] (first p image) schedule (runs_first image))
+  pub run_of : (image : Arrays) (hints : ℕ → Hint) (schedule : List (List Bool))
+      → Runs p acc image (ended_in (turns p image hints schedule)) (all_commits (turns p image hints schedule)) (state_after p (first p image hints) schedule)
+  run_of image hints schedule =
+      subst (λ n. Runs p acc image n (all_commits (turns p image hints schedule)) (state_after p (first p image hints) schedule))
+      (zero-add (ended_in (turns p image hints schedule))) (runs_run image 0 [] (first p image hints) schedule (runs_first image hints))
 
   -- REFINEMENT
 
@@ -306,7 +336,7 @@ module _ (p : Pipe) (acc : Course p) where
   total m asked past w v arrays args ahead (sp ∷ sps) h =
       let k =
       total m asked past (λ n. w n ++ of_mem n (thread p arrays args).writes)
-      (λ n. v n ++ marks p arrays args sp.stage n)
+      (λ n. v n ++ marks p (with_hint arrays sp.hint) args sp.stage n)
       (thread p arrays args).arrays (thread p arrays args).next (sp.stage ∷ ahead) sps h.1 in
       (k.0, k.1 ∙ append_assoc (w m) (of_mem m (thread p arrays args).writes) _ ∙ ap (λ l. w m ++ l) (sym (of_mem_append m (thread p arrays args).writes _)))
 
@@ -318,16 +348,17 @@ module _ (p : Pipe) (acc : Course p) where
   begun m asked past w v arrays args ahead (sp ∷ sps) e h =
       at (nat_lt (commit_stage p m) sp.stage) refl
       (λ f. begun m asked past (λ n. w n ++ of_mem n (thread p arrays args).writes)
-      (λ n. v n ++ marks p arrays args sp.stage n)
+      (λ n. v n ++ marks p (with_hint arrays sp.hint) args sp.stage n)
       (thread p arrays args).arrays (thread p arrays args).next (sp.stage ∷ ahead) sps f h.1)
     where
       at : (b : Bool) → nat_lt (commit_stage p m) sp.stage ≡ b
-          → (v m ++ marks p arrays args sp.stage m ≡ [] → (rest : List Commit) × ((w m ++ of_mem m (thread p arrays args).writes) ++ rest ≡ past m))
+          → (v m ++ marks p (with_hint arrays sp.hint) args sp.stage m ≡ [] → (rest : List Commit)
+          × ((w m ++ of_mem m (thread p arrays args).writes) ++ rest ≡ past m))
           → (rest : List Commit) × (w m ++ rest ≡ past m)
       at true f k =
-          let r = k (ap₂ (λ l c. l ++ c) e (acc.marks_late arrays args sp.stage m (ltb-true _ _ f))) in
+          let r = k (ap₂ (λ l c. l ++ c) e (acc.marks_late (with_hint arrays sp.hint) args sp.stage m (ltb-true _ _ f))) in
           (of_mem m (thread p arrays args).writes ++ r.0, sym (append_assoc (w m) (of_mem m (thread p arrays args).writes) r.0) ∙ r.1)
-      at false f k = ([], append-nil (w m) ∙ h.0.words m (ltb-false _ _ f) ∙ ap (λ l. past m ++ strips m l) e ∙ append-nil (past m))
+      at false f k = ([], append-nil (w m) ∙ h.0.words m (inl (ltb-false _ _ f)) ∙ ap (λ l. past m ++ strips m l) e ∙ append-nil (past m))
 
   -- the live threads on their turns stand in different stages
   abbrev pub stages_of : List Spot → List ℕ
@@ -341,7 +372,7 @@ module _ (p : Pipe) (acc : Course p) where
   apart_from b asked past w v arrays args ahead (sp ∷ sps) f h = (
     ne_eqb b sp.stage (λ e. not_self p acc sp.stage (subst (λ n. Under p n sp.stage) e (f sp.stage h.0.under))),
     apart_from b asked past (λ n. w n ++ of_mem n (thread p arrays args).writes)
-        (λ n. v n ++ marks p arrays args sp.stage n)
+        (λ n. v n ++ marks p (with_hint arrays sp.hint) args sp.stage n)
         (thread p arrays args).arrays (thread p arrays args).next (sp.stage ∷ ahead) sps (λ s u. f s u.1) h.1,
   )
 
@@ -351,10 +382,10 @@ module _ (p : Pipe) (acc : Course p) where
   distinct asked past w v arrays args ahead [] h = tt
   distinct asked past w v arrays args ahead (sp ∷ sps) h = (
     apart_from sp.stage asked past (λ n. w n ++ of_mem n (thread p arrays args).writes)
-        (λ n. v n ++ marks p arrays args sp.stage n)
+        (λ n. v n ++ marks p (with_hint arrays sp.hint) args sp.stage n)
         (thread p arrays args).arrays (thread p arrays args).next (sp.stage ∷ ahead) sps (λ s u. u.0) h.1,
     distinct asked past (λ n. w n ++ of_mem n (thread p arrays args).writes)
-        (λ n. v n ++ marks p arrays args sp.stage n)
+        (λ n. v n ++ marks p (with_hint arrays sp.hint) args sp.stage n)
         (thread p arrays args).arrays (thread p arrays args).next (sp.stage ∷ ahead) sps h.1,
   )
 
@@ -365,7 +396,7 @@ module _ (p : Pipe) (acc : Course p) where
   low_ones asked past w v arrays args ahead (sp ∷ sps) f h q k =
       at (eqb q sp.stage) refl k
       (low_ones asked past (λ n. w n ++ of_mem n (thread p arrays args).writes)
-      (λ n. v n ++ marks p arrays args sp.stage n)
+      (λ n. v n ++ marks p (with_hint arrays sp.hint) args sp.stage n)
       (thread p arrays args).arrays (thread p arrays args).next (sp.stage ∷ ahead) sps (λ s u. f s u.1) h.1 q)
     where
       at : (b : Bool) → eqb q sp.stage ≡ b → (b || list_any (eqb q) (stages_of sps)) ≡ true
@@ -409,9 +440,9 @@ module _ (p : Pipe) (acc : Course p) where
       l = longer p m n (length r.spots) k image p.start h
 
   -- every run of the derived machine refines the sequential run
-  pub refines : (image : Arrays) (schedule : List (List Bool)) → Refines p image schedule
-  refines image schedule =
-      let r = run_of image schedule in
+  pub refines : (image : Arrays) (hints : ℕ → Hint) (schedule : List (List Bool)) → Refines p image hints schedule
+  refines image hints schedule =
+      let r = run_of image hints schedule in
       let h : length r.spots ≤ length p.stages = few _ _ _ _ _ _ r.spots r.standing in
       record {
         whole = λ m. (run_refines image _ _ _ m (length p.stages) r h).0;
@@ -420,15 +451,15 @@ module _ (p : Pipe) (acc : Course p) where
       }
 
   -- a memory without lock is not written
-  plain_turn : (m : ℕ) (arrays : Arrays) (args : List ℕ) → is_plain (mem_at p m).lock ≡ true → of_mem m (thread p arrays args).writes ≡ []
-  plain_turn m arrays args h = sym (acc.marks_start arrays args m) ∙ ap (strips m) (acc.marks_plain arrays args 0 m h)
+  plain_turn : (m : ℕ) (world : World) (args : List ℕ) → is_plain (mem_at p m).lock ≡ true → of_mem m (thread p world.words args).writes ≡ []
+  plain_turn m world args h = sym (acc.marks_start world args m) ∙ ap (strips m) (acc.marks_plain world args 0 m h)
 
   -- no number of turns writes to a memory without lock
   pub plain_writes : (m k : ℕ) (arrays : Arrays) (args : List ℕ) → is_plain (mem_at p m).lock ≡ true → of_mem m (writes_from p k arrays args) ≡ []
   plain_writes m zero arrays args h = refl
   plain_writes m (suc k) arrays args h =
       of_mem_append m (thread p arrays args).writes _
-      ∙ ap₂ (λ a b. a ++ b) (plain_turn m arrays args h) (plain_writes m k (thread p arrays args).arrays (thread p arrays args).next h)
+      ∙ ap₂ (λ a b. a ++ b) (plain_turn m (with_hint arrays no_hint) args h) (plain_writes m k (thread p arrays args).arrays (thread p arrays args).next h)
 
   -- PROGRESS
 
@@ -447,8 +478,12 @@ module _ (p : Pipe) (acc : Course p) where
           → is_nil sps ≡ false → oldest_moves (acts p st bits [] (seats p (after_turns p image n).arrays (after_turns p image n).next sps ++ r.strays)) ≡ true
       at [] h l = absurd (cc l)
       at (sp ∷ sps) h l =
-          oldest p st bits (seat p (after_turns p image n).arrays (after_turns p image n).next sp) acc.locks (asked_all st.asked sp.asks h.0.waits.out) k
+          oldest p st bits (seat p (with_hint (after_turns p image n).arrays sp.hint) (after_turns p image n).next sp)
+          (room_alone p (act p st bits [] (seat p (with_hint (after_turns p image n).arrays sp.hint) (after_turns p image n).next sp)).work
+          (acc.rooms (around p st bits [] sp.stage sp.hint)
+          (answered_thread p st bits
+          (seat p (with_hint (after_turns p image n).arrays sp.hint) (after_turns p image n).next sp)))) (asked_all st.asked sp.asks h.0.waits.out) k
 
   -- after any schedule the oldest thread of the derived machine moves in a cycle that isn't a wait
-  pub advances : (image : Arrays) (schedule : List (List Bool)) (bits : List Bool) → Advances p image schedule bits
-  advances image schedule bits k = oldest_of image _ _ (state_after p (first p image) schedule) bits (run_of image schedule) k
+  pub advances : (image : Arrays) (hints : ℕ → Hint) (schedule : List (List Bool)) (bits : List Bool) → Advances p image hints schedule bits
+  advances image hints schedule bits k = oldest_of image _ _ (state_after p (first p image hints) schedule) bits (run_of image hints schedule) k

@@ -1,3 +1,4 @@
+pub mod Unsure
 pub mod Spots
 pub mod StrayCommits
 pub mod Cycles

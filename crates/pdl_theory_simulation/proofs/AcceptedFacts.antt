@@ -1,21 +1,22 @@
 -- The facts that the simulation takes follow stages_from those of an accepted pipe.
-use Rattle.std.proofs.Common.{◌≡◌, refl, sym, ap, ap₂, ◌∙◌, subst, ℕ, suc, ◌≤◌, ◌<◌, ◌⊎◌, inl, inr, Bool, true, false, ◌&&◌, ◌||◌, not, List, [], ◌∷◌, ◌++◌, length, Option, Some, None, ◌==◌, nat_lt, nat_le, cond, arith, ltb-true, ltb-false, leb-true, leb-false, le_refl, eq-eqb}
+use Rattle.std.proofs.Common.{◌≡◌, refl, sym, ap, ap₂, ◌∙◌, subst, ℕ, suc, ◌≤◌, ◌<◌, ◌⊎◌, inl, inr, Bool, true, false, ◌&&◌, ◌||◌, not, List, [], ◌∷◌, ◌++◌, length, Some, None, ◌==◌, nat_lt, nat_le, cond, arith, ltb-true, ltb-false, leb-true, leb-false, le_refl, eq-eqb}
 use Rattle.std.proofs.lemmas.Bool.{eqb-true, eqb-false, ne_eqb}
 use Rattle.pdl_semantics.specs.Flat.{list_all, Pipe, Branch, Op, DelayedRead, Stmt, all_hold}
-use Rattle.pdl_semantics.specs.Stages.{onpath, in_stage, stage_at, goes_to, is_inside, is_branch_of, commit_stage, verify_stage}
-use Rattle.pdl_semantics.specs.Sound.{stages_before, stages_from, is_fetch, is_call, is_delayed_read}
+use Rattle.pdl_semantics.specs.Stages.{onpath, in_stage, stage_at, goes_to, is_inside, commit_stage, verify_stage, is_check, is_verify}
+use Rattle.pdl_semantics.specs.Sound.{stages_before, stages_from, is_fetch, is_call, is_delayed_read, is_spec_call}
 use Rattle.pdl_theory_derived.specs.Alone.{before, answered_op}
 use Rattle.pdl_theory_facts.specs.Scans.{Phase, Fresh, next_phase, phase_all, is_over, none_of, binds_var, is_dead}
-use Rattle.pdl_theory_facts.specs.GuessScans.{Unmade}
-use Rattle.pdl_theory_facts.specs.Graphs.{Trunk, In, stage_or, next_of, goes_by}
-use Rattle.pdl_theory_facts.specs.Facts.{is_fetch_of, none_like, alone_op, fetch_apart, Found, FetchIf, AllFetches, looked_all, at_once, comes_by, visits_stage, defined_by, late_for, Sound}
+use Rattle.pdl_theory_facts.specs.GuessScans.{Unmade, makings_ok, checks_apart, is_update, once}
+use Rattle.pdl_theory_facts.specs.Graphs.{Home, Within, Below, Way, stage_or, next_of}
+use Rattle.pdl_theory_facts.proofs.Nested.{arrives}
+use Rattle.pdl_theory_facts.specs.Facts.{is_fetch_of, none_like, alone_op, fetch_apart, Found, FetchIf, AllFetches, looked_all, at_once, visits_stage, defined_by, late_for, Sound}
 use Rattle.pdl_theory_simulation.proofs.FlowFacts.{Ways, Flows, FlowRules, Leads, AllOf, DefinedBy, binds_guard, use_ok, uses_ok, call_ok, calls_ok, at_most_one}
 use Rattle.pdl_theory_derived.proofs.Writes.{and_left, and_right}
-use Rattle.pdl_theory_turns.proofs.Paths.{dead_none}
+use Rattle.pdl_theory_turns.proofs.Paths.{dead_none, stage_path}
 use Rattle.pdl_theory_turns.proofs.Looks.{path_looked}
 use Rattle.pdl_theory_turns.proofs.StrayPaths.{fixed_looked}
 use Rattle.pdl_theory_turns.proofs.CourseOf.{all_at_looked}
-use Rattle.pdl_theory_simulation.proofs.FlowScans.{uses_of, calls_of}
+use Rattle.pdl_theory_simulation.proofs.FlowScans.{uses_of, calls_of, apart_of, once_looked, update_or_verify}
 use Rattle.pdl_theory_simulation.proofs.RuleFacts.{all_map, before_path, from_path, flows_of_rules}
 use Rattle.pdl_word.proofs.Bools.{by_bool, by_or}
 use Rattle.pdl_word.proofs.Lists.{tail_same}
@@ -295,56 +296,13 @@ module _ (p : Pipe) (acc : Sound p) where
   next_up : (s q : ℕ) → Leads p s q → (s < q) × (q < length p.stages)
   next_up s q l = let n = led s q l.0 l.2 l.1 in (subst (λ m. s < m) n.0 (acc.graph.up s l.0 l.2), n.1)
 
-  between_of : (s q b : ℕ) → Leads p s q → Trunk p q → ((r : ℕ) → Trunk p r → r ≤ s → r < b) → b < q
+  between_of : (c : List Branch) (s q b : ℕ) → Leads p s q → Within p c s → Home p c q → Below p c b s → Within p c b → b < q
       → (f : ℕ) × ((stage_at p q).merges ≡ Some f) × (is_inside p f b ≡ true)
-  between_of s q b l t h i =
+  between_of c s q b l w t h there i =
       let n = led s q l.0 l.2 l.1 in
       subst (λ m. (f : ℕ) × ((stage_at p m).merges ≡ Some f) × (is_inside p f b ≡ true)) n.0
-      (acc.graph.between s l.0 b l.2 (subst (Trunk p) (sym n.0) t) (subst (λ m. m < length p.stages) (sym n.0) n.1) h (subst (λ m. b < m) (sym n.0) i))
-
-  stays_of : (s q : ℕ) (x : Branch) → Leads p s q → In p x q → (s ≡ x.fork) ⊎ (In p x s × (q ≡ suc s))
-  stays_of s q x l e = let n = led s q l.0 l.2 l.1 in
-      subst (λ m. (s ≡ x.fork) ⊎ (In p x s × (m ≡ suc s))) n.0 (acc.branches.stays_in x s l.0 l.2 (subst (In p x) (sym n.0) e))
-
-  into_of : (s q : ℕ) (x : Branch) → Leads p s q → In p x q → (In p x s) ⊎ ((s ≡ x.fork) × Trunk p s)
-  into_of s q x l e = by (stays_of s q x l e)
-    where
-      by : (s ≡ x.fork) ⊎ (In p x s × (q ≡ suc s)) → (In p x s) ⊎ ((s ≡ x.fork) × Trunk p s)
-      by (inl i) = inr (i, subst (Trunk p) (sym i) (acc.branches.fork_trunk x q e).0)
-      by (inr j) = inl j.0
-
-  next_in_of : (s q b : ℕ) (x : Branch) → Leads p s q → In p x q → In p x b → s < b → q ≤ b
-  next_in_of s q b x l e f i = by (stays_of s q x l e)
-    where
-      by : (s ≡ x.fork) ⊎ (In p x s × (q ≡ suc s)) → q ≤ b
-      by (inl j) =
-          let n = led s q l.0 l.2 l.1 in
-          let k : next_of p x.fork l.0 ≡ q = ap (λ r. next_of p r l.0) (sym j) ∙ n.0 in
-          subst (λ m. m ≤ b) k (acc.branches.entry x l.0 b (subst (λ r. r < length p.stages) j l.2) (subst (In p x) (sym k) e) f)
-      by (inr j) = let k = j.1 in omega arith
-
-  not_both : (s : ℕ) (x : Branch) → In p x s → Trunk p s → ⊥
-  not_both s x i t = none (sym t ∙ i)
-    where
-      none : None ≡ Some x → ⊥
-      none k = cc
-
-  out_of_here : (s q : ℕ) (x : Branch) → Leads p s q → In p x s → (In p x q) ⊎ ((stage_at p q).merges ≡ Some x.fork)
-  out_of_here s q x l e = by (stage_at p q).branch refl
-    where
-      by : (o : Option Branch) → (stage_at p q).branch ≡ o → (In p x q) ⊎ ((stage_at p q).merges ≡ Some x.fork)
-      by None t =
-          let k =
-          between_of s q s l t
-          (λ r u low. by_bool (r == s) (r < s) (λ i. absurd (not_both s x e (subst (Trunk p) (eqb-true r s i) u)))
-          (λ i. let j = eqb-false r s i in omega arith))
-          (next_up s q l).0 in
-          inr (k.1 ∙ ap Some (sym (eqb-true x.fork k.0 (ap (λ o. is_branch_of o k.0) (sym e) ∙ k.2))))
-      by (Some y) i = from_y (into_of s q y l i)
-        where
-          from_y : (In p y s) ⊎ ((s ≡ y.fork) × Trunk p s) → (In p x q) ⊎ ((stage_at p q).merges ≡ Some x.fork)
-          from_y (inl j) = inl (i ∙ sym j ∙ e)
-          from_y (inr j) = absurd (not_both s x e j.1)
+      (acc.graph.between c s l.0 b l.2 w (subst (Home p c) (sym n.0) t) (subst (λ m. m < length p.stages) (sym n.0) n.1) h there
+      (subst (λ m. b < m) (sym n.0) i))
 
   flow_graph : Ways p
   flow_graph =
@@ -353,16 +311,20 @@ module _ (p : Pipe) (acc : Sound p) where
         trunk_start = acc.graph.trunk_start;
         up = next_up;
         last = λ s path low e. let k = acc.graph.last s path low (ap (stage_or (length p.stages)) e) in (k.1, k.0);
-        jump = λ s q r l t i j. let n = led s q l.0 l.2 l.1 in acc.graph.jump s l.0 r l.2 t i (subst (λ m. r ≤ m) (sym n.0) j) ∙ n.0;
+        jump = λ c s q r l w t i j. let n = led s q l.0 l.2 l.1 in acc.graph.jump c s l.0 r l.2 w t i (subst (λ m. r ≤ m) (sym n.0) j) ∙ n.0;
         between = between_of;
-        into = into_of;
-        next_in = next_in_of;
-        out_of = out_of_here;
-        fork_below = λ s x e. let k = acc.branches.fork_trunk x s e in (k.1, k.0);
+        way = λ s q l. let n = led s q l.0 l.2 l.1 in subst (λ m. Way p s m) n.0 (acc.branches.way s l.0 l.2);
+        entry =
+            λ x c q r l t w. let n = led x.fork q l.0 l.2 l.1 in subst (λ m. m ≤ r) n.0
+            (acc.branches.entry x c l.0 r l.2 (subst (Home p (x ∷ c)) (sym n.0) t) w);
+        fork_below = acc.branches.fork;
         merge = λ s q f l e.
             let n = led s q l.0 l.2 l.1 in
-            let k = acc.branches.merge s l.0 f l.2 (subst (λ m. (stage_at p m).merges ≡ Some f) (sym n.0) e) in
-            (subst (Trunk p) n.0 k.0, k.1);
+            subst
+            (λ m. ((s ≡ f) × ((stage_at p m).branches ≡ (stage_at p s).branches)) ⊎
+            ((x : Branch) × ((stage_at p s).branches ≡ x ∷ (stage_at p m).branches) × (x.fork ≡ f)
+            × ((b : ℕ) → Within p (x ∷ (stage_at p m).branches) b → b ≤ s))) n.0
+            (acc.branches.merge s l.0 f l.2 (subst (λ m. (stage_at p m).merges ≡ Some f) (sym n.0) e));
         merged = acc.merged;
         unmerged = acc.unmerged;
       }
@@ -371,17 +333,7 @@ module _ (p : Pipe) (acc : Sound p) where
 
   arrives_at : (path : List ℕ) (s q : ℕ) → s < length p.stages → goes_to (stage_at p s).next path ≡ Some q
       → visits_stage p path s ≡ true → visits_stage p path q ≡ true
-  arrives_at path s q low e on = at (stage_at p q).branch refl
-    where
-      at : (o : Option Branch) → (stage_at p q).branch ≡ o → visits_stage p path q ≡ true
-      at None i = ap (comes_by p path) i
-      at (Some c) i = ap (comes_by p path) i ∙ from_s (into_of s q c (path, e, low) i)
-        where
-          from_s : (In p c s) ⊎ ((s ≡ c.fork) × Trunk p s) → goes_by p c path ≡ true
-          from_s (inl j) = sym (ap (comes_by p path) j) ∙ on
-          from_s (inr j) =
-              let k : next_of p c.fork path ≡ q = ap (λ r. next_of p r path) (sym j.0) ∙ (led s q path low e).0 in
-              acc.branches.side c path (subst (λ r. r < length p.stages) j.0 low) (subst (In p c) (sym k) i)
+  arrives_at path s q low e on = subst (λ m. visits_stage p path m ≡ true) (led s q path low e).0 (arrives p acc.branches s path low on)
 
   path_order : (path : List ℕ) (s : ℕ) → onpath path p.stmts ≡ onpath path (stages_before s p.stmts) ++ onpath path (stages_from s p.stmts)
   path_order path s =
@@ -428,6 +380,23 @@ module _ (p : Pipe) (acc : Sound p) where
       (λ s. both_of (λ y f e. λ m i. subst (λ r. (acc.fetch m ≡ r) × (m < length p.mems)) (sym e) (f m i))
       (in_stage s p.stmts) (fetch_ok_at s (in_stage s p.stmts) (acc.fetch_ok s)) (in_same s p.stmts))
 
+  apart_guess : (path : List ℕ) (s : ℕ)
+      → (none_of is_spec_call (onpath path (in_stage s p.stmts)) ≡ true) ⊎ (none_of is_check (onpath path (in_stage s p.stmts)) ≡ true)
+  apart_guess path s =
+      subst (λ l. (none_of is_spec_call l ≡ true) ⊎ (none_of is_check l ≡ true)) (stage_path path s p.stmts)
+      (apart_of (verify_stage (at_once p).stmts) s Unmade None (onpath path p.stmts)
+      (subst (λ l. makings_ok (verify_stage (at_once p).stmts) Unmade l ≡ true) (path_looked path p.stmts) (acc.pathwise.makings path))
+      (subst (λ l. checks_apart None l ≡ true) (path_looked path p.stmts) (acc.pathwise.apart path)))
+
+  apart_update : (path : List ℕ) (s : ℕ)
+      → (none_of is_update (onpath path (in_stage s p.stmts)) ≡ true) ⊎ (none_of is_verify (onpath path (in_stage s p.stmts)) ≡ true)
+  apart_update path s =
+      subst (λ l. (none_of is_update l ≡ true) ⊎ (none_of is_verify l ≡ true)) (stage_path path s p.stmts)
+      (update_or_verify (verify_stage (at_once p).stmts) s Unmade (onpath path p.stmts)
+      (subst (λ l. makings_ok (verify_stage (at_once p).stmts) Unmade l ≡ true) (path_looked path p.stmts) (acc.pathwise.makings path)))
+
+  -- the facts of the simulation
+
   -- a sound pipe has the facts that the simulation takes, in the form in which the rules give them
   pub flow_rules : FlowRules p
   flow_rules =
@@ -445,7 +414,7 @@ module _ (p : Pipe) (acc : Sound p) where
         on_stages = stages_on;
         arrives = arrives_at;
         guards_late = late_on;
-        forks_late = λ s x a b e. fork_each x s p.stmts (acc.fork_bound s x a b e) (acc.fork_seen s x a b e);
+        forks_late = λ path s x a b on e. fork_each x s p.stmts (acc.fork_bound s x a b e) (acc.fork_seen path s x a b on e);
         uses =
             λ path m. sym (uses_looked m Fresh (onpath path p.stmts))
             ∙ uses_of m Fresh (looked_all (onpath path p.stmts))
@@ -460,6 +429,11 @@ module _ (p : Pipe) (acc : Sound p) where
             λ path. sym (calls_looked false (onpath path p.stmts))
             ∙ ap (calls_ok false) (sym (path_looked path p.stmts))
             ∙ calls_of (verify_stage (at_once p).stmts) Unmade (onpath path (at_once p).stmts) (acc.pathwise.makings path);
+        advice = acc.advice;
+        guess_apart = apart_guess;
+        updates =
+            λ path. sym (once_looked false (onpath path p.stmts)) ∙ ap (once is_update false) (sym (path_looked path p.stmts)) ∙ acc.pathwise.updated path;
+        update_apart = apart_update;
         one_fetch = λ m. one_there m (acc.fetch m) p.stmts (all_map (λ y f e. sym (f m e).0) p.stmts fetched) (acc.fetch_alone (acc.fetch m));
         fetch_inside = acc.fetch_inside;
       }

@@ -1,25 +1,26 @@
 -- A cycle does the same whether the acts are listed by stages or by age: two threads whose order differs stand in two branches, where nothing depends on it.
-use Rattle.std.proofs.Common.{◌≡◌, refl, sym, ap, ap₂, ◌∙◌, subst, ℕ, suc, ◌≤◌, ◌<◌, ◌⊎◌, inl, inr, Bool, true, false, ◌&&◌, ◌||◌, List, [], ◌∷◌, ◌++◌, length, Option, Some, None, is_some, is_none, ◌==◌, nat_lt, cond, if◌then◌else◌, arith, ltb-false, le_refl}
-use Rattle.std.proofs.lemmas.Bool.{eqb-true, eqb-false}
+use Rattle.std.proofs.Common.{◌≡◌, refl, sym, ap, ap₂, ◌∙◌, subst, ℕ, suc, ◌≤◌, ◌<◌, ◌⊎◌, inl, inr, Bool, true, false, ◌&&◌, ◌||◌, List, [], ◌∷◌, ◌++◌, Option, Some, None, is_some, is_none, ◌==◌, nat_lt, cond, if◌then◌else◌, arith, ltb-false, le_refl, drop, take, ◌+◌, append-nil}
+use Rattle.std.proofs.lemmas.Bool.{eqb-true, eqb-false, ne_eqb}
 use Rattle.pdl_semantics.specs.Flat.{Arrays, Pipe, Branch, Mem}
-use Rattle.pdl_semantics.specs.Stages.{list_any, in_stage, stage_at, goes_to, is_branch_of}
+use Rattle.pdl_semantics.specs.Stages.{list_any, in_stage, stage_at, goes_to, is_inside}
 use Rattle.pdl_semantics.specs.Machine.{is_answered, Request, NoRequest, State, Pending, lock_of, fork_of, request_of, with_answers, word_for}
 use Rattle.pdl_semantics.specs.Moves.{movers, next_stage}
-use Rattle.pdl_semantics.specs.Cycle.{new_entries, with_reserves, with_writes_of, with_all_writes, has_release, child_of, squasher, asked_by, asked_of, asked_in, address_of, next_thread, coming_thread, or_then, entered_branches, goes_into, goes_out, for_mems, for_stages, taken_out, list_two, with_commit, with_commits}
-use Rattle.pdl_semantics.specs.Sound.{side_in, is_delayed_read}
+use Rattle.pdl_semantics.specs.Cycle.{new_entries, with_reserves, with_writes_of, with_all_writes, child_of, squasher, asked_by, asked_of, asked_in, address_of, next_thread, coming_thread, or_then, entered_branches, goes_into, goes_out, for_mems, for_stages, taken_out, list_two, with_commit, with_commits, releases_of, all_releases, squash_stage}
+use Rattle.pdl_semantics.specs.Sound.{is_delayed_read}
 use Rattle.pdl_semantics.specs.Cycle
 use Rattle.pdl_semantics.specs.Machine
 use Rattle.pdl_semantics.specs.Moves
+use Rattle.pdl_semantics.specs.Promises.{DifferInAdvice}
 use Rattle.pdl_theory_derived.specs.Derived.{Work, find_ask}
 use Rattle.pdl_theory_derived.specs.Derived
-use Rattle.pdl_theory_simulation.proofs.FlowFacts.{Flows, Leads}
-use Rattle.pdl_theory_simulation.proofs.Stretches.{Behind}
+use Rattle.pdl_theory_simulation.proofs.FlowFacts.{Home, Trunk, Flows}
+use Rattle.pdl_theory_simulation.proofs.Stretches.{Behind, left_trunk, less_home}
 use Rattle.pdl_theory_simulation.proofs.Seats.{Live, seat, find, Ordered, Falls, falls_each, dacts, lacts, lact, did, deeds_of, work_of_live}
-use Rattle.pdl_theory_simulation.proofs.Choices.{Known, AllKnown, one_stage, told_here}
+use Rattle.pdl_theory_simulation.proofs.Choices.{Known, AllKnown, one_stage, like_here}
 use Rattle.pdl_theory_simulation.proofs.ThreadFacts.{Pair, EachPair, pairs, place, sorted, pair_map, pair_both, sorted_each}
 use Rattle.pdl_theory_simulation.proofs.Orders.{acts_of}
 use Rattle.pdl_theory_simulation.proofs.LockLists.{next_live}
-use Rattle.pdl_theory_simulation.proofs.LiveThreads.{comes_is}
+use Rattle.pdl_theory_simulation.proofs.LiveThreads.{comes_none}
 use Rattle.pdl_theory_simulation.proofs.ThreadPlaces.{become_stay, become_move, enters_here, leads_of}
 use Rattle.pdl_theory_simulation.proofs.Requests.{asks_at, asks_are}
 use Rattle.pdl_word.specs.Each.{Each}
@@ -27,7 +28,7 @@ use Rattle.pdl_theory_simulation.proofs.ActSwaps.{or_swap, put_all_swap, asked_n
 
 -- WHAT ORDER DOESN'T MATTER
 
-module _ (p : Pipe) (flows : Flows p) (st : State) (d : Derived.State) (bits : List Bool) (arrays : st.arrays ≡ d.arrays) where
+module _ (p : Pipe) (flows : Flows p) (st : State) (d : Derived.State) (bits : List Bool) (arrays : DifferInAdvice p st.arrays d.arrays) where
   -- the stated act of a thread with these older ones, as the derived machine decides it
   abbrev pub act_of : Pair → Moves.Act
   act_of x = lact p st d bits x.older x.live
@@ -41,27 +42,33 @@ module _ (p : Pipe) (flows : Flows p) (st : State) (d : Derived.State) (bits : L
     pub low : y.live.thread.stage ≤ x.live.thread.stage
     pub apart : (q : ℕ) → (coming_thread p q (lact p st d bits x.older x.live) ≡ None) ⊎ (coming_thread p q (lact p st d bits y.older y.live) ≡ None)
 
-  in_branch : (s : ℕ) → ((stage_at p s).branch ≡ None → ⊥) → (b : Branch) × ((stage_at p s).branch ≡ Some b)
-  in_branch s n = at (stage_at p s).branch refl
+  in_branch : (s : ℕ) → (Trunk p s → ⊥) → (b : Branch) × (c : List Branch) × Home p (b ∷ c) s
+  in_branch s n = at (stage_at p s).branches refl
     where
-      at : (b : Option Branch) → (stage_at p s).branch ≡ b → (c : Branch) × ((stage_at p s).branch ≡ Some c)
-      at None e = absurd (n e)
-      at (Some x) e = (x, e)
+      at : (b : List Branch) → (stage_at p s).branches ≡ b → (b : Branch) × (c : List Branch) × Home p (b ∷ c) s
+      at [] e = absurd (n e)
+      at (x ∷ c) e = (x, c, e)
 
-  younger_branch : (x y : Pair) → Swap x y → (b : Branch) × ((stage_at p x.live.thread.stage).branch ≡ Some b)
+  younger_branch : (x y : Pair) → Swap x y → (b : Branch) × (c : List Branch) × Home p (b ∷ c) x.live.thread.stage
   younger_branch x y s =
       in_branch x.live.thread.stage
-      (λ e. let i : x.live.thread.stage < y.live.thread.stage = s.behind.trunk x.live.thread.stage e (le_refl _) in let j = s.low in absurd (omega arith))
+      (λ e. let i : x.live.thread.stage < y.live.thread.stage = left_trunk p _ _ s.behind x.live.thread.stage e (le_refl _) in let j = s.low in absurd
+      (omega arith))
 
-  older_branch : (x y : Pair) → Swap x y → (b : Branch) × ((stage_at p y.live.thread.stage).branch ≡ Some b)
+  older_branch : (x y : Pair) → Swap x y → (b : Branch) × (c : List Branch) × Home p (b ∷ c) y.live.thread.stage
   older_branch x y s =
       in_branch y.live.thread.stage
-      (λ e. let i : y.live.thread.stage < y.live.thread.stage = s.behind.trunk y.live.thread.stage e s.low in absurd (omega arith))
+      (λ e. let i : y.live.thread.stage < y.live.thread.stage = left_trunk p _ _ s.behind y.live.thread.stage e s.low in absurd (omega arith))
 
-  plain_here : (l : Live) (b : Branch) → (stage_at p l.thread.stage).branch ≡ Some b
+  -- they stand in two stages
+  two_stages : (x y : Pair) → Swap x y → x.live.thread.stage ≡ y.live.thread.stage → ⊥
+  two_stages x y s e = let i : x.live.thread.stage < y.live.thread.stage = less_home p _ _ s.behind (ap (λ n. (stage_at p n).branches) e) in omega arith
+
+  plain_here : (l : Live) (b : Branch) (c : List Branch) → Home p (b ∷ c) l.thread.stage
       → ((deeds_of p st bits l).reserves ≡ []) × ((deeds_of p st bits l).child ≡ None) × ((deeds_of p st bits l).fails ≡ false)
-  plain_here l b e = plain_all (word_for st l.number) (in_stage l.thread.stage p.stmts) (record {
+  plain_here l b c e = plain_all (word_for st l.number) (in_stage l.thread.stage p.stmts) (record {
     env = Machine.with_kept (with_answers p st bits (seat l)).kept l.env;
+    advice = l.advice;
     guess = l.thread.guess;
     held = Machine.held_before l.thread.stage l.env p.stmts [];
     blocks = [];
@@ -69,10 +76,11 @@ module _ (p : Pipe) (flows : Flows p) (st : State) (d : Derived.State) (bits : L
     writes = [];
     releases = [];
     asks = [];
+    advises = [];
     barrier = false;
     child = None;
     fails = false;
-  }) (flows.branches l.thread.stage b e)
+  }) (flows.branches b c l.thread.stage e)
 
   -- a step over the acts gives the same in either order of two threads that may change places
   abbrev pub Commutes : (Z : Type 0) → (Moves.Act → Z → Z) → Type 0
@@ -140,16 +148,16 @@ module _ (p : Pipe) (flows : Flows p) (st : State) (d : Derived.State) (bits : L
 
   -- THE STEPS OF A CYCLE
 
-  none_new : (m n : ℕ) (l : Live) (b : Branch) → (stage_at p l.thread.stage).branch ≡ Some b → new_entries m n (deeds_of p st bits l).reserves ≡ []
-  none_new m n l b e = ap (new_entries m n) (plain_here l b e).0
+  none_new : (m n : ℕ) (l : Live) (b : Branch) (c : List Branch) → Home p (b ∷ c) l.thread.stage → new_entries m n (deeds_of p st bits l).reserves ≡ []
+  none_new m n l b c e = ap (new_entries m n) (plain_here l b c e).0
 
   same_appended : (m : ℕ) (list : List Pending) (ls : List Live) → Swaps ls
       → with_reserves m (movers (acts_of p flows st d bits arrays (sorted ls))) list ≡ with_reserves m (movers (lacts p st d bits ls)) list
   same_appended m list = same_movers (List Pending) (λ ms. with_reserves m ms list) (λ a z. z ++ new_entries m a.thread.number a.does.reserves) (λ a rest. refl)
       (λ x y s z.
       let bx = younger_branch x y s in let by = older_branch x y s in
-      ap₂ (λ a b. (z ++ a) ++ b) (none_new m x.live.number x.live bx.0 bx.1) (none_new m y.live.number y.live by.0 by.1)
-      ∙ sym (ap₂ (λ a b. (z ++ b) ++ a) (none_new m x.live.number x.live bx.0 bx.1) (none_new m y.live.number y.live by.0 by.1)))
+      ap₂ (λ a b. (z ++ a) ++ b) (none_new m x.live.number x.live bx.0 bx.1 bx.2) (none_new m y.live.number y.live by.0 by.1 by.2)
+      ∙ sym (ap₂ (λ a b. (z ++ b) ++ a) (none_new m x.live.number x.live bx.0 bx.1 bx.2) (none_new m y.live.number y.live by.0 by.1 by.2)))
 
   same_filled : (m : ℕ) (list : List Pending) (ls : List Live) → Swaps ls
       → with_all_writes m (movers (acts_of p flows st d bits arrays (sorted ls))) list ≡ with_all_writes m (movers (lacts p st d bits ls)) list
@@ -172,18 +180,30 @@ module _ (p : Pipe) (flows : Flows p) (st : State) (d : Derived.State) (bits : L
   same_child = same_movers (Option (List ℕ)) child_of (λ a z. if is_some a.does.child then a.does.child else z) (λ a rest. refl)
       (λ x y s z.
       let bx = younger_branch x y s in let by = older_branch x y s in
-      ap₂ (λ a b. if is_some b then b else (if is_some a then a else z)) (plain_here x.live bx.0 bx.1).1 (plain_here y.live by.0 by.1).1
-      ∙ sym (ap₂ (λ a b. if is_some a then a else (if is_some b then b else z)) (plain_here x.live bx.0 bx.1).1 (plain_here y.live by.0 by.1).1))
+      ap₂ (λ a b. if is_some b then b else (if is_some a then a else z)) (plain_here x.live bx.0 bx.1 bx.2).1 (plain_here y.live by.0 by.1 by.2).1
+      ∙ sym (ap₂ (λ a b. if is_some a then a else (if is_some b then b else z)) (plain_here x.live bx.0 bx.1 bx.2).1 (plain_here y.live by.0 by.1 by.2).1))
 
   -- the thread that squashes is the same by stages and by age
   pub same_squasher : (ls : List Live) → Swaps ls → squasher (movers (acts_of p flows st d bits arrays (sorted ls))) ≡ squasher (movers (lacts p st d bits ls))
   same_squasher = same_movers (Option ℕ) squasher (λ a z. if a.does.fails then Some a.thread.number else z) (λ a rest. refl)
       (λ x y s z.
       let bx = younger_branch x y s in let by = older_branch x y s in
-      ap₂ (λ a b. if b then Some y.live.number else (if a then Some x.live.number else z)) (plain_here x.live bx.0 bx.1).2 (plain_here y.live by.0 by.1).2
+      ap₂ (λ a b. if b then Some y.live.number else (if a then Some x.live.number else z)) (plain_here x.live bx.0 bx.1 bx.2).2
+      (plain_here y.live by.0 by.1 by.2).2
       ∙ sym
       (ap₂ (λ a b. if a then Some x.live.number else (if b then Some y.live.number else z))
-      (plain_here x.live bx.0 bx.1).2 (plain_here y.live by.0 by.1).2))
+      (plain_here x.live bx.0 bx.1 bx.2).2 (plain_here y.live by.0 by.1 by.2).2))
+
+  same_squash_stage : (ls : List Live)
+      → Swaps ls → squash_stage (movers (acts_of p flows st d bits arrays (sorted ls))) ≡ squash_stage (movers (lacts p st d bits ls))
+  same_squash_stage = same_movers (Option ℕ) squash_stage (λ a z. if a.does.fails then Some a.stage else z) (λ a rest. refl)
+      (λ x y s z.
+      let bx = younger_branch x y s in let by = older_branch x y s in
+      ap₂ (λ a b. if b then Some y.live.thread.stage else (if a then Some x.live.thread.stage else z)) (plain_here x.live bx.0 bx.1 bx.2).2
+      (plain_here y.live by.0 by.1 by.2).2
+      ∙ sym
+      (ap₂ (λ a b. if a then Some x.live.thread.stage else (if b then Some y.live.thread.stage else z)) (plain_here x.live bx.0 bx.1 bx.2).2
+      (plain_here y.live by.0 by.1 by.2).2))
 
   -- at most one of two asks for m
   one_asks : (m : ℕ) (x y : Pair) → Swap x y → (find_ask (deeds_of p st bits x.live).asks m ≡ None) ⊎ (find_ask (deeds_of p st bits y.live).asks m ≡ None)
@@ -206,7 +226,7 @@ module _ (p : Pipe) (flows : Flows p) (st : State) (d : Derived.State) (bits : L
           ≡ y.live.thread.stage = one_stage (is_delayed_read m) p.stmts x.live.thread.stage y.live.thread.stage (flows.one_fetch m)
           (asks_at p flows st d bits arrays x.older x.live s.known_x m a (ap (λ q. find_ask q m) (sym works_x) ∙ e))
           (asks_at p flows st d bits arrays y.older y.live s.known_y m b (ap (λ q. find_ask q m) (sym works_y) ∙ f)) in
-          let less : x.live.thread.stage < y.live.thread.stage = s.behind.branch (ap (λ n. (stage_at p n).branch) same) in omega arith)
+          let less : x.live.thread.stage < y.live.thread.stage = less_home p _ _ s.behind (ap (λ n. (stage_at p n).branches) same) in omega arith)
 
   -- the request of m after a cycle's new ones is the same by stages and by age
   pub same_asked : (m : ℕ) (old : Request) (ls : List Live) → Swaps ls
@@ -244,45 +264,31 @@ module _ (p : Pipe) (flows : Flows p) (st : State) (d : Derived.State) (bits : L
       turn (inl a) = inr a
       turn (inr b) = inl b
 
-  -- nobody enters a fork from one of its branches
-  not_entering : (f : ℕ) (l : Live) (b : Branch) → (stage_at p l.thread.stage).branch ≡ Some b
-      → l.thread.stage < length p.stages
-      → (if l.thread.stage == f then goes_into p f (next_stage p l.thread.stage (deeds_of p st bits l)) else []) ≡ []
-  not_entering f l b e low = at (l.thread.stage == f) refl (next_stage p l.thread.stage (deeds_of p st bits l)) refl
-    where
-      into : (q : ℕ) (c : Branch) → Leads p l.thread.stage q → (stage_at p q).branch ≡ Some c → c.fork ≡ l.thread.stage → ⊥
-      into q c leads i j = by (flows.graph.into l.thread.stage q c leads i)
-        where
-          by : ((stage_at p l.thread.stage).branch ≡ Some c) ⊎ ((l.thread.stage ≡ c.fork) × ((stage_at p l.thread.stage).branch ≡ None)) → ⊥
-          by (inl k) = let below : c.fork < l.thread.stage = (flows.graph.fork_below l.thread.stage c k).0 in absurd (omega arith)
-          by (inr k) = cc (sym e ∙ k.1)
+  -- at most one of two enters a fork
+  abbrev entry_of : ℕ → Pair
+      → List Bool
+  entry_of f x = if x.live.thread.stage == f then goes_into p f (next_stage p x.live.thread.stage (deeds_of p st bits x.live)) else []
 
-      side : (q : ℕ) (c : Option Branch) → Leads p l.thread.stage q → (stage_at p q).branch ≡ c → l.thread.stage ≡ f → goes_into p f (Some q) ≡ []
-      side q None leads i j = ap (side_in f) i
-      side q (Some c) leads i j = ap (side_in f) i ∙ by (c.fork == f) refl
-        where
-          by : (t : Bool) → (c.fork == f) ≡ t → cond t (c.first ∷ []) [] ≡ []
-          by true k = absurd (into q c leads i (eqb-true _ _ k ∙ sym j))
-          by false k = refl
+  no_entry : (f : ℕ) (x : Pair) → (x.live.thread.stage == f) ≡ false → entry_of f x ≡ []
+  no_entry f x e = ap (λ t. if t then goes_into p f (next_stage p x.live.thread.stage (deeds_of p st bits x.live)) else []) e
 
-      at : (t : Bool) → (l.thread.stage == f) ≡ t → (r : Option ℕ)
-          → next_stage p l.thread.stage (deeds_of p st bits l) ≡ r → (if t then goes_into p f r else []) ≡ []
-      at false i r j = refl
-      at true i None j = refl
-      at true i (Some q) j = side q (stage_at p q).branch ((deeds_of p st bits l).env, j, low) refl (eqb-true _ _ i)
+  one_enters : (f : ℕ) (x y : Pair)
+      → Swap x y → (z : List Bool) → (t : Bool) → (x.live.thread.stage == f) ≡ t
+      → (z ++ entry_of f x) ++ entry_of f y ≡ (z ++ entry_of f y) ++ entry_of f x
+  one_enters f x y s z true e =
+      let none = no_entry f y (ne_eqb y.live.thread.stage f (λ i. absurd (two_stages x y s (eqb-true _ _ e ∙ sym i)))) in
+      ap (λ u. (z ++ entry_of f x) ++ u) none ∙ append-nil _ ∙ sym (ap (λ u. (z ++ u) ++ entry_of f x) none ∙ ap (λ u. u ++ entry_of f x) (append-nil z))
+  one_enters f x y s z false e =
+      ap (λ u. (z ++ u) ++ entry_of f y) (no_entry f x e) ∙ ap (λ u. u ++ entry_of f y) (append-nil z)
+      ∙ sym (ap (λ u. (z ++ entry_of f y) ++ u) (no_entry f x e) ∙ append-nil _)
 
   -- the branches into which threads go from a fork are the same by stages and by age
   pub same_entered : (f : ℕ) (ls : List Live) → Swaps ls
       → entered_branches p f (movers (acts_of p flows st d bits arrays (sorted ls))) ≡ entered_branches p f (movers (lacts p st d bits ls))
   same_entered f =
       same_movers (List Bool) (entered_branches p f) (λ a z. z ++ (if a.stage == f then goes_into p f (next_stage p a.stage a.does) else [])) (λ a rest. refl)
-      (λ x y s z.
-      let bx = younger_branch x y s in let by = older_branch x y s in
-      ap₂ (λ a b. (z ++ a) ++ b) (not_entering f x.live bx.0 bx.1 s.known_x.seated.keeps_on.inside)
-      (not_entering f y.live by.0 by.1 s.known_y.seated.keeps_on.inside)
-      ∙ sym
-      (ap₂ (λ a b. (z ++ b) ++ a) (not_entering f x.live bx.0 bx.1 s.known_x.seated.keeps_on.inside)
-      (not_entering f y.live by.0 by.1 s.known_y.seated.keeps_on.inside)))
+      (λ x y s z. one_enters f x y s z (x.live.thread.stage == f)
+      refl)
 
   -- the list of a lock after steps 1 and 2 is the same by stages and by age
   same_two : (m : ℕ) (ls : List Live) → Swaps ls
@@ -291,18 +297,23 @@ module _ (p : Pipe) (flows : Flows p) (st : State) (d : Derived.State) (bits : L
       same_filled m (with_reserves m (movers (acts_of p flows st d bits arrays (sorted ls))) (lock_of st m)) ls s
       ∙ ap (with_all_writes m (movers (lacts p st d bits ls))) (same_appended m (lock_of st m) ls s)
 
-  same_releases : (m : ℕ) (ls : List Live) → Swaps ls
-      → has_release m (movers (acts_of p flows st d bits arrays (sorted ls))) ≡ has_release m (movers (lacts p st d bits ls))
-  same_releases m = same_any (λ a. list_any (λ n. n == m) a.does.releases)
+  -- how many writes of a memory are released hangs on no order of the acts
+  pub same_releases : (m : ℕ) (ls : List Live) → Swaps ls
+      → all_releases m (movers (acts_of p flows st d bits arrays (sorted ls))) ≡ all_releases m (movers (lacts p st d bits ls))
+  same_releases m = same_movers ℕ (all_releases m) (λ a z. z + releases_of m a.does.releases) (λ a rest. refl)
+      (λ x y s z. swapped z (releases_of m (deeds_of p st bits x.live).releases) (releases_of m (deeds_of p st bits y.live).releases))
+    where
+      swapped : (a b c : ℕ) → (a + b) + c ≡ (a + c) + b
+      swapped a b c = omega arith
 
   -- the entry that is taken out of a lock is the same by stages and by age
   pub same_taken : (m : ℕ) (ls : List Live) → Swaps ls
       → taken_out st (movers (acts_of p flows st d bits arrays (sorted ls))) m ≡ taken_out st (movers (lacts p st d bits ls)) m
-  same_taken m ls s = ap₂ (λ b l. if b then Cycle.oldest l else None) (same_releases m ls s) (same_two m ls s)
+  same_taken m ls s = ap₂ take (same_releases m ls s) (same_two m ls s)
 
   same_three : (m : ℕ) (ls : List Live) → Swaps ls
       → Cycle.list_three st (movers (acts_of p flows st d bits arrays (sorted ls))) m ≡ Cycle.list_three st (movers (lacts p st d bits ls)) m
-  same_three m ls s = ap₂ (λ b l. if b then Cycle.but_oldest l else l) (same_releases m ls s) (same_two m ls s)
+  same_three m ls s = ap₂ drop (same_releases m ls s) (same_two m ls s)
 
   same_commits : (ms ns : List Moves.Act) → ((m : ℕ) → taken_out st ms m ≡ taken_out st ns m)
       → (k : ℕ) (xs : List Mem) (arrays : Arrays) → with_commits st ms k xs arrays ≡ with_commits st ns k xs arrays
@@ -313,20 +324,28 @@ module _ (p : Pipe) (flows : Flows p) (st : State) (d : Derived.State) (bits : L
   -- THE CYCLE
 
   -- the state after a cycle is the same with the acts by stages and by age
-  pub same_after : (ls : List Live) → Swaps ls
-      → Cycle.after_acts p st bits (acts_of p flows st d bits arrays (sorted ls))
-      ≡ Cycle.after_these p st bits (lacts p st d bits ls) (movers (lacts p st d bits ls)) (squasher (movers (lacts p st d bits ls)))
-  same_after ls s = λ i. record {
+  pub same_arrays : (ls : List Live) → Swaps ls
+      → (words : Arrays)
+      → with_commits st (movers (acts_of p flows st d bits arrays (sorted ls))) 0 p.mems words ≡ with_commits st (movers (lacts p st d bits ls)) 0 p.mems words
+  same_arrays ls s words =
+      same_commits (movers (acts_of p flows st d bits arrays (sorted ls))) (movers (lacts p st d bits ls)) (λ m. same_taken m ls s) 0 p.mems words
+
+  -- but for the arrays, where advisory writes come in the order of stages
+  pub same_after : (words : Arrays) (ls : List Live) → Swaps ls
+      → record (Cycle.after_acts p st bits (acts_of p flows st d bits arrays (sorted ls))) { arrays = words }
+      ≡ record
+      (Cycle.after_these p st bits (lacts p st d bits ls) (movers (lacts p st d bits ls)) (squasher (movers (lacts p st d bits ls)))) { arrays = words }
+  same_after words ls s = λ i. record {
     stages =
         for_stages
         (λ q. Cycle.or_then (if q == 0 then Cycle.born_thread p st.next (same_child ls s i) else None)
         (Cycle.if_kept (same_squasher ls s i) (same_stands q ls s i))) 0 p.stages;
-    arrays = same_commits (movers (acts_of p flows st d bits arrays (sorted ls))) (movers (lacts p st d bits ls)) (λ m. same_taken m ls s) 0 p.mems st.arrays i;
+    arrays = words;
     locks = for_mems (λ m. Cycle.entries_left (same_squasher ls s i) (same_three m ls s i)) 0 p.mems;
     forks =
         for_stages
-        (λ f. Cycle.branches_left p (same_squasher ls s i) f
-        ((if same_any (λ a. is_branch_of (stage_at p a.stage).branch f && goes_out p f (next_stage p a.stage a.does)) ls s i
+        (λ f. Cycle.branches_left p (same_squash_stage ls s i) f
+        ((if same_any (λ a. is_inside p f a.stage && goes_out p f (next_stage p a.stage a.does)) ls s i
         then Cycle.but_first (fork_of st f) else fork_of st f)
         ++ same_entered f ls s i)) 0 p.stages;
     requests =
@@ -340,7 +359,7 @@ module _ (p : Pipe) (flows : Flows p) (st : State) (d : Derived.State) (bits : L
   same_ports ls s = λ i. record {
     valid = for_stages (λ q. same_any_all (λ a. a.stage == q) ls s i) 0 p.stages;
     moves = for_stages (λ q. same_any (λ a. a.stage == q) ls s i) 0 p.stages;
-    commits = for_mems (λ m. Cycle.port_write (same_taken m ls s i)) 0 p.mems;
+    commits = for_mems (λ m. Cycle.port_writes (same_taken m ls s i)) 0 p.mems;
     requests = for_mems (λ m. same_shown m ls s i) 0 p.mems;
     ended = same_any (λ a. is_none (next_stage p a.stage a.does)) ls s i;
     squash = is_some (same_squasher ls s i);
@@ -356,7 +375,7 @@ module _ (p : Pipe) (flows : Flows p) (st : State) (d : Derived.State) (bits : L
       at true i r =
           absurd
           (let same : s ≡ x.thread.stage = e ∙ sym (eqb-true _ _ i) in
-          let less : s < x.thread.stage = h.0.branch (ap (λ n. (stage_at p n).branch) same) in omega arith)
+          let less : s < x.thread.stage = less_home p _ _ h.0 (ap (λ n. (stage_at p n).branches) same) in omega arith)
       at false i r = r
 
   -- two threads come to two stages
@@ -379,7 +398,7 @@ module _ (p : Pipe) (flows : Flows p) (st : State) (d : Derived.State) (bits : L
               → Known p flows st d bits arrays y.older y.live → (q : ℕ) (c : Bool) → (q == s) ≡ c
               → (coming_thread p q (lact p st d bits ls l) ≡ None) ⊎ (coming_thread p q (lact p st d bits y.older y.live) ≡ None)
           by y f k q true e =
-              inr (comes_is p flows st d bits arrays y.older y.live q k ∙ find_none s q (next_live p st d bits y.older y.live) f (sym (eqb-true _ _ e)))
+              inr (comes_none p flows st d bits arrays y.older y.live q k (find_none s q (next_live p st d bits y.older y.live) f (sym (eqb-true _ _ e))))
           by y f k q false e = inl (none q (eqb-false _ _ e))
 
       stays_none : (did p d bits ls l).moves ≡ false → (q : ℕ) → (q ≡ l.thread.stage → ⊥) → coming_thread p q (lact p st d bits ls l) ≡ None
@@ -412,14 +431,14 @@ module _ (p : Pipe) (flows : Flows p) (st : State) (d : Derived.State) (bits : L
       out e None i = pair_map (λ y f q. inl (moves_none e None (same_next ∙ i) q refl)) (pairs ls) (known_pairs ls ks)
         where
           same_next : next_stage p l.thread.stage (deeds_of p st bits l) ≡ goes_to (stage_at p l.thread.stage).next (work_of_live p d bits ls l).env
-          same_next = ap (λ (w : Work). goes_to (stage_at p l.thread.stage).next w.env) (sym (told_here p flows st d bits arrays ls l k).is)
+          same_next = ap (λ (w : Work). goes_to (stage_at p l.thread.stage).next w.env) (sym (like_here p flows st d bits arrays ls l k).is)
       out e (Some s) i =
           target s (λ q n. moves_none e (Some s) (same_next ∙ i) q (off q n))
           (become_move p flows st d bits arrays l.thread.stage s (leads_of p flows st d bits arrays ls l k s i) ls ks b
           (subst (λ r. Derived.can_enter p (dacts p d bits ls) r ≡ true) i (enters_here p flows st d bits arrays ls l e)))
         where
           same_next : next_stage p l.thread.stage (deeds_of p st bits l) ≡ goes_to (stage_at p l.thread.stage).next (work_of_live p d bits ls l).env
-          same_next = ap (λ (w : Work). goes_to (stage_at p l.thread.stage).next w.env) (sym (told_here p flows st d bits arrays ls l k).is)
+          same_next = ap (λ (w : Work). goes_to (stage_at p l.thread.stage).next w.env) (sym (like_here p flows st d bits arrays ls l k).is)
 
           off : (q : ℕ) → (q ≡ s → ⊥) → (s == q) ≡ false
           off q n = by (s == q) refl

@@ -1,5 +1,5 @@
 -- What of two threads' acts can change places: their writes, what they ask for, and the thread that they make.
-use Rattle.std.proofs.Common.{◌≡◌, refl, sym, ap, ap₂, ◌∙◌, ℕ, ◌⊎◌, inl, inr, Bool, true, false, ◌||◌, not, List, [], ◌∷◌, Option, Some, None, ◌==◌, cond, if◌then◌else◌}
+use Rattle.std.proofs.Common.{◌≡◌, refl, sym, ap, ap₂, ◌∙◌, ℕ, ◌⊎◌, inl, inr, Bool, true, false, ◌||◌, not, List, [], ◌∷◌, Option, Some, None, ◌==◌, cond, if◌then◌else◌, ◌&&◌}
 use Rattle.std.proofs.lemmas.Bool.{eqb-true}
 use Rattle.pdl_semantics.specs.Flat.{Op, ReserveWrite, Call, SpecCall, Verify, Stmt, all_hold}
 use Rattle.pdl_semantics.specs.Machine.{Ask, Request, Pending, Deeds, deeds_after_all}
@@ -17,61 +17,49 @@ or_swap true false c = refl
 or_swap false true c = refl
 or_swap false false c = refl
 
--- writes into the entries of two threads change places
-put_swap : (n v k w : ℕ) (xs : List Pending)
-    → (n ≡ k → ⊥) → with_value_of n v (with_value_of k w xs) ≡ with_value_of k w (with_value_of n v xs)
-put_swap n v k w [] h = refl
-put_swap n v k w (e ∷ es) h = ap₂ (λ a l. a ∷ l) (at (e.thread == n) refl (e.thread == k) refl) (put_swap n v k w es h)
-  where
-    at : (b : Bool) → (e.thread == n) ≡ b → (c : Bool) → (e.thread == k) ≡ c
-        → (if (if e.thread == k then record e { value = Some w } else e).thread == n
-        then record (if e.thread == k then record e { value = Some w } else e) { value = Some v }
-        else (if e.thread == k then record e { value = Some w } else e))
-        ≡ (if (if e.thread == n then record e { value = Some v } else e).thread == k
-        then record (if e.thread == n then record e { value = Some v } else e) { value = Some w }
-        else (if e.thread == n then record e { value = Some v } else e))
-    at true i true j = absurd (h (sym (eqb-true _ _ i) ∙ eqb-true _ _ j))
-    at true i false j =
-        (λ u. if (cond (j u) (record e { value = Some w }) e).thread == n
-        then record (cond (j u) (record e { value = Some w }) e) { value = Some v }
-        else (cond (j u) (record e { value = Some w }) e))
-        ∙ ap (λ b. cond b (record e { value = Some v }) e) i
-        ∙ sym
-        ((λ u. if (cond (i u) (record e { value = Some v }) e).thread == k
-        then record (cond (i u) (record e { value = Some v }) e) { value = Some w }
-        else (cond (i u) (record e { value = Some v }) e))
-        ∙ ap (λ b. cond b (record e { value = Some w }) (record e { value = Some v })) j)
-    at false i true j =
-        (λ u. if (cond (j u) (record e { value = Some w }) e).thread == n
-        then record (cond (j u) (record e { value = Some w }) e) { value = Some v }
-        else (cond (j u) (record e { value = Some w }) e))
-        ∙ ap (λ b. cond b (record e { value = Some v }) (record e { value = Some w })) i
-        ∙ sym
-        ((λ u. if (cond (i u) (record e { value = Some v }) e).thread == k
-        then record (cond (i u) (record e { value = Some v }) e) { value = Some w }
-        else (cond (i u) (record e { value = Some v }) e))
-        ∙ ap (λ b. cond b (record e { value = Some w }) e) j)
-    at false i false j =
-        (λ u. if (cond (j u) (record e { value = Some w }) e).thread == n
-        then record (cond (j u) (record e { value = Some w }) e) { value = Some v }
-        else (cond (j u) (record e { value = Some w }) e))
-        ∙ ap (λ b. cond b (record e { value = Some v }) e) i
-        ∙ sym
-        ((λ u. if (cond (i u) (record e { value = Some v }) e).thread == k
-        then record (cond (i u) (record e { value = Some v }) e) { value = Some w }
-        else (cond (i u) (record e { value = Some v }) e))
-        ∙ ap (λ b. cond b (record e { value = Some w }) e) j)
+-- an entry, with this value where it is of this thread and variable
+abbrev put_one : ℕ → ℕ → ℕ → Pending → Pending
+put_one n y v e = if (e.thread == n) && (e.var == y) then record e { value = Some v } else e
 
-put_all_put : (m n k w : ℕ) (ws : List Machine.Written) (xs : List Pending)
-    → (n ≡ k → ⊥) → with_writes_of m n ws (with_value_of k w xs) ≡ with_value_of k w (with_writes_of m n ws xs)
-put_all_put m n k w [] xs h = refl
-put_all_put m n k w (x ∷ ws) xs h = at (x.mem == m) (λ ys. put_all_put m n k w ws ys h)
+-- writes into the entries of two threads change places
+put_swap : (n y v k z w : ℕ) (xs : List Pending)
+    → (n ≡ k → ⊥) → with_value_of n y v (with_value_of k z w xs) ≡ with_value_of k z w (with_value_of n y v xs)
+put_swap n y v k z w [] h = refl
+put_swap n y v k z w (e ∷ es) h =
+    ap₂ (λ a l. a ∷ l) (at ((e.thread == n) && (e.var == y)) refl ((e.thread == k) && (e.var == z)) refl) (put_swap n y v k z w es h)
+  where
+    first : ((e.thread == n) && (e.var == y)) ≡ false → put_one n y v e ≡ e
+    first i = ap (λ b. cond b (record e { value = Some v }) e) i
+
+    second : ((e.thread == k) && (e.var == z)) ≡ false → put_one k z w e ≡ e
+    second j = ap (λ b. cond b (record e { value = Some w }) e) j
+
+    at : (b : Bool) → ((e.thread == n) && (e.var == y)) ≡ b → (c : Bool) → ((e.thread == k) && (e.var == z)) ≡ c
+        → put_one n y v (put_one k z w e) ≡ put_one k z w (put_one n y v e)
+    at true i true j = absurd (h (sym (eqb-true e.thread n (and_left _ _ i)) ∙ eqb-true e.thread k (and_left _ _ j)))
+    at b i false j = ap (put_one n y v) (second j) ∙ put_after b i
+      where
+        put_after : (b : Bool) → ((e.thread == n) && (e.var == y)) ≡ b → put_one n y v e ≡ put_one k z w (put_one n y v e)
+        put_after true l =
+            ap (λ b. cond b (record e { value = Some v }) e) l
+            ∙ sym (ap (put_one k z w) (ap (λ b. cond b (record e { value = Some v }) e) l)
+            ∙ ap (λ b. cond b (record e { value = Some w }) (record e { value = Some v })) j)
+        put_after false l = first l ∙ sym (ap (put_one k z w) (first l) ∙ second j)
+    at false i true j =
+        ap (put_one n y v) (ap (λ b. cond b (record e { value = Some w }) e) j)
+        ∙ ap (λ b. cond b (record e { value = Some v }) (record e { value = Some w })) i
+        ∙ sym (ap (put_one k z w) (first i) ∙ ap (λ b. cond b (record e { value = Some w }) e) j)
+
+put_all_put : (m n k z w : ℕ) (ws : List Machine.Written) (xs : List Pending)
+    → (n ≡ k → ⊥) → with_writes_of m n ws (with_value_of k z w xs) ≡ with_value_of k z w (with_writes_of m n ws xs)
+put_all_put m n k z w [] xs h = refl
+put_all_put m n k z w (x ∷ ws) xs h = at (x.mem == m) (λ ys. put_all_put m n k z w ws ys h)
   where
     at : (b : Bool)
-        → ((ys : List Pending) → with_writes_of m n ws (with_value_of k w ys) ≡ with_value_of k w (with_writes_of m n ws ys))
-        → with_writes_of m n ws (cond b (with_value_of n x.value (with_value_of k w xs)) (with_value_of k w xs))
-        ≡ with_value_of k w (with_writes_of m n ws (cond b (with_value_of n x.value xs) xs))
-    at true f = ap (with_writes_of m n ws) (put_swap n x.value k w xs h) ∙ f (with_value_of n x.value xs)
+        → ((ys : List Pending) → with_writes_of m n ws (with_value_of k z w ys) ≡ with_value_of k z w (with_writes_of m n ws ys))
+        → with_writes_of m n ws (cond b (with_value_of n x.var x.value (with_value_of k z w xs)) (with_value_of k z w xs))
+        ≡ with_value_of k z w (with_writes_of m n ws (cond b (with_value_of n x.var x.value xs) xs))
+    at true f = ap (with_writes_of m n ws) (put_swap n x.var x.value k z w xs h) ∙ f (with_value_of n x.var x.value xs)
     at false f = f xs
 
 -- the writes of two threads into pending writes change places
@@ -82,9 +70,9 @@ put_all_swap m n k ws (v ∷ vs) xs h = at (v.mem == m) (λ ys. put_all_swap m n
   where
     at : (b : Bool)
         → ((ys : List Pending) → with_writes_of m n ws (with_writes_of m k vs ys) ≡ with_writes_of m k vs (with_writes_of m n ws ys))
-        → with_writes_of m n ws (with_writes_of m k vs (cond b (with_value_of k v.value xs) xs))
-        ≡ with_writes_of m k vs (cond b (with_value_of k v.value (with_writes_of m n ws xs)) (with_writes_of m n ws xs))
-    at true f = f (with_value_of k v.value xs) ∙ ap (with_writes_of m k vs) (put_all_put m n k v.value ws xs h)
+        → with_writes_of m n ws (with_writes_of m k vs (cond b (with_value_of k v.var v.value xs) xs))
+        ≡ with_writes_of m k vs (cond b (with_value_of k v.var v.value (with_writes_of m n ws xs)) (with_writes_of m n ws xs))
+    at true f = f (with_value_of k v.var v.value xs) ∙ ap (with_writes_of m k vs) (put_all_put m n k v.var v.value ws xs h)
     at false f = f xs
 
 -- a thread that asks nothing of m leaves its request as it was
@@ -128,7 +116,7 @@ plain_op : (read : ℕ → ℕ → ℕ) (op : Op) (d : Deeds)
 plain_op read (ReserveWrite m a) d h = absurd (cc h)
 plain_op read (Call args) d h = absurd (cc h)
 plain_op read (SpecCall args) d h = absurd (cc h)
-plain_op read (Verify args) d h = absurd (cc h)
+plain_op read (Verify last args) d h = absurd (cc h)
 plain_op read _ d h = (refl, refl, refl)
 
 -- statements that may stand in a branch reserve nothing for writing, make no thread and fail no verify

@@ -12,16 +12,17 @@ use Rattle.pdl_semantics.specs.Promises
 use Rattle.pdl_theory_derived.specs.Alone.{oldest_moves}
 use Rattle.pdl_theory_derived.specs.Alone
 use Rattle.pdl_theory_derived.specs.Derived
-use Rattle.pdl_theory_derived.specs.Simulation.{SameTurns}
+use Rattle.pdl_theory_derived.specs.Simulation.{SameTurns, hints_of}
 use Rattle.pdl_theory_simulation.proofs.FlowFacts.{Flows}
 use Rattle.pdl_theory_derived.proofs.Writes.{of_mem_append, row_committed}
 use Rattle.pdl_theory_derived.proofs.Slots.{rev}
 use Rattle.pdl_theory_simulation.proofs.Seats.{Live, Falls, dacts, lacts, lact}
 use Rattle.pdl_theory_simulation.proofs.ThreadFacts.{sorted}
-use Rattle.pdl_theory_simulation.proofs.Orders.{acts_of}
-use Rattle.pdl_theory_simulation.proofs.ActOrder.{swaps_all, same_fold}
-use Rattle.pdl_theory_simulation.proofs.WholeSimulation.{known, acts_are, derived_acts_are, turn_same}
-use Rattle.pdl_theory_simulation.proofs.SimulatedRuns.{first_live, first_sim, runs_same}
+use Rattle.pdl_theory_simulation.proofs.Orders.{acts_of, AllForetold}
+use Rattle.pdl_theory_simulation.proofs.ActOrder.{same_fold}
+use Rattle.pdl_theory_simulation.proofs.CycleStarts.{swaps}
+use Rattle.pdl_theory_simulation.proofs.WholeSimulation.{acts_are, derived_acts_are, turn_same}
+use Rattle.pdl_theory_simulation.proofs.Foretold.{foretold_here, run_same}
 use Rattle.pdl_theory_simulation.proofs.SimulatedStates.{Sim}
 
 -- WHAT THE TURNS TELL
@@ -89,7 +90,7 @@ module _ (p : Pipe) (flows : Flows p) where
         same_fold p flows st d bits sim.arrays (Option Moves.Act) oldest_act (λ a z. Some (older_of a z))
         (λ a rest. refl)
         (λ x y s z. ap Some (older_swap (lact p st d bits x.older x.live) (lact p st d bits y.older y.live) z s.numbers)) ls
-        (swaps_all p flows st d bits sim.arrays st.next ls (known p flows st d bits ls sim) sim.ordered sim.falls)
+        (swaps p flows st d bits ls sim)
 
     oldest_more : (xs : List Derived.Act) (y z : Derived.Act) → oldest_moves ((xs ++ y ∷ []) ++ z ∷ []) ≡ oldest_moves (xs ++ y ∷ [])
     oldest_more [] y z = refl
@@ -114,52 +115,55 @@ module _ (p : Pipe) (flows : Flows p) where
     lowest_all n (l ∷ ks) f = (lowest n l ks f).0
 
     -- in both machines the oldest thread moves, or in none
-    pub oldest_same : it_moves (oldest_act (Moves.all_acts p st bits)) ≡ oldest_moves (Derived.all_acts p d bits)
-    oldest_same =
-        ap (λ these. it_moves (oldest_act these)) (acts_are p flows st d bits ls sim) ∙ ap it_moves same_oldest ∙ lowest_all st.next ls sim.falls
-        ∙ ap oldest_moves (sym (derived_acts_are p flows st d bits ls sim))
+    pub oldest_same : AllForetold p flows st d bits sim.arrays ls → it_moves (oldest_act (Moves.all_acts p st bits)) ≡ oldest_moves (Derived.all_acts p d bits)
+    oldest_same told =
+        ap (λ these. it_moves (oldest_act these)) (acts_are p flows st d bits ls sim told) ∙ ap it_moves same_oldest ∙ lowest_all st.next ls sim.falls
+        ∙ ap oldest_moves (sym (derived_acts_are p flows st d bits ls sim told))
 
   -- THE THEOREMS
 
-  -- in each run both machines have the same ports and waits, and come to states that belong together
-  pub run_same : (image : Arrays) (schedule : List (List Bool))
-      → SameTurns p (Cycle.turns p image schedule) (Derived.turns p image schedule)
-      × ((ls : List Live) × Sim p (Cycle.state_after p (Cycle.first p image) schedule) (Derived.state_after p (Derived.first p image) schedule) ls)
-  run_same image schedule = runs_same p flows (Cycle.first p image) (Derived.first p image) schedule (first_live p flows ∷ []) (first_sim p flows image)
+  -- what the threads of a run of the stated machine say
+  abbrev pub hints : Arrays → List (List Bool) → ℕ → Derived.Hint
+  hints image schedule = hints_of p (Cycle.first p image) schedule
 
   -- Pipeline refinement, where nobody writes a memory without lock
-  pub carries_refines : (image : Arrays) (schedule : List (List Bool)) → Alone.Refines p image schedule
+  pub carries_refines : (image : Arrays) (schedule : List (List Bool)) → Alone.Refines p image (hints image (schedule ++ [])) schedule
       → ((m n : ℕ) → (mem_at p m).lock ≡ Plain → seqwrites p image m n ≡ []) → Promises.Refines p image schedule
   carries_refines image schedule r unwritten =
-      let both = run_same image schedule in
+      let both = run_same p flows image schedule [] in
       let prefix : (m : ℕ)
       → IsPrefix (commits m (Cycle.turns p image schedule)) (seqwrites p image m (Cycle.ended_in (Cycle.turns p image schedule) + length p.stages)) =
       λ m. subst (λ c. IsPrefix c (seqwrites p image m (Cycle.ended_in (Cycle.turns p image schedule) + length p.stages))) (sym (commits_same p m _ _ both.0))
-      (subst (λ n. IsPrefix (Derived.commits m (Derived.turns p image schedule)) (seqwrites p image m (n + length p.stages)))
+      (subst (λ n. IsPrefix (Derived.commits m (Derived.turns p image (hints image (schedule ++ [])) schedule)) (seqwrites p image m (n + length p.stages)))
       (sym (ended_same p _ _ both.0)) (r.prefix m)) in
       record {
         whole = λ m. subst (λ c. IsPrefix (seqwrites p image m (Cycle.ended_in (Cycle.turns p image schedule))) c) (sym (commits_same p m _ _ both.0))
-            (subst (λ n. IsPrefix (seqwrites p image m n) (Derived.commits m (Derived.turns p image schedule))) (sym (ended_same p _ _ both.0)) (r.whole m));
+            (subst (λ n. IsPrefix (seqwrites p image m n) (Derived.commits m (Derived.turns p image (hints image (schedule ++ [])) schedule)))
+            (sym (ended_same p _ _ both.0)) (r.whole m));
         prefix = prefix;
         unlocked = λ m e. nothing_before _ ((prefix m).0, (prefix m).1 ∙ unwritten m _ e);
-        end = λ m. ap (λ (a : Arrays). row a m) (both.1.1.arrays ∙ r.end) ∙ row_committed m (Derived.all_commits (Derived.turns p image schedule)) image
+        end =
+            λ m plain. both.1.sim.arrays m plain ∙ ap (λ (a : Arrays). row a m) r.end ∙ row_committed m
+            (Derived.all_commits (Derived.turns p image (hints image (schedule ++ [])) schedule)) image
             ∙ ap (wrote (row image m)) (sym (commits_same p m _ _ both.0));
       }
 
   -- where the oldest thread of the derived machine advances, that of the stated one does
   pub carries_advances : (image : Arrays) (schedule : List (List Bool)) (bits : List Bool)
-      → Alone.Advances p image schedule bits → Promises.Advances p image schedule bits
+      → Alone.Advances p image (hints image (schedule ++ bits ∷ [])) schedule bits → Promises.Advances p image schedule bits
   carries_advances image schedule bits advances k =
-      let both = run_same image schedule in
+      let both = run_same p flows image schedule (bits ∷ []) in
       let st : State = Cycle.state_after p (Cycle.first p image) schedule in
-      let d : Derived.State = Derived.state_after p (Derived.first p image) schedule in
-      oldest_same st d bits both.1.0 both.1.1 ∙ advances (sym (turn_same p flows st d bits both.1.0 both.1.1).wait ∙ k)
+      let d : Derived.State = Derived.state_after p (Derived.first p image (hints image (schedule ++ bits ∷ []))) schedule in
+      let told : AllForetold p flows st d bits both.1.sim.arrays both.1.live = foretold_here p flows st d bits both.1.live both.1.sim [] both.1.foretells in
+      oldest_same st d bits both.1.live both.1.sim told ∙ advances (sym (turn_same p flows st d bits both.1.live both.1.sim told).wait ∙ k)
 
   -- where enough threads end in a run of the derived machine for its cycles, they do in that of the stated one
   pub carries_pace : (image : Arrays) (schedule : List (List Bool))
-      → (length schedule - Derived.waits_in (Derived.turns p image schedule)) / depth p ≤ Derived.ended_in (Derived.turns p image schedule)
+      → Alone.KeepsPace p image (hints image (schedule ++ [])) schedule
       → KeepsPace p image schedule
   carries_pace image schedule pace =
-      let both = run_same image schedule in
+      let both = run_same p flows image schedule [] in
       subst (λ n. (length schedule - n) / depth p ≤ Cycle.ended_in (Cycle.turns p image schedule)) (sym (waits_same p _ _ both.0))
-      (subst (λ n. (length schedule - Derived.waits_in (Derived.turns p image schedule)) / depth p ≤ n) (sym (ended_same p _ _ both.0)) pace)
+      (subst (λ n. (length schedule - Derived.waits_in (Derived.turns p image (hints image (schedule ++ [])) schedule)) / depth p ≤ n)
+      (sym (ended_same p _ _ both.0)) pace)

@@ -1,30 +1,36 @@
 -- Both machines decide alike which threads move.
-use Rattle.std.proofs.Common.{◌≡◌, refl, sym, ap, ap₂, ◌∙◌, subst, ℕ, ◌≤◌, ◌<◌, Bool, true, false, ◌&&◌, ◌||◌, not, List, [], ◌∷◌, ◌++◌, length, Option, Some, None, is_none, is_some, ◌==◌, cond, if◌then◌else◌, arith, slice_set, eq-eqb}
-use Rattle.std.proofs.lemmas.Bool.{eqb-true, eqb-false, ne_eqb}
-use Rattle.pdl_semantics.specs.Flat.{Pipe, Op, DelayedRead, CombRead, ReserveWrite, Block, Stmt, list_all, word_at}
-use Rattle.pdl_semantics.specs.Stages.{list_any, in_stage, mem_at, stage_at, goes_to, is_reserve, reserve_stage, commit_stage}
+use Rattle.std.proofs.Common.{◌≡◌, refl, sym, ap, ap₂, ◌∙◌, subst, ℕ, ◌≤◌, ◌<◌, ◌⊎◌, inl, inr, Bool, true, false, ◌&&◌, ◌||◌, not, List, [], ◌∷◌, ◌++◌, length, Option, Some, None, is_none, is_some, ◌==◌, cond, if◌then◌else◌, arith, slice_set, eq-eqb}
+use Rattle.std.proofs.lemmas.Bool.{eqb-true, eqb-false, ne_eqb, not-true}
+use Rattle.pdl_semantics.specs.Flat.{Array, Pipe, is_advisory, Op, DelayedRead, CombRead, Block, Stmt, list_all, word_at, Verify}
+use Rattle.pdl_semantics.specs.Stages.{list_any, onpath, in_stage, mem_at, stage_at, goes_to, is_check, is_reserve, reserve_stage, commit_stage, is_verify}
 use Rattle.pdl_semantics.specs.Locks.{Latest, has_room}
-use Rattle.pdl_semantics.specs.Machine.{Ask, Awaited, Kept, is_answered, Request, NoRequest, Owned, Orphan, State, Deeds, lock_of, request_of, older_write, word_for, held_before, with_kept, unanswered_reads, answer_to, answer_for, kept_answer, with_answers, deeds_after_all}
+use Rattle.pdl_semantics.specs.Machine.{Ask, Reserved, reserves_of, Awaited, is_answered, Request, NoRequest, Owned, Orphan, State, Deeds, lock_of, request_of, older_write, word_for, held_before, with_kept, unanswered_reads, answer_to, answer_for, kept_answer, with_answers, deeds_after_all}
 use Rattle.pdl_semantics.specs.Moves.{block_ready, is_free, next_stage}
 use Rattle.pdl_semantics.specs.Locks
 use Rattle.pdl_semantics.specs.Machine
 use Rattle.pdl_semantics.specs.Moves
+use Rattle.pdl_semantics.specs.Promises.{DifferInAdvice, fits_kind}
+use Rattle.pdl_theory_turns.proofs.Paths.{Fixed}
+use Rattle.pdl_theory_simulation.proofs.Guessing.{unguessed, foreseen, renewed}
 use Rattle.pdl_theory_derived.specs.Derived.{Work, latest, pending, befores, around, awaits_mem, port_free, still, asked_at, word_of}
 use Rattle.pdl_theory_derived.specs.Derived
 use Rattle.pdl_theory_facts.specs.Scans.{all_at, none_of}
 use Rattle.pdl_theory_simulation.proofs.FlowFacts.{Flows, at_most_one, next_of}
 use Rattle.pdl_theory_derived.proofs.Writes.{and_left, and_right}
 use Rattle.pdl_theory_derived.proofs.Entries.{entries_of}
-use Rattle.pdl_theory_derived.proofs.Deeds.{Told, Fits, AllFit, told_all}
+use Rattle.pdl_theory_derived.proofs.Deeds.{Told, Fits, AllFit, AllGuesses, Loosely, loose_start, loose_all, told_all}
 use Rattle.pdl_theory_derived.proofs.Lists.{pend}
 use Rattle.pdl_theory_turns.proofs.OwnEntries.{Worked}
-use Rattle.pdl_theory_simulation.proofs.Stretches.{Keeps, Fetched, AllFetched, start_deeds, start_of, keeps_answered, stage_worked, ends_empty, late_empty}
-use Rattle.pdl_theory_simulation.proofs.StretchSteps.{AsksFrom, asks_from}
+use Rattle.pdl_theory_simulation.proofs.Stretches.{Keeps, Fetched, AllFetched, start_deeds, start_of, has_made, fixed_here, calls_here, keeps_answered, stage_worked, ends_empty, late_empty, has_done, once_here}
+use Rattle.pdl_theory_simulation.proofs.StretchSteps.{AsksFrom, asks_from, ReservesFrom, reserves_from}
 use Rattle.pdl_theory_simulation.proofs.Seats.{Live, seat, Falls, dacts, lacts, lact, did, now_of, work_of_live, deeds_of}
 use Rattle.pdl_theory_turns.proofs.OfStage.{none_stage}
-use Rattle.pdl_semantics.specs.Sound.{is_delayed_read}
+use Rattle.pdl_theory_turns.proofs.Turn.{none_in_stage}
+use Rattle.pdl_semantics.specs.Sound.{is_delayed_read, is_spec_call}
 use Rattle.pdl_word.specs.Each.{Each}
 use Rattle.pdl_semantics.proofs.Facts.{kept_append}
+use Rattle.pdl_theory_facts.specs.GuessScans.{is_update}
+use Rattle.pdl_theory_turns.proofs.Guesses.{unfailed}
 
 -- REQUESTS
 
@@ -107,7 +113,30 @@ pub record Seated (p : Pipe) (st : State) (l : Live) : Type 0 where
   pub kept_in : with_kept l.kept l.env ≡ l.thread.env
   pub owned : AllOwned st l.number l.thread.awaits
 
-module _ (p : Pipe) (flows : Flows p) (st : State) (d : Derived.State) (bits : List Bool) (arrays : st.arrays ≡ d.arrays) where
+module _ (p : Pipe) (flows : Flows p) (st : State) (d : Derived.State) (bits : List Bool) (arrays : DifferInAdvice p st.arrays d.arrays) where
+  -- an advisory memory is never read delayed
+  unread : (m : ℕ)
+      → is_advisory (mem_at p m).kind ≡ true → (xs : List Stmt) → list_all (λ x. fits_kind p x.op) xs ≡ true
+      → none_of (is_delayed_read m) xs ≡ true
+  unread m a [] h = refl
+  unread m a (x ∷ xs) h = ap₂ (λ b c. b && c) (off x.op (and_left _ _ h)) (unread m a xs (and_right (fits_kind p x.op) _ h))
+    where
+      off : (op : Op) → fits_kind p op ≡ true → not (is_delayed_read m op) ≡ true
+      off (DelayedRead y n b) i = at (n == m) refl
+        where
+          at : (c : Bool) → (n == m) ≡ c → not (n == m) ≡ true
+          at true e = absurd (cc (sym i ∙ ap (λ j. not (is_advisory (mem_at p j).kind)) (eqb-true _ _ e) ∙ ap not a))
+          at false e = ap not e
+      off _ i = refl
+
+  -- a memory that is read delayed is not advisory
+  pub plain_fetch : (s m : ℕ) → Fetched p s m → is_advisory (mem_at p m).kind ≡ false
+  plain_fetch s m f = at (is_advisory (mem_at p m).kind) refl
+    where
+      at : (b : Bool) → is_advisory (mem_at p m).kind ≡ b → is_advisory (mem_at p m).kind ≡ false
+      at true e = absurd (cc (sym (none_stage (is_delayed_read m) f.0 p.stmts (unread m e p.stmts flows.advice)) ∙ f.2))
+      at false e = e
+
   -- ANSWERS
 
   -- the answer to an own request
@@ -132,15 +161,15 @@ module _ (p : Pipe) (flows : Flows p) (st : State) (d : Derived.State) (bits : L
     asked_is : (n m a : ℕ) → request_of st m ≡ Owned n a → asked_at d m ≡ Some a
     asked_is n m a e = (subst (λ q. Matched q (asked_at d m) m all) e (matched m)).0
 
-    values_are : (n : ℕ) (rs : List Awaited) (env : List ℕ) → AllOwned st n rs
-        → with_kept (Machine.answered_reads p st bits n rs) env ≡ Derived.with_answers p d bits rs env
-    values_are n [] env o = refl
-    values_are n (r ∷ rs) env o =
+    values_are : (n s : ℕ) (rs : List Awaited) (env : List ℕ) → AllOwned st n rs
+        → AllFetched p s rs → with_kept (Machine.answered_reads p st bits n rs) env ≡ Derived.with_answers p d bits rs env
+    values_are n s [] env o g = refl
+    values_are n s (r ∷ rs) env o g =
         ap (λ x. with_kept (kept_answer r.var x ++ Machine.answered_reads p st bits n rs) env) (answer_is n r.mem o.0.0 o.0.1)
-        ∙ at (is_answered p bits r.mem) (λ e. values_are n rs e o.1)
+        ∙ at (is_answered p bits r.mem) (λ e. values_are n s rs e o.1 g.1)
       where
         word : word_at st.arrays r.mem o.0.0 ≡ word_of d.arrays r.mem (asked_at d r.mem)
-        word = ap (λ l. word_at l r.mem o.0.0) arrays ∙ ap (word_of d.arrays r.mem) (sym (asked_is n r.mem o.0.0 o.0.1))
+        word = ap (λ (w : Array). w o.0.0) (arrays r.mem (plain_fetch s r.mem g.0)) ∙ ap (word_of d.arrays r.mem) (sym (asked_is n r.mem o.0.0 o.0.1))
 
         at : (b : Bool) → ((e : List ℕ) → with_kept (Machine.answered_reads p st bits n rs) e ≡ Derived.with_answers p d bits rs e)
             → with_kept (kept_answer r.var (cond b (Some (word_at st.arrays r.mem o.0.0)) None) ++ Machine.answered_reads p st bits n rs) env
@@ -153,7 +182,7 @@ module _ (p : Pipe) (flows : Flows p) (st : State) (d : Derived.State) (bits : L
     env_is l s =
         kept_append l.kept _ l.env
         ∙ ap (with_kept (Machine.answered_reads p st bits l.number l.thread.awaits)) s.kept_in
-        ∙ values_are l.number l.thread.awaits l.thread.env s.owned
+        ∙ values_are l.number l.thread.stage l.thread.awaits l.thread.env s.owned s.keeps_on.fetched
 
     -- PORTS
 
@@ -294,50 +323,50 @@ module _ (p : Pipe) (flows : Flows p) (st : State) (d : Derived.State) (bits : L
   -- what both machines ask of a thread's surroundings
   abbrev pub Same_deeds : List Live → Live → Deeds → Work → Type 0
   Same_deeds ls l e w =
-      Told (around p d bits (dacts p d bits ls) l.thread.stage) (word_for st l.number) (λ b. block_ready p st l.number b)
-      (λ r. has_room (mem_at p r.mem).lock (length (lock_of st r.mem))) (λ q. port_free p d bits (dacts p d bits ls) q.mem) e w
+      Told (around p d bits (dacts p d bits ls) l.thread.stage l.thread.hint) (word_for st l.number) (λ b. block_ready p st l.number b)
+      (λ q. port_free p d bits (dacts p d bits ls) q.mem) e w
 
   -- what a thread finds around it in the derived machine says of these statements what the stated conditions say
   abbrev pub FitsAll : List Live → Live → List Stmt → Type 0
   FitsAll ls l xs =
-      AllFit (around p d bits (dacts p d bits ls) l.thread.stage) (word_for st l.number) (λ b. block_ready p st l.number b)
-      (λ r. has_room (mem_at p r.mem).lock (length (lock_of st r.mem))) (λ q. port_free p d bits (dacts p d bits ls) q.mem) xs
+      AllFit (around p d bits (dacts p d bits ls) l.thread.stage l.thread.hint) (word_for st l.number) (λ b. block_ready p st l.number b)
+      (λ q. port_free p d bits (dacts p d bits ls) q.mem) xs
 
-  fits : (ls : List Live) (l : Live) → Known ls l → (op : Op) → ((m : ℕ) → is_reserve m op ≡ true → l.thread.stage ≡ reserve_stage p m)
-      → Fits (around p d bits (dacts p d bits ls) l.thread.stage) (word_for st l.number) (λ b. block_ready p st l.number b)
-      (λ r. has_room (mem_at p r.mem).lock (length (lock_of st r.mem))) (λ q. port_free p d bits (dacts p d bits ls) q.mem) op
-  fits ls l k (CombRead x m a) f = λ n. ap₂ (λ (o : Latest) (l : ℕ → ℕ → ℕ). Locks.value_or o (l m n)) (sym (k.older m n)) (sym arrays)
-  fits ls l k (DelayedRead x m a) f = λ n. refl
-  fits ls l k (ReserveWrite m a) f = λ n. ap (has_room (mem_at p m).lock) (k.room m (f m (eq-eqb m m refl)))
-  fits ls l k (Block m a) f = λ n. (ap (Locks.write_ready (mem_at p m).lock) (sym (k.older m n)), ap (Locks.read_ready (mem_at p m).lock) (sym (k.older m n)))
-  fits ls l k _ f = tt
+  fits : (ls : List Live) (l : Live) → Known ls l → (op : Op) → fits_kind p op ≡ true → ((m : ℕ) → is_reserve m op ≡ true → l.thread.stage ≡ reserve_stage p m)
+      → Fits (around p d bits (dacts p d bits ls) l.thread.stage l.thread.hint) (word_for st l.number) (λ b. block_ready p st l.number b)
+      (λ q. port_free p d bits (dacts p d bits ls) q.mem) op
+  fits ls l k (CombRead x m a) g f = λ n. ap₂ (λ (o : Latest) (w : Array). Locks.value_or o (w n)) (sym (k.older m n)) (sym (arrays m (not-true _ g)))
+  fits ls l k (DelayedRead x m a) g f = λ n. refl
+  fits ls l k (Block m a) g f = λ n. (ap (Locks.write_ready (mem_at p m).lock) (sym (k.older m n)), ap (Locks.read_ready (mem_at p m).lock) (sym (k.older m n)))
+  fits ls l k _ g f = tt
 
   fit_from : (ls : List Live) (l : Live) → Known ls l → (xs : List Stmt)
-      → ((m : ℕ) → all_at (is_reserve m) (reserve_stage p m) xs ≡ true) → FitsAll ls l (in_stage l.thread.stage xs)
-  fit_from ls l k [] f = tt
-  fit_from ls l k (x ∷ xs) f = at (x.stage == l.thread.stage) refl (fit_from ls l k xs (λ m. and_right _ _ (f m)))
+      → list_all (λ x. fits_kind p x.op) xs ≡ true → ((m : ℕ) → all_at (is_reserve m) (reserve_stage p m) xs ≡ true) → FitsAll ls l (in_stage l.thread.stage xs)
+  fit_from ls l k [] g f = tt
+  fit_from ls l k (x ∷ xs) g f = at (x.stage == l.thread.stage) refl (fit_from ls l k xs (and_right (fits_kind p x.op) _ g) (λ m. and_right _ _ (f m)))
     where
       at : (b : Bool) → (x.stage == l.thread.stage) ≡ b → FitsAll ls l (in_stage l.thread.stage xs)
           → FitsAll ls l (cond b (x ∷ in_stage l.thread.stage xs) (in_stage l.thread.stage xs))
       at true e r = (
-        fits ls l k x.op (λ m i. sym (eqb-true _ _ e) ∙ eqb-true _ _ (subst (λ t. (not t || (x.stage == reserve_stage p m)) ≡ true) i (and_left _ _ (f m)))),
+        fits ls l k x.op (and_left _ _ g)
+            (λ m i. sym (eqb-true _ _ e) ∙ eqb-true _ _ (subst (λ t. (not t || (x.stage == reserve_stage p m)) ≡ true) i (and_left _ _ (f m)))),
         r,
       )
       at false e r = r
 
   -- of a live thread's stage, what it finds around it in the derived machine says what the stated conditions say
   pub fit_all : (ls : List Live) (l : Live) → Known ls l → FitsAll ls l (in_stage l.thread.stage p.stmts)
-  fit_all ls l k = fit_from ls l k p.stmts flows.reserves
+  fit_all ls l k = fit_from ls l k p.stmts flows.advice flows.reserves
 
   -- a live thread keeps to its way with this cycle's answers
   pub keeps_now : (l : Live) → Seated p st l → Keeps p l.env (now_of p d bits l)
   keeps_now l s = keeps_answered p d bits l.env l.thread s.keeps_on
 
-  deeds_are : (ls : List Live) (l : Live) (k : Known ls l)
-      → deeds_of p st bits l
-      ≡ deeds_after_all (word_for st l.number) (in_stage l.thread.stage p.stmts) (start_deeds p flows l.env (now_of p d bits l) (keeps_now l k.seated))
-  deeds_are ls l k = λ i. deeds_after_all (word_for st l.number) (in_stage l.thread.stage p.stmts) (record {
-    env = k.values i;
+  -- the deeds with which its stage begins, where these are its values
+  abbrev pub begun : Live → List ℕ → Deeds
+  begun l env = record {
+    env = env;
+    advice = l.advice;
     guess = l.thread.guess;
     held = held_before l.thread.stage l.env p.stmts [];
     blocks = [];
@@ -345,19 +374,42 @@ module _ (p : Pipe) (flows : Flows p) (st : State) (d : Derived.State) (bits : L
     writes = [];
     releases = [];
     asks = [];
+    advises = [];
     barrier = false;
     child = None;
     fails = false;
-  })
+  }
 
-  -- what a live thread's stage asks of the stated machine and its work in the derived one are of the same statements
-  pub told_here : (ls : List Live) (l : Live) → Known ls l → Same_deeds ls l (deeds_of p st bits l) (work_of_live p d bits ls l)
-  told_here ls l k =
-      subst (λ e. Same_deeds ls l e (work_of_live p d bits ls l)) (sym (deeds_are ls l k))
-      (told_all (around p d bits (dacts p d bits ls) l.thread.stage) (word_for st l.number) (λ b. block_ready p st l.number b)
-      (λ r. has_room (mem_at p r.mem).lock (length (lock_of st r.mem))) (λ q. port_free p d bits (dacts p d bits ls) q.mem)
-      (in_stage l.thread.stage p.stmts)
-      (start_deeds p flows l.env (now_of p d bits l) (keeps_now l k.seated)) l.thread.entries [] k.seated.keeps_on.held (fit_all ls l k))
+  -- a thread's deeds begin with its values in the derived machine
+  pub deeds_are : (ls : List Live) (l : Live) (k : Known ls l)
+      → deeds_of p st bits l
+      ≡ deeds_after_all (word_for st l.number) (in_stage l.thread.stage p.stmts) (start_deeds p flows l.env (now_of p d bits l) (keeps_now l k.seated) l.advice)
+  deeds_are ls l k = λ i. deeds_after_all (word_for st l.number) (in_stage l.thread.stage p.stmts) (begun l (k.values i))
+
+  -- deeds and work of a thread's stage agree but for the guess
+  abbrev pub Like_deeds : List Live → Live → Deeds → Work → Type 0
+  Like_deeds ls l e w =
+      Loosely (around p d bits (dacts p d bits ls) l.thread.stage l.thread.hint) (word_for st l.number) (λ b. block_ready p st l.number b)
+      (λ q. port_free p d bits (dacts p d bits ls) q.mem) e w
+
+  -- they do where the stage begins
+  pub starts_here : (ls : List Live) (l : Live) (k : Known ls l) → Like_deeds ls l (begun l (now_of p d bits l).env) (start_of (now_of p d bits l))
+  starts_here ls l k = loose_start (around p d bits (dacts p d bits ls) l.thread.stage l.thread.hint) (word_for st l.number) (λ b. block_ready p st l.number b)
+      (λ q. port_free p d bits (dacts p d bits ls) q.mem) (begun l (now_of p d bits l).env) l.thread.entries [] k.seated.keeps_on.held
+
+  -- a thread's stage does the same in both machines, but for its guess
+  pub like_here : (ls : List Live) (l : Live) → Known ls l → Like_deeds ls l (deeds_of p st bits l) (work_of_live p d bits ls l)
+  like_here ls l k =
+      subst (λ e. Like_deeds ls l e (work_of_live p d bits ls l)) (sym (deeds_are ls l k))
+      (loose_all (around p d bits (dacts p d bits ls) l.thread.stage l.thread.hint) (word_for st l.number) (λ b. block_ready p st l.number b)
+      (λ q. port_free p d bits (dacts p d bits ls) q.mem)
+      (in_stage l.thread.stage p.stmts) (begun l (now_of p d bits l).env) (start_of (now_of p d bits l)) (fit_all ls l k) (starts_here ls l k))
+
+  -- a thread's stage keeps to the path of its values
+  pub fixed_way : (ls : List Live) (l : Live) (k : Known ls l)
+      → Fixed (work_of_live p d bits ls l).env (around p d bits (dacts p d bits ls) l.thread.stage l.thread.hint) (in_stage l.thread.stage p.stmts)
+      (start_of (now_of p d bits l))
+  fixed_way ls l k = fixed_here p flows l.env (now_of p d bits l) (keeps_now l k.seated) (around p d bits (dacts p d bits ls) l.thread.stage l.thread.hint)
 
   -- what its stage does to its entries of m
   pub worked_here : (ls : List Live) (l : Live) (k : Known ls l) (m : ℕ)
@@ -365,8 +417,8 @@ module _ (p : Pipe) (flows : Flows p) (st : State) (d : Derived.State) (bits : L
   worked_here ls l k m =
       subst (λ e. Worked m l.number (pend m l.number l.thread.entries) e (work_of_live p d bits ls l)) (sym (deeds_are ls l k))
       (stage_worked p flows l.env (now_of p d bits l) (keeps_now l k.seated)
-      (around p d bits (dacts p d bits ls) l.thread.stage) (word_for st l.number) (λ b. block_ready p st l.number b)
-      (λ r. has_room (mem_at p r.mem).lock (length (lock_of st r.mem))) (λ q. port_free p d bits (dacts p d bits ls) q.mem) (fit_all ls l k) m l.number)
+      (around p d bits (dacts p d bits ls) l.thread.stage l.thread.hint) (word_for st l.number) (λ b. block_ready p st l.number b)
+      (λ q. port_free p d bits (dacts p d bits ls) q.mem) (fit_all ls l k) l.advice m l.number)
 
   -- a thread that goes out of the pipe has no entry of m left
   pub ends_here : (ls : List Live) (l : Live) (k : Known ls l) (m : ℕ)
@@ -374,8 +426,8 @@ module _ (p : Pipe) (flows : Flows p) (st : State) (d : Derived.State) (bits : L
       → entries_of m (work_of_live p d bits ls l).entries ≡ []
   ends_here ls l k m =
       ends_empty p flows l.env (now_of p d bits l) (keeps_now l k.seated)
-      (around p d bits (dacts p d bits ls) l.thread.stage) (word_for st l.number) (λ b. block_ready p st l.number b)
-      (λ r. has_room (mem_at p r.mem).lock (length (lock_of st r.mem))) (λ q. port_free p d bits (dacts p d bits ls) q.mem) (fit_all ls l k) m l.number
+      (around p d bits (dacts p d bits ls) l.thread.stage l.thread.hint) (word_for st l.number) (λ b. block_ready p st l.number b)
+      (λ q. port_free p d bits (dacts p d bits ls) q.mem) (fit_all ls l k) l.advice m l.number
 
   -- a thread that goes past the stage of m's releases has no entry of m left
   pub late_here : (ls : List Live) (l : Live) (k : Known ls l) (m : ℕ)
@@ -383,14 +435,14 @@ module _ (p : Pipe) (flows : Flows p) (st : State) (d : Derived.State) (bits : L
       → entries_of m (work_of_live p d bits ls l).entries ≡ []
   late_here ls l k m =
       late_empty p flows l.env (now_of p d bits l) (keeps_now l k.seated)
-      (around p d bits (dacts p d bits ls) l.thread.stage) (word_for st l.number) (λ b. block_ready p st l.number b)
-      (λ r. has_room (mem_at p r.mem).lock (length (lock_of st r.mem))) (λ q. port_free p d bits (dacts p d bits ls) q.mem) (fit_all ls l k) m l.number
+      (around p d bits (dacts p d bits ls) l.thread.stage l.thread.hint) (word_for st l.number) (λ b. block_ready p st l.number b)
+      (λ q. port_free p d bits (dacts p d bits ls) q.mem) (fit_all ls l k) l.advice m l.number
 
   -- a memory that it asks for is read in its stage
   pub asks_here : (ls : List Live) (l : Live) → Known ls l → AsksFrom (in_stage l.thread.stage p.stmts) (deeds_of p st bits l).asks
   asks_here ls l k =
-      subst (λ (w : Work). AsksFrom (in_stage l.thread.stage p.stmts) w.asks) (told_here ls l k).is
-      (asks_from (in_stage l.thread.stage p.stmts) (around p d bits (dacts p d bits ls) l.thread.stage)
+      subst (λ (w : Work). AsksFrom (in_stage l.thread.stage p.stmts) w.asks) (like_here ls l k).is
+      (asks_from (in_stage l.thread.stage p.stmts) (around p d bits (dacts p d bits ls) l.thread.stage l.thread.hint)
       (in_stage l.thread.stage p.stmts) (start_of (now_of p d bits l)) (λ m h. h) tt)
 
   -- what the acts of the later stages say, as the derived machine's acts of the older threads say it
@@ -399,17 +451,19 @@ module _ (p : Pipe) (flows : Flows p) (st : State) (d : Derived.State) (bits : L
     pub port : (m : ℕ) → none_of (is_delayed_read m) (in_stage l.thread.stage p.stmts) ≡ false
         → is_free (request_of st m) (is_answered p bits m) later ≡ port_free p d bits (dacts p d bits ls) m
     pub clear : Moves.barrier_clear p later (deeds_of p st bits l)
-        ≡ (not (deeds_of p st bits l).barrier || (around p d bits (dacts p d bits ls) l.thread.stage).clear)
+        ≡ (not (deeds_of p st bits l).barrier || (around p d bits (dacts p d bits ls) l.thread.stage l.thread.hint).clear)
     pub enters :
         (Moves.can_enter (next_stage p l.thread.stage (deeds_of p st bits l)) later
         && Moves.merges_well p st l.thread.stage (next_stage p l.thread.stage (deeds_of p st bits l)))
         ≡ Derived.can_enter p (dacts p d bits ls) (next_stage p l.thread.stage (deeds_of p st bits l))
 
   -- the eight conditions
-  join : (n b r w f c e g : Bool) → (((((((n && b) && r) && w) && f) && c) && e) && g) ≡ (((n && (((b && r) && f) && c)) && w) && (e && g))
+  join : (n b r w f c e g : Bool) → (((((((n && b) && r) && w) && f) && c) && e) && g) ≡ ((((n && ((b && f) && c)) && r) && w) && (e && g))
   join false b r w f c e g = refl
   join true false r w f c e g = refl
-  join true true false w f c e g = refl
+  join true true false w false c e g = refl
+  join true true false w true false e g = refl
+  join true true false w true true e g = refl
   join true true true false false c e g = refl
   join true true true false true false e g = refl
   join true true true false true true e g = refl
@@ -421,6 +475,28 @@ module _ (p : Pipe) (flows : Flows p) (st : State) (d : Derived.State) (bits : L
       → list_all (λ q. is_free (request_of st q.mem) (is_answered p bits q.mem) later) qs ≡ list_all (λ q. port_free p d bits (dacts p d bits ls) q.mem) qs
   ports_are ls l later t [] h = refl
   ports_are ls l later t (q ∷ qs) h = ap₂ (λ a b. a && b) (t.port q.mem h.0) (ports_are ls l later t qs h.1)
+
+  -- a memory that it reserves is reserved in its stage
+  reserves_here : (ls : List Live) (l : Live) → Known ls l → ReservesFrom (in_stage l.thread.stage p.stmts) (deeds_of p st bits l).reserves
+  reserves_here ls l k =
+      subst (λ e. ReservesFrom (in_stage l.thread.stage p.stmts) e.reserves) (sym (deeds_are ls l k))
+      (reserves_from (in_stage l.thread.stage p.stmts) (word_for st l.number) (in_stage l.thread.stage p.stmts)
+      (start_deeds p flows l.env (now_of p d bits l) (keeps_now l k.seated) l.advice) (λ m h. h) tt)
+
+  rooms_are : (ls : List Live) (l : Live) → Known ls l → (rs : List Reserved) → ReservesFrom (in_stage l.thread.stage p.stmts) rs
+      → list_all (λ r. has_room (mem_at p r.mem).lock (reserves_of r.mem (deeds_of p st bits l).reserves) (length (lock_of st r.mem))) rs
+      ≡ list_all (λ r. has_room (mem_at p r.mem).lock (reserves_of r.mem (deeds_of p st bits l).reserves) (pending (befores (dacts p d bits ls)) r.mem)) rs
+  rooms_are ls l k [] h = refl
+  rooms_are ls l k (r ∷ rs) h =
+      ap₂ (λ n b. has_room (mem_at p r.mem).lock (reserves_of r.mem (deeds_of p st bits l).reserves) n && b) (sym (k.room r.mem here)) (rooms_are ls l k rs h.1)
+    where
+      here : l.thread.stage ≡ reserve_stage p r.mem
+      here = by (l.thread.stage == reserve_stage p r.mem) refl
+        where
+          by : (b : Bool) → (l.thread.stage == reserve_stage p r.mem) ≡ b → l.thread.stage ≡ reserve_stage p r.mem
+          by true e = eqb-true _ _ e
+          by false e =
+              absurd (cc (sym (none_in_stage (is_reserve r.mem) (reserve_stage p r.mem) l.thread.stage p.stmts (flows.reserves r.mem) (eqb-false _ _ e)) ∙ h.0))
 
   moves_are : (ls : List Live) (l : Live) (later : List Moves.Act) → Known ls l → Tells ls l later
       → Moves.may_move p st bits later l.thread.stage (with_answers p st bits (seat l)) (deeds_of p st bits l) ≡ (did p d bits ls l).moves
@@ -436,22 +512,23 @@ module _ (p : Pipe) (flows : Flows p) (st : State) (d : Derived.State) (bits : L
       (Moves.blocks_ready p st l.number (deeds_of p st bits l)) (Moves.have_room p st (deeds_of p st bits l))
       (Moves.is_empty (still p bits l.thread.awaits))
       (list_all (λ q. port_free p d bits (dacts p d bits ls) q.mem) (deeds_of p st bits l).asks)
-      (not (deeds_of p st bits l).barrier || (around p d bits (dacts p d bits ls) l.thread.stage).clear)
+      (not (deeds_of p st bits l).barrier || (around p d bits (dacts p d bits ls) l.thread.stage l.thread.hint).clear)
       (Moves.can_enter (next_stage p l.thread.stage (deeds_of p st bits l)) later)
       (Moves.merges_well p st l.thread.stage (next_stage p l.thread.stage (deeds_of p st bits l)))
-      ∙ ap
-      (λ x.
-      ((list_all (λ (o : Derived.Act). not (o.moves && o.work.fails)) (dacts p d bits ls)
-      && (((Moves.blocks_ready p st l.number (deeds_of p st bits l) && Moves.have_room p st (deeds_of p st bits l))
-      && list_all (λ q. port_free p d bits (dacts p d bits ls) q.mem) (deeds_of p st bits l).asks)
-      && (not (deeds_of p st bits l).barrier || (around p d bits (dacts p d bits ls) l.thread.stage).clear)))
-      && Moves.is_empty (still p bits l.thread.awaits))
-      && x) t.enters
+      ∙ ap₂
+      (λ r x.
+      (((list_all (λ (o : Derived.Act). not (o.moves && o.work.fails)) (dacts p d bits ls)
+      && ((Moves.blocks_ready p st l.number (deeds_of p st bits l) && list_all (λ q. port_free p d bits (dacts p d bits ls) q.mem) (deeds_of p st bits l).asks)
+      && (not (deeds_of p st bits l).barrier || (around p d bits (dacts p d bits ls) l.thread.stage l.thread.hint).clear)))
+      && r) && Moves.is_empty (still p bits l.thread.awaits))
+      && x)
+      (rooms_are ls l k (deeds_of p st bits l).reserves (reserves_here ls l k)) t.enters
       ∙ ap
       (λ (v : Work).
-      ((list_all (λ (o : Derived.Act). not (o.moves && o.work.fails)) (dacts p d bits ls) && v.ready) && Moves.is_empty (still p bits l.thread.awaits))
+      (((list_all (λ (o : Derived.Act). not (o.moves && o.work.fails)) (dacts p d bits ls) && v.ready) && Derived.have_room p (befores (dacts p d bits ls)) v)
+      && Moves.is_empty (still p bits l.thread.awaits))
       && Derived.can_enter p (dacts p d bits ls) (goes_to (stage_at p l.thread.stage).next v.env))
-      (sym (told_here ls l k).is)
+      (sym (like_here ls l k).is)
 
   -- the stated act is the one that the derived machine decides
   pub act_is : (ls : List Live) (l : Live) (later : List Moves.Act) → Known ls l → Tells ls l later

@@ -1,12 +1,16 @@
 -- The forms in which the simulation takes the facts of an accepted pipe of the whole language (all follow from the record of Facts).
 use Rattle.std.specs.Prelude.{◌≡◌, ◌⊎◌, ℕ, suc, ◌<◌, ◌≤◌, Bool, true, false, ◌&&◌, ◌||◌, not, List, [], ◌∷◌, ◌++◌, Some, None, if◌then◌else◌, ◌==◌, length, slice_index}
-use Rattle.pdl_semantics.specs.Flat.{Op, Bind, CombRead, DelayedRead, Write, ReserveRead, ReserveWrite, Block, Release, Call, SpecCall, Verify, SpecCheck, SpecBarrier, Stmt, Forks, Branch, Pipe, all_hold}
+use Rattle.pdl_semantics.specs.Flat.{Op, Bind, CombRead, DelayedRead, Write, ReserveRead, ReserveWrite, Block, Release, Call, SpecCall, Verify, SpecCheck, SpecBarrier, AdviceBind, AdviceRead, AdviceWrite, Stmt, Forks, Branch, Pipe, all_hold}
 use Rattle.pdl_semantics.specs.Stages.{onpath, in_stage, stage_at, is_inside, goes_to, verify_stage, commit_stage, reserve_stage, is_reserve, is_release, is_verify}
 use Rattle.pdl_semantics.specs.Cycle.{merges_by}
-use Rattle.pdl_semantics.specs.Sound.{stages_before, stages_from, is_fetch, is_call, is_delayed_read}
-pub use Rattle.pdl_theory_facts.specs.Graphs.{stage_or, next_of, on_side}
-use Rattle.pdl_theory_facts.specs.Scans.{Phase, Fresh, next_phase, holds_location, is_fresh, is_over, phase_all, all_at, none_of, binds_var, is_fixed}
+use Rattle.pdl_semantics.specs.Stages.{is_check}
+use Rattle.pdl_semantics.specs.Promises.{KeepsAdvice}
+use Rattle.pdl_semantics.specs.Sound.{stages_before, stages_from, is_fetch, is_call, is_delayed_read, is_spec_call}
+pub use Rattle.pdl_theory_facts.specs.Graphs.{Home, Within, Trunk, Below, Way, stage_or, next_of, on_side, goes_by}
+use Rattle.pdl_theory_derived.specs.Alone.{is_among}
+use Rattle.pdl_theory_facts.specs.Scans.{Phase, Fresh, next_phase, may_write, is_new, is_over, phase_all, all_at, none_of, binds_var, is_fixed}
 pub use Rattle.pdl_theory_facts.specs.Facts.{trunk_only, binds_guard, is_fetch_of, comes_by, visits_stage}
+use Rattle.pdl_theory_facts.specs.GuessScans.{is_update, once}
 
 -- a statement that gives variable x its value in its own stage
 abbrev pub sets : ℕ → Op → Bool
@@ -20,20 +24,23 @@ sets x (Block m a) = false
 sets x (Release m a) = false
 sets x (Call args) = false
 sets x (SpecCall args) = false
-sets x (Verify args) = false
+sets x (Verify last args) = false
 sets x SpecCheck = false
 sets x SpecBarrier = false
+sets x (AdviceBind _ e) = false
+sets x (AdviceRead _ m a) = false
+sets x (AdviceWrite m a e) = false
 
 -- whether at most one statement is of a kind
 abbrev pub at_most_one : (Op → Bool) → List Stmt → Bool
 at_most_one test [] = true
 at_most_one test (x ∷ xs) = if test x.op then none_of test xs else at_most_one test xs
 
--- a statement in this phase of the lock of m: a write goes through the one reservation that has no value yet, and no release precedes the write
+-- a statement in this phase of the lock of m: a write goes through the oldest reservation that has no value yet, no location is reserved twice, and no release precedes its write
 abbrev pub use_ok : ℕ → Phase → Op → Bool
-use_ok m ph (Write n a e) = not (n == m) || holds_location ph a
-use_ok m ph (ReserveWrite n a) = not (n == m) || is_fresh ph
-use_ok m ph (Release n a) = not (n == m) || not (holds_location ph a)
+use_ok m ph (Write n a e) = not (n == m) || may_write ph a
+use_ok m ph (ReserveWrite n a) = not (n == m) || is_new ph a
+use_ok m ph (Release n a) = not (n == m) || not (is_among a ph.unwritten)
 use_ok m ph (Bind x e) = true
 use_ok m ph (CombRead x n a) = true
 use_ok m ph (DelayedRead x n a) = true
@@ -41,9 +48,12 @@ use_ok m ph (ReserveRead n a) = true
 use_ok m ph (Block n a) = true
 use_ok m ph (Call args) = true
 use_ok m ph (SpecCall args) = true
-use_ok m ph (Verify args) = true
+use_ok m ph (Verify last args) = true
 use_ok m ph SpecCheck = true
 use_ok m ph SpecBarrier = true
+use_ok m ph (AdviceBind x e) = true
+use_ok m ph (AdviceRead x _ a) = true
+use_ok m ph (AdviceWrite _ a e) = true
 
 -- each of these statements is in order in its phase of the lock of m
 abbrev pub uses_ok : ℕ → Phase → List Stmt → Bool
@@ -52,7 +62,7 @@ uses_ok m ph (x ∷ xs) = use_ok m ph x.op && uses_ok m (next_phase m ph x.op) x
 
 -- whether no second thread is called, and each verify follows the call
 abbrev pub call_ok : Bool → Op → Bool
-call_ok been op = not (been && is_call op) && (been || not (is_verify op))
+call_ok been op = not (been && is_call op) && (been || not (is_check op))
 
 -- these statements call no second thread, and each verify among them follows the call
 abbrev pub calls_ok : Bool → List Stmt → Bool
@@ -67,50 +77,42 @@ SameBut test xs env env' = (g : ℕ) → none_of (test g) xs ≡ true → slice_
 abbrev pub Leads : Pipe → ℕ → ℕ → Type 0
 Leads p s q = (path : List ℕ) × (goes_to (stage_at p s).next path ≡ Some q) × (s < length p.stages)
 
--- each trunk stage up to s is smaller than b
-abbrev pub Below : Pipe → ℕ → ℕ → Type 0
-Below p s b = (r : ℕ) → (stage_at p r).branch ≡ None → r ≤ s → r < b
-
 -- the stage graph, by the ways from a stage to the next one (follows from Graph and Branches of Graphs)
 pub record Ways (p : Pipe) : Type 0 where
   pub some_stage : 0 < length p.stages
-  pub trunk_start : (stage_at p 0).branch ≡ None
+  pub trunk_start : Trunk p 0
   -- a next stage has a greater number, and only the last stage, a trunk stage, has none
   pub up : (s q : ℕ) → Leads p s q → (s < q) × (q < length p.stages)
   pub last : (s : ℕ) (path : List ℕ) → s < length p.stages → goes_to (stage_at p s).next path ≡ None
-      → (suc s ≡ length p.stages) × ((stage_at p s).branch ≡ None)
-  -- no trunk stage is passed over
-  pub jump : (s q r : ℕ) → Leads p s q → (stage_at p r).branch ≡ None → s < r → r ≤ q → r ≡ q
-  -- what stands between the trunk stages that were reached and the next trunk stage q stands inside the fork that q merges
-  pub between : (s q b : ℕ) → Leads p s q → (stage_at p q).branch ≡ None → Below p s b → b < q
+      → (suc s ≡ length p.stages) × Trunk p s
+  -- inside a branch no stage of just this branch is passed over, nor is one of the trunk
+  pub jump : (c : List Branch) (s q r : ℕ) → Leads p s q → Within p c s → Home p c r → s < r → r ≤ q → r ≡ q
+  -- what stands in a branch between its stages that were reached and its next one stands inside the fork that this one merges
+  pub between : (c : List Branch) (s q b : ℕ) → Leads p s q → Within p c s → Home p c q → Below p c b s → Within p c b → b < q
       → (f : ℕ) × ((stage_at p q).merges ≡ Some f) × (is_inside p f b ≡ true)
-  -- into a branch a thread comes from the same branch or from the fork, and passes over no stage of it
-  pub into : (s q : ℕ) (x : Branch) → Leads p s q → (stage_at p q).branch ≡ Some x
-      → ((stage_at p s).branch ≡ Some x) ⊎ ((s ≡ x.fork) × ((stage_at p s).branch ≡ None))
-  pub next_in : (s q b : ℕ) (x : Branch) → Leads p s q → (stage_at p q).branch ≡ Some x → (stage_at p b).branch ≡ Some x → s < b → q ≤ b
-  -- out of a branch it comes into the merge
-  pub out_of : (s q : ℕ) (x : Branch) → Leads p s q → (stage_at p s).branch ≡ Some x → ((stage_at p q).branch ≡ Some x) ⊎ ((stage_at p q).merges ≡ Some x.fork)
-  -- a branch's stages stand after its fork, a trunk stage
-  pub fork_below : (s : ℕ) (x : Branch) → (stage_at p s).branch ≡ Some x → (x.fork < s) × ((stage_at p x.fork).branch ≡ None)
-  -- into a merge, a trunk stage, a thread comes straight from the fork or from the last stage of a branch
+  -- a way stays in its branches, enters one more from its fork, or leaves the innermost one into the merge
+  pub way : (s q : ℕ) → Leads p s q → Way p s q
+  pub entry : (x : Branch) (c : List Branch) (q r : ℕ) → Leads p x.fork q → Home p (x ∷ c) q → Within p (x ∷ c) r → q ≤ r
+  -- a branch's stages stand after its fork, which stands in the branches around it
+  pub fork_below : (x : Branch) (c : List Branch) (s : ℕ) → Within p (x ∷ c) s → Home p c x.fork × (x.fork < s)
+  -- into a merge a thread comes straight from the fork or from the last stage of a branch
   pub merge : (s q f : ℕ) → Leads p s q → (stage_at p q).merges ≡ Some f
-      → ((stage_at p q).branch ≡ None)
-      × (((s ≡ f) × ((stage_at p s).branch ≡ None))
-      ⊎ ((x : Branch) × ((stage_at p s).branch ≡ Some x) × (x.fork ≡ f) × ((b : ℕ) → (stage_at p b).branch ≡ Some x → b ≤ s)))
-  -- a fork whose merge is no later than the verifies' stage v is wholly before v, any other is not before v
-  pub merged : (v f b : ℕ) → verify_stage p.stmts ≡ Some v → is_inside p f b ≡ true → merges_by p f (Some v) ≡ true → b < v
-  pub unmerged : (v f b : ℕ) → verify_stage p.stmts ≡ Some v → is_inside p f b ≡ true → merges_by p f (Some v) ≡ false → v ≤ f
+      → ((s ≡ f) × ((stage_at p q).branches ≡ (stage_at p s).branches))
+      ⊎ ((x : Branch) × ((stage_at p s).branches ≡ x ∷ (stage_at p q).branches) × (x.fork ≡ f) × ((b : ℕ) → Within p (x ∷ (stage_at p q).branches) b → b ≤ s))
+  -- a fork whose merge is no later than a trunk stage v is wholly before v, any other is not before v
+  pub merged : (v f b : ℕ) → v < length p.stages → Trunk p v → is_inside p f b ≡ true → merges_by p f (Some v) ≡ true → b < v
+  pub unmerged : (v f b : ℕ) → v < length p.stages → Trunk p v → is_inside p f b ≡ true → merges_by p f (Some v) ≡ false → v ≤ f
 
 -- the facts. A path is a list of values of all variables, of which those of guards count
 pub record Flows (p : Pipe) : Type 0 where
   pub graph : Ways p
   -- F1: a branch holds no reserve, release, call or statement of guesses
-  pub branches : (s : ℕ) (x : Branch) → (stage_at p s).branch ≡ Some x → none_of trunk_only (in_stage s p.stmts) ≡ true
+  pub branches : (x : Branch) (c : List Branch) (s : ℕ) → Home p (x ∷ c) s → none_of trunk_only (in_stage s p.stmts) ≡ true
   -- L2, F1: a memory's reserves stand in one trunk stage, and so do its releases; S3: the verifies stand in one stage
   pub reserves : (m : ℕ) → all_at (is_reserve m) (reserve_stage p m) p.stmts ≡ true
   pub releases : (m : ℕ) → all_at (is_release m) (commit_stage p m) p.stmts ≡ true
-  pub trunk_reserve : (m : ℕ) → (stage_at p (reserve_stage p m)).branch ≡ None
-  pub trunk_commit : (m : ℕ) → (stage_at p (commit_stage p m)).branch ≡ None
+  pub trunk_reserve : (m : ℕ) → Trunk p (reserve_stage p m)
+  pub trunk_commit : (m : ℕ) → Trunk p (commit_stage p m)
   pub verifies : (v : ℕ) → verify_stage p.stmts ≡ Some v → all_at is_verify v p.stmts ≡ true
   -- N2, N3: each variable has one definition, before each use, so a guard's variable is not bound where it is tested or later in the text
   pub fixed_guards : is_fixed p.stmts ≡ true
@@ -141,6 +143,16 @@ pub record Flows (p : Pipe) : Type 0 where
   pub unfetched : (m : ℕ) → length p.mems ≤ m → none_of (is_delayed_read m) p.stmts ≡ true
   -- S1, S2, N3: on each path one call or speculative call, and a verify after it
   pub calls : (path : List ℕ) → calls_ok false (onpath path p.stmts) ≡ true
+  -- F4, F5: a statement takes a memory by its kind
+  pub advice : KeepsAdvice p
+  -- S2, S3: a stage of a path that makes a guess verifies none
+  pub guess_apart : (path : List ℕ) (s : ℕ)
+      → (none_of is_spec_call (onpath path (in_stage s p.stmts)) ≡ true) ⊎ (none_of is_check (onpath path (in_stage s p.stmts)) ≡ true)
+  -- S6: each path has one update at most
+  pub updates : (path : List ℕ) → once is_update false (onpath path p.stmts) ≡ true
+  -- S3, S6: a stage of a path that updates a guess verifies none
+  pub update_apart : (path : List ℕ) (s : ℕ)
+      → (none_of is_update (onpath path (in_stage s p.stmts)) ≡ true) ⊎ (none_of is_verify (onpath path (in_stage s p.stmts)) ≡ true)
   -- F3: no second delayed read statement of one memory, and none in the last stage
   pub one_fetch : (m : ℕ) → at_most_one (is_delayed_read m) p.stmts ≡ true
   pub fetch_inside : (s : ℕ) → suc s ≡ length p.stages → none_of is_fetch (in_stage s p.stmts) ≡ true
@@ -160,12 +172,12 @@ DefinedBy s op r = (s ≤ r) × (is_fetch op ≡ true → s < r)
 pub record FlowRules (p : Pipe) : Type 0 where
   pub graph : Ways p
   -- F1
-  pub branches : (s : ℕ) (x : Branch) → (stage_at p s).branch ≡ Some x → none_of trunk_only (in_stage s p.stmts) ≡ true
+  pub branches : (x : Branch) (c : List Branch) (s : ℕ) → Home p (x ∷ c) s → none_of trunk_only (in_stage s p.stmts) ≡ true
   -- L2, F1, S3
   pub reserves : (m : ℕ) → all_at (is_reserve m) (reserve_stage p m) p.stmts ≡ true
   pub releases : (m : ℕ) → all_at (is_release m) (commit_stage p m) p.stmts ≡ true
-  pub trunk_reserve : (m : ℕ) → (stage_at p (reserve_stage p m)).branch ≡ None
-  pub trunk_commit : (m : ℕ) → (stage_at p (commit_stage p m)).branch ≡ None
+  pub trunk_reserve : (m : ℕ) → Trunk p (reserve_stage p m)
+  pub trunk_commit : (m : ℕ) → Trunk p (commit_stage p m)
   pub verifies : (v : ℕ) → verify_stage p.stmts ≡ Some v → all_at is_verify v p.stmts ≡ true
   -- N2, N3: a guard's variable is bound nowhere but before it in the text
   pub fixed_guards : is_fixed p.stmts ≡ true
@@ -180,8 +192,9 @@ pub record FlowRules (p : Pipe) : Type 0 where
   -- N2, N3: the definition of a guard's variable stands before each use of a path, a delayed read's before the separator before it
   pub guards_late : (path : List ℕ)
       → AllOf (λ z. all_hold z.guards path ≡ true → AllOf (λ y. binds_guard y.op z.guards ≡ true → DefinedBy y.stage y.op z.stage) p.stmts) p.stmts
-  -- and that of a fork's guard before the fork
-  pub forks_late : (s x a b : ℕ) → (stage_at p s).next ≡ Forks x a b → AllOf (λ y. binds_var x y.op ≡ true → DefinedBy y.stage y.op s) p.stmts
+  -- and that of a fork's guard before the fork, where some path comes to it
+  pub forks_late : (path : List ℕ) (s x a b : ℕ) → visits_stage p path s ≡ true → (stage_at p s).next ≡ Forks x a b
+      → AllOf (λ y. binds_var x y.op ≡ true → DefinedBy y.stage y.op s) p.stmts
   -- L1, L4 to L7
   pub uses : (path : List ℕ) (m : ℕ) → uses_ok m Fresh (onpath path p.stmts) ≡ true
   pub over : (path : List ℕ) (m : ℕ) → is_over (phase_all m Fresh (onpath path p.stmts)) ≡ true
@@ -191,6 +204,16 @@ pub record FlowRules (p : Pipe) : Type 0 where
   pub unfetched : (m : ℕ) → length p.mems ≤ m → none_of (is_delayed_read m) p.stmts ≡ true
   -- S1, S2, N3
   pub calls : (path : List ℕ) → calls_ok false (onpath path p.stmts) ≡ true
+  -- F4, F5: a statement takes a memory by its kind
+  pub advice : KeepsAdvice p
+  -- S2, S3: a stage of a path that makes a guess verifies none
+  pub guess_apart : (path : List ℕ) (s : ℕ)
+      → (none_of is_spec_call (onpath path (in_stage s p.stmts)) ≡ true) ⊎ (none_of is_check (onpath path (in_stage s p.stmts)) ≡ true)
+  -- S6: each path has one update at most
+  pub updates : (path : List ℕ) → once is_update false (onpath path p.stmts) ≡ true
+  -- S3, S6: a stage of a path that updates a guess verifies none
+  pub update_apart : (path : List ℕ) (s : ℕ)
+      → (none_of is_update (onpath path (in_stage s p.stmts)) ≡ true) ⊎ (none_of is_verify (onpath path (in_stage s p.stmts)) ≡ true)
   -- F3
   pub one_fetch : (m : ℕ) → at_most_one (is_delayed_read m) p.stmts ≡ true
   pub fetch_inside : (s : ℕ) → suc s ≡ length p.stages → none_of is_fetch (in_stage s p.stmts) ≡ true

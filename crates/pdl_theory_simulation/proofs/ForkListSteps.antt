@@ -1,33 +1,20 @@
 -- The list of a fork as one more thread comes behind: one that enters, one that stays, and one that leaves.
-use Rattle.std.proofs.Common.{◌≡◌, refl, sym, ap, ap₂, ◌∙◌, Bool, true, false, ◌&&◌, not, List, [], ◌∷◌, ◌++◌, Some, None, if◌then◌else◌, append-nil, append_assoc}
+use Rattle.std.proofs.Common.{◌≡◌, refl, sym, ap, ap₂, ◌∙◌, Bool, true, false, ◌&&◌, not, List, [], ◌∷◌, ◌++◌, if◌then◌else◌, append-nil, append_assoc}
 use Rattle.pdl_semantics.specs.Flat.{Op, Verify, Stmt}
-use Rattle.pdl_semantics.specs.Stages.{verify_stage, is_verify}
+use Rattle.pdl_semantics.specs.Stages.{is_check}
 use Rattle.pdl_semantics.specs.Moves.{is_nobody}
 use Rattle.pdl_semantics.specs.Cycle.{but_first}
 use Rattle.pdl_theory_facts.specs.Scans.{none_of}
 use Rattle.pdl_theory_simulation.proofs.FlowFacts.{trunk_only}
 use Rattle.pdl_theory_derived.proofs.Writes.{and_left, and_right}
 
--- statements without a stage of verifies have no verify among them
-pub no_verifies : (xs : List Stmt) → verify_stage xs ≡ None → none_of is_verify xs ≡ true
-no_verifies [] h = refl
-no_verifies (x ∷ xs) h = at (is_verify x.op) h (no_verifies xs)
+-- statements that may stand in a branch have no verify and no update among them
+pub unchecked_trunk : (xs : List Stmt) → none_of trunk_only xs ≡ true → none_of is_check xs ≡ true
+unchecked_trunk [] h = refl
+unchecked_trunk (x ∷ xs) h = ap₂ (λ a b. a && b) (off x.op (and_left _ _ h)) (unchecked_trunk xs (and_right _ _ h))
   where
-    clash : Some x.stage ≡ None → ⊥
-    clash e = cc
-
-    at : (b : Bool) → (if b then Some x.stage else verify_stage xs) ≡ None → (verify_stage xs ≡ None → none_of is_verify xs ≡ true)
-        → (not b && none_of is_verify xs) ≡ true
-    at true e f = absurd (clash e)
-    at false e f = f e
-
--- statements that may stand in a branch have no verify among them
-pub verify_trunk : (xs : List Stmt) → none_of trunk_only xs ≡ true → none_of is_verify xs ≡ true
-verify_trunk [] h = refl
-verify_trunk (x ∷ xs) h = ap₂ (λ a b. a && b) (off x.op (and_left _ _ h)) (verify_trunk xs (and_right _ _ h))
-  where
-    off : (op : Op) → not (trunk_only op) ≡ true → not (is_verify op) ≡ true
-    off (Verify args) h = absurd (cc h)
+    off : (op : Op) → not (trunk_only op) ≡ true → not (is_check op) ≡ true
+    off (Verify last args) h = absurd (cc h)
     off _ h = refl
 
 but_append : (xs : List Bool) (c : Bool) → is_nobody xs ≡ false → but_first (xs ++ c ∷ []) ≡ but_first xs ++ c ∷ []

@@ -1,35 +1,36 @@
 -- After a cycle a fork's list holds the branches of just the threads inside it, oldest first.
-use Rattle.std.proofs.Common.{◌≡◌, refl, sym, ap, ap₂, ◌∙◌, subst, ℕ, ◌≤◌, ◌<◌, ◌⊎◌, inl, inr, Bool, true, false, ◌&&◌, ◌||◌, not, List, [], ◌∷◌, ◌++◌, Option, Some, None, is_some, ◌==◌, cond, if◌then◌else◌, arith, append-nil, eq-eqb, le_refl}
+use Rattle.std.proofs.Common.{◌≡◌, refl, sym, ap, ap₂, ◌∙◌, subst, ℕ, suc, length, ◌≤◌, ◌<◌, ◌⊎◌, inl, inr, Bool, true, false, ◌&&◌, ◌||◌, not, List, [], ◌∷◌, ◌++◌, Option, Some, None, ◌==◌, cond, if◌then◌else◌, arith, append-nil, eq-eqb, le_refl}
 use Rattle.std.proofs.lemmas.Bool.{eqb-true, eqb-false, ne_eqb}
 use Rattle.pdl_semantics.specs.Flat.{Pipe, Branch, list_all}
-use Rattle.pdl_semantics.specs.Stages.{in_stage, stage_at, goes_to, is_branch_of, is_inside, merges_fork, verify_stage, is_verify}
+use Rattle.pdl_semantics.specs.Stages.{in_stage, stage_at, goes_to, list_any, is_inside, sides_of, merges_fork}
 use Rattle.pdl_semantics.specs.Machine.{State}
 use Rattle.pdl_semantics.specs.Moves.{movers, next_stage, is_nobody}
-use Rattle.pdl_semantics.specs.Cycle.{entered_branches, goes_into, goes_out, has_left, but_first, merges_by}
-use Rattle.pdl_semantics.specs.Sound.{side_in}
+use Rattle.pdl_semantics.specs.Cycle.{entered_branches, goes_into, goes_out, has_left, but_first, merges_by, squash_stage}
 use Rattle.pdl_semantics.specs.Cycle
 use Rattle.pdl_semantics.specs.Moves
+use Rattle.pdl_semantics.specs.Promises.{DifferInAdvice}
 use Rattle.pdl_theory_derived.specs.Derived.{Work, around}
 use Rattle.pdl_theory_derived.specs.Derived
 use Rattle.pdl_theory_facts.specs.Scans.{none_of}
-use Rattle.pdl_theory_simulation.proofs.FlowFacts.{Flows, Leads}
+use Rattle.pdl_theory_facts.proofs.Nested.{within_home, came_from_way, inside_at, not_inside, inside_of, sides_outside, sides_other, outside_self, sides_inside}
+use Rattle.pdl_theory_simulation.proofs.FlowFacts.{Home, Within, Trunk, Way, Flows, Leads}
 use Rattle.pdl_theory_derived.proofs.Writes.{and_right}
-use Rattle.pdl_theory_turns.proofs.Turn.{none_in_stage}
-use Rattle.pdl_theory_simulation.proofs.Stretches.{Behind, start_of}
-use Rattle.pdl_theory_simulation.proofs.Seats.{Live, each_map, Ordered, dacts, lacts, lact, did, now_of, deeds_of, work_of_live}
-use Rattle.pdl_theory_simulation.proofs.Choices.{Known, AllKnown, told_here}
+use Rattle.pdl_theory_simulation.proofs.Stretches.{Behind, left_trunk, fork_left, start_of}
+use Rattle.pdl_theory_simulation.proofs.Seats.{Live, each_map, Ordered, dacts, lacts, lact, did, now_of, deeds_of, work_of_live, advised}
+use Rattle.pdl_theory_simulation.proofs.Choices.{Known, AllKnown, like_here}
+use Rattle.pdl_theory_simulation.proofs.Sayings.{MovesForeseen, AllForeseen}
 use Rattle.pdl_theory_simulation.proofs.ThreadFacts.{someone, behind_someone, sides, sides_append}
 use Rattle.pdl_theory_simulation.proofs.Orders.{sides_none, sides_nobody}
 use Rattle.pdl_theory_simulation.proofs.LockLists.{fell, moved_live, stood, next_live, go_on}
-use Rattle.pdl_theory_simulation.proofs.LiveThreads.{stuck_here, born_live}
+use Rattle.pdl_theory_simulation.proofs.LiveThreads.{stuck_here, born_live, squash_stage_is, no_squash_stage}
 use Rattle.pdl_theory_simulation.proofs.ThreadPlaces.{behind_stay, leads_of, enters_here, each_next}
 use Rattle.pdl_theory_turns.proofs.Guesses.{unfailed}
-use Rattle.pdl_theory_turns.proofs.OfStage.{none_stage}
+use Rattle.pdl_semantics.specs.Stages.{is_check}
 use Rattle.pdl_word.specs.Each.{Each}
 use Rattle.pdl_word.proofs.Each.{each_append}
-use Rattle.pdl_theory_simulation.proofs.ForkListSteps.{no_verifies, verify_trunk, list_neutral, list_inside, list_leaves}
+use Rattle.pdl_theory_simulation.proofs.ForkListSteps.{unchecked_trunk, list_neutral, list_inside, list_leaves}
 
-module _ (p : Pipe) (flows : Flows p) (st : State) (d : Derived.State) (bits : List Bool) (arrays : st.arrays ≡ d.arrays) where
+module _ (p : Pipe) (flows : Flows p) (st : State) (d : Derived.State) (bits : List Bool) (arrays : DifferInAdvice p st.arrays d.arrays) where
   -- the live threads after the cycle, if no squash removes any
   abbrev pub all_on : List Live → List Live
   all_on [] = []
@@ -41,13 +42,13 @@ module _ (p : Pipe) (flows : Flows p) (st : State) (d : Derived.State) (bits : L
 
   next_is : (ls : List Live) (l : Live) → Known p flows st d bits arrays ls l
       → next_stage p l.thread.stage (deeds_of p st bits l) ≡ goes_to (stage_at p l.thread.stage).next (work_of_live p d bits ls l).env
-  next_is ls l k = ap (λ (w : Work). goes_to (stage_at p l.thread.stage).next w.env) (sym (told_here p flows st d bits arrays ls l k).is)
+  next_is ls l k = ap (λ (w : Work). goes_to (stage_at p l.thread.stage).next w.env) (sym (like_here p flows st d bits arrays ls l k).is)
 
   -- ONE FORK
   module _ (f : ℕ) where
     -- what one thread does to the list
     abbrev pub leaves : Live → Bool
-    leaves l = is_branch_of (stage_at p l.thread.stage).branch f && goes_out p f (next_stage p l.thread.stage (deeds_of p st bits l))
+    leaves l = is_inside p f l.thread.stage && goes_out p f (next_stage p l.thread.stage (deeds_of p st bits l))
 
     -- the branch that a thread appends to the fork's list, none where it doesn't go from the fork into one
     abbrev pub enters : Live → List Bool
@@ -63,7 +64,9 @@ module _ (p : Pipe) (flows : Flows p) (st : State) (d : Derived.State) (bits : L
 
     left_none : (ls : List Live) → is_nobody (sides p f ls) ≡ true → has_left p f (ms ls) ≡ false
     left_none [] h = refl
-    left_none (l ∷ ls) h = at (did p d bits ls l).moves (left_none ls (front (sides p f ls) (side_in f (stage_at p l.thread.stage).branch) h)) (outside (stage_at p l.thread.stage).branch refl)
+    left_none (l ∷ ls) h =
+        at (did p d bits ls l).moves (left_none ls (front (sides p f ls) (sides_of f (stage_at p l.thread.stage).branches) h))
+        (outside (is_inside p f l.thread.stage) refl)
       where
         front : (xs ys : List Bool) → is_nobody (xs ++ ys) ≡ true → is_nobody xs ≡ true
         front [] ys e = refl
@@ -73,15 +76,15 @@ module _ (p : Pipe) (flows : Flows p) (st : State) (d : Derived.State) (bits : L
         behind [] ys e = e
         behind (x ∷ xs) ys e = absurd (cc e)
 
-        outside : (b : Option Branch) → (stage_at p l.thread.stage).branch ≡ b → is_branch_of (stage_at p l.thread.stage).branch f ≡ false
-        outside None e = ap (λ c. is_branch_of c f) e
-        outside (Some x) e = by (x.fork == f) refl
-          where
-            by : (t : Bool) → (x.fork == f) ≡ t → is_branch_of (stage_at p l.thread.stage).branch f ≡ false
-            by true i = absurd (cc (sym (behind (sides p f ls) (side_in f (stage_at p l.thread.stage).branch) h) ∙ ap (λ c. is_nobody (side_in f c)) e ∙ ap (λ t. is_nobody (if t then x.first ∷ [] else [])) i))
-            by false i = ap (λ c. is_branch_of c f) e ∙ i
+        outside : (b : Bool) → is_inside p f l.thread.stage ≡ b → is_inside p f l.thread.stage ≡ false
+        outside false e = e
+        outside true e =
+            inside_at p f l.thread.stage e
+            (λ x c i j. absurd (cc
+            (sym (behind (sides p f ls) (sides_of f (stage_at p l.thread.stage).branches) h)
+            ∙ ap is_nobody (sides_inside p flows.graph.fork_below f x c l.thread.stage i j))))
 
-        at : (b : Bool) → has_left p f (ms ls) ≡ false → is_branch_of (stage_at p l.thread.stage).branch f ≡ false
+        at : (b : Bool) → has_left p f (ms ls) ≡ false → is_inside p f l.thread.stage ≡ false
             → has_left p f (cond b (lact p st d bits ls l ∷ ms ls) (ms ls)) ≡ false
         at true e i = ap₂ (λ a c. (a && goes_out p f (next_stage p l.thread.stage (deeds_of p st bits l))) || c) i e
         at false e i = e
@@ -94,12 +97,16 @@ module _ (p : Pipe) (flows : Flows p) (st : State) (d : Derived.State) (bits : L
         at false e = e
 
     -- older threads than one inside are past the fork stage
-    past_fork : (l : Live) (x : Branch) (ls : List Live) → (stage_at p l.thread.stage).branch ≡ Some x → x.fork ≡ f
+    past_fork : (l : Live) (x : Branch) (c : List Branch) (ls : List Live) → Within p (x ∷ c) l.thread.stage → x.fork ≡ f
         → Each (λ k. Behind p l.thread.stage k.thread.stage) ls → Each (λ k. k.thread.stage ≡ f → ⊥) ls
-    past_fork l x ls e i b = each_map (λ k h j. late k h j) ls b
+    past_fork l x c ls e i b = each_map (λ k h j. late k h j) ls b
       where
         late : (k : Live) → Behind p l.thread.stage k.thread.stage → k.thread.stage ≡ f → ⊥
-        late k h j = let below = flows.graph.fork_below l.thread.stage x e in let less : x.fork < k.thread.stage = h.trunk x.fork below.1 (let u = below.0 in omega arith) in absurd (omega arith)
+        late k h j =
+            let home : Home p c x.fork = (flows.graph.fork_below x c l.thread.stage e).0 in
+            let less : x.fork < k.thread.stage = fork_left p flows.graph x c l.thread.stage k.thread.stage h e
+            (within_home p c _ (subst (λ n. Home p c n) (i ∙ sym j) home)) in
+            absurd (omega arith)
 
     nobody_nil : (xs : List Bool) → is_nobody xs ≡ true → xs ≡ []
     nobody_nil [] h = refl
@@ -114,304 +121,378 @@ module _ (p : Pipe) (flows : Flows p) (st : State) (d : Derived.State) (bits : L
         behind_next : (xs : List Live) → sides p f (xs ++ all_on ls) ≡ sides p f (all_on ls) ++ sides p f xs
         behind_next xs = sides_append p f xs (all_on ls)
 
-        inside_x : (x : Branch) → (stage_at p l.thread.stage).branch ≡ Some x → x.fork ≡ f → side_in f (stage_at p l.thread.stage).branch ≡ x.first ∷ []
-        inside_x x e i = ap (side_in f) e ∙ ap (λ t. if t then x.first ∷ [] else []) (eq-eqb _ _ i)
-
         -- the list of the fork with a thread behind the others that stays where it is
-        stands : (b : Option Branch) → (stage_at p l.thread.stage).branch ≡ b
-            → (if has_left p f (ms ls) then but_first (sides p f ls) else sides p f ls) ++ entered_branches p f (ms ls) ≡ sides p f (all_on ls)
+        stands : (if has_left p f (ms ls) then but_first (sides p f ls) else sides p f ls) ++ entered_branches p f (ms ls) ≡ sides p f (all_on ls)
             → (if has_left p f (ms ls)
-            then but_first (sides p f ls ++ side_in f (stage_at p l.thread.stage).branch)
-            else (sides p f ls ++ side_in f (stage_at p l.thread.stage).branch))
+            then but_first (sides p f ls ++ sides_of f (stage_at p l.thread.stage).branches)
+            else (sides p f ls ++ sides_of f (stage_at p l.thread.stage).branches))
             ++ entered_branches p f (ms ls)
-            ≡ sides p f (all_on ls) ++ side_in f (stage_at p l.thread.stage).branch
-        stands b e h =
-            sym (ap (λ u. (if has_left p f (ms ls) then but_first (sides p f ls ++ side_in f (stage_at p l.thread.stage).branch) else (sides p f ls ++ side_in f (stage_at p l.thread.stage).branch)) ++ u) (append-nil _))
-            ∙ by b e
+            ≡ sides p f (all_on ls) ++ sides_of f (stage_at p l.thread.stage).branches
+        stands h =
+            sym
+            (ap (λ u. (if has_left p f (ms ls) then but_first (sides p f ls ++ sides_of f (stage_at p l.thread.stage).branches) else
+            (sides p f ls ++ sides_of f (stage_at p l.thread.stage).branches)) ++ u) (append-nil _))
+            ∙ by (is_inside p f l.thread.stage) refl
           where
-            by : (b : Option Branch) → (stage_at p l.thread.stage).branch ≡ b
-                → (if has_left p f (ms ls)
-                then but_first (sides p f ls ++ side_in f (stage_at p l.thread.stage).branch)
-                else (sides p f ls ++ side_in f (stage_at p l.thread.stage).branch))
+            by : (b : Bool) → is_inside p f l.thread.stage ≡ b → (if has_left p f (ms ls)
+                then but_first (sides p f ls ++ sides_of f (stage_at p l.thread.stage).branches)
+                else (sides p f ls ++ sides_of f (stage_at p l.thread.stage).branches))
                 ++ (entered_branches p f (ms ls) ++ [])
-                ≡ sides p f (all_on ls) ++ side_in f (stage_at p l.thread.stage).branch
-            by None e = list_neutral (has_left p f (ms ls)) (sides p f ls) (entered_branches p f (ms ls)) (sides p f (all_on ls)) (side_in f (stage_at p l.thread.stage).branch) (side_in f (stage_at p l.thread.stage).branch) [] h (ap (side_in f) e) (sym (ap (side_in f) e))
-            by (Some x) e = which (x.fork == f) refl
-              where
-                which : (t : Bool) → (x.fork == f) ≡ t
-                    → (if has_left p f (ms ls)
-                    then but_first (sides p f ls ++ side_in f (stage_at p l.thread.stage).branch)
-                    else (sides p f ls ++ side_in f (stage_at p l.thread.stage).branch))
-                    ++ (entered_branches p f (ms ls) ++ [])
-                    ≡ sides p f (all_on ls) ++ side_in f (stage_at p l.thread.stage).branch
-                which true i =
-                    subst (λ s. (if has_left p f (ms ls) then but_first (sides p f ls ++ s) else (sides p f ls ++ s)) ++ (entered_branches p f (ms ls) ++ []) ≡ sides p f (all_on ls) ++ s) (sym (inside_x x e (eqb-true _ _ i)))
-                    (list_inside (has_left p f (ms ls)) (sides p f ls) (entered_branches p f (ms ls)) (sides p f (all_on ls)) x.first h (entered_none ls (past_fork l x ls e (eqb-true _ _ i) o.0)) (some_left ls))
-                which false i =
-                    let none : side_in f (stage_at p l.thread.stage).branch ≡ [] = ap (side_in f) e ∙ ap (λ t. if t then x.first ∷ [] else []) i in
-                    list_neutral (has_left p f (ms ls)) (sides p f ls) (entered_branches p f (ms ls)) (sides p f (all_on ls)) (side_in f (stage_at p l.thread.stage).branch) (side_in f (stage_at p l.thread.stage).branch) [] h none (sym none)
+                ≡ sides p f (all_on ls) ++ sides_of f (stage_at p l.thread.stage).branches
+            by false e =
+                let none : sides_of f (stage_at p l.thread.stage).branches ≡ [] = sides_outside f _ e in
+                list_neutral (has_left p f (ms ls)) (sides p f ls) (entered_branches p f (ms ls)) (sides p f (all_on ls))
+                (sides_of f (stage_at p l.thread.stage).branches) (sides_of f (stage_at p l.thread.stage).branches) [] h none (sym none)
+            by true e =
+                inside_at p f l.thread.stage e
+                (λ x c i j.
+                subst
+                (λ s. (if has_left p f (ms ls) then but_first (sides p f ls ++ s) else (sides p f ls ++ s)) ++ (entered_branches p f (ms ls) ++ [])
+                ≡ sides p f (all_on ls) ++ s) (sym (sides_inside p flows.graph.fork_below f x c l.thread.stage i j))
+                (list_inside (has_left p f (ms ls)) (sides p f ls) (entered_branches p f (ms ls)) (sides p f (all_on ls)) x.first h
+                (entered_none ls (past_fork l x c ls i j o.0)) (some_left ls)))
 
-        -- the list of the fork with a thread behind the others that is outside it and moves
-        outside_moves : is_branch_of (stage_at p l.thread.stage).branch f ≡ false → (after : List Bool) → enters l ≡ after
-            → side_in f (stage_at p l.thread.stage).branch ≡ []
+        -- the list of the fork with a thread behind the others that is outside it and enters it, perhaps
+        outside_moves : is_inside p f l.thread.stage ≡ false → (after : List Bool) → enters l ≡ after
             → (if has_left p f (ms ls) then but_first (sides p f ls) else sides p f ls) ++ entered_branches p f (ms ls) ≡ sides p f (all_on ls)
             → (if leaves l
-            || has_left p f (ms ls) then but_first (sides p f ls ++ side_in f (stage_at p l.thread.stage).branch)
-            else (sides p f ls ++ side_in f (stage_at p l.thread.stage).branch))
+            || has_left p f (ms ls) then but_first (sides p f ls ++ sides_of f (stage_at p l.thread.stage).branches)
+            else (sides p f ls ++ sides_of f (stage_at p l.thread.stage).branches))
             ++ (entered_branches p f (ms ls) ++ enters l)
             ≡ sides p f (all_on ls) ++ after
-        outside_moves off after e none h =
-            ap (λ b. (if (b && goes_out p f (next_stage p l.thread.stage (deeds_of p st bits l))) || has_left p f (ms ls) then but_first (sides p f ls ++ side_in f (stage_at p l.thread.stage).branch) else (sides p f ls ++ side_in f (stage_at p l.thread.stage).branch)) ++ (entered_branches p f (ms ls) ++ enters l)) off
-            ∙ list_neutral (has_left p f (ms ls)) (sides p f ls) (entered_branches p f (ms ls)) (sides p f (all_on ls)) (side_in f (stage_at p l.thread.stage).branch) after (enters l) h none e
-
-        -- from the fork it enters a branch
-        enters_side : (q : ℕ) → next_stage p l.thread.stage (deeds_of p st bits l) ≡ Some q
-            → ((z : Branch) → (stage_at p q).branch ≡ Some z → z.fork ≡ f → l.thread.stage ≡ f) → enters l ≡ side_in f (stage_at p q).branch
-        enters_side q i only = by (l.thread.stage == f) refl
-          where
-            none : (l.thread.stage ≡ f → ⊥) → (c : Option Branch) → (stage_at p q).branch ≡ c → [] ≡ side_in f (stage_at p q).branch
-            none n None e = sym (ap (side_in f) e)
-            none n (Some z) e = sym (ap (side_in f) e ∙ inner (z.fork == f) refl)
-              where
-                inner : (t : Bool) → (z.fork == f) ≡ t → cond t (z.first ∷ []) [] ≡ []
-                inner true j = absurd (n (only z e (eqb-true _ _ j)))
-                inner false j = refl
-
-            by : (t : Bool) → (l.thread.stage == f) ≡ t
-                → (if t then goes_into p f (next_stage p l.thread.stage (deeds_of p st bits l)) else []) ≡ side_in f (stage_at p q).branch
-            by true e = ap (goes_into p f) i
-            by false e = none (λ j. eqb-false _ _ e j) (stage_at p q).branch refl
+        outside_moves off after e h =
+            ap
+            (λ b. (if (b && goes_out p f (next_stage p l.thread.stage (deeds_of p st bits l))) || has_left p f (ms ls) then but_first
+            (sides p f ls ++ sides_of f (stage_at p l.thread.stage).branches) else
+            (sides p f ls ++ sides_of f (stage_at p l.thread.stage).branches)) ++ (entered_branches p f (ms ls) ++ enters l)) off
+            ∙ list_neutral (has_left p f (ms ls)) (sides p f ls) (entered_branches p f (ms ls)) (sides p f (all_on ls))
+            (sides_of f (stage_at p l.thread.stage).branches) after (enters l) h (sides_outside f _ off) e
 
         leads : (q : ℕ) → next_stage p l.thread.stage (deeds_of p st bits l) ≡ Some q → Leads p l.thread.stage q
         leads q i = ((deeds_of p st bits l).env, i, k.0.seated.keeps_on.inside)
 
-        -- inside, it moves on in its branch
-        moves_inside : (q : ℕ) → next_stage p l.thread.stage (deeds_of p st bits l) ≡ Some q → (x : Branch) → (stage_at p l.thread.stage).branch ≡ Some x
-            → x.fork ≡ f → (stage_at p q).branch ≡ Some x
+        -- from the fork it enters a branch
+        enters_side : (q : ℕ)
+            → next_stage p l.thread.stage (deeds_of p st bits l) ≡ Some q → is_inside p f l.thread.stage ≡ false
+            → enters l ≡ sides_of f (stage_at p q).branches
+        enters_side q i off = by (l.thread.stage == f) refl
+          where
+            came : (x : Branch) (c : List Branch) → x.fork ≡ f → (l.thread.stage ≡ f → ⊥) → (x.fork ≡ l.thread.stage) ⊎ Within p (x ∷ c) l.thread.stage → ⊥
+            came x c e n (inl j) = n (sym j ∙ e)
+            came x c e n (inr j) = cc (sym off ∙ inside_of p f l.thread.stage x c j e)
+
+            by : (t : Bool)
+                → (l.thread.stage == f) ≡ t
+                → (if t then goes_into p f (next_stage p l.thread.stage (deeds_of p st bits l)) else []) ≡ sides_of f (stage_at p q).branches
+            by true e = ap (goes_into p f) i
+            by false e =
+                sym
+                (sides_outside f (stage_at p q).branches
+                (not_inside p f q (λ x c w j. came x c j (eqb-false _ _ e)
+                (came_from_way p x c l.thread.stage q (flows.graph.way l.thread.stage q (leads q i)) w))))
+
+        -- inside, it enters nothing of this fork, and stays inside or leaves
+        inside_moves : (x : Branch) (c : List Branch)
+            → Within p (x ∷ c) l.thread.stage → x.fork ≡ f → (did p d bits ls l).moves ≡ true → (q : ℕ)
+            → next_stage p l.thread.stage (deeds_of p st bits l) ≡ Some q
             → (if has_left p f (ms ls) then but_first (sides p f ls) else sides p f ls) ++ entered_branches p f (ms ls) ≡ sides p f (all_on ls)
             → (if leaves l
-            || has_left p f (ms ls) then but_first (sides p f ls ++ side_in f (stage_at p l.thread.stage).branch)
-            else (sides p f ls ++ side_in f (stage_at p l.thread.stage).branch))
+            || has_left p f (ms ls) then but_first (sides p f ls ++ sides_of f (stage_at p l.thread.stage).branches)
+            else (sides p f ls ++ sides_of f (stage_at p l.thread.stage).branches))
             ++ (entered_branches p f (ms ls) ++ enters l)
-            ≡ sides p f (all_on ls) ++ side_in f (stage_at p q).branch
-        moves_inside q i x e j b h =
-            (λ t. (if stays_in t || has_left p f (ms ls) then but_first (sides p f ls ++ inside_x x e j t) else (sides p f ls ++ inside_x x e j t)) ++ (entered_branches p f (ms ls) ++ no_fork t))
-            ∙ list_inside (has_left p f (ms ls)) (sides p f ls) (entered_branches p f (ms ls)) (sides p f (all_on ls)) x.first h (entered_none ls (past_fork l x ls e j o.0)) (some_left ls)
-            ∙ ap (λ u. sides p f (all_on ls) ++ u) (sym (ap (side_in f) b ∙ ap (λ t. if t then x.first ∷ [] else []) (eq-eqb _ _ j)))
+            ≡ sides p f (all_on ls) ++ sides_of f (stage_at p q).branches
+        inside_moves x c here its go q i h = at (flows.graph.way l.thread.stage q (leads q i))
           where
             below : x.fork < l.thread.stage
-            below = (flows.graph.fork_below l.thread.stage x e).0
+            below = (flows.graph.fork_below x c l.thread.stage here).1
 
-            no_fork : enters l ≡ []
-            no_fork = ap (λ t. if t then goes_into p f (next_stage p l.thread.stage (deeds_of p st bits l)) else []) (ne_eqb l.thread.stage f (λ u. absurd (let v = below in omega arith)))
+            not_f : l.thread.stage ≡ f → ⊥
+            not_f u = let v = below in omega arith
 
-            no_merge : (r : Option ℕ) → (stage_at p q).merges ≡ r → merges_fork (stage_at p q).merges f ≡ false
-            no_merge None u = ap (λ r. merges_fork r f) u
-            no_merge (Some g) u = absurd (cc (sym b ∙ (flows.graph.merge l.thread.stage q g (leads q i) u).0))
+            no_entry : enters l ≡ []
+            no_entry = ap (λ t. if t then goes_into p f (next_stage p l.thread.stage (deeds_of p st bits l)) else []) (ne_eqb l.thread.stage f not_f)
 
-            stays_in : leaves l ≡ false
-            stays_in = ap (λ r. is_branch_of (stage_at p l.thread.stage).branch f && goes_out p f r) i ∙ ap (λ t. is_branch_of (stage_at p l.thread.stage).branch f && t) (no_merge (stage_at p q).merges refl) ∙ off (is_branch_of (stage_at p l.thread.stage).branch f)
+            mine : sides_of f (stage_at p l.thread.stage).branches ≡ x.first ∷ []
+            mine = sides_inside p flows.graph.fork_below f x c l.thread.stage here its
+
+            -- it stays inside
+            moves_inside : (q : ℕ)
+                → next_stage p l.thread.stage (deeds_of p st bits l) ≡ Some q
+                → sides_of f (stage_at p q).branches ≡ sides_of f (stage_at p l.thread.stage).branches
+                → merges_fork (stage_at p q).merges f ≡ false
+                → (if has_left p f (ms ls) then but_first (sides p f ls) else sides p f ls) ++ entered_branches p f (ms ls) ≡ sides p f (all_on ls)
+                → (if leaves l || has_left p f (ms ls) then but_first (sides p f ls ++ sides_of f (stage_at p l.thread.stage).branches) else
+                (sides p f ls ++ sides_of f (stage_at p l.thread.stage).branches)) ++ (entered_branches p f (ms ls) ++ enters l)
+                ≡ sides p f (all_on ls) ++ sides_of f (stage_at p q).branches
+            moves_inside q i same no_merge h =
+                (λ t. (if stays t || has_left p f (ms ls) then but_first (sides p f ls ++ mine t) else (sides p f ls ++ mine t))
+                ++ (entered_branches p f (ms ls) ++ no_entry t))
+                ∙ list_inside (has_left p f (ms ls)) (sides p f ls) (entered_branches p f (ms ls)) (sides p f (all_on ls)) x.first h
+                (entered_none ls (past_fork l x c ls here its o.0)) (some_left ls)
+                ∙ ap (λ u. sides p f (all_on ls) ++ u) (sym (same ∙ mine))
               where
                 off : (t : Bool) → (t && false) ≡ false
                 off true = refl
                 off false = refl
 
-        -- the list of the fork with a thread that leaves into the merge, the oldest inside
-        moves_out : (did p d bits ls l).moves ≡ true → (q : ℕ) → next_stage p l.thread.stage (deeds_of p st bits l) ≡ Some q → (x : Branch)
-            → (stage_at p l.thread.stage).branch ≡ Some x → x.fork ≡ f → (stage_at p q).merges ≡ Some x.fork
-            → (if has_left p f (ms ls) then but_first (sides p f ls) else sides p f ls) ++ entered_branches p f (ms ls) ≡ sides p f (all_on ls)
-            → (if leaves l
-            || has_left p f (ms ls) then but_first (sides p f ls ++ side_in f (stage_at p l.thread.stage).branch)
-            else (sides p f ls ++ side_in f (stage_at p l.thread.stage).branch))
-            ++ (entered_branches p f (ms ls) ++ enters l)
-            ≡ sides p f (all_on ls) ++ side_in f (stage_at p q).branch
-        moves_out go q i x e j m h =
-            (λ t. (if goes t || has_left p f (ms ls) then but_first (sides p f ls ++ inside_x x e j t) else (sides p f ls ++ inside_x x e j t)) ++ (entered_branches p f (ms ls) ++ no_fork t))
-            ∙ list_leaves (has_left p f (ms ls)) (sides p f ls) (entered_branches p f (ms ls)) (sides p f (all_on ls)) x.first h (nobody_nil (sides p f ls) nobody) (entered_none ls (past_fork l x ls e j o.0)) (left_none ls nobody)
-            ∙ ap (λ u. sides p f (all_on ls) ++ u) (sym (ap (side_in f) (flows.graph.merge l.thread.stage q x.fork (leads q i) m).0))
-          where
-            below : x.fork < l.thread.stage
-            below = (flows.graph.fork_below l.thread.stage x e).0
+                stays : leaves l ≡ false
+                stays =
+                    ap (λ r. is_inside p f l.thread.stage && goes_out p f r) i ∙ ap (λ t. is_inside p f l.thread.stage && t) no_merge
+                    ∙ off (is_inside p f l.thread.stage)
 
-            no_fork : enters l ≡ []
-            no_fork = ap (λ t. if t then goes_into p f (next_stage p l.thread.stage (deeds_of p st bits l)) else []) (ne_eqb l.thread.stage f (λ u. absurd (let v = below in omega arith)))
+            -- the list of the fork with a thread that leaves into the merge, the oldest inside
+            moves_out : (did p d bits ls l).moves ≡ true
+                → (q : ℕ) → next_stage p l.thread.stage (deeds_of p st bits l) ≡ Some q → sides_of f (stage_at p q).branches ≡ []
+                → (stage_at p q).merges ≡ Some f
+                → (if has_left p f (ms ls) then but_first (sides p f ls) else sides p f ls) ++ entered_branches p f (ms ls) ≡ sides p f (all_on ls)
+                → (if leaves l || has_left p f (ms ls)
+                then but_first (sides p f ls ++ sides_of f (stage_at p l.thread.stage).branches)
+                else (sides p f ls ++ sides_of f (stage_at p l.thread.stage).branches))
+                ++ (entered_branches p f (ms ls) ++ enters l)
+                ≡ sides p f (all_on ls) ++ sides_of f (stage_at p q).branches
+            moves_out go q i out m h =
+                (λ t. (if goes t || has_left p f (ms ls) then but_first (sides p f ls ++ mine t) else (sides p f ls ++ mine t))
+                ++ (entered_branches p f (ms ls) ++ no_entry t))
+                ∙ list_leaves (has_left p f (ms ls)) (sides p f ls) (entered_branches p f (ms ls)) (sides p f (all_on ls)) x.first h
+                (nobody_nil (sides p f ls) nobody) (entered_none ls (past_fork l x c ls here its o.0)) (left_none ls nobody)
+                ∙ ap (λ u. sides p f (all_on ls) ++ u) (sym out)
+              where
+                goes : leaves l ≡ true
+                goes =
+                    ap (λ r. is_inside p f l.thread.stage && goes_out p f r) i
+                    ∙ ap₂ (λ b r. b && merges_fork r f) (inside_of p f l.thread.stage x c here its) m ∙ eq-eqb f f refl
 
-            goes : leaves l ≡ true
-            goes =
-                ap (λ r. is_branch_of (stage_at p l.thread.stage).branch f && goes_out p f r) i
-                ∙ ap₂ (λ b r. is_branch_of b f && merges_fork r f) e m ∙ ap₂ (λ a b. a && b) (eq-eqb _ _ j) (eq-eqb _ _ j)
+                can : Derived.can_enter p (dacts p d bits ls) (Some q) ≡ true
+                can = subst (λ r. Derived.can_enter p (dacts p d bits ls) r ≡ true) (sym (next_is ls l k.0) ∙ i) (enters_here p flows st d bits arrays ls l go)
 
-            can : Derived.can_enter p (dacts p d bits ls) (Some q) ≡ true
-            can = subst (λ r. Derived.can_enter p (dacts p d bits ls) r ≡ true) (sym (next_is ls l k.0) ∙ i) (enters_here p flows st d bits arrays ls l go)
+                clear : Derived.fork_clear p (dacts p d bits ls) (stage_at p q).merges ≡ true
+                clear =
+                    and_right (list_all (λ (o : Derived.Act). not (o.before.stage == q) || o.moves) (dacts p d bits ls))
+                    (Derived.fork_clear p (dacts p d bits ls) (stage_at p q).merges) can
 
-            clear : Derived.fork_clear p (dacts p d bits ls) (stage_at p q).merges ≡ true
-            clear = and_right (list_all (λ (o : Derived.Act). not (o.before.stage == q) || o.moves) (dacts p d bits ls)) (Derived.fork_clear p (dacts p d bits ls) (stage_at p q).merges) can
+                nobody : is_nobody (sides p f ls) ≡ true
+                nobody = sides_nobody p d bits f ls ∙ subst (λ r. Derived.fork_clear p (dacts p d bits ls) r ≡ true) m clear
 
-            nobody : is_nobody (sides p f ls) ≡ true
-            nobody = sides_nobody p d bits f ls ∙ subst (λ r. Derived.fork_clear p (dacts p d bits ls) r ≡ true) (m ∙ ap Some j) clear
+            -- who stays in the branches where it is, or enters more, does not come to the merge
+            longer : (a b : ℕ) → a ≡ b → b ≡ suc a → ⊥
+            longer a b e g = omega arith
 
-        no_side : (c : Option Branch) → (stage_at p l.thread.stage).branch ≡ c → is_branch_of c f ≡ false → side_in f (stage_at p l.thread.stage).branch ≡ []
-        no_side None e i = ap (side_in f) e
-        no_side (Some x) e i = ap (side_in f) e ∙ ap (λ t. if t then x.first ∷ [] else []) i
+            twice_longer : (a b : ℕ) → a ≡ suc b → b ≡ suc a → ⊥
+            twice_longer a b e g = omega arith
+
+            no_merge_at : (q : ℕ)
+                → Leads p l.thread.stage q
+                → ((y : Branch) → (stage_at p l.thread.stage).branches ≡ y ∷ (stage_at p q).branches → y.fork ≡ f → ⊥)
+                → merges_fork (stage_at p q).merges f ≡ false
+            no_merge_at q leads' n = at (stage_at p q).merges refl
+              where
+                from : (g : ℕ) → g ≡ f
+                    → ((l.thread.stage ≡ g) × ((stage_at p q).branches ≡ (stage_at p l.thread.stage).branches))
+                    ⊎
+                    ((y : Branch) × ((stage_at p l.thread.stage).branches ≡ y ∷ (stage_at p q).branches) × (y.fork ≡ g)
+                    × ((b : ℕ) → Within p (y ∷ (stage_at p q).branches) b → b ≤ l.thread.stage))
+                    → ⊥
+                from g e (inl j) = not_f (j.0 ∙ e)
+                from g e (inr j) = n j.0 j.1 (j.2 ∙ e)
+
+                at : (r : Option ℕ) → (stage_at p q).merges ≡ r → merges_fork (stage_at p q).merges f ≡ false
+                at None e = ap (λ r. merges_fork r f) e
+                at (Some g) e = ap (λ r. merges_fork r f) e ∙ by (g == f) refl
+                  where
+                    by : (t : Bool) → (g == f) ≡ t → (g == f) ≡ false
+                    by true j = absurd (from g (eqb-true _ _ j) (flows.graph.merge l.thread.stage q g leads' e))
+                    by false j = j
+
+            at : Way p l.thread.stage q
+                →
+                (if leaves l || has_left p f (ms ls) then but_first (sides p f ls ++ sides_of f (stage_at p l.thread.stage).branches) else
+                (sides p f ls ++ sides_of f (stage_at p l.thread.stage).branches)) ++ (entered_branches p f (ms ls)
+                ++ enters l) ≡ sides p f (all_on ls) ++ sides_of f (stage_at p q).branches
+            at (inl e) =
+                moves_inside q i (ap (sides_of f) e)
+                (no_merge_at q (leads q i)
+                (λ y j u. longer (length (stage_at p q).branches) (length (stage_at p l.thread.stage).branches) (ap length e) (ap length j))) h
+            at (inr (inl e)) =
+                moves_inside q i (ap (sides_of f) e.1 ∙ sides_other f e.0 (stage_at p l.thread.stage).branches (λ j. not_f (sym e.2 ∙ j)))
+                (no_merge_at q (leads q i)
+                (λ y j u. twice_longer (length (stage_at p q).branches) (length (stage_at p l.thread.stage).branches) (ap length e.1) (ap length j))) h
+            at (inr (inr e)) = which (e.0.fork == f) refl
+              where
+                which : (t : Bool)
+                    → (e.0.fork == f) ≡ t
+                    →
+                    (if leaves l || has_left p f (ms ls) then but_first (sides p f ls ++ sides_of f (stage_at p l.thread.stage).branches) else
+                    (sides p f ls ++ sides_of f (stage_at p l.thread.stage).branches)) ++ (entered_branches p f (ms ls)
+                    ++ enters l) ≡ sides p f (all_on ls) ++ sides_of f (stage_at p q).branches
+                which true j =
+                    moves_out go q i
+                    (sides_outside f (stage_at p q).branches
+                    (ap (list_any (λ (b : Branch). b.fork == f))
+                    (sym (flows.graph.fork_below e.0 (stage_at p q).branches l.thread.stage (within_home p _ _ e.1)).0)
+                    ∙ subst (λ n. is_inside p f n ≡ false) (sym (eqb-true _ _ j)) (outside_self p flows.graph.fork_below f)))
+                    (e.2 ∙ ap Some (eqb-true _ _ j)) h
+                which false j =
+                    moves_inside q i (sym (ap (sides_of f) e.1 ∙ sides_other f e.0 (stage_at p q).branches (eqb-false _ _ j)))
+                    (ap (λ r. merges_fork r f) e.2 ∙ j) h
 
         moved : (did p d bits ls l).moves ≡ true → (r : Option ℕ) → next_stage p l.thread.stage (deeds_of p st bits l) ≡ r
             → (if has_left p f (ms ls) then but_first (sides p f ls) else sides p f ls) ++ entered_branches p f (ms ls) ≡ sides p f (all_on ls)
             → (if leaves l
-            || has_left p f (ms ls) then but_first (sides p f ls ++ side_in f (stage_at p l.thread.stage).branch)
-            else (sides p f ls ++ side_in f (stage_at p l.thread.stage).branch))
+            || has_left p f (ms ls) then but_first (sides p f ls ++ sides_of f (stage_at p l.thread.stage).branches)
+            else (sides p f ls ++ sides_of f (stage_at p l.thread.stage).branches))
             ++ (entered_branches p f (ms ls) ++ enters l)
-            ≡ sides p f (moved_live r l (work_of_live p d bits ls l) ++ all_on ls)
+            ≡ sides p f (moved_live r (advised p st bits l) (work_of_live p d bits ls l) ++ all_on ls)
         moved go None i h =
-            outside_moves (ap (λ c. is_branch_of c f) last) [] (none (l.thread.stage == f)) (no_side None last refl) h ∙ append-nil _
+            outside_moves (ap (list_any (λ (b : Branch). b.fork == f)) last) [] (none (l.thread.stage == f)) h ∙ append-nil _
           where
-            last : (stage_at p l.thread.stage).branch ≡ None
+            last : Trunk p l.thread.stage
             last = (flows.graph.last l.thread.stage (deeds_of p st bits l).env k.0.seated.keeps_on.inside i).1
 
             none : (t : Bool) → (if t then goes_into p f (next_stage p l.thread.stage (deeds_of p st bits l)) else []) ≡ []
             none true = ap (goes_into p f) i
             none false = refl
-        moved go (Some q) i h = by (stage_at p l.thread.stage).branch refl
+        moved go (Some q) i h = by (is_inside p f l.thread.stage) refl
           where
-            by : (c : Option Branch) → (stage_at p l.thread.stage).branch ≡ c
-                → (if leaves l
-                || has_left p f (ms ls) then but_first (sides p f ls ++ side_in f (stage_at p l.thread.stage).branch)
-                else (sides p f ls ++ side_in f (stage_at p l.thread.stage).branch))
+            by : (t : Bool) → is_inside p f l.thread.stage ≡ t → (if leaves l
+                || has_left p f (ms ls) then but_first (sides p f ls ++ sides_of f (stage_at p l.thread.stage).branches)
+                else (sides p f ls ++ sides_of f (stage_at p l.thread.stage).branches))
                 ++ (entered_branches p f (ms ls) ++ enters l)
-                ≡ sides p f (all_on ls) ++ side_in f (stage_at p q).branch
-            by None e = outside_moves (ap (λ c. is_branch_of c f) e) (side_in f (stage_at p q).branch) (enters_side q i only) (no_side None e refl) h
-              where
-                only : (z : Branch) → (stage_at p q).branch ≡ Some z → z.fork ≡ f → l.thread.stage ≡ f
-                only z u v = from (flows.graph.into l.thread.stage q z (leads q i) u)
-                  where
-                    from : ((stage_at p l.thread.stage).branch ≡ Some z) ⊎ ((l.thread.stage ≡ z.fork) × ((stage_at p l.thread.stage).branch ≡ None))
-                        → l.thread.stage ≡ f
-                    from (inl w) = absurd (cc (sym e ∙ w))
-                    from (inr w) = w.0 ∙ v
-            by (Some x) e = which (x.fork == f) refl
-              where
-                only : (x.fork == f) ≡ false → (z : Branch) → (stage_at p q).branch ≡ Some z → z.fork ≡ f → l.thread.stage ≡ f
-                only j z u v = from (flows.graph.into l.thread.stage q z (leads q i) u)
-                  where
-                    same : Some x ≡ Some z → x ≡ z
-                    same w = cc
-
-                    from : ((stage_at p l.thread.stage).branch ≡ Some z) ⊎ ((l.thread.stage ≡ z.fork) × ((stage_at p l.thread.stage).branch ≡ None))
-                        → l.thread.stage ≡ f
-                    from (inl w) = absurd (eqb-false _ _ j (ap (λ (b : Branch). b.fork) (same (sym e ∙ w)) ∙ v))
-                    from (inr w) = absurd (cc (sym e ∙ w.1))
-
-                which : (t : Bool) → (x.fork == f) ≡ t
-                    → (if leaves l
-                    || has_left p f (ms ls) then but_first (sides p f ls ++ side_in f (stage_at p l.thread.stage).branch)
-                    else (sides p f ls ++ side_in f (stage_at p l.thread.stage).branch))
-                    ++ (entered_branches p f (ms ls) ++ enters l)
-                    ≡ sides p f (all_on ls) ++ side_in f (stage_at p q).branch
-                which false j = outside_moves (ap (λ c. is_branch_of c f) e ∙ j) (side_in f (stage_at p q).branch) (enters_side q i (only j)) (no_side (Some x) e j) h
-                which true j = way (flows.graph.out_of l.thread.stage q x (leads q i) e)
-                  where
-                    way : ((stage_at p q).branch ≡ Some x) ⊎ ((stage_at p q).merges ≡ Some x.fork)
-                        → (if leaves l
-                        || has_left p f (ms ls) then but_first (sides p f ls ++ side_in f (stage_at p l.thread.stage).branch)
-                        else (sides p f ls ++ side_in f (stage_at p l.thread.stage).branch))
-                        ++ (entered_branches p f (ms ls) ++ enters l)
-                        ≡ sides p f (all_on ls) ++ side_in f (stage_at p q).branch
-                    way (inl b) = moves_inside q i x e (eqb-true _ _ j) b h
-                    way (inr m) = moves_out go q i x e (eqb-true _ _ j) m h
+                ≡ sides p f (all_on ls) ++ sides_of f (stage_at p q).branches
+            by false e = outside_moves e (sides_of f (stage_at p q).branches) (enters_side q i e) h
+            by true e = inside_at p f l.thread.stage e (λ x c w j. inside_moves x c w j go q i h)
 
         at : (b : Bool) → (did p d bits ls l).moves ≡ b
             → (if has_left p f (ms ls) then but_first (sides p f ls) else sides p f ls) ++ entered_branches p f (ms ls) ≡ sides p f (all_on ls)
             → (if has_left p f (cond b (lact p st d bits ls l ∷ ms ls) (ms ls)) then but_first (sides p f (l ∷ ls)) else sides p f (l ∷ ls))
             ++ entered_branches p f (cond b (lact p st d bits ls l ∷ ms ls) (ms ls))
-            ≡ sides p f (cond b (moved_live (goes_to (stage_at p l.thread.stage).next (work_of_live p d bits ls l).env) l (work_of_live p d bits ls l)) (stood p st d bits l ∷ []) ++ all_on ls)
-        at false e h = stands (stage_at p l.thread.stage).branch refl h ∙ sym (behind_next (stood p st d bits l ∷ []))
-        at true e h = moved e (next_stage p l.thread.stage (deeds_of p st bits l)) refl h ∙ ap (λ r. sides p f (moved_live r l (work_of_live p d bits ls l) ++ all_on ls)) (next_is ls l k.0)
+            ≡ sides p f
+            (cond b (moved_live (goes_to (stage_at p l.thread.stage).next (work_of_live p d bits ls l).env) (advised p st bits l) (work_of_live p d bits ls l))
+            (stood p st d bits l ∷ []) ++ all_on ls)
+        at false e h = stands h ∙ sym (behind_next (stood p st d bits l ∷ []))
+        at true e h =
+            moved e (next_stage p l.thread.stage (deeds_of p st bits l)) refl h
+            ∙ ap (λ r. sides p f (moved_live r (advised p st bits l) (work_of_live p d bits ls l) ++ all_on ls)) (next_is ls l k.0)
 
     -- SQUASHES
 
-    -- a failing verify stands in the stage of the verifies, a trunk stage
+    -- a failing check stands in the trunk
     fails_at : (ls : List Live) (l : Live) → (work_of_live p d bits ls l).fails ≡ true
-        → (v : ℕ) × (verify_stage p.stmts ≡ Some v) × (l.thread.stage ≡ v) × ((stage_at p v).branch ≡ None)
-    fails_at ls l g = mine (verify_stage p.stmts) refl
+        → Trunk p l.thread.stage
+    fails_at ls l g = trunk (stage_at p l.thread.stage).branches refl
       where
-        quiet : none_of is_verify (in_stage l.thread.stage p.stmts) ≡ true → (work_of_live p d bits ls l).fails ≡ false
-        quiet n = unfailed (around p d bits (dacts p d bits ls) l.thread.stage) (in_stage l.thread.stage p.stmts) (start_of (now_of p d bits l)) n
+        quiet : none_of is_check (in_stage l.thread.stage p.stmts) ≡ true → (work_of_live p d bits ls l).fails ≡ false
+        quiet n = unfailed (around p d bits (dacts p d bits ls) l.thread.stage l.thread.hint) (in_stage l.thread.stage p.stmts) (start_of (now_of p d bits l)) n
 
-        trunk : (b : Option Branch) → (stage_at p l.thread.stage).branch ≡ b → (stage_at p l.thread.stage).branch ≡ None
-        trunk None e = e
-        trunk (Some x) e = absurd (cc (sym g ∙ quiet (verify_trunk (in_stage l.thread.stage p.stmts) (flows.branches l.thread.stage x e))))
+        trunk : (b : List Branch) → (stage_at p l.thread.stage).branches ≡ b → Trunk p l.thread.stage
+        trunk [] e = e
+        trunk (x ∷ c) e = absurd (cc (sym g ∙ quiet (unchecked_trunk (in_stage l.thread.stage p.stmts) (flows.branches x c l.thread.stage e))))
 
-        mine : (r : Option ℕ) → verify_stage p.stmts ≡ r → (v : ℕ) × (verify_stage p.stmts ≡ Some v) × (l.thread.stage ≡ v) × ((stage_at p v).branch ≡ None)
-        mine None e = absurd (cc (sym g ∙ quiet (none_stage is_verify l.thread.stage p.stmts (no_verifies p.stmts e))))
-        mine (Some v) e = by (l.thread.stage == v) refl
-          where
-            by : (t : Bool) → (l.thread.stage == v) ≡ t → (v : ℕ) × (verify_stage p.stmts ≡ Some v) × (l.thread.stage ≡ v) × ((stage_at p v).branch ≡ None)
-            by true i = (v, e, eqb-true _ _ i, subst (λ n. (stage_at p n).branch ≡ None) (eqb-true _ _ i) (trunk (stage_at p l.thread.stage).branch refl))
-            by false i = absurd (cc (sym g ∙ quiet (none_in_stage is_verify v l.thread.stage p.stmts (flows.verifies v e) (eqb-false _ _ i))))
-
-    fell_at : (ls : List Live) → fell p d bits ls ≡ true → (v : ℕ) × (verify_stage p.stmts ≡ Some v) × (someone v ls ≡ true)
-    fell_at [] h = absurd (cc h)
-    fell_at (l ∷ ls) h = at ((did p d bits ls l).moves && (work_of_live p d bits ls l).fails) refl h (λ i. later (fell_at ls i))
+    fell_at : (ls : List Live)
+        → AllKnown p flows st d bits arrays ls → AllForeseen p flows st d bits arrays ls → fell p d bits ls ≡ true
+        → (v : ℕ) × (squash_stage (ms ls) ≡ Some v) × (someone v ls ≡ true) × Trunk p v × (v < length p.stages)
+    fell_at [] k u h = absurd (cc h)
+    fell_at (l ∷ ls) k u h = at ((did p d bits ls l).moves && (work_of_live p d bits ls l).fails) refl h (λ i. fell_at ls k.1 u.1 i)
       where
         or_true : (b : Bool) → (b || true) ≡ true
         or_true true = refl
         or_true false = refl
 
-        later : (v : ℕ) × (verify_stage p.stmts ≡ Some v) × (someone v ls ≡ true) → (v : ℕ) × (verify_stage p.stmts ≡ Some v) × (someone v (l ∷ ls) ≡ true)
-        later r = (r.0, r.1, ap (λ b. (l.thread.stage == r.0) || b) r.2 ∙ or_true (l.thread.stage == r.0))
+        is : squash_stage (ms (l ∷ ls)) ≡ (if (did p d bits ls l).moves
+            && (work_of_live p d bits ls l).fails then Some l.thread.stage else squash_stage (ms ls))
+        is = squash_stage_is p flows st d bits arrays ls l k.0 u.0
 
         at : (b : Bool) → ((did p d bits ls l).moves && (work_of_live p d bits ls l).fails) ≡ b → (b || fell p d bits ls) ≡ true
-            → (fell p d bits ls ≡ true → (v : ℕ) × (verify_stage p.stmts ≡ Some v) × (someone v (l ∷ ls) ≡ true))
-            → (v : ℕ) × (verify_stage p.stmts ≡ Some v) × (someone v (l ∷ ls) ≡ true)
-        at true e g r = let m = fails_at ls l (and_right _ _ e) in (m.0, m.1, ap (λ b. b || someone m.0 ls) (eq-eqb _ _ m.2))
-        at false e g r = r g
+            → (fell p d bits ls ≡ true → (v : ℕ) × (squash_stage (ms ls) ≡ Some v) × (someone v ls ≡ true) × Trunk p v × (v < length p.stages))
+            → (v : ℕ) × (squash_stage (ms (l ∷ ls)) ≡ Some v) × (someone v (l ∷ ls) ≡ true) × Trunk p v × (v < length p.stages)
+        at true e g r = (
+          l.thread.stage,
+          is ∙ ap (λ b. if b then Some l.thread.stage else squash_stage (ms ls)) e,
+          ap (λ b. b || someone l.thread.stage ls) (eq-eqb l.thread.stage l.thread.stage refl),
+          fails_at ls l (and_right (did p d bits ls l).moves _ e),
+          k.0.seated.keeps_on.inside,
+        )
+        at false e g r =
+            let m = r g in (
+              m.0,
+              is ∙ ap (λ b. if b then Some l.thread.stage else squash_stage (ms ls)) e ∙ m.1,
+              ap (λ b. (l.thread.stage == m.0) || b) m.2 ∙ or_true (l.thread.stage == m.0),
+              m.3,
+              m.4,
+            )
 
-    not_inside : (b : ℕ) → (is_inside p f b ≡ true → ⊥) → is_inside p f b ≡ false
-    not_inside b n = at (is_inside p f b) refl
+    -- who is behind the one that fails is not it
+    same_squash : (ls : List Live) (l : Live)
+        → Known p flows st d bits arrays ls l → MovesForeseen p flows st d bits arrays ls l → fell p d bits ls ≡ true
+        → squash_stage (ms (l ∷ ls)) ≡ squash_stage (ms ls)
+    same_squash ls l k u e =
+        squash_stage_is p flows st d bits arrays ls l k u
+        ∙ ap (λ b. if b && (work_of_live p d bits ls l).fails then Some l.thread.stage else squash_stage (ms ls)) (stuck_here p flows st d bits arrays ls l e)
+
+    not_here : (b : ℕ) → (is_inside p f b ≡ true → ⊥) → is_inside p f b ≡ false
+    not_here b n = at (is_inside p f b) refl
       where
         at : (t : Bool) → is_inside p f b ≡ t → is_inside p f b ≡ false
         at true e = absurd (n e)
         at false e = e
 
     -- the fork around a stage that is inside it stands before it
-    fork_before : (b : ℕ) → is_inside p f b ≡ true → (f < b) × ((stage_at p f).branch ≡ None)
-    fork_before b h = at (stage_at p b).branch refl h
-      where
-        at : (c : Option Branch) → (stage_at p b).branch ≡ c → is_branch_of c f ≡ true → (f < b) × ((stage_at p f).branch ≡ None)
-        at None e i = absurd (cc i)
-        at (Some x) e i = subst (λ n. (n < b) × ((stage_at p n).branch ≡ None)) (eqb-true _ _ i) (flows.graph.fork_below b x e)
+    fork_before : (b : ℕ) → is_inside p f b ≡ true → f < b
+    fork_before b h = inside_at p f b h (λ x c i e. subst (λ n. n < b) e (flows.graph.fork_below x c b i).1)
 
     one_side : (x : Live) → is_inside p f x.thread.stage ≡ false → sides p f (x ∷ []) ≡ []
     one_side x h = sides_none p f (x ∷ []) (h, tt)
 
-    -- a squash leaves the lists of later forks alone
-    pub unmerged_on : merges_by p f (verify_stage p.stmts) ≡ false → (ls : List Live) → AllKnown p flows st d bits arrays ls → Ordered p ls
+    -- a squash leaves the lists of later forks alone; r is its stage
+    pub unmerged_on : (r : Option ℕ) → merges_by p f r ≡ false → (ls : List Live) → AllKnown p flows st d bits arrays ls
+        → AllForeseen p flows st d bits arrays ls → Ordered p ls
+        → (fell p d bits ls ≡ true → squash_stage (ms ls) ≡ r)
         → sides p f (go_on p st d bits ls) ≡ sides p f (all_on ls)
-    unmerged_on u [] k o = refl
-    unmerged_on u (l ∷ ls) k o = at (fell p d bits ls) refl (unmerged_on u ls k.1 o.1)
+    unmerged_on r u [] k w o is = refl
+    unmerged_on r u (l ∷ ls) k w o is = at (fell p d bits ls) refl (unmerged_on r u ls k.1 w.1 o.1 stage)
       where
+        or_true : (b : Bool) → (b || true) ≡ true
+        or_true true = refl
+        or_true false = refl
+
+        stage : fell p d bits ls ≡ true → squash_stage (ms ls) ≡ r
+        stage e =
+            sym (same_squash ls l k.0 w.0 e)
+            ∙ is
+            (ap (λ b. ((did p d bits ls l).moves && (work_of_live p d bits ls l).fails) || b) e
+            ∙ or_true ((did p d bits ls l).moves && (work_of_live p d bits ls l).fails))
+
         removed : fell p d bits ls ≡ true → is_inside p f l.thread.stage ≡ false
         removed e =
-            not_inside l.thread.stage (λ i.
-            let v = fell_at ls e in
+            not_here l.thread.stage (λ i.
+            let v = fell_at ls k.1 w.1 e in
             let behind : Behind p l.thread.stage v.0 = behind_someone p l.thread.stage v.0 ls o.0 v.2 in
-            let before = fork_before l.thread.stage i in
-            let less : f < v.0 = behind.trunk f before.1 (let w = before.0 in omega arith) in
-            let no_less : v.0 ≤ f = flows.graph.unmerged v.0 f l.thread.stage v.1 i (subst (λ r. merges_by p f r ≡ false) v.1 u) in
+            let before : f < l.thread.stage = fork_before l.thread.stage i in
+            let no_less : v.0 ≤ f = flows.graph.unmerged v.0 f l.thread.stage v.4 v.3 i (subst (λ q. merges_by p f q ≡ false) (sym (stage e) ∙ v.1) u) in
+            let less : v.0 < v.0 = left_trunk p _ _ behind v.0 v.3 (omega arith) in
             absurd (omega arith))
 
         stood_side : fell p d bits ls ≡ true → sides p f (next_live p st d bits ls l) ≡ []
-        stood_side e = ap (λ b. sides p f (cond b (moved_live (goes_to (stage_at p l.thread.stage).next (work_of_live p d bits ls l).env) l (work_of_live p d bits ls l)) (stood p st d bits l ∷ []))) (stuck_here p flows st d bits arrays ls l e) ∙ one_side (stood p st d bits l) (removed e)
+        stood_side e =
+            ap
+            (λ b. sides p f (cond b
+            (moved_live (goes_to (stage_at p l.thread.stage).next (work_of_live p d bits ls l).env) (advised p st bits l) (work_of_live p d bits ls l))
+            (stood p st d bits l ∷ []))) (stuck_here p flows st d bits arrays ls l e)
+            ∙ one_side (stood p st d bits l) (removed e)
 
         at : (g : Bool) → fell p d bits ls ≡ g → sides p f (go_on p st d bits ls) ≡ sides p f (all_on ls)
             → sides p f ((if g then [] else next_live p st d bits ls l) ++ go_on p st d bits ls) ≡ sides p f (next_live p st d bits ls l ++ all_on ls)
-        at true e r = r ∙ sym (append-nil _) ∙ ap (λ x. sides p f (all_on ls) ++ x) (sym (stood_side e)) ∙ sym (sides_append p f (next_live p st d bits ls l) (all_on ls))
-        at false e r = sides_append p f (next_live p st d bits ls l) (go_on p st d bits ls) ∙ ap (λ x. x ++ sides p f (next_live p st d bits ls l)) r ∙ sym (sides_append p f (next_live p st d bits ls l) (all_on ls))
+        at true e r =
+            r ∙ sym (append-nil _) ∙ ap (λ x. sides p f (all_on ls) ++ x) (sym (stood_side e)) ∙ sym (sides_append p f (next_live p st d bits ls l) (all_on ls))
+        at false e r =
+            sides_append p f (next_live p st d bits ls l) (go_on p st d bits ls) ∙ ap (λ x. x ++ sides p f (next_live p st d bits ls l)) r
+            ∙ sym (sides_append p f (next_live p st d bits ls l) (all_on ls))
 
-    -- after a squash the list of a fork that merges up to the stage of the verifies is empty
-    pub merged_on : merges_by p f (verify_stage p.stmts) ≡ true → (ls : List Live) → AllKnown p flows st d bits arrays ls → Ordered p ls
-        → fell p d bits ls ≡ true → sides p f (go_on p st d bits ls) ≡ []
-    merged_on u [] k o e = refl
-    merged_on u (l ∷ ls) k o e = at (fell p d bits ls) refl (λ i. merged_on u ls k.1 o.1 i)
+    -- after a squash the list of a fork that merges up to the stage of it is empty
+    pub merged_on : (r : Option ℕ) → merges_by p f r ≡ true → (ls : List Live) → AllKnown p flows st d bits arrays ls
+        → AllForeseen p flows st d bits arrays ls → Ordered p ls
+        → fell p d bits ls ≡ true → squash_stage (ms ls) ≡ r → sides p f (go_on p st d bits ls) ≡ []
+    merged_on r u [] k w o e is = refl
+    merged_on r u (l ∷ ls) k w o e is = at (fell p d bits ls) refl (λ i. merged_on r u ls k.1 w.1 o.1 i (sym (same_squash ls l k.0 w.0 i) ∙ is))
       where
         -- where no older thread fails a verify, the first one does
         here : fell p d bits ls ≡ false → ((did p d bits ls l).moves && (work_of_live p d bits ls l).fails) ≡ true
@@ -425,17 +506,23 @@ module _ (p : Pipe) (flows : Flows p) (st : State) (d : Derived.State) (bits : L
         all_out g =
             sides_none p f (next_live p st d bits ls l ++ go_on p st d bits ls)
             (each_append (λ k. is_inside p f k.thread.stage ≡ false) (next_live p st d bits ls l) (go_on p st d bits ls)
-            (each_next p flows st d bits arrays (λ k. is_inside p f k.thread.stage ≡ false) ls l k.0 (λ i. outside l.thread.stage (le_refl _)) (λ i q j. outside q (let w = (flows.graph.up l.thread.stage q (leads_of p flows st d bits arrays ls l k.0 q j)).0 in omega arith)))
-            (each_map (λ k h. outside k.thread.stage (let w : l.thread.stage < k.thread.stage = h.trunk l.thread.stage trunk (le_refl _) in omega arith)) (go_on p st d bits ls) (behind_stay p flows st d bits arrays l.thread.stage ls k.1 o.0)))
+            (each_next p flows st d bits arrays (λ k. is_inside p f k.thread.stage ≡ false) ls l k.0 (λ i. outside l.thread.stage (le_refl _))
+            (λ i q j. outside q (let w = (flows.graph.up l.thread.stage q (leads_of p flows st d bits arrays ls l k.0 q j)).0 in omega arith)))
+            (each_map (λ k h. outside k.thread.stage
+            (let w : l.thread.stage < k.thread.stage = left_trunk p _ _ h l.thread.stage trunk
+            (le_refl _) in omega arith)) (go_on p st d bits ls) (behind_stay p flows st d bits arrays l.thread.stage ls k.1 o.0)))
           where
-            v : (v : ℕ) × (verify_stage p.stmts ≡ Some v) × (l.thread.stage ≡ v) × ((stage_at p v).branch ≡ None)
-            v = fails_at ls l (and_right (did p d bits ls l).moves (work_of_live p d bits ls l).fails (here g))
+            trunk : Trunk p l.thread.stage
+            trunk = fails_at ls l (and_right (did p d bits ls l).moves (work_of_live p d bits ls l).fails (here g))
 
-            trunk : (stage_at p l.thread.stage).branch ≡ None
-            trunk = ap (λ n. (stage_at p n).branch) v.2 ∙ v.3
+            stage : r ≡ Some l.thread.stage
+            stage = sym is ∙ squash_stage_is p flows st d bits arrays ls l k.0 w.0 ∙ ap (λ b. if b then Some l.thread.stage else squash_stage (ms ls)) (here g)
 
             outside : (b : ℕ) → l.thread.stage ≤ b → is_inside p f b ≡ false
-            outside b h = not_inside b (λ i. let less : b < v.0 = flows.graph.merged v.0 f b v.1 i (subst (λ r. merges_by p f r ≡ true) v.1 u) in let same = v.2 in absurd (omega arith))
+            outside b h =
+                not_here b
+                (λ i. let less : b < l.thread.stage = flows.graph.merged l.thread.stage f b k.0.seated.keeps_on.inside trunk i
+                (subst (λ q. merges_by p f q ≡ true) stage u) in absurd (omega arith))
 
         at : (g : Bool) → fell p d bits ls ≡ g → (fell p d bits ls ≡ true → sides p f (go_on p st d bits ls) ≡ [])
             → sides p f ((if g then [] else next_live p st d bits ls l) ++ go_on p st d bits ls) ≡ []
@@ -447,27 +534,30 @@ module _ (p : Pipe) (flows : Flows p) (st : State) (d : Derived.State) (bits : L
     calm_on (l ∷ ls) e =
         let rest = second ((did p d bits ls l).moves && (work_of_live p d bits ls l).fails) e in
         ap (λ g. sides p f ((if g then [] else next_live p st d bits ls l) ++ go_on p st d bits ls)) rest
-        ∙ sides_append p f (next_live p st d bits ls l) (go_on p st d bits ls) ∙ ap (λ x. x ++ sides p f (next_live p st d bits ls l)) (calm_on ls rest) ∙ sym (sides_append p f (next_live p st d bits ls l) (all_on ls))
+        ∙ sides_append p f (next_live p st d bits ls l) (go_on p st d bits ls) ∙ ap (λ x. x ++ sides p f (next_live p st d bits ls l)) (calm_on ls rest)
+        ∙ sym (sides_append p f (next_live p st d bits ls l) (all_on ls))
       where
         second : (b : Bool) → (b || fell p d bits ls) ≡ false → fell p d bits ls ≡ false
         second true g = absurd (cc g)
         second false g = g
 
-    born_side : (n : ℕ) (c : Option (List ℕ)) (xs : List Live) → sides p f (born_live p n c ++ xs) ≡ sides p f xs
+    born_side : (n : ℕ) (c : Option (List ℕ)) (xs : List Live) → sides p f (born_live p (d.hints 0) n c ++ xs) ≡ sides p f xs
     born_side n None xs = refl
-    born_side n (Some x) xs = ap (λ b. sides p f xs ++ side_in f b) flows.graph.trunk_start ∙ append-nil _
+    born_side n (Some x) xs = ap (λ b. sides p f xs ++ sides_of f b) flows.graph.trunk_start ∙ append-nil _
 
     -- the list of fork f after the cycle
-    pub fork_next : (n : ℕ) (c : Option (List ℕ)) (sq : Option ℕ) (ls : List Live) → AllKnown p flows st d bits arrays ls → Ordered p ls
-        → is_some sq ≡ fell p d bits ls
-        → Cycle.branches_left p sq f ((if has_left p f (ms ls) then but_first (sides p f ls) else sides p f ls) ++ entered_branches p f (ms ls))
-        ≡ sides p f (born_live p n c ++ go_on p st d bits ls)
-    fork_next n c sq ls k o h =
-        ap₂ (λ b l. if b && merges_by p f (verify_stage p.stmts) then [] else l) h (list_all_on ls k o)
-        ∙ at (fell p d bits ls) refl (merges_by p f (verify_stage p.stmts)) refl ∙ sym (born_side n c (go_on p st d bits ls))
+    pub fork_next : (n : ℕ) (c : Option (List ℕ)) (ls : List Live) → AllKnown p flows st d bits arrays ls
+        → AllForeseen p flows st d bits arrays ls → Ordered p ls
+        → Cycle.branches_left p (squash_stage (ms ls)) f ((if has_left p f (ms ls) then but_first (sides p f ls) else sides p f ls)
+        ++ entered_branches p f (ms ls))
+        ≡ sides p f (born_live p (d.hints 0) n c ++ go_on p st d bits ls)
+    fork_next n c ls k w o =
+        ap (λ l. if merges_by p f (squash_stage (ms ls)) then [] else l) (list_all_on ls k o)
+        ∙ at (fell p d bits ls) refl (merges_by p f (squash_stage (ms ls))) refl ∙ sym (born_side n c (go_on p st d bits ls))
       where
-        at : (g : Bool) → fell p d bits ls ≡ g → (b : Bool) → merges_by p f (verify_stage p.stmts) ≡ b
-            → (if g && b then [] else sides p f (all_on ls)) ≡ sides p f (go_on p st d bits ls)
-        at true e true i = sym (merged_on i ls k o e)
-        at true e false i = sym (unmerged_on i ls k o)
-        at false e b i = sym (calm_on ls e)
+        at : (g : Bool) → fell p d bits ls ≡ g → (b : Bool) → merges_by p f (squash_stage (ms ls)) ≡ b
+            → (if b then [] else sides p f (all_on ls)) ≡ sides p f (go_on p st d bits ls)
+        at true e true i = sym (merged_on (squash_stage (ms ls)) i ls k w o e refl)
+        at true e false i = sym (unmerged_on (squash_stage (ms ls)) i ls k w o (λ _. refl))
+        at false e true i = absurd (cc (sym i ∙ ap (merges_by p f) (no_squash_stage p flows st d bits arrays ls k w e)))
+        at false e false i = sym (calm_on ls e)

@@ -1,9 +1,12 @@
 pub mod FlowFacts
 pub mod Shapes
+pub mod Onces
 pub mod Stretches
 pub mod StretchSteps
+pub mod Guessing
 pub mod Seats
 pub mod Choices
+pub mod Sayings
 pub mod ThreadFacts
 pub mod Orders
 pub mod LockRemovals
@@ -13,8 +16,11 @@ pub mod ThreadPlaces
 pub mod Requests
 pub mod PerMemory
 pub mod SimulatedStates
+pub mod Advising
+pub mod CycleStarts
 pub mod WholeSimulation
 pub mod SimulatedRuns
+pub mod Foretold
 pub mod ActOrder
 pub mod ActSwaps
 pub mod ForkLists

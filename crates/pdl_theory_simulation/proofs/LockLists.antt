@@ -1,26 +1,25 @@
 -- After a cycle each lock's list is the entries of the threads that live on, and what it releases is what the derived machine commits.
-use Rattle.std.proofs.Common.{◌≡◌, ◌≢◌, refl, sym, ap, ap₂, ◌∙◌, subst, ℕ, ◌≤◌, ◌<◌, ◌⊎◌, inl, inr, Bool, true, false, ◌&&◌, ◌||◌, not, List, [], ◌∷◌, ◌++◌, length, Option, Some, None, ◌==◌, nat_le, cond, if◌then◌else◌, arith, append-nil, leb-true, leb-false}
+use Rattle.std.proofs.Common.{suc, zero, ◌+◌, take, drop, ◌≡◌, ◌≢◌, refl, sym, ap, ap₂, ◌∙◌, subst, ℕ, ◌≤◌, ◌<◌, ◌⊎◌, inl, inr, Bool, true, false, ◌&&◌, not, List, [], ◌∷◌, ◌++◌, length, Option, Some, None, ◌==◌, nat_le, cond, if◌then◌else◌, arith, append-nil, leb-true, leb-false}
 use Rattle.std.proofs.lemmas.Bool.{eqb-true, eqb-false}
 use Rattle.pdl_semantics.specs.Flat.{Pipe, Commit, of_mem}
 use Rattle.pdl_semantics.specs.Stages.{list_any, in_stage, stage_at, goes_to, is_reserve, is_release, reserve_stage, commit_stage}
-use Rattle.pdl_semantics.specs.Locks.{commit_value}
 use Rattle.pdl_semantics.specs.Machine.{State, Pending, word_for, with_answers}
 use Rattle.pdl_semantics.specs.Moves.{movers}
-use Rattle.pdl_semantics.specs.Cycle.{awaited_of, new_entries, with_reserves, with_writes_of, with_all_writes, has_release, oldest, but_oldest, is_kept, entries_left}
+use Rattle.pdl_semantics.specs.Cycle.{awaited_of, new_entries, with_reserves, with_writes_of, with_all_writes, releases_of, all_releases, is_kept, entries_left}
 use Rattle.pdl_theory_turns.proofs.EntryCommits.{released}
 use Rattle.pdl_semantics.specs.Moves
-use Rattle.pdl_theory_derived.specs.Derived.{Entry, Work, around, commits_of}
+use Rattle.pdl_semantics.specs.Promises.{DifferInAdvice}
+use Rattle.pdl_theory_derived.specs.Derived.{Entry, Work, commits_of}
 use Rattle.pdl_theory_derived.specs.Derived
-use Rattle.pdl_theory_simulation.proofs.FlowFacts.{Flows, stage_or, next_of}
+use Rattle.pdl_theory_simulation.proofs.FlowFacts.{Flows, stage_or, next_of, Trunk}
 use Rattle.pdl_theory_derived.proofs.Writes.{of_mem_append}
-use Rattle.pdl_theory_derived.proofs.Entries.{write_of}
-use Rattle.pdl_theory_turns.proofs.Turn.{quiet, none_in_stage}
+use Rattle.pdl_theory_turns.proofs.Turn.{none_in_stage}
 use Rattle.pdl_theory_derived.proofs.Slots.{rev}
 use Rattle.pdl_theory_derived.proofs.Lists.{own, pend, Foreign, AllForeign, Reserveless, two_moved, two_stays}
-use Rattle.pdl_theory_turns.proofs.OwnEntries.{Worked, pend_own, quiet_reserves}
+use Rattle.pdl_theory_turns.proofs.OwnEntries.{Worked, pend_own, quiet_reserves, quiet_releases}
 use Rattle.pdl_theory_simulation.proofs.LockRemovals.{Out, Still, out_more, foreign_append, foreign_pend, foreign_new, foreign_put_all, commits_more}
-use Rattle.pdl_theory_simulation.proofs.Stretches.{Behind, early, late, start_of}
-use Rattle.pdl_theory_simulation.proofs.Seats.{Live, seat, each_map, Ordered, Falls, falls_up, dacts, lacts, lact, did, now_of, work_of_live, deeds_of, pends, pends_append}
+use Rattle.pdl_theory_simulation.proofs.Stretches.{Behind, left_trunk, early, late}
+use Rattle.pdl_theory_simulation.proofs.Seats.{Live, seat, each_map, Ordered, Falls, falls_up, dacts, lacts, lact, did, now_of, work_of_live, deeds_of, pends, pends_append, advised}
 use Rattle.pdl_theory_simulation.proofs.Choices.{Known, AllKnown, Seated, worked_here, ends_here, late_here}
 use Rattle.pdl_word.specs.Each.{Each}
 
@@ -35,9 +34,10 @@ abbrev pub moved_one : ℕ → Live → Work → Live
 moved_one q l w =
     record {
       number = l.number;
-      thread = record { stage = q; env = w.env; entries = w.entries; guess = w.guess; awaits = awaited_of w.asks };
+      thread = record { stage = q; hint = l.thread.hint; env = w.env; entries = w.entries; guess = w.guess; awaits = awaited_of w.asks };
       env = w.env;
       kept = [];
+      advice = l.advice;
     }
 
 -- a live thread that has moved with this work, none where it has ended
@@ -47,13 +47,13 @@ moved_live (Some q) l w = moved_one q l w ∷ []
 
 -- a live thread that has stood, with this cycle's answers
 abbrev pub stood : Pipe → State → Derived.State → List Bool → Live → Live
-stood p st d bits l = record { number = l.number; thread = now_of p d bits l; env = l.env; kept = (with_answers p st bits (seat l)).kept }
+stood p st d bits l = record { number = l.number; thread = now_of p d bits l; env = l.env; kept = (with_answers p st bits (seat l)).kept; advice = l.advice }
 
 -- one thread after the cycle, where no squash removes it
 abbrev pub next_live : Pipe → State → Derived.State → List Bool → List Live → Live → List Live
 next_live p st d bits ls l =
     if (did p d bits ls l).moves
-    then moved_live (goes_to (stage_at p l.thread.stage).next (work_of_live p d bits ls l).env) l (work_of_live p d bits ls l)
+    then moved_live (goes_to (stage_at p l.thread.stage).next (work_of_live p d bits ls l).env) (advised p st bits l) (work_of_live p d bits ls l)
     else stood p st d bits l ∷ []
 
 -- all of them: a failing verify removes the younger ones
@@ -94,7 +94,7 @@ left_pend sq m n (e ∷ es) = left_append sq (pend m n es) _ ∙ at (is_kept sq 
 abbrev pub Past : ℕ → List Live → Type 0
 Past r ls = Each (λ k. r < k.thread.stage) ls
 
-module _ (p : Pipe) (flows : Flows p) (st : State) (d : Derived.State) (bits : List Bool) (arrays : st.arrays ≡ d.arrays) where
+module _ (p : Pipe) (flows : Flows p) (st : State) (d : Derived.State) (bits : List Bool) (arrays : DifferInAdvice p st.arrays d.arrays) where
   -- the stated acts of the live threads that move, the youngest first
   abbrev pub ms : List Live → List Moves.Act
   ms ls = movers (lacts p st d bits ls)
@@ -115,9 +115,9 @@ module _ (p : Pipe) (flows : Flows p) (st : State) (d : Derived.State) (bits : L
   three m (l ∷ ls) =
       three m ls ++ (if (did p d bits ls l).moves then pend m l.number (work_of_live p d bits ls l).entries else pend m l.number l.thread.entries)
 
-  past_of : (r : ℕ) (l : Live) (ls : List Live) → (stage_at p r).branch ≡ None
+  past_of : (r : ℕ) (l : Live) (ls : List Live) → Trunk p r
       → Each (λ k. Behind p l.thread.stage k.thread.stage) ls → r ≤ l.thread.stage → Past r ls
-  past_of r l ls t b h = each_map (λ k i. i.trunk r t h) ls b
+  past_of r l ls t b h = each_map (λ k i. left_trunk p _ _ i r t h) ls b
 
   -- the next stage of a thread is later than the one where it stands
   pub next_up : (s : ℕ) (env : List ℕ) → s < length p.stages → s < next_of p s env
@@ -135,23 +135,14 @@ module _ (p : Pipe) (flows : Flows p) (st : State) (d : Derived.State) (bits : L
 
   -- a thread that releases a write of m stands in the stage of m's releases
   pub release_here : (ls : List Live) (l : Live) (k : Known p flows st d bits arrays ls l) (m : ℕ)
-      → list_any (λ j. j == m) (deeds_of p st bits l).releases ≡ true → l.thread.stage ≡ commit_stage p m
+      → releases_of m (deeds_of p st bits l).releases ≢ 0 → l.thread.stage ≡ commit_stage p m
   release_here ls l k m h = at (l.thread.stage == commit_stage p m) refl
     where
-      w : Worked m l.number (pend m l.number l.thread.entries) (deeds_of p st bits l) (work_of_live p d bits ls l)
-      w = worked_here p flows st d bits arrays ls l k m
-
-      clash : (x : Pending) → write_of m x.address (commit_value x.value) ∷ [] ≡ [] → ⊥
-      clash x i = cc
-
       at : (b : Bool) → (l.thread.stage == commit_stage p m) ≡ b → l.thread.stage ≡ commit_stage p m
       at true e = eqb-true _ _ e
       at false e =
-          let f = w.full h in
-          absurd (clash f.0 (sym (w.commits ∙ ap₂ (λ b l. released m (cond b (oldest l) None)) h f.1)
-          ∙ quiet m (around p d bits (dacts p d bits ls) l.thread.stage) (in_stage l.thread.stage p.stmts)
-          (start_of (now_of p d bits l))
-          (none_in_stage (is_release m) (commit_stage p m) l.thread.stage p.stmts (flows.releases m) (eqb-false _ _ e))))
+          absurd (h (quiet_releases m (word_for st l.number) (in_stage l.thread.stage p.stmts) _
+          (none_in_stage (is_release m) (commit_stage p m) l.thread.stage p.stmts (flows.releases m) (eqb-false _ _ e)) refl))
 
   reserveless : (m : ℕ) (ls : List Live) → Past (reserve_stage p m) ls → Reserveless m (ms ls)
   reserveless m [] r = tt
@@ -221,16 +212,16 @@ module _ (p : Pipe) (flows : Flows p) (st : State) (d : Derived.State) (bits : L
   commits_here m ls = of_mem m (commits_of (rev (dacts p d bits ls)))
 
   -- whether a thread's stage releases a write of m
-  abbrev pub takes : ℕ → Live → Bool
-  takes m l = list_any (λ k. k == m) (deeds_of p st bits l).releases
+  abbrev pub takes : ℕ → Live → ℕ
+  takes m l = releases_of m (deeds_of p st bits l).releases
 
   commits_next : (m : ℕ) (ls : List Live) (l : Live)
       → commits_here m (l ∷ ls) ≡ commits_here m ls ++ of_mem m (if (did p d bits ls l).moves then (work_of_live p d bits ls l).commits else [])
   commits_next m ls l = ap (of_mem m) (commits_more (rev (dacts p d bits ls)) (did p d bits ls l)) ∙ of_mem_append m (commits_of (rev (dacts p d bits ls))) _
 
   -- past the stage of its releases nobody has an entry of m
-  gone : (m : ℕ) (ls : List Live) → AllKnown p flows st d bits arrays ls → Past (commit_stage p m) ls
-      → Still (has_release m (ms ls)) (two m ls) (three m ls) (commits_here m ls)
+  pub gone : (m : ℕ) (ls : List Live) → AllKnown p flows st d bits arrays ls → Past (commit_stage p m) ls
+      → Still (all_releases m (ms ls)) (two m ls) (three m ls) (commits_here m ls)
   gone m [] k c = (refl, refl, refl, refl)
   gone m (l ∷ ls) k c = at (did p d bits ls l).moves (commits_next m ls l) (gone m ls k.1 c.1)
     where
@@ -240,74 +231,90 @@ module _ (p : Pipe) (flows : Flows p) (st : State) (d : Derived.State) (bits : L
       none : pend m l.number l.thread.entries ≡ []
       none = pend_own m l.number l.thread.entries ∙ ap (pend m l.number) (late p flows l.env l.thread k.0.seated.keeps_on m c.0)
 
-      keeps : takes m l ≡ false
+      keeps : takes m l ≡ 0
       keeps = by (takes m l) refl
         where
-          by : (b : Bool) → takes m l ≡ b → takes m l ≡ false
-          by true e = absurd (let j = release_here ls l k.0 m e in let i = c.0 in omega arith)
-          by false e = e
+          by : (n : ℕ) → takes m l ≡ n → takes m l ≡ 0
+          by zero e = e
+          by (suc n) e = absurd (let j = release_here ls l k.0 m (λ z. cc (sym e ∙ z)) in let i = c.0 in omega arith)
 
       empty : part m l ≡ []
       empty =
-          sym (w.after ∙ ap (λ b. cond b (but_oldest (part m l)) (part m l)) keeps)
+          sym (w.after ∙ ap (λ b. drop b (part m l)) keeps)
           ∙ pend_own m l.number (work_of_live p d bits ls l).entries
           ∙ ap (pend m l.number)
           (late_here p flows st d bits arrays ls l k.0 m
           (let i = c.0 in let j = next_up l.thread.stage (work_of_live p d bits ls l).env k.0.seated.keeps_on.inside in omega arith))
 
       at : (b : Bool) → commits_here m (l ∷ ls) ≡ commits_here m ls ++ of_mem m (cond b (work_of_live p d bits ls l).commits [])
-          → Still (has_release m (ms ls)) (two m ls) (three m ls) (commits_here m ls)
-          → Still (has_release m (cond b (lact p st d bits ls l ∷ ms ls) (ms ls)))
+          → Still (all_releases m (ms ls)) (two m ls) (three m ls) (commits_here m ls)
+          → Still (all_releases m (cond b (lact p st d bits ls l ∷ ms ls) (ms ls)))
           (two m ls ++ cond b (part m l) (pend m l.number l.thread.entries))
           (three m ls ++ cond b (pend m l.number (work_of_live p d bits ls l).entries) (pend m l.number l.thread.entries))
           (commits_here m (l ∷ ls))
       at true e s = (
-        ap₂ (λ x y. x || y) keeps s.0,
+        ap₂ (λ x y. x + y) s.0 keeps,
         ap₂ (λ x y. x ++ y) s.1 empty,
-        ap₂ (λ x y. x ++ y) s.2 (w.after ∙ ap₂ (λ b l. cond b (but_oldest l) l) keeps empty),
-        e ∙ ap₂ (λ x y. x ++ y) s.3 (w.commits ∙ ap (λ b. released m (cond b (oldest (part m l)) None)) keeps),
+        ap₂ (λ x y. x ++ y) s.2 (w.after ∙ ap₂ drop keeps empty),
+        e ∙ ap₂ (λ x y. x ++ y) s.3 (w.commits ∙ ap (λ b. released m (take b (part m l))) keeps),
       )
       at false e s = (s.0, ap₂ (λ x y. x ++ y) s.1 none, ap₂ (λ x y. x ++ y) s.2 none, e ∙ append-nil _ ∙ s.3)
 
   -- what step 3 takes out of the lock of m is what the derived machine commits, and it leaves the live threads' entries after it
   pub three_is : (m : ℕ) (ls : List Live) → AllKnown p flows st d bits arrays ls → Ordered p ls
-      → Out m (has_release m (ms ls)) (two m ls) (three m ls) (commits_here m ls)
-  three_is m [] k o = record { left = refl; full = λ i. absurd (cc i); shows = refl }
+      → Out m (all_releases m (ms ls)) (two m ls) (three m ls) (commits_here m ls)
+  three_is m [] k o = record { left = refl; enough = omega arith; shows = refl }
   three_is m (l ∷ ls) k o = at (did p d bits ls l).moves (commits_next m ls l) (three_is m ls k.1 o.1)
     where
       w : Worked m l.number (pend m l.number l.thread.entries) (deeds_of p st bits l) (work_of_live p d bits ls l)
       w = worked_here p flows st d bits arrays ls l k.0 m
 
       at : (b : Bool) → commits_here m (l ∷ ls) ≡ commits_here m ls ++ of_mem m (cond b (work_of_live p d bits ls l).commits [])
-          → Out m (has_release m (ms ls)) (two m ls) (three m ls) (commits_here m ls)
-          → Out m (has_release m (cond b (lact p st d bits ls l ∷ ms ls) (ms ls)))
+          → Out m (all_releases m (ms ls)) (two m ls) (three m ls) (commits_here m ls)
+          → Out m (all_releases m (cond b (lact p st d bits ls l ∷ ms ls) (ms ls)))
           (two m ls ++ cond b (part m l) (pend m l.number l.thread.entries))
           (three m ls ++ cond b (pend m l.number (work_of_live p d bits ls l).entries) (pend m l.number l.thread.entries))
           (commits_here m (l ∷ ls))
       at true e s =
-          subst (λ c. Out m (takes m l || has_release m (ms ls)) (two m ls ++ part m l) (three m ls ++ pend m l.number (work_of_live p d bits ls l).entries) c)
+          subst (λ c. Out m (all_releases m (ms ls) + takes m l) (two m ls ++ part m l) (three m ls ++ pend m l.number (work_of_live p d bits ls l).entries) c)
           (sym e)
-          (out_more m (has_release m (ms ls)) (takes m l) (two m ls) (three m ls) (part m l)
+          (out_more m (all_releases m (ms ls)) (takes m l) (two m ls) (three m ls) (part m l)
           (pend m l.number (work_of_live p d bits ls l).entries) (commits_here m ls)
-          (of_mem m (work_of_live p d bits ls l).commits) s w.after w.full w.commits
-          (λ i. gone m ls k.1 (past_of (commit_stage p m) l ls (flows.trunk_commit m) o.0 (let j = release_here ls l k.0 m i in omega arith))))
+          (of_mem m (work_of_live p d bits ls l).commits) s w.after (room w.full) w.commits
+          (by (takes m l) refl))
+        where
+          room : (takes m l ≡ 0) ⊎ (length (part m l) ≡ takes m l) → takes m l ≤ length (part m l)
+          room (inl i) = omega arith
+          room (inr i) = omega arith
+
+          by : (n : ℕ) → takes m l ≡ n → (takes m l ≡ 0) ⊎ Still (all_releases m (ms ls)) (two m ls) (three m ls) (commits_here m ls)
+          by zero i = inl i
+          by (suc n) i =
+              inr
+              (gone m ls k.1 (past_of (commit_stage p m) l ls (flows.trunk_commit m) o.0
+              (let j = release_here ls l k.0 m (λ z. cc (sym i ∙ z)) in omega arith)))
       at false e s =
-          subst (λ c. Out m (has_release m (ms ls)) (two m ls ++ pend m l.number l.thread.entries) (three m ls ++ pend m l.number l.thread.entries) c) (sym e)
-          (out_more m (has_release m (ms ls)) false (two m ls) (three m ls) (pend m l.number l.thread.entries)
+          subst (λ c. Out m (all_releases m (ms ls)) (two m ls ++ pend m l.number l.thread.entries) (three m ls ++ pend m l.number l.thread.entries) c) (sym e)
+          (subst (λ n. Out m n (two m ls ++ pend m l.number l.thread.entries) (three m ls ++ pend m l.number l.thread.entries) (commits_here m ls ++ []))
+          (plus (all_releases m (ms ls)))
+          (out_more m (all_releases m (ms ls)) 0 (two m ls) (three m ls) (pend m l.number l.thread.entries)
           (pend m l.number l.thread.entries) (commits_here m ls)
-          [] s refl (λ i. absurd (cc i)) refl (λ i. absurd (cc i)))
+          [] s refl (omega arith) refl (inl refl)))
+        where
+          plus : (n : ℕ) → n + 0 ≡ n
+          plus n = omega arith
 
   -- no memory that isn't there is released
-  pub unreleased : (m : ℕ) (ls : List Live) → AllKnown p flows st d bits arrays ls → length p.stages ≤ commit_stage p m → has_release m (ms ls) ≡ false
+  pub unreleased : (m : ℕ) (ls : List Live) → AllKnown p flows st d bits arrays ls → length p.stages ≤ commit_stage p m → all_releases m (ms ls) ≡ 0
   unreleased m [] k h = refl
   unreleased m (l ∷ ls) k h = at (did p d bits ls l).moves (unreleased m ls k.1 h) (none (takes m l) refl)
     where
-      none : (b : Bool) → takes m l ≡ b → takes m l ≡ false
-      none true e = absurd (let i = release_here ls l k.0 m e in let j = k.0.seated.keeps_on.inside in omega arith)
-      none false e = e
+      none : (n : ℕ) → takes m l ≡ n → takes m l ≡ 0
+      none zero e = e
+      none (suc n) e = absurd (let i = release_here ls l k.0 m (λ z. cc (sym e ∙ z)) in let j = k.0.seated.keeps_on.inside in omega arith)
 
-      at : (b : Bool) → has_release m (ms ls) ≡ false → takes m l ≡ false → has_release m (cond b (lact p st d bits ls l ∷ ms ls) (ms ls)) ≡ false
-      at true e g = ap₂ (λ x y. x || y) g e
+      at : (b : Bool) → all_releases m (ms ls) ≡ 0 → takes m l ≡ 0 → all_releases m (cond b (lact p st d bits ls l ∷ ms ls) (ms ls)) ≡ 0
+      at true e g = ap₂ (λ x y. x + y) e g
       at false e g = e
 
   -- what step 3 leaves are the entries of the threads that live on
@@ -320,13 +327,13 @@ module _ (p : Pipe) (flows : Flows p) (st : State) (d : Derived.State) (bits : L
       w = work_of_live p d bits ls l
 
       out : (r : Option ℕ) → goes_to (stage_at p l.thread.stage).next (work_of_live p d bits ls l).env ≡ r
-          → pends m (moved_live r l (work_of_live p d bits ls l)) ≡ pend m l.number (work_of_live p d bits ls l).entries
+          → pends m (moved_live r (advised p st bits l) (work_of_live p d bits ls l)) ≡ pend m l.number (work_of_live p d bits ls l).entries
       out None e = sym (pend_own m l.number _ ∙ ap (pend m l.number) (ends_here p flows st d bits arrays ls l k m (ap (stage_or (length p.stages)) e)))
       out (Some q) e = refl
 
       at : (b : Bool)
           → pends m
-          (cond b (moved_live (goes_to (stage_at p l.thread.stage).next (work_of_live p d bits ls l).env) l (work_of_live p d bits ls l))
+          (cond b (moved_live (goes_to (stage_at p l.thread.stage).next (work_of_live p d bits ls l).env) (advised p st bits l) (work_of_live p d bits ls l))
           (stood p st d bits l ∷ []))
           ≡ cond b (pend m l.number (work_of_live p d bits ls l).entries) (pend m l.number l.thread.entries)
       at true = out (goes_to (stage_at p l.thread.stage).next (work_of_live p d bits ls l).env) refl

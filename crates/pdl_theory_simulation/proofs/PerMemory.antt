@@ -1,7 +1,7 @@
 -- An entry for each memory, and the arrays after the commits of all memories.
-use Rattle.std.proofs.Common.{◌≡◌, refl, sym, ap, ap₂, ◌∙◌, ℕ, zero, suc, ◌+◌, ◌≤◌, ◌<◌, Bool, true, false, List, [], ◌∷◌, length, Option, Some, None, ◌==◌, cond, arith, slice_index_or, add-zero, add-suc, suc-add, eq-eqb}
+use Rattle.std.proofs.Common.{◌≡◌, refl, sym, ap, ap₂, ◌∙◌, ℕ, zero, suc, ◌+◌, ◌≤◌, ◌<◌, Bool, true, false, List, [], ◌∷◌, length, ◌==◌, cond, arith, slice_index_or, add-zero, add-suc, suc-add, eq-eqb, Option}
 use Rattle.std.proofs.lemmas.Bool.{eqb-true, eqb-false, ne_eqb}
-use Rattle.pdl_semantics.specs.Flat.{Arrays, Array, Pipe, Mem, with_value}
+use Rattle.pdl_semantics.specs.Flat.{Arrays, Array, Pipe, Mem, with_value, with_word}
 use Rattle.pdl_semantics.specs.Locks.{commit_value}
 use Rattle.pdl_semantics.specs.Machine.{Ask, State, Pending, is_answered}
 use Rattle.pdl_semantics.specs.Moves.{Act}
@@ -30,17 +30,20 @@ mems_same f g k [] h = refl
 mems_same f g k (x ∷ xs) h = ap₂ (λ a l. a ∷ l) (h k) (mems_same f g (suc k) xs h)
 
 -- the arrays after the commits of all memories
-wrote_shown : (words : Array) (m : ℕ) (o : Option Pending) (arrays : Arrays)
-    → words ≡ arrays m → with_commit arrays m o m ≡ wrote words (released m o)
-wrote_shown words m None arrays h = sym h
-wrote_shown words m (Some e) arrays h =
-    ap (λ b. cond b (with_value (arrays m) e.address (commit_value e.value)) (arrays m)) (eq-eqb m m refl)
-    ∙ ap (λ w. with_value w e.address (commit_value e.value)) (sym h)
+wrote_shown : (words : Array) (m : ℕ) (es : List Pending) (arrays : Arrays)
+    → words ≡ arrays m → with_commit arrays m es m ≡ wrote words (released m es)
+wrote_shown words m [] arrays h = sym h
+wrote_shown words m (e ∷ es) arrays h =
+    wrote_shown (with_value words e.address (commit_value e.value)) m es (with_word arrays m e.address (commit_value e.value))
+    (ap (λ w. with_value w e.address (commit_value e.value)) h ∙ sym (
+    ap (λ b. cond b (with_value (arrays m) e.address (commit_value e.value)) (arrays m)) (eq-eqb m m refl)))
 
 -- a commit to m leaves the words of other memories as they are
-pub other_commit : (m n : ℕ) (o : Option Pending) (arrays : Arrays) → (n == m) ≡ false → with_commit arrays m o n ≡ arrays n
-other_commit m n None arrays h = refl
-other_commit m n (Some e) arrays h = ap (λ b. cond b (with_value (arrays m) e.address (commit_value e.value)) (arrays n)) h
+pub other_commit : (m n : ℕ) (es : List Pending) (arrays : Arrays) → (n == m) ≡ false → with_commit arrays m es n ≡ arrays n
+other_commit m n [] arrays h = refl
+other_commit m n (e ∷ es) arrays h =
+    other_commit m n es (with_word arrays m e.address (commit_value e.value)) h
+    ∙ ap (λ b. cond b (with_value (arrays m) e.address (commit_value e.value)) (arrays n)) h
 
 -- commits to the memories from k on leave those before k as they are
 pub before_commits : (st : State) (ms : List Act) (k n : ℕ) (xs : List Mem) (arrays : Arrays)

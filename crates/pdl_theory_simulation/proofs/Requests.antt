@@ -1,22 +1,22 @@
 -- The requests of both machines after a cycle: the same are outstanding, their owners live and await them, and those of removed threads are orphans.
-use Rattle.std.proofs.Common.{◌≡◌, refl, sym, ap, ap₂, ◌∙◌, subst, ℕ, ◌<◌, Bool, true, false, ◌&&◌, ◌||◌, not, List, [], ◌∷◌, ◌++◌, length, Option, Some, None, is_some, is_none, ◌==◌, cond, if◌then◌else◌, arith, append-nil, append_assoc, eq-eqb}
+use Rattle.std.proofs.Common.{◌≡◌, refl, sym, ap, ap₂, ◌∙◌, subst, ℕ, ◌<◌, Bool, true, false, ◌&&◌, ◌||◌, not, List, [], ◌∷◌, ◌++◌, Option, Some, None, is_some, is_none, ◌==◌, cond, if◌then◌else◌, arith, append-nil, append_assoc, eq-eqb}
 use Rattle.std.proofs.lemmas.Bool.{eqb-true}
 use Rattle.pdl_semantics.specs.Flat.{Pipe, Stmt, Op, DelayedRead, list_all}
-use Rattle.pdl_semantics.specs.Stages.{stage_at, goes_to, in_stage, mem_at}
-use Rattle.pdl_semantics.specs.Machine.{Ask, Awaited, Request, NoRequest, Owned, Orphan, is_answered, State, lock_of, request_of}
-use Rattle.pdl_semantics.specs.Locks.{has_room}
+use Rattle.pdl_semantics.specs.Stages.{stage_at, goes_to, in_stage}
+use Rattle.pdl_semantics.specs.Machine.{Ask, Awaited, Request, NoRequest, Owned, Orphan, is_answered, State, request_of}
 use Rattle.pdl_semantics.specs.Moves.{movers, is_empty, block_ready}
 use Rattle.pdl_semantics.specs.Cycle.{awaited_of, asked_of, asked_by, asked_in, address_of, request_left, is_kept}
+use Rattle.pdl_semantics.specs.Promises.{DifferInAdvice}
 use Rattle.pdl_theory_derived.specs.Derived.{Work, awaits_mem, asked_at, find_ask, asks_of, next_ask, port_free, still, around}
 use Rattle.pdl_theory_derived.specs.Derived
 use Rattle.pdl_theory_facts.specs.Scans.{none_of}
 use Rattle.pdl_theory_simulation.proofs.FlowFacts.{Flows}
 use Rattle.pdl_theory_derived.proofs.Writes.{and_left, and_right}
 use Rattle.pdl_theory_derived.proofs.Slots.{rev}
-use Rattle.pdl_theory_simulation.proofs.Stretches.{Behind}
+use Rattle.pdl_theory_simulation.proofs.Stretches.{Behind, less_home}
 use Rattle.pdl_theory_simulation.proofs.StretchSteps.{AsksFrom}
-use Rattle.pdl_theory_simulation.proofs.Seats.{Live, Ordered, dacts, lacts, lact, did, work_of_live, deeds_of}
-use Rattle.pdl_theory_simulation.proofs.Choices.{has_owner, Matched, one_stage, Known, AllKnown, told_here, asks_here}
+use Rattle.pdl_theory_simulation.proofs.Seats.{advised, Live, Ordered, dacts, lacts, lact, did, work_of_live, deeds_of}
+use Rattle.pdl_theory_simulation.proofs.Choices.{has_owner, Matched, one_stage, Known, AllKnown, like_here, asks_here}
 use Rattle.pdl_theory_simulation.proofs.ThreadFacts.{someone, behind_someone}
 use Rattle.pdl_theory_simulation.proofs.LockLists.{fell, moved_live, stood, next_live, go_on, Agrees}
 use Rattle.pdl_theory_simulation.proofs.LiveThreads.{stuck_here, born_live}
@@ -160,7 +160,7 @@ still_awaits p bits (r ∷ rs) m h e = at (r.mem == m) refl h (λ i. still_await
         by true = f i
         by false = ap (λ c. (r.mem == m) || c) (f i) ∙ or_true (r.mem == m)
 
-module _ (p : Pipe) (flows : Flows p) (st : State) (d : Derived.State) (bits : List Bool) (arrays : st.arrays ≡ d.arrays) where
+module _ (p : Pipe) (flows : Flows p) (st : State) (d : Derived.State) (bits : List Bool) (arrays : DifferInAdvice p st.arrays d.arrays) where
   -- the thread that asks for m in this cycle
   abbrev pub asking : List Live → ℕ → Option Asker
   asking [] m = None
@@ -168,7 +168,7 @@ module _ (p : Pipe) (flows : Flows p) (st : State) (d : Derived.State) (bits : L
 
   -- a live thread's stage makes the same requests in both machines
   pub asks_are : (ls : List Live) (l : Live) → Known p flows st d bits arrays ls l → (deeds_of p st bits l).asks ≡ (work_of_live p d bits ls l).asks
-  asks_are ls l k = ap (λ (w : Work). w.asks) (sym (told_here p flows st d bits arrays ls l k).is)
+  asks_are ls l k = ap (λ (w : Work). w.asks) (sym (like_here p flows st d bits arrays ls l k).is)
 
   -- the stated request of m after the new ones is that of the thread that asks for m, else the old one
   pub asked_is : (m : ℕ) (old : Request) (ls : List Live) → AllKnown p flows st d bits arrays ls
@@ -236,7 +236,7 @@ module _ (p : Pipe) (flows : Flows p) (st : State) (d : Derived.State) (bits : L
           absurd (let h = asking_at m a ls k.1 e in
           let same : l.thread.stage ≡ h.0 = one_stage (is_delayed_read m) p.stmts l.thread.stage h.0 (flows.one_fetch m) (asks_at ls l k.0 m x g) h.1 in
           let behind : Behind p l.thread.stage h.0 = behind_someone p l.thread.stage h.0 ls o.0 h.2 in
-          let less : l.thread.stage < h.0 = behind.branch (ap (λ n. (stage_at p n).branch) same) in omega arith)
+          let less : l.thread.stage < h.0 = less_home p _ _ behind (ap (λ n. (stage_at p n).branches) same) in omega arith)
 
   -- the address of m that is asked for in the derived machine is that of the thread that asks for m
   pub finds_is : (m : ℕ) (ls : List Live) → AllKnown p flows st d bits arrays ls → Ordered p ls
@@ -265,14 +265,12 @@ module _ (p : Pipe) (flows : Flows p) (st : State) (d : Derived.State) (bits : L
   ports_were_free : (ls : List Live) (l : Live) → Known p flows st d bits arrays ls l → (did p d bits ls l).moves ≡ true
       → list_all (λ q. port_free p d bits (dacts p d bits ls) q.mem) (deeds_of p st bits l).asks ≡ true
   ports_were_free ls l k i =
-      let ready : (work_of_live p d bits ls l).ready ≡ true = and_right _ _ (and_left _ _ (and_left _ _ i)) in
-      let all :
-      ((((list_all (λ b. block_ready p st l.number b) (deeds_of p st bits l).blocks
-      && list_all (λ r. has_room (mem_at p r.mem).lock (length (lock_of st r.mem))) (deeds_of p st bits l).reserves))
+      let ready : (work_of_live p d bits ls l).ready ≡ true = and_right _ _ (and_left _ _ (and_left _ _ (and_left _ _ i))) in
+      let all : (((list_all (λ b. block_ready p st l.number b) (deeds_of p st bits l).blocks)
       && list_all (λ q. port_free p d bits (dacts p d bits ls) q.mem) (deeds_of p st bits l).asks)
-      && (not (deeds_of p st bits l).barrier || (around p d bits (dacts p d bits ls) l.thread.stage).clear))
+      && (not (deeds_of p st bits l).barrier || (around p d bits (dacts p d bits ls) l.thread.stage l.thread.hint).clear))
       ≡ true =
-      ap (λ (w : Work). w.ready) (sym (told_here p flows st d bits arrays ls l k).is) ∙ ready in
+      ap (λ (w : Work). w.ready) (sym (like_here p flows st d bits arrays ls l k).is) ∙ ready in
       and_right _ _ (and_left _ _ all)
 
   -- where a thread asks m anew, a request of m that was outstanding is answered in this cycle
@@ -330,7 +328,7 @@ module _ (p : Pipe) (flows : Flows p) (st : State) (d : Derived.State) (bits : L
 
       goes : (x : ℕ) → find_ask (work_of_live p d bits ls l).asks m ≡ Some x → (r : Option ℕ)
           → goes_to (stage_at p l.thread.stage).next (work_of_live p d bits ls l).env ≡ r
-          → has_owner l.number m (moved_live r l (work_of_live p d bits ls l)) ≡ true
+          → has_owner l.number m (moved_live r (advised p st bits l) (work_of_live p d bits ls l)) ≡ true
       goes x f None i =
           absurd
           (cc
@@ -350,7 +348,7 @@ module _ (p : Pipe) (flows : Flows p) (st : State) (d : Derived.State) (bits : L
             (subst (λ n. has_owner n m (next_live p st d bits ls l) ≡ true) j
             (ap
             (λ b. has_owner l.number m
-            (cond b (moved_live (goes_to (stage_at p l.thread.stage).next (work_of_live p d bits ls l).env) l (work_of_live p d bits ls l))
+            (cond b (moved_live (goes_to (stage_at p l.thread.stage).next (work_of_live p d bits ls l).env) (advised p st bits l) (work_of_live p d bits ls l))
             (stood p st d bits l ∷ []))) i
             ∙ goes x f (goes_to (stage_at p l.thread.stage).next (work_of_live p d bits ls l).env) refl)),
       )
@@ -395,7 +393,8 @@ module _ (p : Pipe) (flows : Flows p) (st : State) (d : Derived.State) (bits : L
           ap₂
           (λ f b. has_owner n m
           ((if f then []
-          else cond b (moved_live (goes_to (stage_at p l.thread.stage).next (work_of_live p d bits ls l).env) l (work_of_live p d bits ls l))
+          else cond b
+          (moved_live (goes_to (stage_at p l.thread.stage).next (work_of_live p d bits ls l).env) (advised p st bits l) (work_of_live p d bits ls l))
           (stood p st d bits l ∷ []))
           ++ go_on p st d bits ls))
           (firm i (fell p d bits ls) refl) (waits_stand ls l m j e)
@@ -422,30 +421,34 @@ module _ (p : Pipe) (flows : Flows p) (st : State) (d : Derived.State) (bits : L
   -- after a cycle the requests of m in both machines go together, where they did before it
   pub matched_next : (m n : ℕ) (c : Option (List ℕ)) (sq : Option ℕ) (ls : List Live)
       → AllKnown p flows st d bits arrays ls → Agrees p d bits sq ls → Matched (request_of st m) (asked_at d m) m ls
-      → Matched (request_now sq ls m) (asked_now ls m) m (born_live p n c ++ go_on p st d bits ls)
+      → Matched (request_now sq ls m) (asked_now ls m) m (born_live p (d.hints 0) n c ++ go_on p st d bits ls)
   matched_next m n c sq ls k g h = at (asking ls m) refl
     where
       old : (q : Request) → request_of st m ≡ q → Matched q (asked_at d m) m ls → is_answered p bits m ≡ false
-          → Matched (request_left sq q) (asked_at d m) m (born_live p n c ++ go_on p st d bits ls)
+          → Matched (request_left sq q) (asked_at d m) m (born_live p (d.hints 0) n c ++ go_on p st d bits ls)
       old NoRequest e h i = h
       old (Orphan a) e h i = h
       old (Owned w a) e h i = by (is_kept sq w) refl
         where
-          by : (b : Bool) → is_kept sq w ≡ b → Matched (if b then Owned w a else Orphan a) (asked_at d m) m (born_live p n c ++ go_on p st d bits ls)
-          by true j = (h.0, owner_behind w m (born_live p n c) (go_on p st d bits ls) (owner_stays w m sq ls k g h.1 i j))
+          by : (b : Bool)
+              → is_kept sq w ≡ b
+              → Matched (if b then Owned w a else Orphan a) (asked_at d m) m (born_live p (d.hints 0) n c ++ go_on p st d bits ls)
+          by true j = (h.0, owner_behind w m (born_live p (d.hints 0) n c) (go_on p st d bits ls) (owner_stays w m sq ls k g h.1 i j))
           by false j = h.0
 
       at : (r : Option Asker) → asking ls m ≡ r
           → Matched (request_left sq (owned_by r (if is_answered p bits m then NoRequest else request_of st m)))
-          (next_ask (address_for r) (is_answered p bits m) (asked_at d m)) m (born_live p n c ++ go_on p st d bits ls)
+          (next_ask (address_for r) (is_answered p bits m) (asked_at d m)) m (born_live p (d.hints 0) n c ++ go_on p st d bits ls)
       at (Some a) e =
           let l = asker_lives m a sq ls k g e in
-          subst (λ b. Matched (if b then Owned a.number a.address else Orphan a.address) (Some a.address) m (born_live p n c ++ go_on p st d bits ls)) (sym l.0)
-          (refl, owner_behind a.number m (born_live p n c) (go_on p st d bits ls) l.1)
+          subst
+          (λ b. Matched (if b then Owned a.number a.address else Orphan a.address) (Some a.address) m (born_live p (d.hints 0) n c ++ go_on p st d bits ls))
+          (sym l.0)
+          (refl, owner_behind a.number m (born_live p (d.hints 0) n c) (go_on p st d bits ls) l.1)
       at None e = by (is_answered p bits m) refl
         where
           by : (b : Bool) → is_answered p bits m ≡ b
               → Matched (request_left sq (if b then NoRequest else request_of st m))
-              (if b then None else asked_at d m) m (born_live p n c ++ go_on p st d bits ls)
+              (if b then None else asked_at d m) m (born_live p (d.hints 0) n c ++ go_on p st d bits ls)
           by true i = refl
           by false i = old (request_of st m) refl h i

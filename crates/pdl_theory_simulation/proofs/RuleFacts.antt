@@ -1,11 +1,13 @@
 -- The facts that the simulation takes follow from the facts as the rules say them.
-use Rattle.std.proofs.Common.{◌≡◌, refl, sym, ap, ap₂, ◌∙◌, subst, ℕ, suc, ◌≤◌, ◌<◌, ◌⊎◌, inl, inr, Bool, true, false, ◌&&◌, ◌||◌, not, List, [], ◌∷◌, ◌++◌, length, Option, Some, None, ◌==◌, nat_lt, nat_le, cond, arith, slice_index, ltb-true, ltb-false, lt-ltb, leb-true, leb-false, le_refl}
+use Rattle.std.proofs.Common.{◌≡◌, refl, sym, ap, ap₂, ◌∙◌, subst, ℕ, suc, ◌≤◌, ◌<◌, ◌⊎◌, inl, inr, Bool, true, false, ◌&&◌, ◌||◌, not, List, [], ◌∷◌, ◌++◌, length, Option, Some, None, ◌==◌, nat_lt, nat_le, cond, arith, slice_index, ltb-true, ltb-false, lt-ltb, leb-true, leb-false, le_refl, le_of_lt}
+use Rattle.std.proofs.lemmas.List.{get_or_past}
 use Rattle.std.proofs.lemmas.Bool.{eqb-true, eqb-false}
-use Rattle.pdl_semantics.specs.Flat.{Pipe, Branch, Next, Ends, Goes, Forks, Op, Bind, CombRead, DelayedRead, Guard, Stmt, takes_branch, all_hold}
-use Rattle.pdl_semantics.specs.Stages.{onpath, in_stage, stage_at, goes_to}
+use Rattle.pdl_semantics.specs.Flat.{Pipe, Stage, Branch, Next, Ends, Goes, Forks, Op, Bind, CombRead, DelayedRead, Guard, Stmt, takes_branch, all_hold}
+use Rattle.pdl_semantics.specs.Stages.{onpath, in_stage, last_stage, stage_at, goes_to}
 use Rattle.pdl_semantics.specs.Sound.{stages_before, stages_from, is_fetch}
 use Rattle.pdl_theory_facts.specs.Scans.{none_of, binds_var}
-use Rattle.pdl_theory_simulation.proofs.FlowFacts.{Flows, FlowRules, AllOf, DefinedBy, SameBut, binds_guard, visits_stage, comes_by, on_side, next_of, stage_or, sets, is_fetch_of}
+use Rattle.pdl_theory_facts.proofs.Nested.{came_from_way, visits_same, visits_fork, trunk_within}
+use Rattle.pdl_theory_simulation.proofs.FlowFacts.{Within, Flows, FlowRules, AllOf, DefinedBy, SameBut, binds_guard, visits_stage, on_side, next_of, stage_or, sets, is_fetch_of}
 use Rattle.pdl_theory_turns.proofs.Paths.{stage_path, none_onpath}
 
 -- LISTS
@@ -189,7 +191,8 @@ module _ (p : Pipe) (rules : FlowRules p) where
         (λ z f g. λ low. same_bools (all_hold z.guards env) (all_hold z.guards env') (λ e. agree z low (f e)) (λ e. agree z low (g e))) p.stmts
         (rules.guards_late env)
         (rules.guards_late env')),
-    branch_same (stage_at p s).branch refl,
+    visits_same p s env env'
+        (λ x c i. let u = rules.graph.fork_below x c s i in fork_same x u.1 (visits_fork p env x c s i u.0 b) (stage_at p x.fork).next refl),
   )
     where
       keeps : (g : ℕ) → AllOf (λ y. binds_var g y.op ≡ true → y.stage ≡ s → ⊥) p.stmts → slice_index env g ≡ slice_index env' g
@@ -201,19 +204,16 @@ module _ (p : Pipe) (rules : FlowRules p) where
       agree z low k = taken_agree env env' z.guards (λ g i. keeps g (all_map (λ y f. λ e j. let d = (f (i y.op e)).0 in absurd (omega arith)) p.stmts k))
 
       -- the fork around it stands before it
-      fork_same : (x : Branch) → (stage_at p s).branch ≡ Some x → (n : Next) → (stage_at p x.fork).next ≡ n → on_side n x.first env ≡ on_side n x.first env'
-      fork_same x e Ends f = refl
-      fork_same x e (Goes to) f = refl
-      fork_same x e (Forks v a c) f =
+      fork_same : (x : Branch) → x.fork < s → visits_stage p env x.fork ≡ true → (n : Next) → (stage_at p x.fork).next ≡ n
+          → on_side n x.first env ≡ on_side n x.first env'
+      fork_same x e on Ends f = refl
+      fork_same x e on (Goes to) f = refl
+      fork_same x e on (Forks v a c) f =
           ap (takes_branch x.first)
           (keeps v
           (all_map
-          (λ y g. λ i j. let d = (g i).0 in let u = (rules.graph.fork_below s x e).0 in absurd (omega arith)) p.stmts
-          (rules.forks_late x.fork v a c f)))
-
-      branch_same : (c : Option Branch) → (stage_at p s).branch ≡ c → visits_stage p env s ≡ visits_stage p env' s
-      branch_same None e = ap (λ c. comes_by p env c) e ∙ sym (ap (λ c. comes_by p env' c) e)
-      branch_same (Some x) e = ap (λ c. comes_by p env c) e ∙ fork_same x e (stage_at p x.fork).next refl ∙ sym (ap (λ c. comes_by p env' c) e)
+          (λ y g. λ i j. let d = (g i).0 in absurd (omega arith)) p.stmts
+          (rules.forks_late env x.fork v a c on f)))
 
   settled_rule : (s : ℕ) (env env' : List ℕ) → s < length p.stages → visits_stage p env' s ≡ true
       → SameBut is_fetch_of (onpath env' (in_stage s p.stmts)) env env'
@@ -241,62 +241,56 @@ module _ (p : Pipe) (rules : FlowRules p) where
           apart y a c (inr d) = absurd (omega arith)
 
       -- a fork's guard isn't read in the fork's stage or after it
-      guard_same : (f v a c : ℕ) → f ≤ s → (stage_at p f).next ≡ Forks v a c → slice_index env v ≡ slice_index env' v
-      guard_same f v a c i e = keeps v (all_map (λ y g. λ j u w. let d = (g j).1 u in absurd (omega arith)) p.stmts (rules.forks_late f v a c e))
+      guard_same : (f v a c : ℕ) → f ≤ s → visits_stage p env' f ≡ true → (stage_at p f).next ≡ Forks v a c → slice_index env v ≡ slice_index env' v
+      guard_same f v a c i on e = keeps v (all_map (λ y g. λ j u w. let d = (g j).1 u in absurd (omega arith)) p.stmts (rules.forks_late env' f v a c on e))
 
-      fork_same : (f : ℕ) (first : Bool) → f ≤ s → (n : Next) → (stage_at p f).next ≡ n → on_side n first env ≡ on_side n first env'
-      fork_same f first i Ends e = refl
-      fork_same f first i (Goes to) e = refl
-      fork_same f first i (Forks v a c) e = ap (takes_branch first) (guard_same f v a c i e)
+      fork_same : (f : ℕ) (first : Bool) → f ≤ s → visits_stage p env' f ≡ true → (n : Next) → (stage_at p f).next ≡ n
+          → on_side n first env ≡ on_side n first env'
+      fork_same f first i on Ends e = refl
+      fork_same f first i on (Goes to) e = refl
+      fork_same f first i on (Forks v a c) e = ap (takes_branch first) (guard_same f v a c i on e)
 
-      branch_some : (q : ℕ) (x : Branch) → (stage_at p q).branch ≡ Some x → x.fork ≤ s → visits_stage p env q ≡ visits_stage p env' q
-      branch_some q x e i = ap (λ c. comes_by p env c) e ∙ fork_same x.fork x.first i (stage_at p x.fork).next refl ∙ sym (ap (λ c. comes_by p env' c) e)
+      branches_at : (q : ℕ) → ((x : Branch) (c : List Branch) → Within p (x ∷ c) q → (x.fork ≤ s) × (visits_stage p env' x.fork ≡ true))
+          → visits_stage p env q ≡ visits_stage p env' q
+      branches_at q low_forks =
+          visits_same p q env env' (λ x c i. let u = low_forks x c i in fork_same x.fork x.first u.0 u.1 (stage_at p x.fork).next refl)
 
-      branch_none : (q : ℕ) → (stage_at p q).branch ≡ None → visits_stage p env q ≡ visits_stage p env' q
-      branch_none q e = ap (λ c. comes_by p env c) e ∙ sym (ap (λ c. comes_by p env' c) e)
+      -- the forks around stage s
+      around : (x : Branch) (c : List Branch) → Within p (x ∷ c) s → (x.fork ≤ s) × (visits_stage p env' x.fork ≡ true)
+      around x c h = let u = rules.graph.fork_below x c s h in (le_of_lt u.1, visits_fork p env' x c s h u.0 b)
 
-      branch_at : (q : ℕ) → q ≤ s → visits_stage p env q ≡ visits_stage p env' q
-      branch_at q i = by (stage_at p q).branch refl
-        where
-          by : (c : Option Branch) → (stage_at p q).branch ≡ c → visits_stage p env q ≡ visits_stage p env' q
-          by None e = branch_none q e
-          by (Some x) e = branch_some q x e (let u = (rules.graph.fork_below q x e).0 in omega arith)
+      branch_here : visits_stage p env s ≡ visits_stage p env' s
+      branch_here = branches_at s around
 
       next_same : (n : Next) → (stage_at p s).next ≡ n → next_of p s env ≡ next_of p s env'
       next_same Ends e = ap (λ m. stage_or (length p.stages) (goes_to m env)) e ∙ sym (ap (λ m. stage_or (length p.stages) (goes_to m env')) e)
       next_same (Goes to) e = ap (λ m. stage_or (length p.stages) (goes_to m env)) e ∙ sym (ap (λ m. stage_or (length p.stages) (goes_to m env')) e)
       next_same (Forks v a c) e =
           ap (λ m. stage_or (length p.stages) (goes_to m env)) e
-          ∙ ap (λ w. cond (w == 1) a c) (guard_same s v a c (le_refl s) e)
+          ∙ ap (λ w. cond (w == 1) a c) (guard_same s v a c (le_refl s) b e)
           ∙ sym (ap (λ m. stage_or (length p.stages) (goes_to m env')) e)
 
       one : AllOf (λ z. z.stage < next_of p s env' → all_hold z.guards env ≡ true → all_hold z.guards env ≡ all_hold z.guards env') p.stmts
       one =
           all_both (λ z k l. λ i e. agree z env (next_same (stage_at p s).next refl) i (k e) (l e)) p.stmts (rules.guards_late env)
-          (rules.on_stages env s low (branch_at s (le_refl s) ∙ b))
+          (rules.on_stages env s low (branch_here ∙ b))
 
       two : AllOf (λ z. z.stage < next_of p s env' → all_hold z.guards env' ≡ true → all_hold z.guards env ≡ all_hold z.guards env') p.stmts
       two = all_both (λ z k l. λ i e. agree z env' refl i (k e) (l e)) p.stmts (rules.guards_late env') (rules.on_stages env' s low b)
 
       next_branch : (r : Option ℕ) → goes_to (stage_at p s).next env' ≡ r → visits_stage p env (next_of p s env') ≡ visits_stage p env' (next_of p s env')
       next_branch None e =
-          subst (λ n. visits_stage p env n ≡ visits_stage p env' n) (sym (ap (stage_or (length p.stages)) e)) (past (stage_at p (length p.stages)).branch refl)
-        where
-          past : (c : Option Branch) → (stage_at p (length p.stages)).branch ≡ c → visits_stage p env (length p.stages) ≡ visits_stage p env' (length p.stages)
-          past None i = branch_none (length p.stages) i
-          past (Some x) i =
-              branch_some (length p.stages) x i
-              (let u = (rules.graph.fork_below (length p.stages) x i).0 in let v = (rules.graph.last s env' low e).0 in omega arith)
+          subst (λ n. visits_stage p env n ≡ visits_stage p env' n) (sym (ap (stage_or (length p.stages)) e))
+          (branches_at (length p.stages)
+          (λ x c i. trunk_within p x c (length p.stages)
+          (ap (λ (y : Stage). y.branches) (get_or_past p.stages (length p.stages) last_stage (le_refl (length p.stages)))) i))
       next_branch (Some q) e =
-          subst (λ n. visits_stage p env n ≡ visits_stage p env' n) (sym (ap (stage_or (length p.stages)) e)) (by (stage_at p q).branch refl)
+          subst (λ n. visits_stage p env n ≡ visits_stage p env' n) (sym (ap (stage_or (length p.stages)) e))
+          (branches_at q (λ x c i. from x c (came_from_way p x c s q (rules.graph.way s q (env', e, low)) i)))
         where
-          by : (c : Option Branch) → (stage_at p q).branch ≡ c → visits_stage p env q ≡ visits_stage p env' q
-          by None i = branch_none q i
-          by (Some x) i = branch_some q x i (from (rules.graph.into s q x (env', e, low) i))
-            where
-              from : ((stage_at p s).branch ≡ Some x) ⊎ ((s ≡ x.fork) × ((stage_at p s).branch ≡ None)) → x.fork ≤ s
-              from (inl j) = let u = (rules.graph.fork_below s x j).0 in omega arith
-              from (inr j) = let u = j.0 in omega arith
+          from : (x : Branch) (c : List Branch) → (x.fork ≡ s) ⊎ Within p (x ∷ c) s → (x.fork ≤ s) × (visits_stage p env' x.fork ≡ true)
+          from x c (inl j) = ((let e : x.fork ≤ s = omega arith in e), subst (λ n. visits_stage p env' n ≡ true) (sym j) b)
+          from x c (inr j) = around x c j
 
   -- the statements up to the next stage
   next_rule : (path : List ℕ) (s : ℕ) → s < length p.stages → visits_stage p path s ≡ true
@@ -342,6 +336,10 @@ module _ (p : Pipe) (rules : FlowRules p) where
         unreleased = rules.unreleased;
         unfetched = rules.unfetched;
         calls = rules.calls;
+        advice = rules.advice;
+        guess_apart = rules.guess_apart;
+        updates = rules.updates;
+        update_apart = rules.update_apart;
         one_fetch = rules.one_fetch;
         fetch_inside = rules.fetch_inside;
       }

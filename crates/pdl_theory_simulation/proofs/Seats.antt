@@ -14,16 +14,17 @@ use Rattle.pdl_theory_simulation.proofs.Stretches.{Behind}
 use Rattle.pdl_theory_derived.proofs.Lists.{pend, youngest_append, youngest_older, length_pend}
 use Rattle.pdl_word.specs.Each.{Each}
 
--- a live thread of the derived machine, its number, the values with which it came into its stage, and the answers that the stated machine keeps for it
+-- a live thread of the derived machine, its number, the values with which it came into its stage, and the answers and the advised values that the stated machine keeps for it
 pub record Live : Type 0 where
   pub number : ℕ
   pub thread : Derived.Thread
   pub env : List ℕ
   pub kept : List Kept
+  pub advice : List Kept
 
 -- the thread of the stated machine
 abbrev pub seat : Live → Machine.Thread
-seat l = record { number = l.number; env = l.env; guess = l.thread.guess; awaits = l.thread.awaits; kept = l.kept }
+seat l = record { number = l.number; env = l.env; advice = l.advice; guess = l.thread.guess; awaits = l.thread.awaits; kept = l.kept }
 
 -- the thread that stands in a stage, none where nobody stands there
 abbrev pub find : ℕ → List Live → Option Machine.Thread
@@ -89,11 +90,15 @@ now_of p d bits l = Derived.answered_thread p d bits l.thread
 
 -- the work of a live thread's stage in the derived machine, behind these older ones
 abbrev pub work_of_live : Pipe → Derived.State → List Bool → List Live → Live → Work
-work_of_live p d bits ls l = work_of_stage p (around p d bits (dacts p d bits ls) l.thread.stage) (Derived.answered_thread p d bits l.thread)
+work_of_live p d bits ls l = work_of_stage p (around p d bits (dacts p d bits ls) l.thread.stage l.thread.hint) (Derived.answered_thread p d bits l.thread)
 
 -- the deeds of a live thread's stage in the stated machine
 abbrev pub deeds_of : Pipe → State → List Bool → Live → Deeds
 deeds_of p st bits l = Machine.deeds p st l.thread.stage (with_answers p st bits (seat l))
+
+-- a live thread with the advised values that it has at the end of its stage
+abbrev pub advised : Pipe → State → List Bool → Live → Live
+advised p st bits l = record l { advice = (deeds_of p st bits l).advice }
 
 -- the stated act of a thread, as the derived machine decides it
 abbrev pub lact : Pipe → State → Derived.State → List Bool → List Live → Live → Moves.Act

@@ -1,54 +1,106 @@
 -- What a live thread keeps on its own way through the stages, whatever stands around it: the locations that it holds, its pending writes, the reads that it awaits.
-use Rattle.std.proofs.Common.{◌≡◌, refl, sym, ap, ap₂, ◌∙◌, subst, ℕ, ◌≤◌, ◌<◌, inl, Bool, true, false, ◌&&◌, ◌||◌, not, List, [], ◌∷◌, ◌++◌, Some, None, ◌==◌, nat_lt, cond, if◌then◌else◌, arith, slice_index, append-nil, ltb-true}
+use Rattle.std.proofs.Common.{◌≡◌, refl, sym, ap, ap₂, ◌∙◌, subst, ℕ, ◌≤◌, ◌<◌, Bool, true, false, ◌&&◌, ◌||◌, not, List, [], ◌∷◌, ◌++◌, Some, ◌==◌, nat_lt, cond, if◌then◌else◌, arith, eq-eqb, slice_index, append-nil, ltb-true}
 use Rattle.std.proofs.lemmas.Bool.{eqb-true}
-use Rattle.pdl_semantics.specs.Flat.{Commit, Op, Write, ReserveWrite, Release, Verify, Stmt, values_of, all_hold}
+use Rattle.pdl_semantics.specs.Flat.{Commit, Op, Write, ReserveWrite, Release, Verify, Stmt, all_hold}
 use Rattle.pdl_semantics.specs.Stages.{onpath, is_reserve, is_release}
 use Rattle.pdl_semantics.specs.Machine.{same_args, Pending, HeldLocation, held_after, held_before}
 use Rattle.pdl_semantics.specs.Sound.{stages_before, is_call}
 use Rattle.pdl_semantics.specs.Machine
-use Rattle.pdl_theory_derived.specs.Derived.{Entry, Work, Around, work_after, do_all}
-use Rattle.pdl_theory_facts.specs.Scans.{Phase, Fresh, Held, Written, Done, after_release, next_phase, phase_all, is_over, none_of, all_at, is_fixed, called}
+use Rattle.pdl_theory_derived.specs.Derived.{Entry, Work, Around, work_after, do_all, said}
+use Rattle.pdl_theory_facts.specs.Scans.{Phase, Fresh, after_write, after_reserve, after_release, next_phase, phase_all, is_over, none_of, all_at, is_fixed, called}
 use Rattle.pdl_theory_simulation.proofs.FlowFacts.{use_ok, uses_ok, calls_ok}
 use Rattle.pdl_theory_derived.proofs.Writes.{and_left, and_right}
-use Rattle.pdl_theory_derived.proofs.Entries.{entries_of, entry}
+use Rattle.pdl_theory_derived.proofs.Entries.{entries_of, entry, write_of, Open, Full, waiting, known, open_vars, full_vars, told}
+use Rattle.pdl_theory_derived.specs.Alone.{is_nil, is_among, but_last}
+use Rattle.pdl_theory_facts.proofs.Apart.{Apart, apart_fresh}
+use Rattle.pdl_theory_turns.proofs.Phases.{nil_of, no_fulls}
 use Rattle.pdl_theory_derived.proofs.Stages.{step}
 use Rattle.pdl_theory_turns.proofs.Paths.{Fixed, all_stays, taken_stays}
 use Rattle.pdl_theory_derived.proofs.Deeds.{places, places_without, places_filled}
-use Rattle.pdl_theory_derived.proofs.Lists.{pend}
-use Rattle.pdl_theory_turns.proofs.Steps.{Staged}
-use Rattle.pdl_theory_turns.proofs.OwnEntries.{pend_own, pend_one}
+use Rattle.pdl_theory_derived.proofs.Lists.{own, pend}
+use Rattle.pdl_theory_turns.proofs.Steps.{Staged, unnamed, pendings, unnamed_append, pendings_append, pend_append, is_used, AllUsed}
+use Rattle.pdl_theory_turns.proofs.OwnEntries.{pend_own, no_opens}
 
 -- SHAPES
 
 -- a thread's entries of m in a phase of its statements
-abbrev pub Shape : ℕ → Phase → List Entry → Type 0
-Shape m Fresh es = es ≡ []
-Shape m (Held x) es = (a : ℕ) × (es ≡ entry m x a None ∷ [])
-Shape m (Written x) es = (a : ℕ) × (v : ℕ) × (es ≡ entry m x a (Some v) ∷ [])
-Shape m Done es = es ≡ []
+pub record Shape (m : ℕ) (ph : Phase) (es : List Entry) : Type 0 where
+  pub opens : List Open
+  pub fulls : List Full
+  pub entries : es ≡ waiting m opens ++ known m fulls
+  pub at_open : open_vars opens ≡ ph.unwritten
+  pub at_full : full_vars fulls ≡ ph.full
+  pub apart : Apart ph
+
+-- before the first reservation there are none
+pub shape_fresh : (m : ℕ) → Shape m Fresh []
+shape_fresh m = record { opens = []; fulls = []; entries = refl; at_open = refl; at_full = refl; apart = apart_fresh }
 
 -- a thread whose write to m isn't begun, or is done, has no pending write of m
 pub shape_over : (m : ℕ) (ph : Phase) (es : List Entry) → is_over ph ≡ true → Shape m ph es → es ≡ []
-shape_over m Fresh es h s = s
-shape_over m (Held x) es h s = absurd (cc h)
-shape_over m (Written x) es h s = absurd (cc h)
-shape_over m Done es h s = s
+shape_over m ph es h s =
+    s.entries
+    ∙ ap₂ (λ l k. waiting m l ++ known m k) (no_opens s.opens (s.at_open ∙ nil_of ph.unwritten (and_left _ _ h)))
+    (no_fulls s.fulls (s.at_full ∙ nil_of ph.full (and_right (is_nil ph.unwritten) _ h)))
+
+-- so there are none then
+pub shape_none : (m : ℕ) (es : List Entry) → Shape m Fresh es → es ≡ []
+shape_none m es s = shape_over m Fresh es refl s
+
+-- entries with a value, as pending writes
+pend_known : (m n : ℕ) (fs : List Full) → unnamed (pend m n (known m fs)) ≡ pendings n (told m fs)
+pend_known m n [] = refl
+pend_known m n (f ∷ fs) =
+    ap (λ b. unnamed (pend m n (known m fs) ++ cond b (own n (entry m f.var f.address (Some f.value)) ∷ []) [])) (eq-eqb m m refl)
+    ∙ unnamed_append (pend m n (known m fs)) (own n (entry m f.var f.address (Some f.value)) ∷ [])
+    ∙ ap (λ l. l ++ record { thread = n; var = 0; address = f.address; value = Some f.value } ∷ []) (pend_known m n fs)
+    ∙ sym (pendings_append n (told m fs) (write_of m f.address f.value ∷ []))
+
+known_used : (m n : ℕ) (ph : Phase) (fs : List Full) → ((x : ℕ) → is_among x (full_vars fs) ≡ true → is_used ph x ≡ true) → AllUsed ph (pend m n (known m fs))
+known_used m n ph [] h = tt
+known_used m n ph (f ∷ fs) h =
+    both (pend m n (known m fs)) (m == m) (known_used m n ph fs (λ x k. h x (ap (λ b. (f.var == x) || b) k ∙ always (f.var == x))))
+    (h f.var (ap (λ b. b || is_among f.var (full_vars fs)) (eq-eqb f.var f.var refl)))
+  where
+    always : (b : Bool) → (b || true) ≡ true
+    always true = refl
+    always false = refl
+
+    both : (es : List Pending) (b : Bool)
+        → AllUsed ph es → is_used ph f.var ≡ true → AllUsed ph (es ++ cond b (own n (entry m f.var f.address (Some f.value)) ∷ []) [])
+    both [] true u k = (k, tt)
+    both [] false u k = tt
+    both (e ∷ es) b u k = (u.0, both es b u.1 k)
 
 -- at the start of a stage, where nothing is done yet, a thread's entries of m fit its phase and its pending writes in the lock
 pub shape_start : (m n : ℕ) (ph : Phase) (es : List Entry) → Shape m ph (entries_of m es)
-    → Staged m n ph (entries_of m es) [] (pend m n es ++ []) [] false
-shape_start m n Fresh es t = (t, refl, append-nil _ ∙ pend_own m n es ∙ ap (pend m n) t, (λ l. refl), refl)
-shape_start m n (Held x) es t = (t.0, t.1, refl, append-nil _ ∙ pend_own m n es ∙ ap (pend m n) t.1 ∙ pend_one m n x t.0 None, refl)
-shape_start m n (Written x) es t = (t.0, t.1, t.2, refl, append-nil _ ∙ pend_own m n es ∙ ap (pend m n) t.2 ∙ pend_one m n x t.0 (Some t.1), refl)
-shape_start m n Done es t = (t, inl (refl, append-nil _ ∙ pend_own m n es ∙ ap (pend m n) t, refl))
+    → Staged m n ph (entries_of m es) [] (pend m n es ++ []) [] 0
+shape_start m n ph es t =
+    record {
+      opens = t.opens;
+      fulls = t.fulls;
+      out = [];
+      rest = pend m n (known m t.fulls);
+      entries = t.entries;
+      at_open = t.at_open;
+      at_full = t.at_full;
+      two = append-nil _ ∙ pend_own m n es ∙ ap (pend m n) t.entries ∙ pend_append m n (waiting m t.opens) (known m t.fulls);
+      outs = refl;
+      given = tt;
+      let_go = omega arith;
+      commits = refl;
+      same = pend_known m n t.fulls;
+      exact = λ k. refl;
+      used = known_used m n ph t.fulls (λ x k. ap (λ b. b || is_among x ph.gone) (ap (is_among x) (sym t.at_full) ∙ k));
+      written = tt;
+      apart = t.apart;
+    }
 
 -- a thread's entries of m have the shape of its phase at the end of a stage
-pub shape_end : (m n : ℕ) (ph : Phase) (es : List Entry) (cs : List Commit) (new : List Pending) (ws : List Machine.Written) (rel : Bool)
+pub shape_end : (m n : ℕ) (ph : Phase) (es : List Entry) (cs : List Commit) (new : List Pending) (ws : List Machine.Written) (rel : ℕ)
     → Staged m n ph es cs new ws rel → Shape m ph es
-shape_end m n Fresh es cs new ws rel g = g.0
-shape_end m n (Held x) es cs new ws rel g = (g.0, g.1)
-shape_end m n (Written x) es cs new ws rel g = (g.0, g.1, g.2)
-shape_end m n Done es cs new ws rel g = g.0
+shape_end m n ph es cs new ws rel g =
+    record { opens = g.opens; fulls = g.fulls; entries = g.entries; at_open = g.at_open; at_full = g.at_full; apart = g.apart }
 
 -- LISTS OF STATEMENTS
 
@@ -120,12 +172,12 @@ stays_fresh m (x ∷ xs) h k =
     same : (op : Op) → use_ok m Fresh op ≡ true → not (is_reserve m op) ≡ true → next_phase m Fresh op ≡ Fresh
     same (Write n a e) u r = by (n == m) u
       where
-        by : (b : Bool) → (not b || false) ≡ true → cond b (Written a) Fresh ≡ Fresh
+        by : (b : Bool) → (not b || false) ≡ true → cond b (after_write Fresh a) Fresh ≡ Fresh
         by true v = absurd (cc v)
         by false v = refl
     same (ReserveWrite n a) u r = by (n == m) r
       where
-        by : (b : Bool) → not b ≡ true → cond b (Held a) Fresh ≡ Fresh
+        by : (b : Bool) → not b ≡ true → cond b (after_reserve Fresh a) Fresh ≡ Fresh
         by true v = absurd (cc v)
         by false v = refl
     same (Release n a) u r = by (n == m)
@@ -139,13 +191,17 @@ stays_fresh m (x ∷ xs) h k =
 stuck : (m : ℕ) (op : Op) (ph : Phase) → is_over ph ≡ false → not (is_release m op) ≡ true → is_over (next_phase m ph op) ≡ false
 stuck m (ReserveWrite k a) ph h r = at (k == m)
   where
-    at : (b : Bool) → is_over (cond b (Held a) ph) ≡ false
+    at : (b : Bool) → is_over (cond b (after_reserve ph a) ph) ≡ false
     at true = refl
     at false = h
 stuck m (Write k a e) ph h r = at (k == m)
   where
-    at : (b : Bool) → is_over (cond b (Written a) ph) ≡ false
-    at true = refl
+    never : (b : Bool) → (b && false) ≡ false
+    never true = refl
+    never false = refl
+
+    at : (b : Bool) → is_over (cond b (after_write ph a) ph) ≡ false
+    at true = never (is_nil (but_last ph.unwritten))
     at false = h
 stuck m (Release k a) ph h r = at (k == m) r
   where
@@ -195,9 +251,10 @@ held_path s path (x ∷ xs) ls = at (nat_lt x.stage s) (all_hold x.guards path) 
 held_op : (o : Around) (op : Op) (w : Work) → places (work_after o op w).entries ≡ held_after op (places w.entries)
 held_op o (Write j a e) w = places_filled w.entries j a _
 held_op o (Release j a) w = places_without w.entries j a
-held_op o (Verify args) w = at (same_args (values_of args w.env) w.guess)
+held_op o (Verify last args) w = at (same_args (said o last args w.env) w.guess)
   where
-    at : (b : Bool) → places (cond b w (record w { child = Some (values_of args w.env); fails = true })).entries ≡ places w.entries
+    at : (b : Bool)
+        → places (cond b w (record w { child = Some (said o last args w.env); guess = said o last args w.env; fails = true })).entries ≡ places w.entries
     at true = refl
     at false = refl
 held_op o _ w = refl

@@ -2,22 +2,19 @@
 use Rattle.std.proofs.Common.{◌≡◌, refl, sym, ap, ◌∙◌, subst, ℕ, zero, suc, Bool, true, false, List, [], ◌∷◌, ◌++◌, Some, None, ◌==◌, cond, arith, slice_index_or}
 use Rattle.std.proofs.lemmas.Bool.{eqb-true, eqb-false}
 use Rattle.pdl_semantics.specs.Flat.{Arrays, Pipe, Mem, Stage}
-use Rattle.pdl_semantics.specs.Sound.{side_in}
-use Rattle.pdl_semantics.specs.Machine.{NoRequest, State, Pending}
+use Rattle.pdl_semantics.specs.Stages.{sides_of}
+use Rattle.pdl_semantics.specs.Machine.{NoRequest, Pending}
 use Rattle.pdl_semantics.specs.Cycle.{for_mems, for_stages}
 use Rattle.pdl_semantics.specs.Cycle
 use Rattle.pdl_theory_derived.specs.Derived.{asked_at}
 use Rattle.pdl_theory_derived.specs.Derived
 use Rattle.pdl_theory_simulation.proofs.FlowFacts.{Flows}
-use Rattle.pdl_theory_derived.specs.Simulation.{SameTurns}
 use Rattle.pdl_theory_derived.proofs.Slots.{stages_same}
 use Rattle.pdl_theory_simulation.proofs.PerMemory.{mems_same}
 use Rattle.pdl_theory_simulation.proofs.Stretches.{keeps_fresh}
 use Rattle.pdl_theory_simulation.proofs.Seats.{Live}
 use Rattle.pdl_theory_simulation.proofs.Choices.{Matched}
-use Rattle.pdl_theory_simulation.proofs.LiveThreads.{lives_next}
 use Rattle.pdl_theory_simulation.proofs.SimulatedStates.{Sim}
-use Rattle.pdl_theory_simulation.proofs.WholeSimulation.{turn_same, cycle_sim}
 
 module _ (p : Pipe) (flows : Flows p) where
   -- RUNS
@@ -56,36 +53,25 @@ module _ (p : Pipe) (flows : Flows p) where
       at false e false f = refl
 
   -- thread 1 in stage 0 with the start arguments
-  abbrev pub first_live : Live
-  first_live = record { number = 1; thread = Derived.fresh p p.start; env = (Derived.fresh p p.start).env; kept = [] }
+  abbrev pub first_live : Derived.Hint → Live
+  first_live hint = record { number = 1; thread = Derived.fresh p hint p.start; env = (Derived.fresh p hint p.start).env; kept = []; advice = [] }
 
   -- the first states of both machines belong together, with thread 1 as the one live thread
-  pub first_sim : (image : Arrays) → Sim p (Cycle.first p image) (Derived.first p image) (first_live ∷ [])
-  first_sim image =
+  pub first_sim : (image : Arrays) (hints : ℕ → Derived.Hint) → Sim p (Cycle.first p image) (Derived.first p image hints) (first_live (hints 0) ∷ [])
+  first_sim image hints =
       record {
-        arrays = refl;
+        arrays = λ m plain. refl;
         threads = refl;
         stages = stages_same _ _ 0 p.stages (λ q i. ap (λ b. cond b (Cycle.born_thread p 1 (Some p.start)) None) (same_numbers q 0));
         locks = λ m. no_lists 0 m p.mems;
         falls = (omega arith, tt);
         ordered = (tt, tt);
-        seated = (record { keeps_on = keeps_fresh p flows p.start; kept_in = refl; owned = tt }, tt);
+        seated = (record { keeps_on = keeps_fresh p flows (hints 0) p.start; kept_in = refl; owned = tt }, tt);
         have_made = tt;
-        forks = λ f. no_branches 0 f p.stages ∙ sym (ap (λ b. [] ++ side_in f b) flows.graph.trunk_start);
+        forks = λ f. no_branches 0 f p.stages ∙ sym (ap (λ b. [] ++ sides_of f b) flows.graph.trunk_start);
         requests = mems_same _ _ 0 p.mems (λ m. sym (no_request 0 m p.mems));
         asked = nothing_is 0 p.mems ∙ mems_same _ _ 0 p.mems (λ m. sym (nothing_at m p.mems));
-        matched = λ m. subst (λ q. Matched q (asked_at (Derived.first p image) m) m (first_live ∷ [])) (sym (no_request 0 m p.mems)) (nothing_at m p.mems);
+        matched =
+            λ m. subst (λ q. Matched q (asked_at (Derived.first p image hints) m) m (first_live (hints 0) ∷ [])) (sym (no_request 0 m p.mems))
+            (nothing_at m p.mems);
       }
-
-  -- from states that belong together both machines have the same ports and waits in a run, and come to states that belong together
-  pub runs_same : (st : State) (d : Derived.State) (schedule : List (List Bool)) (ls : List Live) → Sim p st d ls
-      → SameTurns p (Cycle.turns_from p st schedule) (Derived.turns_from p d schedule)
-      × ((ks : List Live) × Sim p (Cycle.state_after p st schedule) (Derived.state_after p d schedule) ks)
-  runs_same st d [] ls sim = (tt, (ls, sim))
-  runs_same st d (bits ∷ schedule) ls sim =
-      let rest = runs_same (Cycle.cycle p st bits) (Derived.cycle p d bits) schedule (lives_next p flows st d bits sim.arrays ls) (cycle_sim p flows st d bits ls sim) in
-      ((turn_same p flows st d bits ls sim, rest.0), rest.1)
-
-  -- in each run both machines have the same ports and waits in every cycle
-  pub same_turns : (image : Arrays) (schedule : List (List Bool)) → SameTurns p (Cycle.turns p image schedule) (Derived.turns p image schedule)
-  same_turns image schedule = (runs_same (Cycle.first p image) (Derived.first p image) schedule (first_live ∷ []) (first_sim image)).0

@@ -3,6 +3,7 @@ use Rattle.std.proofs.Common.{◌≡◌, ℕ, true, List, [], ◌∷◌}
 use Rattle.pdl_semantics.specs.Flat.{Pipe}
 use Rattle.pdl_semantics.specs.Machine.{State, lock_of, fork_of, request_of}
 use Rattle.pdl_semantics.specs.Cycle.{for_mems, for_stages}
+use Rattle.pdl_semantics.specs.Promises.{DifferInAdvice}
 use Rattle.pdl_theory_derived.specs.Derived
 use Rattle.pdl_theory_derived.specs.Derived.{asked_at}
 use Rattle.pdl_theory_derived.proofs.Slots.{rev}
@@ -19,7 +20,8 @@ HaveMade p (l ∷ ls) = Each (λ k. has_made p k.env k.thread.stage ≡ true) ls
 
 -- a stated state, a derived state, and the live threads, the youngest first
 pub record Sim (p : Pipe) (st : State) (d : Derived.State) (ls : List Live) : Type 0 where
-  pub arrays : st.arrays ≡ d.arrays
+  -- the words of all memories but the advisory ones are the same
+  pub arrays : DifferInAdvice p st.arrays d.arrays
   -- the live threads stand in their stages
   pub threads : d.threads ≡ rev (threads_of ls)
   pub stages : st.stages ≡ for_stages (λ q. find q ls) 0 p.stages

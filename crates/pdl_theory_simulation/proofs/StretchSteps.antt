@@ -1,87 +1,91 @@
 -- What the statements of a path do to values, to awaited variables, to requests and to the successor.
-use Rattle.std.proofs.Common.{◌≡◌, refl, sym, ap, ◌∙◌, subst, ℕ, Bool, true, false, ◌&&◌, ◌||◌, not, List, [], ◌∷◌, ◌++◌, Some, None, is_some, ◌==◌, cond, if◌then◌else◌, arith, slice_index, slice_set}
+use Rattle.std.proofs.Common.{Option, ◌≡◌, refl, sym, ap, ◌∙◌, subst, ℕ, Bool, true, false, ◌&&◌, ◌||◌, not, List, [], ◌∷◌, ◌++◌, Some, None, is_some, ◌==◌, cond, if◌then◌else◌, arith, slice_index, slice_set, eq-eqb}
 use Rattle.std.proofs.lemmas.List.{get_or-set_other}
 use Rattle.std.proofs.lemmas.Bool.Decides.{eqb_tells}
 use Rattle.pdl_semantics.specs.Flat.{Commit, of_mem, Op, Bind, CombRead, DelayedRead, Write, ReserveWrite, Release, Call, SpecCall, Verify, Stmt, value_of, values_of, all_hold}
-use Rattle.pdl_semantics.specs.Stages.{onpath}
-use Rattle.pdl_semantics.specs.Machine.{Ask, Awaited, same_args, Pending, Blocked, Reserved, Deeds, deeds_after_all, is_held}
+use Rattle.pdl_semantics.specs.Stages.{onpath, is_reserve}
+use Rattle.pdl_semantics.specs.Machine.{Ask, Awaited, same_args, Pending, Blocked, Reserved, Deeds, deeds_after_all, is_held, checked_args}
 use Rattle.pdl_semantics.specs.Cycle.{awaited_of}
 use Rattle.pdl_semantics.specs.Sound.{is_call, is_delayed_read}
 use Rattle.pdl_semantics.specs.Machine
-use Rattle.pdl_theory_derived.specs.Derived.{Entry, Work, Around, work_after, do_all}
+use Rattle.pdl_theory_derived.specs.Derived.{Entry, Work, Around, work_after, do_all, said}
 use Rattle.pdl_theory_facts.specs.Scans.{Phase, next_phase, phase_all, none_of, called}
 use Rattle.pdl_theory_simulation.proofs.FlowFacts.{SameBut, sets, is_fetch_of, use_ok, uses_ok, call_ok, calls_ok}
 use Rattle.pdl_theory_derived.proofs.Writes.{and_left, and_right}
 use Rattle.pdl_theory_derived.proofs.Stages.{step}
 use Rattle.pdl_theory_turns.proofs.Paths.{Fixed}
-use Rattle.pdl_theory_derived.proofs.Deeds.{places, places_has, work_of, AllFit, told_step}
+use Rattle.pdl_theory_derived.proofs.Deeds.{places, places_has, work_of, AllFit, Loosely, loose_step}
 use Rattle.pdl_theory_turns.proofs.Steps.{Here, step_write, step_reserve, step_release}
 
 -- what statements do to the pending writes of m
-module _ (o : Around) (read : ℕ → ℕ → ℕ) (block : Blocked → Bool) (room : Reserved → Bool) (free : Ask → Bool) (m n : ℕ) (start : List Pending) where
-  step_op : (op : Op) (ph : Phase) (d : Deeds) (es : List Entry) (cs : List Commit) → places es ≡ d.held → use_ok m ph op ≡ true
-      → Here o read block room free m n start ph d (work_of o read block room free d es cs)
-      → Here o read block room free m n start (next_phase m ph op) (Machine.deeds_after read op d) (work_after o op (work_of o read block room free d es cs))
-  step_op (Write j a e) ph d es cs h k g = step_write m n j a (value_of e d.env) ph es (of_mem m cs) _ d.writes _ (j == m) refl k g
-  step_op (ReserveWrite j a) ph d es cs h k g = step_reserve m n j a (slice_index d.env a) ph es (of_mem m cs) start d.reserves d.writes _ (j == m) refl k g
-  step_op (Release j a) ph d es cs h k g =
+module _ (o : Around) (read : ℕ → ℕ → ℕ) (block : Blocked → Bool) (free : Ask → Bool) (m n : ℕ) (start : List Pending) where
+  step_op : (op : Op) (ph : Phase) (d : Deeds) (es : List Entry) (cs : List Commit) (gu : List ℕ) (c : Option (List ℕ)) (f : Bool)
+      → places es ≡ d.held → use_ok m ph op ≡ true
+      → Here o read block free m n start ph d (work_of o read block free (record d { guess = gu; child = c; fails = f }) es cs)
+      → Here o read block free m n start (next_phase m ph op) (Machine.deeds_after read op d)
+      (work_after o op (work_of o read block free (record d { guess = gu; child = c; fails = f }) es cs))
+  step_op (Write j a e) ph d es cs gu c f h k g = step_write m n j a (value_of e d.env) ph es (of_mem m cs) _ d.writes _ (j == m) refl k g
+  step_op (ReserveWrite j a) ph d es cs gu c f h k g =
+      step_reserve m n j a (slice_index d.env a) ph es (of_mem m cs) start d.reserves d.writes _ (j == m) refl k g
+  step_op (Release j a) ph d es cs gu c f h k g =
       step_release m n j a ph es cs _ d.writes d.releases (is_held d.held j a) (ap (λ l. is_held l j a) (sym h) ∙ places_has es j a) (j == m) refl k g
-  step_op (Verify args) ph d es cs h k g = at (same_args (values_of args d.env) d.guess)
+  step_op (Verify last args) ph d es cs gu c f h k g =
+      at (same_args (checked_args last args d) d.guess) (same_args (said o last args d.env) gu)
     where
-      at : (b : Bool)
-          → Here o read block room free m n start ph (cond b d (record d { child = Some (values_of args d.env); fails = true }))
-          (cond b (work_of o read block room free d es cs)
-          (record (work_of o read block room free d es cs) { child = Some (values_of args d.env); fails = true }))
-      at true = g
-      at false = g
-  step_op _ ph d es cs h k g = g
+      at : (b b' : Bool)
+          → Here o read block free m n start ph
+          (cond b d (record d { child = Some (checked_args last args d); guess = checked_args last args d; fails = true }))
+          (cond b' (work_of o read block free (record d { guess = gu; child = c; fails = f }) es cs)
+          (record (work_of o read block free (record d { guess = gu; child = c; fails = f }) es cs) {
+            child = Some (said o last args d.env);
+            guess = said o last args d.env;
+            fails = true;
+          }))
+      at true true = g
+      at true false = g
+      at false true = g
+      at false false = g
+  step_op _ ph d es cs gu c f h k g = g
 
-  step_if : (b : Bool) (op : Op) (ph : Phase) (d : Deeds) (es : List Entry) (cs : List Commit) → places es ≡ d.held → (b ≡ true → use_ok m ph op ≡ true)
-      → Here o read block room free m n start ph d (work_of o read block room free d es cs)
-      → Here o read block room free m n start (cond b (next_phase m ph op) ph)
+  -- a statement that is carried out or passed over leaves m's pending writes as the phase after it says
+  pub step_if : (b : Bool) (op : Op) (ph : Phase) (d : Deeds) (w : Work) → Loosely o read block free d w → (b ≡ true → use_ok m ph op ≡ true)
+      → Here o read block free m n start ph d w
+      → Here o read block free m n start (cond b (next_phase m ph op) ph)
       (cond b (Machine.deeds_after read op d) d)
-      (cond b (work_after o op (work_of o read block room free d es cs)) (work_of o read block room free d es cs))
-  step_if true op ph d es cs h k g = step_op op ph d es cs h (k refl) g
-  step_if false op ph d es cs h k g = g
+      (cond b (work_after o op w) w)
+  step_if true op ph d w l k g =
+      subst (λ v. Here o read block free m n start (next_phase m ph op) (Machine.deeds_after read op d) (work_after o op v)) (sym l.is)
+      (step_op op ph d w.entries w.commits w.guess w.child w.fails l.held (k refl) g)
+  step_if false op ph d w l k g = g
 
   -- the statements of a stage, each in order in its phase of m's lock, leave m as the phase after them says
-  pub steps_all : (path : List ℕ) (xs : List Stmt) (ph : Phase) (d : Deeds) (es : List Entry) (cs : List Commit)
-      → places es ≡ d.held → AllFit o read block room free xs
-      → Fixed path o xs (work_of o read block room free d es cs) → uses_ok m ph (onpath path xs) ≡ true
-      → Here o read block room free m n start ph d (work_of o read block room free d es cs)
-      → Here o read block room free m n start (phase_all m ph (onpath path xs)) (deeds_after_all read xs d)
-      (do_all o xs (work_of o read block room free d es cs))
-  steps_all path [] ph d es cs h f q k g = g
-  steps_all path (x ∷ xs) ph d es cs h f q k g =
-      let t = told_step o read block room free (all_hold x.guards d.env) x.op d es cs h f.0 in
-      let w' : Work = cond (all_hold x.guards d.env) (work_after o x.op (work_of o read block room free d es cs)) (work_of o read block room free d es cs) in
-      let ok = allowed (all_hold x.guards d.env) (all_hold x.guards path) q.0 k in
-      let r =
-      steps_all path xs (cond (all_hold x.guards d.env) (next_phase m ph x.op) ph)
-      (if all_hold x.guards d.env then Machine.deeds_after read x.op d else d) w'.entries w'.commits t.held f.1
-      (subst (λ w. Fixed path o xs w) t.is q.1) ok.1
-      (subst
-      (λ w. Here o read block room free m n start (cond (all_hold x.guards d.env) (next_phase m ph x.op) ph)
-      (if all_hold x.guards d.env then Machine.deeds_after read x.op d else d) w) t.is
-      (step_if (all_hold x.guards d.env) x.op ph d es cs h ok.0 g)) in
-      subst
-      (λ u. Here o read block room free m n start u (deeds_after_all read xs (if all_hold x.guards d.env then Machine.deeds_after read x.op d else d))
-      (do_all o xs w')) ok.2
-      (subst
-      (λ w. Here o read block room free m n start (phase_all m (cond (all_hold x.guards d.env) (next_phase m ph x.op) ph) (onpath path xs))
-      (deeds_after_all read xs (if all_hold x.guards d.env then Machine.deeds_after read x.op d else d))
-      (do_all o xs w))
-      (sym t.is) r)
+  pub steps_all : (path : List ℕ) (xs : List Stmt) (ph : Phase) (d : Deeds) (w : Work)
+      → Loosely o read block free d w → AllFit o read block free xs
+      → Fixed path o xs w → uses_ok m ph (onpath path xs) ≡ true
+      → Here o read block free m n start ph d w
+      → Here o read block free m n start (phase_all m ph (onpath path xs)) (deeds_after_all read xs d)
+      (do_all o xs w)
+  steps_all path [] ph d w l f q k g = g
+  steps_all path (x ∷ xs) ph d w l f q k g = subst (λ b. Here o read block free m n start (phase_all m ph (onpath path (x ∷ xs)))
+      (deeds_after_all read xs (cond b (Machine.deeds_after read x.op d) d))
+      (do_all o (x ∷ xs) w))
+      (ap (λ (v : Work). all_hold x.guards v.env) l.is)
+      (at (all_hold x.guards w.env) (all_hold x.guards path) q.0 k q.1 (λ ph' d' w' l' q' k' g'. steps_all path xs ph' d' w' l' f.1 q' k' g'))
     where
-      allowed : (b c : Bool) → b ≡ c → uses_ok m ph (cond c (record x { guards = [] } ∷ onpath path xs) (onpath path xs)) ≡ true
-          → (b ≡ true → use_ok m ph x.op ≡ true)
-          × (uses_ok m (cond b (next_phase m ph x.op) ph) (onpath path xs) ≡ true)
-          × (phase_all m (cond b (next_phase m ph x.op) ph) (onpath path xs)
-          ≡ phase_all m ph (cond c (record x { guards = [] } ∷ onpath path xs) (onpath path xs)))
-      allowed true true e k = ((λ _. and_left _ _ k), and_right (use_ok m ph x.op) _ k, refl)
-      allowed true false e k = absurd (cc e)
-      allowed false true e k = absurd (cc e)
-      allowed false false e k = ((λ i. absurd (cc i)), k, refl)
+      at : (b c : Bool) → b ≡ c → uses_ok m ph (cond c (record x { guards = [] } ∷ onpath path xs) (onpath path xs)) ≡ true
+          → Fixed path o xs (cond b (work_after o x.op w) w)
+          → ((ph' : Phase) (d' : Deeds) (w' : Work) → Loosely o read block free d' w' → Fixed path o xs w' → uses_ok m ph'
+          (onpath path xs) ≡ true → Here o read block free m n start ph' d' w' → Here o read block free m n start
+          (phase_all m ph' (onpath path xs)) (deeds_after_all read xs d') (do_all o xs w'))
+          → Here o read block free m n start (phase_all m ph (cond c (record x { guards = [] } ∷ onpath path xs) (onpath path xs)))
+          (deeds_after_all read xs (cond b (Machine.deeds_after read x.op d) d)) (do_all o xs (cond b (work_after o x.op w) w))
+      at true true e k q go =
+          go (next_phase m ph x.op) (Machine.deeds_after read x.op d) (work_after o x.op w) (loose_step o read block free true x.op d w f.0 l) q
+          (and_right (use_ok m ph x.op) _ k)
+          (step_if true x.op ph d w l (λ _. and_left _ _ k) g)
+      at true false e k q go = absurd (cc e)
+      at false true e k q go = absurd (cc e)
+      at false false e k q go = go ph d w l q k g
 
 -- a variable keeps its value where another gets one
 pub set_stays : (env : List ℕ) (x g v : ℕ) → not (x == g) ≡ true → slice_index env g ≡ slice_index (slice_set env x v) g
@@ -93,9 +97,10 @@ set_stays env x g v h = sym (get_or-set_other env x g v 0 apart)
 op_sets : (g : ℕ) (o : Around) (op : Op) (w : Work) → not (sets g op) ≡ true → slice_index w.env g ≡ slice_index (work_after o op w).env g
 op_sets g o (Bind x e) w h = set_stays w.env x g _ h
 op_sets g o (CombRead x m a) w h = set_stays w.env x g _ h
-op_sets g o (Verify args) w h = at (same_args (values_of args w.env) w.guess)
+op_sets g o (Verify last args) w h = at (same_args (said o last args w.env) w.guess)
   where
-    at : (b : Bool) → slice_index w.env g ≡ slice_index (cond b w (record w { child = Some (values_of args w.env); fails = true })).env g
+    at : (b : Bool)
+        → slice_index w.env g ≡ slice_index (cond b w (record w { child = Some (said o last args w.env); guess = said o last args w.env; fails = true })).env g
     at true = refl
     at false = refl
 op_sets g o _ w h = refl
@@ -133,10 +138,11 @@ op_asks g o (DelayedRead x m a) w h = more w.asks
     more : (qs : List Ask) → awaits_var (awaited_of (qs ++ record { mem = m; var = x; address = slice_index w.env a } ∷ [])) g ≡ awaits_var (awaited_of qs) g
     more [] = off (x == g) h
     more (q ∷ qs) = ap (λ b. (q.var == g) || b) (more qs)
-op_asks g o (Verify args) w h = at (same_args (values_of args w.env) w.guess)
+op_asks g o (Verify last args) w h = at (same_args (said o last args w.env) w.guess)
   where
     at : (b : Bool)
-        → awaits_var (awaited_of (cond b w (record w { child = Some (values_of args w.env); fails = true })).asks) g ≡ awaits_var (awaited_of w.asks) g
+        → awaits_var (awaited_of (cond b w (record w { child = Some (said o last args w.env); guess = said o last args w.env; fails = true })).asks) g
+        ≡ awaits_var (awaited_of w.asks) g
     at true = refl
     at false = refl
 op_asks g o _ w h = refl
@@ -157,6 +163,48 @@ only_asks path o (x ∷ xs) w f g h = at (all_hold x.guards w.env) (all_hold x.g
     at false true e k r = absurd (cc e)
     at false false e k r = r k
 
+-- a memory that is reserved for writing is one that a statement of the stage reserves
+abbrev pub ReservesFrom : List Stmt → List Reserved → Type 0
+ReservesFrom all [] = Unit {0}
+ReservesFrom all (r ∷ rs) = (none_of (is_reserve r.mem) all ≡ false) × ReservesFrom all rs
+
+reserved_op : (all : List Stmt) (read : ℕ → ℕ → ℕ) (op : Op) (d : Deeds)
+    → ((m : ℕ) → not (is_reserve m op) ≡ false → none_of (is_reserve m) all ≡ false) → ReservesFrom all d.reserves
+    → ReservesFrom all (Machine.deeds_after read op d).reserves
+reserved_op all read (ReserveWrite m a) d f h = more d.reserves h
+  where
+    more : (rs : List Reserved) → ReservesFrom all rs → ReservesFrom all (rs ++ record { mem = m; var = a; address = slice_index d.env a } ∷ [])
+    more [] g = (f m (ap not (eq-eqb m m refl)), tt)
+    more (r ∷ rs) g = (g.0, more rs g.1)
+reserved_op all read (Verify last args) d f h = at (same_args (checked_args last args d) d.guess)
+  where
+    at : (b : Bool)
+        → ReservesFrom all (cond b d (record d { child = Some (checked_args last args d); guess = checked_args last args d; fails = true })).reserves
+    at true = h
+    at false = h
+reserved_op all read _ d f h = h
+
+-- what a stage reserves are memories that its statements reserve
+pub reserves_from : (all : List Stmt) (read : ℕ → ℕ → ℕ) (xs : List Stmt) (d : Deeds)
+    → ((m : ℕ) → none_of (is_reserve m) xs ≡ false → none_of (is_reserve m) all ≡ false) → ReservesFrom all d.reserves
+    → ReservesFrom all (deeds_after_all read xs d).reserves
+reserves_from all read [] d f h = h
+reserves_from all read (x ∷ xs) d f h =
+    reserves_from all read xs (if all_hold x.guards d.env then Machine.deeds_after read x.op d else d) (λ m k. f m (behind (not (is_reserve m x.op)) _ k))
+    (at (all_hold x.guards d.env))
+  where
+    behind : (b c : Bool) → c ≡ false → (b && c) ≡ false
+    behind true c k = k
+    behind false c k = refl
+
+    front : (b c : Bool) → b ≡ false → (b && c) ≡ false
+    front true c k = absurd (cc k)
+    front false c k = refl
+
+    at : (b : Bool) → ReservesFrom all (cond b (Machine.deeds_after read x.op d) d).reserves
+    at true = reserved_op all read x.op d (λ m k. f m (front (not (is_reserve m x.op)) _ k)) h
+    at false = h
+
 -- a memory that is asked for is one that a statement of the stage reads
 abbrev pub AsksFrom : List Stmt → List Ask → Type 0
 AsksFrom all [] = Unit {0}
@@ -173,9 +221,9 @@ op_from all o (DelayedRead x m a) w f h = more w.asks h
     more : (qs : List Ask) → AsksFrom all qs → AsksFrom all (qs ++ record { mem = m; var = x; address = slice_index w.env a } ∷ [])
     more [] k = (f m (ap not same), tt)
     more (q ∷ qs) k = (k.0, more qs k.1)
-op_from all o (Verify args) w f h = at (same_args (values_of args w.env) w.guess)
+op_from all o (Verify last args) w f h = at (same_args (said o last args w.env) w.guess)
   where
-    at : (b : Bool) → AsksFrom all (cond b w (record w { child = Some (values_of args w.env); fails = true })).asks
+    at : (b : Bool) → AsksFrom all (cond b w (record w { child = Some (said o last args w.env); guess = said o last args w.env; fails = true })).asks
     at true = h
     at false = h
 op_from all o _ w f h = h
@@ -224,7 +272,7 @@ made_op been c o (Call args) w h k = fresh_call c (and_left (not (c && true)) _ 
 made_op been c o (SpecCall args) w h k = fresh_call c (and_left (not (c && true)) _ h) k
   where
     fresh_call : (c : Bool) → not (c && true) ≡ true → Childed been c w
-        → Childed been (c || true) (record w { child = Some (values_of args w.env); guess = values_of args w.env })
+        → Childed been (c || true) (record w { child = Some o.guess; guess = o.guess })
     fresh_call true h k = absurd (cc h)
     fresh_call false h k = record {
       since = λ e. refl;
@@ -235,10 +283,10 @@ made_op been c o (SpecCall args) w h k = fresh_call c (and_left (not (c && true)
       where
         clash : false ≡ true → ⊥
         clash i = cc
-made_op been c o (Verify args) w h k = at c (and_right (not (c && false)) _ h) k (same_args (values_of args w.env) w.guess)
+made_op been c o (Verify last args) w h k = at c (and_right (not (c && false)) _ h) k (same_args (said o last args w.env) w.guess)
   where
     at : (c : Bool) → (c || not true) ≡ true → Childed been c w → (b : Bool)
-        → Childed been (c || false) (cond b w (record w { child = Some (values_of args w.env); fails = true }))
+        → Childed been (c || false) (cond b w (record w { child = Some (said o last args w.env); guess = said o last args w.env; fails = true }))
     at false h k b = absurd (cc h)
     at true h k true = k
     at true h k false = record { since = λ e. refl; called_it = λ e. refl; no_second = λ e f. absurd (clash f); squashes = λ e. refl }

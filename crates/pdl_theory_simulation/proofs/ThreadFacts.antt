@@ -2,14 +2,13 @@
 use Rattle.std.proofs.Common.{◌≡◌, refl, sym, ap, ap₂, ◌∙◌, subst, ℕ, suc, ◌≤◌, ◌<◌, Bool, true, false, ◌&&◌, ◌||◌, not, List, [], ◌∷◌, ◌++◌, Some, ◌==◌, nat_lt, nat_le, cond, if◌then◌else◌, arith, append-nil, append_assoc, ltb-true, ltb-false, leb-true, leb-false}
 use Rattle.std.proofs.lemmas.Bool.{eqb-true}
 use Rattle.pdl_semantics.specs.Flat.{Pipe, Op, Verify, SpecBarrier, Stmt, all_hold}
-use Rattle.pdl_semantics.specs.Stages.{stage_at}
+use Rattle.pdl_semantics.specs.Stages.{stage_at, sides_of}
 use Rattle.pdl_semantics.specs.Machine.{Deeds, deeds_after_all}
-use Rattle.pdl_semantics.specs.Sound.{side_in}
 use Rattle.pdl_semantics.specs.Machine
 use Rattle.pdl_theory_facts.specs.Scans.{none_of}
 use Rattle.pdl_theory_simulation.proofs.FlowFacts.{trunk_only}
 use Rattle.pdl_theory_derived.proofs.Writes.{and_left, and_right}
-use Rattle.pdl_theory_simulation.proofs.Stretches.{Behind}
+use Rattle.pdl_theory_simulation.proofs.Stretches.{Behind, less_home}
 use Rattle.pdl_theory_simulation.proofs.Seats.{Live, seat, find, each_map, Ordered, Rises}
 use Rattle.pdl_word.proofs.Bools.{same_bools}
 use Rattle.pdl_word.specs.Each.{Each}
@@ -41,13 +40,13 @@ behind_someone p q s (l ∷ ls) b h = at (l.thread.stage == s) refl h (λ k. beh
 -- the branches of the threads inside a fork, oldest first
 abbrev pub sides : Pipe → ℕ → List Live → List Bool
 sides p f [] = []
-sides p f (l ∷ ls) = sides p f ls ++ side_in f (stage_at p l.thread.stage).branch
+sides p f (l ∷ ls) = sides p f ls ++ sides_of f (stage_at p l.thread.stage).branches
 
 -- the branches inside a fork of two lists of threads are those of the second and then those of the first
 pub sides_append : (p : Pipe) (f : ℕ) (xs ys : List Live) → sides p f (xs ++ ys) ≡ sides p f ys ++ sides p f xs
 sides_append p f [] ys = sym (append-nil (sides p f ys))
 sides_append p f (x ∷ xs) ys =
-    ap (λ l. l ++ side_in f (stage_at p x.thread.stage).branch) (sides_append p f xs ys) ∙ append_assoc (sides p f ys) (sides p f xs) _
+    ap (λ l. l ++ sides_of f (stage_at p x.thread.stage).branches) (sides_append p f xs ys) ∙ append_assoc (sides p f ys) (sides p f xs) _
 
 -- THE THREADS BY THEIR STAGES
 
@@ -158,7 +157,7 @@ rises_place lo hi x (y ∷ ys) a b h r = at (nat_lt x.live.thread.stage y.live.t
 
 -- two threads stand in two stages
 apart_of : (p : Pipe) (s b : ℕ) → Behind p s b → b ≡ s → ⊥
-apart_of p s b h e = let i : s < b = h.branch (ap (λ n. (stage_at p n).branch) (sym e)) in absurd (omega arith)
+apart_of p s b h e = let i : s < b = less_home p _ _ h (ap (λ n. (stage_at p n).branches) (sym e)) in absurd (omega arith)
 
 aparts : (p : Pipe) (l : Live) (ls : List Live) → Each (λ k. Behind p l.thread.stage k.thread.stage) ls
     → EachPair (λ y. y.live.thread.stage ≡ l.thread.stage → ⊥) (sorted ls)
@@ -185,7 +184,7 @@ rises_sorted p hi (l ∷ ls) h o =
 fails_op : (read : ℕ → ℕ → ℕ) (op : Op) (d : Deeds)
     → not (trunk_only op) ≡ true
     → ((Machine.deeds_after read op d).fails ≡ d.fails) × ((Machine.deeds_after read op d).barrier ≡ d.barrier)
-fails_op read (Verify args) d h = absurd (cc h)
+fails_op read (Verify last args) d h = absurd (cc h)
 fails_op read SpecBarrier d h = absurd (cc h)
 fails_op read _ d h = (refl, refl)
 
@@ -220,8 +219,8 @@ true_pairs : (h : Pair → Bool) (xs : List Pair) → EachPair (λ x. h x ≡ tr
 true_pairs h [] e = refl
 true_pairs h (x ∷ xs) e = ap₂ (λ a b. a && b) e.0 (true_pairs h xs e.1)
 
--- those behind a thread in age, itself, and the older ones
-view_older : (A : Pair → Type 0) (ys : List Live) (l : Live) (older : List Live) → EachPair A (pairs (ys ++ l ∷ older))
+-- what holds of each live thread holds of each that is older than one of them
+pub view_older : (A : Pair → Type 0) (ys : List Live) (l : Live) (older : List Live) → EachPair A (pairs (ys ++ l ∷ older))
     → EachPair A (pairs older)
 view_older A [] l older h = h.1
 view_older A (y ∷ ys) l older h = view_older A ys l older h.1

@@ -1,8 +1,9 @@
 -- Sound state's points on all live threads, of every state that a run comes to.
 use Rattle.std.proofs.Common.{◌≡◌, refl, ap, ap₂, ◌∙◌, subst, ℕ, ◌<◌, Bool, true, false, ◌&&◌, ◌||◌, not, List, [], ◌∷◌, Option, Some, None, ◌==◌, nat_lt, ltb-true, lt-ltb, le_of_lt}
 use Rattle.std.proofs.lemmas.Bool.{or_right}
+use Rattle.pdl_theory_facts.specs.Graphs.{Trunk}
 use Rattle.pdl_semantics.specs.Flat.{Pipe, Stmt, list_all}
-use Rattle.pdl_semantics.specs.Stages.{list_any, verify_stage, stage_at}
+use Rattle.pdl_semantics.specs.Stages.{list_any, verify_stage}
 use Rattle.pdl_semantics.specs.Machine.{State, Request, NoRequest, Owned, Orphan, Pending, lock_of, request_of}
 use Rattle.pdl_semantics.specs.Sound.{live, all_pairs, all_from, in_order, are_linked, certain_after, asks_right, is_barrier, stays_ready, on_path, has_done, past_stmts}
 use Rattle.pdl_semantics.specs.Sound
@@ -12,11 +13,11 @@ use Rattle.pdl_theory_facts.specs.Facts.{Sound}
 use Rattle.pdl_theory_turns.proofs.CourseOf
 use Rattle.pdl_theory_simulation.proofs.AcceptedFacts.{sound_flows}
 use Rattle.pdl_theory_derived.proofs.Lists.{pend}
-use Rattle.pdl_theory_simulation.proofs.Stretches.{Behind, on_way}
+use Rattle.pdl_theory_simulation.proofs.Stretches.{Behind, on_way, left_trunk}
 use Rattle.pdl_theory_simulation.proofs.Seats.{Live, each_map, Ordered, Falls, falls_each, pends, befores_are}
 use Rattle.pdl_theory_simulation.proofs.Choices.{AllKnown, Seated, Matched}
 use Rattle.pdl_theory_simulation.proofs.ThreadFacts.{sides}
-use Rattle.pdl_theory_simulation.proofs.WholeSimulation.{known}
+use Rattle.pdl_theory_simulation.proofs.CycleStarts.{known}
 use Rattle.pdl_theory_states.proofs.OldestFirst.{told, oldest_first, live_is, all_each, Pairwise, pairs_all}
 use Rattle.pdl_theory_states.proofs.Stage.{barred}
 use Rattle.pdl_theory_states.proofs.ThreadFacts.{Lasting, Along}
@@ -70,8 +71,8 @@ module _ (p : Pipe) (sound : Sound p) (st : State) (d : Derived.State) (ls : Lis
   certain_pairs v e [] o a = tt
   certain_pairs v e (l ∷ ks) o a = (by (nat_lt v l.thread.stage) refl (has_done is_barrier p (told l)) refl, certain_pairs v e ks o.1 a.1)
     where
-      trunk : (stage_at p v).branch ≡ None
-      trunk = subst (λ n. (stage_at p n).branch ≡ None) (v_is (verify_stage p.stmts) e) (CourseOf.v_trunk p sound (verify_stage p.stmts) refl)
+      trunk : Trunk p v
+      trunk = subst (λ n. Trunk p n) (v_is (verify_stage p.stmts) e) (CourseOf.v_trunk p sound (verify_stage p.stmts) refl)
         where
           v_is : (o : Option ℕ) → o ≡ Some v → CourseOf.v_of p sound o ≡ v
           v_is None i = absurd (cc i)
@@ -87,7 +88,7 @@ module _ (p : Pipe) (sound : Sound p) (st : State) (d : Derived.State) (ls : Lis
 
       by : (b : Bool) → nat_lt v l.thread.stage ≡ b → (c : Bool) → has_done is_barrier p (told l) ≡ c
           → Each (λ k. certain_after p (Some v) (told k) (told l) ≡ true) ks
-      by true i c j = holds (each_map (λ k h. h.trunk v trunk (le_of_lt (ltb-true _ _ i))) ks o.0)
+      by true i c j = holds (each_map (λ k h. left_trunk p _ _ h v trunk (le_of_lt (ltb-true _ _ i))) ks o.0)
       by false i true j = holds (a.0.certain v e (any_onto is_barrier barred (λ op ops. refl) (on_way p l.env l.thread.stage) [] j))
       by false i false j = every ks i j
 
@@ -147,7 +148,7 @@ module _ (p : Pipe) (sound : Sound p) (st : State) (d : Derived.State) (ls : Lis
       → Each (λ l. on_path p st (told l) ≡ true) ks
   each_path [] s a n f = tt
   each_path (l ∷ ks) s a n f = (
-    path_point p sound st l s.0 a.0.local n.0 (λ m test h. f m test (any_append test (pends m ks) (pend m l.number l.thread.entries) h)),
+    path_point p sound st l s.0 a.0.local a.0.guessed n.0 (λ m test h. f m test (any_append test (pends m ks) (pend m l.number l.thread.entries) h)),
     each_path ks s.1 a.1 n.1 (λ m test h. f m test (any_front test (pends m ks) (pend m l.number l.thread.entries) h)),
   )
 

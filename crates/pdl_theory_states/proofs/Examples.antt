@@ -1,7 +1,7 @@
 -- Written pipes pass the tests.
 use Rattle.std.proofs.Common.{◌≡◌, refl, true}
 use Rattle.pdl_semantics.specs.Flatten.{flat}
-use Rattle.pdl_semantics.proofs.Pipes.{one_stage, two_stages, under_guard, shared_guard, count_queue, count_late, guess, guess_reserved, far_barrier, copy, copy_guessed, count_slow, two_branches, one_branch}
+use Rattle.pdl_semantics.proofs.Pipes.{one_stage, two_stages, under_guard, shared_guard, count_queue, count_late, guess, guess_reserved, far_barrier, copy, copy_guessed, count_slow, two_branches, one_branch, nested, four_levels, nested_guess}
 use Rattle.pdl_theory_states.specs.Strict.{is_strict}
 
 one_stage_strict : is_strict (flat one_stage) ≡ true
@@ -45,3 +45,12 @@ branches_strict = refl
 
 straight_strict : is_strict (flat one_branch) ≡ true
 straight_strict = refl
+
+nested_strict : is_strict (flat nested) ≡ true
+nested_strict = refl
+
+levels_strict : is_strict (flat four_levels) ≡ true
+levels_strict = refl
+
+nested_guess_strict : is_strict (flat nested_guess) ≡ true
+nested_guess_strict = refl

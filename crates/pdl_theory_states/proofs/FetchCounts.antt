@@ -1,13 +1,13 @@
 -- The delayed reads among statements: what they ask for, and how many they are.
 use Rattle.std.proofs.Common.{◌≡◌, refl, sym, ap, ap₂, ◌∙◌, ℕ, ◌+◌, Bool, true, false, ◌&&◌, ◌||◌, List, [], ◌∷◌, ◌++◌, length, Some, ◌==◌, cond, arith, eq-eqb, count_by, append-nil, append_assoc, length-append}
 use Rattle.std.proofs.lemmas.List.Recursion.{is_count_by}
-use Rattle.pdl_semantics.specs.Flat.{Op, Bind, CombRead, DelayedRead, Write, ReserveRead, ReserveWrite, Block, Release, Call, SpecCall, Verify, SpecCheck, SpecBarrier, Stmt, values_of, all_hold}
+use Rattle.pdl_semantics.specs.Flat.{Op, Bind, CombRead, DelayedRead, Write, ReserveRead, ReserveWrite, Block, Release, Call, SpecCall, Verify, SpecCheck, SpecBarrier, Stmt, all_hold, AdviceBind, AdviceRead, AdviceWrite}
 use Rattle.pdl_semantics.specs.Forms.{on_delayed_read}
 use Rattle.pdl_semantics.specs.Stages.{list_any, onpath}
 use Rattle.pdl_semantics.specs.Machine.{Ask, Awaited, Kept, same_args}
 use Rattle.pdl_semantics.specs.Cycle.{awaited_of}
 use Rattle.pdl_semantics.specs.Sound.{is_fetch}
-use Rattle.pdl_theory_derived.specs.Derived.{Work, Around, work_after, do_all}
+use Rattle.pdl_theory_derived.specs.Derived.{Work, Around, work_after, do_all, said}
 use Rattle.pdl_theory_derived.proofs.Stages.{step}
 use Rattle.pdl_theory_turns.proofs.Paths.{Fixed}
 use Rattle.pdl_theory_states.proofs.Trails.{AllStmts, stmts_map}
@@ -27,9 +27,11 @@ awaited_snoc (r ∷ qs) q = ap (λ l. record { mem = r.mem; var = r.var } ∷ l)
 
 asks_op : (o : Around) (op : Op) (w : Work) → awaited_of (work_after o op w).asks ≡ awaited_of w.asks ++ fetch_of op
 asks_op o (DelayedRead x m a) w = awaited_snoc w.asks _
-asks_op o (Verify args) w = at (same_args (values_of args w.env) w.guess)
+asks_op o (Verify last args) w = at (same_args (said o last args w.env) w.guess)
   where
-    at : (b : Bool) → awaited_of (cond b w (record w { child = Some (values_of args w.env); fails = true })).asks ≡ awaited_of w.asks ++ []
+    at : (b : Bool)
+        → awaited_of (cond b w (record w { child = Some (said o last args w.env); guess = said o last args w.env; fails = true })).asks
+        ≡ awaited_of w.asks ++ []
     at true = sym (append-nil _)
     at false = sym (append-nil _)
 asks_op o (Bind x e) w = sym (append-nil _)
@@ -42,6 +44,9 @@ asks_op o (Release m a) w = sym (append-nil _)
 asks_op o (Call args) w = sym (append-nil _)
 asks_op o (SpecCall args) w = sym (append-nil _)
 asks_op o SpecCheck w = sym (append-nil _)
+asks_op o (AdviceBind x' e') w = sym (append-nil _)
+asks_op o (AdviceRead x' m' a') w = sym (append-nil _)
+asks_op o (AdviceWrite m' a' e') w = sym (append-nil _)
 asks_op o SpecBarrier w = sym (append-nil _)
 
 -- the statements of a path ask for their delayed reads, after what was asked for before
@@ -69,8 +74,11 @@ fetch_one (Block m a) = refl
 fetch_one (Release m a) = refl
 fetch_one (Call args) = refl
 fetch_one (SpecCall args) = refl
-fetch_one (Verify args) = refl
+fetch_one (Verify last args) = refl
 fetch_one SpecCheck = refl
+fetch_one (AdviceBind x' e') = refl
+fetch_one (AdviceRead x' m' a') = refl
+fetch_one (AdviceWrite m' a' e') = refl
 fetch_one SpecBarrier = refl
 
 -- whether a read of m into x is awaited or kept

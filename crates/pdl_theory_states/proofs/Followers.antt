@@ -1,20 +1,21 @@
 -- The live threads up to the first wrong guess follow their turns: their values, once answered, are the turn's.
-use Rattle.std.proofs.Common.{◌≡◌, ◌≢◌, refl, sym, ap, ap₂, ◌∙◌, subst, ℕ, ◌≤◌, ◌⊎◌, inl, inr, Bool, true, false, ◌&&◌, ◌||◌, not, List, [], ◌∷◌, ◌++◌, Option, Some, None, is_some, ◌==◌, nat_lt, cond, if◌then◌else◌, slice_index, slice_set, eq-eqb, ltb-true, ltb-false}
+use Rattle.std.proofs.Common.{◌≡◌, ◌≢◌, refl, sym, ap, ap₂, ◌∙◌, subst, ℕ, ◌≤◌, ◌⊎◌, inl, inr, Bool, true, false, ◌&&◌, ◌||◌, not, List, [], ◌∷◌, ◌++◌, Option, Some, None, is_some, ◌==◌, nat_lt, if◌then◌else◌, slice_index, slice_set, eq-eqb, ltb-true, ltb-false}
 use Rattle.std.proofs.lemmas.Bool.{eqb-false, or_right, or_left}
 use Rattle.pdl_semantics.specs.Flat.{Arrays, Array, Pipe, Op, DelayedRead, Stmt, of_mem, word_at, list_all}
 use Rattle.pdl_semantics.specs.Stages
 use Rattle.pdl_semantics.specs.Stages.{list_any, is_verify, mem_at, reserve_stage}
 use Rattle.pdl_semantics.specs.Locks.{Nothing, value_or}
-use Rattle.pdl_semantics.specs.Machine.{Ask, Awaited, State, Pending, Owned, lock_of, request_of, same_args, with_kept}
+use Rattle.pdl_semantics.specs.Machine.{Ask, Awaited, State, Owned, lock_of, request_of, same_args, with_kept}
 use Rattle.pdl_semantics.specs.Cycle.{awaited_of}
 use Rattle.pdl_semantics.specs.Sequential
 use Rattle.pdl_semantics.specs.Sequential.{thread}
 use Rattle.pdl_semantics.specs.Promises.{wrote, row}
-use Rattle.pdl_semantics.specs.Sound.{Follower, followers_of, guessed_wrong, has_done, is_spec_call, is_write, once_answered, awaited_words, request_address, has_asked, is_right_entry, right_entries, turn_writes, turn_so_far}
+use Rattle.pdl_semantics.specs.Sound.{Follower, followers_of, guessed_wrong, has_done, is_spec_call, is_write, once_answered, awaited_words, request_address, has_asked, entries_by, writes_done, right_entries, turn_writes, turn_so_far}
 use Rattle.pdl_semantics.specs.Sound
-use Rattle.pdl_theory_derived.specs.Derived.{Entry, asked_at}
+use Rattle.pdl_semantics.specs.Promises.{DifferInAdvice}
+use Rattle.pdl_theory_derived.specs.Derived.{asked_at}
 use Rattle.pdl_theory_derived.specs.Derived
-use Rattle.pdl_theory_derived.specs.Alone.{so_far}
+use Rattle.pdl_theory_derived.specs.Alone.{World, so_far}
 use Rattle.pdl_theory_facts.specs.Scans.{is_plain}
 use Rattle.pdl_theory_facts.specs.Facts.{Sound, at_once}
 use Rattle.pdl_theory_derived.proofs.Writes.{wrote_append}
@@ -30,26 +31,27 @@ use Rattle.pdl_theory_turns.proofs.StageFacts.{caught_other}
 use Rattle.pdl_theory_turns.proofs.CourseOf.{course}
 use Rattle.pdl_theory_turns.proofs.Lives.{Writes, Marks, RowsAt}
 use Rattle.pdl_theory_refinement.proofs.Cycles.{rows_next}
-use Rattle.pdl_theory_refinement.proofs.Spots.{Spot, seats, Sure, Here, Standing, Tail, Last}
+use Rattle.pdl_theory_refinement.proofs.Spots.{Spot, with_hint, seats, Sure, Here, Standing, Tail, Last}
 use Rattle.pdl_semantics.proofs.Readiness.{exact_none}
 use Rattle.pdl_theory_simulation.proofs.AcceptedFacts.{sound_flows}
 use Rattle.pdl_theory_derived.proofs.Entries.{entries_of}
-use Rattle.pdl_theory_derived.proofs.Lists.{own, pend}
+use Rattle.pdl_theory_derived.proofs.Lists.{pend}
 use Rattle.pdl_theory_turns.proofs.OwnEntries.{pend_own}
-use Rattle.pdl_theory_simulation.proofs.Stretches.{on_way, early}
+use Rattle.pdl_theory_simulation.proofs.Stretches.{on_way, early, Fetched, AllFetched}
 use Rattle.pdl_theory_simulation.proofs.StretchSteps.{awaits_var}
 use Rattle.pdl_theory_simulation.proofs.Seats.{Live, seat, threads_of}
-use Rattle.pdl_theory_simulation.proofs.Choices.{Seated, Matched, OwnedBy, AllOwned}
+use Rattle.pdl_theory_simulation.proofs.Choices.{Seated, Matched, OwnedBy, AllOwned, plain_fetch}
 use Rattle.pdl_theory_states.proofs.OldestFirst.{told, oldest_first}
 use Rattle.pdl_theory_states.proofs.PastStatements.{AskedBy}
 use Rattle.pdl_theory_states.proofs.UnusedValues.{AllOps, AnyOp, ops_both, any_both, onto, touches}
 use Rattle.pdl_theory_states.proofs.ThreadHistory.{AnyAsk, AllKept, AllAwaited, any_of, past_of, kept_other, kept_map}
 use Rattle.pdl_theory_states.proofs.ThreadFacts.{awaited_map, any_ask_map}
 use Rattle.pdl_theory_states.proofs.Points.{onto_any}
-use Rattle.pdl_theory_states.proofs.OwnEntries.{Mine, of_thread, all_append}
-use Rattle.pdl_theory_states.proofs.TurnThreads.{AllEntries, turn_way, turn_env, turn_entries, turn_guess, turn_wrong}
+use Rattle.pdl_theory_states.proofs.OwnEntries.{Mine}
+use Rattle.pdl_theory_states.proofs.TurnThreads.{right_list, turn_way, turn_env, turn_entries, turn_guess, turn_wrong}
 use Rattle.pdl_word.specs.Each.{Each}
 use Rattle.pdl_word.proofs.Each.{each_push}
+use Rattle.pdl_theory_states.proofs.FetchCounts.{count, count_is}
 
 -- these live threads as the tests of Sound state see them
 abbrev pub tells : List Live → List Sound.Live
@@ -134,16 +136,6 @@ awaited_all : (test : Awaited → Bool) (rs : List Awaited) → AllAwaited (λ r
 awaited_all test [] h = refl
 awaited_all test (r ∷ rs) h = ap₂ (λ a b. a && b) h.0 (awaited_all test rs h.1)
 
--- a test of a thread's entries in a lock's list
-pend_all : (m n : ℕ) (test : Pending → Bool) (es : List Entry)
-    → AllEntries (λ e. test (own n e) ≡ true) es → list_all test (pend m n es) ≡ true
-pend_all m n test [] h = refl
-pend_all m n test (e ∷ es) h = all_append test (pend m n es) _ (pend_all m n test es h.1) (at (e.mem == m))
-  where
-    at : (b : Bool) → list_all test (cond b (own n e ∷ []) []) ≡ true
-    at true = ap (λ b. b && true) h.0
-    at false = refl
-
 -- values that answers to a thread's requests leave as they are
 module _ (p : Pipe) (st : State) (l : Live) (mine : Mine p st l) where
   answered_other : (a : ℕ) → AllAsks (λ q. (a == q.var) ≡ false) mine.local.asks → slice_index (once_answered st (seat l)) a ≡ slice_index l.env a
@@ -200,32 +192,32 @@ no_lives (o ∷ os) h = absurd (cc h)
 
 module _ (p : Pipe) (sound : Sound p) (st : State) where
   -- the way of a thread on its turn is that of its turn
-  pub way_of : (arrays : Arrays) (args : List ℕ) (l : Live) (sp : Spot) → l.thread ≡ Spots.seat p arrays args sp
-      → Seated p st l → caught arrays sp.asks sp.env ≡ (so_far p arrays args sp.stage).env
-      → on_way p l.env l.thread.stage ≡ on_way p (thread (at_once p) arrays args).env l.thread.stage
-  way_of arrays args l sp e seated gets =
-      sym (seated.keeps_on.path (so_far p arrays args l.thread.stage).env (λ g h. ap (λ (t : Derived.Thread). slice_index t.env g) e
-      ∙ sym (caught_other arrays g sp.asks sp.env (not_awaited g sp.asks (ap (λ (t : Derived.Thread). awaits_var t.awaits g) (sym e) ∙ h)))
-      ∙ ap (λ k. slice_index k g) (gets ∙ ap (λ (t : Derived.Thread). (so_far p arrays args t.stage).env) (sym e)))).0
-      ∙ turn_way p sound arrays args l.thread.stage
+  pub way_of : (world : World) (args : List ℕ) (l : Live) (sp : Spot) → l.thread ≡ Spots.seat p world args sp
+      → Seated p st l → caught world.words sp.asks sp.env ≡ (so_far p world args sp.stage).env
+      → on_way p l.env l.thread.stage ≡ on_way p (thread (at_once p) world.words args).env l.thread.stage
+  way_of world args l sp e seated gets =
+      sym (seated.keeps_on.path (so_far p world args l.thread.stage).env (λ g h. ap (λ (t : Derived.Thread). slice_index t.env g) e
+      ∙ sym (caught_other world g sp.asks sp.env (not_awaited g sp.asks (ap (λ (t : Derived.Thread). awaits_var t.awaits g) (sym e) ∙ h)))
+      ∙ ap (λ k. slice_index k g) (gets ∙ ap (λ (t : Derived.Thread). (so_far p world args t.stage).env) (sym e)))).0
+      ∙ turn_way p sound world args l.thread.stage
 
   -- the youngest on its turn has guessed wrong where others follow
-  pub wrong_of : (arrays : Arrays) (args : List ℕ) (l : Live) (sp : Spot) → l.thread ≡ Spots.seat p arrays args sp
-      → Seated p st l → caught arrays sp.asks sp.env ≡ (so_far p arrays args sp.stage).env → (b : Bool)
-      → right_guess (so_far p arrays args sp.stage).child (thread p arrays args).next ≡ not b
-      → is_some (so_far p arrays args sp.stage).child ≡ true
-      → guessed_wrong p (thread p arrays args).next (told l) ≡ b
-  wrong_of arrays args l sp e seated gets b linked made =
+  pub wrong_of : (world : World) (args : List ℕ) (l : Live) (sp : Spot) → l.thread ≡ Spots.seat p world args sp
+      → Seated p st l → caught world.words sp.asks sp.env ≡ (so_far p world args sp.stage).env → (b : Bool)
+      → right_guess (so_far p world args sp.stage).child (thread p world.words args).next ≡ not b
+      → is_some (so_far p world args sp.stage).child ≡ true
+      → guessed_wrong p (thread p world.words args).next (told l) ≡ b
+  wrong_of world args l sp e seated gets b linked made =
       ap₂
       (λ xs g. (list_any (λ (x : Stmt). is_spec_call x.op) xs && not (list_any (λ (x : Stmt). is_verify x.op) xs))
-      && not (same_args g (thread p arrays args).next))
-      (way_of arrays args l sp e seated gets ∙ ap (λ (t : Derived.Thread). on_way p (thread (at_once p) arrays args).env t.stage) e)
+      && not (same_args g (thread p world.words args).next))
+      (way_of world args l sp e seated gets ∙ ap (λ (t : Derived.Thread). on_way p (thread (at_once p) world.words args).env t.stage) e)
       (ap (λ (t : Derived.Thread). t.guess) e)
-      ∙ ap (λ c. c && not (same_args (so_far p arrays args sp.stage).guess (thread p arrays args).next)) (sym (turn_guess p sound arrays args sp.stage))
-      ∙ turn_wrong p sound arrays args sp.stage b linked made
+      ∙ ap (λ c. c && not (same_args (so_far p world args sp.stage).guess (thread p world.words args).next)) (sym (turn_guess p sound world args sp.stage))
+      ∙ turn_wrong p sound world args sp.stage b linked made
 
 module _ (p : Pipe) (sound : Sound p) (image : Arrays) (st : State) (d : Derived.State)
-    (arrays_same : st.arrays ≡ d.arrays) (past : Writes) (rows : RowsAt image past d.arrays) (all : List Live)
+    (arrays_same : DifferInAdvice p st.arrays d.arrays) (past : Writes) (rows : RowsAt image past d.arrays) (all : List Live)
     (matched : (m : ℕ) → Matched (request_of st m) (asked_at d m) m all) where
   -- a follower is a live thread on its turn
   pub record Good (f : Follower) : Type 0 where
@@ -234,14 +226,14 @@ module _ (p : Pipe) (sound : Sound p) (image : Arrays) (st : State) (d : Derived
     pub seated : Seated p st l
     pub mine : Mine p st l
     pub sp : Spot
-    pub thread : l.thread ≡ Spots.seat p f.arrays f.args sp
+    pub thread : l.thread ≡ Spots.seat p (with_hint f.arrays sp.hint) f.args sp
     pub w : Writes
     pub v : Marks
     pub ahead : List ℕ
     pub last : Bool
     pub rows_now : RowsAt image w f.arrays
     pub plain : (m : ℕ) → is_plain (mem_at p m).lock ≡ true → v m ≡ []
-    pub here : Here p (course p sound) d.asked past w v f.arrays f.args ahead sp last
+    pub here : Here p (course p sound) d.asked past w v (with_hint f.arrays sp.hint) f.args ahead sp last
 
   -- each of these is a thread on its turn
   abbrev pub AllGood : List Follower → Type 0
@@ -259,7 +251,7 @@ module _ (p : Pipe) (sound : Sound p) (image : Arrays) (st : State) (d : Derived
       subst (λ ks. AllGood (followers_of p arrays args (tells ks))) (sym (no_lives os (e ∙ t))) tt
   walk w v arrays args ahead [] (sp ∷ sps) strays rows_now plain h t e s mine = tt
   walk w v arrays args ahead (o ∷ os) (sp ∷ []) strays rows_now plain h t e s mine =
-      (good, at (so_far p arrays args sp.stage).child refl t)
+      (good, at (so_far p (with_hint arrays sp.hint) args sp.stage).child refl t)
     where
       good : Good (record { live = told o; arrays = arrays; args = args })
       good =
@@ -283,14 +275,16 @@ module _ (p : Pipe) (sound : Sound p) (image : Arrays) (st : State) (d : Derived
       none true i = tt
       none false i = subst (λ ks. AllGood (followers_of p (thread p arrays args).arrays (thread p arrays args).next (tells ks))) (sym i) tt
 
-      at : (c : Option (List ℕ)) → (so_far p arrays args sp.stage).child ≡ c → Last p (course p sound).stray (course p sound).made sp.stage c strays
+      at : (c : Option (List ℕ))
+          → (so_far p (with_hint arrays sp.hint) args sp.stage).child ≡ c
+          → Last p (course p sound).stray (course p sound).made sp.stage c strays
           → AllGood
           (if guessed_wrong p (thread p arrays args).next (told o) then []
           else followers_of p (thread p arrays args).arrays (thread p arrays args).next (tells os))
       at None i k = none (guessed_wrong p (thread p arrays args).next (told o)) (no_lives os (cons_tail e ∙ k))
       at (Some x) i k =
           subst (λ b. AllGood (if b then [] else followers_of p (thread p arrays args).arrays (thread p arrays args).next (tells os)))
-          (sym (wrong_of p sound st arrays args o sp (cons_head e) s.0 h.0.waits.gets true h.0.linked (ap is_some i))) tt
+          (sym (wrong_of p sound st (with_hint arrays sp.hint) args o sp (cons_head e) s.0 h.0.waits.gets true h.0.linked (ap is_some i))) tt
   walk w v arrays args ahead (o ∷ os) (sp ∷ sp' ∷ sps) strays rows_now plain h t e s mine = (
     record {
       l = o;
@@ -308,10 +302,10 @@ module _ (p : Pipe) (sound : Sound p) (image : Arrays) (st : State) (d : Derived
       here = h.0;
     },
     either (guessed_wrong p (thread p arrays args).next (told o))
-        (walk (λ m. w m ++ of_mem m (thread p arrays args).writes) (λ m. v m ++ marks p arrays args sp.stage m)
+        (walk (λ m. w m ++ of_mem m (thread p arrays args).writes) (λ m. v m ++ marks p (with_hint arrays sp.hint) args sp.stage m)
         (thread p arrays args).arrays (thread p arrays args).next (sp.stage ∷ ahead) os (sp' ∷ sps) strays
-        (rows_next p (course p sound) image w arrays args rows_now)
-        (λ m i. ap₂ (λ a b. a ++ b) (plain m i) ((course p sound).marks_plain arrays args sp.stage m i)) h.1 t (cons_tail e) s.1 mine.1),
+        (rows_next p (course p sound) image w (with_hint arrays sp.hint) args rows_now)
+        (λ m i. ap₂ (λ a b. a ++ b) (plain m i) ((course p sound).marks_plain (with_hint arrays sp.hint) args sp.stage m i)) h.1 t (cons_tail e) s.1 mine.1),
   )
     where
       either : (b : Bool)
@@ -325,13 +319,13 @@ module _ (p : Pipe) (sound : Sound p) (image : Arrays) (st : State) (d : Derived
   module _ (w : Writes) (v : Marks) (arrays : Arrays) (rows_now : RowsAt image w arrays)
       (plain : (m : ℕ) → is_plain (mem_at p m).lock ≡ true → v m ≡ []) (s : ℕ)
       (words : (m : ℕ) → s ≤ Stages.commit_stage p m → w m ≡ past m ++ strips m (v m)) where
-    answer_right : (n : ℕ) (q : Ask) → OwnedBy st n q.mem → asked_at d q.mem ≡ Some q.address
+    answer_right : (n : ℕ) (q : Ask) → Fetched p s q.mem → OwnedBy st n q.mem → asked_at d q.mem ≡ Some q.address
         → Sure p (course p sound) v s q
         → word_at st.arrays q.mem (request_address (request_of st q.mem)) ≡ word_at arrays q.mem q.address
-    answer_right n q own out sure =
+    answer_right n q fetched own out sure =
         ap (λ r. word_at st.arrays q.mem (request_address r)) own.1
         ∙ ap (word_at st.arrays q.mem) (same (sym (matches q.mem own.0 own.1) ∙ out))
-        ∙ ap (λ l. word_at l q.mem q.address) arrays_same
+        ∙ ap (λ (w : Array). w q.address) (arrays_same q.mem (plain_fetch p (sound_flows p sound) st d [] arrays_same s q.mem fetched))
         ∙ ap (λ l. value_or l (word_at d.arrays q.mem q.address)) (sym none)
         ∙ ready_value q.mem q.address (mem_at p q.mem).lock (v q.mem) (row d.arrays q.mem) (plain q.mem) sure.clean
         ∙ ap (λ (l : Array). l q.address)
@@ -349,11 +343,11 @@ module _ (p : Pipe) (sound : Sound p) (image : Arrays) (st : State) (d : Derived
         same : {a b : ℕ} → Some a ≡ Some b → a ≡ b
         same h = cc
 
-    answers_right : (n : ℕ) (qs : List Ask) → AllOwned st n (awaited_of qs)
+    answers_right : (n : ℕ) (qs : List Ask) → AllFetched p s (awaited_of qs) → AllOwned st n (awaited_of qs)
         → AllAsks (λ q. asked_at d q.mem ≡ Some q.address) qs → AllAsks (Sure p (course p sound) v s) qs
         → AllAsks (λ q. word_at st.arrays q.mem (request_address (request_of st q.mem)) ≡ word_at arrays q.mem q.address) qs
-    answers_right n [] o a b = tt
-    answers_right n (q ∷ qs) o a b = (answer_right n q o.0 a.0 b.0, answers_right n qs o.1 a.1 b.1)
+    answers_right n [] f o a b = tt
+    answers_right n (q ∷ qs) f o a b = (answer_right n q f.0 o.0 a.0 b.0, answers_right n qs f.1 o.1 a.1 b.1)
 
   -- with its awaited reads answered, a thread on its turn has the values of the sequential run before its stage
   pub values_are : (f : Follower) → Good f → once_answered st f.live.thread ≡ (turn_so_far p f).env
@@ -362,9 +356,10 @@ module _ (p : Pipe) (sound : Sound p) (image : Arrays) (st : State) (d : Derived
       ∙ ap (with_kept (awaited_words st g.l.thread.awaits)) g.seated.kept_in
       ∙ ap (λ (t : Derived.Thread). with_kept (awaited_words st t.awaits) t.env) g.thread
       ∙ words_are st f.arrays g.sp.asks g.sp.env
-      (answers_right g.w g.v f.arrays g.rows_now g.plain g.sp.stage g.here.words g.l.number g.sp.asks
+      (answers_right g.w g.v f.arrays g.rows_now g.plain g.sp.stage (λ m c. g.here.words m (inl c)) g.l.number g.sp.asks
+      (subst (λ (t : Derived.Thread). AllFetched p t.stage t.awaits) g.thread g.seated.keeps_on.fetched)
       (subst (λ rs. AllOwned st g.l.number rs) (ap (λ (t : Derived.Thread). t.awaits) g.thread) g.seated.owned) g.here.waits.out g.here.waits.sure)
-      ∙ g.here.waits.gets ∙ turn_env p sound f.arrays f.args g.sp.stage
+      ∙ g.here.waits.gets ∙ turn_env p sound (with_hint f.arrays g.sp.hint) f.args g.sp.stage
       ∙ ap (λ s. (Sequential.run_all (Sound.stages_before s p.stmts) (TurnPath.start_run p f.arrays f.args)).env)
       (ap (λ (t : Derived.Thread). t.stage) (sym g.thread) ∙ ap (λ (x : Sound.Live). x.stage) (sym g.is))
 
@@ -386,34 +381,30 @@ module _ (p : Pipe) (sound : Sound p) (image : Arrays) (st : State) (d : Derived
   -- each entry of a thread on its turn in the list of m has the turn's address and, once written, its value
   pub right_good : (m : ℕ) (f : Follower) → Good f → right_entries p st m f ≡ true
   right_good m f g =
-      ap (λ (x : Sound.Live). list_all (of_thread x.thread.number (is_right_entry (has_done (is_write m) p x) (turn_writes m p f))) (lock_of st m)) g.is
-      ∙ g.mine.listed m (is_right_entry (has_done (is_write m) p (told g.l)) (turn_writes m p f))
-      (ap (list_all (is_right_entry (has_done (is_write m) p (told g.l)) (turn_writes m p f))) (pend_own m g.l.number g.l.thread.entries)
-      ∙ pend_all m g.l.number (is_right_entry (has_done (is_write m) p (told g.l)) (turn_writes m p f))
-      (entries_of m g.l.thread.entries) (at (nat_lt (reserve_stage p m) g.sp.stage) refl))
+      ap (λ (x : Sound.Live). right_list (writes_done m p x) (turn_writes m p f) (entries_by x.thread.number (lock_of st m))) g.is
+      ∙ ap₂ (λ k es. right_list k (turn_writes m p f) es) (sym (count_is (λ x. is_write m x.op) (on_way p g.l.env g.l.thread.stage)))
+      (g.mine.listed m ∙ pend_own m g.l.number g.l.thread.entries)
+      ∙ at (nat_lt (reserve_stage p m) g.sp.stage) refl
     where
       here : g.l.thread.stage ≡ g.sp.stage
       here = ap (λ (t : Derived.Thread). t.stage) g.thread
 
       way : on_way p g.l.env g.l.thread.stage ≡ on_way p (thread (at_once p) f.arrays f.args).env g.sp.stage
-      way = way_of p sound st f.arrays f.args g.l g.sp g.thread g.seated g.here.waits.gets ∙ ap (on_way p (thread (at_once p) f.arrays f.args).env) here
+      way =
+          way_of p sound st (with_hint f.arrays g.sp.hint) f.args g.l g.sp g.thread g.seated g.here.waits.gets
+          ∙ ap (on_way p (thread (at_once p) f.arrays f.args).env) here
 
       at : (b : Bool) → nat_lt (reserve_stage p m) g.sp.stage ≡ b
-          → AllEntries (λ e. is_right_entry (has_done (is_write m) p (told g.l)) (turn_writes m p f) (own g.l.number e) ≡ true)
-          (entries_of m g.l.thread.entries)
+          → right_list (count (λ x. is_write m x.op) (on_way p g.l.env g.l.thread.stage)) (turn_writes m p f) (pend m g.l.number
+          (entries_of m g.l.thread.entries)) ≡ true
       at true e =
-          subst
-          (λ (t : Derived.Thread). AllEntries (λ e. is_right_entry (has_done (is_write m) p (told g.l)) (turn_writes m p f) (own g.l.number e) ≡ true)
-          (entries_of m t.entries))
-          (sym g.thread)
-          (subst
-          (λ xs. AllEntries (λ e. is_right_entry (list_any (λ (x : Stmt). is_write m x.op) xs) (turn_writes m p f) (own g.l.number e) ≡ true)
-          (entries_of m (so_far p f.arrays f.args g.sp.stage).entries))
-          (sym way)
-          (turn_entries p sound f.arrays f.args g.sp.stage m g.l.number (ltb-true _ _ e)))
+          ap₂
+          (λ xs (t : Derived.Thread). right_list (count (λ x. is_write m x.op) xs) (turn_writes m p f) (pend m g.l.number
+          (entries_of m t.entries))) way g.thread
+          ∙ turn_entries p sound (with_hint f.arrays g.sp.hint) f.args g.sp.stage m g.l.number (ltb-true _ _ e)
       at false e =
-          subst (λ es. AllEntries (λ e. is_right_entry (has_done (is_write m) p (told g.l)) (turn_writes m p f) (own g.l.number e) ≡ true) es)
-          (sym (early p (sound_flows p sound) g.l.env g.l.thread g.seated.keeps_on m (subst (λ s. s ≤ reserve_stage p m) (sym here) (ltb-false _ _ e)))) tt
+          ap (λ es. right_list (count (λ x. is_write m x.op) (on_way p g.l.env g.l.thread.stage)) (turn_writes m p f) (pend m g.l.number es))
+          (early p (sound_flows p sound) g.l.env g.l.thread g.seated.keeps_on m (subst (λ s. s ≤ reserve_stage p m) (sym here) (ltb-false _ _ e)))
 
   -- a test that each of them passes
   pub good_all : (test : Follower → Bool) → ((f : Follower) → Good f → test f ≡ true) → (fs : List Follower) → AllGood fs → list_all test fs ≡ true

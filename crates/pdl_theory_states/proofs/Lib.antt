@@ -6,6 +6,7 @@ pub mod Trails
 pub mod ThreadHistory
 pub mod FetchCounts
 pub mod OlderWrites
+pub mod Guessed
 pub mod Stage
 pub mod ThreadFacts
 pub mod ReachedStates
@@ -14,7 +15,7 @@ pub mod Points
 pub mod AllThreads
 pub mod EveryState
 pub mod TurnThreads
-mod OwnEntries
+pub mod OwnEntries
 pub mod Releases
 pub mod StillLooks
 mod TurnByTurn

@@ -1,44 +1,39 @@
 -- What a cycle's reservations do to the list of a lock.
-use Rattle.std.proofs.Common.{◌≡◌, ◌≢◌, refl, sym, ap, ap₂, ◌∙◌, subst, ℕ, suc, ◌+◌, ◌≤◌, ◌<◌, ◌⊎◌, inl, inr, Bool, true, false, List, [], ◌∷◌, ◌++◌, length, Option, Some, None, ◌==◌, cond, nat_le, arith, append_assoc, length-append, le_refl, leb-true, leb-false}
+use Rattle.std.proofs.Common.{◌≡◌, ◌≢◌, refl, sym, ap, ap₂, ◌∙◌, subst, ℕ, suc, ◌+◌, ◌≤◌, ◌<◌, ◌⊎◌, inl, inr, Bool, true, false, List, [], ◌∷◌, ◌++◌, None, ◌==◌, cond, nat_le, arith, append_assoc, le_refl, leb-true, leb-false, eq-eqb}
 use Rattle.std.proofs.lemmas.Bool.{eqb-true, eqb-false}
 use Rattle.pdl_semantics.specs.Flat.{Pipe}
-use Rattle.pdl_semantics.specs.Stages
-use Rattle.pdl_semantics.specs.Stages.{in_stage, stage_at, goes_to, mem_at, is_reserve, reserve_stage}
-use Rattle.pdl_semantics.specs.Locks.{has_room}
-use Rattle.pdl_semantics.specs.Machine.{State, Pending, Reserved, lock_of, word_for}
-use Rattle.pdl_semantics.specs.Moves.{Act, movers, block_ready}
-use Rattle.pdl_semantics.specs.Cycle.{new_entries, with_reserves, with_writes_of, but_oldest}
-use Rattle.pdl_theory_derived.specs.Derived.{around, port_free}
+use Rattle.pdl_semantics.specs.Stages.{in_stage, is_reserve, reserve_stage}
+use Rattle.pdl_semantics.specs.Machine.{State, Pending, Reserved, reserves_of, word_for}
+use Rattle.pdl_semantics.specs.Moves.{Act, movers}
+use Rattle.pdl_semantics.specs.Cycle.{new_entries, with_reserves}
+use Rattle.pdl_semantics.specs.Promises.{DifferInAdvice}
 use Rattle.pdl_theory_derived.specs.Derived
-use Rattle.pdl_theory_facts.specs.Scans.{phase_all, Fresh}
-use Rattle.pdl_theory_facts.specs.Graphs.{stage_or}
 use Rattle.pdl_theory_simulation.proofs.FlowFacts.{Flows}
 use Rattle.pdl_theory_turns.proofs.Turn.{none_in_stage}
-use Rattle.pdl_theory_derived.proofs.Entries.{entries_of}
 use Rattle.pdl_theory_derived.proofs.Lists.{pend, Reserveless, appended_back}
-use Rattle.pdl_theory_turns.proofs.OwnEntries.{Worked, quiet_reserves, pend_own}
-use Rattle.pdl_theory_simulation.proofs.Stretches.{Behind, keeps_next, on_way}
-use Rattle.pdl_theory_simulation.proofs.Seats.{Live, each_map, Falls, falls_each, Ordered, pends, lact, lacts, dacts, did, deeds_of, now_of, work_of_live}
+use Rattle.pdl_theory_turns.proofs.OwnEntries.{quiet_reserves}
+use Rattle.pdl_theory_simulation.proofs.Stretches.{Behind, left_trunk}
+use Rattle.pdl_theory_simulation.proofs.Seats.{Live, each_map, Falls, falls_each, Ordered, pends, lact, lacts, did, deeds_of}
 use Rattle.pdl_theory_simulation.proofs.ThreadFacts.{Pair, pairs, EachPair, pair_both, pairs_each, sorted}
 use Rattle.pdl_theory_simulation.proofs.Orders.{acts_of}
-use Rattle.pdl_theory_simulation.proofs.Choices.{Seated, Known, AllKnown, keeps_now, worked_here, ends_here, fit_all}
+use Rattle.pdl_theory_simulation.proofs.Choices.{Seated, AllKnown}
 use Rattle.pdl_theory_simulation.proofs.ActOrder.{Swap, Swaps, same_movers}
-use Rattle.pdl_semantics.proofs.Facts.{put_all_length}
-use Rattle.pdl_theory_states.specs.Use.{reserved_in, reserved_count}
-use Rattle.pdl_theory_states.proofs.PendingLists.{Within, within_append, within_one, of_append, of_pend, of_new, none_older, count_append}
-use Rattle.pdl_theory_states.proofs.OwnWrites.{own_short, pend_short, one_pending, none_pending}
+use Rattle.pdl_theory_states.specs.Use.{reserved_count}
+use Rattle.pdl_theory_states.proofs.PendingLists.{Within, within_append, within_of, of_append, of_pend, of_new, none_older, count_append}
+use Rattle.pdl_theory_states.proofs.OwnWrites.{none_pending}
 use Rattle.pdl_semantics.specs.PendingLists.{count_older}
 use Rattle.pdl_word.specs.Each.{Each}
 
-as_many : (m n : ℕ) (rs : List Reserved) → reserved_in m rs ≡ length (new_entries m n rs)
-as_many m n [] = refl
-as_many m n (r ∷ rs) = at (r.mem == m) (as_many m n rs)
+-- where nothing new is in the list, nothing is reserved
+none_new : (m n : ℕ) (rs : List Reserved) → new_entries m n rs ≡ [] → reserves_of m rs ≡ 0
+none_new m n [] h = refl
+none_new m n (r ∷ rs) h = at (r.mem == m) h (none_new m n rs)
   where
-    at : (b : Bool) → reserved_in m rs ≡ length (new_entries m n rs)
-        → cond b (suc (reserved_in m rs)) (reserved_in m rs)
-        ≡ length (cond b (record { thread = n; address = r.address; value = None } ∷ []) [] ++ new_entries m n rs)
-    at true h = ap suc h
-    at false h = h
+    at : (b : Bool)
+        → cond b (record { thread = n; var = r.var; address = r.address; value = None } ∷ []) [] ++ new_entries m n rs ≡ []
+        → (new_entries m n rs ≡ [] → reserves_of m rs ≡ 0) → cond b (suc (reserves_of m rs)) (reserves_of m rs) ≡ 0
+    at true k f = absurd (cc k)
+    at false k f = f k
 
 -- what is appended behind older threads' entries
 abbrev pub NoOlder : ℕ → ℕ → List Act → Type 0
@@ -66,7 +61,7 @@ count_appended t m (a ∷ ms) list h =
     none (inl e) = ap (count_older t) e
     none (inr e) = none_older t a.thread.number _ (of_new m a.thread.number a.does.reserves) e
 
-module _ (p : Pipe) (flows : Flows p) (st : State) (d : Derived.State) (bits : List Bool) (arrays : st.arrays ≡ d.arrays) (m : ℕ) where
+module _ (p : Pipe) (flows : Flows p) (st : State) (d : Derived.State) (bits : List Bool) (arrays : DifferInAdvice p st.arrays d.arrays) (m : ℕ) where
   -- a thread reserves in one stage alone
   pub quiet_new : (l : Live) → l.thread.stage ≢ reserve_stage p m → new_entries m l.number (deeds_of p st bits l).reserves ≡ []
   quiet_new l h =
@@ -77,55 +72,10 @@ module _ (p : Pipe) (flows : Flows p) (st : State) (d : Derived.State) (bits : L
   pub past_new : (l : Live) → reserve_stage p m < l.thread.stage → new_entries m l.number (deeds_of p st bits l).reserves ≡ []
   past_new l h = quiet_new l (λ e. absurd (let i = h in omega arith))
 
-  -- with what it reserves it has at most one pending write
-  one_with_new : (ls : List Live) (l : Live) → Known p flows st d bits arrays ls l
-      → length (pend m l.number l.thread.entries ++ new_entries m l.number (deeds_of p st bits l).reserves) ≤ 1
-  one_with_new ls l k =
-      subst (λ n. n ≤ 1)
-      (put_all_length m l.number (deeds_of p st bits l).writes (pend m l.number l.thread.entries ++ new_entries m l.number (deeds_of p st bits l).reserves))
-      (at (Stages.list_any (λ j. j == m) (deeds_of p st bits l).releases) refl)
-    where
-      w : Worked m l.number (pend m l.number l.thread.entries) (deeds_of p st bits l) (work_of_live p d bits ls l)
-      w = worked_here p flows st d bits arrays ls l k m
-
-      short : length (pend m l.number (work_of_live p d bits ls l).entries) ≤ 1
-      short =
-          subst (λ es. length es ≤ 1) (sym (pend_own m l.number (work_of_live p d bits ls l).entries))
-          (let i = pend_short m l.number (entries_of m (work_of_live p d bits ls l).entries) in
-          let j = few (goes_to (stage_at p l.thread.stage).next (work_of_live p d bits ls l).env) refl in omega arith)
-        where
-          few : (r : Option ℕ) → goes_to (stage_at p l.thread.stage).next (work_of_live p d bits ls l).env ≡ r
-              → length (entries_of m (work_of_live p d bits ls l).entries) ≤ 1
-          few None e = subst (λ es. length es ≤ 1) (sym (ends_here p flows st d bits arrays ls l k m (ap (stage_or (length p.stages)) e))) (omega arith)
-          few (Some q) e =
-              own_short m (phase_all m Fresh (on_way p (work_of_live p d bits ls l).env q)) (entries_of m (work_of_live p d bits ls l).entries)
-              ((keeps_next p flows l.env (now_of p d bits l) (keeps_now p flows st d bits arrays l k.seated)
-              (around p d bits (dacts p d bits ls) l.thread.stage) (word_for st l.number)
-              (λ b. block_ready p st l.number b)
-              (λ r. has_room (mem_at p r.mem).lock (length (lock_of st r.mem)))
-              (λ q. port_free p d bits (dacts p d bits ls) q.mem)
-              (fit_all p flows st d bits arrays ls l k) q e).shape m)
-
-      at : (b : Bool) → Stages.list_any (λ j. j == m) (deeds_of p st bits l).releases ≡ b
-          → length
-          (with_writes_of m l.number (deeds_of p st bits l).writes
-          (pend m l.number l.thread.entries ++ new_entries m l.number (deeds_of p st bits l).reserves)) ≤ 1
-      at true e = subst (λ es. length es ≤ 1) (sym (w.full e).1) (omega arith)
-      at false e =
-          subst (λ es. length es ≤ 1)
-          (w.after
-          ∙ ap
-          (λ b. cond b
-          (but_oldest
-          (with_writes_of m l.number (deeds_of p st bits l).writes
-          (pend m l.number l.thread.entries ++ new_entries m l.number (deeds_of p st bits l).reserves)))
-          (with_writes_of m l.number (deeds_of p st bits l).writes
-          (pend m l.number l.thread.entries ++ new_entries m l.number (deeds_of p st bits l).reserves))) e) short
-
   -- all threads older than one that has come to the stage of m's reserves are past it
   pub older_past : (l : Live) (ls : List Live) → Each (λ k. Behind p l.thread.stage k.thread.stage) ls
       → reserve_stage p m ≤ l.thread.stage → Each (λ k. reserve_stage p m < k.thread.stage) ls
-  older_past l ls b h = each_map (λ k i. i.trunk (reserve_stage p m) (flows.trunk_reserve m) h) ls b
+  older_past l ls b h = each_map (λ k i. left_trunk p _ _ i (reserve_stage p m) (flows.trunk_reserve m) h) ls b
 
   reserveless : (ls : List Live) → Each (λ k. reserve_stage p m < k.thread.stage) ls → Reserveless m (movers (lacts p st d bits ls))
   reserveless [] h = tt
@@ -165,13 +115,12 @@ module _ (p : Pipe) (flows : Flows p) (st : State) (d : Derived.State) (bits : L
           ∙ append_assoc (with_reserves m (movers (lacts p st d bits ls)) (pends m ls))
           (pend m l.number l.thread.entries) (new_entries m l.number (deeds_of p st bits l).reserves)))
           (within_append 0 l.number n _ _ h
-          (within_one l.number n l.number _ (le_refl l.number) f.0
-          (of_append l.number _ _ (of_pend m l.number l.thread.entries) (of_new m l.number (deeds_of p st bits l).reserves))
-          (one_with_new ls l k.0)))
+          (within_of l.number n l.number _ (le_refl l.number) f.0
+          (of_append l.number _ _ (of_pend m l.number l.thread.entries) (of_new m l.number (deeds_of p st bits l).reserves))))
       at false h =
           subst (Within 0 n) (sym apart)
           (within_append 0 l.number n _ _ h
-          (within_one l.number n l.number _ (le_refl l.number) f.0 (of_pend m l.number l.thread.entries) (one_pending p flows st m l k.0.seated)))
+          (within_of l.number n l.number _ (le_refl l.number) f.0 (of_pend m l.number l.thread.entries)))
 
   -- what is there with the older threads' reservations comes first
   pub appended_more : (ls : List Live) (l : Live) → Seated p st l → Each (λ k. Behind p l.thread.stage k.thread.stage) ls → (b : Bool)
@@ -206,37 +155,35 @@ module _ (p : Pipe) (flows : Flows p) (st : State) (d : Derived.State) (bits : L
       )
       at false = (_, apart)
 
-  -- at most one write is reserved
+  -- at most one thread reserves
   none_reserved : (ms : List Act) → Reserveless m ms → reserved_count m ms ≡ 0
   none_reserved [] h = refl
   none_reserved (a ∷ ms) h = let i = none_reserved ms h.1 in
-      let j = as_many m a.thread.number a.does.reserves ∙ ap length h.0 in let k : length {A = Pending} [] ≡ 0 = refl in
-      omega arith
+      let j : cond {A = ℕ} (reserves_of m a.does.reserves == 0) 0 1
+      ≡ 0 = ap (λ b. cond {A = ℕ} b 0 1) (eq-eqb _ _ (none_new m a.thread.number a.does.reserves h.0)) in
+      omega (arith, i, j)
+
+  bit : (b : Bool) → cond {A = ℕ} b 0 1 ≤ 1
+  bit true = omega arith
+  bit false = omega arith
 
   -- at most one write of m is reserved in a cycle
   pub one_reserved : (ls : List Live) → AllKnown p flows st d bits arrays ls → Ordered p ls → reserved_count m (movers (lacts p st d bits ls)) ≤ 1
   one_reserved [] k o = omega arith
   one_reserved (l ∷ ls) k o = at (did p d bits ls l).moves (l.thread.stage == reserve_stage p m) refl (one_reserved ls k.1 o.1)
     where
-      mine : reserved_in m (deeds_of p st bits l).reserves ≤ 1
-      mine =
-          let i = as_many m l.number (deeds_of p st bits l).reserves in
-          let j = length-append (pend m l.number l.thread.entries) (new_entries m l.number (deeds_of p st bits l).reserves) in
-          let k : length (pend m l.number l.thread.entries ++ new_entries m l.number (deeds_of p st bits l).reserves) ≤ 1 = one_with_new ls l k.0 in
-          omega arith
-
       at : (b c : Bool) → (l.thread.stage == reserve_stage p m) ≡ c
           → reserved_count m (movers (lacts p st d bits ls)) ≤ 1
           → reserved_count m (cond b (lact p st d bits ls l ∷ movers (lacts p st d bits ls)) (movers (lacts p st d bits ls))) ≤ 1
       at false c e h = h
       at true true e h =
           let i = none_reserved (movers (lacts p st d bits ls)) (reserveless ls (older_past l ls o.0 (let j = eqb-true _ _ e in omega arith))) in
-          let j = mine in
+          let j = bit (reserves_of m (deeds_of p st bits l).reserves == 0) in
           omega arith
       at true false e h =
-          let i : reserved_in m (deeds_of p st bits l).reserves ≡ 0 =
-          as_many m l.number (deeds_of p st bits l).reserves ∙ ap length (quiet_new l (eqb-false _ _ e)) in
-          omega arith
+          let i : cond {A = ℕ} (reserves_of m (deeds_of p st bits l).reserves == 0) 0 1
+          ≡ 0 = ap (λ b. cond {A = ℕ} b 0 1) (eq-eqb _ _ (none_new m l.number (deeds_of p st bits l).reserves (quiet_new l (eqb-false _ _ e)))) in
+          omega (arith, h, i)
 
   -- nothing older is appended
   past_older : (t : ℕ) (ls : List Live) → Each (λ k. reserve_stage p m < k.thread.stage) ls → NoOlder t m (lacts p st d bits ls)
@@ -269,11 +216,11 @@ module _ (p : Pipe) (flows : Flows p) (st : State) (d : Derived.State) (bits : L
   swapped_new x y s = (
     quiet_new x.live
         (λ e. absurd
-        (let i : reserve_stage p m < y.live.thread.stage = s.behind.trunk (reserve_stage p m) (flows.trunk_reserve m) (let j = e in omega arith) in
+        (let i : reserve_stage p m < y.live.thread.stage = left_trunk p _ _ s.behind (reserve_stage p m) (flows.trunk_reserve m) (let j = e in omega arith) in
         let k = s.low in let j = e in omega arith)),
     quiet_new y.live
         (λ e. absurd
-        (let i : reserve_stage p m < y.live.thread.stage = s.behind.trunk (reserve_stage p m) (flows.trunk_reserve m)
+        (let i : reserve_stage p m < y.live.thread.stage = left_trunk p _ _ s.behind (reserve_stage p m) (flows.trunk_reserve m)
         (let k = s.low in let j = e in omega arith) in
         let j = e in omega arith)),
   )
@@ -290,9 +237,10 @@ module _ (p : Pipe) (flows : Flows p) (st : State) (d : Derived.State) (bits : L
   pub same_reserved : (ls : List Live) → Swaps p flows st d bits arrays ls
       → reserved_count m (movers (acts_of p flows st d bits arrays (sorted ls))) ≡ reserved_count m (movers (lacts p st d bits ls))
   same_reserved =
-      same_movers p flows st d bits arrays ℕ (reserved_count m) (λ a z. z + reserved_in m a.does.reserves)
+      same_movers p flows st d bits arrays ℕ (reserved_count m) (λ a z. z + cond (reserves_of m a.does.reserves == 0) 0 1)
       (λ a rest. refl)
-      (λ x y s z. flip z (reserved_in m (deeds_of p st bits x.live).reserves) (reserved_in m (deeds_of p st bits y.live).reserves))
+      (λ x y s z. flip z (cond (reserves_of m (deeds_of p st bits x.live).reserves == 0) 0 1)
+      (cond (reserves_of m (deeds_of p st bits y.live).reserves == 0) 0 1))
     where
       flip : (z a b : ℕ) → (z + a) + b ≡ (z + b) + a
       flip z a b = omega arith

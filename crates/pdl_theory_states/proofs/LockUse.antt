@@ -1,29 +1,33 @@
 -- How the threads use the locks in each state of a run.
-use Rattle.std.proofs.Common.{◌≡◌, refl, sym, subst, ap, ◌∙◌, ℕ, ◌+◌, ◌≤◌, ◌<◌, Bool, true, false, List, [], ◌∷◌, length, cond, ◌==◌, arith}
+use Rattle.std.proofs.Common.{◌≡◌, sym, subst, ap, ◌∙◌, ℕ, ◌+◌, ◌≤◌, Bool, List, [], ◌∷◌, length, ◌++◌}
 use Rattle.pdl_semantics.specs.Flat.{Arrays, Pipe}
-use Rattle.pdl_semantics.specs.Stages.{list_any, reserve_stage}
-use Rattle.pdl_semantics.specs.Machine.{State, Pending, lock_of}
+use Rattle.pdl_semantics.specs.Stages.{reserve_stage}
+use Rattle.pdl_semantics.specs.Machine.{State, lock_of}
 use Rattle.pdl_semantics.specs.Moves.{Act, all_acts, movers}
-use Rattle.pdl_semantics.specs.Cycle.{first, state_after, with_reserves, with_all_writes, list_two, but_oldest, has_release}
+use Rattle.pdl_semantics.specs.Cycle.{first, state_after, with_reserves, all_releases}
 use Rattle.pdl_theory_derived.specs.Derived
+use Rattle.pdl_theory_derived.specs.Simulation.{hints_of}
 use Rattle.pdl_theory_facts.specs.Facts.{Sound}
 use Rattle.pdl_theory_simulation.proofs.AcceptedFacts.{sound_flows}
 use Rattle.pdl_theory_simulation.proofs.Seats.{Live, pends, lact, lacts}
 use Rattle.pdl_theory_simulation.proofs.ThreadFacts.{Pair, pairs, EachPair, pair_map, sorted, sorted_each}
-use Rattle.pdl_theory_simulation.proofs.Orders.{acts_of}
-use Rattle.pdl_theory_simulation.proofs.ActOrder.{Swaps, swaps_all, same_any}
-use Rattle.pdl_theory_simulation.proofs.WholeSimulation.{known, acts_are}
+use Rattle.pdl_theory_simulation.proofs.Orders.{acts_of, AllForetold}
+use Rattle.pdl_theory_simulation.proofs.ActOrder.{Swaps, swaps_all, same_releases}
+use Rattle.pdl_theory_simulation.proofs.WholeSimulation.{acts_are}
 use Rattle.pdl_theory_states.specs.Strict.{Strict}
-use Rattle.pdl_theory_states.specs.Use.{AllActs, FindsOlder, moving, with_new, with_release, bit, reserved_count, Reserves, KeepsPlace, ShiftsPlace}
+use Rattle.pdl_theory_states.specs.Use.{AllActs, FindsOlder, moving, with_new, with_release, reserved_count, Reserves, KeepsPlace, ShiftsPlace}
 use Rattle.pdl_theory_states.proofs.ReachedStates.{reached}
-use Rattle.pdl_theory_states.proofs.PendingLists.{within_ordered, count_filled}
+use Rattle.pdl_theory_states.proofs.PendingLists.{within_ordered}
 use Rattle.pdl_theory_states.proofs.OwnWrites.{within_pends, all_older}
 use Rattle.pdl_theory_states.proofs.LockCycle.{within_new, one_reserved, places_kept, same_appended, same_reserved}
-use Rattle.pdl_theory_states.proofs.LockRelease.{count_released, some_pending, older_released}
+use Rattle.pdl_theory_states.proofs.LockRelease.{LowFirst, count_released, older_released}
 use Rattle.pdl_semantics.specs.PendingLists.{AreOrdered, count_older}
 use Rattle.pdl_theory_simulation.proofs.SimulatedStates.{Sim}
+use Rattle.pdl_theory_simulation.proofs.CycleStarts.{known}
+use Rattle.pdl_theory_simulation.proofs.Foretold.{foretold_here}
 
-module _ (p : Pipe) (sound : Sound p) (st : State) (d : Derived.State) (bits : List Bool) (ls : List Live) (sim : Sim p st d ls) (m : ℕ) where
+module _ (p : Pipe) (sound : Sound p) (st : State) (d : Derived.State) (bits : List Bool) (ls : List Live) (sim : Sim p st d ls)
+    (told : AllForetold p (sound_flows p sound) st d bits sim.arrays ls) (m : ℕ) where
   -- a lock's list is in thread order, with at most one entry of each thread
   pub list_ordered : AreOrdered 0 (lock_of st m)
   list_ordered =
@@ -39,7 +43,7 @@ module _ (p : Pipe) (sound : Sound p) (st : State) (d : Derived.State) (bits : L
   -- what holds of each live thread's act by age holds of each act of the stated machine's cycle
   pub all_each : (P : Act → Type 0) → EachPair (λ x. P (lact p st d bits x.older x.live)) (pairs ls) → AllActs P (all_acts p st bits)
   all_each P h =
-      subst (AllActs P) (sym (acts_are p (sound_flows p sound) st d bits ls sim))
+      subst (AllActs P) (sym (acts_are p (sound_flows p sound) st d bits ls sim told))
       (acts_each P (sorted ls) (sorted_each (λ x. P (lact p st d bits x.older x.live)) ls h))
 
   -- up to the stage of the reserves a thread finds all pending writes of m older
@@ -57,7 +61,7 @@ module _ (p : Pipe) (sound : Sound p) (st : State) (d : Derived.State) (bits : L
   -- a lock's list with the cycle's reservations is the live threads' entries with the reservations by age
   pub with_new_is : with_new p st bits m ≡ with_reserves m (movers (lacts p st d bits ls)) (pends m ls)
   with_new_is =
-      ap (λ these. with_reserves m (movers these) (lock_of st m)) (acts_are p (sound_flows p sound) st d bits ls sim)
+      ap (λ these. with_reserves m (movers these) (lock_of st m)) (acts_are p (sound_flows p sound) st d bits ls sim told)
       ∙ same_appended p (sound_flows p sound) st d bits sim.arrays m (lock_of st m) ls swaps
       ∙ ap (with_reserves m (movers (lacts p st d bits ls))) (sim.locks m)
 
@@ -67,7 +71,7 @@ module _ (p : Pipe) (sound : Sound p) (st : State) (d : Derived.State) (bits : L
     one =
         subst (λ n. n ≤ 1)
         (sym
-        (ap (λ these. reserved_count m (movers these)) (acts_are p (sound_flows p sound) st d bits ls sim)
+        (ap (λ these. reserved_count m (movers these)) (acts_are p (sound_flows p sound) st d bits ls sim told)
         ∙ same_reserved p (sound_flows p sound) st d bits sim.arrays m ls swaps))
         (one_reserved p (sound_flows p sound) st d bits sim.arrays m ls (known p (sound_flows p sound) st d bits ls sim) sim.ordered);
     ordered =
@@ -83,78 +87,59 @@ module _ (p : Pipe) (sound : Sound p) (st : State) (d : Derived.State) (bits : L
       (places_kept p (sound_flows p sound) st d bits sim.arrays m st.next ls (pends m ls) sim.ordered sim.falls))
 
   -- a write of m is released in the cycle just where one is by age
-  pub releases_are : has_release m (moving p st bits) ≡ has_release m (movers (lacts p st d bits ls))
+  pub releases_are : all_releases m (moving p st bits) ≡ all_releases m (movers (lacts p st d bits ls))
   releases_are =
-      ap (λ these. has_release m (movers these)) (acts_are p (sound_flows p sound) st d bits ls sim)
-      ∙ same_any p (sound_flows p sound) st d bits sim.arrays (λ (a : Act). list_any (λ n. n == m) a.does.releases) ls swaps
+      ap (λ these. all_releases m (movers these)) (acts_are p (sound_flows p sound) st d bits ls sim told)
+      ∙ same_releases p (sound_flows p sound) st d bits sim.arrays m ls swaps
 
   -- until a thread moves out of the stage of m's releases, its place among the pending writes shifts by one where one is released
   pub shifts : AllActs (ShiftsPlace p st bits m) (all_acts p st bits)
-  shifts = at (has_release m (moving p st bits)) refl
+  shifts =
+      all_each (ShiftsPlace p st bits m)
+      (pair_map (λ x h i j. one x.live.number (h (i, j))) (pairs ls)
+      (older_released p (sound_flows p sound) st d bits sim.arrays m st.next ls sim.seated
+      (known p (sound_flows p sound) st d bits ls sim) sim.ordered sim.falls))
     where
-      calm : has_release m (moving p st bits) ≡ false → (a : Act) → ShiftsPlace p st bits m a
-      calm e a i j =
-          let f : count_older a.thread.number (with_release p st bits m) ≡ count_older a.thread.number (with_new p st bits m) =
-          ap (λ b. count_older a.thread.number (cond b (but_oldest (list_two st (moving p st bits) m)) (list_two st (moving p st bits) m))) e
-          ∙ count_filled a.thread.number m (moving p st bits) (with_new p st bits m) in
-          let g : bit (has_release m (moving p st bits)) ≡ 0 = ap bit e in
-          omega arith
-
-      every : (these : List Act) → ((a : Act) → ShiftsPlace p st bits m a) → AllActs (ShiftsPlace p st bits m) these
-      every [] f = tt
-      every (a ∷ these) f = (f a, every these f)
-
-      one : has_release m (moving p st bits) ≡ true → (x : Pending) (xs : List Pending)
-          → with_reserves m (movers (lacts p st d bits ls)) (pends m ls) ≡ x ∷ xs → (a : Act)
-          → x.thread < a.thread.number
-          → count_older a.thread.number (with_release p st bits m) + bit (has_release m (moving p st bits)) ≡ count_older a.thread.number (with_new p st bits m)
-      one e x xs i a low =
-          let is : with_new p st bits m ≡ x ∷ xs = with_new_is ∙ i in
-          let f : count_older a.thread.number (with_release p st bits m)
-          ≡ count_older a.thread.number (but_oldest (with_all_writes m (moving p st bits) (x ∷ xs))) =
-          ap (λ b. count_older a.thread.number (cond b (but_oldest (list_two st (moving p st bits) m)) (list_two st (moving p st bits) m))) e
-          ∙ ap (λ l. count_older a.thread.number (but_oldest (with_all_writes m (moving p st bits) l))) is in
-          let g : bit (has_release m (moving p st bits)) ≡ 1 = ap bit e in
-          let h = count_released a.thread.number m (moving p st bits) x xs low in
-          let k : count_older a.thread.number (with_new p st bits m) ≡ count_older a.thread.number (x ∷ xs) = ap (count_older a.thread.number) is in
-          omega arith
-
-      at : (b : Bool) → has_release m (moving p st bits) ≡ b → AllActs (ShiftsPlace p st bits m) (all_acts p st bits)
-      at false e = every (all_acts p st bits) (calm e)
-      at true e =
-          let s =
-          some_pending p (sound_flows p sound) st d bits sim.arrays m st.next ls sim.seated
-          (known p (sound_flows p sound) st d bits ls sim) sim.ordered sim.falls (sym releases_are ∙ e) in
-          all_each (ShiftsPlace p st bits m)
-          (pair_map (λ x h i j. one e s.0 s.1 s.2 (lact p st d bits x.older x.live) (h (i, j) s.0 s.1 s.2)) (pairs ls)
-          (older_released p (sound_flows p sound) st d bits sim.arrays m st.next ls sim.seated
-          (known p (sound_flows p sound) st d bits ls sim) sim.ordered sim.falls (sym releases_are ∙ e)))
+      one : (t : ℕ) → LowFirst (all_releases m (movers (lacts p st d bits ls))) t (with_reserves m (movers (lacts p st d bits ls)) (pends m ls))
+          → count_older t (with_release p st bits m) + all_releases m (moving p st bits) ≡ count_older t (with_new p st bits m)
+      one t low =
+          count_released (all_releases m (moving p st bits)) t m (moving p st bits) (with_new p st bits m)
+          (subst (λ k. LowFirst k t (with_new p st bits m)) (sym releases_are)
+          (subst (λ xs. LowFirst (all_releases m (movers (lacts p st d bits ls))) t xs) (sym with_new_is) low))
 
 module _ (p : Pipe) (sound : Sound p) (strict : Strict p) (image : Arrays) (schedule : List (List Bool)) where
+  -- the state of this run, and that of the derived machine, whose threads were given what they say with one cycle more
+  abbrev st : State
+  st = state_after p (first p image) schedule
+
+  abbrev d : List Bool → Derived.State
+  d bits = Derived.state_after p (Derived.first p image (hints_of p (first p image) (schedule ++ bits ∷ []))) schedule
+
+  told_of : (bits : List Bool)
+      → AllForetold p (sound_flows p sound) st (d bits) bits (reached p sound strict image schedule (bits ∷ [])).sim.arrays
+      (reached p sound strict image schedule (bits ∷ [])).live
+  told_of bits =
+      let r = reached p sound strict image schedule (bits ∷ []) in foretold_here p (sound_flows p sound) st (d bits) bits r.live r.sim [] r.foretells
+
   -- in every state that a run comes to, a lock's list is in thread order, with at most one entry of each thread
   pub ordered_here : (m : ℕ) → AreOrdered 0 (lock_of (state_after p (first p image) schedule) m)
-  ordered_here m = let r = reached p sound strict image schedule in
-      list_ordered p sound (state_after p (first p image) schedule) (Derived.state_after p (Derived.first p image) schedule) [] r.0 r.1 m
+  ordered_here m = let r = reached p sound strict image schedule ([] ∷ []) in list_ordered p sound st (d []) [] r.live r.sim (told_of []) m
 
   -- in every state that a run comes to, a thread up to the stage of m's reserves finds all pending writes of m older
   pub older_here : (bits : List Bool) (m : ℕ)
       → AllActs (FindsOlder (state_after p (first p image) schedule) m (reserve_stage p m)) (all_acts p (state_after p (first p image) schedule) bits)
-  older_here bits m = let r = reached p sound strict image schedule in
-      finds_older p sound (state_after p (first p image) schedule) (Derived.state_after p (Derived.first p image) schedule) bits r.0 r.1 m
+  older_here bits m = let r = reached p sound strict image schedule (bits ∷ []) in finds_older p sound st (d bits) bits r.live r.sim (told_of bits) m
 
   -- in each cycle of a run at most one write of m is reserved, and the list stays in order with it
   pub reserves_here : (bits : List Bool) (m : ℕ) → Reserves p (state_after p (first p image) schedule) bits m
-  reserves_here bits m = let r = reached p sound strict image schedule in
-      reserves p sound (state_after p (first p image) schedule) (Derived.state_after p (Derived.first p image) schedule) bits r.0 r.1 m
+  reserves_here bits m = let r = reached p sound strict image schedule (bits ∷ []) in reserves p sound st (d bits) bits r.live r.sim (told_of bits) m
 
   -- in each cycle of a run, from the reserves' stage on, what is reserved leaves a thread's place among the pending writes as it is
   pub places_here : (bits : List Bool) (m : ℕ)
       → AllActs (KeepsPlace p (state_after p (first p image) schedule) bits m) (all_acts p (state_after p (first p image) schedule) bits)
-  places_here bits m = let r = reached p sound strict image schedule in
-      places p sound (state_after p (first p image) schedule) (Derived.state_after p (Derived.first p image) schedule) bits r.0 r.1 m
+  places_here bits m = let r = reached p sound strict image schedule (bits ∷ []) in places p sound st (d bits) bits r.live r.sim (told_of bits) m
 
   -- in each cycle of a run, until a thread moves out of the releases' stage, its place shifts by one where a write of m is released
   pub shifts_here : (bits : List Bool) (m : ℕ)
       → AllActs (ShiftsPlace p (state_after p (first p image) schedule) bits m) (all_acts p (state_after p (first p image) schedule) bits)
-  shifts_here bits m = let r = reached p sound strict image schedule in
-      shifts p sound (state_after p (first p image) schedule) (Derived.state_after p (Derived.first p image) schedule) bits r.0 r.1 m
+  shifts_here bits m = let r = reached p sound strict image schedule (bits ∷ []) in shifts p sound st (d bits) bits r.live r.sim (told_of bits) m

@@ -1,65 +1,48 @@
 -- What older threads' pending writes say of an address grows only more ready, where they are past the reserves.
-use Rattle.std.proofs.Common.{◌≡◌, ◌≢◌, refl, sym, ap, ◌∙◌, subst, ℕ, ◌≤◌, ◌<◌, ◌⊎◌, inl, inr, Bool, true, false, ◌&&◌, ◌||◌, not, List, [], ◌∷◌, ◌++◌, length, Option, Some, None, is_none, ◌==◌, cond, if◌then◌else◌, arith, eq-eqb, slice_index}
+use Rattle.std.proofs.Common.{◌≡◌, ◌≢◌, refl, sym, ap, ◌∙◌, subst, ℕ, ◌≤◌, ◌<◌, Bool, true, false, ◌&&◌, ◌||◌, not, List, [], ◌∷◌, ◌++◌, length, Option, Some, None, is_none, ◌==◌, cond, if◌then◌else◌, arith, eq-eqb, slice_index}
 use Rattle.std.proofs.lemmas.Bool.{eqb-true, eqb-false}
-use Rattle.pdl_semantics.specs.Flat.{Pipe, Op, Bind, CombRead, DelayedRead, Write, ReserveRead, ReserveWrite, Block, Release, Call, SpecCall, Verify, SpecCheck, SpecBarrier, Stmt, value_of, values_of, all_hold}
+use Rattle.pdl_semantics.specs.Flat.{Pipe, Op, Bind, CombRead, DelayedRead, Write, ReserveRead, ReserveWrite, Block, Release, Call, SpecCall, Verify, SpecCheck, SpecBarrier, AdviceBind, AdviceRead, AdviceWrite, Stmt, value_of, all_hold}
 use Rattle.pdl_semantics.specs.Stages.{in_stage, stage_at, goes_to, is_reserve, is_release, reserve_stage, commit_stage}
 use Rattle.pdl_semantics.specs.Locks.{Latest, Nothing, as_latest}
 use Rattle.pdl_semantics.specs.Machine.{State, same_args}
 use Rattle.pdl_semantics.proofs.Readiness.{Calm, calm_nothing, calm_value}
-use Rattle.pdl_theory_derived.specs.Derived.{Entry, Work, Around, work_after, do_all, with_entry_value, without, latest_in, latest, around}
+use Rattle.pdl_semantics.specs.Promises.{DifferInAdvice}
+use Rattle.pdl_theory_derived.specs.Derived.{Entry, Work, Around, work_after, do_all, with_entry_value, latest_in, latest, around, said}
 use Rattle.pdl_theory_derived.specs.Derived
-use Rattle.pdl_theory_facts.specs.Scans.{none_of, Phase, Fresh, Held, Written, Done}
+use Rattle.pdl_theory_facts.specs.Scans.{none_of}
 use Rattle.pdl_theory_simulation.proofs.FlowFacts.{Flows, stage_or}
 use Rattle.pdl_theory_derived.proofs.Writes.{and_left, and_right}
-use Rattle.pdl_theory_derived.proofs.Entries.{entries_of, filled_other, without_own, without_other, entries_of-filled}
+use Rattle.pdl_theory_derived.proofs.Entries.{entries_of, filled_other, without_other, entries_of-filled}
 use Rattle.pdl_theory_turns.proofs.Marks.{latest_own}
 use Rattle.pdl_theory_derived.proofs.Stages.{step}
 use Rattle.pdl_theory_turns.proofs.Turn.{none_in_stage}
-use Rattle.pdl_theory_simulation.proofs.Shapes.{Shape}
-use Rattle.pdl_theory_simulation.proofs.Stretches.{Behind, late, start_of}
-use Rattle.pdl_theory_simulation.proofs.Seats.{Live, threads_of, Ordered, dacts, did, now_of, work_of_live}
-use Rattle.pdl_theory_simulation.proofs.Choices.{AllKnown, ends_here}
+use Rattle.pdl_theory_simulation.proofs.Stretches.{Behind, late, start_of, stage_up, left_trunk}
+use Rattle.pdl_theory_simulation.proofs.Seats.{Live, threads_of, Ordered, dacts, did, now_of, work_of_live, advised}
+use Rattle.pdl_theory_simulation.proofs.Choices.{AllKnown, ends_here, late_here}
 use Rattle.pdl_theory_simulation.proofs.LockLists.{fell, moved_live, stood, go_on}
 use Rattle.pdl_theory_simulation.proofs.ThreadPlaces.{ways_on, behind_stay}
 use Rattle.pdl_theory_simulation.proofs.ThreadPlaces
 use Rattle.pdl_word.specs.Each.{Each}
 
--- what becomes of a thread's only pending write of a memory
-abbrev Fades : List Entry → List Entry → Type 0
-Fades [] [] = Unit {0}
-Fades (e ∷ []) [] = Unit {0}
-Fades (e ∷ []) (f ∷ []) = (f.mem ≡ e.mem) × (f.address ≡ e.address) × (is_none f.value ≡ true → is_none e.value ≡ true)
-Fades _ _ = ⊥
+-- a thread's pending writes of a memory, of which more have a value
+abbrev Filled : List Entry → List Entry → Type 0
+Filled [] [] = Unit {0}
+Filled (e ∷ es) (f ∷ fs) = (f.mem ≡ e.mem) × (f.address ≡ e.address) × (is_none f.value ≡ true → is_none e.value ≡ true) × Filled es fs
+Filled _ _ = ⊥
 
-fades_shape : (m : ℕ) (ph : Phase) (es : List Entry) → Shape m ph es → Fades es es
-fades_shape m Fresh es s = subst (λ l. Fades l l) (sym s) tt
-fades_shape m (Held x) es s = subst (λ l. Fades l l) (sym s.1) (refl, refl, (λ h. h))
-fades_shape m (Written x) es s = subst (λ l. Fades l l) (sym s.2) (refl, refl, (λ h. h))
-fades_shape m Done es s = subst (λ l. Fades l l) (sym s) tt
+filled_same : (es : List Entry) → Filled es es
+filled_same [] = tt
+filled_same (e ∷ es) = (refl, refl, (λ h. h), filled_same es)
 
-fades_filled : (m a v : ℕ) (es fs : List Entry) → Fades es fs → Fades es (with_entry_value fs m a v)
-fades_filled m a v [] [] h = h
-fades_filled m a v [] (f ∷ fs) h = absurd h
-fades_filled m a v (e ∷ []) [] h = tt
-fades_filled m a v (e ∷ []) (f ∷ []) h = at ((f.mem == m) && (f.var == a))
+filled_more : (m a v : ℕ) (es fs : List Entry) → Filled es fs → Filled es (with_entry_value fs m a v)
+filled_more m a v [] [] h = h
+filled_more m a v [] (f ∷ fs) h = absurd h
+filled_more m a v (e ∷ es) [] h = absurd h
+filled_more m a v (e ∷ es) (f ∷ fs) h = at ((f.mem == m) && (f.var == a)) (filled_more m a v es fs h.3)
   where
-    at : (b : Bool) → Fades (e ∷ []) (cond b (record f { value = Some v } ∷ []) (f ∷ []))
-    at true = (h.0, h.1, (λ i. absurd (cc i)))
-    at false = h
-fades_filled m a v (e ∷ []) (f ∷ g ∷ fs) h = absurd h
-fades_filled m a v (e ∷ d ∷ es) fs h = absurd h
-
-fades_without : (m a : ℕ) (es fs : List Entry) → Fades es fs → Fades es (without fs m a)
-fades_without m a [] [] h = h
-fades_without m a [] (f ∷ fs) h = absurd h
-fades_without m a (e ∷ []) [] h = tt
-fades_without m a (e ∷ []) (f ∷ []) h = at ((f.mem == m) && (f.var == a))
-  where
-    at : (b : Bool) → Fades (e ∷ []) (cond b [] (f ∷ []))
-    at true = tt
-    at false = h
-fades_without m a (e ∷ []) (f ∷ g ∷ fs) h = absurd h
-fades_without m a (e ∷ d ∷ es) fs h = absurd h
+    at : (b : Bool) → Filled es (with_entry_value fs m a v) → Filled (e ∷ es) (cond b (record f { value = Some v } ∷ fs) (f ∷ with_entry_value fs m a v))
+    at true k = (h.0, h.1, (λ i. absurd (cc i)), h.3)
+    at false k = (h.0, h.1, h.2, k)
 
 off_case : (n m : ℕ) → not (n == m) ≡ true → n ≢ m
 off_case n m h e = cc (sym (ap not (eq-eqb n m e)) ∙ h)
@@ -71,122 +54,69 @@ by_memory n m R f g = at (n == m) refl
     at true e = f (eqb-true n m e)
     at false e = g (eqb-false n m e)
 
-fades_op : (m : ℕ) (start : List Entry) (o : Around) (op : Op) (w : Work)
-    → not (is_reserve m op) ≡ true → Fades start (entries_of m w.entries)
-    → Fades start (entries_of m (work_after o op w).entries)
-fades_op m start o (Write n a e) w r h =
-    by_memory n m (Fades start (entries_of m (with_entry_value w.entries n a (value_of e w.env))))
-    (λ i. subst (λ j. Fades start (entries_of m (with_entry_value w.entries j a (value_of e w.env)))) (sym i)
-    (subst (λ l. Fades start l) (sym (entries_of-filled w.entries m a (value_of e w.env)))
-    (fades_filled m a (value_of e w.env) start (entries_of m w.entries) h)))
-    (λ i. subst (λ l. Fades start l) (sym (filled_other w.entries m n a (value_of e w.env) i)) h)
-fades_op m start o (Release n a) w r h =
-    by_memory n m (Fades start (entries_of m (without w.entries n a)))
-    (λ i. subst (λ j. Fades start (entries_of m (without w.entries j a))) (sym i)
-    (subst (λ l. Fades start l) (sym (without_own w.entries m a)) (fades_without m a start (entries_of m w.entries) h)))
-    (λ i. subst (λ l. Fades start l) (sym (without_other w.entries m n a i)) h)
-fades_op m start o (ReserveWrite n a) w r h = at (n == m) r
+filled_op : (m : ℕ) (start : List Entry) (o : Around) (op : Op) (w : Work)
+    → not (is_reserve m op) ≡ true → not (is_release m op) ≡ true → Filled start (entries_of m w.entries)
+    → Filled start (entries_of m (work_after o op w).entries)
+filled_op m start o (Write n a e) w r q h =
+    by_memory n m (Filled start (entries_of m (with_entry_value w.entries n a (value_of e w.env))))
+    (λ i. subst (λ j. Filled start (entries_of m (with_entry_value w.entries j a (value_of e w.env)))) (sym i)
+    (subst (λ l. Filled start l) (sym (entries_of-filled w.entries m a (value_of e w.env)))
+    (filled_more m a (value_of e w.env) start (entries_of m w.entries) h)))
+    (λ i. subst (λ l. Filled start l) (sym (filled_other w.entries m n a (value_of e w.env) i)) h)
+filled_op m start o (Release n a) w r q h = subst (λ l. Filled start l) (sym (without_other w.entries m n a (off_case n m q))) h
+filled_op m start o (ReserveWrite n a) w r q h = at (n == m) r
   where
     at : (b : Bool) → not b ≡ true
-        → Fades start (cond b (record { mem = n; var = a; address = slice_index w.env a; value = None } ∷ entries_of m w.entries) (entries_of m w.entries))
+        → Filled start (cond b (record { mem = n; var = a; address = slice_index w.env a; value = None } ∷ entries_of m w.entries) (entries_of m w.entries))
     at true i = absurd (cc i)
     at false i = h
-fades_op m start o (Verify args) w r h = at (same_args (values_of args w.env) w.guess)
+filled_op m start o (Verify last args) w r q h = at (same_args (said o last args w.env) w.guess)
   where
-    at : (b : Bool) → Fades start (entries_of m (cond b w (record w { child = Some (values_of args w.env); fails = true })).entries)
+    at : (b : Bool)
+        → Filled start (entries_of m (cond b w (record w { child = Some (said o last args w.env); guess = said o last args w.env; fails = true })).entries)
     at true = h
     at false = h
-fades_op m start o (Bind x e) w r h = h
-fades_op m start o (CombRead x n a) w r h = h
-fades_op m start o (DelayedRead x n a) w r h = h
-fades_op m start o (ReserveRead n a) w r h = h
-fades_op m start o (Block n a) w r h = h
-fades_op m start o (Call args) w r h = h
-fades_op m start o (SpecCall args) w r h = h
-fades_op m start o SpecCheck w r h = h
-fades_op m start o SpecBarrier w r h = h
+filled_op m start o (Bind x e) w r q h = h
+filled_op m start o (CombRead x n a) w r q h = h
+filled_op m start o (DelayedRead x n a) w r q h = h
+filled_op m start o (ReserveRead n a) w r q h = h
+filled_op m start o (Block n a) w r q h = h
+filled_op m start o (Call args) w r q h = h
+filled_op m start o (SpecCall args) w r q h = h
+filled_op m start o SpecCheck w r q h = h
+filled_op m start o (AdviceBind x' e') w r q h = h
+filled_op m start o (AdviceRead x' m' a') w r q h = h
+filled_op m start o (AdviceWrite m' a' e') w r q h = h
+filled_op m start o SpecBarrier w r q h = h
 
-fades_all : (m : ℕ) (start : List Entry) (o : Around) (xs : List Stmt) (w : Work)
-    → none_of (is_reserve m) xs ≡ true → Fades start (entries_of m w.entries)
-    → Fades start (entries_of m (do_all o xs w).entries)
-fades_all m start o [] w r h = h
-fades_all m start o (x ∷ xs) w r h = fades_all m start o xs (step o x w) (and_right (not (is_reserve m x.op)) _ r) (at (all_hold x.guards w.env))
+filled_all : (m : ℕ) (start : List Entry) (o : Around) (xs : List Stmt) (w : Work)
+    → none_of (is_reserve m) xs ≡ true → none_of (is_release m) xs ≡ true → Filled start (entries_of m w.entries)
+    → Filled start (entries_of m (do_all o xs w).entries)
+filled_all m start o [] w r q h = h
+filled_all m start o (x ∷ xs) w r q h =
+    filled_all m start o xs (step o x w) (and_right (not (is_reserve m x.op)) _ r) (and_right (not (is_release m x.op)) _ q) (at (all_hold x.guards w.env))
   where
-    at : (b : Bool) → Fades start (entries_of m (cond b (work_after o x.op w) w).entries)
-    at true = fades_op m start o x.op w (and_left _ _ r) h
+    at : (b : Bool) → Filled start (entries_of m (cond b (work_after o x.op w) w).entries)
+    at true = filled_op m start o x.op w (and_left _ _ r) (and_left _ _ q) h
     at false = h
-
--- without a release none is lost
-filled_some : (m a v : ℕ) (es : List Entry) → with_entry_value es m a v ≡ [] → es ≡ []
-filled_some m a v [] h = refl
-filled_some m a v (e ∷ es) h = absurd (at ((e.mem == m) && (e.var == a)) h)
-  where
-    at : (b : Bool) → cond b (record e { value = Some v } ∷ es) (e ∷ with_entry_value es m a v) ≡ [] → ⊥
-    at true i = cc
-    at false i = cc
-
-lost_op : (m : ℕ) (o : Around) (op : Op) (w : Work)
-    → not (is_reserve m op) ≡ true → not (is_release m op) ≡ true → entries_of m (work_after o op w).entries ≡ []
-    → entries_of m w.entries ≡ []
-lost_op m o (Write n a e) w r q h =
-    by_memory n m (entries_of m w.entries ≡ [])
-    (λ i. filled_some m a (value_of e w.env) (entries_of m w.entries)
-    (sym (entries_of-filled w.entries m a (value_of e w.env)) ∙ ap (λ j. entries_of m (with_entry_value w.entries j a (value_of e w.env))) (sym i) ∙ h))
-    (λ i. sym (filled_other w.entries m n a (value_of e w.env) i) ∙ h)
-lost_op m o (Release n a) w r q h = sym (without_other w.entries m n a (off_case n m q)) ∙ h
-lost_op m o (ReserveWrite n a) w r q h = at (n == m) r h
-  where
-    at : (b : Bool) → not b ≡ true
-        → cond b (record { mem = n; var = a; address = slice_index w.env a; value = None } ∷ entries_of m w.entries) (entries_of m w.entries) ≡ []
-        → entries_of m w.entries ≡ []
-    at true i k = absurd (cc i)
-    at false i k = k
-lost_op m o (Verify args) w r q h = at (same_args (values_of args w.env) w.guess) h
-  where
-    at : (b : Bool) → entries_of m (cond b w (record w { child = Some (values_of args w.env); fails = true })).entries ≡ [] → entries_of m w.entries ≡ []
-    at true k = k
-    at false k = k
-lost_op m o (Bind x e) w r q h = h
-lost_op m o (CombRead x n a) w r q h = h
-lost_op m o (DelayedRead x n a) w r q h = h
-lost_op m o (ReserveRead n a) w r q h = h
-lost_op m o (Block n a) w r q h = h
-lost_op m o (Call args) w r q h = h
-lost_op m o (SpecCall args) w r q h = h
-lost_op m o SpecCheck w r q h = h
-lost_op m o SpecBarrier w r q h = h
-
-lost_all : (m : ℕ) (o : Around) (xs : List Stmt) (w : Work)
-    → none_of (is_reserve m) xs ≡ true → none_of (is_release m) xs ≡ true → entries_of m (do_all o xs w).entries ≡ []
-    → entries_of m w.entries ≡ []
-lost_all m o [] w r q h = h
-lost_all m o (x ∷ xs) w r q h =
-    at (all_hold x.guards w.env) (lost_all m o xs (step o x w) (and_right (not (is_reserve m x.op)) _ r) (and_right (not (is_release m x.op)) _ q) h)
-  where
-    at : (b : Bool) → entries_of m (cond b (work_after o x.op w) w).entries ≡ [] → entries_of m w.entries ≡ []
-    at true k = lost_op m o x.op w (and_left _ _ r) (and_left _ _ q) k
-    at false k = k
 
 -- READINESS
 
-calm_fades : (m a : ℕ) (es fs : List Entry) (r r' : Latest) → Fades es fs → Calm r r'
-    → (fs ≡ [] → (es ≡ []) ⊎ (r' ≡ Nothing)) → Calm (latest_in es m a r) (latest_in fs m a r')
-calm_fades m a [] [] r r' h c f = c
-calm_fades m a [] (x ∷ fs) r r' h c f = absurd h
-calm_fades m a (e ∷ []) [] r r' h c f = at (f refl)
+calm_filled : (m a : ℕ) (es fs : List Entry) (r r' : Latest) → Filled es fs → Calm r r'
+    → Calm (latest_in es m a r) (latest_in fs m a r')
+calm_filled m a [] [] r r' h c = c
+calm_filled m a [] (x ∷ fs) r r' h c = absurd h
+calm_filled m a (e ∷ es) [] r r' h c = absurd h
+calm_filled m a (e ∷ es) (x ∷ fs) r r' h c =
+    subst (λ n. Calm (latest_in (e ∷ es) m a r) (cond ((n == m) && (x.address == a)) (as_latest x.value) (latest_in fs m a r'))) (sym h.0)
+    (subst (λ n. Calm (latest_in (e ∷ es) m a r) (cond ((e.mem == m) && (n == a)) (as_latest x.value) (latest_in fs m a r'))) (sym h.1)
+    (at ((e.mem == m) && (e.address == a)) (calm_filled m a es fs r r' h.3 c)))
   where
-    at : ((e ∷ []) ≡ []) ⊎ (r' ≡ Nothing) → Calm (latest_in (e ∷ []) m a r) r'
-    at (inl i) = absurd (cc i)
-    at (inr i) = calm_nothing (latest_in (e ∷ []) m a r) r' i
-calm_fades m a (e ∷ []) (x ∷ []) r r' h c f =
-    subst (λ n. Calm (latest_in (e ∷ []) m a r) (cond ((n == m) && (x.address == a)) (as_latest x.value) r')) (sym h.0)
-    (subst (λ n. Calm (latest_in (e ∷ []) m a r) (cond ((e.mem == m) && (n == a)) (as_latest x.value) r')) (sym h.1) (at ((e.mem == m) && (e.address == a))))
-  where
-    at : (b : Bool) → Calm (cond b (as_latest e.value) r) (cond b (as_latest x.value) r')
-    at true = calm_value e.value x.value h.2
-    at false = c
-calm_fades m a (e ∷ []) (x ∷ y ∷ fs) r r' h c f = absurd h
-calm_fades m a (e ∷ d ∷ es) fs r r' h c f = absurd h
+    at : (b : Bool)
+        → Calm (latest_in es m a r) (latest_in fs m a r')
+        → Calm (cond b (as_latest e.value) (latest_in es m a r)) (cond b (as_latest x.value) (latest_in fs m a r'))
+    at true k = calm_value e.value x.value h.2
+    at false k = k
 
 calm_same : (m a : ℕ) (es : List Entry) (r r' : Latest) → Calm r r' → Calm (latest_in es m a r) (latest_in es m a r')
 calm_same m a [] r r' c = c
@@ -202,7 +132,7 @@ none_latest m a [] h = refl
 none_latest m a (k ∷ ks) h =
     latest_own k.thread.entries m a (latest (threads_of ks) m a) ∙ ap (λ l. latest_in l m a (latest (threads_of ks) m a)) h.0 ∙ none_latest m a ks h.1
 
-module _ (p : Pipe) (flows : Flows p) (st : State) (d : Derived.State) (bits : List Bool) (arrays : st.arrays ≡ d.arrays) where
+module _ (p : Pipe) (flows : Flows p) (st : State) (d : Derived.State) (bits : List Bool) (arrays : DifferInAdvice p st.arrays d.arrays) where
   -- a thread past the releases of m, behind all these, finds no write of theirs pending after the cycle
   late_next : (m a s : ℕ) (ks : List Live) → AllKnown p flows st d bits arrays ks
       → Each (λ k. Behind p s k.thread.stage) ks → commit_stage p m ≤ s
@@ -214,7 +144,7 @@ module _ (p : Pipe) (flows : Flows p) (st : State) (d : Derived.State) (bits : L
       both : (ls : List Live) → Each (ThreadPlaces.OnWay p flows st d bits arrays) ls
           → Each (λ k. Behind p s k.thread.stage) ls → Each (λ k. entries_of m k.thread.entries ≡ []) ls
       both [] w i = tt
-      both (l ∷ ls) w i = (late p flows l.env l.thread w.0.0 m (i.0.trunk (commit_stage p m) (flows.trunk_commit m) low), both ls w.1 i.1)
+      both (l ∷ ls) w i = (late p flows l.env l.thread w.0.0 m (left_trunk p _ _ i.0 (commit_stage p m) (flows.trunk_commit m) low), both ls w.1 i.1)
 
   -- what the older threads' writes say of an address stays calm as they go on, past the stage of m's reserves
   pub calm_next : (m a : ℕ) (ks : List Live) → AllKnown p flows st d bits arrays ks → Ordered p ks
@@ -229,35 +159,35 @@ module _ (p : Pipe) (flows : Flows p) (st : State) (d : Derived.State) (bits : L
       kept : none_of (is_reserve m) (in_stage l.thread.stage p.stmts) ≡ true
       kept = none_in_stage (is_reserve m) (reserve_stage p m) l.thread.stage p.stmts (flows.reserves m) (λ e. absurd (let i = h.0 in omega arith))
 
-      fades : Fades (entries_of m l.thread.entries) (entries_of m (work_of_live p d bits ks l).entries)
-      fades =
-          fades_all m (entries_of m l.thread.entries) (around p d bits (dacts p d bits ks) l.thread.stage)
-          (in_stage l.thread.stage p.stmts)
-          (start_of (now_of p d bits l)) kept (fades_shape m _ (entries_of m l.thread.entries) (k.0.seated.keeps_on.shape m))
-
-      gone : entries_of m (work_of_live p d bits ks l).entries ≡ []
-          → (entries_of m l.thread.entries ≡ []) ⊎ (latest (threads_of (go_on p st d bits ks)) m a ≡ Nothing)
-      gone e = by_memory l.thread.stage (commit_stage p m) ((entries_of m l.thread.entries ≡ []) ⊎ (latest (threads_of (go_on p st d bits ks)) m a ≡ Nothing))
-          (λ i. inr (late_next m a l.thread.stage ks k.1 o.0 (let j = i in omega arith)))
-          (λ i. inl
-          (lost_all m (around p d bits (dacts p d bits ks) l.thread.stage) (in_stage l.thread.stage p.stmts)
-          (start_of (now_of p d bits l)) kept (none_in_stage (is_release m) (commit_stage p m) l.thread.stage p.stmts (flows.releases m) i) e))
-
+      -- where it releases nothing is left, else more has a value
       own : Calm (latest (threads_of ks) m a) (latest (threads_of (go_on p st d bits ks)) m a)
           → Calm (latest_in l.thread.entries m a (latest (threads_of ks) m a))
           (latest_in (work_of_live p d bits ks l).entries m a (latest (threads_of (go_on p st d bits ks)) m a))
       own c =
-          subst (λ x. Calm x (latest_in (work_of_live p d bits ks l).entries m a (latest (threads_of (go_on p st d bits ks)) m a)))
+          by_memory l.thread.stage (commit_stage p m)
+          (Calm (latest_in l.thread.entries m a (latest (threads_of ks) m a))
+          (latest_in (work_of_live p d bits ks l).entries m a (latest (threads_of (go_on p st d bits ks)) m a)))
+          (λ i. calm_nothing _ _ (latest_own (work_of_live p d bits ks l).entries m a _
+          ∙ ap (λ es. latest_in es m a (latest (threads_of (go_on p st d bits ks)) m a))
+          (late_here p flows st d bits arrays ks l k.0 m
+          (let j = i in let u = stage_up p flows l.env l.thread k.0.seated.keeps_on (work_of_live p d bits ks l).env in omega arith))
+          ∙ late_next m a l.thread.stage ks k.1 o.0 (let j = i in omega arith)))
+          (λ i.
+          subst
+          (λ x. Calm x (latest_in (work_of_live p d bits ks l).entries m a (latest (threads_of (go_on p st d bits ks)) m a)))
           (sym (latest_own l.thread.entries m a _))
           (subst (λ x. Calm (latest_in (entries_of m l.thread.entries) m a (latest (threads_of ks) m a)) x)
           (sym (latest_own (work_of_live p d bits ks l).entries m a _))
-          (calm_fades m a (entries_of m l.thread.entries) (entries_of m (work_of_live p d bits ks l).entries)
-          (latest (threads_of ks) m a) (latest (threads_of (go_on p st d bits ks)) m a) fades c gone))
+          (calm_filled m a (entries_of m l.thread.entries) (entries_of m (work_of_live p d bits ks l).entries) (latest (threads_of ks) m a)
+          (latest (threads_of (go_on p st d bits ks)) m a)
+          (filled_all m (entries_of m l.thread.entries) (around p d bits (dacts p d bits ks) l.thread.stage l.thread.hint) (in_stage l.thread.stage p.stmts)
+          (start_of (now_of p d bits l)) kept (none_in_stage (is_release m) (commit_stage p m) l.thread.stage p.stmts (flows.releases m) i)
+          (filled_same (entries_of m l.thread.entries))) c)))
 
       out : (r : Option ℕ) → goes_to (stage_at p l.thread.stage).next (work_of_live p d bits ks l).env ≡ r
           → Calm (latest (threads_of ks) m a) (latest (threads_of (go_on p st d bits ks)) m a)
           → Calm (latest_in l.thread.entries m a (latest (threads_of ks) m a))
-          (latest (threads_of (moved_live r l (work_of_live p d bits ks l) ++ go_on p st d bits ks)) m a)
+          (latest (threads_of (moved_live r (advised p st bits l) (work_of_live p d bits ks l) ++ go_on p st d bits ks)) m a)
       out None e c =
           subst (λ x. Calm (latest_in l.thread.entries m a (latest (threads_of ks) m a)) x)
           (latest_own (work_of_live p d bits ks l).entries m a _
@@ -278,7 +208,8 @@ module _ (p : Pipe) (flows : Flows p) (st : State) (d : Derived.State) (bits : L
           (latest
           (threads_of
           ((if g then []
-          else cond b (moved_live (goes_to (stage_at p l.thread.stage).next (work_of_live p d bits ks l).env) l (work_of_live p d bits ks l))
+          else cond b
+          (moved_live (goes_to (stage_at p l.thread.stage).next (work_of_live p d bits ks l).env) (advised p st bits l) (work_of_live p d bits ks l))
           (stood p st d bits l ∷ []))
           ++ go_on p st d bits ks)) m a)
       at true e b i c = absurd (cc (sym (second b (work_of_live p d bits ks l).fails i) ∙ e))

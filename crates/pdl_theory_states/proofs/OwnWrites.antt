@@ -1,48 +1,20 @@
 -- The pending writes of the live threads, of whatever guess.
-use Rattle.std.proofs.Common.{◌≡◌, refl, sym, ap, ◌∙◌, subst, ℕ, ◌≤◌, ◌<◌, Bool, true, false, List, [], ◌∷◌, ◌++◌, length, ◌==◌, cond, nat_le, arith, append-nil, length-append, le_refl, leb-true, leb-false}
+use Rattle.std.proofs.Common.{◌≡◌, refl, sym, ap, ◌∙◌, ℕ, ◌≤◌, ◌<◌, Bool, true, false, List, [], ◌∷◌, ◌++◌, length, nat_le, arith, append-nil, le_refl, leb-true, leb-false}
 use Rattle.pdl_semantics.specs.Flat.{Pipe}
 use Rattle.pdl_semantics.specs.Stages.{reserve_stage}
 use Rattle.pdl_semantics.specs.Machine.{State}
-use Rattle.pdl_theory_derived.specs.Derived.{Entry}
-use Rattle.pdl_theory_facts.specs.Scans.{Phase, Fresh, Held, Written, Done, phase_all}
 use Rattle.pdl_theory_simulation.proofs.FlowFacts.{Flows}
-use Rattle.pdl_theory_derived.proofs.Entries.{entries_of}
-use Rattle.pdl_theory_derived.proofs.Lists.{own, pend}
+use Rattle.pdl_theory_derived.proofs.Lists.{pend}
 use Rattle.pdl_theory_turns.proofs.OwnEntries.{pend_own}
-use Rattle.pdl_theory_simulation.proofs.Shapes.{Shape}
-use Rattle.pdl_theory_simulation.proofs.Stretches.{Behind, on_way, early}
+use Rattle.pdl_theory_simulation.proofs.Stretches.{Behind, early, left_trunk}
 use Rattle.pdl_theory_simulation.proofs.Seats.{Live, Falls, Ordered, pends}
 use Rattle.pdl_theory_simulation.proofs.ThreadFacts.{Pair, pairs, EachPair, pair_both, pairs_each}
 use Rattle.pdl_theory_simulation.proofs.Choices.{Seated}
-use Rattle.pdl_theory_states.proofs.PendingLists.{Within, within_append, within_one, within_count, of_pend}
+use Rattle.pdl_theory_states.proofs.PendingLists.{Within, within_append, within_of, within_count, of_pend}
 use Rattle.pdl_semantics.specs.PendingLists.{count_older}
 use Rattle.pdl_word.specs.Each.{Each}
 
--- a thread has at most one pending write of a memory
-pub own_short : (m : ℕ) (ph : Phase) (es : List Entry) → Shape m ph es → length es ≤ 1
-own_short m Fresh es h = subst (λ l. length l ≤ 1) (sym h) (omega arith)
-own_short m (Held x) es h = subst (λ l. length l ≤ 1) (sym h.1) (omega arith)
-own_short m (Written x) es h = subst (λ l. length l ≤ 1) (sym h.2) (omega arith)
-own_short m Done es h = subst (λ l. length l ≤ 1) (sym h) (omega arith)
-
--- a thread has no more pending writes of one memory than entries in all
-pub pend_short : (m n : ℕ) (es : List Entry) → length (pend m n es) ≤ length es
-pend_short m n [] = omega arith
-pend_short m n (e ∷ es) = let i = length-append (pend m n es) (cond (e.mem == m) (own n e ∷ []) []) in
-    let j = at (e.mem == m) in let k = pend_short m n es in omega arith
-  where
-    at : (b : Bool) → length (cond b (own n e ∷ []) []) ≤ 1
-    at true = omega arith
-    at false = omega arith
-
 module _ (p : Pipe) (flows : Flows p) (st : State) where
-  -- a live thread has at most one pending write of m
-  pub one_pending : (m : ℕ) (l : Live) → Seated p st l → length (pend m l.number l.thread.entries) ≤ 1
-  one_pending m l s =
-      let i = own_short m (phase_all m Fresh (on_way p l.env l.thread.stage)) (entries_of m l.thread.entries) (s.keeps_on.shape m) in
-      let j = pend_short m l.number (entries_of m l.thread.entries) in
-      subst (λ l. length l ≤ 1) (sym (pend_own m l.number l.thread.entries)) (let k = i in omega arith)
-
   -- none up to the stage of the reserves
   pub none_pending : (m : ℕ) (l : Live) → Seated p st l → l.thread.stage ≤ reserve_stage p m → pend m l.number l.thread.entries ≡ []
   none_pending m l s h = pend_own m l.number l.thread.entries ∙ ap (pend m l.number) (early p flows l.env l.thread s.keeps_on m h)
@@ -52,7 +24,7 @@ module _ (p : Pipe) (flows : Flows p) (st : State) where
   within_pends m n [] s f = omega arith
   within_pends m n (l ∷ ls) s f =
       within_append 0 l.number n (pends m ls) _ (within_pends m l.number ls s.1 f.1)
-      (within_one l.number n l.number _ (le_refl l.number) f.0 (of_pend m l.number l.thread.entries) (one_pending m l s.0))
+      (within_of l.number n l.number _ (le_refl l.number) f.0 (of_pend m l.number l.thread.entries))
 
   -- a thread up to the stage of the reserves finds all pending writes older
   pub all_older : (m n : ℕ) (ls : List Live) → Each (Seated p st) ls → Ordered p ls → Falls n ls
@@ -74,7 +46,8 @@ module _ (p : Pipe) (flows : Flows p) (st : State) where
           by true e = leb-true _ _ e
           by false e =
               absurd
-              (let i : reserve_stage p m < x.live.thread.stage = b.trunk (reserve_stage p m) (flows.trunk_reserve m) (let j = leb-false _ _ e in omega arith) in
+              (let i : reserve_stage p m < x.live.thread.stage = left_trunk p _ _ b (reserve_stage p m) (flows.trunk_reserve m)
+              (let j = leb-false _ _ e in omega arith) in
               omega arith)
 
       at : (x : Pair) → x.live.thread.stage ≤ reserve_stage p m → pend m l.number l.thread.entries ≡ []

@@ -2,12 +2,12 @@
 use Rattle.std.proofs.Common.{◌≡◌, refl, sym, ap, ap₂, ◌∙◌, subst, ℕ, ◌≤◌, ◌<◌, ◌⊎◌, inl, inr, Bool, true, false, ◌&&◌, ◌||◌, not, List, [], ◌∷◌, ◌++◌, length, Some, None, ◌==◌, nat_lt, cond, arith, slice_index, slice_set, eq-eqb, ltb-true}
 use Rattle.std.proofs.lemmas.List.{get_or-set_other, get_or-set_same, length-set}
 use Rattle.std.proofs.lemmas.Bool.{eqb-true, not-true, or_parts, or_right, or_left}
-use Rattle.pdl_semantics.specs.Flat.{Op, Bind, CombRead, DelayedRead, Write, ReserveRead, ReserveWrite, Block, Release, Call, SpecCall, Verify, SpecCheck, SpecBarrier, Expr, Stmt, value_of, values_of, all_hold}
+use Rattle.pdl_semantics.specs.Flat.{Op, Bind, CombRead, DelayedRead, Write, ReserveRead, ReserveWrite, Block, Release, Call, SpecCall, Verify, SpecCheck, SpecBarrier, Stmt, value_of, all_hold, AdviceBind, AdviceRead, AdviceWrite}
 use Rattle.pdl_semantics.specs.Forms.{on_block}
-use Rattle.pdl_semantics.specs.Stages.{onpath}
+use Rattle.pdl_semantics.specs.Stages.{onpath, is_release}
 use Rattle.pdl_semantics.specs.Machine.{Ask, same_args}
 use Rattle.pdl_semantics.specs.Sound.{is_release_at, is_call}
-use Rattle.pdl_theory_derived.specs.Derived.{Entry, Work, Around, work_after, do_all, without, with_entry_value, has_entry}
+use Rattle.pdl_theory_derived.specs.Derived.{Entry, Work, Around, work_after, do_all, moved_up, without, with_entry_value, has_entry, said, Hint}
 use Rattle.pdl_theory_facts.specs.Facts.{uses_in, mentions_var, asks_for, silent_on, unseen_op, is_unseen}
 use Rattle.pdl_theory_facts.specs.Scans.{is_dead}
 use Rattle.pdl_theory_derived.proofs.Writes.{and_left, and_right}
@@ -16,11 +16,20 @@ use Rattle.pdl_theory_derived.proofs.Stages.{was_ready}
 use Rattle.pdl_theory_turns.proofs.Paths.{Fixed, dead_none}
 use Rattle.pdl_theory_derived.proofs.DelayedReads.{AllAsks, all_more, all_both, all_snoc}
 use Rattle.pdl_theory_states.specs.Strict.{bound_by, uses_own, is_mentioned, is_new, all_new}
-use Rattle.pdl_theory_turns.proofs.Surroundings.{has_filled}
+use Rattle.pdl_theory_turns.proofs.Surroundings.{has_filled, has_moved}
+use Rattle.pdl_theory_derived.proofs.Entries.{entries_of}
+use Rattle.pdl_theory_turns.proofs.Guesses.{same_args_eq}
 use Rattle.pdl_word.proofs.Bools.{untrue}
-use Rattle.pdl_theory_states.proofs.UnusedValues.{AllOps, AnyOp, ops_map, ops_both, any_both, onto, touches, value_agree, Done, done_agrees, done_guess, mention_touch, untouched, set_agrees}
+use Rattle.pdl_theory_states.proofs.UnusedValues.{AllOps, AnyOp, ops_map, ops_both, any_both, onto, touches, value_agree, Done, done_agrees, done_guess, guess_past, guess_agrees, mention_touch, untouched, set_agrees, given, said_past}
 
 -- LISTS OF STATEMENTS
+
+-- the guess stays where a variable is set that no statement hangs on
+pub guess_set : (hint : Hint) (x v : ℕ) (env : List ℕ) (past : List Op) → AllOps (λ op. touches x op ≡ false) past
+    → guess_past hint past env ≡ guess_past hint past (slice_set env x v)
+guess_set hint x v env [] t = refl
+guess_set hint x v env (op ∷ past) t =
+    guess_agrees hint op past env (slice_set env x v) (set_agrees x v op env t.0) (guess_set hint x v env past t.1)
 
 -- THREADS
 
@@ -38,12 +47,36 @@ pub none_touched : (x : ℕ) (ops : List Op) → AllOps (λ op. touches x op ≡
 none_touched x [] h = refl
 none_touched x (op ∷ ops) h = ap₂ (λ a b. a || b) h.0 (none_touched x ops h.1)
 
--- each pending write stands at the address of its location
+-- something of a memory is released
+abbrev pub let_go : ℕ → List Op → Bool
+let_go m [] = false
+let_go m (op ∷ ops) = is_release m op || let_go m ops
+
+-- each pending write stands at the address of its location, until the stage in which its memory's are released: there what a location had goes on to others
 abbrev pub AllPlaced : List ℕ → List Op → List Entry → Type 0
 AllPlaced env past [] = Unit {0}
-AllPlaced env past (e ∷ es) = (e.address ≡ slice_index env e.var) × (touched e.var past ≡ true) × AllPlaced env past es
+AllPlaced env past (e ∷ es) = ((let_go e.mem past ≡ true) ⊎ (e.address ≡ slice_index env e.var)) × (touched e.var past ≡ true) × AllPlaced env past es
 
 -- whether one of the statements carried out releases the location
+abbrev pub AllStand : List ℕ → List Entry → Type 0
+AllStand env [] = Unit {0}
+AllStand env (e ∷ es) = (e.address ≡ slice_index env e.var) × AllStand env es
+
+-- where nothing is left of what is released, each stands
+pub standing : (env : List ℕ) (past : List Op) (es : List Entry)
+    → AllPlaced env past es → ((m : ℕ) → let_go m past ≡ true → entries_of m es ≡ []) → AllStand env es
+standing env past [] h g = tt
+standing env past (e ∷ es) h g = (here h.0, standing env past es h.2 (λ m k. rest m (e.mem == m) (g m k)))
+  where
+    rest : (m : ℕ) (b : Bool) → cond b (e ∷ entries_of m es) (entries_of m es) ≡ [] → entries_of m es ≡ []
+    rest m true i = absurd (cc i)
+    rest m false i = i
+
+    here : (let_go e.mem past ≡ true) ⊎ (e.address ≡ slice_index env e.var) → e.address ≡ slice_index env e.var
+    here (inl k) = absurd (cc (sym (ap (λ b. cond b (e ∷ entries_of e.mem es) (entries_of e.mem es)) (eq-eqb e.mem e.mem refl)) ∙ g e.mem k))
+    here (inr k) = k
+
+-- whether one of these statements releases the location
 abbrev pub is_released : ℕ → ℕ → List Op → Bool
 is_released m a [] = false
 is_released m a (op ∷ ops) = is_release_at m a op || is_released m a ops
@@ -58,6 +91,7 @@ BlockOk o env es past op =
 pub record Past (o : Around) (vars : ℕ) (past : List Op) (w : Work) : Type 0 where
   pub long : vars ≤ length w.env
   pub done : AllOps (Done w.env w.guess) past
+  pub guessed : w.guess ≡ guess_past (given o) past w.env
   pub placed : AllPlaced w.env past w.entries
   pub asked : AllAsks (AskedBy w.env past) w.asks
   pub unused : AllAsks (λ q. AllOps (λ op. touches q.var op ≡ false) past) w.asks
@@ -68,7 +102,11 @@ pub placed_set : (x v : ℕ) (env : List ℕ) (past : List Op) (es : List Entry)
     → touched x past ≡ false → AllPlaced env past es → AllPlaced (slice_set env x v) past es
 placed_set x v env past [] h k = tt
 placed_set x v env past (e ∷ es) h k =
-    (k.0 ∙ sym (get_or-set_other env x e.var v 0 (λ i. untrue (sym h ∙ ap (λ n. touched n past) (sym i) ∙ k.1))), k.1, placed_set x v env past es h k.2)
+    (at k.0, k.1, placed_set x v env past es h k.2)
+  where
+    at : (let_go e.mem past ≡ true) ⊎ (e.address ≡ slice_index env e.var) → (let_go e.mem past ≡ true) ⊎ (e.address ≡ slice_index (slice_set env x v) e.var)
+    at (inl i) = inl i
+    at (inr i) = inr (i ∙ sym (get_or-set_other env x e.var v 0 (λ i. untrue (sym h ∙ ap (λ n. touched n past) (sym i) ∙ k.1))))
 
 asked_set : (x v : ℕ) (env : List ℕ) (past : List Op) (q : Ask)
     → AllOps (λ op. touches x op ≡ false) past → AskedBy env past q → AskedBy (slice_set env x v) past q
@@ -89,8 +127,11 @@ block_set o x v env es past (ReserveWrite m a) t h = tt
 block_set o x v env es past (Release m a) t h = tt
 block_set o x v env es past (Call args) t h = tt
 block_set o x v env es past (SpecCall args) t h = tt
-block_set o x v env es past (Verify args) t h = tt
+block_set o x v env es past (Verify last args) t h = tt
 block_set o x v env es past SpecCheck t h = tt
+block_set o x v env es past (AdviceBind x' e') t h = tt
+block_set o x v env es past (AdviceRead x' m' a') t h = tt
+block_set o x v env es past (AdviceWrite m' a' e') t h = tt
 block_set o x v env es past SpecBarrier t h = tt
 
 -- a block stays true with more pending writes, or fewer, where each location that is none any more is released
@@ -119,14 +160,21 @@ block_more o env es es' past past' (ReserveWrite m a) f g h = tt
 block_more o env es es' past past' (Release m a) f g h = tt
 block_more o env es es' past past' (Call args) f g h = tt
 block_more o env es es' past past' (SpecCall args) f g h = tt
-block_more o env es es' past past' (Verify args) f g h = tt
+block_more o env es es' past past' (Verify last args) f g h = tt
 block_more o env es es' past past' SpecCheck f g h = tt
+block_more o env es es' past past' (AdviceBind x' e') f g h = tt
+block_more o env es es' past past' (AdviceRead x' m' a') f g h = tt
+block_more o env es es' past past' (AdviceWrite m' a' e') f g h = tt
 block_more o env es es' past past' SpecBarrier f g h = tt
 
 -- one more statement was carried out
 placed_more : (env : List ℕ) (past : List Op) (op : Op) (es : List Entry) → AllPlaced env past es → AllPlaced env (op ∷ past) es
 placed_more env past op [] h = tt
-placed_more env past op (e ∷ es) h = (h.0, or_right (touches e.var op) _ h.1, placed_more env past op es h.2)
+placed_more env past op (e ∷ es) h = (at h.0, or_right (touches e.var op) _ h.1, placed_more env past op es h.2)
+  where
+    at : (let_go e.mem past ≡ true) ⊎ (e.address ≡ slice_index env e.var) → (let_go e.mem (op ∷ past) ≡ true) ⊎ (e.address ≡ slice_index env e.var)
+    at (inl i) = inl (or_right (is_release e.mem op) _ i)
+    at (inr i) = inr i
 
 placed_filled : (env : List ℕ) (past : List Op) (es : List Entry) (m a v : ℕ) → AllPlaced env past es
     → AllPlaced env past (with_entry_value es m a v)
@@ -138,13 +186,28 @@ placed_filled env past (e ∷ es) m a v h = at ((e.mem == m) && (e.var == a)) (p
     at true k = h
     at false k = (h.0, h.1, k)
 
-placed_without : (env : List ℕ) (past : List Op) (es : List Entry) (m a : ℕ) → AllPlaced env past es → AllPlaced env past (without es m a)
-placed_without env past [] m a h = tt
-placed_without env past (e ∷ es) m a h = at ((e.mem == m) && (e.var == a)) (placed_without env past es m a h.2)
+-- what moves up is of the memory of which something is released
+placed_moved : (env : List ℕ) (past : List Op) (e : Entry) (es : List Entry)
+    → let_go e.mem past ≡ true → AllPlaced env past es → AllPlaced env past (moved_up e es)
+placed_moved env past e [] g h = tt
+placed_moved env past e (f ∷ es) g h = at (f.mem == e.mem) refl (λ i. placed_moved env past f es i h.2) (placed_moved env past e es g h.2)
   where
-    at : (b : Bool) → AllPlaced env past (without es m a) → AllPlaced env past (cond b es (e ∷ without es m a))
-    at true k = h.2
-    at false k = (h.0, h.1, k)
+    at : (b : Bool) → (f.mem == e.mem) ≡ b → (let_go f.mem past ≡ true → AllPlaced env past (moved_up f es)) → AllPlaced env past (moved_up e es)
+        → AllPlaced env past (cond b (record f { address = e.address; value = e.value } ∷ moved_up f es) (f ∷ moved_up e es))
+    at true i k n = let j : let_go f.mem past ≡ true = ap (λ m. let_go m past) (eqb-true f.mem e.mem i) ∙ g in (inl j, h.1, k j)
+    at false i k n = (h.0, h.1, n)
+
+placed_without : (env : List ℕ) (past : List Op) (es : List Entry) (m a : ℕ)
+    → let_go m past ≡ true → AllPlaced env past es → AllPlaced env past (without es m a)
+placed_without env past [] m a g h = tt
+placed_without env past (e ∷ es) m a g h = at (e.mem == m) refl (e.var == a) (placed_without env past es m a g h.2)
+  where
+    at : (b : Bool)
+        → (e.mem == m) ≡ b → (c : Bool) → AllPlaced env past (without es m a)
+        → AllPlaced env past (cond (b && c) (moved_up e es) (e ∷ without es m a))
+    at true i true k = placed_moved env past e es (ap (λ n. let_go n past) (eqb-true e.mem m i) ∙ g) h.2
+    at true i false k = (h.0, h.1, k)
+    at false i c k = (h.0, h.1, k)
 
 -- another location's write is still pending
 has_without : (es : List Entry) (n b m a : ℕ) → ((n == m) && (b == a)) ≡ false → has_entry (without es n b) m a ≡ has_entry es m a
@@ -152,8 +215,8 @@ has_without [] n b m a h = refl
 has_without (e ∷ es) n b m a h = at ((e.mem == n) && (e.var == b)) refl (has_without es n b m a h)
   where
     at : (t : Bool) → ((e.mem == n) && (e.var == b)) ≡ t → has_entry (without es n b) m a ≡ has_entry es m a
-        → has_entry (cond t es (e ∷ without es n b)) m a ≡ (((e.mem == m) && (e.var == a)) || has_entry es m a)
-    at true i k =
+        → has_entry (cond t (moved_up e es) (e ∷ without es n b)) m a ≡ (((e.mem == m) && (e.var == a)) || has_entry es m a)
+    at true i k = has_moved e es m a ∙
         ap (λ t. t || has_entry es m a) (sym ((λ j. (eqb-true e.mem n (and_left _ _ i) j == m) && (eqb-true e.var b (and_right (e.mem == n) _ i) j == a)) ∙ h))
     at false i k = ap (λ t. ((e.mem == m) && (e.var == a)) || t) k
 
@@ -175,14 +238,16 @@ module _ (o : Around) (vars : ℕ) (kind : Kind o) where
   -- a statement that binds a variable
   bind_step : (x v : ℕ) (op : Op) (past : List Op) (w : Work) → is_new vars past (Some x) ≡ true
       → AllAsks (λ q. mentions_var q.var op ≡ false) w.asks → (Done (slice_set w.env x v) w.guess op)
+      → ((e : List ℕ) → guess_past (given o) (op ∷ past) e ≡ guess_past (given o) past e)
       → BlockOk o (slice_set w.env x v) w.entries (op ∷ past) op → ((m a : ℕ) → is_release_at m a op ≡ false)
       → Past o vars past w → Past o vars (op ∷ past) (record w { env = slice_set w.env x v })
-  bind_step x v op past w new silent mine block quiet h =
+  bind_step x v op past w new silent mine calm block quiet h =
       let none : is_mentioned x past ≡ false = not-true _ (and_right (nat_lt x vars) _ new) in
       let t = untouched x past none in
       record {
         long = subst (λ n. vars ≤ n) (sym (length-set w.env x v)) h.long;
         done = (mine, ops_both (λ o' t' d. done_agrees w.env (slice_set w.env x v) w.guess o' (set_agrees x v o' w.env t') d) past t h.done);
+        guessed = h.guessed ∙ guess_set (given o) x v w.env past t ∙ sym (calm (slice_set w.env x v));
         placed = placed_more (slice_set w.env x v) past op w.entries (placed_set x v w.env past w.entries (none_touched x past t) h.placed);
         asked = all_more (AskedBy w.env past) (AskedBy (slice_set w.env x v) (op ∷ past)) w.asks (λ q k. inr (asked_set x v w.env past q t k)) h.asked;
         unused =
@@ -194,17 +259,19 @@ module _ (o : Around) (vars : ℕ) (kind : Kind o) where
 
   -- one that only changes what is pending
   pend_step : (op : Op) (past : List Op) (w : Work) (es : List Entry)
-      → AllAsks (λ q. mentions_var q.var op ≡ false) w.asks → Done w.env w.guess op → AllPlaced w.env (op ∷ past) es
+      → AllAsks (λ q. mentions_var q.var op ≡ false) w.asks → Done w.env w.guess op → w.guess ≡ guess_past (given o) (op ∷ past) w.env
+      → AllPlaced w.env (op ∷ past) es
       → BlockOk o w.env es (op ∷ past) op
       → ((m a : ℕ)
       → (is_released m a (op ∷ past) ≡ true)
       ⊎ (cond (has_entry w.entries m a) (o.can_write m (slice_index w.env a)) (o.can_read m (slice_index w.env a)) ≡ true
       → cond (has_entry es m a) (o.can_write m (slice_index w.env a)) (o.can_read m (slice_index w.env a)) ≡ true))
       → Past o vars past w → Past o vars (op ∷ past) (record w { entries = es })
-  pend_step op past w es silent mine placed block kept h =
+  pend_step op past w es silent mine guessed placed block kept h =
       record {
         long = h.long;
         done = (mine, h.done);
+        guessed = guessed;
         placed = placed;
         asked = all_more (AskedBy w.env past) (AskedBy w.env (op ∷ past)) w.asks (λ q k. inr k) h.asked;
         unused =
@@ -217,19 +284,20 @@ module _ (o : Around) (vars : ℕ) (kind : Kind o) where
 
   -- one that leaves all that as it is
   still_step : (op : Op) (past : List Op) (w : Work) → AllAsks (λ q. mentions_var q.var op ≡ false) w.asks
-      → Done w.env w.guess op → BlockOk o w.env w.entries (op ∷ past) op → Past o vars past w
+      → Done w.env w.guess op → w.guess ≡ guess_past (given o) (op ∷ past) w.env → BlockOk o w.env w.entries (op ∷ past) op → Past o vars past w
       → Past o vars (op ∷ past) w
-  still_step op past w silent mine block h =
-      pend_step op past w w.entries silent mine (placed_more w.env past op w.entries h.placed) block (λ m a. inr (λ i. i)) h
+  still_step op past w silent mine guessed block h =
+      pend_step op past w w.entries silent mine guessed (placed_more w.env past op w.entries h.placed) block (λ m a. inr (λ i. i)) h
 
   fetch_step : (x m a : ℕ) (past : List Op) (w : Work) (free : Bool) → is_new vars past (Some x) ≡ true
       → (a == x) ≡ false → AllAsks (λ q. mentions_var q.var (DelayedRead x m a) ≡ false) w.asks → Past o vars past w
       → Past o vars (DelayedRead x m a ∷ past) (record w { asks = w.asks ++ record { mem = m; var = x; address = slice_index w.env a } ∷ []; ready = free })
   fetch_step x m a past w free new own silent h =
-      let g = still_step (DelayedRead x m a) past w silent tt tt h in
+      let g = still_step (DelayedRead x m a) past w silent tt h.guessed tt h in
       record {
         long = g.long;
         done = g.done;
+        guessed = g.guessed;
         placed = g.placed;
         asked =
             all_snoc (AskedBy w.env (DelayedRead x m a ∷ past)) w.asks
@@ -241,25 +309,28 @@ module _ (o : Around) (vars : ℕ) (kind : Kind o) where
         blocks = g.blocks;
       }
 
-  call_step : (args : List Expr) (past : List Op) (w : Work)
-      → AllAsks (λ q. mentions_var q.var (SpecCall args) ≡ false) w.asks → AllOps (λ op. is_call op ≡ false) past
+  -- one that gives the guess
+  guess_step : (op : Op) (g : List ℕ) (past : List Op) (w : Work)
+      → AllAsks (λ q. mentions_var q.var op ≡ false) w.asks → g ≡ guess_past (given o) (op ∷ past) w.env
+      → Done w.env g op → BlockOk o w.env w.entries (op ∷ past) op → ((q : Ask) → mentions_var q.var op ≡ false → touches q.var op ≡ false)
       → Past o vars past w
-      → Past o vars (SpecCall args ∷ past) (record w { child = Some (values_of args w.env); guess = values_of args w.env })
-  call_step args past w silent none h =
-      let g =
-      still_step SpecCheck past w
-      (all_more (λ q. mentions_var q.var (SpecCall args) ≡ false) (λ q. mentions_var q.var SpecCheck ≡ false) w.asks (λ q k. refl) silent) tt tt h in
+      → Past o vars (op ∷ past) (record w { child = Some g; guess = g })
+  guess_step op g past w silent given mine block apart h =
       record {
         long = h.long;
-        done = (refl, ops_both (λ op n d. done_guess w.env w.guess (values_of args w.env) op n d) past none h.done);
-        placed = placed_more w.env past (SpecCall args) w.entries h.placed;
-        asked = all_more (AskedBy w.env past) (AskedBy w.env (SpecCall args ∷ past)) w.asks (λ q k. inr k) h.asked;
+        done = (mine, ops_map (λ op' d. done_guess w.env w.guess g op' d) past h.done);
+        guessed = given;
+        placed = placed_more w.env past op w.entries h.placed;
+        asked = all_more (AskedBy w.env past) (AskedBy w.env (op ∷ past)) w.asks (λ q k. inr k) h.asked;
         unused =
-            all_more (λ q. (mentions_var q.var (SpecCall args) ≡ false) × AllOps (λ o'. touches q.var o' ≡ false) past)
-            (λ q. AllOps (λ o'. touches q.var o' ≡ false) (SpecCall args ∷ past)) w.asks (λ q k. (k.0, k.1))
-            (all_both (λ q. mentions_var q.var (SpecCall args) ≡ false) (λ q. AllOps (λ o'. touches q.var o' ≡ false) past) w.asks silent h.unused);
-        blocks =
-            (tt, ops_map (λ o' b. block_more o w.env w.entries w.entries past (SpecCall args ∷ past) o' (λ m a i. i) (λ m a. inr (λ i. i)) b) past h.blocks);
+            all_more (λ q. (mentions_var q.var op ≡ false) × AllOps (λ o'. touches q.var o' ≡ false) past)
+            (λ q. AllOps (λ o'. touches q.var o' ≡ false) (op ∷ past)) w.asks (λ q k. (apart q k.0, k.1))
+            (all_both (λ q. mentions_var q.var op ≡ false) (λ q. AllOps (λ o'. touches q.var o' ≡ false) past) w.asks silent h.unused);
+        blocks = (
+          block,
+          ops_map (λ o' b. block_more o w.env w.entries w.entries past (op ∷ past) o' (λ m a i. or_right (is_release_at m a op) _ i)
+              (λ m a. inr (λ i. i)) b) past h.blocks,
+        );
       }
 
   -- only these fields matter
@@ -269,6 +340,7 @@ module _ (o : Around) (vars : ℕ) (kind : Kind o) where
       record {
         long = subst (λ (l : List ℕ). vars ≤ length l) e h.long;
         done = subst (λ l. AllOps (Done v.env l) past) g (subst (λ l. AllOps (Done l w.guess) past) e h.done);
+        guessed = sym g ∙ h.guessed ∙ ap (guess_past (given o) past) e;
         placed = subst (λ l. AllPlaced v.env past l) s (subst (λ l. AllPlaced l past w.entries) e h.placed);
         asked = subst (λ l. AllAsks (AskedBy v.env past) l) a (subst (λ l. AllAsks (AskedBy l past) w.asks) e h.asked);
         unused = subst (λ l. AllAsks (λ q. AllOps (λ op. touches q.var op ≡ false) past) l) a h.unused;
@@ -280,7 +352,7 @@ module _ (o : Around) (vars : ℕ) (kind : Kind o) where
       → not (uses_own op) ≡ true → AllAsks (λ q. mentions_var q.var op ≡ false) w.asks
       → (is_call op ≡ true → AllOps (λ op. is_call op ≡ false) past) → (work_after o op w).ready ≡ true
       → Past o vars past w → Past o vars (op ∷ past) (work_after o op w)
-  past_step (Bind x e) past w new own silent calls ready h = bind_step x (value_of e w.env) (Bind x e) past w new silent here tt (λ m a. refl) h
+  past_step (Bind x e) past w new own silent calls ready h = bind_step x (value_of e w.env) (Bind x e) past w new silent here (λ _. refl) tt (λ m a. refl) h
     where
       here : slice_index (slice_set w.env x (value_of e w.env)) x ≡ value_of e (slice_set w.env x (value_of e w.env))
       here =
@@ -291,22 +363,22 @@ module _ (o : Around) (vars : ℕ) (kind : Kind o) where
           low : x < vars → vars ≤ length w.env → x < length w.env
           low i j = omega arith
   past_step (CombRead x m a) past w new own silent calls ready h =
-      bind_step x (o.read m (slice_index w.env a)) (CombRead x m a) past w new silent tt tt (λ m a. refl) h
+      bind_step x (o.read m (slice_index w.env a)) (CombRead x m a) past w new silent tt (λ _. refl) tt (λ m a. refl) h
   past_step (DelayedRead x m a) past w new own silent calls ready h = fetch_step x m a past w (w.ready && o.free m) new (not-true _ own) silent h
   past_step (Write m a e) past w new own silent calls ready h =
-      pend_step (Write m a e) past w (with_entry_value w.entries m a (value_of e w.env)) silent tt
+      pend_step (Write m a e) past w (with_entry_value w.entries m a (value_of e w.env)) silent tt h.guessed
       (placed_more w.env past (Write m a e) (with_entry_value w.entries m a (value_of e w.env))
       (placed_filled w.env past w.entries m a (value_of e w.env) h.placed)) tt
       (λ n b. inr
       (λ i. ap (λ t. cond t (o.can_write n (slice_index w.env b)) (o.can_read n (slice_index w.env b))) (has_filled w.entries m a (value_of e w.env) n b)
       ∙ i)) h
-  past_step (ReserveRead m a) past w new own silent calls ready h = still_step (ReserveRead m a) past w silent tt tt h
+  past_step (ReserveRead m a) past w new own silent calls ready h = still_step (ReserveRead m a) past w silent tt h.guessed tt h
   past_step (ReserveWrite m a) past w new own silent calls ready h =
       same_past (ReserveWrite m a ∷ past)
       (record w { entries = record { mem = m; var = a; address = slice_index w.env a; value = None } ∷ w.entries })
       (work_after o (ReserveWrite m a) w) refl refl refl refl
-      (pend_step (ReserveWrite m a) past w (record { mem = m; var = a; address = slice_index w.env a; value = None } ∷ w.entries) silent tt
-      (refl, or_left _ _ (eq-eqb a a refl), placed_more w.env past (ReserveWrite m a) w.entries h.placed) tt
+      (pend_step (ReserveWrite m a) past w (record { mem = m; var = a; address = slice_index w.env a; value = None } ∷ w.entries) silent tt h.guessed
+      (inr refl, or_left _ _ (eq-eqb a a refl), placed_more w.env past (ReserveWrite m a) w.entries h.placed) tt
       (λ n b. inr (λ i. more n b ((m == n) && (a == b)) i)) h)
     where
       more : (n b : ℕ) (t : Bool)
@@ -321,11 +393,11 @@ module _ (o : Around) (vars : ℕ) (kind : Kind o) where
           at false j = kind n (slice_index w.env b) j
   past_step (Block m a) past w new own silent calls ready h =
       same_past (Block m a ∷ past) w (work_after o (Block m a) w) refl refl refl refl
-      (still_step (Block m a) past w silent tt (inr (and_right w.ready _ ready)) h)
+      (still_step (Block m a) past w silent tt h.guessed (inr (and_right w.ready _ ready)) h)
   past_step (Release m a) past w new own silent calls ready h =
       same_past (Release m a ∷ past) (record w { entries = without w.entries m a }) (work_after o (Release m a) w) refl refl refl refl
-      (pend_step (Release m a) past w (without w.entries m a) silent tt
-      (placed_more w.env past (Release m a) (without w.entries m a) (placed_without w.env past w.entries m a h.placed)) tt
+      (pend_step (Release m a) past w (without w.entries m a) silent tt h.guessed
+      (placed_without w.env (Release m a ∷ past) w.entries m a (or_left _ _ (eq-eqb m m refl)) (placed_more w.env past (Release m a) w.entries h.placed)) tt
       (λ n b. at n b ((m == n) && (a == b)) refl) h)
     where
       at : (n b : ℕ) (t : Bool) → ((m == n) && (a == b)) ≡ t
@@ -336,19 +408,29 @@ module _ (o : Around) (vars : ℕ) (kind : Kind o) where
       at n b false e =
           inr (λ i. ap (λ t. cond t (o.can_write n (slice_index w.env b)) (o.can_read n (slice_index w.env b))) (has_without w.entries m a n b e) ∙ i)
   past_step (Call args) past w new own silent calls ready h =
-      same_past (Call args ∷ past) w (work_after o (Call args) w) refl refl refl refl (still_step (Call args) past w silent tt tt h)
-  past_step (SpecCall args) past w new own silent calls ready h = call_step args past w silent (calls refl) h
-  past_step (Verify args) past w new own silent calls ready h = at (same_args (values_of args w.env) w.guess)
+      same_past (Call args ∷ past) w (work_after o (Call args) w) refl refl refl refl (still_step (Call args) past w silent tt h.guessed tt h)
+  past_step (SpecCall args) past w new own silent calls ready h =
+      guess_step (SpecCall args) o.guess past w silent refl tt tt (λ q k. mention_touch q.var (SpecCall args) k) h
+  past_step (Verify last args) past w new own silent calls ready h = at (same_args (said o last args w.env) w.guess) refl
     where
-      at : (b : Bool) → Past o vars (Verify args ∷ past) (cond b w (record w { child = Some (values_of args w.env); fails = true }))
-      at true = still_step (Verify args) past w silent tt tt h
-      at false =
-          same_past (Verify args ∷ past) w
-          (record w { child = Some (values_of args w.env); fails = true }) refl refl refl refl
-          (still_step (Verify args) past w silent tt tt h)
-  past_step SpecCheck past w new own silent calls ready h = still_step SpecCheck past w silent tt tt h
+      at : (b : Bool)
+          → same_args (said o last args w.env) w.guess ≡ b
+          → Past o vars (Verify last args ∷ past) (cond b w (record w { child = Some (said o last args w.env); guess = said o last args w.env; fails = true }))
+      at true e =
+          still_step (Verify last args) past w silent tt
+          (sym (same_args_eq (said o last args w.env) w.guess e) ∙ said_past o last args past w.env) tt h
+      at false e =
+          same_past (Verify last args ∷ past)
+          (record w { child = Some (said o last args w.env); guess = said o last args w.env })
+          (record w { child = Some (said o last args w.env); guess = said o last args w.env; fails = true }) refl refl refl refl
+          (guess_step (Verify last args) (said o last args w.env) past w silent
+          (said_past o last args past w.env) tt tt (λ q k. mention_touch q.var (Verify last args) k) h)
+  past_step SpecCheck past w new own silent calls ready h = still_step SpecCheck past w silent tt h.guessed tt h
+  past_step (AdviceBind x' e') past w new own silent calls ready h = still_step (AdviceBind x' e') past w silent tt h.guessed tt h
+  past_step (AdviceRead x' m' a') past w new own silent calls ready h = still_step (AdviceRead x' m' a') past w silent tt h.guessed tt h
+  past_step (AdviceWrite m' a' e') past w new own silent calls ready h = still_step (AdviceWrite m' a' e') past w silent tt h.guessed tt h
   past_step SpecBarrier past w new own silent calls ready h =
-      same_past (SpecBarrier ∷ past) w (work_after o SpecBarrier w) refl refl refl refl (still_step SpecBarrier past w silent tt tt h)
+      same_past (SpecBarrier ∷ past) w (work_after o SpecBarrier w) refl refl refl refl (still_step SpecBarrier past w silent tt h.guessed tt h)
 
   -- THE STATEMENTS OF A STAGE
 
@@ -360,9 +442,11 @@ module _ (o : Around) (vars : ℕ) (kind : Kind o) where
       → AllAsks (λ q. silent_on q.var ys ≡ true) w.asks
       → AllAsks (λ q. silent_on q.var ys ≡ true) (work_after o op w).asks
   asks_silent (DelayedRead x m a) w ys u h = all_snoc (λ q. silent_on q.var ys ≡ true) w.asks (record { mem = m; var = x; address = slice_index w.env a }) h u
-  asks_silent (Verify args) w ys u h = at (same_args (values_of args w.env) w.guess)
+  asks_silent (Verify last args) w ys u h = at (same_args (said o last args w.env) w.guess)
     where
-      at : (b : Bool) → AllAsks (λ q. silent_on q.var ys ≡ true) (cond b w (record w { child = Some (values_of args w.env); fails = true })).asks
+      at : (b : Bool)
+          → AllAsks (λ q. silent_on q.var ys ≡ true)
+          (cond b w (record w { child = Some (said o last args w.env); guess = said o last args w.env; fails = true })).asks
       at true = h
       at false = h
   asks_silent (Bind x e) w ys u h = h
@@ -375,6 +459,9 @@ module _ (o : Around) (vars : ℕ) (kind : Kind o) where
   asks_silent (Call args) w ys u h = h
   asks_silent (SpecCall args) w ys u h = h
   asks_silent SpecCheck w ys u h = h
+  asks_silent (AdviceBind x' e') w ys u h = h
+  asks_silent (AdviceRead x' m' a') w ys u h = h
+  asks_silent (AdviceWrite m' a' e') w ys u h = h
   asks_silent SpecBarrier w ys u h = h
 
   call_flag : (c : Bool) (op : Op) (past : List Op) → call_ok c op ≡ true → Uncalled c past → is_call op ≡ true → AllOps (λ op. is_call op ≡ false) past

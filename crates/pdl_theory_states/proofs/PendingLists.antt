@@ -20,10 +20,10 @@ count_append t (x ∷ xs) ys = at (nat_lt x.thread t) (count_append t xs ys)
 
 count_put_all : (t m n : ℕ) (ws : List Written) (xs : List Pending) → count_older t (with_writes_of m n ws xs) ≡ count_older t xs
 count_put_all t m n [] xs = refl
-count_put_all t m n (w ∷ ws) xs = count_put_all t m n ws (if w.mem == m then with_value_of n w.value xs else xs) ∙ at (w.mem == m)
+count_put_all t m n (w ∷ ws) xs = count_put_all t m n ws (if w.mem == m then with_value_of n w.var w.value xs else xs) ∙ at (w.mem == m)
   where
-    at : (b : Bool) → count_older t (cond b (with_value_of n w.value xs) xs) ≡ count_older t xs
-    at true = put_older t n w.value xs
+    at : (b : Bool) → count_older t (cond b (with_value_of n w.var w.value xs) xs) ≡ count_older t xs
+    at true = put_older t n w.var w.value xs
     at false = refl
 
 -- values that are written leave the number of older threads' pending writes as it is
@@ -61,38 +61,38 @@ none_older t k [] f h = refl
 none_older t k (x ∷ xs) f h =
     ap (λ b. cond b (suc (count_older t xs)) (count_older t xs)) (le-ltb x.thread t (let e = f.0 in omega arith)) ∙ none_older t k xs f.1 h
 
--- in the order of their threads, each once, from a on and below b
+-- in the order of their threads, from a on and below b
 abbrev pub Within : ℕ → ℕ → List Pending → Type 0
 Within a b [] = a ≤ b
-Within a b (x ∷ xs) = (a ≤ x.thread) × Within (x.thread + 1) b xs
+Within a b (x ∷ xs) = (a ≤ x.thread) × (x.thread < b) × Within x.thread b xs
 
 within_low : (a b c : ℕ) (xs : List Pending) → a ≤ b → Within b c xs → Within a c xs
 within_low a b c [] h w = omega arith
-within_low a b c (x ∷ xs) h w = (let i = w.0 in omega arith, w.1)
+within_low a b c (x ∷ xs) h w = (let i = w.0 in omega arith, w.1, w.2)
+
+-- where pending writes are in order from a to b, a is no greater than b
+pub within_order : (a b : ℕ) (xs : List Pending) → Within a b xs → a ≤ b
+within_order a b [] w = w
+within_order a b (x ∷ xs) w = let h = w.0 in let i = w.1 in omega arith
 
 -- pending writes in order from a to b, and others from b to c, are together in order from a to c
 pub within_append : (a b c : ℕ) (xs ys : List Pending) → Within a b xs → Within b c ys → Within a c (xs ++ ys)
 within_append a b c [] ys v w = within_low a b c ys v w
-within_append a b c (x ∷ xs) ys v w = (v.0, within_append (x.thread + 1) b c xs ys v.1 w)
+within_append a b c (x ∷ xs) ys v w = (v.0, let h = v.1 in let i = within_order b c ys w in omega arith, within_append x.thread b c xs ys v.2 w)
 
 -- at most one pending write, of a thread from a on and below b, is in order from a to b
-pub within_one : (a b n : ℕ) (xs : List Pending) → a ≤ n → n < b → AllOf n xs → length xs ≤ 1 → Within a b xs
-within_one a b n [] h i f k = omega arith
-within_one a b n (x ∷ []) h i f k = (let e = f.0 in omega arith, let e = f.0 in omega arith)
-within_one a b n (x ∷ y ∷ xs) h i f k = absurd (omega arith)
+pub within_of : (a b n : ℕ) (xs : List Pending) → a ≤ n → n < b → AllOf n xs → Within a b xs
+within_of a b n [] h i f = omega arith
+within_of a b n (x ∷ xs) h i f = (let e = f.0 in omega arith, let e = f.0 in omega arith, within_of x.thread b n xs (let e = f.0 in omega arith) i f.1)
 
 -- pending writes in order from a to b are in order from a on
 pub within_ordered : (a b : ℕ) (xs : List Pending) → Within a b xs → AreOrdered a xs
 within_ordered a b [] w = tt
-within_ordered a b (x ∷ xs) w = (w.0, within_ordered (x.thread + 1) b xs w.1)
-
-within_order : (a b : ℕ) (xs : List Pending) → Within a b xs → a ≤ b
-within_order a b [] w = w
-within_order a b (x ∷ xs) w = let h = within_order (x.thread + 1) b xs w.1 in let i = w.0 in omega arith
+within_ordered a b (x ∷ xs) w = (w.0, within_ordered x.thread b xs w.2)
 
 -- pending writes of threads below b are all older than thread t, where t is at least b
 pub within_count : (a b t : ℕ) (xs : List Pending) → Within a b xs → b ≤ t → count_older t xs ≡ length xs
 within_count a b t [] w h = refl
 within_count a b t (x ∷ xs) w h =
-    ap (λ c. cond c (suc (count_older t xs)) (count_older t xs)) (lt-ltb x.thread t (let i = within_order (x.thread + 1) b xs w.1 in omega arith))
-    ∙ ap suc (within_count (x.thread + 1) b t xs w.1 h)
+    ap (λ c. cond c (suc (count_older t xs)) (count_older t xs)) (lt-ltb x.thread t (let i = w.1 in omega arith))
+    ∙ ap suc (within_count x.thread b t xs w.2 h)

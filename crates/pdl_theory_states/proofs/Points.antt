@@ -1,30 +1,34 @@
 -- The points of Sound state that hold of all live threads alike.
-use Rattle.std.proofs.Common.{◌≡◌, refl, sym, ap, ap₂, ◌∙◌, subst, ℕ, ◌<◌, ◌⊎◌, inl, inr, Bool, true, false, ◌&&◌, ◌||◌, not, List, [], ◌∷◌, ◌++◌, length, ◌==◌, cond, arith, slice_index, eq-eqb, lt-ltb}
-use Rattle.std.proofs.lemmas.Bool.{or_right, or_left}
-use Rattle.pdl_semantics.specs.Flat.{Pipe, Op, Bind, CombRead, DelayedRead, Write, ReserveRead, ReserveWrite, Block, Release, Call, SpecCall, Verify, SpecCheck, SpecBarrier, Stmt, list_all, values_of}
-use Rattle.pdl_semantics.specs.Stages.{list_any, mem_at}
+use Rattle.std.proofs.Common.{◌≡◌, refl, sym, ap, ap₂, ◌∙◌, subst, ℕ, ◌<◌, ◌⊎◌, inl, inr, Bool, true, false, ◌&&◌, ◌||◌, not, List, [], ◌∷◌, ◌++◌, length, ◌==◌, cond, arith, slice_index, eq-eqb, lt-ltb, ltb-true, ltb-false, nat_lt}
+use Rattle.std.proofs.lemmas.Bool.{or_right, or_left, not-true}
+use Rattle.pdl_semantics.specs.Flat.{Pipe, Op, Bind, CombRead, DelayedRead, Write, ReserveRead, ReserveWrite, Block, Release, Call, SpecCall, Verify, SpecCheck, SpecBarrier, AdviceBind, AdviceRead, AdviceWrite, Stmt, list_all}
+use Rattle.pdl_semantics.specs.Stages.{list_any, is_release, commit_stage, mem_at}
 use Rattle.pdl_semantics.specs.Locks.{read_ready, write_ready}
 use Rattle.pdl_semantics.specs.Machine.{State, Awaited, Kept, Pending, HeldLocation, lock_of, request_of, same_args, is_held, held_before, older_write}
 use Rattle.pdl_semantics.specs.Moves.{block_ready}
-use Rattle.pdl_semantics.specs.Sound.{are_linked, is_kept_or_awaited, asks_right, is_owner, is_release_at, stays_ready, on_path, is_done, right_place, is_fetch, held_places, has_done, is_call}
+use Rattle.pdl_semantics.specs.Sound.{stages_before, are_linked, is_kept_or_awaited, asks_right, is_owner, is_release_at, stays_ready, on_path, is_done, right_place, is_fetch, held_places, has_done, is_call, guess_of, guess_after}
 use Rattle.pdl_semantics.specs.Sound
-use Rattle.pdl_theory_derived.specs.Derived.{Entry, has_entry, latest, awaits_mem}
-use Rattle.pdl_theory_facts.specs.Scans.{called}
+use Rattle.pdl_theory_derived.specs.Derived.{Entry, has_entry, latest, awaits_mem, Hint}
+use Rattle.pdl_theory_facts.specs.Scans.{called, none_of}
+use Rattle.pdl_theory_turns.proofs.Paths.{none_onpath}
+use Rattle.pdl_theory_simulation.proofs.Shapes.{none_till}
+use Rattle.pdl_theory_derived.proofs.Writes.{and_left, and_right}
 use Rattle.pdl_theory_facts.specs.Facts.{Sound}
 use Rattle.pdl_theory_simulation.proofs.AcceptedFacts.{sound_flows}
 use Rattle.pdl_theory_turns.proofs.Guesses.{same_args_refl}
 use Rattle.pdl_theory_derived.proofs.Deeds.{places, places_has}
 use Rattle.pdl_theory_derived.proofs.Lists.{own, pend}
-use Rattle.pdl_theory_simulation.proofs.Stretches.{on_way, has_made}
+use Rattle.pdl_theory_simulation.proofs.Stretches.{on_way, has_made, late}
 use Rattle.pdl_theory_simulation.proofs.Seats.{Live, threads_of, each_map}
 use Rattle.pdl_theory_simulation.proofs.Choices.{Seated}
 use Rattle.pdl_theory_simulation.proofs.Choices
 use Rattle.pdl_theory_states.proofs.OldestFirst.{told, oldest_first, AllLive, live_each}
-use Rattle.pdl_theory_states.proofs.PastStatements.{BlockOk, AllPlaced, is_released}
-use Rattle.pdl_theory_states.proofs.UnusedValues.{AllOps, onto, Done}
+use Rattle.pdl_theory_states.proofs.PastStatements.{BlockOk, is_released, AllStand, let_go, standing}
+use Rattle.pdl_theory_states.proofs.UnusedValues.{AllOps, onto, Done, guess_past}
 use Rattle.pdl_theory_states.proofs.Trails.{AllStmts, stmts_map, stmts_ops, trail_comes}
 use Rattle.pdl_theory_states.proofs.ThreadHistory.{Local, here, past_of}
 use Rattle.pdl_theory_states.proofs.FetchCounts.{HeldOp, count_is, any_append, any_front}
+use Rattle.pdl_theory_states.proofs.Guessed.{GuessDone}
 use Rattle.pdl_theory_states.proofs.Stage.{look_at}
 use Rattle.pdl_theory_simulation.proofs.SimulatedStates.{HaveMade}
 
@@ -114,10 +118,10 @@ chain p l ls h k =
 
 -- 7. REQUESTS
 
-held_op : (kept : List Kept) (awaits : List Awaited) (n : ℕ) (env guess : List ℕ) (op : Op) → HeldOp kept awaits op
-    → is_kept_or_awaited (record { number = n; env = env; guess = guess; awaits = awaits; kept = kept }) op ≡ true
-held_op kept awaits n env guess (DelayedRead x m a) h = h x m a refl
-held_op kept awaits n env guess _ h = refl
+held_op : (kept : List Kept) (awaits : List Awaited) (n : ℕ) (advice : List Kept) (env guess : List ℕ) (op : Op) → HeldOp kept awaits op
+    → is_kept_or_awaited (record { number = n; env = env; advice = advice; guess = guess; awaits = awaits; kept = kept }) op ≡ true
+held_op kept awaits n advice env guess (DelayedRead x m a) h = h x m a refl
+held_op kept awaits n advice env guess _ h = refl
 
 imply : (b c : Bool) → (b ≡ true → c ≡ true) → (not b || c) ≡ true
 imply true c f = f refl
@@ -133,7 +137,7 @@ pub asks_point : (p : Pipe) (st : State) (l : Live) → Seated p st l → Local 
 asks_point p st l seated loc =
     ap₂ (λ a b. a && b) (both_true
     (stmts_all _ (on_way p l.env l.thread.stage)
-    (stmts_map (λ z f. imply (here p l.env l.thread.stage z) _ (λ i. held_op l.kept l.thread.awaits l.number l.env l.thread.guess z.op (f i)))
+    (stmts_map (λ z f. imply (here p l.env l.thread.stage z) _ (λ i. held_op l.kept l.thread.awaits l.number l.advice l.env l.thread.guess z.op (f i)))
     (on_way p l.env l.thread.stage) loc.held))
     (owners_all st l.number l.thread.awaits seated.owned))
     (eq-eqb _ _ (loc.total ∙ count_is (λ (x : Stmt). here p l.env l.thread.stage x && is_fetch x.op) (on_way p l.env l.thread.stage)))
@@ -202,8 +206,11 @@ module _ (p : Pipe) (st : State) (l : Live) (older : List Live)
   block_op (Release m a) h = refl
   block_op (Call args) h = refl
   block_op (SpecCall args) h = refl
-  block_op (Verify args) h = refl
+  block_op (Verify last args) h = refl
   block_op SpecCheck h = refl
+  block_op (AdviceBind x' e') h = refl
+  block_op (AdviceRead x' m' a') h = refl
+  block_op (AdviceWrite m' a' e') h = refl
   block_op SpecBarrier h = refl
 
   -- where each block that a thread has passed is ready or let go, the test of Sound state on blocks passes
@@ -218,7 +225,7 @@ module _ (p : Pipe) (st : State) (l : Live) (older : List Live)
 
 done_op : (st : State) (l : Live) (op : Op) → Done l.env l.thread.guess op → is_done st (told l) op ≡ true
 done_op st l (Bind x e) h = eq-eqb _ _ h
-done_op st l (SpecCall args) h = ap (λ g. same_args g (values_of args l.env)) h ∙ same_args_refl (values_of args l.env)
+done_op st l (SpecCall args) h = refl
 done_op st l (CombRead x m a) h = refl
 done_op st l (DelayedRead x m a) h = refl
 done_op st l (Write m a e) h = refl
@@ -227,42 +234,94 @@ done_op st l (ReserveWrite m a) h = refl
 done_op st l (Block m a) h = refl
 done_op st l (Release m a) h = refl
 done_op st l (Call args) h = refl
-done_op st l (Verify args) h = refl
+done_op st l (Verify last args) h = refl
 done_op st l SpecCheck h = refl
 done_op st l SpecBarrier h = refl
+done_op st l (AdviceBind x e) h = refl
+done_op st l (AdviceRead x m a) h = refl
+done_op st l (AdviceWrite m a e) h = refl
+
+-- the guess after statements that were carried out one after another is what these give, in the order of the text
+pub guess_onto : (hint : Hint) (advice : List Kept) (env : List ℕ) (xs : List Stmt) (past : List Op) → AllOps (GuessDone advice env hint) (onto xs past)
+    → guess_past hint (onto xs past) env ≡ guess_of xs advice env (guess_past hint past env)
+guess_onto hint advice env [] past h = refl
+guess_onto hint advice env (x ∷ xs) past h =
+    guess_onto hint advice env xs (x.op ∷ past) h ∙ ap (guess_of xs advice env) (one x.op (first xs (x.op ∷ past) h).0)
+  where
+    first : (ys : List Stmt) (ops : List Op) → AllOps (GuessDone advice env hint) (onto ys ops) → AllOps (GuessDone advice env hint) ops
+    first [] ops k = k
+    first (y ∷ ys) ops k = (first ys (y.op ∷ ops) k).1
+
+    one : (op : Op) → GuessDone advice env hint op → guess_past hint (op ∷ past) env ≡ guess_after op advice env (guess_past hint past env)
+    one (SpecCall args) k = k
+    one (Verify true args) k = refl
+    one (Verify false args) k = k
+    one _ k = refl
+
+never_go : (m : ℕ) (xs : List Stmt) → none_of (is_release m) xs ≡ true → let_go m (onto xs []) ≡ true → ⊥
+never_go m xs n h = at (onto_any (is_release m) (let_go m) (λ op ops. refl) xs [] h)
+  where
+    none : (ys : List Stmt) → none_of (is_release m) ys ≡ true → list_any (λ (x : Stmt). is_release m x.op) ys ≡ false
+    none [] h = refl
+    none (y ∷ ys) h = ap₂ (λ a b. a || b) (not-true _ (and_left _ _ h)) (none ys (and_right (not (is_release m y.op)) _ h))
+
+    at : (list_any (λ (x : Stmt). is_release m x.op) xs ≡ true) ⊎ (false ≡ true) → ⊥
+    at (inl k) = absurd (cc (sym k ∙ none xs n))
+    at (inr k) = absurd (cc k)
 
 abbrev places_test : ℕ → List ℕ → HeldLocation → Pending → Bool
-places_test n env h e = (e.thread == n) && (e.address == slice_index env h.var)
+places_test n env h e = (e.thread == n) && ((e.var == h.var) && (e.address == slice_index env h.var))
 
 -- each pending write of a thread is in its lock's list
-own_places : (n : ℕ) (env : List ℕ) (past : List Op) (es : List Entry) → AllPlaced env past es
+own_places : (n : ℕ) (env : List ℕ) (es : List Entry) → AllStand env es
     → (test : HeldLocation → Bool)
     → ((h : HeldLocation) → list_any (places_test n env h) (pend h.mem n es) ≡ true → test h ≡ true)
     → list_all test (places es) ≡ true
-own_places n env past [] h test f = refl
-own_places n env past (e ∷ es) h test f =
+own_places n env [] h test f = refl
+own_places n env (e ∷ es) h test f =
     both_true (f (record { mem = e.mem; var = e.var }) (any_append (places_test n env (record { mem = e.mem; var = e.var })) (pend e.mem n es) _ mine))
-    (own_places n env past es h.2 test (λ g k. f g (any_front (places_test n env g) (pend g.mem n es) _ k)))
+    (own_places n env es h.1 test (λ g k. f g (any_front (places_test n env g) (pend g.mem n es) _ k)))
   where
     mine : list_any (places_test n env (record { mem = e.mem; var = e.var })) (cond (e.mem == e.mem) (own n e ∷ []) []) ≡ true
     mine =
         ap (λ b. list_any (places_test n env (record { mem = e.mem; var = e.var })) (cond b (own n e ∷ []) [])) (eq-eqb e.mem e.mem refl)
-        ∙ ap₂ (λ a b. (a && b) || false) (eq-eqb n n refl) (eq-eqb _ _ h.0)
+        ∙ ap₂ (λ a b. (a && b) || false) (eq-eqb n n refl) (ap₂ (λ a b. a && b) (eq-eqb e.var e.var refl) (eq-eqb _ _ h.0))
 
 module _ (p : Pipe) (sound : Sound p) where
   -- a thread that keeps to its path, with its pending writes in the locks' lists, passes the test of Sound state on paths
-  pub path_point : (st : State) (l : Live) → Seated p st l → Local p l.env l.kept l.thread → l.number < st.next
+  pub path_point : (st : State) (l : Live)
+      → Seated p st l → Local p l.env l.kept l.thread → AllOps (GuessDone l.advice l.env l.thread.hint) (past_of p l.env l.thread.stage)
+      → l.number < st.next
       → ((m : ℕ) (test : Pending → Bool) → list_any test (pend m l.number l.thread.entries) ≡ true → list_any test (lock_of st m) ≡ true)
       → on_path p st (told l) ≡ true
-  path_point st l seated loc low locks =
-      both_true (both_true (both_true
+  path_point st l seated loc guessed low locks =
+      both_true (both_true (both_true (both_true
       (trail_comes p (sound_flows p sound).graph l.env l.thread.stage l.thread.stage
       (length p.stages) 1 loc.trail loc.walked (or_left (l.thread.stage == l.thread.stage) _ (eq-eqb _ _ refl))
       (let i = seated.keeps_on.inside in omega arith))
       (stmts_all _ (on_way p l.env l.thread.stage)
       (stmts_map (λ z d. done_op st l z.op d) (on_way p l.env l.thread.stage)
       (stmts_ops (Done l.env l.thread.guess) (on_way p l.env l.thread.stage) [] loc.done).0)))
+      (ap (λ g. same_args g (guess_of (on_way p l.env l.thread.stage) l.advice l.env []))
+      (loc.guessed ∙ guess_onto l.thread.hint l.advice l.env (on_way p l.env l.thread.stage) [] guessed)
+      ∙ same_args_refl (guess_of (on_way p l.env l.thread.stage) l.advice l.env [])))
       (subst (λ hs. list_all (right_place st (told l)) hs ≡ true) seated.keeps_on.held
-      (own_places l.number l.env (past_of p l.env l.thread.stage) l.thread.entries loc.placed (right_place st (told l))
+      (own_places l.number l.env l.thread.entries stand (right_place st (told l))
       (λ h k. locks h.mem (places_test l.number l.env h) k))))
       (lt-ltb _ _ low)
+    where
+      -- what is released is released whole
+      past : (m : ℕ) → let_go m (past_of p l.env l.thread.stage) ≡ true → commit_stage p m < l.thread.stage
+      past m k = at (nat_lt (commit_stage p m) l.thread.stage) refl
+        where
+          at : (b : Bool) → nat_lt (commit_stage p m) l.thread.stage ≡ b → commit_stage p m < l.thread.stage
+          at true e = ltb-true _ _ e
+          at false e =
+              absurd (never_go m (on_way p l.env l.thread.stage)
+              (none_onpath (is_release m) l.env (stages_before l.thread.stage p.stmts)
+              (none_till (is_release m) (commit_stage p m) l.thread.stage p.stmts ((sound_flows p sound).releases m) (ltb-false _ _ e))) k)
+
+      stand : AllStand l.env l.thread.entries
+      stand =
+          standing l.env (past_of p l.env l.thread.stage) l.thread.entries loc.placed
+          (λ m k. late p (sound_flows p sound) l.env l.thread seated.keeps_on m (past m k))

@@ -5,9 +5,9 @@ use Rattle.pdl_semantics.specs.Stages.{onpath, in_stage, stage_at, goes_to}
 use Rattle.pdl_semantics.specs.Machine.{State}
 use Rattle.pdl_semantics.specs.Moves.{movers}
 use Rattle.pdl_semantics.specs.Cycle.{squasher, state_after, cycle, first}
-use Rattle.pdl_semantics.specs.Cycle
 use Rattle.pdl_theory_derived.specs.Derived.{find_ask, fresh, around}
 use Rattle.pdl_theory_derived.specs.Derived
+use Rattle.pdl_theory_derived.specs.Simulation.{hints_of}
 use Rattle.pdl_theory_facts.specs.GuessScans.{Unmade, next_making, making_all, is_made}
 use Rattle.pdl_theory_facts.specs.Scans.{called}
 use Rattle.pdl_theory_facts.specs.Facts.{Sound}
@@ -18,21 +18,26 @@ use Rattle.pdl_theory_turns.proofs.Looks.{path_looked}
 use Rattle.pdl_theory_turns.proofs.StrayPaths.{making_looked}
 use Rattle.pdl_theory_simulation.proofs.Shapes.{called_append}
 use Rattle.pdl_theory_simulation.proofs.Stretches.{on_way, has_made, way_next, fixed_here, start_of}
-use Rattle.pdl_theory_simulation.proofs.Seats.{Live, threads_of, Ordered, dacts, lacts, did, now_of, work_of_live}
+use Rattle.pdl_theory_simulation.proofs.Seats.{advised, Live, threads_of, Ordered, dacts, lacts, did, now_of, work_of_live}
 use Rattle.pdl_theory_simulation.proofs.Choices.{Known, AllKnown, keeps_now}
+use Rattle.pdl_theory_simulation.proofs.Sayings.{AllForeseen}
 use Rattle.pdl_theory_simulation.proofs.LockLists.{fell, moved_live, stood, go_on, Agrees}
 use Rattle.pdl_theory_simulation.proofs.LiveThreads.{made, childed_here, born_live, lives_next}
 use Rattle.pdl_theory_simulation.proofs.Requests.{Asker, asking, one_asks, first_of}
-use Rattle.pdl_theory_simulation.proofs.WholeSimulation.{known, fit, after_is, cycle_sim}
+use Rattle.pdl_theory_simulation.proofs.WholeSimulation.{foreseen, fit, after_is, cycle_sim}
 use Rattle.pdl_theory_simulation.proofs.SimulatedRuns.{first_sim, first_live}
+use Rattle.pdl_theory_simulation.proofs.Foretold.{Foretells, foretold_here, foretells_next, first_foretells, stays_called}
 use Rattle.pdl_theory_states.specs.Strict.{Strict}
 use Rattle.pdl_theory_states.proofs.PastStatements.{BlockOk}
+use Rattle.pdl_theory_states.proofs.Guessed.{GuessDone}
 use Rattle.pdl_theory_states.proofs.UnusedValues.{AllOps, onto}
 use Rattle.pdl_theory_states.proofs.ThreadHistory.{local_fresh}
 use Rattle.pdl_theory_states.proofs.Stage.{barred, look_at, childless}
 use Rattle.pdl_theory_states.proofs.ThreadFacts.{Lasting, Along, lasting_stood, lasting_moved}
 use Rattle.pdl_semantics.specs.Sound.{is_call}
 use Rattle.pdl_theory_simulation.proofs.SimulatedStates.{Sim}
+use Rattle.pdl_theory_simulation.proofs.CycleStarts.{next_state, known}
+use Rattle.pdl_theory_simulation.proofs.Orders.{AllForetold}
 
 -- the youngest has not made its successor
 abbrev pub Youngest : Pipe → List Live → Type 0
@@ -48,12 +53,8 @@ pub record Whole (p : Pipe) (st : State) (ls : List Live) : Type 0 where
 unmade_op : (op : Op) → call_ok false op ≡ true → is_call op ≡ false → next_making Unmade op ≡ Unmade
 unmade_op (Call args) h k = absurd (cc k)
 unmade_op (SpecCall args) h k = absurd (cc k)
-unmade_op (Verify args) h k = absurd (cc h)
+unmade_op (Verify last args) h k = absurd (cc h)
 unmade_op _ h k = refl
-
-stays_called : (xs : List Stmt) → called true xs ≡ true
-stays_called [] = refl
-stays_called (x ∷ xs) = stays_called xs
 
 unmade_all : (xs : List Stmt) → calls_ok false xs ≡ true → called false xs ≡ false → making_all Unmade xs ≡ Unmade
 unmade_all [] h k = refl
@@ -80,11 +81,12 @@ module _ (p : Pipe) (sound : Sound p) (strict : Strict p) where
       at true e = e
       at false e = absurd (unmade (unmade_all (onpath path p.stmts) ((sound_flows p sound).calls path) e))
 
-  fresh_lasting : (st : State) (n : ℕ) (args : List ℕ) (older : List Live)
-      → Lasting p st (record { number = n; thread = fresh p args; env = (fresh p args).env; kept = [] }) older
-  fresh_lasting st n args older =
+  fresh_lasting : (st : State) (n : ℕ) (hint : Derived.Hint) (args : List ℕ) (older : List Live)
+      → Lasting p st (record { number = n; thread = fresh p hint args; env = (fresh p hint args).env; kept = []; advice = [] }) older
+  fresh_lasting st n hint args older =
       record {
-        local = local_fresh p (sound_flows p sound) args;
+        local = local_fresh p (sound_flows p sound) hint args;
+        guessed = subst (λ l. AllOps (GuessDone [] (start_env p args) hint) (onto l [])) (sym ((sound_flows p sound).first_piece (start_env p args))) tt;
         owns = tt;
         certain = λ v e h. absurd (cc (sym (ap (λ l. barred (onto l [])) ((sound_flows p sound).first_piece (start_env p args))) ∙ h));
         blocks =
@@ -95,18 +97,21 @@ module _ (p : Pipe) (sound : Sound p) (strict : Strict p) where
   fresh_young : (args : List ℕ) → has_made p (start_env p args) 0 ≡ false
   fresh_young args = ap (called false) ((sound_flows p sound).first_piece (start_env p args))
 
-  module _ (st : State) (d : Derived.State) (bits : List Bool) (ls : List Live) (sim : Sim p st d ls) where
+  module _ (st : State) (d : Derived.State) (bits : List Bool) (ls : List Live) (sim : Sim p st d ls)
+      (told : AllForetold p (sound_flows p sound) st d bits sim.arrays ls) where
     -- the threads that live on
-    along_on : (ks : List Live) → AllKnown p (sound_flows p sound) st d bits sim.arrays ks → Ordered p ks
+    along_on : (ks : List Live)
+        → AllKnown p (sound_flows p sound) st d bits sim.arrays ks → AllForeseen p (sound_flows p sound) st d bits sim.arrays ks
+        → Ordered p ks
         → Agrees p d bits (squasher (movers (lacts p st d bits ls))) ks
         → ((m : ℕ) (a : Asker) → asking p (sound_flows p sound) st d bits sim.arrays ks m ≡ Some a
         → asking p (sound_flows p sound) st d bits sim.arrays ls m ≡ Some a)
         → Along (Lasting p st) ks
-        → Along (Lasting p (Cycle.after_these p st bits (lacts p st d bits ls) (movers (lacts p st d bits ls)) (squasher (movers (lacts p st d bits ls)))))
+        → Along (Lasting p (next_state p (sound_flows p sound) st d bits ls sim))
         (go_on p st d bits ks)
-    along_on [] k o g h a = tt
-    along_on (l ∷ ks) k o g h a =
-        at (fell p d bits ks) refl (did p d bits ks l).moves refl (along_on ks k.1 o.1 g.1 (λ m x e. h m x (older m x e (did p d bits ks l).moves)) a.1)
+    along_on [] k fs o g h a = tt
+    along_on (l ∷ ks) k fs o g h a =
+        at (fell p d bits ks) refl (did p d bits ks l).moves refl (along_on ks k.1 fs.1 o.1 g.1 (λ m x e. h m x (older m x e (did p d bits ks l).moves)) a.1)
       where
         older : (m : ℕ) (x : Asker) → asking p (sound_flows p sound) st d bits sim.arrays ks m ≡ Some x → (b : Bool)
             → cond b (first_of (find_ask (work_of_live p d bits ks l).asks m) l.number (asking p (sound_flows p sound) st d bits sim.arrays ks m))
@@ -126,44 +131,45 @@ module _ (p : Pipe) (sound : Sound p) (strict : Strict p) where
             (asking p (sound_flows p sound) st d bits sim.arrays ks m)) i e
 
         P : Live → List Live → Type 0
-        P = Lasting p (Cycle.after_these p st bits (lacts p st d bits ls) (movers (lacts p st d bits ls)) (squasher (movers (lacts p st d bits ls))))
+        P = Lasting p (next_state p (sound_flows p sound) st d bits ls sim)
 
         out : fell p d bits ks ≡ false → (did p d bits ks l).moves ≡ true → (r : Option ℕ)
             → goes_to (stage_at p l.thread.stage).next (work_of_live p d bits ks l).env ≡ r
-            → Along (Lasting p (Cycle.after_these p st bits (lacts p st d bits ls) (movers (lacts p st d bits ls)) (squasher (movers (lacts p st d bits ls)))))
+            → Along (Lasting p (next_state p (sound_flows p sound) st d bits ls sim))
             (go_on p st d bits ks)
-            → Along (Lasting p (Cycle.after_these p st bits (lacts p st d bits ls) (movers (lacts p st d bits ls)) (squasher (movers (lacts p st d bits ls)))))
-            (moved_live r l (work_of_live p d bits ks l) ++ go_on p st d bits ks)
+            → Along (Lasting p (next_state p (sound_flows p sound) st d bits ls sim))
+            (moved_live r (advised p st bits l) (work_of_live p d bits ks l) ++ go_on p st d bits ks)
         out f i None e r = r
         out f i (Some q) e r =
-            (lasting_moved p sound strict st d bits ls sim ks l k.0 k.1 o.1 o.0 f (g.0 ∙ ap not f) a.0 i (λ m x u. h m _ (mine i m x u)) q e, r)
+            (lasting_moved p sound strict st d bits ls sim told ks l k.0 k.1 o.1 o.0 f (g.0 ∙ ap not f) a.0 i (fs.0 i) (λ m x u. h m _ (mine i m x u)) q e, r)
 
         at : (f : Bool) → fell p d bits ks ≡ f → (b : Bool) → (did p d bits ks l).moves ≡ b
-            → Along (Lasting p (Cycle.after_these p st bits (lacts p st d bits ls) (movers (lacts p st d bits ls)) (squasher (movers (lacts p st d bits ls)))))
+            → Along (Lasting p (next_state p (sound_flows p sound) st d bits ls sim))
             (go_on p st d bits ks)
-            → Along (Lasting p (Cycle.after_these p st bits (lacts p st d bits ls) (movers (lacts p st d bits ls)) (squasher (movers (lacts p st d bits ls)))))
+            → Along (Lasting p (next_state p (sound_flows p sound) st d bits ls sim))
             ((if f then []
-            else cond b (moved_live (goes_to (stage_at p l.thread.stage).next (work_of_live p d bits ks l).env) l (work_of_live p d bits ks l))
+            else cond b
+            (moved_live (goes_to (stage_at p l.thread.stage).next (work_of_live p d bits ks l).env) (advised p st bits l) (work_of_live p d bits ks l))
             (stood p st d bits l ∷ []))
             ++ go_on p st d bits ks)
         at true e b i r = r
         at false e true i r = out e i (goes_to (stage_at p l.thread.stage).next (work_of_live p d bits ks l).env) refl r
-        at false e false i r = (lasting_stood p sound strict st d bits ls sim ks l k.0 k.1 o.1 o.0 e (g.0 ∙ ap not e) a.0, r)
+        at false e false i r = (lasting_stood p sound strict st d bits ls sim told ks l k.0 k.1 o.1 o.0 e (g.0 ∙ ap not e) a.0, r)
 
-    along_next : Along (Lasting p st) ls
-        → Along (Lasting p (Cycle.after_these p st bits (lacts p st d bits ls) (movers (lacts p st d bits ls)) (squasher (movers (lacts p st d bits ls)))))
+    along_next : AllForeseen p (sound_flows p sound) st d bits sim.arrays ls → Along (Lasting p st) ls
+        → Along (Lasting p (next_state p (sound_flows p sound) st d bits ls sim))
         (lives_next p (sound_flows p sound) st d bits sim.arrays ls)
-    along_next a =
+    along_next fs a =
         at (made p (sound_flows p sound) st d bits sim.arrays ls)
-        (along_on ls (known p (sound_flows p sound) st d bits ls sim) sim.ordered (fit p (sound_flows p sound) st d bits ls sim) (λ m x e. e) a)
+        (along_on ls (known p (sound_flows p sound) st d bits ls sim) fs sim.ordered (fit p (sound_flows p sound) st d bits ls sim told) (λ m x e. e) a)
       where
         at : (c : Option (List ℕ))
-            → Along (Lasting p (Cycle.after_these p st bits (lacts p st d bits ls) (movers (lacts p st d bits ls)) (squasher (movers (lacts p st d bits ls)))))
+            → Along (Lasting p (next_state p (sound_flows p sound) st d bits ls sim))
             (go_on p st d bits ls)
-            → Along (Lasting p (Cycle.after_these p st bits (lacts p st d bits ls) (movers (lacts p st d bits ls)) (squasher (movers (lacts p st d bits ls)))))
-            (born_live p st.next c ++ go_on p st d bits ls)
+            → Along (Lasting p (next_state p (sound_flows p sound) st d bits ls sim))
+            (born_live p (d.hints 0) st.next c ++ go_on p st d bits ls)
         at None r = r
-        at (Some x) r = (fresh_lasting _ st.next x (go_on p st d bits ls), r)
+        at (Some x) r = (fresh_lasting _ st.next (d.hints 0) x (go_on p st d bits ls), r)
 
     -- THE YOUNGEST
 
@@ -193,12 +199,12 @@ module _ (p : Pipe) (sound : Sound p) (strict : Strict p) where
         → has_made p (work_of_live p d bits ks l).env (next_of p l.thread.stage (work_of_live p d bits ks l).env) ≡ false
     unmade_next ks l k y c =
         let keeps = keeps_now p (sound_flows p sound) st d bits sim.arrays l k.seated in
-        ap (called false) (way_next p (sound_flows p sound) l.env (now_of p d bits l) keeps (around p d bits (dacts p d bits ks) l.thread.stage))
+        ap (called false) (way_next p (sound_flows p sound) l.env (now_of p d bits l) keeps (around p d bits (dacts p d bits ks) l.thread.stage l.thread.hint))
         ∙ called_append false (on_way p l.env l.thread.stage) _
         ∙ ap (λ b. called b (onpath (work_of_live p d bits ks l).env (in_stage l.thread.stage p.stmts))) y
-        ∙ childless (work_of_live p d bits ks l).env (around p d bits (dacts p d bits ks) l.thread.stage)
+        ∙ childless (work_of_live p d bits ks l).env (around p d bits (dacts p d bits ks) l.thread.stage l.thread.hint)
         (in_stage l.thread.stage p.stmts) (start_of (now_of p d bits l))
-        (fixed_here p (sound_flows p sound) l.env (now_of p d bits l) keeps (around p d bits (dacts p d bits ks) l.thread.stage)) c
+        (fixed_here p (sound_flows p sound) l.env (now_of p d bits l) keeps (around p d bits (dacts p d bits ks) l.thread.stage l.thread.hint)) c
 
     young_on : (ks : List Live) → AllKnown p (sound_flows p sound) st d bits sim.arrays ks
         → made p (sound_flows p sound) st d bits sim.arrays ks ≡ None → Youngest p ks
@@ -217,7 +223,7 @@ module _ (p : Pipe) (sound : Sound p) (strict : Strict p) where
 
         out : (work_of_live p d bits ks l).child ≡ None → (r : Option ℕ)
             → goes_to (stage_at p l.thread.stage).next (work_of_live p d bits ks l).env ≡ r
-            → Youngest p (moved_live r l (work_of_live p d bits ks l) ++ go_on p st d bits ks)
+            → Youngest p (moved_live r (advised p st bits l) (work_of_live p d bits ks l) ++ go_on p st d bits ks)
         out c None i =
             absurd
             (cc
@@ -234,7 +240,8 @@ module _ (p : Pipe) (sound : Sound p) (strict : Strict p) where
             ≡ None
             → Youngest p
             ((if f then []
-            else cond b (moved_live (goes_to (stage_at p l.thread.stage).next (work_of_live p d bits ks l).env) l (work_of_live p d bits ks l))
+            else cond b
+            (moved_live (goes_to (stage_at p l.thread.stage).next (work_of_live p d bits ks l).env) (advised p st bits l) (work_of_live p d bits ks l))
             (stood p st d bits l ∷ []))
             ++ go_on p st d bits ks)
         at true f b i = absurd (fell_made ks k.1 f (later b i))
@@ -244,7 +251,9 @@ module _ (p : Pipe) (sound : Sound p) (strict : Strict p) where
     young_next : Youngest p ls → Youngest p (lives_next p (sound_flows p sound) st d bits sim.arrays ls)
     young_next y = at (made p (sound_flows p sound) st d bits sim.arrays ls) refl
       where
-        at : (c : Option (List ℕ)) → made p (sound_flows p sound) st d bits sim.arrays ls ≡ c → Youngest p (born_live p st.next c ++ go_on p st d bits ls)
+        at : (c : Option (List ℕ))
+            → made p (sound_flows p sound) st d bits sim.arrays ls ≡ c
+            → Youngest p (born_live p (d.hints 0) st.next c ++ go_on p st d bits ls)
         at None e = young_on ls (known p (sound_flows p sound) st d bits ls sim) e y
         at (Some x) e = fresh_young x
 
@@ -252,24 +261,35 @@ module _ (p : Pipe) (sound : Sound p) (strict : Strict p) where
     whole_next w = record {
       along =
           subst (λ s. Along (Lasting p s) (lives_next p (sound_flows p sound) st d bits sim.arrays ls))
-          (sym (after_is p (sound_flows p sound) st d bits ls sim)) (along_next w.along);
+          (sym (after_is p (sound_flows p sound) st d bits ls sim told)) (along_next (foreseen p (sound_flows p sound) st d bits ls sim told) w.along);
       youngest = young_next w.youngest;
     }
 
-  whole_run : (st : State) (d : Derived.State) (schedule : List (List Bool)) (ls : List Live) → Sim p st d ls
-      → Whole p st ls
-      → (ks : List Live) × Sim p (state_after p st schedule) (Derived.state_after p d schedule) ks × Whole p (state_after p st schedule) ks
-  whole_run st d [] ls sim w = (ls, sim, w)
-  whole_run st d (bits ∷ schedule) ls sim w =
+  -- a state of the stated machine that belongs to one of the derived machine; all this holds of the live threads, and they were given what they say next
+  pub record Reached (st : State) (d : Derived.State) (more : List (List Bool)) : Type 0 where
+    pub live : List Live
+    pub sim : Sim p st d live
+    pub whole : Whole p st live
+    pub foretells : Foretells p st d more live
+
+  whole_run : (st : State) (d : Derived.State) (schedule more : List (List Bool)) (ls : List Live) → Sim p st d ls
+      → Foretells p st d (schedule ++ more) ls → Whole p st ls
+      → Reached (state_after p st schedule) (Derived.state_after p d schedule) more
+  whole_run st d [] more ls sim f w = record { live = ls; sim = sim; whole = w; foretells = f }
+  whole_run st d (bits ∷ schedule) more ls sim f w =
+      let told = foretold_here p (sound_flows p sound) st d bits ls sim (schedule ++ more) f in
       whole_run (cycle p st bits)
-      (Derived.cycle p d bits) schedule (lives_next p (sound_flows p sound) st d bits sim.arrays ls)
-      (cycle_sim p (sound_flows p sound) st d bits ls sim) (whole_next st d bits ls sim w)
+      (Derived.cycle p d bits) schedule more (lives_next p (sound_flows p sound) st d bits sim.arrays ls)
+      (cycle_sim p (sound_flows p sound) st d bits ls sim told)
+      (foretells_next p (sound_flows p sound) st d bits ls sim told (schedule ++ more) f) (whole_next st d bits ls sim told w)
 
   -- every state that a run comes to belongs to one of the derived machine, and all this holds of its live threads
-  pub reached : (image : Arrays) (schedule : List (List Bool))
-      → (ks : List Live)
-      × Sim p (state_after p (first p image) schedule) (Derived.state_after p (Derived.first p image) schedule) ks
-      × Whole p (state_after p (first p image) schedule) ks
-  reached image schedule =
-      whole_run (first p image) (Derived.first p image) schedule (first_live p (sound_flows p sound) ∷ []) (first_sim p (sound_flows p sound) image)
-      (record { along = (fresh_lasting (first p image) 1 p.start [], tt); youngest = fresh_young p.start })
+  pub reached : (image : Arrays) (schedule more : List (List Bool))
+      → Reached (state_after p (first p image) schedule)
+      (Derived.state_after p (Derived.first p image (hints_of p (first p image) (schedule ++ more))) schedule) more
+  reached image schedule more =
+      whole_run (first p image) (Derived.first p image (hints_of p (first p image) (schedule ++ more))) schedule more
+      (first_live p (sound_flows p sound) (hints_of p (first p image) (schedule ++ more) 0) ∷ [])
+      (first_sim p (sound_flows p sound) image (hints_of p (first p image) (schedule ++ more)))
+      (first_foretells p (sound_flows p sound) image (schedule ++ more))
+      (record { along = (fresh_lasting (first p image) 1 (hints_of p (first p image) (schedule ++ more) 0) p.start [], tt); youngest = fresh_young p.start })

@@ -1,28 +1,29 @@
 -- Who has released a write of a memory: only threads past the stage of its releases, all threads of turns past it that write, and none after a wrong guess.
-use Rattle.std.proofs.Common.{◌≡◌, refl, sym, ap, ap₂, ◌∙◌, subst, ℕ, ◌<◌, Bool, true, false, ◌&&◌, ◌||◌, not, List, [], ◌∷◌, Some, ◌==◌, nat_lt, cond, arith, eq-eqb, ltb-true, ltb-false, lt-ltb}
+use Rattle.std.proofs.Common.{◌≡◌, refl, sym, ap, ap₂, ◌∙◌, subst, ℕ, ◌<◌, Bool, true, false, ◌&&◌, ◌||◌, not, List, [], ◌∷◌, ◌++◌, Some, ◌==◌, nat_lt, cond, arith, ltb-true, ltb-false, lt-ltb}
 use Rattle.std.proofs.lemmas.Bool.{eqb-true, not-true, or_right}
-use Rattle.pdl_semantics.specs.Flat.{Arrays, Pipe, Op, Bind, CombRead, DelayedRead, Write, ReserveRead, ReserveWrite, Block, Release, Call, SpecCall, Verify, SpecCheck, SpecBarrier, Stmt, Commit, all_hold, of_mem}
-use Rattle.pdl_semantics.specs.Stages.{list_any, onpath, is_release, commit_stage, verify_stage}
+use Rattle.pdl_semantics.specs.Flat.{Pipe, Op, Bind, CombRead, DelayedRead, Write, ReserveRead, ReserveWrite, Block, Release, Call, SpecCall, Verify, SpecCheck, SpecBarrier, AdviceBind, AdviceRead, AdviceWrite, Stmt, Commit, all_hold, of_mem}
+use Rattle.pdl_semantics.specs.Stages.{list_any, onpath, is_release, commit_stage, verify_stage, is_write_reserve}
 use Rattle.pdl_semantics.specs.Machine.{State, HeldLocation}
 use Rattle.pdl_semantics.specs.Sequential.{Run, thread}
-use Rattle.pdl_semantics.specs.Sound.{stages_before, stages_from, is_write_reserve, has_released}
-use Rattle.pdl_theory_derived.specs.Derived.{Entry}
+use Rattle.pdl_semantics.specs.Sound.{stages_before, stages_from, has_released}
+use Rattle.pdl_theory_derived.specs.Derived.{Entry, no_hint}
 use Rattle.pdl_semantics.specs.Sound
-use Rattle.pdl_theory_derived.specs.Alone.{before, answered_op}
-use Rattle.pdl_theory_facts.specs.Scans.{Phase, Fresh, Held, Written, Done, next_phase, phase_all, phase_ok, phases_ok, after_release, holds_location, is_fresh, none_of, Scan, no_scan, has_location, scan_after, no_guards}
+use Rattle.pdl_theory_derived.specs.Alone.{World, before, answered_op, is_nil, is_among, is_oldest, drop_var, but_last}
+use Rattle.pdl_theory_facts.specs.Scans.{Phase, Fresh, next_phase, phase_all, phase_ok, phases_ok, after_write, after_reserve, after_release, may_write, none_of, Scan, no_scan, has_location, scan_after, no_guards}
 use Rattle.pdl_theory_facts.specs.GuessScans.{is_barrier, is_sure, all_sure}
 use Rattle.pdl_theory_facts.specs.Facts.{Sound, looked_all, at_once}
 use Rattle.pdl_theory_facts.specs.Accepted.{along}
 use Rattle.pdl_theory_derived.proofs.Writes.{and_left, and_right}
 use Rattle.pdl_theory_simulation.proofs.FlowFacts.{uses_ok, use_ok}
 use Rattle.pdl_theory_simulation.proofs.AcceptedFacts.{sound_flows, phases_looked}
-use Rattle.pdl_theory_derived.proofs.Entries.{entries_of}
+use Rattle.pdl_theory_derived.proofs.Entries.{entries_of, Open, Full, waiting, known, open_vars, full_vars}
+use Rattle.pdl_theory_facts.proofs.Apart.{front_among, oldest_among}
 use Rattle.pdl_theory_turns.proofs.Phases.{Tied}
 use Rattle.pdl_theory_derived.proofs.Deeds.{places}
 use Rattle.pdl_theory_turns.proofs.CertaintyScans.{some_barrier, sure_first}
 use Rattle.pdl_theory_turns.proofs.StrayPaths.{verify_looked}
 use Rattle.pdl_theory_simulation.proofs.Shapes.{Shape, uses_front, none_till}
-use Rattle.pdl_theory_simulation.proofs.Stretches.{on_way}
+use Rattle.pdl_theory_simulation.proofs.Stretches.{on_way, late}
 use Rattle.pdl_theory_simulation.proofs.Seats.{Live}
 use Rattle.pdl_theory_simulation.proofs.Choices.{Seated}
 use Rattle.pdl_theory_turns.proofs.TurnPath
@@ -36,20 +37,22 @@ use Rattle.pdl_theory_turns.proofs.Paths.{none_onpath}
 
 -- whether a thread's write to a memory is done, that is released
 abbrev pub is_done : Phase → Bool
-is_done Done = true
-is_done _ = false
+is_done ph = not (is_nil ph.gone)
+
+abbrev is_fresh : Phase → Bool
+is_fresh ph = is_nil ph.unwritten && (is_nil ph.full && is_nil ph.gone)
 
 -- without a release a write is not done
 done_op : (m : ℕ) (ph : Phase) (op : Op) → not (is_release m op) ≡ true → is_done ph ≡ false → is_done (next_phase m ph op) ≡ false
 done_op m ph (ReserveWrite n a) r h = at (n == m)
   where
-    at : (b : Bool) → is_done (cond b (Held a) ph) ≡ false
-    at true = refl
+    at : (b : Bool) → is_done (cond b (after_reserve ph a) ph) ≡ false
+    at true = h
     at false = h
 done_op m ph (Write n a e) r h = at (n == m)
   where
-    at : (b : Bool) → is_done (cond b (Written a) ph) ≡ false
-    at true = refl
+    at : (b : Bool) → is_done (cond b (after_write ph a) ph) ≡ false
+    at true = h
     at false = h
 done_op m ph (Release n a) r h = at (n == m) r
   where
@@ -58,38 +61,34 @@ done_op m ph (Release n a) r h = at (n == m) r
     at false k = h
 done_op m ph _ r h = h
 
-never_done : (m : ℕ) (ph : Phase) (xs : List Stmt)
+-- without a release nothing is released
+pub never_done : (m : ℕ) (ph : Phase) (xs : List Stmt)
     → none_of (is_release m) xs ≡ true → is_done ph ≡ false → is_done (phase_all m ph xs) ≡ false
 never_done m ph [] r h = h
 never_done m ph (x ∷ xs) r h = never_done m (next_phase m ph x.op) xs (and_right (not (is_release m x.op)) _ r) (done_op m ph x.op (and_left _ _ r) h)
 
 -- once used a lock is not fresh
+and_none : (b : Bool) → (b && false) ≡ false
+and_none true = refl
+and_none false = refl
+
 used_op : (m : ℕ) (ph : Phase) (op : Op) → is_fresh ph ≡ false → is_fresh (next_phase m ph op) ≡ false
 used_op m ph (ReserveWrite n a) h = at (n == m)
   where
-    at : (b : Bool) → is_fresh (cond b (Held a) ph) ≡ false
+    at : (b : Bool) → is_fresh (cond b (after_reserve ph a) ph) ≡ false
     at true = refl
     at false = h
 used_op m ph (Write n a e) h = at (n == m)
   where
-    at : (b : Bool) → is_fresh (cond b (Written a) ph) ≡ false
-    at true = refl
+    at : (b : Bool) → is_fresh (cond b (after_write ph a) ph) ≡ false
+    at true = and_none (is_nil (but_last ph.unwritten))
     at false = h
-used_op m ph (Release n a) h = at (n == m)
+used_op m ph (Release n a) h = at (n == m) (is_among a ph.full)
   where
-    after : (ph : Phase) → is_fresh ph ≡ false → is_fresh (after_release ph a) ≡ false
-    after Fresh k = absurd (cc k)
-    after (Held x) k = refl
-    after (Written x) k = by (x == a)
-      where
-        by : (b : Bool) → is_fresh (cond b Done (Written x)) ≡ false
-        by true = refl
-        by false = refl
-    after Done k = refl
-
-    at : (b : Bool) → is_fresh (cond b (after_release ph a) ph) ≡ false
-    at true = after ph h
-    at false = h
+    at : (b c : Bool) → is_fresh (cond b (cond c (record { unwritten = ph.unwritten; full = drop_var a ph.full; gone = a ∷ ph.gone }) ph) ph) ≡ false
+    at true true = ap (λ b. is_nil ph.unwritten && b) (and_none (is_nil (drop_var a ph.full))) ∙ and_none (is_nil ph.unwritten)
+    at true false = h
+    at false c = h
 used_op m ph _ h = h
 
 used_all : (m : ℕ) (ph : Phase) (xs : List Stmt) → is_fresh ph ≡ false → is_fresh (phase_all m ph xs) ≡ false
@@ -97,7 +96,7 @@ used_all m ph [] h = h
 used_all m ph (x ∷ xs) h = used_all m (next_phase m ph x.op) xs (used_op m ph x.op h)
 
 reserve_op : (m : ℕ) (ph : Phase) (op : Op) → is_write_reserve m op ≡ true → is_fresh (next_phase m ph op) ≡ false
-reserve_op m ph (ReserveWrite n a) h = ap (λ b. is_fresh (cond b (Held a) ph)) h
+reserve_op m ph (ReserveWrite n a) h = ap (λ b. is_fresh (cond b (after_reserve ph a) ph)) h
 reserve_op m ph _ h = absurd (cc h)
 
 reserved_used : (m : ℕ) (ph : Phase) (xs : List Stmt)
@@ -115,10 +114,10 @@ reserved_used m ph (x ∷ xs) h = at (is_write_reserve m x.op) refl h (reserved_
 unused_op : (m : ℕ) (op : Op) → use_ok m Fresh op ≡ true → is_write_reserve m op ≡ false → next_phase m Fresh op ≡ Fresh
 unused_op m (Write n a e) u r = at (n == m) u
   where
-    at : (b : Bool) → (not b || false) ≡ true → cond b (Written a) Fresh ≡ Fresh
+    at : (b : Bool) → (not b || false) ≡ true → cond b (after_write Fresh a) Fresh ≡ Fresh
     at true v = absurd (cc v)
     at false v = refl
-unused_op m (ReserveWrite n a) u r = ap (λ b. cond b (Held a) Fresh) r
+unused_op m (ReserveWrite n a) u r = ap (λ b. cond b (after_reserve Fresh a) Fresh) r
 unused_op m (Release n a) u r = at (n == m)
   where
     at : (b : Bool) → cond b (after_release Fresh a) Fresh ≡ Fresh
@@ -162,17 +161,15 @@ no_entry m (e ∷ es) h = at (e.mem == m) h (no_entry m es)
     at true k f = absurd (cc k)
     at false k f = f k
 
-used_done : (m : ℕ) (ph : Phase) (es : List Entry) → Shape m ph es → is_fresh ph ≡ false → es ≡ [] → is_done ph ≡ true
-used_done m Fresh es s f e = absurd (cc f)
-used_done m (Held x) es s f e = absurd (cc (sym e ∙ s.1))
-used_done m (Written x) es s f e = absurd (cc (sym e ∙ s.2))
-used_done m Done es s f e = refl
+no_shape : (m : ℕ) (os : List Open) (fs : List Full) → waiting m os ++ known m fs ≡ [] → (is_nil (open_vars os) ≡ true) × (is_nil (full_vars fs) ≡ true)
+no_shape m [] [] h = (refl, refl)
+no_shape m [] (f ∷ fs) h = absurd (cc h)
+no_shape m (o ∷ os) fs h = absurd (cc h)
 
-done_empty : (m : ℕ) (ph : Phase) (es : List Entry) → Shape m ph es → is_done ph ≡ true → es ≡ []
-done_empty m Fresh es s h = absurd (cc h)
-done_empty m (Held x) es s h = absurd (cc h)
-done_empty m (Written x) es s h = absurd (cc h)
-done_empty m Done es s h = s
+used_done : (m : ℕ) (ph : Phase) (es : List Entry) → Shape m ph es → is_fresh ph ≡ false → es ≡ [] → is_done ph ≡ true
+used_done m ph es s f e =
+    let n = no_shape m s.opens s.fulls (sym s.entries ∙ e) in
+    ap not (sym (ap₂ (λ a b. a && (b && is_nil ph.gone)) (ap is_nil (sym s.at_open) ∙ n.0) (ap is_nil (sym s.at_full) ∙ n.1)) ∙ f)
 
 -- A LIVE THREAD
 
@@ -185,13 +182,25 @@ module _ (p : Pipe) (sound : Sound p) (st : State) (l : Live) (seated : Seated p
       (ap (list_any (λ (h : HeldLocation). h.mem == m)) seated.keeps_on.held
       ∙ not-true _ (and_right (list_any (λ (x : Stmt). is_write_reserve m x.op) (on_way p l.env l.thread.stage)) _ h)))
 
+  -- something is released only past the releases
+  done_late : is_done (phase_all m Fresh (on_way p l.env l.thread.stage)) ≡ true → commit_stage p m < l.thread.stage
+  done_late h = at (nat_lt (commit_stage p m) l.thread.stage) refl
+    where
+      at : (b : Bool) → nat_lt (commit_stage p m) l.thread.stage ≡ b → commit_stage p m < l.thread.stage
+      at true e = ltb-true _ _ e
+      at false e =
+          absurd
+          (cc (sym h ∙ never_done m Fresh (on_way p l.env l.thread.stage)
+          (none_onpath (is_release m) l.env (stages_before l.thread.stage p.stmts)
+          (none_till (is_release m) (commit_stage p m) l.thread.stage p.stmts ((sound_flows p sound).releases m) (ltb-false _ _ e))) refl))
+
   -- a thread whose way has come to the release of its write of m has released it
   pub done_released : is_done (phase_all m Fresh (on_way p l.env l.thread.stage)) ≡ true → has_released m p (told l) ≡ true
   done_released h =
       ap₂ (λ a b. a && not b) (reserved (list_any (λ (x : Stmt). is_write_reserve m x.op) (on_way p l.env l.thread.stage)) refl)
       (ap (list_any (λ (h : HeldLocation). h.mem == m)) (sym seated.keeps_on.held)
       ∙ no_entry m l.thread.entries
-      (done_empty m (phase_all m Fresh (on_way p l.env l.thread.stage)) (entries_of m l.thread.entries) (seated.keeps_on.shape m) h))
+      (late p (sound_flows p sound) l.env l.thread seated.keeps_on m (done_late h)))
     where
       uses : uses_ok m Fresh (on_way p l.env l.thread.stage) ≡ true
       uses =
@@ -206,17 +215,7 @@ module _ (p : Pipe) (sound : Sound p) (st : State) (l : Live) (seated : Seated p
 
   -- a thread that has released a write of m is past the stage of m's releases
   pub released_late : has_released m p (told l) ≡ true → commit_stage p m < l.thread.stage
-  released_late h = at (nat_lt (commit_stage p m) l.thread.stage) refl
-    where
-      at : (b : Bool) → nat_lt (commit_stage p m) l.thread.stage ≡ b → commit_stage p m < l.thread.stage
-      at true e = ltb-true _ _ e
-      at false e =
-          absurd
-          (cc
-          (sym (released_done h)
-          ∙ never_done m Fresh (on_way p l.env l.thread.stage)
-          (none_onpath (is_release m) l.env (stages_before l.thread.stage p.stmts)
-          (none_till (is_release m) (commit_stage p m) l.thread.stage p.stmts ((sound_flows p sound).releases m) (ltb-false _ _ e))) refl))
+  released_late h = done_late (released_done h)
 
   -- a thread whose way has not come to the release of a write of m has released none
   pub not_released : is_done (phase_all m Fresh (on_way p l.env l.thread.stage)) ≡ false → has_released m p (told l) ≡ false
@@ -230,46 +229,36 @@ module _ (p : Pipe) (sound : Sound p) (st : State) (l : Live) (seated : Seated p
 
 pending_none : (m : ℕ) (ph : Phase) (env : List ℕ) (es : List Entry) (cs ws : List Commit) → Tied m ph env es cs ws
     → is_done ph ≡ false → cs ≡ []
-pending_none m Fresh env es cs ws t h = t.1
-pending_none m (Held x) env es cs ws t h = t.1
-pending_none m (Written x) env es cs ws t h = t.3
-pending_none m Done env es cs ws t h = absurd (cc h)
+pending_none m ph env es cs ws t h = t.calm (at ph.gone h)
+  where
+    at : (xs : List ℕ) → not (is_nil xs) ≡ false → xs ≡ []
+    at [] i = refl
+    at (x ∷ xs) i = absurd (cc i)
 
-module _ (p : Pipe) (sound : Sound p) (arrays : Arrays) (args : List ℕ) where
+module _ (p : Pipe) (sound : Sound p) (world : World) (args : List ℕ) where
   -- past the releases it has none undone
   pub turn_kept : (s m : ℕ) → commit_stage p m < s
-      → is_done (phase_all m Fresh (on_way p (thread (at_once p) arrays args).env s)) ≡ false
-      → of_mem m (thread p arrays args).writes ≡ []
+      → is_done (phase_all m Fresh (on_way p (thread (at_once p) world.words args).env s)) ≡ false
+      → of_mem m (thread p world.words args).writes ≡ []
   turn_kept s m late h =
-      ap (λ (r : Run). of_mem m r.writes) (whole p sound arrays args)
-      ∙ sym (TurnPath.commits_late (along (thread (at_once p) arrays args).env (at_once p)) (acc p sound arrays args) arrays args s m late)
+      ap (λ (r : Run). of_mem m r.writes) (whole p sound world args)
+      ∙ sym (TurnPath.commits_late (along (thread (at_once p) world.words args).env (at_once p)) (acc p sound world args) world args s m late)
       ∙ pending_none m
-      (phase_all m Fresh (before s (onpath (thread (at_once p) arrays args).env (looked_all p.stmts)))) _ _ _ _
-      ((TurnPath.related_at (along (thread (at_once p) arrays args).env (at_once p)) (acc p sound arrays args) arrays args s).tied m)
-      (ap (λ xs. is_done (phase_all m Fresh xs)) (way_looked p (thread (at_once p) arrays args).env s)
-      ∙ ap is_done (phases_looked m Fresh (on_way p (thread (at_once p) arrays args).env s)) ∙ h)
+      (phase_all m Fresh (before s (onpath (thread (at_once p) world.words args).env (looked_all p.stmts)))) _ _ _ _
+      ((TurnPath.related_at (along (thread (at_once p) world.words args).env (at_once p)) (acc p sound world args) world args s).tied m)
+      (ap (λ xs. is_done (phase_all m Fresh xs)) (way_looked p (thread (at_once p) world.words args).env s)
+      ∙ ap is_done (phases_looked m Fresh (on_way p (thread (at_once p) world.words args).env s)) ∙ h)
 
 -- A THREAD AFTER A WRONG GUESS
 
--- a write under way has its location among those that were opened
-abbrev pub Opened : ℕ → Phase → Scan → Type 0
-Opened m Fresh c = Unit {0}
-Opened m (Held x) c = has_location c.held m x ≡ true
-Opened m (Written x) c = has_location c.held m x ≡ true
-Opened m Done c = Unit {0}
+-- writes under way have their locations among those that were opened
+pub record Opened (m : ℕ) (ph : Phase) (c : Scan) : Type 0 where
+  pub unwritten : (x : ℕ) → is_among x ph.unwritten ≡ true → has_location c.held m x ≡ true
+  pub full : (x : ℕ) → is_among x ph.full ≡ true → has_location c.held m x ≡ true
 
 opened_more : (m : ℕ) (ph : Phase) (c c' : Scan)
     → ((x : ℕ) → has_location c.held m x ≡ true → has_location c'.held m x ≡ true) → Opened m ph c → Opened m ph c'
-opened_more m Fresh c c' f h = tt
-opened_more m (Held x) c c' f h = f x h
-opened_more m (Written x) c c' f h = f x h
-opened_more m Done c c' f h = tt
-
-opened_held : (m a : ℕ) (ph : Phase) (c : Scan) → holds_location ph a ≡ true → Opened m ph c → has_location c.held m a ≡ true
-opened_held m a Fresh c h o = absurd (cc h)
-opened_held m a (Held x) c h o = subst (λ y. has_location c.held m y ≡ true) (eqb-true x a h) o
-opened_held m a (Written x) c h o = absurd (cc h)
-opened_held m a Done c h o = absurd (cc h)
+opened_more m ph c c' f o = record { unwritten = λ x i. f x (o.unwritten x i); full = λ x i. f x (o.full x i) }
 
 -- before V and without a barrier such a write is not released
 sure_op : (m v s : ℕ) (c : Scan) (ph : Phase) (op : Op)
@@ -280,34 +269,39 @@ sure_op m v s c ph (ReserveWrite n a) k u low o d = at (n == m) refl
     more : Opened m ph (scan_after (ReserveWrite n a) c)
     more = opened_more m ph c (scan_after (ReserveWrite n a) c) (λ x i. or_right ((n == m) && (a == x)) _ i) o
 
-    at : (b : Bool) → (n == m) ≡ b → Opened m (cond b (Held a) ph) (scan_after (ReserveWrite n a) c) × (is_done (cond b (Held a) ph) ≡ false)
-    at true e = (ap₂ (λ x y. (x && y) || has_location c.held m a) e (eq-eqb a a refl), refl)
+    new : (n == m) ≡ true
+        → (x : ℕ) (b : Bool) → (a == x) ≡ b → (b || is_among x ph.unwritten) ≡ true
+        → has_location (scan_after (ReserveWrite n a) c).held m x ≡ true
+    new e x true j i = ap₂ (λ s t. (s && t) || has_location c.held m x) e j
+    new e x false j i = more.unwritten x i
+
+    at : (b : Bool)
+        → (n == m) ≡ b
+        → Opened m (cond b (after_reserve ph a) ph) (scan_after (ReserveWrite n a) c) × (is_done (cond b (after_reserve ph a) ph) ≡ false)
+    at true e = (record { unwritten = λ x i. new e x (a == x) refl i; full = more.full }, d)
     at false e = (more, d)
 sure_op m v s c ph (Write n a e) k u low o d = at (n == m) k
   where
-    at : (b : Bool) → (not b || holds_location ph a) ≡ true → Opened m (cond b (Written a) ph) c × (is_done (cond b (Written a) ph) ≡ false)
-    at true i = (opened_held m a ph c i o, refl)
+    by : is_oldest a ph.unwritten ≡ true → (x : ℕ) (b : Bool) → (a == x) ≡ b → (b || is_among x ph.full) ≡ true → has_location c.held m x ≡ true
+    by i x true j l = subst (λ y. has_location c.held m y ≡ true) (eqb-true a x j) (o.unwritten a (oldest_among a ph.unwritten i))
+    by i x false j l = o.full x l
+
+    at : (b : Bool) → (not b || may_write ph a) ≡ true → Opened m (cond b (after_write ph a) ph) c × (is_done (cond b (after_write ph a) ph) ≡ false)
+    at true i = (record { unwritten = λ x j. o.unwritten x (front_among x ph.unwritten j); full = λ x j. by i x (a == x) refl j }, d)
     at false i = (o, d)
-sure_op m v s c ph (Release n a) k u low o d = at (n == m) refl
+sure_op m v s c ph (Release n a) k u low o d = at (n == m) refl (is_among a ph.full) refl
   where
     shut : (b t : Bool) → (not b || not t) ≡ true → t ≡ true → b ≡ false
     shut false t i j = refl
     shut true true i j = absurd (cc i)
     shut true false i j = absurd (cc j)
 
-    after : (ph : Phase) → n ≡ m → Opened m ph c → is_done ph ≡ false → Opened m (after_release ph a) c × (is_done (after_release ph a) ≡ false)
-    after Fresh i o d = (o, d)
-    after (Held x) i o d = (o, d)
-    after (Written x) i o d = by (x == a) refl
-      where
-        by : (b : Bool) → (x == a) ≡ b → Opened m (cond b Done (Written x)) c × (is_done (cond b Done (Written x)) ≡ false)
-        by true e = absurd (cc (sym (shut (has_location c.held n a) (nat_lt s v) u low) ∙ ap₂ (has_location c.held) i (sym (eqb-true x a e)) ∙ o))
-        by false e = (o, refl)
-    after Done i o d = absurd (cc d)
-
-    at : (b : Bool) → (n == m) ≡ b → Opened m (cond b (after_release ph a) ph) c × (is_done (cond b (after_release ph a) ph) ≡ false)
-    at true e = after ph (eqb-true n m e) o d
-    at false e = (o, d)
+    at : (b : Bool) → (n == m) ≡ b → (t : Bool) → is_among a ph.full ≡ t
+        → Opened m (cond b (cond t (record { unwritten = ph.unwritten; full = drop_var a ph.full; gone = a ∷ ph.gone }) ph) ph) c
+        × (is_done (cond b (cond t (record { unwritten = ph.unwritten; full = drop_var a ph.full; gone = a ∷ ph.gone }) ph) ph) ≡ false)
+    at true e true g = absurd (cc (sym (shut (has_location c.held n a) (nat_lt s v) u low) ∙ ap (λ j. has_location c.held j a) (eqb-true n m e) ∙ o.full a g))
+    at true e false g = (o, d)
+    at false e t g = (o, d)
 sure_op m v s c ph (Block n a) k u low o d = (at (has_location c.held n a), d)
   where
     at : (b : Bool) → Opened m ph (cond b c (record { held = c.held; blocked = record { mem = n; var = a } ∷ c.blocked }))
@@ -369,8 +363,11 @@ barrier_looked (Block m a) = refl
 barrier_looked (Release m a) = refl
 barrier_looked (Call args) = refl
 barrier_looked (SpecCall args) = refl
-barrier_looked (Verify args) = refl
+barrier_looked (Verify last args) = refl
 barrier_looked SpecCheck = refl
+barrier_looked (AdviceBind x' e') = refl
+barrier_looked (AdviceRead x' m' a') = refl
+barrier_looked (AdviceWrite m' a' e') = refl
 
 -- statements without a barrier have none where their delayed reads are answered at once
 pub unbarred : (xs : List Stmt) → list_any (λ (x : Stmt). Sound.is_barrier x.op) xs ≡ false → some_barrier false (looked_all xs) ≡ false
@@ -392,7 +389,7 @@ early_unreleased p sound st l seated v verifies low clear m = not_released p sou
     (ap is_done (sym (phases_looked m Fresh (on_way p l.env l.thread.stage)))
     ∙ ap (λ xs. is_done (phase_all m Fresh xs)) (sym (way_looked p l.env l.thread.stage))
     ∙ sure_done m v no_scan Fresh (before l.thread.stage (onpath l.env (looked_all p.stmts)))
-    (TurnPath.ok_before (along l.env (at_once p)) (sound.pathwise.paths l.env) (λ k a. 0) [] l.thread.stage m)
+    (TurnPath.ok_before (along l.env (at_once p)) (sound.pathwise.paths l.env) (record { words = λ k a. 0; hint = no_hint }) [] l.thread.stage m)
     (subst (λ o. all_sure o false no_scan (before l.thread.stage (onpath l.env (looked_all p.stmts))) ≡ true) (verify_looked p.stmts ∙ verifies)
     (sure_first (verify_stage (looked_all p.stmts)) false no_scan (before l.thread.stage (onpath l.env (looked_all p.stmts)))
     (stages_from l.thread.stage (onpath l.env (looked_all p.stmts)))
@@ -402,4 +399,4 @@ early_unreleased p sound st l seated v verifies low clear m = not_released p sou
     (subst (AllStmts (λ x. nat_lt x.stage v ≡ true)) (sym (way_looked p l.env l.thread.stage))
     (stages_looked (λ s. nat_lt s v ≡ true) (on_way p l.env l.thread.stage)
     (stmts_map (λ z i. lt-ltb _ _ (let k = i in let j = low in omega arith)) (on_way p l.env l.thread.stage) (low_stages l.env l.thread.stage p.stmts))))
-    tt refl)
+    (record { unwritten = λ x h. absurd (cc h); full = λ x h. absurd (cc h) }) refl)

@@ -1,12 +1,12 @@
 -- What a thread's stage tells of barriers, blocks and calls.
 use Rattle.std.proofs.Common.{◌≡◌, refl, sym, ap, ◌∙◌, subst, ℕ, ◌≤◌, ◌⊎◌, inl, inr, Bool, true, false, ◌&&◌, ◌||◌, List, [], ◌∷◌, Option, Some, None, is_some, nat_lt, cond, slice_index, slice_set, leb-true}
 use Rattle.std.proofs.lemmas.Bool.{or_cases}
-use Rattle.pdl_semantics.specs.Flat.{Op, Bind, CombRead, DelayedRead, Write, ReserveRead, ReserveWrite, Block, Release, Call, SpecCall, Verify, SpecCheck, SpecBarrier, Stmt, Pipe, values_of, all_hold}
+use Rattle.pdl_semantics.specs.Flat.{Op, Bind, CombRead, DelayedRead, Write, ReserveRead, ReserveWrite, Block, Release, Call, SpecCall, Verify, SpecCheck, SpecBarrier, AdviceBind, AdviceRead, AdviceWrite, Stmt, Pipe, all_hold}
 use Rattle.pdl_semantics.specs.Stages.{onpath, reserve_stage, mem_at}
 use Rattle.pdl_semantics.specs.Locks.{read_ready, write_ready}
 use Rattle.pdl_semantics.specs.Machine.{Kept, same_args, with_kept}
 use Rattle.pdl_semantics.specs.Sound.{stages_before, is_barrier, is_call}
-use Rattle.pdl_theory_derived.specs.Derived.{Entry, Work, Around, work_after, do_all, has_entry, latest}
+use Rattle.pdl_theory_derived.specs.Derived.{Entry, Work, Around, work_after, do_all, has_entry, latest, said}
 use Rattle.pdl_theory_derived.specs.Derived
 use Rattle.pdl_theory_derived.specs.Alone.{before, answered_op}
 use Rattle.pdl_theory_facts.specs.Scans.{Scan, no_scan, scan_after, op_ok, reads_ok, no_guards, called}
@@ -57,8 +57,11 @@ clear_op o (Block m a) w h r = absurd (cc h)
 clear_op o (Release m a) w h r = absurd (cc h)
 clear_op o (Call args) w h r = absurd (cc h)
 clear_op o (SpecCall args) w h r = absurd (cc h)
-clear_op o (Verify args) w h r = absurd (cc h)
+clear_op o (Verify last args) w h r = absurd (cc h)
 clear_op o SpecCheck w h r = absurd (cc h)
+clear_op o (AdviceBind x' e') w h r = absurd (cc h)
+clear_op o (AdviceRead x' m' a') w h r = absurd (cc h)
+clear_op o (AdviceWrite m' a' e') w h r = absurd (cc h)
 
 -- a thread that moves on from a barrier found nobody
 pub clear_all : (path : List ℕ) (o : Around) (xs : List Stmt) (w : Work) → Fixed path o xs w
@@ -88,10 +91,11 @@ clear_all path o (x ∷ xs) w f h r = at (all_hold x.guards w.env) (all_hold x.g
 abbrev pub look_at : Pipe → List Derived.Thread → Around
 look_at p ts =
     record {
+      guess = [];
+      update = [];
       read = λ m a. 0;
       can_read = λ m a. read_ready (mem_at p m).lock (latest ts m a);
       can_write = λ m a. write_ready (mem_at p m).lock (latest ts m a);
-      room = λ m. true;
       free = λ m. true;
       clear = true;
     }
@@ -118,8 +122,11 @@ block_like o o' env es past (ReserveWrite m a) f h = tt
 block_like o o' env es past (Release m a) f h = tt
 block_like o o' env es past (Call args) f h = tt
 block_like o o' env es past (SpecCall args) f h = tt
-block_like o o' env es past (Verify args) f h = tt
+block_like o o' env es past (Verify last args) f h = tt
 block_like o o' env es past SpecCheck f h = tt
+block_like o o' env es past (AdviceBind x' e') f h = tt
+block_like o o' env es past (AdviceRead x' m' a') f h = tt
+block_like o o' env es past (AdviceWrite m' a' e') f h = tt
 block_like o o' env es past SpecBarrier f h = tt
 
 -- with the answers that are kept
@@ -173,9 +180,9 @@ low_blocks p sound path s =
 -- CALLS
 
 child_op : (o : Around) (op : Op) (w : Work) → is_some w.child ≡ true → is_some (work_after o op w).child ≡ true
-child_op o (Verify args) w h = at (same_args (values_of args w.env) w.guess)
+child_op o (Verify last args) w h = at (same_args (said o last args w.env) w.guess)
   where
-    at : (b : Bool) → is_some (cond b w (record w { child = Some (values_of args w.env); fails = true })).child ≡ true
+    at : (b : Bool) → is_some (cond b w (record w { child = Some (said o last args w.env); guess = said o last args w.env; fails = true })).child ≡ true
     at true = h
     at false = refl
 child_op o (Call args) w h = refl
@@ -189,6 +196,9 @@ child_op o (ReserveWrite m a) w h = h
 child_op o (Block m a) w h = h
 child_op o (Release m a) w h = h
 child_op o SpecCheck w h = h
+child_op o (AdviceBind x' e') w h = h
+child_op o (AdviceRead x' m' a') w h = h
+child_op o (AdviceWrite m' a' e') w h = h
 child_op o SpecBarrier w h = h
 
 child_stays : (o : Around) (xs : List Stmt) (w : Work) → is_some w.child ≡ true → is_some (do_all o xs w).child ≡ true
@@ -210,8 +220,11 @@ call_child o (ReserveRead m a) w h = absurd (cc h)
 call_child o (ReserveWrite m a) w h = absurd (cc h)
 call_child o (Block m a) w h = absurd (cc h)
 call_child o (Release m a) w h = absurd (cc h)
-call_child o (Verify args) w h = absurd (cc h)
+call_child o (Verify last args) w h = absurd (cc h)
 call_child o SpecCheck w h = absurd (cc h)
+call_child o (AdviceBind x' e') w h = absurd (cc h)
+call_child o (AdviceRead x' m' a') w h = absurd (cc h)
+call_child o (AdviceWrite m' a' e') w h = absurd (cc h)
 call_child o SpecBarrier w h = absurd (cc h)
 
 -- a stage that makes no thread calls none

@@ -1,7 +1,7 @@
 -- A thread with a block or a read of a memory still to do, or a read to bind, is not past the stage of the memory's releases.
 use Rattle.std.proofs.Common.{◌≡◌, refl, ap, ◌∙◌, subst, ℕ, ◌≤◌, ◌<◌, Bool, true, false, ◌&&◌, ◌||◌, not, List, [], ◌∷◌, ◌++◌, length, Option, Some, None, ◌==◌, nat_lt, nat_le, cond, arith, eq-eqb, ltb-true, ltb-false, leb-true}
 use Rattle.std.proofs.lemmas.Bool.{eqb-true}
-use Rattle.pdl_semantics.specs.Flat.{Pipe, Op, Bind, CombRead, DelayedRead, Write, ReserveRead, ReserveWrite, Block, Release, Call, SpecCall, Verify, SpecCheck, SpecBarrier, Stmt, all_hold}
+use Rattle.pdl_semantics.specs.Flat.{Pipe, Op, Bind, CombRead, DelayedRead, Write, ReserveRead, ReserveWrite, Block, Release, Call, SpecCall, Verify, SpecCheck, SpecBarrier, AdviceBind, AdviceRead, AdviceWrite, Stmt, all_hold}
 use Rattle.pdl_semantics.specs.Stages.{list_any, onpath, in_stage, is_release, commit_stage, mem_at, stage_at, goes_to}
 use Rattle.pdl_semantics.specs.Sound.{stages_before, stages_from, looks_at, is_release_at, is_delayed_read, one_of}
 use Rattle.pdl_theory_derived.specs.Alone.{answered_op}
@@ -66,8 +66,11 @@ release_none m a (x ∷ xs) h k = at (is_release_at m a x.op) refl k (λ i. rele
     clash (Block n b) i j = cc j
     clash (Call args) i j = cc j
     clash (SpecCall args) i j = cc j
-    clash (Verify args) i j = cc j
+    clash (Verify last args) i j = cc j
     clash SpecCheck i j = cc j
+    clash (AdviceBind x' e') i j = cc j
+    clash (AdviceRead x' m' a') i j = cc j
+    clash (AdviceWrite m' a' e') i j = cc j
     clash SpecBarrier i j = cc j
 
     at : (b : Bool) → is_release_at m a x.op ≡ b → (b || list_any (λ (z : Stmt). is_release_at m a z.op) xs) ≡ true
@@ -97,8 +100,11 @@ module _ (p q : Pipe) (m s : ℕ) (late : commit_stage q m < s) (locked : is_pla
   no_look r c (Release n a) ys low h g f k = cc k
   no_look r c (Call args) ys low h g f k = cc k
   no_look r c (SpecCall args) ys low h g f k = cc k
-  no_look r c (Verify args) ys low h g f k = cc k
+  no_look r c (Verify last args) ys low h g f k = cc k
   no_look r c SpecCheck ys low h g f k = cc k
+  no_look r c (AdviceBind x' e') ys low h g f k = cc k
+  no_look r c (AdviceRead x' m' a') ys low h g f k = cc k
+  no_look r c (AdviceWrite m' a' e') ys low h g f k = cc k
   no_look r c SpecBarrier ys low h g f k = cc k
 
   no_looks : (c : Scan) (xs : List Stmt) → AllStmts (λ x. s ≤ x.stage) xs → reads_ok q c (looked_all xs) ≡ true
@@ -206,8 +212,11 @@ module _ (p : Pipe) (sound : Sound p) where
       one (Release n a) e i j = absurd (cc j)
       one (Call args) e i j = absurd (cc j)
       one (SpecCall args) e i j = absurd (cc j)
-      one (Verify args) e i j = absurd (cc j)
+      one (Verify last args) e i j = absurd (cc j)
       one SpecCheck e i j = absurd (cc j)
+      one (AdviceBind x' e') e i j = absurd (cc j)
+      one (AdviceRead x' m' a') e i j = absurd (cc j)
+      one (AdviceWrite m' a' e') e i j = absurd (cc j)
       one SpecBarrier e i j = absurd (cc j)
 
       at : (b : Bool) → (here p env s x && is_delayed_read m x.op) ≡ b

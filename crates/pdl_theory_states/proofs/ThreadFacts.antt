@@ -1,13 +1,12 @@
 -- What holds of each live thread beside the simulation, whatever its guess: it keeps to one path, owns what it awaits, is certain after a barrier, and its blocks stay ready.
-use Rattle.std.proofs.Common.{◌≡◌, refl, sym, subst, ℕ, ◌≤◌, ◌<◌, ◌⊎◌, inl, inr, Bool, true, false, ◌||◌, not, List, [], ◌∷◌, ◌++◌, Option, Some, None, nat_lt, nat_le, cond, if◌then◌else◌, arith, slice_index, ltb-true, leb-true, le_refl}
+use Rattle.std.proofs.Common.{◌≡◌, refl, sym, subst, ℕ, ◌≤◌, ◌<◌, ◌⊎◌, inl, inr, Bool, true, false, ◌||◌, not, List, [], ◌∷◌, ◌++◌, Some, nat_lt, nat_le, cond, if◌then◌else◌, arith, slice_index, ltb-true, leb-true, le_refl}
 use Rattle.pdl_semantics.specs.Flat.{Pipe, Op, SpecBarrier, Block, Stmt, Branch, all_hold}
 use Rattle.pdl_semantics.specs.Stages.{onpath, in_stage, stage_at, goes_to, verify_stage, reserve_stage, mem_at}
 use Rattle.pdl_semantics.specs.Locks.{read_ready, write_ready}
-use Rattle.pdl_semantics.specs.Machine.{Ask, Awaited, is_answered, State, Owned, request_of}
-use Rattle.pdl_semantics.specs.Moves.{movers}
+use Rattle.pdl_semantics.specs.Machine.{Ask, Awaited, Deeds, is_answered, State, Owned, request_of, word_for}
+use Rattle.pdl_semantics.specs.Moves.{movers, block_ready}
 use Rattle.pdl_semantics.specs.Cycle.{awaited_of, squasher, is_kept}
 use Rattle.pdl_semantics.specs.Sound.{is_barrier}
-use Rattle.pdl_semantics.specs.Cycle
 use Rattle.pdl_semantics.specs.Machine
 use Rattle.pdl_theory_derived.specs.Derived.{Work, Around, around, befores, still, find_ask, latest}
 use Rattle.pdl_theory_derived.specs.Derived
@@ -18,25 +17,29 @@ use Rattle.pdl_theory_simulation.proofs.FlowFacts.{Flows}
 use Rattle.pdl_theory_simulation.proofs.AcceptedFacts.{sound_flows}
 use Rattle.pdl_theory_derived.proofs.DelayedReads.{AllAsks, found}
 use Rattle.pdl_theory_turns.proofs.CourseOf.{apart_asks}
-use Rattle.pdl_theory_simulation.proofs.Stretches.{Behind, AllFetched, fixed_here, start_of, on_way, Keeps}
+use Rattle.pdl_theory_simulation.proofs.Stretches.{Behind, AllFetched, fixed_here, start_of, on_way, Keeps, left_trunk}
 use Rattle.pdl_theory_simulation.proofs.StretchSteps.{AsksFrom}
-use Rattle.pdl_theory_simulation.proofs.Seats.{Live, threads_of, each_map, Ordered, dacts, lacts, did, now_of, work_of_live, befores_are}
-use Rattle.pdl_theory_simulation.proofs.Choices.{Known, AllKnown, keeps_now, told_here, asks_here}
+use Rattle.pdl_theory_simulation.proofs.Seats.{deeds_of, advised, Live, threads_of, each_map, Ordered, dacts, lacts, did, now_of, work_of_live, befores_are}
+use Rattle.pdl_theory_simulation.proofs.Choices.{Known, AllKnown, keeps_now, like_here, asks_here, deeds_are, starts_here, fixed_way, fit_all}
+use Rattle.pdl_theory_simulation.proofs.Sayings.{Foresees, told_here}
 use Rattle.pdl_theory_simulation.proofs.LockLists.{fell, moved_one, stood, next_live, go_on}
 use Rattle.pdl_theory_simulation.proofs.ThreadPlaces.{each_next, leads_of}
 use Rattle.pdl_theory_simulation.proofs.Requests.{asking}
 use Rattle.pdl_theory_simulation.proofs.WholeSimulation.{fetch_low, request_stays, request_made}
-use Rattle.pdl_theory_states.specs.Strict.{Strict}
+use Rattle.pdl_theory_states.specs.Strict.{Strict, keeps_guess, all_keep_guess}
+use Rattle.pdl_theory_states.proofs.Guessed.{GuessDone, kept_guesses, guesses_all, keep_front, keep_back}
 use Rattle.pdl_theory_states.proofs.PastStatements.{BlockOk, Past, Kind}
 use Rattle.pdl_theory_states.proofs.UnusedValues.{AllOps, ops_map, ops_both, onto}
 use Rattle.pdl_theory_states.proofs.Trails.{AllStmts, stmts_map, stmts_both, ops_stmts, Among, among_low}
-use Rattle.pdl_theory_states.proofs.ThreadHistory.{Local, AnyAsk, AllAwaited, past_of, local_answered, answered_asks, local_moved, moved_asks, moved_trail, past_end, past_q, kept_unused}
+use Rattle.pdl_theory_states.proofs.ThreadHistory.{Local, whole_way, AnyAsk, AllAwaited, past_of, local_answered, answered_asks, local_moved, moved_asks, moved_trail, past_end, past_q, kept_unused}
 use Rattle.pdl_theory_states.proofs.OlderWrites.{calm_next}
 use Rattle.pdl_theory_states.proofs.Stage.{barred, some_barrier, barred_onto, clear_all, look_at, block_like, kept_blocks, LowBlock, low_blocks}
 use Rattle.pdl_semantics.proofs.Readiness.{calm_read, calm_write, read_write}
 use Rattle.pdl_word.specs.Each.{Each}
 use Rattle.pdl_word.proofs.Each.{each_append}
 use Rattle.pdl_theory_simulation.proofs.SimulatedStates.{Sim}
+use Rattle.pdl_theory_simulation.proofs.CycleStarts.{next_state}
+use Rattle.pdl_theory_simulation.proofs.Orders.{AllForetold}
 
 -- each awaited read is one of the requests, which are outstanding as its own
 abbrev pub Owns : State → ℕ → List Ask → List Awaited → Type 0
@@ -45,6 +48,7 @@ Owns st n asks rs = AllAwaited (λ r. AnyAsk (λ q. (q.var ≡ r.var) × (q.mem 
 -- what holds of a live thread: it keeps to its path, owns its requests, has older ones past V after a barrier, and ready blocks
 pub record Lasting (p : Pipe) (st : State) (l : Live) (older : List Live) : Type 0 where
   pub local : Local p l.env l.kept l.thread
+  pub guessed : AllOps (GuessDone l.advice l.env l.thread.hint) (past_of p l.env l.thread.stage)
   pub owns : Owns st l.number local.asks l.thread.awaits
   pub certain : (v : ℕ) → verify_stage p.stmts ≡ Some v → barred (past_of p l.env l.thread.stage) ≡ true → Each (λ k. v < k.thread.stage) older
   pub blocks : AllOps (BlockOk (look_at p (threads_of older)) l.env l.thread.entries (past_of p l.env l.thread.stage)) (past_of p l.env l.thread.stage)
@@ -102,12 +106,13 @@ module _ (p : Pipe) (sound : Sound p) (strict : Strict p) where
   -- the older threads are past the reserves
   past_reserve : (s m : ℕ) (ls : List Live) → Each (λ k. Behind p s k.thread.stage) ls → reserve_stage p m ≤ s
       → Each (λ k. reserve_stage p m < k.thread.stage) ls
-  past_reserve s m ls b h = each_map (λ k i. i.trunk (reserve_stage p m) ((sound_flows p sound).trunk_reserve m) h) ls b
+  past_reserve s m ls b h = each_map (λ k i. left_trunk p _ _ i (reserve_stage p m) ((sound_flows p sound).trunk_reserve m) h) ls b
 
-  module _ (st : State) (d : Derived.State) (bits : List Bool) (ls : List Live) (sim : Sim p st d ls) where
+  module _ (st : State) (d : Derived.State) (bits : List Bool) (ls : List Live) (sim : Sim p st d ls)
+      (told : AllForetold p (sound_flows p sound) st d bits sim.arrays ls) where
     -- the stated state after the cycle
     abbrev pub next : State
-    next = Cycle.after_these p st bits (lacts p st d bits ls) (movers (lacts p st d bits ls)) (squasher (movers (lacts p st d bits ls)))
+    next = next_state p (sound_flows p sound) st d bits ls sim
 
     module _ (ks : List Live) (l : Live) (k : Known p (sound_flows p sound) st d bits sim.arrays ks l)
         (older : AllKnown p (sound_flows p sound) st d bits sim.arrays ks) (ordered : Ordered p ks)
@@ -115,9 +120,9 @@ module _ (p : Pipe) (sound : Sound p) (strict : Strict p) where
         (calm : fell p d bits ks ≡ false) (stays_on : is_kept (squasher (movers (lacts p st d bits ls))) l.number ≡ true) (h : Lasting p st l ks) where
       -- what the thread finds around it in the derived machine
       abbrev pub o : Around
-      o = around p d bits (dacts p d bits ks) l.thread.stage
+      o = around p d bits (dacts p d bits ks) l.thread.stage l.thread.hint
 
-      kind : Kind (around p d bits (dacts p d bits ks) l.thread.stage)
+      kind : Kind (around p d bits (dacts p d bits ks) l.thread.stage l.thread.hint)
       kind m a i = read_write (mem_at p m).lock (latest (befores (dacts p d bits ks)) m a) i
 
       -- the older threads go on beyond V
@@ -161,23 +166,22 @@ module _ (p : Pipe) (sound : Sound p) (strict : Strict p) where
 
       owns_still : (rs : List Awaited) → AllFetched p l.thread.stage rs → Owns st l.number h.local.asks rs
           → Owns
-          (Cycle.after_these p st bits (lacts p st d bits ls) (movers (lacts p st d bits ls)) (squasher (movers (lacts p st d bits ls)))) l.number h.local.asks
+          (next_state p (sound_flows p sound) st d bits ls sim) l.number h.local.asks
           (still p bits rs)
       owns_still [] f i = tt
       owns_still (r ∷ rs) f i = at (is_answered p bits r.mem) refl (owns_still rs f.1 i.1)
         where
           at : (b : Bool) → is_answered p bits r.mem ≡ b
               → Owns
-              (Cycle.after_these p st bits (lacts p st d bits ls) (movers (lacts p st d bits ls))
-              (squasher (movers (lacts p st d bits ls)))) l.number h.local.asks
+              (next_state p (sound_flows p sound) st d bits ls sim) l.number h.local.asks
               (still p bits rs)
               → Owns
-              (Cycle.after_these p st bits (lacts p st d bits ls) (movers (lacts p st d bits ls))
-              (squasher (movers (lacts p st d bits ls)))) l.number h.local.asks
+              (next_state p (sound_flows p sound) st d bits ls sim) l.number h.local.asks
               (cond b (still p bits rs) (r ∷ still p bits rs))
           at true e g = g
           at false e g = (
-            any_ask_map (λ q j. (j.0, j.1, request_stays p (sound_flows p sound) st d bits ls sim l stays_on r.mem (q.address, j.2) f.0 e)) h.local.asks i.0,
+            any_ask_map
+                (λ q j. (j.0, j.1, request_stays p (sound_flows p sound) st d bits ls sim told l stays_on r.mem (q.address, j.2) f.0 e)) h.local.asks i.0,
             g,
           )
 
@@ -189,15 +193,16 @@ module _ (p : Pipe) (sound : Sound p) (strict : Strict p) where
 
       -- what holds of a live thread holds of it after a cycle in which it stands
       pub lasting_stood : Lasting p
-          (Cycle.after_these p st bits (lacts p st d bits ls) (movers (lacts p st d bits ls)) (squasher (movers (lacts p st d bits ls))))
+          (next_state p (sound_flows p sound) st d bits ls sim)
           (stood p st d bits l) (go_on p st d bits ks)
       lasting_stood =
           record {
             local = now_local;
+            guessed = h.guessed;
             owns =
                 subst
                 (λ qs. Owns
-                (Cycle.after_these p st bits (lacts p st d bits ls) (movers (lacts p st d bits ls)) (squasher (movers (lacts p st d bits ls)))) l.number qs
+                (next_state p (sound_flows p sound) st d bits ls sim) l.number qs
                 (still p bits l.thread.awaits))
                 (sym now_asks) (owns_still l.thread.awaits k.seated.keeps_on.fetched h.owns);
             certain = λ v e i. beyond v ks older (h.certain v e i);
@@ -212,69 +217,100 @@ module _ (p : Pipe) (sound : Sound p) (strict : Strict p) where
       -- THE THREAD MOVES
 
       module _ (moves : (did p d bits ks l).moves ≡ true)
-          (asked : (m a : ℕ) → find_ask (work_of_live p d bits ks l).asks m ≡ Some a
+          (foresees : Foresees p (sound_flows p sound) st d bits sim.arrays ks l) (asked : (m a : ℕ) → find_ask (work_of_live p d bits ks l).asks m ≡ Some a
           → asking p (sound_flows p sound) st d bits sim.arrays ls m ≡ Some (record { number = l.number; address = a })) where
         ready : (work_of_live p d bits ks l).ready ≡ true
-        ready = and_right _ _ (and_left _ _ (and_left _ _ moves))
+        ready = and_right _ _ (and_left _ _ (and_left _ _ (and_left _ _ moves)))
 
         now_keeps : Keeps p l.env (now_of p d bits l)
         now_keeps = keeps_now p (sound_flows p sound) st d bits sim.arrays l k.seated
 
         block_start : AllOps
-            (BlockOk (around p d bits (dacts p d bits ks) l.thread.stage) (now_of p d bits l).env l.thread.entries (past_of p l.env l.thread.stage))
+            (BlockOk (around p d bits (dacts p d bits ks) l.thread.stage l.thread.hint) (now_of p d bits l).env l.thread.entries
+            (past_of p l.env l.thread.stage))
             (past_of p l.env l.thread.stage)
         block_start =
             subst
-            (λ e. AllOps (BlockOk (around p d bits (dacts p d bits ks) l.thread.stage) e l.thread.entries (past_of p l.env l.thread.stage))
+            (λ e. AllOps (BlockOk (around p d bits (dacts p d bits ks) l.thread.stage l.thread.hint) e l.thread.entries (past_of p l.env l.thread.stage))
             (past_of p l.env l.thread.stage)) k.values
-            (kept_blocks (around p d bits (dacts p d bits ks) l.thread.stage) l.thread.entries (past_of p l.env l.thread.stage)
+            (kept_blocks (around p d bits (dacts p d bits ks) l.thread.stage l.thread.hint) l.thread.entries (past_of p l.env l.thread.stage)
             (past_of p l.env l.thread.stage)
             (l.kept ++ Machine.answered_reads p st bits l.number l.thread.awaits) l.env
             (kept_unused p l.env (l.kept ++ Machine.answered_reads p st bits l.number l.thread.awaits) (now_of p d bits l) now_local)
             (ops_map
             (λ op b. block_like (look_at p (threads_of ks))
-            (around p d bits (dacts p d bits ks) l.thread.stage) l.env l.thread.entries (past_of p l.env l.thread.stage) op
+            (around p d bits (dacts p d bits ks) l.thread.stage l.thread.hint) l.env l.thread.entries (past_of p l.env l.thread.stage) op
             (λ m a e. (
               (λ i. subst (λ ts. read_ready (mem_at p m).lock (latest ts m (slice_index l.env a)) ≡ true) (sym (befores_are p d bits ks)) i),
               (λ i. subst (λ ts. write_ready (mem_at p m).lock (latest ts m (slice_index l.env a)) ≡ true) (sym (befores_are p d bits ks)) i),
             )) b)
             (past_of p l.env l.thread.stage) h.blocks))
 
-        ended : Past (around p d bits (dacts p d bits ks) l.thread.stage) p.vars
+        ended : Past (around p d bits (dacts p d bits ks) l.thread.stage l.thread.hint) p.vars
             (onto (onpath (work_of_live p d bits ks l).env (in_stage l.thread.stage p.stmts)) (past_of p l.env l.thread.stage))
             (work_of_live p d bits ks l)
         ended =
             past_end p (sound_flows p sound) sound strict
-            (around p d bits (dacts p d bits ks) l.thread.stage) kind l.env
+            (around p d bits (dacts p d bits ks) l.thread.stage l.thread.hint) kind l.env
             (l.kept ++ Machine.answered_reads p st bits l.number l.thread.awaits)
-            (now_of p d bits l) now_keeps k.values now_local ready block_start
+            (now_of p d bits l) now_keeps k.values now_local ready refl block_start
+
+        -- what it has guessed
+        guessed_end : AllOps (GuessDone (deeds_of p st bits l).advice (work_of_live p d bits ks l).env l.thread.hint)
+            (onto (onpath (work_of_live p d bits ks l).env (in_stage l.thread.stage p.stmts)) (past_of p l.env l.thread.stage))
+        guessed_end =
+            subst (λ (w : Work). AllOps (GuessDone (deeds_of p st bits l).advice w.env l.thread.hint) (onto mine (past_of p l.env l.thread.stage)))
+            (sym (told_here p (sound_flows p sound) st d bits sim.arrays ks l k foresees).is)
+            (subst (λ (e : Deeds). AllOps (GuessDone e.advice e.env l.thread.hint) (onto mine (past_of p l.env l.thread.stage)))
+            (sym (deeds_are p (sound_flows p sound) st d bits sim.arrays ks l k))
+            (guesses_all (around p d bits (dacts p d bits ks) l.thread.stage l.thread.hint) (word_for st l.number) (λ b. block_ready p st l.number b)
+            (λ q. Derived.port_free p d bits (dacts p d bits ks) q.mem)
+            (work_of_live p d bits ks l).env (in_stage l.thread.stage p.stmts) (past_of p l.env l.thread.stage) _ (start_of (now_of p d bits l))
+            (starts_here p (sound_flows p sound) st d bits sim.arrays ks l k) (fit_all p (sound_flows p sound) st d bits sim.arrays ks l k)
+            (fixed_way p (sound_flows p sound) st d bits sim.arrays ks l k) foresees kept_back.0 kept_back.1
+            (subst (λ e. AllOps (GuessDone l.advice e l.thread.hint) (past_of p l.env l.thread.stage)) k.values
+            (kept_guesses l.advice l.thread.hint (past_of p l.env l.thread.stage) (l.kept ++ Machine.answered_reads p st bits l.number l.thread.awaits) l.env
+            (kept_unused p l.env (l.kept ++ Machine.answered_reads p st bits l.number l.thread.awaits) (now_of p d bits l) now_local) h.guessed))))
+          where
+            mine : List Stmt
+            mine = onpath (work_of_live p d bits ks l).env (in_stage l.thread.stage p.stmts)
+
+            kept_back : AllOps (λ o. keeps_guess o (onpath (work_of_live p d bits ks l).env (in_stage l.thread.stage p.stmts)) ≡ true)
+                (past_of p l.env l.thread.stage) × (all_keep_guess (onpath (work_of_live p d bits ks l).env (in_stage l.thread.stage p.stmts)) ≡ true)
+            kept_back =
+                keep_back (on_way p l.env l.thread.stage) (onpath (work_of_live p d bits ks l).env (in_stage l.thread.stage p.stmts)) []
+                (keep_front (on_way p l.env l.thread.stage ++ onpath (work_of_live p d bits ks l).env (in_stage l.thread.stage p.stmts)) _
+                (subst (λ xs. all_keep_guess xs ≡ true)
+                (whole_way p (sound_flows p sound) sound strict (around p d bits (dacts p d bits ks) l.thread.stage l.thread.hint) kind l.env
+                (l.kept ++ Machine.answered_reads p st bits l.number l.thread.awaits) (now_of p d bits l) now_keeps k.values now_local ready refl)
+                (strict.guesses (work_of_live p d bits ks l).env))) tt
 
         own_requests : AllAsks
             (λ q. request_of
-            (Cycle.after_these p st bits (lacts p st d bits ls) (movers (lacts p st d bits ls)) (squasher (movers (lacts p st d bits ls)))) q.mem
+            (next_state p (sound_flows p sound) st d bits ls sim) q.mem
             ≡ Owned l.number q.address)
             (work_of_live p d bits ks l).asks
         own_requests =
             each (work_of_live p d bits ks l).asks
             (found (work_of_live p d bits ks l).asks
-            (apart_asks (around p d bits (dacts p d bits ks) l.thread.stage) (in_stage l.thread.stage p.stmts)
+            (apart_asks (around p d bits (dacts p d bits ks) l.thread.stage l.thread.hint) (in_stage l.thread.stage p.stmts)
             (start_of (now_of p d bits l)) (sound.fetch_alone l.thread.stage) tt tt)) from_stage
           where
             from_stage : AsksFrom (in_stage l.thread.stage p.stmts) (work_of_live p d bits ks l).asks
             from_stage =
                 subst (λ (w : Work). AsksFrom (in_stage l.thread.stage p.stmts) w.asks)
-                (sym (told_here p (sound_flows p sound) st d bits sim.arrays ks l k).is)
+                (sym (like_here p (sound_flows p sound) st d bits sim.arrays ks l k).is)
                 (asks_here p (sound_flows p sound) st d bits sim.arrays ks l k)
 
             each : (qs : List Ask) → AllAsks (λ q. find_ask (work_of_live p d bits ks l).asks q.mem ≡ Some q.address) qs
                 → AsksFrom (in_stage l.thread.stage p.stmts) qs
                 → AllAsks
                 (λ q. request_of
-                (Cycle.after_these p st bits (lacts p st d bits ls) (movers (lacts p st d bits ls)) (squasher (movers (lacts p st d bits ls)))) q.mem
+                (next_state p (sound_flows p sound) st d bits ls sim) q.mem
                 ≡ Owned l.number q.address) qs
             each [] f a = tt
             each (q ∷ qs) f a = (
-              request_made p (sound_flows p sound) st d bits ls sim l stays_on q.mem q.address (fetch_low p (sound_flows p sound) q.mem l.thread.stage a.0)
+              request_made p (sound_flows p sound) st d bits ls sim told l stays_on q.mem q.address (fetch_low p (sound_flows p sound) q.mem l.thread.stage a.0)
                   (asked q.mem q.address f.0),
               each qs f.1 a.1,
             )
@@ -283,15 +319,16 @@ module _ (p : Pipe) (sound : Sound p) (strict : Strict p) where
         past_barrier : (v : ℕ) → verify_stage p.stmts ≡ Some v
             → some_barrier (onpath (work_of_live p d bits ks l).env (in_stage l.thread.stage p.stmts)) ≡ true
             → Each (λ j. v < j.thread.stage) ks
-        past_barrier v e b = at (stage_at p l.thread.stage).branch refl
+        past_barrier v e b = at (stage_at p l.thread.stage).branches refl
           where
             clear : Derived.barrier_clear (Some v) l.thread.stage (threads_of ks) ≡ true
             clear =
                 subst (λ ts. Derived.barrier_clear (Some v) l.thread.stage ts ≡ true) (befores_are p d bits ks)
                 (subst (λ r. Derived.barrier_clear r l.thread.stage (befores (dacts p d bits ks)) ≡ true) e
-                (clear_all (work_of_live p d bits ks l).env (around p d bits (dacts p d bits ks) l.thread.stage)
+                (clear_all (work_of_live p d bits ks l).env (around p d bits (dacts p d bits ks) l.thread.stage l.thread.hint)
                 (in_stage l.thread.stage p.stmts) (start_of (now_of p d bits l))
-                (fixed_here p (sound_flows p sound) l.env (now_of p d bits l) now_keeps (around p d bits (dacts p d bits ks) l.thread.stage)) b ready))
+                (fixed_here p (sound_flows p sound) l.env (now_of p d bits l) now_keeps
+                (around p d bits (dacts p d bits ks) l.thread.stage l.thread.hint)) b ready))
 
             each : (js : List Live) → Each (λ j. l.thread.stage < j.thread.stage) js
                 → Derived.barrier_clear (Some v) l.thread.stage (threads_of js) ≡ true
@@ -306,47 +343,49 @@ module _ (p : Pipe) (sound : Sound p) (strict : Strict p) where
                 one true i u = absurd (let w = leb-true _ _ i in let y = s.0 in omega arith)
                 one false i u = ltb-true _ _ u
 
-            at : (c : Option Branch) → (stage_at p l.thread.stage).branch ≡ c → Each (λ j. v < j.thread.stage) ks
-            at None i = each ks (each_map (λ j g. g.trunk l.thread.stage i (le_refl l.thread.stage)) ks behind) clear
-            at (Some x) i =
-                absurd (not_barred (in_stage l.thread.stage p.stmts) (work_of_live p d bits ks l).env ((sound_flows p sound).branches l.thread.stage x i) b)
+            at : (c : List Branch) → (stage_at p l.thread.stage).branches ≡ c → Each (λ j. v < j.thread.stage) ks
+            at [] i = each ks (each_map (λ j g. left_trunk p _ _ g l.thread.stage i (le_refl l.thread.stage)) ks behind) clear
+            at (x ∷ c) i =
+                absurd (not_barred (in_stage l.thread.stage p.stmts) (work_of_live p d bits ks l).env ((sound_flows p sound).branches x c l.thread.stage i) b)
 
         abbrev moved_local : (q : ℕ)
             → goes_to (stage_at p l.thread.stage).next (work_of_live p d bits ks l).env ≡ Some q
-            → Local p (work_of_live p d bits ks l).env [] (moved_one q l (work_of_live p d bits ks l)).thread
+            → Local p (work_of_live p d bits ks l).env [] (moved_one q (advised p st bits l) (work_of_live p d bits ks l)).thread
         moved_local q goes =
             local_moved p (sound_flows p sound) sound strict
-            (around p d bits (dacts p d bits ks) l.thread.stage) kind l.env
+            (around p d bits (dacts p d bits ks) l.thread.stage l.thread.hint) kind l.env
             (l.kept ++ Machine.answered_reads p st bits l.number l.thread.awaits)
-            (now_of p d bits l) now_keeps k.values now_local ready q goes block_start
+            (now_of p d bits l) now_keeps k.values now_local ready refl q goes block_start
 
         trail_moved : (q : ℕ) (goes : goes_to (stage_at p l.thread.stage).next (work_of_live p d bits ks l).env ≡ Some q)
             → (moved_local q goes).trail ≡ l.thread.stage ∷ now_local.trail
         trail_moved q goes =
             moved_trail p (sound_flows p sound) sound strict
-            (around p d bits (dacts p d bits ks) l.thread.stage) kind l.env
+            (around p d bits (dacts p d bits ks) l.thread.stage l.thread.hint) kind l.env
             (l.kept ++ Machine.answered_reads p st bits l.number l.thread.awaits)
-            (now_of p d bits l) now_keeps k.values now_local ready q goes block_start
+            (now_of p d bits l) now_keeps k.values now_local ready refl q goes block_start
 
         -- what holds of a live thread holds of it after a cycle in which it moves to a next stage
         pub lasting_moved : (q : ℕ) → goes_to (stage_at p l.thread.stage).next (work_of_live p d bits ks l).env ≡ Some q
-            → Lasting p (Cycle.after_these p st bits (lacts p st d bits ls) (movers (lacts p st d bits ls)) (squasher (movers (lacts p st d bits ls))))
-            (moved_one q l (work_of_live p d bits ks l)) (go_on p st d bits ks)
+            → Lasting p (next_state p (sound_flows p sound) st d bits ls sim)
+            (moved_one q (advised p st bits l) (work_of_live p d bits ks l)) (go_on p st d bits ks)
         lasting_moved q goes =
             record {
               local = moved_local q goes;
+              guessed =
+                  subst (λ ops. AllOps (GuessDone (deeds_of p st bits l).advice (work_of_live p d bits ks l).env l.thread.hint) ops) (sym is_past) guessed_end;
               owns =
                   subst
                   (λ qs. Owns
-                  (Cycle.after_these p st bits (lacts p st d bits ls) (movers (lacts p st d bits ls)) (squasher (movers (lacts p st d bits ls)))) l.number qs
+                  (next_state p (sound_flows p sound) st d bits ls sim) l.number qs
                   (awaited_of (work_of_live p d bits ks l).asks))
                   (sym
                   (moved_asks p (sound_flows p sound) sound strict
-                  (around p d bits (dacts p d bits ks) l.thread.stage) kind l.env
+                  (around p d bits (dacts p d bits ks) l.thread.stage l.thread.hint) kind l.env
                   (l.kept ++ Machine.answered_reads p st bits l.number l.thread.awaits)
-                  (now_of p d bits l) now_keeps k.values now_local ready q goes block_start))
+                  (now_of p d bits l) now_keeps k.values now_local ready refl q goes block_start))
                   (owns_made
-                  (Cycle.after_these p st bits (lacts p st d bits ls) (movers (lacts p st d bits ls)) (squasher (movers (lacts p st d bits ls)))) l.number
+                  (next_state p (sound_flows p sound) st d bits ls sim) l.number
                   (work_of_live p d bits ks l).asks own_requests);
               certain =
                   λ v e i. beyond v ks older
@@ -359,7 +398,7 @@ module _ (p : Pipe) (sound : Sound p) (strict : Strict p) where
                   (BlockOk (look_at p (threads_of (go_on p st d bits ks))) (work_of_live p d bits ks l).env (work_of_live p d bits ks l).entries ops) ops)
                   (sym is_past)
                   (ops_both
-                  (λ op low b. block_like (around p d bits (dacts p d bits ks) l.thread.stage)
+                  (λ op low b. block_like (around p d bits (dacts p d bits ks) l.thread.stage l.thread.hint)
                   (look_at p (threads_of (go_on p st d bits ks)))
                   (work_of_live p d bits ks l).env (work_of_live p d bits ks l).entries
                   (onto (onpath (work_of_live p d bits ks l).env (in_stage l.thread.stage p.stmts)) (past_of p l.env l.thread.stage)) op
@@ -378,9 +417,9 @@ module _ (p : Pipe) (sound : Sound p) (strict : Strict p) where
                 ≡ onto (onpath (work_of_live p d bits ks l).env (in_stage l.thread.stage p.stmts)) (past_of p l.env l.thread.stage)
             is_past =
                 past_q p (sound_flows p sound) sound strict
-                (around p d bits (dacts p d bits ks) l.thread.stage) kind l.env
+                (around p d bits (dacts p d bits ks) l.thread.stage l.thread.hint) kind l.env
                 (l.kept ++ Machine.answered_reads p st bits l.number l.thread.awaits)
-                (now_of p d bits l) now_keeps k.values now_local ready q goes
+                (now_of p d bits l) now_keeps k.values now_local ready refl q goes
 
             before : (v : ℕ) → verify_stage p.stmts ≡ Some v
                 → (some_barrier (onpath (work_of_live p d bits ks l).env (in_stage l.thread.stage p.stmts)) ≡ true)

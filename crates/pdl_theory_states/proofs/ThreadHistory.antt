@@ -21,8 +21,8 @@ use Rattle.pdl_theory_turns.proofs.StrayPaths.{none_stage_from, fetch_binds}
 use Rattle.pdl_theory_simulation.proofs.Shapes.{calls_front, calls_back}
 use Rattle.pdl_theory_simulation.proofs.Stretches.{Keeps, on_way, start_of, fixed_here, way_next}
 use Rattle.pdl_theory_states.specs.Strict.{Strict, all_new}
-use Rattle.pdl_theory_states.proofs.PastStatements.{none_touched, AskedBy, AllPlaced, placed_set, BlockOk, Past, Kind, past_all}
-use Rattle.pdl_theory_states.proofs.UnusedValues.{AllOps, ops_both, onto, onto_append, all_new_append, all_new_front, touches, Done, done_agrees, set_agrees}
+use Rattle.pdl_theory_states.proofs.PastStatements.{none_touched, guess_set, AskedBy, AllPlaced, placed_set, BlockOk, Past, Kind, past_all}
+use Rattle.pdl_theory_states.proofs.UnusedValues.{AllOps, ops_both, onto, onto_append, all_new_append, all_new_front, touches, Done, done_agrees, set_agrees, guess_past, given}
 use Rattle.pdl_theory_states.proofs.Trails.{AllStmts, stmts_append, stmts_map, stage_stmts, Trail, Among, Steady, trail_same, among_low, among_next}
 use Rattle.pdl_theory_states.proofs.FetchCounts.{fetches_of, asks_are, held_in, HeldOp, fetches_in, count, count_append, count_none, count_same, count_fetch}
 
@@ -62,6 +62,7 @@ pub record Local (p : Pipe) (env : List ℕ) (kept : List Kept) (t : Derived.Thr
   pub among : AllStmts (λ z. Among z.stage trail) (on_way p env t.stage)
   -- what it did there
   pub done : AllOps (Done env t.guess) (past_of p env t.stage)
+  pub guessed : t.guess ≡ guess_past t.hint (past_of p env t.stage) env
   pub placed : AllPlaced env (past_of p env t.stage) t.entries
   -- what it asked for in the last one
   pub asks : List Ask
@@ -177,6 +178,7 @@ module _ (p : Pipe) (st : State) (bits : List Bool) (n : ℕ) where
         walked = loc.walked;
         among = loc.among;
         done = loc.done;
+        guessed = loc.guessed;
         placed = loc.placed;
         asks = loc.asks;
         asked = loc.asked;
@@ -215,14 +217,15 @@ start_long : (p : Pipe) (args : List ℕ) → p.vars ≤ length (start_env p arg
 start_long p args = subst (λ n. p.vars ≤ n) (sym (length-append args _ ∙ ap (λ n. length args + n) (length-replicate _ 0))) (omega arith)
 
 -- a new thread, with just its arguments, keeps to what a live thread keeps to on its own
-pub local_fresh : (p : Pipe) (flows : Flows p) (args : List ℕ) → Local p (start_env p args) [] (Derived.fresh p args)
-local_fresh p flows args =
+pub local_fresh : (p : Pipe) (flows : Flows p) (hint : Derived.Hint) (args : List ℕ) → Local p (start_env p args) [] (Derived.fresh p hint args)
+local_fresh p flows hint args =
     record {
       long = start_long p args;
       trail = [];
       walked = refl;
       among = subst (λ l. AllStmts (λ z. Among z.stage []) l) (sym (flows.first_piece (start_env p args))) tt;
       done = subst (λ l. AllOps (Done (start_env p args) []) (onto l [])) (sym (flows.first_piece (start_env p args))) tt;
+      guessed = ap (λ l. guess_past hint (onto l []) (start_env p args)) (sym (flows.first_piece (start_env p args)));
       placed = tt;
       asks = [];
       asked = tt;
@@ -241,7 +244,7 @@ all_flip P [] f = tt
 all_flip P (q ∷ qs) f = ((λ a. (f a).0), all_flip P qs (λ a. (f a).1))
 
 -- no call among statements
-uncalled : (c : Bool) (xs : List Stmt) (past : List Op)
+pub uncalled : (c : Bool) (xs : List Stmt) (past : List Op)
     → called c xs ≡ false → (c ≡ false → AllOps (λ op. is_call op ≡ false) past)
     → AllOps (λ op. is_call op ≡ false) (onto xs past)
 uncalled c [] past h f = f h
@@ -258,6 +261,12 @@ kept_done guess past [] env u h = h
 kept_done guess past (k ∷ kept) env u h =
     kept_done guess past kept (slice_set env k.var k.word) u.1
     (ops_both (λ op t d. done_agrees env (slice_set env k.var k.word) guess op (set_agrees k.var k.word op env t) d) past u.0 h)
+
+kept_guess : (hint : Derived.Hint) (past : List Op) (kept : List Kept) (env : List ℕ)
+    → AllKept (λ k. AllOps (λ op. touches k.var op ≡ false) past) kept
+    → guess_past hint past env ≡ guess_past hint past (with_kept kept env)
+kept_guess hint past [] env u = refl
+kept_guess hint past (k ∷ kept) env u = guess_set hint k.var k.word env past u.0 ∙ kept_guess hint past kept (slice_set env k.var k.word) u.1
 
 kept_placed : (past : List Op) (es : List Entry) (kept : List Kept) (env : List ℕ)
     → AllKept (λ k. AllOps (λ op. touches k.var op ≡ false) past) kept → AllPlaced env past es
@@ -298,7 +307,7 @@ kept_steady p env kept t loc =
 
 module _ (p : Pipe) (flows : Flows p) (sound : Sound p) (strict : Strict p) (o : Around) (kind : Kind o) (env : List ℕ)
     (kept : List Kept) (t : Derived.Thread) (kept_answer : Keeps p env t) (values : with_kept kept env ≡ t.env)
-    (loc : Local p env kept t) (ready : (work_of_stage p o t).ready ≡ true) where
+    (loc : Local p env kept t) (ready : (work_of_stage p o t).ready ≡ true) (hinted : given o ≡ t.hint) where
   -- the statements of the thread's stage that are on its path
   abbrev pub mine : List Stmt
   mine = onpath (work_of_stage p o t).env (in_stage t.stage p.stmts)
@@ -311,6 +320,10 @@ module _ (p : Pipe) (flows : Flows p) (sound : Sound p) (strict : Strict p) (o :
         done =
             subst (λ l. AllOps (Done l t.guess) (past_of p env t.stage)) values
             (kept_done t.guess (past_of p env t.stage) kept env (kept_unused p env kept t loc) loc.done);
+        guessed =
+            loc.guessed ∙ kept_guess t.hint (past_of p env t.stage) kept env (kept_unused p env kept t loc)
+            ∙ ap (guess_past t.hint (past_of p env t.stage)) values
+            ∙ ap (λ g. guess_past g (past_of p env t.stage) t.env) (sym hinted);
         placed =
             subst (λ l. AllPlaced l (past_of p env t.stage) t.entries) values
             (kept_placed (past_of p env t.stage) t.entries kept env (kept_unused p env kept t loc) loc.placed);
@@ -319,7 +332,8 @@ module _ (p : Pipe) (flows : Flows p) (sound : Sound p) (strict : Strict p) (o :
         blocks = blocks;
       }
 
-  whole_way : onpath (work_of_stage p o t).env p.stmts
+  -- a path is what the thread has done, its stage, and what is left
+  pub whole_way : onpath (work_of_stage p o t).env p.stmts
       ≡ (on_way p env t.stage ++ onpath (work_of_stage p o t).env (in_stage t.stage p.stmts))
       ++ onpath (work_of_stage p o t).env (stages_from (next_of p t.stage (work_of_stage p o t).env) p.stmts)
   whole_way =
@@ -369,7 +383,7 @@ module _ (p : Pipe) (flows : Flows p) (sound : Sound p) (strict : Strict p) (o :
 
       unfetched : (r : ℕ) → Among r (t.stage ∷ loc.trail) → (z a b : ℕ) → (stage_at p r).next ≡ Forks z a b
           → none_of (is_fetch_of z) (in_stage t.stage p.stmts) ≡ true
-      unfetched r (inl i) z a b e = sound.fork_seen t.stage z a b (ap (λ n. (stage_at p n).next) (sym i) ∙ e)
+      unfetched r (inl i) z a b e = sound.fork_seen env t.stage z a b kept_answer.reached (ap (λ n. (stage_at p n).next) (sym i) ∙ e)
       unfetched r (inr i) z a b e =
           fetch_binds z (in_stage t.stage p.stmts)
           (none_stage_from (binds_var z) (suc r) t.stage p.stmts (among_low p flows.graph env t.stage loc.trail loc.walked r i) (sound.fork_bound r z a b e))
@@ -415,6 +429,7 @@ module _ (p : Pipe) (flows : Flows p) (sound : Sound p) (strict : Strict p) (o :
         → Local p (work_of_stage p o t).env []
         (record {
           stage = q;
+          hint = t.hint;
           env = (work_of_stage p o t).env;
           entries = (work_of_stage p o t).entries;
           guess = (work_of_stage p o t).guess;
@@ -433,6 +448,7 @@ module _ (p : Pipe) (flows : Flows p) (sound : Sound p) (strict : Strict p) (o :
               (stmts_map (λ z i. inl i) (onpath (work_of_stage p o t).env (in_stage t.stage p.stmts))
               (stage_stmts (work_of_stage p o t).env t.stage p.stmts)));
           done = subst (λ l. AllOps (Done (work_of_stage p o t).env (work_of_stage p o t).guess) l) (sym past_q) e.done;
+          guessed = e.guessed ∙ ap₂ (λ g l. guess_past g l (work_of_stage p o t).env) hinted (sym past_q);
           placed = subst (λ l. AllPlaced (work_of_stage p o t).env l (work_of_stage p o t).entries) (sym past_q) e.placed;
           asks = (work_of_stage p o t).asks;
           asked = subst (λ l. AllAsks (AskedBy (work_of_stage p o t).env l) (work_of_stage p o t).asks) (sym past_q) e.asked;

@@ -1,8 +1,10 @@
 -- The followers are the threads of the turns, one by one: the arrays have what they have released, and who still looks at a memory has nobody behind it who has released a write of it.
-use Rattle.std.proofs.Common.{◌≡◌, refl, sym, ap, ap₂, ◌∙◌, subst, ℕ, ◌≤◌, ◌<◌, Bool, true, false, ◌&&◌, ◌||◌, not, List, [], ◌∷◌, ◌++◌, Option, Some, None, is_some, nat_lt, cond, if◌then◌else◌, arith, append-nil, append_assoc, le_of_lt, ltb-true, ltb-false}
+use Rattle.std.proofs.Common.{◌≡◌, refl, sym, ap, ap₂, ◌∙◌, subst, ℕ, ◌≤◌, ◌<◌, inl, Bool, true, false, ◌&&◌, ◌||◌, not, List, [], ◌∷◌, ◌++◌, Option, Some, None, is_some, nat_lt, cond, if◌then◌else◌, arith, append-nil, append_assoc, le_of_lt, ltb-true, ltb-false}
 use Rattle.std.proofs.lemmas.Bool.{not-true}
+use Rattle.pdl_theory_facts.proofs.Nested.{within_all}
+use Rattle.pdl_theory_facts.specs.Graphs.{Trunk}
 use Rattle.pdl_semantics.specs.Flat.{Arrays, Pipe, Stmt, of_mem, list_all}
-use Rattle.pdl_semantics.specs.Stages.{list_any, onpath, stage_at, commit_stage, verify_stage}
+use Rattle.pdl_semantics.specs.Stages.{list_any, onpath, commit_stage, verify_stage}
 use Rattle.pdl_semantics.specs.Machine.{State}
 use Rattle.pdl_semantics.specs.Sequential.{thread}
 use Rattle.pdl_semantics.specs.Sound.{Follower, followers_of, strays_of, guessed_wrong, all_pairs, has_done, is_barrier, certain_after, has_released, released_by, still_looks, stages_from, looks_at, is_delayed_read, turn_writes}
@@ -17,7 +19,7 @@ use Rattle.pdl_theory_turns.proofs.UndoneWrites.{marks}
 use Rattle.pdl_theory_turns.proofs.CourseOf.{course}
 use Rattle.pdl_theory_turns.proofs.Lives.{Writes, Marks}
 use Rattle.pdl_theory_turns.proofs.TurnFacts.{right_guess}
-use Rattle.pdl_theory_refinement.proofs.Spots.{Spot, seats, Standing, Tail, Last, Strays}
+use Rattle.pdl_theory_refinement.proofs.Spots.{Spot, with_hint, seats, Standing, Tail, Last, Strays}
 use Rattle.pdl_theory_simulation.proofs.Stretches.{on_way}
 use Rattle.pdl_theory_simulation.proofs.Seats.{Live, threads_of}
 use Rattle.pdl_theory_simulation.proofs.Choices.{Seated}
@@ -69,9 +71,11 @@ module _ (p : Pipe) (sound : Sound p) (st : State) (asked : List (Option ℕ)) (
       let none : os ≡ [] = no_lives os (e ∙ t) in
       (ap (λ ks. followers_of p arrays args (tells ks)) none, ap (λ ks. strays_of p arrays args (tells ks)) none ∙ ap tells (sym none))
   parted w v arrays args ahead [] (sp ∷ sps) ts h t e s = (refl, refl)
-  parted w v arrays args ahead (o ∷ os) (sp ∷ []) ts h t e s = at (so_far p arrays args sp.stage).child refl t
+  parted w v arrays args ahead (o ∷ os) (sp ∷ []) ts h t e s = at (so_far p (with_hint arrays sp.hint) args sp.stage).child refl t
     where
-      at : (c : Option (List ℕ)) → (so_far p arrays args sp.stage).child ≡ c → Last p (course p sound).stray (course p sound).made sp.stage c ts
+      at : (c : Option (List ℕ))
+          → (so_far p (with_hint arrays sp.hint) args sp.stage).child ≡ c
+          → Last p (course p sound).stray (course p sound).made sp.stage c ts
           → (record { live = told o; arrays = arrays; args = args }
           ∷ (if guessed_wrong p (thread p arrays args).next (told o) then []
           else followers_of p (thread p arrays args).arrays (thread p arrays args).next (tells os))
@@ -88,16 +92,16 @@ module _ (p : Pipe) (sound : Sound p) (st : State) (asked : List (Option ℕ)) (
                 (ap (λ ks. strays_of p (thread p arrays args).arrays (thread p arrays args).next (tells ks)) none ∙ ap tells (sym none)),
           )
       at (Some x) i k =
-          let wrong = wrong_of p sound st arrays args o sp (cons_head e) s.0 h.0.waits.gets true h.0.linked (ap is_some i) in (
+          let wrong = wrong_of p sound st (with_hint arrays sp.hint) args o sp (cons_head e) s.0 h.0.waits.gets true h.0.linked (ap is_some i) in (
             ap
                 (λ b. record { live = told o; arrays = arrays; args = args }
                 ∷ cond b [] (followers_of p (thread p arrays args).arrays (thread p arrays args).next (tells os))) wrong,
             ap (λ b. cond b (tells os) (strays_of p (thread p arrays args).arrays (thread p arrays args).next (tells os))) wrong,
           )
   parted w v arrays args ahead (o ∷ os) (sp ∷ sp' ∷ sps) ts h t e s =
-      let right = wrong_of p sound st arrays args o sp (cons_head e) s.0 h.0.waits.gets false h.0.linked (right_made _ _ h.0.linked) in
+      let right = wrong_of p sound st (with_hint arrays sp.hint) args o sp (cons_head e) s.0 h.0.waits.gets false h.0.linked (right_made _ _ h.0.linked) in
       let rest =
-      parted (λ m. w m ++ of_mem m (thread p arrays args).writes) (λ m. v m ++ marks p arrays args sp.stage m)
+      parted (λ m. w m ++ of_mem m (thread p arrays args).writes) (λ m. v m ++ marks p (with_hint arrays sp.hint) args sp.stage m)
       (thread p arrays args).arrays (thread p arrays args).next (sp.stage ∷ ahead) os (sp' ∷ sps) ts h.1 t (cons_tail e) s.1 in (
         ap₂ (λ b l. record { live = told o; arrays = arrays; args = args } ∷ cond b [] l) right rest.0,
         ap₂ (λ b l. cond b (tells os) l) right rest.1,
@@ -113,7 +117,7 @@ module _ (p : Pipe) (sound : Sound p) (st : State) (asked : List (Option ℕ)) (
   early_none m w v arrays args b ahead [] (sp ∷ sps) ts h e s low = refl
   early_none m w v arrays args b ahead (o ∷ os) (sp ∷ sps) ts h e s low =
       ap₂ (λ a c. not a && c) (unreleased (has_released m p (told o)) refl)
-      (early_none m (λ m. w m ++ of_mem m (thread p arrays args).writes) (λ m. v m ++ marks p arrays args sp.stage m)
+      (early_none m (λ m. w m ++ of_mem m (thread p arrays args).writes) (λ m. v m ++ marks p (with_hint arrays sp.hint) args sp.stage m)
       (thread p arrays args).arrays (thread p arrays args).next sp.stage (b ∷ ahead) os sps ts h.1 (cons_tail e) s.1 early)
     where
       early : sp.stage ≤ commit_stage p m
@@ -122,7 +126,8 @@ module _ (p : Pipe) (sound : Sound p) (st : State) (asked : List (Option ℕ)) (
           at : (c : Bool) → nat_lt (commit_stage p m) sp.stage ≡ c → sp.stage ≤ commit_stage p m
           at true i =
               absurd
-              (let j : commit_stage p m < b = h.0.under.0.below (commit_stage p m) (sound.graph.trunk_commit m) (le_of_lt (ltb-true _ _ i)) in
+              (let j : commit_stage p m < b = h.0.under.0 [] (within_all p _) (within_all p _) (commit_stage p m) (sound.graph.trunk_commit m)
+              (le_of_lt (ltb-true _ _ i)) in
               let k = low in omega arith)
           at false i = ltb-false _ _ i
 
@@ -141,7 +146,7 @@ module _ (p : Pipe) (sound : Sound p) (st : State) (asked : List (Option ℕ)) (
   past_is m w v arrays args ahead os [] ts h e s none = append-nil (w m) ∙ h m ∙ ap (λ l. past m ++ strips m l) none ∙ append-nil (past m)
   past_is m w v arrays args ahead [] (sp ∷ sps) ts h e s none = absurd (cc e)
   past_is m w v arrays args ahead (o ∷ os) (sp ∷ sps) ts h e s none = at (nat_lt (commit_stage p m) sp.stage) refl
-      (past_is m (λ m. w m ++ of_mem m (thread p arrays args).writes) (λ m. v m ++ marks p arrays args sp.stage m)
+      (past_is m (λ m. w m ++ of_mem m (thread p arrays args).writes) (λ m. v m ++ marks p (with_hint arrays sp.hint) args sp.stage m)
       (thread p arrays args).arrays (thread p arrays args).next (sp.stage ∷ ahead) os sps ts h.1 (cons_tail e) s.1)
     where
       stage_is : o.thread.stage ≡ sp.stage
@@ -153,14 +158,16 @@ module _ (p : Pipe) (sound : Sound p) (st : State) (asked : List (Option ℕ)) (
       all_released late = by (is_done (phase_all m Fresh (on_way p o.env o.thread.stage))) refl
         where
           way : on_way p o.env o.thread.stage ≡ on_way p (thread (at_once p) arrays args).env sp.stage
-          way = way_of p sound st arrays args o sp (cons_head e) s.0 h.0.waits.gets ∙ ap (on_way p (thread (at_once p) arrays args).env) stage_is
+          way =
+              way_of p sound st (with_hint arrays sp.hint) args o sp (cons_head e) s.0 h.0.waits.gets
+              ∙ ap (on_way p (thread (at_once p) arrays args).env) stage_is
 
           by : (c : Bool) → is_done (phase_all m Fresh (on_way p o.env o.thread.stage)) ≡ c
               → (if has_released m p (told o) then of_mem m (thread p arrays args).writes else []) ≡ of_mem m (thread p arrays args).writes
           by true i = ap (λ c. cond c (of_mem m (thread p arrays args).writes) []) (done_released p sound st o s.0 m i)
           by false i =
               ap (λ c. cond c (of_mem m (thread p arrays args).writes) []) (not_released p sound st o s.0 m i)
-              ∙ sym (turn_kept p sound arrays args sp.stage m late (ap (λ xs. is_done (phase_all m Fresh xs)) (sym way) ∙ i))
+              ∙ sym (turn_kept p sound (with_hint arrays sp.hint) args sp.stage m late (ap (λ xs. is_done (phase_all m Fresh xs)) (sym way) ∙ i))
 
       early : sp.stage ≤ commit_stage p m → has_released m p (told o) ≡ false
       early low = by (has_released m p (told o)) refl
@@ -173,7 +180,7 @@ module _ (p : Pipe) (sound : Sound p) (st : State) (asked : List (Option ℕ)) (
           by false i = i
 
       at : (c : Bool) → nat_lt (commit_stage p m) sp.stage ≡ c
-          → (v m ++ marks p arrays args sp.stage m ≡ []
+          → (v m ++ marks p (with_hint arrays sp.hint) args sp.stage m ≡ []
           → (w m ++ of_mem m (thread p arrays args).writes) ++ released_by m p (lined p (thread p arrays args).arrays (thread p arrays args).next os sps)
           ≡ past m)
           → w m
@@ -185,14 +192,14 @@ module _ (p : Pipe) (sound : Sound p) (st : State) (asked : List (Option ℕ)) (
           ∙ sym
           (append_assoc (w m) (of_mem m (thread p arrays args).writes)
           (released_by m p (lined p (thread p arrays args).arrays (thread p arrays args).next os sps)))
-          ∙ f (ap₂ (λ a b. a ++ b) none ((course p sound).marks_late arrays args sp.stage m (ltb-true _ _ i)))
+          ∙ f (ap₂ (λ a b. a ++ b) none ((course p sound).marks_late (with_hint arrays sp.hint) args sp.stage m (ltb-true _ _ i)))
       at false i f =
           ap₂ (λ c l. w m ++ (cond c (of_mem m (thread p arrays args).writes) [] ++ l)) (early (ltb-false _ _ i))
           (none_released m p (lined p (thread p arrays args).arrays (thread p arrays args).next os sps)
           (early_none m (λ m. w m ++ of_mem m (thread p arrays args).writes)
-          (λ m. v m ++ marks p arrays args sp.stage m)
+          (λ m. v m ++ marks p (with_hint arrays sp.hint) args sp.stage m)
           (thread p arrays args).arrays (thread p arrays args).next sp.stage ahead os sps ts h.1 (cons_tail e) s.1 (ltb-false _ _ i)))
-          ∙ append-nil (w m) ∙ h.0.words m (ltb-false _ _ i) ∙ ap (λ l. past m ++ strips m l) none ∙ append-nil (past m)
+          ∙ append-nil (w m) ∙ h.0.words m (inl (ltb-false _ _ i)) ∙ ap (λ l. past m ++ strips m l) none ∙ append-nil (past m)
 
   -- 8. who still looks has nobody behind it who has released
   module _ (strict : Strict p) where
@@ -218,7 +225,7 @@ module _ (p : Pipe) (sound : Sound p) (st : State) (asked : List (Option ℕ)) (
     pairs_good m w v arrays args ahead [] (sp ∷ sps) ts h e s = refl
     pairs_good m w v arrays args ahead (o ∷ os) (sp ∷ sps) ts h e s =
         ap₂ (λ a b. a && b) (at (still_looks m p (record { live = told o; arrays = arrays; args = args })) refl)
-        (pairs_good m (λ m. w m ++ of_mem m (thread p arrays args).writes) (λ m. v m ++ marks p arrays args sp.stage m)
+        (pairs_good m (λ m. w m ++ of_mem m (thread p arrays args).writes) (λ m. v m ++ marks p (with_hint arrays sp.hint) args sp.stage m)
         (thread p arrays args).arrays (thread p arrays args).next (sp.stage ∷ ahead) os sps ts h.1 (cons_tail e) s.1)
       where
         at : (b : Bool) → still_looks m p (record { live = told o; arrays = arrays; args = args }) ≡ b
@@ -230,7 +237,7 @@ module _ (p : Pipe) (sound : Sound p) (st : State) (asked : List (Option ℕ)) (
             (λ b. list_all (λ (f : Follower). not (b && has_released m p f.live))
             (lined p (thread p arrays args).arrays (thread p arrays args).next os sps)) i
             ∙ early_none m (λ m. w m ++ of_mem m (thread p arrays args).writes)
-            (λ m. v m ++ marks p arrays args sp.stage m)
+            (λ m. v m ++ marks p (with_hint arrays sp.hint) args sp.stage m)
             (thread p arrays args).arrays (thread p arrays args).next sp.stage ahead os sps ts h.1 (cons_tail e) s.1
             (subst (λ (t : Derived.Thread). t.stage ≤ commit_stage p m) (cons_head e) (looks_low m o arrays args s.0 i))
         at false i =
@@ -240,7 +247,7 @@ module _ (p : Pipe) (sound : Sound p) (st : State) (asked : List (Option ℕ)) (
             ∙ all_of (λ (f : Follower). true) (lined p (thread p arrays args).arrays (thread p arrays args).next os sps) (λ f. refl)
 
   -- 5. nobody astray has released
-  stray_each : (m v : ℕ) → verify_stage p.stmts ≡ Some v → (stage_at p v).branch ≡ None → (bound : ℕ) → bound ≤ v
+  stray_each : (m v : ℕ) → verify_stage p.stmts ≡ Some v → Trunk p v → (bound : ℕ) → bound ≤ v
       → (ks : List Live) (ts : List Derived.Thread) → threads_of ks ≡ ts → Each (Seated p st) ks
       → Strays p (course p sound).stray (course p sound).made bound ts
       → list_all (λ l. not (has_done is_barrier p l)) (tells ks) ≡ true
@@ -284,14 +291,15 @@ module _ (p : Pipe) (sound : Sound p) (st : State) (asked : List (Option ℕ)) (
       → list_all (λ l. not (has_released m p l)) (tells (behind os sps)) ≡ true
   strays_good m w v arrays args ahead os [] ts h t e s c = ap (λ ks. list_all (λ l. not (has_released m p l)) (tells ks)) (no_lives os (e ∙ t))
   strays_good m w v arrays args ahead [] (sp ∷ sps) ts h t e s c = refl
-  strays_good m w v arrays args ahead (o ∷ os) (sp ∷ []) ts h t e s c = at (so_far p arrays args sp.stage).child refl t
+  strays_good m w v arrays args ahead (o ∷ os) (sp ∷ []) ts h t e s c = at (so_far p (with_hint arrays sp.hint) args sp.stage).child refl t
     where
-      at : (k : Option (List ℕ)) → (so_far p arrays args sp.stage).child ≡ k
+      at : (k : Option (List ℕ)) → (so_far p (with_hint arrays sp.hint) args sp.stage).child ≡ k
           → Last p (course p sound).stray (course p sound).made sp.stage k ts
           → list_all (λ l. not (has_released m p l)) (tells os) ≡ true
       at None i k = ap (λ ks. list_all (λ l. not (has_released m p l)) (tells ks)) (no_lives os (cons_tail e ∙ k))
       at (Some x) i k =
-          let made = (course p sound).wrong_made arrays args sp.stage x i (ap (λ y. right_guess y (thread p arrays args).next) (sym i) ∙ h.0.linked) in
+          let made = (course p sound).wrong_made (with_hint arrays sp.hint) args sp.stage x i
+          (ap (λ y. right_guess y (thread p arrays args).next) (sym i) ∙ h.0.linked) in
           stray_each m (course p sound).v made.1 (course p sound).trunk_v sp.stage made.0 os ts (cons_tail e) s.1 k
           (uncertain (course p sound).v (told o) (not_less made.0) (tells os)
           (subst (λ y. list_all (certain_after p y (told o)) (tells os) ≡ true) made.1 (and_left _ _ c)))
@@ -306,6 +314,6 @@ module _ (p : Pipe) (sound : Sound p) (st : State) (asked : List (Option ℕ)) (
                   let z = u in omega arith)
               by false j = j
   strays_good m w v arrays args ahead (o ∷ os) (sp ∷ sp' ∷ sps) ts h t e s c =
-      strays_good m (λ m. w m ++ of_mem m (thread p arrays args).writes) (λ m. v m ++ marks p arrays args sp.stage m)
+      strays_good m (λ m. w m ++ of_mem m (thread p arrays args).writes) (λ m. v m ++ marks p (with_hint arrays sp.hint) args sp.stage m)
       (thread p arrays args).arrays (thread p arrays args).next (sp.stage ∷ ahead) os (sp' ∷ sps) ts h.1 t
       (cons_tail e) s.1 (and_right (list_all (certain_after p (verify_stage p.stmts) (told o)) (tells os)) _ c)

@@ -1,26 +1,30 @@
 -- A thread of a turn in a stage: its way is the turn's path, its values and pending writes are the turn's, and its guess is wrong just where its successor isn't the next turn.
-use Rattle.std.proofs.Common.{◌≡◌, refl, sym, ap, ap₂, ◌∙◌, subst, ℕ, suc, ◌<◌, Bool, true, false, ◌&&◌, ◌||◌, not, List, [], ◌∷◌, ◌++◌, Option, Some, None, is_some, ◌==◌, cond, slice_index, eq-eqb}
+use Rattle.std.proofs.Common.{◌≡◌, refl, sym, ap, ap₂, ◌∙◌, subst, ℕ, suc, ◌+◌, ◌-◌, ◌<◌, ◌≤◌, length, arith, nat_lt, is_none, append_assoc, length-append, ltb-true, ltb-false, lt-ltb, Bool, true, false, ◌&&◌, ◌||◌, not, List, [], ◌∷◌, ◌++◌, Option, Some, None, is_some, ◌==◌, cond, slice_index, eq-eqb}
 use Rattle.std.proofs.Math.Bool.{and-false}
-use Rattle.pdl_semantics.specs.Flat.{Arrays, Pipe, Op, Bind, CombRead, DelayedRead, Write, ReserveRead, ReserveWrite, Block, Release, Call, SpecCall, Verify, SpecCheck, SpecBarrier, Stmt, all_hold, Commit, of_mem}
-use Rattle.pdl_semantics.specs.Stages.{list_any, onpath, in_stage, is_verify, verify_stage, reserve_stage}
-use Rattle.pdl_semantics.specs.Machine.{same_args}
+use Rattle.pdl_semantics.specs.Flat.{Pipe, Op, Bind, CombRead, DelayedRead, Write, ReserveRead, ReserveWrite, Block, Release, Call, SpecCall, Verify, SpecCheck, SpecBarrier, AdviceBind, AdviceRead, AdviceWrite, Stmt, value_of, all_hold, Commit, of_mem}
+use Rattle.pdl_semantics.specs.Stages.{list_any, onpath, in_stage, is_verify, verify_stage, reserve_stage, commit_stage}
+use Rattle.pdl_semantics.specs.Machine.{Pending, same_args}
 use Rattle.pdl_semantics.specs.Sequential.{Run, run_after, run_all, thread}
-use Rattle.pdl_semantics.specs.Sound.{stages_before, is_right_entry, is_write, is_spec_call, stages_from}
-use Rattle.pdl_theory_derived.specs.Derived.{Entry, Work, work_after, do_all}
-use Rattle.pdl_theory_derived.specs.Alone.{alone, before, answered_op, start_work, so_far}
+use Rattle.pdl_semantics.specs.Sound.{stages_before, is_right_entry, are_right, is_write, is_spec_call, stages_from}
+use Rattle.pdl_theory_derived.specs.Derived.{Work, work_after, do_all}
+use Rattle.pdl_theory_derived.specs.Alone.{World, alone, before, answered_op, start_work, so_far}
 use Rattle.pdl_theory_facts.specs.GuessScans.{Making, Unmade, Guessed, Made, next_making, making_all, makings_ok, making_ok, is_guessed, is_unmade}
-use Rattle.pdl_theory_facts.specs.Scans.{Phase, Fresh, Held, Written, Done, next_phase, phase_all, phase_ok, phases_ok, is_fresh, after_release, none_of, binds_var, is_fixed, no_guards}
+use Rattle.pdl_theory_facts.specs.Scans.{Phase, Fresh, next_phase, phase_all, phase_ok, phases_ok, none_of, binds_var, is_fixed, no_guards}
 use Rattle.pdl_theory_facts.specs.Facts.{Sound, looked_all, at_once}
 use Rattle.pdl_theory_facts.specs.Accepted.{Accepted, along}
-use Rattle.pdl_theory_derived.proofs.Writes.{and_left, and_right}
-use Rattle.pdl_theory_derived.proofs.Entries.{entries_of, entry, addresses, places}
-use Rattle.pdl_theory_turns.proofs.Phases.{Tied}
+use Rattle.pdl_theory_derived.proofs.Writes.{and_left, and_right, of_mem_append}
+use Rattle.pdl_theory_derived.proofs.Entries.{entries_of, entry, write_of, places, Open, Full, waiting, known, told}
+use Rattle.pdl_theory_derived.proofs.Slots.{rev}
+use Rattle.pdl_theory_turns.proofs.Phases.{opened}
+use Rattle.pdl_theory_turns.proofs.Turn.{addresses_at, places_append}
+use Rattle.pdl_theory_turns.proofs.Surroundings.{taken_none}
+use Rattle.pdl_theory_turns.proofs.Steps.{pend_append}
 use Rattle.pdl_theory_turns.proofs.SequentialThread.{Related, related_step}
 use Rattle.pdl_theory_turns.proofs.Paths.{Fixed, taken_stays, before_path}
 use Rattle.pdl_theory_turns.proofs.OwnEntries.{none_second}
 use Rattle.pdl_theory_turns.proofs.Looks.{before_looked, run_looked}
-use Rattle.pdl_theory_turns.proofs.UndoneWrites.{is_settled, settled_whole}
-use Rattle.pdl_theory_derived.proofs.Lists.{own}
+use Rattle.pdl_theory_turns.proofs.UndoneWrites.{same_rest, writes_first, tied_at, early_written, late_empty}
+use Rattle.pdl_theory_derived.proofs.Lists.{own, pend}
 use Rattle.pdl_theory_turns.proofs.TurnFacts.{right_guess}
 use Rattle.pdl_theory_turns.proofs.Guesses.{Calls, same_args_refl}
 use Rattle.pdl_theory_simulation.proofs.Stretches.{on_way}
@@ -29,6 +33,7 @@ use Rattle.pdl_theory_turns.proofs.StageFacts
 use Rattle.pdl_theory_turns.proofs.Turns
 use Rattle.pdl_theory_turns.proofs.TurnPath
 use Rattle.pdl_theory_states.proofs.Stage.{before_stages, way_looked}
+use Rattle.pdl_theory_states.proofs.FetchCounts.{count}
 use Rattle.pdl_theory_turns.proofs.StrayPaths.{verify_same}
 
 -- PATHS
@@ -45,25 +50,25 @@ way_same env path (x ∷ xs) ys h f =
     (way_same env path xs ys (and_right _ _ h) f)
 
 -- a run of the statements that a thread alone carries out
-follow : (path : List ℕ) (arrays : Arrays) (xs : List Stmt) (ph : ℕ → Phase) (w : Work) (r : Run)
-    → Fixed path (alone arrays) xs w → ((n : ℕ) → phases_ok n (ph n) (onpath path xs) ≡ true) → Related arrays ph w r
-    → (do_all (alone arrays) xs w).env ≡ (run_all xs r).env
-follow path arrays [] ph w r f ok rel = rel.env
-follow path arrays (x ∷ xs) ph w r f ok rel =
+follow : (path : List ℕ) (world : World) (xs : List Stmt) (ph : ℕ → Phase) (w : Work) (r : Run)
+    → Fixed path (alone world) xs w → ((n : ℕ) → phases_ok n (ph n) (onpath path xs) ≡ true) → Related world ph w r
+    → (do_all (alone world) xs w).env ≡ (run_all xs r).env
+follow path world [] ph w r f ok rel = rel.env
+follow path world (x ∷ xs) ph w r f ok rel =
     at (all_hold x.guards w.env) (all_hold x.guards r.env) (ap (all_hold x.guards) rel.env)
-    (all_hold x.guards path) f.0 ok f.1 (λ ph' w' r' f' ok' rel'. follow path arrays xs ph' w' r' f' ok' rel')
+    (all_hold x.guards path) f.0 ok f.1 (λ ph' w' r' f' ok' rel'. follow path world xs ph' w' r' f' ok' rel')
   where
     at : (b c : Bool) → b ≡ c → (d : Bool) → b ≡ d
         → ((n : ℕ) → phases_ok n (ph n) (cond d (record x { guards = [] } ∷ onpath path xs) (onpath path xs)) ≡ true)
-        → Fixed path (alone arrays) xs (cond b (work_after (alone arrays) x.op w) w)
-        → ((ph' : ℕ → Phase) (w' : Work) (r' : Run) → Fixed path (alone arrays) xs w'
-        → ((n : ℕ) → phases_ok n (ph' n) (onpath path xs) ≡ true) → Related arrays ph' w' r'
-        → (do_all (alone arrays) xs w').env ≡ (run_all xs r').env)
-        → (do_all (alone arrays) xs (cond b (work_after (alone arrays) x.op w) w)).env ≡ (run_all xs (cond c (run_after x.op r) r)).env
+        → Fixed path (alone world) xs (cond b (work_after (alone world) x.op w) w)
+        → ((ph' : ℕ → Phase) (w' : Work) (r' : Run) → Fixed path (alone world) xs w'
+        → ((n : ℕ) → phases_ok n (ph' n) (onpath path xs) ≡ true) → Related world ph' w' r'
+        → (do_all (alone world) xs w').env ≡ (run_all xs r').env)
+        → (do_all (alone world) xs (cond b (work_after (alone world) x.op w) w)).env ≡ (run_all xs (cond c (run_after x.op r) r)).env
     at true true e true i k g go =
-        go (λ n. next_phase n (ph n) x.op) (work_after (alone arrays) x.op w)
+        go (λ n. next_phase n (ph n) x.op) (work_after (alone world) x.op w)
         (run_after x.op r) g (λ n. and_right (true && phase_ok n (ph n) x.op) _ (k n))
-        (related_step arrays ph x.op w r (λ n. and_right true _ (and_left _ _ (k n))) rel)
+        (related_step world ph x.op w r (λ n. and_right true _ (and_left _ _ (k n))) rel)
     at true true e false i k g go = absurd (cc i)
     at true false e d i k g go = absurd (cc e)
     at false true e d i k g go = absurd (cc e)
@@ -73,113 +78,120 @@ follow path arrays (x ∷ xs) ph w r f ok rel =
 -- WRITES
 
 -- each entry of a thread has the property
-abbrev pub AllEntries : (Entry → Type 0) → List Entry → Type 0
-AllEntries P [] = Unit {0}
-AllEntries P (e ∷ es) = P e × AllEntries P es
+abbrev pub right_list : ℕ → List Commit → List Pending → Bool
+right_list k ds es = (length es == 0) || are_right k ds es
 
-right_one : (m n : ℕ) (ph : Phase) (env : List ℕ) (es : List Entry) (cs ws ds : List Commit) → Tied m ph env es cs ws
-    → addresses es ++ places cs ≡ places ds → (is_settled ph ≡ true → ds ≡ ws)
-    → AllEntries (λ e. is_right_entry (is_settled ph) ds (own n e) ≡ true) es
-right_one m n Fresh env es cs ws ds t f g = subst (λ l. AllEntries (λ e. is_right_entry false ds (own n e) ≡ true) l) (sym t.0) tt
-right_one m n (Held x) env es cs ws ds t f g =
-    subst (λ l. AllEntries (λ e. is_right_entry false ds (own n e) ≡ true) l) (sym t.0) (held ds (sym (ap₂ (λ l k. addresses l ++ places k) t.0 t.1) ∙ f), tt)
+right_some : (k : ℕ) (ds : List Commit) (es : List Pending) → are_right k ds es ≡ true → right_list k ds es ≡ true
+right_some k ds es h = at (length es == 0)
   where
-    held : (ds : List Commit) → slice_index env x ∷ [] ≡ places ds → is_right_entry false ds (own n (entry m x (slice_index env x) None)) ≡ true
-    held [] h = absurd (cc h)
-    held (d ∷ ds) h = ap (λ b. b && true) (eq-eqb (slice_index env x) d.address (first h))
-      where
-        first : {ys : List ℕ} → slice_index env x ∷ [] ≡ d.address ∷ ys → slice_index env x ≡ d.address
-        first i = cc
-right_one m n (Written x) env es cs ws ds t f g =
-    subst (λ l. AllEntries (λ e. is_right_entry true ds (own n e) ≡ true) l) (sym t.2) (
-      subst (λ l. is_right_entry true l (own n (entry m x t.0 (Some t.1))) ≡ true) (sym (g refl ∙ t.4))
-          (ap₂ (λ a b. a && b) (eq-eqb t.0 t.0 refl) (eq-eqb t.1 t.1 refl)),
-      tt,
-    )
-right_one m n Done env es cs ws ds t f g = subst (λ l. AllEntries (λ e. is_right_entry true ds (own n e) ≡ true) l) (sym t.0) tt
+    at : (b : Bool) → (b || are_right k ds es) ≡ true
+    at true = refl
+    at false = h
 
--- a phase is settled just where there was a write
-settled_op : (m : ℕ) (ph : Phase) (op : Op) → phase_ok m ph op ≡ true → is_settled (next_phase m ph op) ≡ (is_settled ph || is_write m op)
-settled_op m ph (Write n a e) h = at (n == m)
+-- entries with a value are those of the first writes
+right_known : (m n k : ℕ) (fs : List Full) (ds : List Commit) (ys : List Pending)
+    → are_right k ds ys ≡ true → are_right (k + length (told m fs)) (told m fs ++ ds) (pend m n (known m fs) ++ ys) ≡ true
+right_known m n k [] ds ys h = subst (λ j. are_right j ds ys ≡ true) (let e : k ≡ k + 0 = omega arith in e) h
+right_known m n k (f ∷ fs) ds ys h =
+    ap (λ b. are_right (k + length (told m (f ∷ fs))) (told m (f ∷ fs) ++ ds) ((pend m n (known m fs) ++ cond b (e ∷ []) []) ++ ys)) (eq-eqb m m refl)
+    ∙ ap₂ (λ xs es. are_right (k + length (told m (f ∷ fs))) xs es) (append_assoc (told m fs) (w ∷ []) ds) (append_assoc (pend m n (known m fs)) (e ∷ []) ys)
+    ∙ ap (λ j. are_right j (told m fs ++ w ∷ ds) (pend m n (known m fs) ++ e ∷ ys)) more
+    ∙ right_known m n (suc k) fs (w ∷ ds) (e ∷ ys)
+    (ap₂ (λ b j. is_right_entry b w e && are_right j ds ys) (lt-ltb 0 (suc k) (omega arith)) (let e : suc k - 1 ≡ k = omega arith in e)
+    ∙ ap₂ (λ a b. a && b) (ap₂ (λ a b. a && b) (eq-eqb f.address f.address refl) (eq-eqb f.value f.value refl)) h)
   where
-    at : (b : Bool) → is_settled (cond b (Written a) ph) ≡ (is_settled ph || b)
-    at true = yes (is_settled ph)
-      where
-        yes : (b : Bool) → true ≡ (b || true)
-        yes true = refl
-        yes false = refl
-    at false = no (is_settled ph)
-      where
-        no : (b : Bool) → b ≡ (b || false)
-        no true = refl
-        no false = refl
-settled_op m ph (ReserveWrite n a) h = at (n == m) h
+    w : Commit
+    w = write_of m f.address f.value
+
+    e : Pending
+    e = own n (entry m f.var f.address (Some f.value))
+
+    more : k + length (told m fs ++ w ∷ []) ≡ suc k + length (told m fs)
+    more = let l : length (told m fs ++ w ∷ []) ≡ length (told m fs) + 1 = length-append (told m fs) (w ∷ []) in omega arith
+
+-- entries without a value have the addresses of the others
+abbrev NoneYet : List Pending → Type 0
+NoneYet [] = Unit {0}
+NoneYet (e ∷ es) = (e.value ≡ None) × NoneYet es
+
+abbrev spots_of : List Pending → List ℕ
+spots_of [] = []
+spots_of (e ∷ es) = e.address ∷ spots_of es
+
+none_append : (xs ys : List Pending) → NoneYet xs → NoneYet ys → NoneYet (xs ++ ys)
+none_append [] ys f g = g
+none_append (x ∷ xs) ys f g = (f.0, none_append xs ys f.1 g)
+
+spots_append : (xs ys : List Pending) → spots_of (xs ++ ys) ≡ spots_of xs ++ spots_of ys
+spots_append [] ys = refl
+spots_append (x ∷ xs) ys = ap (λ l. x.address ∷ l) (spots_append xs ys)
+
+none_waiting : (m n : ℕ) (os : List Open) → NoneYet (pend m n (waiting m os))
+none_waiting m n [] = tt
+none_waiting m n (o ∷ os) = none_append (pend m n (waiting m os)) _ (none_waiting m n os) (at (m == m))
   where
-    fresh : (ph : Phase) → is_fresh ph ≡ true → false ≡ (is_settled ph || false)
-    fresh Fresh i = refl
-    fresh (Held x) i = refl
-    fresh (Written x) i = absurd (cc i)
-    fresh Done i = absurd (cc i)
+    at : (b : Bool) → NoneYet (cond b (own n (entry m o.var o.address None) ∷ []) [])
+    at true = (refl, tt)
+    at false = tt
 
-    no : (b : Bool) → b ≡ (b || false)
-    no true = refl
-    no false = refl
+spots_waiting : (m n : ℕ) (env xs : List ℕ) → spots_of (pend m n (waiting m (opened env xs))) ≡ rev (addresses_at env xs)
+spots_waiting m n env [] = refl
+spots_waiting m n env (x ∷ xs) =
+    spots_append (pend m n (waiting m (opened env xs))) _
+    ∙ ap₂ (λ l b. l ++ spots_of (cond b (own n (entry m x (slice_index env x) None) ∷ []) [])) (spots_waiting m n env xs) (eq-eqb m m refl)
 
-    at : (b : Bool) → (not b || is_fresh ph) ≡ true → is_settled (cond b (Held a) ph) ≡ (is_settled ph || false)
-    at true i = fresh ph i
-    at false i = no (is_settled ph)
-settled_op m ph (Release n a) h = at (n == m)
+right_none : (ds : List Commit) (es : List Pending) → NoneYet es → places ds ≡ spots_of es → are_right 0 ds es ≡ true
+right_none [] [] f h = refl
+right_none [] (e ∷ es) f h = absurd (cc h)
+right_none (d ∷ ds) [] f h = absurd (cc h)
+right_none (d ∷ ds) (e ∷ es) f h = ap₂ (λ a b. a && b)
+    (ap₂ (λ a b. a && b) (eq-eqb e.address d.address (sym (first h))) (ap is_none f.0)) (right_none ds es f.1 (rest h))
   where
-    after : (ph : Phase) → is_settled (after_release ph a) ≡ (is_settled ph || false)
-    after Fresh = refl
-    after (Held x) = refl
-    after (Written x) = by (x == a)
-      where
-        by : (b : Bool) → is_settled (cond b Done (Written x)) ≡ true
-        by true = refl
-        by false = refl
-    after Done = refl
+    first : d.address ∷ places ds ≡ e.address ∷ spots_of es → d.address ≡ e.address
+    first i = cc
 
-    no : (b : Bool) → b ≡ (b || false)
-    no true = refl
-    no false = refl
+    rest : d.address ∷ places ds ≡ e.address ∷ spots_of es → places ds ≡ spots_of es
+    rest i = cc
 
-    at : (b : Bool) → is_settled (cond b (after_release ph a) ph) ≡ (is_settled ph || false)
-    at true = after ph
-    at false = no (is_settled ph)
-settled_op m ph (DelayedRead x n a) h = absurd (cc h)
-settled_op m ph (Bind x e) h = or_none (is_settled ph)
+-- how many writes a run makes
+plus_none : (n : ℕ) → n ≡ n + 0
+plus_none n = omega arith
+
+more_writes : (m : ℕ) (op : Op) (r : Run) → length (of_mem m (run_after op r).writes) ≡ length (of_mem m r.writes) + cond (is_write m op) 1 0
+more_writes m (Write n a e) r =
+    ap length (of_mem_append m r.writes _) ∙ length-append (of_mem m r.writes) _ ∙ ap (λ k. length (of_mem m r.writes) + k) (at (n == m))
   where
-    or_none : (b : Bool) → b ≡ (b || false)
-    or_none true = refl
-    or_none false = refl
-settled_op m ph (CombRead x n a) h = or_none (is_settled ph)
-  where
-    or_none : (b : Bool) → b ≡ (b || false)
-    or_none true = refl
-    or_none false = refl
-settled_op m ph _ h = or_none (is_settled ph)
-  where
-    or_none : (b : Bool) → b ≡ (b || false)
-    or_none true = refl
-    or_none false = refl
+    at : (b : Bool) → length (cond b (write_of n (slice_index r.env a) (value_of e r.env) ∷ []) []) ≡ cond b 1 0
+    at true = refl
+    at false = refl
+more_writes m (Verify true args) r = plus_none (length (of_mem m r.writes))
+more_writes m (Verify false args) r = plus_none (length (of_mem m r.writes))
+more_writes m _ r = plus_none (length (of_mem m r.writes))
 
-or_assoc : (a b c : Bool) → ((a || b) || c) ≡ (a || (b || c))
-or_assoc true b c = refl
-or_assoc false b c = refl
+none_first : (n : ℕ) → 0 + n ≡ n
+none_first n = omega arith
 
-settled_all : (m : ℕ) (ph : Phase) (xs : List Stmt)
+run_count : (m : ℕ) (ph : Phase) (xs : List Stmt) (r : Run)
     → phases_ok m ph xs ≡ true
-    → is_settled (phase_all m ph xs) ≡ (is_settled ph || list_any (λ (x : Stmt). is_write m x.op) xs)
-settled_all m ph [] h = no (is_settled ph)
+    → length (of_mem m (run_all xs r).writes) ≡ length (of_mem m r.writes) + count (λ x. is_write m x.op) xs
+run_count m ph [] r h = plus_none (length (of_mem m r.writes))
+run_count m ph (x ∷ xs) r h =
+    ap (λ b. length (of_mem m (run_all xs (cond b (run_after x.op r) r)).writes))
+    (taken_none x.guards r.env (and_left _ _ (and_left (no_guards x.guards && phase_ok m ph x.op) _ h)))
+    ∙ run_count m (next_phase m ph x.op) xs (run_after x.op r) (and_right (no_guards x.guards && phase_ok m ph x.op) _ h)
+    ∙ ap (λ n. n + count (λ x. is_write m x.op) xs) (more_writes m x.op r)
+    ∙ one (is_write m x.op)
   where
-    no : (b : Bool) → b ≡ (b || false)
-    no true = refl
-    no false = refl
-settled_all m ph (x ∷ xs) h =
-    settled_all m (next_phase m ph x.op) xs (and_right (no_guards x.guards && phase_ok m ph x.op) _ h)
-    ∙ ap (λ b. b || list_any (λ (x : Stmt). is_write m x.op) xs) (settled_op m ph x.op (and_right _ _ (and_left _ _ h)))
-    ∙ or_assoc (is_settled ph) (is_write m x.op) (list_any (λ (x : Stmt). is_write m x.op) xs)
+    one : (b : Bool)
+        → (length (of_mem m r.writes) + cond b 1 0) + count (λ x. is_write m x.op) xs
+        ≡ length (of_mem m r.writes) + cond b (1 + count (λ x. is_write m x.op) xs) (count (λ x. is_write m x.op) xs)
+    one true = omega arith
+    one false = omega arith
+
+count_looked : (test : Op → Bool)
+    → ((op : Op) → test (answered_op op) ≡ test op) → (xs : List Stmt) → count (λ x. test x.op) (looked_all xs) ≡ count (λ x. test x.op) xs
+count_looked test f [] = refl
+count_looked test f (x ∷ xs) = ap₂ (λ b n. cond b (1 + n) n) (f x.op) (count_looked test f xs)
 
 any_looked : (test : Op → Bool)
     → ((op : Op) → test (answered_op op) ≡ test op) → (xs : List Stmt)
@@ -217,11 +229,16 @@ guess_op v k s (SpecCall args) h = yes (is_guessed k)
     yes : (b : Bool) → true ≡ ((b || true) && true)
     yes true = refl
     yes false = refl
-guess_op v k s (Verify args) h = no (is_guessed k || false)
+guess_op v k s (Verify true args) h = no (is_guessed k || false)
   where
     no : (b : Bool) → false ≡ (b && false)
     no true = refl
     no false = refl
+guess_op v k s (Verify false args) h = yes (is_guessed k) (and_left (is_guessed k) _ h)
+  where
+    yes : (b : Bool) → b ≡ true → true ≡ ((b || false) && true)
+    yes true i = refl
+    yes false i = absurd (cc i)
 guess_op v k s _ h = same (is_guessed k)
   where
     same : (b : Bool) → b ≡ ((b || false) && true)
@@ -242,7 +259,8 @@ after_check v k (x ∷ xs) h g u =
     at Guessed op g u i f = absurd (cc g)
     at Made (Call args) g u i f = absurd (cc i)
     at Made (SpecCall args) g u i f = absurd (cc i)
-    at Made (Verify args) g u i f = absurd (cc i)
+    at Made (Verify true args) g u i f = absurd (cc i)
+    at Made (Verify false args) g u i f = absurd (cc i)
     at Made _ g u i f = f refl
 
 guess_all : (v : Option ℕ) (k : Making) (xs : List Stmt)
@@ -263,7 +281,8 @@ guess_all v k (x ∷ xs) h =
     clean false false t c = refl
 
     made : (op : Op) → is_verify op ≡ true → next_making k op ≡ Made
-    made (Verify args) e = refl
+    made (Verify true args) e = refl
+    made (Verify false args) e = absurd (cc e)
     made (Bind y e') e = absurd (cc e)
     made (CombRead y m a) e = absurd (cc e)
     made (DelayedRead y m a) e = absurd (cc e)
@@ -275,6 +294,9 @@ guess_all v k (x ∷ xs) h =
     made (Call args) e = absurd (cc e)
     made (SpecCall args) e = absurd (cc e)
     made SpecCheck e = absurd (cc e)
+    made (AdviceBind x' e') e = absurd (cc e)
+    made (AdviceRead x' m' a') e = absurd (cc e)
+    made (AdviceWrite m' a' e') e = absurd (cc e)
     made SpecBarrier e = absurd (cc e)
 
     at : (b : Bool) → is_verify x.op ≡ b
@@ -292,111 +314,141 @@ guess_all v k (x ∷ xs) h =
 
 -- A TURN
 
-module _ (p : Pipe) (sound : Sound p) (arrays : Arrays) (args : List ℕ) where
+module _ (p : Pipe) (sound : Sound p) (world : World) (args : List ℕ) where
   -- the values with which the turn ends where delayed reads have their answers at once, which tell its path
   abbrev pub path : List ℕ
-  path = (thread (at_once p) arrays args).env
+  path = (thread (at_once p) world.words args).env
 
   -- the statements of the turn's path, with delayed reads answered at once, have the facts of an accepted pipe
-  pub acc : Accepted (along (thread (at_once p) arrays args).env (at_once p))
-  acc = sound.pathwise.paths (thread (at_once p) arrays args).env
+  pub acc : Accepted (along (thread (at_once p) world.words args).env (at_once p))
+  acc = sound.pathwise.paths (thread (at_once p) world.words args).env
 
   -- before each stage the turn has done the same on the statements of its path alone, with delayed reads answered at once
-  pub so : (s : ℕ) → so_far p arrays args s ≡ so_far (along (thread (at_once p) arrays args).env (at_once p)) arrays args s
-  so s = sym (StageFacts.same_so p sound arrays args s) ∙ Turns.so_path (at_once p) sound.pathwise arrays args s
+  pub so : (s : ℕ) → so_far p world args s ≡ so_far (along (thread (at_once p) world.words args).env (at_once p)) world args s
+  so s = sym (StageFacts.same_so p sound world args s) ∙ Turns.so_path (at_once p) sound.pathwise world args s
 
   -- the sequential thread is the same on the statements of its path alone, with delayed reads answered at once
-  pub whole : thread p arrays args ≡ thread (along (thread (at_once p) arrays args).env (at_once p)) arrays args
-  whole = sym (StageFacts.same_thread p sound arrays args) ∙ Turns.thread_path (at_once p) sound.pathwise arrays args
+  pub whole : thread p world.words args ≡ thread (along (thread (at_once p) world.words args).env (at_once p)) world.words args
+  whole = sym (StageFacts.same_thread p sound world args) ∙ Turns.thread_path (at_once p) sound.pathwise world args
 
   -- the way of a turn up to a stage is that of its path
-  pub turn_way : (s : ℕ) → on_way p (so_far p arrays args s).env s ≡ on_way p (thread (at_once p) arrays args).env s
+  pub turn_way : (s : ℕ) → on_way p (so_far p world args s).env s ≡ on_way p (thread (at_once p) world.words args).env s
   turn_way s =
-      way_same (so_far p arrays args s).env (thread (at_once p) arrays args).env (stages_before s p.stmts)
+      way_same (so_far p world args s).env (thread (at_once p) world.words args).env (stages_before s p.stmts)
       (in_stage s (looked_all p.stmts) ++ stages_from (suc s) (looked_all p.stmts))
       (subst (λ l. is_fixed (l ++ (in_stage s (looked_all p.stmts) ++ stages_from (suc s) (looked_all p.stmts))) ≡ true)
       (before_looked s p.stmts ∙ before_stages s p.stmts) (sound.pathwise.fixed_by s))
       (λ g k. sym
       (ap (λ (w : Work). slice_index w.env g) (so s)
-      ∙ Turns.value_kept (at_once p) sound.pathwise arrays args s g (Turns.none_parts (binds_var g) s (looked_all p.stmts) k)))
+      ∙ Turns.value_kept (at_once p) sound.pathwise world args s g (Turns.none_parts (binds_var g) s (looked_all p.stmts) k)))
 
   -- the values of a turn before a stage are those of the sequential run after the statements of earlier stages
-  pub turn_env : (s : ℕ) → (so_far p arrays args s).env ≡ (run_all (stages_before s p.stmts) (TurnPath.start_run p arrays args)).env
+  pub turn_env : (s : ℕ) → (so_far p world args s).env ≡ (run_all (stages_before s p.stmts) (TurnPath.start_run p world.words args)).env
   turn_env s =
-      follow (thread (at_once p) arrays args).env arrays (before s p.stmts) (λ m. Fresh) (start_work p args) (TurnPath.start_run p arrays args)
-      (subst (λ l. Fixed (thread (at_once p) arrays args).env (alone arrays) l (start_work p args))
-      (before_looked s p.stmts) (Turns.fixed_before (at_once p) sound.pathwise arrays args s))
+      follow (thread (at_once p) world.words args).env world (before s p.stmts) (λ m. Fresh) (start_work p args) (TurnPath.start_run p world.words args)
+      (subst (λ l. Fixed (thread (at_once p) world.words args).env (alone world) l (start_work p args))
+      (before_looked s p.stmts) (Turns.fixed_before (at_once p) sound.pathwise world args s))
       (λ n. subst (λ l. phases_ok n Fresh l ≡ true)
-      (before_path (thread (at_once p) arrays args).env s (looked_all p.stmts) ∙ ap (onpath (thread (at_once p) arrays args).env) (before_looked s p.stmts))
-      (TurnPath.ok_before (along (thread (at_once p) arrays args).env (at_once p)) acc arrays args s n))
-      (TurnPath.start_related (along (thread (at_once p) arrays args).env (at_once p)) acc arrays args)
-      ∙ ap (λ l. (run_all l (TurnPath.start_run p arrays args)).env) (before_stages s p.stmts)
-      ∙ ap (λ (r : Run). r.env) (run_looked (stages_before s p.stmts) (TurnPath.start_run p arrays args))
+      (before_path (thread (at_once p) world.words args).env s (looked_all p.stmts)
+      ∙ ap (onpath (thread (at_once p) world.words args).env) (before_looked s p.stmts))
+      (TurnPath.ok_before (along (thread (at_once p) world.words args).env (at_once p)) acc world args s n))
+      (TurnPath.start_related (along (thread (at_once p) world.words args).env (at_once p)) acc world args)
+      ∙ ap (λ l. (run_all l (TurnPath.start_run p world.words args)).env) (before_stages s p.stmts)
+      ∙ ap (λ (r : Run). r.env) (run_looked (stages_before s p.stmts) (TurnPath.start_run p world.words args))
 
   -- past the stage of m's reserves the pending writes of a turn have the address of its write of m and, once written, its value
   pub turn_entries : (s m n : ℕ) → reserve_stage p m < s
-      → AllEntries
-      (λ e. is_right_entry (list_any (λ (x : Stmt). is_write m x.op) (on_way p (thread (at_once p) arrays args).env s))
-      (of_mem m (thread p arrays args).writes) (own n e)
-      ≡ true)
-      (entries_of m (so_far p arrays args s).entries)
+      → right_list (count
+      (λ x. is_write m x.op) (on_way p (thread (at_once p) world.words args).env s))
+      (of_mem m (thread p world.words args).writes) (pend m n
+      (entries_of m (so_far p world args s).entries)) ≡ true
   turn_entries s m n h =
       subst
-      (λ b. AllEntries (λ e. is_right_entry b (of_mem m (thread p arrays args).writes) (own n e) ≡ true)
-      (entries_of m (so_far p arrays args s).entries)) written
-      (subst
-      (λ (w : Work). AllEntries
-      (λ e. is_right_entry (is_settled (phase_all m Fresh (before s (onpath (thread (at_once p) arrays args).env (looked_all p.stmts)))))
-      (of_mem m (thread p arrays args).writes) (own n e)
-      ≡ true)
-      (entries_of m w.entries))
+      (λ (w : Work). right_list made
+      (of_mem m (thread p world.words args).writes) (pend m n
+      (entries_of m w.entries)) ≡ true)
       (sym (so s))
       (subst
-      (λ (r : Run). AllEntries
-      (λ e. is_right_entry (is_settled (phase_all m Fresh (before s (onpath (thread (at_once p) arrays args).env (looked_all p.stmts)))))
-      (of_mem m r.writes) (own n e)
-      ≡ true)
-      (entries_of m (so_far (along (thread (at_once p) arrays args).env (at_once p)) arrays args s).entries))
+      (λ (r : Run). right_list made
+      (of_mem m r.writes) (pend m n
+      (entries_of m (so_far q world args s).entries)) ≡ true)
       (sym whole)
-      (right_one m n (phase_all m Fresh (before s (onpath (thread (at_once p) arrays args).env (looked_all p.stmts))))
-      (so_far (along (thread (at_once p) arrays args).env (at_once p)) arrays args s).env _ _ _ _
-      ((TurnPath.related_at (along (thread (at_once p) arrays args).env (at_once p)) acc arrays args s).tied m)
-      (TurnPath.all_places (along (thread (at_once p) arrays args).env (at_once p)) acc arrays args s m h)
-      (settled_whole (along (thread (at_once p) arrays args).env (at_once p)) acc arrays args s m))))
+      (at (nat_lt (commit_stage p m) s) refl))
     where
-      written : is_settled (phase_all m Fresh (before s (onpath (thread (at_once p) arrays args).env (looked_all p.stmts))))
-          ≡ list_any (λ (x : Stmt). is_write m x.op) (on_way p (thread (at_once p) arrays args).env s)
-      written =
-          settled_all m Fresh (before s (onpath (thread (at_once p) arrays args).env (looked_all p.stmts)))
-          (TurnPath.ok_before (along (thread (at_once p) arrays args).env (at_once p)) acc arrays args s m)
-          ∙ ap (list_any (λ (x : Stmt). is_write m x.op)) (way_looked p (thread (at_once p) arrays args).env s)
-          ∙ any_looked (is_write m) (write_looked m) (on_way p (thread (at_once p) arrays args).env s)
+      q : Pipe
+      q = along (thread (at_once p) world.words args).env (at_once p)
+
+      made : ℕ
+      made = count (λ x. is_write m x.op) (on_way p (thread (at_once p) world.words args).env s)
+
+      xs : List Stmt
+      xs = before s (onpath (thread (at_once p) world.words args).env (looked_all p.stmts))
+
+      counts : length (of_mem m (TurnPath.run_at q world.words args s).writes) ≡ made
+      counts =
+          run_count m Fresh xs (TurnPath.start_run q world.words args) (TurnPath.ok_before q acc world args s m)
+          ∙ none_first (count (λ x. is_write m x.op) xs)
+          ∙ ap (count (λ x. is_write m x.op)) (way_looked p (thread (at_once p) world.words args).env s)
+          ∙ count_looked (is_write m) (write_looked m) (on_way p (thread (at_once p) world.words args).env s)
+
+      early : s ≤ commit_stage p m
+          → are_right made (of_mem m (thread q world.words args).writes) (pend m n (entries_of m (so_far q world args s).entries)) ≡ true
+      early low =
+          let t = tied_at q acc world args s m in
+          let ws : of_mem m (TurnPath.run_at q world.words args s).writes ≡ told m t.fulls = early_written q acc world args s m low in
+          let more = writes_first q acc world args s m in
+          let unset : List ℕ = (phase_all m Fresh xs).unwritten in
+          let all : of_mem m (thread q world.words args).writes ≡ told m t.fulls ++ more.0 = more.1 ∙ ap (λ l. l ++ more.0) ws in
+          let rest : places more.0
+          ≡ rev (addresses_at (so_far q world args s).env unset) = same_rest (places (told m t.fulls)) (places more.0)
+          (rev (addresses_at (so_far q world args s).env unset))
+          (sym (places_append (told m t.fulls) more.0) ∙ ap places (sym all) ∙ sym (TurnPath.all_places q acc world args s m h)
+          ∙ ap (λ l. places l ++ rev (addresses_at (so_far q world args s).env unset)) ws) in
+          ap₂ (λ xs es. are_right made xs es) all
+          (ap (pend m n) t.entries ∙ pend_append m n (waiting m (opened (so_far q world args s).env unset)) (known m t.fulls))
+          ∙ ap (λ k. are_right k (told m t.fulls ++ more.0) (pend m n (known m t.fulls) ++ pend m n (waiting m (opened (so_far q world args s).env unset))))
+          (sym counts ∙ ap length ws ∙ sym (none_first (length (told m t.fulls))))
+          ∙ right_known m n 0 t.fulls more.0 (pend m n (waiting m (opened (so_far q world args s).env unset)))
+          (right_none more.0 (pend m n (waiting m (opened (so_far q world args s).env unset))) (none_waiting m n (opened (so_far q world args s).env unset))
+          (rest ∙ sym (spots_waiting m n (so_far q world args s).env unset)))
+
+      at : (b : Bool)
+          → nat_lt (commit_stage p m) s ≡ b
+          → right_list made (of_mem m (thread q world.words args).writes) (pend m n (entries_of m (so_far q world args s).entries)) ≡ true
+      at true e =
+          ap (λ es. right_list made (of_mem m (thread q world.words args).writes) (pend m n es))
+          (late_empty q acc world args s m (ltb-true (commit_stage p m) s e) h)
+      at false e =
+          right_some made (of_mem m (thread q world.words args).writes) (pend m n (entries_of m (so_far q world args s).entries))
+          (early (ltb-false (commit_stage p m) s e))
+
+  -- its guess
 
   -- a turn has an open guess before a stage just where its way has a speculative call and no verify
   pub turn_guess : (s : ℕ)
-      → is_guessed (making_all Unmade (before s (onpath (thread (at_once p) arrays args).env (looked_all p.stmts))))
-      ≡ (list_any (λ (x : Stmt). is_spec_call x.op) (on_way p (thread (at_once p) arrays args).env s)
-      && not (list_any (λ (x : Stmt). is_verify x.op) (on_way p (thread (at_once p) arrays args).env s)))
+      → is_guessed (making_all Unmade (before s (onpath (thread (at_once p) world.words args).env (looked_all p.stmts))))
+      ≡ (list_any (λ (x : Stmt). is_spec_call x.op) (on_way p (thread (at_once p) world.words args).env s)
+      && not (list_any (λ (x : Stmt). is_verify x.op) (on_way p (thread (at_once p) world.words args).env s)))
   turn_guess s =
-      guess_all (verify_stage (looked_all p.stmts)) Unmade (before s (onpath (thread (at_once p) arrays args).env (looked_all p.stmts)))
-      (Makes.makings_before (at_once p) sound.pathwise (thread (at_once p) arrays args).env arrays args s)
+      guess_all (verify_stage (looked_all p.stmts)) Unmade (before s (onpath (thread (at_once p) world.words args).env (looked_all p.stmts)))
+      (Makes.makings_before (at_once p) sound.pathwise (thread (at_once p) world.words args).env world args s)
       ∙ ap (λ l. list_any (λ (x : Stmt). is_spec_call x.op) l && not (list_any (λ (x : Stmt). is_verify x.op) l))
-      (way_looked p (thread (at_once p) arrays args).env s)
-      ∙ ap₂ (λ a b. a && not b) (any_looked is_spec_call spec_looked (on_way p (thread (at_once p) arrays args).env s))
-      (any_looked is_verify verify_same (on_way p (thread (at_once p) arrays args).env s))
+      (way_looked p (thread (at_once p) world.words args).env s)
+      ∙ ap₂ (λ a b. a && not b) (any_looked is_spec_call spec_looked (on_way p (thread (at_once p) world.words args).env s))
+      (any_looked is_verify verify_same (on_way p (thread (at_once p) world.words args).env s))
 
   -- an open guess is wrong just where a thread was made with other arguments
-  pub turn_wrong : (s : ℕ) (b : Bool) → (right_guess (so_far p arrays args s).child (thread p arrays args).next ≡ not b)
-      → is_some (so_far p arrays args s).child ≡ true
-      → (is_guessed (making_all Unmade (before s (onpath (thread (at_once p) arrays args).env (looked_all p.stmts))))
-      && not (same_args (so_far p arrays args s).guess (thread p arrays args).next))
+  pub turn_wrong : (s : ℕ) (b : Bool) → (right_guess (so_far p world args s).child (thread p world.words args).next ≡ not b)
+      → is_some (so_far p world args s).child ≡ true
+      → (is_guessed (making_all Unmade (before s (onpath (thread (at_once p) world.words args).env (looked_all p.stmts))))
+      && not (same_args (so_far p world args s).guess (thread p world.words args).next))
       ≡ b
-  turn_wrong s b h made = at (making_all Unmade (before s (onpath (thread (at_once p) arrays args).env (looked_all p.stmts)))) refl
+  turn_wrong s b h made = at (making_all Unmade (before s (onpath (thread (at_once p) world.words args).env (looked_all p.stmts)))) refl
       (subst
       (λ (w : Work). Calls
-      (making_all Unmade (before s (onpath (thread (at_once p) arrays args).env (looked_all p.stmts)))) w.child w.guess
-      (TurnPath.run_at (along (thread (at_once p) arrays args).env (at_once p)) arrays args s).next)
-      (sym (so s)) (Makes.calls_at (at_once p) sound.pathwise (thread (at_once p) arrays args).env arrays args s))
+      (making_all Unmade (before s (onpath (thread (at_once p) world.words args).env (looked_all p.stmts)))) w.child w.guess
+      (TurnPath.run_at (along (thread (at_once p) world.words args).env (at_once p)) world.words args s).next)
+      (sym (so s)) (Makes.calls_at (at_once p) sound.pathwise (thread (at_once p) world.words args).env world args s))
     where
       flip : (c : Bool) → c ≡ not b → not c ≡ b
       flip true i = by b i
@@ -411,18 +463,18 @@ module _ (p : Pipe) (sound : Sound p) (arrays : Arrays) (args : List ℕ) where
           by false j = absurd (cc j)
 
       at : (k : Making)
-          → making_all Unmade (before s (onpath (thread (at_once p) arrays args).env (looked_all p.stmts))) ≡ k
-          → Calls k (so_far p arrays args s).child (so_far p arrays args s).guess
-          (TurnPath.run_at (along (thread (at_once p) arrays args).env (at_once p)) arrays args s).next
-          → (is_guessed k && not (same_args (so_far p arrays args s).guess (thread p arrays args).next)) ≡ b
+          → making_all Unmade (before s (onpath (thread (at_once p) world.words args).env (looked_all p.stmts))) ≡ k
+          → Calls k (so_far p world args s).child (so_far p world args s).guess
+          (TurnPath.run_at (along (thread (at_once p) world.words args).env (at_once p)) world.words args s).next
+          → (is_guessed k && not (same_args (so_far p world args s).guess (thread p world.words args).next)) ≡ b
       at Unmade e c = absurd (cc (sym (ap is_some c) ∙ made))
       at Guessed e c =
-          flip (same_args (so_far p arrays args s).guess (thread p arrays args).next) (ap (λ x. right_guess x (thread p arrays args).next) (sym c) ∙ h)
+          flip (same_args (so_far p world args s).guess (thread p world.words args).next) (ap (λ x. right_guess x (thread p world.words args).next) (sym c) ∙ h)
       at Made e c =
-          flip true (sym (same_args_refl (thread p arrays args).next)
-          ∙ ap (λ x. right_guess x (thread p arrays args).next)
+          flip true (sym (same_args_refl (thread p world.words args).next)
+          ∙ ap (λ x. right_guess x (thread p world.words args).next)
           (sym
           (ap (λ (w : Work). w.child) (so s)
-          ∙ Makes.made_child (at_once p) sound.pathwise (thread (at_once p) arrays args).env arrays args s e
+          ∙ Makes.made_child (at_once p) sound.pathwise (thread (at_once p) world.words args).env world args s e
           ∙ ap (λ (r : Run). Some r.next) (sym whole)))
           ∙ h)

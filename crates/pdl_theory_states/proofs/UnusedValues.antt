@@ -3,13 +3,13 @@ use Rattle.std.proofs.Common.{◌≡◌, refl, sym, ap, ap₂, ◌∙◌, ℕ, �
 use Rattle.std.proofs.lemmas.List.{get_or-set_other}
 use Rattle.std.proofs.lemmas.Bool.{or_parts, or_right, or_left}
 use Rattle.pdl_word.specs.Words
-use Rattle.pdl_semantics.specs.Flat.{Op, Bind, CombRead, DelayedRead, Write, ReserveRead, ReserveWrite, Block, Release, Call, SpecCall, Verify, SpecCheck, SpecBarrier, Expr, Constant, Variable, Slice, Not, Binary, Cat, LessSigned, ZeroExtend, SignExtend, Choose, Stmt, value_of, values_of, operator_value}
+use Rattle.pdl_semantics.specs.Flat.{Op, Bind, CombRead, DelayedRead, Write, ReserveRead, ReserveWrite, Block, Release, Call, SpecCall, Verify, SpecCheck, SpecBarrier, Expr, Constant, Variable, Slice, Not, Binary, Cat, LessSigned, ZeroExtend, SignExtend, Choose, Stmt, value_of, values_of, operator_value, AdviceBind, AdviceRead, AdviceWrite}
 use Rattle.pdl_semantics.specs.Forms.{on_delayed_read}
-use Rattle.pdl_semantics.specs.Sound.{is_call}
 use Rattle.pdl_theory_facts.specs.Facts.{uses_in, uses_any, mentions_var}
 use Rattle.pdl_theory_derived.proofs.Writes.{and_left, and_right}
 use Rattle.pdl_theory_states.specs.Strict.{bound_by, uses_own, is_mentioned, is_new, all_new}
 use Rattle.pdl_word.proofs.Bools.{untrue}
+use Rattle.pdl_theory_derived.specs.Derived.{Hint, Around, said}
 
 -- each statement that was carried out has the property
 abbrev pub AllOps : (Op → Type 0) → List Op → Type 0
@@ -86,16 +86,17 @@ value_agree (Choose c a b) env env' f =
     let n = value_agree b env env' (λ g h. f g (or_right (uses_in g c) _ (or_right (uses_in g a) _ h))) in
     λ i. Words.mux (k i) (m i) (n i)
 
-values_agree : (es : List Expr) (env env' : List ℕ)
+-- arguments have one value where the values of their variables agree
+pub values_agree : (es : List Expr) (env env' : List ℕ)
     → ((g : ℕ) → uses_any g es ≡ true → slice_index env g ≡ slice_index env' g) → values_of es env ≡ values_of es env'
 values_agree [] env env' f = refl
 values_agree (e ∷ es) env env' f =
     ap₂ (λ a l. a ∷ l) (value_agree e env env' (λ g h. f g (or_left _ _ h))) (values_agree es env env' (λ g h. f g (or_right (uses_in g e) _ h)))
 
--- what a statement gave is still so: the value of the variable that it binds, or the guess that it makes
+-- what a binding gave is still so: the value of its variable; any other statement passes
 abbrev pub Done : List ℕ → List ℕ → Op → Type 0
 Done env guess (Bind x e) = slice_index env x ≡ value_of e env
-Done env guess (SpecCall args) = guess ≡ values_of args env
+Done env guess (SpecCall args) = Unit {0}
 Done env guess (CombRead x m a) = Unit {0}
 Done env guess (DelayedRead x m a) = Unit {0}
 Done env guess (Write m a e) = Unit {0}
@@ -104,9 +105,12 @@ Done env guess (ReserveWrite m a) = Unit {0}
 Done env guess (Block m a) = Unit {0}
 Done env guess (Release m a) = Unit {0}
 Done env guess (Call args) = Unit {0}
-Done env guess (Verify args) = Unit {0}
+Done env guess (Verify last args) = Unit {0}
 Done env guess SpecCheck = Unit {0}
 Done env guess SpecBarrier = Unit {0}
+Done env guess (AdviceBind x e) = Unit {0}
+Done env guess (AdviceRead x m a) = Unit {0}
+Done env guess (AdviceWrite m a e) = Unit {0}
 
 -- two lists of values agree on the variables that a statement hangs on
 abbrev pub Agrees : Op → List ℕ → List ℕ → Type 0
@@ -115,7 +119,7 @@ Agrees op env env' = (g : ℕ) → touches g op ≡ true → slice_index env g �
 -- what a statement gave is true of other values too that agree on all variables that it hangs on
 pub done_agrees : (env env' guess : List ℕ) (op : Op) → Agrees op env env' → Done env guess op → Done env' guess op
 done_agrees env env' guess (Bind x e) f h = sym (f x (or_left _ _ (eq-eqb x x refl))) ∙ h ∙ value_agree e env env' (λ g k. f g (or_right (x == g) _ k))
-done_agrees env env' guess (SpecCall args) f h = h ∙ values_agree args env env' f
+done_agrees env env' guess (SpecCall args) f h = tt
 done_agrees env env' guess (CombRead x m a) f h = tt
 done_agrees env env' guess (DelayedRead x m a) f h = tt
 done_agrees env env' guess (Write m a e) f h = tt
@@ -124,25 +128,57 @@ done_agrees env env' guess (ReserveWrite m a) f h = tt
 done_agrees env env' guess (Block m a) f h = tt
 done_agrees env env' guess (Release m a) f h = tt
 done_agrees env env' guess (Call args) f h = tt
-done_agrees env env' guess (Verify args) f h = tt
+done_agrees env env' guess (Verify last args) f h = tt
 done_agrees env env' guess SpecCheck f h = tt
 done_agrees env env' guess SpecBarrier f h = tt
+done_agrees env env' guess (AdviceBind x e) f h = tt
+done_agrees env env' guess (AdviceRead x m a) f h = tt
+done_agrees env env' guess (AdviceWrite m a e) f h = tt
 
--- only a speculative call hangs on the guess
-pub done_guess : (env guess guess' : List ℕ) (op : Op) → is_call op ≡ false → Done env guess op → Done env guess' op
-done_guess env guess guess' (SpecCall args) k h = absurd (cc k)
-done_guess env guess guess' (Bind x e) k h = h
-done_guess env guess guess' (CombRead x m a) k h = tt
-done_guess env guess guess' (DelayedRead x m a) k h = tt
-done_guess env guess guess' (Write m a e) k h = tt
-done_guess env guess guess' (ReserveRead m a) k h = tt
-done_guess env guess guess' (ReserveWrite m a) k h = tt
-done_guess env guess guess' (Block m a) k h = tt
-done_guess env guess guess' (Release m a) k h = tt
-done_guess env guess guess' (Call args) k h = tt
-done_guess env guess guess' (Verify args) k h = tt
-done_guess env guess guess' SpecCheck k h = tt
-done_guess env guess guess' SpecBarrier k h = tt
+-- what surroundings say of the successor
+abbrev pub given : Around → Hint
+given o = record { guess = o.guess; update = o.update }
+
+-- the guess after these statements, the last one first: what the last statement gave that gives one, where a speculative call and an update give what the hint says
+abbrev pub guess_past : Hint → List Op → List ℕ → List ℕ
+guess_past hint [] env = []
+guess_past hint (SpecCall args ∷ past) env = hint.guess
+guess_past hint (Verify true args ∷ past) env = values_of args env
+guess_past hint (Verify false args ∷ past) env = hint.update
+guess_past hint (_ ∷ past) env = guess_past hint past env
+
+-- by values that agree on all variables that a statement hangs on it is the same
+pub guess_agrees : (hint : Hint) (op : Op) (past : List Op) (env env' : List ℕ) → Agrees op env env' → guess_past hint past env ≡ guess_past hint past env'
+    → guess_past hint (op ∷ past) env ≡ guess_past hint (op ∷ past) env'
+guess_agrees hint (SpecCall args) past env env' f h = refl
+guess_agrees hint (Verify true args) past env env' f h = values_agree args env env' f
+guess_agrees hint (Verify false args) past env env' f h = refl
+guess_agrees hint _ past env env' f h = h
+
+-- after a check the guess is what this says
+pub said_past : (o : Around) (last : Bool) (args : List Expr) (past : List Op) (env : List ℕ)
+    → said o last args env ≡ guess_past (given o) (Verify last args ∷ past) env
+said_past o true args past env = refl
+said_past o false args past env = refl
+
+-- what a statement gave doesn't hang on the guess
+pub done_guess : (env guess guess' : List ℕ) (op : Op) → Done env guess op → Done env guess' op
+done_guess env guess guess' (Bind x e) h = h
+done_guess env guess guess' (CombRead x m a) h = tt
+done_guess env guess guess' (DelayedRead x m a) h = tt
+done_guess env guess guess' (Write m a e) h = tt
+done_guess env guess guess' (ReserveRead m a) h = tt
+done_guess env guess guess' (ReserveWrite m a) h = tt
+done_guess env guess guess' (Block m a) h = tt
+done_guess env guess guess' (Release m a) h = tt
+done_guess env guess guess' (Call args) h = tt
+done_guess env guess guess' (SpecCall args) h = tt
+done_guess env guess guess' (Verify last args) h = tt
+done_guess env guess guess' SpecCheck h = tt
+done_guess env guess guess' SpecBarrier h = tt
+done_guess env guess guess' (AdviceBind x e) h = tt
+done_guess env guess guess' (AdviceRead x m a) h = tt
+done_guess env guess guess' (AdviceWrite m a e) h = tt
 
 -- a statement that has nothing to do with a variable doesn't hang on its value
 pub mention_touch : (x : ℕ) (op : Op) → mentions_var x op ≡ false → touches x op ≡ false
@@ -156,8 +192,11 @@ mention_touch x (Block m a) h = h
 mention_touch x (Release m a) h = h
 mention_touch x (Call args) h = h
 mention_touch x (SpecCall args) h = h
-mention_touch x (Verify args) h = h
+mention_touch x (Verify last args) h = h
 mention_touch x SpecCheck h = h
+mention_touch x (AdviceBind x' e') h = h
+mention_touch x (AdviceRead x' m' a') h = h
+mention_touch x (AdviceWrite m' a' e') h = h
 mention_touch x SpecBarrier h = h
 
 -- no statement hangs on a variable with which none of them has to do

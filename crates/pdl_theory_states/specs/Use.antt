@@ -1,13 +1,11 @@
 -- How the threads use the locks, in each state of a run of any pipe: with guesses and squashes, forks, and delayed memories.
-use Rattle.std.specs.Prelude.{◌≡◌, ℕ, suc, ◌+◌, ◌≤◌, Bool, true, false, List, [], ◌∷◌, Some, length, if◌then◌else◌, ◌==◌}
+use Rattle.std.specs.Prelude.{◌≡◌, ℕ, suc, ◌+◌, ◌≤◌, Bool, false, List, [], ◌∷◌, Some, length, if◌then◌else◌, ◌==◌}
 use Rattle.pdl_semantics.specs.Flat.{Pipe}
 use Rattle.pdl_semantics.specs.Stages.{reserve_stage, commit_stage, verify_stage}
-use Rattle.pdl_semantics.specs.Machine.{State, Pending, Reserved, lock_of}
+use Rattle.pdl_semantics.specs.Machine.{State, Pending, reserves_of, lock_of}
 use Rattle.pdl_semantics.specs.Moves.{Act, all_acts, movers}
-use Rattle.pdl_semantics.specs.Cycle.{with_reserves, has_release, list_two, list_three}
-use Rattle.pdl_semantics.specs.PendingLists.{AreOrdered, count_older}
-
--- PENDING WRITES
+use Rattle.pdl_semantics.specs.Cycle.{with_reserves, all_releases, list_two, list_three}
+use Rattle.pdl_semantics.specs.PendingLists.{AreOrdered, count_older, AreWritten}
 
 -- THREADS
 
@@ -38,21 +36,12 @@ with_values p st bits m = list_two st (moving p st bits) m
 abbrev pub with_release : Pipe → State → List Bool → ℕ → List Pending
 with_release p st bits m = list_three st (moving p st bits) m
 
--- a truth value as 1 or 0
-abbrev pub bit : Bool → ℕ
-bit b = if b then 1 else 0
-
--- how many writes of a memory a thread reserves
-abbrev pub reserved_in : ℕ → List Reserved → ℕ
-reserved_in m [] = 0
-reserved_in m (r ∷ rs) = if r.mem == m then suc (reserved_in m rs) else reserved_in m rs
-
--- how many writes of a memory these threads reserve together
+-- how many of these threads reserve writes of a memory
 abbrev pub reserved_count : ℕ → List Act → ℕ
 reserved_count m [] = 0
-reserved_count m (a ∷ ms) = reserved_count m ms + reserved_in m a.does.reserves
+reserved_count m (a ∷ ms) = reserved_count m ms + (if reserves_of m a.does.reserves == 0 then 0 else 1)
 
--- a lock in a cycle: at most one write is reserved, and the list stays in order
+-- a lock in a cycle: at most one thread reserves writes, and the list stays in order
 pub record Reserves (p : Pipe) (st : State) (bits : List Bool) (m : ℕ) : Type 0 where
   pub one : reserved_count m (moving p st bits) ≤ 1
   pub ordered : AreOrdered 0 (with_new p st bits m)
@@ -61,27 +50,19 @@ pub record Reserves (p : Pipe) (st : State) (bits : List Bool) (m : ℕ) : Type 
 abbrev pub KeepsPlace : Pipe → State → List Bool → ℕ → Act → Type 0
 KeepsPlace p st bits m a = reserve_stage p m ≤ a.stage → count_older a.thread.number (with_new p st bits m) ≡ count_older a.thread.number (lock_of st m)
 
--- a pending write that is released has its value, which may come in this cycle
-pub record Released (list : List Pending) : Type 0 where
-  pub entry : Pending
-  pub rest : List Pending
-  pub value : ℕ
-  pub is : list ≡ entry ∷ rest
-  pub written : entry.value ≡ Some value
-
--- where a write of memory m is released in a cycle, the oldest pending one has its value
+-- where writes of memory m are released in a cycle, as many of the oldest pending ones have their values
 abbrev pub ReleasesWritten : Pipe → State → List Bool → ℕ → Type 0
-ReleasesWritten p st bits m = has_release m (moving p st bits) ≡ true → Released (with_values p st bits m)
+ReleasesWritten p st bits m = AreWritten (all_releases m (moving p st bits)) (with_values p st bits m)
 
--- up to the stage of the releases, until the thread itself moves out of it, its place shifts by one where a write is released
+-- up to the stage of the releases, until the thread itself moves out of it, its place shifts by the writes that are released
 abbrev pub ShiftsPlace : Pipe → State → List Bool → ℕ → Act → Type 0
 ShiftsPlace p st bits m a =
     a.stage ≤ commit_stage p m → (a.stage ≡ commit_stage p m → a.moves ≡ false)
-    → count_older a.thread.number (with_release p st bits m) + bit (has_release m (moving p st bits)) ≡ count_older a.thread.number (with_new p st bits m)
+    → count_older a.thread.number (with_release p st bits m) + all_releases m (moving p st bits) ≡ count_older a.thread.number (with_new p st bits m)
 
 -- up to V so does the place behind it, where its squash cuts the list, whoever releases
 abbrev pub ShiftsTail : Pipe → State → List Bool → ℕ → Act → Type 0
 ShiftsTail p st bits m a =
     (v : ℕ) → verify_stage p.stmts ≡ Some v → a.stage ≤ v
-    → count_older (suc a.thread.number) (with_release p st bits m) + bit (has_release m (moving p st bits))
+    → count_older (suc a.thread.number) (with_release p st bits m) + all_releases m (moving p st bits)
     ≡ count_older (suc a.thread.number) (with_new p st bits m)

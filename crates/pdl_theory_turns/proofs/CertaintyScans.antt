@@ -2,7 +2,7 @@
 use Rattle.std.proofs.Common.{◌≡◌, refl, ap₂, ℕ, Bool, true, false, ◌&&◌, ◌||◌, List, [], ◌∷◌, ◌++◌, Option, ◌==◌, cond}
 use Rattle.pdl_semantics.specs.Flat.{Stmt}
 use Rattle.pdl_semantics.specs.Locks.{commit_value}
-use Rattle.pdl_theory_derived.specs.Derived.{Entry, has_entry, released_commits}
+use Rattle.pdl_theory_derived.specs.Derived.{Entry, has_entry, oldest_of, released_commits}
 use Rattle.pdl_theory_facts.specs.Scans.{Scan, scan_after, scan_after_all}
 use Rattle.pdl_theory_facts.specs.GuessScans.{is_barrier, is_sure, all_sure}
 use Rattle.pdl_theory_derived.proofs.Writes.{and_left, and_right}
@@ -40,6 +40,6 @@ unreleased [] m a h = refl
 unreleased (e ∷ es) m a h = at ((e.mem == m) && (e.var == a)) h (unreleased es m a)
   where
     at : (b : Bool) → (b || has_entry es m a) ≡ false → (has_entry es m a ≡ false → released_commits es m a ≡ [])
-        → cond b (record { mem = m; address = e.address; value = commit_value e.value } ∷ []) (released_commits es m a) ≡ []
+        → cond b (record { mem = m; address = (oldest_of e es).address; value = commit_value (oldest_of e es).value } ∷ []) (released_commits es m a) ≡ []
     at true k f = absurd (cc k)
     at false k f = f k

@@ -1,12 +1,12 @@
 -- A sound pipe of the whole language has the facts that the pipeline's proof takes.
 use Rattle.std.proofs.Common.{◌≡◌, ◌≢◌, refl, sym, ap, ap₂, ◌∙◌, subst, ℕ, zero, suc, ◌≤◌, ◌<◌, inl, inr, Bool, true, false, ◌&&◌, ◌||◌, not, List, [], ◌∷◌, length, Option, Some, None, is_some, ◌==◌, cond, arith, slice_index, lt-ltb, eq-eqb}
 use Rattle.std.proofs.lemmas.Bool.{eqb-true, eqb-false, ne_eqb}
-use Rattle.pdl_semantics.specs.Flat.{Arrays, Op, DelayedRead, Verify, SpecBarrier, Stmt, Pipe, Branch, values_of, all_hold}
+use Rattle.pdl_semantics.specs.Flat.{Op, DelayedRead, Verify, SpecBarrier, Stmt, Pipe, Branch, all_hold}
 use Rattle.pdl_semantics.specs.Stages.{onpath, in_stage, stage_at, commit_stage, is_release, is_verify, verify_stage}
 use Rattle.pdl_semantics.specs.Machine.{Ask, same_args}
 use Rattle.pdl_semantics.specs.Sequential.{Run, thread}
-use Rattle.pdl_theory_derived.specs.Derived.{Work, Around, Thread, work_of_stage, work_after, do_all, find_ask}
-use Rattle.pdl_theory_derived.specs.Alone.{alone, before, start_work, so_far, thread_at}
+use Rattle.pdl_theory_derived.specs.Derived.{no_hint, Work, Around, Thread, work_of_stage, work_after, do_all, find_ask, said}
+use Rattle.pdl_theory_derived.specs.Alone.{World, alone, before, start_work, so_far, thread_at}
 use Rattle.pdl_theory_facts.specs.Scans.{none_of, all_at, no_scan, scan_after_all}
 use Rattle.pdl_theory_facts.specs.GuessScans.{stands_at, stands_before, is_barrier}
 use Rattle.pdl_theory_facts.specs.Graphs.{Trunk, next_of}
@@ -17,9 +17,10 @@ use Rattle.pdl_theory_derived.proofs.Writes.{and_left, and_right}
 use Rattle.pdl_theory_derived.proofs.Stages.{step}
 use Rattle.pdl_theory_turns.proofs.Paths.{before_path, none_onpath}
 use Rattle.pdl_theory_turns.proofs.Turn.{quiet, none_in_stage, release_looked}
-use Rattle.pdl_theory_turns.proofs.Guesses.{same_args_refl}
+use Rattle.pdl_theory_turns.proofs.Guesses.{same_args_refl, Changed}
 use Rattle.pdl_theory_turns.proofs.TurnFacts.{next_at, right_guess, stage_work}
 use Rattle.pdl_theory_derived.proofs.DelayedReads.{AllAsks, all_more, all_snoc, Apart, apart_snoc}
+use Rattle.pdl_theory_turns.proofs.Rooms
 use Rattle.pdl_theory_turns.proofs.Courses.{Course, AskOk, Strayed}
 use Rattle.pdl_theory_turns.proofs.StageFacts.{EachFetch, asks_each, fetch_each, alive}
 use Rattle.pdl_theory_turns.proofs.StrayPaths.{verify_looked, before_none, Barred}
@@ -60,11 +61,11 @@ apart_op o (DelayedRead x m a) ys w h p l = (
       (all_more _ (λ q. Later q ys) w.asks (λ q k. k.1) l)
       (later_like x m (record { mem = m; var = x; address = slice_index w.env a }) ys refl refl h),
 )
-apart_op o (Verify args) ys w h p l = at (same_args (values_of args w.env) w.guess)
+apart_op o (Verify last args) ys w h p l = at (same_args (said o last args w.env) w.guess)
   where
     at : (b : Bool)
-        → Apart (cond b w (record w { child = Some (values_of args w.env); fails = true })).asks
-        × AllAsks (λ q. Later q ys) (cond b w (record w { child = Some (values_of args w.env); fails = true })).asks
+        → Apart (cond b w (record w { child = Some (said o last args w.env); guess = said o last args w.env; fails = true })).asks
+        × AllAsks (λ q. Later q ys) (cond b w (record w { child = Some (said o last args w.env); guess = said o last args w.env; fails = true })).asks
     at true = (p, all_more _ (λ q. Later q ys) w.asks (λ q k. k.1) l)
     at false = (p, all_more _ (λ q. Later q ys) w.asks (λ q k. k.1) l)
 apart_op o _ ys w h p l = (p, all_more _ (λ q. Later q ys) w.asks (λ q k. k.1) l)
@@ -111,7 +112,7 @@ no_barrier SpecBarrier h = absurd (cc h)
 no_barrier _ h = refl
 
 no_verify : (op : Op) → not (trunk_only op) ≡ true → not (is_verify op) ≡ true
-no_verify (Verify args) h = absurd (cc h)
+no_verify (Verify last args) h = absurd (cc h)
 no_verify _ h = refl
 
 -- the stage of the verifies has one
@@ -159,91 +160,84 @@ module _ (p : Pipe) (acc : Sound p) where
   -- the stage of the verifies, or stage 0 where there are none, is a trunk stage
   pub v_trunk : (o : Option ℕ) → verify_stage p.stmts ≡ o → Trunk p (v_of o)
   v_trunk None e = acc.graph.trunk_start
-  v_trunk (Some v) e = at (stage_at p v).branch refl
+  v_trunk (Some v) e = at (stage_at p v).branches refl
     where
-      at : (b : Option Branch) → (stage_at p v).branch ≡ b → Trunk p v
-      at None i = i
-      at (Some c) i = absurd (verify_here p.stmts v e (trunk_none is_verify no_verify (in_stage v p.stmts) (acc.trunk_holds v c i)))
+      at : (b : List Branch) → (stage_at p v).branches ≡ b → Trunk p v
+      at [] i = i
+      at (x ∷ c) i = absurd (verify_here p.stmts v e (trunk_none is_verify no_verify (in_stage v p.stmts) (acc.trunk_holds x c v i)))
 
   no_start : before 0 p.stmts ≡ []
   no_start = before_none p.stmts
 
-  module _ (arrays : Arrays) (args : List ℕ) where
-    so : (s : ℕ) → so_far p arrays args s ≡ so_far (along (thread (at_once p) arrays args).env (at_once p)) arrays args s
-    so s = sym (StageFacts.same_so p acc arrays args s) ∙ Turns.so_path (at_once p) acc.pathwise arrays args s
+  module _ (world : World) (args : List ℕ) where
+    so : (s : ℕ) → so_far p world args s ≡ so_far (along (thread (at_once p) world.words args).env (at_once p)) world args s
+    so s = sym (StageFacts.same_so p acc world args s) ∙ Turns.so_path (at_once p) acc.pathwise world args s
 
-    whole : thread p arrays args ≡ thread (along (thread (at_once p) arrays args).env (at_once p)) arrays args
-    whole = sym (StageFacts.same_thread p acc arrays args) ∙ Turns.thread_path (at_once p) acc.pathwise arrays args
+    whole : thread p world.words args ≡ thread (along (thread (at_once p) world.words args).env (at_once p)) world.words args
+    whole = sym (StageFacts.same_thread p acc world args) ∙ Turns.thread_path (at_once p) acc.pathwise world args
 
-    child_here : (s : ℕ) → (stage_work p arrays args s).child ≡ (stage_work (along (thread (at_once p) arrays args).env (at_once p)) arrays args s).child
+    child_here : (s : ℕ) → (stage_work p world args s).child ≡ (stage_work (along (thread (at_once p) world.words args).env (at_once p)) world args s).child
     child_here s =
-        ap (λ (w : Work). w.child) (sym (StageFacts.same_stage p acc arrays args s))
-        ∙ ap (λ (w : Work). w.child) (Turns.works_path (at_once p) acc.pathwise arrays args s)
+        ap (λ (w : Work). w.child) (sym (StageFacts.same_stage p acc world args s))
+        ∙ ap (λ (w : Work). w.child) (Turns.works_path (at_once p) acc.pathwise world args s)
 
-    fails_here : (s : ℕ) → (stage_work p arrays args s).fails ≡ (stage_work (along (thread (at_once p) arrays args).env (at_once p)) arrays args s).fails
+    fails_here : (s : ℕ) → (stage_work p world args s).fails ≡ (stage_work (along (thread (at_once p) world.words args).env (at_once p)) world args s).fails
     fails_here s =
-        ap (λ (w : Work). w.fails) (sym (StageFacts.same_stage p acc arrays args s))
-        ∙ ap (λ (w : Work). w.fails) (Turns.works_path (at_once p) acc.pathwise arrays args s)
+        ap (λ (w : Work). w.fails) (sym (StageFacts.same_stage p acc world args s))
+        ∙ ap (λ (w : Work). w.fails) (Turns.works_path (at_once p) acc.pathwise world args s)
 
     moved_here : (s : ℕ) (c : Option (List ℕ)) (f : Bool)
-        → ((stage_work (along (thread (at_once p) arrays args).env (at_once p)) arrays args s).child ≡ c)
-        × ((stage_work (along (thread (at_once p) arrays args).env (at_once p)) arrays args s).fails ≡ f)
-        → ((stage_work p arrays args s).child ≡ c) × ((stage_work p arrays args s).fails ≡ f)
+        → ((stage_work (along (thread (at_once p) world.words args).env (at_once p)) world args s).child ≡ c)
+        × ((stage_work (along (thread (at_once p) world.words args).env (at_once p)) world args s).fails ≡ f)
+        → ((stage_work p world args s).child ≡ c) × ((stage_work p world args s).fails ≡ f)
     moved_here s c f h = (child_here s ∙ h.0, fails_here s ∙ h.1)
 
-    child_end : right_guess (so_far p arrays args (length p.stages)).child (thread p arrays args).next ≡ true
+    child_end : right_guess (so_far p world args (length p.stages)).child (thread p world.words args).next ≡ true
     child_end =
         ap₂ (λ (w : Work) (r : Run). right_guess w.child r.next) (so (length p.stages)) whole
-        ∙ ap (λ c. right_guess c (thread (along (thread (at_once p) arrays args).env (at_once p)) arrays args).next)
-        (Makes.child_in_end (at_once p) acc.pathwise (thread (at_once p) arrays args).env arrays args)
-        ∙ same_args_refl (thread (along (thread (at_once p) arrays args).env (at_once p)) arrays args).next
+        ∙ ap (λ c. right_guess c (thread (along (thread (at_once p) world.words args).env (at_once p)) world.words args).next)
+        (Makes.child_in_end (at_once p) acc.pathwise (thread (at_once p) world.words args).env world args)
+        ∙ same_args_refl (thread (along (thread (at_once p) world.words args).env (at_once p)) world.words args).next
 
-    not_yet : (s : ℕ) → (so_far p arrays args s).child ≡ None → (stage_work p arrays args s).fails ≡ false
-    not_yet s h =
-        fails_here s
-        ∙ Makes.not_yet (at_once p) acc.pathwise (thread (at_once p) arrays args).env arrays args (alone arrays) s (ap (λ (w : Work). w.child) (sym (so s)) ∙ h)
+    changed_here : (s : ℕ)
+        → Changed (stage_work (along (thread (at_once p) world.words args).env (at_once p)) world args s)
+        → Changed (stage_work p world args s)
+    changed_here s (inl h) = inl (child_here s ∙ h.0, fails_here s ∙ h.1)
+    changed_here s (inr h) = inr (h.0, child_here s ∙ h.1, fails_here s ∙ h.2)
 
-    right_stays : (s : ℕ) → right_guess (so_far p arrays args s).child (thread p arrays args).next ≡ true
-        → ((stage_work p arrays args s).child ≡ None) × ((stage_work p arrays args s).fails ≡ false)
-    right_stays s h =
-        moved_here s None false
-        (Makes.right_stays (at_once p) acc.pathwise (thread (at_once p) arrays args).env arrays args s
-        (ap₂ (λ (w : Work) (r : Run). right_guess w.child r.next) (sym (so s)) (sym whole) ∙ h))
+    made_changes : (s : ℕ) (x : List ℕ) → (so_far p world args s).child ≡ Some x → Changed (stage_work p world args s)
+    made_changes s x e =
+        changed_here s
+        (Makes.made_changes (at_once p) acc.pathwise (thread (at_once p) world.words args).env world args (alone world) s x
+        (ap (λ (w : Work). w.child) (sym (so s)) ∙ e))
 
-    -- a wrong guess, along the path
-    module _ (s : ℕ) (x : List ℕ) (e : (so_far p arrays args s).child ≡ Some x) (h : same_args x (thread p arrays args).next ≡ false) where
-      made_here : (so_far (along (thread (at_once p) arrays args).env (at_once p)) arrays args s).child ≡ Some x
+    -- along the path: a guess that isn't verified yet
+    inside : (s : ℕ)
+        → ((v : ℕ) × (verify_stage (looked_all p.stmts) ≡ Some v) × (s ≤ v))
+        → (s ≤ v_of (verify_stage p.stmts)) × (verify_stage p.stmts ≡ Some (v_of (verify_stage p.stmts)))
+    inside s i =
+        let there : verify_stage p.stmts ≡ Some i.0 = sym
+        (verify_looked p.stmts) ∙ i.1 in
+        (subst (λ o. s ≤ v_of o) (sym there) i.2, there ∙ ap (λ o. Some (v_of o)) (sym there))
+
+    -- a thread that has made one
+    module _ (s : ℕ) (x : List ℕ) (e : (so_far p world args s).child ≡ Some x) where
+      made_here : (so_far (along (thread (at_once p) world.words args).env (at_once p)) world args s).child ≡ Some x
       made_here = ap (λ (w : Work). w.child) (sym (so s)) ∙ e
 
-      wrong_here : same_args x (thread (along (thread (at_once p) arrays args).env (at_once p)) arrays args).next ≡ false
-      wrong_here = ap (λ (r : Run). same_args x r.next) (sym whole) ∙ h
+      wrong_made : same_args x (thread p world.words args).next ≡ false
+          → (s ≤ v_of (verify_stage p.stmts)) × (verify_stage p.stmts ≡ Some (v_of (verify_stage p.stmts)))
+      wrong_made h =
+          inside s (
+          Makes.guess_inside (at_once p) acc.pathwise (thread (at_once p) world.words args).env world args s
+          (Makes.wrong_made (at_once p) acc.pathwise (thread (at_once p) world.words args).env world args s x made_here
+          (ap (λ (r : Run). same_args x r.next) (sym whole) ∙ h)))
 
-      inside : (v : ℕ) × (verify_stage (looked_all p.stmts) ≡ Some v) × (s ≤ v)
-      inside =
-          Makes.guess_inside (at_once p) acc.pathwise (thread (at_once p) arrays args).env arrays args s
-          (Makes.wrong_made (at_once p) acc.pathwise (thread (at_once p) arrays args).env arrays args s x made_here wrong_here)
-
-      there : verify_stage p.stmts ≡ Some inside.0
-      there = sym (verify_looked p.stmts) ∙ inside.1
-
-      wrong_made : (s ≤ v_of (verify_stage p.stmts)) × (verify_stage p.stmts ≡ Some (v_of (verify_stage p.stmts)))
-      wrong_made = (subst (λ o. s ≤ v_of o) (sym there) inside.2, there ∙ ap (λ o. Some (v_of o)) (sym there))
-
-      wrong_before : s < v_of (verify_stage p.stmts) → ((stage_work p arrays args s).child ≡ None) × ((stage_work p arrays args s).fails ≡ false)
-      wrong_before low =
-          moved_here s None false (Makes.no_second (at_once p) acc.pathwise (thread (at_once p) arrays args).env arrays args (alone arrays) s x made_here
-          (ap (λ o. stands_at o s) inside.1 ∙ ne_eqb s inside.0 (λ i. absurd (let j : s < inside.0 = subst (λ o. s < v_of o) there low in omega arith))))
-
-      wrong_at : s ≡ v_of (verify_stage p.stmts)
-          → ((stage_work p arrays args s).child ≡ Some (thread p arrays args).next) × ((stage_work p arrays args s).fails ≡ true)
-      wrong_at i =
-          let w =
-          moved_here s
-          (Some (thread (along (thread (at_once p) arrays args).env (at_once p)) arrays args).next) true
-          (Makes.wrong_at (at_once p) acc.pathwise
-          (thread (at_once p) arrays args).env arrays args s x made_here wrong_here
-          (verify_looked p.stmts ∙ wrong_made.1 ∙ ap Some (sym i))) in
-          (w.0 ∙ ap (λ (r : Run). Some r.next) (sym whole), w.1)
+      changes_early : (stage_work p world args s).fails ≡ true → (s ≤ v_of (verify_stage p.stmts)) × (verify_stage p.stmts ≡ Some (v_of (verify_stage p.stmts)))
+      changes_early h =
+          inside s (Makes.guess_inside (at_once p) acc.pathwise (thread (at_once p) world.words args).env world args s
+          (Makes.change_guessed (at_once p) acc.pathwise (thread (at_once p) world.words args).env world args (alone world) s x made_here
+          (sym (fails_here s) ∙ h)))
 
     fetched : (o : Around) (t : Thread) → AllAsks (λ q. FetchOk p acc.fetch t.stage q.var q.mem) (work_of_stage p o t).asks
     fetched o t =
@@ -258,12 +252,12 @@ module _ (p : Pipe) (acc : Sound p) where
       below_last : v_of (verify_stage p.stmts) < length p.stages → t.stage < v_of (verify_stage p.stmts) → t.stage < length p.stages
       below_last i j = omega arith
 
-      barred : (b : Option Branch) → (stage_at p t.stage).branch ≡ b → Barred o (onpath (work_of_stage p o t).env (in_stage t.stage p.stmts))
-      barred None e = inr (clear e)
-      barred (Some c) e =
+      barred : (b : List Branch) → (stage_at p t.stage).branches ≡ b → Barred o (onpath (work_of_stage p o t).env (in_stage t.stage p.stmts))
+      barred [] e = inr (clear e)
+      barred (x ∷ c) e =
           inl
           (none_onpath is_barrier (work_of_stage p o t).env (in_stage t.stage p.stmts)
-          (trunk_none is_barrier no_barrier (in_stage t.stage p.stmts) (acc.trunk_holds t.stage c e)))
+          (trunk_none is_barrier no_barrier (in_stage t.stage p.stmts) (acc.trunk_holds x c t.stage e)))
 
       at : (v : Option ℕ) → verify_stage p.stmts ≡ v → Strayed p (Roams p) (has_made p) t (work_of_stage p o t)
       at None e = absurd (let i : t.stage < 0 = subst (λ v. t.stage < v_of v) e low in omega arith)
@@ -273,8 +267,8 @@ module _ (p : Pipe) (acc : Sound p) where
           roam_step p acc o t r (below_last (v_low (verify_stage p.stmts) refl) low)
           (ap (λ o. stands_before o t.stage) e ∙ lt-ltb _ _ i)
           (ap (λ o. stands_at o t.stage) e ∙ ne_eqb t.stage v (λ j. absurd (omega arith)))
-          (barred (stage_at p t.stage).branch refl) ready in
-          record { fails = h.2; commits = h.0; goes_on = h.1; once = h.3; born = λ x k. fresh_roams p acc x; made_next = h.4 }
+          (barred (stage_at p t.stage).branches refl) ready in
+          record { commits = h.0; goes_on = h.1; once = h.2; born = λ g x k. fresh_roams p acc g x; made_next = h.3 }
 
   -- a sound pipe has the facts of single threads that the pipeline's proof takes
   pub course : Course p
@@ -282,54 +276,53 @@ module _ (p : Pipe) (acc : Sound p) where
       record {
         graph = acc.graph;
         branches = acc.branches;
-        locks = (acc.pathwise.paths []).locks;
+        rooms = Rooms.rooms p acc;
         plain_from = (acc.pathwise.paths []).plain_from;
         plain_to = (acc.pathwise.paths []).plain_to;
-        on = λ arrays args s. (visits_stage p (thread (at_once p) arrays args).env s ≡ true) × Reached p (thread (at_once p) arrays args).env s;
-        on_start = λ arrays args. (StageFacts.on_start p acc arrays args, (0, refl));
+        on = λ world args s. (visits_stage p (thread (at_once p) world.words args).env s ≡ true) × Reached p (thread (at_once p) world.words args).env s;
+        on_start = λ world args. (StageFacts.on_start p acc world args, (0, refl));
         on_next =
-            λ arrays args s on low. (
-              StageFacts.on_next p acc arrays args s on.0 low,
-              (suc on.1.0, StageFacts.path_next p acc arrays args s ∙ ap (λ n. next_of p n (thread (at_once p) arrays args).env) on.1.1),
+            λ world args s on low. (
+              StageFacts.on_next p acc world args s on.0 low,
+              (suc on.1.0, StageFacts.path_next p acc world args s on.0 ∙ ap (λ n. next_of p n (thread (at_once p) world.words args).env) on.1.1),
             );
-        start_so = λ arrays args. ap (λ l. do_all (alone arrays) l (start_work p args)) no_start;
+        start_so = λ world args. ap (λ l. do_all (alone world) l (start_work p args)) no_start;
         start_blocked =
-            λ arrays args. ap (λ l. (scan_after_all l no_scan).blocked)
-            (before_path (thread p arrays args).env 0 p.stmts ∙ ap (onpath (thread p arrays args).env) no_start);
-        here_alike = λ arrays args o s clean on low f plain ready r. StageFacts.here_alike p acc arrays args o s clean on.0 low f plain ready r;
-        next_so = λ arrays args s on low. StageFacts.next_values p acc arrays args s on.0 low;
+            λ world args. ap (λ l. (scan_after_all l no_scan).blocked)
+            (before_path (thread p world.words args).env 0 p.stmts ∙ ap (onpath (thread p world.words args).env) no_start);
+        here_alike = λ world args o s clean on low f plain ready r. StageFacts.here_alike p acc world args o s clean on.0 low f plain ready r;
+        next_so = λ world args s on low. StageFacts.next_values p acc world args s on.0 low;
         fetch = acc.fetch;
         asks_at =
             λ o t m h. sym
             (found_one (λ n. acc.fetch n ≡ t.stage)
             (work_of_stage p o t).asks m
-            (all_more _ (λ q. acc.fetch q.mem ≡ t.stage) (work_of_stage p o t).asks (λ q k. k.here) (fetched (λ n a. 0) [] o t)) h);
+            (all_more _ (λ q. acc.fetch q.mem ≡ t.stage) (work_of_stage p o t).asks (λ q k. k.here)
+            (fetched (record { words = λ n a. 0; hint = no_hint }) [] o t)) h);
         asks_ok =
-            λ arrays args s on low. all_more _ (AskOk p acc.fetch s (next_at p arrays args s))
-            (stage_work p arrays args s).asks
-            (λ q k. record { here = k.here; known = k.known; exact = k.exact; early = k.early (stage_work p arrays args s).env })
-            (fetched arrays args (alone arrays) (thread_at p arrays args s));
-        asks_apart = λ arrays args s on low. apart_asks (alone arrays) (in_stage s p.stmts) _ (acc.fetch_alone s) tt tt;
-        row_after = λ arrays args m. StageFacts.row_after p acc arrays args m;
+            λ world args s on low. all_more _ (AskOk p acc.fetch s (next_at p world args s))
+            (stage_work p world args s).asks
+            (λ q k. record { here = k.here; known = k.known; exact = k.exact; early = k.early (stage_work p world args s).env })
+            (fetched world args (alone world) (thread_at p world args s));
+        asks_apart = λ world args s on low. apart_asks (alone world) (in_stage s p.stmts) _ (acc.fetch_alone s) tt tt;
+        row_after = λ world args m. StageFacts.row_after p acc world args m;
         quiet_at =
             λ o t m h. quiet m o (in_stage t.stage p.stmts) _
             (none_in_stage (is_release m) (commit_stage p m) t.stage p.stmts (sym (all_at_looked m (commit_stage p m) p.stmts) ∙ acc.pathwise.releases m) h);
-        marks_start = λ arrays args m. StageFacts.marks_start p acc arrays args m;
-        marks_step = λ arrays args s m on low. StageFacts.marks_step p acc arrays args s m on.0 low;
-        marks_seen = λ arrays args s m a rest h. StageFacts.marks_seen p acc arrays args s m a rest h;
-        marks_plain = λ arrays args s m h. StageFacts.marks_plain p acc arrays args s m h;
-        marks_late = λ arrays args s m h. StageFacts.marks_late p acc arrays args s m h;
-        marks_end = λ arrays args m. StageFacts.marks_end p acc arrays args m;
+        marks_start = λ world args m. StageFacts.marks_start p acc world args m;
+        marks_step = λ world args s m on low. StageFacts.marks_step p acc world args s m on.0 low;
+        marks_seen = λ world args s m a rest h. StageFacts.marks_seen p acc world args s m a rest h;
+        marks_plain = λ world args s m h. StageFacts.marks_plain p acc world args s m h;
+        marks_late = λ world args s m h. StageFacts.marks_late p acc world args s m h;
+        marks_end = λ world args m. StageFacts.marks_end p acc world args m;
         v = v_of (verify_stage p.stmts);
         v_inside = v_low (verify_stage p.stmts) refl;
         trunk_v = v_trunk (verify_stage p.stmts) refl;
-        child_next = λ arrays args s on low. StageFacts.child_next p acc arrays args s on.0 low;
+        child_next = λ world args s on low. StageFacts.child_next p acc world args s on.0 low;
         child_end = child_end;
-        not_yet = λ arrays args s on low h. not_yet arrays args s h;
-        right_stays = λ arrays args s on low h. right_stays arrays args s h;
+        made_changes = λ world args s x on e. made_changes world args s x e;
+        changes_early = λ world args s x on e h. changes_early world args s x e h;
         wrong_made = wrong_made;
-        wrong_before = λ arrays args s x on e h low. wrong_before arrays args s x e h low;
-        wrong_at = λ arrays args s x on e h i. wrong_at arrays args s x e h i;
         stray = Roams p;
         made = has_made p;
         stray_fresh = fresh_roams p acc;
@@ -338,6 +331,11 @@ module _ (p : Pipe) (acc : Sound p) where
       }
 
   -- a stage that a turn comes to is reached on its path
-  pub on_reached : (arrays : Arrays) (args : List ℕ) (s : ℕ) → course.on arrays args s → Reached p (thread (at_once p) arrays args).env s
+  pub on_reached : (world : World) (args : List ℕ) (s : ℕ) → course.on world args s → Reached p (thread (at_once p) world.words args).env s
   unfolding course
-  on_reached arrays args s on = on.1
+  on_reached world args s on = on.1
+
+  -- and its path comes to it
+  pub on_visited : (world : World) (args : List ℕ) (s : ℕ) → course.on world args s → visits_stage p (thread (at_once p) world.words args).env s ≡ true
+  unfolding course
+  on_visited world args s on = on.0

@@ -25,3 +25,4 @@ pub mod CourseOf
 pub mod Steps
 pub mod OwnEntries
 pub mod OfStage
+pub mod Rooms

@@ -1,5 +1,5 @@
 -- Undone writes, each with whether its value is known already.
-use Rattle.std.proofs.Common.{◌≡◌, refl, sym, ap, ap₂, ◌∙◌, subst, ℕ, Bool, true, false, ◌&&◌, List, [], ◌∷◌, ◌++◌, ◌⊎◌, inl, inr, ◌==◌, cond, if◌then◌else◌, append-nil, append_assoc}
+use Rattle.std.proofs.Common.{◌≡◌, refl, sym, ap, ap₂, ◌∙◌, subst, ℕ, suc, ◌-◌, ◌≤◌, ◌<◌, nat_lt, length, arith, lt-ltb, ltb-true, Bool, true, false, ◌&&◌, List, [], ◌∷◌, ◌++◌, ◌⊎◌, inl, inr, ◌==◌, cond, if◌then◌else◌, append-nil, append_assoc}
 use Rattle.std.proofs.lemmas.Bool.{eqb-true, eqb-false}
 use Rattle.pdl_semantics.specs.Flat.{Array, with_value, Commit, of_mem, Lock}
 use Rattle.pdl_semantics.specs.Locks.{Latest, Nothing, Coming, Known, as_latest, is_coming, value_or, read_ready}
@@ -29,9 +29,24 @@ strips m [] = []
 strips m (k ∷ ks) = write_of m k.address k.value ∷ strips m ks
 
 -- writes as marks, all with known values or none
-abbrev pub marked : Bool → List Commit → List Mark
-marked known [] = []
-marked known (c ∷ cs) = record { address = c.address; value = c.value; known = known } ∷ marked known cs
+abbrev pub marked : ℕ → List Commit → List Mark
+marked k [] = []
+marked k (c ∷ cs) = record { address = c.address; value = c.value; known = nat_lt 0 k } ∷ marked (k - 1) cs
+
+-- all writes are marked but the first one, where they are one more
+pub marked_more : (n : ℕ) (d : Commit) (cs : List Commit)
+    → marked (suc n) (d ∷ cs) ≡ record { address = d.address; value = d.value; known = true } ∷ marked n cs
+marked_more n d cs =
+    ap₂ (λ b k. record { address = d.address; value = d.value; known = b } ∷ marked k cs) (lt-ltb 0 (suc n) (omega arith))
+    (let e : suc n - 1 ≡ n = omega arith in e)
+
+-- all writes are marked, with one more
+pub marked_last : (cs : List Commit) (c : Commit)
+    → marked (length (cs ++ c ∷ [])) (cs ++ c ∷ []) ≡ marked (length cs) cs ++ record { address = c.address; value = c.value; known = true } ∷ []
+marked_last [] c = refl
+marked_last (d ∷ cs) c =
+    marked_more (length (cs ++ c ∷ [])) d (cs ++ c ∷ []) ∙ ap (λ l. record { address = d.address; value = d.value; known = true } ∷ l) (marked_last cs c)
+    ∙ sym (ap (λ l. l ++ record { address = c.address; value = c.value; known = true } ∷ []) (marked_more (length cs) d cs))
 
 -- the same marks, with more values known
 abbrev pub Raised : List Mark → List Mark → Type 0
@@ -76,9 +91,12 @@ strips_raised m (k ∷ ks) [] r = absurd r
 strips_raised m (k ∷ ks) (j ∷ js) r = λ i. write_of m (r.0 i) (r.1 i) ∷ strips_raised m ks js r.3 i
 
 -- the same writes, known where they were known before, are the same marks with more values known
-pub raised_marked : (b c : Bool) (cs : List Commit) → (b ≡ true → c ≡ true) → Raised (marked b cs) (marked c cs)
+pub raised_marked : (b c : ℕ) (cs : List Commit) → b ≤ c → Raised (marked b cs) (marked c cs)
 raised_marked b c [] h = tt
-raised_marked b c (x ∷ cs) h = (refl, refl, h, raised_marked b c cs h)
+raised_marked b c (x ∷ cs) h = (refl, refl, (λ k. lt-ltb 0 c (more (ltb-true 0 b k))), raised_marked (b - 1) (c - 1) cs (omega arith))
+  where
+    more : 0 < b → 0 < c
+    more k = omega arith
 
 -- the writes of marks are those that were committed since, and then those of the later marks
 pub later_strips : (m : ℕ) (ks : List Mark) (gone : List Commit) (js : List Mark) → Later m ks gone js → strips m ks ≡ gone ++ strips m js
@@ -193,11 +211,11 @@ latest_own (e ∷ es) m a rest = at (e.mem == m) refl (e.address == a) refl (lat
     at false f c g h = h
 
 -- marks of a memory's writes are those writes
-pub strips_marked : (m : ℕ) (b : Bool) (cs : List Commit) → strips m (marked b (of_mem m cs)) ≡ of_mem m cs
+pub strips_marked : (m b : ℕ) (cs : List Commit) → strips m (marked b (of_mem m cs)) ≡ of_mem m cs
 strips_marked m b [] = refl
-strips_marked m b (c ∷ cs) = at (c.mem == m) refl (strips_marked m b cs)
+strips_marked m b (c ∷ cs) = at (c.mem == m) refl (strips_marked m (b - 1) cs) (strips_marked m b cs)
   where
-    at : (t : Bool) → (c.mem == m) ≡ t → strips m (marked b (of_mem m cs)) ≡ of_mem m cs
+    at : (t : Bool) → (c.mem == m) ≡ t → strips m (marked (b - 1) (of_mem m cs)) ≡ of_mem m cs → strips m (marked b (of_mem m cs)) ≡ of_mem m cs
         → strips m (marked b (cond t (c ∷ of_mem m cs) (of_mem m cs))) ≡ cond t (c ∷ of_mem m cs) (of_mem m cs)
-    at true e h = λ i. record { mem = sym (eqb-true c.mem m e) i; address = c.address; value = c.value } ∷ h i
-    at false e h = h
+    at true e less on = λ i. record { mem = sym (eqb-true c.mem m e) i; address = c.address; value = c.value } ∷ less i
+    at false e less on = on

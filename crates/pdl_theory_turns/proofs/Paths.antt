@@ -3,11 +3,11 @@ use Rattle.std.proofs.Common.{◌≡◌, ◌≢◌, refl, sym, ap, ap₂, ◌∙
 use Rattle.std.proofs.lemmas.List.{get_or-set_other}
 use Rattle.std.proofs.lemmas.Bool.Decides.{eqb_tells}
 use Rattle.std.proofs.lemmas.Bool.{eqb-true}
-use Rattle.pdl_semantics.specs.Flat.{Op, Bind, CombRead, DelayedRead, Verify, Stmt, Guard, values_of, takes_branch, all_hold}
+use Rattle.pdl_semantics.specs.Flat.{Op, Bind, CombRead, DelayedRead, Verify, Stmt, Guard, takes_branch, all_hold}
 use Rattle.pdl_semantics.specs.Stages.{onpath, in_stage}
 use Rattle.pdl_semantics.specs.Machine.{same_args}
 use Rattle.pdl_semantics.specs.Sequential.{Run, run_after, run_all}
-use Rattle.pdl_theory_derived.specs.Derived.{Work, Around, work_after, do_all}
+use Rattle.pdl_theory_derived.specs.Derived.{Work, Around, work_after, do_all, said}
 use Rattle.pdl_theory_derived.specs.Alone.{before, answered_op}
 use Rattle.pdl_theory_derived.proofs.Writes.{and_left, and_right}
 use Rattle.pdl_theory_derived.proofs.Stages.{step}
@@ -24,15 +24,18 @@ run_op_stays : (g : ℕ) (op : Op) (r : Run) → not (binds_var g op) ≡ true �
 run_op_stays g (Bind x e) r h = set_stays r.env x g _ h
 run_op_stays g (CombRead x m a) r h = set_stays r.env x g _ h
 run_op_stays g (DelayedRead x m a) r h = set_stays r.env x g _ h
+run_op_stays g (Verify true args) r h = refl
+run_op_stays g (Verify false args) r h = refl
 run_op_stays g _ r h = refl
 
 op_stays : (g : ℕ) (o : Around) (op : Op) (w : Work)
     → not (binds_var g op) ≡ true → slice_index (work_after o op w).env g ≡ slice_index w.env g
 op_stays g o (Bind x e) w h = set_stays w.env x g _ h
 op_stays g o (CombRead x m a) w h = set_stays w.env x g _ h
-op_stays g o (Verify args) w h = at (same_args (values_of args w.env) w.guess)
+op_stays g o (Verify last args) w h = at (same_args (said o last args w.env) w.guess)
   where
-    at : (b : Bool) → slice_index (cond b w (record w { child = Some (values_of args w.env); fails = true })).env g ≡ slice_index w.env g
+    at : (b : Bool)
+        → slice_index (cond b w (record w { child = Some (said o last args w.env); guess = said o last args w.env; fails = true })).env g ≡ slice_index w.env g
     at true = refl
     at false = refl
 op_stays g o _ w h = refl

@@ -1,22 +1,23 @@
 -- A thread after a wrong guess: it keeps to one path, whatever answers come.
-use Rattle.std.proofs.Common.{◌≡◌, refl, sym, ap, ap₂, ◌∙◌, subst, ℕ, suc, ◌<◌, ◌⊎◌, inl, inr, Bool, true, false, ◌||◌, not, List, [], ◌∷◌, ◌++◌, length, Option, Some, None, is_some, ◌==◌, cond, if◌then◌else◌, slice_index, slice_set, append-nil, append_assoc, eq-eqb}
+use Rattle.std.proofs.Common.{◌≡◌, refl, sym, ap, ap₂, ◌∙◌, subst, ℕ, suc, ◌<◌, ◌⊎◌, inl, inr, Bool, true, false, ◌||◌, not, List, [], ◌∷◌, ◌++◌, length, None, is_some, ◌==◌, cond, if◌then◌else◌, slice_index, slice_set, append-nil, append_assoc, eq-eqb}
 use Rattle.pdl_semantics.specs.Flat.{Stmt, Pipe, Branch, Next, Ends, Goes, Forks, all_hold}
-use Rattle.pdl_semantics.specs.Stages.{onpath, in_stage, stage_at, is_verify, verify_stage}
+use Rattle.pdl_semantics.specs.Stages.{onpath, in_stage, stage_at, verify_stage}
 use Rattle.pdl_semantics.specs.Machine.{Ask, Awaited, is_answered}
 use Rattle.pdl_semantics.specs.Cycle.{awaited_of}
-use Rattle.pdl_theory_derived.specs.Derived.{Work, Around, Thread, State, do_all, work_of_stage, fresh, answered_thread, with_answers, still, word_of, asked_at}
+use Rattle.pdl_theory_derived.specs.Derived.{no_hint, Hint, Work, Around, Thread, State, do_all, work_of_stage, fresh, answered_thread, with_answers, still, word_of, asked_at}
 use Rattle.pdl_theory_derived.specs.Alone.{before}
 use Rattle.pdl_theory_facts.specs.Scans.{Scan, no_scan, scan_after_all, none_of, binds_var, is_fixed}
 use Rattle.pdl_theory_facts.specs.GuessScans.{stands_at, stands_before, Making, Unmade, Guessed, Made, making_all, is_unmade, makings_ok, all_sure}
 use Rattle.pdl_theory_facts.specs.Facts.{looked_all, at_once, is_fetch_of, comes_by, visits_stage, Sound}
-use Rattle.pdl_theory_facts.specs.Graphs.{next_of, goes_by, In}
+use Rattle.pdl_theory_facts.specs.Graphs.{next_of, Within}
+use Rattle.pdl_theory_facts.proofs.Nested.{came_from, arrives, visits_same}
 use Rattle.std.proofs.lemmas.List.{get_or-set_other}
 use Rattle.std.proofs.lemmas.Bool.{eqb-false, ne_eqb, or_parts, not-true}
 use Rattle.pdl_theory_derived.proofs.Writes.{and_left, and_right}
 use Rattle.pdl_theory_turns.proofs.Paths.{fixed_all, all_stays, taken_stays, before_path, stage_path}
 use Rattle.pdl_theory_turns.proofs.Surroundings.{AllIn, in_stage_all, Covers}
 use Rattle.pdl_theory_turns.proofs.OwnEntries.{fixed_to, fixed_front, fixed_second, none_second}
-use Rattle.pdl_theory_turns.proofs.Guesses.{unguarded, settled, unfailed, unverified, begins, making_append}
+use Rattle.pdl_theory_turns.proofs.Guesses.{unguarded, Changed, changed_all, begins, making_append}
 use Rattle.pdl_theory_turns.proofs.CertaintyScans.{some_barrier, barred_append, sure_first, sure_second}
 use Rattle.pdl_theory_derived.proofs.DelayedReads.{AllAsks}
 use Rattle.pdl_theory_turns.proofs.Courses.{onward}
@@ -94,16 +95,16 @@ not_asked x (q ∷ qs) h = ap₂ (λ a b. a || b) (not-true (q.var == x) h.0) (n
 
 module _ (p : Pipe) (acc : Sound p) where
   -- a new thread is on its path and has made no successor
-  pub fresh_roams : (args : List ℕ) → Roams p (fresh p args) × (has_made p (fresh p args) ≡ false)
-  fresh_roams args = (
+  pub fresh_roams : (g : Hint) (args : List ℕ) → Roams p (fresh p g args) × (has_made p (fresh p g args) ≡ false)
+  fresh_roams g args = (
     record {
       covers = λ m a h. absurd (cc h);
-      barred = ap (λ l. some_barrier false (onpath (fresh p args).env l)) none;
-      blind = λ env' f. ap (onpath env') none ∙ sym (ap (onpath (fresh p args).env) none);
-      on = ap (comes_by p (fresh p args).env) acc.graph.trunk_start;
+      barred = ap (λ l. some_barrier false (onpath (fresh p g args).env l)) none;
+      blind = λ env' f. ap (onpath env') none ∙ sym (ap (onpath (fresh p g args).env) none);
+      on = ap (comes_by p (fresh p g args).env) acc.graph.trunk_start;
       aside = tt;
     },
-    ap (λ l. not (is_unmade (making_all Unmade (onpath (fresh p args).env l)))) none,
+    ap (λ l. not (is_unmade (making_all Unmade (onpath (fresh p g args).env l)))) none,
   )
     where
       none : before 0 p.stmts ≡ []
@@ -125,7 +126,7 @@ module _ (p : Pipe) (acc : Sound p) where
     -- a thread's stage does the statements of the path that the thread is seen to take when the stage is done
     along_path : work_of_stage p o t
         ≡ do_all o (onpath (work_of_stage p o t).env (in_stage t.stage p.stmts))
-        (record { env = t.env; entries = t.entries; guess = t.guess; asks = []; commits = []; child = None; fails = false; ready = true })
+        (record { env = t.env; entries = t.entries; guess = t.guess; asks = []; reserves = []; commits = []; child = None; fails = false; ready = true })
     along_path =
         fixed_all (work_of_stage p o t).env o (in_stage t.stage p.stmts) _
         (fixed_to (work_of_stage p o t).env o (in_stage t.stage p.stmts)
@@ -206,33 +207,26 @@ module _ (p : Pipe) (acc : Sound p) where
     ok_here =
         sym (ok_looked (verify_stage p.stmts) _ (onpath (work_of_stage p o t).env (in_stage t.stage p.stmts)))
         ∙ (λ i. makings_ok (sym vis i) (making_all Unmade (sym (before_on t.stage) i)) (sym stage_on i))
-        ∙ Makes.makings_stage (at_once p) acc.pathwise (work_of_stage p o t).env (λ m a. 0) [] t.stage
+        ∙ Makes.makings_stage (at_once p) acc.pathwise (work_of_stage p o t).env (record { words = λ m a. 0; hint = no_hint }) [] t.stage
 
-    -- a stage before V makes at most one thread
-    makes_one : stands_at (verify_stage p.stmts) t.stage ≡ false
-        → ((work_of_stage p o t).fails ≡ false) × (has_made p t ≡ true → (work_of_stage p o t).child ≡ None)
+    -- what it makes
+    makes_one : (has_made p t ≡ true → Changed (work_of_stage p o t))
         × (not
         (is_unmade
         (making_all (making_all Unmade (onpath (work_of_stage p o t).env (before t.stage p.stmts)))
         (onpath (work_of_stage p o t).env (in_stage t.stage p.stmts))))
         ≡ (has_made p t || is_some (work_of_stage p o t).child))
-    makes_one e = by (making_all Unmade (onpath (work_of_stage p o t).env (before t.stage p.stmts))) refl
+    makes_one = by (making_all Unmade (onpath (work_of_stage p o t).env (before t.stage p.stmts))) refl
       where
-        none : none_of is_verify (onpath (work_of_stage p o t).env (in_stage t.stage p.stmts)) ≡ true
-        none = unverified (verify_stage p.stmts) _ t.stage (onpath (work_of_stage p o t).env (in_stage t.stage p.stmts)) in_here ok_here (λ _. e)
-
         had : (k : Making) → making_all Unmade (onpath (work_of_stage p o t).env (before t.stage p.stmts)) ≡ k → has_made p t ≡ not (is_unmade k)
         had k i = ap (λ l. not (is_unmade (making_all Unmade l))) (sym same_before) ∙ ap (λ j. not (is_unmade j)) i
-
-        fails : (work_of_stage p o t).fails ≡ false
-        fails = ap (λ (w : Work). w.fails) along_path ∙ unfailed o (onpath (work_of_stage p o t).env (in_stage t.stage p.stmts)) _ none
 
         flip : (b c : Bool) → b ≡ not c → not b ≡ c
         flip b true h = ap not h
         flip b false h = ap not h
 
         later : (k : Making) → making_all Unmade (onpath (work_of_stage p o t).env (before t.stage p.stmts)) ≡ k → is_unmade k ≡ false
-            → ((work_of_stage p o t).fails ≡ false) × (has_made p t ≡ true → (work_of_stage p o t).child ≡ None)
+            → (has_made p t ≡ true → Changed (work_of_stage p o t))
             × (not
             (is_unmade
             (making_all (making_all Unmade (onpath (work_of_stage p o t).env (before t.stage p.stmts)))
@@ -240,31 +234,41 @@ module _ (p : Pipe) (acc : Sound p) where
             ≡ (has_made p t || is_some (work_of_stage p o t).child))
         later k i u =
             let s =
-            settled o (verify_stage p.stmts) k (onpath (work_of_stage p o t).env (in_stage t.stage p.stmts))
-            (record { env = t.env; entries = t.entries; guess = t.guess; asks = []; commits = []; child = None; fails = false; ready = true }) u
-            (subst (λ j. makings_ok (verify_stage p.stmts) j (onpath (work_of_stage p o t).env (in_stage t.stage p.stmts)) ≡ true) i ok_here) none in (
-              fails,
-              (λ _. ap (λ (w : Work). w.child) along_path ∙ s.0.0),
-              ap (λ j. not (is_unmade j)) (ap (λ j. making_all j (onpath (work_of_stage p o t).env (in_stage t.stage p.stmts))) i ∙ s.1)
-                  ∙ ap not u ∙ sym (ap (λ b. b || is_some (work_of_stage p o t).child) (had k i ∙ ap not u)),
+            changed_all o (verify_stage p.stmts) k (onpath (work_of_stage p o t).env (in_stage t.stage p.stmts))
+            (record { env = t.env; entries = t.entries; guess = t.guess; asks = []; reserves = []; commits = []; child = None; fails = false; ready = true }) u
+            (subst (λ j. makings_ok (verify_stage p.stmts) j (onpath (work_of_stage p o t).env (in_stage t.stage p.stmts)) ≡ true) i ok_here)
+            (inl (refl, refl)) in (
+              (λ _. subst (λ (w : Work). Changed w) (sym along_path) s.0),
+              ap (λ j. not (is_unmade j)) (ap (λ j. making_all j (onpath (work_of_stage p o t).env (in_stage t.stage p.stmts))) i)
+                  ∙ ap not s.1 ∙ sym (ap (λ b. b || is_some (work_of_stage p o t).child) (had k i ∙ ap not u)),
             )
 
         by : (k : Making) → making_all Unmade (onpath (work_of_stage p o t).env (before t.stage p.stmts)) ≡ k
-            → ((work_of_stage p o t).fails ≡ false) × (has_made p t ≡ true → (work_of_stage p o t).child ≡ None)
+            → (has_made p t ≡ true → Changed (work_of_stage p o t))
             × (not
             (is_unmade
             (making_all (making_all Unmade (onpath (work_of_stage p o t).env (before t.stage p.stmts)))
             (onpath (work_of_stage p o t).env (in_stage t.stage p.stmts))))
             ≡ (has_made p t || is_some (work_of_stage p o t).child))
         by Unmade i = (
-          fails,
           (λ h. absurd (clash (sym (had Unmade i) ∙ h))),
           ap (λ j. not (is_unmade (making_all j (onpath (work_of_stage p o t).env (in_stage t.stage p.stmts))))) i
               ∙ flip _ _
-              (begins o (verify_stage p.stmts) (onpath (work_of_stage p o t).env (in_stage t.stage p.stmts))
-              (record { env = t.env; entries = t.entries; guess = t.guess; asks = []; commits = []; child = None; fails = false; ready = true }) refl
+              (begins o (verify_stage p.stmts) Unmade (onpath (work_of_stage p o t).env (in_stage t.stage p.stmts))
+              (record {
+                env = t.env;
+                entries = t.entries;
+                guess = t.guess;
+                asks = [];
+                reserves = [];
+                commits = [];
+                child =
+                    None;
+                fails = false;
+                ready = true;
+              }) refl
               (subst
-              (λ j. makings_ok (verify_stage p.stmts) j (onpath (work_of_stage p o t).env (in_stage t.stage p.stmts)) ≡ true) i ok_here) none free_stage)
+              (λ j. makings_ok (verify_stage p.stmts) j (onpath (work_of_stage p o t).env (in_stage t.stage p.stmts)) ≡ true) i ok_here) free_stage)
               ∙ ap (λ (w : Work). is_some w.child) (sym along_path) ∙ ap (λ b. b || is_some (work_of_stage p o t).child) (sym (had Unmade i)),
         )
         by Guessed i = later Guessed i refl
@@ -272,45 +276,30 @@ module _ (p : Pipe) (acc : Sound p) where
 
     -- the side of its branch stays
     on_now : visits_stage p t.env t.stage ≡ true → visits_stage p (work_of_stage p o t).env t.stage ≡ true
-    on_now h = at (stage_at p t.stage).branch refl
-      where
-        at : (b : Option Branch) → (stage_at p t.stage).branch ≡ b → comes_by p (work_of_stage p o t).env (stage_at p t.stage).branch ≡ true
-        at None e = ap (comes_by p (work_of_stage p o t).env) e
-        at (Some c) e =
-            ap (comes_by p (work_of_stage p o t).env) e
-            ∙ side_same (stage_at p c.fork).next c.first (work_of_stage p o t).env t.env
-            (λ z a b f. all_stays z o (in_stage t.stage p.stmts) _
-            (none_stage_from (binds_var z) (suc c.fork) t.stage p.stmts (acc.branches.fork_trunk c t.stage e).1 (acc.fork_bound c.fork z a b f)))
-            ∙ ap (comes_by p t.env) (sym e) ∙ h
+    on_now h =
+        visits_same p t.stage (work_of_stage p o t).env t.env
+        (λ x c i. side_same (stage_at p x.fork).next x.first (work_of_stage p o t).env t.env
+        (λ z a b f. all_stays z o (in_stage t.stage p.stmts) _
+        (none_stage_from (binds_var z) (suc x.fork) t.stage p.stmts (acc.branches.fork x c t.stage i).1 (acc.fork_bound x.fork z a b f))))
+        ∙ h
 
     -- the next stage of the thread is on its path
     on_then : visits_stage p (work_of_stage p o t).env t.stage ≡ true → t.stage < length p.stages
         → visits_stage p (work_of_stage p o t).env (next_of p t.stage (work_of_stage p o t).env) ≡ true
-    on_then h low = at (stage_at p (next_of p t.stage (work_of_stage p o t).env)).branch refl
-      where
-        at : (b : Option Branch) → (stage_at p (next_of p t.stage (work_of_stage p o t).env)).branch ≡ b
-            → comes_by p (work_of_stage p o t).env (stage_at p (next_of p t.stage (work_of_stage p o t).env)).branch ≡ true
-        at None e = ap (comes_by p (work_of_stage p o t).env) e
-        at (Some c) e = ap (comes_by p (work_of_stage p o t).env) e ∙ by (acc.branches.stays_in c t.stage (work_of_stage p o t).env low e)
-          where
-            by : (t.stage ≡ c.fork) ⊎ (In p c t.stage × (next_of p t.stage (work_of_stage p o t).env ≡ suc t.stage))
-                → goes_by p c (work_of_stage p o t).env ≡ true
-            by (inl f) =
-                acc.branches.side c (work_of_stage p o t).env (subst (λ n. n < length p.stages) f low)
-                (subst (λ n. In p c (next_of p n (work_of_stage p o t).env)) f e)
-            by (inr f) = ap (comes_by p (work_of_stage p o t).env) (sym f.0) ∙ h
+    on_then h low = arrives p acc.branches t.stage (work_of_stage p o t).env low h
 
     -- what it awaits there is no fork's variable
-    aside_then : t.stage < length p.stages → AllAsks (λ q. Aside p (next_of p t.stage (work_of_stage p o t).env) q.var) (work_of_stage p o t).asks
-    aside_then low =
+    aside_then : visits_stage p (work_of_stage p o t).env t.stage ≡ true
+        → t.stage < length p.stages → AllAsks (λ q. Aside p (next_of p t.stage (work_of_stage p o t).env) q.var) (work_of_stage p o t).asks
+    aside_then on low =
         flip (work_of_stage p o t).asks
-        (λ c e. asks_each (λ x m. steers p c x ≡ false) o (in_stage t.stage p.stmts) _ (none_steers c e (stage_at p c.fork).next refl) tt)
+        (λ y c e. asks_each (λ x m. steers p y x ≡ false) o (in_stage t.stage p.stmts) _ (none_steers y c e (stage_at p y.fork).next refl) tt)
       where
         flip : (qs : List Ask)
-            → ((c : Branch) → In p c (next_of p t.stage (work_of_stage p o t).env) → AllAsks (λ q. steers p c q.var ≡ false) qs)
+            → ((y : Branch) (c : List Branch) → Within p (y ∷ c) (next_of p t.stage (work_of_stage p o t).env) → AllAsks (λ q. steers p y q.var ≡ false) qs)
             → AllAsks (λ q. Aside p (next_of p t.stage (work_of_stage p o t).env) q.var) qs
         flip [] h = tt
-        flip (q ∷ qs) h = ((λ c e. (h c e).0), flip qs (λ c e. (h c e).1))
+        flip (q ∷ qs) h = ((λ y c e. (h y c e).0), flip qs (λ y c e. (h y c e).1))
 
         turned : (z : ℕ) (ys : List Stmt) → EachFetch (λ y m. not (y == z) ≡ true) ys → EachFetch (λ y m. (z == y) ≡ false) ys
         turned z [] h = tt
@@ -326,37 +315,40 @@ module _ (p : Pipe) (acc : Sound p) where
                     at true l = absurd (cc l)
                     at false l = refl
 
-        unfetched : (c : Branch) (z a b : ℕ) → In p c (next_of p t.stage (work_of_stage p o t).env)
-            → (stage_at p c.fork).next ≡ Forks z a b → none_of (is_fetch_of z) (in_stage t.stage p.stmts) ≡ true
-        unfetched c z a b e f = by (acc.branches.stays_in c t.stage (work_of_stage p o t).env low e)
+        unfetched : (y : Branch) (c : List Branch) (z a b : ℕ) → Within p (y ∷ c) (next_of p t.stage (work_of_stage p o t).env)
+            → (stage_at p y.fork).next ≡ Forks z a b → none_of (is_fetch_of z) (in_stage t.stage p.stmts) ≡ true
+        unfetched y c z a b e f = by (came_from p acc.branches y c t.stage (work_of_stage p o t).env low e)
           where
-            by : (t.stage ≡ c.fork) ⊎ (In p c t.stage × (next_of p t.stage (work_of_stage p o t).env ≡ suc t.stage))
+            by : (y.fork ≡ t.stage) ⊎ Within p (y ∷ c) t.stage
                 → none_of (is_fetch_of z) (in_stage t.stage p.stmts) ≡ true
-            by (inl g) = subst (λ n. none_of (is_fetch_of z) (in_stage n p.stmts) ≡ true) (sym g) (acc.fork_seen c.fork z a b f)
+            by (inl g) =
+                subst (λ n. none_of (is_fetch_of z) (in_stage n p.stmts) ≡ true) g
+                (acc.fork_seen (work_of_stage p o t).env y.fork z a b (subst (λ n. visits_stage p (work_of_stage p o t).env n ≡ true) (sym g) on) f)
             by (inr g) =
                 fetch_binds z (in_stage t.stage p.stmts)
-                (none_stage_from (binds_var z) (suc c.fork) t.stage p.stmts (acc.branches.fork_trunk c t.stage g.0).1 (acc.fork_bound c.fork z a b f))
+                (none_stage_from (binds_var z) (suc y.fork) t.stage p.stmts (acc.branches.fork y c t.stage g).1 (acc.fork_bound y.fork z a b f))
 
         each : (P : ℕ → ℕ → Type 0) (ys : List Stmt) → ((x m : ℕ) → P x m) → EachFetch P ys
         each P [] f = tt
         each P (y ∷ ys) f = ((λ d x m a e. f x m), each P ys f)
 
-        none_steers : (c : Branch) → In p c (next_of p t.stage (work_of_stage p o t).env) → (n : Next)
-            → (stage_at p c.fork).next ≡ n → EachFetch (λ x m. steers p c x ≡ false) (in_stage t.stage p.stmts)
-        none_steers c e Ends f = each (λ x m. steers p c x ≡ false) (in_stage t.stage p.stmts) (λ x m. ap (λ n. steers_by n x) f)
-        none_steers c e (Goes to) f = each (λ x m. steers p c x ≡ false) (in_stage t.stage p.stmts) (λ x m. ap (λ n. steers_by n x) f)
-        none_steers c e (Forks z a b) f =
+        none_steers : (y : Branch) (c : List Branch) → Within p (y ∷ c) (next_of p t.stage (work_of_stage p o t).env) → (n : Next)
+            → (stage_at p y.fork).next ≡ n → EachFetch (λ x m. steers p y x ≡ false) (in_stage t.stage p.stmts)
+        none_steers y c e Ends f = each (λ x m. steers p y x ≡ false) (in_stage t.stage p.stmts) (λ x m. ap (λ n. steers_by n x) f)
+        none_steers y c e (Goes to) f = each (λ x m. steers p y x ≡ false) (in_stage t.stage p.stmts) (λ x m. ap (λ n. steers_by n x) f)
+        none_steers y c e (Forks z a b) f =
             subst (λ n. EachFetch (λ x m. steers_by n x ≡ false) (in_stage t.stage p.stmts)) (sym f)
-            (turned z (in_stage t.stage p.stmts) (not_fetched z (in_stage t.stage p.stmts) (unfetched c z a b e f)))
+            (turned z (in_stage t.stage p.stmts) (not_fetched z (in_stage t.stage p.stmts) (unfetched y c z a b e f)))
 
     -- a roaming thread's stage before V, where a barrier would not be clear
     pub roam_step : Roams p t → t.stage < length p.stages → stands_before (verify_stage p.stmts) t.stage ≡ true
         → stands_at (verify_stage p.stmts) t.stage ≡ false
         → Barred o (onpath (work_of_stage p o t).env (in_stage t.stage p.stmts)) → (work_of_stage p o t).ready ≡ true
         → ((work_of_stage p o t).commits ≡ [])
-        × Roams p (onward (next_of p t.stage (work_of_stage p o t).env) (work_of_stage p o t))
-        × ((work_of_stage p o t).fails ≡ false) × (has_made p t ≡ true → (work_of_stage p o t).child ≡ None)
-        × (has_made p (onward (next_of p t.stage (work_of_stage p o t).env) (work_of_stage p o t)) ≡ (has_made p t || is_some (work_of_stage p o t).child))
+        × Roams p (onward (next_of p t.stage (work_of_stage p o t).env) t.hint (work_of_stage p o t))
+        × (has_made p t ≡ true → Changed (work_of_stage p o t))
+        ×
+        (has_made p (onward (next_of p t.stage (work_of_stage p o t).env) t.hint (work_of_stage p o t)) ≡ (has_made p t || is_some (work_of_stage p o t).child))
     roam_step st inside low apart clear ready =
         let on_path : visits_stage p (work_of_stage p o t).env t.stage ≡ true = on_now st.on in
         let skip : onpath (work_of_stage p o t).env (before (next_of p t.stage (work_of_stage p o t).env) p.stmts)
@@ -378,6 +370,7 @@ module _ (p : Pipe) (acc : Sound p) where
           entries = t.entries;
           guess = t.guess;
           asks = [];
+          reserves = [];
           commits = [];
           child = None;
           fails = false;
@@ -388,7 +381,7 @@ module _ (p : Pipe) (acc : Sound p) where
         (onpath (work_of_stage p o t).env (in_stage t.stage p.stmts))
         ≡ true) unbarred sure_stage) cover
         (ap (λ (w : Work). w.ready) (sym along_path) ∙ ready) in
-        let m = makes_one apart in
+        let m = makes_one in
         let opened_now : scan_after_all (onpath (work_of_stage p o t).env (before (next_of p t.stage (work_of_stage p o t).env) p.stmts)) no_scan
         ≡ scan_after_all (onpath (work_of_stage p o t).env (in_stage t.stage p.stmts))
         (scan_after_all (onpath (work_of_stage p o t).env (before t.stage p.stmts)) no_scan) =
@@ -416,14 +409,13 @@ module _ (p : Pipe) (acc : Sound p) where
                 (not_asked x (work_of_stage p o t).asks
                 (asks_each (λ y m. not (y == x) ≡ true) o (in_stage t.stage p.stmts) _ (not_fetched x (in_stage t.stage p.stmts) h) tt)));
             on = on_then on_path inside;
-            aside = aside_asks p (next_of p t.stage (work_of_stage p o t).env) (work_of_stage p o t).asks (aside_then inside);
+            aside = aside_asks p (next_of p t.stage (work_of_stage p o t).env) (work_of_stage p o t).asks (aside_then on_path inside);
           },
           m.0,
-          m.1,
           ap (λ l. not (is_unmade (making_all Unmade l))) piece
               ∙ ap (λ j. not (is_unmade j))
               (making_append Unmade (onpath (work_of_stage p o t).env (before t.stage p.stmts))
               (looked_all (onpath (work_of_stage p o t).env (in_stage t.stage p.stmts)))
               ∙ making_looked _ (onpath (work_of_stage p o t).env (in_stage t.stage p.stmts)))
-              ∙ m.2,
+              ∙ m.1,
         )

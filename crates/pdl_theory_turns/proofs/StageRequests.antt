@@ -1,11 +1,11 @@
 -- A stage with delayed reads in surroundings that are right for its turn: what it does alone, and requests whose answers will be right.
 use Rattle.std.proofs.Common.{◌≡◌, refl, sym, ap, ◌∙◌, subst, ℕ, Bool, true, false, ◌&&◌, ◌||◌, not, List, [], ◌∷◌, ◌++◌, Some, ◌==◌, slice_index, slice_set, cond, nat_le}
 use Rattle.std.proofs.lemmas.Bool.{leb-true}
-use Rattle.pdl_semantics.specs.Flat.{Arrays, Op, Bind, CombRead, DelayedRead, Write, ReserveRead, ReserveWrite, Block, Release, Call, SpecCall, Verify, SpecCheck, SpecBarrier, Stmt, Pipe, values_of, all_hold, word_at}
+use Rattle.pdl_semantics.specs.Flat.{Op, Bind, CombRead, DelayedRead, Write, ReserveRead, ReserveWrite, Block, Release, Call, SpecCall, Verify, SpecCheck, SpecBarrier, AdviceBind, AdviceRead, AdviceWrite, Stmt, Pipe, all_hold, word_at}
 use Rattle.pdl_semantics.specs.Stages.{onpath, mem_at, commit_stage}
 use Rattle.pdl_semantics.specs.Machine.{Ask, same_args}
-use Rattle.pdl_theory_derived.specs.Derived.{Work, Around, work_after, do_all}
-use Rattle.pdl_theory_derived.specs.Alone.{alone, answered_op, Location}
+use Rattle.pdl_theory_derived.specs.Derived.{Work, Around, work_after, do_all, said}
+use Rattle.pdl_theory_derived.specs.Alone.{World, alone, answered_op, Location}
 use Rattle.pdl_theory_facts.specs.Scans.{is_plain, is_address, has_location, scan_after, scan_after_all, op_ok, reads_ok, Scan, location}
 use Rattle.pdl_theory_facts.specs.Facts.{mentions_var, asks_for, is_dead, silent_on, unseen_op, is_unseen, looked_all}
 use Rattle.pdl_theory_derived.proofs.Writes.{and_left, and_right}
@@ -35,6 +35,9 @@ opens_unused (Block m a) c x h u = at (has_location c.held m a)
         both true e i j = i
         both false e i j = j
 opens_unused (DelayedRead y m a) c x h u = u
+opens_unused (AdviceBind y e) c x h u = u
+opens_unused (AdviceRead y m a) c x h u = u
+opens_unused (AdviceWrite m a e) c x h u = u
 opens_unused (Bind y e) c x h u = u
 opens_unused (CombRead y m a) c x h u = u
 opens_unused (Write m a e) c x h u = u
@@ -43,7 +46,7 @@ opens_unused (ReserveWrite m a) c x h u = u
 opens_unused (Release m a) c x h u = u
 opens_unused (Call args) c x h u = u
 opens_unused (SpecCall args) c x h u = u
-opens_unused (Verify args) c x h u = u
+opens_unused (Verify last args) c x h u = u
 opens_unused SpecCheck c x h u = u
 opens_unused SpecBarrier c x h u = u
 
@@ -65,26 +68,26 @@ silent_rest y ys x h = and_right (is_dead y.guards || (not (asks_for x y.guards)
 -- requests over a statement that makes none
 asks_same : (o : Around) (op : Op) (w : Work) → is_fetch op ≡ false → (work_after o op w).asks ≡ w.asks
 asks_same o (DelayedRead x m a) w h = absurd (cc h)
-asks_same o (Verify args) w h = at (same_args (values_of args w.env) w.guess)
+asks_same o (Verify last args) w h = at (same_args (said o last args w.env) w.guess)
   where
-    at : (b : Bool) → (cond b w (record w { child = Some (values_of args w.env); fails = true })).asks ≡ w.asks
+    at : (b : Bool) → (cond b w (record w { child = Some (said o last args w.env); guess = said o last args w.env; fails = true })).asks ≡ w.asks
     at true = refl
     at false = refl
 asks_same o _ w h = refl
 
 -- what one statement of a path does in right surroundings: the same as alone, with what is known of its locations and requests after it
-pub record One (p : Pipe) (o : Around) (arrays : Arrays) (s : ℕ) (clean : ℕ → ℕ → Type 0) (c : Scan) (op : Op) (ys : List Stmt) (w : Work) : Type 0 where
-  pub same : work_after o op w ≡ work_after (alone arrays) op w
+pub record One (p : Pipe) (o : Around) (world : World) (s : ℕ) (clean : ℕ → ℕ → Type 0) (c : Scan) (op : Op) (ys : List Stmt) (w : Work) : Type 0 where
+  pub same : work_after o op w ≡ work_after (alone world) op w
   pub covers : Covers (scan_after (answered_op op) c).held (work_after o op w).entries
   pub right : Right p s clean (scan_after (answered_op op) c).blocked (work_after o op w).env
   pub asks : AllAsks (Known clean (scan_after (answered_op op) c) ys) (work_after o op w).asks
 
-module _ (p : Pipe) (o : Around) (arrays : Arrays) (s : ℕ) (clean : ℕ → ℕ → Type 0) (f : Surrounds p o arrays s clean)
+module _ (p : Pipe) (o : Around) (world : World) (s : ℕ) (clean : ℕ → ℕ → Type 0) (f : Surrounds p o world s clean)
     (plain : (m a : ℕ) → is_plain (mem_at p m).lock ≡ true → clean m a) where
   -- a delayed read
   one_fetch : (c : Scan) (x m a : ℕ) (ys : List Stmt) (w : Work) → op_ok p s c (CombRead x m a) ≡ true
       → silent_on x ys ≡ true → Covers c.held w.entries → (w.ready && o.free m) ≡ true → Right p s clean c.blocked w.env
-      → AllAsks (Known clean c ys) w.asks → One p o arrays s clean c (DelayedRead x m a) ys w
+      → AllAsks (Known clean c ys) w.asks → One p o world s clean c (DelayedRead x m a) ys w
   one_fetch c x m a ys w ok silent cover ready right asks =
       record {
         same =
@@ -111,14 +114,14 @@ module _ (p : Pipe) (o : Around) (arrays : Arrays) (s : ℕ) (clean : ℕ → �
   one : (c : Scan) (y : Stmt) (ys : List Stmt) (w : Work) → all_hold y.guards w.env ≡ true
       → op_ok p s c (answered_op y.op) ≡ true → unseen_op y.op ys ≡ true → Covers c.held w.entries
       → (work_after o y.op w).ready ≡ true → Right p s clean c.blocked w.env
-      → AllAsks (Known clean c (y ∷ ys)) w.asks → One p o arrays s clean c y.op ys w
+      → AllAsks (Known clean c (y ∷ ys)) w.asks → One p o world s clean c y.op ys w
   one c y ys w t ok un cover ready right asks =
       by y.op (is_fetch y.op) refl ok un ready (all_more (Known clean c (y ∷ ys)) _ w.asks (λ q k. (k.0, k.1, k.2)) asks)
     where
       by : (op : Op) (b : Bool) → is_fetch op ≡ b → op_ok p s c (answered_op op) ≡ true → unseen_op op ys ≡ true
           → (work_after o op w).ready ≡ true
           → AllAsks (λ q. clean q.mem q.address × (not (is_address c.blocked q.var) ≡ true) × (silent_on q.var (record y { op = op } ∷ ys) ≡ true)) w.asks
-          → One p o arrays s clean c op ys w
+          → One p o world s clean c op ys w
       by (DelayedRead x m a) b e ok' un' r k =
           one_fetch c x m a ys w ok' un' cover r right
           (all_more _ (Known clean c ys) w.asks (λ q g. (g.0, g.1, silent_rest (record y { op = DelayedRead x m a }) ys q.var g.2)) k)
@@ -126,11 +129,11 @@ module _ (p : Pipe) (o : Around) (arrays : Arrays) (s : ℕ) (clean : ℕ → �
           let l : answered_op op ≡ op = (keeps_clear o op w e).0 in
           let here : op_ok p s c op ≡ true = subst (λ q. op_ok p s c q ≡ true) l ok' in
           record {
-            same = does_same o arrays op w r (reads_right p o arrays s clean c op w.env f here right);
+            same = does_same o world op w r (reads_right p o world s clean c op w.env f here right);
             covers = subst (λ q. Covers (scan_after q c).held (work_after o op w).entries) (sym l) (covers_op o c op w cover);
             right =
                 subst (λ q. Right p s clean (scan_after q c).blocked (work_after o op w).env) (sym l)
-                (right_after p o arrays s clean c op w f cover here r right);
+                (right_after p o world s clean c op w f cover here r right);
             asks = subst (λ qs. AllAsks (Known clean (scan_after (answered_op op) c) ys) qs) (sym (asks_same o op w e))
                 (all_more _ (Known clean (scan_after (answered_op op) c) ys) w.asks
                 (λ q g. (
@@ -148,16 +151,19 @@ module _ (p : Pipe) (o : Around) (arrays : Arrays) (s : ℕ) (clean : ℕ → �
       by (Release m a) true i ok' un' r k = absurd (cc i)
       by (Call args) true i ok' un' r k = absurd (cc i)
       by (SpecCall args) true i ok' un' r k = absurd (cc i)
-      by (Verify args) true i ok' un' r k = absurd (cc i)
+      by (Verify last args) true i ok' un' r k = absurd (cc i)
       by SpecCheck true i ok' un' r k = absurd (cc i)
       by SpecBarrier true i ok' un' r k = absurd (cc i)
+      by (AdviceBind x e) true i ok' un' r k = absurd (cc i)
+      by (AdviceRead x m a) true i ok' un' r k = absurd (cc i)
+      by (AdviceWrite m a e) true i ok' un' r k = absurd (cc i)
 
   -- with all conditions true, a stage does what it does alone, and leaves the blocked locations right
   pub alike_asking : (path : List ℕ) (c : Scan) (xs : List Stmt) (w : Work) → AllIn s xs
-      → Fixed path (alone arrays) xs w → is_unseen xs ≡ true → reads_ok p c (onpath path (looked_all xs)) ≡ true
+      → Fixed path (alone world) xs w → is_unseen xs ≡ true → reads_ok p c (onpath path (looked_all xs)) ≡ true
       → Covers c.held w.entries → (do_all o xs w).ready ≡ true → Right p s clean c.blocked w.env
       → AllAsks (Known clean c xs) w.asks
-      → (do_all o xs w ≡ do_all (alone arrays) xs w)
+      → (do_all o xs w ≡ do_all (alone world) xs w)
       × Right p s clean (scan_after_all (onpath path (looked_all xs)) c).blocked (do_all o xs w).env
       × AllAsks (Known clean (scan_after_all (onpath path (looked_all xs)) c) []) (do_all o xs w).asks
   alike_asking path c [] w a q u h g k r asks = (refl, r, asks)
@@ -165,19 +171,19 @@ module _ (p : Pipe) (o : Around) (arrays : Arrays) (s : ℕ) (clean : ℕ → �
       by_bool (all_hold x.guards w.env) _
       (λ e.
       let goes : step o x w ≡ work_after o x.op w = ap (λ b. cond b (work_after o x.op w) w) e in
-      let goes_alone : step (alone arrays) x w ≡ work_after (alone arrays) x.op w = ap (λ b. cond b (work_after (alone arrays) x.op w) w) e in
+      let goes_alone : step (alone world) x w ≡ work_after (alone world) x.op w = ap (λ b. cond b (work_after (alone world) x.op w) w) e in
       let on : onpath path (looked_all (x ∷ xs)) ≡ record (look x) { guards = [] } ∷ onpath path (looked_all xs) =
       ap (λ b. cond b (record (look x) { guards = [] } ∷ onpath path (looked_all xs)) (onpath path (looked_all xs))) (sym q.0 ∙ e) in
       let h1 : reads_ok p c (record (look x) { guards = [] } ∷ onpath path (looked_all xs)) ≡ true = subst (λ l. reads_ok p c l ≡ true) on h in
       let here : op_ok p s c (answered_op x.op) ≡ true =
       subst (λ n. op_ok p n c (answered_op x.op) ≡ true) a.0 (and_left (op_ok p x.stage c (answered_op x.op)) _ h1) in
       let k' : (do_all o xs (work_after o x.op w)).ready ≡ true = subst (λ v. (do_all o xs v).ready ≡ true) goes k in
-      let step_one : One p o arrays s clean c x.op xs w = one c x xs w e here (and_left _ _ u) g (was_ready o xs (work_after o x.op w) k') r asks in
-      let q' : Fixed path (alone arrays) xs (work_after o x.op w) = subst (λ v. Fixed path (alone arrays) xs v) (goes_alone ∙ sym step_one.same) q.1 in
+      let step_one : One p o world s clean c x.op xs w = one c x xs w e here (and_left _ _ u) g (was_ready o xs (work_after o x.op w) k') r asks in
+      let q' : Fixed path (alone world) xs (work_after o x.op w) = subst (λ v. Fixed path (alone world) xs v) (goes_alone ∙ sym step_one.same) q.1 in
       let rest =
       alike_asking path (scan_after (answered_op x.op) c) xs (work_after o x.op w) a.1 q' (and_right (unseen_op x.op xs) _ u)
       (and_right (op_ok p x.stage c (answered_op x.op)) _ h1) step_one.covers k' step_one.right step_one.asks in (
-        ap (do_all o xs) goes ∙ rest.0 ∙ ap (do_all (alone arrays) xs) (step_one.same ∙ sym goes_alone),
+        ap (do_all o xs) goes ∙ rest.0 ∙ ap (do_all (alone world) xs) (step_one.same ∙ sym goes_alone),
         subst (λ l. Right p s clean (scan_after_all l c).blocked (do_all o (x ∷ xs) w).env) (sym on)
             (subst (λ v. Right p s clean (scan_after_all (onpath path (looked_all xs)) (scan_after (answered_op x.op) c)).blocked (do_all o xs v).env)
             (sym goes) rest.1),
@@ -187,15 +193,15 @@ module _ (p : Pipe) (o : Around) (arrays : Arrays) (s : ℕ) (clean : ℕ → �
       ))
       (λ e.
       let goes : step o x w ≡ w = ap (λ b. cond b (work_after o x.op w) w) e in
-      let goes_alone : step (alone arrays) x w ≡ w = ap (λ b. cond b (work_after (alone arrays) x.op w) w) e in
+      let goes_alone : step (alone world) x w ≡ w = ap (λ b. cond b (work_after (alone world) x.op w) w) e in
       let on : onpath path (looked_all (x ∷ xs)) ≡ onpath path (looked_all xs) =
       ap (λ b. cond b (record (look x) { guards = [] } ∷ onpath path (looked_all xs)) (onpath path (looked_all xs))) (sym q.0 ∙ e) in
       let rest =
-      alike_asking path c xs w a.1 (subst (λ v. Fixed path (alone arrays) xs v) goes_alone q.1)
+      alike_asking path c xs w a.1 (subst (λ v. Fixed path (alone world) xs v) goes_alone q.1)
       (and_right (unseen_op x.op xs) _ u)
       (subst (λ l. reads_ok p c l ≡ true) on h) g (subst (λ v. (do_all o xs v).ready ≡ true) goes k) r
       (all_more (Known clean c (x ∷ xs)) (Known clean c xs) w.asks (λ q' d. (d.0, d.1, silent_rest x xs q'.var d.2)) asks) in (
-        ap (do_all o xs) goes ∙ rest.0 ∙ ap (do_all (alone arrays) xs) (sym goes_alone),
+        ap (do_all o xs) goes ∙ rest.0 ∙ ap (do_all (alone world) xs) (sym goes_alone),
         subst (λ l. Right p s clean (scan_after_all l c).blocked (do_all o (x ∷ xs) w).env) (sym on)
             (subst (λ v. Right p s clean (scan_after_all (onpath path (looked_all xs)) c).blocked (do_all o xs v).env) (sym goes) rest.1),
         subst (λ l. AllAsks (Known clean (scan_after_all l c) []) (do_all o (x ∷ xs) w).asks) (sym on)
@@ -205,7 +211,8 @@ module _ (p : Pipe) (o : Around) (arrays : Arrays) (s : ℕ) (clean : ℕ → �
   -- the blocked locations stay right when the answers come
   pub right_caught : (ls : List Location) (qs : List Ask) (env : List ℕ)
       → AllAsks (λ q. not (is_address ls q.var) ≡ true) qs → Right p s clean ls env
-      → Right p s clean ls (caught arrays qs env)
+      → Right p s clean ls (caught world.words qs env)
   right_caught ls [] env h r = r
   right_caught ls (q ∷ qs) env h r =
-      right_caught ls qs (slice_set env q.var (word_at arrays q.mem q.address)) h.1 (right_set p s clean ls env q.var (word_at arrays q.mem q.address) h.0 r)
+      right_caught ls qs (slice_set env q.var (word_at world.words q.mem q.address)) h.1
+      (right_set p s clean ls env q.var (word_at world.words q.mem q.address) h.0 r)

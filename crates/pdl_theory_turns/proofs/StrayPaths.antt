@@ -1,15 +1,16 @@
 -- A thread after a wrong guess in the whole language: it keeps to one path, whatever answers come, has passed no barrier, and so releases nothing.
-use Rattle.std.proofs.Common.{◌≡◌, refl, sym, ap, ap₂, ◌∙◌, subst, ℕ, ◌≤◌, ◌<◌, ◌⊎◌, inl, inr, Bool, true, false, ◌&&◌, ◌||◌, not, List, [], ◌∷◌, ◌++◌, Option, Some, None, ◌==◌, nat_lt, cond, if◌then◌else◌, slice_index, slice_set, append-nil, nat_le, arith, leb-false, ltb-true}
-use Rattle.pdl_semantics.specs.Flat.{Op, Guard, DelayedRead, Release, SpecBarrier, Verify, Stmt, Pipe, Branch, Next, Ends, Goes, Forks, values_of}
+use Rattle.std.proofs.Common.{◌≡◌, refl, sym, ap, ap₂, ◌∙◌, subst, ℕ, ◌≤◌, ◌<◌, ◌⊎◌, inl, inr, Bool, true, false, ◌&&◌, ◌||◌, not, List, [], ◌∷◌, ◌++◌, Option, Some, ◌==◌, nat_lt, cond, if◌then◌else◌, slice_index, slice_set, append-nil, nat_le, arith, leb-false, ltb-true}
+use Rattle.pdl_semantics.specs.Flat.{Op, Guard, DelayedRead, Release, SpecBarrier, Verify, Stmt, Pipe, Branch, Next, Ends, Goes, Forks}
 use Rattle.pdl_semantics.specs.Stages.{in_stage, stage_at, is_verify, verify_stage}
 use Rattle.pdl_semantics.specs.Machine.{Ask, Awaited, is_answered, same_args}
 use Rattle.pdl_semantics.specs.Cycle.{awaited_of}
-use Rattle.pdl_theory_derived.specs.Derived.{Work, Around, State, work_after, do_all, has_entry, with_answers, still, word_of, asked_at}
+use Rattle.pdl_theory_derived.specs.Derived.{Work, Around, State, work_after, do_all, has_entry, with_answers, still, word_of, asked_at, said}
 use Rattle.pdl_theory_derived.specs.Alone.{before, answered_op}
 use Rattle.pdl_theory_facts.specs.Scans.{Scan, has_location, scan_after, scan_after_all, no_guards, none_of, binds_var, free_of, is_fixed}
 use Rattle.pdl_theory_facts.specs.GuessScans.{stands_before, Making, next_making, making_all, making_ok, makings_ok, is_barrier, is_sure, all_sure}
-use Rattle.pdl_theory_facts.specs.Facts.{is_dead, looked_all, is_fetch_of, comes_by, visits_stage}
-use Rattle.pdl_theory_facts.specs.Graphs.{on_side, In}
+use Rattle.pdl_theory_facts.specs.Facts.{is_dead, looked_all, is_fetch_of, visits_stage}
+use Rattle.pdl_theory_facts.specs.Graphs.{on_side, Within}
+use Rattle.pdl_theory_facts.proofs.Nested.{visits_same}
 use Rattle.std.proofs.lemmas.List.{get_or-set_other}
 use Rattle.std.proofs.lemmas.Bool.{eqb-true, eqb-false}
 use Rattle.pdl_theory_derived.proofs.Writes.{and_left, and_right}
@@ -139,9 +140,10 @@ roam_op v o c s (Release m a) w clear low sure cover ready =
     unheld : (b : Bool) → has_entry w.entries m a ≡ b → has_entry w.entries m a ≡ false
     unheld true e = absurd (clash (sym unopened ∙ cover m a e))
     unheld false e = e
-roam_op v o c s (Verify args) w clear low sure cover ready = at (same_args (values_of args w.env) w.guess)
+roam_op v o c s (Verify last args) w clear low sure cover ready = at (same_args (said o last args w.env) w.guess)
   where
-    at : (b : Bool) → ((cond b w (record w { child = Some (values_of args w.env); fails = true })).commits ≡ w.commits) × (false ≡ false)
+    at : (b : Bool)
+        → ((cond b w (record w { child = Some (said o last args w.env); guess = said o last args w.env; fails = true })).commits ≡ w.commits) × (false ≡ false)
     at true = (refl, refl)
     at false = (refl, refl)
 roam_op v o c s SpecBarrier w (inl n) low sure cover ready = absurd (cc n)
@@ -205,7 +207,7 @@ side_same (Forks z a b) first env env' h = ap (λ k. if first then k == 1 else n
 
 -- no side that leads to this stage hangs on it
 abbrev pub Aside : Pipe → ℕ → ℕ → Type 0
-Aside p s x = (c : Branch) → In p c s → steers p c x ≡ false
+Aside p s x = (b : Branch) (c : List Branch) → Within p (b ∷ c) s → steers p b x ≡ false
 
 -- no side that leads to stage s hangs on the variable of an awaited read
 abbrev pub AllAside : Pipe → ℕ → List Awaited → Type 0
@@ -213,11 +215,7 @@ AllAside p s [] = Unit {0}
 AllAside p s (r ∷ rs) = Aside p s r.var × AllAside p s rs
 
 visits_set : (p : Pipe) (s x v : ℕ) (env : List ℕ) → Aside p s x → visits_stage p (slice_set env x v) s ≡ visits_stage p env s
-visits_set p s x v env h = at (stage_at p s).branch refl
-  where
-    at : (o : Option Branch) → (stage_at p s).branch ≡ o → comes_by p (slice_set env x v) (stage_at p s).branch ≡ comes_by p env (stage_at p s).branch
-    at None e = ap (comes_by p (slice_set env x v)) e ∙ sym (ap (comes_by p env) e)
-    at (Some c) e = ap (comes_by p (slice_set env x v)) e ∙ side_set (stage_at p c.fork).next c.first x v env (h c e) ∙ sym (ap (comes_by p env) e)
+visits_set p s x v env h = visits_same p s (slice_set env x v) env (λ b c i. side_set (stage_at p b.fork).next b.first x v env (h b c i))
 
 -- answers for variables on which no side hangs leave the stages that the values come to as they are
 pub visits_answers : (p : Pipe) (st : State) (bits : List Bool) (s : ℕ) (rs : List Awaited) (env : List ℕ)

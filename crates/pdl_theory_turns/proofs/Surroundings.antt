@@ -2,21 +2,23 @@
 use Rattle.std.proofs.Common.{◌≡◌, ◌≢◌, refl, sym, ap, ◌∙◌, subst, ℕ, ◌≤◌, Bool, true, false, ◌&&◌, ◌||◌, not, List, [], ◌∷◌, Some, ◌==◌, slice_index, slice_set, cond, nat_le}
 use Rattle.std.proofs.lemmas.List.{get_or-set_other}
 use Rattle.std.proofs.lemmas.Bool.{eqb-true, eqb-false, leb-true, or_right as or_more}
-use Rattle.pdl_semantics.specs.Flat.{Arrays, Op, Bind, CombRead, DelayedRead, Write, ReserveWrite, Block, Release, Verify, Stmt, Guard, Pipe, value_of, values_of, all_hold, word_at}
+use Rattle.pdl_semantics.specs.Flat.{SpecCall, Op, Bind, CombRead, DelayedRead, Write, ReserveWrite, Block, Release, Verify, Stmt, Guard, Pipe, value_of, all_hold, word_at}
 use Rattle.pdl_semantics.specs.Stages.{in_stage, mem_at, commit_stage, reserve_stage}
 use Rattle.pdl_semantics.specs.Machine.{same_args}
-use Rattle.pdl_theory_derived.specs.Derived.{Work, Around, Entry, work_after, do_all, has_entry, with_entry_value, without}
-use Rattle.pdl_theory_derived.specs.Alone.{Location}
+use Rattle.pdl_theory_derived.specs.Derived.{Work, Around, Entry, work_after, do_all, has_entry, with_entry_value, without, moved_up, said}
+use Rattle.pdl_theory_derived.specs.Alone.{World, Location}
 use Rattle.pdl_theory_derived.proofs.Writes.{and_left, and_right}
 use Rattle.pdl_theory_derived.proofs.Stages.{ReadsRight}
 use Rattle.pdl_theory_facts.specs.Scans.{no_guards, is_plain, is_address, has_location, scan_after, scan_after_all, op_ok, reads_ok, Scan, location}
 use Rattle.pdl_word.proofs.Bools.{or_map}
 
 -- what the surroundings of a thread in stage s give where they are right for its turn; clean is what makes a location read right
-pub record Surrounds (p : Pipe) (o : Around) (arrays : Arrays) (s : ℕ) (clean : ℕ → ℕ → Type 0) : Type 0 where
-  pub plain : (m a : ℕ) → is_plain (mem_at p m).lock ≡ true → o.read m a ≡ word_at arrays m a
+pub record Surrounds (p : Pipe) (o : Around) (world : World) (s : ℕ) (clean : ℕ → ℕ → Type 0) : Type 0 where
+  pub guess : o.guess ≡ world.hint.guess
+  pub update : o.update ≡ world.hint.update
+  pub plain : (m a : ℕ) → is_plain (mem_at p m).lock ≡ true → o.read m a ≡ word_at world.words m a
   pub readable : (m a : ℕ) → reserve_stage p m ≤ s → s ≤ commit_stage p m → o.can_read m a ≡ true → clean m a
-  pub right : (m a : ℕ) → reserve_stage p m ≤ s → s ≤ commit_stage p m → clean m a → o.read m a ≡ word_at arrays m a
+  pub right : (m a : ℕ) → reserve_stage p m ≤ s → s ≤ commit_stage p m → clean m a → o.read m a ≡ word_at world.words m a
 
 -- the blocked locations stand no earlier than the reserves, and are clean up to the releases
 abbrev pub Right : Pipe → ℕ → (ℕ → ℕ → Type 0) → List Location → List ℕ → Type 0
@@ -62,13 +64,13 @@ right_at p s clean (l ∷ ls) env m a h c r = at (l.mem == m) refl (l.var == a) 
     at false e d f t rest = rest t
 
 -- the reads of a statement that is in order
-pub reads_right : (p : Pipe) (o : Around) (arrays : Arrays) (s : ℕ) (clean : ℕ → ℕ → Type 0) (c : Scan) (op : Op) (env : List ℕ)
-    → Surrounds p o arrays s clean → op_ok p s c op ≡ true → Right p s clean c.blocked env → ReadsRight o arrays op env
-reads_right p o arrays s clean sc (CombRead x m a) env f h r =
+pub reads_right : (p : Pipe) (o : Around) (world : World) (s : ℕ) (clean : ℕ → ℕ → Type 0) (c : Scan) (op : Op) (env : List ℕ)
+    → Surrounds p o world s clean → op_ok p s c op ≡ true → Right p s clean c.blocked env → ReadsRight o world op env
+reads_right p o world s clean sc (CombRead x m a) env f h r =
     at (is_plain (mem_at p m).lock) refl (has_location sc.blocked m a) refl (nat_le s (commit_stage p m)) refl (and_right (not (is_address sc.blocked x)) _ h)
   where
     at : (b : Bool) → is_plain (mem_at p m).lock ≡ b → (c : Bool) → has_location sc.blocked m a ≡ c → (d : Bool) → nat_le s (commit_stage p m) ≡ d
-        → (b || (c && d)) ≡ true → o.read m (slice_index env a) ≡ word_at arrays m (slice_index env a)
+        → (b || (c && d)) ≡ true → o.read m (slice_index env a) ≡ word_at world.words m (slice_index env a)
     at true e c g d i t = f.plain m (slice_index env a) e
     at false e true g true i t =
         let c : s ≤ commit_stage p m = leb-true s (commit_stage p m) i in
@@ -76,8 +78,11 @@ reads_right p o arrays s clean sc (CombRead x m a) env f h r =
         f.right m (slice_index env a) q.0 c q.1
     at false e true g false i t = cc
     at false e false g d i t = cc
-reads_right p o arrays s clean sc (DelayedRead x m a) env f h r = cc
-reads_right p o arrays s clean sc _ env f h r = tt
+reads_right p o world s clean sc (DelayedRead x m a) env f h r = cc
+reads_right p o world s clean sc (SpecCall args) env f h r = f.guess
+reads_right p o world s clean sc (Verify true args) env f h r = tt
+reads_right p o world s clean sc (Verify false args) env f h r = f.update
+reads_right p o world s clean sc _ env f h r = tt
 
 -- what is pending was reserved
 abbrev pub Covers : List Location → List Entry → Type 0
@@ -93,14 +98,25 @@ has_filled (e ∷ es) n b v m a = at ((e.mem == n) && (e.var == b)) (has_filled 
     at true h = refl
     at false h = ap (λ t. ((e.mem == m) && (e.var == a)) || t) h
 
+-- a location that is let go leaves the others
+pub has_moved : (e : Entry) (es : List Entry) (m a : ℕ) → has_entry (moved_up e es) m a ≡ has_entry es m a
+has_moved e [] m a = refl
+has_moved e (f ∷ es) m a = at (f.mem == e.mem) (has_moved f es m a) (has_moved e es m a)
+  where
+    at : (t : Bool) → has_entry (moved_up f es) m a ≡ has_entry es m a → has_entry (moved_up e es) m a ≡ has_entry es m a
+        → has_entry (cond t (record f { address = e.address; value = e.value } ∷ moved_up f es) (f ∷ moved_up e es)) m a
+        ≡ (((f.mem == m) && (f.var == a)) || has_entry es m a)
+    at true h g = ap (λ t. ((f.mem == m) && (f.var == a)) || t) h
+    at false h g = ap (λ t. ((f.mem == m) && (f.var == a)) || t) g
+
 has_without : (es : List Entry) (n b m a : ℕ) → has_entry (without es n b) m a ≡ true → has_entry es m a ≡ true
 has_without [] n b m a h = h
 has_without (e ∷ es) n b m a h = at ((e.mem == n) && (e.var == b)) h (has_without es n b m a)
   where
-    at : (t : Bool) → has_entry (cond t es (e ∷ without es n b)) m a ≡ true
+    at : (t : Bool) → has_entry (cond t (moved_up e es) (e ∷ without es n b)) m a ≡ true
         → (has_entry (without es n b) m a ≡ true → has_entry es m a ≡ true)
         → (((e.mem == m) && (e.var == a)) || has_entry es m a) ≡ true
-    at true k f = or_more _ _ k
+    at true k f = or_more _ _ (sym (has_moved e es m a) ∙ k)
     at false k f = or_map ((e.mem == m) && (e.var == a)) _ _ f k
 
 covers_block : (b : Bool) (c : Scan) (l : Location) (es : List Entry) → Covers c.held es
@@ -108,7 +124,7 @@ covers_block : (b : Bool) (c : Scan) (l : Location) (es : List Entry) → Covers
 covers_block true c l es f = f
 covers_block false c l es f = f
 
-covers_verified : (b : Bool) (x : List ℕ) (w : Work) → (cond b w (record w { child = Some x; fails = true })).entries ≡ w.entries
+covers_verified : (b : Bool) (x : List ℕ) (w : Work) → (cond b w (record w { child = Some x; guess = x; fails = true })).entries ≡ w.entries
 covers_verified true x w = refl
 covers_verified false x w = refl
 
@@ -119,15 +135,16 @@ covers_op o c (Write m a e) w f = λ n b h. f n b (sym (has_filled w.entries m a
 covers_op o c (ReserveWrite m a) w f = λ n b h. or_map ((m == n) && (a == b)) _ _ (f n b) h
 covers_op o c (Block m a) w f = covers_block (has_location c.held m a) c (location m a) w.entries f
 covers_op o c (Release m a) w f = λ n b h. f n b (has_without w.entries m a n b h)
-covers_op o c (Verify args) w f = subst (λ es. Covers c.held es) (sym (covers_verified (same_args (values_of args w.env) w.guess) (values_of args w.env) w)) f
+covers_op o c (Verify last args) w f =
+    subst (λ es. Covers c.held es) (sym (covers_verified (same_args (said o last args w.env) w.guess) (said o last args w.env) w)) f
 covers_op o c _ w f = f
 
 -- a ready block makes its location clean, if it is one for reading
-block_right : (p : Pipe) (o : Around) (arrays : Arrays) (s : ℕ) (clean : ℕ → ℕ → Type 0) (c : Scan) (m a : ℕ) (w : Work)
-    → Surrounds p o arrays s clean → Covers c.held w.entries → reserve_stage p m ≤ s
+block_right : (p : Pipe) (o : Around) (world : World) (s : ℕ) (clean : ℕ → ℕ → Type 0) (c : Scan) (m a : ℕ) (w : Work)
+    → Surrounds p o world s clean → Covers c.held w.entries → reserve_stage p m ≤ s
     → cond (has_entry w.entries m a) (o.can_write m (slice_index w.env a)) (o.can_read m (slice_index w.env a)) ≡ true
     → Right p s clean c.blocked w.env → Right p s clean (scan_after (Block m a) c).blocked w.env
-block_right p o arrays s clean c m a w f k low h r = at (has_entry w.entries m a) refl (has_location c.held m a) refl h
+block_right p o world s clean c m a w f k low h r = at (has_entry w.entries m a) refl (has_location c.held m a) refl h
   where
     at : (b : Bool) → has_entry w.entries m a ≡ b → (d : Bool) → has_location c.held m a ≡ d
         → cond b (o.can_write m (slice_index w.env a)) (o.can_read m (slice_index w.env a)) ≡ true
@@ -137,21 +154,22 @@ block_right p o arrays s clean c m a w f k low h r = at (has_entry w.entries m a
     at false e false g i = (low, (λ late. f.readable m (slice_index w.env a) low late i), r)
 
 -- the blocked locations after a statement are still right
-pub right_after : (p : Pipe) (o : Around) (arrays : Arrays) (s : ℕ) (clean : ℕ → ℕ → Type 0) (c : Scan) (op : Op) (w : Work)
-    → Surrounds p o arrays s clean → Covers c.held w.entries → op_ok p s c op ≡ true → (work_after o op w).ready ≡ true
+pub right_after : (p : Pipe) (o : Around) (world : World) (s : ℕ) (clean : ℕ → ℕ → Type 0) (c : Scan) (op : Op) (w : Work)
+    → Surrounds p o world s clean → Covers c.held w.entries → op_ok p s c op ≡ true → (work_after o op w).ready ≡ true
     → Right p s clean c.blocked w.env → Right p s clean (scan_after op c).blocked (work_after o op w).env
-right_after p o arrays s clean c (Bind x e) w f g h k r = right_set p s clean c.blocked w.env x (value_of e w.env) h r
-right_after p o arrays s clean c (CombRead x m a) w f g h k r =
+right_after p o world s clean c (Bind x e) w f g h k r = right_set p s clean c.blocked w.env x (value_of e w.env) h r
+right_after p o world s clean c (CombRead x m a) w f g h k r =
     right_set p s clean c.blocked w.env x (o.read m (slice_index w.env a)) (and_left (not (is_address c.blocked x)) _ h) r
-right_after p o arrays s clean c (DelayedRead x m a) w f g h k r = absurd (cc h)
-right_after p o arrays s clean c (Block m a) w f g h k r =
-    block_right p o arrays s clean c m a w f g (leb-true (reserve_stage p m) s h) (and_right w.ready _ k) r
-right_after p o arrays s clean c (Verify args) w f g h k r = at (same_args (values_of args w.env) w.guess)
+right_after p o world s clean c (DelayedRead x m a) w f g h k r = absurd (cc h)
+right_after p o world s clean c (Block m a) w f g h k r =
+    block_right p o world s clean c m a w f g (leb-true (reserve_stage p m) s h) (and_right w.ready _ k) r
+right_after p o world s clean c (Verify last args) w f g h k r = at (same_args (said o last args w.env) w.guess)
   where
-    at : (b : Bool) → Right p s clean c.blocked (cond b w (record w { child = Some (values_of args w.env); fails = true })).env
+    at : (b : Bool)
+        → Right p s clean c.blocked (cond b w (record w { child = Some (said o last args w.env); guess = said o last args w.env; fails = true })).env
     at true = r
     at false = r
-right_after p o arrays s clean c _ w f g h k r = r
+right_after p o world s clean c _ w f g h k r = r
 
 -- each of these statements stands in stage s
 abbrev pub AllIn : ℕ → List Stmt → Type 0

@@ -1,18 +1,20 @@
 -- The statements of one path: what their thread holds, commits and makes by each stage.
-use Rattle.std.proofs.Common.{◌≡◌, ◌≢◌, refl, sym, ap, ap₂, ◌∙◌, subst, ℕ, ◌≤◌, ◌<◌, Bool, true, false, ◌&&◌, ◌||◌, not, List, [], ◌∷◌, ◌++◌, Some, None, ◌==◌, nat_lt, nat_le, cond, arith, slice_index, append-nil}
+use Rattle.std.proofs.Common.{◌≡◌, ◌≢◌, refl, sym, ap, ap₂, ◌∙◌, subst, ℕ, ◌≤◌, ◌<◌, Bool, true, false, ◌&&◌, ◌||◌, not, List, [], ◌∷◌, ◌++◌, Some, ◌==◌, nat_lt, nat_le, cond, arith, slice_index, slice_set, append-nil, append_assoc}
+use Rattle.std.proofs.lemmas.List.{get_or-set_other}
 use Rattle.std.proofs.lemmas.Bool.{eqb-true, eqb-false}
 use Rattle.std.proofs.lemmas.Bool.Decides.{eqb_tells}
 use Rattle.std.proofs.Common.{leb-true, ltb-true}
-use Rattle.pdl_semantics.specs.Flat.{Arrays, Op, DelayedRead, Write, ReserveWrite, Release, Verify, Stmt, value_of, values_of, all_hold, Commit, of_mem}
+use Rattle.pdl_semantics.specs.Flat.{Op, Bind, CombRead, DelayedRead, Write, ReserveWrite, Release, Verify, Stmt, value_of, all_hold, Commit, of_mem}
 use Rattle.pdl_semantics.specs.Stages.{in_stage, is_release, is_reserve}
 use Rattle.pdl_semantics.specs.Machine.{same_args}
-use Rattle.pdl_semantics.specs.Sequential.{Run}
-use Rattle.pdl_theory_derived.specs.Derived.{Entry, Work, Around, work_after, do_all, without, with_entry_value, released_commits}
-use Rattle.pdl_theory_derived.specs.Alone.{alone, before, answered_op}
+use Rattle.pdl_semantics.specs.Sequential.{Run, run_after}
+use Rattle.pdl_theory_derived.specs.Derived.{Work, Around, work_after, do_all, said}
+use Rattle.pdl_theory_derived.specs.Alone.{World, alone, before, answered_op, is_among, is_oldest, drop_var, but_last}
 use Rattle.pdl_theory_derived.proofs.Writes.{and_left, and_right, of_mem_append}
-use Rattle.pdl_theory_derived.proofs.Entries.{entries_of, filled_other, without_own, without_other, released_own, released_other, entry, write_of, addresses, places, without_one, without_no, released_one, released_no, entries_of-filled}
-use Rattle.pdl_theory_turns.proofs.Phases.{Tied}
-use Rattle.pdl_theory_facts.specs.Scans.{Phase, Fresh, Held, Written, Done, holds_location, all_at, none_of}
+use Rattle.pdl_theory_derived.proofs.Entries.{released_other, write_of, places}
+use Rattle.pdl_theory_derived.proofs.Slots.{rev}
+use Rattle.pdl_theory_turns.proofs.Phases.{not_false}
+use Rattle.pdl_theory_facts.specs.Scans.{Phase, after_write, after_reserve, may_write, next_phase, all_at, none_of}
 use Rattle.pdl_theory_turns.proofs.SequentialThread.{Related, Ok}
 use Rattle.pdl_theory_derived.proofs.Stages.{step}
 use Rattle.pdl_semantics.specs.Sound.{stages_from}
@@ -25,9 +27,10 @@ quiet_op m o (Release n a) w h =
   where
     apart : n ≢ m
     apart e = grind (arith, eqb_tells)
-quiet_op m o (Verify args) w h = at (same_args (values_of args w.env) w.guess)
+quiet_op m o (Verify last args) w h = at (same_args (said o last args w.env) w.guess)
   where
-    at : (b : Bool) → of_mem m (cond b w (record w { child = Some (values_of args w.env); fails = true })).commits ≡ of_mem m w.commits
+    at : (b : Bool)
+        → of_mem m (cond b w (record w { child = Some (said o last args w.env); guess = said o last args w.env; fails = true })).commits ≡ of_mem m w.commits
     at true = refl
     at false = refl
 quiet_op m o _ w h = refl
@@ -89,84 +92,104 @@ none_from test c s (x ∷ xs) h k = at (nat_le s x.stage) refl (test x.op) refl 
     at true e false f r q = ap (λ t. not t && none_of test (stages_from s xs)) f ∙ r
     at false e t f r q = r
 
--- the addresses of a thread's pending write and commit of m
-abbrev pub spots : List Entry → List Commit → List ℕ
-spots es cs = addresses es ++ places cs
+-- the addresses of a thread's writes of m, made and still to be made through what it has reserved
+abbrev pub addresses_at : List ℕ → List ℕ → List ℕ
+addresses_at env [] = []
+addresses_at env (x ∷ xs) = slice_index env x ∷ addresses_at env xs
 
-filled_addresses : (es : List Entry) (m a v : ℕ) → addresses (with_entry_value es m a v) ≡ addresses es
-filled_addresses [] m a v = refl
-filled_addresses (e ∷ es) m a v = grind (arith, eqb_tells, filled_addresses es m a v)
+-- the addresses of a thread's commits and of its locations without a value
+abbrev pub spots : Phase → List ℕ → List Commit → List ℕ
+spots ph env ws = places ws ++ rev (addresses_at env ph.unwritten)
 
-spots_release : (m a : ℕ) (ph : Phase) (env : List ℕ) (es : List Entry) (cs ws : List Commit)
-    → not (holds_location ph a) ≡ true → Tied m ph env es cs ws → spots (without es m a) (cs ++ released_commits es m a) ≡ spots es cs
-spots_release m a Fresh env es cs ws h t =
-    ap (λ l. spots (without l m a) (cs ++ released_commits l m a)) t.0 ∙ ap places (append-nil cs) ∙ ap (λ l. spots l cs) (sym t.0)
-spots_release m a (Held x) env es cs ws h t =
-    ap (λ l. spots (without l m a) (cs ++ released_commits l m a)) t.0
-    ∙ ap₂ (λ l k. spots l (cs ++ k)) (without_no m x a (slice_index env x) None apart) (released_no m x a (slice_index env x) None apart)
-    ∙ ap (λ l. spots (entry m x (slice_index env x) None ∷ []) l) (append-nil cs) ∙ ap (λ l. spots l cs) (sym t.0)
+addresses_set : (env xs : List ℕ) (x v : ℕ) → is_among x xs ≡ false → addresses_at (slice_set env x v) xs ≡ addresses_at env xs
+addresses_set env [] x v h = refl
+addresses_set env (y ∷ ys) x v h =
+    ap₂ (λ n l. n ∷ l) (get_or-set_other env x y v 0 (λ e. eqb-false y x (off (y == x) h) e)) (addresses_set env ys x v (rest (y == x) h))
   where
-    apart : x ≢ a
-    apart e = grind (arith, eqb_tells)
-spots_release m a (Written x) env es cs ws h t = at (x == a) refl
+    off : (b : Bool) → (b || is_among x ys) ≡ false → b ≡ false
+    off true k = absurd (cc k)
+    off false k = refl
+
+    rest : (b : Bool) → (b || is_among x ys) ≡ false → is_among x ys ≡ false
+    rest true k = absurd (cc k)
+    rest false k = k
+
+-- the oldest comes first
+oldest_first : (env xs : List ℕ) (a : ℕ) → is_oldest a xs ≡ true → rev (addresses_at env xs) ≡ slice_index env a ∷ rev (addresses_at env (but_last xs))
+oldest_first env [] a h = absurd (cc h)
+oldest_first env (x ∷ []) a h = ap (λ y. slice_index env y ∷ []) (eqb-true x a h)
+oldest_first env (x ∷ y ∷ ys) a h = ap (λ l. l ++ slice_index env x ∷ []) (oldest_first env (y ∷ ys) a (second (x == a) h))
   where
-    at : (b : Bool) → (x == a) ≡ b → spots (without es m a) (cs ++ released_commits es m a) ≡ spots es cs
-    at true e = here (eqb-true x a e)
-      where
-        here : x ≡ a → spots (without es m a) (cs ++ released_commits es m a) ≡ spots es cs
-        here f =
-            ap (λ l. spots (without l m a) (cs ++ released_commits l m a)) (t.2 ∙ ap (λ y. entry m y t.0 (Some t.1) ∷ []) f)
-            ∙ ap₂ (λ l k. spots l (cs ++ k)) (without_one m a t.0 (Some t.1)) (released_one m a t.0 t.1)
-            ∙ ap (λ l. places (l ++ write_of m t.0 t.1 ∷ [])) t.3
-            ∙ sym (ap₂ spots t.2 t.3)
-    at false e =
-        ap (λ l. spots (without l m a) (cs ++ released_commits l m a)) t.2
-        ∙ ap₂ (λ l k. spots l (cs ++ k)) (without_no m x a t.0 (Some t.1) (eqb-false x a e)) (released_no m x a t.0 (Some t.1) (eqb-false x a e))
-        ∙ ap (λ l. spots (entry m x t.0 (Some t.1) ∷ []) l) (append-nil cs) ∙ ap (λ l. spots l cs) (sym t.2)
-spots_release m a Done env es cs ws h t =
-    ap (λ l. spots (without l m a) (cs ++ released_commits l m a)) t.0 ∙ ap places (append-nil cs) ∙ ap (λ l. spots l cs) (sym t.0)
+    second : (b : Bool) → (not b && is_oldest a (y ∷ ys)) ≡ true → is_oldest a (y ∷ ys) ≡ true
+    second true k = absurd (cc k)
+    second false k = k
+
+-- the addresses of joined commits
+pub places_append : (xs ys : List Commit) → places (xs ++ ys) ≡ places xs ++ places ys
+places_append [] ys = refl
+places_append (x ∷ xs) ys = ap (λ l. x.address ∷ l) (places_append xs ys)
+
+spots_set : (ph : Phase) (env : List ℕ) (ws : List Commit) (x v : ℕ)
+    → not (is_among x ph.unwritten) ≡ true → spots ph (slice_set env x v) ws ≡ spots ph env ws
+spots_set ph env ws x v h =
+    ap (λ l. places ws ++ rev l) (addresses_set env ph.unwritten x v (not_false _ h))
+
+-- they stay over what doesn't reserve m
 
 -- a statement that the phases allow and that is no reserve leaves the addresses written to memory m as they are
-pub spots_op : (arrays : Arrays) (m : ℕ) (ph : ℕ → Phase) (op : Op) (w : Work) (r : Run)
-    → not (is_reserve m op) ≡ true → Ok ph op → Related arrays ph w r
-    → spots (entries_of m (work_after (alone arrays) op w).entries) (of_mem m (work_after (alone arrays) op w).commits)
-    ≡ spots (entries_of m w.entries) (of_mem m w.commits)
-spots_op arrays m ph (Write n a e) w r h ok rel = at (n == m) refl
+pub spots_op : (world : World) (m : ℕ) (ph : ℕ → Phase) (op : Op) (w : Work) (r : Run)
+    → not (is_reserve m op) ≡ true → Ok ph op → Related world ph w r
+    → spots (next_phase m (ph m) op) (work_after (alone world) op w).env (of_mem m (run_after op r).writes)
+    ≡ spots (ph m) w.env (of_mem m r.writes)
+spots_op world m ph (Bind x e) w r h ok rel = spots_set (ph m) w.env (of_mem m r.writes) x _ (ok m)
+spots_op world m ph (CombRead x n a) w r h ok rel = spots_set (ph m) w.env (of_mem m r.writes) x _ (and_left (not (is_among x (ph m).unwritten)) _ (ok m))
+spots_op world m ph (DelayedRead x n a) w r h ok rel = absurd (cc (ok 0))
+spots_op world m ph (Write n a e) w r h ok rel = at (n == m) refl (ok m)
   where
     at : (b : Bool) → (n == m) ≡ b
-        → spots (entries_of m (with_entry_value w.entries n a (value_of e w.env))) (of_mem m w.commits) ≡ spots (entries_of m w.entries) (of_mem m w.commits)
-    at true f =
-        ap (λ k. spots (entries_of m (with_entry_value w.entries k a (value_of e w.env))) (of_mem m w.commits)) (eqb-true n m f)
-        ∙ ap (λ l. spots l (of_mem m w.commits)) (entries_of-filled w.entries m a _)
-        ∙ ap (λ l. l ++ places (of_mem m w.commits)) (filled_addresses (entries_of m w.entries) m a _)
-    at false f = ap (λ l. spots l (of_mem m w.commits)) (filled_other w.entries m n a _ (eqb-false n m f))
-spots_op arrays m ph (ReserveWrite n a) w r h ok rel =
-    ap (λ c. spots (cond c (entry n a (slice_index w.env a) None ∷ entries_of m w.entries) (entries_of m w.entries)) (of_mem m w.commits))
-    (apart (n == m) refl h)
+        → (not b || may_write (ph m) a) ≡ true
+        → spots (cond b (after_write (ph m) a) (ph m)) w.env (of_mem m (r.writes ++ write_of n (slice_index r.env a) (value_of e r.env) ∷ []))
+        ≡ spots (ph m) w.env (of_mem m r.writes)
+    at true f k =
+        ap (λ l. places l ++ rev (addresses_at w.env (but_last (ph m).unwritten))) (of_mem_append m r.writes _
+        ∙ ap (λ b. of_mem m r.writes ++ cond b (write_of n (slice_index r.env a) (value_of e r.env) ∷ []) []) f)
+        ∙ ap (λ l. l ++ rev (addresses_at w.env (but_last (ph m).unwritten))) (places_append (of_mem m r.writes) _)
+        ∙ append_assoc (places (of_mem m r.writes)) (slice_index r.env a ∷ []) (rev (addresses_at w.env (but_last (ph m).unwritten)))
+        ∙ ap (λ l. places (of_mem m r.writes) ++ l)
+        (ap (λ v. slice_index v a ∷ rev (addresses_at w.env (but_last (ph m).unwritten))) (sym rel.env) ∙ sym (oldest_first w.env (ph m).unwritten a k))
+    at false f k =
+        ap (λ l. places l ++ rev (addresses_at w.env (ph m).unwritten))
+        (of_mem_append m r.writes _ ∙ ap (λ b. of_mem m r.writes ++ cond b (write_of n (slice_index r.env a) (value_of e r.env) ∷ []) []) f
+        ∙ append-nil (of_mem m r.writes))
+spots_op world m ph (ReserveWrite n a) w r h ok rel = at (n == m) h
   where
-    apart : (b : Bool) → (n == m) ≡ b → not b ≡ true → (n == m) ≡ false
-    apart true e q = cc
-    apart false e q = e
-spots_op arrays m ph (Release n a) w r h ok rel = at (n == m) refl
+    at : (b : Bool) → not b ≡ true → spots (cond b (after_reserve (ph m) a) (ph m)) w.env (of_mem m r.writes) ≡ spots (ph m) w.env (of_mem m r.writes)
+    at true k = absurd (cc k)
+    at false k = refl
+spots_op world m ph (Release n a) w r h ok rel = at (n == m) (is_among a (ph m).full)
   where
-    at : (b : Bool) → (n == m) ≡ b
-        → spots (entries_of m (without w.entries n a)) (of_mem m (w.commits ++ released_commits w.entries n a))
-        ≡ spots (entries_of m w.entries) (of_mem m w.commits)
-    at true f =
-        ap (λ k. spots (entries_of m (without w.entries k a)) (of_mem m (w.commits ++ released_commits w.entries k a))) (eqb-true n m f)
-        ∙ ap₂ spots (without_own w.entries m a) (of_mem_append m w.commits _ ∙ ap (λ l. of_mem m w.commits ++ l) (released_own w.entries m a))
-        ∙ spots_release m a (ph m) w.env _ _ _ (subst (λ b. (not b || not (holds_location (ph m) a)) ≡ true) f (ok m)) (rel.tied m)
-    at false f =
-        ap₂ spots (without_other w.entries m n a (eqb-false n m f))
-        (of_mem_append m w.commits _
-        ∙ ap (λ l. of_mem m w.commits ++ l) (released_other w.entries m n a (eqb-false n m f))
-        ∙ append-nil (of_mem m w.commits))
-spots_op arrays m ph (Verify args) w r h ok rel = at (same_args (values_of args w.env) w.guess)
+    at : (b c : Bool)
+        → spots (cond b (cond c (record { unwritten = (ph m).unwritten; full = drop_var a (ph m).full; gone = a ∷ (ph m).gone }) (ph m)) (ph m)) w.env
+        (of_mem m r.writes)
+        ≡ spots (ph m) w.env (of_mem m r.writes)
+    at true true = refl
+    at true false = refl
+    at false c = refl
+spots_op world m ph (Verify true args) w r h ok rel = at (same_args (said (alone world) true args w.env) w.guess)
   where
     at : (b : Bool)
-        → spots (entries_of m (cond b w (record w { child = Some (values_of args w.env); fails = true })).entries)
-        (of_mem m (cond b w (record w { child = Some (values_of args w.env); fails = true })).commits)
-        ≡ spots (entries_of m w.entries) (of_mem m w.commits)
+        → spots (ph m) (cond b w (record w { child = Some (said (alone world) true args w.env); guess = said (alone world) true args w.env; fails = true })).env
+        (of_mem m r.writes)
+        ≡ spots (ph m) w.env (of_mem m r.writes)
     at true = refl
     at false = refl
-spots_op arrays m ph _ w r h ok rel = refl
+spots_op world m ph (Verify false args) w r h ok rel = at (same_args (said (alone world) false args w.env) w.guess)
+  where
+    at : (b : Bool)
+        → spots (ph m)
+        (cond b w (record w { child = Some (said (alone world) false args w.env); guess = said (alone world) false args w.env; fails = true })).env
+        (of_mem m r.writes)
+        ≡ spots (ph m) w.env (of_mem m r.writes)
+    at true = refl
+    at false = refl
+spots_op world m ph _ w r h ok rel = refl

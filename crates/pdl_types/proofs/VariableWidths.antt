@@ -6,8 +6,8 @@ use Rattle.std.proofs.lemmas.Bool.{or_parts, and_parts, and_from, le-leb, not-fa
 use Rattle.std.proofs.lemmas.List.Folds.{list_any-append}
 use Rattle.std.proofs.lemmas.List.Sums.{fold_push}
 use Rattle.pdl_kit.specs.declared.rule.Rule.TheVariants.{Z7, N2, N3, W2}
-use Rattle.pdl_semantics.specs.Tree.{Ident, Expr, Span, Separator, CombRead, Bind, SpecCall, DelayedRead, Write, Reserve, Block, Release, If, Call, Verify, SpecCheck, SpecBarrier, Param, Mem, Pipe}
-use Rattle.pdl_semantics.specs.Flatten.{Var, var_width, mem_width, width_of}
+use Rattle.pdl_semantics.specs.Tree.{Ident, Expr, Span, Separator, CombRead, Bind, SpecCall, DelayedRead, Write, Reserve, Block, Release, If, Call, Verify, Update, SpecCheck, SpecBarrier, Param, Mem, Pipe}
+use Rattle.pdl_semantics.specs.Flatten.{Var, var_width, mem_width, width_of, is_advisory_mem, is_advised}
 use Rattle.pdl_rules.specs.Places.{Place, Branch, Parameter, Memory, Statement, End, StartClause, statements, places, line_of}
 use Rattle.pdl_rules.specs.Limits.{breaks_z7, is_width, is_depth}
 use Rattle.pdl_rules.specs.Names.{OfVariable, defines_use, variable_at, name_at, is_parameter, is_too_early, breaks_n2}
@@ -109,16 +109,16 @@ same : (p : Pipe) (vs : List Var) (before : List Place) (y : Place)
     → variable_at y ≡ None → after_place p.mems vs y ≡ vs → AreKnown p vs before → AreNarrow vs → Next p vs before y
 same p vs before y none e k h = record { vars = vs; is = e; known = known_same p vs before y none e k; narrow = h }
 
-more : (p : Pipe) (vs : List Var) (before : List Place) (y : Place) (x : List ℕ) (w : ℕ)
-    → variable_at y ≡ Some x → name_at y ≡ Some x → after_place p.mems vs y ≡ with_variable vs x w
+more : (p : Pipe) (vs : List Var) (before : List Place) (y : Place) (x : List ℕ) (w : ℕ) (advised : Bool)
+    → variable_at y ≡ Some x → name_at y ≡ Some x → after_place p.mems vs y ≡ with_variable vs x w advised
     → breaks_n2 p before y ≡ false → w ≤ 64 → AreKnown p vs before → AreNarrow vs → Next p vs before y
-more p vs before y x w variable name after once l k h =
-    let known = known_more p vs before y x w variable name after once k in
+more p vs before y x w advised variable name after once l k h =
+    let known = known_more p vs before y x w advised variable name after once k in
     record {
-      vars = vs ++ record { name = x; width = w } ∷ [];
+      vars = vs ++ record { name = x; width = w; advised = advised } ∷ [];
       is = sym (fold_push (after_place p.mems) [] before y ∙ ap (λ us. after_place p.mems us y) k.vars) ∙ known.vars;
       known = known;
-      narrow = narrow_more vs (record { name = x; width = w }) h l;
+      narrow = narrow_more vs (record { name = x; width = w; advised = advised }) h l;
     }
 
 -- parameters are defined
@@ -149,19 +149,19 @@ one_place : (p : Pipe) (before : List Place) (y : Place) (ys : List Place) (vs :
     → places p ≡ before ++ y ∷ ys → KeepsWidths p before (y ∷ ys) → ((m : List ℕ) → mem_width p.mems m ≤ 64)
     → AreThere p before → AreKnown p vs before → AreNarrow vs → Next p vs before y
 one_place p before (Parameter a) ys vs split k ms there known h =
-    more p vs before (Parameter a) a.name.name a.width.value refl refl refl (here N2 p before (Parameter a) ys k.n2)
+    more p vs before (Parameter a) a.name.name a.width.value false refl refl refl (here N2 p before (Parameter a) ys k.n2)
     (width_is a.width.value (here Z7 p before (Parameter a) ys k.z7)).1 known h
 one_place p before (Memory m) ys vs split k ms there known h = same p vs before (Memory m) refl refl known h
 one_place p before (Statement (CombRead s x at) bs) ys vs split k ms there known h =
-    more p vs before (Statement (CombRead s x at) bs) x.name (mem_width p.mems at.mem.name) refl refl refl
+    more p vs before (Statement (CombRead s x at) bs) x.name (mem_width p.mems at.mem.name) (is_advisory_mem p.mems at.mem.name) refl refl refl
     (here N2 p before (Statement (CombRead s x at) bs) ys k.n2)
     (ms at.mem.name) known h
 one_place p before (Statement (DelayedRead s x at) bs) ys vs split k ms there known h =
-    more p vs before (Statement (DelayedRead s x at) bs) x.name (mem_width p.mems at.mem.name) refl refl refl
+    more p vs before (Statement (DelayedRead s x at) bs) x.name (mem_width p.mems at.mem.name) false refl refl refl
     (here N2 p before (Statement (DelayedRead s x at) bs) ys k.n2)
     (ms at.mem.name) known h
 one_place p before (Statement (Bind s x e) bs) ys vs split k ms there known h =
-    more p vs before (Statement (Bind s x e) bs) x.name (width_of vs e) refl refl refl (here N2 p before (Statement (Bind s x e) bs) ys k.n2)
+    more p vs before (Statement (Bind s x e) bs) x.name (width_of vs e) (is_advised vs e) refl refl refl (here N2 p before (Statement (Bind s x e) bs) ys k.n2)
     (bound p vs before s x e bs ys split k there known h) known h
 one_place p before (Statement (Separator s) bs) ys vs split k ms there known h = same p vs before _ refl refl known h
 one_place p before (Statement (SpecCall s g args) bs) ys vs split k ms there known h = same p vs before _ refl refl known h
@@ -172,6 +172,7 @@ one_place p before (Statement (Release s at) bs) ys vs split k ms there known h 
 one_place p before (Statement (If s c a b) bs) ys vs split k ms there known h = same p vs before _ refl refl known h
 one_place p before (Statement (Call s args) bs) ys vs split k ms there known h = same p vs before _ refl refl known h
 one_place p before (Statement (Verify s g args) bs) ys vs split k ms there known h = same p vs before _ refl refl known h
+one_place p before (Statement (Update s g args) bs) ys vs split k ms there known h = same p vs before _ refl refl known h
 one_place p before (Statement (SpecCheck s) bs) ys vs split k ms there known h = same p vs before _ refl refl known h
 one_place p before (Statement (SpecBarrier s) bs) ys vs split k ms there known h = same p vs before _ refl refl known h
 one_place p before (End s) ys vs split k ms there known h = same p vs before (End s) refl refl known h
@@ -225,7 +226,7 @@ from_params p (a ∷ ps) rest before vs split k ms there known h =
     let y = Parameter a in
     let ys = map Parameter ps ++ rest in
     let n =
-    more p vs before y a.name.name a.width.value refl refl refl (here N2 p before y ys k.n2)
+    more p vs before y a.name.name a.width.value false refl refl refl (here N2 p before y ys k.n2)
     (width_is a.width.value (here Z7 p before y ys k.z7)).1 known h in
     subst (λ us. AreNarrow (fold (after_place p.mems) us ys)) (sym n.is)
     (from_params p ps rest (before ++ y ∷ []) n.vars (split ∙ sym (append_assoc before (y ∷ []) ys))

@@ -1,5 +1,4 @@
-use Rattle.pdl_source_stages.proofs.BodyShape.{body_forked}
-use Rattle.pdl_source_stages.proofs.SiteFacts.{stage_count}
+use Rattle.pdl_source_stages.proofs.BodyShape.{body_forked, stage_count}
 use Rattle.pdl_source_stages.proofs.PathStages.{visits_all}
 use Rattle.pdl_source_stages.proofs.stages.Goals as goal
 

@@ -1,6 +1,6 @@
 use Rattle.std.proofs.Common.{◌≡◌, ◌<◌, ◌++◌, suc, length, ap, ◌∙◌, arith}
 use Rattle.pdl_semantics.specs.Flat.{Goes}
-use Rattle.pdl_form.specs.View.{stages_view, branch_view}
+use Rattle.pdl_form.specs.View.{stages_view, branches_view}
 use Rattle.pdl_form_lower.specs.Walking.{leading}
 use Rattle.pdl_form_lower.proofs.StageWays.{begun_after, stages_push}
 use Rattle.pdl_form_lower.proofs.walk.begin_after.Goals as goal
@@ -17,5 +17,5 @@ returns-clause-graph c = λ rest.
     (c.lead.ensures.stages
     ∙ ap (λ zs. leading c.args.walk.now.stage (Goes c.len-next.result) (stages_view zs)) c.in_ok-push.ensures.items
     ∙ ap (leading c.args.walk.now.stage (Goes c.len-next.result)) (stages_push c.args.walk.now.stages.items _))
-    ∙ begun_after c.args.walk.now.stage c.len-next.result (suc c.args.walk.now.begun) (branch_view c.args.branch)
+    ∙ begun_after c.args.walk.now.stage c.len-next.result (suc c.args.walk.now.begun) (branches_view c.args.branches)
     (stages_view c.args.walk.now.stages.items) rest long next low

@@ -245,7 +245,8 @@ returns g c =
     let t6 : signal b6 r.ticket ≡ signal b1 r.ticket = k16.kept r.ticket s.nets.ticket.there in
     let t5 : signal b5 r.ticket ≡ signal b1 r.ticket = k15.kept r.ticket s.nets.ticket.there in
     let f6 : step_signals b6 p ≡ driven (input_signal r.bits 0) (input_signal r.width 1) (signal b1 r.ticket) =
-    driven_is b6 p c.in_ok-one.one c.in_ok-zero.zero c.in_ok-addr.addr c.in_ok-value.value r.ticket q.reserves q.writes q.release q.release2 q.squash q.tail driver.one_means.same driver.off_means.same
+    driven_is b6 p c.in_ok-one.one c.in_ok-zero.zero c.in_ok-addr.addr c.in_ok-value.value r.ticket q.reserves q.writes q.release
+    q.release2 q.squash q.tail driver.one_means.same driver.off_means.same
     ∙ cc (a6, v6, t6) in
     let is_word : look.value ≡ Some word = c.unwrap-word.ensures in
     let there6 = (c.in_ok-look.ensures.value.net word is_word).there in

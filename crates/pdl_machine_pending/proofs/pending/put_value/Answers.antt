@@ -11,7 +11,7 @@ loop-i-preserved c =
     record {
       done =
           swept_done pending_view c.loop-i.pending c.args.pending.now c.loop-i.i c.with_value-entry.result _ here c.loop-i.auto.pending c.loop-i.invariant.left
-          (cycle.with_value_of c.args.thread c.args.value) (put_append c.args.thread c.args.value) c.loop-i.invariant.done c.with_value-entry.ensures;
+          (cycle.with_value_of c.args.thread c.args.var c.args.value) (put_append c.args.thread c.args.var c.args.value) c.loop-i.invariant.done c.with_value-entry.ensures;
       left =
           swept_left pending_view c.loop-i.pending c.args.pending.now c.loop-i.i c.with_value-entry.result c.with_value-entry.result here c.loop-i.auto.pending c.loop-i.invariant.left;
     }

@@ -7,6 +7,6 @@ use Rattle.pdl_machine_pending.proofs.pending.put_value.Given as goal
 abbrev pub invariant-loop-i : goal.invariant-loop-i
 invariant-loop-i l =
     record {
-      done : map pending_view (take l.i l.pending) ≡ cycle.with_value_of l.thread l.value (map pending_view (take l.i l.initial.pending));
+      done : map pending_view (take l.i l.pending) ≡ cycle.with_value_of l.thread l.var l.value (map pending_view (take l.i l.initial.pending));
       left : drop l.i l.pending ≡ drop l.i l.initial.pending;
     }

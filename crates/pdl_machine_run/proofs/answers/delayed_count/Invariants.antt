@@ -8,7 +8,7 @@ use Rattle.pdl_machine_run.proofs.answers.delayed_count.Given as goal
 abbrev pub invariant-loop-mem : goal.invariant-loop-mem
 invariant-loop-mem l =
     record {
-      counted : l.count + count_by (λ (x : flat.Mem). x.delayed) (mems_view (drop l.mem-index l.mems))
-          ≡ count_by (λ (x : flat.Mem). x.delayed) (mems_view l.mems);
+      counted : l.count + count_by (λ (x : flat.Mem). flat.is_delayed x.kind) (mems_view (drop l.mem-index l.mems))
+          ≡ count_by (λ (x : flat.Mem). flat.is_delayed x.kind) (mems_view l.mems);
       most : l.count ≤ l.mem-index;
     }

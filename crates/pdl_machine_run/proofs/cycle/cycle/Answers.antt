@@ -6,7 +6,7 @@ use Rattle.pdl_form.specs.FormView.{form}
 use Rattle.pdl_machine_run.specs.View.{thread_in}
 use Rattle.pdl_machine_run.specs.Acts.{acts_of, are_held, are_moving, one_ends, commits_shown}
 use Rattle.pdl_machine_run.specs.Requests.{requests_shown}
-use Rattle.pdl_machine_run.proofs.PortCounts.{stages_shown, commits_most, requests_most}
+use Rattle.pdl_machine_run.proofs.PortCounts.{stages_shown, told_counted, commits_most, requests_most}
 use Rattle.pdl_machine_run.proofs.Turns.{Turn, turn_of, turn_steps, turn_orders, turn_child, turn_awaits, turn_ports, turn_ready, turn_state, turn_beside, shown_all}
 use Rattle.pdl_machine_run.proofs.cycle.cycle.Goals as goal
 
@@ -74,15 +74,15 @@ show_end-requires c =
     let first : c.show_stages.new.shown.items ≡ stage_values (are_held zs) (are_moving zs) =
     c.show_stages.ensures.shown ∙ ap (λ (vs : List ℕ). vs ++ stage_values (are_held zs) (are_moving zs)) empty in
     let second : c.step_beside.new.shown.items
-    ≡ stage_values (are_held zs) (are_moving zs) ++ (commits_shown 0 ms b.memories.items ++ requests_shown 0 ms f.pipe.mems) =
-    c.step_beside.ensures.shown ∙ ap (λ (vs : List ℕ). vs ++ (commits_shown 0 ms b.memories.items ++ requests_shown 0 ms f.pipe.mems)) first in
+    ≡ stage_values (are_held zs) (are_moving zs) ++ (commits_shown b.twice.items 0 ms b.memories.items ++ requests_shown 0 ms f.pipe.mems) =
+    c.step_beside.ensures.shown ∙ ap (λ (vs : List ℕ). vs ++ (commits_shown b.twice.items 0 ms b.memories.items ++ requests_shown 0 ms f.pipe.mems)) first in
     let many = ap (λ (vs : List ℕ). length vs) second in
     let all = stages_shown zs in
-    let commits = commits_most 0 ms b.memories.items in
+    let commits = commits_most b.twice.items 0 ms b.memories.items in
     let requests = requests_most 0 ms f.pipe.mems in
     let mems = t.beside.roomy.memories.count in
-    let sum = length-append (stage_values (are_held zs) (are_moving zs)) (commits_shown 0 ms b.memories.items ++ requests_shown 0 ms f.pipe.mems) in
-    let rest = length-append (commits_shown 0 ms b.memories.items) (requests_shown 0 ms f.pipe.mems) in
+    let sum = length-append (stage_values (are_held zs) (are_moving zs)) (commits_shown b.twice.items 0 ms b.memories.items ++ requests_shown 0 ms f.pipe.mems) in
+    let rest = length-append (commits_shown b.twice.items 0 ms b.memories.items) (requests_shown 0 ms f.pipe.mems) in
     let held = c.step_beside.new.shown.ok.0 in
     let one = c.clear.ensures.capacity in
     let two = c.show_stages.ensures.capacity in
@@ -131,7 +131,7 @@ returns-clause-state c =
     let born : thread_in c.call-called.new.place ≡ stated.born_thread f.pipe next (stated.child_of (acts_of 0 zs)) =
     c.call-called.ensures.thread f.pipe (t.run.typed.vars ∙ sym c.requires.ahead.count) in
     turn_state f b bits next ys zs t sq squashed c.step_stages.new.stages
-    (thread_in c.call-called.new.place) born c.step_stages.auto.stages c.step_stages.ensures.threads c.step_beside.new.beside c.step_beside.ensures.memories c.step_beside.ensures.orders c.step_beside.ensures.requests c.call-called.result c.call-called.ensures.called
+    (thread_in c.call-called.new.place) born c.step_stages.auto.stages c.step_stages.ensures.threads c.step_beside.new.beside c.step_beside.ensures.twice c.step_beside.ensures.memories c.step_beside.ensures.orders c.step_beside.ensures.requests c.call-called.result c.call-called.ensures.called
 
 pub returns-clause-ports : goal.returns-clause-ports
 returns-clause-ports c =
@@ -150,14 +150,14 @@ returns-clause-ports c =
     let first : c.show_stages.new.shown.items ≡ stage_values (are_held zs) (are_moving zs) =
     c.show_stages.ensures.shown ∙ ap (λ (vs : List ℕ). vs ++ stage_values (are_held zs) (are_moving zs)) empty in
     let second : c.step_beside.new.shown.items
-    ≡ stage_values (are_held zs) (are_moving zs) ++ (commits_shown 0 ms b.memories.items ++ requests_shown 0 ms f.pipe.mems) =
-    c.step_beside.ensures.shown ∙ ap (λ (vs : List ℕ). vs ++ (commits_shown 0 ms b.memories.items ++ requests_shown 0 ms f.pipe.mems)) first in
+    ≡ stage_values (are_held zs) (are_moving zs) ++ (commits_shown b.twice.items 0 ms b.memories.items ++ requests_shown 0 ms f.pipe.mems) =
+    c.step_beside.ensures.shown ∙ ap (λ (vs : List ℕ). vs ++ (commits_shown b.twice.items 0 ms b.memories.items ++ requests_shown 0 ms f.pipe.mems)) first in
     let ended = bit (one_ends f.pipe ms) in
     let last : c.show_end.new.shown.items
-    ≡ (stage_values (are_held zs) (are_moving zs) ++ (commits_shown 0 ms b.memories.items ++ requests_shown 0 ms f.pipe.mems))
+    ≡ (stage_values (are_held zs) (are_moving zs) ++ (commits_shown b.twice.items 0 ms b.memories.items ++ requests_shown 0 ms f.pipe.mems))
     ++ ended ∷ bit (is_some sq) ∷ [] =
     c.show_end.ensures.shown ∙ ap₂ (λ (vs : List ℕ) (s : Bool). vs ++ ended ∷ bit s ∷ []) second c.is_some.ensures in
-    shown_all (stage_values (are_held zs) (are_moving zs)) (commits_shown 0 ms b.memories.items)
+    shown_all (stage_values (are_held zs) (are_moving zs)) (commits_shown b.twice.items 0 ms b.memories.items)
     (requests_shown 0 ms f.pipe.mems) (ended ∷ bit (is_some sq) ∷ []) c.show_end.new.shown.items last
     ∙ turn_ports f b bits next ys zs t sq squashed
 
@@ -208,5 +208,11 @@ returns-clause-beside c =
     let born : thread_in c.call-called.new.place ≡ stated.born_thread f.pipe next (stated.child_of (acts_of 0 zs)) =
     c.call-called.ensures.thread f.pipe (t.run.typed.vars ∙ sym c.requires.ahead.count) in
     turn_beside f b bits next ys zs t sq squashed c.step_stages.new.stages
-    (thread_in c.call-called.new.place) born c.step_stages.auto.stages c.step_stages.ensures.threads c.step_beside.new.beside c.step_beside.ensures.memories c.step_beside.ensures.orders c.step_beside.ensures.requests
+    (thread_in c.call-called.new.place) born c.step_stages.auto.stages c.step_stages.ensures.threads c.step_beside.new.beside c.step_beside.ensures.twice c.step_beside.ensures.memories c.step_beside.ensures.orders c.step_beside.ensures.requests
     (c.step_beside.ensures.long (length f.pipe.stages) t.beside.long)
+
+pub step_beside-requires-clause-told : goal.step_beside-requires-clause-told
+step_beside-requires-clause-told c =
+    let p = (form c.args.pipe.now).pipe in
+    let b = c.requires.beside in
+    ap (λ (ts : List Bool). length ts) b.twice ∙ told_counted p.stmts 0 p.mems ∙ sym b.roomy.memories.count

@@ -16,16 +16,17 @@ show_requests-requires c =
     let xs = c.as_mut_slice.result.now in
     let ms = acts_of 0 c.args.stages.now in
     let same : length xs ≡ length c.args.beside.now.memories.items = ap (λ (ys : List Memory). length ys) c.as_mut_slice.ensures.value in
-    let most = commits_most 0 ms xs in
-    let shown = ap (λ (vs : List ℕ). length vs) c.step_memories.ensures.shown in
-    let sum = length-append c.args.shown.now.items (commits_shown 0 ms xs) in
+    let ts = c.as_slice.result.now in
+    let most = commits_most ts 0 ms xs in
+    let shown = ap (λ (vs : List ℕ). length vs) c.change_memories.ensures.shown in
+    let sum = length-append c.args.shown.now.items (commits_shown ts 0 ms xs) in
     let old = c.args.shown.now.ok.0 in
-    let new = c.step_memories.new.shown.ok.0 in
+    let new = c.change_memories.new.shown.ok.0 in
     let mems = ap (λ (ys : List Mem). length ys) c.mems.ensures.mems in
     let all = length-map c.mems.result.now mem_view in
     let count = c.requires.mems in
     let room = c.requires.room in
-    let kept = c.step_memories.ensures.capacity in
+    let kept = c.change_memories.ensures.capacity in
     record { room = omega arith }
 
 pub returns-clause-long : goal.returns-clause-long

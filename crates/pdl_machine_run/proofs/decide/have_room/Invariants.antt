@@ -8,5 +8,7 @@ use Rattle.pdl_machine_run.proofs.decide.have_room.Given as goal
 -- the reservations left decide
 abbrev pub invariant-loop-reserved : goal.invariant-loop-reserved
 invariant-loop-reserved l =
-    list_all (λ (r : machine.Reserved). is_roomy l.memories r.mem) (map reserved_view (drop l.reserved-index l.reserves))
-    ≡ list_all (λ (r : machine.Reserved). is_roomy l.memories r.mem) (map reserved_view l.reserves)
+    list_all (λ (r : machine.Reserved). is_roomy l.memories (machine.reserves_of r.mem (map reserved_view l.reserves)) r.mem)
+    (map reserved_view (drop l.reserved-index l.reserves))
+    ≡ list_all (λ (r : machine.Reserved). is_roomy l.memories (machine.reserves_of r.mem (map reserved_view l.reserves)) r.mem)
+    (map reserved_view l.reserves)

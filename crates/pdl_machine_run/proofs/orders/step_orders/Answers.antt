@@ -20,5 +20,5 @@ step_order-requires-clause-room c =
     let same : get_or now f d ≡ get_or all f d = head_same (sym (drop_more now f d here) ∙ c.loop-f.invariant.left ∙ drop_more all f d there) in
     subst
     (λ (o : r_order.Order). length
-    (order_after (form c.args.pipe.now).pipe (acts_of 0 c.args.stages.now) c.args.squashed f o.branches.items) ≤ vec_capacity o.branches)
+    (order_after (form c.args.pipe.now).pipe (acts_of 0 c.args.stages.now) f o.branches.items) ≤ vec_capacity o.branches)
     (sym same) (c.requires.room f d there)

@@ -12,8 +12,8 @@ invariant-loop-m l =
           ≡ memories_after 0 (acts_of 0 l.stages) l.squasher l.initial.memories;
       left : drop l.m l.memories ≡ drop l.m l.initial.memories;
       steps : AllCanStep l.m (acts_of 0 l.stages) (drop l.m l.initial.memories);
-      shown : l.shown.items ++ commits_shown l.m (acts_of 0 l.stages) (drop l.m l.initial.memories)
-          ≡ l.initial.shown.items ++ commits_shown 0 (acts_of 0 l.stages) l.initial.memories;
-      room : vec_len l.shown + 3 * (length l.memories - l.m) ≤ vec_capacity l.shown;
+      shown : l.shown.items ++ commits_shown (drop l.m l.twice) l.m (acts_of 0 l.stages) (drop l.m l.initial.memories)
+          ≡ l.initial.shown.items ++ commits_shown l.twice 0 (acts_of 0 l.stages) l.initial.memories;
+      room : vec_len l.shown + 6 * (length l.memories - l.m) ≤ vec_capacity l.shown;
       capacity : vec_capacity l.shown ≡ vec_capacity l.initial.shown;
     }

@@ -18,7 +18,7 @@ run_stmt-requires-clause-safe c on =
     let x = c.index-stmts-row.result in
     let typed =
     row_typed f c.stmts-stmts.result.now c.stmts-stmts.ensures c.requires.typed.stmts c.rows-row-items.result.now c.rows-row-items.ensures.within c.loop-row.row-index c.loop-row-test.true x c.index-stmts-row.is in
-    let large = subst (IsLarge 0 (length f.pipe.start)) (sym c.loop-row.invariant.capacities) c.requires.large in
+    let large = subst (IsLarge 0 (length f.pipe.start) (length f.widths)) (sym c.loop-row.invariant.capacities) c.requires.large in
     safe_op f c.requires.typed.wide c.args.memories.now c.requires.memories (stmt_view x).op
     (deeds_view c.loop-row.deeds) _ 0 typed c.loop-row.invariant.fit large
 

@@ -10,7 +10,8 @@ use Rattle.pdl_pipe_lives.proofs.marks.+mark_expression.Goals as goal
 
 pub returns-in-Binary : goal.returns-in-Binary
 returns-in-Binary t c =
-    let seen : expr_view c.args.e.now ≡ Binary (op_view c.in-Binary.op) c.in-Binary.width (expr_view c.in-Binary.a) (expr_view c.in-Binary.b) = search (rules, the_lemmas) in
+    let seen : expr_view c.args.e.now
+    ≡ Binary (op_view c.in-Binary.op) c.in-Binary.width (expr_view c.in-Binary.a) (expr_view c.in-Binary.b) = search (rules, the_lemmas) in
     both_marked _ _ _ _ _ _ _ c.mark_expression-in-Binary.ensures c.mark_expression-in-Binary-2.ensures
     (λ x. ap (λ (e : Expr). uses_var e x) seen
     ∙ ap₂ (λ a b. uses_var (expr_view a) x || uses_var (expr_view b) x) (sym c.get-in-Binary.ensures) (sym c.get-in-Binary-2.ensures))
@@ -24,7 +25,8 @@ returns-in-Cat t c =
 
 pub returns-in-LessSigned : goal.returns-in-LessSigned
 returns-in-LessSigned t c =
-    let seen : expr_view c.args.e.now ≡ LessSigned c.in-LessSigned.width (expr_view c.in-LessSigned.a) (expr_view c.in-LessSigned.b) = search (rules, the_lemmas) in
+    let seen : expr_view c.args.e.now
+    ≡ LessSigned c.in-LessSigned.width (expr_view c.in-LessSigned.a) (expr_view c.in-LessSigned.b) = search (rules, the_lemmas) in
     both_marked _ _ _ _ _ _ _ c.mark_expression-in-LessSigned.ensures c.mark_expression-in-LessSigned-2.ensures
     (λ x. ap (λ (e : Expr). uses_var e x) seen
     ∙ ap₂ (λ a b. uses_var (expr_view a) x || uses_var (expr_view b) x) (sym c.get-in-LessSigned.ensures) (sym c.get-in-LessSigned-2.ensures))

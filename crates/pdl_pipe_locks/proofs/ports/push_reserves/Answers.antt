@@ -10,7 +10,7 @@ use Rattle.pdl_pipe_locks.proofs.ports.push_reserves.Goals as goal
 use Rattle.pdl_word.proofs.Each.{each_get}
 
 abbrev no_reserve : ReserveNet
-no_reserve = record { mem = 0; on = Input 0; addr = Input 0 }
+no_reserve = record { mem = 0; var = 0; on = Input 0; addr = Input 0 }
 
 pub push_reserve-requires-clause-bits : goal.push_reserve-requires-clause-bits
 push_reserve-requires-clause-bits c = bits_kept c.args.b.now c.loop-r.b c.args.bits c.loop-r.invariant.extends c.requires.bits

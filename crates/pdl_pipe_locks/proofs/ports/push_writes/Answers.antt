@@ -10,7 +10,7 @@ use Rattle.pdl_pipe_locks.proofs.ports.push_writes.Goals as goal
 use Rattle.pdl_word.proofs.Each.{each_get}
 
 abbrev no_put : PutNet
-no_put = record { mem = 0; on = Input 0; value = Input 0 }
+no_put = record { mem = 0; var = 0; on = Input 0; value = Input 0 }
 
 pub push_write-requires-clause-bits : goal.push_write-requires-clause-bits
 push_write-requires-clause-bits c = bits_kept c.args.b.now c.loop-x.b c.args.bits c.loop-x.invariant.extends c.requires.bits

@@ -14,7 +14,7 @@ use Rattle.pdl_pipe_tails.proofs.ReservedTickets.{after_none, reserves_keep, sta
 use Rattle.pdl_pipe_tails.proofs.reserved.after_stage.Goals as goal
 
 abbrev no_reserve : ReserveNet
-no_reserve = record { mem = 0; on = Input 0; addr = Input 0 }
+no_reserve = record { mem = 0; var = 0; on = Input 0; addr = Input 0 }
 
 pub loop-r-init : goal.loop-r-init
 loop-r-init c = record { there = c.requires.ticket; after = after_none (signal c.args.b.now c.args.ticket); extends = extends_refl c.args.b.now; regs = refl }

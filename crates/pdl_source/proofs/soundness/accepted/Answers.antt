@@ -1,5 +1,5 @@
 use Rattle.pdl_semantics.specs.Flatten.{flat}
-use Rattle.pdl_theory.proofs.StatedTheorems.{whole_refines, whole_advances, whole_paces, whole_same}
+use Rattle.pdl_theory.proofs.StatedTheorems.{whole_refines, whole_advances, whole_paces, whole_same, whole_idle}
 use Rattle.pdl_source_paths.proofs.PipeFacts.{of_source}
 use Rattle.pdl_source.proofs.soundness.accepted.Goals as goal
 
@@ -9,4 +9,5 @@ returns c = record {
   oldest_moves = λ p rules source names. whole_advances (flat p) (of_source p rules source names);
   keeps_pace = λ p rules source names. whole_paces (flat p) (of_source p rules source names);
   simulation = λ p rules source names. whole_same (flat p) (of_source p rules source names);
+  advice = λ p rules source names. whole_idle (flat p) (of_source p rules source names);
 }

@@ -13,7 +13,9 @@ use Rattle.pdl_locks.specs.declared.numbers.Keys.TheVariants.{Locations}
 use Rattle.pdl_locks.specs.Numbers.{AreNumbered}
 use Rattle.pdl_spec.specs.Sure.{breaks_sure}
 use Rattle.pdl_spec.specs.Checked.{breaks_checked}
+use Rattle.pdl_spec.specs.Updated.{breaks_updated}
 use Rattle.pdl_spec.proofs.PathlessParts.{sure_lines, checked_lines}
+use Rattle.pdl_spec.proofs.Updates.{updated_lines}
 use Rattle.pdl_spec.proofs.lines.spec_path_rules.Goals as goal
 
 pub returns-clause-suits : goal.returns-clause-suits
@@ -21,23 +23,31 @@ returns-clause-suits c =
     let rows = c.args.places.now in
     let by_text = c.as_slice-stages.ensures.value ∙ c.requires.facts.by_text in (
       (
-        tt,
-        record {
-          own = refl;
-          text = c.requires.of;
-          seen = refl;
-          bits = c.all_true.ensures;
-          paths = record { few = c.requires.few; distinct = ap are_distinct c.requires.own ∙ guards_distinct (map place_view rows); masks = c.requires.masks };
-          by_text = by_text;
-        },
+        (
+          tt,
+          record {
+            own = refl;
+            text = c.requires.of;
+            seen = refl;
+            bits = c.all_true.ensures;
+            paths =
+                record {
+                  few = c.requires.few;
+                  distinct = ap are_distinct c.requires.own ∙ guards_distinct (map place_view rows);
+                  masks = c.requires.masks;
+                };
+            by_text = by_text;
+          },
+        ),
+        (
+          record {
+            numbers = subst (λ ns. AreNumbered Locations rows ns (map place_view rows)) (sym c.as_slice.ensures.value) c.requires.facts.locations;
+            by_text = by_text;
+          },
+          by_text,
+        ),
       ),
-      (
-        record {
-          numbers = subst (λ ns. AreNumbered Locations rows ns (map place_view rows)) (sym c.as_slice.ensures.value) c.requires.facts.locations;
-          by_text = by_text;
-        },
-        by_text,
-      ),
+      by_text,
     )
 
 pub returns-clause-lines : goal.returns-clause-lines
@@ -48,10 +58,11 @@ returns-clause-lines c lines h =
     let verified = c.args.verified in
     record {
       one_call =
-          h.0.0
+          h.0.0.0
           ∙ at_places (λ path before x. is_wrong_call (filter (on_path path) before) x) p gs xs c.requires.own c.requires.of
           ∙ rule_lines S1 p [] (places p);
-      verified_once = h.0.1 ∙ at_places (is_unverified p) p gs xs c.requires.own c.requires.of ∙ rule_lines S2 p [] (places p);
-      released_sure = h.1.0 ∙ at_places (breaks_sure verified) p gs xs c.requires.own c.requires.of ∙ sure_lines p verified c.requires.verified;
-      checked_first = h.1.1 ∙ at_places (breaks_checked verified) p gs xs c.requires.own c.requires.of ∙ checked_lines p verified c.requires.verified;
+      verified_once = h.0.0.1 ∙ at_places (is_unverified p) p gs xs c.requires.own c.requires.of ∙ rule_lines S2 p [] (places p);
+      released_sure = h.0.1.0 ∙ at_places (breaks_sure verified) p gs xs c.requires.own c.requires.of ∙ sure_lines p verified c.requires.verified;
+      checked_first = h.0.1.1 ∙ at_places (breaks_checked verified) p gs xs c.requires.own c.requires.of ∙ checked_lines p verified c.requires.verified;
+      updated_once = h.1 ∙ at_places (breaks_updated verified) p gs xs c.requires.own c.requires.of ∙ updated_lines p verified c.requires.verified;
     }

@@ -11,21 +11,21 @@ enter-requires c =
 pub invariant_of-self-in-Some : goal.invariant_of-self-in-Some
 invariant_of-self-in-Some c =
     more_known c.self.inside.table.now c.self.inside.numbers.items c.enter.new.numbers.items c.self.inside.vars.items c.append.new.items.items
-    c.args.self.now c.args.name.now c.args.width c.in-Some.place c.len-number.result c.position-place.result c.self.view_is c.position-place.ensures
+    c.args.self.now c.args.name.now c.args.width c.in-Some.place c.len-number.result c.args.advised c.position-place.result c.self.view_is c.position-place.ensures
     c.requires.known c.in_ok-append.ensures.ok c.self.invariant c.requires.small c.in-Some.is (omega arith) c.enter.ensures
 
 pub invariant_of-self-in_default : goal.invariant_of-self-in_default
 invariant_of-self-in_default c =
     more_unknown c.self.inside.table.now c.self.inside.numbers.items c.self.inside.vars.items c.append.new.items.items
-    c.args.self.now c.args.name.now c.args.width c.position-place.result c.self.view_is c.position-place.ensures
+    c.args.self.now c.args.name.now c.args.width c.args.advised c.position-place.result c.self.view_is c.position-place.ensures
     c.requires.known c.in_ok-append.ensures.ok c.self.invariant c.requires.small (search rules)
 
 pub returns-in-Some-clause-vars : goal.returns-in-Some-clause-vars
 returns-in-Some-clause-vars c =
-    vars_more c.self.inside.table.now c.self.inside.vars.items c.append.new.items.items c.args.self.now c.args.name.now c.args.width
+    vars_more c.self.inside.table.now c.self.inside.vars.items c.append.new.items.items c.args.self.now c.args.name.now c.args.width c.args.advised
     c.position-place.result c.self.view_is c.position-place.ensures c.requires.known c.in_ok-append.ensures.ok
 
 pub returns-in_default-clause-vars : goal.returns-in_default-clause-vars
 returns-in_default-clause-vars c =
-    vars_more c.self.inside.table.now c.self.inside.vars.items c.append.new.items.items c.args.self.now c.args.name.now c.args.width
+    vars_more c.self.inside.table.now c.self.inside.vars.items c.append.new.items.items c.args.self.now c.args.name.now c.args.width c.args.advised
     c.position-place.result c.self.view_is c.position-place.ensures c.requires.known c.in_ok-append.ensures.ok

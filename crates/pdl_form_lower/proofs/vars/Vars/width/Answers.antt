@@ -1,4 +1,4 @@
-use Rattle.std.proofs.Common.{◌≡◌, Some, None, sym, ap, ◌∙◌, arith, get_or, subst, ◌≤◌}
+use Rattle.std.proofs.Common.{◌≡◌, false, Some, None, sym, ap, ◌∙◌, arith, get_or, subst, ◌≤◌}
 use Rattle.pdl_semantics.specs.Flatten.{var_width}
 use Rattle.pdl_rules_widths.specs.Variables.{number_among}
 use Rattle.pdl_form_lower.specs.Variables.{Scope, vars_of}
@@ -18,7 +18,7 @@ pub returns-in-Some-clause-value : goal.returns-in-Some-clause-value
 returns-in-Some-clause-value c =
     let us = c.self.inside.table.now in
     let vs = c.self.inside.vars.items in
-    let d : NumberedVariable = record { place = None; width = 0 } in
+    let d : NumberedVariable = record { place = None; width = 0; advised = false } in
     let found : number_among (vars_of us vs) c.args.name.now ≡ Some c.in-Some.number =
     ap (λ (s : Scope). number_among s.vars c.args.name.now) c.self.view_is ∙ sym c.find.ensures ∙ c.in-Some.is in
     c.width_at.ensures d

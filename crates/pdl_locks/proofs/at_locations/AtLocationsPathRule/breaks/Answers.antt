@@ -33,17 +33,6 @@ returns-in-ReservedOnce c gs path before later s e is_on h =
     (c.use_at-used.ensures ∙ ap (λ us. get_or us c.number_of.result none) c.deref.ensures.value ∙ ap (λ n. get_or uses n none) c.number_of.ensures))
     ∙ sym (ap (λ r. breaks_at_location r (pipe_view c.args.self.now.pipe.now) earlier x) c.in-ReservedOnce.is)
 
-pub returns-in-WrittenOnce : goal.returns-in-WrittenOnce
-returns-in-WrittenOnce c gs path before later s e is_on h =
-    let x = place_view c.args.place.now in
-    let uses = c.args.state.now.items in
-    let earlier = filter (on_path path) before in
-    let none = c.none.result in
-    c.is_not_written_once.ensures earlier
-    (own Locations IsUsed c.args.self.now.places.now c.args.self.now.first.now before later x c.args.k uses none c.use_at-used.result earlier s e h
-    (c.use_at-used.ensures ∙ ap (λ us. get_or us c.number_of.result none) c.deref.ensures.value ∙ ap (λ n. get_or uses n none) c.number_of.ensures))
-    ∙ sym (ap (λ r. breaks_at_location r (pipe_view c.args.self.now.pipe.now) earlier x) c.in-WrittenOnce.is)
-
 pub returns-then-is_end : goal.returns-then-is_end
 returns-then-is_end c gs path before later s e is_on h =
     let x = place_view c.args.place.now in

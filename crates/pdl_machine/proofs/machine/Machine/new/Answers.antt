@@ -1,6 +1,6 @@
 use Rattle.std.proofs.Common.{◌≡◌, ◌∙◌, sym, ap, subst, List, replicate, arith}
 use Rattle.std.specs.Prelude.{count_by}
-use Rattle.pdl_semantics.specs.Flat.{Mem}
+use Rattle.pdl_semantics.specs.Flat.{Mem, is_delayed}
 use Rattle.pdl_semantics.specs.Flat.{arrays_of}
 use Rattle.pdl_semantics.specs.Cycle as stated
 use Rattle.pdl_syntax_tree.specs.View.{pipe_view}
@@ -44,6 +44,6 @@ invariant_of-result c =
           subst IsRunnable (sym (form_is a))
           (runnable (pipe_view a.typed.pipe) a.kept a.source a.letters (c.typed_form.ensures (pipe_view a.typed.pipe) a.kept a.letters));
       runs = c.in_ok-run.ensures.runs;
-      replies = c.in_ok-replies.ensures ∙ ap (λ (ms : List Mem). count_by (λ (x : Mem). x.delayed) ms) c.mems.ensures.mems;
+      replies = c.in_ok-replies.ensures ∙ ap (λ (ms : List Mem). count_by (λ (x : Mem). is_delayed x.kind) ms) c.mems.ensures.mems;
       next = omega arith;
     }

@@ -45,7 +45,7 @@ returns-clause-runs c =
     let those = ap (λ (ss : List r_stage.Stage). length ss) zs in
     let was = c.requires.runs.beside.roomy.memories.count in
     let is = c.cycle-called.ensures.beside.roomy.memories.count in
-    let room : 2 * length r.stages.items + 5 * length r.beside.memories.items + 2 ≤ vec_capacity r.shown = c.requires.runs.room in
+    let room : 2 * length r.stages.items + 8 * length r.beside.memories.items + 2 ≤ vec_capacity r.shown = c.requires.runs.room in
     let kept : vec_capacity c.cycle-called.new.shown ≡ vec_capacity r.shown = c.cycle-called.ensures.room in
     record {
       ready = subst (λ (ss : List r_stage.Stage). AreReady f ss) (sym zs) c.cycle-called.ensures.ready;

@@ -78,7 +78,7 @@ returns-clause-walk g c =
     on_ok c.push_reserve.result
     (λ q. subst (IsWalk three (form c.args.setting.now.pipe.now).pipe (form c.args.setting.now.pipe.now).widths) (sym q)
     (reserve_walk three (form c.args.setting.now.pipe.now).pipe
-    (form c.args.setting.now.pipe.now).widths s c.in_ok-wait.ensures.walk c.args.m c.in_ok-on.on c.variable-addr.result
+    (form c.args.setting.now.pipe.now).widths s c.in_ok-wait.ensures.walk c.args.m c.args.a c.in_ok-on.on c.variable-addr.result
     (on_at.there c.in_ok-on.on on_there)
     (on_at.there c.variable-addr.result addr_there) c.requires.at.memory
     (ap (λ (f : Signal). f.width) (on_at.kept c.in_ok-on.on on_there) ∙ c.in_ok-on.ensures.one)
@@ -112,7 +112,7 @@ returns-clause-parts g c =
     let on = taken_signal fs (guards_view c.args.guards.now) in
     let room_here = subst (IsThere a) (sym c.room.ensures) room.there in
     on_ok c.push_reserve.result
-    (λ q. ap (parts_in three) q ∙ reserve_parts three s (record { mem = c.args.m; on = c.in_ok-on.on; addr = c.variable-addr.result })
+    (λ q. ap (parts_in three) q ∙ reserve_parts three s (record { mem = c.args.m; var = c.args.a; on = c.in_ok-on.on; addr = c.variable-addr.result })
     ∙ reserve_made c.args.m c.args.a (parts_in three s) (parts_in two c.hold.new.self) (parts_in first_b w)
     (parts_in a w) (signal first_b c.in_ok-on.on) (signal two c.in_ok-on.on) (signal three c.in_ok-on.on) on
     (signal two c.room.result)

@@ -1,4 +1,4 @@
-use Rattle.std.proofs.Common.{◌≡◌, ◌∙◌, List, sym, ap, refl, subst, length}
+use Rattle.std.proofs.Common.{◌≡◌, ◌∙◌, Bool, true, List, sym, ap, refl, subst, length}
 use Rattle.pdl_semantics.specs.Flat as flat
 use Rattle.pdl_net.proofs.Keeps.{extends_keeps}
 use Rattle.pdl_form.specs.FormView.{form}
@@ -12,9 +12,9 @@ use Rattle.pdl_form_types.specs.Stmts.{param_widths, AreArguments}
 use Rattle.pdl_pipe_walk.proofs.Arguments.{arguments_typed, arguments_few, arguments_wide}
 use Rattle.pdl_pipe_walk.proofs.Lists.{on_ok}
 use Rattle.pdl_pipe_walk.proofs.MadeSteps.{nets_of, has_keep, bind_step, read_step, write_step, idle_step, reserve_step, block_step, release_step, call_step}
-use Rattle.pdl_law_parts.specs.Reads.{IsAtOnce}
+use Rattle.pdl_law_parts.specs.Rows.{HasRow}
 use Rattle.pdl_pipe_walk.proofs.MadeGuesses.{ask_step, check_step, barrier_step, guess_step, verify_step}
-use Rattle.pdl_pipe_walk.proofs.RowSteps.{typed_as, guards_as, step_as}
+use Rattle.pdl_pipe_walk.proofs.RowSteps.{typed_as, guards_as, last_only, step_as}
 use Rattle.pdl_pipe_walk.proofs.nets.WalkNets.statement.Goals as goal
 
 pub bind-requires-clause-low : goal.bind-requires-clause-low
@@ -36,7 +36,7 @@ pub read-requires-clause-wide : goal.read-requires-clause-wide
 read-requires-clause-wide g c = (typed_as (form c.args.setting.now.pipe.now) c.args.s.now _ c.requires.typed c.in-CombRead.is).2
 
 pub read-requires-clause-at_once : goal.read-requires-clause-at_once
-read-requires-clause-at_once g c = subst (λ (o : r_op.Op). IsAtOnce (form c.args.setting.now.pipe.now).pipe (act_view o)) c.in-CombRead.is c.requires.typed.1
+read-requires-clause-at_once g c = subst (λ (o : r_op.Op). HasRow (form c.args.setting.now.pipe.now).pipe (act_view o)) c.in-CombRead.is c.requires.typed.1
 
 pub delayed_read-requires-clause-at : goal.delayed_read-requires-clause-at
 delayed_read-requires-clause-at g c = (typed_as (form c.args.setting.now.pipe.now) c.args.s.now _ c.requires.typed c.in-DelayedRead.is).1
@@ -386,7 +386,11 @@ returns-in-Verify-clause-step g c =
     (nets_of a (form c.args.setting.now.pipe.now).pipe (form c.args.setting.now.pipe.now).widths w c.requires.walk) in
     let typed = subst (λ (o : r_op.Op). IsTypedOp (form c.args.setting.now.pipe.now) (act_view o)) c.in-Verify.is c.requires.typed.0.1 in
     let es = exprs_view c.as_slice-in-Verify.result.now in
-    let op = ap (λ (l : List r_expr.FlatExpr). flat.Verify (exprs_view l)) c.as_slice-in-Verify.ensures ∙ sym (ap act_view c.in-Verify.is) in
+    let last = last_only (form c.args.setting.now.pipe.now).pipe c.in-Verify.last (exprs_view c.in-Verify.args)
+    (subst (λ (o : r_op.Op). HasRow (form c.args.setting.now.pipe.now).pipe (act_view o)) c.in-Verify.is c.requires.typed.1) in
+    let op =
+    ap (λ (l : List r_expr.FlatExpr). flat.Verify true (exprs_view l)) c.as_slice-in-Verify.ensures
+    ∙ ap (λ (b : Bool). flat.Verify b (exprs_view c.in-Verify.args)) (sym last) ∙ sym (ap act_view c.in-Verify.is) in
     let args =
     subst
     (λ (l : List r_expr.FlatExpr). AreArguments (form c.args.setting.now.pipe.now).widths (param_widths (form c.args.setting.now.pipe.now)) (exprs_view l))
@@ -399,7 +403,7 @@ returns-in-Verify-clause-step g c =
     ∙ sym c.requires.walk.sized.guess in
     on_ok c.verify.result
     (λ q. step_as b (form c.args.setting.now.pipe.now).pipe ls tickets gs (guards_view c.args.s.now.guards)
-    (flat.Verify es) (act_view c.args.s.now.op) (walk_of (parts_in a w))
+    (flat.Verify true es) (act_view c.args.s.now.op) (walk_of (parts_in a w))
     (walk_of (parts_in b c.verify.new.self)) same op
     (verify_step b (form c.args.setting.now.pipe.now).pipe (form c.args.setting.now.pipe.now).widths ls tickets gs
     (parts_in a w) nets c.requires.walk.sized refl guards es (arguments_few ws n es args)

@@ -16,12 +16,12 @@ use Rattle.pdl_pipe_walk.proofs.Updates.{put_parts}
 use Rattle.pdl_pipe_walk.proofs.nets.WalkNets.write.Goals as goal
 
 pub value-requires-clause-walk : goal.value-requires-clause-walk
-value-requires-clause-walk c =
-    walk_more c.args.b.now c.all_taken.new.b c.all_taken.ensures.extends (form c.args.pipe.now).pipe
-    (form c.args.pipe.now).widths c.args.self.now c.requires.walk
+value-requires-clause-walk g c =
+    walk_more c.args.b.now c.all_taken.new.b c.all_taken.ensures.extends (form c.args.setting.now.pipe.now).pipe
+    (form c.args.setting.now.pipe.now).widths c.args.self.now c.requires.walk
 
 pub returns-clause-walk : goal.returns-clause-walk
-returns-clause-walk c =
+returns-clause-walk g c =
     let a = c.args.b.now in
     let one = c.all_taken.new.b in
     let w = c.args.self.now in
@@ -30,16 +30,17 @@ returns-clause-walk c =
     let after = c.value.ensures.extends in
     let far = extends_trans a one two first after in
     on_ok c.push_put.result
-    (λ q. subst (IsWalk two (form c.args.pipe.now).pipe (form c.args.pipe.now).widths) (sym q)
-    (put_walk two (form c.args.pipe.now).pipe (form c.args.pipe.now).widths w
-    (walk_more a two far (form c.args.pipe.now).pipe (form c.args.pipe.now).widths w c.requires.walk) c.args.m c.in_ok-on.on c.in_ok-net.net
-    (after.there c.in_ok-on.on c.in_ok-on.ensures.means.there) c.in_ok-net.ensures.means.there c.requires.low
+    (λ q. subst (IsWalk two (form c.args.setting.now.pipe.now).pipe (form c.args.setting.now.pipe.now).widths) (sym q)
+    (put_walk two (form c.args.setting.now.pipe.now).pipe (form c.args.setting.now.pipe.now).widths w
+    (walk_more a two far (form c.args.setting.now.pipe.now).pipe (form c.args.setting.now.pipe.now).widths w c.requires.walk) c.args.m c.args.a
+    c.in_ok-on.on c.in_ok-value.value
+    (after.there c.in_ok-on.on c.in_ok-on.ensures.means.there) c.in_ok-value.ensures.means.there c.requires.low
     (ap (λ (f : Signal). f.width) (after.kept c.in_ok-on.on c.in_ok-on.ensures.means.there) ∙ c.in_ok-on.ensures.one)
-    (c.in_ok-net.ensures.wide ∙ c.requires.wide)))
+    (c.in_ok-value.ensures.wide ∙ c.requires.wide)))
     c.push_put.ensures
 
 pub returns-clause-parts : goal.returns-clause-parts
-returns-clause-parts c =
+returns-clause-parts g c =
     let a = c.args.b.now in
     let one = c.all_taken.new.b in
     let w = c.args.self.now in
@@ -48,12 +49,12 @@ returns-clause-parts c =
     let far = extends_trans a one two first c.value.ensures.extends in
     let fs = signals_in a w.vars.items in
     on_ok c.push_put.result
-    (λ q. ap (parts_in two) q ∙ put_parts two w (record { mem = c.args.m; on = c.in_ok-on.on; value = c.in_ok-net.net })
-    ∙ put_same c.args.m (signal two c.in_ok-on.on) (taken_signal fs (guards_view c.args.guards.now))
-    (signal two c.in_ok-net.net) (value_signal fs (expr_view c.args.e.now)) (parts_in two w) (parts_in a w)
+    (λ q. ap (parts_in two) q ∙ put_parts two w (record { mem = c.args.m; var = c.args.a; on = c.in_ok-on.on; value = c.in_ok-value.value })
+    ∙ put_same c.args.m c.args.a (signal two c.in_ok-on.on) (taken_signal fs (guards_view c.args.guards.now))
+    (signal two c.in_ok-value.value) (value_signal fs (expr_view c.args.e.now)) (parts_in two w) (parts_in a w)
     (c.value.ensures.extends.kept c.in_ok-on.on c.in_ok-on.ensures.means.there ∙ c.in_ok-on.ensures.means.same)
-    (c.in_ok-net.ensures.means.same
+    (c.in_ok-value.ensures.means.same
     ∙ ap (λ (l : List Signal). value_signal l (expr_view c.args.e.now))
-    (vars_same a one first (form c.args.pipe.now).pipe (form c.args.pipe.now).widths w c.requires.walk))
-    (parts_more a two far (form c.args.pipe.now).pipe (form c.args.pipe.now).widths w c.requires.walk))
+    (vars_same a one first (form c.args.setting.now.pipe.now).pipe (form c.args.setting.now.pipe.now).widths w c.requires.walk))
+    (parts_more a two far (form c.args.setting.now.pipe.now).pipe (form c.args.setting.now.pipe.now).widths w c.requires.walk))
     c.push_put.ensures

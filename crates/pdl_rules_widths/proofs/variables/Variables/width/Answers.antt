@@ -3,7 +3,7 @@ use Rattle.std.proofs.Common.{Some, None}
 use Rattle.pdl_rules_widths.proofs.variables.Variables.width.Goals as goal
 
 pub returns-in-Some : goal.returns-in-Some
-returns-in-Some c = width_found c.self.inside.widths.entries _ _ (Some c.in-Some.width.now) c.in-Some.ensures.value c.self.view_is
+returns-in-Some c = width_found c.self.inside.types.entries _ _ (Some c.in-Some.of.now) c.in-Some.ensures.value c.self.view_is
 
 pub returns-in-None : goal.returns-in-None
-returns-in-None c = width_found c.self.inside.widths.entries _ _ None c.in-None.ensures.value c.self.view_is
+returns-in-None c = width_found c.self.inside.types.entries _ _ None c.in-None.ensures.value c.self.view_is

@@ -31,7 +31,7 @@ run_turn-requires-clause-room c =
     (c.begin.ensures.run (form c.self.inside.pipe.now) c.self.invariant.runnable c.self.invariant.fit) in
     let most = few f c.self.invariant.runnable (arrays_of c.self.inside.turn.memories.items) c.self.inside.turn.next.items in
     let same : vec_capacity c.begin.new.turn.commits ≡ vec_capacity c.self.inside.turn.commits = ap (λ (r : Rooms). r.commits) c.begin.ensures.rooms in
-    let room : 16 ≤ vec_capacity c.self.inside.turn.commits = c.self.invariant.commits in
+    let room : 32 ≤ vec_capacity c.self.inside.turn.commits = c.self.invariant.commits in
     omega arith
 
 pub tell-requires : goal.tell-requires
@@ -73,7 +73,7 @@ invariant_of-self c =
       runnable = c.self.invariant.runnable;
       fit = c.run_turn.ensures.fit;
       next = subst (λ (r : Rooms). length f.pipe.start ≤ r.next) (sym same) c.self.invariant.next;
-      commits = subst (λ (r : Rooms). 16 ≤ r.commits) (sym same) c.self.invariant.commits;
+      commits = subst (λ (r : Rooms). 32 ≤ r.commits) (sym same) c.self.invariant.commits;
       writes =
           room_same c.self.inside.streams (vec_len c.tell.new.writes)
           (vec_len c.forget.new.writes + length c.as_slice.result.now)
