@@ -2,9 +2,11 @@
 """Makes and checks the programs of examples/riscv, where riscv64-unknown-elf-gcc, qemu-riscv32 and gcc are installed.
 
     riscv.py make                   compiles each program of examples/riscv/c at -O2 and -Os, and writes its image
-                                    and its line of examples/riscv/expected
+                                    and its line of examples/riscv/expected; some with multiplication too, for RV32IM,
+                                    with lines of examples/riscv/expected_rv32im
     riscv.py check PDL [LEVEL ..]   compiles each at these levels (-O0 -O1 -O2 -Os where none is named), and runs it
-                                    by the program PDL on each version of the core
+                                    by the program PDL on each version of the core; with multiplication on the one
+                                    that has it
     riscv.py verilator PDL          runs the prebuilt images on the netlists of all versions by Verilator, which has
                                     to print each line that PDL prints
     riscv.py figures PDL            runs the prebuilt images with each lock, and writes the tables of docs/riscv.md
@@ -15,6 +17,7 @@ memory at its end. The last two commands need no compiler for RISC-V.
 """
 
 import hashlib
+import itertools
 import os
 import re
 import subprocess
@@ -24,14 +27,16 @@ import tempfile
 import riscv_cores
 import riscv_verilator
 import usage
-from riscv_cores import CORES, SLOW, VERSIONS
+from riscv_cores import CORES, MULTIPLIES, SLOW, VERSIONS
 
 sys.path.insert(0, str(CORES))
 import elf_image
 import rv32i_model
 
 NAMES = "access compares crc fib float jumps loops matrix queens sha256 sort strings".split()
-FLAGS = ("-march=rv32i -mabi=ilp32 -ffreestanding -fno-builtin -nostdlib -nostartfiles -static -Wall -Wextra "
+# Those that multiply and divide, for RV32IM.
+MULTIPLYING = "float jumps matrix products".split()
+FLAGS = ("-mabi=ilp32 -ffreestanding -fno-builtin -nostdlib -nostartfiles -static -Wall -Wextra "
          "-Wl,--build-id=none -Wl,--no-warn-rwx-segments -T link.ld crt0.S lib.c").split()
 COMPILER = "riscv64-unknown-elf-gcc"
 
@@ -57,11 +62,12 @@ def native(name, folder):
 
 
 class Program:
-    """A program at one level of optimisation: its memory at the start, the model's run, and where its result stands."""
+    """A program at one level of optimisation, for RV32I or RV32IM: its memory at the start, the model's run, and where its result stands."""
 
-    def __init__(self, name, level, folder):
-        stem = os.path.join(folder, "%s_%s" % (name, level))
-        run([COMPILER, "-" + level] + FLAGS + [name + ".c", "-lgcc", "-o", stem])
+    def __init__(self, name, level, folder, architecture="rv32i"):
+        self.stem = "_".join([name, *(["m"] if architecture == "rv32im" else []), level])
+        stem = os.path.join(folder, self.stem)
+        run([COMPILER, "-" + level, "-march=" + architecture] + FLAGS + [name + ".c", "-lgcc", "-o", stem])
         with open(stem, "rb") as stream:
             self.memory = elf_image.memory_of(stream.read())
         self.name, self.level, self.model = name, level, rv32i_model.Model(self.memory).run()
@@ -85,7 +91,7 @@ class Program:
         return hashlib.sha256("".join(lines).encode()).hexdigest()
 
     def expected(self):
-        return "%s_%s %d %d %08x %s" % (self.name, self.level, self.model.count, self.place, self.result, self.digest())
+        return "%s %d %d %08x %s" % (self.stem, self.model.count, self.place, self.result, self.digest())
 
     def is_right(self, run):
         """Whether each write of a run is the model's, and the memory at its end qemu's."""
@@ -96,30 +102,30 @@ class Program:
 
 
 def make(folder):
-    with open(CORES / "expected", "w") as table:
-        print("# a program and its level, its instructions, where its result stands in data, the result, "
-              "and SHA-256 of its writes", file=table)
-        for name in NAMES:
-            for level in ("O2", "Os"):
-                program = Program(name, level, folder)
-                (CORES / "images" / f"{name}_{level}.img").write_text(program.image())
-                print(program.expected(), file=table)
+    for architecture, names, file in ("rv32i", NAMES, "expected"), ("rv32im", MULTIPLYING, "expected_rv32im"):
+        with open(CORES / file, "w") as table:
+            print("# a program and its level, its instructions, where its result stands in data, the result, "
+                  "and SHA-256 of its writes", file=table)
+            for name in names:
+                for level in ("O2", "Os"):
+                    program = Program(name, level, folder, architecture)
+                    (CORES / "images" / f"{program.stem}.img").write_text(program.image())
+                    print(program.expected(), file=table)
 
 
 def check(pdl, levels, folder):
     say_versions(COMPILER, "qemu-riscv32")
     wrong = runs = 0
-    for name in NAMES:
-        for level in levels or ("O0", "O1", "O2", "Os"):
-            program = Program(name, level, folder)
-            for version in VERSIONS:
-                runs += 1
-                stem = os.path.join(folder, "run%d" % runs)
-                found = riscv_cores.run_core(pdl, version, program.image(), version.cycles * program.model.count, stem)
-                right = program.is_right(found)
-                wrong += not right
-                says = f"right: {program.model.count} instructions in {found.last()} cycles" if right else "WRONG"
-                print(f"{name:9} -{level} {version.name:22} {says}", flush=True)
+    for architecture, names, versions in ("rv32i", NAMES, VERSIONS), ("rv32im", MULTIPLYING, [MULTIPLIES]):
+        for name, level, version in itertools.product(names, levels or ("O0", "O1", "O2", "Os"), versions):
+            program = Program(name, level, folder, architecture)
+            runs += 1
+            stem = os.path.join(folder, "run%d" % runs)
+            found = riscv_cores.run_core(pdl, version, program.image(), version.cycles * program.model.count, stem)
+            right = program.is_right(found)
+            wrong += not right
+            says = f"right: {program.model.count} instructions in {found.last()} cycles" if right else "WRONG"
+            print(f"{name:9} -{level} {version.name:22} {says}", flush=True)
     print(f"runs {runs} wrong {wrong}")
     return wrong
 

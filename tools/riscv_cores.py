@@ -53,8 +53,9 @@ VERSIONS = (
     Version("with a guess", "rv32i_guess.pdl", 3),
     Version("with delayed memories", "rv32i_delayed.pdl", 3),
     Version("the same, slow", "rv32i_delayed.pdl", 5, slow=True),
+    Version("with a multiplier in an inner branch", "rv32im.pdl", 4),
 )
-SINGLE, FIVE, GUESS, DELAYED, LATE = VERSIONS
+SINGLE, FIVE, GUESS, DELAYED, LATE, MULTIPLIES = VERSIONS
 
 # What can be guessed, and the line that guesses it.
 GUESS_LINE = r"(?m)^    next = spec_call\(.*\);$"

@@ -1,4 +1,4 @@
-"""A model of RV32I, written from the manual of the instruction set and not from the cores: what a program writes."""
+"""A model of RV32IM, written from the manual of the instruction set and not from the cores: what a program writes."""
 import struct
 
 ALL = 0xffffffff
@@ -43,6 +43,28 @@ def arithmetic(kind, other, a, b):
         6: a | b,
         7: a & b,
     }[kind]
+
+
+def divided(a, b, bits):
+    """Quotient, cut towards zero, and remainder, as the manual has them also of a division by zero and of one that overflows."""
+    if b == 0:
+        return (1 << bits) - 1, a
+    quotient = abs(a) // abs(b) * (1 if (a < 0) == (b < 0) else -1)
+    return quotient, a - quotient * b
+
+
+def multiplied(kind, a, b):
+    """What the unit for multiplication and division makes of two words."""
+    return {
+        0: lambda: a * b,
+        1: lambda: signed(a) * signed(b) >> 32,
+        2: lambda: signed(a) * b >> 32,
+        3: lambda: a * b >> 32,
+        4: lambda: divided(signed(a), signed(b), 32)[0],
+        5: lambda: divided(a, b, 32)[0],
+        6: lambda: divided(signed(a), signed(b), 32)[1],
+        7: lambda: divided(a, b, 32)[1],
+    }[kind]()
 
 
 class Model:
@@ -98,11 +120,12 @@ class Model:
         elif major == 0x13:                                                 # with a constant
             self.set(d, arithmetic(kind, kind == 5 and field(word, 30, 30), a, imm_i(word) & ALL))
         elif major == 0x33:                                                 # with two registers
-            self.set(d, arithmetic(kind, field(word, 30, 30), a, b))
+            multiplies = field(word, 31, 25) == 1
+            self.set(d, multiplied(kind, a, b) if multiplies else arithmetic(kind, field(word, 30, 30), a, b))
         elif major == 0x73:                                                 # ECALL, EBREAK
             return False
         elif major != 0x0f:                                                 # FENCE does nothing
-            raise ValueError("the word %08x at %x is no instruction of RV32I" % (word, self.pc))
+            raise ValueError("the word %08x at %x is no instruction of RV32IM" % (word, self.pc))
         self.pc, self.count = after & ALL, self.count + 1
         return True
 
