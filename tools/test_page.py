@@ -5,10 +5,12 @@
 
 PDL is the program. A page has the cells and names of the drawing, the lines of `pdl run`, as many waits as these say, and of
 some threads what is written here; it wants no other file. A picture has as many cells, commits, crossings and waits as the
-page. Where Node.js is installed, it has to read the page's script.
+page. Where Node.js is installed, it has to read the page's script. What docs/tour.md and docs/using.md say is typed, as it is
+written there; the picture that it makes is the one of the tour.
 """
 
 import json
+import os
 import pathlib
 import re
 import shutil
@@ -108,12 +110,38 @@ def wrong(program, words, known, folder):
     yield from wrong_picture(picture.read_text(), run)
 
 
+def typed(program, folder):
+    """Runs what the pages say is typed, in folders like examples/ and like the top, and says what is wrong with what it writes."""
+    (folder / "bin").mkdir()
+    (folder / "bin" / "pdl").symlink_to(program)
+    (folder / "pdl").symlink_to(program)
+    for name in ("examples", "tools"):
+        (folder / name).symlink_to(TOP / name)
+    inside = folder / "inside"
+    inside.mkdir()
+    for path in (TOP / "examples").iterdir():
+        (inside / path.name).symlink_to(path)
+    path = os.pathsep.join([str(folder / "bin"), str(TOP / "tools"), os.environ["PATH"]])
+    for page, where, count in (("tour.md", inside, 2), ("using.md", folder, 1)):
+        lines = re.findall(r"(?m)^ *((?:tools/)?pipeline\.py .*--(?:html|svg) (\S+))$", (TOP / "docs" / page).read_text())
+        if len(lines) != count:
+            yield f"docs/{page} has {len(lines)} commands that write a page or a picture"
+        for line, file in lines:
+            ran = subprocess.run(["bash", "-c", line], cwd=where, env={**os.environ, "PATH": path}, capture_output=True, text=True)
+            if ran.returncode or ran.stdout or not (where / file).exists():
+                yield f"docs/{page}: {line}: {(ran.stdout + ran.stderr)[-400:]}"
+    if (inside / "guess.svg").read_text() != (TOP / "docs" / "guess.svg").read_text():
+        yield "docs/guess.svg is not the picture that docs/tour.md says it is"
+
+
 def main():
     program = usage.program(usage.words(__doc__, 1, 1)[0])
     with tempfile.TemporaryDirectory() as name:
-        found = [f"{words[0]}: {it}" for words, known in RUNS for it in wrong(program, words, known, pathlib.Path(name))]
+        folder = pathlib.Path(name)
+        found = [f"{words[0]}: {it}" for words, known in RUNS for it in wrong(program, words, known, folder)]
+        found += typed(program, folder)
     print("".join(f"{it}\n" for it in found), end="")
-    print(f"runs {len(RUNS)} wrong {len(found)}")
+    print(f"runs {len(RUNS)}, wrong {len(found)}")
     return 1 if found else 0
 
 
