@@ -28,8 +28,3 @@ def stage_names(text, layout):
             line = it.statement.line
             names[it.stage] = name_in(lines[line], "---") or name_in(lines[line + 1], "")
     return names
-
-
-def with_names(names):
-    """Of each stage its number, with its name behind it where it has one."""
-    return [f"stage {stage}{f', {name}' if name else ''}" for stage, name in enumerate(names)]
