@@ -20,7 +20,7 @@ class Told:
 
     values    of each variable its value, the last one that it had
     reasons   of each cycle in which the thread doesn't move, the letter of why
-    causes    of the same cycles what of the run is the reason, in words
+    causes    of the same cycles what of the run is the reason, in words; where it is squashed, who does that
     commits   of a cycle what memories receive of the thread: a memory, an address and a value each
     """
 
@@ -121,7 +121,7 @@ def take_in(cycle, number, told):
         it.values.update((cycle.deeds[stage] or thread).values)
         if not cycle.moves[stage]:
             it.reasons[number] = letter = cycle.reason(stage)
-            it.causes[number] = cycle.cause(stage, letter)
+            it.causes[number] = cycle.cause(stage, "x" if conditions.fails_later(cycle.deeds, cycle.moves, stage) else letter)
 
 
 def modelled(layout, image, rows, replies):
