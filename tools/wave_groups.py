@@ -17,6 +17,8 @@ import usage
 from pdl_model import rules, syntax
 from port_groups import group_of, grouped, title
 
+# The window, its columns, and how long a cycle is; no marker is set.
+HEAD = ["[timestart] 0", "[size] 1400 900", "[sst_expanded] 0", "[signals_width] 280", "*-1.000000" + 27 * " -1"]
 # How GTKWave shows what comes next: a bit, a number in hexadecimal or in decimal; the ends of a group, and of a closed one.
 BIT, HEXADECIMAL, DECIMAL = "@28", "@22", "@24"
 BEGIN, END, BEGIN_CLOSED, END_CLOSED = "@800200", "@1000200", "@c00200", "@1401200"
@@ -82,11 +84,12 @@ def carried(found):
 def saved(found, names):
     """The lines of the save file. What a stage only carries on stands in a closed group inside its own."""
     late = carried(found)
-    yield "[timestart] 0"
-    yield "[sst_expanded] 1"
+    yield from HEAD
     for group, shown in found.items():
         yield from (BEGIN, f"-{names[group]}")
-        yield from (line for it in shown if it not in late[group] for line in (it.format(), it.path()))
+        ports = [it for it in shown if group_of(it.name)]
+        own = sorted((it for it in shown if it not in ports + late[group]), key=lambda it: it.name not in OWN)
+        yield from (line for it in ports + own for line in (it.format(), it.path()))
         if late[group]:
             yield from (BEGIN_CLOSED, "-carried on")
             yield from (line for it in late[group] for line in (it.format(), it.path()))
