@@ -8,7 +8,7 @@ HEAD = "# Completes the words of pdl for {}. Written by tools/installed_files.py
 
 BASH = """{head}
 _pdl() {{
-    local IFS=$' \\t\\n' word=${{COMP_WORDS[COMP_CWORD]}} before=${{COMP_WORDS[COMP_CWORD - 1]}} endings= delays= place=0 k
+    local IFS=$' \\t\\n' word=${{COMP_WORDS[COMP_CWORD]}} before=${{COMP_WORDS[COMP_CWORD - 1]}} endings='' delays='' place=0 k
     COMPREPLY=()
     if [ "$COMP_CWORD" -eq 1 ]; then
         COMPREPLY=($(compgen -W "{names}" -- "$word"))
@@ -21,7 +21,7 @@ _pdl() {{
     # An option and its value may stand anywhere, and bash takes `=` for a word.
     for ((k = 2; k < COMP_CWORD; k++)); do
         case ${{COMP_WORDS[k]}} in
-            --delays) delays= k=$((k + 1)); [ "${{COMP_WORDS[k]}}" != = ] || k=$((k + 1)) ;;
+            --delays) delays='' k=$((k + 1)); [ "${{COMP_WORDS[k]}}" != = ] || k=$((k + 1)) ;;
             *) place=$((place + 1)) ;;
         esac
     done

@@ -61,7 +61,7 @@ def manual():
     commands = section(page, "The commands")
     lines = [
         '.\\" Written by tools/installed_files.py from README.md and docs/images.md.',
-        '.TH PDL 1 "" "pdl" "User commands"',
+        '.TH PDL 1 "" "pdl" "User commands"', ".nh",
         ".SH NAME", "pdl \\- run processors written in PDL, and compile them to Verilog",
         ".SH SYNOPSIS", "\n.br\n".join(call(it) for it in listed()),
         ".SH DESCRIPTION", *parts(re.search(r"^# pdl\n\n(.*?)^Status:", page, re.M | re.S)[1]),
