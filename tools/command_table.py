@@ -4,6 +4,8 @@ import pathlib
 import re
 from dataclasses import dataclass
 
+import usage
+
 TOP = pathlib.Path(__file__).resolve().parent.parent
 # Where the program is told its commands.
 APP = TOP / "crates" / "pdl_cli_args" / "src" / "app.rt"
@@ -31,7 +33,8 @@ def readme():
 
 def section(page, title):
     """What stands below a heading of a page."""
-    return re.search(rf"^## {title}\n\n(.*?)(?=^## |\Z)", page, re.M | re.S)[1]
+    found = re.search(rf"^## {title}\n\n(.*?)(?=^## |\Z)", page, re.M | re.S)
+    return found[1] if found else usage.ends(f"a page has no heading `{title}`")
 
 
 def listed():

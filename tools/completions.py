@@ -67,6 +67,11 @@ esac
 """
 
 
+def unknown():
+    """The words of commands of which ENDINGS says nothing."""
+    return sorted({word for it in listed() for word in it.words} - set(ENDINGS))
+
+
 def bash():
     """The completions for bash."""
     cases = []

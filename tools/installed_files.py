@@ -25,7 +25,8 @@ def main():
     if words not in ([], ["--write"]):
         usage.ends(f"`{words[0]}` is no option of it")
     wrong = list(command_table.complaints())
-    for name, text in texts().items():
+    wrong += [f"tools/completions.py does not say which files {word} names" for word in completions.unknown()]
+    for name, text in () if wrong else texts().items():
         file = FOLDER / name
         if words:
             FOLDER.mkdir(exist_ok=True)
