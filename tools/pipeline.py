@@ -1,18 +1,22 @@
 #!/usr/bin/env python3
 """Draws the run of a pipe as books on processors do: a row for each thread, a column for each cycle.
 
-    pipeline.py PDL SOURCE IMAGE CYCLES [--delays FILE] [--konata FILE] [--show NAME ..] [--table TABLE] [--why]
+    pipeline.py PDL SOURCE IMAGE CYCLES [--delays FILE] [--show NAME ..] [--table TABLE] [--why]
+                [--html FILE] [--svg FILE] [--konata FILE]
 
 PDL is the program. Which stages hold a thread in each cycle, and which of these threads move, are what `pdl view` prints;
 in which cycles younger threads are squashed is the port `squash` of `pdl wave`. A cell has the number of the stage in which
-the thread stands, with `*` where it doesn't move and `x` where it is squashed in that cycle. With --konata the same goes
-into a file that the viewer Konata opens.
+the thread stands, with `*` where it doesn't move and `x` where it is squashed in that cycle.
 
 With --show each row begins with the values of these variables of its thread, `pc` and `word` for one. They are those of the
 model in tools/pdl_model, which has to stand where the program says, cycle by cycle. With --table a word of the table's
 memory is shown as the instruction that it is with the table of `pdl asm`. With --why a letter stands in the place of `*`, by
 the model likewise: the first of the conditions of docs/machine.md that keeps the thread where it is. Below the drawing stands
 how often each did so in each stage, and how often threads were squashed there.
+
+With --html the drawing goes into FILE instead, as a page for a browser, which needs nothing else. There it can be searched
+and enlarged, and tells of each cell why the thread stands there, and what memories receive. With --svg it goes into FILE as
+a picture, for short runs. Both have the letters of --why. With --konata the run goes into a file that the viewer Konata opens.
 """
 
 import collections
@@ -21,18 +25,11 @@ import subprocess
 import sys
 
 import listing
+import pipeline_page
 import usage
 from pdl_model import files, rules
 from pdl_model.dump import Wave
-from pdl_model import moves as conditions
-from pdl_model.deeds import carry_out
-from pdl_model.machine import Machine
-
-# Why a thread doesn't move, in the order in which it is asked.
-REASONS = {
-    "a": "awaits an answer", "l": "a lock isn't ready", "x": "squashed by a later stage", "r": "a lock has no room",
-    "p": "the port of a delayed memory isn't free", "b": "a barrier waits", "n": "the next stage is taken",
-    "o": "an older thread is in the other branch"}
+from pipeline_model import REASONS, Told, modelled
 
 
 class Thread:
@@ -45,19 +42,20 @@ class Thread:
         self.moves = []
         self.is_squashed = False
         self.label = ""
-        self.reasons = {}
+        self.told = Told()
 
     def stands(self, stage, moves):
         self.stages.append(stage)
         self.moves.append(moves)
 
-    def cells(self):
-        """What is shown of each cycle from the first one on."""
-        shown = [f"{stage}{'' if moves else self.reasons.get(self.begun + k, '*')}"
+    def cells(self, has_reasons):
+        """What is shown of each cycle in which it is there: its stage, with why it doesn't move."""
+        reasons = self.told.reasons if has_reasons else {}
+        shown = [f"{stage}{'' if moves else reasons.get(self.begun + k, '*')}"
                  for k, (stage, moves) in enumerate(zip(self.stages, self.moves))]
         if self.is_squashed:
             shown[-1] = f"{self.stages[-1]}x"
-        return [""] * (self.begun - 1) + shown
+        return shown
 
 
 def ways_on(layout, stage):
@@ -111,14 +109,15 @@ def followed(layout, rows, squashes):
     return threads
 
 
-def chart(threads, cycles):
+def chart(threads, cycles, has_reasons):
     """The lines of the drawing."""
-    width = max([len(str(cycles)), *(len(cell) for it in threads for cell in it.cells())]) + 1
+    rows = [it.cells(has_reasons) for it in threads]
+    width = max([len(str(cycles)), *(len(cell) for row in rows for cell in row)]) + 1
     names = [f"{it.number} {it.label}".rstrip() for it in threads]
     first = max(len("thread"), *(len(it) for it in names)) if names else len("thread")
     lines = [f"{'thread':<{first}}" + "".join(f"{cycle:>{width}}" for cycle in range(1, cycles + 1))]
-    for it, name in zip(threads, names):
-        lines.append(f"{name:<{first}}" + "".join(f"{cell:>{width}}" for cell in it.cells()))
+    for it, name, row in zip(threads, names, rows):
+        lines.append(f"{name:<{first}}" + " " * width * (it.begun - 1) + "".join(f"{cell:>{width}}" for cell in row))
     return lines
 
 
@@ -144,56 +143,10 @@ def konata(threads, cycles):
     return lines
 
 
-def reason(layout, state, answers, deeds, moves, stage):
-    """The letter of the first condition that keeps the thread of a stage where it is."""
-    own = deeds[stage]
-    if own is None:
-        return "a" if set(state.stages[stage].awaited()) - set(answers) else "l"
-    return next(letter for letter, holds in {
-        "x": not conditions.fails_later(deeds, moves, stage),
-        "r": conditions.have_room(layout, state, own),
-        "p": conditions.ports_free(state, answers, moves, own),
-        "b": conditions.barrier_clear(layout, state, own, stage),
-        "n": conditions.can_enter(layout, state, own, moves, stage),
-        "o": conditions.merges_well(layout, state, own, stage)}.items() if not holds)
-
-
-def reasons(layout, state, replies):
-    """For each thread that stands in this cycle, by its number, the letter of why."""
-    answers = {name: state.arrays[name][it.address] for name, it in state.requests.items() if it and name in replies}
-    deeds = [carry_out(layout, state, stage, answers) if thread else None for stage, thread in enumerate(state.stages)]
-    moves = conditions.moving(layout, state, deeds, answers)
-    return {thread.number: reason(layout, state, answers, deeds, moves, stage)
-            for stage, thread in enumerate(state.stages) if thread and not moves[stage]}
-
-
-def modelled(layout, image, rows, replies):
-    """By the model, for each thread in the order in which they begin: what it binds, and why it stands in which cycle.
-
-    The threads have to stand as in the rows.
-    """
-    machine, found, why = Machine(layout, image), {}, {}
-    for cycle, row in enumerate(rows):
-        stages = machine.state.stages
-        if [thread is not None for thread in stages] != [letter != "." for letter in row]:
-            raise SystemExit(f"pipeline.py: in cycle {cycle + 1} the model stands otherwise than `pdl view` says")
-        for thread in stages:
-            if thread:
-                found.setdefault(thread.number, {}).update(thread.values)
-        bits = files.replies_of(layout.pipe, replies, cycle + 1)
-        for number, letter in reasons(layout, machine.state, bits).items():
-            why.setdefault(number, {})[cycle + 1] = letter
-        machine.cycle(bits)
-        for thread in machine.state.stages:
-            if thread:
-                found.setdefault(thread.number, {}).update(thread.values)
-    return [(found[number], why.get(number, {})) for number in sorted(found)]
-
-
 def counted(threads):
     """How often threads stood in each stage, by the reason, the most first."""
     found = collections.Counter(
-        (it.reasons[it.begun + k], stage) for it in threads for k, (stage, moves) in enumerate(zip(it.stages, it.moves))
+        (it.told.reasons[it.begun + k], stage) for it in threads for k, (stage, moves) in enumerate(zip(it.stages, it.moves))
         if not moves)
     return [f"{letter}  stage {stage}: {count} times, {REASONS[letter]}" for (letter, stage), count in found.most_common()]
 
@@ -216,7 +169,37 @@ def squashes_of(program, layout, words, cycles):
     return [wave.value(port, cycle) == 1 for cycle in range(1, cycles + 1)]
 
 
-def main():
+def tell(threads, layout, rows, asked, replies):
+    """Adds to the threads what the model tells of them, and gives the cycles that are waits."""
+    image = files.read_image(layout.pipe, pathlib.Path(asked.image).read_text())
+    found, waits = modelled(layout, image, rows, replies)
+    table = listing.read(asked.table) if asked.table else None
+    for name in asked.show:
+        if not any(name in it.values for it in found):
+            usage.ends(f"no thread has a variable `{name}`")
+    for thread, told in zip(threads, found):
+        thread.told = told
+        thread.label = listing.label(asked.show, told.values, table)
+    return waits
+
+
+def written(threads, layout, waits, asked, words):
+    """Writes the files that are asked for, and says whether one of them is in the place of the drawing."""
+    if asked.html or asked.svg:
+        title = f"{pathlib.Path(asked.source).name} on {pathlib.Path(asked.image).name}"
+        text = pathlib.Path(asked.source).read_bytes().decode("utf-8", "replace")
+        run = pipeline_page.Run(title, layout, text, threads, waits, said([asked.program, "run", *words]).splitlines())
+        if asked.html:
+            pathlib.Path(asked.html).write_text(run.page())
+        if asked.svg:
+            pathlib.Path(asked.svg).write_text(run.picture())
+    if asked.konata:
+        pathlib.Path(asked.konata).write_text("\n".join(konata(threads, asked.cycles)) + "\n")
+    return bool(asked.html or asked.svg)
+
+
+def asked_for():
+    """The words of the call."""
     usage.helps(__doc__)
     asked = usage.Words()
     asked.add_argument("program")
@@ -224,31 +207,29 @@ def main():
     asked.add_argument("image")
     asked.add_argument("cycles", type=usage.number)
     asked.add_argument("--delays")
+    asked.add_argument("--html")
+    asked.add_argument("--svg")
     asked.add_argument("--konata")
     asked.add_argument("--show", nargs="+", default=[])
     asked.add_argument("--table")
     asked.add_argument("--why", action="store_true")
-    it = asked.parse_args()
-    words = [it.source, it.image, str(it.cycles), *(["--delays", it.delays] if it.delays else [])]
-    rows = [line.split(" ")[1] for line in said([it.program, "view", *words]).splitlines()]
-    layout = rules.checked(pathlib.Path(it.source).read_bytes().decode("latin-1"))
-    threads = followed(layout, rows, squashes_of(it.program, layout, words, it.cycles))
-    if it.show or it.why:
-        text = pathlib.Path(it.delays).read_text() if it.delays else ""
-        image = files.read_image(layout.pipe, pathlib.Path(it.image).read_text())
-        found = modelled(layout, image, rows, files.read_delays(layout.pipe, text) if it.delays else [])
-        table = listing.read(it.table) if it.table else None
-        for name in it.show:
-            if not any(name in bound for bound, _ in found):
-                usage.ends(f"no thread has a variable `{name}`")
-        for thread, (bound, why) in zip(threads, found):
-            thread.label = listing.label(it.show, bound, table)
-            thread.reasons = why if it.why else {}
-    print("\n".join(chart(threads, it.cycles)))
-    if it.why:
-        print("\n".join(["", *counted(threads)]))
-    if it.konata:
-        pathlib.Path(it.konata).write_text("\n".join(konata(threads, it.cycles)) + "\n")
+    return asked.parse_args()
+
+
+def main():
+    asked = asked_for()
+    words = [asked.source, asked.image, str(asked.cycles), *(["--delays", asked.delays] if asked.delays else [])]
+    rows = [line.split(" ")[1] for line in said([asked.program, "view", *words]).splitlines()]
+    layout = rules.checked(pathlib.Path(asked.source).read_bytes().decode("latin-1"))
+    threads = followed(layout, rows, squashes_of(asked.program, layout, words, asked.cycles))
+    waits = []
+    if asked.show or asked.why or asked.html or asked.svg:
+        replies = files.read_delays(layout.pipe, pathlib.Path(asked.delays).read_text()) if asked.delays else []
+        waits = tell(threads, layout, rows, asked, replies)
+    if not written(threads, layout, waits, asked, words):
+        print("\n".join(chart(threads, asked.cycles, asked.why)))
+        if asked.why:
+            print("\n".join(["", *counted(threads)]))
 
 
 if __name__ == "__main__":

@@ -90,9 +90,9 @@ class Expected:
         return (CORES / "images" / f"{self.name}.img").read_text()
 
 
-def expected():
-    """The prebuilt programs."""
-    lines = [it.split() for it in (CORES / "expected").read_text().splitlines() if not it.startswith("#")]
+def expected(table="expected"):
+    """The prebuilt programs of a table."""
+    lines = [it.split() for it in (CORES / table).read_text().splitlines() if not it.startswith("#")]
     return [Expected(name, int(count), int(place), int(word, 16), digest) for name, count, place, word, digest in lines]
 
 
@@ -144,11 +144,16 @@ class Figures:
 
     def per_cycle(self, version):
         """Instructions a cycle, of a version all of whose writes are the expected ones."""
+        lasts = self.cycles(version, self.programs)
+        return f"{sum(program.instructions for program, _ in self.programs) / sum(lasts):.2f}"
+
+    def cycles(self, version, programs):
+        """The cycle of the last write of each program, of a version all of whose writes are the expected ones."""
         self.count += 1
         stem = self.folder / f"figure{self.count}"
         stem.mkdir()
 
-        def cycles(pair):
+        def last(pair):
             program, image = pair
             for times in (2, 4, 10):
                 folder = stem / f"{program.name}_{times}"
@@ -158,8 +163,7 @@ class Figures:
             raise SystemExit(f"{program.name}: other writes than the model's, of {version}")
 
         with ThreadPoolExecutor(os.cpu_count()) as workers:
-            lasts = list(workers.map(cycles, self.programs))
-        return f"{sum(program.instructions for program, _ in self.programs) / sum(lasts):.2f}"
+            return list(workers.map(last, programs))
 
     def versions(self):
         """The table of the versions as they stand."""
@@ -176,6 +180,22 @@ class Figures:
             figures = (self.per_cycle(it.with_change(LOCK_OF_X, r"\g<1>" + lock)) for it in shown)
             rows.append(f"| `{lock}` | " + " | ".join(figures) + " |")
         return rows
+
+    def products(self):
+        """The table of the programs that multiply, by the core that does and by the one that guesses and doesn't."""
+        rows = ["| program | with software multiplication, on `rv32i_guess.pdl` | on `rv32im.pdl` |", "|---|---|---|"]
+        software = {it.name: it for it in expected()}
+        for program in expected("expected_rv32im"):
+            cells = []
+            for version, it in ((GUESS, software.get(program.name.replace("_m_", "_"))), (MULTIPLIES, program)):
+                cells.append(self.told(version, it) if it else "")
+            rows.append(f"| `{program.name}` | " + " | ".join(cells) + " |")
+        return rows
+
+    def told(self, version, program):
+        """The instructions of a program, its cycles by a version, and the one over the other."""
+        last, = self.cycles(version, [(program, program.image())])
+        return f"{program.instructions:,} in {last:,} cycles: {program.instructions / last:.2f}"
 
     def guesses(self):
         """The table of what can be guessed, and of what else a line can change there."""

@@ -3,12 +3,14 @@
 
     test_pipeline.py [PIPES [SEED]]
 
-It gives pipeline.py the lines of `view` and the squashes, and compares the rows with the threads of the model.
+It gives pipeline.py the lines of `view` and the squashes, and compares the rows with the threads of the model. What is told of
+the threads has to name a reason and a cause for each cycle in which one doesn't move, and the commits and waits of the run.
 """
 
 import random
 
 import pipeline
+import pipeline_model
 import random_whole
 import usage
 from pdl_model import files, rules
@@ -40,9 +42,23 @@ def is_followed(chance):
     image, delays = made.image(), made.delay_rows(CYCLES)
     rows = files.read_delays(layout.pipe, delays)
     due, squashes = watched(layout, files.read_image(layout.pipe, image), rows)
-    lines = files.view_lines(layout, files.read_image(layout.pipe, image), CYCLES, rows)
-    came = pipeline.followed(layout, [line.split(" ")[1] for line in lines], squashes)
-    return due == {it.number: dict(enumerate(it.stages, it.begun)) for it in came}
+    lines = [line.split(" ")[1] for line in files.view_lines(layout, files.read_image(layout.pipe, image), CYCLES, rows)]
+    came = pipeline.followed(layout, lines, squashes)
+    is_found = due == {it.number: dict(enumerate(it.stages, it.begun)) for it in came}
+    words = files.read_image(layout.pipe, image)
+    modelled = pipeline_model.modelled(layout, words, lines, rows)
+    return is_found and is_told(layout, came, modelled, files.run_lines(layout, words, CYCLES, rows))
+
+
+def is_told(layout, threads, modelled, lines):
+    """Whether what is told of the threads has the cycles in which they don't move, and the commits and waits of the run."""
+    told, waits = modelled
+    stalls = [{it.begun + k for k, moves in enumerate(it.moves) if not moves} for it in threads]
+    commits = [f"{cycle} {memory} {address} {files.digits(value, layout.pipe.memory(memory).width)}"
+               for it in told for cycle, found in it.commits.items() for memory, address, value in found]
+    causes = [{cycle for cycle, cause in it.causes.items() if cause} for it in told]
+    return (stalls == [set(it.reasons) for it in told] == causes
+            and sorted(commits) == sorted(lines[:-1]) and f" waits {len(waits)} " in lines[-1])
 
 
 def main():

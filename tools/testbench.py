@@ -3,18 +3,25 @@
 
 PDL is the program. Into FOLDER go `core.v`, the text of `pdl build`; a `.hex` file for each memory, with the words of IMAGE;
 `ram.v`, the memory of docs/using.md, where a memory is delayed; and `bench.v`, which resets the module, puts the words in,
-prints the commits of CYCLES cycles as `pdl run` does, and dumps every net and register into `bench.vcd`. It prints the two
-commands that run it by Icarus Verilog.
+prints the commits of CYCLES cycles as `pdl run` does, and dumps every net and register into `bench.vcd`. Its comments say of
+which stage and of which memory the ports are. It prints the two commands that run it by Icarus Verilog.
 """
 
+import functools
 import pathlib
 import re
 import subprocess
 import sys
 
 import usage
+from pdl_model import rules
+from port_groups import grouped, title
 from real_tools import Module, words_of
 
+# What a port shows, by the letters before its name.
+SHOWS = {
+    "v": "  // it holds a thread", "g": "  // its thread moves", "c": "  // it receives a word", "q": "  // it is asked for a word",
+    "p": "  // it answers"}
 PAGE = pathlib.Path(__file__).resolve().parent.parent / "docs" / "using.md"
 
 
@@ -40,18 +47,27 @@ def ram(module, name, width, address):
     ]
 
 
-def bench(module, cycles):
-    """The text of the bench."""
-    wires = [f"  wire {sized(width)}{name};" for name, width in module.outputs]
-    wires += [f"  wire p_{name};\n  wire {sized(width)}pd_{name};" for name, width, _ in module.delayed()]
+def wires(module, titles):
+    """The wires of the ports, those of each stage and of each memory together, below what they belong to."""
+    widths = dict(module.outputs)
+    for name, width, _ in module.delayed():
+        widths |= {f"p_{name}": 1, f"pd_{name}": width}
+    for group, names in grouped(widths).items():
+        yield f"  // {titles(group)}"
+        yield from (f"  wire {sized(widths[name])}{name};{SHOWS.get(name.split('_')[0], '')}" for name in names)
+
+
+def bench(module, cycles, source, titles):
+    """The text of the bench for a source, whose groups of ports have these titles."""
     names = [name for name, _ in module.outputs] + [f"{port}_{name}" for name in module.words for port in ("p", "pd")]
     ports = "".join(f",\n    .{name}({name})" for name in names)
     return "\n".join([
+        f"// A bench for {source}, whose stages and memories its comments name.",
         "module bench;",
         "  reg clk = 0;",
         "  reg rst = 1;",
         "  integer cycle;",
-        *wires,
+        *wires(module, titles),
         f"  {module.name} core(.clk(clk), .rst(rst){ports});",
         *[line for it in module.delayed() for line in ram(module, *it)],
         "  initial begin",
@@ -87,7 +103,10 @@ def main():
     for name, _, _, depth in memories(module):
         (folder / f"{name}.hex").write_text("".join(f"{given.get((name, at), 0):x}\n" for at in range(depth)))
     (folder / "core.v").write_text(built.stdout)
-    (folder / "bench.v").write_text(bench(module, cycles))
+    text = pathlib.Path(source).read_bytes()
+    layout = rules.checked(text.decode("latin-1"))
+    titles = functools.partial(title, text=text.decode("utf-8", "replace"), layout=layout)
+    (folder / "bench.v").write_text(bench(module, cycles, pathlib.Path(source).name, titles))
     files = ["bench.v", "core.v"]
     if module.delayed():
         page = re.search(r"^```verilog\n(module ram .*?^endmodule\n)```$", PAGE.read_text(), re.M | re.S)

@@ -3,11 +3,12 @@
 
     wave_variables.py PDL SOURCE IMAGE CYCLES [--delays FILE] [--table TABLE NAME] > DUMP
 
-PDL is the program, whose ports come first, as `pdl wave` prints them. Below them stands a scope for each stage, with the
-number of the thread that stands there, and each variable that it has at the end of the cycle, by its name in the source;
-where the stage is empty, or the variable is not bound, its value is `x`. The variables are those of the model in
-tools/pdl_model, which has to show the same stages and moves as the ports, cycle by cycle. With --table the variable NAME
-has beside it, as text, the instruction that it is with the table of `pdl asm`.
+PDL is the program, whose ports come first, as `pdl wave` prints them. Below them stands a scope for each stage, with its ports
+once more, the number of the thread that stands there, and each variable that it has at the end of the cycle, by its name in
+the source; where the stage is empty, or the variable is not bound, its value is `x`. Each memory that has ports has a scope
+with these. The variables are those of the model in tools/pdl_model, which has to show the same stages and moves as the ports,
+cycle by cycle. With --table the variable NAME has beside it, as text, the instruction that it is with the table of `pdl asm`.
+tools/wave_groups.py writes what GTKWave shows of such a dump.
 """
 
 import pathlib
@@ -19,6 +20,7 @@ from pdl_model.deeds import carry_out
 from pdl_model.dump import Wave
 from pdl_model.machine import Machine
 from pipeline import said
+from port_groups import grouped
 
 NUMBER = 32
 
@@ -80,20 +82,25 @@ def shown(it, name, width, table):
     return f"b{'x' if value is None else format(value, 'b')}"
 
 
+def header(wave, declared, codes):
+    """The lines that declare the ports, and then for each stage and each memory these once more, with the stage's variables."""
+    ports = {name: f"$var wire {width} {code(k)} {name} $end" for k, (name, width) in enumerate(wave.ports)}
+    yield from ("$timescale 1 ns $end", f"$scope module pdl_{wave.name} $end", *ports.values())
+    for (kind, of), names in grouped(ports).items():
+        if kind != "run":
+            yield f"$scope module {kind}_{of} $end"
+            yield from (ports[name] for name in names)
+            yield from (f"$var {'string 1' if width == 'text' else f'wire {width}'} {letters} {name} $end"
+                        for letters, (stage, name, width) in zip(codes, declared) if (kind, of) == ("stage", str(stage)))
+            yield "$upscope $end"
+    yield from ("$upscope $end", "$enddefinitions $end")
+
+
 def dumped(wave, layout, rows, table):
     """The lines of the dump."""
     declared = variables(layout, rows, table)
     codes = [code(len(wave.ports) + k) for k in range(len(declared))]
-    yield from ("$timescale 1 ns $end", f"$scope module pdl_{wave.name} $end")
-    for k, (name, width) in enumerate(wave.ports):
-        yield f"$var wire {width} {code(k)} {name} $end"
-    for stage in range(layout.count):
-        yield f"$scope module stage_{stage} $end"
-        for letters, (where, name, width) in zip(codes, declared):
-            if where == stage:
-                yield f"$var {'string 1' if width == 'text' else f'wire {width}'} {letters} {name} $end"
-        yield "$upscope $end"
-    yield from ("$upscope $end", "$enddefinitions $end")
+    yield from header(wave, declared, codes)
     before = {}
     for cycle, row in enumerate(rows, 1):
         now = {code(k): f"b{wave.value(k, cycle):b}" for k in range(len(wave.ports))}

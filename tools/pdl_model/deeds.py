@@ -29,7 +29,7 @@ class Deeds:
 
 
 class NotReady(Exception):
-    """A block isn't ready."""
+    """An answer isn't there, or a block isn't ready. It has the memory, and of a block the address."""
 
 
 def read_ready(state, memory, thread, address):
@@ -58,18 +58,24 @@ def word_for(state, memory, thread, address):
 
 def carry_out(layout, state, stage, answers):
     """The deeds of the thread in a stage, or None where it awaits an answer or a block isn't ready."""
-    thread = state.stages[stage]
-    words = thread.kept | {memory: answers[memory] for memory in thread.awaited() if memory in answers}
-    if len(words) < len(thread.asked):
-        return None
-    bound = {name: Word(words[memory], layout.pipe.memory(memory).width) for memory, name in thread.asked.items()}
-    deeds = Deeds(thread.values | bound, dict(thread.truths), dict(thread.held), thread.guess)
     try:
-        for placed in layout.by_stage[stage]:
-            if placed.is_on(deeds.truths):
-                do(layout.pipe, state, thread.number, deeds, placed)
+        return carried_out(layout, state, stage, answers)
     except NotReady:
         return None
+
+
+def carried_out(layout, state, stage, answers):
+    """The deeds of the thread in a stage, which has to have its answers, and whose blocks have to be ready."""
+    thread = state.stages[stage]
+    words = thread.kept | {memory: answers[memory] for memory in thread.awaited() if memory in answers}
+    for memory in thread.asked:
+        if memory not in words:
+            raise NotReady(memory)
+    bound = {name: Word(words[memory], layout.pipe.memory(memory).width) for memory, name in thread.asked.items()}
+    deeds = Deeds(thread.values | bound, dict(thread.truths), dict(thread.held), thread.guess)
+    for placed in layout.by_stage[stage]:
+        if placed.is_on(deeds.truths):
+            do(layout.pipe, state, thread.number, deeds, placed)
     return deeds
 
 
@@ -119,7 +125,7 @@ def use_lock(pipe, state, number, deeds, statement):
         case tree.Block():
             ready = read_ready if deeds.held[location] == "R" else write_ready
             if not ready(state, memory, number, address):
-                raise NotReady
+                raise NotReady(memory.name, address)
         case tree.Write(value=value):
             deeds.writes.append((*location, value.value(deeds.values).value))
         case tree.Release():

@@ -316,7 +316,7 @@ module _ (p : Pipe) (ls : Locks) (vs : ℕ → View) (moves : ℕ → Signal) (s
           }
 
     -- the writes of these stages go into pending writes
-    pub all_written : (n k : ℕ) → k + n ≡ length p.stages
+    all_written : (n k : ℕ) → k + n ≡ length p.stages
         → forgotten_entries (with_all_writes m (movers_from p st bits n k) pending) ≡ with_writes base (acts_of n k) (forgotten_entries pending)
     all_written zero k e = refl
     all_written (suc n) k e =

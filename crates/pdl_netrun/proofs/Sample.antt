@@ -8,7 +8,7 @@ use Rattle.std.proofs.lemmas.Bool.{and_parts}
 use Rattle.pdl_net.specs.declared.Net.TheVariants.{Reg as RegNet, Cell as CellNet}
 use Rattle.pdl_net.specs.declared.Netlist.{Netlist}
 use Rattle.pdl_net.specs.Run.{delayed_mems}
-use Rattle.pdl_netrun.specs.Sample.{out, memory, odd_write, later_write, commits, sample}
+use Rattle.pdl_netrun.specs.Sample.{out, memory, odd_write, later_write, commits, ends, sample}
 use Rattle.pdl_net.specs.Circuit.{Circuit, circuit_of, outputs_of, reg_at, array_at}
 use Rattle.pdl_net.specs.Meaning.{signal, signals, IsThere}
 use Rattle.pdl_net.specs.Well.{IsWellPort, IsWellReg, IsWellArray, IsWellWrite, CellsFit, CellsWell}
@@ -95,7 +95,7 @@ commits_well : Each (IsWellPort circuit) commits
 unfolding signal signals IsThere
 commits_well = (record { low = lit≤ tt; high = lit≤ tt; driven = (lit< tt, refl) }, (record { low = lit≤ tt; high = lit≤ tt; driven = (lit< tt, refl) }, (record { low = lit≤ tt; high = lit≤ tt; driven = (lit< tt, refl) }, (record { low = lit≤ tt; high = lit≤ tt; driven = (lit< tt, refl) }, (record { low = lit≤ tt; high = lit≤ tt; driven = (lit< tt, refl) }, (record { low = lit≤ tt; high = lit≤ tt; driven = (lit< tt, refl) }, tt))))))
 
-ends_well : Each (IsWellPort circuit) (out (codes "ended") 1 (CellNet 0) ∷ out (codes "squash") 1 (CellNet 4) ∷ [])
+ends_well : Each (IsWellPort circuit) ends
 unfolding signal signals IsThere
 ends_well = (record { low = lit≤ tt; high = lit≤ tt; driven = (lit< tt, refl) }, (record { low = lit≤ tt; high = lit≤ tt; driven = (lit< tt, refl) }, tt))
 
@@ -103,7 +103,7 @@ ports_well : Each (IsWellPort circuit) circuit.ports
 unfolding signal signals IsThere
 ports_well = (
   record { low = lit≤ tt; high = lit≤ tt; driven = (lit< tt, refl) },
-  (record { low = lit≤ tt; high = lit≤ tt; driven = (lit< tt, refl) }, each_joined (IsWellPort circuit) commits _ commits_well ends_well),
+  (record { low = lit≤ tt; high = lit≤ tt; driven = (lit< tt, refl) }, each_joined (IsWellPort circuit) commits ends commits_well ends_well),
 )
 
 reg_well : (r : ℕ) → r < length circuit.regs → IsWellReg circuit (reg_at circuit r)

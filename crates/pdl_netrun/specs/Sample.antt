@@ -32,13 +32,16 @@ commits =
     out (codes "c_m") 1 (CellNet 3) ∷ out (codes "ca_m") 1 (CellNet 5) ∷ out (codes "cd_m") 4 (CellNet 7)
     ∷ out (codes "c2_m") 1 (CellNet 8) ∷ out (codes "ca2_m") 1 (CellNet 5) ∷ out (codes "cd2_m") 4 (CellNet 9) ∷ []
 
+-- the last outputs
+abbrev pub ends : List Port
+ends = out (codes "ended") 1 (CellNet 0) ∷ out (codes "squash") 1 (CellNet 4) ∷ []
+
 -- the whole netlist: its ports, its register, its memory and its cells
 abbrev pub sample : Netlist
 sample = record {
   name = codes "sample";
   ports =
-      out (codes "v_0") 1 (CellNet 0) ∷ out (codes "g_0") 1 (CellNet 0)
-      ∷ (commits ++ out (codes "ended") 1 (CellNet 0) ∷ out (codes "squash") 1 (CellNet 4) ∷ []);
+      out (codes "v_0") 1 (CellNet 0) ∷ out (codes "g_0") 1 (CellNet 0) ∷ (commits ++ ends);
   regs = record { width = 4; reset = 1; next = CellNet 2 } ∷ [];
   arrays = memory ∷ [];
   cells =

@@ -129,7 +129,7 @@ module _ {T : Type 0} (l : Members T) (c : Circuit) (p : Pipe) (ws : List ℕ) (
   views_put twice m x f [] low e h = tt
   views_put twice m x f (d ∷ ds) low e h = (
     puts_fit p m (l.tickets x.lock) f (tickets_to twice m (view_in c d)) (map (put_in c) d.ended.now.puts)
-    (λ a. ticket_fits twice ((view_in c d).ended.marks Late m) ((view_in c d).tickets m) a ∙ h.0.tickets.wide m x low e) h.0.walk.sized.puts,
+        (λ a. ticket_fits twice ((view_in c d).ended.marks Late m) ((view_in c d).tickets m) a ∙ h.0.tickets.wide m x low e) h.0.walk.sized.puts,
     views_put twice m x f ds low e h.1,
   )
 

@@ -215,8 +215,7 @@ module _ {T : Type 0} (l : Members T) (stays : Stays l) (p : Pipe) (xs : List (O
   commit_words h =
       let (x, e) = some_of (some_at xs m) (locked.locked m low ∙ h) in
       let (n, q) = some_of (some_at ns m) ((stepped.each m low).has ∙ locked.locked m low ∙ h) in
-      let it = (stepped.each m low).lock x n e q in
-      (
+      let it = (stepped.each m low).lock x n e q in (
         (n.value, after.there n.value it.nets.value.there, ap (λ (o : Option LockNets). (commit_of c o).first.value) (sym q)),
         (n.value2, after.there n.value2 it.nets2.value.there, ap (λ (o : Option LockNets). (commit_of c o).second.value) (sym q)),
       )

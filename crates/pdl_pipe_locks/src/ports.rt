@@ -146,15 +146,15 @@ fn reserve_ports<'d>(
 fn location_ticket<'d>(
     b: &mut Builder,
     bits: Bits,
-    deed: StageDeeds<'d>,
+    deed: &StageDeeds<'d>,
     m: usize,
     twice: bool,
     var: usize,
 ) -> Result<Net, NoMemory>
     requires bits { AreBits b.old bits }
-    requires given { IsGiven b.old m deed }
+    requires given { IsGiven b.old m deed.now }
     ensures means { IfOk result (λ x.
-        Means b.new x (tickets_to twice m (view_in b.old deed) var)) }
+        Means b.new x (tickets_to twice m (view_in b.old deed.now) var)) }
     ensures extends { Extends b.old b.new }
 {
     let ticket = net_at(deed.tickets, m);
@@ -172,16 +172,16 @@ fn push_write<'d>(
     bits: Bits,
     ports: &mut Seq<TicketWrite>,
     x: &PutNet,
-    deed: StageDeeds<'d>,
+    deed: &StageDeeds<'d>,
     m: usize,
     twice: bool,
 ) -> Result<(), NoMemory>
     requires bits { AreBits b.old bits }
     requires ports { Each (IsThereWrite b.old) ports.old }
     requires put { IsGivenPut b.old x.now }
-    requires given { IsGiven b.old m deed }
+    requires given { IsGiven b.old m deed.now }
     ensures adds { OnOk result (AddsWrites b.old b.new ports.old ports.new
-        (puts_to m (signal b.old deed.moves) (tickets_to twice m (view_in b.old deed))
+        (puts_to m (signal b.old deed.now.moves) (tickets_to twice m (view_in b.old deed.now))
         (put_in b.old x.now ∷ []))) }
     ensures extends { Extends b.old b.new }
 {
@@ -204,16 +204,16 @@ fn push_writes<'d>(
     bits: Bits,
     ports: &mut Seq<TicketWrite>,
     puts: &[PutNet],
-    deed: StageDeeds<'d>,
+    deed: &StageDeeds<'d>,
     m: usize,
     twice: bool,
 ) -> Result<(), NoMemory>
     requires bits { AreBits b.old bits }
     requires ports { Each (IsThereWrite b.old) ports.old }
     requires puts { Each (IsGivenPut b.old) puts.now }
-    requires given { IsGiven b.old m deed }
+    requires given { IsGiven b.old m deed.now }
     ensures adds { OnOk result (AddsWrites b.old b.new ports.old ports.new
-        (puts_to m (signal b.old deed.moves) (tickets_to twice m (view_in b.old deed))
+        (puts_to m (signal b.old deed.now.moves) (tickets_to twice m (view_in b.old deed.now))
         (map (put_in b.old) puts.now))) }
     ensures extends { Extends b.old b.new }
 {
@@ -244,7 +244,7 @@ fn write_ports<'d>(
     for i in 0..count {
         let deed = deed_at(deeds, count - 1 - i);
         let puts = deed.ended.puts.as_slice();
-        push_writes(b, bits, &mut ports, puts, deed, m, twice)?;
+        push_writes(b, bits, &mut ports, puts, &deed, m, twice)?;
     }
     Ok(ports)
 }

@@ -162,7 +162,8 @@ pub record MarksSoFar (a c : Circuit) (f : Form) (nexts : List Signal) (us : ℕ
 marks_first : (a : Circuit) (f : Form) (nexts : List Signal) (us : ℕ → View) (k : ℕ) (r : StageRegs) (hs : List MarkNet)
     → Extends a a → IsFrame a f nexts k r → AreOwn f k r → AreMarksBegun a f nexts us k r hs
     → MarksSoFar a a f nexts us k r hs r hs
-marks_first a f nexts us k r hs x frame own begun = record { extends = x; frame = frame; own = own; longer = longer_none r; begun = begun; still = λ mark m v q. q }
+marks_first a f nexts us k r hs x frame own begun =
+    record { extends = x; frame = frame; own = own; longer = longer_none r; begun = begun; still = λ mark m v q. q }
 
 own_mark : (f : Form) (k : ℕ) (mark : MarkKind) (m v : ℕ) → 0 < k → IsOwn f k (Mark mark m v)
 own_mark f Rattle.std.proofs.Common.zero mark m v l = absurd (omega (arith, l))
@@ -172,6 +173,9 @@ module _ (a b c : Circuit) (f : Form) (nexts : List Signal) (us : ℕ → View) 
     (hs0 : List MarkNet) (r t : StageRegs) (hs xs : List MarkNet) (mark0 : MarkKind) (m0 v0 : ℕ) (after : 0 < k) (bc : Extends b c)
     (last : end_of t ≡ length c.regs)
     (so : MarksSoFar a b f nexts us k r0 hs0 r hs) where
+  abbrev Settled : Signal → Type 0
+  Settled = IsSettled f.pipe us k (Mark mark0 m0 v0)
+
   same_case : (t ≡ r) × (xs ≡ hs) × (mark_from f.pipe k mark0 m0 v0 ≡ true → is_listed hs mark0 m0 v0 ≡ true) → MarksSoFar a c f nexts us k r0 hs0 t xs
   same_case q =
       let e = extends_keeps b c bc in
@@ -188,7 +192,7 @@ module _ (a b c : Circuit) (f : Form) (nexts : List Signal) (us : ℕ → View) 
         still = so.still;
       })
 
-  module _ (net : Net) (may : MayAdd c r t (Mark mark0 m0 v0) 1 0 net (IsSettled f.pipe us k (Mark mark0 m0 v0))) (fresh : is_listed hs mark0 m0 v0 ≡ false) where
+  module _ (net : Net) (may : MayAdd c r t (Mark mark0 m0 v0) 1 0 net Settled) (fresh : is_listed hs mark0 m0 v0 ≡ false) where
     abbrev y : MarkNet
     y = record { mark = mark0; mem = m0; var = v0; net = net }
 
@@ -196,7 +200,7 @@ module _ (a b c : Circuit) (f : Form) (nexts : List Signal) (us : ℕ → View) 
     e = extends_keeps b c bc
 
     old : AreMarksBegun c f nexts us k t hs
-    old = marks_keep f nexts us k b c r t hs (extends_keeps b c bc) (longer_may c r t (Mark mark0 m0 v0) 1 0 net (IsSettled f.pipe us k (Mark mark0 m0 v0)) may) so.begun
+    old = marks_keep f nexts us k b c r t hs (extends_keeps b c bc) (longer_may c r t (Mark mark0 m0 v0) 1 0 net Settled may) so.begun
 
     abbrev Begun : MarkKind → ℕ → ℕ → Signal → Type 0
     Begun mark m v g = IsBegunBy f nexts t (Mark mark m v) g (IsSettled f.pipe us k (Mark mark m v))
@@ -206,7 +210,7 @@ module _ (a b c : Circuit) (f : Form) (nexts : List Signal) (us : ℕ → View) 
     here mark m v un q =
         let i = is_it_same y mark m v q in
         let begun : Begun mark0 m0 v0 (signal c net) =
-        by_new f nexts c r t (Mark mark0 m0 v0) 0 net (IsSettled f.pipe us k (Mark mark0 m0 v0)) may in
+        by_new f nexts c r t (Mark mark0 m0 v0) 0 net Settled may in
         let at_mv : Begun mark m v (signal c net) =
         subst (λ n. Begun mark m n (signal c net)) i.2
         (subst (λ n. Begun mark n v0 (signal c net)) i.1 (subst (λ n. Begun n m0 v0 (signal c net)) i.0 begun)) in
@@ -220,20 +224,20 @@ module _ (a b c : Circuit) (f : Form) (nexts : List Signal) (us : ℕ → View) 
     more_case : MarksSoFar a c f nexts us k r0 hs0 t (hs ++ y ∷ [])
     more_case = record {
       extends = extends_trans a b c so.extends bc;
-      frame = frame_may f nexts k b c r t (Mark mark0 m0 v0) net (IsSettled f.pipe us k (Mark mark0 m0 v0)) bc (may_zero k after may) last so.frame;
-      own = own_more c f k (Mark mark0 m0 v0) r t 1 0 net (IsSettled f.pipe us k (Mark mark0 m0 v0)) may (inr (own_mark f k mark0 m0 v0 after)) so.own;
-      longer = longer_trans r0 r t so.longer (longer_may c r t (Mark mark0 m0 v0) 1 0 net (IsSettled f.pipe us k (Mark mark0 m0 v0)) may);
+      frame = frame_may f nexts k b c r t (Mark mark0 m0 v0) net Settled bc (may_zero k after may) last so.frame;
+      own = own_more c f k (Mark mark0 m0 v0) r t 1 0 net Settled may (inr (own_mark f k mark0 m0 v0 after)) so.own;
+      longer = longer_trans r0 r t so.longer (longer_may c r t (Mark mark0 m0 v0) 1 0 net Settled may);
       begun = record {
-        there = each_push (λ (x : MarkNet). IsThere c x.net) hs y old.there (may_there c r t (Mark mark0 m0 v0) 1 0 net (IsSettled f.pipe us k (Mark mark0 m0 v0)) may);
+        there = each_push (λ (x : MarkNet). IsThere c x.net) hs y old.there (may_there c r t (Mark mark0 m0 v0) 1 0 net Settled may);
         one =
-            each_push (λ (x : MarkNet). (signal c x.net).width ≡ 1) hs y old.one (may_wide c r t (Mark mark0 m0 v0) 1 0 net (IsSettled f.pipe us k (Mark mark0 m0 v0)) may);
+            each_push (λ (x : MarkNet). (signal c x.net).width ≡ 1) hs y old.one (may_wide c r t (Mark mark0 m0 v0) 1 0 net Settled may);
         begun = λ mark m v q. by mark m v (or_cases (is_listed hs mark m v) (is_it y mark m v) (sym (listed_more hs y mark m v) ∙ q));
       };
       still = λ mark m v q. listed_more hs y mark m v ∙ or_left (is_listed hs mark m v) (is_it y mark m v) (so.still mark m v q);
     }
       where
-        may_zero : (n : ℕ) → 0 < n → MayAdd c r t (Mark mark0 m0 v0) 1 0 net (IsSettled f.pipe us k (Mark mark0 m0 v0))
-            → MayAdd c r t (Mark mark0 m0 v0) 1 0 net (IsSettled f.pipe us k (Mark mark0 m0 v0))
+        may_zero : (n : ℕ) → 0 < n → MayAdd c r t (Mark mark0 m0 v0) 1 0 net Settled
+            → MayAdd c r t (Mark mark0 m0 v0) 1 0 net Settled
         may_zero n l q = q
 
   -- with a mark more, or none where it needs no more, the marks so far have their registers

@@ -141,7 +141,16 @@ pub fn stages<L: LockModule>(
     let mut stages = Vec::new(alloc);
     let line = pipe.stages();
     for _ in 0..line.len() {
-        let s = stage(alloc, b, pipe, &shared, locks, twice, &needs, stages.as_slice())?;
+        let s = stage(
+            alloc,
+            b,
+            pipe,
+            &shared,
+            locks,
+            twice,
+            &needs,
+            stages.as_slice(),
+        )?;
         append(&mut stages, s)?;
     }
     Ok(stages)

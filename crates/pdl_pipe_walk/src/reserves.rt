@@ -56,12 +56,7 @@ fn reserve_at(reserves: &[ReserveNet], k: usize) -> ReserveNet
 }
 
 // Whether one of these reservations is made of a memory.
-fn reserved(
-    b: &mut Builder,
-    bits: Bits,
-    reserves: &[ReserveNet],
-    m: usize,
-) -> Result<Net, NoMemory>
+fn reserved(b: &mut Builder, bits: Bits, reserves: &[ReserveNet], m: usize) -> Result<Net, NoMemory>
     requires bits { AreBits b.old bits }
     requires given { Each (λ (r : ReserveNet). HasWidth b.old r.on 1) reserves.now }
     ensures means { IfOk result (λ x.

@@ -64,7 +64,7 @@ fn push_commits(
 
 // How many memories are delayed.
 fn count_delayed(mems: &[FlatMem]) -> usize {
-    mems.iter().filter(|mem| mem.delayed).count()
+    mems.iter().filter(|mem| mem.kind.is_delayed()).count()
 }
 
 // Puts the lines of so many cycles of the machine of a pipe, from its first on, with all requests answered. Of its outputs two of each stage stand first, then three of each memory with a lock, then two of each delayed memory, then whether a thread ended.

@@ -1,7 +1,7 @@
 // A netlist of one stage, whose ports and commits were worked out by hand.
 
 ghost use Rattle.std.specs.Prelude.{◌≡◌, ◌++◌, ◌∷◌, [], IfOk, OnOk};
-ghost use Rattle.pdl_netrun.specs.Sample.{commits, out, sample};
+ghost use Rattle.pdl_netrun.specs.Sample.{out, sample};
 
 use pdl_image::read_image;
 use pdl_kit::{MemInfo, Name, NoMemory, Seq};
@@ -24,18 +24,6 @@ fn output(
     ports.push(Port { name, width, dir })
 }
 
-// The outputs of what its memory commits, first and second.
-fn put_commits(alloc: Global, ports: &mut Seq<Port>) -> Result<(), NoMemory>
-    ensures { OnOk result (ports.new ≡ ports.old ++ commits) }
-{
-    output(alloc, ports, b"c_m", 1, Net::Cell(3))?;
-    output(alloc, ports, b"ca_m", 1, Net::Cell(5))?;
-    output(alloc, ports, b"cd_m", 4, Net::Cell(7))?;
-    output(alloc, ports, b"c2_m", 1, Net::Cell(8))?;
-    output(alloc, ports, b"ca2_m", 1, Net::Cell(5))?;
-    output(alloc, ports, b"cd2_m", 4, Net::Cell(9))
-}
-
 // Its outputs, in their order.
 fn put_outputs(alloc: Global, ports: &mut Seq<Port>) -> Result<(), NoMemory>
     requires { ports.old ≡ [] }
@@ -43,7 +31,12 @@ fn put_outputs(alloc: Global, ports: &mut Seq<Port>) -> Result<(), NoMemory>
 {
     output(alloc, ports, b"v_0", 1, Net::Cell(0))?;
     output(alloc, ports, b"g_0", 1, Net::Cell(0))?;
-    put_commits(alloc, ports)?;
+    output(alloc, ports, b"c_m", 1, Net::Cell(3))?;
+    output(alloc, ports, b"ca_m", 1, Net::Cell(5))?;
+    output(alloc, ports, b"cd_m", 4, Net::Cell(7))?;
+    output(alloc, ports, b"c2_m", 1, Net::Cell(8))?;
+    output(alloc, ports, b"ca2_m", 1, Net::Cell(5))?;
+    output(alloc, ports, b"cd2_m", 4, Net::Cell(9))?;
     output(alloc, ports, b"ended", 1, Net::Cell(0))?;
     output(alloc, ports, b"squash", 1, Net::Cell(4))
 }

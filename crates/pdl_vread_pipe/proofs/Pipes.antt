@@ -351,7 +351,7 @@ is_pipe_of n ms h = go (spec.is_pipe n (told (heads n.ports))) refl h
 
 -- a netlist that is a pipe's is judged to have its memories
 pub judged_of : (n : Netlist) (ms : List MemInfo) → IsPipe (with_mems n ms) → judged n ≡ Some ms
-unfolding judged
+unfolding judged once_pipe
 judged_of n ms p =
     let q = once_pipe (with_mems n ms) p in
     let s : Shape = record { stages = q.stages; delayed = q.delayed; locked = q.locked } in

@@ -2,8 +2,8 @@
 ghost use Rattle.std.specs.Prelude.{◌≡◌, ◌++◌, ◌∷◌, [], bytes_eq, flat_map};
 ghost use Rattle.std.specs.List.{range_with_len};
 ghost use Rattle.std.specs.Option.{option_copied, option_map};
-ghost use Rattle.pdl_net.specs.Pipe.{head_of, is_input, pipe_ports, reply_ports, stage_ports, first_ports, second_ports, commit_ports, request_ports};
-ghost use Rattle.pdl_vread_pipe.specs.ExpectedPorts.{after, heads, same, Leaves};
+ghost use Rattle.pdl_net.specs.Pipe.{head_of, is_input, pipe_ports, reply_ports, stage_ports, commit_ports, request_ports};
+ghost use Rattle.pdl_vread_pipe.specs.ExpectedPorts.{after, heads, same, three_ports, Leaves};
 ghost use Rattle.pdl_vread_pipe.specs.Tests as spec;
 
 use crate::port_mem::PortMem;
@@ -112,26 +112,21 @@ fn stages<'a>(ports: &'a [Port], count: usize) -> Option<&'a [Port]>
     Some(left)
 }
 
-// The ports after those of a locked memory's first commit.
+// The ports after the three of a commit of a locked memory, which have these prefixes.
 #[tactic(auto, using(crate::proofs::Strips::one_by_one))]
-fn first<'a>(ports: &'a [Port], mem: &PortMem) -> Option<&'a [Port]>
-    ensures { Leaves (first_ports mem.now) ports.now result }
+fn three<'a>(
+    ports: &'a [Port],
+    mem: &PortMem,
+    enable: &[u8],
+    addr: &[u8],
+    value: &[u8],
+) -> Option<&'a [Port]>
+    ensures { Leaves (three_ports enable.now addr.now value.now mem.now) ports.now result }
 {
     let name = mem.name().as_bytes();
-    let left = expect(ports, b"c_", name, 1, false)?;
-    let left = expect(left, b"ca_", name, mem.bits(), false)?;
-    expect(left, b"cd_", name, mem.width(), false)
-}
-
-// The ports after those of its second one.
-#[tactic(auto, using(crate::proofs::Strips::one_by_one))]
-fn second<'a>(ports: &'a [Port], mem: &PortMem) -> Option<&'a [Port]>
-    ensures { Leaves (second_ports mem.now) ports.now result }
-{
-    let name = mem.name().as_bytes();
-    let left = expect(ports, b"c2_", name, 1, false)?;
-    let left = expect(left, b"ca2_", name, mem.bits(), false)?;
-    expect(left, b"cd2_", name, mem.width(), false)
+    let left = expect(ports, enable, name, 1, false)?;
+    let left = expect(left, addr, name, mem.bits(), false)?;
+    expect(left, value, name, mem.width(), false)
 }
 
 // The ports after those of a locked memory that commit.
@@ -139,9 +134,9 @@ fn second<'a>(ports: &'a [Port], mem: &PortMem) -> Option<&'a [Port]>
 fn commit<'a>(ports: &'a [Port], mem: &PortMem) -> Option<&'a [Port]>
     ensures { Leaves (commit_ports mem.now) ports.now result }
 {
-    let left = first(ports, mem)?;
+    let left = three(ports, mem, b"c_", b"ca_", b"cd_")?;
     if mem.commits_twice() {
-        second(left, mem)
+        three(left, mem, b"c2_", b"ca2_", b"cd2_")
     } else {
         Some(left)
     }

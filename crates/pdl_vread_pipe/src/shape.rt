@@ -146,7 +146,12 @@ fn with_widths(
     let mut mems = Seq::new(alloc);
     for k in 0..names.len() {
         let name = names[k].clone()?;
-        let mem = PortMem::new(name, width_at(widths, k), width_at(bits, k), flag_at(twice, k));
+        let mem = PortMem::new(
+            name,
+            width_at(widths, k),
+            width_at(bits, k),
+            flag_at(twice, k),
+        );
         mems.push(mem)?;
     }
     Ok(mems)

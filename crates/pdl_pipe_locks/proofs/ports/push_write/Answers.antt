@@ -18,7 +18,7 @@ pub both-requires-clause-bits : goal.both-requires-clause-bits
 both-requires-clause-bits c = bits_kept c.args.b.now c.location_ticket.new.b c.args.bits c.in_ok-ticket.ensures.extends c.requires.bits
 
 pub both-requires-clause-x : goal.both-requires-clause-x
-both-requires-clause-x c = width_kept c.args.b.now c.location_ticket.new.b c.args.deed.moves 1 c.in_ok-ticket.ensures.extends c.requires.given.moves
+both-requires-clause-x c = width_kept c.args.b.now c.location_ticket.new.b c.args.deed.now.moves 1 c.in_ok-ticket.ensures.extends c.requires.given.moves
 
 pub both-requires-clause-y : goal.both-requires-clause-y
 both-requires-clause-y c = width_kept c.args.b.now c.location_ticket.new.b c.args.x.now.on 1 c.in_ok-ticket.ensures.extends c.requires.put.on
@@ -29,7 +29,7 @@ returns-clause-adds c =
     let t = c.location_ticket.new.b in
     let b = c.both.new.b in
     let y = c.args.x.now in
-    let d = c.args.deed in
+    let d = c.args.deed.now in
     let x = c.in_ok-enable.ensures in
     let u = c.in_ok-ticket.ensures in
     let ps = c.args.ports.now in

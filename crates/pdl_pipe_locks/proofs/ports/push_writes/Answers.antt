@@ -26,7 +26,7 @@ push_write-requires-clause-put c =
 
 pub push_write-requires-clause-given : goal.push_write-requires-clause-given
 push_write-requires-clause-given c =
-    given_kept c.args.b.now c.loop-x.b (extends_keeps c.args.b.now c.loop-x.b c.loop-x.invariant.extends) c.args.m c.args.deed c.requires.given
+    given_kept c.args.b.now c.loop-x.b (extends_keeps c.args.b.now c.loop-x.b c.loop-x.invariant.extends) c.args.m c.args.deed.now c.requires.given
 
 pub loop-x-preserved : goal.loop-x-preserved
 loop-x-preserved c =
@@ -38,7 +38,7 @@ loop-x-preserved c =
     let y = get_or xs i no_put in
     let v = c.loop-x.invariant in
     let m = c.args.m in
-    let deed = c.args.deed in
+    let deed = c.args.deed.now in
     let k = extends_keeps a b v.extends in
     let given = each_get (IsGivenPut a) xs i no_put c.loop-x-test.true c.requires.puts in
     record {
@@ -52,5 +52,5 @@ loop-x-preserved c =
 
 pub returns-clause-adds : goal.returns-clause-adds
 returns-clause-adds c =
-    writes_end c.args.b.now c.loop-x.b c.args.ports.now c.loop-x.ports c.args.m c.args.deed.moves
-    (tickets_to c.args.twice c.args.m (view_in c.args.b.now c.args.deed)) c.args.puts.now c.loop-x.x-index c.loop-x-test.false c.loop-x.invariant.adds
+    writes_end c.args.b.now c.loop-x.b c.args.ports.now c.loop-x.ports c.args.m c.args.deed.now.moves
+    (tickets_to c.args.twice c.args.m (view_in c.args.b.now c.args.deed.now)) c.args.puts.now c.loop-x.x-index c.loop-x-test.false c.loop-x.invariant.adds

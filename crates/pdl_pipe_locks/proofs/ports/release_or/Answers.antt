@@ -18,9 +18,9 @@ returns-then-x-m-clause-means c =
 
 pub second_or-requires-clause-rest : goal.second_or-requires-clause-rest
 second_or-requires-clause-rest c =
-    let k = keeps_trans c.args.b.now c.both.new.b c.mux.new.b (extends_keeps c.args.b.now c.both.new.b c.in_ok-on.ensures.extends)
-    (extends_keeps c.both.new.b c.mux.new.b c.in_ok-first.ensures.extends) in
-    releases_kept c.args.b.now c.mux.new.b c.args.rest k c.requires.rest
+    let k = keeps_trans c.args.b.now c.both.new.b c.mux.new.self (extends_keeps c.args.b.now c.both.new.b c.in_ok-on.ensures.extends)
+    (extends_keeps c.both.new.b c.mux.new.self c.in_ok-first.ensures.extends) in
+    releases_kept c.args.b.now c.mux.new.self c.args.rest k c.requires.rest
 
 pub returns-clause-means : goal.returns-clause-means
 returns-clause-means c =
@@ -28,6 +28,6 @@ returns-clause-means c =
     let x = letting_in a c.args.x.now in
     subst (AreReleases c.second_or.new.b (record { first = c.in_ok-first.first; second = c.in_ok-second.second }))
     (sym (own_release c.args.twice c.args.m (signal a c.args.moves) x (releases_signal a c.args.rest) (eq-eqb x.mem c.args.m c.if-x-m.false)))
-    (with_release a c.both.new.b c.mux.new.b c.second_or.new.b c.args.bits c.args.twice (both (signal a c.args.moves) x.on)
+    (with_release a c.both.new.b c.mux.new.self c.second_or.new.b c.args.bits c.args.twice (both (signal a c.args.moves) x.on)
     c.in_ok-on.on c.args.rest c.in_ok-first.first c.in_ok-second.second c.requires.bits c.requires.rest c.in_ok-on.ensures.extends
     c.in_ok-on.ensures.means c.in_ok-first.ensures.extends c.in_ok-first.ensures.means c.in_ok-second.ensures.extends c.in_ok-second.ensures.means)

@@ -45,7 +45,8 @@ push_marks-requires-clause-begun c =
     let nexts = signals_in a c.args.shared.now.next in
     subst (λ fs. AreMarksBegun b f fs (earlier_views b x) k c.loop-j.regs c.loop-j.marks) (sym (next_keep a b f c.args.shared.now e c.requires.shared))
     (marks_as b f nexts (earlier_views a x)
-    (earlier_views b x) k c.loop-j.regs c.loop-j.marks (λ mark m v j l. ends_same a b f nexts x.stages.now (Mark mark m v) e c.requires.earlier.ended j l) so.begun)
+    (earlier_views b x) k c.loop-j.regs c.loop-j.marks
+    (λ mark m v j l. ends_same a b f nexts x.stages.now (Mark mark m v) e c.requires.earlier.ended j l) so.begun)
 
 pub loop-j-preserved : goal.loop-j-preserved
 loop-j-preserved c =

@@ -58,7 +58,8 @@ loop-i-preserved c =
       subst (λ l. AreSeen f k l xs) on
           (seen_more f k (take i items) hs xs h
           (marks_still a b d f nexts us k r0 hs0 r u hs xs h.mark h.mem h.var after c.push_mark.ensures.extends c.in_ok-push_mark.ensures.last so adds)
-          (marks_listed a b d f nexts us k r0 hs0 r u hs xs h.mark h.mem h.var after c.push_mark.ensures.extends c.in_ok-push_mark.ensures.last so adds) c.loop-i.invariant.1),
+          (marks_listed a b d f nexts us k r0 hs0 r u hs xs h.mark h.mem h.var after c.push_mark.ensures.extends c.in_ok-push_mark.ensures.last so adds)
+          c.loop-i.invariant.1),
     )
 
 pub returns-clause-whole : goal.returns-clause-whole

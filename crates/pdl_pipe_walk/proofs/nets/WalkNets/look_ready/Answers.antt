@@ -12,7 +12,8 @@ use Rattle.pdl_pipe_walk.proofs.nets.WalkNets.look_ready.Goals as goal
 
 pub look_held-requires-clause-held : goal.look_held-requires-clause-held
 look_held-requires-clause-held g c =
-    width_meant c.args.b.now _ _ 1 c.is_marked-held.ensures (mark_width (parts_in c.args.b.now c.args.self.now).marks Held c.args.m c.args.a c.requires.walk.sized.marks)
+    width_meant c.args.b.now _ _ 1 c.is_marked-held.ensures
+    (mark_width (parts_in c.args.b.now c.args.self.now).marks Held c.args.m c.args.a c.requires.walk.sized.marks)
 
 pub look_held-requires-clause-ticket : goal.look_held-requires-clause-ticket
 look_held-requires-clause-ticket g c =

@@ -29,7 +29,8 @@ both-requires-clause-y c =
     let here =
     walk_more c.args.b.now c.all_taken.new.b c.all_taken.ensures.extends (form c.args.pipe.now).pipe
     (form c.args.pipe.now).widths c.args.self.now c.requires.walk in
-    width_meant c.all_taken.new.b _ _ 1 c.is_marked-held.ensures (mark_width (parts_in c.all_taken.new.b c.args.self.now).marks Held c.args.m c.args.a here.sized.marks)
+    width_meant c.all_taken.new.b _ _ 1 c.is_marked-held.ensures
+    (mark_width (parts_in c.all_taken.new.b c.args.self.now).marks Held c.args.m c.args.a here.sized.marks)
 
 pub set_mark-requires-clause-walk : goal.set_mark-requires-clause-walk
 set_mark-requires-clause-walk c =
