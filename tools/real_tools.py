@@ -70,6 +70,15 @@ class Module:
         """The memories that commit."""
         return [name[2:] for name, _ in self.outputs if name.startswith("c_")]
 
+    def commits(self):
+        """The commits of a cycle in order: each a memory, and the ports that tell whether, where and what it receives."""
+        ports = [(name, *(f"{it}{second}_{name}" for it in ("c", "ca", "cd"))) for name in self.memories() for second in ("", "2")]
+        return [it for it in ports if it[1] in self.width]
+
+    def commits_of(self, memory):
+        """The ports of a memory's commits."""
+        return [ports for name, *ports in self.commits() if name == memory]
+
     def delayed(self):
         """The delayed memories: a name, the width of a word, and that of an address."""
         return [(name, width, self.width[f"qa_{name}"]) for name, width in self.words.items()]
@@ -94,7 +103,7 @@ def kept_outside(name, width, address, commits):
         f"      p_{name} = asked_{name} && replies_{name}[cycle];",
         f"      pd_{name} = p_{name} ? m_{name}[at_{name}] : 0;",
     ]
-    left = [f"      if (c_{name}) m_{name}[ca_{name}] = cd_{name};"] if commits else []
+    left = [f"      if ({enable}) m_{name}[{at}] = {value};" for enable, at, value in commits]
     left += [
         f"      if (p_{name}) asked_{name} = 0;",
         f"      if (q_{name}) begin asked_{name} = 1; at_{name} = qa_{name}; end",
@@ -116,7 +125,7 @@ def loads(module, image):
 
 def bench(module, image, replies, cycles):
     """A test bench: one reset cycle, the image, and in each cycle the answers, and a line with all ports."""
-    outside = [kept_outside(*it, it[0] in module.memories()) for it in module.delayed()]
+    outside = [kept_outside(*it, module.commits_of(it[0])) for it in module.delayed()]
     rows = [replies(cycle) for cycle in range(1, cycles + 1)]
     bits = {name: "".join(str(int(name in row)) for row in rows) for name in module.words}
     declared = [f"  wire [1:{cycles}] replies_{name} = {cycles}'b{row};" for name, row in bits.items()]

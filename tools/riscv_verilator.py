@@ -76,11 +76,11 @@ END = """        ended += top->ended;
 """
 
 
-def commit(module, name):
+def commit(module, name, enable, at, value):
     """The line of a write of a memory."""
-    digits = (module.width[f"cd_{name}"] + 3) // 4
-    values = f"cycle, (unsigned long long)top->ca_{name}, (unsigned long long)top->cd_{name}"
-    return f'        if (top->c_{name}) printf("%lu {name} %llu %0{digits}llx\\n", {values});'
+    digits = (module.width[value] + 3) // 4
+    values = f"cycle, (unsigned long long)top->{at}, (unsigned long long)top->{value}"
+    return f'        if (top->{enable}) printf("%lu {name} %llu %0{digits}llx\\n", {values});'
 
 
 def answer(number, name):
@@ -90,12 +90,12 @@ def answer(number, name):
 
 
 def keep(module, number, name):
-    """What a delayed memory keeps of a cycle: the write that it receives and what it is asked."""
+    """What a delayed memory keeps of a cycle: the writes that it receives and what it is asked."""
     it = f"outside[{number}]"
-    written = f"        if (top->c_{name}) {it}.words[top->ca_{name}] = top->cd_{name};"
+    written = [f"        if (top->{enable}) {it}.words[top->{at}] = top->{value};" for enable, at, value in module.commits_of(name)]
     over = f"        if (answered[{number}]) {it}.asked = false;"
     asked = f"        if (top->q_{name}) {{ {it}.asked = true; {it}.at = top->qa_{name}; }}"
-    return ([written] if name in module.memories() else []) + [over, asked]
+    return [*written, over, asked]
 
 
 def main_text(module):
@@ -107,7 +107,7 @@ def main_text(module):
             START + "\n".join(outside),
             CYCLE + "\n".join(answer(number, name) for number, name in names),
             "        top->eval();",
-            *(commit(module, name) for name in module.memories()),
+            *(commit(module, *it) for it in module.commits()),
             *(line for number, name in names for line in keep(module, number, name)),
             END,
         ]

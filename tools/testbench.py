@@ -38,7 +38,9 @@ def memories(module):
 
 def ram(module, name, width, address):
     """A delayed memory beside the module, with what it is written where it has a lock."""
-    written = f".c(c_{name}), .ca(ca_{name}), .cd(cd_{name})" if name in module.memories() else f".c(1'b0), .ca({address}'d0), .cd({width}'d0)"
+    zeros = ["1'b0", f"{address}'d0", f"{width}'d0"]
+    first, second = [*module.commits_of(name), zeros, zeros][:2]
+    written = ", ".join(f".{port}({net})" for port, net in zip(("c", "ca", "cd", "c2", "ca2", "cd2"), first + second))
     return [
         f"  ram #(.WIDTH({width}), .ADDRESS({address})) ram_{name}(.clk(clk), .rst(rst), .q(q_{name}), .qa(qa_{name}),",
         f"    .p(p_{name}), .pd(pd_{name}), {written});",
@@ -77,7 +79,7 @@ def bench(module, cycles, source, titles):
         *[f'    $readmemh("{name}.hex", {array});' for name, array, _, _ in memories(module)],
         f"    for (cycle = 1; cycle <= {cycles}; cycle = cycle + 1) begin",
         "      #1;",
-        *[f'      if (c_{name}) $display("%0d {name} %0d %h", cycle, ca_{name}, cd_{name});' for name in module.memories()],
+        *[f'      if ({enable}) $display("%0d {name} %0d %h", cycle, {at}, {value});' for name, enable, at, value in module.commits()],
         "      clk = 1;",
         "      #1 clk = 0;",
         "    end",

@@ -53,7 +53,7 @@ def is_still_at_zero(program, source, folder):
     module = Module(text)
     registers = re.findall(r"^reg \[\d+:0\] (r\d+);$", text, re.M)
     enables = re.findall(r"^if \((\w+)\)", text, re.M)
-    asked = [f"core.{name}" for name in enables + [it for it, _ in module.outputs if re.match(r"[cq]_|squash", it)]]
+    asked = [f"core.{name}" for name in enables + [it for it, _ in module.outputs if re.match(r"c2?_|q_|squash", it)]]
     inputs = "".join(f", .p_{name}(1'd0), .pd_{name}({width}'d0)" for name, width in module.words.items())
     lines = [
         "module bench;",

@@ -109,10 +109,10 @@ def lines_of(module, shown, cycles):
     lines, ended, squashes = [], 0, 0
     for cycle, row in enumerate(shown, 1):
         port = dict(zip([name for name, _ in module.outputs], row))
-        for memory in module.memories():
-            if port[f"c_{memory}"] == 1:
-                digits = (module.width[f"cd_{memory}"] + 3) // 4
-                lines.append(f"{cycle} {memory} {port[f'ca_{memory}']} {port[f'cd_{memory}']:0{digits}x}")
+        for memory, enable, at, value in module.commits():
+            if port[enable] == 1:
+                digits = (module.width[value] + 3) // 4
+                lines.append(f"{cycle} {memory} {port[at]} {port[value]:0{digits}x}")
         ended += port["ended"]
         squashes += port["squash"]
     return "\n".join([*lines, f"end cycles {cycles} ended {ended} waits 0 squashes {squashes}", ""])

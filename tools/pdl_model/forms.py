@@ -19,8 +19,8 @@ class Forms(enum.Flag):
 
 
 ALL = Forms.TWO_WRITES | Forms.NESTED_FORKS | Forms.UPDATE | Forms.ADVISORY
-# Those that the program takes today. Of the others two writes are refused by L4, and the rest as words that there aren't.
-TAKEN = Forms.NESTED_FORKS
+# Those that the program takes today. The others are refused as words that there aren't.
+TAKEN = Forms.TWO_WRITES | Forms.NESTED_FORKS
 
 
 def word_of(form):

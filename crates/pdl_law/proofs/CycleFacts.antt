@@ -13,18 +13,18 @@ use Rattle.pdl_machine_lockuse.proofs.Slotwise.{cut_here}
 use Rattle.pdl_machine_inflight.specs.Readings.{Reads}
 use Rattle.pdl_machine_inflight.specs.InFlight.{InFlight}
 use Rattle.pdl_machine_inflight.proofs.Flights.{flights}
-use Rattle.pdl_law.specs.StandingStates.{IsSingle, IsKnown}
-use Rattle.pdl_law.proofs.SingleUse.{served_here}
+use Rattle.pdl_law.specs.StandingStates.{IsKnown}
+use Rattle.pdl_law.proofs.OwnPending.{served_here}
 use Rattle.pdl_semantics.proofs.Facts.{after_more}
 
 -- all that is known of a cycle is known in each state that a run of a sound and strict pipe comes to
-pub known_here : (p : Pipe) → Sound p → Strict p → Careful p → IsSingle p → Reads p
+pub known_here : (p : Pipe) → Sound p → Strict p → Careful p → Reads p
     → (image : Arrays) (before : List (List Bool)) (bits : List Bool)
     → IsKnown p (state_after p (first p image) before) bits
-known_here p sound strict careful single reads image before bits = record {
+known_here p sound strict careful reads image before bits = record {
   by = stages_here p sound strict image before bits;
   used =
-      served_here p sound strict single image before bits (stages_here p sound strict image before bits) (in_use_here p sound strict image before bits careful);
+      served_here p sound strict careful image before bits (stages_here p sound strict image before bits) (in_use_here p sound strict image before bits careful);
   later = subst (λ st. IsInUse p st []) (after_more p (first p image) before bits) (in_use_here p sound strict image (before ++ bits ∷ []) [] careful);
   cut = cut_here p sound strict image before bits;
   flight = flights p sound strict reads image before;

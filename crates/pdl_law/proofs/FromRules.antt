@@ -29,7 +29,6 @@ use Rattle.pdl_machine_inflight.specs.Readings.{ReadsAtOnce, Reads}
 use Rattle.pdl_law.specs.StandingStates.{IsLawful}
 use Rattle.pdl_law.proofs.BuiltForms.{ArePlain, none_advisory, expr_plain, sites_plain}
 use Rattle.pdl_law.proofs.DelayedReads.{RisesIn, rises_from, reading_has, risen, reads_apart, each_reading}
-use Rattle.pdl_law.proofs.SingleReserves.{single_source}
 use Rattle.pdl_word.specs.Each.{Each}
 use Rattle.pdl_word.proofs.Each.{each_weaker}
 
@@ -215,6 +214,5 @@ lawful_source p rules built source named =
       some = (let h = sound.graph.some_stage in omega (arith, h));
       reads = reads_source p rules sound;
       rows = have_rows p rules built;
-      single = single_source p rules built source;
       inside = reading_has (λ n q. q.stage < length (flat p).stages) (flat p).stmts (each_low (length (flat p).stages) (flat p).stmts sound.inside);
     }

@@ -16,11 +16,9 @@ pub mod WholeOutputs
 pub mod NextStores
 pub mod WholeRuns
 pub mod DelayedReads
-mod TwicePaths
-mod SingleReserves
 mod BuiltForms
 pub mod FromRules
-mod SingleUse
+mod OwnPending
 pub mod CycleFacts
 pub mod Places
 pub mod WholeStart

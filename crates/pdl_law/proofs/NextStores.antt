@@ -1,11 +1,11 @@
 -- The delayed memories outside after a cycle stand for the machine's next state.
-use Rattle.std.proofs.Common.{◌≡◌, refl, sym, ap, ap₂, ◌∙◌, subst, ℕ, suc, ◌+◌, ◌^◌, ◌/◌, ◌<◌, ◌≤◌, Bool, true, false, ◌&&◌, ◌||◌, not, List, [], ◌∷◌, ◌++◌, length, map, take, Option, Some, None, arith, ◌==◌, eq-eqb}
+use Rattle.std.proofs.Common.{◌≡◌, refl, sym, ap, ap₂, ◌∙◌, subst, ℕ, suc, ◌+◌, ◌^◌, ◌/◌, ◌<◌, ◌≤◌, Bool, true, false, ◌&&◌, ◌||◌, not, List, [], ◌∷◌, ◌++◌, length, map, take, Option, Some, None, arith, ◌==◌, ⊎_elim}
 use Rattle.std.specs.Prelude.{if◌then◌else◌, slice_index, slice_index_or, slice_set}
-use Rattle.std.proofs.lemmas.Bool.{eqb-true, eqb-false}
+use Rattle.std.proofs.lemmas.Bool.{eqb-true, eqb-false, cases_lt}
 use Rattle.std.proofs.lemmas.List.{get_or-set_same, get_or-set_other, get_or_past, length-set, length-take}
 use Rattle.std.proofs.lemmas.Nat.{pow_pos}
 use Rattle.pdl_kit.specs.declared.mem_info.MemInfo.{MemInfo}
-use Rattle.pdl_semantics.specs.Flat.{Arrays, Mem, Pipe, is_delayed}
+use Rattle.pdl_semantics.specs.Flat.{Arrays, Mem, Pipe, is_delayed, with_word}
 use Rattle.pdl_semantics.specs.Stages.{plain_mem, mem_at}
 use Rattle.pdl_semantics.specs.Locks.{commit_value}
 use Rattle.pdl_semantics.specs.Machine as machine
@@ -13,7 +13,7 @@ use Rattle.pdl_semantics.specs.Machine.{Pending, Request, NoRequest, Owned, Orph
 use Rattle.pdl_semantics.specs.Cycle.{cycle, squasher, all_releases, list_two, taken_out, port_writes, with_commit, with_all_advised, asked_in, request_next, request_left, is_outstanding, waits_from, for_mems}
 use Rattle.pdl_theory_simulation.proofs.PerMemory.{at_mem}
 use Rattle.pdl_net.specs.Circuit.{Circuit, State}
-use Rattle.pdl_net.specs.Run.{Store, reply, committed_words, outstanding, next_stores, commit_of, is_waiting, some_waits}
+use Rattle.pdl_net.specs.Run.{Store, reply, committed_words, outstanding, next_stores, commit_of, commit2_of, is_waiting, some_waits}
 use Rattle.pdl_net.specs.Run as net_run
 use Rattle.pdl_net.specs.Cycle.{output_values}
 use Rattle.pdl_machine_facts.specs.Slots.{moving}
@@ -23,7 +23,9 @@ use Rattle.pdl_law.specs.StandingStates.{IsLawful, IsKnown}
 use Rattle.pdl_law.specs.Outside.{address_asked, IsStore, StoreThen, AreStores}
 use Rattle.pdl_law_sides.specs.WholeNetlist.{replies_of, names_delayed}
 use Rattle.pdl_law.proofs.Requests.{or_old, address_next, never_asked}
-use Rattle.pdl_law_parts.proofs.LinesPorts.{put_in}
+use Rattle.pdl_law_parts.proofs.LinesPorts.{put_in, later}
+use Rattle.pdl_law_parts.proofs.LockStep.{or_zero_is, word_by}
+use Rattle.pdl_word.specs.Each.{Each}
 use Rattle.pdl_law.proofs.Stores.{delayed_in}
 
 -- WAITS
@@ -92,6 +94,67 @@ waits_are p st bits m (x ∷ xs) ys b h r n =
 
 -- ONE MEMORY
 
+-- what a memory writes fits its words
+abbrev pub AreFit : Mem → List Pending → Type 0
+AreFit x es = Each (λ (e : Pending). commit_value e.value < 2 ^ x.width) es
+
+-- words of a memory, which fit it, are those of its array
+record AreWords (x : Mem) (arrays : Arrays) (m : ℕ) (words : List ℕ) : Type 0 where
+  pub long : length words ≡ x.depth
+  pub bounded : (a : ℕ) → slice_index words a < 2 ^ x.width
+  pub same : (a : ℕ) → a < x.depth → slice_index words a ≡ arrays m a
+
+-- words after these writes, the oldest first
+abbrev words_with : List Pending → List ℕ → List ℕ
+words_with [] words = words
+words_with (e ∷ es) words = words_with es (slice_set words e.address (commit_value e.value))
+
+-- with a word more that fits they are those of the array with that word
+one_word : (x : Mem) (arrays : Arrays) (m : ℕ) (words : List ℕ) (e : Pending) → AreWords x arrays m words → commit_value e.value < 2 ^ x.width
+    → AreWords x (with_word arrays m e.address (commit_value e.value)) m (slice_set words e.address (commit_value e.value))
+one_word x arrays m words e h wide = record {
+  long = length-set words e.address (commit_value e.value) ∙ h.long;
+  bounded = bounded;
+  same = λ a l. sym
+      (word_by m x.depth arrays e words (let n = h.long in omega (arith, n)) (λ b i. sym (h.same b i)) a l
+      ∙ ap (λ v. slice_index (slice_set words e.address v) a) (or_zero_is e.value));
+}
+  where
+    bounded : (a : ℕ) → slice_index (slice_set words e.address (commit_value e.value)) a < 2 ^ x.width
+    bounded a = at (e.address == a) refl
+      where
+        at : (b : Bool) → (e.address == a) ≡ b → slice_index (slice_set words e.address (commit_value e.value)) a < 2 ^ x.width
+        at false g = let z = get_or-set_other words e.address a (commit_value e.value) 0 (λ i. eqb-false e.address a g (sym i)) in
+            let w = h.bounded a in omega (arith, z, w)
+        at true g = ⊎_elim
+            (λ (i : e.address < length words).
+            (let z = get_or-set_same words e.address (commit_value e.value) 0 i in
+            let k = ap (λ j. slice_index (slice_set words e.address (commit_value e.value)) j) (eqb-true e.address a g) in
+            omega (arith, z, wide, k)))
+            (λ (i : length words ≤ e.address).
+            (let n = length-set words e.address (commit_value e.value) in
+            let z = get_or_past (slice_set words e.address (commit_value e.value)) e.address 0 (omega (arith, i, n)) in
+            let w = pow_pos x.width in
+            let k = ap (λ j. slice_index (slice_set words e.address (commit_value e.value)) j) (eqb-true e.address a g) in
+            omega (arith, z, w, k)))
+            (cases_lt e.address (length words))
+
+-- and so with all that is taken out of its lock
+words_taken : (x : Mem) (arrays : Arrays) (m : ℕ) (words : List ℕ) (es : List Pending) → AreWords x arrays m words → AreFit x es
+    → AreWords x (with_commit arrays m es) m (words_with es words)
+words_taken x arrays m words [] h fit = h
+words_taken x arrays m words (e ∷ es) h fit =
+    words_taken x (with_word arrays m e.address (commit_value e.value)) m (slice_set words e.address (commit_value e.value)) es
+    (one_word x arrays m words e h fit.0) fit.1
+
+-- at most two writes are the commits of their ports, one after the other
+committed_is : (words : List ℕ) (es : List Pending) → length es ≤ 2
+    → committed_words (committed_words words (put_in (port_writes es))) (put_in (later (port_writes es))) ≡ words_with es words
+committed_is words [] l = refl
+committed_is words (e ∷ []) l = refl
+committed_is words (e ∷ f ∷ []) l = refl
+committed_is words (e ∷ f ∷ g ∷ es) l = absurd (omega (arith, l))
+
 -- in a cycle in which no advisory memory is written
 module _ (p : Pipe) (lawful : IsLawful p) (st : machine.State) (bits : List Bool) (known : IsKnown p st bits)
     (calm : (arrays : Arrays) → with_all_advised (moving p st bits) arrays ≡ arrays) where
@@ -128,67 +191,28 @@ module _ (p : Pipe) (lawful : IsLawful p) (st : machine.State) (bits : List Bool
 
   -- its words and its request, by what it commits and is asked
   module _ (m : ℕ) (l : m < length p.mems) (y : Store) (h : IsStore st m (mem_at p m) y)
-      (wide : (e : Pending) (es : List Pending) → taken_out st (moving p st bits) m ≡ e ∷ es → commit_value e.value < 2 ^ (mem_at p m).width)
+      (wide : AreFit (mem_at p m) (taken_out st (moving p st bits) m))
       (low : (a : ℕ) → asked_in (moving p st bits) m ≡ Some a → a < (mem_at p m).depth) where
-    words_for : (o : List Pending) → taken_out st (moving p st bits) m ≡ o → length o ≤ 1
-        → (length (committed_words y.words (put_in (port_writes o))) ≡ (mem_at p m).depth)
-        × ((a : ℕ) → slice_index (committed_words y.words (put_in (port_writes o))) a < 2 ^ (mem_at p m).width)
-        × ((a : ℕ) → a < (mem_at p m).depth → slice_index (committed_words y.words (put_in (port_writes o))) a ≡ with_commit st.arrays m o m a)
-    words_for (e ∷ g ∷ es) f l = absurd (omega (arith, l))
-    words_for [] e l = (h.long, h.bounded, h.same)
-    words_for (e ∷ []) f l = (length-set y.words e.address (commit_value e.value) ∙ h.long, bounded, same)
-      where
-        bounded : (a : ℕ) → slice_index (slice_set y.words e.address (commit_value e.value)) a < 2 ^ (mem_at p m).width
-        bounded a = at (e.address == a) refl
-          where
-            at : (b : Bool) → (e.address == a) ≡ b → slice_index (slice_set y.words e.address (commit_value e.value)) a < 2 ^ (mem_at p m).width
-            at false g = let z = get_or-set_other y.words e.address a (commit_value e.value) 0 (λ i. eqb-false e.address a g (sym i)) in
-                let w = h.bounded a in omega (arith, z, w)
-            at true g = Rattle.std.proofs.Common.⊎_elim
-                (λ (i : e.address < length y.words).
-                (let z = get_or-set_same y.words e.address (commit_value e.value) 0 i in let w = wide e [] f in
-                let k = ap (λ j. slice_index (slice_set y.words e.address (commit_value e.value)) j) (eqb-true e.address a g) in
-                omega (arith, z, w, k)))
-                (λ (i : length y.words ≤ e.address).
-                (let n = length-set y.words e.address (commit_value e.value) in
-                let z = get_or_past (slice_set y.words e.address (commit_value e.value)) e.address 0 (omega (arith, i, n)) in
-                let w = pow_pos (mem_at p m).width in
-                let k = ap (λ j. slice_index (slice_set y.words e.address (commit_value e.value)) j) (eqb-true e.address a g) in
-                omega (arith, z, w, k)))
-                (Rattle.std.proofs.lemmas.Bool.cases_lt e.address (length y.words))
-
-        same : (a : ℕ) → a < (mem_at p m).depth → slice_index (slice_set y.words e.address (commit_value e.value)) a ≡ with_commit st.arrays m (e ∷ []) m a
-        same a i =
-            at (a == e.address) refl
-            ∙ sym
-            (ap (λ b. (if b then Rattle.pdl_semantics.specs.Flat.with_value (st.arrays m) e.address (commit_value e.value) else st.arrays m) a)
-            (eq-eqb m m refl))
-          where
-            at : (b : Bool) → (a == e.address) ≡ b
-                → slice_index (slice_set y.words e.address (commit_value e.value)) a ≡ (if a == e.address then commit_value e.value else st.arrays m a)
-            at true g =
-                let k = eqb-true a e.address g in
-                ap (slice_index (slice_set y.words e.address (commit_value e.value))) k
-                ∙ get_or-set_same y.words e.address (commit_value e.value) 0 (let n = h.long in omega (arith, n, i, k))
-                ∙ ap (λ b. if b then commit_value e.value else st.arrays m a) (sym g)
-            at false g =
-                get_or-set_other y.words e.address a (commit_value e.value) 0 (eqb-false a e.address g) ∙ h.same a i
-                ∙ ap (λ b. if b then commit_value e.value else st.arrays m a) (sym g)
-
-    -- a delayed memory's words with its commit, and its request with what it is asked, stand for the machine's next state
+    -- a delayed memory's words with its commits, and its request with what it is asked, stand for the machine's next state
     pub store_next : IsStore (cycle p st bits) m (mem_at p m)
         (record {
-          words = committed_words y.words (put_in (port_writes (taken_out st (moving p st bits) m)));
+          words =
+              committed_words (committed_words y.words (put_in (port_writes (taken_out st (moving p st bits) m))))
+              (put_in (later (port_writes (taken_out st (moving p st bits) m))));
           request = outstanding y.request (is_answered p bits m) (asked_in (moving p st bits) m);
         })
     store_next =
-        let few = known.used.single m l in
+        let taken = taken_out st (moving p st bits) m in
+        let few = known.used.in_use.few m l in
         let all = length-take (all_releases m (moving p st bits)) (list_two st (moving p st bits) m) in
-        let w = words_for (taken_out st (moving p st bits) m) refl (omega (arith, few, all)) in
+        let before : AreWords (mem_at p m) st.arrays m y.words = record { long = h.long; bounded = h.bounded; same = h.same } in
+        let w =
+        subst (AreWords (mem_at p m) (with_commit st.arrays m taken) m) (sym (committed_is y.words taken (omega (arith, few, all))))
+        (words_taken (mem_at p m) st.arrays m y.words taken before wide) in
         record {
-          long = w.0;
-          bounded = w.1;
-          same = λ a i. w.2 a i
+          long = w.long;
+          bounded = w.bounded;
+          same = λ a i. w.same a i
               ∙ sym (ap (λ (f : ℕ → ℕ). f a) (known.by.arrays m l)
               ∙ ap (λ (x : Arrays). x m a) (calm (with_commit st.arrays m (taken_out st (moving p st bits) m))));
           request = outstanding_is m y.request (is_answered p bits m) h.request (asked_in (moving p st bits) m) ∙ sym (request_after m l);
@@ -208,8 +232,9 @@ module _ (p : Pipe) (lawful : IsLawful p) (st : machine.State) (bits : List Bool
   -- a memory's step, where it is delayed: what it commits and is asked by its name
   pub record StepsTo (c : Circuit) (s : State) (names : ℕ → List ℕ) (m : ℕ) : Type 0 where
     pub commit : commit_of c (output_values c s) (names m) ≡ put_in (port_writes (taken_out st (moving p st bits) m))
+    pub commit2 : commit2_of c (output_values c s) (names m) ≡ put_in (later (port_writes (taken_out st (moving p st bits) m)))
     pub request : net_run.request_of c (output_values c s) (names m) ≡ asked_in (moving p st bits) m
-    pub wide : (e : Pending) (es : List Pending) → taken_out st (moving p st bits) m ≡ e ∷ es → commit_value e.value < 2 ^ (mem_at p m).width
+    pub wide : AreFit (mem_at p m) (taken_out st (moving p st bits) m)
     pub low : (a : ℕ) → asked_in (moving p st bits) m ≡ Some a → a < (mem_at p m).depth
 
   -- all delayed memories outside stand for the machine's next state, where each has its step and the machine's reply bit
@@ -246,22 +271,28 @@ module _ (p : Pipe) (lawful : IsLawful p) (st : machine.State) (bits : List Bool
           let mem : mem_at p m ≡ x = ap (mem_at p) (let z : m ≡ m + 0 = omega arith in z) ∙ f 0 (omega arith) in
           let mine = store_next m (omega (arith, e)) y (subst (λ z. IsStore st m z y) (sym mem) w.0) q.wide q.low in
           let told : record {
-            words = committed_words y.words (put_in (port_writes (taken_out st (moving p st bits) m)));
+            words =
+                committed_words (committed_words y.words (put_in (port_writes (taken_out st (moving p st bits) m))))
+                (put_in (later (port_writes (taken_out st (moving p st bits) m))));
             request = outstanding y.request (is_answered p bits m) (asked_in (moving p st bits) m);
           }
           ≡ record {
-            words = committed_words y.words (commit_of c (output_values c s) i.name);
+            words = committed_words (committed_words y.words (commit_of c (output_values c s) i.name)) (commit2_of c (output_values c s) i.name);
             request = outstanding y.request (reply b) (net_run.request_of c (output_values c s) i.name);
           } =
           λ j. record {
-            words = committed_words y.words ((sym q.commit ∙ ap (commit_of c (output_values c s)) (sym n.0)) j);
+            words =
+                committed_words (committed_words y.words ((sym q.commit ∙ ap (commit_of c (output_values c s)) (sym n.0)) j))
+                ((sym q.commit2 ∙ ap (commit2_of c (output_values c s)) (sym n.0)) j);
             request = outstanding y.request (replied_here p bits m x xs b d r j) ((sym q.request ∙ ap (net_run.request_of c (output_values c s)) (sym n.0)) j);
           } in (
             subst (λ z. IsStore (cycle p st bits) m x z) told
                 (subst
                 (λ z. IsStore (cycle p st bits) m z
                 (record {
-                  words = committed_words y.words (put_in (port_writes (taken_out st (moving p st bits) m)));
+                  words =
+                      committed_words (committed_words y.words (put_in (port_writes (taken_out st (moving p st bits) m))))
+                      (put_in (later (port_writes (taken_out st (moving p st bits) m))));
                   request = outstanding y.request (is_answered p bits m) (asked_in (moving p st bits) m);
                 })) mem mine),
             go is ys n.1 (b / 2) w.1 (replied_after p bits m x xs b true d r),

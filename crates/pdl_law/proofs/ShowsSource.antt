@@ -21,7 +21,7 @@ use Rattle.pdl_image.specs.Images.{IsImage}
 use Rattle.pdl_machine_facts.proofs.Requests.{none_requested}
 use Rattle.pdl_law_parts.specs.Walk.{Locks}
 use Rattle.pdl_law_parts.specs.Views.{View, Gates}
-use Rattle.pdl_law_parts.specs.Declared.{mem_names}
+use Rattle.pdl_law_parts.specs.DeclaredMems.{mem_names}
 use Rattle.pdl_law_sides.specs.Sides.{Sides}
 use Rattle.pdl_law.specs.StandingStates.{IsLawful, IsKnown}
 use Rattle.pdl_law_sides.specs.WholeNetlist.{in_order, ShowsWhole}
@@ -69,7 +69,7 @@ pub known_source : (p : tree.Pipe) → KeepsRules p → IsBuilt p
     → IsKnown (flat p) (state_after (flat p) (first (flat p) image) before) bits
 known_source p rules built source named =
     let lawful = lawful_source p rules built source named in
-    known_here (flat p) lawful.sound (paths_strict p rules source) (careful_source p rules source) lawful.single lawful.reads
+    known_here (flat p) lawful.sound (paths_strict p rules source) (careful_source p rules source) lawful.reads
 
 module _ (p : tree.Pipe) (rules : KeepsRules p) (built : IsBuilt p) (source : is_source p ≡ true) (named : is_named p ≡ true) (ls : Locks)
     (vs : ℕ → View) (gates : Gates) (moves : ℕ → Signal) (sides : Sides) (n : Netlist)

@@ -301,7 +301,8 @@ module _ (p : Pipe) (sound : Sound p) (still : ReplacesNone p) (leads : LeadsOn 
           let words = words_next p ls vs moves s st bits by used seen stood m locked stand gates squashed in
           let on : ls.stands m t (lock_state_of (stand.base + released) (machine.lock_of (cycle p st bits) m) words) =
           subst (λ es. ls.stands m t (lock_state_of (stand.base + released) es words)) (sym left_list)
-          (stands_next p ls vs moves s st bits by used seen stood m locked stand gates squashed x.kind (made.owns m) c (made.commits m) x.step t
+          (stands_next p ls vs moves s st bits by used seen stood m locked stand gates squashed x.kind
+          (λ k l. (made.stages k l).tickets_wide m locked) (made.owns m) c (made.commits m).first x.step t
           (is_next (made.owns m) c c s t (record { has_reg = x.regs; nexts = λ k lo hi. refl; has_array = x.arrays; writes = λ i lo hi. refl }) regs arrays)) in
           sym (x.ticket.holds t (lock_state_of (stand.base + released) (machine.lock_of (cycle p st bits) m) words) on)
           ∙ x.ticket.holds t (lock_state_of stand'.base (machine.lock_of (cycle p st bits) m) stand'.words) stand'.stands

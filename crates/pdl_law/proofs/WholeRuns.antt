@@ -1,14 +1,15 @@
 -- The netlist of a whole pipe shows in each cycle what the machine shows, with its delayed memories outside.
-use Rattle.std.proofs.Common.{◌≡◌, refl, sym, ap, ap₂, ◌∙◌, subst, ℕ, suc, ◌+◌, ◌^◌, ◌<◌, Bool, true, false, List, [], ◌∷◌, ◌++◌, length, map, take, Option, Some, None, codes, arith}
+use Rattle.std.proofs.Common.{◌≡◌, refl, sym, ap, ap₂, ◌∙◌, subst, ℕ, suc, ◌+◌, ◌^◌, ◌<◌, ◌≤◌, Bool, true, false, List, [], ◌∷◌, ◌++◌, length, map, take, Option, Some, None, codes, arith}
 use Rattle.std.specs.Prelude.{if◌then◌else◌, slice_index, slice_index_or, filter_map}
+use Rattle.std.proofs.lemmas.List.{length-take}
 use Rattle.std.proofs.lemmas.List.Elements.{filter_map-append}
-use Rattle.pdl_semantics.specs.Flat.{Arrays, Mem, Pipe, Lock, arrays_of, has_lock, is_delayed}
+use Rattle.pdl_semantics.specs.Flat.{Arrays, Mem, Pipe, arrays_of, is_delayed}
 use Rattle.pdl_semantics.specs.Stages.{mem_at, reply_place}
 use Rattle.pdl_semantics.specs.Locks.{commit_value}
 use Rattle.pdl_semantics.specs.Machine as machine
 use Rattle.pdl_semantics.specs.Machine.{Pending, NoRequest, is_answered, request_of}
 use Rattle.pdl_semantics.specs.Moves.{all_acts}
-use Rattle.pdl_semantics.specs.Cycle.{first, cycle, state_after, turns_from, is_wait, with_all_advised, taken_out, port_writes, list_two, asked_in, waits_from}
+use Rattle.pdl_semantics.specs.Cycle.{first, cycle, state_after, turns_from, is_wait, with_all_advised, all_releases, taken_out, port_writes, list_two, asked_in, waits_from}
 use Rattle.pdl_semantics.specs.Cycle as stated
 use Rattle.pdl_semantics.specs.SecondWrites.{reserves_twice}
 use Rattle.pdl_net.specs.declared.Netlist.{Netlist}
@@ -30,21 +31,21 @@ use Rattle.pdl_law_parts.specs.Compiled.{port_in}
 use Rattle.pdl_law_parts.specs.Runs.{Seen, seen_of}
 use Rattle.pdl_law_parts.specs.Stands.{IsSeen, IsSquashed}
 use Rattle.pdl_law_parts.proofs.StageLooks.{plain_is}
-use Rattle.pdl_law_parts.proofs.LinesPorts.{put_in}
-use Rattle.pdl_law_parts.proofs.Outputs.{commit_words}
+use Rattle.pdl_law_parts.specs.Served.{at_most}
+use Rattle.pdl_law_parts.proofs.LinesPorts.{put_in, later}
 use Rattle.pdl_machine_inflight.specs.Readings.{reading}
 use Rattle.pdl_law_sides.specs.Sides.{Sides}
 use Rattle.pdl_law.specs.StandingStates.{IsLawful, IsKnown}
 use Rattle.pdl_law.specs.Outside.{AreStores}
-use Rattle.pdl_law_sides.specs.WholeNetlist.{IsWhole, reply_ports, in_order, replies_of, whole_had, HasWholeMems, ShowsWhole}
+use Rattle.pdl_law_sides.specs.WholeNetlist.{IsNet, FitsOutside, IsWhole, reply_ports, in_order, replies_of, whole_had, HasWholeMems, ShowsWhole}
 use Rattle.pdl_law_parts.specs.Places.{delayed_count}
 use Rattle.pdl_law.proofs.PortSides.{IsGiven}
 use Rattle.pdl_law.proofs.PortsNext.{address_or}
 use Rattle.pdl_law.proofs.WholeCycle.{WholeStands, seen_whole, squashed_whole, calm_whole, whole_next}
 use Rattle.pdl_law.proofs.Stores.{delayed_in, counted, ReadsStore, inputs_read, input_widths, inputs_fit}
 use Rattle.pdl_law.proofs.OutputNames.{Apart}
-use Rattle.pdl_law.proofs.WholeOutputs.{commit_at, request_at, commit_named, no_commit, request_named, whole_shows}
-use Rattle.pdl_law.proofs.NextStores.{Replied, waits_are, quiet_next, StepsTo, stores_next}
+use Rattle.pdl_law.proofs.WholeOutputs.{ShowsPut, puts_at, request_at, commit_named, commit2_named, no_commit, no_commit2, request_named, whole_shows}
+use Rattle.pdl_law.proofs.NextStores.{AreFit, Replied, waits_are, quiet_next, StepsTo, stores_next}
 use Rattle.pdl_semantics.proofs.Facts.{after_more}
 
 -- INPUTS
@@ -192,10 +193,11 @@ module _ (p : Pipe) (names : ℕ → List ℕ) (apart : Apart names (length p.me
           → StepsTo p lawful st (replies_of (delayed_count p) b) knows calm (circuit_of n) (state_in h b) names m
       steps m l d = record {
         commit = at (is_locked p m) refl;
+        commit2 = at2 (is_locked p m) refl;
         request =
             request_named p names apart lawful ls vs gates moves sides (circuit_of n) made (state_in h b) st
             (replies_of (delayed_count p) b) suits knows (x.whole b suits).stands seen squashed m l d;
-        wide = λ e es f. wide (is_locked p m) refl e es f;
+        wide = wide (is_locked p m) refl;
         low = λ a f. low a f;
       }
         where
@@ -213,38 +215,60 @@ module _ (p : Pipe) (names : ℕ → List ℕ) (apart : Apart names (length p.me
               (replies_of (delayed_count p) b) suits knows (x.whole b suits).stands seen squashed m l e
               ∙ ap (λ o. put_in (port_writes o)) (sym (none e))
 
-          wide : (t : Bool) → is_locked p m ≡ t → (e : Pending) (es : List Pending)
-              → taken_out st (moving p st (replies_of (delayed_count p) b)) m ≡ e ∷ es
-              → commit_value e.value < 2 ^ (mem_at p m).width
-          wide false g e es f = absurd (cc (sym (none g) ∙ f))
-          wide true g e es f =
-              let fits = made.fits m l d in
-              let net = fits.word g in
-              let words =
-              commit_at p names apart lawful ls vs gates moves sides (circuit_of n) made (state_in h b) st
-              (replies_of (delayed_count p) b) suits knows (x.whole b suits).stands seen squashed m g in
-              let value : (made.laid.commits m).value.value (state_in h b) ≡ commit_value e.value =
-              value_is (mem_at p m).lock g (reserves_twice m p.stmts)
-              (words ∙ ap (λ o. Rattle.pdl_machine_facts.specs.Ports.commit_values (mem_at p m).lock (reserves_twice m p.stmts) (port_writes o)) f) in
+          at2 : (t : Bool) → is_locked p m ≡ t
+              → net_run.commit2_of (circuit_of n) (output_values (circuit_of n) (state_in h b)) (names m)
+              ≡ put_in (later (port_writes (taken_out st (moving p st (replies_of (delayed_count p) b)) m)))
+          at2 true e =
+              commit2_named p names apart lawful ls vs gates moves sides (circuit_of n) made (state_in h b) st
+              (replies_of (delayed_count p) b) suits knows (x.whole b suits).stands seen squashed m l e
+          at2 false e =
+              no_commit2 p names apart lawful ls vs gates moves sides (circuit_of n) made (state_in h b) st
+              (replies_of (delayed_count p) b) suits knows (x.whole b suits).stands seen squashed m l e
+              ∙ ap (λ o. put_in (later (port_writes o))) (sym (none e))
+
+          -- a committed word is that of a net, which fits
+          fits_net : (f : Signal) (v : ℕ) → IsNet (circuit_of n) f → f.width ≡ (mem_at p m).width → f.value (state_in h b) ≡ v
+              → v < 2 ^ (mem_at p m).width
+          fits_net f v net wide e =
               let bound = (bounded (circuit_of n) (state_in h b) well suits net.0 net.1).fits in
-              let bound' : (made.laid.commits m).value.value (state_in h b) < 2 ^ (made.laid.commits m).value.width =
-              subst (λ (y : Signal). y.value (state_in h b) < 2 ^ y.width) net.2 bound in
-              let bound'' : (made.laid.commits m).value.value (state_in h b) < 2 ^ (mem_at p m).width =
-              subst (λ k. (made.laid.commits m).value.value (state_in h b) < 2 ^ k) (fits.wide g) bound' in
-              subst (λ k. k < 2 ^ (mem_at p m).width) value bound''
+              let bound' : f.value (state_in h b) < 2 ^ f.width = subst (λ (y : Signal). y.value (state_in h b) < 2 ^ y.width) net.2 bound in
+              subst (λ k. k < 2 ^ (mem_at p m).width) e (subst (λ k. f.value (state_in h b) < 2 ^ k) wide bound')
+
+          wide : (t : Bool) → is_locked p m ≡ t → AreFit (mem_at p m) (taken_out st (moving p st (replies_of (delayed_count p) b)) m)
+          wide false g = subst (AreFit (mem_at p m)) (sym (none g)) tt
+          wide true g = each (taken_out st (moving p st (replies_of (delayed_count p) b)) m) shows.0 (reserves_twice m p.stmts) refl shows.1 few
             where
-              value_is : (k : Lock) → has_lock k ≡ true → (twice : Bool)
-                  → commit_words names (state_in h b) st (made.laid.commits m)
-                  ≡ Rattle.pdl_machine_facts.specs.Ports.commit_values k twice (port_writes (e ∷ es))
-                  → (made.laid.commits m).value.value (state_in h b) ≡ commit_value e.value
-              value_is k i twice j =
-                  ap (λ ws. slice_index ws 2)
-                  (j
-                  ∙ ap
-                  (λ (t : Bool). if t
-                  then (1 ∷ e.address ∷ commit_value e.value ∷ [])
-                  ++ (if twice then Rattle.pdl_machine_facts.specs.Ports.second_values (port_writes (e ∷ es)) else [])
-                  else []) i)
+              fits : FitsOutside p (circuit_of n) (made.asks m) (made.laid.commits m) m
+              fits = made.fits m l d
+
+              shows : ShowsPut (state_in h b) (made.laid.commits m).first (port_writes (taken_out st (moving p st (replies_of (delayed_count p) b)) m))
+                  × (reserves_twice m p.stmts ≡ true
+                  → ShowsPut (state_in h b) (made.laid.commits m).second
+                  (later (port_writes (taken_out st (moving p st (replies_of (delayed_count p) b)) m))))
+              shows =
+                  puts_at p names apart lawful ls vs gates moves sides (circuit_of n) made (state_in h b) st
+                  (replies_of (delayed_count p) b) suits knows (x.whole b suits).stands seen squashed m g
+
+              few : length (taken_out st (moving p st (replies_of (delayed_count p) b)) m) ≤ at_most p m
+              few =
+                  let gone = all_releases m (moving p st (replies_of (delayed_count p) b)) in
+                  let long = length-take gone (list_two st (moving p st (replies_of (delayed_count p) b)) m) in
+                  let most = knows.used.released m l in
+                  omega (arith, long, most)
+
+              each : (es : List Pending) → ShowsPut (state_in h b) (made.laid.commits m).first (port_writes es) → (t : Bool) → reserves_twice m p.stmts ≡ t
+                  → (reserves_twice m p.stmts ≡ true → ShowsPut (state_in h b) (made.laid.commits m).second (later (port_writes es)))
+                  → length es ≤ (if t then 2 else 1) → AreFit (mem_at p m) es
+              each [] first t twice second few = tt
+              each (e ∷ []) first t twice second few =
+                  (fits_net (made.laid.commits m).first.value (commit_value e.value) (fits.word g).0 (fits.wide g).0 first.word, tt)
+              each (e ∷ f ∷ []) first false twice second few = absurd (omega (arith, few))
+              each (e ∷ f ∷ []) first true twice second few = (
+                fits_net (made.laid.commits m).first.value (commit_value e.value) (fits.word g).0 (fits.wide g).0 first.word,
+                (fits_net (made.laid.commits m).second.value (commit_value f.value) (fits.word g).1 (fits.wide g).1 (second twice).word, tt),
+              )
+              each (e ∷ f ∷ k ∷ es) first false twice second few = absurd (omega (arith, few))
+              each (e ∷ f ∷ k ∷ es) first true twice second few = absurd (omega (arith, few))
 
           low : (a : ℕ) → asked_in (moving p st (replies_of (delayed_count p) b)) m ≡ Some a → a < (mem_at p m).depth
           low a f =

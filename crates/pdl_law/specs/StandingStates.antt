@@ -1,10 +1,9 @@
 -- A state of the netlist of a whole pipe that stands for a state of the machine, and what is known of a cycle of the machine.
-use Rattle.std.specs.Prelude.{◌≡◌, ℕ, ◌<◌, ◌≤◌, Bool, true, false, List, [], Some, length}
+use Rattle.std.specs.Prelude.{◌≡◌, ℕ, ◌<◌, ◌≤◌, Bool, true, List, [], Some, length}
 use Rattle.pdl_semantics.specs.Flat.{Pipe}
 use Rattle.pdl_semantics.specs.Machine as machine
 use Rattle.pdl_semantics.specs.Machine.{Thread}
 use Rattle.pdl_semantics.specs.Cycle.{cycle, squasher, is_kept}
-use Rattle.pdl_semantics.specs.SecondWrites.{reserves_twice}
 use Rattle.pdl_theory_facts.specs.Facts.{Sound}
 use Rattle.pdl_machine_facts.specs.Slots.{LeadsOn, here, stage_moves, moving}
 use Rattle.pdl_machine_facts.specs.Cycle.{IsByStages}
@@ -15,10 +14,6 @@ use Rattle.pdl_law_parts.specs.Served.{IsServed}
 use Rattle.pdl_machine_inflight.specs.Readings.{Reading, reading, Reads}
 use Rattle.pdl_machine_inflight.specs.InFlight.{InFlight}
 
--- no path reserves a memory twice for writing: the circuit of a lock has one commit in a cycle
-abbrev pub IsSingle : Pipe → Type 0
-IsSingle p = (m : ℕ) → m < length p.mems → reserves_twice m p.stmts ≡ false
-
 -- what the rules give of a pipe, as far as its netlist hangs on it
 pub record IsLawful (p : Pipe) : Type 0 where
   pub sound : Sound p
@@ -27,7 +22,6 @@ pub record IsLawful (p : Pipe) : Type 0 where
   pub reads : Reads p
   pub rows : HaveRows p
   pub inside : (m : ℕ) (r : Reading) → reading p m ≡ Some r → r.stage < length p.stages
-  pub single : IsSingle p
 
 -- what is known of a cycle from a state that a run comes to
 pub record IsKnown (p : Pipe) (st : machine.State) (bits : List Bool) : Type 0 where

@@ -1,16 +1,17 @@
 -- What follows a pipe by what is seen of it: a netlist that shows the same follows it too, and it has the two outputs that each pipe has.
-use Rattle.std.proofs.Common.{◌≡◌, ℕ, ◌≤◌, List, [], ◌∷◌, length, map, ap, ◌∙◌, subst, arith}
+use Rattle.std.proofs.Common.{◌≡◌, ℕ, suc, ◌≤◌, Bool, true, false, List, [], ◌∷◌, length, map, ap, ◌∙◌, subst, arith}
 use Rattle.std.proofs.lemmas.List.{length-map}
 use Rattle.pdl_semantics.specs.Tree as tree
 use Rattle.pdl_semantics.specs.Flatten.{flat}
+use Rattle.pdl_semantics.specs.SecondWrites.{reserves_twice}
 use Rattle.pdl_net.specs.declared.Netlist.{Netlist}
 use Rattle.pdl_net.specs.Circuit.{circuit_of, outputs_of, shape_of}
 use Rattle.pdl_net.specs.Pipe.{PortMem, head_of, IsWellFormed}
 use Rattle.pdl_net.specs.Run.{nports}
 use Rattle.pdl_image.specs.Images.{IsImage}
-use Rattle.pdl_law_parts.specs.Declared.{port_mem, locked_of}
+use Rattle.pdl_law_parts.specs.DeclaredMems.{port_mem, locked_of}
 use Rattle.pdl_law_parts.specs.Runs.{seen_of, output_count}
-use Rattle.pdl_law_parts.proofs.LinesNames.{name_of_output, some_stages}
+use Rattle.pdl_law_parts.proofs.LinesNames.{name_of_output, second_names, some_stages}
 use Rattle.pdl_law_follows.specs.Memories.{delayed_of}
 use Rattle.pdl_law_follows.specs.Follows.{Follows}
 use Rattle.pdl_law_follows.proofs.PortNames.{commit_names, request_names, last_names, output_names}
@@ -33,7 +34,11 @@ follows_like p n q well name ports mems arrays shows f = record {
 
 more_commits : (ls : List PortMem) (rest : List (List ℕ)) → length rest ≤ length (commit_names ls rest)
 more_commits [] rest = omega arith
-more_commits (l ∷ ls) rest = let e = more_commits ls rest in omega (arith, e)
+more_commits (l ∷ ls) rest = at l.twice (more_commits ls rest)
+  where
+    at : (b : Bool) → length rest ≤ length (commit_names ls rest) → length rest ≤ suc (suc (suc (length (second_names b l.name (commit_names ls rest)))))
+    at true e = omega (arith, e)
+    at false e = omega (arith, e)
 
 more_requests : (ls : List PortMem) (rest : List (List ℕ)) → length rest ≤ length (request_names ls rest)
 more_requests [] rest = omega arith
@@ -43,8 +48,8 @@ more_requests (l ∷ ls) rest = let e = more_requests ls rest in omega (arith, e
 few_outputs : (p : tree.Pipe) (n : Netlist) → Follows p n → 2 ≤ output_count n
 few_outputs p n f =
     let stages = length (flat p).stages in
-    let delayed = map port_mem (delayed_of p.mems) in
-    let locked = locked_of p.mems in
+    let delayed = map (port_mem false) (delayed_of p.mems) in
+    let locked = locked_of (λ m. reserves_twice m (flat p).stmts) 0 p.mems in
     let a = more_requests delayed last_names in
     let b = more_commits locked (request_names delayed last_names) in
     let c = some_stages 0 stages (commit_names locked (request_names delayed last_names)) in

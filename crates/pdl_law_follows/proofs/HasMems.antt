@@ -14,7 +14,7 @@ use Rattle.pdl_rules.specs.Refusal.{answers_at_once}
 use Rattle.pdl_net.specs.declared.Netlist.{Netlist}
 use Rattle.pdl_law_parts.specs.Walk.{Locks}
 use Rattle.pdl_law_parts.specs.Places.{delayed_count, comb_place, net_place}
-use Rattle.pdl_law_parts.specs.Declared.{mem_names}
+use Rattle.pdl_law_parts.specs.DeclaredMems.{mem_names}
 use Rattle.pdl_law_sides.specs.WholeNetlist.{names_delayed, HasWholeMems}
 use Rattle.pdl_law.proofs.Places as places
 use Rattle.pdl_law.proofs.Places.{fewer_before, place_delayed, place_comb}

@@ -1,5 +1,5 @@
 -- A netlist that follows an accepted source has the machine's lines: what its outputs say by their names and places is what the machine does.
-use Rattle.std.proofs.Common.{◌≡◌, ℕ, suc, ◌-◌, ◌==◌, Bool, true, false, List, [], ◌∷◌, ◌++◌, length, map, codes, refl, sym, ap, ap₂, ◌∙◌, subst, append_assoc}
+use Rattle.std.proofs.Common.{◌≡◌, ℕ, suc, ◌-◌, ◌==◌, Bool, true, false, List, [], ◌∷◌, ◌++◌, length, map, codes, decimal, bytes_eq, refl, sym, ap, ap₂, ◌∙◌, subst, append_assoc}
 use Rattle.std.specs.Prelude.{slice_index}
 use Rattle.std.proofs.lemmas.List.{length-map}
 use Rattle.pdl_word.specs.Words.{bit}
@@ -10,8 +10,8 @@ use Rattle.pdl_semantics.specs.Flat.{Arrays, Pipe, arrays_of}
 use Rattle.pdl_semantics.specs.Flat
 use Rattle.pdl_semantics.specs.Flatten.{flat, mems_of}
 use Rattle.pdl_semantics.specs.Machine.{State}
-use Rattle.pdl_semantics.specs.Cycle.{Ports, Turn, turns, turns_from, first, cycle, state_after, for_mems}
-use Rattle.pdl_semantics.specs.SecondWrites.{all_twice}
+use Rattle.pdl_semantics.specs.Cycle.{PortWrite, Ports, Turn, turns, turns_from, first, cycle, state_after, for_mems}
+use Rattle.pdl_semantics.specs.SecondWrites.{reserves_twice, all_twice}
 use Rattle.pdl_semantics.specs.Lines.{Put, cycle_lines, lines_from, lines, columns, puts_for, puts_in, turn_cycle, turn_cycles}
 use Rattle.pdl_rules.specs.Typed.{AreDistinct}
 use Rattle.pdl_rules.specs.Refusal.{KeepsRules}
@@ -21,16 +21,17 @@ use Rattle.pdl_source_paths.specs.Source.{is_source, is_named}
 use Rattle.pdl_source_paths.proofs.Memories.{mems_length}
 use Rattle.pdl_net.specs.declared.Netlist.{Netlist}
 use Rattle.pdl_net.specs.Circuit.{circuit_of, outputs_of}
-use Rattle.pdl_net.specs.Run.{Shown, nports, commit_of, port_value}
+use Rattle.pdl_net.specs.Run.{Shown, nports, commit_of, commit2_of, port_value}
 use Rattle.pdl_machine_facts.specs.Ports.{stage_values, all_commit_values}
 use Rattle.pdl_machine_facts.specs.Cycle.{ports_of, IsByStages}
 use Rattle.pdl_law_parts.specs.Served.{IsServed}
-use Rattle.pdl_law_parts.specs.Declared.{port_mem, locked_of}
+use Rattle.pdl_law_parts.specs.DeclaredMems.{port_mem}
 use Rattle.pdl_law_parts.specs.Runs.{Seen, seen_of, column_of, puts_of, output_count, cycle_by, cycle_of, commit_mems}
+use Rattle.pdl_law_parts.specs.Runs.{puts_in as puts_by}
 use Rattle.pdl_law_parts.proofs.WellFormedPorts.{stage_names}
-use Rattle.pdl_law_parts.proofs.LinesMachine.{AreCommits, none_twice, IsShaped, shaped}
+use Rattle.pdl_law_parts.proofs.LinesMachine.{AreCommits, IsShaped, shaped}
 use Rattle.pdl_law_parts.proofs.LinesNames.{name_of_output}
-use Rattle.pdl_law_parts.proofs.LinesPorts.{named_value, port_is, past_stages, stages_same, found, put_in, put_cases, same_put, found_short, each_found}
+use Rattle.pdl_law_parts.proofs.LinesPorts.{named_value, port_is, past_stages, stages_same, found, flag_of, addr_of, word_of, later, put_in, put_cases, same_put, found_short, each_found}
 use Rattle.pdl_law_parts.proofs.LinesColumns.{AreFound, locked_infos, locked_lines}
 use Rattle.pdl_law_parts.proofs.LinesEnds.{map_same, bit_one, last_two, end_of, same_end}
 use Rattle.pdl_law_parts.proofs.LinesEnds as line
@@ -42,7 +43,7 @@ use Rattle.pdl_law_follows.specs.Follows.{Follows}
 use Rattle.pdl_law_follows.specs.Runs.{ShowsTurns}
 use Rattle.pdl_law_follows.proofs.PortNames.{commit_names, request_names, last_names, output_names}
 use Rattle.pdl_law_follows.proofs.Ports.{outputs_are}
-use Rattle.pdl_law_follows.proofs.LinesPorts.{commits_then, requests_then, flag_is, addr_is, word_is, commits_same, past_requests, requests_same, locked_shown, net_found}
+use Rattle.pdl_law_follows.proofs.LinesPorts.{locked_from, IsStep, flag_step, addr_step, word_step, flag2_step, addr2_step, word2_step, commits_then, requests_then, port_told, commits_same, past_requests, requests_same, locked_shown, net_found}
 use Rattle.pdl_law_follows.proofs.FollowsMade.{declared}
 use Rattle.pdl_semantics.proofs.Facts.{after_more}
 
@@ -76,7 +77,8 @@ turns_have p image known before st (bits ∷ schedule) e = (
 
 module _ (p : Pipe) (ms : List Mem) (same : p.mems ≡ mems_of ms) (n : Netlist) (distinct : AreDistinct ms)
     (there : AreFound ms n.mems)
-    (named : map name_of_output (outputs_of (circuit_of n)) ≡ output_names (length p.stages) (map port_mem (delayed_of ms)) (locked_of ms)) where
+    (named : map name_of_output (outputs_of (circuit_of n))
+    ≡ output_names (length p.stages) (map (port_mem false) (delayed_of ms)) (locked_from p.stmts 0 ms)) where
   -- ---- one cycle
 
   module _ (o : Ports) (has : HasPorts p o) where
@@ -85,38 +87,37 @@ module _ (p : Pipe) (ms : List Mem) (same : p.mems ≡ mems_of ms) (n : Netlist)
 
     -- the names and values after those of the stages, and after those of commits
     abbrev asked_names : List (List ℕ)
-    asked_names = request_names (map port_mem (delayed_of ms)) last_names
+    asked_names = request_names (map (port_mem false) (delayed_of ms)) last_names
 
     abbrev asked : List ℕ
     asked = requests_then ms o.requests (bit o.ended ∷ bit o.squash ∷ [])
 
     abbrev rest : List ℕ
-    rest = commits_then ms o.commits (requests_then ms o.requests (bit o.ended ∷ bit o.squash ∷ []))
+    rest = commits_then p.stmts 0 ms o.commits (requests_then ms o.requests (bit o.ended ∷ bit o.squash ∷ []))
 
-    commits : AreCommits (mems_of ms) o.commits
-    commits = subst (λ (l : List Flat.Mem). AreCommits l o.commits) same has.shape.commits
+    commits : AreCommits p.stmts 0 (mems_of ms) o.commits
+    commits = subst (λ (l : List Flat.Mem). AreCommits p.stmts 0 l o.commits) same has.shape.commits
 
     requests : length o.requests ≡ length ms
     requests = has.requests ∙ ap length same ∙ mems_length ms
 
-    asked_same : length (requests_then ms o.requests (bit o.ended ∷ bit o.squash ∷ [])) ≡ length (request_names (map port_mem (delayed_of ms)) last_names)
+    asked_same : length (requests_then ms o.requests (bit o.ended ∷ bit o.squash ∷ []))
+        ≡ length (request_names (map (port_mem false) (delayed_of ms)) last_names)
     asked_same = requests_same ms o.requests last_names (bit o.ended ∷ bit o.squash ∷ []) requests refl
 
-    rest_same : length rest ≡ length (commit_names (locked_of ms) (request_names (map port_mem (delayed_of ms)) last_names))
-    rest_same = commits_same ms o.commits asked_names asked commits asked_same
+    rest_same : length rest ≡ length (commit_names (locked_from p.stmts 0 ms) (request_names (map (port_mem false) (delayed_of ms)) last_names))
+    rest_same = commits_same p.stmts 0 ms o.commits asked_names asked commits asked_same
 
     values : whole_values p o ≡ stage_values o.valid o.moves ++ rest
     values =
-        ap (λ ts. stage_values o.valid o.moves
-        ++ (all_commit_values ts p.mems o.commits ++ (all_request_values p.mems o.requests ++ bit o.ended ∷ bit o.squash ∷ []))) has.shape.single
-        ∙ ap
+        ap
         (λ (l : List Flat.Mem). stage_values o.valid o.moves
-        ++ (all_commit_values (none_twice l) l o.commits ++ (all_request_values l o.requests ++ bit o.ended ∷ bit o.squash ∷ []))) same
+        ++ (all_commit_values (all_twice p.stmts 0 l) l o.commits ++ (all_request_values l o.requests ++ bit o.ended ∷ bit o.squash ∷ []))) same
 
     count : length (whole_values p o) ≡ length (outputs_of (circuit_of n))
     count =
         ap length values
-        ∙ stages_same 0 (length p.stages) (commit_names (locked_of ms) asked_names) o.valid o.moves rest has.shape.valid has.shape.moves rest_same
+        ∙ stages_same 0 (length p.stages) (commit_names (locked_from p.stmts 0 ms) asked_names) o.valid o.moves rest has.shape.valid has.shape.moves rest_same
         ∙ ap length (sym named)
         ∙ length-map (outputs_of (circuit_of n)) name_of_output
 
@@ -124,18 +125,28 @@ module _ (p : Pipe) (ms : List Mem) (same : p.mems ≡ mems_of ms) (n : Netlist)
     look : (x : List ℕ)
         → ((names : List (List ℕ)) (vals : List ℕ)
         → named_value (stage_names 0 (length p.stages) names) (stage_values o.valid o.moves ++ vals) x ≡ named_value names vals x)
-        → port_value (circuit_of n) (whole_values p o) x ≡ named_value (commit_names (locked_of ms) asked_names) rest x
+        → port_value (circuit_of n) (whole_values p o) x ≡ named_value (commit_names (locked_from p.stmts 0 ms) asked_names) rest x
     look x pass =
         port_is (circuit_of n) (whole_values p o) x count
         ∙ ap₂ (λ names vals. named_value names vals x) named values
-        ∙ pass (commit_names (locked_of ms) asked_names) rest
+        ∙ pass (commit_names (locked_from p.stmts 0 ms) asked_names) rest
 
     -- a commit's is none after them
     none_after : (x : List ℕ) → ((y : List ℕ) → Rattle.std.specs.Prelude.bytes_eq (codes "q_" ++ y) x ≡ false)
         → ((y : List ℕ) → Rattle.std.specs.Prelude.bytes_eq (codes "qa_" ++ y) x ≡ false)
         → named_value last_names (bit o.ended ∷ bit o.squash ∷ []) x ≡ 0
-        → named_value (request_names (map port_mem (delayed_of ms)) last_names) (requests_then ms o.requests (bit o.ended ∷ bit o.squash ∷ [])) x ≡ 0
+        → named_value (request_names (map (port_mem false) (delayed_of ms)) last_names) (requests_then ms o.requests (bit o.ended ∷ bit o.squash ∷ [])) x ≡ 0
     none_after x f g z = past_requests x f g ms o.requests last_names (bit o.ended ∷ bit o.squash ∷ []) requests ∙ z
+
+    -- what a commit's port tells, by its name
+    told : (port : List ℕ → List ℕ) (g : List PortWrite → ℕ) → IsStep port g → g [] ≡ 0 → (m : List ℕ)
+        → ((j : ℕ) → bytes_eq (codes "v_" ++ decimal j) (port m) ≡ false) → ((j : ℕ) → bytes_eq (codes "g_" ++ decimal j) (port m) ≡ false)
+        → ((y : List ℕ) → bytes_eq (codes "q_" ++ y) (port m) ≡ false) → ((y : List ℕ) → bytes_eq (codes "qa_" ++ y) (port m) ≡ false)
+        → named_value last_names (bit o.ended ∷ bit o.squash ∷ []) (port m) ≡ 0
+        → port_value (circuit_of n) (whole_values p o) (port m) ≡ g (found ms o.commits m)
+    told port g step none m v w q r z =
+        look (port m) (λ names vals. past_stages (port m) v w 0 (length p.stages) names o.valid o.moves vals has.shape.valid has.shape.moves)
+        ∙ port_told p.stmts port g step none 0 ms o.commits asked_names asked m distinct commits (none_after (port m) q r z)
 
     -- what a memory commits, by its name
     commit_found : (m : List ℕ) → commit_of (circuit_of n) (whole_values p o) m ≡ put_in (found ms o.commits m)
@@ -143,39 +154,43 @@ module _ (p : Pipe) (ms : List Mem) (same : p.mems ≡ mems_of ms) (n : Netlist)
         put_cases (found ms o.commits m) (port_value (circuit_of n) (whole_values p o) (codes "c_" ++ m))
         (port_value (circuit_of n) (whole_values p o) (codes "ca_" ++ m))
         (port_value (circuit_of n) (whole_values p o) (codes "cd_" ++ m))
-        (look (codes "c_" ++ m)
-        (λ names vals. past_stages (codes "c_" ++ m) (λ j. refl) (λ j. refl) 0 (length p.stages) names o.valid o.moves vals has.shape.valid has.shape.moves)
-        ∙ flag_is ms o.commits asked_names asked m commits (none_after (codes "c_" ++ m) (λ y. refl) (λ y. refl) refl))
-        (look (codes "ca_" ++ m)
-        (λ names vals. past_stages (codes "ca_" ++ m) (λ j. refl)
-        (λ j. refl) 0 (length p.stages) names o.valid o.moves vals has.shape.valid has.shape.moves)
-        ∙ addr_is ms o.commits asked_names asked m commits (none_after (codes "ca_" ++ m) (λ y. refl) (λ y. refl) refl))
-        (look (codes "cd_" ++ m)
-        (λ names vals. past_stages (codes "cd_" ++ m) (λ j. refl)
-        (λ j. refl) 0 (length p.stages) names o.valid o.moves vals has.shape.valid has.shape.moves)
-        ∙ word_is ms o.commits asked_names asked m commits (none_after (codes "cd_" ++ m) (λ y. refl) (λ y. refl) refl))
+        (told (λ x. codes "c_" ++ x) flag_of flag_step refl m (λ j. refl) (λ j. refl) (λ y. refl) (λ y. refl) refl)
+        (told (λ x. codes "ca_" ++ x) addr_of addr_step refl m (λ j. refl) (λ j. refl) (λ y. refl) (λ y. refl) refl)
+        (told (λ x. codes "cd_" ++ x) word_of word_step refl m (λ j. refl) (λ j. refl) (λ y. refl) (λ y. refl) refl)
+
+    -- and what it commits after that
+    commit2_found : (m : List ℕ) → commit2_of (circuit_of n) (whole_values p o) m ≡ put_in (later (found ms o.commits m))
+    commit2_found m =
+        put_cases (later (found ms o.commits m)) (port_value (circuit_of n) (whole_values p o) (codes "c2_" ++ m))
+        (port_value (circuit_of n) (whole_values p o) (codes "ca2_" ++ m))
+        (port_value (circuit_of n) (whole_values p o) (codes "cd2_" ++ m))
+        (told (λ x. codes "c2_" ++ x) (λ e. flag_of (later e)) flag2_step refl m (λ j. refl) (λ j. refl) (λ y. refl) (λ y. refl) refl)
+        (told (λ x. codes "ca2_" ++ x) (λ e. addr_of (later e)) addr2_step refl m (λ j. refl) (λ j. refl) (λ y. refl) (λ y. refl) refl)
+        (told (λ x. codes "cd2_" ++ x) (λ e. word_of (later e)) word2_step refl m (λ j. refl) (λ j. refl) (λ y. refl) (λ y. refl) refl)
 
     -- what a memory commits by its ports, and what it does
     abbrev by_ports : MemInfo → List Put
-    by_ports m = puts_of (commit_of (circuit_of n) (whole_values p o) m.name)
+    by_ports m = puts_by n (whole_values p o) m.name
 
     abbrev by_turn : MemInfo → List Put
     by_turn m = puts_for (found ms o.commits m.name)
 
     by_name : (m : MemInfo) → by_ports m ≡ by_turn m
-    by_name m = ap puts_of (commit_found m.name) ∙ same_put (found ms o.commits m.name) (found_short ms o.commits m.name commits)
+    by_name m =
+        ap₂ (λ a b. puts_of a ++ puts_of b) (commit_found m.name) (commit2_found m.name)
+        ∙ same_put (found ms o.commits m.name) (found_short p.stmts 0 ms o.commits m.name commits)
 
     -- and memory by memory
     commits_are : map by_ports (map info_of ms) ≡ puts_in o.commits
-    commits_are = map_same by_ports by_turn by_name (map info_of ms) ∙ each_found (found ms o.commits) ms o.commits distinct commits (λ m a. refl)
+    commits_are = map_same by_ports by_turn by_name (map info_of ms) ∙ each_found p.stmts (found ms o.commits) 0 ms o.commits distinct commits (λ m a. refl)
 
     -- and as lines, by the commit ports in their order
     lines_are : (number : ℕ)
         → cycle_lines number (map column_of (commit_mems n)) (map by_ports (commit_mems n)) ≡ cycle_lines number (columns ms) (puts_in o.commits)
     lines_are number =
-        ap (λ l. cycle_lines number (map column_of l) (map by_ports l)) (locked_shown n ms (length p.stages) named there)
+        ap (λ l. cycle_lines number (map column_of l) (map by_ports l)) (locked_shown n (λ m. reserves_twice m p.stmts) ms (length p.stages) named there)
         ∙ ap (cycle_lines number (map column_of (locked_infos ms))) (map_same by_ports by_turn by_name (locked_infos ms))
-        ∙ locked_lines (found ms o.commits) number ms o.commits distinct commits (λ m a. refl)
+        ∙ locked_lines p.stmts (found ms o.commits) number 0 ms o.commits distinct commits (λ m a. refl)
 
     last_are : (slice_index (whole_values p o) (output_count n - 2) ≡ bit o.ended) × (slice_index (whole_values p o) (output_count n - 1) ≡ bit o.squash)
     last_are =
@@ -204,7 +219,7 @@ module _ (p : Pipe) (ms : List Mem) (same : p.mems ≡ mems_of ms) (n : Netlist)
       let wait : x.waited ≡ t.wait = ap (λ (s : Seen). s.wait) e in
       let last = last_are t.ports has in
       ap₂
-      (λ ps w. line.cycle (map (λ (m : MemInfo). puts_of (commit_of (circuit_of n) ps m.name)) (map info_of ms))
+      (λ ps w. line.cycle (map (λ (m : MemInfo). puts_by n ps m.name) (map info_of ms))
       (slice_index ps (output_count n - 2) == 1) w (slice_index ps (output_count n - 1) == 1)) ports wait
       ∙ ap
       (λ puts. line.cycle puts (slice_index (whole_values p t.ports) (output_count n - 2) == 1) t.wait
@@ -218,7 +233,7 @@ module _ (p : Pipe) (ms : List Mem) (same : p.mems ≡ mems_of ms) (n : Netlist)
       → cycle_lines number (map column_of (commit_mems n)) (cycle_of n x).puts ≡ cycle_lines number (columns ms) (turn_cycle t).puts
   puts_are number x t has e =
       let ports : x.ports ≡ whole_values p t.ports = ap (λ (s : Seen). s.ports) e in
-      ap (λ ps. cycle_lines number (map column_of (commit_mems n)) (map (λ (m : MemInfo). puts_of (commit_of (circuit_of n) ps m.name)) (commit_mems n))) ports
+      ap (λ ps. cycle_lines number (map column_of (commit_mems n)) (map (λ (m : MemInfo). puts_by n ps m.name) (commit_mems n))) ports
       ∙ lines_are t.ports has number
 
   -- ---- all cycles
@@ -255,7 +270,8 @@ module _ (p : Pipe) (ms : List Mem) (same : p.mems ≡ mems_of ms) (n : Netlist)
 pub shows_turns : (p : tree.Pipe) → KeepsRules p → IsBuilt p → is_source p ≡ true → is_named p ≡ true → (n : Netlist) → Follows p n → ShowsTurns p n
 shows_turns p rules built source named n follows =
     let distinct = (declared p rules).distinct in
-    let names = outputs_are (circuit_of n) (length (flat p).stages) (map port_mem (delayed_of p.mems)) (locked_of p.mems) follows.ports in
+    let names =
+    outputs_are (circuit_of n) (length (flat p).stages) (map (port_mem false) (delayed_of p.mems)) (locked_from (flat p).stmts 0 p.mems) follows.ports in
     let found = subst (AreFound p.mems) (sym follows.mems) (net_found p.mems distinct) in
     let have : (image : List (List ℕ)) (schedule : List (List Bool)) → AllHave (flat p) (turns (flat p) (arrays_of image) schedule) =
     λ image schedule. turns_have (flat p) (arrays_of image) (known_source p rules built source named (arrays_of image)) []

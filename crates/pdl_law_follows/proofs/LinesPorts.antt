@@ -1,25 +1,27 @@
 -- What the values of the ports of a pipe with delayed memories say of each memory's commits, by the names of the ports.
-use Rattle.std.proofs.Common.{◌≡◌, inl, inr, ℕ, suc, ◌+◌, Bool, true, false, ◌&&◌, if◌then◌else◌, List, [], ◌∷◌, ◌++◌, length, map, Option, Some, None, codes, bytes_eq, refl, sym, ap, ◌∙◌, arith, append_assoc}
+use Rattle.std.proofs.Common.{◌≡◌, inl, inr, ℕ, suc, ◌≤◌, Bool, true, false, ◌&&◌, if◌then◌else◌, List, [], ◌∷◌, ◌++◌, length, map, Option, Some, None, codes, bytes_eq, refl, sym, ap, ap₂, ◌∙◌, subst, arith, append_assoc}
 use Rattle.std.specs.Prelude.{filter}
 use Rattle.std.specs.Option.{is_some}
 use Rattle.std.proofs.lemmas.Bool.{or_parts}
+use Rattle.std.proofs.lemmas.Slice.Eq.{bytes_eq-Decides}
 use Rattle.pdl_kit.specs.declared.mem_info.MemInfo.{MemInfo}
 use Rattle.pdl_semantics.specs.Tree.{Mem}
-use Rattle.pdl_semantics.specs.Flat.{is_delayed}
+use Rattle.pdl_semantics.specs.Flat.{Stmt, is_delayed}
 use Rattle.pdl_semantics.specs.Flatten.{mems_of, flat_lock}
 use Rattle.pdl_semantics.specs.Cycle.{PortWrite}
+use Rattle.pdl_semantics.specs.SecondWrites.{reserves_twice, all_twice}
 use Rattle.pdl_rules.specs.Typed.{is_memory, AreDistinct}
 use Rattle.pdl_rules.specs.Memories.{info_of}
 use Rattle.pdl_net.specs.declared.Netlist.{Netlist}
 use Rattle.pdl_net.specs.Circuit.{circuit_of, outputs_of}
 use Rattle.pdl_net.specs.Pipe.{PortMem}
 use Rattle.pdl_machine_facts.specs.Ports.{commit_values, all_commit_values}
-use Rattle.pdl_law_parts.specs.Declared.{port_mem, locked_of}
+use Rattle.pdl_law_parts.specs.DeclaredMems.{port_mem, locked_of}
 use Rattle.pdl_law_parts.specs.Runs.{commit_mem, commit_mems}
 use Rattle.pdl_law_parts.proofs.WellFormedNames.{Among, name_turned, among_other}
-use Rattle.pdl_law_parts.proofs.LinesMachine.{AreCommits, none_twice}
-use Rattle.pdl_law_parts.proofs.LinesNames.{name_of_output}
-use Rattle.pdl_law_parts.proofs.LinesPorts.{named_value, found, flag_of, addr_of, word_of, commit_if, commit_is, if_both, if_none}
+use Rattle.pdl_law_parts.proofs.LinesMachine.{AreCommits}
+use Rattle.pdl_law_parts.proofs.LinesNames.{name_of_output, second_names}
+use Rattle.pdl_law_parts.proofs.LinesPorts.{named_value, found, found_none, flag_of, addr_of, word_of, later, commit_if, commit_is, if_both, if_none}
 use Rattle.pdl_law_parts.proofs.LinesColumns.{locked_infos, AreFound, declared_found, with_port, skipped, none_of_stages, one_of_locked, by_names}
 use Rattle.pdl_law_sides.specs.WholeNetlist.{request_values, all_request_values}
 use Rattle.pdl_law_follows.specs.Memories.{answers_late, delayed_of, comb_of, net_infos}
@@ -28,91 +30,132 @@ use Rattle.pdl_law_follows.proofs.PortNames.{commit_names, request_names, last_n
 
 -- ---- commits, with ports after them
 
--- a look-up passes the ports of a memory without lock, and those of another name
-abbrev names_if : Bool → Mem → List Mem → List (List ℕ) → List (List ℕ)
-names_if b m ms names = commit_names ((if b then port_mem m ∷ [] else []) ++ locked_of ms) names
+-- the memories with a lock, in order, as the ports of a pipe of these statements tell them; the first has the number k
+abbrev pub locked_from : List Stmt → ℕ → List Mem → List PortMem
+locked_from ss k ms = locked_of (λ m. reserves_twice m ss) k ms
 
-flag_step : (m : Mem) (ms : List Mem) (names : List (List ℕ)) (b : Bool) (e rest : List PortWrite) (vals : List ℕ) (x : List ℕ)
-    → named_value (commit_names (locked_of ms) names) vals (codes "c_" ++ x) ≡ flag_of rest
-    → named_value (names_if b m ms names) (commit_if b e ++ vals) (codes "c_" ++ x)
-    ≡ flag_of (if bytes_eq m.name.name x && b then e else rest)
-flag_step m ms names true e rest vals x h = ap (λ n. if bytes_eq m.name.name x then flag_of e else n) h ∙ if_both flag_of (bytes_eq m.name.name x) e rest
-flag_step m ms names false e rest vals x h = h ∙ if_none flag_of (bytes_eq m.name.name x) e rest
+-- the names of a memory's commit ports before others, if it has a lock, and of the second ones where this says so
+abbrev pub names_if : Bool → Bool → List ℕ → List (List ℕ) → List (List ℕ)
+names_if b twice y ns = if b then (codes "c_" ++ y) ∷ (codes "ca_" ++ y) ∷ (codes "cd_" ++ y) ∷ second_names twice y ns else ns
 
-addr_step : (m : Mem) (ms : List Mem) (names : List (List ℕ)) (b : Bool) (e rest : List PortWrite) (vals : List ℕ) (x : List ℕ)
-    → named_value (commit_names (locked_of ms) names) vals (codes "ca_" ++ x) ≡ addr_of rest
-    → named_value (names_if b m ms names) (commit_if b e ++ vals) (codes "ca_" ++ x)
-    ≡ addr_of (if bytes_eq m.name.name x && b then e else rest)
-addr_step m ms names true e rest vals x h = ap (λ n. if bytes_eq m.name.name x then addr_of e else n) h ∙ if_both addr_of (bytes_eq m.name.name x) e rest
-addr_step m ms names false e rest vals x h = h ∙ if_none addr_of (bytes_eq m.name.name x) e rest
+names_first : (b twice : Bool) (m : Mem) (ls : List PortMem) (names : List (List ℕ))
+    → commit_names ((if b then port_mem twice m ∷ [] else []) ++ ls) names ≡ names_if b twice m.name.name (commit_names ls names)
+names_first true twice m ls names = refl
+names_first false twice m ls names = refl
 
-word_step : (m : Mem) (ms : List Mem) (names : List (List ℕ)) (b : Bool) (e rest : List PortWrite) (vals : List ℕ) (x : List ℕ)
-    → named_value (commit_names (locked_of ms) names) vals (codes "cd_" ++ x) ≡ word_of rest
-    → named_value (names_if b m ms names) (commit_if b e ++ vals) (codes "cd_" ++ x)
-    ≡ word_of (if bytes_eq m.name.name x && b then e else rest)
-word_step m ms names true e rest vals x h = ap (λ n. if bytes_eq m.name.name x then word_of e else n) h ∙ if_both word_of (bytes_eq m.name.name x) e rest
-word_step m ms names false e rest vals x h = h ∙ if_none word_of (bytes_eq m.name.name x) e rest
+-- what a port of a name tells is, with one more memory before the others, by that memory's lock and name; where it has no second ports the others tell as much of its later writes
+abbrev pub IsStep : (List ℕ → List ℕ) → (List PortWrite → ℕ) → Type 0
+IsStep port g =
+    (b twice : Bool) (y : List ℕ) (e rest : List PortWrite) (ns : List (List ℕ)) (vals x : List ℕ)
+    → (twice ≡ false → bytes_eq y x ≡ true → later e ≡ later rest)
+    → named_value ns vals (port x) ≡ g rest
+    → named_value (names_if b twice y ns) (commit_if b twice e ++ vals) (port x) ≡ g (if bytes_eq y x && b then e else rest)
 
--- the values of the ports of the memories' commits, and others after them
-abbrev pub commits_then : List Mem → List (List PortWrite) → List ℕ → List ℕ
-commits_then ms es vals = all_commit_values (none_twice (mems_of ms)) (mems_of ms) es ++ vals
+-- the port `c_` of a name tells whether that memory commits
+pub flag_step : IsStep (λ x. codes "c_" ++ x) flag_of
+flag_step true true y e rest ns vals x s h = ap (λ n. if bytes_eq y x then flag_of e else n) h ∙ if_both flag_of (bytes_eq y x) e rest
+flag_step true false y e rest ns vals x s h = ap (λ n. if bytes_eq y x then flag_of e else n) h ∙ if_both flag_of (bytes_eq y x) e rest
+flag_step false twice y e rest ns vals x s h = h ∙ if_none flag_of (bytes_eq y x) e rest
 
--- those of the first memory come first
-commits_first : (m : Mem) (ms : List Mem) (e : List PortWrite) (es : List (List PortWrite)) (vals : List ℕ)
-    → commits_then (m ∷ ms) (e ∷ es) vals ≡ commit_if (is_some m.lock) e ++ commits_then ms es vals
-commits_first m ms e es vals =
-    append_assoc (commit_values (flat_lock m.lock) false e) (all_commit_values (none_twice (mems_of ms)) (mems_of ms) es) vals
-    ∙ ap (λ l. l ++ commits_then ms es vals) (commit_is m.lock e)
+-- the port `ca_` of a name tells that memory's commit address
+pub addr_step : IsStep (λ x. codes "ca_" ++ x) addr_of
+addr_step true true y e rest ns vals x s h = ap (λ n. if bytes_eq y x then addr_of e else n) h ∙ if_both addr_of (bytes_eq y x) e rest
+addr_step true false y e rest ns vals x s h = ap (λ n. if bytes_eq y x then addr_of e else n) h ∙ if_both addr_of (bytes_eq y x) e rest
+addr_step false twice y e rest ns vals x s h = h ∙ if_none addr_of (bytes_eq y x) e rest
 
--- the port `c_` of a name tells whether that memory commits, where the ports after have 0 for the name
-pub flag_is : (ms : List Mem) (es : List (List PortWrite)) (names : List (List ℕ)) (vals x : List ℕ)
-    → AreCommits (mems_of ms) es → named_value names vals (codes "c_" ++ x) ≡ 0
-    → named_value (commit_names (locked_of ms) names) (commits_then ms es vals) (codes "c_" ++ x) ≡ flag_of (found ms es x)
-flag_is [] [] names vals x h z = z
-flag_is [] (e ∷ es) names vals x h z = absurd h
-flag_is (m ∷ ms) [] names vals x h z = absurd h
-flag_is (m ∷ ms) (e ∷ es) names vals x h z =
-    ap (λ l. named_value (commit_names (locked_of (m ∷ ms)) names) l (codes "c_" ++ x)) (commits_first m ms e es vals)
-    ∙ flag_step m ms names (is_some m.lock) e (found ms es x) (commits_then ms es vals) x (flag_is ms es names vals x h.2 z)
+-- the port `cd_` of a name tells that memory's committed word
+pub word_step : IsStep (λ x. codes "cd_" ++ x) word_of
+word_step true true y e rest ns vals x s h = ap (λ n. if bytes_eq y x then word_of e else n) h ∙ if_both word_of (bytes_eq y x) e rest
+word_step true false y e rest ns vals x s h = ap (λ n. if bytes_eq y x then word_of e else n) h ∙ if_both word_of (bytes_eq y x) e rest
+word_step false twice y e rest ns vals x s h = h ∙ if_none word_of (bytes_eq y x) e rest
 
--- the port `ca_` of a name tells that memory's commit address, where the ports after have 0 for the name
-pub addr_is : (ms : List Mem) (es : List (List PortWrite)) (names : List (List ℕ)) (vals x : List ℕ)
-    → AreCommits (mems_of ms) es → named_value names vals (codes "ca_" ++ x) ≡ 0
-    → named_value (commit_names (locked_of ms) names) (commits_then ms es vals) (codes "ca_" ++ x) ≡ addr_of (found ms es x)
-addr_is [] [] names vals x h z = z
-addr_is [] (e ∷ es) names vals x h z = absurd h
-addr_is (m ∷ ms) [] names vals x h z = absurd h
-addr_is (m ∷ ms) (e ∷ es) names vals x h z =
-    ap (λ l. named_value (commit_names (locked_of (m ∷ ms)) names) l (codes "ca_" ++ x)) (commits_first m ms e es vals)
-    ∙ addr_step m ms names (is_some m.lock) e (found ms es x) (commits_then ms es vals) x (addr_is ms es names vals x h.2 z)
+-- without second ports the other memories tell what a memory of the name commits second: nothing
+passed : (g : List PortWrite → ℕ) (b : Bool) (e rest : List PortWrite) → (b ≡ true → later e ≡ later rest)
+    → g (later rest) ≡ g (later (if b && true then e else rest))
+passed g true e rest s = ap g (sym (s refl))
+passed g false e rest s = refl
 
--- the port `cd_` of a name tells that memory's committed word, where the ports after have 0 for the name
-pub word_is : (ms : List Mem) (es : List (List PortWrite)) (names : List (List ℕ)) (vals x : List ℕ)
-    → AreCommits (mems_of ms) es → named_value names vals (codes "cd_" ++ x) ≡ 0
-    → named_value (commit_names (locked_of ms) names) (commits_then ms es vals) (codes "cd_" ++ x) ≡ word_of (found ms es x)
-word_is [] [] names vals x h z = z
-word_is [] (e ∷ es) names vals x h z = absurd h
-word_is (m ∷ ms) [] names vals x h z = absurd h
-word_is (m ∷ ms) (e ∷ es) names vals x h z =
-    ap (λ l. named_value (commit_names (locked_of (m ∷ ms)) names) l (codes "cd_" ++ x)) (commits_first m ms e es vals)
-    ∙ word_step m ms names (is_some m.lock) e (found ms es x) (commits_then ms es vals) x (word_is ms es names vals x h.2 z)
+-- the port `c2_` of a name tells whether that memory commits a second write
+pub flag2_step : IsStep (λ x. codes "c2_" ++ x) (λ e. flag_of (later e))
+flag2_step true true y e rest ns vals x s h =
+    ap (λ n. if bytes_eq y x then flag_of (later e) else n) h ∙ if_both (λ o. flag_of (later o)) (bytes_eq y x) e rest
+flag2_step true false y e rest ns vals x s h = h ∙ passed flag_of (bytes_eq y x) e rest (s refl)
+flag2_step false twice y e rest ns vals x s h = h ∙ if_none (λ o. flag_of (later o)) (bytes_eq y x) e rest
 
--- as many values as names
-same_step : (b : Bool) (m : Mem) (ms : List Mem) (names : List (List ℕ)) (e : List PortWrite) (vals : List ℕ)
-    → length vals ≡ length (commit_names (locked_of ms) names)
-    → length (commit_if b e ++ vals) ≡ length (names_if b m ms names)
-same_step true m ms names e vals h = ap (λ i. suc (suc (suc i))) h
-same_step false m ms names e vals h = h
+-- the port `ca2_` of a name tells the address of that memory's second commit
+pub addr2_step : IsStep (λ x. codes "ca2_" ++ x) (λ e. addr_of (later e))
+addr2_step true true y e rest ns vals x s h =
+    ap (λ n. if bytes_eq y x then addr_of (later e) else n) h ∙ if_both (λ o. addr_of (later o)) (bytes_eq y x) e rest
+addr2_step true false y e rest ns vals x s h = h ∙ passed addr_of (bytes_eq y x) e rest (s refl)
+addr2_step false twice y e rest ns vals x s h = h ∙ if_none (λ o. addr_of (later o)) (bytes_eq y x) e rest
 
--- with the commit ports before others, there are as many values as names
-pub commits_same : (ms : List Mem) (es : List (List PortWrite)) (names : List (List ℕ)) (vals : List ℕ)
-    → AreCommits (mems_of ms) es → length vals ≡ length names
-    → length (commits_then ms es vals) ≡ length (commit_names (locked_of ms) names)
-commits_same [] [] names vals h l = l
-commits_same [] (e ∷ es) names vals h l = absurd h
-commits_same (m ∷ ms) [] names vals h l = absurd h
-commits_same (m ∷ ms) (e ∷ es) names vals h l =
-    ap length (commits_first m ms e es vals) ∙ same_step (is_some m.lock) m ms names e (commits_then ms es vals) (commits_same ms es names vals h.2 l)
+-- the port `cd2_` of a name tells the word of that memory's second commit
+pub word2_step : IsStep (λ x. codes "cd2_" ++ x) (λ e. word_of (later e))
+word2_step true true y e rest ns vals x s h =
+    ap (λ n. if bytes_eq y x then word_of (later e) else n) h ∙ if_both (λ o. word_of (later o)) (bytes_eq y x) e rest
+word2_step true false y e rest ns vals x s h = h ∙ passed word_of (bytes_eq y x) e rest (s refl)
+word2_step false twice y e rest ns vals x s h = h ∙ if_none (λ o. word_of (later o)) (bytes_eq y x) e rest
+
+module _ (ss : List Stmt) where
+  -- the values of the ports of the memories' commits, and others after them
+  abbrev pub commits_then : ℕ → List Mem → List (List PortWrite) → List ℕ → List ℕ
+  commits_then k ms es vals = all_commit_values (all_twice ss k (mems_of ms)) (mems_of ms) es ++ vals
+
+  -- those of the first memory come first
+  commits_first : (k : ℕ) (m : Mem) (ms : List Mem) (e : List PortWrite) (es : List (List PortWrite)) (vals : List ℕ)
+      → commits_then k (m ∷ ms) (e ∷ es) vals ≡ commit_if (is_some m.lock) (reserves_twice k ss) e ++ commits_then (suc k) ms es vals
+  commits_first k m ms e es vals =
+      append_assoc (commit_values (flat_lock m.lock) (reserves_twice k ss) e) (all_commit_values (all_twice ss (suc k) (mems_of ms)) (mems_of ms) es) vals
+      ∙ ap (λ l. l ++ commits_then (suc k) ms es vals) (commit_is m.lock (reserves_twice k ss) e)
+
+  -- a memory that no path reserves twice has no second write, and no other memory has its name
+  second_none : (k : ℕ) (m : Mem) (ms : List Mem) (e : List PortWrite) (es : List (List PortWrite)) (x : List ℕ)
+      → is_memory ms m.name.name ≡ false → length e ≤ (if reserves_twice k ss then 2 else 1)
+      → reserves_twice k ss ≡ false → bytes_eq m.name.name x ≡ true → later e ≡ later (found ms es x)
+  second_none k m ms e es x d l once named =
+      at e (subst (λ (b : Bool). length e ≤ (if b then 2 else 1)) once l)
+      ∙ ap later (sym (found_none ms es x (ap (is_memory ms) (sym ((bytes_eq-Decides m.name.name x).0 named)) ∙ d)))
+    where
+      at : (o : List PortWrite) → length o ≤ 1 → later o ≡ []
+      at [] l = refl
+      at (w ∷ []) l = refl
+      at (w ∷ v ∷ ws) l = absurd (omega (arith, l))
+
+  -- a port of a name tells what that memory commits, where the ports after have 0 for the name
+  pub port_told : (port : List ℕ → List ℕ) (g : List PortWrite → ℕ) → IsStep port g → g [] ≡ 0
+      → (k : ℕ) (ms : List Mem) (es : List (List PortWrite)) (names : List (List ℕ)) (vals x : List ℕ)
+      → AreDistinct ms → AreCommits ss k (mems_of ms) es → named_value names vals (port x) ≡ 0
+      → named_value (commit_names (locked_from ss k ms) names) (commits_then k ms es vals) (port x) ≡ g (found ms es x)
+  port_told port g step none k [] [] names vals x d h z = z ∙ sym none
+  port_told port g step none k [] (e ∷ es) names vals x d h z = absurd h
+  port_told port g step none k (m ∷ ms) [] names vals x d h z = absurd h
+  port_told port g step none k (m ∷ ms) (e ∷ es) names vals x d h z =
+      let ls = locked_from ss (suc k) ms in
+      let rest = commits_then (suc k) ms es vals in
+      ap₂ (λ ns vs. named_value ns vs (port x)) (names_first (is_some m.lock) (reserves_twice k ss) m ls names) (commits_first k m ms e es vals)
+      ∙ step (is_some m.lock) (reserves_twice k ss) m.name.name e (found ms es x) (commit_names ls names) rest x
+      (second_none k m ms e es x d.0 h.1) (port_told port g step none (suc k) ms es names vals x d.1 h.2 z)
+
+  -- as many values as names
+  same_step : (b twice : Bool) (y : List ℕ) (ns : List (List ℕ)) (e : List PortWrite) (vals : List ℕ)
+      → length vals ≡ length ns → length (commit_if b twice e ++ vals) ≡ length (names_if b twice y ns)
+  same_step true true y ns e vals h = ap (λ i. suc (suc (suc (suc (suc (suc i)))))) h
+  same_step true false y ns e vals h = ap (λ i. suc (suc (suc i))) h
+  same_step false twice y ns e vals h = h
+
+  -- with the commit ports before others, there are as many values as names
+  pub commits_same : (k : ℕ) (ms : List Mem) (es : List (List PortWrite)) (names : List (List ℕ)) (vals : List ℕ)
+      → AreCommits ss k (mems_of ms) es → length vals ≡ length names
+      → length (commits_then k ms es vals) ≡ length (commit_names (locked_from ss k ms) names)
+  commits_same k [] [] names vals h l = l
+  commits_same k [] (e ∷ es) names vals h l = absurd h
+  commits_same k (m ∷ ms) [] names vals h l = absurd h
+  commits_same k (m ∷ ms) (e ∷ es) names vals h l =
+      let ls = locked_from ss (suc k) ms in
+      ap length (commits_first k m ms e es vals)
+      ∙ same_step (is_some m.lock) (reserves_twice k ss) m.name.name (commit_names ls names) e (commits_then (suc k) ms es vals)
+      (commits_same (suc k) ms es names vals h.2 l)
+      ∙ ap length (sym (names_first (is_some m.lock) (reserves_twice k ss) m ls names))
 
 -- ---- requests
 
@@ -124,28 +167,29 @@ requests_then ms qs vals = all_request_values (mems_of ms) qs ++ vals
 pub past_requests : (x : List ℕ)
     → ((y : List ℕ) → bytes_eq (codes "q_" ++ y) x ≡ false) → ((y : List ℕ) → bytes_eq (codes "qa_" ++ y) x ≡ false)
     → (ms : List Mem) (qs : List (Option ℕ)) (names : List (List ℕ)) (vals : List ℕ) → length qs ≡ length ms
-    → named_value (request_names (map port_mem (delayed_of ms)) names) (requests_then ms qs vals) x ≡ named_value names vals x
+    → named_value (request_names (map (port_mem false) (delayed_of ms)) names) (requests_then ms qs vals) x ≡ named_value names vals x
 past_requests x f g [] [] names vals l = refl
 past_requests x f g [] (q ∷ qs) names vals l = absurd (cc l)
 past_requests x f g (m ∷ ms) [] names vals l = absurd (cc l)
 past_requests x f g (m ∷ ms) (q ∷ qs) names vals l = at (is_delayed m.kind) q (past_requests x f g ms qs names vals (omega (arith, l)))
   where
-    pair : (a b : ℕ) → named_value (request_names (map port_mem (delayed_of ms)) names) (requests_then ms qs vals) x ≡ named_value names vals x
+    pair : (a b : ℕ) → named_value (request_names (map (port_mem false) (delayed_of ms)) names) (requests_then ms qs vals) x ≡ named_value names vals x
         → (if bytes_eq (codes "q_" ++ m.name.name) x
         then a
         else (if bytes_eq (codes "qa_" ++ m.name.name) x then b
-        else named_value (request_names (map port_mem (delayed_of ms)) names) (requests_then ms qs vals) x))
+        else named_value (request_names (map (port_mem false) (delayed_of ms)) names) (requests_then ms qs vals) x))
         ≡ named_value names vals x
     pair a b h =
         ap
         (λ t. if t then a
         else (if bytes_eq (codes "qa_" ++ m.name.name) x then b
-        else named_value (request_names (map port_mem (delayed_of ms)) names) (requests_then ms qs vals) x))
+        else named_value (request_names (map (port_mem false) (delayed_of ms)) names) (requests_then ms qs vals) x))
         (f m.name.name)
-        ∙ ap (λ t. if t then b else named_value (request_names (map port_mem (delayed_of ms)) names) (requests_then ms qs vals) x) (g m.name.name) ∙ h
+        ∙ ap (λ t. if t then b else named_value (request_names (map (port_mem false) (delayed_of ms)) names) (requests_then ms qs vals) x) (g m.name.name) ∙ h
 
-    at : (b : Bool) (o : Option ℕ) → named_value (request_names (map port_mem (delayed_of ms)) names) (requests_then ms qs vals) x ≡ named_value names vals x
-        → named_value (request_names (map port_mem (if b then m ∷ delayed_of ms else delayed_of ms)) names)
+    at : (b : Bool) (o : Option ℕ)
+        → named_value (request_names (map (port_mem false) (delayed_of ms)) names) (requests_then ms qs vals) x ≡ named_value names vals x
+        → named_value (request_names (map (port_mem false) (if b then m ∷ delayed_of ms else delayed_of ms)) names)
         (((if b then request_values o else []) ++ all_request_values (mems_of ms) qs) ++ vals) x
         ≡ named_value names vals x
     at false o h = h
@@ -155,15 +199,15 @@ past_requests x f g (m ∷ ms) (q ∷ qs) names vals l = at (is_delayed m.kind) 
 -- with the request ports before others, there are as many values as names
 pub requests_same : (ms : List Mem) (qs : List (Option ℕ)) (names : List (List ℕ)) (vals : List ℕ)
     → length qs ≡ length ms → length vals ≡ length names
-    → length (requests_then ms qs vals) ≡ length (request_names (map port_mem (delayed_of ms)) names)
+    → length (requests_then ms qs vals) ≡ length (request_names (map (port_mem false) (delayed_of ms)) names)
 requests_same [] [] names vals l e = e
 requests_same [] (q ∷ qs) names vals l e = absurd (cc l)
 requests_same (m ∷ ms) [] names vals l e = absurd (cc l)
 requests_same (m ∷ ms) (q ∷ qs) names vals l e = at (is_delayed m.kind) q (requests_same ms qs names vals (omega (arith, l)) e)
   where
-    at : (b : Bool) (o : Option ℕ) → length (requests_then ms qs vals) ≡ length (request_names (map port_mem (delayed_of ms)) names)
+    at : (b : Bool) (o : Option ℕ) → length (requests_then ms qs vals) ≡ length (request_names (map (port_mem false) (delayed_of ms)) names)
         → length (((if b then request_values o else []) ++ all_request_values (mems_of ms) qs) ++ vals)
-        ≡ length (request_names (map port_mem (if b then m ∷ delayed_of ms else delayed_of ms)) names)
+        ≡ length (request_names (map (port_mem false) (if b then m ∷ delayed_of ms else delayed_of ms)) names)
     at false o h = h
     at true None h = ap (λ i. suc (suc i)) h
     at true (Some a) h = ap (λ i. suc (suc i)) h
@@ -181,26 +225,30 @@ requests_none infos (l ∷ ls) names =
 last_none : (infos : List MemInfo) → with_port infos last_names ≡ []
 last_none infos = skipped infos (codes "ended") (codes "squash" ∷ []) (λ x. refl) ∙ skipped infos (codes "squash") [] (λ x. refl)
 
-all_of_locked : (infos : List MemInfo) (ms : List Mem) (names : List (List ℕ)) → AreFound ms infos
-    → with_port infos names ≡ [] → with_port infos (commit_names (locked_of ms) names) ≡ locked_infos ms
-all_of_locked infos [] names h z = z
-all_of_locked infos (m ∷ ms) names h z = go (is_some m.lock) (all_of_locked infos ms names (λ k a. h k (inr a)) z)
+all_of_locked : (infos : List MemInfo) (twice : ℕ → Bool) (k : ℕ) (ms : List Mem) (names : List (List ℕ)) → AreFound ms infos
+    → with_port infos names ≡ [] → with_port infos (commit_names (locked_of twice k ms) names) ≡ locked_infos ms
+all_of_locked infos twice k [] names h z = z
+all_of_locked infos twice k (m ∷ ms) names h z = go (is_some m.lock) (all_of_locked infos twice (suc k) ms names (λ n a. h n (inr a)) z)
   where
-    go : (b : Bool) → with_port infos (commit_names (locked_of ms) names) ≡ locked_infos ms
-        → with_port infos (commit_names ((if b then port_mem m ∷ [] else []) ++ locked_of ms) names) ≡ (if b then info_of m ∷ [] else []) ++ locked_infos ms
-    go true rest = one_of_locked infos m.name.name (info_of m) (commit_names (locked_of ms) names) (h m (inl refl)) ∙ ap (λ l. info_of m ∷ l) rest
+    others : List (List ℕ)
+    others = commit_names (locked_of twice (suc k) ms) names
+
+    go : (b : Bool) → with_port infos (commit_names (locked_of twice (suc k) ms) names) ≡ locked_infos ms
+        → with_port infos (commit_names ((if b then port_mem (twice k) m ∷ [] else []) ++ locked_of twice (suc k) ms) names)
+        ≡ (if b then info_of m ∷ [] else []) ++ locked_infos ms
+    go true rest = one_of_locked infos m.name.name (twice k) (info_of m) others (h m (inl refl)) ∙ ap (λ l. info_of m ∷ l) rest
     go false rest = rest
 
 -- where the outputs have the names of the ports of a pipe, the memories with a commit port are those with a lock, in declared order
-pub locked_shown : (n : Netlist) (ms : List Mem) (stages : ℕ)
-    → map name_of_output (outputs_of (circuit_of n)) ≡ output_names stages (map port_mem (delayed_of ms)) (locked_of ms)
+pub locked_shown : (n : Netlist) (twice : ℕ → Bool) (ms : List Mem) (stages : ℕ)
+    → map name_of_output (outputs_of (circuit_of n)) ≡ output_names stages (map (port_mem false) (delayed_of ms)) (locked_of twice 0 ms)
     → AreFound ms n.mems → commit_mems n ≡ locked_infos ms
-locked_shown n ms stages named h =
+locked_shown n twice ms stages named h =
     by_names n.mems (outputs_of (circuit_of n))
     ∙ ap (with_port n.mems) named
     ∙ none_of_stages n.mems 0 stages _
-    ∙ all_of_locked n.mems ms (request_names (map port_mem (delayed_of ms)) last_names) h
-    (requests_none n.mems (map port_mem (delayed_of ms)) last_names ∙ last_none n.mems)
+    ∙ all_of_locked n.mems twice 0 ms (request_names (map (port_mem false) (delayed_of ms)) last_names) h
+    (requests_none n.mems (map (port_mem false) (delayed_of ms)) last_names ∙ last_none n.mems)
 
 -- ---- the memories of a netlist by the names of their commit ports
 

@@ -12,7 +12,7 @@ use Rattle.pdl_semantics.proofs.Facts.{lock_declared}
 use Rattle.pdl_rules.specs.Refusal.{answers_at_once}
 use Rattle.pdl_rules.specs.Typed.{is_memory, AreDistinct}
 use Rattle.pdl_rules.specs.Memories.{info_of}
-use Rattle.pdl_law_parts.specs.Declared.{has_lock, mem_names}
+use Rattle.pdl_law_parts.specs.DeclaredMems.{has_lock, mem_names}
 use Rattle.pdl_law_parts.proofs.WellFormedNames.{Among}
 use Rattle.pdl_law_sides.specs.WholeNetlist.{names_delayed}
 use Rattle.pdl_law.proofs.Places.{count_yes, count_no}

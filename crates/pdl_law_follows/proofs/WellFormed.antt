@@ -10,6 +10,7 @@ use Rattle.pdl_semantics.specs.Flat as flat
 use Rattle.pdl_semantics.specs.Flat.{Pipe, is_delayed}
 use Rattle.pdl_semantics.specs.Flatten.{mems_of}
 use Rattle.pdl_semantics.specs.Stages.{mem_at, plain_mem}
+use Rattle.pdl_semantics.specs.SecondWrites.{reserves_twice}
 use Rattle.pdl_rules.specs.Memories.{info_of}
 use Rattle.pdl_rules.specs.Refusal.{answers_at_once}
 use Rattle.pdl_rules.specs.Typed.{AreDistinct, AreSized}
@@ -22,7 +23,7 @@ use Rattle.pdl_net.specs.Pipe.{IsAddress, IsPipeArray, IsKept, IsPipe, IsWellFor
 use Rattle.pdl_law_parts.specs.Walk.{Locks}
 use Rattle.pdl_law_parts.specs.Views.{Gates, View}
 use Rattle.pdl_law_parts.specs.Places.{comb_place}
-use Rattle.pdl_law_parts.specs.Declared.{port_mem, locked_of, mem_names, shape_of_mem, CommitsFit, AreBitsWide}
+use Rattle.pdl_law_parts.specs.DeclaredMems.{port_mem, locked_of, mem_names, shape_of_mem, CommitsFit, AreBitsWide}
 use Rattle.pdl_law_parts.proofs.WellFormedNames.{Among, name_of_mem, all_pairs, mem_names_differ}
 use Rattle.pdl_law_parts.proofs.WellFormedPorts.{heads_of, head_shown}
 use Rattle.pdl_law_parts.proofs.WellFormedMems.{Reaches, reaches_all, sized_among, IsAddressed, addressed}
@@ -50,6 +51,10 @@ module _ (p : Pipe) (ms : List Mem) (declared : AreDeclared ms) (same : p.mems �
     (shapes : map shape_of n.arrays ≡ map shape_of_mem (comb_of ms))
     (wide : AreBitsWide vs gates moves (length p.stages)) (fit : CommitsFit made.laid.commits 0 ms)
     (asked : AreAsked made.asks 0 ms) (mems : n.mems ≡ net_infos ms) where
+  -- whether some path reserves a memory twice for writing
+  abbrev twice : ℕ → Bool
+  twice m = reserves_twice m p.stmts
+
   reach : (m : Mem) → Among m ms → Reaches m
   reach m h = reaches_all ms declared.reach m h
 
@@ -57,14 +62,14 @@ module _ (p : Pipe) (ms : List Mem) (declared : AreDeclared ms) (same : p.mems �
   size m h = addressed m (reach m h) (sized_among ms declared.sized m h)
 
   -- the ports of the netlist are those of a pipe with these stages, delayed memories and locked memories
-  pub ports : map head_of n.ports ≡ pipe_ports (length p.stages) (map port_mem (delayed_of ms)) (locked_of ms)
+  pub ports : map head_of n.ports ≡ pipe_ports (length p.stages) (map (port_mem false) (delayed_of ms)) (locked_of twice 0 ms)
   ports =
       ap (map head_of) made.ports
       ∙ map-append head_of (reply_ports (mem_names ms) 0 p.mems) _
       ∙ ap₂ (λ a b. a ++ b) (replies_heads p ms same)
       (heads_of (circuit_of n) made.outs ∙ ap (map head_shown) made.shown
       ∙ shown_heads p ms same some made.laid.commits made.asks vs gates moves wide reach fit asked)
-      ∙ sym (by_kinds (length p.stages) (map port_mem (delayed_of ms)) (locked_of ms))
+      ∙ sym (by_kinds (length p.stages) (map (port_mem false) (delayed_of ms)) (locked_of twice 0 ms))
 
   -- an array whose memory has no lock has no write port
   never_written : (k : ℕ) (m : Mem) → k < length n.arrays → IsArrayOf (comb_of ms) k (array_at (circuit_of n) k) m
@@ -87,16 +92,17 @@ module _ (p : Pipe) (ms : List Mem) (declared : AreDeclared ms) (same : p.mems �
       no_write (circuit_of n)
       (array_at (circuit_of n) k).writes (ap (λ i. map (write_signal (circuit_of n)) (array_at (circuit_of n) i).writes) (sym place) ∙ none)
 
-  array_fits : (k : ℕ) → k < length n.arrays → IsPipeArray (map port_mem (delayed_of ms)) (locked_of ms) (get_or n.arrays k no_array)
+  array_fits : (k : ℕ) → k < length n.arrays → IsPipeArray (map (port_mem false) (delayed_of ms)) (locked_of twice 0 ms) (get_or n.arrays k no_array)
   array_fits k l =
       let w = array_mem n.arrays (comb_of ms) shapes k no_array l in
       let a = among_some answers_at_once ms w.0 w.1.among in
-      pipe_array ms (get_or n.arrays k no_array) w.0 declared.distinct reach (size w.0 a.0) a.0 (comb_delayed w.0 a.1) (never_written k w.0 l w.1) w.1.shape
+      pipe_array twice ms (get_or n.arrays k no_array) w.0 declared.distinct reach (size w.0 a.0) a.0 (comb_delayed w.0 a.1)
+      (never_written k w.0 l w.1) w.1.shape
 
-  kept : (m : Mem) → Among m ms → IsKept (map port_mem (delayed_of ms)) n.arrays (port_mem m)
-  kept m h = at (is_delayed m.kind) refl
+  kept : (t : Bool) (m : Mem) → Among m ms → IsKept (map (port_mem false) (delayed_of ms)) n.arrays (port_mem t m)
+  kept t m h = at (is_delayed m.kind) refl
     where
-      at : (b : Bool) → is_delayed m.kind ≡ b → IsKept (map port_mem (delayed_of ms)) n.arrays (port_mem m)
+      at : (b : Bool) → is_delayed m.kind ≡ b → IsKept (map (port_mem false) (delayed_of ms)) n.arrays (port_mem t m)
       at true e = inl (delayed_contained ms m h e)
       at false e =
           let w = mem_array n.arrays (comb_of ms) shapes m (some_among answers_at_once ms m h (ap Rattle.std.proofs.Common.not e)) no_array in
@@ -107,17 +113,17 @@ module _ (p : Pipe) (ms : List Mem) (declared : AreDeclared ms) (same : p.mems �
   is_pipe : IsPipe n
   is_pipe = record {
     stages = length p.stages;
-    delayed = map port_mem (delayed_of ms);
-    locked = locked_of ms;
+    delayed = map (port_mem false) (delayed_of ms);
+    locked = locked_of twice 0 ms;
     few = some;
     many = most;
     ports = ports;
     delayed_addresses = delayed_all IsAddress ms (λ m h d. record { low = (size m h).low; high = (size m h).high });
-    locked_addresses = locked_all IsAddress ms (λ m h. record { low = (size m h).low; high = (size m h).high });
-    agree = agree_all ms declared.distinct;
-    arrays = All-from_get_or (IsPipeArray (map port_mem (delayed_of ms)) (locked_of ms)) n.arrays no_array array_fits;
-    kept = locked_all (IsKept (map port_mem (delayed_of ms)) n.arrays) ms kept;
-    mems = mems ∙ infos_same n.arrays ms declared.distinct reach shapes;
+    locked_addresses = locked_all IsAddress twice 0 ms (λ t m h. record { low = (size m h).low; high = (size m h).high });
+    agree = agree_all twice ms declared.distinct;
+    arrays = All-from_get_or (IsPipeArray (map (port_mem false) (delayed_of ms)) (locked_of twice 0 ms)) n.arrays no_array array_fits;
+    kept = locked_all (IsKept (map (port_mem false) (delayed_of ms)) n.arrays) twice 0 ms kept;
+    mems = mems ∙ infos_same twice n.arrays ms declared.distinct reach shapes;
     count =
         let few = declared.few in
         let all = ap length mems ∙ length-append (map info_of (delayed_of ms)) (map info_of (comb_of ms)) in
@@ -133,8 +139,8 @@ module _ (p : Pipe) (ms : List Mem) (declared : AreDeclared ms) (same : p.mems �
     well = well;
     port_names =
         subst (AllPairs (λ a b. a ≢ b))
-        (sym (names_are n.ports (length p.stages) (map port_mem (delayed_of ms)) (locked_of ms) ports))
-        (all_pairs _ (port_names_differ (length p.stages) ms most declared.distinct));
+        (sym (names_are n.ports (length p.stages) (map (port_mem false) (delayed_of ms)) (locked_of twice 0 ms) ports))
+        (all_pairs _ (port_names_differ (length p.stages) twice ms most declared.distinct));
     array_names =
         subst (AllPairs (λ a b. a ≢ b)) (sym (array_names_are n.arrays (comb_of ms) shapes))
         (all_pairs (map name_of_mem (comb_of ms)) (mem_names_differ (comb_of ms) (distinct_some answers_at_once ms declared.distinct)));

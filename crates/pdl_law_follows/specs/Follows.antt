@@ -4,6 +4,7 @@ use Rattle.pdl_semantics.specs.Tree as tree
 use Rattle.pdl_semantics.specs.Flat.{is_delayed}
 use Rattle.pdl_semantics.specs.Flatten.{flat}
 use Rattle.pdl_semantics.specs.Stages.{mem_at}
+use Rattle.pdl_semantics.specs.SecondWrites.{reserves_twice}
 use Rattle.pdl_net.specs.declared.Netlist.{Netlist}
 use Rattle.pdl_net.specs.Circuit.{circuit_of, shape_of}
 use Rattle.pdl_net.specs.Signal.{Signal}
@@ -12,7 +13,7 @@ use Rattle.pdl_net.specs.Pipe.{head_of, pipe_ports, IsWellFormed}
 use Rattle.pdl_law_parts.specs.Walk.{Locks}
 use Rattle.pdl_law_parts.specs.Views.{View, Gates}
 use Rattle.pdl_law_parts.specs.Places.{comb_place}
-use Rattle.pdl_law_parts.specs.Declared.{locked_of, port_mem, mem_names, shape_of_mem, AreBitsWide, CommitsFit}
+use Rattle.pdl_law_parts.specs.DeclaredMems.{locked_of, port_mem, mem_names, shape_of_mem, AreBitsWide, CommitsFit}
 use Rattle.pdl_law_sides.specs.Sides.{Sides}
 use Rattle.pdl_law_sides.specs.WholeNetlist.{IsWhole, ShowsWhole}
 use Rattle.pdl_law_follows.specs.Memories.{delayed_of, comb_of, net_infos}
@@ -23,7 +24,8 @@ pub record Follows (p : tree.Pipe) (n : Netlist) : Type 0 where
   -- it breaks none of the rules of netlists
   pub well_formed : IsWellFormed n
   -- its ports by name, width and direction: replies of each delayed memory, each stage, commits of each memory with a lock, requests of each delayed memory, and two more
-  pub ports : map head_of n.ports ≡ pipe_ports (length (flat p).stages) (map port_mem (delayed_of p.mems)) (locked_of p.mems)
+  pub ports : map head_of n.ports
+      ≡ pipe_ports (length (flat p).stages) (map (port_mem false) (delayed_of p.mems)) (locked_of (λ m. reserves_twice m (flat p).stmts) 0 p.mems)
   -- its memories with widths and depths, the delayed ones first, and of each other one the array, with as many words as its lock keeps
   pub mems : n.mems ≡ net_infos p.mems
   pub arrays : map shape_of n.arrays ≡ map shape_of_mem (comb_of p.mems)

@@ -9,19 +9,24 @@ use Rattle.pdl_semantics.specs.Stages.{stage_at, goes_to, list_any, reserve_stag
 use Rattle.pdl_semantics.specs.Machine as machine
 use Rattle.pdl_semantics.specs.Machine.{Thread, deeds, held_before, is_held, with_kept}
 use Rattle.pdl_semantics.specs.Moves.{next_stage}
-use Rattle.pdl_semantics.specs.Cycle.{is_stage, born_thread, child_of, thread_after, or_then, all_releases, list_three, is_kept, squasher, with_advised, with_all_advised}
+use Rattle.pdl_semantics.specs.Cycle.{is_stage, born_thread, child_of, thread_after, or_then, with_reserves, all_releases, list_three, is_kept, squasher, with_advised, with_all_advised}
+use Rattle.pdl_semantics.specs.Sound.{entries_by}
+use Rattle.pdl_semantics.specs.SecondWrites.{reserves_twice}
 use Rattle.pdl_net.specs.Circuit.{State}
 use Rattle.pdl_net.specs.Signal.{Signal, no_signal}
 use Rattle.pdl_lockapi.specs.Laws.{holds_ticket}
 use Rattle.pdl_machine_facts.specs.Slots.{LeadsOn, here, stage_moves, movers_from, moving, leads_to, ways_from, ways, passing_thread, thread_into, first_of, arriving_thread, act_at}
 use Rattle.pdl_machine_facts.specs.Cycle.{newborn, IsByStages}
 use Rattle.pdl_law_parts.proofs.AnsweredThreads.{Stood}
-use Rattle.pdl_law_parts.specs.Lives.{row_uses, asks_held, forks_by, lives_from, held_from, verifies_from}
+use Rattle.pdl_law_parts.specs.declared.Mark.{Mark}
+use Rattle.pdl_law_parts.specs.declared.Mark.TheVariants.{Held, Late}
+use Rattle.pdl_law_parts.specs.Lives.{row_uses, asks_mark, forks_by, lives_from, mark_from, verifies_from}
 use Rattle.pdl_law_parts.specs.Walk.{Locks, Birth, Walk, is_locked, one, zero_bit, both, is_on, values_at}
 use Rattle.pdl_law_parts.specs.Views.{View, Comer, branch, out_of, new_by, new_from, comers, first_coming}
 use Rattle.pdl_law_parts.specs.Served.{IsServed}
-use Rattle.pdl_law_parts.specs.Stands.{IsEnv, IsHolding, StandsFor, AreShort, IsSo, IsSeen, child_in}
+use Rattle.pdl_law_parts.specs.Stands.{IsEnv, IsHolding, StandsFor, AreShort, IsSo, IsSeen, TellsLate, AreLate, child_in}
 use Rattle.pdl_law_parts.proofs.Signals.{mux_by, one_is, zero_is}
+use Rattle.pdl_law_parts.proofs.StageLooks.{lock_there}
 use Rattle.pdl_law_parts.proofs.Moves.{ready_of, lives_fork}
 use Rattle.pdl_law_parts.proofs.LockPorts.{both_is, moves_or_not, no_mover, one_mover}
 use Rattle.pdl_word.proofs.Lists.{zeros_at}
@@ -82,10 +87,10 @@ lives_down p j q x h =
     (λ (r : Stmt). nat_le j r.stage && row_uses r x) p.stmts (λ r e. lower j q r.stage (row_uses r x) h e))
     (any_dropped (λ (s : Stage). forks_by s.next x) p.stages j q h)
 
-holds_down : (p : Pipe) (j q m a : ℕ) → j ≤ q → held_from p q m a ≡ true → held_from p j m a ≡ true
-holds_down p j q m a h e =
-    any_more (λ (r : Stmt). nat_le q r.stage && asks_held r.op m a)
-    (λ (r : Stmt). nat_le j r.stage && asks_held r.op m a) p.stmts (λ r i. lower j q r.stage (asks_held r.op m a) h i) e
+marks_down : (p : Pipe) (j q : ℕ) (mark : Mark) (m a : ℕ) → j ≤ q → mark_from p q mark m a ≡ true → mark_from p j mark m a ≡ true
+marks_down p j q mark m a h e =
+    any_more (λ (r : Stmt). nat_le q r.stage && asks_mark mark r.op m a)
+    (λ (r : Stmt). nat_le j r.stage && asks_mark mark r.op m a) p.stmts (λ r i. lower j q r.stage (asks_mark mark r.op m a) h i) e
 
 verifies_down : (p : Pipe) (j q : ℕ) → j ≤ q → verifies_from p q ≡ true → verifies_from p j ≡ true
 verifies_down p j q h e =
@@ -146,12 +151,16 @@ module _ (p : Pipe) (ls : Locks) (vs : ℕ → View) (moves : ℕ → Signal) (s
     pub long : length u.env ≡ p.vars
     pub env : IsEnv p q s c.vars (with_kept u.kept u.env)
     pub advice : u.advice ≡ []
-    pub held : IsHolding p q s c.held (held_before q u.env p.stmts [])
+    pub held : IsHolding p q s c.marks (held_before q u.env p.stmts [])
     pub guess : verifies_from p q ≡ true → length u.guess ≡ length p.start → (i : ℕ) → i < length p.start → slice_index u.guess i ≡ (c.guess i).value s
     pub tickets : (m : ℕ) (e : is_locked p m ≡ true) → reserve_stage p m < q → q ≤ commit_stage p m
         → holds_ticket (ls.bits m) (c.tickets m) s ((stands.locks m e).base + count_older u.number (machine.lock_of st m))
         × (count_older u.number (list_three st (moving p st bits) m) + all_releases m (moving p st bits) ≡ count_older u.number (machine.lock_of st m))
         × (is_kept (squasher (moving p st bits)) u.number ≡ true)
+    -- this cycle appends no pending write of an older thread, and the marks tell which of the thread's own is the second one
+    pub late : (m : ℕ) → is_locked p m ≡ true → reserves_twice m p.stmts ≡ true → reserve_stage p m < q → q ≤ commit_stage p m
+        → (count_older u.number (with_reserves m (moving p st bits) (machine.lock_of st m)) ≡ count_older u.number (machine.lock_of st m))
+        × AreLate p q s c.marks u.number m (entries_by u.number (with_reserves m (moving p st bits) (machine.lock_of st m)))
 
   -- either both come into stage q and the comer brings what the thread has, or neither comes
   abbrev pub AreAlike : ℕ → Option Comer → Option Thread → Type 0
@@ -206,6 +215,7 @@ module _ (p : Pipe) (ls : Locks) (vs : ℕ → View) (moves : ℕ → Signal) (s
         held = λ m a live. zero_is s ∙ ap (λ l. bit (is_held l m a)) (sym (held_first (start_env p vals) p.stmts []));
         guess = λ v e i l. absurd (omega (arith, e, l));
         tickets = λ m e low high. absurd (omega (arith, low));
+        late = λ m e twice low high. absurd (omega (arith, low));
       }
 
   -- of the calls of one stage whose thread moves
@@ -304,7 +314,7 @@ module _ (p : Pipe) (ls : Locks) (vs : ℕ → View) (moves : ℕ → Signal) (s
         long = so.long;
         env = λ x live. so.env x (lives_down p j q x (omega (arith, low)) live);
         advice = so.advice;
-        held = λ m a live. so.held m a (holds_down p j q m a (omega (arith, low)) live) ∙ ap (λ ps. bit (is_held ps m a)) (used.in_use.held j q t h on);
+        held = λ m a live. so.held m a (marks_down p j q Held m a (omega (arith, low)) live) ∙ ap (λ ps. bit (is_held ps m a)) (used.in_use.held j q t h on);
         guess =
             λ v e i m. ap (λ l'. slice_index l' i)
             (so.guess (spared.calm j t h (verifies_down p (suc j) q (omega (arith, low)) v)) (verifies_down p j q (omega (arith, low)) v) e)
@@ -318,6 +328,16 @@ module _ (p : Pipe) (ls : Locks) (vs : ℕ → View) (moves : ℕ → Signal) (s
               (used.in_use.shifts j u.thread m u.slot (leads.over j q m d.env l to r) (omega (arith, low, high)) (λ c. absurd (omega (arith, c, low, high)))),
           spared.kept j t h g,
         );
+        late = λ m e twice r high.
+            let early : j ≤ commit_stage p m = omega (arith, low, high) in
+            let known = ((seen j l).follows t h).late (ready_of p st bits j t by l h g) m (lock_there p m e) twice early in (
+              subst
+                  (λ n. count_older n (with_reserves m (moving p st bits) (machine.lock_of st m)) ≡ count_older n (machine.lock_of st m)) u.number
+                  (used.in_use.after j u.thread m u.slot (leads.over j q m d.env l to r)),
+              λ a live.
+                  subst (TellsLate s ((vs j).ended.marks Late m a) t.number a) (sym (used.own j t m h g (lock_there p m e)))
+                  (known a (marks_down p j q Late m a (omega (arith, low)) live)),
+            );
       }
     where
       is_next : (o : Option ℕ) → is_stage q o ≡ true → o ≡ Some q

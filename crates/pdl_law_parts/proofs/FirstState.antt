@@ -18,7 +18,8 @@ use Rattle.pdl_lockapi.specs.Lock.{start}
 use Rattle.pdl_lockapi.specs.Forget.{lock_state_of}
 use Rattle.pdl_machine_facts.specs.Slots.{slot}
 use Rattle.pdl_machine_facts.proofs.StagewisePorts.{at_stage, past_stage}
-use Rattle.pdl_law_parts.specs.Lives.{lives_from, held_from}
+use Rattle.pdl_law_parts.specs.declared.Mark.TheVariants.{Held}
+use Rattle.pdl_law_parts.specs.Lives.{lives_from, mark_from}
 use Rattle.pdl_law_parts.specs.Walk.{Locks, is_locked}
 use Rattle.pdl_law_parts.specs.Views.{Gates, View}
 use Rattle.pdl_law_parts.specs.Compiled.{IsLaid}
@@ -111,11 +112,11 @@ module _ (p : Pipe) (ls : Locks) (vs : ℕ → View) (gates : Gates) (moves : �
       ∙ sym (made.begins.vars x (subst (λ i. lives_from p i x ≡ true) f.0 live) s regs)
       ∙ ap (λ i. ((vs i).kept x).value s) (sym f.0)
 
-  held_at_first : (k : ℕ) (u : Thread) → slot first_state k ≡ Some u → IsHolding p k s (vs k).begun.held (machine.held_before k u.env p.stmts [])
+  held_at_first : (k : ℕ) (u : Thread) → slot first_state k ≡ Some u → IsHolding p k s (vs k).begun.marks (machine.held_before k u.env p.stmts [])
   held_at_first k u h m a live =
       let f = is_first p image k u h in
-      ap (λ i. ((vs i).begun.held m a).value s) f.0
-      ∙ made.begins.held m a (subst (λ i. held_from p i m a ≡ true) f.0 live) s regs
+      ap (λ i. ((vs i).begun.marks Held m a).value s) f.0
+      ∙ made.begins.marks Held m a (subst (λ i. mark_from p i Held m a ≡ true) f.0 live) s regs
       ∙ ap (λ l. bit (is_held l m a)) (sym (held_first u.env p.stmts []))
       ∙ ap (λ i. bit (is_held (machine.held_before i u.env p.stmts []) m a)) (sym f.0)
 
@@ -145,6 +146,7 @@ module _ (p : Pipe) (ls : Locks) (vs : ℕ → View) (gates : Gates) (moves : �
             (made.stages k (subst (λ i. i < length p.stages) (sym f.0) f.2)).tickets_first m e low s suits
             ∙ x.ticket.holds s (start y.words) y.stands
             ∙ ap (λ es. (0 + count_older u.number es) % 2 ^ ls.bits m) (sym none));
+        late = λ twice k u h low high. absurd (let f = is_first p image k u h in let z = f.0 in omega (arith, z, low));
       }
 
   -- with registers at reset, the image in the arrays and locks at their starts, the state stands for the machine's first state

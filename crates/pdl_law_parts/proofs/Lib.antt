@@ -5,12 +5,15 @@ pub mod WellFormedStages
 pub mod WellFormedArrays
 pub mod Signals
 pub mod Reservations
+pub mod LateLocations
 pub mod StageLooks
 pub mod StageRow
 pub mod StageLocks
 pub mod StageCalls
 pub mod StageStep
 pub mod LockUse
+pub mod AskedWrites
+pub mod Tickets
 pub mod StageLaw
 pub mod Moves
 pub mod LockPorts

@@ -5,18 +5,19 @@ use Rattle.std.specs.List.{cons_option}
 use Rattle.std.specs.Option.{is_some}
 use Rattle.pdl_kit.specs.declared.mem_info.MemInfo.{MemInfo}
 use Rattle.pdl_semantics.specs.Tree.{Mem}
+use Rattle.pdl_semantics.specs.Flat.{Stmt}
 use Rattle.pdl_semantics.specs.Flatten.{mems_of}
 use Rattle.pdl_semantics.specs.Cycle.{PortWrite}
 use Rattle.pdl_semantics.specs.Lines.{column, columns, cycle_lines, mem_lines, puts_for, puts_in}
 use Rattle.pdl_rules.specs.Typed.{AreDistinct}
 use Rattle.pdl_rules.specs.Memories.{info_of}
 use Rattle.pdl_net.specs.Circuit.{Output}
-use Rattle.pdl_law_parts.specs.Declared.{if_locked}
+use Rattle.pdl_law_parts.specs.DeclaredMems.{if_locked}
 use Rattle.pdl_law_parts.specs.Runs.{column_of, commit_mem}
 use Rattle.pdl_law_parts.proofs.WellFormedNames.{Among, name_turned, among_other}
 use Rattle.pdl_law_parts.proofs.WellFormedPorts.{stage_names}
 use Rattle.pdl_law_parts.proofs.LinesMachine.{AreCommits}
-use Rattle.pdl_law_parts.proofs.LinesNames.{name_of_output}
+use Rattle.pdl_law_parts.proofs.LinesNames.{name_of_output, second_names}
 use Rattle.pdl_law_parts.proofs.LinesPorts.{found, found_first}
 use Rattle.pdl_word.proofs.Bytes.{bytes_refl}
 use Rattle.pdl_semantics.proofs.Facts.{lock_declared}
@@ -67,12 +68,22 @@ none_of_stages infos k (suc n) names =
     ∙ skipped infos (codes "g_" ++ decimal k) (stage_names (suc k) n names) (λ x. refl)
     ∙ none_of_stages infos (suc k) n names
 
--- the names of a memory's three commit ports tell that memory, once
-pub one_of_locked : (infos : List MemInfo) (x : List ℕ) (i : MemInfo) (names : List (List ℕ)) → commit_mem infos (codes "c_" ++ x) ≡ Some i
-    → with_port infos ((codes "c_" ++ x) ∷ (codes "ca_" ++ x) ∷ (codes "cd_" ++ x) ∷ names) ≡ i ∷ with_port infos names
-one_of_locked infos x i names e =
-    ap (λ o. cons_option o (with_port infos ((codes "ca_" ++ x) ∷ (codes "cd_" ++ x) ∷ names))) e
-    ∙ ap (λ l. i ∷ l) (skipped infos (codes "ca_" ++ x) ((codes "cd_" ++ x) ∷ names) (λ y. refl) ∙ skipped infos (codes "cd_" ++ x) names (λ y. refl))
+none_of_second : (infos : List MemInfo) (twice : Bool) (x : List ℕ) (names : List (List ℕ))
+    → with_port infos (second_names twice x names) ≡ with_port infos names
+none_of_second infos true x names =
+    skipped infos (codes "c2_" ++ x) ((codes "ca2_" ++ x) ∷ (codes "cd2_" ++ x) ∷ names) (λ y. refl)
+    ∙ skipped infos (codes "ca2_" ++ x) ((codes "cd2_" ++ x) ∷ names) (λ y. refl)
+    ∙ skipped infos (codes "cd2_" ++ x) names (λ y. refl)
+none_of_second infos false x names = refl
+
+-- the names of a memory's commit ports tell that memory, once
+pub one_of_locked : (infos : List MemInfo) (x : List ℕ) (twice : Bool) (i : MemInfo) (names : List (List ℕ)) → commit_mem infos (codes "c_" ++ x) ≡ Some i
+    → with_port infos ((codes "c_" ++ x) ∷ (codes "ca_" ++ x) ∷ (codes "cd_" ++ x) ∷ second_names twice x names) ≡ i ∷ with_port infos names
+one_of_locked infos x twice i names e =
+    ap (λ o. cons_option o (with_port infos ((codes "ca_" ++ x) ∷ (codes "cd_" ++ x) ∷ second_names twice x names))) e
+    ∙ ap (λ l. i ∷ l)
+    (skipped infos (codes "ca_" ++ x) ((codes "cd_" ++ x) ∷ second_names twice x names) (λ y. refl)
+    ∙ skipped infos (codes "cd_" ++ x) (second_names twice x names) (λ y. refl) ∙ none_of_second infos twice x names)
 
 -- the memories whose commit ports are among the outputs are those by the outputs' names
 pub by_names : (infos : List MemInfo) (outs : List Output)
@@ -83,18 +94,18 @@ by_names infos (o ∷ outs) = ap (cons_option (commit_mem infos o.name)) (by_nam
 -- ---- the lines of a cycle
 
 -- the lines of what the locked memories commit are those of what all commit
-pub locked_lines : (f : List ℕ → List PortWrite) (number : ℕ) (ms : List Mem) (es : List (List PortWrite))
-    → AreDistinct ms → AreCommits (mems_of ms) es → ((m : Mem) → Among m ms → f m.name.name ≡ found ms es m.name.name)
+pub locked_lines : (ss : List Stmt) (f : List ℕ → List PortWrite) (number k : ℕ) (ms : List Mem) (es : List (List PortWrite))
+    → AreDistinct ms → AreCommits ss k (mems_of ms) es → ((m : Mem) → Among m ms → f m.name.name ≡ found ms es m.name.name)
     → cycle_lines number (map column_of (locked_infos ms)) (map (λ (i : MemInfo). puts_for (f i.name)) (locked_infos ms))
     ≡ cycle_lines number (columns ms) (puts_in es)
-locked_lines f number [] [] d h g = refl
-locked_lines f number [] (e ∷ es) d h g = absurd h
-locked_lines f number (m ∷ ms) [] d h g = absurd h
-locked_lines f number (m ∷ ms) (e ∷ es) d h g =
+locked_lines ss f number k [] [] d h g = refl
+locked_lines ss f number k [] (e ∷ es) d h g = absurd h
+locked_lines ss f number k (m ∷ ms) [] d h g = absurd h
+locked_lines ss f number k (m ∷ ms) (e ∷ es) d h g =
     go (is_some m.lock) (λ n. h.0 (lock_declared m.lock ∙ n))
-    (locked_lines f number ms es d.1 h.2
-    (λ k a. g k (inr a)
-    ∙ ap (λ t. if t && is_some m.lock then e else found ms es k.name.name) (name_turned k.name.name m.name.name (among_other m.name.name ms k d.0 a))))
+    (locked_lines ss f number (suc k) ms es d.1 h.2
+    (λ n a. g n (inr a)
+    ∙ ap (λ t. if t && is_some m.lock then e else found ms es n.name.name) (name_turned n.name.name m.name.name (among_other m.name.name ms n d.0 a))))
   where
     here : f m.name.name ≡ e
     here = g m (inl refl) ∙ found_first m ms e es d.0 h.0

@@ -1,11 +1,15 @@
 -- The names of the outputs of a compiled pipe.
-use Rattle.std.proofs.Common.{ℕ, zero, suc, ◌≤◌, List, length, arith}
+use Rattle.std.proofs.Common.{ℕ, zero, suc, ◌≤◌, Bool, List, ◌∷◌, ◌++◌, if◌then◌else◌, length, codes, arith}
 use Rattle.pdl_net.specs.Circuit.{Output}
 use Rattle.pdl_law_parts.proofs.WellFormedPorts.{stage_names}
 
 -- the name of an output
 abbrev pub name_of_output : Output → List ℕ
 name_of_output o = o.name
+
+-- the names of the ports of a memory's second commit, where there are such ports, before others
+abbrev pub second_names : Bool → List ℕ → List (List ℕ) → List (List ℕ)
+second_names twice x rest = if twice then (codes "c2_" ++ x) ∷ (codes "ca2_" ++ x) ∷ (codes "cd2_" ++ x) ∷ rest else rest
 
 -- ---- how many
 

@@ -7,14 +7,15 @@ use Rattle.std.proofs.lemmas.Bool.{or_parts}
 use Rattle.pdl_word.specs.Words.{bit}
 use Rattle.pdl_kit.specs.declared.mem_info.MemInfo.{MemInfo}
 use Rattle.pdl_semantics.specs.Tree.{LockDecl, Mem}
-use Rattle.pdl_semantics.specs.Flat.{has_lock}
+use Rattle.pdl_semantics.specs.Flat.{Stmt, has_lock}
 use Rattle.pdl_semantics.specs.Flatten.{mems_of, flat_lock}
 use Rattle.pdl_semantics.specs.Cycle.{PortWrite}
+use Rattle.pdl_semantics.specs.SecondWrites.{reserves_twice}
 use Rattle.pdl_semantics.specs.Lines.{Put, puts_for, puts_in}
 use Rattle.pdl_rules.specs.Typed.{is_memory, AreDistinct}
 use Rattle.pdl_net.specs.Circuit.{Circuit, Output, outputs_of}
 use Rattle.pdl_net.specs.Run.{value_at, port_value}
-use Rattle.pdl_machine_facts.specs.Ports.{stage_values, shown_values, commit_values}
+use Rattle.pdl_machine_facts.specs.Ports.{stage_values, shown_values, second_values, commit_values}
 use Rattle.pdl_law_parts.specs.Runs.{puts_of}
 use Rattle.pdl_law_parts.proofs.WellFormedNames.{Among, name_turned, among_other}
 use Rattle.pdl_law_parts.proofs.WellFormedPorts.{stage_names}
@@ -100,18 +101,33 @@ abbrev pub word_of : List PortWrite → ℕ
 word_of [] = 0
 word_of (w ∷ ws) = w.value
 
--- the values of its ports, if it has a lock
-abbrev pub commit_if : Bool → List PortWrite → List ℕ
-commit_if b e = if b then flag_of e ∷ addr_of e ∷ word_of e ∷ [] else []
+-- what a memory commits after the first write
+abbrev pub later : List PortWrite → List PortWrite
+later [] = []
+later (w ∷ ws) = ws
 
--- the values of a memory's commit ports, of which there are no second ones, are those of its ports, if it has a lock
-pub commit_is : (l : Option LockDecl) (e : List PortWrite) → commit_values (flat_lock l) false e ≡ commit_if (is_some l) e
-commit_is l e = ap (λ (b : Bool). if b then shown_values e ++ [] else []) (lock_declared l) ∙ at (is_some l) e
-  where
-    at : (b : Bool) (ws : List PortWrite) → (if b then shown_values ws ++ [] else []) ≡ commit_if b ws
-    at false ws = refl
-    at true [] = refl
-    at true (w ∷ ws) = refl
+-- the values of its ports, if it has a lock, and of those for the second commit where there are such
+abbrev pub commit_if : Bool → Bool → List PortWrite → List ℕ
+commit_if b twice e =
+    if b
+    then flag_of e ∷ addr_of e ∷ word_of e ∷ (if twice then flag_of (later e) ∷ addr_of (later e) ∷ word_of (later e) ∷ [] else [])
+    else []
+
+-- the values of a first commit are those of its three ports
+pub shown_is : (e : List PortWrite) → shown_values e ≡ flag_of e ∷ addr_of e ∷ word_of e ∷ []
+shown_is [] = refl
+shown_is (w ∷ ws) = refl
+
+-- and those of a second commit
+pub second_is : (e : List PortWrite) → second_values e ≡ flag_of (later e) ∷ addr_of (later e) ∷ word_of (later e) ∷ []
+second_is [] = refl
+second_is (w ∷ ws) = shown_is ws
+
+-- the values of a memory's commit ports are those of its ports, if it has a lock
+pub commit_is : (l : Option LockDecl) (twice : Bool) (e : List PortWrite) → commit_values (flat_lock l) twice e ≡ commit_if (is_some l) twice e
+commit_is l twice e =
+    ap (λ (b : Bool). if b then shown_values e ++ (if twice then second_values e else []) else []) (lock_declared l)
+    ∙ ap₂ (λ x y. if is_some l then x ++ (if twice then y else []) else []) (shown_is e) (second_is e)
 
 -- what is committed by the memory of this name, where that memory has a lock
 abbrev pub found : List Mem → List (List PortWrite) → List ℕ → List PortWrite
@@ -142,14 +158,15 @@ pub put_cases : (o : List PortWrite) (f a w : ℕ)
 put_cases [] f a w e i j = rw e refl
 put_cases (x ∷ xs) f a w e i j = rw (e, i, j) refl
 
--- at most one commit by its address and word is shown as the commit is
-pub same_put : (o : List PortWrite) → length o ≤ 1 → puts_of (put_in o) ≡ puts_for o
+-- at most two commits by their addresses and words are shown as the commits are
+pub same_put : (o : List PortWrite) → length o ≤ 2 → puts_of (put_in o) ++ puts_of (put_in (later o)) ≡ puts_for o
 same_put [] l = refl
 same_put (w ∷ []) l = refl
-same_put (w ∷ x ∷ ws) l = absurd (omega (arith, l))
+same_put (w ∷ x ∷ []) l = refl
+same_put (w ∷ x ∷ y ∷ ws) l = absurd (omega (arith, l))
 
 -- no memory has the name
-found_none : (ms : List Mem) (es : List (List PortWrite)) (x : List ℕ) → is_memory ms x ≡ false → found ms es x ≡ []
+pub found_none : (ms : List Mem) (es : List (List PortWrite)) (x : List ℕ) → is_memory ms x ≡ false → found ms es x ≡ []
 found_none [] es x e = refl
 found_none (m ∷ ms) [] x e = refl
 found_none (m ∷ ms) (k ∷ es) x e =
@@ -170,26 +187,31 @@ found_first m ms e es d h =
     ap (λ t. if t && is_some m.lock then e else found ms es m.name.name) (bytes_refl m.name.name)
     ∙ found_if m.lock e (found ms es m.name.name) h (found_none ms es m.name.name d)
 
--- what is found by a name is at most one commit
-pub found_short : (ms : List Mem) (es : List (List PortWrite)) (x : List ℕ) → AreCommits (mems_of ms) es → length (found ms es x) ≤ 1
-found_short [] es x h = omega arith
-found_short (m ∷ ms) [] x h = omega arith
-found_short (m ∷ ms) (e ∷ es) x h = at (bytes_eq m.name.name x && is_some m.lock) (found_short ms es x h.2)
+-- what is found by a name is at most two commits
+pub found_short : (ss : List Stmt) (k : ℕ) (ms : List Mem) (es : List (List PortWrite)) (x : List ℕ)
+    → AreCommits ss k (mems_of ms) es → length (found ms es x) ≤ 2
+found_short ss k [] es x h = omega arith
+found_short ss k (m ∷ ms) [] x h = omega arith
+found_short ss k (m ∷ ms) (e ∷ es) x h = at (bytes_eq m.name.name x && is_some m.lock) (short (reserves_twice k ss) h.1) (found_short ss (suc k) ms es x h.2)
   where
-    at : (b : Bool) → length (found ms es x) ≤ 1 → length (if b then e else found ms es x) ≤ 1
-    at true l = h.1
-    at false l = l
+    short : (b : Bool) → length e ≤ (if b then 2 else 1) → length e ≤ 2
+    short true l = l
+    short false l = omega (arith, l)
+
+    at : (b : Bool) → length e ≤ 2 → length (found ms es x) ≤ 2 → length (if b then e else found ms es x) ≤ 2
+    at true f l = f
+    at false f l = l
 
 -- what is found by the names of memories, which differ, is what they commit, memory by memory
-pub each_found : (f : List ℕ → List PortWrite) (ms : List Mem) (es : List (List PortWrite)) → AreDistinct ms
-    → AreCommits (mems_of ms) es → ((m : Mem) → Among m ms → f m.name.name ≡ found ms es m.name.name)
+pub each_found : (ss : List Stmt) (f : List ℕ → List PortWrite) (k : ℕ) (ms : List Mem) (es : List (List PortWrite)) → AreDistinct ms
+    → AreCommits ss k (mems_of ms) es → ((m : Mem) → Among m ms → f m.name.name ≡ found ms es m.name.name)
     → map (λ (i : MemInfo). puts_for (f i.name)) (map info_of ms) ≡ puts_in es
-each_found f [] [] d h g = refl
-each_found f [] (e ∷ es) d h g = absurd h
-each_found f (m ∷ ms) [] d h g = absurd h
-each_found f (m ∷ ms) (e ∷ es) d h g =
+each_found ss f k [] [] d h g = refl
+each_found ss f k [] (e ∷ es) d h g = absurd h
+each_found ss f k (m ∷ ms) [] d h g = absurd h
+each_found ss f k (m ∷ ms) (e ∷ es) d h g =
     ap₂ (λ (x : List Put) (xs : List (List Put)). x ∷ xs)
     (ap puts_for (g m (inl refl) ∙ found_first m ms e es d.0 h.0))
-    (each_found f ms es d.1 h.2
-    (λ k a. g k (inr a)
-    ∙ ap (λ t. if t && is_some m.lock then e else found ms es k.name.name) (name_turned k.name.name m.name.name (among_other m.name.name ms k d.0 a))))
+    (each_found ss f (suc k) ms es d.1 h.2
+    (λ n a. g n (inr a)
+    ∙ ap (λ t. if t && is_some m.lock then e else found ms es n.name.name) (name_turned n.name.name m.name.name (among_other m.name.name ms n d.0 a))))

@@ -4,11 +4,14 @@ use Rattle.std.specs.Prelude.{if◌then◌else◌, nat_lt, ⊤, Contains}
 use Rattle.std.proofs.lemmas.Bool.{false≢true, and_parts, cases_lt}
 use Rattle.std.proofs.lemmas.List.{length-map, length-drop}
 use Rattle.pdl_word.specs.Words.{bit}
+use Rattle.pdl_word.proofs.Each.{each_get}
 use Rattle.pdl_semantics.specs.Flat.{Pipe}
 use Rattle.pdl_semantics.specs.Stages.{mem_at, commit_stage}
 use Rattle.pdl_semantics.specs.Locks as locks
 use Rattle.pdl_semantics.specs.Machine as machine
 use Rattle.pdl_semantics.specs.Machine.{Thread, Pending, Written, deeds}
+use Rattle.pdl_semantics.specs.Sound.{entries_by}
+use Rattle.pdl_semantics.specs.SecondWrites.{reserves_twice}
 use Rattle.pdl_semantics.specs.Moves.{Act as Mover}
 use Rattle.pdl_semantics.specs.Cycle.{with_reserves, with_all_writes, with_writes_of, releases_of, all_releases, list_two, list_three, squasher}
 use Rattle.pdl_net.specs.Circuit.{State}
@@ -17,21 +20,25 @@ use Rattle.pdl_lockapi.specs.Lock.{WriteAct, LockAct, LockState, with_writes, en
 use Rattle.pdl_lockapi.specs.Lock as lock
 use Rattle.pdl_lockapi.specs.Laws.{holds_ticket, asked_addresses, Drives}
 use Rattle.pdl_lockapi.specs.Forget.{forget, forgotten_entries, as_lock, has_place, place_of, IsOnce, lock_state_of, addresses, addresses_of}
-use Rattle.pdl_lockapi.proofs.Threads.{same_append, ticket_covered}
+use Rattle.pdl_lockapi.proofs.Threads.{same_append, ticket_covered, place_is_own, once_own}
 use Rattle.pdl_machine_facts.specs.Slots.{here, stage_moves, movers_from, moving}
 use Rattle.pdl_machine_facts.specs.Cycle.{IsByStages}
 use Rattle.pdl_law_parts.proofs.AnsweredThreads.{Stood}
-use Rattle.pdl_law_parts.specs.Walk.{Locks, is_locked, Put, is_on}
+use Rattle.pdl_law_parts.specs.declared.Mark.TheVariants.{Late}
+use Rattle.pdl_law_parts.specs.Lives.{mark_from}
+use Rattle.pdl_law_parts.specs.Walk.{Locks, is_locked, Put, is_on, zero_bit}
 use Rattle.pdl_law_parts.specs.Views.{Gates, View}
-use Rattle.pdl_law_parts.specs.Ports.{reserves_to, all_reserves, puts_to, all_puts, release_signal, step_of}
-use Rattle.pdl_law_parts.specs.Served.{IsServed}
-use Rattle.pdl_law_parts.specs.Stands.{StandsLock, IsSo, IsSeen, IsSquashed, reserved_in, written_in, let_in}
+use Rattle.pdl_law_parts.specs.Ports.{reserves_to, all_reserves, puts_to, tickets_to, all_puts, release_signal, second_signal, step_of}
+use Rattle.pdl_law_parts.specs.Served.{IsServed, at_most, own_with}
+use Rattle.pdl_law_parts.specs.Stands.{StandsLock, IsSo, IsSeen, IsSquashed, AreLate, reserved_in, written_in, let_in}
 use Rattle.pdl_law_parts.proofs.Signals.{zero_is}
 use Rattle.pdl_law_parts.proofs.StageLooks.{lock_there}
 use Rattle.pdl_law_parts.proofs.Moves.{ready_of}
-use Rattle.pdl_law_parts.proofs.LockUse.{IsAlike, alike, all_new, appended_is, new_count, EachTo, each_to, each_map, HasTicket, write_acts, written_append, none_written, stage_written, place_below}
+use Rattle.pdl_law_parts.proofs.LockUse.{alike_long, writes_alike, all_new, appended_is, new_count, EachTo, each_to, each_map, HasTicket, write_acts, written_append, none_written, stage_written, place_below}
+use Rattle.pdl_law_parts.proofs.AskedWrites.{written_marks}
+use Rattle.pdl_law_parts.proofs.Tickets.{ticket_at_is}
 use Rattle.pdl_lockapi.proofs.LockKinds.{room_there}
-use Rattle.pdl_law_parts.proofs.LockPorts.{asked_append, asked_stage, lets_stage, AreFitting, fitting_append, fitting_at, fitting_stage, AreDriven, driven_append, driven_count, driven_at, driven_stage, moves_or_not, no_mover, one_mover}
+use Rattle.pdl_law_parts.proofs.LockPorts.{asked_append, asked_stage, lets_stage, AreFitting, fitting_append, fitting_at, fitting_stage, seconds_stage, AreDriven, driven_append, driven_count, driven_at, driven_stage, moves_or_not, no_mover, one_mover}
 use Rattle.pdl_semantics.specs.PendingLists.{count_older, AreWritten}
 
 -- RELEASES
@@ -98,16 +105,19 @@ module _ (p : Pipe) (ls : Locks) (vs : ℕ → View) (moves : ℕ → Signal) (s
         | inr f ↦ (so_at k f.0 l f.1 f.2).fits
       ]))
 
-  release_is : (n k : ℕ) → k + n ≡ length p.stages
-      → (release_signal m vs moves n k).value s ≡ bit (nat_lt 0 (all_releases m (movers_from p st bits n k)))
-  release_is zero k e = zero_is s
-  release_is (suc n) k e =
-      let l : k < length p.stages = omega (arith, e) in
+  -- so its marks tell which of its own pending writes of a memory that some path reserves twice is the second one
+  late_at : (k : ℕ) (t : Thread) → k < length p.stages → here p st bits k ≡ Some t → stage_moves p st bits k ≡ true → m < length p.mems
+      → reserves_twice m p.stmts ≡ true → k ≤ commit_stage p m → AreLate p k s (vs k).ended.marks t.number m (own_with p st k t m)
+  late_at k t l h g low twice early = ((seen k l).follows t h).late (ready_of p st bits k t by l h g) m low twice early
+
+  -- the releases of one stage with those of the stages after it
+  released_by : (n k : ℕ) → k < length p.stages
+      → all_releases m (movers_from p st bits n (suc k)) + (if stage_moves p st bits k then releases_of m (let_in s (vs k).ended.lettings) else 0)
+      ≡ all_releases m (movers_from p st bits (suc n) k)
+  released_by n k l =
       let rest = movers_from p st bits n (suc k) in
-      let i = release_is n (suc k) (omega (arith, e)) in
       let let_go = releases_of m (let_in s (vs k).ended.lettings) in
-      lets_stage s m (moves k) (stage_moves p st bits k) (seen k l).leaves (vs k).ended.lettings (release_signal m vs moves n (suc k)) (all_releases m rest) i
-      ∙ ap (λ c. bit (nat_lt 0 c)) (⊎_elim
+      ⊎_elim
       (λ (f : stage_moves p st bits k ≡ false).
       ap (λ b. all_releases m rest + (if b then let_go else 0)) f ∙ add-zero (all_releases m rest)
       ∙ ap (λ ms. all_releases m (ms ++ rest)) (sym (no_mover p st bits k f)))
@@ -115,7 +125,26 @@ module _ (p : Pipe) (ls : Locks) (vs : ℕ → View) (moves : ℕ → Signal) (s
       ap (λ b. all_releases m rest + (if b then let_go else 0)) f.2
       ∙ ap (λ ns. all_releases m rest + releases_of m ns) (sym (so_at k f.0 l f.1 f.2).releases)
       ∙ ap (λ ms. all_releases m (ms ++ rest)) (sym (one_mover p st bits k f.0 f.1 f.2)))
-      (moves_or_not p st bits k))
+      (moves_or_not p st bits k)
+
+  release_is : (n k : ℕ) → k + n ≡ length p.stages
+      → (release_signal m vs moves n k).value s ≡ bit (nat_lt 0 (all_releases m (movers_from p st bits n k)))
+  release_is zero k e = zero_is s
+  release_is (suc n) k e =
+      let l : k < length p.stages = omega (arith, e) in
+      lets_stage s m (moves k) (stage_moves p st bits k) (seen k l).leaves (vs k).ended.lettings (release_signal m vs moves n (suc k))
+      (all_releases m (movers_from p st bits n (suc k))) (release_is n (suc k) (omega (arith, e)))
+      ∙ ap (λ c. bit (nat_lt 0 c)) (released_by n k l)
+
+  second_is : (n k : ℕ) → k + n ≡ length p.stages
+      → (second_signal m vs moves n k).value s ≡ bit (nat_lt 1 (all_releases m (movers_from p st bits n k)))
+  second_is zero k e = zero_is s
+  second_is (suc n) k e =
+      let l : k < length p.stages = omega (arith, e) in
+      seconds_stage s m (moves k) (stage_moves p st bits k) (seen k l).leaves (vs k).ended.lettings (release_signal m vs moves n (suc k))
+      (second_signal m vs moves n (suc k)) (all_releases m (movers_from p st bits n (suc k))) (release_is n (suc k) (omega (arith, e)))
+      (second_is n (suc k) (omega (arith, e)))
+      ∙ ap (λ c. bit (nat_lt 1 c)) (released_by n k l)
 
   -- THE ACT
 
@@ -164,12 +193,18 @@ module _ (p : Pipe) (ls : Locks) (vs : ℕ → View) (moves : ℕ → Signal) (s
       tail = tail_with (squasher (moving p st bits));
     }
 
-    -- a thread that writes has one pending write of the variable, and is in time; the first one behind those of older threads
+    -- the place of a thread's reservation among its own
+    abbrev own_place : ℕ → Thread → ℕ → ℕ
+    own_place k t y = place_of t.number y (own_with p st k t m)
+
+    -- a thread that writes has one pending write of the variable, and is in time; the write stands behind those of older threads, and its mark tells whether another of the thread's own stands before it
     record IsOwn (k : ℕ) (t : Thread) (y : ℕ) : Type 0 where
       early : k ≤ commit_stage p m
       has : has_place t.number y pending ≡ true
       once : IsOnce t.number y pending
-      place : place_of t.number y pending ≡ count_older t.number (machine.lock_of st m)
+      place : place_of t.number y pending ≡ count_older t.number (machine.lock_of st m) + own_place k t y
+      few : own_place k t y < at_most p m
+      late : reserves_twice m p.stmts ≡ true → ((vs k).ended.marks Late m y).value s ≡ bit (nat_lt 0 (own_place k t y))
 
     -- so has each thread that moves and writes
     own_at : (k : ℕ) (t : Thread) → k < length p.stages → here p st bits k ≡ Some t → stage_moves p st bits k ≡ true
@@ -178,66 +213,112 @@ module _ (p : Pipe) (ls : Locks) (vs : ℕ → View) (moves : ℕ → Signal) (s
         each_to m (IsOwn k t) (written_in s (vs k).ended.puts)
         (λ y v c.
         let P : List Written → Type 0 = λ ws. Contains ws (record { mem = m; var = y; value = v }) in
-        let d = subst P (sym (so_at k t l h g).writes) c in
-        let w = used.in_use.writer k t m y v h g d in
-        record { early = w.0; has = w.1; once = w.2; place = used.first k t m y v h g (lock_there p m e) d ∙ w.3 })
+        is_own y v (subst P (sym (so_at k t l h g).writes) c))
+      where
+        own : List Pending
+        own = own_with p st k t m
+
+        low : m < length p.mems
+        low = lock_there p m e
+
+        marked : (w : Written) → Contains (deeds p st k t).writes w → mark_from p k Late w.mem w.var ≡ true
+        marked w c =
+            let P : Written → Type 0 = λ w. mark_from p k Late w.mem w.var ≡ true in
+            subst P c.2 (each_get P (deeds p st k t).writes c.0 w c.1 (written_marks p st k t))
+
+        is_own : (y v : ℕ) → Contains (deeds p st k t).writes (record { mem = m; var = y; value = v }) → IsOwn k t y
+        is_own y v c =
+            let w = used.in_use.writer k t m y v h g c in
+            let same : entries_by t.number pending ≡ own = used.own k t m h g low in
+            let behind = place_is_own 0 t.number y pending (used.in_use.ordered_next m) w.1 in
+            let has : has_place t.number y own ≡ true = subst (λ es. has_place t.number y es ≡ true) same behind.0 in
+            let once : IsOnce t.number y own = subst (IsOnce t.number y) same (once_own t.number y pending w.2) in
+            record {
+              early = w.0;
+              has = w.1;
+              once = w.2;
+              place = behind.1 ∙ ap₂ (λ n es. n + place_of t.number y es) w.3 same;
+              few = (let a = place_below t.number y own once has in let b = used.few k t m h g low in omega (arith, a, b));
+              late = λ z. late_at k t l h g low z w.0 y (marked (record { mem = m; var = y; value = v }) c) has once;
+            }
 
     tail_told : (q : Option ℕ) → squasher (moving p st bits) ≡ q → is_some q ≡ true → holds_ticket (ls.bits m) (gates.tail m) s (tail_with q)
     tail_told None f g = absurd (false≢true g)
     tail_told (Some n) f g = squashed.tail m n e stand f
 
-    driven : (n k : ℕ) → k + n ≡ length p.stages → AreDriven (ls.bits m) s (acts_of n k) (all_puts m vs moves n k)
-    driven zero k e = tt
-    driven (suc n) k e =
-        let l : k < length p.stages = omega (arith, e) in
-        let xs = (vs k).ended.puts in
-        driven_append (ls.bits m) s (acts_of n (suc k))
-        (write_acts s m (stage_moves p st bits k) (λ y. base + place_in (here p st bits k) y) xs)
-        (all_puts m vs moves n (suc k)) (puts_to m (moves k) ((vs k).tickets m) xs)
-        (driven n (suc k) (omega (arith, e)))
-        (driven_stage (ls.bits m) s m (λ y. base + place_in (here p st bits k) y) (moves k) ((vs k).tickets m) (stage_moves p st bits k) xs (seen k l).leaves
-        (λ g. at (moves_or_not p st bits k) g (λ t h g. (so_at k t l h g).bits))
-        (λ g. at (moves_or_not p st bits k) g (λ t h g.
-        let P : Option Thread → Type 0 = λ o. EachTo m (λ y. holds_ticket (ls.bits m) ((vs k).tickets m) s (base + place_in o y)) (written_in s xs) in
+    -- the ticket of a location that a thread writes is that of the thread, or the one after it
+    own_ticket : (k : ℕ) (t : Thread) (y : ℕ) → here p st bits k ≡ Some t → ((vs k).tickets m).width ≡ ls.bits m → IsOwn k t y
+        → holds_ticket (ls.bits m) (tickets_to (reserves_twice m p.stmts) m (vs k) y) s (base + place_of t.number y pending)
+    own_ticket k t y h wide o =
         let u = stood k t h in
-        subst P (sym h)
-        (each_map m (IsOwn k t) (λ y. holds_ticket (ls.bits m) ((vs k).tickets m) s (base + place_of t.number y pending)) (written_in s xs)
-        (λ y o. subst (λ n. holds_ticket (ls.bits m) ((vs k).tickets m) s (base + n)) (sym o.place)
-        (subst
-        (λ n. holds_ticket (ls.bits m) ((vs k).tickets m) s (base + count_older n (machine.lock_of st m))) u.number
-        (stand.tickets k u.thread u.slot o.early)))
-        (own_at k t l h g)))))
-      where
-        at : {R : Type 0}
-            → (stage_moves p st bits k ≡ false) ⊎ ((t : Thread) × (here p st bits k ≡ Some t) × (stage_moves p st bits k ≡ true))
-            → stage_moves p st bits k ≡ true
-            → ((t : Thread) → here p st bits k ≡ Some t → stage_moves p st bits k ≡ true → R) → R
-        at (inl f) g h = absurd (false≢true (sym f ∙ g))
-        at (inr f) g h = h f.0 f.1 f.2
+        let thread =
+        subst
+        (λ (n : ℕ). holds_ticket (ls.bits m) ((vs k).tickets m) s (base + count_older n (machine.lock_of st m))) u.number
+        (stand.tickets k u.thread u.slot o.early) in
+        let there : base + count_older t.number (machine.lock_of st m) + own_place k t y ≡ base + place_of t.number y pending =
+        (let z = o.place in omega (arith, z)) in
+        subst (λ n. holds_ticket (ls.bits m) (tickets_to (reserves_twice m p.stmts) m (vs k) y) s n) there
+        (ticket_at_is s (reserves_twice m p.stmts) ((vs k).ended.marks Late m) ((vs k).tickets m) y (ls.bits m)
+        (base + count_older t.number (machine.lock_of st m)) (own_place k t y) wide thread o.late o.few)
 
-    -- the stages' ports do this act
-    pub drives : Drives (ls.bits m) (step_of p vs gates moves m) s act_of
-    drives =
-        let z : 0 + length p.stages ≡ length p.stages = omega arith in
-        let d = driven (length p.stages) 0 z in
-        record {
-          reserves = reserves_are (length p.stages) 0 z;
-          fits = fitting_at s (all_reserves m vs moves (length p.stages) 0) (fitting (length p.stages) 0 z);
-          count = driven_count (ls.bits m) s (acts_of (length p.stages) 0) (all_puts m vs moves (length p.stages) 0) d;
-          on = λ k l. (driven_at (ls.bits m) s (acts_of (length p.stages) 0) (all_puts m vs moves (length p.stages) 0) d k l).on;
-          ticket = λ k l. (driven_at (ls.bits m) s (acts_of (length p.stages) 0) (all_puts m vs moves (length p.stages) 0) d k l).ticket;
-          value = λ k l. (driven_at (ls.bits m) s (acts_of (length p.stages) 0) (all_puts m vs moves (length p.stages) 0) d k l).value;
-          release = release_is (length p.stages) 0 z;
-          release2 = zero_is s ∙ ap bit (sym (le-ltb 1 gone (used.single m (lock_there p m e))));
-          squash = squashed.squash;
-          tail = λ g. tail_told (squasher (moving p st bits)) refl g;
-        }
+    module _ (wide : (k : ℕ) → k < length p.stages → ((vs k).tickets m).width ≡ ls.bits m) where
+      driven : (n k : ℕ) → k + n ≡ length p.stages → AreDriven (ls.bits m) s (acts_of n k) (all_puts (reserves_twice m p.stmts) m vs moves n k)
+      driven zero k e = tt
+      driven (suc n) k e =
+          let l : k < length p.stages = omega (arith, e) in
+          let xs = (vs k).ended.puts in
+          let ticket = tickets_to (reserves_twice m p.stmts) m (vs k) in
+          driven_append (ls.bits m) s (acts_of n (suc k))
+          (write_acts s m (stage_moves p st bits k) (λ y. base + place_in (here p st bits k) y) xs)
+          (all_puts (reserves_twice m p.stmts) m vs moves n (suc k)) (puts_to m (moves k) ticket xs)
+          (driven n (suc k) (omega (arith, e)))
+          (driven_stage (ls.bits m) s m (λ y. base + place_in (here p st bits k) y) (moves k) ticket (stage_moves p st bits k) xs (seen k l).leaves
+          (λ g. at (moves_or_not p st bits k) g (λ t h g. (so_at k t l h g).bits))
+          (λ g. at (moves_or_not p st bits k) g (λ t h g.
+          let P : Option Thread → Type 0 = λ o. EachTo m (λ y. holds_ticket (ls.bits m) (ticket y) s (base + place_in o y)) (written_in s xs) in
+          subst P (sym h)
+          (each_map m (IsOwn k t) (λ y. holds_ticket (ls.bits m) (ticket y) s (base + place_of t.number y pending)) (written_in s xs)
+          (λ y o. own_ticket k t y h (wide k l) o)
+          (own_at k t l h g)))))
+        where
+          at : {R : Type 0}
+              → (stage_moves p st bits k ≡ false) ⊎ ((t : Thread) × (here p st bits k ≡ Some t) × (stage_moves p st bits k ≡ true))
+              → stage_moves p st bits k ≡ true
+              → ((t : Thread) → here p st bits k ≡ Some t → stage_moves p st bits k ≡ true → R) → R
+          at (inl f) g h = absurd (false≢true (sym f ∙ g))
+          at (inr f) g h = h f.0 f.1 f.2
+
+      release2_is : (b : Bool) → reserves_twice m p.stmts ≡ b
+          → (if b then second_signal m vs moves (length p.stages) 0 else zero_bit).value s ≡ bit (nat_lt 1 gone)
+      release2_is true f = second_is (length p.stages) 0 (omega arith)
+      release2_is false f =
+          let most : at_most p m ≡ 1 = ap (λ b. if b then 2 else 1) f in
+          let few = used.released m (lock_there p m e) in
+          zero_is s ∙ ap bit (sym (le-ltb 1 gone (omega (arith, most, few))))
+
+      -- the stages' ports do this act
+      pub drives : Drives (ls.bits m) (step_of p vs gates moves m) s act_of
+      drives =
+          let z : 0 + length p.stages ≡ length p.stages = omega arith in
+          let ports = all_puts (reserves_twice m p.stmts) m vs moves (length p.stages) 0 in
+          let d = driven (length p.stages) 0 z in
+          record {
+            reserves = reserves_are (length p.stages) 0 z;
+            fits = fitting_at s (all_reserves m vs moves (length p.stages) 0) (fitting (length p.stages) 0 z);
+            count = driven_count (ls.bits m) s (acts_of (length p.stages) 0) ports d;
+            on = λ k l. (driven_at (ls.bits m) s (acts_of (length p.stages) 0) ports d k l).on;
+            ticket = λ k l. (driven_at (ls.bits m) s (acts_of (length p.stages) 0) ports d k l).ticket;
+            value = λ k l. (driven_at (ls.bits m) s (acts_of (length p.stages) 0) ports d k l).value;
+            release = release_is (length p.stages) 0 z;
+            release2 = release2_is (reserves_twice m p.stmts) refl;
+            squash = squashed.squash;
+            tail = λ g. tail_told (squasher (moving p st bits)) refl g;
+          }
 
     -- the writes of these stages go into pending writes
-    pub all_written : (n k : ℕ) → k + n ≡ length p.stages
-        → (forgotten_entries (with_all_writes m (movers_from p st bits n k) pending) ≡ with_writes base (acts_of n k) (forgotten_entries pending))
-        × IsAlike (with_all_writes m (movers_from p st bits n k) pending) pending
-    all_written zero k e = (refl, alike pending (used.in_use.ordered_next m))
+    all_written : (n k : ℕ) → k + n ≡ length p.stages
+        → forgotten_entries (with_all_writes m (movers_from p st bits n k) pending) ≡ with_writes base (acts_of n k) (forgotten_entries pending)
+    all_written zero k e = refl
     all_written (suc n) k e =
         let l : k < length p.stages = omega (arith, e) in
         let rest = movers_from p st bits n (suc k) in
@@ -247,29 +328,23 @@ module _ (p : Pipe) (ls : Locks) (vs : ℕ → View) (moves : ℕ → Signal) (s
         let now = written_append base (acts_of n (suc k)) (write_acts s m (stage_moves p st bits k) ticket xs) (forgotten_entries pending) in
         let before = with_writes base (acts_of n (suc k)) (forgotten_entries pending) in
         let P : List Mover → Type 0 =
-        λ ms. (forgotten_entries (with_all_writes m (ms ++ rest) pending) ≡ with_writes base (acts_of (suc n) k) (forgotten_entries pending))
-        × IsAlike (with_all_writes m (ms ++ rest) pending) pending in
+        λ ms. forgotten_entries (with_all_writes m (ms ++ rest) pending) ≡ with_writes base (acts_of (suc n) k) (forgotten_entries pending) in
         ⊎_elim
         (λ (f : stage_moves p st bits k ≡ false).
-        subst P (sym (no_mover p st bits k f)) (
-          i.0 ∙ sym (now ∙ ap (λ b. with_writes base (write_acts s m b ticket xs) before) f ∙ none_written s m base ticket xs before),
-          i.1,
-        ))
+        subst P (sym (no_mover p st bits k f))
+        (i ∙ sym (now ∙ ap (λ b. with_writes base (write_acts s m b ticket xs) before) f ∙ none_written s m base ticket xs before)))
         (λ (f : (t : Thread) × (here p st bits k ≡ Some t) × (stage_moves p st bits k ≡ true)).
         let t = f.0.number in
         let es = with_all_writes m rest pending in
-        let j = stage_written s m base t ticket pending xs es i.1
+        let j = stage_written s m base t ticket pending xs es (writes_alike m rest pending)
         (each_map m (IsOwn k f.0) (λ y. HasTicket base t (ticket y) pending y) (written_in s xs)
         (λ y o. record { has = o.has; once = o.once; told = ap (λ u. base + place_in u y) f.1 }) (own_at k f.0 l f.1 f.2)) in
         let writes = (so_at k f.0 l f.1 f.2).writes in
         let Q : List Written → Type 0 =
-        λ ws. (forgotten_entries (with_writes_of m t ws es) ≡ with_writes base (write_acts s m true ticket xs) (forgotten_entries es))
-        × IsAlike (with_writes_of m t ws es) pending in
+        λ ws. forgotten_entries (with_writes_of m t ws es) ≡ with_writes base (write_acts s m true ticket xs) (forgotten_entries es) in
         let q = subst Q (sym writes) j in
-        subst P (sym (one_mover p st bits k f.0 f.1 f.2)) (
-          q.0 ∙ ap (with_writes base (write_acts s m true ticket xs)) i.0 ∙ ap (λ b. with_writes base (write_acts s m b ticket xs) before) (sym f.2) ∙ sym now,
-          q.1,
-        ))
+        subst P (sym (one_mover p st bits k f.0 f.1 f.2))
+        (q ∙ ap (with_writes base (write_acts s m true ticket xs)) i ∙ ap (λ b. with_writes base (write_acts s m b ticket xs) before) (sym f.2) ∙ sym now))
         (moves_or_not p st bits k)
 
     -- tickets of these write ports
@@ -333,7 +408,7 @@ module _ (p : Pipe) (ls : Locks) (vs : ℕ → View) (moves : ℕ → Signal) (s
     pub filled_is : lock.filled_entries before act_of ≡ forgotten_entries (list_two st (moving p st bits) m)
     filled_is =
         ap (with_writes base (acts_of (length p.stages) 0)) (sym (same_append m (moving p st bits) (machine.lock_of st m)))
-        ∙ sym (all_written (length p.stages) 0 (omega arith)).0
+        ∙ sym (all_written (length p.stages) 0 (omega arith))
 
     -- at most two are released, and these are there
     few : gone ≤ 2
@@ -350,7 +425,7 @@ module _ (p : Pipe) (ls : Locks) (vs : ℕ → View) (moves : ℕ → Signal) (s
     tail_high : (q : Option ℕ) → tail_with q ≤ base + length pending
     tail_high None = omega arith
     tail_high (Some n) =
-        let two = (all_written (length p.stages) 0 (omega arith)).1.long in
+        let two = alike_long (list_two st (moving p st bits) m) pending (writes_alike m (moving p st bits) pending) in
         let three = length-drop gone (list_two st (moving p st bits) m) in
         let some = gone_there in
         let older = ticket_covered (suc n) (list_three st (moving p st bits) m) in

@@ -15,7 +15,7 @@ use Rattle.pdl_lockapi.specs.Laws.{ReserveSignal, TicketSignal, FitsIn, holds_ti
 use Rattle.pdl_lockapi.specs.Forget.{addresses_of}
 use Rattle.pdl_machine_facts.specs.Slots.{here, slot_moves, stage_moves, mover, act_at}
 use Rattle.pdl_law_parts.specs.Walk.{Reservation, Put, Letting, both, one, zero_bit, is_on}
-use Rattle.pdl_law_parts.specs.Ports.{reserves_to, puts_to, release_moves}
+use Rattle.pdl_law_parts.specs.Ports.{reserves_to, puts_to, release_moves, second_moves}
 use Rattle.pdl_law_parts.specs.Stands.{AddressesFit, AreBits, reserved_in, written_in, let_in}
 use Rattle.pdl_law_parts.proofs.Signals.{mux_at, mux_by, both_at, one_is, zero_is}
 use Rattle.pdl_law_parts.proofs.LockUse.{EachTo, write_acts}
@@ -148,6 +148,56 @@ lets_stage s m moves true e (l ∷ ls) rest n h = at (is_on l.on s) (both_is s m
         by true = mux_by s (both moves l.on) one more ∙ ap (λ t. if t then one.value s else more.value s) f ∙ i
         by false = i
 
+lt_suc : (k : ℕ) → nat_lt 1 (suc k) ≡ nat_lt 0 k
+lt_suc zero = refl
+lt_suc (suc k) = lt-ltb 1 (suc (suc k)) (omega arith) ∙ sym (lt-ltb 0 (suc k) (omega arith))
+
+-- whether there is a second release of the memory with those of a stage, beside so many releases of other stages
+pub seconds_stage : (s : State) (m : ℕ) (moves : Signal) (g : Bool)
+    → moves.value s ≡ bit g → (ls : List Letting) (any rest : Signal) (n : ℕ) → any.value s ≡ bit (nat_lt 0 n) → rest.value s ≡ bit (nat_lt 1 n)
+    → (second_moves m moves ls any rest).value s ≡ bit (nat_lt 1 (n + (if g then releases_of m (let_in s ls) else 0)))
+seconds_stage s m moves true e [] any rest n f h = h ∙ ap (λ k. bit (nat_lt 1 k)) (sym (add-zero n))
+seconds_stage s m moves false e [] any rest n f h = h ∙ ap (λ k. bit (nat_lt 1 k)) (sym (add-zero n))
+seconds_stage s m moves false e (l ∷ ls) any rest n f h = at (l.mem == m) (seconds_stage s m moves false e ls any rest n f h)
+  where
+    more : Signal
+    more = second_moves m moves ls any rest
+
+    at : (t : Bool) → more.value s ≡ bit (nat_lt 1 (n + 0))
+        → (if t then mux_signal (both moves l.on) (release_moves m moves ls any) more else more).value s ≡ bit (nat_lt 1 (n + 0))
+    at true i =
+        mux_by s (both moves l.on) (release_moves m moves ls any) more
+        ∙ ap (λ t. if t then (release_moves m moves ls any).value s else more.value s) (both_is s moves l.on false e)
+        ∙ i
+    at false i = i
+seconds_stage s m moves true e (l ∷ ls) any rest n f h = at (is_on l.on s) (both_is s moves l.on true e) (seconds_stage s m moves true e ls any rest n f h)
+  where
+    first : Signal
+    first = release_moves m moves ls any
+
+    more : Signal
+    more = second_moves m moves ls any rest
+
+    left : ℕ
+    left = releases_of m (let_in s ls)
+
+    at : (o : Bool) → ((both moves l.on).value s == 1) ≡ o → more.value s ≡ bit (nat_lt 1 (n + left))
+        → (if l.mem == m then mux_signal (both moves l.on) first more else more).value s
+        ≡ bit (nat_lt 1 (n + releases_of m (if o then l.mem ∷ let_in s ls else let_in s ls)))
+    at true g i = by (l.mem == m)
+      where
+        by : (t : Bool) → (if t then mux_signal (both moves l.on) first more else more).value s ≡ bit (nat_lt 1 (n + (if t then suc left else left)))
+        by true =
+            mux_by s (both moves l.on) first more ∙ ap (λ t. if t then first.value s else more.value s) g
+            ∙ lets_stage s m moves true e ls any n f
+            ∙ ap bit (sym (lt_suc (n + left)) ∙ ap (nat_lt 1) (let z : suc (n + left) ≡ n + suc left = omega arith in z))
+        by false = i
+    at false g i = by (l.mem == m)
+      where
+        by : (t : Bool) → (if t then mux_signal (both moves l.on) first more else more).value s ≡ bit (nat_lt 1 (n + left))
+        by true = mux_by s (both moves l.on) first more ∙ ap (λ t. if t then first.value s else more.value s) g ∙ i
+        by false = i
+
 -- a write port does what it is to do
 pub record IsDriven (w : ℕ) (s : State) (a : WriteAct) (f : TicketSignal) : Type 0 where
   pub on : f.enable.value s ≡ bit a.on
@@ -183,17 +233,17 @@ driven_at w s (a ∷ as') [] h k l = absurd h
 driven_at w s (a ∷ as') (f ∷ fs) h zero l = h.0
 driven_at w s (a ∷ as') (f ∷ fs) h (suc k) l = driven_at w s as' fs h.1 k (omega arith)
 
--- the write ports of a stage, with the ticket of its thread
-pub driven_stage : (w : ℕ) (s : State) (m : ℕ) (number : ℕ → ℕ) (moves ticket : Signal) (g : Bool) (xs : List Put)
+-- the write ports of a stage, with the tickets of its locations
+pub driven_stage : (w : ℕ) (s : State) (m : ℕ) (number : ℕ → ℕ) (moves : Signal) (ticket : ℕ → Signal) (g : Bool) (xs : List Put)
     → moves.value s ≡ bit g → (g ≡ true → AreBits s xs)
-    → (g ≡ true → EachTo m (λ y. holds_ticket w ticket s (number y)) (written_in s xs))
+    → (g ≡ true → EachTo m (λ y. holds_ticket w (ticket y) s (number y)) (written_in s xs))
     → AreDriven w s (write_acts s m g number xs) (puts_to m moves ticket xs)
 driven_stage w s m number moves ticket g [] e b h = tt
 driven_stage w s m number moves ticket g (x ∷ xs) e b h =
     at (is_on x.on s) refl (x.mem == m) refl h (λ f. driven_stage w s m number moves ticket g xs e (λ z. (b z).1) f)
   where
     Holds : List Written → Type 0
-    Holds ws = EachTo m (λ y. holds_ticket w ticket s (number y)) ws
+    Holds ws = EachTo m (λ y. holds_ticket w (ticket y) s (number y)) ws
 
     Tail : Type 0
     Tail = AreDriven w s (write_acts s m g number xs) (puts_to m moves ticket xs)
@@ -208,7 +258,7 @@ driven_stage w s m number moves ticket g (x ∷ xs) e b h =
         (if c
         then record { on = g && is_on x.on s; ticket = number x.var; value = x.value.value s } ∷ write_acts s m g number xs
         else write_acts s m g number xs)
-        (if c then record { enable = both moves x.on; ticket = ticket; value = x.value } ∷ puts_to m moves ticket xs else puts_to m moves ticket xs)
+        (if c then record { enable = both moves x.on; ticket = ticket x.var; value = x.value } ∷ puts_to m moves ticket xs else puts_to m moves ticket xs)
     at true f true i h rest = (
       record { on = on; ticket = λ z. (h (and_parts g (is_on x.on s) z).0).0 i; value = refl },
       rest (λ z. (h z).1),

@@ -1,5 +1,5 @@
 -- The lock after a cycle, and what it commits.
-use Rattle.std.proofs.Common.{◌≡◌, ◌≢◌, refl, sym, ap, ap₂, ◌∙◌, subst, ℕ, zero, suc, ◌+◌, ◌-◌, ◌<◌, ◌≤◌, Bool, true, false, List, [], ◌∷◌, ◌++◌, length, take, drop, is_some, Option, Some, None, arith, ⊎_elim, eq-eqb, ne_eqb, lt-ltb, add-zero, append-nil}
+use Rattle.std.proofs.Common.{◌≡◌, ◌≢◌, refl, sym, ap, ap₂, ◌∙◌, subst, ℕ, zero, suc, ◌+◌, ◌-◌, ◌<◌, ◌≤◌, Bool, true, false, List, [], ◌∷◌, ◌++◌, length, take, drop, is_some, Option, Some, None, arith, ⊎_elim, eq-eqb, ne_eqb, lt-ltb, add-zero}
 use Rattle.std.specs.Prelude.{if◌then◌else◌, nat_lt, slice_set, slice_index}
 use Rattle.std.proofs.lemmas.Bool.{cases_eq}
 use Rattle.std.proofs.lemmas.List.{length-map, length-set, get_or-set_same, get_or-set_other}
@@ -16,14 +16,15 @@ use Rattle.pdl_semantics.specs.Moves.{Act as Mover}
 use Rattle.pdl_net.specs.Circuit.{Circuit, State}
 use Rattle.pdl_net.specs.Signal.{Signal}
 use Rattle.pdl_net.specs.Growth.{Own}
-use Rattle.pdl_lockapi.specs.Lock.{Entry, LockState, entry_at, or_zero, committed, step}
-use Rattle.pdl_lockapi.specs.Laws.{IsNext, StepLaw}
+use Rattle.pdl_lockapi.specs.Lock.{Entry, LockState, LockAct, entry_at, or_zero, committed, step, Proper}
+use Rattle.pdl_lockapi.specs.Laws.{IsNext, Drives, StepLaw}
+use Rattle.pdl_lockapi.specs.Second.{Commit2Law}
 use Rattle.pdl_lockapi.specs.Forget.{forget, forgotten_entries, as_lock, lock_state_of}
 use Rattle.pdl_lockapi.proofs.Lengths.{left_long}
 use Rattle.pdl_lockapi.proofs.LockKinds.{locked_is}
 use Rattle.pdl_lockapi.proofs.Threads.{same_squash}
 use Rattle.pdl_machine_facts.specs.Slots.{here, moving}
-use Rattle.pdl_machine_facts.specs.Ports.{shown_values, commit_values}
+use Rattle.pdl_machine_facts.specs.Ports.{shown_values, second_values, commit_values}
 use Rattle.pdl_machine_facts.specs.Cycle.{IsByStages}
 use Rattle.pdl_law_parts.proofs.AnsweredThreads.{Stood}
 use Rattle.pdl_law_parts.specs.Walk.{Locks, is_locked}
@@ -32,7 +33,8 @@ use Rattle.pdl_law_parts.specs.Ports.{Commit, step_of}
 use Rattle.pdl_law_parts.specs.Served.{IsServed}
 use Rattle.pdl_law_parts.specs.Stands.{StandsLock, IsSeen, IsSquashed}
 use Rattle.pdl_law_parts.proofs.StageLooks.{lock_there}
-use Rattle.pdl_law_parts.proofs.LockActs.{written_long, tail_with, act_of, filled_is, proper, drives, pending_count, all_written}
+use Rattle.pdl_law_parts.proofs.LockUse.{alike_long, alike_ordered, writes_alike}
+use Rattle.pdl_law_parts.proofs.LockActs.{written_long, pending, tail_with, act_of, filled_is, proper, drives, pending_count}
 use Rattle.pdl_semantics.specs.PendingLists.{AreOrdered, count_older}
 
 -- RELEASES
@@ -62,7 +64,8 @@ step_by (suc (suc zero)) l base (e ∷ []) words h = absurd (omega (arith, h))
 step_by (suc (suc zero)) l base (e ∷ f ∷ es) words h = refl
 step_by (suc (suc (suc k))) l base es words h = absurd (omega (arith, l))
 
-or_zero_is : (o : Option ℕ) → or_zero o ≡ commit_value o
+-- what a lock takes for a value that is not there is what the machine commits
+pub or_zero_is : (o : Option ℕ) → or_zero o ≡ commit_value o
 or_zero_is None = refl
 or_zero_is (Some v) = refl
 
@@ -77,14 +80,28 @@ commit_by (suc k) (e ∷ es) l =
     ap (λ b. bit b ∷ (if b then e.address else 0) ∷ (if b then or_zero e.value else 0) ∷ []) (lt-ltb 0 (suc k) (omega arith))
     ∙ ap (λ v. 1 ∷ e.address ∷ v ∷ []) (or_zero_is e.value)
 
--- the commit ports of a memory with a lock that no path reserves twice have the values of its first commit
-pub commit_as : (k : LockKind) (n : ℕ) (l : model.Lock) (ws : List PortWrite)
-    → l ≡ as_lock k n → commit_values l false ws ≡ shown_values ws
-commit_as k n l ws e =
-    ap (λ x. commit_values x false ws) e ∙ ap (λ (b : Bool). if b then shown_values ws ++ [] else []) (locked_is k n) ∙ append-nil (shown_values ws)
+-- the second commit is that of the next pending write, where two are released
+commit2_by : (k : ℕ) (es : List Pending) → k ≤ length es
+    → bit (nat_lt 1 k) ∷ (if nat_lt 1 k then (entry_at (forgotten_entries es) 1).addr else 0)
+    ∷ (if nat_lt 1 k then or_zero (entry_at (forgotten_entries es) 1).value else 0) ∷ []
+    ≡ second_values (port_writes (take k es))
+commit2_by zero es l = refl
+commit2_by (suc k) [] l = absurd (omega (arith, l))
+commit2_by (suc zero) (e ∷ es) l = refl
+commit2_by (suc (suc k)) (e ∷ []) l = absurd (omega (arith, l))
+commit2_by (suc (suc k)) (e ∷ f ∷ es) l =
+    ap (λ b. bit b ∷ (if b then f.address else 0) ∷ (if b then or_zero f.value else 0) ∷ []) (lt-ltb 1 (suc (suc k)) (omega arith))
+    ∙ ap (λ v. 1 ∷ f.address ∷ v ∷ []) (or_zero_is f.value)
+
+-- the commit ports of a memory with a lock have the values of its first commit, and of the second where some path reserves it twice
+pub commit_as : (k : LockKind) (n : ℕ) (l : model.Lock) (twice : Bool) (ws : List PortWrite)
+    → l ≡ as_lock k n → commit_values l twice ws ≡ shown_values ws ++ (if twice then second_values ws else [])
+commit_as k n l twice ws e =
+    ap (λ x. commit_values x twice ws) e
+    ∙ ap (λ (b : Bool). if b then shown_values ws ++ (if twice then second_values ws else []) else []) (locked_is k n)
 
 -- one value more in a memory's array
-word_by : (m depth : ℕ) (arrays : Arrays) (e : Pending) (words : List ℕ) → depth ≤ length words
+pub word_by : (m depth : ℕ) (arrays : Arrays) (e : Pending) (words : List ℕ) → depth ≤ length words
     → ((a : ℕ) → a < depth → arrays m a ≡ slice_index words a) → (a : ℕ) → a < depth
     → with_word arrays m e.address (commit_value e.value) m a ≡ slice_index (slice_set words e.address (or_zero e.value)) a
 word_by m depth arrays e words long h a l =
@@ -173,8 +190,8 @@ module _ (p : Pipe) (ls : Locks) (vs : ℕ → View) (moves : ℕ → Signal) (s
   left_is None = ap forgotten_entries (sym (entries_all (list_three st ms m)))
   left_is (Some n) =
       let o =
-      ordered_drop gone 0 (list_two st ms m)
-      (all_written p ls vs moves s st bits by used seen stood m locked stand gates squashed (length p.stages) 0 (omega arith)).1.ordered in
+      ordered_drop gone 0 (list_two st ms m) (alike_ordered 0 (list_two st ms m) (pending p ls vs moves s st bits by used seen stood m)
+      (writes_alike m ms (pending p ls vs moves s st bits by used seen stood m)) (used.in_use.ordered_next m)) in
       take_same stand.base gone (count_older (suc n) (list_three st ms m))
       (count_older (n + 1) (list_three st ms m)) (forgotten_entries (list_three st ms m))
       (ap (λ k. count_older k (list_three st ms m)) (let z : suc n ≡ n + 1 = omega arith in z))
@@ -217,31 +234,52 @@ module _ (p : Pipe) (ls : Locks) (vs : ℕ → View) (moves : ℕ → Signal) (s
         let room = (proper p ls vs moves s st bits by used seen stood m locked stand gates squashed kind).room in
         let long = length-map (machine.lock_of st m) forget in
         let count = pending_count p ls vs moves s st bits by used seen stood m in
-        let same = (all_written p ls vs moves s st bits by used seen stood m locked stand gates squashed (length p.stages) 0 (omega arith)).1.long in
+        let same =
+        alike_long (list_two st ms m) (pending p ls vs moves s st bits by used seen stood m)
+        (writes_alike m ms (pending p ls vs moves s st bits by used seen stood m)) in
         let three = left_long gone (list_two st ms m) in
         omega (arith, cut, three, room, long, count, same)
 
-    module _ (own : Own) (c : Circuit) (commit : Commit)
-        (law : StepLaw (ls.stands m) (ls.size m) (ls.bits m) own c (step_of p vs gates moves m) commit.enable commit.addr commit.value) where
-      -- the commit ports show the first write that the machine takes out
-      pub commit_is : commit.enable.value s ∷ commit.addr.value s ∷ commit.value.value s ∷ [] ≡ shown_values (port_writes (taken_out st ms m))
-      commit_is =
-          let x = lock_state_of stand.base (machine.lock_of st m) stand.words in
-          let a = act_of p ls vs moves s st bits by used seen stood m locked stand gates squashed in
-          let d = drives p ls vs moves s st bits by used seen stood m locked stand gates squashed in
-          let q = proper p ls vs moves s st bits by used seen stood m locked stand gates squashed kind in
-          ap₂ (λ u v. u ∷ v) (law.commits s x a stand.stands d q)
-          (ap₂ (λ u v. u ∷ v ∷ []) (law.commits_addr s x a stand.stands d q) (law.commits_value s x a stand.stands d q))
-          ∙ ap (λ xs. bit (nat_lt 0 gone) ∷ (if nat_lt 0 gone then (entry_at xs 0).addr else 0) ∷ (if nat_lt 0 gone then or_zero (entry_at xs 0).value else 0)
+    module _ (wide : (k : ℕ) → k < length p.stages → ((vs k).tickets m).width ≡ ls.bits m) where
+      abbrev before : LockState
+      before = lock_state_of stand.base (machine.lock_of st m) stand.words
+
+      abbrev act : LockAct
+      act = act_of p ls vs moves s st bits by used seen stood m locked stand gates squashed
+
+      driven : Drives (ls.bits m) (step_of p vs gates moves m) s act
+      driven = drives p ls vs moves s st bits by used seen stood m locked stand gates squashed wide
+
+      used_well : Proper (ls.size m) before act
+      used_well = proper p ls vs moves s st bits by used seen stood m locked stand gates squashed kind
+
+      -- the second commit's ports show the second write that the machine takes out
+      pub commit2_is : (commit : Commit)
+          → Commit2Law (ls.stands m) (ls.size m) (ls.bits m) (step_of p vs gates moves m) commit.enable commit.addr commit.value
+          → commit.enable.value s ∷ commit.addr.value s ∷ commit.value.value s ∷ [] ≡ second_values (port_writes (taken_out st ms m))
+      commit2_is commit law =
+          ap₂ (λ u v. u ∷ v) (law.commits s before act stand.stands driven used_well)
+          (ap₂ (λ u v. u ∷ v ∷ []) (law.commits_addr s before act stand.stands driven used_well)
+          (law.commits_value s before act stand.stands driven used_well))
+          ∙ ap (λ xs. bit (nat_lt 1 gone) ∷ (if nat_lt 1 gone then (entry_at xs 1).addr else 0) ∷ (if nat_lt 1 gone then or_zero (entry_at xs 1).value else 0)
           ∷ [])
           (filled_is p ls vs moves s st bits by used seen stood m locked stand gates squashed)
-          ∙ commit_by gone (list_two st ms m) there
+          ∙ commit2_by gone (list_two st ms m) there
 
-      -- the next state stands for the next pending writes and words
-      pub stands_next : (t : State) → IsNext c own s t → ls.stands m t (lock_state_of (stand.base + gone) left words_next)
-      stands_next t next =
-          let x = lock_state_of stand.base (machine.lock_of st m) stand.words in
-          let a = act_of p ls vs moves s st bits by used seen stood m locked stand gates squashed in
-          let d = drives p ls vs moves s st bits by used seen stood m locked stand gates squashed in
-          let q = proper p ls vs moves s st bits by used seen stood m locked stand gates squashed kind in
-          subst (ls.stands m t) step_is (law.next s t x a stand.stands d q next)
+      module _ (own : Own) (c : Circuit) (commit : Commit)
+          (law : StepLaw (ls.stands m) (ls.size m) (ls.bits m) own c (step_of p vs gates moves m) commit.enable commit.addr commit.value) where
+        -- the commit ports show the first write that the machine takes out
+        pub commit_is : commit.enable.value s ∷ commit.addr.value s ∷ commit.value.value s ∷ [] ≡ shown_values (port_writes (taken_out st ms m))
+        commit_is =
+            ap₂ (λ u v. u ∷ v) (law.commits s before act stand.stands driven used_well)
+            (ap₂ (λ u v. u ∷ v ∷ []) (law.commits_addr s before act stand.stands driven used_well)
+            (law.commits_value s before act stand.stands driven used_well))
+            ∙ ap
+            (λ xs. bit (nat_lt 0 gone) ∷ (if nat_lt 0 gone then (entry_at xs 0).addr else 0) ∷ (if nat_lt 0 gone then or_zero (entry_at xs 0).value else 0)
+            ∷ [])
+            (filled_is p ls vs moves s st bits by used seen stood m locked stand gates squashed)
+            ∙ commit_by gone (list_two st ms m) there
+
+        -- the next state stands for the next pending writes and words
+        pub stands_next : (t : State) → IsNext c own s t → ls.stands m t (lock_state_of (stand.base + gone) left words_next)
+        stands_next t next = subst (ls.stands m t) step_is (law.next s t before act stand.stands driven used_well next)

@@ -1,10 +1,10 @@
 -- What writes do to the pending writes of a lock: the machine's by their threads and variables, the lock's by tickets.
-use Rattle.std.proofs.Common.{◌≡◌, refl, sym, ap, ap₂, ◌∙◌, ℕ, suc, ◌+◌, ◌<◌, Bool, true, false, ◌&&◌, List, [], ◌∷◌, ◌++◌, length, Some, arith, ◌==◌, append_assoc, append-nil, length-append}
-use Rattle.std.specs.Prelude.{if◌then◌else◌, Contains, ⊤}
-use Rattle.std.proofs.lemmas.Bool.{eqb-true}
+use Rattle.std.proofs.Common.{◌≡◌, ◌≢◌, refl, sym, ap, ap₂, ◌∙◌, subst, ℕ, zero, suc, ◌+◌, ◌<◌, ◌≤◌, Bool, true, false, ◌&&◌, List, [], ◌∷◌, ◌++◌, length, drop, Option, Some, None, arith, ◌==◌, ⊎_elim, append_assoc, append-nil, length-append, ltb-true, ne_eqb}
+use Rattle.std.specs.Prelude.{if◌then◌else◌, nat_lt, Contains, ⊤}
+use Rattle.std.proofs.lemmas.Bool.{cases_eq, eqb-true}
 use Rattle.pdl_semantics.specs.Machine.{Pending, Written}
 use Rattle.pdl_semantics.specs.Moves.{Act}
-use Rattle.pdl_semantics.specs.Cycle.{new_entries, with_reserves, with_value_of, with_writes_of}
+use Rattle.pdl_semantics.specs.Cycle.{new_entries, with_reserves, with_value_of, with_writes_of, with_all_writes, is_kept, entries_left}
 use Rattle.pdl_net.specs.Circuit.{State}
 use Rattle.pdl_lockapi.specs.Lock.{WriteAct, with_writes}
 use Rattle.pdl_lockapi.specs.Lock as lock
@@ -13,70 +13,153 @@ use Rattle.pdl_lockapi.proofs.Lengths.{new_long}
 use Rattle.pdl_lockapi.proofs.Threads.{same_put}
 use Rattle.pdl_law_parts.specs.Walk.{Put, is_on}
 use Rattle.pdl_law_parts.specs.Stands.{written_in}
-use Rattle.pdl_semantics.proofs.Facts.{put_length, put_older}
 use Rattle.pdl_semantics.specs.PendingLists.{AreOrdered, count_older}
+use Rattle.pdl_semantics.specs.Sound.{entries_by}
 
 -- THREADS AND VARIABLES
 
--- a list of pending writes of the same threads and variables as another one
-pub record IsAlike (es fs : List Pending) : Type 0 where
-  pub ordered : AreOrdered 0 es
-  pub count : (u : ℕ) → count_older u es ≡ count_older u fs
-  pub has : (u z : ℕ) → has_place u z es ≡ has_place u z fs
-  pub place : (u z : ℕ) → place_of u z es ≡ place_of u z fs
-  pub once : (u z : ℕ) → IsOnce u z fs → IsOnce u z es
-  pub long : length es ≡ length fs
+-- pending writes as they were reserved: without their values
+abbrev pub as_reserved : List Pending → List Pending
+as_reserved [] = []
+as_reserved (e ∷ es) = record e { value = None } ∷ as_reserved es
 
--- pending writes in the order of their threads are of the same threads and variables as themselves
-pub alike : (es : List Pending) → AreOrdered 0 es → IsAlike es es
-alike es o = record { ordered = o; count = λ u. refl; has = λ u z. refl; place = λ u z. refl; once = λ u z h. h; long = refl }
+-- a list of pending writes of the same threads, variables and addresses as another one
+abbrev pub IsAlike : List Pending → List Pending → Type 0
+IsAlike es fs = as_reserved es ≡ as_reserved fs
+
+bare_count : (u : ℕ) (es : List Pending) → count_older u (as_reserved es) ≡ count_older u es
+bare_count u [] = refl
+bare_count u (e ∷ es) = ap (λ k. if nat_lt e.thread u then suc k else k) (bare_count u es)
+
+bare_has : (u z : ℕ) (es : List Pending) → has_place u z (as_reserved es) ≡ has_place u z es
+bare_has u z [] = refl
+bare_has u z (e ∷ es) = ap (λ b. if (e.thread == u) && (e.var == z) then true else b) (bare_has u z es)
+
+bare_place : (u z : ℕ) (es : List Pending) → place_of u z (as_reserved es) ≡ place_of u z es
+bare_place u z [] = refl
+bare_place u z (e ∷ es) = ap (λ n. if (e.thread == u) && (e.var == z) then 0 else suc n) (bare_place u z es)
+
+bare_once : (u z : ℕ) (es : List Pending) → IsOnce u z es → IsOnce u z (as_reserved es)
+bare_once u z [] o = tt
+bare_once u z (e ∷ es) o = ((λ i. bare_has u z es ∙ o.0 i), bare_once u z es o.1)
+
+once_bare : (u z : ℕ) (es : List Pending) → IsOnce u z (as_reserved es) → IsOnce u z es
+once_bare u z [] o = tt
+once_bare u z (e ∷ es) o = ((λ i. sym (bare_has u z es) ∙ o.0 i), once_bare u z es o.1)
+
+bare_ordered : (u : ℕ) (es : List Pending) → AreOrdered u es → AreOrdered u (as_reserved es)
+bare_ordered u [] o = tt
+bare_ordered u (e ∷ es) o = (o.0, bare_ordered e.thread es o.1)
+
+ordered_bare : (u : ℕ) (es : List Pending) → AreOrdered u (as_reserved es) → AreOrdered u es
+ordered_bare u [] o = tt
+ordered_bare u (e ∷ es) o = (o.0, ordered_bare e.thread es o.1)
+
+bare_long : (es : List Pending) → length (as_reserved es) ≡ length es
+bare_long [] = refl
+bare_long (e ∷ es) = ap suc (bare_long es)
+
+bare_own : (u : ℕ) (es : List Pending) → as_reserved (entries_by u es) ≡ entries_by u (as_reserved es)
+bare_own u [] = refl
+bare_own u (e ∷ es) = at (e.thread == u) (bare_own u es)
+  where
+    at : (b : Bool) → as_reserved (entries_by u es) ≡ entries_by u (as_reserved es)
+        → as_reserved (if b then e ∷ entries_by u es else entries_by u es)
+        ≡ (if b then record e { value = None } ∷ entries_by u (as_reserved es) else entries_by u (as_reserved es))
+    at true h = ap (λ l. record e { value = None } ∷ l) h
+    at false h = h
+
+-- of two lists of pending writes that are alike one is as long as the other
+pub alike_long : (es fs : List Pending) → IsAlike es fs → length es ≡ length fs
+alike_long es fs h = sym (bare_long es) ∙ ap length h ∙ bare_long fs
+
+-- of two lists that are alike one has as many writes of threads older than a thread as the other
+pub alike_count : (u : ℕ) (es fs : List Pending) → IsAlike es fs → count_older u es ≡ count_older u fs
+alike_count u es fs h = sym (bare_count u es) ∙ ap (count_older u) h ∙ bare_count u fs
+
+-- of two lists that are alike one has a write of a thread and a variable where the other has
+pub alike_has : (u z : ℕ) (es fs : List Pending) → IsAlike es fs → has_place u z es ≡ has_place u z fs
+alike_has u z es fs h = sym (bare_has u z es) ∙ ap (has_place u z) h ∙ bare_has u z fs
+
+-- of two lists that are alike one has the first write of a thread and a variable at the same place as the other
+pub alike_place : (u z : ℕ) (es fs : List Pending) → IsAlike es fs → place_of u z es ≡ place_of u z fs
+alike_place u z es fs h = sym (bare_place u z es) ∙ ap (place_of u z) h ∙ bare_place u z fs
+
+-- of two lists that are alike one has at most one write of a thread and a variable where the other has at most one
+pub alike_once : (u z : ℕ) (es fs : List Pending) → IsAlike es fs → IsOnce u z fs → IsOnce u z es
+alike_once u z es fs h o = once_bare u z es (subst (IsOnce u z) (sym h) (bare_once u z fs o))
+
+-- of two lists that are alike one is in the order of its threads where the other is
+pub alike_ordered : (u : ℕ) (es fs : List Pending) → IsAlike es fs → AreOrdered u fs → AreOrdered u es
+alike_ordered u es fs h o = ordered_bare u es (subst (AreOrdered u) (sym h) (bare_ordered u fs o))
+
+-- of two lists that are alike a thread's own writes are alike
+pub alike_own : (u : ℕ) (es fs : List Pending) → IsAlike es fs → IsAlike (entries_by u es) (entries_by u fs)
+alike_own u es fs h = bare_own u es ∙ ap (entries_by u) h ∙ sym (bare_own u fs)
 
 -- a write keeps the threads and the variables
-put_has : (u z t y v : ℕ) (es : List Pending) → has_place u z (with_value_of t y v es) ≡ has_place u z es
-put_has u z t y v [] = refl
-put_has u z t y v (e ∷ es) = at ((e.thread == t) && (e.var == y)) (put_has u z t y v es)
+put_alike : (t y v : ℕ) (es : List Pending) → IsAlike (with_value_of t y v es) es
+put_alike t y v [] = refl
+put_alike t y v (e ∷ es) = at ((e.thread == t) && (e.var == y)) (put_alike t y v es)
   where
-    at : (b : Bool) → has_place u z (with_value_of t y v es) ≡ has_place u z es
-        → has_place u z ((if b then record e { value = Some v } else e) ∷ with_value_of t y v es) ≡ has_place u z (e ∷ es)
-    at true h = ap (λ c. if (e.thread == u) && (e.var == z) then true else c) h
-    at false h = ap (λ c. if (e.thread == u) && (e.var == z) then true else c) h
+    at : (b : Bool) → IsAlike (with_value_of t y v es) es
+        → IsAlike ((if b then record e { value = Some v } else e) ∷ with_value_of t y v es) (e ∷ es)
+    at true h = ap (λ l. record e { value = None } ∷ l) h
+    at false h = ap (λ l. record e { value = None } ∷ l) h
 
-put_place : (u z t y v : ℕ) (es : List Pending) → place_of u z (with_value_of t y v es) ≡ place_of u z es
-put_place u z t y v [] = refl
-put_place u z t y v (e ∷ es) = at ((e.thread == t) && (e.var == y)) (put_place u z t y v es)
+writes_of_alike : (m n : ℕ) (ws : List Written) (es : List Pending) → IsAlike (with_writes_of m n ws es) es
+writes_of_alike m n [] es = refl
+writes_of_alike m n (w ∷ ws) es = writes_of_alike m n ws (if w.mem == m then with_value_of n w.var w.value es else es) ∙ at (w.mem == m)
   where
-    at : (b : Bool) → place_of u z (with_value_of t y v es) ≡ place_of u z es
-        → place_of u z ((if b then record e { value = Some v } else e) ∷ with_value_of t y v es) ≡ place_of u z (e ∷ es)
-    at true h = ap (λ n. if (e.thread == u) && (e.var == z) then 0 else suc n) h
-    at false h = ap (λ n. if (e.thread == u) && (e.var == z) then 0 else suc n) h
+    at : (b : Bool) → IsAlike (if b then with_value_of n w.var w.value es else es) es
+    at true = put_alike n w.var w.value es
+    at false = refl
 
-put_once : (u z t y v : ℕ) (es : List Pending) → IsOnce u z es → IsOnce u z (with_value_of t y v es)
-put_once u z t y v [] o = tt
-put_once u z t y v (e ∷ es) o = at ((e.thread == t) && (e.var == y)) (put_once u z t y v es o.1)
+-- the writes of a cycle keep the threads, the variables and the addresses
+pub writes_alike : (m : ℕ) (ms : List Act) (es : List Pending) → IsAlike (with_all_writes m ms es) es
+writes_alike m [] es = refl
+writes_alike m (a ∷ ms) es = writes_of_alike m a.thread.number a.does.writes (with_all_writes m ms es) ∙ writes_alike m ms es
+
+-- RELEASES AND SQUASHES
+
+older_drop : (k u : ℕ) (es : List Pending) → count_older u es ≤ count_older u (drop k es) + k
+older_drop zero u es = omega arith
+older_drop (suc k) u [] = omega arith
+older_drop (suc k) u (e ∷ es) = at (nat_lt e.thread u) (older_drop k u es)
   where
-    at : (b : Bool) → IsOnce u z (with_value_of t y v es)
-        → IsOnce u z ((if b then record e { value = Some v } else e) ∷ with_value_of t y v es)
-    at true h = ((λ i. put_has u z t y v es ∙ o.0 i), h)
-    at false h = ((λ i. put_has u z t y v es ∙ o.0 i), h)
+    at : (b : Bool) → count_older u es ≤ count_older u (drop k es) + k
+        → (if b then suc (count_older u es) else count_older u es) ≤ count_older u (drop k es) + suc k
+    at true h = omega (arith, h)
+    at false h = omega (arith, h)
 
-put_ordered : (u t y v : ℕ) (es : List Pending) → AreOrdered u es → AreOrdered u (with_value_of t y v es)
-put_ordered u t y v [] o = tt
-put_ordered u t y v (e ∷ es) o = at ((e.thread == t) && (e.var == y)) (put_ordered e.thread t y v es o.1)
+-- where each pending write that releases take out is of an older thread, a thread's own are left
+pub own_dropped : (k u : ℕ) (es : List Pending) → count_older u (drop k es) + k ≡ count_older u es → entries_by u (drop k es) ≡ entries_by u es
+own_dropped zero u es h = refl
+own_dropped (suc k) u [] h = refl
+own_dropped (suc k) u (e ∷ es) h = at (nat_lt e.thread u) refl h (own_dropped k u es)
   where
-    at : (b : Bool) → AreOrdered e.thread (with_value_of t y v es)
-        → AreOrdered u ((if b then record e { value = Some v } else e) ∷ with_value_of t y v es)
-    at true h = (o.0, h)
-    at false h = (o.0, h)
+    at : (b : Bool) → nat_lt e.thread u ≡ b → count_older u (drop k es) + suc k ≡ (if b then suc (count_older u es) else count_older u es)
+        → (count_older u (drop k es) + k ≡ count_older u es → entries_by u (drop k es) ≡ entries_by u es)
+        → entries_by u (drop k es) ≡ (if e.thread == u then e ∷ entries_by u es else entries_by u es)
+    at true i h rest =
+        let older = ltb-true e.thread u i in
+        rest (omega (arith, h)) ∙ sym (ap (λ c. if c then e ∷ entries_by u es else entries_by u es) (ne_eqb e.thread u (λ z. omega (arith, older, z))))
+    at false i h rest = absurd (let z = older_drop k u es in omega (arith, h, z))
 
-put_alike : (t y v : ℕ) (es fs : List Pending) → IsAlike es fs → IsAlike (with_value_of t y v es) fs
-put_alike t y v es fs h = record {
-  ordered = put_ordered 0 t y v es h.ordered;
-  count = λ u. put_older u t y v es ∙ h.count u;
-  has = λ u z. put_has u z t y v es ∙ h.has u z;
-  place = λ u z. put_place u z t y v es ∙ h.place u z;
-  once = λ u z o. put_once u z t y v es (h.once u z o);
-  long = put_length t y v es ∙ h.long;
-}
+-- a squash leaves the own pending writes of a thread that it keeps
+pub own_left : (sq : Option ℕ) (u : ℕ) (es : List Pending) → is_kept sq u ≡ true → entries_by u (entries_left sq es) ≡ entries_by u es
+own_left sq u [] h = refl
+own_left sq u (e ∷ es) h = ⊎_elim
+    (λ (i : e.thread ≡ u).
+    ap (λ c. entries_by u (if c then e ∷ entries_left sq es else entries_left sq es)) (ap (is_kept sq) i ∙ h)
+    ∙ ap (λ l. if e.thread == u then e ∷ l else l) (own_left sq u es h))
+    (λ (i : e.thread ≢ u). other (ne_eqb e.thread u i) (is_kept sq e.thread) (own_left sq u es h))
+    (cases_eq e.thread u)
+  where
+    other : (e.thread == u) ≡ false → (c : Bool) → entries_by u (entries_left sq es) ≡ entries_by u es
+        → entries_by u (if c then e ∷ entries_left sq es else entries_left sq es) ≡ (if e.thread == u then e ∷ entries_by u es else entries_by u es)
+    other i true g = ap (λ l. if e.thread == u then e ∷ l else l) g
+    other i false g = g ∙ sym (ap (λ c. if c then e ∷ entries_by u es else entries_by u es) i)
 
 -- RESERVATIONS
 
@@ -161,9 +244,8 @@ pub record HasTicket (base t ticket : ℕ) (fs : List Pending) (y : ℕ) : Type 
 -- where it moves the lock's pending writes become those of the machine
 pub stage_written : (s : State) (m base t : ℕ) (ticket : ℕ → ℕ) (fs : List Pending) (xs : List Put) (es : List Pending)
     → IsAlike es fs → EachTo m (λ y. HasTicket base t (ticket y) fs y) (written_in s xs)
-    → (forgotten_entries (with_writes_of m t (written_in s xs) es) ≡ with_writes base (write_acts s m true ticket xs) (forgotten_entries es))
-    × IsAlike (with_writes_of m t (written_in s xs) es) fs
-stage_written s m base t ticket fs [] es a h = (refl, a)
+    → forgotten_entries (with_writes_of m t (written_in s xs) es) ≡ with_writes base (write_acts s m true ticket xs) (forgotten_entries es)
+stage_written s m base t ticket fs [] es a h = refl
 stage_written s m base t ticket fs (x ∷ xs) es a h = at (λ gs b g. stage_written s m base t ticket fs xs gs b g) (is_on x.on s) h
   where
     Has : List Written → Type 0
@@ -179,37 +261,31 @@ stage_written s m base t ticket fs (x ∷ xs) es a h = at (λ gs b g. stage_writ
     acts = write_acts s m true ticket xs
 
     at : ((gs : List Pending) → IsAlike gs fs → Has (written_in s xs)
-        → (forgotten_entries (with_writes_of m t (written_in s xs) gs) ≡ with_writes base acts (forgotten_entries gs))
-        × IsAlike (with_writes_of m t (written_in s xs) gs) fs)
+        → forgotten_entries (with_writes_of m t (written_in s xs) gs) ≡ with_writes base acts (forgotten_entries gs))
         → (o : Bool) → Has (if o then record { mem = x.mem; var = y; value = v } ∷ written_in s xs else written_in s xs)
-        → (forgotten_entries (with_writes_of m t (if o then record { mem = x.mem; var = y; value = v } ∷ written_in s xs else written_in s xs) es)
-        ≡ with_writes base (if x.mem == m then record { on = o; ticket = ticket y; value = v } ∷ acts else acts) (forgotten_entries es))
-        × IsAlike (with_writes_of m t (if o then record { mem = x.mem; var = y; value = v } ∷ written_in s xs else written_in s xs) es) fs
+        → forgotten_entries (with_writes_of m t (if o then record { mem = x.mem; var = y; value = v } ∷ written_in s xs else written_in s xs) es)
+        ≡ with_writes base (if x.mem == m then record { on = o; ticket = ticket y; value = v } ∷ acts else acts) (forgotten_entries es)
     at rest false g = by (rest es a g) (x.mem == m)
       where
-        by : (forgotten_entries (with_writes_of m t (written_in s xs) es) ≡ with_writes base acts (forgotten_entries es))
-            × IsAlike (with_writes_of m t (written_in s xs) es) fs
+        by : forgotten_entries (with_writes_of m t (written_in s xs) es) ≡ with_writes base acts (forgotten_entries es)
             → (b : Bool)
-            → (forgotten_entries (with_writes_of m t (written_in s xs) es)
-            ≡ with_writes base (if b then record { on = false; ticket = ticket y; value = v } ∷ acts else acts) (forgotten_entries es))
-            × IsAlike (with_writes_of m t (written_in s xs) es) fs
+            → forgotten_entries (with_writes_of m t (written_in s xs) es)
+            ≡ with_writes base (if b then record { on = false; ticket = ticket y; value = v } ∷ acts else acts) (forgotten_entries es)
         by i true = i
         by i false = i
     at rest true g = by (x.mem == m) g.0
       where
         by : (b : Bool) → (b ≡ true → HasTicket base t (ticket y) fs y)
-            → (forgotten_entries (with_writes_of m t (written_in s xs) (if b then with_value_of t y v es else es))
-            ≡ with_writes base (if b then record { on = true; ticket = ticket y; value = v } ∷ acts else acts) (forgotten_entries es))
-            × IsAlike (with_writes_of m t (written_in s xs) (if b then with_value_of t y v es else es)) fs
+            → forgotten_entries (with_writes_of m t (written_in s xs) (if b then with_value_of t y v es else es))
+            ≡ with_writes base (if b then record { on = true; ticket = ticket y; value = v } ∷ acts else acts) (forgotten_entries es)
         by false mine = rest es a g.1
         by true mine =
             let q = mine refl in
-            let i = rest (with_value_of t y v es) (put_alike t y v es fs a) g.1 in
-            let k : base + place_of t y es ≡ ticket y = ap (λ n. base + n) (a.place t y) ∙ sym q.told in
+            let k : base + place_of t y es ≡ ticket y = ap (λ n. base + n) (alike_place t y es fs a) ∙ sym q.told in
             let e =
-            (same_put base t y v es (a.once t y q.once) (a.has t y ∙ q.has)).1
+            (same_put base t y v es (alike_once t y es fs a q.once) (alike_has t y es fs a ∙ q.has)).1
             ∙ ap (λ n. lock.with_write base (record { on = true; ticket = n; value = v }) (forgotten_entries es)) k in
-            (i.0 ∙ ap (with_writes base acts) e, i.1)
+            rest (with_value_of t y v es) (put_alike t y v es ∙ a) g.1 ∙ ap (with_writes base acts) e
 
 -- the place of a pending write is among them
 pub place_below : (t y : ℕ) (es : List Pending) → IsOnce t y es → has_place t y es ≡ true → place_of t y es < length es

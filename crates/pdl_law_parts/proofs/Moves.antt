@@ -64,7 +64,7 @@ module _ (p : Pipe) (ls : Locks) (vs : ℕ → View) (gates : Gates) (moves : �
   follows_at k t l h =
       let x = made.stages k l in
       stage_follows c p ls vs s st bits suits (λ m e. (made.locks m e).kind)
-      (λ m e. (made.locks m e).room) stands used all k t x.rows x.fresh x.guess_long (answers k t l h) h
+      (λ m e. (made.locks m e).room) (λ m e. (made.locks m e).room2) made.twice stands used all k t x.rows x.fresh x.guess_long (answers k t l h) h
 
   module _ (k : ℕ) (l : k < length p.stages) (later : (j : ℕ) → k < j → j < length p.stages → IsSeen p vs moves s st bits j) where
     free_is : (q : ℕ) → k < q → q < length p.stages → (free vs moves q).value s ≡ bit (is_none (slot st q) || stage_moves p st bits q)

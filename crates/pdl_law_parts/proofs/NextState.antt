@@ -9,7 +9,7 @@ use Rattle.pdl_semantics.specs.Stages.{plain_mem, mem_at, reserve_stage, commit_
 use Rattle.pdl_semantics.specs.Machine as machine
 use Rattle.pdl_semantics.specs.Machine.{Thread, Pending, held_before, is_held, with_kept}
 use Rattle.pdl_semantics.specs.Moves.{next_stage}
-use Rattle.pdl_semantics.specs.Cycle.{cycle, or_then, if_kept, is_stage, thread_after, squasher, is_kept as removed, all_releases, list_two, list_three, taken_out, with_commit, with_all_advised, entries_left}
+use Rattle.pdl_semantics.specs.Cycle.{cycle, or_then, if_kept, is_stage, thread_after, squasher, is_kept as removed, with_reserves, all_releases, list_two, list_three, taken_out, with_commit, with_all_advised, entries_left}
 use Rattle.pdl_net.specs.Circuit.{Circuit, State, HasArray, HasReg}
 use Rattle.pdl_net.specs.Signal.{Signal, no_signal, mux_signal}
 use Rattle.pdl_net.specs.Cycle.{next_regs, next_arrays}
@@ -25,16 +25,21 @@ use Rattle.pdl_machine_facts.specs.Use.{IsInUse}
 use Rattle.pdl_machine_facts.proofs.StagewiseActs.{some_here}
 use Rattle.pdl_machine_facts.proofs.StagewisePorts.{then_then}
 use Rattle.pdl_law_parts.proofs.AnsweredThreads.{Stood}
+use Rattle.pdl_law_parts.specs.declared.Mark.{Mark}
+use Rattle.pdl_law_parts.specs.declared.Mark.TheVariants.{Held, Late}
+use Rattle.pdl_law_parts.specs.Lives.{mark_from}
 use Rattle.pdl_law_parts.specs.Walk.{Locks, is_locked, one, zero_bit}
 use Rattle.pdl_law_parts.specs.Views.{Gates, View, Comer, comers, first_coming}
 use Rattle.pdl_law_parts.specs.Compiled.{IsLaid, Becomes}
 use Rattle.pdl_law_parts.specs.Served.{IsServed}
-use Rattle.pdl_law_parts.specs.Stands.{IsEnv, IsHolding, StandsLock, StandsFor, IsSeen, IsSquashed, IsGuess}
+use Rattle.pdl_law_parts.specs.Stands.{IsEnv, IsHolding, TellsLate, AreLate, StandsLock, StandsFor, IsSeen, IsSquashed, IsGuess}
 use Rattle.pdl_law_parts.proofs.Signals.{mux_at, mux_by, one_is, zero_is}
 use Rattle.pdl_law_parts.proofs.StageLooks.{plain_is, lock_there}
+use Rattle.pdl_law_parts.proofs.LockUse.{as_reserved, IsAlike, alike_count, alike_has, alike_place, alike_once, alike_own, writes_alike, own_dropped, own_left}
 use Rattle.pdl_law_parts.proofs.LockStep.{words_next, words_long, words_same, few_next, stands_next}
 use Rattle.pdl_law_parts.proofs.Comers.{first_come, brought, picked_is, AreAlike, Brings, none_advised, comers_alike, signal_at, signals_are, Spares}
 use Rattle.pdl_semantics.specs.PendingLists.{count_older}
+use Rattle.pdl_semantics.specs.Sound.{entries_by}
 
 -- a memory that has words, or a lock, is there
 pub mem_there : (p : Pipe) (m a : ℕ) → a < (mem_at p m).depth → m < length p.mems
@@ -247,19 +252,22 @@ module _ (p : Pipe) (ls : Locks) (vs : ℕ → View) (gates : Gates) (moves : �
         at (came o f b) = b.advice
         at (stayed f g h r) = let v = stood q u h in sym v.advice ∙ stands.advice q v.thread v.slot
 
-    held_next : (q : ℕ) (u : Thread) → slot next q ≡ Some u → IsHolding p q t (vs q).begun.held (held_before q u.env p.stmts [])
+    mark_now : (q : ℕ) → q < length p.stages → (mark : Mark) (m a : ℕ) → mark_from p q mark m a ≡ true
+        → ((vs q).begun.marks mark m a).value t
+        ≡ brought s (λ (o : Comer). o.marks mark m a) ((vs q).begun.marks mark m a) (first_come s (comers p vs moves q))
+    mark_now q l mark m a live =
+        becomes q (λ (o : Comer). o.marks mark m a) ((vs q).begun.marks mark m a) ((vs q).begun.marks mark m a) ((made.stages q l).marks mark m a live)
+
+    held_next : (q : ℕ) (u : Thread) → slot next q ≡ Some u → IsHolding p q t (vs q).begun.marks (held_before q u.env p.stmts [])
     held_next q u e m a live = at (came_how q u l e)
       where
         l : q < length p.stages
         l = stage_low q u e
 
-        now : ((vs q).begun.held m a).value t ≡ brought s (λ (o : Comer). o.held m a) ((vs q).begun.held m a) (first_come s (comers p vs moves q))
-        now = becomes q (λ (o : Comer). o.held m a) ((vs q).begun.held m a) ((vs q).begun.held m a) ((made.stages q l).held m a live)
-
-        at : Came q u → ((vs q).begun.held m a).value t ≡ bit (is_held (held_before q u.env p.stmts []) m a)
-        at (came o f b) = now ∙ ap (brought s (λ (o : Comer). o.held m a) ((vs q).begun.held m a)) f ∙ b.held m a live
+        at : Came q u → ((vs q).begun.marks Held m a).value t ≡ bit (is_held (held_before q u.env p.stmts []) m a)
+        at (came o f b) = mark_now q l Held m a live ∙ ap (brought s (λ (o : Comer). o.marks Held m a) ((vs q).begun.marks Held m a)) f ∙ b.held m a live
         at (stayed f g h r) =
-            now ∙ ap (brought s (λ (o : Comer). o.held m a) ((vs q).begun.held m a)) f
+            mark_now q l Held m a live ∙ ap (brought s (λ (o : Comer). o.marks Held m a) ((vs q).begun.marks Held m a)) f
             ∙ (let v = stood q u h in stands.held q v.thread v.slot m a live ∙ ap (λ e. bit (is_held (held_before q e p.stmts []) m a)) v.env)
 
     guess_next : (q : ℕ) (u : Thread) → slot next q ≡ Some u → IsGuess p q t (vs q).begun.guess u.guess
@@ -312,8 +320,8 @@ module _ (p : Pipe) (ls : Locks) (vs : ℕ → View) (gates : Gates) (moves : �
       stands' =
           let x = made.locks m e in
           subst (λ es. ls.stands m t (lock_state_of base es words)) (sym list)
-          (stands_next p ls vs moves s st bits by used seen stood m e stand gates squashed x.kind (made.owns m) c
-          (made.commits m) x.step t (own_next (made.owns m) x.regs x.arrays))
+          (stands_next p ls vs moves s st bits by used seen stood m e stand gates squashed x.kind (λ k l. (made.stages k l).tickets_wide m e)
+          (made.owns m) c (made.commits m).first x.step t (own_next (made.owns m) x.regs x.arrays))
 
       -- the ticket of a thread is its place
       ticket_next : (q : ℕ) (u : Thread) → slot next q ≡ Some u → q ≤ commit_stage p m
@@ -371,6 +379,66 @@ module _ (p : Pipe) (ls : Locks) (vs : ℕ → View) (gates : Gates) (moves : �
               ∙ (made.locks m e).ticket.holds t (lock_state_of base es words) stands'
               ∙ ap (λ n. (base + n) % 2 ^ ls.bits m) (long ∙ sym all)
 
+      abbrev pending : List Pending
+      pending = with_reserves m (moving p st bits) (machine.lock_of st m)
+
+      -- the own pending writes of a thread that is left are those that it had, and those that it reserved
+      own_alike : (n : ℕ)
+          → count_older n (list_three st (moving p st bits) m) + all_releases m (moving p st bits) ≡ count_older n (machine.lock_of st m)
+          → count_older n pending ≡ count_older n (machine.lock_of st m) → removed sq n ≡ true
+          → IsAlike (entries_by n (machine.lock_of next m)) (entries_by n pending)
+      own_alike n shifts after r =
+          let two = list_two st (moving p st bits) m in
+          let same = writes_alike m (moving p st bits) pending in
+          let older = alike_count n two pending same ∙ after in
+          ap (λ es. as_reserved (entries_by n es)) list
+          ∙ ap as_reserved
+          (own_left sq n (list_three st (moving p st bits) m) r
+          ∙ own_dropped (all_releases m (moving p st bits)) n two (shifts ∙ sym older))
+          ∙ alike_own n two pending same
+
+      -- the marks of a thread tell which of its own pending writes is the second one
+      late_next : ls.twice m ≡ true → (q : ℕ) (u : Thread) → slot next q ≡ Some u → reserve_stage p m < q → q ≤ commit_stage p m
+          → AreLate p q t (vs q).begun.marks u.number m (entries_by u.number (machine.lock_of next m))
+      late_next twice q u h low high a live = at (came_how q u l h)
+        where
+          l : q < length p.stages
+          l = stage_low q u h
+
+          mine : Signal
+          mine = (vs q).begun.marks Late m a
+
+          -- where these signals are the same, and the thread's own are alike
+          moved : (f : Signal) (n : ℕ) (fs : List Pending) → mine.value t ≡ f.value s → IsAlike (entries_by n (machine.lock_of next m)) fs
+              → TellsLate s f n a fs → TellsLate t mine n a (entries_by n (machine.lock_of next m))
+          moved f n fs e same tells has once =
+              let es = entries_by n (machine.lock_of next m) in
+              e
+              ∙ tells (sym (alike_has n a es fs same) ∙ has) (alike_once n a fs es (sym same) once)
+              ∙ ap (λ k. bit (nat_lt 0 k)) (sym (alike_place n a es fs same))
+
+          at : Came q u → TellsLate t mine u.number a (entries_by u.number (machine.lock_of next m))
+          at (came o f b) =
+              let z = b.tickets m e low high in
+              let known = b.late m e (sym (made.twice m (lock_there p m e)) ∙ twice) low high in
+              moved (o.marks Late m a) u.number (entries_by u.number pending)
+              (mark_now q l Late m a live ∙ ap (brought s (λ (o : Comer). o.marks Late m a) mine) f)
+              (own_alike u.number z.1 known.0 z.2) (known.1 a live)
+          at (stayed f g i r) =
+              let w = stood q u i in
+              let n = u.number in
+              let reserved : reserve_stage p m ≤ q = omega (arith, low) in
+              let shifts =
+              subst
+              (λ (n : ℕ). count_older n (list_three st (moving p st bits) m) + all_releases m (moving p st bits)
+              ≡ count_older n (machine.lock_of st m)) w.number
+              (used.in_use.shifts q w.thread m w.slot reserved high (λ z. g)) in
+              let after =
+              subst (λ (n : ℕ). count_older n pending ≡ count_older n (machine.lock_of st m)) w.number (used.in_use.after q w.thread m w.slot reserved) in
+              moved mine n (entries_by n (machine.lock_of st m)) (mark_now q l Late m a live ∙ ap (brought s (λ (o : Comer). o.marks Late m a) mine) f)
+              (own_alike n shifts after r ∙ ap as_reserved (used.kept q u m i g (lock_there p m e)))
+              (subst (λ n. TellsLate s mine n a (entries_by n (machine.lock_of st m))) w.number (stand.late twice q w.thread w.slot low high a live))
+
       lock_next : StandsLock p ls vs t next m
       lock_next =
           let x = made.locks m e in
@@ -386,6 +454,7 @@ module _ (p : Pipe) (ls : Locks) (vs : ℕ → View) (gates : Gates) (moves : �
             stands = stands';
             few = subst (λ es. length es ≤ ls.size m) (sym list) (few_next p ls vs moves s st bits by used seen stood m e stand gates squashed x.kind);
             tickets = ticket_next;
+            late = late_next;
           }
 
     -- a memory without lock keeps its words

@@ -1,9 +1,10 @@
 -- How many writes of a memory a thread's statements reserve, and that there is room for them.
-use Rattle.std.proofs.Common.{◌≡◌, refl, sym, ap, ap₂, ◌∙◌, ℕ, suc, ◌+◌, ◌≤◌, Bool, true, false, ◌&&◌, List, [], ◌∷◌, ◌++◌, Some, ◌==◌, arith, le_refl, eq-eqb, add-zero, zero-add}
+use Rattle.std.proofs.Common.{◌≡◌, refl, sym, ap, ap₂, ◌∙◌, subst, ℕ, suc, ◌+◌, ◌≤◌, Bool, true, false, ◌&&◌, List, [], ◌∷◌, ◌++◌, length, Some, None, ◌==◌, arith, le_refl, eq-eqb, add-zero}
 use Rattle.std.specs.Prelude.{if◌then◌else◌, slice_index}
 use Rattle.std.proofs.lemmas.Bool.{eqb-true, eqb-false, ne_eqb}
 use Rattle.pdl_semantics.specs.Flat.{Op, Bind, CombRead, DelayedRead, Write, ReserveRead, ReserveWrite, Block, Release, Call, SpecCall, Verify, SpecCheck, SpecBarrier, AdviceBind, AdviceRead, AdviceWrite, Stmt, list_all, all_hold}
-use Rattle.pdl_semantics.specs.Machine.{Deeds, Reserved, reserves_of, same_args, after_verify, deeds_after, deeds_after_all, checked_args}
+use Rattle.pdl_semantics.specs.Machine.{Deeds, Reserved, reserves_of, same_args, deeds_after, deeds_after_all, checked_args}
+use Rattle.pdl_semantics.specs.Cycle.{new_entries}
 use Rattle.pdl_semantics.proofs.Facts.{all_push}
 
 -- one reservation more is of its memory, and of no other
@@ -24,36 +25,57 @@ reserves_more n (x ∷ rs) r = at (x.mem == n) (reserves_more n rs r)
     at true e = omega (arith, e)
     at false e = e
 
-module _ (room : ℕ → ℕ → Bool) (rs : List Reserved) (new : Reserved) where
-  -- reservations of other memories find as much room beside a new one
-  others_room : (xs : List Reserved) → reserves_of new.mem xs ≡ 0
-      → list_all (λ (r : Reserved). room r.mem (reserves_of r.mem (rs ++ new ∷ []))) xs ≡ list_all (λ (r : Reserved). room r.mem (reserves_of r.mem rs)) xs
-  others_room [] h = refl
-  others_room (x ∷ xs) h = at (x.mem == new.mem) refl h (others_room xs)
-    where
-      at : (b : Bool) → (x.mem == new.mem) ≡ b → (if b then suc (reserves_of new.mem xs) else reserves_of new.mem xs) ≡ 0
-          → (reserves_of new.mem xs ≡ 0
-          → list_all (λ (r : Reserved). room r.mem (reserves_of r.mem (rs ++ new ∷ []))) xs
-          ≡ list_all (λ (r : Reserved). room r.mem (reserves_of r.mem rs)) xs)
-          → list_all (λ (r : Reserved). room r.mem (reserves_of r.mem (rs ++ new ∷ []))) (x ∷ xs)
-          ≡ list_all (λ (r : Reserved). room r.mem (reserves_of r.mem rs)) (x ∷ xs)
-      at true e k rest = absurd (omega (arith, k))
-      at false e k rest =
-          let other : (new.mem == x.mem) ≡ false = ne_eqb new.mem x.mem (λ i. eqb-false x.mem new.mem e (sym i)) in
-          ap₂ (λ a b. a && b)
-          (ap (room x.mem) (reserves_more x.mem rs new ∙ ap (λ b. reserves_of x.mem rs + (if b then 1 else 0)) other ∙ add-zero (reserves_of x.mem rs)))
-          (rest k)
+-- one reservation more of a memory is one more of it
+pub one_more_of : (rs : List Reserved) (new : Reserved) → reserves_of new.mem (rs ++ new ∷ []) ≡ suc (reserves_of new.mem rs)
+one_more_of rs new =
+    let e = reserves_more new.mem rs new ∙ ap (λ b. reserves_of new.mem rs + (if b then 1 else 0)) (eq-eqb new.mem new.mem refl) in omega (arith, e)
 
-  -- where a new reservation is the only one of its memory, there is room for all where there was for the others, and for one more of its memory
-  pub pushed_room : reserves_of new.mem (rs ++ new ∷ []) ≤ 1
-      → list_all (λ (r : Reserved). room r.mem (reserves_of r.mem (rs ++ new ∷ []))) (rs ++ new ∷ [])
-      ≡ (list_all (λ (r : Reserved). room r.mem (reserves_of r.mem rs)) rs && room new.mem 1)
-  pushed_room l =
-      let e = reserves_more new.mem rs new ∙ ap (λ b. reserves_of new.mem rs + (if b then 1 else 0)) (eq-eqb new.mem new.mem refl) in
-      let none : reserves_of new.mem rs ≡ 0 = omega (arith, e, l) in
-      let one : reserves_of new.mem (rs ++ new ∷ []) ≡ 1 = omega (arith, e, none) in
+-- a thread's new pending writes of a memory are as many as its reservations of it
+pub entries_long : (m n : ℕ) (rs : List Reserved) → length (new_entries m n rs) ≡ reserves_of m rs
+entries_long m n [] = refl
+entries_long m n (r ∷ rs) = at (r.mem == m) (entries_long m n rs)
+  where
+    at : (b : Bool) → length (new_entries m n rs) ≡ reserves_of m rs
+        → length ((if b then record { thread = n; var = r.var; address = r.address; value = None } ∷ [] else []) ++ new_entries m n rs)
+        ≡ (if b then suc (reserves_of m rs) else reserves_of m rs)
+    at true h = ap suc h
+    at false h = h
+
+-- where room for some reservations of a memory is room for fewer
+module _ (room : ℕ → ℕ → Bool) (fewer : (m i j : ℕ) → j ≤ i → room m i ≡ true → room m j ≡ true) (rs : List Reserved) (new : Reserved) where
+  same_room : room new.mem (suc (reserves_of new.mem rs)) ≡ true → (xs : List Reserved)
+      → list_all (λ (r : Reserved). room r.mem (reserves_of r.mem (rs ++ new ∷ []))) xs ≡ list_all (λ (r : Reserved). room r.mem (reserves_of r.mem rs)) xs
+  same_room h [] = refl
+  same_room h (x ∷ xs) = ap₂ (λ a b. a && b) (at (x.mem == new.mem) refl) (same_room h xs)
+    where
+      at : (b : Bool) → (x.mem == new.mem) ≡ b → room x.mem (reserves_of x.mem (rs ++ new ∷ [])) ≡ room x.mem (reserves_of x.mem rs)
+      at true e =
+          subst (λ m. room m (reserves_of m (rs ++ new ∷ [])) ≡ room m (reserves_of m rs)) (sym (eqb-true x.mem new.mem e))
+          (ap (room new.mem) (one_more_of rs new) ∙ h
+          ∙ sym (fewer new.mem (suc (reserves_of new.mem rs)) (reserves_of new.mem rs) (omega arith) h))
+      at false e =
+          let other : (new.mem == x.mem) ≡ false = ne_eqb new.mem x.mem (λ i. eqb-false x.mem new.mem e (sym i)) in
+          ap (room x.mem) (reserves_more x.mem rs new ∙ ap (λ b. reserves_of x.mem rs + (if b then 1 else 0)) other ∙ add-zero (reserves_of x.mem rs))
+
+  -- with a new reservation there is room for all where there was for the others, and there is for those of its memory together
+  pub pushed_room : list_all (λ (r : Reserved). room r.mem (reserves_of r.mem (rs ++ new ∷ []))) (rs ++ new ∷ [])
+      ≡ (list_all (λ (r : Reserved). room r.mem (reserves_of r.mem rs)) rs && room new.mem (suc (reserves_of new.mem rs)))
+  pushed_room =
       all_push (λ (r : Reserved). room r.mem (reserves_of r.mem (rs ++ new ∷ []))) rs new
-      ∙ ap₂ (λ a b. a && b) (others_room rs none) (ap (room new.mem) one)
+      ∙ ap (λ k. list_all (λ (r : Reserved). room r.mem (reserves_of r.mem (rs ++ new ∷ []))) rs && room new.mem k) (one_more_of rs new)
+      ∙ at (room new.mem (suc (reserves_of new.mem rs))) refl
+    where
+      none : (b : Bool) → (b && false) ≡ false
+      none true = refl
+      none false = refl
+
+      at : (b : Bool) → room new.mem (suc (reserves_of new.mem rs)) ≡ b
+          → (list_all (λ (r : Reserved). room r.mem (reserves_of r.mem (rs ++ new ∷ []))) rs && b)
+          ≡ (list_all (λ (r : Reserved). room r.mem (reserves_of r.mem rs)) rs && b)
+      at true e = ap (λ c. c && true) (same_room e rs)
+      at false e =
+          none (list_all (λ (r : Reserved). room r.mem (reserves_of r.mem (rs ++ new ∷ []))) rs)
+          ∙ sym (none (list_all (λ (r : Reserved). room r.mem (reserves_of r.mem rs)) rs))
 
 -- a statement takes no reservation back
 op_grows : (read : ℕ → ℕ → ℕ) (m : ℕ) (op : Op) (d : Deeds) → reserves_of m d.reserves ≤ reserves_of m (deeds_after read op d).reserves

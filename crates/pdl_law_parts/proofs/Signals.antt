@@ -1,12 +1,12 @@
 -- Signals of one bit, and lists of which those count whose condition is 1.
-use Rattle.std.proofs.Common.{◌≡◌, refl, ap, ◌∙◌, ℕ, Bool, true, false, ◌&&◌, List, [], ◌∷◌, ◌++◌, ◌==◌}
-use Rattle.std.specs.Prelude.{if◌then◌else◌}
+use Rattle.std.proofs.Common.{◌≡◌, refl, sym, ap, ◌∙◌, ℕ, suc, Bool, true, false, ◌&&◌, List, [], ◌∷◌, ◌++◌, ◌==◌, arith, lt-ltb}
+use Rattle.std.specs.Prelude.{if◌then◌else◌, nat_lt}
 use Rattle.pdl_word.specs.Words.{bit, mux}
-use Rattle.pdl_semantics.specs.Machine.{Reserved, Written}
+use Rattle.pdl_semantics.specs.Machine.{Reserved, Written, reserves_of}
 use Rattle.pdl_semantics.specs.Machine as machine
 use Rattle.pdl_net.specs.Circuit.{State}
 use Rattle.pdl_net.specs.Signal.{Signal, const_value, mux_value, mux_signal}
-use Rattle.pdl_law_parts.specs.Walk.{Reservation, Put, Letting, one, zero_bit, both, if_on, is_on, Ask}
+use Rattle.pdl_law_parts.specs.Walk.{Reservation, Put, Letting, one, zero_bit, both, if_on, is_on, reserved_signal, Ask}
 use Rattle.pdl_lockapi.specs.Laws.{FitsIn}
 use Rattle.pdl_law_parts.specs.Stands.{AddressesFit, AreBits, reserved_in, written_in, let_in, asked_in}
 
@@ -71,6 +71,37 @@ reserved_more s (x ∷ rs) r = at (is_on x.on s) (reserved_more s rs r)
         ≡ (if b then record { mem = x.mem; var = x.var; address = x.addr.value s } ∷ reserved_in s rs else reserved_in s rs) ++ more
     at true e = ap (λ l. record { mem = x.mem; var = x.var; address = x.addr.value s } ∷ l) e
     at false e = e
+
+-- whether one of these reservations is of a memory tells whether some are made of it
+pub reserved_is : (s : State) (m : ℕ) (rs : List Reservation) → (reserved_signal m rs).value s ≡ bit (nat_lt 0 (reserves_of m (reserved_in s rs)))
+reserved_is s m [] = zero_is s
+reserved_is s m (r ∷ rs) = at (is_on r.on s) refl (reserved_is s m rs)
+  where
+    rest : Signal
+    rest = reserved_signal m rs
+
+    n : ℕ
+    n = reserves_of m (reserved_in s rs)
+
+    mine : Reserved
+    mine = record { mem = r.mem; var = r.var; address = r.addr.value s }
+
+    picked : (o : Bool) → is_on r.on s ≡ o → (mux_signal r.on one rest).value s ≡ (if o then one.value s else rest.value s)
+    picked o e = mux_by s r.on one rest ∙ ap (λ b. if b then one.value s else rest.value s) e
+
+    at : (o : Bool) → is_on r.on s ≡ o → rest.value s ≡ bit (nat_lt 0 n)
+        → (if r.mem == m then mux_signal r.on one rest else rest).value s
+        ≡ bit (nat_lt 0 (reserves_of m (if o then mine ∷ reserved_in s rs else reserved_in s rs)))
+    at true e h = by (r.mem == m)
+      where
+        by : (b : Bool) → (if b then mux_signal r.on one rest else rest).value s ≡ bit (nat_lt 0 (if b then suc n else n))
+        by true = picked true e ∙ one_is s ∙ sym (ap bit (lt-ltb 0 (suc n) (omega arith)))
+        by false = h
+    at false e h = by (r.mem == m)
+      where
+        by : (b : Bool) → (if b then mux_signal r.on one rest else rest).value s ≡ bit (nat_lt 0 n)
+        by true = picked false e ∙ h
+        by false = h
 
 -- with a reservation more whose address fits where it is made, the addresses of all fit
 pub fits_more : (s : State) (rs : List Reservation) (r : Reservation) → AddressesFit s rs

@@ -20,15 +20,16 @@ use Rattle.pdl_word.proofs.Numbers.{eqb_self}
 module _ (c : Circuit) (p : Pipe) (ls : Locks) (vs : ℕ → View) (s : State) (st : machine.State) (k thread : ℕ) (around : IsAround c p ls vs s st k thread) where
   -- a row that calls: the new thread has the values of its arguments
   pub follows_call : (args : List Expr) → FollowsOp c p ls vs s st k thread around (Call args)
-  follows_call args j gs r w d live on row here fine sole q =
-      quiet c p ls vs s st k thread around gs r w d glive on q (Call args) (walk_after (Call args) r ls w) refl (λ b. same b) (λ h z b f. so h b f)
+  follows_call args j gs r w d live on row here fine may q =
+      quiet c p ls vs s st k thread around gs r w d glive on q (Call args) (walk_after (Call args) r ls w) refl refl (λ b. same b) (λ h z b f. so h b f)
     where
       glive : (z : ℕ) → guards_use gs z ≡ true → lives_from p k z ≡ true
       glive z u = live.vars z (or_left (guards_use gs z) (are_using args z) u)
 
-      same : (b : Bool) → locks_ready p st thread (done st thread b (Call args) d) ≡ locks_ready p st thread d
-      same true = refl
-      same false = refl
+      same : (b : Bool) → (locks_ready p st thread (done st thread b (Call args) d) ≡ locks_ready p st thread d)
+          × ((done st thread b (Call args) d).reserves ≡ d.reserves)
+      same true = (refl, refl)
+      same false = (refl, refl)
 
       child_at : IsSo p k s w d → (b : Bool) → all_hold gs d.env ≡ b
           → (done st thread b (Call args) d).child ≡ child_in s (record { on = r.on; args = r.args } ∷ w.births)
@@ -88,16 +89,17 @@ module _ (c : Circuit) (p : Pipe) (ls : Locks) (vs : ℕ → View) (s : State) (
 
   -- a row that reads delayed: it asks the memory for the word at the location's address
   pub follows_fetch : (y m a : ℕ) → FollowsOp c p ls vs s st k thread around (DelayedRead y m a)
-  follows_fetch y m a j gs r w d live on row here fine sole q =
+  follows_fetch y m a j gs r w d live on row here fine may q =
       quiet c p ls vs s st k thread around gs r w d glive on q (DelayedRead y m a)
-      (walk_after (DelayedRead y m a) r ls w) refl (λ b. same b) (λ h z b f. so h b f)
+      (walk_after (DelayedRead y m a) r ls w) refl refl (λ b. same b) (λ h z b f. so h b f)
     where
       glive : (z : ℕ) → guards_use gs z ≡ true → lives_from p k z ≡ true
       glive z u = live.vars z (or_left (guards_use gs z) (a == z) u)
 
-      same : (b : Bool) → locks_ready p st thread (done st thread b (DelayedRead y m a) d) ≡ locks_ready p st thread d
-      same true = refl
-      same false = refl
+      same : (b : Bool) → (locks_ready p st thread (done st thread b (DelayedRead y m a) d) ≡ locks_ready p st thread d)
+          × ((done st thread b (DelayedRead y m a) d).reserves ≡ d.reserves)
+      same true = (refl, refl)
+      same false = (refl, refl)
 
       more : IsSo p k s w d → (b : Bool) → all_hold gs d.env ≡ b
           → asked_in s (w.asks ++ record { mem = m; var = y; on = r.on; addr = w.vars a } ∷ [])
@@ -158,15 +160,16 @@ module _ (c : Circuit) (p : Pipe) (ls : Locks) (vs : ℕ → View) (s : State) (
 
   -- a row that calls with a guess: the new thread has these arguments, and they are kept as the guess
   pub follows_spec_call : (args : List Expr) → FollowsOp c p ls vs s st k thread around (SpecCall args)
-  follows_spec_call args j gs r w d live on row here fine sole q =
-      quiet c p ls vs s st k thread around gs r w d glive on q (SpecCall args) (walk_after (SpecCall args) r ls w) refl (λ b. same b) (λ h z b f. so h b f)
+  follows_spec_call args j gs r w d live on row here fine may q =
+      quiet c p ls vs s st k thread around gs r w d glive on q (SpecCall args) (walk_after (SpecCall args) r ls w) refl refl (λ b. same b) (λ h z b f. so h b f)
     where
       glive : (z : ℕ) → guards_use gs z ≡ true → lives_from p k z ≡ true
       glive z u = live.vars z (or_left (guards_use gs z) (are_using args z) u)
 
-      same : (b : Bool) → locks_ready p st thread (done st thread b (SpecCall args) d) ≡ locks_ready p st thread d
-      same true = refl
-      same false = refl
+      same : (b : Bool) → (locks_ready p st thread (done st thread b (SpecCall args) d) ≡ locks_ready p st thread d)
+          × ((done st thread b (SpecCall args) d).reserves ≡ d.reserves)
+      same true = (refl, refl)
+      same false = (refl, refl)
 
       values : IsSo p k s w d → all_hold gs d.env ≡ true → values_of args (all_values d) ≡ values_at s r.args
       values h f =
@@ -235,8 +238,8 @@ module _ (c : Circuit) (p : Pipe) (ls : Locks) (vs : ℕ → View) (s : State) (
 
   -- a row that verifies: the guess fails where the arguments differ from it, and then a new thread has them
   pub follows_verify : (args : List Expr) → FollowsOp c p ls vs s st k thread around (Verify true args)
-  follows_verify args j gs r w d live on row here fine sole q =
-      quiet c p ls vs s st k thread around gs r w d glive on q (Verify true args) (walk_after (Verify true args) r ls w) refl (λ b. same b)
+  follows_verify args j gs r w d live on row here fine may q =
+      quiet c p ls vs s st k thread around gs r w d glive on q (Verify true args) (walk_after (Verify true args) r ls w) refl refl (λ b. same b)
       (λ h z b f. so h z b f)
     where
       glive : (z : ℕ) → guards_use gs z ≡ true → lives_from p k z ≡ true
@@ -245,13 +248,15 @@ module _ (c : Circuit) (p : Pipe) (ls : Locks) (vs : ℕ → View) (s : State) (
       failed : Deeds
       failed = record d { child = Some (values_of args d.env); guess = values_of args d.env; fails = true }
 
-      same : (b : Bool) → locks_ready p st thread (done st thread b (Verify true args) d) ≡ locks_ready p st thread d
+      same : (b : Bool) → (locks_ready p st thread (done st thread b (Verify true args) d) ≡ locks_ready p st thread d)
+          × ((done st thread b (Verify true args) d).reserves ≡ d.reserves)
       same true = at (same_args (values_of args d.env) d.guess)
         where
-          at : (b : Bool) → locks_ready p st thread (if b then d else failed) ≡ locks_ready p st thread d
-          at true = refl
-          at false = refl
-      same false = refl
+          at : (b : Bool) → (locks_ready p st thread (if b then d else failed) ≡ locks_ready p st thread d)
+              × ((if b then d else failed).reserves ≡ d.reserves)
+          at true = (refl, refl)
+          at false = (refl, refl)
+      same false = (refl, refl)
 
       wrong : Signal
       wrong = both r.on r.value
@@ -324,15 +329,16 @@ module _ (c : Circuit) (p : Pipe) (ls : Locks) (vs : ℕ → View) (s : State) (
 
   -- a row with `spec_check`: it does nothing and waits for nothing
   pub follows_check : FollowsOp c p ls vs s st k thread around SpecCheck
-  follows_check j gs r w d live on row here fine sole q =
-      quiet c p ls vs s st k thread around gs r w d glive on q SpecCheck w refl (λ b. same b) (λ h z b f. so h b)
+  follows_check j gs r w d live on row here fine may q =
+      quiet c p ls vs s st k thread around gs r w d glive on q SpecCheck w refl refl (λ b. same b) (λ h z b f. so h b)
     where
       glive : (z : ℕ) → guards_use gs z ≡ true → lives_from p k z ≡ true
       glive z u = live.vars z (or_left (guards_use gs z) false u)
 
-      same : (b : Bool) → locks_ready p st thread (done st thread b SpecCheck d) ≡ locks_ready p st thread d
-      same true = refl
-      same false = refl
+      same : (b : Bool) → (locks_ready p st thread (done st thread b SpecCheck d) ≡ locks_ready p st thread d)
+          × ((done st thread b SpecCheck d).reserves ≡ d.reserves)
+      same true = (refl, refl)
+      same false = (refl, refl)
 
       so : IsSo p k s w d → (b : Bool) → IsSo p k s w (done st thread b SpecCheck d)
       so h true = h
@@ -340,15 +346,16 @@ module _ (c : Circuit) (p : Pipe) (ls : Locks) (vs : ℕ → View) (s : State) (
 
   -- a row with `spec_barrier`: the thread is to wait at the barrier
   pub follows_barrier : FollowsOp c p ls vs s st k thread around SpecBarrier
-  follows_barrier j gs r w d live on row here fine sole q =
-      quiet c p ls vs s st k thread around gs r w d glive on q SpecBarrier (walk_after SpecBarrier r ls w) refl (λ b. same b) (λ h z b f. so h b f)
+  follows_barrier j gs r w d live on row here fine may q =
+      quiet c p ls vs s st k thread around gs r w d glive on q SpecBarrier (walk_after SpecBarrier r ls w) refl refl (λ b. same b) (λ h z b f. so h b f)
     where
       glive : (z : ℕ) → guards_use gs z ≡ true → lives_from p k z ≡ true
       glive z u = live.vars z (or_left (guards_use gs z) false u)
 
-      same : (b : Bool) → locks_ready p st thread (done st thread b SpecBarrier d) ≡ locks_ready p st thread d
-      same true = refl
-      same false = refl
+      same : (b : Bool) → (locks_ready p st thread (done st thread b SpecBarrier d) ≡ locks_ready p st thread d)
+          × ((done st thread b SpecBarrier d).reserves ≡ d.reserves)
+      same true = (refl, refl)
+      same false = (refl, refl)
 
       so : IsSo p k s w d → (b : Bool) → all_hold gs d.env ≡ b → IsSo p k s (walk_after SpecBarrier r ls w) (done st thread b SpecBarrier d)
       so h true f =

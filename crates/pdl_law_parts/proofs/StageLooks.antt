@@ -1,6 +1,6 @@
 -- What the looks of a stage find: the machine's pending writes and words, through the lock that stands for them.
-use Rattle.std.proofs.Common.{◌≡◌, ℕ, ◌+◌, ◌<◌, ◌≤◌, Bool, true, false, [], length, sym, ap, ◌∙◌, arith, ⊎_elim}
-use Rattle.std.specs.Prelude.{slice_index, slice_index_or, if◌then◌else◌}
+use Rattle.std.proofs.Common.{◌≡◌, refl, ℕ, zero, suc, ◌+◌, ◌<◌, ◌≤◌, Bool, true, false, List, [], length, sym, ap, ◌∙◌, arith, ⊎_elim}
+use Rattle.std.specs.Prelude.{slice_index, slice_index_or, if◌then◌else◌, nat_lt}
 use Rattle.std.proofs.lemmas.Bool.{false≢true, cases_lt}
 use Rattle.std.proofs.lemmas.List.{length-map, get_or_past}
 use Rattle.pdl_word.specs.Words.{bit}
@@ -8,17 +8,21 @@ use Rattle.pdl_semantics.specs.Flat.{Plain, Mem, Pipe, has_lock}
 use Rattle.pdl_semantics.specs.Stages.{plain_mem, mem_at}
 use Rattle.pdl_semantics.specs.Locks.{Nothing, read_ready, write_ready, has_room, value_or}
 use Rattle.pdl_semantics.specs.Machine as machine
-use Rattle.pdl_semantics.specs.Machine.{older_write, word_for}
+use Rattle.pdl_semantics.specs.Machine.{older_write, reserves_of, word_for}
+use Rattle.pdl_semantics.specs.SecondWrites.{reserves_twice}
 use Rattle.pdl_net.specs.Circuit.{State}
-use Rattle.pdl_net.specs.Signal.{Signal}
+use Rattle.pdl_net.specs.Signal.{Signal, mux_signal}
 use Rattle.pdl_lockapi.specs.Laws.{holds_ticket, RoomLaw}
+use Rattle.pdl_lockapi.specs.Second.{Room2Law}
 use Rattle.pdl_lockapi.specs.Lock.{LockState, look_ready, Covered}
 use Rattle.pdl_lockapi.specs.Forget.{forget, as_lock, lock_state_of}
 use Rattle.pdl_lockapi.proofs.LockKinds as kinds
 use Rattle.pdl_lockapi.proofs.Threads.{same_meaning, ticket_covered}
-use Rattle.pdl_law_parts.specs.Walk.{Locks, is_locked, look_of, ThroughLock, IsWord}
+use Rattle.pdl_law_parts.specs.Walk.{Locks, Reservation, is_locked, look_of, ThroughLock, IsWord, reserved_signal, room_after}
 use Rattle.pdl_law_parts.specs.Views.{View}
-use Rattle.pdl_law_parts.specs.Stands.{StandsLock}
+use Rattle.pdl_law_parts.specs.Stands.{StandsLock, reserved_in}
+use Rattle.pdl_law_parts.specs.Served.{at_most}
+use Rattle.pdl_law_parts.proofs.Signals.{mux_at, reserved_is}
 use Rattle.pdl_semantics.specs.PendingLists.{AreOrdered, count_older}
 
 -- a memory that is not locked has no lock
@@ -56,12 +60,48 @@ module _ (p : Pipe) (ls : Locks) (vs : ℕ → View) (s : State) (st : machine.S
       record { from = omega arith; to = omega (arith, l, e) }
 
   -- the lock's net of room tells whether there is room for one more of the machine's pending writes
-  pub room_is : RoomLaw (ls.stands m) (ls.size m) (ls.room m) → (ls.room m).value s ≡ bit (has_room (mem_at p m).lock 1 (length (machine.lock_of st m)))
+  room_is : RoomLaw (ls.stands m) (ls.size m) (ls.room m) → (ls.room m).value s ≡ bit (has_room (mem_at p m).lock 1 (length (machine.lock_of st m)))
   room_is law =
       law.holds s state_of stands.stands
       ∙ ap bit
       ((same_meaning (ls.kind m) (ls.size m) stands.base 0 0 0 (machine.lock_of st m) stands.words ordered).3
       ∙ ap (λ l. has_room l 1 (length (machine.lock_of st m))) (sym kind))
+
+  -- and its net of room for two whether there is room for two more
+  room2_is : Room2Law (ls.stands m) (ls.size m) (ls.room2 m) → (ls.room2 m).value s ≡ bit (has_room (mem_at p m).lock 2 (length (machine.lock_of st m)))
+  room2_is law =
+      law.holds s state_of stands.stands
+      ∙ ap bit
+      ((same_meaning (ls.kind m) (ls.size m) stands.base 0 0 0 (machine.lock_of st m) stands.words ordered).4
+      ∙ ap (λ l. has_room l 2 (length (machine.lock_of st m))) (sym kind))
+
+  -- after reservations of which a thread may make one more the net of room tells whether there is room for all of them together
+  pub room_next : RoomLaw (ls.stands m) (ls.size m) (ls.room m) → Room2Law (ls.stands m) (ls.size m) (ls.room2 m)
+      → ls.twice m ≡ reserves_twice m p.stmts → (rs : List Reservation) → suc (reserves_of m (reserved_in s rs)) ≤ at_most p m
+      → (room_after ls m rs).value s ≡ bit (has_room (mem_at p m).lock (suc (reserves_of m (reserved_in s rs))) (length (machine.lock_of st m)))
+  room_next law law2 same rs l = at (reserves_twice m p.stmts) same l
+    where
+      n : ℕ
+      n = reserves_of m (reserved_in s rs)
+
+      roomy : ℕ → ℕ
+      roomy k = bit (has_room (mem_at p m).lock k (length (machine.lock_of st m)))
+
+      at : (t : Bool) → ls.twice m ≡ t → suc n ≤ (if t then 2 else 1) → (room_after ls m rs).value s ≡ roomy (suc n)
+      at false e l =
+          let none : 1 ≡ suc n = omega (arith, l) in
+          ap (λ t. (if t then mux_signal (reserved_signal m rs) (ls.room2 m) (ls.room m) else ls.room m).value s) e
+          ∙ room_is law ∙ ap roomy none
+      at true e l =
+          ap (λ t. (if t then mux_signal (reserved_signal m rs) (ls.room2 m) (ls.room m) else ls.room m).value s) e
+          ∙ mux_at s (reserved_signal m rs) (ls.room2 m) (ls.room m) (nat_lt 0 n) (reserved_is s m rs) ∙ by n refl l
+        where
+          by : (k : ℕ) → n ≡ k → suc k ≤ 2 → (if nat_lt 0 k then (ls.room2 m).value s else (ls.room m).value s) ≡ roomy (suc n)
+          by zero f l = room_is law ∙ ap (λ k. roomy (suc k)) (sym f)
+          by (suc k) f l =
+              let one : suc k ≡ 1 = omega (arith, l) in
+              ap (λ k. if nat_lt 0 k then (ls.room2 m).value s else (ls.room m).value s) one
+              ∙ room2_is law2 ∙ ap (λ k. roomy (suc k)) (sym (f ∙ one))
 
   module _ (thread : ℕ) (ticket : Signal) (mine : holds_ticket (ls.bits m) ticket s (stands.base + count_older thread (machine.lock_of st m))) where
     look_same : (u : Bool) (a : ℕ) → look_ready (ls.kind m) (look_of u) state_of (number_of thread) a ≡ finds p st thread m u a

@@ -1,5 +1,5 @@
 -- One row of a stage: what it may rest on, where its guards are taken and where they aren't.
-use Rattle.std.proofs.Common.{◌≡◌, ℕ, ◌+◌, ◌<◌, ◌≤◌, Bool, true, false, IsTrue, ◌&&◌, ◌||◌, List, [], ◌∷◌, map, length, refl, sym, ap, ap₂, ◌∙◌, subst}
+use Rattle.std.proofs.Common.{◌≡◌, ℕ, ◌+◌, ◌<◌, ◌≤◌, Bool, true, false, IsTrue, ◌&&◌, ◌||◌, List, [], ◌∷◌, ◌++◌, map, length, refl, sym, ap, ap₂, ◌∙◌, subst}
 use Rattle.std.specs.Prelude.{nat_le, slice_index, slice_set, slice_index_or, ◌==◌, if◌then◌else◌}
 use Rattle.std.proofs.lemmas.Bool.{or_left, or_right, and_parts, eqb-true, eqb-false, leb-true}
 use Rattle.std.proofs.lemmas.List.{get_or-set_same, get_or-set_other}
@@ -8,19 +8,26 @@ use Rattle.pdl_semantics.specs.Flat.{Expr, Op, Guard, Stmt, Pipe, is_delayed, al
 use Rattle.pdl_semantics.specs.Stages.{mem_at, commit_stage, is_verify}
 use Rattle.pdl_semantics.specs.Locks.{read_ready}
 use Rattle.pdl_semantics.specs.Machine as machine
-use Rattle.pdl_semantics.specs.Machine.{HeldLocation, Deeds, reserves_of, deeds_after, is_held, let_go, older_write, word_for}
+use Rattle.pdl_semantics.specs.Machine.{HeldLocation, Deeds, Reserved, reserves_of, deeds_after, is_held, let_go, older_write, word_for}
+use Rattle.pdl_semantics.specs.Cycle.{new_entries}
+use Rattle.pdl_semantics.specs.Sound.{entries_by}
+use Rattle.pdl_semantics.specs.SecondWrites.{reserves_twice}
 use Rattle.pdl_net.specs.Circuit.{Circuit, State}
 use Rattle.pdl_net.specs.Signal.{Signal}
 use Rattle.pdl_net.specs.Well.{Suits}
 use Rattle.pdl_lockapi.specs.Laws.{holds_ticket, RoomLaw}
+use Rattle.pdl_lockapi.specs.Second.{Room2Law}
 use Rattle.pdl_lockapi.specs.Forget.{as_lock}
 use Rattle.pdl_machine_facts.specs.Slots.{locks_ready}
 use Rattle.pdl_machine_facts.specs.Use.{is_early, IsOpFine}
-use Rattle.pdl_law_parts.specs.Lives.{uses_var, are_using, guards_use, row_uses, asks_held, lives_from, held_from, verifies_from}
-use Rattle.pdl_law_parts.specs.Walk.{Locks, Row, Walk, is_locked, taken_in, AgreeOn, HaveValues, IsWord, IsOp, both, if_on, with_var, with_held, walk_after}
+use Rattle.pdl_law_parts.specs.declared.Mark.{Mark}
+use Rattle.pdl_law_parts.specs.declared.Mark.TheVariants.{Held, Late}
+use Rattle.pdl_law_parts.specs.Lives.{uses_var, are_using, guards_use, row_uses, asks_mark, lives_from, mark_from, verifies_from}
+use Rattle.pdl_law_parts.specs.Walk.{Locks, Row, Walk, is_locked, taken_in, AgreeOn, HaveValues, IsWord, IsOp, both, if_on, with_var, with_mark, walk_after}
 use Rattle.pdl_law_parts.specs.Rows.{HasRow}
 use Rattle.pdl_law_parts.specs.Views.{View}
-use Rattle.pdl_law_parts.specs.Stands.{IsEnv, IsHolding, StandsLock, IsSo, Follows}
+use Rattle.pdl_law_parts.specs.Stands.{IsEnv, IsHolding, AreLate, TellsLate, StandsLock, IsSo, MarksLate, Follows}
+use Rattle.pdl_law_parts.specs.Served.{at_most}
 use Rattle.pdl_law_parts.proofs.Signals.{both_at, if_on_at}
 use Rattle.pdl_law_parts.proofs.StageLooks.{read_is, word_is}
 use Rattle.pdl_word.proofs.Numbers.{eqb_self}
@@ -40,10 +47,10 @@ other_held (l ∷ ls) m a n b e = at ((l.mem == m) && (l.var == a)) refl (other_
         sym (ap (λ x. x || is_held ls n b) (ap₂ (λ i j. (i == n) && (j == b)) (eqb-true l.mem m g.0) (eqb-true l.var a g.1) ∙ e))
     at false f h = ap (λ x. ((l.mem == n) && (l.var == b)) || x) h
 
--- a row of stage k, whose variables and locations live there
+-- a row of stage k, whose variables and marks of locations live there
 pub record IsLive (p : Pipe) (k : ℕ) (x : Stmt) : Type 0 where
   pub vars : (y : ℕ) → row_uses x y ≡ true → lives_from p k y ≡ true
-  pub held : (m a : ℕ) → asks_held x.op m a ≡ true → held_from p k m a ≡ true
+  pub marks : (mark : Mark) (m a : ℕ) → asks_mark mark x.op m a ≡ true → mark_from p k mark m a ≡ true
   pub verify : is_verify x.op ≡ true → verifies_from p k ≡ true
   pub row : HasRow p x.op
 
@@ -52,6 +59,8 @@ pub record IsAround (c : Circuit) (p : Pipe) (ls : Locks) (vs : ℕ → View) (s
   pub suits : Suits c s
   pub kind : (m : ℕ) → is_locked p m ≡ true → (mem_at p m).lock ≡ as_lock (ls.kind m) (ls.size m)
   pub room : (m : ℕ) → is_locked p m ≡ true → RoomLaw (ls.stands m) (ls.size m) (ls.room m)
+  pub room2 : (m : ℕ) → is_locked p m ≡ true → Room2Law (ls.stands m) (ls.size m) (ls.room2 m)
+  pub twice : (m : ℕ) → m < length p.mems → ls.twice m ≡ reserves_twice m p.stmts
   pub ordered : (m : ℕ) → Rattle.pdl_semantics.specs.PendingLists.AreOrdered 0 (machine.lock_of st m)
   pub unlocked : (m : ℕ) → is_locked p m ≡ false → machine.lock_of st m ≡ []
   pub words : (m : ℕ) → is_locked p m ≡ false → is_delayed (mem_at p m).kind ≡ false → (a : ℕ) → a < (mem_at p m).depth
@@ -60,9 +69,10 @@ pub record IsAround (c : Circuit) (p : Pipe) (ls : Locks) (vs : ℕ → View) (s
   pub tickets : (m : ℕ) (e : is_locked p m ≡ true) → k ≤ commit_stage p m
       → holds_ticket (ls.bits m) ((vs k).tickets m) s ((locks m e).base + count_older thread (machine.lock_of st m))
 
--- of each memory with a lock at most one write is reserved
-abbrev pub HasSingles : Pipe → Deeds → Type 0
-HasSingles p d = (m : ℕ) → is_locked p m ≡ true → reserves_of m d.reserves ≤ 1
+-- of each memory with a lock a thread reserves no more writes than it may have pending, and has none pending before where it reserves one
+pub record MayReserve (p : Pipe) (st : machine.State) (thread : ℕ) (d : Deeds) : Type 0 where
+  pub few : (m : ℕ) → is_locked p m ≡ true → reserves_of m d.reserves ≤ at_most p m
+  pub fresh : (m : ℕ) → is_locked p m ≡ true → 1 ≤ reserves_of m d.reserves → entries_by thread (machine.lock_of st m) ≡ []
 
 -- guards are taken as the signals say
 taken_same : (gs : List Guard) (w : Walk) (s : State) (env : List ℕ)
@@ -97,31 +107,48 @@ module _ (c : Circuit) (p : Pipe) (ls : Locks) (vs : ℕ → View) (s : State) (
     pub on_at : IsSo p k s w d → r.on.value s ≡ bit (all_hold gs d.env)
     on_at h = on s around.suits ∙ ap bit (sym (guards_same h))
 
-    -- a row that asks nothing of the locks
-    pub quiet : (op : Op) (w' : Walk) → w'.ready ≡ w.ready
-        → ((b : Bool) → locks_ready p st thread (done st thread b op d) ≡ locks_ready p st thread d)
+    -- where nothing is reserved and no mark of late locations changes, the marks go on telling which are late
+    pub still_late : (w' : Walk) (d' : Deeds) → w'.marks Late ≡ w.marks Late → d'.reserves ≡ d.reserves
+        → MarksLate p k s st thread w d → MarksLate p k s st thread w' d'
+    still_late w' d' e f late m low twice early =
+        subst (λ (g : ℕ → ℕ → Signal). (a : ℕ) → mark_from p k Late m a ≡ true
+        → TellsLate s (g m a) thread a (entries_by thread (machine.lock_of st m) ++ new_entries m thread d'.reserves)) (sym e)
+        (subst (λ (rs : List Reserved). AreLate p k s w.marks thread m (entries_by thread (machine.lock_of st m) ++ new_entries m thread rs)) (sym f)
+        (late m low twice early))
+
+    -- a row that asks nothing of the locks, and reserves nothing
+    pub quiet : (op : Op) (w' : Walk) → w'.ready ≡ w.ready → w'.marks Late ≡ w.marks Late
+        → ((b : Bool) → (locks_ready p st thread (done st thread b op d) ≡ locks_ready p st thread d)
+        × ((done st thread b op d).reserves ≡ d.reserves))
         → (IsSo p k s w d → locks_ready p st thread d ≡ true → (b : Bool) → all_hold gs d.env ≡ b → IsSo p k s w' (done st thread b op d))
         → Follows p k s st thread w' (done st thread (all_hold gs d.env) op d)
-    quiet op w' e f g = record {
-      ready = ap (λ (h : Signal). h.value s) e ∙ q.ready ∙ ap bit (sym (f (all_hold gs d.env)));
-      so = λ z. let y = sym (f (all_hold gs d.env)) ∙ z in g (q.so y) y (all_hold gs d.env) refl;
-    }
+    quiet op w' e late f g =
+        let b = all_hold gs d.env in
+        record {
+          ready = ap (λ (h : Signal). h.value s) e ∙ q.ready ∙ ap bit (sym (f b).0);
+          so = λ z. let y = sym (f b).0 ∙ z in g (q.so y) y b refl;
+          late = λ z. still_late w' (done st thread b op d) late (f b).1 (q.late (sym (f b).0 ∙ z));
+        }
 
     -- a row that asks this of them where it is on the path
     pub asking : (op : Op) (w' : Walk) (f : Signal) (y : Bool) → w'.ready ≡ both w.ready (if_on r.on f)
         → ((b : Bool) → all_hold gs d.env ≡ b → locks_ready p st thread (done st thread b op d) ≡ (locks_ready p st thread d && (if b then y else true)))
         → (IsSo p k s w d → locks_ready p st thread d ≡ true → all_hold gs d.env ≡ true → f.value s ≡ bit y)
         → (IsSo p k s w d → (b : Bool) → all_hold gs d.env ≡ b → IsSo p k s w' (done st thread b op d))
+        → (IsSo p k s w d → MarksLate p k s st thread w d → (b : Bool) → all_hold gs d.env ≡ b → MarksLate p k s st thread w' (done st thread b op d))
         → Follows p k s st thread w' (done st thread (all_hold gs d.env) op d)
-    asking op w' f y e split told g =
+    asking op w' f y e split told g late =
         let b = all_hold gs d.env in
+        let before : locks_ready p st thread (done st thread b op d) ≡ true → locks_ready p st thread d ≡ true =
+        λ z. (and_parts (locks_ready p st thread d) (if b then y else true) (sym (split b refl) ∙ z)).0 in
         record {
           ready =
               ap (λ (h : Signal). h.value s) e
               ∙ both_at s w.ready (if_on r.on f) (locks_ready p st thread d)
               (if b then y else true) q.ready (λ z. if_on_at s r.on f b y (on_at (q.so z)) (told (q.so z) z))
               ∙ ap bit (sym (split b refl));
-          so = λ z. g (q.so (and_parts (locks_ready p st thread d) (if b then y else true) (sym (split b refl) ∙ z)).0) b refl;
+          so = λ z. g (q.so (before z)) b refl;
+          late = λ z. late (q.so (before z)) (q.late (before z)) b refl;
         }
 
     -- VARIABLES
@@ -146,15 +173,15 @@ module _ (c : Circuit) (p : Pipe) (ls : Locks) (vs : ℕ → View) (s : State) (
 
     -- where one location gets a signal of whether it is held now, and no other location changes, the signals tell what is held
     pub hold : (m a : ℕ) (f : Signal) (new : List HeldLocation)
-        → (held_from p k m a ≡ true → f.value s ≡ bit (is_held new m a))
+        → (mark_from p k Held m a ≡ true → f.value s ≡ bit (is_held new m a))
         → ((n b : ℕ) → ((m == n) && (a == b)) ≡ false → is_held new n b ≡ is_held d.held n b)
-        → IsHolding p k s w.held d.held → IsHolding p k s (with_held m a f w.held) new
+        → IsHolding p k s w.marks d.held → IsHolding p k s (with_mark Held m a f w.marks) new
     hold m a f new e other h n b live = at ((m == n) && (a == b)) refl
       where
-        at : (t : Bool) → ((m == n) && (a == b)) ≡ t → (if t then f else w.held n b).value s ≡ bit (is_held new n b)
+        at : (t : Bool) → ((m == n) && (a == b)) ≡ t → (if t then f else w.marks Held n b).value s ≡ bit (is_held new n b)
         at true g =
             let i = and_parts (m == n) (a == b) g in
-            e (subst (λ j. held_from p k j a ≡ true) (sym (eqb-true m n i.0)) (subst (λ j. held_from p k n j ≡ true) (sym (eqb-true a b i.1)) live))
+            e (subst (λ j. mark_from p k Held j a ≡ true) (sym (eqb-true m n i.0)) (subst (λ j. mark_from p k Held n j ≡ true) (sym (eqb-true a b i.1)) live))
             ∙ ap₂ (λ i j. bit (is_held new i j)) (eqb-true m n i.0) (eqb-true a b i.1)
         at false g = h n b live ∙ ap bit (sym (other n b g))
 
@@ -195,5 +222,5 @@ module _ (c : Circuit) (p : Pipe) (ls : Locks) (vs : ℕ → View) (s : State) (
       → ((s : State) → Suits c s → r.on.value s ≡ bit (taken_in gs w s)) → IsOp c p ls (vs k).tickets gs op w r → j ≡ k
       → (all_hold gs d.env ≡ true → locks_ready p st thread d ≡ true
       → (is_early p (record { stage = j; guards = gs; op = op }) ≡ true) × IsOpFine p st thread op d)
-      → HasSingles p (done st thread (all_hold gs d.env) op d) → Follows p k s st thread w d
+      → MayReserve p st thread (done st thread (all_hold gs d.env) op d) → Follows p k s st thread w d
       → Follows p k s st thread (walk_after op r ls w) (done st thread (all_hold gs d.env) op d)

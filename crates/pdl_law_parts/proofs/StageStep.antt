@@ -15,7 +15,7 @@ use Rattle.pdl_law_parts.specs.Lives.{uses_var, guards_use, lives_from}
 use Rattle.pdl_law_parts.specs.Walk.{Locks, Row, Walk, IsRow, with_var, walk_after}
 use Rattle.pdl_law_parts.specs.Views.{View}
 use Rattle.pdl_law_parts.specs.Stands.{IsSo, Follows}
-use Rattle.pdl_law_parts.proofs.StageRow.{IsLive, IsAround, done, quiet, set_env, keep_env, word_at, is_taken, is_not, early, FollowsOp, HasSingles}
+use Rattle.pdl_law_parts.proofs.StageRow.{IsLive, IsAround, done, quiet, set_env, keep_env, word_at, is_taken, is_not, early, FollowsOp, MayReserve}
 use Rattle.pdl_law_parts.proofs.StageLocks.{follows_write, follows_reserve_read, follows_reserve_write, follows_block, follows_release}
 use Rattle.pdl_law_parts.proofs.StageCalls.{follows_call, follows_fetch, follows_spec_call, follows_verify, follows_check, follows_barrier}
 use Rattle.pdl_word.proofs.Numbers.{eqb_self}
@@ -23,15 +23,16 @@ use Rattle.pdl_word.proofs.Numbers.{eqb_self}
 module _ (c : Circuit) (p : Pipe) (ls : Locks) (vs : ℕ → View) (s : State) (st : machine.State) (k thread : ℕ) (around : IsAround c p ls vs s st k thread) where
   -- a row that binds: the variable gets the expression's value
   pub follows_bind : (y : ℕ) (e : Expr) → FollowsOp c p ls vs s st k thread around (Bind y e)
-  follows_bind y e j gs r w d live on row here fine sole q =
-      quiet c p ls vs s st k thread around gs r w d glive on q (Bind y e) (with_var y r.value w) refl (λ b. same b) (λ h z b f. so h b f)
+  follows_bind y e j gs r w d live on row here fine may q =
+      quiet c p ls vs s st k thread around gs r w d glive on q (Bind y e) (with_var y r.value w) refl refl (λ b. same b) (λ h z b f. so h b f)
     where
       glive : (z : ℕ) → guards_use gs z ≡ true → lives_from p k z ≡ true
       glive z u = live.vars z (or_left (guards_use gs z) (uses_var e z) u)
 
-      same : (b : Bool) → locks_ready p st thread (done st thread b (Bind y e) d) ≡ locks_ready p st thread d
-      same true = refl
-      same false = refl
+      same : (b : Bool) → (locks_ready p st thread (done st thread b (Bind y e) d) ≡ locks_ready p st thread d)
+          × ((done st thread b (Bind y e) d).reserves ≡ d.reserves)
+      same true = (refl, refl)
+      same false = (refl, refl)
 
       so : IsSo p k s w d → (b : Bool) → all_hold gs d.env ≡ b → IsSo p k s (with_var y r.value w) (done st thread b (Bind y e) d)
       so h true f = record {
@@ -80,15 +81,16 @@ module _ (c : Circuit) (p : Pipe) (ls : Locks) (vs : ℕ → View) (s : State) (
 
   -- a row that reads at once: the variable gets the word that the thread finds
   pub follows_read : (y m a : ℕ) → FollowsOp c p ls vs s st k thread around (CombRead y m a)
-  follows_read y m a j gs r w d live on row here fine sole q =
-      quiet c p ls vs s st k thread around gs r w d glive on q (CombRead y m a) (with_var y r.value w) refl (λ b. same b) (λ h z b f. so h z b f)
+  follows_read y m a j gs r w d live on row here fine may q =
+      quiet c p ls vs s st k thread around gs r w d glive on q (CombRead y m a) (with_var y r.value w) refl refl (λ b. same b) (λ h z b f. so h z b f)
     where
       glive : (z : ℕ) → guards_use gs z ≡ true → lives_from p k z ≡ true
       glive z u = live.vars z (or_left (guards_use gs z) (a == z) u)
 
-      same : (b : Bool) → locks_ready p st thread (done st thread b (CombRead y m a) d) ≡ locks_ready p st thread d
-      same true = refl
-      same false = refl
+      same : (b : Bool) → (locks_ready p st thread (done st thread b (CombRead y m a) d) ≡ locks_ready p st thread d)
+          × ((done st thread b (CombRead y m a) d).reserves ≡ d.reserves)
+      same true = (refl, refl)
+      same false = (refl, refl)
 
       so : IsSo p k s w d → locks_ready p st thread d ≡ true → (b : Bool) → all_hold gs d.env ≡ b
           → IsSo p k s (with_var y r.value w) (done st thread b (CombRead y m a) d)
@@ -156,17 +158,17 @@ module _ (c : Circuit) (p : Pipe) (ls : Locks) (vs : ℕ → View) (s : State) (
   follows_op (DelayedRead y m a) = follows_fetch c p ls vs s st k thread around y m a
   follows_op (SpecCall args) = follows_spec_call c p ls vs s st k thread around args
   follows_op (Verify true args) = follows_verify c p ls vs s st k thread around args
-  follows_op (Verify false args) = λ j gs r w d live on row here fine sole q. absurd row
+  follows_op (Verify false args) = λ j gs r w d live on row here fine may q. absurd row
   follows_op SpecCheck = follows_check c p ls vs s st k thread around
   follows_op SpecBarrier = follows_barrier c p ls vs s st k thread around
-  follows_op (AdviceBind y e) = λ j gs r w d live on row here fine sole q. absurd row
-  follows_op (AdviceRead y m a) = λ j gs r w d live on row here fine sole q. absurd row
-  follows_op (AdviceWrite m a e) = λ j gs r w d live on row here fine sole q. absurd row
+  follows_op (AdviceBind y e) = λ j gs r w d live on row here fine may q. absurd row
+  follows_op (AdviceRead y m a) = λ j gs r w d live on row here fine may q. absurd row
+  follows_op (AdviceWrite m a e) = λ j gs r w d live on row here fine may q. absurd row
 
   -- the deeds follow after each row
   pub follows_row : (x : Stmt) (r : Row) (w : Walk) (d : Deeds) → IsLive p k x → IsRow c p ls (vs k).tickets x w r
       → x.stage ≡ k
       → (all_hold x.guards d.env ≡ true → locks_ready p st thread d ≡ true → (is_early p x ≡ true) × IsOpFine p st thread x.op d)
-      → HasSingles p (done st thread (all_hold x.guards d.env) x.op d)
+      → MayReserve p st thread (done st thread (all_hold x.guards d.env) x.op d)
       → Follows p k s st thread w d → Follows p k s st thread (walk_after x.op r ls w) (done st thread (all_hold x.guards d.env) x.op d)
-  follows_row x r w d live row here fine sole q = follows_op x.op x.stage x.guards r w d live row.on row.op here fine sole q
+  follows_row x r w d live row here fine may q = follows_op x.op x.stage x.guards r w d live row.on row.op here fine may q

@@ -12,7 +12,7 @@ use Rattle.pdl_net.specs.declared.WritePort.{WritePort}
 use Rattle.pdl_net.specs.Circuit.{Circuit, Shape, shape_of}
 use Rattle.pdl_net.specs.Meaning.{write_signal}
 use Rattle.pdl_net.specs.Pipe.{PortMem, comb_info}
-use Rattle.pdl_law_parts.specs.Declared.{port_mem, locked_of, has_lock, array_words, shape_of_mem}
+use Rattle.pdl_law_parts.specs.DeclaredMems.{port_mem, locked_of, has_lock, array_words, shape_of_mem}
 use Rattle.pdl_law_parts.proofs.WellFormedNames.{Among, name_of_mem}
 use Rattle.pdl_law_parts.proofs.WellFormedMems.{Reaches}
 use Rattle.pdl_rules.specs.Memories.{info_of}
@@ -77,30 +77,35 @@ no_write c [] e = refl
 no_write c (w ∷ ws) e = absurd (cc e)
 
 -- what holds of each locked memory
-locked_rec : (P : PortMem → Type 0) (ms : List Mem) → ((m : Mem) → Among m ms → P (port_mem m)) → AllByRecursion P (locked_of ms)
-locked_rec P [] h = tt
-locked_rec P (m ∷ ms) h = go (is_some m.lock) (h m (inl refl)) (locked_rec P ms (λ k a. h k (inr a)))
+locked_rec : (P : PortMem → Type 0) (twice : ℕ → Bool) (k : ℕ) (ms : List Mem) → ((t : Bool) (m : Mem) → Among m ms → P (port_mem t m))
+    → AllByRecursion P (locked_of twice k ms)
+locked_rec P twice k [] h = tt
+locked_rec P twice k (m ∷ ms) h = go (is_some m.lock) (h (twice k) m (inl refl)) (locked_rec P twice (suc k) ms (λ t n a. h t n (inr a)))
   where
-    go : (b : Bool) → P (port_mem m) → AllByRecursion P (locked_of ms) → AllByRecursion P ((if b then port_mem m ∷ [] else []) ++ locked_of ms)
+    go : (b : Bool) → P (port_mem (twice k) m) → AllByRecursion P (locked_of twice (suc k) ms)
+        → AllByRecursion P ((if b then port_mem (twice k) m ∷ [] else []) ++ locked_of twice (suc k) ms)
     go true x xs = (x, xs)
     go false x xs = xs
 
 -- what holds of each memory, as ports tell it, holds of all that have a lock
-pub locked_all : (P : PortMem → Type 0) (ms : List Mem) → ((m : Mem) → Among m ms → P (port_mem m)) → All P (locked_of ms)
-locked_all P ms h = All-from_recursion P (locked_of ms) (locked_rec P ms h)
+pub locked_all : (P : PortMem → Type 0) (twice : ℕ → Bool) (k : ℕ) (ms : List Mem) → ((t : Bool) (m : Mem) → Among m ms → P (port_mem t m))
+    → All P (locked_of twice k ms)
+locked_all P twice k ms h = All-from_recursion P (locked_of twice k ms) (locked_rec P twice k ms h)
 
 -- what holds of all memories that have a lock holds of each that has one
-pub locked_at : (P : PortMem → Type 0) (ms : List Mem) (m : Mem) → Among m ms
-    → is_some m.lock ≡ true → AllByRecursion P (locked_of ms) → P (port_mem m)
-locked_at P [] m a e h = absurd a
-locked_at P (x ∷ xs) m (inl s) e h = subst (λ (y : Mem). P (port_mem y)) s (go (is_some x.lock) (ap (λ (y : Mem). is_some y.lock) s ∙ e) h)
+pub locked_at : (P : PortMem → Type 0) (twice : ℕ → Bool) (k : ℕ) (ms : List Mem) (m : Mem) → Among m ms
+    → is_some m.lock ≡ true → AllByRecursion P (locked_of twice k ms) → (t : Bool) × P (port_mem t m)
+locked_at P twice k [] m a e h = absurd a
+locked_at P twice k (x ∷ xs) m (inl s) e h =
+    (twice k, subst (λ (y : Mem). P (port_mem (twice k) y)) s (go (is_some x.lock) (ap (λ (y : Mem). is_some y.lock) s ∙ e) h))
   where
-    go : (b : Bool) → b ≡ true → AllByRecursion P ((if b then port_mem x ∷ [] else []) ++ locked_of xs) → P (port_mem x)
+    go : (b : Bool) → b ≡ true → AllByRecursion P ((if b then port_mem (twice k) x ∷ [] else []) ++ locked_of twice (suc k) xs) → P (port_mem (twice k) x)
     go true t g = g.0
     go false t g = absurd (false≢true t)
-locked_at P (x ∷ xs) m (inr a) e h = locked_at P xs m a e (go (is_some x.lock) h)
+locked_at P twice k (x ∷ xs) m (inr a) e h = locked_at P twice (suc k) xs m a e (go (is_some x.lock) h)
   where
-    go : (b : Bool) → AllByRecursion P ((if b then port_mem x ∷ [] else []) ++ locked_of xs) → AllByRecursion P (locked_of xs)
+    go : (b : Bool) → AllByRecursion P ((if b then port_mem (twice k) x ∷ [] else []) ++ locked_of twice (suc k) xs)
+        → AllByRecursion P (locked_of twice (suc k) xs)
     go true g = g.1
     go false g = g
 
@@ -120,11 +125,11 @@ pub info_same : (x y : List ℕ) (a b c d : ℕ) (s t : Bool) → x ≡ y → a 
 info_same x y a b c d s t e f g h = cc
 
 -- a memory that answers at once is told as its array tells it, and its ports where it has a lock
-pub info_if : (b : Bool) (a : Array) (m : Mem)
+pub info_if : (b t : Bool) (a : Array) (m : Mem)
     → is_some m.lock ≡ b → shape_of a ≡ shape_of_mem m → Reaches m → is_delayed m.kind ≡ false
-    → info_of m ≡ comb_info a (if b then Some (port_mem m) else None)
-info_if true a m l e r d =
+    → info_of m ≡ comb_info a (if b then Some (port_mem t m) else None)
+info_if true t a m l e r d =
     info_same m.name.name a.name m.width.value m.width.value m.depth.value _ (is_delayed m.kind) false (sym (ap (λ (s : Shape). s.name) e)) refl (sym r) d
-info_if false a m l e r d =
+info_if false t a m l e r d =
     info_same m.name.name a.name m.width.value a.width m.depth.value a.depth (is_delayed m.kind) false (sym (ap (λ (s : Shape). s.name) e))
     (sym (ap (λ (s : Shape). s.width) e)) (sym (ap (λ (s : Shape). s.depth) e ∙ shallow m.lock m.depth.value l)) d

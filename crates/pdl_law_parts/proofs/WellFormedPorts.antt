@@ -10,12 +10,12 @@ use Rattle.pdl_semantics.specs.Flatten.{mems_of}
 use Rattle.pdl_rules.specs.Typed.{AreDistinct}
 use Rattle.pdl_net.specs.declared.Port.{Port}
 use Rattle.pdl_net.specs.Circuit.{Circuit, Output}
-use Rattle.pdl_net.specs.Pipe.{Head, PortMem, head_of, output, stage_ports, commit_ports}
+use Rattle.pdl_net.specs.Pipe.{Head, PortMem, head_of, output, stage_ports, first_ports, second_ports, commit_ports}
 use Rattle.pdl_net.specs.Signal.{Signal}
 use Rattle.pdl_law_parts.specs.Views.{Gates, View}
-use Rattle.pdl_law_parts.specs.Declared.{port_mem, locked_of, mem_names, FitsMem, CommitsFit, AreBitsWide}
+use Rattle.pdl_law_parts.specs.DeclaredMems.{port_mem, locked_of, mem_names, FitsMem, CommitsFit, AreBitsWide}
 use Rattle.pdl_law_parts.proofs.WellFormedMems.{Reaches, power_one}
-use Rattle.pdl_law_parts.specs.Ports.{Shown, Commit, stages_shown, commit_shown, commits_shown}
+use Rattle.pdl_law_parts.specs.Ports.{Shown, Commit, Commits, stages_shown, first_shown, second_shown, commit_shown, commits_shown}
 use Rattle.pdl_law_parts.specs.Compiled.{shown_in, port_in}
 use Rattle.pdl_law_parts.proofs.WellFormedNames.{Among, IsNone, AllDiffer, name_of_mem, name_turned, among_other, mem_none}
 use Rattle.pdl_word.proofs.Bytes.{bytes_refl, bytes_differ}
@@ -23,13 +23,13 @@ use Rattle.pdl_semantics.proofs.Facts.{lock_declared}
 
 -- ---- the locked memories
 
--- the locked memory of a name, if that memory has a lock
-abbrev pub if_some : Mem → Option PortMem
-if_some m = if is_some m.lock then Some (port_mem m) else None
+-- the locked memory of a name, if that memory has a lock, where this says whether some path reserves it twice
+abbrev pub if_some : Bool → Mem → Option PortMem
+if_some twice m = if is_some m.lock then Some (port_mem twice m) else None
 
 -- the locked memory of a name, if there is one
-abbrev pub locked_named : List Mem → List ℕ → Option PortMem
-locked_named ms n = find (λ (l : PortMem). bytes_eq l.name n) (locked_of ms)
+abbrev pub locked_named : (ℕ → Bool) → ℕ → List Mem → List ℕ → Option PortMem
+locked_named twice k ms n = find (λ (l : PortMem). bytes_eq l.name n) (locked_of twice k ms)
 
 found_first : (b : Bool) (l : PortMem) (ls : List PortMem) (n : List ℕ)
     → bytes_eq l.name n ≡ false
@@ -37,9 +37,11 @@ found_first : (b : Bool) (l : PortMem) (ls : List PortMem) (n : List ℕ)
 found_first true l ls n e = ap (λ c. if c then Some l else find (λ (k : PortMem). bytes_eq k.name n) ls) e
 found_first false l ls n e = refl
 
-none_named : (ms : List Mem) (n : List ℕ) → IsNone n (map name_of_mem ms) → locked_named ms n ≡ None
-none_named [] n h = refl
-none_named (m ∷ ms) n h = found_first (is_some m.lock) (port_mem m) (locked_of ms) n (bytes_differ m.name.name n (λ s. h.0 (sym s))) ∙ none_named ms n h.1
+none_named : (twice : ℕ → Bool) (k : ℕ) (ms : List Mem) (n : List ℕ) → IsNone n (map name_of_mem ms) → locked_named twice k ms n ≡ None
+none_named twice k [] n h = refl
+none_named twice k (m ∷ ms) n h =
+    found_first (is_some m.lock) (port_mem (twice k) m) (locked_of twice (suc k) ms) n (bytes_differ m.name.name n (λ s. h.0 (sym s)))
+    ∙ none_named twice (suc k) ms n h.1
 
 found_here : (b : Bool) (l : PortMem) (ls : List PortMem) → find (λ (k : PortMem). bytes_eq k.name l.name) ls ≡ None
     → find (λ (k : PortMem). bytes_eq k.name l.name) ((if b then l ∷ [] else []) ++ ls) ≡ (if b then Some l else None)
@@ -47,14 +49,22 @@ found_here true l ls h = ap (λ c. if c then Some l else find (λ (k : PortMem).
 found_here false l ls h = h
 
 -- the locked memory of a memory's name is that memory, if it has a lock
-pub found : (ms : List Mem) → AreDistinct ms → (m : Mem) → Among m ms → locked_named ms m.name.name ≡ if_some m
-found [] h m a = absurd a
-found (x ∷ xs) h m (inl s) =
-    subst (λ (y : Mem). locked_named (x ∷ xs) y.name.name ≡ if_some y) s
-    (found_here (is_some x.lock) (port_mem x) (locked_of xs) (none_named xs x.name.name (mem_none x.name.name xs h.0)))
-found (x ∷ xs) h m (inr a) =
-    found_first (is_some x.lock) (port_mem x) (locked_of xs) m.name.name (name_turned m.name.name x.name.name (among_other x.name.name xs m h.0 a))
-    ∙ found xs h.1 m a
+pub found : (twice : ℕ → Bool) (k : ℕ) (ms : List Mem) → AreDistinct ms → (m : Mem) → Among m ms
+    → (t : Bool) × (locked_named twice k ms m.name.name ≡ if_some t m)
+found twice k [] h m a = absurd a
+found twice k (x ∷ xs) h m (inl s) = (
+  twice k,
+  subst (λ (y : Mem). locked_named twice k (x ∷ xs) y.name.name ≡ if_some (twice k) y) s
+      (found_here (is_some x.lock) (port_mem (twice k) x) (locked_of twice (suc k) xs)
+      (none_named twice (suc k) xs x.name.name (mem_none x.name.name xs h.0))),
+)
+found twice k (x ∷ xs) h m (inr a) =
+    let rest = found twice (suc k) xs h.1 m a in (
+      rest.0,
+      found_first (is_some x.lock) (port_mem (twice k) x) (locked_of twice (suc k) xs) m.name.name
+          (name_turned m.name.name x.name.name (among_other x.name.name xs m h.0 a))
+          ∙ rest.1,
+    )
 
 -- ---- heads
 
@@ -83,13 +93,26 @@ stages_heads vs gates moves total (suc n) k e h =
 
 -- ---- commits
 
-commit_head : (m : Mem) (x : Commit) → Reaches m → FitsMem m x → map head_shown (commit_shown m.name.name x) ≡ commit_ports (port_mem m)
-commit_head m x r w =
+first_head : (twice : Bool) (m : Mem) (x : Commit) → Reaches m → FitsMem m x → map head_shown (first_shown m.name.name x) ≡ first_ports (port_mem twice m)
+first_head twice m x r w =
     ap
     (λ e. output (codes "c_" ++ m.name.name) e ∷ output (codes "ca_" ++ m.name.name) x.addr.width
     ∷ output (codes "cd_" ++ m.name.name) x.value.width ∷ []) w.enable
     ∙ ap₂ (λ a v. output (codes "c_" ++ m.name.name) 1 ∷ output (codes "ca_" ++ m.name.name) a ∷ output (codes "cd_" ++ m.name.name) v ∷ [])
     (power_one _ _ (w.reach ∙ sym r)) w.value
+
+second_head : (twice : Bool) (m : Mem) (x : Commit) → Reaches m → FitsMem m x → map head_shown (second_shown m.name.name x) ≡ second_ports (port_mem twice m)
+second_head twice m x r w =
+    ap
+    (λ e. output (codes "c2_" ++ m.name.name) e ∷ output (codes "ca2_" ++ m.name.name) x.addr.width
+    ∷ output (codes "cd2_" ++ m.name.name) x.value.width ∷ []) w.enable
+    ∙ ap₂ (λ a v. output (codes "c2_" ++ m.name.name) 1 ∷ output (codes "ca2_" ++ m.name.name) a ∷ output (codes "cd2_" ++ m.name.name) v ∷ [])
+    (power_one _ _ (w.reach ∙ sym r)) w.value
+
+commit_head : (twice : Bool) (m : Mem) (x : Commits) → Reaches m → FitsMem m x.first × FitsMem m x.second
+    → map head_shown (commit_shown m.name.name twice x) ≡ commit_ports (port_mem twice m)
+commit_head true m x r w = ap₂ (λ a b. a ++ b) (first_head true m x.first r w.0) (second_head true m x.second r w.1)
+commit_head false m x r w = ap (λ a. a ++ []) (first_head false m x.first r w.0)
 
 commit_heads_if : (b : Bool) (xs : List Shown) (l : PortMem) (rest : List Shown) (ls : List PortMem)
     → (b ≡ true → map head_shown xs ≡ commit_ports l) → map head_shown rest ≡ flat_map commit_ports ls
@@ -98,18 +121,19 @@ commit_heads_if true xs l rest ls e f = map-append head_shown xs rest ∙ ap₂ 
 commit_heads_if false xs l rest ls e f = f
 
 -- the commit outputs have the names, directions and widths of those of the memories with a lock
-pub commit_heads : (names : ℕ → List ℕ) (commits : ℕ → Commit) (k : ℕ) (ms : List Mem)
+pub commit_heads : (names : ℕ → List ℕ) (twice : ℕ → Bool) (commits : ℕ → Commits) (k : ℕ) (ms : List Mem)
     → ((i : ℕ) → i < length ms → names (k + i) ≡ mem_names ms i) → ((m : Mem) → Among m ms → Reaches m)
     → CommitsFit commits k ms
-    → map head_shown (commits_shown names commits k (mems_of ms)) ≡ flat_map commit_ports (locked_of ms)
-commit_heads names commits k [] f r h = refl
-commit_heads names commits k (x ∷ xs) f r h =
+    → map head_shown (commits_shown names twice commits k (mems_of ms)) ≡ flat_map commit_ports (locked_of twice k ms)
+commit_heads names twice commits k [] f r h = refl
+commit_heads names twice commits k (x ∷ xs) f r h =
     let here : names k ≡ x.name.name = ap names (let z : k ≡ k + 0 = omega arith in z) ∙ f 0 (omega arith) in
-    ap (λ b. map head_shown ((if b then commit_shown (names k) (commits k) else []) ++ commits_shown names commits (suc k) (mems_of xs))) (lock_declared x.lock)
-    ∙ ap (λ n. map head_shown ((if is_some x.lock then commit_shown n (commits k) else []) ++ commits_shown names commits (suc k) (mems_of xs))) here
-    ∙ commit_heads_if (is_some x.lock) (commit_shown x.name.name (commits k)) (port_mem x) (commits_shown names commits (suc k) (mems_of xs)) (locked_of xs)
-    (λ e. commit_head x (commits k) (r x (inl refl)) (h.0 e))
-    (commit_heads names commits (suc k) xs (λ i l. ap names (let z : suc k + i ≡ k + suc i = omega arith in z) ∙ f (suc i) (omega (arith, l)))
+    let rest = commits_shown names twice commits (suc k) (mems_of xs) in
+    ap (λ b. map head_shown ((if b then commit_shown (names k) (twice k) (commits k) else []) ++ rest)) (lock_declared x.lock)
+    ∙ ap (λ n. map head_shown ((if is_some x.lock then commit_shown n (twice k) (commits k) else []) ++ rest)) here
+    ∙ commit_heads_if (is_some x.lock) (commit_shown x.name.name (twice k) (commits k)) (port_mem (twice k) x) rest (locked_of twice (suc k) xs)
+    (λ e. commit_head (twice k) x (commits k) (r x (inl refl)) (h.0 e))
+    (commit_heads names twice commits (suc k) xs (λ i l. ap names (let z : suc k + i ≡ k + suc i = omega arith in z) ∙ f (suc i) (omega (arith, l)))
     (λ m a. r m (inr a)) h.1)
 
 -- the last two ports
@@ -150,20 +174,22 @@ abbrev pub AreFree : List PortMem → Type 0
 AreFree [] = ⊤
 AreFree (l ∷ ls) = IsFree l.name ls × AreFree ls
 
-locked_free : (n : List ℕ) (ms : List Mem) → IsNone n (map name_of_mem ms) → IsFree n (locked_of ms)
-locked_free n [] h = tt
-locked_free n (m ∷ ms) h = go (is_some m.lock) (locked_free n ms h.1)
+locked_free : (twice : ℕ → Bool) (k : ℕ) (n : List ℕ) (ms : List Mem) → IsNone n (map name_of_mem ms) → IsFree n (locked_of twice k ms)
+locked_free twice k n [] h = tt
+locked_free twice k n (m ∷ ms) h = go (is_some m.lock) (locked_free twice (suc k) n ms h.1)
   where
-    go : (b : Bool) → IsFree n (locked_of ms) → IsFree n ((if b then port_mem m ∷ [] else []) ++ locked_of ms)
+    go : (b : Bool) → IsFree n (locked_of twice (suc k) ms) → IsFree n ((if b then port_mem (twice k) m ∷ [] else []) ++ locked_of twice (suc k) ms)
     go true f = (h.0, f)
     go false f = f
 
 -- no two memories with a lock have one name, where the memories are distinct
-pub all_free : (ms : List Mem) → AreDistinct ms → AreFree (locked_of ms)
-all_free [] h = tt
-all_free (m ∷ ms) h = go (is_some m.lock) (locked_free m.name.name ms (mem_none m.name.name ms h.0)) (all_free ms h.1)
+pub all_free : (twice : ℕ → Bool) (k : ℕ) (ms : List Mem) → AreDistinct ms → AreFree (locked_of twice k ms)
+all_free twice k [] h = tt
+all_free twice k (m ∷ ms) h =
+    go (is_some m.lock) (locked_free twice (suc k) m.name.name ms (mem_none m.name.name ms h.0)) (all_free twice (suc k) ms h.1)
   where
-    go : (b : Bool) → IsFree m.name.name (locked_of ms) → AreFree (locked_of ms) → AreFree ((if b then port_mem m ∷ [] else []) ++ locked_of ms)
+    go : (b : Bool) → IsFree m.name.name (locked_of twice (suc k) ms) → AreFree (locked_of twice (suc k) ms)
+        → AreFree ((if b then port_mem (twice k) m ∷ [] else []) ++ locked_of twice (suc k) ms)
     go true f fs = (f, fs)
     go false f fs = fs
 

@@ -2,6 +2,7 @@
 use Rattle.std.specs.Prelude.{◌≡◌, ℕ, ◌==◌, ◌<◌, ◌≤◌, true, false, [], map, length, slice_index, slice_index_or, if◌then◌else◌}
 use Rattle.pdl_semantics.specs.Flat.{Pipe, is_delayed, start_env}
 use Rattle.pdl_semantics.specs.Stages.{in_stage, mem_at, reserve_stage, commit_stage}
+use Rattle.pdl_semantics.specs.SecondWrites.{reserves_twice}
 use Rattle.pdl_net.specs.declared.Dir.TheVariants.{Out}
 use Rattle.pdl_net.specs.declared.Port.{Port}
 use Rattle.pdl_net.specs.declared.Reg.{Reg}
@@ -12,11 +13,13 @@ use Rattle.pdl_net.specs.Cycle.{next_regs}
 use Rattle.pdl_net.specs.Well.{Suits}
 use Rattle.pdl_net.specs.Growth.{Own}
 use Rattle.pdl_lockapi.specs.Laws.{RoomLaw, TicketLaw, StepLaw}
+use Rattle.pdl_lockapi.specs.Second.{Room2Law, Commit2Law}
 use Rattle.pdl_lockapi.specs.Forget.{as_lock}
-use Rattle.pdl_law_parts.specs.Lives.{lives_from, held_from, verifies_from}
+use Rattle.pdl_law_parts.specs.declared.Mark.{Mark}
+use Rattle.pdl_law_parts.specs.Lives.{lives_from, mark_from, verifies_from}
 use Rattle.pdl_law_parts.specs.Walk.{Locks, is_locked, one, zero_bit, IsFresh, AreRows}
 use Rattle.pdl_law_parts.specs.Views.{View, Gates, Comer, moves_where, comers, first_coming}
-use Rattle.pdl_law_parts.specs.Ports.{Shown, Commit, step_of}
+use Rattle.pdl_law_parts.specs.Ports.{Shown, Commits, step_of}
 
 -- two signals have the same value; one has in the next cycle the value of the other; one begins with a value
 abbrev pub Same : Circuit → Signal → Signal → Type 0
@@ -39,39 +42,45 @@ pub record IsStage (p : Pipe) (ls : Locks) (c : Circuit) (vs : ℕ → View) (ga
   pub valid : Becomes c (vs k).valid
       (first_coming (λ (o : Comer). one) (comers p vs moves k) (mux_signal (moves k) zero_bit (mux_signal (gates.kill k) zero_bit (vs k).valid)))
   pub vars : (x : ℕ) → lives_from p k x ≡ true → Becomes c ((vs k).kept x) (first_coming (λ (o : Comer). o.vars x) (comers p vs moves k) ((vs k).begun.vars x))
-  pub held : (m a : ℕ) → held_from p k m a ≡ true
-      → Becomes c ((vs k).begun.held m a) (first_coming (λ (o : Comer). o.held m a) (comers p vs moves k) ((vs k).begun.held m a))
+  pub marks : (mark : Mark) (m a : ℕ) → mark_from p k mark m a ≡ true
+      → Becomes c ((vs k).begun.marks mark m a) (first_coming (λ (o : Comer). o.marks mark m a) (comers p vs moves k) ((vs k).begun.marks mark m a))
   pub guess_long : length (vs k).begun.guess ≡ length p.start
   pub guess : (i : ℕ) → i < length p.start → verifies_from p k ≡ true
       → Becomes c (slice_index_or (vs k).begun.guess i no_signal)
       (first_coming (λ (o : Comer). o.guess i) (comers p vs moves k) (slice_index_or (vs k).begun.guess i no_signal))
-  -- a thread's ticket of a lock is the next one up to the stage of the reserves, and goes with it up to that of the releases
+  -- a thread's ticket of a lock, with the bits of tickets, is the next one up to the stage of the reserves, and goes with it up to that of the releases
+  pub tickets_wide : (m : ℕ) → is_locked p m ≡ true → ((vs k).tickets m).width ≡ ls.bits m
   pub tickets_first : (m : ℕ) → is_locked p m ≡ true → k ≤ reserve_stage p m → Same c ((vs k).tickets m) (ls.ticket m)
   pub tickets : (m : ℕ) → is_locked p m ≡ true → reserve_stage p m < k → k ≤ commit_stage p m
       → Becomes c ((vs k).tickets m) (first_coming (λ (o : Comer). o.tickets m) (comers p vs moves k) ((vs k).tickets m))
 
--- at the start stage 0 holds the first thread's arguments, and nothing is held
+-- at the start stage 0 holds the first thread's arguments, and no location is marked
 pub record IsStart (p : Pipe) (c : Circuit) (vs : ℕ → View) : Type 0 where
   pub long : length p.start ≤ p.vars
   pub vars : (x : ℕ) → lives_from p 0 x ≡ true → StartsAs c ((vs 0).kept x) (slice_index (start_env p p.start) x)
-  pub held : (m a : ℕ) → held_from p 0 m a ≡ true → StartsAs c ((vs 0).begun.held m a) 0
+  pub marks : (mark : Mark) (m a : ℕ) → mark_from p 0 mark m a ≡ true → StartsAs c ((vs 0).begun.marks mark m a) 0
 
 -- of a memory's lock what a cycle rests on: its own registers and arrays are there, and the laws of its nets
 pub record GoesOn (p : Pipe) (ls : Locks) (c : Circuit) (vs : ℕ → View) (gates : Gates) (moves : ℕ → Signal) (own : Own)
-    (commit : Commit) (m : ℕ) : Type 0 where
+    (commits : Commits) (m : ℕ) : Type 0 where
   pub kind : (mem_at p m).lock ≡ as_lock (ls.kind m) (ls.size m)
   pub regs : (r : ℕ) → own.from ≤ r → r < own.to → HasReg c r
   pub arrays : (i : ℕ) → own.first ≤ i → i < own.last → HasArray c i
   pub room : RoomLaw (ls.stands m) (ls.size m) (ls.room m)
+  pub room2 : Room2Law (ls.stands m) (ls.size m) (ls.room2 m)
   pub ticket : TicketLaw (ls.stands m) (ls.bits m) (ls.ticket m)
-  pub step : StepLaw (ls.stands m) (ls.size m) (ls.bits m) own c (step_of p vs gates moves m) commit.enable commit.addr commit.value
+  pub step : StepLaw (ls.stands m) (ls.size m) (ls.bits m) own c (step_of p vs gates moves m)
+      commits.first.enable commits.first.addr commits.first.value
+  pub second : Commit2Law (ls.stands m) (ls.size m) (ls.bits m) (step_of p vs gates moves m)
+      commits.second.enable commits.second.addr commits.second.value
 
 -- the stages and the locks, whatever stands beside them; a memory that answers at once has an array, which is never written where it has no lock
 pub record IsLaid (p : Pipe) (ls : Locks) (vs : ℕ → View) (gates : Gates) (moves : ℕ → Signal) (c : Circuit) : Type 0 where
   pub stages : (k : ℕ) → k < length p.stages → IsStage p ls c vs gates moves k
   pub begins : IsStart p c vs
   pub owns : ℕ → Own
-  pub commits : ℕ → Commit
+  pub commits : ℕ → Commits
+  pub twice : (m : ℕ) → m < length p.mems → ls.twice m ≡ reserves_twice m p.stmts
   pub locks : (m : ℕ) → is_locked p m ≡ true → GoesOn p ls c vs gates moves (owns m) (commits m) m
   pub arrays : (m : ℕ) → m < length p.mems → is_delayed (mem_at p m).kind ≡ false → HasArray c (ls.array m)
   pub unwritten : (m : ℕ) → m < length p.mems → is_locked p m ≡ false → is_delayed (mem_at p m).kind ≡ false → write_signals c (ls.array m) ≡ []

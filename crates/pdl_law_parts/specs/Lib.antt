@@ -8,6 +8,6 @@ pub mod Compiled
 pub mod Stands
 pub mod Served
 pub mod Beside
-pub mod Declared
+pub mod DeclaredMems
 pub mod Runs
 pub mod States

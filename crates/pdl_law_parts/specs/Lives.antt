@@ -1,8 +1,10 @@
--- Which variables, and which held locations, the rows from a stage on still use.
+-- Which variables, and which marks of locations, the rows from a stage on still use.
 use Rattle.std.specs.Prelude.{ℕ, Bool, false, ◌==◌, ◌&&◌, ◌||◌, List, [], ◌∷◌, nat_le, drop}
 use Rattle.pdl_semantics.specs.Flat.{Expr, Op, Bind, CombRead, DelayedRead, Write, ReserveRead, ReserveWrite, Block, Release, Call, SpecCall, Verify, SpecCheck, SpecBarrier, AdviceBind, AdviceRead, AdviceWrite, Guard, Stmt, Next, Ends, Goes, Forks, Stage, Pipe}
 use Rattle.pdl_semantics.specs.Stages.{list_any, is_verify}
 use Rattle.pdl_theory_facts.specs.Facts.{uses_in, uses_any}
+use Rattle.pdl_law_parts.specs.declared.Mark.{Mark}
+use Rattle.pdl_law_parts.specs.declared.Mark.TheVariants.{Held, Late}
 
 -- whether an expression uses a variable
 abbrev pub uses_var : Expr → ℕ → Bool
@@ -69,9 +71,33 @@ asks_held (AdviceBind _ _) m a = false
 asks_held (AdviceRead _ _ _) m a = false
 asks_held (AdviceWrite _ _ _) m a = false
 
+-- a row asks whether the reservation of a location is the second one: its write goes by that
+abbrev pub asks_late : Op → ℕ → ℕ → Bool
+asks_late (Bind _ _) m a = false
+asks_late (CombRead _ _ _) m a = false
+asks_late (DelayedRead _ _ _) m a = false
+asks_late (Write n b _) m a = (n == m) && (b == a)
+asks_late (ReserveRead _ _) m a = false
+asks_late (ReserveWrite _ _) m a = false
+asks_late (Block _ _) m a = false
+asks_late (Release _ _) m a = false
+asks_late (Call _) m a = false
+asks_late (SpecCall _) m a = false
+asks_late (Verify _ _) m a = false
+asks_late SpecCheck m a = false
+asks_late SpecBarrier m a = false
+asks_late (AdviceBind _ _) m a = false
+asks_late (AdviceRead _ _ _) m a = false
+asks_late (AdviceWrite _ _ _) m a = false
+
+-- a row asks for a mark of a location
+abbrev pub asks_mark : Mark → Op → ℕ → ℕ → Bool
+asks_mark Held op m a = asks_held op m a
+asks_mark Late op m a = asks_late op m a
+
 -- one of a stage from k on does
-abbrev pub held_from : Pipe → ℕ → ℕ → ℕ → Bool
-held_from p k m a = list_any (λ (r : Stmt). nat_le k r.stage && asks_held r.op m a) p.stmts
+abbrev pub mark_from : Pipe → ℕ → Mark → ℕ → ℕ → Bool
+mark_from p k mark m a = list_any (λ (r : Stmt). nat_le k r.stage && asks_mark mark r.op m a) p.stmts
 
 -- a row of a stage from k on verifies the guess
 abbrev pub verifies_from : Pipe → ℕ → Bool

@@ -4,7 +4,7 @@ use Rattle.pdl_kit.specs.declared.mem_info.MemInfo.{MemInfo}
 use Rattle.pdl_semantics.specs.Lines.{Column, Put, Cycle, lines}
 use Rattle.pdl_net.specs.declared.Netlist.{Netlist}
 use Rattle.pdl_net.specs.Circuit.{Output, circuit_of, outputs_of}
-use Rattle.pdl_net.specs.Run.{Shown, nports, commit_of}
+use Rattle.pdl_net.specs.Run.{Shown, nports, commit_of, commit2_of}
 
 -- what is seen of a cycle: the values of the ports, and whether it is a wait
 pub record Seen : Type 0 where
@@ -19,10 +19,14 @@ seen_of x = record { ports = x.ports; wait = x.waited }
 abbrev pub column_of : MemInfo → Column
 column_of m = record { name = m.name; width = m.width }
 
--- what a memory commits in a cycle, as lines show it
+-- a commit, where there is one, as lines show it
 abbrev pub puts_of : Option (ℕ × ℕ) → List Put
 puts_of None = []
 puts_of (Some (address, value)) = record { address = address; value = value } ∷ []
+
+-- what a memory of this name commits in a cycle that shows these ports, as lines show it: the first commit before the second
+abbrev pub puts_in : Netlist → List ℕ → List ℕ → List Put
+puts_in n ports name = puts_of (commit_of (circuit_of n) ports name) ++ puts_of (commit2_of (circuit_of n) ports name)
 
 -- how many outputs there are; `ended` and `squash` are the last two of them
 abbrev pub output_count : Netlist → ℕ
@@ -31,7 +35,7 @@ output_count n = length (outputs_of (circuit_of n))
 -- a cycle by what these memories commit, by the names of their ports
 abbrev pub cycle_by : Netlist → List MemInfo → Shown → Cycle
 cycle_by n mems seen = record {
-  puts = map (λ (m : MemInfo). puts_of (commit_of (circuit_of n) seen.ports m.name)) mems;
+  puts = map (λ (m : MemInfo). puts_in n seen.ports m.name) mems;
   ended = slice_index seen.ports (output_count n - 2) == 1;
   wait = seen.waited;
   squash = slice_index seen.ports (output_count n - 1) == 1;

@@ -1,28 +1,40 @@
 -- A state of the netlist that stands for a state of the machine, and what the signals of a stage then are.
-use Rattle.std.specs.Prelude.{◌≡◌, ℕ, suc, ◌+◌, ◌<◌, ◌≤◌, Bool, true, false, not, List, [], ◌∷◌, map, length, slice_index, slice_index_or, Option, Some, None, is_some, if◌then◌else◌, ⊤}
+use Rattle.std.specs.Prelude.{◌≡◌, ℕ, suc, ◌+◌, ◌<◌, ◌≤◌, Bool, true, false, not, List, [], ◌∷◌, ◌++◌, map, length, slice_index, slice_index_or, Option, Some, None, is_some, if◌then◌else◌, nat_lt, ⊤}
 use Rattle.pdl_word.specs.Words.{bit}
 use Rattle.pdl_semantics.specs.Flat.{Pipe, is_delayed}
-use Rattle.pdl_semantics.specs.Stages.{mem_at, commit_stage}
+use Rattle.pdl_semantics.specs.Stages.{mem_at, reserve_stage, commit_stage}
 use Rattle.pdl_semantics.specs.Machine as machine
-use Rattle.pdl_semantics.specs.Machine.{Thread, Reserved, Written, Deeds, deeds, held_before, is_held, with_kept}
-use Rattle.pdl_semantics.specs.Cycle.{is_kept, squasher, all_releases, list_three}
+use Rattle.pdl_semantics.specs.Machine.{Thread, Pending, Reserved, Written, Deeds, deeds, held_before, is_held, with_kept}
+use Rattle.pdl_semantics.specs.Cycle.{is_kept, squasher, all_releases, list_three, new_entries}
+use Rattle.pdl_semantics.specs.Sound.{entries_by}
 use Rattle.pdl_net.specs.Circuit.{State}
 use Rattle.pdl_net.specs.Signal.{Signal}
 use Rattle.pdl_lockapi.specs.Laws.{FitsIn, holds_ticket}
-use Rattle.pdl_lockapi.specs.Forget.{lock_state_of}
+use Rattle.pdl_lockapi.specs.Forget.{lock_state_of, has_place, place_of, IsOnce}
 use Rattle.pdl_machine_facts.specs.Slots.{slot, here, locks_ready, stage_moves, moving}
-use Rattle.pdl_law_parts.specs.Lives.{lives_from, held_from, verifies_from}
+use Rattle.pdl_law_parts.specs.declared.Mark.{Mark}
+use Rattle.pdl_law_parts.specs.declared.Mark.TheVariants.{Held, Late}
+use Rattle.pdl_law_parts.specs.Lives.{lives_from, mark_from, verifies_from}
 use Rattle.pdl_law_parts.specs.Walk.{Locks, Reservation, Put, Letting, Birth, Ask, Walk, is_locked, is_on, values_at}
 use Rattle.pdl_law_parts.specs.Views.{View, Gates}
 use Rattle.pdl_semantics.specs.PendingLists.{count_older}
+use Rattle.pdl_semantics.specs.SecondWrites.{reserves_twice}
 
 -- values are those of the variables' signals, as far as they live from stage k on; and so is what is held
 abbrev pub IsEnv : Pipe → ℕ → State → (ℕ → Signal) → List ℕ → Type 0
 IsEnv p k s vars env = (x : ℕ) → lives_from p k x ≡ true → slice_index env x ≡ (vars x).value s
 
 -- the signals tell which locations are held, as far as rows from stage k on ask for it
-abbrev pub IsHolding : Pipe → ℕ → State → (ℕ → ℕ → Signal) → List machine.HeldLocation → Type 0
-IsHolding p k s held places = (m a : ℕ) → held_from p k m a ≡ true → (held m a).value s ≡ bit (is_held places m a)
+abbrev pub IsHolding : Pipe → ℕ → State → (Mark → ℕ → ℕ → Signal) → List machine.HeldLocation → Type 0
+IsHolding p k s marks places = (m a : ℕ) → mark_from p k Held m a ≡ true → (marks Held m a).value s ≡ bit (is_held places m a)
+
+-- a signal tells whether the pending write of a thread's variable is not the first of these, where there is one
+abbrev pub TellsLate : State → Signal → ℕ → ℕ → List Pending → Type 0
+TellsLate s late thread a es = has_place thread a es ≡ true → IsOnce thread a es → late.value s ≡ bit (nat_lt 0 (place_of thread a es))
+
+-- the signals tell which locations of memory m are late, as far as writes from stage k on ask for it, by the thread's pending writes of the memory
+abbrev pub AreLate : Pipe → ℕ → State → (Mark → ℕ → ℕ → Signal) → ℕ → ℕ → List Pending → Type 0
+AreLate p k s marks thread m es = (a : ℕ) → mark_from p k Late m a ≡ true → TellsLate s (marks Late m a) thread a es
 
 -- where a verify is still to come, and a guess was made, its arguments are those of the signals
 abbrev pub IsGuess : Pipe → ℕ → State → List Signal → List ℕ → Type 0
@@ -38,6 +50,9 @@ pub record StandsLock (p : Pipe) (ls : Locks) (vs : ℕ → View) (s : State) (s
   pub few : length (machine.lock_of st m) ≤ ls.size m
   pub tickets : (k : ℕ) (t : Thread) → slot st k ≡ Some t → k ≤ commit_stage p m
       → holds_ticket (ls.bits m) ((vs k).tickets m) s (base + count_older t.number (machine.lock_of st m))
+  -- after the stage of the reserves the marks of a thread tell which of its two pending writes is the second one
+  pub late : ls.twice m ≡ true → (k : ℕ) (t : Thread) → slot st k ≡ Some t → reserve_stage p m < k → k ≤ commit_stage p m
+      → AreLate p k s (vs k).begun.marks t.number m (entries_by t.number (machine.lock_of st m))
 
 -- a state of the netlist stands for one of the machine: which stages hold a thread, what it has, memories' words, and locks
 pub record StandsFor (p : Pipe) (ls : Locks) (vs : ℕ → View) (s : State) (st : machine.State) : Type 0 where
@@ -46,7 +61,7 @@ pub record StandsFor (p : Pipe) (ls : Locks) (vs : ℕ → View) (s : State) (st
   pub env : (k : ℕ) (t : Thread) → slot st k ≡ Some t → IsEnv p k s (vs k).kept (with_kept t.kept t.env)
   -- no value is advised
   pub advice : (k : ℕ) (t : Thread) → slot st k ≡ Some t → t.advice ≡ []
-  pub held : (k : ℕ) (t : Thread) → slot st k ≡ Some t → IsHolding p k s (vs k).begun.held (held_before k t.env p.stmts [])
+  pub held : (k : ℕ) (t : Thread) → slot st k ≡ Some t → IsHolding p k s (vs k).begun.marks (held_before k t.env p.stmts [])
   pub guess : (k : ℕ) (t : Thread) → slot st k ≡ Some t → IsGuess p k s (vs k).begun.guess t.guess
   pub words : (m : ℕ) → is_locked p m ≡ false → is_delayed (mem_at p m).kind ≡ false → (a : ℕ) → a < (mem_at p m).depth
       → st.arrays m a ≡ slice_index (slice_index_or s.arrays (ls.array m) []) a
@@ -98,7 +113,7 @@ pub record IsSo (p : Pipe) (k : ℕ) (s : State) (w : Walk) (d : Deeds) : Type 0
   pub env : IsEnv p k s w.vars d.env
   pub advice : d.advice ≡ []
   pub advises : d.advises ≡ []
-  pub held : IsHolding p k s w.held d.held
+  pub held : IsHolding p k s w.marks d.held
   pub reserves : d.reserves ≡ reserved_in s w.reserves
   pub fits : AddressesFit s w.reserves
   pub writes : d.writes ≡ written_in s w.puts
@@ -112,10 +127,20 @@ pub record IsSo (p : Pipe) (k : ℕ) (s : State) (w : Walk) (d : Deeds) : Type 0
   pub fails : w.fails.value s ≡ bit d.fails
   pub barrier : w.barrier.value s ≡ bit d.barrier
 
+-- the thread's pending writes of memory m, with those that it reserves in its stage
+abbrev pub own_entries : machine.State → ℕ → Deeds → ℕ → List Pending
+own_entries st thread d m = entries_by thread (machine.lock_of st m) ++ new_entries m thread d.reserves
+
+-- the walk's marks tell which locations of the thread are late, of each memory that some path reserves twice, up to the stage of its releases
+abbrev pub MarksLate : Pipe → ℕ → State → machine.State → ℕ → Walk → Deeds → Type 0
+MarksLate p k s st thread w d = (m : ℕ) → m < length p.mems → reserves_twice m p.stmts ≡ true → k ≤ commit_stage p m
+    → AreLate p k s w.marks thread m (own_entries st thread d m)
+
 -- the walk tells whether the locks let the thread move, and as long as they do what it does
 pub record Follows (p : Pipe) (k : ℕ) (s : State) (st : machine.State) (thread : ℕ) (w : Walk) (d : Deeds) : Type 0 where
   pub ready : w.ready.value s ≡ bit (locks_ready p st thread d)
   pub so : locks_ready p st thread d ≡ true → IsSo p k s w d
+  pub late : locks_ready p st thread d ≡ true → MarksLate p k s st thread w d
 
 -- a stage in a state: whether it holds a thread, whether that moves, and what it does
 pub record IsSeen (p : Pipe) (vs : ℕ → View) (moves : ℕ → Signal) (s : State) (st : machine.State) (bits : List Bool) (k : ℕ) : Type 0 where

@@ -4,6 +4,7 @@ use Rattle.pdl_semantics.specs.Flat.{Next, Ends, Goes, Forks, Pipe}
 use Rattle.pdl_semantics.specs.Stages.{stage_at}
 use Rattle.pdl_net.specs.Signal.{Signal, no_signal, mux_signal}
 use Rattle.pdl_machine_facts.specs.Slots.{ways}
+use Rattle.pdl_law_parts.specs.declared.Mark.{Mark}
 use Rattle.pdl_law_parts.specs.Walk.{Locks, Birth, Walk, one, zero_bit, both}
 
 -- a stage: whether it holds a thread, that thread's variables as they were kept and its ticket of each lock, and the walk before and after its rows; the walk begins with the answers of this cycle
@@ -44,11 +45,11 @@ moves_where p vs gate moves k =
 
 -- ---- who comes
 
--- a thread that may come into a stage: whether it comes, its variables, what it holds, its tickets, and its guess
+-- a thread that may come into a stage: whether it comes, its variables, the marks of its locations, its tickets, and its guess
 pub record Comer : Type 0 where
   pub comes : Signal
   pub vars : ℕ → Signal
-  pub held : ℕ → ℕ → Signal
+  pub marks : Mark → ℕ → ℕ → Signal
   pub tickets : ℕ → Signal
   pub guess : ℕ → Signal
 
@@ -63,7 +64,7 @@ abbrev pub out_of : Pipe → (ℕ → View) → (ℕ → Signal) → ℕ → ℕ
 out_of p vs moves q j = record {
   comes = both (moves j) (branch (stage_at p j).next q (vs j).ended);
   vars = (vs j).ended.vars;
-  held = (vs j).ended.held;
+  marks = (vs j).ended.marks;
   tickets = (vs j).tickets;
   guess = λ i. slice_index_or (vs j).ended.guess i no_signal;
 }
@@ -73,7 +74,7 @@ abbrev pub new_by : Signal → Birth → Comer
 new_by moves b = record {
   comes = both moves b.on;
   vars = λ x. slice_index_or b.args x no_signal;
-  held = λ m a. zero_bit;
+  marks = λ k m a. zero_bit;
   tickets = λ m. no_signal;
   guess = λ i. no_signal;
 }

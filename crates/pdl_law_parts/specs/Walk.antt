@@ -12,16 +12,20 @@ use Rattle.pdl_lockapi.specs.declared.Kind.{Kind as LookKind}
 use Rattle.pdl_lockapi.specs.declared.Kind.TheVariants as look_kind
 use Rattle.pdl_lockapi.specs.Lock.{LockState, look_ready, look_value, Covered}
 use Rattle.pdl_lockapi.specs.Laws.{FitsIn, holds_ticket}
+use Rattle.pdl_law_parts.specs.declared.Mark.{Mark}
+use Rattle.pdl_law_parts.specs.declared.Mark.TheVariants.{Held, Late}
 use Rattle.pdl_law_parts.specs.Lives.{uses_var}
 
--- what is known of the locks, by the numbers of their memories: which states of the circuit stand for which of the lock, its kind, how many writes may be pending, the bits of a ticket, and the signals of room and of the next ticket; and the number of each memory's array
+-- what is known of the locks, by the numbers of their memories: which states of the circuit stand for which of the lock, its kind, how many writes may be pending, the bits of a ticket, and the signals of room, of room for two and of the next ticket; whether some path reserves the memory twice for writing; and the number of each memory's array
 pub record Locks : Type 1 where
   pub stands : ℕ → State → LockState → Type 0
   pub kind : ℕ → LockKind
   pub size : ℕ → ℕ
   pub bits : ℕ → ℕ
   pub room : ℕ → Signal
+  pub room2 : ℕ → Signal
   pub ticket : ℕ → Signal
+  pub twice : ℕ → Bool
   pub array : ℕ → ℕ
 
 -- whether a memory has a lock
@@ -78,8 +82,8 @@ pub record Ask : Type 0 where
 -- a stage on the way through its rows: its variables, what is held, what it waits for, and what its thread does
 pub record Walk : Type 0 where
   pub vars : ℕ → Signal
-  -- whether a location, by its memory and its variable, is reserved for writing and not yet released
-  pub held : ℕ → ℕ → Signal
+  -- the marks of a location, by its memory and its variable
+  pub marks : Mark → ℕ → ℕ → Signal
   -- whether each block so far is ready and each reservation has room
   pub ready : Signal
   pub reserves : List Reservation
@@ -171,7 +175,7 @@ IsOp c p ls tickets gs (ReserveWrite m a) w r = (is_locked p m ≡ true) × Wher
 IsOp c p ls tickets gs (Block m a) w r =
     (is_locked p m ≡ true)
     × WhereTaken c gs w
-    (λ s. ThroughLock ls m (tickets m) s (λ x t. r.value.value s ≡ bit (look_ready (ls.kind m) (look_of (is_on (w.held m a) s)) x t ((w.vars a).value s))))
+    (λ s. ThroughLock ls m (tickets m) s (λ x t. r.value.value s ≡ bit (look_ready (ls.kind m) (look_of (is_on (w.marks Held m a) s)) x t ((w.vars a).value s))))
 IsOp c p ls tickets gs (Release m a) w r = ⊤
 IsOp c p ls tickets gs (Call args) w r = (length r.args ≤ p.vars) × WhereTaken c gs w (HaveValues args w r.args)
 IsOp c p ls tickets gs (DelayedRead x m a) w r = ⊤
@@ -200,9 +204,29 @@ pub record IsRow (c : Circuit) (p : Pipe) (ls : Locks) (tickets : ℕ → Signal
 abbrev pub with_var : ℕ → Signal → Walk → Walk
 with_var x f w = record w { vars = λ y. if y == x then f else w.vars y }
 
--- the signals of held locations, where one location has this one
-abbrev pub with_held : ℕ → ℕ → Signal → (ℕ → ℕ → Signal) → ℕ → ℕ → Signal
-with_held m a f held n b = if (m == n) && (a == b) then f else held n b
+-- whether two marks are the same
+abbrev pub same_mark : Mark → Mark → Bool
+same_mark Held Held = true
+same_mark Held Late = false
+same_mark Late Held = false
+same_mark Late Late = true
+
+-- the signals of marks, where one mark of one location has this one
+abbrev pub with_mark : Mark → ℕ → ℕ → Signal → (Mark → ℕ → ℕ → Signal) → Mark → ℕ → ℕ → Signal
+with_mark k m a f marks j n b = if same_mark k j && ((m == n) && (a == b)) then f else marks j n b
+
+-- whether one of these reservations is of the memory
+abbrev pub reserved_signal : ℕ → List Reservation → Signal
+reserved_signal m [] = zero_bit
+reserved_signal m (r ∷ rs) = if r.mem == m then mux_signal r.on one (reserved_signal m rs) else reserved_signal m rs
+
+-- whether there is room for a reservation of the memory after these: for two where one of them is made
+abbrev pub room_after : Locks → ℕ → List Reservation → Signal
+room_after ls m rs = if ls.twice m then mux_signal (reserved_signal m rs) (ls.room2 m) (ls.room m) else ls.room m
+
+-- the signals of marks after a reservation that follows these: where no path reserves the memory twice no location of it is late
+abbrev pub late_after : Locks → ℕ → ℕ → Signal → List Reservation → (Mark → ℕ → ℕ → Signal) → Mark → ℕ → ℕ → Signal
+late_after ls m a on rs marks = if ls.twice m then with_mark Late m a (mux_signal on (reserved_signal m rs) (marks Late m a)) marks else marks
 
 -- a condition that counts where the row stands on the path
 abbrev pub if_on : Signal → Signal → Signal
@@ -215,15 +239,15 @@ walk_after (CombRead x m a) r ls w = with_var x r.value w
 walk_after (Write m a e) r ls w = record w { puts = w.puts ++ record { mem = m; var = a; on = r.on; value = r.value } ∷ [] }
 walk_after (ReserveWrite m a) r ls w =
     record w {
-      held = with_held m a (mux_signal r.on one (w.held m a)) w.held;
-      ready = both w.ready (if_on r.on (ls.room m));
+      marks = late_after ls m a r.on w.reserves (with_mark Held m a (mux_signal r.on one (w.marks Held m a)) w.marks);
+      ready = both w.ready (if_on r.on (room_after ls m w.reserves));
       reserves = w.reserves ++ record { mem = m; var = a; on = r.on; addr = w.vars a } ∷ [];
     }
 walk_after (Block m a) r ls w = record w { ready = both w.ready (if_on r.on r.value) }
 walk_after (Release m a) r ls w =
     record w {
-      held = with_held m a (mux_signal r.on zero_bit (w.held m a)) w.held;
-      lettings = w.lettings ++ record { mem = m; on = both r.on (w.held m a) } ∷ [];
+      marks = with_mark Held m a (mux_signal r.on zero_bit (w.marks Held m a)) w.marks;
+      lettings = w.lettings ++ record { mem = m; on = both r.on (w.marks Held m a) } ∷ [];
     }
 walk_after (Call args) r ls w = record w { births = record { on = r.on; args = r.args } ∷ w.births }
 walk_after (DelayedRead x m a) r ls w = record w { asks = w.asks ++ record { mem = m; var = x; on = r.on; addr = w.vars a } ∷ [] }

@@ -3,6 +3,7 @@ use Rattle.std.specs.Prelude.{◌≡◌, ℕ, suc, ◌+◌, ◌*◌, ◌-◌, �
 use Rattle.pdl_kit.specs.declared.mem_info.MemInfo.{MemInfo}
 use Rattle.pdl_semantics.specs.Flat.{Mem, Pipe, is_delayed, arrays_of}
 use Rattle.pdl_semantics.specs.Stages.{mem_at, reply_place}
+use Rattle.pdl_semantics.specs.SecondWrites.{reserves_twice}
 use Rattle.pdl_semantics.specs.Cycle.{Turn, turns, for_mems}
 use Rattle.pdl_net.specs.declared.Dir.TheVariants.{In}
 use Rattle.pdl_net.specs.declared.Port.{Port}
@@ -19,7 +20,7 @@ pub use Rattle.pdl_machine_facts.specs.Ports.{replies_of, request_values, all_re
 use Rattle.pdl_law_parts.specs.Walk.{Locks, is_locked, zero_bit}
 use Rattle.pdl_law_parts.specs.Places.{delayed_count, comb_place, net_place}
 use Rattle.pdl_law_parts.specs.Views.{View, Gates}
-use Rattle.pdl_law_parts.specs.Ports.{Shown, shown_signal, Commit, stages_shown, commits_shown}
+use Rattle.pdl_law_parts.specs.Ports.{Shown, shown_signal, Commits, stages_shown, commits_shown}
 use Rattle.pdl_law_parts.specs.Compiled.{Same, IsLaid, shown_in, port_in}
 use Rattle.pdl_law_parts.specs.Runs.{Seen, seen_of}
 use Rattle.pdl_machine_inflight.specs.Readings.{Reading, reading}
@@ -51,11 +52,11 @@ abbrev pub IsNet : Circuit → Signal → Type 0
 IsNet c f = (x : Net) × IsThere c x × (signal c x ≡ f)
 
 -- addresses that are asked, and words that are committed, are nets that fit a delayed memory
-pub record FitsOutside (p : Pipe) (c : Circuit) (ask : Request) (commit : Commit) (m : ℕ) : Type 0 where
+pub record FitsOutside (p : Pipe) (c : Circuit) (ask : Request) (commits : Commits) (m : ℕ) : Type 0 where
   pub addr : IsNet c ask.addr
   pub reach : 2 ^ ask.addr.width ≡ (mem_at p m).depth
-  pub word : is_locked p m ≡ true → IsNet c commit.value
-  pub wide : is_locked p m ≡ true → commit.value.width ≡ (mem_at p m).width
+  pub word : is_locked p m ≡ true → IsNet c commits.first.value × IsNet c commits.second.value
+  pub wide : is_locked p m ≡ true → (commits.first.value.width ≡ (mem_at p m).width) × (commits.second.value.width ≡ (mem_at p m).width)
 
 -- ---- the netlist
 
@@ -69,10 +70,10 @@ requests_shown names asks m [] = []
 requests_shown names asks m (x ∷ xs) = (if is_delayed x.kind then request_shown (names m) (asks m) else []) ++ requests_shown names asks (suc m) xs
 
 -- all outputs: of the stages, the commits and the requests, and the last two
-abbrev pub whole_shown : Pipe → (ℕ → List ℕ) → (ℕ → Commit) → (ℕ → Request) → (ℕ → View) → Gates → (ℕ → Signal) → List Shown
+abbrev pub whole_shown : Pipe → (ℕ → List ℕ) → (ℕ → Commits) → (ℕ → Request) → (ℕ → View) → Gates → (ℕ → Signal) → List Shown
 whole_shown p names commits asks vs gates moves =
     stages_shown vs moves (length p.stages) 0
-    ++ (commits_shown names commits 0 p.mems
+    ++ (commits_shown names (λ m. reserves_twice m p.stmts) commits 0 p.mems
     ++ (requests_shown names asks 0 p.mems ++ shown_signal (codes "ended") (moves (length p.stages - 1)) ∷ shown_signal (codes "squash") gates.squash ∷ []))
 
 -- the inputs of the delayed memories

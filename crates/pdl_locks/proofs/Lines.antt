@@ -1,15 +1,12 @@
 -- The lines of the rules.
-use Rattle.std.proofs.Common.{◌≡◌, ◌∙◌, refl, ap, Bool, true, false, ◌&&◌, ◌||◌, [], ◌∷◌, List, filter}
-use Rattle.std.specs.List.{list_any}
+use Rattle.std.proofs.Common.{◌≡◌, ◌∙◌, [], List}
 use Rattle.pdl_kit.specs.declared.rule.Rule.TheVariants.{L1, L3, L4, L5, L6, L7, L8}
 use Rattle.pdl_semantics.specs.Tree.{Pipe}
-use Rattle.pdl_rules.specs.Places.{Place, Guard, places, guards, paths, on_path}
-use Rattle.pdl_rules.specs.Locks.{is_one_too_many}
-use Rattle.pdl_rules.specs.Unbuilt.{is_second_write}
-use Rattle.pdl_rules.specs.Refusal.{is_refused, broken_line}
+use Rattle.pdl_rules.specs.Places.{Place, Guard, places, guards}
+use Rattle.pdl_rules.specs.Refusal.{broken_line}
 use Rattle.pdl_rules.specs.Stages.{bound_late}
 use Rattle.pdl_rules_on_paths.specs.Lowest.{line_where, on_some}
-use Rattle.pdl_rules_on_paths.proofs.Lines.{rule_lines, same_lines}
+use Rattle.pdl_rules_on_paths.proofs.Lines.{rule_lines}
 use Rattle.pdl_rules_walk.specs.Course.{path_line}
 use Rattle.pdl_rules_walk.proofs.Lines.{at_places}
 use Rattle.pdl_locks.specs.declared.at_locations.LocationRule.{LocationRule}
@@ -25,30 +22,10 @@ of_locations Held p = rule_lines L1 p [] (places p)
 of_locations ReservedOnce p = rule_lines L5 p [] (places p)
 of_locations Released p = rule_lines L7 p [] (places p)
 
-either_step : (t f g a b : Bool) → ((t && (f || g)) || (a || b)) ≡ (((t && f) || a) || ((t && g) || b))
-either_step true true g a b = refl
-either_step true false true true b = refl
-either_step true false true false b = refl
-either_step true false false a b = refl
-either_step false f g a b = refl
-
--- whether some element passes a test and one of two others is whether some passes it and the first, or it and the second
-any_either : {A : Type 0} (t f g : A → Bool) (xs : List A)
-    → list_any (λ x. t x && (f x || g x)) xs ≡ (list_any (λ x. t x && f x) xs || list_any (λ x. t x && g x) xs)
-any_either t f g [] = refl
-any_either t f g (x ∷ xs) =
-    ap (λ b. (t x && (f x || g x)) || b) (any_either t f g xs)
-    ∙ either_step (t x) (f x) (g x) (list_any (λ y. t y && f y) xs) (list_any (λ y. t y && g y) xs)
-
 of_memories : (rule : MemoryRule) (p : Pipe)
     → line_where (on_some (of_memory p rule) (guards (places p))) [] (places p) ≡ broken_line (memory_rule_of rule) p [] (places p)
 of_memories ReadFirst p = rule_lines L3 p [] (places p)
-of_memories FewReserves p =
-    same_lines (on_some (of_memory p FewReserves) (guards (places p))) (is_refused L4 p)
-    (λ before x. any_either (λ path. on_path path x) (λ path. is_second_write (filter (on_path path) before) x)
-    (λ path. is_one_too_many p (filter (on_path path) before) x) (paths p))
-    [] (places p)
-    ∙ rule_lines L4 p [] (places p)
+of_memories FewReserves p = rule_lines L4 p [] (places p)
 
 -- the line at which a rule on locations is broken on some path is that at which the pipe breaks it
 pub location_line : (rule : LocationRule) (p : Pipe) (gs : List Guard) (xs : List Place) → gs ≡ guards xs → xs ≡ places p

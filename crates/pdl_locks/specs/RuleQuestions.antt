@@ -1,11 +1,10 @@
 -- What each rule asks of a place, of the places before it on a path.
-use Rattle.std.specs.Prelude.{Bool, ◌||◌, List}
+use Rattle.std.specs.Prelude.{Bool, List}
 use Rattle.pdl_kit.specs.declared.rule.Rule.{Rule}
 use Rattle.pdl_kit.specs.declared.rule.Rule.TheVariants.{L1, L3, L4, L5, L7}
 use Rattle.pdl_semantics.specs.Tree.{Pipe}
 use Rattle.pdl_rules.specs.Places.{Place}
 use Rattle.pdl_rules.specs.Locks as spec
-use Rattle.pdl_rules.specs.Unbuilt.{is_second_write}
 use Rattle.pdl_locks.specs.declared.at_locations.LocationRule.{LocationRule}
 use Rattle.pdl_locks.specs.declared.at_locations.LocationRule.TheVariants.{Held, ReservedOnce, Released}
 use Rattle.pdl_locks.specs.declared.at_memories.MemoryRule.{MemoryRule}
@@ -28,7 +27,7 @@ abbrev pub memory_rule_of : MemoryRule → Rule
 memory_rule_of ReadFirst = L3
 memory_rule_of FewReserves = L4
 
--- whether a place breaks a rule on memories, after the earlier places on a path, or is a second write, which has no circuit
+-- whether a place breaks a rule on memories, after the earlier places on a path
 abbrev pub breaks_at_memory : MemoryRule → Pipe → List Place → Place → Bool
 breaks_at_memory ReadFirst p earlier x = spec.is_late_read p earlier x
-breaks_at_memory FewReserves p earlier x = is_second_write earlier x || spec.is_one_too_many p earlier x
+breaks_at_memory FewReserves p earlier x = spec.is_one_too_many p earlier x

@@ -6,7 +6,6 @@ ghost use Rattle.pdl_syntax_tree.specs.View.{mem_view, pipe_view};
 ghost use Rattle.pdl_rules.specs.Places as rules;
 ghost use Rattle.pdl_rules.specs.Places.{on_path};
 ghost use Rattle.pdl_rules.specs.Locks as spec;
-ghost use Rattle.pdl_rules.specs.Unbuilt.{is_second_write};
 ghost use Rattle.pdl_paths.specs.Actions.{place_view};
 ghost use Rattle.pdl_locks.specs.declared.numbers.Keys.TheVariants as keys;
 ghost use Rattle.pdl_locks.specs.Uses.{AreKept, IsOwn, IsUsedMemory};
@@ -64,7 +63,7 @@ impl PathRule for AtMemories<'_, '_> {
         let used = use_at(state, number_of(self.first, k), MemoryUse::none());
         match self.rule {
             MemoryRule::ReadFirst => is_late_read(self.pipe, used, place),
-            MemoryRule::FewReserves => are_too_many(self.pipe, used, place),
+            MemoryRule::FewReserves => is_one_too_many(self.pipe, used, place),
         }
     }
 
@@ -116,36 +115,6 @@ fn reads_written(mems: &[Mem], used: MemoryUse, at: &Location) -> bool
     !is_advisory(mems, &at.mem.name) && used.written
 }
 
-// Whether a place with this use of its memory reserves it once too often, or a second time to write.
-fn are_too_many(pipe: &Pipe, used: MemoryUse, place: &Place<'_>) -> bool
-    ensures { (earlier : List rules.Place) →
-        IsOwn IsUsedMemory used earlier (place_view place.now) →
-        result ≡ (is_second_write earlier (place_view place.now)
-        || spec.is_one_too_many (pipe_view pipe.now) earlier (place_view place.now)) }
-{
-    reserves_second(used, place) || is_one_too_many(pipe, used, place)
-}
-
-// Whether a place with this use of its memory reserves it a second time to write, which has no circuit yet.
-fn reserves_second(used: MemoryUse, place: &Place<'_>) -> bool
-    ensures { (earlier : List rules.Place) →
-        IsOwn IsUsedMemory used earlier (place_view place.now) →
-        result ≡ is_second_write earlier (place_view place.now) }
-{
-    match place.action {
-        Action::Reserve(_, kind) => match kind {
-            AccessKind::R => false,
-            AccessKind::W => used.reserves >= 1,
-        },
-        Action::Parameter(_) | Action::Memory(_) | Action::Separator | Action::Bind(_, _) => false,
-        Action::CombRead(_, _) | Action::DelayedRead(_, _) | Action::Write(_, _) => false,
-        Action::SpecCall(_, _) | Action::Block(_) | Action::Release(_) => false,
-        Action::If(_, _, _) | Action::Call(_) | Action::Verify(_, _) => false,
-        Action::Update(_, _) => false,
-        Action::SpecCheck | Action::SpecBarrier | Action::End | Action::StartClause(_) => false,
-    }
-}
-
 // How many write reservations of a memory there may be on a path: one where its lock has size 1.
 fn most_reserves(mems: &[Mem], name: &Name) -> u8
     ensures { result ≡ spec.most_reservations (map mem_view mems.now) W name.now }
@@ -153,6 +122,7 @@ fn most_reserves(mems: &[Mem], name: &Name) -> u8
     if lock_size(mems, name) == 1 { 1 } else { 2 }
 }
 
+// Whether a place with this use of its memory reserves it once too often.
 fn is_one_too_many(pipe: &Pipe, used: MemoryUse, place: &Place<'_>) -> bool
     ensures { (earlier : List rules.Place) →
         IsOwn IsUsedMemory used earlier (place_view place.now) →

@@ -303,7 +303,7 @@ module _ (p : Pipe) (sound : Sound p) (strict : Strict p) (st : State) (d : Deri
         pair_both
         (λ x g h i. ap (entries_by x.live.number)
         (with_new_is p sound st d bits ls sim told m ∙ ap (with_reserves m (movers (lacts p st d bits ls))) (sym (sim.locks m)))
-        ∙ h i ∙ ap (λ xs. xs ++ new_entries m x.live.number (deeds_of p st bits x.live).reserves) (g.listed m))
+        ∙ h ∙ ap₂ (λ xs b. xs ++ cond b (new_entries m x.live.number (deeds_of p st bits x.live).reserves) []) (g.listed m) i)
         (pairs ls) mines (by_new p sound st d bits sim.arrays m st.next (lock_of st m) ls sim.falls)
 
     once_pairs : EachPair (λ x. WritesOnce p st bits m (lact p st d bits x.older x.live)) (pairs ls)
@@ -369,7 +369,7 @@ module _ (p : Pipe) (sound : Sound p) (strict : Strict p) (st : State) (d : Deri
     -- at most two are reserved and released
     module _ (careful : Careful p) (there : m < length p.mems) where
       few_here : EachPair (λ x. reserves_of m (deeds_of p st bits x.live).reserves ≤ 2) (pairs ls)
-      few_here = pair_map (λ x k. few_reserves p sound st d bits sim.arrays x.older x.live k careful m there) (pairs ls) knowns
+      few_here = pair_map (λ x k. few_reserves p sound st d bits sim.arrays x.older x.live k m 2 (λ path. careful.few path m there)) (pairs ls) knowns
 
       each_few : (these : List Act) → AllActs (λ (a : Act). reserves_of m a.does.reserves ≤ 2) these
           → Each (λ (a : Act). reserves_of m a.does.reserves ≤ 2) (movers these)
@@ -391,8 +391,8 @@ module _ (p : Pipe) (sound : Sound p) (strict : Strict p) (st : State) (d : Deri
       pub two_released : all_releases m (moving p st bits) ≤ 2
       two_released =
           subst (λ n. n ≤ 2) (sym (releases_are p sound st d bits ls sim told m))
-          (few_released p sound st d bits sim.arrays m ls all_known sim.ordered
-          (pair_map (λ x k. few_releases p sound st d bits sim.arrays x.older x.live k careful m there) (pairs ls) knowns))
+          (few_released p sound st d bits sim.arrays m 2 ls all_known sim.ordered
+          (pair_map (λ x k. few_releases p sound st d bits sim.arrays x.older x.live k m 2 (λ path. careful.few path m there)) (pairs ls) knowns))
 
     -- a memory without lock
     no_pending : (mem_at p m).lock ≡ Plain → lock_of st m ≡ []

@@ -8,10 +8,11 @@ use Rattle.pdl_semantics.specs.Cycle.{with_value_of, with_writes_of}
 use Rattle.pdl_theory_derived.specs.Alone.{is_oldest}
 use Rattle.pdl_theory_facts.specs.Scans.{Phase}
 use Rattle.pdl_theory_derived.proofs.Writes.{and_right}
-use Rattle.pdl_theory_derived.proofs.Entries.{entry, Open, waiting, open_vars}
+use Rattle.pdl_theory_derived.proofs.Entries.{entry, Open, Full, waiting, known, open_vars, full_vars}
 use Rattle.pdl_theory_derived.proofs.Lists.{own, pend}
 use Rattle.pdl_theory_turns.proofs.Steps.{AreGiven, AllUsed, is_used}
 use Rattle.pdl_lockapi.specs.Forget.{has_place, place_of, IsOnce}
+use Rattle.pdl_lockapi.proofs.Places.{place_front}
 use Rattle.pdl_theory_states.proofs.FetchCounts.{any_front}
 use Rattle.pdl_machine_lockuse.specs.Use.{written_in, is_open, AreOwn}
 use Rattle.pdl_machine_lockuse.proofs.Reservations.{one_if}
@@ -48,34 +49,6 @@ turn_more m n es k (x ∷ ws) w t h = (t.0, turn_more m n es (cond (x.mem == m) 
     at : (b : Bool) → k + cond b (suc (written_in m ws)) (written_in m ws) ≡ cond b (suc k) k + written_in m ws
     at true = omega arith
     at false = refl
-
--- entries put behind a list leave the place of what has one in it
-place_front : (n y : ℕ) (xs ys : List Pending) → has_place n y xs ≡ true
-    → (has_place n y (xs ++ ys) ≡ true) × (place_of n y (xs ++ ys) ≡ place_of n y xs)
-place_front n y [] ys h = absurd (cc h)
-place_front n y (x ∷ xs) ys h = at ((x.thread == n) && (x.var == y)) h (place_front n y xs ys)
-  where
-    at : (b : Bool) → cond b true (has_place n y xs) ≡ true
-        → (has_place n y xs ≡ true → (has_place n y (xs ++ ys) ≡ true) × (place_of n y (xs ++ ys) ≡ place_of n y xs))
-        → (cond b true (has_place n y (xs ++ ys)) ≡ true) × (cond b 0 (suc (place_of n y (xs ++ ys))) ≡ cond b 0 (suc (place_of n y xs)))
-    at true k f = (refl, refl)
-    at false k f = let i = f k in (i.0, ap suc i.1)
-
--- what has no place in a list has its place behind it as many later
-pub place_behind : (n y : ℕ) (xs ys : List Pending) → has_place n y xs ≡ false
-    → (has_place n y (xs ++ ys) ≡ has_place n y ys) × (place_of n y (xs ++ ys) ≡ length xs + place_of n y ys)
-place_behind n y [] ys h = (refl, zero (place_of n y ys))
-  where
-    zero : (k : ℕ) → k ≡ 0 + k
-    zero k = omega arith
-place_behind n y (x ∷ xs) ys h = at ((x.thread == n) && (x.var == y)) h (place_behind n y xs ys)
-  where
-    at : (b : Bool) → cond b true (has_place n y xs) ≡ false
-        → (has_place n y xs ≡ false
-        → (has_place n y (xs ++ ys) ≡ has_place n y ys) × (place_of n y (xs ++ ys) ≡ length xs + place_of n y ys))
-        → (cond b true (has_place n y (xs ++ ys)) ≡ has_place n y ys) × (cond b 0 (suc (place_of n y (xs ++ ys))) ≡ suc (length xs) + place_of n y ys)
-    at true k f = absurd (cc k)
-    at false k f = let i = f k in (i.0, let j = i.1 in omega (arith, j))
 
 -- writes stay in turn as the list grows
 pub turn_grow : (m n : ℕ) (es ys : List Pending) (k : ℕ) (ws : List Written) → InTurn m n es k ws → InTurn m n (es ++ ys) k ws
@@ -184,6 +157,16 @@ pend_length m n (o ∷ os) =
     ∙ length-append (pend m n (waiting m os)) (own n (entry m o.var o.address None) ∷ []) ∙ one (pend_length m n os)
   where
     one : length (pend m n (waiting m os)) ≡ length (open_vars os) → length (pend m n (waiting m os)) + 1 ≡ suc (length (open_vars os))
+    one h = omega (arith, h)
+
+-- and as many as its locations that have their values
+pub known_length : (m n : ℕ) (fs : List Full) → length (pend m n (known m fs)) ≡ length (full_vars fs)
+known_length m n [] = refl
+known_length m n (f ∷ fs) =
+    ap (λ b. length (pend m n (known m fs) ++ cond b (own n (entry m f.var f.address (Some f.value)) ∷ []) [])) (eq-eqb m m refl)
+    ∙ length-append (pend m n (known m fs)) (own n (entry m f.var f.address (Some f.value)) ∷ []) ∙ one (known_length m n fs)
+  where
+    one : length (pend m n (known m fs)) ≡ length (full_vars fs) → length (pend m n (known m fs)) + 1 ≡ suc (length (full_vars fs))
     one h = omega (arith, h)
 
 -- a location that no entry uses has no place

@@ -1,5 +1,5 @@
 -- What a thread's stage does to its pending writes of one memory: who writes has one, once, and what is released has its value.
-use Rattle.std.proofs.Common.{◌≡◌, refl, sym, ap, ap₂, ◌∙◌, subst, ℕ, suc, ◌+◌, ◌≤◌, ◌<◌, Bool, true, false, ◌&&◌, ◌||◌, not, List, [], ◌∷◌, ◌++◌, length, length-append, Option, Some, None, ◌==◌, cond, if◌then◌else◌, arith, eq-eqb, slice_index, append_assoc, append-nil, nat_le}
+use Rattle.std.proofs.Common.{◌≡◌, refl, sym, ap, ap₂, ◌∙◌, subst, ℕ, suc, ◌+◌, ◌≤◌, Bool, true, false, ◌&&◌, ◌||◌, not, List, [], ◌∷◌, ◌++◌, length, length-append, Option, Some, None, ◌==◌, cond, if◌then◌else◌, arith, eq-eqb, slice_index, append_assoc, append-nil, nat_le}
 use Rattle.std.proofs.lemmas.Bool.{false≢true, leb-true, eqb-true}
 use Rattle.pdl_semantics.specs.Flat.{Pipe, Op, Write, ReserveWrite, Release, Verify, Stmt, list_all, all_hold, value_of}
 use Rattle.pdl_semantics.specs.Stages.{onpath, in_stage, goes_to, stage_at, commit_stage}
@@ -34,12 +34,12 @@ use Rattle.pdl_machine_facts.proofs.StatementUses.{IsAlong, writes_to}
 use Rattle.pdl_theory_states.specs.Strict.{Strict}
 use Rattle.pdl_theory_states.proofs.Releases.{is_done}
 use Rattle.pdl_theory_states.proofs.FetchCounts.{any_append}
-use Rattle.pdl_machine_lockuse.specs.Careful.{Careful}
 use Rattle.pdl_machine_lockuse.specs.Use.{written_in, is_open, AreOwn}
 use Rattle.pdl_machine_lockuse.proofs.Reservations.{one_if, times, uses, Single, single_fresh, single_all, single_op, uses_reserve, uses_write, uses_release, total_all, gone_few, reserves_append, reserved_all}
 use Rattle.pdl_machine_lockuse.proofs.Paths.{path, mine, passed, rest, whole, passed_uses, mine_uses, mine_early}
 use Rattle.pdl_machine_lockuse.proofs.Begins.{begun, begun_is, along_here}
-use Rattle.pdl_machine_lockuse.proofs.OwnPlaces.{InTurn, written_more, turn_more, turn_grow, place_behind, puts_place, opens_back, oldest_first, pend_length, unused_place, names, names_append, given_own}
+use Rattle.pdl_lockapi.proofs.Places.{place_behind}
+use Rattle.pdl_machine_lockuse.proofs.OwnPlaces.{InTurn, written_more, turn_more, turn_grow, puts_place, opens_back, oldest_first, pend_length, known_length, unused_place, names, names_append, given_own}
 
 -- what a stage does with a memory where start was pending before it, and in which phase it ends
 pub record Used (m n : ℕ) (start : List Pending) (d : Deeds) (ph : Phase) : Type 0 where
@@ -406,16 +406,6 @@ module _ (p : Pipe) (sound : Sound p) (st : State) (d : Derived.State) (bits : L
           low : (i j k n : ℕ) → n ≡ i + j → n ≤ i + (j + k)
           low i j k n e = omega (arith, e)
 
-      known_length : (fs : List Full) → length (pend m l.number (known m fs)) ≡ length (full_vars fs)
-      known_length [] = refl
-      known_length (f ∷ fs) =
-          ap (λ b. length (pend m l.number (known m fs) ++ cond b (own l.number (entry m f.var f.address (Some f.value)) ∷ []) [])) (eq-eqb m m refl)
-          ∙ length-append (pend m l.number (known m fs)) (own l.number (entry m f.var f.address (Some f.value)) ∷ [])
-          ∙ one (length (pend m l.number (known m fs))) (length (full_vars fs)) (known_length fs)
-        where
-          one : (i j : ℕ) → i ≡ j → i + 1 ≡ suc j
-          one i j e = omega (arith, e)
-
       start_length : (ph : Phase) (es : List Entry) → Shape m ph (entries_of m es)
           → length ph.unwritten + (length ph.full + 0) ≡ length (pend m l.number es ++ [])
       start_length ph es s =
@@ -423,37 +413,37 @@ module _ (p : Pipe) (sound : Sound p) (st : State) (d : Derived.State) (bits : L
           (ap length (append-nil (pend m l.number es) ∙ pend_own m l.number es ∙ ap (pend m l.number) s.entries
           ∙ pend_append m l.number (waiting m s.opens) (known m s.fulls))
           ∙ length-append (pend m l.number (known m s.fulls)) (pend m l.number (waiting m s.opens))
-          ∙ ap₂ (λ i j. i + j) (known_length s.fulls ∙ ap length s.at_full) (pend_length m l.number s.opens ∙ ap length s.at_open)
+          ∙ ap₂ (λ i j. i + j) (known_length m l.number s.fulls ∙ ap length s.at_full) (pend_length m l.number s.opens ∙ ap length s.at_open)
           ∙ turn (length ph.full) (length ph.unwritten))
         where
           turn : (i j : ℕ) → i + j ≡ j + (i + 0)
           turn i j = omega arith
 
-  -- the statements of its path reserve a memory for writing at most twice
-  all_few : Careful p → (m : ℕ) → m < length p.mems → write_reserves m done + (write_reserves m mine_here) ≤ 2
-  all_few careful m low =
-      let few = careful.few way m low in
+  -- the statements of its path reserve a memory for writing no more often than those of any path
+  pub all_few : (m n : ℕ) → ((path : List ℕ) → write_reserves m (onpath path p.stmts) ≤ n)
+      → write_reserves m (passed p sound st d bits arrays older l k) + write_reserves m (mine p sound st d bits arrays older l k) ≤ n
+  all_few m n each =
+      let few = each way in
       let all = ap (write_reserves m) (whole p sound st d bits arrays older l k) in
       let first = reserves_append m done (mine_here ++ rest p sound st d bits arrays older l k) in
       let second = reserves_append m mine_here (rest p sound st d bits arrays older l k) in
       omega (arith, few, all, first, second)
 
-  -- so the thread reserves at most two
-  pub few_reserves : Careful p → (m : ℕ) → m < length p.mems → reserves_of m (deeds_of p st bits l).reserves ≤ 2
-  few_reserves careful m low =
-      let all = all_few careful m low in
-      let here = ap (λ (e : Deeds). reserves_of m e.reserves) did_is
+  -- what its stage reserves are the reservations of its statements there
+  pub reserved_here : (m : ℕ) → reserves_of m (deeds_of p st bits l).reserves ≡ 0 + write_reserves m (mine p sound st d bits arrays older l k)
+  reserved_here m =
+      ap (λ (e : Deeds). reserves_of m e.reserves) did_is
       ∙ reserved_all m way (word_for st l.number) (in_stage l.thread.stage p.stmts) (begun p sound st d bits arrays older l k)
-      (along_here p sound st d bits arrays older l k) in
-      low_of (write_reserves m done) (write_reserves m mine_here) (reserves_of m (deeds_of p st bits l).reserves) here all
-    where
-      low_of : (i j r : ℕ) → r ≡ 0 + j → i + j ≤ 2 → r ≤ 2
-      low_of i j r e h = omega (arith, e, h)
+      (along_here p sound st d bits arrays older l k)
 
-  -- and releases at most two
-  pub few_releases : Careful p → (m : ℕ) → m < length p.mems → releases_of m (deeds_of p st bits l).releases ≤ 2
-  few_releases careful m low =
-      let all = all_few careful m low in
+  -- so the thread reserves no more
+  pub few_reserves : (m n : ℕ) → ((path : List ℕ) → write_reserves m (onpath path p.stmts) ≤ n) → reserves_of m (deeds_of p st bits l).reserves ≤ n
+  few_reserves m n each = let all = all_few m n each in let here = reserved_here m in omega (arith, all, here)
+
+  -- and releases no more
+  pub few_releases : (m n : ℕ) → ((path : List ℕ) → write_reserves m (onpath path p.stmts) ≤ n) → releases_of m (deeds_of p st bits l).releases ≤ n
+  few_releases m n each =
+      let all = all_few m n each in
       let gone = (used_here m).short in
       let more = gone_few (phase_all m (phase_all m Fresh done) mine_here) in
       let second = total_all m (phase_all m Fresh done) mine_here (mine_uses p sound st d bits arrays older l k m) in
@@ -462,7 +452,7 @@ module _ (p : Pipe) (sound : Sound p) (st : State) (d : Derived.State) (bits : L
       (total (phase_all m (phase_all m Fresh done) mine_here)) (length (phase_all m (phase_all m Fresh done) mine_here).gone)
       (releases_of m (deeds_of p st bits l).releases) first second more gone all
     where
-      low_of : (i j a b g r : ℕ) → a ≡ 0 + i → b ≡ a + j → g ≤ b → r ≤ g → i + j ≤ 2 → r ≤ 2
+      low_of : (i j a b g r : ℕ) → a ≡ 0 + i → b ≡ a + j → g ≤ b → r ≤ g → i + j ≤ n → r ≤ n
       low_of i j a b g r e f h k l = omega (arith, e, f, h, k, l)
 
   -- a thread writes no later than the releases

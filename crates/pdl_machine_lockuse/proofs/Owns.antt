@@ -12,7 +12,7 @@ use Rattle.pdl_theory_derived.specs.Derived
 use Rattle.pdl_theory_facts.specs.Facts.{Sound}
 use Rattle.pdl_theory_simulation.proofs.AcceptedFacts.{sound_flows}
 use Rattle.pdl_theory_simulation.proofs.Seats.{Live, each_map, Falls, Ordered, lact, lacts, did, deeds_of}
-use Rattle.pdl_theory_simulation.proofs.ThreadFacts.{pairs, EachPair, pair_map, pair_both, pairs_each}
+use Rattle.pdl_theory_simulation.proofs.ThreadFacts.{Pair, pairs, EachPair, pair_map, pair_both, pairs_each}
 use Rattle.pdl_theory_simulation.proofs.Choices.{AllKnown}
 use Rattle.pdl_theory_simulation.proofs.LockLists.{part, two, release_here, gone}
 use Rattle.pdl_theory_derived.proofs.Lists.{pend}
@@ -249,13 +249,13 @@ module _ (p : Pipe) (sound : Sound p) (st : State) (d : Derived.State) (bits : L
           zeros : (i : ℕ) → i ≡ 0 + i
           zeros i = omega arith
 
-  -- where each thread releases at most two, at most two are released, since one thread does
-  pub few_released : (ls : List Live) → AllKnown p (sound_flows p sound) st d bits arrays ls → Ordered p ls
-      → EachPair (λ x. takes x.live ≤ 2) (pairs ls) → all_releases m (ms ls) ≤ 2
-  few_released [] k o f = omega arith
-  few_released (l ∷ ls) k o f = at (did p d bits ls l).moves (takes l) refl (few_released ls k.1 o.1 f.1)
+  -- where each thread releases at most n, at most n are released, since one thread does
+  pub few_released : (n : ℕ) (ls : List Live) → AllKnown p (sound_flows p sound) st d bits arrays ls → Ordered p ls
+      → EachPair (λ x. takes x.live ≤ n) (pairs ls) → all_releases m (ms ls) ≤ n
+  few_released n [] k o f = omega arith
+  few_released n (l ∷ ls) k o f = at (did p d bits ls l).moves (takes l) refl (few_released n ls k.1 o.1 f.1)
     where
-      at : (b : Bool) (c : ℕ) → takes l ≡ c → all_releases m (ms ls) ≤ 2 → all_releases m (cond b (lact p st d bits ls l ∷ ms ls) (ms ls)) ≤ 2
+      at : (b : Bool) (c : ℕ) → takes l ≡ c → all_releases m (ms ls) ≤ n → all_releases m (cond b (lact p st d bits ls l ∷ ms ls) (ms ls)) ≤ n
       at false c e h = h
       at true zero e h = omega (arith, e, h)
       at true (suc c) e h = let a = (alone l ls k o (λ z. cc (sym e ∙ z))).0 in let g = f.0 in omega (arith, a, g)
@@ -278,33 +278,25 @@ module _ (p : Pipe) (sound : Sound p) (st : State) (d : Derived.State) (bits : L
           ∙ append-nil (entries_by n list)
       at false h = h
 
-  -- a thread that moves has its own ones, and what it reserves
+  -- what a thread appends: what it reserves, where it moves
+  abbrev pub appends : Pair → List Pending
+  appends x = if (did p d bits x.older x.live).moves then new_entries m x.live.number (deeds_of p st bits x.live).reserves else []
+
+  -- a thread has its own ones, and what it appends
   pub by_new : (bound : ℕ) (list : List Pending) (ls : List Live) → Falls bound ls
-      → EachPair
-      (λ x. (did p d bits x.older x.live).moves ≡ true
-      → entries_by x.live.number (with_reserves m (ms ls) list)
-      ≡ entries_by x.live.number list ++ new_entries m x.live.number (deeds_of p st bits x.live).reserves) (pairs ls)
+      → EachPair (λ x. entries_by x.live.number (with_reserves m (ms ls) list) ≡ entries_by x.live.number list ++ appends x) (pairs ls)
   by_new bound list [] f = tt
   by_new bound list (l ∷ ls) f = (
     mine (did p d bits ls l).moves,
-    pair_map (λ x g i. other x.live.number (did p d bits ls l).moves g.0 _ (g.1 i)) (pairs ls) (both (by_new l.number list ls f.1)),
+    pair_both (λ x a e. other x.live.number (did p d bits ls l).moves a (appends x) e)
+        (pairs ls) (pairs_each (λ k. k.number < l.number) ls (falls_each l.number ls f.1)) (by_new l.number list ls f.1),
   )
     where
-      both : EachPair
-          (λ x. (did p d bits x.older x.live).moves ≡ true
-          → entries_by x.live.number (with_reserves m (ms ls) list)
-          ≡ entries_by x.live.number list ++ new_entries m x.live.number (deeds_of p st bits x.live).reserves) (pairs ls)
-          → EachPair
-          (λ x. (x.live.number < l.number) × ((did p d bits x.older x.live).moves ≡ true
-          → entries_by x.live.number (with_reserves m (ms ls) list)
-          ≡ entries_by x.live.number list ++ new_entries m x.live.number (deeds_of p st bits x.live).reserves)) (pairs ls)
-      both h = pair_both (λ x a g. (a, g)) (pairs ls) (pairs_each (λ k. k.number < l.number) ls (falls_each l.number ls f.1)) h
-
-      mine : (b : Bool) → b ≡ true
+      mine : (b : Bool)
           → entries_by l.number (with_reserves m (cond b (lact p st d bits ls l ∷ ms ls) (ms ls)) list)
-          ≡ entries_by l.number list ++ new_entries m l.number (deeds_of p st bits l).reserves
-      mine false i = absurd (false≢true i)
-      mine true i =
+          ≡ entries_by l.number list ++ cond b (new_entries m l.number (deeds_of p st bits l).reserves) []
+      mine false = by_older l.number list ls f.1 ∙ sym (append-nil (entries_by l.number list))
+      mine true =
           by_append l.number (with_reserves m (ms ls) list) (new_entries m l.number (deeds_of p st bits l).reserves)
           ∙ ap₂ (λ x y. x ++ y) (by_older l.number list ls f.1) (by_all l.number _ (of_new m l.number (deeds_of p st bits l).reserves))
 

@@ -1,5 +1,5 @@
--- What a delayed memory commits fits its words.
-use Rattle.std.proofs.Common.{◌≡◌, ℕ, suc, ◌+◌, ◌^◌, ◌<◌, Bool, true, false, cond, List, [], ◌∷◌, ◌++◌, length, map, get_or, filter_map, flat_map, Contains, Some, codes, bytes_eq, refl, sym, ap, ◌∙◌, subst, arith, append_assoc, length-append}
+-- What a delayed memory commits, first and second in a cycle, fits its words.
+use Rattle.std.proofs.Common.{◌≡◌, ◌≢◌, ℕ, suc, ◌+◌, ◌^◌, ◌<◌, Bool, true, false, cond, if◌then◌else◌, List, [], ◌∷◌, ◌++◌, length, map, get_or, filter_map, flat_map, Contains, Some, codes, decimal, bytes_eq, refl, sym, ap, ◌∙◌, subst, arith, append_assoc, length-append}
 use Rattle.std.specs.List.{cons_option, position_from, range_with_len, slice_get}
 use Rattle.std.proofs.lemmas.List.{get_or_at}
 use Rattle.std.proofs.lemmas.Nat.{pow_pos}
@@ -14,71 +14,90 @@ use Rattle.pdl_net.specs.Circuit.{Circuit, State, Output, circuit_of, outputs_of
 use Rattle.pdl_net.specs.Well.{IsWell, IsWellPort, IsDriven, Suits}
 use Rattle.pdl_net.specs.Cycle.{net_value, output_values}
 use Rattle.pdl_net.specs.Run.{port_value, value_at}
-use Rattle.pdl_net.specs.Pipe.{Head, head_of, is_input, output, PortMem, reply_ports, stage_ports, commit_ports, request_ports, IsPipe, IsWellFormed}
+use Rattle.pdl_net.specs.Pipe.{Head, head_of, is_input, output, PortMem, reply_ports, stage_ports, first_ports, second_ports, commit_ports, request_ports, IsPipe, IsWellFormed}
 use Rattle.pdl_net.proofs.Bounds.{bounded}
 
 -- an output of this name has this width
 abbrev Shows : List ℕ → ℕ → Head → Type 0
 Shows name w h = h.input ≡ false → h.name ≡ name → h.width ≡ w
 
+-- a locked memory's words have this width, where a port that shows what it commits has this name
+abbrev WordsShow : List ℕ → ℕ → PortMem → Type 0
+WordsShow name w l = (codes "cd_" ++ l.name ≡ name → l.width ≡ w) × (codes "cd2_" ++ l.name ≡ name → l.width ≡ w)
+
 -- HEADS
 
-prefix_of : (n m : List ℕ) → (codes "cd_" ++ n) ≡ (codes "cd_" ++ m) → n ≡ m
-prefix_of n m e = cc
+-- of a name that begins with `cd`
+module _ (name : List ℕ) (w : ℕ) (first : get_or name 0 0 ≡ 99) (second : get_or name 1 0 ≡ 100) where
+  begins_apart : (h : Head) → get_or h.name 0 0 ≢ 99 → Shows name w h
+  begins_apart h n i e = absurd (n (ap (λ xs. get_or xs 0 0) e ∙ first))
 
-replies_fit : (x : List ℕ) (w : ℕ) (ds : List PortMem) → Each (λ d. Each (Shows (codes "cd_" ++ x) w) (reply_ports d)) ds
-replies_fit x w [] = tt
-replies_fit x w (d ∷ ds) = ((λ i e. absurd (cc i), (λ i e. absurd (cc i), tt)), replies_fit x w ds)
+  goes_on_apart : (h : Head) → get_or h.name 1 0 ≢ 100 → Shows name w h
+  goes_on_apart h n i e = absurd (n (ap (λ xs. get_or xs 1 0) e ∙ second))
 
-stages_fit : (x : List ℕ) (w : ℕ) (ks : List ℕ) → Each (λ k. Each (Shows (codes "cd_" ++ x) w) (stage_ports k)) ks
-stages_fit x w [] = tt
-stages_fit x w (k ∷ ks) = (
-  (λ i e. let l = ap (λ xs. get_or xs 0 0) e in absurd (omega (arith, l)), (λ i e. let l = ap (λ xs. get_or xs 0 0) e in absurd (omega (arith, l)), tt)),
-  stages_fit x w ks,
-)
+  replies_fit : (ds : List PortMem) → Each (λ d. Each (Shows name w) (reply_ports d)) ds
+  replies_fit [] = tt
+  replies_fit (d ∷ ds) = ((λ i e. absurd (cc i), (λ i e. absurd (cc i), tt)), replies_fit ds)
 
-commits_fit : (d : PortMem) (ls : List PortMem)
-    → ((l : PortMem) → Contains ls l → d.name ≡ l.name → d ≡ l)
-    → Each (λ l. Each (Shows (codes "cd_" ++ d.name) d.width) (commit_ports l)) ls
-commits_fit d [] f = tt
-commits_fit d (l ∷ ls) f = (
-  (
-    λ i e. let l = ap (λ xs. get_or xs 1 0) e in
-        absurd (omega (arith, l)),
-    (
-      λ i e. let l = ap (λ xs. get_or xs 1 0) e in
-          absurd (omega (arith, l)),
-      (λ i e. ap (λ (m : PortMem). m.width) (sym (f l (0, omega arith, refl) (sym (prefix_of l.name d.name e)))), tt),
-    ),
-  ),
-  commits_fit d ls (λ m c. f m (suc c.0, omega (arith, c.1), c.2)),
-)
+  stages_fit : (ks : List ℕ) → Each (λ k. Each (Shows name w) (stage_ports k)) ks
+  stages_fit [] = tt
+  stages_fit (k ∷ ks) = (
+    (begins_apart (output (codes "v_" ++ decimal k) 1) (λ e. omega arith), (begins_apart (output (codes "g_" ++ decimal k) 1) (λ e. omega arith), tt)),
+    stages_fit ks,
+  )
 
-requests_fit : (x : List ℕ) (w : ℕ) (ds : List PortMem) → Each (λ d. Each (Shows (codes "cd_" ++ x) w) (request_ports d)) ds
-requests_fit x w [] = tt
-requests_fit x w (d ∷ ds) = (
-  (λ i e. let l = ap (λ xs. get_or xs 0 0) e in absurd (omega (arith, l)), (λ i e. let l = ap (λ xs. get_or xs 0 0) e in absurd (omega (arith, l)), tt)),
-  requests_fit x w ds,
-)
+  commit_fits : (l : PortMem) → WordsShow name w l → Each (Shows name w) (commit_ports l)
+  commit_fits l f =
+      let P : Bool → Type 0 = λ b. Each (Shows name w) (first_ports l ++ (if b then second_ports l else [])) in
+      let enable = goes_on_apart (output (codes "c_" ++ l.name) 1) (λ e. omega arith) in
+      let addr = goes_on_apart (output (codes "ca_" ++ l.name) l.bits) (λ e. omega arith) in
+      let enable2 = goes_on_apart (output (codes "c2_" ++ l.name) 1) (λ e. omega arith) in
+      let addr2 = goes_on_apart (output (codes "ca2_" ++ l.name) l.bits) (λ e. omega arith) in
+      elim l.twice as P [
+        | true ↦ (enable, (addr, (λ i e. f.0 e, (enable2, (addr2, (λ i e. f.1 e, tt))))))
+        | false ↦ (enable, (addr, (λ i e. f.0 e, tt)))
+      ]
 
-heads_fit : (n : Netlist) (p : IsPipe n) (d : PortMem) → Contains p.delayed d
-    → Each (λ q. Shows (codes "cd_" ++ d.name) d.width (head_of q)) n.ports
-heads_fit n p d c =
-    let P = Shows (codes "cd_" ++ d.name) d.width in
-    let replies = flat_map reply_ports p.delayed in
-    let stages = flat_map stage_ports (range_with_len 0 p.stages) in
-    let commits = flat_map commit_ports p.locked in
-    let requests = flat_map request_ports p.delayed in
-    let ends = output (codes "ended") 1 ∷ output (codes "squash") 1 ∷ [] in
-    each_unmapped P head_of n.ports (subst (Each P) (sym p.ports)
-    (each_append P (((replies ++ stages) ++ commits) ++ requests) ends
-    (each_append P ((replies ++ stages) ++ commits) requests
-    (each_append P (replies ++ stages) commits
-    (each_append P replies stages (each_flat P reply_ports p.delayed (replies_fit d.name d.width p.delayed))
-    (each_flat P stage_ports (range_with_len 0 p.stages) (stages_fit d.name d.width (range_with_len 0 p.stages))))
-    (each_flat P commit_ports p.locked (commits_fit d p.locked (λ l k e. p.agree d l c k e))))
-    (each_flat P request_ports p.delayed (requests_fit d.name d.width p.delayed)))
-    (λ i e. let l = ap (λ xs. get_or xs 0 0) e in absurd (omega (arith, l)), (λ i e. let l = ap (λ xs. get_or xs 0 0) e in absurd (omega (arith, l)), tt))))
+  commits_fit : (ls : List PortMem) → ((l : PortMem) → Contains ls l → WordsShow name w l) → Each (λ l. Each (Shows name w) (commit_ports l)) ls
+  commits_fit [] f = tt
+  commits_fit (l ∷ ls) f = (commit_fits l (f l (0, omega arith, refl)), commits_fit ls (λ m c. f m (suc c.0, omega (arith, c.1), c.2)))
+
+  requests_fit : (ds : List PortMem) → Each (λ d. Each (Shows name w) (request_ports d)) ds
+  requests_fit [] = tt
+  requests_fit (d ∷ ds) = (
+    (begins_apart (output (codes "q_" ++ d.name) 1) (λ e. omega arith), (begins_apart (output (codes "qa_" ++ d.name) d.bits) (λ e. omega arith), tt)),
+    requests_fit ds,
+  )
+
+  heads_fit : (n : Netlist) (p : IsPipe n) → ((l : PortMem) → Contains p.locked l → WordsShow name w l)
+      → Each (λ q. Shows name w (head_of q)) n.ports
+  heads_fit n p f =
+      let P = Shows name w in
+      let replies = flat_map reply_ports p.delayed in
+      let stages = flat_map stage_ports (range_with_len 0 p.stages) in
+      let commits = flat_map commit_ports p.locked in
+      let requests = flat_map request_ports p.delayed in
+      let ends = output (codes "ended") 1 ∷ output (codes "squash") 1 ∷ [] in
+      each_unmapped P head_of n.ports (subst (Each P) (sym p.ports)
+      (each_append P (((replies ++ stages) ++ commits) ++ requests) ends
+      (each_append P ((replies ++ stages) ++ commits) requests
+      (each_append P (replies ++ stages) commits
+      (each_append P replies stages (each_flat P reply_ports p.delayed (replies_fit p.delayed))
+      (each_flat P stage_ports (range_with_len 0 p.stages) (stages_fit (range_with_len 0 p.stages))))
+      (each_flat P commit_ports p.locked (commits_fit p.locked f)))
+      (each_flat P request_ports p.delayed (requests_fit p.delayed)))
+      (begins_apart (output (codes "ended") 1) (λ e. omega arith), (begins_apart (output (codes "squash") 1) (λ e. omega arith), tt))))
+
+-- NAMES
+
+first_name : (n m : List ℕ) → (codes "cd_" ++ n) ≡ (codes "cd_" ++ m) → n ≡ m
+first_name n m e = cc
+
+second_name : (n m : List ℕ) → (codes "cd2_" ++ n) ≡ (codes "cd2_" ++ m) → n ≡ m
+second_name n m e = cc
+
+names_apart : (n m : List ℕ) → (codes "cd_" ++ n) ≡ (codes "cd2_" ++ m) → ⊥
+names_apart n m e = let l = ap (λ xs. get_or xs 2 0) e in omega (arith, l)
 
 -- VALUES
 
@@ -120,12 +139,27 @@ module _ (c : Circuit) (s : State) (w : IsWell c) (t : Suits c s) (name : List �
       (elim (bytes_eq o.name name) as P [ true ↦ (λ g. subst (λ x. x < 2 ^ bits) (sym here) (f.0 (g refl))) | false ↦ (λ g. after) ])
       ((bytes_eq-Decides o.name name).0)
 
+shown_fits : (n : Netlist) (w : IsWellFormed n) (name : List ℕ) (bits : ℕ)
+    → get_or name 0 0 ≡ 99 → get_or name 1 0 ≡ 100 → ((l : PortMem) → Contains w.pipe.locked l → WordsShow name bits l)
+    → (s : State) → Suits (circuit_of n) s → port_value (circuit_of n) (output_values (circuit_of n) s) name < 2 ^ bits
+unfolding output_values
+shown_fits n w name bits f g h s t =
+    let k = circuit_of n in
+    found_fits k s w.well t name bits (outputs_of k) [] 0 refl (pow_pos bits)
+    (outputs_fit k s w.well t name bits n.ports w.well.ports (heads_fit name bits f g n w.pipe h))
+
 -- the value that a delayed memory commits, in each state that suits
 pub committed_fits : (n : Netlist) (w : IsWellFormed n) (d : PortMem) → Contains w.pipe.delayed d → (s : State)
     → Suits (circuit_of n) s
     → port_value (circuit_of n) (output_values (circuit_of n) s) (codes "cd_" ++ d.name) < 2 ^ d.width
-unfolding output_values
 committed_fits n w d c s t =
-    let k = circuit_of n in
-    found_fits k s w.well t (codes "cd_" ++ d.name) d.width (outputs_of k) [] 0 refl (pow_pos d.width)
-    (outputs_fit k s w.well t (codes "cd_" ++ d.name) d.width n.ports w.well.ports (heads_fit n w.pipe d c))
+    shown_fits n w (codes "cd_" ++ d.name) d.width refl refl
+    (λ l k. (λ e. sym (w.pipe.agree d l c k (sym (first_name l.name d.name e))).0, λ e. absurd (names_apart d.name l.name (sym e)))) s t
+
+-- and the value that it commits after that
+pub committed2_fits : (n : Netlist) (w : IsWellFormed n) (d : PortMem) → Contains w.pipe.delayed d → (s : State)
+    → Suits (circuit_of n) s
+    → port_value (circuit_of n) (output_values (circuit_of n) s) (codes "cd2_" ++ d.name) < 2 ^ d.width
+committed2_fits n w d c s t =
+    shown_fits n w (codes "cd2_" ++ d.name) d.width refl refl
+    (λ l k. (λ e. absurd (names_apart l.name d.name e), λ e. sym (w.pipe.agree d l c k (sym (second_name l.name d.name e))).0)) s t

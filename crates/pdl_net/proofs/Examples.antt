@@ -1,5 +1,6 @@
 -- Small netlists, computed.
-use Rattle.std.proofs.Common.{◌≡◌, ℕ, List, [], ◌∷◌, ◌++◌, map, Some, true, false, codes, decimal, refl}
+use Rattle.std.proofs.Common.{◌≡◌, ℕ, List, [], ◌∷◌, ◌++◌, map, Some, None, true, false, codes, decimal, refl}
+use Rattle.std.specs.Prelude.{slice_index}
 use Rattle.pdl_net.specs.declared.Net.TheVariants.{Input, Reg as RegNet, Cell as CellNet}
 use Rattle.pdl_net.specs.declared.BinOp.TheVariants.{Add, Sub, Xor, Lt, Shl, Shr}
 use Rattle.pdl_net.specs.declared.Dir.TheVariants.{In, Out}
@@ -11,7 +12,7 @@ use Rattle.pdl_word.specs.Words as words
 use Rattle.pdl_net.specs.Signal.{input_value, reg_value, const_value, not_value, bin_value, mux_value, slice_value, cat_value, rep_value, read_value}
 use Rattle.pdl_net.specs.Meaning.{signal, signals}
 use Rattle.pdl_net.specs.Cycle.{output_values, next_regs, next_arrays}
-use Rattle.pdl_net.specs.Run.{nports, committed_by}
+use Rattle.pdl_net.specs.Run.{nports, committed_by, committed2_by}
 use Rattle.pdl_net.specs.Pipe.{pipe_ports}
 
 abbrev out : List ℕ → ℕ → Net → Port
@@ -111,11 +112,47 @@ answers_come : nports asked ((5 ∷ 6 ∷ []) ∷ []) (1 ∷ 0 ∷ 1 ∷ []) ≡
 unfolding output_values next_regs next_arrays signal signals input_value reg_value const_value not_value bin_value mux_value slice_value cat_value rep_value read_value words.add words.sub words.xor words.less words.shl words.shr words.complement words.mux words.slice words.cat words.rep
 answers_come = refl
 
--- the ports of a pipe of two stages, with a locked memory and a delayed one
+-- a delayed memory commits 8 and then 9 to address 1, and is asked for it, in each cycle
+abbrev second : Netlist
+second = record {
+  name = codes "second";
+  ports =
+      into (codes "p_m") 1 ∷ into (codes "pd_m") 4 ∷ out (codes "c_m") 1 (CellNet 0) ∷ out (codes "ca_m") 1 (CellNet 0)
+      ∷ out (codes "cd_m") 4 (CellNet 1) ∷ out (codes "c2_m") 1 (CellNet 0) ∷ out (codes "ca2_m") 1 (CellNet 0)
+      ∷ out (codes "cd2_m") 4 (CellNet 2) ∷ out (codes "q_m") 1 (CellNet 0) ∷ out (codes "qa_m") 1 (CellNet 0)
+      ∷ out (codes "x") 1 (Input 0) ∷ out (codes "y") 4 (Input 1) ∷ [];
+  regs = [];
+  arrays = [];
+  cells = Const 1 1 ∷ Const 4 8 ∷ Const 4 9 ∷ [];
+  mems = record { name = codes "m"; width = 4; depth = 2; delayed = true } ∷ [];
+}
+
+-- the second value holds
+second_holds : map (λ s. slice_index s.ports 9) (nports second ((5 ∷ 6 ∷ []) ∷ []) (1 ∷ 1 ∷ [])) ≡ 0 ∷ 9 ∷ []
+unfolding output_values next_regs next_arrays signal signals input_value reg_value const_value not_value bin_value mux_value slice_value cat_value rep_value read_value words.add words.sub words.xor words.less words.shl words.shr words.complement words.mux words.slice words.cat words.rep
+second_holds = refl
+
+-- both are told, each by its own ports
+first_told : map (λ s. committed_by second s 0) (nports second ((5 ∷ 6 ∷ []) ∷ []) (0 ∷ [])) ≡ Some (1, 8) ∷ []
+unfolding output_values next_regs next_arrays signal signals input_value reg_value const_value not_value bin_value mux_value slice_value cat_value rep_value read_value words.add words.sub words.xor words.less words.shl words.shr words.complement words.mux words.slice words.cat words.rep
+first_told = refl
+
+second_told : map (λ s. committed2_by second s 0) (nports second ((5 ∷ 6 ∷ []) ∷ []) (0 ∷ [])) ≡ Some (1, 9) ∷ []
+unfolding output_values next_regs next_arrays signal signals input_value reg_value const_value not_value bin_value mux_value slice_value cat_value rep_value read_value words.add words.sub words.xor words.less words.shl words.shr words.complement words.mux words.slice words.cat words.rep
+second_told = refl
+
+-- a memory without second ports commits nothing second
+none_second : map (λ s. committed2_by asked s 0) (nports asked ((5 ∷ 6 ∷ []) ∷ []) (0 ∷ [])) ≡ None ∷ []
+unfolding output_values next_regs next_arrays signal signals input_value reg_value const_value not_value bin_value mux_value slice_value cat_value rep_value read_value words.add words.sub words.xor words.less words.shl words.shr words.complement words.mux words.slice words.cat words.rep
+none_second = refl
+
+-- the ports of a pipe of two stages, with a delayed memory and two locked ones, of which a cycle may commit two writes of the second
 ports_stand : map (λ h. h.name)
-    (pipe_ports 2 (record { name = codes "d"; width = 8; bits = 3 } ∷ []) (record { name = codes "m"; width = 4; bits = 2 } ∷ []))
+    (pipe_ports 2 (record { name = codes "d"; width = 8; bits = 3; twice = false } ∷ [])
+    (record { name = codes "m"; width = 4; bits = 2; twice = false } ∷ record { name = codes "w"; width = 4; bits = 2; twice = true } ∷ []))
     ≡ codes "p_d" ∷ codes "pd_d" ∷ (codes "v_" ++ decimal 0) ∷ (codes "g_" ++ decimal 0) ∷ (codes "v_" ++ decimal 1)
-    ∷ (codes "g_" ++ decimal 1) ∷ codes "c_m" ∷ codes "ca_m" ∷ codes "cd_m" ∷ codes "q_d" ∷ codes "qa_d"
+    ∷ (codes "g_" ++ decimal 1) ∷ codes "c_m" ∷ codes "ca_m" ∷ codes "cd_m"
+    ∷ codes "c_w" ∷ codes "ca_w" ∷ codes "cd_w" ∷ codes "c2_w" ∷ codes "ca2_w" ∷ codes "cd2_w" ∷ codes "q_d" ∷ codes "qa_d"
     ∷ codes "ended" ∷ codes "squash" ∷ []
 ports_stand = refl
 

@@ -1,5 +1,5 @@
 -- The state at the start.
-use Rattle.std.proofs.Common.{◌≡◌, ℕ, zero, suc, ◌+◌, ◌-◌, ◌*◌, ◌^◌, ◌<◌, ◌≤◌, ◌⊎◌, ⊎_elim, Bool, true, false, cond, List, [], ◌∷◌, length, map, filter, filter_map, flat_map, find, replicate, drop, get_or, All, Option, Some, None, bytes_eq, refl, sym, ap, ◌∙◌, subst, arith, length-append, append-nil}
+use Rattle.std.proofs.Common.{◌≡◌, ℕ, zero, suc, ◌+◌, ◌-◌, ◌*◌, ◌^◌, ◌<◌, ◌≤◌, ◌⊎◌, ⊎_elim, Bool, true, false, cond, if◌then◌else◌, List, [], ◌∷◌, ◌++◌, length, map, filter, filter_map, flat_map, find, replicate, drop, get_or, All, Option, Some, None, bytes_eq, refl, sym, ap, ◌∙◌, subst, arith, length-append, append-nil}
 use Rattle.std.specs.List.{cons_option, range_with_len}
 use Rattle.std.proofs.lemmas.List.{get_or-map, length-map, length-replicate, get_or_append_left, get_or-append_right, get_or-drop, length-drop}
 use Rattle.std.proofs.lemmas.List.Elements.{filter_map-append}
@@ -15,7 +15,7 @@ use Rattle.pdl_net.specs.declared.Netlist.{Netlist}
 use Rattle.pdl_net.specs.Circuit.{circuit_of, inputs_of, input_with, port_input, no_reg, array_at, no_array}
 use Rattle.pdl_net.specs.Well.{IsWell}
 use Rattle.pdl_net.specs.Run.{delayed_mems, filled_words, loaded_arrays, no_mem}
-use Rattle.pdl_net.specs.Pipe.{Head, head_of, is_input, PortMem, reply_ports, reply_widths, stage_ports, commit_ports, request_ports, comb_info, delayed_info, IsPipe, IsWellFormed}
+use Rattle.pdl_net.specs.Pipe.{Head, head_of, is_input, PortMem, reply_ports, reply_widths, stage_ports, first_ports, second_ports, commit_ports, request_ports, comb_info, delayed_info, IsPipe, IsWellFormed}
 use Rattle.pdl_word.proofs.Lists.{zeros_at}
 use Rattle.pdl_net.proofs.PipeMems.{none_delayed, delayed_told}
 use Rattle.pdl_net.specs.Holds.{Holds, ImageFits}
@@ -125,7 +125,10 @@ stages_show (k ∷ ks) = stages_show ks
 commits_show : (ms : List PortMem) → filter_map head_input (flat_map commit_ports ms) ≡ []
 unfolding head_input
 commits_show [] = refl
-commits_show (m ∷ ms) = commits_show ms
+commits_show (m ∷ ms) =
+    let rest = commits_show ms in
+    let P : Bool → Type 0 = λ b. filter_map head_input ((first_ports m ++ (if b then second_ports m else [])) ++ flat_map commit_ports ms) ≡ [] in
+    elim m.twice as P [ true ↦ rest | false ↦ rest ]
 
 requests_show : (ms : List PortMem) → filter_map head_input (flat_map request_ports ms) ≡ []
 unfolding head_input

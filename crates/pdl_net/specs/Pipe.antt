@@ -1,5 +1,5 @@
 -- Netlists that break none of the rules V2 to V5.
-use Rattle.std.specs.Prelude.{◌≡◌, ◌≢◌, ℕ, ◌*◌, ◌^◌, ◌≤◌, ◌⊎◌, Bool, true, false, List, [], ◌∷◌, ◌++◌, length, map, flat_map, find, All, AllPairs, Contains, Option, Some, None, codes, decimal, bytes_eq}
+use Rattle.std.specs.Prelude.{◌≡◌, ◌≢◌, ℕ, ◌*◌, ◌^◌, ◌≤◌, ◌⊎◌, Bool, true, false, List, [], ◌∷◌, ◌++◌, length, map, flat_map, find, All, AllPairs, Contains, Option, Some, None, codes, decimal, bytes_eq, if◌then◌else◌}
 use Rattle.std.specs.List.{range_with_len}
 use Rattle.pdl_kit.specs.declared.mem_info.MemInfo.{MemInfo}
 use Rattle.pdl_net.specs.declared.Dir.{Dir}
@@ -33,11 +33,12 @@ input name width = record { name = name; width = width; input = true }
 abbrev pub output : List ℕ → ℕ → Head
 output name width = record { name = name; width = width; input = false }
 
--- a memory as its ports tell it: its name, the bits of a word, and the bits of an address
+-- a memory as its ports tell it: its name, the bits of a word, the bits of an address, and whether a cycle may commit two of its writes
 pub record PortMem : Type 0 where
   pub name : List ℕ
   pub width : ℕ
   pub bits : ℕ
+  pub twice : Bool
 
 -- the inputs by which a delayed memory answers: whether it does, and the word
 abbrev pub reply_ports : PortMem → List Head
@@ -52,8 +53,16 @@ abbrev pub stage_ports : ℕ → List Head
 stage_ports k = output (codes "v_" ++ decimal k) 1 ∷ output (codes "g_" ++ decimal k) 1 ∷ []
 
 -- of a locked memory: whether it commits, the address, and the word
+abbrev pub first_ports : PortMem → List Head
+first_ports m = output (codes "c_" ++ m.name) 1 ∷ output (codes "ca_" ++ m.name) m.bits ∷ output (codes "cd_" ++ m.name) m.width ∷ []
+
+-- and the same of a second commit of the cycle
+abbrev pub second_ports : PortMem → List Head
+second_ports m = output (codes "c2_" ++ m.name) 1 ∷ output (codes "ca2_" ++ m.name) m.bits ∷ output (codes "cd2_" ++ m.name) m.width ∷ []
+
+-- of a locked memory: what it commits, and what it commits second where a cycle may commit two of its writes
 abbrev pub commit_ports : PortMem → List Head
-commit_ports m = output (codes "c_" ++ m.name) 1 ∷ output (codes "ca_" ++ m.name) m.bits ∷ output (codes "cd_" ++ m.name) m.width ∷ []
+commit_ports m = first_ports m ++ (if m.twice then second_ports m else [])
 
 -- of a delayed memory: whether it is asked, and the address
 abbrev pub request_ports : PortMem → List Head
@@ -80,9 +89,9 @@ pub record IsPipeArray (delayed locked : List PortMem) (a : Array) : Type 0 wher
   pub depth : All (λ m. m.name ≡ a.name → (a.depth ≡ 2 ^ m.bits) ⊎ (a.depth ≡ 2 * 2 ^ m.bits)) locked
   pub unlocked : All (λ m. m.name ≢ a.name) locked → (a.depth ≤ 65536) × (a.writes ≡ [])
 
--- a locked memory is delayed or has an array
+-- a locked memory has the name of a delayed one or of an array
 abbrev pub IsKept : List PortMem → List Array → PortMem → Type 0
-IsKept delayed arrays m = Contains delayed m ⊎ Contains (map (λ a. a.name) arrays) m.name
+IsKept delayed arrays m = Contains (map (λ d. d.name) delayed) m.name ⊎ Contains (map (λ a. a.name) arrays) m.name
 
 -- a delayed memory, as its ports tell it
 abbrev pub delayed_info : PortMem → MemInfo
@@ -107,7 +116,7 @@ pub record IsPipe (n : Netlist) : Type 0 where
   pub ports : map head_of n.ports ≡ pipe_ports stages delayed locked
   pub delayed_addresses : All IsAddress delayed
   pub locked_addresses : All IsAddress locked
-  pub agree : (d l : PortMem) → Contains delayed d → Contains locked l → d.name ≡ l.name → d ≡ l
+  pub agree : (d l : PortMem) → Contains delayed d → Contains locked l → d.name ≡ l.name → (d.width ≡ l.width) × (d.bits ≡ l.bits)
   pub arrays : All (IsPipeArray delayed locked) n.arrays
   pub kept : All (IsKept delayed n.arrays) locked
   pub mems : n.mems ≡ mems_of delayed locked n.arrays

@@ -73,6 +73,13 @@ abbrev pub commit_of : Circuit → List ℕ → List ℕ → Option (ℕ × ℕ)
 commit_of c ports mem =
     if port_value c ports (codes "c_" ++ mem) == 1 then Some (port_value c ports (codes "ca_" ++ mem), port_value c ports (codes "cd_" ++ mem)) else None
 
+-- what a memory commits after that in the same cycle: an address and a value, where its second commit port is 1
+abbrev pub commit2_of : Circuit → List ℕ → List ℕ → Option (ℕ × ℕ)
+commit2_of c ports mem =
+    if port_value c ports (codes "c2_" ++ mem) == 1
+    then Some (port_value c ports (codes "ca2_" ++ mem), port_value c ports (codes "cd2_" ++ mem))
+    else None
+
 -- what a memory is asked for: an address, where its request port is 1
 abbrev pub request_of : Circuit → List ℕ → List ℕ → Option ℕ
 request_of c ports mem = if port_value c ports (codes "q_" ++ mem) == 1 then Some (port_value c ports (codes "qa_" ++ mem)) else None
@@ -93,7 +100,10 @@ abbrev pub next_stores : Circuit → List ℕ → List MemInfo → List Store �
 next_stores c ports [] stores bits = []
 next_stores c ports (i ∷ infos) [] bits = []
 next_stores c ports (i ∷ infos) (m ∷ ms) bits =
-    record { words = committed_words m.words (commit_of c ports i.name); request = outstanding m.request (reply bits) (request_of c ports i.name) }
+    record {
+      words = committed_words (committed_words m.words (commit_of c ports i.name)) (commit2_of c ports i.name);
+      request = outstanding m.request (reply bits) (request_of c ports i.name);
+    }
     ∷ next_stores c ports infos ms (bits / 2)
 
 -- the delayed memories, in order
@@ -145,3 +155,7 @@ mem_at n m = slice_index_or n.mems m no_mem
 -- what the m-th memory commits in a cycle
 abbrev pub committed_by : Netlist → Shown → ℕ → Option (ℕ × ℕ)
 committed_by n seen m = commit_of (circuit_of n) seen.ports (mem_at n m).name
+
+-- what the m-th memory commits in a cycle after that
+abbrev pub committed2_by : Netlist → Shown → ℕ → Option (ℕ × ℕ)
+committed2_by n seen m = commit2_of (circuit_of n) seen.ports (mem_at n m).name

@@ -16,7 +16,7 @@ use Rattle.pdl_net.specs.declared.Netlist.{Netlist}
 use Rattle.pdl_net.specs.Circuit.{State, circuit_of, port_output, reg_at, no_reg, array_at, no_array}
 use Rattle.pdl_net.specs.Meaning.{IsThere}
 use Rattle.pdl_net.specs.Cycle.{net_value, output_values, next_regs, after_writes, arrays_from, next_arrays}
-use Rattle.pdl_net.specs.Run.{Store, Held, Shown, some_waits, shown_ports, state_in, commit_of, request_of, place_of, next_stores, next, loaded_arrays, start, nports_from, nports, delayed_mems}
+use Rattle.pdl_net.specs.Run.{Store, Held, Shown, some_waits, shown_ports, state_in, commit_of, commit2_of, request_of, place_of, next_stores, next, loaded_arrays, start, nports_from, nports, delayed_mems}
 use Rattle.pdl_net.specs.Well.{IsDriven, IsWell}
 use Rattle.pdl_net_needed.specs.Needed.{shown_by, read_by, Choice, IsKept}
 use Rattle.pdl_net_needed.specs.Pruned.{kept_of, moved_net, moved_port, moved_reg, moved_write, moved_array, pruned}
@@ -46,6 +46,9 @@ place_same k n name = place_from k name n.ports 0
 commit_same : (k : Choice) (n : Netlist) (ports mem : List ℕ) → commit_of (after k n) ports mem ≡ commit_of (circuit_of n) ports mem
 commit_same k n ports mem = cc (place_same k n (codes "c_" ++ mem), place_same k n (codes "ca_" ++ mem), place_same k n (codes "cd_" ++ mem))
 
+commit2_same : (k : Choice) (n : Netlist) (ports mem : List ℕ) → commit2_of (after k n) ports mem ≡ commit2_of (circuit_of n) ports mem
+commit2_same k n ports mem = cc (place_same k n (codes "c2_" ++ mem), place_same k n (codes "ca2_" ++ mem), place_same k n (codes "cd2_" ++ mem))
+
 request_same : (k : Choice) (n : Netlist) (ports mem : List ℕ) → request_of (after k n) ports mem ≡ request_of (circuit_of n) ports mem
 request_same k n ports mem = cc (place_same k n (codes "q_" ++ mem), place_same k n (codes "qa_" ++ mem))
 
@@ -54,7 +57,7 @@ stores_same : (k : Choice) (n : Netlist) (ports : List ℕ) (mems : List MemInfo
 stores_same k n ports [] stores bits = refl
 stores_same k n ports (i ∷ mems) [] bits = refl
 stores_same k n ports (i ∷ mems) (m ∷ stores) bits =
-    cc (commit_same k n ports i.name, request_same k n ports i.name, stores_same k n ports mems stores (bits / 2))
+    cc (commit_same k n ports i.name, commit2_same k n ports i.name, request_same k n ports i.name, stores_same k n ports mems stores (bits / 2))
 
 -- ---- values in one cycle
 

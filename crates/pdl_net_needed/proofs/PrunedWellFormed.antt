@@ -144,7 +144,7 @@ pipe k n p = record {
   locked_addresses = p.locked_addresses;
   agree = p.agree;
   arrays = All-map (IsPipeArray p.delayed p.locked) (moved_array k) n.arrays (λ i d l. array d i l);
-  kept = subst (λ ns. All (λ m. Contains p.delayed m ⊎ Contains ns m.name) p.locked) (sym (array_names_same k n.arrays)) p.kept;
+  kept = subst (λ ns. All (λ m. Contains (map (λ d. d.name) p.delayed) m.name ⊎ Contains ns m.name) p.locked) (sym (array_names_same k n.arrays)) p.kept;
   mems = p.mems ∙ ap (λ xs. map delayed_info p.delayed ++ xs) (sym (mems_same k p.locked n.arrays));
   count = p.count;
 }

@@ -1,5 +1,5 @@
 -- The loops over the delayed memories outside the netlist: what they answer, and what a cycle does to them.
-use Rattle.std.proofs.Common.{◌≡◌, ◌≢◌, ℕ, zero, suc, ◌+◌, ◌/◌, ◌^◌, ◌<◌, ◌≤◌, ◌==◌, ⊎_elim, if◌then◌else◌, codes, flat_map, Option, Some, ap₂, Bool, true, false, ◌||◌, List, [], ◌∷◌, ◌++◌, length, get_or, take, drop, set, map, None, refl, sym, ap, ◌∙◌, subst, append_assoc, append-nil, length-append, arith}
+use Rattle.std.proofs.Common.{◌≡◌, ◌≢◌, ℕ, zero, suc, ◌+◌, ◌/◌, ◌^◌, ◌<◌, ◌≤◌, ◌==◌, ⊎_elim, if◌then◌else◌, codes, flat_map, Option, Some, ap₂, Bool, true, false, ◌||◌, List, [], ◌∷◌, ◌++◌, length, get_or, take, drop, set, map, Contains, None, refl, sym, ap, ◌∙◌, subst, append_assoc, append-nil, length-append, arith}
 use Rattle.std.proofs.lemmas.List.{take_all, take_more, drop_all, map-append, take_more_set, drop-set-lt, length-set, length-map, length-take-le, get_or-drop, get_or-take, get_or-map, get_or_default, get_or-set_same, get_or-set_other, get_or_past}
 use Rattle.std.proofs.lemmas.Bool.{cases_lt, cases_eq}
 use Rattle.std.proofs.lemmas.Nat.{pow_pos}
@@ -14,14 +14,14 @@ use Rattle.pdl_net.specs.Circuit.{Circuit, State, circuit_of, inputs_of}
 use Rattle.pdl_net.specs.Cycle.{output_values}
 use Rattle.pdl_net.specs.Well.{Suits}
 use Rattle.pdl_net.specs.Pipe.{PortMem, reply_widths, delayed_info, IsPipe, IsWellFormed}
-use Rattle.pdl_net.specs.Run.{Store, answer, answers, commit_of, committed_words, delayed_mems, is_waiting, next_stores, outstanding, port_value, reply, some_waits}
+use Rattle.pdl_net.specs.Run.{Store, answer, answers, commit_of, commit2_of, committed_words, delayed_mems, is_waiting, next_stores, outstanding, port_value, reply, some_waits}
 use Rattle.pdl_net.proofs.PipeMems.{delayed_told, delayed_in_front}
 use Rattle.pdl_net.proofs.StartState.{inputs_told}
-use Rattle.pdl_net.proofs.CommitWidths.{committed_fits}
-use Rattle.pdl_netrun.specs.declared.places.CommitPlaces.{CommitPlaces}
+use Rattle.pdl_net.proofs.CommitWidths.{committed_fits, committed2_fits}
+use Rattle.pdl_netrun.specs.declared.places.MemoryPlaces.{MemoryPlaces}
 use Rattle.pdl_netrun.specs.declared.places.RequestPlaces.{RequestPlaces}
 use Rattle.pdl_netrun.specs.declared.outside.Outside.{Outside}
-use Rattle.pdl_netrun.specs.Outside.{store_of, stores_of, store_after, stores_after, commit_at, request_at, first_stores, requests_of, IsOutsideOf, WordsFit, CommitsFit, AreOutside}
+use Rattle.pdl_netrun.specs.Outside.{store_of, stores_of, store_after, stores_after, commit_at, request_at, first_stores, requests_of, IsOutsideOf, WordsFit, ShowsWords, CommitsFit, AreOutside}
 use Rattle.pdl_netrun.specs.Places.{places_of}
 
 -- THE ANSWERS
@@ -202,9 +202,9 @@ stores_named c ports (i ∷ infos) (m ∷ ms) bits e f =
     let commits_after : map (λ (x : Outside). x.commits) ms ≡ map (λ (x : MemInfo). places_of c x.name) infos = cc in
     let requests_after : map (λ (x : Outside). x.requests) ms ≡ map (λ (x : MemInfo). requests_of c x.name) infos = cc in
     ap₂
-    (λ (p : CommitPlaces)
+    (λ (p : MemoryPlaces)
     (q : RequestPlaces). record {
-      words = committed_words m.words.items (commit_at ports p);
+      words = committed_words (committed_words m.words.items (commit_at ports p.first)) (commit_at ports p.second);
       request = outstanding m.request (reply bits) (request_at ports q);
     }
     ∷ next_stores c ports infos (stores_of ms) (bits / 2))
@@ -244,14 +244,21 @@ words_kept c s [] (i ∷ is) ms bits t k f = absurd k
 words_kept c s (r ∷ []) infos ms bits t k f = absurd f
 words_kept c s (r ∷ w ∷ ws) [] ms bits t k f = absurd k
 words_kept c s (r ∷ w ∷ ws) (i ∷ is) [] bits t k f = absurd f
-words_kept c s (r ∷ w ∷ ws) (i ∷ is) (m ∷ ms) bits t k f = (
-  f.0,
-  committed_below m.words (commit_of c (output_values c s) i.name) (2 ^ w)
-      (commit_below (port_value c (output_values c s) (codes "c_" ++ i.name) == 1)
-      (port_value c (output_values c s) (codes "ca_" ++ i.name))
-      (port_value c (output_values c s) (codes "cd_" ++ i.name)) (2 ^ w) (k.0 s t)) f.1,
-  words_kept c s ws is ms (bits / 2) t k.1 f.2,
-)
+words_kept c s (r ∷ w ∷ ws) (i ∷ is) (m ∷ ms) bits t k f =
+    let ports = output_values c s in
+    let first = committed_words m.words (commit_of c ports i.name) in
+    let below : (a : ℕ) → slice_index first a < 2 ^ w =
+    committed_below m.words (commit_of c ports i.name) (2 ^ w)
+    (commit_below (port_value c ports (codes "c_" ++ i.name) == 1)
+    (port_value c ports (codes "ca_" ++ i.name))
+    (port_value c ports (codes "cd_" ++ i.name)) (2 ^ w) (k.0 s t)) f.1 in (
+      f.0,
+      committed_below first (commit2_of c ports i.name) (2 ^ w)
+          (commit_below (port_value c ports (codes "c2_" ++ i.name) == 1)
+          (port_value c ports (codes "ca2_" ++ i.name))
+          (port_value c ports (codes "cd2_" ++ i.name)) (2 ^ w) (k.1 s t)) below,
+      words_kept c s ws is ms (bits / 2) t k.2 f.2,
+    )
 
 -- OF A NETLIST
 
@@ -266,11 +273,12 @@ words_first (d ∷ ds) [] e f = absurd (omega (arith, e))
 words_first (d ∷ ds) (i ∷ is) e f = (refl, f zero d (omega arith), words_first ds is (omega (arith, e)) (λ k x l. f (suc k) x (omega (arith, l))))
 
 commits_first : (c : Circuit) (ds : List PortMem)
-    → ((k : ℕ) (d : PortMem) → k < length ds → (s : State) → Suits c s
-    → port_value c (output_values c s) (codes "cd_" ++ (get_or ds k d).name) < 2 ^ (get_or ds k d).width)
+    → ((k : ℕ) (d : PortMem) → k < length ds
+    → ShowsWords c (codes "cd_" ++ (get_or ds k d).name) (get_or ds k d).width
+    × ShowsWords c (codes "cd2_" ++ (get_or ds k d).name) (get_or ds k d).width)
     → CommitsFit c (flat_map reply_widths ds) (map delayed_info ds)
 commits_first c [] f = tt
-commits_first c (d ∷ ds) f = (f zero d (omega arith), commits_first c ds (λ k x l. f (suc k) x (omega (arith, l))))
+commits_first c (d ∷ ds) f = let here = f zero d (omega arith) in (here.0, here.1, commits_first c ds (λ k x l. f (suc k) x (omega (arith, l))))
 
 -- there are no more delayed memories than memories, and at most 16
 pub few_delayed : (n : Netlist) (p : IsPipe n) → (length (delayed_mems n) ≤ length n.mems) × (length (delayed_mems n) ≤ 16)
@@ -308,9 +316,13 @@ fit_at_start n image w i =
     let x = i.width k (delayed_info d) (omega (arith, u, few)) a in
     let y = subst (λ (m : MemInfo). slice_index (get_or image k []) a < 2 ^ m.width) mem x in
     subst (λ (r : List ℕ). slice_index r a < 2 ^ (get_or ds k d).width) (sym (get_or-take (length (delayed_mems n)) image k [] u)) y in
-    let values : (k : ℕ) (d : PortMem) → k < length ds → (s : State) → Suits c s
-    → port_value c (output_values c s) (codes "cd_" ++ (get_or ds k d).name) < 2 ^ (get_or ds k d).width =
-    λ k d l s t. committed_fits n w (get_or ds k d) (k, l, get_or_default ds k (get_or ds k d) d l) s t in
+    let values : (k : ℕ) (d : PortMem) → k < length ds
+    → ShowsWords c (codes "cd_" ++ (get_or ds k d).name) (get_or ds k d).width
+    × ShowsWords c (codes "cd2_" ++ (get_or ds k d).name) (get_or ds k d).width =
+    λ k d l.
+    let x = get_or ds k d in
+    let here : Contains ds x = (k, l, get_or_default ds k x d l) in
+    (committed_fits n w x here, committed2_fits n w x here) in
     record {
       words =
           subst (λ (ws : List ℕ). WordsFit ws (first_stores (take (length (delayed_mems n)) image)))

@@ -1,5 +1,5 @@
 -- The netlist of the tests breaks no rule.
-use Rattle.std.proofs.Common.{◌≡◌, ◌≢◌, ◌⊎◌, inl, inr, ℕ, zero, suc, ◌*◌, ◌^◌, ◌<◌, Bool, true, ◌&&◌, not, List, [], ◌∷◌, length, get_or, map, All, AllPairs, Some, codes, bytes_eq, refl, sym, ap, subst, arith, lit<, lit≤}
+use Rattle.std.proofs.Common.{◌≡◌, ◌≢◌, ◌⊎◌, inl, inr, ℕ, zero, suc, ◌*◌, ◌^◌, ◌<◌, Bool, true, ◌&&◌, not, List, [], ◌∷◌, ◌++◌, length, get_or, map, All, AllPairs, Some, codes, bytes_eq, refl, sym, ap, subst, arith, lit<, lit≤}
 use Rattle.std.specs.Prelude.{slice_get}
 use Rattle.std.specs.List.{list_all}
 use Rattle.std.proofs.lemmas.Slice.Eq.{bytes_eq-Decides}
@@ -8,7 +8,7 @@ use Rattle.std.proofs.lemmas.Bool.{and_parts}
 use Rattle.pdl_net.specs.declared.Net.TheVariants.{Reg as RegNet, Cell as CellNet}
 use Rattle.pdl_net.specs.declared.Netlist.{Netlist}
 use Rattle.pdl_net.specs.Run.{delayed_mems}
-use Rattle.pdl_netrun.specs.Sample.{memory, odd_write, sample}
+use Rattle.pdl_netrun.specs.Sample.{out, memory, odd_write, later_write, commits, ends, sample}
 use Rattle.pdl_net.specs.Circuit.{Circuit, circuit_of, outputs_of, reg_at, array_at}
 use Rattle.pdl_net.specs.Meaning.{signal, signals, IsThere}
 use Rattle.pdl_net.specs.Well.{IsWellPort, IsWellReg, IsWellArray, IsWellWrite, CellsFit, CellsWell}
@@ -27,6 +27,10 @@ each_got : {X : Type 0} (P : X → Type 0) (xs : List X) → Each P xs → (i : 
 each_got P [] h i x e = cc e
 each_got P (y ∷ ys) h zero x e = let s : y ≡ x = cc e in subst P s h.0
 each_got P (y ∷ ys) h (suc i) x e = each_got P ys h.1 i x e
+
+each_joined : {X : Type 0} (P : X → Type 0) (xs ys : List X) → Each P xs → Each P ys → Each P (xs ++ ys)
+each_joined P [] ys h k = k
+each_joined P (x ∷ xs) ys h k = (h.0, each_joined P xs ys h.1 k)
 
 -- names that differ, by a test
 abbrev differ_all : List (List ℕ) → Bool
@@ -57,7 +61,16 @@ cells_fit = (
     (lit≤ tt, lit≤ tt, lit< tt),
     (
       (lit< tt, lit< tt, refl),
-      ((lit< tt, lit≤ tt, lit< tt), ((lit≤ tt, lit≤ tt, lit< tt), ((lit< tt, lit≤ tt, lit< tt), ((lit< tt, lit< tt, refl), ((lit< tt, lit< tt, refl), tt))))),
+      (
+        (lit< tt, lit≤ tt, lit< tt),
+        (
+          (lit≤ tt, lit≤ tt, lit< tt),
+          (
+            (lit< tt, lit≤ tt, lit< tt),
+            ((lit< tt, lit< tt, refl), ((lit< tt, lit< tt, refl), ((lit< tt, lit< tt, refl), ((lit< tt, lit< tt, refl), tt)))),
+          ),
+        ),
+      ),
     ),
   ),
 )
@@ -66,31 +79,31 @@ write_well : IsWellWrite circuit memory odd_write
 unfolding signal signals IsThere
 write_well = record { enable = lit< tt; addr = lit< tt; value = lit< tt; one = refl; reach = refl; width = refl }
 
+later_well : IsWellWrite circuit memory later_write
+unfolding signal signals IsThere
+later_well = record { enable = lit< tt; addr = lit< tt; value = lit< tt; one = refl; reach = refl; width = refl }
+
 array_well : IsWellArray circuit memory
 array_well = record {
   low = lit≤ tt;
   high = lit≤ tt;
   depth = record { bits = 1; low = lit≤ tt; high = lit≤ tt; power = refl };
-  writes = each_got (IsWellWrite circuit memory) memory.writes (write_well, tt);
+  writes = each_got (IsWellWrite circuit memory) memory.writes (write_well, (later_well, tt));
 }
+
+commits_well : Each (IsWellPort circuit) commits
+unfolding signal signals IsThere
+commits_well = (record { low = lit≤ tt; high = lit≤ tt; driven = (lit< tt, refl) }, (record { low = lit≤ tt; high = lit≤ tt; driven = (lit< tt, refl) }, (record { low = lit≤ tt; high = lit≤ tt; driven = (lit< tt, refl) }, (record { low = lit≤ tt; high = lit≤ tt; driven = (lit< tt, refl) }, (record { low = lit≤ tt; high = lit≤ tt; driven = (lit< tt, refl) }, (record { low = lit≤ tt; high = lit≤ tt; driven = (lit< tt, refl) }, tt))))))
+
+ends_well : Each (IsWellPort circuit) ends
+unfolding signal signals IsThere
+ends_well = (record { low = lit≤ tt; high = lit≤ tt; driven = (lit< tt, refl) }, (record { low = lit≤ tt; high = lit≤ tt; driven = (lit< tt, refl) }, tt))
 
 ports_well : Each (IsWellPort circuit) circuit.ports
 unfolding signal signals IsThere
 ports_well = (
   record { low = lit≤ tt; high = lit≤ tt; driven = (lit< tt, refl) },
-  (
-    record { low = lit≤ tt; high = lit≤ tt; driven = (lit< tt, refl) },
-    (
-      record { low = lit≤ tt; high = lit≤ tt; driven = (lit< tt, refl) },
-      (
-        record { low = lit≤ tt; high = lit≤ tt; driven = (lit< tt, refl) },
-        (
-          record { low = lit≤ tt; high = lit≤ tt; driven = (lit< tt, refl) },
-          (record { low = lit≤ tt; high = lit≤ tt; driven = (lit< tt, refl) }, (record { low = lit≤ tt; high = lit≤ tt; driven = (lit< tt, refl) }, tt)),
-        ),
-      ),
-    ),
-  ),
+  (record { low = lit≤ tt; high = lit≤ tt; driven = (lit< tt, refl) }, each_joined (IsWellPort circuit) commits ends commits_well ends_well),
 )
 
 reg_well : (r : ℕ) → r < length circuit.regs → IsWellReg circuit (reg_at circuit r)
@@ -103,7 +116,7 @@ arrays_well zero h = array_well
 arrays_well (suc m) h = absurd (omega arith)
 
 abbrev locked : PortMem
-locked = record { name = codes "m"; width = 4; bits = 1 }
+locked = record { name = codes "m"; width = 4; bits = 1; twice = true }
 
 each_all : {X : Type 0} (P : X → Type 0) (xs : List X) → Each P xs → All P xs
 each_all P [] h k d l = absurd (omega arith)
@@ -152,9 +165,9 @@ well_of n e = subst IsWellFormed (sym e) sample_well
 pub here_of : (n : Netlist) → n ≡ sample → delayed_mems n ≡ []
 here_of n e = ap delayed_mems e
 
--- the netlist of the tests has outputs 0 to 6
-pub output_of : (n : Netlist) (i : ℕ) → n ≡ sample → i < 7 → i < length (outputs_of (circuit_of n))
-output_of n i e h = let l : length (outputs_of (circuit_of n)) ≡ 7 = ap (λ x. length (outputs_of (circuit_of x))) e in omega (arith, h, l)
+-- the netlist of the tests has outputs 0 to 9
+pub output_of : (n : Netlist) (i : ℕ) → n ≡ sample → i < 10 → i < length (outputs_of (circuit_of n))
+output_of n i e h = let l : length (outputs_of (circuit_of n)) ≡ 10 = ap (λ x. length (outputs_of (circuit_of x))) e in omega (arith, h, l)
 
 -- the netlist of the tests has memory 0
 pub mem_of : (n : Netlist) (m : ℕ) → n ≡ sample → m < 1 → m < length n.mems
@@ -164,10 +177,10 @@ mem_of n m e h = let l : length n.mems ≡ 1 = ap (λ x. length x.mems) e in ome
 pub cells_of : (n : Netlist) → n ≡ sample → CellsWell (circuit_of n)
 cells_of n e = cells_well (circuit_of n) (well_of n e).well
 
--- the netlist of the tests has cells 0 to 7
-pub cell_of : (n : Netlist) (k : ℕ) → n ≡ sample → k < 8 → IsThere (circuit_of n) (CellNet k)
+-- the netlist of the tests has cells 0 to 9
+pub cell_of : (n : Netlist) (k : ℕ) → n ≡ sample → k < 10 → IsThere (circuit_of n) (CellNet k)
 unfolding IsThere
-cell_of n k e h = let l : length n.cells ≡ 8 = ap (λ x. length x.cells) e in omega (arith, h, l)
+cell_of n k e h = let l : length n.cells ≡ 10 = ap (λ x. length x.cells) e in omega (arith, h, l)
 
 -- the netlist of the tests has register 0
 pub reg_of : (n : Netlist) (r : ℕ) → n ≡ sample → r < 1 → IsThere (circuit_of n) (RegNet r)

@@ -33,7 +33,7 @@ request_at ports p = if value_at ports p.request == 1 then Some (value_at ports 
 -- a delayed memory after a cycle that shows these ports, in which its request was answered or not
 abbrev pub store_after : List ℕ → Bool → Outside → Store
 store_after ports answered m = record {
-  words = committed_words m.words.items (commit_at ports m.commits);
+  words = committed_words (committed_words m.words.items (commit_at ports m.commits.first)) (commit_at ports m.commits.second);
   request = outstanding m.request answered (request_at ports m.requests);
 }
 
@@ -48,11 +48,16 @@ WordsFit [] [] = ⊤
 WordsFit (r ∷ w ∷ more) (m ∷ ms) = (r ≡ 1) × ((a : ℕ) → slice_index m.words a < 2 ^ w) × WordsFit more ms
 WordsFit _ _ = ⊥
 
+-- an output of this name shows values of so many bits, in every state that suits
+abbrev pub ShowsWords : Circuit → List ℕ → ℕ → Type 0
+ShowsWords c name w = (s : State) → Suits c s → port_value c (output_values c s) name < 2 ^ w
+
 -- what each memory commits fits its input for words, in every state that suits
 abbrev pub CommitsFit : Circuit → List ℕ → List MemInfo → Type 0
 CommitsFit c [] [] = ⊤
 CommitsFit c (r ∷ w ∷ more) (i ∷ is) =
-    ((s : State) → Suits c s → port_value c (output_values c s) (codes "cd_" ++ i.name) < 2 ^ w)
+    ShowsWords c (codes "cd_" ++ i.name) w
+    × ShowsWords c (codes "cd2_" ++ i.name) w
     × CommitsFit c more is
 CommitsFit c _ _ = ⊥
 

@@ -5,7 +5,7 @@ ghost use Rattle.pdl_net.specs.Run.{answer, answers, committed_words, is_waiting
 ghost use Rattle.pdl_netrun.specs.Outside.{commit_at, request_at, store_after, store_of, stores_after, stores_of};
 ghost use Rattle.pdl_netrun.specs.Steps.{AreBelow};
 
-use crate::places::{CommitPlaces, RequestPlaces};
+use crate::places::{CommitPlaces, MemoryPlaces, RequestPlaces};
 use crate::walk::read_place;
 
 /// A delayed memory: its words, the address of the outstanding request, and the places of its ports among the outputs.
@@ -13,7 +13,7 @@ use crate::walk::read_place;
 pub struct Outside {
     pub words: Vec<u64>,
     pub request: Option<u64>,
-    pub commits: CommitPlaces,
+    pub commits: MemoryPlaces,
     pub requests: RequestPlaces,
 }
 
@@ -90,7 +90,7 @@ fn value_of(drivers: &[u32], values: &[u64], place: Option<usize>) -> u64
     }
 }
 
-/// Writes what a memory commits, if it does.
+/// Writes what the ports at these places commit, if they do.
 fn commit_word(words: &mut [u64], places: CommitPlaces, drivers: &[u32], values: &[u64])
     requires there { AreBelow (length values.now) drivers.now }
     ensures { words.new ≡ committed_words words.old
@@ -136,7 +136,8 @@ fn step_memory(memory: &mut Outside, answered: bool, drivers: &[u32], values: &[
     ensures commits { memory.new.commits ≡ memory.old.commits }
     ensures requests { memory.new.requests ≡ memory.old.requests }
 {
-    commit_word(&mut memory.words, memory.commits, drivers, values);
+    commit_word(&mut memory.words, memory.commits.first, drivers, values);
+    commit_word(&mut memory.words, memory.commits.second, drivers, values);
     let asked = request_of(memory.requests, drivers, values);
     memory.request = next_request(memory.request, answered, asked);
 }

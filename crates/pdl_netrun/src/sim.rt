@@ -3,10 +3,10 @@
 ghost use Rattle.std.specs.Prelude.{◌≡◌, ◌+◌, ◌++◌, ◌<◌, ◌≤◌, drop, length, slice_index, take, IfOk};
 ghost use Rattle.pdl_net.specs.Circuit.{circuit_of, outputs_of};
 ghost use Rattle.pdl_net.specs.Well.{IsWell};
-ghost use Rattle.pdl_net.specs.Run.{delayed_mems, committed_by, value_at};
+ghost use Rattle.pdl_net.specs.Run.{delayed_mems, committed_by, committed2_by, value_at};
 ghost use Rattle.pdl_net.specs.Pipe.{IsWellFormed};
 ghost use Rattle.pdl_image.specs.Images.{IsImage};
-ghost use Rattle.pdl_netrun.specs.Outside.{AreOutside, stores_of};
+ghost use Rattle.pdl_netrun.specs.Outside.{AreOutside, commit_at, stores_of};
 ghost use Rattle.pdl_netrun.specs.Sim.{run_at, run_at_start, run_after};
 ghost use Rattle.pdl_netrun.specs.Steps.{array_words};
 ghost use Rattle.pdl_netrun.specs.Order.{IsOrderOf, AllPlaced};
@@ -14,7 +14,7 @@ ghost use Rattle.pdl_net.specs.Holds.{Holds};
 
 use crate::order::{CellOrder, order_of};
 use crate::outside::{Outside, answer_all, step_all};
-use crate::places::{CommitPlaces, all_places};
+use crate::places::{CommitPlaces, MemoryPlaces, all_places};
 use crate::plan::{all_drivers, all_nexts, all_resets, all_runs, all_writes, put_constants};
 use crate::start::{all_arrays, all_outside, count_delayed};
 use crate::walk::{CellRun, read_place, read_places, walk_runs};
@@ -38,7 +38,7 @@ pub struct Sim<'a> {
     nexts: Vec<u32>,
     drivers: Vec<u32>,
     writes: Vec<PlannedWrite>,
-    commits: Vec<CommitPlaces>,
+    commits: Vec<MemoryPlaces>,
     /// The values of all nets in the last cycle.
     values: Vec<u64>,
     arrays: Vec<Vec<u64>>,
@@ -188,6 +188,18 @@ impl<'a> Sim<'a> {
         }
     }
 
+    /// What the ports at these places committed in the last cycle.
+    fn committed(&self, places: CommitPlaces) -> Option<(u64, u64)>
+        ensures { result ≡ commit_at self.now.last.ports places }
+    {
+        if self.port_at(places.commit) == 1 {
+            let addr = self.port_at(places.addr);
+            Some((addr, self.port_at(places.value)))
+        } else {
+            None
+        }
+    }
+
     /// The address and the value that the m-th memory of the netlist committed in the last cycle.
     ///
     /// None where its commit port was 0 or it has none, and before the first cycle.
@@ -195,13 +207,17 @@ impl<'a> Sim<'a> {
         requires { m < length self.now.netlist.mems }
         ensures { result ≡ committed_by self.now.netlist self.now.last m }
     {
-        let places = self.commits[m];
-        if self.port_at(places.commit) == 1 {
-            let addr = self.port_at(places.addr);
-            Some((addr, self.port_at(places.value)))
-        } else {
-            None
-        }
+        self.committed(self.commits[m].first)
+    }
+
+    /// The address and the value that it committed after that in the same cycle.
+    ///
+    /// None where its second commit port was 0 or it has none, and before the first cycle.
+    pub fn commit2(&self, m: usize) -> Option<(u64, u64)>
+        requires { m < length self.now.netlist.mems }
+        ensures { result ≡ committed2_by self.now.netlist self.now.last m }
+    {
+        self.committed(self.commits[m].second)
     }
 
     /// Whether some request was outstanding at the start of the last cycle and wasn't answered in it.

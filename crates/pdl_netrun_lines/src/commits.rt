@@ -46,7 +46,7 @@ pub fn commit_order(alloc: Global, net: &Netlist) -> Result<Vec<usize>, NoMemory
     Ok(order)
 }
 
-// The line of what one memory commits in a cycle of this number, if it does.
+// The line of a commit of a memory in a cycle of this number, if there is one.
 #[tactic(auto, using(pdl_trace::proofs::BytePieces::nothing_more))]
 fn push_commit<S: Sink>(
     out: &mut LineOut,
@@ -70,6 +70,26 @@ fn push_commit<S: Sink>(
     }
 }
 
+// The lines of what one memory commits in a cycle of this number: the first commit before the second.
+fn push_memory<S: Sink>(
+    out: &mut LineOut,
+    sink: &mut S,
+    cycle: u32,
+    mem: &MemInfo,
+    first: Option<(u64, u64)>,
+    second: Option<(u64, u64)>,
+) -> Result<(), WriteFailed>
+    requires name { length mem.now.name ≤ 32 }
+    requires width { mem.now.width ≤ 64 }
+    ensures bytes { Passes (S.written sink.old) (S.written sink.new) result
+        (out.old ++ mem_lines cycle (column_of mem.now) (puts_of first ++ puts_of second))
+        out.new }
+    ensures cause { HasCause (S.faults sink.old) (S.faults sink.new) result }
+{
+    push_commit(out, sink, cycle, mem, first)?;
+    push_commit(out, sink, cycle, mem, second)
+}
+
 /// The lines of what the memories commit in the last cycle, which has this number.
 pub fn push_commits<S: Sink>(
     out: &mut LineOut,
@@ -89,7 +109,7 @@ pub fn push_commits<S: Sink>(
     ensures cause { HasCause (S.faults sink.old) (S.faults sink.new) result }
 {
     for i in order {
-        push_commit(out, sink, cycle, &mems[*i], sim.commit(*i))?;
+        push_memory(out, sink, cycle, &mems[*i], sim.commit(*i), sim.commit2(*i))?;
     }
     Ok(())
 }

@@ -14,7 +14,7 @@ use Rattle.pdl_law_parts.specs.Views.{View, Gates}
 use Rattle.pdl_law_parts.specs.Ports.{step_of}
 use Rattle.pdl_law_parts.specs.Places.{comb_place}
 use Rattle.pdl_law_parts.specs.Compiled.{port_in}
-use Rattle.pdl_law_parts.specs.Declared.{AreBitsWide}
+use Rattle.pdl_law_parts.specs.DeclaredMems.{AreBitsWide}
 use Rattle.pdl_law_sides.specs.Sides.{Sides}
 use Rattle.pdl_law_sides.specs.WholeNetlist.{IsWhole}
 use Rattle.pdl_pipe_walk.specs.declared.locks.MemLock.{MemLock}
@@ -24,6 +24,7 @@ use Rattle.pdl_pipe_locks.specs.Suited.{shapes_in}
 use Rattle.pdl_pipe_locks.specs.Lawful.{AreLawful}
 use Rattle.pdl_pipe_locks.specs.Stepped.{AreStepped}
 use Rattle.pdl_pipe_locks.proofs.LockGrowth.{Stays}
+use Rattle.pdl_pipe_locks.proofs.Law.{BothFit}
 use Rattle.pdl_pipe_outputs.specs.declared.outputs.ShownNets.{ShownNets}
 use Rattle.pdl_pipe_outputs.specs.declared.outputs.OutNet.{OutNet}
 use Rattle.pdl_pipe_outputs.specs.ToldOutputs.{asks_in, output_of, OutsThere, ShowAll}
@@ -34,7 +35,6 @@ use Rattle.pdl_pipe_emitted.proofs.LaidWidths.{bits_wide}
 use Rattle.pdl_pipe_emitted.proofs.SidesHeld.{has_sides}
 use Rattle.pdl_pipe_emitted.proofs.SidesLeaves.{leaves}
 use Rattle.pdl_pipe.specs.Emitted.{AreShownOf, IsEmitted}
-use Rattle.pdl_pipe.proofs.MadeMemories.{Fits}
 use Rattle.pdl_pipe.proofs.MadeOutputs.{shown_made, ports_made, shapes_made}
 use Rattle.pdl_pipe.proofs.MadeRequests.{outside, request_one, fits_outside}
 
@@ -43,7 +43,7 @@ pub record KeepsLaw {T : Type 0} (l : Members T) (f : Form) (names : ℕ → Lis
     (sides : Sides) (d : Circuit) (locks : List (Option (MemLock T))) (nets : List (Option LockNets)) : Type 1 where
   pub compiled : IsWhole f.pipe names ls vs gates moves sides d
   pub wide : AreBitsWide vs gates moves (length f.pipe.stages)
-  pub commits : (m : ℕ) → is_locked f.pipe m ≡ true → Fits (mem_at f.pipe m) (compiled.laid.commits m)
+  pub commits : (m : ℕ) → is_locked f.pipe m ≡ true → BothFit (mem_at f.pipe m) (compiled.laid.commits m)
   pub requests : (m : ℕ) → m < length f.pipe.mems → is_delayed (mem_at f.pipe m).kind ≡ true → (compiled.asks m).enable.width ≡ 1
   pub in_order : (m : ℕ) → m < length f.pipe.mems → is_delayed (mem_at f.pipe m).kind ≡ false → ls.array m ≡ comb_place f.pipe m
   pub shapes : shapes_of d ≡ shapes_in f.names f.pipe.mems

@@ -1,5 +1,5 @@
 -- What is said of the memories of a flat form, said of the tree that it is made from.
-use Rattle.std.proofs.Common.{◌≡◌, refl, ap, ap₂, ◌∙◌, subst, ℕ, zero, suc, ◌+◌, ◌^◌, true, false, not, Bool, List, [], ◌∷◌, ◌++◌, map, arith}
+use Rattle.std.proofs.Common.{◌≡◌, refl, ap, ap₂, ◌∙◌, subst, ℕ, zero, suc, ◌+◌, true, false, not, Bool, List, [], ◌∷◌, ◌++◌, map, arith}
 use Rattle.std.specs.Prelude.{Option, Some, None, slice_index_or, if◌then◌else◌, filter}
 use Rattle.pdl_kit.specs.declared.mem_info.MemInfo.{MemInfo}
 use Rattle.pdl_semantics.specs.Tree.{LockDecl, Mem}
@@ -11,11 +11,12 @@ use Rattle.pdl_semantics.proofs.Facts.{lock_declared}
 use Rattle.pdl_rules.specs.Memories.{infos_of, info_of}
 use Rattle.pdl_net.specs.Circuit.{Shape}
 use Rattle.pdl_form.specs.Form.{names_of}
-use Rattle.pdl_law_parts.specs.Ports.{Commit}
-use Rattle.pdl_law_parts.specs.Declared.{array_words, shape_of_mem, mem_names, CommitsFit}
+use Rattle.pdl_law_parts.specs.Ports.{Commits}
+use Rattle.pdl_law_parts.specs.DeclaredMems.{array_words, shape_of_mem, mem_names, CommitsFit}
 use Rattle.pdl_lockapi.specs.Sizes.{words_in}
 use Rattle.pdl_lockapi.proofs.LockKinds.{lock_is, words_are}
 use Rattle.pdl_pipe_locks.specs.Suited.{shapes_in}
+use Rattle.pdl_pipe_locks.proofs.Law.{BothFit}
 use Rattle.pdl_law_follows.specs.Memories.{delayed_of, comb_of, net_infos}
 use Rattle.pdl_pipe.specs.Infos.{is_told}
 
@@ -87,23 +88,20 @@ mems_as ms told copies mems e copied is = e ∙ copied ∙ ap (λ is. filter (is
 
 -- ---- commits
 
--- the nets of a commit have 1 bit, the bits of the memory's addresses and those of its words
-abbrev pub Fits : flat.Mem → Commit → Type 0
-Fits m x = (x.enable.width ≡ 1) × (2 ^ x.addr.width ≡ m.depth) × (x.value.width ≡ m.width)
-
 abbrev mem_in : List Mem → ℕ → flat.Mem
 mem_in ms i = slice_index_or (mems_of ms) i plain_mem
 
-fits_from : (commits : ℕ → Commit) (k : ℕ) (ms : List Mem)
-    → ((i j : ℕ) → j ≡ k + i → has_lock (mem_in ms i).lock ≡ true → Fits (mem_in ms i) (commits j)) → CommitsFit commits k ms
+fits_from : (commits : ℕ → Commits) (k : ℕ) (ms : List Mem)
+    → ((i j : ℕ) → j ≡ k + i → has_lock (mem_in ms i).lock ≡ true → BothFit (mem_in ms i) (commits j)) → CommitsFit commits k ms
 fits_from commits k [] h = tt
 fits_from commits k (m ∷ ms) h = (
-  λ s. let q = h 0 k (omega arith) (lock_declared m.lock ∙ s) in record { enable = q.0; reach = q.1; value = q.2 },
+  λ s. let q = h 0 k (omega arith) (lock_declared m.lock ∙ s) in
+      (record { enable = q.0.0; reach = q.0.1; value = q.0.2 }, record { enable = q.1.0; reach = q.1.1; value = q.1.2 }),
   fits_from commits (suc k) ms (λ i j e s. h (suc i) j (omega (arith, e)) s),
 )
 
 -- where commits fit the flat memories that have a lock, they fit those of the tree
-pub commits_fit : (commits : ℕ → Commit) (ms : List Mem)
-    → ((m : ℕ) → has_lock (mem_in ms m).lock ≡ true → Fits (mem_in ms m) (commits m)) → CommitsFit commits 0 ms
+pub commits_fit : (commits : ℕ → Commits) (ms : List Mem)
+    → ((m : ℕ) → has_lock (mem_in ms m).lock ≡ true → BothFit (mem_in ms m) (commits m)) → CommitsFit commits 0 ms
 commits_fit commits ms h =
-    fits_from commits 0 ms (λ i j e s. subst (λ n. Fits (mem_in ms i) (commits n)) (let z : i ≡ j = omega (arith, e) in z) (h i s))
+    fits_from commits 0 ms (λ i j e s. subst (λ n. BothFit (mem_in ms i) (commits n)) (let z : i ≡ j = omega (arith, e) in z) (h i s))

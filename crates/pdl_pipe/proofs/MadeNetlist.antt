@@ -14,7 +14,7 @@ use Rattle.pdl_net.specs.Signal.{Signal}
 use Rattle.pdl_net.specs.Well.{IsWell}
 use Rattle.pdl_law_parts.specs.Walk.{Locks}
 use Rattle.pdl_law_parts.specs.Views.{View, Gates}
-use Rattle.pdl_law_parts.specs.Declared.{mem_names}
+use Rattle.pdl_law_parts.specs.DeclaredMems.{mem_names}
 use Rattle.pdl_law_sides.specs.Sides.{Sides}
 use Rattle.pdl_pipe_walk.specs.declared.locks.MemLock.{MemLock}
 use Rattle.pdl_pipe_walk.specs.Locked.{Members, locks_in}

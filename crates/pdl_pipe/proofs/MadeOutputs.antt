@@ -4,8 +4,10 @@ use mathlib.Core.Path.{fun_ext}
 use Rattle.std.specs.Prelude.{Option, Some, None, is_some}
 use Rattle.std.proofs.lemmas.Bool.{cases_lt, false≢true}
 use Rattle.std.proofs.lemmas.List.{get_or_past, get_or-map}
-use Rattle.pdl_semantics.specs.Flat.{Pipe}
+use Rattle.pdl_semantics.specs.Flat.{Mem, Pipe}
+use Rattle.pdl_semantics.specs.Stages.{mem_at}
 use Rattle.pdl_form.specs.Form.{Form}
+use Rattle.pdl_net.specs.declared.Net.{Net}
 use Rattle.pdl_net.specs.declared.Net.TheVariants.{Reg as RegNet}
 use Rattle.pdl_net.specs.declared.Dir.TheVariants.{Out}
 use Rattle.pdl_net.specs.declared.Port.{Port}
@@ -16,7 +18,7 @@ use Rattle.pdl_net.specs.Growth.{Keeps, ExtendsPorts}
 use Rattle.pdl_net.proofs.Keeps.{keeps_trans}
 use Rattle.pdl_lockapi.specs.declared.LockNets.{LockNets}
 use Rattle.pdl_law_parts.specs.Views.{View, Gates}
-use Rattle.pdl_law_parts.specs.Ports.{Shown, Commit}
+use Rattle.pdl_law_parts.specs.Ports.{Shown, Commit, Commits}
 use Rattle.pdl_law_parts.specs.Compiled.{port_in}
 use Rattle.pdl_law_sides.specs.WholeNetlist.{Request, reply_ports, whole_shown}
 use Rattle.pdl_pipe_walk.specs.declared.locks.MemLock.{MemLock}
@@ -25,7 +27,7 @@ use Rattle.pdl_pipe_beside.specs.declared.outside.RequestNets.{RequestNets}
 use Rattle.pdl_pipe_registers.proofs.Lists.{view_at, some_stage}
 use Rattle.pdl_pipe_nexts.specs.Lines.{line_form, line_pipe}
 use Rattle.pdl_pipe_nexts.proofs.LineGrowth as lines
-use Rattle.pdl_pipe_locks.specs.Stepped.{commit_of, commits_in}
+use Rattle.pdl_pipe_locks.specs.Stepped.{FitsMemory, commit_of, commits_in}
 use Rattle.pdl_pipe_locks.specs.Suited.{shapes_in}
 use Rattle.pdl_pipe_outputs.specs.declared.outputs.ShownNets.{ShownNets}
 use Rattle.pdl_pipe_outputs.specs.declared.outputs.OutNet.{OutNet}
@@ -47,6 +49,17 @@ ports_kept : (a c : Circuit) (os : List OutNet) → Keeps a c → OutsThere a os
 ports_kept a c [] k h = refl
 ports_kept a c (o ∷ os) k h =
     ap₂ (λ (f : Signal) (rest : List Port). record { name = o.name; width = f.width; dir = Out o.net } ∷ rest) (k.kept o.net h.0) (ports_kept a c os k h.1)
+
+abbrev commit_by : Circuit → Net → Net → Net → Commit
+commit_by c commit addr value = record { enable = signal c commit; addr = signal c addr; value = signal c value }
+
+-- so do the nets of a commit
+commit_kept : (a c : Circuit) (mem : Mem) (commit addr value : Net) → Keeps a c → FitsMemory a mem commit addr value
+    → commit_by c commit addr value ≡ commit_by a commit addr value
+commit_kept a c mem commit addr value k h =
+    ap₂ (λ (q : Signal) (r : Signal × Signal). (let z : Commit = record { enable = q; addr = r.0; value = r.1 } in z))
+    (k.kept commit h.commit.there)
+    (ap₂ (λ (q r : Signal). (q, r)) (k.kept addr h.addr_there) (k.kept value h.value.there))
 
 module _ {T : Type 0} (l : Members T) (n : Nets T) (em : Emission l n) where
   abbrev p : Pipe
@@ -78,9 +91,9 @@ module _ {T : Type 0} (l : Members T) (n : Nets T) (em : Emission l n) where
       by m low (Some x) e None g = absurd (false≢true (ap is_some (sym g) ∙ sym (em.stepped.each m low).has ∙ ap is_some e))
       by m low (Some x) e (Some y) g =
           let it = (em.stepped.each m low).lock y x g e in
-          ap₂ (λ (q : Signal) (r : Signal × Signal). (let z : Commit = record { enable = q; addr = r.0; value = r.1 } in z))
-          (em.keeps.kept x.commit it.commit.there)
-          (ap₂ (λ (q r : Signal). (q, r)) (em.keeps.kept x.addr it.addr_there) (em.keeps.kept x.value it.value.there))
+          ap₂ (λ (q r : Commit). (let z : Commits = record { first = q; second = r } in z))
+          (commit_kept em.i em.d (mem_at p m) x.commit x.addr x.value em.keeps it.nets)
+          (commit_kept em.i em.d (mem_at p m) x.commit2 x.addr2 x.value2 em.keeps it.nets2)
 
       at : (m : ℕ) → (m < length p.mems) ⊎ (length p.mems ≤ m) → commits_in em.d n.commits m ≡ commits_in em.i n.commits m
       at m (inl low) = by m low (some_at n.commits m) refl (some_at n.locks m) refl
@@ -151,7 +164,7 @@ module _ {T : Type 0} (l : Members T) (n : Nets T) (em : Emission l n) where
     shown_made outs there shown =
         shown_kept em.i em.d outs em.keeps there
         ∙ shown vs gates moves (name_in f) are_of
-        ∙ sym (ap₂ (λ (g : ℕ → Commit) (q : ℕ → Request). whole_shown p (name_in f) g q vs gates moves) commits_same asks_same)
+        ∙ sym (ap₂ (λ (g : ℕ → Commits) (q : ℕ → Request). whole_shown p (name_in f) g q vs gates moves) commits_same asks_same)
 
   -- ---- ports and arrays
 

@@ -33,7 +33,7 @@ use Rattle.pdl_pipe_outputs.specs.ToldOutputs.{ask_of, asks_in}
 use Rattle.pdl_pipe_tails.specs.Tails.{tails_in}
 use Rattle.pdl_pipe_emitted.specs.Emitted.{Nets, Emission, views_of, moves_of, sides_of, inputs_of, free_of, clear_of}
 use Rattle.pdl_pipe_emitted.proofs.LaidGrowth.{keeps_bd, keeps_cd}
-use Rattle.pdl_pipe_emitted.proofs.LaidLocks.{fits_at, word_at}
+use Rattle.pdl_pipe_emitted.proofs.LaidLocks.{fits_at, words_at}
 use Rattle.pdl_pipe_emitted.proofs.SidesStages.{some_of, at_signal}
 use Rattle.pdl_pipe_emitted.proofs.SidesPorts.{moves_first}
 use Rattle.pdl_pipe_emitted.proofs.SidesRemoved.{views_first}
@@ -128,13 +128,13 @@ module _ {T : Type 0} (l : Members T) (n : Nets T) (em : Emission l n) where
     pub request_one : (asks_in em.d n.requests m).enable.width ≡ 1
     request_one = subst (λ (o : Option RequestNets). (ask_of em.d o).enable.width ≡ 1) (sym here.1) now.enable_bit.width
 
-    -- a delayed memory is asked with a net for the address, and commits a net of its width
+    -- a delayed memory is asked with a net for the address, and commits nets of its width
     pub fits_outside : Stays l → FitsOutside p em.d (asks_in em.d n.requests m) (commits_in em.d n.commits m) m
     fits_outside stays =
         subst (λ (o : Option RequestNets). FitsOutside p em.d (ask_of em.d o) (commits_in em.d n.commits m) m) (sym here.1)
         (record {
           addr = (here.0.addr, now.addr_there, refl);
           reach = now.reach;
-          word = λ h. word_at l stays n em m h;
-          wide = λ h. (fits_at l stays n em m h).2;
+          word = λ h. words_at l stays n em m h;
+          wide = λ h. (let fit = fits_at l stays n em m h in (fit.0.2, fit.1.2));
         })

@@ -54,7 +54,8 @@ commits_there {T} l a c p f xs ns locked stepped = record {
     there : (m : ℕ) → m < length p.mems → (n : Option LockNets) → some_at ns m ≡ n → (y : Option (MemLock T)) → some_at xs m ≡ y → IsThereCommit c n
     there m low None e y g = tt
     there m low (Some n) e None g = absurd (false≢true (ap is_some (sym g) ∙ sym (stepped.each m low).has ∙ ap is_some e))
-    there m low (Some n) e (Some y) g = let it = (stepped.each m low).lock y n g e in (it.commit.there, it.addr_there, it.value.there)
+    there m low (Some n) e (Some y) g = let it = (stepped.each m low).lock y n g e in
+        (it.nets.commit.there, it.nets.addr_there, it.nets.value.there, it.nets2.commit.there, it.nets2.addr_there, it.nets2.value.there)
 
 -- what is asked of delayed memories stays there
 pub asked_kept : (a b : Circuit) (p : Pipe) (rs : List (Option RequestNets)) → Keeps a b → AreAsked a p rs → AreAsked b p rs

@@ -29,14 +29,14 @@ pub record HasLocks {T : Type 0} (l : Members T) (p : tree.Pipe) (n : Netlist) :
   -- each memory with a lock has one, with the memory's array, where it answers at once, and registers that no other lock has
   pub locks : List (Option (MemLock T))
   pub locked : AreLocked l (circuit_of n) (flat p) locks
-  -- it is of the kind and size that the memory asks for, and keeps the laws of its start, of the places in its array, of room and of the next ticket
+  -- it is of the kind and size that the memory asks for, and keeps the laws of its start, of the places in its array, of room for one and for two, and of the next ticket
   pub lawful : AreLawful l (circuit_of n) (flat p) locks
   -- the stages go by these locks: each of their blocks and reads asks the memory's lock
   pub views : ℕ → View
   pub gates : Gates
   pub moves : ℕ → Signal
   pub stages : (k : ℕ) → k < length (flat p).stages → IsStage (flat p) (locks_in l (flat p) (circuit_of n) locks) (circuit_of n) views gates moves k
-  -- their reservations, writes and releases, and the squash, go to these locks too: each lock keeps the laws of its step and of hidden values
+  -- their reservations, writes and releases, and the squash, go to these locks too: each lock keeps the laws of its step, of a second commit and of hidden values
   pub commits : List (Option LockNets)
   pub stepped : AreStepped l (circuit_of n) (flat p) (step_of (flat p) views gates moves) locks commits (length (flat p).mems)
   -- in each cycle of each run, from each image and with each schedule of replies, each stage holds a thread, and that moves, where the machine's does

@@ -8,6 +8,7 @@ ghost use Rattle.pdl_build.specs.Change.{empty_circuit};
 ghost use Rattle.pdl_net.specs.Growth.{Extends};
 ghost use Rattle.pdl_pipe_exprs.specs.Nets.{signals_in, NetsThere};
 ghost use Rattle.pdl_pipe_walk.specs.Locked.{members};
+ghost use Rattle.pdl_pipe_walk.specs.Setting.{TellsTwice};
 ghost use Rattle.pdl_pipe_nexts.specs.Lines.{line_form, IsLineIn};
 ghost use Rattle.pdl_pipe_locks.specs.Suited.{AreSuited};
 ghost use Rattle.pdl_pipe_emitted.specs.Emitted.{CanEmit};
@@ -17,6 +18,7 @@ use crate::deeds::{stage_ends, stage_ports};
 use crate::steps::{Standing, set_registers};
 use pdl_build::Builder;
 use pdl_form::FlatPipe;
+use pdl_form_values::all_twice;
 use pdl_kit::{NoMemory, Seq};
 use pdl_lockapi::LockModule;
 use pdl_net::Net;
@@ -39,10 +41,12 @@ fn emit_steps<L: LockModule>(
     b: &mut Builder,
     line: &StageLine<'_>,
     locks: &[Option<MemLock<L>>],
+    twice: &[bool],
     orders: &[Option<OrderRegs>],
     moves: &MoveNets,
 ) -> Result<(), NoMemory>
     requires can { CanEmit (line_form line.now) }
+    requires twice { TellsTwice (line_form line.now) twice.now }
     requires line { IsLineIn b.old line.now }
     requires moved { HasMoves (members L.LockModule) b.old line.now locks.now orders.now moves.now }
     ensures { OnOk result (IsEmitted (members L.LockModule) b.new (line_form line.now)) }
@@ -57,6 +61,7 @@ fn emit_steps<L: LockModule>(
     let all = Standing {
         line,
         locks,
+        twice,
         orders,
         squash: moves.squash,
     };
@@ -65,6 +70,7 @@ fn emit_steps<L: LockModule>(
     let outs = all_outputs(
         alloc,
         line.pipe,
+        twice,
         shown.as_slice(),
         steps.commits.as_slice(),
         asked.as_slice(),
@@ -80,9 +86,11 @@ fn emit_moves<L: LockModule>(
     b: &mut Builder,
     line: &StageLine<'_>,
     locks: &[Option<MemLock<L>>],
+    twice: &[bool],
     orders: &[Option<OrderRegs>],
 ) -> Result<(), NoMemory>
     requires can { CanEmit (line_form line.now) }
+    requires twice { TellsTwice (line_form line.now) twice.now }
     requires line { IsLineIn b.old line.now }
     requires laid { IsLaidOut (members L.LockModule) b.old line.now locks.now orders.now }
     ensures { OnOk result (IsEmitted (members L.LockModule) b.new (line_form line.now)) }
@@ -95,7 +103,7 @@ fn emit_moves<L: LockModule>(
         moves: moves.moves.as_slice(),
         kills: moves.kills.as_slice(),
     };
-    emit_steps(alloc, b, &moving, locks, orders, &moves)?;
+    emit_steps(alloc, b, &moving, locks, twice, orders, &moves)?;
     Ok(())
 }
 
@@ -131,15 +139,17 @@ fn emit_stages<L: LockModule>(
     pipe: &FlatPipe,
     bits: Bits,
     locks: &[Option<MemLock<L>>],
+    twice: &[bool],
     ports: &[Option<PortRegs>],
 ) -> Result<(), NoMemory>
     requires can { CanEmit (form pipe.now) }
+    requires twice { TellsTwice (form pipe.now) twice.now }
     requires memories { HasMemoriesIn (members L.LockModule) b.old
         (form pipe.now) bits locks.now ports.now }
     ensures { OnOk result (IsEmitted (members L.LockModule) b.new (form pipe.now)) }
 {
     let orders = order_states(alloc, b, pipe)?;
-    let stages = stages(alloc, b, pipe, bits, locks, ports)?;
+    let stages = stages(alloc, b, pipe, bits, locks, twice, ports)?;
     let zeros = zeros(alloc, b, pipe)?;
     let next = next_tickets(alloc, locks, bits.zero)?;
     let shared = Shared {
@@ -156,7 +166,7 @@ fn emit_stages<L: LockModule>(
         moves: blank.as_slice(),
         kills: blank.as_slice(),
     };
-    emit_moves(alloc, b, &line, locks, orders.as_slice())?;
+    emit_moves(alloc, b, &line, locks, twice, orders.as_slice())?;
     Ok(())
 }
 
@@ -177,6 +187,16 @@ pub fn emit_all<L: LockModule + Copy>(
     let made = memories(alloc, b, pipe, locks)?;
     let bits = Bits::new(b)?;
     let ports = port_states(alloc, b, pipe, reads.as_slice())?;
-    emit_stages(alloc, b, pipe, bits, made.as_slice(), ports.as_slice())?;
+    let twice = all_twice(alloc, pipe)?;
+    let flags = twice.as_slice();
+    emit_stages(
+        alloc,
+        b,
+        pipe,
+        bits,
+        made.as_slice(),
+        flags,
+        ports.as_slice(),
+    )?;
     Ok(())
 }

@@ -2,6 +2,7 @@
 ghost use Rattle.std.specs.Prelude.{◌≡◌, IfOk, length};
 ghost use Rattle.pdl_pipe_answers.specs.Ports.{IsBit};
 ghost use Rattle.pdl_pipe_walk.specs.Locked.{members, AreLocked, AreTickets};
+ghost use Rattle.pdl_pipe_walk.specs.Setting.{TellsTwice};
 ghost use Rattle.pdl_pipe_beside.specs.Ends.{AreEnds};
 ghost use Rattle.pdl_pipe_beside.specs.Ports.{StandPorts};
 ghost use Rattle.pdl_pipe_beside.specs.Orders.{StandOrders};
@@ -32,11 +33,12 @@ pub struct StepNets {
     pub commits: Vec<Option<LockNets>>,
 }
 
-/// What is told of a pipe when its registers are: the stages with their moves, its locks, the orders of its forks, and whether a squash happens.
+/// What is told of a pipe when its registers are: the stages with their moves, its locks, which memories some path reserves twice to write, the orders of its forks, and whether a squash happens.
 #[derive(Drop)]
 pub struct Standing<'a, L> {
     pub line: &'a StageLine<'a>,
     pub locks: &'a [Option<MemLock<L>>],
+    pub twice: &'a [bool],
     pub orders: &'a [Option<OrderRegs>],
     pub squash: Net,
 }
@@ -54,6 +56,7 @@ fn lock_steps<L: LockModule>(
     requires lawful { AreLawful (members L.LockModule) b.old
         (line_pipe all.now.line.now) all.now.locks.now }
     requires unwritten { AreUnwritten b.old (line_pipe all.now.line.now) }
+    requires twice { TellsTwice (line_form all.now.line.now) all.now.twice.now }
     requires next { signals_in b.old all.now.line.now.shared.now.next
         ≡ next_signals b.old all.now.locks.now }
     requires squash { IsBit b.old all.now.squash }
@@ -66,6 +69,7 @@ fn lock_steps<L: LockModule>(
         pipe: all.line.pipe,
         bits: all.line.shared.bits,
         locks: all.locks,
+        twice: all.twice,
         deeds: deeds.as_slice(),
         squash: all.squash,
         tails: cut,
@@ -93,6 +97,7 @@ pub fn set_registers<L: LockModule>(
     requires lawful { AreLawful (members L.LockModule) b.old
         (line_pipe all.now.line.now) all.now.locks.now }
     requires unwritten { AreUnwritten b.old (line_pipe all.now.line.now) }
+    requires twice { TellsTwice (line_form all.now.line.now) all.now.twice.now }
     requires next { signals_in b.old all.now.line.now.shared.now.next
         ≡ next_signals b.old all.now.locks.now }
     requires squash { IsBit b.old all.now.squash }

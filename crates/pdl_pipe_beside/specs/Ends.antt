@@ -24,7 +24,7 @@ no_view =
     (walk_of
     (record {
       vars = [];
-      held = [];
+      marks = [];
       ready = one;
       reserves = [];
       puts = [];

@@ -1,12 +1,12 @@
 -- The locks of an emission in its last circuit: their laws, their steps, and what they commit.
-use Rattle.std.proofs.Common.{◌≡◌, ℕ, ◌^◌, ◌<◌, true, length}
+use Rattle.std.proofs.Common.{◌≡◌, ℕ, ◌<◌, true, length}
 use Rattle.pdl_semantics.specs.Flat.{Pipe}
 use Rattle.pdl_semantics.specs.Stages.{mem_at}
 use Rattle.pdl_net.specs.Signal.{Signal}
 use Rattle.pdl_net.specs.Growth.{Own}
 use Rattle.pdl_law_parts.specs.Walk.{Locks, is_locked}
 use Rattle.pdl_law_parts.specs.Views.{View, Gates}
-use Rattle.pdl_law_parts.specs.Ports.{Commit, step_of}
+use Rattle.pdl_law_parts.specs.Ports.{Commits, step_of}
 use Rattle.pdl_law_parts.specs.Compiled.{GoesOn}
 use Rattle.pdl_law_parts.proofs.StageLooks.{lock_there}
 use Rattle.pdl_law_sides.specs.WholeNetlist.{StartsLock, IsNet}
@@ -40,7 +40,7 @@ module _ {T : Type 0} (l : Members T) (stays : Stays l) (n : Nets T) (em : Emiss
   abbrev owned : ℕ → Own
   owned m = own_of (some_at n.locks m)
 
-  abbrev commits : ℕ → Commit
+  abbrev commits : ℕ → Commits
   commits = commits_in em.d n.commits
 
   -- ---- they are what they were before the stages
@@ -94,15 +94,15 @@ module _ {T : Type 0} (l : Members T) (stays : Stays l) (n : Nets T) (em : Emiss
     }
 
     -- what a memory with a lock commits has the memory's widths
-    pub fits_at : ((commits m).enable.width ≡ 1) × (2 ^ (commits m).addr.width ≡ (mem_at p m).depth) × ((commits m).value.width ≡ (mem_at p m).width)
+    pub fits_at : law.BothFit (mem_at p m) (commits m)
     fits_at =
         law.commit_fits l stays p n.locks n.deeds n.moves.squash n.tails.cut n.commits vs gates goes em.a em.h em.i em.d
         em.layout.locked em.layout.lawful (deeds_count l n em) (are_of l n em)
         (are_gates l n em) em.stepped (keeps_ad l n em) em.keeps m low (lock_kept l n em m low) h
 
-    -- the word that a memory with a lock commits is a net
-    pub word_at : IsNet em.d (commits m).value
-    word_at =
-        law.commit_word l stays p n.locks n.deeds n.moves.squash n.tails.cut n.commits vs gates goes em.a em.h em.i em.d
+    -- the words that a memory with a lock commits are nets
+    pub words_at : IsNet em.d (commits m).first.value × IsNet em.d (commits m).second.value
+    words_at =
+        law.commit_words l stays p n.locks n.deeds n.moves.squash n.tails.cut n.commits vs gates goes em.a em.h em.i em.d
         em.layout.locked em.layout.lawful (deeds_count l n em) (are_of l n em)
         (are_gates l n em) em.stepped (keeps_ad l n em) em.keeps m low (lock_kept l n em m low) h

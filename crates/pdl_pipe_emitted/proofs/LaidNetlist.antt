@@ -1,5 +1,5 @@
 -- The stages and the locks of an emission are laid out as the law of a netlist asks.
-use Rattle.std.proofs.Common.{ℕ, ◌<◌, length}
+use Rattle.std.proofs.Common.{ℕ, ◌<◌, length, refl}
 use Rattle.pdl_net.specs.Well.{IsWell}
 use Rattle.pdl_law_parts.specs.Places.{comb_place}
 use Rattle.pdl_law_parts.specs.Views.{moves_where}
@@ -23,6 +23,7 @@ module _ {T : Type 0} (l : Members T) (stays : Stays l) (n : Nets T) (em : Emiss
     begins = begins_made l n em well;
     owns = λ m. own_of (some_at n.locks m);
     commits = commits_in em.d n.commits;
+    twice = λ m low. refl;
     locks = goes_on l stays n em;
     arrays = λ m low once. (keeps_ad l n em).has_array (comb_place (line_pipe n.line) m) (em.layout.locked.has_array m low once);
     unwritten = unwritten_after l n em;

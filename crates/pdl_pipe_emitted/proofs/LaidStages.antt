@@ -27,7 +27,7 @@ module _ {T : Type 0} (l : Members T) (n : Nets T) (em : Emission l n) where
         (locks_of l n em) em.high (length em.a.regs)
         em.layout.staged em.layout.apart (keeps_ac l n em) em.line (keeps_ce l n em) em.takes (keeps_ed l n em) well (stage_nexts l n em)
 
-    -- at the start stage 0 holds the first thread's arguments, and nothing is held
+    -- at the start stage 0 holds the first thread's arguments, and no location is marked
     pub begins_made : IsStart (line_pipe n.line) em.d (views_of l n em)
     begins_made =
         is_start em.a em.c em.d n.line (next_signals em.a n.locks) (answers_in em.a n.line.shared.now.ports.now) (locks_of l n em) em.can.begins made_line

@@ -1,7 +1,7 @@
 -- The stages of an emission, their moves and its squashes have one bit each.
 use Rattle.std.proofs.Common.{◌≡◌, ap, ℕ, ◌<◌, length, arith}
 use Rattle.pdl_law_parts.specs.Views.{View}
-use Rattle.pdl_law_parts.specs.Declared.{AreBitsWide}
+use Rattle.pdl_law_parts.specs.DeclaredMems.{AreBitsWide}
 use Rattle.pdl_pipe_walk.specs.Locked.{Members}
 use Rattle.pdl_pipe_registers.proofs.Lists.{view_at, some_stage}
 use Rattle.pdl_pipe_nexts.specs.Lines.{line_pipe}

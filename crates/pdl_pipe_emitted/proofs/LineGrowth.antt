@@ -1,23 +1,24 @@
 -- Stages, their views and what their registers take stay while the circuit grows.
-use Rattle.std.proofs.Common.{◌≡◌, ℕ, ◌<◌, ◌≤◌, List, length, get_or, sym, ap, ◌∙◌, subst, arith}
+use Rattle.std.proofs.Common.{◌≡◌, ℕ, ◌<◌, ◌≤◌, true, List, length, get_or, refl, sym, ap, ◌∙◌, subst, arith}
+use Rattle.std.proofs.lemmas.Bool.{false≢true}
 use mathlib.Core.Path.{fun_ext}
 use Rattle.std.proofs.lemmas.List.{get_or_default}
-use Rattle.std.specs.Prelude.{Option}
+use Rattle.std.specs.Prelude.{Option, Some, None, is_some}
 use Rattle.pdl_semantics.specs.Flat.{Pipe}
 use Rattle.pdl_form.specs.Form.{Form}
 use Rattle.pdl_form_types.specs.Stmts.{AreForks}
 use Rattle.pdl_net.specs.Circuit.{Circuit}
 use Rattle.pdl_net.specs.Signal.{Signal}
-use Rattle.pdl_net.specs.Meaning.{next_signal}
+use Rattle.pdl_net.specs.Meaning.{signal, next_signal}
 use Rattle.pdl_net.specs.Growth.{Keeps}
 use Rattle.pdl_net.specs.Well.{IsWell}
 use Rattle.pdl_net.proofs.Keeps.{keeps_trans}
 use Rattle.pdl_pipe_exprs.specs.Nets.{signals_in}
 use Rattle.pdl_port.specs.Laws.{AnswerSignals}
-use Rattle.pdl_law_parts.specs.Walk.{Locks}
+use Rattle.pdl_law_parts.specs.Walk.{Locks, is_locked, zero_bit}
 use Rattle.pdl_law_parts.proofs.StageLooks.{lock_there}
 use Rattle.pdl_pipe_walk.specs.declared.locks.MemLock.{MemLock}
-use Rattle.pdl_pipe_walk.specs.Locked.{Members, AreLocked, locks_in}
+use Rattle.pdl_pipe_walk.specs.Locked.{Members, some_at, of_lock, AreLocked, locks_in}
 use Rattle.pdl_pipe_walk.proofs.Lists.{map_each}
 use Rattle.pdl_pipe_registers.specs.declared.nets.StageNets.{StageNets}
 use Rattle.pdl_pipe_registers.specs.Stages.{reg_of, view_in, views_in, no_view, IsAt}
@@ -83,10 +84,20 @@ all_kills_same a b x e h = fun_ext (kills_same a b x e h)
 
 -- ---- next tickets
 
+-- the next ticket of a lock has the bits of its tickets
+ticket_wide : {T : Type 0} (l : Members T) (a : Circuit) (p : Pipe) (xs : List (Option (MemLock T))) → AreLocked l a p xs
+    → (m : ℕ) → is_locked p m ≡ true → ((locks_in l p a xs).ticket m).width ≡ (locks_in l p a xs).bits m
+ticket_wide {T} l a p xs h m e = at (some_at xs m) refl (h.locked m (lock_there p m e) ∙ e)
+  where
+    at : (o : Option (MemLock T)) → some_at xs m ≡ o → is_some o ≡ true
+        → (of_lock (λ (x : MemLock T). signal a x.regs.ticket) zero_bit o).width ≡ of_lock (λ (x : MemLock T). l.tickets x.lock) 1 o
+    at None q s = absurd (false≢true s)
+    at (Some x) q s = (h.locks m x (lock_there p m e) q).ticket.width
+
 -- the next tickets of the locks are those of the memories with locks
 pub locks_next : {T : Type 0} (l : Members T) (a : Circuit) (p : Pipe) (xs : List (Option (MemLock T))) → AreLocked l a p xs
     → AreNextTickets p (locks_in l p a xs) (next_signals a xs)
-locks_next l a p xs h = λ m e. (lock_there p m e, next_at l a p xs h m (lock_there p m e))
+locks_next l a p xs h = λ m e. (lock_there p m e, next_at l a p xs h m (lock_there p m e), ticket_wide l a p xs h m e)
 
 -- ---- what registers take
 

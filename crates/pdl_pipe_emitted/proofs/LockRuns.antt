@@ -24,7 +24,7 @@ use Rattle.pdl_machine_facts.specs.Cycle.{IsByStages}
 use Rattle.pdl_machine_facts.proofs.StagewisePorts.{at_stage}
 use Rattle.pdl_law_parts.specs.Walk.{Locks, is_locked}
 use Rattle.pdl_law_parts.specs.Views.{View, Gates}
-use Rattle.pdl_law_parts.specs.Declared.{mem_names}
+use Rattle.pdl_law_parts.specs.DeclaredMems.{mem_names}
 use Rattle.pdl_law_parts.specs.Places.{delayed_count}
 use Rattle.pdl_law_parts.specs.States.{held_after}
 use Rattle.pdl_law_parts.specs.Stands.{IsSeen, IsSquashed, StandsLock}
@@ -67,15 +67,16 @@ module _ (p : Pipe) (ls : Locks) (vs : ℕ → View) (gates : Gates) (moves : �
       ap (λ (x : LockState). x.entries) (step_is p ls vs moves s st bits known.by known.used seen (stood p st bits) m locked stand gates squashed)
       ∙ ap forgotten_entries (sym (known.by.locks m (lock_there p m locked)))
 
-  -- the lock of a memory that declares its kind and size is used in this cycle as the machine's threads use it
-  pub used_here : (mem_at p m).lock ≡ as_lock (ls.kind m) (ls.size m) → IsUsedLock p ls vs gates moves s st bits m
-  used_here kind = record {
+  -- the lock of a memory that declares its kind and size, and whose tickets have its bits in each stage, is used in this cycle as the machine's threads use it
+  pub used_here : (mem_at p m).lock ≡ as_lock (ls.kind m) (ls.size m)
+      → ((k : ℕ) → k < length p.stages → ((vs k).tickets m).width ≡ ls.bits m) → IsUsedLock p ls vs gates moves s st bits m
+  used_here kind wide = record {
     base = stand.base;
     words = stand.words;
     same = stand.same;
     stands = stand.stands;
     act = act;
-    drives = drives p ls vs moves s st bits known.by known.used seen (stood p st bits) m locked stand gates squashed;
+    drives = drives p ls vs moves s st bits known.by known.used seen (stood p st bits) m locked stand gates squashed wide;
     proper = proper p ls vs moves s st bits known.by known.used seen (stood p st bits) m locked stand gates squashed kind;
     fills = filled ∙ ap (λ (ms : List Act). forgotten_entries (list_two st ms m)) (sym known.by.movers);
     releases = ap (λ (ms : List Act). nat_lt 0 (all_releases m ms)) (sym known.by.movers);
@@ -153,6 +154,7 @@ module _ (p : tree.Pipe) (rules : KeepsRules p) (built : IsBuilt p) (source : is
           (known_source p rules built source named) ls vs gates moves sides n made.compiled made.formed.well made.mems
           (arrays_of (in_order (flat p) image)) h st x b)
           m locked ((x.whole b suits).stands.locks m locked) (made.compiled.laid.locks m locked).kind
+          (λ k low. (made.compiled.laid.stages k low).tickets_wide m locked)
 
       stage_standing : (k : ℕ) → k < length (flat p).stages → IsStageAs (vs k) (moves k) (state_in h b) (flat p) st (replies_of (delayed_count (flat p)) b) k
       stage_standing k low = stage_here (flat p) vs moves (state_in h b) st (replies_of (delayed_count (flat p)) b) knows.by k low (seen k low)

@@ -19,7 +19,7 @@ use Rattle.pdl_law_parts.proofs.Signals.{zero_is}
 use Rattle.pdl_law_parts.proofs.Establish.{becomes_const, AllBring}
 use Rattle.pdl_pipe_walk.specs.Sized.{IsSizedBirth}
 use Rattle.pdl_pipe_registers.specs.declared.nets.Item.{Item}
-use Rattle.pdl_pipe_registers.specs.declared.nets.Item.TheVariants.{Var, Held, Ticket, Guess}
+use Rattle.pdl_pipe_registers.specs.declared.nets.Item.TheVariants.{Var, Mark, Ticket, Guess}
 use Rattle.pdl_pipe_registers.specs.declared.nets.StageNets.{StageNets}
 use Rattle.pdl_pipe_registers.specs.Items.{ended_item, kept_item, comer_item, is_answered, IsZero}
 use Rattle.pdl_pipe_registers.specs.Stages.{view_in, IsThereBegun, HasAnswered, IsCommon, IsSettled}
@@ -54,7 +54,7 @@ calls_short p ws (b ∷ bs) h =
 
 zero_const : (p : Pipe) (i : Item) (f : Signal) → IsZero p i f → (w : ℕ) × (f ≡ const_signal w 0)
 zero_const p (Var x) f h = h.1
-zero_const p (Held m a) f h = (1, h)
+zero_const p (Mark k m a) f h = (1, h)
 zero_const p (Ticket m) f h = (1, h)
 zero_const p (Guess i) f h = h
 
@@ -62,7 +62,7 @@ zero_const p (Guess i) f h = h
 call_brings : (p : Pipe) (i : Item) (f moves : Signal) (b : Birth) → IsZero p i f → length b.args ≤ length p.start → (s : State)
     → (comer_item i (new_by moves b)).value s ≡ 0
 call_brings p (Var x) f moves b h l s = ap (λ (g : Signal). g.value s) (get_or_past b.args x no_signal (let q = h.0 in omega (arith, l, q)))
-call_brings p (Held m a) f moves b h l s = zero_is s
+call_brings p (Mark k m a) f moves b h l s = zero_is s
 call_brings p (Ticket m) f moves b h l s = refl
 call_brings p (Guess i) f moves b h l s = refl
 
@@ -98,7 +98,7 @@ module _ (p : Pipe) (vs : ℕ → View) (moves : ℕ → Signal) where
   -- one comes with the constant with which its stage ends
   way_brings : (q j : ℕ) (i : Item) (w v : ℕ) → ended_item (vs j) i ≡ const_signal w v → (s : State) → (comer_item i (out_of p vs moves q j)).value s ≡ v
   way_brings q j (Var x) w v e s = const_is s w v ((vs j).ended.vars x) e
-  way_brings q j (Held m a) w v e s = const_is s w v ((vs j).ended.held m a) e
+  way_brings q j (Mark k m a) w v e s = const_is s w v ((vs j).ended.marks k m a) e
   way_brings q j (Ticket m) w v e s = const_is s w v ((vs j).tickets m) e
   way_brings q j (Guess i) w v e s = const_is s w v (signal_at (vs j).ended.guess i) e
 
@@ -130,7 +130,7 @@ module _ (p : Pipe) (vs : ℕ → View) (moves : ℕ → Signal) where
     where
       comer_ends : (q j : ℕ) (i : Item) → comer_item i (out_of p vs moves q j) ≡ ended_item (vs j) i
       comer_ends q j (Var x) = refl
-      comer_ends q j (Held m a) = refl
+      comer_ends q j (Mark k m a) = refl
       comer_ends q j (Ticket m) = refl
       comer_ends q j (Guess i) = refl
 
@@ -153,7 +153,7 @@ module _ (p : Pipe) (vs : ℕ → View) (moves : ℕ → Signal) where
 -- what a stage holds of an item where no thread comes: of a variable its answer
 abbrev pub held_item : View → Item → Signal
 held_item v (Var x) = v.begun.vars x
-held_item v (Held m a) = v.begun.held m a
+held_item v (Mark k m a) = v.begun.marks k m a
 held_item v (Ticket m) = v.tickets m
 held_item v (Guess i) = signal_at v.begun.guess i
 
@@ -161,7 +161,7 @@ held_item v (Guess i) = signal_at v.begun.guess i
 pub settled_unanswered : (p : Pipe) → BeginsFirst p → (us : ℕ → View) (k : ℕ) (i : Item) (f : Signal)
     → IsSettled p us k i f → is_answered p k i ≡ false
 settled_unanswered p begins us zero (Var x) f h = first_unanswered p begins x
-settled_unanswered p begins us zero (Held m a) f h = refl
+settled_unanswered p begins us zero (Mark k m a) f h = refl
 settled_unanswered p begins us zero (Ticket m) f h = refl
 settled_unanswered p begins us zero (Guess i) f h = refl
 settled_unanswered p begins us (suc k) i f h = h.unanswered
@@ -184,6 +184,6 @@ module _ (c : Circuit) (f : Form) (nexts : List Signal) (answers : ℕ → ℕ �
   -- so it is held as it was kept
   pub held_as_kept : (i : Item) → is_answered f.pipe k i ≡ false → held_item (view_in c s) i ≡ kept_item (view_in c s) i
   held_as_kept (Var x) e = variable_unanswered x e
-  held_as_kept (Held m a) e = refl
+  held_as_kept (Mark h m a) e = refl
   held_as_kept (Ticket m) e = refl
   held_as_kept (Guess i) e = refl

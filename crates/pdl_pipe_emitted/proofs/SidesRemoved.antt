@@ -23,7 +23,6 @@ use Rattle.pdl_pipe_walk.specs.declared.locks.MemLock.{MemLock}
 use Rattle.pdl_pipe_walk.specs.Locked.{Members, some_at, of_lock, locks_in}
 use Rattle.pdl_pipe_answers.specs.Ports.{answers_in}
 use Rattle.pdl_pipe_registers.specs.Staged.{next_signals}
-use Rattle.pdl_pipe_registers.proofs.TicketsMade.{next_at}
 use Rattle.pdl_pipe_nexts.specs.Lines.{line_form, line_pipe, line_views, line_kills}
 use Rattle.pdl_pipe_nexts.proofs.LineGrowth.{bits_there, line_keep, views_same, all_moves_same}
 use Rattle.pdl_pipe_emitted.proofs.LineGrowth.{made_views_same}
@@ -32,6 +31,7 @@ use Rattle.pdl_pipe_tails.proofs.LineTails.{has_tails}
 use Rattle.pdl_pipe_emitted.specs.Emitted.{Nets, Emission, locks_of, views_of, moves_of, gates_of, sides_of, clear_of}
 use Rattle.pdl_pipe_emitted.proofs.SidesGrowth.{keeps_ab, keeps_ac, keeps_ae, keeps_bc, keeps_ce, keeps_fd, tails_alone}
 use Rattle.pdl_pipe_emitted.proofs.SidesPorts.{moves_first}
+use Rattle.pdl_pipe_emitted.proofs.LaidStages.{next_tickets}
 
 module _ {T : Type 0} (l : Members T) (n : Nets T) (em : Emission l n) where
   abbrev p : Pipe
@@ -92,24 +92,23 @@ module _ {T : Type 0} (l : Members T) (n : Nets T) (em : Emission l n) where
 
   -- ---- where locks are cut
 
-  -- a lock's ticket has its bits and tells its state
+  -- a lock's ticket tells its state
   ticket_law : (m : ℕ) (o : Option (MemLock T)) → some_at n.locks m ≡ o → m < length p.mems → is_some o ≡ true
-      → ((of_lock (λ x. signal em.a x.regs.ticket) zero_bit o).width ≡ of_lock (λ x. l.tickets x.lock) 1 o)
-      × TicketLaw (of_lock (λ x. l.stands x.lock x.regs) (λ s y. Unit {0}) o) (of_lock (λ x. l.tickets x.lock) 1 o)
+      → TicketLaw (of_lock (λ x. l.stands x.lock x.regs) (λ s y. Unit {0}) o) (of_lock (λ x. l.tickets x.lock) 1 o)
       (of_lock (λ x. signal em.a x.regs.ticket) zero_bit o)
   ticket_law m None at low e = absurd (false≢true e)
-  ticket_law m (Some x) at low e = ((em.layout.locked.locks m x low at).ticket.width, (em.layout.lawful.laws m x low at).ticket)
+  ticket_law m (Some x) at low e = (em.layout.lawful.laws m x low at).ticket
 
   next_of : (m : ℕ) → is_locked p m ≡ true → IsNextOf em.e n.line ls m
   next_of m locked =
       let low = lock_there p m locked in
-      let law = ticket_law m (some_at n.locks m) refl low (em.layout.locked.locked m low ∙ locked) in
+      let next = next_tickets l n em m locked in
       record {
         ticket =
             ap (λ fs. signal_at fs m) (signals_keep em.a em.e n.line.shared.now.next (keeps_ae l n em) em.layout.shared.next_there ∙ em.layout.next)
-            ∙ next_at l em.a p n.locks em.layout.locked m low;
-        wide = law.0;
-        law = law.1;
+            ∙ next.1;
+        wide = next.2;
+        law = ticket_law m (some_at n.locks m) refl low (em.layout.locked.locked m low ∙ locked);
       }
 
   -- a squash of the stage that verifies cuts each lock where the law asks for it

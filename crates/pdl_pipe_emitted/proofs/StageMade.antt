@@ -1,6 +1,6 @@
 -- Each stage of a line is a stage of the law.
 use Rattle.std.proofs.Common.{◌≡◌, ℕ, suc, ◌<◌, ◌≤◌, ◌==◌, Bool, true, false, ◌&&◌, inl, inr, List, length, refl, sym, ap, ap₂, ◌∙◌, subst, arith}
-use Rattle.std.specs.Prelude.{Some, None, if◌then◌else◌, nat_le}
+use Rattle.std.specs.Prelude.{Some, None, if◌then◌else◌, nat_le, slice_index}
 use Rattle.std.proofs.lemmas.Bool.{le-leb, lt-leb}
 use Rattle.std.proofs.lemmas.List.{length-take}
 use Rattle.pdl_semantics.specs.Flat.{Pipe}
@@ -11,7 +11,7 @@ use Rattle.pdl_net.specs.Signal.{Signal, reg_signal, mux_signal}
 use Rattle.pdl_net.specs.Meaning.{signal, next_signal}
 use Rattle.pdl_net.specs.Growth.{Keeps}
 use Rattle.pdl_pipe_exprs.specs.Nets.{signals_in, signal_at}
-use Rattle.pdl_pipe_exprs.proofs.NetLists.{length_widths}
+use Rattle.pdl_pipe_exprs.proofs.NetLists.{length_widths, width_at}
 use Rattle.pdl_port.specs.Laws.{AnswerSignals}
 use Rattle.pdl_pipe_lives.specs.Needs.{goes_with}
 use Rattle.pdl_law_parts.specs.Lives.{verifies_from}
@@ -20,7 +20,7 @@ use Rattle.pdl_law_parts.specs.Views.{View, Gates, moves_where}
 use Rattle.pdl_law_parts.specs.Compiled.{Same, Becomes, StartsAs, IsStage}
 use Rattle.pdl_law_parts.proofs.Establish.{becomes_reg, starts_reg}
 use Rattle.pdl_pipe_registers.specs.declared.nets.Item.{Item}
-use Rattle.pdl_pipe_registers.specs.declared.nets.Item.TheVariants.{Var, Held, Ticket, Guess}
+use Rattle.pdl_pipe_registers.specs.declared.nets.Item.TheVariants.{Var, Mark, Ticket, Guess}
 use Rattle.pdl_pipe_registers.specs.declared.nets.StageNets.{StageNets}
 use Rattle.pdl_pipe_registers.specs.Items.{item_at, item_width, is_needed, kept_item}
 use Rattle.pdl_pipe_registers.specs.Stages.{reg_of, view_in, IsAt, IsRegister, IsBegunBy, IsSettled, IsAsVariable, IsSpared}
@@ -96,7 +96,7 @@ module _ (a c d : Circuit) (x : StageLine) (nexts : List Signal) (answers : ℕ 
         where
           by : (i : Item) → signal c (RegNet (reg_of s.regs j)) ≡ kept_item (view_in c s) i → kept_signal c s j i ≡ held_item (view_in c s) i
           by (Var y) e = refl
-          by (Held m v) e = e
+          by (Mark h m v) e = e
           by (Ticket m) e = e
           by (Guess n) e = e
 
@@ -146,7 +146,7 @@ module _ (a c d : Circuit) (x : StageLine) (nexts : List Signal) (answers : ℕ 
     -- each item that is needed becomes so
     item_next : (i : Item) → is_needed (line_pipe x) k i ≡ true → Goes i
     item_next (Var y) need = begun_next (Var y) (st.kept (Var y) need)
-    item_next (Held m v) need = begun_next (Held m v) (st.kept (Held m v) need)
+    item_next (Mark h m v) need = begun_next (Mark h m v) (st.kept (Mark h m v) need)
     item_next (Ticket m) need = begun_next (Ticket m) (st.kept (Ticket m) need)
     item_next (Guess i) need = by (st.kept (Guess i) need)
       where
@@ -176,6 +176,12 @@ module _ (a c d : Circuit) (x : StageLine) (nexts : List Signal) (answers : ℕ 
 
     module _ (gates : Gates) (next_is : AreNextTickets (line_pipe x) ls nexts) (kill : gates.kill k ≡ line_kills c x k)
         (leaves : Same d (line_moves c x k) (moves_where (line_pipe x) (line_views c x) gates.gate (line_moves c x) k)) where
+      -- the ticket of each lock is as wide as its next one
+      ticket_width : (m : ℕ) → is_locked (line_pipe x) m ≡ true → ((view_in c s).tickets m).width ≡ (ls.ticket m).width
+      ticket_width m e =
+          let q = next_is m e in
+          sym (width_at (signals_in c s.tickets) m) ∙ ap (λ ws. slice_index ws m) st.nets.tickets_wide ∙ width_at nexts m ∙ ap (λ (f : Signal). f.width) q.1
+
       stage_made : IsStage (line_pipe x) ls d (line_views c x) gates (line_moves c x) k
       stage_made = record {
         rows =
@@ -195,13 +201,14 @@ module _ (a c d : Circuit) (x : StageLine) (nexts : List Signal) (answers : ℕ 
             (arriving c x k None (mux_signal (line_moves c x k) zero_bit (mux_signal g zero_bit (reg_signal 1 s.regs.valid)))))
             (sym kill) valid_next);
         vars = λ y need. subst (λ (u : View). Becomes d (u.kept y) (arriving c x k (Some (Var y)) (u.begun.vars y))) (sym here) (item_next (Var y) need);
-        held =
-            λ m v need. subst (λ (u : View). Becomes d (u.begun.held m v) (arriving c x k (Some (Held m v)) (u.begun.held m v)))
-            (sym here) (item_next (Held m v) need);
+        marks =
+            λ h m v need. subst (λ (u : View). Becomes d (u.begun.marks h m v) (arriving c x k (Some (Mark h m v)) (u.begun.marks h m v)))
+            (sym here) (item_next (Mark h m v) need);
         guess_long = subst (λ (u : View). length u.begun.guess ≡ length (line_pipe x).start) (sym here) guess_count;
         guess = λ i l need.
             subst (λ (u : View). Becomes d (signal_at u.begun.guess i) (arriving c x k (Some (Guess i)) (signal_at u.begun.guess i))) (sym here)
             (item_next (Guess i) (own_guess (line_pipe x) k i l need));
+        tickets_wide = λ m e. subst (λ (u : View). (u.tickets m).width ≡ ls.bits m) (sym here) (let q = next_is m e in ticket_width m e ∙ q.2);
         tickets_first = λ m e l.
             subst (λ (u : View). Same d (u.tickets m) (ls.ticket m)) (sym here)
             (λ t suits. ap (λ (g : Signal). g.value t) (let q = next_is m e in st.tickets m q.0 (no_ticket (line_pipe x) k m l) ∙ q.1));

@@ -1,4 +1,4 @@
--- At the start the first stage of a line holds the first thread's arguments, and nothing is held.
+-- At the start the first stage of a line holds the first thread's arguments, and no location is marked.
 use Rattle.std.proofs.Common.{◌≡◌, ℕ, ◌-◌, ◌<◌, true, inl, inr, List, length, sym, subst, arith}
 use Rattle.std.specs.Prelude.{slice_index}
 use Rattle.std.proofs.lemmas.List.{get_or_past}
@@ -15,7 +15,7 @@ use Rattle.pdl_law_parts.specs.Compiled.{StartsAs, IsStart}
 use Rattle.pdl_law_parts.proofs.Establish.{starts_const}
 use Rattle.pdl_law_parts.proofs.FirstState.{padded_at}
 use Rattle.pdl_pipe_registers.specs.declared.nets.Item.{Item}
-use Rattle.pdl_pipe_registers.specs.declared.nets.Item.TheVariants.{Var, Held, Ticket, Guess}
+use Rattle.pdl_pipe_registers.specs.declared.nets.Item.TheVariants.{Var, Mark, Ticket, Guess}
 use Rattle.pdl_pipe_registers.specs.declared.nets.StageNets.{StageNets}
 use Rattle.pdl_pipe_registers.specs.Items.{item_at, item_width, first_value, is_needed, kept_item, IsZero}
 use Rattle.pdl_pipe_registers.specs.Stages.{reg_of, view_in, views_in, IsBegunBy, IsSettled, IsSpared}
@@ -32,14 +32,14 @@ starts_zero d p (Var x) g h =
     let const = h.1 in
     subst (λ (y : Signal). StartsAs d y (slice_index p.start x)) (sym const.1)
     (subst (StartsAs d (const_signal const.0 0)) (sym (get_or_past p.start x 0 h.0)) (starts_const d const.0 0))
-starts_zero d p (Held m v) g h = subst (λ (y : Signal). StartsAs d y 0) (sym h) (starts_const d 1 0)
+starts_zero d p (Mark k m v) g h = subst (λ (y : Signal). StartsAs d y 0) (sym h) (starts_const d 1 0)
 starts_zero d p (Ticket m) g h = subst (λ (y : Signal). StartsAs d y 0) (sym h) (starts_const d 1 0)
 starts_zero d p (Guess i) g h = subst (λ (y : Signal). StartsAs d y 0) (sym h.1) (starts_const d h.0 0)
 
 -- in stage 0 nothing is as a variable
 first_settled : (p : Pipe) (us : ℕ → View) (vars : List Signal) (i : Item) (g : Signal) → IsSpared p us 0 vars i g → IsSettled p us 0 i g
 first_settled p us vars (Var x) g h = h
-first_settled p us vars (Held m v) g h = h
+first_settled p us vars (Mark k m v) g h = h
 first_settled p us vars (Ticket m) g h = h
 first_settled p us vars (Guess i) g (inl h) = h
 first_settled p us vars (Guess i) g (inr h) = let l = h.twin.later in absurd (omega (arith, l))
@@ -79,7 +79,7 @@ is_start a c d x nexts answers ls begins made =
       vars = λ y need. subst (λ (u : View). StartsAs d (u.kept y) (slice_index (start_env p p.start) y)) (sym here)
           (subst (StartsAs d (kept_item (view_in c s) (Var y))) (sym (padded_at p.start (p.vars - length p.start) y))
           (starts_item c d (line_form x) nexts answers ls ss made.after s st (Var y) need));
-      held =
-          λ m v need. subst (λ (u : View). StartsAs d (u.begun.held m v) 0) (sym here)
-          (starts_item c d (line_form x) nexts answers ls ss made.after s st (Held m v) need);
+      marks =
+          λ k m v need. subst (λ (u : View). StartsAs d (u.begun.marks k m v) 0) (sym here)
+          (starts_item c d (line_form x) nexts answers ls ss made.after s st (Mark k m v) need);
     }

@@ -23,9 +23,9 @@ pub record BeginsFirst (p : Pipe) : Type 0 where
   pub params : length p.start ≤ p.vars
   pub first : (j : ℕ) → j < length p.stages → leads_to (stage_at p j).next 0 ≡ false
 
--- these are the next tickets of the locks
+-- these are the next tickets of the locks, each with the bits of its lock's tickets
 abbrev pub AreNextTickets : Pipe → Locks → List Signal → Type 0
-AreNextTickets p ls nexts = (m : ℕ) → is_locked p m ≡ true → (m < length p.mems) × (signal_at nexts m ≡ ls.ticket m)
+AreNextTickets p ls nexts = (m : ℕ) → is_locked p m ≡ true → (m < length p.mems) × (signal_at nexts m ≡ ls.ticket m) × ((ls.ticket m).width ≡ ls.bits m)
 
 -- the stages of a line, as they were made in circuit a; in the later circuit d their registers take next what the nets of circuit c say
 pub record IsLineMade (a c d : Circuit) (x : StageLine) (nexts : List Signal) (answers : ℕ → ℕ → AnswerSignals) (ls : Locks) : Type 0 where

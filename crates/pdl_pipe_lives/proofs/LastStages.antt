@@ -1,4 +1,4 @@
--- Last stages of variables, as one use after another is marked.
+-- Last stages of variables, as one use after another is noted.
 use Rattle.std.proofs.Common.{◌≡◌, ◌∙◌, ℕ, zero, suc, ◌+◌, ◌-◌, ◌<◌, ◌≤◌, Bool, true, false, List, ◌∷◌, length, drop, get_or, replicate, None, refl, sym, ap, ap₂, subst, inl, inr, arith}
 use Rattle.std.specs.Prelude.{◌&&◌, ◌||◌, ◌⊎◌, Option, nat_le}
 use Rattle.std.proofs.lemmas.Bool.Decides.{leb_tells}
@@ -7,7 +7,7 @@ use Rattle.pdl_semantics.specs.Flat.{Stage}
 use Rattle.pdl_form.specs.declared.form.FlatStage.{FlatStage}
 use Rattle.pdl_form.specs.View.{stage_view, stages_view}
 use Rattle.pdl_law_parts.specs.Lives.{forks_by}
-use Rattle.pdl_pipe_lives.specs.Needs.{any_forks_by, lasts_at, AreMarked, IsMarked, AreMarkedBut}
+use Rattle.pdl_pipe_lives.specs.Needs.{any_forks_by, lasts_at, AreNoted, IsNoted, AreNotedBut}
 
 or_or : (a b c : Bool) → ((a || b) || c) ≡ (a || (b || c))
 or_or true b c = refl
@@ -18,9 +18,9 @@ either true a b = refl
 either false a b = refl
 
 module _ (a b c : List (Option ℕ)) (s : ℕ) (u v w : ℕ → Bool) where
-  -- what a stage uses by two ways is marked by one after the other
-  pub both_marked : IsMarked a b s u → IsMarked b c s v → ((x : ℕ) → w x ≡ (u x || v x)) → IsMarked a c s w
-  both_marked h g e = record {
+  -- what a stage uses by two ways is noted by one after the other
+  pub both_noted : IsNoted a b s u → IsNoted b c s v → ((x : ℕ) → w x ≡ (u x || v x)) → IsNoted a c s w
+  both_noted h g e = record {
     count = g.count ∙ h.count;
     last = λ k x low. g.last k x (subst (λ n. x < n) (sym h.count) low)
         ∙ ap (λ t. t || (nat_le k s && v x)) (h.last k x low)
@@ -28,9 +28,9 @@ module _ (a b c : List (Option ℕ)) (s : ℕ) (u v w : ℕ → Bool) where
         ∙ ap (λ t. lasts_at a k x || t) (sym (either (nat_le k s) (u x) (v x)) ∙ ap (λ t. nat_le k s && t) (sym (e x)));
   }
 
--- what is used in one of two ways is marked by one after the other
-pub all_marked : (a b c : List (Option ℕ)) (u v : ℕ → ℕ → Bool) → AreMarked a b u → AreMarked b c v → AreMarked a c (λ k x. u k x || v k x)
-all_marked a b c u v h g = record {
+-- what is used in one of two ways is noted by one after the other
+pub all_noted : (a b c : List (Option ℕ)) (u v : ℕ → ℕ → Bool) → AreNoted a b u → AreNoted b c v → AreNoted a c (λ k x. u k x || v k x)
+all_noted a b c u v h g = record {
   count = g.count ∙ h.count;
   last = λ k x low. g.last k x (subst (λ n. x < n) (sym h.count) low)
       ∙ ap (λ t. t || v k x) (h.last k x low)
@@ -44,8 +44,8 @@ unused (suc n) k zero = refl
 unused (suc n) k (suc x) = unused n k x
 
 module _ (a b c : List (Option ℕ)) (u rest more whole : ℕ → ℕ → Bool) where
-  -- one use of what is left is marked
-  pub but_more : AreMarkedBut a b rest whole → AreMarked b c u → ((k x : ℕ) → rest k x ≡ (u k x || more k x)) → AreMarkedBut a c more whole
+  -- one use of what is left is noted
+  pub but_more : AreNotedBut a b rest whole → AreNoted b c u → ((k x : ℕ) → rest k x ≡ (u k x || more k x)) → AreNotedBut a c more whole
   but_more h g e = record {
     count = g.count ∙ h.count;
     last = λ k x low. ap (λ t. t || more k x) (g.last k x (subst (λ n. x < n) (sym h.count) low))

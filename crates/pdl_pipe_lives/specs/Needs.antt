@@ -3,7 +3,8 @@ use Rattle.std.specs.Prelude.{◌≡◌, ℕ, suc, ◌<◌, Bool, false, ◌&&�
 use Rattle.pdl_semantics.specs.Flat.{Stmt, Stage, Pipe}
 use Rattle.pdl_semantics.specs.Stages.{list_any, is_verify, reserve_stage, commit_stage}
 use Rattle.pdl_form.specs.Form.{Form}
-use Rattle.pdl_law_parts.specs.Lives.{row_uses, forks_by, asks_held, lives_from, verifies_from}
+use Rattle.pdl_law_parts.specs.declared.Mark.{Mark}
+use Rattle.pdl_law_parts.specs.Lives.{row_uses, forks_by, asks_mark, lives_from, verifies_from}
 use Rattle.pdl_law_parts.specs.Walk.{is_locked}
 use Rattle.pdl_pipe_lives.specs.declared.needs.Needs.{Needs}
 
@@ -15,9 +16,9 @@ rows_use k x rows = list_any (λ (r : Stmt). nat_le k r.stage && row_uses r x) r
 abbrev pub any_forks_by : ℕ → List Stage → Bool
 any_forks_by x stages = list_any (λ (s : Stage). forks_by s.next x) stages
 
--- a row of a stage from k on asks whether the location is held
-abbrev pub rows_ask : ℕ → ℕ → ℕ → List Stmt → Bool
-rows_ask k m a rows = list_any (λ (r : Stmt). nat_le k r.stage && asks_held r.op m a) rows
+-- a row of a stage from k on asks for the mark of the location
+abbrev pub rows_ask : ℕ → Mark → ℕ → ℕ → List Stmt → Bool
+rows_ask k mark m a rows = list_any (λ (r : Stmt). nat_le k r.stage && asks_mark mark r.op m a) rows
 
 -- a row of a stage from k on verifies the guess
 abbrev pub rows_verify : ℕ → List Stmt → Bool
@@ -41,16 +42,16 @@ abbrev pub IsLater : Option ℕ → ℕ → ℕ → Type 0
 IsLater last s t = (k : ℕ) → nat_le k t ≡ (lasts k last || nat_le k s)
 
 -- the last stages became these by what is used from each stage on
-pub record AreMarked (old new : List (Option ℕ)) (uses : ℕ → ℕ → Bool) : Type 0 where
+pub record AreNoted (old new : List (Option ℕ)) (uses : ℕ → ℕ → Bool) : Type 0 where
   pub count : length new ≡ length old
   pub last : (k x : ℕ) → x < length old → lasts_at new k x ≡ (lasts_at old k x || uses k x)
 
 -- the last stages became these by what stage s uses
-abbrev pub IsMarked : List (Option ℕ) → List (Option ℕ) → ℕ → (ℕ → Bool) → Type 0
-IsMarked old new s uses = AreMarked old new (λ k x. nat_le k s && uses x)
+abbrev pub IsNoted : List (Option ℕ) → List (Option ℕ) → ℕ → (ℕ → Bool) → Type 0
+IsNoted old new s uses = AreNoted old new (λ k x. nat_le k s && uses x)
 
--- the last stages on the way to what the whole is: what is left to be marked is the rest
-pub record AreMarkedBut (old now : List (Option ℕ)) (rest whole : ℕ → ℕ → Bool) : Type 0 where
+-- the last stages on the way to what the whole is: what is left to be noted is the rest
+pub record AreNotedBut (old now : List (Option ℕ)) (rest whole : ℕ → ℕ → Bool) : Type 0 where
   pub count : length now ≡ length old
   pub last : (k x : ℕ) → x < length old → (lasts_at now k x || rest k x) ≡ (lasts_at old k x || whole k x)
 

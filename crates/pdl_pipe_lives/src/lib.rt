@@ -1,11 +1,11 @@
-//! What a thread still needs from a stage on: the values of variables, whether it holds locations, its tickets.
+//! What a thread still needs from a stage on: the values of variables, the marks of its locations, its tickets.
 //!
-//! The layer above may use `Needs`, `held_from` and `keeps_ticket`.
+//! The layer above may use `Needs`, `mark_from` and `keeps_ticket`.
 #![tactic(auto)]
 
-pub mod marks;
 pub mod needs;
 pub mod tickets;
+pub mod uses;
 
-pub use needs::{Needs, held_from};
+pub use needs::{Needs, mark_from};
 pub use tickets::{has_lock, keeps_ticket};

@@ -3,12 +3,13 @@ ghost use Rattle.std.specs.Prelude.{◌≡◌, ℕ, ◌<◌, ◌&&◌, ◌||◌,
 ghost use Rattle.pdl_semantics.specs.Stages.{is_verify};
 ghost use Rattle.pdl_form.specs.FormView.{form};
 ghost use Rattle.pdl_form.specs.View.{act_view, next_view, stages_view, stmts_view};
-ghost use Rattle.pdl_law_parts.specs.Lives.{lives_from as is_live, held_from as is_asked, asks_held as asks_location, forks_by as goes_by, verifies_from as is_verified};
-ghost use Rattle.pdl_pipe_lives.specs.Needs.{rows_use, rows_verify, any_forks_by, lasts as stays, lasts_at, AreMarked, IsMarked, AreNeeds};
+ghost use Rattle.pdl_law_parts.specs.Lives.{lives_from as is_live, mark_from as is_asked, asks_held as asks_whether_held, asks_late as asks_whether_late, asks_mark as asks_for, forks_by as goes_by, verifies_from as is_verified};
+ghost use Rattle.pdl_pipe_lives.specs.Needs.{rows_use, rows_verify, any_forks_by, lasts as stays, lasts_at, AreNoted, IsNoted, AreNeeds};
 
-use crate::marks::{later, mark, mark_statement};
+use crate::uses::{later, note, note_statement};
 use pdl_form::{FlatPipe, FlatStage, FlatStmt, Next, Op};
 use pdl_kit::NoMemory;
+use pdl_law_parts::Mark;
 use std::alloc::Global;
 
 /// How long a thread needs the values of its variables and the arguments of its guess.
@@ -21,32 +22,32 @@ pub struct Needs {
 }
 
 // The stages of statements use the variables of these.
-fn mark_statements(last: &mut [Option<usize>], stmts: &[FlatStmt])
-    ensures { AreMarked last.old last.new (λ k x. rows_use k x (stmts_view stmts.now)) }
+fn note_statements(last: &mut [Option<usize>], stmts: &[FlatStmt])
+    ensures { AreNoted last.old last.new (λ k x. rows_use k x (stmts_view stmts.now)) }
 {
     for s in stmts {
-        mark_statement(last, s);
+        note_statement(last, s);
     }
 }
 
 // A stage that forks uses the variable that it forks by.
-fn mark_fork(last: &mut [Option<usize>], stage: usize, next: &Next)
-    ensures { IsMarked last.old last.new stage (goes_by (next_view next.now)) }
+fn note_fork(last: &mut [Option<usize>], stage: usize, next: &Next)
+    ensures { IsNoted last.old last.new stage (goes_by (next_view next.now)) }
 {
     match next {
-        Next::Forks { x, .. } => mark(last, stage, *x),
+        Next::Forks { x, .. } => note(last, stage, *x),
         Next::Ends => {}
         Next::Goes(_) => {}
     }
 }
 
 // The stages that fork use the variables that they fork by.
-fn mark_forks(last: &mut [Option<usize>], stages: &[FlatStage])
-    ensures { AreMarked last.old last.new (λ k x.
+fn note_forks(last: &mut [Option<usize>], stages: &[FlatStage])
+    ensures { AreNoted last.old last.new (λ k x.
         any_forks_by x (drop k (stages_view stages.now))) }
 {
     for (stage, s) in stages.iter().enumerate() {
-        mark_fork(last, stage, &s.next);
+        note_fork(last, stage, &s.next);
     }
 }
 
@@ -98,11 +99,11 @@ fn lasts(last: Option<usize>, stage: usize) -> bool
 }
 
 // The stages of a pipe use the variables that they need.
-fn mark_pipe(last: &mut [Option<usize>], pipe: &FlatPipe)
-    ensures { AreMarked last.old last.new (is_live (form pipe.now).pipe) }
+fn note_pipe(last: &mut [Option<usize>], pipe: &FlatPipe)
+    ensures { AreNoted last.old last.new (is_live (form pipe.now).pipe) }
 {
-    mark_statements(last, pipe.stmts());
-    mark_forks(last, pipe.stages());
+    note_statements(last, pipe.stmts());
+    note_forks(last, pipe.stages());
 }
 
 // None of so many variables is used.
@@ -120,7 +121,7 @@ fn last_uses(alloc: Global, pipe: &FlatPipe) -> Result<Vec<Option<usize>>, NoMem
         lasts_at v.items k x ≡ is_live (form pipe.now).pipe k x) }
 {
     let mut last = no_uses(alloc, pipe.vars())?;
-    mark_pipe(&mut last, pipe);
+    note_pipe(&mut last, pipe);
     Ok(last)
 }
 
@@ -156,7 +157,7 @@ impl Needs {
 
 // Whether an operation asks whether a location is held.
 fn asks_held(op: &Op, mem: usize, var: usize) -> bool
-    ensures { result ≡ asks_location (act_view op.now) mem var }
+    ensures { result ≡ asks_whether_held (act_view op.now) mem var }
 {
     match op {
         Op::Block { m, a } => *m == mem && *a == var,
@@ -169,12 +170,37 @@ fn asks_held(op: &Op, mem: usize, var: usize) -> bool
     }
 }
 
-/// Whether a statement of the stage or a later one asks whether a location, by its memory and the variable of its address, is held.
-pub fn held_from(pipe: &FlatPipe, stage: usize, mem: usize, var: usize) -> bool
-    ensures { result ≡ is_asked (form pipe.now).pipe stage mem var }
+// Whether an operation asks whether the reservation of a location is the second one.
+fn asks_late(op: &Op, mem: usize, var: usize) -> bool
+    ensures { result ≡ asks_whether_late (act_view op.now) mem var }
+{
+    match op {
+        Op::Write { m, a, .. } => *m == mem && *a == var,
+        Op::Bind { .. } | Op::CombRead { .. } | Op::DelayedRead { .. } => false,
+        Op::ReserveRead { .. } | Op::ReserveWrite { .. } => false,
+        Op::Block { .. } | Op::Release { .. } => false,
+        Op::Call(_) | Op::SpecCall(_) | Op::Verify { .. } => false,
+        Op::SpecCheck | Op::SpecBarrier => false,
+        Op::AdviceBind { .. } | Op::AdviceRead { .. } | Op::AdviceWrite { .. } => false,
+    }
+}
+
+// Whether an operation asks for a mark of a location.
+fn asks_mark(op: &Op, mark: Mark, mem: usize, var: usize) -> bool
+    ensures { result ≡ asks_for mark (act_view op.now) mem var }
+{
+    match mark {
+        Mark::Held => asks_held(op, mem, var),
+        Mark::Late => asks_late(op, mem, var),
+    }
+}
+
+/// Whether a statement of the stage or a later one asks for a mark of a location, by its memory and the variable of its address.
+pub fn mark_from(pipe: &FlatPipe, stage: usize, mark: Mark, mem: usize, var: usize) -> bool
+    ensures { result ≡ is_asked (form pipe.now).pipe stage mark mem var }
 {
     for s in pipe.stmts() {
-        if stage <= s.stage && asks_held(&s.op, mem, var) {
+        if stage <= s.stage && asks_mark(&s.op, mark, mem, var) {
             return true;
         }
     }

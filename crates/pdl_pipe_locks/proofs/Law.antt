@@ -2,8 +2,9 @@
 use Rattle.std.proofs.Common.{◌≡◌, ℕ, ◌+◌, ◌^◌, ◌<◌, ◌≤◌, ◌∙◌, true, false, List, [], length, refl, sym, ap, ap₂, subst, arith, inl, inr}
 use Rattle.std.specs.Prelude.{Option, Some, None, is_some}
 use Rattle.std.proofs.lemmas.Bool.{cases_lt, false≢true}
-use Rattle.pdl_semantics.specs.Flat.{Pipe, is_delayed}
+use Rattle.pdl_semantics.specs.Flat.{Mem, Pipe, is_delayed}
 use Rattle.pdl_semantics.specs.Stages.{mem_at}
+use Rattle.pdl_semantics.specs.SecondWrites.{reserves_twice}
 use Rattle.pdl_net.specs.declared.Net.{Net}
 use Rattle.pdl_net.specs.Circuit.{Circuit, State, HasReg, HasArray, array_depth}
 use Rattle.pdl_net.specs.Signal.{Signal}
@@ -12,10 +13,11 @@ use Rattle.pdl_net.specs.Growth.{Own, Outside, Keeps, ExtendsBut}
 use Rattle.pdl_lockapi.specs.declared.LockNets.{LockNets}
 use Rattle.pdl_lockapi.specs.Lock.{LockState, start}
 use Rattle.pdl_lockapi.specs.Laws.{first_reg, end_reg, first_array, end_array, own, words_of, OwnKept, IsReset, HasImage, RoomLaw, TicketLaw, StepLaw, ReserveSignal, TicketSignal, StepSignals}
+use Rattle.pdl_lockapi.specs.Second.{Room2Law, Commit2Law}
 use Rattle.pdl_lockapi.specs.Forget.{as_lock}
 use Rattle.pdl_law_parts.specs.Walk.{Walk, is_locked, zero_bit}
 use Rattle.pdl_law_parts.specs.Views.{View, Gates}
-use Rattle.pdl_law_parts.specs.Ports.{Commit, step_of}
+use Rattle.pdl_law_parts.specs.Ports.{Commit, Commits, step_of}
 use Rattle.pdl_law_parts.specs.Compiled.{GoesOn}
 use Rattle.pdl_law_parts.specs.Places.{comb_place}
 use Rattle.pdl_pipe_walk.specs.declared.locks.MemLock.{MemLock}
@@ -23,11 +25,12 @@ use Rattle.pdl_pipe_walk.specs.Locked.{Members, some_at, of_lock, kind_in, locks
 use Rattle.pdl_pipe_locks.specs.declared.deeds.StageDeeds.{StageDeeds}
 use Rattle.pdl_pipe_locks.specs.Lawful.{AreLawful}
 use Rattle.pdl_pipe_locks.specs.Deeds.{views_in, moves_in, steps_in, AreOf, AreGatesOf}
-use Rattle.pdl_pipe_locks.specs.Stepped.{own_of, IsSteppedMemory, AreStepped, ExtendsLocks, commit_of, commits_in}
+use Rattle.pdl_pipe_locks.specs.Ports.{ReleaseSignals}
+use Rattle.pdl_pipe_locks.specs.Stepped.{own_of, FitsMemory, IsSteppedMemory, AreStepped, ExtendsLocks, commit_of, commits_in}
 use Rattle.pdl_pipe_locks.proofs.PortStages.{same_reserves, same_puts, same_released}
 use Rattle.pdl_pipe_locks.proofs.LockGrowth.{Stays, laws_kept, locked_kept, regs_end}
 use Rattle.pdl_pipe_locks.proofs.Places.{place_below, own_place, outside_place, image_place}
-use Rattle.pdl_pipe_locks.proofs.LockSteps.{stepped_kept}
+use Rattle.pdl_pipe_locks.proofs.LockSteps.{fits_kept, stepped_kept}
 use Rattle.pdl_word.proofs.Lists.{some_of}
 
 -- the stages of a netlist do to a lock what their nets do
@@ -40,17 +43,29 @@ step_is s p ds squash tails vs gates goes m count low of beside =
     let moves : (j : ℕ) → j < 0 + n → moves_in s ds j ≡ goes j = λ j u. sym (of.moves j (omega (arith, u, count))) in
     let ended : (j : ℕ) → j < 0 + n → (views_in s ds j).ended ≡ (vs j).ended = λ j u. sym (of.ended j (omega (arith, u, count))) in
     let tickets : (j : ℕ) → j < 0 + n → (views_in s ds j).tickets m ≡ (vs j).tickets m = λ j u. sym (of.tickets j m (omega (arith, u, count))) in
-    let reserves = same_reserves m (views_in s ds) vs (moves_in s ds) goes n 0 moves (λ j u. ap (λ (w : Walk). w.reserves) (ended j u)) in
-    let puts = same_puts m (views_in s ds) vs (moves_in s ds) goes n 0 moves tickets (λ j u. ap (λ (w : Walk). w.puts) (ended j u)) in
-    let release = same_released m (views_in s ds) vs (moves_in s ds) goes n 0 moves (λ j u. ap (λ (w : Walk). w.lettings) (ended j u)) in
-    let F =
-    λ (r : List ReserveSignal) (w : List TicketSignal)
-    (x y z : Signal). (let f : StepSignals = record { reserves = r; writes = w; release = x; release2 = zero_bit; squash = y; tail = z } in f) in
+    let twice = reserves_twice m p.stmts in
     let f = steps_in s p ds squash tails m in
     let g = step_of p vs gates goes m in
-    let same : F f.reserves f.writes f.release f.squash f.tail ≡ F g.reserves g.writes g.release g.squash g.tail =
-    cc (reserves, puts, release, sym beside.squash, sym (beside.tail m low)) in
+    let reserves : f.reserves ≡ g.reserves =
+    same_reserves m (views_in s ds) vs (moves_in s ds) goes n 0 moves (λ j u. ap (λ (w : Walk). w.reserves) (ended j u)) in
+    let puts : f.writes ≡ g.writes = same_puts twice m (views_in s ds) vs (moves_in s ds) goes n 0 moves tickets ended in
+    let released = same_released twice m (views_in s ds) vs (moves_in s ds) goes n 0 moves ended in
+    let release : f.release ≡ g.release = ap (λ (t : ReleaseSignals). t.first) released in
+    let release2 : f.release2 ≡ g.release2 = ap (λ (t : ReleaseSignals). t.second) released in
+    let F =
+    λ (r : List ReserveSignal) (w : List TicketSignal)
+    (x u y z : Signal). (let f : StepSignals = record { reserves = r; writes = w; release = x; release2 = u; squash = y; tail = z } in f) in
+    let same : F f.reserves f.writes f.release f.release2 f.squash f.tail ≡ F g.reserves g.writes g.release g.release2 g.squash g.tail =
+    cc (reserves, puts, release, release2, sym beside.squash, sym (beside.tail m low)) in
     same
+
+-- a commit has the widths of a memory
+abbrev pub CommitFits : Mem → Commit → Type 0
+CommitFits mem y = (y.enable.width ≡ 1) × (2 ^ y.addr.width ≡ mem.depth) × (y.value.width ≡ mem.width)
+
+-- so have both commits of a cycle
+abbrev pub BothFit : Mem → Commits → Type 0
+BothFit mem y = CommitFits mem y.first × CommitFits mem y.second
 
 -- the locks' signals as they are in the circuit a, their steps begun in s and made in b, and the whole netlist c
 module _ {T : Type 0} (l : Members T) (stays : Stays l) (p : Pipe) (xs : List (Option (MemLock T)))
@@ -75,23 +90,37 @@ module _ {T : Type 0} (l : Members T) (stays : Stays l) (p : Pipe) (xs : List (O
       let kind : l.kind x.lock ≡ ls.kind m = ap (kind_in l) (sym e) in
       let room : signal c x.regs.room ≡ ls.room m =
       whole.kept x.regs.room (locked.locks m x low e).room.there ∙ ap (of_lock (λ (y : MemLock T). signal a y.regs.room) zero_bit) (sym e) in
+      let room2 : signal c x.regs.room2 ≡ ls.room2 m =
+      whole.kept x.regs.room2 (locked.locks m x low e).room2.there ∙ ap (of_lock (λ (y : MemLock T). signal a y.regs.room2) zero_bit) (sym e) in
       let ticket : signal c x.regs.ticket ≡ ls.ticket m =
       whole.kept x.regs.ticket (locked.locks m x low e).ticket.there ∙ ap (of_lock (λ (y : MemLock T). signal a y.regs.ticket) zero_bit) (sym e) in
       let commit : commit_of c (Some n) ≡ commits_in c ns m = ap (commit_of c) (sym q) in
       let f = steps_in s p ds squash tails m in
       let same : f ≡ step_of p vs gates goes m = step_is s p ds squash tails vs gates goes m count low of beside in
       let own_kept : OwnKept (own x.regs) b c = subst (λ (o : Own). OwnKept o b c) (sym own_is) kept in
-      let step = (stepped_kept l b c (mem_at p m) f x n after own_kept ((stepped.each m low).lock x n e q)).law in
+      let made_step = stepped_kept l b c (mem_at p m) f x n after own_kept ((stepped.each m low).lock x n e q) in
       let S1 : (State → LockState → Type 0) → Type 0 =
       λ st. StepLaw st (l.size x.lock) (l.tickets x.lock) (own x.regs) c f (signal c n.commit) (signal c n.addr) (signal c n.value) in
       let S2 : ℕ → Type 0 = λ k. StepLaw (ls.stands m) k (l.tickets x.lock) (own x.regs) c f (signal c n.commit) (signal c n.addr) (signal c n.value) in
       let S3 : ℕ → Type 0 = λ k. StepLaw (ls.stands m) (ls.size m) k (own x.regs) c f (signal c n.commit) (signal c n.addr) (signal c n.value) in
       let S4 : StepSignals → Type 0 =
       λ g. StepLaw (ls.stands m) (ls.size m) (ls.bits m) (own x.regs) c g (signal c n.commit) (signal c n.addr) (signal c n.value) in
-      let S5 : Commit → Type 0 = λ y. StepLaw (ls.stands m) (ls.size m) (ls.bits m) (own x.regs) c (step_of p vs gates goes m) y.enable y.addr y.value in
+      let S5 : Commits → Type 0 =
+      λ y. StepLaw (ls.stands m) (ls.size m) (ls.bits m) (own x.regs) c (step_of p vs gates goes m) y.first.enable y.first.addr y.first.value in
+      let C1 : (State → LockState → Type 0) → Type 0 =
+      λ st. Commit2Law st (l.size x.lock) (l.tickets x.lock) f (signal c n.commit2) (signal c n.addr2) (signal c n.value2) in
+      let C2 : ℕ → Type 0 = λ k. Commit2Law (ls.stands m) k (l.tickets x.lock) f (signal c n.commit2) (signal c n.addr2) (signal c n.value2) in
+      let C3 : ℕ → Type 0 = λ k. Commit2Law (ls.stands m) (ls.size m) k f (signal c n.commit2) (signal c n.addr2) (signal c n.value2) in
+      let C4 : StepSignals → Type 0 =
+      λ g. Commit2Law (ls.stands m) (ls.size m) (ls.bits m) g (signal c n.commit2) (signal c n.addr2) (signal c n.value2) in
+      let C5 : Commits → Type 0 =
+      λ y. Commit2Law (ls.stands m) (ls.size m) (ls.bits m) (step_of p vs gates goes m) y.second.enable y.second.addr y.second.value in
       let R1 : (State → LockState → Type 0) → Type 0 = λ st. RoomLaw st (l.size x.lock) (signal c x.regs.room) in
       let R2 : ℕ → Type 0 = λ k. RoomLaw (ls.stands m) k (signal c x.regs.room) in
       let R3 : Signal → Type 0 = λ g. RoomLaw (ls.stands m) (ls.size m) g in
+      let D1 : (State → LockState → Type 0) → Type 0 = λ st. Room2Law st (l.size x.lock) (signal c x.regs.room2) in
+      let D2 : ℕ → Type 0 = λ k. Room2Law (ls.stands m) k (signal c x.regs.room2) in
+      let D3 : Signal → Type 0 = λ g. Room2Law (ls.stands m) (ls.size m) g in
       let T1 : (State → LockState → Type 0) → Type 0 = λ st. TicketLaw st (l.tickets x.lock) (signal c x.regs.ticket) in
       let T2 : ℕ → Type 0 = λ k. TicketLaw (ls.stands m) k (signal c x.regs.ticket) in
       let T3 : Signal → Type 0 = λ g. TicketLaw (ls.stands m) (ls.bits m) g in
@@ -100,8 +129,10 @@ module _ {T : Type 0} (l : Members T) (stays : Stays l) (p : Pipe) (xs : List (O
         regs = law.regs;
         arrays = λ i lo hi. (let u = own_place (mem_at p m) (comb_place p m) x.regs.array it.array i lo hi in subst (HasArray c) (sym u.1) (has_array u.0));
         room = subst R3 room (subst R2 size (subst R1 stands law.room));
+        room2 = subst D3 room2 (subst D2 size (subst D1 stands law.room2));
         ticket = subst T3 ticket (subst T2 bits (subst T1 stands law.ticket));
-        step = subst S5 commit (subst S4 same (subst S3 bits (subst S2 size (subst S1 stands step))));
+        step = subst S5 commit (subst S4 same (subst S3 bits (subst S2 size (subst S1 stands made_step.law))));
+        second = subst C5 commit (subst C4 same (subst C3 bits (subst C2 size (subst C1 stands made_step.law2))));
       } in
       subst (λ (o : Own). GoesOn p ls c vs gates goes o (commits_in c ns m) m) own_is made
 
@@ -156,34 +187,38 @@ module _ {T : Type 0} (l : Members T) (stays : Stays l) (p : Pipe) (xs : List (O
         lock = λ x n e q. stepped_kept l b c (mem_at p m) f x n after (own_kept x e) ((stepped.each m low).lock x n e q);
       })
 
+  fits_nets : (mem : Mem) (commit addr value : Net) → FitsMemory b mem commit addr value
+      → CommitFits mem (record { enable = signal c commit; addr = signal c addr; value = signal c value })
+  fits_nets mem commit addr value h =
+      let now = fits_kept b c mem commit addr value after h in
+      (now.commit.width, now.addr_reach, now.value.width)
+
   -- what the memory commits has the memory's widths
   fits_of : (x : MemLock T) (n : LockNets) → some_at xs m ≡ Some x → some_at ns m ≡ Some n
-      → ((commits_in c ns m).enable.width ≡ 1) × (2 ^ (commits_in c ns m).addr.width ≡ (mem_at p m).depth)
-      × ((commits_in c ns m).value.width ≡ (mem_at p m).width)
+      → BothFit (mem_at p m) (commits_in c ns m)
   fits_of x n e q =
       let it = (stepped.each m low).lock x n e q in
-      let P : Commit → Type 0 = λ y. (y.enable.width ≡ 1) × (2 ^ y.addr.width ≡ (mem_at p m).depth) × (y.value.width ≡ (mem_at p m).width) in
-      let one = ap (λ (f : Signal). f.width) (after.kept n.commit it.commit.there) ∙ it.commit.width in
-      let reach = ap (λ (f : Signal). 2 ^ f.width) (after.kept n.addr it.addr_there) ∙ it.addr_reach in
-      let wide = ap (λ (f : Signal). f.width) (after.kept n.value it.value.there) ∙ it.value.width in
-      let here : P (commit_of c (Some n)) = (one, reach, wide) in
-      subst P (ap (commit_of c) (sym q)) here
+      let here : BothFit (mem_at p m) (commit_of c (Some n)) =
+      (fits_nets (mem_at p m) n.commit n.addr n.value it.nets, fits_nets (mem_at p m) n.commit2 n.addr2 n.value2 it.nets2) in
+      subst (BothFit (mem_at p m)) (ap (commit_of c) (sym q)) here
 
-  -- the condition of a memory's commit has 1 bit, its address reaches each word and no more, and its value has a word's width
-  pub commit_fits : is_locked p m ≡ true
-      → ((commits_in c ns m).enable.width ≡ 1) × (2 ^ (commits_in c ns m).addr.width ≡ (mem_at p m).depth)
-      × ((commits_in c ns m).value.width ≡ (mem_at p m).width)
+  -- the condition of each of a memory's commits has 1 bit, its address reaches each word and no more, and its value has a word's width
+  pub commit_fits : is_locked p m ≡ true → BothFit (mem_at p m) (commits_in c ns m)
   commit_fits h =
       let (x, e) = some_of (some_at xs m) (locked.locked m low ∙ h) in
       let (n, q) = some_of (some_at ns m) ((stepped.each m low).has ∙ locked.locked m low ∙ h) in
       fits_of x n e q
 
-  -- the word of a memory's commit is that of a net
-  pub commit_word : is_locked p m ≡ true → (w : Net) × IsThere c w × (signal c w ≡ (commits_in c ns m).value)
-  commit_word h =
+  -- the words of a memory's commits are those of nets
+  pub commit_words : is_locked p m ≡ true
+      → ((w : Net) × IsThere c w × (signal c w ≡ (commits_in c ns m).first.value)) × ((w : Net) × IsThere c w × (signal c w ≡ (commits_in c ns m).second.value))
+  commit_words h =
       let (x, e) = some_of (some_at xs m) (locked.locked m low ∙ h) in
       let (n, q) = some_of (some_at ns m) ((stepped.each m low).has ∙ locked.locked m low ∙ h) in
-      (n.value, after.there n.value ((stepped.each m low).lock x n e q).value.there, ap (λ (o : Option LockNets). (commit_of c o).value) (sym q))
+      let it = (stepped.each m low).lock x n e q in (
+        (n.value, after.there n.value it.nets.value.there, ap (λ (o : Option LockNets). (commit_of c o).first.value) (sym q)),
+        (n.value2, after.there n.value2 it.nets2.value.there, ap (λ (o : Option LockNets). (commit_of c o).second.value) (sym q)),
+      )
 
 -- ---- what the steps leave as it was
 

@@ -4,6 +4,7 @@ use borrow.Author.Count.{below_more}
 use Rattle.std.specs.Prelude.{Option, Some, None, is_some}
 use Rattle.pdl_semantics.specs.Flat.{Mem, Pipe, is_delayed}
 use Rattle.pdl_semantics.specs.Stages.{mem_at}
+use Rattle.pdl_net.specs.declared.Net.{Net}
 use Rattle.pdl_net.specs.Circuit.{Circuit, State, HasArray}
 use Rattle.pdl_net.specs.Signal.{Signal}
 use Rattle.pdl_net.specs.Meaning.{signal, write_signals}
@@ -13,29 +14,40 @@ use Rattle.pdl_net.proofs.KeptWidths.{width_keeps}
 use Rattle.pdl_lockapi.specs.declared.LockNets.{LockNets}
 use Rattle.pdl_lockapi.specs.Lock.{LockState}
 use Rattle.pdl_lockapi.specs.Laws.{first_reg, end_reg, own, OwnKept, HasCommitNets, HidesLaw, StepLaw, StepSignals}
+use Rattle.pdl_lockapi.specs.Second.{Commit2Law}
 use Rattle.pdl_lockapi.proofs.LockKinds.{next_kept, hides_kept}
 use Rattle.pdl_law_parts.specs.Places.{comb_place}
 use Rattle.pdl_pipe_walk.specs.declared.locks.MemLock.{MemLock}
 use Rattle.pdl_pipe_walk.specs.Locked.{Members, some_at, IsLockIn, AreLocked}
 use Rattle.pdl_pipe_locks.specs.Lawful.{AreLawful}
 use Rattle.pdl_pipe_locks.proofs.Places.{place_below, own_place, outside_place}
-use Rattle.pdl_pipe_locks.specs.Stepped.{own_of, IsStepped, IsSteppedMemory, AreStepped, ExtendsLocks}
+use Rattle.pdl_pipe_locks.specs.Stepped.{own_of, FitsMemory, IsStepped, IsSteppedMemory, AreStepped, ExtendsLocks}
 use Rattle.pdl_pipe_walk.proofs.Lists.{some_before, some_last}
 
 -- ---- the step of one lock
 
--- a lock has made its step, where that keeps its laws and the commit nets have the memory's widths
-pub is_stepped : {T : Type 0} (l : Members T) (a c : Circuit) (place : ℕ) (mem : Mem) (f : StepSignals) (x : MemLock T) (n : LockNets)
-    → IsLockIn l a place mem x → HasCommitNets c x.regs.bits x.regs.width n.commit n.addr n.value
-    → StepLaw (l.stands x.lock x.regs) (l.size x.lock) (l.tickets x.lock) (own x.regs) c f (signal c n.commit) (signal c n.addr) (signal c n.value)
-    → HidesLaw (l.kind x.lock) c (own x.regs) f → IsStepped l c mem f x n
-is_stepped l a c place mem f x n i h law hides = record {
-  law = law;
-  hides = hides;
+fits_memory : (c : Circuit) (mem : Mem) (bits width : ℕ) (commit addr value : Net) → 2 ^ bits ≡ mem.depth → width ≡ mem.width
+    → HasCommitNets c bits width commit addr value → FitsMemory c mem commit addr value
+fits_memory c mem bits width commit addr value deep wide h = record {
   commit = h.commit;
   addr_there = h.addr.there;
-  addr_reach = ap (λ k. 2 ^ k) h.addr.width ∙ i.bits;
-  value = record { there = h.value.there; width = h.value.width ∙ i.wide };
+  addr_reach = ap (λ k. 2 ^ k) h.addr.width ∙ deep;
+  value = record { there = h.value.there; width = h.value.width ∙ wide };
+}
+
+-- a lock has made its step, where that keeps its laws and the nets of both commits have the memory's widths
+pub is_stepped : {T : Type 0} (l : Members T) (a c : Circuit) (place : ℕ) (mem : Mem) (f : StepSignals) (x : MemLock T) (n : LockNets)
+    → IsLockIn l a place mem x → HasCommitNets c x.regs.bits x.regs.width n.commit n.addr n.value
+    → HasCommitNets c x.regs.bits x.regs.width n.commit2 n.addr2 n.value2
+    → StepLaw (l.stands x.lock x.regs) (l.size x.lock) (l.tickets x.lock) (own x.regs) c f (signal c n.commit) (signal c n.addr) (signal c n.value)
+    → Commit2Law (l.stands x.lock x.regs) (l.size x.lock) (l.tickets x.lock) f (signal c n.commit2) (signal c n.addr2) (signal c n.value2)
+    → HidesLaw (l.kind x.lock) c (own x.regs) f → IsStepped l c mem f x n
+is_stepped l a c place mem f x n i h k law law2 hides = record {
+  law = law;
+  law2 = law2;
+  hides = hides;
+  nets = fits_memory c mem x.regs.bits x.regs.width n.commit n.addr n.value i.bits i.wide h;
+  nets2 = fits_memory c mem x.regs.bits x.regs.width n.commit2 n.addr2 n.value2 i.bits i.wide k;
 }
 
 -- the step of a memory that has a lock is that of the lock
@@ -76,22 +88,41 @@ law_kept stands size tickets o a b f commit addr value commit' addr' value' k e 
     let R : Signal → Type 0 = λ q. StepLaw stands size tickets o b f commit' addr' q in
     subst R (sym h) (subst Q (sym g) (subst P (sym e) here))
 
+-- the law of a second commit holds of signals that are the same
+pub second_kept : (stands : State → LockState → Type 0) (size tickets : ℕ) (f : StepSignals) (commit addr value commit' addr' value' : Signal)
+    → commit' ≡ commit → addr' ≡ addr → value' ≡ value
+    → Commit2Law stands size tickets f commit addr value → Commit2Law stands size tickets f commit' addr' value'
+second_kept stands size tickets f commit addr value commit' addr' value' e g h x =
+    let P : Signal → Type 0 = λ q. Commit2Law stands size tickets f q addr value in
+    let Q : Signal → Type 0 = λ q. Commit2Law stands size tickets f commit' q value in
+    let R : Signal → Type 0 = λ q. Commit2Law stands size tickets f commit' addr' q in
+    subst R (sym h) (subst Q (sym g) (subst P (sym e) x))
+
+-- the nets of a commit stay there, with their widths
+pub fits_kept : (a b : Circuit) (mem : Mem) (commit addr value : Net) → Keeps a b → FitsMemory a mem commit addr value → FitsMemory b mem commit addr value
+fits_kept a b mem commit addr value k h = record {
+  commit = width_keeps a b commit 1 k h.commit;
+  addr_there = k.there addr h.addr_there;
+  addr_reach = ap (λ (q : Signal). 2 ^ q.width) (k.kept addr h.addr_there) ∙ h.addr_reach;
+  value = width_keeps a b value mem.width k h.value;
+}
+
 -- the step of a lock stays where its registers and its array take next what they took
 pub stepped_kept : {T : Type 0} (l : Members T) (a b : Circuit) (mem : Mem) (f : StepSignals) (y : MemLock T) (n : LockNets)
     → Keeps a b → OwnKept (own y.regs) a b → IsStepped l a mem f y n → IsStepped l b mem f y n
 stepped_kept l a b mem f y n k w x =
-    let e = k.kept n.commit x.commit.there in
-    let g = k.kept n.addr x.addr_there in
-    let h = k.kept n.value x.value.there in
     record {
       law =
           law_kept (l.stands y.lock y.regs) (l.size y.lock) (l.tickets y.lock) (own y.regs) a b f (signal a n.commit)
-          (signal a n.addr) (signal a n.value) (signal b n.commit) (signal b n.addr) (signal b n.value) w e g h x.law;
+          (signal a n.addr) (signal a n.value) (signal b n.commit) (signal b n.addr) (signal b n.value) w
+          (k.kept n.commit x.nets.commit.there) (k.kept n.addr x.nets.addr_there) (k.kept n.value x.nets.value.there) x.law;
+      law2 =
+          second_kept (l.stands y.lock y.regs) (l.size y.lock) (l.tickets y.lock) f (signal a n.commit2)
+          (signal a n.addr2) (signal a n.value2) (signal b n.commit2) (signal b n.addr2) (signal b n.value2)
+          (k.kept n.commit2 x.nets2.commit.there) (k.kept n.addr2 x.nets2.addr_there) (k.kept n.value2 x.nets2.value.there) x.law2;
       hides = hides_kept (l.kind y.lock) (own y.regs) a b f w x.hides;
-      commit = width_keeps a b n.commit 1 k x.commit;
-      addr_there = k.there n.addr x.addr_there;
-      addr_reach = ap (λ (q : Signal). 2 ^ q.width) g ∙ x.addr_reach;
-      value = width_keeps a b n.value mem.width k x.value;
+      nets = fits_kept a b mem n.commit n.addr n.value k x.nets;
+      nets2 = fits_kept a b mem n.commit2 n.addr2 n.value2 k x.nets2;
     }
 
 -- ---- all locks

@@ -138,7 +138,8 @@ made_lock_kept : {T : Type 0} (l : Members T) (stays : Stays l) (a b c : Circuit
     → Keeps b c → IsMadeLock l a b i mem x → IsMadeLock l a c i mem x
 made_lock_kept l stays a b c i mem x k h = record {
   is_in = lock_kept l b c i mem x k stays h.is_in;
-  laws = lawful_kept (l.stands x.lock x.regs) (l.kind x.lock) (l.size x.lock) (l.tickets x.lock) b c x.regs k h.is_in.room.there h.is_in.ticket.there h.laws;
+  laws = lawful_kept (l.stands x.lock x.regs) (l.kind x.lock) (l.size x.lock) (l.tickets x.lock) b c x.regs k h.is_in.room.there h.is_in.room2.there h.is_in.ticket.there
+      h.laws;
   kind = h.kind;
   above = h.above;
 }

@@ -9,6 +9,7 @@ use Rattle.pdl_net.specs.Meaning.{signal, write_signals}
 use Rattle.pdl_net.specs.Growth.{ExtendsArrays}
 use Rattle.pdl_lockapi.specs.declared.LockRegs.{LockRegs}
 use Rattle.pdl_lockapi.specs.Laws.{arrays_of, IsFragment, HasRegNets, HasNoPorts, StartLaw, PlacesLaw, RoomLaw, TicketLaw}
+use Rattle.pdl_lockapi.specs.Second.{HasSecondNets, Room2Law}
 use Rattle.pdl_lockapi.specs.Forget.{as_lock}
 use Rattle.pdl_lockapi.specs.Sizes.{words_in}
 use Rattle.pdl_lockapi.proofs.LockKinds.{words_are}
@@ -102,20 +103,23 @@ pub new_lock : {T : Type 0} (l : Members T) (old new : Circuit) (name : List ℕ
     → mem.lock ≡ as_lock (l.kind x.lock) (l.size x.lock) → ExtendsArrays old new (arrays_in name mem)
     → x.regs.width ≡ mem.width → 2 ^ x.regs.bits ≡ mem.depth → is_some x.regs.array ≡ not (is_delayed mem.kind)
     → l.placed x.lock new x.regs → IsFragment old new x.regs → HasRegNets (l.tickets x.lock) new x.regs
+    → HasSecondNets (l.tickets x.lock) new x.regs
     → StartLaw (l.stands x.lock x.regs) (l.kind x.lock) new x.regs
     → PlacesLaw (l.stands x.lock x.regs) (l.kind x.lock) x.regs
     → RoomLaw (l.stands x.lock x.regs) (l.size x.lock) (signal new x.regs.room)
+    → Room2Law (l.stands x.lock x.regs) (l.size x.lock) (signal new x.regs.room2)
     → TicketLaw (l.stands x.lock x.regs) (l.tickets x.lock) (signal new x.regs.ticket) → IsNewLock l old new mem x
-new_lock l old new name mem x kind grows w d a placed f nets start places room ticket = record {
+new_lock l old new name mem x kind grows w d a placed f nets second start places room room2 ticket = record {
   is_in = record {
     is_placed = placed;
     room = nets.room;
+    room2 = second.room2;
     ticket = nets.ticket;
     wide = w;
     bits = d;
     array = new_array old new name mem x.regs a grows f;
   };
-  laws = record { some = f.some; regs = f.has_reg; start = start; places = places; room = room; ticket = ticket };
+  laws = record { some = f.some; regs = f.has_reg; start = start; places = places; room = room; room2 = room2; ticket = ticket };
   kind = kind;
   above = f.above;
 }

@@ -133,24 +133,28 @@ reserves_split m f r rs = at (r.mem == m)
 
 -- a port that writes by ticket is added after ports that are there
 pub adds_write : (a b : Circuit) (ps : List TicketWrite) (x y z : Net) (f g h : Signal) → Extends a b
-    → Each (IsThereWrite a) ps → Means b x f → IsThere a y → signal a y ≡ g → IsThere a z → signal a z ≡ h
+    → Each (IsThereWrite a) ps → Means b x f → Means b y g → IsThere a z → signal a z ≡ h
     → AddsWrites a b ps (ps ++ record { enable = x; ticket = y; value = z } ∷ []) (record { enable = f; ticket = g; value = h } ∷ [])
-adds_write a b ps x y z f g h e t m u p v q =
+adds_write a b ps x y z f g h e t m u v q =
     let k = extends_keeps a b e in
     record {
       there =
           each_push (IsThereWrite b) ps (record { enable = x; ticket = y; value = z }) (writes_kept a b k ps t)
-          (record { enable = m.there; ticket = e.there y u; value = e.there z v });
+          (record { enable = m.there; ticket = u.there; value = e.there z v });
       same = map-append (ticket_signal b) ps (record { enable = x; ticket = y; value = z } ∷ [])
-          ∙ ap₂ (λ (fs gs : List TicketSignal). fs ++ gs) (writes_same a b k ps t) (cc (m.same, e.kept y u ∙ p, e.kept z v ∙ q));
+          ∙ ap₂ (λ (fs gs : List TicketSignal). fs ++ gs) (writes_same a b k ps t) (cc (m.same, u.same, e.kept z v ∙ q));
     }
 
-puts_split : (m : ℕ) (f t : Signal) (x : Put) (xs : List Put) → puts_to m f t (x ∷ xs) ≡ puts_to m f t (x ∷ []) ++ puts_to m f t xs
+-- the port of one write with this ticket, where it is to the memory
+abbrev one_port : ℕ → Signal → Put → Signal → List TicketSignal
+one_port m f x t = if x.mem == m then record { enable = both f x.on; ticket = t; value = x.value } ∷ [] else []
+
+puts_split : (m : ℕ) (f : Signal) (t : ℕ → Signal) (x : Put) (xs : List Put) → puts_to m f t (x ∷ xs) ≡ puts_to m f t (x ∷ []) ++ puts_to m f t xs
 puts_split m f t x xs = at (x.mem == m)
   where
     at : (b : Bool)
-        → (if b then record { enable = both f x.on; ticket = t; value = x.value } ∷ puts_to m f t xs else puts_to m f t xs)
-        ≡ (if b then record { enable = both f x.on; ticket = t; value = x.value } ∷ [] else []) ++ puts_to m f t xs
+        → (if b then record { enable = both f x.on; ticket = t x.var; value = x.value } ∷ puts_to m f t xs else puts_to m f t xs)
+        ≡ (if b then record { enable = both f x.on; ticket = t x.var; value = x.value } ∷ [] else []) ++ puts_to m f t xs
     at true = refl
     at false = refl
 
@@ -163,10 +167,10 @@ pub record ReservesUpTo (a b : Circuit) (ps qs : List ReservePort) (m : ℕ) (mo
       ≡ map (reserve_signal a) ps ++ reserves_to m (signal a moves) (map (reservation_in a) rs)
 
 -- the ports of the first i writes of a stage are there, and with those that are left they make all that are to be added
-pub record WritesUpTo (a b : Circuit) (ps qs : List TicketWrite) (m : ℕ) (moves ticket : Net) (xs : List PutNet) (i : ℕ) : Type 0 where
+pub record WritesUpTo (a b : Circuit) (ps qs : List TicketWrite) (m : ℕ) (moves : Net) (tickets : ℕ → Signal) (xs : List PutNet) (i : ℕ) : Type 0 where
   pub there : Each (IsThereWrite b) qs
-  pub same : map (ticket_signal b) qs ++ puts_to m (signal a moves) (signal a ticket) (map (put_in a) (drop i xs))
-      ≡ map (ticket_signal a) ps ++ puts_to m (signal a moves) (signal a ticket) (map (put_in a) xs)
+  pub same : map (ticket_signal b) qs ++ puts_to m (signal a moves) tickets (map (put_in a) (drop i xs))
+      ≡ map (ticket_signal a) ps ++ puts_to m (signal a moves) tickets (map (put_in a) xs)
 
 -- with the ports of one reservation more, those of the first i + 1 of a stage are added
 pub reserves_step : (a b c : Circuit) (ps qs us : List ReservePort) (m : ℕ) (moves : Net) (rs : List ReserveNet) (i : ℕ) (d r : ReserveNet)
@@ -192,18 +196,17 @@ reserves_step a b c ps qs us m moves rs i d r k t l e g h x =
     }
 
 -- with the ports of one write more, those of the first i + 1 of a stage are added
-pub writes_step : (a b c : Circuit) (ps qs us : List TicketWrite) (m : ℕ) (moves ticket : Net) (xs : List PutNet) (i : ℕ) (d y : PutNet)
-    → Keeps a b → IsThere a moves → IsThere a ticket → i < length xs → y ≡ get_or xs i d → IsGivenPut a y
-    → WritesUpTo a b ps qs m moves ticket xs i
-    → AddsWrites b c qs us (puts_to m (signal b moves) (signal b ticket) (put_in b y ∷ []))
-    → WritesUpTo a c ps us m moves ticket xs (i + 1)
-writes_step a b c ps qs us m moves ticket xs i d y k t q l e g h x =
+pub writes_step : (a b c : Circuit) (ps qs us : List TicketWrite) (m : ℕ) (moves : Net) (u now : ℕ → Signal) (xs : List PutNet) (i : ℕ) (d y : PutNet)
+    → Keeps a b → IsThere a moves → now y.var ≡ u y.var → i < length xs → y ≡ get_or xs i d → IsGivenPut a y
+    → WritesUpTo a b ps qs m moves u xs i
+    → AddsWrites b c qs us (puts_to m (signal b moves) now (put_in b y ∷ []))
+    → WritesUpTo a c ps us m moves u xs (i + 1)
+writes_step a b c ps qs us m moves u now xs i d y k t q l e g h x =
     let f = signal a moves in
-    let u = signal a ticket in
     let back = map (put_in a) (drop (i + 1) xs) in
     let put : put_in b y ≡ put_in a y = ap₂ (λ u v. record { mem = y.mem; var = y.var; on = u; value = v }) (k.kept y.on g.on.there) (k.kept y.value g.value) in
-    let same : puts_to m (signal b moves) (signal b ticket) (put_in b y ∷ []) ≡ puts_to m f u (put_in a y ∷ []) =
-    ap₂ (λ v (w : Put). puts_to m v (signal b ticket) (w ∷ [])) (k.kept moves t) put ∙ ap (λ v. puts_to m f v (put_in a y ∷ [])) (k.kept ticket q) in
+    let same : puts_to m (signal b moves) now (put_in b y ∷ []) ≡ puts_to m f u (put_in a y ∷ []) =
+    ap₂ (λ v (w : Put). puts_to m v now (w ∷ [])) (k.kept moves t) put ∙ ap (one_port m f (put_in a y)) q in
     let split : map (put_in a) (drop i xs) ≡ put_in a y ∷ back = ap (map (put_in a)) (drop_more xs i d l) ∙ ap (λ (z : PutNet). put_in a z ∷ back) (sym e) in
     let front = map (ticket_signal b) qs in
     record {
@@ -227,13 +230,13 @@ reserves_end a b ps qs m moves rs i l h = record {
 }
 
 -- past its last one the ports of all writes of a stage are added
-pub writes_end : (a b : Circuit) (ps qs : List TicketWrite) (m : ℕ) (moves ticket : Net) (xs : List PutNet) (i : ℕ)
-    → length xs ≤ i → WritesUpTo a b ps qs m moves ticket xs i
-    → AddsWrites a b ps qs (puts_to m (signal a moves) (signal a ticket) (map (put_in a) xs))
-writes_end a b ps qs m moves ticket xs i l h = record {
+pub writes_end : (a b : Circuit) (ps qs : List TicketWrite) (m : ℕ) (moves : Net) (u : ℕ → Signal) (xs : List PutNet) (i : ℕ)
+    → length xs ≤ i → WritesUpTo a b ps qs m moves u xs i
+    → AddsWrites a b ps qs (puts_to m (signal a moves) u (map (put_in a) xs))
+writes_end a b ps qs m moves u xs i l h = record {
   there = h.there;
   same =
       sym (append-nil (map (ticket_signal b) qs))
-      ∙ sym (ap (λ (ys : List PutNet). map (ticket_signal b) qs ++ puts_to m (signal a moves) (signal a ticket) (map (put_in a) ys)) (drop_all i xs l))
+      ∙ sym (ap (λ (ys : List PutNet). map (ticket_signal b) qs ++ puts_to m (signal a moves) u (map (put_in a) ys)) (drop_all i xs l))
       ∙ h.same;
 }

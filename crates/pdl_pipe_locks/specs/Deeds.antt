@@ -23,7 +23,7 @@ abbrev pub no_parts : Parts
 no_parts =
     record {
       vars = [];
-      held = [];
+      marks = [];
       ready = one;
       reserves = [];
       puts = [];

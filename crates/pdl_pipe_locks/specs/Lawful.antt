@@ -8,6 +8,7 @@ use Rattle.pdl_net.specs.Meaning.{signal, write_signals}
 use Rattle.pdl_lockapi.specs.declared.LockRegs.{LockRegs}
 use Rattle.pdl_lockapi.specs.Lock.{LockState}
 use Rattle.pdl_lockapi.specs.Laws.{first_reg, end_reg, words_of, StartLaw, PlacesLaw, RoomLaw, TicketLaw}
+use Rattle.pdl_lockapi.specs.Second.{Room2Law}
 use Rattle.pdl_lockapi.specs.Forget.{as_lock}
 use Rattle.pdl_law_parts.specs.Places.{comb_place}
 use Rattle.pdl_pipe_walk.specs.declared.locks.MemLock.{MemLock}
@@ -20,6 +21,7 @@ pub record IsLawful (stands : State → LockState → Type 0) (kind : LockKind) 
   pub start : StartLaw stands kind c r
   pub places : PlacesLaw stands kind r
   pub room : RoomLaw stands size (signal c r.room)
+  pub room2 : Room2Law stands size (signal c r.room2)
   pub ticket : TicketLaw stands tickets (signal c r.ticket)
 
 -- the registers of this lock are there, and its laws hold

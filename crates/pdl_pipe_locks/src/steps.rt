@@ -1,5 +1,5 @@
 // What the locks of the memories take next.
-ghost use Rattle.std.specs.Prelude.{◌≡◌, ℕ, ◌<◌, [], Some, false, IfOk, OnOk, length};
+ghost use Rattle.std.specs.Prelude.{◌≡◌, ℕ, ◌<◌, [], Some, false, IfOk, OnOk, length, slice_index_or};
 ghost use Rattle.pdl_semantics.specs.Flat.{is_delayed};
 ghost use Rattle.pdl_semantics.specs.Stages.{mem_at};
 ghost use Rattle.pdl_form.specs.FormView.{form};
@@ -7,18 +7,19 @@ ghost use Rattle.pdl_net.specs.Circuit.{HasArray};
 ghost use Rattle.pdl_net.specs.Meaning.{IsThere, signal, write_signals};
 ghost use Rattle.pdl_net.specs.Growth.{ExtendsBut};
 ghost use Rattle.pdl_lockapi.specs.Laws.{own, HasNoPorts, HasCommitNets, HidesLaw, StepLaw};
+ghost use Rattle.pdl_lockapi.specs.Second.{Commit2Law};
 ghost use Rattle.pdl_pipe_exprs.specs.Nets.{NetsThere};
 ghost use Rattle.pdl_pipe_exprs.specs.Conditions.{AreBits};
 ghost use Rattle.pdl_law_parts.specs.Places.{comb_place};
 ghost use Rattle.pdl_word.specs.Each.{Each};
 ghost use Rattle.pdl_pipe_walk.specs.Locked.{members, some_at};
 ghost use Rattle.pdl_pipe_locks.specs.Lawful.{AreLawful, AreUnwritten};
-ghost use Rattle.pdl_pipe_locks.specs.Round.{HasRoundLocks, HasRoundDeeds, HasRoundSquash, round_signals, round_steps};
+ghost use Rattle.pdl_pipe_locks.specs.Round.{HasRoundLocks, HasRoundDeeds, HasRoundSquash, HasRoundTwice, round_signals, round_steps};
 ghost use Rattle.pdl_pipe_locks.specs.Ports.{IsGiven, SignalsFit};
 ghost use Rattle.pdl_pipe_locks.specs.Stepped.{own_of, IsSteppedMemory, AreStepped, ExtendsLocks};
 
 use crate::deeds::StageDeeds;
-use crate::ports::lock_ports;
+use crate::ports::{SquashNets, lock_ports};
 use pdl_build::Builder;
 use pdl_form::FlatPipe;
 use pdl_kit::NoMemory;
@@ -29,17 +30,26 @@ use pdl_pipe_exprs::exprs::variable;
 use pdl_pipe_walk::MemLock;
 use std::alloc::Global;
 
-/// What the steps of the locks go round: the pipe, the constant bits, the locks of the memories, and what the stages do to them.
+/// What the steps of the locks go round: the pipe, the constant bits, the locks of the memories, which of these some path reserves twice to write, and what the stages do to them.
 #[derive(Drop)]
 pub struct Round<'a, 'd, L> {
     pub pipe: &'a FlatPipe,
     pub bits: Bits,
     pub locks: &'a [Option<MemLock<L>>],
+    pub twice: &'a [bool],
     pub deeds: &'a [StageDeeds<'d>],
     /// Whether a squash happens, 1 bit.
     pub squash: Net,
     /// Of each memory's lock the ticket from which on a squash drops the pending writes.
     pub tails: &'a [Net],
+}
+
+// Whether some path reserves the memory of a number twice to write.
+fn flag_at(twice: &[bool], m: usize) -> bool
+    requires { m < length twice.now }
+    ensures { result ≡ slice_index_or twice.now m false }
+{
+    twice[m]
 }
 
 // The step of a memory's lock.
@@ -57,6 +67,7 @@ fn lock_step<L: LockModule>(
     requires squash { IsThere b.old round.now.squash }
     requires tails { NetsThere b.old round.now.tails.now }
     requires tail { m < length round.now.tails.now }
+    requires twice { m < length round.now.twice.now }
     requires given { Each (IsGiven b.old m) round.now.deeds.now }
     requires fit { SignalsFit x.now.regs.bits x.now.regs.width (L.tickets x.now.lock)
         (round_signals b.old round.now m) }
@@ -66,12 +77,23 @@ fn lock_step<L: LockModule>(
         StepLaw (L.stands x.now.lock x.now.regs) (L.size x.now.lock) (L.tickets x.now.lock)
         (own x.now.regs) b.new (round_signals b.old round.now m)
         (signal b.new n.commit) (signal b.new n.addr) (signal b.new n.value)) }
+    ensures nets2 { IfOk result (λ n.
+        HasCommitNets b.new x.now.regs.bits x.now.regs.width n.commit2 n.addr2 n.value2) }
+    ensures law2 { IfOk result (λ n.
+        Commit2Law (L.stands x.now.lock x.now.regs) (L.size x.now.lock) (L.tickets x.now.lock)
+        (round_signals b.old round.now m)
+        (signal b.new n.commit2) (signal b.new n.addr2) (signal b.new n.value2)) }
     ensures hides { OnOk result (HidesLaw (L.kind_of x.now.lock) b.new (own x.now.regs)
         (round_signals b.old round.now m)) }
     ensures extends { ExtendsBut (own x.now.regs) b.old b.new }
 {
     let tail = variable(b, round.tails, m);
-    let ports = lock_ports(alloc, b, round.bits, round.deeds, m, round.squash, tail)?;
+    let squash = SquashNets {
+        on: round.squash,
+        tail,
+    };
+    let twice = flag_at(round.twice, m);
+    let ports = lock_ports(alloc, b, round.bits, round.deeds, m, twice, squash)?;
     let nets = x.lock.emit_step(b, &x.regs, &ports)?;
     Ok(nets)
 }
@@ -96,6 +118,7 @@ fn memory_step<L: LockModule>(
     requires locked { HasRoundLocks (members L.LockModule) b.old round.now }
     requires unwritten { is_delayed (mem_at (form round.now.pipe.now).pipe m).kind ≡ false →
         write_signals b.old (comb_place (form round.now.pipe.now).pipe m) ≡ [] }
+    requires twice { HasRoundTwice round.now }
     requires deeds { HasRoundDeeds (members L.LockModule) b.old round.now }
     requires squash { HasRoundSquash (members L.LockModule) b.old round.now }
     ensures stepped { IfOk result (λ n.
@@ -125,6 +148,7 @@ pub fn step<L: LockModule>(
     requires lawful { AreLawful (members L.LockModule) b.old
         (form round.now.pipe.now).pipe round.now.locks.now }
     requires unwritten { AreUnwritten b.old (form round.now.pipe.now).pipe }
+    requires twice { HasRoundTwice round.now }
     requires deeds { HasRoundDeeds (members L.LockModule) b.old round.now }
     requires squash { HasRoundSquash (members L.LockModule) b.old round.now }
     ensures stepped { IfOk result (λ ns.

@@ -20,7 +20,7 @@ use Rattle.pdl_pipe_walk.specs.Parts.{birth_in}
 use Rattle.pdl_pipe_walk.specs.Sized.{IsSizedBirth}
 use Rattle.pdl_word.specs.Each.{Each}
 use Rattle.pdl_pipe_registers.specs.declared.nets.Item.{Item}
-use Rattle.pdl_pipe_registers.specs.declared.nets.Item.TheVariants.{Var, Held, Ticket, Guess}
+use Rattle.pdl_pipe_registers.specs.declared.nets.Item.TheVariants.{Var, Mark, Ticket, Guess}
 use Rattle.pdl_pipe_nexts.specs.Brings.{brought_signal, brought_new, IsArgument, IsBirth}
 
 -- a call brings what its arguments are
@@ -28,7 +28,7 @@ brings_is : (p : Pipe) (what : Option Item) (moves : Signal) (b : Birth) → IsA
     → brought_signal what (new_by moves b) ≡ brought_new what b.args
 brings_is p None moves b h = refl
 brings_is p (Some (Var x)) moves b h = refl
-brings_is p (Some (Held m a)) moves b h = absurd h
+brings_is p (Some (Mark mark m a)) moves b h = absurd h
 brings_is p (Some (Ticket m)) moves b h = absurd h
 brings_is p (Some (Guess k)) moves b h = absurd h
 

@@ -10,7 +10,7 @@ use Rattle.pdl_law_parts.specs.Walk.{is_on}
 use Rattle.pdl_law_parts.specs.Views.{View, out_of, new_from, comers, first_coming}
 use Rattle.pdl_law_parts.proofs.Signals.{mux_by}
 use Rattle.pdl_pipe_registers.specs.declared.nets.Item.{Item}
-use Rattle.pdl_pipe_registers.specs.declared.nets.Item.TheVariants.{Var, Held, Ticket, Guess}
+use Rattle.pdl_pipe_registers.specs.declared.nets.Item.TheVariants.{Var, Mark, Ticket, Guess}
 use Rattle.pdl_pipe_registers.specs.Items.{ended_item, comer_item}
 use Rattle.pdl_pipe_nexts.specs.declared.arrivals.Arrival.{Arrival}
 use Rattle.pdl_pipe_nexts.specs.Lines.{ValueAs}
@@ -42,7 +42,7 @@ arrival_nth c p vs moves q (j ∷ js) (y ∷ ys) (suc k) x l e h = arrival_nth c
 
 item_as : (v u : View) (i : Item) → v.ended ≡ u.ended → v.tickets ≡ u.tickets → ended_item v i ≡ ended_item u i
 item_as v u (Var x) e t = ap (λ w. w.vars x) e
-item_as v u (Held m a) e t = ap (λ w. w.held m a) e
+item_as v u (Mark mark m a) e t = ap (λ w. w.marks mark m a) e
 item_as v u (Ticket m) e t = ap (λ f. f m) t
 item_as v u (Guess i) e t = ap (λ w. Rattle.pdl_pipe_exprs.specs.Nets.signal_at w.guess i) e
 
@@ -54,7 +54,7 @@ out_as v u (Some i) e t = item_as v u i e t
 comer_out : (p : Pipe) (vs : ℕ → View) (moves : ℕ → Signal) (q k : ℕ) (i : Item)
     → comer_item i (out_of p vs moves q k) ≡ ended_item (vs k) i
 comer_out p vs moves q k (Var x) = refl
-comer_out p vs moves q k (Held m a) = refl
+comer_out p vs moves q k (Mark mark m a) = refl
 comer_out p vs moves q k (Ticket m) = refl
 comer_out p vs moves q k (Guess i) = refl
 

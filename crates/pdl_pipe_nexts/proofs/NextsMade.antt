@@ -12,7 +12,7 @@ use Rattle.pdl_net.specs.Growth.{Keeps}
 use Rattle.pdl_pipe_exprs.specs.Nets.{NetsThere, signals_in, signal_at}
 use Rattle.pdl_pipe_exprs.proofs.NetLists.{net_more, there_keeps, signals_keep, width_at}
 use Rattle.pdl_pipe_registers.specs.declared.nets.Item.{Item}
-use Rattle.pdl_pipe_registers.specs.declared.nets.Item.TheVariants.{Var, Held, Ticket, Guess}
+use Rattle.pdl_pipe_registers.specs.declared.nets.Item.TheVariants.{Var, Mark, Ticket, Guess}
 use Rattle.pdl_pipe_registers.specs.declared.nets.StageNets.{StageNets}
 use Rattle.pdl_pipe_registers.specs.Items.{IsOwn, item_at, item_width}
 use Rattle.pdl_pipe_registers.specs.Stages.{reg_of}
@@ -30,17 +30,17 @@ use Rattle.pdl_pipe_nexts.specs.Nexts.{arriving, kept_signal, staying, IsKeptNow
 -- each is one of the form
 own_item : (f : Form) (k : ℕ) (i : Item) → length f.pipe.start ≤ length f.widths → IsOwn f k i → IsItem f i
 own_item f zero (Var x) p h = omega (arith, p, h)
-own_item f zero (Held m a) p h = absurd h
+own_item f zero (Mark mark m a) p h = absurd h
 own_item f zero (Ticket m) p h = absurd h
 own_item f zero (Guess i) p h = absurd h
 own_item f (suc k) (Var x) p h = h
-own_item f (suc k) (Held m a) p h = tt
+own_item f (suc k) (Mark mark m a) p h = tt
 own_item f (suc k) (Ticket m) p h = h
 own_item f (suc k) (Guess i) p h = let n = Rattle.std.proofs.lemmas.List.length-take (length f.pipe.start) f.widths in omega (arith, p, h, n)
 
 own_argument : (f : Form) (k : ℕ) (i : Item) → k ≡ 0 → IsOwn f k i → IsArgument f.pipe (Some i)
 own_argument f zero (Var x) e h = h
-own_argument f zero (Held m a) e h = h
+own_argument f zero (Mark mark m a) e h = h
 own_argument f zero (Ticket m) e h = h
 own_argument f zero (Guess i) e h = h
 own_argument f (suc k) i e h = absurd (omega (arith, e))
@@ -65,7 +65,7 @@ module _ (c : Circuit) (f : Form) (nexts : List Signal) (k : ℕ) (s : StageNets
     where
       at : (j : Item) → IsItem f j → IsKeptNow c s i j
       at (Var x) l = let n = nets_long c f.widths s.begun h.nets.begun_wide in omega (arith, l, n)
-      at (Held m a) l = (h.registers.kept i low).there
+      at (Mark mark m a) l = (h.registers.kept i low).there
       at (Ticket m) l = (h.registers.kept i low).there
       at (Guess j) l = (h.registers.kept i low).there
 
@@ -75,7 +75,7 @@ module _ (c : Circuit) (f : Form) (nexts : List Signal) (k : ℕ) (s : StageNets
     where
       at : (j : Item) → (signal c (RegNet (reg_of s.regs i))).width ≡ item_width f nexts j → (kept_signal c s i j).width ≡ item_width f nexts j
       at (Var x) e = sym (width_at (signals_in c s.begun) x) ∙ ap (λ ws. slice_index ws x) h.nets.begun_wide
-      at (Held m a) e = e
+      at (Mark mark m a) e = e
       at (Ticket m) e = e
       at (Guess j) e = e
 
@@ -83,7 +83,7 @@ module _ (c : Circuit) (f : Form) (nexts : List Signal) (k : ℕ) (s : StageNets
 pub kept_signal_keep : (a b : Circuit) (f : Form) (nexts : List Signal) (k : ℕ) (s : StageNets) (i : ℕ) (j : Item)
     → Keeps a b → i < length s.regs.items → IsStageNow a f nexts k s → kept_signal b s i j ≡ kept_signal a s i j
 kept_signal_keep a b f nexts k s i (Var x) e l h = ap (λ fs. signal_at fs x) (signals_keep a b s.begun e h.nets.begun)
-kept_signal_keep a b f nexts k s i (Held m n) e l h = e.kept (RegNet (reg_of s.regs i)) (h.registers.kept i l).there
+kept_signal_keep a b f nexts k s i (Mark mark m n) e l h = e.kept (RegNet (reg_of s.regs i)) (h.registers.kept i l).there
 kept_signal_keep a b f nexts k s i (Ticket m) e l h = e.kept (RegNet (reg_of s.regs i)) (h.registers.kept i l).there
 kept_signal_keep a b f nexts k s i (Guess n) e l h = e.kept (RegNet (reg_of s.regs i)) (h.registers.kept i l).there
 

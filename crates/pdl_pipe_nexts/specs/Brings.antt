@@ -11,7 +11,7 @@ use Rattle.pdl_law_parts.specs.Walk.{one}
 use Rattle.pdl_law_parts.specs.Views.{View, Comer, new_from}
 use Rattle.pdl_pipe_walk.specs.declared.nets.BirthNet.{BirthNet}
 use Rattle.pdl_pipe_registers.specs.declared.nets.Item.{Item}
-use Rattle.pdl_pipe_registers.specs.declared.nets.Item.TheVariants.{Var, Held, Ticket, Guess}
+use Rattle.pdl_pipe_registers.specs.declared.nets.Item.TheVariants.{Var, Mark, Ticket, Guess}
 use Rattle.pdl_pipe_registers.specs.Items.{comer_item, ended_item, item_width}
 use Rattle.pdl_pipe_registers.specs.Begun.{IsItem}
 use Rattle.pdl_pipe_nexts.specs.declared.line.StageLine.{StageLine}
@@ -30,7 +30,7 @@ brought_out (Some i) v = ended_item v i
 -- the signal of an item among the arguments of a call: that of a variable, and none for any other item
 abbrev pub argument_signal : Item → List Signal → Signal
 argument_signal (Var x) args = signal_at args x
-argument_signal (Held m a) args = no_signal
+argument_signal (Mark _ _ _) args = no_signal
 argument_signal (Ticket m) args = no_signal
 argument_signal (Guess i) args = no_signal
 
@@ -52,7 +52,7 @@ IsBrought f (Some i) = IsItem f i
 -- an item that is an argument of new threads: one of the first variables
 abbrev pub IsArgumentItem : Pipe → Item → Type 0
 IsArgumentItem p (Var x) = x < length p.start
-IsArgumentItem p (Held m a) = ⊥
+IsArgumentItem p (Mark _ _ _) = ⊥
 IsArgumentItem p (Ticket m) = ⊥
 IsArgumentItem p (Guess i) = ⊥
 

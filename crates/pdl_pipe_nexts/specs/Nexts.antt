@@ -11,7 +11,7 @@ use Rattle.pdl_pipe_exprs.specs.Nets.{NetsThere, signals_in, signal_at}
 use Rattle.pdl_law_parts.specs.Walk.{zero_bit}
 use Rattle.pdl_law_parts.specs.Views.{comers, first_coming}
 use Rattle.pdl_pipe_registers.specs.declared.nets.Item.{Item}
-use Rattle.pdl_pipe_registers.specs.declared.nets.Item.TheVariants.{Var, Held, Ticket, Guess}
+use Rattle.pdl_pipe_registers.specs.declared.nets.Item.TheVariants.{Var, Mark, Ticket, Guess}
 use Rattle.pdl_pipe_registers.specs.declared.nets.StageNets.{StageNets}
 use Rattle.pdl_pipe_registers.specs.Items.{item_at, item_width}
 use Rattle.pdl_pipe_registers.specs.Stages.{reg_of, IsAt}
@@ -26,7 +26,7 @@ regs_of from to = record { from = from; to = to; first = 0; last = 0 }
 -- what it holds where no thread comes: an item is kept, a variable with this cycle's answer
 abbrev pub kept_signal : Circuit → StageNets → ℕ → Item → Signal
 kept_signal c s i (Var x) = signal_at (signals_in c s.begun) x
-kept_signal c s i (Held m a) = signal c (RegNet (reg_of s.regs i))
+kept_signal c s i (Mark _ _ _) = signal c (RegNet (reg_of s.regs i))
 kept_signal c s i (Ticket m) = signal c (RegNet (reg_of s.regs i))
 kept_signal c s i (Guess k) = signal c (RegNet (reg_of s.regs i))
 
@@ -58,7 +58,7 @@ pub record TakesNext (a c : Circuit) (x : StageLine) (k : ℕ) (s : StageNets) :
 -- this item, the i-th one with a register, has that register, or is a variable of the stage
 abbrev pub IsKeptNow : Circuit → StageNets → ℕ → Item → Type 0
 IsKeptNow c s i (Var x) = x < length s.begun
-IsKeptNow c s i (Held m a) = IsThere c (RegNet (reg_of s.regs i))
+IsKeptNow c s i (Mark _ _ _) = IsThere c (RegNet (reg_of s.regs i))
 IsKeptNow c s i (Ticket m) = IsThere c (RegNet (reg_of s.regs i))
 IsKeptNow c s i (Guess k) = IsThere c (RegNet (reg_of s.regs i))
 

@@ -2,15 +2,16 @@
 use Rattle.std.proofs.Common.{◌≡◌, ℕ, suc, ◌+◌, ◌-◌, ◌<◌, ◌≤◌, Bool, true, false, List, [], ◌∷◌, ◌++◌, map, length, get_or, if◌then◌else◌, codes, decimal, refl, sym, ap, ap₂, ◌∙◌, arith, append_assoc}
 use Rattle.std.specs.Prelude.{Option, Some, None, is_some}
 use Rattle.std.proofs.lemmas.List.{map-append}
-use Rattle.pdl_semantics.specs.Flat.{Mem, Pipe, has_lock, is_delayed}
+use Rattle.pdl_semantics.specs.Flat.{Mem, Stmt, Pipe, has_lock, is_delayed}
 use Rattle.pdl_semantics.specs.Stages.{plain_mem}
+use Rattle.pdl_semantics.specs.SecondWrites.{reserves_twice, all_twice}
 use Rattle.pdl_net.specs.declared.Net.{Net}
 use Rattle.pdl_net.specs.Circuit.{Circuit}
 use Rattle.pdl_net.specs.Signal.{Signal}
 use Rattle.pdl_net.specs.Meaning.{signal, IsThere}
 use Rattle.pdl_lockapi.specs.declared.LockNets.{LockNets}
 use Rattle.pdl_law_parts.specs.Views.{View, Gates}
-use Rattle.pdl_law_parts.specs.Ports.{Shown, Commit, shown_signal, stages_shown, commit_shown, commits_shown}
+use Rattle.pdl_law_parts.specs.Ports.{Shown, Commits, shown_signal, stages_shown, commit_shown, commits_shown}
 use Rattle.pdl_law_parts.specs.Compiled.{shown_in}
 use Rattle.pdl_law_sides.specs.WholeNetlist.{Request, request_shown, requests_shown, whole_shown}
 use Rattle.pdl_pipe_beside.specs.declared.outside.RequestNets.{RequestNets}
@@ -50,42 +51,47 @@ stages_show c k (s ∷ ss) vs moves v m =
 
 -- ---- what the memories commit
 
-one_there : (c : Circuit) (name : List ℕ) (n : Option LockNets) → IsThereCommit c n → OutsThere c (commit_outs name n)
-one_there c name None t = tt
-one_there c name (Some n) t = (t.0, (t.1, (t.2, tt)))
+one_there : (c : Circuit) (name : List ℕ) (twice : Bool) (n : Option LockNets) → IsThereCommit c n → OutsThere c (commit_outs name twice n)
+one_there c name twice None t = tt
+one_there c name true (Some n) t = (t.0, (t.1, (t.2, (t.3, (t.4, (t.5, tt))))))
+one_there c name false (Some n) t = (t.0, (t.1, (t.2, tt)))
 
-one_shows : (c : Circuit) (name : List ℕ) (n : Option LockNets) (b : Bool)
-    → is_some n ≡ b → shown_by c (commit_outs name n) ≡ (if b then commit_shown name (commit_of c n) else [])
-one_shows c name None true e = absurd (cc e)
-one_shows c name None false e = refl
-one_shows c name (Some n) true e = refl
-one_shows c name (Some n) false e = absurd (cc e)
+one_shows : (c : Circuit) (name : List ℕ) (twice : Bool) (n : Option LockNets) (b : Bool)
+    → is_some n ≡ b → shown_by c (commit_outs name twice n) ≡ (if b then commit_shown name twice (commit_of c n) else [])
+one_shows c name twice None true e = absurd (cc e)
+one_shows c name twice None false e = refl
+one_shows c name true (Some n) true e = refl
+one_shows c name false (Some n) true e = refl
+one_shows c name twice (Some n) false e = absurd (cc e)
 
-commits_there : (c : Circuit) (names : List (List ℕ)) (ns : List (Option LockNets))
-    → ((i : ℕ) → i < length ns → IsThereCommit c (get_or ns i None)) → OutsThere c (commits_outs names ns)
-commits_there c [] ns t = tt
-commits_there c (a ∷ names) [] t = tt
-commits_there c (a ∷ names) (n ∷ ns) t =
-    outs_more c (commit_outs a n) (commits_outs names ns) (one_there c a n (t 0 (omega arith))) (commits_there c names ns (λ i l. t (suc i) (omega (arith, l))))
+commits_there : (c : Circuit) (names : List (List ℕ)) (ts : List Bool) (ns : List (Option LockNets))
+    → ((i : ℕ) → i < length ns → IsThereCommit c (get_or ns i None)) → OutsThere c (commits_outs names ts ns)
+commits_there c [] ts ns t = tt
+commits_there c (a ∷ names) [] ns t = tt
+commits_there c (a ∷ names) (b ∷ ts) [] t = tt
+commits_there c (a ∷ names) (b ∷ ts) (n ∷ ns) t =
+    outs_more c (commit_outs a b n) (commits_outs names ts ns) (one_there c a b n (t 0 (omega arith)))
+    (commits_there c names ts ns (λ i l. t (suc i) (omega (arith, l))))
 
-commits_show : (c : Circuit) (k : ℕ) (names : List (List ℕ)) (ms : List Mem) (ns : List (Option LockNets))
-    (name : ℕ → List ℕ) (commits : ℕ → Commit)
+commits_show : (c : Circuit) (xs : List Stmt) (k : ℕ) (names : List (List ℕ)) (ms : List Mem) (ns : List (Option LockNets))
+    (name : ℕ → List ℕ) (commits : ℕ → Commits)
     → length names ≡ length ms → length ns ≡ length ms
     → ((i j : ℕ) → j ≡ k + i → i < length ms → name j ≡ get_or names i [])
     → ((i j : ℕ) → j ≡ k + i → commits j ≡ commit_of c (get_or ns i None))
     → ((i : ℕ) → i < length ms → is_some (get_or ns i None) ≡ has_lock (get_or ms i plain_mem).lock)
-    → shown_by c (commits_outs names ns) ≡ commits_shown name commits k ms
-commits_show c k [] [] ns name commits a b e f g = refl
-commits_show c k (x ∷ names) [] ns name commits a b e f g = absurd (omega (arith, a))
-commits_show c k [] (m ∷ ms) ns name commits a b e f g = absurd (omega (arith, a))
-commits_show c k (x ∷ names) (m ∷ ms) [] name commits a b e f g = absurd (omega (arith, b))
-commits_show c k (x ∷ names) (m ∷ ms) (n ∷ ns) name commits a b e f g =
+    → shown_by c (commits_outs names (all_twice xs k ms) ns) ≡ commits_shown name (λ m. reserves_twice m xs) commits k ms
+commits_show c xs k [] [] ns name commits a b e f g = refl
+commits_show c xs k (x ∷ names) [] ns name commits a b e f g = absurd (omega (arith, a))
+commits_show c xs k [] (m ∷ ms) ns name commits a b e f g = absurd (omega (arith, a))
+commits_show c xs k (x ∷ names) (m ∷ ms) [] name commits a b e f g = absurd (omega (arith, b))
+commits_show c xs k (x ∷ names) (m ∷ ms) (n ∷ ns) name commits a b e f g =
     let h : x ≡ name k = sym (e 0 k (omega arith) (omega arith)) in
     let q : commit_of c n ≡ commits k = sym (f 0 k (omega arith)) in
-    shown_more c (commit_outs x n) (commits_outs names ns)
+    let twice = reserves_twice k xs in
+    shown_more c (commit_outs x twice n) (commits_outs names (all_twice xs (suc k) ms) ns)
     ∙ ap₂ (λ (fs gs : List Shown). fs ++ gs)
-    (one_shows c x n (has_lock m.lock) (g 0 (omega arith)) ∙ ap₂ (λ y z. if has_lock m.lock then commit_shown y z else []) h q)
-    (commits_show c (suc k) names ms ns name commits (omega (arith, a)) (omega (arith, b))
+    (one_shows c x twice n (has_lock m.lock) (g 0 (omega arith)) ∙ ap₂ (λ y z. if has_lock m.lock then commit_shown y twice z else []) h q)
+    (commits_show c xs (suc k) names ms ns name commits (omega (arith, a)) (omega (arith, b))
     (λ i j u l. e (suc i) j (omega (arith, u)) (omega (arith, l))) (λ i j u. f (suc i) j (omega (arith, u)))
     (λ i l. g (suc i) (omega (arith, l))))
 
@@ -149,19 +155,22 @@ last_means c (s ∷ ss) x h = let e : length ss ≡ length (s ∷ ss) - 1 = omeg
 
 module _ (c : Circuit) (p : Pipe) (names : List (List ℕ)) (ss : List ShownNets) (ns : List (Option LockNets)) (rs : List (Option RequestNets)) (squash : Net)
     (some : 1 ≤ length ss) (count : length ss ≡ length p.stages) (named : length names ≡ length p.mems) (told : AreTold c p ss ns rs squash) where
-  mems_there : OutsThere c (commits_outs names ns)
-  mems_there = commits_there c names ns (λ i l. told.commits.there i (omega (arith, l, told.commits.count)))
+  abbrev flags : List Bool
+  flags = all_twice p.stmts 0 p.mems
+
+  mems_there : OutsThere c (commits_outs names flags ns)
+  mems_there = commits_there c names flags ns (λ i l. told.commits.there i (omega (arith, l, told.commits.count)))
 
   asks_there : OutsThere c (requests_outs names rs)
   asks_there = requests_there c names rs (λ i l. told.asks.there i (omega (arith, l, told.asks.count)))
 
   -- the net of each output is there
-  pub all_there : OutsThere c (all_outs names ss ns rs squash)
+  pub all_there : OutsThere c (all_outs names flags ss ns rs squash)
   all_there =
-      outs_more c ((stages_outs 0 ss ++ commits_outs names ns) ++ requests_outs names rs)
+      outs_more c ((stages_outs 0 ss ++ commits_outs names flags ns) ++ requests_outs names rs)
       (out (codes "ended") (last_moves ss squash) ∷ out (codes "squash") squash ∷ [])
-      (outs_more c (stages_outs 0 ss ++ commits_outs names ns) (requests_outs names rs)
-      (outs_more c (stages_outs 0 ss) (commits_outs names ns) (stages_there c 0 ss told.stages) mems_there) asks_there)
+      (outs_more c (stages_outs 0 ss ++ commits_outs names flags ns) (requests_outs names rs)
+      (outs_more c (stages_outs 0 ss) (commits_outs names flags ns) (stages_there c 0 ss told.stages) mems_there) asks_there)
       (last_there c ss squash told.squash told.stages, (told.squash, tt))
 
   module _ (vs : ℕ → View) (gates : Gates) (moves : ℕ → Signal) (name : ℕ → List ℕ) (h : AreOf c ss squash names vs gates moves name) where
@@ -176,9 +185,9 @@ module _ (c : Circuit) (p : Pipe) (names : List (List ℕ)) (ss : List ShownNets
         stages_show c 0 ss vs moves (λ i j e l. ap (λ k. (vs k).valid) (omega (arith, e)) ∙ h.valid i l) (λ i j e l. ap moves (omega (arith, e)) ∙ h.moves i l)
         ∙ ap (λ k. stages_shown vs moves k 0) count
 
-    mems_show : shown_by c (commits_outs names ns) ≡ commits_shown name (commits_in c ns) 0 p.mems
+    mems_show : shown_by c (commits_outs names flags ns) ≡ commits_shown name (λ m. reserves_twice m p.stmts) (commits_in c ns) 0 p.mems
     mems_show =
-        commits_show c 0 names p.mems ns name (commits_in c ns) named told.commits.count named_as
+        commits_show c p.stmts 0 names p.mems ns name (commits_in c ns) named told.commits.count named_as
         (λ i j e. ap (commits_in c ns) (omega (arith, e))) told.commits.locked
 
     asks_show : shown_by c (requests_outs names rs) ≡ requests_shown name (asks_in c rs) 0 p.mems
@@ -192,13 +201,13 @@ module _ (c : Circuit) (p : Pipe) (names : List (List ℕ)) (ss : List ShownNets
         ap₂ (λ f g. shown_signal (codes "ended") f ∷ shown_signal (codes "squash") g ∷ []) last (sym h.squash)
 
     -- the outputs show the stages, the commits, the requests and the last two, as the law of a netlist asks
-    pub all_show : shown_by c (all_outs names ss ns rs squash) ≡ whole_shown p name (commits_in c ns) (asks_in c rs) vs gates moves
+    pub all_show : shown_by c (all_outs names flags ss ns rs squash) ≡ whole_shown p name (commits_in c ns) (asks_in c rs) vs gates moves
     all_show =
         let S = stages_outs 0 ss in
-        let M = commits_outs names ns in
+        let M = commits_outs names flags ns in
         let R = requests_outs names rs in
         let s = stages_shown vs moves (length p.stages) 0 in
-        let m = commits_shown name (commits_in c ns) 0 p.mems in
+        let m = commits_shown name (λ m. reserves_twice m p.stmts) (commits_in c ns) 0 p.mems in
         let r = requests_shown name (asks_in c rs) 0 p.mems in
         let and = λ (fs gs : List Shown). fs ++ gs in
         shown_more c ((S ++ M) ++ R) (out (codes "ended") (last_moves ss squash) ∷ out (codes "squash") squash ∷ [])

@@ -28,7 +28,7 @@ AreThereStages c (s ∷ ss) = IsThere c s.valid × IsThere c s.moves × AreThere
 -- the nets of what a memory commits are there
 abbrev pub IsThereCommit : Circuit → Option LockNets → Type 0
 IsThereCommit c None = ⊤
-IsThereCommit c (Some n) = IsThere c n.commit × IsThere c n.addr × IsThere c n.value
+IsThereCommit c (Some n) = IsThere c n.commit × IsThere c n.addr × IsThere c n.value × IsThere c n.commit2 × IsThere c n.addr2 × IsThere c n.value2
 
 -- the memories with a lock have such nets
 pub record AreCommits (c : Circuit) (p : Pipe) (ns : List (Option LockNets)) : Type 0 where

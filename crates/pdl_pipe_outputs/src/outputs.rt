@@ -5,8 +5,9 @@ ghost use Rattle.pdl_form.specs.View.{mem_names};
 ghost use Rattle.pdl_net.specs.Circuit.{Circuit};
 ghost use Rattle.pdl_net.specs.Growth.{ExtendsPorts};
 ghost use Rattle.pdl_law_parts.specs.Compiled.{port_in};
+ghost use Rattle.pdl_pipe_walk.specs.Setting.{TellsTwice};
 ghost use Rattle.pdl_pipe_outputs.specs.ToldOutputs.{AreTold, output_of, OutsThere, ShowAll};
-ghost use Rattle.pdl_pipe_outputs.specs.OutputList.{stages_outs, commit_outs, commits_outs, request_outs, requests_outs, last_moves, all_outs};
+ghost use Rattle.pdl_pipe_outputs.specs.OutputList.{stages_outs, first_outs, second_outs, commit_outs, commits_outs, request_outs, requests_outs, last_moves, all_outs};
 
 use itoa::Buffer;
 use pdl_build::Builder;
@@ -84,13 +85,13 @@ fn push_stages(alloc: Global, outs: &mut Seq<OutNet>, stages: &[ShownNets]) -> R
 }
 
 // The three outputs of a memory: whether it commits a write, the address and the value.
-fn push_commit(
+fn push_first(
     alloc: Global,
     outs: &mut Seq<OutNet>,
     name: &Name,
     nets: LockNets,
 ) -> Result<(), NoMemory>
-    ensures { OnOk result (outs.new ≡ outs.old ++ commit_outs name.now (Some nets)) }
+    ensures { OnOk result (outs.new ≡ outs.old ++ first_outs name.now nets) }
 {
     let commit = with_prefix(alloc, b"c_", name)?;
     push(outs, commit, nets.commit)?;
@@ -100,17 +101,52 @@ fn push_commit(
     push(outs, value, nets.value)
 }
 
+// The three outputs of what a memory commits after that in the same cycle.
+fn push_second(
+    alloc: Global,
+    outs: &mut Seq<OutNet>,
+    name: &Name,
+    nets: LockNets,
+) -> Result<(), NoMemory>
+    ensures { OnOk result (outs.new ≡ outs.old ++ second_outs name.now nets) }
+{
+    let commit = with_prefix(alloc, b"c2_", name)?;
+    push(outs, commit, nets.commit2)?;
+    let addr = with_prefix(alloc, b"ca2_", name)?;
+    push(outs, addr, nets.addr2)?;
+    let value = with_prefix(alloc, b"cd2_", name)?;
+    push(outs, value, nets.value2)
+}
+
+// The outputs of what a memory commits: of a second commit where some path reserves the memory twice to write.
+fn push_commits(
+    alloc: Global,
+    outs: &mut Seq<OutNet>,
+    name: &Name,
+    twice: bool,
+    nets: LockNets,
+) -> Result<(), NoMemory>
+    ensures { OnOk result (outs.new ≡ outs.old ++ commit_outs name.now twice (Some nets)) }
+{
+    push_first(alloc, outs, name, nets)?;
+    if twice {
+        push_second(alloc, outs, name, nets)?;
+    }
+    Ok(())
+}
+
 // The outputs of a memory with a lock; another one has none.
 fn push_memory(
     alloc: Global,
     outs: &mut Seq<OutNet>,
     m: &FlatMem,
+    twice: bool,
     nets: Option<LockNets>,
 ) -> Result<(), NoMemory>
-    ensures { OnOk result (outs.new ≡ outs.old ++ commit_outs m.now.name nets) }
+    ensures { OnOk result (outs.new ≡ outs.old ++ commit_outs m.now.name twice nets) }
 {
     match nets {
-        Some(nets) => push_commit(alloc, outs, &m.name, nets),
+        Some(nets) => push_commits(alloc, outs, &m.name, twice, nets),
         None => Ok(()),
     }
 }
@@ -123,18 +159,29 @@ fn nets_at(nets: &[Option<LockNets>], m: usize) -> Option<LockNets>
     nets[m]
 }
 
+// Whether some path reserves the memory of a number twice to write.
+fn flag_at(twice: &[bool], m: usize) -> bool
+    requires { m < length twice.now }
+    ensures { result ≡ slice_index_or twice.now m result }
+{
+    twice[m]
+}
+
 // The outputs of all memories with a lock, in order.
 fn push_memories(
     alloc: Global,
     outs: &mut Seq<OutNet>,
     mems: &[FlatMem],
+    twice: &[bool],
     nets: &[Option<LockNets>],
 ) -> Result<(), NoMemory>
-    requires { length nets.now ≡ length mems.now }
-    ensures { OnOk result (outs.new ≡ outs.old ++ commits_outs (mem_names mems.now) nets.now) }
+    requires twice { length twice.now ≡ length mems.now }
+    requires nets { length nets.now ≡ length mems.now }
+    ensures { OnOk result (outs.new ≡ outs.old
+        ++ commits_outs (mem_names mems.now) twice.now nets.now) }
 {
     for (i, m) in mems.iter().enumerate() {
-        push_memory(alloc, outs, m, nets_at(nets, i))?;
+        push_memory(alloc, outs, m, flag_at(twice, i), nets_at(nets, i))?;
     }
     Ok(())
 }
@@ -217,19 +264,21 @@ fn push_named(alloc: Global, outs: &mut Seq<OutNet>, name: &[u8], net: Net) -> R
 fn all(
     alloc: Global,
     mems: &[FlatMem],
+    twice: &[bool],
     stages: &[ShownNets],
     nets: &[Option<LockNets>],
     requests: &[Option<RequestNets>],
     squash: Net,
 ) -> Result<Seq<OutNet>, NoMemory>
+    requires twice { length twice.now ≡ length mems.now }
     requires nets { length nets.now ≡ length mems.now }
     requires asks { length requests.now ≡ length mems.now }
     ensures { IfOk result (λ os.
-        os ≡ all_outs (mem_names mems.now) stages.now nets.now requests.now squash) }
+        os ≡ all_outs (mem_names mems.now) twice.now stages.now nets.now requests.now squash) }
 {
     let mut outs = Seq::new(alloc);
     push_stages(alloc, &mut outs, stages)?;
-    push_memories(alloc, &mut outs, mems, nets)?;
+    push_memories(alloc, &mut outs, mems, twice, nets)?;
     push_requests(alloc, &mut outs, mems, requests)?;
     push_named(alloc, &mut outs, b"ended", last_of(stages, squash))?;
     push_named(alloc, &mut outs, b"squash", squash)?;
@@ -238,10 +287,11 @@ fn all(
 
 /// The outputs of a pipe: of each stage whether it holds a thread and whether that moves, of each memory with a lock what it commits, of each delayed memory what is asked of it, whether a thread ends, and whether one is squashed.
 ///
-/// `stages` has one for each stage, `nets` and `requests` one for each memory, in order.
+/// `stages` has one for each stage, `twice`, `nets` and `requests` one for each memory, in order: `twice` says whether some path reserves the memory twice to write, and so shows a second commit.
 pub fn all_outputs(
     alloc: Global,
     pipe: &FlatPipe,
+    twice: &[bool],
     stages: &[ShownNets],
     nets: &[Option<LockNets>],
     requests: &[Option<RequestNets>],
@@ -249,6 +299,7 @@ pub fn all_outputs(
 ) -> Result<Seq<OutNet>, NoMemory>
     requires some { 1 ≤ length stages.now }
     requires count { length stages.now ≡ length (form pipe.now).pipe.stages }
+    requires twice { TellsTwice (form pipe.now) twice.now }
     requires mems { length nets.now ≡ length (form pipe.now).pipe.mems }
     requires asks { length requests.now ≡ length (form pipe.now).pipe.mems }
     // In each circuit in which what is told is there, so are the outputs, and they show it.
@@ -259,7 +310,7 @@ pub fn all_outputs(
         → AreTold c (form pipe.now).pipe stages.now nets.now requests.now squash
         → IfOk result (ShowAll c (form pipe.now) stages.now squash nets.now requests.now) }
 {
-    all(alloc, pipe.mems(), stages, nets, requests, squash)
+    all(alloc, pipe.mems(), twice, stages, nets, requests, squash)
 }
 
 /// Adds the outputs to the netlist, in order.

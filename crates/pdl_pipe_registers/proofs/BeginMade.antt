@@ -19,32 +19,33 @@ use Rattle.pdl_pipe_exprs.specs.declared.bits.Bits.{Bits}
 use Rattle.pdl_pipe_exprs.specs.Conditions.{AreBits}
 use Rattle.pdl_pipe_exprs.proofs.NetLists.{length_widths}
 use Rattle.pdl_port.specs.Laws.{AnswerSignals}
-use Rattle.pdl_law_parts.specs.Lives.{lives_from, held_from, verifies_from}
+use Rattle.pdl_law_parts.specs.declared.Mark.{Mark as MarkKind}
+use Rattle.pdl_law_parts.specs.Lives.{lives_from, mark_from, verifies_from}
 use Rattle.pdl_law_parts.specs.Walk.{Letting, is_locked, one, zero_bit}
 use Rattle.pdl_law_parts.specs.Views.{View}
 use Rattle.pdl_law_parts.proofs.StageLooks.{lock_there}
 use Rattle.pdl_pipe_lives.specs.Needs.{goes_with}
-use Rattle.pdl_pipe_walk.specs.declared.nets.HeldNet.{HeldNet}
+use Rattle.pdl_pipe_walk.specs.declared.nets.MarkNet.{MarkNet}
 use Rattle.pdl_pipe_walk.specs.declared.nets.ReserveNet.{ReserveNet}
 use Rattle.pdl_pipe_walk.specs.declared.nets.PutNet.{PutNet}
 use Rattle.pdl_pipe_walk.specs.declared.nets.LettingNet.{LettingNet}
 use Rattle.pdl_pipe_walk.specs.declared.nets.BirthNet.{BirthNet}
 use Rattle.pdl_pipe_walk.specs.declared.nets.AskNet.{AskNet}
-use Rattle.pdl_pipe_walk.specs.Parts.{Held as HeldPart, held_in, held_of, reservation_in, put_in, letting_in, birth_in, ask_in, parts_in, walk_of}
+use Rattle.pdl_pipe_walk.specs.Parts.{MarkSignal, mark_in, mark_of, reservation_in, put_in, letting_in, birth_in, ask_in, parts_in, walk_of}
 use Rattle.pdl_pipe_walk.specs.Sized.{IsWalk, IsSizedReserve, IsSizedPut, IsSizedBirth, IsSizedAsk}
 use Rattle.pdl_pipe_registers.specs.declared.nets.Item.{Item}
-use Rattle.pdl_pipe_registers.specs.declared.nets.Item.TheVariants.{Var, Held, Ticket, Guess}
+use Rattle.pdl_pipe_registers.specs.declared.nets.Item.TheVariants.{Var, Mark, Ticket, Guess}
 use Rattle.pdl_pipe_registers.specs.declared.nets.StageRegs.{StageRegs}
 use Rattle.pdl_pipe_registers.specs.declared.nets.Earlier.{Earlier}
 use Rattle.pdl_pipe_registers.specs.declared.nets.Shared.{Shared}
 use Rattle.pdl_pipe_registers.specs.declared.nets.StageNets.{StageNets}
 use Rattle.pdl_pipe_registers.specs.Items.{is_needed, ended_item}
 use Rattle.pdl_pipe_registers.specs.Stages.{begun_parts, IsFrame, IsBegun, IsBegunBy, IsSettled, IsSpared, IsThereBegun, HasKept, AreOwn}
-use Rattle.pdl_pipe_registers.specs.Begun.{earlier_views, earlier_count, is_listed, IsShared, IsEnded, IsEarlier, IsSettledAfter, IsSparedAfter, AreBegun, AreHeldBegun, HasAllHeld, AreNextTickets, AreAnswered, IsFresh}
+use Rattle.pdl_pipe_registers.specs.Begun.{earlier_views, earlier_count, is_listed, IsShared, IsEnded, IsEarlier, IsSettledAfter, IsSparedAfter, AreBegun, AreMarksBegun, HasAllMarks, AreNextTickets, AreAnswered, IsFresh}
 use Rattle.pdl_pipe_registers.proofs.Lists.{each_at, each_map, view_at, some_stage}
 use Rattle.pdl_pipe_registers.proofs.RegisterGrowth.{by_weaker}
 use Rattle.pdl_pipe_registers.proofs.Begins.{next_keep, ends_same, each_way, settled_as, spared_as}
-use Rattle.pdl_pipe_registers.proofs.HeldsBegun.{held_none, helds_as}
+use Rattle.pdl_pipe_registers.proofs.MarksBegun.{mark_none, marks_as}
 use Rattle.pdl_pipe_registers.proofs.ReadWords.{past_unanswered}
 use Rattle.pdl_word.specs.Each.{Each}
 use Rattle.pdl_word.proofs.Each.{each_mapped}
@@ -78,14 +79,16 @@ past_settled f us (suc k) x t l past = record {
   unanswered = past_unanswered f (suc k) x t l;
 }
 
--- a location that isn't listed isn't held
-unlisted : (p : Pipe) (us : ℕ → View) (k m a : ℕ) (hs : List HeldNet)
-    → held_from p k m a ≡ true → is_listed hs m a ≡ false → Each (λ j. HasAllHeld p k (us j) hs) (ways p k)
-    → IsSettled p us k (Held m a) zero_bit
-unlisted p us zero m a hs need un all = refl
-unlisted p us (suc k) m a hs need un all = record {
+-- a location doesn't have a mark that isn't listed
+unlisted : (p : Pipe) (us : ℕ → View) (k : ℕ) (mark : MarkKind) (m a : ℕ) (hs : List MarkNet)
+    → mark_from p k mark m a ≡ true → is_listed hs mark m a ≡ false → Each (λ j. HasAllMarks p k (us j) hs) (ways p k)
+    → IsSettled p us k (Mark mark m a) zero_bit
+unlisted p us zero mark m a hs need un all = refl
+unlisted p us (suc k) mark m a hs need un all = record {
   constant = (1, 0, refl);
-  same = each_map (λ j. HasAllHeld p (suc k) (us j) hs) (λ j. ended_item (us j) (Held m a) ≡ zero_bit) (ways p (suc k)) (λ j h. h m a need un) all;
+  same =
+      each_map (λ j. HasAllMarks p (suc k) (us j) hs) (λ j. ended_item (us j) (Mark mark m a) ≡ zero_bit) (ways p (suc k))
+      (λ j h. h mark m a need un) all;
   unanswered = refl;
 }
 
@@ -142,56 +145,56 @@ module _ (a : Circuit) (f : Form) (x : Earlier) (s : Shared) (shared : IsShared 
       (λ i. IsSpared f.pipe (earlier_views a x) (earlier_count x) (signals_in d vars) (Guess i)) ws xs
       (λ i g z. spared_as f.pipe (earlier_views b x) (earlier_views a x) (earlier_count x) (signals_in b vars) (signals_in d vars) (Guess i) g ends same z) h
 
-  -- the held locations with which a stage begins in the later circuit are such by the nets of the earlier one
-  pub helds_from : (c : Circuit) (r : StageRegs) (hs : List HeldNet)
-      → AreHeldBegun c f (signals_in b s.next) (earlier_views b x) (earlier_count x) r hs
-      → AreHeldBegun c f (signals_in a s.next) (earlier_views a x) (earlier_count x) r hs
-  helds_from c r hs h =
-      helds_as c f (signals_in a s.next) (earlier_views b x) (earlier_views a x)
-      (earlier_count x) r hs (λ m v j l. ends (Held m v) j l)
-      (subst (λ fs. AreHeldBegun c f fs (earlier_views b x) (earlier_count x) r hs) nexts_same h)
+  -- the marks with which a stage begins in the later circuit are such by the nets of the earlier one
+  pub marks_from : (c : Circuit) (r : StageRegs) (hs : List MarkNet)
+      → AreMarksBegun c f (signals_in b s.next) (earlier_views b x) (earlier_count x) r hs
+      → AreMarksBegun c f (signals_in a s.next) (earlier_views a x) (earlier_count x) r hs
+  marks_from c r hs h =
+      marks_as c f (signals_in a s.next) (earlier_views b x) (earlier_views a x)
+      (earlier_count x) r hs (λ mark m v j l. ends (Mark mark m v) j l)
+      (subst (λ fs. AreMarksBegun c f fs (earlier_views b x) (earlier_count x) r hs) nexts_same h)
 
-  -- that all a thread may hold is listed for each way into the stage holds by the nets of the earlier circuit
-  pub all_held_from : (hs : List HeldNet)
-      → Each (λ j. HasAllHeld f.pipe (earlier_count x) (earlier_views b x j) hs) x.ways.now
-      → Each (λ j. HasAllHeld f.pipe (earlier_count x) (earlier_views a x j) hs) (ways f.pipe (earlier_count x))
-  all_held_from hs h = subst (Each (λ j. HasAllHeld f.pipe (earlier_count x) (earlier_views a x j) hs)) earlier.ways (now x.ways.now earlier.low h)
+  -- that all marks of a thread are listed for each way into the stage holds by the nets of the earlier circuit
+  pub all_marks_from : (hs : List MarkNet)
+      → Each (λ j. HasAllMarks f.pipe (earlier_count x) (earlier_views b x j) hs) x.ways.now
+      → Each (λ j. HasAllMarks f.pipe (earlier_count x) (earlier_views a x j) hs) (ways f.pipe (earlier_count x))
+  all_marks_from hs h = subst (Each (λ j. HasAllMarks f.pipe (earlier_count x) (earlier_views a x j) hs)) earlier.ways (now x.ways.now earlier.low h)
     where
       now : (js : List ℕ) → Each (λ j. j < earlier_count x) js
-          → Each (λ j. HasAllHeld f.pipe (earlier_count x) (earlier_views b x j) hs) js
-          → Each (λ j. HasAllHeld f.pipe (earlier_count x) (earlier_views a x j) hs) js
+          → Each (λ j. HasAllMarks f.pipe (earlier_count x) (earlier_views b x j) hs) js
+          → Each (λ j. HasAllMarks f.pipe (earlier_count x) (earlier_views a x j) hs) js
       now [] l q = tt
-      now (j ∷ js) l q = (λ m v need un. ends (Held m v) j l.0 ∙ q.0 m v need un, now js l.1 q.1)
+      now (j ∷ js) l q = (λ mark m v need un. ends (Mark mark m v) j l.0 ∙ q.0 mark m v need un, now js l.1 q.1)
 
 -- ---- the stage
 
--- the parts with which stage k begins: registers, variables, held locations, tickets, guess and answers, and a fresh walk
+-- the parts with which stage k begins: registers, variables, marks of locations, tickets, guess and answers, and a fresh walk
 pub record HasParts (c : Circuit) (f : Form) (nexts : List Signal) (answers : ℕ → ℕ → AnswerSignals) (us : ℕ → View)
     (k : ℕ) (bits : Bits) (s : StageNets) : Type 0 where
   pub frame : IsFrame c f nexts k s.regs
   pub own : AreOwn f k s.regs
   pub vars : AreBegun c f nexts s.regs Var (lives_from f.pipe k) (λ x. IsSettled f.pipe us k (Var x)) f.widths s.vars
-  pub held : AreHeldBegun c f nexts us k s.regs s.held
-  pub all : Each (λ j. HasAllHeld f.pipe k (us j) s.held) (ways f.pipe k)
+  pub marks : AreMarksBegun c f nexts us k s.regs s.marks
+  pub all : Each (λ j. HasAllMarks f.pipe k (us j) s.marks) (ways f.pipe k)
   pub tickets : AreBegun c f nexts s.regs Ticket (goes_with f.pipe k) (λ m. IsSettled f.pipe us k (Ticket m)) (widths_of nexts) s.tickets
   pub next : AreNextTickets c f.pipe nexts k s.tickets
   pub guess : AreBegun c f nexts s.regs Guess (λ i. verifies_from f.pipe k) (λ i. IsSpared f.pipe us k (signals_in c s.vars) (Guess i)) (param_widths f) s.guess
   pub answered : AreAnswered c f answers k s.vars s.begun
   pub bits_are : AreBits c bits
-  pub fresh : IsFresh bits s.begun s.held s.guess s.end
+  pub fresh : IsFresh bits s.begun s.marks s.guess s.end
 
 module _ (c : Circuit) (f : Form) (nexts : List Signal) (answers : ℕ → ℕ → AnswerSignals) (us : ℕ → View) (k : ℕ)
     (bits : Bits) (s : StageNets) (h : HasParts c f nexts answers us k bits s) where
-  abbrev fresh : IsFresh bits s.begun s.held s.guess s.end
+  abbrev fresh : IsFresh bits s.begun s.marks s.guess s.end
   fresh = h.fresh
 
-  held_one : Each (λ (x : HeldPart). x.signal.width ≡ 1) (map (held_in c) s.held)
-  held_one = each_mapped (λ (x : HeldPart). x.signal.width ≡ 1) (held_in c) s.held h.held.one
+  marks_one : Each (λ (x : MarkSignal). x.signal.width ≡ 1) (map (mark_in c) s.marks)
+  marks_one = each_mapped (λ (x : MarkSignal). x.signal.width ≡ 1) (mark_in c) s.marks h.marks.one
 
   parts_are : parts_in c s.end ≡ begun_parts c s
   parts_are =
       let e1 : signals_in c s.end.vars.items ≡ signals_in c s.begun = ap (signals_in c) fresh.vars_is in
-      let e2 : map (held_in c) s.end.held.items ≡ map (held_in c) s.held = ap (map (held_in c)) fresh.held_is in
+      let e2 : map (mark_in c) s.end.marks.items ≡ map (mark_in c) s.marks = ap (map (mark_in c)) fresh.marks_is in
       let e3 : signal c s.end.ready ≡ one = ap (signal c) fresh.ready ∙ h.bits_are.one.same in
       let e4 : map (reservation_in c) s.end.reserves ≡ [] = ap (map (reservation_in c)) fresh.reserves in
       let e5 : map (put_in c) s.end.puts ≡ [] = ap (map (put_in c)) fresh.puts in
@@ -208,7 +211,7 @@ module _ (c : Circuit) (f : Form) (nexts : List Signal) (answers : ℕ → ℕ �
   walk_is = record {
     there = record {
       vars = subst (NetsThere c) (sym fresh.vars_is) h.answered.there;
-      held = subst (λ (l : List HeldNet). Each (λ (x : HeldNet). IsThere c x.net) l) (sym fresh.held_is) h.held.there;
+      marks = subst (λ (l : List MarkNet). Each (λ (x : MarkNet). IsThere c x.net) l) (sym fresh.marks_is) h.marks.there;
       ready = subst (IsThere c) (sym fresh.ready) h.bits_are.one.there;
       reserves = subst (λ (l : List ReserveNet). Each (λ (r : ReserveNet). IsThere c r.on × IsThere c r.addr) l) (sym fresh.reserves) tt;
       puts = subst (λ (l : List PutNet). Each (λ (x : PutNet). IsThere c x.on × IsThere c x.value) l) (sym fresh.puts) tt;
@@ -221,7 +224,7 @@ module _ (c : Circuit) (f : Form) (nexts : List Signal) (answers : ℕ → ℕ �
     };
     sized = record {
       vars = ap (λ (l : List Net). widths_of (signals_in c l)) fresh.vars_is ∙ h.answered.wide;
-      held = subst (λ (l : List HeldNet). Each (λ (x : HeldPart). x.signal.width ≡ 1) (map (held_in c) l)) (sym fresh.held_is) held_one;
+      marks = subst (λ (l : List MarkNet). Each (λ (x : MarkSignal). x.signal.width ≡ 1) (map (mark_in c) l)) (sym fresh.marks_is) marks_one;
       ready = ap (λ (x : Net). (signal c x).width) fresh.ready ∙ ap (λ (g : Signal). g.width) h.bits_are.one.same;
       reserves = subst (λ (l : List ReserveNet). Each (IsSizedReserve f.pipe) (map (reservation_in c) l)) (sym fresh.reserves) tt;
       puts = subst (λ (l : List PutNet). Each (IsSizedPut f.pipe) (map (put_in c) l)) (sym fresh.puts) tt;
@@ -240,8 +243,8 @@ module _ (c : Circuit) (f : Form) (nexts : List Signal) (answers : ℕ → ℕ �
     vars_wide = h.vars.wide;
     begun = h.answered.there;
     begun_wide = h.answered.wide;
-    held = h.held.there;
-    held_one = held_one;
+    marks = h.marks.there;
+    marks_one = marks_one;
     tickets = h.tickets.there;
     tickets_wide = h.tickets.wide;
     guess = h.guess.there;
@@ -261,14 +264,17 @@ module _ (c : Circuit) (f : Form) (nexts : List Signal) (answers : ℕ → ℕ �
         (subst (IsSettled f.pipe us k (Var x)) (sym (past_all (signals_in c s.vars) f.widths x h.vars.wide l))
         (past_settled f us k x typed l (λ j low. past x j l low)))
 
-    by_held : (m a : ℕ) (b : Bool) → is_listed s.held m a ≡ b → held_from f.pipe k m a ≡ true
-        → IsBegunBy f nexts s.regs (Held m a) (held_of (map (held_in c) s.held) m a) (IsSettled f.pipe us k (Held m a))
-    by_held m a true e need = h.held.begun m a e
-    by_held m a false e need = inr (subst (IsSettled f.pipe us k (Held m a)) (sym (held_none c s.held m a e)) (unlisted f.pipe us k m a s.held need e h.all))
+    by_mark : (mark : MarkKind) (m a : ℕ) (b : Bool) → is_listed s.marks mark m a ≡ b → mark_from f.pipe k mark m a ≡ true
+        → IsBegunBy f nexts s.regs (Mark mark m a) (mark_of (map (mark_in c) s.marks) mark m a) (IsSettled f.pipe us k (Mark mark m a))
+    by_mark mark m a true e need = h.marks.begun mark m a e
+    by_mark mark m a false e need =
+        inr
+        (subst (IsSettled f.pipe us k (Mark mark m a)) (sym (mark_none c s.marks mark m a e))
+        (unlisted f.pipe us k mark m a s.marks need e h.all))
 
     kept_is : HasKept c f nexts us k s
     kept_is (Var x) need = by_var x need (leb_tells (suc x) (length f.widths))
-    kept_is (Held m a) need = by_held m a (is_listed s.held m a) refl need
+    kept_is (Mark mark m a) need = by_mark mark m a (is_listed s.marks mark m a) refl need
     kept_is (Ticket m) need = let low = goes_low f.pipe k m need in let n = length_widths nexts in h.tickets.begun m (omega (arith, low, n, count)) need
     kept_is (Guess i) need =
         let q = and_parts (verifies_from f.pipe k) (nat_lt i (length f.pipe.start)) need in

@@ -21,7 +21,7 @@ use Rattle.pdl_pipe_walk.specs.Parts.{walk_of}
 use Rattle.pdl_pipe_walk.proofs.NetGrowth.{bits_keep, walk_keep, parts_keep}
 use Rattle.pdl_pipe_answers.proofs.PortAnswers.{answers_keep}
 use Rattle.pdl_pipe_registers.specs.declared.nets.Item.{Item}
-use Rattle.pdl_pipe_registers.specs.declared.nets.Item.TheVariants.{Var, Held, Ticket, Guess}
+use Rattle.pdl_pipe_registers.specs.declared.nets.Item.TheVariants.{Var, Mark, Ticket, Guess}
 use Rattle.pdl_pipe_registers.specs.declared.nets.StageRegs.{StageRegs}
 use Rattle.pdl_pipe_registers.specs.declared.nets.Shared.{Shared}
 use Rattle.pdl_pipe_registers.specs.declared.nets.Earlier.{Earlier}
@@ -75,7 +75,7 @@ earlier_now a b f s x e h k = subst (λ fs. IsEarlier b f fs x) (sym (next_keep 
 ended_keep : (a b : Circuit) (f : Form) (nexts : List Signal) (s : StageNets) (i : Item) → Keeps a b
     → IsEnded a f nexts s → ended_item (view_in b s) i ≡ ended_item (view_in a s) i
 ended_keep a b f nexts s (Var x) e h = ap (λ (w : Walk). w.vars x) (ap walk_of (parts_keep a b e s.end h.walk.there))
-ended_keep a b f nexts s (Held m n) e h = ap (λ (w : Walk). w.held m n) (ap walk_of (parts_keep a b e s.end h.walk.there))
+ended_keep a b f nexts s (Mark mark m n) e h = ap (λ (w : Walk). w.marks mark m n) (ap walk_of (parts_keep a b e s.end h.walk.there))
 ended_keep a b f nexts s (Ticket m) e h = ap (λ fs. signal_at fs m) (signals_keep a b s.tickets e h.tickets)
 ended_keep a b f nexts s (Guess i) e h = ap (λ (w : Walk). signal_at w.guess i) (ap walk_of (parts_keep a b e s.end h.walk.there))
 
@@ -157,7 +157,7 @@ pub spared_as : (p : Pipe) (us vs : ℕ → View) (k : ℕ) (fs gs : List Signal
     → ((i : Item) (j : ℕ) → j < k → ended_item (vs j) i ≡ ended_item (us j) i) → gs ≡ fs → IsSpared p us k fs i g
     → IsSpared p vs k gs i g
 spared_as p us vs k fs gs (Var x) g same e h = settled_as p us vs k (Var x) g (same (Var x)) h
-spared_as p us vs k fs gs (Held m a) g same e h = settled_as p us vs k (Held m a) g (same (Held m a)) h
+spared_as p us vs k fs gs (Mark mark m a) g same e h = settled_as p us vs k (Mark mark m a) g (same (Mark mark m a)) h
 spared_as p us vs k fs gs (Ticket m) g same e h = settled_as p us vs k (Ticket m) g (same (Ticket m)) h
 spared_as p us vs k fs gs (Guess i) g same e (inl h) = inl (settled_as p us vs k (Guess i) g (same (Guess i)) h)
 spared_as p us vs k fs gs (Guess i) g same e (inr h) =
@@ -167,7 +167,7 @@ spared_as p us vs k fs gs (Guess i) g same e (inr h) =
 settled_spared : (p : Pipe) (us : ℕ → View) (k : ℕ) (fs : List Signal) (i : Item) (g : Signal) → IsSettled p us k i g
     → IsSpared p us k fs i g
 settled_spared p us k fs (Var x) g h = h
-settled_spared p us k fs (Held m a) g h = h
+settled_spared p us k fs (Mark mark m a) g h = h
 settled_spared p us k fs (Ticket m) g h = h
 settled_spared p us k fs (Guess i) g h = inl h
 

@@ -3,7 +3,7 @@ pub mod Widths
 pub mod RegisterGrowth
 pub mod Begins
 pub mod SettledItems
-pub mod HeldsBegun
+pub mod MarksBegun
 pub mod TicketsMade
 pub mod WaysMade
 pub mod ReadWords

@@ -12,9 +12,9 @@ use Rattle.pdl_pipe_exprs.specs.Nets.{signals_in}
 use Rattle.pdl_pipe_exprs.proofs.NetLists.{width_at}
 use Rattle.pdl_law_parts.specs.Views.{View}
 use Rattle.pdl_pipe_walk.specs.Parts.{parts_in}
-use Rattle.pdl_pipe_walk.proofs.NetGrowth.{held_width, var_width}
+use Rattle.pdl_pipe_walk.proofs.NetGrowth.{mark_width, var_width}
 use Rattle.pdl_pipe_registers.specs.declared.nets.Item.{Item}
-use Rattle.pdl_pipe_registers.specs.declared.nets.Item.TheVariants.{Var, Held, Ticket, Guess}
+use Rattle.pdl_pipe_registers.specs.declared.nets.Item.TheVariants.{Var, Mark, Ticket, Guess}
 use Rattle.pdl_pipe_registers.specs.declared.nets.Earlier.{Earlier}
 use Rattle.pdl_pipe_registers.specs.declared.nets.StageNets.{StageNets}
 use Rattle.pdl_pipe_registers.specs.Items.{ended_item, item_width, is_answered, IsConstant}
@@ -42,7 +42,7 @@ take_index (suc n) (suc x) (w ∷ ws) l = take_index n x ws (omega (arith, l))
 pub ended_width : (c : Circuit) (f : Form) (nexts : List Signal) (s : StageNets) (i : Item) → IsEnded c f nexts s
     → IsItem f i → (ended_item (view_in c s) i).width ≡ item_width f nexts i
 ended_width c f nexts s (Var x) h l = var_width f.pipe f.widths (parts_in c s.end) x h.walk.sized
-ended_width c f nexts s (Held m a) h l = held_width (parts_in c s.end).held m a h.walk.sized.held
+ended_width c f nexts s (Mark mark m a) h l = mark_width (parts_in c s.end).marks mark m a h.walk.sized.marks
 ended_width c f nexts s (Ticket m) h l = sym (width_at (signals_in c s.tickets) m) ∙ ap (λ ws. slice_index ws m) h.tickets_wide ∙ width_at nexts m
 ended_width c f nexts s (Guess i) h l =
     sym (width_at (signals_in c s.end.guess) i) ∙ ap (λ ws. slice_index ws i) h.walk.sized.guess ∙ take_index (length f.pipe.start) i f.widths l

@@ -20,14 +20,14 @@ use Rattle.pdl_pipe_answers.specs.Ports.{answers_in, HasAnswers}
 use Rattle.pdl_pipe_answers.proofs.PortAnswers.{answer_same}
 use Rattle.pdl_law_parts.specs.Walk.{Locks, Walk, AreRows}
 use Rattle.pdl_law_sides.specs.Sides.{with_answer}
-use Rattle.pdl_pipe_walk.specs.declared.nets.HeldNet.{HeldNet}
-use Rattle.pdl_pipe_walk.specs.Parts.{Parts, Held as HeldPart, walk_of, walk_in}
+use Rattle.pdl_pipe_walk.specs.declared.nets.MarkNet.{MarkNet}
+use Rattle.pdl_pipe_walk.specs.Parts.{Parts, MarkSignal, walk_of, walk_in}
 use Rattle.pdl_pipe_walk.specs.Locked.{tickets_in}
 use Rattle.pdl_pipe_walk.specs.Sized.{IsWalk}
 use Rattle.pdl_pipe_walk.specs.Steps.{AreSteps}
-use Rattle.pdl_pipe_walk.proofs.NetGrowth.{held_keep, parts_keep, walk_keep}
+use Rattle.pdl_pipe_walk.proofs.NetGrowth.{marks_keep, parts_keep, walk_keep}
 use Rattle.pdl_pipe_registers.specs.declared.nets.Item.{Item}
-use Rattle.pdl_pipe_registers.specs.declared.nets.Item.TheVariants.{Var, Held, Ticket, Guess}
+use Rattle.pdl_pipe_registers.specs.declared.nets.Item.TheVariants.{Var, Mark, Ticket, Guess}
 use Rattle.pdl_pipe_registers.specs.declared.nets.StageNets.{StageNets}
 use Rattle.pdl_pipe_registers.specs.Items.{kept_item, ended_item}
 use Rattle.pdl_pipe_registers.specs.Stages.{begun_parts, view_in, views_in, no_view, IsThereBegun, HasTickets, HasKept, HasAnswered, IsBegun, IsBegunBy, IsSpared, IsAt}
@@ -47,8 +47,8 @@ module _ (c d : Circuit) (e : Keeps c d) where
     vars_wide = ap widths_of (signals_keep c d s.vars e h.vars) ∙ h.vars_wide;
     begun = there_keeps c d s.begun e h.begun;
     begun_wide = ap widths_of (signals_keep c d s.begun e h.begun) ∙ h.begun_wide;
-    held = each_weaker (λ (x : HeldNet). IsThere c x.net) (λ x. IsThere d x.net) (λ x t. e.there x.net t) s.held h.held;
-    held_one = subst (Each (λ (x : HeldPart). x.signal.width ≡ 1)) (sym (held_keep c d e s.held h.held)) h.held_one;
+    marks = each_weaker (λ (x : MarkNet). IsThere c x.net) (λ x. IsThere d x.net) (λ x t. e.there x.net t) s.marks h.marks;
+    marks_one = subst (Each (λ (x : MarkSignal). x.signal.width ≡ 1)) (sym (marks_keep c d e s.marks h.marks)) h.marks_one;
     tickets = there_keeps c d s.tickets e h.tickets;
     tickets_wide = ap widths_of (signals_keep c d s.tickets e h.tickets) ∙ h.tickets_wide;
     guess = there_keeps c d s.guess e h.guess;
@@ -59,14 +59,14 @@ module _ (c d : Circuit) (e : Keeps c d) where
   pub begun_parts_keep : (f : Form) (nexts : List Signal) (s : StageNets) → IsThereBegun c f nexts s → begun_parts d s ≡ begun_parts c s
   begun_parts_keep f nexts s h =
       let e1 = signals_keep c d s.begun e h.begun in
-      let e2 = held_keep c d e s.held h.held in
+      let e2 = marks_keep c d e s.marks h.marks in
       let e3 = signals_keep c d s.guess e h.guess in
       cc (e1, e2, e3)
 
   kept_item_keep : (f : Form) (nexts : List Signal) (s : StageNets) (i : Item) → IsThereBegun c f nexts s
       → kept_item (view_in d s) i ≡ kept_item (view_in c s) i
   kept_item_keep f nexts s (Var x) h = ap (λ fs. signal_at fs x) (signals_keep c d s.vars e h.vars)
-  kept_item_keep f nexts s (Held m v) h = ap (λ (w : Walk). w.held m v) (ap walk_of (begun_parts_keep f nexts s h))
+  kept_item_keep f nexts s (Mark mark m v) h = ap (λ (w : Walk). w.marks mark m v) (ap walk_of (begun_parts_keep f nexts s h))
   kept_item_keep f nexts s (Ticket m) h = ap (λ fs. signal_at fs m) (signals_keep c d s.tickets e h.tickets)
   kept_item_keep f nexts s (Guess i) h = ap (λ fs. signal_at fs i) (signals_keep c d s.guess e h.guess)
 
@@ -131,7 +131,7 @@ module _ (a c d : Circuit) (ad : Keeps a d) (e : Keeps c d) (f : Form) (nexts : 
     (h : IsBegun c f nexts answers (views_in a ss) k s) where
   kept_at : (i : Item) → kept_item (view_in d (with_end s t)) i ≡ kept_item (view_in c s) i
   kept_at (Var x) = ap (λ fs. signal_at fs x) (signals_keep c d s.vars e h.nets.vars)
-  kept_at (Held m v) = ap (λ (w : Walk). w.held m v) (ap walk_of (begun_parts_keep c d e f nexts s h.nets))
+  kept_at (Mark mark m v) = ap (λ (w : Walk). w.marks mark m v) (ap walk_of (begun_parts_keep c d e f nexts s h.nets))
   kept_at (Ticket m) = ap (λ fs. signal_at fs m) (signals_keep c d s.tickets e h.nets.tickets)
   kept_at (Guess i) = ap (λ fs. signal_at fs i) (signals_keep c d s.guess e h.nets.guess)
 
@@ -148,8 +148,8 @@ module _ (a c d : Circuit) (ad : Keeps a d) (e : Keeps c d) (f : Form) (nexts : 
           vars_wide = q.vars_wide;
           begun = q.begun;
           begun_wide = q.begun_wide;
-          held = q.held;
-          held_one = q.held_one;
+          marks = q.marks;
+          marks_one = q.marks_one;
           tickets = q.tickets;
           tickets_wide = q.tickets_wide;
           guess = q.guess;

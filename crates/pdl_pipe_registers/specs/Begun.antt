@@ -13,11 +13,12 @@ use Rattle.pdl_net.specs.HasWidth.{HasWidth}
 use Rattle.pdl_pipe_exprs.specs.Nets.{NetsThere, signals_in, signal_at, widths_of}
 use Rattle.pdl_pipe_exprs.specs.declared.bits.Bits.{Bits}
 use Rattle.pdl_pipe_exprs.specs.Conditions.{AreBits}
-use Rattle.pdl_law_parts.specs.Lives.{held_from}
-use Rattle.pdl_law_parts.specs.Walk.{zero_bit}
+use Rattle.pdl_law_parts.specs.declared.Mark.{Mark as MarkKind}
+use Rattle.pdl_law_parts.specs.Lives.{mark_from}
+use Rattle.pdl_law_parts.specs.Walk.{zero_bit, same_mark}
 use Rattle.pdl_law_parts.specs.Views.{View}
-use Rattle.pdl_pipe_walk.specs.declared.nets.HeldNet.{HeldNet}
-use Rattle.pdl_pipe_walk.specs.Parts.{held_in, held_of}
+use Rattle.pdl_pipe_walk.specs.declared.nets.MarkNet.{MarkNet}
+use Rattle.pdl_pipe_walk.specs.Parts.{mark_in, mark_of}
 use Rattle.pdl_pipe_walk.specs.declared.locks.MemLock.{MemLock}
 use Rattle.pdl_pipe_walk.specs.Locked.{of_lock}
 use Rattle.pdl_pipe_walk.specs.Sized.{IsWalk}
@@ -27,7 +28,7 @@ use Rattle.pdl_port.specs.Laws.{AnswerSignals}
 use Rattle.pdl_law_sides.specs.Sides.{with_answer}
 use Rattle.pdl_pipe_answers.specs.Ports.{HasAnswers}
 use Rattle.pdl_pipe_registers.specs.declared.nets.Item.{Item}
-use Rattle.pdl_pipe_registers.specs.declared.nets.Item.TheVariants.{Var, Held, Ticket, Guess}
+use Rattle.pdl_pipe_registers.specs.declared.nets.Item.TheVariants.{Var, Mark, Ticket, Guess}
 use Rattle.pdl_pipe_registers.specs.declared.nets.StageRegs.{StageRegs}
 use Rattle.pdl_pipe_registers.specs.declared.nets.Shared.{Shared}
 use Rattle.pdl_pipe_registers.specs.declared.nets.Earlier.{Earlier}
@@ -78,7 +79,7 @@ earlier_count x = length x.stages.now
 -- something that a stage may keep is there
 abbrev pub IsItem : Form → Item → Type 0
 IsItem f (Var x) = x < length f.widths
-IsItem f (Held m a) = ⊤
+IsItem f (Mark _ _ _) = ⊤
 IsItem f (Ticket m) = m < length f.pipe.mems
 IsItem f (Guess i) = i < length (param_widths f)
 
@@ -93,10 +94,10 @@ pub record IsCommonNet (c : Circuit) (us : ℕ → View) (js : List ℕ) (i : It
 abbrev pub with_item : StageRegs → Item → StageRegs
 with_item r i = record r { items = r.items ++ i ∷ [] }
 
--- whether a location is among these
-abbrev pub is_listed : List HeldNet → ℕ → ℕ → Bool
-is_listed [] m a = false
-is_listed (h ∷ hs) m a = ((h.mem == m) && (h.var == a)) || is_listed hs m a
+-- whether a mark of a location is among these
+abbrev pub is_listed : List MarkNet → MarkKind → ℕ → ℕ → Bool
+is_listed [] mark m a = false
+is_listed (h ∷ hs) mark m a = (same_mark h.mark mark && ((h.mem == m) && (h.var == a))) || is_listed hs mark m a
 
 -- one register more, for this item
 pub record Adds (c : Circuit) (r r' : StageRegs) (i : Item) (w v : ℕ) (net : Net) : Type 0 where
@@ -144,26 +145,28 @@ pub record AreBegun (c : Circuit) (f : Form) (nexts : List Signal) (r : StageReg
   pub wide : widths_of (signals_in c xs) ≡ ws
   pub begun : (i : ℕ) → i < length ws → needed i ≡ true → IsBegunBy f nexts r (item i) (signal_at (signals_in c xs) i) (Settled i)
 
--- a location that was listed still is
-abbrev pub AreStillListed : List HeldNet → List HeldNet → Type 0
-AreStillListed hs xs = (m v : ℕ) → is_listed hs m v ≡ true → is_listed xs m v ≡ true
+-- a mark that was listed still is
+abbrev pub AreStillListed : List MarkNet → List MarkNet → Type 0
+AreStillListed hs xs = (mark : MarkKind) (m v : ℕ) → is_listed hs mark m v ≡ true → is_listed xs mark m v ≡ true
 
--- held locations, each once
-pub record AreHeldBegun (c : Circuit) (f : Form) (nexts : List Signal) (us : ℕ → View) (k : ℕ) (r : StageRegs) (hs : List HeldNet) : Type 0 where
-  pub there : Each (λ (h : HeldNet). IsThere c h.net) hs
-  pub one : Each (λ (h : HeldNet). (signal c h.net).width ≡ 1) hs
-  pub begun : (m v : ℕ) → is_listed hs m v ≡ true → IsBegunBy f nexts r (Held m v) (held_of (map (held_in c) hs) m v) (IsSettled f.pipe us k (Held m v))
+-- marks of locations, each once
+pub record AreMarksBegun (c : Circuit) (f : Form) (nexts : List Signal) (us : ℕ → View) (k : ℕ) (r : StageRegs) (hs : List MarkNet) : Type 0 where
+  pub there : Each (λ (h : MarkNet). IsThere c h.net) hs
+  pub one : Each (λ (h : MarkNet). (signal c h.net).width ≡ 1) hs
+  pub begun : (mark : MarkKind) (m v : ℕ) → is_listed hs mark m v ≡ true
+      → IsBegunBy f nexts r (Mark mark m v) (mark_of (map (mark_in c) hs) mark m v) (IsSettled f.pipe us k (Mark mark m v))
 
--- a location that is asked for from stage k on is listed, or a thread that comes out of a stage with this view doesn't hold it
-abbrev pub HasAllHeld : Pipe → ℕ → View → List HeldNet → Type 0
-HasAllHeld p k u hs = (m v : ℕ) → held_from p k m v ≡ true → is_listed hs m v ≡ false → u.ended.held m v ≡ zero_bit
+-- a mark that is asked for from stage k on is listed, or the location of a thread that comes out of a stage with this view doesn't have it
+abbrev pub HasAllMarks : Pipe → ℕ → View → List MarkNet → Type 0
+HasAllMarks p k u hs =
+    (mark : MarkKind) (m v : ℕ) → mark_from p k mark m v ≡ true → is_listed hs mark m v ≡ false → u.ended.marks mark m v ≡ zero_bit
 
--- one location more, where it is asked for and not yet listed
-abbrev pub AddsHeld : Circuit → Form → List Signal → (ℕ → View) → ℕ → ℕ → ℕ → StageRegs → List HeldNet → StageRegs → List HeldNet → Type 0
-AddsHeld c f nexts us k m v r hs r' hs' =
-    ((r' ≡ r) × (hs' ≡ hs) × (held_from f.pipe k m v ≡ true → is_listed hs m v ≡ true))
-    ⊎ ((net : Net) × MayAdd c r r' (Held m v) 1 0 net (IsSettled f.pipe us k (Held m v))
-    × (hs' ≡ hs ++ record { mem = m; var = v; net = net } ∷ []) × (is_listed hs m v ≡ false))
+-- one mark more, where it is asked for and not yet listed
+abbrev pub AddsMark : Circuit → Form → List Signal → (ℕ → View) → ℕ → MarkKind → ℕ → ℕ → StageRegs → List MarkNet → StageRegs → List MarkNet → Type 0
+AddsMark c f nexts us k mark m v r hs r' hs' =
+    ((r' ≡ r) × (hs' ≡ hs) × (mark_from f.pipe k mark m v ≡ true → is_listed hs mark m v ≡ true))
+    ⊎ ((net : Net) × MayAdd c r r' (Mark mark m v) 1 0 net (IsSettled f.pipe us k (Mark mark m v))
+    × (hs' ≡ hs ++ record { mark = mark; mem = m; var = v; net = net } ∷ []) × (is_listed hs mark m v ≡ false))
 
 -- where a thread has no ticket of its own it is the next one
 abbrev pub AreNextTickets : Circuit → Pipe → List Signal → ℕ → List Net → Type 0
@@ -175,10 +178,10 @@ pub record AreAnswered (c : Circuit) (f : Form) (answers : ℕ → ℕ → Answe
   pub wide : widths_of (signals_in c xs) ≡ f.widths
   pub answered : (x : ℕ) → x < length f.widths → signal_at (signals_in c xs) x ≡ with_answer f.pipe answers k x (signal_at (signals_in c vars) x)
 
--- a walk before its first statement: with these variables, held locations and guess
-pub record IsFresh (bits : Bits) (vars : List Net) (held : List HeldNet) (guess : List Net) (w : WalkNets) : Type 0 where
+-- a walk before its first statement: with these variables, marks and guess
+pub record IsFresh (bits : Bits) (vars : List Net) (marks : List MarkNet) (guess : List Net) (w : WalkNets) : Type 0 where
   pub vars_is : w.vars.items ≡ vars
-  pub held_is : w.held.items ≡ held
+  pub marks_is : w.marks.items ≡ marks
   pub guess_is : w.guess ≡ guess
   pub ready : w.ready ≡ bits.one
   pub reserves : w.reserves ≡ []

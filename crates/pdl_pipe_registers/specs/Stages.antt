@@ -13,12 +13,12 @@ use Rattle.pdl_pipe_exprs.specs.Nets.{NetsThere, signals_in, signal_at, widths_o
 use Rattle.pdl_law_parts.specs.Walk.{Walk, one, zero_bit}
 use Rattle.pdl_law_parts.specs.Views.{View}
 use Rattle.pdl_pipe_lives.specs.Needs.{goes_with}
-use Rattle.pdl_pipe_walk.specs.declared.nets.HeldNet.{HeldNet}
-use Rattle.pdl_pipe_walk.specs.Parts.{Parts, Held as HeldPart, walk_of, held_in, walk_in}
+use Rattle.pdl_pipe_walk.specs.declared.nets.MarkNet.{MarkNet}
+use Rattle.pdl_pipe_walk.specs.Parts.{Parts, MarkSignal, walk_of, mark_in, walk_in}
 use Rattle.pdl_pipe_walk.specs.Locked.{tickets_in}
 use Rattle.pdl_pipe_walk.specs.Sized.{IsWalk}
 use Rattle.pdl_pipe_registers.specs.declared.nets.Item.{Item}
-use Rattle.pdl_pipe_registers.specs.declared.nets.Item.TheVariants.{Var, Held, Ticket, Guess}
+use Rattle.pdl_pipe_registers.specs.declared.nets.Item.TheVariants.{Var, Mark, Ticket, Guess}
 use Rattle.pdl_pipe_registers.specs.declared.nets.StageRegs.{StageRegs}
 use Rattle.pdl_pipe_registers.specs.declared.nets.StageNets.{StageNets}
 use Rattle.pdl_pipe_registers.specs.Items.{item_at, is_needed, is_answered, kept_item, ended_item, item_width, first_value, IsOwn, IsConstant, IsZero}
@@ -35,7 +35,7 @@ abbrev pub begun_parts : Circuit → StageNets → Parts
 begun_parts c s =
     record {
       vars = signals_in c s.begun;
-      held = map (held_in c) s.held;
+      marks = map (mark_in c) s.marks;
       ready = one;
       reserves = [];
       puts = [];
@@ -64,7 +64,7 @@ no_walk =
     walk_of
     (record {
       vars = [];
-      held = [];
+      marks = [];
       ready = one;
       reserves = [];
       puts = [];
@@ -133,8 +133,8 @@ pub record IsThereBegun (c : Circuit) (f : Form) (nexts : List Signal) (s : Stag
   pub vars_wide : widths_of (signals_in c s.vars) ≡ f.widths
   pub begun : NetsThere c s.begun
   pub begun_wide : widths_of (signals_in c s.begun) ≡ f.widths
-  pub held : Each (λ (h : HeldNet). IsThere c h.net) s.held
-  pub held_one : Each (λ (h : HeldPart). h.signal.width ≡ 1) (map (held_in c) s.held)
+  pub marks : Each (λ (h : MarkNet). IsThere c h.net) s.marks
+  pub marks_one : Each (λ (h : MarkSignal). h.signal.width ≡ 1) (map (mark_in c) s.marks)
   pub tickets : NetsThere c s.tickets
   pub tickets_wide : widths_of (signals_in c s.tickets) ≡ widths_of nexts
   pub guess : NetsThere c s.guess
@@ -172,7 +172,7 @@ pub record IsAsVariable (p : Pipe) (us : ℕ → View) (k : ℕ) (vars : List Si
 -- an item of stage k needs no register of its own, where the variables have these signals
 abbrev pub IsSpared : Pipe → (ℕ → View) → ℕ → List Signal → Item → Signal → Type 0
 IsSpared p us k vars (Var x) g = IsSettled p us k (Var x) g
-IsSpared p us k vars (Held m a) g = IsSettled p us k (Held m a) g
+IsSpared p us k vars (Mark mark m a) g = IsSettled p us k (Mark mark m a) g
 IsSpared p us k vars (Ticket m) g = IsSettled p us k (Ticket m) g
 IsSpared p us k vars (Guess i) g = IsSettled p us k (Guess i) g ⊎ IsAsVariable p us k vars i g
 

@@ -17,7 +17,7 @@ ghost use Rattle.pdl_pipe_registers.specs.Stages.{end_of, begun_parts, IsFrame, 
 ghost use Rattle.pdl_pipe_registers.specs.Begun.{earlier_views, earlier_count, IsShared, IsEarlier, IsItem, IsSettledAfter, IsLonger, MayAdd, MayBegin, AreBegun, AreAnswered, IsFresh};
 
 use crate::guess::begin_guess;
-use crate::helds::begin_helds;
+use crate::marks::begin_marks;
 use crate::nets::{Earlier, Item, Shared, StageNets, StageRegs};
 use crate::registers::common;
 use crate::tickets::begin_tickets;
@@ -28,7 +28,7 @@ use pdl_net::Net;
 use pdl_pipe_answers::{gets_answer, with_answers};
 use pdl_pipe_exprs::Bits;
 use pdl_pipe_exprs::exprs::variable;
-use pdl_pipe_walk::{HeldNet, WalkNets};
+use pdl_pipe_walk::{MarkNet, WalkNets};
 use std::alloc::Global;
 
 // Whether a thread may get an item in a stage by an answer.
@@ -37,7 +37,7 @@ fn is_answered(pipe: &FlatPipe, stage: usize, item: Item) -> bool
 {
     match item {
         Item::Var(x) => gets_answer(pipe, stage, x),
-        Item::Held { .. } | Item::Ticket(_) | Item::Guess(_) => false,
+        Item::Mark { .. } | Item::Ticket(_) | Item::Guess(_) => false,
     }
 }
 
@@ -211,14 +211,14 @@ fn begin_walk(
     alloc: Global,
     bits: Bits,
     vars: &[Net],
-    held: &[HeldNet],
+    marks: &[MarkNet],
     guess: &[Net],
 ) -> Result<WalkNets, NoMemory>
-    ensures { IfOk result (λ w. IsFresh bits vars.now held.now guess.now w) }
+    ensures { IfOk result (λ w. IsFresh bits vars.now marks.now guess.now w) }
 {
     Ok(WalkNets {
         vars: Vec::from_slice(alloc, vars)?,
-        held: Vec::from_slice(alloc, held)?,
+        marks: Vec::from_slice(alloc, marks)?,
         ready: bits.one,
         reserves: Seq::new(alloc),
         puts: Seq::new(alloc),
@@ -256,7 +256,7 @@ pub fn begin(
     let stage = earlier.stages.len();
     let mut regs = StageRegs::new(alloc, b, u64::from(stage == 0))?;
     let vars = begin_vars(alloc, b, pipe, shared, earlier, &mut regs)?;
-    let held = begin_helds(alloc, b, pipe, shared, earlier, &mut regs)?;
+    let marks = begin_marks(alloc, b, pipe, shared, earlier, &mut regs)?;
     let tickets = begin_tickets(alloc, b, pipe, shared, stage, &mut regs)?;
     let guess = begin_guess(alloc, b, pipe, shared, earlier, &mut regs, vars.as_slice())?;
     let begun = begin_answers(alloc, b, pipe, shared, stage, vars.as_slice())?;
@@ -264,14 +264,14 @@ pub fn begin(
         alloc,
         shared.bits,
         begun.as_slice(),
-        held.as_slice(),
+        marks.as_slice(),
         guess.as_slice(),
     )?;
     Ok(StageNets {
         regs,
         vars,
         begun,
-        held,
+        marks,
         tickets,
         guess,
         end,

@@ -1,11 +1,11 @@
-//! The registers of a pipe's stages, and what each stage begins with: its variables with the answers of a cycle, held locations, tickets and the guess.
+//! The registers of a pipe's stages, and what each stage begins with: its variables with the answers of a cycle, marks of locations, tickets and the guess.
 //!
 //! The layer above may use `stages`, each with its nets after its statements, `ended`, and `ways_into`.
 #![tactic(auto)]
 
 pub mod entry;
 pub mod guess;
-pub mod helds;
+pub mod marks;
 pub mod nets;
 pub mod registers;
 pub mod tickets;

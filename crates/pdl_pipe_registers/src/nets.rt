@@ -1,16 +1,17 @@
 // The nets of a stage.
 use pdl_kit::Seq;
+use pdl_law_parts::Mark;
 use pdl_net::Net;
 use pdl_pipe_exprs::Bits;
 use pdl_pipe_lives::Needs;
-use pdl_pipe_walk::{HeldNet, WalkNets};
+use pdl_pipe_walk::{MarkNet, WalkNets};
 use pdl_port::PortRegs;
 
-/// What a register of a stage keeps of its thread: the value of a variable, whether a location is held, by its memory and the variable of its address, the ticket of a memory's lock, or an argument of the guess.
+/// What a register of a stage keeps of its thread: the value of a variable, a mark of a location, by its memory and the variable of its address, the ticket of a memory's lock, or an argument of the guess.
 #[derive(Clone, Copy)]
 pub enum Item {
     Var(usize),
-    Held { mem: usize, var: usize },
+    Mark { mark: Mark, mem: usize, var: usize },
     Ticket(usize),
     Guess(usize),
 }
@@ -29,8 +30,8 @@ pub struct StageNets {
     pub vars: Seq<Net>,
     /// The variables with the answers of this cycle, as the statements begin with them.
     pub begun: Seq<Net>,
-    /// What is held as the stage begins; of two entries of one location the first counts.
-    pub held: Seq<HeldNet>,
+    /// The marks of locations as the stage begins; of two entries of one mark of a location the first counts.
+    pub marks: Seq<MarkNet>,
     /// The tickets by the numbers of their memories, the whole stage long.
     pub tickets: Seq<Net>,
     /// The arguments of the guess as the stage begins.
@@ -45,7 +46,7 @@ impl Drop for StageNets {
             regs: _,
             vars: _,
             begun: _,
-            held: _,
+            marks: _,
             tickets: _,
             guess: _,
             end: _,

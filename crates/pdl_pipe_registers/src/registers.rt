@@ -81,7 +81,7 @@ pub fn ended(b: &Builder, pipe: &FlatPipe, shared: &Shared<'_>, s: &StageNets, i
     let _vars = pipe.vars();
     match item {
         Item::Var(x) => variable(b, s.end.vars.as_slice(), x),
-        Item::Held { mem, var } => s.end.is_held(b, shared.bits, mem, var),
+        Item::Mark { mark, mem, var } => s.end.is_marked(b, shared.bits, mark, mem, var),
         Item::Ticket(m) => variable(b, s.tickets.as_slice(), m),
         Item::Guess(i) => variable(b, s.end.guess.as_slice(), i),
     }

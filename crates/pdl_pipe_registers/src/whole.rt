@@ -6,6 +6,7 @@ ghost use Rattle.pdl_pipe_exprs.specs.Nets.{NetsThere, signals_in};
 ghost use Rattle.pdl_pipe_exprs.specs.Conditions.{AreBits};
 ghost use Rattle.pdl_form_types.specs.Stmts.{IsTypedForm, AreWidths};
 ghost use Rattle.pdl_pipe_walk.specs.Locked.{members, AreLocked, locks_in};
+ghost use Rattle.pdl_pipe_walk.specs.Setting.{TellsTwice};
 ghost use Rattle.pdl_pipe_walk.specs.Sized.{AreWalked};
 ghost use Rattle.pdl_pipe_lives.specs.Needs.{AreNeeds};
 ghost use Rattle.pdl_pipe_answers.specs.Ports.{HasAnswers, answers_in};
@@ -51,6 +52,7 @@ fn stage<L: LockModule>(
     pipe: &FlatPipe,
     shared: &Shared<'_>,
     locks: &[Option<MemLock<L>>],
+    twice: &[bool],
     needs: &Needs,
     before: &[StageNets],
 ) -> Result<StageNets, NoMemory>
@@ -58,6 +60,7 @@ fn stage<L: LockModule>(
     requires walked { AreWalked (form pipe.now) (form pipe.now).pipe.stmts }
     requires shared { IsShared b.old (form pipe.now) shared.now }
     requires locks { AreLocked (members L.LockModule) b.old (form pipe.now).pipe locks.now }
+    requires twice { TellsTwice (form pipe.now) twice.now }
     requires next { signals_in b.old shared.now.next ≡ next_signals b.old locks.now }
     requires needs { AreNeeds (form pipe.now) needs.now }
     requires before { AreEnded b.old (form pipe.now) (signals_in b.old shared.now.next) before.now }
@@ -85,6 +88,7 @@ fn stage<L: LockModule>(
         pipe,
         bits: shared.bits,
         locks,
+        twice,
         tickets,
     };
     s.end.walk(alloc, b, &setting, before.len())?;
@@ -99,19 +103,21 @@ fn append<T: Drop>(items: &mut Vec<T>, item: T) -> Result<(), NoMemory>
     Ok(())
 }
 
-/// The stages of a pipe, one after the other, round these locks and ports.
+/// The stages of a pipe, one after the other, round these locks and ports, where `twice` says of each memory whether some path reserves it twice to write.
 pub fn stages<L: LockModule>(
     alloc: Global,
     b: &mut Builder,
     pipe: &FlatPipe,
     bits: Bits,
     locks: &[Option<MemLock<L>>],
+    twice: &[bool],
     ports: &[Option<PortRegs>],
 ) -> Result<Vec<StageNets>, NoMemory>
     requires typed { IsTypedForm (form pipe.now) }
     requires walked { AreWalked (form pipe.now) (form pipe.now).pipe.stmts }
     requires bits { AreBits b.old bits }
     requires locks { AreLocked (members L.LockModule) b.old (form pipe.now).pipe locks.now }
+    requires twice { TellsTwice (form pipe.now) twice.now }
     requires ports { HasAnswers b.old (form pipe.now).pipe ports.now }
     requires reserves { length (form pipe.now).pipe.reserves_at ≡ length (form pipe.now).pipe.mems }
     requires releases { length (form pipe.now).pipe.releases_at ≡ length (form pipe.now).pipe.mems }
@@ -135,7 +141,16 @@ pub fn stages<L: LockModule>(
     let mut stages = Vec::new(alloc);
     let line = pipe.stages();
     for _ in 0..line.len() {
-        let s = stage(alloc, b, pipe, &shared, locks, &needs, stages.as_slice())?;
+        let s = stage(
+            alloc,
+            b,
+            pipe,
+            &shared,
+            locks,
+            twice,
+            &needs,
+            stages.as_slice(),
+        )?;
         append(&mut stages, s)?;
     }
     Ok(stages)

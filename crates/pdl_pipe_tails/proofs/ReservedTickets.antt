@@ -3,28 +3,26 @@ use Rattle.std.proofs.Common.{◌≡◌, ◌≢◌, refl, sym, ap, ap₂, ◌∙
 use Rattle.std.specs.Prelude.{if◌then◌else◌}
 use Rattle.std.proofs.lemmas.Bool.{eq-eqb, ne_eqb}
 use Rattle.std.proofs.lemmas.List.{length-append, take_more, map-append}
-use Rattle.std.proofs.Math.Nat.{mod-add-mod}
-use Rattle.pdl_word.specs.Words as words
+use Rattle.pdl_word.specs.Words.{bit}
 use Rattle.pdl_word.specs.Each.{Each}
 use Rattle.pdl_word.proofs.Each.{each_get}
-use Rattle.pdl_net.specs.declared.BinOp.TheVariants.{Add}
 use Rattle.pdl_net.specs.declared.Net.{Net}
 use Rattle.pdl_net.specs.Circuit.{Circuit, State}
-use Rattle.pdl_net.specs.Signal.{Signal, const_signal, bin_signal, bin_value, const_value}
+use Rattle.pdl_net.specs.Signal.{Signal}
 use Rattle.pdl_net.specs.Meaning.{signal, IsThere}
 use Rattle.pdl_net.specs.Growth.{Keeps}
 use Rattle.pdl_net.proofs.KeptWidths.{width_keeps}
 use Rattle.pdl_lockapi.specs.Laws.{ReserveSignal, asked_addresses}
 use Rattle.pdl_law_parts.specs.Walk.{Reservation, both}
 use Rattle.pdl_law_parts.specs.Views.{View}
-use Rattle.pdl_law_parts.specs.Ports.{reserves_to, all_reserves}
-use Rattle.pdl_law_parts.proofs.Signals.{mux_by}
+use Rattle.pdl_law_parts.specs.Ports.{one_more, reserves_to, all_reserves}
+use Rattle.pdl_law_parts.proofs.Tickets.{one_more_is}
 use Rattle.pdl_law_parts.proofs.LockPorts.{asked_append}
 use Rattle.pdl_semantics.specs.Flat.{Pipe}
 use Rattle.pdl_pipe_walk.specs.declared.nets.ReserveNet.{ReserveNet}
 use Rattle.pdl_pipe_walk.specs.Parts.{reservation_in}
 use Rattle.pdl_pipe_walk.specs.Sized.{IsSizedReserve}
-use Rattle.pdl_pipe_tails.specs.Reserved.{one_more, IsReserve, IsAfter}
+use Rattle.pdl_pipe_tails.specs.Reserved.{IsReserve, IsAfter}
 
 -- ---- how many are asked
 
@@ -81,22 +79,16 @@ after_then f g h xs ys a b = record {
       (let n = asked_count s xs ys in let z : t + one + two ≡ t + length (asked_addresses s (xs ++ ys)) = omega (arith, n) in z);
 }
 
-more_value : (w v t : ℕ) → v ≡ t % 2 ^ w → words.add w v 1 ≡ (t + 1) % 2 ^ w
-unfolding words.add
-more_value w v t e = ap (λ n. (n + 1) % 2 ^ w) e ∙ mod-add-mod t (2 ^ w) 1
-
-at_one : (w v t addr : ℕ) (b : Bool)
-    → v ≡ t % 2 ^ w → (if b then words.add w v 1 else v) ≡ (t + length (if b then addr ∷ [] else [])) % 2 ^ w
-at_one w v t addr true e = more_value w v t e
-at_one w v t addr false e = e ∙ ap (λ n. n % 2 ^ w) (let z : t ≡ t + 0 = omega arith in z)
-
 -- one reservation
 after_one : (on f addr : Signal) → IsAfter f (one_more on f) (record { enable = on; addr = addr } ∷ [])
-unfolding bin_value const_value
 after_one on f addr = record {
   wide = refl;
-  holds = λ s t e. mux_by s on (bin_signal Add f (const_signal f.width 1)) f ∙ at_one f.width (f.value s) t (addr.value s) (on.value s == 1) e;
+  holds = λ s t e. one_more_is s on f f.width t refl e ∙ ap (λ n. (t + n) % 2 ^ f.width) (asked (addr.value s) (on.value s == 1));
 }
+  where
+    asked : (a : ℕ) (b : Bool) → bit b ≡ length (if b then a ∷ [] else [])
+    asked a true = refl
+    asked a false = refl
 
 -- after a reservation of this memory, by a thread that moves, the ticket is the one after it
 pub after_own : (m : ℕ) (moves f : Signal) (r : Reservation)

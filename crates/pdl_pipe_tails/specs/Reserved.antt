@@ -1,9 +1,8 @@
 -- The next ticket of a lock after what this cycle's threads reserve.
 use Rattle.std.specs.Prelude.{◌≡◌, ℕ, ◌+◌, ◌<◌, List, length}
-use Rattle.pdl_net.specs.declared.BinOp.TheVariants.{Add}
 use Rattle.pdl_net.specs.declared.Net.{Net}
 use Rattle.pdl_net.specs.Circuit.{Circuit, State}
-use Rattle.pdl_net.specs.Signal.{Signal, const_signal, bin_signal, mux_signal}
+use Rattle.pdl_net.specs.Signal.{Signal}
 use Rattle.pdl_net.specs.Meaning.{IsThere}
 use Rattle.pdl_lockapi.specs.Laws.{ReserveSignal, holds_ticket, asked_addresses}
 use Rattle.pdl_pipe_exprs.specs.Nets.{NetsThere, signals_in, signal_at}
@@ -11,10 +10,6 @@ use Rattle.pdl_law_parts.specs.Ports.{all_reserves}
 use Rattle.pdl_pipe_walk.specs.declared.nets.ReserveNet.{ReserveNet}
 use Rattle.pdl_pipe_nexts.specs.declared.line.StageLine.{StageLine}
 use Rattle.pdl_pipe_nexts.specs.Lines.{line_views, line_moves, IsBit}
-
--- a ticket, or the one after it where this is 1
-abbrev pub one_more : Signal → Signal → Signal
-one_more on f = mux_signal on (bin_signal Add f (const_signal f.width 1)) f
 
 -- a reservation's nets are there, its condition with 1 bit
 abbrev pub IsReserve : Circuit → ReserveNet → Type 0

@@ -1,38 +1,24 @@
 // The next ticket of each lock after what this cycle's threads reserve.
 ghost use Rattle.std.specs.Prelude.{◌≡◌, ◌<◌, [], ◌∷◌, IfOk, length, map};
-ghost use Rattle.pdl_net.specs.Meaning.{IsThere, Means, signal};
+ghost use Rattle.pdl_net.specs.Meaning.{IsThere, signal};
 ghost use Rattle.pdl_net.specs.Growth.{Extends};
 ghost use Rattle.pdl_pipe_exprs.specs.Conditions.{AreBits};
 ghost use Rattle.pdl_law_parts.specs.Ports.{reserves_to};
 ghost use Rattle.pdl_pipe_walk.specs.Parts.{reservation_in};
 ghost use Rattle.pdl_pipe_nexts.specs.Lines.{IsBit, IsLineIn};
-ghost use Rattle.pdl_pipe_tails.specs.Reserved.{one_more as one_more_signal, IsAfter, IsAfterAll, AreAfterAll, IsReserve};
+ghost use Rattle.pdl_pipe_tails.specs.Reserved.{IsAfter, IsAfterAll, AreAfterAll, IsReserve};
 ghost use Rattle.pdl_word.specs.Each.{Each};
 
 use pdl_build::Builder;
 use pdl_kit::{NoMemory, Seq};
-use pdl_net::{BinOp, Net};
+use pdl_net::Net;
 use pdl_pipe_exprs::Bits;
 use pdl_pipe_exprs::exprs::variable;
 use pdl_pipe_nexts::StageLine;
 use pdl_pipe_nexts::line::stage_of;
 use pdl_pipe_walk::ReserveNet;
+use pdl_pipe_walk::tickets::one_more;
 use std::alloc::Global;
-
-// The ticket after this one where `on`, of 1 bit, is 1, else this one.
-fn one_more(b: &mut Builder, on: Net, ticket: Net) -> Result<Net, NoMemory>
-    requires on { IsBit b.old on }
-    requires ticket { IsThere b.old ticket }
-    ensures means { IfOk result (λ x.
-        Means b.new x (one_more_signal (signal b.old on) (signal b.old ticket))) }
-    ensures extends { Extends b.old b.new }
-    ensures regs { b.new.regs ≡ b.old.regs }
-{
-    let width = b.width(ticket);
-    let one = b.constant(width, 1)?;
-    let next = b.bin(BinOp::Add, ticket, one)?;
-    b.mux(on, next, ticket)
-}
 
 // The ticket after a reservation of the memory, where the thread moves that makes it.
 fn after_reserve(

@@ -1,7 +1,8 @@
 -- Pipes without variables and memories, as tests take them.
-use Rattle.std.proofs.Common.{◌≡◌, ℕ, zero, suc, true, List, [], ◌∷◌, map, length, refl, sym, ap, ◌∙◌, subst, arith}
+use Rattle.std.proofs.Common.{◌≡◌, ℕ, zero, suc, Bool, true, List, [], ◌∷◌, map, length, refl, sym, ap, ◌∙◌, subst, arith}
 use Rattle.std.specs.Prelude.{Option, take}
-use Rattle.pdl_semantics.specs.Flat.{Call, SpecCall, Verify, SpecBarrier, Stmt, Pipe}
+use Rattle.pdl_semantics.specs.Flat.{Call, SpecCall, Verify, SpecBarrier, Stmt, Mem, Pipe}
+use Rattle.pdl_semantics.specs.SecondWrites.{all_twice}
 use Rattle.pdl_form.specs.Form.{Form}
 use Rattle.pdl_form_types.specs.Stmts.{AreArguments}
 use Rattle.pdl_net.specs.declared.Net.{Net}
@@ -10,14 +11,14 @@ use Rattle.pdl_net.specs.Meaning.{signal, IsThere}
 use Rattle.pdl_pipe_exprs.specs.Nets.{NetsThere, signals_in, widths_of}
 use Rattle.pdl_law_parts.specs.Walk.{Letting}
 use Rattle.pdl_pipe_walk.specs.declared.locks.MemLock.{MemLock}
-use Rattle.pdl_pipe_walk.specs.declared.nets.HeldNet.{HeldNet}
+use Rattle.pdl_pipe_walk.specs.declared.nets.MarkNet.{MarkNet}
 use Rattle.pdl_pipe_walk.specs.declared.nets.ReserveNet.{ReserveNet}
 use Rattle.pdl_pipe_walk.specs.declared.nets.PutNet.{PutNet}
 use Rattle.pdl_pipe_walk.specs.declared.nets.LettingNet.{LettingNet}
 use Rattle.pdl_pipe_walk.specs.declared.nets.BirthNet.{BirthNet}
 use Rattle.pdl_pipe_walk.specs.declared.nets.AskNet.{AskNet}
 use Rattle.pdl_pipe_walk.specs.declared.nets.WalkNets.{WalkNets}
-use Rattle.pdl_pipe_walk.specs.Parts.{Held, held_in, reservation_in, put_in, letting_in, birth_in, ask_in}
+use Rattle.pdl_pipe_walk.specs.Parts.{MarkSignal, mark_in, reservation_in, put_in, letting_in, birth_in, ask_in}
 use Rattle.pdl_pipe_walk.specs.Locked.{Members, AreLocked, AreTickets}
 use Rattle.pdl_pipe_walk.specs.Sized.{IsSizedReserve, IsSizedPut, IsSizedBirth, IsSizedAsk, IsWalk, AreWalked}
 use Rattle.pdl_word.specs.Each.{Each}
@@ -62,20 +63,24 @@ no_tickets l c xs ts e n = record {
   wide = λ m x low s. absurd (omega (arith, low, ap length e));
 }
 
+-- nor flags of whether some path reserves one twice
+pub no_flags : (ys : List Stmt) (ms : List Mem) (xs : List Bool) → ms ≡ [] → xs ≡ [] → xs ≡ all_twice ys 0 ms
+no_flags ys ms xs n e = e ∙ sym (ap (all_twice ys 0) n)
+
 take_none : (n : ℕ) → take {A = ℕ} n [] ≡ []
 take_none zero = refl
 take_none (suc n) = refl
 
 -- the nets of a walk without variables that has done nothing are there
 pub bare_walk : (c : Circuit) (p : Pipe) (ws : List ℕ) (w : WalkNets)
-    → ws ≡ [] → w.vars.items ≡ [] → w.held.items ≡ [] → IsThere c w.ready → (signal c w.ready).width ≡ 1
+    → ws ≡ [] → w.vars.items ≡ [] → w.marks.items ≡ [] → IsThere c w.ready → (signal c w.ready).width ≡ 1
     → w.reserves ≡ [] → w.puts ≡ [] → w.lettings ≡ [] → w.births.items ≡ [] → w.asks ≡ [] → w.guess ≡ []
     → IsThere c w.fails → (signal c w.fails).width ≡ 1 → IsThere c w.barrier → (signal c w.barrier).width ≡ 1
     → IsWalk c p ws w
 bare_walk c p ws w e e1 e2 t o e4 e5 e6 e7 e8 e9 t1 o1 t2 o2 = record {
   there = record {
     vars = subst (NetsThere c) (sym e1) tt;
-    held = subst (λ (l : List HeldNet). Each (λ (h : HeldNet). IsThere c h.net) l) (sym e2) tt;
+    marks = subst (λ (l : List MarkNet). Each (λ (h : MarkNet). IsThere c h.net) l) (sym e2) tt;
     ready = t;
     reserves = subst (λ (l : List ReserveNet). Each (λ (r : ReserveNet). IsThere c r.on × IsThere c r.addr) l) (sym e4) tt;
     puts = subst (λ (l : List PutNet). Each (λ (x : PutNet). IsThere c x.on × IsThere c x.value) l) (sym e5) tt;
@@ -88,7 +93,7 @@ bare_walk c p ws w e e1 e2 t o e4 e5 e6 e7 e8 e9 t1 o1 t2 o2 = record {
   };
   sized = record {
     vars = ap (λ (l : List Net). widths_of (signals_in c l)) e1 ∙ sym e;
-    held = subst (λ (l : List HeldNet). Each (λ (h : Held). h.signal.width ≡ 1) (map (held_in c) l)) (sym e2) tt;
+    marks = subst (λ (l : List MarkNet). Each (λ (h : MarkSignal). h.signal.width ≡ 1) (map (mark_in c) l)) (sym e2) tt;
     ready = o;
     reserves = subst (λ (l : List ReserveNet). Each (IsSizedReserve p) (map (reservation_in c) l)) (sym e4) tt;
     puts = subst (λ (l : List PutNet). Each (IsSizedPut p) (map (put_in c) l)) (sym e5) tt;

@@ -11,21 +11,23 @@ use Rattle.pdl_net.specs.Meaning.{signal, IsThere, Means}
 use Rattle.pdl_net.specs.Growth.{Extends}
 use Rattle.pdl_net.proofs.Keeps.{extends_keeps}
 use Rattle.pdl_pipe_exprs.specs.Nets.{NetsThere, signals_in, signal_at, widths_of}
-use Rattle.pdl_law_parts.specs.Walk.{one, both, if_on}
-use Rattle.pdl_pipe_walk.specs.declared.nets.HeldNet.{HeldNet}
+use Rattle.pdl_law_parts.specs.declared.Mark.{Mark}
+use Rattle.pdl_law_parts.specs.declared.Mark.TheVariants.{Held}
+use Rattle.pdl_law_parts.specs.Walk.{Locks, one, both, if_on}
+use Rattle.pdl_pipe_walk.specs.declared.nets.MarkNet.{MarkNet}
 use Rattle.pdl_pipe_walk.specs.declared.nets.ReserveNet.{ReserveNet}
 use Rattle.pdl_pipe_walk.specs.declared.nets.PutNet.{PutNet}
 use Rattle.pdl_pipe_walk.specs.declared.nets.LettingNet.{LettingNet}
 use Rattle.pdl_pipe_walk.specs.declared.nets.BirthNet.{BirthNet}
 use Rattle.pdl_pipe_walk.specs.declared.nets.AskNet.{AskNet}
 use Rattle.pdl_pipe_walk.specs.declared.nets.WalkNets.{WalkNets}
-use Rattle.pdl_pipe_walk.specs.Parts.{Parts, held_of, reservation_in, letting_in, ask_in, parts_in, IsThereWalk}
+use Rattle.pdl_pipe_walk.specs.Parts.{Parts, mark_of, reservation_in, letting_in, ask_in, parts_in, IsThereWalk}
 use Rattle.pdl_pipe_walk.specs.Frames.{SameRest}
 use Rattle.pdl_pipe_walk.specs.Sized.{IsSized, IsWalk}
-use Rattle.pdl_pipe_walk.specs.Steps.{with_var, with_put, with_held, with_reserve, with_call, with_ask}
+use Rattle.pdl_pipe_walk.specs.Steps.{with_var, with_put, with_mark, with_room, with_reservation, with_reserve, with_call, with_ask}
 use Rattle.pdl_pipe_walk.proofs.Lists.{there_set}
 use Rattle.pdl_pipe_walk.proofs.NetGrowth.{there_walk}
-use Rattle.pdl_pipe_walk.proofs.Updates.{there_rest, vars_parts, ready_parts, held_parts, reserve_parts, put_parts, letting_parts, ask_parts, birth_parts, fails_parts, barrier_parts, guess_parts, sized_var, sized_ready, sized_held, sized_put, sized_reserve, sized_letting, sized_ask, sized_fails, sized_barrier, sized_guess, sized_call}
+use Rattle.pdl_pipe_walk.proofs.Updates.{there_rest, vars_parts, ready_parts, marks_parts, reserve_parts, put_parts, letting_parts, ask_parts, birth_parts, fails_parts, barrier_parts, guess_parts, sized_var, sized_ready, sized_mark, sized_put, sized_reserve, sized_letting, sized_ask, sized_fails, sized_barrier, sized_guess, sized_call}
 use Rattle.pdl_word.specs.Each.{Each}
 use Rattle.pdl_word.proofs.Each.{each_push}
 
@@ -39,7 +41,7 @@ module _ (a b : Circuit) (e : Extends a b) (p : Pipe) (ws : List ℕ) (w : WalkN
 
   -- another variable
   module _ (new : WalkNets) (x : ℕ) (n : Net) (on f : Signal) (m : Means b n (mux_signal on f (signal_at (signals_in a w.vars.items) x)))
-      (e1 : new.vars.items ≡ slice_set w.vars.items x n) (e2 : new.held ≡ w.held) (e3 : new.births ≡ w.births) (rest : SameRest w new) where
+      (e1 : new.vars.items ≡ slice_set w.vars.items x n) (e2 : new.marks ≡ w.marks) (e3 : new.births ≡ w.births) (rest : SameRest w new) where
     -- the walk's signals are those before, with the new one for the variable where the condition is 1
     pub set_parts : parts_in b new ≡ with_var x on f (parts_in a w)
     set_parts = vars_parts a b (extends_keeps a b e) w h.there new x n (mux_signal on f (signal_at (signals_in a w.vars.items) x)) m.same e1 e2 e3 rest
@@ -49,7 +51,7 @@ module _ (a b : Circuit) (e : Extends a b) (p : Pipe) (ws : List ℕ) (w : WalkN
     set_walk k = record {
       there =
           there_rest b w new there rest (subst (λ (l : List Net). NetsThere b l) (sym e1) (there_set b w.vars.items x n there.vars m.there))
-          (subst (λ l. Each (λ (y : HeldNet). IsThere b y.net) l.items) (sym e2) there.held)
+          (subst (λ l. Each (λ (y : MarkNet). IsThere b y.net) l.items) (sym e2) there.marks)
           (subst (λ l. Each (λ (y : BirthNet). IsThere b y.on × NetsThere b y.args) l.items) (sym e3) there.births);
       sized = as_sized p ws (parts_in b new) (with_var x on f (parts_in a w)) set_parts (sized_var p ws (parts_in a w) h.sized x on f k);
     }
@@ -66,7 +68,7 @@ module _ (a b : Circuit) (e : Extends a b) (p : Pipe) (ws : List ℕ) (w : WalkN
       there =
           record {
             vars = there.vars;
-            held = there.held;
+            marks = there.marks;
             ready = t;
             reserves = there.reserves;
             puts = there.puts;
@@ -90,7 +92,7 @@ module _ (a b : Circuit) (e : Extends a b) (p : Pipe) (ws : List ℕ) (w : WalkN
       there =
           record {
             vars = there.vars;
-            held = there.held;
+            marks = there.marks;
             ready = there.ready;
             reserves = there.reserves;
             puts = there.puts;
@@ -112,7 +114,7 @@ module _ (a b : Circuit) (e : Extends a b) (p : Pipe) (ws : List ℕ) (w : WalkN
       there =
           record {
             vars = there.vars;
-            held = there.held;
+            marks = there.marks;
             ready = there.ready;
             reserves = there.reserves;
             puts = there.puts;
@@ -135,7 +137,7 @@ module _ (a b : Circuit) (e : Extends a b) (p : Pipe) (ws : List ℕ) (w : WalkN
     there =
         record {
           vars = there.vars;
-          held = there.held;
+          marks = there.marks;
           ready = there.ready;
           reserves = there.reserves;
           puts = there.puts;
@@ -151,22 +153,27 @@ module _ (a b : Circuit) (e : Extends a b) (p : Pipe) (ws : List ℕ) (w : WalkN
         (guess_parts a b (extends_keeps a b e) w h.there ns fs s) (sized_guess p ws (parts_in a w) h.sized fs k);
   }
 
-  -- one more held location
-  module _ (new : WalkNets) (mem var : ℕ) (n : Net) (on bit : Signal) (m : Means b n (mux_signal on bit (held_of (parts_in a w).held mem var)))
-      (e1 : new.held.items ≡ record { mem = mem; var = var; net = n } ∷ w.held.items) (e2 : new.vars ≡ w.vars)
+  -- one more mark
+  module _ (new : WalkNets) (mark : Mark) (mem var : ℕ) (n : Net) (on bit : Signal)
+      (m : Means b n (mux_signal on bit (mark_of (parts_in a w).marks mark mem var)))
+      (e1 : new.marks.items ≡ record { mark = mark; mem = mem; var = var; net = n } ∷ w.marks.items) (e2 : new.vars ≡ w.vars)
       (e3 : new.births ≡ w.births) (rest : SameRest w new) where
-    -- the walk's signals are those before, with the new one for the held location where the condition is 1
-    pub hold_parts : parts_in b new ≡ with_held mem var on bit (parts_in a w)
-    hold_parts = held_parts a b (extends_keeps a b e) w h.there new mem var n (mux_signal on bit (held_of (parts_in a w).held mem var)) m.same e1 e2 e3 rest
+    -- the walk's signals are those before, with the new one for the mark where the condition is 1
+    pub mark_parts : parts_in b new ≡ with_mark mark mem var on bit (parts_in a w)
+    mark_parts =
+        marks_parts a b (extends_keeps a b e) w h.there new mark mem var n
+        (mux_signal on bit (mark_of (parts_in a w).marks mark mem var)) m.same e1 e2 e3 rest
 
-    -- the nets of the walk with one more held location are there, with their widths
-    pub hold_walk : bit.width ≡ 1 → IsWalk b p ws new
-    hold_walk k = record {
+    -- the nets of the walk with one more mark are there, with their widths
+    pub mark_walk : bit.width ≡ 1 → IsWalk b p ws new
+    mark_walk k = record {
       there =
           there_rest b w new there rest (subst (λ l. NetsThere b l.items) (sym e2) there.vars)
-          (subst (λ (l : List HeldNet). Each (λ (y : HeldNet). IsThere b y.net) l) (sym e1) (m.there, there.held))
+          (subst (λ (l : List MarkNet). Each (λ (y : MarkNet). IsThere b y.net) l) (sym e1) (m.there, there.marks))
           (subst (λ l. Each (λ (y : BirthNet). IsThere b y.on × NetsThere b y.args) l.items) (sym e3) there.births);
-      sized = as_sized p ws (parts_in b new) (with_held mem var on bit (parts_in a w)) hold_parts (sized_held p ws (parts_in a w) h.sized mem var on bit k);
+      sized =
+          as_sized p ws (parts_in b new) (with_mark mark mem var on bit (parts_in a w)) mark_parts
+          (sized_mark p ws (parts_in a w) h.sized mark mem var on bit k);
     }
 
 -- one more of each kind, in the same circuit
@@ -179,7 +186,7 @@ module _ (b : Circuit) (p : Pipe) (ws : List ℕ) (w : WalkNets) (h : IsWalk b p
     there =
         record {
           vars = s.vars;
-          held = s.held;
+          marks = s.marks;
           ready = s.ready;
           reserves = s.reserves;
           lettings = s.lettings;
@@ -204,7 +211,7 @@ module _ (b : Circuit) (p : Pipe) (ws : List ℕ) (w : WalkNets) (h : IsWalk b p
     there =
         record {
           vars = s.vars;
-          held = s.held;
+          marks = s.marks;
           ready = s.ready;
           puts = s.puts;
           lettings = s.lettings;
@@ -228,7 +235,7 @@ module _ (b : Circuit) (p : Pipe) (ws : List ℕ) (w : WalkNets) (h : IsWalk b p
     there =
         record {
           vars = s.vars;
-          held = s.held;
+          marks = s.marks;
           ready = s.ready;
           reserves = s.reserves;
           puts = s.puts;
@@ -253,7 +260,7 @@ module _ (b : Circuit) (p : Pipe) (ws : List ℕ) (w : WalkNets) (h : IsWalk b p
     there =
         record {
           vars = s.vars;
-          held = s.held;
+          marks = s.marks;
           ready = s.ready;
           reserves = s.reserves;
           puts = s.puts;
@@ -296,7 +303,7 @@ pub birth_made : (b : Circuit) (r : Result (Unit {0}) NoMemory) (p : Pipe) (ws :
     → IsWalk b p ws w → IsThere b on → (signal b on).width ≡ 1 → NetsThere b args
     → widths_of (signals_in b args) ≡ take (length p.start) ws
     → OnOk r (new.births.items ≡ record { on = on; args = args } ∷ w.births.items) → new.vars ≡ w.vars
-    → new.held ≡ w.held → SameRest w new
+    → new.marks ≡ w.marks → SameRest w new
     → OnOk r (IsWalk b p ws new × (parts_in b new ≡ with_call (signal b on) (signals_in b args) (parts_in b w)))
 birth_made b (Err x) p ws w new on args h t o u k e1 e2 e3 rest = e1
 birth_made b (Ok x) p ws w new on args h t o u k e1 e2 e3 rest =
@@ -305,7 +312,7 @@ birth_made b (Ok x) p ws w new on args h t o u k e1 e2 e3 rest =
       record {
         there =
             there_rest b w new s rest (subst (λ l. NetsThere b l.items) (sym e2) s.vars)
-            (subst (λ l. Each (λ (y : HeldNet). IsThere b y.net) l.items) (sym e3) s.held)
+            (subst (λ l. Each (λ (y : MarkNet). IsThere b y.net) l.items) (sym e3) s.marks)
             (subst (λ (l : List BirthNet). Each (λ (y : BirthNet). IsThere b y.on × NetsThere b y.args) l) (sym e1) ((t, u), s.births));
         sized =
             as_sized p ws (parts_in b new)
@@ -326,18 +333,18 @@ ready_same o o' f q q' e h = ap₂ (λ i (k : Parts). record k { ready = both k.
 -- equal parts with one release more, of equal signals, are equal again
 pub release_same : (m a : ℕ) (o o' z : Signal) (lets lets' : Signal) (q q' : Parts)
     → o ≡ o' → lets ≡ lets' → q ≡ q'
-    → record (with_held m a o z q) { lettings = q.lettings ++ record { mem = m; on = lets } ∷ [] }
-    ≡ record (with_held m a o' z q') { lettings = q'.lettings ++ record { mem = m; on = lets' } ∷ [] }
+    → record (with_mark Held m a o z q) { lettings = q.lettings ++ record { mem = m; on = lets } ∷ [] }
+    ≡ record (with_mark Held m a o' z q') { lettings = q'.lettings ++ record { mem = m; on = lets' } ∷ [] }
 release_same m a o o' z lets lets' q q' e l h =
-    ap (λ i. record (with_held m a i z q) { lettings = q.lettings ++ record { mem = m; on = lets } ∷ [] }) e
-    ∙ ap₂ (λ i (k : Parts). record (with_held m a o' z k) { lettings = k.lettings ++ record { mem = m; on = i } ∷ [] }) l h
+    ap (λ i. record (with_mark Held m a i z q) { lettings = q.lettings ++ record { mem = m; on = lets } ∷ [] }) e
+    ∙ ap₂ (λ i (k : Parts). record (with_mark Held m a o' z k) { lettings = k.lettings ++ record { mem = m; on = i } ∷ [] }) l h
 
 -- a held location, a wait for room and one more reservation make a reserve
-pub reserve_made : (m a : ℕ) (q3 q2 q1 q0 : Parts) (o1 o2 o3 on r room bit addr : Signal)
-    → q3 ≡ record q2 { ready = both q2.ready (if_on o2 r) } → q2 ≡ with_held m a o1 bit q1 → q1 ≡ q0 → o1 ≡ on → o2 ≡ on
-    → o3 ≡ on → r ≡ room → bit ≡ one → addr ≡ signal_at q0.vars a
-    → record q3 { reserves = q3.reserves ++ record { mem = m; var = a; on = o3; addr = addr } ∷ [] } ≡ with_reserve m a on room q0
-reserve_made m a q3 q2 q1 q0 o1 o2 o3 on r room bit addr h3 h2 h1 e1 e2 e3 er eb ea = rw (h3, h2, h1, e1, e2, e3, er, eb, ea) refl
+pub reserve_made : (ls : Locks) (m a : ℕ) (q3 q2 q1 q0 : Parts) (o1 o2 o3 on bit addr : Signal)
+    → q3 ≡ with_room ls m a o2 q2 → q2 ≡ with_mark Held m a o1 bit q1 → q1 ≡ q0 → o1 ≡ on → o2 ≡ on → o3 ≡ on → bit ≡ one
+    → addr ≡ signal_at q0.vars a
+    → with_reservation (record { mem = m; var = a; on = o3; addr = addr }) q3 ≡ with_reserve ls m a on q0
+reserve_made ls m a q3 q2 q1 q0 o1 o2 o3 on bit addr h3 h2 h1 e1 e2 e3 eb ea = rw (h3, h2, h1, e1, e2, e3, eb, ea) refl
 
 -- one more request with the address of a location makes a delayed read
 pub ask_made : (m x a : ℕ) (q q' : Parts) (o o' f : Signal)

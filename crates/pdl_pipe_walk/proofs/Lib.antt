@@ -1,4 +1,5 @@
 pub mod Lists
+pub mod TwiceFlags
 pub mod NetGrowth
 pub mod Arguments
 pub mod Updates
@@ -12,4 +13,5 @@ pub mod MadeGuesses
 pub mod Arrays
 pub mod MadeLocks
 pub mod RowSteps
+pub mod Reserved
 pub mod BarePipes

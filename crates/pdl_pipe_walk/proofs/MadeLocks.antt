@@ -24,7 +24,7 @@ use Rattle.pdl_law_parts.proofs.Signals.{one_is, zero_is}
 use Rattle.pdl_law_parts.proofs.Establish.{block_one, block_two}
 use Rattle.pdl_law_parts.specs.Places.{comb_place}
 use Rattle.pdl_pipe_walk.specs.declared.locks.MemLock.{MemLock}
-use Rattle.pdl_pipe_walk.specs.Locked.{Members, some_at, of_lock, locks_in, IsLockIn, AreLocked, AreTickets, room_net}
+use Rattle.pdl_pipe_walk.specs.Locked.{Members, some_at, of_lock, locks_in, IsLockIn, AreLocked, AreTickets, room_net, room2_net}
 use Rattle.pdl_pipe_walk.specs.Words.{IsWordSignal, IsLooked}
 
 some_low : {X : Type 0} (xs : List (Option X)) (m : ℕ) (x : X) → some_at xs m ≡ Some x → m < length xs
@@ -42,6 +42,7 @@ module _ {T : Type 0} (l : Members T) (a b : Circuit) (e : Keeps a b)
   lock_keep i mem x k = record {
     is_placed = stays x.lock a b x.regs e k.is_placed;
     room = width_keeps a b x.regs.room 1 e k.room;
+    room2 = width_keeps a b x.regs.room2 1 e k.room2;
     ticket = width_keeps a b x.regs.ticket (l.tickets x.lock) e k.ticket;
     wide = k.wide;
     bits = k.bits;
@@ -69,9 +70,11 @@ module _ {T : Type 0} (l : Members T) (a b : Circuit) (e : Keeps a b)
   -- the locks are the same in both circuits
   pub locks_same : locks_in l p b xs ≡ locks_in l p a xs
   locks_same =
-      ap₂ (λ (r t : ℕ → Signal). record (locks_in l p a xs) { room = r; ticket = t })
+      ap₂ (λ (r t : ℕ → Signal). record (locks_in l p b xs) { room = r; ticket = t })
       (fun_ext (λ m. same_net (λ x. x.regs.room) (λ m x low s. (h.locks m x low s).room.there) m (some_at xs m) refl))
       (fun_ext (λ m. same_net (λ x. x.regs.ticket) (λ m x low s. (h.locks m x low s).ticket.there) m (some_at xs m) refl))
+      ∙ ap (λ (r : ℕ → Signal). record (locks_in l p a xs) { room2 = r })
+      (fun_ext (λ m. same_net (λ x. x.regs.room2) (λ m x low s. (h.locks m x low s).room2.there) m (some_at xs m) refl))
 
   -- the tickets still are there with the bits of their locks' tickets
   pub tickets_keep : (ts : List Net) → AreTickets l a xs ts → AreTickets l b xs ts
@@ -171,3 +174,19 @@ module _ {T : Type 0} (l : Members T) (c : Circuit) (p : Pipe) (xs : List (Optio
       by : (o : Option (MemLock T)) → some_at xs m ≡ o → HasWidth c (room_net o) 1
       by None e = absurd (false≢true (sym (ap is_some e) ∙ h.locked m low ∙ locked))
       by (Some x) e = (h.locks m x low e).room
+
+  -- so does that of its room for two
+  pub room2_signal : signal c (room2_net (some_at xs m)) ≡ (locks_in l p c xs).room2 m
+  room2_signal = by (some_at xs m) refl
+    where
+      by : (o : Option (MemLock T)) → some_at xs m ≡ o → signal c (room2_net o) ≡ of_lock (λ x. signal c x.regs.room2) zero_bit o
+      by None e = absurd (false≢true (sym (ap is_some e) ∙ h.locked m low ∙ locked))
+      by (Some x) e = refl
+
+  -- the net of a locked memory's room for two is there, with 1 bit
+  pub room2_there : HasWidth c (room2_net (some_at xs m)) 1
+  room2_there = by (some_at xs m) refl
+    where
+      by : (o : Option (MemLock T)) → some_at xs m ≡ o → HasWidth c (room2_net o) 1
+      by None e = absurd (false≢true (sym (ap is_some e) ∙ h.locked m low ∙ locked))
+      by (Some x) e = (h.locks m x low e).room2

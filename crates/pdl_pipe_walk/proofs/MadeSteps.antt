@@ -1,5 +1,5 @@
 -- What each kind of statement changes is a step of the walk.
-use Rattle.std.proofs.Common.{◌≡◌, ℕ, ◌<◌, ◌≤◌, ◌^◌, Bool, true, false, List, [], length, refl, sym, ap, ◌∙◌, subst, arith}
+use Rattle.std.proofs.Common.{◌≡◌, ℕ, ◌<◌, ◌≤◌, ◌^◌, Bool, true, false, List, [], ◌∷◌, ◌++◌, length, refl, sym, ap, ◌∙◌, subst, arith}
 use mathlib.Core.Path.{fun_ext}
 use Rattle.std.specs.Prelude.{◌==◌, if◌then◌else◌, slice_index, slice_index_or, slice_set}
 use Rattle.pdl_word.specs.Words.{bit}
@@ -18,15 +18,16 @@ use Rattle.pdl_form_types.specs.Exprs.{IsTyped, AreTyped}
 use Rattle.pdl_pipe_exprs.specs.Values.{value_signal, value_signals, AreBounded}
 use Rattle.pdl_pipe_exprs.proofs.NetLists.{there_keeps, signals_keep}
 use Rattle.pdl_lockapi.specs.Laws.{FitsIn}
-use Rattle.pdl_law_parts.specs.Walk.{Locks, is_locked, taken_in, WhereNot, IsWord}
+use Rattle.pdl_law_parts.specs.declared.Mark.TheVariants.{Held, Late}
+use Rattle.pdl_law_parts.specs.Walk.{Locks, Reservation, is_locked, taken_in, WhereNot, IsWord, one, both, if_on, reserved_signal, walk_after, with_mark as with_marks}
 use Rattle.pdl_law_parts.specs.Places.{comb_place}
 use Rattle.pdl_law_parts.proofs.Signals.{mux_at}
 use Rattle.pdl_law_parts.proofs.Establish.{word_locked, word_plain}
 use Rattle.pdl_pipe_walk.specs.declared.nets.WalkNets.{WalkNets}
-use Rattle.pdl_pipe_walk.specs.Parts.{Parts, walk_of, parts_in}
+use Rattle.pdl_pipe_walk.specs.Parts.{Parts, mark_of, walk_of, parts_in}
 use Rattle.pdl_pipe_walk.specs.Sized.{IsSized, IsWalk}
 use Rattle.pdl_pipe_walk.specs.Words.{IsWordSignal, IsRead, IsBlocked}
-use Rattle.pdl_pipe_walk.specs.Steps.{Later, IsStep, with_var, with_put, with_reserve, with_release, with_call}
+use Rattle.pdl_pipe_walk.specs.Steps.{Later, IsStep, with_var, with_put, with_mark, with_wait, with_second, with_reservation, with_reserve, with_release, with_call}
 use Rattle.pdl_pipe_walk.proofs.Lists.{signal_set}
 use Rattle.pdl_pipe_walk.proofs.NetGrowth.{var_width, var_count}
 use Rattle.pdl_pipe_walk.proofs.Conditions.{nets_bounded, taken_value}
@@ -57,6 +58,31 @@ changed x f fs y = if y == x then f else signal_at fs y
 
 set_walk : (x : ℕ) (f : Signal) (w : Parts) → x < length w.vars → signal_at (slice_set w.vars x f) ≡ changed x f w.vars
 set_walk x f w l = fun_ext (λ y. signal_set w.vars x f y l)
+
+module _ (ls : Locks) (m a : ℕ) (on : Signal) (w : Parts) where
+  abbrev held : Parts
+  held = with_mark Held m a on one w
+
+  abbrev made : Reservation
+  made = record { mem = m; var = a; on = on; addr = signal_at w.vars a }
+
+  abbrev before : Signal
+  before = reserved_signal m w.reserves
+
+  -- the walk after a reservation, whether or not some path reserves the memory twice
+  reserve_after : walk_of (with_reserve ls m a on w)
+      ≡ walk_after (flat.ReserveWrite m a) (record { on = on; value = no_signal; args = []; guess = [] }) ls (walk_of w)
+  reserve_after = by (ls.twice m)
+    where
+      by : (b : Bool)
+          → walk_of (with_reservation made (if b then with_second m a on (ls.room m) (ls.room2 m) held else with_wait on (ls.room m) held))
+          ≡ record (walk_of w) {
+            marks = if b then with_marks Late m a (mux_signal on before (mark_of w.marks Late m a)) (mark_of held.marks) else mark_of held.marks;
+            ready = both w.ready (if_on on (if b then mux_signal before (ls.room2 m) (ls.room m) else ls.room m));
+            reserves = w.reserves ++ made ∷ [];
+          }
+      by true = refl
+      by false = refl
 
 module _ (c : Circuit) (p : Pipe) (ws : List ℕ) (ls : Locks) (tickets : ℕ → Signal) (gs : List Guard) (w : Parts)
     (nets : HasNets c w.vars) (sized : IsSized p ws w) (vars : p.vars ≡ length ws) (guards : AreGuards ws gs) where
@@ -161,13 +187,13 @@ module _ (c : Circuit) (p : Pipe) (ws : List ℕ) (ls : Locks) (tickets : ℕ �
 
   -- a reservation for writing holds the location, waits for room and reserves the address
   pub reserve_step : (m a : ℕ) (w' : Parts) → IsLocation p ws m a → is_locked p m ≡ true
-      → w' ≡ with_reserve m a (taken_signal w.vars gs) (ls.room m) w
+      → w' ≡ with_reserve ls m a (taken_signal w.vars gs) w
       → IsStep c p ls tickets gs (flat.ReserveWrite m a) (walk_of w) (walk_of w')
   reserve_step m a w' at locked h = record {
     row = record { on = taken_signal w.vars gs; value = no_signal; args = []; guess = [] };
     on = is_on;
     does = λ d k well. (locked, (λ s suits u. fits d k well a at.var s suits));
-    next = ap walk_of h;
+    next = ap walk_of h ∙ reserve_after ls m a (taken_signal w.vars gs) w;
   }
 
   -- a block waits until the look for its location is ready

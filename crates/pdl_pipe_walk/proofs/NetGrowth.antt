@@ -11,15 +11,17 @@ use Rattle.pdl_pipe_exprs.specs.declared.bits.Bits.{Bits}
 use Rattle.pdl_pipe_exprs.specs.Nets.{NetsThere, signal_at}
 use Rattle.pdl_pipe_exprs.specs.Conditions.{AreBits}
 use Rattle.pdl_pipe_exprs.proofs.NetLists.{there_keeps, signals_keep, width_at, length_widths}
-use Rattle.pdl_pipe_walk.specs.declared.nets.HeldNet.{HeldNet}
+use Rattle.pdl_law_parts.specs.declared.Mark.{Mark}
+use Rattle.pdl_law_parts.specs.Walk.{same_mark}
+use Rattle.pdl_pipe_walk.specs.declared.nets.MarkNet.{MarkNet}
 use Rattle.pdl_pipe_walk.specs.declared.nets.ReserveNet.{ReserveNet}
 use Rattle.pdl_pipe_walk.specs.declared.nets.PutNet.{PutNet}
 use Rattle.pdl_pipe_walk.specs.declared.nets.LettingNet.{LettingNet}
 use Rattle.pdl_pipe_walk.specs.declared.nets.BirthNet.{BirthNet}
 use Rattle.pdl_pipe_walk.specs.declared.nets.AskNet.{AskNet}
 use Rattle.pdl_pipe_walk.specs.declared.nets.WalkNets.{WalkNets}
-use Rattle.pdl_pipe_walk.specs.Parts.{Held, Parts, held_of, held_in, reservation_in, put_in, letting_in, birth_in, ask_in, parts_in, IsThereWalk}
-use Rattle.pdl_pipe_walk.specs.HeldLookups.{held_net}
+use Rattle.pdl_pipe_walk.specs.Parts.{MarkSignal, Parts, mark_of, mark_in, reservation_in, put_in, letting_in, birth_in, ask_in, parts_in, IsThereWalk}
+use Rattle.pdl_pipe_walk.specs.MarkLookups.{mark_net}
 use Rattle.pdl_pipe_walk.specs.Sized.{IsSized, IsWalk}
 use Rattle.pdl_pipe_walk.proofs.Lists.{map_each}
 use Rattle.pdl_word.specs.Each.{Each}
@@ -33,10 +35,11 @@ bits_keep a b x e t = record {
 }
 
 module _ (a b : Circuit) (e : Keeps a b) where
-  -- held locations mean what they meant
-  pub held_keep : (hs : List HeldNet) → Each (λ (h : HeldNet). IsThere a h.net) hs → map (held_in b) hs ≡ map (held_in a) hs
-  held_keep hs t =
-      map_each (held_in b) (held_in a) (λ h. IsThere a h.net) (λ h k. ap (λ f. record { mem = h.mem; var = h.var; signal = f }) (e.kept h.net k)) hs t
+  -- marks of locations mean what they meant
+  pub marks_keep : (hs : List MarkNet) → Each (λ (h : MarkNet). IsThere a h.net) hs → map (mark_in b) hs ≡ map (mark_in a) hs
+  marks_keep hs t =
+      map_each (mark_in b) (mark_in a) (λ h. IsThere a h.net)
+      (λ h k. ap (λ f. record { mark = h.mark; mem = h.mem; var = h.var; signal = f }) (e.kept h.net k)) hs t
 
   reserves_keep : (rs : List ReserveNet) → Each (λ (r : ReserveNet). IsThere a r.on × IsThere a r.addr) rs
       → map (reservation_in b) rs ≡ map (reservation_in a) rs
@@ -67,7 +70,7 @@ module _ (a b : Circuit) (e : Keeps a b) where
   parts_keep w t =
       cc (
         signals_keep a b w.vars.items e t.vars,
-        held_keep w.held.items t.held,
+        marks_keep w.marks.items t.marks,
         e.kept w.ready t.ready,
         reserves_keep w.reserves t.reserves,
         puts_keep w.puts t.puts,
@@ -83,7 +86,7 @@ module _ (a b : Circuit) (e : Keeps a b) where
   pub there_walk : (w : WalkNets) → IsThereWalk a w → IsThereWalk b w
   there_walk w t = record {
     vars = there_keeps a b w.vars.items e t.vars;
-    held = each_weaker (λ (h : HeldNet). IsThere a h.net) (λ h. IsThere b h.net) (λ h k. e.there h.net k) w.held.items t.held;
+    marks = each_weaker (λ (h : MarkNet). IsThere a h.net) (λ h. IsThere b h.net) (λ h k. e.there h.net k) w.marks.items t.marks;
     ready = e.there w.ready t.ready;
     reserves =
         each_weaker (λ (r : ReserveNet). IsThere a r.on × IsThere a r.addr) (λ r. IsThere b r.on × IsThere b r.addr)
@@ -107,29 +110,30 @@ module _ (a b : Circuit) (e : Keeps a b) where
   pub walk_keep : (p : Pipe) (ws : List ℕ) (w : WalkNets) → IsWalk a p ws w → IsWalk b p ws w
   walk_keep p ws w h = record { there = there_walk w h.there; sized = subst (IsSized p ws) (sym (parts_keep w h.there)) h.sized }
 
--- ---- held locations
+-- ---- marks of locations
 
-held_step : (c : Circuit) (b : Bool) (x y : Net) (f g : Signal) → Means c x f → Means c y g
+mark_step : (c : Circuit) (b : Bool) (x y : Net) (f g : Signal) → Means c x f → Means c y g
     → Means c (if b then x else y) (if b then f else g)
-held_step c true x y f g m n = m
-held_step c false x y f g m n = n
+mark_step c true x y f g m n = m
+mark_step c false x y f g m n = n
 
--- the net of a location's first entry means whether the location is held
-pub held_means : (c : Circuit) (x : Bits) → AreBits c x → (hs : List HeldNet) (m a : ℕ)
-    → Each (λ (h : HeldNet). IsThere c h.net) hs → Means c (held_net hs x.zero m a) (held_of (map (held_in c) hs) m a)
-held_means c x bits [] m a t = bits.zero
-held_means c x bits (h ∷ hs) m a t =
-    held_step c ((h.mem == m) && (h.var == a)) h.net (held_net hs x.zero m a) (signal c h.net)
-    (held_of (map (held_in c) hs) m a) (record { there = t.0; same = refl }) (held_means c x bits hs m a t.1)
+-- the net of the first entry of a location's mark means whether the location has it
+pub mark_means : (c : Circuit) (x : Bits) → AreBits c x → (hs : List MarkNet) (k : Mark) (m a : ℕ)
+    → Each (λ (h : MarkNet). IsThere c h.net) hs → Means c (mark_net hs x.zero k m a) (mark_of (map (mark_in c) hs) k m a)
+mark_means c x bits [] k m a t = bits.zero
+mark_means c x bits (h ∷ hs) k m a t =
+    mark_step c (same_mark h.mark k && ((h.mem == m) && (h.var == a))) h.net (mark_net hs x.zero k m a) (signal c h.net)
+    (mark_of (map (mark_in c) hs) k m a) (record { there = t.0; same = refl }) (mark_means c x bits hs k m a t.1)
 
 width_step : (b : Bool) (f g : Signal) → f.width ≡ 1 → g.width ≡ 1 → (if b then f else g).width ≡ 1
 width_step true f g h k = h
 width_step false f g h k = k
 
--- whether a location is held is told by 1 bit, where each entry has 1 bit
-pub held_width : (hs : List Held) (m a : ℕ) → Each (λ (h : Held). h.signal.width ≡ 1) hs → (held_of hs m a).width ≡ 1
-held_width [] m a h = refl
-held_width (x ∷ xs) m a h = width_step ((x.mem == m) && (x.var == a)) x.signal (held_of xs m a) h.0 (held_width xs m a h.1)
+-- whether a location has a mark is told by 1 bit, where each entry has 1 bit
+pub mark_width : (hs : List MarkSignal) (k : Mark) (m a : ℕ) → Each (λ (h : MarkSignal). h.signal.width ≡ 1) hs → (mark_of hs k m a).width ≡ 1
+mark_width [] k m a h = refl
+mark_width (x ∷ xs) k m a h =
+    width_step (same_mark x.mark k && ((x.mem == m) && (x.var == a))) x.signal (mark_of xs k m a) h.0 (mark_width xs k m a h.1)
 
 -- ---- variables
 

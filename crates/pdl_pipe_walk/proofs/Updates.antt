@@ -10,18 +10,19 @@ use Rattle.pdl_net.specs.Signal.{Signal, mux_signal}
 use Rattle.pdl_net.specs.Meaning.{signal, IsThere}
 use Rattle.pdl_net.specs.Growth.{Keeps}
 use Rattle.pdl_pipe_exprs.specs.Nets.{NetsThere, signals_in, signal_at, widths_of}
+use Rattle.pdl_law_parts.specs.declared.Mark.{Mark}
 use Rattle.pdl_law_parts.specs.Walk.{Birth, Letting, both, if_on}
-use Rattle.pdl_pipe_walk.specs.declared.nets.HeldNet.{HeldNet}
+use Rattle.pdl_pipe_walk.specs.declared.nets.MarkNet.{MarkNet}
 use Rattle.pdl_pipe_walk.specs.declared.nets.ReserveNet.{ReserveNet}
 use Rattle.pdl_pipe_walk.specs.declared.nets.PutNet.{PutNet}
 use Rattle.pdl_pipe_walk.specs.declared.nets.LettingNet.{LettingNet}
 use Rattle.pdl_pipe_walk.specs.declared.nets.BirthNet.{BirthNet}
 use Rattle.pdl_pipe_walk.specs.declared.nets.AskNet.{AskNet}
 use Rattle.pdl_pipe_walk.specs.declared.nets.WalkNets.{WalkNets}
-use Rattle.pdl_pipe_walk.specs.Parts.{Held, Parts, held_in, reservation_in, put_in, letting_in, birth_in, ask_in, parts_in, IsThereWalk}
+use Rattle.pdl_pipe_walk.specs.Parts.{MarkSignal, Parts, mark_in, reservation_in, put_in, letting_in, birth_in, ask_in, parts_in, IsThereWalk}
 use Rattle.pdl_pipe_walk.specs.Frames.{SameRest}
 use Rattle.pdl_pipe_walk.specs.Sized.{IsSized, IsSizedReserve, IsSizedPut, IsSizedAsk}
-use Rattle.pdl_pipe_walk.specs.Steps.{with_var, with_put, with_held, with_call}
+use Rattle.pdl_pipe_walk.specs.Steps.{with_var, with_put, with_mark, with_call}
 use Rattle.pdl_pipe_walk.proofs.Lists.{widths_set}
 use Rattle.pdl_pipe_walk.proofs.NetGrowth.{parts_keep, var_width}
 use Rattle.pdl_word.specs.Each.{Each}
@@ -30,11 +31,11 @@ use Rattle.pdl_word.proofs.Each.{each_push}
 -- ---- parts by their lists
 
 -- all but the three of a walk that has the rest of another one
-same_rest : (b : Circuit) (w new : WalkNets) (vars : List Signal) (held : List Held) (births : List Birth)
-    → signals_in b new.vars.items ≡ vars → map (held_in b) new.held.items ≡ held
+same_rest : (b : Circuit) (w new : WalkNets) (vars : List Signal) (marks : List MarkSignal) (births : List Birth)
+    → signals_in b new.vars.items ≡ vars → map (mark_in b) new.marks.items ≡ marks
     → map (birth_in b) new.births.items ≡ births → SameRest w new
-    → parts_in b new ≡ record (parts_in b w) { vars = vars; held = held; births = births }
-same_rest b w new vars held births e1 e2 e3 r =
+    → parts_in b new ≡ record (parts_in b w) { vars = vars; marks = marks; births = births }
+same_rest b w new vars marks births e1 e2 e3 r =
     cc (
       e1,
       e2,
@@ -51,11 +52,11 @@ same_rest b w new vars held births e1 e2 e3 r =
 
 -- the nets of a walk that has the rest of another one are there
 pub there_rest : (b : Circuit) (w new : WalkNets) → IsThereWalk b w → SameRest w new → NetsThere b new.vars.items
-    → Each (λ (y : HeldNet). IsThere b y.net) new.held.items
+    → Each (λ (y : MarkNet). IsThere b y.net) new.marks.items
     → Each (λ (y : BirthNet). IsThere b y.on × NetsThere b y.args) new.births.items → IsThereWalk b new
-there_rest b w new t r vars held births = record {
+there_rest b w new t r vars marks births = record {
   vars = vars;
-  held = held;
+  marks = marks;
   ready = subst (IsThere b) (sym r.ready) t.ready;
   reserves = subst (λ (l : List ReserveNet). Each (λ (y : ReserveNet). IsThere b y.on × IsThere b y.addr) l) (sym r.reserves) t.reserves;
   puts = subst (λ (l : List PutNet). Each (λ (y : PutNet). IsThere b y.on × IsThere b y.value) l) (sym r.puts) t.puts;
@@ -67,36 +68,36 @@ there_rest b w new t r vars held births = record {
   barrier = subst (IsThere b) (sym r.barrier) t.barrier;
 }
 
--- as they stand in an earlier circuit, with other variables, another ready net, more held locations
+-- as they stand in an earlier circuit, with other variables, another ready net, more marks
 module _ (a b : Circuit) (e : Keeps a b) (w : WalkNets) (t : IsThereWalk a w) where
   kept : parts_in b w ≡ parts_in a w
   kept = parts_keep a b e w t
 
   -- with another net for a variable, its signal alone is another
   pub vars_parts : (new : WalkNets) (x : ℕ) (n : Net) (f : Signal) → signal b n ≡ f
-      → new.vars.items ≡ slice_set w.vars.items x n → new.held ≡ w.held → new.births ≡ w.births → SameRest w new
+      → new.vars.items ≡ slice_set w.vars.items x n → new.marks ≡ w.marks → new.births ≡ w.births → SameRest w new
       → parts_in b new ≡ record (parts_in a w) { vars = slice_set (signals_in a w.vars.items) x f }
   vars_parts new x n f m v h k r =
-      same_rest b w new (slice_set (signals_in b w.vars.items) x f) (parts_in b w).held (parts_in b w).births
+      same_rest b w new (slice_set (signals_in b w.vars.items) x f) (parts_in b w).marks (parts_in b w).births
       (ap (signals_in b) v ∙ map-set (signal b) w.vars.items x n ∙ ap (λ g. slice_set (signals_in b w.vars.items) x g) m)
-      (ap (λ h. map (held_in b) h.items) h) (ap (λ h. map (birth_in b) h.items) k) r
+      (ap (λ h. map (mark_in b) h.items) h) (ap (λ h. map (birth_in b) h.items) k) r
       ∙ ap (λ (q : Parts). record q { vars = slice_set q.vars x f }) kept
 
   -- with another ready net, the ready signal alone is another
   pub ready_parts : (n : Net) (f : Signal) → signal b n ≡ f → parts_in b (record w { ready = n }) ≡ record (parts_in a w) { ready = f }
   ready_parts n f m = ap₂ (λ (q : Parts) g. record q { ready = g }) kept m
 
-  -- with one more held location, it comes in front of the held ones and nothing else changes
-  pub held_parts : (new : WalkNets) (m v : ℕ) (n : Net) (f : Signal) → signal b n ≡ f
-      → new.held.items ≡ record { mem = m; var = v; net = n } ∷ w.held.items → new.vars ≡ w.vars → new.births ≡ w.births
+  -- with one more mark, it comes in front of the marks and nothing else changes
+  pub marks_parts : (new : WalkNets) (k : Mark) (m v : ℕ) (n : Net) (f : Signal) → signal b n ≡ f
+      → new.marks.items ≡ record { mark = k; mem = m; var = v; net = n } ∷ w.marks.items → new.vars ≡ w.vars → new.births ≡ w.births
       → SameRest w new
-      → parts_in b new ≡ record (parts_in a w) { held = record { mem = m; var = v; signal = f } ∷ (parts_in a w).held }
-  held_parts new m v n f s h h1 h2 r =
-      same_rest b w new (parts_in b w).vars (record { mem = m; var = v; signal = f } ∷ (parts_in b w).held) (parts_in b w).births
+      → parts_in b new ≡ record (parts_in a w) { marks = record { mark = k; mem = m; var = v; signal = f } ∷ (parts_in a w).marks }
+  marks_parts new k m v n f s h h1 h2 r =
+      same_rest b w new (parts_in b w).vars (record { mark = k; mem = m; var = v; signal = f } ∷ (parts_in b w).marks) (parts_in b w).births
       (ap (λ h. signals_in b h.items) h1)
-      (ap (map (held_in b)) h ∙ ap (λ g. record { mem = m; var = v; signal = g } ∷ (parts_in b w).held) s)
+      (ap (map (mark_in b)) h ∙ ap (λ g. record { mark = k; mem = m; var = v; signal = g } ∷ (parts_in b w).marks) s)
       (ap (λ h. map (birth_in b) h.items) h2) r
-      ∙ ap (λ (q : Parts). record q { held = record { mem = m; var = v; signal = f } ∷ q.held }) kept
+      ∙ ap (λ (q : Parts). record q { marks = record { mark = k; mem = m; var = v; signal = f } ∷ q.marks }) kept
 
   -- with another net of whether a verify fails, its signal alone is another
   pub fails_parts : (n : Net) (f : Signal) → signal b n ≡ f → parts_in b (record w { fails = n }) ≡ record (parts_in a w) { fails = f }
@@ -131,11 +132,11 @@ module _ (b : Circuit) (w : WalkNets) where
   ask_parts n = ap (λ l. record (parts_in b w) { asks = l }) (map-append (ask_in b) w.asks (n ∷ []))
 
   -- with one call more, it comes in front of the calls and nothing else changes
-  pub birth_parts : (new : WalkNets) (n : BirthNet) → new.births.items ≡ n ∷ w.births.items → new.vars ≡ w.vars → new.held ≡ w.held → SameRest w new
+  pub birth_parts : (new : WalkNets) (n : BirthNet) → new.births.items ≡ n ∷ w.births.items → new.vars ≡ w.vars → new.marks ≡ w.marks → SameRest w new
       → parts_in b new ≡ record (parts_in b w) { births = birth_in b n ∷ (parts_in b w).births }
   birth_parts new n h h1 h2 r =
-      same_rest b w new (parts_in b w).vars (parts_in b w).held (birth_in b n ∷ (parts_in b w).births)
-      (ap (λ h. signals_in b h.items) h1) (ap (λ h. map (held_in b) h.items) h2) (ap (map (birth_in b)) h) r
+      same_rest b w new (parts_in b w).vars (parts_in b w).marks (birth_in b n ∷ (parts_in b w).births)
+      (ap (λ h. signals_in b h.items) h1) (ap (λ h. map (mark_in b) h.items) h2) (ap (map (birth_in b)) h) r
 
 -- ---- widths after a change
 
@@ -144,7 +145,7 @@ module _ (p : Pipe) (ws : List ℕ) (w : Parts) (s : IsSized p ws w) where
   pub sized_var : (x : ℕ) (on f : Signal) → f.width ≡ slice_index ws x → IsSized p ws (with_var x on f w)
   sized_var x on f e = record {
     vars = widths_set w.vars x (mux_signal on f (signal_at w.vars x)) (e ∙ sym (var_width p ws w x s)) ∙ s.vars;
-    held = s.held;
+    marks = s.marks;
     ready = s.ready;
     reserves = s.reserves;
     puts = s.puts;
@@ -161,7 +162,7 @@ module _ (p : Pipe) (ws : List ℕ) (w : Parts) (s : IsSized p ws w) where
   sized_ready on f e =
       record {
         vars = s.vars;
-        held = s.held;
+        marks = s.marks;
         ready = e;
         reserves = s.reserves;
         puts = s.puts;
@@ -173,12 +174,12 @@ module _ (p : Pipe) (ws : List ℕ) (w : Parts) (s : IsSized p ws w) where
         barrier = s.barrier;
       }
 
-  -- the widths stay as they should where a location is held as a bit says
-  pub sized_held : (m a : ℕ) (on bit : Signal) → bit.width ≡ 1 → IsSized p ws (with_held m a on bit w)
-  sized_held m a on bit e =
+  -- the widths stay as they should where a location has a mark as a bit says
+  pub sized_mark : (k : Mark) (m a : ℕ) (on bit : Signal) → bit.width ≡ 1 → IsSized p ws (with_mark k m a on bit w)
+  sized_mark k m a on bit e =
       record {
         vars = s.vars;
-        held = (e, s.held);
+        marks = (e, s.marks);
         ready = s.ready;
         reserves = s.reserves;
         puts = s.puts;
@@ -194,7 +195,7 @@ module _ (p : Pipe) (ws : List ℕ) (w : Parts) (s : IsSized p ws w) where
   pub sized_put : (m a : ℕ) (on f : Signal) → m < length p.mems → on.width ≡ 1 → f.width ≡ (mem_at p m).width → IsSized p ws (with_put m a on f w)
   sized_put m a on f l o e = record {
     vars = s.vars;
-    held = s.held;
+    marks = s.marks;
     ready = s.ready;
     reserves = s.reserves;
     lettings = s.lettings;
@@ -211,7 +212,7 @@ module _ (p : Pipe) (ws : List ℕ) (w : Parts) (s : IsSized p ws w) where
       → IsSized p ws (record w { reserves = w.reserves ++ record { mem = m; var = a; on = on; addr = f } ∷ [] })
   sized_reserve m a on f l o e = record {
     vars = s.vars;
-    held = s.held;
+    marks = s.marks;
     ready = s.ready;
     puts = s.puts;
     lettings = s.lettings;
@@ -227,7 +228,7 @@ module _ (p : Pipe) (ws : List ℕ) (w : Parts) (s : IsSized p ws w) where
   pub sized_letting : (m : ℕ) (on : Signal) → on.width ≡ 1 → IsSized p ws (record w { lettings = w.lettings ++ record { mem = m; on = on } ∷ [] })
   sized_letting m on o = record {
     vars = s.vars;
-    held = s.held;
+    marks = s.marks;
     ready = s.ready;
     reserves = s.reserves;
     puts = s.puts;
@@ -244,7 +245,7 @@ module _ (p : Pipe) (ws : List ℕ) (w : Parts) (s : IsSized p ws w) where
       → IsSized p ws (record w { asks = w.asks ++ record { mem = m; var = x; on = on; addr = f } ∷ [] })
   sized_ask m x on f l o e = record {
     vars = s.vars;
-    held = s.held;
+    marks = s.marks;
     ready = s.ready;
     reserves = s.reserves;
     puts = s.puts;
@@ -261,7 +262,7 @@ module _ (p : Pipe) (ws : List ℕ) (w : Parts) (s : IsSized p ws w) where
   sized_fails f e =
       record {
         vars = s.vars;
-        held = s.held;
+        marks = s.marks;
         ready = s.ready;
         reserves = s.reserves;
         puts = s.puts;
@@ -278,7 +279,7 @@ module _ (p : Pipe) (ws : List ℕ) (w : Parts) (s : IsSized p ws w) where
   sized_barrier f e =
       record {
         vars = s.vars;
-        held = s.held;
+        marks = s.marks;
         ready = s.ready;
         reserves = s.reserves;
         puts = s.puts;
@@ -295,7 +296,7 @@ module _ (p : Pipe) (ws : List ℕ) (w : Parts) (s : IsSized p ws w) where
   sized_guess fs e =
       record {
         vars = s.vars;
-        held = s.held;
+        marks = s.marks;
         ready = s.ready;
         reserves = s.reserves;
         puts = s.puts;
@@ -312,7 +313,7 @@ module _ (p : Pipe) (ws : List ℕ) (w : Parts) (s : IsSized p ws w) where
   sized_call on args o k =
       record {
         vars = s.vars;
-        held = s.held;
+        marks = s.marks;
         ready = s.ready;
         reserves = s.reserves;
         puts = s.puts;

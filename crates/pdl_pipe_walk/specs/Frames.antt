@@ -2,7 +2,7 @@
 use Rattle.std.specs.Prelude.{◌≡◌}
 use Rattle.pdl_pipe_walk.specs.declared.nets.WalkNets.{WalkNets}
 
--- all but the variables, the held locations and the calls
+-- all but the variables, the marks and the calls
 pub record SameRest (v w : WalkNets) : Type 0 where
   pub ready : w.ready ≡ v.ready
   pub reserves : w.reserves ≡ v.reserves

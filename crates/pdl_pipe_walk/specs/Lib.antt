@@ -2,7 +2,7 @@ pub mod Parts
 pub mod Setting
 pub mod Locked
 pub mod Sized
-pub mod HeldLookups
+pub mod MarkLookups
 pub mod Frames
 pub mod Guesses
 pub mod Steps

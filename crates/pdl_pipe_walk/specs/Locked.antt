@@ -3,6 +3,7 @@ use Rattle.std.specs.Prelude.{◌≡◌, ℕ, ◌^◌, ◌<◌, false, List, len
 use Rattle.pdl_semantics.specs.Tree.{LockKind, Queue}
 use Rattle.pdl_semantics.specs.Flat.{Mem, Pipe, is_delayed}
 use Rattle.pdl_semantics.specs.Stages.{mem_at}
+use Rattle.pdl_semantics.specs.SecondWrites.{reserves_twice}
 use Rattle.pdl_net.specs.declared.Net.{Net}
 use Rattle.pdl_net.specs.declared.Net.TheVariants.{Input}
 use Rattle.pdl_net.specs.Circuit.{Circuit, State, HasArray, array_width, array_depth}
@@ -47,6 +48,11 @@ abbrev pub room_net : {T : Type 0} → Option (MemLock T) → Net
 room_net None = Input 0
 room_net (Some x) = x.regs.room
 
+-- the net of a lock's room for two
+abbrev pub room2_net : {T : Type 0} → Option (MemLock T) → Net
+room2_net None = Input 0
+room2_net (Some x) = x.regs.room2
+
 -- the locks as a circuit has them; memories that answer at once have their arrays in order
 abbrev pub locks_in : {T : Type 0} → Members T → Pipe → Circuit → List (Option (MemLock T)) → Locks
 locks_in l p c xs =
@@ -56,7 +62,9 @@ locks_in l p c xs =
       size = λ m. of_lock (λ x. l.size x.lock) 1 (some_at xs m);
       bits = λ m. of_lock (λ x. l.tickets x.lock) 1 (some_at xs m);
       room = λ m. of_lock (λ x. signal c x.regs.room) zero_bit (some_at xs m);
+      room2 = λ m. of_lock (λ x. signal c x.regs.room2) zero_bit (some_at xs m);
       ticket = λ m. of_lock (λ x. signal c x.regs.ticket) zero_bit (some_at xs m);
+      twice = λ m. reserves_twice m p.stmts;
       array = λ m. comb_place p m;
     }
 
@@ -68,6 +76,7 @@ array_of mem i = if is_delayed mem.kind then None else Some i
 pub record IsLockIn {T : Type 0} (l : Members T) (c : Circuit) (i : ℕ) (mem : Mem) (x : MemLock T) : Type 0 where
   pub is_placed : l.placed x.lock c x.regs
   pub room : HasWidth c x.regs.room 1
+  pub room2 : HasWidth c x.regs.room2 1
   pub ticket : HasWidth c x.regs.ticket (l.tickets x.lock)
   pub wide : x.regs.width ≡ mem.width
   pub bits : 2 ^ x.regs.bits ≡ mem.depth

@@ -9,8 +9,9 @@ use Rattle.pdl_net.specs.Meaning.{signal, IsThere}
 use Rattle.pdl_pipe_exprs.specs.Nets.{NetsThere, signals_in, signal_at}
 use Rattle.pdl_pipe_exprs.specs.Conditions.{taken_signal}
 use Rattle.pdl_pipe_exprs.specs.Values.{value_signal, value_signals}
-use Rattle.pdl_law_parts.specs.Walk.{Reservation, Put, Letting, Birth, Ask, Walk, zero_bit}
-use Rattle.pdl_pipe_walk.specs.declared.nets.HeldNet.{HeldNet}
+use Rattle.pdl_law_parts.specs.declared.Mark.{Mark}
+use Rattle.pdl_law_parts.specs.Walk.{Reservation, Put, Letting, Birth, Ask, Walk, zero_bit, same_mark}
+use Rattle.pdl_pipe_walk.specs.declared.nets.MarkNet.{MarkNet}
 use Rattle.pdl_pipe_walk.specs.declared.nets.ReserveNet.{ReserveNet}
 use Rattle.pdl_pipe_walk.specs.declared.nets.PutNet.{PutNet}
 use Rattle.pdl_pipe_walk.specs.declared.nets.LettingNet.{LettingNet}
@@ -19,16 +20,17 @@ use Rattle.pdl_pipe_walk.specs.declared.nets.AskNet.{AskNet}
 use Rattle.pdl_pipe_walk.specs.declared.nets.WalkNets.{WalkNets}
 use Rattle.pdl_word.specs.Each.{Each}
 
--- a location with the signal of whether it is held
-pub record Held : Type 0 where
+-- a mark of a location with the signal of whether the location has it
+pub record MarkSignal : Type 0 where
+  pub mark : Mark
   pub mem : ℕ
   pub var : ℕ
   pub signal : Signal
 
--- a walk whose variables and held locations are lists
+-- a walk whose variables and marks are lists
 pub record Parts : Type 0 where
   pub vars : List Signal
-  pub held : List Held
+  pub marks : List MarkSignal
   pub ready : Signal
   pub reserves : List Reservation
   pub puts : List Put
@@ -39,17 +41,17 @@ pub record Parts : Type 0 where
   pub fails : Signal
   pub barrier : Signal
 
--- of two entries of one location the first counts
-abbrev pub held_of : List Held → ℕ → ℕ → Signal
-held_of [] m a = zero_bit
-held_of (h ∷ hs) m a = if (h.mem == m) && (h.var == a) then h.signal else held_of hs m a
+-- of two entries of one mark of a location the first counts
+abbrev pub mark_of : List MarkSignal → Mark → ℕ → ℕ → Signal
+mark_of [] k m a = zero_bit
+mark_of (h ∷ hs) k m a = if same_mark h.mark k && ((h.mem == m) && (h.var == a)) then h.signal else mark_of hs k m a
 
--- the walk of such parts, with variables and held locations by their numbers
+-- the walk of such parts, with variables and marks of locations by their numbers
 abbrev pub walk_of : Parts → Walk
 walk_of w =
     record {
       vars = λ x. signal_at w.vars x;
-      held = held_of w.held;
+      marks = mark_of w.marks;
       ready = w.ready;
       reserves = w.reserves;
       puts = w.puts;
@@ -63,9 +65,9 @@ walk_of w =
 
 -- ---- nets
 
--- a held location by its net in a circuit
-abbrev pub held_in : Circuit → HeldNet → Held
-held_in c h = record { mem = h.mem; var = h.var; signal = signal c h.net }
+-- a mark of a location by its net in a circuit
+abbrev pub mark_in : Circuit → MarkNet → MarkSignal
+mark_in c h = record { mark = h.mark; mem = h.mem; var = h.var; signal = signal c h.net }
 
 -- a reservation by its nets in a circuit
 abbrev pub reservation_in : Circuit → ReserveNet → Reservation
@@ -92,7 +94,7 @@ abbrev pub parts_in : Circuit → WalkNets → Parts
 parts_in c w =
     record {
       vars = signals_in c w.vars.items;
-      held = map (held_in c) w.held.items;
+      marks = map (mark_in c) w.marks.items;
       ready = signal c w.ready;
       reserves = map (reservation_in c) w.reserves;
       puts = map (put_in c) w.puts;
@@ -123,7 +125,7 @@ values_by c w es = value_signals (signals_in c w.vars.items) (exprs_view es)
 -- the nets of a walk are there
 pub record IsThereWalk (c : Circuit) (w : WalkNets) : Type 0 where
   pub vars : NetsThere c w.vars.items
-  pub held : Each (λ (h : HeldNet). IsThere c h.net) w.held.items
+  pub marks : Each (λ (h : MarkNet). IsThere c h.net) w.marks.items
   pub ready : IsThere c w.ready
   pub reserves : Each (λ (r : ReserveNet). IsThere c r.on × IsThere c r.addr) w.reserves
   pub puts : Each (λ (x : PutNet). IsThere c x.on × IsThere c x.value) w.puts

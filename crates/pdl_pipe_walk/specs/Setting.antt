@@ -1,6 +1,8 @@
 -- What the statements of a stage are made nets in.
-use Rattle.std.specs.Prelude.{ℕ, List}
+use Rattle.std.specs.Prelude.{◌≡◌, ℕ, Bool, List}
 use Rattle.pdl_semantics.specs.Flat.{Stmt}
+use Rattle.pdl_semantics.specs.SecondWrites.{all_twice}
+use Rattle.pdl_form.specs.Form.{Form}
 use Rattle.pdl_form.specs.FormView.{form}
 use Rattle.pdl_net.specs.Circuit.{Circuit}
 use Rattle.pdl_net.specs.Signal.{Signal}
@@ -17,6 +19,14 @@ HasLocks l c s = AreLocked l c (form s.pipe.now).pipe s.locks.now
 -- a setting has a ticket for each memory
 abbrev pub HasTickets : {T : Type 0} → Members T → Circuit → Setting T → Type 0
 HasTickets l c s = AreTickets l c s.locks.now s.tickets.now
+
+-- truth values tell of each memory whether some path reserves it twice to write
+abbrev pub TellsTwice : Form → List Bool → Type 0
+TellsTwice f xs = xs ≡ all_twice f.pipe.stmts 0 f.pipe.mems
+
+-- those of a setting do
+abbrev pub HasTwice : {T : Type 0} → Setting T → Type 0
+HasTwice s = TellsTwice (form s.pipe.now) s.twice.now
 
 -- the locks of a setting as a circuit has them
 abbrev pub set_locks : {T : Type 0} → Members T → Circuit → Setting T → Locks

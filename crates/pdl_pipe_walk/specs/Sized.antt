@@ -9,7 +9,7 @@ use Rattle.pdl_pipe_exprs.specs.Nets.{widths_of}
 use Rattle.pdl_law_parts.specs.Walk.{Reservation, Put, Letting, Birth, Ask}
 use Rattle.pdl_law_parts.specs.Rows.{HasRow}
 use Rattle.pdl_pipe_walk.specs.declared.nets.WalkNets.{WalkNets}
-use Rattle.pdl_pipe_walk.specs.Parts.{Held, Parts, parts_in, IsThereWalk}
+use Rattle.pdl_pipe_walk.specs.Parts.{MarkSignal, Parts, parts_in, IsThereWalk}
 use Rattle.pdl_word.specs.Each.{Each}
 
 -- a reservation's condition has 1 bit, and its address reaches each word of its memory and no more
@@ -31,7 +31,7 @@ IsSizedAsk p x = (x.mem < length p.mems) × (x.on.width ≡ 1) × (2 ^ x.addr.wi
 -- the variables have these widths
 pub record IsSized (p : Pipe) (ws : List ℕ) (w : Parts) : Type 0 where
   pub vars : widths_of w.vars ≡ ws
-  pub held : Each (λ (h : Held). h.signal.width ≡ 1) w.held
+  pub marks : Each (λ (h : MarkSignal). h.signal.width ≡ 1) w.marks
   pub ready : w.ready.width ≡ 1
   pub reserves : Each (IsSizedReserve p) w.reserves
   pub puts : Each (IsSizedPut p) w.puts

@@ -1,5 +1,5 @@
 -- A statement as a step from one walk to another, while the circuit grows.
-use Rattle.std.specs.Prelude.{◌≡◌, ℕ, List, [], ◌∷◌, ◌++◌, Option, slice_set}
+use Rattle.std.specs.Prelude.{◌≡◌, ℕ, ◌==◌, List, [], ◌∷◌, ◌++◌, Option, slice_set, if◌then◌else◌}
 use Rattle.pdl_word.specs.Words.{bit}
 use Rattle.pdl_semantics.specs.Flat.{Guard, Op, Stmt, Pipe}
 use Rattle.pdl_net.specs.declared.Net.{Net}
@@ -8,10 +8,12 @@ use Rattle.pdl_net.specs.Signal.{Signal, mux_signal}
 use Rattle.pdl_net.specs.Growth.{Keeps}
 use Rattle.pdl_net.specs.Well.{IsWell, Suits}
 use Rattle.pdl_pipe_exprs.specs.Nets.{signal_at}
-use Rattle.pdl_law_parts.specs.Walk.{Locks, Walk, Row, IsOp, taken_in, walk_after, AreRows, one, zero_bit, both, if_on}
+use Rattle.pdl_law_parts.specs.declared.Mark.{Mark}
+use Rattle.pdl_law_parts.specs.declared.Mark.TheVariants.{Held, Late}
+use Rattle.pdl_law_parts.specs.Walk.{Locks, Reservation, Walk, Row, IsOp, taken_in, walk_after, AreRows, one, zero_bit, both, if_on, reserved_signal}
 use Rattle.pdl_pipe_walk.specs.declared.locks.MemLock.{MemLock}
 use Rattle.pdl_pipe_walk.specs.declared.nets.WalkNets.{WalkNets}
-use Rattle.pdl_pipe_walk.specs.Parts.{Parts, held_of, walk_in}
+use Rattle.pdl_pipe_walk.specs.Parts.{Parts, mark_of, walk_in}
 use Rattle.pdl_pipe_walk.specs.Guesses.{choices, differ_signal}
 use Rattle.pdl_pipe_walk.specs.Locked.{Members, locks_in, tickets_in}
 
@@ -25,21 +27,40 @@ with_var x on f w = record w { vars = slice_set w.vars x (mux_signal on f (signa
 abbrev pub with_put : ℕ → ℕ → Signal → Signal → Parts → Parts
 with_put m a on f w = record w { puts = w.puts ++ record { mem = m; var = a; on = on; value = f } ∷ [] }
 
--- a location becomes held or not
-abbrev pub with_held : ℕ → ℕ → Signal → Signal → Parts → Parts
-with_held m a on bit w = record w { held = record { mem = m; var = a; signal = mux_signal on bit (held_of w.held m a) } ∷ w.held }
+-- a location gets or loses a mark
+abbrev pub with_mark : Mark → ℕ → ℕ → Signal → Signal → Parts → Parts
+with_mark k m a on bit w = record w { marks = record { mark = k; mem = m; var = a; signal = mux_signal on bit (mark_of w.marks k m a) } ∷ w.marks }
+
+-- the thread waits for a bit
+abbrev pub with_wait : Signal → Signal → Parts → Parts
+with_wait on f w = record w { ready = both w.ready (if_on on f) }
+
+-- whether a reservation is made of the memory, or a later one as this tells
+abbrev pub reserved_or : ℕ → Reservation → Signal → Signal
+reserved_or m r rest = if r.mem == m then mux_signal r.on one rest else rest
+
+-- where an earlier reservation of the memory is made a location becomes late, and the thread waits for room for two
+abbrev pub with_second : ℕ → ℕ → Signal → Signal → Signal → Parts → Parts
+with_second m a on room room2 w =
+    with_wait on (mux_signal (reserved_signal m w.reserves) room2 room) (with_mark Late m a on (reserved_signal m w.reserves) w)
+
+-- the thread waits for room, as after an earlier reservation where some path reserves the memory twice
+abbrev pub with_room : Locks → ℕ → ℕ → Signal → Parts → Parts
+with_room ls m a on w = if ls.twice m then with_second m a on (ls.room m) (ls.room2 m) w else with_wait on (ls.room m) w
+
+-- one more reservation is made
+abbrev pub with_reservation : Reservation → Parts → Parts
+with_reservation r w = record w { reserves = w.reserves ++ r ∷ [] }
 
 -- a location is reserved: it becomes held, and the thread waits where there is no room
-abbrev pub with_reserve : ℕ → ℕ → Signal → Signal → Parts → Parts
-with_reserve m a on room w =
-    record (with_held m a on one w) {
-      ready = both w.ready (if_on on room);
-      reserves = w.reserves ++ record { mem = m; var = a; on = on; addr = signal_at w.vars a } ∷ [];
-    }
+abbrev pub with_reserve : Locks → ℕ → ℕ → Signal → Parts → Parts
+with_reserve ls m a on w =
+    with_reservation (record { mem = m; var = a; on = on; addr = signal_at w.vars a }) (with_room ls m a on (with_mark Held m a on one w))
 
 -- a location is released, where it is held
 abbrev pub with_release : ℕ → ℕ → Signal → Parts → Parts
-with_release m a on w = record (with_held m a on zero_bit w) { lettings = w.lettings ++ record { mem = m; on = both on (held_of w.held m a) } ∷ [] }
+with_release m a on w =
+    record (with_mark Held m a on zero_bit w) { lettings = w.lettings ++ record { mem = m; on = both on (mark_of w.marks Held m a) } ∷ [] }
 
 -- a call with these arguments makes a new thread
 abbrev pub with_call : Signal → List Signal → Parts → Parts

@@ -10,9 +10,10 @@ use Rattle.pdl_lockapi.specs.declared.Kind.TheVariants as look_kind
 use Rattle.pdl_lockapi.specs.Lock.{look_ready}
 use Rattle.pdl_lockapi.specs.Laws.{LookLaw}
 use Rattle.pdl_pipe_exprs.specs.Nets.{signal_at}
+use Rattle.pdl_law_parts.specs.declared.Mark.TheVariants.{Held}
 use Rattle.pdl_law_parts.specs.Walk.{Locks, is_locked, is_on, look_of, ThroughLock, both, if_on}
 use Rattle.pdl_law_parts.specs.Places.{comb_place}
-use Rattle.pdl_pipe_walk.specs.Parts.{Parts, held_of}
+use Rattle.pdl_pipe_walk.specs.Parts.{Parts, mark_of}
 use Rattle.pdl_pipe_walk.specs.Steps.{with_var}
 
 -- what a look through the lock of a memory gives: whether it is ready, and a value
@@ -39,5 +40,5 @@ pub record IsRead (p : Pipe) (ls : Locks) (tickets : ℕ → Signal) (on : Signa
 -- a block: where its condition is 1 the thread waits until the look is ready
 pub record IsBlocked (ls : Locks) (tickets : ℕ → Signal) (on : Signal) (m a : ℕ) (w w' : Parts) : Type 0 where
   pub look : Signal
-  pub is_look : IsLooked ls m (held_of w.held m a) (signal_at w.vars a) (tickets m) look
+  pub is_look : IsLooked ls m (mark_of w.marks Held m a) (signal_at w.vars a) (tickets m) look
   pub next : w' ≡ record w { ready = both w.ready (if_on on look) }

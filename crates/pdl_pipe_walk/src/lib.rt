@@ -6,9 +6,11 @@
 mod guesses;
 pub mod locks;
 pub mod nets;
+mod reserves;
 pub mod rows;
+pub mod tickets;
 pub mod update;
 pub mod vars;
 
 pub use locks::{MemLock, Setting};
-pub use nets::{AskNet, BirthNet, HeldNet, LettingNet, PutNet, ReserveNet, WalkNets};
+pub use nets::{AskNet, BirthNet, LettingNet, MarkNet, PutNet, ReserveNet, WalkNets};

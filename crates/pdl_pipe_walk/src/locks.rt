@@ -13,7 +13,7 @@ ghost use Rattle.pdl_pipe_exprs.specs.Nets.{signals_in, signal_at};
 ghost use Rattle.pdl_pipe_exprs.specs.Conditions.{AreBits};
 ghost use Rattle.pdl_law_parts.specs.Walk.{is_locked};
 ghost use Rattle.pdl_law_parts.specs.Places.{comb_place};
-ghost use Rattle.pdl_pipe_walk.specs.Locked.{members, some_at, room_net};
+ghost use Rattle.pdl_pipe_walk.specs.Locked.{members, some_at, room_net, room2_net};
 ghost use Rattle.pdl_pipe_walk.specs.Setting.{HasLocks, set_locks};
 ghost use Rattle.pdl_pipe_walk.specs.Words.{IsLookOf, IsWordSignal, IsLooked};
 
@@ -31,12 +31,13 @@ pub struct MemLock<L> {
     pub regs: LockRegs,
 }
 
-/// What the statements of a stage are made nets in: the pipe, the constant bits, the locks of the memories, and a ticket for each.
+/// What the statements of a stage are made nets in: the pipe, the constant bits, the locks of the memories, whether some path reserves each twice to write, and a ticket for each.
 #[derive(Drop)]
 pub struct Setting<'a, L> {
     pub pipe: &'a FlatPipe,
     pub bits: Bits,
     pub locks: &'a [Option<MemLock<L>>],
+    pub twice: &'a [bool],
     pub tickets: &'a [Net],
 }
 
@@ -158,6 +159,15 @@ pub(crate) fn room<L: LockModule>(locks: &[Option<MemLock<L>>], m: usize) -> Net
     ensures { result ≡ room_net (some_at locks.now m) }
 {
     lock_of(locks, m).regs.room
+}
+
+/// Whether a second reservation for writing has room too.
+pub(crate) fn room2<L: LockModule>(locks: &[Option<MemLock<L>>], m: usize) -> Net
+    requires low { m < length locks.now }
+    requires some { is_some (some_at locks.now m) ≡ true }
+    ensures { result ≡ room2_net (some_at locks.now m) }
+{
+    lock_of(locks, m).regs.room2
 }
 
 /// Whether a look is ready, for writing where `held` is 1 and else for reading.

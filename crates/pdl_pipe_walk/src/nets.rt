@@ -1,10 +1,12 @@
 // The nets of a stage on the way through its statements.
 use pdl_kit::Seq;
+use pdl_law_parts::Mark;
 use pdl_net::Net;
 
-/// Whether a location, by its memory and the variable of its address, is reserved for writing and not yet released, 1 bit.
+/// A mark of a location, by its memory and the variable of its address: whether the location has it, 1 bit.
 #[derive(Clone, Copy)]
-pub struct HeldNet {
+pub struct MarkNet {
+    pub mark: Mark,
     pub mem: usize,
     pub var: usize,
     pub net: Net,
@@ -51,11 +53,11 @@ pub struct BirthNet {
     pub args: Seq<Net>,
 }
 
-/// A stage on the way through its statements: its variables by their numbers, what it holds for writing, whether the locks let its thread move so far (1 bit), and what it does.
+/// A stage on the way through its statements: its variables by their numbers, the marks of its locations, whether the locks let its thread move so far (1 bit), and what it does.
 pub struct WalkNets {
     pub vars: Vec<Net>,
-    /// Of two entries of one location the first counts; a location without entry is not held.
-    pub held: Vec<HeldNet>,
+    /// Of two entries of one mark of a location the first counts; a location has no mark without entry.
+    pub marks: Vec<MarkNet>,
     pub ready: Net,
     pub reserves: Seq<ReserveNet>,
     pub puts: Seq<PutNet>,
@@ -76,7 +78,7 @@ impl Drop for WalkNets {
     fn drop(self) {
         let WalkNets {
             vars: _,
-            held: _,
+            marks: _,
             ready: _,
             reserves: _,
             puts: _,

@@ -12,19 +12,21 @@ ghost use Rattle.pdl_pipe_exprs.specs.Nets.{signals_in, signal_at};
 ghost use Rattle.pdl_pipe_exprs.specs.Conditions.{AreBits};
 ghost use Rattle.pdl_form_types.specs.Stmts.{AreGuards, IsLocation, AreArguments, param_widths};
 ghost use Rattle.pdl_form_types.specs.Exprs.{width_in, IsTyped};
+ghost use Rattle.pdl_law_parts.specs.declared.Mark.TheVariants.{Held};
 ghost use Rattle.pdl_law_parts.specs.Walk.{is_locked, one, both};
-ghost use Rattle.pdl_pipe_walk.specs.Parts.{held_of, parts_in, walk_in, taken_by, value_by, values_by};
+ghost use Rattle.pdl_pipe_walk.specs.Parts.{mark_of, parts_in, walk_in, taken_by, value_by, values_by};
 ghost use Rattle.pdl_pipe_walk.specs.Locked.{members};
-ghost use Rattle.pdl_pipe_walk.specs.Setting.{HasLocks, HasTickets, set_locks, set_tickets, AreSetSteps};
+ghost use Rattle.pdl_pipe_walk.specs.Setting.{HasLocks, HasTickets, HasTwice, set_locks, set_tickets, AreSetSteps};
 ghost use Rattle.pdl_pipe_walk.specs.Sized.{IsWalked, AreWalked, AreWalkedRows, IsWalkOf};
 ghost use Rattle.pdl_pipe_walk.specs.Words.{IsLooked, IsRead, IsBlocked};
-ghost use Rattle.pdl_pipe_walk.specs.Steps.{with_var, with_put, with_reserve, with_release, with_call, with_ask, IsStep};
+ghost use Rattle.pdl_pipe_walk.specs.Steps.{with_var, with_put, with_release, with_call, with_ask, IsStep};
 
-use crate::locks::{Setting, look_held, room, word};
-use crate::nets::{AskNet, HeldNet, PutNet, ReserveNet, WalkNets};
+use crate::locks::{Setting, look_held, word};
+use crate::nets::{AskNet, MarkNet, PutNet, WalkNets};
 use pdl_build::Builder;
 use pdl_form::{FlatExpr, FlatGuard, FlatPipe, FlatStmt, Op};
 use pdl_kit::NoMemory;
+use pdl_law_parts::Mark;
 use pdl_lockapi::LockModule;
 use pdl_net::Net;
 use pdl_pipe_exprs::Bits;
@@ -166,46 +168,6 @@ impl WalkNets {
         })
     }
 
-    /// A reservation for writing: it waits for room.
-    pub(crate) fn reserve<L: LockModule>(
-        &mut self,
-        b: &mut Builder,
-        setting: &Setting<'_, L>,
-        guards: &[FlatGuard],
-        m: usize,
-        a: usize,
-    ) -> Result<(), NoMemory>
-        requires walk { IsWalkOf (form setting.now.pipe.now) b.old self.old }
-        requires bits { AreBits b.old setting.now.bits }
-        requires guards { AreGuards (form setting.now.pipe.now).widths (guards_view guards.now) }
-        requires locks { HasLocks (members L.LockModule) b.old setting.now }
-        requires at { IsLocation (form setting.now.pipe.now).pipe
-            (form setting.now.pipe.now).widths m a }
-        requires locked { is_locked (form setting.now.pipe.now).pipe m ≡ true }
-        ensures walk { OnOk result (IsWalkOf (form setting.now.pipe.now) b.new self.new) }
-        ensures parts { OnOk result (parts_in b.new self.new
-            ≡ with_reserve m a (taken_by b.old self.old guards.now)
-            ((set_locks (members L.LockModule) b.old setting.now).room m)
-            (parts_in b.old self.old)) }
-        ensures extends { Extends b.old b.new }
-    {
-        let on = self.all_taken(b, setting.pipe, setting.bits, guards)?;
-        let addr = self.variable(b, setting.pipe, a);
-        let held = HeldNet {
-            mem: m,
-            var: a,
-            net: setting.bits.one,
-        };
-        self.hold(b, setting.pipe, setting.bits, on, held)?;
-        self.wait(b, setting.pipe, setting.bits, on, room(setting.locks, m))?;
-        self.push_reserve(ReserveNet {
-            mem: m,
-            var: a,
-            on,
-            addr,
-        })
-    }
-
     // Whether a location is ready for its block.
     fn look_ready<L: LockModule>(
         &self,
@@ -224,12 +186,12 @@ impl WalkNets {
         ensures bit { IfOk result (λ x. HasWidth b.new x 1) }
         ensures looked { IfOk result (λ x.
             IsLooked (set_locks (members L.LockModule) b.old setting.now) m
-            (held_of (parts_in b.old self.now).held m a)
+            (mark_of (parts_in b.old self.now).marks Held m a)
             (signal_at (signals_in b.old self.now.vars.items) a) (set_tickets b.old setting.now m)
             (signal b.new x)) }
         ensures extends { Extends b.old b.new }
     {
-        let held = self.is_held(b, setting.bits, m, a);
+        let held = self.is_marked(b, setting.bits, Mark::Held, m, a);
         let addr = self.variable(b, setting.pipe, a);
         let ticket = variable(b, setting.tickets, m);
         look_held(b, setting, m, held, addr, ticket)
@@ -282,14 +244,15 @@ impl WalkNets {
         ensures extends { Extends b.old b.new }
     {
         let on = self.all_taken(b, pipe, bits, guards)?;
-        let held = self.is_held(b, bits, m, a);
+        let held = self.is_marked(b, bits, Mark::Held, m, a);
         let lets = bits.both(b, on, held)?;
-        let let_go = HeldNet {
+        let let_go = MarkNet {
+            mark: Mark::Held,
             mem: m,
             var: a,
             net: bits.zero,
         };
-        self.hold(b, pipe, bits, on, let_go)?;
+        self.set_mark(b, pipe, bits, on, let_go)?;
         self.push_letting(m, lets)
     }
 
@@ -331,6 +294,7 @@ impl WalkNets {
         requires bits { AreBits b.old setting.now.bits }
         requires locks { HasLocks (members L.LockModule) b.old setting.now }
         requires tickets { HasTickets (members L.LockModule) b.old setting.now }
+        requires twice { HasTwice setting.now }
         requires typed { IsWalked (form setting.now.pipe.now) (stmt_view s.now) }
         ensures walk { OnOk result (IsWalkOf (form setting.now.pipe.now) b.new self.new) }
         ensures step { OnOk result (IsStep b.new (form setting.now.pipe.now).pipe
@@ -378,6 +342,7 @@ impl WalkNets {
         requires bits { AreBits b.old setting.now.bits }
         requires locks { HasLocks (members L.LockModule) b.old setting.now }
         requires tickets { HasTickets (members L.LockModule) b.old setting.now }
+        requires twice { HasTwice setting.now }
         requires typed { AreWalkedRows (form setting.now.pipe.now) (stmts_view stmts.now) rows.now }
         ensures walk { OnOk result (IsWalkOf (form setting.now.pipe.now) b.new self.new) }
         ensures steps { OnOk result (AreSetSteps (members L.LockModule) setting.now
@@ -405,6 +370,7 @@ impl WalkNets {
         requires bits { AreBits b.old setting.now.bits }
         requires locks { HasLocks (members L.LockModule) b.old setting.now }
         requires tickets { HasTickets (members L.LockModule) b.old setting.now }
+        requires twice { HasTwice setting.now }
         requires stage { stage < length (form setting.now.pipe.now).pipe.stages }
         requires typed { AreWalked (form setting.now.pipe.now)
             (form setting.now.pipe.now).pipe.stmts }

@@ -5,62 +5,73 @@ ghost use Rattle.pdl_net.specs.Meaning.{Means, signal};
 ghost use Rattle.pdl_net.specs.HasWidth.{HasWidth};
 ghost use Rattle.pdl_net.specs.Growth.{Extends};
 ghost use Rattle.pdl_pipe_exprs.specs.Conditions.{AreBits};
-ghost use Rattle.pdl_law_parts.specs.Walk.{one, both, if_on};
-ghost use Rattle.pdl_pipe_walk.specs.Parts.{held_of, parts_in, IsThereWalk};
+ghost use Rattle.pdl_law_parts.specs.Walk.{one, both, if_on, same_mark as is_same};
+ghost use Rattle.pdl_pipe_walk.specs.Parts.{mark_of, parts_in, IsThereWalk};
 ghost use Rattle.pdl_pipe_walk.specs.Sized.{IsWalkOf};
 ghost use Rattle.pdl_pipe_walk.specs.Frames.{SameRest};
-ghost use Rattle.pdl_pipe_walk.specs.HeldLookups.{held_net as held_in};
-ghost use Rattle.pdl_pipe_walk.specs.Steps.{with_var, with_held};
+ghost use Rattle.pdl_pipe_walk.specs.MarkLookups.{mark_net as net_in};
+ghost use Rattle.pdl_pipe_walk.specs.Steps.{with_var, with_mark};
 
-use crate::nets::{AskNet, BirthNet, HeldNet, LettingNet, PutNet, ReserveNet, WalkNets};
+use crate::nets::{AskNet, BirthNet, LettingNet, MarkNet, PutNet, ReserveNet, WalkNets};
 use pdl_build::Builder;
 use pdl_form::FlatPipe;
 use pdl_kit::{NoMemory, Seq};
+use pdl_law_parts::Mark;
 use pdl_net::Net;
 use pdl_pipe_exprs::Bits;
 
-// The net of whether a location is held; `zero` is always 0.
-fn held_net(hs: &[HeldNet], zero: Net, mem: usize, var: usize) -> Net
-    ensures { result ≡ held_in hs.now zero mem var }
+/// Whether two marks are the same.
+pub fn same_mark(a: Mark, b: Mark) -> bool
+    ensures { result ≡ is_same a b }
 {
-    for h in hs {
-        if h.mem == mem && h.var == var {
-            return h.net;
+    match (a, b) {
+        (Mark::Held, Mark::Held) | (Mark::Late, Mark::Late) => true,
+        (Mark::Held, Mark::Late) | (Mark::Late, Mark::Held) => false,
+    }
+}
+
+// The net of whether a location has a mark; `zero` is always 0.
+fn mark_net(marks: &[MarkNet], zero: Net, mark: Mark, mem: usize, var: usize) -> Net
+    ensures { result ≡ net_in marks.now zero mark mem var }
+{
+    for x in marks {
+        if same_mark(x.mark, mark) && (x.mem == mem && x.var == var) {
+            return x.net;
         }
     }
     zero
 }
 
 impl WalkNets {
-    /// Whether a location is held.
-    pub fn is_held(&self, b: &Builder, bits: Bits, mem: usize, var: usize) -> Net
+    /// Whether a location has a mark.
+    pub fn is_marked(&self, b: &Builder, bits: Bits, mark: Mark, mem: usize, var: usize) -> Net
         requires bits { AreBits b.now bits }
         requires there { IsThereWalk b.now self.now }
-        ensures { Means b.now result (held_of (parts_in b.now self.now).held mem var) }
+        ensures { Means b.now result (mark_of (parts_in b.now self.now).marks mark mem var) }
     {
         let _regs = b.reg_count();
-        held_net(self.held.as_slice(), bits.zero, mem, var)
+        mark_net(self.marks.as_slice(), bits.zero, mark, mem, var)
     }
 
     // Another net of a variable.
     fn put_var(&mut self, x: usize, net: Net)
         requires { x < length self.old.vars.items }
         ensures vars { self.new.vars.items ≡ slice_set self.old.vars.items x net }
-        ensures held { self.new.held ≡ self.old.held }
+        ensures marks { self.new.marks ≡ self.old.marks }
         ensures births { self.new.births ≡ self.old.births }
         ensures rest { SameRest self.old self.new }
     {
         self.vars[x] = net;
     }
 
-    // One more location, before the others.
-    fn push_held(&mut self, held: HeldNet) -> Result<(), NoMemory>
-        ensures held { OnOk result (self.new.held.items ≡ held ∷ self.old.held.items) }
+    // One more mark, before the others.
+    fn push_mark(&mut self, entry: MarkNet) -> Result<(), NoMemory>
+        ensures marks { OnOk result (self.new.marks.items ≡ entry ∷ self.old.marks.items) }
         ensures vars { self.new.vars ≡ self.old.vars }
         ensures births { self.new.births ≡ self.old.births }
         ensures rest { SameRest self.old self.new }
     {
-        self.held.insert(0, held)?;
+        self.marks.insert(0, entry)?;
         Ok(())
     }
 
@@ -90,28 +101,28 @@ impl WalkNets {
         Ok(())
     }
 
-    /// Where `on` is 1 a location becomes held or not, as its bit says.
-    pub(crate) fn hold(
+    /// Where `on` is 1 a location gets or loses a mark, as its bit says.
+    pub(crate) fn set_mark(
         &mut self,
         b: &mut Builder,
         pipe: &FlatPipe,
         bits: Bits,
         on: Net,
-        held: HeldNet,
+        entry: MarkNet,
     ) -> Result<(), NoMemory>
         requires walk { IsWalkOf (form pipe.now) b.old self.old }
         requires bits { AreBits b.old bits }
         requires on { HasWidth b.old on 1 }
-        requires net { HasWidth b.old held.net 1 }
+        requires net { HasWidth b.old entry.net 1 }
         ensures walk { OnOk result (IsWalkOf (form pipe.now) b.new self.new) }
         ensures parts { OnOk result (parts_in b.new self.new
-            ≡ with_held held.mem held.var (signal b.old on) (signal b.old held.net)
+            ≡ with_mark entry.mark entry.mem entry.var (signal b.old on) (signal b.old entry.net)
             (parts_in b.old self.old)) }
         ensures extends { Extends b.old b.new }
     {
-        let old = self.is_held(b, bits, held.mem, held.var);
-        let net = b.mux(on, held.net, old)?;
-        self.push_held(HeldNet { net, ..held })
+        let old = self.is_marked(b, bits, entry.mark, entry.mem, entry.var);
+        let net = b.mux(on, entry.net, old)?;
+        self.push_mark(MarkNet { net, ..entry })
     }
 
     /// Where `on` is 1 the thread waits until a net is 1.
@@ -181,7 +192,7 @@ impl WalkNets {
         ensures births { OnOk result (self.new.births.items
             ≡ record { on = on; args = args } ∷ self.old.births.items) }
         ensures vars { self.new.vars ≡ self.old.vars }
-        ensures held { self.new.held ≡ self.old.held }
+        ensures marks { self.new.marks ≡ self.old.marks }
         ensures rest { SameRest self.old self.new }
     {
         self.births.insert(0, BirthNet { on, args })?;

@@ -1,11 +1,11 @@
 -- Forms that have no circuit yet: the rules let each of these pipes pass, and it is refused; computed.
 use Rattle.std.specs.Prelude.{◌≡◌, ℕ, List, [], ◌∷◌, Option, Some, None, refl}
 use Rattle.pdl_kit.specs.declared.rule.Rule.{Rule}
-use Rattle.pdl_kit.specs.declared.rule.Rule.TheVariants.{L4, S6, P1}
-use Rattle.pdl_semantics.specs.Tree.{W, Mem, Pipe}
+use Rattle.pdl_kit.specs.declared.rule.Rule.TheVariants.{S6, P1}
+use Rattle.pdl_semantics.specs.Tree.{Mem, Pipe}
 use Rattle.pdl_rules.specs.Refusal.{Refused, refusal}
 use Rattle.pdl_rules.proofs.Judged.{judged}
-use Rattle.pdl_rules.proofs.Texts.{literal, constant, variable, slice, plus, Line, separator, bind, write, reserve, block, release, call, spec_call, verify, update, spec_check, queue, param, comb, advisory, whole}
+use Rattle.pdl_rules.proofs.Texts.{literal, constant, variable, plus, Line, separator, call, spec_call, verify, update, spec_check, param, advisory, whole}
 
 -- a short source with these memories and this body, which begins on line 3
 abbrev short : List Mem → List Line → Pipe
@@ -16,20 +16,6 @@ at_line r k = Some (record { rule = r; line = k })
 
 abbrev next : Line
 next = call (plus (variable "n") (constant 8 1) ∷ [])
-
--- two write reservations of a memory
-abbrev two_writes : Pipe
-two_writes =
-    short (comb 2 "m" 8 4 (queue 4) ∷ [])
-    (bind "a" (slice "n" 1 0) ∷ bind "b" (slice "n" 3 2) ∷ reserve "m" "a" W ∷ reserve "m" "b" W
-    ∷ block "m" "a" ∷ write "m" "a" (variable "n") ∷ release "m" "a"
-    ∷ block "m" "b" ∷ write "m" "b" (variable "n") ∷ release "m" "b" ∷ next ∷ [])
-
-two_writes_judged : judged two_writes ≡ None
-two_writes_judged = refl
-
-two_writes_refused : refusal [] two_writes ≡ at_line L4 6
-two_writes_refused = refl
 
 -- a second guess
 abbrev updated : Pipe

@@ -16,8 +16,8 @@ use Rattle.pdl_vread_text.specs.Words.{is_name}
 use Rattle.pdl_net.specs.declared.Dir.{Dir}
 use Rattle.pdl_net.specs.declared.Dir.TheVariants.{In, Out}
 use Rattle.pdl_net.specs.declared.Port.{Port}
-use Rattle.pdl_net.specs.Pipe.{Head, head_of, output, reply_ports, stage_ports, commit_ports, request_ports, pipe_ports}
-use Rattle.pdl_law_parts.specs.Declared.{port_mem, locked_of}
+use Rattle.pdl_net.specs.Pipe.{Head, head_of, output, reply_ports, stage_ports, first_ports, second_ports, commit_ports, request_ports, pipe_ports}
+use Rattle.pdl_law_parts.specs.DeclaredMems.{port_mem, locked_of}
 use Rattle.pdl_law_follows.specs.Memories.{delayed_of, comb_of, net_infos}
 use Rattle.pdl_law_follows.proofs.Memories.{as_many}
 use Rattle.pdl_wave.specs.declared.port.WavePort.{WavePort}
@@ -52,14 +52,14 @@ few_by (p ∷ ps) = one p.dir (few_by ps)
 
 -- ---- the ports of stages
 
-prefix_word : (a : List ℕ) → is_word a ≡ true → length a ≤ 3 → IsShortWord 3 a
+prefix_word : (a : List ℕ) → is_word a ≡ true → length a ≤ 4 → IsShortWord 4 a
 prefix_word a w l = record { word = w; short = l }
 
 number_word : (k : ℕ) → k < 64 → IsShortWord 2 (decimal k)
 number_word k l = record { word = decimal_word k (omega arith); short = length-decimal-le 2 k (omega arith) (omega arith) (omega arith) }
 
-stage_word : (a : List ℕ) (k : ℕ) → IsShortWord 3 a → k < 64 → IsShortWord 64 (a ++ decimal k)
-stage_word a k h l = longer (3 + 2) 64 (a ++ decimal k) (omega arith) (prefixed 3 2 a (decimal k) h (number_word k l))
+stage_word : (a : List ℕ) (k : ℕ) → IsShortWord 4 a → k < 64 → IsShortWord 64 (a ++ decimal k)
+stage_word a k h l = longer (4 + 2) 64 (a ++ decimal k) (omega arith) (prefixed 4 2 a (decimal k) h (number_word k l))
 
 stages_from : (k n : ℕ) → k + n ≤ 64 → Each HasWord (flat_map stage_ports (range_with_len k n))
 stages_from k zero l = tt
@@ -111,53 +111,73 @@ named_by ms infos e all =
     let h = first_named (delayed_of ms) (map info_of (comb_of ms)) (subst (All IsTold) e all) in
     (h.0, both_named ms h.0 (last_named (comb_of ms) h.1))
 
-mem_word : (a t : List ℕ) → IsShortWord 3 a → is_name t ≡ true → IsShortWord 64 (a ++ t)
-mem_word a t h n = longer (3 + 32) 64 (a ++ t) (omega arith) (prefixed 3 32 a t h (name_word t n))
+mem_word : (a t : List ℕ) → IsShortWord 4 a → is_name t ≡ true → IsShortWord 64 (a ++ t)
+mem_word a t h n = longer (4 + 32) 64 (a ++ t) (omega arith) (prefixed 4 32 a t h (name_word t n))
 
-commits_words : (ms : List Mem) → Each (λ (m : Mem). is_name m.name.name ≡ true) ms → Each HasWord (flat_map commit_ports (locked_of ms))
-commits_words [] h = tt
-commits_words (m ∷ ms) h = one m.lock (commits_words ms h.1)
+commit_words : (b : Bool) (m : Mem) → is_name m.name.name ≡ true → Each HasWord (commit_ports (port_mem b m))
+commit_words b m h = at b
   where
-    one : (l : Option LockDecl) → Each HasWord (flat_map commit_ports (locked_of ms))
-        → Each HasWord (flat_map commit_ports ((if is_some l then port_mem m ∷ [] else []) ++ locked_of ms))
+    named : (a : List ℕ) → is_word a ≡ true → length a ≤ 4 → IsShortWord 64 (a ++ m.name.name)
+    named a w l = mem_word a m.name.name (prefix_word a w l) h
+
+    second : Each HasWord (second_ports (port_mem true m))
+    second = (named (codes "c2_") refl (omega arith), (named (codes "ca2_") refl (omega arith), (named (codes "cd2_") refl (omega arith), tt)))
+
+    first : Each HasWord (first_ports (port_mem b m))
+    first = (named (codes "c_") refl (omega arith), (named (codes "ca_") refl (omega arith), (named (codes "cd_") refl (omega arith), tt)))
+
+    at : (b : Bool) → Each HasWord (commit_ports (port_mem b m))
+    at true = each_append HasWord (first_ports (port_mem true m)) (second_ports (port_mem true m)) first second
+    at false = first
+
+commits_words : (twice : ℕ → Bool) (k : ℕ) (ms : List Mem)
+    → Each (λ (m : Mem). is_name m.name.name ≡ true) ms → Each HasWord (flat_map commit_ports (locked_of twice k ms))
+commits_words twice k [] h = tt
+commits_words twice k (m ∷ ms) h = one m.lock (commits_words twice (suc k) ms h.1)
+  where
+    one : (l : Option LockDecl) → Each HasWord (flat_map commit_ports (locked_of twice (suc k) ms))
+        → Each HasWord (flat_map commit_ports ((if is_some l then port_mem (twice k) m ∷ [] else []) ++ locked_of twice (suc k) ms))
     one None rest = rest
-    one (Some l) rest = (
-      mem_word (codes "c_") m.name.name (prefix_word (codes "c_") refl (omega arith)) h.0,
-      (
-        mem_word (codes "ca_") m.name.name (prefix_word (codes "ca_") refl (omega arith)) h.0,
-        (mem_word (codes "cd_") m.name.name (prefix_word (codes "cd_") refl (omega arith)) h.0, rest),
-      ),
-    )
+    one (Some l) rest =
+        each_append HasWord (commit_ports (port_mem (twice k) m)) (flat_map commit_ports (locked_of twice (suc k) ms)) (commit_words (twice k) m h.0) rest
 
-commits_count : (ms : List Mem) → length (flat_map commit_ports (locked_of ms)) ≤ 3 * length ms
-commits_count [] = omega arith
-commits_count (m ∷ ms) = one m.lock (commits_count ms)
+commit_count : (b : Bool) (m : Mem) → length (commit_ports (port_mem b m)) ≤ 6
+commit_count true m = omega arith
+commit_count false m = omega arith
+
+commits_count : (twice : ℕ → Bool) (k : ℕ) (ms : List Mem) → length (flat_map commit_ports (locked_of twice k ms)) ≤ 6 * length ms
+commits_count twice k [] = omega arith
+commits_count twice k (m ∷ ms) = one m.lock (commits_count twice (suc k) ms)
   where
-    one : (l : Option LockDecl) → length (flat_map commit_ports (locked_of ms)) ≤ 3 * length ms
-        → length (flat_map commit_ports ((if is_some l then port_mem m ∷ [] else []) ++ locked_of ms)) ≤ 3 * suc (length ms)
+    one : (l : Option LockDecl) → length (flat_map commit_ports (locked_of twice (suc k) ms)) ≤ 6 * length ms
+        → length (flat_map commit_ports ((if is_some l then port_mem (twice k) m ∷ [] else []) ++ locked_of twice (suc k) ms)) ≤ 6 * suc (length ms)
     one None l = omega (arith, l)
-    one (Some x) l = omega (arith, l)
+    one (Some x) l =
+        let front = commit_ports (port_mem (twice k) m) in
+        let n = length-append front (flat_map commit_ports (locked_of twice (suc k) ms)) in
+        let few = commit_count (twice k) m in
+        omega (arith, l, n, few)
 
-replies_words : (ms : List Mem) → Each (λ (m : Mem). is_name m.name.name ≡ true) ms → Each HasWord (flat_map reply_ports (map port_mem ms))
+replies_words : (ms : List Mem) → Each (λ (m : Mem). is_name m.name.name ≡ true) ms → Each HasWord (flat_map reply_ports (map (port_mem false) ms))
 replies_words [] h = tt
 replies_words (m ∷ ms) h = (
   mem_word (codes "p_") m.name.name (prefix_word (codes "p_") refl (omega arith)) h.0,
   (mem_word (codes "pd_") m.name.name (prefix_word (codes "pd_") refl (omega arith)) h.0, replies_words ms h.1),
 )
 
-replies_count : (ms : List Mem) → length (flat_map reply_ports (map port_mem ms)) ≡ 2 * length ms
+replies_count : (ms : List Mem) → length (flat_map reply_ports (map (port_mem false) ms)) ≡ 2 * length ms
 replies_count [] = refl
 replies_count (m ∷ ms) = let rest = replies_count ms in omega (arith, rest)
 
 requests_words : (ms : List Mem)
-    → Each (λ (m : Mem). is_name m.name.name ≡ true) ms → Each HasWord (flat_map request_ports (map port_mem ms))
+    → Each (λ (m : Mem). is_name m.name.name ≡ true) ms → Each HasWord (flat_map request_ports (map (port_mem false) ms))
 requests_words [] h = tt
 requests_words (m ∷ ms) h = (
   mem_word (codes "q_") m.name.name (prefix_word (codes "q_") refl (omega arith)) h.0,
   (mem_word (codes "qa_") m.name.name (prefix_word (codes "qa_") refl (omega arith)) h.0, requests_words ms h.1),
 )
 
-requests_count : (ms : List Mem) → length (flat_map request_ports (map port_mem ms)) ≡ 2 * length ms
+requests_count : (ms : List Mem) → length (flat_map request_ports (map (port_mem false) ms)) ≡ 2 * length ms
 requests_count [] = refl
 requests_count (m ∷ ms) = let rest = requests_count ms in omega (arith, rest)
 
@@ -170,39 +190,39 @@ squash_word : IsShortWord 64 (codes "squash")
 squash_word = record { word = refl; short = omega arith }
 
 -- the names of the ports of a pipe
-pub pipe_words : (stages : ℕ) (ms : List Mem)
+pub pipe_words : (stages : ℕ) (twice : ℕ → Bool) (ms : List Mem)
     → stages ≤ 64
     → Each (λ (m : Mem). is_name m.name.name ≡ true) (delayed_of ms) × Each (λ (m : Mem). is_name m.name.name ≡ true) ms
-    → Each HasWord (pipe_ports stages (map port_mem (delayed_of ms)) (locked_of ms))
-pipe_words stages ms few named =
-    let replies = flat_map reply_ports (map port_mem (delayed_of ms)) in
+    → Each HasWord (pipe_ports stages (map (port_mem false) (delayed_of ms)) (locked_of twice 0 ms))
+pipe_words stages twice ms few named =
+    let replies = flat_map reply_ports (map (port_mem false) (delayed_of ms)) in
     let front = flat_map stage_ports (range_with_len 0 stages) in
-    let commits = flat_map commit_ports (locked_of ms) in
-    let requests = flat_map request_ports (map port_mem (delayed_of ms)) in
+    let commits = flat_map commit_ports (locked_of twice 0 ms) in
+    let requests = flat_map request_ports (map (port_mem false) (delayed_of ms)) in
     let last = output (codes "ended") 1 ∷ output (codes "squash") 1 ∷ [] in
     each_append HasWord (replies ++ front ++ commits ++ requests) last
     (each_append HasWord (replies ++ front ++ commits) requests
     (each_append HasWord (replies ++ front) commits
     (each_append HasWord replies front (replies_words (delayed_of ms) named.0) (stages_from 0 stages (omega (arith, few))))
-    (commits_words ms named.1))
+    (commits_words twice 0 ms named.1))
     (requests_words (delayed_of ms) named.0))
     (ended_word, (squash_word, tt))
 
--- a pipe of at most 64 stages and 16 memories has at most 242 ports
-pub pipe_count : (stages : ℕ) (ms : List Mem)
-    → stages ≤ 64 → length ms ≤ 16 → length (pipe_ports stages (map port_mem (delayed_of ms)) (locked_of ms)) ≤ 242
-pipe_count stages ms few mems =
-    let replies = flat_map reply_ports (map port_mem (delayed_of ms)) in
+-- a pipe of at most 64 stages and 16 memories has at most 290 ports
+pub pipe_count : (stages : ℕ) (twice : ℕ → Bool) (ms : List Mem)
+    → stages ≤ 64 → length ms ≤ 16 → length (pipe_ports stages (map (port_mem false) (delayed_of ms)) (locked_of twice 0 ms)) ≤ 290
+pipe_count stages twice ms few mems =
+    let replies = flat_map reply_ports (map (port_mem false) (delayed_of ms)) in
     let front = flat_map stage_ports (range_with_len 0 stages) in
-    let commits = flat_map commit_ports (locked_of ms) in
-    let requests = flat_map request_ports (map port_mem (delayed_of ms)) in
+    let commits = flat_map commit_ports (locked_of twice 0 ms) in
+    let requests = flat_map request_ports (map (port_mem false) (delayed_of ms)) in
     let last = output (codes "ended") 1 ∷ output (codes "squash") 1 ∷ [] in
     let a = length-append (replies ++ front ++ commits ++ requests) last in
     let b = length-append (replies ++ front ++ commits) requests in
     let c = length-append (replies ++ front) commits in
     let d = length-append replies front in
     let s = stages_count 0 stages in
-    let k = commits_count ms in
+    let k = commits_count twice 0 ms in
     let x = replies_count (delayed_of ms) in
     let y = requests_count (delayed_of ms) in
     let many = as_many ms in

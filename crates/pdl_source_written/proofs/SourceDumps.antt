@@ -1,10 +1,11 @@
 -- What is dumped of the netlist of a source says its run.
-use Rattle.std.proofs.Common.{ap, ℕ, suc, ◌≤◌, List, [], ◌∷◌, length, map, All, arith}
+use Rattle.std.proofs.Common.{ap, ℕ, suc, ◌≤◌, Bool, List, [], ◌∷◌, length, map, All, arith}
 use Rattle.std.proofs.lemmas.List.{length-map, length-append}
 use Rattle.pdl_word.specs.Each.{Each}
 use Rattle.pdl_word.proofs.Each.{each_get}
 use Rattle.pdl_semantics.specs.Tree.{Pipe}
 use Rattle.pdl_semantics.specs.Flatten.{flat}
+use Rattle.pdl_semantics.specs.SecondWrites.{reserves_twice}
 use Rattle.pdl_syntax_grammar.specs.Text.{IsText}
 use Rattle.pdl_rules.specs.Memories.{info_of}
 use Rattle.pdl_rules.specs.Refusal.{KeepsRules}
@@ -28,6 +29,10 @@ use Rattle.pdl_source_written.proofs.Names.{IsShortWord, name_word}
 use Rattle.pdl_source_written.proofs.Ports.{named_by, pipe_words, pipe_count, wave_words, wave_count}
 
 module _ (source : List ℕ) (p : Pipe) (n : Netlist) (t : IsText source p) (kept : KeepsRules p) (f : Follows p n) where
+  -- whether some path reserves a memory twice for writing
+  abbrev twice : ℕ → Bool
+  twice m = reserves_twice m (flat p).stmts
+
   few : length (flat p).stages ≤ 64
   few = few_stages p kept
 
@@ -41,13 +46,15 @@ module _ (source : List ℕ) (p : Pipe) (n : Netlist) (t : IsText source p) (kep
       omega (arith, k, delayed, comb, all, both, ap length f.mems)
 
   port_words : Each (λ (q : WavePort). IsShortWord 64 q.name) (wave_ports n)
-  port_words = wave_words n.ports _ f.ports (pipe_words (length (flat p).stages) p.mems few (named_by p.mems n.mems f.mems (names_written source p n t f).mems))
+  port_words =
+      wave_words n.ports _ f.ports
+      (pipe_words (length (flat p).stages) twice p.mems few (named_by p.mems n.mems f.mems (names_written source p n t f).mems))
 
   own_name : IsShortWord 32 n.name
   own_name = name_word n.name (names_written source p n t f).netlist
 
-  few_ports : length (wave_ports n) ≤ 242
-  few_ports = let a = wave_count n.ports _ f.ports in let b = pipe_count (length (flat p).stages) p.mems few mems in omega (arith, a, b)
+  few_ports : length (wave_ports n) ≤ 290
+  few_ports = let a = wave_count n.ports _ f.ports in let b = pipe_count (length (flat p).stages) twice p.mems few mems in omega (arith, a, b)
 
   -- the netlist can be dumped: its names are short, and its ports few
   pub dumpable : CanBeDumped n

@@ -6,7 +6,8 @@ ghost use Rattle.pdl_pipe_lives.specs.Needs.{AreNeeds};
 use crate::form_rows::{memory, statements};
 use pdl_form::{FlatPipe, FlatStage, NO_BRANCHES, Next};
 use pdl_kit::NoMemory;
-use pdl_pipe_lives::{Needs, held_from, keeps_ticket};
+use pdl_law_parts::Mark;
+use pdl_pipe_lives::{Needs, keeps_ticket, mark_from};
 use std::alloc::Global;
 use std::mem::drop;
 
@@ -40,8 +41,8 @@ fn writer(alloc: Global) -> Result<FlatPipe, NoMemory>
     FlatPipe::new(alloc, widths, mems, stmts, stages, start)
 }
 
-// Whether the address is needed in each stage, whether its lock is held in the second, and whether each keeps its ticket.
-fn needed(flat: &FlatPipe, needs: &Needs) -> [bool; 5]
+// Whether the address is needed in each stage, whether each mark of its location is in the second, and whether each keeps its ticket.
+fn needed(flat: &FlatPipe, needs: &Needs) -> [bool; 6]
     requires needs { AreNeeds (form flat.now) needs.now }
     requires widths { length (form flat.now).widths ≡ 1 }
     requires mems { length (form flat.now).pipe.mems ≡ 1 }
@@ -52,7 +53,8 @@ fn needed(flat: &FlatPipe, needs: &Needs) -> [bool; 5]
     [
         needs.lives_from(flat, 0, 0),
         needs.lives_from(flat, 1, 0),
-        held_from(flat, 1, 0, 0),
+        mark_from(flat, 1, Mark::Held, 0, 0),
+        mark_from(flat, 1, Mark::Late, 0, 0),
         keeps_ticket(flat, 0, 0),
         keeps_ticket(flat, 1, 0),
     ]
@@ -64,6 +66,6 @@ fn needs(rt: HostRuntime) -> Result<(), NoMemory> {
     let needs = Needs::new(rt.alloc(), &flat)?;
     let needed = needed(&flat, &needs);
     drop(flat);
-    assert!(rt; needed == [true, false, true, false, true]);
+    assert!(rt; needed == [true, false, true, true, false, true]);
     Ok(())
 }

@@ -34,11 +34,14 @@ fn put_outputs(alloc: Global, ports: &mut Seq<Port>) -> Result<(), NoMemory>
     output(alloc, ports, b"c_m", 1, Net::Cell(3))?;
     output(alloc, ports, b"ca_m", 1, Net::Cell(5))?;
     output(alloc, ports, b"cd_m", 4, Net::Cell(7))?;
+    output(alloc, ports, b"c2_m", 1, Net::Cell(8))?;
+    output(alloc, ports, b"ca2_m", 1, Net::Cell(5))?;
+    output(alloc, ports, b"cd2_m", 4, Net::Cell(9))?;
     output(alloc, ports, b"ended", 1, Net::Cell(0))?;
     output(alloc, ports, b"squash", 1, Net::Cell(4))
 }
 
-// Its array, with one write port.
+// Its array, with two write ports.
 fn put_array(alloc: Global, arrays: &mut Seq<Array>) -> Result<(), NoMemory>
     requires { arrays.old ≡ [] }
     ensures { OnOk result (arrays.new ≡ sample.arrays) }
@@ -48,8 +51,13 @@ fn put_array(alloc: Global, arrays: &mut Seq<Array>) -> Result<(), NoMemory>
         addr: Net::Cell(5),
         value: Net::Cell(7),
     };
+    let later = WritePort {
+        enable: Net::Cell(8),
+        addr: Net::Cell(5),
+        value: Net::Cell(9),
+    };
     let name = Name::copy_of(alloc, b"m")?;
-    let writes = Seq::copy_of(alloc, &[write])?;
+    let writes = Seq::copy_of(alloc, &[write, later])?;
     let (width, depth) = (4, 2);
     arrays.push(Array {
         name,
@@ -85,6 +93,8 @@ fn cells(alloc: Global) -> Result<Seq<Cell>, NoMemory>
                 addr: Net::Cell(5),
             },
             Cell::Bin(BinOp::Add, Net::Cell(6), odd),
+            Cell::Bin(BinOp::And, Net::Cell(3), Net::Cell(5)),
+            Cell::Bin(BinOp::Add, Net::Cell(7), Net::Cell(1)),
         ],
     )
 }
@@ -136,25 +146,27 @@ fn counter(alloc: Global) -> Result<Netlist, NoMemory>
     Ok(net)
 }
 
-// Whether each cycle shows its sum, and commits it where the count is odd.
+// Whether each cycle shows its sum, and commits it where the count is odd; of two commits to one address the second holds.
 #[tactic(auto, using(pdl_netrun::proofs::Sample::samples))]
 fn shows_sums(sim: &mut Sim<'_>) -> bool
     requires { sim.old.netlist ≡ sample }
 {
     let is_still = (sim.port(0) == 0) & (sim.port(4) == 0);
-    let mut agrees = is_still & sim.commit(0).is_none() & !sim.waited();
-    for (sum, commit) in [
-        (6, Some((0, 6))),
-        (11, None),
-        (12, Some((1, 12))),
-        (10, None),
-        (11, Some((0, 11))),
-        (2, None),
-        (3, Some((1, 3))),
+    let is_silent = sim.commit(0).is_none() & sim.commit2(0).is_none();
+    let mut agrees = is_still & is_silent & !sim.waited();
+    for (sum, commit, second) in [
+        (6, Some((0, 6)), None),
+        (11, None, None),
+        (12, Some((1, 12)), Some((1, 13))),
+        (10, None, None),
+        (11, Some((0, 11)), None),
+        (3, None, None),
+        (4, Some((1, 4)), Some((1, 5))),
     ] {
         sim.cycle(0);
         let is_shown = (sim.port(0) == 1) & (sim.port(4) == sum);
-        agrees = agrees & is_shown & (sim.commit(0) == commit) & !sim.waited();
+        let is_committed = (sim.commit(0) == commit) & (sim.commit2(0) == second);
+        agrees = agrees & is_shown & is_committed & !sim.waited();
     }
     agrees
 }

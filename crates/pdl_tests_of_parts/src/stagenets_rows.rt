@@ -8,6 +8,7 @@ ghost use Rattle.pdl_pipe_walk.specs.Sized.{IsWalkOf, AreWalked};
 use pdl_build::Builder;
 use pdl_form::{FlatPipe, FlatStage, FlatStmt, NO_BRANCHES, Next, Op};
 use pdl_kit::{NoMemory, Seq};
+use pdl_law_parts::Mark;
 use pdl_pipe_exprs::Bits;
 use pdl_pipe_walk::{Setting, WalkNets};
 use pdl_queue::QueueLock;
@@ -88,7 +89,7 @@ fn begun(alloc: Global, b: &Builder, bits: Bits, pipe: &FlatPipe) -> WalkNets
     let _regs = b.reg_count();
     WalkNets {
         vars: Vec::new(alloc),
-        held: Vec::new(alloc),
+        marks: Vec::new(alloc),
         ready: bits.one,
         reserves: Seq::new(alloc),
         puts: Seq::new(alloc),
@@ -101,8 +102,8 @@ fn begun(alloc: Global, b: &Builder, bits: Bits, pipe: &FlatPipe) -> WalkNets
     }
 }
 
-// Whether nothing is held there, and its walk makes the call alone.
-#[tactic(auto, using(pdl_pipe_walk::proofs::BarePipes::no_locks, pdl_pipe_walk::proofs::BarePipes::no_tickets))]
+// Whether no location is held there, and its walk makes the call alone.
+#[tactic(auto, using(pdl_pipe_walk::proofs::BarePipes::no_locks, pdl_pipe_walk::proofs::BarePipes::no_tickets, pdl_pipe_walk::proofs::BarePipes::no_flags))]
 fn is_called(alloc: Global, b: &mut Builder, flat: &FlatPipe) -> Result<bool, NoMemory>
     requires walked { AreWalked (form flat.now) (form flat.now).pipe.stmts }
     requires widths { (form flat.now).widths ≡ [] }
@@ -111,11 +112,12 @@ fn is_called(alloc: Global, b: &mut Builder, flat: &FlatPipe) -> Result<bool, No
 {
     let bits = Bits::new(b)?;
     let mut nets = begun(alloc, b, bits, flat);
-    let held = nets.is_held(b, bits, 0, 0);
+    let held = nets.is_marked(b, bits, Mark::Held, 0, 0);
     let setting: Setting<'_, QueueLock> = Setting {
         pipe: flat,
         bits,
         locks: &[],
+        twice: &[],
         tickets: &[],
     };
     nets.walk(alloc, b, &setting, 0)?;
@@ -124,7 +126,7 @@ fn is_called(alloc: Global, b: &mut Builder, flat: &FlatPipe) -> Result<bool, No
 }
 
 // Whether its walk calls twice, fails nowhere, and waits at a barrier.
-#[tactic(auto, using(pdl_pipe_walk::proofs::BarePipes::no_locks, pdl_pipe_walk::proofs::BarePipes::no_tickets))]
+#[tactic(auto, using(pdl_pipe_walk::proofs::BarePipes::no_locks, pdl_pipe_walk::proofs::BarePipes::no_tickets, pdl_pipe_walk::proofs::BarePipes::no_flags))]
 fn is_guessed(alloc: Global, b: &mut Builder, flat: &FlatPipe) -> Result<bool, NoMemory>
     requires walked { AreWalked (form flat.now) (form flat.now).pipe.stmts }
     requires widths { (form flat.now).widths ≡ [] }
@@ -137,6 +139,7 @@ fn is_guessed(alloc: Global, b: &mut Builder, flat: &FlatPipe) -> Result<bool, N
         pipe: flat,
         bits,
         locks: &[],
+        twice: &[],
         tickets: &[],
     };
     nets.walk(alloc, b, &setting, 0)?;

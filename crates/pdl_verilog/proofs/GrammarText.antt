@@ -104,7 +104,10 @@ module _ (n : Netlist) (h : IsWellFormed n) (names : HasNames n) (few_regs : len
       (each_unmapped IsInfoName info_of n.arrays (each_back IsInfoName (map delayed_info delayed) (map info_of n.arrays) infos_named))
 
   kept_named : (m : PortMem) → IsKept delayed n.arrays m → IsMemName m
-  kept_named m (inl k) = subst IsMemName k.2 (all_from_each IsMemName delayed delayed_named k.0 m k.1)
+  kept_named m (inl k) =
+      subst (λ z. is_name z ≡ true) k.2
+      (all_from_each (λ z. is_name z ≡ true) (map (λ (d : PortMem). d.name) delayed)
+      (each_mapped (λ z. is_name z ≡ true) (λ (d : PortMem). d.name) delayed delayed_named) k.0 m.name k.1)
   kept_named m (inr k) =
       subst (λ z. is_name z ≡ true) k.2
       (all_from_each (λ z. is_name z ≡ true) (map (λ (a : Array). a.name) n.arrays)

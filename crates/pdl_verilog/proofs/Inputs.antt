@@ -1,5 +1,5 @@
 -- Which inputs the names of a netlist's ports stand for, and how they begin.
-use Rattle.std.proofs.Common.{◌≡◌, ◌≢◌, ℕ, zero, suc, ◌+◌, ◌<◌, true, cond, List, [], ◌∷◌, ◌++◌, length, map, flat_map, filter_map, get_or, codes, Option, Some, None, All, refl, sym, ap, ◌∙◌, subst, arith}
+use Rattle.std.proofs.Common.{◌≡◌, ◌≢◌, ℕ, zero, suc, ◌+◌, ◌<◌, Bool, true, false, cond, if◌then◌else◌, List, [], ◌∷◌, ◌++◌, length, map, flat_map, filter_map, get_or, codes, Option, Some, None, All, refl, sym, ap, ◌∙◌, subst, arith}
 use Rattle.std.specs.List.{AllPairs, cons_option, range_with_len}
 use Rattle.pdl_net.specs.declared.Net.{Net}
 use Rattle.pdl_net.specs.declared.Net.TheVariants.{Input}
@@ -8,7 +8,7 @@ use Rattle.pdl_net.specs.declared.Dir.TheVariants.{In, Out}
 use Rattle.pdl_net.specs.declared.Port.{Port}
 use Rattle.pdl_net.specs.declared.Netlist.{Netlist}
 use Rattle.pdl_net.specs.Circuit.{input_with, port_input}
-use Rattle.pdl_net.specs.Pipe.{Head, PortMem, head_of, is_input, output, reply_ports, stage_ports, commit_ports, request_ports, pipe_ports, IsPipe}
+use Rattle.pdl_net.specs.Pipe.{Head, PortMem, head_of, is_input, output, reply_ports, stage_ports, first_ports, second_ports, commit_ports, request_ports, pipe_ports, IsPipe}
 use Rattle.pdl_vread_text.specs.declared.file.PortDecl.{PortDecl}
 use Rattle.pdl_vlog.specs.Layout.{input_name, input_names}
 use Rattle.pdl_vread_nets.specs.Wired.{place, shifted, port_nets, net_at}
@@ -89,6 +89,14 @@ each_flat P f h (x ∷ xs) = each_append P (f x) (flat_map f xs) (h x) (each_fla
 abbrev IsMarked : Head → Type 0
 IsMarked h = h.input ≡ true → Begins 112 h.name
 
+commit_marked : (m : PortMem) → Each IsMarked (commit_ports m)
+commit_marked m =
+    let P : Bool → Type 0 = λ b. Each IsMarked (first_ports m ++ (if b then second_ports m else [])) in
+    elim m.twice as P [
+      | true ↦ ((λ e. untrue e), ((λ e. untrue e), ((λ e. untrue e), ((λ e. untrue e), ((λ e. untrue e), ((λ e. untrue e), tt))))))
+      | false ↦ ((λ e. untrue e), ((λ e. untrue e), ((λ e. untrue e), tt)))
+    ]
+
 pipe_marked : (s : ℕ) (d l : List PortMem) → Each IsMarked (pipe_ports s d l)
 pipe_marked s d l =
     let a = flat_map reply_ports d in
@@ -98,7 +106,7 @@ pipe_marked s d l =
     let last = output (codes "ended") 1 ∷ output (codes "squash") 1 ∷ [] in
     let ha : Each IsMarked a = each_flat IsMarked reply_ports (λ m. ((λ e. refl), ((λ e. refl), tt))) d in
     let hb : Each IsMarked b = each_flat IsMarked stage_ports (λ k. ((λ e. untrue e), ((λ e. untrue e), tt))) (range_with_len 0 s) in
-    let hc : Each IsMarked c = each_flat IsMarked commit_ports (λ m. ((λ e. untrue e), ((λ e. untrue e), ((λ e. untrue e), tt)))) l in
+    let hc : Each IsMarked c = each_flat IsMarked commit_ports commit_marked l in
     let hr : Each IsMarked r = each_flat IsMarked request_ports (λ m. ((λ e. untrue e), ((λ e. untrue e), tt))) d in
     let hl : Each IsMarked last = ((λ e. untrue e), ((λ e. untrue e), tt)) in
     each_append IsMarked (((a ++ b) ++ c) ++ r) last

@@ -1,10 +1,11 @@
 -- The names of a pipe's ports are those that a text may have.
-use Rattle.std.proofs.Common.{◌≡◌, ℕ, zero, suc, ◌+◌, ◌<◌, ◌≤◌, true, ◌||◌, List, [], ◌∷◌, ◌++◌, length, get_or, codes, decimal, bytes_eq, refl, arith}
-use Rattle.std.specs.List.{range_with_len}
+use Rattle.std.proofs.Common.{◌≡◌, ℕ, zero, suc, ◌+◌, ◌<◌, ◌≤◌, Bool, true, false, ◌||◌, if◌then◌else◌, List, [], ◌∷◌, ◌++◌, length, get_or, codes, decimal, bytes_eq, refl, arith}
+use Rattle.std.specs.List.{list_all, range_with_len}
 use Rattle.std.proofs.lemmas.Bool.{and_from, or_left, or_right, le-leb}
 use Rattle.std.proofs.lemmas.Fmt.{length-decimal-le}
-use Rattle.pdl_net.specs.Pipe.{Head, PortMem, input, output, reply_ports, stage_ports, commit_ports, request_ports, pipe_ports}
-use Rattle.pdl_vread_text.specs.Words.{is_name, is_named, is_counted, is_stage_port, is_input, is_memory_output, is_port, are_decimals}
+use Rattle.pdl_net.specs.Pipe.{Head, PortMem, input, output, reply_ports, stage_ports, first_ports, second_ports, commit_ports, request_ports, pipe_ports}
+use Rattle.pdl_vread_text.specs.Tokens.{is_word}
+use Rattle.pdl_vread_text.specs.Words.{is_name, is_named, is_counted, is_stage_port, is_input, is_commit_output, is_memory_output, is_port, are_decimals}
 use Rattle.pdl_verilog.proofs.Numbers.{decimals_are}
 use Rattle.pdl_verilog.proofs.WordTokens.{IsWordText}
 use Rattle.pdl_verilog.proofs.Names.{IsOperandText, decimal_word, name_word, after_prefix, p_text, pd_text}
@@ -56,28 +57,32 @@ squash_port : is_port (codes "squash") ≡ true
 unfolding is_port
 squash_port = refl
 
-c_port : (t : List ℕ) → is_named (codes "c_") t ≡ true → is_memory_output t ≡ true
-c_port t h =
-    or_left _ (is_named (codes "qa_") t)
-    (or_left _ (is_named (codes "q_") t) (or_left _ (is_named (codes "cd_") t) (or_left (is_named (codes "c_") t) (is_named (codes "ca_") t) h)))
+commit_port : (t : List ℕ) → is_commit_output t ≡ true → is_memory_output t ≡ true
+commit_port t h = or_left _ (is_named (codes "qa_") t) (or_left (is_commit_output t) (is_named (codes "q_") t) h)
 
-ca_port : (t : List ℕ) → is_named (codes "ca_") t ≡ true → is_memory_output t ≡ true
-ca_port t h =
-    or_left _ (is_named (codes "qa_") t)
-    (or_left _ (is_named (codes "q_") t) (or_left _ (is_named (codes "cd_") t) (or_right (is_named (codes "c_") t) (is_named (codes "ca_") t) h)))
+c_port : (t : List ℕ) → is_named (codes "c_") t ≡ true → is_commit_output t ≡ true
+c_port t h = or_left _ _ (or_left _ _ (or_left _ _ (or_left _ _ (or_left (is_named (codes "c_") t) (is_named (codes "ca_") t) h))))
 
-cd_port : (t : List ℕ) → is_named (codes "cd_") t ≡ true → is_memory_output t ≡ true
-cd_port t h =
-    or_left _ (is_named (codes "qa_") t)
-    (or_left _ (is_named (codes "q_") t) (or_right (is_named (codes "c_") t || is_named (codes "ca_") t) (is_named (codes "cd_") t) h))
+ca_port : (t : List ℕ) → is_named (codes "ca_") t ≡ true → is_commit_output t ≡ true
+ca_port t h = or_left _ _ (or_left _ _ (or_left _ _ (or_left _ _ (or_right (is_named (codes "c_") t) (is_named (codes "ca_") t) h))))
+
+cd_port : (t : List ℕ) → is_named (codes "cd_") t ≡ true → is_commit_output t ≡ true
+cd_port t h = or_left _ _ (or_left _ _ (or_left _ _ (or_right _ (is_named (codes "cd_") t) h)))
+
+c2_port : (t : List ℕ) → is_named (codes "c2_") t ≡ true → is_commit_output t ≡ true
+c2_port t h = or_left _ _ (or_left _ _ (or_right _ (is_named (codes "c2_") t) h))
+
+ca2_port : (t : List ℕ) → is_named (codes "ca2_") t ≡ true → is_commit_output t ≡ true
+ca2_port t h = or_left _ _ (or_right _ (is_named (codes "ca2_") t) h)
+
+cd2_port : (t : List ℕ) → is_named (codes "cd2_") t ≡ true → is_commit_output t ≡ true
+cd2_port t h = or_right _ (is_named (codes "cd2_") t) h
 
 q_port : (t : List ℕ) → is_named (codes "q_") t ≡ true → is_memory_output t ≡ true
-q_port t h =
-    or_left _ (is_named (codes "qa_") t)
-    (or_right (is_named (codes "c_") t || is_named (codes "ca_") t || is_named (codes "cd_") t) (is_named (codes "q_") t) h)
+q_port t h = or_left _ (is_named (codes "qa_") t) (or_right (is_commit_output t) (is_named (codes "q_") t) h)
 
 qa_port : (t : List ℕ) → is_named (codes "qa_") t ≡ true → is_memory_output t ≡ true
-qa_port t h = or_right (is_named (codes "c_") t || is_named (codes "ca_") t || is_named (codes "cd_") t || is_named (codes "q_") t) (is_named (codes "qa_") t) h
+qa_port t h = or_right (is_commit_output t || is_named (codes "q_") t) (is_named (codes "qa_") t) h
 
 -- ---- the ports of a pipe
 
@@ -112,16 +117,22 @@ reply_texts m h =
     } in
     (one, (two, tt))
 
+-- an output of what a memory commits
+commit_text : (prefix x : List ℕ) (w : ℕ) → list_all is_word prefix ≡ true → is_name x ≡ true
+    → is_commit_output (prefix ++ x) ≡ true → IsHeadText (output (prefix ++ x) w)
+commit_text prefix x w p h named = output_text prefix x w (after_prefix prefix x p (name_word x h)) (commit_port (prefix ++ x) named)
+
 commit_texts : (m : PortMem) → IsMemName m → Each IsHeadText (commit_ports m)
 commit_texts m h =
     let x = m.name in
-    let w = name_word x h in (
-      output_text (codes "c_") x 1 (after_prefix (codes "c_") x refl w) (c_port (codes "c_" ++ x) h),
-      (
-        output_text (codes "ca_") x m.bits (after_prefix (codes "ca_") x refl w) (ca_port (codes "ca_" ++ x) h),
-        (output_text (codes "cd_") x m.width (after_prefix (codes "cd_") x refl w) (cd_port (codes "cd_" ++ x) h), tt),
-      ),
-    )
+    let c = commit_text (codes "c_") x 1 refl h (c_port (codes "c_" ++ x) h) in
+    let ca = commit_text (codes "ca_") x m.bits refl h (ca_port (codes "ca_" ++ x) h) in
+    let cd = commit_text (codes "cd_") x m.width refl h (cd_port (codes "cd_" ++ x) h) in
+    let c2 = commit_text (codes "c2_") x 1 refl h (c2_port (codes "c2_" ++ x) h) in
+    let ca2 = commit_text (codes "ca2_") x m.bits refl h (ca2_port (codes "ca2_" ++ x) h) in
+    let cd2 = commit_text (codes "cd2_") x m.width refl h (cd2_port (codes "cd2_" ++ x) h) in
+    let P : Bool → Type 0 = λ b. Each IsHeadText (first_ports m ++ (if b then second_ports m else [])) in
+    elim m.twice as P [ true ↦ (c, (ca, (cd, (c2, (ca2, (cd2, tt)))))) | false ↦ (c, (ca, (cd, tt))) ]
 
 request_texts : (m : PortMem) → IsMemName m → Each IsHeadText (request_ports m)
 request_texts m h =

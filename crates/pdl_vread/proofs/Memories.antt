@@ -125,7 +125,7 @@ module _ (n : Netlist) (h : IsWellFormed n) where
   none_shared = λ i d l j e m q.
       let o = length-map delayed (λ (m : PortMem). m.name) in
       let p = length-map n.arrays (λ (a : Array). a.name) in
-      let mem : PortMem = record { name = []; width = 0; bits = 0 } in
+      let mem : PortMem = record { name = []; width = 0; bits = 0; twice = false } in
       let a : i < length delayed = omega arith in
       let b : j < length n.arrays = omega arith in
       (h.pipe.arrays j no_array b).inside i mem a
@@ -137,7 +137,7 @@ module _ (n : Netlist) (h : IsWellFormed n) where
       let front = delayed_names delayed later (subst (NamesDiffer (λ (p : Head). p.name)) ports_split ports_differ) in
       let fronts : AllPairs (λ a b. a ≢ b) (map (λ (m : PortMem). m.name) delayed) = λ i j d l m q.
       let o = length-map delayed (λ (m : PortMem). m.name) in
-      let mem : PortMem = record { name = []; width = 0; bits = 0 } in
+      let mem : PortMem = record { name = []; width = 0; bits = 0; twice = false } in
       let a : i < length delayed = omega arith in
       let b : j < length delayed = omega arith in
       front i j mem l b (sym (get_mapped (λ (m : PortMem). m.name) delayed i d mem a) ∙ (q ∙ get_mapped (λ (m : PortMem). m.name) delayed j d mem b)) in

@@ -1,8 +1,9 @@
 -- A netlist is a pipe's exactly where the tests pass.
-use Rattle.std.proofs.Common.{◌≡◌, ◌≢◌, ◌⊎◌, inl, inr, ℕ, ◌+◌, ◌*◌, ◌^◌, ◌<◌, ◌≤◌, Bool, true, false, not, ◌&&◌, ◌||◌, cond, eqb, leb, List, [], ◌∷◌, length, get_or, map, Some, None, All, Contains, bytes_eq, refl, sym, ap, ◌∙◌, subst, arith, length-append}
-use Rattle.std.specs.List.{list_all, list_any}
+use Rattle.std.proofs.Common.{◌≡◌, ◌≢◌, ◌⊎◌, inl, inr, ℕ, ◌+◌, ◌*◌, ◌^◌, ◌<◌, ◌≤◌, Bool, true, false, not, ◌&&◌, ◌||◌, cond, eqb, leb, List, [], ◌∷◌, ◌++◌, length, get_or, map, flat_map, Some, None, All, Contains, bytes_eq, refl, sym, ap, ap₂, ◌∙◌, subst, arith, length-append}
+use Rattle.std.specs.List.{list_all, list_any, range_with_len}
 use Rattle.std.proofs.lemmas.Bool.{and_parts, and_from, or_cases, or_left, or_right, leb-true, le-leb, eqb-true, eq-eqb, not-true, not_from_false, true≢false, false_from_ne_true, cond_both}
 use Rattle.std.proofs.lemmas.List.{get_or_default, get_or-map, length-map}
+use Rattle.std.proofs.lemmas.List.Elements.{All-map}
 use Rattle.std.proofs.lemmas.List.Sums.{AllPass-from_list_all, list_all-from_AllPass}
 use Rattle.std.proofs.lemmas.List.Folds.{Any-from_list_any, list_any-from_Any, list_any_none}
 use Rattle.pdl_kit.specs.declared.mem_info.MemInfo.{MemInfo}
@@ -10,13 +11,13 @@ use Rattle.pdl_net.specs.declared.Array.{Array}
 use Rattle.pdl_net.specs.declared.WritePort.{WritePort}
 use Rattle.pdl_net.specs.declared.Netlist.{Netlist}
 use Rattle.pdl_net.specs.Circuit.{no_array}
-use Rattle.pdl_net.specs.Pipe.{Head, PortMem, pipe_ports, IsAddress, IsPipeArray, IsKept, IsPipe, mems_of, delayed_info, comb_info}
+use Rattle.pdl_net.specs.Pipe.{Head, PortMem, reply_ports, stage_ports, commit_ports, request_ports, pipe_ports, IsAddress, IsPipeArray, IsKept, IsPipe, mems_of, delayed_info, comb_info}
 use Rattle.pdl_vread_pipe.specs.declared.shape.Shape.{Shape}
 use Rattle.pdl_vread_pipe.specs.ToldParts.{told, with_mems}
 use Rattle.pdl_vread_pipe.specs.ExpectedPorts.{heads, same, after}
 use Rattle.pdl_vread_pipe.specs.Tests as spec
 use Rattle.pdl_vread_pipe.specs.Tests.{judged}
-use Rattle.pdl_vread_pipe.proofs.PipePorts.{told_of}
+use Rattle.pdl_vread_pipe.proofs.PipePorts.{once, told_of}
 use Rattle.pdl_word.proofs.Bytes.{same_bytes, bytes_same}
 
 -- ---- names
@@ -81,25 +82,25 @@ address_is m h = let a = and_parts (leb 1 m.bits) (leb m.bits 16) h in record { 
 is_address : (m : PortMem) → IsAddress m → spec.has_address m ≡ true
 is_address m a = and_from _ _ (le-leb 1 m.bits a.low) (le-leb m.bits 16 a.high)
 
-sizes_are : (d l : PortMem) → d.name ≡ l.name → spec.same_sizes d l ≡ true → d ≡ l
-sizes_are d l e h =
-    let make : List ℕ → ℕ → ℕ → PortMem = λ n w b. record { name = n; width = w; bits = b } in
-    let a = and_parts (eqb d.width l.width) (eqb d.bits l.bits) h in
-    ap (λ n. make n d.width d.bits) e
-    ∙ (ap (λ w. make l.name w d.bits) (eqb-true d.width l.width a.0) ∙ ap (λ b. make l.name l.width b) (eqb-true d.bits l.bits a.1))
+-- the sizes are the same
+abbrev HaveSameSizes : PortMem → PortMem → Type 0
+HaveSameSizes d l = (d.width ≡ l.width) × (d.bits ≡ l.bits)
 
-sizes_same : (d l : PortMem) → d ≡ l → spec.same_sizes d l ≡ true
-sizes_same d l e = and_from _ _ (eq-eqb d.width l.width (ap (λ m. m.width) e)) (eq-eqb d.bits l.bits (ap (λ m. m.bits) e))
+sizes_are : (d l : PortMem) → spec.same_sizes d l ≡ true → HaveSameSizes d l
+sizes_are d l h = let a = and_parts (eqb d.width l.width) (eqb d.bits l.bits) h in (eqb-true d.width l.width a.0, eqb-true d.bits l.bits a.1)
+
+sizes_same : (d l : PortMem) → HaveSameSizes d l → spec.same_sizes d l ≡ true
+sizes_same d l e = and_from _ _ (eq-eqb d.width l.width e.0) (eq-eqb d.bits l.bits e.1)
 
 agree_is : (delayed locked : List PortMem)
     → list_all (spec.all_agree locked) delayed ≡ true → (d l : PortMem) → Contains delayed d → Contains locked l
-    → d.name ≡ l.name → d ≡ l
+    → d.name ≡ l.name → HaveSameSizes d l
 agree_is delayed locked h d l c k e =
     let a : spec.agrees d l ≡ true = at_element (spec.agrees d) locked l (at_element (spec.all_agree locked) delayed d h c) k in
-    sizes_are d l e (ap (λ b. cond b (spec.same_sizes d l) true) (sym (same_bytes d.name l.name e)) ∙ a)
+    sizes_are d l (ap (λ b. cond b (spec.same_sizes d l) true) (sym (same_bytes d.name l.name e)) ∙ a)
 
 is_agree : (delayed locked : List PortMem)
-    → ((d l : PortMem) → Contains delayed d → Contains locked l → d.name ≡ l.name → d ≡ l)
+    → ((d l : PortMem) → Contains delayed d → Contains locked l → d.name ≡ l.name → HaveSameSizes d l)
     → list_all (spec.all_agree locked) delayed ≡ true
 is_agree delayed locked h =
     each_element (spec.all_agree locked) delayed
@@ -190,44 +191,101 @@ is_array delayed locked a p =
 
 -- ---- what is kept
 
-found_mem : (delayed : List PortMem) (m : PortMem) → list_any (spec.same_mem m) delayed ≡ true → Contains delayed m
-found_mem delayed m h =
-    let a = Any-from_list_any (spec.same_mem m) delayed h in
-    let d = a.1 in
-    let p = and_parts (bytes_eq d.name m.name) (spec.same_sizes d m) a.4 in
-    let e : d ≡ m = sizes_are d m (bytes_same d.name m.name p.0) p.1 in
-    (a.0, a.2, get_or_default delayed a.0 m d a.2 ∙ (a.3 ∙ e))
+module _ {X : Type 0} (name : X → List ℕ) where
+  abbrev has : List ℕ → X → Bool
+  has x y = bytes_eq (name y) x
 
-mem_found : (delayed : List PortMem) (m : PortMem) → Contains delayed m → list_any (spec.same_mem m) delayed ≡ true
-mem_found delayed m c = list_any-from_Any (spec.same_mem m) delayed (c.0, m, c.1, c.2, and_from _ _ (same_bytes m.name m.name refl) (sizes_same m m refl))
+  found_name : (xs : List X) (x : List ℕ) → list_any (has x) xs ≡ true → Contains (map name xs) x
+  found_name xs x h =
+      let a = Any-from_list_any (has x) xs h in
+      let n = length-map xs name in
+      (a.0, omega (arith, n, a.2), get_or-map name xs a.0 a.1 x a.2 ∙ (ap name a.3 ∙ bytes_same (name a.1) x a.4))
 
-abbrev has : List ℕ → Array → Bool
-has x a = bytes_eq a.name x
+  name_found : (d : X) (xs : List X) (x : List ℕ) → Contains (map name xs) x → list_any (has x) xs ≡ true
+  name_found d xs x c =
+      let n = length-map xs name in
+      let l : c.0 < length xs = omega (arith, n, c.1) in
+      let y = get_or xs c.0 d in
+      let e : name y ≡ x = sym (get_or-map name xs c.0 d x l) ∙ c.2 in
+      list_any-from_Any (has x) xs (c.0, y, l, get_or_default xs c.0 y d l, same_bytes (name y) x e)
 
-found_array : (arrays : List Array) (x : List ℕ) → list_any (has x) arrays ≡ true → Contains (map (λ a. a.name) arrays) x
-found_array arrays x h =
-    let a = Any-from_list_any (has x) arrays h in
-    let n = length-map arrays (λ (y : Array). y.name) in
-    (a.0, omega (arith, n, a.2), get_or-map (λ (y : Array). y.name) arrays a.0 a.1 x a.2 ∙ (ap (λ (y : Array). y.name) a.3 ∙ bytes_same a.1.name x a.4))
-
-array_found : (arrays : List Array) (x : List ℕ) → Contains (map (λ a. a.name) arrays) x → list_any (has x) arrays ≡ true
-array_found arrays x c =
-    let n = length-map arrays (λ (y : Array). y.name) in
-    let l : c.0 < length arrays = omega (arith, n, c.1) in
-    let a = get_or arrays c.0 no_array in
-    let e : a.name ≡ x = sym (get_or-map (λ (y : Array). y.name) arrays c.0 no_array x l) ∙ c.2 in
-    list_any-from_Any (has x) arrays (c.0, a, l, get_or_default arrays c.0 a no_array l, same_bytes a.name x e)
+abbrev no_mem : PortMem
+no_mem = record { name = []; width = 0; bits = 0; twice = false }
 
 kept_is : (delayed : List PortMem) (arrays : List Array) (m : PortMem) → spec.is_kept delayed arrays m ≡ true → IsKept delayed arrays m
-kept_is delayed arrays m h = go (or_cases (list_any (spec.same_mem m) delayed) (list_any (has m.name) arrays) h)
+kept_is delayed arrays m h = go (or_cases (list_any (spec.is_named m.name) delayed) (list_any (has (λ (a : Array). a.name) m.name) arrays) h)
   where
-    go : (list_any (spec.same_mem m) delayed ≡ true) ⊎ (list_any (has m.name) arrays ≡ true) → IsKept delayed arrays m
-    go (inl e) = inl (found_mem delayed m e)
-    go (inr e) = inr (found_array arrays m.name e)
+    go : (list_any (spec.is_named m.name) delayed ≡ true) ⊎ (list_any (has (λ (a : Array). a.name) m.name) arrays ≡ true) → IsKept delayed arrays m
+    go (inl e) = inl (found_name (λ (d : PortMem). d.name) delayed m.name e)
+    go (inr e) = inr (found_name (λ (a : Array). a.name) arrays m.name e)
 
 is_kept : (delayed : List PortMem) (arrays : List Array) (m : PortMem) → IsKept delayed arrays m → spec.is_kept delayed arrays m ≡ true
-is_kept delayed arrays m (inl c) = or_left _ _ (mem_found delayed m c)
-is_kept delayed arrays m (inr c) = or_right _ _ (array_found arrays m.name c)
+is_kept delayed arrays m (inl c) = or_left _ _ (name_found (λ (d : PortMem). d.name) no_mem delayed m.name c)
+is_kept delayed arrays m (inr c) = or_right _ _ (name_found (λ (a : Array). a.name) no_array arrays m.name c)
+
+-- ---- what the ports don't tell
+
+-- nothing that a pipe's ports and arrays say depends on whether a cycle may commit two writes of a delayed memory by its own ports
+map_once : {X : Type 0} (f : PortMem → X) → ((m : PortMem) → f (once m) ≡ f m) → (ds : List PortMem) → map f (map once ds) ≡ map f ds
+map_once f same [] = refl
+map_once f same (d ∷ ds) = ap (λ z. z ∷ map f (map once ds)) (same d) ∙ ap (λ z. f d ∷ z) (map_once f same ds)
+
+flat_once : (f : PortMem → List Head) → ((m : PortMem) → f (once m) ≡ f m) → (ds : List PortMem) → flat_map f (map once ds) ≡ flat_map f ds
+flat_once f same [] = refl
+flat_once f same (d ∷ ds) = ap (λ z. z ++ flat_map f (map once ds)) (same d) ∙ ap (λ z. f d ++ z) (flat_once f same ds)
+
+ports_once : (s : ℕ) (d l : List PortMem) → pipe_ports s (map once d) l ≡ pipe_ports s d l
+ports_once s d l =
+    let stages = flat_map stage_ports (range_with_len 0 s) in
+    let commits = flat_map commit_ports l in
+    ap₂ (λ a r. (((a ++ stages) ++ commits) ++ r) ++ spec.last_ports)
+    (flat_once reply_ports (λ m. refl) d) (flat_once request_ports (λ m. refl) d)
+
+-- a memory of a list from one of the same list
+record IsOnce (ds : List PortMem) (d : PortMem) : Type 0 where
+  old : PortMem
+  among : Contains ds old
+  same : once old ≡ d
+
+once_from : (ds : List PortMem) (d : PortMem) → Contains (map once ds) d → IsOnce ds d
+once_from ds d c =
+    let n = length-map ds once in
+    let l : c.0 < length ds = omega (arith, n, c.1) in
+    let m = get_or ds c.0 d in
+    record { old = m; among = (c.0, l, get_or_default ds c.0 m d l); same = sym (get_or-map once ds c.0 d d l) ∙ c.2 }
+
+-- so a pipe's delayed memories may be taken to have no such cycle
+once_pipe : (n : Netlist) → IsPipe n → IsPipe n
+once_pipe n p = record {
+  stages = p.stages;
+  delayed = map once p.delayed;
+  locked = p.locked;
+  few = p.few;
+  many = p.many;
+  ports = p.ports ∙ sym (ports_once p.stages p.delayed p.locked);
+  delayed_addresses =
+      All-map IsAddress once p.delayed (λ k d l. let a = p.delayed_addresses k d l in record { low = a.low; high = a.high });
+  locked_addresses = p.locked_addresses;
+  agree = λ d l c k e.
+      let o = once_from p.delayed d c in
+      let P : PortMem → Type 0 = λ x. x.name ≡ l.name → HaveSameSizes x l in
+      subst P o.same (λ f. p.agree o.old l o.among k f) e;
+  arrays = λ k x h.
+      let a = p.arrays k x h in
+      record {
+        inside = All-map (λ (m : PortMem). m.name ≢ (get_or n.arrays k x).name) once p.delayed a.inside;
+        width = a.width;
+        depth = a.depth;
+        unlocked = a.unlocked;
+      };
+  kept =
+      subst (λ ns. All (λ m. Contains ns m.name ⊎ Contains (map (λ a. a.name) n.arrays) m.name) p.locked)
+      (sym (map_once (λ (m : PortMem). m.name) (λ m. refl) p.delayed)) p.kept;
+  mems =
+      p.mems
+      ∙ ap (λ xs. xs ++ map (λ a. comb_info a (spec.find_named a.name p.locked)) n.arrays) (sym (map_once delayed_info (λ m. refl) p.delayed));
+  count = p.count;
+}
 
 -- ---- all of it
 
@@ -293,12 +351,13 @@ is_pipe_of n ms h = go (spec.is_pipe n (told (heads n.ports))) refl h
 
 -- a netlist that is a pipe's is judged to have its memories
 pub judged_of : (n : Netlist) (ms : List MemInfo) → IsPipe (with_mems n ms) → judged n ≡ Some ms
-unfolding judged
+unfolding judged once_pipe
 judged_of n ms p =
-    let s : Shape = record { stages = p.stages; delayed = p.delayed; locked = p.locked } in
+    let q = once_pipe (with_mems n ms) p in
+    let s : Shape = record { stages = q.stages; delayed = q.delayed; locked = q.locked } in
     let e : told (heads n.ports) ≡ s = ap told p.ports ∙ told_of p.stages p.delayed p.locked in
     let Q : Shape → Type 0 = λ t. cond (spec.is_pipe n t) (Some (mems_of t.delayed t.locked n.arrays)) None ≡ Some ms in
-    let k : Q s = ap (λ b. cond b (Some (mems_of p.delayed p.locked n.arrays)) None) (passes n ms p) ∙ ap Some (sym p.mems) in
+    let k : Q s = ap (λ b. cond b (Some (mems_of q.delayed q.locked n.arrays)) None) (passes n ms q) ∙ ap Some (sym q.mems) in
     subst Q (sym e) k
 
 pub ruleset both_ways = (is_pipe_of, judged_of)

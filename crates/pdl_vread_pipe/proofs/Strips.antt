@@ -1,5 +1,5 @@
 -- Names that begin with a prefix, and ports that begin with expected ones.
-use Rattle.std.proofs.Common.{◌≡◌, ◌≢◌, ℕ, suc, ◌+◌, ◌-◌, ◌<◌, ◌≤◌, Bool, true, false, cond, eqb, List, [], ◌∷◌, ◌++◌, length, take, drop, get_or, flat_map, filter_map, Option, Some, None, refl, sym, ap, ◌∙◌, arith, MatchOption, nat_eq, bytes_eq}
+use Rattle.std.proofs.Common.{◌≡◌, ◌≢◌, ℕ, suc, ◌+◌, ◌-◌, ◌<◌, ◌≤◌, Bool, true, false, cond, if◌then◌else◌, eqb, List, [], ◌∷◌, ◌++◌, length, take, drop, get_or, flat_map, filter_map, Option, Some, None, refl, sym, ap, ◌∙◌, arith, MatchOption, nat_eq, bytes_eq}
 use denote.Ref.{Bor}
 use Rattle.std.specs.Option.{option_copied}
 use Rattle.std.specs.List.{range_with_len}
@@ -10,8 +10,8 @@ use Rattle.std.proofs.lemmas.Bool.Decides.{same_from_decides, Decides-eqb}
 use Rattle.std.specs.Option.{option_map}
 use Rattle.std.proofs.lemmas.List.Elements.{filter_map-append}
 use Rattle.pdl_net.specs.declared.Port.{Port}
-use Rattle.pdl_net.specs.Pipe.{Head, head_of, stage_ports}
-use Rattle.pdl_vread_pipe.specs.ToldParts.{strip, names, widths}
+use Rattle.pdl_net.specs.Pipe.{Head, PortMem, head_of, stage_ports, first_ports, second_ports, commit_ports}
+use Rattle.pdl_vread_pipe.specs.ToldParts.{strip, names, widths, begins_second, second_after, seconds}
 use Rattle.pdl_vread_pipe.specs.ExpectedPorts.{after, same, heads}
 
 strip_of : (p x : List ℕ) → strip p (p ++ x) ≡ Some x
@@ -160,6 +160,25 @@ stage_stop k n hs whole l e h =
 
 pub ruleset all_of_them = (flat_more, flat_stop, flat_end)
 
+-- ---- commits
+
+-- after the ports of its first commit, those of its second are those that are left of all of a memory that may commit twice
+pub commit_twice : (m : PortMem) (hs ls : List Head)
+    → m.twice ≡ true → Some ls ≡ after (first_ports m) hs → after (second_ports m) ls ≡ after (commit_ports m) hs
+commit_twice m hs ls t e =
+    after_both (first_ports m) (second_ports m) hs ls e ∙ ap (λ b. after (first_ports m ++ (if b then second_ports m else [])) hs) (sym t)
+
+-- any other memory has no more
+pub commit_once : (m : PortMem) (hs ls : List Head)
+    → m.twice ≡ false → Some ls ≡ after (first_ports m) hs → Some ls ≡ after (commit_ports m) hs
+commit_once m hs ls t e = after_both (first_ports m) [] hs ls e ∙ ap (λ b. after (first_ports m ++ (if b then second_ports m else [])) hs) (sym t)
+
+-- without the ports of its first commit there are not all of them
+pub commit_stop : (m : PortMem) (hs : List Head) → None ≡ after (first_ports m) hs → None ≡ after (commit_ports m) hs
+commit_stop m hs e = after_stop (first_ports m) (if m.twice then second_ports m else []) hs e
+
+pub ruleset committing = (commit_twice, commit_once, commit_stop)
+
 -- ---- what ports tell
 
 -- with the i-th port the names after a prefix are those of the ports before it, and its own
@@ -177,3 +196,16 @@ pub widths_more : (prefix : List ℕ) (ports : List Port) (i : ℕ) (d : Port)
 widths_more prefix ports i d h =
     let f : Head → Option ℕ = λ x. option_map (λ _. x.width) (strip prefix x.name) in
     ap (filter_map f) (map_more head_of ports i d h) ∙ filter_map-append f (heads (take i ports)) (head_of (get_or ports i d) ∷ [])
+
+-- of fewer than three ports there is no third
+pub third_missing : (ports : List Port) → length ports ≤ 2 → false ≡ begins_second (drop 2 (heads ports))
+third_missing [] h = refl
+third_missing (a ∷ []) h = refl
+third_missing (a ∷ b ∷ []) h = refl
+third_missing (a ∷ b ∷ c ∷ ports) h = absurd (omega (arith, h))
+
+-- what the k-th port tells of a second commit, with what the later ones tell, is what the ports from it on tell
+pub seconds_more : (ports : List Port) (k : ℕ) (d : Port)
+    → k < length ports
+    → seconds (heads (drop k ports)) ≡ second_after (head_of (get_or ports k d)) (heads (drop (k + 1) ports)) ++ seconds (heads (drop (k + 1) ports))
+seconds_more ports k d h = ap (λ ps. seconds (heads ps)) (drop_more ports k d h)

@@ -30,7 +30,7 @@ has_address m = nat_le 1 m.bits && nat_le m.bits 16
 abbrev pub same_sizes : PortMem → PortMem → Bool
 same_sizes d l = d.width == l.width && d.bits == l.bits
 
--- two memories of one name are the same
+-- two memories of one name have the same sizes
 abbrev pub agrees : PortMem → PortMem → Bool
 agrees d l = cond (bytes_eq d.name l.name) (same_sizes d l) true
 
@@ -57,13 +57,9 @@ is_array delayed locked a =
     not (list_any (is_named a.name) delayed)
     && (list_all (fits_lock a) locked && (list_any (is_named a.name) locked || (nat_le a.depth 65536 && is_unwritten a.writes)))
 
--- two memories have the same name and the same sizes
-abbrev pub same_mem : PortMem → PortMem → Bool
-same_mem m d = bytes_eq d.name m.name && same_sizes d m
-
--- a locked memory is delayed or has an array
+-- a locked memory has the name of a delayed one or of an array
 abbrev pub is_kept : List PortMem → List Array → PortMem → Bool
-is_kept delayed arrays m = list_any (same_mem m) delayed || list_any (λ a. bytes_eq a.name m.name) arrays
+is_kept delayed arrays m = list_any (is_named m.name) delayed || list_any (λ a. bytes_eq a.name m.name) arrays
 
 -- no ports are left
 abbrev pub is_over : Option (List Head) → Bool

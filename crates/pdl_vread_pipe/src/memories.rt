@@ -53,7 +53,7 @@ fn same_sizes(one: &PortMem, other: &PortMem) -> bool
     one.width() == other.width() && one.bits() == other.bits()
 }
 
-// Whether each locked memory of a delayed one's name is the same.
+// Whether each locked memory of a delayed one's name has its sizes.
 fn agrees_with_all(delayed: &PortMem, locked: &[PortMem]) -> bool
     ensures { result ≡ spec.all_agree locked.now delayed.now }
 {
@@ -127,18 +127,6 @@ fn are_arrays(shape: &Shape, arrays: &[Array]) -> bool
     true
 }
 
-// Whether a memory is one of these.
-fn is_one_of(mems: &[PortMem], mem: &PortMem) -> bool
-    ensures { result ≡ list_any (spec.same_mem mem.now) mems.now }
-{
-    for other in mems {
-        if other.name() == mem.name() && same_sizes(mem, other) {
-            return true;
-        }
-    }
-    false
-}
-
 // Whether an array has this name.
 fn has_array(arrays: &[Array], name: &Name) -> bool
     ensures { result ≡ list_any (λ a. bytes_eq a.name name.now) arrays.now }
@@ -155,7 +143,7 @@ fn are_kept(shape: &Shape, arrays: &[Array]) -> bool
     ensures { result ≡ list_all (spec.is_kept shape.now.delayed arrays.now) shape.now.locked }
 {
     for mem in shape.locked.as_slice() {
-        if !is_one_of(shape.delayed.as_slice(), mem) && !has_array(arrays, mem.name()) {
+        if !has_name(shape.delayed.as_slice(), mem.name()) && !has_array(arrays, mem.name()) {
             return false;
         }
     }

@@ -3,7 +3,7 @@ ghost use Rattle.std.specs.Prelude.{◌≡◌, ◌++◌, ◌∷◌, [], bytes_eq
 ghost use Rattle.std.specs.List.{range_with_len};
 ghost use Rattle.std.specs.Option.{option_copied, option_map};
 ghost use Rattle.pdl_net.specs.Pipe.{head_of, is_input, pipe_ports, reply_ports, stage_ports, commit_ports, request_ports};
-ghost use Rattle.pdl_vread_pipe.specs.ExpectedPorts.{after, heads, same, Leaves};
+ghost use Rattle.pdl_vread_pipe.specs.ExpectedPorts.{after, heads, same, three_ports, Leaves};
 ghost use Rattle.pdl_vread_pipe.specs.Tests as spec;
 
 use crate::port_mem::PortMem;
@@ -112,15 +112,34 @@ fn stages<'a>(ports: &'a [Port], count: usize) -> Option<&'a [Port]>
     Some(left)
 }
 
-// The ports after those of a locked memory that commit.
+// The ports after the three of a commit of a locked memory, which have these prefixes.
 #[tactic(auto, using(crate::proofs::Strips::one_by_one))]
+fn three<'a>(
+    ports: &'a [Port],
+    mem: &PortMem,
+    enable: &[u8],
+    addr: &[u8],
+    value: &[u8],
+) -> Option<&'a [Port]>
+    ensures { Leaves (three_ports enable.now addr.now value.now mem.now) ports.now result }
+{
+    let name = mem.name().as_bytes();
+    let left = expect(ports, enable, name, 1, false)?;
+    let left = expect(left, addr, name, mem.bits(), false)?;
+    expect(left, value, name, mem.width(), false)
+}
+
+// The ports after those of a locked memory that commit.
+#[tactic(auto, using(crate::proofs::Strips::committing))]
 fn commit<'a>(ports: &'a [Port], mem: &PortMem) -> Option<&'a [Port]>
     ensures { Leaves (commit_ports mem.now) ports.now result }
 {
-    let name = mem.name().as_bytes();
-    let left = expect(ports, b"c_", name, 1, false)?;
-    let left = expect(left, b"ca_", name, mem.bits(), false)?;
-    expect(left, b"cd_", name, mem.width(), false)
+    let left = three(ports, mem, b"c_", b"ca_", b"cd_")?;
+    if mem.commits_twice() {
+        three(left, mem, b"c2_", b"ca2_", b"cd2_")
+    } else {
+        Some(left)
+    }
 }
 
 #[tactic(auto, using(crate::proofs::Strips::all_of_them))]

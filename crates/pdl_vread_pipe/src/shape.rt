@@ -1,5 +1,5 @@
 // What ports tell of a pipe.
-ghost use Rattle.std.specs.Prelude.{◌≡◌, ◌++◌, ◌∷◌, [], IfOk, OnOk, slice_index};
+ghost use Rattle.std.specs.Prelude.{◌≡◌, ◌++◌, ◌∷◌, [], IfOk, OnOk, drop, false, slice_index, slice_index_or};
 ghost use Rattle.pdl_net.specs.Pipe.{head_of};
 ghost use Rattle.std.specs.Option.{option_copied};
 ghost use Rattle.pdl_vread_pipe.specs.ExpectedPorts.{heads};
@@ -89,19 +89,70 @@ fn width_at(widths: &[u8], k: usize) -> u8
     }
 }
 
-// The memories of these names, widths and address bits.
+// Whether the third of some ports has a name that begins with `c2_`.
+#[tactic(auto, using(crate::proofs::Strips::third_missing))]
+fn third_is_second(ports: &[Port]) -> bool
+    ensures { result ≡ spec.begins_second (drop 2 (heads ports.now)) }
+{
+    match ports {
+        [_, _, port, ..] => rest_of(port.name.as_bytes(), b"c2_").is_some(),
+        _ => false,
+    }
+}
+
+// Whether the third of the ports after one has a name that begins with `c2_`, where its own begins with `c_`.
+fn push_second(seconds: &mut Seq<bool>, port: &Port, later: &[Port]) -> Result<(), NoMemory>
+    ensures { OnOk result
+        (seconds.new ≡ seconds.old ++ spec.second_after (head_of port.now) (heads later.now)) }
+{
+    match rest_of(port.name.as_bytes(), b"c_") {
+        Some(_) => seconds.push(third_is_second(later)),
+        None => Ok(()),
+    }
+}
+
+// Of each port whose name begins with `c_`, whether the third one after it has a name that begins with `c2_`.
+#[tactic(auto, using(crate::proofs::Strips::seconds_more))]
+fn seconds(alloc: Global, ports: &[Port]) -> Result<Seq<bool>, NoMemory>
+    ensures { IfOk result (λ ts. ts ≡ spec.seconds (heads ports.now)) }
+{
+    let mut seconds = Seq::new(alloc);
+    for k in 0..ports.len() {
+        push_second(&mut seconds, &ports[k], &ports[k + 1..])?;
+    }
+    Ok(seconds)
+}
+
+// A flag, or false where it isn't there.
+fn flag_at(flags: &[bool], k: usize) -> bool
+    ensures { result ≡ slice_index_or flags.now k false }
+{
+    match flags.get(k) {
+        Some(flag) => *flag,
+        None => false,
+    }
+}
+
+// The memories of these names, widths, address bits and flags.
 fn with_widths(
     alloc: Global,
     names: &[Name],
     widths: &[u8],
     bits: &[u8],
+    twice: &[bool],
 ) -> Result<Seq<PortMem>, NoMemory>
-    ensures { IfOk result (λ ms. ms ≡ spec.mems_from 0 names.now widths.now bits.now) }
+    ensures { IfOk result (λ ms. ms ≡ spec.mems_from 0 names.now widths.now bits.now twice.now) }
 {
     let mut mems = Seq::new(alloc);
     for k in 0..names.len() {
         let name = names[k].clone()?;
-        mems.push(PortMem::new(name, width_at(widths, k), width_at(bits, k)))?;
+        let mem = PortMem::new(
+            name,
+            width_at(widths, k),
+            width_at(bits, k),
+            flag_at(twice, k),
+        );
+        mems.push(mem)?;
     }
     Ok(mems)
 }
@@ -113,13 +164,29 @@ fn memories(
     prefix: &[u8],
     word: &[u8],
     address: &[u8],
+    twice: &[bool],
 ) -> Result<Seq<PortMem>, NoMemory>
-    ensures { IfOk result (λ ms. ms ≡ spec.mems prefix.now word.now address.now (heads ports.now)) }
+    ensures { IfOk result (λ ms. ms
+        ≡ spec.mems prefix.now word.now address.now twice.now (heads ports.now)) }
 {
     let names = names(alloc, ports, prefix)?;
     let words = widths(alloc, ports, word)?;
     let bits = widths(alloc, ports, address)?;
-    with_widths(alloc, names.as_slice(), words.as_slice(), bits.as_slice())
+    with_widths(
+        alloc,
+        names.as_slice(),
+        words.as_slice(),
+        bits.as_slice(),
+        twice,
+    )
+}
+
+// The locked memories.
+fn locked(alloc: Global, ports: &[Port]) -> Result<Seq<PortMem>, NoMemory>
+    ensures { IfOk result (λ ms. ms ≡ (spec.told (heads ports.now)).locked) }
+{
+    let twice = seconds(alloc, ports)?;
+    memories(alloc, ports, b"c_", b"cd_", b"ca_", twice.as_slice())
 }
 
 impl Shape {
@@ -129,8 +196,8 @@ impl Shape {
     {
         Ok(Shape {
             stages: names(alloc, ports, b"v_")?.len(),
-            delayed: memories(alloc, ports, b"p_", b"pd_", b"qa_")?,
-            locked: memories(alloc, ports, b"c_", b"cd_", b"ca_")?,
+            delayed: memories(alloc, ports, b"p_", b"pd_", b"qa_", &[])?,
+            locked: locked(alloc, ports)?,
         })
     }
 }

@@ -109,9 +109,15 @@ is_module t = is_named (codes "pdl_") t
 abbrev pub is_input : List ℕ → Bool
 is_input t = is_named (codes "p_") t || is_named (codes "pd_") t
 
--- the name of a memory's output: `c_`, `ca_`, `cd_`, `q_` or `qa_` with a name of PDL
+-- the name of an output of what a memory commits: `c_`, `ca_` or `cd_`, and of a second commit `c2_`, `ca2_` or `cd2_`, with a name of PDL
+abbrev pub is_commit_output : List ℕ → Bool
+is_commit_output t =
+    is_named (codes "c_") t || is_named (codes "ca_") t || is_named (codes "cd_") t
+    || is_named (codes "c2_") t || is_named (codes "ca2_") t || is_named (codes "cd2_") t
+
+-- the name of a memory's output: one of what it commits, or `q_` or `qa_` with a name of PDL
 abbrev pub is_memory_output : List ℕ → Bool
-is_memory_output t = is_named (codes "c_") t || is_named (codes "ca_") t || is_named (codes "cd_") t || is_named (codes "q_") t || is_named (codes "qa_") t
+is_memory_output t = is_commit_output t || is_named (codes "q_") t || is_named (codes "qa_") t
 
 -- the name of a port, the clock and the reset apart
 unfoldable pub is_port : List ℕ → Bool

@@ -146,15 +146,23 @@ pub fn is_input(text: &[u8]) -> bool
     is_named(b"p_", text) || is_named(b"pd_", text)
 }
 
-// Whether a word is the name of an output of a memory.
-fn is_memory_output(text: &[u8]) -> bool
-    ensures { result ≡ spec.is_memory_output text.now }
+// Whether a word is the name of an output of what a memory commits.
+fn is_commit_output(text: &[u8]) -> bool
+    ensures { result ≡ spec.is_commit_output text.now }
 {
     is_named(b"c_", text)
         || is_named(b"ca_", text)
         || is_named(b"cd_", text)
-        || is_named(b"q_", text)
-        || is_named(b"qa_", text)
+        || is_named(b"c2_", text)
+        || is_named(b"ca2_", text)
+        || is_named(b"cd2_", text)
+}
+
+// Whether a word is the name of an output of a memory.
+fn is_memory_output(text: &[u8]) -> bool
+    ensures { result ≡ spec.is_memory_output text.now }
+{
+    is_commit_output(text) || is_named(b"q_", text) || is_named(b"qa_", text)
 }
 
 /// Whether a word is the name of a port, the clock and the reset apart.

@@ -53,3 +53,6 @@ emit_stages-requires-clause-memories g c =
     (λ m r is. let k = can.reads.known m r is in
     (k.0, k.1)) can.onward c.in_ok-reads.ensures.read parts c.in_ok-ports.ensures.answers c.in_ok-inputs.ensures.ports
     (c.in_ok-inputs.ensures.shapes ∙ empty_shapes c.args.b.now c.requires.empty)))
+
+pub emit_stages-requires-clause-twice : goal.emit_stages-requires-clause-twice
+emit_stages-requires-clause-twice g c = c.as_slice-flags.ensures.value ∙ c.in_ok-twice.ensures

@@ -28,7 +28,7 @@ returns-clause-lock g c =
     let grows : ExtendsArrays old new (arrays_in c.args.m.now.name m) = subst (λ (fs : List Shape). ExtendsArrays old new fs) shape s.extends in
     new_lock l old new c.args.m.now.name m (record { lock = x; regs = r }) c.requires.served.kind grows
     (s.width ∙ ap (λ (y : MemInfo). y.width) i) (s.bits ∙ ap (λ (y : MemInfo). y.depth) i)
-    (s.array ∙ ap (λ (y : MemInfo). not y.delayed) i) s.placed s.fragment s.nets s.start s.places s.room s.ticket
+    (s.array ∙ ap (λ (y : MemInfo). not y.delayed) i) s.placed s.fragment s.nets s.second s.start s.places s.room s.room2 s.ticket
 
 pub returns-clause-unwritten : goal.returns-clause-unwritten
 returns-clause-unwritten g c comb =

@@ -8,5 +8,5 @@ use Rattle.pdl_pipe_locks.proofs.ports.write_ports.Given as goal
 abbrev pub invariant-loop-i : goal.invariant-loop-i
 invariant-loop-i l = record {
   extends : Extends l.fn.b l.b;
-  are : AreWrites l.b l.ports (all_puts l.m (views_in l.fn.b l.deeds) (moves_in l.fn.b l.deeds) l.i (length l.deeds - l.i));
+  are : AreWrites l.b l.ports (all_puts l.twice l.m (views_in l.fn.b l.deeds) (moves_in l.fn.b l.deeds) l.i (length l.deeds - l.i));
 }

@@ -1,10 +1,12 @@
-use Rattle.std.proofs.Common.{subst}
+use Rattle.std.proofs.Common.{Bool, ap₂, subst}
 use Rattle.pdl_net.specs.Signal.{Signal}
 use Rattle.pdl_net.specs.Meaning.{signal}
 use Rattle.pdl_net.proofs.Keeps.{extends_keeps, but_extends, but_trans}
 use Rattle.pdl_lockapi.specs.Laws.{own, HidesLaw, StepLaw, StepSignals}
+use Rattle.pdl_lockapi.specs.Second.{Commit2Law}
 use Rattle.pdl_pipe_walk.specs.Locked.{tickets_in}
 use Rattle.pdl_pipe_locks.specs.Ports.{ArePorts, signals_of}
+use Rattle.pdl_pipe_locks.specs.Round.{is_twice}
 use Rattle.pdl_pipe_locks.proofs.PortsFit.{ports_there, ports_fit, ports_mean, unwritten_still}
 use Rattle.pdl_pipe_locks.proofs.steps.lock_step.Goals as goal
 
@@ -22,11 +24,11 @@ emit_step-requires-clause-ports g c =
     let a = c.args.b.now in
     let d = c.lock_ports.new.b in
     let r = c.args.round.now in
-    let f = signals_of a r.deeds.now c.args.m (signal a r.squash) (tickets_in a r.tails.now c.args.m) in
+    let f = signals_of a (is_twice r c.args.m) r.deeds.now c.args.m (signal a r.squash) (tickets_in a r.tails.now c.args.m) in
     let are : ArePorts d c.in_ok-ports.ports f =
-    subst
-    (λ (g : Signal). ArePorts d c.in_ok-ports.ports
-    (signals_of a r.deeds.now c.args.m (signal a r.squash) g)) c.variable-tail.ensures.same c.in_ok-ports.ensures.ports in
+    subst (ArePorts d c.in_ok-ports.ports)
+    (ap₂ (λ (b : Bool) (g : Signal). signals_of a b r.deeds.now c.args.m (signal a r.squash) g) c.flag_at-twice.ensures c.variable-tail.ensures.same)
+    c.in_ok-ports.ensures.ports in
     ports_there d c.in_ok-ports.ports f are
 
 pub emit_step-requires-clause-fit : goal.emit_step-requires-clause-fit
@@ -34,11 +36,11 @@ emit_step-requires-clause-fit g c =
     let a = c.args.b.now in
     let d = c.lock_ports.new.b in
     let r = c.args.round.now in
-    let f = signals_of a r.deeds.now c.args.m (signal a r.squash) (tickets_in a r.tails.now c.args.m) in
+    let f = signals_of a (is_twice r c.args.m) r.deeds.now c.args.m (signal a r.squash) (tickets_in a r.tails.now c.args.m) in
     let are : ArePorts d c.in_ok-ports.ports f =
-    subst
-    (λ (g : Signal). ArePorts d c.in_ok-ports.ports
-    (signals_of a r.deeds.now c.args.m (signal a r.squash) g)) c.variable-tail.ensures.same c.in_ok-ports.ensures.ports in
+    subst (ArePorts d c.in_ok-ports.ports)
+    (ap₂ (λ (b : Bool) (g : Signal). signals_of a b r.deeds.now c.args.m (signal a r.squash) g) c.flag_at-twice.ensures c.variable-tail.ensures.same)
+    c.in_ok-ports.ensures.ports in
     let x = c.args.x.now in
     ports_fit d x.regs.bits x.regs.width (g.L.LockModule.tickets x.lock) c.in_ok-ports.ports f are c.requires.fit
 
@@ -47,11 +49,11 @@ returns-clause-law g c =
     let a = c.args.b.now in
     let d = c.lock_ports.new.b in
     let r = c.args.round.now in
-    let f = signals_of a r.deeds.now c.args.m (signal a r.squash) (tickets_in a r.tails.now c.args.m) in
+    let f = signals_of a (is_twice r c.args.m) r.deeds.now c.args.m (signal a r.squash) (tickets_in a r.tails.now c.args.m) in
     let are : ArePorts d c.in_ok-ports.ports f =
-    subst
-    (λ (g : Signal). ArePorts d c.in_ok-ports.ports
-    (signals_of a r.deeds.now c.args.m (signal a r.squash) g)) c.variable-tail.ensures.same c.in_ok-ports.ensures.ports in
+    subst (ArePorts d c.in_ok-ports.ports)
+    (ap₂ (λ (b : Bool) (g : Signal). signals_of a b r.deeds.now c.args.m (signal a r.squash) g) c.flag_at-twice.ensures c.variable-tail.ensures.same)
+    c.in_ok-ports.ensures.ports in
     let L = g.L.LockModule in
     let x = c.args.x.now in
     let e = c.emit_step.new.b in
@@ -61,16 +63,35 @@ returns-clause-law g c =
     (own x.regs) e s (signal e n.commit) (signal e n.addr) (signal e n.value))
     (ports_mean d c.in_ok-ports.ports f are) c.in_ok-nets.ensures.law
 
+pub returns-clause-law2 : goal.returns-clause-law2
+returns-clause-law2 g c =
+    let a = c.args.b.now in
+    let d = c.lock_ports.new.b in
+    let r = c.args.round.now in
+    let f = signals_of a (is_twice r c.args.m) r.deeds.now c.args.m (signal a r.squash) (tickets_in a r.tails.now c.args.m) in
+    let are : ArePorts d c.in_ok-ports.ports f =
+    subst (ArePorts d c.in_ok-ports.ports)
+    (ap₂ (λ (b : Bool) (g : Signal). signals_of a b r.deeds.now c.args.m (signal a r.squash) g) c.flag_at-twice.ensures c.variable-tail.ensures.same)
+    c.in_ok-ports.ensures.ports in
+    let L = g.L.LockModule in
+    let x = c.args.x.now in
+    let e = c.emit_step.new.b in
+    let n = c.in_ok-nets.nets in
+    subst
+    (λ (s : StepSignals). Commit2Law (L.stands x.lock x.regs) (L.size x.lock) (L.tickets x.lock)
+    s (signal e n.commit2) (signal e n.addr2) (signal e n.value2))
+    (ports_mean d c.in_ok-ports.ports f are) c.in_ok-nets.ensures.law2
+
 pub returns-clause-hides : goal.returns-clause-hides
 returns-clause-hides g c =
     let a = c.args.b.now in
     let d = c.lock_ports.new.b in
     let r = c.args.round.now in
-    let f = signals_of a r.deeds.now c.args.m (signal a r.squash) (tickets_in a r.tails.now c.args.m) in
+    let f = signals_of a (is_twice r c.args.m) r.deeds.now c.args.m (signal a r.squash) (tickets_in a r.tails.now c.args.m) in
     let are : ArePorts d c.in_ok-ports.ports f =
-    subst
-    (λ (g : Signal). ArePorts d c.in_ok-ports.ports
-    (signals_of a r.deeds.now c.args.m (signal a r.squash) g)) c.variable-tail.ensures.same c.in_ok-ports.ensures.ports in
+    subst (ArePorts d c.in_ok-ports.ports)
+    (ap₂ (λ (b : Bool) (g : Signal). signals_of a b r.deeds.now c.args.m (signal a r.squash) g) c.flag_at-twice.ensures c.variable-tail.ensures.same)
+    c.in_ok-ports.ensures.ports in
     let x = c.args.x.now in
     subst (λ (s : StepSignals). HidesLaw (g.L.LockModule.kind_of x.lock) c.emit_step.new.b (own x.regs) s)
     (ports_mean d c.in_ok-ports.ports f are) c.in_ok-nets.ensures.hides

@@ -1,12 +1,16 @@
-use Rattle.std.proofs.Common.{sym, ◌∙◌, arith, subst}
+use Rattle.std.proofs.Common.{Bool, false, List, length, sym, ap, ◌∙◌, arith, subst}
+use Rattle.std.specs.Prelude.{slice_index_or}
 use Rattle.pdl_form.specs.FormView.{form}
 use Rattle.pdl_semantics.specs.Stages.{mem_at}
 use Rattle.pdl_net.specs.Circuit.{HasArray}
 use Rattle.pdl_net.specs.Meaning.{signal}
 use Rattle.pdl_lockapi.specs.Laws.{StepSignals, HidesLaw, StepLaw, own}
+use Rattle.pdl_lockapi.specs.Second.{Commit2Law}
 use Rattle.pdl_law_parts.specs.Places.{comb_place}
 use Rattle.pdl_pipe_walk.specs.Locked.{Members, some_at}
+use Rattle.pdl_pipe_walk.proofs.TwiceFlags.{flag_count, flag_is}
 use Rattle.pdl_pipe_locks.specs.Deeds.{steps_in}
+use Rattle.pdl_pipe_locks.specs.Round.{is_twice}
 use Rattle.pdl_pipe_locks.proofs.Places.{at_place, unwritten_place}
 use Rattle.pdl_pipe_locks.proofs.DeedsFit.{all_given, signals_fit}
 use Rattle.pdl_pipe_locks.proofs.LockGrowth.{signals_are}
@@ -40,6 +44,11 @@ lock_step-requires-clause-empty g c =
 pub lock_step-requires-clause-tail : goal.lock_step-requires-clause-tail
 lock_step-requires-clause-tail g c = omega (arith, c.requires.low, c.requires.locked.count, c.requires.squash.tails.count)
 
+pub lock_step-requires-clause-twice : goal.lock_step-requires-clause-twice
+lock_step-requires-clause-twice g c =
+    let p = (form c.args.round.now.pipe.now).pipe in
+    omega (arith, c.requires.low, ap length c.requires.twice, flag_count p.stmts 0 p.mems)
+
 pub lock_step-requires-clause-given : goal.lock_step-requires-clause-given
 lock_step-requires-clause-given g c =
     let L = g.L.LockModule in
@@ -54,7 +63,7 @@ lock_step-requires-clause-fit g c =
     let l : Members g.row.L.Denot = record { placed = L.placed; stands = L.stands; kind = L.kind_of; size = L.size; tickets = L.tickets } in
     let f = form c.args.round.now.pipe.now in
     let e = sym c.lock_at.ensures ∙ c.in-Some.is in
-    signals_fit l c.args.b.now f.pipe f.widths c.args.round.now.locks.now c.args.m c.in-Some.x c.args.round.now.deeds.now
+    signals_fit l c.args.b.now f.pipe f.widths c.args.round.now.locks.now (is_twice c.args.round.now c.args.m) c.args.m c.in-Some.x c.args.round.now.deeds.now
     (omega (arith, c.requires.low, c.requires.locked.count)) e
     (c.requires.locked.locks c.args.m c.in-Some.x c.requires.low e) c.requires.deeds.each c.args.round.now.squash c.args.round.now.tails.now c.requires.squash
 
@@ -74,13 +83,17 @@ returns-in_ok-nets-in-Some-clause-stepped g c =
     let h = c.in_ok-nets-in-Some.ensures in
     let e = sym c.lock_at.ensures ∙ c.in-Some.is in
     let signals = steps_in a p ds c.args.round.now.squash c.args.round.now.tails.now m in
+    let flag = ap (λ (bs : List Bool). slice_index_or bs m false) c.requires.twice ∙ flag_is p.stmts p.mems m c.requires.low in
+    let same =
+    signals_are l a p f.widths xs ds c.args.round.now.squash c.args.round.now.tails.now m (is_twice c.args.round.now m) c.requires.deeds flag in
     let law =
     subst
     (λ (s : StepSignals). StepLaw (L.stands x.lock x.regs) (L.size x.lock) (L.tickets x.lock)
-    (own x.regs) d s (signal d n.commit) (signal d n.addr) (signal d n.value))
-    (signals_are l a p f.widths xs ds c.args.round.now.squash c.args.round.now.tails.now m c.requires.deeds) h.law in
-    let hides =
-    subst (λ (s : StepSignals). HidesLaw (L.kind_of x.lock) d (own x.regs) s)
-    (signals_are l a p f.widths xs ds c.args.round.now.squash c.args.round.now.tails.now m c.requires.deeds) h.hides in
+    (own x.regs) d s (signal d n.commit) (signal d n.addr) (signal d n.value)) same h.law in
+    let law2 =
+    subst
+    (λ (s : StepSignals). Commit2Law (L.stands x.lock x.regs) (L.size x.lock) (L.tickets x.lock)
+    s (signal d n.commit2) (signal d n.addr2) (signal d n.value2)) same h.law2 in
+    let hides = subst (λ (s : StepSignals). HidesLaw (L.kind_of x.lock) d (own x.regs) s) same h.hides in
     stepped_some l d (mem_at p m) signals (some_at xs m) x n e
-    (is_stepped l a d (comb_place p m) (mem_at p m) signals x n (c.requires.locked.locks m x c.requires.low e) h.nets law hides)
+    (is_stepped l a d (comb_place p m) (mem_at p m) signals x n (c.requires.locked.locks m x c.requires.low e) h.nets h.nets2 law law2 hides)

@@ -1,9 +1,9 @@
 use Rattle.std.proofs.Common.{sym, ap₂, ◌∙◌, subst}
 use Rattle.pdl_net.specs.Meaning.{signal}
-use Rattle.pdl_law_parts.specs.Ports.{reserves_to}
+use Rattle.pdl_law_parts.specs.Ports.{one_more, reserves_to}
 use Rattle.std.proofs.Common.{◌∷◌, []}
 use Rattle.pdl_pipe_walk.specs.Parts.{reservation_in}
-use Rattle.pdl_pipe_tails.specs.Reserved.{one_more, IsAfter}
+use Rattle.pdl_pipe_tails.specs.Reserved.{IsAfter}
 use Rattle.pdl_pipe_tails.proofs.ReservedTickets.{after_own, after_other}
 use Rattle.pdl_pipe_tails.proofs.reserved.after_reserve.Goals as goal
 

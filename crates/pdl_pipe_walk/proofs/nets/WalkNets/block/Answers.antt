@@ -7,7 +7,8 @@ use Rattle.pdl_form.specs.View.{guards_view}
 use Rattle.pdl_pipe_exprs.specs.Nets.{signals_in, signal_at}
 use Rattle.pdl_pipe_exprs.specs.Conditions.{taken_signal}
 use Rattle.pdl_pipe_exprs.proofs.NetLists.{nets_kept}
-use Rattle.pdl_pipe_walk.specs.Parts.{Parts, parts_in, held_of}
+use Rattle.pdl_law_parts.specs.declared.Mark.TheVariants.{Held}
+use Rattle.pdl_pipe_walk.specs.Parts.{Parts, parts_in, mark_of}
 use Rattle.pdl_pipe_walk.specs.Locked.{members, locks_in}
 use Rattle.pdl_pipe_walk.proofs.Lists.{on_ok}
 use Rattle.pdl_pipe_walk.proofs.WalkGrowth.{walk_more, parts_more, vars_same}
@@ -74,12 +75,12 @@ returns-clause-parts g c =
       is_look =
           looked_as
           (locks_in (members g.L.LockModule) (form c.args.setting.now.pipe.now).pipe a c.args.setting.now.locks.now) c.args.m
-          (held_of (parts_in one w).held c.args.m c.args.a)
-          (held_of (parts_in a w).held c.args.m c.args.a)
+          (mark_of (parts_in one w).marks Held c.args.m c.args.a)
+          (mark_of (parts_in a w).marks Held c.args.m c.args.a)
           (signal_at (signals_in one w.vars.items) c.args.a) (signal_at fs c.args.a)
           (signal_at (signals_in one c.args.setting.now.tickets.now) c.args.m)
           (signal_at (signals_in a c.args.setting.now.tickets.now) c.args.m) (signal two c.in_ok-ready.ready)
-          (ap (λ (k : Parts). held_of k.held c.args.m c.args.a)
+          (ap (λ (k : Parts). mark_of k.marks Held c.args.m c.args.a)
           (parts_more a one first (form c.args.setting.now.pipe.now).pipe (form c.args.setting.now.pipe.now).widths w c.requires.walk))
           (ap (λ (l : List Signal). signal_at l c.args.a)
           (vars_same a one first (form c.args.setting.now.pipe.now).pipe (form c.args.setting.now.pipe.now).widths w c.requires.walk))

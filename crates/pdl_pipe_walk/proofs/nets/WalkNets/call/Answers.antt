@@ -34,7 +34,7 @@ returns-clause-walk c =
     (walk_more a two far (form c.args.pipe.now).pipe (form c.args.pipe.now).widths w c.requires.walk)
     (after.there c.in_ok-on.on c.in_ok-on.ensures.means.there)
     (ap (λ (f : Signal). f.width) (after.kept c.in_ok-on.on c.in_ok-on.ensures.means.there) ∙ c.in_ok-on.ensures.one) c.in_ok-nets.ensures.there wide
-    c.push_birth.ensures.births c.push_birth.ensures.vars c.push_birth.ensures.held c.push_birth.ensures.rest)
+    c.push_birth.ensures.births c.push_birth.ensures.vars c.push_birth.ensures.marks c.push_birth.ensures.rest)
 
 pub returns-clause-parts : goal.returns-clause-parts
 returns-clause-parts c =
@@ -62,4 +62,4 @@ returns-clause-parts c =
     (walk_more a two far (form c.args.pipe.now).pipe (form c.args.pipe.now).widths w c.requires.walk)
     (after.there c.in_ok-on.on c.in_ok-on.ensures.means.there)
     (ap (λ (f : Signal). f.width) (after.kept c.in_ok-on.on c.in_ok-on.ensures.means.there) ∙ c.in_ok-on.ensures.one) c.in_ok-nets.ensures.there wide
-    c.push_birth.ensures.births c.push_birth.ensures.vars c.push_birth.ensures.held c.push_birth.ensures.rest)
+    c.push_birth.ensures.births c.push_birth.ensures.vars c.push_birth.ensures.marks c.push_birth.ensures.rest)

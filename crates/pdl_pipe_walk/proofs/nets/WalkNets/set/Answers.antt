@@ -16,7 +16,7 @@ returns-clause-parts c =
     (signal a c.args.on)
     (signal a c.args.net)
     (set_means a c.mux.new.self c.in_ok-new.new (signal a c.args.on)
-    (signal a c.args.net) _ _ c.variable-old.ensures.same c.in_ok-new.ensures.means) e.vars e.held e.births e.rest
+    (signal a c.args.net) _ _ c.variable-old.ensures.same c.in_ok-new.ensures.means) e.vars e.marks e.births e.rest
 
 pub returns-clause-walk : goal.returns-clause-walk
 returns-clause-walk c =
@@ -27,4 +27,4 @@ returns-clause-walk c =
     (signal a c.args.on)
     (signal a c.args.net)
     (set_means a c.mux.new.self c.in_ok-new.new (signal a c.args.on)
-    (signal a c.args.net) _ _ c.variable-old.ensures.same c.in_ok-new.ensures.means) e.vars e.held e.births e.rest c.requires.net.width
+    (signal a c.args.net) _ _ c.variable-old.ensures.same c.in_ok-new.ensures.means) e.vars e.marks e.births e.rest c.requires.net.width

@@ -89,7 +89,7 @@ returns-clause-walk c =
     (ap (λ (f : Signal). f.width) (e3.kept on_net on_there)
     ∙ ap (λ (f : Signal). f.width) (e2.kept on_net c.in_ok-on.ensures.means.there) ∙ c.in_ok-on.ensures.one)
     (nets_there b2 b3 nets e3 c.in_ok-nets.ensures.there) (ap widths_of (nets_kept b2 b3 nets e3 c.in_ok-nets.ensures.there ∙ args_is) ∙ wide)
-    c.push_birth.ensures.births c.push_birth.ensures.vars c.push_birth.ensures.held c.push_birth.ensures.rest in
+    c.push_birth.ensures.births c.push_birth.ensures.vars c.push_birth.ensures.marks c.push_birth.ensures.rest in
     on_ok c.push_birth.result (λ q. q.0) made
 
 pub returns-clause-parts : goal.returns-clause-parts
@@ -137,7 +137,7 @@ returns-clause-parts c =
     (ap (λ (f : Signal). f.width) (e3.kept on_net on_there)
     ∙ ap (λ (f : Signal). f.width) (e2.kept on_net c.in_ok-on.ensures.means.there) ∙ c.in_ok-on.ensures.one)
     (nets_there b2 b3 nets e3 c.in_ok-nets.ensures.there) (ap widths_of (nets_kept b2 b3 nets e3 c.in_ok-nets.ensures.there ∙ args_is) ∙ wide)
-    c.push_birth.ensures.births c.push_birth.ensures.vars c.push_birth.ensures.held c.push_birth.ensures.rest in
+    c.push_birth.ensures.births c.push_birth.ensures.vars c.push_birth.ensures.marks c.push_birth.ensures.rest in
     on_ok c.push_birth.result
     (λ q. q.1 ∙ call_same (signal b3 on_net) on (signals_in b3 nets) fs (parts_in b3 c.put_guess.new.self) (record (parts_in a w) { guess = guess })
     (e3.kept on_net on_there ∙ on_is) (nets_kept b2 b3 nets e3 c.in_ok-nets.ensures.there ∙ args_is)

@@ -90,7 +90,7 @@ returns-clause-walk c =
     (form c.args.pipe.now).widths c.fail.new.self c.push_birth.new.self c.in_ok-fails.fails nets c.in_ok-fails.ensures.walk c.in_ok-fails.ensures.means.there
     (ap (λ (f : Signal). f.width) here_is ∙ ap (λ (f : Signal). f.width) (sym wrong_is) ∙ c.in_ok-wrong.ensures.one)
     (nets_there b2 b4 nets e34 c.in_ok-nets.ensures.there) (ap widths_of (nets_kept b2 b4 nets e34 c.in_ok-nets.ensures.there ∙ args_is) ∙ wide)
-    c.push_birth.ensures.births c.push_birth.ensures.vars c.push_birth.ensures.held c.push_birth.ensures.rest in
+    c.push_birth.ensures.births c.push_birth.ensures.vars c.push_birth.ensures.marks c.push_birth.ensures.rest in
     on_ok c.push_birth.result (λ q. q.0) made
 
 pub returns-clause-parts : goal.returns-clause-parts
@@ -132,7 +132,7 @@ returns-clause-parts c =
     (form c.args.pipe.now).widths c.fail.new.self c.push_birth.new.self c.in_ok-fails.fails nets c.in_ok-fails.ensures.walk c.in_ok-fails.ensures.means.there
     (ap (λ (f : Signal). f.width) here_is ∙ ap (λ (f : Signal). f.width) (sym wrong_is) ∙ c.in_ok-wrong.ensures.one)
     (nets_there b2 b4 nets e34 c.in_ok-nets.ensures.there) (ap widths_of (nets_kept b2 b4 nets e34 c.in_ok-nets.ensures.there ∙ args_is) ∙ wide)
-    c.push_birth.ensures.births c.push_birth.ensures.vars c.push_birth.ensures.held c.push_birth.ensures.rest in
+    c.push_birth.ensures.births c.push_birth.ensures.vars c.push_birth.ensures.marks c.push_birth.ensures.rest in
     let fails_is =
     c.in_ok-fails.ensures.parts
     ∙ ap₂ (λ (q : Parts) o. record q { fails = mux_signal o one q.fails })

@@ -1,9 +1,0 @@
-use Rattle.std.proofs.Common.{drop}
-use Rattle.pdl_form.specs.View.{stmts_view}
-use Rattle.pdl_pipe_lives.specs.Needs.{rows_use, AreMarkedBut}
-use Rattle.pdl_pipe_lives.proofs.needs.mark_statements.Given as goal
-
--- what is left is what the statements from here on use
-abbrev pub invariant-loop-s : goal.invariant-loop-s
-invariant-loop-s l =
-    AreMarkedBut l.fn.last l.last (λ k x. rows_use k x (stmts_view (drop l.s-index l.stmts))) (λ k x. rows_use k x (stmts_view l.stmts))
