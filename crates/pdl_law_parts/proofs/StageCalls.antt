@@ -23,12 +23,13 @@ use Rattle.pdl_word.proofs.Numbers.{eqb_self}
 verify_later : (xs : List Stmt) (k v : ℕ) → verify_stage xs ≡ Some v → k ≤ v
     → list_any (λ (r : Stmt). nat_le k r.stage && is_verify r.op) xs ≡ true
 verify_later [] k v e l = absurd (cc e)
-verify_later (x ∷ xs) k v e l = at (is_verify x.op) refl e
+verify_later (x ∷ xs) k v e l = at (is_verify x.op) refl e (λ i. verify_later xs k v i l)
   where
     at : (b : Bool) → is_verify x.op ≡ b → (if b then Some x.stage else verify_stage xs) ≡ Some v
+        → (verify_stage xs ≡ Some v → list_any (λ (r : Stmt). nat_le k r.stage && is_verify r.op) xs ≡ true)
         → ((nat_le k x.stage && is_verify x.op) || list_any (λ (r : Stmt). nat_le k r.stage && is_verify r.op) xs) ≡ true
-    at true i e = let s : x.stage ≡ v = cc e in or_left _ _ (ap₂ (λ a b. a && b) (le-leb k x.stage (omega (arith, s, l))) i)
-    at false i e = or_right _ _ (verify_later xs k v e l)
+    at true i e go = let s : x.stage ≡ v = cc e in or_left _ _ (ap₂ (λ a b. a && b) (le-leb k x.stage (omega (arith, s, l))) i)
+    at false i e go = or_right _ _ (go e)
 
 module _ (c : Circuit) (p : Pipe) (ls : Locks) (vs : ℕ → View) (s : State) (st : machine.State) (k thread : ℕ) (around : IsAround c p ls vs s st k thread) where
   -- a row that calls: the new thread has the values of its arguments
@@ -253,14 +254,14 @@ module _ (c : Circuit) (p : Pipe) (ls : Locks) (vs : ℕ → View) (s : State) (
   -- a row that compares arguments with the guess: where they differ that fails, and a new thread has them
   module _ (gs : List Guard) (r : Row) (w : Walk) (d : Deeds) (vals : List ℕ) where
     -- the deeds where the arguments have these values, and the guess is another
-    failed : Deeds
+    abbrev failed : Deeds
     failed = record d { child = Some vals; guess = vals; fails = true }
 
-    wrong : Signal
+    abbrev wrong : Signal
     wrong = both r.on r.value
 
     -- the walk with this guess
-    compared : List Signal → Walk
+    abbrev compared : List Signal → Walk
     compared g = record w { births = record { on = wrong; args = r.args } ∷ w.births; guess = g; fails = mux_signal wrong one w.fails }
 
     -- comparing asks nothing of the locks, and reserves nothing
