@@ -25,7 +25,7 @@ returns-in-FewReserves c gs path before later s e is_on h =
     let uses = c.args.state.now.items in
     let earlier = filter (on_path path) before in
     let none = c.none.result in
-    c.are_too_many.ensures earlier
+    c.is_one_too_many.ensures earlier
     (own Memories IsUsedMemory c.args.self.now.places.now c.args.self.now.first.now before later x c.args.k uses none c.use_at-used.result earlier s e h
     (c.use_at-used.ensures ∙ ap (λ us. get_or us c.number_of.result none) c.deref.ensures.value ∙ ap (λ n. get_or uses n none) c.number_of.ensures))
     ∙ sym (ap (λ r. breaks_at_memory r (pipe_view c.args.self.now.pipe.now) earlier x) c.in-FewReserves.is)
