@@ -1,5 +1,5 @@
 -- The flat form of a source without its updates is that of the source without those.
-use Rattle.std.proofs.Common.{◌≡◌, refl, sym, ap, ap₂, ◌∙◌, subst, ℕ, suc, ◌+◌, Bool, true, false, List, [], ◌∷◌, ◌++◌, if◌then◌else◌, ◌==◌, Option, Some, None, length}
+use Rattle.std.proofs.Common.{◌≡◌, refl, sym, ap, ap₂, ◌∙◌, subst, ℕ, suc, ◌+◌, Bool, true, false, List, [], ◌∷◌, ◌++◌, if◌then◌else◌, ◌==◌, Option, Some, None, length, zero-add}
 use Rattle.std.proofs.lemmas.Bool.{false≢true}
 use Rattle.pdl_semantics.specs.Tree.{Span, Expr, Variable, Kind, R, W, Stmt, Separator, CombRead, Bind, SpecCall, DelayedRead, Write, Reserve, Block, Release, If, Call, Verify, Update, SpecCheck, SpecBarrier, Stmts, Nil, Cons, Mem, Pipe}
 use Rattle.pdl_semantics.specs.Flat as flat
@@ -18,19 +18,19 @@ use Rattle.pdl_semantics.proofs.Updates.{both_left, seq_alike}
 
 mutual
   past_statement : (ms : List Mem) (s : Stmt) (rest : Stmts) (at' : Position) → past_all ms (with_before s rest) at' ≡ past_all ms rest (past ms s at')
-  past_statement ms (If span c when otherwise) rest at' = ap (past_all ms rest) (past_if ms span c when otherwise at')
+  past_statement ms (If span c when otherwise) rest at' =
+      ap (λ q. past_all ms rest (back_in at'.stage (past_all ms (update_free otherwise) (back_in at'.stage q)))) (past_free ms when (with_guard c at'))
+      ∙ ap (λ q. past_all ms rest (back_in at'.stage q)) (past_free ms otherwise (at_otherwise ms c when at'))
   past_statement ms (Separator span) rest at' = refl
   past_statement ms _ rest at' = refl
-
-  past_if : (ms : List Mem) (span : Span) (c : Expr) (when otherwise : Stmts) (at' : Position)
-      → past ms (If span c (update_free when) (update_free otherwise)) at' ≡ past ms (If span c when otherwise) at'
-  past_if ms span c when otherwise at' =
-      ap (λ q. back_in at'.stage (past_all ms (update_free otherwise) (back_in at'.stage q))) (past_free ms when (with_guard c at'))
-      ∙ ap (back_in at'.stage) (past_free ms otherwise (at_otherwise ms c when at'))
 
   past_free : (ms : List Mem) (ss : Stmts) (at' : Position) → past_all ms (update_free ss) at' ≡ past_all ms ss at'
   past_free ms Nil at' = refl
   past_free ms (Cons s ss) at' = past_statement ms s (update_free ss) at' ∙ past_free ms ss (past ms s at')
+
+past_if : (ms : List Mem) (span : Span) (c : Expr) (when otherwise : Stmts) (at' : Position)
+    → past ms (If span c (update_free when) (update_free otherwise)) at' ≡ past ms (If span c when otherwise) at'
+past_if ms span c when otherwise at' = past_statement ms (If span c when otherwise) Nil at'
 
 -- STATEMENTS
 
@@ -59,7 +59,8 @@ guard_stays gs at' _ = refl
 
 three_left : (xs ys zs ys' zs' : List flat.Stmt) → xs ≡ without_updates xs → ys' ≡ without_updates ys → zs' ≡ without_updates zs
     → xs ++ ys' ++ zs' ≡ without_updates (xs ++ ys ++ zs)
-three_left xs ys zs ys' zs' e f g = ap₂ (λ a b. a ++ b) e (ap₂ (λ a b. a ++ b) f g ∙ sym (both_left ys zs)) ∙ sym (both_left xs (ys ++ zs))
+three_left xs ys zs ys' zs' e f g =
+    ap₂ (λ a b. a ++ b) (ap₂ (λ a b. a ++ b) e f ∙ sym (both_left xs ys)) g ∙ sym (both_left (xs ++ ys) zs)
 
 mutual
   -- one statement
@@ -78,16 +79,13 @@ mutual
   flat_alone ms gs (Reserve span at kind) rest at' =
       ap (λ xs. xs ++ flat_stmts ms gs rest at') (one_left gs at' _ (reserve_stays kind (mem_of ms at.mem.name) (var_of at'.vars at.address.name)))
   flat_alone ms gs (If span c when otherwise) rest at' =
-      ap₂ (λ xs q. xs ++ flat_stmts ms gs rest q) (flat_if ms gs span c when otherwise at') (past_if ms span c when otherwise at')
-  flat_alone ms gs _ rest at' = refl
-
-  flat_if : (ms : List Mem) (gs : List flat.Guard) (span : Span) (c : Expr) (when otherwise : Stmts) (at' : Position)
-      → flat_stmt ms gs (If span c (update_free when) (update_free otherwise)) at' ≡ without_updates (flat_stmt ms gs (If span c when otherwise) at')
-  flat_if ms gs span c when otherwise at' =
       let second = under gs at'.vars c false in
-      three_left (binds_guard gs at' c) _ _ _ _ (guard_stays gs at' c) (flat_free ms (under gs at'.vars c true) when (with_guard c at'))
+      ap₂ (λ xs q. xs ++ flat_stmts ms gs rest q)
+      (three_left (binds_guard gs at' c) _ _ _ _ (guard_stays gs at' c) (flat_free ms (under gs at'.vars c true) when (with_guard c at'))
       (ap (λ q. flat_stmts ms second (update_free otherwise) (back_in at'.stage q)) (past_free ms when (with_guard c at'))
-      ∙ flat_free ms second otherwise (at_otherwise ms c when at'))
+      ∙ flat_free ms second otherwise (at_otherwise ms c when at')))
+      (past_if ms span c when otherwise at')
+  flat_alone ms gs _ rest at' = refl
 
   flat_free : (ms : List Mem) (gs : List flat.Guard) (ss : Stmts) (at' : Position)
       → flat_stmts ms gs (update_free ss) at' ≡ without_updates (flat_stmts ms gs ss at')
@@ -101,6 +99,7 @@ mutual
 mutual
   begun_alone : (s : Stmt) (rest : Stmts) → separators (with_before s rest) ≡ separators_in s + separators rest
   begun_alone (If span c when otherwise) rest = ap₂ (λ a b. a + b + separators rest) (begun_free when) (begun_free otherwise)
+  begun_alone (Update span guess args) rest = sym (zero-add (separators rest))
   begun_alone (Separator span) rest = refl
   begun_alone _ rest = refl
 
@@ -110,8 +109,8 @@ mutual
   begun_free (Cons s ss) = begun_alone s (update_free ss) ∙ ap (λ n. separators_in s + n) (begun_free ss)
 
 -- the graph of an `if`, by how many stages begin in its branches and by these
-abbrev graph_if : List Mem → List flat.Branch → Expr → Position → Graph → ℕ → ℕ → (flat.Next → Graph) → (flat.Next → Graph) → Graph
-graph_if ms branches c at' rest a b first second =
+abbrev graph_if : Expr → Position → Graph → ℕ → ℕ → (flat.Next → Graph) → (flat.Next → Graph) → Graph
+graph_if c at' rest a b first second =
     if a + b == 0
     then rest
     else (let merge = flat.Goes (suc (at'.begun + a + b)) in graph_with_fork at'.stage (guard_of at'.vars c) (first merge) (second merge) rest)
@@ -120,23 +119,21 @@ mutual
   graph_alone : (ms : List Mem) (branches : List flat.Branch) (exit : flat.Next) (s : Stmt) (rest : Stmts) (at' : Position)
       → graph ms branches exit (with_before s rest) at' ≡ graph_before ms branches s at' (graph ms branches exit rest (past ms s at'))
   graph_alone ms branches exit (If span c when otherwise) rest at' =
-      ap (λ q. graph_before ms branches (If span c (update_free when) (update_free otherwise)) at' (graph ms branches exit rest q)) (past_if ms span c when otherwise at')
-      ∙ graph_free_if ms branches span c when otherwise at' (graph ms branches exit rest (past ms (If span c when otherwise) at'))
-  graph_alone ms branches exit (Separator span) rest at' = refl
-  graph_alone ms branches exit _ rest at' = refl
-
-  graph_free_if : (ms : List Mem) (branches : List flat.Branch) (span : Span) (c : Expr) (when otherwise : Stmts) (at' : Position) (rest : Graph)
-      → graph_before ms branches (If span c (update_free when) (update_free otherwise)) at' rest ≡ graph_before ms branches (If span c when otherwise) at' rest
-  graph_free_if ms branches span c when otherwise at' rest =
+      let last = graph ms branches exit rest (past ms (If span c when otherwise) at') in
       let inside = side at'.stage true ∷ branches in
       let outside = side at'.stage false ∷ branches in
+      let first = λ (to : flat.Next). graph ms inside to (update_free when) (with_guard c at') in
       let second = λ (to : flat.Next). graph ms outside to (update_free otherwise) (at_otherwise ms c (update_free when) at') in
       let merge = flat.Goes (suc (at'.begun + separators when + separators otherwise)) in
-      ap₂ (λ a b. graph_if ms branches c at' rest a b (λ to. graph ms inside to (update_free when) (with_guard c at')) second) (begun_free when) (begun_free otherwise)
-      ∙ ap₂ (λ g h. if separators when + separators otherwise == 0 then rest else graph_with_fork at'.stage (guard_of at'.vars c) g h rest)
+      ap (λ q. graph_before ms branches (If span c (update_free when) (update_free otherwise)) at' (graph ms branches exit rest q))
+      (past_if ms span c when otherwise at')
+      ∙ ap₂ (λ a b. graph_if c at' last a b first second) (begun_free when) (begun_free otherwise)
+      ∙ ap₂ (λ g h. if separators when + separators otherwise == 0 then last else graph_with_fork at'.stage (guard_of at'.vars c) g h last)
       (graph_free ms inside merge when (with_guard c at'))
       (ap (λ q. graph ms outside merge (update_free otherwise) (back_in at'.stage q)) (past_free ms when (with_guard c at'))
       ∙ graph_free ms outside merge otherwise (at_otherwise ms c when at'))
+  graph_alone ms branches exit (Separator span) rest at' = refl
+  graph_alone ms branches exit _ rest at' = refl
 
   graph_free : (ms : List Mem) (branches : List flat.Branch) (exit : flat.Next) (ss : Stmts) (at' : Position)
       → graph ms branches exit (update_free ss) at' ≡ graph ms branches exit ss at'
@@ -149,8 +146,8 @@ mutual
 -- the first of a kind that has no update stands in the same stage
 first_left : (test : flat.Op → Bool) → ((op : flat.Op) → is_update op ≡ true → test op ≡ false) → (xs : List flat.Stmt)
     → first_stage test (without_updates xs) ≡ first_stage test xs
-first_left test no [] = refl
-first_left test no (x ∷ xs) = at (is_update x.op) (no x.op) (first_left test no xs)
+first_left test others [] = refl
+first_left test others (x ∷ xs) = at (is_update x.op) (others x.op) (first_left test others xs)
   where
     at : (u : Bool) → (u ≡ true → test x.op ≡ false) → first_stage test (without_updates xs) ≡ first_stage test xs
         → first_stage test (if u then without_updates xs else x ∷ without_updates xs) ≡ first_stage test (x ∷ xs)
@@ -159,8 +156,8 @@ first_left test no (x ∷ xs) = at (is_update x.op) (no x.op) (first_left test n
 
 firsts_left : (test : ℕ → flat.Op → Bool) → ((m : ℕ) (op : flat.Op) → is_update op ≡ true → test m op ≡ false)
     → (xs : List flat.Stmt) (m : ℕ) (ms : List Mem) → first_stages test (without_updates xs) m ms ≡ first_stages test xs m ms
-firsts_left test no xs m [] = refl
-firsts_left test no xs m (x ∷ ms) = ap₂ (λ o os. o ∷ os) (first_left (test m) (no m) xs) (firsts_left test no xs (suc m) ms)
+firsts_left test others xs m [] = refl
+firsts_left test others xs m (x ∷ ms) = ap₂ (λ o os. o ∷ os) (first_left (test m) (others m) xs) (firsts_left test others xs (suc m) ms)
 
 no_reserve : (m : ℕ) (op : flat.Op) → is_update op ≡ true → is_reserve m op ≡ false
 no_reserve m (flat.Verify last args) h = refl
@@ -170,29 +167,31 @@ no_release : (m : ℕ) (op : flat.Op) → is_update op ≡ true → is_release m
 no_release m (flat.Verify last args) h = refl
 no_release m _ h = absurd (false≢true h)
 
--- a flat form by its parts
-abbrev form : Pipe → ℕ → List flat.Stmt → List flat.Stage → List (Option ℕ) → List (Option ℕ) → flat.Pipe
-form p vars stmts stages reserved released =
+-- a flat form by where the walk ends, its statements and its stage graph
+abbrev form : Pipe → Position → List flat.Stmt → Graph → flat.Pipe
+form p last stmts g =
     record {
-      vars = vars;
+      vars = length last.vars;
       mems = mems_of p.mems;
       stmts = stmts;
-      stages = stages;
+      stages = record { next = g.next; branches = []; merges = None } ∷ g.later;
       start = start_of p.start.args;
-      reserves_at = reserved;
-      releases_at = released;
+      reserves_at = first_stages is_reserve stmts 0 p.mems;
+      releases_at = first_stages is_release stmts 0 p.mems;
     }
 
 -- the flat form of a source without its updates
 pub flat_without : (p : Pipe) → Flatten.flat (without_update p) ≡ not_updated (Flatten.flat p)
 flat_without p =
+    let last = past_all p.mems p.body (at_start p) in
     let stmts = flat_stmts p.mems [] p.body (at_start p) in
-    let free = flat_free p.mems [] p.body (at_start p) in
-    let stages = λ (g : Graph). record { next = g.next; branches = []; merges = None } ∷ g.later in
-    ap (λ q. form p (length q.vars) _ _ _ _) (past_free p.mems p.body (at_start p))
-    ∙ ap (λ xs. form p _ xs _ (first_stages is_reserve xs 0 p.mems) (first_stages is_release xs 0 p.mems)) free
-    ∙ ap (λ g. form p _ _ (stages g) _ _) (graph_free p.mems [] flat.Ends p.body (at_start p))
-    ∙ ap₂ (form p _ (without_updates stmts) _) (firsts_left is_reserve no_reserve stmts 0 p.mems) (firsts_left is_release no_release stmts 0 p.mems)
+    let stages = graph p.mems [] flat.Ends p.body (at_start p) in
+    let free_stmts = flat_stmts p.mems [] (update_free p.body) (at_start p) in
+    let free_stages = graph p.mems [] flat.Ends (update_free p.body) (at_start p) in
+    ap (λ q. form p q free_stmts free_stages) (past_free p.mems p.body (at_start p))
+    ∙ ap₂ (form p last) (flat_free p.mems [] p.body (at_start p)) (graph_free p.mems [] flat.Ends p.body (at_start p))
+    ∙ ap₂ (λ r l. record (form p last (without_updates stmts) stages) { reserves_at = r; releases_at = l })
+    (firsts_left is_reserve no_reserve stmts 0 p.mems) (firsts_left is_release no_release stmts 0 p.mems)
 
 -- where the commits of a pipe with its updates and without them begin one list, those of a source do
 pub updates_idle : (p : Pipe) (image : Arrays) (schedule replies : List (List Bool))

@@ -116,12 +116,12 @@ first_reserved_thin m (x ∷ xs) =
     at : (u k : Bool) → is_update x ≡ u → is_reserve_of W m (thin_place x) ≡ k → (is_update x ≡ true → k ≡ false)
         → first_reserved m (thin xs) ≡ first_reserved m xs
         → first_reserved m (if u then thin xs else thin_place x ∷ thin xs) ≡ (if k then place x else first_reserved m xs)
-    at true true i r no e = absurd (false≢true (sym (no i)))
-    at true false i r no e = e
-    at false true i r no e =
+    at true true i r none e = absurd (false≢true (sym (none i)))
+    at true false i r none e = e
+    at false true i r none e =
         ap (λ (b : Bool). if b then place (thin_place x) else first_reserved m (thin xs)) r
         ∙ thin_at None _ _ (λ s bs. thin_same (λ t. (parts_of t).location) (λ s c w o. refl) s) x
-    at false false i r no e = ap (λ (b : Bool). if b then place (thin_place x) else first_reserved m (thin xs)) r ∙ e
+    at false false i r none e = ap (λ (b : Bool). if b then place (thin_place x) else first_reserved m (thin xs)) r ∙ e
 
 pub l6 : (p : Pipe) (before : List Place) (x : Place) → breaks_l6 (without_update p) (thin before) (thin_place x) ≡ breaks_l6 p before x
 l6 p before x =

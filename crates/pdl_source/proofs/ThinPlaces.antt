@@ -97,12 +97,14 @@ thin_mems (m ∷ ms) = ap (λ xs. Memory m ∷ xs) (thin_mems ms)
 pub places_thin : (p : Pipe) → places (without_update p) ≡ thin (places p)
 places_thin p =
     let ends = End p.end ∷ StartClause p.start ∷ [] in
+    let heads = map Parameter p.params ++ map Memory p.mems in
     let body = statements [] p.body in
-    ap₂ (λ a b. a ++ b) (thin_params p.params)
-    (ap₂ (λ a b. a ++ b) (thin_mems p.mems)
-    (ap (λ a. a ++ ends) (thin_statements [] p.body) ∙ sym (thin_both body ends))
-    ∙ sym (thin_both (map Memory p.mems) (body ++ ends)))
-    ∙ sym (thin_both (map Parameter p.params) (map Memory p.mems ++ (body ++ ends)))
+    ap (λ a. a ++ ends)
+    (ap₂ (λ a b. a ++ b)
+    (ap₂ (λ a b. a ++ b) (thin_params p.params) (thin_mems p.mems) ∙ sym (thin_both (map Parameter p.params) (map Memory p.mems)))
+    (thin_statements [] p.body)
+    ∙ sym (thin_both heads body))
+    ∙ sym (thin_both (heads ++ body) ends)
 
 -- A PLACE AMONG THE OTHERS
 
@@ -134,12 +136,12 @@ tail_of e = ap behind e
 pub is_left : (xs before' : List Place) (x' : Place) (later' : List Place) → thin xs ≡ before' ++ x' ∷ later' → IsLeft xs before' x' later'
 is_left [] [] x' later' e = absurd (cc e)
 is_left [] (b ∷ bs) x' later' e = absurd (cc e)
-is_left (y ∷ ys) before' x' later' e = at (is_update y) refl before' e
+is_left (y ∷ ys) before' x' later' e = at (is_update y) refl before' e (λ bs. is_left ys bs x' later')
   where
     at : (u : Bool) → is_update y ≡ u → (before' : List Place) → (if u then thin ys else thin_place y ∷ thin ys) ≡ before' ++ x' ∷ later'
-        → IsLeft (y ∷ ys) before' x' later'
-    at true i before' e =
-        let l = is_left ys before' x' later' e in
+        → ((bs : List Place) → thin ys ≡ bs ++ x' ∷ later' → IsLeft ys bs x' later') → IsLeft (y ∷ ys) before' x' later'
+    at true i before' e left =
+        let l = left before' e in
         record {
           before = y ∷ l.before;
           x = l.x;
@@ -150,10 +152,10 @@ is_left (y ∷ ys) before' x' later' e = at (is_update y) refl before' e
           here = l.here;
           rest = l.rest;
         }
-    at false i [] e =
+    at false i [] e left =
         record { before = []; x = y; later = ys; whole = refl; stays = i; front = refl; here = sym (head_of e); rest = sym (tail_of e) }
-    at false i (b ∷ bs) e =
-        let l = is_left ys bs x' later' (tail_of e) in
+    at false i (b ∷ bs) e left =
+        let l = left bs (tail_of e) in
         record {
           before = y ∷ l.before;
           x = l.x;
@@ -233,11 +235,12 @@ count_thin test stays (x ∷ xs) = at (is_update x) refl (count_thin test stays 
 pub fold_thin : {S : Type 0} (f : S → Place → S) → ((a : S) (x : Place) → f a (thin_place x) ≡ f a x)
     → ((a : S) (x : Place) → is_update x ≡ true → f a x ≡ a) → (a : S) (xs : List Place) → fold f a (thin xs) ≡ fold f a xs
 fold_thin f same none a [] = refl
-fold_thin f same none a (x ∷ xs) = at (is_update x) refl
+fold_thin f same none a (x ∷ xs) = at (is_update x) refl (fold_thin f same none (f a x) xs)
   where
-    at : (u : Bool) → is_update x ≡ u → fold f a (if u then thin xs else thin_place x ∷ thin xs) ≡ fold f (f a x) xs
-    at true i = fold_thin f same none a xs ∙ ap (λ b. fold f b xs) (sym (none a x i))
-    at false i = ap (λ b. fold f b (thin xs)) (same a x) ∙ fold_thin f same none (f a x) xs
+    at : (u : Bool) → is_update x ≡ u → fold f (f a x) (thin xs) ≡ fold f (f a x) xs
+        → fold f a (if u then thin xs else thin_place x ∷ thin xs) ≡ fold f (f a x) xs
+    at true i e = ap (λ b. fold f b (thin xs)) (sym (none a x i)) ∙ e
+    at false i e = ap (λ b. fold f b (thin xs)) (same a x) ∙ e
 
 -- PATHS
 

@@ -33,7 +33,8 @@ outer_thin (x ∷ xs) (b ∷ bs) = ap (λ c. same_branch x b && c) (outer_thin x
 -- a stage by the separators before it
 from_thin : (begun found : ℕ) (bs : List Branch) (xs : List Place) → stage_from begun found (thin_branches bs) (thin xs) ≡ stage_from begun found bs xs
 from_thin begun found bs [] = refl
-from_thin begun found bs (x ∷ xs) = at (is_update x) (is_separator x) refl (separators_stay.same x) (separators_stay.none x)
+from_thin begun found bs (x ∷ xs) =
+    at (is_update x) (is_separator x) refl (separators_stay.same x) (separators_stay.none x) (λ b f. from_thin b f bs xs)
   where
     found' : Bool → ℕ
     found' b = if b then suc begun else found
@@ -42,23 +43,24 @@ from_thin begun found bs (x ∷ xs) = at (is_update x) (is_separator x) refl (se
     outer = ap (λ cs. are_outer cs (thin_branches bs)) (branches_thin x) ∙ outer_thin (branches_of x) bs
 
     at : (u k : Bool) → is_update x ≡ u → is_separator (thin_place x) ≡ k → (is_update x ≡ true → k ≡ false)
+        → ((b f : ℕ) → stage_from b f (thin_branches bs) (thin xs) ≡ stage_from b f bs xs)
         → stage_from begun found (thin_branches bs) (if u then thin xs else thin_place x ∷ thin xs)
         ≡ (if k then stage_from (suc begun) (found' (are_outer (branches_of x) bs)) bs xs else stage_from begun found bs xs)
-    at true true i s no = absurd (false≢true (sym (no i)))
-    at true false i s no = from_thin begun found bs xs
-    at false true i s no =
+    at true true i s none later = absurd (false≢true (sym (none i)))
+    at true false i s none later = later begun found
+    at false true i s none later =
         ap (λ (b : Bool).
         if b
         then stage_from (suc begun) (found' (are_outer (branches_of (thin_place x)) (thin_branches bs))) (thin_branches bs) (thin xs)
         else stage_from begun found (thin_branches bs) (thin xs)) s
         ∙ ap (λ b. stage_from (suc begun) (found' b) (thin_branches bs) (thin xs)) outer
-        ∙ from_thin (suc begun) (found' (are_outer (branches_of x) bs)) bs xs
-    at false false i s no =
+        ∙ later (suc begun) (found' (are_outer (branches_of x) bs))
+    at false false i s none later =
         ap (λ (b : Bool).
         if b
         then stage_from (suc begun) (found' (are_outer (branches_of (thin_place x)) (thin_branches bs))) (thin_branches bs) (thin xs)
         else stage_from begun found (thin_branches bs) (thin xs)) s
-        ∙ from_thin begun found bs xs
+        ∙ later begun found
 
 pub in_thin : (before : List Place) (bs : List Branch) → stage_in (thin before) (thin_branches bs) ≡ stage_in before bs
 in_thin before bs = from_thin 0 0 bs before
@@ -78,46 +80,44 @@ more_goes before x i =
 -- the stage of the first place that passes a test, and those of all
 pub first_thin : (test : Place → Bool) → Stays test → (before xs : List Place) → first_stage test (thin before) (thin xs) ≡ first_stage test before xs
 first_thin test stays before [] = refl
-first_thin test stays before (x ∷ xs) = at (is_update x) (test x) refl (stays.same x) (stays.none x)
+first_thin test stays before (x ∷ xs) = at (is_update x) (test x) refl (stays.same x) (stays.none x) (first_thin test stays (before ++ x ∷ []) xs)
   where
     at : (u k : Bool) → is_update x ≡ u → test (thin_place x) ≡ k → (is_update x ≡ true → k ≡ false)
+        → first_stage test (thin (before ++ x ∷ [])) (thin xs) ≡ first_stage test (before ++ x ∷ []) xs
         → first_stage test (thin before) (if u then thin xs else thin_place x ∷ thin xs)
         ≡ (if k then Some (stage_of before x) else first_stage test (before ++ x ∷ []) xs)
-    at true true i t no = absurd (false≢true (sym (no i)))
-    at true false i t no =
-        ap (λ zs. first_stage test zs (thin xs)) (sym (more_goes before x i)) ∙ first_thin test stays (before ++ x ∷ []) xs
-    at false true i t no =
+    at true true i t none later = absurd (false≢true (sym (none i)))
+    at true false i t none later = ap (λ zs. first_stage test zs (thin xs)) (sym (more_goes before x i)) ∙ later
+    at false true i t none later =
         ap (λ (b : Bool). if b then Some (stage_of (thin before) (thin_place x)) else first_stage test (thin before ++ thin_place x ∷ []) (thin xs)) t
         ∙ ap Some (of_thin before x)
-    at false false i t no =
+    at false false i t none later =
         ap (λ (b : Bool). if b then Some (stage_of (thin before) (thin_place x)) else first_stage test (thin before ++ thin_place x ∷ []) (thin xs)) t
-        ∙ ap (λ zs. first_stage test zs (thin xs)) (sym (more_stays before x i)) ∙ first_thin test stays (before ++ x ∷ []) xs
+        ∙ ap (λ zs. first_stage test zs (thin xs)) (sym (more_stays before x i)) ∙ later
 
 pub that_thin : (test : Place → Bool) → Stays test → (before xs : List Place) → stages_that test (thin before) (thin xs) ≡ stages_that test before xs
 that_thin test stays before [] = refl
-that_thin test stays before (x ∷ xs) = at (is_update x) (test x) refl (stays.same x) (stays.none x)
+that_thin test stays before (x ∷ xs) = at (is_update x) (test x) refl (stays.same x) (stays.none x) (that_thin test stays (before ++ x ∷ []) xs)
   where
-    more : List Place
-    more = before ++ x ∷ []
-
     at : (u k : Bool) → is_update x ≡ u → test (thin_place x) ≡ k → (is_update x ≡ true → k ≡ false)
+        → stages_that test (thin (before ++ x ∷ [])) (thin xs) ≡ stages_that test (before ++ x ∷ []) xs
         → stages_that test (thin before) (if u then thin xs else thin_place x ∷ thin xs)
         ≡ (if k then stage_of before x ∷ stages_that test (before ++ x ∷ []) xs else stages_that test (before ++ x ∷ []) xs)
-    at true true i t no = absurd (false≢true (sym (no i)))
-    at true false i t no = ap (λ zs. stages_that test zs (thin xs)) (sym (more_goes before x i)) ∙ that_thin test stays (before ++ x ∷ []) xs
-    at false true i t no =
+    at true true i t none later = absurd (false≢true (sym (none i)))
+    at true false i t none later = ap (λ zs. stages_that test zs (thin xs)) (sym (more_goes before x i)) ∙ later
+    at false true i t none later =
         ap (λ (b : Bool).
         if b
         then stage_of (thin before) (thin_place x) ∷ stages_that test (thin before ++ thin_place x ∷ []) (thin xs)
         else stages_that test (thin before ++ thin_place x ∷ []) (thin xs)) t
         ∙ ap₂ (λ n ns. n ∷ ns) (of_thin before x)
-        (ap (λ zs. stages_that test zs (thin xs)) (sym (more_stays before x i)) ∙ that_thin test stays (before ++ x ∷ []) xs)
-    at false false i t no =
+        (ap (λ zs. stages_that test zs (thin xs)) (sym (more_stays before x i)) ∙ later)
+    at false false i t none later =
         ap (λ (b : Bool).
         if b
         then stage_of (thin before) (thin_place x) ∷ stages_that test (thin before ++ thin_place x ∷ []) (thin xs)
         else stages_that test (thin before ++ thin_place x ∷ []) (thin xs)) t
-        ∙ ap (λ zs. stages_that test zs (thin xs)) (sym (more_stays before x i)) ∙ that_thin test stays (before ++ x ∷ []) xs
+        ∙ ap (λ zs. stages_that test zs (thin xs)) (sym (more_stays before x i)) ∙ later
 
 pub elsewhere_thin : (test : Place → Bool) → Stays test → (before : List Place) (s : ℕ) → is_elsewhere test (thin before) s ≡ is_elsewhere test before s
 elsewhere_thin test stays before s = ap (is_some_and (λ k. not (k == s))) (first_thin test stays [] before)
@@ -125,20 +125,22 @@ elsewhere_thin test stays before s = ap (is_some_and (λ k. not (k == s))) (firs
 -- the stage that the next separator on a path begins
 pub next_thin : (path : List Guard) (begun : ℕ) (xs : List Place) → next_on path begun (thin xs) ≡ next_on path begun xs
 next_thin path begun [] = refl
-next_thin path begun (x ∷ xs) = at (is_update x) (is_separator x) refl (separators_stay.same x) (separators_stay.none x)
+next_thin path begun (x ∷ xs) =
+    at (is_update x) (is_separator x) refl (separators_stay.same x) (separators_stay.none x) (λ b. next_thin path b xs)
   where
     go : Bool → List Place → ℕ
     go b zs = if b then suc begun else next_on path (suc begun) zs
 
     at : (u k : Bool) → is_update x ≡ u → is_separator (thin_place x) ≡ k → (is_update x ≡ true → k ≡ false)
+        → ((b : ℕ) → next_on path b (thin xs) ≡ next_on path b xs)
         → next_on path begun (if u then thin xs else thin_place x ∷ thin xs) ≡ (if k then go (on_path path x) xs else next_on path begun xs)
-    at true true i s no = absurd (false≢true (sym (no i)))
-    at true false i s no = next_thin path begun xs
-    at false true i s no =
+    at true true i s none later = absurd (false≢true (sym (none i)))
+    at true false i s none later = later begun
+    at false true i s none later =
         ap (λ (b : Bool). if b then go (on_path path (thin_place x)) (thin xs) else next_on path begun (thin xs)) s
-        ∙ ap₂ (λ (b : Bool) n. if b then suc begun else n) (on_path_thin path x) (next_thin path (suc begun) xs)
-    at false false i s no =
-        ap (λ (b : Bool). if b then go (on_path path (thin_place x)) (thin xs) else next_on path begun (thin xs)) s ∙ next_thin path begun xs
+        ∙ ap₂ (λ (b : Bool) n. if b then suc begun else n) (on_path_thin path x) (later (suc begun))
+    at false false i s none later =
+        ap (λ (b : Bool). if b then go (on_path path (thin_place x)) (thin xs) else next_on path begun (thin xs)) s ∙ later begun
 
 -- the places after one that stays
 front_off : (xs : List Place) (x : Place) (ys : List Place) → drop (suc (length xs)) (xs ++ x ∷ ys) ≡ ys

@@ -194,12 +194,13 @@ phases_left m ph (x ∷ xs) h =
 
 pub phase_left : (m : ℕ) (ph : Phase) (xs : List Stmt) → phase_all m ph (without_updates xs) ≡ phase_all m ph xs
 phase_left m ph [] = refl
-phase_left m ph (x ∷ xs) = at (is_update x.op) (phase_idle m ph x.op)
+phase_left m ph (x ∷ xs) = at (is_update x.op) (phase_idle m ph x.op) (phase_left m (next_phase m ph x.op) xs)
   where
     at : (u : Bool) → (u ≡ true → next_phase m ph x.op ≡ ph)
+        → phase_all m (next_phase m ph x.op) (without_updates xs) ≡ phase_all m (next_phase m ph x.op) xs
         → phase_all m ph (if u then without_updates xs else x ∷ without_updates xs) ≡ phase_all m (next_phase m ph x.op) xs
-    at true idle = phase_left m ph xs ∙ ap (λ q. phase_all m q xs) (sym (idle refl))
-    at false idle = phase_left m (next_phase m ph x.op) xs
+    at true idle e = ap (λ q. phase_all m q (without_updates xs)) (sym (idle refl)) ∙ e
+    at false idle e = e
 
 reserves_idle : (m : ℕ) (op : Op) → is_update op ≡ true → is_write_reserve m op ≡ false
 reserves_idle m (Verify true args) h = absurd (false≢true h)
