@@ -1,13 +1,13 @@
 -- What the squashing stages' nets say in a cycle: whether a later thread fails, whether a barrier is clear, whether there is a squash, and which threads it removes.
-use Rattle.std.proofs.Common.{◌≡◌, refl, sym, ap, ◌∙◌, subst, ℕ, zero, suc, ◌+◌, ◌-◌, ◌<◌, ◌≤◌, inl, inr, ⊎_elim, Bool, true, false, ◌&&◌, ◌||◌, not, List, [], ◌∷◌, ◌++◌, length, get_or, Option, Some, None, is_some, arith, nat_lt}
+use Rattle.std.proofs.Common.{◌≡◌, refl, sym, ap, ◌∙◌, subst, ℕ, zero, suc, ◌+◌, ◌-◌, ◌<◌, inl, inr, ⊎_elim, Bool, true, false, ◌&&◌, ◌||◌, not, List, [], ◌∷◌, ◌++◌, length, get_or, Option, Some, None, is_some, arith, nat_lt}
 use Rattle.std.specs.Prelude.{if◌then◌else◌, Contains}
 use Rattle.std.proofs.lemmas.Bool.{ltb-true, ltb-false, cases_eq, false≢true}
 use Rattle.std.proofs.lemmas.List.Elements.{Contains-get_or}
 use Rattle.pdl_word.specs.Words.{bit}
 use Rattle.pdl_word.specs.Each.{Each}
-use Rattle.pdl_word.proofs.Each.{each_weaker, each_from_all}
+use Rattle.pdl_word.proofs.Each.{each_from_all}
 use Rattle.pdl_semantics.specs.Flat.{Pipe}
-use Rattle.pdl_semantics.specs.Stages.{list_any, verify_stage}
+use Rattle.pdl_semantics.specs.Stages.{verify_stage}
 use Rattle.pdl_semantics.specs.Updates.{listed, update_stage, squash_stages}
 use Rattle.pdl_semantics.specs.Machine as machine
 use Rattle.pdl_semantics.specs.Machine.{Thread, Deeds}
@@ -26,7 +26,7 @@ use Rattle.pdl_law_parts.specs.Stands.{IsSeen}
 use Rattle.pdl_law_parts.proofs.Moves.{ready_of}
 use Rattle.pdl_law_parts.proofs.Signals.{if_on_at, one_is}
 use Rattle.pdl_machine_inflight.specs.InFlight.{InFlight, Some-of, UpdatesTogether}
-use Rattle.pdl_machine_inflight.proofs.SquashStages.{MaySquash, v_low, squash_low}
+use Rattle.pdl_machine_inflight.proofs.SquashStages.{v_low, squash_low}
 use Rattle.pdl_machine_inflight.proofs.Squashes.{stood_in, failing, squashing, any_squashing, some_squash, told_later, emptied_where, kept_where, clear_high, clear_where, not_clear}
 use Rattle.pdl_law_sides.specs.Sides.{Sides, unsquashed, clear_to, barrier_open, emptied_by}
 use Rattle.pdl_law_sides.specs.HasSides.{HasRemovals, squash_of}

@@ -1,9 +1,9 @@
 -- Who squashes, whom a squash removes, and for whom a barrier waits. In a cycle nobody squashes, or the thread of one stage does: where two would, the later one keeps the other from moving.
 use Rattle.std.proofs.Common.{◌≡◌, refl, sym, ap, ◌∙◌, subst, ℕ, zero, suc, ◌+◌, ◌≤◌, ◌<◌, ◌⊎◌, inl, inr, ⊎_elim, Bool, true, false, ◌&&◌, ◌||◌, not, List, [], ◌∷◌, ◌++◌, length, Option, Some, None, is_some, arith, ◌==◌, nat_lt, nat_le, lt-ltb, le-leb}
 use Rattle.std.specs.Prelude.{if◌then◌else◌}
-use Rattle.std.proofs.lemmas.Bool.{eqb-true, eqb-false, cases_lt, le-ltb, lt-leb, ltb-true, ltb-false, and_parts, false≢true, not-false, false_from_ne_true}
+use Rattle.std.proofs.lemmas.Bool.{eqb-true, eqb-false, cases_lt, le-ltb, lt-leb, ltb-true, ltb-false, and_parts, false≢true, false_from_ne_true}
 use Rattle.std.proofs.lemmas.List.{get_or_past}
-use Rattle.pdl_word.proofs.Bools.{by_bool, by_or, same_bools}
+use Rattle.pdl_word.proofs.Bools.{by_or, same_bools}
 use Rattle.pdl_semantics.specs.Flat.{Pipe}
 use Rattle.pdl_semantics.specs.Stages.{list_any, verify_stage}
 use Rattle.pdl_semantics.specs.Updates.{squash_stages}
@@ -14,7 +14,7 @@ use Rattle.pdl_semantics.specs.Cycle.{squasher, squash_stage, is_kept, merges_by
 use Rattle.pdl_theory_facts.specs.Facts.{Sound}
 use Rattle.pdl_machine_facts.specs.Slots.{slot, with_now, here, slot_moves, later_acts, stage_moves, mover, movers_from, moving}
 use Rattle.pdl_machine_inflight.specs.InFlight.{InFlight, Some-of, UpdatesTogether}
-use Rattle.pdl_machine_inflight.proofs.SquashStages.{MaySquash, v_low, squash_low, fails_in, fails_trunk}
+use Rattle.pdl_machine_inflight.proofs.SquashStages.{MaySquash, v_low, fails_in, fails_trunk}
 use Rattle.pdl_machine_inflight.proofs.LaterActs.{all_later, not_all_later}
 
 -- who stands in a stage with this cycle's answers stood there
