@@ -132,12 +132,14 @@ module _ (p : Pipe) (lawful : IsLawful p) (ls : Locks) (vs : ℕ → View) (gate
           ports_next p lawful.reads lawful.leads lawful.some c vs gates moves sides (beside.port_owns m) m r is (lawful.inside m r is)
           (beside.ports m r is) s st bits known.flight known.next known.by (whole.ports m r is) given seen_whole known.spared
           (λ k. removes (squasher (moving p st bits)) (slot st k))
-          (λ k l. kill_is p lawful.sound lawful.updates c vs gates moves sides beside.removals s st bits suits known.flight known.by whole.stands.valid seen_whole k l)
+          (λ k l. kill_is p lawful.sound lawful.updates c vs gates moves sides beside.removals s st bits suits known.flight known.by whole.stands.valid
+          seen_whole k l)
           (λ k u e. ap (removes (squasher (moving p st bits))) e) t regs arrays;
       orders =
           λ f q low e. order_kept p c vs gates moves sides (beside.order_owns f) f low
           (beside.orders f q low e) s st bits known.by seen_whole
-          (emptied_told p lawful.sound lawful.updates c vs gates moves sides beside.removals s st bits suits known.flight known.by whole.stands.valid seen_whole f)
+          (emptied_told p lawful.sound lawful.updates c vs gates moves sides beside.removals s st bits suits known.flight known.by whole.stands.valid
+          seen_whole f)
           lawful.sound lawful.leads known.flight.count known.next
           (whole.orders f q low e) t regs arrays;
       tails =

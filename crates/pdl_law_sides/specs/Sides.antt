@@ -135,7 +135,8 @@ gate_where p vs gates sides k =
     both (all_answered p (answers_of sides) k (length p.mems) 0)
     (both (unsquashed (squash_stages p.stmts) k sides.squash)
     (both (ports_open sides (vs k).ended.asks)
-    (both (barrier_open (verify_stage p.stmts) k (vs k).ended.barrier (clear_to (verify_stage p.stmts) sides.clear k)) (way_on (stage_at p k).next (turn p sides k) (vs k).ended))))
+    (both (barrier_open (verify_stage p.stmts) k (vs k).ended.barrier (clear_to (verify_stage p.stmts) sides.clear k))
+    (way_on (stage_at p k).next (turn p sides k) (vs k).ended))))
 
 -- ---- what the stages do to a port
 

@@ -67,7 +67,8 @@ checked : (v : Option ℕ) (g : Making) (env : List ℕ) (k : ℕ) (xs : List St
     → has_check env (in_stage k xs) ≡ true → Stands v k xs
 checked v g env k [] h e = absurd (false≢true e)
 checked v g env k (x ∷ xs) h e =
-    at (all_hold x.guards env) refl (x.stage == k) refl e (more (all_hold x.guards env) h (λ g' m r. checked v g' env k xs m r)) (made (all_hold x.guards env) h)
+    at (all_hold x.guards env) refl (x.stage == k) refl e
+    (more (all_hold x.guards env) h (λ g' m r. checked v g' env k xs m r)) (made (all_hold x.guards env) h)
   where
     Later : Bool → Type 0
     Later b = (stands_at v k ≡ true)
