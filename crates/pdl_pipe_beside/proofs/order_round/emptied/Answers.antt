@@ -16,7 +16,7 @@ returns-clause-means c =
     record {
       there = m.there;
       same = m.same
-          ∙ ap₂ (λ i j. either i j x y) (c.is_emptied.ensures ∙ ap (merges_by p k) c.verify_stage.ensures)
-          (c.is_emptied-2.ensures ∙ ap (merges_by p k) c.update_stage.ensures)
+          ∙ ap₂ (λ i j. either i j x y) (c.is_emptied-verify.ensures ∙ ap (merges_by p k) c.verify_stage.ensures)
+          (c.is_emptied-update.ensures ∙ ap (merges_by p k) c.update_stage.ensures)
           ∙ emptied_is p k x y;
     }
