@@ -13,7 +13,7 @@ use Rattle.pdl_semantics.specs.Cycle as stated
 use Rattle.pdl_semantics.specs.Lines.{Cycle, puts_for, puts_in, turn_cycle, turn_cycles}
 use Rattle.pdl_semantics.specs.Promises.{Refines}
 use Rattle.pdl_semantics.proofs.UpdateFree.{updates_idle}
-use Rattle.pdl_theory.proofs.StatedTheorems.{whole_refines, whole_advances, whole_paces, updates_alike}
+use Rattle.pdl_theory.proofs.StatedTheorems.{whole_refines, whole_advances, whole_paces, updates_alike, whole_idle}
 use Rattle.pdl_source_paths.specs.Source.{is_source, is_named}
 use Rattle.pdl_source_paths.proofs.PipeFacts.{of_source}
 use Rattle.pdl_rules.specs.Refusal.{KeepsRules}
@@ -146,4 +146,5 @@ module _ (p : tree.Pipe) (rules : KeepsRules p) (built : IsBuilt p) (source : is
         pace = whole_paces (flat p) sound words (replies_in (flat p) schedule);
         updates =
             λ replies. updates_idle p words (replies_in (flat p) schedule) replies (updates_alike (flat p) sound words (replies_in (flat p) schedule) replies);
+        advice = λ other replies differ. whole_idle (flat p) sound words other (replies_in (flat p) schedule) replies differ;
       }

@@ -36,6 +36,7 @@ use Rattle.pdl_pipe_tails.specs.declared.whole.TailNets.{TailNets}
 use Rattle.pdl_pipe_tails.specs.Tails.{HasCut, IsRow}
 use Rattle.pdl_pipe_locks.specs.declared.deeds.StageDeeds.{StageDeeds}
 use Rattle.pdl_pipe_locks.specs.Deeds.{steps_in}
+use Rattle.pdl_pipe_locks.specs.Advised.{advises_in, ExtendsAdvice}
 use Rattle.pdl_pipe_locks.specs.Lawful.{AreLawful, AreUnwritten}
 use Rattle.pdl_pipe_locks.specs.Stepped.{own_of, AreStepped, ExtendsLocks}
 use Rattle.pdl_pipe_locks.specs.Suited.{shapes_in}
@@ -88,13 +89,15 @@ pub record HasMoves {T : Type 0} (l : Members T) (b : Circuit) (x : StageLine) (
   pub line_moves_are : x.moves.now ≡ y.moves.items
   pub line_kills_are : x.kills.now ≡ y.kills.items
 
--- the locks take what they should next, from circuit h to circuit i
+-- the arrays of advisory memories take what they should next, from circuit h to circuit j, and the locks, from there to circuit i
 pub record HasLockSteps {T : Type 0} (l : Members T) (h i : Circuit) (x : StageLine) (locks : List (Option (MemLock T)))
     (squash : Net) (cut : List Net) (commits : List (Option LockNets)) : Type 0 where
+  pub j : Circuit
   pub deeds : List StageDeeds
   pub are_deeds : AreDeedsOf x deeds
-  pub stepped : AreStepped l i (line_pipe x) (steps_in h (line_pipe x) deeds squash cut) locks commits (length (line_pipe x).mems)
-  pub to_locks : ExtendsLocks locks (length (line_pipe x).mems) h i
+  pub to_advice : ExtendsAdvice (line_pipe x) h j (advises_in h deeds)
+  pub stepped : AreStepped l i (line_pipe x) (steps_in j (line_pipe x) deeds squash cut) locks commits (length (line_pipe x).mems)
+  pub to_locks : ExtendsLocks locks (length (line_pipe x).mems) j i
 
 -- all registers do, from circuit c to circuit i; those of the stages are from `high` on
 pub record HasSteps {T : Type 0} (l : Members T) (c i : Circuit) (x : StageLine) (locks : List (Option (MemLock T)))
