@@ -14,7 +14,6 @@ use Rattle.pdl_semantics.proofs.Facts.{all_vars}
 use Rattle.pdl_kit.specs.declared.rule.Rule.TheVariants.{F4}
 use Rattle.pdl_rules.specs.Forks.{is_delayed_memory, is_wrong_read}
 use Rattle.pdl_rules.specs.Refusal.{KeepsRules}
-use Rattle.pdl_rules.specs.Unbuilt.{IsBuilt}
 use Rattle.pdl_theory_facts.specs.Facts.{Sound}
 use Rattle.pdl_source_stages.proofs.Sites.{Site, All, sites_of, place_of, owns, stmts_are}
 use Rattle.pdl_source_stages.proofs.SiteFacts.{Fine, AtSite, op_of, rows_of, own_is, all_fine, each_stmt, each_fine, either_read, either_bind, either_write}
@@ -106,19 +105,19 @@ row_of p (If sp c when otherwise) vs e none plain = tt
 row_of p (Separator sp) vs e none plain = tt
 row_of p _ vs e none plain = tt
 
-rows_at : (p : tree.Pipe) → KeepsRules p → IsBuilt p → (ts : List Site) → All (Fine p) ts → All (λ t. ArePlain t.walk.vars) ts
+rows_at : (p : tree.Pipe) → KeepsRules p → (ts : List Site) → All (Fine p) ts → All (λ t. ArePlain t.walk.vars) ts
     → All (AtSite (λ (x : Stmt). HasRow (flat p) x.op) p.mems) ts
-rows_at p rules built [] fine plain = tt
-rows_at p rules built (t ∷ ts) fine plain = (
+rows_at p rules [] fine plain = tt
+rows_at p rules (t ∷ ts) fine plain = (
   λ op e. subst (OnSome (HasRow (flat p))) e
       (row_of p t.stmt t.walk.vars (rules F4 t.front (place_of t) fine.0.later fine.0.whole) (none_advisory p built) plain.0),
-  rows_at p rules built ts fine.1 plain.1,
+  rows_at p rules ts fine.1 plain.1,
 )
 
 -- a row stands for each statement of a pipe without forms that lack a circuit
-have_rows : (p : tree.Pipe) → KeepsRules p → IsBuilt p → HaveRows (flat p)
-have_rows p rules built =
-    each_stmt p (λ (x : Stmt). HasRow (flat p) x.op) (rows_at p rules built (sites_of p) (all_fine p rules) (sites_plain p built))
+have_rows : (p : tree.Pipe) → KeepsRules p → HaveRows (flat p)
+have_rows p rules =
+    each_stmt p (λ (x : Stmt). HasRow (flat p) x.op) (rows_at p rules (sites_of p) (all_fine p rules) (sites_plain p built))
 
 -- ---- VARIABLES
 
@@ -202,8 +201,8 @@ reads_source p rules sound = record {
 }
 
 -- a source that breaks no rule and has no form without circuit has what its netlist hangs on
-pub lawful_source : (p : tree.Pipe) → KeepsRules p → IsBuilt p → is_source p ≡ true → is_named p ≡ true → IsLawful (flat p)
-lawful_source p rules built source named =
+pub lawful_source : (p : tree.Pipe) → KeepsRules p → is_source p ≡ true → is_named p ≡ true → IsLawful (flat p)
+lawful_source p rules source named =
     let sound = of_source p rules source named in
     record {
       sound = sound;
@@ -211,6 +210,6 @@ lawful_source p rules built source named =
       some = (let h = sound.graph.some_stage in omega (arith, h));
       updates = (stage_facts p rules).updates;
       reads = reads_source p rules sound;
-      rows = have_rows p rules built;
+      rows = have_rows p rules;
       inside = reading_has (λ n q. q.stage < length (flat p).stages) (flat p).stmts (each_low (length (flat p).stages) (flat p).stmts sound.inside);
     }

@@ -3,14 +3,13 @@ use Rattle.std.specs.Prelude.{◌≡◌, ℕ, List, [], ◌∷◌, ◌++◌, Opt
 use Rattle.pdl_kit.specs.declared.rule.Rule.{Rule}
 use Rattle.pdl_kit.specs.declared.rule.Rule.TheVariants.{F4, F5, L1, P1}
 use Rattle.pdl_semantics.specs.Tree.{W}
-use Rattle.pdl_rules.specs.Refusal.{Refused}
-use Rattle.pdl_rules.proofs.Judged.{judged}
+use Rattle.pdl_rules.specs.Refusal.{Refused, refusal}
 use Rattle.pdl_rules.proofs.Texts.{literal, constant, variable, slice, plus, Line, separator, choice, bind, read, delayed_read, write, reserve, block, release, call, spec_call, update, verify, spec_check, param, comb, slow, advisory, queue, whole}
 
 -- a pipe with an advisory memory t, a locked memory m and a delayed one d, of 4 words of 8 bits, whose guess is the sum of its argument and of what is learnt in t; `guess` stands behind the read of t, and `last` behind the verify
 abbrev predicted : Line → List Line → List Line → Option Refused
 predicted checked guess last =
-    judged (whole (param "n" 8 ∷ []) (advisory 2 "t" 8 4 ∷ comb 2 "m" 8 4 (queue 1) ∷ slow 2 "d" 8 4 (queue 1) ∷ [])
+    refusal [] (whole (param "n" 8 ∷ []) (advisory 2 "t" 8 4 ∷ comb 2 "m" 8 4 (queue 1) ∷ slow 2 "d" 8 4 (queue 1) ∷ [])
     (spec_check ∷ bind "a" (slice "n" 1 0) ∷ read "g" "t" "a" ∷ guess ++ separator ∷ bind "u" (plus (variable "n") (constant 8 2)) ∷ separator ∷ checked ∷ last)
     (literal 8 0 ∷ []))
 
