@@ -89,15 +89,15 @@ pub record HasMoves {T : Type 0} (l : Members T) (b : Circuit) (x : StageLine) (
   pub line_moves_are : x.moves.now ≡ y.moves.items
   pub line_kills_are : x.kills.now ≡ y.kills.items
 
--- the arrays of advisory memories take what they should next, from circuit h to circuit j, and the locks, from there to circuit i
-pub record HasLockSteps {T : Type 0} (l : Members T) (h i : Circuit) (x : StageLine) (locks : List (Option (MemLock T)))
+-- the arrays of advisory memories take what they should next, from circuit j to circuit h, and the locks, from there to circuit i
+pub record HasLockSteps {T : Type 0} (l : Members T) (j i : Circuit) (x : StageLine) (locks : List (Option (MemLock T)))
     (squash : Net) (cut : List Net) (commits : List (Option LockNets)) : Type 0 where
-  pub j : Circuit
+  pub h : Circuit
   pub deeds : List StageDeeds
   pub are_deeds : AreDeedsOf x deeds
-  pub to_advice : ExtendsAdvice (line_pipe x) h j (advises_in h deeds)
-  pub stepped : AreStepped l i (line_pipe x) (steps_in j (line_pipe x) deeds squash cut) locks commits (length (line_pipe x).mems)
-  pub to_locks : ExtendsLocks locks (length (line_pipe x).mems) j i
+  pub to_advice : ExtendsAdvice (line_pipe x) j h (advises_in j deeds)
+  pub stepped : AreStepped l i (line_pipe x) (steps_in h (line_pipe x) deeds squash cut) locks commits (length (line_pipe x).mems)
+  pub to_locks : ExtendsLocks locks (length (line_pipe x).mems) h i
 
 -- all registers do, from circuit c to circuit i; those of the stages are from `high` on
 pub record HasSteps {T : Type 0} (l : Members T) (c i : Circuit) (x : StageLine) (locks : List (Option (MemLock T)))
@@ -106,7 +106,7 @@ pub record HasSteps {T : Type 0} (l : Members T) (c i : Circuit) (x : StageLine)
   pub e : Circuit
   pub f : Circuit
   pub g : Circuit
-  pub h : Circuit
+  pub j : Circuit
   pub takes : (k : ℕ) (s : StageNets) → k < length x.stages.now → IsAt x.stages.now k s → TakesNext c e x k s
   pub to_nexts : (high : ℕ) → AreApart high (length c.regs) x.stages.now → ExtendsBut (regs_of high (length c.regs)) c e
   pub cut : HasCut e f x squashes.verify tails (verify_stage (line_pipe x).stmts)
@@ -114,9 +114,9 @@ pub record HasSteps {T : Type 0} (l : Members T) (c i : Circuit) (x : StageLine)
   pub to_tails : Extends e f
   pub ports_stepped : (m : ℕ) → IsPortStepped f g (line_pipe x) es x.shared.now.ports.now m
   pub to_ports : ExtendsParts (own_at port_laws.own x.shared.now.ports.now) (length (line_pipe x).mems) f g
-  pub orders_stepped : (k : ℕ) → k < length (line_pipe x).stages → IsOrderStepped g h (line_pipe x) es squashes forks k
-  pub to_orders : ExtendsParts (own_at order_laws.own forks) (length (line_pipe x).stages) g h
-  pub last : HasLockSteps l h i x locks squash tails.cut commits
+  pub orders_stepped : (k : ℕ) → k < length (line_pipe x).stages → IsOrderStepped g j (line_pipe x) es squashes forks k
+  pub to_orders : ExtendsParts (own_at order_laws.own forks) (length (line_pipe x).stages) g j
+  pub last : HasLockSteps l j i x locks squash tails.cut commits
 
 -- ---- the whole
 

@@ -142,8 +142,8 @@ pub record Emission {T : Type 0} (l : Members T) (n : Nets T) : Type 0 where
   pub e : Circuit
   pub f : Circuit
   pub g : Circuit
-  pub h : Circuit
   pub j : Circuit
+  pub h : Circuit
   pub i : Circuit
   pub d : Circuit
   pub low : ℕ
@@ -169,12 +169,12 @@ pub record Emission {T : Type 0} (l : Members T) (n : Nets T) : Type 0 where
   pub to_tails : Extends e f
   pub ports_stepped : (m : ℕ) → IsPortStepped f g (line_pipe n.line) n.ends n.line.shared.now.ports.now m
   pub to_ports : ExtendsParts (own_at port_laws.own n.line.shared.now.ports.now) (length (line_pipe n.line).mems) f g
-  pub orders_stepped : (k : ℕ) → k < length (line_pipe n.line).stages → IsOrderStepped g h (line_pipe n.line) n.ends n.moves.squashes n.orders k
-  pub to_orders : ExtendsParts (own_at order_laws.own n.orders) (length (line_pipe n.line).stages) g h
-  pub to_advice : ExtendsAdvice (line_pipe n.line) h j (advises_in h n.deeds)
+  pub orders_stepped : (k : ℕ) → k < length (line_pipe n.line).stages → IsOrderStepped g j (line_pipe n.line) n.ends n.moves.squashes n.orders k
+  pub to_orders : ExtendsParts (own_at order_laws.own n.orders) (length (line_pipe n.line).stages) g j
+  pub to_advice : ExtendsAdvice (line_pipe n.line) j h (advises_in j n.deeds)
   pub stepped : AreStepped l i (line_pipe n.line)
-      (steps_in j (line_pipe n.line) n.deeds n.moves.squash n.tails.cut) n.locks n.commits (length (line_pipe n.line).mems)
-  pub to_locks : ExtendsLocks n.locks (length (line_pipe n.line).mems) j i
+      (steps_in h (line_pipe n.line) n.deeds n.moves.squash n.tails.cut) n.locks n.commits (length (line_pipe n.line).mems)
+  pub to_locks : ExtendsLocks n.locks (length (line_pipe n.line).mems) h i
   -- and nothing changes after that
   pub keeps : Keeps i d
   pub nexts : (r : ℕ) → HasReg i r → next_signal d r ≡ next_signal i r
