@@ -16,7 +16,7 @@ pub mod WholeOutputs
 pub mod NextStores
 pub mod WholeRuns
 pub mod DelayedReads
-mod BuiltForms
+mod AdviceFacts
 pub mod FromRules
 mod OwnPending
 pub mod CycleFacts
