@@ -19,10 +19,12 @@ use Rattle.pdl_law_parts.specs.Walk.{Locks, one, both}
 use Rattle.pdl_law_parts.specs.Views.{Gates, View, free, way_on, moves_where}
 use Rattle.pdl_law_parts.specs.Compiled.{IsLaid}
 use Rattle.pdl_law_parts.specs.Rows.{HaveRows}
+use Rattle.pdl_law_parts.specs.Advice.{IsAdvisedApart}
 use Rattle.pdl_law_parts.specs.Served.{IsServed}
 use Rattle.pdl_law_parts.specs.Stands.{StandsFor, IsEnv, IsSo, Follows, IsSeen}
 use Rattle.pdl_law_parts.specs.Beside.{TellsGate}
 use Rattle.pdl_law_parts.proofs.Signals.{mux_at, mux_by, both_at, one_is}
+use Rattle.pdl_law_parts.proofs.AdvisedValues.{plain_env}
 use Rattle.pdl_law_parts.proofs.StageLaw.{stage_follows}
 
 -- a fork's variable lives in its stage
@@ -55,16 +57,16 @@ ready_of p st bits k t by l h g = second (is_empty t.awaits) (locks_ready p st t
 
 -- each stage in a cycle, where the walks begin with the answers of the cycle and the gates tell what they should
 module _ (p : Pipe) (ls : Locks) (vs : ℕ → View) (gates : Gates) (moves : ℕ → Signal) (c : Circuit)
-    (made : IsLaid p ls vs gates moves c) (all : HaveRows p) (leads : LeadsOn p)
+    (made : IsLaid p ls vs gates moves c) (all : HaveRows p) (apart : IsAdvisedApart p) (leads : LeadsOn p)
     (s : State) (st : machine.State) (bits : List Bool) (suits : Suits c s) (stands : StandsFor p ls vs s st)
     (used : IsServed p st bits) (by : IsByStages p st bits)
-    (answers : (k : ℕ) (t : Thread) → k < length p.stages → here p st bits k ≡ Some t → IsEnv p k s (vs k).begun.vars (with_kept t.kept t.env))
+    (answers : (k : ℕ) (t : Thread) → k < length p.stages → here p st bits k ≡ Some t → IsEnv p k s (vs k).begun.vars (with_kept t.advice (with_kept t.kept t.env)))
     (tells : (k : ℕ) (t : Thread) → k < length p.stages → here p st bits k ≡ Some t → TellsGate p vs gates moves s st bits k t) where
   follows_at : (k : ℕ) (t : Thread) → k < length p.stages → here p st bits k ≡ Some t → Follows p k s st t.number (vs k).ended (deeds p st k t)
   follows_at k t l h =
       let x = made.stages k l in
       stage_follows c p ls vs s st bits suits (λ m e. (made.locks m e).kind)
-      (λ m e. (made.locks m e).room) (λ m e. (made.locks m e).room2) made.twice stands used all k t x.rows x.fresh x.guess_long (answers k t l h) h
+      (λ m e. (made.locks m e).room) (λ m e. (made.locks m e).room2) made.twice stands used all apart k t x.rows x.fresh x.guess_long (answers k t l h) h
 
   module _ (k : ℕ) (l : k < length p.stages) (later : (j : ℕ) → k < j → j < length p.stages → IsSeen p vs moves s st bits j) where
     free_is : (q : ℕ) → k < q → q < length p.stages → (free vs moves q).value s ≡ bit (is_none (slot st q) || stage_moves p st bits q)
@@ -80,7 +82,8 @@ module _ (p : Pipe) (ls : Locks) (vs : ℕ → View) (gates : Gates) (moves : �
 
     way_is : (t : Thread) → IsSo p k s (vs k).ended (deeds p st k t)
         → (way_on (stage_at p k).next (free vs moves) (vs k).ended).value s ≡ bit (may_enter p st bits (next_stage p k (deeds p st k t)))
-    way_is t so = at (stage_at p k).next (λ q e. leads.up k q (deeds p st k t).env l e) (λ x e. so.env x (lives_fork p k x l e))
+    way_is t so = at (stage_at p k).next (λ q e. leads.up k q (deeds p st k t).env l e) 
+    (λ x e. plain_env p k s (vs k).ended (deeds p st k t) x so (lives_fork p k x l e) (apart.forks k x e))
       where
         env : List ℕ
         env = (deeds p st k t).env
