@@ -1,6 +1,7 @@
 pub mod OrderSteps
 pub mod WaitingPorts
 pub mod WaitingStep
+pub mod AdvisedAnswers
 pub mod PortSides
 pub mod PortsNext
 pub mod Removals

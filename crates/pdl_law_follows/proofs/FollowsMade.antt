@@ -75,13 +75,13 @@ module _ (p : tree.Pipe) (rules : KeepsRules p) (source : is_source p ≡ true) 
   follows =
       let formed =
       well_formed (flat p) p.mems (declared p rules) refl lawful.some
-      (few_stages p rules) ls vs gates moves sides n made.well made.compiled made.in_order made.arrays made.wide made.commits asked made.mems in
+      (few_stages p rules) ls vs gates moves sides n made.well made.compiled made.arrays made.wide made.commits asked made.mems in
       record {
         name = made.name;
         well_formed = formed;
         ports =
             ports (flat p) p.mems (declared p rules) refl lawful.some
-            (few_stages p rules) ls vs gates moves sides n made.well made.compiled made.in_order made.arrays made.wide made.commits asked made.mems;
+            (few_stages p rules) ls vs gates moves sides n made.well made.compiled made.arrays made.wide made.commits asked made.mems;
         mems = made.mems;
         arrays = made.arrays;
         shows =

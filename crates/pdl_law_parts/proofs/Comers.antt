@@ -28,8 +28,7 @@ use Rattle.pdl_law_parts.specs.Served.{IsServed}
 use Rattle.pdl_law_parts.specs.Stands.{IsEnv, IsHolding, StandsFor, AreShort, IsSo, IsSeen, TellsLate, AreLate, child_in}
 use Rattle.pdl_law_parts.proofs.Signals.{mux_by, one_is, zero_is}
 use Rattle.pdl_law_parts.proofs.StageLooks.{lock_there}
-use Rattle.pdl_law_parts.proofs.AdvisedValues.{plain_env}
-use Rattle.pdl_law_parts.proofs.Moves.{ready_of, lives_fork}
+use Rattle.pdl_law_parts.proofs.Moves.{ready_of, fork_value}
 use Rattle.pdl_law_parts.proofs.LockPorts.{both_is, moves_or_not, no_mover, one_mover}
 use Rattle.pdl_word.proofs.Lists.{zeros_at}
 use Rattle.pdl_semantics.proofs.Facts.{held_first}
@@ -346,7 +345,7 @@ module _ (p : Pipe) (ls : Locks) (vs : ℕ → View) (moves : ℕ → Signal) (s
       let on : is_on (out_of p vs moves q j).comes s ≡ is_stage q (next_stage p j d) =
       both_is s (moves j) (branch (stage_at p j).next q (vs j).ended) true ((seen j l).leaves ∙ ap bit f.2)
       ∙ on_branch (stage_at p j).next q (vs j).ended d.env 
-      (λ x e. plain_env p j s (vs j).ended d x so (lives_fork p j x l e) (apart.forks j x e)) in
+      (fork_value p apart j s (vs j).ended d l so) in
       let P : Option Thread → Type 0 = λ o. AreAlike q (if is_on (out_of p vs moves q j).comes s then Some (out_of p vs moves q j) else None) o in
       let Q : Bool → Type 0 =
       λ b. AreAlike q (if b then Some (out_of p vs moves q j) else None)
