@@ -5,7 +5,8 @@ use Rattle.std.proofs.lemmas.Bool.{eqb-true, eqb-false, cases_lt}
 use Rattle.std.proofs.lemmas.List.{get_or-set_same, get_or-set_other, get_or_past, length-set, length-take}
 use Rattle.std.proofs.lemmas.Nat.{pow_pos}
 use Rattle.pdl_kit.specs.declared.mem_info.MemInfo.{MemInfo}
-use Rattle.pdl_semantics.specs.Flat.{Arrays, MemKind, Comb, Delayed, Advisory, Mem, Pipe, is_delayed, is_advisory, with_word}
+use Rattle.pdl_semantics.specs.Tree.{MemKind, Comb, Delayed, Advisory}
+use Rattle.pdl_semantics.specs.Flat.{Arrays, Mem, Pipe, is_delayed, is_advisory, with_word}
 use Rattle.pdl_semantics.specs.Stages.{plain_mem, mem_at}
 use Rattle.pdl_semantics.specs.Locks.{commit_value}
 use Rattle.pdl_semantics.specs.Machine as machine

@@ -1,7 +1,6 @@
 -- Texts are read as the automaton takes them, and what is read is so.
 use Rattle.std.proofs.Common.{◌≡◌, ℕ, ◌<◌, Bool, true, false, List, [], ◌∷◌, ◌++◌, length, Option, Some, None, Ok, cond, refl, sym, subst, arith}
-use Rattle.pdl_semantics.specs.Flat.{MemKind, Advisory}
-use Rattle.pdl_semantics.specs.Tree.{Span, Ident, Number, Literal, Stmts, LockDecl, Param, Mem, Start}
+use Rattle.pdl_semantics.specs.Tree.{Span, Ident, Number, Literal, Stmts, LockDecl, Param, MemKind, Advisory, Mem, Start}
 use Rattle.pdl_syntax_tokens.specs.declared.token.Mark.TheVariants as mark
 use Rattle.pdl_syntax_tokens.specs.declared.token.TokenKind.{TokenKind}
 use Rattle.pdl_syntax_tokens.specs.declared.token.TokenKind.TheVariants as kind

@@ -2,8 +2,7 @@
 use Rattle.std.proofs.Common.{◌≡◌, ℕ, zero, suc, pred, ◌≤◌, ◌<◌, Bool, true, false, List, ◌∷◌, length, Option, Some, None, Ok, cond, nat_eq, refl, ◌∙◌, arith}
 use Rattle.std.proofs.lemmas.Bool.{eqb-true}
 use Rattle.std.proofs.lemmas.Bool.Decides.{nat_tests}
-use Rattle.pdl_semantics.specs.Flat.{Advisory}
-use Rattle.pdl_semantics.specs.Tree.{BinaryOp, Expr, Binary, Kind, R, W, Stmt, Stmts, LockKind, Queue, Bypass, Rename, LockDecl, Param, Mem, Literal, Start, Pipe}
+use Rattle.pdl_semantics.specs.Tree.{BinaryOp, Expr, Binary, Kind, R, W, Stmt, Stmts, LockKind, Queue, Bypass, Rename, LockDecl, Param, Advisory, Mem, Literal, Start, Pipe}
 use Rattle.pdl_syntax_tokens.specs.declared.token.Mark.{Mark}
 use Rattle.pdl_syntax_tokens.specs.declared.token.Mark.TheVariants as mark
 use Rattle.pdl_syntax_tokens.specs.declared.token.TokenKind.{TokenKind}

@@ -1,7 +1,6 @@
 -- What the parts of the parser ensure.
 use Rattle.std.specs.Prelude.{◌≡◌, ◌≢◌, ℕ, Bool, List, map, [], ◌∷◌, ◌++◌, Option, Some, None, Result, Ok, Err}
-use Rattle.pdl_semantics.specs.Flat.{MemKind}
-use Rattle.pdl_semantics.specs.Tree.{Span, Ident, Number, Expr, Location, Kind, Stmt, Stmts, Param, LockDecl, Mem, Start}
+use Rattle.pdl_semantics.specs.Tree.{Span, Ident, Number, Expr, Location, Kind, Stmt, Stmts, Param, LockDecl, MemKind, Mem, Start}
 use Rattle.pdl_syntax_grammar.specs.declared.item.GrammarItem.{GrammarItem}
 use Rattle.pdl_syntax_grammar.specs.declared.item.GrammarItem.TheVariants.{One, Two}
 use Rattle.pdl_syntax_grammar.specs.declared.item.ReservedEnd as r_reserved
