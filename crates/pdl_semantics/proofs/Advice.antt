@@ -3,7 +3,7 @@ use Rattle.std.proofs.Common.{◌≡◌, refl, sym, ap, ap₂, ◌∙◌, subst,
 use Rattle.std.proofs.lemmas.Bool.{eqb-true}
 use Rattle.pdl_semantics.specs.Flat.{Arrays, Array, with_value, word_at, is_advisory, list_all, Op, Bind, CombRead, DelayedRead, Write, Call, Verify, Stmt, Pipe, Commit, of_mem, all_hold, value_of, values_of}
 use Rattle.pdl_semantics.specs.Stages.{mem_at}
-use Rattle.pdl_semantics.specs.Sequential.{Run, run_after, run_all, thread, threads_from, threads, writes_from, seqwrites}
+use Rattle.pdl_semantics.specs.Sequential.{Run, run_after, run_all, thread, writes_from, seqwrites}
 use Rattle.pdl_semantics.specs.Cycle.{turns, commits, ended_in}
 use Rattle.pdl_semantics.specs.Promises.{IsPrefix, Refines, DifferInAdvice, AdviceIsIdle, fits_kind, KeepsAdvice}
 
@@ -78,19 +78,6 @@ same_writes p (suc k) image other args h f =
     ap₂ (λ a b. a ++ b) t.writes
     (ap (writes_from p k (thread p image args).arrays) t.next
     ∙ same_writes p k (thread p image args).arrays (thread p other args).arrays (thread p other args).next h t.arrays)
-
-same_threads : (p : Pipe) (k : ℕ) (image other : Arrays) (args : List ℕ)
-    → KeepsAdvice p → DifferInAdvice p image other → threads_from p k image args ≡ threads_from p k other args
-same_threads p zero image other args h f = refl
-same_threads p (suc k) image other args h f =
-    let t = alike_thread p image other args h f in
-    ap₂ (λ a b. a ∷ b) t.writes
-    (ap (threads_from p k (thread p image args).arrays) t.next
-    ∙ same_threads p k (thread p image args).arrays (thread p other args).arrays (thread p other args).next h t.arrays)
-
--- each thread writes the same from images that differ in advisory memories alone
-pub threads_alike : (p : Pipe) (image other : Arrays) → KeepsAdvice p → DifferInAdvice p image other → (k : ℕ) → threads p image k ≡ threads p other k
-threads_alike p image other h f k = same_threads p k image other p.start h f
 
 -- threads write the same from images that differ in advisory memories alone
 pub same_seq : (p : Pipe) (image other : Arrays) → KeepsAdvice p → DifferInAdvice p image other → (m k : ℕ) → seqwrites p image m k ≡ seqwrites p other m k

@@ -1,6 +1,7 @@
 // A sequential run.
 ghost use Rattle.std.specs.Prelude.{◌≡◌, ◌<◌, ◌+◌, ◌-◌, ◌^◌, [], List, ℕ, true, false, IfOk};
 ghost use Rattle.pdl_semantics.specs.Flat.{arrays_of};
+ghost use Rattle.pdl_semantics.specs.Sequential.{seqwrites};
 ghost use Rattle.pdl_semantics.specs.Promises.{DifferInAdvice};
 ghost use Rattle.pdl_syntax_tree.specs.View.{pipe_view};
 ghost use Rattle.pdl_rules.specs.Memories.{infos_of};
@@ -8,7 +9,7 @@ ghost use Rattle.pdl_form.specs.Form.{form_of};
 ghost use Rattle.pdl_form.specs.FormView.{form};
 ghost use Rattle.pdl_image.specs.Images.{IsImage};
 ghost use Rattle.pdl_seq.specs.Fits.{IsImageFor, AreWrites};
-ghost use Rattle.pdl_seq.specs.Runs.{IsRunnable, HasRun, told_writes};
+ghost use Rattle.pdl_seq.specs.Runs.{IsRunnable, HasRun};
 
 use crate::accepted::runnable;
 use crate::begin::{begin, forget, tell};
@@ -125,8 +126,9 @@ impl<'p> SeqRun<'p> {
         ensures run { (image : List (List ℕ)) → HasRun self.old image → HasRun self.new image }
         // What advisory memories hold changes no write: from an image that differs in them alone the threads write the same.
         ensures advice { (image other : List (List ℕ)) → HasRun self.new image →
-            DifferInAdvice (form self.new.pipe).pipe (arrays_of image) (arrays_of other) →
-            self.new.writes ≡ told_writes self.new.streams (form self.new.pipe).pipe (arrays_of other) self.new.run }
+            DifferInAdvice (form self.new.pipe).pipe (arrays_of image) (arrays_of other) → (m : ℕ) →
+            seqwrites (form self.new.pipe).pipe (arrays_of image) m self.new.run
+            ≡ seqwrites (form self.new.pipe).pipe (arrays_of other) m self.new.run }
         ensures pipe { self.new.pipe ≡ self.old.pipe }
         ensures count { self.new.run ≡ self.old.run + 1 }
         ensures threads { self.new.threads ≡ self.old.threads }

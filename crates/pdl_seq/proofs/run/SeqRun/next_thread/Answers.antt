@@ -1,11 +1,11 @@
 use Rattle.std.proofs.Common.{◌≡◌, ◌≤◌, ◌+◌, ◌-◌, ◌++◌, ◌∙◌, List, refl, sym, ap, ap₂, subst, suc, map, length, arith}
-use Rattle.std.specs.Prelude.{vec_len, vec_capacity, drop}
-use Rattle.pdl_semantics.specs.Flat.{Commit, arrays_of}
-use Rattle.pdl_semantics.proofs.Advice.{threads_alike}
+use Rattle.std.specs.Prelude.{vec_len, vec_capacity}
+use Rattle.pdl_semantics.specs.Flat.{arrays_of}
+use Rattle.pdl_semantics.proofs.Advice.{same_seq}
 use Rattle.pdl_semantics.specs.Sequential.{Run, run_all, thread}
 use Rattle.pdl_form.specs.FormView.{form}
 use Rattle.pdl_seq.specs.Turns.{Rooms, rooms, commits_view, run_view}
-use Rattle.pdl_seq.specs.Runs.{Running, HasRun, numbered_write, numbered_writes, forgotten}
+use Rattle.pdl_seq.specs.Runs.{Running, HasRun, numbered_write}
 use Rattle.pdl_seq.specs.declared.commit.Commit as r_commit
 use Rattle.pdl_seq.proofs.WriteLimit.{few, few_lent}
 use Rattle.pdl_seq.specs.declared.commit.Write.{Write}
@@ -112,10 +112,5 @@ returns-clause-run c = λ image h.
     }
 
 pub returns-clause-advice : goal.returns-clause-advice
-returns-clause-advice c image other h differ =
-    let p = (form c.self.inside.pipe.now).pipe in
-    let run = c.new.self.run in
-    let streams = c.new.self.streams in
-    h.writes
-    ∙ ap (λ (ws : List (List Commit)). numbered_writes (suc (forgotten streams run)) (drop (forgotten streams run) ws))
-    (threads_alike p (arrays_of image) (arrays_of other) c.self.invariant.runnable.sound.advice differ run)
+returns-clause-advice c image other h differ m =
+    same_seq (form c.self.inside.pipe.now).pipe (arrays_of image) (arrays_of other) c.self.invariant.runnable.sound.advice differ m (c.self.inside.run + 1)
