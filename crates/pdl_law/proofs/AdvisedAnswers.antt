@@ -1,6 +1,6 @@
 -- Answers bind no advised variable: a memory's delayed read binds one that isn't.
 use Rattle.std.proofs.Common.{◌≡◌, ℕ, zero, suc, Bool, true, false, List, [], ◌∷◌, Option, Some, None, refl, sym, ap, ◌∙◌, subst, ◌==◌}
-use Rattle.std.specs.Prelude.{if◌then◌else◌, ◌||◌}
+use Rattle.std.specs.Prelude.{if◌then◌else◌}
 use Rattle.std.proofs.lemmas.Bool.{false≢true, or_left, or_right, ne_eqb}
 use Rattle.pdl_word.specs.Each.{Each}
 use Rattle.pdl_word.proofs.Numbers.{eqb_self}
@@ -12,7 +12,8 @@ use Rattle.pdl_law_parts.specs.Lives.{guards_use}
 use Rattle.pdl_law_parts.specs.Advice.{is_advised_in, op_plainly, row_plainly, IsAdvisedApart}
 use Rattle.pdl_machine_inflight.specs.Readings.{Reading, reading_in, reading, places}
 use Rattle.pdl_machine_inflight.specs.InFlight.{IsAwaited}
-use Rattle.pdl_law_sides.specs.Sides.{AnswerSignals, place_answer, memory_answer, some_answer}
+use Rattle.pdl_port.specs.Laws.{AnswerSignals}
+use Rattle.pdl_law_sides.specs.Sides.{place_answer, memory_answer, some_answer}
 
 -- what is read delayed isn't advised
 read_plain : (p : Pipe) (m : ℕ) (r : Reading) (xs : List Stmt) → Each (λ (x : Stmt). (y : ℕ) → row_plainly x y ≡ true → is_advised_in p y ≡ false) xs

@@ -8,7 +8,7 @@ use Rattle.pdl_semantics.specs.Flat
 use Rattle.pdl_semantics.specs.Flat.{is_delayed, list_all, Op, Stmt, Pipe}
 use Rattle.pdl_semantics.specs.Forms.{on_delayed_read}
 use Rattle.pdl_semantics.specs.Stages.{mem_at, plain_mem}
-use Rattle.pdl_semantics.specs.Flatten.{Var, flat, flat_expr, mem_of, var_of, mems_of, params_of, at_position, is_advisory_mem, is_advised, read_op, bind_op, write_op}
+use Rattle.pdl_semantics.specs.Flatten.{Var, flat, flat_expr, mem_of, var_of, mems_of, params_of, at_position, is_advisory_mem, is_advised, read_op, write_op}
 use Rattle.pdl_semantics.specs.Flatten
 use Rattle.pdl_semantics.proofs.Facts.{all_vars}
 use Rattle.pdl_kit.specs.declared.rule.Rule.TheVariants.{F4}

@@ -1,12 +1,11 @@
 -- A netlist that is made of a pipe is well formed, and has the ports of a pipe.
-use Rattle.std.proofs.Common.{◌≡◌, ◌≢◌, inl, inr, ℕ, ◌+◌, ◌<◌, ◌≤◌, Bool, true, false, List, [], length, get_or, map, AllPairs, refl, sym, ap, ap₂, ◌∙◌, subst, arith}
-use Rattle.std.specs.Prelude.{slice_index_or, ◌++◌}
+use Rattle.std.proofs.Common.{◌≡◌, ◌≢◌, inl, inr, ℕ, ◌+◌, ◌<◌, ◌≤◌, Bool, true, false, List, length, get_or, map, AllPairs, refl, sym, ap, ap₂, ◌∙◌, subst, arith}
+use Rattle.std.specs.Prelude.{◌++◌}
 use Rattle.std.specs.Option.{is_some}
 use Rattle.std.specs.List.{list_all}
 use Rattle.std.proofs.lemmas.List.{length-map, length-append, get_or-map, map-append}
 use Rattle.std.proofs.lemmas.List.Elements.{All-from_get_or}
 use Rattle.pdl_semantics.specs.Tree.{Mem}
-use Rattle.pdl_semantics.specs.Flat as flat
 use Rattle.pdl_semantics.specs.Flat.{Pipe, is_delayed}
 use Rattle.pdl_semantics.specs.Flatten.{mems_of}
 use Rattle.pdl_semantics.specs.SecondWrites.{reserves_twice}
@@ -24,7 +23,7 @@ use Rattle.pdl_law_parts.specs.DeclaredMems.{port_mem, locked_of, mem_names, sha
 use Rattle.pdl_law_parts.proofs.WellFormedNames.{Among, name_of_mem, all_pairs, mem_names_differ}
 use Rattle.pdl_law_parts.proofs.WellFormedPorts.{heads_of, head_shown}
 use Rattle.pdl_law_parts.proofs.WellFormedMems.{Reaches, reaches_all, sized_among, IsAddressed, addressed}
-use Rattle.pdl_law_parts.proofs.WellFormedArrays.{name_of_array, array_names_are, IsArrayOf, array_mem, mem_array, locked_all}
+use Rattle.pdl_law_parts.proofs.WellFormedArrays.{name_of_array, array_names_are, array_mem, mem_array, locked_all}
 use Rattle.pdl_law_sides.specs.Sides.{Sides}
 use Rattle.pdl_law_sides.specs.WholeNetlist.{IsWhole, reply_ports}
 use Rattle.pdl_law_follows.specs.Memories.{delayed_of, comb_of, net_infos}

@@ -3,17 +3,15 @@ use Rattle.std.proofs.Common.{◌≡◌, ℕ, ◌<◌, Bool, true, false, ◌||�
 use Rattle.std.specs.Prelude.{slice_index, slice_set, ◌==◌, if◌then◌else◌}
 use Rattle.std.proofs.lemmas.Bool.{or_left, or_right}
 use Rattle.pdl_word.specs.Words.{bit}
-use Rattle.pdl_word.specs.Each.{Each}
 use Rattle.pdl_word.proofs.Numbers.{eqb_self}
 use Rattle.pdl_semantics.specs.Flat.{Expr, Pipe, all_hold, value_of, AdviceBind, AdviceRead, AdviceWrite}
 use Rattle.pdl_semantics.specs.Machine as machine
-use Rattle.pdl_semantics.specs.Machine.{Kept, Advised, Deeds, with_kept, all_values, word_for}
+use Rattle.pdl_semantics.specs.Machine.{Kept, Deeds, with_kept, all_values, word_for}
 use Rattle.pdl_semantics.proofs.Facts.{kept_append, kept_long}
 use Rattle.pdl_net.specs.Circuit.{Circuit, State}
-use Rattle.pdl_net.specs.Signal.{Signal}
 use Rattle.pdl_machine_facts.specs.Slots.{locks_ready}
 use Rattle.pdl_law_parts.specs.Lives.{uses_var, guards_use, lives_from}
-use Rattle.pdl_law_parts.specs.Walk.{Locks, Walk, is_on, with_var, walk_after}
+use Rattle.pdl_law_parts.specs.Walk.{Locks, Walk, with_var, walk_after}
 use Rattle.pdl_law_parts.specs.Advice.{is_advised_in, AreAdvised}
 use Rattle.pdl_law_parts.specs.Views.{View}
 use Rattle.pdl_law_parts.specs.Stands.{IsEnv, IsSo, advised_in}

@@ -1,14 +1,14 @@
 -- The arrays of memories without lock take write ports one after another, and nothing else changes what it takes next.
-use Rattle.std.proofs.Common.{◌≡◌, ℕ, ◌+◌, ◌-◌, ◌^◌, ◌<◌, ◌≤◌, ◌==◌, Bool, true, false, List, [], ◌∷◌, ◌++◌, map, length, get_or, refl, sym, ap, ap₂, ◌∙◌, subst, arith, inl, inr, append-nil, append_assoc, ⊎_elim}
+use Rattle.std.proofs.Common.{◌≡◌, ℕ, ◌+◌, ◌-◌, ◌^◌, ◌<◌, ◌≤◌, ◌==◌, Bool, true, false, List, [], ◌∷◌, ◌++◌, map, length, refl, sym, ap, ◌∙◌, subst, arith, inl, inr, append-nil, append_assoc, ⊎_elim}
 use Rattle.std.specs.Prelude.{if◌then◌else◌, ◌≢◌}
 use Rattle.std.proofs.lemmas.Bool.{false≢true, eqb-true, eqb-false, cases_lt}
 use Rattle.pdl_word.specs.Each.{Each}
 use Rattle.pdl_word.proofs.Each.{each_weaker}
 use Rattle.pdl_semantics.specs.Flat.{Pipe, is_delayed}
 use Rattle.pdl_semantics.specs.Stages.{mem_at}
-use Rattle.pdl_net.specs.Circuit.{Circuit, HasArray}
+use Rattle.pdl_net.specs.Circuit.{Circuit}
 use Rattle.pdl_net.specs.Signal.{Signal}
-use Rattle.pdl_net.specs.Meaning.{WriteSignal, signal, write_signals}
+use Rattle.pdl_net.specs.Meaning.{WriteSignal, write_signals}
 use Rattle.pdl_net.specs.Growth.{Keeps, Extends, Outside, ExtendsBut}
 use Rattle.pdl_net.proofs.Keeps.{keeps_refl, keeps_trans, extends_keeps, but_keeps}
 use Rattle.pdl_net.proofs.KeptWidths.{width_keeps}

@@ -1,5 +1,5 @@
 -- What the parts of the parser ensure.
-use Rattle.std.specs.Prelude.{◌≡◌, ◌≢◌, ℕ, Bool, List, map, [], ◌∷◌, ◌++◌, Option, Some, None, Result, Ok, Err}
+use Rattle.std.specs.Prelude.{◌≡◌, ◌≢◌, ℕ, List, map, [], ◌∷◌, ◌++◌, Option, Some, None, Result, Ok, Err}
 use Rattle.pdl_semantics.specs.Tree.{Span, Ident, Number, Expr, Location, Kind, Stmt, Stmts, Param, LockDecl, MemKind, Mem, Start}
 use Rattle.pdl_syntax_grammar.specs.declared.item.GrammarItem.{GrammarItem}
 use Rattle.pdl_syntax_grammar.specs.declared.item.GrammarItem.TheVariants.{One, Two}

@@ -1,4 +1,4 @@
-use Rattle.std.proofs.Common.{◌≡◌, ◌+◌, ◌-◌, ◌<◌, List, length, map, sym, subst, arith}
+use Rattle.std.proofs.Common.{◌≡◌, ◌-◌, List, length, map, sym, subst, arith}
 use Rattle.pdl_form.specs.FormView.{form}
 use Rattle.pdl_net.specs.Meaning.{signal}
 use Rattle.pdl_law_parts.specs.Ports.{advises_to, all_advises}
@@ -8,9 +8,9 @@ use Rattle.pdl_pipe_walk.specs.Locked.{Members}
 use Rattle.pdl_pipe_walk.proofs.NetGrowth.{bits_keep}
 use Rattle.pdl_net.proofs.KeptWidths.{width_keeps}
 use Rattle.pdl_pipe_locks.specs.Deeds.{views_in, moves_in}
-use Rattle.pdl_pipe_locks.specs.Advised.{HavePlainArrays, IsGivenAdvising, ExtendsAdvice}
+use Rattle.pdl_pipe_locks.specs.Advised.{IsGivenAdvising, ExtendsAdvice}
 use Rattle.pdl_pipe_locks.proofs.AdviceGrowth.{plain_kept, given_advises, advice_same}
-use Rattle.pdl_pipe_locks.proofs.AdviceStages.{IsGivenStage, stages_given, StagesAdvised, stages_step}
+use Rattle.pdl_pipe_locks.proofs.AdviceStages.{IsGivenStage, stages_given, stages_step}
 use Rattle.pdl_pipe_locks.proofs.PortStages.{each_at}
 use Rattle.pdl_pipe_locks.proofs.advice.advise.Goals as goal
 use Rattle.pdl_word.specs.Each.{Each}

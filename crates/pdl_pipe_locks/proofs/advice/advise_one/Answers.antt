@@ -1,15 +1,12 @@
-use Rattle.std.proofs.Common.{◌≡◌, ◌^◌, List, ◌∷◌, [], ◌++◌, sym, ap, ◌∙◌, subst, arith}
+use Rattle.std.proofs.Common.{◌≡◌, ◌∷◌, [], ◌++◌, sym, ap, ◌∙◌, subst, arith}
 use Rattle.pdl_form.specs.FormView.{form}
 use Rattle.pdl_net.specs.Circuit.{HasArray, array_width, array_depth}
-use Rattle.pdl_net.specs.Signal.{Signal}
 use Rattle.pdl_net.specs.Meaning.{WriteSignal, signal, write_signal, write_signals}
 use Rattle.pdl_net.specs.Growth.{ExtendsBut}
 use Rattle.pdl_net.specs.HasWidth.{HasWidth}
 use Rattle.pdl_net.proofs.Keeps.{extends_keeps}
-use Rattle.pdl_net.proofs.KeptWidths.{width_kept}
 use Rattle.pdl_build.specs.Change.{one_array, write_port}
 use Rattle.pdl_law_parts.specs.Walk.{both}
-use Rattle.pdl_law_parts.specs.Places.{comb_place}
 use Rattle.pdl_law_parts.specs.Ports.{advises_to}
 use Rattle.pdl_pipe_walk.specs.Parts.{advising_in}
 use Rattle.pdl_pipe_locks.proofs.AdviceGrowth.{plain_kept, given_advising, advice_none, advice_one, advice_then}
