@@ -1,5 +1,5 @@
 -- The moves of all stages, with the squash of one.
-use Rattle.std.proofs.Common.{◌≡◌, ◌≢◌, ◌<◌, ◌≤◌, ℕ, zero, suc, ◌+◌, Bool, false, refl, sym, ap, ap₂, ◌∙◌, subst, length, List, [], ◌∷◌, ◌++◌, arith}
+use Rattle.std.proofs.Common.{◌≡◌, ◌≢◌, ◌<◌, ◌≤◌, ℕ, zero, suc, ◌+◌, Bool, refl, sym, ap, ap₂, ◌∙◌, subst, length, List, [], ◌∷◌, ◌++◌, arith}
 use Rattle.std.specs.Prelude.{◌⊎◌, slice_set}
 use Rattle.std.proofs.lemmas.Bool.{cases_lt}
 use Rattle.std.proofs.Common.{inl, inr}
@@ -37,7 +37,7 @@ use Rattle.pdl_pipe_moves.specs.Signs.{gate_by, signs_by, IsControlled}
 use Rattle.pdl_pipe_moves.specs.Passed.{HaveFree, IsMovedBy, IsPassed, ArePassed, frees_at}
 use Rattle.pdl_pipe_moves.specs.StageSquashes.{ArePadded, HasValids}
 use Rattle.pdl_pipe_moves.proofs.TurnGrowth.{turns_keep}
-use Rattle.pdl_pipe_moves.proofs.GateParts.{bit_keep, bits_keep}
+use Rattle.pdl_pipe_moves.proofs.GateParts.{bits_keep}
 use Rattle.pdl_pipe_moves.proofs.FreePorts.{net_signal}
 use Rattle.pdl_pipe_moves.proofs.GateGrowth.{gate_same}
 use Rattle.pdl_pipe_moves.proofs.PassageGrowth.{each_set, gate_as, passed_keep, passed_set, passed_new}

@@ -1,4 +1,4 @@
-use Rattle.std.proofs.Common.{◌≡◌, ◌≤◌, ◌<◌, ℕ, refl, sym, ap, ap₂, ◌∙◌, subst, length, arith}
+use Rattle.std.proofs.Common.{◌≡◌, refl, sym, ap, ap₂, ◌∙◌, subst, length, arith}
 use Rattle.pdl_word.specs.Each.{Each}
 use Rattle.pdl_semantics.proofs.SquashStages.{update_before}
 use Rattle.pdl_net.specs.Signal.{Signal, mux_signal}
@@ -282,7 +282,7 @@ returns-clause-moved c =
       clear = made.squash.clear;
     })
     v u made.squash again c.requires.stage c.requires.update
-    (squash_keep b1 d x v _ _ made.squash e1d line1 at_v low first.squash)
-    (squash_keep b2 d x u _ _ again e2d line2 at_u (omega (arith, low, early)) second)
+    (squash_keep b1 d x v (signal_at (signals_in b1 moves1) v) (signal_at (signals_in d moves2) v) made.squash e1d line1 at_v first.squash)
+    (squash_keep b2 d x u (signal b1 c.net_of-own.result) (signal_at (signals_in d moves2) u) again e2d line2 at_u second)
     (subst (λ cs. ArePassed d x (signs_in d x c.args.orders.now both cs) moves2 c.pass_down.new.self.frees.items 0) same passed)
     bit either c.in_ok-kills.ensures.bits joined
