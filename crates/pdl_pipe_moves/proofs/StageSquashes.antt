@@ -59,7 +59,7 @@ squash_keep a b x v moves others z e line same h = record {
     clear = signals_keep a b z.clear.items e (bits_there a z.clear.items h.clear)
 
 -- signals that are those of a stage's squash keep its law
-pub law_at : (c : Circuit) (x : StageLine) (moves : ℕ → Signal) (q : ℕ) (z : StageSquash) (squash : Signal) (removed clear : ℕ → Signal)
+law_at : (c : Circuit) (x : StageLine) (moves : ℕ → Signal) (q : ℕ) (z : StageSquash) (squash : Signal) (removed clear : ℕ → Signal)
     → IsSquash c x q (moves q) z → squash ≡ signal c z.happens → removed ≡ signal_at (signals_in c z.removed.items)
     → clear ≡ signal_at (signals_in c z.clear.items) → SquashLaw (squash_of (line_views c x) moves q) squash removed clear
 law_at c x moves q z squash removed clear h e f g =
