@@ -128,7 +128,8 @@ removes_two : (xs : List Stmt) (f g : ℕ → Signal) (k : ℕ)
     → any_removes (squash_stages xs) (by_stage (verify_stage xs) f g) k
     ≡ either (passes (nat_lt k) (verify_stage xs)) (passes (nat_lt k) (update_stage xs)) (f k) (g k)
 removes_two xs f g k =
-    any_as (filter (nat_lt k) (squash_stages xs)) (λ z. by_stage (verify_stage xs) f g z k) (by_stage (verify_stage xs) (f k) (g k)) (by_both (verify_stage xs) f g k)
+    any_as (filter (nat_lt k) (squash_stages xs)) (λ z. by_stage (verify_stage xs) f g z k) (by_stage (verify_stage xs) (f k) (g k))
+    (by_both (verify_stage xs) f g k)
     ∙ any_two xs (nat_lt k) (f k) (g k)
 
 -- without a stage that may squash no thread is removed

@@ -22,7 +22,8 @@ joined_at-requires-clause-first c =
     let a = c.args.b.now in
     let b = c.loop-k.b in
     let e = extends_keeps a b c.loop-k.invariant.extends in
-    subst (IsBit b) (sym c.net_of-x.ensures) (bit_keep a b (net_at c.args.first.now c.loop-k.k) e (net_bit a c.args.first.now c.loop-k.k c.loop-k-test.true c.requires.first))
+    subst (IsBit b) (sym c.net_of-x.ensures)
+    (bit_keep a b (net_at c.args.first.now c.loop-k.k) e (net_bit a c.args.first.now c.loop-k.k c.loop-k-test.true c.requires.first))
 
 pub joined_at-requires-clause-second : goal.joined_at-requires-clause-second
 joined_at-requires-clause-second c =

@@ -28,7 +28,8 @@ use Rattle.pdl_pipe_moves.proofs.MovedStages.{move_later, moved_updated}
 use Rattle.pdl_pipe_moves.proofs.whole.updating_moves.Goals as goal
 
 pub verified-requires-clause-low : goal.verified-requires-clause-low
-verified-requires-clause-low c = let l = update_before (line_pipe c.args.line.now).stmts c.args.u c.args.v c.requires.update c.requires.stage in omega (arith, l)
+verified-requires-clause-low c =
+    let l = update_before (line_pipe c.args.line.now).stmts c.args.u c.args.v c.requires.update c.requires.stage in omega (arith, l)
 
 pub stage_squash-requires-clause-line : goal.stage_squash-requires-clause-line
 stage_squash-requires-clause-line c =
