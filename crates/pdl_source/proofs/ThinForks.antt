@@ -2,7 +2,7 @@
 use Rattle.std.proofs.Common.{◌≡◌, refl, sym, ap, ap₂, ◌∙◌, subst, ℕ, zero, suc, ◌+◌, Bool, true, false, ◌&&◌, ◌||◌, not, ◌==◌, bytes_eq, List, [], ◌∷◌, ◌++◌, map, length, drop, take, if◌then◌else◌, append_assoc, length-append, arith}
 use Rattle.std.specs.Prelude.{⊤}
 use Rattle.std.specs.List.{list_any}
-use Rattle.std.proofs.Math.Path.{fun_ext}
+use mathlib.Core.Path.{fun_ext}
 use Rattle.std.proofs.lemmas.Bool.{false≢true, and_parts, or_parts, not-false}
 use Rattle.std.proofs.lemmas.List.{length-map}
 use Rattle.pdl_kit.specs.declared.rule.Rule.TheVariants.{F2}
@@ -27,13 +27,14 @@ cut_thin : (bs : List Branch) → list_any (λ (b : Branch). holds_separator b.i
 cut_thin [] = refl
 cut_thin (b ∷ bs) = ap₂ (λ a c. a || c) (holds_thin b.inside) (cut_thin bs)
 
+-- F1 is broken at the same places
 pub f1 : (x : Place) → breaks_f1 (thin_place x) ≡ breaks_f1 x
 f1 = thin_at false _ _ (λ s bs. ap₂ (λ a b. a && b) (thin_same is_trunk_only (λ s c w o. refl) s) (cut_thin bs))
 
--- F3
 orders_stay : (m : List ℕ) → Stays (breaks_fetch_order m)
 orders_stay m = stays_at (λ s. fetches (λ at. bytes_eq at.mem.name m) s) (λ s c w o. refl) (λ s g args. refl)
 
+-- F3 is broken at the same places
 pub f3 : (p : Pipe) (before : List Place) (x : Place) → breaks_f3 (without_update p) (thin before) (thin_place x) ≡ breaks_f3 p before x
 f3 p before =
     thin_at false _ _
@@ -134,6 +135,7 @@ outer_stage_thin before (b ∷ bs) =
     (ap (stage_in (thin before)) (ap (λ n. take n (thin_branches (b ∷ bs))) (length-map bs thin_branch) ∙ take_thin (length bs) (b ∷ bs))
     ∙ in_thin before (take (length bs) (b ∷ bs)))
 
+-- F2 is kept, since what stands after an `if` still begins with a separator
 pub f2 : (p : Pipe) → KeepsRules p → (before : List Place) (x : Place) (later : List Place) → places p ≡ before ++ x ∷ later → is_update x ≡ false
     → breaks_f2 (without_update p) (thin before) (thin_place x) ≡ false
 f2 p rules before (Statement (If s c when otherwise) bs) later e i =

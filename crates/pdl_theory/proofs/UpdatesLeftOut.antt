@@ -115,6 +115,7 @@ kept_among gs xs ys f = at (is_dead gs)
     at true h = refl
     at false h = free_among gs xs ys f h
 
+-- no guard is bound anew
 pub fixed_left : (xs : List Stmt) → is_fixed xs ≡ true → is_fixed (without_updates xs) ≡ true
 fixed_left [] h = refl
 fixed_left (x ∷ xs) h =
@@ -183,7 +184,7 @@ phase_idle m ph (Verify true args) h = absurd (false≢true h)
 phase_idle m ph (Verify false args) h = refl
 phase_idle m ph _ h = absurd (false≢true h)
 
--- each statement is in order in its phase of a memory's writes, and these end in the same phase
+-- each statement is in order in its phase of a memory's writes
 pub phases_left : (m : ℕ) (ph : Phase) (xs : List Stmt) → phases_ok m ph xs ≡ true → phases_ok m ph (without_updates xs) ≡ true
 phases_left m ph [] h = refl
 phases_left m ph (x ∷ xs) h =
@@ -192,6 +193,7 @@ phases_left m ph (x ∷ xs) h =
     scanned (phases_ok m) (is_update x.op) ph (next_phase m ph x.op) x (without_updates xs) here refl p.0
     (phases_left m (next_phase m ph x.op) xs p.1) (phase_idle m ph x.op)
 
+-- they end in the same phase
 pub phase_left : (m : ℕ) (ph : Phase) (xs : List Stmt) → phase_all m ph (without_updates xs) ≡ phase_all m ph xs
 phase_left m ph [] = refl
 phase_left m ph (x ∷ xs) = at (is_update x.op) (phase_idle m ph x.op) (phase_left m (next_phase m ph x.op) xs)
@@ -242,7 +244,7 @@ making_idle v Made s (Verify false args) h e = absurd (false≢true h)
 making_idle v k s (Verify true args) h e = absurd (false≢true e)
 making_idle v k s _ h e = absurd (false≢true e)
 
--- these make the next thread in order, and as far
+-- these make the next thread in order
 pub makings_left : (v : Option ℕ) (k : Making) (xs : List Stmt) → makings_ok v k xs ≡ true → makings_ok v k (without_updates xs) ≡ true
 makings_left v k [] h = refl
 makings_left v k (x ∷ xs) h =
@@ -250,6 +252,7 @@ makings_left v k (x ∷ xs) h =
     scanned (makings_ok v) (is_update x.op) k (next_making k x.op) x (without_updates xs) (making_ok v k x.stage x.op) refl p.0
     (makings_left v (next_making k x.op) xs p.1) (making_idle v k x.stage x.op p.0)
 
+-- they make it as far
 pub making_left : (v : Option ℕ) (k : Making) (xs : List Stmt) → makings_ok v k xs ≡ true → making_all k (without_updates xs) ≡ making_all k xs
 making_left v k [] h = refl
 making_left v k (x ∷ xs) h =
