@@ -174,7 +174,8 @@ f2 p rules before (Statement (If s c when otherwise) bs) later e i =
         ∙ thin_both (statements (bs ++ one ∷ []) when) (statements (bs ++ two ∷ []) otherwise ++ rest)
         ∙ ap₂ (λ a b. a ++ b) (sym (thin_in bs one when))
         (thin_both (statements (bs ++ two ∷ []) otherwise) rest ∙ ap (λ a. a ++ thin rest) (sym (thin_in bs two otherwise))))
-        ∙ passed_over (thin_branches bs ++ thin_branch one ∷ []) (thin_branches bs ++ thin_branch two ∷ []) (update_free when) (update_free otherwise) (thin rest)
+        ∙ passed_over (thin_branches bs ++ thin_branch one ∷ []) (thin_branches bs ++ thin_branch two ∷ [])
+        (update_free when) (update_free otherwise) (thin rest)
 
     at : (b : Bool) → is_fork (If s c (update_free when) (update_free otherwise)) ≡ b
         → (b && (length bs == 4 || is_in_outer_stage before bs || not (starts_with_separator bs after))) ≡ false
@@ -182,8 +183,10 @@ f2 p rules before (Statement (If s c when otherwise) bs) later e i =
         && (length (thin_branches bs) == 4 || is_in_outer_stage (thin before) (thin_branches bs) || not (starts_with_separator (thin_branches bs) thin_after)))
         ≡ false
     at false f h =
-        ap (λ b. b
-        && (length (thin_branches bs) == 4 || is_in_outer_stage (thin before) (thin_branches bs) || not (starts_with_separator (thin_branches bs) thin_after))) f
+        ap
+        (λ b. b
+        && (length (thin_branches bs) == 4 || is_in_outer_stage (thin before) (thin_branches bs) || not (starts_with_separator (thin_branches bs) thin_after)))
+        f
     at true f h =
         let parts = or_parts (length bs == 4 || is_in_outer_stage before bs) (not (starts_with_separator bs after)) h in
         let starts : starts_with_separator bs rest ≡ true = ap (starts_with_separator bs) (sym after_rest) ∙ not-false _ parts.1 in

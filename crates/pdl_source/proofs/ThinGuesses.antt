@@ -113,7 +113,8 @@ pub s5 : (p : Pipe) (before : List Place) (x : Place) → breaks_s5 (without_upd
 s5 p before x =
     ap₂ (λ a b. a && b) (needs_stay.same x)
     (ap₂ (λ a b. a && b) (before_thin p before x)
-    (each_path_thin p _ _ x (λ path. ap (λ s. not (is_checked path (thin before) s)) (of_thin before x) ∙ ap not (checked_thin path before (stage_of before x)))))
+    (each_path_thin p _ _ x
+    (λ path. ap (λ s. not (is_checked path (thin before) s)) (of_thin before x) ∙ ap not (checked_thin path before (stage_of before x)))))
 
 -- UPDATES
 

@@ -95,7 +95,8 @@ l4 p before x =
     some_path_thin p _ _ before x
     (λ earlier. thin_at false _ _
     (λ s bs. reserves_alike _ _
-    (λ at k. ap (λ n. nat_le (most_reservations p.mems k at.mem.name) n) (count_thin (is_reserve_of k at.mem.name) (reserve_of_stays k at.mem.name) earlier)) s) x)
+    (λ at k. ap (λ n. nat_le (most_reservations p.mems k at.mem.name) n)
+    (count_thin (is_reserve_of k at.mem.name) (reserve_of_stays k at.mem.name) earlier)) s) x)
 
 reserved_stays : (l : Location) → Stays (reserves_location l)
 reserved_stays l = stays_at (λ s. reserves (λ at k. same_location at l) s) (λ s c w o. refl) (λ s g args. refl)
@@ -157,7 +158,8 @@ l7 p before x = some_path_thin p _ _ before x (λ earlier. ends earlier x)
     open' : (earlier : List Place) → list_any (leaves_open (thin earlier)) (thin earlier) ≡ list_any (leaves_open earlier) earlier
     open' earlier =
         ap (λ t. list_any (asks_of t) (thin earlier)) (fun_ext (λ at. ap is_unreleased (hold_thin at earlier)))
-        ∙ any_thin (leaves_open earlier) (stays_at (λ s. reserves (λ at k. is_unreleased (hold_after at earlier)) s) (λ s c w o. refl) (λ s g args. refl)) earlier
+        ∙ any_thin (leaves_open earlier)
+        (stays_at (λ s. reserves (λ at k. is_unreleased (hold_after at earlier)) s) (λ s c w o. refl) (λ s g args. refl)) earlier
 
     ends : (earlier : List Place) (x : Place) → ends_open (thin earlier) (thin_place x) ≡ ends_open earlier x
     ends earlier (End s) = open' earlier

@@ -55,10 +55,12 @@ grown (x ∷ xs) before few h = rw append_assoc at (grown xs (before ++ x ∷ []
     one : (b : Bool) → is_statement x ≡ b → (b && (count_by is_statement before == 1024)) ≡ false → count_by is_statement (before ++ x ∷ []) ≤ 1024
     one true is e =
         let other : count_by is_statement before ≡ 1024 → ⊥ = λ t. eqb-false (count_by is_statement before) 1024 e t in
-        let more : count_by is_statement (before ++ x ∷ []) ≡ count_by is_statement before + 1 = count_push is_statement before x ∙ ap (λ b. count_by is_statement before + weight b) is in
+        let more : count_by is_statement (before ++ x ∷ []) ≡ count_by is_statement before + 1 =
+        count_push is_statement before x ∙ ap (λ b. count_by is_statement before + weight b) is in
         omega (arith, other, more)
     one false is e =
-        let more : count_by is_statement (before ++ x ∷ []) ≡ count_by is_statement before + 0 = count_push is_statement before x ∙ ap (λ b. count_by is_statement before + weight b) is in
+        let more : count_by is_statement (before ++ x ∷ []) ≡ count_by is_statement before + 0 =
+        count_push is_statement before x ∙ ap (λ b. count_by is_statement before + weight b) is in
         omega arith
 
 -- Z2 is kept, since no place has more statements before it
@@ -124,7 +126,8 @@ one_more gs s = of_if false (λ from c. not (is_among (guard_of from c) gs) && (
 pub z6 : (before : List Place) (x : Place) → breaks_z6 (thin before) (thin_place x) ≡ breaks_z6 before x
 z6 before x =
     ap (λ gs. at_statement false (λ s bs. one_more gs s) (thin_place x)) (guards_thin before)
-    ∙ thin_at false (λ s bs. one_more (guards before) s) (λ s bs. one_more (guards before) s) (λ s bs. thin_same (one_more (guards before)) (λ s c w o. refl) s) x
+    ∙ thin_at false (λ s bs. one_more (guards before) s) (λ s bs. one_more (guards before) s)
+    (λ s bs. thin_same (one_more (guards before)) (λ s c w o. refl) s) x
 
 literals_thin : (test : Literal → Bool) (x : Place) → some_literal test (thin_place x) ≡ some_literal test x
 literals_thin test (Statement s bs) = thin_same (some_expr_of (some_part (of_constant test))) (λ s c w o. refl) s

@@ -251,7 +251,8 @@ guards_thin xs = fold_thin with_guard same none [] xs
   where
     same : (gs : List Guard) (x : Place) → with_guard gs (thin_place x) ≡ with_guard gs x
     same gs =
-        thin_at gs _ _ (λ s bs. thin_same (λ t. of_if gs (λ from c. if is_among (guard_of from c) gs then gs else gs ++ guard_of from c ∷ []) t) (λ s c w o. refl) s)
+        thin_at gs _ _
+        (λ s bs. thin_same (λ t. of_if gs (λ from c. if is_among (guard_of from c) gs then gs else gs ++ guard_of from c ∷ []) t) (λ s c w o. refl) s)
 
     none : (gs : List Guard) (x : Place) → is_update x ≡ true → with_guard gs x ≡ gs
     none gs (Statement (Update s g args) bs) h = refl

@@ -52,7 +52,8 @@ from_left s (x ∷ xs) =
 pub path_left : (path : List ℕ) (xs : List Stmt) → onpath path (without_updates xs) ≡ without_updates (onpath path xs)
 path_left path [] = refl
 path_left path (x ∷ xs) =
-    swapped (onpath path) (is_update x.op) (all_hold x.guards path) x (record x { guards = [] }) (without_updates xs) (onpath path xs) refl refl (path_left path xs)
+    swapped (onpath path) (is_update x.op) (all_hold x.guards path) x (record x { guards = [] }) (without_updates xs) (onpath path xs) refl refl
+    (path_left path xs)
 
 -- where each delayed read has its answer at once
 pub looked_left : (xs : List Stmt) → looked_all (without_updates xs) ≡ without_updates (looked_all xs)
@@ -301,6 +302,7 @@ pub sure_left : (v : Option ℕ) (b : Bool) (c : Scan) (xs : List Stmt) → all_
 sure_left v b c [] h = refl
 sure_left v b c (x ∷ xs) h =
     let p = and_parts (is_sure v b c x.stage x.op) (all_sure v (b || is_barrier x.op) (scan_after x.op c) xs) h in
-    scanned (λ (k : Bool × Scan) ys. all_sure v k.0 k.1 ys) (is_update x.op) (known b c) (known (b || is_barrier x.op) (scan_after x.op c)) x (without_updates xs)
+    scanned (λ (k : Bool × Scan) ys. all_sure v k.0 k.1 ys) (is_update x.op) (known b c) (known (b || is_barrier x.op) (scan_after x.op c)) x
+    (without_updates xs)
     (is_sure v b c x.stage x.op) refl p.0
     (sure_left v (b || is_barrier x.op) (scan_after x.op c) xs p.1) (sure_idle x.op b c)
