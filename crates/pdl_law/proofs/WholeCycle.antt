@@ -170,7 +170,7 @@ module _ (p : Pipe) (lawful : IsLawful p) (ls : Locks) (vs : ℕ → View) (gate
           (λ k u e. ap (removes (squasher (moving p st bits))) e) t regs arrays;
       orders =
           λ f q low e. order_kept p c vs gates moves sides (beside.order_owns f) f low
-          (beside.orders f q low e) s st bits known.by seen_whole
+          (beside.orders f q low e) s st bits known.by lawful.apart seen_whole
           (emptied_told p lawful.sound lawful.updates c vs gates moves sides beside.removals s st bits suits known.flight known.by whole.stands.valid
           seen_whole f)
           lawful.sound lawful.leads known.flight.count known.next
