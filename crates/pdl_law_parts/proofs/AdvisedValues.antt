@@ -1,5 +1,5 @@
 -- The values of a thread with the advised ones over them: those that aren't advised stay what they are.
-use Rattle.std.proofs.Common.{◌≡◌, ℕ, zero, suc, true, false, List, [], ◌∷◌, length, sym, ap, ◌∙◌, refl}
+use Rattle.std.proofs.Common.{◌≡◌, ℕ, zero, suc, true, false, List, [], ◌∷◌, length, sym, ap, ◌∙◌, refl, arith}
 use Rattle.std.specs.Prelude.{slice_index, slice_set}
 use Rattle.std.proofs.lemmas.Bool.{false≢true}
 use Rattle.std.proofs.lemmas.List.{length-set, get_or-set_other}
@@ -22,12 +22,12 @@ plain_value p (q ∷ ks) env y h e =
 -- where two lists of values agree, they agree with one more value set in both
 set_alike : (e f : List ℕ) (x v y : ℕ) → length e ≡ length f → slice_index e y ≡ slice_index f y → slice_index (slice_set e x v) y ≡ slice_index (slice_set f x v) y
 set_alike [] [] x v y l h = refl
-set_alike [] (b ∷ f) x v y l h = absurd (cc l)
-set_alike (a ∷ e) [] x v y l h = absurd (cc l)
+set_alike [] (b ∷ f) x v y l h = absurd (omega (arith, l))
+set_alike (a ∷ e) [] x v y l h = absurd (omega (arith, l))
 set_alike (a ∷ e) (b ∷ f) zero v zero l h = refl
 set_alike (a ∷ e) (b ∷ f) zero v (suc y) l h = h
 set_alike (a ∷ e) (b ∷ f) (suc x) v zero l h = h
-set_alike (a ∷ e) (b ∷ f) (suc x) v (suc y) l h = set_alike e f x v y (cc l) h
+set_alike (a ∷ e) (b ∷ f) (suc x) v (suc y) l h = set_alike e f x v y (omega (arith, l)) h
 
 -- where two lists of values agree, they agree with the same values over them
 pub over_same : (ks : List Kept) (e f : List ℕ) (y : ℕ) → length e ≡ length f → slice_index e y ≡ slice_index f y
