@@ -54,7 +54,7 @@ stage_words : (m depth : ℕ) (s : State) (moves : Signal) → moves.value s ≡
     → HasWordsOf m depth arrays ws → HasWordsOf m depth (with_advised (advised_in s xs) arrays) (after_writes s (advises_to m moves xs) ws)
 stage_words m depth s moves e [] arrays ws h = h
 stage_words m depth s moves e (x ∷ xs) arrays ws h =
-    at (is_on x.on s) (x.mem == m) (both_is s moves x.on true e) refl (λ as us i. stage_words m depth s moves e xs as us i)
+    at (is_on x.on s) (x.mem == m) (both_is s moves x.on true e) refl (λ later us i. stage_words m depth s moves e xs later us i)
   where
     place : ℕ
     place = x.addr.value s
@@ -69,7 +69,7 @@ stage_words m depth s moves e (x ∷ xs) arrays ws h =
     ports = advises_to m moves xs
 
     at : (o b : Bool) → ((both moves x.on).value s == 1) ≡ o → (x.mem == m) ≡ b
-        → ((as : Arrays) (us : List ℕ) → HasWordsOf m depth as us → HasWordsOf m depth (with_advised rest as) (after_writes s ports us))
+        → ((later : Arrays) (us : List ℕ) → HasWordsOf m depth later us → HasWordsOf m depth (with_advised rest later) (after_writes s ports us))
         → HasWordsOf m depth (with_advised (if o then record { mem = x.mem; address = place; value = word } ∷ rest else rest) arrays)
         (after_writes s (if b then record { enable = both moves x.on; addr = x.addr; value = x.value } ∷ ports else ports) ws)
     at true true i j go =
