@@ -344,7 +344,7 @@ module _ (p : Pipe) (ls : Locks) (vs : ℕ → View) (moves : ℕ → Signal) (s
       let so = so_at j f.0 l f.1 f.2 in
       let on : is_on (out_of p vs moves q j).comes s ≡ is_stage q (next_stage p j d) =
       both_is s (moves j) (branch (stage_at p j).next q (vs j).ended) true ((seen j l).leaves ∙ ap bit f.2)
-      ∙ on_branch (stage_at p j).next q (vs j).ended d.env 
+      ∙ on_branch (stage_at p j).next q (vs j).ended d.env
       (fork_value p apart j s (vs j).ended d l so) in
       let P : Option Thread → Type 0 = λ o. AreAlike q (if is_on (out_of p vs moves q j).comes s then Some (out_of p vs moves q j) else None) o in
       let Q : Bool → Type 0 =

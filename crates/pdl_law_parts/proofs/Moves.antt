@@ -87,7 +87,7 @@ module _ (p : Pipe) (ls : Locks) (vs : ℕ → View) (gates : Gates) (moves : �
 
     way_is : (t : Thread) → IsSo p k s (vs k).ended (deeds p st k t)
         → (way_on (stage_at p k).next (free vs moves) (vs k).ended).value s ≡ bit (may_enter p st bits (next_stage p k (deeds p st k t)))
-    way_is t so = at (stage_at p k).next (λ q e. leads.up k q (deeds p st k t).env l e) 
+    way_is t so = at (stage_at p k).next (λ q e. leads.up k q (deeds p st k t).env l e)
         (fork_value p apart k s (vs k).ended (deeds p st k t) l so)
       where
         env : List ℕ

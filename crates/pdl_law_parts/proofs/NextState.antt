@@ -480,10 +480,11 @@ module _ (p : Pipe) (ls : Locks) (vs : ℕ → View) (gates : Gates) (moves : �
         let advised =
         advised_words p vs moves s st bits (λ k i. (seen k i).leaves)
         (λ k u i h g. (so_at p ls vs moves s st bits leads by used stands seen stood spared apart k u i h g).advises)
-        m (mem_at p m).depth (length p.stages) 0 before words (omega arith)
-        (omega (arith, long),
-        λ a low. ap (λ k. with_commit st.arrays m (take k (list_two st (moving p st bits) m)) m a) (used.in_use.unreleased m (plain_is p m e))
-        ∙ stands.words m e comb a low) in
+        m (mem_at p m).depth (length p.stages) 0 before words (omega arith) (
+          omega (arith, long),
+          λ a low. ap (λ k. with_commit st.arrays m (take k (list_two st (moving p st bits) m)) m a) (used.in_use.unreleased m (plain_is p m e))
+              ∙ stands.words m e comb a low,
+        ) in
         ap (λ (f : ℕ → ℕ). f a) (by.arrays m l)
         ∙ advised.1 a low
         ∙ sym (ap (λ ws. slice_index ws a) (written ∙ ap (λ ps. after_writes s ps words) (made.advised m l e comb)))

@@ -11,7 +11,7 @@ use Rattle.pdl_net.specs.Circuit.{Circuit, State}
 use Rattle.pdl_net.specs.Signal.{Signal, mux_signal}
 use Rattle.pdl_theory_turns.proofs.Guesses.{same_args_eq}
 use Rattle.pdl_machine_facts.specs.Slots.{locks_ready}
-use Rattle.pdl_law_parts.specs.Lives.{are_using, guards_use, lives_from, verifies_from}
+use Rattle.pdl_law_parts.specs.Lives.{are_using, guards_use, lives_from}
 use Rattle.pdl_law_parts.specs.Walk.{Locks, Row, Walk, one, both, walk_after, values_at}
 use Rattle.pdl_law_parts.specs.Advice.{is_advised_in}
 use Rattle.pdl_law_parts.specs.Views.{View}
@@ -206,7 +206,7 @@ module _ (c : Circuit) (p : Pipe) (ls : Locks) (vs : ℕ → View) (s : State) (
           ∙ ap (λ c. if c then Some (map (λ (f : Signal). f.value s) r.args) else child_in s w.births)
           (sym (on_is s r.on false (on_at c p ls vs s st k thread around gs r w d glive on q h ∙ ap bit f)))
 
-      guess_at : IsSo p k s w d → (b : Bool) → all_hold gs d.env ≡ b 
+      guess_at : IsSo p k s w d → (b : Bool) → all_hold gs d.env ≡ b
           → ((done st thread b (SpecCall args) d).fails ≡ true → verify_stage p.stmts ≡ Some k → ⊥)
           → IsGuess p k s r.guess (done st thread b (SpecCall args) d).guess
       guess_at h true f z v l = values h f ∙ sym (row.3 s around.suits (is_taken c p ls vs s st k thread around gs r w d glive on q h f))
