@@ -48,7 +48,7 @@ pub returns : goal.returns
 returns c =
     let a = c.args.b.now in
     let b = c.both.new.b in
-    let d = c.write.new.b in
+    let d = c.write.new.self in
     let p = (form c.args.pipe.now).pipe in
     let x = c.args.x.now in
     let g = c.requires.given in
