@@ -70,8 +70,8 @@ loop-i-preserved g c =
     c.in_ok-advise_stage.ensures in
     stages_step f.pipe a b ds e c.loop-i.i d c.loop-i-test.true c.deed_at-deed.ensures given c.loop-i.invariant made
 
-pub returns-clause : goal.returns-clause
-returns-clause g c =
+pub returns : goal.returns
+returns g c =
     let a = c.args.b.now in
     let ds = c.args.round.now.deeds.now in
     let p = (form c.args.round.now.pipe.now).pipe in

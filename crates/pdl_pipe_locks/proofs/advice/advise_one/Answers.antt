@@ -44,11 +44,11 @@ write-requires-clause-value c =
     (sym ((plain_kept c.args.b.now c.both.new.b p k c.requires.arrays).width c.args.x.now.mem g.low g.unlocked.1)
     ∙ sym (ap (array_width c.both.new.b) c.array_of-array.ensures)) g.value
 
-pub returns-clause : goal.returns-clause
-returns-clause c =
+pub returns : goal.returns
+returns c =
     let a = c.args.b.now in
     let b = c.both.new.b in
-    let d = c.write.new.b in
+    let d = c.write.new.self in
     let p = (form c.args.pipe.now).pipe in
     let x = c.args.x.now in
     let g = c.requires.given in

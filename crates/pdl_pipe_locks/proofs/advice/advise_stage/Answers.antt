@@ -41,6 +41,6 @@ loop-x-preserved c =
     advised_step p a c.loop-x.b c.args.moves xs c.advise_one.new.b i no_advising (get_or xs i no_advising)
     c.requires.moves.there c.loop-x-test.true refl given c.loop-x.invariant c.in_ok-advise_one.ensures
 
-pub returns-clause : goal.returns-clause
-returns-clause c =
+pub returns : goal.returns
+returns c =
     advised_end (form c.args.pipe.now).pipe c.args.b.now c.loop-x.b c.args.moves c.args.advises.now c.loop-x.x-index c.loop-x-test.false c.loop-x.invariant

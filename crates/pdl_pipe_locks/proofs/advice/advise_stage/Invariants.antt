@@ -4,4 +4,4 @@ use Rattle.pdl_pipe_locks.proofs.advice.advise_stage.Given as goal
 
 -- the ports of the first writes have come
 abbrev pub invariant-loop-x : goal.invariant-loop-x
-invariant-loop-x l = AdvisedUpTo (form l.pipe.now).pipe l.fn.b l.b l.moves l.advises l.x-index
+invariant-loop-x l = AdvisedUpTo (form l.pipe).pipe l.fn.b l.b l.moves l.advises l.x-index

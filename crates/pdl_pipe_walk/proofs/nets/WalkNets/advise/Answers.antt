@@ -16,17 +16,17 @@ use Rattle.pdl_pipe_walk.proofs.Updates.{advising_parts}
 use Rattle.pdl_pipe_walk.proofs.nets.WalkNets.advise.Goals as goal
 
 pub variable-addr-requires-clause-walk : goal.variable-addr-requires-clause-walk
-variable-addr-requires-clause-walk g c =
+variable-addr-requires-clause-walk c =
     walk_more c.args.b.now c.all_taken.new.b c.all_taken.ensures.extends (form c.args.pipe.now).pipe
     (form c.args.pipe.now).widths c.args.self.now c.requires.walk
 
 pub value-requires-clause-walk : goal.value-requires-clause-walk
-value-requires-clause-walk g c =
+value-requires-clause-walk c =
     walk_more c.args.b.now c.all_taken.new.b c.all_taken.ensures.extends (form c.args.pipe.now).pipe
     (form c.args.pipe.now).widths c.args.self.now c.requires.walk
 
 pub returns-clause-walk : goal.returns-clause-walk
-returns-clause-walk g c =
+returns-clause-walk c =
     let a = c.args.b.now in
     let one = c.all_taken.new.b in
     let two = c.value.new.b in
@@ -49,7 +49,7 @@ returns-clause-walk g c =
     c.push_advising.ensures
 
 pub returns-clause-parts : goal.returns-clause-parts
-returns-clause-parts g c =
+returns-clause-parts c =
     let a = c.args.b.now in
     let one = c.all_taken.new.b in
     let two = c.value.new.b in

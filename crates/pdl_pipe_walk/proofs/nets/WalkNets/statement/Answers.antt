@@ -1,4 +1,4 @@
-use Rattle.std.proofs.Common.{◌≡◌, ◌∙◌, Bool, List, sym, ap, refl, subst, length}
+use Rattle.std.proofs.Common.{◌≡◌, ◌∙◌, List, sym, ap, refl, subst, length}
 use Rattle.pdl_semantics.specs.Flat as flat
 use Rattle.pdl_net.proofs.Keeps.{extends_keeps}
 use Rattle.pdl_form.specs.FormView.{form}
@@ -442,26 +442,26 @@ returns-in-SpecCheck-clause-step g c =
     (nets_of a (form c.args.setting.now.pipe.now).pipe
     (form c.args.setting.now.pipe.now).widths w c.requires.walk) c.requires.walk.sized refl c.requires.typed.0.0)
 
-pub bind-in-AdviceBind-requires-clause-low : goal.bind-in-AdviceBind-requires-clause-low
-bind-in-AdviceBind-requires-clause-low g c = (typed_as (form c.args.setting.now.pipe.now) c.args.s.now _ c.requires.typed c.in-AdviceBind.is).0
+pub bind-requires-in-AdviceBind-clause-low : goal.bind-requires-in-AdviceBind-clause-low
+bind-requires-in-AdviceBind-clause-low g c = (typed_as (form c.args.setting.now.pipe.now) c.args.s.now _ c.requires.typed c.in-AdviceBind.is).0
 
-pub bind-in-AdviceBind-requires-clause-typed : goal.bind-in-AdviceBind-requires-clause-typed
-bind-in-AdviceBind-requires-clause-typed g c = (typed_as (form c.args.setting.now.pipe.now) c.args.s.now _ c.requires.typed c.in-AdviceBind.is).1
+pub bind-requires-in-AdviceBind-clause-typed : goal.bind-requires-in-AdviceBind-clause-typed
+bind-requires-in-AdviceBind-clause-typed g c = (typed_as (form c.args.setting.now.pipe.now) c.args.s.now _ c.requires.typed c.in-AdviceBind.is).1
 
-pub bind-in-AdviceBind-requires-clause-wide : goal.bind-in-AdviceBind-requires-clause-wide
-bind-in-AdviceBind-requires-clause-wide g c = (typed_as (form c.args.setting.now.pipe.now) c.args.s.now _ c.requires.typed c.in-AdviceBind.is).2
+pub bind-requires-in-AdviceBind-clause-wide : goal.bind-requires-in-AdviceBind-clause-wide
+bind-requires-in-AdviceBind-clause-wide g c = (typed_as (form c.args.setting.now.pipe.now) c.args.s.now _ c.requires.typed c.in-AdviceBind.is).2
 
-pub read-in-AdviceRead-requires-clause-low : goal.read-in-AdviceRead-requires-clause-low
-read-in-AdviceRead-requires-clause-low g c = (typed_as (form c.args.setting.now.pipe.now) c.args.s.now _ c.requires.typed c.in-AdviceRead.is).0
+pub read-requires-in-AdviceRead-clause-low : goal.read-requires-in-AdviceRead-clause-low
+read-requires-in-AdviceRead-clause-low g c = (typed_as (form c.args.setting.now.pipe.now) c.args.s.now _ c.requires.typed c.in-AdviceRead.is).0
 
-pub read-in-AdviceRead-requires-clause-at : goal.read-in-AdviceRead-requires-clause-at
-read-in-AdviceRead-requires-clause-at g c = (typed_as (form c.args.setting.now.pipe.now) c.args.s.now _ c.requires.typed c.in-AdviceRead.is).1
+pub read-requires-in-AdviceRead-clause-at : goal.read-requires-in-AdviceRead-clause-at
+read-requires-in-AdviceRead-clause-at g c = (typed_as (form c.args.setting.now.pipe.now) c.args.s.now _ c.requires.typed c.in-AdviceRead.is).1
 
-pub read-in-AdviceRead-requires-clause-wide : goal.read-in-AdviceRead-requires-clause-wide
-read-in-AdviceRead-requires-clause-wide g c = (typed_as (form c.args.setting.now.pipe.now) c.args.s.now _ c.requires.typed c.in-AdviceRead.is).2
+pub read-requires-in-AdviceRead-clause-wide : goal.read-requires-in-AdviceRead-clause-wide
+read-requires-in-AdviceRead-clause-wide g c = (typed_as (form c.args.setting.now.pipe.now) c.args.s.now _ c.requires.typed c.in-AdviceRead.is).2
 
-pub read-in-AdviceRead-requires-clause-at_once : goal.read-in-AdviceRead-requires-clause-at_once
-read-in-AdviceRead-requires-clause-at_once g c =
+pub read-requires-in-AdviceRead-clause-at_once : goal.read-requires-in-AdviceRead-clause-at_once
+read-requires-in-AdviceRead-clause-at_once g c =
     (subst (λ (o : r_op.Op). HasRow (form c.args.setting.now.pipe.now).pipe (act_view o)) c.in-AdviceRead.is c.requires.typed.1).1
 
 pub advise-requires-clause-at : goal.advise-requires-clause-at
@@ -477,12 +477,12 @@ pub advise-requires-clause-unlocked : goal.advise-requires-clause-unlocked
 advise-requires-clause-unlocked g c =
     subst (λ (o : r_op.Op). HasRow (form c.args.setting.now.pipe.now).pipe (act_view o)) c.in-AdviceWrite.is c.requires.typed.1
 
-pub bind-in-AdviceBind-requires-clause-guards : goal.bind-in-AdviceBind-requires-clause-guards
-bind-in-AdviceBind-requires-clause-guards g c =
+pub bind-requires-in-AdviceBind-clause-guards : goal.bind-requires-in-AdviceBind-clause-guards
+bind-requires-in-AdviceBind-clause-guards g c =
     guards_as (form c.args.setting.now.pipe.now) c.args.s.now c.as_slice-guards.result.now c.requires.typed c.as_slice-guards.ensures
 
-pub read-in-AdviceRead-requires-clause-guards : goal.read-in-AdviceRead-requires-clause-guards
-read-in-AdviceRead-requires-clause-guards g c =
+pub read-requires-in-AdviceRead-clause-guards : goal.read-requires-in-AdviceRead-clause-guards
+read-requires-in-AdviceRead-clause-guards g c =
     guards_as (form c.args.setting.now.pipe.now) c.args.s.now c.as_slice-guards.result.now c.requires.typed c.as_slice-guards.ensures
 
 pub advise-requires-clause-guards : goal.advise-requires-clause-guards
