@@ -51,13 +51,16 @@ VERSIONS = (
     Version("one stage", "rv32i_single.pdl", 1),
     Version("five stages", "rv32i.pdl", 3),
     Version("with a guess", "rv32i_guess.pdl", 3),
+    Version("with a table of counters", "rv32i_counters.pdl", 3),
     Version("with delayed memories", "rv32i_delayed.pdl", 3),
     Version("the same, slow", "rv32i_delayed.pdl", 5, slow=True),
     Version("with a second guess", "rv32i_update.pdl", 3),
     Version("the same, slow", "rv32i_update.pdl", 5, slow=True),
+    Version("with a branch target buffer", "rv32i_btb.pdl", 3),
+    Version("the same, slow", "rv32i_btb.pdl", 5, slow=True),
     Version("with a multiplier in an inner branch", "rv32im.pdl", 4),
 )
-SINGLE, FIVE, GUESS, DELAYED, LATE, UPDATED, LATER, MULTIPLIES = VERSIONS
+SINGLE, FIVE, GUESS, COUNTERS, DELAYED, LATE, UPDATED, LATER, BUFFER, BUFFERED_LATE, MULTIPLIES = VERSIONS
 
 # What can be guessed, and the line that guesses it.
 GUESS_LINE = r"(?m)^    next = spec_call\(.*\);$"
