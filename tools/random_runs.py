@@ -12,8 +12,9 @@ each whole run what has to hold (pdl_model/sound.py and promises.py). A pipe tha
 `view` and `seq` print has to be what the model says, of a pipe that is refused the rule and the line; so each pipe is asked
 once more with a line left out, said twice, moved or changed. `whole` does the same with pipes of the whole base language and
 with delay files, and what `pdl wave` says of each port in each cycle has to be what the model says too. Of each pipe the
-writes that a memory receives by `run` have to be the first ones that it receives by `seq`. A pipe with advisory memories
-is asked again from an image with other words in them, and of the two runs one writes each memory as the other begins.
+writes that a memory receives by `run` have to be the first ones that it receives by `seq`, and what `build` writes of it
+has to print by `sim` what it prints by `run`. A pipe with advisory memories is asked again from an image with other words
+in them, and of the two runs one writes each memory as the other begins.
 
 FORMS are the forms that the language has beside those that `pdl` takes, with commas between: two-writes, nested-forks,
 update, advisory; `all` is all of them, `none` none. The pipes have some of them. A pipe with updates or advice is held
@@ -222,6 +223,14 @@ def begin_alike(one, other):
     return all(it == its for memory in one.keys() & other.keys() for it, its in zip(one[memory], other[memory]))
 
 
+def runs_as_built(program, cycles, delays, folder):
+    """Whether what `build` writes of the pipe prints by `sim` what the pipe prints by `run`."""
+    more = [str(cycles), *(["--delays", "pipe.delays"] if delays else [])]
+    (folder / "pipe.v").write_text("".join(f"{line}\n" for line in answer(program, ["build", "pipe.pdl"], folder)))
+    run, sim = (answer(program, [command, name, "pipe.img", *more], folder) for command, name in (("run", "pipe.pdl"), ("sim", "pipe.v")))
+    return run == sim
+
+
 def different(program, layout, texts, cycles, threads, folder):
     """The commands and the ports whose answers differ, of a source that is accepted, an image and delays."""
     _, image, delays = texts
@@ -233,6 +242,7 @@ def different(program, layout, texts, cycles, threads, folder):
     words, rows = files.read_image(layout.pipe, image), files.read_delays(layout.pipe, delays)
     ports = [files.port_line(layout, it) for it in files.turns(layout, words, cycles, rows)]
     found = ["wave pipe.pdl"] if port_lines(program, cycles, delays, folder) != ports else []
+    found += [] if runs_as_built(program, cycles, delays, folder) else ["build and sim"]
     return found + ([] if is_in_order(program, layout, cycles, delays, folder) else ["run and seq"])
 
 
