@@ -205,8 +205,9 @@ class Figures:
         rows = ["| what is guessed | the line | instructions a cycle |", "|---|---|---|"]
         for what, line in GUESSES:
             rows.append(f"| {what} | `{line}` | {self.per_cycle(GUESS.with_change(GUESS_LINE, '    ' + line))} |")
+        rows.append(f"| what the branch did before, by a table of counters | `{COUNTERS.source}` | {self.per_cycle(COUNTERS)} |")
         for what, line, change in (
-            ("the same, verified a stage later", "`verify(next, ..);` in memory", VERIFY_LATER),
+            ("a branch backward is taken, verified a stage later", "`verify(next, ..);` in memory", VERIFY_LATER),
             ("the same, and none reserves before it is right", "`spec_barrier();` in decode", BARRIER),
         ):
             rows.append(f"| {what} | {line} | {self.per_cycle(GUESS.with_change(*change))} |")
