@@ -208,7 +208,7 @@ class Figures:
         rows.append(f"| what the branch did before, by a table of counters | `{COUNTERS.source}` | {self.per_cycle(COUNTERS)} |")
         for what, line, change in (
             ("a branch backward is taken, verified a stage later", "`verify(next, ..);` in memory", VERIFY_LATER),
-            ("the same, and none reserves before it is right", "`spec_barrier();` in decode", BARRIER),
+            ("a branch backward is taken, and none reserves before it is right", "`spec_barrier();` in decode", BARRIER),
         ):
             rows.append(f"| {what} | {line} | {self.per_cycle(GUESS.with_change(*change))} |")
         return rows
