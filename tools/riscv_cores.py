@@ -192,6 +192,15 @@ class Figures:
             rows.append(f"| `{program.name}` | " + " | ".join(cells) + " |")
         return rows
 
+    def second_guesses(self):
+        """The table of each program by the cores that guess: where fetch knows the instruction, where it doesn't, and there once more."""
+        shown = (GUESS, DELAYED, UPDATED)
+        rows = ["| program | " + " | ".join(f"`{it.source}`" for it in shown) + " |", "|---" * (len(shown) + 1) + "|"]
+        lasts = [self.cycles(it, self.programs) for it in shown]
+        for (program, _), *cycles in zip(self.programs, *lasts):
+            rows.append(f"| `{program.name}` | " + " | ".join(f"{program.instructions / it:.2f}" for it in cycles) + " |")
+        return rows
+
     def told(self, version, program):
         """The instructions of a program, its cycles by a version, and the one over the other."""
         last, = self.cycles(version, [(program, program.image())])
