@@ -218,7 +218,8 @@ def main():
             return 1 if by_verilator(pdl, folder) else 0
         elif words[:1] == ["figures"] and len(words) == 2:
             figures = riscv_cores.Figures(pdl, folder)
-            for table in (figures.versions, figures.products, figures.guesses, figures.second_guesses, figures.locks):
+            for table in (figures.versions, figures.products, figures.guesses, figures.second_guesses, figures.locks,
+                          figures.loops, figures.traps):
                 riscv_cores.put_table(table())
         else:
             usage.ends(f"`{' '.join(words)}` is no call of it")
