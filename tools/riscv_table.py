@@ -43,11 +43,11 @@ HEAD = [
     "| core | source | 24 programs | `records_O2` | `mix_O2` | look-up tables | MHz |",
     "|---|---|---|---|---|---|---|",
 ]
-# What is published: of PicoRV32 in its README.
+# What is published: of PicoRV32 in its README. There it is cycles an instruction: 4.100 and 5.232, of Dhrystone.
 OTHERS = (
-    "| PicoRV32, large, with look-ahead | its README | | Dhrystone: 0.24 | | 2,019 of 7-Series | 250 to 450 of 7-Series |",
+    "| PicoRV32, with multiplication and look-ahead | its README | | Dhrystone: 0.24 | | | |",
     "| the same, without look-ahead | its README | | Dhrystone: 0.19 | | | |",
-    "| PicoRV32, regular | its README | | | | 917 of 7-Series | 250 to 450 of 7-Series |",
+    "| PicoRV32, small, regular and large | its README | | | | 761, 917 and 2,019 of 7-Series | 250 to 450 on 7-Series |",
 )
 
 
