@@ -104,7 +104,7 @@ def by_machine(stem):
     words += ["-kernel", stem, *"-display none -serial none -monitor stdio".split()]
     machine = subprocess.Popen(words, stdin=subprocess.PIPE, stdout=subprocess.PIPE, text=True)
     time.sleep(3)
-    machine.communicate(f"pmemsave {traps_model.START:#x} {elf_image.BYTES} {stem}.end\nquit\n", timeout=60)
+    machine.communicate(f"pmemsave {traps_model.START:#x} {elf_image.BYTES} \"{stem}.end\"\nquit\n", timeout=60)
     with open(stem + ".end", "rb") as stream:
         return stream.read()
 

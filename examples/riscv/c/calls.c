@@ -1,5 +1,5 @@
 /* Calls, breakpoints, words that are no instructions, and control and status registers. Where there are no traps, as on the computer
-   at hand, their answers are worked out here. */
+   at hand, their answers are worked out here. It multiplies nothing, since a product is a trap too. */
 #ifdef __riscv
 #define WITH_CSR(text) ".option push\n.option arch, +zicsr\n" text "\n.option pop"
 static unsigned call(unsigned what, unsigned value) {
@@ -44,13 +44,13 @@ static unsigned enabled(void) { causes[3]++; return 0x88; }
 #endif
 int main(void) {
     unsigned sum = 0;
-    for (unsigned i = 0; i < 12; i++) {
+    for (unsigned i = 0; i < 16; i++) {
         sum = (sum << 5 | sum >> 27) ^ call(0, i << 9);
         if (i & 1) stop();
-        if (i % 3 == 2) stumble();
+        if ((i & 3) == 2) stumble();
         sum += on_csr(sum, i << 7 | 0x33) + between();
         sum ^= enabled() << (i & 3);
     }
-    for (unsigned cause = 0; cause < 12; cause++) sum = sum * 31 + call(1, cause);
+    for (unsigned cause = 0; cause < 12; cause++) sum = (sum << 5 | sum >> 27) + call(1, cause);
     return (int)sum;
 }
