@@ -1,9 +1,8 @@
 -- What the nets of looks say of the pending writes.
-use Rattle.std.proofs.Common.{◌≡◌, ◌≢◌, ℕ, zero, suc, ◌+◌, ◌-◌, ◌*◌, ◌%◌, ◌^◌, ◌<◌, ◌≤◌, ◌⊎◌, inl, inr, List, [], ◌∷◌, length, refl, sym, ap, ◌∙◌, arith, ⊎_elim, lt-ltb, le-ltb, eq-eqb, ne_eqb}
+use Rattle.std.proofs.Common.{◌≡◌, ◌≢◌, ℕ, zero, suc, ◌+◌, ◌-◌, ◌%◌, ◌^◌, ◌<◌, ◌≤◌, ◌⊎◌, inl, inr, List, [], ◌∷◌, length, refl, sym, ap, ◌∙◌, arith, ⊎_elim, lt-ltb, le-ltb, eq-eqb, ne_eqb}
 use Rattle.std.specs.Prelude.{◌==◌, if◌then◌else◌, Bool, true, false, Option, nat_lt}
 use Rattle.std.specs.Int.{bit_at}
 use Rattle.std.proofs.lemmas.Bool.{cases_lt, cases_eq}
-use Rattle.std.proofs.lemmas.Nat.{mod_below}
 use Rattle.pdl_word.specs.Words as words
 use Rattle.pdl_word.specs.Words.{bit}
 use Rattle.pdl_net.specs.Circuit.{State}
@@ -13,10 +12,10 @@ use Rattle.pdl_lockapi.specs.Laws.{RoomLaw, TicketLaw}
 use Rattle.pdl_lockapi.specs.Second.{Room2Law, Ticket2Law}
 use Rattle.pdl_lock_ring.specs.declared.layout.RingLayout.{RingLayout}
 use Rattle.pdl_lock_ring.specs.Slots.{IsSized, HasEntries, reg_of, addr_at}
-use Rattle.pdl_lock_ring.specs.Looks.{tail_signal, second_ticket, count_signal, room_signal, room2_signal, near_slots, older_slots, same_at}
+use Rattle.pdl_lock_ring.specs.Looks.{tail_signal, second_ticket, count_signal, room_signal, room2_signal, older_slots, same_at}
 use Rattle.pdl_lock_ring.proofs.SlotNumbers.{sub_held, sum_held, index_of}
 use Rattle.pdl_lock_ring.proofs.Turns.{less_is}
-use Rattle.pdl_lock_ring.proofs.SlotWords.{older_bit, near_bit}
+use Rattle.pdl_lock_ring.proofs.SlotWords.{older_bit}
 use Rattle.pdl_word.proofs.Bools.{if_false}
 
 -- how many writes are pending
@@ -62,11 +61,10 @@ module _ (stands : State → LockState → Type 0) (l : RingLayout) (g : ℕ →
 
 -- ---- which pending writes are older
 
--- a look's nets: the slots of the d oldest pending writes, but for the very oldest one where those are asked that are near
+-- a look's word: the slots of the d oldest pending writes
 pub record Seeks (l : RingLayout) (s : State) (x : LockState) (t : Signal) (d : ℕ) : Type 0 where
   pub few : d ≤ length x.entries
   pub older : (i : ℕ) → i < l.size → bit_at ((older_slots l t).value s) ((x.base + i) % l.size) ≡ bit (nat_lt i d)
-  pub near : (i : ℕ) → i < l.size → 0 < i → bit_at ((near_slots l t).value s) ((x.base + i) % l.size) ≡ bit (nat_lt i d)
 
 -- a ticket up to the next one
 pub seeks_covered : (l : RingLayout) (g : ℕ → Signal) (s : State) (x : LockState) (f : Signal) (t : ℕ) → IsSized l
@@ -78,7 +76,6 @@ seeks_covered l g s x f t z h c e =
     record {
       few = le;
       older = λ i lt. older_bit l g s x z h f d d i held le (λ j q. refl) (omega (arith, le, h.slots.room)) (omega (arith, le, h.slots.room, z.some)) lt;
-      near = λ i lt some. near_bit l g s x z h f d d i held le (λ j q. refl) (omega (arith, le, h.slots.room)) lt some;
     }
 
 -- the ticket after the next one
@@ -92,7 +89,6 @@ seeks_late l g s x f z h two e =
     record {
       few = omega arith;
       older = λ i lt. older_bit l g s x z h f (n + 1) n i held (omega arith) same (omega (arith, h.slots.room)) (omega (arith, h.slots.room, two)) lt;
-      near = λ i lt some. near_bit l g s x z h f (n + 1) n i held (omega arith) same (omega (arith, h.slots.room)) lt some;
     }
 
 -- ---- slots and pending writes

@@ -1,11 +1,11 @@
 -- What looks show: of a queue, and of the youngest older pending write.
-use Rattle.std.proofs.Common.{◌≡◌, ◌≢◌, ℕ, ◌+◌, ◌-◌, ◌*◌, ◌/◌, ◌%◌, ◌^◌, ◌<◌, ◌≤◌, ◌⊎◌, inl, inr, min, List, length, take, refl, sym, ap, ap₂, ◌∙◌, subst, arith, ⊎_elim, length-take, get_or-take, ne_eqb}
-use Rattle.std.specs.Prelude.{true, false, not, nat_lt, Option, Some, None, is_some, option_map, slice_index, slice_index_or, []}
+use Rattle.std.proofs.Common.{◌≡◌, ◌≢◌, ℕ, ◌+◌, ◌-◌, ◌%◌, ◌^◌, ◌<◌, ◌≤◌, inl, inr, min, List, length, take, refl, sym, ap, ◌∙◌, subst, arith, ⊎_elim, length-take, get_or-take, ne_eqb}
+use Rattle.std.specs.Prelude.{true, not, nat_lt, Option, Some, None, is_some, option_map, slice_index, slice_index_or, []}
 use Rattle.std.specs.Int.{bit_at}
 use Rattle.std.proofs.lemmas.Bool.{cases_lt, cases_eq, false≢true}
 use Rattle.std.proofs.lemmas.List.{take_all}
-use Rattle.std.proofs.lemmas.Nat.{mod_below}
-use Rattle.std.proofs.lemmas.Nat.Bits.{bit_at_and}
+use Rattle.std.proofs.lemmas.Nat.{mod_below, pow_below}
+use Rattle.std.proofs.lemmas.Nat.Bits.{bit_at_and, bit_at-pow_same, bit_at-pow_other, same_from_bits_below}
 use Rattle.pdl_word.specs.Words as words
 use Rattle.pdl_word.specs.Words.{bit}
 use Rattle.pdl_word.proofs.Bounds.{and_below, equal_below}
@@ -13,17 +13,18 @@ use Rattle.pdl_word.proofs.Laws.{differ_same}
 use Rattle.pdl_net.specs.declared.Net.{Net}
 use Rattle.pdl_net.specs.Circuit.{Circuit, State}
 use Rattle.pdl_net.specs.Meaning.{Means, signal}
-use Rattle.pdl_net.specs.Signal.{Signal, reg_signal, reg_value, const_value, bin_value, mux_value, slice_value, read_value}
+use Rattle.pdl_net.specs.Signal.{Signal, reg_signal, reg_value, const_value, bin_value, mux_value, read_value}
 use Rattle.pdl_net.specs.HasWidth.{HasWidth}
 use Rattle.pdl_net.proofs.KeptWidths.{width_meant}
 use Rattle.pdl_lockapi.specs.Lock.{Entry, LockState, entry_at, no_entry, or_zero, is_free, youngest, older, next_ticket}
 use Rattle.pdl_lockapi.specs.Laws.{HasWords, HasValueNet}
 use Rattle.pdl_lock_ring.specs.declared.layout.RingLayout.{RingLayout}
 use Rattle.pdl_lock_ring.specs.Slots.{IsSized, HasEntries, addr_at}
-use Rattle.pdl_lock_ring.specs.Looks.{near_slots, older_slots, same_at, same_slots, hit_slots, is_found, ready_signal, younger_slots, near_hits, wins_at, won_at, won_signal, has_signal, youngest_ready, youngest_value, GivesWord}
-use Rattle.pdl_lock_ring.proofs.RingValues.{if_one, if_other, mux_one, mux_zero, eq_one, eq_none}
+use Rattle.pdl_lock_ring.specs.Looks.{older_slots, same_at, same_slots, hit_slots, is_found, ready_signal, young_slots, wins_at, won_at, won_signal, has_signal, youngest_ready, youngest_value, GivesWord}
+use Rattle.pdl_lock_ring.proofs.SlotNumbers.{apart}
+use Rattle.pdl_lock_ring.proofs.RingValues.{mux_one, mux_zero, eq_one, eq_none}
 use Rattle.pdl_lock_ring.proofs.SlotBits.{AreBits, bits_few, bits_at, word_none, word_some}
-use Rattle.pdl_lock_ring.proofs.SlotWords.{younger_bit}
+use Rattle.pdl_lock_ring.proofs.SlotWords.{young_bit}
 use Rattle.pdl_lock_ring.proofs.Trees.{either_one, either_width}
 use Rattle.pdl_lock_ring.proofs.Turns.{less_is, less_not}
 use Rattle.pdl_lock_ring.proofs.LookMeanings.{Seeks, IsSlotOf, slot_has, same_value, IsYoungest, HasNone, youngest_of}
@@ -33,9 +34,9 @@ pub some_of : (o : Option ℕ) → is_some o ≡ true → o ≡ Some (or_zero o)
 some_of None h = absurd (cc h)
 some_of (Some v) h = refl
 
-mux_both : (c x : ℕ) → words.mux c x x ≡ x
-unfolding words.mux
-mux_both c x = ⊎_elim (λ (o : c ≡ 1). if_one c x x o) (λ (o : c ≢ 1). if_other c x x o) (cases_eq c 1)
+-- words of which one has a bit that the other has not
+other_bit : (u v k : ℕ) → bit_at u k ≡ 1 → bit_at v k ≡ 0 → u ≢ v
+other_bit u v k one none e = let q = ap (λ n. bit_at n k) e in absurd (omega (arith, one, none, q))
 
 -- a slot has the address or not
 are_bits : (l : RingLayout) (a : Signal) (s : State) → AreBits (same_at l a) s
@@ -137,99 +138,95 @@ module _ (l : RingLayout) (g : ℕ → Signal) (s : State) (x : LockState) (a t 
 
   -- ---- the youngest older one
 
-  near_hit_bit : (j : ℕ) → bit_at ((near_hits l a t).value s) j ≡ min (bit_at ((same_slots l a).value s) j) (bit_at ((near_slots l t).value s) j)
-  unfolding near_hits bin_value words.and
-  near_hit_bit j = bit_at_and ((same_slots l a).value s) ((near_slots l t).value s) j
+  -- the hits among slot j and the younger ones
+  abbrev seen : ℕ → ℕ
+  seen j = words.and ((hit_slots l a t).value s) ((young_slots l j).value s)
 
-  near_few : (near_hits l a t).value s < 2 ^ l.size
-  unfolding near_hits bin_value
-  near_few = and_below l.size ((same_slots l a).value s) ((near_slots l t).value s) same_few
+  seen_few : (j : ℕ) → seen j < 2 ^ l.size
+  seen_few j = and_below l.size ((hit_slots l a t).value s) ((young_slots l j).value s) hit_few
 
-  -- the younger hits than slot j
-  abbrev hidden : ℕ → ℕ
-  hidden j = words.and ((near_hits l a t).value s) ((younger_slots l j).value s)
-
-  hidden_bit : (i m : ℕ) → i < l.size → m < l.size
-      → bit_at (hidden (slot i)) (slot m) ≡ min (min (bit_at ((same_slots l a).value s) (slot m)) (bit_at ((near_slots l t).value s) (slot m))) (bit (nat_lt i m))
+  seen_at : (j k : ℕ) → bit_at (seen j) k ≡ min (bit_at ((hit_slots l a t).value s) k) (bit_at ((young_slots l j).value s) k)
   unfolding words.and
-  hidden_bit i m il ml =
-      bit_at_and ((near_hits l a t).value s) ((younger_slots l (slot i)).value s) (slot m)
-      ∙ ap₂ min (near_hit_bit (slot m)) (younger_bit l g s x z h i m il ml)
+  seen_at j k = bit_at_and ((hit_slots l a t).value s) ((young_slots l j).value s) k
 
-  hidden_none : (i : ℕ) → IsYoungest ys (a.value s) i → hidden (slot i) ≡ 0
-  hidden_none i y =
-      let lt : i < d = omega (arith, y.within, count) in
-      let il : i < l.size = omega (arith, lt, k.few, h.slots.room) in
-      word_none l.size (hidden (slot i)) (and_below l.size ((near_hits l a t).value s) ((younger_slots l (slot i)).value s) near_few) (λ j jn.
-      let o = slot_has l x j jn in
-      let r = hidden_bit i o.0 il o.1.below in
-      ap (bit_at (hidden (slot i))) (sym o.1.same)
-      ∙ ⊎_elim
-      (λ (q : i < o.0).
-      let p = k.near o.0 o.1.below (omega (arith, q)) in
+  seen_bit : (i m : ℕ) → i < l.size → m < l.size
+      → bit_at (seen (slot i)) (slot m) ≡ min (bit_at ((hit_slots l a t).value s) (slot m)) (bit (nat_lt i (m + 1)))
+  seen_bit i m il ml = seen_at (slot i) (slot m) ∙ ap (min (bit_at ((hit_slots l a t).value s) (slot m))) (young_bit l g s x z h i m il ml)
+
+  -- from the youngest hit on there is no other
+  seen_other : (i m : ℕ) → IsYoungest ys (a.value s) i → i < l.size → m < l.size → m ≢ i → bit_at (seen (slot i)) (slot m) ≡ 0
+  seen_other i m y il ml other =
+      let r = seen_bit i m il ml in
       ⊎_elim
-      (λ (u : o.0 < d).
-      let e = same_bit o.0 (slot o.0) (is_slot o.0 o.1.below) u (slot_in o.0)
-      ∙ eq_none (entry_at x.entries o.0).addr (a.value s)
-      (λ v. y.last o.0 q (omega (arith, u, count)) (ap (λ (y : Entry). y.addr) (entry_is o.0 u) ∙ v)) in
-      omega (arith, e, r))
-      (λ (u : d ≤ o.0). let e = less_not o.0 d u in omega (arith, e, p, r))
-      (cases_lt o.0 d))
-      (λ (q : o.0 ≤ i). let e = less_not i o.0 q in omega (arith, e, r))
-      (cases_lt i o.0))
+      (λ (q : i < m + 1).
+      let later : i < m = omega (arith, q, other) in
+      let p = hit_zero m ml (λ v e. y.last m later (omega (arith, v, count)) (ap (λ (n : Entry). n.addr) (entry_is m v) ∙ e)) in
+      omega (arith, r, p))
+      (λ (q : m + 1 ≤ i). let p = less_not i (m + 1) q in omega (arith, r, p))
+      (cases_lt i (m + 1))
 
-  hidden_some : (i m : ℕ) → IsYoungest ys (a.value s) i → m < i → hidden (slot m) ≢ 0
-  hidden_some i m y mi =
+  seen_alone : (i j : ℕ) → IsYoungest ys (a.value s) i → j < l.size → bit_at (seen (slot i)) j ≡ bit_at (2 ^ slot i) j
+  seen_alone i j y jn =
       let lt : i < d = omega (arith, y.within, count) in
       let il : i < l.size = omega (arith, lt, k.few, h.slots.room) in
-      let p = k.near i il (omega (arith, mi)) ∙ less_is i d lt in
-      let e = same_bit i (slot i) (is_slot i il) lt (slot_in i) ∙ eq_one (entry_at x.entries i).addr (a.value s) (the_same i y) in
-      let q = less_is m i mi in
-      let r = hidden_bit m i (omega (arith, mi, il)) il in
-      word_some (hidden (slot m)) (slot i) (omega (arith, p, e, q, r))
+      let o = slot_has l x j jn in
+      let m = o.0 in
+      let at : slot m ≡ j = o.1.same in
+      ⊎_elim
+      (λ (q : m ≡ i).
+      let own : j ≡ slot i = sym at ∙ ap slot q in
+      let r = seen_bit i i il il in
+      let p = hit_one i lt (the_same i y) in
+      let u = less_is i (i + 1) (omega arith) in
+      let one : bit_at (seen (slot i)) (slot i) ≡ 1 = omega (arith, r, p, u) in
+      ap (bit_at (seen (slot i))) own ∙ one ∙ sym (bit_at-pow_same (slot i)) ∙ ap (bit_at (2 ^ slot i)) (sym own))
+      (λ (q : m ≢ i).
+      ap (bit_at (seen (slot i))) (sym at) ∙ seen_other i m y il o.1.below q
+      ∙ sym (bit_at-pow_other (slot i) j (λ e. q (apart l.size x.base m i o.1.below il (at ∙ e)))))
+      (cases_eq m i)
 
-  hit_sliced : (j : ℕ) → words.slice j j ((hit_slots l a t).value s) ≡ bit_at ((hit_slots l a t).value s) j
-  unfolding words.slice
-  hit_sliced j = let one : j + 1 - j ≡ 1 = omega arith in ap (λ m. (hit_slots l a t).value s / 2 ^ j % 2 ^ m) one
-
-  wins_one : (i : ℕ) → IsYoungest ys (a.value s) i → (wins_at l (near_hits l a t) (hit_slots l a t) (slot i)).value s ≡ 1
-  unfolding wins_at mux_value bin_value slice_value const_value
+  wins_one : (i : ℕ) → IsYoungest ys (a.value s) i → (wins_at l (hit_slots l a t) (slot i)).value s ≡ 1
+  unfolding wins_at bin_value const_value
   wins_one i y =
-      mux_one (words.equal (hidden (slot i)) 0) (words.slice (slot i) (slot i) ((hit_slots l a t).value s)) 0 (eq_one (hidden (slot i)) 0 (hidden_none i y))
-      ∙ hit_sliced (slot i) ∙ hit_one i (omega (arith, y.within, count)) (the_same i y)
+      eq_one (seen (slot i)) (2 ^ slot i)
+      (same_from_bits_below l.size (seen (slot i)) (2 ^ slot i) (seen_few (slot i)) (pow_below (slot i) l.size (slot_in i)) (λ j jn. seen_alone i j y jn))
 
-  -- a slot that isn't hit doesn't win
-  wins_zero : (j : ℕ) → bit_at ((hit_slots l a t).value s) j ≡ 0 → (wins_at l (near_hits l a t) (hit_slots l a t) j).value s ≡ 0
-  unfolding wins_at mux_value bin_value slice_value const_value
-  wins_zero j e =
-      ap (λ v. words.mux (words.equal (hidden j) 0) v 0) (hit_sliced j ∙ e) ∙ mux_both (words.equal (hidden j) 0) 0
-
-  wins_other : (i j : ℕ) → IsYoungest ys (a.value s) i → j < l.size → j ≢ slot i → (wins_at l (near_hits l a t) (hit_slots l a t) j).value s ≡ 0
-  unfolding wins_at mux_value bin_value slice_value const_value
+  -- a slot beside the youngest hit doesn't win: either it isn't hit itself, or that one is younger
+  wins_other : (i j : ℕ) → IsYoungest ys (a.value s) i → j < l.size → j ≢ slot i → (wins_at l (hit_slots l a t) j).value s ≡ 0
+  unfolding wins_at bin_value const_value
   wins_other i j y jn q =
+      let lt : i < d = omega (arith, y.within, count) in
+      let il : i < l.size = omega (arith, lt, k.few, h.slots.room) in
       let o = slot_has l x j jn in
       let m = o.0 in
       let at : slot m ≡ j = o.1.same in
       ⊎_elim
       (λ (u : m < i).
-      ap (λ n. words.mux (words.equal (hidden n) 0) (words.slice n n ((hit_slots l a t).value s)) 0) (sym at)
-      ∙ mux_zero (words.equal (hidden (slot m)) 0) (words.slice (slot m) (slot m) ((hit_slots l a t).value s)) 0
-      (eq_none (hidden (slot m)) 0 (hidden_some i m y u)))
+      let r = seen_bit m i o.1.below il in
+      let p = hit_one i lt (the_same i y) in
+      let v = less_is m (i + 1) (omega (arith, u)) in
+      let one : bit_at (seen (slot m)) (slot i) ≡ 1 = omega (arith, r, p, v) in
+      eq_none (seen j) (2 ^ j)
+      (other_bit (seen j) (2 ^ j) (slot i) (ap (λ n. bit_at (seen n) (slot i)) (sym at) ∙ one) (bit_at-pow_other j (slot i) (λ e. q (sym e)))))
       (λ (u : i ≤ m).
       let differ : i ≢ m = λ e. q (sym at ∙ ap slot (sym e)) in
-      wins_zero j (ap (bit_at ((hit_slots l a t).value s)) (sym at)
-      ∙ hit_zero m o.1.below (λ v e. y.last m (omega (arith, u, differ)) (omega (arith, v, count)) (ap (λ (y : Entry). y.addr) (entry_is m v) ∙ e))))
+      let p =
+      hit_zero m o.1.below (λ v e. y.last m (omega (arith, u, differ)) (omega (arith, v, count)) (ap (λ (n : Entry). n.addr) (entry_is m v) ∙ e)) in
+      let b = ap (bit_at ((hit_slots l a t).value s)) (sym at) ∙ p in
+      let r = seen_at j j in
+      let none : bit_at (seen j) j ≡ 0 = omega (arith, r, b) in
+      eq_none (seen j) (2 ^ j) (λ e. other_bit (2 ^ j) (seen j) j (bit_at-pow_same j) none (sym e)))
       (cases_lt m i)
 
   -- of a signal for each slot that of the youngest older pending write of the address is given
   won_is : (f : ℕ → Signal) (w i : ℕ) → IsYoungest ys (a.value s) i → (won_signal l f w a t).value s ≡ (f (slot i)).value s
   unfolding mux_value const_value
   won_is f w i y =
-      either_one (won_at l f w (near_hits l a t) (hit_slots l a t)) s (l.ticket - 1) 0 (slot i) (omega arith)
+      either_one (won_at l f w (hit_slots l a t)) s (l.ticket - 1) 0 (slot i) (omega arith)
       (let b = slot_in i in omega (arith, b, slots_all l z))
-      (λ j lo hi q. mux_zero ((wins_at l (near_hits l a t) (hit_slots l a t) j).value s) ((f j).value s) 0
+      (λ j lo hi q. mux_zero ((wins_at l (hit_slots l a t) j).value s) ((f j).value s) 0
       (wins_other i j y (omega (arith, hi, slots_all l z)) q))
-      ∙ mux_one ((wins_at l (near_hits l a t) (hit_slots l a t) (slot i)).value s) ((f (slot i)).value s) 0 (wins_one i y)
+      ∙ mux_one ((wins_at l (hit_slots l a t) (slot i)).value s) ((f (slot i)).value s) 0 (wins_one i y)
 
   found_one : (i : ℕ) → IsYoungest ys (a.value s) i → (is_found l a t).value s ≡ 1
   unfolding bin_value const_value words.differ
@@ -277,7 +274,7 @@ module _ (l : RingLayout) (g : ℕ → Signal) (s : State) (x : LockState) (a t 
 
 -- what is given of a slot has the width that all of it have
 pub won_width : (l : RingLayout) (f : ℕ → Signal) (w : ℕ) (a t : Signal) → ((k : ℕ) → (f k).width ≡ w) → (won_signal l f w a t).width ≡ w
-won_width l f w a t e = either_width (won_at l f w (near_hits l a t) (hit_slots l a t)) w e (l.ticket - 1) 0
+won_width l f w a t e = either_width (won_at l f w (hit_slots l a t)) w e (l.ticket - 1) 0
 
 -- where no pending write has the address, the youngest value is the one that is given else
 pub free_youngest : (xs : List Entry) (a : ℕ) (v : Option ℕ) → is_free xs a ≡ true → youngest xs a v ≡ v

@@ -1,5 +1,5 @@
 -- A ticket has no more bits than there are slots.
-use Rattle.std.proofs.Common.{◌≡◌, ℕ, zero, suc, ◌+◌, ◌-◌, ◌^◌, ◌<◌, ◌≤◌, arith}
+use Rattle.std.proofs.Common.{ℕ, zero, suc, ◌-◌, ◌^◌, ◌<◌, ◌≤◌, arith}
 use Rattle.std.proofs.Math.Nat.{two-pow-succ}
 use Rattle.pdl_build.proofs.Extensions.{zext_width}
 use Rattle.pdl_lock_ring.specs.declared.layout.RingLayout.{RingLayout}

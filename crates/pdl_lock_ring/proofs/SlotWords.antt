@@ -1,10 +1,10 @@
 -- What the words of a look are, that have a bit for each slot.
-use Rattle.std.proofs.Common.{◌≡◌, ◌≢◌, ℕ, zero, suc, ◌+◌, ◌-◌, ◌*◌, ◌/◌, ◌%◌, ◌^◌, ◌<◌, ◌≤◌, ◌⊎◌, inl, inr, min, max, length, refl, sym, ap, ap₂, ◌∙◌, arith, ⊎_elim, pow_pos, ne_eqb}
-use Rattle.std.specs.Prelude.{nat_lt, not, bit_and, bit_or, bit_xor}
+use Rattle.std.proofs.Common.{◌≡◌, ◌≢◌, ℕ, zero, suc, ◌+◌, ◌-◌, ◌*◌, ◌/◌, ◌%◌, ◌^◌, ◌<◌, ◌≤◌, inl, inr, min, max, length, sym, ap, ap₂, ◌∙◌, arith, ⊎_elim, pow_pos, ne_eqb}
+use Rattle.std.specs.Prelude.{nat_lt, not, bit_or, bit_xor}
 use Rattle.std.specs.Int.{bit_at}
-use Rattle.std.proofs.lemmas.Bool.{cases_lt, cases_eq}
+use Rattle.std.proofs.lemmas.Bool.{cases_lt}
 use Rattle.std.proofs.lemmas.Nat.{mod_below, field_of, one_shl}
-use Rattle.std.proofs.lemmas.Nat.Bits.{bit_at_and, bit_at_or, bit_at-lt, bit_at-zero, bit_at-pow_same, bit_at-pow_other, ones_shl, bit_at_mask_inside, bit_at_mask_below, bit_at_ones, bit_at_ones_above}
+use Rattle.std.proofs.lemmas.Nat.Bits.{bit_at_and, bit_at_or, bit_at-lt, bit_at-zero, bit_at-pow_same, bit_at-pow_other, ones_shl, bit_at_mask_inside, bit_at_mask_below}
 use Rattle.std.proofs.Math.Nat.{mod-mod}
 use Rattle.std.proofs.Math.Pow.{pow_mono}
 use Rattle.pdl_word.specs.Words as words
@@ -16,11 +16,11 @@ use Rattle.pdl_net.specs.Signal.{Signal, reg_value, const_value, not_value, bin_
 use Rattle.pdl_build.proofs.Extensions.{zext_value}
 use Rattle.pdl_lockapi.specs.Lock.{LockState}
 use Rattle.pdl_lock_ring.specs.declared.layout.RingLayout.{RingLayout}
-use Rattle.pdl_lock_ring.specs.Slots.{IsSized, HasEntries, reg_of}
-use Rattle.pdl_lock_ring.specs.Looks.{head_signal, tail_signal, slot_of, shifted_slots, slots_from, turns_of, passed_slots, pending_slots, near_slots, head_slot, oldest_slot, older_slots, slots_after, second_slots, younger_slots}
+use Rattle.pdl_lock_ring.specs.Slots.{IsSized, HasEntries}
+use Rattle.pdl_lock_ring.specs.Looks.{head_signal, tail_signal, slot_of, shifted_slots, slots_from, turns_of, passed_slots, pending_slots, head_slot, oldest_slot, older_slots, second_slots, young_slots}
 use Rattle.pdl_lock_ring.proofs.SlotNumbers.{slot_held, half_mod, apart}
 use Rattle.pdl_lock_ring.proofs.RingValues.{mux_one, mux_zero}
-use Rattle.pdl_lock_ring.proofs.Turns.{less_is, less_not, bit_few, turn_word, turn_few, between_bit, from_bit, before_bit, place}
+use Rattle.pdl_lock_ring.proofs.Turns.{less_is, less_not, bit_few, turn_word, between_bit, from_bit, before_bit, place}
 
 -- the slot of a ticket
 slot_number : (l : RingLayout) (f : Signal) (s : State) (t : ℕ) → IsSized l → f.value s ≡ t % 2 ^ l.ticket → (slot_of l f).value s ≡ t % l.size
@@ -142,13 +142,6 @@ module _ (l : RingLayout) (g : ℕ → Signal) (s : State) (x : LockState) (z : 
 
   -- ---- the older pending writes: `e` of them, where the ticket is `d` after the head
 
-  near_two : (f : Signal) (d i : ℕ) → f.value s ≡ (x.base + d) % 2 ^ l.ticket → i < l.size → d ≤ l.size + i
-      → bit_at ((near_slots l f).value s) ((x.base + i) % l.size) ≡ min (bit (nat_lt i (length x.entries))) (bit (nat_lt i d))
-  unfolding near_slots bin_value words.and
-  near_two f d i e lt le =
-      bit_at_and ((pending_slots l).value s) ((passed_slots l f).value s) ((x.base + i) % l.size)
-      ∙ ap₂ min (pending_bit i lt) (passed_bit f d i e lt le)
-
   older_three : (f : Signal) (i : ℕ) → i < l.size
       → bit_at ((older_slots l f).value s) ((x.base + i) % l.size)
       ≡ min (bit (nat_lt i (length x.entries)))
@@ -164,13 +157,6 @@ module _ (l : RingLayout) (g : ℕ → Signal) (s : State) (x : LockState) (z : 
       (λ (q : i < c). let o = less_is i c q in let m = same q in let b = bit_few (nat_lt i e) in omega (arith, o, m, b))
       (λ (q : c ≤ i). let o = less_not i c q in let n = less_not i e (omega (arith, q, le)) in omega (arith, o, n))
       (cases_lt i c)
-
-  -- the e oldest but for the very oldest one
-  pub near_bit : (f : Signal) (d e i : ℕ) → f.value s ≡ (x.base + d) % 2 ^ l.ticket → e ≤ length x.entries
-      → ((j : ℕ) → j < length x.entries → bit (nat_lt j d) ≡ bit (nat_lt j e)) → d ≤ l.size + 1 → i < l.size → 0 < i
-      → bit_at ((near_slots l f).value s) ((x.base + i) % l.size) ≡ bit (nat_lt i e)
-  near_bit f d e i held le same few lt some =
-      near_two f d i held lt (omega (arith, few, some)) ∙ both (length x.entries) d e i le (same i)
 
   -- the e oldest
   pub older_bit : (f : Signal) (d e i : ℕ) → f.value s ≡ (x.base + d) % 2 ^ l.ticket → e ≤ length x.entries
@@ -199,13 +185,13 @@ module _ (l : RingLayout) (g : ℕ → Signal) (s : State) (x : LockState) (z : 
       let m : max (bit_at ((oldest_slot l f).value s) k) (bit_at ((passed_slots l f).value s) k) ≡ bit (nat_lt (suc i) d) = omega (arith, o, p) in
       older_three f (suc i) lt ∙ ap (min (bit (nat_lt (suc i) c))) m ∙ both c d e (suc i) le (same (suc i))
 
-  -- ---- the slots of younger pending writes
+  -- ---- a slot and the slots of younger pending writes
 
-  after_bit : (k j : ℕ) → k < l.size → j < l.size → bit_at (2 ^ l.size - 2 ^ (k + 1)) j ≡ bit (nat_lt k j)
-  after_bit k j h lt = ⊎_elim
-      (λ (q : k < j). bit_at_mask_inside (k + 1) l.size j (omega (arith, q)) lt ∙ sym (less_is k j q))
-      (λ (q : j ≤ k). bit_at_mask_below (k + 1) l.size j (omega (arith, q)) ∙ sym (less_not k j q))
-      (cases_lt k j)
+  own_bit : (k j : ℕ) → k < l.size → j < l.size → bit_at (2 ^ l.size - 2 ^ k) j ≡ bit (nat_lt k (j + 1))
+  own_bit k j h lt = ⊎_elim
+      (λ (q : k < j + 1). bit_at_mask_inside k l.size j (omega (arith, q)) lt ∙ sym (less_is k (j + 1) q))
+      (λ (q : j + 1 ≤ k). bit_at_mask_below k l.size j (omega (arith, q)) ∙ sym (less_not k (j + 1) q))
+      (cases_lt k (j + 1))
 
   from_head : (slots_from l (head_signal l)).value s ≡ 2 ^ l.size - 2 ^ (x.base % l.size)
   from_head = from_value l (head_signal l) s x.base z head_held
@@ -225,23 +211,23 @@ module _ (l : RingLayout) (g : ℕ → Signal) (s : State) (x : LockState) (z : 
       ap (λ v. v / 2 ^ k % 2 ^ (k + 1 - k)) from_head
       ∙ ap (λ m. (2 ^ l.size - 2 ^ (x.base % l.size)) / 2 ^ k % 2 ^ m) one ∙ from_bit l.size (x.base % l.size) k lt
 
-  younger_first : (k j : ℕ) → k < l.size → j < l.size → x.base % l.size ≤ k
-      → bit_at ((younger_slots l k).value s) j ≡ max (bit (nat_lt k j)) (bit (nat_lt j (x.base % l.size)))
-  unfolding younger_slots mux_value slice_value bin_value const_value words.or
-  younger_first k j h lt le =
+  young_first : (k j : ℕ) → k < l.size → j < l.size → x.base % l.size ≤ k
+      → bit_at ((young_slots l k).value s) j ≡ max (bit (nat_lt k (j + 1))) (bit (nat_lt j (x.base % l.size)))
+  unfolding young_slots mux_value slice_value bin_value const_value words.or
+  young_first k j h lt le =
       let o : words.slice k k ((slots_from l (head_signal l)).value s) ≡ 1 =
       first_round k h ∙ (let n = less_not k (x.base % l.size) le in omega (arith, n)) in
       ap (λ v. bit_at v j) (mux_one (words.slice k k ((slots_from l (head_signal l)).value s)) _ _ o)
-      ∙ bit_at_or (2 ^ l.size - 2 ^ (k + 1)) ((second_slots l).value s) j ∙ ap₂ max (after_bit k j h lt) (second_bit j)
+      ∙ bit_at_or (2 ^ l.size - 2 ^ k) ((second_slots l).value s) j ∙ ap₂ max (own_bit k j h lt) (second_bit j)
 
-  younger_second : (k j : ℕ) → k < l.size → j < l.size → k < x.base % l.size
-      → bit_at ((younger_slots l k).value s) j ≡ min (bit (nat_lt k j)) (bit (nat_lt j (x.base % l.size)))
-  unfolding younger_slots mux_value slice_value bin_value const_value words.and
-  younger_second k j h lt le =
+  young_second : (k j : ℕ) → k < l.size → j < l.size → k < x.base % l.size
+      → bit_at ((young_slots l k).value s) j ≡ min (bit (nat_lt k (j + 1))) (bit (nat_lt j (x.base % l.size)))
+  unfolding young_slots mux_value slice_value bin_value const_value words.and
+  young_second k j h lt le =
       let o : words.slice k k ((slots_from l (head_signal l)).value s) ≡ 0 =
       first_round k h ∙ (let n = less_is k (x.base % l.size) le in omega (arith, n)) in
       ap (λ v. bit_at v j) (mux_zero (words.slice k k ((slots_from l (head_signal l)).value s)) _ _ o)
-      ∙ bit_at_and (2 ^ l.size - 2 ^ (k + 1)) ((second_slots l).value s) j ∙ ap₂ min (after_bit k j h lt) (second_bit j)
+      ∙ bit_at_and (2 ^ l.size - 2 ^ k) ((second_slots l).value s) j ∙ ap₂ min (own_bit k j h lt) (second_bit j)
 
   -- slots in one round are in the order of their numbers
   same_round : (k j i m : ℕ) → (i < m → k < j) → (m ≤ i → j ≤ k) → bit (nat_lt k j) ≡ bit (nat_lt i m)
@@ -250,10 +236,10 @@ module _ (l : RingLayout) (g : ℕ → Signal) (s : State) (x : LockState) (z : 
       (λ (q : m ≤ i). less_not k j (down q) ∙ sym (less_not i m q))
       (cases_lt i m)
 
-  -- the slot of the m-th pending write is a younger one than that of the i-th where m is greater
-  pub younger_bit : (i m : ℕ) → i < l.size → m < l.size
-      → bit_at ((younger_slots l ((x.base + i) % l.size)).value s) ((x.base + m) % l.size) ≡ bit (nat_lt i m)
-  younger_bit i m il ml =
+  -- the slot of the m-th pending write is that of the i-th or a younger one where m is no less
+  pub young_bit : (i m : ℕ) → i < l.size → m < l.size
+      → bit_at ((young_slots l ((x.base + i) % l.size)).value s) ((x.base + m) % l.size) ≡ bit (nat_lt i (m + 1))
+  young_bit i m il ml =
       let n = l.size in
       let v = x.base % n in
       let k = (x.base + i) % n in
@@ -263,35 +249,35 @@ module _ (l : RingLayout) (g : ℕ → Signal) (s : State) (x : LockState) (z : 
       elim (place n x.base i il) [
         | inl a ↦
             let ka = a.1 in
-            let f = younger_first k j kn jn (omega (arith, ka)) in
+            let f = young_first k j kn jn (omega (arith, ka)) in
             elim (place n x.base m ml) [
               | inl b ↦
                   let jb = b.1 in
                   let o = less_not j v (omega (arith, jb)) in
-                  let r = same_round k j i m (λ q. omega (arith, ka, jb, q)) (λ q. omega (arith, ka, jb, q)) in
-                  let w = bit_few (nat_lt k j) in
+                  let r = same_round k (j + 1) i (m + 1) (λ q. omega (arith, ka, jb, q)) (λ q. omega (arith, ka, jb, q)) in
+                  let w = bit_few (nat_lt k (j + 1)) in
                   omega (arith, f, o, r, w)
               | inr b ↦
                   let jb = b.1 in
                   let o = less_is j v (omega (arith, jb, ml)) in
-                  let r = less_is i m (let p = a.0 in omega (arith, p, jb)) in
-                  let w = bit_few (nat_lt k j) in
+                  let r = less_is i (m + 1) (let p = a.0 in omega (arith, p, jb)) in
+                  let w = bit_few (nat_lt k (j + 1)) in
                   omega (arith, f, o, r, w)
             ]
         | inr a ↦
             let ka = a.1 in
-            let f = younger_second k j kn jn (omega (arith, ka, il)) in
+            let f = young_second k j kn jn (omega (arith, ka, il)) in
             elim (place n x.base m ml) [
               | inl b ↦
                   let jb = b.1 in
                   let o = less_not j v (omega (arith, jb)) in
-                  let r = less_not i m (let p = b.0 in omega (arith, p, ka)) in
+                  let r = less_not i (m + 1) (let p = b.0 in omega (arith, p, ka)) in
                   omega (arith, f, o, r)
               | inr b ↦
                   let jb = b.1 in
                   let o = less_is j v (omega (arith, jb, ml)) in
-                  let r = same_round k j i m (λ q. omega (arith, ka, jb, q)) (λ q. omega (arith, ka, jb, q)) in
-                  let w = bit_few (nat_lt k j) in
+                  let r = same_round k (j + 1) i (m + 1) (λ q. omega (arith, ka, jb, q)) (λ q. omega (arith, ka, jb, q)) in
+                  let w = bit_few (nat_lt k (j + 1)) in
                   omega (arith, f, o, r, w)
             ]
       ]

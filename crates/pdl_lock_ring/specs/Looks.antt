@@ -64,10 +64,6 @@ passed_slots l t = bin_signal Xor (turns_of l t) (turns_of l (head_signal l))
 abbrev pub pending_slots : RingLayout → Signal
 pending_slots l = passed_slots l (tail_signal l)
 
--- the pending writes with lower tickets than this one. The oldest of a full ring is left out where the ticket is that after the next one, since two tickets of its slot lie between
-unfoldable pub near_slots : RingLayout → Signal → Signal
-near_slots l t = bin_signal And (pending_slots l) (passed_slots l t)
-
 -- the head's slot
 unfoldable pub head_slot : RingLayout → Signal
 head_slot l = shifted_slots l 1 (head_signal l)
@@ -104,32 +100,27 @@ ready_signal l a t = bin_signal Eq (hit_slots l a t) (no_slots l)
 abbrev pub second_slots : RingLayout → Signal
 second_slots l = not_signal (slots_from l (head_signal l))
 
--- the slots after slot k
-abbrev pub slots_after : RingLayout → ℕ → Signal
-slots_after l k = const_signal l.size (2 ^ l.size - 2 ^ (k + 1))
+-- slot k and those after it
+abbrev pub slots_from_own : RingLayout → ℕ → Signal
+slots_from_own l k = const_signal l.size (2 ^ l.size - 2 ^ k)
 
--- the slots of younger pending writes than that of slot k
-unfoldable pub younger_slots : RingLayout → ℕ → Signal
-younger_slots l k =
-    mux_signal (slice_signal k k (slots_from l (head_signal l))) (bin_signal Or (slots_after l k) (second_slots l))
-    (bin_signal And (slots_after l k) (second_slots l))
+-- slot k and the slots of younger pending writes
+unfoldable pub young_slots : RingLayout → ℕ → Signal
+young_slots l k =
+    mux_signal (slice_signal k k (slots_from l (head_signal l))) (bin_signal Or (slots_from_own l k) (second_slots l))
+    (bin_signal And (slots_from_own l k) (second_slots l))
 
--- the older pending writes of the address but for what `near_slots` leaves out, which is younger than no other one
-unfoldable pub near_hits : RingLayout → Signal → Signal → Signal
-near_hits l a t = bin_signal And (same_slots l a) (near_slots l t)
-
--- slot k is one of the hits, and none of the near ones is younger
-unfoldable pub wins_at : RingLayout → Signal → Signal → ℕ → Signal
-wins_at l near hits k =
-    mux_signal (bin_signal Eq (bin_signal And near (younger_slots l k)) (no_slots l)) (slice_signal k k hits) (const_signal 1 0)
+-- of slot k and the younger ones slot k alone is hit
+unfoldable pub wins_at : RingLayout → Signal → ℕ → Signal
+wins_at l hits k = bin_signal Eq (bin_signal And hits (young_slots l k)) (const_signal l.size (2 ^ k))
 
 -- a signal of w bits of each slot, where the slot wins; else 0
-abbrev pub won_at : RingLayout → (ℕ → Signal) → ℕ → Signal → Signal → ℕ → Signal
-won_at l f w near hits k = mux_signal (wins_at l near hits k) (f k) (const_signal w 0)
+abbrev pub won_at : RingLayout → (ℕ → Signal) → ℕ → Signal → ℕ → Signal
+won_at l f w hits k = mux_signal (wins_at l hits k) (f k) (const_signal w 0)
 
 -- that of the youngest older pending write of the address
 abbrev pub won_signal : RingLayout → (ℕ → Signal) → ℕ → Signal → Signal → Signal
-won_signal l f w a t = either_signal (won_at l f w (near_hits l a t) (hit_slots l a t)) (l.ticket - 1) 0
+won_signal l f w a t = either_signal (won_at l f w (hit_slots l a t)) (l.ticket - 1) 0
 
 -- whether slot k has its value
 abbrev pub has_signal : RingLayout → ℕ → Signal

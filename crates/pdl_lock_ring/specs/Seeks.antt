@@ -1,35 +1,19 @@
--- What a look asks for and finds, as nets.
+-- What the winner of a look holds, as nets.
 use Rattle.std.specs.Prelude.{◌≡◌, ℕ}
 use Rattle.pdl_net.specs.Circuit.{Circuit}
 use Rattle.pdl_net.specs.declared.BinOp.TheVariants.{Or}
 use Rattle.pdl_net.specs.Signal.{Signal, bin_signal}
 use Rattle.pdl_net.specs.Meaning.{Means, signal}
 use Rattle.pdl_lock_ring.specs.declared.layout.RingLayout.{RingLayout}
-use Rattle.pdl_lock_ring.specs.declared.look.Older.{Older}
-use Rattle.pdl_lock_ring.specs.declared.look.Hits.{Hits}
 use Rattle.pdl_lock_ring.specs.declared.youngest.Won.{Won}
 use Rattle.pdl_lock_ring.specs.Slots.{content_signal}
 use Rattle.pdl_lock_ring.specs.Choices.{either_signal}
-use Rattle.pdl_lock_ring.specs.Looks.{near_slots, older_slots, near_hits, hit_slots, has_signal, won_at}
-
--- the slots of the pending writes that are older than a ticket
-pub record AreOlder (c : Circuit) (l : RingLayout) (t : Signal) (x : Older) : Type 0 where
-  pub near : Means c x.near (near_slots l t)
-  pub all : Means c x.all (older_slots l t)
-  pub near_wide : (signal c x.near).width ≡ l.size
-  pub all_wide : (signal c x.all).width ≡ l.size
-
--- those of them that have an address
-pub record AreHits (c : Circuit) (l : RingLayout) (a t : Signal) (x : Hits) : Type 0 where
-  pub near : Means c x.near (near_hits l a t)
-  pub all : Means c x.all (hit_slots l a t)
-  pub near_wide : (signal c x.near).width ≡ l.size
-  pub all_wide : (signal c x.all).width ≡ l.size
+use Rattle.pdl_lock_ring.specs.Looks.{has_signal, won_at}
 
 -- what the winner of the 2 ^ b slots from this one on holds, where it is one of these
-pub record IsWon (c : Circuit) (l : RingLayout) (near hits : Signal) (b from : ℕ) (x : Won) : Type 0 where
-  pub has : Means c x.has (either_signal (won_at l (has_signal l) 1 near hits) b from)
-  pub content : Means c x.content (either_signal (won_at l (content_signal l) l.kept near hits) b from)
+pub record IsWon (c : Circuit) (l : RingLayout) (hits : Signal) (b from : ℕ) (x : Won) : Type 0 where
+  pub has : Means c x.has (either_signal (won_at l (has_signal l) 1 hits) b from)
+  pub content : Means c x.content (either_signal (won_at l (content_signal l) l.kept hits) b from)
   pub has_wide : (signal c x.has).width ≡ 1
   pub content_wide : (signal c x.content).width ≡ l.kept
 

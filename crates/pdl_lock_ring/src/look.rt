@@ -4,8 +4,7 @@ ghost use Rattle.pdl_net.specs.Meaning.{Means, signal};
 ghost use Rattle.pdl_net.specs.HasWidth.{HasWidth};
 ghost use Rattle.pdl_net.specs.Growth.{Extends};
 ghost use Rattle.pdl_lock_ring.specs.Slots.{IsSized, HasSlots};
-ghost use Rattle.pdl_lock_ring.specs.Looks.{slot_of, shifted_slots, slots_from, turns_of, passed_slots, oldest_slot, same_at, same_slots, net_by_kind, GivesWord};
-ghost use Rattle.pdl_lock_ring.specs.Seeks.{AreOlder, AreHits};
+ghost use Rattle.pdl_lock_ring.specs.Looks.{slot_of, shifted_slots, slots_from, turns_of, passed_slots, oldest_slot, older_slots, same_at, same_slots, hit_slots, net_by_kind, GivesWord};
 
 use crate::choice::power;
 use crate::layout::RingLayout;
@@ -13,20 +12,6 @@ use pdl_build::Builder;
 use pdl_kit::NoMemory;
 use pdl_lockapi::Kind;
 use pdl_net::{BinOp, Net};
-
-/// Pending writes, as words with a bit for each slot: those with lower tickets than a look's, all of them or without the oldest one of a full ring.
-#[derive(Clone, Copy)]
-pub struct Older {
-    pub near: Net,
-    pub all: Net,
-}
-
-/// Those of them that have the address of a look.
-#[derive(Clone, Copy)]
-pub struct Hits {
-    pub near: Net,
-    pub all: Net,
-}
 
 /// A number modulo the number of slots.
 #[tactic(auto)]
@@ -118,21 +103,20 @@ fn emit_oldest_slot(b: &mut Builder, l: RingLayout, ticket: Net) -> Result<Net, 
 }
 
 /// The pending writes with lower tickets than this one.
-#[tactic(auto, using(crate::proofs::RingGrowth::slots_kept), unfolding(crate::specs::Looks::near_slots, crate::specs::Looks::older_slots))]
-fn emit_older(b: &mut Builder, l: RingLayout, ticket: Net) -> Result<Older, NoMemory>
+#[tactic(auto, using(crate::proofs::RingGrowth::slots_kept), unfolding(crate::specs::Looks::older_slots))]
+fn emit_older(b: &mut Builder, l: RingLayout, ticket: Net) -> Result<Net, NoMemory>
     requires sized { IsSized l }
     requires slots { HasSlots b.old l }
     requires ticket { HasWidth b.old ticket l.ticket }
-    ensures older { IfOk result (λ x. AreOlder b.new l (signal b.old ticket) x) }
+    ensures means { IfOk result (λ x. Means b.new x (older_slots l (signal b.old ticket))) }
+    ensures wide { IfOk result (λ x. (signal b.new x).width ≡ l.size) }
     ensures extends { Extends b.old b.new }
 {
     let pending = emit_passed(b, l, Net::Reg(l.from + 1))?;
     let passed = emit_passed(b, l, ticket)?;
-    let near = b.bin(BinOp::And, pending, passed)?;
     let oldest = emit_oldest_slot(b, l, ticket)?;
     let before = b.bin(BinOp::Or, oldest, passed)?;
-    let all = b.bin(BinOp::And, pending, before)?;
-    Ok(Older { near, all })
+    b.bin(BinOp::And, pending, before)
 }
 
 /// Whether slot k has the address.
@@ -167,21 +151,20 @@ fn emit_same_slots(b: &mut Builder, l: RingLayout, addr: Net) -> Result<Net, NoM
 }
 
 /// The older pending writes of the address.
-#[tactic(auto, using(crate::proofs::RingGrowth::slots_kept), unfolding(crate::specs::Looks::near_hits, crate::specs::Looks::hit_slots))]
-pub fn emit_hits(b: &mut Builder, l: RingLayout, addr: Net, ticket: Net) -> Result<Hits, NoMemory>
+#[tactic(auto, using(crate::proofs::RingGrowth::slots_kept), unfolding(crate::specs::Looks::hit_slots))]
+pub fn emit_hits(b: &mut Builder, l: RingLayout, addr: Net, ticket: Net) -> Result<Net, NoMemory>
     requires sized { IsSized l }
     requires slots { HasSlots b.old l }
     requires addr { HasWidth b.old addr l.bits }
     requires ticket { HasWidth b.old ticket l.ticket }
-    ensures hits { IfOk result (λ x.
-        AreHits b.new l (signal b.old addr) (signal b.old ticket) x) }
+    ensures means { IfOk result (λ x.
+        Means b.new x (hit_slots l (signal b.old addr) (signal b.old ticket))) }
+    ensures wide { IfOk result (λ x. (signal b.new x).width ≡ l.size) }
     ensures extends { Extends b.old b.new }
 {
     let older = emit_older(b, l, ticket)?;
     let same = emit_same_slots(b, l, addr)?;
-    let near = b.bin(BinOp::And, same, older.near)?;
-    let all = b.bin(BinOp::And, same, older.all)?;
-    Ok(Hits { near, all })
+    b.bin(BinOp::And, same, older)
 }
 
 /// The word of the array at an address; a delayed memory has none.

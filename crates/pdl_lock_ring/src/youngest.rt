@@ -6,12 +6,12 @@ ghost use Rattle.pdl_net.specs.Meaning.{IsThere, Means, signal};
 ghost use Rattle.pdl_net.specs.HasWidth.{HasWidth};
 ghost use Rattle.pdl_net.specs.Growth.{Extends};
 ghost use Rattle.pdl_lock_ring.specs.Slots.{IsSized, HasSlots, content_signal};
-ghost use Rattle.pdl_lock_ring.specs.Looks.{no_slots, younger_slots, wins_at, youngest_ready, youngest_value};
+ghost use Rattle.pdl_lock_ring.specs.Looks.{no_slots, young_slots, wins_at, youngest_ready, youngest_value};
 ghost use Rattle.pdl_lock_ring.specs.Seeks.{IsWon, IsEither};
 
 use crate::choice::power;
 use crate::layout::RingLayout;
-use crate::look::{Hits, emit_from, emit_hits};
+use crate::look::{emit_from, emit_hits};
 use pdl_build::Builder;
 use pdl_kit::NoMemory;
 use pdl_net::{BinOp, Net};
@@ -23,49 +23,45 @@ pub struct Won {
     pub content: Net,
 }
 
-/// The slots of younger pending writes than that of slot k.
-#[tactic(auto, using(crate::proofs::RingGrowth::slots_kept), unfolding(crate::specs::Looks::younger_slots))]
-fn emit_younger(b: &mut Builder, l: RingLayout, k: usize) -> Result<Net, NoMemory>
+/// Slot k and the slots of younger pending writes.
+#[tactic(auto, using(crate::proofs::RingGrowth::slots_kept), unfolding(crate::specs::Looks::young_slots))]
+fn emit_young(b: &mut Builder, l: RingLayout, k: usize) -> Result<Net, NoMemory>
     requires sized { IsSized l }
     requires slots { HasSlots b.old l }
     requires within { k < l.size }
-    ensures means { IfOk result (λ x. Means b.new x (younger_slots l k)) }
+    ensures means { IfOk result (λ x. Means b.new x (young_slots l k)) }
     ensures wide { IfOk result (λ x. (signal b.new x).width ≡ l.size) }
     ensures extends { Extends b.old b.new }
 {
     let place = k as u8;
     let from = emit_from(b, l, Net::Reg(l.from))?;
     let second = b.not(from)?;
-    let after = b.constant(
+    let rest = b.constant(
         l.size as u8,
-        power(l.size as u8) as u64 - power(place + 1) as u64,
+        power(l.size as u8) as u64 - power(place) as u64,
     )?;
     let first = b.slice(from, place, place)?;
-    let either = b.bin(BinOp::Or, after, second)?;
-    let both = b.bin(BinOp::And, after, second)?;
+    let either = b.bin(BinOp::Or, rest, second)?;
+    let both = b.bin(BinOp::And, rest, second)?;
     b.mux(first, either, both)
 }
 
 /// Whether slot k is hit, and no younger one.
 #[tactic(auto, using(crate::proofs::RingGrowth::slots_kept), unfolding(crate::specs::Looks::wins_at))]
-fn emit_wins(b: &mut Builder, l: RingLayout, h: Hits, k: usize) -> Result<Net, NoMemory>
+fn emit_wins(b: &mut Builder, l: RingLayout, hits: Net, k: usize) -> Result<Net, NoMemory>
     requires sized { IsSized l }
     requires slots { HasSlots b.old l }
     requires within { k < l.size }
-    requires near { HasWidth b.old h.near l.size }
-    requires hits { HasWidth b.old h.all l.size }
+    requires hits { HasWidth b.old hits l.size }
     ensures means { IfOk result (λ x.
-        Means b.new x (wins_at l (signal b.old h.near) (signal b.old h.all) k)) }
+        Means b.new x (wins_at l (signal b.old hits) k)) }
     ensures wide { IfOk result (λ x. (signal b.new x).width ≡ 1) }
     ensures extends { Extends b.old b.new }
 {
-    let younger = emit_younger(b, l, k)?;
-    let hidden = b.bin(BinOp::And, h.near, younger)?;
-    let none = b.constant(l.size as u8, 0)?;
-    let shown = b.bin(BinOp::Eq, hidden, none)?;
-    let hit = b.slice(h.all, k as u8, k as u8)?;
-    let zero = b.constant(1, 0)?;
-    b.mux(shown, hit, zero)
+    let young = emit_young(b, l, k)?;
+    let seen = b.bin(BinOp::And, hits, young)?;
+    let alone = b.constant(l.size as u8, power(k as u8) as u64)?;
+    b.bin(BinOp::Eq, seen, alone)
 }
 
 /// A net where another one is 1, else 0.
@@ -86,17 +82,16 @@ fn emit_gated(b: &mut Builder, on: Net, net: Net, width: u8) -> Result<Net, NoMe
 
 /// What slot k holds where it wins, else 0.
 #[tactic(auto, using(crate::proofs::Trees::either, crate::proofs::RingGrowth::slots_kept))]
-fn emit_won(b: &mut Builder, l: RingLayout, h: Hits, k: usize) -> Result<Won, NoMemory>
+fn emit_won(b: &mut Builder, l: RingLayout, hits: Net, k: usize) -> Result<Won, NoMemory>
     requires sized { IsSized l }
     requires slots { HasSlots b.old l }
     requires within { k < l.size }
-    requires near { HasWidth b.old h.near l.size }
-    requires hits { HasWidth b.old h.all l.size }
+    requires hits { HasWidth b.old hits l.size }
     ensures won { IfOk result (λ x.
-        IsWon b.new l (signal b.old h.near) (signal b.old h.all) 0 k x) }
+        IsWon b.new l (signal b.old hits) 0 k x) }
     ensures extends { Extends b.old b.new }
 {
-    let wins = emit_wins(b, l, h, k)?;
+    let wins = emit_wins(b, l, hits, k)?;
     let has = emit_gated(b, wins, Net::Reg(l.from + 2 + l.size + k), 1)?;
     let content = emit_gated(b, wins, Net::Reg(l.from + 2 + 2 * l.size + k), l.kept)?;
     Ok(Won { has, content })
@@ -123,27 +118,26 @@ fn emit_either(b: &mut Builder, low: Won, high: Won) -> Result<Won, NoMemory>
 fn emit_winner(
     b: &mut Builder,
     l: RingLayout,
-    h: Hits,
+    hits: Net,
     bits: u8,
     from: usize,
 ) -> Result<Won, NoMemory>
     requires sized { IsSized l }
     requires slots { HasSlots b.old l }
-    requires near { HasWidth b.old h.near l.size }
-    requires hits { HasWidth b.old h.all l.size }
+    requires hits { HasWidth b.old hits l.size }
     requires bits { bits ≤ 16 }
     requires within { from + 2 ^ bits ≤ l.size }
     ensures won { IfOk result (λ x.
-        IsWon b.new l (signal b.old h.near) (signal b.old h.all) bits from x) }
+        IsWon b.new l (signal b.old hits) bits from x) }
     ensures extends { Extends b.old b.new }
 {
     if bits == 0 {
-        return emit_won(b, l, h, from);
+        return emit_won(b, l, hits, from);
     }
     let top = bits - 1;
     let half = power(top);
-    let low = emit_winner(b, l, h, top, from)?;
-    let high = emit_winner(b, l, h, top, from + half)?;
+    let low = emit_winner(b, l, hits, top, from)?;
+    let high = emit_winner(b, l, hits, top, from + half)?;
     let won = emit_either(b, low, high)?;
     Ok(won)
 }
@@ -184,7 +178,7 @@ pub fn emit_youngest(
 {
     let hits = emit_hits(b, l, addr, ticket)?;
     let won = emit_winner(b, l, hits, l.ticket - 1, 0)?;
-    let found = emit_found(b, l, hits.all)?;
+    let found = emit_found(b, l, hits)?;
     let one = b.constant(1, 1)?;
     let ready = b.mux(found, won.has, one)?;
     let value = b.mux(found, won.content, other)?;

@@ -1,4 +1,4 @@
-use Rattle.std.proofs.Common.{◌<◌, ◌^◌, arith}
+use Rattle.std.proofs.Common.{arith}
 use Rattle.pdl_lock_ring.proofs.SlotWidths.{power_above}
 use Rattle.pdl_lock_ring.proofs.look.emit_oldest_slot.Goals as goal
 

@@ -1,6 +1,5 @@
 use Rattle.std.proofs.Common.{◌≡◌, ◌≢◌, ◌+◌, ◌-◌, ap, ap₂, sym, ◌∙◌, arith}
 use Rattle.pdl_net.specs.Signal.{Signal, cat_signal}
-use Rattle.pdl_net.specs.Growth.{Extends}
 use Rattle.pdl_net.specs.Meaning.{signal}
 use Rattle.pdl_net.proofs.Keeps.{extends_trans}
 use Rattle.pdl_net.proofs.KeptWidths.{width_kept}
