@@ -151,7 +151,8 @@ module _ (p : Pipe) (st : State) (n : ℕ) where
 
   -- where a path's statements of one stage pass the scans, each of them is early and fine
   pub fine_all : (size s : ℕ) (v : Option ℕ) (c : Scan) (path : List ℕ) (ph : ℕ → Phase) (g : Making) (xs : List Stmt) (d : Deeds)
-      → verify_stage p.stmts ≡ v → AllIn s xs → IsAlong path (word_for st n) xs d → reads_ok p c (looked_all (onpath path xs)) ≡ true → ((m : ℕ) → uses_ok m (ph m) (onpath path xs) ≡ true)
+      → verify_stage p.stmts ≡ v → AllIn s xs → IsAlong path (word_for st n) xs d
+      → reads_ok p c (looked_all (onpath path xs)) ≡ true → ((m : ℕ) → uses_ok m (ph m) (onpath path xs) ≡ true)
       → makings_ok v g (looked_all (onpath path xs)) ≡ true → list_all (λ (x : Stmt). passes_on size x.op) (onpath path xs) ≡ true
       → list_all (is_early p) (onpath path xs) ≡ true
       → ((m : ℕ) → HeldOnce m (ph m) d.held) → Covers c.held d.held → (is_guessed g ≡ true → length d.guess ≡ size) → Calm v s g d
@@ -188,7 +189,10 @@ module _ (p : Pipe) (st : State) (n : ℕ) where
           subst (λ j. op_ok p j c (answered_op x.op) ≡ true) i.0 (and_right (no_guards []) _ (and_left _ _ h)) in
           let made : making_ok v g s (answered_op x.op) ≡ true = subst (λ j. making_ok v g j (answered_op x.op) ≡ true) i.0 (and_left _ _ w) in
           let held = held_does (word_for st n) x.op d in (
-            (λ a b. (and_left (is_early p x) _ e, subst (λ j. IsOpFine p st n j x.op d) (sym i.0) (op_fine size s v c ph g x.op d is ok o made (and_left _ _ y) u l r b))),
+            (λ a b. (
+              and_left (is_early p x) _ e,
+              subst (λ j. IsOpFine p st n j x.op d) (sym i.0) (op_fine size s v c ph g x.op d is ok o made (and_left _ _ y) u l r b),
+            )),
             go (scan_after (answered_op x.op) c) (λ m. next_phase m (ph m) x.op) (next_making g (answered_op x.op)) (deeds_after (word_for st n) x.op d) q
                 (and_right (no_guards [] && op_ok p x.stage c (answered_op x.op)) _ h) (λ m. and_right (use_ok m (ph m) x.op) _ (k m))
                 (and_right (making_ok v g x.stage (answered_op x.op)) _ w) (and_right (passes_on size x.op) _ y) (and_right (is_early p x) _ e)

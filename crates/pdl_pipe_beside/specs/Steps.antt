@@ -64,4 +64,5 @@ order_signals c p es squashes f = order_step p (ends_in c es) (squashes_in c p s
 -- the order of a fork, where it has one, keeps its law in a later circuit
 abbrev pub IsOrderStepped : Circuit → Circuit → Pipe → List StageEnd → Squashes → List (Option OrderRegs) → ℕ → Type 0
 IsOrderStepped a c p es squashes rs f =
-    (r : OrderRegs) → some_at rs f ≡ Some r → order_laws.StepLaw (order_words.stands r) (branch_stages p f) (order_laws.own r) c (order_signals a p es squashes f)
+    (r : OrderRegs) → some_at rs f ≡ Some r
+    → order_laws.StepLaw (order_words.stands r) (branch_stages p f) (order_laws.own r) c (order_signals a p es squashes f)

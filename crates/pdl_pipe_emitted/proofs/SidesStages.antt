@@ -87,7 +87,8 @@ module _ {T : Type 0} (l : Members T) (n : Nets T) (em : Emission l n) where
         ∙ ends_kept.kill_at y n.ends k e.0 in_ends (sym e.1)
 
   -- in each circuit after all nets the stages are those of the law
-  pub are_stages : (y : Circuit) → Keeps em.c y → AreStagesOf y p n.ends n.moves.squashes (views_of l n em) (gates_of l n em) (moves_of l n em) (sides_of l n em).squash
+  pub are_stages : (y : Circuit) → Keeps em.c y
+      → AreStagesOf y p n.ends n.moves.squashes (views_of l n em) (gates_of l n em) (moves_of l n em) (sides_of l n em).squash
   are_stages y keeps = record {
     ends = λ k low. ended_is y keeps k low;
     move = λ k low. move_is y keeps k low;

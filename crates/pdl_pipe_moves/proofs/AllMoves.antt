@@ -1,5 +1,5 @@
 -- The moves of all stages, with the squash of one.
-use Rattle.std.proofs.Common.{◌≡◌, ◌≢◌, ◌<◌, ◌≤◌, ℕ, zero, suc, ◌+◌, Bool, false, refl, sym, ap, ap₂, ◌∙◌, subst, length, List, [], ◌∷◌, ◌++◌, arith}
+use Rattle.std.proofs.Common.{◌≡◌, ◌≢◌, ◌<◌, ◌≤◌, ℕ, zero, suc, ◌+◌, Bool, refl, sym, ap, ap₂, ◌∙◌, subst, length, List, [], ◌∷◌, ◌++◌, arith}
 use Rattle.std.specs.Prelude.{◌⊎◌, slice_set}
 use Rattle.std.proofs.lemmas.Bool.{cases_lt}
 use Rattle.std.proofs.Common.{inl, inr}
@@ -14,7 +14,7 @@ use Rattle.pdl_net.specs.Signal.{Signal}
 use Rattle.pdl_net.specs.Meaning.{signal, IsThere}
 use Rattle.pdl_net.specs.Growth.{Keeps}
 use Rattle.pdl_net.proofs.Keeps.{keeps_trans}
-use Rattle.pdl_net.proofs.KeptWidths.{width_meant, width_keeps}
+use Rattle.pdl_net.proofs.KeptWidths.{width_meant}
 use Rattle.pdl_squash.specs.Laws.{net_at, Drives, SquashLaw, AreBits as AreSquashBits, signal_at as squash_net}
 use Rattle.pdl_pipe_exprs.specs.Conditions.{AreBits}
 use Rattle.pdl_pipe_exprs.specs.declared.bits.Bits.{Bits}
@@ -37,7 +37,7 @@ use Rattle.pdl_pipe_moves.specs.Signs.{gate_by, signs_by, IsControlled}
 use Rattle.pdl_pipe_moves.specs.Passed.{HaveFree, IsMovedBy, IsPassed, ArePassed, frees_at}
 use Rattle.pdl_pipe_moves.specs.StageSquashes.{ArePadded, HasValids}
 use Rattle.pdl_pipe_moves.proofs.TurnGrowth.{turns_keep}
-use Rattle.pdl_pipe_moves.proofs.GateParts.{bit_keep, bits_keep}
+use Rattle.pdl_pipe_moves.proofs.GateParts.{bits_keep}
 use Rattle.pdl_pipe_moves.proofs.FreePorts.{net_signal}
 use Rattle.pdl_pipe_moves.proofs.GateGrowth.{gate_same}
 use Rattle.pdl_pipe_moves.proofs.PassageGrowth.{each_set, gate_as, passed_keep, passed_set, passed_new}
@@ -266,13 +266,6 @@ valid_bits c x xs line h = record {
 pub valid_is : (c : Circuit) (x : StageLine) (xs : List Net) → IsLineIn c x → HasValids x xs → (k : ℕ)
     → k < length xs → squash_net c xs k ≡ (line_views c x k).valid
 valid_is c x xs line h k l = (valid_net c x xs line h k l).1
-
--- the bits that a squash goes by stay in a circuit that keeps what stands in theirs
-pub squash_bits_keep : (a b : Circuit) (xs : List Net) (n : ℕ) → Keeps a b → AreSquashBits a xs n → AreSquashBits b xs n
-squash_bits_keep a b xs n e h = record {
-  count = h.count;
-  each = λ k l. width_keeps a b (net_at xs k) 1 e (h.each k l);
-}
 
 -- the k-th of some nets of 1 bit has 1 bit
 pub net_bit : (c : Circuit) (xs : List Net) (k : ℕ) → k < length xs → Each (IsBit c) xs → IsBit c (net_at xs k)

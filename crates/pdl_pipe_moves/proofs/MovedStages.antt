@@ -1,5 +1,5 @@
 -- All moves of a pipe, by the squashes of the stages that may squash.
-use Rattle.std.proofs.Common.{◌≡◌, ◌<◌, ◌≤◌, ℕ, refl, sym, ap, ◌∙◌, subst, length, List, arith}
+use Rattle.std.proofs.Common.{◌≡◌, ◌<◌, ℕ, refl, sym, ap, ◌∙◌, subst, length, List, arith}
 use Rattle.std.specs.Prelude.{Option, Some, None}
 use Rattle.pdl_word.specs.Each.{Each}
 use Rattle.pdl_semantics.specs.Flat.{Stmt}
@@ -138,7 +138,8 @@ module _ (c : Circuit) (x : StageLine) (orders : List (Option OrderRegs)) where
       record {
         passed =
             passed_alike c x orders (record { verify = zero; update = zero }) (record { verify = zero; update = zero }) blank z.clear.items
-            z.moves.items z.frees.items 0 (λ k l. refl) (λ k h l. barrier_none (verify_stage xs) k none h _ _) passed;
+            z.moves.items z.frees.items 0 (λ k l. refl)
+            (λ k h l. barrier_none (verify_stage xs) k none h (signal_at (signals_in c blank) k) (signal_at (signals_in c z.clear.items) k)) passed;
         squash = bit;
         squashes = record { verify = bit; update = bit };
         kills_count = kills.count_is ∙ n;
@@ -149,7 +150,7 @@ module _ (c : Circuit) (x : StageLine) (orders : List (Option OrderRegs)) where
         cleared = λ q. signal_at (signals_in c z.clear.items);
         law = λ q is. no_squash xs q none is;
         cleared_is = λ v e. refl;
-        either = bits.zero.same ∙ sym (any_none xs _ none);
+        either = bits.zero.same ∙ sym (any_none xs (by_stage (verify_stage xs) (signal c zero) (signal c zero)) none);
         joined = λ k l.
             filled_at c zero z.kills.items k (omega (arith, l, n, long)) kills.each ∙ bits.zero.same ∙ sym (removes_none xs removed k none);
       }

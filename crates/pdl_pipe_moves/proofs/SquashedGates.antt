@@ -1,5 +1,5 @@
 -- Gates from a stage on that squashes ask for no squash by it.
-use Rattle.std.proofs.Common.{◌≡◌, ◌<◌, ◌≤◌, ℕ, Bool, refl, sym, ap, ap₂, ◌∙◌, length, List, [], ◌∷◌, ◌++◌, arith}
+use Rattle.std.proofs.Common.{◌≡◌, ◌<◌, ◌≤◌, ℕ, refl, sym, ap, ap₂, ◌∙◌, length, List, ◌++◌, arith}
 use Rattle.std.specs.Prelude.{Option, Some, None, nat_lt, if◌then◌else◌}
 use Rattle.std.proofs.lemmas.Bool.{le-ltb}
 use Rattle.pdl_kit.specs.declared.seq.Seq.{Seq}
@@ -10,7 +10,6 @@ use Rattle.pdl_semantics.proofs.SquashStages.{update_before}
 use Rattle.pdl_net.specs.declared.Net.{Net}
 use Rattle.pdl_net.specs.Circuit.{Circuit}
 use Rattle.pdl_net.specs.Signal.{Signal, mux_signal}
-use Rattle.pdl_net.specs.Meaning.{signal}
 use Rattle.pdl_order.specs.declared.OrderRegs.{OrderRegs}
 use Rattle.pdl_port.specs.Laws.{AnswerSignals}
 use Rattle.pdl_law_parts.specs.Walk.{both, if_on, one, zero_bit, is_on}

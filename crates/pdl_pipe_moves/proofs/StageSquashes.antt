@@ -1,6 +1,6 @@
 -- Squashes of stages, one or two of them, by nets for all stages.
-use Rattle.std.proofs.Common.{◌≡◌, ◌<◌, ◌≤◌, ◌==◌, ℕ, ◌+◌, Bool, true, false, refl, sym, ap, ap₂, ◌∙◌, subst, length, List, [], ◌∷◌, ◌++◌, ◌⊎◌, inl, inr, arith}
-use Rattle.std.specs.Prelude.{Option, Some, None, nat_lt, if◌then◌else◌, Contains}
+use Rattle.std.proofs.Common.{◌≡◌, ◌<◌, ◌≤◌, ◌==◌, ℕ, ◌+◌, Bool, true, false, refl, sym, ap, ap₂, ◌∙◌, subst, List, [], ◌∷◌, ◌++◌, ◌⊎◌, inl, inr, arith}
+use Rattle.std.specs.Prelude.{Option, Some, None, nat_lt, if◌then◌else◌, filter, Contains}
 use Rattle.std.proofs.lemmas.Bool.{cases_lt, le-ltb, lt-ltb}
 use Rattle.std.proofs.lemmas.List.{length-append, get_or_append_left, get_or_push}
 use Rattle.pdl_semantics.specs.Flat.{Stmt}
@@ -14,7 +14,7 @@ use Rattle.pdl_net.specs.Growth.{Keeps}
 use Rattle.pdl_squash.specs.Laws.{SquashLaw}
 use Rattle.pdl_law_parts.specs.Walk.{one, zero_bit}
 use Rattle.pdl_law_parts.specs.Views.{View}
-use Rattle.pdl_law_sides.specs.Sides.{any_of, any_removes}
+use Rattle.pdl_law_sides.specs.Sides.{any_removes}
 use Rattle.pdl_law_sides.specs.HasSides.{squash_of}
 use Rattle.pdl_pipe_exprs.specs.Nets.{signals_in, signal_at}
 use Rattle.pdl_pipe_exprs.proofs.NetLists.{signals_keep}
@@ -32,8 +32,8 @@ use Rattle.pdl_pipe_moves.proofs.AllMoves.{squash_as}
 
 -- the squash of a stage keeps its law in a circuit that grew, by a move of its thread that is the same
 pub squash_keep : (a b : Circuit) (x : StageLine) (v : ℕ) (moves others : Signal) (z : StageSquash) → Keeps a b → IsLineIn a x → moves ≡ others
-    → v < length (line_pipe x).stages → IsSquash a x v moves z → IsSquash b x v others z
-squash_keep a b x v moves others z e line same low h = record {
+    → IsSquash a x v moves z → IsSquash b x v others z
+squash_keep a b x v moves others z e line same h = record {
   happens = bit_keep a b z.happens e h.happens;
   removed_count = h.removed_count;
   removed = bits_keep a b z.removed.items e h.removed;
@@ -59,7 +59,7 @@ squash_keep a b x v moves others z e line same low h = record {
     clear = signals_keep a b z.clear.items e (bits_there a z.clear.items h.clear)
 
 -- signals that are those of a stage's squash keep its law
-pub law_at : (c : Circuit) (x : StageLine) (moves : ℕ → Signal) (q : ℕ) (z : StageSquash) (squash : Signal) (removed clear : ℕ → Signal)
+law_at : (c : Circuit) (x : StageLine) (moves : ℕ → Signal) (q : ℕ) (z : StageSquash) (squash : Signal) (removed clear : ℕ → Signal)
     → IsSquash c x q (moves q) z → squash ≡ signal c z.happens → removed ≡ signal_at (signals_in c z.removed.items)
     → clear ≡ signal_at (signals_in c z.clear.items) → SquashLaw (squash_of (line_views c x) moves q) squash removed clear
 law_at c x moves q z squash removed clear h e f g =
@@ -127,7 +127,9 @@ by_both (Some v) f g k z = at (z == v)
 removes_two : (xs : List Stmt) (f g : ℕ → Signal) (k : ℕ)
     → any_removes (squash_stages xs) (by_stage (verify_stage xs) f g) k
     ≡ either (passes (nat_lt k) (verify_stage xs)) (passes (nat_lt k) (update_stage xs)) (f k) (g k)
-removes_two xs f g k = any_as _ (λ z. by_stage (verify_stage xs) f g z k) (by_stage (verify_stage xs) (f k) (g k)) (by_both (verify_stage xs) f g k)
+removes_two xs f g k =
+    any_as (filter (nat_lt k) (squash_stages xs)) (λ z. by_stage (verify_stage xs) f g z k) (by_stage (verify_stage xs) (f k) (g k))
+    (by_both (verify_stage xs) f g k)
     ∙ any_two xs (nat_lt k) (f k) (g k)
 
 -- without a stage that may squash no thread is removed

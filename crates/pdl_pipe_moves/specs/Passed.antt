@@ -89,7 +89,8 @@ pub record IsBlank (zero : Net) (count : ℕ) (z : Passages) : Type 0 where
 -- the stages from `low` on have their moves, with the squash of stage V and none by another stage
 pub record AreVerified (c : Circuit) (x : StageLine) (orders : List (Option OrderRegs)) (v low : ℕ) (z : Verified) : Type 0 where
   pub passed : ArePassed c x
-      (signs_in c x orders (record { verify = z.squash.happens; update = x.shared.now.bits.zero }) z.squash.clear.items) z.found.moves.items z.found.frees.items low
+      (signs_in c x orders (record { verify = z.squash.happens; update = x.shared.now.bits.zero }) z.squash.clear.items)
+      z.found.moves.items z.found.frees.items low
   pub squash : IsSquash c x v (signal_at (signals_in c z.found.moves.items) v) z.squash
 
 -- each stage has its move and each memory its free ports, by the squashes of the stages that may squash, each of which keeps its law, with these threads removed and these stages clear; of all of them a squash happens or removes where one does

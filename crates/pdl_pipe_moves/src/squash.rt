@@ -172,7 +172,9 @@ pub fn joined(
 {
     let mut list = Vec::new(alloc);
     for k in 0..first.len() {
-        let net = joined_at(b, bits, u, k, net_of(first, k), net_of(second, k))?;
+        let x = net_of(first, k);
+        let y = net_of(second, k);
+        let net = joined_at(b, bits, u, k, x, y)?;
         list.push(net)?;
     }
     Ok(list)

@@ -18,7 +18,8 @@ both_left [] ys = refl
 both_left (x ∷ xs) ys = at (is_update x.op) (both_left xs ys)
   where
     at : (u : Bool) → without_updates (xs ++ ys) ≡ without_updates xs ++ without_updates ys
-        → (if u then without_updates (xs ++ ys) else x ∷ without_updates (xs ++ ys)) ≡ (if u then without_updates xs else x ∷ without_updates xs) ++ without_updates ys
+        → (if u then without_updates (xs ++ ys) else x ∷ without_updates (xs ++ ys))
+        ≡ (if u then without_updates xs else x ∷ without_updates xs) ++ without_updates ys
     at true e = e
     at false e = ap (λ zs. x ∷ zs) e
 

@@ -2,7 +2,7 @@
 use Rattle.std.proofs.Common.{◌≡◌, refl, sym, ap, ap₂, ◌∙◌, subst, ℕ, zero, suc, ◌+◌, Bool, true, false, ◌&&◌, ◌||◌, not, ◌==◌, bytes_eq, List, [], ◌∷◌, ◌++◌, map, length, drop, take, if◌then◌else◌, append_assoc, length-append, arith}
 use Rattle.std.specs.Prelude.{⊤}
 use Rattle.std.specs.List.{list_any}
-use Rattle.std.proofs.Math.Path.{fun_ext}
+use mathlib.Core.Path.{fun_ext}
 use Rattle.std.proofs.lemmas.Bool.{false≢true, and_parts, or_parts, not-false}
 use Rattle.std.proofs.lemmas.List.{length-map}
 use Rattle.pdl_kit.specs.declared.rule.Rule.TheVariants.{F2}
@@ -27,13 +27,14 @@ cut_thin : (bs : List Branch) → list_any (λ (b : Branch). holds_separator b.i
 cut_thin [] = refl
 cut_thin (b ∷ bs) = ap₂ (λ a c. a || c) (holds_thin b.inside) (cut_thin bs)
 
+-- F1 is broken at the same places
 pub f1 : (x : Place) → breaks_f1 (thin_place x) ≡ breaks_f1 x
 f1 = thin_at false _ _ (λ s bs. ap₂ (λ a b. a && b) (thin_same is_trunk_only (λ s c w o. refl) s) (cut_thin bs))
 
--- F3
 orders_stay : (m : List ℕ) → Stays (breaks_fetch_order m)
 orders_stay m = stays_at (λ s. fetches (λ at. bytes_eq at.mem.name m) s) (λ s c w o. refl) (λ s g args. refl)
 
+-- F3 is broken at the same places
 pub f3 : (p : Pipe) (before : List Place) (x : Place) → breaks_f3 (without_update p) (thin before) (thin_place x) ≡ breaks_f3 p before x
 f3 p before =
     thin_at false _ _
@@ -134,6 +135,7 @@ outer_stage_thin before (b ∷ bs) =
     (ap (stage_in (thin before)) (ap (λ n. take n (thin_branches (b ∷ bs))) (length-map bs thin_branch) ∙ take_thin (length bs) (b ∷ bs))
     ∙ in_thin before (take (length bs) (b ∷ bs)))
 
+-- F2 is kept, since what stands after an `if` still begins with a separator
 pub f2 : (p : Pipe) → KeepsRules p → (before : List Place) (x : Place) (later : List Place) → places p ≡ before ++ x ∷ later → is_update x ≡ false
     → breaks_f2 (without_update p) (thin before) (thin_place x) ≡ false
 f2 p rules before (Statement (If s c when otherwise) bs) later e i =
@@ -172,7 +174,8 @@ f2 p rules before (Statement (If s c when otherwise) bs) later e i =
         ∙ thin_both (statements (bs ++ one ∷ []) when) (statements (bs ++ two ∷ []) otherwise ++ rest)
         ∙ ap₂ (λ a b. a ++ b) (sym (thin_in bs one when))
         (thin_both (statements (bs ++ two ∷ []) otherwise) rest ∙ ap (λ a. a ++ thin rest) (sym (thin_in bs two otherwise))))
-        ∙ passed_over (thin_branches bs ++ thin_branch one ∷ []) (thin_branches bs ++ thin_branch two ∷ []) (update_free when) (update_free otherwise) (thin rest)
+        ∙ passed_over (thin_branches bs ++ thin_branch one ∷ []) (thin_branches bs ++ thin_branch two ∷ [])
+        (update_free when) (update_free otherwise) (thin rest)
 
     at : (b : Bool) → is_fork (If s c (update_free when) (update_free otherwise)) ≡ b
         → (b && (length bs == 4 || is_in_outer_stage before bs || not (starts_with_separator bs after))) ≡ false
@@ -180,8 +183,10 @@ f2 p rules before (Statement (If s c when otherwise) bs) later e i =
         && (length (thin_branches bs) == 4 || is_in_outer_stage (thin before) (thin_branches bs) || not (starts_with_separator (thin_branches bs) thin_after)))
         ≡ false
     at false f h =
-        ap (λ b. b
-        && (length (thin_branches bs) == 4 || is_in_outer_stage (thin before) (thin_branches bs) || not (starts_with_separator (thin_branches bs) thin_after))) f
+        ap
+        (λ b. b
+        && (length (thin_branches bs) == 4 || is_in_outer_stage (thin before) (thin_branches bs) || not (starts_with_separator (thin_branches bs) thin_after)))
+        f
     at true f h =
         let parts = or_parts (length bs == 4 || is_in_outer_stage before bs) (not (starts_with_separator bs after)) h in
         let starts : starts_with_separator bs rest ≡ true = ap (starts_with_separator bs) (sym after_rest) ∙ not-false _ parts.1 in

@@ -18,6 +18,7 @@ use Rattle.pdl_source.proofs.ThinLocks.{hold_thin}
 calls_stay : Stays is_call
 calls_stay = stays_at calls (λ s c w o. refl) (λ s g args. refl)
 
+-- S1 is broken at the same places
 pub s1 : (p : Pipe) (before : List Place) (x : Place) → breaks_s1 (without_update p) (thin before) (thin_place x) ≡ breaks_s1 p before x
 s1 p before x = some_path_thin p _ _ before x (λ earlier. wrong earlier x)
   where
@@ -54,6 +55,7 @@ stages_thin p path g =
     let test = λ (y : Place). on_path path y && is_verify_of g y in
     ap (stages_that test []) (places_thin p) ∙ that_thin test (on_path_stays path (is_verify_of g) (verify_of_stays g)) [] (places p)
 
+-- S2 is broken at the same places
 pub s2 : (p : Pipe) (before : List Place) (x : Place) → breaks_s2 (without_update p) (thin before) (thin_place x) ≡ breaks_s2 p before x
 s2 p before x =
     each_path_thin p _ _ x
@@ -63,6 +65,7 @@ s2 p before x =
 verify_stays : Stays is_verify
 verify_stays = stays_at (λ s. verifies (λ g. true) s) (λ s c w o. refl) (λ s g args. refl)
 
+-- S3 is broken at the same places
 pub s3 : (before : List Place) (x : Place) → breaks_s3 (thin before) (thin_place x) ≡ breaks_s3 before x
 s3 before x =
     ap₂ (λ a b. a && b) (verify_stays.same x)
@@ -84,6 +87,7 @@ releases_alike f g same (Release s at) = same at
 releases_alike f g same (Separator s) = refl
 releases_alike f g same _ = refl
 
+-- S4 is broken at the same places
 pub s4 : (p : Pipe) (before : List Place) (x : Place) → breaks_s4 (without_update p) (thin before) (thin_place x) ≡ breaks_s4 p before x
 s4 p before x =
     ap₂ (λ a b. a && b) (before_thin p before x)
@@ -104,11 +108,13 @@ checked_thin : (path : List Guard) (before : List Place) (s : ℕ) → is_checke
 checked_thin path before s =
     ap (λ ns. list_any (λ k. k == s) ns) (that_thin (λ y. on_path path y && is_check y) (on_path_stays path is_check checks_stay) [] before)
 
+-- S5 is broken at the same places
 pub s5 : (p : Pipe) (before : List Place) (x : Place) → breaks_s5 (without_update p) (thin before) (thin_place x) ≡ breaks_s5 p before x
 s5 p before x =
     ap₂ (λ a b. a && b) (needs_stay.same x)
     (ap₂ (λ a b. a && b) (before_thin p before x)
-    (each_path_thin p _ _ x (λ path. ap (λ s. not (is_checked path (thin before) s)) (of_thin before x) ∙ ap not (checked_thin path before (stage_of before x)))))
+    (each_path_thin p _ _ x
+    (λ path. ap (λ s. not (is_checked path (thin before) s)) (of_thin before x) ∙ ap not (checked_thin path before (stage_of before x)))))
 
 -- UPDATES
 
@@ -127,9 +133,11 @@ nowhere p before x h [] = refl
 nowhere p before x h (path ∷ paths') =
     ap₂ (λ a b. a || b) (ap (λ b. on_path path x && b) (not_amiss p path before x h) ∙ and-false (on_path path x)) (nowhere p before x h paths')
 
+-- S6 is broken nowhere
 pub s6 : (p : Pipe) (before : List Place) (x : Place) → is_update x ≡ false → breaks_s6 (without_update p) (thin before) (thin_place x) ≡ false
 s6 p before x h = nowhere (without_update p) (thin before) (thin_place x) (update_thin x h) (paths (without_update p))
 
+-- S7 is broken nowhere
 pub s7 : (before : List Place) (x : Place) → is_update x ≡ false → breaks_s7 (thin before) (thin_place x) ≡ false
 s7 before x h =
     ap (λ b. b && is_elsewhere is_update (thin before) (stage_of (thin before) (thin_place x))) (update_thin x h)

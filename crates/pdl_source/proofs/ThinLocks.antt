@@ -1,7 +1,7 @@
 -- The rules on locks are the same of a source without its updates.
 use Rattle.std.proofs.Common.{◌≡◌, refl, sym, ap, ap₂, ◌∙◌, ℕ, suc, Bool, true, false, ◌&&◌, ◌||◌, not, ◌==◌, nat_lt, nat_le, bytes_eq, List, [], ◌∷◌, ◌++◌, fold, count_by, if◌then◌else◌, Option, Some, None}
 use Rattle.std.specs.List.{list_any}
-use Rattle.std.proofs.Math.Path.{fun_ext}
+use mathlib.Core.Path.{fun_ext}
 use Rattle.std.proofs.lemmas.Bool.{false≢true}
 use Rattle.pdl_semantics.specs.Tree.{Location, Kind, R, W, Stmt, Separator, CombRead, DelayedRead, Write, Reserve, Block, Release, If, Update, Pipe}
 use Rattle.pdl_semantics.specs.Flatten.{is_advisory_mem}
@@ -28,6 +28,7 @@ hold_thin at xs = fold_thin (after_place at) same none Nothing xs
     none h (Parameter a) i = absurd (false≢true i)
     none h _ i = absurd (false≢true i)
 
+-- L1 is broken at the same places
 pub l1 : (p : Pipe) (before : List Place) (x : Place) → breaks_l1 (without_update p) (thin before) (thin_place x) ≡ breaks_l1 p before x
 l1 p before x =
     some_path_thin p _ _ before x
@@ -48,6 +49,7 @@ reserve_memory_stays m = stays_at (λ s. reserves (λ at k. bytes_eq at.mem.name
 release_memory_stays : (m : List ℕ) → Stays (releases_memory m)
 release_memory_stays m = stays_at (λ s. releases (λ at. bytes_eq at.mem.name m) s) (λ s c w o. refl) (λ s g args. refl)
 
+-- L2 is broken at the same places
 pub l2 : (before : List Place) (x : Place) → breaks_l2 (thin before) (thin_place x) ≡ breaks_l2 before x
 l2 before =
     thin_at false _ _
@@ -66,6 +68,7 @@ reserve_of_stays k m = stays_at (λ s. reserves (λ at j. same_kind k j && bytes
 write_of_stays : (m : List ℕ) → Stays (is_write_of m)
 write_of_stays m = stays_at (λ s. writes (λ at e. bytes_eq at.mem.name m) s) (λ s c w o. refl) (λ s g args. refl)
 
+-- L3 is broken at the same places
 pub l3 : (p : Pipe) (before : List Place) (x : Place) → breaks_l3 (without_update p) (thin before) (thin_place x) ≡ breaks_l3 p before x
 l3 p before x =
     some_path_thin p _ _ before x
@@ -86,16 +89,19 @@ reserves_alike f g same (Reserve s at k) = same at k
 reserves_alike f g same (Separator s) = refl
 reserves_alike f g same _ = refl
 
+-- L4 is broken at the same places
 pub l4 : (p : Pipe) (before : List Place) (x : Place) → breaks_l4 (without_update p) (thin before) (thin_place x) ≡ breaks_l4 p before x
 l4 p before x =
     some_path_thin p _ _ before x
     (λ earlier. thin_at false _ _
     (λ s bs. reserves_alike _ _
-    (λ at k. ap (λ n. nat_le (most_reservations p.mems k at.mem.name) n) (count_thin (is_reserve_of k at.mem.name) (reserve_of_stays k at.mem.name) earlier)) s) x)
+    (λ at k. ap (λ n. nat_le (most_reservations p.mems k at.mem.name) n)
+    (count_thin (is_reserve_of k at.mem.name) (reserve_of_stays k at.mem.name) earlier)) s) x)
 
 reserved_stays : (l : Location) → Stays (reserves_location l)
 reserved_stays l = stays_at (λ s. reserves (λ at k. same_location at l) s) (λ s c w o. refl) (λ s g args. refl)
 
+-- L5 is broken at the same places
 pub l5 : (p : Pipe) (before : List Place) (x : Place) → breaks_l5 (without_update p) (thin before) (thin_place x) ≡ breaks_l5 p before x
 l5 p before x =
     some_path_thin p _ _ before x
@@ -123,6 +129,7 @@ first_reserved_thin m (x ∷ xs) =
         ∙ thin_at None _ _ (λ s bs. thin_same (λ t. (parts_of t).location) (λ s c w o. refl) s) x
     at false false i r none e = ap (λ (b : Bool). if b then place (thin_place x) else first_reserved m (thin xs)) r ∙ e
 
+-- L6 is broken at the same places
 pub l6 : (p : Pipe) (before : List Place) (x : Place) → breaks_l6 (without_update p) (thin before) (thin_place x) ≡ breaks_l6 p before x
 l6 p before x =
     some_path_thin p _ _ before x
@@ -144,19 +151,22 @@ l6 p before x =
 asks_of : (Location → Bool) → Place → Bool
 asks_of test x = at_statement false (λ s bs. reserves (λ at k. test at) s) x
 
+-- L7 is broken at the same places
 pub l7 : (p : Pipe) (before : List Place) (x : Place) → breaks_l7 (without_update p) (thin before) (thin_place x) ≡ breaks_l7 p before x
 l7 p before x = some_path_thin p _ _ before x (λ earlier. ends earlier x)
   where
     open' : (earlier : List Place) → list_any (leaves_open (thin earlier)) (thin earlier) ≡ list_any (leaves_open earlier) earlier
     open' earlier =
         ap (λ t. list_any (asks_of t) (thin earlier)) (fun_ext (λ at. ap is_unreleased (hold_thin at earlier)))
-        ∙ any_thin (leaves_open earlier) (stays_at (λ s. reserves (λ at k. is_unreleased (hold_after at earlier)) s) (λ s c w o. refl) (λ s g args. refl)) earlier
+        ∙ any_thin (leaves_open earlier)
+        (stays_at (λ s. reserves (λ at k. is_unreleased (hold_after at earlier)) s) (λ s c w o. refl) (λ s g args. refl)) earlier
 
     ends : (earlier : List Place) (x : Place) → ends_open (thin earlier) (thin_place x) ≡ ends_open earlier x
     ends earlier (End s) = open' earlier
     ends earlier (Parameter a) = refl
     ends earlier _ = refl
 
+-- L8 is broken at the same places
 pub l8 : (p : Pipe) (before : List Place) (x : Place) (later : List Place) → places p ≡ before ++ x ∷ later → is_update x ≡ false
     → breaks_l8 (without_update p) (thin before) (thin_place x) ≡ breaks_l8 p before x
 l8 p before x later e i =

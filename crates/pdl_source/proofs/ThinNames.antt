@@ -1,8 +1,8 @@
 -- The limits and the rules on names, widths and advice are the same of a source without its updates.
 use Rattle.std.proofs.Common.{◌≡◌, refl, sym, ap, ap₂, ◌∙◌, ℕ, suc, ◌+◌, ◌≤◌, ◌<◌, Bool, true, false, ◌&&◌, ◌||◌, not, ◌==◌, bytes_eq, List, [], ◌∷◌, ◌++◌, map, fold, length, count_by, if◌then◌else◌, Option, Some, None, subst, append_assoc, append-nil, arith}
 use Rattle.std.specs.List.{list_any}
-use Rattle.std.proofs.Math.Path.{fun_ext}
-use Rattle.std.proofs.lemmas.Bool.{false≢true, eqb-false, neq-eqb}
+use mathlib.Core.Path.{fun_ext}
+use Rattle.std.proofs.lemmas.Bool.{false≢true, eqb-false, ne_eqb}
 use Rattle.pdl_kit.specs.declared.rule.Rule.TheVariants.{Z2}
 use Rattle.pdl_semantics.specs.Tree.{Literal, Expr, Location, Stmt, Separator, CombRead, Bind, SpecCall, DelayedRead, Write, Reserve, Block, Release, If, Call, Verify, Update, Mem, Pipe}
 use Rattle.pdl_semantics.specs.Flatten.{Var, var_width, mem_width, width_of, is_advisory_mem, is_advised_var, is_advised}
@@ -55,12 +55,15 @@ grown (x ∷ xs) before few h = rw append_assoc at (grown xs (before ++ x ∷ []
     one : (b : Bool) → is_statement x ≡ b → (b && (count_by is_statement before == 1024)) ≡ false → count_by is_statement (before ++ x ∷ []) ≤ 1024
     one true is e =
         let other : count_by is_statement before ≡ 1024 → ⊥ = λ t. eqb-false (count_by is_statement before) 1024 e t in
-        let more : count_by is_statement (before ++ x ∷ []) ≡ count_by is_statement before + 1 = count_push is_statement before x ∙ ap (λ b. count_by is_statement before + weight b) is in
+        let more : count_by is_statement (before ++ x ∷ []) ≡ count_by is_statement before + 1 =
+        count_push is_statement before x ∙ ap (λ b. count_by is_statement before + weight b) is in
         omega (arith, other, more)
     one false is e =
-        let more : count_by is_statement (before ++ x ∷ []) ≡ count_by is_statement before + 0 = count_push is_statement before x ∙ ap (λ b. count_by is_statement before + weight b) is in
+        let more : count_by is_statement (before ++ x ∷ []) ≡ count_by is_statement before + 0 =
+        count_push is_statement before x ∙ ap (λ b. count_by is_statement before + weight b) is in
         omega arith
 
+-- Z2 is kept, since no place has more statements before it
 pub z2 : (p : Pipe) → KeepsRules p → (before : List Place) (x : Place) (later : List Place) → places p ≡ before ++ x ∷ later
     → breaks_z2 (thin before) (thin_place x) ≡ false
 z2 p rules before x later e = at (is_statement x) (same x) (rules Z2 before x later e)
@@ -85,9 +88,9 @@ z2 p rules before x later e = at (is_statement x) (same x) (rules Z2 before x la
         let other : count_by is_statement before ≡ 1024 → ⊥ = λ t. eqb-false (count_by is_statement before) 1024 h t in
         let less : count_by is_statement (thin before) ≤ count_by is_statement before = fewer before in
         let not_all : count_by is_statement (thin before) ≡ 1024 → ⊥ = λ t. other (let k = few in omega (arith, t, less, k)) in
-        ap (λ b. b && (count_by is_statement (thin before) == 1024)) is ∙ neq-eqb (count_by is_statement (thin before)) 1024 not_all
+        ap (λ b. b && (count_by is_statement (thin before) == 1024)) is ∙ ne_eqb (count_by is_statement (thin before)) 1024 not_all
 
--- Z3 to Z7
+-- Z3 is broken at the same places
 pub z3 : (before : List Place) (x : Place) → breaks_z3 (thin before) (thin_place x) ≡ breaks_z3 before x
 z3 before x = ap₂ (λ a n. a && (n == 63)) (separators_stay.same x) (count_thin is_separator separators_stay before)
 
@@ -99,6 +102,7 @@ memories_stay = stays_place is_memory same (λ s g args bs. refl)
     same (Parameter a) = refl
     same _ = refl
 
+-- Z4 is broken at the same places
 pub z4 : (before : List Place) (x : Place) → breaks_z4 (thin before) (thin_place x) ≡ breaks_z4 before x
 z4 before x = ap₂ (λ a n. a && (n == 16)) (memories_stay.same x) (count_thin is_memory memories_stay before)
 
@@ -110,6 +114,7 @@ bindings_stay = stays_place is_binding same (λ s g args bs. refl)
     same (Parameter a) = refl
     same _ = refl
 
+-- Z5 is broken at the same places
 pub z5 : (before : List Place) (x : Place) → breaks_z5 (thin before) (thin_place x) ≡ breaks_z5 before x
 z5 before x = ap₂ (λ a n. a && (n == 512)) (bindings_stay.same x) (count_thin is_binding bindings_stay before)
 
@@ -117,16 +122,19 @@ z5 before x = ap₂ (λ a n. a && (n == 512)) (bindings_stay.same x) (count_thin
 one_more : List Guard → Stmt → Bool
 one_more gs s = of_if false (λ from c. not (is_among (guard_of from c) gs) && (length gs == 10)) s
 
+-- Z6 is broken at the same places
 pub z6 : (before : List Place) (x : Place) → breaks_z6 (thin before) (thin_place x) ≡ breaks_z6 before x
 z6 before x =
     ap (λ gs. at_statement false (λ s bs. one_more gs s) (thin_place x)) (guards_thin before)
-    ∙ thin_at false (λ s bs. one_more (guards before) s) (λ s bs. one_more (guards before) s) (λ s bs. thin_same (one_more (guards before)) (λ s c w o. refl) s) x
+    ∙ thin_at false (λ s bs. one_more (guards before) s) (λ s bs. one_more (guards before) s)
+    (λ s bs. thin_same (one_more (guards before)) (λ s c w o. refl) s) x
 
 literals_thin : (test : Literal → Bool) (x : Place) → some_literal test (thin_place x) ≡ some_literal test x
 literals_thin test (Statement s bs) = thin_same (some_expr_of (some_part (of_constant test))) (λ s c w o. refl) s
 literals_thin test (Parameter a) = refl
 literals_thin test _ = refl
 
+-- Z7 is broken at the same places
 pub z7 : (x : Place) → breaks_z7 (thin_place x) ≡ breaks_z7 x
 z7 (Statement s bs) = literals_thin is_wrong_literal (Statement s bs)
 z7 (Parameter a) = refl
@@ -164,6 +172,7 @@ undefined_thin xs = fun_ext (λ u. ap not (any_thin (defines_use u) (defines_sta
 uses_thin : (test : Use → Bool) (x : Place) → some_use test (thin_place x) ≡ some_use test x
 uses_thin test = thin_at false _ _ (λ s bs. thin_same (uses_some test) (λ s c w o. refl) s)
 
+-- N1 is broken at the same places
 pub n1 : (p : Pipe) (x : Place) → breaks_n1 (without_update p) (thin_place x) ≡ breaks_n1 p x
 n1 p x =
     ap₂ (λ a b. a || b) (other x)
@@ -174,6 +183,7 @@ n1 p x =
     other (Parameter a) = refl
     other _ = refl
 
+-- N2 is broken at the same places
 pub n2 : (p : Pipe) (before : List Place) (x : Place) → breaks_n2 (without_update p) (thin before) (thin_place x) ≡ breaks_n2 p before x
 n2 p before x = ap₂ is_some_and (fun_ext taken) (name_thin x)
   where
@@ -197,6 +207,7 @@ given_thin u (d ∷ ds) = at (is_update d) refl (given_thin u ds)
         ap₂ (λ a b. a || b)
         (ap₂ (λ a b. a && b) ((defines_stay u).same d) (ap₂ (λ a b. not a || b) (delayed_stay.same d) (any_thin is_separator separators_stay ds))) e
 
+-- N3 is broken at the same places
 pub n3 : (p : Pipe) (before : List Place) (x : Place) → breaks_n3 (without_update p) (thin before) (thin_place x) ≡ breaks_n3 p before x
 n3 p before x = ap (λ t. some_use t (thin_place x)) (fun_ext early) ∙ uses_thin (is_too_early p before x) x
   where
@@ -237,15 +248,18 @@ by_vars p test same x =
     ap (λ vs. at_statement false (λ s bs. test vs s) (thin_place x)) (vars_thin p)
     ∙ thin_at false (λ s bs. test (variables p) s) (λ s bs. test (variables p) s) (λ s bs. same s) x
 
+-- W1 is broken at the same places
 pub w1 : (p : Pipe) (x : Place) → breaks_w1 (without_update p) (thin_place x) ≡ breaks_w1 p x
 w1 p x =
     ap (λ vs. some_expr (some_part (is_unequal vs)) (thin_place x)) (vars_thin p) ∙ exprs_thin (some_part (is_unequal (variables p))) x
 
+-- W2 is broken at the same places
 pub w2 : (p : Pipe) (x : Place) → breaks_w2 (without_update p) (thin_place x) ≡ breaks_w2 p x
 w2 p x =
     ap₂ (λ a b. a || b) (literals_thin is_too_large x)
     (ap (λ vs. some_expr (some_part (is_out_of_range vs)) (thin_place x)) (vars_thin p) ∙ exprs_thin (some_part (is_out_of_range (variables p))) x)
 
+-- W3 is broken at the same places
 pub w3 : (p : Pipe) (x : Place) → breaks_w3 (without_update p) (thin_place x) ≡ breaks_w3 p x
 w3 p x =
     ap₂ (λ a b. a || b)
@@ -257,11 +271,13 @@ w3 p x =
 wrong_address : Pipe → List Var → Location → Bool
 wrong_address p vs at = not (var_width vs at.address.name == address_bits (mem_depth p.mems at.mem.name))
 
+-- W4 is broken at the same places
 pub w4 : (p : Pipe) (x : Place) → breaks_w4 (without_update p) (thin_place x) ≡ breaks_w4 p x
 w4 p x =
     by_vars p (λ vs s. is_some_and (wrong_address p vs) (location_of s))
     (thin_same (λ s. is_some_and (wrong_address p (variables p)) (location_of s)) (λ s c w o. refl)) x
 
+-- W5 is broken at the same places
 pub w5 : (p : Pipe) (x : Place) → breaks_w5 (without_update p) (thin_place x) ≡ breaks_w5 p x
 w5 p (Statement s bs) =
     args (parts_of (thin_stmt s)).expressions ∙ thin_same (λ t. has_wrong_arguments p (parts_of t).expressions) (λ s c w o. refl) s
@@ -273,6 +289,7 @@ w5 p (Statement s bs) =
 w5 p (Parameter a) = refl
 w5 p _ = refl
 
+-- W6 is broken at the same places
 pub w6 : (p : Pipe) (x : Place) → breaks_w6 (without_update p) (thin_place x) ≡ breaks_w6 p x
 w6 p x =
     by_vars p (λ vs s. writes (λ at e. not (width_of vs e == mem_width p.mems at.mem.name)) s)
@@ -280,12 +297,15 @@ w6 p x =
 
 -- READS, LOCKS AND ADVICE
 
+-- F4 is broken at the same places
 pub f4 : (p : Pipe) (x : Place) → breaks_f4 (without_update p) (thin_place x) ≡ breaks_f4 p x
 f4 p = thin_at false _ _ (λ s bs. thin_same (is_wrong_read p.mems) (λ s c w o. refl) s)
 
+-- F5 is broken at the same places
 pub f5 : (p : Pipe) (x : Place) → breaks_f5 (without_update p) (thin_place x) ≡ breaks_f5 p x
 f5 p = thin_at false _ _ (λ s bs. thin_same (lacks_lock p.mems) (λ s c w o. refl) s)
 
+-- P1 is broken at the same places
 pub p1 : (p : Pipe) (x : Place) → breaks_p1 (without_update p) (thin_place x) ≡ breaks_p1 p x
 p1 p = thin_at false _ _ (λ s bs. advised (thin_stmt s) ∙ thin_same (uses_advice p) (λ s c w o. refl) s)
   where

@@ -1,7 +1,7 @@
 -- The places of a source without its updates are those of the source but for the updates, each without updates inside; what rules ask of places is the same of these.
 use Rattle.std.proofs.Common.{◌≡◌, refl, sym, ap, ap₂, ◌∙◌, subst, ℕ, suc, ◌+◌, Bool, true, false, ◌&&◌, ◌||◌, List, [], ◌∷◌, ◌++◌, map, filter, fold, length, count_by, if◌then◌else◌, append_assoc, Option, Some, None}
 use Rattle.std.specs.List.{list_any, list_all}
-use Rattle.std.proofs.Math.Path.{fun_ext}
+use mathlib.Core.Path.{fun_ext}
 use Rattle.std.proofs.lemmas.Bool.{false≢true}
 use Rattle.std.proofs.lemmas.List.{map-append}
 use Rattle.pdl_semantics.specs.Tree.{Span, Ident, Expr, Stmt, Separator, CombRead, Bind, SpecCall, DelayedRead, Write, Reserve, Block, Release, If, Call, Verify, Update, SpecCheck, SpecBarrier, Stmts, Nil, Cons, Param, Mem, Pipe}
@@ -133,6 +133,7 @@ tail_of e = ap behind e
     behind [] = []
     behind (z ∷ zs) = zs
 
+-- each place of the source without updates is one that is left
 pub is_left : (xs before' : List Place) (x' : Place) (later' : List Place) → thin xs ≡ before' ++ x' ∷ later' → IsLeft xs before' x' later'
 is_left [] [] x' later' e = absurd (cc e)
 is_left [] (b ∷ bs) x' later' e = absurd (cc e)
@@ -244,13 +245,14 @@ fold_thin f same none a (x ∷ xs) = at (is_update x) refl (fold_thin f same non
 
 -- PATHS
 
--- the guards are the same, and so are the paths
+-- the guards are the same
 pub guards_thin : (xs : List Place) → guards (thin xs) ≡ guards xs
 guards_thin xs = fold_thin with_guard same none [] xs
   where
     same : (gs : List Guard) (x : Place) → with_guard gs (thin_place x) ≡ with_guard gs x
     same gs =
-        thin_at gs _ _ (λ s bs. thin_same (λ t. of_if gs (λ from c. if is_among (guard_of from c) gs then gs else gs ++ guard_of from c ∷ []) t) (λ s c w o. refl) s)
+        thin_at gs _ _
+        (λ s bs. thin_same (λ t. of_if gs (λ from c. if is_among (guard_of from c) gs then gs else gs ++ guard_of from c ∷ []) t) (λ s c w o. refl) s)
 
     none : (gs : List Guard) (x : Place) → is_update x ≡ true → with_guard gs x ≡ gs
     none gs (Statement (Update s g args) bs) h = refl
@@ -258,6 +260,7 @@ guards_thin xs = fold_thin with_guard same none [] xs
     none gs (Parameter a) h = absurd (false≢true h)
     none gs _ h = absurd (false≢true h)
 
+-- the paths are the same
 pub paths_thin : (p : Pipe) → paths (without_update p) ≡ paths p
 paths_thin p = ap choices (ap guards (places_thin p) ∙ guards_thin (places p))
 
@@ -265,6 +268,7 @@ taken_thin : (path : List Guard) (bs : List Branch) → list_all (is_taken path)
 taken_thin path [] = refl
 taken_thin path (b ∷ bs) = ap (λ c. is_taken path b && c) (taken_thin path bs)
 
+-- a place that stays is on the same paths
 pub on_path_thin : (path : List Guard) (x : Place) → on_path path (thin_place x) ≡ on_path path x
 on_path_thin path = thin_at true _ _ (λ s bs. taken_thin path bs)
 

@@ -16,6 +16,7 @@ use Rattle.pdl_source.proofs.ThinPlaces.{thin_branch, thin_branches, thin_place,
 pub separators_stay : Stays is_separator
 separators_stay = stays_at (λ s. separates s) (λ s c w o. refl) (λ s g args. refl)
 
+-- as many stages begin
 pub after_thin : (xs : List Place) → stage_after (thin xs) ≡ stage_after xs
 after_thin xs = count_thin is_separator separators_stay xs
 
@@ -25,6 +26,7 @@ branches_thin (Statement s bs) = refl
 branches_thin (Parameter a) = refl
 branches_thin _ = refl
 
+-- what stands in some branches stands in others too, where it did
 pub outer_thin : (xs bs : List Branch) → are_outer (thin_branches xs) (thin_branches bs) ≡ are_outer xs bs
 outer_thin [] bs = refl
 outer_thin (x ∷ xs) [] = refl
@@ -62,9 +64,11 @@ from_thin begun found bs (x ∷ xs) =
         else stage_from begun found (thin_branches bs) (thin xs)) s
         ∙ later begun found
 
+-- what stands in these branches is in the same stage
 pub in_thin : (before : List Place) (bs : List Branch) → stage_in (thin before) (thin_branches bs) ≡ stage_in before bs
 in_thin before bs = from_thin 0 0 bs before
 
+-- a place that stays is in the same stage
 pub of_thin : (before : List Place) (x : Place) → stage_of (thin before) (thin_place x) ≡ stage_of before x
 of_thin before x = ap (stage_in (thin before)) (branches_thin x) ∙ in_thin before (branches_of x)
 
@@ -77,7 +81,7 @@ more_goes : (before : List Place) (x : Place) → is_update x ≡ true → thin 
 more_goes before x i =
     thin_both before (x ∷ []) ∙ ap (λ u. thin before ++ (if u then [] else thin_place x ∷ [])) i ∙ append-nil (thin before)
 
--- the stage of the first place that passes a test, and those of all
+-- the stage of the first place that passes a test
 pub first_thin : (test : Place → Bool) → Stays test → (before xs : List Place) → first_stage test (thin before) (thin xs) ≡ first_stage test before xs
 first_thin test stays before [] = refl
 first_thin test stays before (x ∷ xs) = at (is_update x) (test x) refl (stays.same x) (stays.none x) (first_thin test stays (before ++ x ∷ []) xs)
@@ -95,6 +99,7 @@ first_thin test stays before (x ∷ xs) = at (is_update x) (test x) refl (stays.
         ap (λ (b : Bool). if b then Some (stage_of (thin before) (thin_place x)) else first_stage test (thin before ++ thin_place x ∷ []) (thin xs)) t
         ∙ ap (λ zs. first_stage test zs (thin xs)) (sym (more_stays before x i)) ∙ later
 
+-- the stages of all places that pass a test
 pub that_thin : (test : Place → Bool) → Stays test → (before xs : List Place) → stages_that test (thin before) (thin xs) ≡ stages_that test before xs
 that_thin test stays before [] = refl
 that_thin test stays before (x ∷ xs) = at (is_update x) (test x) refl (stays.same x) (stays.none x) (that_thin test stays (before ++ x ∷ []) xs)
@@ -119,6 +124,7 @@ that_thin test stays before (x ∷ xs) = at (is_update x) (test x) refl (stays.s
         else stages_that test (thin before ++ thin_place x ∷ []) (thin xs)) t
         ∙ ap (λ zs. stages_that test zs (thin xs)) (sym (more_stays before x i)) ∙ later
 
+-- a place stands elsewhere than the first of its kind where it did
 pub elsewhere_thin : (test : Place → Bool) → Stays test → (before : List Place) (s : ℕ) → is_elsewhere test (thin before) s ≡ is_elsewhere test before s
 elsewhere_thin test stays before s = ap (is_some_and (λ k. not (k == s))) (first_thin test stays [] before)
 
@@ -142,11 +148,11 @@ next_thin path begun (x ∷ xs) =
     at false false i s none later =
         ap (λ (b : Bool). if b then go (on_path path (thin_place x)) (thin xs) else next_on path begun (thin xs)) s ∙ later begun
 
--- the places after one that stays
 front_off : (xs : List Place) (x : Place) (ys : List Place) → drop (suc (length xs)) (xs ++ x ∷ ys) ≡ ys
 front_off [] x ys = refl
 front_off (z ∷ zs) x ys = front_off zs x ys
 
+-- the places after one that stays
 pub later_thin : (p : Pipe) (before : List Place) (x : Place) (later : List Place)
     → places p ≡ before ++ x ∷ later → is_update x ≡ false → places_after (without_update p) (thin before) ≡ thin (places_after p before)
 later_thin p before x later e i =

@@ -46,6 +46,7 @@ after_is p before x later e =
     let h : suc (length before) ≡ length (before ++ x ∷ []) = omega arith in h)
     ∙ drop-append_seam (before ++ x ∷ []) later
 
+-- past the first of two lists comes the second
 pub drop_front : (xs ys : List Place) (n : ℕ) → n ≡ length xs → drop n (xs ++ ys) ≡ ys
 drop_front xs ys n e = ap (λ k. drop k (xs ++ ys)) e ∙ drop-append_seam xs ys
 

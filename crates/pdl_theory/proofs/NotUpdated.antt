@@ -193,7 +193,8 @@ module _ (p : Pipe) (sound : Sound p) where
         ap (none_of (is_fetch_of x)) (stage_left s p.stmts)
         ∙ none_left (is_fetch_of x) (in_stage s p.stmts) (sound.fork_seen path s x a b (sym (comes_left p path (stage_at p s).branches) ∙ visits) e);
     fetch = sound.fetch;
-    fetch_ok = λ s. subst (AllFetches (not_updated p) sound.fetch s) (sym (stage_left s p.stmts)) (fetches_left p sound.fetch s (in_stage s p.stmts) (sound.fetch_ok s));
+    fetch_ok = λ s.
+        subst (AllFetches (not_updated p) sound.fetch s) (sym (stage_left s p.stmts)) (fetches_left p sound.fetch s (in_stage s p.stmts) (sound.fetch_ok s));
     fetch_blind = blind;
     fetch_unseen = λ s. ap is_unseen (stage_left s p.stmts) ∙ unseen_left (in_stage s p.stmts) (sound.fetch_unseen s);
     fetch_alone = λ s. ap fetch_apart (stage_left s p.stmts) ∙ apart_left (in_stage s p.stmts) (sound.fetch_alone s);

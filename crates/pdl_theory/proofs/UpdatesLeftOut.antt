@@ -52,7 +52,8 @@ from_left s (x ∷ xs) =
 pub path_left : (path : List ℕ) (xs : List Stmt) → onpath path (without_updates xs) ≡ without_updates (onpath path xs)
 path_left path [] = refl
 path_left path (x ∷ xs) =
-    swapped (onpath path) (is_update x.op) (all_hold x.guards path) x (record x { guards = [] }) (without_updates xs) (onpath path xs) refl refl (path_left path xs)
+    swapped (onpath path) (is_update x.op) (all_hold x.guards path) x (record x { guards = [] }) (without_updates xs) (onpath path xs) refl refl
+    (path_left path xs)
 
 -- where each delayed read has its answer at once
 pub looked_left : (xs : List Stmt) → looked_all (without_updates xs) ≡ without_updates (looked_all xs)
@@ -115,6 +116,7 @@ kept_among gs xs ys f = at (is_dead gs)
     at true h = refl
     at false h = free_among gs xs ys f h
 
+-- no guard is bound anew
 pub fixed_left : (xs : List Stmt) → is_fixed xs ≡ true → is_fixed (without_updates xs) ≡ true
 fixed_left [] h = refl
 fixed_left (x ∷ xs) h =
@@ -183,7 +185,7 @@ phase_idle m ph (Verify true args) h = absurd (false≢true h)
 phase_idle m ph (Verify false args) h = refl
 phase_idle m ph _ h = absurd (false≢true h)
 
--- each statement is in order in its phase of a memory's writes, and these end in the same phase
+-- each statement is in order in its phase of a memory's writes
 pub phases_left : (m : ℕ) (ph : Phase) (xs : List Stmt) → phases_ok m ph xs ≡ true → phases_ok m ph (without_updates xs) ≡ true
 phases_left m ph [] h = refl
 phases_left m ph (x ∷ xs) h =
@@ -192,6 +194,7 @@ phases_left m ph (x ∷ xs) h =
     scanned (phases_ok m) (is_update x.op) ph (next_phase m ph x.op) x (without_updates xs) here refl p.0
     (phases_left m (next_phase m ph x.op) xs p.1) (phase_idle m ph x.op)
 
+-- they end in the same phase
 pub phase_left : (m : ℕ) (ph : Phase) (xs : List Stmt) → phase_all m ph (without_updates xs) ≡ phase_all m ph xs
 phase_left m ph [] = refl
 phase_left m ph (x ∷ xs) = at (is_update x.op) (phase_idle m ph x.op) (phase_left m (next_phase m ph x.op) xs)
@@ -242,7 +245,7 @@ making_idle v Made s (Verify false args) h e = absurd (false≢true h)
 making_idle v k s (Verify true args) h e = absurd (false≢true e)
 making_idle v k s _ h e = absurd (false≢true e)
 
--- these make the next thread in order, and as far
+-- these make the next thread in order
 pub makings_left : (v : Option ℕ) (k : Making) (xs : List Stmt) → makings_ok v k xs ≡ true → makings_ok v k (without_updates xs) ≡ true
 makings_left v k [] h = refl
 makings_left v k (x ∷ xs) h =
@@ -250,6 +253,7 @@ makings_left v k (x ∷ xs) h =
     scanned (makings_ok v) (is_update x.op) k (next_making k x.op) x (without_updates xs) (making_ok v k x.stage x.op) refl p.0
     (makings_left v (next_making k x.op) xs p.1) (making_idle v k x.stage x.op p.0)
 
+-- they make it as far
 pub making_left : (v : Option ℕ) (k : Making) (xs : List Stmt) → makings_ok v k xs ≡ true → making_all k (without_updates xs) ≡ making_all k xs
 making_left v k [] h = refl
 making_left v k (x ∷ xs) h =
@@ -298,6 +302,7 @@ pub sure_left : (v : Option ℕ) (b : Bool) (c : Scan) (xs : List Stmt) → all_
 sure_left v b c [] h = refl
 sure_left v b c (x ∷ xs) h =
     let p = and_parts (is_sure v b c x.stage x.op) (all_sure v (b || is_barrier x.op) (scan_after x.op c) xs) h in
-    scanned (λ (k : Bool × Scan) ys. all_sure v k.0 k.1 ys) (is_update x.op) (known b c) (known (b || is_barrier x.op) (scan_after x.op c)) x (without_updates xs)
+    scanned (λ (k : Bool × Scan) ys. all_sure v k.0 k.1 ys) (is_update x.op) (known b c) (known (b || is_barrier x.op) (scan_after x.op c)) x
+    (without_updates xs)
     (is_sure v b c x.stage x.op) refl p.0
     (sure_left v (b || is_barrier x.op) (scan_after x.op c) xs p.1) (sure_idle x.op b c)

@@ -2,8 +2,6 @@ use Rattle.std.proofs.Common.{◌≡◌, sym, ap, ap₂, ◌∙◌}
 use Rattle.pdl_form.specs.FormView.{form}
 use Rattle.pdl_net.specs.Signal.{Signal}
 use Rattle.pdl_net.specs.Meaning.{signal}
-use Rattle.pdl_net.proofs.Keeps.{extends_keeps}
-use Rattle.pdl_net.proofs.KeptWidths.{width_keeps}
 use Rattle.pdl_law_parts.specs.Walk.{one, is_on}
 use Rattle.pdl_law_sides.specs.Sides.{unsquashed}
 use Rattle.pdl_semantics.specs.Updates.{update_stage, squash_stages}

@@ -22,7 +22,8 @@ joined_at-requires-clause-first c =
     let a = c.args.b.now in
     let b = c.loop-k.b in
     let e = extends_keeps a b c.loop-k.invariant.extends in
-    subst (IsBit b) (sym c.net_of.ensures) (bit_keep a b (net_at c.args.first.now c.loop-k.k) e (net_bit a c.args.first.now c.loop-k.k c.loop-k-test.true c.requires.first))
+    subst (IsBit b) (sym c.net_of-x.ensures)
+    (bit_keep a b (net_at c.args.first.now c.loop-k.k) e (net_bit a c.args.first.now c.loop-k.k c.loop-k-test.true c.requires.first))
 
 pub joined_at-requires-clause-second : goal.joined_at-requires-clause-second
 joined_at-requires-clause-second c =
@@ -31,7 +32,7 @@ joined_at-requires-clause-second c =
     let e = extends_keeps a b c.loop-k.invariant.extends in
     let low = c.loop-k-test.true in
     let n = c.requires.count in
-    subst (IsBit b) (sym c.net_of-2.ensures)
+    subst (IsBit b) (sym c.net_of-y.ensures)
     (bit_keep a b (net_at c.args.second.now c.loop-k.k) e (net_bit a c.args.second.now c.loop-k.k (omega (arith, low, n)) c.requires.second))
 
 pub loop-k-preserved : goal.loop-k-preserved
@@ -53,10 +54,10 @@ loop-k-preserved c =
     let n = c.requires.count in
     let first = net_bit a xs k low c.requires.first in
     let second = net_bit a ys k (omega (arith, low, n)) c.requires.second in
-    let x_is : signal b c.net_of.result ≡ signal_at (signals_in a xs) k =
-    ap (signal b) c.net_of.ensures ∙ ab.kept (net_at xs k) first.there ∙ net_signal a xs k low in
-    let y_is : signal b c.net_of-2.result ≡ signal_at (signals_in a ys) k =
-    ap (signal b) c.net_of-2.ensures ∙ ab.kept (net_at ys k) second.there ∙ net_signal a ys k (omega (arith, low, n)) in
+    let x_is : signal b c.net_of-x.result ≡ signal_at (signals_in a xs) k =
+    ap (signal b) c.net_of-x.ensures ∙ ab.kept (net_at xs k) first.there ∙ net_signal a xs k low in
+    let y_is : signal b c.net_of-y.result ≡ signal_at (signals_in a ys) k =
+    ap (signal b) c.net_of-y.ensures ∙ ab.kept (net_at ys k) second.there ∙ net_signal a ys k (omega (arith, low, n)) in
     let z_is = c.in_ok-net.ensures.means.same ∙ ap₂ (joined_signal u k) x_is y_is in
     let pushed = c.in_ok-push.ensures.items in
     let old = signals_keep b d nets bd (bits_there b nets it.bits) in

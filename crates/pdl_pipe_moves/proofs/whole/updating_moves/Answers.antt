@@ -1,4 +1,4 @@
-use Rattle.std.proofs.Common.{◌≡◌, ◌≤◌, ◌<◌, ℕ, refl, sym, ap, ap₂, ◌∙◌, subst, length, arith}
+use Rattle.std.proofs.Common.{◌≡◌, refl, sym, ap, ap₂, ◌∙◌, subst, length, arith}
 use Rattle.pdl_word.specs.Each.{Each}
 use Rattle.pdl_semantics.proofs.SquashStages.{update_before}
 use Rattle.pdl_net.specs.Signal.{Signal, mux_signal}
@@ -28,7 +28,8 @@ use Rattle.pdl_pipe_moves.proofs.MovedStages.{move_later, moved_updated}
 use Rattle.pdl_pipe_moves.proofs.whole.updating_moves.Goals as goal
 
 pub verified-requires-clause-low : goal.verified-requires-clause-low
-verified-requires-clause-low c = let l = update_before (line_pipe c.args.line.now).stmts c.args.u c.args.v c.requires.update c.requires.stage in omega (arith, l)
+verified-requires-clause-low c =
+    let l = update_before (line_pipe c.args.line.now).stmts c.args.u c.args.v c.requires.update c.requires.stage in omega (arith, l)
 
 pub stage_squash-requires-clause-line : goal.stage_squash-requires-clause-line
 stage_squash-requires-clause-line c =
@@ -282,7 +283,7 @@ returns-clause-moved c =
       clear = made.squash.clear;
     })
     v u made.squash again c.requires.stage c.requires.update
-    (squash_keep b1 d x v _ _ made.squash e1d line1 at_v low first.squash)
-    (squash_keep b2 d x u _ _ again e2d line2 at_u (omega (arith, low, early)) second)
+    (squash_keep b1 d x v (signal_at (signals_in b1 moves1) v) (signal_at (signals_in d moves2) v) made.squash e1d line1 at_v first.squash)
+    (squash_keep b2 d x u (signal b1 c.net_of-own.result) (signal_at (signals_in d moves2) u) again e2d line2 at_u second)
     (subst (λ cs. ArePassed d x (signs_in d x c.args.orders.now both cs) moves2 c.pass_down.new.self.frees.items 0) same passed)
     bit either c.in_ok-kills.ensures.bits joined

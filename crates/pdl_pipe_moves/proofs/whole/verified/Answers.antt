@@ -1,5 +1,6 @@
-use Rattle.std.proofs.Common.{◌≡◌, ℕ, sym, ap, ◌∙◌, subst, length, arith}
+use Rattle.std.proofs.Common.{◌≡◌, sym, ap, ◌∙◌, subst, length, arith}
 use Rattle.pdl_word.specs.Each.{Each}
+use Rattle.pdl_semantics.specs.Stages.{verify_stage}
 use Rattle.pdl_net.specs.Meaning.{signal}
 use Rattle.pdl_net.proofs.Keeps.{extends_keeps, extends_trans}
 use Rattle.pdl_squash.specs.Laws.{net_at}
@@ -93,7 +94,8 @@ pass_down-requires-2-clause-passed c =
     passed_alike b2 x c.args.orders.now none (record { verify = happens; update = zero }) c.args.blank.now c.as_slice-2.result.now
     c.pass_down.new.self.moves.items c.pass_down.new.self.frees.items v
     (λ k l. verified_late (line_pipe x).stmts v k (signal b2 zero) (signal b2 zero) (signal b2 happens) (signal b2 zero) c.requires.stage l)
-    (λ k h l. barrier_late _ v k c.requires.stage l h _ _) kept
+    (λ k h l. barrier_late (verify_stage (line_pipe x).stmts) v k c.requires.stage l h (signal_at (signals_in b2 c.args.blank.now) k)
+    (signal_at (signals_in b2 c.as_slice-2.result.now) k)) kept
 
 pub returns-clause-made : goal.returns-clause-made
 returns-clause-made c =
@@ -129,5 +131,5 @@ returns-clause-made c =
           (λ cs. ArePassed d x (signs_in d x c.args.orders.now (record { verify = squash.happens; update = zero }) cs) moves2
           c.pass_down-2.new.self.frees.items c.args.low)
           c.as_slice-2.ensures.value passed2;
-      squash = squash_keep b2 d x v (signal b1 c.net_of-own.result) (signal_at (signals_in d moves2) v) squash e2d line2 moved last c.in_ok-squash.ensures.made;
+      squash = squash_keep b2 d x v (signal b1 c.net_of-own.result) (signal_at (signals_in d moves2) v) squash e2d line2 moved c.in_ok-squash.ensures.made;
     }
