@@ -119,7 +119,7 @@ pub z5 : (before : List Place) (x : Place) → breaks_z5 (thin before) (thin_pla
 z5 before x = ap₂ (λ a n. a && (n == 512)) (bindings_stay.same x) (count_thin is_binding bindings_stay before)
 
 -- whether an `if` has a guard beside these ten
-one_more : List Guard → Stmt → Bool
+abbrev one_more : List Guard → Stmt → Bool
 one_more gs s = of_if false (λ from c. not (is_among (guard_of from c) gs) && (length gs == 10)) s
 
 -- Z6 is broken at the same places
@@ -268,7 +268,7 @@ w3 p x =
     (ap (λ vs. some_expr (some_part (is_wide_choice vs)) (thin_place x)) (vars_thin p) ∙ exprs_thin (some_part (is_wide_choice (variables p))) x)
 
 -- whether the address of a location is wrong, by the variables
-wrong_address : Pipe → List Var → Location → Bool
+abbrev wrong_address : Pipe → List Var → Location → Bool
 wrong_address p vs at = not (var_width vs at.address.name == address_bits (mem_depth p.mems at.mem.name))
 
 -- W4 is broken at the same places
