@@ -1,19 +1,19 @@
 -- The rules on forks and delayed reads are kept by a source without its updates, where they are with them.
-use Rattle.std.proofs.Common.{◌≡◌, refl, sym, ap, ap₂, ◌∙◌, subst, ℕ, zero, suc, ◌+◌, Bool, true, false, ◌&&◌, ◌||◌, not, ◌==◌, bytes_eq, List, [], ◌∷◌, ◌++◌, map, length, drop, take, if◌then◌else◌, append_assoc, length-append, arith}
+use Rattle.std.proofs.Common.{◌≡◌, refl, sym, ap, ap₂, ◌∙◌, subst, ℕ, zero, suc, Bool, true, false, ◌&&◌, ◌||◌, not, ◌==◌, bytes_eq, List, [], ◌∷◌, ◌++◌, map, length, drop, take, if◌then◌else◌, append_assoc, length-append, arith}
 use Rattle.std.specs.Prelude.{⊤}
 use Rattle.std.specs.List.{list_any}
 use mathlib.Core.Path.{fun_ext}
 use Rattle.std.proofs.lemmas.Bool.{false≢true, and_parts, or_parts, not-false}
 use Rattle.std.proofs.lemmas.List.{length-map}
 use Rattle.pdl_kit.specs.declared.rule.Rule.TheVariants.{F2}
-use Rattle.pdl_semantics.specs.Tree.{Location, Stmt, Separator, If, Update, Stmts, Nil, Cons, Param, Mem, Pipe}
+use Rattle.pdl_semantics.specs.Tree.{Location, Stmt, Separator, If, Stmts, Nil, Cons, Param, Mem, Pipe}
 use Rattle.pdl_semantics.specs.UpdateFree.{update_free, without_update}
 use Rattle.pdl_semantics.proofs.UpdateFree.{begun_free}
-use Rattle.pdl_rules.specs.Places.{guard_of, Branch, Place, Parameter, Memory, Statement, End, StartClause, at_statement, with_inner, statements, places, places_after}
+use Rattle.pdl_rules.specs.Places.{guard_of, Branch, Place, Parameter, Memory, Statement, End, StartClause, with_inner, statements, places, places_after}
 use Rattle.pdl_rules.specs.Forms.{fetches}
 use Rattle.pdl_rules.specs.Limits.{is_separator}
 use Rattle.pdl_rules.specs.Stages.{stage_after, stage_in, branches_of, are_outer}
-use Rattle.pdl_rules.specs.Forks.{holds_separator, is_trunk_only, breaks_f1, is_fork, places_in, starts_with_separator, is_in_outer_stage, is_wrong_fork, breaks_f2, breaks_fetch_order, is_wrong_fetch, breaks_f3}
+use Rattle.pdl_rules.specs.Forks.{holds_separator, is_trunk_only, breaks_f1, is_fork, places_in, starts_with_separator, is_in_outer_stage, breaks_f2, breaks_fetch_order, is_wrong_fetch, breaks_f3}
 use Rattle.pdl_rules.specs.Speculation.{is_update}
 use Rattle.pdl_rules.specs.Refusal.{KeepsRules}
 use Rattle.pdl_source_stages.proofs.BodyShape.{long_all, drop_front, after_is}

@@ -1,17 +1,17 @@
 -- The rules on calls and guesses are the same of a source without its updates, but those on updates, which it can't break.
-use Rattle.std.proofs.Common.{◌≡◌, refl, sym, ap, ap₂, ◌∙◌, ℕ, Bool, true, false, ◌&&◌, ◌||◌, not, ◌==◌, nat_lt, bytes_eq, List, [], ◌∷◌, Option, true≢false}
+use Rattle.std.proofs.Common.{◌≡◌, refl, ap, ap₂, ◌∙◌, ℕ, Bool, true, false, ◌&&◌, ◌||◌, not, ◌==◌, nat_lt, bytes_eq, List, [], ◌∷◌, true≢false}
 use Rattle.std.specs.List.{list_any}
 use Rattle.std.proofs.Math.Bool.{and-false}
-use Rattle.pdl_semantics.specs.Tree.{Ident, Location, W, Stmt, Separator, SpecCall, Release, If, Call, Update, Pipe}
+use Rattle.pdl_semantics.specs.Tree.{Ident, Location, W, Stmt, Separator, SpecCall, Release, Call, Update, Pipe}
 use Rattle.pdl_semantics.specs.UpdateFree.{without_update}
-use Rattle.pdl_rules.specs.Places.{Guard, Place, Parameter, Statement, End, at_statement, places, paths, on_path}
+use Rattle.pdl_rules.specs.Places.{Guard, Place, Parameter, Statement, End, places, paths, on_path}
 use Rattle.pdl_rules.specs.Forms.{releases, guesses, verifies, updates, bars}
 use Rattle.pdl_rules.specs.Parts.{is_some_and}
 use Rattle.pdl_rules.specs.Calls.{calls, is_call, calls_again, is_wrong_call, breaks_s1}
-use Rattle.pdl_rules.specs.Locks.{is_held_for, hold_after}
-use Rattle.pdl_rules.specs.Stages.{stage_in, stage_of, first_stage, stages_that, is_elsewhere}
+use Rattle.pdl_rules.specs.Locks.{is_held_for}
+use Rattle.pdl_rules.specs.Stages.{stage_of, first_stage, stages_that, is_elsewhere}
 use Rattle.pdl_rules.specs.Speculation.{is_verify, verify_stage, is_before_verify, is_verify_of, verify_stages, is_once_after, breaks_s2, breaks_s3, is_barrier, releases_unsure, breaks_s4, acts_unsure, needs_check, checks, is_check, is_checked, breaks_s5, is_update, is_amiss, breaks_s6, breaks_s7}
-use Rattle.pdl_source.proofs.ThinPlaces.{thin_stmt, thin_place, thin, places_thin, Stays, thin_same, thin_at, stays_place, stays_at, any_thin, on_path_thin, some_path_thin, each_path_thin}
+use Rattle.pdl_source.proofs.ThinPlaces.{thin_stmt, thin_place, thin, places_thin, Stays, thin_same, thin_at, stays_at, any_thin, on_path_thin, some_path_thin, each_path_thin}
 use Rattle.pdl_source.proofs.ThinStages.{in_thin, of_thin, first_thin, that_thin, elsewhere_thin}
 use Rattle.pdl_source.proofs.ThinLocks.{hold_thin}
 

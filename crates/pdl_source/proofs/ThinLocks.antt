@@ -1,15 +1,15 @@
 -- The rules on locks are the same of a source without its updates.
-use Rattle.std.proofs.Common.{◌≡◌, refl, sym, ap, ap₂, ◌∙◌, ℕ, suc, Bool, true, false, ◌&&◌, ◌||◌, not, ◌==◌, nat_lt, nat_le, bytes_eq, List, [], ◌∷◌, ◌++◌, fold, count_by, if◌then◌else◌, Option, Some, None}
+use Rattle.std.proofs.Common.{◌≡◌, refl, sym, ap, ap₂, ◌∙◌, ℕ, Bool, true, false, ◌&&◌, not, ◌==◌, nat_lt, nat_le, bytes_eq, List, [], ◌∷◌, ◌++◌, if◌then◌else◌, Option, Some, None}
 use Rattle.std.specs.List.{list_any}
 use mathlib.Core.Path.{fun_ext}
 use Rattle.std.proofs.lemmas.Bool.{false≢true}
-use Rattle.pdl_semantics.specs.Tree.{Location, Kind, R, W, Stmt, Separator, CombRead, DelayedRead, Write, Reserve, Block, Release, If, Update, Pipe}
+use Rattle.pdl_semantics.specs.Tree.{Location, Kind, R, W, Stmt, Separator, CombRead, DelayedRead, Write, Reserve, Block, Release, Update, Pipe}
 use Rattle.pdl_semantics.specs.Flatten.{is_advisory_mem}
 use Rattle.pdl_semantics.specs.UpdateFree.{without_update}
-use Rattle.pdl_rules.specs.Places.{Guard, Place, Parameter, Statement, End, at_statement, places, places_after, paths, on_path}
+use Rattle.pdl_rules.specs.Places.{Guard, Place, Parameter, Statement, End, at_statement, places, places_after}
 use Rattle.pdl_rules.specs.Forms.{writes, reserves, releases}
 use Rattle.pdl_rules.specs.Parts.{parts_of, is_some_and}
-use Rattle.pdl_rules.specs.Locks.{is_locked, same_location, same_kind, Hold, Nothing, after_statement, after_place, hold_after, is_reserved, is_blocked, is_blocked_for, is_held_for, acts_unheld, lacks_hold, breaks_l1, is_reserve_of, is_write_of, reads_late, is_late_read, breaks_l3, most_reservations, is_one_too_many, breaks_l4, reserves_location, is_reserved_again, breaks_l5, writes_location, is_not_written, first_reserved, is_out_of_turn, writes_wrongly, is_not_written_once, breaks_l6, is_unreleased, leaves_open, ends_open, breaks_l7}
+use Rattle.pdl_rules.specs.Locks.{is_locked, same_location, same_kind, Hold, Nothing, after_statement, after_place, hold_after, is_reserved, is_blocked, is_blocked_for, is_held_for, acts_unheld, lacks_hold, breaks_l1, is_reserve_of, is_write_of, reads_late, is_late_read, breaks_l3, most_reservations, is_one_too_many, breaks_l4, reserves_location, is_reserved_again, breaks_l5, writes_location, first_reserved, is_out_of_turn, writes_wrongly, is_not_written_once, breaks_l6, is_unreleased, leaves_open, ends_open, breaks_l7}
 use Rattle.pdl_rules.specs.Stages.{stage_after, stage_in, first_stage, reserves_memory, releases_memory, moves_stage, breaks_l2, next_on, is_bound_late, binds_late, breaks_l8}
 use Rattle.pdl_rules.specs.Speculation.{is_update}
 use Rattle.pdl_source.proofs.ThinPlaces.{thin_stmt, thin_place, thin, places_thin, Stays, thin_same, thin_at, stays_at, any_thin, count_thin, fold_thin, some_path_thin, each_path_thin}

@@ -1,5 +1,5 @@
 -- The places of a source without its updates are those of the source but for the updates, each without updates inside; what rules ask of places is the same of these.
-use Rattle.std.proofs.Common.{◌≡◌, refl, sym, ap, ap₂, ◌∙◌, subst, ℕ, suc, ◌+◌, Bool, true, false, ◌&&◌, ◌||◌, List, [], ◌∷◌, ◌++◌, map, filter, fold, length, count_by, if◌then◌else◌, append_assoc, Option, Some, None, arith}
+use Rattle.std.proofs.Common.{◌≡◌, refl, sym, ap, ap₂, ◌∙◌, ◌+◌, Bool, true, false, ◌&&◌, ◌||◌, List, [], ◌∷◌, ◌++◌, map, filter, fold, count_by, if◌then◌else◌, arith}
 use Rattle.std.specs.List.{list_any, list_all}
 use mathlib.Core.Path.{fun_ext}
 use Rattle.std.proofs.lemmas.Bool.{false≢true}
@@ -210,7 +210,8 @@ pub stays_at : (f : Stmt → Bool)
     → ((s : Span) (c : Expr) (when otherwise : Stmts) → f (If s c (update_free when) (update_free otherwise)) ≡ f (If s c when otherwise))
     → ((s : Span) (g : Ident) (args : List Expr) → f (Update s g args) ≡ false) → Stays (λ x. at_statement false (λ s bs. f s) x)
 stays_at f inner never =
-    stays_place (λ x. at_statement false (λ s bs. f s) x) (thin_at false (λ s bs. f s) (λ s bs. f s) (λ s bs. thin_same f inner s)) (λ s g args bs. never s g args)
+    stays_place (λ x. at_statement false (λ s bs. f s) x)
+    (thin_at false (λ s bs. f s) (λ s bs. f s) (λ s bs. thin_same f inner s)) (λ s g args bs. never s g args)
 
 -- LISTS OF PLACES
 
