@@ -33,7 +33,9 @@ verified_moves-requires-clause-low c =
 
 pub stage_squash-requires-clause-line : goal.stage_squash-requires-clause-line
 stage_squash-requires-clause-line c =
-    line_keep c.args.b.now c.verified_moves.new.b c.args.line.now (extends_keeps c.args.b.now c.verified_moves.new.b c.verified_moves.ensures.extends) c.requires.line
+    let a = c.args.b.now in
+    let b = c.verified_moves.new.b in
+    line_keep a b c.args.line.now (extends_keeps a b c.verified_moves.ensures.extends) c.requires.line
 
 pub stage_squash-requires-clause-low : goal.stage_squash-requires-clause-low
 stage_squash-requires-clause-low c =
