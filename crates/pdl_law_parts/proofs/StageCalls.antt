@@ -203,7 +203,7 @@ module _ (c : Circuit) (p : Pipe) (ls : Locks) (vs : ℕ → View) (s : State) (
           ∙ ap (λ c. if c then Some (map (λ (f : Signal). f.value s) r.args) else child_in s w.births)
           (sym (on_is s r.on false (on_at c p ls vs s st k thread around gs r w d glive on q h ∙ ap bit f)))
 
-      guess_at : IsSo p k s w d → (b : Bool) → all_hold gs d.env ≡ b 
+      guess_at : IsSo p k s w d → (b : Bool) → all_hold gs d.env ≡ b
           → ((done st thread b (SpecCall args) d).fails ≡ true → verify_stage p.stmts ≡ Some k → ⊥)
           → IsGuess p k s r.guess (done st thread b (SpecCall args) d).guess
       guess_at h true f z v l = values h f ∙ sym (row.3 s around.suits (is_taken c p ls vs s st k thread around gs r w d glive on q h f))
