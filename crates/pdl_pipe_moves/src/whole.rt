@@ -55,7 +55,7 @@ fn none_passed(alloc: Global, zero: Net, count: usize) -> Result<Passages, NoMem
 }
 
 // The threads of the stages from `low` on, of which stage v verifies guesses.
-fn verified(
+fn verified_moves(
     alloc: Global,
     b: &mut Builder,
     line: &StageLine<'_>,
@@ -122,7 +122,7 @@ fn guessing_moves(
     ensures moved { IfOk result (λ z. AreMoved b.new line.now orders.now z) }
     ensures extends { Extends b.old b.new }
 {
-    let made = verified(alloc, b, line, orders, v, 0, blank)?;
+    let made = verified_moves(alloc, b, line, orders, v, 0, blank)?;
     let Verified { found, squash } = made;
     Ok(MoveNets {
         moves: found.moves,
@@ -159,7 +159,7 @@ fn updating_moves(
     ensures moved { IfOk result (λ z. AreMoved b.new line.now orders.now z) }
     ensures extends { Extends b.old b.new }
 {
-    let made = verified(alloc, b, line, orders, v, u, blank)?;
+    let made = verified_moves(alloc, b, line, orders, v, u, blank)?;
     let Verified { mut found, squash } = made;
     let own = net_of(found.moves.as_slice(), u);
     let again = stage_squash(alloc, b, line, u, own)?;

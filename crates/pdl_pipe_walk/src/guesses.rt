@@ -95,7 +95,7 @@ impl WalkNets {
         self.guess = guess;
     }
 
-    // A verify fails where `on` and `wrong` are 1: the net of both.
+    // A verify fails, or an update changes the guess, where `on` and `wrong` are 1: the net of both.
     fn fail(
         &mut self,
         b: &mut Builder,

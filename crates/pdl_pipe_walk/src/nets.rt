@@ -77,7 +77,7 @@ pub struct WalkNets {
     pub advises: Seq<AdvisingNet>,
     /// The arguments of the guess.
     pub guess: Seq<Net>,
-    /// Whether a verify fails, 1 bit.
+    /// Whether a verify fails or an update changes the guess, 1 bit.
     pub fails: Net,
     /// Whether the thread waits at a barrier, 1 bit.
     pub barrier: Net,

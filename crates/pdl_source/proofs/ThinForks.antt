@@ -1,19 +1,19 @@
 -- The rules on forks and delayed reads are kept by a source without its updates, where they are with them.
-use Rattle.std.proofs.Common.{◌≡◌, refl, sym, ap, ap₂, ◌∙◌, subst, ℕ, zero, suc, ◌+◌, Bool, true, false, ◌&&◌, ◌||◌, not, ◌==◌, bytes_eq, List, [], ◌∷◌, ◌++◌, map, length, drop, take, if◌then◌else◌, append_assoc, length-append, arith}
+use Rattle.std.proofs.Common.{◌≡◌, refl, sym, ap, ap₂, ◌∙◌, subst, ℕ, zero, suc, Bool, true, false, ◌&&◌, ◌||◌, not, ◌==◌, bytes_eq, List, [], ◌∷◌, ◌++◌, map, length, drop, take, if◌then◌else◌, append_assoc, length-append, arith}
 use Rattle.std.specs.Prelude.{⊤}
 use Rattle.std.specs.List.{list_any}
 use mathlib.Core.Path.{fun_ext}
 use Rattle.std.proofs.lemmas.Bool.{false≢true, and_parts, or_parts, not-false}
 use Rattle.std.proofs.lemmas.List.{length-map}
 use Rattle.pdl_kit.specs.declared.rule.Rule.TheVariants.{F2}
-use Rattle.pdl_semantics.specs.Tree.{Location, Stmt, Separator, If, Update, Stmts, Nil, Cons, Param, Mem, Pipe}
+use Rattle.pdl_semantics.specs.Tree.{Location, Stmt, Separator, If, Stmts, Nil, Cons, Param, Mem, Pipe}
 use Rattle.pdl_semantics.specs.UpdateFree.{update_free, without_update}
 use Rattle.pdl_semantics.proofs.UpdateFree.{begun_free}
-use Rattle.pdl_rules.specs.Places.{guard_of, Branch, Place, Parameter, Memory, Statement, End, StartClause, at_statement, with_inner, statements, places, places_after}
+use Rattle.pdl_rules.specs.Places.{guard_of, Branch, Place, Parameter, Memory, Statement, End, StartClause, with_inner, statements, places, places_after}
 use Rattle.pdl_rules.specs.Forms.{fetches}
 use Rattle.pdl_rules.specs.Limits.{is_separator}
 use Rattle.pdl_rules.specs.Stages.{stage_after, stage_in, branches_of, are_outer}
-use Rattle.pdl_rules.specs.Forks.{holds_separator, is_trunk_only, breaks_f1, is_fork, places_in, starts_with_separator, is_in_outer_stage, is_wrong_fork, breaks_f2, breaks_fetch_order, is_wrong_fetch, breaks_f3}
+use Rattle.pdl_rules.specs.Forks.{holds_separator, is_trunk_only, breaks_f1, is_fork, places_in, starts_with_separator, is_in_outer_stage, breaks_f2, breaks_fetch_order, is_wrong_fetch, breaks_f3}
 use Rattle.pdl_rules.specs.Speculation.{is_update}
 use Rattle.pdl_rules.specs.Refusal.{KeepsRules}
 use Rattle.pdl_source_stages.proofs.BodyShape.{long_all, drop_front, after_is}
@@ -83,16 +83,25 @@ mutual
   followed bs (Cons s ss) rest h =
       subst AreFollowed (sym (append_assoc (with_inner bs s) (statements bs ss) rest)) (inner_followed bs s (statements bs ss ++ rest) (followed bs ss rest h))
 
-params_followed : (p : Pipe) → AreFollowed (places p)
-params_followed p = params p.params
+-- so it is of the places of a source
+places_followed : (p : Pipe) → AreFollowed (places p)
+places_followed p = subst AreFollowed (sym same) (params p.params)
   where
-    mems : (ms : List Mem) → AreFollowed (map Memory ms ++ (statements [] p.body ++ End p.end ∷ StartClause p.start ∷ []))
-    mems [] = followed [] p.body (End p.end ∷ StartClause p.start ∷ []) (tt, tt, tt)
+    ends : List Place
+    ends = End p.end ∷ StartClause p.start ∷ []
+
+    same : places p ≡ map Parameter p.params ++ (map Memory p.mems ++ (statements [] p.body ++ ends))
+    same =
+        append_assoc (map Parameter p.params ++ map Memory p.mems) (statements [] p.body) ends
+        ∙ append_assoc (map Parameter p.params) (map Memory p.mems) (statements [] p.body ++ ends)
+
+    mems : (ms : List Mem) → AreFollowed (map Memory ms ++ (statements [] p.body ++ ends))
+    mems [] = followed [] p.body ends (tt, (tt, tt))
     mems (m ∷ ms) = (tt, mems ms)
 
-    params : (as : List Param) → AreFollowed (map Parameter as ++ (map Memory p.mems ++ (statements [] p.body ++ End p.end ∷ StartClause p.start ∷ [])))
+    params : (ps : List Param) → AreFollowed (map Parameter ps ++ (map Memory p.mems ++ (statements [] p.body ++ ends)))
     params [] = mems p.mems
-    params (a ∷ as) = (tt, params as)
+    params (a ∷ ps) = (tt, params ps)
 
 at_place : (before : List Place) (x : Place) (later : List Place) → AreFollowed (before ++ x ∷ later) → IsFollowed x later
 at_place [] x later h = h.0
@@ -113,6 +122,7 @@ starts_thin : (bs : List Branch) (xs : List Place) → starts_with_separator bs 
 starts_thin bs [] h = absurd (false≢true h)
 starts_thin bs (x ∷ xs) h = at (is_update x) refl
   where
+    parts : (is_separator x ≡ true) × ((are_outer (branches_of x) bs && are_outer bs (branches_of x)) ≡ true)
     parts = and_parts (is_separator x) (are_outer (branches_of x) bs && are_outer bs (branches_of x)) h
 
     at : (u : Bool) → is_update x ≡ u → starts_with_separator (thin_branches bs) (if u then thin xs else thin_place x ∷ thin xs) ≡ true
@@ -144,8 +154,10 @@ f2 p rules before (Statement (If s c when otherwise) bs) later e i =
     x : Place
     x = Statement (If s c when otherwise) bs
 
-    one two : Branch
+    one : Branch
     one = record { guard = guard_of s c; truth = true; inside = when }
+
+    two : Branch
     two = record { guard = guard_of s c; truth = false; inside = otherwise }
 
     fork : is_fork (If s c (update_free when) (update_free otherwise)) ≡ is_fork (If s c when otherwise)
@@ -158,8 +170,9 @@ f2 p rules before (Statement (If s c when otherwise) bs) later e i =
     thin_after = drop (places_in (update_free when ∷ update_free otherwise ∷ [])) (places_after (without_update p) (thin before))
 
     there : IsFollowed x later
-    there = at_place before x later (subst AreFollowed e (params_followed p))
+    there = at_place before x later (subst AreFollowed e (places_followed p))
 
+    rest : List Place
     rest = there.0
 
     after_rest : after ≡ rest

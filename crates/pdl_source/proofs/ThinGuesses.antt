@@ -1,17 +1,17 @@
 -- The rules on calls and guesses are the same of a source without its updates, but those on updates, which it can't break.
-use Rattle.std.proofs.Common.{◌≡◌, refl, sym, ap, ap₂, ◌∙◌, ℕ, Bool, true, false, ◌&&◌, ◌||◌, not, ◌==◌, nat_lt, bytes_eq, List, [], ◌∷◌, Option, true≢false}
+use Rattle.std.proofs.Common.{◌≡◌, refl, ap, ap₂, ◌∙◌, ℕ, Bool, true, false, ◌&&◌, ◌||◌, not, ◌==◌, nat_lt, bytes_eq, List, [], ◌∷◌, true≢false}
 use Rattle.std.specs.List.{list_any}
 use Rattle.std.proofs.Math.Bool.{and-false}
-use Rattle.pdl_semantics.specs.Tree.{Ident, Location, W, Stmt, Separator, SpecCall, Release, If, Call, Update, Pipe}
+use Rattle.pdl_semantics.specs.Tree.{Ident, Location, W, Stmt, Separator, SpecCall, Release, Call, Update, Pipe}
 use Rattle.pdl_semantics.specs.UpdateFree.{without_update}
-use Rattle.pdl_rules.specs.Places.{Guard, Place, Parameter, Statement, End, at_statement, places, paths, on_path}
+use Rattle.pdl_rules.specs.Places.{Guard, Place, Parameter, Statement, End, places, paths, on_path}
 use Rattle.pdl_rules.specs.Forms.{releases, guesses, verifies, updates, bars}
 use Rattle.pdl_rules.specs.Parts.{is_some_and}
 use Rattle.pdl_rules.specs.Calls.{calls, is_call, calls_again, is_wrong_call, breaks_s1}
-use Rattle.pdl_rules.specs.Locks.{is_held_for, hold_after}
-use Rattle.pdl_rules.specs.Stages.{stage_in, stage_of, first_stage, stages_that, is_elsewhere}
-use Rattle.pdl_rules.specs.Speculation.{is_verify, verify_stage, is_before_verify, is_verify_of, verify_stages, is_once_after, breaks_s2, breaks_s3, is_barrier, breaks_s4, acts_unsure, needs_check, checks, is_check, is_checked, breaks_s5, is_update, is_amiss, breaks_s6, breaks_s7}
-use Rattle.pdl_source.proofs.ThinPlaces.{thin_stmt, thin_place, thin, places_thin, Stays, thin_same, thin_at, stays_place, stays_at, any_thin, on_path_thin, some_path_thin, each_path_thin}
+use Rattle.pdl_rules.specs.Locks.{is_held_for}
+use Rattle.pdl_rules.specs.Stages.{stage_of, first_stage, stages_that, is_elsewhere}
+use Rattle.pdl_rules.specs.Speculation.{is_verify, verify_stage, is_before_verify, is_verify_of, verify_stages, is_once_after, breaks_s2, breaks_s3, is_barrier, releases_unsure, breaks_s4, acts_unsure, needs_check, checks, is_check, is_checked, breaks_s5, is_update, is_amiss, breaks_s6, breaks_s7}
+use Rattle.pdl_source.proofs.ThinPlaces.{thin_stmt, thin_place, thin, places_thin, Stays, thin_same, thin_at, stays_at, any_thin, on_path_thin, some_path_thin, each_path_thin}
 use Rattle.pdl_source.proofs.ThinStages.{in_thin, of_thin, first_thin, that_thin, elsewhere_thin}
 use Rattle.pdl_source.proofs.ThinLocks.{hold_thin}
 
@@ -20,7 +20,7 @@ calls_stay = stays_at calls (λ s c w o. refl) (λ s g args. refl)
 
 -- S1 is broken at the same places
 pub s1 : (p : Pipe) (before : List Place) (x : Place) → breaks_s1 (without_update p) (thin before) (thin_place x) ≡ breaks_s1 p before x
-s1 p before x = some_path_thin p _ _ before x (λ earlier. wrong earlier x)
+s1 p before x = some_path_thin p _ (λ earlier. is_wrong_call earlier (thin_place x)) before x (λ earlier. wrong earlier x)
   where
     again : (earlier : List Place) (s : Stmt) → calls_again (thin earlier) s ≡ calls_again earlier s
     again earlier (SpecCall s g args) = any_thin is_call calls_stay earlier
@@ -91,7 +91,7 @@ releases_alike f g same _ = refl
 pub s4 : (p : Pipe) (before : List Place) (x : Place) → breaks_s4 (without_update p) (thin before) (thin_place x) ≡ breaks_s4 p before x
 s4 p before x =
     ap₂ (λ a b. a && b) (before_thin p before x)
-    (some_path_thin p _ _ before x
+    (some_path_thin p _ (λ earlier. releases_unsure earlier (thin_place x)) before x
     (λ earlier. thin_at false _ _
     (λ s bs. releases_alike _ _ (λ at. ap₂ (λ h b. is_held_for W h && not b) (hold_thin at earlier) (any_thin is_barrier barriers_stay earlier)) s) x))
 
@@ -111,10 +111,9 @@ checked_thin path before s =
 -- S5 is broken at the same places
 pub s5 : (p : Pipe) (before : List Place) (x : Place) → breaks_s5 (without_update p) (thin before) (thin_place x) ≡ breaks_s5 p before x
 s5 p before x =
-    ap₂ (λ a b. a && b) (needs_stay.same x)
-    (ap₂ (λ a b. a && b) (before_thin p before x)
+    ap₂ (λ a b. a && b) (ap₂ (λ a b. a && b) (needs_stay.same x) (before_thin p before x))
     (each_path_thin p _ _ x
-    (λ path. ap (λ s. not (is_checked path (thin before) s)) (of_thin before x) ∙ ap not (checked_thin path before (stage_of before x)))))
+    (λ path. ap (λ s. not (is_checked path (thin before) s)) (of_thin before x) ∙ ap not (checked_thin path before (stage_of before x))))
 
 -- UPDATES
 

@@ -1,15 +1,15 @@
 -- The rules on locks are the same of a source without its updates.
-use Rattle.std.proofs.Common.{◌≡◌, refl, sym, ap, ap₂, ◌∙◌, ℕ, suc, Bool, true, false, ◌&&◌, ◌||◌, not, ◌==◌, nat_lt, nat_le, bytes_eq, List, [], ◌∷◌, ◌++◌, fold, count_by, if◌then◌else◌, Option, Some, None}
+use Rattle.std.proofs.Common.{◌≡◌, refl, sym, ap, ap₂, ◌∙◌, ℕ, Bool, true, false, ◌&&◌, not, ◌==◌, nat_lt, nat_le, bytes_eq, List, [], ◌∷◌, ◌++◌, if◌then◌else◌, Option, Some, None}
 use Rattle.std.specs.List.{list_any}
 use mathlib.Core.Path.{fun_ext}
 use Rattle.std.proofs.lemmas.Bool.{false≢true}
-use Rattle.pdl_semantics.specs.Tree.{Location, Kind, R, W, Stmt, Separator, CombRead, DelayedRead, Write, Reserve, Block, Release, If, Update, Pipe}
+use Rattle.pdl_semantics.specs.Tree.{Location, Kind, R, W, Stmt, Separator, CombRead, DelayedRead, Write, Reserve, Block, Release, Update, Pipe}
 use Rattle.pdl_semantics.specs.Flatten.{is_advisory_mem}
 use Rattle.pdl_semantics.specs.UpdateFree.{without_update}
-use Rattle.pdl_rules.specs.Places.{Guard, Place, Parameter, Statement, End, at_statement, places, places_after, paths, on_path}
+use Rattle.pdl_rules.specs.Places.{Guard, Place, Parameter, Statement, End, at_statement, places, places_after}
 use Rattle.pdl_rules.specs.Forms.{writes, reserves, releases}
 use Rattle.pdl_rules.specs.Parts.{parts_of, is_some_and}
-use Rattle.pdl_rules.specs.Locks.{is_locked, same_location, same_kind, Hold, Nothing, after_statement, after_place, hold_after, is_reserved, is_blocked, is_blocked_for, is_held_for, acts_unheld, breaks_l1, is_reserve_of, is_write_of, reads_late, breaks_l3, most_reservations, breaks_l4, reserves_location, breaks_l5, writes_location, is_not_written, first_reserved, is_out_of_turn, writes_wrongly, breaks_l6, is_unreleased, leaves_open, ends_open, breaks_l7}
+use Rattle.pdl_rules.specs.Locks.{is_locked, same_location, same_kind, Hold, Nothing, after_statement, after_place, hold_after, is_reserved, is_blocked, is_blocked_for, is_held_for, acts_unheld, lacks_hold, breaks_l1, is_reserve_of, is_write_of, reads_late, is_late_read, breaks_l3, most_reservations, is_one_too_many, breaks_l4, reserves_location, is_reserved_again, breaks_l5, writes_location, first_reserved, is_out_of_turn, writes_wrongly, is_not_written_once, breaks_l6, is_unreleased, leaves_open, ends_open, breaks_l7}
 use Rattle.pdl_rules.specs.Stages.{stage_after, stage_in, first_stage, reserves_memory, releases_memory, moves_stage, breaks_l2, next_on, is_bound_late, binds_late, breaks_l8}
 use Rattle.pdl_rules.specs.Speculation.{is_update}
 use Rattle.pdl_source.proofs.ThinPlaces.{thin_stmt, thin_place, thin, places_thin, Stays, thin_same, thin_at, stays_at, any_thin, count_thin, fold_thin, some_path_thin, each_path_thin}
@@ -31,7 +31,7 @@ hold_thin at xs = fold_thin (after_place at) same none Nothing xs
 -- L1 is broken at the same places
 pub l1 : (p : Pipe) (before : List Place) (x : Place) → breaks_l1 (without_update p) (thin before) (thin_place x) ≡ breaks_l1 p before x
 l1 p before x =
-    some_path_thin p _ _ before x
+    some_path_thin p _ (λ earlier. lacks_hold (without_update p) earlier (thin_place x)) before x
     (λ earlier. thin_at false _ _ (λ s bs. held earlier (thin_stmt s) ∙ thin_same (acts_unheld p.mems earlier) (λ s c w o. refl) s) x)
   where
     held : (earlier : List Place) (s : Stmt) → acts_unheld p.mems (thin earlier) s ≡ acts_unheld p.mems earlier s
@@ -71,7 +71,7 @@ write_of_stays m = stays_at (λ s. writes (λ at e. bytes_eq at.mem.name m) s) (
 -- L3 is broken at the same places
 pub l3 : (p : Pipe) (before : List Place) (x : Place) → breaks_l3 (without_update p) (thin before) (thin_place x) ≡ breaks_l3 p before x
 l3 p before x =
-    some_path_thin p _ _ before x
+    some_path_thin p _ (λ earlier. is_late_read (without_update p) earlier (thin_place x)) before x
     (λ earlier. thin_at false _ _ (λ s bs. late earlier (thin_stmt s) ∙ thin_same (reads_late p.mems earlier) (λ s c w o. refl) s) x)
   where
     late : (earlier : List Place) (s : Stmt) → reads_late p.mems (thin earlier) s ≡ reads_late p.mems earlier s
@@ -92,7 +92,7 @@ reserves_alike f g same _ = refl
 -- L4 is broken at the same places
 pub l4 : (p : Pipe) (before : List Place) (x : Place) → breaks_l4 (without_update p) (thin before) (thin_place x) ≡ breaks_l4 p before x
 l4 p before x =
-    some_path_thin p _ _ before x
+    some_path_thin p _ (λ earlier. is_one_too_many (without_update p) earlier (thin_place x)) before x
     (λ earlier. thin_at false _ _
     (λ s bs. reserves_alike _ _
     (λ at k. ap (λ n. nat_le (most_reservations p.mems k at.mem.name) n)
@@ -104,7 +104,7 @@ reserved_stays l = stays_at (λ s. reserves (λ at k. same_location at l) s) (λ
 -- L5 is broken at the same places
 pub l5 : (p : Pipe) (before : List Place) (x : Place) → breaks_l5 (without_update p) (thin before) (thin_place x) ≡ breaks_l5 p before x
 l5 p before x =
-    some_path_thin p _ _ before x
+    some_path_thin p _ (λ earlier. is_reserved_again earlier (thin_place x)) before x
     (λ earlier. thin_at false _ _ (λ s bs. reserves_alike _ _ (λ at k. any_thin (reserves_location at) (reserved_stays at) earlier) s) x)
 
 written_stays : (l : Location) → Stays (writes_location l)
@@ -132,7 +132,7 @@ first_reserved_thin m (x ∷ xs) =
 -- L6 is broken at the same places
 pub l6 : (p : Pipe) (before : List Place) (x : Place) → breaks_l6 (without_update p) (thin before) (thin_place x) ≡ breaks_l6 p before x
 l6 p before x =
-    some_path_thin p _ _ before x
+    some_path_thin p _ (λ earlier. is_not_written_once earlier (thin_place x)) before x
     (λ earlier. thin_at false _ _ (λ s bs. wrong earlier (thin_stmt s) ∙ thin_same (writes_wrongly earlier) (λ s c w o. refl) s) x)
   where
     turn : (at : Location) (earlier : List Place) (o : Option Location) → is_out_of_turn at (thin earlier) o ≡ is_out_of_turn at earlier o
@@ -148,12 +148,12 @@ l6 p before x =
     wrong earlier _ = refl
 
 -- whether a place reserves a location of which this is told
-asks_of : (Location → Bool) → Place → Bool
+abbrev asks_of : (Location → Bool) → Place → Bool
 asks_of test x = at_statement false (λ s bs. reserves (λ at k. test at) s) x
 
 -- L7 is broken at the same places
 pub l7 : (p : Pipe) (before : List Place) (x : Place) → breaks_l7 (without_update p) (thin before) (thin_place x) ≡ breaks_l7 p before x
-l7 p before x = some_path_thin p _ _ before x (λ earlier. ends earlier x)
+l7 p before x = some_path_thin p _ (λ earlier. ends_open earlier (thin_place x)) before x (λ earlier. ends earlier x)
   where
     open' : (earlier : List Place) → list_any (leaves_open (thin earlier)) (thin earlier) ≡ list_any (leaves_open earlier) earlier
     open' earlier =

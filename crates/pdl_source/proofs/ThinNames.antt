@@ -1,18 +1,18 @@
 -- The limits and the rules on names, widths and advice are the same of a source without its updates.
-use Rattle.std.proofs.Common.{◌≡◌, refl, sym, ap, ap₂, ◌∙◌, ℕ, suc, ◌+◌, ◌≤◌, ◌<◌, Bool, true, false, ◌&&◌, ◌||◌, not, ◌==◌, bytes_eq, List, [], ◌∷◌, ◌++◌, map, fold, length, count_by, if◌then◌else◌, Option, Some, None, subst, append_assoc, append-nil, arith}
+use Rattle.std.proofs.Common.{◌≡◌, refl, sym, ap, ap₂, ◌∙◌, ℕ, ◌+◌, ◌≤◌, Bool, true, false, ◌&&◌, ◌||◌, not, ◌==◌, bytes_eq, List, [], ◌∷◌, ◌++◌, map, fold, length, count_by, if◌then◌else◌, None, subst, append_assoc, append-nil, arith}
 use Rattle.std.specs.List.{list_any}
 use mathlib.Core.Path.{fun_ext}
 use Rattle.std.proofs.lemmas.Bool.{false≢true, eqb-false, ne_eqb}
 use Rattle.pdl_kit.specs.declared.rule.Rule.TheVariants.{Z2}
-use Rattle.pdl_semantics.specs.Tree.{Literal, Expr, Location, Stmt, Separator, CombRead, Bind, SpecCall, DelayedRead, Write, Reserve, Block, Release, If, Call, Verify, Update, Mem, Pipe}
+use Rattle.pdl_semantics.specs.Tree.{Literal, Expr, Location, Stmt, Separator, CombRead, DelayedRead, Write, Reserve, Block, Release, If, Call, Verify, Update, Pipe}
 use Rattle.pdl_semantics.specs.Flatten.{Var, var_width, mem_width, width_of, is_advisory_mem, is_advised_var, is_advised}
 use Rattle.pdl_semantics.specs.UpdateFree.{without_update}
-use Rattle.pdl_rules.specs.Places.{Guard, guard_of, is_among, Place, Parameter, Memory, Statement, End, StartClause, at_statement, guards, places}
+use Rattle.pdl_rules.specs.Places.{Guard, guard_of, is_among, Place, Parameter, Statement, StartClause, at_statement, guards, places}
 use Rattle.pdl_rules.specs.Forms.{of_if, fetches, writes}
-use Rattle.pdl_rules.specs.Parts.{Expressions, NoExpressions, One, Arguments, parts_of, some_part, is_some_and, some_expr_of, some_expr, of_constant, some_literal, location_of, some_location}
+use Rattle.pdl_rules.specs.Parts.{Expressions, NoExpressions, One, Arguments, parts_of, some_part, is_some_and, some_expr_of, some_expr, of_constant, some_literal, location_of}
 use Rattle.pdl_rules.specs.Limits.{is_statement, breaks_z2, is_separator, breaks_z3, is_memory, breaks_z4, binds_name, is_binding, breaks_z5, breaks_z6, is_wrong_literal, breaks_z7}
 use Rattle.pdl_rules.specs.Names.{Use, OfVariable, OfMemory, OfGuess, name_of, bound_by, variable_at, memory_at, guess_at, either_name, name_at, defines_use, uses_some, some_use, names_another_pipe, is_undefined, breaks_n1, is_taken_name, breaks_n2, needs_definition, is_delayed, is_given, is_too_early, breaks_n3}
-use Rattle.pdl_rules.specs.Widths.{after_statement, after_place, variables, is_unequal, breaks_w1, is_too_large, is_out_of_range, breaks_w2, is_wide_choice, is_wide_if, breaks_w3, mem_depth, address_bits, breaks_w4, are_no_arguments, has_wrong_arguments, breaks_w5, breaks_w6}
+use Rattle.pdl_rules.specs.Widths.{after_statement, after_place, variables, is_unequal, breaks_w1, is_too_large, is_out_of_range, breaks_w2, is_wide_choice, breaks_w3, mem_depth, address_bits, breaks_w4, are_no_arguments, has_wrong_arguments, breaks_w5, breaks_w6}
 use Rattle.pdl_rules.specs.Advice.{uses_advice, breaks_p1}
 use Rattle.pdl_rules.specs.Forks.{is_wrong_read, breaks_f4}
 use Rattle.pdl_rules.specs.Locks.{lacks_lock, breaks_f5}
@@ -119,7 +119,7 @@ pub z5 : (before : List Place) (x : Place) → breaks_z5 (thin before) (thin_pla
 z5 before x = ap₂ (λ a n. a && (n == 512)) (bindings_stay.same x) (count_thin is_binding bindings_stay before)
 
 -- whether an `if` has a guard beside these ten
-one_more : List Guard → Stmt → Bool
+abbrev one_more : List Guard → Stmt → Bool
 one_more gs s = of_if false (λ from c. not (is_among (guard_of from c) gs) && (length gs == 10)) s
 
 -- Z6 is broken at the same places
@@ -268,7 +268,7 @@ w3 p x =
     (ap (λ vs. some_expr (some_part (is_wide_choice vs)) (thin_place x)) (vars_thin p) ∙ exprs_thin (some_part (is_wide_choice (variables p))) x)
 
 -- whether the address of a location is wrong, by the variables
-wrong_address : Pipe → List Var → Location → Bool
+abbrev wrong_address : Pipe → List Var → Location → Bool
 wrong_address p vs at = not (var_width vs at.address.name == address_bits (mem_depth p.mems at.mem.name))
 
 -- W4 is broken at the same places

@@ -1,5 +1,5 @@
 -- The places of a source without its updates are those of the source but for the updates, each without updates inside; what rules ask of places is the same of these.
-use Rattle.std.proofs.Common.{◌≡◌, refl, sym, ap, ap₂, ◌∙◌, subst, ℕ, suc, ◌+◌, Bool, true, false, ◌&&◌, ◌||◌, List, [], ◌∷◌, ◌++◌, map, filter, fold, length, count_by, if◌then◌else◌, append_assoc, Option, Some, None}
+use Rattle.std.proofs.Common.{◌≡◌, refl, sym, ap, ap₂, ◌∙◌, ◌+◌, Bool, true, false, ◌&&◌, ◌||◌, List, [], ◌∷◌, ◌++◌, map, filter, fold, count_by, if◌then◌else◌, arith}
 use Rattle.std.specs.List.{list_any, list_all}
 use mathlib.Core.Path.{fun_ext}
 use Rattle.std.proofs.lemmas.Bool.{false≢true}
@@ -70,14 +70,12 @@ mutual
       let first : Branch = record { guard = guard_of s c; truth = true; inside = when } in
       let second : Branch = record { guard = guard_of s c; truth = false; inside = otherwise } in
       ap (λ xs. (Statement (If s c (update_free when) (update_free otherwise)) (thin_branches bs) ∷ xs) ++ statements (thin_branches bs) rest)
-      (ap₂ (λ a b. a ++ b) (thin_in bs first when) (thin_in bs second otherwise)
+      (ap₂ (λ a b. a ++ b)
+      (ap (λ cs. statements cs (update_free when)) (sym (map-append thin_branch bs (first ∷ []))) ∙ thin_statements (bs ++ first ∷ []) when)
+      (ap (λ cs. statements cs (update_free otherwise)) (sym (map-append thin_branch bs (second ∷ []))) ∙ thin_statements (bs ++ second ∷ []) otherwise)
       ∙ sym (thin_both (statements (bs ++ first ∷ []) when) (statements (bs ++ second ∷ []) otherwise)))
   thin_inner bs (Separator s) rest = refl
   thin_inner bs _ rest = refl
-
-  pub thin_in : (bs : List Branch) (b : Branch) (ss : Stmts)
-      → statements (thin_branches bs ++ thin_branch b ∷ []) (update_free ss) ≡ thin (statements (bs ++ b ∷ []) ss)
-  thin_in bs b ss = ap (λ cs. statements cs (update_free ss)) (sym (map-append thin_branch bs (b ∷ []))) ∙ thin_statements (bs ++ b ∷ []) ss
 
   thin_statements : (bs : List Branch) (ss : Stmts) → statements (thin_branches bs) (update_free ss) ≡ thin (statements bs ss)
   thin_statements bs Nil = refl
@@ -85,9 +83,14 @@ mutual
       thin_inner bs s (update_free ss) ∙ ap (λ xs. thin (with_inner bs s) ++ xs) (thin_statements bs ss)
       ∙ sym (thin_both (with_inner bs s) (statements bs ss))
 
-thin_params : (as : List Param) → map Parameter as ≡ thin (map Parameter as)
+-- what stands in one branch more
+pub thin_in : (bs : List Branch) (b : Branch) (ss : Stmts)
+    → statements (thin_branches bs ++ thin_branch b ∷ []) (update_free ss) ≡ thin (statements (bs ++ b ∷ []) ss)
+thin_in bs b ss = ap (λ cs. statements cs (update_free ss)) (sym (map-append thin_branch bs (b ∷ []))) ∙ thin_statements (bs ++ b ∷ []) ss
+
+thin_params : (ps : List Param) → map Parameter ps ≡ thin (map Parameter ps)
 thin_params [] = refl
-thin_params (a ∷ as) = ap (λ xs. Parameter a ∷ xs) (thin_params as)
+thin_params (a ∷ ps) = ap (λ xs. Parameter a ∷ xs) (thin_params ps)
 
 thin_mems : (ms : List Mem) → map Memory ms ≡ thin (map Memory ms)
 thin_mems [] = refl
@@ -194,10 +197,10 @@ thin_at other f g inner _ = refl
 -- a test of places by their statements
 pub stays_place : (test : Place → Bool) → ((x : Place) → test (thin_place x) ≡ test x)
     → ((s : Span) (g : Ident) (args : List Expr) (bs : List Branch) → test (Statement (Update s g args) bs) ≡ false) → Stays test
-stays_place test same no = record { same = same; none = none }
+stays_place test same never = record { same = same; none = none }
   where
     none : (x : Place) → is_update x ≡ true → test x ≡ false
-    none (Statement (Update s g args) bs) h = no s g args bs
+    none (Statement (Update s g args) bs) h = never s g args bs
     none (Statement _ bs) h = absurd (false≢true h)
     none (Parameter a) h = absurd (false≢true h)
     none _ h = absurd (false≢true h)
@@ -206,8 +209,9 @@ stays_place test same no = record { same = same; none = none }
 pub stays_at : (f : Stmt → Bool)
     → ((s : Span) (c : Expr) (when otherwise : Stmts) → f (If s c (update_free when) (update_free otherwise)) ≡ f (If s c when otherwise))
     → ((s : Span) (g : Ident) (args : List Expr) → f (Update s g args) ≡ false) → Stays (λ x. at_statement false (λ s bs. f s) x)
-stays_at f inner no =
-    stays_place (λ x. at_statement false (λ s bs. f s) x) (thin_at false (λ s bs. f s) (λ s bs. f s) (λ s bs. thin_same f inner s)) (λ s g args bs. no s g args)
+stays_at f inner never =
+    stays_place (λ x. at_statement false (λ s bs. f s) x)
+    (thin_at false (λ s bs. f s) (λ s bs. f s) (λ s bs. thin_same f inner s)) (λ s g args bs. never s g args)
 
 -- LISTS OF PLACES
 
@@ -228,7 +232,10 @@ count_thin test stays (x ∷ xs) = at (is_update x) refl (count_thin test stays 
   where
     at : (u : Bool) → is_update x ≡ u → count_by test (thin xs) ≡ count_by test xs
         → count_by test (if u then thin xs else thin_place x ∷ thin xs) ≡ count_by test (x ∷ xs)
-    at true i e = e ∙ sym (count_cons test x xs ∙ ap (λ b. weight b + count_by test xs) (stays.none x i))
+    at true i e =
+        let here : count_by test (x ∷ xs) ≡ weight (test x) + count_by test xs = count_cons test x xs in
+        let none : weight (test x) ≡ 0 = ap weight (stays.none x i) in
+        omega (arith, e, here, none)
     at false i e =
         count_cons test (thin_place x) (thin xs) ∙ ap₂ (λ b n. weight b + n) (stays.same x) e ∙ sym (count_cons test x xs)
 
@@ -277,6 +284,7 @@ pub earlier_thin : (path : List Guard) (xs : List Place) → filter (on_path pat
 earlier_thin path [] = refl
 earlier_thin path (x ∷ xs) = at (is_update x) (on_path path x) refl (on_path_thin path x) (earlier_thin path xs)
   where
+    keep : List Place → List Place
     keep = filter (on_path path)
 
     at : (u k : Bool) → is_update x ≡ u → on_path path (thin_place x) ≡ k → keep (thin xs) ≡ thin (keep xs)

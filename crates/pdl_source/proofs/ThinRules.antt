@@ -1,5 +1,5 @@
 -- A source that breaks no rule breaks none without its updates.
-use Rattle.std.proofs.Common.{◌≡◌, refl, sym, ap, ◌∙◌, subst, Bool, false, List, ◌∷◌, ◌++◌}
+use Rattle.std.proofs.Common.{◌≡◌, refl, sym, ap, ◌∙◌, false, List, ◌∷◌, ◌++◌}
 use Rattle.pdl_kit.specs.declared.rule.Rule.{Rule}
 use Rattle.pdl_kit.specs.declared.rule.Rule.TheVariants.{G1, Z2, Z3, Z4, Z5, Z6, Z7, N1, N2, N3, W1, W2, W3, W4, W5, W6, F1, F2, F3, F4, F5, L1, L2, L3, L4, L5, L6, L7, L8, S1, S2, S3, S4, S5, S6, S7, P1}
 use Rattle.pdl_semantics.specs.Tree.{Pipe}
@@ -7,7 +7,7 @@ use Rattle.pdl_semantics.specs.UpdateFree.{without_update}
 use Rattle.pdl_rules.specs.Places.{Place, places}
 use Rattle.pdl_rules.specs.Refusal.{breaks_rule, KeepsRules}
 use Rattle.pdl_rules.specs.Speculation.{is_update}
-use Rattle.pdl_source.proofs.ThinPlaces.{thin_place, thin, places_thin, IsLeft, is_left}
+use Rattle.pdl_source.proofs.ThinPlaces.{thin_place, thin, places_thin, is_left}
 use Rattle.pdl_source.proofs.ThinNames as names
 use Rattle.pdl_source.proofs.ThinForks as forks
 use Rattle.pdl_source.proofs.ThinLocks as locks

@@ -1,8 +1,7 @@
 -- The stages of the places of a source without its updates are those that they have with them.
-use Rattle.std.proofs.Common.{◌≡◌, refl, sym, ap, ap₂, ◌∙◌, ℕ, suc, Bool, true, false, ◌&&◌, ◌||◌, not, ◌==◌, List, [], ◌∷◌, ◌++◌, map, length, drop, take, if◌then◌else◌, append-nil, Option, Some}
-use Rattle.std.specs.List.{list_any}
+use Rattle.std.proofs.Common.{◌≡◌, refl, sym, ap, ap₂, ◌∙◌, ℕ, suc, Bool, true, false, ◌&&◌, not, ◌==◌, List, [], ◌∷◌, ◌++◌, length, drop, if◌then◌else◌, append-nil, Some}
 use Rattle.std.proofs.lemmas.Bool.{false≢true}
-use Rattle.pdl_semantics.specs.Tree.{Stmt, Separator, If, Update, Pipe}
+use Rattle.pdl_semantics.specs.Tree.{Pipe}
 use Rattle.pdl_semantics.specs.UpdateFree.{without_update}
 use Rattle.pdl_rules.specs.Places.{Guard, Branch, Place, Parameter, Statement, on_path, places, places_after}
 use Rattle.pdl_rules.specs.Parts.{is_some_and}
@@ -10,7 +9,7 @@ use Rattle.pdl_rules.specs.Forms.{separates}
 use Rattle.pdl_rules.specs.Limits.{is_separator}
 use Rattle.pdl_rules.specs.Speculation.{is_update}
 use Rattle.pdl_rules.specs.Stages.{stage_after, branches_of, same_branch, are_outer, stage_from, stage_in, stage_of, first_stage, stages_that, is_elsewhere, next_on}
-use Rattle.pdl_source.proofs.ThinPlaces.{thin_branch, thin_branches, thin_place, thin, thin_both, places_thin, Stays, stays_at, thin_at, count_thin, on_path_thin}
+use Rattle.pdl_source.proofs.ThinPlaces.{thin_branches, thin_place, thin, thin_both, places_thin, Stays, stays_at, count_thin, on_path_thin}
 
 -- a separator stays one
 pub separators_stay : Stays is_separator

@@ -39,7 +39,12 @@ fn locks_of(alloc: Global, pipe: &Pipe, guards: &Guards, places: &[Place<'_>]) -
 }
 
 // The stages of the verifies and of the updates.
-fn checks_of(alloc: Global, pipe: &Pipe, guards: &Guards, places: &[Place<'_>]) -> [Option<usize>; 2]
+fn checks_of(
+    alloc: Global,
+    pipe: &Pipe,
+    guards: &Guards,
+    places: &[Place<'_>],
+) -> [Option<usize>; 2]
     requires few { length guards.now ≤ 10 }
     requires own { guards.now ≡ spec_guards (map place_view places.now) }
     requires masks { AreMasked guards.now places.now }

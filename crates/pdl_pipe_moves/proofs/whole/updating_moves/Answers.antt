@@ -27,13 +27,15 @@ use Rattle.pdl_pipe_moves.proofs.StageSquashes.{squash_keep}
 use Rattle.pdl_pipe_moves.proofs.MovedStages.{move_later, moved_updated}
 use Rattle.pdl_pipe_moves.proofs.whole.updating_moves.Goals as goal
 
-pub verified-requires-clause-low : goal.verified-requires-clause-low
-verified-requires-clause-low c =
+pub verified_moves-requires-clause-low : goal.verified_moves-requires-clause-low
+verified_moves-requires-clause-low c =
     let l = update_before (line_pipe c.args.line.now).stmts c.args.u c.args.v c.requires.update c.requires.stage in omega (arith, l)
 
 pub stage_squash-requires-clause-line : goal.stage_squash-requires-clause-line
 stage_squash-requires-clause-line c =
-    line_keep c.args.b.now c.verified.new.b c.args.line.now (extends_keeps c.args.b.now c.verified.new.b c.verified.ensures.extends) c.requires.line
+    let a = c.args.b.now in
+    let b = c.verified_moves.new.b in
+    line_keep a b c.args.line.now (extends_keeps a b c.verified_moves.ensures.extends) c.requires.line
 
 pub stage_squash-requires-clause-low : goal.stage_squash-requires-clause-low
 stage_squash-requires-clause-low c =
@@ -46,32 +48,32 @@ stage_squash-requires-clause-moves c =
     let l = update_before (line_pipe c.args.line.now).stmts c.args.u c.args.v c.requires.update c.requires.stage in
     let m = c.requires.low in
     let n = it.moves_count in
-    subst (IsBit c.verified.new.b)
+    subst (IsBit c.verified_moves.new.b)
     (sym (c.net_of-own.ensures ∙ ap (λ ns. net_at ns c.args.u) c.as_slice.ensures.value))
-    (net_bit c.verified.new.b c.in_ok-made.made.found.moves.items c.args.u (omega (arith, l, m, n)) it.moves)
+    (net_bit c.verified_moves.new.b c.in_ok-made.made.found.moves.items c.args.u (omega (arith, l, m, n)) it.moves)
 
 pub pass_down-requires-clause-line : goal.pass_down-requires-clause-line
 pass_down-requires-clause-line c =
     let a = c.args.b.now in
     let b = c.stage_squash.new.b in
     line_keep a b c.args.line.now
-    (extends_keeps a b (extends_trans a c.verified.new.b b c.verified.ensures.extends c.stage_squash.ensures.extends)) c.requires.line
+    (extends_keeps a b (extends_trans a c.verified_moves.new.b b c.verified_moves.ensures.extends c.stage_squash.ensures.extends)) c.requires.line
 
 pub pass_down-requires-clause-stand : goal.pass_down-requires-clause-stand
 pass_down-requires-clause-stand c =
     let a = c.args.b.now in
     let b = c.stage_squash.new.b in
     ports_stand a b (line_pipe c.args.line.now) c.args.line.now.shared.now.ports.now
-    (extends_keeps a b (extends_trans a c.verified.new.b b c.verified.ensures.extends c.stage_squash.ensures.extends)) c.requires.stand
+    (extends_keeps a b (extends_trans a c.verified_moves.new.b b c.verified_moves.ensures.extends c.stage_squash.ensures.extends)) c.requires.stand
 
 pub pass_down-requires-clause-controls : goal.pass_down-requires-clause-controls
 pass_down-requires-clause-controls c =
     let a = c.args.b.now in
-    let b1 = c.verified.new.b in
+    let b1 = c.verified_moves.new.b in
     let b2 = c.stage_squash.new.b in
     let x = c.args.line.now in
     let e12 = extends_keeps b1 b2 c.stage_squash.ensures.extends in
-    let e = keeps_trans a b1 b2 (extends_keeps a b1 c.verified.ensures.extends) e12 in
+    let e = keeps_trans a b1 b2 (extends_keeps a b1 c.verified_moves.ensures.extends) e12 in
     let first = c.in_ok-made.ensures.made.squash in
     let same = c.as_slice-2.ensures.value in
     record {
@@ -87,7 +89,7 @@ pass_down-requires-clause-controls c =
 pub pass_down-requires-clause-passed : goal.pass_down-requires-clause-passed
 pass_down-requires-clause-passed c =
     let a = c.args.b.now in
-    let b1 = c.verified.new.b in
+    let b1 = c.verified_moves.new.b in
     let b2 = c.stage_squash.new.b in
     let x = c.args.line.now in
     let u = c.args.u in
@@ -96,7 +98,7 @@ pass_down-requires-clause-passed c =
     let first = c.in_ok-made.ensures.made in
     let again = c.in_ok-again.again.happens in
     let same = c.as_slice-2.ensures.value in
-    let e1 = extends_keeps a b1 c.verified.ensures.extends in
+    let e1 = extends_keeps a b1 c.verified_moves.ensures.extends in
     let e12 = extends_keeps b1 b2 c.stage_squash.ensures.extends in
     let single : Squashes = record { verify = made.squash.happens; update = zero } in
     let calm : Controls = record { orders = c.args.orders; squashes = single; clear = c.as_slice-2.result } in
@@ -121,7 +123,7 @@ pass_down-requires-clause-passed c =
 
 pub mux-requires-clause-choice : goal.mux-requires-clause-choice
 mux-requires-clause-choice c =
-    let b1 = c.verified.new.b in
+    let b1 = c.verified_moves.new.b in
     let b2 = c.stage_squash.new.b in
     let b3 = c.pass_down.new.b in
     bit_keep b1 b3 c.in_ok-made.made.squash.happens
@@ -136,19 +138,19 @@ mux-requires-clause-b_there c =
 pub mux-requires-clause-a_there : goal.mux-requires-clause-a_there
 mux-requires-clause-a_there c =
     let a = c.args.b.now in
-    let b1 = c.verified.new.b in
+    let b1 = c.verified_moves.new.b in
     let b2 = c.stage_squash.new.b in
     let b3 = c.pass_down.new.b in
-    let e = extends_trans a b2 b3 (extends_trans a b1 b2 c.verified.ensures.extends c.stage_squash.ensures.extends) c.pass_down.ensures.extends in
+    let e = extends_trans a b2 b3 (extends_trans a b1 b2 c.verified_moves.ensures.extends c.stage_squash.ensures.extends) c.pass_down.ensures.extends in
     (constants_keep a b3 c.args.line.now.shared.now.bits (extends_keeps a b3 e) c.requires.line.shared.bits).one.there
 
 pub mux-requires-clause-widths : goal.mux-requires-clause-widths
 mux-requires-clause-widths c =
     let a = c.args.b.now in
-    let b1 = c.verified.new.b in
+    let b1 = c.verified_moves.new.b in
     let b2 = c.stage_squash.new.b in
     let b3 = c.pass_down.new.b in
-    let e = extends_trans a b2 b3 (extends_trans a b1 b2 c.verified.ensures.extends c.stage_squash.ensures.extends) c.pass_down.ensures.extends in
+    let e = extends_trans a b2 b3 (extends_trans a b1 b2 c.verified_moves.ensures.extends c.stage_squash.ensures.extends) c.pass_down.ensures.extends in
     let one = (constants_keep a b3 c.args.line.now.shared.now.bits (extends_keeps a b3 e) c.requires.line.shared.bits).one in
     let again = bit_keep b2 b3 c.in_ok-again.again.happens (extends_keeps b2 b3 c.pass_down.ensures.extends) c.in_ok-again.ensures.made.happens in
     ap (λ (f : Signal). f.width) one.same ∙ sym again.width
@@ -156,16 +158,16 @@ mux-requires-clause-widths c =
 pub joined-requires-clause-bits : goal.joined-requires-clause-bits
 joined-requires-clause-bits c =
     let a = c.args.b.now in
-    let b1 = c.verified.new.b in
+    let b1 = c.verified_moves.new.b in
     let b2 = c.stage_squash.new.b in
     let b3 = c.pass_down.new.b in
     let b4 = c.mux.new.self in
-    let e = extends_trans a b2 b3 (extends_trans a b1 b2 c.verified.ensures.extends c.stage_squash.ensures.extends) c.pass_down.ensures.extends in
+    let e = extends_trans a b2 b3 (extends_trans a b1 b2 c.verified_moves.ensures.extends c.stage_squash.ensures.extends) c.pass_down.ensures.extends in
     constants_keep a b4 c.args.line.now.shared.now.bits (extends_keeps a b4 (extends_trans a b3 b4 e c.mux.ensures.extends)) c.requires.line.shared.bits
 
 pub joined-requires-clause-first : goal.joined-requires-clause-first
 joined-requires-clause-first c =
-    let b1 = c.verified.new.b in
+    let b1 = c.verified_moves.new.b in
     let b2 = c.stage_squash.new.b in
     let b3 = c.pass_down.new.b in
     let b4 = c.mux.new.self in
@@ -190,7 +192,7 @@ joined-requires-clause-count c =
 pub returns-clause-moved : goal.returns-clause-moved
 returns-clause-moved c =
     let a = c.args.b.now in
-    let b1 = c.verified.new.b in
+    let b1 = c.verified_moves.new.b in
     let b2 = c.stage_squash.new.b in
     let b3 = c.pass_down.new.b in
     let b4 = c.mux.new.self in
@@ -210,7 +212,7 @@ returns-clause-moved c =
     let m2 = passed2.moves_count in
     let low = c.requires.low in
     let early = update_before (line_pipe x).stmts u v c.requires.update c.requires.stage in
-    let e1 = extends_keeps a b1 c.verified.ensures.extends in
+    let e1 = extends_keeps a b1 c.verified_moves.ensures.extends in
     let e12 = extends_keeps b1 b2 c.stage_squash.ensures.extends in
     let e23 = extends_keeps b2 b3 c.pass_down.ensures.extends in
     let e34 = extends_keeps b3 b4 c.mux.ensures.extends in

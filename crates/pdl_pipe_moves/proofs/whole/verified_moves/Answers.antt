@@ -19,7 +19,7 @@ use Rattle.pdl_pipe_moves.proofs.FreePorts.{net_signal}
 use Rattle.pdl_pipe_moves.proofs.AllMoves.{controls_keep, all_passed_keep, zero_bits, filled_bits, net_bit}
 use Rattle.pdl_pipe_moves.proofs.SquashedGates.{verified_late, barrier_late, passed_alike}
 use Rattle.pdl_pipe_moves.proofs.StageSquashes.{squash_keep}
-use Rattle.pdl_pipe_moves.proofs.whole.verified.Goals as goal
+use Rattle.pdl_pipe_moves.proofs.whole.verified_moves.Goals as goal
 
 pub stage_squash-requires-clause-line : goal.stage_squash-requires-clause-line
 stage_squash-requires-clause-line c =
