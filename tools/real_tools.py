@@ -20,7 +20,8 @@ import tempfile
 
 import usage
 from pdl_model import files, rules
-from random_whole import RandomPipe, random_features
+from pdl_model.forms import TAKEN
+from random_whole import RandomPipe, random_features, random_forms
 
 EXAMPLES = pathlib.Path(__file__).resolve().parent.parent / "examples"
 CYCLES = 60
@@ -231,7 +232,8 @@ def random_pipes(program, count, seed, folder):
     made, number = 0, 0
     while made < count:
         chance = random.Random(f"{seed} {number}")
-        pipe = RandomPipe(chance, random_features(chance))
+        forms = random_forms(chance, TAKEN)
+        pipe = RandomPipe(chance, random_features(chance, forms), forms)
         source = pipe.source()
         (folder / "maybe.pdl").write_text(source)
         if said([program, "check", "maybe.pdl"], folder)[0] == 0:

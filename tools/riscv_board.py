@@ -15,6 +15,7 @@ import re
 import subprocess
 import sys
 import tempfile
+from dataclasses import dataclass
 
 import usage
 from riscv_cores import CORES, OPERANDS, VERIFY_LATER, put_table
@@ -54,20 +55,41 @@ def last_write(program, folder):
     return max(int(it.split()[0]) for it in lines.splitlines() if it.split()[1:3] == ["data", str(PLACE)])
 
 
-def row(program, told, core, change):
-    """The row of a core."""
+@dataclass(frozen=True)
+class Taken:
+    """What a core takes of the HX8K, the clock of two tools in MHz, and the cycle of its result."""
+
+    tables: int
+    flops: int
+    cells: int
+    blocks: int
+    clock: float
+    by_icetime: float
+    cycle: int
+
+
+def taken(program, core, change):
+    """What a core takes, whose source is changed first."""
     with tempfile.TemporaryDirectory() as name:
         folder = pathlib.Path(name)
         board.make(program, core, IMAGE.read_text(), PLACE, folder, changed(change))
         cells, log = (folder / "cells.txt").read_text(), (folder / "nextpnr.log").read_text()
-        tables = int(re.search(r"SB_LUT4 +(\d+)", cells)[1])
-        flops = sum(map(int, re.findall(r"SB_DFF\w* +(\d+)", cells)))
-        used = {it: int(re.search(rf"{it}: +(\d+)", log)[1]) for it in ("ICESTORM_LC", "ICESTORM_RAM")}
-        clock = float(re.findall(r"Max frequency for clock .*?: ([\d.]+) MHz", log)[-1])
-        by_icetime = float(re.findall(r"Timing estimate: .*\(([\d.]+) MHz\)", (folder / "icetime.log").read_text())[-1])
-        cycle = last_write(program, folder)
-    return (f"| {told} | {tables:,} | {flops} | {used['ICESTORM_LC']:,} | {used['ICESTORM_RAM']} | {clock:.1f} | {by_icetime:.1f} "
-            f"| {cycle:,} | {cycle / clock:.0f} |")
+        timing = (folder / "icetime.log").read_text()
+        return Taken(
+            tables=int(re.search(r"SB_LUT4 +(\d+)", cells)[1]),
+            flops=sum(map(int, re.findall(r"SB_DFF\w* +(\d+)", cells))),
+            cells=int(re.search(r"ICESTORM_LC: +(\d+)", log)[1]),
+            blocks=int(re.search(r"ICESTORM_RAM: +(\d+)", log)[1]),
+            clock=float(re.findall(r"Max frequency for clock .*?: ([\d.]+) MHz", log)[-1]),
+            by_icetime=float(re.findall(r"Timing estimate: .*\(([\d.]+) MHz\)", timing)[-1]),
+            cycle=last_write(program, folder))
+
+
+def row(program, told, core, change):
+    """The row of a core."""
+    it = taken(program, core, change)
+    return (f"| {told} | {it.tables:,} | {it.flops} | {it.cells:,} | {it.blocks} | {it.clock:.1f} | {it.by_icetime:.1f} "
+            f"| {it.cycle:,} | {it.cycle / it.clock:.0f} |")
 
 
 def main():

@@ -53,9 +53,17 @@ VERSIONS = (
     Version("with a guess", "rv32i_guess.pdl", 3),
     Version("with delayed memories", "rv32i_delayed.pdl", 3),
     Version("the same, slow", "rv32i_delayed.pdl", 5, slow=True),
+    Version("with a second guess", "rv32i_update.pdl", 3),
+    Version("the same, slow", "rv32i_update.pdl", 5, slow=True),
     Version("with a multiplier in an inner branch", "rv32im.pdl", 4),
 )
-SINGLE, FIVE, GUESS, DELAYED, LATE, MULTIPLIES = VERSIONS
+SINGLE, FIVE, GUESS, DELAYED, LATE, UPDATED, LATER, MULTIPLIES = VERSIONS
+# It begins at another address, and an ECALL is no end there: it runs programs of its own.
+TRAPS = Version("with traps", "rv32i_traps.pdl", 6)
+
+# The memories that are written, in the order in which a digest has them, and where the cause of a trap stands in `csr`.
+WRITTEN = ("x", "data", "csr")
+MCAUSE = 10
 
 # What can be guessed, and the line that guesses it.
 GUESS_LINE = r"(?m)^    next = spec_call\(.*\);$"
@@ -110,8 +118,8 @@ class Run:
         return [(int(address), int(value, 16)) for _, _, address, value in found]
 
     def digest(self):
-        """SHA-256 of the lines `x ADDRESS VALUE` of all writes to x, and then those of data."""
-        parts = [[line.split(" ", 1)[1] for line in self.lines if f" {memory} " in line] for memory in ("x", "data")]
+        """SHA-256 of the lines `x ADDRESS VALUE` of all writes to x, and then those of data and of csr."""
+        parts = [[line.split(" ", 1)[1] for line in self.lines if f" {memory} " in line] for memory in WRITTEN]
         return hashlib.sha256("".join(line + "\n" for part in parts for line in part).encode()).hexdigest()
 
 
@@ -147,21 +155,25 @@ class Figures:
 
     def cycles(self, version, programs):
         """The cycle of the last write of each program, of a version all of whose writes are the expected ones."""
+        return [run.last() for run in self.runs(version, programs)]
+
+    def runs(self, version, programs):
+        """The run of each program, on a version all of whose writes are the expected ones."""
         self.count += 1
         stem = self.folder / f"figure{self.count}"
         stem.mkdir()
 
-        def last(pair):
+        def right(pair):
             program, image = pair
             for times in (2, 4, 10):
                 folder = stem / f"{program.name}_{times}"
                 run = run_core(self.pdl, version, image, times * program.instructions, folder)
                 if run.digest() == program.digest:
-                    return run.last()
+                    return run
             raise SystemExit(f"{program.name}: other writes than the model's, of {version}")
 
         with ThreadPoolExecutor(os.cpu_count()) as workers:
-            return list(workers.map(last, programs))
+            return list(workers.map(right, programs))
 
     def versions(self):
         """The table of the versions as they stand."""
@@ -190,10 +202,42 @@ class Figures:
             rows.append(f"| `{program.name}` | " + " | ".join(cells) + " |")
         return rows
 
+    def second_guesses(self):
+        """The table of each program by the cores that guess: where fetch knows the instruction, where it doesn't, and there once more."""
+        shown = (GUESS, DELAYED, UPDATED)
+        rows = ["| program | " + " | ".join(f"`{it.source}`" for it in shown) + " |", "|---" * (len(shown) + 1) + "|"]
+        lasts = [self.cycles(it, self.programs) for it in shown]
+        for (program, _), *cycles in zip(self.programs, *lasts):
+            rows.append(f"| `{program.name}` | " + " | ".join(f"{program.instructions / it:.2f}" for it in cycles) + " |")
+        return rows
+
+    def loops(self):
+        """The table of the loops in the manner of benchmarks, by each version; those that multiply by the one that does."""
+        programs = expected("expected_loops")
+        plain = [it for it in programs if "_m_" not in it.name]
+        heads = plain + [it for it in programs if it not in plain]
+        rows = ["| version | source | " + " | ".join(f"`{it.name}`" for it in heads) + " |", "|---" * (len(heads) + 2) + "|"]
+        for version in VERSIONS:
+            shown = heads if version is MULTIPLIES else plain
+            cells = [self.told(version, it) for it in shown] + [""] * (len(heads) - len(shown))
+            rows.append(f"| {version.name} | `{version.source}` | " + " | ".join(cells) + " |")
+        return rows
+
+    def traps(self):
+        """The table of the programs that take traps, beside the core that multiplies."""
+        rows = ["| program | on `rv32i_traps.pdl` | traps | compiled for `rv32im.pdl` |", "|---|---|---|---|"]
+        others = {it.name: it for it in expected("expected_rv32im")}
+        for program in expected("expected_traps"):
+            run, = self.runs(TRAPS, [(program, program.image())])
+            traps = sum(address == MCAUSE for address, _ in run.writes("csr"))
+            other = others.get(program.name.replace("_t_", "_m_"))
+            on_it = told_of(program, run.last())
+            rows.append(f"| `{program.name}` | {on_it} | {traps:,} | {self.told(MULTIPLIES, other) if other else ''} |")
+        return rows
+
     def told(self, version, program):
         """The instructions of a program, its cycles by a version, and the one over the other."""
-        last, = self.cycles(version, [(program, program.image())])
-        return f"{program.instructions:,} in {last:,} cycles: {program.instructions / last:.2f}"
+        return told_of(program, *self.cycles(version, [(program, program.image())]))
 
     def guesses(self):
         """The table of what can be guessed, and of what else a line can change there."""
@@ -206,6 +250,11 @@ class Figures:
         ):
             rows.append(f"| {what} | {line} | {self.per_cycle(GUESS.with_change(*change))} |")
         return rows
+
+
+def told_of(program, last):
+    """The instructions of a program, its cycles, and the one over the other."""
+    return f"{program.instructions:,} in {last:,} cycles: {program.instructions / last:.2f}"
 
 
 def put_table(rows):

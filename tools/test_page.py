@@ -23,6 +23,8 @@ import usage
 
 TOP = pathlib.Path(__file__).resolve().parent.parent
 SHOWN = ["--show", "pc", "word", "--table", "loadstore.toml"]
+# What .ci/paths types.
+TYPED = r"(?ms)^## The first hour\n.*?(?=^## )"
 # Runs with guesses, with stalls, with memories that answer late, and with a fork; and what their pages have of some threads.
 RUNS = [
     (["loadstore_guess.pdl", "array.img", "30", *SHOWN], {
@@ -123,7 +125,8 @@ def typed(program, folder):
         (inside / path.name).symlink_to(path)
     path = os.pathsep.join([str(folder / "bin"), str(TOP / "tools"), os.environ["PATH"]])
     for page, where, count in (("tour.md", inside, 2), ("using.md", folder, 1)):
-        lines = re.findall(r"(?m)^ *((?:tools/)?pipeline\.py .*--(?:html|svg) (\S+))$", (TOP / "docs" / page).read_text())
+        text = re.sub(TYPED, "", (TOP / "docs" / page).read_text())
+        lines = re.findall(r"(?m)^ *((?:tools/)?pipeline\.py .*--(?:html|svg) (\S+))$", text)
         if len(lines) != count:
             yield f"docs/{page} has {len(lines)} commands that write a page or a picture"
         for line, file in lines:

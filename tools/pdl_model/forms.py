@@ -20,7 +20,7 @@ class Forms(enum.Flag):
 
 ALL = Forms.TWO_WRITES | Forms.NESTED_FORKS | Forms.UPDATE | Forms.ADVISORY
 # Those that the program takes today. The others are refused as words that there aren't.
-TAKEN = Forms.TWO_WRITES | Forms.NESTED_FORKS
+TAKEN = Forms.TWO_WRITES | Forms.NESTED_FORKS | Forms.UPDATE
 
 
 def word_of(form):

@@ -1,11 +1,13 @@
 // Accepted pipes.
-ghost use Rattle.std.specs.Prelude.{◌≡◌, IsTrue};
+ghost use Rattle.std.specs.Prelude.{◌≡◌, IsTrue, is_some};
+ghost use Rattle.std.specs.List.{list_any};
 ghost use Rattle.pdl_syntax_tree.specs.View.{pipe_view};
 ghost use Rattle.pdl_rules.specs.Places.{places, guards as guards_in};
 ghost use Rattle.pdl_rules.specs.Refusal.{KeepsRules};
 ghost use Rattle.pdl_rules.specs.Unbuilt.{IsBuilt};
-ghost use Rattle.pdl_rules.specs.Speculation.{verify_stage};
+ghost use Rattle.pdl_rules.specs.Speculation.{is_update};
 ghost use Rattle.pdl_locks.specs.Plan.{plan_of};
+ghost use Rattle.pdl_spec.specs.Plan.{spec_plan};
 ghost use Rattle.pdl_semantics.specs.Flatten.{flat as flat_of};
 ghost use Rattle.pdl_semantics.specs.Stages.{depth as depth_of};
 ghost use Rattle.pdl_form.specs.Form.{form_of};
@@ -25,7 +27,7 @@ use pdl_stages::StageGraph;
 use pdl_syntax_tree::Pipe;
 use pdl_types::TypedPipe;
 
-/// A pipe that is read from a text, breaks no rule and has no form without circuit, with the widths of its variables, its guards in text order, its memories in declared order, the stages of its locks and verifies, its flat form, and its stages.
+/// A pipe that is read from a text, breaks no rule and has no form without circuit, with the widths of its variables, its guards in text order, its memories in declared order, the stages of its locks, verifies and updates, its flat form, and its stages.
 pub struct Accepted {
     pub typed: TypedPipe,
     pub guards: Guards,
@@ -40,7 +42,7 @@ pub struct Accepted {
     pub ghost guarded: { guards ≡ guards_in (places (pipe_view typed.pipe)) },
     pub ghost told: { mems ≡ infos_of (pipe_view typed.pipe).mems },
     pub ghost planned: { plans.locks ≡ plan_of (pipe_view typed.pipe) },
-    pub ghost verified: { plans.spec ≡ verify_stage (pipe_view typed.pipe) },
+    pub ghost checked: { plans.spec ≡ spec_plan (pipe_view typed.pipe) },
     pub ghost lowered: { IsTrue (same_form (form flat) (form_of (pipe_view typed.pipe))) },
     pub ghost staged: { graph
         ≡ graph_of (flat_of (pipe_view typed.pipe)) (places (pipe_view typed.pipe)) },
@@ -104,9 +106,11 @@ impl Accepted {
         &self.plans.locks
     }
 
-    /// Lends the stage of the verifies, none where the text has no verify.
+    /// Lends the stages of verifies and updates; of either there is none just where the text has no such statement.
     pub fn spec(&self) -> &SpecPlan
-        ensures { result.now ≡ verify_stage (pipe_view self.now.typed.pipe) }
+        ensures plan { result.now ≡ spec_plan (pipe_view self.now.typed.pipe) }
+        ensures updated { is_some result.now.updated
+            ≡ list_any is_update (places (pipe_view self.now.typed.pipe)) }
     {
         &self.plans.spec
     }

@@ -1,6 +1,7 @@
 // A flat form as the program keeps it.
 ghost use Rattle.std.specs.Prelude.{◌≡◌, length};
 ghost use Rattle.pdl_semantics.specs.Stages.{verify_stage};
+ghost use Rattle.pdl_semantics.specs.Updates.{update_stage};
 ghost use Rattle.pdl_form.specs.View.{stmts_view};
 ghost use Rattle.pdl_form.specs.Form.{rows_below};
 
@@ -17,9 +18,11 @@ pub struct FlatPipe {
     pub(crate) reserved: Vec<Option<usize>>,
     pub(crate) released: Vec<Option<usize>>,
     pub(crate) verified: Option<usize>,
+    pub(crate) updated: Option<usize>,
     // The numbers of the statements of each stage.
     pub(crate) rows: Vec<Seq<usize>>,
     pub ghost told: { verified ≡ verify_stage (stmts_view stmts.items) },
+    pub ghost replaced: { updated ≡ update_stage (stmts_view stmts.items) },
     pub ghost by_stage: { rows.items ≡ rows_below (length stages.items) (stmts_view stmts.items) },
 }
 
@@ -35,6 +38,7 @@ impl Drop for FlatPipe {
             reserved: _,
             released: _,
             verified: _,
+            updated: _,
             rows: _,
         } = self;
     }

@@ -1,6 +1,7 @@
 // Making a flat form, and reading it.
 ghost use Rattle.std.specs.Prelude.{◌≡◌, ◌<◌, ℕ, map, length, slice_index, slice_index_or, None, IfOk};
 ghost use Rattle.pdl_semantics.specs.Stages.{in_stage, verify_stage};
+ghost use Rattle.pdl_semantics.specs.Updates.{update_stage};
 ghost use Rattle.pdl_form.specs.View.{stmts_view, stages_view, mems_view, mem_names};
 ghost use Rattle.pdl_form.specs.Form.{form_with, rows_in, stmt_at};
 ghost use Rattle.pdl_form.specs.FormView.{form};
@@ -8,7 +9,7 @@ ghost use Rattle.pdl_form.specs.FormView.{form};
 use crate::flat::FlatPipe;
 use crate::form::{FlatMem, FlatStage, FlatStmt};
 use crate::rows::{all_rows, release_stages, reserve_stages};
-use crate::stmts::verify_stage;
+use crate::stmts::{update_stage, verify_stage};
 use pdl_kit::NoMemory;
 use std::alloc::Global;
 
@@ -30,6 +31,7 @@ impl FlatPipe {
         let released = release_stages(alloc, stmts.as_slice(), mems.as_slice())?;
         let rows = all_rows(alloc, stmts.as_slice(), stages.len())?;
         let verified = verify_stage(stmts.as_slice());
+        let updated = update_stage(stmts.as_slice());
         Ok(FlatPipe {
             widths,
             mems,
@@ -39,6 +41,7 @@ impl FlatPipe {
             reserved,
             released,
             verified,
+            updated,
             rows,
         })
     }
@@ -121,5 +124,12 @@ impl FlatPipe {
         ensures { result ≡ verify_stage (form self.now).pipe.stmts }
     {
         self.verified
+    }
+
+    /// The stage of the updates, where there are some before that of the verifies.
+    pub fn update_stage(&self) -> Option<usize>
+        ensures { result ≡ update_stage (form self.now).pipe.stmts }
+    {
+        self.updated
     }
 }

@@ -1,7 +1,8 @@
-// Statements of a flat form by stage, and the stages of reserves, releases and verifies.
+// Statements of a flat form by stage, and the stages of reserves, releases, verifies and updates.
 ghost use Rattle.std.specs.Prelude.{◌≡◌, ℕ, map, length, IfOk};
 ghost use Rattle.pdl_semantics.specs.Flatten.{first_stage};
 ghost use Rattle.pdl_semantics.specs.Stages as stages;
+ghost use Rattle.pdl_semantics.specs.Updates as updates;
 ghost use Rattle.pdl_form.specs.View.{act_view, stmts_view};
 ghost use Rattle.pdl_form.specs.Form.{rows_in};
 
@@ -61,6 +62,19 @@ fn is_verify(op: &Op) -> bool
     }
 }
 
+fn is_update(op: &Op) -> bool
+    ensures { result ≡ updates.is_update (act_view op.now) }
+{
+    match op {
+        Op::Verify { last, .. } => !*last,
+        Op::Bind { .. } | Op::CombRead { .. } | Op::DelayedRead { .. } | Op::Write { .. } => false,
+        Op::ReserveRead { .. } | Op::ReserveWrite { .. } | Op::Block { .. } => false,
+        Op::Release { .. } | Op::Call(_) | Op::SpecCall(_) | Op::SpecCheck => false,
+        Op::SpecBarrier | Op::AdviceBind { .. } | Op::AdviceRead { .. } => false,
+        Op::AdviceWrite { .. } => false,
+    }
+}
+
 /// The stage of a memory's reserves: that of the first one in the text.
 pub fn reserve_stage(stmts: &[FlatStmt], mem: usize) -> Option<usize>
     ensures { result ≡ first_stage (stages.is_reserve mem) (stmts_view stmts.now) }
@@ -95,4 +109,33 @@ pub fn verify_stage(stmts: &[FlatStmt]) -> Option<usize>
         }
     }
     None
+}
+
+// The stage of the first update in the text.
+fn first_update(stmts: &[FlatStmt]) -> Option<usize>
+    ensures { result ≡ updates.first_update (stmts_view stmts.now) }
+{
+    for stmt in stmts {
+        if is_update(&stmt.op) {
+            return Some(stmt.stage);
+        }
+    }
+    None
+}
+
+// The second one of two stages, where it is before the first one.
+fn earlier(v: Option<usize>, u: Option<usize>) -> Option<usize>
+    ensures { result ≡ updates.earlier v u }
+{
+    match (v, u) {
+        (Some(v), Some(u)) if u < v => Some(u),
+        _ => None,
+    }
+}
+
+/// The stage of the updates: that of the first one in the text, where it is before that of the verifies.
+pub fn update_stage(stmts: &[FlatStmt]) -> Option<usize>
+    ensures { result ≡ updates.update_stage (stmts_view stmts.now) }
+{
+    earlier(verify_stage(stmts), first_update(stmts))
 }

@@ -3,7 +3,7 @@ use Rattle.std.proofs.Common.{◌≡◌, refl, sym, ap, subst, ℕ, suc, ◌<◌
 use Rattle.std.specs.Prelude.{⊤}
 use Rattle.std.proofs.lemmas.Bool.{false≢true, not-false, and_parts, ltb-true}
 use Rattle.pdl_semantics.specs.Tree as tree
-use Rattle.pdl_semantics.specs.Tree.{R, W, Variable, Separator, CombRead, Bind, DelayedRead, Write, Reserve, If, Update, Mem}
+use Rattle.pdl_semantics.specs.Tree.{R, W, Variable, Separator, CombRead, Bind, DelayedRead, Write, Reserve, If, Mem}
 use Rattle.pdl_semantics.specs.Flat
 use Rattle.pdl_semantics.specs.Flat.{is_delayed, list_all, Op, Stmt, Pipe}
 use Rattle.pdl_semantics.specs.Forms.{on_delayed_read}
@@ -11,15 +11,14 @@ use Rattle.pdl_semantics.specs.Stages.{mem_at, plain_mem}
 use Rattle.pdl_semantics.specs.Flatten.{Var, flat, flat_expr, mem_of, var_of, mems_of, params_of, at_position, is_advisory_mem, is_advised, read_op, bind_op, write_op}
 use Rattle.pdl_semantics.specs.Flatten
 use Rattle.pdl_semantics.proofs.Facts.{all_vars}
-use Rattle.pdl_kit.specs.declared.rule.Rule.TheVariants.{F4, S6}
+use Rattle.pdl_kit.specs.declared.rule.Rule.TheVariants.{F4}
 use Rattle.pdl_rules.specs.Forks.{is_delayed_memory, is_wrong_read}
-use Rattle.pdl_rules.specs.Places.{Branch, Statement}
 use Rattle.pdl_rules.specs.Refusal.{KeepsRules}
-use Rattle.pdl_rules.specs.Speculation.{is_update}
 use Rattle.pdl_rules.specs.Unbuilt.{IsBuilt}
 use Rattle.pdl_theory_facts.specs.Facts.{Sound}
 use Rattle.pdl_source_stages.proofs.Sites.{Site, All, sites_of, place_of, owns, stmts_are}
 use Rattle.pdl_source_stages.proofs.SiteFacts.{Fine, AtSite, op_of, rows_of, own_is, all_fine, each_stmt, each_fine, either_read, either_bind, either_write}
+use Rattle.pdl_source_stages.proofs.Facts.{stage_facts}
 use Rattle.pdl_source_paths.specs.Source.{is_source, is_named}
 use Rattle.pdl_source_paths.proofs.Growth.{Grows, vars_past, past_grown, grows_all}
 use Rattle.pdl_source_paths.proofs.PipeFacts.{of_source}
@@ -92,29 +91,27 @@ kinds p rules =
 
 -- ---- ROWS
 
-row_of : (p : tree.Pipe) (s : tree.Stmt) (vs : List Var) (bs : List Branch) → is_wrong_read p.mems s ≡ false → is_update (Statement s bs) ≡ false
+row_of : (p : tree.Pipe) (s : tree.Stmt) (vs : List Var) → is_wrong_read p.mems s ≡ false
     → ((n : List ℕ) → is_advisory_mem p.mems n ≡ false) → ArePlain vs → OnSome (HasRow (flat p)) (op_of p.mems vs s)
-row_of p (CombRead sp x from) vs bs e u none plain =
+row_of p (CombRead sp x from) vs e none plain =
     subst (λ b. HasRow (flat p) (read_op b (length vs) (mem_of p.mems from.mem.name) (var_of vs from.address.name))) (sym (none from.mem.name))
     (comb_there p.mems from.mem.name e)
-row_of p (Bind sp x a) vs bs e u none plain = subst (λ b. HasRow (flat p) (bind_op b (length vs) (flat_expr vs a))) (sym (expr_plain vs a plain)) tt
-row_of p (Write sp to a) vs bs e u none plain =
+row_of p (Bind sp x a) vs e none plain = subst (λ b. HasRow (flat p) (bind_op b (length vs) (flat_expr vs a))) (sym (expr_plain vs a plain)) tt
+row_of p (Write sp to a) vs e none plain =
     subst (λ b. HasRow (flat p) (write_op b (mem_of p.mems to.mem.name) (var_of vs to.address.name) (flat_expr vs a))) (sym (none to.mem.name)) tt
-row_of p (Update sp x args) vs bs e u none plain = absurd (false≢true (sym u))
-row_of p (Reserve sp at R) vs bs e u none plain = tt
-row_of p (Reserve sp at W) vs bs e u none plain = tt
-row_of p (If sp (Variable x) when otherwise) vs bs e u none plain = tt
-row_of p (If sp c when otherwise) vs bs e u none plain = tt
-row_of p (Separator sp) vs bs e u none plain = tt
-row_of p _ vs bs e u none plain = tt
+row_of p (Reserve sp at R) vs e none plain = tt
+row_of p (Reserve sp at W) vs e none plain = tt
+row_of p (If sp (Variable x) when otherwise) vs e none plain = tt
+row_of p (If sp c when otherwise) vs e none plain = tt
+row_of p (Separator sp) vs e none plain = tt
+row_of p _ vs e none plain = tt
 
 rows_at : (p : tree.Pipe) → KeepsRules p → IsBuilt p → (ts : List Site) → All (Fine p) ts → All (λ t. ArePlain t.walk.vars) ts
     → All (AtSite (λ (x : Stmt). HasRow (flat p) x.op) p.mems) ts
 rows_at p rules built [] fine plain = tt
 rows_at p rules built (t ∷ ts) fine plain = (
   λ op e. subst (OnSome (HasRow (flat p))) e
-      (row_of p t.stmt t.walk.vars t.branches (rules F4 t.front (place_of t) fine.0.later fine.0.whole)
-      (built S6 t.front (place_of t) fine.0.later fine.0.whole) (none_advisory p built) plain.0),
+      (row_of p t.stmt t.walk.vars (rules F4 t.front (place_of t) fine.0.later fine.0.whole) (none_advisory p built) plain.0),
   rows_at p rules built ts fine.1 plain.1,
 )
 
@@ -212,6 +209,7 @@ lawful_source p rules built source named =
       sound = sound;
       leads = leads_sound (flat p) sound;
       some = (let h = sound.graph.some_stage in omega (arith, h));
+      updates = (stage_facts p rules).updates;
       reads = reads_source p rules sound;
       rows = have_rows p rules built;
       inside = reading_has (λ n q. q.stage < length (flat p).stages) (flat p).stmts (each_low (length (flat p).stages) (flat p).stmts sound.inside);

@@ -7,7 +7,7 @@ pub mod Removals
 pub mod OrderSides
 pub mod Tails
 pub mod SquashSides
-mod NoUpdates
+mod SquashFolds
 pub mod WholeCycle
 pub mod Stores
 pub mod Requests

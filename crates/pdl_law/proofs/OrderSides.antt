@@ -1,14 +1,15 @@
 -- The orders of forks beside the stages: what drives them, that each goes on to stand for its fork's list, and what a thread is told before a merge.
-use Rattle.std.proofs.Common.{◌≡◌, refl, sym, ap, ap₂, ◌∙◌, subst, ℕ, zero, suc, ◌+◌, ◌≤◌, ◌<◌, ◌⊎◌, inl, inr, Bool, true, false, ◌&&◌, ◌||◌, not, List, [], ◌∷◌, ◌++◌, length, map, Option, Some, None, is_some, arith, ◌==◌, eq-eqb, ne_eqb}
+use Rattle.std.proofs.Common.{◌≡◌, refl, sym, ap, ap₂, ◌∙◌, subst, ℕ, zero, suc, ◌+◌, ◌≤◌, ◌<◌, ◌⊎◌, inl, inr, Bool, true, false, ◌&&◌, ◌||◌, not, List, [], ◌∷◌, ◌++◌, length, map, Option, Some, None, arith, ◌==◌, eq-eqb, ne_eqb}
 use Rattle.std.specs.Prelude.{if◌then◌else◌, slice_index}
 use Rattle.std.proofs.lemmas.Bool.{false≢true}
 use Rattle.pdl_word.specs.Words.{bit}
 use Rattle.pdl_semantics.specs.Flat.{Next, Ends, Goes, Forks, Branch, Pipe, Arrays}
-use Rattle.pdl_semantics.specs.Stages.{stage_at, goes_to, is_inside, sides_of, merges_fork, verify_stage}
+use Rattle.pdl_semantics.specs.Stages.{stage_at, goes_to, is_inside, sides_of, merges_fork}
+use Rattle.pdl_semantics.specs.Updates.{squash_stages}
 use Rattle.pdl_semantics.specs.Machine as machine
 use Rattle.pdl_semantics.specs.Machine.{Thread, Deeds, fork_of, deeds}
 use Rattle.pdl_semantics.specs.Moves.{next_stage, merges_well, may_merge, is_its_turn}
-use Rattle.pdl_semantics.specs.Cycle.{cycle, first, squasher, squash_stage, goes_out, has_left, merges_by}
+use Rattle.pdl_semantics.specs.Cycle.{cycle, first, squash_stage, goes_out, has_left, merges_by}
 use Rattle.pdl_theory_facts.specs.Facts.{Sound}
 use Rattle.pdl_theory_facts.specs.Graphs.{Within, next_of, stage_or}
 use Rattle.pdl_net.specs.declared.Reg.{Reg}
@@ -28,7 +29,7 @@ use Rattle.pdl_law_parts.specs.Stands.{IsSo, IsSeen}
 use Rattle.pdl_law_parts.proofs.Signals.{mux_at, mux_by, one_is, zero_is}
 use Rattle.pdl_law_parts.proofs.Moves.{ready_of, lives_fork}
 use Rattle.pdl_machine_inflight.specs.InFlight.{InFlight}
-use Rattle.pdl_law_sides.specs.Sides.{Sides, OrderNets, into_first, into_second, merging, into_merge, leaves_fork, order_step, branch_turn, merge_turn, turn}
+use Rattle.pdl_law_sides.specs.Sides.{Sides, OrderNets, into_first, into_second, merging, into_merge, leaves_fork, emptied_by, order_step, branch_turn, merge_turn, turn}
 use Rattle.pdl_law_sides.specs.HasSides.{HasOrder, HasSides}
 use Rattle.pdl_law.proofs.OrderSteps.{goes_first, goes_second, if_moves, order_act, step_is, proper_order}
 
@@ -74,7 +75,7 @@ module _ (p : Pipe) (c : Circuit) (vs : ℕ → View) (gates : Gates) (moves : �
 
   module _ (s : State) (st : machine.State) (bits : List Bool) (by : IsByStages p st bits)
       (seen : (j : ℕ) → j < length p.stages → IsSeen p vs moves s st bits j)
-      (squash : gates.squash.value s ≡ bit (is_some (squasher (moving p st bits)))) where
+      (emptied : (emptied_by p f (squash_stages p.stmts) sides.squash).value s ≡ bit (merges_by p f (squash_stage (moving p st bits)))) where
     so_at : (k : ℕ) (t : Thread) → k < length p.stages → here p st bits k ≡ Some t → stage_moves p st bits k ≡ true → IsSo p k s (vs k).ended (deeds p st k t)
     so_at k t l h g = ((seen k l).follows t h).so (ready_of p st bits k t by l h g)
 
@@ -174,17 +175,8 @@ module _ (p : Pipe) (c : Circuit) (vs : ℕ → View) (gates : Gates) (moves : �
             (mux_at s (moves k) (into_merge p f (stage_at p k).next (vs k).ended) zero_bit true ((seen k l).leaves ∙ ap bit h)
             ∙ merge_is (vs k).ended (stage_at p k).next (deeds p st k t).env (agrees_at k t l i h)) r
 
-    emptied_is : (order_step p vs gates moves f).emptied.value s ≡ bit (order_act p st bits f).emptied
-    emptied_is = at (merges_by p f (verify_stage p.stmts)) (is_some (squasher (moving p st bits))) squash
-      where
-        at : (m q : Bool) → gates.squash.value s ≡ bit q → (if m then gates.squash else zero_bit).value s ≡ bit (q && m)
-        at true true h = h
-        at true false h = h
-        at false true h = zero_is s
-        at false false h = zero_is s
-
     -- the nets of the order's step do what the cycle does to the fork's list
-    pub order_driven : Drives (order_step p vs gates moves f) s (order_act p st bits f)
+    pub order_driven : Drives (order_step p vs sides.squash moves f) s (order_act p st bits f)
     order_driven = record {
       entered_first =
           moves_so f low (into_first p f (stage_at p f).next (vs f).ended) (goes_first p f (stage_at p f).next)
@@ -193,19 +185,18 @@ module _ (p : Pipe) (c : Circuit) (vs : ℕ → View) (gates : Gates) (moves : �
           moves_so f low (into_second p f (stage_at p f).next (vs f).ended) (goes_second p f (stage_at p f).next)
           (λ t h g. second_is (vs f).ended (stage_at p f).next (deeds p st f t).env (agrees_at f t low h g));
       left = left_is (length p.stages) 0 (omega arith);
-      emptied = emptied_is;
+      emptied = emptied;
     }
 
     -- an order that stands for the fork's list stands for the next one
     pub order_kept : Sound p → LeadsOn p → length st.stages ≡ length p.stages → InFlight p (cycle p st bits)
-        → squash_stage (moving p st bits) ≡ (if is_some (squasher (moving p st bits)) then verify_stage p.stmts else None)
         → (sides.order f).stands s (fork_of st f) → (t : State) → t.regs ≡ next_regs c s → t.arrays ≡ next_arrays c s
         → (sides.order f).stands t (fork_of (cycle p st bits) f)
-    order_kept sound leads count flight staged stands t regs arrays =
+    order_kept sound leads count flight stands t regs arrays =
         let none = order.owned.none in
-        subst ((sides.order f).stands t) (step_is p sound st bits f low leads sound.graph.some_stage count by staged)
+        subst ((sides.order f).stands t) (step_is p sound st bits f low leads sound.graph.some_stage count by)
         (order.step.next s t (fork_of st f)
-        (order_act p st bits f) stands order_driven (proper_order p sound st bits f low leads sound.graph.some_stage count by staged flight)
+        (order_act p st bits f) stands order_driven (proper_order p sound st bits f low leads sound.graph.some_stage count by flight)
         (is_next own c c s t
         (record {
           has_reg = order.owned.regs;
@@ -297,15 +288,13 @@ module _ (p : Pipe) (ls : Locks) (c : Circuit) (vs : ℕ → View) (gates : Gate
   -- after a cycle whose stages and squash are as the machine's, the orders stand for the lists of the next state
   pub orders_next : Sound p → LeadsOn p → (s t : State) (st : machine.State) (bits : List Bool) → IsByStages p st bits
       → ((j : ℕ) → j < length p.stages → IsSeen p vs moves s st bits j)
-      → gates.squash.value s ≡ bit (is_some (squasher (moving p st bits)))
+      → ((f : ℕ) → (emptied_by p f (squash_stages p.stmts) sides.squash).value s ≡ bit (merges_by p f (squash_stage (moving p st bits))))
       → InFlight p st → InFlight p (cycle p st bits)
-      → squash_stage (moving p st bits) ≡ (if is_some (squasher (moving p st bits)) then verify_stage p.stmts else None)
       → OrdersStand p sides s st → t.regs ≡ next_regs c s
       → t.arrays ≡ next_arrays c s → OrdersStand p sides t (cycle p st bits)
-  orders_next sound leads s t st bits by seen squash flight flight' staged stands regs arrays f q low m =
+  orders_next sound leads s t st bits by seen emptied flight flight' stands regs arrays f q low m =
       order_kept p c vs gates moves sides (has.order_owns f) f low
-      (has.orders f q low m) s st bits by seen squash sound leads flight.count flight' staged
-      (stands f q low m) t regs arrays
+      (has.orders f q low m) s st bits by seen (emptied f) sound leads flight.count flight' (stands f q low m) t regs arrays
 
   -- whether it is a thread's turn at a merge
   pub merges_told : Sound p → (s : State) (st : machine.State) → OrdersStand p sides s st → (k : ℕ) (d : Deeds)

@@ -3,10 +3,10 @@ use Rattle.std.proofs.Common.{◌≡◌, refl, sym, ap, ap₂, ◌∙◌, subst,
 use Rattle.std.specs.Prelude.{if◌then◌else◌, slice_index}
 use Rattle.std.proofs.lemmas.Bool.{false≢true, eqb-true, eqb-false, and_parts, or_parts}
 use Rattle.pdl_semantics.specs.Flat.{Next, Ends, Goes, Forks, Branch, Pipe}
-use Rattle.pdl_semantics.specs.Stages.{list_any, stage_at, goes_to, is_inside, sides_of, merges_fork, verify_stage}
+use Rattle.pdl_semantics.specs.Stages.{list_any, stage_at, goes_to, is_inside, sides_of, merges_fork}
 use Rattle.pdl_semantics.specs.Machine.{Thread, State, Deeds, fork_of, deeds}
 use Rattle.pdl_semantics.specs.Moves.{Act, next_stage, no_failure, ports_free, barrier_clear, merges_well, may_merge, is_its_turn, is_first, is_empty}
-use Rattle.pdl_semantics.specs.Cycle.{cycle, squasher, squash_stage, goes_into, entered_branches, goes_out, has_left, but_first, fork_next, merges_by, branches_left}
+use Rattle.pdl_semantics.specs.Cycle.{cycle, squash_stage, goes_into, entered_branches, goes_out, has_left, but_first, fork_next, merges_by, branches_left}
 use Rattle.pdl_theory_facts.specs.Facts.{Sound}
 use Rattle.pdl_theory_facts.specs.Graphs.{Home, Within, Way, next_of, stage_or, on_side}
 use Rattle.pdl_theory_facts.proofs.Nested.{inside_of, sides_outside, outside_self, sides_inside}
@@ -42,7 +42,7 @@ order_act p st bits f = record {
   entered_first = if_moves (goes_first p f (stage_at p f).next) p st f (stage_moves p st bits f) (here p st bits f);
   entered_second = if_moves (goes_second p f (stage_at p f).next) p st f (stage_moves p st bits f) (here p st bits f);
   left = has_left p f (moving p st bits);
-  emptied = is_some (squasher (moving p st bits)) && merges_by p f (verify_stage p.stmts);
+  emptied = merges_by p f (squash_stage (moving p st bits));
 }
 
 -- who comes into a branch, as a list
@@ -209,8 +209,7 @@ module _ (p : Pipe) (sound : Sound p) (st : State) (bits : List Bool) (f : ℕ) 
 
     -- A CYCLE
 
-    module _ (some : 0 < length p.stages) (count : length st.stages ≡ length p.stages) (by : IsByStages p st bits)
-        (staged : squash_stage (moving p st bits) ≡ (if is_some (squasher (moving p st bits)) then verify_stage p.stmts else None)) where
+    module _ (some : 0 < length p.stages) (count : length st.stages ≡ length p.stages) (by : IsByStages p st bits) where
       list_next : fork_of (cycle p st bits) f ≡ branches_left p (squash_stage (moving p st bits)) f (fork_next p st (moving p st bits) f)
       list_next =
           ap (λ (s : State). fork_of s f) (next_is p leads some st bits count)
@@ -235,13 +234,6 @@ module _ (p : Pipe) (sound : Sound p) (st : State) (bits : List Bool) (f : ℕ) 
           at false true = refl
           at false false = sym (append-nil ys)
 
-      emptied_is : merges_by p f (squash_stage (moving p st bits)) ≡ (order_act p st bits f).emptied
-      emptied_is = ap (merges_by p f) staged ∙ at (is_some (squasher (moving p st bits)))
-        where
-          at : (b : Bool) → merges_by p f (if b then verify_stage p.stmts else None) ≡ (b && merges_by p f (verify_stage p.stmts))
-          at true = refl
-          at false = refl
-
       -- the list after the cycle is the order's step
       pub step_is : step (fork_of st f) (order_act p st bits f) ≡ fork_of (cycle p st bits) f
       step_is =
@@ -249,7 +241,6 @@ module _ (p : Pipe) (sound : Sound p) (st : State) (bits : List Bool) (f : ℕ) 
           step_of_list a.left a.emptied a.entered_first a.entered_second (fork_of st f)
           ∙ ap (λ es. if a.emptied then [] else ((if a.left then but_first (fork_of st f) else fork_of st f) ++ es))
           (sym (entered_from (length p.stages) 0 (omega arith) (omega (arith, low))))
-          ∙ ap (λ b. if b then [] else fork_next p st (moving p st bits) f) (sym emptied_is)
           ∙ sym list_next
 
       -- who leaves is the first

@@ -1,20 +1,18 @@
 -- What a squash does in a cycle, as the law of the netlist takes it, and that the second tickets go on to stand.
-use Rattle.std.proofs.Common.{◌≡◌, refl, sym, ◌∙◌, ℕ, suc, ◌+◌, ◌<◌, ◌≤◌, ⊎_elim, Bool, true, List, length, Option, Some, None, arith}
+use Rattle.std.proofs.Common.{◌≡◌, sym, ◌∙◌, ℕ, ◌<◌, ◌≤◌, ⊎_elim, Bool, true, List, length, Some, None, arith}
 use Rattle.std.proofs.lemmas.Bool.{cases_lt}
 use Rattle.std.proofs.lemmas.List.{get_or_past}
 use Rattle.pdl_semantics.specs.Flat.{Pipe, Arrays}
 use Rattle.pdl_semantics.specs.Stages.{verify_stage}
 use Rattle.pdl_semantics.specs.Machine as machine
 use Rattle.pdl_semantics.specs.Machine.{Thread}
-use Rattle.pdl_semantics.specs.PendingLists.{count_older}
-use Rattle.pdl_semantics.specs.Cycle.{cycle, first, squasher, all_releases, list_three}
+use Rattle.pdl_semantics.specs.Cycle.{cycle, first}
 use Rattle.pdl_theory_facts.specs.Facts.{Sound}
 use Rattle.pdl_net.specs.Circuit.{Circuit, State}
 use Rattle.pdl_net.specs.Signal.{Signal}
 use Rattle.pdl_net.specs.Cycle.{next_regs, next_arrays}
 use Rattle.pdl_net.specs.Well.{Suits}
-use Rattle.pdl_lockapi.specs.Laws.{holds_ticket}
-use Rattle.pdl_machine_facts.specs.Slots.{LeadsOn, slot, moving}
+use Rattle.pdl_machine_facts.specs.Slots.{LeadsOn, slot}
 use Rattle.pdl_machine_facts.specs.Cycle.{IsByStages}
 use Rattle.pdl_law_parts.specs.Served.{IsServed}
 use Rattle.pdl_machine_lockuse.specs.Cut.{IsCut}
@@ -23,11 +21,12 @@ use Rattle.pdl_law_parts.specs.Views.{View, Gates}
 use Rattle.pdl_law_parts.specs.Compiled.{IsLaid}
 use Rattle.pdl_law_parts.specs.Stands.{StandsLock, IsSeen, IsSquashed}
 use Rattle.pdl_law_parts.proofs.AnsweredThreads.{stood}
-use Rattle.pdl_machine_inflight.specs.InFlight.{InFlight, ReplacesNone}
-use Rattle.pdl_machine_inflight.proofs.Squashes.{stood_in, no_squasher}
+use Rattle.pdl_machine_inflight.specs.InFlight.{InFlight, UpdatesTogether}
+use Rattle.pdl_machine_inflight.proofs.SquashStages.{squash_early}
+use Rattle.pdl_machine_inflight.proofs.Squashes.{stood_in, squasher_in}
 use Rattle.pdl_law_sides.specs.Sides.{Sides}
 use Rattle.pdl_law_sides.specs.HasSides.{HasSides}
-use Rattle.pdl_law.proofs.Removals.{squash_is, kill_here}
+use Rattle.pdl_law.proofs.Removals.{squash_is, squashes_told, kill_here}
 use Rattle.pdl_law.proofs.Tails.{StandTails, tails_first, tail_is, tails_kept}
 
 -- the second tickets of the threads up to V, where there is a V
@@ -39,7 +38,7 @@ pub tails_start : (p : Pipe) (ls : Locks) (vs : ℕ → View) (sides : Sides) (i
     → TailsStand p ls vs sides s (first p image)
 tails_start p ls vs sides image s v is = tails_first p ls vs sides v image s
 
-module _ (p : Pipe) (sound : Sound p) (still : ReplacesNone p) (leads : LeadsOn p) (ls : Locks) (c : Circuit) (vs : ℕ → View) (gates : Gates)
+module _ (p : Pipe) (sound : Sound p) (together : UpdatesTogether p) (leads : LeadsOn p) (ls : Locks) (c : Circuit) (vs : ℕ → View) (gates : Gates)
     (moves : ℕ → Signal) (made : IsLaid p ls vs gates moves c) (sides : Sides)
     (has : HasSides p ls c vs gates moves sides)
     (s : State) (st : machine.State) (bits : List Bool) (suits : Suits c s) (flight : InFlight p st)
@@ -60,26 +59,20 @@ module _ (p : Pipe) (sound : Sound p) (still : ReplacesNone p) (leads : LeadsOn 
     kill =
         λ k t h g.
         (let l = (let u = stood_in p st bits k t h in stage_there k u.0 u.1) in
-        kill_here p sound still c vs gates moves sides has.removals s st bits suits flight by (λ j i. (seen j i).valid) seen k t l h);
-    squash = squash_is p sound still c vs gates moves sides has.removals s st bits suits flight by (λ j i. (seen j i).valid) seen;
-    tail = λ m n locked stand e. cut_at m n locked stand e (verify_stage p.stmts) refl;
+        kill_here p sound together c vs gates moves sides has.removals s st bits suits flight by (λ j i. (seen j i).valid) seen k t l h);
+    squash = squash_is p sound together c vs gates moves sides has.removals s st bits suits flight by (λ j i. (seen j i).valid) seen;
+    tail =
+        λ m n locked stand e.
+        (let z = (squasher_in p sound together st bits flight n e).1 in
+        let v = squash_early p (squasher_in p sound together st bits flight n e).0 z in
+        tail_is p sound together leads ls c vs gates moves made sides v.0 v.1 (has.tails v.0 v.1) s st bits suits flight by used cut seen (stood p st bits)
+        (tails v.0 v.1) m locked stand
+        (squashes_told p sound together c vs gates moves sides has.removals s st bits suits flight by (λ j i. (seen j i).valid) seen) n e);
   }
-    where
-      cut_at : (m n : ℕ) → is_locked p m ≡ true → (stand : StandsLock p ls vs s st m)
-          → squasher (moving p st bits) ≡ Some n → (o : Option ℕ) → verify_stage p.stmts ≡ o
-          → holds_ticket (ls.bits m)
-          (gates.tail m) s (stand.base + all_releases m (moving p st bits) + count_older (suc n) (list_three st (moving p st bits) m))
-      cut_at m n locked stand e (Some v) is =
-          tail_is p sound still leads ls c vs gates moves made sides v is (has.tails v is) s st bits suits flight by used cut seen (stood p st bits)
-          (tails v is) m locked stand n e
-      cut_at m n locked stand e None is = absurd (none_some (sym (no_squasher p is still st bits) ∙ e))
-        where
-          none_some : None ≡ Some n → ⊥
-          none_some i = cc i
 
   -- the second tickets go on to stand
   pub tails_next : ((m : ℕ) → is_locked p m ≡ true → StandsLock p ls vs s st m) → (t : State) → t.regs ≡ next_regs c s
       → t.arrays ≡ next_arrays c s → TailsStand p ls vs sides t (cycle p st bits)
   tails_next locks t regs arrays v is =
-      tails_kept p sound still leads ls c vs gates moves made sides v is (has.tails v is) s st bits suits flight by used cut seen (stood p st bits)
+      tails_kept p sound together leads ls c vs gates moves made sides v is (has.tails v is) s st bits suits flight by used cut seen (stood p st bits)
       (tails v is) locks squashed_is t regs arrays

@@ -1,4 +1,4 @@
--- Where a squash cuts each lock: the second tickets of threads up to V are carried from cycle to cycle, and that of V's thread is where its squash cuts.
+-- Where a squash cuts each lock: the second tickets of threads up to V are carried from cycle to cycle, and that of the thread that squashes is where its squash cuts.
 use Rattle.std.proofs.Common.{◌≡◌, refl, sym, ap, ap₂, ◌∙◌, subst, ℕ, zero, suc, ◌+◌, ◌-◌, ◌*◌, ◌%◌, ◌^◌, ◌<◌, ◌≤◌, ⊎_elim, Bool, true, false, List, [], ◌∷◌, ◌++◌, length, map, Option, Some, None, arith, ◌==◌, ne_eqb}
 use Rattle.std.specs.Prelude.{if◌then◌else◌, slice_index, ⊤}
 use Rattle.std.proofs.Math.Nat.{mod-add-mod, add-mul-mod_self_right, le-mul_of_pos_right}
@@ -8,6 +8,7 @@ use Rattle.std.proofs.lemmas.Nat.{pow_pos}
 use Rattle.pdl_word.specs.Words.{bit}
 use Rattle.pdl_semantics.specs.Flat.{Next, Ends, Goes, Forks, Pipe, Arrays}
 use Rattle.pdl_semantics.specs.Stages.{stage_at, goes_to, reserve_stage, verify_stage}
+use Rattle.pdl_semantics.specs.Updates.{squash_stages}
 use Rattle.pdl_semantics.specs.Machine as machine
 use Rattle.pdl_semantics.specs.Machine.{Thread, Pending, deeds}
 use Rattle.pdl_semantics.specs.Moves.{next_stage}
@@ -38,11 +39,13 @@ use Rattle.pdl_law_parts.proofs.LockStep.{words_next, stands_next}
 use Rattle.pdl_law_parts.proofs.LockPorts.{both_is, moves_or_not}
 use Rattle.pdl_law_parts.proofs.Comers.{first_come, brought, picked_is}
 use Rattle.pdl_law_parts.proofs.StageLooks.{lock_there}
-use Rattle.pdl_machine_inflight.specs.InFlight.{InFlight, ReplacesNone}
-use Rattle.pdl_machine_inflight.proofs.Squashes.{stood_in, squasher_in}
+use Rattle.pdl_machine_inflight.specs.InFlight.{InFlight, UpdatesTogether}
+use Rattle.pdl_machine_inflight.proofs.SquashStages.{squash_early}
+use Rattle.pdl_machine_inflight.proofs.Squashes.{stood_in, squashing, squasher_in}
 use Rattle.pdl_machine_inflight.proofs.Comings.{stage_low}
 use Rattle.pdl_law_sides.specs.Sides.{Sides, with_tickets}
 use Rattle.pdl_law_sides.specs.HasSides.{HasTails}
+use Rattle.pdl_law.proofs.SquashFolds.{Tells, of_squasher_at}
 use Rattle.pdl_law.proofs.OrderSides.{Agrees, fork_at}
 
 -- a thread past a memory's reserves, no further than V, carries the ticket of the first pending write of a younger one
@@ -111,7 +114,7 @@ if_kept_is sq (Some t) u e = at (is_kept sq t.number) refl e
     at true f g = let same : t ≡ u = cc g in (g, subst (λ (x : Thread). is_kept sq x.number ≡ true) same f)
     at false f g = absurd (cc g)
 
-module _ (p : Pipe) (sound : Sound p) (still : ReplacesNone p) (leads : LeadsOn p) (ls : Locks) (c : Circuit) (vs : ℕ → View) (gates : Gates)
+module _ (p : Pipe) (sound : Sound p) (together : UpdatesTogether p) (leads : LeadsOn p) (ls : Locks) (c : Circuit) (vs : ℕ → View) (gates : Gates)
     (moves : ℕ → Signal) (made : IsLaid p ls vs gates moves c) (sides : Sides) (v : ℕ)
     (is : verify_stage p.stmts ≡ Some v) (has : HasTails p ls c vs gates moves sides v)
     (s : State) (st : machine.State) (bits : List Bool) (suits : Suits c s) (flight : InFlight p st)
@@ -147,15 +150,22 @@ module _ (p : Pipe) (sound : Sound p) (still : ReplacesNone p) (leads : LeadsOn 
         → stand.base + released + count_older (suc t.number) (list_three st (moving p st bits) m) ≡ stand.base + count_older (suc t.number) pending
     shifts k t e high = let h = cut.shifts k t m v e is high in omega (arith, h)
 
-    -- the tail of V's thread is where its squash cuts the lock
-    pub tail_is : (n : ℕ) → squasher (moving p st bits) ≡ Some n
+    -- the tail of the thread that squashes, in V or before it, is where its squash cuts the lock
+    pub tail_is : Tells s (squashing p st bits) (λ z. true) sides.squash (squash_stages p.stmts) → (n : ℕ) → squasher (moving p st bits) ≡ Some n
         → holds_ticket (ls.bits m) (gates.tail m) s (stand.base + released + count_older (suc n) (list_three st (moving p st bits) m))
-    tail_is n e =
-        let u = squasher_in p sound still st bits flight v is n e in
+    tail_is told n e =
+        let u = squasher_in p sound together st bits flight n e in
+        let w = squash_early p u.0 u.1 in
+        let same : w.0 ≡ v = some_is (sym w.1 ∙ is) in
+        let low : u.0 ≤ v = (let h = w.2 in omega (arith, h, same)) in
         has.tail m locked s suits
-        ∙ tail_now v u.0 u.1 (omega arith)
-        ∙ ap (λ x. x % 2 ^ ls.bits m) (sym (shifts v u.0 u.1 (omega arith)))
-        ∙ ap (λ i. (stand.base + released + count_older (suc i) (list_three st (moving p st bits) m)) % 2 ^ ls.bits m) u.2
+        ∙ of_squasher_at s (squashing p st bits) sides.squash (λ z. sides.tails z m) (sides.tails v m) u.0 u.2 u.3 (squash_stages p.stmts) u.1 told
+        ∙ tail_now u.0 u.4 u.5 low
+        ∙ ap (λ x. x % 2 ^ ls.bits m) (sym (shifts u.0 u.4 u.5 low))
+        ∙ ap (λ i. (stand.base + released + count_older (suc i) (list_three st (moving p st bits) m)) % 2 ^ ls.bits m) u.6
+      where
+        some_is : {a b : ℕ} → Some a ≡ Some b → a ≡ b
+        some_is i = cc i
 
     -- ---- WHO COMES
 

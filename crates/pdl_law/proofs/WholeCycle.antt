@@ -1,13 +1,14 @@
 -- A netlist of a whole pipe in one cycle: each stage is as the machine's, squashes are as they should be, and the next state stands for the machine's next state.
-use Rattle.std.proofs.Common.{◌≡◌, refl, sym, ap, ◌∙◌, subst, ℕ, ◌<◌, Bool, ◌&&◌, List, length, map, Option, None, Some, is_some, if◌then◌else◌, arith}
+use Rattle.std.proofs.Common.{◌≡◌, sym, ap, ◌∙◌, subst, ℕ, ◌<◌, Bool, ◌&&◌, List, length, map, Some, arith}
 use Rattle.std.specs.Prelude.{slice_index}
 use Rattle.pdl_word.specs.Words.{bit}
 use Rattle.pdl_semantics.specs.Flat.{Arrays, Pipe}
 use Rattle.pdl_semantics.specs.Stages.{stage_at, verify_stage}
+use Rattle.pdl_semantics.specs.Updates.{squash_stages}
 use Rattle.pdl_semantics.specs.Machine as machine
 use Rattle.pdl_semantics.specs.Machine.{Thread, deeds, fork_of, with_kept}
 use Rattle.pdl_semantics.specs.Moves.{is_empty, no_failure, ports_free, barrier_clear, merges_well, next_stage}
-use Rattle.pdl_semantics.specs.Cycle.{first, cycle, squasher, squash_stage, with_all_advised}
+use Rattle.pdl_semantics.specs.Cycle.{first, cycle, squasher, with_all_advised}
 use Rattle.pdl_net.specs.declared.Reg.{Reg}
 use Rattle.pdl_net.specs.Circuit.{Circuit, State}
 use Rattle.pdl_net.specs.Signal.{Signal}
@@ -25,16 +26,14 @@ use Rattle.pdl_law_parts.proofs.Moves.{all_seen, lives_fork}
 use Rattle.pdl_law_parts.proofs.Comers.{Spares, none_advised}
 use Rattle.pdl_law_parts.proofs.NextState.{stands_after}
 use Rattle.pdl_machine_inflight.specs.Readings.{Reading, reading}
-use Rattle.pdl_machine_inflight.proofs.Squashes.{stood_in, none_staged, staged}
-use Rattle.pdl_machine_inflight.specs.InFlight.{ReplacesNone}
-use Rattle.pdl_machine_inflight.proofs.DeedsIn.{fails_before}
-use Rattle.pdl_law.proofs.NoUpdates.{laid_still}
-use Rattle.pdl_law_sides.specs.Sides.{Sides, answers_of, all_answered, unsquashed, ports_open, barrier_open, turn}
+use Rattle.pdl_machine_inflight.proofs.Squashes.{stood_in}
+use Rattle.pdl_machine_inflight.proofs.DeedsIn.{verified_later}
+use Rattle.pdl_law_sides.specs.Sides.{Sides, answers_of, all_answered, unsquashed, ports_open, clear_to, barrier_open, turn}
 use Rattle.pdl_law_sides.specs.HasSides.{HasSides}
 use Rattle.pdl_law.specs.StandingStates.{IsLawful, IsKnown}
 use Rattle.pdl_law.proofs.PortSides.{PortStands, IsGiven, awaits_told, variable_told, ports_told}
 use Rattle.pdl_law.proofs.PortsNext.{ports_first, ports_next}
-use Rattle.pdl_law.proofs.Removals.{removes, unsquashed_is, barrier_is, kill_is}
+use Rattle.pdl_law.proofs.Removals.{removes, unsquashed_is, barrier_is, emptied_told, kill_is}
 use Rattle.pdl_law.proofs.OrderSides.{order_starts, order_kept, merges_is}
 use Rattle.pdl_law.proofs.SquashSides.{TailsStand, tails_start, squashed_is, tails_next}
 
@@ -48,10 +47,6 @@ pub record WholeStands (p : Pipe) (ls : Locks) (vs : ℕ → View) (sides : Side
 module _ (p : Pipe) (lawful : IsLawful p) (ls : Locks) (vs : ℕ → View) (gates : Gates) (moves : ℕ → Signal)
     (sides : Sides) (c : Circuit) (laid : IsLaid p ls vs gates moves c)
     (beside : HasSides p ls c vs gates moves sides) where
-  -- what is laid replaces no guess
-  still : ReplacesNone p
-  still = laid_still p ls vs gates moves c laid lawful.sound.inside
-
   -- THE START
 
   -- with registers at reset, where stages and locks stand for the machine's first state, so do ports, orders and second tickets
@@ -86,22 +81,23 @@ module _ (p : Pipe) (lawful : IsLawful p) (ls : Locks) (vs : ℕ → View) (gate
         let y = stood_in p st bits k t h in
         let w = (vs k).ended in
         let v = verify_stage p.stmts in
+        let zs = squash_stages p.stmts in
         let acts = later_acts p st bits k in
-        let pass = both (barrier_open v k w.barrier (sides.clear k)) (way_on (stage_at p k).next (turn p sides k) w) in
+        let pass = both (barrier_open v k w.barrier (clear_to v sides.clear k)) (way_on (stage_at p k).next (turn p sides k) w) in
         beside.gate k l s suits
         ∙ both_at s (all_answered p (answers_of sides) k (length p.mems) 0)
-        (both (unsquashed v k gates.squash) (both (ports_open sides w.asks) pass)) (is_empty t.awaits)
+        (both (unsquashed zs k sides.squash) (both (ports_open sides w.asks) pass)) (is_empty t.awaits)
         (may_pass p st bits acts k d)
         (awaits_told p lawful.reads lawful.leads lawful.inside c vs gates moves sides beside.port_owns beside.ports s st bits known.flight known.by whole.ports given k y.0 y.1
         ∙ ap (λ (u : Thread). bit (is_empty u.awaits)) y.2)
-        (λ a. both_at s (unsquashed v k gates.squash) (both (ports_open sides w.asks) pass) (no_failure acts)
+        (λ a. both_at s (unsquashed zs k sides.squash) (both (ports_open sides w.asks) pass) (no_failure acts)
         (ports_free p st bits acts d && (barrier_clear p acts d && merges_well p st k (next_stage p k d)))
-        (unsquashed_is p lawful.sound still c vs gates moves sides beside.removals s st bits suits known.flight known.by whole.stands.valid k later)
+        (unsquashed_is p lawful.sound lawful.updates c vs gates moves sides beside.removals s st bits suits known.flight known.by whole.stands.valid k later)
         (λ b. both_at s (ports_open sides w.asks) pass (ports_free p st bits acts d) (barrier_clear p acts d && merges_well p st k (next_stage p k d))
         (ports_told p lawful.reads lawful.leads lawful.inside c vs gates moves sides beside.port_owns beside.ports s st bits known.flight known.by whole.ports given k t w.asks so.asks later)
-        (λ e. both_at s (barrier_open v k w.barrier (sides.clear k)) (way_on (stage_at p k).next (turn p sides k) w)
+        (λ e. both_at s (barrier_open v k w.barrier (clear_to v sides.clear k)) (way_on (stage_at p k).next (turn p sides k) w)
         (barrier_clear p acts d) (merges_well p st k (next_stage p k d))
-        (barrier_is p lawful.sound still c vs gates moves sides beside.removals s st bits suits known.flight known.by whole.stands.valid k d w.barrier
+        (barrier_is p lawful.sound lawful.updates c vs gates moves sides beside.removals s st bits suits known.flight known.by whole.stands.valid k d w.barrier
         so.barrier later)
         (λ g. merges_is p lawful.sound c vs gates moves sides beside.order_owns beside.orders s st whole.orders k w d l
         (λ x i. so.env x (lives_fork p k x l i))))))
@@ -113,21 +109,12 @@ module _ (p : Pipe) (lawful : IsLawful p) (ls : Locks) (vs : ℕ → View) (gate
     -- the squash is as the machine's
     pub squashed_whole : IsSquashed p ls vs gates s st bits
     squashed_whole =
-        squashed_is p lawful.sound still lawful.leads ls c vs gates moves laid sides beside s st bits suits known.flight known.by known.used known.cut
+        squashed_is p lawful.sound lawful.updates lawful.leads ls c vs gates moves laid sides beside s st bits suits known.flight known.by known.used known.cut
         seen_whole whole.tails
 
-    -- a squash is of V
-    staged_whole : squash_stage (moving p st bits) ≡ (if is_some (squasher (moving p st bits)) then verify_stage p.stmts else None)
-    staged_whole = at (verify_stage p.stmts) refl
-      where
-        at : (o : Option ℕ) → verify_stage p.stmts ≡ o
-            → squash_stage (moving p st bits) ≡ (if is_some (squasher (moving p st bits)) then verify_stage p.stmts else None)
-        at None e = none_staged p e still st bits
-        at (Some v) e = staged p lawful.sound still st bits known.flight v e
-
-    -- no thread that moves is removed, and no guess has failed that a later stage verifies
+    -- no thread that moves is removed, and no stage past V verifies
     spares : Spares p st bits
-    spares = record { kept = known.spared; calm = λ k t h later. fails_before p lawful.sound.verifies still st k t later }
+    spares = record { kept = known.spared; calm = λ k later. verified_later p lawful.sound.verifies k later }
 
     -- no advisory memory is written
     pub calm_whole : (arrays : Arrays) → with_all_advised (moving p st bits) arrays ≡ arrays
@@ -145,13 +132,17 @@ module _ (p : Pipe) (lawful : IsLawful p) (ls : Locks) (vs : ℕ → View) (gate
           ports_next p lawful.reads lawful.leads lawful.some c vs gates moves sides (beside.port_owns m) m r is (lawful.inside m r is)
           (beside.ports m r is) s st bits known.flight known.next known.by (whole.ports m r is) given seen_whole known.spared
           (λ k. removes (squasher (moving p st bits)) (slot st k))
-          (λ k l. kill_is p lawful.sound still c vs gates moves sides beside.removals s st bits suits known.flight known.by whole.stands.valid seen_whole k l)
+          (λ k l. kill_is p lawful.sound lawful.updates c vs gates moves sides beside.removals s st bits suits known.flight known.by whole.stands.valid
+          seen_whole k l)
           (λ k u e. ap (removes (squasher (moving p st bits))) e) t regs arrays;
       orders =
           λ f q low e. order_kept p c vs gates moves sides (beside.order_owns f) f low
-          (beside.orders f q low e) s st bits known.by seen_whole squashed_whole.squash lawful.sound lawful.leads known.flight.count known.next staged_whole
+          (beside.orders f q low e) s st bits known.by seen_whole
+          (emptied_told p lawful.sound lawful.updates c vs gates moves sides beside.removals s st bits suits known.flight known.by whole.stands.valid
+          seen_whole f)
+          lawful.sound lawful.leads known.flight.count known.next
           (whole.orders f q low e) t regs arrays;
       tails =
-          tails_next p lawful.sound still lawful.leads ls c vs gates moves laid sides beside s st bits suits known.flight known.by known.used known.cut
+          tails_next p lawful.sound lawful.updates lawful.leads ls c vs gates moves laid sides beside s st bits suits known.flight known.by known.used known.cut
           seen_whole whole.tails whole.stands.locks t regs arrays;
     }

@@ -12,13 +12,14 @@ use Rattle.pdl_machine_lockuse.specs.Cut.{IsCut}
 use Rattle.pdl_law_parts.specs.Rows.{HaveRows}
 use Rattle.pdl_law_parts.specs.Served.{IsServed}
 use Rattle.pdl_machine_inflight.specs.Readings.{Reading, reading, Reads}
-use Rattle.pdl_machine_inflight.specs.InFlight.{InFlight}
+use Rattle.pdl_machine_inflight.specs.InFlight.{InFlight, UpdatesTogether}
 
 -- what the rules give of a pipe, as far as its netlist hangs on it
 pub record IsLawful (p : Pipe) : Type 0 where
   pub sound : Sound p
   pub leads : LeadsOn p
   pub some : 1 ≤ length p.stages
+  pub updates : UpdatesTogether p
   pub reads : Reads p
   pub rows : HaveRows p
   pub inside : (m : ℕ) (r : Reading) → reading p m ≡ Some r → r.stage < length p.stages

@@ -12,7 +12,8 @@ use Rattle.pdl_semantics.specs.Cycle.{PortWrite, Turn, turns, turns_from, first,
 use Rattle.pdl_semantics.specs.Cycle as stated
 use Rattle.pdl_semantics.specs.Lines.{Cycle, puts_for, puts_in, turn_cycle, turn_cycles}
 use Rattle.pdl_semantics.specs.Promises.{Refines}
-use Rattle.pdl_theory.proofs.StatedTheorems.{whole_refines, whole_advances, whole_paces}
+use Rattle.pdl_semantics.proofs.UpdateFree.{updates_idle}
+use Rattle.pdl_theory.proofs.StatedTheorems.{whole_refines, whole_advances, whole_paces, updates_alike}
 use Rattle.pdl_source_paths.specs.Source.{is_source, is_named}
 use Rattle.pdl_source_paths.proofs.PipeFacts.{of_source}
 use Rattle.pdl_rules.specs.Refusal.{KeepsRules}
@@ -143,4 +144,6 @@ module _ (p : tree.Pipe) (rules : KeepsRules p) (built : IsBuilt p) (source : is
         moves =
             λ k low. whole_advances (flat p) sound words (replies_in (flat p) (take k schedule)) (replies_of (delayed_count (flat p)) (slice_index schedule k));
         pace = whole_paces (flat p) sound words (replies_in (flat p) schedule);
+        updates =
+            λ replies. updates_idle p words (replies_in (flat p) schedule) replies (updates_alike (flat p) sound words (replies_in (flat p) schedule) replies);
       }

@@ -1,10 +1,11 @@
 -- All that is promised of a run.
-use Rattle.std.specs.Prelude.{◌≡◌, ℕ, ◌<◌, List, length, take, slice_index}
+use Rattle.std.specs.Prelude.{◌≡◌, ℕ, ◌<◌, Bool, List, length, take, slice_index}
 use Rattle.pdl_semantics.specs.Tree as tree
 use Rattle.pdl_semantics.specs.Flat.{arrays_of}
 use Rattle.pdl_semantics.specs.Flatten.{flat}
 use Rattle.pdl_semantics.specs.Lines.{run_lines}
 use Rattle.pdl_semantics.specs.Promises.{Refines, Advances, KeepsPace}
+use Rattle.pdl_semantics.specs.UpdateFree.{UpdatesAreIdle}
 use Rattle.pdl_net.specs.declared.Netlist.{Netlist}
 use Rattle.pdl_law_parts.specs.Places.{delayed_count}
 use Rattle.pdl_law_parts.specs.Runs.{shown_lines}
@@ -23,3 +24,5 @@ pub record IsRunOf (p : tree.Pipe) (n : Netlist) (image : List (List ℕ)) (sche
       (replies_of (delayed_count (flat p)) (slice_index schedule k))
   -- and so enough threads end
   pub pace : KeepsPace (flat p) (arrays_of (in_order (flat p) image)) (replies_in (flat p) schedule)
+  -- without its updates the source writes the same, and what both commit, each with any replies, begins one list
+  pub updates : (replies : List (List Bool)) → UpdatesAreIdle p (arrays_of (in_order (flat p) image)) (replies_in (flat p) schedule) replies

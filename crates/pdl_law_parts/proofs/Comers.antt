@@ -5,7 +5,7 @@ use Rattle.std.proofs.lemmas.Bool.{false≢true, eqb-true, leb-true}
 use Rattle.std.proofs.lemmas.List.{length-replicate, length-map}
 use Rattle.pdl_word.specs.Words.{bit}
 use Rattle.pdl_semantics.specs.Flat.{Arrays, Next, Ends, Goes, Forks, Stmt, Stage, Pipe, start_env}
-use Rattle.pdl_semantics.specs.Stages.{stage_at, goes_to, list_any, reserve_stage, commit_stage, is_verify}
+use Rattle.pdl_semantics.specs.Stages.{stage_at, goes_to, list_any, reserve_stage, commit_stage, is_verify, verify_stage}
 use Rattle.pdl_semantics.specs.Machine as machine
 use Rattle.pdl_semantics.specs.Machine.{Thread, deeds, held_before, is_held, with_kept}
 use Rattle.pdl_semantics.specs.Moves.{next_stage}
@@ -36,8 +36,8 @@ use Rattle.pdl_semantics.specs.PendingLists.{count_older}
 -- no thread that moves is removed by a squash
 pub record Spares (p : Pipe) (st : machine.State) (bits : List Bool) : Type 0 where
   pub kept : (k : ℕ) (t : Thread) → here p st bits k ≡ Some t → stage_moves p st bits k ≡ true → is_kept (squasher (moving p st bits)) t.number ≡ true
-  -- no guess has failed that a later stage verifies
-  pub calm : (k : ℕ) (t : Thread) → here p st bits k ≡ Some t → verifies_from p (suc k) ≡ true → (deeds p st k t).fails ≡ false
+  -- no row after V verifies
+  pub calm : (k : ℕ) → verifies_from p (suc k) ≡ true → verify_stage p.stmts ≡ Some k → ⊥
 
 -- WHAT LIVES ON LIVED BEFORE
 
@@ -317,7 +317,7 @@ module _ (p : Pipe) (ls : Locks) (vs : ℕ → View) (moves : ℕ → Signal) (s
         held = λ m a live. so.held m a (marks_down p j q Held m a (omega (arith, low)) live) ∙ ap (λ ps. bit (is_held ps m a)) (used.in_use.held j q t h on);
         guess =
             λ v e i m. ap (λ l'. slice_index l' i)
-            (so.guess (spared.calm j t h (verifies_down p (suc j) q (omega (arith, low)) v)) (verifies_down p j q (omega (arith, low)) v) e)
+            (so.guess (λ f. spared.calm j (verifies_down p (suc j) q (omega (arith, low)) v)) (verifies_down p j q (omega (arith, low)) v) e)
             ∙ signal_at s (vs j).ended.guess i (let z = so.guess_long in omega (arith, m, z));
         tickets = λ m e r high. (
           subst

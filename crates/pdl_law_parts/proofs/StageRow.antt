@@ -221,6 +221,6 @@ module _ (c : Circuit) (p : Pipe) (ls : Locks) (vs : ℕ → View) (s : State) (
       → IsLive p k (record { stage = j; guards = gs; op = op })
       → ((s : State) → Suits c s → r.on.value s ≡ bit (taken_in gs w s)) → IsOp c p ls (vs k).tickets gs op w r → j ≡ k
       → (all_hold gs d.env ≡ true → locks_ready p st thread d ≡ true
-      → (is_early p (record { stage = j; guards = gs; op = op }) ≡ true) × IsOpFine p st thread op d)
+      → (is_early p (record { stage = j; guards = gs; op = op }) ≡ true) × IsOpFine p st thread j op d)
       → MayReserve p st thread (done st thread (all_hold gs d.env) op d) → Follows p k s st thread w d
       → Follows p k s st thread (walk_after op r ls w) (done st thread (all_hold gs d.env) op d)

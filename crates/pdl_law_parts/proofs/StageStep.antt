@@ -17,7 +17,7 @@ use Rattle.pdl_law_parts.specs.Views.{View}
 use Rattle.pdl_law_parts.specs.Stands.{IsSo, Follows}
 use Rattle.pdl_law_parts.proofs.StageRow.{IsLive, IsAround, done, quiet, set_env, keep_env, word_at, is_taken, is_not, early, FollowsOp, MayReserve}
 use Rattle.pdl_law_parts.proofs.StageLocks.{follows_write, follows_reserve_read, follows_reserve_write, follows_block, follows_release}
-use Rattle.pdl_law_parts.proofs.StageCalls.{follows_call, follows_fetch, follows_spec_call, follows_verify, follows_check, follows_barrier}
+use Rattle.pdl_law_parts.proofs.StageCalls.{follows_call, follows_fetch, follows_spec_call, follows_verify, follows_update, follows_check, follows_barrier}
 use Rattle.pdl_word.proofs.Numbers.{eqb_self}
 
 module _ (c : Circuit) (p : Pipe) (ls : Locks) (vs : ℕ → View) (s : State) (st : machine.State) (k thread : ℕ) (around : IsAround c p ls vs s st k thread) where
@@ -158,7 +158,7 @@ module _ (c : Circuit) (p : Pipe) (ls : Locks) (vs : ℕ → View) (s : State) (
   follows_op (DelayedRead y m a) = follows_fetch c p ls vs s st k thread around y m a
   follows_op (SpecCall args) = follows_spec_call c p ls vs s st k thread around args
   follows_op (Verify true args) = follows_verify c p ls vs s st k thread around args
-  follows_op (Verify false args) = λ j gs r w d live on row here fine may q. absurd row
+  follows_op (Verify false args) = follows_update c p ls vs s st k thread around args
   follows_op SpecCheck = follows_check c p ls vs s st k thread around
   follows_op SpecBarrier = follows_barrier c p ls vs s st k thread around
   follows_op (AdviceBind y e) = λ j gs r w d live on row here fine may q. absurd row
@@ -168,7 +168,7 @@ module _ (c : Circuit) (p : Pipe) (ls : Locks) (vs : ℕ → View) (s : State) (
   -- the deeds follow after each row
   pub follows_row : (x : Stmt) (r : Row) (w : Walk) (d : Deeds) → IsLive p k x → IsRow c p ls (vs k).tickets x w r
       → x.stage ≡ k
-      → (all_hold x.guards d.env ≡ true → locks_ready p st thread d ≡ true → (is_early p x ≡ true) × IsOpFine p st thread x.op d)
+      → (all_hold x.guards d.env ≡ true → locks_ready p st thread d ≡ true → (is_early p x ≡ true) × IsOpFine p st thread x.stage x.op d)
       → MayReserve p st thread (done st thread (all_hold x.guards d.env) x.op d)
       → Follows p k s st thread w d → Follows p k s st thread (walk_after x.op r ls w) (done st thread (all_hold x.guards d.env) x.op d)
   follows_row x r w d live row here fine may q = follows_op x.op x.stage x.guards r w d live row.on row.op here fine may q

@@ -99,6 +99,6 @@ asks_mark Late op m a = asks_late op m a
 abbrev pub mark_from : Pipe → ℕ → Mark → ℕ → ℕ → Bool
 mark_from p k mark m a = list_any (λ (r : Stmt). nat_le k r.stage && asks_mark mark r.op m a) p.stmts
 
--- a row of a stage from k on verifies the guess
+-- a row of a stage from k on verifies the guess; an update of it stands before that
 abbrev pub verifies_from : Pipe → ℕ → Bool
 verifies_from p k = list_any (λ (r : Stmt). nat_le k r.stage && is_verify r.op) p.stmts

@@ -4,7 +4,7 @@ use Rattle.pdl_semantics.specs.Flat.{is_delayed, Op, Bind, CombRead, DelayedRead
 use Rattle.pdl_semantics.specs.Stages.{mem_at}
 use Rattle.pdl_word.specs.Each.{Each}
 
--- a row stands for a statement, where one that reads at once reads a memory that answers at once; none stands for an update, nor for what is advised
+-- a row stands for a statement, where one that reads at once reads a memory that answers at once; none stands for what is advised
 abbrev pub HasRow : Pipe → Op → Type 0
 HasRow p (CombRead x m a) = is_delayed (mem_at p m).kind ≡ false
 HasRow p (Bind x e) = ⊤
@@ -16,8 +16,7 @@ HasRow p (Block m a) = ⊤
 HasRow p (Release m a) = ⊤
 HasRow p (Call args) = ⊤
 HasRow p (SpecCall args) = ⊤
-HasRow p (Verify true args) = ⊤
-HasRow p (Verify false args) = ⊥
+HasRow p (Verify last args) = ⊤
 HasRow p SpecCheck = ⊤
 HasRow p SpecBarrier = ⊤
 HasRow p (AdviceBind x e) = ⊥

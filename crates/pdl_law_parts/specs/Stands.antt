@@ -2,7 +2,7 @@
 use Rattle.std.specs.Prelude.{◌≡◌, ℕ, suc, ◌+◌, ◌<◌, ◌≤◌, Bool, true, false, not, List, [], ◌∷◌, ◌++◌, map, length, slice_index, slice_index_or, Option, Some, None, is_some, if◌then◌else◌, nat_lt, ⊤}
 use Rattle.pdl_word.specs.Words.{bit}
 use Rattle.pdl_semantics.specs.Flat.{Pipe, is_delayed}
-use Rattle.pdl_semantics.specs.Stages.{mem_at, reserve_stage, commit_stage}
+use Rattle.pdl_semantics.specs.Stages.{mem_at, reserve_stage, commit_stage, verify_stage}
 use Rattle.pdl_semantics.specs.Machine as machine
 use Rattle.pdl_semantics.specs.Machine.{Thread, Pending, Reserved, Written, Deeds, deeds, held_before, is_held, with_kept}
 use Rattle.pdl_semantics.specs.Cycle.{is_kept, squasher, all_releases, list_three, new_entries}
@@ -123,7 +123,8 @@ pub record IsSo (p : Pipe) (k : ℕ) (s : State) (w : Walk) (d : Deeds) : Type 0
   pub short : AreShort p w.births
   pub asks : d.asks ≡ asked_in s w.asks
   pub guess_long : length w.guess ≡ length p.start
-  pub guess : d.fails ≡ false → IsGuess p k s w.guess d.guess
+  -- after a verify that failed nobody asks for the guess any more
+  pub guess : (d.fails ≡ true → verify_stage p.stmts ≡ Some k → ⊥) → IsGuess p k s w.guess d.guess
   pub fails : w.fails.value s ≡ bit d.fails
   pub barrier : w.barrier.value s ≡ bit d.barrier
 

@@ -164,7 +164,7 @@ pub record IsWord (p : Pipe) (ls : Locks) (m : ℕ) (addr ticket f : Signal) (s 
   pub locked : is_locked p m ≡ true
       → ThroughLock ls m ticket s (λ x t. look_ready (ls.kind m) look_kind.R x t (addr.value s) ≡ true → f.value s ≡ look_value x t (addr.value s))
 
--- what a row's signals say, by its guards, where the thread has these tickets; the address of a reservation for writing fits. No row stands for an update, nor for what is advised
+-- what a row's signals say, by its guards, where the thread has these tickets; the address of a reservation for writing fits. No row stands for what is advised
 abbrev pub IsOp : Circuit → Pipe → Locks → (ℕ → Signal) → List Guard → Op → Walk → Row → Type 0
 IsOp c p ls tickets gs (Bind x e) w r = (x < p.vars) × WhereTaken c gs w (HasValue e w r.value) × WhereNot c gs w (λ s. r.value.value s ≡ (w.vars x).value s)
 IsOp c p ls tickets gs (CombRead x m a) w r =
@@ -183,7 +183,11 @@ IsOp c p ls tickets gs (SpecCall args) w r =
     (length r.args ≤ p.vars) × WhereTaken c gs w (HaveValues args w r.args)
     × (length r.guess ≡ length w.guess) × WhereTaken c gs w (λ s. values_at s r.guess ≡ values_at s r.args)
     × WhereNot c gs w (λ s. values_at s r.guess ≡ values_at s w.guess)
-IsOp c p ls tickets gs (Verify false args) w r = ⊥
+IsOp c p ls tickets gs (Verify false args) w r =
+    (length r.args ≤ p.vars) × WhereTaken c gs w (HaveValues args w r.args)
+    × (length w.guess ≡ length args) × WhereTaken c gs w (λ s. r.value.value s ≡ bit (not (same_args (values_at s r.args) (values_at s w.guess))))
+    × (length r.guess ≡ length w.guess) × WhereTaken c gs w (λ s. values_at s r.guess ≡ values_at s r.args)
+    × WhereNot c gs w (λ s. values_at s r.guess ≡ values_at s w.guess)
 IsOp c p ls tickets gs (Verify true args) w r =
     (length r.args ≤ p.vars) × WhereTaken c gs w (HaveValues args w r.args)
     × (length w.guess ≡ length args) × WhereTaken c gs w (λ s. r.value.value s ≡ bit (not (same_args (values_at s r.args) (values_at s w.guess))))
@@ -252,7 +256,12 @@ walk_after (Release m a) r ls w =
 walk_after (Call args) r ls w = record w { births = record { on = r.on; args = r.args } ∷ w.births }
 walk_after (DelayedRead x m a) r ls w = record w { asks = w.asks ++ record { mem = m; var = x; on = r.on; addr = w.vars a } ∷ [] }
 walk_after (SpecCall args) r ls w = record w { births = record { on = r.on; args = r.args } ∷ w.births; guess = r.guess }
-walk_after (Verify false args) r ls w = w
+walk_after (Verify false args) r ls w =
+    record w {
+      births = record { on = both r.on r.value; args = r.args } ∷ w.births;
+      guess = r.guess;
+      fails = mux_signal (both r.on r.value) one w.fails;
+    }
 walk_after (Verify true args) r ls w =
     record w { births = record { on = both r.on r.value; args = r.args } ∷ w.births; fails = mux_signal (both r.on r.value) one w.fails }
 walk_after SpecBarrier r ls w = record w { barrier = mux_signal r.on one w.barrier }

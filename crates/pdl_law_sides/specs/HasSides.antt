@@ -1,7 +1,8 @@
 -- What stands beside the stages of a pipe, by the laws of its circuits.
-use Rattle.std.specs.Prelude.{◌≡◌, ℕ, ◌+◌, ◌<◌, ◌≤◌, true, Some, None, length}
+use Rattle.std.specs.Prelude.{◌≡◌, ℕ, ◌+◌, ◌<◌, ◌≤◌, true, Some, length, Contains}
 use Rattle.pdl_semantics.specs.Flat.{Pipe}
 use Rattle.pdl_semantics.specs.Stages.{stage_at, reserve_stage, verify_stage}
+use Rattle.pdl_semantics.specs.Updates.{squash_stages}
 use Rattle.pdl_net.specs.Circuit.{Circuit, State, HasReg}
 use Rattle.pdl_net.specs.Signal.{Signal}
 use Rattle.pdl_net.specs.Well.{Suits}
@@ -16,7 +17,7 @@ use Rattle.pdl_law_parts.specs.Views.{View, Gates, Comer, comers, first_coming}
 use Rattle.pdl_law_parts.specs.Ports.{all_reserves}
 use Rattle.pdl_law_parts.specs.Compiled.{Same, Becomes}
 use Rattle.pdl_machine_inflight.specs.Readings.{Reading, reading, places, place_at, branch_stages}
-use Rattle.pdl_law_sides.specs.Sides.{Sides, answers_of, with_answer, gate_where, port_step, order_step, with_tickets}
+use Rattle.pdl_law_sides.specs.Sides.{Sides, answers_of, with_answer, gate_where, any_of, any_removes, of_squasher, port_step, order_step, with_tickets}
 
 -- a fragment without array has its own registers
 pub record HasOwn (c : Circuit) (own : Own) : Type 0 where
@@ -37,17 +38,17 @@ pub record HasOrder (p : Pipe) (c : Circuit) (vs : ℕ → View) (gates : Gates)
   pub owned : HasOwn c own
   pub starts : order_laws.StartLaw (sides.order f).stands c own
   pub first : order_laws.FirstLaw (sides.order f).stands (sides.order f).first (sides.order f).empty
-  pub step : order_laws.StepLaw (sides.order f).stands (branch_stages p f) own c (order_step p vs gates moves f)
+  pub step : order_laws.StepLaw (sides.order f).stands (branch_stages p f) own c (order_step p vs sides.squash moves f)
 
--- the nets by which the stage V squashes
+-- the nets by which a stage squashes
 abbrev pub squash_of : (ℕ → View) → (ℕ → Signal) → ℕ → squash_laws.SquashSignals
-squash_of vs moves v = record { valid = λ k. (vs k).valid; stage = v; moves = moves v; fails = (vs v).ended.fails }
+squash_of vs moves z = record { valid = λ k. (vs k).valid; stage = z; moves = moves z; fails = (vs z).ended.fails }
 
--- squashes: by V of the stages before it, or none
+-- squashes, by V and by U of the stages before them: each has its law, and of all stages one squashes or removes where one of the two does
 pub record HasRemovals (p : Pipe) (c : Circuit) (vs : ℕ → View) (gates : Gates) (moves : ℕ → Signal) (sides : Sides) : Type 0 where
-  pub law : (v : ℕ) → verify_stage p.stmts ≡ Some v → squash_laws.SquashLaw (squash_of vs moves v) gates.squash gates.kill sides.clear
-  pub never : verify_stage p.stmts ≡ None → Same c gates.squash zero_bit
-  pub spared : (k : ℕ) → k < length p.stages → ((v : ℕ) → verify_stage p.stmts ≡ Some v → v ≤ k) → Same c (gates.kill k) zero_bit
+  pub law : (z : ℕ) → Contains (squash_stages p.stmts) z → squash_laws.SquashLaw (squash_of vs moves z) (sides.squash z) (sides.removed z) (sides.clear z)
+  pub squash : Same c gates.squash (any_of (squash_stages p.stmts) sides.squash)
+  pub kill : (k : ℕ) → k < length p.stages → Same c (gates.kill k) (any_removes (squash_stages p.stmts) sides.removed k)
 
 -- where a squash cuts each lock: up to the stage of its reserves after all that this cycle reserves, and from there on up to V where it did before
 pub record HasTails (p : Pipe) (ls : Locks) (c : Circuit) (vs : ℕ → View) (gates : Gates) (moves : ℕ → Signal) (sides : Sides) (v : ℕ) : Type 0 where
@@ -56,7 +57,8 @@ pub record HasTails (p : Pipe) (ls : Locks) (c : Circuit) (vs : ℕ → View) (g
       → holds_ticket (ls.bits m) (sides.tails k m) s (next_ticket x + length (asked_addresses s (all_reserves m vs moves (length p.stages) 0)))
   pub carried : (k m : ℕ) → is_locked p m ≡ true → k ≤ v → reserve_stage p m < k
       → Becomes c (sides.tails k m) (first_coming (λ (o : Comer). o.tickets m) (comers p (with_tickets vs sides.tails) moves k) (sides.tails k m))
-  pub tail : (m : ℕ) → is_locked p m ≡ true → Same c (gates.tail m) (sides.tails v m)
+  pub tail : (m : ℕ) → is_locked p m ≡ true
+      → Same c (gates.tail m) (of_squasher (squash_stages p.stmts) sides.squash (λ z. sides.tails z m) (sides.tails v m))
 
 -- all of it, and how the stages take it: variables with the answers of this cycle, and gates
 pub record HasSides (p : Pipe) (ls : Locks) (c : Circuit) (vs : ℕ → View) (gates : Gates) (moves : ℕ → Signal) (sides : Sides) : Type 0 where

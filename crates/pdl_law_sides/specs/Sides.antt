@@ -1,7 +1,8 @@
 -- What stands beside the stages, in signals: the ports of delayed memories, the orders of forks, and speculation; and what the stages ask of them.
-use Rattle.std.specs.Prelude.{ℕ, zero, suc, ◌==◌, Bool, List, [], ◌∷◌, Option, Some, None, if◌then◌else◌, nat_lt, length}
+use Rattle.std.specs.Prelude.{ℕ, zero, suc, ◌==◌, Bool, List, [], ◌∷◌, Option, Some, None, if◌then◌else◌, nat_lt, length, filter}
 use Rattle.pdl_semantics.specs.Flat.{Next, Ends, Goes, Forks, Branch, Pipe}
 use Rattle.pdl_semantics.specs.Stages.{stage_at, is_inside, sides_of, merges_fork, verify_stage}
+use Rattle.pdl_semantics.specs.Updates.{squash_stages}
 use Rattle.pdl_semantics.specs.Cycle.{merges_by}
 use Rattle.pdl_net.specs.Circuit.{State}
 use Rattle.pdl_net.specs.Signal.{Signal, mux_signal}
@@ -27,11 +28,13 @@ pub record OrderNets : Type 1 where
   pub first : Signal
   pub empty : Signal
 
--- of each memory the port, of each stage that forks the order, of each stage whether no later one up to V holds a thread, and of each stage and memory the ticket from which on the thread's squash would drop pending writes
+-- of each memory the port, of each stage that forks the order, of each stage that squashes whether it does, whom it removes, and which stages no thread stands behind up to it, and of each stage and memory the ticket from which on the thread's squash would drop pending writes
 pub record Sides : Type 1 where
   pub port : ℕ → PortNets
   pub order : ℕ → OrderNets
-  pub clear : ℕ → Signal
+  pub squash : ℕ → Signal
+  pub removed : ℕ → ℕ → Signal
+  pub clear : ℕ → ℕ → Signal
   pub tails : ℕ → ℕ → Signal
 
 -- the answers of each memory's port
@@ -76,15 +79,36 @@ abbrev pub all_answered : Pipe → (ℕ → ℕ → AnswerSignals) → ℕ → �
 all_answered p answers k zero m = one
 all_answered p answers k (suc n) m = both (memory_answered p answers k m (reading p m)) (all_answered p answers k n (suc m))
 
--- a stage before V moves only where no squash happens
-abbrev pub unsquashed : Option ℕ → ℕ → Signal → Signal
-unsquashed None k squash = one
-unsquashed (Some v) k squash = if nat_lt k v then mux_signal squash zero_bit one else one
+-- a stage moves only where none of these stages, as far as they are later, squashes
+abbrev pub unsquashed : List ℕ → ℕ → (ℕ → Signal) → Signal
+unsquashed [] k squash = one
+unsquashed (z ∷ zs) k squash = if nat_lt k z then mux_signal (squash z) zero_bit (unsquashed zs k squash) else unsquashed zs k squash
+
+-- whether one of these stages has a bit that is 1
+abbrev pub any_of : List ℕ → (ℕ → Signal) → Signal
+any_of [] f = zero_bit
+any_of (z ∷ []) f = f z
+any_of (z ∷ y ∷ zs) f = mux_signal (f z) one (any_of (y ∷ zs) f)
+
+-- whether one of these stages, as far as they are later, removes who stands in stage k
+abbrev pub any_removes : List ℕ → (ℕ → ℕ → Signal) → ℕ → Signal
+any_removes zs removed k = any_of (filter (nat_lt k) zs) (λ z. removed z k)
+
+-- of these stages the one that squashes has this signal; the last one, where none before it does
+abbrev pub of_squasher : List ℕ → (ℕ → Signal) → (ℕ → Signal) → Signal → Signal
+of_squasher [] squash of none = none
+of_squasher (z ∷ []) squash of none = of z
+of_squasher (z ∷ y ∷ zs) squash of none = mux_signal (squash z) (of z) (of_squasher (y ∷ zs) squash of none)
 
 -- the port of each delayed read on its path is free
 abbrev pub ports_open : Sides → List Ask → Signal
 ports_open sides [] = one
 ports_open sides (q ∷ qs) = both (if_on q.on (sides.port q.mem).free) (ports_open sides qs)
+
+-- whether no later stage up to V holds a thread
+abbrev pub clear_to : Option ℕ → (ℕ → ℕ → Signal) → ℕ → Signal
+clear_to None clear k = one
+clear_to (Some v) clear k = clear v k
 
 -- at a barrier no later stage up to V holds a thread
 abbrev pub barrier_open : Option ℕ → ℕ → Signal → Signal → Signal
@@ -109,9 +133,10 @@ turn p sides k q = merge_turn sides (stage_at p q).merges (stage_at p k).branche
 abbrev pub gate_where : Pipe → (ℕ → View) → Gates → Sides → ℕ → Signal
 gate_where p vs gates sides k =
     both (all_answered p (answers_of sides) k (length p.mems) 0)
-    (both (unsquashed (verify_stage p.stmts) k gates.squash)
+    (both (unsquashed (squash_stages p.stmts) k sides.squash)
     (both (ports_open sides (vs k).ended.asks)
-    (both (barrier_open (verify_stage p.stmts) k (vs k).ended.barrier (sides.clear k)) (way_on (stage_at p k).next (turn p sides k) (vs k).ended))))
+    (both (barrier_open (verify_stage p.stmts) k (vs k).ended.barrier (clear_to (verify_stage p.stmts) sides.clear k))
+    (way_on (stage_at p k).next (turn p sides k) (vs k).ended))))
 
 -- ---- what the stages do to a port
 
@@ -176,13 +201,17 @@ leaves_fork p vs moves f (suc n) k =
     then mux_signal (both (moves k) (into_merge p f (stage_at p k).next (vs k).ended)) one (leaves_fork p vs moves f n (suc k))
     else leaves_fork p vs moves f n (suc k)
 
--- what a cycle does to the order of a fork
-abbrev pub order_step : Pipe → (ℕ → View) → Gates → (ℕ → Signal) → ℕ → order_laws.StepSignals
-order_step p vs gates moves f = record {
+-- whether one of these stages squashes, in which or before which the fork merges
+abbrev pub emptied_by : Pipe → ℕ → List ℕ → (ℕ → Signal) → Signal
+emptied_by p f zs squash = any_of (filter (λ z. merges_by p f (Some z)) zs) squash
+
+-- what a cycle does to the order of a fork, where stages squash so
+abbrev pub order_step : Pipe → (ℕ → View) → (ℕ → Signal) → (ℕ → Signal) → ℕ → order_laws.StepSignals
+order_step p vs squash moves f = record {
   entered_first = both (moves f) (into_first p f (stage_at p f).next (vs f).ended);
   entered_second = both (moves f) (into_second p f (stage_at p f).next (vs f).ended);
   left = leaves_fork p vs moves f (length p.stages) 0;
-  emptied = if merges_by p f (verify_stage p.stmts) then gates.squash else zero_bit;
+  emptied = emptied_by p f (squash_stages p.stmts) squash;
 }
 
 -- ---- tails

@@ -3,7 +3,11 @@ pub mod RingValues
 pub mod Sizes
 pub mod RingGrowth
 pub mod Trees
-pub mod NearestSlots
+pub mod SlotBits
+pub mod SlotWidths
+pub mod Turns
+pub mod SlotWords
+pub mod WonSlots
 pub mod Reserves
 pub mod Fills
 pub mod Ends

@@ -1,21 +1,21 @@
 -- What the nets of looks say of the pending writes.
-use Rattle.std.proofs.Common.{◌≡◌, ◌≢◌, ℕ, zero, suc, ◌+◌, ◌-◌, ◌*◌, ◌%◌, ◌^◌, ◌<◌, ◌≤◌, ◌⊎◌, inl, inr, List, [], ◌∷◌, length, refl, sym, ap, ◌∙◌, arith, ⊎_elim, lt-ltb, le-ltb, eq-eqb, ne_eqb}
-use Rattle.std.specs.Prelude.{◌==◌, if◌then◌else◌, Bool, true, false, Option}
+use Rattle.std.proofs.Common.{◌≡◌, ◌≢◌, ℕ, zero, suc, ◌+◌, ◌-◌, ◌%◌, ◌^◌, ◌<◌, ◌≤◌, ◌⊎◌, inl, inr, List, [], ◌∷◌, length, refl, sym, ap, ◌∙◌, arith, ⊎_elim, lt-ltb, le-ltb, eq-eqb, ne_eqb}
+use Rattle.std.specs.Prelude.{◌==◌, if◌then◌else◌, Bool, true, false, Option, nat_lt}
+use Rattle.std.specs.Int.{bit_at}
 use Rattle.std.proofs.lemmas.Bool.{cases_lt, cases_eq}
-use Rattle.std.proofs.lemmas.Nat.{mod_below}
 use Rattle.pdl_word.specs.Words as words
 use Rattle.pdl_word.specs.Words.{bit}
 use Rattle.pdl_net.specs.Circuit.{State}
-use Rattle.pdl_net.specs.Signal.{Signal, reg_value, const_value, bin_value, mux_value}
-use Rattle.pdl_lockapi.specs.Lock.{Entry, LockState, entry_at, is_free, youngest, older, Covered, next_ticket}
+use Rattle.pdl_net.specs.Signal.{Signal, reg_value, const_value, bin_value}
+use Rattle.pdl_lockapi.specs.Lock.{Entry, LockState, entry_at, is_free, youngest, Covered, next_ticket}
 use Rattle.pdl_lockapi.specs.Laws.{RoomLaw, TicketLaw}
 use Rattle.pdl_lockapi.specs.Second.{Room2Law, Ticket2Law}
 use Rattle.pdl_lock_ring.specs.declared.layout.RingLayout.{RingLayout}
 use Rattle.pdl_lock_ring.specs.Slots.{IsSized, HasEntries, reg_of, addr_at}
-use Rattle.pdl_lock_ring.specs.Looks.{tail_signal, second_ticket, count_signal, room_signal, room2_signal, ahead, older_count, last_older, order_at, back_at, same_at}
-use Rattle.pdl_lock_ring.proofs.SlotNumbers.{sub_held, pred_held, sum_held, slot_held, half_mod, order_mod, index_of}
-use Rattle.pdl_lock_ring.proofs.RingValues.{mux_one, mux_zero}
-use Rattle.pdl_lock_ring.proofs.Trees.{less_one, less_none}
+use Rattle.pdl_lock_ring.specs.Looks.{tail_signal, second_ticket, count_signal, room_signal, room2_signal, older_slots, same_at}
+use Rattle.pdl_lock_ring.proofs.SlotNumbers.{sub_held, sum_held, index_of}
+use Rattle.pdl_lock_ring.proofs.Turns.{less_is}
+use Rattle.pdl_lock_ring.proofs.SlotWords.{older_bit}
 use Rattle.pdl_word.proofs.Bools.{if_false}
 
 -- how many writes are pending
@@ -61,58 +61,34 @@ module _ (stands : State → LockState → Type 0) (l : RingLayout) (g : ℕ →
 
 -- ---- which pending writes are older
 
--- a look's nets: d pending writes are older, and the youngest of them has this ticket
+-- a look's word: the slots of the d oldest pending writes
 pub record Seeks (l : RingLayout) (s : State) (x : LockState) (t : Signal) (d : ℕ) : Type 0 where
   pub few : d ≤ length x.entries
-  pub older : (older_count l t).value s ≡ d
-  pub last : 1 ≤ d → (last_older l t).value s ≡ (x.base + d - 1) % 2 ^ l.ticket
-
-ahead_value : (l : RingLayout) (g : ℕ → Signal) (s : State) (x : LockState) (f : Signal) (t : ℕ) → HasEntries l g s x
-    → f.width ≡ l.ticket → x.base ≤ t → t - x.base < 2 ^ l.ticket → f.value s ≡ t % 2 ^ l.ticket
-    → (ahead l f).value s ≡ t - x.base
-unfolding bin_value reg_value
-ahead_value l g s x f t h w from to e =
-    ap (λ n. words.sub n (f.value s) (reg_of s l.from)) w
-    ∙ ap (λ n. words.sub l.ticket n (reg_of s l.from)) e
-    ∙ ap (words.sub l.ticket (t % 2 ^ l.ticket)) h.head
-    ∙ sub_held l.ticket x.base t from to
+  pub older : (i : ℕ) → i < l.size → bit_at ((older_slots l t).value s) ((x.base + i) % l.size) ≡ bit (nat_lt i d)
 
 -- a ticket up to the next one
 pub seeks_covered : (l : RingLayout) (g : ℕ → Signal) (s : State) (x : LockState) (f : Signal) (t : ℕ) → IsSized l
-    → HasEntries l g s x → f.width ≡ l.ticket → Covered x t → f.value s ≡ t % 2 ^ l.ticket → Seeks l s x f (t - x.base)
-unfolding mux_value bin_value const_value
-seeks_covered l g s x f t z h w c e =
-    let n = length x.entries in
-    let a = ahead_value l g s x f t h w c.from (omega (arith, c.to, c.from, h.slots.room, z.fits)) e in
-    let k = count_value l g s x z h in
-    let late : words.less ((count_signal l).value s) ((ahead l f).value s) ≡ 0 =
-    less_none ((count_signal l).value s) ((ahead l f).value s) (omega (arith, a, k, c.from, c.to)) in
+    → HasEntries l g s x → Covered x t → f.value s ≡ t % 2 ^ l.ticket → Seeks l s x f (t - x.base)
+seeks_covered l g s x f t z h c e =
+    let d = t - x.base in
+    let held : f.value s ≡ (x.base + d) % 2 ^ l.ticket = e ∙ ap (λ m. m % 2 ^ l.ticket) (omega (arith, c.from)) in
+    let le : d ≤ length x.entries = omega (arith, c.from, c.to) in
     record {
-      few = omega (arith, c.from, c.to);
-      older = mux_zero _ ((count_signal l).value s) ((ahead l f).value s) late ∙ a;
-      last = λ some.
-          ap (λ m. words.sub l.ticket m 1) (mux_zero _ ((tail_signal l).value s) (f.value s) late ∙ e)
-          ∙ pred_held l.ticket t (omega (arith, z.whole, z.some)) (omega (arith, some))
-          ∙ ap (λ m. m % 2 ^ l.ticket) (omega (arith, some, c.from));
+      few = le;
+      older = λ i lt. older_bit l g s x z h f d d i held le (λ j q. refl) (omega (arith, le, h.slots.room)) (omega (arith, le, h.slots.room, z.some)) lt;
     }
 
 -- the ticket after the next one
 pub seeks_late : (l : RingLayout) (g : ℕ → Signal) (s : State) (x : LockState) (f : Signal) → IsSized l
-    → HasEntries l g s x → f.width ≡ l.ticket → 2 ≤ l.size → f.value s ≡ (next_ticket x + 1) % 2 ^ l.ticket
+    → HasEntries l g s x → 2 ≤ l.size → f.value s ≡ (next_ticket x + 1) % 2 ^ l.ticket
     → Seeks l s x f (length x.entries)
-unfolding mux_value bin_value reg_value const_value
-seeks_late l g s x f z h w two e =
+seeks_late l g s x f z h two e =
     let n = length x.entries in
-    let a = ahead_value l g s x f (next_ticket x + 1) h w (omega arith) (omega (arith, h.slots.room, z.whole, two)) e in
-    let k = count_value l g s x z h in
-    let late : words.less ((count_signal l).value s) ((ahead l f).value s) ≡ 1 =
-    less_one ((count_signal l).value s) ((ahead l f).value s) (omega (arith, a, k)) in
+    let held : f.value s ≡ (x.base + (n + 1)) % 2 ^ l.ticket = e ∙ ap (λ m. m % 2 ^ l.ticket) (omega arith) in
+    let same = λ (j : ℕ) (q : j < n). less_is j (n + 1) (omega (arith, q)) ∙ sym (less_is j n q) in
     record {
       few = omega arith;
-      older = mux_one _ ((count_signal l).value s) ((ahead l f).value s) late ∙ k;
-      last = λ some.
-          ap (λ m. words.sub l.ticket m 1) (mux_one _ ((tail_signal l).value s) (f.value s) late ∙ h.tail)
-          ∙ pred_held l.ticket (x.base + n) (omega (arith, z.whole, z.some)) (omega (arith, some));
+      older = λ i lt. older_bit l g s x z h f (n + 1) n i held (omega arith) same (omega (arith, h.slots.room)) (omega (arith, h.slots.room, two)) lt;
     }
 
 -- ---- slots and pending writes
@@ -132,50 +108,6 @@ pub same_value : (l : RingLayout) (g : ℕ → Signal) (s : State) (x : LockStat
     → (same_at l a k).value s ≡ words.equal (entry_at x.entries i).addr (a.value s)
 unfolding bin_value reg_value
 same_value l g s x a k i h o lt = ap (λ m. words.equal m (a.value s)) (ap (λ m. reg_of s (addr_at l m)) (sym o.same) ∙ h.slots.has_addr i lt)
-
--- a difference modulo a number, where that and what is taken away are other ones
-cc_sum : (k u m r q : ℕ) → u ≡ m → r ≡ q → q ≤ m → (k + u - r) % u ≡ (k + (m - q)) % m
-cc_sum k u m r q e f le =
-    let g : k + u - r ≡ k + (m - q) = omega (arith, e, f, le) in
-    ap (λ v. v % u) g ∙ ap (λ v. (k + (m - q)) % v) e
-
-cc_diff : (t q u m k : ℕ) → t ≡ q → u ≡ m → k ≤ m → (t + u - k) % u ≡ (q + (m - k)) % m
-cc_diff t q u m k e f le =
-    let g : t + u - k ≡ q + (m - k) = omega (arith, e, f, le) in
-    ap (λ v. v % u) g ∙ ap (λ v. (q + (m - k)) % v) f
-
--- how far the slot of the i-th pending write is after the head's slot: i
-pub order_value : (l : RingLayout) (g : ℕ → Signal) (s : State) (x : LockState) (k i : ℕ) → IsSized l
-    → HasEntries l g s x → IsSlotOf l x k i → (order_at l k).value s ≡ i
-unfolding bin_value reg_value const_value words.sub
-order_value l g s x k i z h o =
-    let n = l.size in
-    let m = 2 * n in
-    let b = x.base in
-    let below : b % m < m = mod_below b m (omega (arith, z.some)) in
-    let head : reg_of s l.from ≡ b % m = h.head ∙ ap (λ w. b % w) z.whole in
-    let e : (k + 2 ^ l.ticket - reg_of s l.from) % 2 ^ l.ticket ≡ (k + (m - b % m)) % m =
-    cc_sum k (2 ^ l.ticket) m (reg_of s l.from) (b % m) z.whole head (omega (arith, below)) in
-    slot_held l.ticket n ((k + 2 ^ l.ticket - reg_of s l.from) % 2 ^ l.ticket) z.power
-    ∙ ap (λ v. v % n) e ∙ half_mod n (k + (m - b % m))
-    ∙ ap (λ v. (v + (m - b % m)) % n) (sym o.same)
-    ∙ order_mod n b i o.below
-
--- how far slot k is before the slot of the last of the d oldest, by that one's ticket
-pub back_value : (l : RingLayout) (s : State) (x : LockState) (f : Signal) (d k : ℕ) → IsSized l
-    → f.width ≡ l.ticket → k < l.size → f.value s ≡ (x.base + d - 1) % 2 ^ l.ticket
-    → (back_at l f k).value s ≡ ((x.base + d - 1) % (2 * l.size) + (2 * l.size - k)) % l.size
-unfolding bin_value const_value words.sub
-back_value l s x f d k z w h e =
-    let n = l.size in
-    let m = 2 * n in
-    let t = f.value s in
-    let same : t ≡ (x.base + d - 1) % m = e ∙ ap (λ v. (x.base + d - 1) % v) z.whole in
-    let wide : 2 ^ f.width ≡ m = ap (λ v. 2 ^ v) w ∙ z.whole in
-    let sum : (t + 2 ^ f.width - k) % 2 ^ f.width ≡ ((x.base + d - 1) % m + (m - k)) % m =
-    cc_diff t ((x.base + d - 1) % m) (2 ^ f.width) m k same wide (omega (arith, h)) in
-    slot_held l.ticket n ((t + 2 ^ f.width - k) % 2 ^ f.width) z.power
-    ∙ ap (λ v. v % n) sum ∙ half_mod n ((x.base + d - 1) % m + (m - k))
 
 -- ---- which pending writes have an address
 

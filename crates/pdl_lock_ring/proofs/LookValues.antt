@@ -1,11 +1,15 @@
 -- What looks show: of a queue, and of the youngest older pending write.
-use Rattle.std.proofs.Common.{◌≡◌, ◌≢◌, ℕ, ◌+◌, ◌-◌, ◌*◌, ◌%◌, ◌^◌, ◌<◌, ◌≤◌, ◌⊎◌, inl, inr, List, length, take, refl, sym, ap, ◌∙◌, subst, arith, ⊎_elim, length-take, get_or-take}
-use Rattle.std.specs.Prelude.{true, false, Option, Some, None, is_some, option_map, slice_index, slice_index_or, []}
+use Rattle.std.proofs.Common.{◌≡◌, ◌≢◌, ℕ, ◌+◌, ◌-◌, ◌%◌, ◌^◌, ◌<◌, ◌≤◌, inl, inr, min, List, length, take, refl, sym, ap, ◌∙◌, subst, arith, ⊎_elim, length-take, get_or-take, ne_eqb}
+use Rattle.std.specs.Prelude.{true, not, nat_lt, Option, Some, None, is_some, option_map, slice_index, slice_index_or, []}
+use Rattle.std.specs.Int.{bit_at}
 use Rattle.std.proofs.lemmas.Bool.{cases_lt, cases_eq, false≢true}
 use Rattle.std.proofs.lemmas.List.{take_all}
-use Rattle.std.proofs.lemmas.Nat.{mod_below}
+use Rattle.std.proofs.lemmas.Nat.{mod_below, pow_below}
+use Rattle.std.proofs.lemmas.Nat.Bits.{bit_at_and, bit_at-pow_same, bit_at-pow_other, same_from_bits_below}
 use Rattle.pdl_word.specs.Words as words
 use Rattle.pdl_word.specs.Words.{bit}
+use Rattle.pdl_word.proofs.Bounds.{and_below, equal_below}
+use Rattle.pdl_word.proofs.Laws.{differ_same}
 use Rattle.pdl_net.specs.declared.Net.{Net}
 use Rattle.pdl_net.specs.Circuit.{Circuit, State}
 use Rattle.pdl_net.specs.Meaning.{Means, signal}
@@ -15,29 +19,29 @@ use Rattle.pdl_net.proofs.KeptWidths.{width_meant}
 use Rattle.pdl_lockapi.specs.Lock.{Entry, LockState, entry_at, no_entry, or_zero, is_free, youngest, older, next_ticket}
 use Rattle.pdl_lockapi.specs.Laws.{HasWords, HasValueNet}
 use Rattle.pdl_lock_ring.specs.declared.layout.RingLayout.{RingLayout}
-use Rattle.pdl_lock_ring.specs.Slots.{IsSized, HasEntries, has_at}
-use Rattle.pdl_lock_ring.specs.Looks.{older_count, last_older, order_at, back_at, same_at, hit_at, hit_signal, ready_signal, key_at, is_found, youngest_ready, youngest_value, GivesWord}
-use Rattle.pdl_lock_ring.specs.Choices.{least_key, least_of}
-use Rattle.pdl_lock_ring.proofs.SlotNumbers.{back_older, back_younger}
-use Rattle.pdl_lock_ring.proofs.RingValues.{if_one, if_other, mux_one, mux_zero, eq_one, eq_none}
-use Rattle.pdl_lock_ring.proofs.Trees.{some_one, some_zero, less_one, less_none, IsLeast, least_is, least_from}
-use Rattle.pdl_lock_ring.proofs.LookMeanings.{Seeks, IsSlotOf, slot_has, same_value, order_value, back_value, IsYoungest, HasNone, youngest_of}
-
-mux_both : (c x : ℕ) → words.mux c x x ≡ x
-unfolding words.mux
-mux_both c x = ⊎_elim (λ (o : c ≡ 1). if_one c x x o) (λ (o : c ≢ 1). if_other c x x o) (cases_eq c 1)
-
-mux_least : (m c x y : ℕ) → m ≤ x → m ≤ y → m ≤ words.mux c x y
-unfolding words.mux
-mux_least m c x y h i = ⊎_elim
-    (λ (o : c ≡ 1). let e = if_one c x y o in omega (arith, e, h))
-    (λ (o : c ≢ 1). let e = if_other c x y o in omega (arith, e, i))
-    (cases_eq c 1)
+use Rattle.pdl_lock_ring.specs.Slots.{IsSized, HasEntries, addr_at}
+use Rattle.pdl_lock_ring.specs.Looks.{older_slots, same_at, same_slots, hit_slots, is_found, ready_signal, young_slots, wins_at, won_at, won_signal, has_signal, youngest_ready, youngest_value, GivesWord}
+use Rattle.pdl_lock_ring.proofs.SlotNumbers.{apart}
+use Rattle.pdl_lock_ring.proofs.RingValues.{mux_one, mux_zero, eq_one, eq_none}
+use Rattle.pdl_lock_ring.proofs.SlotBits.{AreBits, bits_few, bits_at, word_none, word_some}
+use Rattle.pdl_lock_ring.proofs.SlotWords.{young_bit}
+use Rattle.pdl_lock_ring.proofs.Trees.{either_one, either_width}
+use Rattle.pdl_lock_ring.proofs.Turns.{less_is, less_not}
+use Rattle.pdl_lock_ring.proofs.LookMeanings.{Seeks, IsSlotOf, slot_has, same_value, IsYoungest, HasNone, youngest_of}
 
 -- an optional number that is there is the one that `or_zero` gives
 pub some_of : (o : Option ℕ) → is_some o ≡ true → o ≡ Some (or_zero o)
 some_of None h = absurd (cc h)
 some_of (Some v) h = refl
+
+-- words of which one has a bit that the other has not
+other_bit : (u v k : ℕ) → bit_at u k ≡ 1 → bit_at v k ≡ 0 → u ≢ v
+other_bit u v k one none e = let q = ap (λ n. bit_at n k) e in absurd (omega (arith, one, none, q))
+
+-- a slot has the address or not
+are_bits : (l : RingLayout) (a : Signal) (s : State) → AreBits (same_at l a) s
+unfolding bin_value
+are_bits l a s = record { one = λ k. refl; few = λ k. equal_below ((reg_signal l.bits (addr_at l k)).value s) (a.value s) }
 
 -- all slots of a tree
 slots_all : (l : RingLayout) → IsSized l → 0 + 2 ^ (l.ticket - 1) ≡ l.size
@@ -55,136 +59,182 @@ module _ (l : RingLayout) (g : ℕ → Signal) (s : State) (x : LockState) (a t 
   entry_is : (i : ℕ) → i < d → entry_at ys i ≡ entry_at x.entries i
   entry_is i lt = get_or-take d x.entries i no_entry lt
 
-  -- ---- a queue
+  -- ---- the slots that are hit
 
-  hit_one : (i : ℕ) → i < d → (entry_at x.entries i).addr ≡ a.value s → (hit_at l a (older_count l t) ((x.base + i) % l.size)).value s ≡ 1
-  unfolding mux_value bin_value const_value
+  same_bit : (i j : ℕ) → IsSlotOf l x j i → i < d → j < l.size
+      → bit_at ((same_slots l a).value s) j ≡ words.equal (entry_at x.entries i).addr (a.value s)
+  unfolding same_slots
+  same_bit i j o lt jn =
+      bits_at (same_at l a) s (are_bits l a s) (l.size - 1) j (omega (arith, jn))
+      ∙ same_value l g s x a j i h o (omega (arith, lt, k.few))
+
+  same_few : (same_slots l a).value s < 2 ^ l.size
+  unfolding same_slots
+  same_few =
+      let b = bits_few (same_at l a) s (are_bits l a s) (l.size - 1) in
+      let e : l.size - 1 + 1 ≡ l.size = omega (arith, z.some) in
+      let p : 2 ^ (l.size - 1 + 1) ≡ 2 ^ l.size = ap (λ v. 2 ^ v) e in
+      omega (arith, b, p)
+
+  -- the slot of the i-th pending write
+  abbrev slot : ℕ → ℕ
+  slot i = (x.base + i) % l.size
+
+  slot_in : (i : ℕ) → slot i < l.size
+  slot_in i = mod_below (x.base + i) l.size z.some
+
+  is_slot : (i : ℕ) → i < l.size → IsSlotOf l x (slot i) i
+  is_slot i lt = record { below = lt; same = refl }
+
+  hit_bit : (j : ℕ) → bit_at ((hit_slots l a t).value s) j ≡ min (bit_at ((same_slots l a).value s) j) (bit_at ((older_slots l t).value s) j)
+  unfolding hit_slots bin_value words.and
+  hit_bit j = bit_at_and ((same_slots l a).value s) ((older_slots l t).value s) j
+
+  hit_few : (hit_slots l a t).value s < 2 ^ l.size
+  unfolding hit_slots bin_value
+  hit_few = and_below l.size ((same_slots l a).value s) ((older_slots l t).value s) same_few
+
+  hit_one : (i : ℕ) → i < d → (entry_at x.entries i).addr ≡ a.value s → bit_at ((hit_slots l a t).value s) (slot i) ≡ 1
   hit_one i lt e =
-      let slot = (x.base + i) % l.size in
-      let o : IsSlotOf l x slot i = record { below = omega (arith, lt, k.few, h.slots.room); same = refl } in
-      let on : (same_at l a slot).value s ≡ 1 = same_value l g s x a slot i h o (omega (arith, lt, k.few)) ∙ eq_one (entry_at x.entries i).addr (a.value s) e in
-      let order = order_value l g s x slot i z h o in
-      mux_one ((same_at l a slot).value s) (words.less ((order_at l slot).value s) ((older_count l t).value s)) 0 on
-      ∙ less_one ((order_at l slot).value s) ((older_count l t).value s) (let q = k.older in omega (arith, order, q, lt))
+      let il : i < l.size = omega (arith, lt, k.few, h.slots.room) in
+      let p = same_bit i (slot i) (is_slot i il) lt (slot_in i) ∙ eq_one (entry_at x.entries i).addr (a.value s) e in
+      let q = k.older i il ∙ less_is i d lt in
+      let r = hit_bit (slot i) in
+      omega (arith, p, q, r)
 
-  hit_zero : HasNone ys (a.value s) → (j : ℕ) → j < l.size → (hit_at l a (older_count l t) j).value s ≡ 0
-  unfolding mux_value bin_value const_value
-  hit_zero n j lt =
-      let i = slot_has l x j lt in
-      let order = order_value l g s x j i.0 z h i.1 in
+  -- a slot that is hit is that of an older pending write of the address
+  hit_zero : (i : ℕ) → i < l.size → (i < d → (entry_at x.entries i).addr ≢ a.value s) → bit_at ((hit_slots l a t).value s) (slot i) ≡ 0
+  hit_zero i il none =
+      let r = hit_bit (slot i) in
       ⊎_elim
-      (λ (q : i.0 < d).
-      mux_zero ((same_at l a j).value s) (words.less ((order_at l j).value s) ((older_count l t).value s)) 0
-      (same_value l g s x a j i.0 h i.1 (omega (arith, q, k.few))
-      ∙ eq_none (entry_at x.entries i.0).addr (a.value s) (λ e. n i.0 (omega (arith, q, count)) (ap (λ (y : Entry). y.addr) (entry_is i.0 q) ∙ e))))
-      (λ (q : d ≤ i.0).
-      ap (λ m. words.mux ((same_at l a j).value s) m 0)
-      (less_none ((order_at l j).value s) ((older_count l t).value s) (let p = k.older in omega (arith, order, p, q)))
-      ∙ mux_both ((same_at l a j).value s) 0)
-      (cases_lt i.0 d)
+      (λ (q : i < d).
+      let p = same_bit i (slot i) (is_slot i il) q (slot_in i) ∙ eq_none (entry_at x.entries i).addr (a.value s) (none q) in
+      omega (arith, p, r))
+      (λ (q : d ≤ i). let p = k.older i il ∙ less_not i d q in omega (arith, p, r))
+      (cases_lt i d)
+
+  hit_none : HasNone ys (a.value s) → (hit_slots l a t).value s ≡ 0
+  hit_none n = word_none l.size ((hit_slots l a t).value s) hit_few (λ j lt.
+      let o = slot_has l x j lt in
+      ap (bit_at ((hit_slots l a t).value s)) (sym o.1.same)
+      ∙ hit_zero o.0 o.1.below (λ u e. n o.0 (omega (arith, u, count)) (ap (λ (y : Entry). y.addr) (entry_is o.0 u) ∙ e)))
+
+  -- the youngest one of the address among the older ones
+  the_same : (i : ℕ) → IsYoungest ys (a.value s) i → (entry_at x.entries i).addr ≡ a.value s
+  the_same i y = ap (λ (e : Entry). e.addr) (sym (entry_is i (omega (arith, y.within, count)))) ∙ y.same
+
+  hit_some : (i : ℕ) → IsYoungest ys (a.value s) i → (hit_slots l a t).value s ≢ 0
+  hit_some i y = word_some ((hit_slots l a t).value s) (slot i) (hit_one i (omega (arith, y.within, count)) (the_same i y))
+
+  -- ---- a queue
 
   -- a look's net is 1 just where no older pending write has the address
   pub free_looked : (ready_signal l a t).value s ≡ bit (is_free ys (a.value s))
-  unfolding mux_value const_value
+  unfolding bin_value const_value
   free_looked = elim (youngest_of ys (a.value s)) [
-    | inl y ↦
-        let lt : y.0 < d = omega (arith, y.1.within, count) in
-        let slot = (x.base + y.0) % l.size in
-        let below : slot < l.size = mod_below (x.base + y.0) l.size z.some in
-        let hit : (hit_signal l a (older_count l t)).value s ≡ 1 =
-        some_one (hit_at l a (older_count l t)) s (l.ticket - 1) 0 slot (omega arith)
-        (omega (arith, below, slots_all l z))
-        (hit_one y.0 lt (ap (λ (e : Entry). e.addr) (sym (entry_is y.0 lt)) ∙ y.1.same)) in
-        mux_one ((hit_signal l a (older_count l t)).value s) 0 1 hit ∙ ap bit (sym y.3)
-    | inr n ↦
-        let hit : (hit_signal l a (older_count l t)).value s ≡ 0 =
-        some_zero (hit_at l a (older_count l t)) s (l.ticket - 1) 0 (λ j lo hi. hit_zero n.0 j (omega (arith, hi, slots_all l z))) in
-        mux_zero ((hit_signal l a (older_count l t)).value s) 0 1 hit ∙ ap bit (sym n.2)
+    | inl y ↦ eq_none ((hit_slots l a t).value s) 0 (hit_some y.0 y.1) ∙ ap bit (sym y.3)
+    | inr n ↦ eq_one ((hit_slots l a t).value s) 0 (hit_none n.0) ∙ ap bit (sym n.2)
   ]
 
   -- ---- the youngest older one
 
-  abbrev keys : ℕ → Signal
-  keys = key_at l a (last_older l t)
+  -- the hits among slot j and the younger ones
+  abbrev seen : ℕ → ℕ
+  seen j = words.and ((hit_slots l a t).value s) ((young_slots l j).value s)
 
-  key_one : (i : ℕ) → i < d → (entry_at x.entries i).addr ≡ a.value s → (keys ((x.base + i) % l.size)).value s ≡ d - 1 - i
-  unfolding mux_value const_value
-  key_one i lt e =
-      let slot = (x.base + i) % l.size in
-      let o : IsSlotOf l x slot i = record { below = omega (arith, lt, k.few, h.slots.room); same = refl } in
-      let on : (same_at l a slot).value s ≡ 1 = same_value l g s x a slot i h o (omega (arith, lt, k.few)) ∙ eq_one (entry_at x.entries i).addr (a.value s) e in
-      mux_one ((same_at l a slot).value s) ((back_at l (last_older l t) slot).value s) l.size on
-      ∙ back_value l s x (last_older l t) d slot z refl (mod_below (x.base + i) l.size z.some) (k.last (omega (arith, lt)))
-      ∙ back_older l.size x.base d i (omega (arith, k.few, h.slots.room)) lt
+  seen_few : (j : ℕ) → seen j < 2 ^ l.size
+  seen_few j = and_below l.size ((hit_slots l a t).value s) ((young_slots l j).value s) hit_few
 
-  -- a slot that is further away
-  key_far : (m i j : ℕ) → m ≤ l.size → IsSlotOf l x j i
-      → (i < d → (entry_at x.entries i).addr ≡ a.value s → m ≤ d - 1 - i) → (1 ≤ d → m ≤ d) → (d ≡ 0 → m ≡ 0)
-      → m ≤ (keys j).value s
-  unfolding mux_value const_value
-  key_far m i j small o near far none = ⊎_elim
-      (λ (q : i < d). ⊎_elim
-      (λ (e : (entry_at x.entries i).addr ≡ a.value s).
-      let v = ap (λ n. (keys n).value s) (sym o.same) ∙ key_one i q e in omega (arith, v, near q e))
-      (λ (e : (entry_at x.entries i).addr ≢ a.value s).
-      let off : (same_at l a j).value s ≡ 0 = same_value l g s x a j i h o (omega (arith, q, k.few)) ∙ eq_none (entry_at x.entries i).addr (a.value s) e in
-      let v = mux_zero ((same_at l a j).value s) ((back_at l (last_older l t) j).value s) l.size off in omega (arith, v, small))
-      (cases_eq (entry_at x.entries i).addr (a.value s)))
-      (λ (q : d ≤ i). ⊎_elim
-      (λ (some : 0 < d).
-      let below : j < l.size = subst (λ n. n < l.size) o.same (mod_below (x.base + i) l.size z.some) in
-      let v =
-      back_value l s x (last_older l t) d j z refl below (k.last (omega (arith, some)))
-      ∙ ap (λ n. ((x.base + d - 1) % (2 * l.size) + (2 * l.size - n)) % l.size) (sym o.same)
-      ∙ back_younger l.size x.base d i (omega (arith, some)) q o.below in
-      mux_least m ((same_at l a j).value s)
-      ((back_at l (last_older l t) j).value s) l.size (let w = far (omega (arith, some)) in let b = o.below in omega (arith, v, w, b, q)) small)
-      (λ (e : d ≤ 0). let w = none (omega (arith, e)) in omega (arith, w))
-      (cases_lt 0 d))
-      (cases_lt i d)
+  seen_at : (j k : ℕ) → bit_at (seen j) k ≡ min (bit_at ((hit_slots l a t).value s) k) (bit_at ((young_slots l j).value s) k)
+  unfolding words.and
+  seen_at j k = bit_at_and ((hit_slots l a t).value s) ((young_slots l j).value s) k
 
-  -- where one has the address, the slot of the youngest is the nearest
-  nearest_is : (i : ℕ) → IsYoungest ys (a.value s) i → IsLeast keys s (l.ticket - 1) 0 ((x.base + i) % l.size)
-  nearest_is i y =
+  seen_bit : (i m : ℕ) → i < l.size → m < l.size
+      → bit_at (seen (slot i)) (slot m) ≡ min (bit_at ((hit_slots l a t).value s) (slot m)) (bit (nat_lt i (m + 1)))
+  seen_bit i m il ml = seen_at (slot i) (slot m) ∙ ap (min (bit_at ((hit_slots l a t).value s) (slot m))) (young_bit l g s x z h i m il ml)
+
+  -- from the youngest hit on there is no other
+  seen_other : (i m : ℕ) → IsYoungest ys (a.value s) i → i < l.size → m < l.size → m ≢ i → bit_at (seen (slot i)) (slot m) ≡ 0
+  seen_other i m y il ml other =
+      let r = seen_bit i m il ml in
+      ⊎_elim
+      (λ (q : i < m + 1).
+      let later : i < m = omega (arith, q, other) in
+      let p = hit_zero m ml (λ v e. y.last m later (omega (arith, v, count)) (ap (λ (n : Entry). n.addr) (entry_is m v) ∙ e)) in
+      omega (arith, r, p))
+      (λ (q : m + 1 ≤ i). let p = less_not i (m + 1) q in omega (arith, r, p))
+      (cases_lt i (m + 1))
+
+  seen_alone : (i j : ℕ) → IsYoungest ys (a.value s) i → j < l.size → bit_at (seen (slot i)) j ≡ bit_at (2 ^ slot i) j
+  seen_alone i j y jn =
       let lt : i < d = omega (arith, y.within, count) in
-      let slot = (x.base + i) % l.size in
-      let below : slot < l.size = mod_below (x.base + i) l.size z.some in
-      let same : (entry_at x.entries i).addr ≡ a.value s = ap (λ (e : Entry). e.addr) (sym (entry_is i lt)) ∙ y.same in
-      let here = key_one i lt same in
-      record {
-        low = omega arith;
-        high = omega (arith, below, slots_all l z);
-        least = λ j lo hi q.
-            let o = slot_has l x j (omega (arith, hi, slots_all l z)) in
-            let more : d - 1 - i + 1 ≤ (keys j).value s = key_far (d - 1 - i + 1) o.0 j (omega (arith, lt, k.few, h.slots.room)) o.1
-            (λ u e. ⊎_elim
-            (λ (w : o.0 < i). omega (arith, w, lt))
-            (λ (w : i ≤ o.0). ⊎_elim
-            (λ (v : i < o.0). absurd (y.last o.0 v (omega (arith, u, count)) (ap (λ (y : Entry). y.addr) (entry_is o.0 u) ∙ e)))
-            (λ (v : o.0 ≤ i). let c : o.0 ≡ i = omega (arith, v, w) in absurd (q (sym o.1.same ∙ ap (λ n. (x.base + n) % l.size) c)))
-            (cases_lt i o.0))
-            (cases_lt o.0 i))
-            (λ u. omega (arith, lt)) (λ u. absurd (omega (arith, u, lt))) in
-            omega (arith, more, here);
-      }
+      let il : i < l.size = omega (arith, lt, k.few, h.slots.room) in
+      let o = slot_has l x j jn in
+      let m = o.0 in
+      let at : slot m ≡ j = o.1.same in
+      ⊎_elim
+      (λ (q : m ≡ i).
+      let own : j ≡ slot i = sym at ∙ ap slot q in
+      let r = seen_bit i i il il in
+      let p = hit_one i lt (the_same i y) in
+      let u = less_is i (i + 1) (omega arith) in
+      let one : bit_at (seen (slot i)) (slot i) ≡ 1 = omega (arith, r, p, u) in
+      ap (bit_at (seen (slot i))) own ∙ one ∙ sym (bit_at-pow_same (slot i)) ∙ ap (bit_at (2 ^ slot i)) (sym own))
+      (λ (q : m ≢ i).
+      ap (bit_at (seen (slot i))) (sym at) ∙ seen_other i m y il o.1.below q
+      ∙ sym (bit_at-pow_other (slot i) j (λ e. q (apart l.size x.base m i o.1.below il (at ∙ e)))))
+      (cases_eq m i)
+
+  wins_one : (i : ℕ) → IsYoungest ys (a.value s) i → (wins_at l (hit_slots l a t) (slot i)).value s ≡ 1
+  unfolding wins_at bin_value const_value
+  wins_one i y =
+      eq_one (seen (slot i)) (2 ^ slot i)
+      (same_from_bits_below l.size (seen (slot i)) (2 ^ slot i) (seen_few (slot i)) (pow_below (slot i) l.size (slot_in i)) (λ j jn. seen_alone i j y jn))
+
+  -- a slot beside the youngest hit doesn't win: either it isn't hit itself, or that one is younger
+  wins_other : (i j : ℕ) → IsYoungest ys (a.value s) i → j < l.size → j ≢ slot i → (wins_at l (hit_slots l a t) j).value s ≡ 0
+  unfolding wins_at bin_value const_value
+  wins_other i j y jn q =
+      let lt : i < d = omega (arith, y.within, count) in
+      let il : i < l.size = omega (arith, lt, k.few, h.slots.room) in
+      let o = slot_has l x j jn in
+      let m = o.0 in
+      let at : slot m ≡ j = o.1.same in
+      ⊎_elim
+      (λ (u : m < i).
+      let r = seen_bit m i o.1.below il in
+      let p = hit_one i lt (the_same i y) in
+      let v = less_is m (i + 1) (omega (arith, u)) in
+      let one : bit_at (seen (slot m)) (slot i) ≡ 1 = omega (arith, r, p, v) in
+      eq_none (seen j) (2 ^ j)
+      (other_bit (seen j) (2 ^ j) (slot i) (ap (λ n. bit_at (seen n) (slot i)) (sym at) ∙ one) (bit_at-pow_other j (slot i) (λ e. q (sym e)))))
+      (λ (u : i ≤ m).
+      let differ : i ≢ m = λ e. q (sym at ∙ ap slot (sym e)) in
+      let p =
+      hit_zero m o.1.below (λ v e. y.last m (omega (arith, u, differ)) (omega (arith, v, count)) (ap (λ (n : Entry). n.addr) (entry_is m v) ∙ e)) in
+      let b = ap (bit_at ((hit_slots l a t).value s)) (sym at) ∙ p in
+      let r = seen_at j j in
+      let none : bit_at (seen j) j ≡ 0 = omega (arith, r, b) in
+      eq_none (seen j) (2 ^ j) (λ e. other_bit (2 ^ j) (seen j) j (bit_at-pow_same j) none (sym e)))
+      (cases_lt m i)
+
+  -- of a signal for each slot that of the youngest older pending write of the address is given
+  won_is : (f : ℕ → Signal) (w i : ℕ) → IsYoungest ys (a.value s) i → (won_signal l f w a t).value s ≡ (f (slot i)).value s
+  unfolding mux_value const_value
+  won_is f w i y =
+      either_one (won_at l f w (hit_slots l a t)) s (l.ticket - 1) 0 (slot i) (omega arith)
+      (let b = slot_in i in omega (arith, b, slots_all l z))
+      (λ j lo hi q. mux_zero ((wins_at l (hit_slots l a t) j).value s) ((f j).value s) 0
+      (wins_other i j y (omega (arith, hi, slots_all l z)) q))
+      ∙ mux_one ((wins_at l (hit_slots l a t) (slot i)).value s) ((f (slot i)).value s) 0 (wins_one i y)
 
   found_one : (i : ℕ) → IsYoungest ys (a.value s) i → (is_found l a t).value s ≡ 1
-  unfolding bin_value
-  found_one i y =
-      let lt : i < d = omega (arith, y.within, count) in
-      let same : (entry_at x.entries i).addr ≡ a.value s = ap (λ (e : Entry). e.addr) (sym (entry_is i lt)) ∙ y.same in
-      let key = (least_is keys keys s (l.ticket - 1) 0 ((x.base + i) % l.size) (nearest_is i y)).0 ∙ key_one i lt same in
-      less_one ((least_key keys (l.ticket - 1) 0).value s) ((older_count l t).value s) (let q = k.older in omega (arith, key, q, lt))
+  unfolding bin_value const_value words.differ
+  found_one i y = ap (λ b. bit (not b)) (ne_eqb ((hit_slots l a t).value s) 0 (hit_some i y))
 
   found_zero : HasNone ys (a.value s) → (is_found l a t).value s ≡ 0
-  unfolding bin_value
-  found_zero n =
-      let key : d ≤ (least_key keys (l.ticket - 1) 0).value s = least_from keys s d (l.ticket - 1) 0 (λ j lo hi.
-      let o = slot_has l x j (omega (arith, hi, slots_all l z)) in
-      key_far d o.0 j (omega (arith, k.few, h.slots.room)) o.1
-      (λ u e. absurd (n o.0 (omega (arith, u, count)) (ap (λ (y : Entry). y.addr) (entry_is o.0 u) ∙ e)))
-      (λ u. omega arith) (λ u. u)) in
-      less_none ((least_key keys (l.ticket - 1) 0).value s) ((older_count l t).value s) (let q = k.older in omega (arith, key, q))
+  unfolding bin_value const_value
+  found_zero n = ap (λ v. words.differ v 0) (hit_none n) ∙ differ_same 0
 
   -- a look is ready just where the youngest pending write of the address has its value, or there is none
   pub youngest_looked : (youngest_ready l a t).value s ≡ bit (is_some (youngest ys (a.value s) (Some 0)))
@@ -192,35 +242,39 @@ module _ (l : RingLayout) (g : ℕ → Signal) (s : State) (x : LockState) (a t 
   youngest_looked = elim (youngest_of ys (a.value s)) [
     | inl y ↦
         let lt : y.0 < d = omega (arith, y.1.within, count) in
-        let least = least_is keys (λ n. reg_signal 1 (has_at l n)) s (l.ticket - 1) 0 ((x.base + y.0) % l.size) (nearest_is y.0 y.1) in
-        mux_one ((is_found l a t).value s) ((least_of keys (λ n. reg_signal 1 (has_at l n)) (l.ticket - 1) 0).value s) 1 (found_one y.0 y.1)
-        ∙ least.1 ∙ h.slots.is_full y.0 (omega (arith, lt, k.few))
+        mux_one ((is_found l a t).value s) ((won_signal l (has_signal l) 1 a t).value s) 1 (found_one y.0 y.1)
+        ∙ won_is (has_signal l) 1 y.0 y.1 ∙ h.slots.is_full y.0 (omega (arith, lt, k.few))
         ∙ ap (λ (e : Entry). bit (is_some e.value)) (sym (entry_is y.0 lt)) ∙ ap (λ v. bit (is_some v)) (sym (y.2 (Some 0)))
     | inr n ↦
-        mux_zero ((is_found l a t).value s) ((least_of keys (λ n. reg_signal 1 (has_at l n)) (l.ticket - 1) 0).value s) 1 (found_zero n.0)
+        mux_zero ((is_found l a t).value s) ((won_signal l (has_signal l) 1 a t).value s) 1 (found_zero n.0)
         ∙ ap (λ v. bit (is_some v)) (sym (n.1 (Some 0)))
   ]
 
-  -- a ready look gives the value of the youngest pending write of the address, or the word where there is none
-  pub value_looked : (o : Signal) → o.value s ≡ slice_index x.words (a.value s)
+  -- a ready look gives the value of the youngest pending write of the address, or the word where there is none; the value is read of what the slots hold
+  pub value_looked : (c : ℕ → Signal) (read : ℕ → ℕ) (o : Signal) → ((j : ℕ) → read ((c j).value s) ≡ (g j).value s)
+      → read (o.value s) ≡ slice_index x.words (a.value s)
       → is_some (youngest ys (a.value s) (Some 0)) ≡ true
-      → (youngest_value l g o a t).value s ≡ or_zero (youngest ys (a.value s) (Some (slice_index x.words (a.value s))))
+      → read ((youngest_value l c o a t).value s) ≡ or_zero (youngest ys (a.value s) (Some (slice_index x.words (a.value s))))
   unfolding mux_value
-  value_looked o p ready = elim (youngest_of ys (a.value s)) [
+  value_looked c read o held p ready = elim (youngest_of ys (a.value s)) [
     | inl y ↦
         let lt : y.0 < d = omega (arith, y.1.within, count) in
         let word : Option ℕ = Some (slice_index x.words (a.value s)) in
-        let least = least_is keys g s (l.ticket - 1) 0 ((x.base + y.0) % l.size) (nearest_is y.0 y.1) in
         let has : is_some (entry_at ys y.0).value ≡ true = ap is_some (sym (y.2 (Some 0))) ∙ ready in
         let v = or_zero (entry_at ys y.0).value in
-        mux_one ((is_found l a t).value s) ((least_of keys g (l.ticket - 1) 0).value s) (o.value s) (found_one y.0 y.1)
-        ∙ least.1
+        ap read
+        (mux_one ((is_found l a t).value s) ((won_signal l c l.kept a t).value s) (o.value s) (found_one y.0 y.1) ∙ won_is c l.kept y.0 y.1)
+        ∙ held (slot y.0)
         ∙ h.slots.has_value y.0 v (omega (arith, lt, k.few)) (ap (λ (e : Entry). e.value) (sym (entry_is y.0 lt)) ∙ some_of (entry_at ys y.0).value has)
         ∙ ap or_zero (sym (y.2 word))
     | inr n ↦
-        mux_zero ((is_found l a t).value s) ((least_of keys g (l.ticket - 1) 0).value s) (o.value s) (found_zero n.0)
+        ap read (mux_zero ((is_found l a t).value s) ((won_signal l c l.kept a t).value s) (o.value s) (found_zero n.0))
         ∙ p ∙ ap or_zero (sym (n.1 (Some (slice_index x.words (a.value s)))))
   ]
+
+-- what is given of a slot has the width that all of it have
+pub won_width : (l : RingLayout) (f : ℕ → Signal) (w : ℕ) (a t : Signal) → ((k : ℕ) → (f k).width ≡ w) → (won_signal l f w a t).width ≡ w
+won_width l f w a t e = either_width (won_at l f w (hit_slots l a t)) w e (l.ticket - 1) 0
 
 -- where no pending write has the address, the youngest value is the one that is given else
 pub free_youngest : (xs : List Entry) (a : ℕ) (v : Option ℕ) → is_free xs a ≡ true → youngest xs a v ≡ v

@@ -18,22 +18,10 @@ less_mod m b t p l h =
     let e3 : t + (m - b % m) ≡ b / m * m + (m + (t - b)) = omega arith in
     ap (λ n. n % m) e1 ∙ e2 ∙ ap (λ n. n % m) e3 ∙ mul-add-mod_self_right (b / m) m (m + (t - b)) ∙ add-mod_left m (t - b) ∙ small_mod (t - b) m h
 
--- one less than a number that is not 0
-pred_mod : (m t : ℕ) → 1 ≤ m → 1 ≤ t → (t % m + m - 1) % m ≡ (t - 1) % m
-pred_mod m t p l =
-    let e1 : t % m + m - 1 ≡ t % m + (m - 1) = omega arith in
-    let e2 : t + (m - 1) ≡ (t - 1) + m = omega arith in
-    ap (λ n. n % m) e1 ∙ mod-add-mod t m (m - 1) ∙ ap (λ n. n % m) e2 ∙ add-mod_right (t - 1) m
-
 -- two numbers held modulo a power of two differ by their true difference, where that is below the power
 pub sub_held : (w b t : ℕ) → b ≤ t → t - b < 2 ^ w → words.sub w (t % 2 ^ w) (b % 2 ^ w) ≡ t - b
 unfolding words.sub
 sub_held w b t l h = less_mod (2 ^ w) b t (omega arith) l h
-
--- one less than a number held modulo a power of two, where the number is not 0
-pub pred_held : (w t : ℕ) → 1 ≤ 2 ^ w → 1 ≤ t → words.sub w (t % 2 ^ w) 1 ≡ (t - 1) % 2 ^ w
-unfolding words.sub
-pred_held w t p l = pred_mod (2 ^ w) t p l
 
 -- a sum whose first number is held modulo a power of two
 pub sum_held : (w x y : ℕ) → words.add w (x % 2 ^ w) y ≡ (x + y) % 2 ^ w
@@ -87,29 +75,3 @@ index_of n b k h =
     let e : r + i ≡ k = omega (arith, l) in
     (i, omega (arith, h), sym (mod-add-mod b n i) ∙ ap (λ m. m % n) e ∙ small_mod k n h))
     (cases_lt k r)
-
--- how far the slot of the i-th one is before that of the d-th one's predecessor
-back_mod : (n b d i : ℕ) → 1 ≤ n → 1 ≤ d → i ≤ n → ((b + d - 1) % (2 * n) + (2 * n - (b + i) % n)) % n ≡ (n + d - 1 - i) % n
-back_mod n b d i most some le =
-    let m = 2 * n in
-    let t = b + d - 1 in
-    let k = (b + i) % n in
-    let c = (b + i) / n in
-    let q : k + c * n ≡ b + i = mod-add-div' (b + i) n in
-    let y = n + d - 1 - i in
-    let below : k < n = mod_below (b + i) n most in
-    let one : (t % m + (m - k)) % n ≡ (t + (m - k)) % n =
-    sym (mod-add-mod (t % m) n (m - k)) ∙ ap (λ x. (x + (m - k)) % n) (half_mod n t) ∙ mod-add-mod t n (m - k) in
-    let more : t + (m - k) + n ≡ (y + n + n) + c * n = omega (arith, q, below, some, le) in
-    one ∙ sym (add-mod_right (t + (m - k)) n) ∙ ap (λ x. x % n) more ∙ add-mul-mod_self_right (y + n + n) c n ∙ add-mod_right (y + n) n ∙ add-mod_right y n
-
--- how far the slot of the i-th one is before that of the last of the d oldest, where it is one of these
-pub back_older : (n b d i : ℕ) → d ≤ n → i < d → ((b + d - 1) % (2 * n) + (2 * n - (b + i) % n)) % n ≡ d - 1 - i
-back_older n b d i le h =
-    let e : n + d - 1 - i ≡ n + (d - 1 - i) = omega (arith, h) in
-    back_mod n b d i (omega (arith, h, le)) (omega (arith, h)) (omega (arith, h, le)) ∙ ap (λ x. x % n) e
-    ∙ add-mod_left n (d - 1 - i) ∙ small_mod (d - 1 - i) n (omega (arith, h, le))
-
--- how far the slot of the i-th one is before that of the last of the d oldest, where it is none of these
-pub back_younger : (n b d i : ℕ) → 1 ≤ d → d ≤ i → i < n → ((b + d - 1) % (2 * n) + (2 * n - (b + i) % n)) % n ≡ n + d - 1 - i
-back_younger n b d i some le h = back_mod n b d i (omega (arith, h)) some (omega (arith, h)) ∙ small_mod (n + d - 1 - i) n (omega (arith, some, le, h))

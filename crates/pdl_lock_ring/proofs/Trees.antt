@@ -1,14 +1,15 @@
 -- Choices by trees: what each half adds, and what they give.
-use Rattle.std.proofs.Common.{◌≡◌, ◌≢◌, ℕ, zero, suc, ◌+◌, ◌-◌, ◌*◌, ◌/◌, ◌%◌, ◌^◌, ◌<◌, ◌≤◌, refl, sym, ap, ◌∙◌, arith, ⊎_elim, lt-ltb, le-ltb}
+use Rattle.std.proofs.Common.{◌≡◌, ◌≢◌, ℕ, zero, suc, ◌+◌, ◌-◌, ◌*◌, ◌/◌, ◌%◌, ◌^◌, ◌<◌, ◌≤◌, refl, sym, ap, ◌∙◌, arith, ⊎_elim}
 use Rattle.std.proofs.lemmas.Bool.{cases_eq, cases_lt}
-use Rattle.std.proofs.lemmas.Nat.{mod-pow-add}
+use Rattle.std.proofs.lemmas.Nat.{mod-pow-add, or_comm}
 use Rattle.std.proofs.Math.Nat.{mod-one, mod-lt, two-pow-succ}
 use Rattle.pdl_word.specs.Words as words
-use Rattle.pdl_net.specs.declared.BinOp.TheVariants.{Lt}
+use Rattle.pdl_word.proofs.Laws.{or_zero}
+use Rattle.pdl_net.specs.declared.BinOp.TheVariants.{Or}
 use Rattle.pdl_net.specs.Circuit.{State}
-use Rattle.pdl_net.specs.Signal.{Signal, const_signal, bin_signal, mux_signal, slice_signal, const_value, bin_value, mux_value, slice_value}
-use Rattle.pdl_lock_ring.specs.Choices.{selected_signal, some_signal, least_key, least_of}
-use Rattle.pdl_lock_ring.proofs.RingValues.{if_other, mux_one, mux_zero}
+use Rattle.pdl_net.specs.Signal.{Signal, bin_signal, mux_signal, slice_signal, bin_value, mux_value, slice_value}
+use Rattle.pdl_lock_ring.specs.Choices.{selected_signal, either_signal}
+use Rattle.pdl_lock_ring.proofs.RingValues.{mux_one, mux_zero}
 
 -- half of a power of two
 pub halved : (b : ℕ) → b ≢ 0 → 2 ^ b ≡ 2 ^ (b - 1) + 2 ^ (b - 1)
@@ -63,167 +64,60 @@ selected_value f d s (suc b) from =
 
 pub ruleset selecting = (selected_none, selected_more)
 
--- ---- whether one is 1
+-- ---- one of several that are 0 but for one
 
--- of a single signal, whether one is 1 is told by itself
-pub some_none : (f : ℕ → Signal) (b from : ℕ) → b ≡ 0 → some_signal f b from ≡ f from
-unfolding some_signal
-some_none f b from e = ap (λ n. some_signal f n from) e
+-- of a single signal it is that one
+pub either_none : (f : ℕ → Signal) (b from : ℕ) → b ≡ 0 → either_signal f b from ≡ f from
+unfolding either_signal
+either_none f b from e = ap (λ n. either_signal f n from) e
 
--- whether one of 2 ^ b signals is 1, from whether one of each half is, where b is not 0
-pub some_more : (f : ℕ → Signal) (b from : ℕ) → b ≢ 0
-    → some_signal f b from ≡ mux_signal (some_signal f (b - 1) (from + 2 ^ (b - 1))) (const_signal 1 1) (some_signal f (b - 1) from)
-unfolding some_signal
-some_more f zero from h = absurd (h refl)
-some_more f (suc b) from h = let e : b ≡ suc b - 1 = omega arith in
-    ap (λ n. mux_signal (some_signal f n (from + 2 ^ n)) (const_signal 1 1) (some_signal f n from)) e
+-- of 2 ^ b signals it is that of both halves in one, where b is not 0
+pub either_more : (f : ℕ → Signal) (b from : ℕ) → b ≢ 0
+    → either_signal f b from ≡ bin_signal Or (either_signal f (b - 1) (from + 2 ^ (b - 1))) (either_signal f (b - 1) from)
+unfolding either_signal
+either_more f zero from h = absurd (h refl)
+either_more f (suc b) from h = let e : b ≡ suc b - 1 = omega arith in
+    ap (λ n. bin_signal Or (either_signal f n (from + 2 ^ n)) (either_signal f n from)) e
 
-some_width : (f : ℕ → Signal) → ((k : ℕ) → (f k).width ≡ 1) → (b from : ℕ) → (some_signal f b from).width ≡ 1
-unfolding some_signal
-some_width f e zero from = e from
-some_width f e (suc b) from = refl
+-- it has the width that all its signals have
+pub either_width : (f : ℕ → Signal) (w : ℕ) → ((k : ℕ) → (f k).width ≡ w) → (b from : ℕ) → (either_signal f b from).width ≡ w
+unfolding either_signal
+either_width f w e zero from = e from
+either_width f w e (suc b) from = either_width f w e b (from + 2 ^ b)
 
-pub ruleset some = (some_none, some_more)
-
-mux_ones : (c x : ℕ) → x ≡ 1 → words.mux c 1 x ≡ 1
-unfolding words.mux
-mux_ones c x e = ⊎_elim (λ (o : c ≡ 1). mux_one c 1 x o) (λ (o : c ≢ 1). if_other c 1 x o ∙ e) (cases_eq c 1)
-
--- 1 comes of the signals where one of them is 1
-pub some_one : (f : ℕ → Signal) (s : State) (b from k : ℕ)
-    → from ≤ k → k < from + 2 ^ b → (f k).value s ≡ 1 → (some_signal f b from).value s ≡ 1
-unfolding some_signal mux_value const_value
-some_one f s zero from k lo hi e = ap (λ n. (f n).value s) (omega arith) ∙ e
-some_one f s (suc b) from k lo hi e =
+-- it is 0 where all of them are
+pub either_zero : (f : ℕ → Signal) (s : State) (b from : ℕ)
+    → ((k : ℕ) → from ≤ k → k < from + 2 ^ b → (f k).value s ≡ 0) → (either_signal f b from).value s ≡ 0
+unfolding either_signal bin_value
+either_zero f s zero from h = h from (omega arith) (omega arith)
+either_zero f s (suc b) from h =
     let two = two-pow-succ b in
-    let high = (some_signal f b (from + 2 ^ b)).value s in
-    let low = (some_signal f b from).value s in
+    let high = (either_signal f b (from + 2 ^ b)).value s in
+    ap (words.or high) (either_zero f s b from (λ k lo hi. h k lo (omega (arith, hi, two))))
+    ∙ or_zero high ∙ either_zero f s b (from + 2 ^ b) (λ k lo hi. h k (omega (arith, lo)) (omega (arith, hi, two)))
+
+zero_or : (v : ℕ) → words.or 0 v ≡ v
+unfolding words.or
+zero_or v = or_comm 0 v ∙ or_zero v
+
+-- it is the one of them beside which all are 0
+pub either_one : (f : ℕ → Signal) (s : State) (b from m : ℕ) → from ≤ m → m < from + 2 ^ b
+    → ((k : ℕ) → from ≤ k → k < from + 2 ^ b → k ≢ m → (f k).value s ≡ 0) → (either_signal f b from).value s ≡ (f m).value s
+unfolding either_signal bin_value
+either_one f s zero from m lo hi h = ap (λ n. (f n).value s) (omega arith)
+either_one f s (suc b) from m lo hi h =
+    let two = two-pow-succ b in
+    let high = (either_signal f b (from + 2 ^ b)).value s in
+    let low = (either_signal f b from).value s in
     ⊎_elim
-    (λ (h : k < from + 2 ^ b). mux_ones high low (some_one f s b from k lo h e))
-    (λ (h : from + 2 ^ b ≤ k). mux_one high 1 low (some_one f s b (from + 2 ^ b) k h (omega (arith, two, hi)) e))
-    (cases_lt k (from + 2 ^ b))
+    (λ (l : m < from + 2 ^ b).
+    ap (λ v. words.or v low)
+    (either_zero f s b (from + 2 ^ b) (λ k u v. h k (omega (arith, u)) (omega (arith, v, two)) (λ e. omega (arith, e, l, u))))
+    ∙ zero_or low ∙ either_one f s b from m lo l (λ k u v. h k u (omega (arith, v, two))))
+    (λ (l : from + 2 ^ b ≤ m).
+    ap (words.or high) (either_zero f s b from (λ k u v. h k u (omega (arith, v, two)) (λ e. omega (arith, e, l, v))))
+    ∙ or_zero high
+    ∙ either_one f s b (from + 2 ^ b) m l (omega (arith, hi, two)) (λ k u v. h k (omega (arith, u)) (omega (arith, v, two))))
+    (cases_lt m (from + 2 ^ b))
 
--- 0 comes of the signals where all of them are 0
-pub some_zero : (f : ℕ → Signal) (s : State) (b from : ℕ)
-    → ((k : ℕ) → from ≤ k → k < from + 2 ^ b → (f k).value s ≡ 0) → (some_signal f b from).value s ≡ 0
-unfolding some_signal mux_value const_value
-some_zero f s zero from h = h from (omega arith) (omega arith)
-some_zero f s (suc b) from h =
-    let two = two-pow-succ b in
-    let high = (some_signal f b (from + 2 ^ b)).value s in
-    let low = (some_signal f b from).value s in
-    mux_zero high 1 low (some_zero f s b (from + 2 ^ b) (λ k lo hi. h k (omega (arith, lo)) (omega (arith, hi, two))))
-    ∙ some_zero f s b from (λ k lo hi. h k lo (omega (arith, hi, two)))
-
--- ---- the least key
-
--- the least of one key is that key
-pub least_none : (key : ℕ → Signal) (b from : ℕ) → b ≡ 0 → least_key key b from ≡ key from
-unfolding least_key
-least_none key b from e = ap (λ n. least_key key n from) e
-
--- the least of 2 ^ b keys is the lesser one of the least keys of both halves, where b is not 0
-pub least_more : (key : ℕ → Signal) (b from : ℕ) → b ≢ 0
-    → least_key key b from
-    ≡ mux_signal (bin_signal Lt (least_key key (b - 1) (from + 2 ^ (b - 1))) (least_key key (b - 1) from))
-    (least_key key (b - 1) (from + 2 ^ (b - 1))) (least_key key (b - 1) from)
-unfolding least_key
-least_more key zero from h = absurd (h refl)
-least_more key (suc b) from h = let e : b ≡ suc b - 1 = omega arith in
-    ap (λ n. mux_signal (bin_signal Lt (least_key key n (from + 2 ^ n)) (least_key key n from)) (least_key key n (from + 2 ^ n)) (least_key key n from)) e
-
--- the signal of the least of one key is the signal of that key
-pub least_of_none : (key f : ℕ → Signal) (b from : ℕ) → b ≡ 0 → least_of key f b from ≡ f from
-unfolding least_of
-least_of_none key f b from e = ap (λ n. least_of key f n from) e
-
--- the signal of the least of 2 ^ b keys is that of the half with the lesser least key, where b is not 0
-pub least_of_more : (key f : ℕ → Signal) (b from : ℕ) → b ≢ 0
-    → least_of key f b from
-    ≡ mux_signal (bin_signal Lt (least_key key (b - 1) (from + 2 ^ (b - 1))) (least_key key (b - 1) from))
-    (least_of key f (b - 1) (from + 2 ^ (b - 1))) (least_of key f (b - 1) from)
-unfolding least_of
-least_of_more key f zero from h = absurd (h refl)
-least_of_more key f (suc b) from h = let e : b ≡ suc b - 1 = omega arith in
-    ap (λ n. mux_signal (bin_signal Lt (least_key key n (from + 2 ^ n)) (least_key key n from)) (least_of key f n (from + 2 ^ n)) (least_of key f n from)) e
-
--- the signal of the least key has the width that all signals have
-pub least_width : (key f : ℕ → Signal) (w : ℕ) → ((k : ℕ) → (f k).width ≡ w) → (b from : ℕ) → (least_of key f b from).width ≡ w
-unfolding least_of
-least_width key f w e zero from = e from
-least_width key f w e (suc b) from = least_width key f w e b (from + 2 ^ b)
-
--- the least key has the width that all keys have
-pub key_width : (key : ℕ → Signal) (w : ℕ) → ((k : ℕ) → (key k).width ≡ w) → (b from : ℕ) → (least_key key b from).width ≡ w
-unfolding least_key
-key_width key w e zero from = e from
-key_width key w e (suc b) from = key_width key w e b (from + 2 ^ b)
-
--- the test for less gives 1 where the first number is below the second
-pub less_one : (a b : ℕ) → a < b → words.less a b ≡ 1
-unfolding words.less
-less_one a b h = rw (lt-ltb a b h) refl
-
--- the test for less gives 0 where the first number is not below the second
-pub less_none : (a b : ℕ) → b ≤ a → words.less a b ≡ 0
-unfolding words.less
-less_none a b h = rw (le-ltb a b h) refl
-
--- no key is below this one
-pub least_from : (key : ℕ → Signal) (s : State) (m b from : ℕ)
-    → ((k : ℕ) → from ≤ k → k < from + 2 ^ b → m ≤ (key k).value s) → m ≤ (least_key key b from).value s
-unfolding least_key mux_value bin_value
-least_from key s m zero from h = h from (omega arith) (omega arith)
-least_from key s m (suc b) from h =
-    let two = two-pow-succ b in
-    let high = (least_key key b (from + 2 ^ b)).value s in
-    let low = (least_key key b from).value s in
-    let i = least_from key s m b (from + 2 ^ b) (λ k lo hi. h k (omega (arith, lo)) (omega (arith, hi, two))) in
-    let j = least_from key s m b from (λ k lo hi. h k lo (omega (arith, hi, two))) in
-    ⊎_elim
-    (λ (l : high < low). let e = mux_one (words.less high low) high low (less_one high low l) in omega (arith, e, i))
-    (λ (l : low ≤ high). let e = mux_zero (words.less high low) high low (less_none high low l) in omega (arith, e, j))
-    (cases_lt high low)
-
--- one key is below all others
-pub record IsLeast (key : ℕ → Signal) (s : State) (b from j : ℕ) : Type 0 where
-  pub low : from ≤ j
-  pub high : j < from + 2 ^ b
-  pub least : (k : ℕ) → from ≤ k → k < from + 2 ^ b → k ≢ j → (key j).value s < (key k).value s
-
-lower : (key : ℕ → Signal) (s : State) (b from j : ℕ) → IsLeast key s (suc b) from j → j < from + 2 ^ b → IsLeast key s b from j
-lower key s b from j i h = let two = two-pow-succ b in record { low = i.low; high = h; least = λ k lo hi q. i.least k lo (omega (arith, hi, two)) q }
-
-upper : (key : ℕ → Signal) (s : State) (b from j : ℕ) → IsLeast key s (suc b) from j → from + 2 ^ b ≤ j → IsLeast key s b (from + 2 ^ b) j
-upper key s b from j i h = let two = two-pow-succ b in
-    record { low = h; high = omega (arith, i.high, two); least = λ k lo hi q. i.least k (omega (arith, lo)) (omega (arith, hi, two)) q }
-
--- a key that is below all others is the least, and the signal of the least key is its signal
-pub least_is : (key f : ℕ → Signal) (s : State) (b from j : ℕ) → IsLeast key s b from j
-    → ((least_key key b from).value s ≡ (key j).value s) × ((least_of key f b from).value s ≡ (f j).value s)
-unfolding least_key least_of mux_value bin_value
-least_is key f s zero from j i = let e : from ≡ j = omega (arith, i.low, i.high) in (ap (λ n. (key n).value s) e, ap (λ n. (f n).value s) e)
-least_is key f s (suc b) from j i =
-    let two = two-pow-succ b in
-    let high = (least_key key b (from + 2 ^ b)).value s in
-    let low = (least_key key b from).value s in
-    let fh = (least_of key f b (from + 2 ^ b)).value s in
-    let fl = (least_of key f b from).value s in
-    ⊎_elim
-    (λ (h : j < from + 2 ^ b).
-    let r = least_is key f s b from j (lower key s b from j i h) in
-    let more : (key j).value s + 1 ≤ high =
-    least_from key s ((key j).value s + 1) b (from + 2 ^ b)
-    (λ k lo hi. let q = i.least k (omega (arith, lo)) (omega (arith, hi, two)) (λ z. omega (arith, z, h, lo)) in omega (arith, q)) in
-    let off : words.less high low ≡ 0 = less_none high low (let e = r.0 in omega (arith, e, more)) in
-    (mux_zero (words.less high low) high low off ∙ r.0, mux_zero (words.less high low) fh fl off ∙ r.1))
-    (λ (h : from + 2 ^ b ≤ j).
-    let r = least_is key f s b (from + 2 ^ b) j (upper key s b from j i h) in
-    let more : (key j).value s + 1 ≤ low =
-    least_from key s ((key j).value s + 1) b from
-    (λ k lo hi. let q = i.least k lo (omega (arith, hi, two)) (λ z. omega (arith, z, h, hi)) in omega (arith, q)) in
-    let on : words.less high low ≡ 1 = less_one high low (let e = r.0 in omega (arith, e, more)) in
-    (mux_one (words.less high low) high low on ∙ r.0, mux_one (words.less high low) fh fl on ∙ r.1))
-    (cases_lt j (from + 2 ^ b))
-
-pub ruleset nearest = (least_none, least_more, least_of_none, least_of_more)
+pub ruleset either = (either_none, either_more)

@@ -1,12 +1,10 @@
-//! Looks: which pending writes are older, whether one of them has the address, and the word of the array.
+//! Looks: which pending writes are older and have the address, and the word of the array.
 ghost use Rattle.std.specs.Prelude.{◌≡◌, ℕ, ◌+◌, ◌-◌, ◌*◌, ◌^◌, ◌<◌, ◌≤◌, IfOk};
 ghost use Rattle.pdl_net.specs.Meaning.{Means, signal};
 ghost use Rattle.pdl_net.specs.HasWidth.{HasWidth};
 ghost use Rattle.pdl_net.specs.Growth.{Extends};
 ghost use Rattle.pdl_lock_ring.specs.Slots.{IsSized, HasSlots};
-ghost use Rattle.pdl_lock_ring.specs.Choices.{some_signal};
-ghost use Rattle.pdl_lock_ring.specs.Looks.{slot_of, order_at, same_at, hit_at, hit_signal, older_count, last_older, net_by_kind, GivesWord};
-ghost use Rattle.pdl_lock_ring.specs.Seeks.{IsSought};
+ghost use Rattle.pdl_lock_ring.specs.Looks.{slot_of, shifted_slots, slots_from, turns_of, passed_slots, oldest_slot, older_slots, same_at, same_slots, hit_slots, net_by_kind, GivesWord};
 
 use crate::choice::power;
 use crate::layout::RingLayout;
@@ -14,14 +12,6 @@ use pdl_build::Builder;
 use pdl_kit::NoMemory;
 use pdl_lockapi::Kind;
 use pdl_net::{BinOp, Net};
-
-/// What a look asks for: the address, how many pending writes are older, and the ticket of the youngest of them.
-#[derive(Clone, Copy)]
-pub struct Sought {
-    pub addr: Net,
-    pub older: Net,
-    pub last: Net,
-}
 
 /// A number modulo the number of slots.
 #[tactic(auto)]
@@ -35,51 +25,103 @@ pub fn emit_slot_of(b: &mut Builder, l: RingLayout, ticket: Net) -> Result<Net, 
     b.bin(BinOp::And, ticket, mask)
 }
 
-/// What a look at an address with a ticket asks for.
-#[tactic(auto, using(crate::proofs::RingGrowth::slots_kept))]
-pub fn emit_sought(
-    b: &mut Builder,
-    l: RingLayout,
-    addr: Net,
-    ticket: Net,
-) -> Result<Sought, NoMemory>
+/// A word with a bit for each slot, moved up by the slot of a ticket.
+#[tactic(auto, using(crate::proofs::SlotWidths::extending))]
+fn emit_shifted(b: &mut Builder, l: RingLayout, slots: u64, ticket: Net) -> Result<Net, NoMemory>
+    requires sized { IsSized l }
+    requires ticket { HasWidth b.old ticket l.ticket }
+    requires few { slots < 2 ^ l.size }
+    ensures means { IfOk result (λ x.
+        Means b.new x (shifted_slots l slots (signal b.old ticket))) }
+    ensures wide { IfOk result (λ x. (signal b.new x).width ≡ l.size) }
+    ensures extends { Extends b.old b.new }
+{
+    let slots = b.constant(l.size as u8, slots)?;
+    let slot = emit_slot_of(b, l, ticket)?;
+    let places = b.zero_extend(slot, l.size as u8)?;
+    b.bin(BinOp::Shl, slots, places)
+}
+
+/// The slots from that of a ticket on.
+#[tactic(auto)]
+pub fn emit_from(b: &mut Builder, l: RingLayout, ticket: Net) -> Result<Net, NoMemory>
+    requires sized { IsSized l }
+    requires ticket { HasWidth b.old ticket l.ticket }
+    ensures means { IfOk result (λ x. Means b.new x (slots_from l (signal b.old ticket))) }
+    ensures wide { IfOk result (λ x. (signal b.new x).width ≡ l.size) }
+    ensures extends { Extends b.old b.new }
+{
+    let all = power(l.size as u8) as u64 - 1;
+    emit_shifted(b, l, all, ticket)
+}
+
+/// These, and in every second round of the ring the others.
+#[tactic(auto, unfolding(crate::specs::Looks::turns_of))]
+fn emit_turns(b: &mut Builder, l: RingLayout, ticket: Net) -> Result<Net, NoMemory>
+    requires sized { IsSized l }
+    requires ticket { HasWidth b.old ticket l.ticket }
+    ensures means { IfOk result (λ x. Means b.new x (turns_of l (signal b.old ticket))) }
+    ensures wide { IfOk result (λ x. (signal b.new x).width ≡ l.size) }
+    ensures extends { Extends b.old b.new }
+{
+    let from = emit_from(b, l, ticket)?;
+    let before = b.not(from)?;
+    let round = b.slice(ticket, l.ticket - 1, l.ticket - 1)?;
+    b.mux(round, before, from)
+}
+
+/// The slots that have a ticket from the head's up to this one.
+#[tactic(auto, using(crate::proofs::RingGrowth::slots_kept), unfolding(crate::specs::Looks::passed_slots))]
+fn emit_passed(b: &mut Builder, l: RingLayout, ticket: Net) -> Result<Net, NoMemory>
     requires sized { IsSized l }
     requires slots { HasSlots b.old l }
-    requires addr { HasWidth b.old addr l.bits }
     requires ticket { HasWidth b.old ticket l.ticket }
-    ensures sought { IfOk result (λ s.
-        IsSought b.new l (signal b.old addr) (signal b.old ticket) s) }
+    ensures means { IfOk result (λ x. Means b.new x (passed_slots l (signal b.old ticket))) }
+    ensures wide { IfOk result (λ x. (signal b.new x).width ≡ l.size) }
+    ensures extends { Extends b.old b.new }
+{
+    let turns = emit_turns(b, l, ticket)?;
+    let first = emit_turns(b, l, Net::Reg(l.from))?;
+    b.bin(BinOp::Xor, turns, first)
+}
+
+/// The head's slot where the ticket is another one than the head's.
+#[tactic(auto, using(crate::proofs::RingGrowth::slots_kept), unfolding(crate::specs::Looks::oldest_slot, crate::specs::Looks::head_slot))]
+fn emit_oldest_slot(b: &mut Builder, l: RingLayout, ticket: Net) -> Result<Net, NoMemory>
+    requires sized { IsSized l }
+    requires slots { HasSlots b.old l }
+    requires ticket { HasWidth b.old ticket l.ticket }
+    ensures means { IfOk result (λ x. Means b.new x (oldest_slot l (signal b.old ticket))) }
+    ensures wide { IfOk result (λ x. (signal b.new x).width ≡ l.size) }
     ensures extends { Extends b.old b.new }
 {
     let head = Net::Reg(l.from);
-    let tail = Net::Reg(l.from + 1);
-    let count = b.bin(BinOp::Sub, tail, head)?;
-    let ahead = b.bin(BinOp::Sub, ticket, head)?;
-    let late = b.bin(BinOp::Lt, count, ahead)?;
-    let older = b.mux(late, count, ahead)?;
-    let after = b.mux(late, tail, ticket)?;
-    let one = b.constant(l.ticket, 1)?;
-    let last = b.bin(BinOp::Sub, after, one)?;
-    Ok(Sought { addr, older, last })
+    let later = b.bin(BinOp::Ne, ticket, head)?;
+    let slot = emit_shifted(b, l, 1, head)?;
+    let none = b.constant(l.size as u8, 0)?;
+    b.mux(later, slot, none)
 }
 
-/// How far slot k is after the head's.
-#[tactic(auto)]
-fn emit_order(b: &mut Builder, l: RingLayout, k: usize) -> Result<Net, NoMemory>
+/// The pending writes with lower tickets than this one.
+#[tactic(auto, using(crate::proofs::RingGrowth::slots_kept), unfolding(crate::specs::Looks::older_slots))]
+fn emit_older(b: &mut Builder, l: RingLayout, ticket: Net) -> Result<Net, NoMemory>
     requires sized { IsSized l }
     requires slots { HasSlots b.old l }
-    requires within { k < l.size }
-    ensures means { IfOk result (λ x. Means b.new x (order_at l k)) }
+    requires ticket { HasWidth b.old ticket l.ticket }
+    ensures means { IfOk result (λ x. Means b.new x (older_slots l (signal b.old ticket))) }
+    ensures wide { IfOk result (λ x. (signal b.new x).width ≡ l.size) }
     ensures extends { Extends b.old b.new }
 {
-    let place = b.constant(l.ticket, k as u64)?;
-    let less = b.bin(BinOp::Sub, place, Net::Reg(l.from))?;
-    emit_slot_of(b, l, less)
+    let pending = emit_passed(b, l, Net::Reg(l.from + 1))?;
+    let passed = emit_passed(b, l, ticket)?;
+    let oldest = emit_oldest_slot(b, l, ticket)?;
+    let before = b.bin(BinOp::Or, oldest, passed)?;
+    b.bin(BinOp::And, pending, before)
 }
 
 /// Whether slot k has the address.
 #[tactic(auto)]
-pub fn emit_same(b: &mut Builder, l: RingLayout, addr: Net, k: usize) -> Result<Net, NoMemory>
+fn emit_same(b: &mut Builder, l: RingLayout, addr: Net, k: usize) -> Result<Net, NoMemory>
     requires sized { IsSized l }
     requires slots { HasSlots b.old l }
     requires within { k < l.size }
@@ -90,77 +132,39 @@ pub fn emit_same(b: &mut Builder, l: RingLayout, addr: Net, k: usize) -> Result<
     b.bin(BinOp::Eq, Net::Reg(l.from + 2 + k), addr)
 }
 
-/// Whether slot k has the address and is older.
-#[tactic(auto, using(crate::proofs::RingGrowth::slots_kept))]
-fn emit_hit_slot(
-    b: &mut Builder,
-    l: RingLayout,
-    addr: Net,
-    older: Net,
-    k: usize,
-) -> Result<Net, NoMemory>
-    requires sized { IsSized l }
-    requires slots { HasSlots b.old l }
-    requires within { k < l.size }
-    requires addr { HasWidth b.old addr l.bits }
-    requires older { HasWidth b.old older l.ticket }
-    ensures means { IfOk result (λ x.
-        Means b.new x (hit_at l (signal b.old addr) (signal b.old older) k)) }
-    ensures extends { Extends b.old b.new }
-{
-    let same = emit_same(b, l, addr, k)?;
-    let order = emit_order(b, l, k)?;
-    let older = b.bin(BinOp::Lt, order, older)?;
-    let zero = b.constant(1, 0)?;
-    b.mux(same, older, zero)
-}
-
-/// Whether one of the `2 ^ bits` slots from `from` on has the address and is older.
-#[tactic(auto, using(crate::proofs::Trees::some, crate::proofs::RingGrowth::slots_kept))]
-fn emit_hits(
-    b: &mut Builder,
-    l: RingLayout,
-    addr: Net,
-    older: Net,
-    bits: u8,
-    from: usize,
-) -> Result<Net, NoMemory>
+/// The slots that have the address.
+#[tactic(auto, using(crate::proofs::RingGrowth::slots_kept, crate::proofs::SlotBits::gathering))]
+fn emit_same_slots(b: &mut Builder, l: RingLayout, addr: Net) -> Result<Net, NoMemory>
     requires sized { IsSized l }
     requires slots { HasSlots b.old l }
     requires addr { HasWidth b.old addr l.bits }
-    requires older { HasWidth b.old older l.ticket }
-    requires bits { bits ≤ 16 }
-    requires within { from + 2 ^ bits ≤ l.size }
-    ensures means { IfOk result (λ x.
-        Means b.new x (some_signal (hit_at l (signal b.old addr) (signal b.old older)) bits from)) }
-    ensures wide { IfOk result (λ x. (signal b.new x).width ≡ 1) }
+    ensures means { IfOk result (λ x. Means b.new x (same_slots l (signal b.old addr))) }
+    ensures wide { IfOk result (λ x. (signal b.new x).width ≡ l.size) }
     ensures extends { Extends b.old b.new }
 {
-    if bits == 0 {
-        return emit_hit_slot(b, l, addr, older, from);
+    let mut slots = emit_same(b, l, addr, 0)?;
+    for k in 1..l.size {
+        let same = emit_same(b, l, addr, k)?;
+        slots = b.cat(same, slots)?;
     }
-    let top = bits - 1;
-    let half = power(top);
-    let low = emit_hits(b, l, addr, older, top, from)?;
-    let high = emit_hits(b, l, addr, older, top, from + half)?;
-    let one = b.constant(1, 1)?;
-    let found = b.mux(high, one, low)?;
-    Ok(found)
+    Ok(slots)
 }
 
-/// Whether an older pending write has the address.
-#[tactic(auto)]
-pub fn emit_hit(b: &mut Builder, l: RingLayout, addr: Net, older: Net) -> Result<Net, NoMemory>
+/// The older pending writes of the address.
+#[tactic(auto, using(crate::proofs::RingGrowth::slots_kept), unfolding(crate::specs::Looks::hit_slots))]
+pub fn emit_hits(b: &mut Builder, l: RingLayout, addr: Net, ticket: Net) -> Result<Net, NoMemory>
     requires sized { IsSized l }
     requires slots { HasSlots b.old l }
     requires addr { HasWidth b.old addr l.bits }
-    requires older { HasWidth b.old older l.ticket }
+    requires ticket { HasWidth b.old ticket l.ticket }
     ensures means { IfOk result (λ x.
-        Means b.new x (hit_signal l (signal b.old addr) (signal b.old older))) }
-    ensures wide { IfOk result (λ x. (signal b.new x).width ≡ 1) }
+        Means b.new x (hit_slots l (signal b.old addr) (signal b.old ticket))) }
+    ensures wide { IfOk result (λ x. (signal b.new x).width ≡ l.size) }
     ensures extends { Extends b.old b.new }
 {
-    emit_hits(b, l, addr, older, l.ticket - 1, 0)
+    let older = emit_older(b, l, ticket)?;
+    let same = emit_same_slots(b, l, addr)?;
+    b.bin(BinOp::And, same, older)
 }
 
 /// The word of the array at an address; a delayed memory has none.

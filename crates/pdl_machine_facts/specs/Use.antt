@@ -1,7 +1,7 @@
 -- How the threads of a pipe use the locks, in each state of a run.
 use Rattle.std.specs.Prelude.{◌≡◌, ℕ, ◌+◌, ◌≤◌, ◌<◌, Bool, true, false, IsTrue, List, [], ◌∷◌, Some, None, length, slice_index, nat_le, if◌then◌else◌, Contains, ⊤}
 use Rattle.pdl_semantics.specs.Flat.{Expr, Op, Bind, CombRead, DelayedRead, Write, ReserveRead, ReserveWrite, Block, Release, Call, SpecCall, Verify, SpecCheck, SpecBarrier, AdviceBind, AdviceRead, AdviceWrite, Stmt, Plain, Pipe, all_hold}
-use Rattle.pdl_semantics.specs.Stages.{in_stage, mem_at, reserve_stage, commit_stage}
+use Rattle.pdl_semantics.specs.Stages.{in_stage, mem_at, reserve_stage, commit_stage, verify_stage}
 use Rattle.pdl_semantics.specs.Locks.{read_ready, has_room}
 use Rattle.pdl_semantics.specs.Machine.{Thread, State, lock_of, Deeds, deeds, deeds_after, held_before, is_held, let_go, with_kept, older_write, word_for}
 use Rattle.pdl_semantics.specs.Moves.{next_stage}
@@ -52,36 +52,42 @@ in_time p k (AdviceWrite _ _ _) = true
 abbrev pub is_early : Pipe → Stmt → Bool
 is_early p x = in_time p x.stage x.op
 
--- a guess that is verified with these arguments has as many, and hasn't failed before
-pub record IsGuessFine (args : List Expr) (d : Deeds) : Type 0 where
+-- a guess that is verified in stage k with these arguments has as many, it hasn't failed before, and k is V
+pub record IsGuessFine (p : Pipe) (k : ℕ) (args : List Expr) (d : Deeds) : Type 0 where
   pub long : length d.guess ≡ length args
   pub calm : d.fails ≡ false
+  pub stands : verify_stage p.stmts ≡ Some k
 
--- a read is ready, what is released is held no more, and a verify or an update has as many arguments as the guess
-abbrev pub IsOpFine : Pipe → State → ℕ → Op → Deeds → Type 0
-IsOpFine p st thread (Bind _ _) d = ⊤
-IsOpFine p st thread (CombRead x m a) d = IsTrue (read_ready (mem_at p m).lock (older_write st thread m (slice_index d.env a)))
-IsOpFine p st thread (DelayedRead _ _ _) d = ⊤
-IsOpFine p st thread (Write _ _ _) d = ⊤
-IsOpFine p st thread (ReserveRead _ _) d = ⊤
-IsOpFine p st thread (ReserveWrite _ _) d = ⊤
-IsOpFine p st thread (Block _ _) d = ⊤
-IsOpFine p st thread (Release m a) d = is_held (let_go d.held m a) m a ≡ false
-IsOpFine p st thread (Call _) d = ⊤
-IsOpFine p st thread (SpecCall _) d = ⊤
-IsOpFine p st thread (Verify true args) d = IsGuessFine args d
-IsOpFine p st thread (Verify false args) d = length d.guess ≡ length args
-IsOpFine p st thread SpecCheck d = ⊤
-IsOpFine p st thread SpecBarrier d = ⊤
-IsOpFine p st thread (AdviceBind _ _) d = ⊤
-IsOpFine p st thread (AdviceRead _ _ _) d = ⊤
-IsOpFine p st thread (AdviceWrite _ _ _) d = ⊤
+-- a guess that is updated in stage k with these arguments has as many, and k is before V
+pub record IsUpdateFine (p : Pipe) (k : ℕ) (args : List Expr) (d : Deeds) : Type 0 where
+  pub long : length d.guess ≡ length args
+  pub early : (v : ℕ) × (verify_stage p.stmts ≡ Some v) × (k < v)
+
+-- in stage k a read is ready, what is released is held no more, and a verify or an update has as many arguments as the guess
+abbrev pub IsOpFine : Pipe → State → (thread k : ℕ) → Op → Deeds → Type 0
+IsOpFine p st thread k (Bind _ _) d = ⊤
+IsOpFine p st thread k (CombRead x m a) d = IsTrue (read_ready (mem_at p m).lock (older_write st thread m (slice_index d.env a)))
+IsOpFine p st thread k (DelayedRead _ _ _) d = ⊤
+IsOpFine p st thread k (Write _ _ _) d = ⊤
+IsOpFine p st thread k (ReserveRead _ _) d = ⊤
+IsOpFine p st thread k (ReserveWrite _ _) d = ⊤
+IsOpFine p st thread k (Block _ _) d = ⊤
+IsOpFine p st thread k (Release m a) d = is_held (let_go d.held m a) m a ≡ false
+IsOpFine p st thread k (Call _) d = ⊤
+IsOpFine p st thread k (SpecCall _) d = ⊤
+IsOpFine p st thread k (Verify true args) d = IsGuessFine p k args d
+IsOpFine p st thread k (Verify false args) d = IsUpdateFine p k args d
+IsOpFine p st thread k SpecCheck d = ⊤
+IsOpFine p st thread k SpecBarrier d = ⊤
+IsOpFine p st thread k (AdviceBind _ _) d = ⊤
+IsOpFine p st thread k (AdviceRead _ _ _) d = ⊤
+IsOpFine p st thread k (AdviceWrite _ _ _) d = ⊤
 
 -- after these deeds each statement on the thread's path is early and fine, as long as the locks let the thread move so far
 abbrev pub AreFine : Pipe → State → ℕ → List Stmt → Deeds → Type 0
 AreFine p st thread [] d = ⊤
 AreFine p st thread (x ∷ xs) d =
-    (all_hold x.guards d.env ≡ true → locks_ready p st thread d ≡ true → (is_early p x ≡ true) × IsOpFine p st thread x.op d)
+    (all_hold x.guards d.env ≡ true → locks_ready p st thread d ≡ true → (is_early p x ≡ true) × IsOpFine p st thread x.stage x.op d)
     × AreFine p st thread xs (if all_hold x.guards d.env then deeds_after (word_for st thread) x.op d else d)
 
 -- the threads of a state use the locks as the rules have it, in a cycle with these replies

@@ -1,13 +1,11 @@
--- What a stage's statements may do: they ask for the delayed reads of the stage, and only where the verifies stand does one fail.
-use Rattle.std.proofs.Common.{◌≡◌, refl, sym, ap, ◌∙◌, ℕ, suc, Bool, true, false, ◌&&◌, ◌||◌, not, List, [], ◌∷◌, Option, Some, None, ◌==◌, nat_le, arith, cond, if◌then◌else◌}
-use Rattle.std.proofs.lemmas.Bool.{and_parts, eqb-true, leb-true}
+-- What a stage's statements may do: they ask for the delayed reads of the stage, and a thread fails only where one of them checks the guess.
+use Rattle.std.proofs.Common.{◌≡◌, refl, sym, ap, ap₂, ◌∙◌, ℕ, suc, Bool, true, false, ◌&&◌, ◌||◌, not, List, [], ◌∷◌, Some, ◌==◌, nat_le, arith, cond, if◌then◌else◌}
+use Rattle.std.proofs.lemmas.Bool.{and_parts, or_left, or_right, eqb-true, leb-true, false≢true}
 use Rattle.pdl_semantics.specs.Flat.{Op, Bind, CombRead, DelayedRead, Write, ReserveRead, ReserveWrite, Block, Release, Call, SpecCall, Verify, SpecCheck, SpecBarrier, AdviceBind, AdviceRead, AdviceWrite, Stmt, Pipe, all_hold}
-use Rattle.pdl_semantics.specs.Stages.{list_any, in_stage, is_verify, verify_stage}
+use Rattle.pdl_semantics.specs.Stages.{list_any, in_stage, is_verify, is_check, verify_stage}
 use Rattle.pdl_semantics.specs.Machine.{State, Thread, Ask, Deeds, same_args, deeds_after, deeds_after_all, deeds, word_for, checked_args}
 use Rattle.pdl_theory_facts.specs.Scans.{all_at}
-use Rattle.pdl_semantics.specs.Updates.{is_update}
 use Rattle.pdl_machine_inflight.specs.Readings.{reading, IsTheReading, Reads}
-use Rattle.pdl_machine_inflight.specs.InFlight.{ReplacesNone}
 use Rattle.pdl_word.specs.Each.{Each}
 use Rattle.pdl_word.proofs.Each.{each_push}
 
@@ -66,85 +64,50 @@ asks_in p reads st k t = asks_all p k (word_for st t.number) (in_stage k p.stmts
 
 -- FAILURES
 
-fails_op : (read : ℕ → ℕ → ℕ) (o : Op) (d : Deeds) → is_verify o ≡ false → is_update o ≡ false → (deeds_after read o d).fails ≡ d.fails
-fails_op read (Verify true args) d h u = absurd (cc h)
-fails_op read (Verify false args) d h u = absurd (cc u)
-fails_op read (Bind x e) d h u = refl
-fails_op read (CombRead x m a) d h u = refl
-fails_op read (DelayedRead x m a) d h u = refl
-fails_op read (Write m a e) d h u = refl
-fails_op read (ReserveRead m a) d h u = refl
-fails_op read (ReserveWrite m a) d h u = refl
-fails_op read (Block m a) d h u = refl
-fails_op read (Release m a) d h u = refl
-fails_op read (Call args) d h u = refl
-fails_op read (SpecCall args) d h u = refl
-fails_op read SpecCheck d h u = refl
-fails_op read SpecBarrier d h u = refl
-fails_op read (AdviceBind x e) d h u = refl
-fails_op read (AdviceRead x m a) d h u = refl
-fails_op read (AdviceWrite m a e) d h u = refl
+fails_op : (read : ℕ → ℕ → ℕ) (o : Op) (d : Deeds) → is_check o ≡ false → (deeds_after read o d).fails ≡ d.fails
+fails_op read (Verify last args) d h = absurd (false≢true (sym h))
+fails_op read (Bind x e) d h = refl
+fails_op read (CombRead x m a) d h = refl
+fails_op read (DelayedRead x m a) d h = refl
+fails_op read (Write m a e) d h = refl
+fails_op read (ReserveRead m a) d h = refl
+fails_op read (ReserveWrite m a) d h = refl
+fails_op read (Block m a) d h = refl
+fails_op read (Release m a) d h = refl
+fails_op read (Call args) d h = refl
+fails_op read (SpecCall args) d h = refl
+fails_op read SpecCheck d h = refl
+fails_op read SpecBarrier d h = refl
+fails_op read (AdviceBind x e) d h = refl
+fails_op read (AdviceRead x m a) d h = refl
+fails_op read (AdviceWrite m a e) d h = refl
 
-fails_all : (read : ℕ → ℕ → ℕ) (xs : List Stmt)
-    → Each (λ (x : Stmt). is_verify x.op ≡ false) xs → Each (λ (x : Stmt). is_update x.op ≡ false) xs → (d : Deeds)
-    → (deeds_after_all read xs d).fails ≡ d.fails
-fails_all read [] h u d = refl
-fails_all read (x ∷ xs) h u d = fails_all read xs h.1 u.1 (if all_hold x.guards d.env then deeds_after read x.op d else d) ∙ at (all_hold x.guards d.env)
+-- whether one of these statements asks whether the guess is another, where the variables have these values
+abbrev pub has_check : List ℕ → List Stmt → Bool
+has_check env xs = list_any (λ (x : Stmt). is_check x.op && all_hold x.guards env) xs
+
+fails_all : (read : ℕ → ℕ → ℕ) (xs : List Stmt) (d : Deeds) → d.fails ≡ false → (deeds_after_all read xs d).fails ≡ true
+    → (env : List ℕ) × (has_check env xs ≡ true)
+fails_all read [] d e f = absurd (false≢true (sym e ∙ f))
+fails_all read (x ∷ xs) d e f = at (all_hold x.guards d.env) refl (is_check x.op) refl f (λ d' e' f'. fails_all read xs d' e' f')
   where
-    at : (b : Bool) → (if b then deeds_after read x.op d else d).fails ≡ d.fails
-    at true = fails_op read x.op d h.0 u.0
-    at false = refl
+    more : (d' : Deeds) → d'.fails ≡ false → (deeds_after_all read xs d').fails ≡ true
+        → ((d' : Deeds) → d'.fails ≡ false → (deeds_after_all read xs d').fails ≡ true → (env : List ℕ) × (has_check env xs ≡ true))
+        → (env : List ℕ) × (has_check env (x ∷ xs) ≡ true)
+    more d' e' f' later = let r = later d' e' f' in (r.0, or_right (is_check x.op && all_hold x.guards r.0) (has_check r.0 xs) r.1)
 
--- statements of another stage than that of the verifies verify nothing
-unverified : (v k : ℕ) (xs : List Stmt)
-    → all_at is_verify v xs ≡ true → (k ≡ v → ⊥) → Each (λ (x : Stmt). is_verify x.op ≡ false) (in_stage k xs)
-unverified v k [] h n = tt
-unverified v k (x ∷ xs) h n = at (x.stage == k) refl (unverified v k xs parts.1 n)
-  where
-    parts : ((not (is_verify x.op) || (x.stage == v)) ≡ true) × (all_at is_verify v xs ≡ true)
-    parts = and_parts (not (is_verify x.op) || (x.stage == v)) (all_at is_verify v xs) h
+    at : (b : Bool) → all_hold x.guards d.env ≡ b → (c : Bool) → is_check x.op ≡ c
+        → (deeds_after_all read xs (if b then deeds_after read x.op d else d)).fails ≡ true
+        → ((d' : Deeds) → d'.fails ≡ false → (deeds_after_all read xs d').fails ≡ true → (env : List ℕ) × (has_check env xs ≡ true))
+        → (env : List ℕ) × (has_check env (x ∷ xs) ≡ true)
+    at false g c h f later = more d e f later
+    at true g true h f later = (d.env, or_left (is_check x.op && all_hold x.guards d.env) (has_check d.env xs) (ap₂ (λ a b. a && b) h g))
+    at true g false h f later = more (deeds_after read x.op d) (fails_op read x.op d h ∙ e) f later
 
-    none : (b : Bool) → is_verify x.op ≡ b → x.stage ≡ k → is_verify x.op ≡ false
-    none false e s = e
-    none true e s = absurd (n (sym s ∙ eqb-true x.stage v (ap (λ b. not b || (x.stage == v)) (sym e) ∙ parts.0)))
-
-    at : (b : Bool) → (x.stage == k) ≡ b → Each (λ (x : Stmt). is_verify x.op ≡ false) (in_stage k xs)
-        → Each (λ (x : Stmt). is_verify x.op ≡ false) (if b then x ∷ in_stage k xs else in_stage k xs)
-    at true e r = (none (is_verify x.op) refl (eqb-true x.stage k e), r)
-    at false e r = r
-
-stage_each_of : (P : Stmt → Type 0) (k : ℕ) (xs : List Stmt) → Each P xs → Each P (in_stage k xs)
-stage_each_of P k [] h = tt
-stage_each_of P k (x ∷ xs) h = at (x.stage == k) (stage_each_of P k xs h.1)
-  where
-    at : (b : Bool) → Each P (in_stage k xs) → Each P (if b then x ∷ in_stage k xs else in_stage k xs)
-    at true r = (h.0, r)
-    at false r = r
-
--- where no guess is replaced, no verify fails in a stage other than that of the verifies
-pub fails_not : (p : Pipe) (v : ℕ)
-    → all_at is_verify v p.stmts ≡ true → ReplacesNone p → (st : State) (k : ℕ) (t : Thread) → (k ≡ v → ⊥)
-    → (deeds p st k t).fails ≡ false
-fails_not p v h u st k t n =
-    fails_all (word_for st t.number) (in_stage k p.stmts) (unverified v k p.stmts h n)
-    (stage_each_of (λ (x : Stmt). is_update x.op ≡ false) k p.stmts u) _
-
--- and where the pipe verifies nothing nothing fails
-verifies_none : (xs : List Stmt) → verify_stage xs ≡ None → Each (λ (x : Stmt). is_verify x.op ≡ false) xs
-verifies_none [] h = tt
-verifies_none (x ∷ xs) h = at (is_verify x.op) refl h (verifies_none xs)
-  where
-    at : (b : Bool) → is_verify x.op ≡ b → (if b then Some x.stage else verify_stage xs) ≡ None
-        → (verify_stage xs ≡ None → Each (λ (y : Stmt). is_verify y.op ≡ false) xs)
-        → Each (λ (y : Stmt). is_verify y.op ≡ false) (x ∷ xs)
-    at true e g rest = absurd (cc g)
-    at false e g rest = (e, rest g)
-
--- where a pipe has no verify none fails in any stage
-pub fails_never : (p : Pipe) → verify_stage p.stmts ≡ None → ReplacesNone p → (st : State) (k : ℕ) (t : Thread) → (deeds p st k t).fails ≡ false
-fails_never p h u st k t =
-    fails_all (word_for st t.number) (in_stage k p.stmts) (stage_each_of (λ (x : Stmt). is_verify x.op ≡ false) k p.stmts (verifies_none p.stmts h))
-    (stage_each_of (λ (x : Stmt). is_update x.op ≡ false) k p.stmts u) _
+-- a thread that fails in a stage carries out a check there: with some values this is on the path
+pub fails_checked : (p : Pipe) (st : State) (k : ℕ) (t : Thread) → (deeds p st k t).fails ≡ true
+    → (env : List ℕ) × (has_check env (in_stage k p.stmts) ≡ true)
+fails_checked p st k t f = fails_all (word_for st t.number) (in_stage k p.stmts) _ refl f
 
 apart : (v k : ℕ) (xs : List Stmt) → all_at is_verify v xs ≡ true
     → list_any (λ (r : Stmt). nat_le (suc k) r.stage && is_verify r.op) xs ≡ true → k ≡ v → ⊥
@@ -164,12 +127,7 @@ apart v k (x ∷ xs) h g e = by (nat_le (suc k) x.stage && is_verify x.op) refl 
         omega (arith, s, l, e)
     by false f g rest = rest g
 
--- where no guess is replaced, none fails before the stage of the verifies
-pub fails_before : (p : Pipe) → ((v : ℕ) → verify_stage p.stmts ≡ Some v → all_at is_verify v p.stmts ≡ true) → ReplacesNone p
-    → (st : State) (k : ℕ) (t : Thread) → list_any (λ (r : Stmt). nat_le (suc k) r.stage && is_verify r.op) p.stmts ≡ true
-    → (deeds p st k t).fails ≡ false
-fails_before p one still st k t later = at (verify_stage p.stmts) refl
-  where
-    at : (o : Option ℕ) → verify_stage p.stmts ≡ o → (deeds p st k t).fails ≡ false
-    at None e = fails_never p e still st k t
-    at (Some v) e = fails_not p v (one v e) still st k t (apart v k p.stmts (one v e) later)
+-- where a later stage verifies, a stage is not V
+pub verified_later : (p : Pipe) → ((v : ℕ) → verify_stage p.stmts ≡ Some v → all_at is_verify v p.stmts ≡ true) → (k : ℕ)
+    → list_any (λ (r : Stmt). nat_le (suc k) r.stage && is_verify r.op) p.stmts ≡ true → verify_stage p.stmts ≡ Some k → ⊥
+verified_later p one k later e = apart k k p.stmts (one k e) later refl

@@ -3,6 +3,7 @@ pub mod ReadingFacts
 pub mod ForkLists
 pub mod Flights
 pub mod DeedsIn
+pub mod SquashStages
 pub mod LaterActs
 pub mod Squashes
 pub mod Comings

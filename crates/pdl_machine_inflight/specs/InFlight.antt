@@ -1,17 +1,18 @@
 -- What holds of the threads in flight, by their stages, in each state that a run comes to.
-use Rattle.std.specs.Prelude.{◌≡◌, ℕ, ◌<◌, ◌≤◌, false, List, [], ◌∷◌, Some, length, ◌⊎◌}
+use Rattle.std.specs.Prelude.{◌≡◌, ℕ, ◌<◌, ◌≤◌, true, List, [], ◌∷◌, Some, length, ◌⊎◌}
 use Rattle.pdl_word.specs.Each.{Each}
-use Rattle.pdl_semantics.specs.Flat.{Stmt, Pipe}
-use Rattle.pdl_semantics.specs.Updates.{is_update}
+use Rattle.pdl_semantics.specs.Flat.{Pipe}
+use Rattle.pdl_semantics.specs.Updates.{is_update, first_update}
+use Rattle.pdl_theory_facts.specs.Scans.{all_at}
 use Rattle.pdl_theory_facts.specs.Graphs.{Trunk}
 use Rattle.pdl_semantics.specs.Machine.{Awaited, Thread, Owned, State, request_of, fork_of}
 use Rattle.pdl_semantics.specs.Cycle.{for_mems}
 use Rattle.pdl_machine_facts.specs.Slots.{slot}
 use Rattle.pdl_machine_inflight.specs.Readings.{Reading, reading, places, branch_stages}
 
--- no statement of the pipe replaces a guess
-abbrev pub ReplacesNone : Pipe → Type 0
-ReplacesNone p = Each (λ (x : Stmt). is_update x.op ≡ false) p.stmts
+-- all updates of the pipe stand in one stage, that of the first
+abbrev pub UpdatesTogether : Pipe → Type 0
+UpdatesTogether p = (u : ℕ) → first_update p.stmts ≡ Some u → all_at is_update u p.stmts ≡ true
 
 -- one of some elements has a property
 abbrev pub Some-of : {X : Type 0} → (X → Type 0) → List X → Type 0

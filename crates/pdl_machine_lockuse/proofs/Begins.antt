@@ -20,6 +20,7 @@ use Rattle.pdl_theory_derived.proofs.Entries.{entries_of, Open, Full, waiting, k
 use Rattle.pdl_theory_derived.proofs.Deeds.{places, places_has, AllFit, Loosely, loose_step}
 use Rattle.pdl_theory_turns.proofs.Paths.{Fixed, none_onpath}
 use Rattle.pdl_theory_turns.proofs.Surroundings.{Right, in_stage_all}
+use Rattle.pdl_theory_turns.proofs.StrayPaths.{verify_looked}
 use Rattle.pdl_theory_simulation.proofs.AcceptedFacts.{sound_flows}
 use Rattle.pdl_theory_simulation.proofs.Shapes.{Shape, none_till, held_ops, held_path}
 use Rattle.pdl_theory_simulation.proofs.FlowFacts.{uses_ok}
@@ -382,7 +383,7 @@ module _ (p : Pipe) (sound : Sound p) (st : State) (d : Derived.State) (bits : L
         subst (AreFine p st l.number (in_stage l.thread.stage p.stmts)) (sym begun_is)
         (fine_all p st l.number (length p.start) l.thread.stage (verify_stage (looked_all p.stmts)) (scan_after_all (looked_all done) no_scan) way
         (λ m. phase_all m Fresh done) (making_all Unmade (looked_all done))
-        (in_stage l.thread.stage p.stmts) begun
+        (in_stage l.thread.stage p.stmts) begun (sym (verify_looked p.stmts))
         (in_stage_all l.thread.stage p.stmts) along_here
         reads_here
         (mine_uses p sound st d bits arrays older l k) (mine_makings p sound st d bits arrays older l k)

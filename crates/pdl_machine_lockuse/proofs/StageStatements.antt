@@ -1,8 +1,8 @@
 -- The statements of a thread's stage, one after another: reads are ready where its blocks are, what is released is held no more, and a verify has as many arguments as the guess.
-use Rattle.std.proofs.Common.{◌≡◌, refl, sym, ap, ap₂, ◌∙◌, subst, ℕ, suc, Bool, true, false, ◌&&◌, ◌||◌, not, List, [], ◌∷◌, ◌++◌, length, Option, None, Some, arith, cond, nat_le, slice_index}
+use Rattle.std.proofs.Common.{◌≡◌, refl, sym, ap, ap₂, ◌∙◌, subst, ℕ, suc, ◌<◌, Bool, true, false, ◌&&◌, ◌||◌, not, List, [], ◌∷◌, ◌++◌, length, Option, None, Some, arith, cond, nat_le, slice_index}
 use Rattle.std.proofs.lemmas.Bool.{false≢true, leb-true, ltb-true, eqb-true}
 use Rattle.pdl_semantics.specs.Flat.{list_all, Op, Bind, CombRead, DelayedRead, ReserveWrite, Block, Release, Call, SpecCall, Verify, Stmt, Expr, Pipe, all_hold, value_of, values_of}
-use Rattle.pdl_semantics.specs.Stages.{onpath, mem_at, reserve_stage, commit_stage}
+use Rattle.pdl_semantics.specs.Stages.{onpath, mem_at, reserve_stage, commit_stage, verify_stage}
 use Rattle.pdl_semantics.specs.Locks.{read_ready, write_ready}
 use Rattle.pdl_semantics.specs.Machine.{State, Blocked, Deeds, all_values, deeds_after, is_held, older_write, word_for, same_args, checked_args}
 use Rattle.pdl_semantics.specs.Moves.{block_ready, blocks_ready, have_room}
@@ -29,6 +29,14 @@ Calm v s g d = stands_at v s ≡ true → is_guessed g ≡ true → d.fails ≡ 
 not_both : {R : Type 0} → (v : Option ℕ) (s : ℕ) → stands_at v s ≡ true → stands_before v s ≡ true → R
 not_both None s a b = absurd (false≢true a)
 not_both (Some v) s a b = let e = eqb-true s v a in let l = ltb-true s v b in absurd (omega (arith, e, l))
+
+at_stage : (v : Option ℕ) (s : ℕ) → stands_at v s ≡ true → v ≡ Some s
+at_stage None s h = absurd (false≢true h)
+at_stage (Some v) s h = ap (λ i. Some i) (sym (eqb-true s v h))
+
+stage_after : (o : Option ℕ) (s : ℕ) → stands_before o s ≡ true → (v : ℕ) × (o ≡ Some v) × (s < v)
+stage_after None s h = absurd (false≢true h)
+stage_after (Some v) s h = (v, refl, ltb-true s v h)
 
 -- where all of a list and one more pass, all of the list pass, and that one
 pub all_last : {X : Type 0} → (test : X → Bool) (xs : List X) (x : X)
@@ -121,34 +129,42 @@ module _ (p : Pipe) (st : State) (n : ℕ) where
   calm_next v s g (DelayedRead x m a) d h z i j = z i j
   calm_next v s g _ d h z i j = z i j
 
-  op_fine : (size s : ℕ) (v : Option ℕ) (c : Scan) (ph : ℕ → Phase) (g : Making) (op : Op) (d : Deeds) → op_ok p s c (answered_op op) ≡ true
+  op_fine : (size s : ℕ) (v : Option ℕ) (c : Scan) (ph : ℕ → Phase) (g : Making) (op : Op) (d : Deeds) → verify_stage p.stmts ≡ v
+      → op_ok p s c (answered_op op) ≡ true
       → ((m : ℕ) → HeldOnce m (ph m) d.held) → making_ok v g s (answered_op op) ≡ true → passes_on size op ≡ true
-      → (is_guessed g ≡ true → length d.guess ≡ size) → Calm v s g d → RightIf s c d → locks_ready p st n d ≡ true → IsOpFine p st n op d
-  op_fine size s v c ph g (CombRead x m a) d h o q y f z r k = read_here s c x m a d h r k
-  op_fine size s v c ph g (Release m a) d h o q y f z r k = released_here m a d.held (held_once m (ph m) d.held (o m) a)
-  op_fine size s v c ph g (Verify true args) d h o q y f z r k = record {
+      → (is_guessed g ≡ true → length d.guess ≡ size) → Calm v s g d → RightIf s c d → locks_ready p st n d ≡ true → IsOpFine p st n s op d
+  op_fine size s v c ph g (CombRead x m a) d is h o q y f z r k = read_here s c x m a d h r k
+  op_fine size s v c ph g (Release m a) d is h o q y f z r k = released_here m a d.held (held_once m (ph m) d.held (o m) a)
+  op_fine size s v c ph g (Verify true args) d is h o q y f z r k = record {
     long = f (and_left (is_guessed g) (stands_at v s) q) ∙ sym (eqb-true (length args) size y);
     calm = z (and_right (is_guessed g) (stands_at v s) q) (and_left (is_guessed g) (stands_at v s) q);
+    stands = is ∙ at_stage v s (and_right (is_guessed g) (stands_at v s) q);
   }
-  op_fine size s v c ph g (Verify false args) d h o q y f z r k = f (and_left (is_guessed g) (stands_before v s) q) ∙ sym (eqb-true (length args) size y)
-  op_fine size s v c ph g (DelayedRead x m a) d h o q y f z r k = tt
-  op_fine size s v c ph g _ d h o q y f z r k = tt
+  op_fine size s v c ph g (Verify false args) d is h o q y f z r k =
+      let e = stage_after v s (and_right (is_guessed g) (stands_before v s) q) in
+      record {
+        long = f (and_left (is_guessed g) (stands_before v s) q) ∙ sym (eqb-true (length args) size y);
+        early = (e.0, is ∙ e.1, e.2);
+      }
+  op_fine size s v c ph g (DelayedRead x m a) d is h o q y f z r k = tt
+  op_fine size s v c ph g _ d is h o q y f z r k = tt
 
   -- where a path's statements of one stage pass the scans, each of them is early and fine
-  pub fine_all : (size s : ℕ) (v : Option ℕ) (c : Scan) (path : List ℕ) (ph : ℕ → Phase) (g : Making) (xs : List Stmt) (d : Deeds) → AllIn s xs
-      → IsAlong path (word_for st n) xs d → reads_ok p c (looked_all (onpath path xs)) ≡ true → ((m : ℕ) → uses_ok m (ph m) (onpath path xs) ≡ true)
+  pub fine_all : (size s : ℕ) (v : Option ℕ) (c : Scan) (path : List ℕ) (ph : ℕ → Phase) (g : Making) (xs : List Stmt) (d : Deeds)
+      → verify_stage p.stmts ≡ v → AllIn s xs → IsAlong path (word_for st n) xs d
+      → reads_ok p c (looked_all (onpath path xs)) ≡ true → ((m : ℕ) → uses_ok m (ph m) (onpath path xs) ≡ true)
       → makings_ok v g (looked_all (onpath path xs)) ≡ true → list_all (λ (x : Stmt). passes_on size x.op) (onpath path xs) ≡ true
       → list_all (is_early p) (onpath path xs) ≡ true
       → ((m : ℕ) → HeldOnce m (ph m) d.held) → Covers c.held d.held → (is_guessed g ≡ true → length d.guess ≡ size) → Calm v s g d
       → RightIf s c d → AreFine p st n xs d
-  fine_all size s v c path ph g [] d i q h k w y e o f u l r = tt
-  fine_all size s v c path ph g (x ∷ xs) d i q h k w y e o f u l r =
+  fine_all size s v c path ph g [] d is i q h k w y e o f u l r = tt
+  fine_all size s v c path ph g (x ∷ xs) d is i q h k w y e o f u l r =
       at (all_hold x.guards d.env) (all_hold x.guards path) q.0 q.1 h k w y e
-      (λ c ph g d q h k w y e o f u l r. fine_all size s v c path ph g xs d i.1 q h k w y e o f u l r)
+      (λ c ph g d q h k w y e o f u l r. fine_all size s v c path ph g xs d is i.1 q h k w y e o f u l r)
     where
       Fine : Bool → Type 0
       Fine b =
-          (b ≡ true → locks_ready p st n d ≡ true → (is_early p x ≡ true) × IsOpFine p st n x.op d)
+          (b ≡ true → locks_ready p st n d ≡ true → (is_early p x ≡ true) × IsOpFine p st n x.stage x.op d)
           × AreFine p st n xs (cond b (deeds_after (word_for st n) x.op d) d)
 
       at : (b t : Bool) → b ≡ t → IsAlong path (word_for st n) xs (cond b (deeds_after (word_for st n) x.op d) d)
@@ -173,7 +189,10 @@ module _ (p : Pipe) (st : State) (n : ℕ) where
           subst (λ j. op_ok p j c (answered_op x.op) ≡ true) i.0 (and_right (no_guards []) _ (and_left _ _ h)) in
           let made : making_ok v g s (answered_op x.op) ≡ true = subst (λ j. making_ok v g j (answered_op x.op) ≡ true) i.0 (and_left _ _ w) in
           let held = held_does (word_for st n) x.op d in (
-            (λ a b. (and_left (is_early p x) _ e, op_fine size s v c ph g x.op d ok o made (and_left _ _ y) u l r b)),
+            (λ a b. (
+              and_left (is_early p x) _ e,
+              subst (λ j. IsOpFine p st n j x.op d) (sym i.0) (op_fine size s v c ph g x.op d is ok o made (and_left _ _ y) u l r b),
+            )),
             go (scan_after (answered_op x.op) c) (λ m. next_phase m (ph m) x.op) (next_making g (answered_op x.op)) (deeds_after (word_for st n) x.op d) q
                 (and_right (no_guards [] && op_ok p x.stage c (answered_op x.op)) _ h) (λ m. and_right (use_ok m (ph m) x.op) _ (k m))
                 (and_right (making_ok v g x.stage (answered_op x.op)) _ w) (and_right (passes_on size x.op) _ y) (and_right (is_early p x) _ e)

@@ -12,6 +12,7 @@ use Rattle.pdl_net.proofs.Keeps.{but_keeps, extends_keeps, keeps_trans}
 use Rattle.pdl_lockapi.specs.declared.LockNets.{LockNets}
 use Rattle.pdl_order.specs.declared.OrderRegs.{OrderRegs}
 use Rattle.pdl_pipe_beside.specs.declared.ends.StageEnd.{StageEnd}
+use Rattle.pdl_pipe_beside.specs.declared.ends.Squashes.{Squashes}
 use Rattle.pdl_pipe_registers.specs.declared.nets.StageNets.{StageNets}
 use Rattle.pdl_pipe_nexts.specs.declared.line.StageLine.{StageLine}
 use Rattle.pdl_pipe_nexts.specs.Nexts.{regs_of}
@@ -56,10 +57,10 @@ apart_from low high high' ss l h other m = record {
 
 -- all steps keep the nets
 pub steps_keep : {T : Type 0} (l : Members T) (c i : Circuit) (x : StageLine) (locks : List (Option (MemLock T)))
-    (forks : List (Option OrderRegs)) (es : List StageEnd) (squash : Net) (tails : TailNets)
+    (forks : List (Option OrderRegs)) (es : List StageEnd) (squash : Net) (squashes : Squashes) (tails : TailNets)
     (commits : List (Option LockNets))
-    → AreApart 0 (length c.regs) x.stages.now → HasSteps l c i x locks forks es squash tails commits → Keeps c i
-steps_keep l c i x locks forks es squash tails commits apart s =
+    → AreApart 0 (length c.regs) x.stages.now → HasSteps l c i x locks forks es squash squashes tails commits → Keeps c i
+steps_keep l c i x locks forks es squash squashes tails commits apart s =
     let ce = but_keeps (regs_of 0 (length c.regs)) c s.e (s.to_nexts 0 apart) in
     let cf = keeps_trans c s.e s.f ce (extends_keeps s.e s.f s.to_tails) in
     let cg = keeps_trans c s.f s.g cf s.to_ports.keeps in

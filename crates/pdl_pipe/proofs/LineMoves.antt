@@ -85,11 +85,15 @@ moved_with c x y rs z h = record {
     each = λ k l m. let e = h.passed.each k l m in record { moves = e.moves; free = e.free };
   };
   squash = h.squash;
+  squashes = h.squashes;
   kills_count = h.kills_count;
   kills = h.kills;
   clear_count = h.clear_count;
   clear = h.clear;
+  removed = h.removed;
+  cleared = h.cleared;
   law = h.law;
-  never = h.never;
-  spared = h.spared;
+  cleared_is = h.cleared_is;
+  either = h.either;
+  joined = h.joined;
 }

@@ -30,8 +30,7 @@ use Rattle.pdl_pipe_nexts.specs.Lines.{line_pipe}
 use Rattle.pdl_pipe_locks.specs.Stepped.{commits_in}
 use Rattle.pdl_pipe_locks.proofs.LockGrowth.{Stays}
 use Rattle.pdl_pipe_outputs.specs.ToldOutputs.{ask_of, asks_in}
-use Rattle.pdl_pipe_tails.specs.Tails.{tails_in}
-use Rattle.pdl_pipe_emitted.specs.Emitted.{Nets, Emission, views_of, moves_of, sides_of, inputs_of, free_of, clear_of}
+use Rattle.pdl_pipe_emitted.specs.Emitted.{Nets, Emission, views_of, moves_of, sides_of, inputs_of, free_of, squashes_of}
 use Rattle.pdl_pipe_emitted.proofs.LaidGrowth.{keeps_bd, keeps_cd}
 use Rattle.pdl_pipe_emitted.proofs.LaidLocks.{fits_at, words_at}
 use Rattle.pdl_pipe_emitted.proofs.SidesStages.{some_of, at_signal}
@@ -100,7 +99,7 @@ module _ {T : Type 0} (l : Members T) (n : Nets T) (em : Emission l n) where
   abbrev first_gates : Gates
   first_gates = record { gate = λ k. zero_bit; kill = kills_in em.b n.ends; squash = signal em.b n.moves.squash; tail = λ m. zero_bit }
 
-  stages_first : AreStagesOf em.b p n.ends n.moves.squash vs first_gates moves
+  stages_first : AreStagesOf em.b p n.ends n.moves.squashes vs first_gates moves sides.squash
   stages_first = record { ends = ended_first; move = move_first; kills = λ k low. refl; squashes = refl }
 
   -- ---- each delayed memory
@@ -120,8 +119,8 @@ module _ {T : Type 0} (l : Members T) (n : Nets T) (em : Emission l n) where
     pub outside : IsOutside p em.d vs moves sides (asks_in em.d n.requests m) m
     outside =
         subst (λ (o : Option RequestNets). IsOutside p em.d vs moves sides (ask_of em.d o) m) (sym here.1)
-        (is_outside em.b em.d p n.ends n.moves.squash vs first_gates moves
-        n.line.shared.now.ports.now (inputs_of p) (λ j. free_of l n em (reading p j) j) n.orders (clear_of l n em) (tails_in em.f n.tails)
+        (is_outside em.b em.d p n.ends n.moves.squashes vs first_gates moves
+        n.line.shared.now.ports.now (inputs_of p) (λ j. free_of l n em (reading p j) j) n.orders (squashes_of l n em)
         (keeps_bd l n em) stages_first em.can.onward m here.0 now refl refl)
 
     -- whether a delayed memory is asked is told by 1 bit

@@ -19,6 +19,7 @@ use Rattle.pdl_pipe_walk.specs.declared.locks.MemLock.{MemLock}
 use Rattle.pdl_pipe_walk.specs.Locked.{Members, some_at, AreLocked}
 use Rattle.pdl_pipe_answers.specs.Ports.{HasAnswers}
 use Rattle.pdl_pipe_beside.specs.declared.ends.StageEnd.{StageEnd}
+use Rattle.pdl_pipe_beside.specs.declared.ends.Squashes.{Squashes}
 use Rattle.pdl_pipe_beside.specs.Ports.{StandPorts}
 use Rattle.pdl_pipe_beside.specs.Parts.{own_at, ExtendsParts}
 use Rattle.pdl_pipe_beside.specs.Beside.{AreTaken}
@@ -97,7 +98,7 @@ pub record HasLockSteps {T : Type 0} (l : Members T) (h i : Circuit) (x : StageL
 
 -- all registers do, from circuit c to circuit i; those of the stages are from `high` on
 pub record HasSteps {T : Type 0} (l : Members T) (c i : Circuit) (x : StageLine) (locks : List (Option (MemLock T)))
-    (forks : List (Option OrderRegs)) (es : List StageEnd) (squash : Net) (tails : TailNets)
+    (forks : List (Option OrderRegs)) (es : List StageEnd) (squash : Net) (squashes : Squashes) (tails : TailNets)
     (commits : List (Option LockNets)) : Type 0 where
   pub e : Circuit
   pub f : Circuit
@@ -105,12 +106,12 @@ pub record HasSteps {T : Type 0} (l : Members T) (c i : Circuit) (x : StageLine)
   pub h : Circuit
   pub takes : (k : ℕ) (s : StageNets) → k < length x.stages.now → IsAt x.stages.now k s → TakesNext c e x k s
   pub to_nexts : (high : ℕ) → AreApart high (length c.regs) x.stages.now → ExtendsBut (regs_of high (length c.regs)) c e
-  pub cut : HasCut e f x tails (verify_stage (line_pipe x).stmts)
+  pub cut : HasCut e f x squashes.verify tails (verify_stage (line_pipe x).stmts)
   pub row : IsRow e f x tails.cut
   pub to_tails : Extends e f
   pub ports_stepped : (m : ℕ) → IsPortStepped f g (line_pipe x) es x.shared.now.ports.now m
   pub to_ports : ExtendsParts (own_at port_laws.own x.shared.now.ports.now) (length (line_pipe x).mems) f g
-  pub orders_stepped : (k : ℕ) → k < length (line_pipe x).stages → IsOrderStepped g h (line_pipe x) es squash forks k
+  pub orders_stepped : (k : ℕ) → k < length (line_pipe x).stages → IsOrderStepped g h (line_pipe x) es squashes forks k
   pub to_orders : ExtendsParts (own_at order_laws.own forks) (length (line_pipe x).stages) g h
   pub last : HasLockSteps l h i x locks squash tails.cut commits
 

@@ -64,6 +64,7 @@ fn emit_steps<L: LockModule>(
         twice,
         orders,
         squash: moves.squash,
+        squashes: moves.squashes,
     };
     let steps = set_registers(alloc, b, &all, ends.as_slice())?;
     let shown = stage_ports(alloc, line)?;

@@ -6,6 +6,7 @@ ghost use Rattle.pdl_pipe_walk.specs.Setting.{TellsTwice};
 ghost use Rattle.pdl_pipe_beside.specs.Ends.{AreEnds};
 ghost use Rattle.pdl_pipe_beside.specs.Ports.{StandPorts};
 ghost use Rattle.pdl_pipe_beside.specs.Orders.{StandOrders};
+ghost use Rattle.pdl_pipe_beside.specs.Squashed.{HasSquashes};
 ghost use Rattle.pdl_pipe_registers.specs.Staged.{AreApart, next_signals};
 ghost use Rattle.pdl_pipe_exprs.specs.Nets.{signals_in};
 ghost use Rattle.pdl_pipe_nexts.specs.Lines.{line_pipe, line_form, IsLineIn};
@@ -19,7 +20,7 @@ use pdl_kit::NoMemory;
 use pdl_lockapi::{LockModule, LockNets};
 use pdl_net::Net;
 use pdl_order::OrderRegs;
-use pdl_pipe_beside::{BesideRound, StageEnd, order_steps, port_steps};
+use pdl_pipe_beside::{BesideRound, Squashes, StageEnd, order_steps, port_steps};
 use pdl_pipe_locks::{Round as LockRound, step};
 use pdl_pipe_nexts::{StageLine, connect};
 use pdl_pipe_tails::{TailNets, tails};
@@ -33,7 +34,7 @@ pub struct StepNets {
     pub commits: Vec<Option<LockNets>>,
 }
 
-/// What is told of a pipe when its registers are: the stages with their moves, its locks, which memories some path reserves twice to write, the orders of its forks, and whether a squash happens.
+/// What is told of a pipe when its registers are: the stages with their moves, its locks, which memories some path reserves twice to write, the orders of its forks, whether a squash happens, and by which stage.
 #[derive(Drop)]
 pub struct Standing<'a, L> {
     pub line: &'a StageLine<'a>,
@@ -41,6 +42,7 @@ pub struct Standing<'a, L> {
     pub twice: &'a [bool],
     pub orders: &'a [Option<OrderRegs>],
     pub squash: Net,
+    pub squashes: Squashes,
 }
 
 // What the locks take next.
@@ -101,18 +103,20 @@ pub fn set_registers<L: LockModule>(
     requires next { signals_in b.old all.now.line.now.shared.now.next
         ≡ next_signals b.old all.now.locks.now }
     requires squash { IsBit b.old all.now.squash }
+    requires squashes { HasSquashes b.old all.now.squashes }
     ensures { IfOk result (λ y. HasSteps (members L.LockModule) b.old b.new all.now.line.now
-        all.now.locks.now all.now.orders.now ends.now all.now.squash y.tails y.commits.items) }
+        all.now.locks.now all.now.orders.now ends.now all.now.squash all.now.squashes
+        y.tails y.commits.items) }
 {
     connect(alloc, b, all.line)?;
-    let tails = tails(alloc, b, all.line)?;
+    let tails = tails(alloc, b, all.line, all.squashes.verify)?;
     let round = BesideRound {
         pipe: all.line.pipe,
         bits: all.line.shared.bits,
         ends,
     };
     port_steps(alloc, b, &round, all.line.shared.ports)?;
-    order_steps(b, &round, all.squash, all.orders)?;
+    order_steps(b, &round, all.squashes, all.orders)?;
     let commits = lock_steps(alloc, b, all, tails.cut.as_slice())?;
     Ok(StepNets { tails, commits })
 }

@@ -2,9 +2,8 @@
 use Rattle.std.proofs.Common.{◌≡◌, ℕ, zero, suc, ◌+◌, ◌*◌, ◌<◌, ◌∙◌, Bool, true, false, List, length, refl, sym, ap, ap₂, subst, arith}
 use Rattle.std.specs.Prelude.{Option, Some, None, is_some, if◌then◌else◌}
 use Rattle.pdl_semantics.specs.Flat.{Pipe}
-use Rattle.pdl_semantics.specs.Stages.{stage_at, mem_at, is_inside, verify_stage, reply_place}
-use Rattle.pdl_semantics.specs.Cycle.{merges_by}
-use Rattle.pdl_net.specs.declared.Net.{Net}
+use Rattle.pdl_semantics.specs.Stages.{stage_at, mem_at, is_inside, reply_place}
+use Rattle.pdl_semantics.specs.Updates.{squash_stages}
 use Rattle.pdl_net.specs.Circuit.{Circuit}
 use Rattle.pdl_net.specs.Signal.{Signal, input_signal, mux_signal}
 use Rattle.pdl_net.specs.Meaning.{signal}
@@ -19,7 +18,7 @@ use Rattle.pdl_order.specs.Words as order_words
 use Rattle.pdl_machine_inflight.specs.Readings.{Reading, reading, places, place_at, branch_stages}
 use Rattle.pdl_law_parts.specs.Walk.{Walk, one, zero_bit, both}
 use Rattle.pdl_law_parts.specs.Views.{View, Gates}
-use Rattle.pdl_law_sides.specs.Sides.{asks_memory, asked_address, goes_to_place, asked_into, into_first, into_second, into_merge, leaves_fork, order_step}
+use Rattle.pdl_law_sides.specs.Sides.{asks_memory, asked_address, goes_to_place, asked_into, into_first, into_second, into_merge, leaves_fork, emptied_by, order_step}
 use Rattle.pdl_law_sides.specs.WholeNetlist.{Request, request_of, IsOutside}
 use Rattle.pdl_law_sides.specs.HasSides.{HasOwn, HasPort, HasOrder}
 use Rattle.pdl_pipe_answers.specs.Ports.{port_answers}
@@ -27,13 +26,14 @@ use Rattle.pdl_pipe_walk.specs.Locked.{some_at}
 use Rattle.pdl_pipe_beside.specs.declared.PortInput.{PortInput}
 use Rattle.pdl_pipe_beside.specs.declared.outside.RequestNets.{RequestNets}
 use Rattle.pdl_pipe_beside.specs.declared.ends.StageEnd.{StageEnd}
+use Rattle.pdl_pipe_beside.specs.declared.ends.Squashes.{Squashes}
 use Rattle.pdl_pipe_beside.specs.Parts.{AreParts, own_of, own_at}
 use Rattle.pdl_pipe_beside.specs.Ports.{ReadsLeadOn, has_port, StandPorts}
 use Rattle.pdl_pipe_beside.specs.Orders.{HasOrderOf, StandOrders}
 use Rattle.pdl_pipe_beside.specs.Ends.{ends_in, moves_in}
 use Rattle.pdl_pipe_beside.specs.Requests.{IsRequest}
 use Rattle.pdl_pipe_beside.specs.Steps.{order_signals, IsPortStepped, IsOrderStepped}
-use Rattle.pdl_pipe_beside.specs.Beside.{Inputs, AreTaken, port_stands, order_stands, order_first, order_empty, sides_in, AreFree, AreStagesOf}
+use Rattle.pdl_pipe_beside.specs.Beside.{Inputs, SquashSides, AreTaken, port_stands, order_stands, order_first, order_empty, sides_in, AreFree, AreStagesOf}
 use Rattle.pdl_pipe_beside.proofs.OrderParts.{is_merged_by}
 use Rattle.pdl_pipe_beside.proofs.PortSteps as port_steps
 use Rattle.pdl_pipe_beside.proofs.OrderSteps as order_steps
@@ -71,17 +71,17 @@ port_stays_stepped a c d p es qs m kept x r q is e =
     port_steps.law_kept (port_places.stands q) (length (places p r)) (port_laws.own q) c d _ (kept q e) (x r q is e)
 
 -- the step of a fork's order stays where its registers take next what they took
-pub order_stays_stepped : (a c d : Circuit) (p : Pipe) (es : List StageEnd) (squash : Net) (rs : List (Option OrderRegs)) (f : ℕ)
-    → ((r : OrderRegs) → some_at rs f ≡ Some r → OwnKept (order_laws.own r) c d) → IsOrderStepped a c p es squash rs f
-    → IsOrderStepped a d p es squash rs f
-order_stays_stepped a c d p es squash rs f kept x r e = order_steps.law_kept r (branch_stages p f) c d (order_signals a p es squash f) (kept r e) (x r e)
+pub order_stays_stepped : (a c d : Circuit) (p : Pipe) (es : List StageEnd) (y : Squashes) (rs : List (Option OrderRegs)) (f : ℕ)
+    → ((r : OrderRegs) → some_at rs f ≡ Some r → OwnKept (order_laws.own r) c d) → IsOrderStepped a c p es y rs f
+    → IsOrderStepped a d p es y rs f
+order_stays_stepped a c d p es y rs f kept x r e = order_steps.law_kept r (branch_stages p f) c d (order_signals a p es y f) (kept r e) (x r e)
 
 -- ---- ports
 
-module _ (a c : Circuit) (p : Pipe) (es : List StageEnd) (squash : Net) (vs : ℕ → View) (gates : Gates)
+module _ (a c : Circuit) (p : Pipe) (es : List StageEnd) (y : Squashes) (vs : ℕ → View) (gates : Gates)
     (moves : ℕ → Signal) (qs : List (Option PortRegs)) (ins : ℕ → Inputs) (frees : ℕ → Signal)
-    (rs : List (Option OrderRegs)) (clear : ℕ → Signal) (tails : ℕ → ℕ → Signal)
-    (keeps : Keeps a c) (stages : AreStagesOf a p es squash vs gates moves) where
+    (rs : List (Option OrderRegs)) (sq : SquashSides)
+    (keeps : Keeps a c) (stages : AreStagesOf a p es y vs gates moves sq.squash) where
   module _ (leads : ReadsLeadOn p) (stand : StandPorts a p qs) (taken : AreTaken c qs ins)
       (free : AreFree c p moves qs frees) (stepped : (m : ℕ) → IsPortStepped a c p es qs m) where
     asked_same : (m : ℕ) (r : Reading) (i : ℕ) → r.stage < length p.stages → asked_into p (ends_in a es) (moves_in a es) m r i ≡ asked_into p vs moves m r i
@@ -104,7 +104,7 @@ module _ (a c : Circuit) (p : Pipe) (es : List StageEnd) (squash : Net) (vs : �
         (stepped m r q is e)
 
     port_here : (m : ℕ) (r : Reading) (q : PortRegs) → reading p m ≡ Some r → some_at qs m ≡ Some q
-        → HasPort p c vs gates moves (sides_in c qs ins frees rs clear tails) (own_at port_laws.own qs m) m r
+        → HasPort p c vs gates moves (sides_in c qs ins frees rs sq) (own_at port_laws.own qs m) m r
     port_here m r q is e =
         let it = (port_steps.ports_stand a c p qs keeps stand).each m r q is e in
         let n = length (places p r) in
@@ -126,7 +126,7 @@ module _ (a c : Circuit) (p : Pipe) (es : List StageEnd) (squash : Net) (vs : �
 
     -- each memory that is read delayed has its port
     pub has_ports : (m : ℕ) (r : Reading) → reading p m ≡ Some r
-        → HasPort p c vs gates moves (sides_in c qs ins frees rs clear tails) (own_at port_laws.own qs m) m r
+        → HasPort p c vs gates moves (sides_in c qs ins frees rs sq) (own_at port_laws.own qs m) m r
     has_ports m r is = let x = some_of (some_at qs m) (stand.some m r is) in port_here m r x.0 is x.1
 
   -- ---- what is asked outside
@@ -145,7 +145,7 @@ module _ (a c : Circuit) (p : Pipe) (es : List StageEnd) (squash : Net) (vs : �
     pub is_outside : (m : ℕ) (x : RequestNets) → IsRequest a c p es m x
         → (ins m).reply ≡ input_signal 1 (2 * reply_place p m)
         → (ins m).word ≡ input_signal (mem_at p m).width (2 * reply_place p m + 1)
-        → IsOutside p c vs moves (sides_in c qs ins frees rs clear tails) (record { enable = signal c x.enable; addr = signal c x.addr }) m
+        → IsOutside p c vs moves (sides_in c qs ins frees rs sq) (record { enable = signal c x.enable; addr = signal c x.addr }) m
     is_outside m x h reply word = record {
       enable = λ s suits. ap (λ (f : Signal). f.value s) (h.enable ∙ ap (λ (q : Request). q.enable) (request_as m));
       addr = λ s suits. h.addr s ∙ ap (λ (q : Request). q.addr.value s) (request_as m);
@@ -155,7 +155,7 @@ module _ (a c : Circuit) (p : Pipe) (es : List StageEnd) (squash : Net) (vs : �
 
   -- ---- orders
 
-  module _ (stand : StandOrders a p rs) (stepped : (f : ℕ) → f < length p.stages → IsOrderStepped a c p es squash rs f) where
+  module _ (stand : StandOrders a p rs) (stepped : (f : ℕ) → f < length p.stages → IsOrderStepped a c p es y rs f) where
     leave_step : (f k : ℕ) (b : Bool) (rest other : Signal) → k < length p.stages → rest ≡ other
         → (if b then mux_signal (both (moves_in a es k) (into_merge p f (stage_at p k).next (ends_in a es k).ended)) one rest else rest)
         ≡ (if b then mux_signal (both (moves k) (into_merge p f (stage_at p k).next (vs k).ended)) one other else other)
@@ -171,24 +171,24 @@ module _ (a c : Circuit) (p : Pipe) (es : List StageEnd) (squash : Net) (vs : �
         (leaves_fork p vs moves f n (suc k)) (omega (arith, e)) (leaves_as f n (suc k) (omega (arith, e)))
 
     order_law : (f : ℕ) (r : OrderRegs) → f < length p.stages → some_at rs f ≡ Some r
-        → order_laws.StepLaw (order_words.stands r) (branch_stages p f) (order_laws.own r) c (order_step p vs gates moves f)
+        → order_laws.StepLaw (order_words.stands r) (branch_stages p f) (order_laws.own r) c (order_step p vs sq.squash moves f)
     order_law f r low e =
-        order_steps.law_as r (branch_stages p f) c (order_signals a p es squash f) (order_step p vs gates moves f)
+        order_steps.law_as r (branch_stages p f) c (order_signals a p es y f) (order_step p vs sq.squash moves f)
         (ap₂ (λ (g : Signal) (w : Walk). both g (into_first p f (stage_at p f).next w)) (sym (stages.move f low)) (sym (stages.ends f low)))
         (ap₂ (λ (g : Signal) (w : Walk). both g (into_second p f (stage_at p f).next w)) (sym (stages.move f low)) (sym (stages.ends f low)))
         (leaves_as f (length p.stages) 0 (omega arith))
-        (ap (λ (g : Signal). if merges_by p f (verify_stage p.stmts) then g else zero_bit) (sym stages.squashes))
+        (ap (emptied_by p f (squash_stages p.stmts)) (sym stages.squashes))
         (stepped f low r e)
 
     order_here : (f : ℕ) (r : OrderRegs) → f < length p.stages → some_at rs f ≡ Some r
-        → HasOrder p c vs gates moves (sides_in c qs ins frees rs clear tails) (own_at order_laws.own rs f) f
+        → HasOrder p c vs gates moves (sides_in c qs ins frees rs sq) (own_at order_laws.own rs f) f
     order_here f r low e =
         let it = (order_steps.orders_stand a c p rs keeps stand).each f r low e in
         let O : Option OrderRegs → Type 0 = λ o. HasOwn c (own_of order_laws.own o) in
         let S : Option OrderRegs → Type 0 = λ o. order_laws.StartLaw (order_stands o) c (own_of order_laws.own o) in
         let F : Option OrderRegs → Type 0 = λ o. order_laws.FirstLaw (order_stands o) (order_first c o) (order_empty c o) in
         let N : Option OrderRegs → Type 0 =
-        λ o. order_laws.StepLaw (order_stands o) (branch_stages p f) (own_of order_laws.own o) c (order_step p vs gates moves f) in
+        λ o. order_laws.StepLaw (order_stands o) (branch_stages p f) (own_of order_laws.own o) c (order_step p vs sq.squash moves f) in
         record {
           owned = subst O (sym e) it.owned;
           starts = subst S (sym e) it.starts;
@@ -198,5 +198,5 @@ module _ (a c : Circuit) (p : Pipe) (es : List StageEnd) (squash : Net) (vs : �
 
     -- each fork that is merged has its order
     pub has_orders : (f q : ℕ) → f < length p.stages → (stage_at p q).merges ≡ Some f
-        → HasOrder p c vs gates moves (sides_in c qs ins frees rs clear tails) (own_at order_laws.own rs f) f
+        → HasOrder p c vs gates moves (sides_in c qs ins frees rs sq) (own_at order_laws.own rs f) f
     has_orders f q low merges = let x = some_of (some_at rs f) (stand.some f low ∙ is_merged_by p f q merges) in order_here f x.0 low x.1

@@ -7,3 +7,4 @@ pub mod OrderSteps
 pub mod StageRequests
 pub mod Beside
 pub mod ReadStages
+pub mod SquashFolds

@@ -17,6 +17,8 @@ use Rattle.pdl_law_sides.specs.Sides.{Sides}
 use Rattle.pdl_pipe_answers.specs.Ports.{port_answers}
 use Rattle.pdl_pipe_walk.specs.Locked.{some_at}
 use Rattle.pdl_pipe_beside.specs.declared.ends.StageEnd.{StageEnd}
+use Rattle.pdl_pipe_beside.specs.declared.ends.Squashes.{Squashes}
+use Rattle.pdl_pipe_beside.specs.Squashed.{squashes_in}
 use Rattle.pdl_pipe_beside.specs.Ends.{ends_in, moves_in, kills_in}
 
 -- what comes from a delayed memory
@@ -49,15 +51,23 @@ abbrev pub order_empty : Circuit → Option OrderRegs → Signal
 order_empty c None = no_signal
 order_empty c (Some r) = signal c r.empty
 
+-- of each stage that squashes whether it does, whom it removes, and which stages are clear up to it, and of each stage and memory where the thread's squash would cut the lock
+pub record SquashSides : Type 0 where
+  pub squash : ℕ → Signal
+  pub removed : ℕ → ℕ → Signal
+  pub clear : ℕ → ℕ → Signal
+  pub tails : ℕ → ℕ → Signal
+
 -- what stands beside the stages, where this comes from the delayed memories, these ports are free as this says, and squashes go by the rest
-abbrev pub sides_in : Circuit → List (Option PortRegs) → (ℕ → Inputs) → (ℕ → Signal) → List (Option OrderRegs)
-    → (ℕ → Signal) → (ℕ → ℕ → Signal) → Sides
-sides_in c qs ins frees rs clear tails = record {
+abbrev pub sides_in : Circuit → List (Option PortRegs) → (ℕ → Inputs) → (ℕ → Signal) → List (Option OrderRegs) → SquashSides → Sides
+sides_in c qs ins frees rs sq = record {
   port =
       λ m. record { stands = port_stands (some_at qs m); reply = (ins m).reply; word = (ins m).word; answers = port_answers c (some_at qs m); free = frees m };
   order = λ f. record { stands = order_stands (some_at rs f); first = order_first c (some_at rs f); empty = order_empty c (some_at rs f) };
-  clear = clear;
-  tails = tails;
+  squash = sq.squash;
+  removed = sq.removed;
+  clear = sq.clear;
+  tails = sq.tails;
 }
 
 -- each port is free as this says
@@ -66,9 +76,10 @@ AreFree c p moves qs frees =
     (m : ℕ) (r : Reading) (q : PortRegs) → reading p m ≡ Some r → some_at qs m ≡ Some q
     → FreeLaw (port_places.stands q) (length (places p r)) (signal c q.reply) (λ i. moves (place_at p r i)) (frees m)
 
--- the stages of a law are these
-pub record AreStagesOf (c : Circuit) (p : Pipe) (es : List StageEnd) (squash : Net) (vs : ℕ → View) (gates : Gates) (moves : ℕ → Signal) : Type 0 where
+-- the stages of a law are these, and squash so
+pub record AreStagesOf (c : Circuit) (p : Pipe) (es : List StageEnd) (y : Squashes) (vs : ℕ → View) (gates : Gates)
+    (moves squash : ℕ → Signal) : Type 0 where
   pub ends : (k : ℕ) → k < length p.stages → (vs k).ended ≡ (ends_in c es k).ended
   pub move : (k : ℕ) → k < length p.stages → moves k ≡ moves_in c es k
   pub kills : (k : ℕ) → k < length p.stages → gates.kill k ≡ kills_in c es k
-  pub squashes : gates.squash ≡ signal c squash
+  pub squashes : squash ≡ squashes_in c p y

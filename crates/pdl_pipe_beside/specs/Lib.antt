@@ -5,3 +5,4 @@ pub mod Ends
 pub mod Steps
 pub mod Requests
 pub mod Beside
+pub mod Squashed

@@ -4,7 +4,7 @@ use Rattle.pdl_semantics.specs.Flat.{Pipe}
 use Rattle.pdl_semantics.specs.Stages.{stage_at, is_inside}
 use Rattle.pdl_net.specs.declared.Net.{Net}
 use Rattle.pdl_net.specs.Circuit.{Circuit}
-use Rattle.pdl_net.specs.Signal.{Signal, no_signal, mux_signal}
+use Rattle.pdl_net.specs.Signal.{Signal, mux_signal}
 use Rattle.pdl_net.specs.Meaning.{signal}
 use Rattle.pdl_net.specs.HasWidth.{HasWidth}
 use Rattle.pdl_port.specs.declared.PortRegs.{PortRegs}
@@ -15,11 +15,13 @@ use Rattle.pdl_law_parts.specs.Walk.{Ask, one, both}
 use Rattle.pdl_order.specs.declared.OrderRegs.{OrderRegs}
 use Rattle.pdl_order.specs.Laws as order_laws
 use Rattle.pdl_order.specs.Words as order_words
-use Rattle.pdl_law_parts.specs.Views.{View, Gates}
+use Rattle.pdl_law_parts.specs.Views.{View}
 use Rattle.pdl_law_sides.specs.Sides.{asked_into, into_merge, order_step}
 use Rattle.pdl_pipe_walk.specs.declared.nets.AskNet.{AskNet}
 use Rattle.pdl_pipe_walk.specs.Locked.{some_at}
 use Rattle.pdl_pipe_beside.specs.declared.ends.StageEnd.{StageEnd}
+use Rattle.pdl_pipe_beside.specs.declared.ends.Squashes.{Squashes}
+use Rattle.pdl_pipe_beside.specs.Squashed.{squashes_in}
 use Rattle.pdl_pipe_beside.specs.Ends.{ends_in, moves_in, kills_in}
 
 -- whether a thread that moves makes this request of a memory, or else one of the rest
@@ -51,19 +53,16 @@ IsPortStepped a c p es qs m =
 
 -- ---- orders
 
--- what of a squash an order sees
-abbrev pub gates_in : Circuit → List StageEnd → Net → Gates
-gates_in c es squash = record { gate = λ k. one; kill = kills_in c es; squash = signal c squash; tail = λ m. no_signal }
-
 -- whether the thread of this stage in a branch of a fork goes into the merge, or else one of the rest
 abbrev pub leave_or : Pipe → (ℕ → View) → (ℕ → Signal) → ℕ → ℕ → Signal → Signal
 leave_or p vs moves f k rest = if is_inside p f k then mux_signal (both (moves k) (into_merge p f (stage_at p k).next (vs k).ended)) one rest else rest
 
 -- what the stages do to the order of a fork
-abbrev pub order_signals : Circuit → Pipe → List StageEnd → Net → ℕ → order_laws.StepSignals
-order_signals c p es squash f = order_step p (ends_in c es) (gates_in c es squash) (moves_in c es) f
+abbrev pub order_signals : Circuit → Pipe → List StageEnd → Squashes → ℕ → order_laws.StepSignals
+order_signals c p es squashes f = order_step p (ends_in c es) (squashes_in c p squashes) (moves_in c es) f
 
 -- the order of a fork, where it has one, keeps its law in a later circuit
-abbrev pub IsOrderStepped : Circuit → Circuit → Pipe → List StageEnd → Net → List (Option OrderRegs) → ℕ → Type 0
-IsOrderStepped a c p es squash rs f =
-    (r : OrderRegs) → some_at rs f ≡ Some r → order_laws.StepLaw (order_words.stands r) (branch_stages p f) (order_laws.own r) c (order_signals a p es squash f)
+abbrev pub IsOrderStepped : Circuit → Circuit → Pipe → List StageEnd → Squashes → List (Option OrderRegs) → ℕ → Type 0
+IsOrderStepped a c p es squashes rs f =
+    (r : OrderRegs) → some_at rs f ≡ Some r
+    → order_laws.StepLaw (order_words.stands r) (branch_stages p f) (order_laws.own r) c (order_signals a p es squashes f)

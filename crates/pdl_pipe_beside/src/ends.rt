@@ -14,6 +14,13 @@ pub struct StageEnd<'a> {
     pub killed: Net,
 }
 
+/// Whether the stage of the verifies squashes, and whether that of the updates does, 1 bit each; 0 where there is no such stage.
+#[derive(Clone, Copy)]
+pub struct Squashes {
+    pub verify: Net,
+    pub update: Net,
+}
+
 /// What the steps of ports and orders go round: the pipe, the constant bits, and the stages after their statements.
 #[derive(Clone, Copy)]
 pub struct BesideRound<'a, 'e> {

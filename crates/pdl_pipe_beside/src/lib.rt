@@ -12,7 +12,7 @@ pub mod outside;
 mod port_round;
 mod ports;
 
-pub use ends::{BesideRound, StageEnd};
+pub use ends::{BesideRound, Squashes, StageEnd};
 pub use free::port_free;
 pub use order_round::order_steps;
 pub use orders::order_states;

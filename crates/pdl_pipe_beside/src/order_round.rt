@@ -1,6 +1,7 @@
 // What the registers of orders take next.
 ghost use Rattle.std.specs.Prelude.{◌≡◌, ◌<◌, ◌≤◌, ℕ, IfOk, OnOk, length, slice_index, take, suc};
-ghost use Rattle.pdl_semantics.specs.Stages.{is_inside as inside, verify_stage};
+ghost use Rattle.pdl_semantics.specs.Stages.{is_inside as inside};
+ghost use Rattle.pdl_semantics.specs.Updates.{squash_stages};
 ghost use Rattle.pdl_semantics.specs.Cycle.{merges_by};
 ghost use Rattle.pdl_form.specs.FormView.{form};
 ghost use Rattle.pdl_form.specs.View.{stages_view};
@@ -14,14 +15,15 @@ ghost use Rattle.pdl_pipe_exprs.specs.Conditions.{AreBits};
 ghost use Rattle.pdl_pipe_exprs.specs.Nets.{signals_in, signal_at};
 ghost use Rattle.pdl_order.specs.Laws.{own as order_own, HasPorts, step_signals};
 ghost use Rattle.pdl_law_parts.specs.Walk.{zero_bit, both};
-ghost use Rattle.pdl_law_sides.specs.Sides.{into_first as first_signal, into_second as second_signal, into_merge as merge_signal, merging, leaves_fork as leaves_signal};
+ghost use Rattle.pdl_law_sides.specs.Sides.{into_first as first_signal, into_second as second_signal, into_merge as merge_signal, merging, leaves_fork as leaves_signal, emptied_by as emptied_signal};
 ghost use Rattle.pdl_pipe_walk.specs.Locked.{some_at};
 ghost use Rattle.pdl_pipe_beside.specs.Parts.{own_at, ExtendsParts};
 ghost use Rattle.pdl_pipe_beside.specs.Orders.{merged_in, StandOrders};
 ghost use Rattle.pdl_pipe_beside.specs.Ends.{ends_in, moves_in, AreEnds};
+ghost use Rattle.pdl_pipe_beside.specs.Squashed.{either as either_signal, squashes_in, HasSquashes};
 ghost use Rattle.pdl_pipe_beside.specs.Steps.{leave_or as leave_signal, order_signals, IsOrderStepped};
 
-use crate::ends::{BesideRound, end_at};
+use crate::ends::{BesideRound, Squashes, end_at};
 use crate::orders::{is_merged, merges, stands_in};
 use pdl_build::Builder;
 use pdl_form::{FlatPipe, FlatStage, Next};
@@ -29,6 +31,7 @@ use pdl_kit::NoMemory;
 use pdl_net::Net;
 use pdl_order::{OrderPorts, OrderRegs, emit_order_step};
 use pdl_pipe_answers::next_of;
+use pdl_pipe_exprs::Bits;
 use pdl_pipe_exprs::exprs::variable;
 
 // Whether a stage stands in a branch of a fork.
@@ -230,15 +233,60 @@ fn is_merged_by(stages: &[FlatStage], fork: usize, last: usize) -> bool
     }
 }
 
-// Whether a squash empties the order of a fork.
-fn is_emptied(pipe: &FlatPipe, fork: usize) -> bool
-    ensures { result
-        ≡ merges_by (form pipe.now).pipe fork (verify_stage (form pipe.now).pipe.stmts) }
+// Whether the squash of a stage, where there is one, empties the order of a fork.
+fn is_emptied(pipe: &FlatPipe, fork: usize, stage: Option<usize>) -> bool
+    ensures { result ≡ merges_by (form pipe.now).pipe fork stage }
 {
-    match pipe.verify_stage() {
+    match stage {
         None => false,
         Some(v) => is_merged_by(pipe.stages(), fork, v),
     }
+}
+
+// Whether the stage of the verifies squashes, or that of the updates, as far as they count.
+fn either(
+    b: &mut Builder,
+    bits: Bits,
+    squashes: Squashes,
+    verify: bool,
+    update: bool,
+) -> Result<Net, NoMemory>
+    requires bits { AreBits b.old bits }
+    requires squashes { HasSquashes b.old squashes }
+    ensures means { IfOk result (λ y. Means b.new y
+        (either_signal verify update (signal b.old squashes.verify)
+        (signal b.old squashes.update))) }
+    ensures one { IfOk result (λ y. (signal b.new y).width ≡ 1) }
+    ensures extends { Extends b.old b.new }
+{
+    match (verify, update) {
+        (true, true) => b.mux(squashes.verify, bits.one, squashes.update),
+        (true, false) => Ok(squashes.verify),
+        (false, true) => Ok(squashes.update),
+        (false, false) => Ok(bits.zero),
+    }
+}
+
+// Whether a squash empties the order of a fork.
+fn emptied(
+    b: &mut Builder,
+    round: &BesideRound<'_, '_>,
+    squashes: Squashes,
+    fork: usize,
+) -> Result<Net, NoMemory>
+    requires bits { AreBits b.old round.now.bits }
+    requires squashes { HasSquashes b.old squashes }
+    ensures means { IfOk result (λ y. Means b.new y
+        (emptied_signal (form round.now.pipe.now).pipe fork
+        (squash_stages (form round.now.pipe.now).pipe.stmts)
+        (squashes_in b.old (form round.now.pipe.now).pipe squashes))) }
+    ensures one { IfOk result (λ y. (signal b.new y).width ≡ 1) }
+    ensures extends { Extends b.old b.new }
+{
+    let verify = is_emptied(round.pipe, fork, round.pipe.verify_stage());
+    let update = is_emptied(round.pipe, fork, round.pipe.update_stage());
+    let net = either(b, round.bits, squashes, verify, update)?;
+    Ok(net)
 }
 
 // Whether the thread of a fork moves, and goes where a net says.
@@ -261,22 +309,22 @@ fn enters(
     round.bits.both(b, end.moves, goes)
 }
 
-// What the stages do to the order of a fork; `squash` says whether a squash happens.
+// What the stages do to the order of a fork.
 fn order_ports(
     b: &mut Builder,
     round: &BesideRound<'_, '_>,
-    squash: Net,
+    squashes: Squashes,
     fork: usize,
 ) -> Result<OrderPorts, NoMemory>
     requires bits { AreBits b.old round.now.bits }
     requires forks { AreForks (form round.now.pipe.now).widths
         (form round.now.pipe.now).pipe.stages }
     requires ends { AreEnds b.old (form round.now.pipe.now) round.now.ends.now }
-    requires squash { HasWidth b.old squash 1 }
+    requires squashes { HasSquashes b.old squashes }
     requires stage { fork < length (form round.now.pipe.now).pipe.stages }
     ensures ports { IfOk result (λ x. HasPorts b.new x) }
     ensures same { IfOk result (λ x. step_signals b.new x
-        ≡ order_signals b.old (form round.now.pipe.now).pipe round.now.ends.now squash fork) }
+        ≡ order_signals b.old (form round.now.pipe.now).pipe round.now.ends.now squashes fork) }
     ensures extends { Extends b.old b.new }
 {
     let first = into_first(b, round, fork)?;
@@ -284,11 +332,7 @@ fn order_ports(
     let second = into_second(b, round, fork)?;
     let entered_second = enters(b, round, fork, second)?;
     let left = leaves_fork(b, round, fork)?;
-    let emptied = if is_emptied(round.pipe, fork) {
-        squash
-    } else {
-        round.bits.zero
-    };
+    let emptied = emptied(b, round, squashes, fork)?;
     Ok(OrderPorts {
         entered_first,
         entered_second,
@@ -309,7 +353,7 @@ fn order_at(orders: &[Option<OrderRegs>], fork: usize) -> &Option<OrderRegs>
 fn fork_step(
     b: &mut Builder,
     round: &BesideRound<'_, '_>,
-    squash: Net,
+    squashes: Squashes,
     orders: &[Option<OrderRegs>],
     fork: usize,
 ) -> Result<(), NoMemory>
@@ -317,17 +361,17 @@ fn fork_step(
     requires forks { AreForks (form round.now.pipe.now).widths
         (form round.now.pipe.now).pipe.stages }
     requires ends { AreEnds b.old (form round.now.pipe.now) round.now.ends.now }
-    requires squash { HasWidth b.old squash 1 }
+    requires squashes { HasSquashes b.old squashes }
     requires stage { fork < length (form round.now.pipe.now).pipe.stages }
     requires orders { StandOrders b.old (form round.now.pipe.now).pipe orders.now }
     ensures stepped { OnOk result (IsOrderStepped b.old b.new (form round.now.pipe.now).pipe
-        round.now.ends.now squash orders.now fork) }
+        round.now.ends.now squashes orders.now fork) }
     ensures extends { ExtendsBut (own_at order_own orders.now fork) b.old b.new }
 {
     match order_at(orders, fork) {
         None => Ok(()),
         Some(order) => {
-            let ports = order_ports(b, round, squash, fork)?;
+            let ports = order_ports(b, round, squashes, fork)?;
             emit_order_step(b, order, &ports)?;
             Ok(())
         }
@@ -338,23 +382,23 @@ fn fork_step(
 pub fn order_steps(
     b: &mut Builder,
     round: &BesideRound<'_, '_>,
-    squash: Net,
+    squashes: Squashes,
     orders: &[Option<OrderRegs>],
 ) -> Result<(), NoMemory>
     requires bits { AreBits b.old round.now.bits }
     requires forks { AreForks (form round.now.pipe.now).widths
         (form round.now.pipe.now).pipe.stages }
     requires ends { AreEnds b.old (form round.now.pipe.now) round.now.ends.now }
-    requires squash { HasWidth b.old squash 1 }
+    requires squashes { HasSquashes b.old squashes }
     requires orders { StandOrders b.old (form round.now.pipe.now).pipe orders.now }
     ensures stepped { OnOk result ((f : ℕ) → f < length (form round.now.pipe.now).pipe.stages →
         IsOrderStepped b.old b.new (form round.now.pipe.now).pipe
-        round.now.ends.now squash orders.now f) }
+        round.now.ends.now squashes orders.now f) }
     ensures extends { ExtendsParts (own_at order_own orders.now)
         (length (form round.now.pipe.now).pipe.stages) b.old b.new }
 {
     for fork in 0..round.pipe.stages().len() {
-        fork_step(b, round, squash, orders, fork)?;
+        fork_step(b, round, squashes, orders, fork)?;
     }
     Ok(())
 }

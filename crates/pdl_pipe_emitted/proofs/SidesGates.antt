@@ -10,9 +10,9 @@ use Rattle.pdl_semantics.specs.Flat.{Branch, Pipe, Stage}
 use Rattle.pdl_semantics.specs.Stages as stages
 use Rattle.pdl_form.specs.Sides.{first_of}
 use Rattle.pdl_semantics.specs.Stages.{stage_at, last_stage, verify_stage}
+use Rattle.pdl_semantics.specs.Updates.{squash_stages}
 use Rattle.pdl_net.specs.Circuit.{Circuit}
 use Rattle.pdl_net.specs.Signal.{Signal}
-use Rattle.pdl_net.specs.Meaning.{signal}
 use Rattle.pdl_net.specs.Growth.{Keeps}
 use Rattle.pdl_net.specs.Well.{IsWell}
 use Rattle.pdl_pipe_exprs.specs.Nets.{signals_in, signal_at}
@@ -20,7 +20,7 @@ use Rattle.pdl_order.specs.declared.OrderRegs.{OrderRegs}
 use Rattle.pdl_port.specs.declared.PortRegs.{PortRegs}
 use Rattle.pdl_law_parts.specs.Walk.{Ask, both}
 use Rattle.pdl_law_parts.specs.Views.{View, way_on}
-use Rattle.pdl_law_sides.specs.Sides.{Sides, branch_turn, answers_of, all_answered, unsquashed, barrier_open, ports_open, merge_turn, turn}
+use Rattle.pdl_law_sides.specs.Sides.{Sides, branch_turn, answers_of, all_answered, unsquashed, clear_to, barrier_open, ports_open, merge_turn, turn}
 use Rattle.pdl_pipe_walk.specs.Locked.{Members, some_at, locks_in}
 use Rattle.pdl_pipe_answers.specs.Ports.{answers_in, HasAnswers}
 use Rattle.pdl_pipe_answers.proofs.PortAnswers.{answers_keep}
@@ -116,12 +116,18 @@ module _ {T : Type 0} (l : Members T) (n : Nets T) (em : Emission l n) where
 
     -- ---- gates
 
+    -- a barrier goes by the stages that are clear up to V
+    barrier_as : (q : ℕ) (o : Option ℕ) → verify_stage p.stmts ≡ o → (f : Signal)
+        → barrier_open o q f (signal_at (signals_in em.b n.moves.clear.items) q) ≡ barrier_open o q f (clear_to o sides.clear q)
+    barrier_as q None e f = refl
+    barrier_as q (Some v) e f = ap (λ (g : ℕ → Signal). barrier_open (Some v) q f (g q)) (sym (em.moved.cleared_is v e))
+
     -- the gate that the nets of a stage go by is that of the law
-    pub gate_is : gate_by p vs (signs_in em.b n.line n.orders n.moves.squash n.moves.clear.items) (frees k) k ≡ (gates_of l n em).gate k
+    pub gate_is : gate_by p vs (signs_in em.b n.line n.orders n.moves.squashes n.moves.clear.items) (frees k) k ≡ (gates_of l n em).gate k
     gate_is =
         let v = verify_stage p.stmts in
         let w = (vs k).ended in
-        let squash = unsquashed v k (signal em.b n.moves.squash) in
+        let squash = unsquashed (squash_stages p.stmts) k sides.squash in
         let barrier = barrier_open v k w.barrier (signal_at (signals_in em.b n.moves.clear.items) k) in
         let answered = all_answered p (answers_of sides) k (length p.mems) 0 in
         let here = answers_keep em.a em.b (keeps_ab l n em) p ports em.layout.shared.ports in
@@ -129,3 +135,5 @@ module _ {T : Type 0} (l : Members T) (n : Nets T) (em : Emission l n) where
         (sym (all_answered_same em.b em.d (keeps_bd l n em) p ports k (length p.mems) 0 here)) opens_are
         ∙ ap (λ (turns : ℕ → Signal). both answered (both squash (both (ports_open sides w.asks) (both barrier (way_on (stage_at p k).next turns w)))))
         (fun_ext (turn_is k))
+        ∙ ap (λ (f : Signal). both answered (both squash (both (ports_open sides w.asks) (both f (way_on (stage_at p k).next (turn p sides k) w)))))
+        (barrier_as k v refl w.barrier)

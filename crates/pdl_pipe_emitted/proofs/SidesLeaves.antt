@@ -108,7 +108,7 @@ module _ {T : Type 0} (l : Members T) (n : Nets T) (em : Emission l n) (well : I
   -- a thread's net is on where the law lets it move
   on_together : (k : ℕ) → k < length p.stages → IsOnAs (moves k) (allowed k)
   on_together k low =
-      let signs = signs_in em.b n.line n.orders n.moves.squash n.moves.clear.items in
+      let signs = signs_in em.b n.line n.orders n.moves.squashes n.moves.clear.items in
       let frees = signal_at (signals_in em.b (frees_at n.moves.frees.items k)) in
       let first = signal_at (signals_in em.b n.moves.moves.items) in
       let where_by : (ℕ → View) → (ℕ → Signal) → Signal = λ vs ms. moves_where p vs (λ j. gate_by p vs signs frees k) ms k in

@@ -30,8 +30,7 @@ use Rattle.pdl_pipe_beside.proofs.Beside.{port_stays_stepped, order_stays_steppe
 use Rattle.pdl_pipe_nexts.specs.Lines.{line_pipe}
 use Rattle.pdl_pipe_nexts.proofs.LineGrowth.{bits_there}
 use Rattle.pdl_pipe_moves.proofs.PassageGrowth.{free_as}
-use Rattle.pdl_pipe_tails.specs.Tails.{tails_in}
-use Rattle.pdl_pipe_emitted.specs.Emitted.{Nets, Emission, inputs_of, views_of, moves_of, gates_of, sides_of, free_of, clear_of}
+use Rattle.pdl_pipe_emitted.specs.Emitted.{Nets, Emission, inputs_of, views_of, moves_of, gates_of, sides_of, free_of, squashes_of}
 use Rattle.pdl_pipe_emitted.proofs.SidesGrowth.{keeps_ab, keeps_ad, keeps_af, keeps_ag, keeps_bc, keeps_bd, keeps_cf, keeps_cg, keeps_fd, keeps_gd, port_kept, order_kept}
 use Rattle.pdl_pipe_emitted.proofs.SidesStages.{are_stages}
 
@@ -118,7 +117,7 @@ module _ {T : Type 0} (l : Members T) (n : Nets T) (em : Emission l n) where
   ports_are m r is =
       let k = length (places p r) in
       let stand = port_steps.ports_stand em.a em.f p ports (keeps_af l n em) em.layout.stand_ports in
-      let h = has_ports em.f em.d p n.ends n.moves.squash vs gates moves ports taken_at frees n.orders (clear_of l n em) (tails_in em.f n.tails)
+      let h = has_ports em.f em.d p n.ends n.moves.squashes vs gates moves ports taken_at frees n.orders (squashes_of l n em)
       (keeps_fd l n em) (are_stages l n em em.f (keeps_cf l n em)) em.can.onward stand are_taken are_free ports_step m r is in
       let e = taken_is m r is in
       let stands = port_stands (some_at ports m) in
@@ -138,14 +137,14 @@ module _ {T : Type 0} (l : Members T) (n : Nets T) (em : Emission l n) where
 
   -- ---- orders
 
-  orders_step : (f : ℕ) → f < length p.stages → IsOrderStepped em.g em.d p n.ends n.moves.squash n.orders f
+  orders_step : (f : ℕ) → f < length p.stages → IsOrderStepped em.g em.d p n.ends n.moves.squashes n.orders f
   orders_step f low =
-      order_stays_stepped em.g em.h em.d p n.ends n.moves.squash n.orders f
+      order_stays_stepped em.g em.h em.d p n.ends n.moves.squashes n.orders f
       (λ r e. order_kept l n em f r low e (em.layout.stand_orders.each f r low e).owned) (em.orders_stepped f low)
 
   -- the orders of merged forks have their laws
   pub orders_are : (f q : ℕ) → f < length p.stages → (stage_at p q).merges ≡ Some f → HasOrder p em.d vs gates moves sides (own_at order_laws.own n.orders f) f
   orders_are f q low merges =
       let stand = order_steps.orders_stand em.a em.g p n.orders (keeps_ag l n em) em.layout.stand_orders in
-      has_orders em.g em.d p n.ends n.moves.squash vs gates moves ports (inputs_of p) frees n.orders (clear_of l n em) (tails_in em.f n.tails)
+      has_orders em.g em.d p n.ends n.moves.squashes vs gates moves ports (inputs_of p) frees n.orders (squashes_of l n em)
       (keeps_gd l n em) (are_stages l n em em.g (keeps_cg l n em)) stand orders_step f q low merges

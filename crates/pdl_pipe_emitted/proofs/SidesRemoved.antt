@@ -2,9 +2,10 @@
 use Rattle.std.proofs.Common.{◌≡◌, refl, sym, ap, ◌∙◌, subst, ℕ, ◌<◌, true, List, length}
 use mathlib.Core.Path.{fun_ext}
 use Rattle.std.proofs.lemmas.Bool.{false≢true}
-use Rattle.std.specs.Prelude.{Option, Some, None, is_some}
+use Rattle.std.specs.Prelude.{Option, Some, None, is_some, Contains}
 use Rattle.pdl_semantics.specs.Flat.{Pipe}
 use Rattle.pdl_semantics.specs.Stages.{verify_stage}
+use Rattle.pdl_semantics.specs.Updates.{squash_stages}
 use Rattle.pdl_net.specs.declared.Net.{Net}
 use Rattle.pdl_net.specs.Circuit.{Circuit}
 use Rattle.pdl_net.specs.Signal.{Signal}
@@ -22,14 +23,15 @@ use Rattle.pdl_law_sides.specs.HasSides.{squash_of, HasRemovals, HasTails}
 use Rattle.pdl_pipe_walk.specs.declared.locks.MemLock.{MemLock}
 use Rattle.pdl_pipe_walk.specs.Locked.{Members, some_at, of_lock, locks_in}
 use Rattle.pdl_pipe_answers.specs.Ports.{answers_in}
+use Rattle.pdl_pipe_beside.proofs.SquashFolds.{verify_has}
 use Rattle.pdl_pipe_registers.specs.Staged.{next_signals}
 use Rattle.pdl_pipe_nexts.specs.Lines.{line_form, line_pipe, line_views, line_kills}
 use Rattle.pdl_pipe_nexts.proofs.LineGrowth.{bits_there, line_keep, views_same, all_moves_same}
 use Rattle.pdl_pipe_emitted.proofs.LineGrowth.{made_views_same}
 use Rattle.pdl_pipe_tails.specs.Tails.{HasCut, AreTails, IsNextOf}
 use Rattle.pdl_pipe_tails.proofs.LineTails.{has_tails}
-use Rattle.pdl_pipe_emitted.specs.Emitted.{Nets, Emission, locks_of, views_of, moves_of, gates_of, sides_of, clear_of}
-use Rattle.pdl_pipe_emitted.proofs.SidesGrowth.{keeps_ab, keeps_ac, keeps_ae, keeps_bc, keeps_ce, keeps_fd, tails_alone}
+use Rattle.pdl_pipe_emitted.specs.Emitted.{Nets, Emission, locks_of, views_of, moves_of, gates_of, sides_of}
+use Rattle.pdl_pipe_emitted.proofs.SidesGrowth.{keeps_ab, keeps_ac, keeps_ae, keeps_bc, keeps_bf, keeps_ce, keeps_fd, tails_alone}
 use Rattle.pdl_pipe_emitted.proofs.SidesPorts.{moves_first}
 use Rattle.pdl_pipe_emitted.proofs.LaidStages.{next_tickets}
 
@@ -52,9 +54,6 @@ module _ {T : Type 0} (l : Members T) (n : Nets T) (em : Emission l n) where
   abbrev ls : Locks
   ls = locks_of l n em
 
-  abbrev clear : ℕ → Signal
-  clear = clear_of l n em
-
   -- ---- the line before the requests
 
   views_from : (y : Circuit) → Keeps em.a y → line_views y n.line ≡ line_views em.a n.line
@@ -73,21 +72,18 @@ module _ {T : Type 0} (l : Members T) (n : Nets T) (em : Emission l n) where
 
   -- ---- who is removed
 
-  removes : (v : ℕ) → verify_stage p.stmts ≡ Some v → SquashLaw (squash_of vs moves v) gates.squash gates.kill sides.clear
-  removes v is =
-      let squash = signal em.b n.moves.squash in
-      let first = signal_at (signals_in em.b n.moves.moves.items) in
-      let kills = signal_at (signals_in em.b n.moves.kills.items) in
-      subst (λ (vs : ℕ → View). SquashLaw (squash_of vs moves v) squash (line_kills em.c n.line) clear) views_first
-      (subst (λ (ms : ℕ → Signal). SquashLaw (squash_of (line_views em.b n.line) ms v) squash (line_kills em.c n.line) clear) (fun_ext (moves_first l n em))
-      (subst (λ (ks : ℕ → Signal). SquashLaw (squash_of (line_views em.b n.line) first v) squash ks clear) (fun_ext kills_first) (em.moved.law v is)))
+  removes : (z : ℕ) → Contains (squash_stages p.stmts) z → SquashLaw (squash_of vs moves z) (sides.squash z) (sides.removed z) (sides.clear z)
+  removes z is =
+      subst (λ (vs : ℕ → View). SquashLaw (squash_of vs moves z) (sides.squash z) (sides.removed z) (sides.clear z)) views_first
+      (subst (λ (ms : ℕ → Signal). SquashLaw (squash_of (line_views em.b n.line) ms z) (sides.squash z) (sides.removed z) (sides.clear z))
+      (fun_ext (moves_first l n em)) (em.moved.law z is))
 
-  -- the verifying stage's squash keeps its law, without such a stage there is none, and from it on no thread is removed
+  -- each stage that may squash keeps its law, and all together squash and remove where one does
   pub removals_are : HasRemovals p em.d vs gates moves sides
   removals_are = record {
     law = removes;
-    never = λ is s suits. ap (λ (f : Signal). f.value s) (em.moved.never is);
-    spared = λ k low late s suits. ap (λ (f : Signal). f.value s) (sym (kills_first k) ∙ em.moved.spared k low late);
+    squash = λ s suits. ap (λ (f : Signal). f.value s) em.moved.either;
+    kill = λ k low s suits. ap (λ (f : Signal). f.value s) (sym (kills_first k) ∙ em.moved.joined k low);
   }
 
   -- ---- where locks are cut
@@ -115,7 +111,11 @@ module _ {T : Type 0} (l : Members T) (n : Nets T) (em : Emission l n) where
   pub tails_are : (v : ℕ) → verify_stage p.stmts ≡ Some v → HasTails p ls em.d vs gates moves sides v
   tails_are v is =
       let line = line_keep em.c em.e n.line (keeps_ce l n em) em.line in
-      let made : AreTails em.e em.f n.line n.tails v = subst (λ o. HasCut em.e em.f n.line n.tails o) is em.cut in
+      let verify = n.moves.squashes.verify in
+      let made : AreTails em.e em.f n.line verify n.tails v = subst (λ o. HasCut em.e em.f n.line verify n.tails o) is em.cut in
+      let squash : sides.squash v ≡ signal em.f verify =
+      verify_has (verify_stage p.stmts) v (signal em.b verify) (signal em.b n.moves.squashes.update) is
+      ∙ sym ((keeps_bf l n em).kept verify em.moved.squashes.verify.there) in
       subst (λ (vs : ℕ → View). HasTails p ls em.d vs gates moves sides v) (views_same em.c em.e n.line (keeps_ce l n em) em.line)
       (subst (λ (ms : ℕ → Signal). HasTails p ls em.d (line_views em.e n.line) gates ms sides v) (all_moves_same em.c em.e n.line (keeps_ce l n em) em.line)
-      (has_tails em.e em.f em.d n.line n.tails v ls line made (keeps_fd l n em) (tails_alone l n em) next_of gates sides refl (λ m. refl)))
+      (has_tails em.e em.f em.d n.line verify n.tails v ls line made is (keeps_fd l n em) (tails_alone l n em) next_of gates sides refl squash (λ m. refl)))

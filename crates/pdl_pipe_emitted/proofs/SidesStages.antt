@@ -16,12 +16,13 @@ use Rattle.pdl_pipe_beside.specs.declared.ends.StageEnd.{StageEnd}
 use Rattle.pdl_pipe_beside.specs.Ends.{ends_in, moves_in, kills_in}
 use Rattle.pdl_pipe_beside.specs.Beside.{AreStagesOf}
 use Rattle.pdl_pipe_beside.proofs.EndGrowth as ends_kept
+use Rattle.pdl_pipe_beside.proofs.OrderSteps.{squashes_same}
 use Rattle.pdl_pipe_registers.specs.declared.nets.StageNets.{StageNets}
 use Rattle.pdl_pipe_registers.specs.Stages.{IsAt}
 use Rattle.pdl_pipe_registers.proofs.Lists.{view_at}
 use Rattle.pdl_pipe_nexts.specs.Lines.{line_pipe}
 use Rattle.pdl_pipe_nexts.proofs.LineGrowth.{ended_same, moves_same, kills_same}
-use Rattle.pdl_pipe_emitted.specs.Emitted.{Nets, Emission, views_of, moves_of, gates_of}
+use Rattle.pdl_pipe_emitted.specs.Emitted.{Nets, Emission, views_of, moves_of, gates_of, sides_of}
 use Rattle.pdl_pipe_emitted.proofs.SidesGrowth.{keeps_bc}
 
 -- an element stands at each number of a list
@@ -86,10 +87,11 @@ module _ {T : Type 0} (l : Members T) (n : Nets T) (em : Emission l n) where
         ∙ ends_kept.kill_at y n.ends k e.0 in_ends (sym e.1)
 
   -- in each circuit after all nets the stages are those of the law
-  pub are_stages : (y : Circuit) → Keeps em.c y → AreStagesOf y p n.ends n.moves.squash (views_of l n em) (gates_of l n em) (moves_of l n em)
+  pub are_stages : (y : Circuit) → Keeps em.c y
+      → AreStagesOf y p n.ends n.moves.squashes (views_of l n em) (gates_of l n em) (moves_of l n em) (sides_of l n em).squash
   are_stages y keeps = record {
     ends = λ k low. ended_is y keeps k low;
     move = λ k low. move_is y keeps k low;
     kills = λ k low. kill_is y keeps k low;
-    squashes = sym ((keeps_trans em.b em.c y (keeps_bc l n em) keeps).kept n.moves.squash em.moved.squash.there);
+    squashes = sym (squashes_same em.b y p n.moves.squashes (keeps_trans em.b em.c y (keeps_bc l n em) keeps) em.moved.squashes);
   }

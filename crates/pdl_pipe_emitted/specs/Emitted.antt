@@ -32,7 +32,8 @@ use Rattle.pdl_pipe_beside.specs.Orders.{ForksFit, StandOrders}
 use Rattle.pdl_pipe_beside.specs.Parts.{own_at, ExtendsParts}
 use Rattle.pdl_pipe_beside.specs.Steps.{IsPortStepped, IsOrderStepped}
 use Rattle.pdl_pipe_beside.specs.Requests.{AreRequests}
-use Rattle.pdl_pipe_beside.specs.Beside.{Inputs, sides_in}
+use Rattle.pdl_pipe_beside.specs.Squashed.{squashes_in}
+use Rattle.pdl_pipe_beside.specs.Beside.{Inputs, SquashSides, sides_in}
 use Rattle.pdl_pipe_registers.specs.declared.nets.StageNets.{StageNets}
 use Rattle.pdl_pipe_registers.specs.Begun.{IsShared}
 use Rattle.pdl_pipe_registers.specs.Stages.{IsAt}
@@ -161,12 +162,12 @@ pub record Emission {T : Type 0} (l : Members T) (n : Nets T) : Type 0 where
   pub line : IsLineIn c n.line
   pub takes : (k : ℕ) (s : StageNets) → k < length n.line.stages.now → IsAt n.line.stages.now k s → TakesNext c e n.line k s
   pub to_nexts : ExtendsBut (regs_of high (length c.regs)) c e
-  pub cut : HasCut e f n.line n.tails (verify_stage (line_pipe n.line).stmts)
+  pub cut : HasCut e f n.line n.moves.squashes.verify n.tails (verify_stage (line_pipe n.line).stmts)
   pub row : IsRow e f n.line n.tails.cut
   pub to_tails : Extends e f
   pub ports_stepped : (m : ℕ) → IsPortStepped f g (line_pipe n.line) n.ends n.line.shared.now.ports.now m
   pub to_ports : ExtendsParts (own_at port_laws.own n.line.shared.now.ports.now) (length (line_pipe n.line).mems) f g
-  pub orders_stepped : (k : ℕ) → k < length (line_pipe n.line).stages → IsOrderStepped g h (line_pipe n.line) n.ends n.moves.squash n.orders k
+  pub orders_stepped : (k : ℕ) → k < length (line_pipe n.line).stages → IsOrderStepped g h (line_pipe n.line) n.ends n.moves.squashes n.orders k
   pub to_orders : ExtendsParts (own_at order_laws.own n.orders) (length (line_pipe n.line).stages) g h
   pub stepped : AreStepped l i (line_pipe n.line)
       (steps_in h (line_pipe n.line) n.deeds n.moves.squash n.tails.cut) n.locks n.commits (length (line_pipe n.line).mems)
@@ -197,15 +198,20 @@ module _ {T : Type 0} (l : Members T) (n : Nets T) (em : Emission l n) where
   free_of None m = one
   free_of (Some r) m = signal_at (signals_in em.b (frees_at n.moves.frees.items r.stage)) m
 
-  -- whether stage k is clear for a barrier, by the circuit with the moves
-  abbrev pub clear_of : ℕ → Signal
-  clear_of k = signal_at (signals_in em.b n.moves.clear.items) k
+  -- which stages squash, whom they remove and which are clear, by the circuit with the moves, and where the locks would be cut
+  abbrev pub squashes_of : SquashSides
+  squashes_of = record {
+    squash = squashes_in em.b (line_pipe n.line) n.moves.squashes;
+    removed = em.moved.removed;
+    clear = em.moved.cleared;
+    tails = tails_in em.f n.tails;
+  }
 
-  -- what stands beside the stages: the ports and the orders, which stages are clear, and where the locks are cut
+  -- what stands beside the stages: the ports and the orders, and what squashes bring
   abbrev pub sides_of : Sides
   sides_of =
       sides_in em.d n.line.shared.now.ports.now (inputs_of (line_pipe n.line))
-      (λ m. free_of (reading (line_pipe n.line) m) m) n.orders clear_of (tails_in em.f n.tails)
+      (λ m. free_of (reading (line_pipe n.line) m) m) n.orders squashes_of
 
   -- gates by what stands beside the stages
   abbrev pub gates_of : Gates

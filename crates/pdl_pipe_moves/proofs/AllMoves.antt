@@ -1,46 +1,43 @@
 -- The moves of all stages, with the squash of one.
-use Rattle.std.proofs.Common.{◌≡◌, ◌≢◌, ◌<◌, ◌≤◌, ℕ, zero, suc, ◌+◌, Bool, false, refl, sym, ap, ap₂, ◌∙◌, subst, length, List, [], ◌∷◌, ◌++◌, arith}
-use Rattle.std.specs.Prelude.{◌⊎◌, Option, Some, None, nat_lt, if◌then◌else◌, slice_set}
-use Rattle.std.proofs.lemmas.Bool.{cases_lt, lt-leb}
+use Rattle.std.proofs.Common.{◌≡◌, ◌≢◌, ◌<◌, ◌≤◌, ℕ, zero, suc, ◌+◌, Bool, refl, sym, ap, ap₂, ◌∙◌, subst, length, List, [], ◌∷◌, ◌++◌, arith}
+use Rattle.std.specs.Prelude.{◌⊎◌, slice_set}
+use Rattle.std.proofs.lemmas.Bool.{cases_lt}
 use Rattle.std.proofs.Common.{inl, inr}
 use Rattle.std.proofs.lemmas.List.{length-append, length-set, get_or-set_same, get_or-set_other}
 use Rattle.pdl_word.specs.Each.{Each}
 use Rattle.pdl_kit.specs.declared.seq.Seq.{Seq}
 use Rattle.pdl_semantics.specs.Flat.{Pipe}
-use Rattle.pdl_semantics.specs.Stages.{stage_at, verify_stage}
 use Rattle.pdl_net.specs.declared.Net.{Net}
 use Rattle.pdl_net.specs.declared.Net.TheVariants.{Input}
 use Rattle.pdl_net.specs.Circuit.{Circuit, State}
-use Rattle.pdl_net.specs.Signal.{Signal, mux_signal}
+use Rattle.pdl_net.specs.Signal.{Signal}
 use Rattle.pdl_net.specs.Meaning.{signal, IsThere}
 use Rattle.pdl_net.specs.Growth.{Keeps}
 use Rattle.pdl_net.proofs.Keeps.{keeps_trans}
-use Rattle.pdl_net.proofs.KeptWidths.{width_meant, width_keeps}
+use Rattle.pdl_net.proofs.KeptWidths.{width_meant}
 use Rattle.pdl_squash.specs.Laws.{net_at, Drives, SquashLaw, AreBits as AreSquashBits, signal_at as squash_net}
-use Rattle.pdl_order.specs.declared.OrderRegs.{OrderRegs}
-use Rattle.pdl_port.specs.Laws.{AnswerSignals}
 use Rattle.pdl_pipe_exprs.specs.Conditions.{AreBits}
 use Rattle.pdl_pipe_exprs.specs.declared.bits.Bits.{Bits}
 use Rattle.pdl_pipe_exprs.specs.Nets.{signals_in, signal_at}
 use Rattle.pdl_pipe_exprs.proofs.NetLists.{signals_keep}
-use Rattle.pdl_law_parts.specs.Walk.{both, if_on, one, zero_bit, is_on}
-use Rattle.pdl_law_parts.specs.Views.{View, way_on, moves_where}
-use Rattle.pdl_law_sides.specs.Sides.{all_answered, unsquashed, barrier_open}
+use Rattle.pdl_law_parts.specs.Walk.{is_on}
+use Rattle.pdl_law_parts.specs.Views.{View, moves_where}
 use Rattle.pdl_pipe_walk.proofs.Lists.{each_by}
 use Rattle.pdl_pipe_registers.proofs.Lists.{some_stage, view_at}
 use Rattle.pdl_pipe_beside.specs.Ports.{StandPorts}
-use Rattle.pdl_pipe_answers.specs.Ports.{IsBit, IsBitFor, answers_in}
+use Rattle.pdl_pipe_beside.proofs.OrderSteps.{squashes_keep}
+use Rattle.pdl_pipe_answers.specs.Ports.{IsBit, IsBitFor}
 use Rattle.pdl_pipe_nexts.specs.declared.line.StageLine.{StageLine}
 use Rattle.pdl_pipe_nexts.specs.Lines.{line_pipe, line_views, line_moves, IsLineIn}
 use Rattle.pdl_pipe_nexts.proofs.LineGrowth.{line_keep, views_same, all_moves_same, bits_there}
 use Rattle.pdl_pipe_moves.specs.declared.controls.Controls.{Controls}
 use Rattle.pdl_pipe_moves.specs.declared.passing.Passage.{Passage}
 use Rattle.pdl_pipe_moves.specs.Inside.{LeadsInside}
-use Rattle.pdl_pipe_moves.specs.Signs.{gate_by, signs_in, signs_by, IsControlled}
-use Rattle.pdl_pipe_moves.specs.Gates.{opens_by, turn_in}
-use Rattle.pdl_pipe_moves.specs.Passed.{HaveFree, IsMovedBy, IsPassed, ArePassed, ArePadded, HasValids, frees_at}
+use Rattle.pdl_pipe_moves.specs.Signs.{gate_by, signs_by, IsControlled}
+use Rattle.pdl_pipe_moves.specs.Passed.{HaveFree, IsMovedBy, IsPassed, ArePassed, frees_at}
+use Rattle.pdl_pipe_moves.specs.StageSquashes.{ArePadded, HasValids}
 use Rattle.pdl_pipe_moves.proofs.TurnGrowth.{turns_keep}
-use Rattle.pdl_pipe_moves.proofs.GateParts.{bit_keep, bits_keep}
+use Rattle.pdl_pipe_moves.proofs.GateParts.{bits_keep}
 use Rattle.pdl_pipe_moves.proofs.FreePorts.{net_signal}
 use Rattle.pdl_pipe_moves.proofs.GateGrowth.{gate_same}
 use Rattle.pdl_pipe_moves.proofs.PassageGrowth.{each_set, gate_as, passed_keep, passed_set, passed_new}
@@ -72,11 +69,11 @@ padded_more nets fill n xs y h front rest = record {
 
 -- ---- controls
 
--- the nets of turns, of a squash and of clear stages stay in a circuit that keeps what stands in theirs
+-- the nets of turns, of squashes and of clear stages stay in a circuit that keeps what stands in theirs
 pub controls_keep : (a b : Circuit) (p : Pipe) (y : Controls) → Keeps a b → IsControlled a p y → IsControlled b p y
 controls_keep a b p y e h = record {
   turns = turns_keep a b e p y.orders.now h.turns;
-  squash = bit_keep a b y.squash e h.squash;
+  squashes = squashes_keep a b y.squashes e h.squashes;
   clear_count = h.clear_count;
   clear = bits_keep a b y.clear.now e h.clear;
 }
@@ -269,104 +266,6 @@ valid_bits c x xs line h = record {
 pub valid_is : (c : Circuit) (x : StageLine) (xs : List Net) → IsLineIn c x → HasValids x xs → (k : ℕ)
     → k < length xs → squash_net c xs k ≡ (line_views c x k).valid
 valid_is c x xs line h k l = (valid_net c x xs line h k l).1
-
--- ---- from the stage that verifies on a gate asks for no squash
-
-late_free : (v k : ℕ) → v ≤ k → nat_lt k v ≡ false
-late_free v k l = lt-leb (suc k) v (omega (arith, l))
-
-unsquashed_late : (o : Option ℕ) (v k : ℕ) → o ≡ Some v → v ≤ k → (f g : Signal) → unsquashed o k f ≡ unsquashed o k g
-unsquashed_late o v k e l f g =
-    ap (λ p. unsquashed p k f) e ∙ ap (λ b. if b then mux_signal f zero_bit one else one) (late_free v k l)
-    ∙ ap (λ b. if b then mux_signal g zero_bit one else one) (sym (late_free v k l))
-    ∙ ap (λ p. unsquashed p k g) (sym e)
-
-barrier_late : (o : Option ℕ) (v k : ℕ) → o ≡ Some v → v ≤ k → (h f g : Signal) → barrier_open o k h f ≡ barrier_open o k h g
-barrier_late o v k e l h f g =
-    ap (λ p. barrier_open p k h f) e ∙ ap (λ b. if b then if_on h f else one) (late_free v k l)
-    ∙ ap (λ b. if b then if_on h g else one) (sym (late_free v k l)) ∙ ap (λ p. barrier_open p k h g) (sym e)
-
-gate_late : (p : Pipe) (vs : ℕ → View) (answers : ℕ → ℕ → AnswerSignals) (turns : ℕ → ℕ → Signal) (f g : Signal)
-    (c d : ℕ → Signal) (frees : ℕ → Signal) (v k : ℕ)
-    → verify_stage p.stmts ≡ Some v → v ≤ k
-    → gate_by p vs (record { answers = answers; turns = turns; squash = f; clear = c }) frees k
-    ≡ gate_by p vs (record { answers = answers; turns = turns; squash = g; clear = d }) frees k
-gate_late p vs answers turns f g c d frees v k e l =
-    ap₂
-    (λ h i. both (all_answered p answers k (length p.mems) 0)
-    (both h (both (opens_by frees (vs k).ended.asks) (both i (way_on (stage_at p k).next (turns k) (vs k).ended)))))
-    (unsquashed_late (verify_stage p.stmts) v k e l f g) (barrier_late (verify_stage p.stmts) v k e l (vs k).ended.barrier (c k) (d k))
-
--- from the stage that verifies on, threads move alike by any squash and any clear stages
-pub passed_late : (b : Circuit) (x : StageLine) (orders : List (Option OrderRegs)) (f g : Net) (c d : List Net)
-    (nets : List Net) (opens : List (Seq Net)) (v : ℕ)
-    → verify_stage (line_pipe x).stmts ≡ Some v → ArePassed b x (signs_in b x orders f c) nets opens v
-    → ArePassed b x (signs_in b x orders g d) nets opens v
-passed_late b x orders f g c d nets opens v e it = record {
-  moves_count = it.moves_count;
-  moves = it.moves;
-  frees_count = it.frees_count;
-  frees = it.frees;
-  each = λ k l m.
-      let h = it.each k l m in
-      record {
-        moves = λ s.
-            h.moves s
-            ∙ ap (λ (i : Signal). is_on (moves_where (line_pipe x) (line_views b x) (λ j. i) (signal_at (signals_in b nets)) k) s)
-            (gate_late (line_pipe x) (line_views b x) (answers_in b x.shared.now.ports.now)
-            (turn_in b (line_pipe x) orders) (signal b f) (signal b g) (λ j. signal_at (signals_in b c) j)
-            (λ j. signal_at (signals_in b d) j) (signal_at (signals_in b (frees_at opens k))) v k e l);
-        free = h.free;
-      };
-}
-
--- and where no stage verifies no gate asks for one
-unsquashed_none : (o : Option ℕ) (k : ℕ) → o ≡ None → (f g : Signal) → unsquashed o k f ≡ unsquashed o k g
-unsquashed_none o k e f g = ap (λ p. unsquashed p k f) e ∙ sym (ap (λ p. unsquashed p k g) e)
-
-barrier_none : (o : Option ℕ) (k : ℕ) → o ≡ None → (h f g : Signal) → barrier_open o k h f ≡ barrier_open o k h g
-barrier_none o k e h f g = ap (λ p. barrier_open p k h f) e ∙ sym (ap (λ p. barrier_open p k h g) e)
-
-gate_none : (p : Pipe) (vs : ℕ → View) (answers : ℕ → ℕ → AnswerSignals) (turns : ℕ → ℕ → Signal) (f g : Signal)
-    (c d : ℕ → Signal) (frees : ℕ → Signal) (k : ℕ)
-    → verify_stage p.stmts ≡ None
-    → gate_by p vs (record { answers = answers; turns = turns; squash = f; clear = c }) frees k
-    ≡ gate_by p vs (record { answers = answers; turns = turns; squash = g; clear = d }) frees k
-gate_none p vs answers turns f g c d frees k e =
-    ap₂
-    (λ h i. both (all_answered p answers k (length p.mems) 0)
-    (both h (both (opens_by frees (vs k).ended.asks) (both i (way_on (stage_at p k).next (turns k) (vs k).ended)))))
-    (unsquashed_none (verify_stage p.stmts) k e f g) (barrier_none (verify_stage p.stmts) k e (vs k).ended.barrier (c k) (d k))
-
--- in a pipe without a stage that verifies, threads move alike by any clear stages
-pub passed_certain : (b : Circuit) (x : StageLine) (orders : List (Option OrderRegs)) (f : Net) (c d : List Net)
-    (nets : List Net) (opens : List (Seq Net)) (low : ℕ)
-    → verify_stage (line_pipe x).stmts ≡ None → ArePassed b x (signs_in b x orders f c) nets opens low
-    → ArePassed b x (signs_in b x orders f d) nets opens low
-passed_certain b x orders f c d nets opens low e it = record {
-  moves_count = it.moves_count;
-  moves = it.moves;
-  frees_count = it.frees_count;
-  frees = it.frees;
-  each = λ k l m.
-      let h = it.each k l m in
-      record {
-        moves = λ s.
-            h.moves s
-            ∙ ap (λ (i : Signal). is_on (moves_where (line_pipe x) (line_views b x) (λ j. i) (signal_at (signals_in b nets)) k) s)
-            (gate_none (line_pipe x) (line_views b x) (answers_in b x.shared.now.ports.now)
-            (turn_in b (line_pipe x) orders) (signal b f) (signal b f) (λ j. signal_at (signals_in b c) j)
-            (λ j. signal_at (signals_in b d) j) (signal_at (signals_in b (frees_at opens k))) k e);
-        free = h.free;
-      };
-}
-
--- the bits that a squash goes by stay in a circuit that keeps what stands in theirs
-pub squash_bits_keep : (a b : Circuit) (xs : List Net) (n : ℕ) → Keeps a b → AreSquashBits a xs n → AreSquashBits b xs n
-squash_bits_keep a b xs n e h = record {
-  count = h.count;
-  each = λ k l. width_keeps a b (net_at xs k) 1 e (h.each k l);
-}
 
 -- the k-th of some nets of 1 bit has 1 bit
 pub net_bit : (c : Circuit) (xs : List Net) (k : ℕ) → k < length xs → Each (IsBit c) xs → IsBit c (net_at xs k)

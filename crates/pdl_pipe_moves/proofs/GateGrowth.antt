@@ -2,6 +2,7 @@
 use Rattle.std.proofs.Common.{◌≡◌, ◌<◌, ℕ, ap, ◌∙◌, length}
 use Rattle.pdl_semantics.specs.Flat.{Pipe}
 use Rattle.pdl_semantics.specs.Stages.{verify_stage}
+use Rattle.pdl_semantics.specs.Updates.{squash_stages}
 use Rattle.pdl_net.specs.Circuit.{Circuit}
 use Rattle.pdl_net.specs.Signal.{Signal}
 use Rattle.pdl_net.specs.Growth.{Keeps}
@@ -10,6 +11,7 @@ use Rattle.pdl_pipe_exprs.proofs.NetLists.{signals_keep}
 use Rattle.pdl_law_parts.specs.Walk.{both}
 use Rattle.pdl_law_parts.specs.Views.{View}
 use Rattle.pdl_law_sides.specs.Sides.{unsquashed, barrier_open}
+use Rattle.pdl_pipe_beside.proofs.OrderSteps.{squashes_same}
 use Rattle.pdl_pipe_nexts.specs.declared.line.StageLine.{StageLine}
 use Rattle.pdl_pipe_nexts.specs.Lines.{line_pipe, line_views, IsLineIn}
 use Rattle.pdl_pipe_nexts.proofs.LineGrowth.{views_same, bits_there}
@@ -20,11 +22,11 @@ use Rattle.pdl_pipe_moves.specs.Signs.{gate_by, signs_by, IsControlled}
 use Rattle.pdl_pipe_moves.proofs.GateParts.{answered_same, turns_way}
 
 -- a gate by its parts
-gate_parts : (p : Pipe) (v : View) (k : ℕ) (frees : ℕ → Signal) (f g h i j l m n : Signal) → f ≡ g → h ≡ i → j ≡ l → m ≡ n
+gate_parts : (p : Pipe) (v : View) (k : ℕ) (frees : ℕ → Signal) (f g : Signal) (h i : ℕ → Signal) (j l m n : Signal) → f ≡ g → h ≡ i → j ≡ l → m ≡ n
     → both f
-    (both (unsquashed (verify_stage p.stmts) k h) (both (opens_by frees v.ended.asks) (both (barrier_open (verify_stage p.stmts) k v.ended.barrier j) m)))
+    (both (unsquashed (squash_stages p.stmts) k h) (both (opens_by frees v.ended.asks) (both (barrier_open (verify_stage p.stmts) k v.ended.barrier j) m)))
     ≡ both g
-    (both (unsquashed (verify_stage p.stmts) k i) (both (opens_by frees v.ended.asks) (both (barrier_open (verify_stage p.stmts) k v.ended.barrier l) n)))
+    (both (unsquashed (squash_stages p.stmts) k i) (both (opens_by frees v.ended.asks) (both (barrier_open (verify_stage p.stmts) k v.ended.barrier l) n)))
 gate_parts p v k frees f g h i j l m n a b c d = cc (a, b, c, d)
 
 module _ (a b : Circuit) (e : Keeps a b) (x : StageLine) (y : Controls) (line : IsLineIn a x)
@@ -40,5 +42,5 @@ module _ (a b : Circuit) (e : Keeps a b) (x : StageLine) (y : Controls) (line : 
       ∙ gate_parts (line_pipe x)
       (line_views a x k) k frees _ _ _ _ _ _ _ _
       (answered_same a b e (line_pipe x) x.shared.now.ports.now k (length (line_pipe x).mems) 0 line.shared.ports)
-      (e.kept y.squash h.squash.there) (clear_same k)
+      (squashes_same a b (line_pipe x) y.squashes e h.squashes) (clear_same k)
       (turns_way a b e (line_pipe x) y.orders.now k (line_views a x k).ended inside low h.turns)

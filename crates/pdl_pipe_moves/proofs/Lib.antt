@@ -5,3 +5,6 @@ pub mod GateGrowth
 pub mod PassageGrowth
 pub mod FreePorts
 pub mod AllMoves
+pub mod SquashedGates
+pub mod StageSquashes
+pub mod MovedStages

@@ -1,5 +1,5 @@
 -- What stands beside the stages and lets a thread move, by what it is.
-use Rattle.std.specs.Prelude.{◌≡◌, ℕ, Bool, ◌<◌, List, [], ◌∷◌, length, Option, Some, None, if◌then◌else◌}
+use Rattle.std.specs.Prelude.{◌≡◌, ℕ, Bool, ◌<◌, List, [], ◌∷◌, length, Option, Some, None, if◌then◌else◌, nat_lt}
 use Rattle.pdl_semantics.specs.Flat.{Branch, Pipe}
 use Rattle.pdl_semantics.specs.Stages.{stage_at, sides_of}
 use Rattle.pdl_form.specs.Sides.{first_of}
@@ -13,6 +13,11 @@ use Rattle.pdl_net.specs.declared.Net.{Net}
 use Rattle.pdl_law_parts.specs.Walk.{Ask, one, zero_bit, both, if_on}
 use Rattle.pdl_pipe_walk.specs.declared.nets.AskNet.{AskNet}
 use Rattle.pdl_pipe_answers.specs.Ports.{IsBit}
+
+-- before this stage only where it doesn't squash, else by the rest
+abbrev pub kept_by : Option ℕ → ℕ → Signal → Signal → Signal
+kept_by None k squash rest = rest
+kept_by (Some z) k squash rest = if nat_lt k z then mux_signal squash zero_bit rest else rest
 
 -- the port of each delayed read on its path is free, where the ports of the memories are free as this says
 abbrev pub opens_by : (ℕ → Signal) → List Ask → Signal

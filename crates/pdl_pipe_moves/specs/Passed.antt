@@ -1,32 +1,33 @@
 -- Stages of which it is known whether their threads move.
-use Rattle.std.specs.Prelude.{◌≡◌, ℕ, ◌<◌, ◌≤◌, List, [], length, Option, Some, None, slice_index_or}
+use Rattle.std.specs.Prelude.{◌≡◌, ℕ, ◌<◌, ◌≤◌, List, [], length, Option, Some, slice_index_or, Contains}
 use Rattle.pdl_word.specs.Each.{Each}
 use Rattle.pdl_kit.specs.declared.seq.Seq.{Seq}
 use Rattle.pdl_semantics.specs.Stages.{verify_stage}
+use Rattle.pdl_semantics.specs.Updates.{squash_stages}
 use Rattle.pdl_net.specs.declared.Net.{Net}
-use Rattle.pdl_net.specs.declared.Net.TheVariants.{Reg as RegNet}
 use Rattle.pdl_net.specs.Circuit.{Circuit}
 use Rattle.pdl_net.specs.Signal.{Signal}
 use Rattle.pdl_net.specs.Meaning.{signal}
 use Rattle.pdl_port.specs.declared.PortRegs.{PortRegs}
 use Rattle.pdl_port.specs.Laws.{FreeLaw}
 use Rattle.pdl_port.specs.Places.{stands}
-use Rattle.pdl_squash.specs.Laws.{SquashLaw, SquashSignals, net_at}
+use Rattle.pdl_squash.specs.Laws.{SquashLaw}
 use Rattle.pdl_order.specs.declared.OrderRegs.{OrderRegs}
 use Rattle.pdl_machine_inflight.specs.Readings.{Reading, reading, places, place_at}
-use Rattle.pdl_law_parts.specs.Walk.{zero_bit}
 use Rattle.pdl_law_parts.specs.Views.{moves_where}
+use Rattle.pdl_law_sides.specs.Sides.{any_of, any_removes}
 use Rattle.pdl_law_sides.specs.HasSides.{squash_of}
 use Rattle.pdl_pipe_exprs.specs.Nets.{signals_in, signal_at}
 use Rattle.pdl_pipe_walk.specs.Locked.{some_at}
 use Rattle.pdl_pipe_answers.specs.Ports.{IsBit, IsOnAs}
-use Rattle.pdl_pipe_registers.specs.declared.nets.StageNets.{StageNets}
-use Rattle.pdl_pipe_registers.specs.Stages.{IsAt}
+use Rattle.pdl_pipe_beside.specs.Squashed.{squashes_in, HasSquashes}
 use Rattle.pdl_pipe_nexts.specs.declared.line.StageLine.{StageLine}
 use Rattle.pdl_pipe_nexts.specs.Lines.{line_pipe, line_views, line_moves}
 use Rattle.pdl_pipe_moves.specs.declared.passing.Passage.{Passage}
 use Rattle.pdl_pipe_moves.specs.declared.passing.Passages.{Passages}
 use Rattle.pdl_pipe_moves.specs.declared.whole.MoveNets.{MoveNets}
+use Rattle.pdl_pipe_moves.specs.declared.whole.Verified.{Verified}
+use Rattle.pdl_pipe_moves.specs.StageSquashes.{AreFilled, IsSquash}
 use Rattle.pdl_pipe_moves.specs.Signs.{Signs, gate_by, signs_in}
 
 -- ---- ports
@@ -77,23 +78,7 @@ pub record ArePassed (c : Circuit) (x : StageLine) (g : Signs) (nets : List Net)
   pub frees : Each (λ (fs : Seq Net). Each (IsBit c) fs) opens
   pub each : (k : ℕ) → low ≤ k → k < length (line_pipe x).stages → IsPassed c x g nets (frees_at opens k) k
 
--- ---- lists of nets
-
--- a list of nets that has one net so many times
-pub record AreFilled (net : Net) (count : ℕ) (xs : List Net) : Type 0 where
-  pub count_is : length xs ≡ count
-  pub each : Each (λ (x : Net). x ≡ net) xs
-
--- these nets, and one that fills up after them
-pub record ArePadded (nets : List Net) (fill : Net) (count : ℕ) (xs : List Net) : Type 0 where
-  pub count_is : length xs ≡ count
-  pub front : (k : ℕ) → k < length nets → k < count → net_at xs k ≡ net_at nets k
-  pub rest : (k : ℕ) → length nets ≤ k → k < count → net_at xs k ≡ fill
-
--- whether each stage of a line holds a thread
-pub record HasValids (x : StageLine) (xs : List Net) : Type 0 where
-  pub count : length xs ≡ length x.stages.now
-  pub each : (k : ℕ) (s : StageNets) → k < length xs → IsAt x.stages.now k s → net_at xs k ≡ RegNet s.regs.valid
+-- ---- all stages
 
 -- no stage is asked yet
 pub record IsBlank (zero : Net) (count : ℕ) (z : Passages) : Type 0 where
@@ -101,23 +86,27 @@ pub record IsBlank (zero : Net) (count : ℕ) (z : Passages) : Type 0 where
   pub frees_count : length z.frees.items ≡ count
   pub frees : Each (λ (fs : Seq Net). fs ≡ []) z.frees.items
 
--- what stage v squashes by, where its thread moves so
-abbrev pub squash_signals_by : Circuit → StageLine → ℕ → Signal → SquashSignals
-squash_signals_by c x v moves = squash_of (line_views c x) (λ k. moves) v
+-- the stages from `low` on have their moves, with the squash of stage V and none by another stage
+pub record AreVerified (c : Circuit) (x : StageLine) (orders : List (Option OrderRegs)) (v low : ℕ) (z : Verified) : Type 0 where
+  pub passed : ArePassed c x
+      (signs_in c x orders (record { verify = z.squash.happens; update = x.shared.now.bits.zero }) z.squash.clear.items)
+      z.found.moves.items z.found.frees.items low
+  pub squash : IsSquash c x v (signal_at (signals_in c z.found.moves.items) v) z.squash
 
--- ---- all stages
-
--- each stage has its move and each memory its free ports, by a squash that keeps its law: none without a stage that verifies, and none of the stages from that one on
+-- each stage has its move and each memory its free ports, by the squashes of the stages that may squash, each of which keeps its law, with these threads removed and these stages clear; of all of them a squash happens or removes where one does
 pub record AreMoved (c : Circuit) (x : StageLine) (orders : List (Option OrderRegs)) (z : MoveNets) : Type 0 where
-  pub passed : ArePassed c x (signs_in c x orders z.squash z.clear.items) z.moves.items z.frees.items 0
+  pub passed : ArePassed c x (signs_in c x orders z.squashes z.clear.items) z.moves.items z.frees.items 0
   pub squash : IsBit c z.squash
+  pub squashes : HasSquashes c z.squashes
   pub kills_count : length z.kills.items ≡ length (line_pipe x).stages
   pub kills : Each (IsBit c) z.kills.items
   pub clear_count : length z.clear.items ≡ length (line_pipe x).stages
   pub clear : Each (IsBit c) z.clear.items
-  pub law : (v : ℕ) → verify_stage (line_pipe x).stmts ≡ Some v
-      → SquashLaw (squash_of (line_views c x) (signal_at (signals_in c z.moves.items)) v) (signal c z.squash)
-      (signal_at (signals_in c z.kills.items)) (signal_at (signals_in c z.clear.items))
-  pub never : verify_stage (line_pipe x).stmts ≡ None → signal c z.squash ≡ zero_bit
-  pub spared : (k : ℕ) → k < length (line_pipe x).stages → ((v : ℕ) → verify_stage (line_pipe x).stmts ≡ Some v → v ≤ k)
-      → signal_at (signals_in c z.kills.items) k ≡ zero_bit
+  pub removed : ℕ → ℕ → Signal
+  pub cleared : ℕ → ℕ → Signal
+  pub law : (q : ℕ) → Contains (squash_stages (line_pipe x).stmts) q
+      → SquashLaw (squash_of (line_views c x) (signal_at (signals_in c z.moves.items)) q) (squashes_in c (line_pipe x) z.squashes q) (removed q) (cleared q)
+  pub cleared_is : (v : ℕ) → verify_stage (line_pipe x).stmts ≡ Some v → cleared v ≡ signal_at (signals_in c z.clear.items)
+  pub either : signal c z.squash ≡ any_of (squash_stages (line_pipe x).stmts) (squashes_in c (line_pipe x) z.squashes)
+  pub joined : (k : ℕ) → k < length (line_pipe x).stages
+      → signal_at (signals_in c z.kills.items) k ≡ any_removes (squash_stages (line_pipe x).stmts) removed k

@@ -15,15 +15,16 @@ use pdl_kit::NoMemory;
 use pdl_net::Net;
 use pdl_order::OrderRegs;
 use pdl_pipe_answers::{all_answered, both_bits};
+use pdl_pipe_beside::Squashes;
 use pdl_pipe_exprs::exprs::variable;
 use pdl_pipe_nexts::StageLine;
 use pdl_pipe_nexts::line::stage_of;
 
-/// What the gates of stages go by: the orders of the forks, by the stages that fork, whether a squash happens, 1 bit, and of each stage whether no later one up to the one that verifies holds a thread, 1 bit each.
+/// What the gates of stages go by: the orders of the forks, by the stages that fork, whether a squash happens by one stage or another, and of each stage whether no later one up to the one that verifies holds a thread, 1 bit each.
 #[derive(Clone, Copy)]
 pub struct Controls<'a> {
     pub orders: &'a [Option<OrderRegs>],
-    pub squash: Net,
+    pub squashes: Squashes,
     pub clear: &'a [Net],
 }
 
@@ -80,7 +81,7 @@ pub fn gate(
 {
     let bits = line.shared.bits;
     let path = path_open(b, line, controls, frees, k)?;
-    let unsquashed = unsquashed(b, line.pipe, bits, k, controls.squash)?;
+    let unsquashed = unsquashed(b, line.pipe, bits, k, controls.squashes)?;
     let passes = both_bits(b, bits, unsquashed, path)?;
     let answered = all_answered(b, line.pipe, bits, line.shared.ports, k)?;
     let gate = both_bits(b, bits, answered, passes)?;

@@ -2,14 +2,16 @@
 ghost use Rattle.std.specs.Prelude.{◌≡◌, ◌<◌, IfOk, length, map, slice_index_or};
 ghost use Rattle.pdl_form.specs.FormView.{form};
 ghost use Rattle.pdl_semantics.specs.Stages.{verify_stage};
+ghost use Rattle.pdl_semantics.specs.Updates.{squash_stages};
 ghost use Rattle.pdl_net.specs.Growth.{Extends};
-ghost use Rattle.pdl_net.specs.Meaning.{signal};
+ghost use Rattle.pdl_net.specs.Meaning.{Means, signal};
 ghost use Rattle.pdl_pipe_exprs.specs.Conditions.{AreBits};
 ghost use Rattle.pdl_pipe_exprs.specs.Nets.{signals_in, signal_at};
 ghost use Rattle.pdl_pipe_walk.specs.Parts.{ask_in};
 ghost use Rattle.pdl_law_sides.specs.Sides.{unsquashed as unsquashed_signal, barrier_open as barrier_signal};
 ghost use Rattle.pdl_pipe_answers.specs.Ports.{IsBit, IsBitFor};
-ghost use Rattle.pdl_pipe_moves.specs.Gates.{opens_by, IsAsked};
+ghost use Rattle.pdl_pipe_beside.specs.Squashed.{squashes_in, HasSquashes};
+ghost use Rattle.pdl_pipe_moves.specs.Gates.{kept_by, opens_by, IsAsked};
 ghost use Rattle.pdl_word.specs.Each.{Each};
 
 use pdl_build::Builder;
@@ -17,32 +19,57 @@ use pdl_form::FlatPipe;
 use pdl_kit::NoMemory;
 use pdl_net::Net;
 use pdl_pipe_answers::both_bits;
+use pdl_pipe_beside::Squashes;
 use pdl_pipe_exprs::Bits;
 use pdl_pipe_exprs::exprs::variable;
 use pdl_pipe_walk::AskNet;
 
-/// Whether no squash keeps the thread of stage k where it is: a stage before the one that verifies moves only where no squash happens.
+// Where stage k is before a stage that squashes so it moves only where that doesn't squash; else by this.
+fn unsquashed_by(
+    b: &mut Builder,
+    bits: Bits,
+    k: usize,
+    stage: Option<usize>,
+    squash: Net,
+    rest: Net,
+) -> Result<Net, NoMemory>
+    requires bits { AreBits b.old bits }
+    requires squash { IsBit b.old squash }
+    requires rest { IsBit b.old rest }
+    ensures means { IfOk result (λ y.
+        Means b.new y (kept_by stage k (signal b.old squash) (signal b.old rest))) }
+    ensures bit { IfOk result (λ y. IsBit b.new y) }
+    ensures extends { Extends b.old b.new }
+    ensures regs { b.new.regs ≡ b.old.regs }
+{
+    match stage {
+        Some(z) if k < z => {
+            let net = b.mux(squash, bits.zero, rest)?;
+            Ok(net)
+        }
+        _ => Ok(rest),
+    }
+}
+
+/// Whether no squash keeps the thread of stage k where it is: a stage before one that may squash moves only where that doesn't.
 pub fn unsquashed(
     b: &mut Builder,
     pipe: &FlatPipe,
     bits: Bits,
     k: usize,
-    squash: Net,
+    squashes: Squashes,
 ) -> Result<Net, NoMemory>
     requires bits { AreBits b.old bits }
-    requires squash { IsBit b.old squash }
+    requires squashes { HasSquashes b.old squashes }
     ensures on { IfOk result (λ y. IsBitFor b.new y
-        (unsquashed_signal (verify_stage (form pipe.now).pipe.stmts) k (signal b.old squash))) }
+        (unsquashed_signal (squash_stages (form pipe.now).pipe.stmts) k
+        (squashes_in b.old (form pipe.now).pipe squashes))) }
     ensures extends { Extends b.old b.new }
     ensures regs { b.new.regs ≡ b.old.regs }
 {
-    match pipe.verify_stage() {
-        Some(v) if k < v => {
-            let net = b.mux(squash, bits.zero, bits.one)?;
-            Ok(net)
-        }
-        _ => Ok(bits.one),
-    }
+    let rest = unsquashed_by(b, bits, k, pipe.update_stage(), squashes.update, bits.one)?;
+    let net = unsquashed_by(b, bits, k, pipe.verify_stage(), squashes.verify, rest)?;
+    Ok(net)
 }
 
 /// Whether a barrier lets the thread of stage k pass: where it meets one, no later stage up to the one that verifies holds a thread.

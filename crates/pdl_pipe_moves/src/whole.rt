@@ -1,109 +1,45 @@
 // Which threads of a pipe move, which one squashes, and which are removed.
 ghost use Rattle.std.specs.Prelude.{◌≡◌, ℕ, ◌<◌, ◌≤◌, IfOk, Some, None, length};
 ghost use Rattle.pdl_semantics.specs.Stages.{verify_stage};
+ghost use Rattle.pdl_semantics.specs.Updates.{update_stage};
 ghost use Rattle.pdl_net.specs.Growth.{Extends};
 ghost use Rattle.pdl_net.specs.Meaning.{signal};
+ghost use Rattle.pdl_pipe_exprs.specs.Nets.{signals_in, signal_at};
 ghost use Rattle.pdl_pipe_beside.specs.Ports.{StandPorts};
-ghost use Rattle.pdl_squash.specs.Laws.{net_at, AreBits as AreSquashBits, SquashLaw, signal_at as squash_net};
 ghost use Rattle.pdl_pipe_answers.specs.Ports.{IsBit};
 ghost use Rattle.pdl_pipe_nexts.specs.Lines.{line_pipe, IsLineIn};
 ghost use Rattle.pdl_pipe_moves.specs.Gates.{HasTurns};
 ghost use Rattle.pdl_pipe_moves.specs.Inside.{LeadsInside};
-ghost use Rattle.pdl_pipe_moves.specs.Passed.{squash_signals_by, AreFilled, AreMoved, ArePadded, HasValids, IsBlank};
+ghost use Rattle.pdl_pipe_moves.specs.StageSquashes.{AreFilled};
+ghost use Rattle.pdl_pipe_moves.specs.Passed.{AreMoved, AreVerified, IsBlank};
 
 use crate::controls::Controls;
 use crate::passing::Passages;
+use crate::squash::{StageSquash, filled, joined, net_of, stage_squash};
 use pdl_build::Builder;
 use pdl_kit::{NoMemory, Seq};
 use pdl_net::Net;
 use pdl_order::OrderRegs;
+use pdl_pipe_beside::Squashes;
 use pdl_pipe_nexts::StageLine;
-use pdl_pipe_nexts::line::stage_of;
-use pdl_squash::{SquashNets, SquashPorts, emit_squash};
 use std::alloc::Global;
 
-/// Of each stage whether its thread moves, of each memory whether its port is free for the stage that reads it, whether a squash happens, which threads it removes, and of which stages no later one up to the one that verifies holds a thread; 1 bit each.
+/// Of each stage whether its thread moves, of each memory whether its port is free for the stage that reads it, whether a squash happens and by which stage, which threads it removes, and of which stages no later one up to the one that verifies holds a thread; 1 bit each.
 #[derive(Drop)]
 pub struct MoveNets {
     pub moves: Vec<Net>,
     pub frees: Vec<Seq<Net>>,
     pub squash: Net,
+    pub squashes: Squashes,
     pub kills: Vec<Net>,
     pub clear: Vec<Net>,
 }
 
-// A net that is 1 bit, for each stage.
-fn filled(alloc: Global, net: Net, count: usize) -> Result<Vec<Net>, NoMemory>
-    ensures { IfOk result (λ xs. AreFilled net count xs.items) }
-{
-    let nets = vec![in alloc; net; count]?;
-    Ok(nets)
-}
-
-// These nets, and after them one that fills up.
-fn padded(alloc: Global, nets: &Seq<Net>, fill: Net, count: usize) -> Result<Vec<Net>, NoMemory>
-    requires { length nets.now ≤ count }
-    ensures { IfOk result (λ xs. ArePadded nets.now fill count xs.items) }
-{
-    let mut list = Vec::new(alloc);
-    for k in 0..count {
-        let net = if k < nets.len() {
-            nets.as_slice()[k]
-        } else {
-            fill
-        };
-        list.push(net)?;
-    }
-    Ok(list)
-}
-
-// A net, by its place.
-fn net_of(nets: &[Net], k: usize) -> Net
-    requires { k < length nets.now }
-    ensures { result ≡ net_at nets.now k }
-{
-    nets[k]
-}
-
-// Whether each stage holds a thread.
-fn valids(alloc: Global, line: &StageLine<'_>) -> Result<Seq<Net>, NoMemory>
-    ensures { IfOk result (λ xs. HasValids line.now xs) }
-{
-    let mut nets = Seq::new(alloc);
-    for k in 0..line.stages.len() {
-        nets.push(Net::Reg(stage_of(line, k).regs.valid))?;
-    }
-    Ok(nets)
-}
-
-// The squash of stage v, whose thread moves so.
-fn squash_by(
-    alloc: Global,
-    b: &mut Builder,
-    line: &StageLine<'_>,
-    v: usize,
-    moves: Net,
-) -> Result<SquashNets, NoMemory>
-    requires line { IsLineIn b.old line.now }
-    requires low { v < length (line_pipe line.now).stages }
-    requires moves { IsBit b.old moves }
-    ensures law { IfOk result (λ n. SquashLaw
-        (squash_signals_by b.old line.now v (signal b.old moves)) (signal b.new n.squash)
-        (squash_net b.new n.removed) (squash_net b.new n.clear)) }
-    ensures squash { IfOk result (λ n. IsBit b.new n.squash) }
-    ensures removed { IfOk result (λ n. AreSquashBits b.new n.removed v) }
-    ensures clear { IfOk result (λ n. AreSquashBits b.new n.clear v) }
-    ensures extends { Extends b.old b.new }
-{
-    let valid = valids(alloc, line)?;
-    let ports = SquashPorts {
-        valid,
-        stage: v,
-        moves,
-        fails: stage_of(line, v).end.fails,
-    };
-    let nets = emit_squash(alloc, b, &ports)?;
-    Ok(nets)
+/// The stages down to one, with the squash of the one that verifies.
+#[derive(Drop)]
+pub struct Verified {
+    pub found: Passages,
+    pub squash: StageSquash,
 }
 
 // No stage is asked yet.
@@ -118,7 +54,54 @@ fn none_passed(alloc: Global, zero: Net, count: usize) -> Result<Passages, NoMem
     Ok(Passages { moves, frees })
 }
 
-// The threads of a pipe of which stage v verifies guesses.
+// The threads of the stages from `low` on, of which stage v verifies guesses.
+fn verified_moves(
+    alloc: Global,
+    b: &mut Builder,
+    line: &StageLine<'_>,
+    orders: &[Option<OrderRegs>],
+    v: usize,
+    low: usize,
+    blank: &[Net],
+) -> Result<Verified, NoMemory>
+    requires line { IsLineIn b.old line.now }
+    requires inside { LeadsInside (line_pipe line.now) }
+    requires stand { StandPorts b.old (line_pipe line.now) line.now.shared.now.ports.now }
+    requires turns { HasTurns b.old (line_pipe line.now) orders.now }
+    requires stage { verify_stage (line_pipe line.now).stmts ≡ Some v }
+    requires last { v < length (line_pipe line.now).stages }
+    requires low { low ≤ v }
+    requires blank { AreFilled line.now.shared.now.bits.zero
+        (length (line_pipe line.now).stages) blank.now }
+    ensures made { IfOk result (λ z. AreVerified b.new line.now orders.now v low z) }
+    ensures extends { Extends b.old b.new }
+{
+    let zero = line.shared.bits.zero;
+    let mut found = none_passed(alloc, zero, line.stages.len())?;
+    let calm = Controls {
+        orders,
+        squashes: Squashes {
+            verify: zero,
+            update: zero,
+        },
+        clear: blank,
+    };
+    found.pass_down(alloc, b, line, &calm, v, line.stages.len())?;
+    let own = net_of(found.moves.as_slice(), v);
+    let squash = stage_squash(alloc, b, line, v, own)?;
+    let controls = Controls {
+        orders,
+        squashes: Squashes {
+            verify: squash.happens,
+            update: zero,
+        },
+        clear: squash.clear.as_slice(),
+    };
+    found.pass_down(alloc, b, line, &controls, low, v)?;
+    Ok(Verified { found, squash })
+}
+
+// The threads of a pipe of which stage v verifies guesses, and none updates one.
 fn guessing_moves(
     alloc: Global,
     b: &mut Builder,
@@ -132,37 +115,81 @@ fn guessing_moves(
     requires stand { StandPorts b.old (line_pipe line.now) line.now.shared.now.ports.now }
     requires turns { HasTurns b.old (line_pipe line.now) orders.now }
     requires stage { verify_stage (line_pipe line.now).stmts ≡ Some v }
+    requires none { update_stage (line_pipe line.now).stmts ≡ None }
     requires low { v < length (line_pipe line.now).stages }
     requires blank { AreFilled line.now.shared.now.bits.zero
         (length (line_pipe line.now).stages) blank.now }
     ensures moved { IfOk result (λ z. AreMoved b.new line.now orders.now z) }
     ensures extends { Extends b.old b.new }
 {
-    let count = line.stages.len();
-    let zero = line.shared.bits.zero;
-    let mut found = none_passed(alloc, zero, count)?;
-    let calm = Controls {
-        orders,
-        squash: zero,
-        clear: blank,
-    };
-    found.pass_down(alloc, b, line, &calm, v, count)?;
-    let own = net_of(found.moves.as_slice(), v);
-    let nets = squash_by(alloc, b, line, v, own)?;
-    let kills = padded(alloc, &nets.removed, zero, count)?;
-    let clear = padded(alloc, &nets.clear, zero, count)?;
-    let controls = Controls {
-        orders,
-        squash: nets.squash,
-        clear: clear.as_slice(),
-    };
-    found.pass_down(alloc, b, line, &controls, 0, v)?;
+    let made = verified_moves(alloc, b, line, orders, v, 0, blank)?;
+    let Verified { found, squash } = made;
     Ok(MoveNets {
         moves: found.moves,
         frees: found.frees,
-        squash: nets.squash,
+        squash: squash.happens,
+        squashes: Squashes {
+            verify: squash.happens,
+            update: line.shared.bits.zero,
+        },
+        kills: squash.removed,
+        clear: squash.clear,
+    })
+}
+
+// The threads of a pipe of which stage v verifies guesses, and stage u updates them.
+fn updating_moves(
+    alloc: Global,
+    b: &mut Builder,
+    line: &StageLine<'_>,
+    orders: &[Option<OrderRegs>],
+    v: usize,
+    u: usize,
+    blank: &[Net],
+) -> Result<MoveNets, NoMemory>
+    requires line { IsLineIn b.old line.now }
+    requires inside { LeadsInside (line_pipe line.now) }
+    requires stand { StandPorts b.old (line_pipe line.now) line.now.shared.now.ports.now }
+    requires turns { HasTurns b.old (line_pipe line.now) orders.now }
+    requires stage { verify_stage (line_pipe line.now).stmts ≡ Some v }
+    requires update { update_stage (line_pipe line.now).stmts ≡ Some u }
+    requires low { v < length (line_pipe line.now).stages }
+    requires blank { AreFilled line.now.shared.now.bits.zero
+        (length (line_pipe line.now).stages) blank.now }
+    ensures moved { IfOk result (λ z. AreMoved b.new line.now orders.now z) }
+    ensures extends { Extends b.old b.new }
+{
+    let made = verified_moves(alloc, b, line, orders, v, u, blank)?;
+    let Verified { mut found, squash } = made;
+    let own = net_of(found.moves.as_slice(), u);
+    let again = stage_squash(alloc, b, line, u, own)?;
+    let squashes = Squashes {
+        verify: squash.happens,
+        update: again.happens,
+    };
+    let controls = Controls {
+        orders,
+        squashes,
+        clear: squash.clear.as_slice(),
+    };
+    found.pass_down(alloc, b, line, &controls, 0, u)?;
+    let bits = line.shared.bits;
+    let either = b.mux(squash.happens, bits.one, again.happens)?;
+    let kills = joined(
+        alloc,
+        b,
+        bits,
+        squash.removed.as_slice(),
+        again.removed.as_slice(),
+        u,
+    )?;
+    Ok(MoveNets {
+        moves: found.moves,
+        frees: found.frees,
+        squash: either,
+        squashes,
         kills,
-        clear,
+        clear: squash.clear,
     })
 }
 
@@ -187,9 +214,13 @@ fn certain_moves(
     let count = line.stages.len();
     let zero = line.shared.bits.zero;
     let mut found = none_passed(alloc, zero, count)?;
+    let squashes = Squashes {
+        verify: zero,
+        update: zero,
+    };
     let calm = Controls {
         orders,
-        squash: zero,
+        squashes,
         clear: blank,
     };
     found.pass_down(alloc, b, line, &calm, 0, count)?;
@@ -199,6 +230,7 @@ fn certain_moves(
         moves: found.moves,
         frees: found.frees,
         squash: zero,
+        squashes,
         kills,
         clear,
     })
@@ -221,8 +253,11 @@ pub fn all_moves(
     ensures extends { Extends b.old b.new }
 {
     let blank = filled(alloc, line.shared.bits.zero, line.stages.len())?;
-    match line.pipe.verify_stage() {
-        None => certain_moves(alloc, b, line, orders, blank.as_slice()),
-        Some(v) => guessing_moves(alloc, b, line, orders, v, blank.as_slice()),
+    let Some(v) = line.pipe.verify_stage() else {
+        return certain_moves(alloc, b, line, orders, blank.as_slice());
+    };
+    match line.pipe.update_stage() {
+        None => guessing_moves(alloc, b, line, orders, v, blank.as_slice()),
+        Some(u) => updating_moves(alloc, b, line, orders, v, u, blank.as_slice()),
     }
 }

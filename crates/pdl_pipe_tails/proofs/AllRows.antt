@@ -1,10 +1,16 @@
 -- The tails of all stages up to that of the verifies, one stage after the other.
-use Rattle.std.proofs.Common.{◌≡◌, refl, sym, ap, ap₂, ◌∙◌, subst, ℕ, suc, ◌+◌, ◌<◌, List, [], ◌∷◌, ◌++◌, length, get_or, arith}
+use Rattle.std.proofs.Common.{◌≡◌, refl, sym, ap, ap₂, ◌∙◌, subst, ℕ, suc, ◌+◌, ◌<◌, ◌≤◌, ◌⊎◌, inl, inr, List, [], ◌∷◌, ◌++◌, length, get_or, arith}
+use Rattle.std.proofs.lemmas.Bool.{cases_lt}
 use Rattle.std.proofs.lemmas.List.{get_or_append_left, get_or_push, get_or_default, get_or_past}
+use Rattle.std.specs.Prelude.{Option, Some, None}
 use Rattle.pdl_kit.specs.declared.seq.Seq.{Seq}
+use Rattle.pdl_semantics.specs.Stages.{verify_stage}
+use Rattle.pdl_semantics.specs.Updates.{update_stage}
+use Rattle.pdl_semantics.proofs.SquashStages.{update_before}
 use Rattle.pdl_net.specs.declared.Net.{Net}
 use Rattle.pdl_net.specs.Circuit.{Circuit}
 use Rattle.pdl_net.specs.Signal.{Signal}
+use Rattle.pdl_net.specs.Meaning.{IsThere, signal}
 use Rattle.pdl_net.specs.Growth.{Keeps, Extends}
 use Rattle.pdl_net.proofs.Keeps.{extends_keeps}
 use Rattle.pdl_pipe_exprs.specs.Nets.{NetsThere, signals_in, signal_at, widths_of}
@@ -12,12 +18,12 @@ use Rattle.pdl_pipe_exprs.proofs.NetLists.{signals_keep, length_signals}
 use Rattle.pdl_pipe_registers.proofs.Lists.{up_to}
 use Rattle.pdl_pipe_registers.proofs.Begins.{next_keep}
 use Rattle.pdl_pipe_nexts.specs.declared.line.StageLine.{StageLine}
-use Rattle.pdl_pipe_nexts.specs.Lines.{line_form, IsLineIn}
-use Rattle.pdl_pipe_tails.specs.declared.whole.TailNets.{TailNets}
+use Rattle.pdl_pipe_walk.specs.Guesses.{choices}
+use Rattle.pdl_pipe_nexts.specs.Lines.{line_form, line_pipe, IsLineIn}
 use Rattle.pdl_pipe_tails.specs.Reserved.{AreAfterAll}
 use Rattle.pdl_pipe_tails.specs.Carried.{tail_in, HaveTails}
-use Rattle.pdl_pipe_tails.specs.Tails.{AreStageTails, AreTails, IsRow}
-use Rattle.pdl_pipe_tails.proofs.Rows.{stage_keep, stage_as}
+use Rattle.pdl_pipe_tails.specs.Tails.{AreStageTails, IsCut, IsLike, IsRow}
+use Rattle.pdl_pipe_tails.proofs.Rows.{stage_keep, stage_as, stage_from}
 
 -- the first n stages have their tails
 abbrev pub FirstRows : Circuit → Circuit → StageLine → List (Seq Net) → ℕ → Type 0
@@ -82,19 +88,16 @@ rows_more a c d x rows new n count e h here =
     (row_later a c d x rows (rows ++ new ∷ []) [] n e h (same_front rows new n count))
     (subst (AreStageTails a d x (tail_in d (rows ++ new ∷ []) []) n) (sym (get_or_push rows new [] n count)) here)
 
--- with the tails of stage V, all stages up to it have theirs
-pub rows_all : (a c d : Circuit) (x : StageLine) (t : TailNets) (v : ℕ)
-    → length t.before.items ≡ v → Extends c d → FirstRows a c x t.before.items v
-    → AreStageTails a d x (tail_in d t.before.items t.cut) v t.cut → AreTails a d x t v
-rows_all a c d x t v count e h here =
-    let rows = t.before.items in
-    record {
-      count = count;
-      each = λ k l.
-          up_to (λ j. AreStageTails a d x (tail_in d rows t.cut) j (get_or rows j t.cut)) v
-          (row_later a c d x rows rows t.cut v e h (same_before rows t.cut v count))
-          (subst (AreStageTails a d x (tail_in d rows t.cut) v) (sym (get_or_past rows v t.cut (omega (arith, count)))) here) k (omega (arith, l));
-    }
+-- with the tails of stage V, made where the earlier stages have these, the first V + 1 stages have theirs
+pub rows_full : (a c d : Circuit) (x : StageLine) (rows : List (Seq Net)) (last : Seq Net) (v : ℕ)
+    → length rows ≡ v → Keeps a c → IsLineIn a x → Extends c d → FirstRows a c x rows v
+    → ((tails : ℕ → ℕ → Signal) → ((j m : ℕ) → j < v → tails j m ≡ tail_in c rows [] j m) → AreStageTails c d x tails v last)
+    → FirstRows a d x (rows ++ last ∷ []) (v + 1)
+rows_full a c d x rows last v count ac line e h made =
+    let longer = rows ++ last ∷ [] in
+    rows_more a c d x rows last v count e h
+    (stage_from a c d x (tail_in d longer []) v last ac line
+    (made (tail_in d longer []) (λ j m l. tails_same a c d x rows longer [] v (extends_keeps c d e) h (same_front rows last v count) j m l)))
 
 -- ---- as wide as the next tickets
 
@@ -117,3 +120,60 @@ row_is a c x tails k nets h =
       there = h.there;
       wide = widths_as (signals_in c nets) (signals_in a x.shared.now.next) (omega (arith, n, p, q)) (λ m l. (h.each m (omega (arith, l, n))).wide);
     }
+
+-- ---- all stages up to V
+
+-- the nets of the first stages and of stage V, whether they stand in one list or V's stand for a stage without
+pub same_all : (rows : List (Seq Net)) (last : Seq Net) (v : ℕ)
+    → length rows ≡ v → (j : ℕ) → j < v + 1 → get_or rows j last ≡ get_or (rows ++ last ∷ []) j []
+same_all rows last v count j l = at (cases_lt j v)
+  where
+    at : (j < v) ⊎ (v ≤ j) → get_or rows j last ≡ get_or (rows ++ last ∷ []) j []
+    at (inl q) = same_before rows last v count j q ∙ sym (same_front rows last v count j q)
+    at (inr q) =
+        let here : v ≡ j = omega (arith, q, l) in
+        subst (λ i. get_or rows i last ≡ get_or (rows ++ last ∷ []) i []) here
+        (get_or_past rows v last (omega (arith, count)) ∙ sym (get_or_push rows last [] v count))
+
+-- with the tails of stage V, all stages up to it have theirs, in a circuit that grew
+pub rows_all : (a c d : Circuit) (x : StageLine) (rows : List (Seq Net)) (last : Seq Net) (v : ℕ)
+    → length rows ≡ v → Extends c d → FirstRows a c x (rows ++ last ∷ []) (v + 1) → (k : ℕ) → k ≤ v
+    → AreStageTails a d x (tail_in d rows last) k (get_or rows k last)
+rows_all a c d x rows last v count e h k l =
+    row_later a c d x (rows ++ last ∷ []) rows last (v + 1) e h (same_all rows last v count) k (omega (arith, l))
+
+-- a stage before V has tails as wide as V's
+pub like_last : (a c : Circuit) (x : StageLine) (rows : List (Seq Net)) (last : Seq Net) (v u : ℕ)
+    → length rows ≡ v → u < v → FirstRows a c x (rows ++ last ∷ []) (v + 1) → IsLike c rows last u
+like_last a c x rows last v u count l h =
+    let early = row_is a c x (tail_in c (rows ++ last ∷ []) []) u (get_or (rows ++ last ∷ []) u []) (h u (omega (arith, l))) in
+    let own = row_is a c x (tail_in c (rows ++ last ∷ []) []) v (get_or (rows ++ last ∷ []) v []) (h v (omega arith)) in
+    let same = same_front rows last v count u l in
+    record {
+      low = omega (arith, l, count);
+      there = subst (NetsThere c) same early.there;
+      wide =
+          ap (λ (ns : List Net). widths_of (signals_in c ns)) (sym same)
+          ∙ early.wide
+          ∙ sym own.wide
+          ∙ ap (λ (ns : List Net). widths_of (signals_in c ns)) (get_or_push rows last [] v count);
+    }
+
+-- where the locks are cut is told by the same signals in a circuit that grew
+pub cut_later : (c d : Circuit) (x : StageLine) (verify : Net) (rows : List (Seq Net)) (last : Seq Net) (cut : List Net) (v : ℕ)
+    → length rows ≡ v → verify_stage (line_pipe x).stmts ≡ Some v → Keeps c d → IsThere c verify
+    → (a : Circuit) → FirstRows a c x (rows ++ last ∷ []) (v + 1)
+    → IsCut c d verify rows last cut (update_stage (line_pipe x).stmts) → IsCut d d verify rows last cut (update_stage (line_pipe x).stmts)
+cut_later c d x verify rows last cut v count is e there a h = at (update_stage (line_pipe x).stmts) refl
+  where
+    own : NetsThere c last
+    own = subst (NetsThere c) (get_or_push rows last [] v count) (h v (omega arith)).there
+
+    at : (o : Option ℕ) → update_stage (line_pipe x).stmts ≡ o → IsCut c d verify rows last cut o → IsCut d d verify rows last cut o
+    at None f k = k
+    at (Some u) f k =
+        let early : u < v = update_before (line_pipe x).stmts u v f is in
+        let like = like_last a c x rows last v u count early h in
+        k
+        ∙ ap (λ o. choices o (signals_in c last) (signals_in c (get_or rows u []))) (sym (e.kept verify there))
+        ∙ ap₂ (choices (signal d verify)) (sym (signals_keep c d last e own)) (sym (signals_keep c d (get_or rows u []) e like.there))

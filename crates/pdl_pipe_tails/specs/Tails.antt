@@ -1,14 +1,16 @@
--- The tails of all stages up to that of the verifies, where the lock is cut.
-use Rattle.std.specs.Prelude.{◌≡◌, ℕ, ◌<◌, ◌≤◌, true, false, List, length, slice_index_or, Option, Some, None}
+-- The tails of all stages up to that of the verifies, and where the locks are cut.
+use Rattle.std.specs.Prelude.{◌≡◌, ℕ, ◌<◌, ◌≤◌, true, false, List, [], length, slice_index_or, Option, Some, None}
 use Rattle.pdl_kit.specs.declared.seq.Seq.{Seq}
 use Rattle.pdl_semantics.specs.Flat.{Pipe}
+use Rattle.pdl_semantics.specs.Updates.{update_stage}
 use Rattle.pdl_net.specs.declared.Net.{Net}
 use Rattle.pdl_net.specs.Circuit.{Circuit, HasReg}
 use Rattle.pdl_net.specs.Signal.{Signal}
-use Rattle.pdl_net.specs.Meaning.{next_signal}
+use Rattle.pdl_net.specs.Meaning.{signal, next_signal}
 use Rattle.pdl_lockapi.specs.Laws.{TicketLaw}
 use Rattle.pdl_law_parts.specs.Walk.{Locks}
 use Rattle.pdl_pipe_exprs.specs.Nets.{NetsThere, signals_in, signal_at, widths_of}
+use Rattle.pdl_pipe_walk.specs.Guesses.{choices}
 use Rattle.pdl_pipe_nexts.specs.declared.arrivals.Arrival.{Arrival}
 use Rattle.pdl_pipe_nexts.specs.declared.line.StageLine.{StageLine}
 use Rattle.pdl_pipe_nexts.specs.Lines.{line_pipe, line_views, line_moves}
@@ -36,17 +38,30 @@ pub record AreStageTails (a c : Circuit) (x : StageLine) (tails : ℕ → ℕ �
 
 -- the tail of a thread in a stage, of each memory
 abbrev pub tails_in : Circuit → TailNets → ℕ → ℕ → Signal
-tails_in c t = tail_in c t.before.items t.cut
+tails_in c t = tail_in c t.before.items t.last
 
--- the tails of the threads in all stages up to V
-pub record AreTails (a c : Circuit) (x : StageLine) (t : TailNets) (v : ℕ) : Type 0 where
+-- a stage before V has tails as wide as V's
+pub record IsLike (c : Circuit) (before : List (Seq Net)) (last : List Net) (u : ℕ) : Type 0 where
+  pub low : u < length before
+  pub there : NetsThere c (slice_index_or before u [])
+  pub wide : widths_of (signals_in c (slice_index_or before u [])) ≡ widths_of (signals_in c last)
+
+-- the locks are cut at the tails of V, or where there is U, and V doesn't squash, at those of U
+abbrev pub IsCut : Circuit → Circuit → Net → List (Seq Net) → List Net → List Net → Option ℕ → Type 0
+IsCut a c verify before last cut None = cut ≡ last
+IsCut a c verify before last cut (Some u) =
+    signals_in c cut ≡ choices (signal a verify) (signals_in a last) (signals_in a (slice_index_or before u []))
+
+-- the tails of the threads in all stages up to V, and where the locks are cut
+pub record AreTails (a c : Circuit) (x : StageLine) (verify : Net) (t : TailNets) (v : ℕ) : Type 0 where
   pub count : length t.before.items ≡ v
-  pub each : (k : ℕ) → k ≤ v → AreStageTails a c x (tails_in c t) k (slice_index_or t.before.items k t.cut)
+  pub each : (k : ℕ) → k ≤ v → AreStageTails a c x (tails_in c t) k (slice_index_or t.before.items k t.last)
+  pub cut : IsCut c c verify t.before.items t.last t.cut (update_stage (line_pipe x).stmts)
 
 -- nothing is added where no stage verifies: no squash cuts a lock
-abbrev pub HasCut : Circuit → Circuit → StageLine → TailNets → Option ℕ → Type 0
-HasCut a c x t None = (t.cut ≡ x.shared.now.next) × (c ≡ a)
-HasCut a c x t (Some v) = AreTails a c x t v
+abbrev pub HasCut : Circuit → Circuit → StageLine → Net → TailNets → Option ℕ → Type 0
+HasCut a c x verify t None = (t.cut ≡ x.shared.now.next) × (c ≡ a)
+HasCut a c x verify t (Some v) = AreTails a c x verify t v
 
 -- a net for each memory, as wide as its lock's next ticket
 pub record IsRow (a c : Circuit) (x : StageLine) (nets : List Net) : Type 0 where

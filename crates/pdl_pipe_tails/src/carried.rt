@@ -29,8 +29,8 @@ fn arrival_at(arrivals: &[Arrival], i: usize) -> Arrival
     arrivals[i]
 }
 
-// The tails of an earlier stage.
-fn row_at<'a>(before: &'a [Seq<Net>], k: usize) -> &'a Seq<Net>
+/// The tails of an earlier stage.
+pub(crate) fn row_at<'a>(before: &'a [Seq<Net>], k: usize) -> &'a Seq<Net>
     requires { k < length before.now }
     ensures { result.now ≡ slice_index_or before.now k [] }
 {

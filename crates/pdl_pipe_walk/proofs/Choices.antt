@@ -36,7 +36,8 @@ choices_widths on [] gs e = refl
 choices_widths on (f ∷ fs) [] e = absurd (omega (arith, e))
 choices_widths on (f ∷ fs) (g ∷ gs) e = ap (λ ws. f.width ∷ ws) (choices_widths on fs gs (omega (arith, e)))
 
-choice_at : (on : Signal) (fs gs : List Signal) (i : ℕ)
+-- the i-th choice is that of the i-th signals
+pub choice_at : (on : Signal) (fs gs : List Signal) (i : ℕ)
     → i < length fs → length fs ≡ length gs
     → get_or (choices on fs gs) i no_signal ≡ mux_signal on (signal_at fs i) (signal_at gs i)
 choice_at on [] gs i l e = absurd (omega (arith, l))

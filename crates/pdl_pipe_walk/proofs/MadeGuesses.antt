@@ -1,5 +1,5 @@
 -- What requests, guesses and barriers change is a step of the walk.
-use Rattle.std.proofs.Common.{◌≡◌, ℕ, ◌≤◌, true, List, [], length, refl, sym, ap, ◌∙◌, subst, arith}
+use Rattle.std.proofs.Common.{◌≡◌, ℕ, ◌≤◌, Bool, true, false, List, [], length, refl, sym, ap, ◌∙◌, subst, arith}
 use Rattle.std.proofs.lemmas.List.{length-map}
 use Rattle.pdl_word.specs.Words.{bit}
 use Rattle.pdl_semantics.specs.Flat as flat
@@ -17,7 +17,7 @@ use Rattle.pdl_law_parts.specs.Walk.{Locks, Row, HaveValues}
 use Rattle.pdl_pipe_walk.specs.Guesses.{choices, differ_signal}
 use Rattle.pdl_pipe_walk.specs.Parts.{Parts, walk_of}
 use Rattle.pdl_pipe_walk.specs.Sized.{IsSized}
-use Rattle.pdl_pipe_walk.specs.Steps.{IsStep, with_ask, with_guess, with_verify, with_barrier}
+use Rattle.pdl_pipe_walk.specs.Steps.{IsStep, with_ask, with_guess, with_verify, with_update, with_compare, with_barrier}
 use Rattle.pdl_pipe_walk.proofs.Choices.{same_length, choices_length, choices_on, choices_off, wrong_value}
 use Rattle.pdl_pipe_walk.proofs.MadeSteps.{HasNets, is_on, bounded_in}
 use Rattle.pdl_pipe_walk.proofs.Values.{have_values}
@@ -72,7 +72,7 @@ module _ (c : Circuit) (p : Pipe) (ws : List ℕ) (ls : Locks) (tickets : ℕ �
         }
 
     -- a `verify` makes a call, and the guess fails, where the arguments differ from the guess
-    pub verify_step : (w' : Parts) → w' ≡ with_verify (taken_signal w.vars gs) (value_signals w.vars es) w
+    verify_step : (w' : Parts) → w' ≡ with_verify (taken_signal w.vars gs) (value_signals w.vars es) w
         → IsStep c p ls tickets gs (flat.Verify true es) (walk_of w) (walk_of w')
     verify_step w' h =
         let fs = value_signals w.vars es in
@@ -88,3 +88,32 @@ module _ (c : Circuit) (p : Pipe) (ws : List ℕ) (ls : Locks) (tickets : ℕ �
           );
           next = ap walk_of h;
         }
+
+    -- an `update` does the same, and its arguments become the guess
+    update_step : (w' : Parts) → w' ≡ with_update (taken_signal w.vars gs) (value_signals w.vars es) w
+        → IsStep c p ls tickets gs (flat.Verify false es) (walk_of w) (walk_of w')
+    update_step w' h =
+        let fs = value_signals w.vars es in
+        let o = taken_signal w.vars gs in
+        let same = same_length fs w.guess wide in
+        let on_is = is_on c p ws ls tickets gs w nets sized vars guards in
+        record {
+          row = record { on = o; value = differ_signal fs w.guess; args = fs; guess = choices o fs w.guess };
+          on = on_is;
+          does = λ d k well. (
+            args_few,
+            (λ s suits u. args_have d k well s suits),
+            (let n = length-map es (value_signal w.vars) in omega (arith, same, n)),
+            (λ s suits u. wrong_value s fs w.guess same),
+            choices_length o fs w.guess same,
+            (λ s suits u. choices_on s o fs w.guess same (on_is d k well s suits ∙ ap bit u)),
+            (λ s suits u. choices_off s o fs w.guess same (on_is d k well s suits ∙ ap bit u)),
+          );
+          next = ap walk_of h;
+        }
+
+    -- a verify or an update makes a call, and the guess fails, where the arguments differ from the guess
+    pub compare_step : (last : Bool) (w' : Parts) → w' ≡ with_compare last (taken_signal w.vars gs) (value_signals w.vars es) w
+        → IsStep c p ls tickets gs (flat.Verify last es) (walk_of w) (walk_of w')
+    compare_step true = verify_step
+    compare_step false = update_step

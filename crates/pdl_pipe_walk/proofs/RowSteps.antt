@@ -2,7 +2,7 @@
 use Rattle.std.proofs.Common.{arith, ◌≡◌, refl, ℕ, ◌+◌, ◌<◌, Bool, true, false, List, [], ◌∷◌, ◌++◌, map, length, take, drop, get_or, sym, ap, ◌∙◌, subst}
 use Rattle.std.proofs.lemmas.List.{drop_more, take_more, map-append, get_or-map, length-map}
 use Rattle.std.specs.Prelude.{slice_index}
-use Rattle.pdl_semantics.specs.Flat.{Expr, Guard, Op, Verify, SpecCheck, Stmt, Pipe}
+use Rattle.pdl_semantics.specs.Flat.{Guard, Op, SpecCheck, Stmt, Pipe}
 use Rattle.pdl_form.specs.declared.form.FlatStmt as r_stmt
 use Rattle.pdl_form.specs.declared.form.Op as r_op
 use Rattle.pdl_form.specs.declared.form.FlatGuard as r_guard
@@ -13,7 +13,6 @@ use Rattle.pdl_net.specs.Circuit.{Circuit}
 use Rattle.pdl_net.specs.Signal.{Signal}
 use Rattle.pdl_net.specs.Growth.{Keeps}
 use Rattle.pdl_net.proofs.Keeps.{keeps_trans}
-use Rattle.pdl_law_parts.specs.Rows.{HasRow}
 use Rattle.pdl_law_parts.specs.Walk.{Locks, Walk, Row, IsRow, walk_after, AreRows}
 use Rattle.pdl_pipe_walk.specs.Sized.{IsWalked, AreWalked, AreWalkedRows}
 use Rattle.pdl_pipe_walk.specs.Steps.{IsStep, AreSteps}
@@ -32,11 +31,6 @@ typed_as f s o h e = subst (λ (o : r_op.Op). IsTypedOp f (act_view o)) e h.0.1
 pub guards_as : (f : Form) (s : r_stmt.FlatStmt) (gs : List r_guard.FlatGuard) → IsWalked f (stmt_view s)
     → gs ≡ s.guards → AreGuards f.widths (guards_view gs)
 guards_as f s gs h e = subst (λ l. AreGuards f.widths (guards_view l)) (sym e) h.0.0
-
--- a verify for which a row stands is the last one
-pub last_only : (p : Pipe) (last : Bool) (args : List Expr) → HasRow p (Verify last args) → last ≡ true
-last_only p true args h = refl
-last_only p false args h = absurd h
 
 rows_push : (d : Circuit) (p : Pipe) (ls : Locks) (tickets : ℕ → Signal) (xs : List Stmt) (x : Stmt) (w v u : Walk) (r : Row)
     → AreRows d p ls tickets xs w v → IsRow d p ls tickets x v r → u ≡ walk_after x.op r ls v

@@ -1,5 +1,5 @@
 -- A statement as a step from one walk to another, while the circuit grows.
-use Rattle.std.specs.Prelude.{◌≡◌, ℕ, ◌==◌, List, [], ◌∷◌, ◌++◌, Option, slice_set, if◌then◌else◌}
+use Rattle.std.specs.Prelude.{◌≡◌, ℕ, Bool, ◌==◌, List, [], ◌∷◌, ◌++◌, Option, slice_set, if◌then◌else◌}
 use Rattle.pdl_word.specs.Words.{bit}
 use Rattle.pdl_semantics.specs.Flat.{Guard, Op, Stmt, Pipe}
 use Rattle.pdl_net.specs.declared.Net.{Net}
@@ -78,6 +78,14 @@ with_guess on args w = record (with_call on args w) { guess = choices on args w.
 abbrev pub with_verify : Signal → List Signal → Parts → Parts
 with_verify on args w =
     record (with_call (both on (differ_signal args w.guess)) args w) { fails = mux_signal (both on (differ_signal args w.guess)) one w.fails }
+
+-- the same, and where the condition is 1 the arguments become the guess
+abbrev pub with_update : Signal → List Signal → Parts → Parts
+with_update on args w = record (with_verify on args w) { guess = choices on args w.guess }
+
+-- a verify, or where it isn't the last one an update
+abbrev pub with_compare : Bool → Signal → List Signal → Parts → Parts
+with_compare last on args w = if last then with_verify on args w else with_update on args w
 
 -- the thread waits for the barrier
 abbrev pub with_barrier : Signal → Parts → Parts

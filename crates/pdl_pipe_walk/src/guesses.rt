@@ -1,4 +1,4 @@
-// Guesses: what a call guesses, and whether a verify finds that wrong.
+// Guesses: what a call guesses, and whether a verify or an update finds that wrong.
 ghost use Rattle.std.specs.Prelude.{◌≡◌, ◌<◌, ◌∷◌, [], ℕ, IfOk, OnOk, length};
 ghost use Rattle.pdl_form.specs.FormView.{form};
 ghost use Rattle.pdl_form.specs.View.{guards_view, exprs_view};
@@ -13,7 +13,7 @@ ghost use Rattle.pdl_law_parts.specs.Walk.{one, both};
 ghost use Rattle.pdl_pipe_walk.specs.Guesses.{choices, or_differ, differ_signal};
 ghost use Rattle.pdl_pipe_walk.specs.Parts.{parts_in, taken_by, values_by};
 ghost use Rattle.pdl_pipe_walk.specs.Sized.{IsWalkOf};
-ghost use Rattle.pdl_pipe_walk.specs.Steps.{with_guess, with_verify, with_barrier};
+ghost use Rattle.pdl_pipe_walk.specs.Steps.{with_guess, with_verify, with_update, with_compare, with_barrier};
 
 use crate::nets::WalkNets;
 use pdl_build::Builder;
@@ -24,8 +24,8 @@ use pdl_pipe_exprs::Bits;
 use pdl_pipe_exprs::exprs::variable;
 use std::alloc::Global;
 
-// Where `on` is 1 each of the nets `xs`, else each of `ys`.
-fn choose(
+/// Where `on` is 1 each of the nets `xs`, else each of `ys`.
+pub fn choose(
     alloc: Global,
     b: &mut Builder,
     on: Net,
@@ -95,7 +95,7 @@ impl WalkNets {
         self.guess = guess;
     }
 
-    // A verify fails where `on` and `wrong` are 1: the net of both.
+    // A verify fails, or an update changes the guess, where `on` and `wrong` are 1: the net of both.
     fn fail(
         &mut self,
         b: &mut Builder,
@@ -152,8 +152,8 @@ impl WalkNets {
         self.push_birth(on, nets)
     }
 
-    /// A verify: it fails where its guards are taken and an argument isn't that of the guess, and then calls with its own.
-    pub(crate) fn verify(
+    // A verify: it fails where its guards are taken and an argument isn't that of the guess, and then calls with its own.
+    fn verify(
         &mut self,
         alloc: Global,
         b: &mut Builder,
@@ -178,6 +178,91 @@ impl WalkNets {
         let wrong = differ(b, bits, nets.as_slice(), self.guess.as_slice())?;
         let fails = self.fail(b, pipe, bits, on, wrong)?;
         self.push_birth(fails, nets)
+    }
+
+    // The guess with these arguments in its place, where the guards are taken.
+    fn replaced(
+        &self,
+        alloc: Global,
+        b: &mut Builder,
+        pipe: &FlatPipe,
+        bits: Bits,
+        guards: &[FlatGuard],
+        args: &[FlatExpr],
+    ) -> Result<Seq<Net>, NoMemory>
+        requires walk { IsWalkOf (form pipe.now) b.old self.now }
+        requires bits { AreBits b.old bits }
+        requires guards { AreGuards (form pipe.now).widths (guards_view guards.now) }
+        requires typed { AreArguments (form pipe.now).widths (param_widths (form pipe.now))
+            (exprs_view args.now) }
+        ensures there { IfOk result (λ zs. NetsThere b.new zs) }
+        ensures means { IfOk result (λ zs. signals_in b.new zs
+            ≡ choices (taken_by b.old self.now guards.now) (values_by b.old self.now args.now)
+            (signals_in b.old self.now.guess)) }
+        ensures wide { IfOk result (λ zs. widths_of (signals_in b.new zs)
+            ≡ param_widths (form pipe.now)) }
+        ensures extends { Extends b.old b.new }
+    {
+        let on = self.all_taken(b, pipe, bits, guards)?;
+        let nets = self.values(alloc, b, pipe, args)?;
+        let guess = choose(alloc, b, on, nets.as_slice(), self.guess.as_slice())?;
+        Ok(guess)
+    }
+
+    // An update: as a verify, but where its guards are taken its arguments become the guess.
+    fn update(
+        &mut self,
+        alloc: Global,
+        b: &mut Builder,
+        pipe: &FlatPipe,
+        bits: Bits,
+        guards: &[FlatGuard],
+        args: &[FlatExpr],
+    ) -> Result<(), NoMemory>
+        requires walk { IsWalkOf (form pipe.now) b.old self.old }
+        requires bits { AreBits b.old bits }
+        requires guards { AreGuards (form pipe.now).widths (guards_view guards.now) }
+        requires typed { AreArguments (form pipe.now).widths (param_widths (form pipe.now))
+            (exprs_view args.now) }
+        ensures walk { OnOk result (IsWalkOf (form pipe.now) b.new self.new) }
+        ensures parts { OnOk result (parts_in b.new self.new
+            ≡ with_update (taken_by b.old self.old guards.now) (values_by b.old self.old args.now)
+            (parts_in b.old self.old)) }
+        ensures extends { Extends b.old b.new }
+    {
+        let guess = self.replaced(alloc, b, pipe, bits, guards, args)?;
+        self.verify(alloc, b, pipe, bits, guards, args)?;
+        self.put_guess(guess);
+        Ok(())
+    }
+
+    /// A verify, or where it isn't the last one an update.
+    pub(crate) fn compare(
+        &mut self,
+        alloc: Global,
+        b: &mut Builder,
+        pipe: &FlatPipe,
+        bits: Bits,
+        guards: &[FlatGuard],
+        last: bool,
+        args: &[FlatExpr],
+    ) -> Result<(), NoMemory>
+        requires walk { IsWalkOf (form pipe.now) b.old self.old }
+        requires bits { AreBits b.old bits }
+        requires guards { AreGuards (form pipe.now).widths (guards_view guards.now) }
+        requires typed { AreArguments (form pipe.now).widths (param_widths (form pipe.now))
+            (exprs_view args.now) }
+        ensures walk { OnOk result (IsWalkOf (form pipe.now) b.new self.new) }
+        ensures parts { OnOk result (parts_in b.new self.new
+            ≡ with_compare last (taken_by b.old self.old guards.now)
+            (values_by b.old self.old args.now) (parts_in b.old self.old)) }
+        ensures extends { Extends b.old b.new }
+    {
+        if last {
+            self.verify(alloc, b, pipe, bits, guards, args)
+        } else {
+            self.update(alloc, b, pipe, bits, guards, args)
+        }
     }
 
     /// A barrier, where its guards are taken.

@@ -3,7 +3,7 @@
 //! The layers above may use `WalkNets`, which walks over a stage's statements, and `MemLock`, a memory with its lock.
 #![tactic(auto)]
 
-mod guesses;
+pub mod guesses;
 pub mod locks;
 pub mod nets;
 mod reserves;

@@ -67,7 +67,7 @@ pub struct WalkNets {
     pub asks: Seq<AskNet>,
     /// The arguments of the guess.
     pub guess: Seq<Net>,
-    /// Whether a verify fails, 1 bit.
+    /// Whether a verify fails or an update changes the guess, 1 bit.
     pub fails: Net,
     /// Whether the thread waits at a barrier, 1 bit.
     pub barrier: Net,

@@ -317,8 +317,8 @@ impl WalkNets {
             Op::Call(args) => self.call(alloc, b, pipe, bits, guards, args.as_slice()),
             Op::DelayedRead { x, m, a } => self.delayed_read(b, setting, guards, *x, *m, *a),
             Op::SpecCall(args) => self.spec_call(alloc, b, pipe, bits, guards, args.as_slice()),
-            Op::Verify { args, .. } => {
-                self.verify(alloc, b, pipe, bits, guards, args.as_slice())
+            Op::Verify { last, args } => {
+                self.compare(alloc, b, pipe, bits, guards, *last, args.as_slice())
             }
             Op::SpecCheck => Ok(()),
             Op::SpecBarrier => self.spec_barrier(b, pipe, bits, guards),

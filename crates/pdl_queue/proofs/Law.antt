@@ -18,22 +18,20 @@ use Rattle.pdl_lock_ring.proofs.LookMeanings.{seeks_covered, seeks_late}
 use Rattle.pdl_lock_ring.proofs.LookValues.{free_looked, free_youngest, all_older, word_given}
 
 -- a look of a queue keeps its law, where its value is the array's word at the address
-pub look_law : (c : Circuit) (l : RingLayout) (u : Kind) (a t : Signal) (v : Option Net) → IsSized l
-    → t.width ≡ l.ticket → GivesWord c l a v
+pub look_law : (c : Circuit) (l : RingLayout) (u : Kind) (a t : Signal) (v : Option Net) → IsSized l → GivesWord c l a v
     → LookLaw (Stands l) Queue l.ticket u a t (ready_signal l a t) (option_map (signal c) v)
-look_law c l u a t v z w g = record {
-  answers = λ s x n h k e. free_looked l (content_signal l) s x a t (n - x.base) z h.entries (seeks_covered l (content_signal l) s x t n z h.entries w k e);
+look_law c l u a t v z g = record {
+  answers = λ s x n h k e. free_looked l (content_signal l) s x a t (n - x.base) z h.entries (seeks_covered l (content_signal l) s x t n z h.entries k e);
   gives = λ f i s x n h k e fit ready.
       word_given c l a v f s x.words g i h.words ∙ sym (ap or_zero (free_youngest (older x n) (a.value s) (Some (slice_index x.words (a.value s))) ready));
 }
 
 -- a late look of a queue keeps its law, where its value is the array's word at the address
-pub late_law : (c : Circuit) (l : RingLayout) (u : Kind) (a t : Signal) (v : Option Net) → IsSized l
-    → t.width ≡ l.ticket → GivesWord c l a v
+pub late_law : (c : Circuit) (l : RingLayout) (u : Kind) (a t : Signal) (v : Option Net) → IsSized l → GivesWord c l a v
     → LateLookLaw (Stands l) Queue l.size l.ticket u a t (ready_signal l a t) (option_map (signal c) v)
-late_law c l u a t v z w g = record {
+late_law c l u a t v z g = record {
   answers =
-      λ two s x h e. free_looked l (content_signal l) s x a t (length x.entries) z h.entries (seeks_late l (content_signal l) s x t z h.entries w two e)
+      λ two s x h e. free_looked l (content_signal l) s x a t (length x.entries) z h.entries (seeks_late l (content_signal l) s x t z h.entries two e)
       ∙ ap (λ zs. bit (is_free zs (a.value s))) (all_older x);
   gives = λ two f i s x h e fit ready.
       word_given c l a v f s x.words g i h.words

@@ -4,9 +4,10 @@ use Rattle.std.proofs.Math.Nat.{mod-eq_of_lt}
 use Rattle.pdl_net.specs.Circuit.{State}
 use Rattle.pdl_net.specs.Signal.{Signal, reg_value}
 use Rattle.pdl_lock_ring.specs.Slots.{content_signal, reg_of}
-use Rattle.pdl_lock_ring.specs.Looks.{youngest_value, key_at, last_older}
+use Rattle.pdl_lock_ring.specs.Looks.{youngest_value}
 use Rattle.pdl_lock_ring.specs.Registers.{register_of}
-use Rattle.pdl_lock_ring.proofs.Trees.{selected_width, selected_value, least_width}
+use Rattle.pdl_lock_ring.proofs.Trees.{selected_width, selected_value}
+use Rattle.pdl_lock_ring.proofs.LookValues.{won_width}
 use Rattle.pdl_rename.specs.declared.layout.Layout.{Layout}
 use Rattle.pdl_rename.specs.Places.{IsRenaming, map_at, word_place}
 use Rattle.pdl_rename.specs.Nets.{registers_of_map, registers_of_places, mapped_place, ticket_place}
@@ -21,7 +22,7 @@ placed_width l d = selected_width (register_of (registers_of_places l)) d l.slot
 
 -- the place that a look finds has the bits of a place
 pub found_width : (l : Layout) (o a t : Signal) → (youngest_value l.slots (content_signal l.slots) o a t).width ≡ l.slots.kept
-found_width l o a t = least_width (key_at l.slots a (last_older l.slots t)) (content_signal l.slots) l.slots.kept (λ k. refl) (l.slots.ticket - 1) 0
+found_width l o a t = won_width l.slots (content_signal l.slots) l.slots.kept a t (λ k. refl)
 
 pub ruleset widths = (mapped_width, placed_width, found_width)
 

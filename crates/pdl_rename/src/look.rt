@@ -13,7 +13,7 @@ use pdl_build::Builder;
 use pdl_kit::NoMemory;
 use pdl_lock_ring::choice::{Registers, emit_register};
 use pdl_lock_ring::look::by_kind;
-use pdl_lock_ring::nearest::emit_youngest;
+use pdl_lock_ring::youngest::emit_youngest;
 use pdl_lockapi::Kind;
 use pdl_net::Net;
 

@@ -4,6 +4,7 @@ mod ForkRows
 mod GuessRows
 mod AdviceRows
 mod UnbuiltRows
+pub mod FirstPlaces
 mod Judged
 pub mod Counts
 pub mod SingleWrites

@@ -118,8 +118,5 @@ has_circuit p k e =
 
 -- no place of a pipe that is not refused has a form without circuit
 pub built_accepted : (p : Pipe) → first_broken (limits ++ after_limits) p ≡ None → IsBuilt p
-built_accepted p e F2 = has_circuit p 16 e
-built_accepted p e L4 = has_circuit p 23 e
-built_accepted p e S6 = has_circuit p 33 e
 built_accepted p e P1 = has_circuit p 35 e
 built_accepted p e _ = λ before x later same. refl

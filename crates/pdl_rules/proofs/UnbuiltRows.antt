@@ -1,4 +1,4 @@
--- Forms that have no circuit yet: the rules let each of these pipes pass, and it is refused; computed.
+-- A form that has no circuit yet: the rules let such a pipe pass, and it is refused; computed. And one that has its circuit: no rule refuses it.
 use Rattle.std.specs.Prelude.{◌≡◌, ℕ, List, [], ◌∷◌, Option, Some, None, refl}
 use Rattle.pdl_kit.specs.declared.rule.Rule.{Rule}
 use Rattle.pdl_kit.specs.declared.rule.Rule.TheVariants.{S6, P1}
@@ -26,8 +26,17 @@ updated =
 updated_judged : judged updated ≡ None
 updated_judged = refl
 
-updated_refused : refusal [] updated ≡ at_line S6 6
-updated_refused = refl
+updated_accepted : refusal [] updated ≡ None
+updated_accepted = refl
+
+-- one that breaks the rule of its subject is refused by it
+abbrev updated_at_once : Pipe
+updated_at_once =
+    short []
+    (spec_check ∷ spec_call "s" (variable "n" ∷ []) ∷ update "s" (variable "n" ∷ []) ∷ separator ∷ verify "s" (variable "n" ∷ []) ∷ [])
+
+updated_at_once_refused : refusal [] updated_at_once ≡ at_line S6 5
+updated_at_once_refused = refl
 
 -- an advisory memory
 abbrev advised : Pipe

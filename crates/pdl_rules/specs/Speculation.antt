@@ -117,6 +117,10 @@ breaks_s5 p before x =
 abbrev pub is_update : Place → Bool
 is_update x = at_statement false (λ s bs. updates (λ g. true) s) x
 
+-- U, none in a pipe without an `update`
+abbrev pub update_stage : Pipe → Option ℕ
+update_stage p = first_stage is_update [] (places p)
+
 -- whether a place is the `spec_call` of this guess
 abbrev pub is_guess_of : List ℕ → Place → Bool
 is_guess_of guess x = at_statement false (λ s bs. guesses (λ g. bytes_eq g.name guess) s) x

@@ -9,6 +9,7 @@ use Rattle.pdl_paths.specs.Masks.{AreMasked}
 use Rattle.pdl_rules_stages.specs.Stages.{stages_in}
 use Rattle.pdl_locks.specs.Facts.{AreFacts}
 use Rattle.pdl_locks.specs.Plan.{plan_of}
+use Rattle.pdl_spec.specs.Plan.{spec_plan}
 use Rattle.pdl_rules_judge.specs.declared.order.Known.{Known}
 use Rattle.pdl_rules_judge.specs.declared.order.Findings.{Findings}
 
@@ -22,10 +23,10 @@ pub record IsKnown (p : Pipe) (known : Known) : Type 0 where
   pub facts : AreFacts p known.places.now known.facts.now
   pub verified : known.verified ≡ verify_stage p
 
--- the guards, the variables, the stages, the plan of the locks and the stage of the verifies that were found are those of the pipe
+-- the guards, the variables, the stages, the plan of the locks and the stages of verifies and updates that were found are those of the pipe
 pub record AreFindings (p : Pipe) (found : Findings) : Type 0 where
   pub guards : found.guards ≡ guards (places p)
   pub variables : found.variables ≡ variables p
   pub stages : found.stages.items ≡ stages_in (places p)
   pub locks : found.plans.locks ≡ plan_of p
-  pub spec : found.plans.spec ≡ verify_stage p
+  pub spec : found.plans.spec ≡ spec_plan p

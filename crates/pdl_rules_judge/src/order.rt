@@ -5,12 +5,12 @@ ghost use Rattle.pdl_semantics.specs.Tree as tree;
 ghost use Rattle.pdl_syntax_tree.specs.View.{pipe_view};
 ghost use Rattle.pdl_rules.specs.Places.{places as spec_places};
 ghost use Rattle.pdl_rules.specs.Refusal.{Refused, first_broken, limits, after_limits};
-ghost use Rattle.pdl_rules.specs.Speculation.{verify_stage};
 ghost use Rattle.pdl_paths.specs.Actions.{place_view};
 ghost use Rattle.pdl_rules_names.specs.Order.{name_rules};
 ghost use Rattle.pdl_rules_widths.specs.Order.{width_rules};
 ghost use Rattle.pdl_locks.specs.Facts.{AreLines as AreLockLines};
 ghost use Rattle.pdl_locks.specs.Plan.{plan_of};
+ghost use Rattle.pdl_spec.specs.Plan.{spec_plan};
 ghost use Rattle.pdl_spec.specs.WalkLines.{AreLines as AreSpecLines};
 ghost use Rattle.pdl_rules_judge.specs.Known.{AreFindings, IsKnown};
 ghost use Rattle.pdl_rules_judge.specs.OrderedRules.{Answers, fork_rules, advice_rules, after_names, after_widths, after_forks, after_locks};
@@ -28,7 +28,7 @@ use pdl_spec::{SpecLines, SpecPlan, plan_spec, spec_path_rules};
 use pdl_syntax_tree::Pipe;
 use std::alloc::Global;
 
-/// What a pipe that keeps all rules is planned by: for each memory the stages of its reserves and releases, and the stage of the verifies.
+/// What a pipe that keeps all rules is planned by: for each memory the stages of its reserves and releases, and the stages of verifies and updates.
 #[derive(Drop)]
 pub struct Plans {
     pub locks: LockPlan,
@@ -115,7 +115,7 @@ fn from_names<'a>(alloc: Global, pipe: &'a Pipe, known: Known<'a, '_>) -> Result
     requires { IsKnown (pipe_view pipe.now) known }
     ensures answers { Answers after_limits (pipe_view pipe.now) result }
     ensures locks { IfOk result (λ plans. plans.locks ≡ plan_of (pipe_view pipe.now)) }
-    ensures spec { IfOk result (λ plans. plans.spec ≡ verify_stage (pipe_view pipe.now)) }
+    ensures spec { IfOk result (λ plans. plans.spec ≡ spec_plan (pipe_view pipe.now)) }
 {
     match ask_names(alloc, pipe, known) {
         Ok(()) => from_widths(alloc, pipe, known),
@@ -128,7 +128,7 @@ fn from_widths<'a>(alloc: Global, pipe: &'a Pipe, known: Known<'a, '_>) -> Resul
     requires { IsKnown (pipe_view pipe.now) known }
     ensures answers { Answers after_names (pipe_view pipe.now) result }
     ensures locks { IfOk result (λ plans. plans.locks ≡ plan_of (pipe_view pipe.now)) }
-    ensures spec { IfOk result (λ plans. plans.spec ≡ verify_stage (pipe_view pipe.now)) }
+    ensures spec { IfOk result (λ plans. plans.spec ≡ spec_plan (pipe_view pipe.now)) }
 {
     match ask_widths(pipe, known) {
         Ok(()) => from_forks(alloc, pipe, known),
@@ -141,7 +141,7 @@ fn from_forks<'a>(alloc: Global, pipe: &'a Pipe, known: Known<'a, '_>) -> Result
     requires { IsKnown (pipe_view pipe.now) known }
     ensures answers { Answers after_widths (pipe_view pipe.now) result }
     ensures locks { IfOk result (λ plans. plans.locks ≡ plan_of (pipe_view pipe.now)) }
-    ensures spec { IfOk result (λ plans. plans.spec ≡ verify_stage (pipe_view pipe.now)) }
+    ensures spec { IfOk result (λ plans. plans.spec ≡ spec_plan (pipe_view pipe.now)) }
 {
     match ask_forks(pipe, known) {
         Ok(()) => from_locks(alloc, pipe, known),
@@ -154,7 +154,7 @@ fn from_locks<'a>(alloc: Global, pipe: &'a Pipe, known: Known<'a, '_>) -> Result
     requires { IsKnown (pipe_view pipe.now) known }
     ensures answers { Answers after_forks (pipe_view pipe.now) result }
     ensures locks { IfOk result (λ plans. plans.locks ≡ plan_of (pipe_view pipe.now)) }
-    ensures spec { IfOk result (λ plans. plans.spec ≡ verify_stage (pipe_view pipe.now)) }
+    ensures spec { IfOk result (λ plans. plans.spec ≡ spec_plan (pipe_view pipe.now)) }
 {
     let Both { first, second } = path_lines(alloc, pipe, known)?;
     from_lines(alloc, pipe, known, &first, &second)
@@ -201,7 +201,7 @@ fn from_lines(
     requires calls { AreSpecLines (pipe_view pipe.now) on_calls.now }
     ensures answers { Answers after_forks (pipe_view pipe.now) result }
     ensures locks { IfOk result (λ plans. plans.locks ≡ plan_of (pipe_view pipe.now)) }
-    ensures spec { IfOk result (λ plans. plans.spec ≡ verify_stage (pipe_view pipe.now)) }
+    ensures spec { IfOk result (λ plans. plans.spec ≡ spec_plan (pipe_view pipe.now)) }
 {
     match plan_locks(alloc, pipe, known.places, known.facts, on_locks) {
         Ok(locks) => from_calls(pipe, known, on_calls, locks),
@@ -221,7 +221,7 @@ fn from_calls(
     requires locks { locks ≡ plan_of (pipe_view pipe.now) }
     ensures answers { Answers after_locks (pipe_view pipe.now) result }
     ensures locks { IfOk result (λ plans. plans.locks ≡ plan_of (pipe_view pipe.now)) }
-    ensures spec { IfOk result (λ plans. plans.spec ≡ verify_stage (pipe_view pipe.now)) }
+    ensures spec { IfOk result (λ plans. plans.spec ≡ spec_plan (pipe_view pipe.now)) }
 {
     match plan_spec(pipe, known.places, known.facts, known.verified, on_calls) {
         Ok(spec) => from_advice(pipe, known, Plans { locks, spec }),
@@ -233,10 +233,10 @@ fn from_calls(
 fn from_advice(pipe: &Pipe, known: Known<'_, '_>, plans: Plans) -> Result<Plans, Refusal>
     requires known { IsKnown (pipe_view pipe.now) known }
     requires locks { plans.locks ≡ plan_of (pipe_view pipe.now) }
-    requires spec { plans.spec ≡ verify_stage (pipe_view pipe.now) }
+    requires spec { plans.spec ≡ spec_plan (pipe_view pipe.now) }
     ensures answers { Answers advice_rules (pipe_view pipe.now) result }
     ensures locks { IfOk result (λ plans. plans.locks ≡ plan_of (pipe_view pipe.now)) }
-    ensures spec { IfOk result (λ plans. plans.spec ≡ verify_stage (pipe_view pipe.now)) }
+    ensures spec { IfOk result (λ plans. plans.spec ≡ spec_plan (pipe_view pipe.now)) }
 {
     match advice_broken(pipe, known.variables, known.places) {
         Some(broken) => Err(refusal_at(broken.rule, broken.line)),

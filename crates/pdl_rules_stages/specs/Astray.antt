@@ -2,16 +2,17 @@
 use Rattle.std.specs.Prelude.{◌≡◌, Bool, true, false, List}
 use Rattle.pdl_rules.specs.Places.{Place}
 use Rattle.pdl_rules.specs.Stages.{stage_of, is_elsewhere, breaks_l2}
-use Rattle.pdl_rules.specs.Speculation.{breaks_s3}
+use Rattle.pdl_rules.specs.Speculation.{breaks_s3, breaks_s7}
 use Rattle.pdl_rules_stages.specs.declared.first.SoughtPlace.{SoughtPlace}
 use Rattle.pdl_rules_stages.specs.declared.astray.Kinds.{Kinds}
-use Rattle.pdl_rules_stages.specs.declared.astray.Kinds.TheVariants.{Locks, Verifies}
+use Rattle.pdl_rules_stages.specs.declared.astray.Kinds.TheVariants.{Locks, Verifies, Updates}
 use Rattle.pdl_rules_stages.specs.Stages.{is_sought}
 
 -- whether a place breaks the rule on these statements, after these places
 abbrev pub is_astray : Kinds → List Place → Place → Bool
 is_astray Locks before x = breaks_l2 before x
 is_astray Verifies before x = breaks_s3 before x
+is_astray Updates before x = breaks_s7 before x
 
 -- a place that the rule asks nothing
 abbrev pub IsUnasked : Kinds → Place → Type 0

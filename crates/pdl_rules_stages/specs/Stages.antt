@@ -2,9 +2,9 @@
 use Rattle.std.specs.Prelude.{ℕ, Bool, true, List, []}
 use Rattle.pdl_rules.specs.Places.{Place}
 use Rattle.pdl_rules.specs.Stages.{stages_that, reserves_memory, releases_memory}
-use Rattle.pdl_rules.specs.Speculation.{is_verify}
+use Rattle.pdl_rules.specs.Speculation.{is_verify, is_update}
 use Rattle.pdl_rules_stages.specs.declared.first.SoughtPlace.{SoughtPlace}
-use Rattle.pdl_rules_stages.specs.declared.first.SoughtPlace.TheVariants.{Reserve, Release, Verify}
+use Rattle.pdl_rules_stages.specs.declared.first.SoughtPlace.TheVariants.{Reserve, Release, Verify, Update}
 
 -- each place, as a test that all pass
 abbrev pub each : Place → Bool
@@ -19,3 +19,4 @@ abbrev pub is_sought : SoughtPlace → Place → Bool
 is_sought (Reserve m) x = reserves_memory m.now x
 is_sought (Release m) x = releases_memory m.now x
 is_sought Verify x = is_verify x
+is_sought Update x = is_update x

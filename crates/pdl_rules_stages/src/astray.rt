@@ -1,4 +1,4 @@
-// Statements that stand in another stage than the first of their kind: rules L2 and S3.
+// Statements that stand in another stage than the first of their kind: rules L2, S3 and S7.
 ghost use Rattle.std.specs.Prelude.{◌≡◌, ◌<◌, ◌==◌, [], map, length, not, MatchOption};
 ghost use Rattle.pdl_rules.specs.Parts.{is_some_and};
 ghost use Rattle.pdl_paths.specs.Actions.{place_view};
@@ -11,14 +11,15 @@ use crate::first::{SoughtPlace, first_stage};
 use crate::stages::stage_at;
 use pdl_paths::{Action, Place};
 
-/// Which statements are asked: reserves and releases, of which those of one memory stand in one stage, or verifies, all in one.
+/// Which statements are asked: reserves and releases, of which those of one memory stand in one stage, or verifies, all in one, or updates, all in one.
 #[derive(Clone, Copy)]
 pub enum Kinds {
     Locks,
     Verifies,
+    Updates,
 }
 
-/// The line of the lowest of them that stands in another stage than the first of its kind, by L2 or by S3. The stages are those of the places.
+/// The line of the lowest of them that stands in another stage than the first of its kind, by L2, by S3 or by S7. The stages are those of the places.
 pub fn astray_line(places: &[Place<'_>], stages: &[usize], kinds: Kinds) -> Option<u32>
     requires { stages.now ≡ stages_in (map place_view places.now) }
     ensures { result ≡ line_where (spec_is_astray kinds) [] (map place_view places.now) }
@@ -59,6 +60,7 @@ fn sought_at<'a>(kinds: Kinds, place: &Place<'a>) -> Option<SoughtPlace<'a>>
     match kinds {
         Kinds::Locks => lock_at(place),
         Kinds::Verifies => verify_at(place),
+        Kinds::Updates => update_at(place),
     }
 }
 
@@ -88,6 +90,21 @@ fn verify_at<'a>(place: &Place<'a>) -> Option<SoughtPlace<'a>>
         Action::Write(_, _) | Action::SpecCall(_, _) | Action::Block(_) => None,
         Action::If(_, _, _) | Action::Call(_) | Action::Reserve(_, _) => None,
         Action::Release(_) | Action::Update(_, _) | Action::SpecCheck => None,
+        Action::SpecBarrier | Action::End | Action::StartClause(_) => None,
+    }
+}
+
+fn update_at<'a>(place: &Place<'a>) -> Option<SoughtPlace<'a>>
+    ensures { MatchOption result (IsUnasked asked.Updates (place_view place.now)) (λ sought.
+        IsAsked asked.Updates sought (place_view place.now)) }
+{
+    match place.action {
+        Action::Update(_, _) => Some(SoughtPlace::Update),
+        Action::Parameter(_) | Action::Memory(_) | Action::Separator => None,
+        Action::CombRead(_, _) | Action::Bind(_, _) | Action::DelayedRead(_, _) => None,
+        Action::Write(_, _) | Action::SpecCall(_, _) | Action::Block(_) => None,
+        Action::If(_, _, _) | Action::Call(_) | Action::Reserve(_, _) => None,
+        Action::Release(_) | Action::Verify(_, _) | Action::SpecCheck => None,
         Action::SpecBarrier | Action::End | Action::StartClause(_) => None,
     }
 }

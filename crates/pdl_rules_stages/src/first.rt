@@ -9,12 +9,13 @@ use crate::stages::stage_at;
 use pdl_kit::Name;
 use pdl_paths::{Action, Place};
 
-/// A kind of place: those that reserve a memory, those that release it, or those that verify a guess.
+/// A kind of place: those that reserve a memory, those that release it, those that verify a guess, or those that update one.
 #[derive(Clone, Copy)]
 pub enum SoughtPlace<'a> {
     Reserve(&'a Name),
     Release(&'a Name),
     Verify,
+    Update,
 }
 
 /// The stage of the first place of a kind, none where the text has no such place. The stages are those of the places.
@@ -38,6 +39,7 @@ pub fn is_of(place: &Place<'_>, sought: SoughtPlace<'_>) -> bool
         SoughtPlace::Reserve(name) => is_reserve_of(place, name),
         SoughtPlace::Release(name) => is_release_of(place, name),
         SoughtPlace::Verify => is_verify(place),
+        SoughtPlace::Update => is_update(place),
     }
 }
 
@@ -80,6 +82,21 @@ fn is_verify(place: &Place<'_>) -> bool
         Action::Write(_, _) | Action::SpecCall(_, _) | Action::Reserve(_, _) => false,
         Action::Block(_) | Action::Release(_) | Action::If(_, _, _) | Action::Call(_) => false,
         Action::Update(_, _) | Action::SpecCheck | Action::SpecBarrier => false,
+        Action::End | Action::StartClause(_) => false,
+    }
+}
+
+/// Whether a place is an `update`.
+pub fn is_update(place: &Place<'_>) -> bool
+    ensures { result ≡ speculation.is_update (place_view place.now) }
+{
+    match place.action {
+        Action::Update(_, _) => true,
+        Action::Parameter(_) | Action::Memory(_) | Action::Separator => false,
+        Action::CombRead(_, _) | Action::Bind(_, _) | Action::DelayedRead(_, _) => false,
+        Action::Write(_, _) | Action::SpecCall(_, _) | Action::Reserve(_, _) => false,
+        Action::Block(_) | Action::Release(_) | Action::If(_, _, _) | Action::Call(_) => false,
+        Action::Verify(_, _) | Action::SpecCheck | Action::SpecBarrier => false,
         Action::End | Action::StartClause(_) => false,
     }
 }

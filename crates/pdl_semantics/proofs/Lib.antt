@@ -9,6 +9,8 @@ mod SoundRows
 pub mod Readiness
 pub mod Facts
 pub mod Updates
+pub mod UpdateFree
 pub mod SecondWrites
 pub mod Advice
 pub mod AdviceApart
+pub mod SquashStages

@@ -204,6 +204,11 @@ guess_updated_wrong : run_lines (updated 3) (zeros ∷ []) (idle 8) ≡ codes "4
 unfolding digits add slice zext
 guess_updated_wrong = refl
 
+-- an update to the present guess: nothing is squashed by it
+guess_updated_alike : run_lines (updated 1) (zeros ∷ []) (idle 8) ≡ codes "4 m 0 00\n8 m 2 02\nend cycles 8 ended 2 waits 0 squashes 2\n"
+unfolding digits add slice zext
+guess_updated_alike = refl
+
 updated_viewed : view_lines (updated 3) (zeros ∷ []) (idle 8) ≡ codes "1 M...\n2 SM..\n3 M.M.\n4 SS.M\n5 M...\n6 SM..\n7 M.M.\n8 SS.M\n"
 unfolding digits add slice zext
 updated_viewed = refl

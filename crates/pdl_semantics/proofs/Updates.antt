@@ -12,6 +12,17 @@ update_idle (Verify true args) r h = absurd (cc h)
 update_idle (Verify false args) r h = refl
 update_idle _ r h = absurd (cc h)
 
+-- of two lists, one after the other, the updates are left out of each
+pub both_left : (xs ys : List Stmt) → without_updates (xs ++ ys) ≡ without_updates xs ++ without_updates ys
+both_left [] ys = refl
+both_left (x ∷ xs) ys = at (is_update x.op) (both_left xs ys)
+  where
+    at : (u : Bool) → without_updates (xs ++ ys) ≡ without_updates xs ++ without_updates ys
+        → (if u then without_updates (xs ++ ys) else x ∷ without_updates (xs ++ ys))
+        ≡ (if u then without_updates xs else x ∷ without_updates xs) ++ without_updates ys
+    at true e = e
+    at false e = ap (λ zs. x ∷ zs) e
+
 run_alike : (xs : List Stmt) (r : Run) → run_all (without_updates xs) r ≡ run_all xs r
 run_alike [] r = refl
 run_alike (x ∷ xs) r = at (is_update x.op) refl (run_alike xs r) (run_alike xs (if all_hold x.guards r.env then run_after x.op r else r))

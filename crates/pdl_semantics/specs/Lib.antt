@@ -13,4 +13,5 @@ pub mod Promises
 pub mod Sound
 pub mod PendingLists
 pub mod Updates
+pub mod UpdateFree
 pub mod SecondWrites

@@ -1,6 +1,7 @@
 -- A pipe without its updates, which replace a guess by a better one: it does the same, only later.
-use Rattle.std.specs.Prelude.{◌≡◌, ℕ, Bool, false, not, List, [], ◌∷◌, if◌then◌else◌}
+use Rattle.std.specs.Prelude.{◌≡◌, ℕ, Bool, false, not, List, [], ◌∷◌, ◌++◌, Option, Some, None, if◌then◌else◌, nat_lt}
 use Rattle.pdl_semantics.specs.Flat.{Arrays, Op, Bind, CombRead, DelayedRead, Write, ReserveRead, ReserveWrite, Block, Release, Call, SpecCall, Verify, SpecCheck, SpecBarrier, AdviceBind, AdviceRead, AdviceWrite, Stmt, Pipe, Commit}
+use Rattle.pdl_semantics.specs.Stages.{verify_stage}
 use Rattle.pdl_semantics.specs.Sequential.{seqwrites}
 use Rattle.pdl_semantics.specs.Cycle.{turns, commits}
 use Rattle.pdl_semantics.specs.Promises.{IsPrefix}
@@ -23,6 +24,30 @@ is_update SpecBarrier = false
 is_update (AdviceBind x e) = false
 is_update (AdviceRead x m a) = false
 is_update (AdviceWrite m a e) = false
+
+-- the stage of the first `update`, where there is one
+abbrev pub first_update : List Stmt → Option ℕ
+first_update [] = None
+first_update (x ∷ xs) = if is_update x.op then Some x.stage else first_update xs
+
+-- the second one of two stages, where it is before the first one
+abbrev pub earlier : Option ℕ → Option ℕ → Option ℕ
+earlier None u = None
+earlier (Some v) None = None
+earlier (Some v) (Some u) = if nat_lt u v then Some u else None
+
+-- U as the stage of the first `update`, where that is before V; elsewhere an update stands on no path
+abbrev pub update_stage : List Stmt → Option ℕ
+update_stage xs = earlier (verify_stage xs) (first_update xs)
+
+-- a stage as a list, where there is one
+abbrev pub listed : Option ℕ → List ℕ
+listed None = []
+listed (Some s) = s ∷ []
+
+-- the stages in which a thread may squash: V and U
+abbrev pub squash_stages : List Stmt → List ℕ
+squash_stages xs = listed (verify_stage xs) ++ listed (update_stage xs)
 
 -- the statements but for the updates
 abbrev pub without_updates : List Stmt → List Stmt

@@ -3,7 +3,7 @@ use Rattle.std.proofs.Common.{◌≡◌, refl, sym, ap, subst, ◌∙◌, ℕ, s
 use Rattle.std.specs.Prelude.{⊤}
 use Rattle.pdl_semantics.specs.Tree.{Span, Expr, Constant, Variable, Slice, Not, Binary, Cat, LessSigned, ZeroExtend, SignExtend, Choose, Stmt, If, Stmts, Nil}
 use Rattle.pdl_syntax_tokens.specs.Tokens.{Row}
-use Rattle.pdl_syntax_grammar.specs.Grammar.{across, prepend, Item, separating, reading, binding, guessing, fetching, writing, reserving, acquiring, blocking, releasing, branching, choosing, calling, verifying, checking, barring, Items, none, more}
+use Rattle.pdl_syntax_grammar.specs.Grammar.{across, prepend, Item, separating, reading, binding, guessing, fetching, writing, reserving, acquiring, blocking, releasing, branching, choosing, calling, verifying, updating, checking, barring, Items, none, more}
 use Rattle.pdl_rules.specs.Places.{Place, Branch, guard_of, with_inner, statements}
 use Rattle.pdl_rules.specs.Names.{OfVariable, defines_use}
 use Rattle.pdl_source_paths.specs.Source.{own_start, start_of}
@@ -75,6 +75,7 @@ mutual
       (later 2 (after_full _ _ _ v m (later 1 (sooner m low (rest h))))))
   item_ordered ss a r (calling v) bs xs f n h = (refl, f n (later 1 (after_args _ _ _ _ v n (later 2 h))))
   item_ordered ss a r (verifying v) bs xs f n h = (refl, f n (later 1 (after_args _ _ _ _ v n (later 4 h))))
+  item_ordered ss a r (updating v) bs xs f n h = (refl, f n (later 1 (after_args _ _ _ _ v n (later 4 h))))
   item_ordered ss a r checking bs xs f n h = (refl, f n (later 4 h))
   item_ordered ss a r barring bs xs f n h = (refl, f n (later 4 h))
 

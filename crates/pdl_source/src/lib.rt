@@ -10,6 +10,7 @@ ghost use Rattle.pdl_semantics.specs.Tree.{Pipe};
 ghost use Rattle.pdl_semantics.specs.Flat.{Arrays};
 ghost use Rattle.pdl_semantics.specs.Flatten.{flat};
 ghost use Rattle.pdl_semantics.specs.Promises.{Refines, Advances, KeepsPace, DifferInAdvice, AdviceIsIdle};
+ghost use Rattle.pdl_semantics.specs.UpdateFree.{UpdatesAreIdle};
 ghost use Rattle.pdl_semantics.specs.Cycle.{first, state_after, turns, ended_in};
 ghost use Rattle.pdl_semantics.specs.Sound.{is_sound};
 ghost use Rattle.pdl_syntax_grammar.specs.Text.{IsText};
@@ -38,7 +39,7 @@ pub fn facts()
     pdl_source_strict::strict();
 }
 
-/// The promises of each text that keeps the rules, with guards, any locks, guesses, delayed reads and forks: each run commits what the sequential run writes, the oldest thread moves, enough threads end, and the machine that the proofs use, whose threads are given what they guess, has the same ports and waits. What advisory memories hold changes no write.
+/// The promises of each text that keeps the rules, with guards, any locks, guesses, delayed reads and forks: each run commits what the sequential run writes, the oldest thread moves, enough threads end, and the machine that the proofs use, whose threads are given what they guess, has the same ports and waits. What advisory memories hold changes no write, nor do updates: the source without them writes the same, only later.
 pub fn promises()
     ensures refines { (text : List ℕ) (p : Pipe) → IsText text p → KeepsRules p →
         (image : Arrays) (schedule : List (List Bool)) → Refines (flat p) image schedule }
@@ -54,6 +55,9 @@ pub fn promises()
     ensures advice { (text : List ℕ) (p : Pipe) → IsText text p → KeepsRules p →
         (image other : Arrays) (schedule replies : List (List Bool)) →
         DifferInAdvice (flat p) image other → AdviceIsIdle (flat p) image other schedule replies }
+    ensures updates { (text : List ℕ) (p : Pipe) → IsText text p → KeepsRules p →
+        (image : Arrays) (schedule replies : List (List Bool)) →
+        UpdatesAreIdle p image schedule replies }
 {
     trees();
     accepted();

@@ -5,13 +5,14 @@ ghost use Rattle.pdl_semantics.specs.Flat.{Arrays};
 ghost use Rattle.pdl_semantics.specs.Flatten.{flat};
 ghost use Rattle.pdl_semantics.specs.Lines.{run_lines, sequential_lines};
 ghost use Rattle.pdl_semantics.specs.Promises.{Refines, Advances, KeepsPace, DifferInAdvice, AdviceIsIdle};
+ghost use Rattle.pdl_semantics.specs.UpdateFree.{UpdatesAreIdle, without_update};
 ghost use Rattle.pdl_semantics.specs.Cycle.{first, turns};
 ghost use Rattle.pdl_rules.specs.Refusal.{KeepsRules, is_one_stage};
 ghost use Rattle.pdl_theory_derived.specs.Derived;
 ghost use Rattle.pdl_theory_derived.specs.Simulation.{SameTurns, hints_of};
 ghost use Rattle.pdl_source_paths.specs.Source.{is_source, is_named};
 
-/// All accepted pipes, with guards, any locks, guesses, delayed reads and forks: each run commits what the sequential run writes, the oldest thread moves, enough threads end, and the machine that the proofs use, whose threads are given what they guess, has the same ports and waits. What advisory memories hold changes no write.
+/// All accepted pipes, with guards, any locks, guesses, delayed reads and forks: each run commits what the sequential run writes, the oldest thread moves, enough threads end, and the machine that the proofs use, whose threads are given what they guess, has the same ports and waits. What advisory memories hold changes no write, nor do updates: the source without them breaks no rule, and writes the same, only later.
 pub fn accepted()
     ensures refines { (p : Pipe) → KeepsRules p → IsTrue (is_source p) → IsTrue (is_named p) →
         (image : Arrays) (schedule : List (List Bool)) → Refines (flat p) image schedule }
@@ -27,6 +28,10 @@ pub fn accepted()
     ensures advice { (p : Pipe) → KeepsRules p → IsTrue (is_source p) → IsTrue (is_named p) →
         (image other : Arrays) (schedule replies : List (List Bool)) →
         DifferInAdvice (flat p) image other → AdviceIsIdle (flat p) image other schedule replies }
+    ensures updates { (p : Pipe) → KeepsRules p → IsTrue (is_source p) → IsTrue (is_named p) →
+        (image : Arrays) (schedule replies : List (List Bool)) →
+        UpdatesAreIdle p image schedule replies }
+    ensures free { (p : Pipe) → KeepsRules p → KeepsRules (without_update p) }
 {}
 
 /// Accepted pipes of one stage: the lines of each run are those of the sequential run.

@@ -30,7 +30,7 @@ mutual
       ∙ sym (length-append (statements (cs ++ branch sp c true when ∷ []) when) (statements (cs ++ branch sp c false otherwise ∷ []) otherwise)))
   long_in bs cs _ = refl
 
-  long_all : (bs cs : List Branch) (ss : Stmts) → length (statements bs ss) ≡ length (statements cs ss)
+  pub long_all : (bs cs : List Branch) (ss : Stmts) → length (statements bs ss) ≡ length (statements cs ss)
   long_all bs cs Nil = refl
   long_all bs cs (Cons s ss) =
       length-append (with_inner bs s) (statements bs ss) ∙ ap₂ (λ a b. a + b) (long_in bs cs s) (long_all bs cs ss)
@@ -46,7 +46,8 @@ after_is p before x later e =
     let h : suc (length before) ≡ length (before ++ x ∷ []) = omega arith in h)
     ∙ drop-append_seam (before ++ x ∷ []) later
 
-drop_front : (xs ys : List Place) (n : ℕ) → n ≡ length xs → drop n (xs ++ ys) ≡ ys
+-- past the first of two lists comes the second
+pub drop_front : (xs ys : List Place) (n : ℕ) → n ≡ length xs → drop n (xs ++ ys) ≡ ys
 drop_front xs ys n e = ap (λ k. drop k (xs ++ ys)) e ∙ drop-append_seam xs ys
 
 -- an `if` that is no fork begins no stage

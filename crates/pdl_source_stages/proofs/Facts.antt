@@ -11,6 +11,7 @@ use Rattle.pdl_source_stages.specs.StageFacts.{StageFacts, FoundIf, AllFound}
 use Rattle.pdl_source_stages.proofs.SiteFacts.{each_in_stage}
 use Rattle.pdl_source_stages.proofs.Trunks
 use Rattle.pdl_source_stages.proofs.Homes
+use Rattle.pdl_source_stages.proofs.UpdateStages.{updates_in}
 use Rattle.pdl_source_stages.proofs.ForkFacts
 use Rattle.pdl_word.specs.Each.{Each}
 
@@ -54,6 +55,7 @@ module _ (p : Pipe) (rules : KeepsRules p) where
     reserves = Homes.reserves_in p rules;
     releases = Homes.releases_in p rules;
     verifies = Homes.verifies_in p rules;
+    updates = updates_in p rules;
     verify_inside = Trunks.verify_low p rules;
     unreserved = Homes.unreserved p rules;
     unreleased = Homes.unreleased p rules;

@@ -11,6 +11,7 @@ pub mod SiteFacts
 pub mod Trunks
 pub mod Firsts
 pub mod Homes
+pub mod UpdateStages
 pub mod ForkSites
 pub mod ForkVars
 pub mod ForkFacts

@@ -1,5 +1,5 @@
 -- What holds at each site of a source that breaks no rule, and how facts of sites become facts of the flat statements.
-use Rattle.std.proofs.Common.{◌≡◌, refl, sym, ap, ◌∙◌, subst, ℕ, ◌+◌, ◌<◌, Bool, true, false, ◌||◌, not, List, [], ◌∷◌, ◌++◌, length, Option, Some, None, arith, if◌then◌else◌, ◌==◌, eq-eqb, eqb-true}
+use Rattle.std.proofs.Common.{◌≡◌, refl, sym, ap, ◌∙◌, subst, ℕ, ◌<◌, Bool, true, false, ◌||◌, not, List, [], ◌∷◌, ◌++◌, length, Option, Some, None, arith, if◌then◌else◌, ◌==◌, eq-eqb, eqb-true}
 use Rattle.std.proofs.lemmas.Bool.{false≢true, and_from}
 use Rattle.pdl_semantics.specs.Tree.{Variable, Stmt, Separator, CombRead, Bind, SpecCall, DelayedRead, Write, Reserve, Block, Release, If, Call, Verify, Update, SpecCheck, SpecBarrier, Mem, Pipe}
 use Rattle.pdl_semantics.specs.Flat

@@ -1,5 +1,5 @@
 -- The stage of a flat statement is the one that the rules speak of: that of the last separator before its place whose branches it stands in too.
-use Rattle.std.proofs.Common.{◌≡◌, refl, sym, ◌∙◌, subst, suc, ◌+◌, Bool, true, false, ◌&&◌, ◌||◌, List, [], ◌∷◌, ◌++◌, arith}
+use Rattle.std.proofs.Common.{◌≡◌, refl, sym, ◌∙◌, subst, suc, Bool, true, false, ◌&&◌, ◌||◌, List, [], ◌∷◌, ◌++◌, arith}
 use Rattle.std.proofs.lemmas.Bool.{and_parts}
 use Rattle.pdl_semantics.specs.Tree.{Span, Stmt, Separator, If, Stmts, Nil, Cons, Mem, Pipe}
 use Rattle.pdl_semantics.specs.Flat

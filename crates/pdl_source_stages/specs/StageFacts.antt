@@ -2,6 +2,7 @@
 use Rattle.std.specs.Prelude.{◌≡◌, ℕ, suc, ◌≤◌, ◌<◌, true, false, List, [], ◌∷◌, Some, length, nat_lt}
 use Rattle.pdl_semantics.specs.Flat.{list_all, Op, Bind, CombRead, DelayedRead, Write, ReserveRead, ReserveWrite, Block, Release, Call, SpecCall, Verify, SpecCheck, SpecBarrier, AdviceBind, AdviceRead, AdviceWrite, Stmt, Branch, Forks, Pipe}
 use Rattle.pdl_semantics.specs.Stages.{is_inside, is_reserve, is_release, is_verify, onpath, in_stage, stage_at, verify_stage, commit_stage, reserve_stage}
+use Rattle.pdl_semantics.specs.Updates.{is_update, first_update}
 use Rattle.pdl_semantics.specs.Cycle.{merges_by}
 use Rattle.pdl_semantics.specs.Promises.{KeepsAdvice}
 use Rattle.pdl_theory_derived.specs.Alone.{before}
@@ -46,10 +47,11 @@ pub record StageFacts (p : Pipe) : Type 0 where
   pub unmerged : (v f b : ℕ) → v < length p.stages → Trunk p v → is_inside p f b ≡ true → merges_by p f (Some v) ≡ false → v ≤ f
   -- statements stand in the pipe's stages
   pub inside : list_all (λ y. nat_lt y.stage (length p.stages)) p.stmts ≡ true
-  -- L2, S3: a memory's reserves stand in one stage, its releases too, and so do the verifies
+  -- L2, S3, S7: a memory's reserves stand in one stage, its releases too, and so do the verifies and the updates
   pub reserves : (m : ℕ) → all_at (is_reserve m) (reserve_stage p m) p.stmts ≡ true
   pub releases : (m : ℕ) → all_at (is_release m) (commit_stage p m) p.stmts ≡ true
   pub verifies : (v : ℕ) → verify_stage p.stmts ≡ Some v → all_at is_verify v p.stmts ≡ true
+  pub updates : (u : ℕ) → first_update p.stmts ≡ Some u → all_at is_update u p.stmts ≡ true
   pub verify_inside : (v : ℕ) → verify_stage p.stmts ≡ Some v → v < length p.stages
   -- N1: only memories that are there are reserved and released
   pub unreserved : (m : ℕ) → length p.mems ≤ m → none_of (is_reserve m) p.stmts ≡ true

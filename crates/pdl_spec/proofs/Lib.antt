@@ -1,5 +1,3 @@
 mod SingleNumber
 mod PathlessParts
-mod Updates
-mod FirstStages
 mod Guesses

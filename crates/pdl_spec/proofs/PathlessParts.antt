@@ -2,7 +2,7 @@
 use Rattle.std.proofs.Common.{◌≡◌, refl, ap, ◌∙◌, ℕ, Bool, true, false, not, ◌&&◌, ◌||◌, List, [], ◌∷◌, filter, Option}
 use Rattle.std.specs.List.{list_any}
 use Rattle.std.proofs.Math.Bool.{and-false}
-use Rattle.pdl_kit.specs.declared.rule.Rule.TheVariants.{S4, S5}
+use Rattle.pdl_kit.specs.declared.rule.Rule.TheVariants.{S4, S5, S6}
 use Rattle.pdl_semantics.specs.Tree.{Pipe}
 use Rattle.pdl_rules.specs.Places.{Guard, on_path, guards, places, paths}
 use Rattle.pdl_rules.specs.Stages.{stage_of}
@@ -12,6 +12,7 @@ use Rattle.pdl_rules_on_paths.specs.Lowest.{line_where, on_some}
 use Rattle.pdl_rules_on_paths.proofs.Lines.{rule_lines, same_lines}
 use Rattle.pdl_spec.specs.Sure.{is_before, breaks_sure}
 use Rattle.pdl_spec.specs.Checked.{breaks_checked}
+use Rattle.pdl_spec.specs.Updated.{breaks_updated}
 
 none : (f : List Guard → Bool) (ps : List (List Guard)) → list_any (λ p. f p && false) ps ≡ false
 none f [] = refl
@@ -46,3 +47,9 @@ checked_lines p verified e =
     (λ path. not (is_checked path before (stage_of before x))) (paths p))
     [] (places p)
     ∙ rule_lines S5 p [] (places p)
+
+-- the first line that breaks S6 is the same where a rule with the verifies' stage is asked path by path
+pub updated_lines : (p : Pipe) (verified : Option ℕ)
+    → verified ≡ verify_stage p
+    → line_where (on_some (breaks_updated verified) (guards (places p))) [] (places p) ≡ broken_line S6 p [] (places p)
+updated_lines p verified e = ap (λ v. line_where (on_some (breaks_updated v) (guards (places p))) [] (places p)) e ∙ rule_lines S6 p [] (places p)

@@ -1,9 +1,7 @@
 -- The lines of the rules on calls and guesses, as one walk gives them.
-use Rattle.std.specs.Prelude.{◌≡◌, ℕ, [], Option}
+use Rattle.std.specs.Prelude.{ℕ, Option}
 use Rattle.pdl_kit.specs.declared.rule.Rule.TheVariants.{S1, S2, S4, S5, S6}
 use Rattle.pdl_semantics.specs.Tree.{Pipe}
-use Rattle.pdl_rules.specs.Places.{places}
-use Rattle.pdl_rules.specs.Refusal.{breaks_rule, line_by}
 use Rattle.pdl_rules_walk.specs.declared.both.Both.{Both}
 use Rattle.pdl_locks.specs.Facts.{IsLine}
 use Rattle.pdl_spec.specs.declared.lines.SpecLines.{SpecLines}
@@ -22,10 +20,10 @@ named_lines lines = record {
   updated_once = lines.second;
 }
 
--- the lines of the five rules are those at which the pipe breaks them; by S6 without the updates that lack a circuit
+-- the lines of the five rules are those at which the pipe breaks them
 pub record AreLines (p : Pipe) (lines : SpecLines) : Type 0 where
   pub one_call : IsLine p S1 lines.one_call
   pub verified_once : IsLine p S2 lines.verified_once
   pub released_sure : IsLine p S4 lines.released_sure
   pub checked_first : IsLine p S5 lines.checked_first
-  pub updated_once : lines.updated_once ≡ line_by breaks_rule S6 p [] (places p)
+  pub updated_once : IsLine p S6 lines.updated_once

@@ -9,11 +9,10 @@ ghost use Rattle.pdl_paths.specs.Masks.{AreMasked};
 ghost use Rattle.pdl_locks.specs.Plan.{Tells};
 ghost use Rattle.pdl_locks.specs.Facts.{AreFacts};
 ghost use Rattle.pdl_spec.specs.WalkLines.{AreLines};
-ghost use Rattle.pdl_spec.specs.Plan.{spec_rules};
+ghost use Rattle.pdl_spec.specs.Plan.{spec_rules, spec_plan};
 
 use crate::lines::{SpecLines, spec_path_rules};
 use crate::plan::SpecPlan;
-use crate::updated::{apart_line, update_line};
 use pdl_kit::{NoMemory, Refusal, Rule};
 use pdl_locks::{LockFacts, refuse};
 use pdl_paths::{Guards, Place};
@@ -22,7 +21,7 @@ use pdl_rules_walk::broken_lines;
 use pdl_syntax_tree::Pipe;
 use std::alloc::Global;
 
-/// The stage that verifies the guesses of a pipe that keeps the rules on calls and guesses, S1 to S7; else the lowest that it breaks, at its lowest place.
+/// The stages that verify and update the guesses of a pipe that keeps the rules on calls and guesses, S1 to S7; else the lowest that it breaks, at its lowest place.
 ///
 /// The guards are those of the places, at most ten, and the places are those of the pipe, with their masks.
 pub fn check_spec(
@@ -37,7 +36,7 @@ pub fn check_spec(
     requires of { map place_view places.now ≡ spec_places (pipe_view pipe.now) }
     ensures { MatchResult result (λ plan.
         (first_broken spec_rules (pipe_view pipe.now) ≡ None)
-        × (plan ≡ verify_stage (pipe_view pipe.now))) (Tells spec_rules (pipe_view pipe.now)) }
+        × (plan ≡ spec_plan (pipe_view pipe.now))) (Tells spec_rules (pipe_view pipe.now)) }
 {
     let facts = LockFacts::of(alloc, pipe, places)?;
     let verified = first_stage(places, facts.stages.as_slice(), SoughtPlace::Verify);
@@ -81,7 +80,7 @@ pub fn plan_spec(
     requires lines { AreLines (pipe_view pipe.now) lines.now }
     ensures { MatchResult result
         (λ plan. (first_broken spec_rules (pipe_view pipe.now) ≡ None)
-        × (plan ≡ verify_stage (pipe_view pipe.now)))
+        × (plan ≡ spec_plan (pipe_view pipe.now)))
         (Tells spec_rules (pipe_view pipe.now)) }
 {
     refuse(Rule::S1, lines.one_call)?;
@@ -90,8 +89,10 @@ pub fn plan_spec(
     refuse(Rule::S3, astray_line(places, stages, Kinds::Verifies))?;
     refuse(Rule::S4, lines.released_sure)?;
     refuse(Rule::S5, lines.checked_first)?;
-    refuse(Rule::S6, update_line(places))?;
     refuse(Rule::S6, lines.updated_once)?;
-    refuse(Rule::S7, apart_line(places, stages))?;
-    Ok(SpecPlan::new(verified))
+    refuse(Rule::S7, astray_line(places, stages, Kinds::Updates))?;
+    Ok(SpecPlan {
+        verified,
+        updated: first_stage(places, stages, SoughtPlace::Update),
+    })
 }

@@ -1,4 +1,4 @@
-//! The rules on calls and guesses, S1 to S7, and the stage that verifies guesses; S3 and S7 are asked of the text, and that no `update` has a circuit yet, the others on each path.
+//! The rules on calls and guesses, S1 to S7, and the stages that verify and update guesses; S3 and S7 are asked of the text, the others on each path.
 //!
 //! The layers above may use `check_spec` and `SpecPlan`, and for a walk with further rules `spec_path_rules`, `SpecLines` and `plan_spec`.
 #![tactic(auto)]
@@ -9,7 +9,6 @@ pub mod lines;
 pub mod one_call;
 pub mod plan;
 pub mod sure;
-pub mod updated;
 pub mod updated_once;
 pub mod verified;
 

@@ -39,7 +39,7 @@ pub struct SpecLines {
     pub released_sure: Option<u32>,
     /// S5.
     pub checked_first: Option<u32>,
-    /// S6 by itself: that no `update` has a circuit yet is asked of the text.
+    /// S6.
     pub updated_once: Option<u32>,
 }
 

@@ -1,34 +1,25 @@
-// The stage that verifies guesses.
+// The stages that verify and update guesses.
 ghost use Rattle.std.specs.Prelude.{◌≡◌};
 
-use std::marker::Model;
-
-/// The stage in which a pipe verifies its guesses.
-#[derive(Drop)]
+/// The stages in which a pipe verifies its guesses and in which it updates them.
+#[derive(Clone, Copy)]
 pub struct SpecPlan {
-    verified: Option<usize>,
-}
-
-impl Model for SpecPlan {
-    ghost use Rattle.std.specs.Prelude.{ℕ, Option};
-
-    ghost Value = { Option ℕ };
-
-    ghost view = { λ s. s.verified };
+    pub(crate) verified: Option<usize>,
+    pub(crate) updated: Option<usize>,
 }
 
 impl SpecPlan {
-    /// The plan of a pipe whose first `verify` in the text stands in this stage.
-    pub fn new(verified: Option<usize>) -> SpecPlan
-        ensures { result ≡ verified }
-    {
-        SpecPlan { verified }
-    }
-
     /// The stage that verifies guesses, none where nothing does.
     pub fn verified(&self) -> Option<usize>
-        ensures { result ≡ self.now }
+        ensures { result ≡ self.now.verified }
     {
         self.verified
+    }
+
+    /// The stage that updates guesses, none exactly where the text has no `update`.
+    pub fn updated(&self) -> Option<usize>
+        ensures { result ≡ self.now.updated }
+    {
+        self.updated
     }
 }

@@ -7,11 +7,10 @@ ghost use Rattle.pdl_paths.specs.Actions.{place_view};
 ghost use Rattle.pdl_rules_stages.specs.Stages.{stages_in};
 ghost use Rattle.pdl_spec.specs.Updated.{AreGuessed, breaks_updated, passed_over, stages_of};
 
-use crate::updated::is_update;
 use pdl_kit::{Name, NoMemory};
 use pdl_paths::{Action, Path, Place};
 use pdl_rules_on_paths::PathRule;
-use pdl_rules_stages::stage_at;
+use pdl_rules_stages::{is_update, stage_at};
 use std::alloc::Global;
 
 /// A path has one `update`, in a later stage than its guess's `spec_call` and in a stage before the one that verifies guesses.

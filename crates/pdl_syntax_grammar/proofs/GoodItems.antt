@@ -8,9 +8,9 @@ use Rattle.pdl_syntax_tokens.specs.declared.token.TokenKind.TheVariants as kind
 use Rattle.pdl_syntax_tokens.specs.Cursor.{next, first_kind}
 use Rattle.pdl_syntax_tokens.specs.Tokens.{Token}
 use Rattle.pdl_syntax_tokens.specs.Tokens.{Row}
-use Rattle.pdl_syntax_grammar.specs.Grammar.{Word, on, at, ident, location_row, mark_of, Listed, last, further, Full, Item, separating, reading, binding, guessing, fetching, writing, reserving, acquiring, blocking, releasing, calling, verifying, checking, barring}
+use Rattle.pdl_syntax_grammar.specs.Grammar.{Word, on, at, ident, location_row, mark_of, Listed, last, further, Full, Item, separating, reading, binding, guessing, fetching, writing, reserving, acquiring, blocking, releasing, calling, verifying, updating, checking, barring}
 use Rattle.pdl_syntax_cursor.specs.Looks.{is_mark, begins_place, is_place}
-use Rattle.pdl_syntax_grammar.specs.Reading.{Outcome, Parser, and_then, goes_on, list_of, listed_by, ended, place, address, purpose, closed, expr, args, read_of, guess_of, bind_of, computed_stmt, assigned_stmt, named_by, named_stmt, reserved_location, held_location, bare, locking, plain_by, plain}
+use Rattle.pdl_syntax_grammar.specs.Reading.{Outcome, Parser, and_then, goes_on, list_of, listed_by, ended, place, address, purpose, closed, expr, args, read_of, guess_of, bind_of, computed_stmt, assigned_stmt, named_by, named_stmt, reserved_location, held_location, against, bare, locking, plain_by, plain}
 use Rattle.pdl_syntax_grammar.specs.Automaton.{Sym, a, a_name, an_access, operand, slicing, rest, after_name, assigned_name, in_square, Listing, closer, first_of, Closer, semicolon, round, comma, in_args, closing, act_on, Stack, run, run_after}
 use Rattle.pdl_syntax_grammar.specs.Automaton as m
 use Rattle.pdl_syntax_grammar.proofs.GoodTokens.{Good, reads, stops, beyond, instead, under, weaker, then, step, word, word_of, take_good, name_good, access_good, place_good, is_that, on_test, on_option, begins}
@@ -331,6 +331,25 @@ held_good ts =
     then _ _ (closed_good r2) (λ e r3 p3 _.
     reads (record { p = word p1.0 p; o = p2.o; c = p2.c; z = p3.z; x = p3.x; is = rw (p1.1, p2.is, p3.is) refl }) (omega arith) (λ below. refl))))
 
+-- the tokens are a guess and arguments, in brackets, and a semicolon
+record IsAgainst (ts : Row) (v : Ident × List Expr × Span) (r : Row) : Type 0 where
+  p : Word
+  c : Word
+  x : List ℕ
+  b : Row
+  args : Listed Full mark.CloseRound v.1 b (at (word x v.2) mark.Semicolon ∷ r)
+  is : ts ≡ at p mark.OpenRound ∷ on (word v.0.name v.0.span) kind.Name ∷ at c mark.Comma ∷ b
+
+against_good : (top : ℕ) (ts : Row) → length ts < top → Good (IsAgainst ts) m.against_stack [] (against top ts) ts
+unfolding against
+against_good top ts le =
+    then _ _ (take_good mark.OpenRound ts) (λ p r1 p1 le1.
+    then _ _ (name_good r1) (λ g r2 p2 le2.
+    then _ _ (take_good mark.Comma r2) (λ c r3 p3 le3.
+    then _ _ (args_end_good top r3 (omega arith)) (λ v r4 p4 le4.
+    reads (record { p = word p1.0 p; c = word p3.0 c; x = p4.0; b = r3; args = p4.1; is = rw (p1.1, p2, p3.1) refl })
+    (omega arith) (λ below. refl)))))
+
 -- the tokens are empty brackets and a semicolon
 record IsBare (ts : Row) (v : Span) (r : Row) : Type 0 where
   p : Word
@@ -376,11 +395,9 @@ plain_at top (kind.Mark mark.Call) w ts le e f = step refl
     then _ _ (args_end_good top r1 (omega arith)) (λ v r2 p2 le2.
     reads (rw p1.1 (calling p2.1), omega arith) (omega arith) (λ below. refl))))
 plain_at top (kind.Mark mark.Verify) w ts le e f = step refl
-    (then _ _ (take_good mark.OpenRound ts) (λ _ r1 p1 le1.
-    then _ _ (name_good r1) (λ g r2 p2 le2.
-    then _ _ (take_good mark.Comma r2) (λ _ r3 p3 le3.
-    then _ _ (args_end_good top r3 (omega arith)) (λ v r4 p4 le4.
-    reads (rw (p1.1, p2, p3.1) (verifying p4.1), omega arith) (omega arith) (λ below. refl))))))
+    (then _ _ (against_good top ts (omega arith)) (λ v r p le2. reads (rw p.is (verifying p.args), omega arith) (omega arith) (λ below. refl)))
+plain_at top (kind.Mark mark.Update) w ts le e f = step refl
+    (then _ _ (against_good top ts (omega arith)) (λ v r p le2. reads (rw p.is (updating p.args), omega arith) (omega arith) (λ below. refl)))
 plain_at top (kind.Mark mark.SpecCheck) w ts le e f = step refl
     (then _ _ (bare_good ts) (λ v r p le2. reads (rw p.is checking, omega arith) (omega arith) (λ below. refl)))
 plain_at top (kind.Mark mark.SpecBarrier) w ts le e f = step refl

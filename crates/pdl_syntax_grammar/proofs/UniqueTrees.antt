@@ -9,7 +9,7 @@ use Rattle.pdl_syntax_tokens.specs.declared.token.TokenKind.{TokenKind}
 use Rattle.pdl_syntax_tokens.specs.declared.token.TokenKind.TheVariants as kind
 use Rattle.pdl_syntax_tokens.specs.Cursor.{next, first_kind}
 use Rattle.pdl_syntax_tokens.specs.Tokens.{Row}
-use Rattle.pdl_syntax_grammar.specs.Grammar.{Word, at, operator_of, loose, levels, mark_of, lock_mark, pace_mark, Listed, last, further, Level, Full, constant, variable, sliced, bracketed, inverted, catenated, compared, extended, sign_extended, tighter, joined, whole, chosen, Item, separating, reading, binding, guessing, fetching, writing, reserving, acquiring, blocking, releasing, branching, choosing, calling, verifying, checking, barring, Items, none, more, Parameter, parameter, Lock, unlocked, locked, Memory, memory, Given, given, Starting, starting, Text, text}
+use Rattle.pdl_syntax_grammar.specs.Grammar.{Word, at, operator_of, loose, levels, mark_of, lock_mark, pace_mark, Listed, last, further, Level, Full, constant, variable, sliced, bracketed, inverted, catenated, compared, extended, sign_extended, tighter, joined, whole, chosen, Item, separating, reading, binding, guessing, fetching, writing, reserving, acquiring, blocking, releasing, branching, choosing, calling, verifying, updating, checking, barring, Items, none, more, Parameter, parameter, Lock, unlocked, locked, Memory, memory, Given, given, Starting, starting, Text, text}
 use Rattle.pdl_syntax_cursor.specs.Looks.{is_mark, begins_place, is_place}
 use Rattle.pdl_syntax_grammar.specs.Reading.{Parser, goes_on, list_of, op_in, op_by, chain, level, full, inside, expr, args, item, items, pipe}
 use Rattle.pdl_syntax_grammar.specs.Reading as spec
@@ -58,6 +58,7 @@ mutual
   shorter_item (choosing h i j) = let k = shorter_full h in let k2 = shorter_items i in let k3 = shorter_items j in omega arith
   shorter_item (calling h) = let k = shorter_listed full_shorter h in omega arith
   shorter_item (verifying h) = let k = shorter_listed full_shorter h in omega arith
+  shorter_item (updating h) = let k = shorter_listed full_shorter h in omega arith
   shorter_item checking = omega arith
   shorter_item barring = omega arith
 
@@ -274,7 +275,7 @@ no_else (none {r = r}) f = brace_no_else (first_kind r) f
 no_else (more h i) f = not_else h
 
 mutual
-  unfolding item items spec.plain spec.locking spec.named_stmt spec.reserved_location spec.held_location spec.ended spec.address spec.purpose spec.closed spec.bare spec.condition spec.place spec.index spec.take spec.name
+  unfolding item items spec.plain spec.locking spec.named_stmt spec.reserved_location spec.held_location spec.ended spec.address spec.purpose spec.closed spec.against spec.bare spec.condition spec.place spec.index spec.take spec.name
 
   only_item : {s : List Stmt} {ts r : Row} → Item s ts r → (k n : ℕ) → length ts ≤ k → length ts ≤ n
       → is_mark mark.Else (first_kind r) ≡ false → item k (items k n) ts ≡ Ok (s, r)
@@ -298,6 +299,7 @@ mutual
       (rw (only_items i k n (omega arith) (omega arith) refl) (rw (only_items j k n (omega arith) (omega arith) refl) refl))
   only_item (calling h) k n le le2 f = rw (only_args h k (omega arith)) refl
   only_item (verifying h) k n le le2 f = rw (only_args h k (omega arith)) refl
+  only_item (updating h) k n le le2 f = rw (only_args h k (omega arith)) refl
   only_item checking k n le le2 f = refl
   only_item barring k n le le2 f = refl
 

@@ -144,13 +144,18 @@ act_locking (kind.Mark mark.Block) = Some (held_stack [] ++ (items ∷ []))
 act_locking (kind.Mark mark.Release) = Some (held_stack [] ++ (items ∷ []))
 act_locking _ = None
 
+-- a guess and arguments in brackets, and a semicolon
+abbrev pub against_stack : Stack
+against_stack = a mark.OpenRound ∷ a_name ∷ a mark.Comma ∷ operand in_args ∷ a mark.Semicolon ∷ []
+
 -- what a token brings where a statement begins or the closing brace comes
 abbrev pub act_items : TokenKind → Option Stack
 act_items kind.Name = Some (after_name ∷ items ∷ [])
 act_items (kind.Mark mark.Separator) = Some (items ∷ [])
 act_items (kind.Mark mark.If) = Some (a mark.OpenRound ∷ operand round ∷ a mark.OpenBrace ∷ items ∷ else_items ∷ [])
 act_items (kind.Mark mark.Call) = Some (a mark.OpenRound ∷ operand in_args ∷ a mark.Semicolon ∷ items ∷ [])
-act_items (kind.Mark mark.Verify) = Some (a mark.OpenRound ∷ a_name ∷ a mark.Comma ∷ operand in_args ∷ a mark.Semicolon ∷ items ∷ [])
+act_items (kind.Mark mark.Verify) = Some (against_stack ++ (items ∷ []))
+act_items (kind.Mark mark.Update) = Some (against_stack ++ (items ∷ []))
 act_items (kind.Mark mark.SpecCheck) = Some (a mark.OpenRound ∷ a mark.CloseRound ∷ a mark.Semicolon ∷ items ∷ [])
 act_items (kind.Mark mark.SpecBarrier) = Some (a mark.OpenRound ∷ a mark.CloseRound ∷ a mark.Semicolon ∷ items ∷ [])
 act_items (kind.Mark mark.CloseBrace) = Some []

@@ -1,6 +1,6 @@
 -- The grammar. `Rule value before after` says that the tokens `before` are a spelling of the value, and then `after`; each constructor is an alternative.
 use Rattle.std.specs.Prelude.{◌≡◌, ℕ, suc, Bool, true, false, List, [], ◌∷◌, Option, Some, None}
-use Rattle.pdl_semantics.specs.Tree.{Span, Ident, Number, Literal, BinaryOp, Add, Sub, Mul, And, Or, Xor, Equal, Differ, Less, ShiftLeft, ShiftRight, Expr, Constant, Variable, Slice, Not, Binary, Cat, LessSigned, ZeroExtend, SignExtend, Choose, Location, Kind, R, W, Stmt, Separator, CombRead, Bind, SpecCall, DelayedRead, Write, Reserve, Block, Release, If, Call, Verify, SpecCheck, SpecBarrier, Stmts, Nil, Cons, Param, LockKind, Queue, Bypass, Rename, LockDecl, MemKind, Comb, Delayed, Mem, Start, Pipe}
+use Rattle.pdl_semantics.specs.Tree.{Span, Ident, Number, Literal, BinaryOp, Add, Sub, Mul, And, Or, Xor, Equal, Differ, Less, ShiftLeft, ShiftRight, Expr, Constant, Variable, Slice, Not, Binary, Cat, LessSigned, ZeroExtend, SignExtend, Choose, Location, Kind, R, W, Stmt, Separator, CombRead, Bind, SpecCall, DelayedRead, Write, Reserve, Block, Release, If, Call, Verify, Update, SpecCheck, SpecBarrier, Stmts, Nil, Cons, Param, LockKind, Queue, Bypass, Rename, LockDecl, MemKind, Comb, Delayed, Mem, Start, Pipe}
 use Rattle.pdl_syntax_tokens.specs.declared.token.Mark.{Mark}
 use Rattle.pdl_syntax_tokens.specs.declared.token.Mark.TheVariants as mark
 use Rattle.pdl_syntax_tokens.specs.declared.token.TokenKind.{TokenKind}
@@ -168,6 +168,8 @@ mutual
         (at w mark.Call ∷ at p mark.OpenRound ∷ b) r
     verifying : {w p g c e : Word} {args : List Expr} {b r : Row} → Listed Full mark.CloseRound args b (at e mark.Semicolon ∷ r) →
         Item (Verify (across w.span e.span) (ident g) args ∷ []) (at w mark.Verify ∷ at p mark.OpenRound ∷ on g kind.Name ∷ at c mark.Comma ∷ b) r
+    updating : {w p g c e : Word} {args : List Expr} {b r : Row} → Listed Full mark.CloseRound args b (at e mark.Semicolon ∷ r) →
+        Item (Update (across w.span e.span) (ident g) args ∷ []) (at w mark.Update ∷ at p mark.OpenRound ∷ on g kind.Name ∷ at c mark.Comma ∷ b) r
     checking : {w p z e : Word} {r : Row}
         → Item (SpecCheck (across w.span e.span) ∷ []) (at w mark.SpecCheck ∷ at p mark.OpenRound ∷ at z mark.CloseRound ∷ at e mark.Semicolon ∷ r) r
     barring : {w p z e : Word} {r : Row}

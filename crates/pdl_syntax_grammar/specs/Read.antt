@@ -8,6 +8,7 @@ use Rattle.pdl_syntax_grammar.specs.declared.item.Held as r_held
 use Rattle.pdl_syntax_grammar.specs.declared.item.BranchEnd as r_branch
 use Rattle.pdl_syntax_grammar.specs.declared.item.ExprEnd as r_expr_end
 use Rattle.pdl_syntax_grammar.specs.declared.item.ArgsEnd as r_args_end
+use Rattle.pdl_syntax_grammar.specs.declared.item.AgainstEnd as r_against_end
 use Rattle.pdl_syntax_grammar.specs.declared.item.Purpose as r_purpose
 use Rattle.pdl_syntax_grammar.specs.declared.item.MemShape as r_shape
 use Rattle.pdl_syntax_grammar.specs.declared.item.Head as r_head
@@ -43,6 +44,10 @@ expr_end_view v = (expr_view v.e, span_view v.end)
 -- arguments, and where the semicolon stands
 abbrev pub args_end_view : r_args_end.ArgsEnd → List Expr × Span
 args_end_view v = (map expr_view v.args, span_view v.end)
+
+-- a guess, the arguments that it is held against, and where the semicolon stands
+abbrev pub against_end_view : r_against_end.AgainstEnd → Ident × List Expr × Span
+against_end_view v = (ident_view v.guess, map expr_view v.args, span_view v.end)
 
 -- what a location is reserved for, and where the semicolon stands
 abbrev pub purpose_view : r_purpose.Purpose → Kind × Span

@@ -1,6 +1,6 @@
 -- How tokens are read: a value and the tokens after it, or the tokens from the one out of place on.
 use Rattle.std.specs.Prelude.{ℕ, zero, suc, Bool, true, false, List, [], ◌∷◌, Option, Some, None, Result, Ok, Err, cond}
-use Rattle.pdl_semantics.specs.Tree.{Span, Ident, Number, Expr, Location, Kind, Stmt, Separator, CombRead, Bind, SpecCall, DelayedRead, Write, Reserve, Block, Release, If, Call, Verify, SpecCheck, SpecBarrier, Stmts, Nil, Param, LockKind, Queue, Bypass, Rename, LockDecl, Mem, Start, Pipe}
+use Rattle.pdl_semantics.specs.Tree.{Span, Ident, Number, Expr, Location, Kind, Stmt, Separator, CombRead, Bind, SpecCall, DelayedRead, Write, Reserve, Block, Release, If, Call, Verify, Update, SpecCheck, SpecBarrier, Stmts, Nil, Param, LockKind, Queue, Bypass, Rename, LockDecl, Mem, Start, Pipe}
 use Rattle.pdl_syntax_tokens.specs.declared.token.Mark.TheVariants as mark
 use Rattle.pdl_syntax_tokens.specs.declared.token.TokenKind.{TokenKind}
 use Rattle.pdl_syntax_tokens.specs.declared.token.TokenKind.TheVariants as kind
@@ -137,14 +137,22 @@ call_of room s = do
   v ← ended (args room)
   pure (Call (across s v.1) v.0 ∷ [])
 
--- a test of a guess, after its word
-abbrev pub verify_of : ℕ → Span → Parser (List Stmt)
-verify_of room s = do
+-- a guess and arguments that it is held against, in brackets, and where the statement ends
+unfoldable pub against : ℕ → Parser (Ident × List Expr × Span)
+against room = do
   _ ← take mark.OpenRound
   g ← name
   _ ← take mark.Comma
   v ← ended (args room)
-  pure (Verify (across s v.1) g v.0 ∷ [])
+  pure (g, v.0, v.1)
+
+-- the last test of a guess, after its word
+abbrev pub verify_of : ℕ → Span → Parser (List Stmt)
+verify_of room s = against room >>= (λ v. pure (Verify (across s v.2) v.0 v.1 ∷ []))
+
+-- an update of a guess, after its word
+abbrev pub update_of : ℕ → Span → Parser (List Stmt)
+update_of room s = against room >>= (λ v. pure (Update (across s v.2) v.0 v.1 ∷ []))
 
 -- empty brackets, and where the statement ends
 unfoldable pub bare : Parser Span
@@ -216,6 +224,7 @@ plain_by room (Some kind.Name) = named_item room
 plain_by room (Some (kind.Mark mark.Separator)) = λ ts. Ok (Separator (first_span ts) ∷ [], next ts)
 plain_by room (Some (kind.Mark mark.Call)) = λ ts. call_of room (first_span ts) (next ts)
 plain_by room (Some (kind.Mark mark.Verify)) = λ ts. verify_of room (first_span ts) (next ts)
+plain_by room (Some (kind.Mark mark.Update)) = λ ts. update_of room (first_span ts) (next ts)
 plain_by room (Some (kind.Mark mark.SpecCheck)) = λ ts. check_of (first_span ts) (next ts)
 plain_by room (Some (kind.Mark mark.SpecBarrier)) = λ ts. barrier_of (first_span ts) (next ts)
 plain_by room _ = locking

@@ -25,6 +25,14 @@ pub struct ArgsEnd {
     pub end: Span,
 }
 
+/// A guess, the arguments that it is held against, and where the semicolon after them stands.
+#[derive(Drop)]
+pub struct AgainstEnd {
+    pub guess: Ident,
+    pub args: Seq<Expr>,
+    pub end: Span,
+}
+
 /// What a location is reserved for, and where the semicolon stands.
 #[derive(Clone, Copy)]
 pub struct Purpose {

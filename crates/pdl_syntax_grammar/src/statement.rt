@@ -1,12 +1,12 @@
 // Statements without others inside.
 ghost use Rattle.std.specs.Prelude.{◌≡◌, IfOk};
 ghost use Rattle.pdl_syntax_grammar.specs.Grammar.{across};
-ghost use Rattle.pdl_syntax_grammar.specs.Read.{Reads, item_view, expr_end_view, args_end_view, purpose_view, reserved_view, held_view};
+ghost use Rattle.pdl_syntax_grammar.specs.Read.{Reads, item_view, expr_end_view, args_end_view, against_end_view, purpose_view, reserved_view, held_view};
 ghost use Rattle.pdl_syntax_grammar.specs.Reading as spec;
 ghost use Rattle.pdl_syntax_tree.specs.View.{span_view, ident_view, location_view, stmt_view};
 
 use crate::expression::{args, expr};
-use crate::item::{ArgsEnd, ExprEnd, GrammarItem, Held, Purpose, ReservedEnd};
+use crate::item::{AgainstEnd, ArgsEnd, ExprEnd, GrammarItem, Held, Purpose, ReservedEnd};
 use crate::stop::Stop;
 use crate::words::{access, name, place, take};
 use pdl_kit::NoMemory;
@@ -311,7 +311,19 @@ fn call(
     }))
 }
 
-// A test of a guess, after its word.
+// A guess and arguments that it is held against, up to the semicolon.
+#[tactic(auto, unfolding(crate::specs::Reading::against))]
+fn against(alloc: Global, tokens: &mut Cursor<'_>, room: usize) -> Result<AgainstEnd, Stop>
+    ensures { Reads against_end_view (spec.against room tokens.old) result tokens.new }
+{
+    take(tokens, Mark::OpenRound)?;
+    let guess = name(alloc, tokens)?;
+    take(tokens, Mark::Comma)?;
+    let ArgsEnd { args, end } = ended_args(alloc, tokens, room)?;
+    Ok(AgainstEnd { guess, args, end })
+}
+
+// The last test of a guess, after its word.
 fn verify(
     alloc: Global,
     tokens: &mut Cursor<'_>,
@@ -320,11 +332,25 @@ fn verify(
 ) -> Result<GrammarItem, Stop>
     ensures { Reads item_view (spec.verify_of room (span_view word) tokens.old) result tokens.new }
 {
-    take(tokens, Mark::OpenRound)?;
-    let guess = name(alloc, tokens)?;
-    take(tokens, Mark::Comma)?;
-    let ArgsEnd { args, end } = ended_args(alloc, tokens, room)?;
+    let AgainstEnd { guess, args, end } = against(alloc, tokens, room)?;
     Ok(GrammarItem::One(Stmt::Verify {
+        span: across(word, end),
+        guess,
+        args,
+    }))
+}
+
+// An update of a guess, after its word.
+fn update(
+    alloc: Global,
+    tokens: &mut Cursor<'_>,
+    room: usize,
+    word: Span,
+) -> Result<GrammarItem, Stop>
+    ensures { Reads item_view (spec.update_of room (span_view word) tokens.old) result tokens.new }
+{
+    let AgainstEnd { guess, args, end } = against(alloc, tokens, room)?;
+    Ok(GrammarItem::One(Stmt::Update {
         span: across(word, end),
         guess,
         args,
@@ -416,6 +442,10 @@ pub fn plain(alloc: Global, tokens: &mut Cursor<'_>, room: usize) -> Result<Gram
         Some(TokenKind::Mark(Mark::Verify)) => {
             tokens.skip();
             verify(alloc, tokens, room, span)
+        }
+        Some(TokenKind::Mark(Mark::Update)) => {
+            tokens.skip();
+            update(alloc, tokens, room, span)
         }
         Some(TokenKind::Mark(Mark::SpecCheck)) => {
             tokens.skip();

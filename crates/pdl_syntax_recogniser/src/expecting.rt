@@ -262,7 +262,7 @@ fn items(stack: &mut Stack, kind: TokenKind) -> Result<bool, NoMemory>
         TokenKind::Mark(Mark::Separator) => expect(stack, &[Symbol::Items]),
         TokenKind::Mark(Mark::If) => branches(stack),
         TokenKind::Mark(Mark::Call) => expect(stack, &[Symbol::Items, end, args, open]),
-        TokenKind::Mark(Mark::Verify) => {
+        TokenKind::Mark(Mark::Verify | Mark::Update) => {
             let comma = Symbol::Mark(Mark::Comma);
             expect(
                 stack,

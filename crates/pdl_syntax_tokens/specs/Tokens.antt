@@ -64,8 +64,9 @@ keywords = spelt (codes "pipe") mark.Pipe ∷ spelt (codes "start") mark.Start �
     ∷ spelt (codes "comb") mark.Comb ∷ spelt (codes "delayed") mark.Delayed ∷ spelt (codes "lock") mark.Lock
     ∷ spelt (codes "queue") mark.Queue ∷ spelt (codes "bypass") mark.Bypass ∷ spelt (codes "rename") mark.Rename
     ∷ spelt (codes "if") mark.If ∷ spelt (codes "else") mark.Else ∷ spelt (codes "call") mark.Call
-    ∷ spelt (codes "spec_call") mark.SpecCall ∷ spelt (codes "verify") mark.Verify ∷ spelt (codes "spec_check") mark.SpecCheck
-    ∷ spelt (codes "spec_barrier") mark.SpecBarrier ∷ spelt (codes "reserve") mark.Reserve ∷ spelt (codes "acquire") mark.Acquire
+    ∷ spelt (codes "spec_call") mark.SpecCall ∷ spelt (codes "verify") mark.Verify ∷ spelt (codes "update") mark.Update
+    ∷ spelt (codes "spec_check") mark.SpecCheck ∷ spelt (codes "spec_barrier") mark.SpecBarrier
+    ∷ spelt (codes "reserve") mark.Reserve ∷ spelt (codes "acquire") mark.Acquire
     ∷ spelt (codes "block") mark.Block ∷ spelt (codes "release") mark.Release ∷ spelt (codes "cat") mark.Cat
     ∷ spelt (codes "zext") mark.ZeroExtend ∷ spelt (codes "sext") mark.SignExtend ∷ spelt (codes "lts") mark.LessSigned ∷ []
 

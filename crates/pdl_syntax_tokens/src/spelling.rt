@@ -119,10 +119,16 @@ const S_WORDS: [Spelling; 5] = [
     },
 ];
 
-const U_WORDS: [Spelling; 1] = [Spelling {
-    text: b"uint",
-    mark: Mark::Uint,
-}];
+const U_WORDS: [Spelling; 2] = [
+    Spelling {
+        text: b"uint",
+        mark: Mark::Uint,
+    },
+    Spelling {
+        text: b"update",
+        mark: Mark::Update,
+    },
+];
 
 const V_WORDS: [Spelling; 1] = [Spelling {
     text: b"verify",

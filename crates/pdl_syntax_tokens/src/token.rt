@@ -18,6 +18,7 @@ pub enum Mark {
     Call,
     SpecCall,
     Verify,
+    Update,
     SpecCheck,
     SpecBarrier,
     Reserve,

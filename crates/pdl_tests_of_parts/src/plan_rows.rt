@@ -20,6 +20,7 @@ acquire(m[n], W);
 m[n] <- 8'd1;
 ---
 release(m[n]);
+update(g, n);
 ---
 verify(g, n);
 } start p(1'd0);";
@@ -37,16 +38,21 @@ fn locks_of(alloc: Global, pipe: &Pipe, guards: &Guards, places: &[Place<'_>]) -
     }
 }
 
-// The stage of the verifies.
-fn verifies_of(alloc: Global, pipe: &Pipe, guards: &Guards, places: &[Place<'_>]) -> Option<usize>
+// The stages of the verifies and of the updates.
+fn checks_of(
+    alloc: Global,
+    pipe: &Pipe,
+    guards: &Guards,
+    places: &[Place<'_>],
+) -> [Option<usize>; 2]
     requires few { length guards.now ≤ 10 }
     requires own { guards.now ≡ spec_guards (map place_view places.now) }
     requires masks { AreMasked guards.now places.now }
     requires of { map place_view places.now ≡ spec_places (pipe_view pipe.now) }
 {
     match check_spec(alloc, pipe, guards, places) {
-        Ok(plan) => plan.verified(),
-        Err(_) => None,
+        Ok(plan) => [plan.verified(), plan.updated()],
+        Err(_) => [None; 2],
     }
 }
 
@@ -62,7 +68,7 @@ fn seen(places: &[Place<'_>], k: usize) -> [bool; 3] {
     }
 }
 
-type Told = ([Option<usize>; 3], Option<usize>, [[bool; 3]; 4]);
+type Told = ([Option<usize>; 3], [Option<usize>; 2], [[bool; 3]; 4]);
 
 fn told(alloc: Global, pipe: &Pipe, guards: &Guards, places: &[Place<'_>]) -> Told
     requires few { length guards.now ≤ 10 }
@@ -72,7 +78,7 @@ fn told(alloc: Global, pipe: &Pipe, guards: &Guards, places: &[Place<'_>]) -> To
 {
     (
         locks_of(alloc, pipe, guards, places),
-        verifies_of(alloc, pipe, guards, places),
+        checks_of(alloc, pipe, guards, places),
         [
             seen(places, 0),
             seen(places, 1),
@@ -107,7 +113,7 @@ fn told_of_text(alloc: Global) -> Option<Told> {
 fn plans(rt: HostRuntime) {
     let wanted = (
         [Some(0), Some(1), None],
-        Some(2),
+        [Some(2), Some(1)],
         [
             [true, false, false],
             [false, true, false],

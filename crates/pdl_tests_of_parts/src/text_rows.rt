@@ -42,7 +42,7 @@ const ITEMS: [(&[u8], u32); 17] = [
     (b"x = n ? n\n;", 3),
     (b"x = cat(n\n);", 3),
     (
-        b"g = spec_call(n, n); verify(g, n, n); spec_check(); spec_barrier(); call(n);",
+        b"g = spec_call(n, n); update(g, n, n); verify(g, n, n); spec_check(); spec_barrier(); call(n);",
         0,
     ),
     (b"verify(g\n);", 3),

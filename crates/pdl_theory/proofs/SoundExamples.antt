@@ -16,7 +16,7 @@ use Rattle.pdl_theory_refinement.proofs.Follows.{refines, advances}
 use Rattle.pdl_theory_progress.proofs.Rates.{keeps_pace}
 use Rattle.pdl_theory_progress.proofs.SoundTests.{sounded}
 use Rattle.pdl_theory.proofs.StatedTheorems.{whole_refines, whole_advances, whole_paces, updates_alike, whole_idle}
-use Rattle.pdl_semantics.specs.Updates.{not_updated, CommitsAlike}
+use Rattle.pdl_semantics.specs.Updates.{CommitsAlike}
 use Rattle.pdl_semantics.specs.Promises
 
 one_stage_sounds : passes_tests (flat one_stage) ≡ true
@@ -93,12 +93,9 @@ four_levels_sounds = refl
 nested_guess_sounds : passes_tests (flat nested_guess) ≡ true
 nested_guess_sounds = refl
 
--- a guess that is replaced before its verify, and the pipe without that
+-- a guess that is replaced before its verify
 updated_sounds : passes_tests (flat (updated 2)) ≡ true
 updated_sounds = refl
-
-not_updated_sounds : passes_tests (not_updated (flat (updated 2))) ≡ true
-not_updated_sounds = refl
 
 -- forks before the update, one of them in another's branch, and one between it and the verify
 abbrev nested_updated : Tree.Pipe
@@ -113,9 +110,6 @@ nested_updated =
 
 nested_updated_sounds : passes_tests (flat nested_updated) ≡ true
 nested_updated_sounds = refl
-
-nested_not_updated_sounds : passes_tests (not_updated (flat nested_updated)) ≡ true
-nested_not_updated_sounds = refl
 
 -- an update after the verify breaks a rule
 late_update_fails : passes_tests
@@ -192,13 +186,10 @@ stated_nested_updated_refines : (image : Arrays) (schedule : List (List Bool)) �
 stated_nested_updated_refines = whole_refines (flat nested_updated) (sounded (flat nested_updated) nested_updated_sounds)
 
 stated_nested_updates_alike : (image : Arrays) (schedule schedule' : List (List Bool)) → CommitsAlike (flat nested_updated) image schedule schedule'
-stated_nested_updates_alike =
-    updates_alike (flat nested_updated) (sounded (flat nested_updated) nested_updated_sounds)
-    (sounded (not_updated (flat nested_updated)) nested_not_updated_sounds)
+stated_nested_updates_alike = updates_alike (flat nested_updated) (sounded (flat nested_updated) nested_updated_sounds)
 
 stated_updates_alike : (image : Arrays) (schedule schedule' : List (List Bool)) → CommitsAlike (flat (updated 2)) image schedule schedule'
-stated_updates_alike =
-    updates_alike (flat (updated 2)) (sounded (flat (updated 2)) updated_sounds) (sounded (not_updated (flat (updated 2))) not_updated_sounds)
+stated_updates_alike = updates_alike (flat (updated 2)) (sounded (flat (updated 2)) updated_sounds)
 
 stated_slow_advances : (image : Arrays) (schedule : List (List Bool)) (bits : List Bool)
     → Promises.Advances (flat count_slow) image schedule bits

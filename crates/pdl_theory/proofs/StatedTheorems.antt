@@ -17,6 +17,7 @@ use Rattle.pdl_theory_refinement.proofs.Follows
 use Rattle.pdl_theory_simulation.proofs.AcceptedFacts.{sound_flows}
 use Rattle.pdl_theory_progress.proofs.Rates
 use Rattle.pdl_theory_simulation.proofs.Foretold.{same_turns}
+use Rattle.pdl_theory.proofs.NotUpdated.{sound_left}
 
 module _ (p : Pipe) (sound : Sound p) where
   -- what the threads of a run say
@@ -50,7 +51,6 @@ module _ (p : Pipe) (sound : Sound p) where
       advice_is_idle p image other schedule replies sound.advice differ (whole_refines image schedule) (whole_refines other replies)
 
 -- with its updates or without them a pipe commits the same, only sooner or later
-pub updates_alike : (p : Pipe)
-    → Sound p → Sound (not_updated p) → (image : Arrays) (schedule schedule' : List (List Bool)) → CommitsAlike p image schedule schedule'
-updates_alike p sound plain image schedule schedule' =
-    commits_alike p image schedule schedule' (whole_refines p sound image schedule) (whole_refines (not_updated p) plain image schedule')
+pub updates_alike : (p : Pipe) → Sound p → (image : Arrays) (schedule schedule' : List (List Bool)) → CommitsAlike p image schedule schedule'
+updates_alike p sound image schedule schedule' =
+    commits_alike p image schedule schedule' (whole_refines p sound image schedule) (whole_refines (not_updated p) (sound_left p sound) image schedule')

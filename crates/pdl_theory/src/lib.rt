@@ -44,10 +44,11 @@ pub fn advice()
         DifferInAdvice p image other → AdviceIsIdle p image other schedule replies }
 {}
 
-/// Updates change nothing but how soon: without them the threads of a pipe write the same, and what is committed with them and without them, each with any replies, begins one list.
+/// Updates change nothing but how soon: without them the threads of a pipe write the same, it has the facts of an accepted one where it has them with updates, and what is committed with them and without them, each with any replies, begins one list.
 pub fn updates()
     ensures writes { (p : Pipe) → (image : Arrays) → WritesAlike p image }
-    ensures commits { (p : Pipe) → Sound p → Sound (not_updated p) →
+    ensures sound { (p : Pipe) → Sound p → Sound (not_updated p) }
+    ensures commits { (p : Pipe) → Sound p →
         (image : Arrays) (schedule replies : List (List Bool)) →
         CommitsAlike p image schedule replies }
 {}

@@ -10,7 +10,7 @@ syntax keyword pdlType uint
 syntax keyword pdlStorage comb delayed lock
 syntax keyword pdlLock queue bypass rename
 syntax keyword pdlConditional if else
-syntax keyword pdlThread call spec_call verify spec_check spec_barrier
+syntax keyword pdlThread call spec_call verify update spec_check spec_barrier
 syntax keyword pdlAccess reserve acquire block release
 syntax keyword pdlMode R W
 syntax keyword pdlFunction cat zext sext lts

@@ -16,7 +16,8 @@ import sys
 HERE = pathlib.Path(__file__).resolve().parent
 WORDS = 1024
 # A core, and the module round it.
-WRAPPERS = {"rv32i": "top.v", "rv32i_guess": "top.v", "rv32i_delayed": "top_delayed.v"}
+WRAPPERS = {"rv32i": "top.v", "rv32i_guess": "top.v", "rv32i_traps": "top.v", "rv32im": "top.v",
+            "rv32i_delayed": "top_delayed.v", "rv32i_update": "top_delayed.v"}
 CELLS = "/usr/share/yosys/ice40/cells_sim.v"
 
 
@@ -71,7 +72,8 @@ def make(pdl, core, image, lamps, folder, change=lambda text: text):
     write_core(core, folder, change)
     text = run([pdl, "build", "core.pdl"], folder)
     (folder / "core.v").write_text(with_contents(text, image, folder))
-    (folder / "top.v").write_text((HERE / WRAPPERS[core]).read_text())
+    module = re.search(r"^module (\w+)\(", text, re.M)[1]
+    (folder / "top.v").write_text((HERE / WRAPPERS[core]).read_text().replace("pdl_rv32i ", module + " "))
     synthesis = ("read_verilog top.v core.v; chparam -set LAMPS %d top; synth_ice40 -top top -json top.json; "
                  "write_verilog -noattr netlist.v; tee -o cells.txt stat" % lamps)
     run(["yosys", "-p", synthesis], folder, "yosys.log")

@@ -6,8 +6,8 @@ use Rattle.pdl_syntax_tree.specs.declared.tree.Pipe as r_pipe
 use Rattle.pdl_syntax_tree.specs.View.{pipe_view}
 use Rattle.pdl_rules.specs.Refusal.{KeepsRules, limits, after_limits}
 use Rattle.pdl_rules.specs.Unbuilt.{IsBuilt}
-use Rattle.pdl_rules.specs.Speculation.{verify_stage}
 use Rattle.pdl_locks.specs.Plan.{plan_of}
+use Rattle.pdl_spec.specs.Plan.{spec_plan}
 use Rattle.pdl_source_paths.specs.Source.{is_source, is_named}
 use Rattle.pdl_rules.proofs.Unbroken.{keeps_accepted, built_accepted}
 use Rattle.pdl_rules_names.specs.Order.{name_rules}
@@ -51,7 +51,7 @@ invariant_of-result c =
       guarded = at (λ p. c.args.found.guards ≡ guards (places p)) c.requires.found.guards;
       told = at (λ p. c.in_ok-made.made.mems ≡ infos_of p.mems) c.in_ok-made.ensures.told;
       planned = at (λ p. c.args.found.plans.locks ≡ plan_of p) c.requires.found.locks;
-      verified = at (λ p. c.args.found.plans.spec ≡ verify_stage p) c.requires.found.spec;
+      checked = at (λ p. c.args.found.plans.spec ≡ spec_plan p) c.requires.found.spec;
       lowered = at (λ p. IsTrue (same_form (form c.in_ok-made.made.flat) (form_of p))) (forms_pass _ _ c.in_ok-made.ensures.lowered);
       staged = at (λ p. c.in_ok-made.made.graph ≡ graph_of (flat p) (places p)) c.in_ok-made.ensures.staged;
     }

@@ -7,7 +7,7 @@ use Rattle.pdl_law_parts.specs.Compiled.{port_in}
 use Rattle.pdl_pipe_beside.specs.Ends.{AreEnds}
 use Rattle.pdl_pipe_beside.proofs.EndGrowth.{ends_keep}
 use Rattle.pdl_pipe_beside.proofs.PortSteps.{ports_stand}
-use Rattle.pdl_pipe_beside.proofs.OrderSteps.{orders_stand}
+use Rattle.pdl_pipe_beside.proofs.OrderSteps.{orders_stand, squashes_keep}
 use Rattle.pdl_pipe_nexts.specs.Lines.{line_form, line_pipe}
 use Rattle.pdl_pipe_nexts.proofs.LineGrowth.{line_keep}
 use Rattle.pdl_pipe_moves.proofs.GateParts.{bit_keep}
@@ -199,6 +199,12 @@ set_registers-requires-clause-squash g c =
     let ar = keeps_trans a b r ab br in
     bit_keep b r c.args.moves.now.squash br moved.moved.squash
 
+pub set_registers-requires-clause-squashes : goal.set_registers-requires-clause-squashes
+set_registers-requires-clause-squashes g c =
+    let b = c.args.b.now in
+    let r = c.requests.new.b in
+    squashes_keep b r c.args.moves.now.squashes (extends_keeps b r c.requests.ensures.extends) c.requires.moved.moved.squashes
+
 pub show-requires : goal.show-requires
 show-requires g c =
     let b = c.args.b.now in
@@ -221,7 +227,7 @@ show-requires g c =
     let i = c.set_registers.new.b in
     let steps = c.in_ok-steps.ensures in
     let ri =
-    steps_keep l r i x locks orders c.as_slice-2.result.now y.squash c.in_ok-steps.steps.tails c.in_ok-steps.steps.commits.items
+    steps_keep l r i x locks orders c.as_slice-2.result.now y.squash y.squashes c.in_ok-steps.steps.tails c.in_ok-steps.steps.commits.items
     (apart_from high (length a.regs) (length r.regs) x.stages.now n layout.apart 0 (omega arith)) steps in
     let bi = keeps_trans b r i br ri in
     let line = line_keep b i x bi c.requires.line in
@@ -261,7 +267,7 @@ returns g c =
     let i = c.set_registers.new.b in
     let steps = c.in_ok-steps.ensures in
     let ri =
-    steps_keep l r i x locks orders c.as_slice-2.result.now y.squash c.in_ok-steps.steps.tails c.in_ok-steps.steps.commits.items
+    steps_keep l r i x locks orders c.as_slice-2.result.now y.squash y.squashes c.in_ok-steps.steps.tails c.in_ok-steps.steps.commits.items
     (apart_from high (length a.regs) (length r.regs) x.stages.now n layout.apart 0 (omega arith)) steps in
     let bi = keeps_trans b r i br ri in
     let line = line_keep b i x bi c.requires.line in
@@ -327,7 +333,7 @@ returns g c =
       to_tails = steps.to_tails;
       ports_stepped = λ m. subst (λ ys. IsPortStepped steps.f steps.g (line_pipe x) ys x.shared.now.ports.now m) two (steps.ports_stepped m);
       to_ports = steps.to_ports;
-      orders_stepped = λ k q. subst (λ ys. IsOrderStepped steps.g steps.h (line_pipe x) ys y.squash orders k) two (steps.orders_stepped k q);
+      orders_stepped = λ k q. subst (λ ys. IsOrderStepped steps.g steps.h (line_pipe x) ys y.squashes orders k) two (steps.orders_stepped k q);
       to_orders = steps.to_orders;
       stepped = steps.last.stepped;
       to_locks = steps.last.to_locks;

@@ -1,11 +1,12 @@
 use Rattle.std.proofs.Common.{sym, ◌∙◌, subst, length, inr, arith}
 use Rattle.pdl_net.proofs.Keeps.{but_keeps, extends_keeps, keeps_trans}
+use Rattle.pdl_net.proofs.KeptWidths.{width_keeps}
 use Rattle.pdl_pipe_exprs.proofs.NetLists.{there_keeps, signals_keep}
 use Rattle.pdl_pipe_walk.specs.Locked.{members, AreTickets}
 use Rattle.pdl_pipe_locks.proofs.LockGrowth.{locked_kept, laws_kept}
 use Rattle.pdl_pipe_beside.proofs.EndGrowth.{ends_keep}
 use Rattle.pdl_pipe_beside.proofs.PortSteps.{ports_stand}
-use Rattle.pdl_pipe_beside.proofs.OrderSteps.{orders_stand}
+use Rattle.pdl_pipe_beside.proofs.OrderSteps.{orders_stand, squashes_keep}
 use Rattle.pdl_pipe_nexts.specs.Lines.{line_form, line_pipe}
 use Rattle.pdl_pipe_nexts.specs.Nexts.{regs_of}
 use Rattle.pdl_pipe_nexts.proofs.LineGrowth.{line_keep}
@@ -19,6 +20,13 @@ tails-requires-clause-line g c =
     let x = c.args.all.now.line.now in
     let be = but_keeps (regs_of 0 (length b.regs)) b e (c.connect.ensures.extends 0 c.requires.apart) in
     line_keep b e x be c.requires.line
+
+pub tails-requires-clause-squash : goal.tails-requires-clause-squash
+tails-requires-clause-squash g c =
+    let b = c.args.b.now in
+    let e = c.connect.new.b in
+    let be = but_keeps (regs_of 0 (length b.regs)) b e (c.connect.ensures.extends 0 c.requires.apart) in
+    width_keeps b e c.args.all.now.squashes.verify 1 be c.requires.squashes.verify
 
 pub port_steps-requires-clause-ends : goal.port_steps-requires-clause-ends
 port_steps-requires-clause-ends g c =
@@ -52,6 +60,16 @@ order_steps-requires-clause-ends g c =
     let fi = c.in_ok-port_steps.ensures.extends.keeps in
     let bi = keeps_trans b f i bf fi in
     ends_keep b i bi (line_form x) c.args.ends.now c.requires.ends
+
+pub order_steps-requires-clause-squashes : goal.order_steps-requires-clause-squashes
+order_steps-requires-clause-squashes g c =
+    let b = c.args.b.now in
+    let e = c.connect.new.b in
+    let be = but_keeps (regs_of 0 (length b.regs)) b e (c.connect.ensures.extends 0 c.requires.apart) in
+    let f = c.tails.new.b in
+    let bf = keeps_trans b e f be (extends_keeps e f c.tails.ensures.extends) in
+    let i = c.port_steps.new.b in
+    squashes_keep b i c.args.all.now.squashes (keeps_trans b f i bf c.in_ok-port_steps.ensures.extends.keeps) c.requires.squashes
 
 pub order_steps-requires-clause-orders : goal.order_steps-requires-clause-orders
 order_steps-requires-clause-orders g c =

@@ -18,5 +18,5 @@ returns-in_ok-emit_order_step-in-Some-clause-stepped c =
     let p = (form c.args.round.now.pipe.now).pipe in
     let e = sym c.order_at.ensures ∙ c.in-Some.is in
     let is = c.requires.orders.each c.args.fork r c.requires.stage e in
-    some_stepped c.args.b.now c.emit_order_step.new.b p c.args.round.now.ends.now c.args.squash c.args.orders.now c.args.fork r
+    some_stepped c.args.b.now c.emit_order_step.new.b p c.args.round.now.ends.now c.args.squashes c.args.orders.now c.args.fork r
     (step_signals c.order_ports.new.b c.in_ok-ports-in-Some.ports) e is c.in_ok-ports-in-Some.ensures.same c.in_ok-emit_order_step-in-Some.ensures.law

@@ -32,7 +32,8 @@ loop-fork-preserved c =
     let low : k < length f.pipe.stages = omega (arith, c.loop-fork-test.true, c.loop-fork.auto.fork-end, count) in
     record {
       stepped =
-          stepped_more a f c.args.round.now.ends.now c.args.squash rs c.requires.squash.there c.requires.orders c.requires.ends b d k low v.extends.keeps s.extends s.stepped v.stepped;
+          stepped_more a f c.args.round.now.ends.now c.args.squashes rs c.requires.squashes c.requires.orders c.requires.ends b d k low
+          v.extends.keeps s.extends s.stepped v.stepped;
       extends = extends_more (own_at order_own rs) k a b d (no_arrays rs k) v.extends s.extends;
     }
 

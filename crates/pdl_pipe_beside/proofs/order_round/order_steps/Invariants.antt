@@ -8,6 +8,6 @@ use Rattle.pdl_pipe_beside.proofs.order_round.order_steps.Given as goal
 -- the orders of the first forks have made their steps
 abbrev pub invariant-loop-fork : goal.invariant-loop-fork
 invariant-loop-fork l = record {
-  stepped : (f : ℕ) → f < l.fork → IsOrderStepped l.fn.b l.b (form l.round.pipe.now).pipe l.round.ends.now l.squash l.orders f;
+  stepped : (f : ℕ) → f < l.fork → IsOrderStepped l.fn.b l.b (form l.round.pipe.now).pipe l.round.ends.now l.squashes l.orders f;
   extends : ExtendsParts (own_at order_own l.orders) l.fork l.fn.b l.b;
 }

@@ -1,14 +1,17 @@
-use Rattle.std.proofs.Common.{◌≡◌, ◌+◌, ◌∙◌, ◌++◌, ◌∷◌, [], ℕ, ◌<◌, length, sym, ap, subst, arith}
-use Rattle.std.proofs.lemmas.List.{length-append}
+use Rattle.std.proofs.Common.{◌≡◌, ◌+◌, ◌∙◌, ◌++◌, ◌∷◌, [], ℕ, ◌<◌, length, refl, sym, ap, subst, arith}
+use Rattle.std.proofs.lemmas.List.{length-append, get_or_push}
+use Rattle.pdl_semantics.specs.Updates.{update_stage}
+use Rattle.pdl_semantics.proofs.SquashStages.{update_before}
 use Rattle.pdl_net.proofs.Keeps.{extends_keeps, extends_trans, keeps_trans}
-use Rattle.pdl_pipe_exprs.specs.Nets.{signals_in, signal_at}
+use Rattle.pdl_net.proofs.KeptWidths.{width_keeps}
+use Rattle.pdl_pipe_exprs.specs.Nets.{NetsThere, signals_in, signal_at, widths_of}
+use Rattle.pdl_pipe_nexts.specs.Lines.{line_pipe}
 use Rattle.pdl_pipe_nexts.proofs.LineGrowth.{line_keep}
-use Rattle.pdl_pipe_tails.specs.declared.whole.TailNets.{TailNets}
 use Rattle.pdl_pipe_tails.specs.Reserved.{AreAfterAll}
 use Rattle.pdl_pipe_tails.specs.Carried.{tail_in, HaveTails}
-use Rattle.pdl_pipe_tails.specs.Tails.{tails_in, HasCut}
+use Rattle.pdl_pipe_tails.specs.Tails.{HasCut, IsCut, IsLike}
 use Rattle.pdl_pipe_tails.proofs.Rows.{all_now, stage_from}
-use Rattle.pdl_pipe_tails.proofs.AllRows.{FirstRows, have_rows, tails_same, same_front, same_before, rows_more, rows_all, row_is}
+use Rattle.pdl_pipe_tails.proofs.AllRows.{FirstRows, have_rows, tails_same, same_front, rows_more, rows_full, rows_all, row_is, like_last, cut_later}
 use Rattle.pdl_pipe_tails.proofs.whole.tails.Goals as goal
 
 pub stage_tails-requires-clause-line : goal.stage_tails-requires-clause-line
@@ -101,29 +104,85 @@ stage_tails-requires-2-clause-before c =
     subst (λ rows. (m : ℕ) → m < length fresh → HaveTails d m (signal_at (signals_in d fresh) m).width rows) (sym c.as_slice-3.ensures.value)
     (λ m l. have_rows a d x fresh c.loop-k.before.items c.loop-k.k m v.count ad c.requires.line now l v.rows)
 
+pub cut_by-requires-clause-verify : goal.cut_by-requires-clause-verify
+cut_by-requires-clause-verify c =
+    let a = c.args.b.now in
+    let b = c.next_after.new.b in
+    let d = c.loop-k.b in
+    let f = c.stage_tails-2.new.b in
+    let ad = keeps_trans a b d (extends_keeps a b c.next_after.ensures.extends) (extends_keeps b d c.loop-k.invariant.extends) in
+    width_keeps a f c.args.verify 1 (keeps_trans a d f ad (extends_keeps d f c.stage_tails-2.ensures.extends)) c.requires.squash
+
+pub cut_by-requires-clause-last : goal.cut_by-requires-clause-last
+cut_by-requires-clause-last c =
+    let a = c.args.b.now in
+    let b = c.next_after.new.b in
+    let d = c.loop-k.b in
+    let f = c.stage_tails-2.new.b in
+    let x = c.args.line.now in
+    let v = c.in-Some.v in
+    let inv = c.loop-k.invariant in
+    let rows = c.loop-k.before.items in
+    let last = c.in_ok-last-2.last in
+    let k_is : c.loop-k.k ≡ v = omega (arith, c.loop-k-test.false, c.loop-k.auto.k-end) in
+    let ad = keeps_trans a b d (extends_keeps a b c.next_after.ensures.extends) (extends_keeps b d inv.extends) in
+    let full =
+    rows_full a d f x rows last v (inv.count ∙ k_is) ad c.requires.line c.stage_tails-2.ensures.extends (subst (FirstRows a d x rows) k_is inv.rows)
+    (λ tails agree. c.in_ok-last-2.ensures.tails tails (λ j m l. agree j m l ∙ ap (λ rs. tail_in d rs [] j m) (sym c.as_slice-3.ensures.value))) in
+    subst (NetsThere f) (get_or_push rows last [] v (inv.count ∙ k_is) ∙ sym c.as_slice-5.ensures) (full v (omega arith)).there
+
+pub cut_by-requires-clause-like : goal.cut_by-requires-clause-like
+cut_by-requires-clause-like c = λ u is.
+    let a = c.args.b.now in
+    let b = c.next_after.new.b in
+    let d = c.loop-k.b in
+    let f = c.stage_tails-2.new.b in
+    let x = c.args.line.now in
+    let v = c.in-Some.v in
+    let inv = c.loop-k.invariant in
+    let rows = c.loop-k.before.items in
+    let last = c.in_ok-last-2.last in
+    let k_is : c.loop-k.k ≡ v = omega (arith, c.loop-k-test.false, c.loop-k.auto.k-end) in
+    let ad = keeps_trans a b d (extends_keeps a b c.next_after.ensures.extends) (extends_keeps b d inv.extends) in
+    let full =
+    rows_full a d f x rows last v (inv.count ∙ k_is) ad c.requires.line c.stage_tails-2.ensures.extends (subst (FirstRows a d x rows) k_is inv.rows)
+    (λ tails agree. c.in_ok-last-2.ensures.tails tails (λ j m l. agree j m l ∙ ap (λ rs. tail_in d rs [] j m) (sym c.as_slice-3.ensures.value))) in
+    let early = update_before (line_pipe x).stmts u v is (sym c.in-Some.ensures) in
+    subst (λ ns. IsLike f c.as_slice-4.result.now ns u) (sym c.as_slice-5.ensures)
+    (subst (λ rs. IsLike f rs last u) (sym c.as_slice-4.ensures.value) (like_last a f x rows last v u (inv.count ∙ k_is) early full))
+
 pub returns-clause-cut : goal.returns-clause-cut
 returns-clause-cut c =
     let a = c.args.b.now in
     let b = c.next_after.new.b in
     let d = c.loop-k.b in
     let f = c.stage_tails-2.new.b in
+    let h = c.cut_by.new.b in
     let x = c.args.line.now in
-    let last = c.in-Some.v in
-    let v = c.loop-k.invariant in
-    let t : TailNets = record { before = c.loop-k.before; cut = c.in_ok-cut-2.cut } in
+    let v = c.in-Some.v in
+    let inv = c.loop-k.invariant in
     let rows = c.loop-k.before.items in
-    let test = c.loop-k-test.false in
-    let end = c.loop-k.auto.k-end in
-    let k_is : c.loop-k.k ≡ last = omega (arith, test, end) in
-    let count = v.count ∙ k_is in
-    let first = subst (FirstRows a d x rows) k_is v.rows in
-    let grown = c.stage_tails-2.ensures.extends in
-    let ad = keeps_trans a b d (extends_keeps a b c.next_after.ensures.extends) (extends_keeps b d v.extends) in
-    let agree : (j m : ℕ) → j < last → tails_in f t j m ≡ tail_in d c.as_slice-3.result.now [] j m =
-    λ j m l. tails_same a d f x rows rows t.cut last (extends_keeps d f grown) first (same_before rows t.cut last count) j m l
-    ∙ ap (λ rs. tail_in d rs [] j m) (sym c.as_slice-3.ensures.value) in
-    let here = stage_from a d f x (tails_in f t) last t.cut ad c.requires.line (c.in_ok-cut-2.ensures.tails (tails_in f t) agree) in
-    subst (HasCut a f x t) c.in-Some.ensures (rows_all a d f x t last count grown first here)
+    let last = c.in_ok-last-2.last in
+    let cut = c.in_ok-cut-2.cut in
+    let k_is : c.loop-k.k ≡ v = omega (arith, c.loop-k-test.false, c.loop-k.auto.k-end) in
+    let ad = keeps_trans a b d (extends_keeps a b c.next_after.ensures.extends) (extends_keeps b d inv.extends) in
+    let df = c.stage_tails-2.ensures.extends in
+    let af = keeps_trans a d f ad (extends_keeps d f df) in
+    let fh = c.cut_by.ensures.extends in
+    let full =
+    rows_full a d f x rows last v (inv.count ∙ k_is) ad c.requires.line df (subst (FirstRows a d x rows) k_is inv.rows)
+    (λ tails agree. c.in_ok-last-2.ensures.tails tails (λ j m l. agree j m l ∙ ap (λ rs. tail_in d rs [] j m) (sym c.as_slice-3.ensures.value))) in
+    subst (HasCut a h x c.args.verify (record { before = c.loop-k.before; last = last; cut = cut })) c.in-Some.ensures
+    (record {
+      count = inv.count ∙ k_is;
+      each = rows_all a f h x rows last v (inv.count ∙ k_is) fh full;
+      cut =
+          cut_later f h x c.args.verify rows last cut v (inv.count ∙ k_is) (sym c.in-Some.ensures) (extends_keeps f h fh)
+          (width_keeps a f c.args.verify 1 af c.requires.squash).there a full
+          (subst (λ ns. IsCut f h c.args.verify rows ns cut (update_stage (line_pipe x).stmts)) c.as_slice-5.ensures
+          (subst (λ rs. IsCut f h c.args.verify rs c.as_slice-5.result.now cut (update_stage (line_pipe x).stmts)) c.as_slice-4.ensures.value
+          c.in_ok-cut-2.ensures.cut));
+    })
 
 pub returns-clause-row : goal.returns-clause-row
 returns-clause-row c =
@@ -132,10 +191,14 @@ returns-clause-row c =
     let d = c.loop-k.b in
     let f = c.stage_tails-2.new.b in
     let x = c.args.line.now in
-    let last = c.in-Some.v in
-    let v = c.loop-k.invariant in
-    let cut = c.in_ok-cut-2.cut in
-    let ad = keeps_trans a b d (extends_keeps a b c.next_after.ensures.extends) (extends_keeps b d v.extends) in
+    let v = c.in-Some.v in
+    let inv = c.loop-k.invariant in
+    let last = c.in_ok-last-2.last in
+    let ad = keeps_trans a b d (extends_keeps a b c.next_after.ensures.extends) (extends_keeps b d inv.extends) in
     let tails = tail_in d c.as_slice-3.result.now [] in
-    row_is a f x tails last cut
-    (stage_from a d f x tails last cut ad c.requires.line (c.in_ok-cut-2.ensures.tails tails (λ j m l. Rattle.std.proofs.Common.refl)))
+    let own =
+    row_is a f x tails v last (stage_from a d f x tails v last ad c.requires.line (c.in_ok-last-2.ensures.tails tails (λ j m l. refl))) in
+    record {
+      there = c.in_ok-cut-2.ensures.there;
+      wide = c.in_ok-cut-2.ensures.wide ∙ ap (λ ns. widths_of (signals_in f ns)) c.as_slice-5.ensures ∙ own.wide;
+    }

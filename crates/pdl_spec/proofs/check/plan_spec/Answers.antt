@@ -1,16 +1,21 @@
-use Rattle.std.proofs.Common.{◌∙◌, refl, sym, ap, [], ◌∷◌}
+use Rattle.std.proofs.Common.{◌∙◌, refl, ap, ap₂, ℕ, [], ◌∷◌, Option}
 use Rattle.std.proofs.lemmas.Result.{err_from_is_err_and}
 use Rattle.pdl_kit.specs.declared.rule.Rule.TheVariants.{S1, S2, S3, S4, S5, S6, S7}
 use Rattle.pdl_syntax_tree.specs.View.{pipe_view}
 use Rattle.pdl_rules.specs.Places.{places}
 use Rattle.pdl_rules_on_paths.specs.Lowest.{line_where}
 use Rattle.pdl_rules_on_paths.proofs.Lines.{rule_lines}
-use Rattle.pdl_rules.specs.Speculation.{breaks_s7}
-use Rattle.pdl_rules_stages.specs.declared.astray.Kinds.TheVariants.{Verifies}
+use Rattle.pdl_rules.specs.Speculation.{is_update}
+use Rattle.pdl_rules.specs.Stages.{first_stage}
+use Rattle.pdl_rules_stages.specs.declared.astray.Kinds.TheVariants.{Verifies, Updates}
 use Rattle.pdl_rules_stages.specs.Astray.{is_astray}
 use Rattle.pdl_locks.proofs.LowestRule.{told, later, none_more}
-use Rattle.pdl_spec.proofs.Updates.{update_lines, broken_lines}
+use Rattle.pdl_spec.specs.declared.plan.SpecPlan.{SpecPlan}
 use Rattle.pdl_spec.proofs.check.plan_spec.Goals as goal
+
+-- the plan of these stages
+abbrev planned : Option ℕ → Option ℕ → SpecPlan
+planned v u = record { verified = v; updated = u }
 
 pub returns-in_err-refuse : goal.returns-in_err-refuse
 returns-in_err-refuse c =
@@ -74,7 +79,7 @@ returns-in_err-refuse-6 c =
     (
     later S4 (S5 ∷ S6 ∷ S7 ∷ []) p _ _ c.in_ok-refuse-4.ensures c.requires.lines.released_sure (
     later S5 (S6 ∷ S7 ∷ []) p _ _ c.in_ok-refuse-5.ensures c.requires.lines.checked_first (
-    told S6 (S7 ∷ []) p _ _ c.in_err-refuse-6.ensures (c.update_line.ensures ∙ update_lines p _ c.requires.of)))))))
+    told S6 (S7 ∷ []) p _ _ c.in_err-refuse-6.ensures c.requires.lines.updated_once))))))
 
 pub returns-in_err-refuse-7 : goal.returns-in_err-refuse-7
 returns-in_err-refuse-7 c =
@@ -88,26 +93,9 @@ returns-in_err-refuse-7 c =
     (
     later S4 (S5 ∷ S6 ∷ S7 ∷ []) p _ _ c.in_ok-refuse-4.ensures c.requires.lines.released_sure (
     later S5 (S6 ∷ S7 ∷ []) p _ _ c.in_ok-refuse-5.ensures c.requires.lines.checked_first (
-    told S6 (S7 ∷ []) p _ _ c.in_err-refuse-7.ensures
-    (c.requires.lines.updated_once ∙ broken_lines p _ c.requires.of (sym c.in_ok-refuse-6.ensures ∙ c.update_line.ensures))))))))
-
-pub returns-in_err-refuse-8 : goal.returns-in_err-refuse-8
-returns-in_err-refuse-8 c =
-    let p = pipe_view c.args.pipe.now in
-    let e = err_from_is_err_and c.from_residual-in_err-refuse-8.result c.from_residual-in_err-refuse-8.ensures.1 in
-    rw (e.1, e.2) (
-    later S1 (S2 ∷ S3 ∷ S4 ∷ S5 ∷ S6 ∷ S7 ∷ []) p _ _ c.in_ok-refuse.ensures c.requires.lines.one_call (
-    later S2 (S3 ∷ S4 ∷ S5 ∷ S6 ∷ S7 ∷ []) p _ _ c.in_ok-refuse-2.ensures c.requires.lines.verified_once (
-    later S3 (S4 ∷ S5 ∷ S6 ∷ S7 ∷ []) p _ _ c.in_ok-refuse-3.ensures
-    (c.astray_line.ensures ∙ ap (line_where (is_astray Verifies) []) c.requires.of ∙ rule_lines S3 p [] (places p))
-    (
-    later S4 (S5 ∷ S6 ∷ S7 ∷ []) p _ _ c.in_ok-refuse-4.ensures c.requires.lines.released_sure (
-    later S5 (S6 ∷ S7 ∷ []) p _ _ c.in_ok-refuse-5.ensures c.requires.lines.checked_first (
-    later S6 (S7 ∷ []) p _ _ c.in_ok-refuse-7.ensures
-    (c.requires.lines.updated_once ∙ broken_lines p _ c.requires.of (sym c.in_ok-refuse-6.ensures ∙ c.update_line.ensures))
-    (
-    told S7 [] p _ _ c.in_err-refuse-8.ensures
-    (c.apart_line.ensures ∙ ap (line_where breaks_s7 []) c.requires.of ∙ rule_lines S7 p [] (places p)))))))))
+    later S6 (S7 ∷ []) p _ _ c.in_ok-refuse-6.ensures c.requires.lines.updated_once (
+    told S7 [] p _ _ c.in_err-refuse-7.ensures
+    (c.astray_line-2.ensures ∙ ap (line_where (is_astray Updates) []) c.requires.of ∙ rule_lines S7 p [] (places p)))))))))
 
 pub returns : goal.returns
 returns c =
@@ -119,10 +107,8 @@ returns c =
           (
           none_more S4 (S5 ∷ S6 ∷ S7 ∷ []) p _ c.in_ok-refuse-4.ensures c.requires.lines.released_sure (
           none_more S5 (S6 ∷ S7 ∷ []) p _ c.in_ok-refuse-5.ensures c.requires.lines.checked_first (
-          none_more S6 (S7 ∷ []) p _ c.in_ok-refuse-7.ensures
-          (c.requires.lines.updated_once ∙ broken_lines p _ c.requires.of (sym c.in_ok-refuse-6.ensures ∙ c.update_line.ensures))
-          (
-          none_more S7 [] p _ c.in_ok-refuse-8.ensures
-          (c.apart_line.ensures ∙ ap (line_where breaks_s7 []) c.requires.of ∙ rule_lines S7 p [] (places p)) refl)))))),
-      c.new.ensures ∙ c.requires.verified,
+          none_more S6 (S7 ∷ []) p _ c.in_ok-refuse-6.ensures c.requires.lines.updated_once (
+          none_more S7 [] p _ c.in_ok-refuse-7.ensures
+          (c.astray_line-2.ensures ∙ ap (line_where (is_astray Updates) []) c.requires.of ∙ rule_lines S7 p [] (places p)) refl)))))),
+      ap₂ planned c.requires.verified (c.first_stage.ensures ∙ ap (first_stage is_update []) c.requires.of),
     )

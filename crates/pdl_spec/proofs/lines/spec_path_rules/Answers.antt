@@ -14,8 +14,7 @@ use Rattle.pdl_locks.specs.Numbers.{AreNumbered}
 use Rattle.pdl_spec.specs.Sure.{breaks_sure}
 use Rattle.pdl_spec.specs.Checked.{breaks_checked}
 use Rattle.pdl_spec.specs.Updated.{breaks_updated}
-use Rattle.pdl_spec.proofs.PathlessParts.{sure_lines, checked_lines}
-use Rattle.pdl_spec.proofs.Updates.{updated_lines}
+use Rattle.pdl_spec.proofs.PathlessParts.{sure_lines, checked_lines, updated_lines}
 use Rattle.pdl_spec.proofs.lines.spec_path_rules.Goals as goal
 
 pub returns-clause-suits : goal.returns-clause-suits

@@ -1,4 +1,4 @@
-use Rattle.std.proofs.Common.{◌≡◌, ◌∙◌, Bool, true, List, sym, ap, refl, subst, length}
+use Rattle.std.proofs.Common.{◌≡◌, ◌∙◌, Bool, List, sym, ap, refl, subst, length}
 use Rattle.pdl_semantics.specs.Flat as flat
 use Rattle.pdl_net.proofs.Keeps.{extends_keeps}
 use Rattle.pdl_form.specs.FormView.{form}
@@ -13,8 +13,8 @@ use Rattle.pdl_pipe_walk.proofs.Arguments.{arguments_typed, arguments_few, argum
 use Rattle.pdl_pipe_walk.proofs.Lists.{on_ok}
 use Rattle.pdl_pipe_walk.proofs.MadeSteps.{nets_of, has_keep, bind_step, read_step, write_step, idle_step, reserve_step, block_step, release_step, call_step}
 use Rattle.pdl_law_parts.specs.Rows.{HasRow}
-use Rattle.pdl_pipe_walk.proofs.MadeGuesses.{ask_step, check_step, barrier_step, guess_step, verify_step}
-use Rattle.pdl_pipe_walk.proofs.RowSteps.{typed_as, guards_as, last_only, step_as}
+use Rattle.pdl_pipe_walk.proofs.MadeGuesses.{ask_step, check_step, barrier_step, guess_step, compare_step}
+use Rattle.pdl_pipe_walk.proofs.RowSteps.{typed_as, guards_as, step_as}
 use Rattle.pdl_pipe_walk.proofs.nets.WalkNets.statement.Goals as goal
 
 pub bind-requires-clause-low : goal.bind-requires-clause-low
@@ -47,8 +47,8 @@ spec_call-requires-clause-typed g c =
     subst (λ (es : List r_expr.FlatExpr). AreArguments f.widths (param_widths f) (exprs_view es))
     (sym c.as_slice-in-SpecCall.ensures) (typed_as f c.args.s.now _ c.requires.typed c.in-SpecCall.is)
 
-pub verify-requires-clause-typed : goal.verify-requires-clause-typed
-verify-requires-clause-typed g c =
+pub compare-requires-clause-typed : goal.compare-requires-clause-typed
+compare-requires-clause-typed g c =
     let f = form c.args.setting.now.pipe.now in
     subst (λ (es : List r_expr.FlatExpr). AreArguments f.widths (param_widths f) (exprs_view es))
     (sym c.as_slice-in-Verify.ensures) (typed_as f c.args.s.now _ c.requires.typed c.in-Verify.is)
@@ -61,8 +61,8 @@ pub spec_call-requires-clause-guards : goal.spec_call-requires-clause-guards
 spec_call-requires-clause-guards g c =
     guards_as (form c.args.setting.now.pipe.now) c.args.s.now c.as_slice-guards.result.now c.requires.typed c.as_slice-guards.ensures
 
-pub verify-requires-clause-guards : goal.verify-requires-clause-guards
-verify-requires-clause-guards g c =
+pub compare-requires-clause-guards : goal.compare-requires-clause-guards
+compare-requires-clause-guards g c =
     guards_as (form c.args.setting.now.pipe.now) c.args.s.now c.as_slice-guards.result.now c.requires.typed c.as_slice-guards.ensures
 
 pub spec_barrier-requires-clause-guards : goal.spec_barrier-requires-clause-guards
@@ -374,7 +374,7 @@ returns-in-SpecCall-clause-step g c =
 pub returns-in-Verify-clause-step : goal.returns-in-Verify-clause-step
 returns-in-Verify-clause-step g c =
     let a = c.args.b.now in
-    let b = c.verify.new.b in
+    let b = c.compare.new.b in
     let w = c.args.self.now in
     let ls = locks_in (members g.L.LockModule) (form c.args.setting.now.pipe.now).pipe a c.args.setting.now.locks.now in
     let tickets = tickets_in a c.args.setting.now.tickets.now in
@@ -382,15 +382,12 @@ returns-in-Verify-clause-step g c =
     let same : gs ≡ guards_view c.args.s.now.guards = ap guards_view c.as_slice-guards.ensures in
     let guards = subst (λ l. AreGuards (form c.args.setting.now.pipe.now).widths l) (sym same) c.requires.typed.0.0 in
     let nets =
-    has_keep a b (parts_in a w).vars (extends_keeps a b c.verify.ensures.extends)
+    has_keep a b (parts_in a w).vars (extends_keeps a b c.compare.ensures.extends)
     (nets_of a (form c.args.setting.now.pipe.now).pipe (form c.args.setting.now.pipe.now).widths w c.requires.walk) in
     let typed = subst (λ (o : r_op.Op). IsTypedOp (form c.args.setting.now.pipe.now) (act_view o)) c.in-Verify.is c.requires.typed.0.1 in
     let es = exprs_view c.as_slice-in-Verify.result.now in
-    let last = last_only (form c.args.setting.now.pipe.now).pipe c.in-Verify.last (exprs_view c.in-Verify.args)
-    (subst (λ (o : r_op.Op). HasRow (form c.args.setting.now.pipe.now).pipe (act_view o)) c.in-Verify.is c.requires.typed.1) in
     let op =
-    ap (λ (l : List r_expr.FlatExpr). flat.Verify true (exprs_view l)) c.as_slice-in-Verify.ensures
-    ∙ ap (λ (b : Bool). flat.Verify b (exprs_view c.in-Verify.args)) (sym last) ∙ sym (ap act_view c.in-Verify.is) in
+    ap (λ (l : List r_expr.FlatExpr). flat.Verify c.in-Verify.last (exprs_view l)) c.as_slice-in-Verify.ensures ∙ sym (ap act_view c.in-Verify.is) in
     let args =
     subst
     (λ (l : List r_expr.FlatExpr). AreArguments (form c.args.setting.now.pipe.now).widths (param_widths (form c.args.setting.now.pipe.now)) (exprs_view l))
@@ -401,14 +398,14 @@ returns-in-Verify-clause-step g c =
     arguments_wide (parts_in a w).vars (param_widths (form c.args.setting.now.pipe.now)) es
     (subst (λ l. AreArguments l (param_widths (form c.args.setting.now.pipe.now)) es) (sym c.requires.walk.sized.vars) args)
     ∙ sym c.requires.walk.sized.guess in
-    on_ok c.verify.result
+    on_ok c.compare.result
     (λ q. step_as b (form c.args.setting.now.pipe.now).pipe ls tickets gs (guards_view c.args.s.now.guards)
-    (flat.Verify true es) (act_view c.args.s.now.op) (walk_of (parts_in a w))
-    (walk_of (parts_in b c.verify.new.self)) same op
-    (verify_step b (form c.args.setting.now.pipe.now).pipe (form c.args.setting.now.pipe.now).widths ls tickets gs
+    (flat.Verify c.in-Verify.last es) (act_view c.args.s.now.op) (walk_of (parts_in a w))
+    (walk_of (parts_in b c.compare.new.self)) same op
+    (compare_step b (form c.args.setting.now.pipe.now).pipe (form c.args.setting.now.pipe.now).widths ls tickets gs
     (parts_in a w) nets c.requires.walk.sized refl guards es (arguments_few ws n es args)
-    (arguments_typed ws (param_widths (form c.args.setting.now.pipe.now)) es args) wide (parts_in b c.verify.new.self) q))
-    c.verify.ensures.parts
+    (arguments_typed ws (param_widths (form c.args.setting.now.pipe.now)) es args) wide c.in-Verify.last (parts_in b c.compare.new.self) q))
+    c.compare.ensures.parts
 
 pub returns-in-SpecBarrier-clause-step : goal.returns-in-SpecBarrier-clause-step
 returns-in-SpecBarrier-clause-step g c =
