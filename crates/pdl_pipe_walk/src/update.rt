@@ -12,7 +12,9 @@ ghost use Rattle.pdl_pipe_walk.specs.Frames.{SameRest};
 ghost use Rattle.pdl_pipe_walk.specs.MarkLookups.{mark_net as net_in};
 ghost use Rattle.pdl_pipe_walk.specs.Steps.{with_var, with_mark};
 
-use crate::nets::{AdvisingNet, AskNet, BirthNet, LettingNet, MarkNet, PutNet, ReserveNet, WalkNets};
+use crate::nets::{
+    AdvisingNet, AskNet, BirthNet, LettingNet, MarkNet, PutNet, ReserveNet, WalkNets,
+};
 use pdl_build::Builder;
 use pdl_form::FlatPipe;
 use pdl_kit::{NoMemory, Seq};
