@@ -20,6 +20,7 @@ use Rattle.pdl_netrun.specs.declared.operation.CellKind.{CellKind}
 use Rattle.pdl_netrun.specs.declared.operation.CellOperands.{CellOperands}
 use Rattle.pdl_netrun.specs.declared.order.CellOrder.{CellOrder}
 use Rattle.pdl_netrun.specs.declared.walk.CellRun.{CellRun}
+use Rattle.pdl_netrun.specs.RunKinds.{kind_in}
 use Rattle.pdl_netrun.specs.Steps.{Step, steps_with, steps_of}
 use Rattle.pdl_netrun.specs.Order.{IsOrder, IsNetThere}
 use Rattle.pdl_netrun.specs.Plan.{step_of, IsWriteThere}
@@ -31,11 +32,11 @@ use Rattle.pdl_netrun.proofs.Orders.{fits_whole}
 steps_append : (rs qs : List CellRun) → steps_of (rs ++ qs) ≡ steps_of rs ++ steps_of qs
 steps_append [] qs = refl
 steps_append (r ∷ rs) qs =
-    ap (λ l. steps_with r.kind r.operands.items ++ l) (steps_append rs qs) ∙ sym (append_assoc (steps_with r.kind r.operands.items) (steps_of rs) (steps_of qs))
+    ap (λ l. steps_with (kind_in r.kind) r.operands.items ++ l) (steps_append rs qs) ∙ sym (append_assoc (steps_with (kind_in r.kind) r.operands.items) (steps_of rs) (steps_of qs))
 
 -- the steps of one run more come after those of the runs before it
-pub steps_push : (rs : List CellRun) (r : CellRun) → steps_of (rs ++ r ∷ []) ≡ steps_of rs ++ steps_with r.kind r.operands.items
-steps_push rs r = steps_append rs (r ∷ []) ∙ ap (λ l. steps_of rs ++ l) (append-nil (steps_with r.kind r.operands.items))
+pub steps_push : (rs : List CellRun) (r : CellRun) → steps_of (rs ++ r ∷ []) ≡ steps_of rs ++ steps_with (kind_in r.kind) r.operands.items
+steps_push rs r = steps_append rs (r ∷ []) ∙ ap (λ l. steps_of rs ++ l) (append-nil (steps_with (kind_in r.kind) r.operands.items))
 
 -- one cell more in a run
 pub with_push : (kind : CellKind) (os : List CellOperands) (o : CellOperands)
@@ -55,7 +56,7 @@ ordered_fits c order ps xs j k w o h e f =
 
 -- where a last run ends the order, the steps of all runs are those of the whole order
 pub runs_end : (rs all : List CellRun) (r : CellRun) (order : List ℕ) (f : ℕ → Step) (j : ℕ)
-    → all ≡ rs ++ r ∷ [] → steps_of rs ++ steps_with r.kind r.operands.items ≡ map f (take j order) → length order ≤ j
+    → all ≡ rs ++ r ∷ [] → steps_of rs ++ steps_with (kind_in r.kind) r.operands.items ≡ map f (take j order) → length order ≤ j
     → steps_of all ≡ map f order
 runs_end rs all r order f j e i l = ap steps_of e ∙ steps_push rs r ∙ i ∙ ap (map f) (take_all j order l)
 

@@ -6,6 +6,7 @@ use Rattle.pdl_netrun.specs.declared.operation.CellKind.{CellKind}
 use Rattle.pdl_netrun.specs.declared.operation.CellKind.TheVariants as kinds
 use Rattle.pdl_netrun.specs.declared.operation.CellOperands.{CellOperands}
 use Rattle.pdl_netrun.specs.declared.walk.CellRun.{CellRun}
+use Rattle.pdl_netrun.specs.RunKinds.{kind_in}
 use Rattle.pdl_netrun.specs.declared.writes.PlannedWrite.{PlannedWrite}
 use Rattle.pdl_netrun.specs.Steps.{Step, KindFits, StepsFit, steps_with, steps_of, after_kind, after_step, after_steps, after_write, after_all}
 
@@ -141,35 +142,35 @@ eights_fit kind os first k n vs ws l f =
 
 -- the steps from the k-th run on
 abbrev run_steps : CellRun → List Step
-run_steps r = steps_with r.kind r.operands.items
+run_steps r = steps_with (kind_in r.kind) r.operands.items
 
 runs_more : (rs : List CellRun) (k : ℕ) (r : CellRun)
     → k < length rs → r ≡ get_or rs k r
-    → steps_of (drop k rs) ≡ steps_with r.kind r.operands.items ++ steps_of (drop (k + 1) rs)
+    → steps_of (drop k rs) ≡ steps_with (kind_in r.kind) r.operands.items ++ steps_of (drop (k + 1) rs)
 runs_more rs k r h e = ap steps_of (drop_more rs k r h) ∙ ap (λ (q : CellRun). run_steps q ++ steps_of (drop (k + 1) rs)) (sym e)
 
 -- a run that stands at k fits, and so do those after it
 pub run_fits : (rs : List CellRun) (k n at : ℕ) (r : CellRun) (vs : List ℕ) (ws : List (List ℕ))
     → k < length rs → r ≡ get_or rs k r → n ≡ length r.operands.items → StepsFit (steps_of (drop k rs)) at vs ws
-    → StepsFit (steps_with r.kind r.operands.items) at vs ws
-    × StepsFit (steps_of (drop (k + 1) rs)) (at + n) (after_steps (steps_with r.kind r.operands.items) at vs ws) ws
+    → StepsFit (steps_with (kind_in r.kind) r.operands.items) at vs ws
+    × StepsFit (steps_of (drop (k + 1) rs)) (at + n) (after_steps (steps_with (kind_in r.kind) r.operands.items) at vs ws) ws
 run_fits rs k n at r vs ws h e m f =
     let P : List Step → Type 0 = λ l. StepsFit l at vs ws in
-    let g = fit_append (steps_with r.kind r.operands.items) (steps_of (drop (k + 1) rs)) at vs ws (subst P (runs_more rs k r h e) f) in (
+    let g = fit_append (steps_with (kind_in r.kind) r.operands.items) (steps_of (drop (k + 1) rs)) at vs ws (subst P (runs_more rs k r h e) f) in (
       g.0,
-      subst (λ i. StepsFit (steps_of (drop (k + 1) rs)) (at + i) (after_steps (steps_with r.kind r.operands.items) at vs ws) ws)
-          (with_length r.kind r.operands.items ∙ sym m) g.1,
+      subst (λ i. StepsFit (steps_of (drop (k + 1) rs)) (at + i) (after_steps (steps_with (kind_in r.kind) r.operands.items) at vs ws) ws)
+          (with_length (kind_in r.kind) r.operands.items ∙ sym m) g.1,
     )
 
 -- after the run at k and then those after it the values are as after all runs from k on
 pub run_rest : (rs : List CellRun) (k n at : ℕ) (r : CellRun) (vs : List ℕ) (ws : List (List ℕ))
     → k < length rs → r ≡ get_or rs k r → n ≡ length r.operands.items
-    → after_steps (steps_of (drop (k + 1) rs)) (at + n) (after_steps (steps_with r.kind r.operands.items) at vs ws) ws
+    → after_steps (steps_of (drop (k + 1) rs)) (at + n) (after_steps (steps_with (kind_in r.kind) r.operands.items) at vs ws) ws
     ≡ after_steps (steps_of (drop k rs)) at vs ws
 run_rest rs k n at r vs ws h e m =
-    ap (λ i. after_steps (steps_of (drop (k + 1) rs)) (at + i) (after_steps (steps_with r.kind r.operands.items) at vs ws) ws)
-    (m ∙ sym (with_length r.kind r.operands.items))
-    ∙ sym (after_append (steps_with r.kind r.operands.items) (steps_of (drop (k + 1) rs)) at vs ws)
+    ap (λ i. after_steps (steps_of (drop (k + 1) rs)) (at + i) (after_steps (steps_with (kind_in r.kind) r.operands.items) at vs ws) ws)
+    (m ∙ sym (with_length (kind_in r.kind) r.operands.items))
+    ∙ sym (after_append (steps_with (kind_in r.kind) r.operands.items) (steps_of (drop (k + 1) rs)) at vs ws)
     ∙ sym (ap (λ l. after_steps l at vs ws) (runs_more rs k r h e))
 
 -- the steps from the k-th run on are as many as its cells and the steps of the runs after it
@@ -178,8 +179,8 @@ pub run_length : (rs : List CellRun) (k : ℕ) (r : CellRun)
     → length (steps_of (drop k rs)) ≡ length r.operands.items + length (steps_of (drop (k + 1) rs))
 run_length rs k r h e =
     ap length (runs_more rs k r h e)
-    ∙ length-append (steps_with r.kind r.operands.items) (steps_of (drop (k + 1) rs))
-    ∙ ap (λ i. i + length (steps_of (drop (k + 1) rs))) (with_length r.kind r.operands.items)
+    ∙ length-append (steps_with (kind_in r.kind) r.operands.items) (steps_of (drop (k + 1) rs))
+    ∙ ap (λ i. i + length (steps_of (drop (k + 1) rs))) (with_length (kind_in r.kind) r.operands.items)
 
 -- steps leave the number of values
 pub after_kind_length : (kind : CellKind) (o : CellOperands) (at : ℕ) (vs : List ℕ) (ws : List (List ℕ))

@@ -1,3 +1,4 @@
+pub mod RunKinds
 pub mod Steps
 pub mod Kinds
 pub mod Order

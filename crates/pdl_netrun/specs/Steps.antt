@@ -6,6 +6,7 @@ use Rattle.pdl_netrun.specs.declared.operation.CellKind.{CellKind}
 use Rattle.pdl_netrun.specs.declared.operation.CellKind.TheVariants.{Constant, Complement, Add, Sub, Mul, And, Or, Xor, Equal, Differ, Less, ShiftLeft, ShiftRight, Choose, Slice, Join, Repeat, Look}
 use Rattle.pdl_netrun.specs.declared.operation.CellOperands.{CellOperands}
 use Rattle.pdl_netrun.specs.declared.walk.CellRun.{CellRun}
+use Rattle.pdl_netrun.specs.RunKinds.{kind_in}
 use Rattle.pdl_netrun.specs.declared.writes.PlannedWrite.{PlannedWrite}
 
 -- the words of each array
@@ -157,7 +158,7 @@ steps_with k os = map (λ o. record { kind = k; operands = o }) os
 -- the steps of runs, one after another
 abbrev pub steps_of : List CellRun → List Step
 steps_of [] = []
-steps_of (r ∷ rs) = steps_with r.kind r.operands.items ++ steps_of rs
+steps_of (r ∷ rs) = steps_with (kind_in r.kind) r.operands.items ++ steps_of rs
 
 -- the values after a step whose value goes to a place
 abbrev pub after_step : Step → ℕ → List ℕ → List (List ℕ) → List ℕ

@@ -10,6 +10,7 @@ mod order;
 mod outside;
 mod places;
 mod plan;
+mod run_kind;
 mod sim;
 mod start;
 mod walk;

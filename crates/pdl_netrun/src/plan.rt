@@ -6,12 +6,14 @@ ghost use Rattle.pdl_net.specs.Meaning.{signal, IsThereAt};
 ghost use Rattle.pdl_net.specs.Well.{IsWell, FitsIn};
 ghost use Rattle.pdl_net.specs.Width.{HasWidths};
 ghost use Rattle.pdl_netrun.specs.Order.{IsOrderOf, cell_of, place_in, order_circuit};
+ghost use Rattle.pdl_netrun.specs.RunKinds.{kind_in};
 ghost use Rattle.pdl_netrun.specs.Steps.{steps_of, steps_with};
 ghost use Rattle.pdl_netrun.specs.Plan.{cell_operands, step_of, step_of_cell, planned_write, planned_writes, held_at_start, mask_within as mask_of, IsWriteThere};
 
 use crate::kinds::kind_of;
 use crate::operation::{CellKind, CellOperands};
 use crate::order::CellOrder;
+use crate::run_kind::run_kind;
 use crate::walk::CellRun;
 use crate::widths::width_of;
 use crate::writes::PlannedWrite;
@@ -53,6 +55,27 @@ pub fn all_resets(alloc: Global, n: &Netlist) -> Result<Vec<u64>, NoMemory>
     Ok(resets)
 }
 
+/// A run that is being made.
+#[derive(Drop)]
+struct OpenRun {
+    kind: CellKind,
+    operands: Vec<CellOperands>,
+}
+
+impl OpenRun {
+    /// The run, as the walk takes it.
+    fn ended(self) -> CellRun
+        ensures kind { kind_in result.kind ≡ self.kind }
+        ensures operands { result.operands ≡ self.operands }
+    {
+        let OpenRun { kind, operands } = self;
+        CellRun {
+            kind: run_kind(kind),
+            operands,
+        }
+    }
+}
+
 /// The runs of all cells, in the order of their places.
 #[tactic(auto, using(crate::proofs::PlanLemmas::runs))]
 pub fn all_runs(
@@ -71,7 +94,7 @@ pub fn all_runs(
         order.now.cells.items) }
 {
     let mut runs = Vec::new(alloc);
-    let mut run = CellRun {
+    let mut run = OpenRun {
         kind: CellKind::Constant,
         operands: Vec::new(alloc),
     };
@@ -80,7 +103,7 @@ pub fn all_runs(
         let operands = operands_of(n, order, widths, cell);
         push_step(alloc, &mut runs, &mut run, kind_of(cell), operands)?;
     }
-    runs.push(run)?;
+    runs.push(run.ended())?;
     Ok(runs)
 }
 
@@ -89,7 +112,7 @@ pub fn all_runs(
 fn push_step(
     alloc: Global,
     runs: &mut Vec<CellRun>,
-    run: &mut CellRun,
+    run: &mut OpenRun,
     kind: CellKind,
     operands: CellOperands,
 ) -> Result<(), NoMemory>
@@ -99,12 +122,12 @@ fn push_step(
         ++ step_of kind operands ∷ []) }
 {
     if run.kind != kind {
-        let next = CellRun {
+        let next = OpenRun {
             kind,
             operands: Vec::new(alloc),
         };
-        let ended = std::mem::replace(run, next);
-        runs.push(ended)?;
+        let last = std::mem::replace(run, next);
+        runs.push(last.ended())?;
     }
     run.operands.push(operands)?;
     Ok(())

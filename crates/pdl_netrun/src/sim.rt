@@ -217,7 +217,11 @@ impl<'a> Sim<'a> {
         requires { m < length self.now.netlist.mems }
         ensures { result ≡ committed2_by self.now.netlist self.now.last m }
     {
-        self.committed(self.commits[m].second)
+        let places = self.commits[m].second;
+        match places.commit {
+            Some(_) => self.committed(places),
+            None => None,
+        }
     }
 
     /// Whether some request was outstanding at the start of the last cycle and wasn't answered in it.

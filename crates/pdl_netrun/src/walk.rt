@@ -1,18 +1,24 @@
 // The walk of a cycle: runs of cells of one kind, one after another, each cell's value going to the next place.
 
 ghost use Rattle.std.specs.Prelude.{◌≡◌, ◌+◌, ◌%◌, ◌<◌, ◌≤◌, length, map, slice_index};
+ghost use Rattle.pdl_netrun.specs.RunKinds.{kind_in};
+ghost use Rattle.pdl_netrun.specs.declared.run_kind.RunKind.TheVariants.{Taking, Testing, Counting};
 ghost use Rattle.pdl_netrun.specs.Steps.{StepsFit, AreBelow, steps_with, steps_of, after_steps, array_words};
 
-use crate::operation::{CellKind, CellOperands, CellOperation};
+use crate::operation::{CellOperands, CellOperation};
 use crate::operations::{
     Add, And, Choose, Complement, Differ, Equal, Join, Less, Look, Mul, Or, Repeat, ShiftLeft,
     ShiftRight, Slice, Sub, Xor,
+};
+use crate::run_kind::{
+    CombineKind, CompareKind, CountKind, CountingKind, PartKind, RunKind, TakingKind, TestingKind,
+    TurnKind, WordKind,
 };
 
 /// Cells of one kind whose places follow one another.
 #[derive(Drop)]
 pub struct CellRun {
-    pub kind: CellKind,
+    pub kind: RunKind,
     pub operands: Vec<CellOperands>,
 }
 
@@ -197,35 +203,104 @@ fn walk<K: CellOperation>(
     walk_rest::<K>(&operands[eights..], first + eights, arrays, values);
 }
 
-/// Gives the cells of a run their values.
+/// Gives cells that take words, or parts of them, their values.
 #[tactic(auto, using(crate::proofs::Steps::runs))]
+fn walk_taking(
+    kind: TakingKind,
+    operands: &[CellOperands],
+    first: usize,
+    arrays: &[Vec<u64>],
+    values: &mut [u64],
+)
+    requires room { first + length operands.now ≤ length values.old }
+    requires fit { StepsFit (steps_with (kind_in (Taking kind)) operands.now) first values.old
+        (array_words arrays.now) }
+    ensures { values.new ≡ after_steps (steps_with (kind_in (Taking kind)) operands.now) first
+        values.old (array_words arrays.now) }
+{
+    match kind {
+        TakingKind::Word(kind) => match kind {
+            WordKind::Constant => (),
+            WordKind::Choose => walk::<Choose>(operands, first, arrays, values),
+            WordKind::Look => walk::<Look>(operands, first, arrays, values),
+        },
+        TakingKind::Part(kind) => match kind {
+            PartKind::Slice => walk::<Slice>(operands, first, arrays, values),
+            PartKind::Join => walk::<Join>(operands, first, arrays, values),
+            PartKind::Repeat => walk::<Repeat>(operands, first, arrays, values),
+        },
+    }
+}
+
+/// Gives cells that compare or combine words their values.
+fn walk_testing(
+    kind: TestingKind,
+    operands: &[CellOperands],
+    first: usize,
+    arrays: &[Vec<u64>],
+    values: &mut [u64],
+)
+    requires room { first + length operands.now ≤ length values.old }
+    requires fit { StepsFit (steps_with (kind_in (Testing kind)) operands.now) first values.old
+        (array_words arrays.now) }
+    ensures { values.new ≡ after_steps (steps_with (kind_in (Testing kind)) operands.now) first
+        values.old (array_words arrays.now) }
+{
+    match kind {
+        TestingKind::Compare(kind) => match kind {
+            CompareKind::Equal => walk::<Equal>(operands, first, arrays, values),
+            CompareKind::Differ => walk::<Differ>(operands, first, arrays, values),
+            CompareKind::Less => walk::<Less>(operands, first, arrays, values),
+        },
+        TestingKind::Combine(kind) => match kind {
+            CombineKind::And => walk::<And>(operands, first, arrays, values),
+            CombineKind::Or => walk::<Or>(operands, first, arrays, values),
+            CombineKind::Xor => walk::<Xor>(operands, first, arrays, values),
+        },
+    }
+}
+
+/// Gives cells that count with words, or turn their bits, their values.
+fn walk_counting(
+    kind: CountingKind,
+    operands: &[CellOperands],
+    first: usize,
+    arrays: &[Vec<u64>],
+    values: &mut [u64],
+)
+    requires room { first + length operands.now ≤ length values.old }
+    requires fit { StepsFit (steps_with (kind_in (Counting kind)) operands.now) first values.old
+        (array_words arrays.now) }
+    ensures { values.new ≡ after_steps (steps_with (kind_in (Counting kind)) operands.now) first
+        values.old (array_words arrays.now) }
+{
+    match kind {
+        CountingKind::Count(kind) => match kind {
+            CountKind::Add => walk::<Add>(operands, first, arrays, values),
+            CountKind::Sub => walk::<Sub>(operands, first, arrays, values),
+            CountKind::Mul => walk::<Mul>(operands, first, arrays, values),
+        },
+        CountingKind::Turn(kind) => match kind {
+            TurnKind::Complement => walk::<Complement>(operands, first, arrays, values),
+            TurnKind::ShiftLeft => walk::<ShiftLeft>(operands, first, arrays, values),
+            TurnKind::ShiftRight => walk::<ShiftRight>(operands, first, arrays, values),
+        },
+    }
+}
+
+/// Gives the cells of a run their values.
 fn walk_run(run: &CellRun, first: usize, arrays: &[Vec<u64>], values: &mut [u64])
     requires room { first + length run.now.operands.items ≤ length values.old }
-    requires fit { StepsFit (steps_with run.now.kind run.now.operands.items) first values.old
-        (array_words arrays.now) }
-    ensures { values.new ≡ after_steps (steps_with run.now.kind run.now.operands.items) first
+    requires fit { StepsFit (steps_with (kind_in run.now.kind) run.now.operands.items) first
         values.old (array_words arrays.now) }
+    ensures { values.new ≡ after_steps (steps_with (kind_in run.now.kind) run.now.operands.items)
+        first values.old (array_words arrays.now) }
 {
     let operands = run.operands.as_slice();
     match run.kind {
-        CellKind::Constant => (),
-        CellKind::Complement => walk::<Complement>(operands, first, arrays, values),
-        CellKind::Add => walk::<Add>(operands, first, arrays, values),
-        CellKind::Sub => walk::<Sub>(operands, first, arrays, values),
-        CellKind::Mul => walk::<Mul>(operands, first, arrays, values),
-        CellKind::And => walk::<And>(operands, first, arrays, values),
-        CellKind::Or => walk::<Or>(operands, first, arrays, values),
-        CellKind::Xor => walk::<Xor>(operands, first, arrays, values),
-        CellKind::Equal => walk::<Equal>(operands, first, arrays, values),
-        CellKind::Differ => walk::<Differ>(operands, first, arrays, values),
-        CellKind::Less => walk::<Less>(operands, first, arrays, values),
-        CellKind::ShiftLeft => walk::<ShiftLeft>(operands, first, arrays, values),
-        CellKind::ShiftRight => walk::<ShiftRight>(operands, first, arrays, values),
-        CellKind::Choose => walk::<Choose>(operands, first, arrays, values),
-        CellKind::Slice => walk::<Slice>(operands, first, arrays, values),
-        CellKind::Join => walk::<Join>(operands, first, arrays, values),
-        CellKind::Repeat => walk::<Repeat>(operands, first, arrays, values),
-        CellKind::Look => walk::<Look>(operands, first, arrays, values),
+        RunKind::Taking(kind) => walk_taking(kind, operands, first, arrays, values),
+        RunKind::Testing(kind) => walk_testing(kind, operands, first, arrays, values),
+        RunKind::Counting(kind) => walk_counting(kind, operands, first, arrays, values),
     }
 }
 

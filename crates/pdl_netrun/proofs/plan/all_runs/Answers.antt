@@ -1,7 +1,10 @@
-use Rattle.std.proofs.Common.{arith, subst}
+use Rattle.std.proofs.Common.{◌++◌, ◌∙◌, ap₂, Vec, Global, arith, subst}
 use Rattle.std.proofs.lemmas.Grind.{common_steps}
 use Rattle.pdl_net.specs.declared.Netlist.{Netlist}
 use Rattle.pdl_net.specs.Circuit.{circuit_of}
+use Rattle.pdl_netrun.specs.declared.operation.CellKind.{CellKind}
+use Rattle.pdl_netrun.specs.declared.operation.CellOperands.{CellOperands}
+use Rattle.pdl_netrun.specs.Steps.{steps_with, steps_of}
 use Rattle.pdl_netrun.specs.Order.{IsOrder}
 use Rattle.pdl_netrun.proofs.PlanLemmas.{ordered_fits, runs_end}
 use Rattle.pdl_netrun.proofs.plan.all_runs.Goals as goal
@@ -16,5 +19,9 @@ operands_of-operands-requires-clause-fits c =
 
 pub returns : goal.returns
 returns c =
-    runs_end c.loop-j.runs.items c.push.new.self.items c.loop-j.run c.args.order.now.cells.items _ c.loop-j.j
-    (grind (arith, common_steps)) c.loop-j.invariant (grind (arith, common_steps))
+    let last = c.ended.result in
+    runs_end c.loop-j.runs.items c.push.new.self.items last c.args.order.now.cells.items _ c.loop-j.j
+    (grind (arith, common_steps))
+    (ap₂ (λ (k : CellKind) (os : Vec CellOperands Global). steps_of c.loop-j.runs.items ++ steps_with k os.items)
+    c.ended.ensures.kind c.ended.ensures.operands ∙ c.loop-j.invariant)
+    (grind (arith, common_steps))

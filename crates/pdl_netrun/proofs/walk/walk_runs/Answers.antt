@@ -1,4 +1,5 @@
 use Rattle.std.proofs.Common.{arith, refl, ◌∙◌, subst, sym, ap, List, ℕ, ◌+◌, drop, length}
+use Rattle.pdl_netrun.specs.RunKinds.{kind_in}
 use Rattle.pdl_netrun.specs.Steps.{StepsFit, steps_with, steps_of, after_steps, array_words}
 use Rattle.pdl_netrun.proofs.Steps.{run_fits, run_rest, run_length, after_length}
 use Rattle.pdl_netrun.proofs.walk.walk_runs.Goals as goal
@@ -25,5 +26,5 @@ loop-run-preserved c =
           ∙ run_rest c.args.runs.now k (length c.as_slice.result.now) c.loop-run.at r vs ws c.loop-run-test.true c.run-item.is n
           ∙ c.loop-run.invariant.rest;
       fit = subst (λ (x : List ℕ). StepsFit (steps_of (drop (k + 1) c.args.runs.now)) (c.loop-run.at + (length c.as_slice.result.now)) x ws) (sym e) f.1;
-      count = ap length e ∙ after_length (steps_with r.kind r.operands.items) c.loop-run.at vs ws ∙ c.loop-run.invariant.count;
+      count = ap length e ∙ after_length (steps_with (kind_in r.kind) r.operands.items) c.loop-run.at vs ws ∙ c.loop-run.invariant.count;
     }
