@@ -43,3 +43,9 @@ returns-clause-ends c =
     let a = c.args.accepted.now in
     let n = c.in_ok-netlist in
     sequential.ends (pipe_view a.typed.pipe) a.kept a.source a.letters n.netlist n.ensures.follows
+
+pub returns-clause-runs : goal.returns-clause-runs
+returns-clause-runs c =
+    let a = c.args.accepted.now in
+    let n = c.in_ok-netlist in
+    sequential.runs (pipe_view a.typed.pipe) a.kept a.source a.letters n.netlist n.ensures.follows
